@@ -1,0 +1,7 @@
+pub mod Rows
+pub mod Monotone
+pub mod Sound
+pub mod Cases
+pub mod Patterns
+pub mod NameTexts
+pub mod Swaps

@@ -1,0 +1,85 @@
+-- Operations over exchanged operands.
+use Rattle.std.proofs.Common.{◌≡◌, Bool, true, false, ◌||◌, ◌&&◌, if◌then◌else◌, refl, ap, ◌∙◌}
+use Rattle.std.specs.declared.cmp.Ordering.{Ordering}
+use Rattle.std.specs.declared.cmp.Ordering.TheVariants.{Less, Equal, Greater}
+use Rattle.std.specs.Cmp.{bool_cmp_total}
+use Rattle.std.specs.Ordering.{ordering_reverse}
+use Rattle.std.proofs.lemmas.Cmp.{int_cmp_total, nat_list_cmp_total}
+use Rattle.std.proofs.Math.IntN.{+ℤ_comm}
+use Rattle.vx_types.specs.Types.{Datum, null, bool, int, utf8, bytes, list_of, struct_of, is_null_datum}
+use Rattle.vx_fn.specs.Functions.{Comparison, equal, different, above, at_least, below, at_most, mirrored, compares, and_also, or_else, adds}
+use Rattle.vx_fn.specs.Laws.{SwappedOverExchangedOperands}
+use Rattle.vx_fn.specs.Values.{is_true, is_false, kleene_and, kleene_or, order, agrees, compared, sum_of}
+
+or_comm : (a b : Bool) → (a || b) ≡ (b || a)
+or_comm true true = refl
+or_comm true false = refl
+or_comm false true = refl
+or_comm false false = refl
+
+and_comm : (a b : Bool) → (a && b) ≡ (b && a)
+and_comm true true = refl
+and_comm true false = refl
+and_comm false true = refl
+and_comm false false = refl
+
+order-turned : (v w : Datum) → order v w ≡ ordering_reverse (order w v)
+order-turned (bool a) (bool b) = bool_cmp_total.antisymm a b
+order-turned (int i) (int j) = int_cmp_total.antisymm i j
+order-turned (utf8 s) (utf8 t) = nat_list_cmp_total.antisymm s t
+order-turned (bytes s) (bytes t) = nat_list_cmp_total.antisymm s t
+order-turned null null = refl
+order-turned (list_of vs) null = refl
+order-turned (struct_of vs) null = refl
+order-turned _ _ = refl
+
+agrees-turned : (c : Comparison) (o : Ordering) → agrees (mirrored c) (ordering_reverse o) ≡ agrees c o
+agrees-turned equal Less = refl
+agrees-turned equal Equal = refl
+agrees-turned equal Greater = refl
+agrees-turned different Less = refl
+agrees-turned different Equal = refl
+agrees-turned different Greater = refl
+agrees-turned above Less = refl
+agrees-turned above Equal = refl
+agrees-turned above Greater = refl
+agrees-turned at_least Less = refl
+agrees-turned at_least Equal = refl
+agrees-turned at_least Greater = refl
+agrees-turned below Less = refl
+agrees-turned below Equal = refl
+agrees-turned below Greater = refl
+agrees-turned at_most Less = refl
+agrees-turned at_most Equal = refl
+agrees-turned at_most Greater = refl
+
+compared-turned : (c : Comparison) (v w : Datum) → compared (mirrored c) v w ≡ compared c w v
+compared-turned c v w =
+    ap (λ b. if b then null else bool (agrees (mirrored c) (order v w))) (or_comm (is_null_datum v) (is_null_datum w))
+    ∙ ap (λ a. if is_null_datum w || is_null_datum v then null else bool a) (ap (agrees (mirrored c)) (order-turned v w) ∙ agrees-turned c (order w v))
+
+kleene_and-turned : (v w : Datum) → kleene_and v w ≡ kleene_and w v
+kleene_and-turned v w =
+    ap (λ b. if b then bool false else if is_true v && is_true w then bool true else null) (or_comm (is_false v) (is_false w))
+    ∙ ap (λ b. if is_false w || is_false v then bool false else if b then bool true else null) (and_comm (is_true v) (is_true w))
+
+kleene_or-turned : (v w : Datum) → kleene_or v w ≡ kleene_or w v
+kleene_or-turned v w =
+    ap (λ b. if b then bool true else if is_false v && is_false w then bool false else null) (or_comm (is_true v) (is_true w))
+    ∙ ap (λ b. if is_true w || is_true v then bool true else if b then bool false else null) (and_comm (is_false v) (is_false w))
+
+sum_of-turned : (v w : Datum) → sum_of v w ≡ sum_of w v
+sum_of-turned (int i) (int j) = ap int (+ℤ_comm i j)
+sum_of-turned null null = refl
+sum_of-turned (bool a) null = refl
+sum_of-turned (utf8 s) null = refl
+sum_of-turned (bytes s) null = refl
+sum_of-turned (list_of vs) null = refl
+sum_of-turned (struct_of vs) null = refl
+sum_of-turned _ _ = refl
+
+pub swapped_over_exchanged_operands : SwappedOverExchangedOperands
+swapped_over_exchanged_operands (compares c) v w = compared-turned c v w
+swapped_over_exchanged_operands and_also v w = kleene_and-turned v w
+swapped_over_exchanged_operands or_else v w = kleene_or-turned v w
+swapped_over_exchanged_operands adds v w = sum_of-turned v w

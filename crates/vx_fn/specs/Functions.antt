@@ -1,0 +1,300 @@
+-- The fifteen functions, and the type that each gives over its children's types.
+use Rattle.std.specs.Prelude.{ℕ, ◌+◌, ◌*◌, Bool, true, false, ◌&&◌, ◌||◌, ◌==◌, not, List, [], ◌∷◌, length, Option, Some, None, Result, Ok, Err, if◌then◌else◌, ok_or, codes}
+use Rattle.std.specs.List.{list_all}
+use Rattle.vx_types.specs.declared.error.VortexError.{VortexError}
+use Rattle.vx_types.specs.declared.error.VortexError.TheVariants.{ArityMismatch, NotAStruct, NoSuchField, BaseTypesDiffer, NotBool, NotComparable, NotNumeric, NotText, NoPairs}
+use Rattle.vx_fn.specs.declared.options.FieldSelection.{FieldSelection}
+use Rattle.vx_fn.specs.declared.options.FieldSelection.TheVariants.{Include, Exclude}
+use Rattle.vx_types.specs.Answers.{known_or}
+use Rattle.vx_types.specs.Fields.{names_without}
+use Rattle.vx_types.specs.Types.{Name, truth, number, text, LogicalType, ty, atomic, struct, Fields, Datum, is_nullable, with_nullability}
+use Rattle.vx_types.specs.Fits.{Fits}
+use Rattle.vx_types.specs.Joins.{same_base, union, union_all}
+use Rattle.vx_types.specs.Fields.{field_type, project, first_unknown, fields_named}
+
+-- how two operands are compared
+pub data Comparison : Type 0 where
+  equal : Comparison
+  different : Comparison
+  above : Comparison
+  at_least : Comparison
+  below : Comparison
+  at_most : Comparison
+
+-- what a binary function does with its operands
+pub data Operation : Type 0 where
+  compares : Comparison → Operation
+  and_also : Operation
+  or_else : Operation
+  adds : Operation
+
+-- a function with its options
+pub data Function : Type 0 where
+  case_when : (pairs : ℕ) → (has_else : Bool) → Function
+  get_item : Name → Function
+  literal : LogicalType → Datum → Function
+  pack : List Name → (nullable : Bool) → Function
+  select : FieldSelection → Function
+  fill_null : Function
+  zip : Function
+  binary : Operation → Function
+  negation : Function
+  between : (lower_strict upper_strict : Bool) → Function
+  like : (negated case_insensitive : Bool) → Function
+  is_null : Function
+  is_not_null : Function
+  mask : Function
+  cast : LogicalType → Function
+
+-- the comparison for exchanged operands
+abbrev pub mirrored : Comparison → Comparison
+mirrored above = below
+mirrored at_least = at_most
+mirrored below = above
+mirrored at_most = at_least
+mirrored equal = equal
+mirrored different = different
+
+-- the operation for exchanged operands
+abbrev pub swapped : Operation → Operation
+swapped (compares c) = compares (mirrored c)
+swapped and_also = and_also
+swapped or_else = or_else
+swapped adds = adds
+
+-- a literal's value is one of its type
+abbrev pub HasFittingLiteral : Function → Type 0
+HasFittingLiteral (literal t v) = Fits v t
+HasFittingLiteral _ = Unit {0}
+
+-- ---- the type of a node, or the first refusal
+abbrev pub Typing : Type 0
+Typing = Result LogicalType VortexError
+
+-- ---- a row of the table: how many children, then the checks in their order, then the type
+
+-- the row of a function without children
+abbrev pub of_none : Typing → List LogicalType → Typing
+of_none t [] = t
+of_none t (u ∷ us) = Err (ArityMismatch 0 (length (u ∷ us)))
+
+-- the row of a function of one child
+abbrev pub of_one : (LogicalType → Typing) → List LogicalType → Typing
+of_one row (t ∷ []) = row t
+of_one row ts = Err (ArityMismatch 1 (length ts))
+
+-- the row of a function of two children
+abbrev pub of_two : (LogicalType → LogicalType → Typing) → List LogicalType → Typing
+of_two row (t ∷ u ∷ []) = row t u
+of_two row ts = Err (ArityMismatch 2 (length ts))
+
+-- the row of a function of three children
+abbrev pub of_three : (LogicalType → LogicalType → LogicalType → Typing) → List LogicalType → Typing
+of_three row (t ∷ u ∷ w ∷ []) = row t u w
+of_three row ts = Err (ArityMismatch 3 (length ts))
+
+-- the row of a function of that many children
+abbrev pub of_many : ℕ → (List LogicalType → Typing) → List LogicalType → Typing
+of_many n row ts = if length ts == n then row ts else Err (ArityMismatch n (length ts))
+
+-- a check: what comes next where it passes, else its refusal
+abbrev pub needs : Bool → VortexError → Typing → Typing
+needs true refusal t = t
+needs false refusal t = Err refusal
+
+-- whether the type is Bool
+abbrev pub is_truth : LogicalType → Bool
+is_truth (ty (atomic truth) n) = true
+is_truth _ = false
+
+-- whether the type is Utf8
+abbrev pub is_text : LogicalType → Bool
+is_text (ty (atomic text) n) = true
+is_text _ = false
+
+-- whether the type is Primitive
+abbrev pub is_number : LogicalType → Bool
+is_number (ty (atomic (number p)) n) = true
+is_number _ = false
+
+-- whether the type is Bool, Primitive, Utf8 or Binary
+abbrev pub is_atomic : LogicalType → Bool
+is_atomic (ty (atomic p) n) = true
+is_atomic _ = false
+
+-- Bool, nullable or not
+abbrev pub truth_type : Bool → LogicalType
+truth_type n = ty (atomic truth) n
+
+-- a union that was found, made nullable
+abbrev pub made_nullable : Option LogicalType → Typing
+made_nullable None = Err BaseTypesDiffer
+made_nullable (Some w) = Ok (with_nullability true w)
+
+-- the union of the branches, nullable where there is no ELSE
+abbrev pub case_union : Bool → List LogicalType → Typing
+case_union has_else [] = Err NoPairs
+case_union true (t ∷ ts) = ok_or (union_all t ts) BaseTypesDiffer
+case_union false (t ∷ ts) = made_nullable (union_all t ts)
+
+-- of the children of a CASE, the conditions
+abbrev pub conditions : {A : Type 0} → List A → List A
+conditions [] = []
+conditions (e ∷ []) = []
+conditions (c ∷ v ∷ rest) = c ∷ conditions rest
+
+-- of the children of a CASE, the values, with the ELSE value last
+abbrev pub branches : {A : Type 0} → List A → List A
+branches [] = []
+branches (e ∷ []) = e ∷ []
+branches (c ∷ v ∷ rest) = v ∷ branches rest
+
+-- the row of CASE: pairs, truth types as conditions, and a union of the values
+abbrev pub case_type : ℕ → Bool → List LogicalType → Typing
+case_type pairs has_else ts =
+    needs (not (pairs == 0)) NoPairs
+    (needs (list_all is_truth (conditions ts)) NotBool
+    (case_union has_else (branches ts)))
+
+-- two children a pair, and one more with ELSE
+abbrev pub case_children : ℕ → Bool → ℕ
+case_children pairs has_else = if has_else then 2 * pairs + 1 else 2 * pairs
+
+-- how many children the function has
+abbrev pub arity_of : Function → ℕ
+arity_of (case_when pairs has_else) = case_children pairs has_else
+arity_of (literal t v) = 0
+arity_of (pack names n) = length names
+arity_of fill_null = 2
+arity_of (binary op) = 2
+arity_of (like negated case_insensitive) = 2
+arity_of mask = 2
+arity_of zip = 3
+arity_of (between ls us) = 3
+arity_of _ = 1
+
+-- the type of a field that was found, nullable also where its struct is
+abbrev pub found : Name → Bool → Option LogicalType → Typing
+found a n None = Err (NoSuchField a)
+found a n (Some (ty s m)) = Ok (ty s (m || n))
+
+-- the row of a field of a struct
+abbrev pub item_type : Name → LogicalType → Typing
+item_type a (ty (struct fs) n) = found a n (field_type a fs)
+item_type a _ = Err NotAStruct
+
+-- the names of a selection
+abbrev pub selection_names : FieldSelection → List Name
+selection_names (Include names) = names
+selection_names (Exclude names) = names
+
+-- whether a selection names the fields that are kept
+abbrev pub is_inclusion : FieldSelection → Bool
+is_inclusion (Include names) = true
+is_inclusion (Exclude names) = false
+
+-- the names as given, or those of the struct that aren't left out, in its order
+abbrev pub included : FieldSelection → Fields → List Name
+included (Include names) fs = names
+included (Exclude names) fs = names_without names fs
+
+-- the fields of a selection, or the first of its names without a field
+abbrev pub selected : FieldSelection → Fields → Result Fields VortexError
+selected selection fs = known_or (first_unknown (selection_names selection) fs) (Ok (project (included selection fs) fs))
+
+-- the row of a selection of fields
+abbrev pub select_type : FieldSelection → LogicalType → Typing
+select_type selection (ty (struct fs) n) = known_or (first_unknown (selection_names selection) fs) (Ok (ty (struct (project (included selection fs) fs)) n))
+select_type selection _ = Err NotAStruct
+
+-- the row of a comparison
+abbrev pub comparison_type : LogicalType → LogicalType → Typing
+comparison_type t u =
+    needs (is_atomic t && is_atomic u) NotComparable
+    (needs (same_base t u) BaseTypesDiffer (Ok (truth_type (is_nullable t || is_nullable u))))
+
+-- the row of And and Or
+abbrev pub logic_type : LogicalType → LogicalType → Typing
+logic_type t u = needs (is_truth t && is_truth u) NotBool (Ok (truth_type (is_nullable t || is_nullable u)))
+
+-- the row of a sum
+abbrev pub sum_type : LogicalType → LogicalType → Typing
+sum_type t u =
+    needs (is_number t && is_number u) NotNumeric
+    (needs (same_base t u) BaseTypesDiffer (Ok (with_nullability (is_nullable t || is_nullable u) t)))
+
+-- the row of each binary function
+abbrev pub binary_type : Operation → LogicalType → LogicalType → Typing
+binary_type (compares c) = comparison_type
+binary_type adds = sum_type
+binary_type _ = logic_type
+
+-- the row of a fill
+abbrev pub fill_type : LogicalType → LogicalType → Typing
+fill_type t u = needs (same_base t u) BaseTypesDiffer (Ok (with_nullability (is_nullable u) t))
+
+-- the row of a choice by a mask
+abbrev pub zip_type : LogicalType → LogicalType → LogicalType → Typing
+zip_type t u m = needs (is_truth m) NotBool (ok_or (union t u) BaseTypesDiffer)
+
+-- the row of a negation
+abbrev pub not_type : LogicalType → Typing
+not_type t = needs (is_truth t) NotBool (Ok t)
+
+-- the row of a test by two bounds
+abbrev pub between_type : LogicalType → LogicalType → LogicalType → Typing
+between_type t l u =
+    needs (is_atomic t && is_atomic l && is_atomic u) NotComparable
+    (needs (same_base t l && same_base t u) BaseTypesDiffer (Ok (truth_type (is_nullable t || is_nullable l || is_nullable u))))
+
+-- the row of a match of a pattern
+abbrev pub like_type : LogicalType → LogicalType → Typing
+like_type t p = needs (is_text t && is_text p) NotText (Ok (truth_type (is_nullable t || is_nullable p)))
+
+-- the row of a mask
+abbrev pub mask_type : LogicalType → LogicalType → Typing
+mask_type t m = needs (is_truth m && not (is_nullable m)) NotBool (Ok (with_nullability true t))
+
+-- the row of a cast
+abbrev pub cast_type : LogicalType → LogicalType → Typing
+cast_type u t = needs (same_base t u) BaseTypesDiffer (Ok u)
+
+-- the row of a struct that is made
+abbrev pub pack_type : List Name → Bool → List LogicalType → Typing
+pack_type names n ts = Ok (ty (struct (fields_named names ts)) n)
+
+-- what the function gives over its children's types: a type, or its first refusal
+abbrev pub fn_type : Function → List LogicalType → Typing
+fn_type (case_when pairs has_else) = of_many (case_children pairs has_else) (case_type pairs has_else)
+fn_type (get_item a) = of_one (item_type a)
+fn_type (literal t v) = of_none (Ok t)
+fn_type (pack names n) = of_many (length names) (pack_type names n)
+fn_type (select selection) = of_one (select_type selection)
+fn_type fill_null = of_two fill_type
+fn_type zip = of_three zip_type
+fn_type (binary op) = of_two (binary_type op)
+fn_type negation = of_one not_type
+fn_type (between lower_strict upper_strict) = of_three between_type
+fn_type (like negated case_insensitive) = of_two like_type
+fn_type is_null = of_one (λ t. Ok (truth_type false))
+fn_type is_not_null = of_one (λ t. Ok (truth_type false))
+fn_type mask = of_two mask_type
+fn_type (cast u) = of_one (cast_type u)
+
+-- the name of the function
+abbrev pub id_of : Function → List ℕ
+id_of (case_when pairs has_else) = codes "vortex.case_when"
+id_of (get_item a) = codes "vortex.get_item"
+id_of (literal t v) = codes "vortex.literal"
+id_of (pack names n) = codes "vortex.pack"
+id_of (select selection) = codes "vortex.select"
+id_of fill_null = codes "vortex.fill_null"
+id_of zip = codes "vortex.zip"
+id_of (binary op) = codes "vortex.binary"
+id_of negation = codes "vortex.not"
+id_of (between lower_strict upper_strict) = codes "vortex.between"
+id_of (like negated case_insensitive) = codes "vortex.like"
+id_of is_null = codes "vortex.is_null"
+id_of is_not_null = codes "vortex.is_not_null"
+id_of mask = codes "vortex.mask"
+id_of (cast t) = codes "vortex.cast"

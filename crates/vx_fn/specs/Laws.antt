@@ -1,0 +1,20 @@
+-- What typing and operators promise.
+use Rattle.std.specs.Prelude.{List, ◌≡◌, ◌↔◌, Ok}
+use Rattle.vx_types.specs.Types.{LogicalType, Datum}
+use Rattle.vx_types.specs.Joins.{Narrower, NarrowerEach}
+use Rattle.vx_fn.specs.Functions.{Function, fn_type, Operation, swapped}
+use Rattle.vx_fn.specs.Rows.{FnType}
+use Rattle.vx_fn.specs.Values.{binary_value}
+
+-- the function and the relation give the same types
+abbrev pub TypingIsTheRelation : Type 0
+TypingIsTheRelation = (f : Function) (ts : List LogicalType) (t : LogicalType) → (fn_type f ts ≡ Ok t) ↔ FnType f ts t
+
+-- children of narrower types are typed again, with a narrower type
+abbrev pub TypingIsMonotone : Type 0
+TypingIsMonotone = (f : Function) (ts us : List LogicalType) (u : LogicalType) → NarrowerEach ts us → fn_type f us ≡ Ok u →
+    (t : LogicalType) × (fn_type f ts ≡ Ok t) × Narrower t u
+
+-- the swapped operation gives over operands what the operation gives over them exchanged
+abbrev pub SwappedOverExchangedOperands : Type 0
+SwappedOverExchangedOperands = (op : Operation) (v w : Datum) → binary_value (swapped op) v w ≡ binary_value op w v

@@ -1,0 +1,12 @@
+pub mod Functions
+pub mod Memory
+pub mod Selections
+pub mod ChildNames
+pub mod Rows
+pub mod Values
+pub mod Faults
+pub mod Views
+pub mod Laws
+pub mod Markers
+pub mod Equality
+pub mod Texts

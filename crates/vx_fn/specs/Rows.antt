@@ -1,0 +1,31 @@
+-- The typing of a node as a relation: for each function the children's types it takes, and the type that it then has.
+use Rattle.std.specs.Prelude.{◌≡◌, ℕ, ◌==◌, Bool, true, false, ◌||◌, IsTrue, List, [], ◌∷◌, length, Some, None, not}
+use Rattle.std.specs.List.{list_all}
+use Rattle.vx_types.specs.Types.{Name, same_ptype, Atomic, truth, number, text, same_atomic, LogicalType, ty, Shape, atomic, struct, Fields, Datum, is_nullable, with_nullability}
+use Rattle.vx_types.specs.Joins.{same_base, join, union_all}
+use Rattle.vx_types.specs.Fields.{field_type, project, first_unknown, fields_named}
+use Rattle.vx_types.specs.declared.dtype.PType.{PType}
+use Rattle.vx_fn.specs.Functions.{Function, case_when, get_item, literal, pack, select, fill_null, zip, binary, negation, between, like, is_null, is_not_null, mask, cast, compares, and_also, or_else, adds, Comparison, selection_names, included, case_children, conditions, branches, is_truth}
+use Rattle.vx_fn.specs.declared.options.FieldSelection.{FieldSelection}
+
+-- a function over types of children, and the type that it then has
+pub data FnType : Function → List LogicalType → LogicalType → Type 0 where
+  of_case_else : {k : ℕ} {ts us : List LogicalType} {u w : LogicalType} → IsTrue (length ts == case_children k true) → IsTrue (not (k == 0)) → IsTrue (list_all is_truth (conditions ts)) → branches ts ≡ u ∷ us → union_all u us ≡ Some w → FnType (case_when k true) ts w
+  of_case : {k : ℕ} {ts us : List LogicalType} {u w : LogicalType} → IsTrue (length ts == case_children k false) → IsTrue (not (k == 0)) → IsTrue (list_all is_truth (conditions ts)) → branches ts ≡ u ∷ us → union_all u us ≡ Some w → FnType (case_when k false) ts (with_nullability true w)
+  of_get_item : {a : Name} {fs : Fields} {s : Shape} {n m : Bool} → field_type a fs ≡ Some (ty s m) → FnType (get_item a) (ty (struct fs) n ∷ []) (ty s (m || n))
+  of_literal : {t : LogicalType} {v : Datum} → FnType (literal t v) [] t
+  of_pack : {names : List Name} {n : Bool} {ts : List LogicalType} → IsTrue (length ts == length names) → FnType (pack names n) ts (ty (struct (fields_named names ts)) n)
+  of_select : {sel : FieldSelection} {fs : Fields} {n : Bool} → first_unknown (selection_names sel) fs ≡ None → FnType (select sel) (ty (struct fs) n ∷ []) (ty (struct (project (included sel fs) fs)) n)
+  of_fill_null : {t u : LogicalType} → IsTrue (same_base t u) → FnType fill_null (t ∷ u ∷ []) (with_nullability (is_nullable u) t)
+  of_zip : {t u : LogicalType} {n : Bool} → IsTrue (same_base t u) → FnType zip (t ∷ u ∷ ty (atomic truth) n ∷ []) (join t u)
+  of_comparison : {c : Comparison} {p q : Atomic} {n m : Bool} → IsTrue (same_atomic p q) → FnType (binary (compares c)) (ty (atomic p) n ∷ ty (atomic q) m ∷ []) (ty (atomic truth) (n || m))
+  of_and : {n m : Bool} → FnType (binary and_also) (ty (atomic truth) n ∷ ty (atomic truth) m ∷ []) (ty (atomic truth) (n || m))
+  of_or : {n m : Bool} → FnType (binary or_else) (ty (atomic truth) n ∷ ty (atomic truth) m ∷ []) (ty (atomic truth) (n || m))
+  of_add : {p q : PType} {n m : Bool} → IsTrue (same_ptype p q) → FnType (binary adds) (ty (atomic (number p)) n ∷ ty (atomic (number q)) m ∷ []) (ty (atomic (number p)) (n || m))
+  of_not : {n : Bool} → FnType negation (ty (atomic truth) n ∷ []) (ty (atomic truth) n)
+  of_between : {ls us : Bool} {p q r : Atomic} {n m k : Bool} → IsTrue (same_atomic p q) → IsTrue (same_atomic p r) → FnType (between ls us) (ty (atomic p) n ∷ ty (atomic q) m ∷ ty (atomic r) k ∷ []) (ty (atomic truth) (n || m || k))
+  of_like : {neg ci n m : Bool} → FnType (like neg ci) (ty (atomic text) n ∷ ty (atomic text) m ∷ []) (ty (atomic truth) (n || m))
+  of_is_null : {t : LogicalType} → FnType is_null (t ∷ []) (ty (atomic truth) false)
+  of_is_not_null : {t : LogicalType} → FnType is_not_null (t ∷ []) (ty (atomic truth) false)
+  of_mask : {t : LogicalType} → FnType mask (t ∷ ty (atomic truth) false ∷ []) (with_nullability true t)
+  of_cast : {t u : LogicalType} → IsTrue (same_base t u) → FnType (cast u) (t ∷ []) u

@@ -1,0 +1,186 @@
+-- The value of a function node at one row, from its children's values.
+use Rattle.std.specs.Prelude.{◌≡◌, ◌↔◌, ◌++◌, ℕ, Bool, true, false, ◌&&◌, ◌||◌, ◌==◌, not, List, [], ◌∷◌, ◌+ℤ◌, if◌then◌else◌, map, chars}
+use Rattle.std.specs.declared.cmp.Ordering.{Ordering}
+use Rattle.std.specs.declared.cmp.Ordering.TheVariants.{Equal}
+use Rattle.std.specs.Ordering.{is_lt, is_le, is_gt, is_ge, is_eq, is_ne, nat_cmp, int_cmp, bool_cmp}
+use Rattle.std.specs.Char.{to_ascii_lowercase}
+use Rattle.std.specs.Cmp.Lexicographic.{slice_cmp}
+use Rattle.vx_types.specs.Types.{Name, LogicalType, ty, struct, Datum, null, bool, int, utf8, bytes, struct_of, is_null_datum}
+use Rattle.vx_types.specs.Fields.{field_value, project_values, data_of}
+use Rattle.vx_fn.specs.Functions.{Function, case_when, get_item, literal, pack, select, fill_null, zip, binary, negation, between, like, is_null, is_not_null, mask, cast, Operation, compares, and_also, or_else, adds, Comparison, equal, different, above, at_least, below, at_most, included}
+use Rattle.vx_fn.specs.declared.options.FieldSelection.{FieldSelection}
+
+-- whether the value is true
+abbrev pub is_true : Datum → Bool
+is_true (bool b) = b
+is_true _ = false
+
+-- whether the value is false
+abbrev pub is_false : Datum → Bool
+is_false (bool b) = not b
+is_false _ = false
+
+-- ---- Kleene's tables, and orders
+
+-- false where one is false, true where both are true, else null
+abbrev pub kleene_and : Datum → Datum → Datum
+kleene_and v w = if is_false v || is_false w then bool false else if is_true v && is_true w then bool true else null
+
+-- true where one is true, false where both are false, else null
+abbrev pub kleene_or : Datum → Datum → Datum
+kleene_or v w = if is_true v || is_true w then bool true else if is_false v && is_false w then bool false else null
+
+-- the other truth value, or null
+abbrev pub kleene_not : Datum → Datum
+kleene_not (bool b) = bool (not b)
+kleene_not _ = null
+
+-- false before true, whole numbers by number, texts and bytes by their bytes
+abbrev pub order : Datum → Datum → Ordering
+order (bool a) (bool b) = bool_cmp a b
+order (int i) (int j) = int_cmp i j
+order (utf8 s) (utf8 t) = slice_cmp nat_cmp s t
+order (bytes s) (bytes t) = slice_cmp nat_cmp s t
+order _ _ = Equal
+
+-- whether the comparison holds of operands in that order
+abbrev pub agrees : Comparison → Ordering → Bool
+agrees equal = is_eq
+agrees different = is_ne
+agrees above = is_gt
+agrees at_least = is_ge
+agrees below = is_lt
+agrees at_most = is_le
+
+-- null with a null operand, else whether the comparison holds
+abbrev pub compared : Comparison → Datum → Datum → Datum
+compared c v w = if is_null_datum v || is_null_datum w then null else bool (agrees c (order v w))
+
+-- the comparison of a bound, strict or not
+abbrev pub below_or : Bool → Comparison
+below_or strict = if strict then below else at_most
+
+-- the sum of two numbers, or null
+abbrev pub sum_of : Datum → Datum → Datum
+sum_of (int i) (int j) = int (i +ℤ j)
+sum_of _ _ = null
+
+-- ---- patterns
+
+-- a part of a pattern: any text, any one character, or just that character
+pub data Part : Type 0 where
+  any_text : Part
+  any_one : Part
+  just : ℕ → Part
+
+-- 37 is '%', 95 is '_' and 92 is the backslash
+abbrev pub part_of : ℕ → Part
+part_of c = if c == 37 then any_text else if c == 95 then any_one else just c
+
+-- the parts that a pattern spells, where `quoted` says that a backslash stands before it
+abbrev pub parts : Bool → List ℕ → List Part
+parts false [] = []
+parts true [] = just 92 ∷ []
+parts true (c ∷ cs) = just c ∷ parts false cs
+parts false (c ∷ cs) = if c == 92 then parts true cs else part_of c ∷ parts false cs
+
+-- whether the test passes at the text after some front of it
+abbrev pub some_rest : (List ℕ → Bool) → List ℕ → Bool
+some_rest test [] = test []
+some_rest test (c ∷ cs) = test (c ∷ cs) || some_rest test cs
+
+-- whether the parts spell the text
+abbrev pub matches : List Part → List ℕ → Bool
+matches [] [] = true
+matches [] (c ∷ cs) = false
+matches (any_text ∷ rest) cs = some_rest (matches rest) cs
+matches (any_one ∷ rest) [] = false
+matches (any_one ∷ rest) (c ∷ cs) = matches rest cs
+matches (just d ∷ rest) [] = false
+matches (just d ∷ rest) (c ∷ cs) = (c == d) && matches rest cs
+
+-- the text, with the ASCII capitals made small where the case is ignored
+abbrev pub folded : Bool → List ℕ → List ℕ
+folded ignore_case cs = if ignore_case then map to_ascii_lowercase cs else cs
+
+-- whether the text matches the pattern
+abbrev pub is_like : Bool → List ℕ → List ℕ → Bool
+is_like ignore_case t p = matches (parts false (folded ignore_case (chars p))) (folded ignore_case (chars t))
+
+-- the answer, turned round where it is negated
+abbrev pub flipped : Bool → Bool → Bool
+flipped negated b = if negated then not b else b
+
+-- null with a null operand, else whether the text is like the pattern, or unlike it
+abbrev pub liked : Bool → Bool → Datum → Datum → Datum
+liked negated ignore_case (utf8 t) (utf8 p) = bool (flipped negated (is_like ignore_case t p))
+liked negated ignore_case _ _ = null
+
+-- ---- values at one row
+
+-- of conditions and values in turn, the value beside the first true condition, else the ELSE value, else null
+abbrev pub first_true : List Datum → Datum
+first_true [] = null
+first_true (e ∷ []) = e
+first_true (c ∷ v ∷ rest) = if is_true c then v else first_true rest
+
+-- null for a null struct, else the value of the first field of the name
+abbrev pub item_value : Name → List LogicalType → Datum → Datum
+item_value a (ty (struct fs) n ∷ []) (struct_of vs) = field_value a fs vs
+item_value a _ _ = null
+
+-- null for a null struct, else the struct of the included fields
+abbrev pub select_value : FieldSelection → List LogicalType → Datum → Datum
+select_value sel (ty (struct fs) n ∷ []) (struct_of vs) = struct_of (project_values (included sel fs) fs vs)
+select_value sel _ _ = null
+
+-- a function of the value of the one child
+abbrev pub at_one : (Datum → Datum) → List Datum → Datum
+at_one f (v ∷ []) = f v
+at_one f _ = null
+
+-- a function of the values of the two children
+abbrev pub at_two : (Datum → Datum → Datum) → List Datum → Datum
+at_two f (v ∷ w ∷ []) = f v w
+at_two f _ = null
+
+-- a function of the values of the three children
+abbrev pub at_three : (Datum → Datum → Datum → Datum) → List Datum → Datum
+at_three f (v ∷ w ∷ x ∷ []) = f v w x
+at_three f _ = null
+
+-- the value of each binary function
+abbrev pub binary_value : Operation → Datum → Datum → Datum
+binary_value (compares c) = compared c
+binary_value and_also = kleene_and
+binary_value or_else = kleene_or
+binary_value adds = sum_of
+
+-- the value of a function node, from its children's types and values
+abbrev pub fn_value : Function → List LogicalType → List Datum → Datum
+fn_value (case_when pairs has_else) ts = first_true
+fn_value (get_item a) ts = at_one (item_value a ts)
+fn_value (literal t v) ts = λ _. v
+fn_value (pack names n) ts = λ vs. struct_of (data_of vs)
+fn_value (select sel) ts = at_one (select_value sel ts)
+fn_value fill_null ts = at_two (λ v w. if is_null_datum v then w else v)
+fn_value zip ts = at_three (λ v w m. if is_true m then v else w)
+fn_value (binary op) ts = at_two (binary_value op)
+fn_value negation ts = at_one kleene_not
+fn_value (between ls us) ts = at_three (λ v l u. kleene_and (compared (below_or ls) l v) (compared (below_or us) v u))
+fn_value (like negated ci) ts = at_two (liked negated ci)
+fn_value is_null ts = at_one (λ v. bool (is_null_datum v))
+fn_value is_not_null ts = at_one (λ v. bool (not (is_null_datum v)))
+fn_value mask ts = at_two (λ v m. if is_true m then v else null)
+fn_value (cast t) ts = at_one (λ v. v)
+
+-- the text is one that the parts spell, each part in its turn
+abbrev pub Matches : List Part → List ℕ → Type 0
+Matches [] cs = cs ≡ []
+Matches (any_text ∷ rest) cs = (front : List ℕ) × (back : List ℕ) × (cs ≡ front ++ back) × Matches rest back
+Matches (any_one ∷ rest) cs = (c : ℕ) × (back : List ℕ) × (cs ≡ c ∷ back) × Matches rest back
+Matches (just d ∷ rest) cs = (back : List ℕ) × (cs ≡ d ∷ back) × Matches rest back
+
+-- the test by search and the relation by cuts are one
+abbrev pub MatchesIsDecided : Type 0
+MatchesIsDecided = (ps : List Part) (cs : List ℕ) → (matches ps cs ≡ true) ↔ Matches ps cs

@@ -1,0 +1,23 @@
+// What typing, operators and patterns promise.
+ghost use Rattle.vx_fn.specs.Laws.{SwappedOverExchangedOperands, TypingIsMonotone, TypingIsTheRelation};
+ghost use Rattle.vx_fn.specs.Values.{MatchesIsDecided};
+
+/// The typing function gives the types of the typing relation, and no others.
+pub fn typing_is_the_relation()
+    ensures { TypingIsTheRelation }
+{}
+
+/// Children of narrower types are typed again, with a narrower type.
+pub fn typing_is_monotone()
+    ensures { TypingIsMonotone }
+{}
+
+/// The test of a pattern by search decides the relation by cuts.
+pub fn matches_is_decided()
+    ensures { MatchesIsDecided }
+{}
+
+/// The swapped operator gives the operator's value over exchanged operands.
+pub fn swapped_over_exchanged_operands()
+    ensures { SwappedOverExchangedOperands }
+{}

@@ -1,0 +1,101 @@
+// The number of a function's children, and the type of a node over their types.
+ghost use Rattle.std.specs.Prelude.{◌≡◌, ◌≢◌, ℕ, map, length, IsTrue, IfOk, IsErrOf};
+ghost use Rattle.vx_types.specs.Answers.{Answers};
+ghost use Rattle.vx_types.specs.Views.{type_of};
+ghost use Rattle.vx_types.specs.declared.error.VortexError.TheVariants.{ArityMismatch};
+ghost use Rattle.vx_fn.specs.Functions.{fn_type, arity_of, HasFittingLiteral};
+ghost use Rattle.vx_fn.specs.Memory.{Exactly, RefusesEarly, is_typed_in_place};
+ghost use Rattle.vx_fn.specs.Views.{function_of};
+
+mod case;
+mod fields;
+mod rows;
+
+use crate::ScalarFnRef;
+use case::case_dtype;
+use fields::{item_dtype, pack_dtype, select_dtype};
+pub(crate) use rows::is_atomic;
+use rows::{
+    between_dtype, binary_dtype, cast_dtype, fill_dtype, like_dtype, literal_dtype, mask_dtype,
+    not_dtype, truth_dtype, zip_dtype,
+};
+use std::alloc::Global;
+use vx_types::{DType, VortexError, VortexResult};
+
+impl ScalarFnRef {
+    /// The number of children.
+    pub fn arity(&self) -> usize
+        ensures { result ≡ arity_of (function_of self.now) }
+    {
+        match self {
+            ScalarFnRef::CaseWhen(options) => options.num_children(),
+            ScalarFnRef::GetItem(_) => 1,
+            ScalarFnRef::Literal(_) => 0,
+            ScalarFnRef::Pack(options) => options.names.len(),
+            ScalarFnRef::Select(_) => 1,
+            ScalarFnRef::FillNull(_) => 2,
+            ScalarFnRef::Zip(_) => 3,
+            ScalarFnRef::Binary(_) => 2,
+            ScalarFnRef::Not(_) => 1,
+            ScalarFnRef::Between(_) => 3,
+            ScalarFnRef::Like(_) => 2,
+            ScalarFnRef::IsNull(_) => 1,
+            ScalarFnRef::IsNotNull(_) => 1,
+            ScalarFnRef::Mask(_) => 2,
+            ScalarFnRef::Cast(_) => 1,
+        }
+    }
+
+    /// The type of a node over its children's types, or its first refusal. First comes
+    /// `ArityMismatch` (2), at another number of children, and then the function's own, in order:
+    ///
+    /// - `CaseWhen`: `NoPairs` (11) without a pair, `NotBool` (7) at a condition of another type,
+    ///   `BaseTypesDiffer` (6) where the branches have no union.
+    /// - `GetItem` and `Select`: `NotAStruct` (4), `NoSuchField` (5) with the first unknown name.
+    /// - `FillNull` and `Cast`: `BaseTypesDiffer` (6).
+    /// - `Zip`: `NotBool` (7) at another mask, `BaseTypesDiffer` (6) where the values have no union.
+    /// - `Binary`, a comparison, and `Between`: `NotComparable` (8) at a list or a struct,
+    ///   `BaseTypesDiffer` (6).
+    /// - `Binary`, And or Or, and `Not`: `NotBool` (7).
+    /// - `Binary`, Add: `NotNumeric` (9), `BaseTypesDiffer` (6).
+    /// - `Like`: `NotText` (10).
+    /// - `Mask`: `NotBool` (7) at a mask of another type or a nullable one.
+    ///
+    /// `OutOfMemory` (1) comes only where something is copied: never for `Binary`, `Not`,
+    /// `Between`, `Like`, `IsNull` and `IsNotNull`, and in place of another refusal only where that
+    /// is `NoSuchField`, or `BaseTypesDiffer` of `CaseWhen` or `Zip`.
+    pub fn return_dtype(&self, alloc: Global, types: &[DType]) -> VortexResult<DType>
+        ensures typed { Answers type_of result (fn_type (function_of self.now) (map type_of types.now)) }
+        ensures literal { IfOk result (λ _. HasFittingLiteral (function_of self.now)) }
+        ensures arity { length types.now ≢ arity_of (function_of self.now) → IsErrOf result (ArityMismatch (arity_of (function_of self.now)) (length types.now)) }
+        ensures in_place { IsTrue (is_typed_in_place (function_of self.now)) → Exactly type_of result (fn_type (function_of self.now) (map type_of types.now)) }
+        ensures early { RefusesEarly (function_of self.now) type_of result (fn_type (function_of self.now) (map type_of types.now)) }
+    {
+        let arity = self.arity();
+        if types.len() != arity {
+            return Err(VortexError::ArityMismatch {
+                expected: arity,
+                got: types.len(),
+            });
+        }
+        match (self, types) {
+            (ScalarFnRef::CaseWhen(options), _) => case_dtype(alloc, *options, types),
+            (ScalarFnRef::GetItem(name), [input]) => item_dtype(name, input),
+            (ScalarFnRef::Literal(scalar), []) => literal_dtype(scalar),
+            (ScalarFnRef::Pack(options), _) => pack_dtype(alloc, options, types),
+            (ScalarFnRef::Select(selection), [child]) => select_dtype(alloc, selection, child),
+            (ScalarFnRef::FillNull(_), [input, fill_value]) => fill_dtype(input, fill_value),
+            (ScalarFnRef::Zip(_), [if_true, if_false, mask]) => {
+                zip_dtype(alloc, if_true, if_false, mask)
+            }
+            (ScalarFnRef::Binary(operator), [lhs, rhs]) => binary_dtype(*operator, lhs, rhs),
+            (ScalarFnRef::Not(_), [input]) => not_dtype(input),
+            (ScalarFnRef::Between(_), [array, lower, upper]) => between_dtype(array, lower, upper),
+            (ScalarFnRef::Like(_), [child, pattern]) => like_dtype(child, pattern),
+            (ScalarFnRef::IsNull(_) | ScalarFnRef::IsNotNull(_), [_]) => Ok(truth_dtype(false)),
+            (ScalarFnRef::Mask(_), [input, mask]) => mask_dtype(input, mask),
+            (ScalarFnRef::Cast(target), [input]) => cast_dtype(target, input),
+            _ => unreachable!(),
+        }
+    }
+}

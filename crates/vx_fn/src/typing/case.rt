@@ -1,0 +1,74 @@
+// The type of a CASE, whose children are conditions and values in turn, and the ELSE value last.
+ghost use Rattle.std.specs.Prelude.{◌≡◌, ℕ, map, Ok, option_map};
+ghost use Rattle.std.specs.List.{list_all};
+ghost use Rattle.vx_types.specs.Answers.{Answers};
+ghost use Rattle.vx_types.specs.Joins.{union_all};
+ghost use Rattle.vx_types.specs.Views.{type_of};
+ghost use Rattle.vx_fn.specs.Functions.{case_when, is_truth, case_type, case_union, conditions, branches};
+ghost use Rattle.vx_fn.specs.Memory.{RefusesEarly};
+
+use super::rows::is_truth;
+use crate::CaseWhenOptions;
+use std::alloc::Global;
+use vx_types::{DType, Nullability, VortexError, VortexResult};
+
+pub(super) fn case_dtype(
+    alloc: Global,
+    options: CaseWhenOptions,
+    types: &[DType],
+) -> VortexResult<DType>
+    ensures typed { Answers type_of result (case_type options.num_when_then_pairs options.has_else (map type_of types.now)) }
+    ensures early { RefusesEarly (case_when options.num_when_then_pairs options.has_else) type_of result (case_type options.num_when_then_pairs options.has_else (map type_of types.now)) }
+{
+    if options.num_when_then_pairs == 0 {
+        return Err(VortexError::NoPairs);
+    }
+    if !are_truths(types) {
+        return Err(VortexError::NotBool);
+    }
+    branches_dtype(alloc, options.has_else, types)
+}
+
+// Whether the conditions, every second of the children, are of a truth type.
+fn are_truths(types: &[DType]) -> bool
+    ensures { result ≡ list_all is_truth (conditions (map type_of types.now)) }
+{
+    match types {
+        [condition, _, rest @ ..] => is_truth(condition) && are_truths(rest),
+        _ => true,
+    }
+}
+
+// The union of the branches, nullable where there is no ELSE.
+fn branches_dtype(alloc: Global, has_else: bool, types: &[DType]) -> VortexResult<DType>
+    ensures typed { Answers type_of result (case_union has_else (branches (map type_of types.now))) }
+    ensures early { RefusesEarly (case_when 0 has_else) type_of result (case_union has_else (branches (map type_of types.now))) }
+{
+    let joined = match types {
+        [] => return Err(VortexError::NoPairs),
+        [value] => Some(value.clone()?),
+        [_, value, rest @ ..] => joined_branches(alloc, value.clone()?, rest)?,
+    };
+    match joined {
+        Some(t) => Ok(if has_else {
+            t
+        } else {
+            t.with_nullability(Nullability::Nullable)
+        }),
+        None => Err(VortexError::BaseTypesDiffer),
+    }
+}
+
+// The union of a type and the branches of what is left of the children.
+fn joined_branches(alloc: Global, t: DType, types: &[DType]) -> VortexResult<Option<DType>>
+    ensures { Answers (option_map type_of) result (Ok (union_all (type_of t) (branches (map type_of types.now)))) }
+{
+    match types {
+        [] => Ok(Some(t)),
+        [value] => t.union(alloc, value),
+        [_, value, rest @ ..] => match t.union(alloc, value)? {
+            Some(joined) => joined_branches(alloc, joined, rest),
+            None => Ok(None),
+        },
+    }
+}

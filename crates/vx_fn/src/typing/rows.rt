@@ -1,0 +1,173 @@
+// The types of nodes whose function looks at types alone: a function for each row of the table.
+ghost use Rattle.std.specs.Prelude.{◌≡◌, Ok};
+ghost use Rattle.vx_types.specs.Answers.{Answers};
+ghost use Rattle.vx_types.specs.Fits.{Fits};
+ghost use Rattle.vx_types.specs.Views.{type_of};
+ghost use Rattle.vx_fn.specs.Functions.{fill_null, zip, mask as mask_function, cast, is_truth, is_text, is_number, is_atomic, truth_type, binary_type, comparison_type, logic_type, sum_type, fill_type, zip_type, not_type, between_type, like_type, mask_type, cast_type};
+ghost use Rattle.vx_fn.specs.Memory.{Exactly, RefusesEarly};
+ghost use Rattle.vx_fn.specs.Views.{operation_of};
+
+use crate::Operator;
+use std::alloc::Global;
+use vx_types::{DType, Nullability, Scalar, VortexError, VortexResult};
+
+// Reading the value tells that it is one of the type.
+pub(super) fn literal_dtype(scalar: &Scalar) -> VortexResult<DType>
+    ensures typed { Answers type_of result (Ok scalar.now.type) }
+    ensures fits { Fits scalar.now.value scalar.now.type }
+{
+    let _value = scalar.value();
+    Ok(scalar.dtype().clone()?)
+}
+
+pub(super) fn fill_dtype(t: &DType, u: &DType) -> VortexResult<DType>
+    ensures typed { Answers type_of result (fill_type (type_of t.now) (type_of u.now)) }
+    ensures early { RefusesEarly fill_null type_of result (fill_type (type_of t.now) (type_of u.now)) }
+{
+    if !t.eq_ignore_nullability(u) {
+        return Err(VortexError::BaseTypesDiffer);
+    }
+    Ok(t.clone()?.with_nullability(u.nullability()))
+}
+
+pub(super) fn zip_dtype(alloc: Global, t: &DType, u: &DType, mask: &DType) -> VortexResult<DType>
+    ensures typed { Answers type_of result (zip_type (type_of t.now) (type_of u.now) (type_of mask.now)) }
+    ensures early { RefusesEarly zip type_of result (zip_type (type_of t.now) (type_of u.now) (type_of mask.now)) }
+{
+    if !is_truth(mask) {
+        return Err(VortexError::NotBool);
+    }
+    match t.union(alloc, u)? {
+        Some(joined) => Ok(joined),
+        None => Err(VortexError::BaseTypesDiffer),
+    }
+}
+
+pub(super) fn binary_dtype(operator: Operator, t: &DType, u: &DType) -> VortexResult<DType>
+    ensures { Exactly type_of result (binary_type (operation_of operator) (type_of t.now) (type_of u.now)) }
+{
+    match operator {
+        Operator::Eq
+        | Operator::NotEq
+        | Operator::Gt
+        | Operator::Gte
+        | Operator::Lt
+        | Operator::Lte => comparison_dtype(t, u),
+        Operator::And | Operator::Or => logic_dtype(t, u),
+        Operator::Add => sum_dtype(t, u),
+    }
+}
+
+fn comparison_dtype(t: &DType, u: &DType) -> VortexResult<DType>
+    ensures { Exactly type_of result (comparison_type (type_of t.now) (type_of u.now)) }
+{
+    if !(is_atomic(t) && is_atomic(u)) {
+        return Err(VortexError::NotComparable);
+    }
+    if !t.eq_ignore_nullability(u) {
+        return Err(VortexError::BaseTypesDiffer);
+    }
+    let nullable = t.is_nullable() || u.is_nullable();
+    Ok(truth_dtype(nullable))
+}
+
+fn logic_dtype(t: &DType, u: &DType) -> VortexResult<DType>
+    ensures { Exactly type_of result (logic_type (type_of t.now) (type_of u.now)) }
+{
+    if !(is_truth(t) && is_truth(u)) {
+        return Err(VortexError::NotBool);
+    }
+    Ok(truth_dtype(t.is_nullable() || u.is_nullable()))
+}
+
+fn sum_dtype(t: &DType, u: &DType) -> VortexResult<DType>
+    ensures { Exactly type_of result (sum_type (type_of t.now) (type_of u.now)) }
+{
+    match (t, u) {
+        (DType::Primitive(p, _), DType::Primitive(_, _)) => {
+            if !t.eq_ignore_nullability(u) {
+                return Err(VortexError::BaseTypesDiffer);
+            }
+            let nullable = t.is_nullable() || u.is_nullable();
+            Ok(DType::Primitive(*p, Nullability::of(nullable)))
+        }
+        _ => Err(VortexError::NotNumeric),
+    }
+}
+
+pub(super) fn not_dtype(t: &DType) -> VortexResult<DType>
+    ensures { Exactly type_of result (not_type (type_of t.now)) }
+{
+    match t {
+        DType::Bool(n) => Ok(DType::Bool(*n)),
+        _ => Err(VortexError::NotBool),
+    }
+}
+
+pub(super) fn between_dtype(t: &DType, lower: &DType, upper: &DType) -> VortexResult<DType>
+    ensures { Exactly type_of result (between_type (type_of t.now) (type_of lower.now) (type_of upper.now)) }
+{
+    if !(is_atomic(t) && is_atomic(lower) && is_atomic(upper)) {
+        return Err(VortexError::NotComparable);
+    }
+    if !(t.eq_ignore_nullability(lower) && t.eq_ignore_nullability(upper)) {
+        return Err(VortexError::BaseTypesDiffer);
+    }
+    Ok(truth_dtype(t.is_nullable() || lower.is_nullable() || upper.is_nullable()))
+}
+
+pub(super) fn like_dtype(t: &DType, pattern: &DType) -> VortexResult<DType>
+    ensures { Exactly type_of result (like_type (type_of t.now) (type_of pattern.now)) }
+{
+    if !(is_text(t) && is_text(pattern)) {
+        return Err(VortexError::NotText);
+    }
+    Ok(truth_dtype(t.is_nullable() || pattern.is_nullable()))
+}
+
+pub(super) fn mask_dtype(t: &DType, mask: &DType) -> VortexResult<DType>
+    ensures typed { Answers type_of result (mask_type (type_of t.now) (type_of mask.now)) }
+    ensures early { RefusesEarly mask_function type_of result (mask_type (type_of t.now) (type_of mask.now)) }
+{
+    if !(is_truth(mask) && !mask.is_nullable()) {
+        return Err(VortexError::NotBool);
+    }
+    Ok(t.clone()?.with_nullability(Nullability::Nullable))
+}
+
+pub(super) fn cast_dtype(target: &DType, t: &DType) -> VortexResult<DType>
+    ensures typed { Answers type_of result (cast_type (type_of target.now) (type_of t.now)) }
+    ensures early { RefusesEarly (cast (type_of target.now)) type_of result (cast_type (type_of target.now) (type_of t.now)) }
+{
+    if !t.eq_ignore_nullability(target) {
+        return Err(VortexError::BaseTypesDiffer);
+    }
+    Ok(target.clone()?)
+}
+
+pub(super) fn truth_dtype(nullable: bool) -> DType
+    ensures { type_of result ≡ truth_type nullable }
+{
+    DType::Bool(Nullability::of(nullable))
+}
+
+pub(super) fn is_truth(t: &DType) -> bool
+    ensures { result ≡ is_truth (type_of t.now) }
+{
+    matches!(t, DType::Bool(_))
+}
+
+fn is_text(t: &DType) -> bool
+    ensures { result ≡ is_text (type_of t.now) }
+{
+    matches!(t, DType::Utf8(_))
+}
+
+pub(crate) fn is_atomic(t: &DType) -> bool
+    ensures { result ≡ is_atomic (type_of t.now) }
+{
+    matches!(
+        t,
+        DType::Bool(_) | DType::Primitive(_, _) | DType::Utf8(_) | DType::Binary(_)
+    )
+}

@@ -1,0 +1,6 @@
+mod Filling
+mod Transposed
+mod Fitting
+mod Meanings
+mod Quiet
+mod Structs

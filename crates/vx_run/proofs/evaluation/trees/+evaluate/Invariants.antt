@@ -1,0 +1,13 @@
+use Rattle.std.proofs.Common.{◌≡◌, drop}
+use Rattle.vx_tree.specs.Trees.{EachWellTyped, unbound_each}
+use Rattle.vx_tree.specs.Views.{bounds_of}
+use Rattle.vx_run.specs.Columns.{values_of, rows_views}
+use Rattle.vx_run.specs.Evaluation.{each_answer, prepended, EachEvaluable}
+use Rattle.vx_run.proofs.evaluation.trees.+evaluate.Given as goal
+
+abbrev pub invariant-evaluate_each-loop-child : goal.invariant-evaluate_each-loop-child
+invariant-evaluate_each-loop-child l = record {
+  answer : each_answer (bounds_of l.children) (values_of l.batch.value.items) ≡ prepended (rows_views l.columns.items) (each_answer (bounds_of (drop l.child-index l.children)) (values_of l.batch.value.items));
+  typed : EachWellTyped (bounds_of (drop l.child-index l.children));
+  evaluable : EachEvaluable (unbound_each (bounds_of (drop l.child-index l.children)));
+}

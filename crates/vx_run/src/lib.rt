@@ -1,0 +1,15 @@
+// A run of the program, over any two writers.
+#![tactic(auto)]
+
+mod evaluation;
+mod kleene;
+mod laws;
+mod pages;
+mod row;
+mod run;
+mod writing;
+
+pub use laws::kleene_page_is;
+pub use row::Row;
+pub use run::run_show;
+pub use writing::tell;

@@ -1,0 +1,34 @@
+// The rows that the program shows, by their names.
+ghost use Rattle.std.specs.Prelude.{◌≡◌, Ok, Err, MatchResult, map, string_bytes};
+ghost use Rattle.vx_run.specs.Requests.{row_named, asked};
+
+/// What the program can show.
+#[derive(Clone, Copy, Debug)]
+pub enum Row {
+    /// A null bound and an upper bound over one field.
+    Kleene,
+}
+
+/// The row that the words name, or the complaint that is made of them.
+pub(crate) fn asked(words: &[String]) -> Result<Row, &'static str>
+    ensures { let answer = asked (map string_bytes words.now) in
+        MatchResult result (λ row. answer ≡ Ok row) (λ complaint. answer ≡ Err complaint.now) }
+{
+    match words {
+        [name] => match row_named(name.as_str()) {
+            Some(row) => Ok(row),
+            None => Err("unknown row\n"),
+        },
+        _ => Err("usage: vx_show ROW\n"),
+    }
+}
+
+// The row of that name.
+fn row_named(name: &str) -> Option<Row>
+    ensures { result ≡ row_named name.now }
+{
+    match name {
+        "kleene" => Some(Row::Kleene),
+        _ => None,
+    }
+}

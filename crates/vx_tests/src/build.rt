@@ -1,0 +1,67 @@
+// What the tests build their values with.
+use std::alloc::Global;
+use std::process::Abort;
+use vx_tree::{
+    DType, Expression, FieldName, FieldNames, Nullability, Operator, PType, Scalar, ScalarFnRef,
+    StructFields, VortexResult,
+};
+
+pub fn names(alloc: Global, texts: &[&str]) -> VortexResult<FieldNames> {
+    let mut names = Vec::with_capacity(alloc, texts.len())?;
+    for text in texts {
+        names.push(FieldName::new(alloc, text)?)?;
+    }
+    FieldNames::new(alloc, names)
+}
+
+/// A struct's fields, as many types as names.
+pub fn fields(
+    rt: &impl Abort,
+    alloc: Global,
+    texts: &[&str],
+    types: Vec<DType>,
+) -> VortexResult<StructFields> {
+    let names = names(alloc, texts)?;
+    assert_eq!(rt; names.len(), types.len());
+    StructFields::new(alloc, names, types)
+}
+
+pub fn i32_type(nullability: Nullability) -> DType {
+    DType::Primitive(PType::I32, nullability)
+}
+
+/// The function over the children.
+pub fn call(
+    alloc: Global,
+    function: ScalarFnRef,
+    children: Vec<Expression>,
+) -> VortexResult<Expression> {
+    Expression::try_new(alloc, function, children)
+}
+
+/// The field of the scope.
+pub fn col(alloc: Global, name: &str) -> VortexResult<Expression> {
+    let name = FieldName::new(alloc, name)?;
+    call(
+        alloc,
+        ScalarFnRef::GetItem(name),
+        vec![in alloc; Expression::Root]?,
+    )
+}
+
+pub fn literal(alloc: Global, scalar: Scalar) -> VortexResult<Expression> {
+    Expression::try_new(alloc, ScalarFnRef::Literal(scalar), Vec::new(alloc))
+}
+
+pub fn binary(
+    alloc: Global,
+    operator: Operator,
+    lhs: Expression,
+    rhs: Expression,
+) -> VortexResult<Expression> {
+    Expression::try_new(
+        alloc,
+        ScalarFnRef::Binary(operator),
+        vec![in alloc; lhs, rhs]?,
+    )
+}

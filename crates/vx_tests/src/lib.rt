@@ -1,0 +1,21 @@
+// Tests that cross crates: worked rows, texts, and each public call once, as tables.
+#![tactic(auto)]
+
+#[cfg(test)]
+mod build;
+#[cfg(test)]
+mod columns;
+#[cfg(test)]
+mod errors;
+#[cfg(test)]
+mod functions;
+#[cfg(test)]
+mod rows;
+#[cfg(test)]
+mod runs;
+#[cfg(test)]
+mod texts;
+#[cfg(test)]
+mod trees;
+#[cfg(test)]
+mod types;

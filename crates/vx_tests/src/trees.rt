@@ -1,0 +1,301 @@
+// Trees: their texts, children, binding and refusals.
+use crate::build::{binary, col, fields, i32_type, literal, names};
+use std::alloc::Global;
+use std::process::Abort;
+use std::test::Fail;
+use vx_tree::Nullability::{NonNullable, Nullable};
+use vx_tree::test_harness::struct_dtype;
+use vx_tree::{
+    BetweenOptions, Binary, BoundExpression, CaseWhenOptions, DType, EmptyOptions, ExprDisplay,
+    Expression, FieldSelection, GetItem, LikeOptions, Literal, Operator, PackOptions, Scalar,
+    ScalarFnRef, Scope, StrictComparison, VortexError, VortexResult,
+};
+
+/// `(($.x >= null) and ($.x <= 5i32))`
+fn range_of_x(alloc: Global) -> VortexResult<Expression> {
+    let null = literal(alloc, Scalar::null(i32_type(Nullable)))?;
+    let five = literal(alloc, Scalar::from_i32(5))?;
+    let lower = binary(alloc, Operator::Gte, col(alloc, "x")?, null)?;
+    let upper = binary(alloc, Operator::Lte, col(alloc, "x")?, five)?;
+    binary(alloc, Operator::And, lower, upper)
+}
+
+/// `{x=i32}`
+fn scope_of_x(rt: &impl Abort, alloc: Global) -> VortexResult<DType> {
+    let types = vec![in alloc; i32_type(NonNullable)]?;
+    Ok(DType::Struct(fields(rt, alloc, &["x"], types)?, NonNullable))
+}
+
+#[test]
+fn a_range_has_its_text_and_type(rt: HostRuntime) -> Result<(), Fail> {
+    let alloc = rt.alloc();
+    let text = "(($.x >= null) and ($.x <= 5i32))";
+    let source = range_of_x(alloc)?;
+    let scope = scope_of_x(&rt, alloc)?;
+    let bound = source.bind(alloc, &scope)?;
+    assert_eq!(rt; format!(in alloc; "{source}")?.as_str(), text);
+    assert_eq!(rt; format!(in alloc; "{bound}")?.as_str(), text);
+    assert!(rt; *bound.dtype() == DType::Bool(Nullable));
+    assert!(rt; source.return_dtype(alloc, &scope)? == DType::Bool(Nullable));
+    assert!(rt; bound.is_root_bound_to(&scope));
+    assert!(rt; !bound.is_root_bound_to(&i32_type(NonNullable)));
+    let scope = Scope::new(scope);
+    assert!(rt; source.bind_scope(alloc, &scope)? == bound);
+    assert!(rt; bound.is_root_bound_to(scope.root()));
+    Ok(())
+}
+
+#[test]
+fn binding_refuses_children_first(rt: HostRuntime) -> Result<(), Fail> {
+    let alloc = rt.alloc();
+    let scope = struct_dtype(alloc)?;
+    assert_eq!(rt;
+        format!(in alloc; "{scope}")?.as_str(),
+        "{a=i32, col1=u16?, col2=u16?, bool1=bool, bool2=bool}"
+    );
+    let nope = literal(alloc, Scalar::utf8(alloc, "nope")?)?;
+    let compared = binary(alloc, Operator::Eq, col(alloc, "a")?, nope)?;
+    assert!(rt;
+        matches!(
+            compared.bind(alloc, &scope),
+            Err(VortexError::BaseTypesDiffer)
+        )
+    );
+    assert!(rt;
+        matches!(
+            compared.return_dtype(alloc, &scope),
+            Err(VortexError::BaseTypesDiffer)
+        )
+    );
+    let unknown = binary(alloc, Operator::And, col(alloc, "zz")?, compared)?;
+    let refused = unknown.bind(alloc, &scope);
+    assert!(rt; matches!(refused, Err(VortexError::NoSuchField(name)) if name.as_str() == "zz"));
+    let left_out = FieldSelection::Exclude(names(alloc, &["zz"])?);
+    let selected = Expression::try_new(
+        alloc,
+        ScalarFnRef::Select(left_out),
+        vec![in alloc; Expression::Root]?,
+    )?;
+    let refused = selected.bind(alloc, &scope);
+    assert!(rt; matches!(refused, Err(VortexError::NoSuchField(name)) if name.as_str() == "zz"));
+    let no_pairs = CaseWhenOptions {
+        num_when_then_pairs: 0,
+        has_else: false,
+    };
+    let empty = Expression::try_new(alloc, ScalarFnRef::CaseWhen(no_pairs), Vec::new(alloc))?;
+    assert!(rt; matches!(empty.bind(alloc, &scope), Err(VortexError::NoPairs)));
+    Ok(())
+}
+
+#[test]
+fn a_wrong_number_of_children_is_refused(rt: HostRuntime) -> Result<(), Fail> {
+    let alloc = rt.alloc();
+    let one = vec![in alloc; Expression::Root]?;
+    let compared = Expression::try_new(alloc, ScalarFnRef::Binary(Operator::Eq), one);
+    assert!(rt;
+        matches!(
+            compared,
+            Err(VortexError::ArityMismatch {
+                expected: 2,
+                got: 1
+            })
+        )
+    );
+    let one = vec![in alloc; Expression::Root]?;
+    let zipped = Expression::try_new(alloc, ScalarFnRef::Zip(EmptyOptions), one);
+    assert!(rt;
+        matches!(
+            zipped,
+            Err(VortexError::ArityMismatch {
+                expected: 3,
+                got: 1
+            })
+        )
+    );
+    let one = vec![in alloc; Expression::Root]?;
+    let root = Expression::Root.with_children(alloc, one);
+    assert!(rt; matches!(root, Err(VortexError::RootChildren { got: 1 })));
+    let item = col(alloc, "x")?.with_children(alloc, Vec::new(alloc));
+    assert!(rt;
+        matches!(
+            item,
+            Err(VortexError::ArityMismatch {
+                expected: 1,
+                got: 0
+            })
+        )
+    );
+    let one = vec![in alloc; BoundExpression::new_root(i32_type(Nullable))]?;
+    let bound = BoundExpression::try_new(alloc, ScalarFnRef::Zip(EmptyOptions), one);
+    assert!(rt;
+        matches!(
+            bound,
+            Err(VortexError::ArityMismatch {
+                expected: 3,
+                got: 1
+            })
+        )
+    );
+    Ok(())
+}
+
+#[test]
+fn nodes_show_their_function_and_children(rt: HostRuntime) -> Result<(), Fail> {
+    let alloc = rt.alloc();
+    let source = range_of_x(alloc)?;
+    assert!(rt; Expression::Root.is_root() && !source.is_root());
+    assert!(rt; source.as_scalar() == Some(&ScalarFnRef::Binary(Operator::And)));
+    assert!(rt; source.is::<Binary>() && !source.is::<Literal>());
+    assert!(rt; source.as_opt::<Binary>() == Some(&Operator::And));
+    assert!(rt; source.as_opt::<GetItem>().is_none());
+    assert_eq!(rt; source.children().len(), 2);
+    assert_eq!(rt; source.display_children_count(), 2);
+    assert!(rt; source.child(1) == source.display_child(1));
+    assert!(rt; source.child(0) != source.child(1));
+    assert!(rt; *source.as_::<Binary>() == Operator::And);
+    let clone = source.clone()?;
+    assert!(rt; clone == source);
+    assert!(rt; source != Expression::Root);
+    let bound = source.bind(alloc, &scope_of_x(&rt, alloc)?)?;
+    assert!(rt; !bound.is_root() && bound.is::<Binary>());
+    assert!(rt; bound.as_opt::<Binary>() == Some(&Operator::And));
+    assert!(rt; bound.as_scalar() == source.as_scalar());
+    assert_eq!(rt; bound.children().len(), 2);
+    assert_eq!(rt; bound.display_children_count(), 2);
+    assert!(rt; bound.child(1) == bound.display_child(1));
+    assert!(rt; *bound.as_::<Binary>() == Operator::And);
+    assert!(rt; bound.clone()? == bound);
+    Ok(())
+}
+
+#[test]
+fn a_node_takes_other_children(rt: HostRuntime) -> Result<(), Fail> {
+    let alloc = rt.alloc();
+    let scope = struct_dtype(alloc)?;
+    let source = binary(
+        alloc,
+        Operator::Or,
+        col(alloc, "bool1")?,
+        col(alloc, "bool2")?,
+    )?;
+    let bound = source.clone()?.bind(alloc, &scope)?;
+    let swapped = vec![in alloc; col(alloc, "bool2")?, col(alloc, "bool1")?]?;
+    let swapped = source.with_children(alloc, swapped)?;
+    assert_eq!(rt;
+        format!(in alloc; "{swapped}")?.as_str(),
+        "($.bool2 or $.bool1)"
+    );
+    let mut children = Vec::new(alloc);
+    for child in bound.children() {
+        children.push(child.clone()?)?;
+    }
+    let again = bound.clone()?.with_children(alloc, children)?;
+    assert!(rt; again == bound);
+    let root = BoundExpression::new_root(struct_dtype(alloc)?);
+    assert!(rt; root.is_root() && *root.dtype() == scope);
+    let unchanged = root.with_children(alloc, Vec::new(alloc))?;
+    assert!(rt; unchanged.is_root());
+    Ok(())
+}
+
+#[test]
+fn validity_is_a_truth_value(rt: HostRuntime) -> Result<(), Fail> {
+    let alloc = rt.alloc();
+    let root = Expression::Root.bind(alloc, &i32_type(Nullable))?;
+    let valid = root.validity(alloc)?;
+    assert_eq!(rt;
+        format!(in alloc; "{valid}")?.as_str(),
+        "vortex.is_not_null($)"
+    );
+    assert!(rt; *valid.dtype() == DType::Bool(NonNullable));
+    let null = literal(alloc, Scalar::null(i32_type(Nullable)))?;
+    let never = null.bind(alloc, &i32_type(Nullable))?.validity(alloc)?;
+    assert_eq!(rt; format!(in alloc; "{never}")?.as_str(), "false");
+    Ok(())
+}
+
+/// A node of the function over `$`, `$.a` and `$.b`, as many as the function has children.
+fn over_fields(alloc: Global, function: ScalarFnRef) -> VortexResult<Expression> {
+    let mut children = Vec::new(alloc);
+    for (index, name) in ["", "a", "b", "c", "d"].into_iter().enumerate() {
+        if index < function.arity() {
+            children.push(if name.is_empty() {
+                Expression::Root
+            } else {
+                col(alloc, name)?
+            })?;
+        }
+    }
+    Expression::try_new(alloc, function, children)
+}
+
+#[test]
+fn every_function_has_its_sql(rt: HostRuntime) -> Result<(), Fail> {
+    let alloc = rt.alloc();
+    let two_pairs = CaseWhenOptions {
+        num_when_then_pairs: 2,
+        has_else: true,
+    };
+    let one_pair = CaseWhenOptions {
+        num_when_then_pairs: 1,
+        has_else: false,
+    };
+    let pack = PackOptions {
+        names: names(alloc, &["x", "y"])?,
+        nullability: Nullable,
+    };
+    let between = BetweenOptions {
+        lower_strict: StrictComparison::Strict,
+        upper_strict: StrictComparison::NonStrict,
+    };
+    let not_like = LikeOptions {
+        negated: true,
+        case_insensitive: false,
+    };
+    let table = [
+        (
+            ScalarFnRef::CaseWhen(two_pairs),
+            "CASE WHEN $ THEN $.a WHEN $.b THEN $.c ELSE $.d END",
+        ),
+        (ScalarFnRef::CaseWhen(one_pair), "CASE WHEN $ THEN $.a END"),
+        (ScalarFnRef::Pack(pack), "pack(x: $, y: $.a)?"),
+        (
+            ScalarFnRef::Select(FieldSelection::Include(names(alloc, &["a", "b"])?)),
+            "${a, b}",
+        ),
+        (
+            ScalarFnRef::Select(FieldSelection::Exclude(names(alloc, &["a", "b"])?)),
+            "${~ a, b}",
+        ),
+        (
+            ScalarFnRef::Select(FieldSelection::Exclude(names(alloc, &[])?)),
+            "${~ }",
+        ),
+        (
+            ScalarFnRef::FillNull(EmptyOptions),
+            "vortex.fill_null($, $.a)",
+        ),
+        (ScalarFnRef::Zip(EmptyOptions), "zip($, $.a, $.b)"),
+        (ScalarFnRef::Binary(Operator::Add), "($ + $.a)"),
+        (ScalarFnRef::Not(EmptyOptions), "vortex.not($)"),
+        (ScalarFnRef::Between(between), "($.a < $ <= $.b)"),
+        (ScalarFnRef::Like(not_like), "($ not like $.a)"),
+        (ScalarFnRef::IsNull(EmptyOptions), "vortex.is_null($)"),
+        (
+            ScalarFnRef::IsNotNull(EmptyOptions),
+            "vortex.is_not_null($)",
+        ),
+        (ScalarFnRef::Mask(EmptyOptions), "vortex.mask($, $.a)"),
+        (ScalarFnRef::Cast(i32_type(Nullable)), "cast($ as i32?)"),
+    ];
+    for (function, sql) in table {
+        let node = over_fields(alloc, function)?;
+        assert_eq!(rt; format!(in alloc; "{node}")?.as_str(), sql);
+    }
+    let lone = Expression::Scalar {
+        scalar_fn: ScalarFnRef::Zip(EmptyOptions),
+        children: std::rc::Rc::new(alloc, vec![in alloc; Expression::Root]?)?,
+    };
+    assert_eq!(rt; format!(in alloc; "{lone}")?.as_str(), "vortex.zip($)");
+    Ok(())
+}

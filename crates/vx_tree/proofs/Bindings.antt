@@ -1,0 +1,70 @@
+-- The nodes bound so far, and then the rest.
+use Rattle.std.proofs.Common.{◌≡◌, ℕ, ◌+◌, ◌<◌, ◌≤◌, List, [], ◌∷◌, ◌++◌, length, get_or, drop, drop-cons, drop_of_length-le, add-one, Result, Ok, Err, refl, sym, ap, ◌∙◌}
+use Rattle.vx_types.specs.declared.error.VortexError.{VortexError}
+use Rattle.vx_types.specs.Types.{LogicalType}
+use Rattle.vx_tree.specs.declared.expression.Expression.{Expression}
+use Rattle.vx_tree.specs.declared.bound.BoundExpression.{BoundExpression}
+use Rattle.vx_tree.specs.Trees.{BoundTree, BoundTrees, no_bound, bound, on_ok, WellTyped, EachWellTyped}
+use Rattle.vx_tree.specs.Binding.{binding, each_binding}
+use Rattle.vx_tree.specs.Views.{tree_of, trees_of, bound_of, bounds_of}
+
+abbrev ok_bounds : BoundTrees → Result BoundTrees VortexError
+ok_bounds bs = Ok bs
+
+abbrev pub put : BoundTree → Result BoundTrees VortexError → Result BoundTrees VortexError
+put b rest = on_ok (λ bs. Ok (bound b bs)) rest
+
+abbrev pub before : List BoundExpression → BoundTrees → BoundTrees
+before [] bs = bs
+before (b ∷ made) bs = bound (bound_of b) (before made bs)
+
+abbrev pub after : List BoundExpression → Result BoundTrees VortexError → Result BoundTrees VortexError
+after made rest = on_ok (λ bs. Ok (before made bs)) rest
+
+before_push : (made : List BoundExpression) (b : BoundExpression) (bs : BoundTrees) → before (made ++ b ∷ []) bs ≡ before made (bound (bound_of b) bs)
+before_push [] b bs = refl
+before_push (x ∷ made) b bs = ap (bound (bound_of x)) (before_push made b bs)
+
+before_nothing : (made : List BoundExpression) → before made no_bound ≡ bounds_of made
+before_nothing [] = refl
+before_nothing (x ∷ made) = ap (bound (bound_of x)) (before_nothing made)
+
+after_push : (made : List BoundExpression) (b : BoundExpression) (rest : Result BoundTrees VortexError) → after (made ++ b ∷ []) rest ≡ after made (put (bound_of b) rest)
+after_push made b (Ok bs) = ap ok_bounds (before_push made b bs)
+after_push made b (Err e) = refl
+
+after_ok : (made : List BoundExpression) → after made (Ok no_bound) ≡ Ok (bounds_of made)
+after_ok made = ap ok_bounds (before_nothing made)
+
+after_err : (made : List BoundExpression) (e : VortexError) → after made (Err e) ≡ Err e
+after_err made e = refl
+
+step : (es : List Expression) (s : LogicalType) (i : ℕ) (e : Expression) → i < length es → e ≡ get_or es i e
+    → each_binding (trees_of (drop i es)) s ≡ on_ok (λ b. put b (each_binding (trees_of (drop (i + 1) es)) s)) (binding (tree_of e) s)
+step es s i e h is = rw (add-one, drop-cons es i e h, ← is)
+
+pub next : (es : List Expression) (s : LogicalType) (made new : List BoundExpression) (i : ℕ) (e : Expression) (b : BoundExpression) (all : Result BoundTrees VortexError)
+    → i < length es → e ≡ get_or es i e → new ≡ made ++ b ∷ [] → binding (tree_of e) s ≡ Ok (bound_of b)
+    → all ≡ after made (each_binding (trees_of (drop i es)) s) → all ≡ after new (each_binding (trees_of (drop (i + 1) es)) s)
+next es s made new i e b all h is pushed bound_to so_far =
+    let rest = each_binding (trees_of (drop (i + 1) es)) s in
+    let here : each_binding (trees_of (drop i es)) s ≡ put (bound_of b) rest = step es s i e h is ∙ ap (on_ok (λ x. put x rest)) bound_to in
+    so_far ∙ ap (after made) here ∙ sym (after_push made b rest) ∙ ap (λ bs. after bs rest) (sym pushed)
+
+pub stops : (es : List Expression) (s : LogicalType) (made : List BoundExpression) (i : ℕ) (e : Expression) (r : VortexError) (all : Result BoundTrees VortexError)
+    → i < length es → e ≡ get_or es i e → binding (tree_of e) s ≡ Err r
+    → all ≡ after made (each_binding (trees_of (drop i es)) s) → all ≡ Err r
+stops es s made i e r all h is refused so_far =
+    let here : each_binding (trees_of (drop i es)) s ≡ Err r = step es s i e h is ∙ ap (on_ok (λ x. put x (each_binding (trees_of (drop (i + 1) es)) s))) refused in
+    so_far ∙ ap (after made) here ∙ after_err made r
+
+pub end : (es : List Expression) (s : LogicalType) (made : List BoundExpression) (i : ℕ) (all : Result BoundTrees VortexError) → length es ≤ i
+    → all ≡ after made (each_binding (trees_of (drop i es)) s) → all ≡ Ok (bounds_of made)
+end es s made i all h so_far = so_far ∙ rw (drop_of_length-le es h) (after_ok made)
+
+pub well_typed_push : (made new : List BoundExpression) (b : BoundExpression) → new ≡ made ++ b ∷ [] → EachWellTyped (bounds_of made) → WellTyped (bound_of b) → EachWellTyped (bounds_of new)
+well_typed_push made new b pushed w v = rw pushed (go made w)
+  where
+    go : (xs : List BoundExpression) → EachWellTyped (bounds_of xs) → EachWellTyped (bounds_of (xs ++ b ∷ []))
+    go [] u = (v, tt)
+    go (x ∷ xs) u = (u.0, go xs u.1)

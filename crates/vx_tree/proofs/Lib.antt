@@ -1,0 +1,10 @@
+pub mod Trees
+pub mod Meant
+pub mod Bindings
+pub mod Binds
+pub mod Typings
+pub mod Nodes
+pub mod Unique
+pub mod Texts
+pub mod Nullness
+pub mod Checks

@@ -1,0 +1,37 @@
+use Rattle.std.proofs.Common.{◌≡◌, ◌≢◌, inr, length, refl, ap, ◌∙◌, arith, rules}
+use Rattle.vx_types.specs.Views.{type_of}
+use Rattle.vx_tree.specs.declared.bound.BoundExpression.{the_lemmas}
+use Rattle.vx_fn.specs.Views.{function_of}
+use Rattle.vx_tree.specs.Nodes.{bound_children_of}
+use Rattle.vx_tree.specs.Trees.{scope, node}
+use Rattle.vx_tree.specs.Views.{bound_of, bounds_of}
+use Rattle.vx_tree.proofs.Nodes.{bound_over-scope, number_refusal-scope, number_refusal-node, IfSome-err, none_of-bounds_of}
+use Rattle.vx_tree.proofs.bound.BoundExpression.with_children.Goals as goal
+
+pub returns-in-Root-clause-node : goal.returns-in-Root-clause-node
+returns-in-Root-clause-node c =
+    let is : bound_of c.args.self ≡ scope (type_of c.in-Root.dtype) = search (rules, the_lemmas) in
+    let some : c.len.result ≢ 0 = grind arith in
+    inr (bound_over-scope _ _ c.args.children.items _ is (grind arith) some)
+
+pub returns-in-Root-clause-same : goal.returns-in-Root-clause-same
+returns-in-Root-clause-same c =
+    let is : bound_of c.args.self ≡ scope (type_of c.in-Root.dtype) = search (rules, the_lemmas) in
+    let some : length c.args.children.items ≢ 0 = grind arith in
+    λ _ own. absurd (some (none_of-bounds_of c.args.children.items (own ∙ ap bound_children_of is)))
+
+pub returns-in-Root-clause-number : goal.returns-in-Root-clause-number
+returns-in-Root-clause-number c =
+    let is : bound_of c.args.self ≡ scope (type_of c.in-Root.dtype) = search (rules, the_lemmas) in
+    let some : c.len.result ≢ 0 = grind arith in
+    IfSome-err _ _ _ (number_refusal-scope _ _ c.args.children.items _ is (grind arith) some) refl
+
+pub returns-in-Root-clause-root : goal.returns-in-Root-clause-root
+returns-in-Root-clause-root c =
+    let some : length c.args.children.items ≢ 0 = grind arith in
+    λ _ none. absurd (some (none_of-bounds_of c.args.children.items none))
+
+pub returns-clause-number : goal.returns-clause-number
+returns-clause-number c =
+    let is : bound_of c.args.self ≡ node (type_of c.in-Scalar.dtype) (function_of c.in-Scalar.scalar_fn) (bounds_of c.in-Scalar.children.value.items) = search (rules, the_lemmas) in
+    number_refusal-node _ _ _ _ c.args.children.items _ is c.try_new.ensures.mismatch

@@ -1,0 +1,11 @@
+use Rattle.std.proofs.Common.{◌≡◌, drop}
+use Rattle.vx_types.specs.Views.{type_of}
+use Rattle.vx_tree.specs.Trees.{each_typed}
+use Rattle.vx_tree.specs.Views.{trees_of}
+use Rattle.vx_tree.proofs.Typings.{after}
+use Rattle.vx_tree.proofs.typing.+typing.Given as goal
+
+-- the types so far before those of the rest are all the types
+abbrev pub invariant-type_all-loop-i : goal.invariant-type_all-loop-i
+invariant-type_all-loop-i l =
+    each_typed (trees_of l.es) (type_of l.scope) ≡ after l.types.items (each_typed (trees_of (drop l.i l.es)) (type_of l.scope))

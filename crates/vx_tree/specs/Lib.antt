@@ -1,0 +1,23 @@
+pub mod Trees
+pub mod Meaning
+pub mod Faults
+pub mod Soundness
+pub mod Meant
+pub mod Views
+pub mod Binding
+pub mod Nodes
+pub mod Equality
+pub mod Uniqueness
+pub mod Harness
+pub mod Texts
+pub mod Validity
+pub mod Checked
+pub mod Examples
+pub mod WorkedRows
+pub use Rattle.vx_types.specs.Answers
+pub use Rattle.vx_types.specs.Types
+pub use Rattle.vx_types.specs.Views as TypeViews
+pub use Rattle.vx_fn.specs.Functions
+pub use Rattle.vx_fn.specs.Markers
+pub use Rattle.vx_fn.specs.Views as FunctionViews
+pub use Rattle.vx_fn.specs.Texts as FunctionTexts

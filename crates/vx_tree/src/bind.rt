@@ -1,0 +1,93 @@
+// Binding: an expression over a scope, with the type of each node.
+ghost use Rattle.std.specs.Prelude.{◌≡◌, ◌↔◌, ℕ, IfOk, IsTrue};
+ghost use Rattle.vx_types.specs.Answers.{Answers};
+ghost use Rattle.vx_types.specs.Views.{type_of};
+ghost use Rattle.vx_tree.specs.Binding.{binding, each_binding};
+ghost use Rattle.vx_tree.specs.Nodes.{is_over};
+ghost use Rattle.vx_tree.specs.Trees.{WellTyped, EachWellTyped, Over, unbound, typed, node_type};
+ghost use Rattle.vx_tree.specs.Views.{tree_of, trees_of, bound_of, bounds_of};
+
+use crate::{BoundExpression, Expression, Scope};
+use std::alloc::Global;
+use vx_types::{DType, VortexResult};
+
+impl Expression {
+    /// The tree with the type of each node, over a scope of that type. Its cost is linear in the
+    /// nodes.
+    ///
+    /// There is one exactly where typing gives the tree a type. Else the first refusal is answered,
+    /// the children's from left to right, then the node's: `ArityMismatch` (2) before those of the
+    /// function (4 to 11).
+    pub fn bind(&self, alloc: Global, scope: &DType) -> VortexResult<BoundExpression>
+        ensures typed { Answers (λ b. node_type (bound_of b)) result (typed (tree_of self.now) (type_of scope.now)) }
+        ensures well_typed { IfOk result (λ b. WellTyped (bound_of b)) }
+        ensures over { IfOk result (λ b. Over (bound_of b) (type_of scope.now) × (unbound (bound_of b) ≡ tree_of self.now)) }
+    {
+        bind_one(alloc, self, scope)
+    }
+
+    /// The tree bound to the type of the scope, as [`Expression::bind`] gives and refuses it.
+    pub fn bind_scope(&self, alloc: Global, scope: &Scope) -> VortexResult<BoundExpression>
+        ensures typed { Answers (λ b. node_type (bound_of b)) result (typed (tree_of self.now) scope.now) }
+        ensures well_typed { IfOk result (λ b. WellTyped (bound_of b)) }
+        ensures over { IfOk result (λ b. Over (bound_of b) scope.now × (unbound (bound_of b) ≡ tree_of self.now)) }
+    {
+        self.bind(alloc, scope.root())
+    }
+}
+
+#[cycle(bind)]
+fn bind_one(alloc: Global, e: &Expression, scope: &DType) -> VortexResult<BoundExpression>
+    ensures bound { Answers bound_of result (binding (tree_of e.now) (type_of scope.now)) }
+    ensures typed { IfOk result (λ b. WellTyped (bound_of b)) }
+{
+    match e {
+        Expression::Root => Ok(BoundExpression::Root {
+            dtype: scope.clone()?,
+        }),
+        Expression::Scalar {
+            scalar_fn,
+            children,
+        } => {
+            let nodes = bind_all(alloc, children.as_slice(), scope)?;
+            BoundExpression::try_new(alloc, scalar_fn.clone()?, nodes)
+        }
+    }
+}
+
+#[cycle(bind)]
+fn bind_all(alloc: Global, es: &[Expression], scope: &DType) -> VortexResult<Vec<BoundExpression>>
+    ensures bound { Answers (λ nodes. bounds_of nodes.items) result (each_binding (trees_of es.now) (type_of scope.now)) }
+    ensures typed { IfOk result (λ nodes. EachWellTyped (bounds_of nodes.items)) }
+{
+    let mut nodes = Vec::with_capacity(alloc, es.len())?;
+    for i in 0..es.len() {
+        nodes.push(bind_one(alloc, &es[i], scope)?)?;
+    }
+    Ok(nodes)
+}
+
+impl BoundExpression {
+    /// Whether every scope root of the tree has that type, true where there is none. Takes no memory.
+    pub fn is_root_bound_to(&self, dtype: &DType) -> bool
+        ensures { IsTrue result ↔ Over (bound_of self.now) (type_of dtype.now) }
+    {
+        is_over(self, dtype)
+    }
+}
+
+fn is_over(b: &BoundExpression, dtype: &DType) -> bool
+    ensures { result ≡ is_over (bound_of b.now) (type_of dtype.now) }
+{
+    match b {
+        BoundExpression::Root { dtype: own } => own == dtype,
+        BoundExpression::Scalar { children, .. } => {
+            for child in children.as_slice() {
+                if !is_over(child, dtype) {
+                    return false;
+                }
+            }
+            true
+        }
+    }
+}

@@ -1,0 +1,149 @@
+// Expressions bound to a scope: each node has its type.
+ghost use Rattle.std.specs.Prelude.{◌≡◌, ◌≢◌, ℕ, length, IfOk, IfSome, IsOk, IsErrOf, IsTrue, Ok, map};
+ghost use Rattle.vx_types.specs.Answers.{Answers};
+ghost use Rattle.vx_types.specs.Views.{type_of};
+ghost use Rattle.vx_types.specs.declared.error.VortexError.TheVariants.{ArityMismatch};
+ghost use Rattle.vx_fn.specs.Functions.{arity_of};
+ghost use Rattle.vx_fn.specs.Views.{function_of};
+ghost use Rattle.vx_tree.specs.Binding.{node_over};
+ghost use Rattle.vx_tree.specs.Nodes.{bound_over, bound_children_of, is_root, number_refusal};
+ghost use Rattle.vx_tree.specs.Trees.{scope, no_bound, unbound, node_type, node_types, WellTyped, EachWellTyped};
+ghost use Rattle.vx_tree.specs.Views.{bound_of, bounds_of};
+
+use std::alloc::{AllocError, Global};
+use std::rc::Rc;
+use vx_fn::ScalarFnRef;
+use vx_types::{DType, VortexError, VortexResult};
+
+/// A tree of functions over the row of a scope whose type is known, with the type of each node;
+/// clones share their children.
+#[derive(Debug, Drop)]
+pub enum BoundExpression {
+    /// A function over children. Where it is made without [`BoundExpression::try_new`], nothing
+    /// says that the type is the one that the function gives.
+    Scalar {
+        dtype: DType,
+        scalar_fn: ScalarFnRef,
+        children: Rc<Vec<BoundExpression>>,
+    },
+    /// The row of the scope.
+    Root {
+        dtype: DType,
+    },
+}
+
+impl Clone for BoundExpression {
+    ghost is_clone = { λ b copy. bound_of copy ≡ bound_of b };
+
+    fn clone(&self) -> Result<BoundExpression, AllocError> {
+        match self {
+            BoundExpression::Scalar {
+                dtype,
+                scalar_fn,
+                children,
+            } => Ok(BoundExpression::Scalar {
+                dtype: dtype.clone()?,
+                scalar_fn: scalar_fn.clone()?,
+                children: children.clone()?,
+            }),
+            BoundExpression::Root { dtype } => Ok(BoundExpression::Root {
+                dtype: dtype.clone()?,
+            }),
+        }
+    }
+}
+
+impl BoundExpression {
+    /// The row of a scope of that type.
+    pub fn new_root(scope_dtype: DType) -> BoundExpression
+        ensures { bound_of result ≡ scope (type_of scope_dtype) }
+    {
+        BoundExpression::Root { dtype: scope_dtype }
+    }
+
+    /// The type of the node.
+    pub fn dtype(&self) -> &DType
+        ensures { type_of result.now ≡ node_type (bound_of self.now) }
+    {
+        match self {
+            BoundExpression::Scalar { dtype, .. } => dtype,
+            BoundExpression::Root { dtype } => dtype,
+        }
+    }
+
+    /// The node of the function over the children, with the type that the function gives over
+    /// theirs. It is well typed where they are.
+    ///
+    /// Refuses with `ArityMismatch` (2) exactly where the number of children isn't the arity, which
+    /// takes no memory, and else as the function does over the children's types (4 to 11).
+    pub fn try_new(
+        alloc: Global,
+        scalar_fn: ScalarFnRef,
+        children: Vec<BoundExpression>,
+    ) -> VortexResult<BoundExpression>
+        ensures node { Answers bound_of result (node_over (function_of scalar_fn) (bounds_of children.items)) }
+        ensures mismatch { length children.items ≢ arity_of (function_of scalar_fn) →
+            IsErrOf result (ArityMismatch (arity_of (function_of scalar_fn)) (length children.items)) }
+        ensures well_typed { EachWellTyped (bounds_of children.items) → IfOk result (λ b. WellTyped (bound_of b)) }
+    {
+        let expected = scalar_fn.arity();
+        let got = children.len();
+        if got != expected {
+            return Err(VortexError::ArityMismatch { expected, got });
+        }
+        let types = dtypes_of(alloc, children.as_slice())?;
+        let dtype = scalar_fn.return_dtype(alloc, types.as_slice())?;
+        Ok(BoundExpression::Scalar {
+            dtype,
+            scalar_fn,
+            children: Rc::new(alloc, children)?,
+        })
+    }
+
+    /// The node over other children, with the type that the function gives over theirs.
+    ///
+    /// It is well typed where the children are. A well-typed node over children equal to its own is
+    /// an equal node.
+    ///
+    /// Refuses with `RootChildren` (3) exactly where the scope root is given children, with
+    /// `ArityMismatch` (2) exactly where their number isn't the function's arity, and else as the
+    /// function does over the children's types (4 to 11). The first two take no memory, and neither
+    /// does the scope root over none, which stays itself.
+    pub fn with_children(
+        self,
+        alloc: Global,
+        children: Vec<BoundExpression>,
+    ) -> VortexResult<BoundExpression>
+        ensures node { Answers bound_of result (bound_over (bound_of self) (bounds_of children.items)) }
+        ensures well_typed { EachWellTyped (bounds_of children.items) → IfOk result (λ b. WellTyped (bound_of b)) }
+        ensures same { WellTyped (bound_of self) → bounds_of children.items ≡ bound_children_of (bound_of self) →
+            Answers bound_of result (Ok (bound_of self)) }
+        ensures number { IfSome (number_refusal (bound_of self) (bounds_of children.items)) (λ e. result ≡ Err e) }
+        ensures root { IsTrue (is_root (unbound (bound_of self))) → bounds_of children.items ≡ no_bound → IsOk result }
+    {
+        match self {
+            BoundExpression::Root { dtype } => {
+                if children.is_empty() {
+                    return Ok(BoundExpression::Root { dtype });
+                }
+                Err(VortexError::RootChildren {
+                    got: children.len(),
+                })
+            }
+            BoundExpression::Scalar { scalar_fn, .. } => {
+                BoundExpression::try_new(alloc, scalar_fn, children)
+            }
+        }
+    }
+}
+
+// The types of the nodes, from left to right.
+pub(crate) fn dtypes_of(alloc: Global, nodes: &[BoundExpression]) -> Result<Vec<DType>, AllocError>
+    ensures { IfOk result (λ types. map type_of types.items ≡ node_types (bounds_of nodes.now)) }
+{
+    let mut types = Vec::with_capacity(alloc, nodes.len())?;
+    for node in nodes {
+        types.push(node.dtype().clone()?)?;
+    }
+    Ok(types)
+}

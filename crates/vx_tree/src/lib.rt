@@ -1,0 +1,36 @@
+// Expressions, bound and not.
+#![tactic(auto)]
+
+mod accessors;
+mod bind;
+mod bound;
+mod bound_accessors;
+mod checked;
+mod display;
+mod equality;
+mod expression;
+mod laws;
+mod scope;
+mod sql;
+pub mod test_harness;
+mod typing;
+mod validity;
+mod worked;
+
+pub use bound::BoundExpression;
+pub use display::ExprDisplay;
+pub use expression::Expression;
+pub use laws::{binding_is_unique, bound_means_its_source, equality_is_exact, types_are_sound};
+pub use scope::Scope;
+pub use vx_fn::{
+    Between, BetweenOptions, Binary, CaseWhen, CaseWhenOptions, Cast, ChildName, EmptyOptions,
+    FieldSelection, FillNull, GetItem, IsNotNull, IsNull, Like, LikeOptions, Literal, Mask, Not,
+    Operator, Pack, PackOptions, ScalarFnRef, ScalarFnVTable, Select, StrictComparison, Zip,
+    matches_is_decided, swapped_over_exchanged_operands, typing_is_monotone,
+    typing_is_the_relation, write_names,
+};
+pub use vx_types::{
+    Column, DType, FieldName, FieldNames, Nullability, PType, Scalar, StructFields, Value,
+    VortexError, VortexResult,
+};
+pub use worked::worked_rows;

@@ -1,0 +1,13 @@
+pub mod Types
+pub mod Fits
+pub mod Joins
+pub mod Fields
+pub mod Names
+pub mod Views
+pub mod Answers
+pub mod Equality
+pub mod Hashes
+pub mod Codes
+pub mod Columns
+pub mod Texts
+pub mod ValueTexts
