@@ -1,6 +1,8 @@
-// What the tests build their values with.
+// What the tests build their values with, and how they look at them.
 use std::alloc::Global;
+use std::fmt::Display;
 use std::process::Abort;
+use std::test::Fail;
 use vx_tree::{
     DType, Expression, FieldName, FieldNames, Nullability, Operator, PType, Scalar, ScalarFnRef,
     StructFields, VortexResult,
@@ -64,4 +66,15 @@ pub fn binary(
         ScalarFnRef::Binary(operator),
         vec![in alloc; lhs, rhs]?,
     )
+}
+
+/// Asserts that the value prints as the text.
+pub fn prints<T: Display + Drop>(
+    rt: &impl Abort,
+    alloc: Global,
+    value: T,
+    text: &str,
+) -> Result<(), Fail> {
+    assert_eq!(rt; format!(in alloc; "{value}")?.as_str(), text);
+    Ok(())
 }

@@ -1,6 +1,7 @@
 // Functions: their texts, markers, and the types and refusals of their nodes.
-use crate::build::{i32_type, names};
+use crate::build::{i32_type, names, prints};
 use std::alloc::Global;
+use std::process::Abort;
 use std::test::Fail;
 use vx_tree::Nullability::{NonNullable, Nullable};
 use vx_tree::{
@@ -9,84 +10,124 @@ use vx_tree::{
     ScalarFnVTable, StrictComparison, VortexError,
 };
 
+/// Asserts the text and the number of children of a function.
+fn shows(
+    rt: &impl Abort,
+    alloc: Global,
+    function: ScalarFnRef,
+    text: &str,
+    arity: usize,
+) -> Result<(), Fail> {
+    assert_eq!(rt; function.arity(), arity, "of {text}");
+    assert!(rt; text.starts_with(function.id()), "of {text}");
+    assert!(rt; function.clone()? == function, "of {text}");
+    prints(rt, alloc, function, text)
+}
+
 #[test]
-fn functions_print_their_name_and_options(rt: HostRuntime) -> Result<(), Fail> {
+fn functions_without_options_print_their_name(rt: HostRuntime) -> Result<(), Fail> {
     let alloc = rt.alloc();
-    let case = CaseWhenOptions {
+    let none = EmptyOptions;
+    shows(
+        &rt,
+        alloc,
+        ScalarFnRef::FillNull(none),
+        "vortex.fill_null()",
+        2,
+    )?;
+    shows(&rt, alloc, ScalarFnRef::Zip(none), "vortex.zip()", 3)?;
+    shows(&rt, alloc, ScalarFnRef::Not(none), "vortex.not()", 1)?;
+    shows(&rt, alloc, ScalarFnRef::IsNull(none), "vortex.is_null()", 1)?;
+    shows(
+        &rt,
+        alloc,
+        ScalarFnRef::IsNotNull(none),
+        "vortex.is_not_null()",
+        1,
+    )?;
+    shows(&rt, alloc, ScalarFnRef::Mask(none), "vortex.mask()", 2)
+}
+
+#[test]
+fn functions_print_their_options(rt: HostRuntime) -> Result<(), Fail> {
+    let alloc = rt.alloc();
+    let name = FieldName::new(alloc, "answer")?;
+    shows(
+        &rt,
+        alloc,
+        ScalarFnRef::GetItem(name),
+        "vortex.get_item(answer)",
+        1,
+    )?;
+    let five = ScalarFnRef::Literal(Scalar::from_i32(5));
+    shows(&rt, alloc, five, "vortex.literal(5i32)", 0)?;
+    let cast = ScalarFnRef::Cast(i32_type(Nullable));
+    shows(&rt, alloc, cast, "vortex.cast(i32?)", 1)?;
+    let unequal = ScalarFnRef::Binary(Operator::NotEq);
+    shows(&rt, alloc, unequal, "vortex.binary(!=)", 2)?;
+    let case = ScalarFnRef::CaseWhen(CaseWhenOptions {
         num_when_then_pairs: 1,
         has_else: true,
-    };
-    let pack = PackOptions {
-        names: names(alloc, &["x", "y"])?,
-        nullability: Nullable,
-    };
-    let between = BetweenOptions {
+    });
+    let text = "vortex.case_when(case_when(pairs=1, else=true))";
+    shows(&rt, alloc, case, text, 3)?;
+    let between = ScalarFnRef::Between(BetweenOptions {
         lower_strict: StrictComparison::Strict,
         upper_strict: StrictComparison::NonStrict,
-    };
-    let like = LikeOptions {
-        negated: true,
-        case_insensitive: true,
-    };
-    let table = [
+    });
+    let text = "vortex.between(lower_strict: <, upper_strict: <=)";
+    shows(&rt, alloc, between, text, 3)
+}
+
+#[test]
+fn functions_of_names_print_them(rt: HostRuntime) -> Result<(), Fail> {
+    let alloc = rt.alloc();
+    for (nullability, text) in [
         (
-            ScalarFnRef::CaseWhen(case),
-            "vortex.case_when(case_when(pairs=1, else=true))",
-            3,
-        ),
-        (
-            ScalarFnRef::GetItem(FieldName::new(alloc, "answer")?),
-            "vortex.get_item(answer)",
-            1,
-        ),
-        (
-            ScalarFnRef::Literal(Scalar::from_i32(5)),
-            "vortex.literal(5i32)",
-            0,
-        ),
-        (
-            ScalarFnRef::Pack(pack),
+            Nullable,
             "vortex.pack(names: [x, y], nullability: Nullable)",
-            2,
         ),
         (
-            ScalarFnRef::Select(FieldSelection::Include(names(alloc, &["a", "b"])?)),
-            "vortex.select({a, b})",
-            1,
+            NonNullable,
+            "vortex.pack(names: [x, y], nullability: NonNullable)",
         ),
-        (
-            ScalarFnRef::Select(FieldSelection::Exclude(names(alloc, &["a"])?)),
-            "vortex.select(~{a})",
-            1,
-        ),
-        (ScalarFnRef::FillNull(EmptyOptions), "vortex.fill_null()", 2),
-        (ScalarFnRef::Zip(EmptyOptions), "vortex.zip()", 3),
-        (ScalarFnRef::Binary(Operator::NotEq), "vortex.binary(!=)", 2),
-        (ScalarFnRef::Not(EmptyOptions), "vortex.not()", 1),
-        (
-            ScalarFnRef::Between(between),
-            "vortex.between(lower_strict: <, upper_strict: <=)",
-            3,
-        ),
-        (ScalarFnRef::Like(like), "vortex.like(not ilike)", 2),
-        (ScalarFnRef::IsNull(EmptyOptions), "vortex.is_null()", 1),
-        (
-            ScalarFnRef::IsNotNull(EmptyOptions),
-            "vortex.is_not_null()",
-            1,
-        ),
-        (ScalarFnRef::Mask(EmptyOptions), "vortex.mask()", 2),
-        (
-            ScalarFnRef::Cast(i32_type(Nullable)),
-            "vortex.cast(i32?)",
-            1,
-        ),
-    ];
-    for (function, text, arity) in table {
-        assert_eq!(rt; format!(in alloc; "{function}")?.as_str(), text);
-        assert_eq!(rt; function.arity(), arity);
-        assert!(rt; text.starts_with(function.id()));
-        assert!(rt; function.clone()? == function);
+    ] {
+        let names = names(alloc, &["x", "y"])?;
+        let pack = ScalarFnRef::Pack(PackOptions { names, nullability });
+        shows(&rt, alloc, pack, text, 2)?;
+    }
+    let kept = FieldSelection::Include(names(alloc, &["a", "b"])?);
+    shows(
+        &rt,
+        alloc,
+        ScalarFnRef::Select(kept),
+        "vortex.select({a, b})",
+        1,
+    )?;
+    let left_out = FieldSelection::Exclude(names(alloc, &["a"])?);
+    shows(
+        &rt,
+        alloc,
+        ScalarFnRef::Select(left_out),
+        "vortex.select(~{a})",
+        1,
+    )
+}
+
+#[test]
+fn like_prints_its_four_words(rt: HostRuntime) -> Result<(), Fail> {
+    let alloc = rt.alloc();
+    for (negated, case_insensitive, text) in [
+        (false, false, "vortex.like(like)"),
+        (true, false, "vortex.like(not like)"),
+        (false, true, "vortex.like(ilike)"),
+        (true, true, "vortex.like(not ilike)"),
+    ] {
+        let like = LikeOptions {
+            negated,
+            case_insensitive,
+        };
+        shows(&rt, alloc, ScalarFnRef::Like(like), text, 2)?;
     }
     Ok(())
 }
@@ -145,6 +186,12 @@ fn markers_see_their_own_function(rt: HostRuntime) -> Result<(), Fail> {
     assert!(rt; item.as_opt::<Binary>().is_none());
     assert!(rt; Binary::options_of(&Binary::bind(Operator::And)) == Some(&Operator::And));
     assert!(rt; FillNull::supports_dtype(&DType::Utf8(Nullable)));
+    Ok(())
+}
+
+#[test]
+fn selections_keep_names(rt: HostRuntime) -> Result<(), Fail> {
+    let alloc = rt.alloc();
     let selection = FieldSelection::Exclude(names(alloc, &["a"])?);
     assert!(rt; selection.is_exclude() && !selection.is_include());
     assert_eq!(rt; selection.field_names().len(), 1);

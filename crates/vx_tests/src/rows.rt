@@ -1,5 +1,5 @@
 // Worked rows as runs: texts and types of trees, and refusals of binding.
-use crate::build::{binary, call, col, fields, i32_type, literal, names};
+use crate::build::{binary, call, col, fields, i32_type, literal, names, prints};
 use std::alloc::Global;
 use std::process::Abort;
 use std::rc::Rc;
@@ -87,81 +87,92 @@ fn two_cases(alloc: Global) -> VortexResult<Expression> {
     )
 }
 
+/// Asserts the text of the source and of what it is bound to, and the type.
+fn shows(
+    rt: &impl Abort,
+    alloc: Global,
+    source: Expression,
+    scope: &DType,
+    text: &str,
+    dtype: &str,
+) -> Result<(), Fail> {
+    let bound = source.bind(alloc, scope)?;
+    assert!(rt; bound.is_well_typed(alloc)?, "of {text}");
+    prints(rt, alloc, bound.dtype().clone()?, dtype)?;
+    prints(rt, alloc, source, text)?;
+    prints(rt, alloc, bound, text)
+}
+
 #[test]
-fn rows_have_their_text_and_type(rt: HostRuntime) -> Result<(), Fail> {
+fn rows_of_cases_have_their_text_and_type(rt: HostRuntime) -> Result<(), Fail> {
     let alloc = rt.alloc();
-    let x = with_x(&rt, alloc, i32_type(NonNullable), NonNullable)?;
-    let x_or_null = with_x(&rt, alloc, i32_type(Nullable), NonNullable)?;
+    let x = with_x(&rt, alloc, i32_type(Nullable), NonNullable)?;
+    let row_7 = "CASE WHEN vortex.is_null($.x) THEN 0i32 ELSE $.x END";
+    shows(&rt, alloc, zero_for_null(alloc)?, &x, row_7, "i32?")?;
+    let row_8 = "CASE WHEN ($.x > 0i32) THEN 10i32 WHEN ($.x > 3i32) THEN 20i32 ELSE 30i32 END";
+    shows(&rt, alloc, two_cases(alloc)?, &x, row_8, "i32")?;
+    let truth = literal(alloc, Scalar::from_bool(true))?;
+    let children = vec![in alloc; number(alloc, 1)?, Expression::Root, truth]?;
+    let row_9 = call(alloc, ScalarFnRef::Zip(EmptyOptions), children)?;
+    shows(
+        &rt,
+        alloc,
+        row_9,
+        &i32_type(Nullable),
+        "zip(1i32, $, true)",
+        "i32?",
+    )
+}
+
+/// A selection over the scope.
+fn selected(alloc: Global, selection: FieldSelection) -> VortexResult<Expression> {
+    call(
+        alloc,
+        ScalarFnRef::Select(selection),
+        vec![in alloc; Expression::Root]?,
+    )
+}
+
+#[test]
+fn rows_of_selections_have_their_text_and_type(rt: HostRuntime) -> Result<(), Fail> {
+    let alloc = rt.alloc();
     let nullable_x = with_x(&rt, alloc, i32_type(NonNullable), Nullable)?;
+    let row_5 = selected(alloc, FieldSelection::Include(names(alloc, &[])?))?;
+    shows(&rt, alloc, row_5, &nullable_x, "${}", "{}?")?;
     let types = vec![in alloc; i32_type(NonNullable), DType::Utf8(NonNullable)]?;
     let x_twice = DType::Struct(fields(&rt, alloc, &["x", "x"], types)?, NonNullable);
-    let nothing = ScalarFnRef::Select(FieldSelection::Include(names(alloc, &[])?));
-    let everything = ScalarFnRef::Select(FieldSelection::Exclude(names(alloc, &[])?));
-    let root = vec![in alloc; Expression::Root]?;
-    let zipped = vec![in alloc;
-        number(alloc, 1)?,
-        Expression::Root,
-        literal(alloc, Scalar::from_bool(true))?,
-    ]?;
-    let table = [
-        (5, call(alloc, nothing, root)?, nullable_x, "${}", "{}?"),
+    let row_22 = selected(alloc, FieldSelection::Exclude(names(alloc, &[])?))?;
+    shows(&rt, alloc, row_22, &x_twice, "${~ }", "{x=i32, x=i32}")
+}
+
+#[test]
+fn rows_of_packs_have_their_text_and_type(rt: HostRuntime) -> Result<(), Fail> {
+    let alloc = rt.alloc();
+    let x = with_x(&rt, alloc, i32_type(NonNullable), NonNullable)?;
+    shows(
+        &rt,
+        alloc,
+        item_of_pack(alloc)?,
+        &x,
+        "pack(a: $.x)?.a",
+        "i32?",
+    )?;
+    for (nullability, text, dtype) in [
         (
-            6,
-            item_of_pack(alloc)?,
-            x.clone()?,
-            "pack(a: $.x)?.a",
-            "i32?",
-        ),
-        (
-            7,
-            zero_for_null(alloc)?,
-            x_or_null.clone()?,
-            "CASE WHEN vortex.is_null($.x) THEN 0i32 ELSE $.x END",
-            "i32?",
-        ),
-        (
-            8,
-            two_cases(alloc)?,
-            x_or_null,
-            "CASE WHEN ($.x > 0i32) THEN 10i32 WHEN ($.x > 3i32) THEN 20i32 ELSE 30i32 END",
-            "i32",
-        ),
-        (
-            9,
-            call(alloc, ScalarFnRef::Zip(EmptyOptions), zipped)?,
-            i32_type(Nullable),
-            "zip(1i32, $, true)",
-            "i32?",
-        ),
-        (
-            22,
-            call(alloc, everything, vec![in alloc; Expression::Root]?)?,
-            x_twice,
-            "${~ }",
-            "{x=i32, x=i32}",
-        ),
-        (
-            23,
-            twice_selected(alloc, NonNullable)?,
-            x.clone()?,
+            NonNullable,
             "pack(a: 1i32, b: 2i32){b, b}",
             "{b=i32, b=i32}",
         ),
-        (
-            23,
-            twice_selected(alloc, Nullable)?,
-            x,
-            "pack(a: 1i32, b: 2i32)?{b, b}",
-            "{b=i32, b=i32}?",
-        ),
-    ];
-    for (row, source, scope, text, dtype) in table {
-        let bound = source.bind(alloc, &scope)?;
-        assert_eq!(rt; format!(in alloc; "{source}")?.as_str(), text, "row {row}");
-        assert_eq!(rt; format!(in alloc; "{bound}")?.as_str(), text, "row {row}");
-        let given = bound.dtype();
-        assert_eq!(rt; format!(in alloc; "{given}")?.as_str(), dtype, "row {row}");
-        assert!(rt; bound.is_well_typed(alloc)?, "row {row}");
+        (Nullable, "pack(a: 1i32, b: 2i32)?{b, b}", "{b=i32, b=i32}?"),
+    ] {
+        shows(
+            &rt,
+            alloc,
+            twice_selected(alloc, nullability)?,
+            &x,
+            text,
+            dtype,
+        )?;
     }
     Ok(())
 }
@@ -175,34 +186,48 @@ fn over_one(alloc: Global, scalar_fn: ScalarFnRef, child: Expression) -> Result<
 }
 
 #[test]
-fn binding_refuses_by_the_table(rt: HostRuntime) -> Result<(), Fail> {
+fn operators_refuse_other_kinds(rt: HostRuntime) -> Result<(), Fail> {
     let alloc = rt.alloc();
     let scope = struct_dtype(alloc)?;
-    let text = Scalar::utf8(alloc, "t")?;
-    let root = vec![in alloc; Expression::Root, Expression::Root]?;
-    let texts = vec![in alloc; literal(alloc, text.clone()?)?, literal(alloc, text)?]?;
-    let numbers = vec![in alloc; number(alloc, 1)?, number(alloc, 2)?]?;
-    let like = LikeOptions {
+    let equal = binary(alloc, Operator::Eq, Expression::Root, Expression::Root)?;
+    assert!(rt; matches!(equal.bind(alloc, &scope), Err(VortexError::NotComparable)));
+    let text = literal(alloc, Scalar::utf8(alloc, "t")?)?;
+    let sum = binary(alloc, Operator::Add, text.clone()?, text)?;
+    assert!(rt; matches!(sum.bind(alloc, &scope), Err(VortexError::NotNumeric)));
+    let like = ScalarFnRef::Like(LikeOptions {
         negated: false,
         case_insensitive: false,
-    };
-    let truth_or_null = literal(alloc, Scalar::null(DType::Bool(Nullable)))?;
-    let wide = DType::Primitive(PType::I64, NonNullable);
-    let equal = call(alloc, ScalarFnRef::Binary(Operator::Eq), root)?;
-    let sum = call(alloc, ScalarFnRef::Binary(Operator::Add), texts)?;
-    let liked = call(alloc, ScalarFnRef::Like(like), numbers)?;
-    let cast = call(
+    });
+    let liked = call(
         alloc,
-        ScalarFnRef::Cast(wide),
-        vec![in alloc; number(alloc, 1)?]?,
+        like,
+        vec![in alloc; number(alloc, 1)?, number(alloc, 2)?]?,
     )?;
-    let masked = vec![in alloc; number(alloc, 1)?, truth_or_null]?;
-    let masked = call(alloc, ScalarFnRef::Mask(EmptyOptions), masked)?;
-    assert!(rt; matches!(equal.bind(alloc, &scope), Err(VortexError::NotComparable)));
-    assert!(rt; matches!(sum.bind(alloc, &scope), Err(VortexError::NotNumeric)));
     assert!(rt; matches!(liked.bind(alloc, &scope), Err(VortexError::NotText)));
+    Ok(())
+}
+
+#[test]
+fn casts_masks_and_cases_refuse_other_types(rt: HostRuntime) -> Result<(), Fail> {
+    let alloc = rt.alloc();
+    let scope = struct_dtype(alloc)?;
+    let wide = ScalarFnRef::Cast(DType::Primitive(PType::I64, NonNullable));
+    let cast = call(alloc, wide, vec![in alloc; number(alloc, 1)?]?)?;
     assert!(rt; matches!(cast.bind(alloc, &scope), Err(VortexError::BaseTypesDiffer)));
+    let maybe = literal(alloc, Scalar::null(DType::Bool(Nullable)))?;
+    let children = vec![in alloc; number(alloc, 1)?, maybe]?;
+    let masked = call(alloc, ScalarFnRef::Mask(EmptyOptions), children)?;
     assert!(rt; matches!(masked.bind(alloc, &scope), Err(VortexError::NotBool)));
+    let children = vec![in alloc; col(alloc, "a")?, number(alloc, 1)?, number(alloc, 2)?]?;
+    let chosen = call(alloc, case(1), children)?;
+    assert!(rt; matches!(chosen.bind(alloc, &scope), Err(VortexError::NotBool)));
+    Ok(())
+}
+
+#[test]
+fn a_child_is_refused_before_its_node(rt: HostRuntime) -> Result<(), Fail> {
+    let alloc = rt.alloc();
+    let scope = struct_dtype(alloc)?;
     let unknown = over_one(alloc, ScalarFnRef::Zip(EmptyOptions), col(alloc, "zz")?)?;
     let refused = unknown.bind(alloc, &scope);
     assert!(rt; matches!(refused, Err(VortexError::NoSuchField(name)) if name.as_str() == "zz"));

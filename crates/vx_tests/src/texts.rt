@@ -1,133 +1,104 @@
-// The texts of types and scalars: every kind, nested ones too.
-use crate::build::{fields, i32_type};
+// The texts of types, scalars and columns: every kind, nested ones too.
+use crate::build::{fields, i32_type, prints};
 use std::rc::Rc;
 use std::test::Fail;
 use vx_tree::Nullability::{NonNullable, Nullable};
 use vx_tree::{Column, DType, PType, Scalar, Value};
 
 #[test]
-fn types_print_their_shape_and_a_mark(rt: HostRuntime) -> Result<(), Fail> {
+fn flat_types_print_their_kind_and_a_mark(rt: HostRuntime) -> Result<(), Fail> {
     let alloc = rt.alloc();
-    let row = fields(
-        &rt,
-        alloc,
-        &["a", "b"],
-        vec![in alloc; i32_type(Nullable), DType::Utf8(NonNullable)]?,
-    )?;
-    let nothing = fields(&rt, alloc, &[], Vec::new(alloc))?;
-    let table = [
-        (DType::Bool(NonNullable), "bool"),
-        (DType::Bool(Nullable), "bool?"),
-        (DType::Primitive(PType::U8, NonNullable), "u8"),
-        (DType::Primitive(PType::U16, Nullable), "u16?"),
-        (DType::Primitive(PType::U32, NonNullable), "u32"),
-        (DType::Primitive(PType::U64, NonNullable), "u64"),
-        (DType::Primitive(PType::I8, NonNullable), "i8"),
-        (DType::Primitive(PType::I16, NonNullable), "i16"),
-        (DType::Primitive(PType::I32, Nullable), "i32?"),
-        (DType::Primitive(PType::I64, NonNullable), "i64"),
-        (DType::Utf8(Nullable), "utf8?"),
-        (DType::Binary(NonNullable), "binary"),
-        (
-            DType::List(Rc::new(alloc, DType::Utf8(Nullable))?, NonNullable),
-            "list(utf8?)",
-        ),
-        (
-            DType::FixedSizeList(Rc::new(alloc, i32_type(NonNullable))?, 3, Nullable),
-            "fixed_size_list(i32)[3]?",
-        ),
-        (DType::Struct(nothing, NonNullable), "{}"),
-        (
-            DType::List(Rc::new(alloc, DType::Struct(row, Nullable))?, Nullable),
-            "list({a=i32?, b=utf8}?)?",
-        ),
-    ];
-    for (dtype, text) in table {
-        assert_eq!(rt; format!(in alloc; "{dtype}")?.as_str(), text);
+    prints(&rt, alloc, DType::Bool(NonNullable), "bool")?;
+    prints(&rt, alloc, DType::Bool(Nullable), "bool?")?;
+    prints(&rt, alloc, DType::Utf8(Nullable), "utf8?")?;
+    prints(&rt, alloc, DType::Binary(NonNullable), "binary")?;
+    for (ptype, text) in [
+        (PType::U8, "u8?"),
+        (PType::U16, "u16?"),
+        (PType::U32, "u32?"),
+        (PType::U64, "u64?"),
+        (PType::I8, "i8?"),
+        (PType::I16, "i16?"),
+        (PType::I32, "i32?"),
+        (PType::I64, "i64?"),
+    ] {
+        prints(&rt, alloc, DType::Primitive(ptype, Nullable), text)?;
     }
     Ok(())
 }
 
 #[test]
+fn nested_types_print_what_they_hold(rt: HostRuntime) -> Result<(), Fail> {
+    let alloc = rt.alloc();
+    let texts = Rc::new(alloc, DType::Utf8(Nullable))?;
+    prints(&rt, alloc, DType::List(texts, NonNullable), "list(utf8?)")?;
+    let numbers = Rc::new(alloc, i32_type(NonNullable))?;
+    let three = DType::FixedSizeList(numbers, 3, Nullable);
+    prints(&rt, alloc, three, "fixed_size_list(i32)[3]?")?;
+    let nothing = fields(&rt, alloc, &[], Vec::new(alloc))?;
+    prints(&rt, alloc, DType::Struct(nothing, NonNullable), "{}")?;
+    let types = vec![in alloc; i32_type(Nullable), DType::Utf8(NonNullable)]?;
+    let row = DType::Struct(fields(&rt, alloc, &["a", "b"], types)?, Nullable);
+    let rows = DType::List(Rc::new(alloc, row)?, Nullable);
+    prints(&rt, alloc, rows, "list({a=i32?, b=utf8}?)?")
+}
+
+#[test]
 fn flat_scalars_print_their_values(rt: HostRuntime) -> Result<(), Fail> {
     let alloc = rt.alloc();
-    let table = [
-        (Scalar::null(DType::Utf8(Nullable)), "null"),
-        (Scalar::from_bool(true), "true"),
-        (Scalar::from_bool(false), "false"),
-        (Scalar::from_u8(255), "255u8"),
-        (Scalar::from_u16(5), "5u16"),
-        (Scalar::from_u32(32), "32u32"),
-        (
-            Scalar::from_u64(18_446_744_073_709_551_615),
-            "18446744073709551615u64",
-        ),
-        (Scalar::from_i8(-128), "-128i8"),
-        (Scalar::from_i16(0), "0i16"),
-        (Scalar::from_i32(-100), "-100i32"),
-        (Scalar::from_i64(42), "42i64"),
-        (Scalar::utf8(alloc, "say \"no\"")?, "\"say \"no\"\""),
-        (Scalar::binary(alloc, &[0, 10, 255])?, "0x000aff"),
-        (Scalar::binary(alloc, &[])?, "0x"),
-    ];
-    for (scalar, text) in table {
-        assert_eq!(rt; format!(in alloc; "{scalar}")?.as_str(), text);
-    }
-    Ok(())
+    prints(&rt, alloc, Scalar::null(DType::Utf8(Nullable)), "null")?;
+    prints(&rt, alloc, Scalar::from_bool(true), "true")?;
+    prints(&rt, alloc, Scalar::from_bool(false), "false")?;
+    prints(&rt, alloc, Scalar::from_u8(255), "255u8")?;
+    prints(&rt, alloc, Scalar::from_u16(5), "5u16")?;
+    prints(&rt, alloc, Scalar::from_u32(32), "32u32")?;
+    let most = Scalar::from_u64(18_446_744_073_709_551_615);
+    prints(&rt, alloc, most, "18446744073709551615u64")?;
+    prints(&rt, alloc, Scalar::from_i8(-128), "-128i8")?;
+    prints(&rt, alloc, Scalar::from_i16(0), "0i16")?;
+    prints(&rt, alloc, Scalar::from_i32(-100), "-100i32")?;
+    prints(&rt, alloc, Scalar::from_i64(42), "42i64")
+}
+
+#[test]
+fn texts_and_bytes_print_as_they_are(rt: HostRuntime) -> Result<(), Fail> {
+    let alloc = rt.alloc();
+    let quoted = Scalar::utf8(alloc, "say \"no\"")?;
+    prints(&rt, alloc, quoted, "\"say \"no\"\"")?;
+    let bytes = Scalar::binary(alloc, &[0, 10, 255])?;
+    prints(&rt, alloc, bytes, "0x000aff")?;
+    prints(&rt, alloc, Scalar::binary(alloc, &[])?, "0x")
 }
 
 #[test]
 fn nested_scalars_and_columns_print_their_items(rt: HostRuntime) -> Result<(), Fail> {
     let alloc = rt.alloc();
     let pair = DType::FixedSizeList(Rc::new(alloc, i32_type(NonNullable))?, 2, NonNullable);
-    let animals = fields(
-        &rt,
-        alloc,
-        &["dog", "cat"],
-        vec![in alloc;
-            DType::Primitive(PType::U32, NonNullable),
-            DType::Utf8(NonNullable),
-        ]?,
-    )?;
+    let items = vec![in alloc; Value::Int(1), Value::Int(2)]?;
+    let two = Scalar::try_new(pair.clone()?, Value::List(items))?;
+    prints(&rt, alloc, two, "[1i32, 2i32]")?;
+    let pairs = DType::List(Rc::new(alloc, pair)?, NonNullable);
+    let none = Scalar::try_new(pairs, Value::List(Vec::new(alloc)))?;
+    prints(&rt, alloc, none, "[]")?;
+    let rows = vec![in alloc; Value::Int(7), Value::Null]?;
+    let column = Column::try_new(i32_type(Nullable), rows)?;
+    prints(&rt, alloc, column, "[7i32, null]")
+}
+
+#[test]
+fn struct_scalars_print_their_fields(rt: HostRuntime) -> Result<(), Fail> {
+    let alloc = rt.alloc();
+    let types = vec![in alloc;
+        DType::Primitive(PType::U32, NonNullable),
+        DType::Utf8(NonNullable),
+    ]?;
+    let animals = fields(&rt, alloc, &["dog", "cat"], types)?;
     let rufus = Value::Utf8(String::from_str(alloc, "rufus")?);
+    let row = Value::Struct(vec![in alloc; Value::Int(32), rufus]?);
+    let scalar = Scalar::try_new(DType::Struct(animals, NonNullable), row)?;
+    prints(&rt, alloc, scalar, "{dog: 32u32, cat: \"rufus\"}")?;
     let nothing = fields(&rt, alloc, &[], Vec::new(alloc))?;
-    let table = [
-        (
-            Scalar::try_new(
-                pair.clone()?,
-                Value::List(vec![in alloc; Value::Int(1), Value::Int(2)]?),
-            )?,
-            "[1i32, 2i32]",
-        ),
-        (
-            Scalar::try_new(
-                DType::List(Rc::new(alloc, pair)?, NonNullable),
-                Value::List(Vec::new(alloc)),
-            )?,
-            "[]",
-        ),
-        (
-            Scalar::try_new(
-                DType::Struct(animals, NonNullable),
-                Value::Struct(vec![in alloc; Value::Int(32), rufus]?),
-            )?,
-            "{dog: 32u32, cat: \"rufus\"}",
-        ),
-        (
-            Scalar::try_new(
-                DType::Struct(nothing, NonNullable),
-                Value::Struct(Vec::new(alloc)),
-            )?,
-            "{}",
-        ),
-    ];
-    for (scalar, text) in table {
-        assert_eq!(rt; format!(in alloc; "{scalar}")?.as_str(), text);
-    }
-    let column = Column::try_new(
-        i32_type(Nullable),
-        vec![in alloc; Value::Int(7), Value::Null]?,
-    )?;
-    assert_eq!(rt; format!(in alloc; "{column}")?.as_str(), "[7i32, null]");
-    Ok(())
+    let empty = Value::Struct(Vec::new(alloc));
+    let scalar = Scalar::try_new(DType::Struct(nothing, NonNullable), empty)?;
+    prints(&rt, alloc, scalar, "{}")
 }

@@ -1,7 +1,8 @@
 // Trees: their texts, children, binding and refusals.
-use crate::build::{binary, col, fields, i32_type, literal, names};
+use crate::build::{binary, col, fields, i32_type, literal, names, prints};
 use std::alloc::Global;
 use std::process::Abort;
+use std::rc::Rc;
 use std::test::Fail;
 use vx_tree::Nullability::{NonNullable, Nullable};
 use vx_tree::test_harness::struct_dtype;
@@ -229,73 +230,91 @@ fn over_fields(alloc: Global, function: ScalarFnRef) -> VortexResult<Expression>
     Expression::try_new(alloc, function, children)
 }
 
+/// Asserts the SQL text of a node of the function.
+fn writes(rt: &impl Abort, alloc: Global, function: ScalarFnRef, sql: &str) -> Result<(), Fail> {
+    let node = over_fields(alloc, function)?;
+    prints(rt, alloc, node, sql)
+}
+
 #[test]
-fn every_function_has_its_sql(rt: HostRuntime) -> Result<(), Fail> {
+fn calls_have_their_sql(rt: HostRuntime) -> Result<(), Fail> {
     let alloc = rt.alloc();
-    let two_pairs = CaseWhenOptions {
-        num_when_then_pairs: 2,
-        has_else: true,
+    let none = EmptyOptions;
+    writes(
+        &rt,
+        alloc,
+        ScalarFnRef::FillNull(none),
+        "vortex.fill_null($, $.a)",
+    )?;
+    writes(&rt, alloc, ScalarFnRef::Zip(none), "zip($, $.a, $.b)")?;
+    writes(&rt, alloc, ScalarFnRef::Not(none), "vortex.not($)")?;
+    writes(&rt, alloc, ScalarFnRef::IsNull(none), "vortex.is_null($)")?;
+    writes(
+        &rt,
+        alloc,
+        ScalarFnRef::IsNotNull(none),
+        "vortex.is_not_null($)",
+    )?;
+    writes(&rt, alloc, ScalarFnRef::Mask(none), "vortex.mask($, $.a)")?;
+    let lone = Expression::Scalar {
+        scalar_fn: ScalarFnRef::Zip(none),
+        children: Rc::new(alloc, vec![in alloc; Expression::Root]?)?,
     };
-    let one_pair = CaseWhenOptions {
-        num_when_then_pairs: 1,
-        has_else: false,
-    };
-    let pack = PackOptions {
-        names: names(alloc, &["x", "y"])?,
-        nullability: Nullable,
-    };
-    let between = BetweenOptions {
+    prints(&rt, alloc, lone, "vortex.zip($)")
+}
+
+#[test]
+fn signs_stand_between_children(rt: HostRuntime) -> Result<(), Fail> {
+    let alloc = rt.alloc();
+    writes(&rt, alloc, ScalarFnRef::Binary(Operator::Add), "($ + $.a)")?;
+    writes(
+        &rt,
+        alloc,
+        ScalarFnRef::Cast(i32_type(Nullable)),
+        "cast($ as i32?)",
+    )?;
+    let between = ScalarFnRef::Between(BetweenOptions {
         lower_strict: StrictComparison::Strict,
         upper_strict: StrictComparison::NonStrict,
-    };
-    let not_like = LikeOptions {
+    });
+    writes(&rt, alloc, between, "($.a < $ <= $.b)")?;
+    let not_like = ScalarFnRef::Like(LikeOptions {
         negated: true,
         case_insensitive: false,
-    };
-    let table = [
+    });
+    writes(&rt, alloc, not_like, "($ not like $.a)")
+}
+
+#[test]
+fn structs_and_cases_have_their_sql(rt: HostRuntime) -> Result<(), Fail> {
+    let alloc = rt.alloc();
+    for (num_when_then_pairs, has_else, sql) in [
         (
-            ScalarFnRef::CaseWhen(two_pairs),
+            2,
+            true,
             "CASE WHEN $ THEN $.a WHEN $.b THEN $.c ELSE $.d END",
         ),
-        (ScalarFnRef::CaseWhen(one_pair), "CASE WHEN $ THEN $.a END"),
-        (ScalarFnRef::Pack(pack), "pack(x: $, y: $.a)?"),
-        (
-            ScalarFnRef::Select(FieldSelection::Include(names(alloc, &["a", "b"])?)),
-            "${a, b}",
-        ),
-        (
-            ScalarFnRef::Select(FieldSelection::Exclude(names(alloc, &["a", "b"])?)),
-            "${~ a, b}",
-        ),
-        (
-            ScalarFnRef::Select(FieldSelection::Exclude(names(alloc, &[])?)),
-            "${~ }",
-        ),
-        (
-            ScalarFnRef::FillNull(EmptyOptions),
-            "vortex.fill_null($, $.a)",
-        ),
-        (ScalarFnRef::Zip(EmptyOptions), "zip($, $.a, $.b)"),
-        (ScalarFnRef::Binary(Operator::Add), "($ + $.a)"),
-        (ScalarFnRef::Not(EmptyOptions), "vortex.not($)"),
-        (ScalarFnRef::Between(between), "($.a < $ <= $.b)"),
-        (ScalarFnRef::Like(not_like), "($ not like $.a)"),
-        (ScalarFnRef::IsNull(EmptyOptions), "vortex.is_null($)"),
-        (
-            ScalarFnRef::IsNotNull(EmptyOptions),
-            "vortex.is_not_null($)",
-        ),
-        (ScalarFnRef::Mask(EmptyOptions), "vortex.mask($, $.a)"),
-        (ScalarFnRef::Cast(i32_type(Nullable)), "cast($ as i32?)"),
-    ];
-    for (function, sql) in table {
-        let node = over_fields(alloc, function)?;
-        assert_eq!(rt; format!(in alloc; "{node}")?.as_str(), sql);
+        (1, false, "CASE WHEN $ THEN $.a END"),
+        (0, false, "CASE END"),
+    ] {
+        let case = CaseWhenOptions {
+            num_when_then_pairs,
+            has_else,
+        };
+        writes(&rt, alloc, ScalarFnRef::CaseWhen(case), sql)?;
     }
-    let lone = Expression::Scalar {
-        scalar_fn: ScalarFnRef::Zip(EmptyOptions),
-        children: std::rc::Rc::new(alloc, vec![in alloc; Expression::Root]?)?,
-    };
-    assert_eq!(rt; format!(in alloc; "{lone}")?.as_str(), "vortex.zip($)");
-    Ok(())
+    for (nullability, sql) in [
+        (Nullable, "pack(x: $, y: $.a)?"),
+        (NonNullable, "pack(x: $, y: $.a)"),
+    ] {
+        let names = names(alloc, &["x", "y"])?;
+        let pack = ScalarFnRef::Pack(PackOptions { names, nullability });
+        writes(&rt, alloc, pack, sql)?;
+    }
+    let kept = FieldSelection::Include(names(alloc, &["a", "b"])?);
+    writes(&rt, alloc, ScalarFnRef::Select(kept), "${a, b}")?;
+    let left_out = FieldSelection::Exclude(names(alloc, &["a", "b"])?);
+    writes(&rt, alloc, ScalarFnRef::Select(left_out), "${~ a, b}")?;
+    let all = FieldSelection::Exclude(names(alloc, &[])?);
+    writes(&rt, alloc, ScalarFnRef::Select(all), "${~ }")
 }
