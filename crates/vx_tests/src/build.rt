@@ -1,4 +1,8 @@
 // What the tests build their values with, and how they look at them.
+ghost use Rattle.std.specs.Prelude.{◌≡◌};
+ghost use Rattle.vx_types.specs.Types.{is_nullable};
+ghost use Rattle.vx_types.specs.Views.{admits_null, type_of};
+
 use std::alloc::Global;
 use std::fmt::Display;
 use std::process::Abort;
@@ -28,7 +32,9 @@ pub fn fields(
     StructFields::new(alloc, names, types)
 }
 
-pub fn i32_type(nullability: Nullability) -> DType {
+pub fn i32_type(nullability: Nullability) -> DType
+    ensures { is_nullable (type_of result) ≡ admits_null nullability }
+{
     DType::Primitive(PType::I32, nullability)
 }
 
