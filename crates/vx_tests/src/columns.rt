@@ -37,7 +37,16 @@ fn a_column_is_its_type_and_its_rows(rt: HostRuntime) -> Result<(), Fail> {
     assert!(rt; *column.dtype() == i32_type(Nullable));
     assert!(rt; *column.row(0) == Value::Int(7));
     assert!(rt; *column.row(1) == Value::Null);
-    let shared = Column::from_shared(i32_type(Nullable), column.shared_rows().clone()?);
+    Ok(())
+}
+
+#[test]
+fn columns_share_their_rows(rt: HostRuntime) -> Result<(), Fail> {
+    let alloc = rt.alloc();
+    let rows = vec![in alloc; Value::Int(7), Value::Null]?;
+    let column = Column::try_new(i32_type(Nullable), rows)?;
+    let dtype = column.dtype().clone()?;
+    let shared = Column::from_shared(dtype, column.shared_rows().clone()?);
     assert!(rt; shared == column);
     assert!(rt; column.clone()? == column);
     let other = Column::try_new(i32_type(Nullable), vec![in alloc; Value::Int(7)]?)?;

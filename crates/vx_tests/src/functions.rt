@@ -201,7 +201,7 @@ fn selections_keep_names(rt: HostRuntime) -> Result<(), Fail> {
     let kept = given.normalize_to_included_fields(alloc, &names(alloc, &["b", "a", "c"])?)?;
     assert!(rt; kept == names(alloc, &["c", "b"])?);
     let refused = given.normalize_to_included_fields(alloc, &names(alloc, &["c"])?);
-    assert!(rt; matches!(refused, Err(VortexError::NoSuchField(name)) if name.as_str() == "b"));
+    assert!(rt; matches!(&refused, Err(VortexError::NoSuchField(name)) if name.as_str() == "b"));
     Ok(())
 }
 

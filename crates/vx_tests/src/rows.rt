@@ -230,7 +230,7 @@ fn a_child_is_refused_before_its_node(rt: HostRuntime) -> Result<(), Fail> {
     let scope = struct_dtype(alloc)?;
     let unknown = over_one(alloc, ScalarFnRef::Zip(EmptyOptions), col(alloc, "zz")?)?;
     let refused = unknown.bind(alloc, &scope);
-    assert!(rt; matches!(refused, Err(VortexError::NoSuchField(name)) if name.as_str() == "zz"));
+    assert!(rt; matches!(&refused, Err(VortexError::NoSuchField(name)) if name.as_str() == "zz"));
     let lone = over_one(alloc, ScalarFnRef::Zip(EmptyOptions), Expression::Root)?;
     let refused = lone.bind(alloc, &scope);
     assert!(rt;

@@ -73,7 +73,7 @@ fn binding_refuses_children_first(rt: HostRuntime) -> Result<(), Fail> {
     );
     let unknown = binary(alloc, Operator::And, col(alloc, "zz")?, compared)?;
     let refused = unknown.bind(alloc, &scope);
-    assert!(rt; matches!(refused, Err(VortexError::NoSuchField(name)) if name.as_str() == "zz"));
+    assert!(rt; matches!(&refused, Err(VortexError::NoSuchField(name)) if name.as_str() == "zz"));
     Ok(())
 }
 
@@ -90,7 +90,7 @@ fn an_unknown_name_is_refused_where_it_is_left_out(rt: HostRuntime) -> Result<()
     let left_out = ScalarFnRef::Select(FieldSelection::Exclude(names(alloc, &["zz"])?));
     let selected = Expression::try_new(alloc, left_out, vec![in alloc; Expression::Root]?)?;
     let refused = selected.bind(alloc, &struct_dtype(alloc)?);
-    assert!(rt; matches!(refused, Err(VortexError::NoSuchField(name)) if name.as_str() == "zz"));
+    assert!(rt; matches!(&refused, Err(VortexError::NoSuchField(name)) if name.as_str() == "zz"));
     Ok(())
 }
 

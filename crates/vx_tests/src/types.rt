@@ -1,8 +1,10 @@
 // Names, types and their fields.
-use crate::build::{fields, i32_type, names};
+use crate::build::{fields, i32_type, names, prints};
+use std::alloc::Global;
+use std::process::Abort;
 use std::test::Fail;
 use vx_tree::Nullability::{NonNullable, Nullable};
-use vx_tree::{DType, FieldName, FieldNames, Nullability, PType, VortexError};
+use vx_tree::{DType, FieldName, FieldNames, Nullability, VortexError, VortexResult};
 
 #[test]
 fn names_are_found_at_their_first_place(rt: HostRuntime) -> Result<(), Fail> {
@@ -32,50 +34,69 @@ fn a_struct_type_gives_the_first_field_of_a_name(rt: HostRuntime) -> Result<(), 
         DType::Bool(Nullable),
     ]?;
     let row = fields(&rt, alloc, &["x", "y", "x"], types)?;
-    let x = FieldName::new(alloc, "x")?;
     assert_eq!(rt; row.nfields(), 3);
     assert_eq!(rt; row.names().len(), 3);
-    assert!(rt; row.field(&x) == Some(&i32_type(NonNullable)));
+    assert!(rt; row.field(&FieldName::new(alloc, "x")?) == Some(&i32_type(NonNullable)));
     assert!(rt; row.field(&FieldName::new(alloc, "z")?).is_none());
-    let some = row.project(alloc, &names(alloc, &["y", "x"])?)?;
-    let projected = DType::Struct(some, NonNullable);
-    assert_eq!(rt;
-        format!(in alloc; "{projected}")?.as_str(),
-        "{y=utf8?, x=i32}"
-    );
     let left = row.without(alloc, &names(alloc, &["x"])?)?;
     assert_eq!(rt; left.names().len(), 1);
+    Ok(())
+}
+
+#[test]
+fn projections_follow_the_names(rt: HostRuntime) -> Result<(), Fail> {
+    let alloc = rt.alloc();
+    let types = vec![in alloc;
+        i32_type(NonNullable),
+        DType::Utf8(Nullable),
+        DType::Bool(Nullable),
+    ]?;
+    let row = fields(&rt, alloc, &["x", "y", "x"], types)?;
+    let some = row.project(alloc, &names(alloc, &["y", "x"])?)?;
     let refused = row.project(alloc, &names(alloc, &["y", "z", "w"])?);
-    assert!(rt; matches!(refused, Err(VortexError::NoSuchField(name)) if name.as_str() == "z"));
-    let whole = DType::Struct(row, Nullable);
-    assert!(rt; whole.as_struct_fields_opt().is_some());
+    assert!(rt; matches!(&refused, Err(VortexError::NoSuchField(name)) if name.as_str() == "z"));
+    let projected = DType::Struct(some, NonNullable);
     assert!(rt; projected.as_struct_fields_opt().is_some());
     assert!(rt; i32_type(Nullable).as_struct_fields_opt().is_none());
+    prints(&rt, alloc, projected, "{y=utf8?, x=i32}")
+}
+
+#[test]
+fn nullability_is_the_outer_one(rt: HostRuntime) -> Result<(), Fail> {
+    let number = i32_type(NonNullable);
+    assert!(rt; number.nullability() == NonNullable);
+    assert!(rt; !number.is_nullable());
+    assert!(rt; number.clone()?.as_nullable() == i32_type(Nullable));
+    assert!(rt; i32_type(Nullable).with_nullability(NonNullable) == number);
+    assert!(rt; Nullable.admits_null() && !NonNullable.admits_null());
+    assert!(rt; Nullability::of(true) == Nullable);
     Ok(())
+}
+
+/// The struct type of one number.
+fn with_number(
+    rt: &impl Abort,
+    alloc: Global,
+    name: &str,
+    inner: Nullability,
+    outer: Nullability,
+) -> VortexResult<DType> {
+    let types = vec![in alloc; i32_type(inner)]?;
+    Ok(DType::Struct(fields(rt, alloc, &[name], types)?, outer))
 }
 
 #[test]
 fn types_differ_in_nullability_or_in_more(rt: HostRuntime) -> Result<(), Fail> {
     let alloc = rt.alloc();
-    let number = i32_type(NonNullable);
-    assert!(rt; number.nullability() == NonNullable);
-    assert!(rt; !number.is_nullable());
-    assert!(rt; number.clone()?.as_nullable() == i32_type(Nullable));
-    assert!(rt; Nullable.admits_null() && !NonNullable.admits_null());
-    assert!(rt; Nullability::of(true) == Nullable);
-    assert!(rt; i32_type(Nullable).with_nullability(NonNullable) == number);
-    let narrow = fields(&rt, alloc, &["x"], vec![in alloc; i32_type(NonNullable)]?)?;
-    let wide = fields(&rt, alloc, &["x"], vec![in alloc; i32_type(Nullable)]?)?;
-    let other = fields(&rt, alloc, &["y"], vec![in alloc; i32_type(Nullable)]?)?;
-    let narrow = DType::Struct(narrow, Nullable);
-    let wide = DType::Struct(wide, NonNullable);
-    let other = DType::Struct(other, NonNullable);
+    let narrow = with_number(&rt, alloc, "x", NonNullable, Nullable)?;
+    let wide = with_number(&rt, alloc, "x", Nullable, NonNullable)?;
+    let other = with_number(&rt, alloc, "y", Nullable, NonNullable)?;
     assert!(rt; narrow != wide);
     assert!(rt; narrow.eq_ignore_nullability(&wide));
     assert!(rt; !wide.eq_ignore_nullability(&other));
-    let joined = narrow.union(alloc, &wide)?;
-    assert!(rt; joined.is_some_and(|t| t.is_nullable()));
     assert!(rt; wide.union(alloc, &other)?.is_none());
-    assert!(rt; !DType::Primitive(PType::U8, Nullable).eq_ignore_nullability(&number));
-    Ok(())
+    let Some(joined) = narrow.union(alloc, &wide)? else {
+        return Err(Fail::from(VortexError::BaseTypesDiffer));
+    };
+    prints(&rt, alloc, joined, "{x=i32?}?")
 }
