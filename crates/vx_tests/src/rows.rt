@@ -1,5 +1,5 @@
 // Worked rows as runs: texts and types of trees, and refusals of binding.
-use crate::build::{binary, call, col, fields, i32_type, literal, names, prints};
+use crate::build::{call, col, fields, i32_type, literal, names, prints};
 use std::alloc::Global;
 use std::process::Abort;
 use std::rc::Rc;
@@ -7,8 +7,8 @@ use std::test::Fail;
 use vx_tree::Nullability::{NonNullable, Nullable};
 use vx_tree::test_harness::struct_dtype;
 use vx_tree::{
-    CaseWhenOptions, DType, EmptyOptions, Expression, FieldName, FieldSelection, LikeOptions,
-    Nullability, Operator, PType, PackOptions, Scalar, ScalarFnRef, VortexError, VortexResult,
+    CaseWhenOptions, DType, EmptyOptions, Expression, FieldName, FieldSelection, Nullability,
+    PType, PackOptions, Scalar, ScalarFnRef, VortexError, VortexResult,
 };
 
 /// The struct type of the one field `x`.

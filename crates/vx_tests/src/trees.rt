@@ -1,15 +1,9 @@
 // Trees: their texts, children, binding and refusals.
-use crate::build::{binary, col, fields, i32_type, literal, names, prints};
-use std::alloc::Global;
-use std::process::Abort;
-use std::rc::Rc;
+use crate::build::{binary, col, literal, names};
 use std::test::Fail;
-use vx_tree::Nullability::{NonNullable, Nullable};
 use vx_tree::test_harness::struct_dtype;
 use vx_tree::{
-    BetweenOptions, Binary, BoundExpression, CaseWhenOptions, DType, EmptyOptions, ExprDisplay,
-    Expression, FieldSelection, GetItem, LikeOptions, Literal, Operator, PackOptions, Scalar,
-    ScalarFnRef, Scope, StrictComparison, VortexError, VortexResult,
+    BoundExpression, Expression, FieldSelection, Operator, Scalar, ScalarFnRef, VortexError,
 };
 
 #[test]
