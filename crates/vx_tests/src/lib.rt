@@ -14,6 +14,8 @@ mod rows;
 #[cfg(test)]
 mod runs;
 #[cfg(test)]
+mod sql;
+#[cfg(test)]
 mod texts;
 #[cfg(test)]
 mod trees;

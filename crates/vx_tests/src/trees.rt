@@ -1,10 +1,55 @@
 // Trees: their texts, children, binding and refusals.
-use crate::build::{binary, col, literal, names};
+use crate::build::{binary, col, fields, i32_type, literal, names, prints};
+use std::alloc::Global;
+use std::process::Abort;
 use std::test::Fail;
+use vx_tree::Nullability::{NonNullable, Nullable};
 use vx_tree::test_harness::struct_dtype;
 use vx_tree::{
-    BoundExpression, Expression, FieldSelection, Operator, Scalar, ScalarFnRef, VortexError,
+    Binary, BoundExpression, CaseWhenOptions, DType, EmptyOptions, ExprDisplay, Expression,
+    FieldSelection, GetItem, Operator, Scalar, ScalarFnRef, Scope, VortexError, VortexResult,
 };
+
+/// `(($.x >= null) and ($.x <= 5i32))`
+fn range_of_x(alloc: Global) -> VortexResult<Expression> {
+    let null = literal(alloc, Scalar::null(i32_type(Nullable)))?;
+    let five = literal(alloc, Scalar::from_i32(5))?;
+    let lower = binary(alloc, Operator::Gte, col(alloc, "x")?, null)?;
+    let upper = binary(alloc, Operator::Lte, col(alloc, "x")?, five)?;
+    binary(alloc, Operator::And, lower, upper)
+}
+
+/// `{x=i32}`
+fn scope_of_x(rt: &impl Abort, alloc: Global) -> VortexResult<DType> {
+    let types = vec![in alloc; i32_type(NonNullable)]?;
+    Ok(DType::Struct(fields(rt, alloc, &["x"], types)?, NonNullable))
+}
+
+#[test]
+fn a_range_has_its_text_and_type(rt: HostRuntime) -> Result<(), Fail> {
+    let alloc = rt.alloc();
+    let text = "(($.x >= null) and ($.x <= 5i32))";
+    let source = range_of_x(alloc)?;
+    let scope = scope_of_x(&rt, alloc)?;
+    let bound = source.bind(alloc, &scope)?;
+    assert!(rt; *bound.dtype() == DType::Bool(Nullable));
+    assert!(rt; bound.is_root_bound_to(&scope));
+    prints(&rt, alloc, source, text)?;
+    prints(&rt, alloc, bound, text)
+}
+
+#[test]
+fn a_scope_is_its_type(rt: HostRuntime) -> Result<(), Fail> {
+    let alloc = rt.alloc();
+    let source = range_of_x(alloc)?;
+    let scope = Scope::new(scope_of_x(&rt, alloc)?);
+    let bound = source.bind_scope(alloc, &scope)?;
+    assert!(rt; bound.is_root_bound_to(scope.root()));
+    assert!(rt; !bound.is_root_bound_to(&i32_type(NonNullable)));
+    assert!(rt; source.return_dtype(alloc, scope.root())? == DType::Bool(Nullable));
+    assert!(rt; source.bind(alloc, scope.root())? == bound);
+    Ok(())
+}
 
 #[test]
 fn binding_refuses_children_first(rt: HostRuntime) -> Result<(), Fail> {
@@ -31,12 +76,106 @@ fn binding_refuses_children_first(rt: HostRuntime) -> Result<(), Fail> {
 }
 
 #[test]
+fn the_harness_has_its_type(rt: HostRuntime) -> Result<(), Fail> {
+    let alloc = rt.alloc();
+    let text = "{a=i32, col1=u16?, col2=u16?, bool1=bool, bool2=bool}";
+    prints(&rt, alloc, struct_dtype(alloc)?, text)
+}
+
+#[test]
 fn an_unknown_name_is_refused_where_it_is_left_out(rt: HostRuntime) -> Result<(), Fail> {
     let alloc = rt.alloc();
     let left_out = ScalarFnRef::Select(FieldSelection::Exclude(names(alloc, &["zz"])?));
     let selected = Expression::try_new(alloc, left_out, vec![in alloc; Expression::Root]?)?;
     let refused = selected.bind(alloc, &struct_dtype(alloc)?);
     assert!(rt; matches!(&refused, Err(VortexError::NoSuchField(name)) if name.as_str() == "zz"));
+    Ok(())
+}
+
+#[test]
+fn a_case_needs_a_pair(rt: HostRuntime) -> Result<(), Fail> {
+    let alloc = rt.alloc();
+    let no_pairs = ScalarFnRef::CaseWhen(CaseWhenOptions {
+        num_when_then_pairs: 0,
+        has_else: false,
+    });
+    let empty = Expression::try_new(alloc, no_pairs, Vec::new(alloc))?;
+    assert!(rt;
+        matches!(
+            empty.bind(alloc, &struct_dtype(alloc)?),
+            Err(VortexError::NoPairs)
+        )
+    );
+    Ok(())
+}
+
+/// Whether the answer is that refusal of a number of children.
+fn is_arity_mismatch<T>(answer: &VortexResult<T>, wanted: usize, given: usize) -> bool {
+    matches!(answer, Err(VortexError::ArityMismatch { expected, got }) if *expected == wanted && *got == given)
+}
+
+#[test]
+fn a_wrong_number_of_children_is_refused(rt: HostRuntime) -> Result<(), Fail> {
+    let alloc = rt.alloc();
+    let one = vec![in alloc; Expression::Root]?;
+    let compared = Expression::try_new(alloc, ScalarFnRef::Binary(Operator::Eq), one);
+    assert!(rt; is_arity_mismatch(&compared, 2, 1));
+    let one = vec![in alloc; Expression::Root]?;
+    let zipped = Expression::try_new(alloc, ScalarFnRef::Zip(EmptyOptions), one);
+    assert!(rt; is_arity_mismatch(&zipped, 3, 1));
+    let one = vec![in alloc; BoundExpression::new_root(i32_type(Nullable))]?;
+    let bound = BoundExpression::try_new(alloc, ScalarFnRef::Zip(EmptyOptions), one);
+    assert!(rt; is_arity_mismatch(&bound, 3, 1));
+    Ok(())
+}
+
+#[test]
+fn a_node_refuses_a_wrong_number_of_other_children(rt: HostRuntime) -> Result<(), Fail> {
+    let alloc = rt.alloc();
+    let item = col(alloc, "x")?.with_children(alloc, Vec::new(alloc));
+    assert!(rt; is_arity_mismatch(&item, 1, 0));
+    let one = vec![in alloc; Expression::Root]?;
+    let root = Expression::Root.with_children(alloc, one);
+    assert!(rt; matches!(&root, Err(VortexError::RootChildren { got: 1 })));
+    Ok(())
+}
+
+#[test]
+fn nodes_show_their_function(rt: HostRuntime) -> Result<(), Fail> {
+    let alloc = rt.alloc();
+    let source = range_of_x(alloc)?;
+    assert!(rt; Expression::Root.is_root() && !source.is_root());
+    assert!(rt; source.as_scalar() == Some(&ScalarFnRef::Binary(Operator::And)));
+    assert!(rt; source.as_opt::<Binary>() == Some(&Operator::And));
+    assert!(rt; source.as_opt::<GetItem>().is_none());
+    assert!(rt; source.is::<Binary>());
+    assert!(rt; *source.as_::<Binary>() == Operator::And);
+    assert!(rt; source.clone()? == source);
+    Ok(())
+}
+
+#[test]
+fn nodes_show_their_children(rt: HostRuntime) -> Result<(), Fail> {
+    let alloc = rt.alloc();
+    let source = range_of_x(alloc)?;
+    assert_eq!(rt; source.display_children_count(), 2);
+    assert_eq!(rt; source.children().len(), 2);
+    assert!(rt; source.child(0) != source.child(1));
+    assert!(rt; source.child(1) == source.display_child(1));
+    Ok(())
+}
+
+#[test]
+fn bound_nodes_show_their_function_and_children(rt: HostRuntime) -> Result<(), Fail> {
+    let alloc = rt.alloc();
+    let bound = range_of_x(alloc)?.bind(alloc, &scope_of_x(&rt, alloc)?)?;
+    assert!(rt; bound.as_scalar() == Some(&ScalarFnRef::Binary(Operator::And)));
+    assert!(rt; bound.as_opt::<Binary>() == Some(&Operator::And));
+    assert!(rt; bound.is::<Binary>());
+    assert!(rt; *bound.as_::<Binary>() == Operator::And);
+    assert_eq!(rt; bound.display_children_count(), 2);
+    assert_eq!(rt; bound.children().len(), 2);
+    assert!(rt; bound.child(0) != bound.child(1));
     Ok(())
 }
 
@@ -67,5 +206,21 @@ fn a_node_takes_other_children(rt: HostRuntime) -> Result<(), Fail> {
     assert!(rt; root.is_root() && *root.dtype() == scope);
     let unchanged = root.with_children(alloc, Vec::new(alloc))?;
     assert!(rt; unchanged.is_root());
+    Ok(())
+}
+
+#[test]
+fn validity_is_a_truth_value(rt: HostRuntime) -> Result<(), Fail> {
+    let alloc = rt.alloc();
+    let root = Expression::Root.bind(alloc, &i32_type(Nullable))?;
+    let valid = root.validity(alloc)?;
+    assert_eq!(rt;
+        format!(in alloc; "{valid}")?.as_str(),
+        "vortex.is_not_null($)"
+    );
+    assert!(rt; *valid.dtype() == DType::Bool(NonNullable));
+    let null = literal(alloc, Scalar::null(i32_type(Nullable)))?;
+    let never = null.bind(alloc, &i32_type(Nullable))?.validity(alloc)?;
+    assert_eq!(rt; format!(in alloc; "{never}")?.as_str(), "false");
     Ok(())
 }
