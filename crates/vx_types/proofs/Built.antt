@@ -1,17 +1,13 @@
 -- Loops that build the types of fields, one field at a time.
-use Rattle.std.proofs.Common.{◌≡◌, ℕ, zero, suc, ◌+◌, ◌<◌, ◌≤◌, List, [], ◌∷◌, ◌++◌, length, get_or, drop, drop-cons, drop_of_length-le, add-one, Option, Some, None, Result, Ok, Err, refl, sym, ap, ◌∙◌, arith}
-use Rattle.std.specs.Prelude.{true, false}
+use Rattle.std.proofs.Common.{◌≡◌, ℕ, ◌+◌, ◌<◌, ◌≤◌, List, [], ◌∷◌, ◌++◌, length, get_or, drop, drop-cons, drop_of_length-le, add-one, Option, Some, None, Result, Ok, Err, refl, sym, ap, ◌∙◌, arith}
 use Rattle.vx_types.specs.declared.dtype.DType.{DType}
 use Rattle.vx_types.specs.declared.error.VortexError.{VortexError}
 use Rattle.vx_types.specs.declared.error.VortexError.TheVariants.{NoSuchField}
 use Rattle.vx_types.specs.Types.{Name, LogicalType, Fields, no_field, field}
 use Rattle.vx_types.specs.Joins.{join, join_fields}
 use Rattle.vx_types.specs.Fields.{field_count, field_type, put_field, first_unknown, project}
-use Rattle.std.specs.Prelude.{cond, not}
-use Rattle.std.specs.List.{list_any}
-use Rattle.std.specs.Str.{bytes_eq}
-use Rattle.std.proofs.Common.{append_assoc, append-nil}
-use Rattle.vx_types.specs.Fields.{names_without, field_names}
+use Rattle.std.specs.Prelude.{not}
+use Rattle.vx_types.specs.Fields.{is_among, names_without, field_names}
 use Rattle.vx_types.proofs.Fitting.{first_unknown-filter, first_unknown-own}
 use Rattle.vx_types.specs.Answers.{known_or, projected, projected_without}
 use Rattle.vx_types.specs.Views.{type_of, fields_view}
@@ -141,43 +137,7 @@ field_type_end a names types i h = rw (fields_end names types i h)
 
 -- ---- names left out
 
-named_step : (names : List Name) (types : List DType) (i : ℕ) (a : Name) → i < length names → i < length types → a ≡ get_or names i a
-    → (t : LogicalType) × (fields_view (drop i names) (drop i types) ≡ field a t (fields_view (drop (suc i) names) (drop (suc i) types)))
-named_step [] types i a h k e = absurd (omega arith)
-named_step (b ∷ names) [] i a h k e = absurd (omega arith)
-named_step (b ∷ names) (t ∷ types) zero a h k e = (type_of t, ap (λ x. field x (type_of t) (fields_view names types)) (sym e))
-named_step (b ∷ names) (t ∷ types) (suc i) a h k e = named_step names types i a (omega arith) (omega arith) e
-
-pub names_without_next : (left_out names : List Name) (types : List DType) (i : ℕ) (a : Name) → i < length names → i < length types → a ≡ get_or names i a
-    → names_without left_out (fields_view (drop i names) (drop i types))
-    ≡ cond (not (list_any (bytes_eq a) left_out)) (a ∷ names_without left_out (fields_view (drop (i + 1) names) (drop (i + 1) types)))
-    (names_without left_out (fields_view (drop (i + 1) names) (drop (i + 1) types)))
-names_without_next left_out names types i a h k e = let s = named_step names types i a h k e in ap (names_without left_out) s.1 ∙ rw add-one
-
-pub name_kept : (left_out names : List Name) (types : List DType) (i : ℕ) (a : Name) (kept new all : List Name) → i < length names → i < length types → a ≡ get_or names i a
-    → list_any (bytes_eq a) left_out ≡ false → new ≡ kept ++ a ∷ []
-    → kept ++ names_without left_out (fields_view (drop i names) (drop i types)) ≡ all
-    → new ++ names_without left_out (fields_view (drop (i + 1) names) (drop (i + 1) types)) ≡ all
-name_kept left_out names types i a kept new all h k e out pushed so_far =
-    let rest = names_without left_out (fields_view (drop (i + 1) names) (drop (i + 1) types)) in
-    let next : names_without left_out (fields_view (drop i names) (drop i types)) ≡ a ∷ rest = names_without_next left_out names types i a h k e ∙ rw out in
-    ap (λ ns. ns ++ rest) pushed ∙ append_assoc kept (a ∷ []) rest ∙ ap (λ ns. kept ++ ns) (sym next) ∙ so_far
-
-pub name_left : (left_out names : List Name) (types : List DType) (i : ℕ) (a : Name) (kept all : List Name) → i < length names → i < length types → a ≡ get_or names i a
-    → list_any (bytes_eq a) left_out ≡ true
-    → kept ++ names_without left_out (fields_view (drop i names) (drop i types)) ≡ all
-    → kept ++ names_without left_out (fields_view (drop (i + 1) names) (drop (i + 1) types)) ≡ all
-name_left left_out names types i a kept all h k e out so_far =
-    let rest = names_without left_out (fields_view (drop (i + 1) names) (drop (i + 1) types)) in
-    let next : names_without left_out (fields_view (drop i names) (drop i types)) ≡ rest = names_without_next left_out names types i a h k e ∙ rw out in
-    ap (λ ns. kept ++ ns) (sym next) ∙ so_far
-
-pub names_end : (left_out names : List Name) (types : List DType) (i : ℕ) (kept all : List Name) → field_count (fields_view names types) ≤ i
-    → kept ++ names_without left_out (fields_view (drop i names) (drop i types)) ≡ all → kept ≡ all
-names_end left_out names types i kept all h so_far =
-    sym (append-nil kept) ∙ ap (λ fs. kept ++ names_without left_out fs) (sym (fields_end names types i h)) ∙ so_far
-
-pub projected_kept : (names : List Name) (fs : Fields) → None ≡ first_unknown names fs → projected (names_without names fs) fs ≡ projected_without names fs
+pub projected_kept : (names : List Name) (fs : Fields) → None ≡ first_unknown names fs → projected (names_without names (field_names fs)) fs ≡ projected_without names fs
 projected_kept names fs e =
-    let known = first_unknown-filter (λ b. not (list_any (bytes_eq b) names)) (field_names fs) fs (first_unknown-own fs) in
-    ap (λ u. known_or u (Ok (project (names_without names fs) fs))) (known ∙ e)
+    let known = first_unknown-filter (λ a. not (is_among names a)) (field_names fs) fs (first_unknown-own fs) in
+    ap (λ u. known_or u (Ok (project (names_without names (field_names fs)) fs))) (known ∙ e)

@@ -1,5 +1,5 @@
 -- Fields of structs by name: the first field of a name is meant everywhere.
-use Rattle.std.specs.Prelude.{ℕ, ◌+◌, List, [], ◌∷◌, Option, Some, None, is_some, if◌then◌else◌, filter, not}
+use Rattle.std.specs.Prelude.{ℕ, ◌+◌, Bool, List, [], ◌∷◌, Option, Some, None, is_some, if◌then◌else◌, filter, not}
 use Rattle.std.specs.List.{list_any}
 use Rattle.std.specs.Str.{bytes_eq}
 use Rattle.vx_types.specs.Types.{Name, LogicalType, Fields, no_field, field, Datum, null, Data, no_datum, datum}
@@ -19,9 +19,13 @@ abbrev pub field_names : Fields → List Name
 field_names no_field = []
 field_names (field a t fs) = a ∷ field_names fs
 
--- the names of the fields but the given ones
-abbrev pub names_without : List Name → Fields → List Name
-names_without names fs = filter (λ b. not (list_any (bytes_eq b) names)) (field_names fs)
+-- whether the name is one of the names
+abbrev pub is_among : List Name → Name → Bool
+is_among names a = list_any (bytes_eq a) names
+
+-- the names but the given ones
+abbrev pub names_without : List Name → List Name → List Name
+names_without left_out names = filter (λ a. not (is_among left_out a)) names
 
 -- how many fields there are
 abbrev pub field_count : Fields → ℕ

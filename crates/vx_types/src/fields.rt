@@ -2,13 +2,12 @@
 ghost use Rattle.std.specs.Prelude.{◌≡◌, ℕ, ◌≤◌, length, option_map, IfOk, take};
 ghost use Rattle.vx_types.specs.Answers.{Answers, projected, projected_without};
 ghost use Rattle.vx_types.specs.Fields.{field_count, field_names, field_type, first_unknown, names_without};
-ghost use Rattle.std.specs.List.{list_any};
-ghost use Rattle.std.specs.Str.{bytes_eq};
 ghost use Rattle.vx_types.specs.Views.{type_of, fields_of, fields_view, names_of};
 
 use crate::dtype::struct_of;
+use crate::names::names_without;
 use crate::{DType, FieldName, FieldNames, StructFields, VortexError, VortexResult};
-use std::alloc::{AllocError, Global};
+use std::alloc::Global;
 
 impl StructFields {
     /// How many fields there are.
@@ -37,7 +36,7 @@ impl StructFields {
     /// and with `NoSuchField` (5) and the first given name that no field has.
     pub fn without(&self, alloc: Global, names: &FieldNames) -> VortexResult<StructFields>
         ensures fields { Answers fields_of result (projected_without names.now (fields_of self.now)) }
-        ensures names { IfOk result (λ s. names_of s ≡ names_without names.now (fields_of self.now)) }
+        ensures names { IfOk result (λ s. names_of s ≡ names_without names.now (field_names (fields_of self.now))) }
     {
         match unknown_of(
             self.names.as_slice(),
@@ -46,12 +45,8 @@ impl StructFields {
         ) {
             Some(name) => Err(VortexError::NoSuchField(name.clone()?)),
             None => {
-                let kept = names_without(
-                    alloc,
-                    self.names.as_slice(),
-                    self.types.as_slice(),
-                    names.as_slice(),
-                )?;
+                let own = own_names(self.names.as_slice(), self.types.as_slice());
+                let kept = names_without(alloc, own, names)?;
                 self.project(alloc, &FieldNames::new(alloc, kept)?)
             }
         }
@@ -80,6 +75,13 @@ pub(crate) fn field_count(names: &[FieldName], types: &[DType]) -> usize
     ensures types { result ≤ length types.now }
 {
     names.len().min(types.len())
+}
+
+// The names that have a type beside them.
+fn own_names<'a>(names: &'a [FieldName], types: &[DType]) -> &'a [FieldName]
+    ensures { result.now ≡ field_names (fields_view names.now types.now) }
+{
+    &names[..field_count(names, types)]
 }
 
 // The type of the first field of that name.
@@ -130,35 +132,4 @@ fn unknown_of<'a>(
         }
     }
     None
-}
-
-// Whether the name is one of those.
-fn is_among(name: &FieldName, names: &[FieldName]) -> bool
-    ensures { result ≡ list_any (bytes_eq name.now) names.now }
-{
-    for i in 0..names.len() {
-        if *name == names[i] {
-            return true;
-        }
-    }
-    false
-}
-
-// The names of the fields but the given ones.
-fn names_without(
-    alloc: Global,
-    names: &[FieldName],
-    types: &[DType],
-    left_out: &[FieldName],
-) -> Result<Vec<FieldName>, AllocError>
-    ensures { IfOk result (λ kept. kept.items ≡ names_without left_out.now (fields_view names.now types.now)) }
-{
-    let mut kept = Vec::new(alloc);
-    for i in 0..field_count(names, types) {
-        let name = &names[i];
-        if !is_among(name, left_out) {
-            kept.push(name.clone()?)?;
-        }
-    }
-    Ok(kept)
 }

@@ -1,5 +1,5 @@
 // Names of fields, and lists of them.
-ghost use Rattle.std.specs.Prelude.{◌≡◌, ◌==◌, Ok, [], List, nat_eq, length, position, slice_get};
+ghost use Rattle.std.specs.Prelude.{◌≡◌, ◌==◌, IfOk, Ok, [], List, nat_eq, length, position, slice_get};
 ghost use Rattle.std.specs.Option.{option_copied};
 ghost use Rattle.std.specs.Slice.Iter.{iter_rest};
 ghost use Rattle.std.specs.Str.{bytes_eq};
@@ -7,6 +7,7 @@ ghost use Rattle.std.specs.Cmp.Lexicographic.{pointwise};
 ghost use Rattle.std.specs.Hash as fed;
 ghost use Rattle.std.specs.Cmp.Rules.{comparing, hashing};
 ghost use Rattle.vx_types.specs.Answers.{Answers};
+ghost use Rattle.vx_types.specs.Fields.{is_among, names_without};
 ghost use Rattle.vx_types.specs.Names.{names_alike};
 ghost use Rattle.std.proofs.Common.{rules};
 
@@ -139,6 +140,20 @@ impl FieldNames {
         self.iter().position(|other| *name == *other)
     }
 
+    /// Whether the name is one of these.
+    pub fn contains(&self, name: &FieldName) -> bool
+        ensures { result ≡ is_among self.now name.now }
+    {
+        self.iter().any(|other| *name == *other)
+    }
+
+    /// The names but the given ones, in their order. Refuses with `OutOfMemory` (1) alone.
+    pub fn without(&self, alloc: Global, left_out: &FieldNames) -> VortexResult<FieldNames>
+        ensures { Answers (λ all. all) result (Ok (names_without left_out.now self.now)) }
+    {
+        FieldNames::new(alloc, names_without(alloc, self.as_slice(), left_out)?)
+    }
+
     /// The name at that place, if there are so many.
     pub fn get(&self, i: usize) -> Option<&FieldName>
         ensures { option_copied result ≡ slice_get self.now i }
@@ -173,6 +188,23 @@ impl FieldNames {
     {
         self.names.as_slice()
     }
+}
+
+// The names but the given ones.
+pub(crate) fn names_without(
+    alloc: Global,
+    names: &[FieldName],
+    left_out: &FieldNames,
+) -> Result<Vec<FieldName>, AllocError>
+    ensures { IfOk result (λ kept. kept.items ≡ names_without left_out.now names.now) }
+{
+    let mut kept = Vec::new(alloc);
+    for name in names {
+        if !left_out.contains(name) {
+            kept.push(name.clone()?)?;
+        }
+    }
+    Ok(kept)
 }
 
 impl Clone for FieldNames {
