@@ -1,8 +1,8 @@
 -- The fifteen functions, and the type that each gives over its children's types.
 use Rattle.std.specs.Prelude.{ℕ, ◌+◌, ◌*◌, Bool, true, false, ◌&&◌, ◌||◌, ◌==◌, not, List, [], ◌∷◌, length, Option, Some, None, Result, Ok, Err, if◌then◌else◌, ok_or, codes}
 use Rattle.std.specs.List.{list_all}
-use Rattle.vx_types.specs.declared.error.VortexError.{VortexError}
-use Rattle.vx_types.specs.declared.error.VortexError.TheVariants.{ArityMismatch, NotAStruct, NoSuchField, BaseTypesDiffer, NotBool, NotComparable, NotNumeric, NotText, NoPairs}
+use Rattle.vx_dtype.specs.declared.error.VortexError.{VortexError}
+use Rattle.vx_dtype.specs.declared.error.VortexError.TheVariants.{ArityMismatch, NotAStruct, NoSuchField, BaseTypesDiffer, NotBool, NotComparable, NotNumeric, NotText, NoPairs}
 use Rattle.vx_fn.specs.declared.options.FieldSelection.{FieldSelection}
 use Rattle.vx_types.specs.Answers.{known_or}
 use Rattle.vx_types.specs.Types.{Name, truth, number, text, LogicalType, ty, atomic, struct, Fields, Datum, is_nullable, with_nullability}

@@ -1,7 +1,7 @@
 -- Which types of nodes are found without taking memory, and what a call says that takes none.
 use Rattle.std.specs.Prelude.{Bool, true, false, Result, Ok, Err, IsTrue}
-use Rattle.vx_types.specs.declared.error.VortexError.{VortexError}
-use Rattle.vx_types.specs.declared.error.VortexError.TheVariants.{NoSuchField, BaseTypesDiffer}
+use Rattle.vx_dtype.specs.declared.error.VortexError.{VortexError}
+use Rattle.vx_dtype.specs.declared.error.VortexError.TheVariants.{NoSuchField, BaseTypesDiffer}
 use Rattle.vx_types.specs.Answers.{Exactly}
 use Rattle.vx_types.specs.Types.{LogicalType}
 use Rattle.vx_fn.specs.Functions.{Function, case_when, binary, negation, between, like, is_null, is_not_null, Typing}

@@ -2,8 +2,8 @@
 use Rattle.std.proofs.Common.{◌≡◌, ◌≢◌, ℕ, zero, suc, ◌<◌, Bool, true, false, ◌&&◌, List, [], ◌∷◌, length, get_or, map, Some, Result, Ok, Err, refl, sym, ap, subst, ◌∙◌, arith}
 use Rattle.std.specs.Prelude.{Option, None, option_map, IsErr, IfSome, ◌==◌, if◌then◌else◌}
 use Rattle.std.proofs.lemmas.Bool.Decides.{nat_tests}
-use Rattle.vx_types.specs.declared.error.VortexError.{VortexError}
-use Rattle.vx_types.specs.declared.error.VortexError.TheVariants.{ArityMismatch, RootChildren}
+use Rattle.vx_dtype.specs.declared.error.VortexError.{VortexError}
+use Rattle.vx_dtype.specs.declared.error.VortexError.TheVariants.{ArityMismatch, RootChildren}
 use Rattle.vx_types.specs.Types.{LogicalType}
 use Rattle.vx_fn.specs.Functions.{Function, case_when, get_item, literal, pack, select, fill_null, zip, binary, negation, between, like, is_null, is_not_null, mask, cast, Typing, fn_type, arity_of, of_one, of_two, of_three, of_many, case_children, case_type, pack_type}
 use Rattle.vx_tree.specs.declared.expression.Expression.{Expression}

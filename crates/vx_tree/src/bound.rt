@@ -2,7 +2,7 @@
 ghost use Rattle.std.specs.Prelude.{◌≡◌, ◌≢◌, ℕ, length, IfOk, IfSome, IsErrOf, IsTrue, Ok, map};
 ghost use Rattle.vx_types.specs.Answers.{Answers, Exactly};
 ghost use Rattle.vx_types.specs.Views.{type_of};
-ghost use Rattle.vx_types.specs.declared.error.VortexError.TheVariants.{ArityMismatch};
+ghost use Rattle.vx_dtype.specs.declared.error.VortexError.TheVariants.{ArityMismatch};
 ghost use Rattle.vx_fn.specs.Functions.{arity_of};
 ghost use Rattle.vx_fn.specs.Views.{function_of};
 ghost use Rattle.vx_tree.specs.Binding.{node_over};

@@ -8,9 +8,9 @@ use Rattle.std.specs.Hash.{HashWrites, Alike, same_Alike}
 use Rattle.std.proofs.Common.{ap}
 use Rattle.std.proofs.lemmas.Bool.Decides.{Decides-and, Decides-like}
 use Rattle.vx_types.specs.Types.{truth, number, text, octets, LogicalType, ty, atomic, Datum, null, bool, int, utf8, bytes, struct_of}
-use Rattle.vx_types.specs.declared.dtype.PType.{PType}
-use Rattle.vx_types.specs.declared.error.VortexError.{VortexError}
-use Rattle.vx_types.specs.declared.error.VortexError.TheVariants.{RowMisfit}
+use Rattle.vx_dtype.specs.declared.dtype.PType.{PType}
+use Rattle.vx_dtype.specs.declared.error.VortexError.{VortexError}
+use Rattle.vx_dtype.specs.declared.error.VortexError.TheVariants.{RowMisfit}
 use Rattle.vx_types.specs.Fields.{data_of}
 use Rattle.vx_types.specs.Fits.{fits, Fits}
 use Rattle.vx_types.specs.Codes.{type_code, datum_code}

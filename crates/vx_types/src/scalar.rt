@@ -7,7 +7,7 @@ ghost use Rattle.vx_types.specs.Columns.{equal_constant, equal_constant_equiv, c
 ghost use Rattle.vx_types.specs.Types.{is_nullable, null, is_null_datum};
 ghost use Rattle.vx_types.specs.Fits.{fits_ptype, Fits};
 ghost use Rattle.vx_types.specs.Views.{type_of, value_of};
-ghost use Rattle.vx_types.specs.declared.dtype.PType.TheVariants.{U8, U16, U32, U64, I8, I16, I32, I64};
+ghost use Rattle.vx_dtype.specs.declared.dtype.PType.TheVariants.{U8, U16, U32, U64, I8, I16, I32, I64};
 
 use crate::{DType, Nullability, PType, Value, VortexError, VortexResult};
 use std::alloc::{AllocError, Global};

@@ -1,6 +1,0 @@
-use Rattle.std.proofs.Common.{sym}
-use Rattle.vx_types.proofs.Pairs.{field_names_view}
-use Rattle.vx_types.proofs.fields.own_names.Goals as goal
-
-pub returns : goal.returns
-returns c = rw c.field_count.ensures.count (sym (field_names_view _ _))
