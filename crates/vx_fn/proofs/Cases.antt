@@ -2,7 +2,7 @@
 use Rattle.std.proofs.Common.{◌≡◌, ◌≤◌, List, [], ◌∷◌, length, get_or, drop, take, ◌-◌, map, Some, None, sym, ap, ◌∙◌, arith}
 use Rattle.std.proofs.lemmas.List.{take_all}
 use Rattle.std.specs.Prelude.{option_and_then}
-use Rattle.vx_types.specs.declared.dtype.DType.{DType}
+use Rattle.vx_dtype.specs.declared.dtype.DType.{DType}
 use Rattle.vx_types.specs.Types.{LogicalType}
 use Rattle.vx_types.specs.Joins.{union, union_all}
 use Rattle.vx_types.specs.Views.{type_of}

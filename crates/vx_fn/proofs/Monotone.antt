@@ -1,12 +1,12 @@
 -- Children of narrower types are typed again, with a narrower type.
 use Rattle.std.proofs.Common.{◌≡◌, ℕ, ◌==◌, List, [], ◌∷◌, length, refl, sym, ap, subst, Bool, true, false, ◌&&◌, ◌||◌, arith, ◌∙◌}
-use Rattle.std.specs.Prelude.{Option, Some, None, IsTrue, not, if◌then◌else◌, is_some, option_and_then, filter}
-use Rattle.std.specs.List.{list_all, list_any}
+use Rattle.std.specs.Prelude.{Option, Some, None, IsTrue, if◌then◌else◌, is_some, option_and_then}
+use Rattle.std.specs.List.{list_all}
 use Rattle.std.proofs.lemmas.Bool.{and_parts, and_from, or_left, or_right}
 use Rattle.std.specs.Str.{bytes_eq}
 use Rattle.vx_types.specs.Types.{Name, truth, number, text, octets, LogicalType, ty, Shape, atomic, list, fixed, struct, Fields, no_field, field, is_nullable, with_nullability}
 use Rattle.vx_types.specs.Joins.{same_base, same_base_shape, same_base_fields, join, join_shape, join_fields, union_all, Narrower, narrower, NarrowerShape, same_atomic_shape, narrower_list, narrower_fixed, narrower_struct, NarrowerFields, no_fields, narrower_field, NarrowerEach, no_types, narrower_more}
-use Rattle.vx_types.specs.Fields.{field_type, field_names, project, put_field, first_unknown, fields_named}
+use Rattle.vx_types.specs.Fields.{field_type, field_names, names_without, project, put_field, first_unknown, fields_named}
 use Rattle.vx_fn.specs.Functions.{Function, get_item, mask, selection_names, included, conditions, branches, is_truth}
 use Rattle.vx_fn.specs.declared.options.FieldSelection.{FieldSelection}
 use Rattle.vx_fn.specs.declared.options.FieldSelection.TheVariants.{Include, Exclude}
@@ -150,7 +150,7 @@ field_names-mono (narrower_field {a = a} p q) = ap (λ names. a ∷ names) (fiel
 
 pub included-mono : {fs gs : Fields} (sel : FieldSelection) → NarrowerFields fs gs → included sel fs ≡ included sel gs
 included-mono (Include names) q = refl
-included-mono (Exclude names) q = ap (filter (λ b. not (list_any (bytes_eq b) names))) (field_names-mono q)
+included-mono (Exclude names) q = ap (names_without names) (field_names-mono q)
 
 put-mono : {fs gs : Fields} (a : Name) (o p : Option LogicalType) → is_some o ≡ is_some p → ((t : LogicalType) → p ≡ Some t → (t' : LogicalType) × (o ≡ Some t') × Narrower t' t) → NarrowerFields fs gs → NarrowerFields (put_field a o fs) (put_field a p gs)
 put-mono a None None e k q = q

@@ -6,12 +6,12 @@ use Rattle.std.specs.List.{list_all}
 use Rattle.vx_types.specs.Types.{Name, Atomic, truth, number, text, LogicalType, ty, atomic, list, fixed, struct, Datum, is_nullable, with_nullability}
 use Rattle.vx_types.specs.Joins.{same_base, join, union, union_all}
 use Rattle.vx_types.specs.Fields.{field_type, project, first_unknown, fields_named}
-use Rattle.vx_types.specs.declared.dtype.PType.{PType}
+use Rattle.vx_dtype.specs.declared.dtype.PType.{PType}
 use Rattle.vx_types.specs.Answers.{known_or}
 use Rattle.vx_fn.specs.Functions.{Function, case_when, get_item, literal, pack, select, fill_null, zip, binary, negation, between, like, is_null, is_not_null, mask, cast, Operation, compares, and_also, or_else, adds, Comparison, selection_names, included, case_children, conditions, branches, is_truth, is_text, is_number, is_atomic, Typing, of_none, of_one, of_two, of_three, of_many, needs, fn_type, case_union, case_type, item_type, found, made_nullable, select_type, binary_type, truth_type}
 use Rattle.vx_fn.specs.declared.options.FieldSelection.{FieldSelection}
-use Rattle.vx_types.specs.declared.error.VortexError.{VortexError}
-use Rattle.vx_types.specs.declared.error.VortexError.TheVariants.{ArityMismatch, NotBool, NotText, NotComparable, BaseTypesDiffer}
+use Rattle.vx_dtype.specs.declared.error.VortexError.{VortexError}
+use Rattle.vx_dtype.specs.declared.error.VortexError.TheVariants.{ArityMismatch, NotBool, NotText, NotComparable, BaseTypesDiffer}
 use Rattle.vx_fn.specs.Rows.{FnType, of_case_else, of_case, of_get_item, of_literal, of_pack, of_select, of_fill_null, of_zip, of_comparison, of_and, of_or, of_add, of_not, of_between, of_like, of_is_null, of_is_not_null, of_mask, of_cast}
 
 -- ---- a number of children

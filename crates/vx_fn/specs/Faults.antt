@@ -3,8 +3,8 @@ use Rattle.std.specs.Prelude.{◌≡◌, ◌⊎◌, Bool, false, ◌||◌, not, 
 use Rattle.std.specs.Option.{option_map}
 use Rattle.std.specs.List.{list_any}
 use Rattle.std.specs.Ordering.{is_eq}
-use Rattle.vx_types.specs.declared.error.VortexError.{VortexError}
-use Rattle.vx_types.specs.declared.error.VortexError.TheVariants.{AddOverflow, CastNull, BadFill}
+use Rattle.vx_dtype.specs.declared.error.VortexError.{VortexError}
+use Rattle.vx_dtype.specs.declared.error.VortexError.TheVariants.{AddOverflow, CastNull, BadFill}
 use Rattle.vx_types.specs.Types.{LogicalType, ty, atomic, number, Datum, int, null, is_null_datum}
 use Rattle.vx_types.specs.Fits.{fits, fits_ptype}
 use Rattle.vx_fn.specs.Functions.{Function, binary, adds, cast, fill_null, is_atomic}

@@ -1,16 +1,16 @@
 -- The fifteen functions, and the type that each gives over its children's types.
 use Rattle.std.specs.Prelude.{ℕ, ◌+◌, ◌*◌, Bool, true, false, ◌&&◌, ◌||◌, ◌==◌, not, List, [], ◌∷◌, length, Option, Some, None, Result, Ok, Err, if◌then◌else◌, ok_or, codes}
 use Rattle.std.specs.List.{list_all}
-use Rattle.vx_types.specs.declared.error.VortexError.{VortexError}
-use Rattle.vx_types.specs.declared.error.VortexError.TheVariants.{ArityMismatch, NotAStruct, NoSuchField, BaseTypesDiffer, NotBool, NotComparable, NotNumeric, NotText, NoPairs}
+use Rattle.vx_dtype.specs.declared.error.VortexError.{VortexError}
+use Rattle.vx_dtype.specs.declared.error.VortexError.TheVariants.{ArityMismatch, NotAStruct, NoSuchField, BaseTypesDiffer, NotBool, NotComparable, NotNumeric, NotText, NoPairs}
 use Rattle.vx_fn.specs.declared.options.FieldSelection.{FieldSelection}
-use Rattle.vx_fn.specs.declared.options.FieldSelection.TheVariants.{Include, Exclude}
 use Rattle.vx_types.specs.Answers.{known_or}
-use Rattle.vx_types.specs.Fields.{names_without}
 use Rattle.vx_types.specs.Types.{Name, truth, number, text, LogicalType, ty, atomic, struct, Fields, Datum, is_nullable, with_nullability}
 use Rattle.vx_types.specs.Fits.{Fits}
 use Rattle.vx_types.specs.Joins.{same_base, union, union_all}
-use Rattle.vx_types.specs.Fields.{field_type, project, first_unknown, fields_named}
+pub use Rattle.vx_fn.specs.Selections.{selection_names, is_inclusion}
+use Rattle.vx_fn.specs.Selections.{kept_names}
+use Rattle.vx_types.specs.Fields.{field_names, field_type, project, first_unknown, fields_named}
 
 -- how two operands are compared
 pub data Comparison : Type 0 where
@@ -183,20 +183,9 @@ abbrev pub item_type : Name → LogicalType → Typing
 item_type a (ty (struct fs) n) = found a n (field_type a fs)
 item_type a _ = Err NotAStruct
 
--- the names of a selection
-abbrev pub selection_names : FieldSelection → List Name
-selection_names (Include names) = names
-selection_names (Exclude names) = names
-
--- whether a selection names the fields that are kept
-abbrev pub is_inclusion : FieldSelection → Bool
-is_inclusion (Include names) = true
-is_inclusion (Exclude names) = false
-
--- the names as given, or those of the struct that aren't left out, in its order
+-- the names of the struct's fields that a selection keeps
 abbrev pub included : FieldSelection → Fields → List Name
-included (Include names) fs = names
-included (Exclude names) fs = names_without names fs
+included selection fs = kept_names selection (field_names fs)
 
 -- the fields of a selection, or the first of its names without a field
 abbrev pub selected : FieldSelection → Fields → Result Fields VortexError

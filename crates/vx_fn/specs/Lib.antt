@@ -1,6 +1,6 @@
+pub mod Selections
 pub mod Functions
 pub mod Memory
-pub mod Selections
 pub mod ChildNames
 pub mod Rows
 pub mod Values

@@ -1,13 +1,10 @@
 -- Which types of nodes are found without taking memory, and what a call says that takes none.
-use Rattle.std.specs.Prelude.{◌≡◌, Bool, true, false, Result, Ok, Err, MatchResult, IsTrue}
-use Rattle.vx_types.specs.declared.error.VortexError.{VortexError}
-use Rattle.vx_types.specs.declared.error.VortexError.TheVariants.{NoSuchField, BaseTypesDiffer}
+use Rattle.std.specs.Prelude.{Bool, true, false, Result, Ok, Err, IsTrue}
+use Rattle.vx_dtype.specs.declared.error.VortexError.{VortexError}
+use Rattle.vx_dtype.specs.declared.error.VortexError.TheVariants.{NoSuchField, BaseTypesDiffer}
+use Rattle.vx_types.specs.Answers.{Exactly}
 use Rattle.vx_types.specs.Types.{LogicalType}
-use Rattle.vx_fn.specs.Functions.{Function, case_when, zip, binary, negation, between, like, is_null, is_not_null, Typing}
-
--- the call gave just what is said, seen by view, or its refusal
-abbrev pub Exactly : {A B : Type 0} → (A → B) → Result A VortexError → Result B VortexError → Type 0
-Exactly view result said = MatchResult result (λ x. said ≡ Ok (view x)) (λ e. said ≡ Err e)
+use Rattle.vx_fn.specs.Functions.{Function, case_when, binary, negation, between, like, is_null, is_not_null, Typing}
 
 -- whether a node's type is a truth type or a number type, which is made without a copy
 abbrev pub is_typed_in_place : Function → Bool
@@ -19,11 +16,11 @@ is_typed_in_place is_null = true
 is_typed_in_place is_not_null = true
 is_typed_in_place _ = false
 
--- whether the function refuses so before anything is copied
+-- whether the function refuses so before anything is copied: not where the refusal carries a copy of a name, nor
+-- where a CASE finds a branch of another type, since the branches before it are joined by then
 abbrev pub is_early : Function → VortexError → Bool
 is_early f (NoSuchField a) = false
 is_early (case_when pairs has_else) BaseTypesDiffer = false
-is_early zip BaseTypesDiffer = false
 is_early f e = true
 
 -- whether the function's answer is such a refusal

@@ -4,7 +4,7 @@ use Rattle.std.specs.List.{list_all}
 use Rattle.vx_types.specs.Types.{Name, same_ptype, Atomic, truth, number, text, same_atomic, LogicalType, ty, Shape, atomic, struct, Fields, Datum, is_nullable, with_nullability}
 use Rattle.vx_types.specs.Joins.{same_base, join, union_all}
 use Rattle.vx_types.specs.Fields.{field_type, project, first_unknown, fields_named}
-use Rattle.vx_types.specs.declared.dtype.PType.{PType}
+use Rattle.vx_dtype.specs.declared.dtype.PType.{PType}
 use Rattle.vx_fn.specs.Functions.{Function, case_when, get_item, literal, pack, select, fill_null, zip, binary, negation, between, like, is_null, is_not_null, mask, cast, compares, and_also, or_else, adds, Comparison, selection_names, included, case_children, conditions, branches, is_truth}
 use Rattle.vx_fn.specs.declared.options.FieldSelection.{FieldSelection}
 

@@ -1,10 +1,10 @@
 // The number of a function's children, and the type of a node over their types.
 ghost use Rattle.std.specs.Prelude.{◌≡◌, ◌≢◌, ℕ, map, length, IsTrue, IfOk, IsErrOf};
-ghost use Rattle.vx_types.specs.Answers.{Answers};
+ghost use Rattle.vx_types.specs.Answers.{Answers, Exactly};
 ghost use Rattle.vx_types.specs.Views.{type_of};
-ghost use Rattle.vx_types.specs.declared.error.VortexError.TheVariants.{ArityMismatch};
+ghost use Rattle.vx_dtype.specs.declared.error.VortexError.TheVariants.{ArityMismatch};
 ghost use Rattle.vx_fn.specs.Functions.{fn_type, arity_of, HasFittingLiteral};
-ghost use Rattle.vx_fn.specs.Memory.{Exactly, RefusesEarly, is_typed_in_place};
+ghost use Rattle.vx_fn.specs.Memory.{RefusesEarly, is_typed_in_place};
 ghost use Rattle.vx_fn.specs.Views.{function_of};
 
 mod case;
@@ -63,7 +63,7 @@ impl ScalarFnRef {
     ///
     /// `OutOfMemory` (1) comes only where something is copied: never for `Binary`, `Not`,
     /// `Between`, `Like`, `IsNull` and `IsNotNull`, and in place of another refusal only where that
-    /// is `NoSuchField`, or `BaseTypesDiffer` of `CaseWhen` or `Zip`.
+    /// is `NoSuchField`, or `BaseTypesDiffer` of `CaseWhen`.
     pub fn return_dtype(&self, alloc: Global, types: &[DType]) -> VortexResult<DType>
         ensures typed { Answers type_of result (fn_type (function_of self.now) (map type_of types.now)) }
         ensures literal { IfOk result (λ _. HasFittingLiteral (function_of self.now)) }

@@ -3,7 +3,7 @@ use Rattle.std.proofs.Common.{◌≡◌, List, [], ◌∷◌, map, refl, subst, 
 use Rattle.std.specs.Option.{option_map}
 use Rattle.std.specs.Prelude.{ℕ, suc}
 use Rattle.std.proofs.lemmas.Bool.{and_parts}
-use Rattle.vx_types.specs.declared.error.VortexError.{VortexError}
+use Rattle.vx_dtype.specs.declared.error.VortexError.{VortexError}
 use Rattle.vx_types.specs.Answers.{Answers}
 use Rattle.vx_types.specs.Columns.{first_misfit}
 use Rattle.vx_types.specs.Fits.{fits, Fits, IsBatch}

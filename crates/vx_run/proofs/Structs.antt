@@ -8,10 +8,10 @@ use Rattle.vx_types.specs.declared.value.Value.{Value, Struct, Null, the_lemmas}
 use Rattle.vx_types.specs.Fields.{field_value, field_type, field_names, field_count, data_of}
 use Rattle.vx_types.specs.Types.{Name, LogicalType, Datum, null, struct_of, Data, no_datum, datum, Fields, no_field, field, ty, struct}
 use Rattle.vx_types.specs.Views.{value_of, type_of, fields_of, admits_null}
-use Rattle.vx_types.specs.declared.dtype.DType.{DType, the_lemmas as the_types}
-use Rattle.vx_types.specs.declared.dtype.DType as program
-use Rattle.vx_types.specs.declared.dtype.StructFields.{StructFields}
-use Rattle.vx_types.specs.declared.dtype.Nullability.{Nullability}
+use Rattle.vx_dtype.specs.declared.dtype.DType.{DType, the_lemmas as the_types}
+use Rattle.vx_dtype.specs.declared.dtype.DType as program
+use Rattle.vx_dtype.specs.declared.dtype.StructFields.{StructFields}
+use Rattle.vx_dtype.specs.declared.dtype.Nullability.{Nullability}
 use Rattle.vx_fn.specs.Functions.{item_type, found}
 use Rattle.vx_fn.specs.Values.{item_value}
 use Rattle.vx_fn.specs.Faults.{IsIn}

@@ -5,8 +5,8 @@ use Rattle.std.proofs.lemmas.List.{length-map, get_or-map, ext_get_or, map-id}
 use Rattle.std.proofs.lemmas.List.FromFn.{length-map-range_with_len, get_or-map-range_with_len}
 use Rattle.std.specs.declared.alloc.Global.{Global}
 use Rattle.std.specs.declared.rc.Rc.{Rc}
-use Rattle.vx_types.specs.declared.dtype.DType.{DType}
-use Rattle.vx_types.specs.declared.error.VortexError.{VortexError}
+use Rattle.vx_dtype.specs.declared.dtype.DType.{DType}
+use Rattle.vx_dtype.specs.declared.error.VortexError.{VortexError}
 use Rattle.vx_types.specs.declared.value.Value.{Value}
 use Rattle.vx_types.specs.Answers.{Answers}
 use Rattle.vx_types.specs.Types.{Name, LogicalType, Datum, null}

@@ -1,7 +1,7 @@
 -- What a bound tree gives over a batch.
 use Rattle.std.specs.Prelude.{List, [], ◌∷◌, ◌++◌, map, Bool, true, false, Result, Ok, Err, IsTrue}
 use Rattle.std.specs.declared.cmp.Ordering.{Ordering}
-use Rattle.vx_types.specs.declared.error.VortexError.{VortexError}
+use Rattle.vx_dtype.specs.declared.error.VortexError.{VortexError}
 use Rattle.vx_types.specs.Columns.{Batch, batch}
 use Rattle.vx_types.specs.Types.{Datum}
 use Rattle.vx_fn.specs.Functions.{Function, get_item, literal, binary, Operation, compares, and_also}

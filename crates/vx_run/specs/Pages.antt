@@ -1,6 +1,6 @@
 -- The page of a row: an expression's text, its type, and its result over a batch.
 use Rattle.std.specs.Prelude.{◌≡◌, ℕ, List, [], ◌++◌, Result, Ok, Err, map, codes}
-use Rattle.vx_types.specs.declared.error.VortexError.{VortexError}
+use Rattle.vx_dtype.specs.declared.error.VortexError.{VortexError}
 use Rattle.vx_types.specs.Columns.{Batch}
 use Rattle.vx_types.specs.Texts.{type_text}
 use Rattle.vx_types.specs.Types.{LogicalType}

@@ -1,6 +1,6 @@
 -- Binding gives the type of the tree, over the scope, and keeps the tree; it refuses where typing does.
 use Rattle.std.proofs.Common.{◌≡◌, inl, inr, ⊎_elim, List, ◌∷◌, Result, Ok, Err, refl, ap, subst, ◌∙◌, IfOk}
-use Rattle.vx_types.specs.declared.error.VortexError.{VortexError}
+use Rattle.vx_dtype.specs.declared.error.VortexError.{VortexError}
 use Rattle.vx_types.specs.Answers.{Answers}
 use Rattle.vx_types.specs.Types.{LogicalType}
 use Rattle.vx_fn.specs.Functions.{Function, Typing, fn_type}

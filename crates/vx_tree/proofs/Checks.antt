@@ -1,13 +1,13 @@
 -- The test that a bound tree is well typed decides whether it is.
-use Rattle.std.proofs.Common.{◌≡◌, ◌↔◌, ◌⊎◌, inl, inr, refl, Bool, true, false, Result, Ok, Err, IsTrue, IsErr, MatchResult}
+use Rattle.std.proofs.Common.{◌≡◌, ◌↔◌, inl, inr, refl, Bool, Result, Ok, Err, IsTrue, MatchResult}
 use Rattle.std.specs.Bool.{Decides}
 use Rattle.std.proofs.lemmas.Bool.Decides.{Decides-and, Decides-like}
-use Rattle.vx_types.specs.declared.error.VortexError.{VortexError}
-use Rattle.vx_types.specs.declared.error.VortexError.TheVariants.{OutOfMemory}
+use Rattle.vx_dtype.specs.declared.error.VortexError.{VortexError}
+use Rattle.vx_dtype.specs.declared.error.VortexError.TheVariants.{OutOfMemory}
 use Rattle.vx_types.specs.Answers.{Answers}
-use Rattle.vx_types.specs.Equality.{apart, itself, equal_type-Decides}
+use Rattle.vx_types.specs.Equality.{apart, equal_type-Decides}
 use Rattle.vx_types.specs.Types.{LogicalType}
-use Rattle.vx_fn.specs.Functions.{Function, case_when, get_item, literal, pack, select, fill_null, zip, binary, negation, between, like, is_null, is_not_null, mask, cast, HasFittingLiteral, Typing, fn_type}
+use Rattle.vx_fn.specs.Functions.{Function, literal, HasFittingLiteral, Typing, fn_type}
 use Rattle.vx_tree.specs.Checked.{is_given, has_fitting_literal, is_well_typed, are_well_typed}
 use Rattle.vx_tree.specs.Trees.{BoundTree, scope, node, BoundTrees, no_bound, bound, node_types, WellTyped, EachWellTyped}
 

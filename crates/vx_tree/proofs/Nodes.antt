@@ -1,9 +1,9 @@
 -- Lists of expressions seen as trees: how many there are, which is where, and what other children give.
 use Rattle.std.proofs.Common.{◌≡◌, ◌≢◌, ℕ, zero, suc, ◌<◌, Bool, true, false, ◌&&◌, List, [], ◌∷◌, length, get_or, map, Some, Result, Ok, Err, refl, sym, ap, subst, ◌∙◌, arith}
-use Rattle.std.specs.Prelude.{Option, None, option_map, IfErr, IfSome, ◌==◌, if◌then◌else◌}
+use Rattle.std.specs.Prelude.{Option, None, option_map, IsErr, IfSome, ◌==◌, if◌then◌else◌}
 use Rattle.std.proofs.lemmas.Bool.Decides.{nat_tests}
-use Rattle.vx_types.specs.declared.error.VortexError.{VortexError}
-use Rattle.vx_types.specs.declared.error.VortexError.TheVariants.{ArityMismatch, RootChildren}
+use Rattle.vx_dtype.specs.declared.error.VortexError.{VortexError}
+use Rattle.vx_dtype.specs.declared.error.VortexError.TheVariants.{ArityMismatch, RootChildren}
 use Rattle.vx_types.specs.Types.{LogicalType}
 use Rattle.vx_fn.specs.Functions.{Function, case_when, get_item, literal, pack, select, fill_null, zip, binary, negation, between, like, is_null, is_not_null, mask, cast, Typing, fn_type, arity_of, of_one, of_two, of_three, of_many, case_children, case_type, pack_type}
 use Rattle.vx_tree.specs.declared.expression.Expression.{Expression}
@@ -11,7 +11,7 @@ use Rattle.vx_tree.specs.declared.bound.BoundExpression.{BoundExpression}
 use Rattle.vx_tree.specs.Binding.{node_over}
 use Rattle.vx_tree.specs.Equality.{equal_tree, equal_trees, equal_bound, equal_bounds}
 use Rattle.vx_tree.specs.Nodes.{children_of, count_of, tree_at, call_over, tree_over, bound_children_of, bound_count_of, bound_at, bound_over, number_refusal}
-use Rattle.vx_tree.specs.Trees.{Tree, root, call, no_tree, tree, BoundTree, scope, node, BoundTrees, no_bound, bound, unbound, unbound_each, node_types, on_ok}
+use Rattle.vx_tree.specs.Trees.{Tree, root, call, tree, BoundTree, scope, node, BoundTrees, no_bound, bound, unbound, unbound_each, node_types, on_ok}
 use Rattle.vx_tree.specs.Views.{trees_from, tree_of, trees_of, bound_of, bounds_of}
 
 -- ---- lists of expressions
@@ -24,10 +24,6 @@ pub tree_at-trees_of : (es : List Expression) (i : ℕ) (d : Expression) → i <
 tree_at-trees_of [] i d h = absurd (omega arith)
 tree_at-trees_of (e ∷ es) zero d h = refl
 tree_at-trees_of (e ∷ es) (suc i) d h = tree_at-trees_of es i d (omega arith)
-
-pub none_of-trees_of : (es : List Expression) → trees_of es ≡ no_tree → length es ≡ 0
-none_of-trees_of [] h = refl
-none_of-trees_of (e ∷ es) h = cc
 
 and_false : (b : Bool) → (b && false) ≡ false
 and_false true = refl
@@ -139,11 +135,9 @@ number_refusal-scope b t (x ∷ bs) k is q h = ap (λ d. number_refusal d (bound
 
 -- ---- what is said, where it is known
 
-pub IfErr-err : {A B : Type 0} (said : Result A VortexError) (x : VortexError) (r : Result B VortexError) → said ≡ Err x → r ≡ Err x → IfErr said (λ e. r ≡ Err e)
-IfErr-err said x r h q = subst (λ s. IfErr s (λ e. r ≡ Err e)) (sym h) q
-
-pub IfErr-ok : {A B : Type 0} (said : Result A VortexError) (y : A) (r : Result B VortexError) → said ≡ Ok y → IfErr said (λ e. r ≡ Err e)
-IfErr-ok said y r h = subst (λ s. IfErr s (λ e. r ≡ Err e)) (sym h) tt
+-- what is said to be there is no refusal
+pub no_refusal : {A : Type 0} {P : Type 0} (said : Result A VortexError) (y : A) → said ≡ Ok y → IsErr said → P
+no_refusal said y h e = cc
 
 pub IfSome-err : {B : Type 0} (said : Option VortexError) (x : VortexError) (r : Result B VortexError) → said ≡ Some x → r ≡ Err x → IfSome said (λ e. r ≡ Err e)
 IfSome-err said x r h q = subst (λ s. IfSome s (λ e. r ≡ Err e)) (sym h) q

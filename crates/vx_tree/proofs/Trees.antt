@@ -10,8 +10,8 @@ use Rattle.vx_types.specs.Types.{LogicalType, Datum, is_null_datum}
 use Rattle.vx_types.specs.Fits.{Fits, EachFits, none_fit, more_fit}
 use Rattle.vx_fn.specs.Functions.{Function, binary, adds, cast, fill_null}
 use Rattle.vx_tree.specs.Meaning.{value, values}
-use Rattle.vx_types.specs.declared.error.VortexError.{VortexError}
-use Rattle.vx_types.specs.declared.error.VortexError.TheVariants.{AddOverflow, CastNull}
+use Rattle.vx_dtype.specs.declared.error.VortexError.{VortexError}
+use Rattle.vx_dtype.specs.declared.error.VortexError.TheVariants.{AddOverflow, CastNull}
 use Rattle.vx_fn.specs.Faults.{overflows, misfits, fill_of, when, node_fault, IsIn}
 use Rattle.vx_tree.specs.Faults.{each_fault, HasNoFault}
 use Rattle.vx_tree.specs.Trees.{BoundTree, scope, node, BoundTrees, no_bound, bound, node_type, node_types, WellTyped, EachWellTyped, Over, EachOver}

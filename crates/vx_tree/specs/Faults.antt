@@ -2,7 +2,7 @@
 use Rattle.std.specs.Prelude.{◌≡◌, List, Option, None, map}
 use Rattle.std.specs.Option.{option_or}
 use Rattle.vx_types.specs.Types.{Datum}
-use Rattle.vx_types.specs.declared.error.VortexError.{VortexError}
+use Rattle.vx_dtype.specs.declared.error.VortexError.{VortexError}
 use Rattle.vx_fn.specs.Faults.{node_fault}
 use Rattle.vx_tree.specs.Meaning.{values}
 use Rattle.vx_tree.specs.Trees.{BoundTree, scope, node, BoundTrees, no_bound, bound, node_types}

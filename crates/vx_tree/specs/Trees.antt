@@ -2,7 +2,7 @@
 use Rattle.std.specs.Prelude.{◌≡◌, List, [], ◌∷◌, Result, Ok, Err}
 use Rattle.vx_types.specs.Types.{LogicalType}
 use Rattle.vx_fn.specs.Functions.{Function, HasFittingLiteral, Typing, fn_type}
-use Rattle.vx_types.specs.declared.error.VortexError.{VortexError}
+use Rattle.vx_dtype.specs.declared.error.VortexError.{VortexError}
 
 -- a tree is the scope's row, or a function over trees
 mutual

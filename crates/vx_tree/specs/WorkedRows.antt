@@ -1,20 +1,19 @@
 -- The worked rows of docs/ROWS.md as theorems about the definitions alone; each is proved by computing it.
-use Rattle.std.specs.Prelude.{◌≡◌, ℕ, Bool, true, false, List, [], ◌∷◌, ℤ, pos, negsuc, Option, Some, None, Result, Ok, Err, codes, map}
-use Rattle.vx_types.specs.declared.dtype.PType.{PType}
-use Rattle.vx_types.specs.declared.dtype.PType.TheVariants.{I8, I32, U16, U64}
-use Rattle.vx_types.specs.declared.error.VortexError.{VortexError}
-use Rattle.vx_types.specs.declared.error.VortexError.TheVariants.{ArityMismatch, NoSuchField, BaseTypesDiffer, NotBool, NoPairs, AddOverflow, BadFill}
-use Rattle.vx_types.specs.Types.{Name, truth, number, text, LogicalType, ty, atomic, struct, Fields, no_field, field, Datum, null, bool, int, utf8, struct_of, no_datum, datum}
+use Rattle.std.specs.Prelude.{◌≡◌, ℕ, Bool, true, false, List, [], ◌∷◌, Option, Some, None, Result, Ok, Err, codes, map}
+use Rattle.vx_dtype.specs.declared.dtype.PType.TheVariants.{I8, U64}
+use Rattle.vx_dtype.specs.declared.error.VortexError.{VortexError}
+use Rattle.vx_dtype.specs.declared.error.VortexError.TheVariants.{ArityMismatch, NoSuchField, BaseTypesDiffer, NotBool, NoPairs, AddOverflow, BadFill}
+use Rattle.vx_types.specs.Types.{truth, number, LogicalType, ty, atomic, struct, no_field, field, Datum, null, bool, utf8, struct_of, no_datum}
 use Rattle.vx_types.specs.Columns.{first_misfit}
 use Rattle.vx_fn.specs.declared.options.FieldSelection.TheVariants.{Include, Exclude}
-use Rattle.vx_fn.specs.Functions.{Function, case_when, get_item, literal, pack, select, fill_null, zip, binary, between, like, is_null, compares, and_also, adds, equal, above, at_least, at_most}
+use Rattle.vx_fn.specs.Functions.{case_when, get_item, pack, select, fill_null, zip, between, like, is_null, compares, and_also, adds, equal, above, at_least, at_most}
 use Rattle.vx_tree.specs.Examples.{i8, i32, i32_or_null, bool_or_null, utf8_type, struct_type, with_x, row_of, row_of_two, number_of, one, two, three, col, x, lit, lit_i32, lit_text, operated}
 use Rattle.vx_tree.specs.Harness.{harness_type}
 use Rattle.vx_tree.specs.Binding.{binding}
 use Rattle.vx_tree.specs.Faults.{first_fault}
 use Rattle.vx_tree.specs.Meaning.{mean}
 use Rattle.vx_tree.specs.Texts.{sql}
-use Rattle.vx_tree.specs.Trees.{Tree, root, call, Trees, no_tree, tree, BoundTree, typed}
+use Rattle.vx_tree.specs.Trees.{Tree, root, call, no_tree, tree, BoundTree, typed}
 
 -- ---- what a row says
 

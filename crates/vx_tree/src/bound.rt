@@ -1,13 +1,13 @@
 // Expressions bound to a scope: each node has its type.
-ghost use Rattle.std.specs.Prelude.{◌≡◌, ◌≢◌, ℕ, length, IfOk, IfSome, IsOk, IsErrOf, IsTrue, Ok, map};
-ghost use Rattle.vx_types.specs.Answers.{Answers};
+ghost use Rattle.std.specs.Prelude.{◌≡◌, ◌≢◌, ℕ, length, IfOk, IfSome, IsErrOf, IsTrue, Ok, map};
+ghost use Rattle.vx_types.specs.Answers.{Answers, Exactly};
 ghost use Rattle.vx_types.specs.Views.{type_of};
-ghost use Rattle.vx_types.specs.declared.error.VortexError.TheVariants.{ArityMismatch};
+ghost use Rattle.vx_dtype.specs.declared.error.VortexError.TheVariants.{ArityMismatch};
 ghost use Rattle.vx_fn.specs.Functions.{arity_of};
 ghost use Rattle.vx_fn.specs.Views.{function_of};
 ghost use Rattle.vx_tree.specs.Binding.{node_over};
 ghost use Rattle.vx_tree.specs.Nodes.{bound_over, bound_children_of, is_root, number_refusal};
-ghost use Rattle.vx_tree.specs.Trees.{scope, no_bound, unbound, node_type, node_types, WellTyped, EachWellTyped};
+ghost use Rattle.vx_tree.specs.Trees.{scope, unbound, node_type, node_types, WellTyped, EachWellTyped};
 ghost use Rattle.vx_tree.specs.Views.{bound_of, bounds_of};
 
 use std::alloc::{AllocError, Global};
@@ -119,7 +119,8 @@ impl BoundExpression {
         ensures same { WellTyped (bound_of self) → bounds_of children.items ≡ bound_children_of (bound_of self) →
             Answers bound_of result (Ok (bound_of self)) }
         ensures number { IfSome (number_refusal (bound_of self) (bounds_of children.items)) (λ e. result ≡ Err e) }
-        ensures root { IsTrue (is_root (unbound (bound_of self))) → bounds_of children.items ≡ no_bound → IsOk result }
+        ensures root { IsTrue (is_root (unbound (bound_of self))) →
+            Exactly bound_of result (bound_over (bound_of self) (bounds_of children.items)) }
     {
         match self {
             BoundExpression::Root { dtype } => {

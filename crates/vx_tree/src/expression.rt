@@ -1,9 +1,9 @@
 // Expressions that aren't bound to a scope.
-ghost use Rattle.std.specs.Prelude.{◌≡◌, ℕ, IfErr, IfOk, IsOk, Ok};
-ghost use Rattle.vx_types.specs.Answers.{Answers};
+ghost use Rattle.std.specs.Prelude.{◌≡◌, ℕ, IfOk, IsErr, Ok};
+ghost use Rattle.vx_types.specs.Answers.{Answers, Exactly};
 ghost use Rattle.vx_fn.specs.Views.{function_of};
 ghost use Rattle.vx_tree.specs.Nodes.{call_over, tree_over};
-ghost use Rattle.vx_tree.specs.Trees.{root, no_tree};
+ghost use Rattle.vx_tree.specs.Trees.{root};
 ghost use Rattle.vx_tree.specs.Views.{tree_of, trees_of};
 
 use std::alloc::{AllocError, Global};
@@ -52,7 +52,8 @@ impl Expression {
         children: Vec<Expression>,
     ) -> VortexResult<Expression>
         ensures node { Answers tree_of result (call_over (function_of scalar_fn) (trees_of children.items)) }
-        ensures refusal { IfErr (call_over (function_of scalar_fn) (trees_of children.items)) (λ e. result ≡ Err e) }
+        ensures refusal { IsErr (call_over (function_of scalar_fn) (trees_of children.items)) →
+            Exactly tree_of result (call_over (function_of scalar_fn) (trees_of children.items)) }
     {
         let expected = scalar_fn.arity();
         let got = children.len();
@@ -72,8 +73,9 @@ impl Expression {
     /// memory, and neither does the scope root over none, which stays itself.
     pub fn with_children(self, alloc: Global, children: Vec<Expression>) -> VortexResult<Expression>
         ensures node { Answers tree_of result (tree_over (tree_of self) (trees_of children.items)) }
-        ensures refusal { IfErr (tree_over (tree_of self) (trees_of children.items)) (λ e. result ≡ Err e) }
-        ensures root { tree_of self ≡ root → trees_of children.items ≡ no_tree → IsOk result }
+        ensures refusal { IsErr (tree_over (tree_of self) (trees_of children.items)) →
+            Exactly tree_of result (tree_over (tree_of self) (trees_of children.items)) }
+        ensures root { tree_of self ≡ root → Exactly tree_of result (tree_over (tree_of self) (trees_of children.items)) }
     {
         match self {
             Expression::Root => {

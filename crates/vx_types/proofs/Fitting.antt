@@ -1,23 +1,14 @@
 -- Which values fit a type made from others.
-use Rattle.std.proofs.Common.{◌≡◌, List, [], ◌∷◌, length, refl, ap, subst, Bool, true, false, ◌||◌, arith}
-use Rattle.std.specs.Prelude.{Option, Some, None, if◌then◌else◌, is_some, option_and_then, filter, cond}
-use Rattle.std.proofs.lemmas.Bool.{and_parts, and_from, eqb-true}
-use Rattle.std.proofs.lemmas.Slice.Eq.{bytes_eq-Decides}
+use Rattle.std.proofs.Common.{◌≡◌, List, [], ◌∷◌, length, refl, subst, Bool, true, false, arith}
+use Rattle.std.specs.Prelude.{Option, Some, None, if◌then◌else◌, is_some, option_and_then}
+use Rattle.std.proofs.lemmas.Bool.{and_parts, and_from, eqb-true, or_left, or_right}
+use Rattle.vx_dtype.proofs.Known.{known_first}
+use Rattle.vx_dtype.proofs.Unions.{same_atomic-eq}
 use Rattle.std.specs.Str.{bytes_eq}
-use Rattle.vx_types.specs.Types.{Name, same_ptype, Atomic, truth, number, text, octets, same_atomic, LogicalType, ty, Shape, atomic, list, fixed, struct, Fields, no_field, field, Datum, null, bool, int, utf8, bytes, list_of, struct_of, Data, no_datum, datum, with_nullability, is_null_datum}
+use Rattle.vx_types.specs.Types.{Name, truth, number, text, octets, LogicalType, ty, Shape, atomic, list, fixed, struct, Fields, no_field, field, Datum, null, bool, int, utf8, bytes, list_of, struct_of, Data, no_datum, datum, with_nullability, is_null_datum}
 use Rattle.vx_types.specs.Fits.{fits, each_fits, fields_fit, Fits, EachFits, none_fit, more_fit}
 use Rattle.vx_types.specs.Joins.{same_base, same_base_fields, join, join_fields, union_all}
-use Rattle.vx_types.specs.Fields.{field_type, field_value, field_names, project, project_values, put_field, first_unknown, fields_named, data_of}
-use Rattle.vx_types.specs.declared.dtype.PType.{PType}
-use Rattle.vx_types.specs.declared.dtype.PType.TheVariants.{U8, U16, U32, U64, I8, I16, I32, I64}
-
-pub or_left : (a b : Bool) → a ≡ true → (a || b) ≡ true
-or_left true b e = refl
-or_left false b e = cc
-
-pub or_right : (a b : Bool) → b ≡ true → (a || b) ≡ true
-or_right true b e = refl
-or_right false b e = e
+use Rattle.vx_types.specs.Fields.{field_type, field_value, project, project_values, put_field, first_unknown, fields_named, data_of}
 
 -- ---- nullability
 
@@ -48,24 +39,6 @@ pub fits-nullable : (v : Datum) (t : LogicalType) → Fits v t → Fits v (with_
 fits-nullable v (ty s n) e = fits-wider v s n true (λ _. refl) e
 
 -- ---- the union
-
-pub same_ptype-eq : (p q : PType) → same_ptype p q ≡ true → p ≡ q
-same_ptype-eq U8 U8 e = refl
-same_ptype-eq U16 U16 e = refl
-same_ptype-eq U32 U32 e = refl
-same_ptype-eq U64 U64 e = refl
-same_ptype-eq I8 I8 e = refl
-same_ptype-eq I16 I16 e = refl
-same_ptype-eq I32 I32 e = refl
-same_ptype-eq I64 I64 e = refl
-same_ptype-eq _ _ e = cc
-
-pub same_atomic-eq : (p q : Atomic) → same_atomic p q ≡ true → p ≡ q
-same_atomic-eq truth truth e = refl
-same_atomic-eq (number p) (number q) e = ap number (same_ptype-eq p q e)
-same_atomic-eq text text e = refl
-same_atomic-eq octets octets e = refl
-same_atomic-eq _ _ e = cc
 
 mutual
   pub join-fits-left : (v : Datum) (t u : LogicalType) → same_base t u ≡ true → Fits v t → Fits v (join t u)
@@ -156,10 +129,6 @@ field_value-fits a (field b u fs) (datum v vs) t e h = let k = and_parts _ _ h i
     go true q f k = let r : u ≡ t = cc in subst (Fits v) r f
     go false q f k = k q
 
-known_first : (a : Name) (names : List Name) (fs : Fields) (c : Bool) → is_some (field_type a fs) ≡ c → (if c then first_unknown names fs else Some a) ≡ None → (is_some (field_type a fs) ≡ true) × (first_unknown names fs ≡ None)
-known_first a names fs true q e = (q, e)
-known_first a names fs false q e = cc
-
 pub project-fits : (names : List Name) (fs : Fields) (vs : Data) → first_unknown names fs ≡ None → fields_fit vs fs ≡ true → fields_fit (project_values names fs vs) (project names fs) ≡ true
 project-fits [] fs vs e h = refl
 project-fits (a ∷ names) fs vs e h =
@@ -169,32 +138,6 @@ project-fits (a ∷ names) fs vs e h =
     go : (o : Option LogicalType) → field_type a fs ≡ o → is_some o ≡ true → fields_fit (project_values names fs vs) (project names fs) ≡ true → fields_fit (datum (field_value a fs vs) (project_values names fs vs)) (put_field a o (project names fs)) ≡ true
     go None q s r = cc
     go (Some t) q s r = and_from _ _ (field_value-fits a fs vs t q h) r
-
-pub first_unknown-filter : (p : Name → Bool) (names : List Name) (fs : Fields) → first_unknown names fs ≡ None → first_unknown (filter p names) fs ≡ None
-first_unknown-filter p [] fs e = refl
-first_unknown-filter p (a ∷ names) fs e =
-    let k = known_first a names fs _ refl e in
-    go (p a) k.0 (first_unknown-filter p names fs k.1)
-  where
-    go : (c : Bool) → is_some (field_type a fs) ≡ true → first_unknown (filter p names) fs ≡ None → first_unknown (cond c (a ∷ filter p names) (filter p names)) fs ≡ None
-    go true s r = rw s r
-    go false s r = r
-
-first_unknown-more : (names : List Name) (b : Name) (t : LogicalType) (fs : Fields) → first_unknown names fs ≡ None → first_unknown names (field b t fs) ≡ None
-first_unknown-more [] b t fs e = refl
-first_unknown-more (a ∷ names) b t fs e =
-    let k = known_first a names fs _ refl e in
-    go (bytes_eq a b) k.0 (first_unknown-more names b t fs k.1)
-  where
-    go : (c : Bool) → is_some (field_type a fs) ≡ true → first_unknown names (field b t fs) ≡ None → (if is_some (if c then Some t else field_type a fs) then first_unknown names (field b t fs) else Some a) ≡ None
-    go true s r = r
-    go false s r = rw s r
-
-pub first_unknown-own : (fs : Fields) → first_unknown (field_names fs) fs ≡ None
-first_unknown-own no_field = refl
-first_unknown-own (field a t fs) =
-    let q : bytes_eq a a ≡ true = (bytes_eq-Decides a a).1 refl in
-    rw q (first_unknown-more (field_names fs) a t fs (first_unknown-own fs))
 
 pub pack-fits : (names : List Name) {ts : List LogicalType} {vs : List Datum} → length ts ≡ length names → EachFits vs ts → fields_fit (data_of vs) (fields_named names ts) ≡ true
 pack-fits [] e none_fit = refl

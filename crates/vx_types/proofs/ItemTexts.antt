@@ -1,13 +1,13 @@
 -- The texts of the values of a list and of a struct, one at a time.
 use Rattle.std.proofs.Common.{◌≡◌, ℕ, ◌+◌, ◌<◌, ◌≤◌, min, ◌⊎◌, inl, inr, ⊎_elim, List, [], ◌++◌, length, get_or, drop, drop-cons, drop_of_length-le, refl, sym, ap, ◌∙◌, add-one, append_assoc, append-nil, arith}
 use Rattle.std.proofs.lemmas.Bool.{cases_lt}
-use Rattle.vx_types.specs.declared.dtype.DType.{DType}
+use Rattle.vx_dtype.specs.declared.dtype.DType.{DType}
 use Rattle.vx_types.specs.declared.value.Value.{Value}
 use Rattle.vx_types.specs.Types.{Name, LogicalType, Data, no_datum, datum, no_field}
 use Rattle.vx_types.specs.Fields.{field_count}
 use Rattle.vx_types.specs.ValueTexts.{items_text, row_text, item_text, named_text}
 use Rattle.vx_types.specs.Views.{type_of, fields_view, value_of, data_view}
-use Rattle.vx_types.proofs.Pairs.{fields_next, fields_end}
+use Rattle.vx_dtype.proofs.Pairs.{fields_next, fields_end}
 
 data_next : (values : List Value) (i : ℕ) (v : Value) → i < length values → v ≡ get_or values i v → data_view (drop i values) ≡ datum (value_of v) (data_view (drop (i + 1) values))
 data_next values i v h p = rw (add-one, drop-cons values i v h, ← p)

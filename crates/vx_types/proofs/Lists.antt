@@ -1,16 +1,13 @@
 -- Lists of the program beside the mirror's own lists.
 use Rattle.std.proofs.Common.{◌≡◌, ◌≢◌, ℕ, suc, zero, ◌+◌, ◌<◌, Bool, true, false, Option, Some, None, option_map, List, [], ◌∷◌, length, get_or, refl, ap, arith}
-use Rattle.std.specs.Prelude.{◌&&◌, if◌then◌else◌}
+use Rattle.std.specs.Prelude.{if◌then◌else◌}
+use Rattle.std.proofs.Math.Bool.{and-false}
 use Rattle.vx_types.specs.declared.value.Value.{Value}
 use Rattle.vx_types.specs.Types.{LogicalType, Datum, Data, no_datum, datum}
 use Rattle.vx_types.specs.Fits.{count, fits, Fits}
 use Rattle.vx_types.specs.Columns.{first_misfit}
 use Rattle.vx_types.specs.Equality.{equal_data}
 use Rattle.vx_types.specs.Views.{data_view}
-
-pub and_false : (b : Bool) → b && false ≡ false
-and_false true = refl
-and_false false = refl
 
 pub count_view : (vs : List Value) → count (data_view vs) ≡ length vs
 count_view [] = refl
@@ -20,7 +17,7 @@ equal_data_count : (vs ws : Data) → count vs ≢ count ws → false ≡ equal_
 equal_data_count no_datum no_datum h = absurd (h refl)
 equal_data_count no_datum (datum w ws) h = refl
 equal_data_count (datum v vs) no_datum h = refl
-equal_data_count (datum v vs) (datum w ws) h = rw (← equal_data_count vs ws (λ e. h (ap (λ n. n + 1) e)), and_false)
+equal_data_count (datum v vs) (datum w ws) h = rw (← equal_data_count vs ws (λ e. h (ap (λ n. n + 1) e)), and-false)
 
 pub equal_data_counts : (vs ws : List Value) → length vs ≢ length ws → false ≡ equal_data (data_view vs) (data_view ws)
 equal_data_counts vs ws h = equal_data_count (data_view vs) (data_view ws) (λ e. h (rw (← count_view vs, e, count_view)))

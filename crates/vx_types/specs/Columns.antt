@@ -1,5 +1,5 @@
 -- What a scalar and a column stand for.
-use Rattle.std.specs.Prelude.{map, ◌≡◌, ℕ, suc, ℤ, ◌<◌, length, get_or, Bool, false, ◌&&◌, if◌then◌else◌, List, [], ◌∷◌, Option, Some, None, refl, ◌++◌}
+use Rattle.std.specs.Prelude.{map, ◌≡◌, ℕ, suc, ℤ, ◌<◌, length, get_or, Bool, false, ◌&&◌, if◌then◌else◌, List, [], ◌∷◌, Option, Some, None, Result, Ok, Err, refl, ◌++◌}
 use Rattle.std.specs.Bool.{Decides}
 use Rattle.std.specs.Option.{option_map}
 use Rattle.std.specs.Cmp.{IsEquivalence}
@@ -8,7 +8,9 @@ use Rattle.std.specs.Hash.{HashWrites, Alike, same_Alike}
 use Rattle.std.proofs.Common.{ap}
 use Rattle.std.proofs.lemmas.Bool.Decides.{Decides-and, Decides-like}
 use Rattle.vx_types.specs.Types.{truth, number, text, octets, LogicalType, ty, atomic, Datum, null, bool, int, utf8, bytes, struct_of}
-use Rattle.vx_types.specs.declared.dtype.PType.{PType}
+use Rattle.vx_dtype.specs.declared.dtype.PType.{PType}
+use Rattle.vx_dtype.specs.declared.error.VortexError.{VortexError}
+use Rattle.vx_dtype.specs.declared.error.VortexError.TheVariants.{RowMisfit}
 use Rattle.vx_types.specs.Fields.{data_of}
 use Rattle.vx_types.specs.Fits.{fits, Fits}
 use Rattle.vx_types.specs.Codes.{type_code, datum_code}
@@ -28,6 +30,10 @@ pub record Batch : Type 0 where
 -- this value of that type
 abbrev pub constant : LogicalType → Datum → Constant
 constant t v = record { type = t; value = v }
+
+-- this value of that type, or the refusal of row 0 where it is none of the type
+abbrev pub constant_or_misfit : LogicalType → Datum → Result Constant VortexError
+constant_or_misfit t v = if fits v t then Ok (constant t v) else Err (RowMisfit 0)
 
 -- the truth value, of a type without null
 abbrev pub truth_constant : Bool → Constant

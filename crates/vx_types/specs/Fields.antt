@@ -1,57 +1,18 @@
--- Fields of structs by name: the first field of a name is meant everywhere.
-use Rattle.std.specs.Prelude.{ℕ, ◌+◌, List, [], ◌∷◌, Option, Some, None, is_some, if◌then◌else◌, filter, not}
-use Rattle.std.specs.List.{list_any}
+-- Values of structs by name: as for the types, the first field of a name is meant everywhere.
+use Rattle.std.specs.Prelude.{List, [], ◌∷◌, if◌then◌else◌}
 use Rattle.std.specs.Str.{bytes_eq}
-use Rattle.vx_types.specs.Types.{Name, LogicalType, Fields, no_field, field, Datum, null, Data, no_datum, datum}
-
--- the type of the first field of that name
-abbrev pub field_type : Name → Fields → Option LogicalType
-field_type a no_field = None
-field_type a (field b t fs) = if bytes_eq a b then Some t else field_type a fs
+use Rattle.vx_types.specs.Types.{Name, Fields, field, Datum, null, Data, no_datum, datum}
+pub use Rattle.vx_dtype.specs.Fields.{field_type, field_names, is_among, names_without, field_count, put_field, project, first_unknown, fields_named}
 
 -- the value of the first field of that name
 abbrev pub field_value : Name → Fields → Data → Datum
 field_value a (field b t fs) (datum v vs) = if bytes_eq a b then v else field_value a fs vs
 field_value a _ _ = null
 
--- the names of the fields, in their order
-abbrev pub field_names : Fields → List Name
-field_names no_field = []
-field_names (field a t fs) = a ∷ field_names fs
-
--- the names of the fields but the given ones
-abbrev pub names_without : List Name → Fields → List Name
-names_without names fs = filter (λ b. not (list_any (bytes_eq b) names)) (field_names fs)
-
--- how many fields there are
-abbrev pub field_count : Fields → ℕ
-field_count no_field = 0
-field_count (field a t fs) = field_count fs + 1
-
--- the fields with another in front, if there is one
-abbrev pub put_field : Name → Option LogicalType → Fields → Fields
-put_field a None fs = fs
-put_field a (Some t) fs = field a t fs
-
--- for each name the first field of that name
-abbrev pub project : List Name → Fields → Fields
-project [] fs = no_field
-project (a ∷ names) fs = put_field a (field_type a fs) (project names fs)
-
 -- for each name the value of the first field of that name
 abbrev pub project_values : List Name → Fields → Data → Data
 project_values [] fs vs = no_datum
 project_values (a ∷ names) fs vs = datum (field_value a fs vs) (project_values names fs vs)
-
--- the first of the names that no field has
-abbrev pub first_unknown : List Name → Fields → Option Name
-first_unknown [] fs = None
-first_unknown (a ∷ names) fs = if is_some (field_type a fs) then first_unknown names fs else Some a
-
--- each name with the type beside it, as long as both last
-abbrev pub fields_named : List Name → List LogicalType → Fields
-fields_named (a ∷ names) (t ∷ ts) = field a t (fields_named names ts)
-fields_named _ _ = no_field
 
 -- the values one after another
 abbrev pub data_of : List Datum → Data

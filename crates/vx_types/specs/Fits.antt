@@ -1,7 +1,7 @@
 -- Which values are of a type.
 use Rattle.std.specs.Prelude.{ℕ, ◌+◌, ◌^◌, Bool, true, false, ◌&&◌, ◌==◌, List, [], ◌∷◌, ℤ, pos, negsuc, IsTrue, nat_lt}
 use Rattle.std.specs.List.{list_all}
-use Rattle.vx_types.specs.declared.dtype.PType.{PType}
+use Rattle.vx_dtype.specs.declared.dtype.PType.{PType}
 use Rattle.vx_types.specs.Types.{bits, is_signed, truth, number, text, octets, LogicalType, ty, atomic, list, fixed, struct, Fields, no_field, field, Datum, null, bool, int, utf8, bytes, list_of, struct_of, Data, no_datum, datum}
 
 -- whether the number lies in the range of the number type

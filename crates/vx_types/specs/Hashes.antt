@@ -1,33 +1,10 @@
--- What a type or a value feeds to a hasher, so that equal ones are hashed alike.
+-- What a value feeds to a hasher, so that equal ones are hashed alike.
 use Rattle.std.specs.Prelude.{◌++◌}
 use Rattle.std.specs.Hash.{HashWrites, Alike, same_Alike}
 use Rattle.std.specs.Hash as fed
-use Rattle.vx_types.specs.Types.{ptype_index, Atomic, truth, number, text, octets, LogicalType, ty, Shape, atomic, list, fixed, struct, Fields, no_field, field, Datum, null, bool, int, utf8, bytes, list_of, struct_of, Data, no_datum, datum}
-use Rattle.vx_types.specs.Equality.{equal_type, equal_type-Decides, equal_fields, equal_fields-Decides, equal_datum, equal_datum-Decides}
-
--- such a kind is hashed as its number and what it holds
-abbrev pub atomic_fed : Atomic → HashWrites
-atomic_fed truth = fed.u8 0
-atomic_fed (number p) = fed.u8 1 ++ fed.u8 (ptype_index p)
-atomic_fed text = fed.u8 2
-atomic_fed octets = fed.u8 3
-
--- a type is hashed as its nullability and then its shape
-abbrev mutual
-  pub type_fed : LogicalType → HashWrites
-  type_fed (ty s n) = fed.bool n ++ shape_fed s
-
-  -- a shape is hashed as its number and what it holds
-  pub shape_fed : Shape → HashWrites
-  shape_fed (atomic p) = atomic_fed p
-  shape_fed (list t) = fed.u8 4 ++ type_fed t
-  shape_fed (fixed t k) = fed.u8 5 ++ (fed.u32 k ++ type_fed t)
-  shape_fed (struct fs) = fed.u8 6 ++ fields_fed fs
-
-  -- fields are hashed one after another, each after a one, and a zero ends them
-  pub fields_fed : Fields → HashWrites
-  fields_fed no_field = fed.u8 0
-  fields_fed (field a t fs) = fed.u8 1 ++ (fed.str a ++ (type_fed t ++ fields_fed fs))
+use Rattle.vx_types.specs.Values.{Datum, null, bool, int, utf8, bytes, list_of, struct_of, Data, no_datum, datum}
+use Rattle.vx_types.specs.Equality.{equal_datum, equal_datum-Decides}
+pub use Rattle.vx_dtype.specs.Hashes.{atomic_fed, type_fed, shape_fed, fields_fed, type_alike, fields_alike}
 
 -- a value is hashed as its kind's number and what it holds
 abbrev mutual
@@ -44,14 +21,6 @@ abbrev mutual
   pub data_fed : Data → HashWrites
   data_fed no_datum = fed.u8 0
   data_fed (datum v vs) = fed.u8 1 ++ (datum_fed v ++ data_fed vs)
-
--- equal types are hashed alike
-pub type_alike : Alike equal_type type_fed
-type_alike = same_Alike type_fed equal_type-Decides
-
--- equal fields are hashed alike
-pub fields_alike : Alike equal_fields fields_fed
-fields_alike = same_Alike fields_fed equal_fields-Decides
 
 -- equal values are hashed alike
 pub datum_alike : Alike equal_datum datum_fed

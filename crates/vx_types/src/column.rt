@@ -6,7 +6,7 @@ ghost use Rattle.vx_types.specs.Columns.{Batch, batch, first_misfit, equal_batch
 ghost use Rattle.vx_types.specs.Types.{null};
 ghost use Rattle.vx_types.specs.Fits.{Fits};
 ghost use Rattle.vx_types.specs.Views.{type_of, value_of};
-ghost use Rattle.vx_types.specs.declared.error.VortexError.TheVariants.{RowMisfit};
+ghost use Rattle.vx_dtype.specs.declared.error.VortexError.TheVariants.{RowMisfit};
 
 use crate::value::equal_all;
 use crate::value_texts::write_items;

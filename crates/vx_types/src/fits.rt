@@ -1,26 +1,23 @@
 // Which values are of a type.
 ghost use Rattle.std.specs.Prelude.{◌≡◌, ℕ, ◌==◌};
 ghost use Rattle.vx_types.specs.Fits.{fits, each_fits, fields_fit, fits_ptype, count};
-ghost use Rattle.vx_types.specs.Views.{type_of, fields_view, value_of, data_view};
+ghost use Rattle.vx_types.specs.Views.{type_of, fields_of, value_of, data_view};
 
-use crate::fields::field_count;
-use crate::{DType, FieldName, PType, Value};
+use crate::{DType, PType, StructFields, Value};
 
-impl PType {
-    // Whether the number lies in the range of the type.
-    fn holds(self, i: i128) -> bool
-        ensures { result ≡ fits_ptype i self }
-    {
-        match self {
-            PType::U8 => 0 <= i && i < 256,
-            PType::U16 => 0 <= i && i < 65_536,
-            PType::U32 => 0 <= i && i < 4_294_967_296,
-            PType::U64 => 0 <= i && i < 18_446_744_073_709_551_616,
-            PType::I8 => -128 <= i && i < 128,
-            PType::I16 => -32_768 <= i && i < 32_768,
-            PType::I32 => -2_147_483_648 <= i && i < 2_147_483_648,
-            PType::I64 => -9_223_372_036_854_775_808 <= i && i < 9_223_372_036_854_775_808,
-        }
+// Whether the number lies in the range of the type.
+fn in_range(i: i128, p: PType) -> bool
+    ensures { result ≡ fits_ptype i p }
+{
+    match p {
+        PType::U8 => 0 <= i && i < 256,
+        PType::U16 => 0 <= i && i < 65_536,
+        PType::U32 => 0 <= i && i < 4_294_967_296,
+        PType::U64 => 0 <= i && i < 18_446_744_073_709_551_616,
+        PType::I8 => -128 <= i && i < 128,
+        PType::I16 => -32_768 <= i && i < 32_768,
+        PType::I32 => -2_147_483_648 <= i && i < 2_147_483_648,
+        PType::I64 => -9_223_372_036_854_775_808 <= i && i < 9_223_372_036_854_775_808,
     }
 }
 
@@ -45,7 +42,7 @@ fn value_fits(value: &Value, t: &DType) -> bool
             _ => false,
         },
         Value::Int(i) => match t {
-            DType::Primitive(p, _) => p.holds(*i),
+            DType::Primitive(p, _) => in_range(*i, *p),
             _ => false,
         },
         Value::Utf8(_) => match t {
@@ -63,11 +60,7 @@ fn value_fits(value: &Value, t: &DType) -> bool
             _ => false,
         },
         Value::Struct(items) => match t {
-            DType::Struct(fields, _) => fields_fit(
-                items.as_slice(),
-                fields.names.as_slice(),
-                fields.types.as_slice(),
-            ),
+            DType::Struct(fields, _) => fields_fit(items.as_slice(), fields),
             _ => false,
         },
     }
@@ -96,12 +89,13 @@ fn each_fits(values: &[Value], t: &DType) -> bool
 
 // Whether there are as many values as fields, each of its field's type.
 #[cycle(fits)]
-fn fields_fit(values: &[Value], names: &[FieldName], types: &[DType]) -> bool
-    ensures { result ≡ fields_fit (data_view values.now) (fields_view names.now types.now) }
+fn fields_fit(values: &[Value], fields: &StructFields) -> bool
+    ensures { result ≡ fields_fit (data_view values.now) (fields_of fields.now) }
 {
-    if values.len() != field_count(names, types) {
+    if values.len() != fields.nfields() {
         return false;
     }
+    let types = fields.types();
     for i in 0..values.len() {
         if !value_fits(&values[i], &types[i]) {
             return false;

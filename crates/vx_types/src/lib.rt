@@ -1,25 +1,16 @@
-// Types, values and columns.
+// Values, scalars and columns, over the types of the crate below, which is handed on.
 #![tactic(auto)]
 
 mod column;
-mod copied;
-mod dtype;
-mod equality;
-mod error;
-mod fields;
 mod fits;
-mod hashed;
-mod joins;
 pub mod laws;
-mod names;
 mod scalar;
-mod shown;
 mod value;
 mod value_texts;
 
 pub use column::Column;
-pub use dtype::{DType, Nullability, PType, StructFields};
-pub use error::{VortexError, VortexResult};
-pub use names::{FieldName, FieldNames};
 pub use scalar::Scalar;
 pub use value::Value;
+pub use vx_dtype::{
+    DType, FieldName, FieldNames, Nullability, PType, StructFields, VortexError, VortexResult,
+};

@@ -1,15 +1,13 @@
 // A value with its type.
-ghost use Rattle.std.specs.Prelude.{◌≡◌, Ok, IfOk, map, IsOkAnd, IsErrOf, IsTrue, pos};
-ghost use Rattle.std.specs.Bool.{MatchBool};
+ghost use Rattle.std.specs.Prelude.{◌≡◌, Ok, IfOk, map, IsTrue, pos};
 ghost use Rattle.std.specs.Cmp.{partial_equiv_from_equiv};
-ghost use Rattle.vx_types.specs.Answers.{Answers};
-ghost use Rattle.vx_types.specs.Columns.{Constant, struct_value, constant, truth_constant, number_constant, text_constant, octets_constant};
+ghost use Rattle.vx_types.specs.Answers.{Answers, Exactly};
+ghost use Rattle.vx_types.specs.Columns.{Constant, struct_value, constant, constant_or_misfit, truth_constant, number_constant, text_constant, octets_constant};
 ghost use Rattle.vx_types.specs.Columns.{equal_constant, equal_constant_equiv, constant_fed, constant_alike};
 ghost use Rattle.vx_types.specs.Types.{is_nullable, null, is_null_datum};
-ghost use Rattle.vx_types.specs.Fits.{fits, fits_ptype, Fits};
+ghost use Rattle.vx_types.specs.Fits.{fits_ptype, Fits};
 ghost use Rattle.vx_types.specs.Views.{type_of, value_of};
-ghost use Rattle.vx_types.specs.declared.dtype.PType.TheVariants.{U8, U16, U32, U64, I8, I16, I32, I64};
-ghost use Rattle.vx_types.specs.declared.error.VortexError.TheVariants.{RowMisfit};
+ghost use Rattle.vx_dtype.specs.declared.dtype.PType.TheVariants.{U8, U16, U32, U64, I8, I16, I32, I64};
 
 use crate::{DType, Nullability, PType, Value, VortexError, VortexResult};
 use std::alloc::{AllocError, Global};
@@ -40,9 +38,7 @@ impl Model for Scalar {
 impl Scalar {
     /// The value of that type. Refuses with `RowMisfit` (18) and row 0 where it is none of the type.
     pub fn try_new(dtype: DType, value: Value) -> VortexResult<Scalar>
-        ensures { MatchBool (fits (value_of value) (type_of dtype))
-            (IsOkAnd result (λ s. s ≡ constant (type_of dtype) (value_of value)))
-            (IsErrOf result (RowMisfit 0)) }
+        ensures { Exactly (λ s. s) result (constant_or_misfit (type_of dtype) (value_of value)) }
     {
         if value.fits(&dtype) {
             Ok(Scalar { dtype, value })

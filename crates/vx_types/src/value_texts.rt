@@ -3,13 +3,12 @@ ghost use Rattle.std.specs.Prelude.{◌≡◌, ℕ, Some, [], ◌∷◌};
 ghost use Rattle.std.specs.Fmt.{WritesOnOk};
 ghost use Rattle.std.specs.List.{flat_map};
 ghost use Rattle.vx_types.specs.ValueTexts.{value_text, items_text, row_text, item_text, named_text, hex_byte};
-ghost use Rattle.vx_types.specs.Views.{type_of, fields_view, value_of, data_view};
+ghost use Rattle.vx_types.specs.Views.{type_of, fields_of, value_of, data_view};
 
-use crate::fields::field_count;
-use crate::shown::separator;
-use crate::{DType, FieldName, Scalar, Value};
+use crate::{DType, FieldName, Scalar, StructFields, Value};
 use std::fmt;
 use std::fmt::{Display, Formatter, Write};
+use vx_dtype::separator;
 
 impl Display for Scalar {
     ghost output = { λ s. Some (value_text s.value s.type) };
@@ -76,12 +75,7 @@ fn write_value<W: Write>(value: &Value, t: &DType, f: &mut Formatter<W>) -> fmt:
         Value::Struct(items) => match t {
             DType::Struct(fields, _) => {
                 f.write_str("{")?;
-                write_row(
-                    fields.names.as_slice(),
-                    items.as_slice(),
-                    fields.types.as_slice(),
-                    f,
-                )?;
+                write_row(items.as_slice(), fields, f)?;
                 f.write_str("}")
             }
             _ => Ok(()),
@@ -115,15 +109,12 @@ fn write_item<W: Write>(i: usize, value: &Value, t: &DType, f: &mut Formatter<W>
 
 // Writes the values of a struct, each after its field's name.
 #[cycle(write)]
-fn write_row<W: Write>(
-    names: &[FieldName],
-    values: &[Value],
-    types: &[DType],
-    f: &mut Formatter<W>,
-) -> fmt::Result
-    ensures { WritesOnOk W.write_str_gives f.old result (row_text 0 (data_view values.now) (fields_view names.now types.now)) f.new }
+fn write_row<W: Write>(values: &[Value], fields: &StructFields, f: &mut Formatter<W>) -> fmt::Result
+    ensures { WritesOnOk W.write_str_gives f.old result (row_text 0 (data_view values.now) (fields_of fields.now)) f.new }
 {
-    for i in 0..values.len().min(field_count(names, types)) {
+    let names = fields.names().as_slice();
+    let types = fields.types();
+    for i in 0..values.len().min(fields.nfields()) {
         write_named(i, &names[i], &values[i], &types[i], f)?;
     }
     Ok(())

@@ -4,7 +4,7 @@ ghost use Rattle.std.proofs.Math.ListN.{replicate};
 ghost use Rattle.vx_types.specs.Answers.{Answers};
 ghost use Rattle.vx_types.specs.Types.{Datum, null};
 ghost use Rattle.vx_types.specs.Views.{value_of};
-ghost use Rattle.vx_types.specs.declared.error.VortexError.TheVariants.{OutOfMemory};
+ghost use Rattle.vx_dtype.specs.declared.error.VortexError.TheVariants.{OutOfMemory};
 ghost use Rattle.vx_run.specs.Columns.{values_of, rows_view, each_row, AnswersRows};
 
 use std::alloc::{AllocError, Global};

@@ -1,4 +1,4 @@
-use Rattle.vx_types.proofs.Unions.{fits-above}
+use Rattle.vx_types.proofs.Above.{fits-above}
 use Rattle.vx_types.proofs.laws.values_stay_values_above.Goals as goal
 
 pub returns : goal.returns

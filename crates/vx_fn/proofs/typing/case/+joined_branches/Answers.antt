@@ -1,5 +1,5 @@
 use Rattle.std.proofs.Common.{◌≡◌, refl, sym, ap, ◌∙◌, Some, None, Ok, Result, map, option_map}
-use Rattle.vx_types.specs.declared.error.VortexError.{VortexError}
+use Rattle.vx_dtype.specs.declared.error.VortexError.{VortexError}
 use Rattle.vx_types.specs.Joins.{union, union_all}
 use Rattle.vx_types.specs.Views.{type_of}
 use Rattle.vx_fn.specs.Functions.{branches}

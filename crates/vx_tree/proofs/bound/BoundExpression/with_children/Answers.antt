@@ -28,8 +28,9 @@ returns-in-Root-clause-number c =
 
 pub returns-in-Root-clause-root : goal.returns-in-Root-clause-root
 returns-in-Root-clause-root c =
-    let some : length c.args.children.items ≢ 0 = grind arith in
-    λ _ none. absurd (some (none_of-bounds_of c.args.children.items none))
+    let is : bound_of c.args.self ≡ scope (type_of c.in-Root.dtype) = search (rules, the_lemmas) in
+    let some : c.len.result ≢ 0 = grind arith in
+    λ _. bound_over-scope _ _ c.args.children.items _ is (grind arith) some
 
 pub returns-clause-number : goal.returns-clause-number
 returns-clause-number c =

@@ -1,8 +1,8 @@
-use Rattle.std.proofs.Common.{◌≡◌, ◌≢◌, inr, length, refl, arith, rules}
+use Rattle.std.proofs.Common.{◌≡◌, ◌≢◌, inr, arith, rules}
 use Rattle.vx_tree.specs.declared.expression.Expression.{the_lemmas}
 use Rattle.vx_tree.specs.Trees.{root}
 use Rattle.vx_tree.specs.Views.{tree_of}
-use Rattle.vx_tree.proofs.Nodes.{tree_over-root, none_of-trees_of, IfErr-err}
+use Rattle.vx_tree.proofs.Nodes.{tree_over-root}
 use Rattle.vx_tree.proofs.expression.Expression.with_children.Goals as goal
 
 pub returns-in-Root-clause-node : goal.returns-in-Root-clause-node
@@ -15,9 +15,10 @@ pub returns-in-Root-clause-refusal : goal.returns-in-Root-clause-refusal
 returns-in-Root-clause-refusal c =
     let is : tree_of c.args.self ≡ root = search (rules, the_lemmas) in
     let some : c.len.result ≢ 0 = grind arith in
-    IfErr-err _ _ _ (tree_over-root _ c.args.children.items _ is (grind arith) some) refl
+    λ _. tree_over-root _ c.args.children.items _ is (grind arith) some
 
 pub returns-in-Root-clause-root : goal.returns-in-Root-clause-root
 returns-in-Root-clause-root c =
-    let some : length c.args.children.items ≢ 0 = grind arith in
-    λ _ none. absurd (some (none_of-trees_of c.args.children.items none))
+    let is : tree_of c.args.self ≡ root = search (rules, the_lemmas) in
+    let some : c.len.result ≢ 0 = grind arith in
+    λ _. tree_over-root _ c.args.children.items _ is (grind arith) some

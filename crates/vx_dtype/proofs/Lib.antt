@@ -1,0 +1,5 @@
+pub mod Pairs
+pub mod Known
+pub mod Built
+pub mod FieldTexts
+pub mod Unions

@@ -1,0 +1,10 @@
+pub mod Types
+pub mod Joins
+pub mod Fields
+pub mod Names
+pub mod Views
+pub mod Answers
+pub mod Equality
+pub mod Hashes
+pub mod Codes
+pub mod Texts

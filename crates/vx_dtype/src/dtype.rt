@@ -1,0 +1,173 @@
+// Types of columns.
+ghost use Rattle.std.specs.Prelude.{◌≡◌, IfOk, Ok, length, option_map, true};
+ghost use Rattle.vx_dtype.specs.Answers.{Answers};
+ghost use Rattle.vx_dtype.specs.Types.{is_nullable, with_nullability, struct_fields};
+ghost use Rattle.vx_dtype.specs.Views.{admits_null, type_of, fields_of, fields_view, names_of};
+
+use crate::{FieldNames, VortexResult};
+use std::alloc::{AllocError, Global};
+use std::rc::Rc;
+
+/// Whether null is a value of a type.
+#[derive(Clone, Copy, Debug, PartialEq, Eq, Hash)]
+pub enum Nullability {
+    /// Null is no value of the type.
+    NonNullable,
+    /// Null is a value of the type.
+    Nullable,
+}
+
+/// The types of whole numbers, by their ranges.
+#[derive(Clone, Copy, Debug, PartialEq, Eq, Hash)]
+pub enum PType {
+    /// From 0 to 255.
+    U8,
+    /// From 0 to 65,535.
+    U16,
+    /// From 0 to 4,294,967,295.
+    U32,
+    /// From 0 to 18,446,744,073,709,551,615.
+    U64,
+    /// From -128 to 127.
+    I8,
+    /// From -32,768 to 32,767.
+    I16,
+    /// From -2,147,483,648 to 2,147,483,647.
+    I32,
+    /// From -9,223,372,036,854,775,808 to 9,223,372,036,854,775,807.
+    I64,
+}
+
+/// The type of a value or of a column's rows; clones share what it points to.
+#[cycle(dtype)]
+#[derive(Debug, Drop)]
+pub enum DType {
+    /// Truth values.
+    Bool(Nullability),
+    /// Whole numbers in the range of the `PType`.
+    Primitive(PType, Nullability),
+    /// Texts.
+    Utf8(Nullability),
+    /// Bytes.
+    Binary(Nullability),
+    /// Lists of any length, whose items are of the element type.
+    List(Rc<DType>, Nullability),
+    /// Lists of exactly that length, whose items are of the element type.
+    FixedSizeList(Rc<DType>, u32, Nullability),
+    /// Structs, with a value for each field.
+    Struct(StructFields, Nullability),
+}
+
+/// The fields of a struct, names and types side by side: a name without a type is no field.
+#[cycle(dtype)]
+#[derive(Debug, Drop)]
+pub struct StructFields {
+    pub(crate) names: FieldNames,
+    pub(crate) types: Rc<Vec<DType>>,
+}
+
+impl Nullability {
+    /// Whether null is a value.
+    pub fn admits_null(self) -> bool
+        ensures { result ≡ admits_null self }
+    {
+        match self {
+            Nullability::NonNullable => false,
+            Nullability::Nullable => true,
+        }
+    }
+
+    /// Nullable where that is true.
+    pub fn of(nullable: bool) -> Nullability
+        ensures { admits_null result ≡ nullable }
+    {
+        if nullable {
+            Nullability::Nullable
+        } else {
+            Nullability::NonNullable
+        }
+    }
+}
+
+impl DType {
+    /// The outer nullability.
+    pub fn nullability(&self) -> Nullability
+        ensures { admits_null result ≡ is_nullable (type_of self.now) }
+    {
+        match self {
+            DType::Bool(n) => *n,
+            DType::Primitive(_, n) => *n,
+            DType::Utf8(n) => *n,
+            DType::Binary(n) => *n,
+            DType::List(_, n) => *n,
+            DType::FixedSizeList(_, _, n) => *n,
+            DType::Struct(_, n) => *n,
+        }
+    }
+
+    /// Whether null is a value of the type.
+    pub fn is_nullable(&self) -> bool
+        ensures { result ≡ is_nullable (type_of self.now) }
+    {
+        self.nullability().admits_null()
+    }
+
+    /// The type with another outer nullability.
+    pub fn with_nullability(self, nullability: Nullability) -> DType
+        ensures { type_of result ≡ with_nullability (admits_null nullability) (type_of self) }
+    {
+        match self {
+            DType::Bool(_) => DType::Bool(nullability),
+            DType::Primitive(p, _) => DType::Primitive(p, nullability),
+            DType::Utf8(_) => DType::Utf8(nullability),
+            DType::Binary(_) => DType::Binary(nullability),
+            DType::List(t, _) => DType::List(t, nullability),
+            DType::FixedSizeList(t, size, _) => DType::FixedSizeList(t, size, nullability),
+            DType::Struct(fields, _) => DType::Struct(fields, nullability),
+        }
+    }
+
+    /// The type of the same values, and of null.
+    pub fn as_nullable(self) -> DType
+        ensures { type_of result ≡ with_nullability true (type_of self) }
+    {
+        self.with_nullability(Nullability::Nullable)
+    }
+
+    /// The fields, if this is a struct type.
+    pub fn as_struct_fields_opt(&self) -> Option<&StructFields>
+        ensures { option_map (λ s. fields_of s.now) result ≡ struct_fields (type_of self.now) }
+    {
+        match self {
+            DType::Struct(fields, _) => Some(fields),
+            _ => None,
+        }
+    }
+}
+
+impl StructFields {
+    /// Each name with the type beside it. Asks as many types as names, and refuses with
+    /// `OutOfMemory` (1) alone.
+    pub fn new(alloc: Global, names: FieldNames, types: Vec<DType>) -> VortexResult<StructFields>
+        requires { length names ≡ length types.items }
+        ensures fields { Answers fields_of result (Ok (fields_view names types.items)) }
+        ensures names { IfOk result (λ s. names_of s ≡ names) }
+    {
+        Ok(struct_of(alloc, names, types)?)
+    }
+}
+
+// Each name with the type beside it, as long as both last.
+pub(crate) fn struct_of(
+    alloc: Global,
+    names: FieldNames,
+    types: Vec<DType>,
+) -> Result<StructFields, AllocError>
+    ensures fields { IfOk result (λ s. fields_of s ≡ fields_view names types.items) }
+    ensures names { IfOk result (λ s. names_of s ≡ names) }
+{
+    Ok(StructFields {
+        names,
+        types: Rc::new(alloc, types)?,
+    })
+}

@@ -1,0 +1,18 @@
+// Names, types of columns and refusals.
+#![tactic(auto)]
+
+mod copied;
+mod dtype;
+mod equality;
+mod error;
+mod fields;
+mod hashed;
+mod joins;
+pub mod laws;
+mod names;
+mod shown;
+
+pub use dtype::{DType, Nullability, PType, StructFields};
+pub use error::{VortexError, VortexResult};
+pub use names::{FieldName, FieldNames};
+pub use shown::separator;

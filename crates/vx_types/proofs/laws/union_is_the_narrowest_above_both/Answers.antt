@@ -1,5 +1,0 @@
-use Rattle.vx_types.proofs.Unions.{union-left, union-right, union-least, union-there}
-use Rattle.vx_types.proofs.laws.union_is_the_narrowest_above_both.Goals as goal
-
-pub returns : goal.returns
-returns c = record { first = union-left; second = union-right; narrowest = union-least; there = union-there }
