@@ -1,0 +1,98 @@
+-- Columns that are filled row by row.
+use Rattle.std.proofs.Common.{◌≡◌, ℕ, ◌+◌, ◌<◌, List, [], ◌∷◌, ◌++◌, map, length, get_or, refl, sym, ap, ◌∙◌, arith, Some, None, Result, Ok, Err, IfOk, IfErr, inl, inr, zero, suc, IsTrue, Bool, true, false}
+use Rattle.std.specs.Prelude.{position}
+use Rattle.std.specs.List.{position_or_len}
+use Rattle.std.proofs.lemmas.List.Sums.{position_or_len_is}
+use Rattle.std.proofs.lemmas.Bool.Decides.{nat_tests}
+use Rattle.std.specs.List.{range_with_len}
+use Rattle.std.proofs.lemmas.List.{map-append, length-map, ext_get_or}
+use Rattle.std.proofs.lemmas.List.FromFn.{map-range_with_len_more, length-map-range_with_len, get_or-map-range_with_len}
+use Rattle.std.proofs.Math.ListN.{replicate}
+use Rattle.std.specs.declared.alloc.Global.{Global}
+use Rattle.std.specs.declared.vec.Vec.{Vec}
+use Rattle.vx_dtype.specs.declared.error.VortexError.{VortexError}
+use Rattle.vx_dtype.specs.declared.error.VortexError.TheVariants.{OutOfMemory}
+use Rattle.vx_types.specs.declared.value.Value.{Value}
+use Rattle.vx_types.specs.Types.{LogicalType, Datum, null}
+use Rattle.vx_types.specs.Views.{value_of}
+use Rattle.vx_fn.specs.Functions.{Function, Operation, compares, binary}
+use Rattle.vx_fn.specs.Values.{fn_value}
+use Rattle.vx_fn.specs.Faults.{node_fault}
+use Rattle.vx_eval.specs.declared.rows.Rows.{Rows}
+use Rattle.vx_eval.specs.declared.rows.Rows.TheVariants.{Owned}
+use Rattle.vx_eval.specs.Columns.{values_of, each_row, row_at, rows_of, rows_view, unless_fault, node_answer, Evaluates}
+use Rattle.vx_eval.specs.Columns.{is_comparison}
+
+-- one more row, at the loop's index
+pub row_pushed : (h : ℕ → Datum) (out new : List Value) (i : ℕ) (v : Value) → values_of out ≡ each_row i h → new ≡ out ++ v ∷ [] → value_of v ≡ h i → values_of new ≡ each_row (i + 1) h
+row_pushed h out new i v so_far pushed here =
+    ap values_of pushed ∙ map-append value_of out (v ∷ []) ∙ ap (λ ds. ds ++ value_of v ∷ []) so_far ∙ ap (λ d. each_row i h ++ d ∷ []) here ∙ sym (map-range_with_len_more h 0 i i (omega arith))
+
+pub map_map : {A B C : Type 0} (f : B → C) (g : A → B) (xs : List A) → map f (map g xs) ≡ map (λ x. f (g x)) xs
+map_map f g [] = refl
+map_map f g (x ∷ xs) = ap (λ l. f (g x) ∷ l) (map_map f g xs)
+
+-- a node that doesn't fault, filled with its function's value at each row
+pub evaluated : (f : Function) (ts : List LogicalType) (n : ℕ) (cs : List (List Datum)) (r : Result Rows VortexError) → node_fault f ts (rows_of n cs) ≡ None →
+    IfOk r (λ out. rows_view out ≡ each_row n (λ k. fn_value f ts (row_at cs k))) → IfErr r (λ e. e ≡ OutOfMemory) → Evaluates f ts n cs r
+evaluated f ts n cs (Ok out) quiet is memory =
+    ap (λ o. unless_fault o (map (fn_value f ts) (rows_of n cs))) quiet ∙ ap Ok (map_map (fn_value f ts) (row_at cs) (range_with_len 0 n) ∙ sym is)
+evaluated f ts n cs (Err e) quiet is memory = inl memory
+
+-- a comparison doesn't fault
+pub comparison_quiet : (op : Operation) (ts : List LogicalType) (rows : List (List Datum)) → IsTrue (is_comparison op) → node_fault (binary op) ts rows ≡ None
+comparison_quiet (compares c) ts rows h = refl
+comparison_quiet _ ts rows h = cc
+
+-- the same of values that a loop has put together
+pub given : (f : Function) (ts : List LogicalType) (n : ℕ) (cs : List (List Datum)) (values : List Datum) → node_fault f ts (rows_of n cs) ≡ None →
+    values ≡ each_row n (λ k. fn_value f ts (row_at cs k)) → node_answer f ts (rows_of n cs) ≡ Ok values
+given f ts n cs values quiet are =
+    ap (λ o. unless_fault o (map (fn_value f ts) (rows_of n cs))) quiet ∙ ap Ok (map_map (fn_value f ts) (row_at cs) (range_with_len 0 n) ∙ sym are)
+
+-- the same over rows that are written over in place
+pub evaluated_in_place : (f : Function) (ts : List LogicalType) (n : ℕ) (cs : List (List Datum)) (input : Rows) (v : Vec Value Global) (g : ℕ → Datum → Datum) (r : Result Rows VortexError) →
+    node_fault f ts (rows_of n cs) ≡ None → input ≡ Owned v → length (rows_view input) ≡ n → each_row n (λ k. g k (get_or (rows_view input) k null)) ≡ each_row n (λ k. fn_value f ts (row_at cs k)) →
+    IfOk r (λ out. rows_view out ≡ each_row (length v.items) (λ k. g k (get_or (values_of v.items) k null))) → IfErr r (λ e. e ≡ OutOfMemory) → Evaluates f ts n cs r
+evaluated_in_place f ts n cs input v g (Ok out) quiet is long same made memory =
+    let count : length v.items ≡ n = sym (length-map v.items value_of) ∙ ap (λ x. length (rows_view x)) (sym is) ∙ long in
+    let rows : rows_view out ≡ each_row n (λ k. g k (get_or (rows_view input) k null)) = made ∙ ap (λ m. each_row m (λ k. g k (get_or (values_of v.items) k null))) count ∙ ap (λ x. each_row n (λ k. g k (get_or (rows_view x) k null))) (sym is) in
+    evaluated f ts n cs (Ok out) quiet (rows ∙ same) memory
+evaluated_in_place f ts n cs input v g (Err e) quiet is long same made memory = inl memory
+
+-- rows that are all taken are the column
+pub all_rows : (ds : List Datum) (n : ℕ) → length ds ≡ n → each_row n (λ k. get_or ds k null) ≡ ds
+all_rows ds n long =
+    let f = λ (k : ℕ). get_or ds k null in
+    let size : length (each_row n f) ≡ n = length-map-range_with_len f 0 n in
+    ext_get_or null _ _ (size ∙ sym long) (λ k h. get_or-map-range_with_len f 0 n k k null (omega (arith, size)) (omega arith))
+
+pub refused : (f : Function) (ts : List LogicalType) (n : ℕ) (cs : List (List Datum)) (fault : VortexError) → node_fault f ts (rows_of n cs) ≡ Some fault → Evaluates f ts n cs (Err fault)
+refused f ts n cs fault is = inr (rw is refl)
+
+-- ---- the first row at which a test passes
+pub first_row : (p : List Datum → Bool) (g : ℕ → List Datum) (n i : ℕ) → i < n → ((k : ℕ) → k < i → p (g k) ≡ false) → p (g i) ≡ true → position p (each_row n g) ≡ Some i
+first_row p g n i within before here =
+    let long : length (each_row n g) ≡ n = length-map-range_with_len g 0 n in
+    let at : position_or_len p (each_row n g) ≡ i =
+        position_or_len_is p (each_row n g) i [] (omega arith)
+            (λ k h. ap p (get_or-map-range_with_len g 0 n k k [] (omega arith) (omega arith)) ∙ before k h)
+            (λ _. ap p (get_or-map-range_with_len g 0 n i i [] within (omega arith)) ∙ here) in
+    rw (at, long) (grind (arith, nat_tests))
+
+pub no_row : (p : List Datum → Bool) (g : ℕ → List Datum) (n : ℕ) → ((k : ℕ) → k < n → p (g k) ≡ false) → position p (each_row n g) ≡ None
+no_row p g n all =
+    let long : length (each_row n g) ≡ n = length-map-range_with_len g 0 n in
+    let at : position_or_len p (each_row n g) ≡ n =
+        position_or_len_is p (each_row n g) n [] (omega arith)
+            (λ k h. ap p (get_or-map-range_with_len g 0 n k k [] h (omega arith)) ∙ all k h)
+            (λ h. absurd (omega arith)) in
+    rw (at, long) (grind (arith, nat_tests))
+
+-- a literal over rows of no columns
+pub literal_rows : (v : Datum) (n : ℕ) → map (λ _. v) (rows_of n []) ≡ replicate n v
+literal_rows v n = map_map (λ _. v) (row_at []) (range_with_len 0 n) ∙ go 0 n
+  where
+    go : (a m : ℕ) → map (λ _. v) (range_with_len a m) ≡ replicate m v
+    go a zero = refl
+    go a (suc m) = ap (λ l. v ∷ l) (go (a + 1) m)

@@ -1,0 +1,10 @@
+mod Filled
+mod Transposed
+mod Fitting
+mod Meanings
+mod Structs
+mod Overwriting
+mod Taking
+mod Tests
+mod Likes
+mod Matched

@@ -1,0 +1,148 @@
+-- Columns of trees' values, and the rows of their children's values.
+use Rattle.std.proofs.Common.{◌≡◌, ℕ, ◌<◌, List, [], ◌∷◌, map, length, get_or, refl, sym, ap, subst, ◌∙◌, arith, Option, Some, None, Result, Ok, suc, IsOk, rules, Vec, vec_len}
+use Rattle.std.specs.Option.{option_or}
+use Rattle.std.proofs.lemmas.List.{length-map, get_or-map, ext_get_or, map-id}
+use Rattle.std.proofs.lemmas.List.FromFn.{length-map-range_with_len, get_or-map-range_with_len}
+use Rattle.std.specs.declared.alloc.Global.{Global}
+use Rattle.std.specs.declared.rc.Rc.{Rc}
+use Rattle.vx_dtype.specs.declared.dtype.DType.{DType}
+use Rattle.vx_dtype.specs.declared.error.VortexError.{VortexError}
+use Rattle.vx_types.specs.declared.value.Value.{Value}
+use Rattle.vx_dtype.specs.Answers.{Answers}
+use Rattle.vx_types.specs.Types.{Name, LogicalType, Datum, null}
+use Rattle.vx_types.specs.Views.{type_of, value_of}
+use Rattle.vx_fn.specs.declared.function.ScalarFnRef.{ScalarFnRef}
+use Rattle.vx_fn.specs.Functions.{Function, Operation, Typing, literal, get_item, select, binary, adds, is_number, needs, fn_type}
+use Rattle.vx_dtype.specs.declared.error.VortexError.TheVariants.{NotNumeric}
+use Rattle.std.specs.Prelude.{Bool, true, false, ◌&&◌, IsTrue}
+use Rattle.vx_fn.specs.declared.options.FieldSelection.{FieldSelection}
+use Rattle.vx_fn.specs.Values.{fn_value}
+use Rattle.vx_fn.specs.Faults.{node_fault}
+use Rattle.vx_fn.specs.Views.{function_of}
+use Rattle.vx_tree.specs.declared.bound.BoundExpression.{BoundExpression, Scalar, Root, the_lemmas}
+use Rattle.vx_tree.specs.Faults.{each_fault}
+use Rattle.vx_tree.specs.Meaning.{value, values}
+use Rattle.vx_tree.specs.Trees.{scope, node, BoundTrees, no_bound, bound, node_type, node_types}
+use Rattle.vx_tree.specs.Views.{bound_of, bounds_of}
+use Rattle.vx_eval.specs.declared.rows.Rows.{Rows}
+use Rattle.vx_eval.specs.Columns.{values_of, row_at, rows_of, rows_view, rows_views, unless_fault, node_answer, Evaluates, AllLong}
+use Rattle.vx_eval.specs.Evaluation.{columns, tree_answer, each_answer}
+use Rattle.vx_eval.proofs.Filled.{map_map}
+
+row_at-columns : (bs : BoundTrees) (batch : List Datum) (k : ℕ) → k < length batch → row_at (columns bs batch) k ≡ values bs (get_or batch k null)
+row_at-columns no_bound batch k lt = refl
+row_at-columns (bound b bs) batch k lt =
+    ap (λ d. d ∷ row_at (columns bs batch) k) (get_or-map (value b) batch k null null lt)
+    ∙ ap (λ row. value b (get_or batch k null) ∷ row) (row_at-columns bs batch k lt)
+
+-- the rows of the columns are the children's values at each row
+rows_of-columns : (bs : BoundTrees) (batch : List Datum) → rows_of (length batch) (columns bs batch) ≡ map (values bs) batch
+rows_of-columns bs batch =
+    let g = row_at (columns bs batch) in
+    let long : length (rows_of (length batch) (columns bs batch)) ≡ length batch = length-map-range_with_len g 0 (length batch) in
+    ext_get_or [] _ _ (long ∙ sym (length-map batch (values bs)))
+    (λ i h. let lt : i < length batch = subst (λ n. i < n) long h in
+    get_or-map-range_with_len g 0 (length batch) i i [] lt (omega arith) ∙ row_at-columns bs batch i lt ∙ sym (get_or-map (values bs) batch i null [] lt))
+
+length-columns : (bs : BoundTrees) (batch : List Datum) → length (columns bs batch) ≡ length (node_types bs)
+length-columns no_bound batch = refl
+length-columns (bound b bs) batch = ap suc (length-columns bs batch)
+
+columns_long : (bs : BoundTrees) (batch : List Datum) → AllLong (length batch) (columns bs batch)
+columns_long no_bound batch = tt
+columns_long (bound b bs) batch = (length-map batch (value b), columns_long bs batch)
+
+-- what an answer with columns says
+record Answered (bs : BoundTrees) (batch : List Datum) (cs : List (List Datum)) : Type 0 where
+  quiet : each_fault bs batch ≡ None
+  are : columns bs batch ≡ cs
+
+answered : (bs : BoundTrees) (batch : List Datum) (cs : List (List Datum)) → each_answer bs batch ≡ Ok cs → Answered bs batch cs
+answered bs batch cs e = go (each_fault bs batch) refl e
+  where
+    go : (o : Option VortexError) → each_fault bs batch ≡ o → unless_fault o (columns bs batch) ≡ Ok cs → Answered bs batch cs
+    go None q e = record { quiet = q; are = cc }
+    go (Some fault) q e = cc
+
+-- a node over columns that its children gave
+over_columns : (t : LogicalType) (f : Function) (bs : BoundTrees) (batch : List Datum) (n : ℕ) (cs : List (List Datum)) (r : Result Rows VortexError) →
+    n ≡ length batch → each_answer bs batch ≡ Ok cs → Evaluates f (node_types bs) n cs r → Answers rows_view r (tree_answer (node t f bs) batch)
+over_columns t f bs batch n cs r counted given gives =
+    let a = answered bs batch cs given in
+    let rows : rows_of n cs ≡ map (values bs) batch = ap (λ k. rows_of k cs) counted ∙ ap (rows_of (length batch)) (sym a.are) ∙ rows_of-columns bs batch in
+    let same : node_answer f (node_types bs) (rows_of n cs) ≡ tree_answer (node t f bs) batch =
+    ap (node_answer f (node_types bs)) rows
+    ∙ ap (unless_fault (node_fault f (node_types bs) (map (values bs) batch))) (map_map (fn_value f (node_types bs)) (values bs) batch)
+    ∙ ap (λ o. unless_fault (option_or o (node_fault f (node_types bs) (map (values bs) batch))) (map (value (node t f bs)) batch)) (sym a.quiet) in
+    subst (Answers rows_view r) same gives
+
+root_answer : (t : LogicalType) (batch : List Datum) → tree_answer (scope t) batch ≡ Ok batch
+root_answer t batch = ap Ok (map-id batch)
+
+pub as_many : (bs : BoundTrees) (batch : List Datum) (rs : List Rows) → each_answer bs batch ≡ Ok (rows_views rs) → length rs ≡ length (node_types bs)
+as_many bs batch rs e = sym (length-map rs rows_view) ∙ ap length (sym (answered bs batch _ e).are) ∙ length-columns bs batch
+
+as_long : (bs : BoundTrees) (batch : List Datum) (rs : List Rows) → each_answer bs batch ≡ Ok (rows_views rs) → AllLong (length batch) (rows_views rs)
+as_long bs batch rs e = subst (AllLong (length batch)) (answered bs batch _ e).are (columns_long bs batch)
+
+bound_of-Scalar : (t : DType) (f : ScalarFnRef) (all : Rc (Vec BoundExpression Global) Global) → bound_of (Scalar t f all) ≡ node (type_of t) (function_of f) (bounds_of all.value.items)
+bound_of-Scalar t f all = search (rules, the_lemmas)
+
+bound_of-Root : (t : DType) → bound_of (Root t) ≡ scope (type_of t)
+bound_of-Root t = search (rules, the_lemmas)
+
+pub node_given : (e : BoundExpression) (t : DType) (f : ScalarFnRef) (all : Rc (Vec BoundExpression Global) Global) (children : List BoundExpression) (batch : List Value) (n : ℕ) (rs : List Rows) (r : Result Rows VortexError) →
+    e ≡ Scalar t f all → children ≡ all.value.items → n ≡ length batch → each_answer (bounds_of children) (values_of batch) ≡ Ok (rows_views rs) →
+    Evaluates (function_of f) (node_types (bounds_of children)) n (rows_views rs) r → Answers rows_view r (tree_answer (bound_of e) (values_of batch))
+node_given e t f all children batch n rs r is those counted given gives =
+    rw (is, bound_of-Scalar t f all, ← those) (over_columns (type_of t) (function_of f) (bounds_of children) (values_of batch) n (rows_views rs) r (counted ∙ sym (length-map batch value_of)) given gives)
+
+pub root_given : (e : BoundExpression) (t : DType) (batch : List Datum) → e ≡ Root t → tree_answer (bound_of e) batch ≡ Ok batch
+root_given e t batch is = rw (is, bound_of-Root t) (root_answer (type_of t) batch)
+
+pub no_columns : (t : LogicalType) (v : Datum) (ts : List LogicalType) (rs : List Rows) → IsOk (fn_type (literal t v) ts) → length rs ≡ length ts → rows_views rs ≡ []
+no_columns t v [] [] ok e = refl
+no_columns t v [] (r ∷ rs) ok e = absurd (omega arith)
+no_columns t v (u ∷ us) rs ok e = cc
+
+pub first_type_of : (children : List BoundExpression) (b : BoundExpression) (t : LogicalType) → 0 < length children → b ≡ get_or children 0 b → t ≡ node_type (bound_of b) →
+    (rest : List LogicalType) × (node_types (bounds_of children) ≡ t ∷ rest)
+first_type_of [] b t some is typed = absurd (omega arith)
+first_type_of (x ∷ xs) b t some is typed = (node_types (bounds_of xs), ap (λ u. u ∷ node_types (bounds_of xs)) (ap (λ y. node_type (bound_of y)) (sym is) ∙ sym typed))
+
+-- GetItem has one child
+pub one_child : (a : Name) (children : List BoundExpression) → IsOk (fn_type (get_item a) (node_types (bounds_of children))) → length children ≡ 1
+one_child a [] ok = cc
+one_child a (b ∷ []) ok = refl
+one_child a (b ∷ d ∷ children) ok = cc
+
+-- and so has Select
+pub one_struct : (sel : FieldSelection) (children : List BoundExpression) → IsOk (fn_type (select sel) (node_types (bounds_of children))) → length children ≡ 1
+one_struct sel [] ok = cc
+one_struct sel (b ∷ []) ok = refl
+one_struct sel (b ∷ d ∷ children) ok = cc
+
+-- the left operand of a sum is a number
+pub left_number : (op : Operation) (t : LogicalType) (ts us : List LogicalType) → op ≡ adds → us ≡ t ∷ ts → IsOk (fn_type (binary op) us) → IsTrue (is_number t)
+left_number op t ts us is are ok = go ts (rw (is, are) at ok)
+  where
+    go : (ts : List LogicalType) → IsOk (fn_type (binary adds) (t ∷ ts)) → IsTrue (is_number t)
+    go [] ok = cc
+    go (u ∷ []) ok = first (is_number t) (is_number u) _ refl ok
+      where
+        first : (a b : Bool) (rest : Typing) → is_number t ≡ a → IsOk (needs (a && b) NotNumeric rest) → IsTrue (is_number t)
+        first true b rest e ok = e
+        first false b rest e ok = cc
+    go (u ∷ w ∷ ts) ok = cc
+
+-- the same evaluation, of a function, types and columns that are known by equations
+pub at_node : (f g : Function) (ts us : List LogicalType) (n : ℕ) (cs ds : List (List Datum)) (r : Result Rows VortexError) → f ≡ g → ts ≡ us → cs ≡ ds → Evaluates g us n ds r → Evaluates f ts n cs r
+at_node f g ts us n cs ds r a b c h = rw (a, b, c) h
+
+pub as_long_as : (batch : List Value) (n : ℕ) (bs : BoundTrees) (rs : List Rows) → n ≡ length batch → each_answer bs (values_of batch) ≡ Ok (rows_views rs) → AllLong n (rows_views rs)
+as_long_as batch n bs rs counted e =
+    let long : length (values_of batch) ≡ length batch = length-map batch value_of in
+    subst (λ k. AllLong k (rows_views rs)) (long ∙ sym counted) (as_long bs (values_of batch) rs e)
+
+pub as_counted : (n : ℕ) (v w : Vec Value Global) → n ≡ vec_len v → v ≡ w → n ≡ length w.items
+as_counted n v w counted is = counted ∙ v.ok.0 ∙ ap (λ u. length u.items) is

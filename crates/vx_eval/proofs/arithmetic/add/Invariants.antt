@@ -1,0 +1,13 @@
+use Rattle.std.proofs.Common.{◌≡◌, ◌<◌, ◌∷◌, [], ℕ, get_or, false}
+use Rattle.vx_types.specs.Types.{null}
+use Rattle.vx_types.specs.Views.{type_of}
+use Rattle.vx_fn.specs.Faults.{is_outside}
+use Rattle.vx_fn.specs.Values.{sum_of}
+use Rattle.vx_eval.specs.Columns.{values_of, rows_view, each_row}
+use Rattle.vx_eval.proofs.arithmetic.add.Given as goal
+
+abbrev pub invariant-loop-i : goal.invariant-loop-i
+invariant-loop-i l = record {
+  so_far : values_of l.sums.items ≡ each_row l.i (λ k. sum_of (get_or (rows_view l.lhs) k null) (get_or (rows_view l.rhs) k null));
+  inside : (k : ℕ) → k < l.i → is_outside (type_of l.dtype ∷ []) (sum_of (get_or (rows_view l.lhs) k null) (get_or (rows_view l.rhs) k null)) ≡ false;
+}

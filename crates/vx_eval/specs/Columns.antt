@@ -1,0 +1,110 @@
+-- Columns of values, the rows of several of them, and what a function gives over them.
+use Rattle.std.specs.Prelude.{◌≡◌, ℕ, ◌<◌, List, [], ◌∷◌, map, Option, Some, None, Result, Ok, Err, get_or, length, zero, suc, Bool, true, false}
+use Rattle.std.specs.List.{range_with_len}
+use Rattle.std.proofs.Math.ListN.{replicate}
+use Rattle.vx_dtype.specs.declared.error.VortexError.{VortexError}
+use Rattle.vx_types.specs.declared.value.Value.{Value}
+use Rattle.vx_dtype.specs.Answers.{Answers}
+use Rattle.vx_types.specs.Fields.{data_of}
+use Rattle.vx_types.specs.Types.{LogicalType, Datum, null, bool, utf8, struct_of, Data, no_datum, datum}
+use Rattle.vx_types.specs.Views.{value_of}
+use Rattle.std.specs.declared.cmp.Ordering.{Ordering}
+use Rattle.vx_fn.specs.Functions.{Function, Operation, compares}
+use Rattle.vx_fn.specs.Values.{fn_value, agrees, flipped}
+use Rattle.vx_fn.specs.Faults.{node_fault}
+use Rattle.vx_like.specs.Patterns.{Compiled, accepts}
+use Rattle.vx_eval.specs.declared.rows.Rows.{Rows}
+use Rattle.vx_eval.specs.declared.rows.Rows.TheVariants.{Lent, Owned, Same}
+
+-- what each value stands for
+abbrev pub values_of : List Value → List Datum
+values_of vs = map value_of vs
+
+-- the values of a column at work, row by row
+abbrev pub rows_view : Rows → List Datum
+rows_view (Lent values) = values_of values.now.value.items
+rows_view (Owned values) = values_of values.items
+rows_view (Same v n) = replicate n (value_of v.now)
+
+-- the same of each of some columns
+abbrev pub rows_views : List Rows → List (List Datum)
+rows_views rs = map rows_view rs
+
+-- the values of f at the first n rows
+abbrev pub each_row : {A : Type 0} → ℕ → (ℕ → A) → List A
+each_row n f = map f (range_with_len 0 n)
+
+-- row k of columns: each column's value there
+abbrev pub row_at : List (List Datum) → ℕ → List Datum
+row_at cs k = map (λ c. get_or c k null) cs
+
+-- the first n rows of columns
+abbrev pub rows_of : ℕ → List (List Datum) → List (List Datum)
+rows_of n cs = each_row n (row_at cs)
+
+-- each column has n values
+abbrev pub AllLong : ℕ → List (List Datum) → Type 0
+AllLong n [] = Unit {0}
+AllLong n (c ∷ cs) = (length c ≡ n) × AllLong n cs
+
+-- each column has a row of that index
+abbrev pub HaveRow : ℕ → List (List Datum) → Type 0
+HaveRow i [] = Unit {0}
+HaveRow i (c ∷ cs) = (i < length c) × HaveRow i cs
+
+-- where a call answers at one of the first n rows, it is what g gives there
+abbrev pub AnswersRows : {E : Type 0} → (ℕ → Result Value E → Type 0) → ℕ → (ℕ → Datum) → Type 0
+AnswersRows post n g = (i : ℕ) (v : Value) → i < n → post i (Ok v) → value_of v ≡ g i
+
+-- where a call answers at one of the first n rows and its value, it is what g makes of them
+abbrev pub MakesRows : {E : Type 0} → (ℕ → Value → Result Value E → Type 0) → ℕ → (ℕ → Datum → Datum) → Type 0
+MakesRows post n g = (i : ℕ) (x v : Value) → i < n → post i x (Ok v) → value_of v ≡ g i (value_of x)
+
+-- the fault, or what there is without one
+abbrev pub unless_fault : {A : Type 0} → Option VortexError → A → Result A VortexError
+unless_fault None a = Ok a
+unless_fault (Some fault) a = Err fault
+
+-- what a node gives over the rows of its children's values
+abbrev pub node_answer : Function → List LogicalType → List (List Datum) → Result (List Datum) VortexError
+node_answer f ts rows = unless_fault (node_fault f ts rows) (map (fn_value f ts) rows)
+
+-- a call answers what the function gives over the first n rows of the columns
+abbrev pub Evaluates : Function → List LogicalType → ℕ → List (List Datum) → Result Rows VortexError → Type 0
+Evaluates f ts n cs r = Answers rows_view r (node_answer f ts (rows_of n cs))
+
+-- the value at that place
+abbrev pub datum_at : ℕ → Data → Datum
+datum_at k no_datum = null
+datum_at zero (datum v vs) = v
+datum_at (suc k) (datum v vs) = datum_at k vs
+
+-- the item at that place of a struct, null of what is none
+abbrev pub item_at : ℕ → Datum → Datum
+item_at k (struct_of vs) = datum_at k vs
+item_at k _ = null
+
+-- the struct of the items at those places of a struct, null of what is none
+abbrev pub items_at : List ℕ → Datum → Datum
+items_at ks (struct_of vs) = struct_of (data_of (map (λ k. datum_at k vs) ks))
+items_at ks _ = null
+
+-- whether the operation is one of the six comparisons
+abbrev pub is_comparison : Operation → Bool
+is_comparison (compares c) = true
+is_comparison _ = false
+
+-- whether an order is one that a comparison asks for
+abbrev pub agrees_with : Operation → Ordering → Bool
+agrees_with (compares c) o = agrees c o
+agrees_with _ o = false
+
+-- the bytes of a text
+abbrev pub text_of : Datum → Option (List ℕ)
+text_of (utf8 t) = Some t
+text_of _ = None
+
+-- whether a pattern that was read accepts the text, or not where it is negated; null of what is no text
+abbrev pub accepted : Bool → Compiled → Datum → Datum
+accepted negated p (utf8 t) = bool (flipped negated (accepts p t))
+accepted negated p _ = null

@@ -1,0 +1,135 @@
+// Comparisons of values of one kind.
+ghost use Rattle.std.specs.Prelude.{◌≡◌, length, List, [], ◌∷◌, IsTrue};
+ghost use Rattle.vx_types.specs.Types.{LogicalType};
+ghost use Rattle.vx_types.specs.Views.{value_of};
+ghost use Rattle.vx_fn.specs.Functions.{binary, compares};
+ghost use Rattle.vx_fn.specs.Functions as functions;
+ghost use Rattle.vx_fn.specs.Values.{binary_value, below_or, kleene_and, compared};
+ghost use Rattle.vx_fn.specs.Values as values;
+ghost use Rattle.vx_fn.specs.Views.{operation_of, is_strict};
+ghost use Rattle.vx_eval.specs.Columns.{rows_view, Evaluates};
+ghost use Rattle.vx_eval.specs.Columns.{is_comparison, agrees_with};
+
+use crate::filling::tabulated;
+use crate::logic::kleene_and;
+use crate::rows::Rows;
+use std::alloc::Global;
+use std::cmp::Ordering;
+use vx_fn::{BetweenOptions, Operator, StrictComparison};
+use vx_types::{Value, VortexResult};
+
+/// The comparison of two columns. Asks one of the six comparisons.
+/// Refuses with `OutOfMemory` (1) alone.
+pub fn compare<'a>(
+    alloc: Global,
+    count: usize,
+    operator: Operator,
+    lhs: &Rows,
+    rhs: &Rows,
+) -> VortexResult<Rows<'a>>
+    requires comparison { IsTrue (is_comparison (operation_of operator)) }
+    requires left { length (rows_view lhs.now) ≡ count }
+    requires right { length (rows_view rhs.now) ≡ count }
+    ensures { (ts : List LogicalType) → Evaluates (binary (operation_of operator)) ts count (rows_view lhs.now ∷ rows_view rhs.now ∷ []) result }
+{
+    tabulated(
+        alloc,
+        count,
+        |i| Ok(compared(operator, lhs.row(i), rhs.row(i))),
+    )
+}
+
+/// Whether each value lies between its bounds. Refuses with `OutOfMemory` (1) alone.
+pub fn between<'a>(
+    alloc: Global,
+    count: usize,
+    options: &BetweenOptions,
+    array: &Rows,
+    lower: &Rows,
+    upper: &Rows,
+) -> VortexResult<Rows<'a>>
+    requires array { length (rows_view array.now) ≡ count }
+    requires lower { length (rows_view lower.now) ≡ count }
+    requires upper { length (rows_view upper.now) ≡ count }
+    ensures { (ts : List LogicalType) → Evaluates (functions.between (is_strict options.now.lower_strict) (is_strict options.now.upper_strict)) ts count
+        (rows_view array.now ∷ rows_view lower.now ∷ rows_view upper.now ∷ []) result }
+{
+    tabulated(
+        alloc,
+        count,
+        |i| Ok(lies_between(options, array.row(i), lower.row(i), upper.row(i))),
+    )
+}
+
+// Whether the value lies above the lower bound and below the upper one, by Kleene's And.
+fn lies_between(options: &BetweenOptions, v: &Value, lower: &Value, upper: &Value) -> Value
+    ensures { value_of result ≡ kleene_and
+        (compared (below_or (is_strict options.now.lower_strict)) (value_of lower.now) (value_of v.now))
+        (compared (below_or (is_strict options.now.upper_strict)) (value_of v.now) (value_of upper.now)) }
+{
+    let above = compared(below(options.lower_strict), lower, v);
+    let below = compared(below(options.upper_strict), v, upper);
+    kleene_and(&above, &below)
+}
+
+// The comparison of a bound.
+fn below(strict: StrictComparison) -> Operator
+    ensures { operation_of result ≡ compares (below_or (is_strict strict)) }
+{
+    match strict {
+        StrictComparison::Strict => Operator::Lt,
+        StrictComparison::NonStrict => Operator::Lte,
+    }
+}
+
+// Null where one of the two is, else whether their order is one that the operator asks for.
+fn compared(operator: Operator, v: &Value, w: &Value) -> Value
+    requires { IsTrue (is_comparison (operation_of operator)) }
+    ensures { value_of result ≡ binary_value (operation_of operator) (value_of v.now) (value_of w.now) }
+{
+    if v.is_null() || w.is_null() {
+        return Value::Null;
+    }
+    Value::Bool(agrees(operator, order(v, w)))
+}
+
+// Whether the order is one that the operator asks for.
+fn agrees(operator: Operator, order: Ordering) -> bool
+    requires { IsTrue (is_comparison (operation_of operator)) }
+    ensures { result ≡ agrees_with (operation_of operator) order }
+{
+    match operator {
+        Operator::Eq => order.is_eq(),
+        Operator::NotEq => order.is_ne(),
+        Operator::Gt => order.is_gt(),
+        Operator::Gte => order.is_ge(),
+        Operator::Lt => order.is_lt(),
+        Operator::Lte => order.is_le(),
+        _ => unreachable!(),
+    }
+}
+
+/// False before true, whole numbers by number, texts and bytes by their bytes.
+pub fn order(v: &Value, w: &Value) -> Ordering
+    ensures { result ≡ values.order (value_of v.now) (value_of w.now) }
+{
+    match v {
+        Value::Bool(a) => match w {
+            Value::Bool(b) => a.cmp(b),
+            _ => Ordering::Equal,
+        },
+        Value::Int(a) => match w {
+            Value::Int(b) => a.cmp(b),
+            _ => Ordering::Equal,
+        },
+        Value::Utf8(a) => match w {
+            Value::Utf8(b) => a.as_str().cmp(b.as_str()),
+            _ => Ordering::Equal,
+        },
+        Value::Binary(a) => match w {
+            Value::Binary(b) => a.as_slice().cmp(b.as_slice()),
+            _ => Ordering::Equal,
+        },
+        _ => Ordering::Equal,
+    }
+}

@@ -1,0 +1,146 @@
+// The function of a node over its children's columns.
+ghost use Rattle.std.specs.Prelude.{◌≡◌, ◌<◌, length, List, [], ◌∷◌, IsOk, IsTrue};
+ghost use Rattle.vx_types.specs.Types.{LogicalType};
+ghost use Rattle.vx_types.specs.Views.{type_of};
+ghost use Rattle.vx_fn.specs.Functions.{fn_type, adds, is_number};
+ghost use Rattle.vx_fn.specs.Functions as functions;
+ghost use Rattle.vx_fn.specs.Views.{function_of, operation_of};
+ghost use Rattle.vx_tree.specs.Trees.{no_bound, bound, node_types};
+ghost use Rattle.vx_tree.specs.Views.{bound_of, bounds_of};
+ghost use Rattle.vx_eval.specs.Columns.{rows_view, rows_views, AllLong, Evaluates};
+
+use crate::rows::Rows;
+use crate::{arithmetic, casting, choice, comparison, fields, logic, nulls, text};
+use std::alloc::Global;
+use vx_fn::{Operator, ScalarFnRef};
+use vx_tree::BoundExpression;
+use vx_types::{DType, Scalar, VortexResult};
+
+/// The function over its children's columns, or its fault over their rows.
+pub fn apply<'a>(
+    alloc: Global,
+    count: usize,
+    f: &'a ScalarFnRef,
+    children: &'a [BoundExpression],
+    columns: Vec<Rows<'a>>,
+) -> VortexResult<Rows<'a>>
+    requires typed { IsOk (fn_type (function_of f.now) (node_types (bounds_of children.now))) }
+    requires number { length columns.items ≡ length (node_types (bounds_of children.now)) }
+    requires long { AllLong count (rows_views columns.items) }
+    ensures { Evaluates (function_of f.now) (node_types (bounds_of children.now)) count (rows_views columns.entry.items) result }
+{
+    match f {
+        ScalarFnRef::CaseWhen(_) => choice::case_when(alloc, count, columns),
+        ScalarFnRef::GetItem(name) => {
+            let dtype = only(children).dtype();
+            fields::get_item(alloc, count, name, dtype, one(columns))
+        }
+        ScalarFnRef::Literal(scalar) => literal(count, scalar),
+        ScalarFnRef::Pack(_) => fields::pack(alloc, count, columns),
+        ScalarFnRef::Select(selection) => {
+            let dtype = only(children).dtype();
+            fields::select(alloc, count, selection, dtype, one(columns))
+        }
+        ScalarFnRef::FillNull(_) => {
+            let (input, fill) = two(columns);
+            nulls::fill_null(alloc, count, first_type(children), input, &fill)
+        }
+        ScalarFnRef::Zip(_) => {
+            let (if_true, if_false, mask) = three(columns);
+            choice::zip(alloc, count, if_true, if_false, mask)
+        }
+        ScalarFnRef::Binary(operator) => {
+            let (lhs, rhs) = two(columns);
+            binary(alloc, count, *operator, first_type(children), &lhs, &rhs)
+        }
+        ScalarFnRef::Not(_) => logic::not(alloc, count, &one(columns)),
+        ScalarFnRef::Between(options) => {
+            let (array, lower, upper) = three(columns);
+            comparison::between(alloc, count, options, &array, &lower, &upper)
+        }
+        ScalarFnRef::Like(options) => {
+            let (child, pattern) = two(columns);
+            text::like(alloc, count, options, &child, &pattern)
+        }
+        ScalarFnRef::IsNull(_) => nulls::is_null(alloc, count, &one(columns)),
+        ScalarFnRef::IsNotNull(_) => nulls::is_not_null(alloc, count, &one(columns)),
+        ScalarFnRef::Mask(_) => {
+            let (input, mask) = two(columns);
+            nulls::mask(alloc, count, input, mask)
+        }
+        ScalarFnRef::Cast(target) => casting::cast(count, target, one(columns)),
+    }
+}
+
+// The scalar's value in so many rows, lent.
+fn literal<'a>(count: usize, scalar: &'a Scalar) -> VortexResult<Rows<'a>>
+    ensures { (ts : List LogicalType) → Evaluates (functions.literal scalar.now.type scalar.now.value) ts count [] result }
+{
+    Ok(Rows::Same(scalar.value(), count))
+}
+
+// The operator over two columns, of which the left one has that type.
+fn binary<'a>(
+    alloc: Global,
+    count: usize,
+    operator: Operator,
+    dtype: &DType,
+    lhs: &Rows,
+    rhs: &Rows,
+) -> VortexResult<Rows<'a>>
+    requires numbers { operation_of operator ≡ adds → IsTrue (is_number (type_of dtype.now)) }
+    requires left { length (rows_view lhs.now) ≡ count }
+    requires right { length (rows_view rhs.now) ≡ count }
+    ensures { (ts : List LogicalType) → Evaluates (functions.binary (operation_of operator)) (type_of dtype.now ∷ ts) count (rows_view lhs.now ∷ rows_view rhs.now ∷ []) result }
+{
+    match operator {
+        Operator::And => logic::and(alloc, count, lhs, rhs),
+        Operator::Or => logic::or(alloc, count, lhs, rhs),
+        Operator::Add => arithmetic::add(alloc, count, dtype, lhs, rhs),
+        _ => comparison::compare(alloc, count, operator, lhs, rhs),
+    }
+}
+
+// The one child.
+fn only(children: &[BoundExpression]) -> &BoundExpression
+    requires { length children.now ≡ 1 }
+    ensures { bounds_of children.now ≡ bound (bound_of result.now) no_bound }
+{
+    &children[0]
+}
+
+// The first child's type.
+fn first_type(children: &[BoundExpression]) -> &DType
+    requires { 0 < length children.now }
+    ensures { (rest : List LogicalType) × (node_types (bounds_of children.now) ≡ type_of result.now ∷ rest) }
+{
+    children[0].dtype()
+}
+
+// The one column.
+fn one<'a>(mut columns: Vec<Rows<'a>>) -> Rows<'a>
+    requires { length columns.items ≡ 1 }
+    ensures { columns.entry.items ≡ result ∷ [] }
+{
+    columns.pop().unwrap()
+}
+
+// The two columns.
+fn two<'a>(mut columns: Vec<Rows<'a>>) -> (Rows<'a>, Rows<'a>)
+    requires { length columns.items ≡ 2 }
+    ensures { columns.entry.items ≡ result.0 ∷ result.1 ∷ [] }
+{
+    let last = columns.pop().unwrap();
+    let first = columns.pop().unwrap();
+    (first, last)
+}
+
+// The three columns.
+fn three<'a>(mut columns: Vec<Rows<'a>>) -> (Rows<'a>, Rows<'a>, Rows<'a>)
+    requires { length columns.items ≡ 3 }
+    ensures { columns.entry.items ≡ result.0 ∷ result.1 ∷ result.2 ∷ [] }
+{
+    let last = columns.pop().unwrap();
+    let (first, second) = two(columns);
+    (first, second, last)
+}

@@ -1,0 +1,133 @@
+// Null: tests for it, and what makes it or puts a value in its place.
+ghost use Rattle.std.specs.Prelude.{◌≡◌, ◌||◌, not, length, IfOk, List, [], ◌∷◌, if◌then◌else◌};
+ghost use Rattle.std.specs.List.{list_any};
+ghost use Rattle.vx_types.specs.Types.{LogicalType, bool, is_null_datum};
+ghost use Rattle.vx_types.specs.Views.{type_of, value_of};
+ghost use Rattle.vx_fn.specs.Faults.{is_bad_fill, some_differ};
+ghost use Rattle.vx_fn.specs.Functions as functions;
+ghost use Rattle.vx_eval.specs.Columns.{rows_view, Evaluates};
+
+use crate::choice::first_true;
+use crate::comparison::order;
+use crate::filling::{overwritten, tabulated};
+use crate::rows::Rows;
+use std::alloc::{AllocError, Global};
+use vx_fn::FillNull;
+use vx_types::{DType, Value, VortexError, VortexResult};
+
+/// Whether each value is null. Refuses with `OutOfMemory` (1) alone.
+pub fn is_null<'a>(alloc: Global, count: usize, input: &Rows) -> VortexResult<Rows<'a>>
+    requires { length (rows_view input.now) ≡ count }
+    ensures { (ts : List LogicalType) → Evaluates functions.is_null ts count (rows_view input.now ∷ []) result }
+{
+    tabulated(alloc, count, |i| Ok(null_test(input.row(i))))
+}
+
+/// Whether each value is another one than null. Refuses with `OutOfMemory` (1) alone.
+pub fn is_not_null<'a>(alloc: Global, count: usize, input: &Rows) -> VortexResult<Rows<'a>>
+    requires { length (rows_view input.now) ≡ count }
+    ensures { (ts : List LogicalType) → Evaluates functions.is_not_null ts count (rows_view input.now ∷ []) result }
+{
+    tabulated(alloc, count, |i| Ok(value_test(input.row(i))))
+}
+
+// Whether the value is null, as a value.
+fn null_test(v: &Value) -> Value
+    ensures { value_of result ≡ bool (is_null_datum (value_of v.now)) }
+{
+    Value::Bool(v.is_null())
+}
+
+// Whether the value isn't null, as a value.
+fn value_test(v: &Value) -> Value
+    ensures { value_of result ≡ bool (not (is_null_datum (value_of v.now))) }
+{
+    Value::Bool(!v.is_null())
+}
+
+/// The values where the mask is true, and null elsewhere; those that are owned are moved.
+/// Refuses with `OutOfMemory` (1) alone.
+pub fn mask<'a>(
+    alloc: Global,
+    count: usize,
+    input: Rows<'a>,
+    mask: Rows<'a>,
+) -> VortexResult<Rows<'a>>
+    requires input { length (rows_view input) ≡ count }
+    requires mask { length (rows_view mask) ≡ count }
+    ensures { (ts : List LogicalType) → Evaluates functions.mask ts count (rows_view input.entry ∷ rows_view mask.entry ∷ []) result }
+{
+    first_true(alloc, count, vec![in alloc; mask, input]?)
+}
+
+/// The values, with the fill where they are null; those that are owned are moved.
+///
+/// Refuses with `BadFill` (15) where the type isn't one of those that are filled, or some fill is
+/// null, or two fills differ, and with `OutOfMemory` (1).
+pub fn fill_null<'a>(
+    alloc: Global,
+    count: usize,
+    dtype: &DType,
+    input: Rows<'a>,
+    fill: &Rows,
+) -> VortexResult<Rows<'a>>
+    requires input { length (rows_view input) ≡ count }
+    requires fill { length (rows_view fill.now) ≡ count }
+    ensures { (ts : List LogicalType) → Evaluates functions.fill_null (type_of dtype.now ∷ ts) count (rows_view input.entry ∷ rows_view fill.now ∷ []) result }
+{
+    if is_bad_fill(count, dtype, fill) {
+        return Err(VortexError::BadFill);
+    }
+    match input {
+        Rows::Owned(values) => overwritten(values, |i, row| filled(row, fill.row(i))),
+        lent => tabulated(alloc, count, |i| filled_copy(lent.row(i), fill.row(i))),
+    }
+}
+
+// The value, or a copy of the fill where it is null.
+fn filled(v: Value, fill: &Value) -> Result<Value, AllocError>
+    ensures { IfOk result (λ out. value_of out ≡ (if is_null_datum (value_of v) then value_of fill.now else value_of v)) }
+{
+    if v.is_null() { fill.clone() } else { Ok(v) }
+}
+
+// A copy of the value, or of the fill where it is null.
+fn filled_copy(v: &Value, fill: &Value) -> Result<Value, AllocError>
+    ensures { IfOk result (λ out. value_of out ≡ (if is_null_datum (value_of v.now) then value_of fill.now else value_of v.now)) }
+{
+    if v.is_null() { fill.clone() } else { v.clone() }
+}
+
+// Whether values of the type can't be filled, or the fills are null somewhere or not one value.
+fn is_bad_fill(count: usize, dtype: &DType, fill: &Rows) -> bool
+    requires { length (rows_view fill.now) ≡ count }
+    ensures { (ts : List LogicalType) → result ≡ is_bad_fill (type_of dtype.now ∷ ts) (rows_view fill.now) }
+{
+    !FillNull::supports_dtype(dtype) || has_null(count, fill) || some_differ(count, fill)
+}
+
+// Whether some row is null.
+fn has_null(count: usize, fill: &Rows) -> bool
+    requires { length (rows_view fill.now) ≡ count }
+    ensures { result ≡ list_any is_null_datum (rows_view fill.now) }
+{
+    for i in 0..count {
+        if fill.row(i).is_null() {
+            return true;
+        }
+    }
+    false
+}
+
+// Whether some row differs from the first.
+fn some_differ(count: usize, fill: &Rows) -> bool
+    requires { length (rows_view fill.now) ≡ count }
+    ensures { result ≡ some_differ (rows_view fill.now) }
+{
+    for i in 1..count {
+        if order(fill.row(0), fill.row(i)).is_ne() {
+            return true;
+        }
+    }
+    false
+}

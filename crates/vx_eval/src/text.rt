@@ -1,0 +1,122 @@
+// Texts against patterns.
+ghost use Rattle.std.specs.Prelude.{◌≡◌, length, option_map, List, [], ◌∷◌, Ok};
+ghost use Rattle.std.proofs.Math.ListN.{replicate};
+ghost use Rattle.vx_dtype.specs.Answers.{Answers};
+ghost use Rattle.vx_types.specs.Types.{LogicalType};
+ghost use Rattle.vx_types.specs.Views.{value_of};
+ghost use Rattle.vx_fn.specs.Functions as functions;
+ghost use Rattle.vx_fn.specs.Values as values;
+ghost use Rattle.vx_eval.specs.Columns.{rows_view, text_of, accepted, Evaluates};
+
+use crate::filling::tabulated;
+use crate::rows::Rows;
+use std::alloc::Global;
+use vx_fn::LikeOptions;
+use vx_like::{Pattern, is_like};
+use vx_types::{Value, VortexResult};
+
+/// Whether each text is like the pattern beside it. One pattern for all rows is read once.
+/// Refuses with `OutOfMemory` (1) alone.
+pub fn like<'a>(
+    alloc: Global,
+    count: usize,
+    options: &LikeOptions,
+    child: &Rows,
+    pattern: &Rows,
+) -> VortexResult<Rows<'a>>
+    requires child { length (rows_view child.now) ≡ count }
+    requires pattern { length (rows_view pattern.now) ≡ count }
+    ensures { (ts : List LogicalType) → Evaluates (functions.like options.now.negated options.now.case_insensitive) ts count (rows_view child.now ∷ rows_view pattern.now ∷ []) result }
+{
+    match pattern {
+        Rows::Same(value, _) => like_one(alloc, count, options, child, *value),
+        _ => like_each(alloc, count, options, child, pattern),
+    }
+}
+
+// The same with one pattern for all rows.
+fn like_one<'a>(
+    alloc: Global,
+    count: usize,
+    options: &LikeOptions,
+    child: &Rows,
+    pattern: &Value,
+) -> VortexResult<Rows<'a>>
+    requires { length (rows_view child.now) ≡ count }
+    ensures { (ts : List LogicalType) → Evaluates (functions.like options.now.negated options.now.case_insensitive) ts count (rows_view child.now ∷ replicate count (value_of pattern.now) ∷ []) result }
+{
+    match as_text(pattern) {
+        Some(text) => {
+            let read = Pattern::compile(alloc, text, options.case_insensitive)?;
+            tabulated(
+                alloc,
+                count,
+                |i| Ok(accepted(options.negated, child.row(i), &read)),
+            )
+        }
+        None => tabulated(alloc, count, |_| Ok(Value::Null)),
+    }
+}
+
+// The text that the value is, if it is one.
+fn as_text<'v>(v: &'v Value) -> Option<&'v str>
+    ensures { option_map (λ s. s.now) result ≡ text_of (value_of v.now) }
+{
+    match v {
+        Value::Utf8(text) => Some(text.as_str()),
+        _ => None,
+    }
+}
+
+// The same with a pattern for each row.
+fn like_each<'a>(
+    alloc: Global,
+    count: usize,
+    options: &LikeOptions,
+    child: &Rows,
+    pattern: &Rows,
+) -> VortexResult<Rows<'a>>
+    requires child { length (rows_view child.now) ≡ count }
+    requires pattern { length (rows_view pattern.now) ≡ count }
+    ensures { (ts : List LogicalType) → Evaluates (functions.like options.now.negated options.now.case_insensitive) ts count (rows_view child.now ∷ rows_view pattern.now ∷ []) result }
+{
+    let mut answers = Vec::with_capacity(alloc, count)?;
+    for i in 0..count {
+        answers.push(liked(alloc, options, child.row(i), pattern.row(i))?)?;
+    }
+    Ok(Rows::Owned(answers))
+}
+
+// Whether the pattern accepts the text, turned round where it is negated; null of null.
+fn accepted(negated: bool, v: &Value, pattern: &Pattern) -> Value
+    ensures { value_of result ≡ accepted negated pattern.now (value_of v.now) }
+{
+    match v {
+        Value::Utf8(text) => Value::Bool(flipped(negated, pattern.matches(text.as_str()))),
+        _ => Value::Null,
+    }
+}
+
+// Whether the text is like the pattern, turned round where it is negated; null where one is.
+fn liked(alloc: Global, options: &LikeOptions, v: &Value, w: &Value) -> VortexResult<Value>
+    ensures { Answers value_of result (Ok (values.liked options.now.negated options.now.case_insensitive (value_of v.now) (value_of w.now))) }
+{
+    match v {
+        Value::Utf8(text) => match w {
+            Value::Utf8(pattern) => {
+                let ignore_case = options.case_insensitive;
+                let is_like = is_like(alloc, text.as_str(), pattern.as_str(), ignore_case)?;
+                Ok(Value::Bool(flipped(options.negated, is_like)))
+            }
+            _ => Ok(Value::Null),
+        },
+        _ => Ok(Value::Null),
+    }
+}
+
+// The answer, turned round where it is negated.
+fn flipped(negated: bool, b: bool) -> bool
+    ensures { result ≡ values.flipped negated b }
+{
+    if negated { !b } else { b }
+}

@@ -1,0 +1,13 @@
+// Texts against the patterns of LIKE.
+#![tactic(auto)]
+
+mod characters;
+mod laws;
+mod parts;
+mod pattern;
+#[cfg(test)]
+mod tests;
+mod walk;
+
+pub use laws::accepts_what_is_like;
+pub use pattern::{Pattern, is_like};
