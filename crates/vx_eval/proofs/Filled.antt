@@ -75,18 +75,18 @@ pub first_row : (p : List Datum → Bool) (g : ℕ → List Datum) (n i : ℕ) �
 first_row p g n i within before here =
     let long : length (each_row n g) ≡ n = length-map-range_with_len g 0 n in
     let at : position_or_len p (each_row n g) ≡ i =
-        position_or_len_is p (each_row n g) i [] (omega arith)
-            (λ k h. ap p (get_or-map-range_with_len g 0 n k k [] (omega arith) (omega arith)) ∙ before k h)
-            (λ _. ap p (get_or-map-range_with_len g 0 n i i [] within (omega arith)) ∙ here) in
+    position_or_len_is p (each_row n g) i [] (omega arith)
+    (λ k h. ap p (get_or-map-range_with_len g 0 n k k [] (omega arith) (omega arith)) ∙ before k h)
+    (λ _. ap p (get_or-map-range_with_len g 0 n i i [] within (omega arith)) ∙ here) in
     rw (at, long) (grind (arith, nat_tests))
 
 pub no_row : (p : List Datum → Bool) (g : ℕ → List Datum) (n : ℕ) → ((k : ℕ) → k < n → p (g k) ≡ false) → position p (each_row n g) ≡ None
 no_row p g n all =
     let long : length (each_row n g) ≡ n = length-map-range_with_len g 0 n in
     let at : position_or_len p (each_row n g) ≡ n =
-        position_or_len_is p (each_row n g) n [] (omega arith)
-            (λ k h. ap p (get_or-map-range_with_len g 0 n k k [] h (omega arith)) ∙ all k h)
-            (λ h. absurd (omega arith)) in
+    position_or_len_is p (each_row n g) n [] (omega arith)
+    (λ k h. ap p (get_or-map-range_with_len g 0 n k k [] h (omega arith)) ∙ all k h)
+    (λ h. absurd (omega arith)) in
     rw (at, long) (grind (arith, nat_tests))
 
 -- a literal over rows of no columns

@@ -5,6 +5,6 @@ mod Meanings
 mod Structs
 mod Overwriting
 mod Taking
-mod Tests
+mod FirstRows
 mod Likes
 mod Matched

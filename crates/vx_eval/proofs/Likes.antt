@@ -1,9 +1,9 @@
 -- Texts against patterns that were read.
-use Rattle.std.proofs.Common.{◌≡◌, ℕ, ◌<◌, List, [], ◌∷◌, length, get_or, refl, sym, ap, subst, ◌∙◌, arith, Option, Some, None, Result, Ok, Bool, zero, suc}
+use Rattle.std.proofs.Common.{◌≡◌, ℕ, ◌<◌, List, [], ◌∷◌, length, get_or, refl, sym, ap, subst, ◌∙◌, arith, Some, None, Result, Ok, Bool, zero, suc}
 use Rattle.std.proofs.Math.ListN.{replicate}
 use Rattle.std.proofs.lemmas.List.{length-replicate}
 use Rattle.vx_dtype.specs.declared.error.VortexError.{VortexError}
-use Rattle.vx_types.specs.Types.{LogicalType, Datum, null, bool, utf8}
+use Rattle.vx_types.specs.Types.{LogicalType, Datum, null, utf8}
 use Rattle.vx_fn.specs.Functions.{Function}
 use Rattle.vx_fn.specs.Values.{liked}
 use Rattle.vx_like.specs.Patterns.{Compiled, compiled}

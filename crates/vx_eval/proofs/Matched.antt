@@ -1,15 +1,14 @@
 -- Conditions and values of columns, taken in turn.
-use Rattle.std.proofs.Common.{◌≡◌, ℕ, ◌+◌, ◌<◌, List, [], ◌∷◌, ◌++◌, map, length, get_or, drop, refl, sym, ap, subst, ◌∙◌, arith, zero, suc, Option, Some, None, Result, Ok, Bool, true, false, IsTrue}
+use Rattle.std.proofs.Common.{◌≡◌, ℕ, ◌+◌, ◌<◌, List, [], ◌∷◌, map, length, get_or, refl, sym, ap, subst, ◌∙◌, arith, zero, suc, Option, Some, None, Result, Ok, Bool, true, false, IsTrue}
 use Rattle.std.specs.Prelude.{if◌then◌else◌, MatchOption, option_map}
 use Rattle.std.specs.List.{range_with_len, list_all}
 use Rattle.std.proofs.lemmas.Bool.{and_parts}
-use Rattle.std.proofs.lemmas.List.{drop_more, append_assoc, map-append, append-nil}
 use Rattle.vx_dtype.specs.declared.error.VortexError.{VortexError}
 use Rattle.vx_types.specs.Columns.{Batch, batch}
 use Rattle.vx_types.specs.Fits.{fits, Fits, IsBatch}
 use Rattle.vx_types.specs.Types.{LogicalType, ty, Datum, null, is_nullable}
 use Rattle.vx_fn.specs.Values.{is_true, first_true}
-use Rattle.vx_eval.specs.Choices.{rows_in, height, EachBatch, first_match, else_at, matched_at, in_turn}
+use Rattle.vx_eval.specs.Choices.{rows_in, height, EachBatch, matched_at, in_turn}
 use Rattle.vx_eval.specs.Columns.{row_at, each_row, AllLong}
 
 -- the columns in turn have the same length

@@ -1,5 +1,5 @@
 -- Columns whose rows are written over in place.
-use Rattle.std.proofs.Common.{◌≡◌, ℕ, ◌+◌, ◌<◌, ◌≤◌, List, [], ◌∷◌, map, length, get_or, refl, sym, ap, ◌∙◌, arith, zero, suc, ◌≢◌, below_more, get_or-set_other, get_or-set_same, set-set, subst}
+use Rattle.std.proofs.Common.{◌≡◌, ℕ, ◌+◌, ◌<◌, ◌≤◌, List, length, get_or, refl, sym, ap, ◌∙◌, arith, ◌≢◌, below_more, get_or-set_other, get_or-set_same, set-set}
 use Rattle.std.proofs.Math.ListN.{set}
 use Rattle.std.proofs.lemmas.List.{ext_get_or, map-set, length-map, get_or-map}
 use Rattle.std.proofs.lemmas.List.FromFn.{length-map-range_with_len, get_or-map-range_with_len}
@@ -22,12 +22,12 @@ pub written_more : (g : ℕ → Datum → Datum) (xs ys : List Datum) (i : ℕ) 
 written_more g xs ys i x y w within here made =
     let at : get_or xs i null ≡ x = sym (w.rest i (omega arith)) ∙ sym here in
     record {
-  long = grind (arith, common_steps, w.long);
-  done = below_more (λ k. get_or (set ys i y) k null ≡ g k (get_or xs k null)) i
-      (λ k h. let apart : k ≢ i = omega arith in rw get_or-set_other (w.done k h))
-      (rw (get_or-set_same, at) made);
-  rest = λ k h. let apart : k ≢ i = omega arith in rw get_or-set_other (w.rest k (omega arith))
-}
+      long = grind (arith, common_steps, w.long);
+      done = below_more (λ k. get_or (set ys i y) k null ≡ g k (get_or xs k null)) i
+          (λ k h. let apart : k ≢ i = omega arith in rw get_or-set_other (w.done k h))
+          (rw (get_or-set_same, at) made);
+      rest = λ k h. let apart : k ≢ i = omega arith in rw get_or-set_other (w.rest k (omega arith));
+    }
 
 -- the same for the values: a row is taken out, and another put in
 pub overwritten_more : (g : ℕ → Datum → Datum) (xs vs : List Value) (i : ℕ) (row empty v : Value) → Written g (values_of xs) i (values_of vs) → i < length vs → row ≡ get_or vs i row →
@@ -41,7 +41,7 @@ pub written_all : (g : ℕ → Datum → Datum) (xs ys : List Datum) (i : ℕ) �
 written_all g xs ys i w all =
     let f = λ (k : ℕ). g k (get_or xs k null) in
     ext_get_or null _ _ (w.long ∙ sym (length-map-range_with_len f 0 (length xs)))
-        (λ k h. w.done k (omega (arith, w.long)) ∙ sym (get_or-map-range_with_len f 0 (length xs) k k null (omega (arith, w.long)) (omega arith)))
+    (λ k h. w.done k (omega (arith, w.long)) ∙ sym (get_or-map-range_with_len f 0 (length xs) k k null (omega (arith, w.long)) (omega arith)))
 
 pub overwritten_all : (g : ℕ → Datum → Datum) (xs vs : List Value) (i : ℕ) → Written g (values_of xs) i (values_of vs) → length xs ≤ i → values_of vs ≡ each_row (length xs) (λ k. g k (get_or (values_of xs) k null))
 overwritten_all g xs vs i w all =
@@ -53,7 +53,7 @@ pub written_kept : (g : ℕ → Datum → Datum) (xs ys : List Datum) (i : ℕ) 
 written_kept g xs ys i w kept =
     let at : get_or ys i null ≡ get_or xs i null = w.rest i (omega arith) in
     record {
-  long = w.long;
-  done = below_more (λ k. get_or ys k null ≡ g k (get_or xs k null)) i w.done (sym kept ∙ ap (g i) at);
-  rest = λ k h. w.rest k (omega arith)
-}
+      long = w.long;
+      done = below_more (λ k. get_or ys k null ≡ g k (get_or xs k null)) i w.done (sym kept ∙ ap (g i) at);
+      rest = λ k h. w.rest k (omega arith);
+    }

@@ -14,11 +14,7 @@ use vx_types::{Value, VortexResult};
 
 /// A CASE over its conditions and values in turn, with ELSE last. Refuses with `OutOfMemory` (1)
 /// alone.
-pub fn case_when<'a>(
-    alloc: Global,
-    count: usize,
-    columns: Vec<Rows<'a>>,
-) -> VortexResult<Rows<'a>>
+pub fn case_when<'a>(alloc: Global, count: usize, columns: Vec<Rows<'a>>) -> VortexResult<Rows<'a>>
     requires { AllLong count (rows_views columns.items) }
     ensures { (pairs : ℕ) (has_else : Bool) (ts : List LogicalType) → Evaluates (functions.case_when pairs has_else) ts count (rows_views columns.entry.items) result }
 {
@@ -74,7 +70,11 @@ fn chosen_place(columns: &Vec<Rows>, i: usize) -> Option<usize>
         }
         place += 2;
     }
-    if place < columns.len() { Some(place) } else { None }
+    if place < columns.len() {
+        Some(place)
+    } else {
+        None
+    }
 }
 
 // The value of that row of that column, moved where it is owned, or null without a column.

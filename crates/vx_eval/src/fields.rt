@@ -104,11 +104,7 @@ pub fn select<'a>(
 }
 
 // Where the values of the included fields stand in the structs of the type.
-fn places_of(
-    alloc: Global,
-    selection: &FieldSelection,
-    dtype: &DType,
-) -> VortexResult<Vec<usize>>
+fn places_of(alloc: Global, selection: &FieldSelection, dtype: &DType) -> VortexResult<Vec<usize>>
     requires { IsOk (select_type selection.now (type_of dtype.now)) }
     ensures places { IfOk result (λ places. (v : Datum) → select_value selection.now (type_of dtype.now ∷ []) v ≡ items_at places.items v) }
     ensures memory { IfErr result (λ e. e ≡ OutOfMemory) }
@@ -176,11 +172,7 @@ fn items_copied(alloc: Global, row: &Value, places: &[usize]) -> Result<Value, A
 
 /// The struct of the columns' values in each row; those that are owned are moved. Refuses with
 /// `OutOfMemory` (1) alone.
-pub fn pack<'a>(
-    alloc: Global,
-    count: usize,
-    mut columns: Vec<Rows<'a>>,
-) -> VortexResult<Rows<'a>>
+pub fn pack<'a>(alloc: Global, count: usize, mut columns: Vec<Rows<'a>>) -> VortexResult<Rows<'a>>
     requires { AllLong count (rows_views columns.items) }
     ensures { (names : List Name) (n : Bool) (ts : List LogicalType) → Evaluates (functions.pack names n) ts count (rows_views columns.entry.items) result }
 {

@@ -1,6 +1,1 @@
-mod Filling
-mod Transposed
-mod Fitting
-mod Meanings
-mod Quiet
-mod Structs
+pub mod Quiet

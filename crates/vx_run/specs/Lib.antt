@@ -1,7 +1,6 @@
 pub mod Writing
 pub mod Requests
-pub mod Columns
-pub mod Evaluation
+pub mod Quiet
 pub mod Samples
 pub mod Kleene
 pub mod Pages

@@ -2,7 +2,7 @@
 use Rattle.std.specs.Prelude.{◌≡◌, ℕ, List, [], ◌++◌, Result, Ok, Err, map, codes}
 use Rattle.vx_dtype.specs.declared.error.VortexError.{VortexError}
 use Rattle.vx_types.specs.Columns.{Batch}
-use Rattle.vx_types.specs.Texts.{type_text}
+use Rattle.vx_dtype.specs.Texts.{type_text}
 use Rattle.vx_types.specs.Types.{LogicalType}
 use Rattle.vx_types.specs.ValueTexts.{column_text}
 use Rattle.vx_tree.specs.Trees.{Tree, on_ok, typed}

@@ -1,6 +1,6 @@
 // What the row `kleene` shows: two bounds of one field, of which one is null.
 ghost use Rattle.std.specs.Prelude.{Ok};
-ghost use Rattle.vx_types.specs.Answers.{Answers};
+ghost use Rattle.vx_dtype.specs.Answers.{Answers};
 ghost use Rattle.vx_types.specs.Views.{type_of, value_of};
 ghost use Rattle.vx_fn.specs.Views.{operation_of};
 ghost use Rattle.vx_tree.specs.Views.{tree_of};

@@ -1,7 +1,6 @@
 // A run of the program, over any two writers.
 #![tactic(auto)]
 
-mod evaluation;
 mod kleene;
 mod laws;
 mod pages;

@@ -6,9 +6,17 @@ mod build;
 #[cfg(test)]
 mod columns;
 #[cfg(test)]
+mod comparisons;
+#[cfg(test)]
 mod errors;
 #[cfg(test)]
+mod faults;
+#[cfg(test)]
 mod functions;
+#[cfg(test)]
+mod no_rows;
+#[cfg(test)]
+mod results;
 #[cfg(test)]
 mod rows;
 #[cfg(test)]

@@ -12,7 +12,7 @@ use vx_tree::{
 };
 
 /// The struct type of the one field `x`.
-fn with_x(
+pub fn with_x(
     rt: &impl Abort,
     alloc: Global,
     dtype: DType,
@@ -22,14 +22,14 @@ fn with_x(
     Ok(DType::Struct(fields(rt, alloc, &["x"], types)?, nullability))
 }
 
-fn case(pairs: u32) -> ScalarFnRef {
+pub fn case(pairs: u32) -> ScalarFnRef {
     ScalarFnRef::CaseWhen(CaseWhenOptions {
         num_when_then_pairs: pairs,
         has_else: true,
     })
 }
 
-fn number(alloc: Global, value: i32) -> VortexResult<Expression> {
+pub fn number(alloc: Global, value: i32) -> VortexResult<Expression> {
     literal(alloc, Scalar::from_i32(value))
 }
 
@@ -49,7 +49,7 @@ fn twice_selected(alloc: Global, nullability: Nullability) -> VortexResult<Expre
 }
 
 /// A field of a nullable pack.
-fn item_of_pack(alloc: Global) -> VortexResult<Expression> {
+pub fn item_of_pack(alloc: Global) -> VortexResult<Expression> {
     let pack = ScalarFnRef::Pack(PackOptions {
         names: names(alloc, &["a"])?,
         nullability: Nullable,
@@ -60,7 +60,7 @@ fn item_of_pack(alloc: Global) -> VortexResult<Expression> {
 }
 
 /// 0 where x is null, else x.
-fn zero_for_null(alloc: Global) -> VortexResult<Expression> {
+pub fn zero_for_null(alloc: Global) -> VortexResult<Expression> {
     let null = ScalarFnRef::IsNull(EmptyOptions);
     let mut children = vec![in alloc; call(alloc, null, vec![in alloc; col(alloc, "x")?]?)?]?;
     children.push(number(alloc, 0)?)?;
@@ -75,7 +75,7 @@ fn above(alloc: Global, bound: i32) -> VortexResult<Expression> {
 }
 
 /// 10 where x is above 0, 20 where it is above 3, else 30.
-fn two_cases(alloc: Global) -> VortexResult<Expression> {
+pub fn two_cases(alloc: Global) -> VortexResult<Expression> {
     let mut children = Vec::new(alloc);
     for (bound, value) in [(0, 10), (3, 20)] {
         children.push(above(alloc, bound)?)?;
@@ -123,7 +123,7 @@ fn rows_of_cases_have_their_text_and_type(rt: HostRuntime) -> Result<(), Fail> {
 }
 
 /// A selection over the scope.
-fn selected(alloc: Global, selection: FieldSelection) -> VortexResult<Expression> {
+pub fn selected(alloc: Global, selection: FieldSelection) -> VortexResult<Expression> {
     call(
         alloc,
         ScalarFnRef::Select(selection),

@@ -1,4 +1,4 @@
-use Rattle.std.proofs.Common.{◌∷◌, [], arith, below_more, ◌≡◌, ◌∙◌, ap, get_or, refl}
+use Rattle.std.proofs.Common.{◌∷◌, [], arith, below_more, ◌≡◌, ◌∙◌, ap, get_or}
 use Rattle.vx_dtype.specs.declared.error.VortexError.TheVariants.{AddOverflow}
 use Rattle.vx_types.specs.Types.{null}
 use Rattle.vx_types.specs.Views.{type_of}
@@ -6,7 +6,7 @@ use Rattle.vx_fn.specs.Functions.{binary, adds}
 use Rattle.vx_fn.specs.Values.{sum_of}
 use Rattle.vx_eval.specs.Columns.{rows_view, each_row}
 use Rattle.vx_eval.proofs.Filled.{row_pushed, refused, given}
-use Rattle.vx_eval.proofs.Tests.{add_fault, add_quiet, sum_at, inside_at}
+use Rattle.vx_eval.proofs.FirstRows.{add_fault, add_quiet, sum_at, inside_at}
 use Rattle.vx_eval.proofs.arithmetic.add.Goals as goal
 
 pub returns-in-None : goal.returns-in-None

@@ -1,5 +1,4 @@
-use Rattle.std.proofs.Common.{arith, sym, ◌∙◌, ap}
-use Rattle.vx_fn.specs.Values.{first_true}
+use Rattle.std.proofs.Common.{arith, sym, ◌∙◌}
 use Rattle.vx_eval.specs.Columns.{rows_views, row_at}
 use Rattle.vx_eval.proofs.Taking.{row_there, row_long, at_place, passed_over, stopped_at}
 use Rattle.vx_eval.proofs.choice.chosen_place.Goals as goal
@@ -20,6 +19,6 @@ loop-place-preserved c =
     let row = row_at (rows_views rs) c.args.i in
     let at = c.row.ensures ∙ sym (at_place rs c.args.i c.loop-place.place _ (omega arith) c.index.ensures) in
     record {
-  within = omega arith;
-  same = c.loop-place.invariant.same ∙ passed_over row c.loop-place.place _ (omega (arith, row_long rs c.args.i)) at (sym c.if-is_true.ensures);
-}
+      within = omega arith;
+      same = c.loop-place.invariant.same ∙ passed_over row c.loop-place.place _ (omega (arith, row_long rs c.args.i)) at (sym c.if-is_true.ensures);
+    }

@@ -1,4 +1,4 @@
-use Rattle.std.proofs.Common.{◌≡◌, arith, ap, sym, ◌∙◌, ◌++◌, ◌∷◌, [], map, ℕ}
+use Rattle.std.proofs.Common.{arith, ap, sym, ◌∙◌, ◌∷◌, [], map, ℕ}
 use Rattle.std.proofs.lemmas.List.{map-append}
 use Rattle.vx_types.specs.Fields.{data_of, field_value, first_unknown}
 use Rattle.vx_types.specs.Types.{Name}

@@ -1,4 +1,4 @@
-use Rattle.std.proofs.Common.{arith, ◌∙◌, ◌≡◌, ◌≢◌, ap, sym, refl}
+use Rattle.std.proofs.Common.{arith, ◌∙◌, ◌≡◌, ◌≢◌, ap, refl}
 use Rattle.vx_types.specs.Fields.{data_of}
 use Rattle.vx_types.specs.Types.{struct_of}
 use Rattle.vx_fn.specs.Functions.{pack}

@@ -1,4 +1,4 @@
-use Rattle.vx_eval.proofs.Structs.{selection_known, names_known, items_placed}
+use Rattle.vx_eval.proofs.Structs.{selection_known, names_known}
 use Rattle.vx_eval.proofs.fields.places_of.Goals as goal
 
 pub included-requires : goal.included-requires

@@ -6,7 +6,7 @@ use Rattle.vx_types.specs.Views.{type_of, value_of}
 use Rattle.vx_fn.specs.Functions.{fill_null}
 use Rattle.vx_eval.specs.Columns.{rows_view}
 use Rattle.vx_eval.proofs.Filled.{evaluated, evaluated_in_place, refused}
-use Rattle.vx_eval.proofs.Tests.{fill_fault, fill_quiet}
+use Rattle.vx_eval.proofs.FirstRows.{fill_fault, fill_quiet}
 use Rattle.vx_eval.proofs.nulls.fill_null.Goals as goal
 
 pub returns-then-is_bad_fill : goal.returns-then-is_bad_fill

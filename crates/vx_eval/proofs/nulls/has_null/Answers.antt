@@ -1,7 +1,7 @@
 use Rattle.std.proofs.Common.{arith, sym}
 use Rattle.vx_types.specs.Types.{null, is_null_datum}
 use Rattle.vx_eval.specs.Columns.{rows_view}
-use Rattle.vx_eval.proofs.Tests.{none_any}
+use Rattle.vx_eval.proofs.FirstRows.{none_any}
 use Rattle.vx_eval.proofs.nulls.has_null.Goals as goal
 
 pub returns : goal.returns

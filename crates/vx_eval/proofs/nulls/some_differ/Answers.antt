@@ -1,6 +1,6 @@
 use Rattle.std.proofs.Common.{arith, sym}
 use Rattle.vx_eval.specs.Columns.{rows_view}
-use Rattle.vx_eval.proofs.Tests.{none_differ}
+use Rattle.vx_eval.proofs.FirstRows.{none_differ}
 use Rattle.vx_eval.proofs.nulls.some_differ.Goals as goal
 
 pub returns : goal.returns

@@ -1,0 +1,79 @@
+-- Tests over all rows of a column, and the first row at which one passes.
+use Rattle.std.proofs.Common.{◌≡◌, ℕ, ◌<◌, List, [], ◌∷◌, map, length, get_or, refl, sym, ap, ◌∙◌, arith, Some, None, Bool, true, false, zero, suc, IsTrue}
+use Rattle.std.specs.Prelude.{not, ◌||◌, position}
+use Rattle.std.specs.List.{list_any, range_with_len}
+use Rattle.std.specs.Option.{option_map}
+use Rattle.vx_dtype.specs.declared.error.VortexError.TheVariants.{AddOverflow, BadFill}
+use Rattle.vx_types.specs.Fits.{fits}
+use Rattle.vx_types.specs.Types.{LogicalType, ty, atomic, number, Datum, null, int}
+use Rattle.vx_fn.specs.Faults.{node_fault, is_outside, overflows, misfits, fill_of, is_bad_fill, some_differ, differs, when}
+use Rattle.vx_fn.specs.Functions.{binary, adds, fill_null}
+use Rattle.vx_fn.specs.Values.{sum_of}
+use Rattle.vx_eval.specs.Columns.{row_at, rows_of}
+use Rattle.vx_eval.proofs.Filled.{first_row, no_row, map_map, all_rows}
+
+-- ---- tests of some row
+
+pub none_any : {A : Type 0} (p : A → Bool) (d : A) (xs : List A) → ((k : ℕ) → k < length xs → p (get_or xs k d) ≡ false) → list_any p xs ≡ false
+none_any p d [] all = refl
+none_any p d (x ∷ xs) all = let here : p x ≡ false = all 0 (omega arith) in rw here (none_any p d xs (λ k h. all (suc k) (omega arith)))
+
+pub some_any : {A : Type 0} (p : A → Bool) (d : A) (xs : List A) (k : ℕ) → k < length xs → p (get_or xs k d) ≡ true → list_any p xs ≡ true
+some_any p d [] k lt here = absurd (omega arith)
+some_any p d (x ∷ xs) zero lt here = rw here refl
+some_any p d (x ∷ xs) (suc k) lt here = let rest : list_any p xs ≡ true = some_any p d xs k (omega arith) here in go (p x) rest
+  where
+    go : (b : Bool) → list_any p xs ≡ true → (b || list_any p xs) ≡ true
+    go true e = refl
+    go false e = e
+
+pub none_differ : (ds : List Datum) → ((k : ℕ) → suc k < length ds → differs (get_or ds 0 null) (get_or ds (suc k) null) ≡ false) → some_differ ds ≡ false
+none_differ [] all = refl
+none_differ (v ∷ vs) all = none_any (differs v) null vs (λ k h. all k (omega arith))
+
+pub one_differs : (ds : List Datum) (k : ℕ) → suc k < length ds → differs (get_or ds 0 null) (get_or ds (suc k) null) ≡ true → some_differ ds ≡ true
+one_differs [] k lt here = absurd (omega arith)
+one_differs (v ∷ vs) k lt here = some_any (differs v) null vs k (omega arith) here
+
+-- ---- casts
+
+pub first_misfit_at : (t : LogicalType) (n i : ℕ) (c : List Datum) (d : Datum) → i < n → ((k : ℕ) → k < i → fits (get_or c k null) t ≡ true) → d ≡ get_or c i null → fits d t ≡ false →
+    Some i ≡ position (misfits t) (rows_of n (c ∷ []))
+first_misfit_at t n i c d within before is here = sym (first_row (misfits t) (row_at (c ∷ [])) n i within (λ k h. ap not (before k h)) (ap (λ v. not (fits v t)) (sym is) ∙ ap not here))
+
+pub no_misfit_at : (t : LogicalType) (n : ℕ) (c : List Datum) → ((k : ℕ) → k < n → fits (get_or c k null) t ≡ true) → None ≡ position (misfits t) (rows_of n (c ∷ []))
+no_misfit_at t n c all = sym (no_row (misfits t) (row_at (c ∷ [])) n (λ k h. ap not (all k h)))
+
+-- ---- fills
+
+fills : (n : ℕ) (c f : List Datum) → length f ≡ n → map fill_of (rows_of n (c ∷ f ∷ [])) ≡ f
+fills n c f long = map_map fill_of (row_at (c ∷ f ∷ [])) (range_with_len 0 n) ∙ all_rows f n long
+
+pub fill_fault : (ts : List LogicalType) (n : ℕ) (c f : List Datum) → length f ≡ n → is_bad_fill ts f ≡ true → node_fault fill_null ts (rows_of n (c ∷ f ∷ [])) ≡ Some BadFill
+fill_fault ts n c f long bad = ap (λ fs. when (is_bad_fill ts fs) BadFill) (fills n c f long) ∙ ap (λ b. when b BadFill) bad
+
+pub fill_quiet : (ts : List LogicalType) (n : ℕ) (c f : List Datum) → length f ≡ n → is_bad_fill ts f ≡ false → node_fault fill_null ts (rows_of n (c ∷ f ∷ [])) ≡ None
+fill_quiet ts n c f long good = ap (λ fs. when (is_bad_fill ts fs) BadFill) (fills n c f long) ∙ ap (λ b. when b BadFill) good
+
+-- ---- sums
+
+outside_same : (t : LogicalType) (ts : List LogicalType) (v : Datum) → is_outside (t ∷ ts) v ≡ is_outside (t ∷ []) v
+outside_same (ty (atomic (number p)) n) ts (int i) = refl
+outside_same _ ts _ = refl
+
+pub add_fault : (t : LogicalType) (ts : List LogicalType) (n i : ℕ) (l r : List Datum) (a b : Datum) → i < n →
+    ((k : ℕ) → k < i → is_outside (t ∷ []) (sum_of (get_or l k null) (get_or r k null)) ≡ false) → a ≡ get_or l i null → b ≡ get_or r i null → IsTrue (is_outside (t ∷ []) (sum_of a b)) →
+    node_fault (binary adds) (t ∷ ts) (rows_of n (l ∷ r ∷ [])) ≡ Some (AddOverflow i)
+add_fault t ts n i l r a b within before left right outside =
+    let here : is_outside (t ∷ []) (sum_of (get_or l i null) (get_or r i null)) ≡ true = rw (← left, ← right) outside in
+    ap (option_map AddOverflow) (first_row (overflows (t ∷ ts)) (row_at (l ∷ r ∷ [])) n i within (λ k h. outside_same t ts _ ∙ before k h) (outside_same t ts _ ∙ here))
+
+pub add_quiet : (t : LogicalType) (ts : List LogicalType) (n : ℕ) (l r : List Datum) → ((k : ℕ) → k < n → is_outside (t ∷ []) (sum_of (get_or l k null) (get_or r k null)) ≡ false) →
+    node_fault (binary adds) (t ∷ ts) (rows_of n (l ∷ r ∷ [])) ≡ None
+add_quiet t ts n l r all = ap (option_map AddOverflow) (no_row (overflows (t ∷ ts)) (row_at (l ∷ r ∷ [])) n (λ k h. outside_same t ts _ ∙ all k h))
+
+pub sum_at : (v a b c d : Datum) → v ≡ sum_of a b → a ≡ c → b ≡ d → v ≡ sum_of c d
+sum_at v a b c d e f g = cc
+
+pub inside_at : (t : LogicalType) (v a b c d : Datum) → is_outside (t ∷ []) v ≡ false → v ≡ sum_of a b → a ≡ c → b ≡ d → is_outside (t ∷ []) (sum_of c d) ≡ false
+inside_at t v a b c d h e f g = ap (is_outside (t ∷ [])) (sym (sum_at v a b c d e f g)) ∙ h

@@ -1,8 +1,0 @@
-use Rattle.std.proofs.Common.{rules, refl, ◌∷◌, []}
-use Rattle.vx_fn.specs.Functions.{binary, and_also}
-use Rattle.vx_run.specs.Columns.{rows_view}
-use Rattle.vx_run.proofs.Filling.{evaluated}
-use Rattle.vx_run.proofs.evaluation.logic.and.Goals as goal
-
-pub returns : goal.returns
-returns c = λ ts. evaluated (binary and_also) ts c.args.count (rows_view c.args.lhs.now ∷ rows_view c.args.rhs.now ∷ []) _ refl (c.tabulated.ensures.rows _ (λ i v lt p. search rules)) c.tabulated.ensures.memory

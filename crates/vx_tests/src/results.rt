@@ -1,0 +1,185 @@
+// Worked rows as runs: results of evaluation.
+use crate::build::{binary, call, col, fields, i32_type, literal, names, prints};
+use crate::rows::{item_of_pack, number, selected, two_cases, with_x, zero_for_null};
+use std::alloc::Global;
+use std::process::Abort;
+use std::test::Fail;
+use vx_eval::apply_bound;
+use vx_tree::Nullability::{NonNullable, Nullable};
+use vx_tree::{
+    CaseWhenOptions, Column, DType, EmptyOptions, Expression, FieldSelection, LikeOptions,
+    Operator, PType, Scalar, ScalarFnRef, Value, VortexError, VortexResult,
+};
+
+/// Whole numbers, and nulls between them.
+pub fn numbers(alloc: Global, given: &[Option<i128>]) -> VortexResult<Vec<Value>> {
+    let mut values = Vec::with_capacity(alloc, given.len())?;
+    for number in given {
+        values.push(match number {
+            Some(n) => Value::Int(*n),
+            None => Value::Null,
+        })?;
+    }
+    Ok(values)
+}
+
+/// Rows of the one field `x`, of type `i32?`.
+pub fn rows_of_x(rt: &impl Abort, alloc: Global, x: &[Option<i128>]) -> Result<Column, Fail> {
+    let mut rows = Vec::with_capacity(alloc, x.len())?;
+    for value in numbers(alloc, x)? {
+        rows.push(Value::Struct(vec![in alloc; value]?))?;
+    }
+    Ok(Column::try_new(with_x(rt, alloc, i32_type(Nullable), NonNullable)?, rows)?)
+}
+
+/// Rows of the two fields `x`, of type `i32?`, and `y`, of that type.
+pub fn rows_of_two(
+    rt: &impl Abort,
+    alloc: Global,
+    y_type: DType,
+    x: Vec<Value>,
+    y: Vec<Value>,
+) -> Result<Column, Fail> {
+    let mut rows = Vec::with_capacity(alloc, x.len())?;
+    for (x, y) in x.into_iter().zip(y) {
+        rows.push(Value::Struct(vec![in alloc; x, y]?))?;
+    }
+    let types = vec![in alloc; i32_type(Nullable), y_type]?;
+    let scope = DType::Struct(fields(rt, alloc, &["x", "y"], types)?, NonNullable);
+    Ok(Column::try_new(scope, rows)?)
+}
+
+/// Evaluates the expression over the batch.
+pub fn evaluated(alloc: Global, source: Expression, batch: &Column) -> VortexResult<Column> {
+    let bound = source.bind(alloc, batch.dtype())?;
+    apply_bound(alloc, batch, &bound)
+}
+
+/// Asserts the result of the expression over the batch.
+pub fn gives(
+    rt: &impl Abort,
+    alloc: Global,
+    source: Expression,
+    batch: &Column,
+    rows: &str,
+) -> Result<(), Fail> {
+    prints(rt, alloc, evaluated(alloc, source, batch)?, rows)
+}
+
+#[test]
+fn cases_choose_the_first_true_condition(rt: HostRuntime) -> Result<(), Fail> {
+    let alloc = rt.alloc();
+    let x = rows_of_x(&rt, alloc, &[None, Some(4)])?;
+    gives(&rt, alloc, zero_for_null(alloc)?, &x, "[0i32, 4i32]")?;
+    let x = rows_of_x(&rt, alloc, &[Some(1), Some(5), None])?;
+    let chosen = "[10i32, 10i32, 30i32]";
+    gives(&rt, alloc, two_cases(alloc)?, &x, chosen)
+}
+
+#[test]
+fn structs_are_taken_apart_and_made(rt: HostRuntime) -> Result<(), Fail> {
+    let alloc = rt.alloc();
+    let nullable_x = with_x(&rt, alloc, i32_type(NonNullable), Nullable)?;
+    let one = Value::Struct(vec![in alloc; Value::Int(1)]?);
+    let rows = Column::try_new(nullable_x, vec![in alloc; Value::Null, one]?)?;
+    let row_5 = selected(alloc, FieldSelection::Include(names(alloc, &[])?))?;
+    gives(&rt, alloc, row_5, &rows, "[null, {}]")?;
+    let x = rows_of_x(&rt, alloc, &[Some(10), None])?;
+    gives(&rt, alloc, item_of_pack(alloc)?, &x, "[10i32, null]")
+}
+
+#[test]
+fn a_repeated_name_is_its_first_field(rt: HostRuntime) -> Result<(), Fail> {
+    let alloc = rt.alloc();
+    let types = vec![in alloc; i32_type(NonNullable), DType::Utf8(NonNullable)]?;
+    let x_twice = DType::Struct(fields(&rt, alloc, &["x", "x"], types)?, NonNullable);
+    let text = Value::Utf8(String::from_str(alloc, "t")?);
+    let row = Value::Struct(vec![in alloc; Value::Int(1), text]?);
+    let rows = Column::try_new(x_twice, vec![in alloc; row]?)?;
+    let row_22 = selected(alloc, FieldSelection::Exclude(names(alloc, &[])?))?;
+    gives(&rt, alloc, row_22, &rows, "[{x: 1i32, x: 1i32}]")
+}
+
+/// `fill_null($.x, $.y)` over rows of the two.
+fn filled(
+    rt: &impl Abort,
+    alloc: Global,
+    x: &[Option<i128>],
+    y: &[Option<i128>],
+) -> Result<VortexResult<Column>, Fail> {
+    let rows = rows_of_two(
+        rt,
+        alloc,
+        i32_type(NonNullable),
+        numbers(alloc, x)?,
+        numbers(alloc, y)?,
+    )?;
+    let children = vec![in alloc; col(alloc, "x")?, col(alloc, "y")?]?;
+    let fill = call(alloc, ScalarFnRef::FillNull(EmptyOptions), children)?;
+    Ok(evaluated(alloc, fill, &rows))
+}
+
+#[test]
+fn a_fill_is_one_value(rt: HostRuntime) -> Result<(), Fail> {
+    let alloc = rt.alloc();
+    let nulls_filled = filled(&rt, alloc, &[None, Some(3)], &[Some(7), Some(7)])?;
+    prints(&rt, alloc, nulls_filled?, "[7i32, 3i32]")?;
+    let of_two = filled(&rt, alloc, &[None, Some(3)], &[Some(1), Some(2)])?;
+    assert!(rt; matches!(&of_two, Err(VortexError::BadFill)));
+    prints(&rt, alloc, filled(&rt, alloc, &[], &[])??, "[]")
+}
+
+/// A LIKE of two texts, over one row.
+fn liked(
+    rt: &impl Abort,
+    alloc: Global,
+    text: &str,
+    pattern: &str,
+    case_insensitive: bool,
+) -> Result<Column, Fail> {
+    let like = ScalarFnRef::Like(LikeOptions {
+        negated: false,
+        case_insensitive,
+    });
+    let text = literal(alloc, Scalar::utf8(alloc, text)?)?;
+    let pattern = literal(alloc, Scalar::utf8(alloc, pattern)?)?;
+    let source = call(alloc, like, vec![in alloc; text, pattern]?)?;
+    let one = rows_of_x(rt, alloc, &[None])?;
+    Ok(evaluated(alloc, source, &one)?)
+}
+
+#[test]
+fn texts_are_like_patterns(rt: HostRuntime) -> Result<(), Fail> {
+    let alloc = rt.alloc();
+    for (text, pattern, case_insensitive, rows) in [
+        ("a%b", r"a\%b", false, "[true]"),
+        ("axb", r"a\%b", false, "[false]"),
+        ("axb", "a_b", false, "[true]"),
+        (r"x\", r"x\", false, "[true]"),
+        ("ABC", "a%", true, "[true]"),
+    ] {
+        let answer = liked(&rt, alloc, text, pattern, case_insensitive)?;
+        prints(&rt, alloc, answer, rows)?;
+    }
+    Ok(())
+}
+
+#[test]
+fn validity_tells_where_null_is(rt: HostRuntime) -> Result<(), Fail> {
+    let alloc = rt.alloc();
+    let rows = Column::try_new(i32_type(Nullable), numbers(alloc, &[None, Some(1)])?)?;
+    let root = Expression::Root.bind(alloc, rows.dtype())?;
+    let valid = apply_bound(alloc, &rows, &root.validity(alloc)?)?;
+    prints(&rt, alloc, valid, "[false, true]")
+}
+
+#[test]
+fn a_mask_makes_null(rt: HostRuntime) -> Result<(), Fail> {
+    let alloc = rt.alloc();
+    let x = numbers(alloc, &[Some(1), Some(2)])?;
+    let m = vec![in alloc; Value::Bool(true), Value::Bool(false)]?;
+    let rows = rows_of_two(&rt, alloc, DType::Bool(NonNullable), x, m)?;
+    let children = vec![in alloc; col(alloc, "x")?, col(alloc, "y")?]?;
+    let masked = call(alloc, ScalarFnRef::Mask(EmptyOptions), children)?;
+    gives(&rt, alloc, masked, &rows, "[1i32, null]")
+}
