@@ -110,7 +110,7 @@ impl FieldSelection {
         requires { IsDistinct bytes_eq names }
         ensures { result ≡ FieldSelection.Include names }
     {
-        FieldSelection::Include(names)
+        Self::Include(names)
     }
 
     /// Keeps the fields of all other names. Asks distinct names.
@@ -118,7 +118,7 @@ impl FieldSelection {
         requires { IsDistinct bytes_eq names }
         ensures { result ≡ FieldSelection.Exclude names }
     {
-        FieldSelection::Exclude(names)
+        Self::Exclude(names)
     }
 
     /// Whether the names are those of the fields that are kept.
