@@ -1,13 +1,11 @@
 -- What a well-typed tree gives over a batch of the scope's type fits its type.
-use Rattle.std.proofs.Common.{◌≡◌, List, [], ◌∷◌, map, refl, subst, Option, Some, None, Result, Ok, Err, IfOk, inl, inr, Bool, true, false, cond}
-use Rattle.std.specs.Option.{option_map}
-use Rattle.std.specs.Prelude.{ℕ, suc}
-use Rattle.std.proofs.lemmas.Bool.{and_parts}
+use Rattle.std.proofs.Common.{◌≡◌, List, [], ◌∷◌, map, refl, subst, Option, Some, None, Result, Ok, Err, IfOk, inl, inr}
 use Rattle.vx_dtype.specs.declared.error.VortexError.{VortexError}
 use Rattle.vx_dtype.specs.Answers.{Answers}
 use Rattle.vx_types.specs.Columns.{first_misfit}
-use Rattle.vx_types.specs.Fits.{fits, Fits, IsBatch}
+use Rattle.vx_types.specs.Fits.{Fits, IsBatch}
 use Rattle.vx_types.specs.Types.{LogicalType, Datum}
+use Rattle.vx_types.proofs.Misfits.{no_misfit}
 use Rattle.vx_fn.specs.Faults.{IsIn}
 use Rattle.vx_tree.specs.Faults.{first_fault}
 use Rattle.vx_tree.specs.Meaning.{value}
@@ -30,30 +28,13 @@ values_fit b s batch out typed over is e = go (first_fault b batch) refl e
         subst (IsBatch (node_type b)) same (all_fit (node_type b) (value b) batch (λ v i. value-fits b s batch v typed over q i (each_passes _ batch v is i)))
     go (Some fault) q e = cc
 
--- rows with no misfit are those of the type
-batch_of : (t : LogicalType) (rows : List Datum) → first_misfit t rows ≡ None → IsBatch t rows
-batch_of t [] e = refl
-batch_of t (v ∷ rows) e = go (fits v t) refl (batch_of t rows) e
-  where
-    rest : (o : Option ℕ) → option_map (λ i. suc i) o ≡ None → o ≡ None
-    rest None e = refl
-    rest (Some i) e = cc
-
-    go : (b : Bool) → fits v t ≡ b → (first_misfit t rows ≡ None → IsBatch t rows) → cond b (option_map (λ i. suc i) (first_misfit t rows)) (Some 0) ≡ None → IsBatch t (v ∷ rows)
-    go true q h e = rw q (h (rest _ e))
-    go false q h e = cc
-
-no_misfit : (t : LogicalType) (rows : List Datum) → IsBatch t rows → first_misfit t rows ≡ None
-no_misfit t [] e = refl
-no_misfit t (v ∷ rows) e = let h = and_parts (fits v t) _ e in rw (h.0, no_misfit t rows h.1)
-
 abbrev ok : List Datum → Result (List Datum) VortexError
 ok rows = Ok rows
 
 pub answer_fits : (b : BoundTree) (s : LogicalType) (batch : List Datum) (r : Result Rows VortexError) → WellTyped b → Over b s → first_misfit s batch ≡ None → Answers rows_view r (tree_answer b batch) → IfOk r (λ out. IsBatch (node_type b) (rows_view out))
-answer_fits b s batch (Ok out) typed over is gives = values_fit b s batch (rows_view out) typed over (batch_of s batch is) gives
+answer_fits b s batch (Ok out) typed over is gives = values_fit b s batch (rows_view out) typed over ((no_misfit s batch).0 is) gives
 answer_fits b s batch (Err e) typed over is gives = tt
 
 -- rows of the type that were made the rows of a column
 pub made_fits : (t u : LogicalType) (rows made : List Datum) → u ≡ t → ok rows ≡ Ok made → IsBatch t rows → first_misfit u made ≡ None
-made_fits t u rows made same are fit = let is : rows ≡ made = cc in rw (same, ← is) (no_misfit t rows fit)
+made_fits t u rows made same are fit = let is : rows ≡ made = cc in rw (same, ← is) ((no_misfit t rows).1 fit)

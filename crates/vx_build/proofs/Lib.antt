@@ -1,0 +1,7 @@
+pub mod Built
+pub mod CaseOperands
+pub mod Rounding
+pub mod RoundLoops
+pub mod Depths
+pub mod Collecting
+pub mod Truths

@@ -1,0 +1,8 @@
+use Rattle.std.proofs.Common.{map}
+use Rattle.vx_fn.specs.Functions.{and_also}
+use Rattle.vx_tree.specs.Views.{tree_of}
+use Rattle.vx_build.proofs.Collecting.{collects_trees}
+use Rattle.vx_build.proofs.collects.and_collect.Goals as goal
+
+pub returns-clause-collected : goal.returns-clause-collected
+returns-clause-collected c = collects_trees and_also (map tree_of c.args.items.items) c.collect.result c.collect.ensures.joined

@@ -1,0 +1,18 @@
+use Rattle.std.proofs.Common.{◌≡◌, [], ◌∷◌, ◌++◌, Ok, sym, ap, ◌∙◌, arith, rules}
+use Rattle.std.proofs.lemmas.Grind.{common_steps}
+use Rattle.vx_build.proofs.RoundLoops.{pair_turn, last_turn}
+use Rattle.vx_build.proofs.rounds.round.Goals as goal
+use Rattle.vx_build.proofs.rounds.round.Goals.{in-Some-next+in_ok-join-in-Some-next, in-None}
+
+pub loop-lhs-preserved : goal.loop-lhs-preserved
+loop-lhs-preserved g c =
+    let pushed : c.push.new.self.items ≡ c.loop-lhs.left.items ++ c.match-next-2.push ∷ [] = search rules in
+    elim c.match-next-2.branch [
+      | in-Some-next+in_ok-join-in-Some-next w ↦
+          let joins = w.in_ok-join-in-Some-next.ensures ∙ ap (λ x. Ok (g.T.Join.seen x)) (sym w.push-is) in
+          pair_turn _ _ _ _ _ _ _ _ _ _ _ c.in-Some.ensures.cases.0 w.in-Some-next.ensures.cases.0 joins pushed c.loop-lhs.invariant
+      | in-None w ↦
+          let none : c.next.new.self.rest.items ≡ [] = grind (arith, common_steps) in
+          let end : c.next-in-Some.new.self.rest.items ≡ [] = grind (arith, common_steps) in
+          last_turn _ _ _ _ _ _ _ _ _ c.in-Some.ensures.cases.0 none end (pushed ∙ ap (λ x. c.loop-lhs.left.items ++ x ∷ []) w.push-is) c.loop-lhs.invariant
+    ]

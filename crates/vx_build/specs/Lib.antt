@@ -1,0 +1,4 @@
+pub mod Built
+pub mod Operands
+pub mod Rounds
+pub mod Collects

@@ -1,0 +1,92 @@
+// Constructors of the scope and of structs.
+ghost use Rattle.std.specs.Prelude.{◌≡◌, [], ◌∷◌};
+ghost use Rattle.vx_types.specs.Views.{admits_null};
+ghost use Rattle.vx_fn.specs.Functions.{get_item, pack, select};
+ghost use Rattle.vx_fn.specs.declared.options.FieldSelection.TheVariants.{Include, Exclude};
+ghost use Rattle.vx_tree.specs.Nodes.{is_root};
+ghost use Rattle.vx_tree.specs.Trees.{root, tree, no_tree};
+ghost use Rattle.vx_tree.specs.Views.{tree_of, trees_of};
+ghost use Rattle.vx_build.specs.Built.{GivesNode};
+ghost use Rattle.vx_build.specs.Operands.{pack_names, pack_operands};
+
+use crate::node::{node, node_of};
+use crate::operands::unzip;
+use std::alloc::Global;
+use vx_tree::{
+    Expression, FieldName, FieldNames, FieldSelection, Nullability, PackOptions, ScalarFnRef,
+    VortexResult,
+};
+
+/// The row of the scope.
+pub fn root() -> Expression
+    ensures { tree_of result ≡ root }
+{
+    Expression::Root
+}
+
+/// Whether the expression is the row of the scope.
+pub fn is_root(expr: &Expression) -> bool
+    ensures { result ≡ is_root (tree_of expr.now) }
+{
+    expr.is_root()
+}
+
+/// The scope's first field of that name. Refuses with `OutOfMemory` (1) alone.
+pub fn col(alloc: Global, name: FieldName) -> VortexResult<Expression>
+    ensures { GivesNode (get_item name) (tree root no_tree) result }
+{
+    get_item(alloc, name, root())
+}
+
+/// The child's first field of that name. Refuses with `OutOfMemory` (1) alone.
+pub fn get_item(alloc: Global, name: FieldName, child: Expression) -> VortexResult<Expression>
+    ensures { GivesNode (get_item name) (trees_of (child ∷ [])) result }
+{
+    node(alloc, ScalarFnRef::GetItem(name), [child])
+}
+
+/// The child's fields of these names, in the order of the names. A name may be repeated.
+/// Refuses with `OutOfMemory` (1) alone.
+pub fn select(alloc: Global, names: FieldNames, child: Expression) -> VortexResult<Expression>
+    ensures { GivesNode (select (Include names)) (trees_of (child ∷ [])) result }
+{
+    node(
+        alloc,
+        ScalarFnRef::Select(FieldSelection::Include(names)),
+        [child],
+    )
+}
+
+/// The child's fields of all other names, in the child's order. A name may be repeated. Refuses
+/// with `OutOfMemory` (1) alone.
+pub fn select_exclude(
+    alloc: Global,
+    names: FieldNames,
+    child: Expression,
+) -> VortexResult<Expression>
+    ensures { GivesNode (select (Exclude names)) (trees_of (child ∷ [])) result }
+{
+    node(
+        alloc,
+        ScalarFnRef::Select(FieldSelection::Exclude(names)),
+        [child],
+    )
+}
+
+/// A struct of the expressions under the names beside them, in their order. A name may be repeated.
+/// Refuses with `OutOfMemory` (1) alone.
+pub fn pack(
+    alloc: Global,
+    elements: Vec<(FieldName, Expression)>,
+    nullability: Nullability,
+) -> VortexResult<Expression>
+    ensures { GivesNode (pack (pack_names elements.items) (admits_null nullability)) (trees_of (pack_operands elements.items)) result }
+{
+    let (names, children) = unzip(alloc, elements)?;
+    let names = FieldNames::new(alloc, names)?;
+    node_of(
+        alloc,
+        ScalarFnRef::Pack(PackOptions { names, nullability }),
+        children,
+    )
+}
