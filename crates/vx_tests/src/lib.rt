@@ -14,6 +14,8 @@ mod faults;
 #[cfg(test)]
 mod functions;
 #[cfg(test)]
+mod matching;
+#[cfg(test)]
 mod no_rows;
 #[cfg(test)]
 mod results;
