@@ -5,9 +5,9 @@ use std::process::Abort;
 use std::test::Fail;
 use vx_tree::Nullability::{NonNullable, Nullable};
 use vx_tree::{
-    BetweenOptions, Binary, CaseWhenOptions, DType, EmptyOptions, FieldName, FieldNames,
-    FieldSelection, FillNull, GetItem, LikeOptions, Literal, Operator, PackOptions, Scalar,
-    ScalarFnRef, ScalarFnVTable, StrictComparison, VortexError,
+    BetweenOptions, Binary, CaseWhenOptions, DType, EmptyOptions, FieldName, FieldSelection,
+    FillNull, GetItem, LikeOptions, Literal, Operator, PackOptions, Scalar, ScalarFnRef,
+    ScalarFnVTable, StrictComparison, VortexError,
 };
 
 /// Asserts the text and the number of children of a function.
@@ -202,16 +202,6 @@ fn selections_keep_names(rt: HostRuntime) -> Result<(), Fail> {
     assert!(rt; kept == names(alloc, &["c", "b"])?);
     let refused = given.normalize_to_included_fields(alloc, &names(alloc, &["c"])?);
     assert!(rt; matches!(&refused, Err(VortexError::NoSuchField(name)) if name.as_str() == "b"));
-    Ok(())
-}
-
-#[test]
-fn selections_are_inclusions_or_exclusions(rt: HostRuntime) -> Result<(), Fail> {
-    let alloc = rt.alloc();
-    let kept = FieldSelection::include(FieldNames::empty(alloc)?);
-    assert!(rt; kept.is_include() && !kept.is_exclude());
-    let left_out = FieldSelection::exclude(FieldNames::empty(alloc)?);
-    assert!(rt; left_out.is_exclude() && left_out != kept);
     Ok(())
 }
 
