@@ -1,14 +1,14 @@
 // Worked rows as runs: results of evaluation.
-use crate::build::{binary, call, col, fields, i32_type, literal, names, prints};
-use crate::rows::{item_of_pack, number, selected, two_cases, with_x, zero_for_null};
+use crate::build::{call, col, fields, i32_type, literal, names, prints};
+use crate::rows::{item_of_pack, selected, two_cases, with_x, zero_for_null};
 use std::alloc::Global;
 use std::process::Abort;
 use std::test::Fail;
 use vx_eval::apply_bound;
 use vx_tree::Nullability::{NonNullable, Nullable};
 use vx_tree::{
-    CaseWhenOptions, Column, DType, EmptyOptions, Expression, FieldSelection, LikeOptions,
-    Operator, PType, Scalar, ScalarFnRef, Value, VortexError, VortexResult,
+    Column, DType, EmptyOptions, Expression, FieldSelection, LikeOptions, Scalar, ScalarFnRef,
+    Value, VortexError, VortexResult,
 };
 
 /// Whole numbers, and nulls between them.
@@ -33,7 +33,7 @@ pub fn rows_of_x(rt: &impl Abort, alloc: Global, x: &[Option<i128>]) -> Result<C
 }
 
 /// Rows of the two fields `x`, of type `i32?`, and `y`, of that type.
-pub fn rows_of_two(
+fn rows_of_two(
     rt: &impl Abort,
     alloc: Global,
     y_type: DType,
@@ -100,33 +100,34 @@ fn a_repeated_name_is_its_first_field(rt: HostRuntime) -> Result<(), Fail> {
     gives(&rt, alloc, row_22, &rows, "[{x: 1i32, x: 1i32}]")
 }
 
-/// `fill_null($.x, $.y)` over rows of the two.
-fn filled(
+/// `fill_null($.x, $.y)`
+fn fill(alloc: Global) -> VortexResult<Expression> {
+    let children = vec![in alloc; col(alloc, "x")?, col(alloc, "y")?]?;
+    call(alloc, ScalarFnRef::FillNull(EmptyOptions), children)
+}
+
+/// Rows of `x`, of type `i32?`, and `y`, of type `i32`.
+fn two_numbers(
     rt: &impl Abort,
     alloc: Global,
     x: &[Option<i128>],
     y: &[Option<i128>],
-) -> Result<VortexResult<Column>, Fail> {
-    let rows = rows_of_two(
-        rt,
-        alloc,
-        i32_type(NonNullable),
-        numbers(alloc, x)?,
-        numbers(alloc, y)?,
-    )?;
-    let children = vec![in alloc; col(alloc, "x")?, col(alloc, "y")?]?;
-    let fill = call(alloc, ScalarFnRef::FillNull(EmptyOptions), children)?;
-    Ok(evaluated(alloc, fill, &rows))
+) -> Result<Column, Fail> {
+    let x = numbers(alloc, x)?;
+    let y = numbers(alloc, y)?;
+    rows_of_two(rt, alloc, i32_type(NonNullable), x, y)
 }
 
 #[test]
 fn a_fill_is_one_value(rt: HostRuntime) -> Result<(), Fail> {
     let alloc = rt.alloc();
-    let nulls_filled = filled(&rt, alloc, &[None, Some(3)], &[Some(7), Some(7)])?;
-    prints(&rt, alloc, nulls_filled?, "[7i32, 3i32]")?;
-    let of_two = filled(&rt, alloc, &[None, Some(3)], &[Some(1), Some(2)])?;
-    assert!(rt; matches!(&of_two, Err(VortexError::BadFill)));
-    prints(&rt, alloc, filled(&rt, alloc, &[], &[])??, "[]")
+    let sevens = two_numbers(&rt, alloc, &[None, Some(3)], &[Some(7), Some(7)])?;
+    gives(&rt, alloc, fill(alloc)?, &sevens, "[7i32, 3i32]")?;
+    let two_fills = two_numbers(&rt, alloc, &[None, Some(3)], &[Some(1), Some(2)])?;
+    let refused = evaluated(alloc, fill(alloc)?, &two_fills);
+    assert!(rt; matches!(&refused, Err(VortexError::BadFill)));
+    let none = two_numbers(&rt, alloc, &[], &[])?;
+    gives(&rt, alloc, fill(alloc)?, &none, "[]")
 }
 
 /// A LIKE of two texts, over one row.
