@@ -12,6 +12,7 @@ use Rattle.std.specs.declared.alloc.Global.{Global}
 use Rattle.std.specs.declared.vec.Vec.{Vec}
 use Rattle.vx_dtype.specs.declared.error.VortexError.{VortexError}
 use Rattle.vx_dtype.specs.declared.error.VortexError.TheVariants.{OutOfMemory}
+use Rattle.vx_dtype.specs.Answers.{Answers}
 use Rattle.vx_types.specs.declared.value.Value.{Value}
 use Rattle.vx_types.specs.Types.{LogicalType, Datum, null}
 use Rattle.vx_types.specs.Views.{value_of}
@@ -24,13 +25,17 @@ use Rattle.vx_eval.specs.Columns.{values_of, each_row, row_at, rows_of, rows_vie
 use Rattle.vx_eval.specs.Columns.{is_comparison}
 
 -- one more row, at the loop's index
-pub row_pushed : (h : ℕ → Datum) (out new : List Value) (i : ℕ) (v : Value) → values_of out ≡ each_row i h → new ≡ out ++ v ∷ [] → value_of v ≡ h i → values_of new ≡ each_row (i + 1) h
-row_pushed h out new i v so_far pushed here =
-    ap values_of pushed ∙ map-append value_of out (v ∷ []) ∙ ap (λ ds. ds ++ value_of v ∷ []) so_far ∙ ap (λ d. each_row i h ++ d ∷ []) here ∙ sym (map-range_with_len_more h 0 i i (omega arith))
+pub row_pushed : {A : Type 0} (f : A → Datum) (h : ℕ → Datum) (out new : List A) (i : ℕ) (v : A) → map f out ≡ each_row i h → new ≡ out ++ v ∷ [] → f v ≡ h i → map f new ≡ each_row (i + 1) h
+row_pushed f h out new i v so_far pushed here =
+    ap (map f) pushed ∙ map-append f out (v ∷ []) ∙ ap (λ ds. ds ++ f v ∷ []) so_far ∙ ap (λ d. each_row i h ++ d ∷ []) here ∙ sym (map-range_with_len_more h 0 i i (omega arith))
 
 pub map_map : {A B C : Type 0} (f : B → C) (g : A → B) (xs : List A) → map f (map g xs) ≡ map (λ x. f (g x)) xs
 map_map f g [] = refl
 map_map f g (x ∷ xs) = ap (λ l. f (g x) ∷ l) (map_map f g xs)
+
+pub map_same : {A B : Type 0} (f g : A → B) → ((a : A) → f a ≡ g a) → (xs : List A) → map f xs ≡ map g xs
+map_same f g h [] = refl
+map_same f g h (x ∷ xs) = ap (λ y. y ∷ map f xs) (h x) ∙ ap (λ l. g x ∷ l) (map_same f g h xs)
 
 -- a node that doesn't fault, filled with its function's value at each row
 pub evaluated : (f : Function) (ts : List LogicalType) (n : ℕ) (cs : List (List Datum)) (r : Result Rows VortexError) → node_fault f ts (rows_of n cs) ≡ None →
@@ -67,6 +72,10 @@ all_rows ds n long =
     let size : length (each_row n f) ≡ n = length-map-range_with_len f 0 n in
     ext_get_or null _ _ (size ∙ sym long) (λ k h. get_or-map-range_with_len f 0 n k k null (omega (arith, size)) (omega arith))
 
+-- and so are the rows of what is made of each
+pub each_of : (g : Datum → Datum) (ds : List Datum) (n : ℕ) → length ds ≡ n → each_row n (λ k. g (get_or ds k null)) ≡ map g ds
+each_of g ds n long = sym (map_map g (λ k. get_or ds k null) (range_with_len 0 n)) ∙ ap (map g) (all_rows ds n long)
+
 pub refused : (f : Function) (ts : List LogicalType) (n : ℕ) (cs : List (List Datum)) (fault : VortexError) → node_fault f ts (rows_of n cs) ≡ Some fault → Evaluates f ts n cs (Err fault)
 refused f ts n cs fault is = inr (rw is refl)
 
@@ -89,10 +98,19 @@ no_row p g n all =
     (λ h. absurd (omega arith)) in
     rw (at, long) (grind (arith, nat_tests))
 
--- a literal over rows of no columns
-pub literal_rows : (v : Datum) (n : ℕ) → map (λ _. v) (rows_of n []) ≡ replicate n v
-literal_rows v n = map_map (λ _. v) (row_at []) (range_with_len 0 n) ∙ go 0 n
+-- one value at each row
+pub same_rows : (v : Datum) (n : ℕ) → each_row n (λ _. v) ≡ replicate n v
+same_rows v n = go 0 n
   where
     go : (a m : ℕ) → map (λ _. v) (range_with_len a m) ≡ replicate m v
     go a zero = refl
     go a (suc m) = ap (λ l. v ∷ l) (go (a + 1) m)
+
+-- a literal over rows of no columns
+pub literal_rows : (v : Datum) (n : ℕ) → map (λ _. v) (rows_of n []) ≡ replicate n v
+literal_rows v n = map_map (λ _. v) (row_at []) (range_with_len 0 n) ∙ same_rows v n
+
+-- values that a loop has collected
+pub collected_are : (ds es : List Datum) (r : Result (Vec Value Global) VortexError) → ds ≡ es → IfOk r (λ out. values_of out.items ≡ ds) → IfErr r (λ e. e ≡ OutOfMemory) → Answers (λ out. values_of out.items) r (Ok es)
+collected_are ds es (Ok out) same is memory = ap Ok (sym same ∙ sym is)
+collected_are ds es (Err e) same is memory = inl memory

@@ -1,4 +1,5 @@
 mod Filled
+mod Kleene
 mod Transposed
 mod Fitting
 mod Meanings

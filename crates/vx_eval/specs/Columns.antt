@@ -14,17 +14,40 @@ use Rattle.vx_fn.specs.Values.{fn_value, agrees, flipped}
 use Rattle.vx_fn.specs.Faults.{node_fault}
 use Rattle.vx_like.specs.Patterns.{Compiled, accepts}
 use Rattle.vx_eval.specs.declared.rows.Rows.{Rows}
-use Rattle.vx_eval.specs.declared.rows.Rows.TheVariants.{Lent, Owned, Same}
+use Rattle.vx_eval.specs.declared.rows.Rows.TheVariants.{Lent, Item, Owned, Same, Truths}
 
 -- what each value stands for
 abbrev pub values_of : List Value → List Datum
 values_of vs = map value_of vs
 
+-- the value at that place
+abbrev pub datum_at : ℕ → Data → Datum
+datum_at k no_datum = null
+datum_at zero (datum v vs) = v
+datum_at (suc k) (datum v vs) = datum_at k vs
+
+-- the item at that place of a struct, null of what is none
+abbrev pub item_at : ℕ → Datum → Datum
+item_at k (struct_of vs) = datum_at k vs
+item_at k _ = null
+
+-- the value that a truth value is, or null
+abbrev pub truth_datum : Option Bool → Datum
+truth_datum None = null
+truth_datum (Some b) = bool b
+
+-- the truth value that a value is, if it is one
+abbrev pub truth_of : Datum → Option Bool
+truth_of (bool b) = Some b
+truth_of _ = None
+
 -- the values of a column at work, row by row
 abbrev pub rows_view : Rows → List Datum
 rows_view (Lent values) = values_of values.now.value.items
+rows_view (Item values k c) = map (item_at k) (values_of values.now.value.items)
 rows_view (Owned values) = values_of values.items
 rows_view (Same v n) = replicate n (value_of v.now)
+rows_view (Truths truths c) = map truth_datum truths.items
 
 -- the same of each of some columns
 abbrev pub rows_views : List Rows → List (List Datum)
@@ -56,6 +79,10 @@ HaveRow i (c ∷ cs) = (i < length c) × HaveRow i cs
 abbrev pub AnswersRows : {E : Type 0} → (ℕ → Result Value E → Type 0) → ℕ → (ℕ → Datum) → Type 0
 AnswersRows post n g = (i : ℕ) (v : Value) → i < n → post i (Ok v) → value_of v ≡ g i
 
+-- what a call tells at each of the first n rows is what g gives there
+abbrev pub TellsRows : (ℕ → Option Bool → Type 0) → ℕ → (ℕ → Datum) → Type 0
+TellsRows post n g = (i : ℕ) (t : Option Bool) → i < n → post i t → truth_datum t ≡ g i
+
 -- where a call answers at one of the first n rows and its value, it is what g makes of them
 abbrev pub MakesRows : {E : Type 0} → (ℕ → Value → Result Value E → Type 0) → ℕ → (ℕ → Datum → Datum) → Type 0
 MakesRows post n g = (i : ℕ) (x v : Value) → i < n → post i x (Ok v) → value_of v ≡ g i (value_of x)
@@ -72,17 +99,6 @@ node_answer f ts rows = unless_fault (node_fault f ts rows) (map (fn_value f ts)
 -- a call answers what the function gives over the first n rows of the columns
 abbrev pub Evaluates : Function → List LogicalType → ℕ → List (List Datum) → Result Rows VortexError → Type 0
 Evaluates f ts n cs r = Answers rows_view r (node_answer f ts (rows_of n cs))
-
--- the value at that place
-abbrev pub datum_at : ℕ → Data → Datum
-datum_at k no_datum = null
-datum_at zero (datum v vs) = v
-datum_at (suc k) (datum v vs) = datum_at k vs
-
--- the item at that place of a struct, null of what is none
-abbrev pub item_at : ℕ → Datum → Datum
-item_at k (struct_of vs) = datum_at k vs
-item_at k _ = null
 
 -- the struct of the items at those places of a struct, null of what is none
 abbrev pub items_at : List ℕ → Datum → Datum

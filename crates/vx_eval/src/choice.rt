@@ -7,7 +7,6 @@ ghost use Rattle.vx_fn.specs.Functions as functions;
 ghost use Rattle.vx_fn.specs.Values as values;
 ghost use Rattle.vx_eval.specs.Columns.{rows_view, rows_views, row_at, each_row, AllLong, HaveRow, Evaluates};
 
-use crate::logic::is_true;
 use crate::rows::{Rows, take_at};
 use std::alloc::{AllocError, Global};
 use vx_types::{Value, VortexResult};
@@ -65,7 +64,7 @@ fn chosen_place(columns: &Vec<Rows>, i: usize) -> Option<usize>
 {
     let mut place = 0;
     while place + 1 < columns.len() {
-        if is_true(columns[place].row(i)) {
+        if columns[place].is_true(i) {
             return Some(place + 1);
         }
         place += 2;

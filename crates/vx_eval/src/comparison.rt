@@ -7,12 +7,11 @@ ghost use Rattle.vx_fn.specs.Functions as functions;
 ghost use Rattle.vx_fn.specs.Values.{binary_value, below_or, kleene_and, compared};
 ghost use Rattle.vx_fn.specs.Values as values;
 ghost use Rattle.vx_fn.specs.Views.{operation_of, is_strict};
-ghost use Rattle.vx_eval.specs.Columns.{rows_view, Evaluates};
-ghost use Rattle.vx_eval.specs.Columns.{is_comparison, agrees_with};
+ghost use Rattle.vx_eval.specs.Columns.{rows_view, truth_datum, is_comparison, agrees_with, Evaluates};
 
-use crate::filling::tabulated;
 use crate::logic::kleene_and;
 use crate::rows::Rows;
+use crate::truths::told;
 use std::alloc::Global;
 use std::cmp::Ordering;
 use vx_fn::{BetweenOptions, Operator, StrictComparison};
@@ -32,11 +31,7 @@ pub fn compare<'a>(
     requires right { length (rows_view rhs.now) ≡ count }
     ensures { (ts : List LogicalType) → Evaluates (binary (operation_of operator)) ts count (rows_view lhs.now ∷ rows_view rhs.now ∷ []) result }
 {
-    tabulated(
-        alloc,
-        count,
-        |i| Ok(compared(operator, lhs.row(i), rhs.row(i))),
-    )
+    told(alloc, count, |i| compared(operator, lhs.row(i), rhs.row(i)))
 }
 
 /// Whether each value lies between its bounds. Refuses with `OutOfMemory` (1) alone.
@@ -54,22 +49,22 @@ pub fn between<'a>(
     ensures { (ts : List LogicalType) → Evaluates (functions.between (is_strict options.now.lower_strict) (is_strict options.now.upper_strict)) ts count
         (rows_view array.now ∷ rows_view lower.now ∷ rows_view upper.now ∷ []) result }
 {
-    tabulated(
+    told(
         alloc,
         count,
-        |i| Ok(lies_between(options, array.row(i), lower.row(i), upper.row(i))),
+        |i| lies_between(options, array.row(i), lower.row(i), upper.row(i)),
     )
 }
 
 // Whether the value lies above the lower bound and below the upper one, by Kleene's And.
-fn lies_between(options: &BetweenOptions, v: &Value, lower: &Value, upper: &Value) -> Value
-    ensures { value_of result ≡ kleene_and
+fn lies_between(options: &BetweenOptions, v: &Value, lower: &Value, upper: &Value) -> Option<bool>
+    ensures { truth_datum result ≡ kleene_and
         (compared (below_or (is_strict options.now.lower_strict)) (value_of lower.now) (value_of v.now))
         (compared (below_or (is_strict options.now.upper_strict)) (value_of v.now) (value_of upper.now)) }
 {
     let above = compared(below(options.lower_strict), lower, v);
     let below = compared(below(options.upper_strict), v, upper);
-    kleene_and(&above, &below)
+    kleene_and(above, below)
 }
 
 // The comparison of a bound.
@@ -83,14 +78,14 @@ fn below(strict: StrictComparison) -> Operator
 }
 
 // Null where one of the two is, else whether their order is one that the operator asks for.
-fn compared(operator: Operator, v: &Value, w: &Value) -> Value
+fn compared(operator: Operator, v: &Value, w: &Value) -> Option<bool>
     requires { IsTrue (is_comparison (operation_of operator)) }
-    ensures { value_of result ≡ binary_value (operation_of operator) (value_of v.now) (value_of w.now) }
+    ensures { truth_datum result ≡ binary_value (operation_of operator) (value_of v.now) (value_of w.now) }
 {
     if v.is_null() || w.is_null() {
-        return Value::Null;
+        return None;
     }
-    Value::Bool(agrees(operator, order(v, w)))
+    Some(agrees(operator, order(v, w)))
 }
 
 // Whether the order is one that the operator asks for.

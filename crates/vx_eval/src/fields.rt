@@ -2,7 +2,7 @@
 ghost use Rattle.std.specs.Prelude.{◌≡◌, ◌≢◌, ℕ, Bool, true, is_some, length, map, List, [], ◌∷◌, IsOk, IfOk, IfErr, Ok, None};
 ghost use Rattle.vx_dtype.specs.Answers.{Answers};
 ghost use Rattle.vx_types.specs.Fields.{data_of, field_type, field_value, first_unknown, project_values};
-ghost use Rattle.vx_types.specs.Types.{Name, LogicalType, Datum, Data, struct_of};
+ghost use Rattle.vx_types.specs.Types.{Name, LogicalType, Datum, Data, null, struct_of};
 ghost use Rattle.vx_types.specs.Views.{type_of, fields_of, value_of};
 ghost use Rattle.vx_dtype.specs.declared.error.VortexError.TheVariants.{OutOfMemory};
 ghost use Rattle.vx_fn.specs.Functions.{item_type, select_type, selection_names, included};
@@ -10,14 +10,15 @@ ghost use Rattle.vx_fn.specs.Functions as functions;
 ghost use Rattle.vx_fn.specs.Values.{item_value, select_value};
 ghost use Rattle.vx_eval.specs.Columns.{rows_view, rows_views, row_at, AllLong, HaveRow, Evaluates, datum_at, item_at, items_at};
 
+use crate::constants::Constants;
 use crate::filling::{overwritten, tabulated};
-use crate::rows::{Rows, take_at};
+use crate::rows::{Rows, copied, take_at};
 use std::alloc::{AllocError, Global};
 use vx_fn::FieldSelection;
 use vx_types::{DType, FieldName, FieldNames, StructFields, Value, VortexResult};
 
-/// The first field of that name of each struct: moved out of structs that are owned, and copied
-/// out of lent ones, of which nothing else is copied. Refuses with `OutOfMemory` (1) alone.
+/// The first field of that name of each struct: lent by structs that are lent, moved out of those
+/// that are owned, and copied out of items that are lent. Refuses with `OutOfMemory` (1) alone.
 pub fn get_item<'a>(
     alloc: Global,
     count: usize,
@@ -31,6 +32,7 @@ pub fn get_item<'a>(
 {
     let place = place_of(name, dtype);
     match input {
+        Rows::Lent(rows) => Ok(Rows::Item(rows, place, Constants::new())),
         Rows::Owned(rows) => overwritten(rows, |_, row| Ok(item_moved(row, place))),
         lent => tabulated(alloc, count, |i| item_copied(lent.row(i), place)),
     }
@@ -72,13 +74,27 @@ fn item_moved(row: Value, place: usize) -> Value
     }
 }
 
+/// The item at that place of a struct, or the null that is given.
+pub fn item_or<'v>(otherwise: &'v Value, row: &'v Value, place: usize) -> &'v Value
+    requires { value_of otherwise.now ≡ null }
+    ensures { value_of result.now ≡ item_at place (value_of row.now) }
+{
+    match row {
+        Value::Struct(items) => match items.get(place) {
+            Some(item) => item,
+            None => otherwise,
+        },
+        _ => otherwise,
+    }
+}
+
 // A copy of the item at that place of a struct, or null.
 fn item_copied(row: &Value, place: usize) -> Result<Value, AllocError>
     ensures { IfOk result (λ item. value_of item ≡ item_at place (value_of row.now)) }
 {
     match row {
         Value::Struct(items) => match items.get(place) {
-            Some(item) => item.clone(),
+            Some(item) => copied(item),
             None => Ok(Value::Null),
         },
         _ => Ok(Value::Null),

@@ -8,7 +8,7 @@ use crate::rows::Rows;
 use std::alloc::{AllocError, Global};
 use vx_types::{Value, VortexResult};
 
-/// What the function gives at each row. Refuses with `OutOfMemory` (1) alone.
+/// What the function gives at each row, as a column. Refuses with `OutOfMemory` (1) alone.
 pub fn tabulated<'a, F: Fn(usize) -> Result<Value, AllocError>>(
     alloc: Global,
     count: usize,
@@ -18,11 +18,24 @@ pub fn tabulated<'a, F: Fn(usize) -> Result<Value, AllocError>>(
     ensures rows { (g : ℕ → Datum) → AnswersRows (λ i r. F.post f i r) count g → IfOk result (λ out. rows_view out ≡ each_row count g) }
     ensures memory { IfErr result (λ e. e ≡ OutOfMemory) }
 {
+    Ok(Rows::Owned(collected(alloc, count, f)?))
+}
+
+/// What the function gives at each row. Refuses with `OutOfMemory` (1) alone.
+pub fn collected<F: Fn(usize) -> Result<Value, AllocError>>(
+    alloc: Global,
+    count: usize,
+    f: F,
+) -> VortexResult<Vec<Value>>
+    requires { (i : ℕ) → i < count → F.pre f i }
+    ensures rows { (g : ℕ → Datum) → AnswersRows (λ i r. F.post f i r) count g → IfOk result (λ out. values_of out.items ≡ each_row count g) }
+    ensures memory { IfErr result (λ e. e ≡ OutOfMemory) }
+{
     let mut values = Vec::with_capacity(alloc, count)?;
     for i in 0..count {
         values.push(f(i)?)?;
     }
-    Ok(Rows::Owned(values))
+    Ok(values)
 }
 
 /// What the function makes of each row, in place. Refuses with `OutOfMemory` (1) alone.

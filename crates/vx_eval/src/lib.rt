@@ -5,6 +5,7 @@ mod arithmetic;
 mod casting;
 mod choice;
 mod comparison;
+mod constants;
 mod evaluation;
 mod fields;
 mod filling;
@@ -15,6 +16,7 @@ mod nulls;
 mod rows;
 mod text;
 mod trees;
+mod truths;
 
 pub use evaluation::apply_bound;
 pub use matching::first_match;

@@ -1,15 +1,14 @@
 // Truth values and null, by Kleene's tables.
 ghost use Rattle.std.specs.Prelude.{◌≡◌, length, List, [], ◌∷◌};
 ghost use Rattle.vx_types.specs.Types.{LogicalType};
-ghost use Rattle.vx_types.specs.Views.{value_of};
 ghost use Rattle.vx_fn.specs.Functions.{binary, and_also, or_else, negation};
 ghost use Rattle.vx_fn.specs.Values as values;
-ghost use Rattle.vx_eval.specs.Columns.{rows_view, Evaluates};
+ghost use Rattle.vx_eval.specs.Columns.{rows_view, truth_datum, Evaluates};
 
-use crate::filling::tabulated;
 use crate::rows::Rows;
+use crate::truths::told;
 use std::alloc::Global;
-use vx_types::{Value, VortexResult};
+use vx_types::VortexResult;
 
 /// The And of two columns. Refuses with `OutOfMemory` (1) alone.
 pub fn and<'a>(alloc: Global, count: usize, lhs: &Rows, rhs: &Rows) -> VortexResult<Rows<'a>>
@@ -17,7 +16,7 @@ pub fn and<'a>(alloc: Global, count: usize, lhs: &Rows, rhs: &Rows) -> VortexRes
     requires right { length (rows_view rhs.now) ≡ count }
     ensures { (ts : List LogicalType) → Evaluates (binary and_also) ts count (rows_view lhs.now ∷ rows_view rhs.now ∷ []) result }
 {
-    tabulated(alloc, count, |i| Ok(kleene_and(lhs.row(i), rhs.row(i))))
+    told(alloc, count, |i| kleene_and(lhs.truth(i), rhs.truth(i)))
 }
 
 /// The Or of two columns. Refuses with `OutOfMemory` (1) alone.
@@ -26,7 +25,7 @@ pub fn or<'a>(alloc: Global, count: usize, lhs: &Rows, rhs: &Rows) -> VortexResu
     requires right { length (rows_view rhs.now) ≡ count }
     ensures { (ts : List LogicalType) → Evaluates (binary or_else) ts count (rows_view lhs.now ∷ rows_view rhs.now ∷ []) result }
 {
-    tabulated(alloc, count, |i| Ok(kleene_or(lhs.row(i), rhs.row(i))))
+    told(alloc, count, |i| kleene_or(lhs.truth(i), rhs.truth(i)))
 }
 
 /// The negation of a column. Refuses with `OutOfMemory` (1) alone.
@@ -34,60 +33,37 @@ pub fn not<'a>(alloc: Global, count: usize, input: &Rows) -> VortexResult<Rows<'
     requires { length (rows_view input.now) ≡ count }
     ensures { (ts : List LogicalType) → Evaluates negation ts count (rows_view input.now ∷ []) result }
 {
-    tabulated(alloc, count, |i| Ok(kleene_not(input.row(i))))
+    told(alloc, count, |i| kleene_not(input.truth(i)))
 }
 
 /// False where one of the two is, else true where both are, else null.
-pub fn kleene_and(v: &Value, w: &Value) -> Value
-    ensures { value_of result ≡ values.kleene_and (value_of v.now) (value_of w.now) }
+pub fn kleene_and(v: Option<bool>, w: Option<bool>) -> Option<bool>
+    ensures { truth_datum result ≡ values.kleene_and (truth_datum v) (truth_datum w) }
 {
-    if is_false(v) || is_false(w) {
-        Value::Bool(false)
-    } else if is_true(v) && is_true(w) {
-        Value::Bool(true)
-    } else {
-        Value::Null
+    match v {
+        Some(false) => Some(false),
+        Some(true) => w,
+        None => if matches!(w, Some(false)) { w } else { None },
     }
 }
 
 // True where one of the two is, else false where both are, else null.
-fn kleene_or(v: &Value, w: &Value) -> Value
-    ensures { value_of result ≡ values.kleene_or (value_of v.now) (value_of w.now) }
+fn kleene_or(v: Option<bool>, w: Option<bool>) -> Option<bool>
+    ensures { truth_datum result ≡ values.kleene_or (truth_datum v) (truth_datum w) }
 {
-    if is_true(v) || is_true(w) {
-        Value::Bool(true)
-    } else if is_false(v) && is_false(w) {
-        Value::Bool(false)
-    } else {
-        Value::Null
+    match v {
+        Some(true) => Some(true),
+        Some(false) => w,
+        None => if matches!(w, Some(true)) { w } else { None },
     }
 }
 
 // The other truth value, or null.
-fn kleene_not(v: &Value) -> Value
-    ensures { value_of result ≡ values.kleene_not (value_of v.now) }
+fn kleene_not(v: Option<bool>) -> Option<bool>
+    ensures { truth_datum result ≡ values.kleene_not (truth_datum v) }
 {
     match v {
-        Value::Bool(b) => Value::Bool(!*b),
-        _ => Value::Null,
-    }
-}
-
-/// Whether the value is true.
-pub fn is_true(v: &Value) -> bool
-    ensures { result ≡ values.is_true (value_of v.now) }
-{
-    match v {
-        Value::Bool(b) => *b,
-        _ => false,
-    }
-}
-
-fn is_false(v: &Value) -> bool
-    ensures { result ≡ values.is_false (value_of v.now) }
-{
-    match v {
-        Value::Bool(b) => !*b,
-        _ => false,
+        Some(b) => Some(!b),
+        None => None,
     }
 }

@@ -5,12 +5,13 @@ ghost use Rattle.vx_types.specs.Types.{LogicalType, bool, is_null_datum};
 ghost use Rattle.vx_types.specs.Views.{type_of, value_of};
 ghost use Rattle.vx_fn.specs.Faults.{is_bad_fill, some_differ};
 ghost use Rattle.vx_fn.specs.Functions as functions;
-ghost use Rattle.vx_eval.specs.Columns.{rows_view, Evaluates};
+ghost use Rattle.vx_eval.specs.Columns.{rows_view, truth_datum, Evaluates};
 
 use crate::choice::first_true;
 use crate::comparison::order;
 use crate::filling::{overwritten, tabulated};
-use crate::rows::Rows;
+use crate::rows::{Rows, copied};
+use crate::truths::told;
 use std::alloc::{AllocError, Global};
 use vx_fn::FillNull;
 use vx_types::{DType, Value, VortexError, VortexResult};
@@ -20,7 +21,7 @@ pub fn is_null<'a>(alloc: Global, count: usize, input: &Rows) -> VortexResult<Ro
     requires { length (rows_view input.now) ≡ count }
     ensures { (ts : List LogicalType) → Evaluates functions.is_null ts count (rows_view input.now ∷ []) result }
 {
-    tabulated(alloc, count, |i| Ok(null_test(input.row(i))))
+    told(alloc, count, |i| null_test(input.row(i)))
 }
 
 /// Whether each value is another one than null. Refuses with `OutOfMemory` (1) alone.
@@ -28,21 +29,21 @@ pub fn is_not_null<'a>(alloc: Global, count: usize, input: &Rows) -> VortexResul
     requires { length (rows_view input.now) ≡ count }
     ensures { (ts : List LogicalType) → Evaluates functions.is_not_null ts count (rows_view input.now ∷ []) result }
 {
-    tabulated(alloc, count, |i| Ok(value_test(input.row(i))))
+    told(alloc, count, |i| value_test(input.row(i)))
 }
 
-// Whether the value is null, as a value.
-fn null_test(v: &Value) -> Value
-    ensures { value_of result ≡ bool (is_null_datum (value_of v.now)) }
+// Whether the value is null.
+fn null_test(v: &Value) -> Option<bool>
+    ensures { truth_datum result ≡ bool (is_null_datum (value_of v.now)) }
 {
-    Value::Bool(v.is_null())
+    Some(v.is_null())
 }
 
-// Whether the value isn't null, as a value.
-fn value_test(v: &Value) -> Value
-    ensures { value_of result ≡ bool (not (is_null_datum (value_of v.now))) }
+// Whether the value isn't null.
+fn value_test(v: &Value) -> Option<bool>
+    ensures { truth_datum result ≡ bool (not (is_null_datum (value_of v.now))) }
 {
-    Value::Bool(!v.is_null())
+    Some(!v.is_null())
 }
 
 /// The values where the mask is true, and null elsewhere; those that are owned are moved.
@@ -88,14 +89,14 @@ pub fn fill_null<'a>(
 fn filled(v: Value, fill: &Value) -> Result<Value, AllocError>
     ensures { IfOk result (λ out. value_of out ≡ (if is_null_datum (value_of v) then value_of fill.now else value_of v)) }
 {
-    if v.is_null() { fill.clone() } else { Ok(v) }
+    if v.is_null() { copied(fill) } else { Ok(v) }
 }
 
 // A copy of the value, or of the fill where it is null.
 fn filled_copy(v: &Value, fill: &Value) -> Result<Value, AllocError>
     ensures { IfOk result (λ out. value_of out ≡ (if is_null_datum (value_of v.now) then value_of fill.now else value_of v.now)) }
 {
-    if v.is_null() { fill.clone() } else { v.clone() }
+    if v.is_null() { copied(fill) } else { copied(v) }
 }
 
 // Whether values of the type can't be filled, or the fills are null somewhere or not one value.

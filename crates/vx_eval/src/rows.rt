@@ -1,11 +1,15 @@
 // The values of a column while it is worked on.
 ghost use Rattle.std.specs.Prelude.{◌≡◌, ◌≢◌, ◌<◌, ℕ, IfOk, length, get_or, map, Ok};
-ghost use Rattle.std.proofs.Math.ListN.{replicate};
 ghost use Rattle.vx_dtype.specs.Answers.{Answers};
 ghost use Rattle.vx_types.specs.Types.{null};
 ghost use Rattle.vx_types.specs.Views.{value_of};
-ghost use Rattle.vx_eval.specs.Columns.{values_of, rows_view, rows_views, row_at, HaveRow};
+ghost use Rattle.vx_fn.specs.Values as values;
+ghost use Rattle.vx_eval.specs.Columns.{values_of, rows_view, rows_views, row_at, truth_of, HaveRow};
 
+use crate::constants::Constants;
+use crate::fields::item_or;
+use crate::filling::collected;
+use crate::truths::{truth_of, truth_values};
 use std::alloc::{AllocError, Global};
 use std::rc::Rc;
 use vx_types::{Value, VortexResult};
@@ -15,10 +19,14 @@ use vx_types::{Value, VortexResult};
 pub enum Rows<'a> {
     /// The values of a column that is lent.
     Lent(&'a Rc<Vec<Value>>),
+    /// The items at one place of structs that are lent.
+    Item(&'a Rc<Vec<Value>>, usize, Constants),
     /// Values that nobody shares.
     Owned(Vec<Value>),
     /// One lent value, in so many rows.
     Same(&'a Value, usize),
+    /// Truth values, and null where there is none.
+    Truths(Vec<Option<bool>>, Constants),
 }
 
 impl<'a> Rows<'a> {
@@ -29,9 +37,32 @@ impl<'a> Rows<'a> {
     {
         match self {
             Rows::Lent(values) => &values.as_slice()[i],
+            Rows::Item(values, place, constants) => {
+                item_or(constants.null(), &values.as_slice()[i], *place)
+            }
             Rows::Owned(values) => &values[i],
             Rows::Same(value, _) => value,
+            Rows::Truths(truths, constants) => constants.truth(truths[i]),
         }
+    }
+
+    /// The truth value of that row, if its value is one. Asks an index below the number of rows.
+    pub fn truth(&self, i: usize) -> Option<bool>
+        requires { i < length (rows_view self.now) }
+        ensures { result ≡ truth_of (get_or (rows_view self.now) i null) }
+    {
+        match self {
+            Rows::Truths(truths, _) => truths[i],
+            values => truth_of(values.row(i)),
+        }
+    }
+
+    /// Whether the value of that row is true. Asks an index below the number of rows.
+    pub fn is_true(&self, i: usize) -> bool
+        requires { i < length (rows_view self.now) }
+        ensures { result ≡ values.is_true (get_or (rows_view self.now) i null) }
+    {
+        matches!(self.truth(i), Some(true))
     }
 
     /// The value of that row, moved out where it is owned and copied where it is lent; the other
@@ -43,9 +74,8 @@ impl<'a> Rows<'a> {
         ensures long { length (rows_view self.new) ≡ length (rows_view self.old) }
     {
         match self {
-            Rows::Lent(values) => values.as_slice()[i].clone(),
             Rows::Owned(values) => Ok(std::mem::replace(&mut values[i], Value::Null)),
-            Rows::Same(value, _) => value.clone(),
+            _ => copied(self.row(i)),
         }
     }
 
@@ -57,20 +87,42 @@ impl<'a> Rows<'a> {
         match self {
             Rows::Lent(values) => Ok(values.clone()?),
             Rows::Owned(values) => Ok(Rc::new(alloc, values)?),
-            Rows::Same(value, count) => Ok(Rc::new(alloc, repeated(alloc, value, count)?)?),
+            Rows::Truths(truths, _) => Ok(Rc::new(alloc, truth_values(alloc, truths.as_slice())?)?),
+            lent => Ok(Rc::new(alloc, lent.copies(alloc)?)?),
+        }
+    }
+
+    // A copy of each value.
+    fn copies(&self, alloc: Global) -> VortexResult<Vec<Value>>
+        ensures { Answers (λ values. values_of values.items) result (Ok (rows_view self.now)) }
+    {
+        collected(alloc, self.len(), |i| copied(self.row(i)))
+    }
+
+    // The number of rows.
+    fn len(&self) -> usize
+        ensures { result ≡ length (rows_view self.now) }
+    {
+        match self {
+            Rows::Lent(values) => values.len(),
+            Rows::Item(values, _, _) => values.len(),
+            Rows::Owned(values) => values.len(),
+            Rows::Same(_, count) => *count,
+            Rows::Truths(truths, _) => truths.len(),
         }
     }
 }
 
-// The same value in so many rows.
-fn repeated(alloc: Global, value: &Value, count: usize) -> VortexResult<Vec<Value>>
-    ensures { Answers (λ values. values_of values.items) result (Ok (replicate count (value_of value.now))) }
+/// The same value; what takes no memory is copied here, and the rest by its `clone`.
+pub fn copied(value: &Value) -> Result<Value, AllocError>
+    ensures { IfOk result (λ copy. value_of copy ≡ value_of value.now) }
 {
-    let mut values = Vec::with_capacity(alloc, count)?;
-    for i in 0..count {
-        values.push(value.clone()?)?;
+    match value {
+        Value::Null => Ok(Value::Null),
+        Value::Bool(b) => Ok(Value::Bool(*b)),
+        Value::Int(z) => Ok(Value::Int(*z)),
+        _ => value.clone(),
     }
-    Ok(values)
 }
 
 /// The value of that row of that column, moved out of it where it is owned; what stands elsewhere

@@ -6,10 +6,11 @@ ghost use Rattle.vx_types.specs.Types.{LogicalType};
 ghost use Rattle.vx_types.specs.Views.{value_of};
 ghost use Rattle.vx_fn.specs.Functions as functions;
 ghost use Rattle.vx_fn.specs.Values as values;
-ghost use Rattle.vx_eval.specs.Columns.{rows_view, text_of, accepted, Evaluates};
+ghost use Rattle.vx_eval.specs.Columns.{rows_view, truth_datum, text_of, accepted, Evaluates};
 
-use crate::filling::tabulated;
+use crate::constants::Constants;
 use crate::rows::Rows;
+use crate::truths::told;
 use std::alloc::Global;
 use vx_fn::LikeOptions;
 use vx_like::{Pattern, is_like};
@@ -48,13 +49,13 @@ fn like_one<'a>(
     match as_text(pattern) {
         Some(text) => {
             let read = Pattern::compile(alloc, text, options.case_insensitive)?;
-            tabulated(
+            told(
                 alloc,
                 count,
-                |i| Ok(accepted(options.negated, child.row(i), &read)),
+                |i| accepted(options.negated, child.row(i), &read),
             )
         }
-        None => tabulated(alloc, count, |_| Ok(Value::Null)),
+        None => told(alloc, count, |_| None),
     }
 }
 
@@ -84,33 +85,33 @@ fn like_each<'a>(
     for i in 0..count {
         answers.push(liked(alloc, options, child.row(i), pattern.row(i))?)?;
     }
-    Ok(Rows::Owned(answers))
+    Ok(Rows::Truths(answers, Constants::new()))
 }
 
 // Whether the pattern accepts the text, turned round where it is negated; null of null.
-fn accepted(negated: bool, v: &Value, pattern: &Pattern) -> Value
-    ensures { value_of result ≡ accepted negated pattern.now (value_of v.now) }
+fn accepted(negated: bool, v: &Value, pattern: &Pattern) -> Option<bool>
+    ensures { truth_datum result ≡ accepted negated pattern.now (value_of v.now) }
 {
     match v {
-        Value::Utf8(text) => Value::Bool(flipped(negated, pattern.matches(text.as_str()))),
-        _ => Value::Null,
+        Value::Utf8(text) => Some(flipped(negated, pattern.matches(text.as_str()))),
+        _ => None,
     }
 }
 
 // Whether the text is like the pattern, turned round where it is negated; null where one is.
-fn liked(alloc: Global, options: &LikeOptions, v: &Value, w: &Value) -> VortexResult<Value>
-    ensures { Answers value_of result (Ok (values.liked options.now.negated options.now.case_insensitive (value_of v.now) (value_of w.now))) }
+fn liked(alloc: Global, options: &LikeOptions, v: &Value, w: &Value) -> VortexResult<Option<bool>>
+    ensures { Answers truth_datum result (Ok (values.liked options.now.negated options.now.case_insensitive (value_of v.now) (value_of w.now))) }
 {
     match v {
         Value::Utf8(text) => match w {
             Value::Utf8(pattern) => {
                 let ignore_case = options.case_insensitive;
                 let is_like = is_like(alloc, text.as_str(), pattern.as_str(), ignore_case)?;
-                Ok(Value::Bool(flipped(options.negated, is_like)))
+                Ok(Some(flipped(options.negated, is_like)))
             }
-            _ => Ok(Value::Null),
+            _ => Ok(None),
         },
-        _ => Ok(Value::Null),
+        _ => Ok(None),
     }
 }
 

@@ -1,7 +1,7 @@
 use Rattle.std.proofs.Common.{◌∷◌, [], arith, below_more, ◌≡◌, ◌∙◌, ap, get_or}
 use Rattle.vx_dtype.specs.declared.error.VortexError.TheVariants.{AddOverflow}
 use Rattle.vx_types.specs.Types.{null}
-use Rattle.vx_types.specs.Views.{type_of}
+use Rattle.vx_types.specs.Views.{type_of, value_of}
 use Rattle.vx_fn.specs.Functions.{binary, adds}
 use Rattle.vx_fn.specs.Values.{sum_of}
 use Rattle.vx_eval.specs.Columns.{rows_view, each_row}
@@ -16,7 +16,7 @@ returns-in-None c = λ ts.
 
 pub loop-i-preserved : goal.loop-i-preserved
 loop-i-preserved c = record {
-  so_far = row_pushed _ _ _ _ _ c.loop-i.invariant.so_far c.in_ok-push-in-Some.ensures.items (sum_at _ _ _ _ _ c.in-Some.ensures.0 c.row.ensures c.row-in-loop-i.ensures);
+  so_far = row_pushed value_of _ _ _ _ _ c.loop-i.invariant.so_far c.in_ok-push-in-Some.ensures.items (sum_at _ _ _ _ _ c.in-Some.ensures.0 c.row.ensures c.row-in-loop-i.ensures);
   inside = below_more _ _ c.loop-i.invariant.inside (inside_at _ _ _ _ _ _ c.in-Some.ensures.1 c.in-Some.ensures.0 c.row.ensures c.row-in-loop-i.ensures);
 }
 

@@ -1,4 +1,5 @@
 use Rattle.std.proofs.Common.{arith, ◌∙◌, ◌≢◌, ap}
+use Rattle.vx_types.specs.Views.{value_of}
 use Rattle.vx_fn.specs.Values.{first_true}
 use Rattle.vx_eval.specs.Columns.{rows_views, row_at}
 use Rattle.vx_eval.proofs.Filled.{row_pushed}
@@ -15,7 +16,7 @@ pub loop-i-preserved : goal.loop-i-preserved
 loop-i-preserved c =
     let row = row_at (rows_views c.loop-i.columns.items) c.loop-i.i in
     record {
-      so_far = row_pushed _ _ _ _ _ c.loop-i.invariant.so_far c.in_ok-push.ensures.items
+      so_far = row_pushed value_of _ _ _ _ _ c.loop-i.invariant.so_far c.in_ok-push.ensures.items
           (chosen_is _ _ row _ c.chosen_place-place.ensures c.in_ok-take_or_null.ensures.value ∙ ap first_true (c.loop-i.invariant.left c.loop-i.i (omega arith)));
       left = λ k h. let apart : k ≢ c.loop-i.i = omega arith in c.in_ok-take_or_null.ensures.others k apart ∙ c.loop-i.invariant.left k (omega arith);
       long = c.in_ok-take_or_null.ensures.long ∙ c.loop-i.invariant.long;

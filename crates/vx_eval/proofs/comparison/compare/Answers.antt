@@ -7,4 +7,4 @@ use Rattle.vx_eval.proofs.comparison.compare.Goals as goal
 
 pub returns : goal.returns
 returns c = λ ts. evaluated (binary (operation_of c.args.operator)) ts c.args.count (rows_view c.args.lhs.now ∷ rows_view c.args.rhs.now ∷ []) _
-    (comparison_quiet _ ts _ c.requires.comparison) (c.tabulated.ensures.rows _ (λ i v lt p. search rules)) c.tabulated.ensures.memory
+    (comparison_quiet _ ts _ c.requires.comparison) (c.told.ensures.rows _ (λ i t lt p. search rules)) c.told.ensures.memory

@@ -1,10 +1,11 @@
-use Rattle.std.proofs.Common.{◌≡◌, rules, refl, sym, ap, ◌∙◌, ◌∷◌, [], get_or}
+use Rattle.std.proofs.Common.{◌≡◌, rules, refl, sym, ap, ◌∙◌, ◌∷◌, [], map, get_or, Ok}
 use Rattle.vx_types.specs.Types.{null}
 use Rattle.vx_types.specs.Views.{type_of, value_of}
 use Rattle.vx_fn.specs.Functions.{get_item}
 use Rattle.vx_fn.specs.Values.{item_value}
-use Rattle.vx_eval.specs.Columns.{rows_view, item_at}
-use Rattle.vx_eval.proofs.Filled.{evaluated, evaluated_in_place}
+use Rattle.vx_eval.specs.declared.rows.Rows.TheVariants.{Item}
+use Rattle.vx_eval.specs.Columns.{rows_view, item_at, each_row}
+use Rattle.vx_eval.proofs.Filled.{evaluated, evaluated_in_place, map_same, each_of}
 use Rattle.vx_eval.proofs.fields.get_item.Goals as goal
 
 pub returns-in-Owned : goal.returns-in-Owned
@@ -15,6 +16,13 @@ returns-in-Owned c =
     let item : value_of v ≡ item_at c.place_of-place.result (value_of x) = search rules in
     item ∙ sym (c.place_of-place.ensures (value_of x))))
     c.overwritten.ensures.memory
+
+pub returns-in-Lent : goal.returns-in-Lent
+returns-in-Lent c =
+    let ts = type_of c.args.dtype.now ∷ [] in
+    let items : map (item_at c.place_of-place.result) (rows_view c.args.input) ≡ each_row c.args.count (λ k. item_value c.args.name.now ts (get_or (rows_view c.args.input) k null)) =
+        map_same _ _ (λ d. sym (c.place_of-place.ensures d)) (rows_view c.args.input) ∙ sym (each_of (item_value c.args.name.now ts) (rows_view c.args.input) c.args.count c.requires.long) in
+    evaluated (get_item c.args.name.now) ts c.args.count (rows_view c.args.input ∷ []) (Ok (Item c.in-Lent.rows c.place_of-place.result c.new.result)) refl (ap (λ r. map (item_at c.place_of-place.result) (rows_view r)) (sym c.in-Lent.is) ∙ items) tt
 
 pub returns-in_default : goal.returns-in_default
 returns-in_default c =

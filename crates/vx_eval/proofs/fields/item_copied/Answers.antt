@@ -8,7 +8,7 @@ use Rattle.vx_eval.proofs.fields.item_copied.Goals as goal
 pub returns-in-Some : goal.returns-in-Some
 returns-in-Some c =
     let item : value_of c.in-Some.item.now ≡ item_at c.args.place (value_of c.args.row.now) = item_taken _ _ _ _ c.in-Struct.is (grind (arith, common_steps)) (search rules) in
-    subst (λ d. IfOk c.clone.result (λ copy. value_of copy ≡ d)) item (search rules)
+    subst (λ d. IfOk c.copied.result (λ copy. value_of copy ≡ d)) item c.copied.ensures
 
 pub returns-in-None : goal.returns-in-None
 returns-in-None c = item_past _ c.in-Struct.items _ c.in-Struct.is (grind (arith, common_steps))

@@ -5,4 +5,4 @@ use Rattle.vx_eval.proofs.Filled.{evaluated}
 use Rattle.vx_eval.proofs.nulls.is_not_null.Goals as goal
 
 pub returns : goal.returns
-returns c = λ ts. evaluated is_not_null ts c.args.count (rows_view c.args.input.now ∷ []) _ refl (c.tabulated.ensures.rows _ (λ i v lt p. search rules)) c.tabulated.ensures.memory
+returns c = λ ts. evaluated is_not_null ts c.args.count (rows_view c.args.input.now ∷ []) _ refl (c.told.ensures.rows _ (λ i t lt p. search rules)) c.told.ensures.memory

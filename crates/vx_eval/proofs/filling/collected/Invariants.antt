@@ -1,7 +1,7 @@
 use Rattle.std.proofs.Common.{◌≡◌, ℕ}
 use Rattle.vx_types.specs.Types.{Datum}
 use Rattle.vx_eval.specs.Columns.{values_of, each_row, AnswersRows}
-use Rattle.vx_eval.proofs.filling.tabulated.Given as goal
+use Rattle.vx_eval.proofs.filling.collected.Given as goal
 
 abbrev pub invariant-loop-i : goal.invariant-loop-i
 invariant-loop-i g l = (h : ℕ → Datum) → AnswersRows (λ i r. goal.F-post g l.f i r) l.count h → values_of l.values.items ≡ each_row l.i h
