@@ -1,11 +1,11 @@
 -- Columns that are filled row by row.
-use Rattle.std.proofs.Common.{◌≡◌, ℕ, ◌+◌, ◌<◌, List, [], ◌∷◌, ◌++◌, map, length, get_or, refl, sym, ap, ◌∙◌, arith, Some, None, Result, Ok, Err, IfOk, IfErr, inl, inr, zero, suc, IsTrue, Bool, true, false}
+use Rattle.std.proofs.Common.{◌≡◌, ℕ, ◌+◌, ◌<◌, List, [], ◌∷◌, ◌++◌, map, length, get_or, refl, sym, ap, subst, ◌∙◌, arith, Some, None, Result, Ok, Err, IfOk, IfErr, inl, inr, zero, suc, IsTrue, Bool, true, false}
 use Rattle.std.specs.Prelude.{position}
 use Rattle.std.specs.List.{position_or_len}
 use Rattle.std.proofs.lemmas.List.Sums.{position_or_len_is}
 use Rattle.std.proofs.lemmas.Bool.Decides.{nat_tests}
 use Rattle.std.specs.List.{range_with_len}
-use Rattle.std.proofs.lemmas.List.{map-append, length-map, ext_get_or}
+use Rattle.std.proofs.lemmas.List.{map-append, length-map, length-replicate, ext_get_or}
 use Rattle.std.proofs.lemmas.List.FromFn.{map-range_with_len_more, length-map-range_with_len, get_or-map-range_with_len}
 use Rattle.std.proofs.Math.ListN.{replicate}
 use Rattle.std.specs.declared.alloc.Global.{Global}
@@ -114,3 +114,17 @@ literal_rows v n = map_map (λ _. v) (row_at []) (range_with_len 0 n) ∙ same_r
 pub collected_are : (ds es : List Datum) (r : Result (Vec Value Global) VortexError) → ds ≡ es → IfOk r (λ out. values_of out.items ≡ ds) → IfErr r (λ e. e ≡ OutOfMemory) → Answers (λ out. values_of out.items) r (Ok es)
 collected_are ds es (Ok out) same is memory = ap Ok (sym same ∙ sym is)
 collected_are ds es (Err e) same is memory = inl memory
+
+-- ---- one value in all rows of a column
+
+pub repeated_at : (n i : ℕ) (d : Datum) → i < n → get_or (replicate n d) i null ≡ d
+repeated_at zero i d lt = absurd (omega arith)
+repeated_at (suc n) zero d lt = refl
+repeated_at (suc n) (suc i) d lt = repeated_at n i d (omega arith)
+
+pub repeated_still : (f : Function) (ts : List LogicalType) (n m : ℕ) (c x : List Datum) (d : Datum) (r : Result Rows VortexError) → x ≡ replicate m d → length x ≡ n →
+    Evaluates f ts n (c ∷ replicate n d ∷ []) r → Evaluates f ts n (c ∷ x ∷ []) r
+repeated_still f ts n m c x d r is long h =
+    let many : m ≡ n = sym (length-replicate m d) ∙ ap length (sym is) ∙ long in
+    let same : replicate n d ≡ x = ap (λ k. replicate k d) (sym many) ∙ sym is in
+    subst (λ y. Evaluates f ts n (c ∷ y ∷ []) r) same h

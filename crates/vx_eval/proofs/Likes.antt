@@ -8,7 +8,8 @@ use Rattle.vx_fn.specs.Functions.{Function}
 use Rattle.vx_fn.specs.Values.{liked}
 use Rattle.vx_like.specs.Patterns.{Compiled, compiled}
 use Rattle.vx_eval.specs.declared.rows.Rows.{Rows}
-use Rattle.vx_eval.specs.Columns.{text_of, accepted, Evaluates}
+use Rattle.vx_eval.specs.Columns.{text_of, accepted}
+use Rattle.vx_eval.proofs.Filled.{repeated_at}
 
 abbrev ok : Datum → Result Datum VortexError
 ok v = Ok v
@@ -22,11 +23,6 @@ liked_at negated ci a b c d v e f g = let h : liked negated ci a b ≡ v = cc in
 is_text : (w : Datum) (t : List ℕ) → text_of w ≡ Some t → w ≡ utf8 t
 is_text (utf8 s) t e = let h : s ≡ t = cc in ap utf8 h
 is_text _ t e = cc
-
-repeated_at : (n i : ℕ) (d : Datum) → i < n → get_or (replicate n d) i null ≡ d
-repeated_at zero i d lt = absurd (omega arith)
-repeated_at (suc n) zero d lt = refl
-repeated_at (suc n) (suc i) d lt = repeated_at n i d (omega arith)
 
 -- a pattern that was read once, at each row
 pub accepted_at : (negated ci : Bool) (n i : ℕ) (v w u : Datum) (t : List ℕ) (p : Compiled) → i < n → text_of w ≡ Some t → read (compiled ci t) ≡ Ok p → u ≡ accepted negated p v → u ≡ liked negated ci v (get_or (replicate n w) i null)
@@ -45,10 +41,3 @@ unliked_at negated ci n i v w u lt none is = is ∙ go v w none ∙ ap (liked ne
     go : (v w : Datum) → text_of w ≡ None → null ≡ liked negated ci v w
     go (utf8 s) (utf8 t) e = cc
     go _ _ e = refl
-
-pub repeated_still : (f : Function) (ts : List LogicalType) (n m : ℕ) (c x : List Datum) (d : Datum) (r : Result Rows VortexError) → x ≡ replicate m d → length x ≡ n →
-    Evaluates f ts n (c ∷ replicate n d ∷ []) r → Evaluates f ts n (c ∷ x ∷ []) r
-repeated_still f ts n m c x d r is long h =
-    let many : m ≡ n = sym (length-replicate m d) ∙ ap length (sym is) ∙ long in
-    let same : replicate n d ≡ x = ap (λ k. replicate k d) (sym many) ∙ sym is in
-    subst (λ y. Evaluates f ts n (c ∷ y ∷ []) r) same h

@@ -172,7 +172,7 @@ item_past row v k is le = rw (is, value_of-Struct v, datum_at-data (values_of v.
     go (y ∷ ys) (suc k) le = go ys k (omega arith)
 
 -- the item of one row is that row of the items
-pub item_row : (k : ℕ) (x : Value) (rows : List Value) (i : ℕ) → i < length (map (item_at k) (values_of rows)) → x ≡ get_or rows i x → item_at k (value_of x) ≡ get_or (map (item_at k) (values_of rows)) i null
+pub item_row : (k : ℕ) (x : Value) (rows : List Value) (i : ℕ) → i < length rows → x ≡ get_or rows i x → item_at k (value_of x) ≡ get_or (map (item_at k) (values_of rows)) i null
 item_row k x [] i lt at = absurd (omega arith)
 item_row k x (y ∷ ys) zero lt at = ap (λ z. item_at k (value_of z)) at
 item_row k x (y ∷ ys) (suc i) lt at = item_row k x ys i (omega arith) at

@@ -1,5 +1,7 @@
 // Comparisons of values of one kind.
 ghost use Rattle.std.specs.Prelude.{◌≡◌, length, List, [], ◌∷◌, IsTrue};
+ghost use Rattle.std.specs.Ordering.{int_cmp};
+ghost use Rattle.std.proofs.Math.ListN.{replicate};
 ghost use Rattle.vx_types.specs.Types.{LogicalType};
 ghost use Rattle.vx_types.specs.Views.{value_of};
 ghost use Rattle.vx_fn.specs.Functions.{binary, compares};
@@ -9,6 +11,7 @@ ghost use Rattle.vx_fn.specs.Values as values;
 ghost use Rattle.vx_fn.specs.Views.{operation_of, is_strict};
 ghost use Rattle.vx_eval.specs.Columns.{rows_view, truth_datum, is_comparison, agrees_with, Evaluates};
 
+use crate::fields::item_row;
 use crate::logic::kleene_and;
 use crate::rows::Rows;
 use crate::truths::told;
@@ -31,7 +34,36 @@ pub fn compare<'a>(
     requires right { length (rows_view rhs.now) ≡ count }
     ensures { (ts : List LogicalType) → Evaluates (binary (operation_of operator)) ts count (rows_view lhs.now ∷ rows_view rhs.now ∷ []) result }
 {
-    told(alloc, count, |i| compared(operator, lhs.row(i), rhs.row(i)))
+    match rhs {
+        Rows::Same(value, _) => compare_with(alloc, count, operator, lhs, *value),
+        _ => told(alloc, count, |i| compared(operator, lhs.row(i), rhs.row(i))),
+    }
+}
+
+// The same with one value on the right of all rows; a field of lent structs is read where it lies.
+fn compare_with<'a>(
+    alloc: Global,
+    count: usize,
+    operator: Operator,
+    lhs: &Rows,
+    value: &Value,
+) -> VortexResult<Rows<'a>>
+    requires comparison { IsTrue (is_comparison (operation_of operator)) }
+    requires left { length (rows_view lhs.now) ≡ count }
+    ensures { (ts : List LogicalType) → Evaluates (binary (operation_of operator)) ts count (rows_view lhs.now ∷ replicate count (value_of value.now) ∷ []) result }
+{
+    match lhs {
+        Rows::Item(rows, place, constants) => {
+            let rows = rows.as_slice();
+            let null = constants.null();
+            told(
+                alloc,
+                count,
+                |i| compared(operator, item_row(null, rows, *place, i), value),
+            )
+        }
+        _ => told(alloc, count, |i| compared(operator, lhs.row(i), value)),
+    }
 }
 
 /// Whether each value lies between its bounds. Refuses with `OutOfMemory` (1) alone.
@@ -82,10 +114,31 @@ fn compared(operator: Operator, v: &Value, w: &Value) -> Option<bool>
     requires { IsTrue (is_comparison (operation_of operator)) }
     ensures { truth_datum result ≡ binary_value (operation_of operator) (value_of v.now) (value_of w.now) }
 {
+    if let Value::Int(a) = v {
+        if let Value::Int(b) = w {
+            return Some(holds(operator, *a, *b));
+        }
+    }
     if v.is_null() || w.is_null() {
         return None;
     }
     Some(agrees(operator, order(v, w)))
+}
+
+// Whether the comparison holds of two numbers, with no order made of them first.
+fn holds(operator: Operator, a: i128, b: i128) -> bool
+    requires { IsTrue (is_comparison (operation_of operator)) }
+    ensures { result ≡ agrees_with (operation_of operator) (int_cmp a b) }
+{
+    match operator {
+        Operator::Eq => a == b,
+        Operator::NotEq => a != b,
+        Operator::Gt => a > b,
+        Operator::Gte => a >= b,
+        Operator::Lt => a < b,
+        Operator::Lte => a <= b,
+        _ => unreachable!(),
+    }
 }
 
 // Whether the order is one that the operator asks for.

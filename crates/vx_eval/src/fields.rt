@@ -1,5 +1,5 @@
 // Structs: their fields, and structs of columns.
-ghost use Rattle.std.specs.Prelude.{◌≡◌, ◌≢◌, ℕ, Bool, true, is_some, length, map, List, [], ◌∷◌, IsOk, IfOk, IfErr, Ok, None};
+ghost use Rattle.std.specs.Prelude.{◌≡◌, ◌≢◌, ◌<◌, ℕ, Bool, true, is_some, length, get_or, map, List, [], ◌∷◌, IsOk, IfOk, IfErr, Ok, None};
 ghost use Rattle.vx_dtype.specs.Answers.{Answers};
 ghost use Rattle.vx_types.specs.Fields.{data_of, field_type, field_value, first_unknown, project_values};
 ghost use Rattle.vx_types.specs.Types.{Name, LogicalType, Datum, Data, null, struct_of};
@@ -8,7 +8,7 @@ ghost use Rattle.vx_dtype.specs.declared.error.VortexError.TheVariants.{OutOfMem
 ghost use Rattle.vx_fn.specs.Functions.{item_type, select_type, selection_names, included};
 ghost use Rattle.vx_fn.specs.Functions as functions;
 ghost use Rattle.vx_fn.specs.Values.{item_value, select_value};
-ghost use Rattle.vx_eval.specs.Columns.{rows_view, rows_views, row_at, AllLong, HaveRow, Evaluates, datum_at, item_at, items_at};
+ghost use Rattle.vx_eval.specs.Columns.{values_of, rows_view, rows_views, row_at, AllLong, HaveRow, Evaluates, datum_at, item_at, items_at};
 
 use crate::constants::Constants;
 use crate::filling::{overwritten, tabulated};
@@ -74,8 +74,17 @@ fn item_moved(row: Value, place: usize) -> Value
     }
 }
 
-/// The item at that place of a struct, or the null that is given.
-pub fn item_or<'v>(otherwise: &'v Value, row: &'v Value, place: usize) -> &'v Value
+/// The item at that place of that row's struct, or the null that is given.
+pub fn item_row<'v>(otherwise: &'v Value, rows: &'v [Value], place: usize, i: usize) -> &'v Value
+    requires null { value_of otherwise.now ≡ null }
+    requires within { i < length rows.now }
+    ensures { value_of result.now ≡ get_or (map (item_at place) (values_of rows.now)) i null }
+{
+    item_or(otherwise, &rows[i], place)
+}
+
+// The item at that place of a struct, or the null that is given.
+fn item_or<'v>(otherwise: &'v Value, row: &'v Value, place: usize) -> &'v Value
     requires { value_of otherwise.now ≡ null }
     ensures { value_of result.now ≡ item_at place (value_of row.now) }
 {

@@ -7,7 +7,7 @@ ghost use Rattle.vx_fn.specs.Values as values;
 ghost use Rattle.vx_eval.specs.Columns.{values_of, rows_view, rows_views, row_at, truth_of, HaveRow};
 
 use crate::constants::Constants;
-use crate::fields::item_or;
+use crate::fields::item_row;
 use crate::filling::collected;
 use crate::truths::{truth_of, truth_values};
 use std::alloc::{AllocError, Global};
@@ -38,7 +38,7 @@ impl<'a> Rows<'a> {
         match self {
             Rows::Lent(values) => &values.as_slice()[i],
             Rows::Item(values, place, constants) => {
-                item_or(constants.null(), &values.as_slice()[i], *place)
+                item_row(constants.null(), values.as_slice(), *place, i)
             }
             Rows::Owned(values) => &values[i],
             Rows::Same(value, _) => value,

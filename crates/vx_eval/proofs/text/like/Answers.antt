@@ -2,7 +2,7 @@ use Rattle.std.proofs.Common.{ap}
 use Rattle.vx_types.specs.Views.{value_of}
 use Rattle.vx_fn.specs.Functions.{like}
 use Rattle.vx_eval.specs.Columns.{rows_view}
-use Rattle.vx_eval.proofs.Likes.{repeated_still}
+use Rattle.vx_eval.proofs.Filled.{repeated_still}
 use Rattle.vx_eval.proofs.text.like.Goals as goal
 
 pub returns-in-Same : goal.returns-in-Same
