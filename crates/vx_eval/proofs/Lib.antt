@@ -1,4 +1,5 @@
 mod Filled
+mod PackedItems
 mod Kleene
 mod Transposed
 mod Fitting

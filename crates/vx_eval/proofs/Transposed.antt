@@ -85,7 +85,7 @@ as_many bs batch rs e = sym (length-map rs rows_view) ∙ ap length (sym (answer
 as_long : (bs : BoundTrees) (batch : List Datum) (rs : List Rows) → each_answer bs batch ≡ Ok (rows_views rs) → AllLong (length batch) (rows_views rs)
 as_long bs batch rs e = subst (AllLong (length batch)) (answered bs batch _ e).are (columns_long bs batch)
 
-bound_of-Scalar : (t : DType) (f : ScalarFnRef) (all : Rc (Vec BoundExpression Global) Global) → bound_of (Scalar t f all) ≡ node (type_of t) (function_of f) (bounds_of all.value.items)
+pub bound_of-Scalar : (t : DType) (f : ScalarFnRef) (all : Rc (Vec BoundExpression Global) Global) → bound_of (Scalar t f all) ≡ node (type_of t) (function_of f) (bounds_of all.value.items)
 bound_of-Scalar t f all = search (rules, the_lemmas)
 
 bound_of-Root : (t : DType) → bound_of (Root t) ≡ scope (type_of t)

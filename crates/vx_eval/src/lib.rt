@@ -13,6 +13,7 @@ mod logic;
 mod matching;
 mod nodes;
 mod nulls;
+mod packed;
 mod rows;
 mod text;
 mod trees;

@@ -5,9 +5,10 @@ ghost use Rattle.vx_types.specs.Fits.{IsBatch};
 ghost use Rattle.vx_tree.specs.Trees.{node_type, WellTyped, EachWellTyped, Over};
 ghost use Rattle.vx_tree.specs.Views.{bound_of, bounds_of};
 ghost use Rattle.vx_eval.specs.Columns.{values_of, rows_view, rows_views};
-ghost use Rattle.vx_eval.specs.Evaluation.{tree_answer, each_answer};
+ghost use Rattle.vx_eval.specs.Evaluation.{tree_answer, each_answer, item_answer, PacksAt};
 
 use crate::nodes::apply;
+use crate::packed::item_place;
 use crate::rows::Rows;
 use std::alloc::Global;
 use std::rc::Rc;
@@ -47,9 +48,35 @@ fn evaluate<'a>(
             ..
         } => {
             let children = children.as_slice();
-            let columns = evaluate_each(alloc, batch, children)?;
-            apply(alloc, batch.len(), scalar_fn, children, columns)
+            match item_place(scalar_fn, children) {
+                Some(place) => evaluate_item(alloc, batch, &children[0], place),
+                None => {
+                    let columns = evaluate_each(alloc, batch, children)?;
+                    apply(alloc, batch.len(), scalar_fn, children, columns)
+                }
+            }
         }
+    }
+}
+
+// The column at that place of those that a `pack` packs.
+#[cycle(evaluate)]
+fn evaluate_item<'a>(
+    alloc: Global,
+    batch: &'a Rc<Vec<Value>>,
+    pack: &'a BoundExpression,
+    place: usize,
+) -> VortexResult<Rows<'a>>
+    requires typed { WellTyped (bound_of pack.now) }
+    requires packs { PacksAt (bound_of pack.now) place }
+    ensures { Answers rows_view result (item_answer (bound_of pack.now) place (values_of batch.now.value.items)) }
+{
+    match pack {
+        BoundExpression::Scalar { children, .. } => {
+            let mut columns = evaluate_each(alloc, batch, children.as_slice())?;
+            Ok(columns.swap_remove(place))
+        }
+        BoundExpression::Root { .. } => unreachable!(),
     }
 }
 

@@ -17,7 +17,7 @@ returns-in-Item c = λ ts.
     (c.told.ensures.rows _ (λ i t lt p.
     let here : truth_datum t ≡ binary_value op (get_or (map (item_at c.in-Item.place) (values_of c.as_slice-rows.result.now)) i null) d = search rules in
     let lying : get_or (map (item_at c.in-Item.place) (values_of c.as_slice-rows.result.now)) i null ≡ get_or (rows_view c.args.lhs.now) i null =
-        ap (λ vs. get_or (map (item_at c.in-Item.place) (values_of vs)) i null) (c.as_slice-rows.ensures.value ∙ ap (λ v. v.items) c.deref.ensures) ∙ ap (λ r. get_or (rows_view r) i null) (sym c.in-Item.is) in
+    ap (λ vs. get_or (map (item_at c.in-Item.place) (values_of vs)) i null) (c.as_slice-rows.ensures.value ∙ ap (λ v. v.items) c.deref.ensures) ∙ ap (λ r. get_or (rows_view r) i null) (sym c.in-Item.is) in
     here ∙ ap (λ x. binary_value op x d) lying ∙ ap (binary_value op (get_or (rows_view c.args.lhs.now) i null)) (sym (repeated_at c.args.count i d lt))))
     c.told.ensures.memory
 
