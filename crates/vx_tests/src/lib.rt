@@ -28,6 +28,8 @@ mod sql;
 #[cfg(test)]
 mod texts;
 #[cfg(test)]
+mod tree_texts;
+#[cfg(test)]
 mod trees;
 #[cfg(test)]
 mod types;

@@ -6,5 +6,6 @@ pub mod Typings
 pub mod Nodes
 pub mod Unique
 pub mod Texts
+pub mod TreeTexts
 pub mod Nullness
 pub mod Checks

@@ -26,7 +26,7 @@ size_of-le_all view (x ∷ xs) (suc i) d h = omega (arith, size_of-le_all view x
 
 -- ---- the text of a node, over its children
 
-function_node : (e : Tree) (f : Function) → Some f ≡ function_at e → e ≡ call f (children_of e)
+pub function_node : (e : Tree) (f : Function) → Some f ≡ function_at e → e ≡ call f (children_of e)
 function_node root f h = absurd (cc)
 function_node (call g es) f h = cc
 

@@ -10,6 +10,7 @@ pub mod Equality
 pub mod Uniqueness
 pub mod Harness
 pub mod Texts
+pub mod TreeTexts
 pub mod Validity
 pub mod Checked
 pub mod Examples
