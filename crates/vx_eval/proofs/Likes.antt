@@ -1,13 +1,10 @@
 -- Texts against patterns that were read.
-use Rattle.std.proofs.Common.{◌≡◌, ℕ, ◌<◌, List, [], ◌∷◌, length, get_or, refl, sym, ap, subst, ◌∙◌, arith, Some, None, Result, Ok, Bool, zero, suc}
+use Rattle.std.proofs.Common.{◌≡◌, ℕ, ◌<◌, List, get_or, refl, sym, ap, ◌∙◌, Some, None, Result, Ok, Bool}
 use Rattle.std.proofs.Math.ListN.{replicate}
-use Rattle.std.proofs.lemmas.List.{length-replicate}
 use Rattle.vx_dtype.specs.declared.error.VortexError.{VortexError}
-use Rattle.vx_types.specs.Types.{LogicalType, Datum, null, utf8}
-use Rattle.vx_fn.specs.Functions.{Function}
+use Rattle.vx_types.specs.Types.{Datum, null, utf8}
 use Rattle.vx_fn.specs.Values.{liked}
 use Rattle.vx_like.specs.Patterns.{Compiled, compiled}
-use Rattle.vx_eval.specs.declared.rows.Rows.{Rows}
 use Rattle.vx_eval.specs.Columns.{text_of, accepted}
 use Rattle.vx_eval.proofs.Filled.{repeated_at}
 

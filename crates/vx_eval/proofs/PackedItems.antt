@@ -2,7 +2,6 @@
 use Rattle.std.proofs.Common.{◌≡◌, ℕ, ◌<◌, List, [], ◌∷◌, map, length, get_or, refl, sym, ap, subst, ◌∙◌, arith, zero, suc, Option, Some, None, Result, Ok, Err, IsOk, Bool, true, false, Vec, Global}
 use Rattle.std.specs.Prelude.{⊤, MatchOption, if◌then◌else◌, ◌==◌, position}
 use Rattle.std.specs.declared.rc.Rc.{Rc}
-use Rattle.std.specs.Option.{option_or}
 use Rattle.std.specs.Str.{bytes_eq}
 use Rattle.std.proofs.lemmas.List.Quantifiers.{position-Some}
 use Rattle.std.proofs.lemmas.Bool.Decides.{nat_tests}
@@ -15,18 +14,18 @@ use Rattle.vx_types.specs.Views.{type_of, admits_null}
 use Rattle.vx_fn.specs.declared.function.ScalarFnRef.{ScalarFnRef}
 use Rattle.vx_fn.specs.declared.function.ScalarFnRef.TheVariants.{Pack, GetItem}
 use Rattle.vx_fn.specs.declared.options.PackOptions.{PackOptions}
-use Rattle.vx_fn.specs.Functions.{Typing, get_item, pack, fn_type, pack_type}
+use Rattle.vx_fn.specs.Functions.{get_item, pack, fn_type, pack_type}
 use Rattle.vx_fn.specs.Values.{item_value}
 use Rattle.vx_fn.specs.Views.{function_of}
 use Rattle.vx_tree.specs.declared.bound.BoundExpression.{BoundExpression, Scalar}
 use Rattle.vx_tree.specs.Faults.{each_fault}
 use Rattle.vx_tree.specs.Meaning.{value, values}
-use Rattle.vx_tree.specs.Trees.{BoundTree, node, BoundTrees, no_bound, bound, node_types, WellTyped}
+use Rattle.vx_tree.specs.Trees.{node, BoundTrees, no_bound, bound, node_types, WellTyped}
 use Rattle.vx_tree.specs.Views.{bound_of, bounds_of}
 use Rattle.vx_dtype.specs.Answers.{Answers}
 use Rattle.vx_eval.specs.declared.rows.Rows.{Rows}
-use Rattle.vx_eval.specs.Columns.{rows_view, rows_views, unless_fault}
-use Rattle.vx_eval.specs.Evaluation.{columns, tree_answer, each_answer, picked, item_answer, PacksAt, TakesItem, TakesOut}
+use Rattle.vx_eval.specs.Columns.{rows_view, rows_views}
+use Rattle.vx_eval.specs.Evaluation.{columns, tree_answer, each_answer, item_answer, PacksAt, TakesItem, TakesOut}
 use Rattle.vx_eval.proofs.Filled.{map_same}
 use Rattle.vx_eval.proofs.Transposed.{bound_of-Scalar}
 
