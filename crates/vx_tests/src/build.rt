@@ -49,16 +49,11 @@ pub fn call(
 
 /// The field of the scope.
 pub fn col(alloc: Global, name: &str) -> VortexResult<Expression> {
-    let name = FieldName::new(alloc, name)?;
-    call(
-        alloc,
-        ScalarFnRef::GetItem(name),
-        vec![in alloc; Expression::Root]?,
-    )
+    vx_build::col(alloc, FieldName::new(alloc, name)?)
 }
 
 pub fn literal(alloc: Global, scalar: Scalar) -> VortexResult<Expression> {
-    Expression::try_new(alloc, ScalarFnRef::Literal(scalar), Vec::new(alloc))
+    vx_build::lit(alloc, scalar)
 }
 
 pub fn binary(
@@ -67,11 +62,7 @@ pub fn binary(
     lhs: Expression,
     rhs: Expression,
 ) -> VortexResult<Expression> {
-    Expression::try_new(
-        alloc,
-        ScalarFnRef::Binary(operator),
-        vec![in alloc; lhs, rhs]?,
-    )
+    vx_build::binary(alloc, operator, lhs, rhs)
 }
 
 /// Asserts that the value prints as the text.
