@@ -11,6 +11,8 @@ mod nulls;
 mod operands;
 mod operators;
 mod rounds;
+#[cfg(test)]
+mod tests;
 mod texts;
 mod values;
 
