@@ -1,6 +1,4 @@
 // The scope of the tests, its fields, and nodes over them.
-ghost use Rattle.std.specs.Prelude.{◌≡◌};
-
 use crate::{bound, col};
 use std::alloc::Global;
 use std::fmt::Display;

@@ -1,6 +1,4 @@
 // The SQL text and the type of what each constructor over bound children gives.
-ghost use Rattle.std.specs.Prelude.{◌≡◌};
-
 use crate::bound;
 use crate::tests::scope::{bound_field, name, names, over_one, over_three, over_two, scope};
 use std::alloc::Global;

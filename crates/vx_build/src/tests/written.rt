@@ -1,6 +1,4 @@
 // The SQL text of what each constructor gives.
-ghost use Rattle.std.specs.Prelude.{◌≡◌};
-
 use crate::tests::scope::{field, name, names, prints};
 use crate::{
     and, between, binary, case_when, case_when_no_else, cast, checked_add, col, eq, fill_null,
