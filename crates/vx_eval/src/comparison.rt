@@ -110,6 +110,7 @@ fn below(strict: StrictComparison) -> Operator
 }
 
 // Null where one of the two is, else whether their order is one that the operator asks for.
+#[inline(always)]
 fn compared(operator: Operator, v: &Value, w: &Value) -> Option<bool>
     requires { IsTrue (is_comparison (operation_of operator)) }
     ensures { truth_datum result ≡ binary_value (operation_of operator) (value_of v.now) (value_of w.now) }
@@ -126,6 +127,7 @@ fn compared(operator: Operator, v: &Value, w: &Value) -> Option<bool>
 }
 
 // Whether the comparison holds of two numbers, with no order made of them first.
+#[inline(always)]
 fn holds(operator: Operator, a: i128, b: i128) -> bool
     requires { IsTrue (is_comparison (operation_of operator)) }
     ensures { result ≡ agrees_with (operation_of operator) (int_cmp a b) }

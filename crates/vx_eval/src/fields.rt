@@ -75,6 +75,7 @@ fn item_moved(row: Value, place: usize) -> Value
 }
 
 /// The item at that place of that row's struct, or the null that is given.
+#[inline(always)]
 pub fn item_row<'v>(otherwise: &'v Value, rows: &'v [Value], place: usize, i: usize) -> &'v Value
     requires null { value_of otherwise.now ≡ null }
     requires within { i < length rows.now }
@@ -84,6 +85,7 @@ pub fn item_row<'v>(otherwise: &'v Value, rows: &'v [Value], place: usize, i: us
 }
 
 // The item at that place of a struct, or the null that is given.
+#[inline(always)]
 fn item_or<'v>(otherwise: &'v Value, row: &'v Value, place: usize) -> &'v Value
     requires { value_of otherwise.now ≡ null }
     ensures { value_of result.now ≡ item_at place (value_of row.now) }

@@ -47,6 +47,7 @@ impl<'a> Rows<'a> {
     }
 
     /// The truth value of that row, if its value is one. Asks an index below the number of rows.
+    #[inline]
     pub fn truth(&self, i: usize) -> Option<bool>
         requires { i < length (rows_view self.now) }
         ensures { result ≡ truth_of (get_or (rows_view self.now) i null) }
@@ -58,6 +59,7 @@ impl<'a> Rows<'a> {
     }
 
     /// Whether the value of that row is true. Asks an index below the number of rows.
+    #[inline]
     pub fn is_true(&self, i: usize) -> bool
         requires { i < length (rows_view self.now) }
         ensures { result ≡ values.is_true (get_or (rows_view self.now) i null) }
@@ -114,6 +116,7 @@ impl<'a> Rows<'a> {
 }
 
 /// The same value; what takes no memory is copied here, and the rest by its `clone`.
+#[inline]
 pub fn copied(value: &Value) -> Result<Value, AllocError>
     ensures { IfOk result (λ copy. value_of copy ≡ value_of value.now) }
 {
