@@ -3,5 +3,8 @@ pub mod Requests
 pub mod Quiet
 pub mod Samples
 pub mod Kleene
+pub mod Coalesce
+pub mod Cases
 pub mod Pages
+pub mod PageTexts
 pub mod Runs

@@ -1,6 +1,9 @@
 // A run of the program, over any two writers.
 #![tactic(auto)]
 
+mod cases;
+mod coalesce;
+mod examples;
 mod kleene;
 mod laws;
 mod pages;
@@ -8,7 +11,7 @@ mod row;
 mod run;
 mod writing;
 
-pub use laws::kleene_page_is;
+pub use laws::{cases_page_is, coalesce_page_is, kleene_page_is};
 pub use row::Row;
 pub use run::run_show;
 pub use writing::tell;

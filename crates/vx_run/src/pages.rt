@@ -8,11 +8,11 @@ ghost use Rattle.vx_eval.specs.Evaluation.{evaluation};
 ghost use Rattle.vx_run.specs.Pages.{page_of, page_text};
 ghost use Rattle.vx_run.specs.Quiet.{IsQuiet};
 
-use crate::kleene;
 use crate::row::Row;
+use crate::{cases, coalesce, kleene};
 use std::alloc::Global;
 use vx_eval::apply_bound;
-use vx_tree::{BoundExpression, Expression};
+use vx_tree::{BoundExpression, DisplayTreeExpr, Expression};
 use vx_types::{Column, VortexResult};
 
 /// The row's page. Refuses with `OutOfMemory` (1) alone.
@@ -20,16 +20,14 @@ pub fn page(alloc: Global, row: Row) -> VortexResult<String>
     ensures { Answers string_bytes result (Ok (page_of row)) }
 {
     match row {
-        Row::Kleene => {
-            let source = kleene::source(alloc)?;
-            let batch = kleene::batch(alloc)?;
-            page_text(alloc, &source, &batch)
-        }
+        Row::Kleene => page_text(alloc, &kleene::source(alloc)?, &kleene::batch(alloc)?),
+        Row::Coalesce => page_text(alloc, &coalesce::source(alloc)?, &coalesce::batch(alloc)?),
+        Row::Cases => page_text(alloc, &cases::source(alloc)?, &cases::batch(alloc)?),
     }
 }
 
-// The expression's text, its type, and its result over the batch, or what binding refuses. Asks an
-// expression that faults on no batch.
+// The expression's text, its type, its result over the batch, and its tree text, or what binding
+// refuses. Asks an expression that faults on no batch.
 fn page_text(alloc: Global, source: &Expression, batch: &Column) -> VortexResult<String>
     requires { IsQuiet (tree_of source.now) }
     ensures { Answers string_bytes result (page_text (tree_of source.now) batch.now) }
@@ -37,7 +35,8 @@ fn page_text(alloc: Global, source: &Expression, batch: &Column) -> VortexResult
     let bound = source.bind(alloc, batch.dtype())?;
     let result = result_of(alloc, batch, &bound)?;
     let dtype = bound.dtype();
-    Ok(format!(in alloc; "text: {source}\ntype: {dtype}\nresult: {result}\n")?)
+    let tree = DisplayTreeExpr(source);
+    Ok(format!(in alloc; "text: {source}\ntype: {dtype}\nresult: {result}\ntree:\n{tree}\n")?)
 }
 
 // The expression's value in each row. Asks an expression that faults on no batch.

@@ -7,6 +7,10 @@ ghost use Rattle.vx_run.specs.Requests.{row_named, asked};
 pub enum Row {
     /// A null bound and an upper bound over one field.
     Kleene,
+    /// A CASE that gives 0 for null.
+    Coalesce,
+    /// A CASE of two conditions.
+    Cases,
 }
 
 /// The row that the words name, or the complaint that is made of them.
@@ -29,6 +33,8 @@ fn row_named(name: &str) -> Option<Row>
 {
     match name {
         "kleene" => Some(Row::Kleene),
+        "coalesce" => Some(Row::Coalesce),
+        "cases" => Some(Row::Cases),
         _ => None,
     }
 }

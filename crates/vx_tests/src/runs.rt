@@ -5,7 +5,51 @@ use std::io::Write;
 use std::test::Fail;
 use vx_run::run_show;
 
-const PAGE: &str = "text: (($.x >= null) and ($.x <= 5i32))\ntype: bool?\nresult: [false, null]\n";
+const KLEENE: &str = "text: (($.x >= null) and ($.x <= 5i32))
+type: bool?
+result: [false, null]
+tree:
+vortex.binary(and)
+├── lhs: vortex.binary(>=)
+│   ├── lhs: vortex.get_item(x)
+│   │   └── input: vortex.root()
+│   └── rhs: vortex.literal(null)
+└── rhs: vortex.binary(<=)
+    ├── lhs: vortex.get_item(x)
+    │   └── input: vortex.root()
+    └── rhs: vortex.literal(5i32)
+";
+
+const COALESCE: &str = "text: CASE WHEN vortex.is_null($.x) THEN 0i32 ELSE $.x END
+type: i32?
+result: [0i32, 4i32]
+tree:
+vortex.case_when(case_when(pairs=1, else=true))
+├── when_0: vortex.is_null()
+│   └── input: vortex.get_item(x)
+│       └── input: vortex.root()
+├── then_0: vortex.literal(0i32)
+└── else: vortex.get_item(x)
+    └── input: vortex.root()
+";
+
+const CASES: &str = "text: CASE WHEN ($.x > 0i32) THEN 10i32 WHEN ($.x > 3i32) THEN 20i32 ELSE 30i32 END
+type: i32
+result: [10i32, 10i32, 30i32]
+tree:
+vortex.case_when(case_when(pairs=2, else=true))
+├── when_0: vortex.binary(>)
+│   ├── lhs: vortex.get_item(x)
+│   │   └── input: vortex.root()
+│   └── rhs: vortex.literal(0i32)
+├── then_0: vortex.literal(10i32)
+├── when_1: vortex.binary(>)
+│   ├── lhs: vortex.get_item(x)
+│   │   └── input: vortex.root()
+│   └── rhs: vortex.literal(3i32)
+├── then_1: vortex.literal(20i32)
+└── else: vortex.literal(30i32)
+";
 
 /// Takes so many writes of at most so many bytes, and then fails.
 #[derive(Drop)]
@@ -43,8 +87,10 @@ fn words_of(alloc: Global, texts: &[&str]) -> Result<Vec<String>, Fail> {
 fn the_words_give_a_page_or_a_message(rt: HostRuntime) -> Result<(), Fail> {
     let alloc = rt.alloc();
     let usage = "usage: vx_show ROW\n";
-    let cases: [(&[&str], &str, &str, u8); 4] = [
-        (&["kleene"], PAGE, "", 0),
+    let cases: [(&[&str], &str, &str, u8); 6] = [
+        (&["kleene"], KLEENE, "", 0),
+        (&["coalesce"], COALESCE, "", 0),
+        (&["cases"], CASES, "", 0),
         (&["zz"], "", "unknown row\n", 2),
         (&[], "", usage, 2),
         (&["kleene", "kleene"], "", usage, 2),

@@ -1,6 +1,9 @@
-use Rattle.std.proofs.Common.{arith, refl}
-use Rattle.std.proofs.lemmas.Fmt.{decimal_digit}
+-- The page is computed.
+use Rattle.std.proofs.Common.{refl}
+use Rattle.std.specs.Fmt.{digits}
+use Rattle.std.specs.Prelude.{encode_utf8}
 use Rattle.vx_run.proofs.laws.kleene_page_is.Goals as goal
 
 pub returns : goal.returns
-returns c = rw (decimal_digit 5 (omega arith)) refl
+unfolding digits encode_utf8
+returns c = refl

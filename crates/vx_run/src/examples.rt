@@ -1,0 +1,74 @@
+// Small expressions, types and values over one field x, of which the rows are made.
+ghost use Rattle.std.specs.Prelude.{Ok};
+ghost use Rattle.vx_dtype.specs.Answers.{Answers};
+ghost use Rattle.vx_types.specs.Types.{int};
+ghost use Rattle.vx_types.specs.Views.{type_of, value_of};
+ghost use Rattle.vx_fn.specs.Views.{operation_of};
+ghost use Rattle.vx_tree.specs.Examples.{i32, with_x, row_of, x, lit, operated};
+ghost use Rattle.vx_tree.specs.Views.{tree_of};
+
+use std::alloc::Global;
+use vx_fn::{Operator, ScalarFnRef};
+use vx_tree::Expression;
+use vx_types::{
+    DType, FieldName, FieldNames, Nullability, Scalar, StructFields, Value, VortexResult,
+};
+
+// The struct type with the one field x.
+pub fn with_x(alloc: Global, dtype: DType) -> VortexResult<DType>
+    ensures { Answers type_of result (Ok (with_x (type_of dtype))) }
+{
+    let names = vec![in alloc; FieldName::new(alloc, "x")?]?;
+    let types = vec![in alloc; dtype]?;
+    let fields = StructFields::new(alloc, FieldNames::new(alloc, names)?, types)?;
+    Ok(DType::Struct(fields, Nullability::NonNullable))
+}
+
+// The struct value of one field.
+pub fn row_of(alloc: Global, value: Value) -> VortexResult<Value>
+    ensures { Answers value_of result (Ok (row_of (value_of value))) }
+{
+    Ok(Value::Struct(vec![in alloc; value]?))
+}
+
+// `$.x`.
+pub fn field_x(alloc: Global) -> VortexResult<Expression>
+    ensures { Answers tree_of result (Ok x) }
+{
+    let name = FieldName::new(alloc, "x")?;
+    Expression::try_new(
+        alloc,
+        ScalarFnRef::GetItem(name),
+        vec![in alloc; Expression::Root]?,
+    )
+}
+
+// The scalar as an expression.
+pub fn literal(alloc: Global, scalar: Scalar) -> VortexResult<Expression>
+    ensures { Answers tree_of result (Ok (lit scalar.type scalar.value)) }
+{
+    Expression::try_new(alloc, ScalarFnRef::Literal(scalar), Vec::new(alloc))
+}
+
+// The number as an expression.
+pub fn number(alloc: Global, n: i32) -> VortexResult<Expression>
+    ensures { Answers tree_of result (Ok (lit i32 (int n))) }
+{
+    literal(alloc, Scalar::from_i32(n))
+}
+
+// The operator between two expressions.
+pub fn binary(
+    alloc: Global,
+    operator: Operator,
+    lhs: Expression,
+    rhs: Expression,
+) -> VortexResult<Expression>
+    ensures { Answers tree_of result (Ok (operated (operation_of operator) (tree_of lhs) (tree_of rhs))) }
+{
+    Expression::try_new(
+        alloc,
+        ScalarFnRef::Binary(operator),
+        vec![in alloc; lhs, rhs]?,
+    )
+}
