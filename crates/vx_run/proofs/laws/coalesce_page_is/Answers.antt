@@ -1,7 +1,7 @@
 -- The page is computed.
 use Rattle.std.proofs.Common.{refl}
+use Rattle.std.specs.Char.{encode_utf8}
 use Rattle.std.specs.Fmt.{digits}
-use Rattle.std.specs.Prelude.{encode_utf8}
 use Rattle.vx_run.proofs.laws.coalesce_page_is.Goals as goal
 
 pub returns : goal.returns
