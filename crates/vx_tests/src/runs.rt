@@ -33,7 +33,8 @@ vortex.case_when(case_when(pairs=1, else=true))
     └── input: vortex.root()
 ";
 
-const CASES: &str = "text: CASE WHEN ($.x > 0i32) THEN 10i32 WHEN ($.x > 3i32) THEN 20i32 ELSE 30i32 END
+const CASES: &str =
+    "text: CASE WHEN ($.x > 0i32) THEN 10i32 WHEN ($.x > 3i32) THEN 20i32 ELSE 30i32 END
 type: i32
 result: [10i32, 10i32, 30i32]
 tree:
