@@ -7,9 +7,9 @@ ghost use Rattle.vx_tree.specs.Examples.{i32, x, lit, operated};
 ghost use Rattle.vx_tree.specs.Views.{tree_of};
 ghost use Rattle.vx_run.specs.Cases.{cases};
 
-use crate::examples::{binary, field_x, number, row_of, with_x};
+use crate::examples::{field_x, number, row_of, with_x};
 use std::alloc::Global;
-use vx_fn::{CaseWhenOptions, Operator, ScalarFnRef};
+use vx_build::{gt, nested_case_when};
 use vx_tree::Expression;
 use vx_types::{Column, DType, Nullability, PType, Value, VortexResult};
 
@@ -17,25 +17,17 @@ use vx_types::{Column, DType, Nullability, PType, Value, VortexResult};
 pub fn source(alloc: Global) -> VortexResult<Expression>
     ensures { Answers tree_of result (Ok cases.source) }
 {
-    let above_0 = above(alloc, 0)?;
-    let ten = number(alloc, 10)?;
-    let above_3 = above(alloc, 3)?;
-    let twenty = number(alloc, 20)?;
-    let thirty = number(alloc, 30)?;
-    let case = ScalarFnRef::CaseWhen(CaseWhenOptions {
-        num_when_then_pairs: 2,
-        has_else: true,
-    });
-    let children = vec![in alloc; above_0, ten, above_3, twenty, thirty]?;
-    Expression::try_new(alloc, case, children)
+    let first = (above(alloc, 0)?, number(alloc, 10)?);
+    let second = (above(alloc, 3)?, number(alloc, 20)?);
+    let otherwise = number(alloc, 30)?;
+    nested_case_when(alloc, vec![in alloc; first, second]?, Some(otherwise))
 }
 
 // Whether x is above the number.
 fn above(alloc: Global, bound: i32) -> VortexResult<Expression>
     ensures { Answers tree_of result (Ok (operated (compares above) x (lit i32 (int bound)))) }
 {
-    let bound = number(alloc, bound)?;
-    binary(alloc, Operator::Gt, field_x(alloc)?, bound)
+    gt(alloc, field_x(alloc)?, number(alloc, bound)?)
 }
 
 /// The rows `{x: 1}`, `{x: 5}` and `{x: null}`.

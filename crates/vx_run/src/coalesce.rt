@@ -6,7 +6,7 @@ ghost use Rattle.vx_run.specs.Coalesce.{coalesce};
 
 use crate::examples::{field_x, number, row_of, with_x};
 use std::alloc::Global;
-use vx_fn::{CaseWhenOptions, EmptyOptions, ScalarFnRef};
+use vx_build::{case_when, is_null};
 use vx_tree::Expression;
 use vx_types::{Column, DType, Nullability, PType, Value, VortexResult};
 
@@ -14,15 +14,8 @@ use vx_types::{Column, DType, Nullability, PType, Value, VortexResult};
 pub fn source(alloc: Global) -> VortexResult<Expression>
     ensures { Answers tree_of result (Ok coalesce.source) }
 {
-    let is_null = ScalarFnRef::IsNull(EmptyOptions);
-    let null = Expression::try_new(alloc, is_null, vec![in alloc; field_x(alloc)?]?)?;
-    let zero = number(alloc, 0)?;
-    let case = ScalarFnRef::CaseWhen(CaseWhenOptions {
-        num_when_then_pairs: 1,
-        has_else: true,
-    });
-    let children = vec![in alloc; null, zero, field_x(alloc)?]?;
-    Expression::try_new(alloc, case, children)
+    let condition = is_null(alloc, field_x(alloc)?)?;
+    case_when(alloc, condition, number(alloc, 0)?, field_x(alloc)?)
 }
 
 /// The rows `{x: null}` and `{x: 4}`.

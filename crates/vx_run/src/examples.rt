@@ -1,14 +1,13 @@
 // Small expressions, types and values over one field x, of which the rows are made.
 ghost use Rattle.std.specs.Prelude.{Ok};
 ghost use Rattle.vx_dtype.specs.Answers.{Answers};
-ghost use Rattle.vx_types.specs.Types.{int};
 ghost use Rattle.vx_types.specs.Views.{type_of, value_of};
-ghost use Rattle.vx_fn.specs.Views.{operation_of};
-ghost use Rattle.vx_tree.specs.Examples.{i32, with_x, row_of, x, lit, operated};
+ghost use Rattle.vx_tree.specs.Examples.{i32, with_x, row_of, x, lit};
+ghost use Rattle.vx_types.specs.Types.{int};
 ghost use Rattle.vx_tree.specs.Views.{tree_of};
 
 use std::alloc::Global;
-use vx_fn::{Operator, ScalarFnRef};
+use vx_build::{col, lit};
 use vx_tree::Expression;
 use vx_types::{
     DType, FieldName, FieldNames, Nullability, Scalar, StructFields, Value, VortexResult,
@@ -35,40 +34,12 @@ pub fn row_of(alloc: Global, value: Value) -> VortexResult<Value>
 pub fn field_x(alloc: Global) -> VortexResult<Expression>
     ensures { Answers tree_of result (Ok x) }
 {
-    let name = FieldName::new(alloc, "x")?;
-    Expression::try_new(
-        alloc,
-        ScalarFnRef::GetItem(name),
-        vec![in alloc; Expression::Root]?,
-    )
-}
-
-// The scalar as an expression.
-pub fn literal(alloc: Global, scalar: Scalar) -> VortexResult<Expression>
-    ensures { Answers tree_of result (Ok (lit scalar.type scalar.value)) }
-{
-    Expression::try_new(alloc, ScalarFnRef::Literal(scalar), Vec::new(alloc))
+    col(alloc, FieldName::new(alloc, "x")?)
 }
 
 // The number as an expression.
 pub fn number(alloc: Global, n: i32) -> VortexResult<Expression>
     ensures { Answers tree_of result (Ok (lit i32 (int n))) }
 {
-    literal(alloc, Scalar::from_i32(n))
-}
-
-// The operator between two expressions.
-pub fn binary(
-    alloc: Global,
-    operator: Operator,
-    lhs: Expression,
-    rhs: Expression,
-) -> VortexResult<Expression>
-    ensures { Answers tree_of result (Ok (operated (operation_of operator) (tree_of lhs) (tree_of rhs))) }
-{
-    Expression::try_new(
-        alloc,
-        ScalarFnRef::Binary(operator),
-        vec![in alloc; lhs, rhs]?,
-    )
+    lit(alloc, Scalar::from_i32(n))
 }

@@ -4,9 +4,9 @@ ghost use Rattle.vx_dtype.specs.Answers.{Answers};
 ghost use Rattle.vx_tree.specs.Views.{tree_of};
 ghost use Rattle.vx_run.specs.Kleene.{kleene};
 
-use crate::examples::{binary, field_x, literal, row_of, with_x};
+use crate::examples::{field_x, number, row_of, with_x};
 use std::alloc::Global;
-use vx_fn::Operator;
+use vx_build::{and, gt_eq, lit, lt_eq};
 use vx_tree::Expression;
 use vx_types::{Column, DType, Nullability, PType, Scalar, Value, VortexResult};
 
@@ -15,10 +15,9 @@ pub fn source(alloc: Global) -> VortexResult<Expression>
     ensures { Answers tree_of result (Ok kleene.source) }
 {
     let null = Scalar::null(DType::Primitive(PType::I32, Nullability::Nullable));
-    let five = Scalar::from_i32(5);
-    let lower = binary(alloc, Operator::Gte, field_x(alloc)?, literal(alloc, null)?)?;
-    let upper = binary(alloc, Operator::Lte, field_x(alloc)?, literal(alloc, five)?)?;
-    binary(alloc, Operator::And, lower, upper)
+    let lower = gt_eq(alloc, field_x(alloc)?, lit(alloc, null)?)?;
+    let upper = lt_eq(alloc, field_x(alloc)?, number(alloc, 5)?)?;
+    and(alloc, lower, upper)
 }
 
 /// The rows `{x: 10}` and `{x: 1}`.

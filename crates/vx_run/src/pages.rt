@@ -3,17 +3,22 @@ ghost use Rattle.std.specs.Prelude.{Ok, string_bytes};
 ghost use Rattle.vx_dtype.specs.Answers.{Answers};
 ghost use Rattle.vx_tree.specs.Faults.{HasNoFault};
 ghost use Rattle.vx_tree.specs.Trees.{WellTyped, Over, unbound};
+ghost use Rattle.vx_tree.specs.Texts.{sql};
+ghost use Rattle.vx_tree.specs.TreeTexts.{tree_text};
 ghost use Rattle.vx_tree.specs.Views.{tree_of, bound_of};
+ghost use Rattle.vx_types.specs.Views.{type_of};
+ghost use Rattle.vx_types.specs.ValueTexts.{column_text};
+ghost use Rattle.vx_dtype.specs.Texts.{type_text};
 ghost use Rattle.vx_eval.specs.Evaluation.{evaluation};
-ghost use Rattle.vx_run.specs.Pages.{page_of, page_text};
+ghost use Rattle.vx_run.specs.Pages.{page_of, page_text, lines_of};
 ghost use Rattle.vx_run.specs.Quiet.{IsQuiet};
 
 use crate::row::Row;
 use crate::{cases, coalesce, kleene};
 use std::alloc::Global;
 use vx_eval::apply_bound;
-use vx_tree::{BoundExpression, DisplayTreeExpr, Expression};
-use vx_types::{Column, VortexResult};
+use vx_tree::{BoundExpression, Expression};
+use vx_types::{Column, DType, VortexResult};
 
 /// The row's page. Refuses with `OutOfMemory` (1) alone.
 pub fn page(alloc: Global, row: Row) -> VortexResult<String>
@@ -33,10 +38,16 @@ fn page_text(alloc: Global, source: &Expression, batch: &Column) -> VortexResult
     ensures { Answers string_bytes result (page_text (tree_of source.now) batch.now) }
 {
     let bound = source.bind(alloc, batch.dtype())?;
-    let result = result_of(alloc, batch, &bound)?;
-    let dtype = bound.dtype();
-    let tree = DisplayTreeExpr(source);
-    Ok(format!(in alloc; "text: {source}\ntype: {dtype}\nresult: {result}\ntree:\n{tree}\n")?)
+    let column = result_of(alloc, batch, &bound)?;
+    lines(alloc, source, bound.dtype(), &column)
+}
+
+// The lines of an expression, a type and a column.
+fn lines(alloc: Global, source: &Expression, t: &DType, column: &Column) -> VortexResult<String>
+    ensures { Answers string_bytes result (Ok (lines_of (sql (tree_of source.now)) (type_text (type_of t.now)) (column_text column.now.rows column.now.type) (tree_text (tree_of source.now)))) }
+{
+    let tree = source.display_tree();
+    Ok(format!(in alloc; "text: {source}\ntype: {t}\nresult: {column}\ntree:\n{tree}\n")?)
 }
 
 // The expression's value in each row. Asks an expression that faults on no batch.
