@@ -1,11 +1,11 @@
-// What collects give of none to five items.
+// What collects give of none to nine items, and of a thousand.
 use crate::tests::scope::{bound_field, field};
 use crate::{and_collect, bound, or_collect};
 use std::alloc::Global;
 use std::fmt::Display;
 use std::process::Abort;
 use std::test::Fail;
-use vx_tree::{BoundExpression, Expression, VortexError, VortexResult};
+use vx_tree::{Binary, BoundExpression, Expression, VortexError, VortexResult};
 
 // Rows of fields, and the texts of what they are collected to by And and by Or.
 const ROWS: &str = r";none;none
@@ -13,7 +13,11 @@ a;$.a;$.a
 a b;($.a and $.b);($.a or $.b)
 a b c;(($.a and $.b) and $.c);(($.a or $.b) or $.c)
 a b c d;(($.a and $.b) and ($.c and $.d));(($.a or $.b) or ($.c or $.d))
-a b c d e;((($.a and $.b) and ($.c and $.d)) and $.e);((($.a or $.b) or ($.c or $.d)) or $.e)";
+a b c d e;((($.a and $.b) and ($.c and $.d)) and $.e);((($.a or $.b) or ($.c or $.d)) or $.e)
+a b c d e a;((($.a and $.b) and ($.c and $.d)) and ($.e and $.a));((($.a or $.b) or ($.c or $.d)) or ($.e or $.a))
+a b c d e a b;((($.a and $.b) and ($.c and $.d)) and (($.e and $.a) and $.b));((($.a or $.b) or ($.c or $.d)) or (($.e or $.a) or $.b))
+a b c d e a b c;((($.a and $.b) and ($.c and $.d)) and (($.e and $.a) and ($.b and $.c)));((($.a or $.b) or ($.c or $.d)) or (($.e or $.a) or ($.b or $.c)))
+a b c d e a b c d;(((($.a and $.b) and ($.c and $.d)) and (($.e and $.a) and ($.b and $.c))) and $.d);(((($.a or $.b) or ($.c or $.d)) or (($.e or $.a) or ($.b or $.c))) or $.d)";
 
 /// The fields of the scope by these names.
 fn items(alloc: Global, texts: &str) -> VortexResult<Vec<Expression>> {
@@ -73,6 +77,33 @@ fn bound_items_are_paired_in_rounds(rt: HostRuntime) -> Result<(), Fail> {
         let joined = bound::or_collect(alloc, bound_items(&rt, alloc, texts)?)?;
         collects(&rt, alloc, joined, ors)?;
     }
+    Ok(())
+}
+
+/// How many operators stand above the first item.
+fn depth_of_first(joined: &Expression) -> usize {
+    let mut node = joined;
+    for depth in 0..64 {
+        if !node.is::<Binary>() {
+            return depth;
+        }
+        match node.children().first() {
+            Some(first) => node = first,
+            None => return depth,
+        }
+    }
+    64
+}
+
+#[test]
+fn a_thousand_items_are_ten_deep(rt: HostRuntime) -> Result<(), Fail> {
+    let alloc = rt.alloc();
+    let mut items = Vec::new(alloc);
+    for _ in 0..1000 {
+        items.push(field(alloc, "a")?)?;
+    }
+    let joined = and_collect(alloc, items)?.ok_or("none")?;
+    assert_eq!(rt; depth_of_first(&joined), 10);
     Ok(())
 }
 

@@ -9,7 +9,16 @@ use vx_tree::StrictComparison::Strict;
 use vx_tree::VortexError::{
     BaseTypesDiffer, NoSuchField, NotAStruct, NotBool, NotComparable, NotNumeric, NotText,
 };
-use vx_tree::{BetweenOptions, BoundExpression, DType, PType, VortexResult};
+use vx_tree::{BetweenOptions, BoundExpression, DType, PType, Scalar, VortexResult};
+
+#[test]
+fn a_truth_is_no_text(rt: HostRuntime) -> Result<(), Fail> {
+    let alloc = rt.alloc();
+    let nope = bound::lit(alloc, Scalar::utf8(alloc, "nope")?)?;
+    let compared = bound::eq(alloc, bound_field(&rt, alloc, "a")?, nope);
+    assert!(rt; matches!(compared, Err(BaseTypesDiffer)));
+    Ok(())
+}
 
 #[test]
 fn operands_of_other_types_are_refused(rt: HostRuntime) -> Result<(), Fail> {
