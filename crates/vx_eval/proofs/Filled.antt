@@ -22,7 +22,7 @@ use Rattle.vx_fn.specs.Faults.{node_fault}
 use Rattle.vx_eval.specs.declared.rows.Rows.{Rows}
 use Rattle.vx_eval.specs.declared.rows.Rows.TheVariants.{Owned}
 use Rattle.vx_eval.specs.Columns.{values_of, each_row, row_at, rows_of, rows_view, unless_fault, node_answer, Evaluates}
-use Rattle.vx_eval.specs.Columns.{is_comparison}
+use Rattle.vx_eval.specs.Kernels.{is_comparison}
 
 -- one more row, at the loop's index
 pub row_pushed : {A : Type 0} (f : A → Datum) (h : ℕ → Datum) (out new : List A) (i : ℕ) (v : A) → map f out ≡ each_row i h → new ≡ out ++ v ∷ [] → f v ≡ h i → map f new ≡ each_row (i + 1) h

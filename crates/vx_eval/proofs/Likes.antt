@@ -5,7 +5,7 @@ use Rattle.vx_dtype.specs.declared.error.VortexError.{VortexError}
 use Rattle.vx_types.specs.Types.{Datum, null, utf8}
 use Rattle.vx_fn.specs.Values.{liked}
 use Rattle.vx_like.specs.Patterns.{Compiled, compiled}
-use Rattle.vx_eval.specs.Columns.{text_of, accepted}
+use Rattle.vx_eval.specs.Kernels.{text_of, accepted}
 use Rattle.vx_eval.proofs.Filled.{repeated_at}
 
 abbrev ok : Datum → Result Datum VortexError

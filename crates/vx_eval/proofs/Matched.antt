@@ -10,6 +10,7 @@ use Rattle.vx_types.specs.Types.{LogicalType, ty, Datum, null, is_nullable}
 use Rattle.vx_fn.specs.Values.{is_true, first_true}
 use Rattle.vx_eval.specs.Choices.{rows_in, height, EachBatch, matched_at, in_turn}
 use Rattle.vx_eval.specs.Columns.{row_at, each_row, AllLong}
+use Rattle.vx_eval.proofs.Filled.{map_same}
 
 -- the columns in turn have the same length
 pub in_turn_long : (n : ℕ) (cs vs : List (List Datum)) (o : Option (List Datum)) → AllLong n cs → AllLong n vs → MatchOption o Unit (λ c. length c ≡ n) → AllLong n (in_turn cs vs o)
@@ -87,17 +88,13 @@ turned_long n m cs vs ds o t are counted a b e =
     let same : in_turn cs vs o ≡ ds = cc in
     subst (λ k. AllLong k ds) (sym counted) (subst (AllLong m) same (in_turn_long m cs vs o a b (last_long o _ m t e)))
 
-each_same : (f g : ℕ → Datum) → ((k : ℕ) → f k ≡ g k) → (a n : ℕ) → map f (range_with_len a n) ≡ map g (range_with_len a n)
-each_same f g h a zero = refl
-each_same f g h a (suc n) = ap (λ d. d ∷ map f (range_with_len (a + 1) n)) (h a) ∙ ap (λ l. g a ∷ l) (each_same f g h (a + 1) n)
-
 -- the rows that were chosen
 pub chosen_rows : (n m : ℕ) (cs vs ds : List (List Datum)) (o : Option (List Datum)) (rows : List Datum) → turned (in_turn cs vs o) ≡ Ok ds → n ≡ m → length vs ≡ length cs →
     rows ≡ each_row n (λ k. first_true (row_at ds k)) → rows ≡ each_row m (matched_at cs vs o)
 chosen_rows n m cs vs ds o rows are counted pairs is =
     let same : ds ≡ in_turn cs vs o = cc in
     is ∙ ap (λ k. each_row k (λ k. first_true (row_at ds k))) counted ∙ ap (λ es. each_row m (λ k. first_true (row_at es k))) same
-    ∙ each_same (λ k. first_true (row_at (in_turn cs vs o) k)) (matched_at cs vs o) (λ k. in_turn_at cs vs o k pairs) 0 m
+    ∙ map_same (λ k. first_true (row_at (in_turn cs vs o) k)) (matched_at cs vs o) (λ k. in_turn_at cs vs o k pairs) (range_with_len 0 m)
 
 pub chosen_fit : (t : LogicalType) (m : ℕ) (cs vs : List (List Datum)) (o : Option (List Datum)) (rows : List Datum) → rows ≡ each_row m (matched_at cs vs o) → AllLong m vs → EachBatch t vs →
     MatchOption o (IsTrue (is_nullable t)) (λ c. (length c ≡ m) × IsBatch t c) → IsBatch t rows

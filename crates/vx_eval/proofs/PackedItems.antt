@@ -25,7 +25,8 @@ use Rattle.vx_tree.specs.Views.{bound_of, bounds_of}
 use Rattle.vx_dtype.specs.Answers.{Answers}
 use Rattle.vx_eval.specs.declared.rows.Rows.{Rows}
 use Rattle.vx_eval.specs.Columns.{rows_view, rows_views}
-use Rattle.vx_eval.specs.Evaluation.{columns, tree_answer, each_answer, item_answer, PacksAt, TakesItem, TakesOut}
+use Rattle.vx_eval.specs.Evaluation.{columns, tree_answer, each_answer}
+use Rattle.vx_eval.specs.PackedItem.{item_answer, PacksAt, TakesOut}
 use Rattle.vx_eval.proofs.Filled.{map_same}
 use Rattle.vx_eval.proofs.Transposed.{bound_of-Scalar}
 
@@ -63,7 +64,7 @@ packs names n bs u e = go (length (node_types bs) == length names) refl e
     go false q e = cc
 
 pub takes_item : (a : Name) (names : List Name) (n : Bool) (bs : BoundTrees) (u : LogicalType) (k : ℕ) → fn_type (pack names n) (node_types bs) ≡ Ok u → Some k ≡ position (bytes_eq a) names →
-    TakesItem a (node u (pack names n) bs) k
+    TakesOut (get_item a) (bound (node u (pack names n) bs) no_bound) k
 takes_item a names n bs u k e at =
     let p = packs names n bs u e in
     let first = position-Some (bytes_eq a) names k [] (sym at) in
@@ -80,7 +81,7 @@ takes_item a names n bs u k e at =
     answers t rows p within first (Some fault) q = rw q refl
 
 pub place_taken : (a : Name) (e : BoundExpression) (t : DType) (f : ScalarFnRef) (all : Rc (Vec BoundExpression Global) Global) (o : PackOptions) (r : Option ℕ) → e ≡ Scalar t f all → f ≡ Pack o → WellTyped (bound_of e) →
-    r ≡ position (bytes_eq a) o.names → MatchOption r ⊤ (λ k. TakesItem a (bound_of e) k)
+    r ≡ position (bytes_eq a) o.names → MatchOption r ⊤ (λ k. TakesOut (get_item a) (bound (bound_of e) no_bound) k)
 place_taken a e t f all o None is made typed at = tt
 place_taken a e t f all o (Some k) is made typed at =
     let same : bound_of e ≡ node (type_of t) (pack o.names (admits_null o.nullability)) (bounds_of all.value.items) =
@@ -89,13 +90,13 @@ place_taken a e t f all o (Some k) is made typed at =
     rw same (takes_item a o.names (admits_null o.nullability) (bounds_of all.value.items) (type_of t) k known.0 at)
 
 pub out_taken : (f : ScalarFnRef) (a : Name) (children : List BoundExpression) (x : BoundExpression) (r : Option ℕ) → f ≡ GetItem a → IsOk (fn_type (function_of f) (node_types (bounds_of children))) →
-    x ≡ get_or children 0 x → MatchOption r ⊤ (λ k. TakesItem a (bound_of x) k) → MatchOption r ⊤ (λ k. TakesOut (function_of f) (bounds_of children) k)
+    x ≡ get_or children 0 x → MatchOption r ⊤ (λ k. TakesOut (get_item a) (bound (bound_of x) no_bound) k) → MatchOption r ⊤ (λ k. TakesOut (function_of f) (bounds_of children) k)
 out_taken f a children x None is typed first takes = tt
 out_taken f a children x (Some k) is typed first takes = rw is (go children (rw is at typed) first)
   where
     go : (children : List BoundExpression) → IsOk (fn_type (get_item a) (node_types (bounds_of children))) → x ≡ get_or children 0 x → TakesOut (get_item a) (bounds_of children) k
     go [] ok e = cc
-    go (y ∷ []) ok e = subst (λ z. TakesItem a (bound_of z) k) e takes
+    go (y ∷ []) ok e = subst (λ z. TakesOut (get_item a) (bound (bound_of z) no_bound) k) e takes
     go (y ∷ z ∷ rest) ok e = cc
 
 -- ---- from what the calls give

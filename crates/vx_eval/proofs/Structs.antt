@@ -23,7 +23,8 @@ use Rattle.vx_fn.specs.Functions.{Typing, item_type, select_type, found, selecti
 use Rattle.vx_fn.specs.Values.{item_value, select_value}
 use Rattle.vx_fn.specs.Faults.{IsIn}
 use Rattle.vx_tree.proofs.Trees.{none_passes}
-use Rattle.vx_eval.specs.Columns.{values_of, datum_at, item_at, items_at}
+use Rattle.vx_eval.specs.Columns.{values_of, datum_at, item_at}
+use Rattle.vx_eval.specs.Kernels.{items_at}
 
 pub value_of-Struct : (v : Vec Value Global) → value_of (Struct v) ≡ struct_of (data_of (values_of v.items))
 value_of-Struct v = search (rules, the_lemmas)

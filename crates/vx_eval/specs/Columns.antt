@@ -1,18 +1,15 @@
 -- Columns of values, the rows of several of them, and what a function gives over them.
-use Rattle.std.specs.Prelude.{◌≡◌, ℕ, ◌<◌, List, [], ◌∷◌, map, Option, Some, None, Result, Ok, Err, get_or, length, zero, suc, Bool, true, false}
+use Rattle.std.specs.Prelude.{◌≡◌, ℕ, ◌<◌, List, [], ◌∷◌, map, Option, Some, None, Result, Ok, Err, get_or, length, zero, suc, Bool}
 use Rattle.std.specs.List.{range_with_len}
 use Rattle.std.proofs.Math.ListN.{replicate}
 use Rattle.vx_dtype.specs.declared.error.VortexError.{VortexError}
 use Rattle.vx_types.specs.declared.value.Value.{Value}
 use Rattle.vx_dtype.specs.Answers.{Answers}
-use Rattle.vx_types.specs.Fields.{data_of}
-use Rattle.vx_types.specs.Types.{LogicalType, Datum, null, bool, utf8, struct_of, Data, no_datum, datum}
+use Rattle.vx_types.specs.Types.{LogicalType, Datum, null, bool, struct_of, Data, no_datum, datum}
 use Rattle.vx_types.specs.Views.{value_of}
-use Rattle.std.specs.declared.cmp.Ordering.{Ordering}
-use Rattle.vx_fn.specs.Functions.{Function, Operation, compares}
-use Rattle.vx_fn.specs.Values.{fn_value, agrees, flipped}
+use Rattle.vx_fn.specs.Functions.{Function}
+use Rattle.vx_fn.specs.Values.{fn_value}
 use Rattle.vx_fn.specs.Faults.{node_fault}
-use Rattle.vx_like.specs.Patterns.{Compiled, accepts}
 use Rattle.vx_eval.specs.declared.rows.Rows.{Rows}
 use Rattle.vx_eval.specs.declared.rows.Rows.TheVariants.{Lent, Item, Owned, Same, Truths}
 
@@ -75,18 +72,6 @@ abbrev pub HaveRow : ℕ → List (List Datum) → Type 0
 HaveRow i [] = Unit {0}
 HaveRow i (c ∷ cs) = (i < length c) × HaveRow i cs
 
--- where a call answers at one of the first n rows, it is what g gives there
-abbrev pub AnswersRows : {E : Type 0} → (ℕ → Result Value E → Type 0) → ℕ → (ℕ → Datum) → Type 0
-AnswersRows post n g = (i : ℕ) (v : Value) → i < n → post i (Ok v) → value_of v ≡ g i
-
--- what a call tells at each of the first n rows is what g gives there
-abbrev pub TellsRows : (ℕ → Option Bool → Type 0) → ℕ → (ℕ → Datum) → Type 0
-TellsRows post n g = (i : ℕ) (t : Option Bool) → i < n → post i t → truth_datum t ≡ g i
-
--- where a call answers at one of the first n rows and its value, it is what g makes of them
-abbrev pub MakesRows : {E : Type 0} → (ℕ → Value → Result Value E → Type 0) → ℕ → (ℕ → Datum → Datum) → Type 0
-MakesRows post n g = (i : ℕ) (x v : Value) → i < n → post i x (Ok v) → value_of v ≡ g i (value_of x)
-
 -- the fault, or what there is without one
 abbrev pub unless_fault : {A : Type 0} → Option VortexError → A → Result A VortexError
 unless_fault None a = Ok a
@@ -99,28 +84,3 @@ node_answer f ts rows = unless_fault (node_fault f ts rows) (map (fn_value f ts)
 -- a call answers what the function gives over the first n rows of the columns
 abbrev pub Evaluates : Function → List LogicalType → ℕ → List (List Datum) → Result Rows VortexError → Type 0
 Evaluates f ts n cs r = Answers rows_view r (node_answer f ts (rows_of n cs))
-
--- the struct of the items at those places of a struct, null of what is none
-abbrev pub items_at : List ℕ → Datum → Datum
-items_at ks (struct_of vs) = struct_of (data_of (map (λ k. datum_at k vs) ks))
-items_at ks _ = null
-
--- whether the operation is one of the six comparisons
-abbrev pub is_comparison : Operation → Bool
-is_comparison (compares c) = true
-is_comparison _ = false
-
--- whether an order is one that a comparison asks for
-abbrev pub agrees_with : Operation → Ordering → Bool
-agrees_with (compares c) o = agrees c o
-agrees_with _ o = false
-
--- the bytes of a text
-abbrev pub text_of : Datum → Option (List ℕ)
-text_of (utf8 t) = Some t
-text_of _ = None
-
--- whether a pattern that was read accepts the text, or not where it is negated; null of what is no text
-abbrev pub accepted : Bool → Compiled → Datum → Datum
-accepted negated p (utf8 t) = bool (flipped negated (accepts p t))
-accepted negated p _ = null

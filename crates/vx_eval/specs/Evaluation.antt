@@ -1,12 +1,11 @@
 -- What a bound tree gives over a batch.
-use Rattle.std.specs.Prelude.{◌≡◌, ◌<◌, ⊤, ℕ, List, [], ◌∷◌, ◌++◌, map, length, get_or, Result, Ok, Err}
+use Rattle.std.specs.Prelude.{List, [], ◌∷◌, ◌++◌, map, Result, Ok, Err}
 use Rattle.vx_dtype.specs.declared.error.VortexError.{VortexError}
 use Rattle.vx_types.specs.Columns.{Batch, batch}
-use Rattle.vx_types.specs.Types.{Name, LogicalType, Datum}
-use Rattle.vx_fn.specs.Functions.{Function, get_item, pack}
+use Rattle.vx_types.specs.Types.{Datum}
 use Rattle.vx_tree.specs.Faults.{first_fault, each_fault}
 use Rattle.vx_tree.specs.Meaning.{mean, value}
-use Rattle.vx_tree.specs.Trees.{BoundTree, scope, node, BoundTrees, no_bound, bound, node_type, node_types, unbound}
+use Rattle.vx_tree.specs.Trees.{BoundTree, BoundTrees, no_bound, bound, node_type, unbound}
 use Rattle.vx_eval.specs.Columns.{unless_fault}
 
 -- the first fault, or a column of the node's type with what the tree's source means at each row
@@ -30,34 +29,3 @@ each_answer bs rows = unless_fault (each_fault bs rows) (columns bs rows)
 abbrev pub prepended : List (List Datum) → Result (List (List Datum)) VortexError → Result (List (List Datum)) VortexError
 prepended cs (Ok ds) = Ok (cs ++ ds)
 prepended cs (Err fault) = Err fault
-
--- ---- an item of what is packed
-
--- the column at that place, or the fault
-abbrev pub picked : ℕ → Result (List (List Datum)) VortexError → Result (List Datum) VortexError
-picked k (Ok cs) = Ok (get_or cs k [])
-picked k (Err fault) = Err fault
-
--- the column at that place of the node's children, or their first fault
-abbrev pub item_answer : BoundTree → ℕ → List Datum → Result (List Datum) VortexError
-item_answer (scope t) k rows = Ok rows
-item_answer (node t f bs) k rows = picked k (each_answer bs rows)
-
--- the function is a pack
-abbrev pub IsPack : Function → Type 0
-IsPack (pack names n) = ⊤
-IsPack _ = ⊥
-
--- the node is a pack that has an item at that place
-abbrev pub PacksAt : BoundTree → ℕ → Type 0
-PacksAt (scope t) k = ⊥
-PacksAt (node t f bs) k = IsPack f × (k < length (node_types bs))
-
--- over each batch, the item of that name is what the node packs at that place
-abbrev pub TakesItem : Name → BoundTree → ℕ → Type 0
-TakesItem a b k = PacksAt b k × ((t : LogicalType) (rows : List Datum) → tree_answer (node t (get_item a) (bound b no_bound)) rows ≡ item_answer b k rows)
-
--- over each batch, the function takes out what its first child packs at that place
-abbrev pub TakesOut : Function → BoundTrees → ℕ → Type 0
-TakesOut f no_bound k = ⊥
-TakesOut f (bound b bs) k = PacksAt b k × ((t : LogicalType) (rows : List Datum) → tree_answer (node t f (bound b bs)) rows ≡ item_answer b k rows)

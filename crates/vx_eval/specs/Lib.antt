@@ -1,3 +1,5 @@
 pub mod Columns
 pub mod Evaluation
+pub mod Kernels
+pub mod PackedItem
 pub mod Choices

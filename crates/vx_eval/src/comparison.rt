@@ -9,7 +9,8 @@ ghost use Rattle.vx_fn.specs.Functions as functions;
 ghost use Rattle.vx_fn.specs.Values.{binary_value, below_or, kleene_and, compared};
 ghost use Rattle.vx_fn.specs.Values as values;
 ghost use Rattle.vx_fn.specs.Views.{operation_of, is_strict};
-ghost use Rattle.vx_eval.specs.Columns.{rows_view, truth_datum, is_comparison, agrees_with, Evaluates};
+ghost use Rattle.vx_eval.specs.Columns.{rows_view, truth_datum, Evaluates};
+ghost use Rattle.vx_eval.specs.Kernels.{is_comparison, agrees_with};
 
 use crate::fields::item_row;
 use crate::logic::kleene_and;

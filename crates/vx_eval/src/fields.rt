@@ -8,7 +8,8 @@ ghost use Rattle.vx_dtype.specs.declared.error.VortexError.TheVariants.{OutOfMem
 ghost use Rattle.vx_fn.specs.Functions.{item_type, select_type, selection_names, included};
 ghost use Rattle.vx_fn.specs.Functions as functions;
 ghost use Rattle.vx_fn.specs.Values.{item_value, select_value};
-ghost use Rattle.vx_eval.specs.Columns.{values_of, rows_view, rows_views, row_at, AllLong, HaveRow, Evaluates, datum_at, item_at, items_at};
+ghost use Rattle.vx_eval.specs.Columns.{values_of, rows_view, rows_views, row_at, AllLong, HaveRow, Evaluates, datum_at, item_at};
+ghost use Rattle.vx_eval.specs.Kernels.{items_at};
 
 use crate::constants::Constants;
 use crate::filling::{overwritten, tabulated};

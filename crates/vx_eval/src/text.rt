@@ -6,7 +6,8 @@ ghost use Rattle.vx_types.specs.Types.{LogicalType};
 ghost use Rattle.vx_types.specs.Views.{value_of};
 ghost use Rattle.vx_fn.specs.Functions as functions;
 ghost use Rattle.vx_fn.specs.Values as values;
-ghost use Rattle.vx_eval.specs.Columns.{rows_view, truth_datum, text_of, accepted, Evaluates};
+ghost use Rattle.vx_eval.specs.Columns.{rows_view, truth_datum, Evaluates};
+ghost use Rattle.vx_eval.specs.Kernels.{text_of, accepted};
 
 use crate::constants::Constants;
 use crate::rows::Rows;

@@ -5,7 +5,8 @@ ghost use Rattle.vx_types.specs.Fits.{IsBatch};
 ghost use Rattle.vx_tree.specs.Trees.{node_type, WellTyped, EachWellTyped, Over};
 ghost use Rattle.vx_tree.specs.Views.{bound_of, bounds_of};
 ghost use Rattle.vx_eval.specs.Columns.{values_of, rows_view, rows_views};
-ghost use Rattle.vx_eval.specs.Evaluation.{tree_answer, each_answer, item_answer, PacksAt};
+ghost use Rattle.vx_eval.specs.Evaluation.{tree_answer, each_answer};
+ghost use Rattle.vx_eval.specs.PackedItem.{item_answer, PacksAt};
 
 use crate::nodes::apply;
 use crate::packed::item_place;

@@ -4,7 +4,8 @@ ghost use Rattle.vx_dtype.specs.Answers.{Answers};
 ghost use Rattle.vx_dtype.specs.declared.error.VortexError.TheVariants.{OutOfMemory};
 ghost use Rattle.vx_types.specs.Types.{Datum};
 ghost use Rattle.vx_types.specs.Views.{value_of};
-ghost use Rattle.vx_eval.specs.Columns.{values_of, rows_view, truth_datum, truth_of, each_row, TellsRows};
+ghost use Rattle.vx_eval.specs.Columns.{values_of, rows_view, truth_datum, truth_of, each_row};
+ghost use Rattle.vx_eval.specs.Kernels.{TellsRows};
 
 use crate::constants::Constants;
 use crate::rows::Rows;

@@ -2,7 +2,8 @@ use Rattle.std.proofs.Common.{◌≡◌, rules, refl, sym, ap, ◌∙◌, ◌∷
 use Rattle.vx_types.specs.Types.{null}
 use Rattle.vx_types.specs.Views.{type_of, value_of}
 use Rattle.vx_fn.specs.Functions.{select}
-use Rattle.vx_eval.specs.Columns.{rows_view, items_at}
+use Rattle.vx_eval.specs.Columns.{rows_view}
+use Rattle.vx_eval.specs.Kernels.{items_at}
 use Rattle.vx_eval.proofs.Filled.{evaluated}
 use Rattle.vx_eval.proofs.fields.select.Goals as goal
 

@@ -4,7 +4,8 @@ use Rattle.std.proofs.Math.ListN.{replicate}
 use Rattle.vx_types.specs.Types.{null}
 use Rattle.vx_types.specs.Views.{value_of}
 use Rattle.vx_fn.specs.Functions.{like}
-use Rattle.vx_eval.specs.Columns.{rows_view, truth_datum, accepted}
+use Rattle.vx_eval.specs.Columns.{rows_view, truth_datum}
+use Rattle.vx_eval.specs.Kernels.{accepted}
 use Rattle.vx_eval.proofs.Filled.{evaluated}
 use Rattle.vx_eval.proofs.Likes.{accepted_at, unliked_at}
 use Rattle.vx_eval.proofs.text.like_one.Goals as goal

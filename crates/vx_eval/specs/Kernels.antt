@@ -1,0 +1,48 @@
+-- What the kernels of single functions are told.
+use Rattle.std.specs.Prelude.{◌≡◌, ℕ, ◌<◌, List, map, Option, Some, None, Result, Ok, Bool, true, false}
+use Rattle.vx_types.specs.declared.value.Value.{Value}
+use Rattle.vx_types.specs.Fields.{data_of}
+use Rattle.vx_types.specs.Types.{Datum, null, bool, utf8, struct_of}
+use Rattle.vx_types.specs.Views.{value_of}
+use Rattle.std.specs.declared.cmp.Ordering.{Ordering}
+use Rattle.vx_fn.specs.Functions.{Operation, compares}
+use Rattle.vx_fn.specs.Values.{agrees, flipped}
+use Rattle.vx_like.specs.Patterns.{Compiled, accepts}
+use Rattle.vx_eval.specs.Columns.{truth_datum, datum_at}
+
+-- where a call answers at one of the first n rows, it is what g gives there
+abbrev pub AnswersRows : {E : Type 0} → (ℕ → Result Value E → Type 0) → ℕ → (ℕ → Datum) → Type 0
+AnswersRows post n g = (i : ℕ) (v : Value) → i < n → post i (Ok v) → value_of v ≡ g i
+
+-- what a call tells at each of the first n rows is what g gives there
+abbrev pub TellsRows : (ℕ → Option Bool → Type 0) → ℕ → (ℕ → Datum) → Type 0
+TellsRows post n g = (i : ℕ) (t : Option Bool) → i < n → post i t → truth_datum t ≡ g i
+
+-- where a call answers at one of the first n rows and its value, it is what g makes of them
+abbrev pub MakesRows : {E : Type 0} → (ℕ → Value → Result Value E → Type 0) → ℕ → (ℕ → Datum → Datum) → Type 0
+MakesRows post n g = (i : ℕ) (x v : Value) → i < n → post i x (Ok v) → value_of v ≡ g i (value_of x)
+
+-- the struct of the items at those places of a struct, null of what is none
+abbrev pub items_at : List ℕ → Datum → Datum
+items_at ks (struct_of vs) = struct_of (data_of (map (λ k. datum_at k vs) ks))
+items_at ks _ = null
+
+-- whether the operation is one of the six comparisons
+abbrev pub is_comparison : Operation → Bool
+is_comparison (compares c) = true
+is_comparison _ = false
+
+-- whether an order is one that a comparison asks for
+abbrev pub agrees_with : Operation → Ordering → Bool
+agrees_with (compares c) o = agrees c o
+agrees_with _ o = false
+
+-- the bytes of a text
+abbrev pub text_of : Datum → Option (List ℕ)
+text_of (utf8 t) = Some t
+text_of _ = None
+
+-- whether a pattern that was read accepts the text, or not where it is negated; null of what is no text
+abbrev pub accepted : Bool → Compiled → Datum → Datum
+accepted negated p (utf8 t) = bool (flipped negated (accepts p t))
+accepted negated p _ = null
