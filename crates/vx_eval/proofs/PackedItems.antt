@@ -10,23 +10,22 @@ use Rattle.vx_dtype.specs.declared.error.VortexError.TheVariants.{ArityMismatch}
 use Rattle.vx_dtype.specs.declared.dtype.DType.{DType}
 use Rattle.vx_types.specs.Fields.{field_value, fields_named, data_of}
 use Rattle.vx_types.specs.Types.{Name, LogicalType, ty, struct, Datum, null, struct_of}
-use Rattle.vx_types.specs.Views.{type_of, admits_null}
+use Rattle.vx_types.specs.Views.{type_of}
 use Rattle.vx_fn.specs.declared.function.ScalarFnRef.{ScalarFnRef}
-use Rattle.vx_fn.specs.declared.function.ScalarFnRef.TheVariants.{Pack, GetItem}
-use Rattle.vx_fn.specs.declared.options.PackOptions.{PackOptions}
-use Rattle.vx_fn.specs.Functions.{get_item, pack, fn_type, pack_type}
+use Rattle.vx_fn.specs.declared.function.ScalarFnRef.TheVariants.{GetItem}
+use Rattle.vx_fn.specs.Functions.{Function, get_item, pack, fn_type, pack_type}
 use Rattle.vx_fn.specs.Values.{item_value}
 use Rattle.vx_fn.specs.Views.{function_of}
 use Rattle.vx_tree.specs.declared.bound.BoundExpression.{BoundExpression, Scalar}
 use Rattle.vx_tree.specs.Faults.{each_fault}
 use Rattle.vx_tree.specs.Meaning.{value, values}
-use Rattle.vx_tree.specs.Trees.{node, BoundTrees, no_bound, bound, node_types, WellTyped}
+use Rattle.vx_tree.specs.Trees.{node, BoundTrees, no_bound, bound, node_types, EachWellTyped}
 use Rattle.vx_tree.specs.Views.{bound_of, bounds_of}
 use Rattle.vx_dtype.specs.Answers.{Answers}
 use Rattle.vx_eval.specs.declared.rows.Rows.{Rows}
 use Rattle.vx_eval.specs.Columns.{rows_view, rows_views}
 use Rattle.vx_eval.specs.Evaluation.{columns, tree_answer, each_answer}
-use Rattle.vx_eval.specs.PackedItem.{item_answer, PacksAt, TakesOut}
+use Rattle.vx_eval.specs.PackedItem.{item_answer, PacksAt, place_in_node, place_taken, TakesOut}
 use Rattle.vx_eval.proofs.Filled.{map_same}
 use Rattle.vx_eval.proofs.Transposed.{bound_of-Scalar}
 
@@ -80,24 +79,20 @@ takes_item a names n bs u k e at =
         rw q (ap Ok (map_same (value b) (λ v. get_or (values bs v) k null) each rows ∙ column_at bs rows k within))
     answers t rows p within first (Some fault) q = rw q refl
 
-pub place_taken : (a : Name) (e : BoundExpression) (t : DType) (f : ScalarFnRef) (all : Rc (Vec BoundExpression Global) Global) (o : PackOptions) (r : Option ℕ) → e ≡ Scalar t f all → f ≡ Pack o → WellTyped (bound_of e) →
-    r ≡ position (bytes_eq a) o.names → MatchOption r ⊤ (λ k. TakesOut (get_item a) (bound (bound_of e) no_bound) k)
-place_taken a e t f all o None is made typed at = tt
-place_taken a e t f all o (Some k) is made typed at =
-    let same : bound_of e ≡ node (type_of t) (pack o.names (admits_null o.nullability)) (bounds_of all.value.items) =
-    ap bound_of is ∙ bound_of-Scalar t f all ∙ ap (λ g. node (type_of t) (function_of g) (bounds_of all.value.items)) made in
-    let known = rw same at typed in
-    rw same (takes_item a o.names (admits_null o.nullability) (bounds_of all.value.items) (type_of t) k known.0 at)
+-- a node that is asked for such an item of a pack takes it out
+pub place_takes : (f : Function) (bs : BoundTrees) (r : Option ℕ) → IsOk (fn_type f (node_types bs)) → EachWellTyped bs → r ≡ place_taken f bs → MatchOption r ⊤ (λ k. TakesOut f bs k)
+place_takes f bs None ok typed e = tt
+place_takes (get_item a) (bound (node u (pack names n) bs) no_bound) (Some k) ok typed e = takes_item a names n bs u k typed.0.0 e
+place_takes f bs (Some k) ok typed e = cc
 
-pub out_taken : (f : ScalarFnRef) (a : Name) (children : List BoundExpression) (x : BoundExpression) (r : Option ℕ) → f ≡ GetItem a → IsOk (fn_type (function_of f) (node_types (bounds_of children))) →
-    x ≡ get_or children 0 x → MatchOption r ⊤ (λ k. TakesOut (get_item a) (bound (bound_of x) no_bound) k) → MatchOption r ⊤ (λ k. TakesOut (function_of f) (bounds_of children) k)
-out_taken f a children x None is typed first takes = tt
-out_taken f a children x (Some k) is typed first takes = rw is (go children (rw is at typed) first)
+-- the place in the only child
+pub place_of_first : (f : ScalarFnRef) (a : Name) (children : List BoundExpression) (x : BoundExpression) (r : Option ℕ) → f ≡ GetItem a → IsOk (fn_type (function_of f) (node_types (bounds_of children))) →
+    x ≡ get_or children 0 x → r ≡ place_in_node a (bound_of x) → r ≡ place_taken (function_of f) (bounds_of children)
+place_of_first f a children x r is typed first at = rw is (go children (rw is at typed) first)
   where
-    go : (children : List BoundExpression) → IsOk (fn_type (get_item a) (node_types (bounds_of children))) → x ≡ get_or children 0 x → TakesOut (get_item a) (bounds_of children) k
+    go : (children : List BoundExpression) → IsOk (fn_type (get_item a) (node_types (bounds_of children))) → x ≡ get_or children 0 x → r ≡ place_taken (get_item a) (bounds_of children)
     go [] ok e = cc
-    go (y ∷ []) ok e = subst (λ z. TakesOut (get_item a) (bound (bound_of z) no_bound) k) e takes
-    go (y ∷ z ∷ rest) ok e = cc
+    go (y ∷ ys) ok e = at ∙ ap (λ z. place_in_node a (bound_of z)) e
 
 -- ---- from what the calls give
 

@@ -1,8 +1,9 @@
 -- An item of what is packed.
-use Rattle.std.specs.Prelude.{◌≡◌, ◌<◌, ⊤, ℕ, List, [], length, get_or, Result, Ok, Err}
+use Rattle.std.specs.Prelude.{◌≡◌, ◌<◌, ⊤, ℕ, List, [], length, get_or, Option, None, Result, Ok, Err, position}
+use Rattle.std.specs.Str.{bytes_eq}
 use Rattle.vx_dtype.specs.declared.error.VortexError.{VortexError}
-use Rattle.vx_types.specs.Types.{LogicalType, Datum}
-use Rattle.vx_fn.specs.Functions.{Function, pack}
+use Rattle.vx_types.specs.Types.{Name, LogicalType, Datum}
+use Rattle.vx_fn.specs.Functions.{Function, get_item, pack}
 use Rattle.vx_tree.specs.Trees.{BoundTree, scope, node, BoundTrees, no_bound, bound, node_types}
 use Rattle.vx_eval.specs.Evaluation.{tree_answer, each_answer}
 
@@ -25,6 +26,21 @@ IsPack _ = ⊥
 abbrev pub PacksAt : BoundTree → ℕ → Type 0
 PacksAt (scope t) k = ⊥
 PacksAt (node t f bs) k = IsPack f × (k < length (node_types bs))
+
+-- the place of the item of that name in what the function packs, if it is a pack that has one
+abbrev pub place_in : Name → Function → Option ℕ
+place_in a (pack names n) = position (bytes_eq a) names
+place_in a _ = None
+
+-- the same of the tree's first node
+abbrev pub place_in_node : Name → BoundTree → Option ℕ
+place_in_node a (scope t) = None
+place_in_node a (node t f bs) = place_in a f
+
+-- the place, in what its first child packs, of the item that the function takes out of it, if it does
+abbrev pub place_taken : Function → BoundTrees → Option ℕ
+place_taken (get_item a) (bound b bs) = place_in_node a b
+place_taken _ _ = None
 
 -- over each batch, the function takes out what its first child packs at that place
 abbrev pub TakesOut : Function → BoundTrees → ℕ → Type 0

@@ -1,71 +1,89 @@
-// What the constructors over bound children refuse.
+// What the constructors over bound children refuse, by the text of the refusal.
 use crate::bound;
-use crate::tests::scope::{bound_field, name, names, over_one, over_three, over_two, scope};
+use crate::tests::scope::{
+    bound_field, name, names, over_one, over_three, over_two, pair, prints, scope,
+};
 use std::alloc::Global;
 use std::process::Abort;
 use std::test::Fail;
 use vx_tree::Nullability::NonNullable;
 use vx_tree::StrictComparison::Strict;
-use vx_tree::VortexError::{
-    BaseTypesDiffer, NoSuchField, NotAStruct, NotBool, NotComparable, NotNumeric, NotText,
-};
 use vx_tree::{BetweenOptions, BoundExpression, DType, PType, Scalar, VortexResult};
+
+const BASE_TYPES_DIFFER: &str = "types differ in more than nullability";
+
+const NOT_A_STRUCT: &str = "not a struct";
+
+const NOT_BOOL: &str = "a truth type is needed";
+
+const NOT_COMPARABLE: &str = "lists and structs aren't compared";
+
+const NOT_NUMERIC: &str = "a number type is needed";
+
+const NOT_TEXT: &str = "a text type is needed";
+
+/// Asserts that the call was refused with that text.
+fn refused(
+    rt: &impl Abort,
+    alloc: Global,
+    answer: VortexResult<BoundExpression>,
+    text: &str,
+) -> Result<(), Fail> {
+    let refusal = answer.err().ok_or("not refused")?;
+    prints(rt, alloc, refusal, text)
+}
 
 #[test]
 fn a_truth_is_no_text(rt: HostRuntime) -> Result<(), Fail> {
     let alloc = rt.alloc();
     let nope = bound::lit(alloc, Scalar::utf8(alloc, "nope")?)?;
     let compared = bound::eq(alloc, bound_field(&rt, alloc, "a")?, nope);
-    assert!(rt; matches!(compared, Err(BaseTypesDiffer)));
-    Ok(())
+    refused(&rt, alloc, compared, BASE_TYPES_DIFFER)
 }
 
 #[test]
 fn operands_of_other_types_are_refused(rt: HostRuntime) -> Result<(), Fail> {
     let alloc = rt.alloc();
     let compared = over_two(&rt, alloc, bound::eq, ("i", "s"));
-    assert!(rt; matches!(compared, Err(BaseTypesDiffer)));
+    refused(&rt, alloc, compared, BASE_TYPES_DIFFER)?;
     let compared = over_two(&rt, alloc, bound::lt, ("r", "r"));
-    assert!(rt; matches!(compared, Err(NotComparable)));
+    refused(&rt, alloc, compared, NOT_COMPARABLE)?;
     let added = over_two(&rt, alloc, bound::checked_add, ("i", "k"));
-    assert!(rt; matches!(added, Err(BaseTypesDiffer)));
+    refused(&rt, alloc, added, BASE_TYPES_DIFFER)?;
     let added = over_two(&rt, alloc, bound::checked_add, ("s", "s"));
-    assert!(rt; matches!(added, Err(NotNumeric)));
+    refused(&rt, alloc, added, NOT_NUMERIC)?;
     let liked = over_two(&rt, alloc, bound::like, ("s", "i"));
-    assert!(rt; matches!(liked, Err(NotText)));
+    refused(&rt, alloc, liked, NOT_TEXT)?;
     let liked = over_two(&rt, alloc, bound::not_ilike, ("i", "s"));
-    assert!(rt; matches!(liked, Err(NotText)));
-    Ok(())
+    refused(&rt, alloc, liked, NOT_TEXT)
 }
 
 #[test]
 fn logic_refuses_all_but_truths(rt: HostRuntime) -> Result<(), Fail> {
     let alloc = rt.alloc();
     let ands = over_two(&rt, alloc, bound::and, ("a", "i"));
-    assert!(rt; matches!(ands, Err(NotBool)));
+    refused(&rt, alloc, ands, NOT_BOOL)?;
     let ors = over_two(&rt, alloc, bound::or, ("s", "a"));
-    assert!(rt; matches!(ors, Err(NotBool)));
+    refused(&rt, alloc, ors, NOT_BOOL)?;
     let turned = over_one(&rt, alloc, bound::not, "i");
-    assert!(rt; matches!(turned, Err(NotBool)));
+    refused(&rt, alloc, turned, NOT_BOOL)?;
     let masked = over_two(&rt, alloc, bound::mask, ("i", "b"));
-    assert!(rt; matches!(masked, Err(NotBool)));
-    Ok(())
+    refused(&rt, alloc, masked, NOT_BOOL)
 }
 
 #[test]
 fn choices_refuse_other_conditions_and_branches(rt: HostRuntime) -> Result<(), Fail> {
     let alloc = rt.alloc();
     let chosen = over_three(&rt, alloc, bound::case_when, ("i", "i", "i"));
-    assert!(rt; matches!(chosen, Err(NotBool)));
+    refused(&rt, alloc, chosen, NOT_BOOL)?;
     let chosen = over_three(&rt, alloc, bound::case_when, ("a", "i", "s"));
-    assert!(rt; matches!(chosen, Err(BaseTypesDiffer)));
+    refused(&rt, alloc, chosen, BASE_TYPES_DIFFER)?;
     let chosen = over_two(&rt, alloc, bound::case_when_no_else, ("i", "a"));
-    assert!(rt; matches!(chosen, Err(NotBool)));
+    refused(&rt, alloc, chosen, NOT_BOOL)?;
     let zipped = over_three(&rt, alloc, bound::zip_expr, ("i", "a", "a"));
-    assert!(rt; matches!(zipped, Err(NotBool)));
+    refused(&rt, alloc, zipped, NOT_BOOL)?;
     let zipped = over_three(&rt, alloc, bound::zip_expr, ("a", "i", "k"));
-    assert!(rt; matches!(zipped, Err(BaseTypesDiffer)));
-    Ok(())
+    refused(&rt, alloc, zipped, BASE_TYPES_DIFFER)
 }
 
 /// A CASE whose second pair is of the fields, after one of `$.a` and `$.i`, without ELSE.
@@ -75,20 +93,17 @@ fn second_pair(
     condition: &str,
     value: &str,
 ) -> VortexResult<BoundExpression> {
-    let first = (bound_field(rt, alloc, "a")?, bound_field(rt, alloc, "i")?);
-    let condition = bound_field(rt, alloc, condition)?;
-    let second = (condition, bound_field(rt, alloc, value)?);
+    let first = pair(rt, alloc, "a", "i")?;
+    let second = pair(rt, alloc, condition, value)?;
     bound::nested_case_when(alloc, vec![in alloc; first, second]?, None)
 }
 
 #[test]
 fn each_pair_of_nested_choices_is_looked_at(rt: HostRuntime) -> Result<(), Fail> {
     let alloc = rt.alloc();
-    let chosen = second_pair(&rt, alloc, "i", "i");
-    assert!(rt; matches!(chosen, Err(NotBool)));
+    refused(&rt, alloc, second_pair(&rt, alloc, "i", "i"), NOT_BOOL)?;
     let chosen = second_pair(&rt, alloc, "c", "s");
-    assert!(rt; matches!(chosen, Err(BaseTypesDiffer)));
-    Ok(())
+    refused(&rt, alloc, chosen, BASE_TYPES_DIFFER)
 }
 
 /// The first field between the second and itself.
@@ -108,50 +123,63 @@ fn bounded(
 }
 
 #[test]
-fn bounds_fills_and_casts_of_other_types_are_refused(rt: HostRuntime) -> Result<(), Fail> {
+fn bounds_of_other_types_are_refused(rt: HostRuntime) -> Result<(), Fail> {
     let alloc = rt.alloc();
-    assert!(rt; matches!(bounded(&rt, alloc, "i", "s"), Err(BaseTypesDiffer)));
-    assert!(rt; matches!(bounded(&rt, alloc, "r", "r"), Err(NotComparable)));
-    let filled = over_two(&rt, alloc, bound::fill_null, ("j", "k"));
-    assert!(rt; matches!(filled, Err(BaseTypesDiffer)));
-    let target = DType::Primitive(PType::I64, NonNullable);
-    let number = bound_field(&rt, alloc, "i")?;
-    assert!(rt; matches!(bound::cast(alloc, number, target), Err(BaseTypesDiffer)));
-    Ok(())
+    refused(&rt, alloc, bounded(&rt, alloc, "i", "s"), BASE_TYPES_DIFFER)?;
+    refused(&rt, alloc, bounded(&rt, alloc, "r", "r"), NOT_COMPARABLE)
 }
 
-/// Whether the call was refused for that name.
-fn misses(answer: &VortexResult<BoundExpression>, wanted: &str) -> bool {
-    matches!(answer, Err(NoSuchField(name)) if name.as_str() == wanted)
+#[test]
+fn fills_and_casts_of_other_types_are_refused(rt: HostRuntime) -> Result<(), Fail> {
+    let alloc = rt.alloc();
+    let filled = over_two(&rt, alloc, bound::fill_null, ("j", "k"));
+    refused(&rt, alloc, filled, BASE_TYPES_DIFFER)?;
+    let target = DType::Primitive(PType::I64, NonNullable);
+    let cast = bound::cast(alloc, bound_field(&rt, alloc, "i")?, target);
+    refused(&rt, alloc, cast, BASE_TYPES_DIFFER)
 }
 
 #[test]
 fn unknown_names_are_refused(rt: HostRuntime) -> Result<(), Fail> {
     let alloc = rt.alloc();
     let item = bound::col(alloc, name(alloc, "zz")?, scope(&rt, alloc)?);
-    assert!(rt; misses(&item, "zz"));
-    let row = bound_field(&rt, alloc, "r")?;
-    let item = bound::get_item(alloc, name(alloc, "a")?, row.clone()?);
-    assert!(rt; misses(&item, "a"));
-    let kept = bound::select(alloc, names(alloc, "x zz a")?, row.clone()?);
-    assert!(rt; misses(&kept, "zz"));
-    let left = bound::select_exclude(alloc, names(alloc, "y a zz")?, row);
-    assert!(rt; misses(&left, "a"));
-    Ok(())
+    refused(&rt, alloc, item, "no such field: zz")?;
+    let item = bound::get_item(alloc, name(alloc, "a")?, bound_field(&rt, alloc, "r")?);
+    refused(&rt, alloc, item, "no such field: a")
 }
 
 #[test]
-fn fields_of_other_types_than_structs_are_refused(rt: HostRuntime) -> Result<(), Fail> {
+fn the_first_unknown_name_is_refused(rt: HostRuntime) -> Result<(), Fail> {
+    let alloc = rt.alloc();
+    let kept = names(alloc, "x zz a")?;
+    let selected = bound::select(alloc, kept, bound_field(&rt, alloc, "r")?);
+    refused(&rt, alloc, selected, "no such field: zz")?;
+    let left = names(alloc, "y a zz")?;
+    let selected = bound::select_exclude(alloc, left, bound_field(&rt, alloc, "r")?);
+    refused(&rt, alloc, selected, "no such field: a")
+}
+
+#[test]
+fn only_structs_have_fields(rt: HostRuntime) -> Result<(), Fail> {
     let alloc = rt.alloc();
     let number = DType::Primitive(PType::I32, NonNullable);
-    let item = bound::col(alloc, name(alloc, "x")?, number);
-    assert!(rt; matches!(item, Err(NotAStruct)));
-    let text = bound_field(&rt, alloc, "s")?;
-    let item = bound::get_item(alloc, name(alloc, "x")?, text.clone()?);
-    assert!(rt; matches!(item, Err(NotAStruct)));
-    let kept = bound::select(alloc, names(alloc, "x")?, text.clone()?);
-    assert!(rt; matches!(kept, Err(NotAStruct)));
-    let left = bound::select_exclude(alloc, names(alloc, "x")?, text);
-    assert!(rt; matches!(left, Err(NotAStruct)));
-    Ok(())
+    refused(
+        &rt,
+        alloc,
+        bound::col(alloc, name(alloc, "x")?, number),
+        NOT_A_STRUCT,
+    )?;
+    let item = bound::get_item(alloc, name(alloc, "x")?, bound_field(&rt, alloc, "s")?);
+    refused(&rt, alloc, item, NOT_A_STRUCT)
+}
+
+#[test]
+fn only_fields_of_structs_are_selected(rt: HostRuntime) -> Result<(), Fail> {
+    let alloc = rt.alloc();
+    let kept = names(alloc, "x")?;
+    let selected = bound::select(alloc, kept, bound_field(&rt, alloc, "s")?);
+    refused(&rt, alloc, selected, NOT_A_STRUCT)?;
+    let left = names(alloc, "x")?;
+    let selected = bound::select_exclude(alloc, left, bound_field(&rt, alloc, "s")?);
+    refused(&rt, alloc, selected, NOT_A_STRUCT)
 }

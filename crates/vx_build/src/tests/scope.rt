@@ -79,6 +79,17 @@ pub fn bound_field(rt: &impl Abort, alloc: Global, text: &str) -> VortexResult<B
     bound::col(alloc, name(alloc, text)?, scope(rt, alloc)?)
 }
 
+/// A condition and the value beside it.
+pub fn pair(
+    rt: &impl Abort,
+    alloc: Global,
+    condition: &str,
+    value: &str,
+) -> VortexResult<(BoundExpression, BoundExpression)> {
+    let condition = bound_field(rt, alloc, condition)?;
+    Ok((condition, bound_field(rt, alloc, value)?))
+}
+
 /// What the call gives over the bound field.
 pub fn over_one<F: FnOnce(Global, BoundExpression) -> VortexResult<BoundExpression>>(
     rt: &impl Abort,

@@ -1,6 +1,6 @@
 // The SQL text and the type of what each constructor over bound children gives.
 use crate::bound;
-use crate::tests::scope::{bound_field, name, names, over_one, over_three, over_two, scope};
+use crate::tests::scope::{bound_field, name, names, over_one, over_three, over_two, pair, scope};
 use std::alloc::Global;
 use std::process::Abort;
 use std::test::Fail;
@@ -123,29 +123,23 @@ fn choices_are_of_the_union(rt: HostRuntime) -> Result<(), Fail> {
     shows(&rt, alloc, zipped, "zip($.j, $.i, $.b): i32?")
 }
 
-/// A condition and the value beside it.
-fn pair(
-    rt: &impl Abort,
-    alloc: Global,
-    condition: &str,
-    value: &str,
-) -> VortexResult<(BoundExpression, BoundExpression)> {
-    let condition = bound_field(rt, alloc, condition)?;
-    Ok((condition, bound_field(rt, alloc, value)?))
-}
-
 #[test]
 fn nested_choices_are_of_the_union(rt: HostRuntime) -> Result<(), Fail> {
     let alloc = rt.alloc();
     let first = pair(&rt, alloc, "a", "i")?;
     let second = pair(&rt, alloc, "b", "j")?;
-    let otherwise = bound_field(&rt, alloc, "i")?;
     let pairs = vec![in alloc; first, second]?;
+    let otherwise = bound_field(&rt, alloc, "i")?;
     let chosen = bound::nested_case_when(alloc, pairs, Some(otherwise))?;
     let text = "CASE WHEN $.a THEN $.i WHEN $.b THEN $.j ELSE $.i END: i32?";
-    shows(&rt, alloc, chosen, text)?;
-    let alone = pair(&rt, alloc, "a", "s")?;
-    let chosen = bound::nested_case_when(alloc, vec![in alloc; alone]?, None)?;
+    shows(&rt, alloc, chosen, text)
+}
+
+#[test]
+fn nested_choices_without_else_are_nullable(rt: HostRuntime) -> Result<(), Fail> {
+    let alloc = rt.alloc();
+    let alone = vec![in alloc; pair(&rt, alloc, "a", "s")?]?;
+    let chosen = bound::nested_case_when(alloc, alone, None)?;
     shows(&rt, alloc, chosen, "CASE WHEN $.a THEN $.s END: utf8?")
 }
 
@@ -166,21 +160,23 @@ fn bounds_are_truths(rt: HostRuntime) -> Result<(), Fail> {
 #[test]
 fn fields_are_of_the_types_of_the_scope(rt: HostRuntime) -> Result<(), Fail> {
     let alloc = rt.alloc();
-    let row = bound::root(DType::Bool(Nullable));
-    shows(&rt, alloc, row, "$: bool?")?;
+    let all = bound::root(DType::Bool(Nullable));
+    shows(&rt, alloc, all, "$: bool?")?;
     let row = bound::col(alloc, name(alloc, "r")?, scope(&rt, alloc)?)?;
-    let item = bound::get_item(alloc, name(alloc, "y")?, row.clone()?)?;
-    shows(&rt, alloc, item, "$.r.y: utf8?")?;
-    shows(&rt, alloc, row, "$.r: {x=i32, y=utf8}?")
+    shows(&rt, alloc, row, "$.r: {x=i32, y=utf8}?")?;
+    let row = bound_field(&rt, alloc, "r")?;
+    let item = bound::get_item(alloc, name(alloc, "y")?, row)?;
+    shows(&rt, alloc, item, "$.r.y: utf8?")
 }
 
 #[test]
 fn selections_are_of_what_they_keep(rt: HostRuntime) -> Result<(), Fail> {
     let alloc = rt.alloc();
     let row = bound_field(&rt, alloc, "r")?;
-    let kept = bound::select(alloc, names(alloc, "y x y")?, row.clone()?)?;
+    let kept = bound::select(alloc, names(alloc, "y x y")?, row)?;
     let text = "$.r{y, x, y}: {y=utf8, x=i32, y=utf8}?";
     shows(&rt, alloc, kept, text)?;
+    let row = bound_field(&rt, alloc, "r")?;
     let left = bound::select_exclude(alloc, names(alloc, "y")?, row)?;
     shows(&rt, alloc, left, "$.r{~ y}: {x=i32}?")
 }

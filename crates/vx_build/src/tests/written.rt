@@ -110,16 +110,27 @@ fn choices_have_one_pair(rt: HostRuntime) -> Result<(), Fail> {
     over_three(&rt, alloc, zip_expr, "zip($.b, $.c, $.a)")
 }
 
+/// A condition and the value beside it.
+fn pair(alloc: Global, condition: &str, value: &str) -> VortexResult<(Expression, Expression)> {
+    let condition = field(alloc, condition)?;
+    Ok((condition, field(alloc, value)?))
+}
+
 #[test]
 fn nested_choices_list_their_pairs(rt: HostRuntime) -> Result<(), Fail> {
     let alloc = rt.alloc();
-    let first = (field(alloc, "a")?, field(alloc, "b")?);
-    let second = (field(alloc, "c")?, field(alloc, "d")?);
+    let first = pair(alloc, "a", "b")?;
+    let second = pair(alloc, "c", "d")?;
     let pairs = vec![in alloc; first, second]?;
     let chosen = nested_case_when(alloc, pairs, Some(field(alloc, "e")?))?;
     let text = "CASE WHEN $.a THEN $.b WHEN $.c THEN $.d ELSE $.e END";
-    prints(&rt, alloc, chosen, text)?;
-    let alone = vec![in alloc; (field(alloc, "a")?, field(alloc, "b")?)]?;
+    prints(&rt, alloc, chosen, text)
+}
+
+#[test]
+fn nested_choices_may_have_no_else(rt: HostRuntime) -> Result<(), Fail> {
+    let alloc = rt.alloc();
+    let alone = vec![in alloc; pair(alloc, "a", "b")?]?;
     let chosen = nested_case_when(alloc, alone, None)?;
     prints(&rt, alloc, chosen, "CASE WHEN $.a THEN $.b END")
 }

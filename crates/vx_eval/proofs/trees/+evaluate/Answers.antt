@@ -22,7 +22,7 @@ evaluate-returns-in_ok-columns-in-None t c =
 
 pub evaluate-returns-in-Some : goal.evaluate-returns-in-Some
 evaluate-returns-in-Some t c =
-    item_given _ _ _ _ c.as_slice-children.result.now _ _ _ _ c.in-Scalar.is (c.as_slice-children.ensures.value ∙ ap (λ v. v.items) c.deref.ensures) c.index-children-0.is c.in-Some.ensures c.evaluate_item.ensures
+    item_given _ _ _ _ c.as_slice-children.result.now _ _ _ _ c.in-Scalar.is (c.as_slice-children.ensures.value ∙ ap (λ v. v.items) c.deref.ensures) c.index-children-0.is c.in-Some.ensures.takes c.evaluate_item.ensures
 
 pub evaluate_item-swap_remove-requires : goal.evaluate_item-swap_remove-requires
 evaluate_item-swap_remove-requires t c =
