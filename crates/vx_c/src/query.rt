@@ -1,9 +1,9 @@
 // The queries that are timed.
 use crate::batch;
 use std::alloc::Global;
-use vx_fn::{CaseWhenOptions, LikeOptions, Operator, PackOptions, ScalarFnRef};
+use vx_build::{and, col, get_item, gt, gt_eq, like, lit, lt_eq, nested_case_when, pack};
 use vx_tree::Expression;
-use vx_types::{Column, FieldName, FieldNames, Nullability, Scalar, VortexResult};
+use vx_types::{Column, FieldName, Nullability, Scalar, VortexResult};
 
 /// A query that is timed.
 #[derive(Clone, Copy, Debug, PartialEq, Eq)]
@@ -44,78 +44,53 @@ impl Query {
         match self {
             Query::Range => range(alloc),
             Query::Case => case(alloc),
-            Query::Like => like(alloc),
+            Query::Like => liked(alloc),
             Query::Item => item(alloc),
         }
     }
 }
 
 fn range(alloc: Global) -> VortexResult<Expression> {
-    let lower = compared(alloc, Operator::Gte, 10)?;
-    let upper = compared(alloc, Operator::Lte, 500_000)?;
-    let both = vec![in alloc; lower, upper]?;
-    Expression::try_new(alloc, ScalarFnRef::Binary(Operator::And), both)
+    let lower = gt_eq(alloc, field(alloc, "x")?, number(alloc, 10)?)?;
+    let upper = lt_eq(alloc, field(alloc, "x")?, number(alloc, 500_000)?)?;
+    and(alloc, lower, upper)
 }
 
 fn case(alloc: Global) -> VortexResult<Expression> {
-    let options = CaseWhenOptions {
-        num_when_then_pairs: 2,
-        has_else: true,
-    };
-    let first = compared(alloc, Operator::Gt, 0)?;
-    let second = compared(alloc, Operator::Gt, 3)?;
-    let children = vec![in alloc;
-        first,
-        number(alloc, 10)?,
-        second,
-        number(alloc, 20)?,
-        number(alloc, 30)?,
-    ]?;
-    Expression::try_new(alloc, ScalarFnRef::CaseWhen(options), children)
+    let first = above(alloc, 0, 10)?;
+    let second = above(alloc, 3, 20)?;
+    let pairs = vec![in alloc; first, second]?;
+    nested_case_when(alloc, pairs, Some(number(alloc, 30)?))
 }
 
-fn like(alloc: Global) -> VortexResult<Expression> {
-    let options = LikeOptions {
-        negated: false,
-        case_insensitive: false,
-    };
-    let pattern = literal(alloc, Scalar::utf8(alloc, "%b%d")?)?;
-    let children = vec![in alloc; field(alloc, "s", Expression::Root)?, pattern]?;
-    Expression::try_new(alloc, ScalarFnRef::Like(options), children)
+// The value for where `$.x` is above the bound.
+fn above(alloc: Global, bound: i32, value: i32) -> VortexResult<(Expression, Expression)> {
+    let condition = gt(alloc, field(alloc, "x")?, number(alloc, bound)?)?;
+    Ok((condition, number(alloc, value)?))
+}
+
+fn liked(alloc: Global) -> VortexResult<Expression> {
+    let pattern = lit(alloc, Scalar::utf8(alloc, "%b%d")?)?;
+    like(alloc, field(alloc, "s")?, pattern)
 }
 
 fn item(alloc: Global) -> VortexResult<Expression> {
-    let names = vec![in alloc;
-        FieldName::new(alloc, "a")?,
-        FieldName::new(alloc, "b")?,
-        FieldName::new(alloc, "c")?,
-    ]?;
-    let options = PackOptions {
-        names: FieldNames::new(alloc, names)?,
-        nullability: Nullability::NonNullable,
-    };
-    let x = field(alloc, "x", Expression::Root)?;
-    let y = field(alloc, "y", Expression::Root)?;
-    let z = field(alloc, "z", Expression::Root)?;
-    let packed = Expression::try_new(alloc, ScalarFnRef::Pack(options), vec![in alloc; x, y, z]?)?;
-    field(alloc, "b", packed)
+    let x = named(alloc, "a", "x")?;
+    let y = named(alloc, "b", "y")?;
+    let z = named(alloc, "c", "z")?;
+    let packed = pack(alloc, vec![in alloc; x, y, z]?, Nullability::NonNullable)?;
+    get_item(alloc, FieldName::new(alloc, "b")?, packed)
 }
 
-// The operator between `$.x` and the number.
-fn compared(alloc: Global, operator: Operator, n: i32) -> VortexResult<Expression> {
-    let operands = vec![in alloc; field(alloc, "x", Expression::Root)?, number(alloc, n)?]?;
-    Expression::try_new(alloc, ScalarFnRef::Binary(operator), operands)
+// The field of the scope, to be packed by that name.
+fn named(alloc: Global, name: &str, of: &str) -> VortexResult<(FieldName, Expression)> {
+    Ok((FieldName::new(alloc, name)?, field(alloc, of)?))
 }
 
-fn field(alloc: Global, name: &str, of: Expression) -> VortexResult<Expression> {
-    let name = FieldName::new(alloc, name)?;
-    Expression::try_new(alloc, ScalarFnRef::GetItem(name), vec![in alloc; of]?)
+fn field(alloc: Global, name: &str) -> VortexResult<Expression> {
+    col(alloc, FieldName::new(alloc, name)?)
 }
 
 fn number(alloc: Global, n: i32) -> VortexResult<Expression> {
-    literal(alloc, Scalar::from_i32(n))
-}
-
-fn literal(alloc: Global, scalar: Scalar) -> VortexResult<Expression> {
-    Expression::try_new(alloc, ScalarFnRef::Literal(scalar), Vec::new(alloc))
+    lit(alloc, Scalar::from_i32(n))
 }

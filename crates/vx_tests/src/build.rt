@@ -8,8 +8,8 @@ use std::fmt::Display;
 use std::process::Abort;
 use std::test::Fail;
 use vx_tree::{
-    DType, Expression, FieldName, FieldNames, Nullability, Operator, PType, Scalar, ScalarFnRef,
-    StructFields, VortexResult,
+    DType, Expression, FieldName, FieldNames, Nullability, Operator, PType, Scalar, StructFields,
+    VortexResult,
 };
 
 pub fn names(alloc: Global, texts: &[&str]) -> VortexResult<FieldNames> {
@@ -38,15 +38,6 @@ pub fn i32_type(nullability: Nullability) -> DType
     DType::Primitive(PType::I32, nullability)
 }
 
-/// The function over the children.
-pub fn call(
-    alloc: Global,
-    function: ScalarFnRef,
-    children: Vec<Expression>,
-) -> VortexResult<Expression> {
-    Expression::try_new(alloc, function, children)
-}
-
 /// The field of the scope.
 pub fn col(alloc: Global, name: &str) -> VortexResult<Expression> {
     vx_build::col(alloc, FieldName::new(alloc, name)?)
@@ -65,6 +56,15 @@ pub fn binary(
     vx_build::binary(alloc, operator, lhs, rhs)
 }
 
+/// A child of a `pack` and its name.
+pub fn named(
+    alloc: Global,
+    name: &str,
+    child: Expression,
+) -> VortexResult<(FieldName, Expression)> {
+    Ok((FieldName::new(alloc, name)?, child))
+}
+
 /// Asserts that the value prints as the text.
 pub fn prints<T: Display + Drop>(
     rt: &impl Abort,
@@ -74,4 +74,15 @@ pub fn prints<T: Display + Drop>(
 ) -> Result<(), Fail> {
     assert_eq!(rt; format!(in alloc; "{value}")?.as_str(), text);
     Ok(())
+}
+
+/// Asserts that the call was refused with that text.
+pub fn refused<T: Drop>(
+    rt: &impl Abort,
+    alloc: Global,
+    answer: VortexResult<T>,
+    text: &str,
+) -> Result<(), Fail> {
+    let refusal = answer.err().ok_or("not refused")?;
+    prints(rt, alloc, refusal, text)
 }

@@ -1,29 +1,37 @@
 // Columns and scalars: what fits, and the first that doesn't.
-use crate::build::i32_type;
+use crate::build::{i32_type, prints, refused};
 use std::rc::Rc;
 use std::test::Fail;
 use vx_tree::Nullability::{NonNullable, Nullable};
-use vx_tree::{
-    Column, DType, FieldName, FieldNames, PType, Scalar, StructFields, Value, VortexError,
-};
+use vx_tree::{Column, DType, FieldName, FieldNames, PType, Scalar, StructFields, Value};
 
 #[test]
 fn the_first_misfit_is_named(rt: HostRuntime) -> Result<(), Fail> {
     let alloc = rt.alloc();
     let bytes = DType::Primitive(PType::I8, NonNullable);
-    let refused = Column::try_new(
-        bytes,
-        vec![in alloc; Value::Int(127), Value::Int(300), Value::Int(400)]?,
-    );
-    assert!(rt; matches!(refused, Err(VortexError::RowMisfit { row: 1 })));
-    let wide = DType::Primitive(PType::U64, NonNullable);
-    let accepted = Column::try_new(
-        wide,
-        vec![in alloc; Value::Int(18_446_744_073_709_551_615)]?,
+    let rows = vec![in alloc; Value::Int(127), Value::Int(300), Value::Int(400)]?;
+    let column = Column::try_new(bytes, rows);
+    refused(
+        &rt,
+        alloc,
+        column,
+        "the value of row 1 doesn't fit the type",
     )?;
-    assert_eq!(rt; accepted.len(), 1);
     let scalar = Scalar::try_new(i32_type(NonNullable), Value::Null);
-    assert!(rt; matches!(scalar, Err(VortexError::RowMisfit { row: 0 })));
+    refused(
+        &rt,
+        alloc,
+        scalar,
+        "the value of row 0 doesn't fit the type",
+    )
+}
+
+#[test]
+fn the_largest_number_fits(rt: HostRuntime) -> Result<(), Fail> {
+    let alloc = rt.alloc();
+    let wide = DType::Primitive(PType::U64, NonNullable);
+    let rows = vec![in alloc; Value::Int(18_446_744_073_709_551_615)]?;
+    assert_eq!(rt; Column::try_new(wide, rows)?.len(), 1);
     Ok(())
 }
 
@@ -88,6 +96,5 @@ fn a_struct_scalar_holds_its_fields(rt: HostRuntime) -> Result<(), Fail> {
     let fields = StructFields::new(alloc, names, types)?;
     let values = vec![in alloc; Scalar::from_i32(5)]?;
     let row = Scalar::struct_(alloc, DType::Struct(fields, Nullable), values)?;
-    assert_eq!(rt; format!(in alloc; "{row}")?.as_str(), "{x: 5i32}");
-    Ok(())
+    prints(&rt, alloc, row, "{x: 5i32}")
 }

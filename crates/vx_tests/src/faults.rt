@@ -1,15 +1,19 @@
 // Faults of trees on batches, and the batch that is refused.
-use crate::build::{binary, call, col, i32_type, literal, names, prints};
-use crate::results::{evaluated, gives, numbers, rows_of_x};
-use crate::rows::{case, number};
+use crate::build::{binary, col, i32_type, literal, named, prints, refused};
+use crate::results::{evaluated, faults, gives, numbers, rows_of_x};
+use crate::rows::number;
 use std::alloc::Global;
 use std::test::Fail;
+use vx_build::{case_when, cast, pack, root};
 use vx_eval::apply_bound;
 use vx_tree::Nullability::{NonNullable, Nullable};
 use vx_tree::{
-    Column, DType, Expression, Operator, PType, PackOptions, Scalar, ScalarFnRef, Value,
-    VortexError, VortexResult,
+    Column, DType, Expression, Operator, PType, Scalar, Value, VortexError, VortexResult,
 };
+
+const OVERFLOW: &str = "the sum of row 0 is out of range";
+
+const NULL_CAST: &str = "the null of row 1 would be made non-null";
 
 /// The sum of an `i8` and 1.
 fn next(alloc: Global, number: Scalar) -> VortexResult<Expression> {
@@ -19,10 +23,9 @@ fn next(alloc: Global, number: Scalar) -> VortexResult<Expression> {
 
 /// `CASE WHEN false THEN (127i8 + 1i8) ELSE 0i8 END`
 fn unchosen_overflow(alloc: Global) -> VortexResult<Expression> {
-    let mut children = vec![in alloc; literal(alloc, Scalar::from_bool(false))?]?;
-    children.push(next(alloc, Scalar::from_i8(127))?)?;
-    children.push(literal(alloc, Scalar::from_i8(0))?)?;
-    call(alloc, case(1), children)
+    let never = literal(alloc, Scalar::from_bool(false))?;
+    let overflow = next(alloc, Scalar::from_i8(127))?;
+    case_when(alloc, never, overflow, literal(alloc, Scalar::from_i8(0))?)
 }
 
 #[test]
@@ -32,35 +35,35 @@ fn a_branch_that_is_not_chosen_faults(rt: HostRuntime) -> Result<(), Fail> {
     let overflow = evaluated(alloc, unchosen_overflow(alloc)?, &one);
     assert!(rt; matches!(&overflow, Err(VortexError::AddOverflow { row: 0 })));
     let none = rows_of_x(&rt, alloc, &[])?;
-    gives(&rt, alloc, unchosen_overflow(alloc)?, &none, "[]")?;
+    gives(&rt, alloc, unchosen_overflow(alloc)?, &none, "[]")
+}
+
+#[test]
+fn a_sum_with_null_is_null(rt: HostRuntime) -> Result<(), Fail> {
+    let alloc = rt.alloc();
+    let one = rows_of_x(&rt, alloc, &[None])?;
     let i8_or_null = DType::Primitive(PType::I8, Nullable);
     let null = next(alloc, Scalar::null(i8_or_null))?;
     gives(&rt, alloc, null, &one, "[null]")
 }
 
 /// `cast($.x as i32)`
-fn cast(alloc: Global) -> VortexResult<Expression> {
-    let to_i32 = ScalarFnRef::Cast(i32_type(NonNullable));
-    call(alloc, to_i32, vec![in alloc; col(alloc, "x")?]?)
+fn cast_x(alloc: Global) -> VortexResult<Expression> {
+    cast(alloc, col(alloc, "x")?, i32_type(NonNullable))
 }
 
 #[test]
 fn a_cast_refuses_null(rt: HostRuntime) -> Result<(), Fail> {
     let alloc = rt.alloc();
     let x = rows_of_x(&rt, alloc, &[Some(1), None])?;
-    let refused = evaluated(alloc, cast(alloc)?, &x);
-    assert!(rt; matches!(&refused, Err(VortexError::CastNull { row: 1 })));
-    Ok(())
+    faults(&rt, alloc, cast_x(alloc)?, &x, NULL_CAST)
 }
 
 /// A struct of two.
 fn both(alloc: Global, first: Expression, second: Expression) -> VortexResult<Expression> {
-    let names = names(alloc, &["a", "b"])?;
-    let pack = ScalarFnRef::Pack(PackOptions {
-        names,
-        nullability: NonNullable,
-    });
-    call(alloc, pack, vec![in alloc; first, second]?)
+    let first = named(alloc, "a", first)?;
+    let second = named(alloc, "b", second)?;
+    pack(alloc, vec![in alloc; first, second]?, NonNullable)
 }
 
 #[test]
@@ -68,12 +71,11 @@ fn the_first_child_faults_first(rt: HostRuntime) -> Result<(), Fail> {
     let alloc = rt.alloc();
     let x = rows_of_x(&rt, alloc, &[Some(1), None])?;
     let overflow = next(alloc, Scalar::from_i8(127))?;
-    let cast_first = evaluated(alloc, both(alloc, cast(alloc)?, overflow)?, &x);
-    assert!(rt; matches!(&cast_first, Err(VortexError::CastNull { row: 1 })));
+    let cast_first = both(alloc, cast_x(alloc)?, overflow)?;
+    faults(&rt, alloc, cast_first, &x, NULL_CAST)?;
     let overflow = next(alloc, Scalar::from_i8(127))?;
-    let sum_first = evaluated(alloc, both(alloc, overflow, cast(alloc)?)?, &x);
-    assert!(rt; matches!(&sum_first, Err(VortexError::AddOverflow { row: 0 })));
-    Ok(())
+    let sum_first = both(alloc, overflow, cast_x(alloc)?)?;
+    faults(&rt, alloc, sum_first, &x, OVERFLOW)
 }
 
 /// The sum of two numbers of the type in one row.
@@ -103,13 +105,8 @@ fn sums_end_at_the_limits_of_their_type(rt: HostRuntime) -> Result<(), Fail> {
         (PType::I64, -9_223_372_036_854_775_808, -1),
     ];
     for (p, limit, step) in limits {
-        let within = sum_of(alloc, p, limit, 0);
-        assert!(rt; within.is_ok(), "{limit}");
-        let refused = sum_of(alloc, p, limit, step);
-        assert!(rt;
-            matches!(&refused, Err(VortexError::AddOverflow { row: 0 })),
-            "{limit}"
-        );
+        assert!(rt; sum_of(alloc, p, limit, 0).is_ok(), "{limit}");
+        refused(&rt, alloc, sum_of(alloc, p, limit, step), OVERFLOW)?;
     }
     Ok(())
 }
@@ -120,8 +117,7 @@ fn a_batch_of_another_type_is_refused(rt: HostRuntime) -> Result<(), Fail> {
     let bound = number(alloc, 1)?.bind(alloc, &i32_type(Nullable))?;
     let rows = Column::try_new(i32_type(NonNullable), numbers(alloc, &[Some(1)])?)?;
     prints(&rt, alloc, apply_bound(alloc, &rows, &bound)?, "[1i32]")?;
-    let root = Expression::Root.bind(alloc, &i32_type(Nullable))?;
-    let refused = apply_bound(alloc, &rows, &root);
-    assert!(rt; matches!(&refused, Err(VortexError::ScopeMismatch)));
-    Ok(())
+    let bound = root().bind(alloc, &i32_type(Nullable))?;
+    let answer = apply_bound(alloc, &rows, &bound);
+    refused(&rt, alloc, answer, "the column isn't of the scope's type")
 }

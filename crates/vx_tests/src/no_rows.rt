@@ -1,15 +1,15 @@
 // Each function over a batch of no rows.
-use crate::build::{call, col, fields, i32_type, names};
-use crate::results::{evaluated, gives};
-use crate::rows::case;
+use crate::build::{col, fields, i32_type, names};
+use crate::results::{BAD_FILL, faults, gives};
 use std::alloc::Global;
 use std::process::Abort;
 use std::test::Fail;
+use vx_build::{fill_null, root};
 use vx_tree::Nullability::{NonNullable, Nullable};
 use vx_tree::StrictComparison::{NonStrict, Strict};
 use vx_tree::{
-    BetweenOptions, Column, DType, EmptyOptions, Expression, FieldName, FieldSelection,
-    LikeOptions, Operator, PackOptions, Scalar, ScalarFnRef, VortexError, VortexResult,
+    BetweenOptions, CaseWhenOptions, Column, DType, EmptyOptions, Expression, FieldName,
+    FieldSelection, LikeOptions, Operator, PackOptions, Scalar, ScalarFnRef,
 };
 
 /// No rows of `{n=i32?, t=bool, s=utf8}`.
@@ -36,7 +36,7 @@ fn gives_none(
             col(alloc, name)?
         })?;
     }
-    let node = call(alloc, function, children)?;
+    let node = Expression::try_new(alloc, function, children)?;
     gives(rt, alloc, node, &no_rows(rt, alloc)?, "[]")
 }
 
@@ -44,7 +44,11 @@ fn gives_none(
 fn functions_of_structs_and_choices_give_none(rt: HostRuntime) -> Result<(), Fail> {
     let alloc = rt.alloc();
     let none = EmptyOptions;
-    gives_none(&rt, alloc, case(1), &["t", "n", "n"])?;
+    let case = ScalarFnRef::CaseWhen(CaseWhenOptions {
+        num_when_then_pairs: 1,
+        has_else: true,
+    });
+    gives_none(&rt, alloc, case, &["t", "n", "n"])?;
     let item = ScalarFnRef::GetItem(FieldName::new(alloc, "s")?);
     gives_none(&rt, alloc, item, &[""])?;
     let pack = ScalarFnRef::Pack(PackOptions {
@@ -93,17 +97,9 @@ fn functions_of_null_and_truth_give_none(rt: HostRuntime) -> Result<(), Fail> {
     gives_none(&rt, alloc, to_i32, &["n"])
 }
 
-/// A struct filled with itself: no type that can be filled.
-fn struct_filled(alloc: Global) -> VortexResult<Expression> {
-    let children = vec![in alloc; Expression::Root, Expression::Root]?;
-    call(alloc, ScalarFnRef::FillNull(EmptyOptions), children)
-}
-
 #[test]
 fn a_fill_of_another_type_faults_without_rows(rt: HostRuntime) -> Result<(), Fail> {
     let alloc = rt.alloc();
-    let rows = no_rows(&rt, alloc)?;
-    let refused = evaluated(alloc, struct_filled(alloc)?, &rows);
-    assert!(rt; matches!(&refused, Err(VortexError::BadFill)));
-    Ok(())
+    let struct_filled = fill_null(alloc, root(), root())?;
+    faults(&rt, alloc, struct_filled, &no_rows(&rt, alloc)?, BAD_FILL)
 }

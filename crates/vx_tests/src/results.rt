@@ -1,15 +1,13 @@
 // Worked rows as runs: results of evaluation.
-use crate::build::{call, col, fields, i32_type, literal, names, prints};
-use crate::rows::{item_of_pack, selected, two_cases, with_x, zero_for_null};
+use crate::build::{col, fields, i32_type, literal, names, prints, refused};
+use crate::rows::{item_of_pack, two_cases, with_x, zero_for_null};
 use std::alloc::Global;
 use std::process::Abort;
 use std::test::Fail;
+use vx_build::{fill_null, ilike, like, mask, root, select, select_exclude};
 use vx_eval::apply_bound;
 use vx_tree::Nullability::{NonNullable, Nullable};
-use vx_tree::{
-    Column, DType, EmptyOptions, Expression, FieldSelection, LikeOptions, Scalar, ScalarFnRef,
-    Value, VortexError, VortexResult,
-};
+use vx_tree::{Column, DType, Expression, Scalar, Value, VortexResult};
 
 /// Whole numbers, and nulls between them.
 pub fn numbers(alloc: Global, given: &[Option<i128>]) -> VortexResult<Vec<Value>> {
@@ -66,6 +64,20 @@ pub fn gives(
     prints(rt, alloc, evaluated(alloc, source, batch)?, rows)
 }
 
+/// The text of `BadFill`.
+pub const BAD_FILL: &str = "a fill that is null, not one value, or of an unsupported type";
+
+/// Asserts the fault of the expression on the batch.
+pub fn faults(
+    rt: &impl Abort,
+    alloc: Global,
+    source: Expression,
+    batch: &Column,
+    fault: &str,
+) -> Result<(), Fail> {
+    refused(rt, alloc, evaluated(alloc, source, batch), fault)
+}
+
 #[test]
 fn cases_choose_the_first_true_condition(rt: HostRuntime) -> Result<(), Fail> {
     let alloc = rt.alloc();
@@ -82,7 +94,7 @@ fn structs_are_taken_apart_and_made(rt: HostRuntime) -> Result<(), Fail> {
     let nullable_x = with_x(&rt, alloc, i32_type(NonNullable), Nullable)?;
     let one = Value::Struct(vec![in alloc; Value::Int(1)]?);
     let rows = Column::try_new(nullable_x, vec![in alloc; Value::Null, one]?)?;
-    let row_5 = selected(alloc, FieldSelection::Include(names(alloc, &[])?))?;
+    let row_5 = select(alloc, names(alloc, &[])?, root())?;
     gives(&rt, alloc, row_5, &rows, "[null, {}]")?;
     let x = rows_of_x(&rt, alloc, &[Some(10), None])?;
     gives(&rt, alloc, item_of_pack(alloc)?, &x, "[10i32, null]")
@@ -96,14 +108,13 @@ fn a_repeated_name_is_its_first_field(rt: HostRuntime) -> Result<(), Fail> {
     let text = Value::Utf8(String::from_str(alloc, "t")?);
     let row = Value::Struct(vec![in alloc; Value::Int(1), text]?);
     let rows = Column::try_new(x_twice, vec![in alloc; row]?)?;
-    let row_22 = selected(alloc, FieldSelection::Exclude(names(alloc, &[])?))?;
+    let row_22 = select_exclude(alloc, names(alloc, &[])?, root())?;
     gives(&rt, alloc, row_22, &rows, "[{x: 1i32, x: 1i32}]")
 }
 
 /// `fill_null($.x, $.y)`
 fn fill(alloc: Global) -> VortexResult<Expression> {
-    let children = vec![in alloc; col(alloc, "x")?, col(alloc, "y")?]?;
-    call(alloc, ScalarFnRef::FillNull(EmptyOptions), children)
+    fill_null(alloc, col(alloc, "x")?, col(alloc, "y")?)
 }
 
 /// Rows of `x`, of type `i32?`, and `y`, of type `i32`.
@@ -124,8 +135,7 @@ fn a_fill_is_one_value(rt: HostRuntime) -> Result<(), Fail> {
     let sevens = two_numbers(&rt, alloc, &[None, Some(3)], &[Some(7), Some(7)])?;
     gives(&rt, alloc, fill(alloc)?, &sevens, "[7i32, 3i32]")?;
     let two_fills = two_numbers(&rt, alloc, &[None, Some(3)], &[Some(1), Some(2)])?;
-    let refused = evaluated(alloc, fill(alloc)?, &two_fills);
-    assert!(rt; matches!(&refused, Err(VortexError::BadFill)));
+    faults(&rt, alloc, fill(alloc)?, &two_fills, BAD_FILL)?;
     let none = two_numbers(&rt, alloc, &[], &[])?;
     gives(&rt, alloc, fill(alloc)?, &none, "[]")
 }
@@ -138,13 +148,13 @@ fn liked(
     pattern: &str,
     case_insensitive: bool,
 ) -> Result<Column, Fail> {
-    let like = ScalarFnRef::Like(LikeOptions {
-        negated: false,
-        case_insensitive,
-    });
     let text = literal(alloc, Scalar::utf8(alloc, text)?)?;
     let pattern = literal(alloc, Scalar::utf8(alloc, pattern)?)?;
-    let source = call(alloc, like, vec![in alloc; text, pattern]?)?;
+    let source = if case_insensitive {
+        ilike(alloc, text, pattern)?
+    } else {
+        like(alloc, text, pattern)?
+    };
     let one = rows_of_x(rt, alloc, &[None])?;
     Ok(evaluated(alloc, source, &one)?)
 }
@@ -180,7 +190,6 @@ fn a_mask_makes_null(rt: HostRuntime) -> Result<(), Fail> {
     let x = numbers(alloc, &[Some(1), Some(2)])?;
     let m = vec![in alloc; Value::Bool(true), Value::Bool(false)]?;
     let rows = rows_of_two(&rt, alloc, DType::Bool(NonNullable), x, m)?;
-    let children = vec![in alloc; col(alloc, "x")?, col(alloc, "y")?]?;
-    let masked = call(alloc, ScalarFnRef::Mask(EmptyOptions), children)?;
+    let masked = mask(alloc, col(alloc, "x")?, col(alloc, "y")?)?;
     gives(&rt, alloc, masked, &rows, "[1i32, null]")
 }

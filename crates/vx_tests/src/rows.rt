@@ -1,14 +1,18 @@
 // Worked rows as runs: texts and types of trees, and refusals of binding.
-use crate::build::{binary, call, col, fields, i32_type, literal, names, prints};
+use crate::build::{binary, col, fields, i32_type, literal, named, names, prints, refused};
 use std::alloc::Global;
 use std::process::Abort;
 use std::rc::Rc;
 use std::test::Fail;
+use vx_build::{
+    case_when, cast, checked_add, eq, get_item, is_null, like, mask, nested_case_when, not, pack,
+    root, select, select_exclude, zip_expr,
+};
 use vx_tree::Nullability::{NonNullable, Nullable};
 use vx_tree::test_harness::struct_dtype;
 use vx_tree::{
-    CaseWhenOptions, DType, EmptyOptions, Expression, FieldName, FieldSelection, LikeOptions,
-    Nullability, Operator, PType, PackOptions, Scalar, ScalarFnRef, VortexError, VortexResult,
+    DType, EmptyOptions, Expression, FieldName, Nullability, Operator, PType, Scalar, ScalarFnRef,
+    VortexResult,
 };
 
 /// The struct type of the one field `x`.
@@ -22,50 +26,30 @@ pub fn with_x(
     Ok(DType::Struct(fields(rt, alloc, &["x"], types)?, nullability))
 }
 
-pub fn case(pairs: u32) -> ScalarFnRef {
-    ScalarFnRef::CaseWhen(CaseWhenOptions {
-        num_when_then_pairs: pairs,
-        has_else: true,
-    })
-}
-
 pub fn number(alloc: Global, value: i32) -> VortexResult<Expression> {
     literal(alloc, Scalar::from_i32(value))
 }
 
-/// `select(selection, pack([(a, 1), (b, 2)], nullability))`, each name of the selection twice.
+/// `pack([(a, 1), (b, 2)], nullability)`, of which `b` is selected twice.
 fn twice_selected(alloc: Global, nullability: Nullability) -> VortexResult<Expression> {
-    let pack = ScalarFnRef::Pack(PackOptions {
-        names: names(alloc, &["a", "b"])?,
-        nullability,
-    });
-    let packed = call(
-        alloc,
-        pack,
-        vec![in alloc; number(alloc, 1)?, number(alloc, 2)?]?,
-    )?;
-    let twice = FieldSelection::Include(names(alloc, &["b", "b"])?);
-    call(alloc, ScalarFnRef::Select(twice), vec![in alloc; packed]?)
+    let first = named(alloc, "a", number(alloc, 1)?)?;
+    let second = named(alloc, "b", number(alloc, 2)?)?;
+    let packed = pack(alloc, vec![in alloc; first, second]?, nullability)?;
+    select(alloc, names(alloc, &["b", "b"])?, packed)
 }
 
 /// A field of a nullable pack.
 pub fn item_of_pack(alloc: Global) -> VortexResult<Expression> {
-    let pack = ScalarFnRef::Pack(PackOptions {
-        names: names(alloc, &["a"])?,
-        nullability: Nullable,
-    });
-    let packed = call(alloc, pack, vec![in alloc; col(alloc, "x")?]?)?;
-    let name = FieldName::new(alloc, "a")?;
-    call(alloc, ScalarFnRef::GetItem(name), vec![in alloc; packed]?)
+    let only = named(alloc, "a", col(alloc, "x")?)?;
+    let packed = pack(alloc, vec![in alloc; only]?, Nullable)?;
+    get_item(alloc, FieldName::new(alloc, "a")?, packed)
 }
 
 /// 0 where x is null, else x.
 pub fn zero_for_null(alloc: Global) -> VortexResult<Expression> {
-    let null = ScalarFnRef::IsNull(EmptyOptions);
-    let mut children = vec![in alloc; call(alloc, null, vec![in alloc; col(alloc, "x")?]?)?]?;
-    children.push(number(alloc, 0)?)?;
-    children.push(col(alloc, "x")?)?;
-    call(alloc, case(1), children)
+    let null = is_null(alloc, col(alloc, "x")?)?;
+    let zero = number(alloc, 0)?;
+    case_when(alloc, null, zero, col(alloc, "x")?)
 }
 
 /// Whether x is above the number.
@@ -74,15 +58,18 @@ fn above(alloc: Global, bound: i32) -> VortexResult<Expression> {
     binary(alloc, Operator::Gt, col(alloc, "x")?, bound)
 }
 
+/// A value for where x is above the number.
+fn pair(alloc: Global, bound: i32, value: i32) -> VortexResult<(Expression, Expression)> {
+    let condition = above(alloc, bound)?;
+    Ok((condition, number(alloc, value)?))
+}
+
 /// 10 where x is above 0, 20 where it is above 3, else 30.
 pub fn two_cases(alloc: Global) -> VortexResult<Expression> {
-    let mut children = Vec::new(alloc);
-    for (bound, value) in [(0, 10), (3, 20)] {
-        children.push(above(alloc, bound)?)?;
-        children.push(number(alloc, value)?)?;
-    }
-    children.push(number(alloc, 30)?)?;
-    call(alloc, case(2), children)
+    let first = pair(alloc, 0, 10)?;
+    let second = pair(alloc, 3, 20)?;
+    let pairs = vec![in alloc; first, second]?;
+    nested_case_when(alloc, pairs, Some(number(alloc, 30)?))
 }
 
 /// Asserts the text of the source and of what it is bound to, and the type.
@@ -108,38 +95,27 @@ fn rows_of_cases_have_their_text_and_type(rt: HostRuntime) -> Result<(), Fail> {
     let row_7 = "CASE WHEN vortex.is_null($.x) THEN 0i32 ELSE $.x END";
     shows(&rt, alloc, zero_for_null(alloc)?, &x, row_7, "i32?")?;
     let row_8 = "CASE WHEN ($.x > 0i32) THEN 10i32 WHEN ($.x > 3i32) THEN 20i32 ELSE 30i32 END";
-    shows(&rt, alloc, two_cases(alloc)?, &x, row_8, "i32")?;
-    let truth = literal(alloc, Scalar::from_bool(true))?;
-    let children = vec![in alloc; number(alloc, 1)?, Expression::Root, truth]?;
-    let row_9 = call(alloc, ScalarFnRef::Zip(EmptyOptions), children)?;
-    shows(
-        &rt,
-        alloc,
-        row_9,
-        &i32_type(Nullable),
-        "zip(1i32, $, true)",
-        "i32?",
-    )
+    shows(&rt, alloc, two_cases(alloc)?, &x, row_8, "i32")
 }
 
-/// A selection over the scope.
-pub fn selected(alloc: Global, selection: FieldSelection) -> VortexResult<Expression> {
-    call(
-        alloc,
-        ScalarFnRef::Select(selection),
-        vec![in alloc; Expression::Root]?,
-    )
+#[test]
+fn a_row_of_zip_has_its_text_and_type(rt: HostRuntime) -> Result<(), Fail> {
+    let alloc = rt.alloc();
+    let truth = literal(alloc, Scalar::from_bool(true))?;
+    let row_9 = zip_expr(alloc, truth, number(alloc, 1)?, root())?;
+    let scope = i32_type(Nullable);
+    shows(&rt, alloc, row_9, &scope, "zip(1i32, $, true)", "i32?")
 }
 
 #[test]
 fn rows_of_selections_have_their_text_and_type(rt: HostRuntime) -> Result<(), Fail> {
     let alloc = rt.alloc();
     let nullable_x = with_x(&rt, alloc, i32_type(NonNullable), Nullable)?;
-    let row_5 = selected(alloc, FieldSelection::Include(names(alloc, &[])?))?;
+    let row_5 = select(alloc, names(alloc, &[])?, root())?;
     shows(&rt, alloc, row_5, &nullable_x, "${}", "{}?")?;
     let types = vec![in alloc; i32_type(NonNullable), DType::Utf8(NonNullable)]?;
     let x_twice = DType::Struct(fields(&rt, alloc, &["x", "x"], types)?, NonNullable);
-    let row_22 = selected(alloc, FieldSelection::Exclude(names(alloc, &[])?))?;
+    let row_22 = select_exclude(alloc, names(alloc, &[])?, root())?;
     shows(&rt, alloc, row_22, &x_twice, "${~ }", "{x=i32, x=i32}")
 }
 
@@ -175,72 +151,59 @@ fn rows_of_packs_have_their_text_and_type(rt: HostRuntime) -> Result<(), Fail> {
     Ok(())
 }
 
-/// A node of the function over one child, put together by its fields.
-fn over_one(alloc: Global, scalar_fn: ScalarFnRef, child: Expression) -> Result<Expression, Fail> {
-    Ok(Expression::Scalar {
-        scalar_fn,
-        children: Rc::new(alloc, vec![in alloc; child]?)?,
-    })
+/// Asserts that the source isn't bound over the type of the harness, and by what refusal.
+fn unbound(rt: &impl Abort, alloc: Global, source: Expression, text: &str) -> Result<(), Fail> {
+    let scope = struct_dtype(alloc)?;
+    refused(rt, alloc, source.bind(alloc, &scope), text)
 }
 
 #[test]
 fn operators_refuse_other_kinds(rt: HostRuntime) -> Result<(), Fail> {
     let alloc = rt.alloc();
-    let scope = struct_dtype(alloc)?;
-    let equal = binary(alloc, Operator::Eq, Expression::Root, Expression::Root)?;
-    assert!(rt; matches!(equal.bind(alloc, &scope), Err(VortexError::NotComparable)));
+    let equal = eq(alloc, root(), root())?;
+    unbound(&rt, alloc, equal, "lists and structs aren't compared")?;
     let text = literal(alloc, Scalar::utf8(alloc, "t")?)?;
-    let sum = binary(alloc, Operator::Add, text.clone()?, text)?;
-    assert!(rt; matches!(sum.bind(alloc, &scope), Err(VortexError::NotNumeric)));
-    let like = ScalarFnRef::Like(LikeOptions {
-        negated: false,
-        case_insensitive: false,
-    });
-    let liked = call(
-        alloc,
-        like,
-        vec![in alloc; number(alloc, 1)?, number(alloc, 2)?]?,
-    )?;
-    assert!(rt; matches!(liked.bind(alloc, &scope), Err(VortexError::NotText)));
-    Ok(())
+    let sum = checked_add(alloc, text.clone()?, text)?;
+    unbound(&rt, alloc, sum, "a number type is needed")?;
+    let liked = like(alloc, number(alloc, 1)?, number(alloc, 2)?)?;
+    unbound(&rt, alloc, liked, "a text type is needed")
 }
 
 #[test]
-fn casts_masks_and_cases_refuse_other_types(rt: HostRuntime) -> Result<(), Fail> {
+fn casts_and_masks_refuse_other_types(rt: HostRuntime) -> Result<(), Fail> {
     let alloc = rt.alloc();
-    let scope = struct_dtype(alloc)?;
-    let wide = ScalarFnRef::Cast(DType::Primitive(PType::I64, NonNullable));
-    let cast = call(alloc, wide, vec![in alloc; number(alloc, 1)?]?)?;
-    assert!(rt; matches!(cast.bind(alloc, &scope), Err(VortexError::BaseTypesDiffer)));
+    let wide = DType::Primitive(PType::I64, NonNullable);
+    let cast = cast(alloc, number(alloc, 1)?, wide)?;
+    unbound(&rt, alloc, cast, "types differ in more than nullability")?;
     let maybe = literal(alloc, Scalar::null(DType::Bool(Nullable)))?;
-    let children = vec![in alloc; number(alloc, 1)?, maybe]?;
-    let masked = call(alloc, ScalarFnRef::Mask(EmptyOptions), children)?;
-    assert!(rt; matches!(masked.bind(alloc, &scope), Err(VortexError::NotBool)));
-    let children = vec![in alloc; col(alloc, "a")?, number(alloc, 1)?, number(alloc, 2)?]?;
-    let chosen = call(alloc, case(1), children)?;
-    assert!(rt; matches!(chosen.bind(alloc, &scope), Err(VortexError::NotBool)));
-    Ok(())
+    let masked = mask(alloc, number(alloc, 1)?, maybe)?;
+    unbound(&rt, alloc, masked, "a truth type is needed")
+}
+
+#[test]
+fn cases_refuse_other_conditions(rt: HostRuntime) -> Result<(), Fail> {
+    let alloc = rt.alloc();
+    let condition = col(alloc, "a")?;
+    let first = number(alloc, 1)?;
+    let chosen = case_when(alloc, condition, first, number(alloc, 2)?)?;
+    unbound(&rt, alloc, chosen, "a truth type is needed")
+}
+
+/// A zip of one child, put together by its fields.
+fn zip_of_one(alloc: Global, child: Expression) -> VortexResult<Expression> {
+    Ok(Expression::Scalar {
+        scalar_fn: ScalarFnRef::Zip(EmptyOptions),
+        children: Rc::new(alloc, vec![in alloc; child]?)?,
+    })
 }
 
 #[test]
 fn a_child_is_refused_before_its_node(rt: HostRuntime) -> Result<(), Fail> {
     let alloc = rt.alloc();
-    let scope = struct_dtype(alloc)?;
-    let unknown = over_one(alloc, ScalarFnRef::Zip(EmptyOptions), col(alloc, "zz")?)?;
-    let refused = unknown.bind(alloc, &scope);
-    assert!(rt; matches!(&refused, Err(VortexError::NoSuchField(name)) if name.as_str() == "zz"));
-    let lone = over_one(alloc, ScalarFnRef::Zip(EmptyOptions), Expression::Root)?;
-    let refused = lone.bind(alloc, &scope);
-    assert!(rt;
-        matches!(
-            refused,
-            Err(VortexError::ArityMismatch {
-                expected: 3,
-                got: 1
-            })
-        )
-    );
-    Ok(())
+    let unknown = zip_of_one(alloc, col(alloc, "zz")?)?;
+    unbound(&rt, alloc, unknown, "no such field: zz")?;
+    let lone = zip_of_one(alloc, root())?;
+    unbound(&rt, alloc, lone, "3 children are needed, and 1 given")
 }
 
 #[test]
@@ -248,7 +211,7 @@ fn deep_trees_bind_print_and_compare(rt: HostRuntime) -> Result<(), Fail> {
     let alloc = rt.alloc();
     let mut deep = literal(alloc, Scalar::from_bool(true))?;
     for _ in 0..1000 {
-        deep = call(alloc, ScalarFnRef::Not(EmptyOptions), vec![in alloc; deep]?)?;
+        deep = not(alloc, deep)?;
     }
     let bound = deep.bind(alloc, &i32_type(NonNullable))?;
     assert!(rt; *bound.dtype() == DType::Bool(NonNullable));

@@ -1,5 +1,5 @@
 // The tree texts of both trees: lines and bars, and what each function's children are called.
-use crate::build::{binary, call, col, fields, i32_type, literal, names, prints};
+use crate::build::{binary, col, fields, i32_type, literal, named, names, prints};
 use crate::rows::{number, zero_for_null};
 use std::alloc::Global;
 use std::fmt::Write;
@@ -43,14 +43,11 @@ fn fizz_and_buzz(alloc: Global) -> VortexResult<Expression> {
     let answer = col(alloc, "answer")?;
     let buzz = binary(alloc, Operator::Eq, number(alloc, 42)?, answer)?;
     let five = number(alloc, 5)?;
-    let pack = ScalarFnRef::Pack(PackOptions {
-        names: names(alloc, &["fizz", "bar", "buzz"])?,
-        nullability: Nullable,
-    });
-    let packed = call(alloc, pack, vec![in alloc; Expression::Root, five, buzz]?)?;
-    let selection = FieldSelection::Include(names(alloc, &["fizz", "buzz"])?);
-    let select = ScalarFnRef::Select(selection);
-    call(alloc, select, vec![in alloc; packed]?)
+    let fizz = named(alloc, "fizz", vx_build::root())?;
+    let bar = named(alloc, "bar", five)?;
+    let buzz = named(alloc, "buzz", buzz)?;
+    let packed = vx_build::pack(alloc, vec![in alloc; fizz, bar, buzz]?, Nullable)?;
+    vx_build::select(alloc, names(alloc, &["fizz", "buzz"])?, packed)
 }
 
 #[test]

@@ -1,13 +1,14 @@
 // Trees: their texts, children, binding and refusals.
-use crate::build::{binary, col, fields, i32_type, literal, names, prints};
+use crate::build::{binary, col, fields, i32_type, literal, names, prints, refused};
 use std::alloc::Global;
 use std::process::Abort;
 use std::test::Fail;
+use vx_build::{root, select_exclude};
 use vx_tree::Nullability::{NonNullable, Nullable};
 use vx_tree::test_harness::struct_dtype;
 use vx_tree::{
     Binary, BoundExpression, CaseWhenOptions, DType, EmptyOptions, ExprDisplay, Expression,
-    FieldSelection, GetItem, Operator, Scalar, ScalarFnRef, Scope, VortexError, VortexResult,
+    GetItem, IsNull, Operator, Scalar, ScalarFnRef, Scope, VortexError, VortexResult,
 };
 
 /// `(($.x >= null) and ($.x <= 5i32))`
@@ -52,7 +53,7 @@ fn a_scope_is_its_type(rt: HostRuntime) -> Result<(), Fail> {
 }
 
 #[test]
-fn binding_refuses_children_first(rt: HostRuntime) -> Result<(), Fail> {
+fn a_number_is_no_text(rt: HostRuntime) -> Result<(), Fail> {
     let alloc = rt.alloc();
     let scope = struct_dtype(alloc)?;
     let nope = literal(alloc, Scalar::utf8(alloc, "nope")?)?;
@@ -63,16 +64,17 @@ fn binding_refuses_children_first(rt: HostRuntime) -> Result<(), Fail> {
             Err(VortexError::BaseTypesDiffer)
         )
     );
-    assert!(rt;
-        matches!(
-            compared.return_dtype(alloc, &scope),
-            Err(VortexError::BaseTypesDiffer)
-        )
-    );
-    let unknown = binary(alloc, Operator::And, col(alloc, "zz")?, compared)?;
-    let refused = unknown.bind(alloc, &scope);
-    assert!(rt; matches!(&refused, Err(VortexError::NoSuchField(name)) if name.as_str() == "zz"));
-    Ok(())
+    let dtype = compared.return_dtype(alloc, &scope);
+    refused(&rt, alloc, dtype, "types differ in more than nullability")
+}
+
+#[test]
+fn binding_refuses_children_first(rt: HostRuntime) -> Result<(), Fail> {
+    let alloc = rt.alloc();
+    let compared = binary(alloc, Operator::Eq, root(), root())?;
+    let both = binary(alloc, Operator::And, col(alloc, "zz")?, compared)?;
+    let answer = both.bind(alloc, &struct_dtype(alloc)?);
+    refused(&rt, alloc, answer, "no such field: zz")
 }
 
 #[test]
@@ -85,11 +87,9 @@ fn the_harness_has_its_type(rt: HostRuntime) -> Result<(), Fail> {
 #[test]
 fn an_unknown_name_is_refused_where_it_is_left_out(rt: HostRuntime) -> Result<(), Fail> {
     let alloc = rt.alloc();
-    let left_out = ScalarFnRef::Select(FieldSelection::Exclude(names(alloc, &["zz"])?));
-    let selected = Expression::try_new(alloc, left_out, vec![in alloc; Expression::Root]?)?;
-    let refused = selected.bind(alloc, &struct_dtype(alloc)?);
-    assert!(rt; matches!(&refused, Err(VortexError::NoSuchField(name)) if name.as_str() == "zz"));
-    Ok(())
+    let left_out = select_exclude(alloc, names(alloc, &["zz"])?, root())?;
+    let answer = left_out.bind(alloc, &struct_dtype(alloc)?);
+    refused(&rt, alloc, answer, "no such field: zz")
 }
 
 #[test]
@@ -100,44 +100,34 @@ fn a_case_needs_a_pair(rt: HostRuntime) -> Result<(), Fail> {
         has_else: false,
     });
     let empty = Expression::try_new(alloc, no_pairs, Vec::new(alloc))?;
-    assert!(rt;
-        matches!(
-            empty.bind(alloc, &struct_dtype(alloc)?),
-            Err(VortexError::NoPairs)
-        )
-    );
-    Ok(())
+    let answer = empty.bind(alloc, &struct_dtype(alloc)?);
+    refused(&rt, alloc, answer, "a CASE without a pair")
 }
 
-/// Whether the answer is that refusal of a number of children.
-fn is_arity_mismatch<T>(answer: &VortexResult<T>, wanted: usize, given: usize) -> bool {
-    matches!(answer, Err(VortexError::ArityMismatch { expected, got }) if *expected == wanted && *got == given)
-}
+const ONE_OF_THREE: &str = "3 children are needed, and 1 given";
 
 #[test]
 fn a_wrong_number_of_children_is_refused(rt: HostRuntime) -> Result<(), Fail> {
     let alloc = rt.alloc();
-    let one = vec![in alloc; Expression::Root]?;
+    let one = vec![in alloc; root()]?;
     let compared = Expression::try_new(alloc, ScalarFnRef::Binary(Operator::Eq), one);
-    assert!(rt; is_arity_mismatch(&compared, 2, 1));
-    let one = vec![in alloc; Expression::Root]?;
+    refused(&rt, alloc, compared, "2 children are needed, and 1 given")?;
+    let one = vec![in alloc; root()]?;
     let zipped = Expression::try_new(alloc, ScalarFnRef::Zip(EmptyOptions), one);
-    assert!(rt; is_arity_mismatch(&zipped, 3, 1));
+    refused(&rt, alloc, zipped, ONE_OF_THREE)?;
     let one = vec![in alloc; BoundExpression::new_root(i32_type(Nullable))]?;
     let bound = BoundExpression::try_new(alloc, ScalarFnRef::Zip(EmptyOptions), one);
-    assert!(rt; is_arity_mismatch(&bound, 3, 1));
-    Ok(())
+    refused(&rt, alloc, bound, ONE_OF_THREE)
 }
 
 #[test]
 fn a_node_refuses_a_wrong_number_of_other_children(rt: HostRuntime) -> Result<(), Fail> {
     let alloc = rt.alloc();
     let item = col(alloc, "x")?.with_children(alloc, Vec::new(alloc));
-    assert!(rt; is_arity_mismatch(&item, 1, 0));
-    let one = vec![in alloc; Expression::Root]?;
-    let root = Expression::Root.with_children(alloc, one);
-    assert!(rt; matches!(&root, Err(VortexError::RootChildren { got: 1 })));
-    Ok(())
+    refused(&rt, alloc, item, "1 children are needed, and 0 given")?;
+    let one = vec![in alloc; root()]?;
+    let answer = root().with_children(alloc, one);
+    refused(&rt, alloc, answer, "1 children given to the scope root")
 }
 
 #[test]
@@ -180,30 +170,49 @@ fn bound_nodes_show_their_function_and_children(rt: HostRuntime) -> Result<(), F
 }
 
 #[test]
+fn a_tree_contains_the_functions_of_its_nodes(rt: HostRuntime) -> Result<(), Fail> {
+    let alloc = rt.alloc();
+    let source = range_of_x(alloc)?;
+    assert!(rt; source.contains::<Binary>() && source.contains::<GetItem>());
+    assert!(rt; !source.contains::<IsNull>());
+    let bound = source.bind(alloc, &scope_of_x(&rt, alloc)?)?;
+    assert!(rt; bound.contains::<Binary>() && bound.contains::<GetItem>());
+    assert!(rt; !bound.contains::<IsNull>());
+    Ok(())
+}
+
+/// `($.bool1 or $.bool2)`
+fn either(alloc: Global) -> VortexResult<Expression> {
+    let first = col(alloc, "bool1")?;
+    binary(alloc, Operator::Or, first, col(alloc, "bool2")?)
+}
+
+#[test]
 fn a_node_takes_other_children(rt: HostRuntime) -> Result<(), Fail> {
     let alloc = rt.alloc();
-    let scope = struct_dtype(alloc)?;
-    let source = binary(
-        alloc,
-        Operator::Or,
-        col(alloc, "bool1")?,
-        col(alloc, "bool2")?,
-    )?;
-    let bound = source.clone()?.bind(alloc, &scope)?;
     let swapped = vec![in alloc; col(alloc, "bool2")?, col(alloc, "bool1")?]?;
-    let swapped = source.with_children(alloc, swapped)?;
-    assert_eq!(rt;
-        format!(in alloc; "{swapped}")?.as_str(),
-        "($.bool2 or $.bool1)"
-    );
+    let swapped = either(alloc)?.with_children(alloc, swapped)?;
+    prints(&rt, alloc, swapped, "($.bool2 or $.bool1)")
+}
+
+#[test]
+fn a_bound_node_takes_other_children(rt: HostRuntime) -> Result<(), Fail> {
+    let alloc = rt.alloc();
+    let bound = either(alloc)?.bind(alloc, &struct_dtype(alloc)?)?;
     let mut children = Vec::new(alloc);
     for child in bound.children() {
         children.push(child.clone()?)?;
     }
     let again = bound.clone()?.with_children(alloc, children)?;
     assert!(rt; again == bound);
+    Ok(())
+}
+
+#[test]
+fn a_bound_root_has_no_children(rt: HostRuntime) -> Result<(), Fail> {
+    let alloc = rt.alloc();
     let root = BoundExpression::new_root(struct_dtype(alloc)?);
-    assert!(rt; root.is_root() && *root.dtype() == scope);
+    assert!(rt; root.is_root() && *root.dtype() == struct_dtype(alloc)?);
     let unchanged = root.with_children(alloc, Vec::new(alloc))?;
     assert!(rt; unchanged.is_root());
     Ok(())
@@ -212,15 +221,10 @@ fn a_node_takes_other_children(rt: HostRuntime) -> Result<(), Fail> {
 #[test]
 fn validity_is_a_truth_value(rt: HostRuntime) -> Result<(), Fail> {
     let alloc = rt.alloc();
-    let root = Expression::Root.bind(alloc, &i32_type(Nullable))?;
-    let valid = root.validity(alloc)?;
-    assert_eq!(rt;
-        format!(in alloc; "{valid}")?.as_str(),
-        "vortex.is_not_null($)"
-    );
+    let valid = root().bind(alloc, &i32_type(Nullable))?.validity(alloc)?;
     assert!(rt; *valid.dtype() == DType::Bool(NonNullable));
+    prints(&rt, alloc, valid, "vortex.is_not_null($)")?;
     let null = literal(alloc, Scalar::null(i32_type(Nullable)))?;
     let never = null.bind(alloc, &i32_type(Nullable))?.validity(alloc)?;
-    assert_eq!(rt; format!(in alloc; "{never}")?.as_str(), "false");
-    Ok(())
+    prints(&rt, alloc, never, "false")
 }

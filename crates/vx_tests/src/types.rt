@@ -1,5 +1,5 @@
 // Names, types and their fields.
-use crate::build::{fields, i32_type, names, prints};
+use crate::build::{fields, i32_type, names, prints, refused};
 use std::alloc::Global;
 use std::process::Abort;
 use std::test::Fail;
@@ -53,8 +53,8 @@ fn projections_follow_the_names(rt: HostRuntime) -> Result<(), Fail> {
     ]?;
     let row = fields(&rt, alloc, &["x", "y", "x"], types)?;
     let some = row.project(alloc, &names(alloc, &["y", "x"])?)?;
-    let refused = row.project(alloc, &names(alloc, &["y", "z", "w"])?);
-    assert!(rt; matches!(&refused, Err(VortexError::NoSuchField(name)) if name.as_str() == "z"));
+    let unknown = row.project(alloc, &names(alloc, &["y", "z", "w"])?);
+    refused(&rt, alloc, unknown, "no such field: z")?;
     let projected = DType::Struct(some, NonNullable);
     assert!(rt; projected.as_struct_fields_opt().is_some());
     assert!(rt; i32_type(Nullable).as_struct_fields_opt().is_none());

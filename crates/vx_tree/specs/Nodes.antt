@@ -1,5 +1,5 @@
 -- What is at a node of a tree, and the node over other children.
-use Rattle.std.specs.Prelude.{ℕ, zero, suc, ◌+◌, ◌==◌, Bool, true, false, ◌&&◌, Option, Some, None, option_and_then, Result, Ok, Err, if◌then◌else◌}
+use Rattle.std.specs.Prelude.{ℕ, zero, suc, ◌+◌, ◌==◌, Bool, true, false, ◌&&◌, ◌||◌, Option, Some, None, option_and_then, Result, Ok, Err, if◌then◌else◌}
 use Rattle.vx_dtype.specs.declared.error.VortexError.{VortexError}
 use Rattle.vx_dtype.specs.declared.error.VortexError.TheVariants.{ArityMismatch, RootChildren}
 use Rattle.vx_types.specs.Equality.{equal_type}
@@ -22,6 +22,16 @@ function_at (call f es) = Some f
 abbrev pub is_call_of : (Function → Bool) → Tree → Bool
 is_call_of p root = false
 is_call_of p (call f es) = p f
+
+-- whether some node of the tree is a function node whose function passes the test
+abbrev mutual
+  pub has_call_of : (Function → Bool) → Tree → Bool
+  has_call_of p root = false
+  has_call_of p (call f es) = p f || have_call_of p es
+
+  pub have_call_of : (Function → Bool) → Trees → Bool
+  have_call_of p no_tree = false
+  have_call_of p (tree e es) = has_call_of p e || have_call_of p es
 
 -- the function, if it passes the test
 abbrev pub passing : (Function → Bool) → Function → Option Function
