@@ -82,7 +82,10 @@ pub(crate) fn map_siblings<N: Node, V: ElementMapper<N>>(
     ensures ready { V.ready mapper.new }
 {
     let children = parent.children_slice();
-    if index == children.len() || order == TraversalOrder::Stop {
+    if index == children.len() {
+        return stay(alloc, children, index, order, changed);
+    }
+    if let TraversalOrder::Stop = order {
         return stay(alloc, children, index, order, changed);
     }
     let child = children[index].clone()?;
