@@ -1,2 +1,4 @@
 pub mod Calls
 pub mod Rows
+pub mod Steps
+pub mod Walking

@@ -1,14 +1,21 @@
 // Walks over trees: visitors, rewriters, folds, and containers of nodes.
 #![tactic(auto)]
 
+mod closures;
 mod elements;
+mod ext;
 mod node;
 mod order;
+mod pre_order;
 mod siblings;
 mod transformed;
 mod trees;
+mod visit;
 
 pub use elements::{ElementMapper, ElementVisitor};
+pub use ext::NodeExt;
 pub use node::Node;
 pub use order::TraversalOrder;
+pub use pre_order::pre_order_visit_down;
 pub use transformed::Transformed;
+pub use visit::NodeVisitor;
