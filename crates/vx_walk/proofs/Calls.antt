@@ -1,5 +1,5 @@
 -- Loops that visit elements one after another.
-use Rattle.std.proofs.Common.{◌≡◌, ℕ, suc, ◌+◌, ◌<◌, ◌≤◌, List, [], ◌∷◌, length, map, get_or, drop, add-one, refl, sym, subst, Ok, Err}
+use Rattle.std.proofs.Common.{◌≡◌, ℕ, suc, ◌+◌, ◌<◌, ◌≤◌, List, [], ◌∷◌, length, map, get_or, drop, add-one, refl, sym, subst, Ok, Err, ◌⊎◌, inl, inr}
 use Rattle.std.proofs.Math.Seq.{drop-cons}
 use Rattle.std.proofs.lemmas.List.{drop_all}
 use Rattle.vx_dtype.specs.declared.error.VortexError.{VortexError}
@@ -46,3 +46,16 @@ module _ {V N M : Type 0} (mirror : N → M) (C : V → M → Answer → V → T
   -- no node is left
   pub Seen-end : (all : List N) (ms : List M) (i : ℕ) {v w : V} {o : TraversalOrder} → length all ≤ i → Reached C ms (map mirror (drop i all)) v w o → Applied C Continue ms v (Ok o) w
   Seen-end all ms i h r = Reached-done C (rw (drop_all i all h) at r)
+
+module _ {V N : Type 0} (C : V → N → Answer → V → Type 0) where
+  -- the last element's answer is the answer
+  pub Applied-one : {o : TraversalOrder} {x : N} {v w : V} {a : Answer} → C v x a w → Applied C o (x ∷ []) v a w
+  Applied-one {a = Ok Stop} c = stop c
+  Applied-one {a = Ok Skip} c = next c (λ e. cc) done
+  Applied-one {a = Ok Continue} c = next c (λ e. cc) done
+  Applied-one {a = Err e} c = fail c
+
+-- Skip and Continue go on
+pub GoesOn-from_cases : {o : TraversalOrder} → (o ≡ Skip) ⊎ (o ≡ Continue) → GoesOn o
+GoesOn-from_cases (inl a) q = cc
+GoesOn-from_cases (inr a) q = cc

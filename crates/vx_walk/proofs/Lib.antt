@@ -1,4 +1,5 @@
 pub mod Calls
+pub mod Mappings
 pub mod Rows
 pub mod Steps
 pub mod Walking

@@ -33,7 +33,7 @@ AreBack-front f false x None None xs b i = tt
 
 -- ---- siblings that stay, and siblings without memory
 
-or_false : (c : Bool) → c || false ≡ c
+pub or_false : (c : Bool) → c || false ≡ c
 or_false true = refl
 or_false false = refl
 

@@ -4,3 +4,4 @@ pub mod Walks
 pub mod Mapping
 pub mod Heights
 pub mod Siblings
+pub mod Containers

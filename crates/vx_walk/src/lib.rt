@@ -2,6 +2,8 @@
 #![tactic(auto)]
 
 mod closures;
+mod container;
+mod containers;
 mod elements;
 mod ext;
 mod node;
@@ -12,6 +14,7 @@ mod transformed;
 mod trees;
 mod visit;
 
+pub use container::{NodeContainer, apply_ref_elements};
 pub use elements::{ElementMapper, ElementVisitor};
 pub use ext::NodeExt;
 pub use node::Node;
