@@ -53,7 +53,7 @@ IsRow-front f c d x later (Ok r) (Ok s) k i = inl (i.0 ∙ k.0, rw (← or_assoc
 IsRow-front f c d x later (Ok r) (Err e) k i = inr (i, refl)
 IsRow-front f c d x later (Err e) result k i = absurd k
 
-in_front-ok : {A : Type 0} (x : A) (c : Bool) (r : Back (List A)) → IsOk (in_front x c r) → IsOk r
+pub in_front-ok : {A : Type 0} (x : A) (c : Bool) (r : Back (List A)) → IsOk (in_front x c r) → IsOk r
 in_front-ok x c (Ok r) h = h
 in_front-ok x c (Err e) h = h
 

@@ -1,5 +1,6 @@
 -- Siblings that were handed back, as the code keeps them: from the last to the first where one was changed.
 use Rattle.std.specs.Prelude.{◌≡◌, List, [], ◌∷◌, ◌++◌, map, reverse, Option, Some, None, Result, Ok, Err, Bool, true, false, ◌||◌}
+use Rattle.std.specs.List.{FoldsTo}
 use Rattle.std.specs.declared.vec.Vec.{Vec}
 use Rattle.std.specs.declared.alloc.Global.{Global}
 use Rattle.vx_dtype.specs.declared.error.VortexError.{VortexError}
@@ -7,6 +8,8 @@ use Rattle.vx_walk.specs.declared.siblings.Siblings.{Siblings}
 use Rattle.vx_walk.specs.Handed.{Back}
 use Rattle.vx_walk.specs.declared.order.TraversalOrder.{TraversalOrder}
 use Rattle.vx_walk.specs.Mapping.{MappedAll}
+use Rattle.vx_walk.specs.Rewrites.{RewriteAll}
+use Rattle.vx_walk.specs.Walks.{Event, Step}
 
 -- the siblings, seen by f, are xs, last first; nothing is kept of them where none was changed
 abbrev pub AreBack : {N M : Type 0} → (N → M) → Bool → Option (Vec N Global) → List M → Type 0
@@ -26,6 +29,14 @@ IsRow f c (Err e) (Err d) = e ≡ d
 pub record MapsRow {V N M : Type 0} (f : N → M) (C : V → M → Back M → V → Type 0) (o : TraversalOrder) (c : Bool) (v : V) (ms : List M) (result : Result (Siblings N) VortexError) (w : V) : Type 0 where
   pub row : Back (List M)
   pub is : MappedAll C o v ms row w
+  pub told : IsRow f c result row
+
+-- the siblings are rewritten with these steps, and the code's siblings are what is handed back
+pub record RewritesRow {V N M : Type 0} (f : N → M) (kids : M → List M) (B : M → List M → Result M VortexError → Type 0) (D U : V → M → Back M → V → Type 0) (o : TraversalOrder) (c : Bool) (v : V) (ms : List M) (result : Result (Siblings N) VortexError) (w : V) : Type 0 where
+  pub row : Back (List M)
+  pub events : List (Event M (Back M))
+  pub is : RewriteAll kids B o ms events row
+  pub steps : FoldsTo (Step D U) v events w
   pub told : IsRow f c result row
 
 -- the same with x in front
