@@ -1,5 +1,5 @@
 -- Loops that visit elements one after another.
-use Rattle.std.proofs.Common.{◌≡◌, ℕ, suc, ◌+◌, ◌<◌, ◌≤◌, List, [], ◌∷◌, length, map, get_or, drop, add-one, refl, sym, subst, Ok, Err, ◌⊎◌, inl, inr}
+use Rattle.std.proofs.Common.{◌≡◌, ℕ, suc, ◌+◌, ◌<◌, ◌≤◌, List, [], ◌∷◌, length, map, get_or, drop, add-one, sym, subst, Ok, Err, ◌⊎◌, inl, inr}
 use Rattle.std.proofs.Math.Seq.{drop-cons}
 use Rattle.std.proofs.lemmas.List.{drop_all}
 use Rattle.vx_dtype.specs.declared.error.VortexError.{VortexError}
@@ -31,7 +31,7 @@ module _ {V N : Type 0} (C : V → N → Answer → V → Type 0) where
   -- the element x stands at i
   pub Reached-at : (all : List N) (i : ℕ) (x : N) {v w : V} {o : TraversalOrder} → i < length all → x ≡ get_or all i x → Reached all (drop i all) v w o → Reached all (x ∷ drop (i + 1) all) v w o
   Reached-at all i x {v} {w} {o} h e r =
-    rw add-one (subst (λ y. Reached all (y ∷ drop (suc i) all) v w o) (sym e) (rw (drop-cons all i x h) at r))
+      rw add-one (subst (λ y. Reached all (y ∷ drop (suc i) all) v w o) (sym e) (rw (drop-cons all i x h) at r))
 
   -- no element is left
   pub Reached-end : (all : List N) (i : ℕ) {v w : V} {o : TraversalOrder} → length all ≤ i → Reached all (drop i all) v w o → Applied C Continue all v (Ok o) w
@@ -41,7 +41,7 @@ module _ {V N M : Type 0} (mirror : N → M) (C : V → M → Answer → V → T
   -- the node x stands at i
   pub Seen-at : (all : List N) (ms : List M) (i : ℕ) (x : N) {v w : V} {o : TraversalOrder} → i < length all → x ≡ get_or all i x → Reached C ms (map mirror (drop i all)) v w o → Reached C ms (mirror x ∷ map mirror (drop (i + 1) all)) v w o
   Seen-at all ms i x {v} {w} {o} h e r =
-    rw add-one (subst (λ y. Reached C ms (mirror y ∷ map mirror (drop (suc i) all)) v w o) (sym e) (rw (drop-cons all i x h) at r))
+      rw add-one (subst (λ y. Reached C ms (mirror y ∷ map mirror (drop (suc i) all)) v w o) (sym e) (rw (drop-cons all i x h) at r))
 
   -- no node is left
   pub Seen-end : (all : List N) (ms : List M) (i : ℕ) {v w : V} {o : TraversalOrder} → length all ≤ i → Reached C ms (map mirror (drop i all)) v w o → Applied C Continue ms v (Ok o) w

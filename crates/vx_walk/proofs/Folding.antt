@@ -1,5 +1,5 @@
 -- The folds of siblings, one after another, and of a node over them.
-use Rattle.std.proofs.Common.{◌≡◌, ℕ, suc, ◌+◌, ◌<◌, ◌≤◌, List, [], ◌∷◌, ◌++◌, length, map, get_or, drop, add-one, append_assoc, append-nil, refl, ap, sym, subst, Result, Ok, Err}
+use Rattle.std.proofs.Common.{◌≡◌, ℕ, suc, ◌+◌, ◌<◌, ◌≤◌, List, [], ◌∷◌, ◌++◌, length, map, get_or, drop, add-one, append_assoc, append-nil, refl, sym, subst, Result, Ok, Err}
 use Rattle.std.specs.List.{FoldsTo}
 use Rattle.std.proofs.Math.Seq.{drop-cons}
 use Rattle.std.proofs.lemmas.List.{drop_all}
@@ -9,7 +9,7 @@ use Rattle.vx_walk.specs.declared.fold.FoldDownContext.{FoldDownContext}
 use Rattle.vx_walk.specs.declared.fold.FoldDownContext.TheVariants as Down
 use Rattle.vx_walk.specs.declared.fold.FoldUp.{FoldUp}
 use Rattle.vx_walk.specs.declared.fold.FoldUp.TheVariants as Up
-use Rattle.vx_walk.specs.Folds.{FoldEvent, down, up, FoldedRow, all, ended, in_front, Fold, FoldAll, refused, skipped, stopped, lost, cut, whole, none, next, end, fail, spent, FoldStep, Folded}
+use Rattle.vx_walk.specs.Folds.{FoldEvent, down, up, FoldedRow, all, ended, in_front, FoldAll, refused, skipped, stopped, lost, cut, whole, none, next, end, fail, spent, FoldStep, Folded}
 use Rattle.vx_walk.proofs.Steps.{FoldsTo-append}
 
 -- rs before the rest
@@ -47,41 +47,41 @@ module _ {V N M X R : Type 0} (mirror : N → M) (kids : M → List M) (D : V �
   FoldFront-next {y} {ns} {left} {n} {v} {w} {x} {rs} {r} f k = record {
     events = f.events ++ k.events;
     steps = FoldsTo-append (FoldStep mirror kids D U) v w x f.events k.events f.steps k.steps;
-    rest = λ fs a h. rw (append_assoc, ← before-in_front rs r a) (f.rest (k.events ++ fs) (in_front r a) (next a k.is h))
+    rest = λ fs a h. rw (append_assoc, ← before-in_front rs r a) (f.rest (k.events ++ fs) (in_front r a) (next a k.is h));
   }
 
   pub FoldFront-end_early : {y : X} {ns left : List M} {n : M} {v w x : V} {rs : List R} {r : R} → FoldFront y ns (n ∷ left) v w rs → Folded mirror kids D U y n w x (Ok (Up.Stop r)) → FoldedAll y ns v x (Ok (ended r))
   FoldFront-end_early {v = v} {w = w} {x = x} {r = r} f k = record {
     events = f.events ++ k.events;
     is = f.rest k.events (Ok (ended r)) (end k.is);
-    steps = FoldsTo-append (FoldStep mirror kids D U) v w x f.events k.events f.steps k.steps
+    steps = FoldsTo-append (FoldStep mirror kids D U) v w x f.events k.events f.steps k.steps;
   }
 
   pub FoldFront-fail : {y : X} {ns left : List M} {n : M} {v w x : V} {rs : List R} {e : VortexError} → FoldFront y ns (n ∷ left) v w rs → Folded mirror kids D U y n w x (Err e) → FoldedAll y ns v x (Err e)
   FoldFront-fail {v = v} {w = w} {x = x} {e = e} f k = record {
     events = f.events ++ k.events;
     is = f.rest k.events (Err e) (fail k.is);
-    steps = FoldsTo-append (FoldStep mirror kids D U) v w x f.events k.events f.steps k.steps
+    steps = FoldsTo-append (FoldStep mirror kids D U) v w x f.events k.events f.steps k.steps;
   }
 
   pub FoldFront-spent : {y : X} {ns left : List M} {v w : V} {rs : List R} → FoldFront y ns left v w rs → FoldedAll y ns v w (Err OutOfMemory)
   FoldFront-spent {v = v} {w = w} f = record {
     events = f.events ++ [];
     is = f.rest [] (Err OutOfMemory) spent;
-    steps = FoldsTo-append (FoldStep mirror kids D U) v w w f.events [] f.steps refl
+    steps = FoldsTo-append (FoldStep mirror kids D U) v w w f.events [] f.steps refl;
   }
 
   pub FoldFront-done : {y : X} {ns : List M} {v w : V} {rs : List R} → FoldFront y ns [] v w rs → FoldedAll y ns v w (Ok (all rs))
   FoldFront-done {y} {ns} {v} {w} {rs} f = record {
     events = f.events ++ [];
     is = subst (λ z. FoldAll kids y ns (f.events ++ []) (Ok (all z))) (append-nil rs) (f.rest [] (Ok (all [])) none);
-    steps = FoldsTo-append (FoldStep mirror kids D U) v w w f.events [] f.steps refl
+    steps = FoldsTo-append (FoldStep mirror kids D U) v w w f.events [] f.steps refl;
   }
 
   -- the sibling x stands at i
   pub FoldFront-at : (items : List N) (i : ℕ) (x : N) {y : X} {ns : List M} {v w : V} {rs : List R} → i < length items → x ≡ get_or items i x → FoldFront y ns (map mirror (drop i items)) v w rs → FoldFront y ns (mirror x ∷ map mirror (drop (i + 1) items)) v w rs
   FoldFront-at items i x {y} {ns} {v} {w} {rs} h e f =
-    rw add-one (subst (λ z. FoldFront y ns (mirror z ∷ map mirror (drop (suc i) items)) v w rs) (sym e) (rw (drop-cons items i x h) at f))
+      rw add-one (subst (λ z. FoldFront y ns (mirror z ∷ map mirror (drop (suc i) items)) v w rs) (sym e) (rw (drop-cons items i x h) at f))
 
   pub FoldFront-end : (items : List N) (i : ℕ) {y : X} {ns : List M} {v w : V} {rs : List R} → length items ≤ i → FoldFront y ns (map mirror (drop i items)) v w rs → FoldedAll y ns v w (Ok (all rs))
   FoldFront-end items i h f = FoldFront-done (rw (drop_all i items h) at f)
@@ -105,5 +105,5 @@ module _ {V N M X R : Type 0} (mirror : N → M) (kids : M → List M) (D : V �
   Folded-whole {x} {y} n {u} {v} {w} {z} {rs} {a} d k s = record {
     events = down x (mirror n) (Ok (Down.Continue y)) ∷ (k.events ++ (up (mirror n) y rs a ∷ []));
     is = whole k.is;
-    steps = (v, (n, refl, d), FoldsTo-append (FoldStep mirror kids D U) v w z k.events (up (mirror n) y rs a ∷ []) k.steps (z, (n, refl, s), refl))
+    steps = (v, (n, refl, d), FoldsTo-append (FoldStep mirror kids D U) v w z k.events (up (mirror n) y rs a ∷ []) k.steps (z, (n, refl, s), refl));
   }

@@ -4,4 +4,5 @@ pub mod Mappings
 pub mod Rows
 pub mod Rewriting
 pub mod Steps
+pub mod Unchanged
 pub mod Walking

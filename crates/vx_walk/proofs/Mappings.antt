@@ -37,12 +37,12 @@ module _ {V N : Type 0} (C : V → N → Back N → V → Type 0) where
 
   pub MapFront-step : {all left : List N} {m : N} {v w x : V} {xs : List N} {o : TraversalOrder} {b : Bool} (h : Transformed N) → MapFront all (m ∷ left) v w xs o b → ((o ≡ Stop) × (x ≡ w) × (h ≡ record { value = m; order = Stop; changed = false })) ⊎ (GoesOn o × C w m (Ok h) x) → MapFront all left v x (xs ++ h.value ∷ []) h.order (b || h.changed)
   MapFront-step {all} {left} {m} {v} {w} {x} {xs} {o} {b} h f (inl k) =
-    let g : MapFront all (m ∷ left) v w xs Stop b = rw k.0 at f in
-    let s : MapFront all left v w (xs ++ m ∷ []) Stop (b || false) = record { rest = λ r y q. rw (← before-in_front xs b m false r) (g.rest (in_front m false r) y (keep r q)) } in
-    subst (λ y. MapFront all left v y (xs ++ h.value ∷ []) h.order (b || h.changed)) (sym k.1)
+      let g : MapFront all (m ∷ left) v w xs Stop b = rw k.0 at f in
+      let s : MapFront all left v w (xs ++ m ∷ []) Stop (b || false) = record { rest = λ r y q. rw (← before-in_front xs b m false r) (g.rest (in_front m false r) y (keep r q)) } in
+      subst (λ y. MapFront all left v y (xs ++ h.value ∷ []) h.order (b || h.changed)) (sym k.1)
       (subst (λ (z : Transformed N). MapFront all left v w (xs ++ z.value ∷ []) z.order (b || z.changed)) (sym k.2) s)
   MapFront-step {all} {left} {m} {v} {w} {x} {xs} {o} {b} h f (inr k) =
-    record { rest = λ r y q. rw (← before-in_front xs b h.value h.changed r) (f.rest (in_front h.value h.changed r) y (next r k.0 k.1 q)) }
+      record { rest = λ r y q. rw (← before-in_front xs b h.value h.changed r) (f.rest (in_front h.value h.changed r) y (next r k.0 k.1 q)) }
 
   pub MapFront-fail : {all left : List N} {m : N} {v w x : V} {xs : List N} {o : TraversalOrder} {b : Bool} {e : VortexError} → MapFront all (m ∷ left) v w xs o b → GoesOn o → C w m (Err e) x → MappedAll C Continue v all (Err e) x
   MapFront-fail {x = x} {e = e} f g c = f.rest (Err e) x (fail g c)
@@ -52,8 +52,8 @@ module _ {V N : Type 0} (C : V → N → Back N → V → Type 0) where
 
   pub MapFront-done : {all left : List N} {v w : V} {xs : List N} {o : TraversalOrder} {b : Bool} → left ≡ [] → MapFront all left v w xs o b → MappedAll C Continue v all (Ok (record { value = xs; order = o; changed = b })) w
   MapFront-done {all} {left} {v} {w} {xs} {o} {b} e g =
-    let f : MapFront all [] v w xs o b = rw e at g in
-    subst (λ a. MappedAll C Continue v all a w) (before-end xs o b) (f.rest (Ok (record { value = []; order = o; changed = false })) w none)
+      let f : MapFront all [] v w xs o b = rw e at g in
+      subst (λ a. MappedAll C Continue v all a w) (before-end xs o b) (f.rest (Ok (record { value = []; order = o; changed = false })) w none)
 
 pub empty_from_length : {X : Type 0} (xs : List X) (n : ℕ) → n ≡ 0 → n ≡ length xs → xs ≡ []
 empty_from_length [] n e l = refl

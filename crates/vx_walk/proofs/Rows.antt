@@ -1,6 +1,6 @@
 -- Siblings that are handed over and back, one after another.
-use Rattle.std.proofs.Common.{◌≡◌, ℕ, suc, ◌+◌, ◌<◌, ◌≤◌, List, [], ◌∷◌, ◌++◌, append_assoc, length, map, get_or, drop, add-one, refl, ap, sym, subst, ◌∙◌, arith, Result, Ok, Err, Bool, true, false, ◌||◌, ◌⊎◌, inl, inr, IfOk, IfErr, IsOk}
-use Rattle.std.specs.Prelude.{Option, Some, None, reverse, is_some, MatchResult}
+use Rattle.std.proofs.Common.{◌≡◌, ℕ, ◌+◌, ◌<◌, ◌≤◌, List, [], ◌∷◌, length, map, get_or, drop, add-one, refl, ap, sym, subst, ◌∙◌, arith, Result, Ok, Err, Bool, true, false, ◌||◌, ◌⊎◌, inl, inr, IfOk, IfErr, IsOk}
+use Rattle.std.specs.Prelude.{Option, Some, None, is_some, MatchResult}
 use Rattle.std.specs.declared.vec.Vec.{Vec}
 use Rattle.std.specs.declared.alloc.Global.{Global}
 use Rattle.std.specs.List.{Contains}
@@ -9,7 +9,7 @@ use Rattle.std.proofs.lemmas.List.{drop_all, drop-map, reverse-append, length-ma
 use Rattle.vx_dtype.specs.declared.error.VortexError.{VortexError}
 use Rattle.vx_dtype.specs.declared.error.VortexError.TheVariants.{OutOfMemory}
 use Rattle.vx_walk.specs.declared.order.TraversalOrder.{TraversalOrder}
-use Rattle.vx_walk.specs.declared.order.TraversalOrder.TheVariants.{Skip, Stop, Continue}
+use Rattle.vx_walk.specs.declared.order.TraversalOrder.TheVariants.{Stop, Continue}
 use Rattle.vx_walk.specs.declared.transformed.Transformed.{Transformed}
 use Rattle.vx_walk.specs.declared.siblings.Siblings.{Siblings}
 use Rattle.vx_walk.specs.Handed.{Back, in_front, looking, seen}
@@ -75,12 +75,16 @@ module _ {V N M : Type 0} (f : N → M) (C : V → M → Back M → V → Type 0
   -- no sibling is left, or the last answer was Stop
   pub MapsRow-stays : (o : TraversalOrder) (c : Bool) (v : V) (ms : List M) (result : Result (Siblings N) VortexError) → (o ≡ Stop) ⊎ (ms ≡ []) → MatchResult result (λ s. (s.order ≡ o) × AreBack f c s.handed_back ms) (λ e. e ≡ OutOfMemory) → MapsRow f C o c v ms result v
   MapsRow-stays o c v ms result k h = elim (IsRow-stays f c o ms result h) [
-      inl t ↦ record { row = _; is = elim k [
-          inl s ↦ rw s (MappedAll-stays C v ms)
+    | inl t ↦ record {
+      row = _;
+      is = elim k [
+        | inl s ↦ rw s (MappedAll-stays C v ms)
         | inr n ↦ rw n none
-        ]; told = t }
+      ];
+      told = t;
+    }
     | inr t ↦ record { row = Err OutOfMemory; is = spent; told = t }
-    ]
+  ]
 
   -- there was no memory for a clone
   pub MapsRow-spent : (o : TraversalOrder) (c : Bool) (v : V) (ms : List M) → MapsRow f C o c v ms (Err OutOfMemory) v
@@ -97,9 +101,9 @@ module _ {V N M : Type 0} (f : N → M) (C : V → M → Back M → V → Type 0
   -- a sibling in front of the later ones
   pub MapsRow-front : (o : TraversalOrder) (c : Bool) (u v w : V) (m : M) (ms : List M) (t : Transformed N) (later : Siblings N) (result : Result (Siblings N) VortexError) → GoesOn o → C u m (Ok (looking f t)) v → MapsRow f C t.order (c || t.changed) v ms (Ok later) w → MatchResult result (λ s. (s.order ≡ later.order) × InFront t.value later.handed_back s.handed_back) (λ e. e ≡ OutOfMemory) → MapsRow f C o c u (m ∷ ms) result w
   MapsRow-front o c u v w m ms t later result g s k h = elim (IsRow-front f c t.changed t.value later k.row result k.told h) [
-      inl q ↦ record { row = _; is = next k.row g s k.is; told = q }
+    | inl q ↦ record { row = _; is = next k.row g s k.is; told = q }
     | inr q ↦ record { row = Err OutOfMemory; is = next (Err OutOfMemory) g s (MappedAll-spent C k.row k.is q.1); told = q.0 }
-    ]
+  ]
 
 -- ---- the node over its siblings
 
@@ -140,6 +144,7 @@ MappedTo-rebuilt f B C ns n v w s result k h q = go k.row k.is k.told
     close : (r : Transformed (List _)) (result' : Back _) → MappedAll C Continue v ns (Ok r) w → IsRebuilt f B n r result' → MappedTo B C ns n v (seen f result')
     close r (Ok t) m b = rw (b.ok.0, b.ok.1) (back (f t.value) m b.ok.2)
     close r (Err e) m b = not_rebuilt m b.err
+
     go : (r : Back (List _)) → MappedAll C Continue v ns r w → IsRow f false (Ok s) r → MappedTo B C ns n v (seen f result)
     go (Err d) m t = absurd t
     go (Ok r) m t = close r result m (IsRebuilt-row f B n s r result t h q)
@@ -168,4 +173,4 @@ drop-seen f all ms i x k h e =
 -- a child is lower than its node
 pub child_is_lower : {N M : Type 0} (mirror : N → M) (kids : M → List M) (height : M → ℕ) → ((m k : M) → Contains (kids m) k → height k < height m) → (items : List N) (i : ℕ) (x : N) (n : M) → i < length items → x ≡ get_or items i x → map mirror items ≡ kids n → height (mirror x) < height n
 child_is_lower mirror kids height low items i x n h e k =
-  low n (mirror x) (subst (λ l. Contains l (mirror x)) k (i, rw length-map h, get_or-map mirror items i x (mirror x) h ∙ ap mirror (sym e)))
+    low n (mirror x) (subst (λ l. Contains l (mirror x)) k (i, rw length-map h, get_or-map mirror items i x (mirror x) h ∙ ap mirror (sym e)))

@@ -1,5 +1,5 @@
 -- Runs of steps.
-use Rattle.std.proofs.Common.{◌≡◌, List, [], ◌∷◌, ◌++◌, ap, sym, subst}
+use Rattle.std.proofs.Common.{List, [], ◌∷◌, ◌++◌, ap, sym, subst}
 use Rattle.std.specs.List.{FoldsTo}
 use Rattle.vx_walk.specs.Walks.{Event, down, up, Step}
 

@@ -1,5 +1,5 @@
 -- The walk of siblings, one after another, and of a node over them.
-use Rattle.std.proofs.Common.{◌≡◌, ℕ, suc, ◌+◌, ◌<◌, ◌≤◌, List, [], ◌∷◌, ◌++◌, length, map, get_or, drop, add-one, append_assoc, refl, sym, subst, Result, Ok, Err}
+use Rattle.std.proofs.Common.{◌≡◌, ℕ, suc, ◌+◌, ◌<◌, ◌≤◌, List, [], ◌∷◌, ◌++◌, length, map, get_or, drop, add-one, append_assoc, refl, sym, subst, Ok, Err}
 use Rattle.std.proofs.Math.Seq.{drop-cons}
 use Rattle.std.proofs.lemmas.List.{drop_all}
 use Rattle.std.specs.List.{FoldsTo}
@@ -7,7 +7,7 @@ use Rattle.vx_dtype.specs.declared.error.VortexError.{VortexError}
 use Rattle.vx_walk.specs.declared.order.TraversalOrder.{TraversalOrder}
 use Rattle.vx_walk.specs.declared.order.TraversalOrder.TheVariants.{Skip, Stop, Continue}
 use Rattle.vx_walk.specs.Orders.{Answer, GoesOn, Ends}
-use Rattle.vx_walk.specs.Walks.{Event, down, up, Walk, WalkAll, stopped, failed, skipped, cut, whole, done, next, stop, fail, Step, Walked}
+use Rattle.vx_walk.specs.Walks.{Event, down, up, WalkAll, stopped, failed, skipped, cut, whole, done, next, stop, fail, Step, Walked}
 use Rattle.vx_walk.proofs.Steps.{FoldsTo-append, FoldsTo-through, Step-through}
 
 module _ {V M : Type 0} (kids : M → List M) (D U : V → M → Answer → V → Type 0) where
@@ -30,21 +30,21 @@ module _ {V M : Type 0} (kids : M → List M) (D U : V → M → Answer → V �
   Front-next {all} {left} {n} {v} {w} {x} f k g = record {
     events = f.events ++ k.events;
     steps = FoldsTo-append (Step D U) v w x f.events k.events f.steps k.steps;
-    rest = λ fs a h. rw append_assoc (f.rest (k.events ++ fs) a (next k.is g h))
+    rest = λ fs a h. rw append_assoc (f.rest (k.events ++ fs) a (next k.is g h));
   }
 
   pub Front-stop : {all left : List M} {n : M} {v w x : V} {o : TraversalOrder} → Front all (n ∷ left) v w o → Walked kids D U n w x (Ok Stop) → WalkedAll all v x (Ok Stop)
   Front-stop {v = v} {w = w} {x = x} f k = record {
     events = f.events ++ k.events;
     is = f.rest k.events (Ok Stop) (stop k.is);
-    steps = FoldsTo-append (Step D U) v w x f.events k.events f.steps k.steps
+    steps = FoldsTo-append (Step D U) v w x f.events k.events f.steps k.steps;
   }
 
   pub Front-fail : {all left : List M} {n : M} {v w x : V} {o : TraversalOrder} {e : VortexError} → Front all (n ∷ left) v w o → Walked kids D U n w x (Err e) → WalkedAll all v x (Err e)
   Front-fail {v = v} {w = w} {x = x} {e = e} f k = record {
     events = f.events ++ k.events;
     is = f.rest k.events (Err e) (fail k.is);
-    steps = FoldsTo-append (Step D U) v w x f.events k.events f.steps k.steps
+    steps = FoldsTo-append (Step D U) v w x f.events k.events f.steps k.steps;
   }
 
   pub Front-done : {all : List M} {v w : V} {o : TraversalOrder} → Front all [] v w o → WalkedAll all v w (Ok o)
@@ -66,14 +66,14 @@ module _ {V M : Type 0} (kids : M → List M) (D U : V → M → Answer → V �
   Walked-whole {n} {v} {w} {x} {y} {a} d k u = record {
     events = down n (Ok Continue) ∷ (k.events ++ (up n a ∷ []));
     is = whole k.is;
-    steps = (w, d, FoldsTo-append (Step D U) w x y k.events (up n a ∷ []) k.steps (y, u, refl))
+    steps = (w, d, FoldsTo-append (Step D U) w x y k.events (up n a ∷ []) k.steps (y, u, refl));
   }
 
 module _ {V N M : Type 0} (mirror : N → M) (kids : M → List M) (D U : V → M → Answer → V → Type 0) where
   -- the sibling x stands at i
   pub Front-at : (all : List N) (ms : List M) (i : ℕ) (x : N) {v w : V} {o : TraversalOrder} → i < length all → x ≡ get_or all i x → Front kids D U ms (map mirror (drop i all)) v w o → Front kids D U ms (mirror x ∷ map mirror (drop (i + 1) all)) v w o
   Front-at all ms i x {v} {w} {o} h e f =
-    rw add-one (subst (λ y. Front kids D U ms (mirror y ∷ map mirror (drop (suc i) all)) v w o) (sym e) (rw (drop-cons all i x h) at f))
+      rw add-one (subst (λ y. Front kids D U ms (mirror y ∷ map mirror (drop (suc i) all)) v w o) (sym e) (rw (drop-cons all i x h) at f))
 
   pub Front-end : (all : List N) (ms : List M) (i : ℕ) {v w : V} {o : TraversalOrder} → length all ≤ i → Front kids D U ms (map mirror (drop i all)) v w o → WalkedAll kids D U ms v w (Ok o)
   Front-end all ms i h f = Front-done kids D U (rw (drop_all i all h) at f)
@@ -83,5 +83,5 @@ pub Walked-through : {V W M : Type 0} (kids : M → List M) (p : V → W) (D U :
 Walked-through kids p D U D' U' k l {n} {v} {w} {a} r = record {
   events = r.events;
   is = r.is;
-  steps = FoldsTo-through p (Step D U) (Step D' U') (Step-through p D U D' U' k l) v r.events w r.steps
+  steps = FoldsTo-through p (Step D U) (Step D' U') (Step-through p D U D' U' k l) v r.events w r.steps;
 }

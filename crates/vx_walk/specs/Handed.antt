@@ -1,7 +1,6 @@
 -- What is handed back for something that was handed over.
-use Rattle.std.specs.Prelude.{◌≡◌, List, [], ◌∷◌, Result, Ok, Err, Bool, true, false, ◌||◌}
+use Rattle.std.specs.Prelude.{List, ◌∷◌, Result, Ok, Err, Bool, true, false, ◌||◌}
 use Rattle.vx_dtype.specs.declared.error.VortexError.{VortexError}
-use Rattle.vx_walk.specs.declared.order.TraversalOrder.{TraversalOrder}
 use Rattle.vx_walk.specs.declared.order.TraversalOrder.TheVariants.{Continue}
 use Rattle.vx_walk.specs.declared.transformed.Transformed.{Transformed}
 

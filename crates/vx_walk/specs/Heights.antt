@@ -1,7 +1,7 @@
 -- Trees as nodes: their children as a list, and their heights.
-use Rattle.std.specs.Prelude.{◌≡◌, ℕ, ◌+◌, ◌<◌, ◌≤◌, List, [], ◌∷◌, length, map, max, refl, slice_index_or, Result, Ok, Err, IsErr, IfOk, IfSome, IsTrue}
+use Rattle.std.specs.Prelude.{◌≡◌, ℕ, ◌+◌, ◌<◌, List, [], ◌∷◌, length, max, refl, slice_index_or, Result, Ok, Err, IsErr, IfOk, IfSome, IsTrue}
 use Rattle.std.specs.List.{Contains}
-use Rattle.std.proofs.Common.{ap, sym, subst, arith, suc, zero}
+use Rattle.std.proofs.Common.{ap, subst, arith, suc, zero}
 use Rattle.vx_dtype.specs.declared.error.VortexError.{VortexError}
 use Rattle.vx_types.specs.Answers.{Answers, Exactly}
 use Rattle.vx_tree.specs.Trees.{Tree, root, call, Trees, no_tree, tree, BoundTree, scope, node, BoundTrees, no_bound, bound, unbound, unbound_each, WellTyped, EachWellTyped}

@@ -3,7 +3,7 @@ use Rattle.std.specs.Prelude.{◌≡◌, List, [], ◌∷◌, Result, Ok, Err, B
 use Rattle.vx_dtype.specs.declared.error.VortexError.{VortexError}
 use Rattle.vx_dtype.specs.declared.error.VortexError.TheVariants.{OutOfMemory}
 use Rattle.vx_walk.specs.declared.order.TraversalOrder.{TraversalOrder}
-use Rattle.vx_walk.specs.declared.order.TraversalOrder.TheVariants.{Skip, Stop, Continue}
+use Rattle.vx_walk.specs.declared.order.TraversalOrder.TheVariants.{Stop, Continue}
 use Rattle.vx_walk.specs.declared.transformed.Transformed.{Transformed}
 use Rattle.vx_walk.specs.Handed.{Back, seen, in_front}
 use Rattle.vx_walk.specs.Orders.{Answer, GoesOn}

@@ -1,5 +1,5 @@
 -- Rewrites: the events of a rewriter's way through a tree, with the nodes handed back.
-use Rattle.std.specs.Prelude.{◌≡◌, List, [], ◌∷◌, ◌++◌, Result, Ok, Err, Bool, true, false, ◌||◌}
+use Rattle.std.specs.Prelude.{◌≡◌, List, [], ◌∷◌, ◌++◌, Result, Ok, Err, false, ◌||◌}
 use Rattle.std.specs.List.{FoldsTo}
 use Rattle.vx_dtype.specs.declared.error.VortexError.{VortexError}
 use Rattle.vx_dtype.specs.declared.error.VortexError.TheVariants.{OutOfMemory}

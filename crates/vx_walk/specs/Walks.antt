@@ -1,5 +1,5 @@
 -- Walks: the events of a visitor's way through a tree.
-use Rattle.std.specs.Prelude.{◌≡◌, List, [], ◌∷◌, ◌++◌, Result, Ok, Err}
+use Rattle.std.specs.Prelude.{◌≡◌, List, [], ◌∷◌, ◌++◌, Ok, Err}
 use Rattle.std.specs.List.{FoldsTo}
 use Rattle.vx_dtype.specs.declared.error.VortexError.{VortexError}
 use Rattle.vx_walk.specs.declared.order.TraversalOrder.{TraversalOrder}

@@ -33,7 +33,9 @@ pub enum FoldUp<R> {
 /// the results of the children.
 pub trait NodeFolderContext {
     type NodeTy: Node;
+
     type Result: Drop;
+
     type Context: Drop;
 
     /// Where it may be called.

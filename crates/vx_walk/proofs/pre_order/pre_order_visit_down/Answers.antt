@@ -7,7 +7,7 @@ pub returns : goal.returns
 returns g c = (
   c.walk.new.visitor.f,
   Walked-through _ (λ (s : FnVisitor g.row.N.Denot g.row.F.Denot). s.f) _ _ _ _
-    (λ v m a w k. record { node = k.node; looks = k.looks; step = k.step })
-    (λ v m a w k. (k.step.0, ap (λ (s : FnVisitor g.row.N.Denot g.row.F.Denot). s.f) k.step.1))
-    c.walk.ensures.walked
+      (λ v m a w k. record { node = k.node; looks = k.looks; step = k.step })
+      (λ v m a w k. (k.step.0, ap (λ (s : FnVisitor g.row.N.Denot g.row.F.Denot). s.f) k.step.1))
+      c.walk.ensures.walked,
 )

@@ -1,4 +1,4 @@
-use Rattle.std.proofs.Common.{rules, ◌≡◌, refl, inl, inr, Ok, Err}
+use Rattle.std.proofs.Common.{rules, ◌≡◌, refl, inl, inr, Err}
 use Rattle.vx_dtype.specs.declared.error.VortexError.TheVariants.{OutOfMemory}
 use Rattle.vx_walk.specs.Containers.{handed, not_cloned}
 use Rattle.vx_walk.proofs.containers.RcNodeContainer.map_with.Goals as goal

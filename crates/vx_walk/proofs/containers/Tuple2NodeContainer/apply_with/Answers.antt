@@ -1,4 +1,4 @@
-use Rattle.std.proofs.Common.{rules, ◌≡◌, inl, inr, Ok, Err}
+use Rattle.std.proofs.Common.{rules, ◌≡◌, Err}
 use Rattle.vx_walk.specs.Mapping.{next, stop, fail}
 use Rattle.vx_walk.proofs.Calls.{Applied-one, GoesOn-from_cases}
 use Rattle.vx_walk.proofs.containers.Tuple2NodeContainer.apply_with.Goals as goal
@@ -14,5 +14,5 @@ returns-in-Stop-clause-applied g c = stop (rw c.in-Stop.is at c.in_ok-apply_with
 pub returns-in-Skip : goal.returns-in-Skip
 returns-in-Skip g c = record {
   applied = next c.in_ok-apply_with.ensures.applied (GoesOn-from_cases c.in-Skip.is) (Applied-one _ c.apply_with-in-Skip.ensures.applied);
-  ready = c.apply_with-in-Skip.ensures.ready
+  ready = c.apply_with-in-Skip.ensures.ready;
 }

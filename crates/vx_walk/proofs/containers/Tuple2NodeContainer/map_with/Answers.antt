@@ -1,4 +1,4 @@
-use Rattle.std.proofs.Common.{rules, ◌≡◌, refl, inl, inr, Ok, Err}
+use Rattle.std.proofs.Common.{rules, ◌≡◌, Err}
 use Rattle.vx_walk.specs.Containers.{first_refused, stopped, second_refused, whole}
 use Rattle.vx_walk.proofs.Calls.{GoesOn-from_cases}
 use Rattle.vx_walk.proofs.Rows.{or_false}
@@ -15,12 +15,12 @@ returns-in_err-second-in-Skip g c =
     let e : c.from_residual-in_err-second-in-Skip.result ≡ Err c.in_err-second-in-Skip.field-0.0 = search rules in
     record {
       mapped = rw e (second_refused c.in_ok-first.ensures.mapped (GoesOn-from_cases c.in-Skip.is) c.in_err-second-in-Skip.ensures.mapped);
-      ready = search rules
+      ready = search rules;
     }
 
 pub returns-clause-mapped : goal.returns-clause-mapped
 returns-clause-mapped g c = elim c.match-first.branch [
-    in-Stop w ↦ rw (w.second-is, w.mapper-is, or_false c.in_ok-first.first.changed) (stopped c.in_ok-first.ensures.mapped w.in-Stop.is)
+  | in-Stop w ↦ rw (w.second-is, w.mapper-is, or_false c.in_ok-first.first.changed) (stopped c.in_ok-first.ensures.mapped w.in-Stop.is)
   | in-Skip+in_ok-second-in-Skip w ↦
       rw (w.second-is, w.mapper-is) (whole c.in_ok-first.ensures.mapped (GoesOn-from_cases w.in-Skip.is) w.in_ok-second-in-Skip.ensures.mapped)
-  ]
+]
