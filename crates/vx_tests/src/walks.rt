@@ -230,7 +230,10 @@ impl<N: Node> NodeFolderContext for Depth<N> {
         Ok(FoldDownContext::Continue(depth))
     }
 
-    fn visit_up(&mut self, _node: N, depth: &u32, below: Vec<u32>) -> VortexResult<FoldUp<u32>> {
+    fn visit_up(&mut self, _node: N, depth: &u32, below: Vec<u32>) -> VortexResult<FoldUp<u32>>
+        ensures gives { Unit {0} }
+        ensures ready { Unit {0} }
+    {
         Ok(FoldUp::Continue(
             below.iter().copied().max().unwrap_or(*depth),
         ))
@@ -238,7 +241,7 @@ impl<N: Node> NodeFolderContext for Depth<N> {
 }
 
 /// How deep the tree is, down to the limit.
-fn depth<N: Node>(alloc: Global, tree: N, limit: u32, ends: bool) -> VortexResult<FoldUp<u32>> {
+fn depth_of<N: Node>(alloc: Global, tree: N, limit: u32, ends: bool) -> VortexResult<FoldUp<u32>> {
     let mut folder = Depth {
         limit,
         ends,
@@ -250,14 +253,14 @@ fn depth<N: Node>(alloc: Global, tree: N, limit: u32, ends: bool) -> VortexResul
 #[test]
 fn depth_is_counted_by_the_context(rt: HostRuntime) -> Result<(), Fail> {
     let alloc = rt.alloc();
-    let whole = depth(alloc, comparisons(alloc)?, 9, true)?;
+    let whole = depth_of(alloc, comparisons(alloc)?, 9, true)?;
     assert!(rt; matches!(whole, FoldUp::Continue(4)));
-    let skipped = depth(alloc, comparisons(alloc)?, 3, false)?;
+    let skipped = depth_of(alloc, comparisons(alloc)?, 3, false)?;
     assert!(rt; matches!(skipped, FoldUp::Continue(3)));
-    let ended = depth(alloc, comparisons(alloc)?, 3, true)?;
+    let ended = depth_of(alloc, comparisons(alloc)?, 3, true)?;
     assert!(rt; matches!(ended, FoldUp::Stop(3)));
     let bound = choice(alloc)?.bind(alloc, &struct_dtype(alloc)?)?;
-    assert!(rt; matches!(depth(alloc, bound, 9, true)?, FoldUp::Continue(3)));
+    assert!(rt; matches!(depth_of(alloc, bound, 9, true)?, FoldUp::Continue(3)));
     Ok(())
 }
 
@@ -273,6 +276,6 @@ fn a_deep_tree_is_walked_and_folded(rt: HostRuntime) -> Result<(), Fail> {
     assert!(rt; answer == Continue);
     assert_eq!(rt; nodes, 1002);
     finds(&rt, alloc, &tree, "bool1")?;
-    assert!(rt; matches!(depth(alloc, tree, 2000, true)?, FoldUp::Continue(1002)));
+    assert!(rt; matches!(depth_of(alloc, tree, 2000, true)?, FoldUp::Continue(1002)));
     Ok(())
 }

@@ -1,5 +1,6 @@
 // Rewrites.
 ghost use Rattle.std.specs.Prelude.{◌≡◌, ◌≤◌, IfOk};
+ghost use Rattle.std.proofs.Common.{rules};
 ghost use Rattle.vx_tree.specs.Views.{tree_of};
 ghost use Rattle.vx_walk.specs.Heights.{height_of};
 ghost use Rattle.vx_walk.specs.declared.order.TraversalOrder.TheVariants.{Skip};
@@ -109,7 +110,7 @@ impl<N: Node> NodeRewriter for Same<N> {
 }
 
 /// The tree after a rewrite that hands every node back as it is.
-fn same<N: Node>(alloc: Global, tree: N) -> VortexResult<Transformed<N>> {
+fn handed_back<N: Node>(alloc: Global, tree: N) -> VortexResult<Transformed<N>> {
     tree.rewrite(alloc, &mut Same { of: PhantomData })
 }
 
@@ -124,14 +125,14 @@ fn bound_equality(alloc: Global) -> VortexResult<BoundExpression> {
 fn a_rewrite_may_change_nothing(rt: HostRuntime) -> Result<(), Fail> {
     let alloc = rt.alloc();
     let tree = comparisons(alloc)?;
-    let rewritten = same(alloc, tree.clone()?)?;
+    let rewritten = handed_back(alloc, tree.clone()?)?;
     assert!(rt; !rewritten.changed);
     assert!(rt; rewritten.value == tree);
     let bound = bound_equality(alloc)?;
-    let rewritten = same(alloc, bound.clone()?)?;
+    let rewritten = handed_back(alloc, bound.clone()?)?;
     assert!(rt; !rewritten.changed);
     assert!(rt; rewritten.value == bound);
-    assert!(rt; same(alloc, deep(alloc)?)?.value == deep(alloc)?);
+    assert!(rt; handed_back(alloc, deep(alloc)?)?.value == deep(alloc)?);
     Ok(())
 }
 
