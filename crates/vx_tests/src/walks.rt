@@ -11,7 +11,9 @@ use std::process::Abort;
 use std::test::Fail;
 use vx_build::{case_when, root};
 use vx_tree::test_harness::struct_dtype;
-use vx_tree::{Binary, Expression, FieldName, GetItem, Operator, Scalar, VortexError, VortexResult};
+use vx_tree::{
+    Binary, Expression, FieldName, GetItem, Operator, Scalar, VortexError, VortexResult,
+};
 use vx_walk::TraversalOrder::{Continue, Skip, Stop};
 use vx_walk::{
     FoldDownContext, FoldUp, Node, NodeExt, NodeFolderContext, NodeVisitor, TraversalOrder,
@@ -36,8 +38,14 @@ fn orders_choose_what_runs(rt: HostRuntime) -> Result<(), Fail> {
         (Stop, Stop, Stop),
         (Continue, Stop, Skip),
     ] {
-        assert!(rt; order.visit_children(|| Ok(Stop))? == children, "after {order:?}");
-        assert!(rt; order.visit_parent(|| Ok(Skip))? == parent, "after {order:?}");
+        assert!(rt;
+            order.visit_children(|| Ok(Stop))? == children,
+            "after {order:?}"
+        );
+        assert!(rt;
+            order.visit_parent(|| Ok(Skip))? == parent,
+            "after {order:?}"
+        );
     }
     Ok(())
 }
@@ -212,7 +220,9 @@ struct Depth<N> {
 
 impl<N: Node> NodeFolderContext for Depth<N> {
     type NodeTy = N;
+
     type Context = u32;
+
     type Result = u32;
 
     ghost down_gives = { λ v x n a w. Unit {0} };
@@ -234,9 +244,7 @@ impl<N: Node> NodeFolderContext for Depth<N> {
         ensures gives { Unit {0} }
         ensures ready { Unit {0} }
     {
-        Ok(FoldUp::Continue(
-            below.iter().copied().max().unwrap_or(*depth),
-        ))
+        Ok(FoldUp::Continue(below.iter().copied().max().unwrap_or(*depth)))
     }
 }
 

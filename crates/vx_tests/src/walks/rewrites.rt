@@ -19,16 +19,19 @@ use vx_walk::{Node, NodeExt, NodeRewriter, Transformed, TraversalOrder};
 /// The tree with the next literal from 0 for each field.
 fn numbered(alloc: Global, tree: Expression) -> VortexResult<Transformed<Expression>> {
     let mut next = 0i32;
-    tree.transform_down(alloc, |node: Expression| -> VortexResult<Transformed<Expression>>
-        ensures { IfOk result (λ t. height_of (tree_of t.value) ≤ height_of (tree_of node)) }
-    {
-        if !node.is::<GetItem>() {
-            return Ok(Transformed::no(node));
-        }
-        let number = lit(alloc, Scalar::from_i32(next))?;
-        next = next.saturating_add(1);
-        Ok(Transformed::yes(number))
-    })
+    tree.transform_down(
+        alloc,
+        |node: Expression| -> VortexResult<Transformed<Expression>>
+            ensures { IfOk result (λ t. height_of (tree_of t.value) ≤ height_of (tree_of node)) }
+        {
+            if !node.is::<GetItem>() {
+                return Ok(Transformed::no(node));
+            }
+            let number = lit(alloc, Scalar::from_i32(next))?;
+            next = next.saturating_add(1);
+            Ok(Transformed::yes(number))
+        },
+    )
 }
 
 #[test]
