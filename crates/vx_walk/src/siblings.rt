@@ -39,7 +39,7 @@ impl<T: Drop> Siblings<T> {
     }
 }
 
-// The siblings from that index on as they are, where an earlier one was changed or none was.
+// The siblings from that index on as they are; nothing is kept where no earlier one was changed.
 pub(crate) fn stay<N: Node>(
     alloc: Global,
     siblings: &[N],
