@@ -33,3 +33,5 @@ mod tree_texts;
 mod trees;
 #[cfg(test)]
 mod types;
+#[cfg(test)]
+mod walks;

@@ -1,0 +1,11 @@
+use Rattle.std.proofs.Common.{drop, map}
+use Rattle.std.specs.Fn.{CalledAt}
+use Rattle.vx_walk.specs.Walks.{At}
+use Rattle.vx_walk.proofs.Calls.{Reached}
+use Rattle.vx_walk.proofs.node.Node.apply_children.Given as goal
+
+abbrev pub invariant-loop-child : goal.invariant-loop-child
+invariant-loop-child g l = record {
+  callable : goal.F-IsAlwaysCallable g l.f;
+  reached : Reached (At g.Self.Node.mirror (CalledAt g.F.FnMut)) (map g.Self.Node.mirror l.child-items) (map g.Self.Node.mirror (drop l.child-index l.child-items)) l.initial.f l.f l.order;
+}

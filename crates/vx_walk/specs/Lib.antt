@@ -1,0 +1,9 @@
+pub mod Orders
+pub mod Handed
+pub mod Walks
+pub mod Mapping
+pub mod Rewrites
+pub mod Folds
+pub mod Heights
+pub mod Siblings
+pub mod Containers
