@@ -7,23 +7,48 @@ use crate::results::rows_of_x;
 use crate::rows::two_cases;
 use crate::runs::{KLEENE, words_of};
 use crate::trees::{range_of_x, scope_of_x};
+use std::alloc::Global;
+use std::process::Abort;
 use std::test::Fail;
 use vx_eval::apply_bound;
 use vx_pressure::Shortage;
 use vx_run::run_show;
-use vx_tree::VortexError;
+use vx_tree::{Column, DType, Expression, VortexError, VortexResult};
+
+/// Whether binding, which succeeds, is refused where all memory is taken.
+fn refuses_to_bind(alloc: Global, source: &Expression, scope: &DType) -> VortexResult<bool> {
+    drop(source.bind(alloc, scope)?);
+    let _shortage = Shortage::new(alloc)?;
+    let answer = source.bind(alloc, scope);
+    Ok(matches!(answer, Err(VortexError::OutOfMemory)))
+}
 
 #[test]
 fn bind_is_refused(rt: HostRuntime) -> Result<(), Fail> {
     let alloc = rt.alloc();
     let source = range_of_x(alloc)?;
     let scope = scope_of_x(&rt, alloc)?;
-    assert!(rt; reads(&source.bind(alloc, &scope)?, RANGE));
-    let shortage = Shortage::new(alloc)?;
-    let refused = matches!(source.bind(alloc, &scope), Err(VortexError::OutOfMemory));
-    drop(shortage);
-    assert!(rt; refused);
+    assert!(rt; refuses_to_bind(alloc, &source, &scope)?);
     assert!(rt; reads(&source, RANGE) && reads(&scope, "{x=i32}"));
+    Ok(())
+}
+
+/// Asserts that evaluation, which succeeds, is refused where all memory is taken, and leaves the
+/// tree as it was.
+fn refuses_to_evaluate(
+    rt: &impl Abort,
+    alloc: Global,
+    source: Expression,
+    batch: &Column,
+    tree: &str,
+) -> VortexResult<()> {
+    let bound = source.bind(alloc, batch.dtype())?;
+    drop(apply_bound(alloc, batch, &bound)?);
+    let shortage = Shortage::new(alloc)?;
+    let answer = apply_bound(alloc, batch, &bound);
+    drop(shortage);
+    assert!(rt; matches!(answer, Err(VortexError::OutOfMemory)));
+    assert!(rt; reads(&bound, tree));
     Ok(())
 }
 
@@ -31,16 +56,8 @@ fn bind_is_refused(rt: HostRuntime) -> Result<(), Fail> {
 fn apply_bound_is_refused(rt: HostRuntime) -> Result<(), Fail> {
     let alloc = rt.alloc();
     let x = rows_of_x(&rt, alloc, &[Some(1), Some(5), None])?;
-    let bound = two_cases(alloc)?.bind(alloc, x.dtype())?;
-    assert!(rt; reads(&apply_bound(alloc, &x, &bound)?, "[10i32, 10i32, 30i32]"));
-    let shortage = Shortage::new(alloc)?;
-    let refused = matches!(
-        apply_bound(alloc, &x, &bound),
-        Err(VortexError::OutOfMemory)
-    );
-    drop(shortage);
-    assert!(rt; refused);
-    assert!(rt; reads(&bound, TWO_CASES) && reads(&x, "[{x: 1i32}, {x: 5i32}, {x: null}]"));
+    refuses_to_evaluate(&rt, alloc, two_cases(alloc)?, &x, TWO_CASES)?;
+    assert!(rt; reads(&x, "[{x: 1i32}, {x: 5i32}, {x: null}]"));
     Ok(())
 }
 

@@ -1,33 +1,38 @@
 // Evaluation whose memory is refused: the result or the fault, and what was lent.
 use super::reading::reads;
-use crate::results::{fill, like_of, rows_of_x, two_numbers};
+use crate::results::{BAD_FILL, fill, like_of, rows_of_x, two_numbers};
 use crate::rows::two_cases;
 use std::alloc::Global;
 use std::process::Abort;
 use std::test::Fail;
 use vx_eval::apply_bound;
-use vx_tree::{Column, Expression, VortexError, VortexResult};
+use vx_tree::{Column, Expression, VortexError};
 
-/// What `apply_bound` answers for the expression over the batch. Asserts that it leaves both with their texts.
-fn applied(
+/// What an evaluation is about, and the column or the fault that it answers.
+#[derive(Clone, Copy)]
+struct Texts<'a> {
+    tree: &'a str,
+    batch: &'a str,
+    answer: &'a str,
+}
+
+/// Asserts what evaluation answers, and that it leaves the tree and the batch as they were.
+fn answers(
     rt: &(impl Abort + Print),
     alloc: Global,
     source: Expression,
     batch: &Column,
-    sql: &str,
-    rows: &str,
-) -> Result<VortexResult<Column>, Fail> {
+    texts: Texts<'_>,
+) -> Result<(), Fail> {
     let bound = source.bind(alloc, batch.dtype())?;
     rt.println("called")?;
     let answer = apply_bound(alloc, batch, &bound);
-    assert!(rt; reads(&bound, sql) && reads(batch, rows));
-    Ok(answer)
-}
-
-/// Asserts the result.
-fn gives(rt: &(impl Abort + Print), answer: VortexResult<Column>, rows: &str) -> Result<(), Fail> {
-    let column = answer?;
-    assert!(rt; reads(&column, rows));
+    assert!(rt; reads(&bound, texts.tree) && reads(batch, texts.batch));
+    match answer {
+        Ok(column) => assert!(rt; reads(&column, texts.answer)),
+        Err(VortexError::OutOfMemory) => return Err(Fail::from(VortexError::OutOfMemory)),
+        Err(fault) => assert!(rt; reads(&fault, texts.answer)),
+    }
     Ok(rt.println("answered")?)
 }
 
@@ -38,51 +43,75 @@ pub const TWO_CASES: &str =
 fn apply_bound_of_two_cases(rt: HostRuntime) -> Result<(), Fail> {
     let alloc = rt.alloc();
     let x = rows_of_x(&rt, alloc, &[Some(1), Some(5), None])?;
-    let rows = "[{x: 1i32}, {x: 5i32}, {x: null}]";
-    let answer = applied(&rt, alloc, two_cases(alloc)?, &x, TWO_CASES, rows)?;
-    gives(&rt, answer, "[10i32, 10i32, 30i32]")
+    let texts = Texts {
+        tree: TWO_CASES,
+        batch: "[{x: 1i32}, {x: 5i32}, {x: null}]",
+        answer: "[10i32, 10i32, 30i32]",
+    };
+    answers(&rt, alloc, two_cases(alloc)?, &x, texts)
 }
 
-const FILL: &str = "vortex.fill_null($.x, $.y)";
-
-#[test]
-fn apply_bound_of_a_fill(rt: HostRuntime) -> Result<(), Fail> {
-    let alloc = rt.alloc();
-    let sevens = two_numbers(&rt, alloc, &[None, Some(3)], &[Some(7), Some(7)])?;
-    let rows = "[{x: null, y: 7i32}, {x: 3i32, y: 7i32}]";
-    let answer = applied(&rt, alloc, fill(alloc)?, &sevens, FILL, rows)?;
-    gives(&rt, answer, "[7i32, 3i32]")?;
-    let none = two_numbers(&rt, alloc, &[], &[])?;
-    let answer = applied(&rt, alloc, fill(alloc)?, &none, FILL, "[]")?;
-    gives(&rt, answer, "[]")
-}
-
-#[test]
-fn apply_bound_of_a_bad_fill(rt: HostRuntime) -> Result<(), Fail> {
-    let alloc = rt.alloc();
-    let two_fills = two_numbers(&rt, alloc, &[None, Some(3)], &[Some(1), Some(2)])?;
-    let rows = "[{x: null, y: 1i32}, {x: 3i32, y: 2i32}]";
-    match applied(&rt, alloc, fill(alloc)?, &two_fills, FILL, rows)? {
-        Err(VortexError::BadFill) => Ok(rt.println("answered")?),
-        Err(refusal) => Err(Fail::from(refusal)),
-        Ok(_) => Err(Fail::new("no fault")),
-    }
+/// Asserts what the fill of x by y answers.
+fn fills(
+    rt: &(impl Abort + Print),
+    alloc: Global,
+    x: &[Option<i128>],
+    y: &[Option<i128>],
+    batch: &str,
+    answer: &str,
+) -> Result<(), Fail> {
+    let rows = two_numbers(rt, alloc, x, y)?;
+    let tree = "vortex.fill_null($.x, $.y)";
+    let texts = Texts {
+        tree,
+        batch,
+        answer,
+    };
+    answers(rt, alloc, fill(alloc)?, &rows, texts)
 }
 
 #[test]
-fn apply_bound_of_like(rt: HostRuntime) -> Result<(), Fail> {
+fn apply_bound_of_fills(rt: HostRuntime) -> Result<(), Fail> {
     let alloc = rt.alloc();
-    let one = rows_of_x(&rt, alloc, &[None])?;
-    for (text, pattern, case_insensitive, sql, result) in [
-        ("a%b", r"a\%b", false, r#"("a%b" like "a\%b")"#, "[true]"),
-        ("axb", r"a\%b", false, r#"("axb" like "a\%b")"#, "[false]"),
-        ("axb", "a_b", false, r#"("axb" like "a_b")"#, "[true]"),
-        (r"x\", r"x\", false, r#"("x\" like "x\")"#, "[true]"),
-        ("ABC", "a%", true, r#"("ABC" ilike "a%")"#, "[true]"),
+    let x = [None, Some(3)];
+    let sevens = "[{x: null, y: 7i32}, {x: 3i32, y: 7i32}]";
+    fills(&rt, alloc, &x, &[Some(7), Some(7)], sevens, "[7i32, 3i32]")?;
+    let two_fills = "[{x: null, y: 1i32}, {x: 3i32, y: 2i32}]";
+    fills(&rt, alloc, &x, &[Some(1), Some(2)], two_fills, BAD_FILL)?;
+    fills(&rt, alloc, &[], &[], "[]", "[]")
+}
+
+/// Asserts what a LIKE of two texts answers over one row.
+fn likes(
+    rt: &(impl Abort + Print),
+    alloc: Global,
+    words: (&str, &str),
+    case_insensitive: bool,
+    tree: &str,
+    answer: &str,
+) -> Result<(), Fail> {
+    let one = rows_of_x(rt, alloc, &[None])?;
+    let source = like_of(alloc, words.0, words.1, case_insensitive)?;
+    let batch = "[{x: null}]";
+    let texts = Texts {
+        tree,
+        batch,
+        answer,
+    };
+    answers(rt, alloc, source, &one, texts)
+}
+
+#[test]
+fn apply_bound_of_likes(rt: HostRuntime) -> Result<(), Fail> {
+    let alloc = rt.alloc();
+    for (words, case_insensitive, tree, answer) in [
+        (("a%b", r"a\%b"), false, r#"("a%b" like "a\%b")"#, "[true]"),
+        (("axb", r"a\%b"), false, r#"("axb" like "a\%b")"#, "[false]"),
+        (("axb", "a_b"), false, r#"("axb" like "a_b")"#, "[true]"),
+        ((r"x\", r"x\"), false, r#"("x\" like "x\")"#, "[true]"),
+        (("ABC", "a%"), true, r#"("ABC" ilike "a%")"#, "[true]"),
     ] {
-        let source = like_of(alloc, text, pattern, case_insensitive)?;
-        let answer = applied(&rt, alloc, source, &one, sql, "[{x: null}]")?;
-        gives(&rt, answer, result)?;
+        likes(&rt, alloc, words, case_insensitive, tree, answer)?;
     }
     Ok(())
 }
