@@ -6,7 +6,7 @@ use std::alloc::Global;
 use std::process::Abort;
 use std::test::Fail;
 use vx_eval::apply_bound;
-use vx_tree::{Column, Expression, VortexError};
+use vx_tree::{Column, Expression, VortexError, VortexResult};
 
 /// What an evaluation is about, and the column or the fault that it answers.
 #[derive(Clone, Copy)]
@@ -14,6 +14,15 @@ struct Texts<'a> {
     tree: &'a str,
     batch: &'a str,
     answer: &'a str,
+}
+
+/// Whether the column or the fault has that text. Hands on that a request was refused.
+fn is_answer(answer: VortexResult<Column>, text: &str) -> VortexResult<bool> {
+    match answer {
+        Ok(column) => Ok(reads(&column, text)),
+        Err(VortexError::OutOfMemory) => Err(VortexError::OutOfMemory),
+        Err(fault) => Ok(reads(&fault, text)),
+    }
 }
 
 /// Asserts what evaluation answers, and that it leaves the tree and the batch as they were.
@@ -28,11 +37,7 @@ fn answers(
     rt.println("called")?;
     let answer = apply_bound(alloc, batch, &bound);
     assert!(rt; reads(&bound, texts.tree) && reads(batch, texts.batch));
-    match answer {
-        Ok(column) => assert!(rt; reads(&column, texts.answer)),
-        Err(VortexError::OutOfMemory) => return Err(Fail::from(VortexError::OutOfMemory)),
-        Err(fault) => assert!(rt; reads(&fault, texts.answer)),
-    }
+    assert!(rt; is_answer(answer, texts.answer)?);
     Ok(rt.println("answered")?)
 }
 
