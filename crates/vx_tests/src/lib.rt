@@ -18,6 +18,10 @@ mod matching;
 #[cfg(test)]
 mod no_rows;
 #[cfg(test)]
+mod pressure;
+#[cfg(test)]
+mod refusals;
+#[cfg(test)]
 mod results;
 #[cfg(test)]
 mod rows;

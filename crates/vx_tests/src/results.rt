@@ -113,12 +113,12 @@ fn a_repeated_name_is_its_first_field(rt: HostRuntime) -> Result<(), Fail> {
 }
 
 /// `fill_null($.x, $.y)`
-fn fill(alloc: Global) -> VortexResult<Expression> {
+pub fn fill(alloc: Global) -> VortexResult<Expression> {
     fill_null(alloc, col(alloc, "x")?, col(alloc, "y")?)
 }
 
 /// Rows of `x`, of type `i32?`, and `y`, of type `i32`.
-fn two_numbers(
+pub fn two_numbers(
     rt: &impl Abort,
     alloc: Global,
     x: &[Option<i128>],
@@ -140,28 +140,26 @@ fn a_fill_is_one_value(rt: HostRuntime) -> Result<(), Fail> {
     gives(&rt, alloc, fill(alloc)?, &none, "[]")
 }
 
-/// A LIKE of two texts, over one row.
-fn liked(
-    rt: &impl Abort,
+/// A LIKE of two texts.
+pub fn like_of(
     alloc: Global,
     text: &str,
     pattern: &str,
     case_insensitive: bool,
-) -> Result<Column, Fail> {
+) -> VortexResult<Expression> {
     let text = literal(alloc, Scalar::utf8(alloc, text)?)?;
     let pattern = literal(alloc, Scalar::utf8(alloc, pattern)?)?;
-    let source = if case_insensitive {
-        ilike(alloc, text, pattern)?
+    if case_insensitive {
+        ilike(alloc, text, pattern)
     } else {
-        like(alloc, text, pattern)?
-    };
-    let one = rows_of_x(rt, alloc, &[None])?;
-    Ok(evaluated(alloc, source, &one)?)
+        like(alloc, text, pattern)
+    }
 }
 
 #[test]
 fn texts_are_like_patterns(rt: HostRuntime) -> Result<(), Fail> {
     let alloc = rt.alloc();
+    let one = rows_of_x(&rt, alloc, &[None])?;
     for (text, pattern, case_insensitive, rows) in [
         ("a%b", r"a\%b", false, "[true]"),
         ("axb", r"a\%b", false, "[false]"),
@@ -169,8 +167,8 @@ fn texts_are_like_patterns(rt: HostRuntime) -> Result<(), Fail> {
         (r"x\", r"x\", false, "[true]"),
         ("ABC", "a%", true, "[true]"),
     ] {
-        let answer = liked(&rt, alloc, text, pattern, case_insensitive)?;
-        prints(&rt, alloc, answer, rows)?;
+        let source = like_of(alloc, text, pattern, case_insensitive)?;
+        gives(&rt, alloc, source, &one, rows)?;
     }
     Ok(())
 }

@@ -5,7 +5,7 @@ use std::io::Write;
 use std::test::Fail;
 use vx_run::run_show;
 
-const KLEENE: &str = "text: (($.x >= null) and ($.x <= 5i32))
+pub const KLEENE: &str = "text: (($.x >= null) and ($.x <= 5i32))
 type: bool?
 result: [false, null]
 tree:
@@ -20,7 +20,7 @@ vortex.binary(and)
     └── rhs: vortex.literal(5i32)
 ";
 
-const COALESCE: &str = "text: CASE WHEN vortex.is_null($.x) THEN 0i32 ELSE $.x END
+pub const COALESCE: &str = "text: CASE WHEN vortex.is_null($.x) THEN 0i32 ELSE $.x END
 type: i32?
 result: [0i32, 4i32]
 tree:
@@ -33,7 +33,7 @@ vortex.case_when(case_when(pairs=1, else=true))
     └── input: vortex.root()
 ";
 
-const CASES: &str =
+pub const CASES: &str =
     "text: CASE WHEN ($.x > 0i32) THEN 10i32 WHEN ($.x > 3i32) THEN 20i32 ELSE 30i32 END
 type: i32
 result: [10i32, 10i32, 30i32]
@@ -76,7 +76,7 @@ impl Write for Halting {
     }
 }
 
-fn words_of(alloc: Global, texts: &[&str]) -> Result<Vec<String>, Fail> {
+pub fn words_of(alloc: Global, texts: &[&str]) -> Result<Vec<String>, Fail> {
     let mut words = Vec::new(alloc);
     for text in texts {
         words.push(String::from_str(alloc, text)?)?;

@@ -70,7 +70,7 @@ fn a_middle_child_has_a_bar_below(rt: HostRuntime) -> Result<(), Fail> {
     draws(&rt, alloc, zero_for_null(alloc)?, "x", COALESCE)
 }
 
-const RANGE: &str = "vortex.binary(and)
+pub const RANGE: &str = "vortex.binary(and)
 ├── lhs: vortex.binary(>=)
 │   ├── lhs: vortex.get_item(x)
 │   │   └── input: vortex.root()

@@ -12,7 +12,7 @@ use vx_tree::{
 };
 
 /// `(($.x >= null) and ($.x <= 5i32))`
-fn range_of_x(alloc: Global) -> VortexResult<Expression> {
+pub fn range_of_x(alloc: Global) -> VortexResult<Expression> {
     let null = literal(alloc, Scalar::null(i32_type(Nullable)))?;
     let five = literal(alloc, Scalar::from_i32(5))?;
     let lower = binary(alloc, Operator::Gte, col(alloc, "x")?, null)?;
@@ -21,7 +21,7 @@ fn range_of_x(alloc: Global) -> VortexResult<Expression> {
 }
 
 /// `{x=i32}`
-fn scope_of_x(rt: &impl Abort, alloc: Global) -> VortexResult<DType> {
+pub fn scope_of_x(rt: &impl Abort, alloc: Global) -> VortexResult<DType> {
     let types = vec![in alloc; i32_type(NonNullable)]?;
     Ok(DType::Struct(fields(rt, alloc, &["x"], types)?, NonNullable))
 }

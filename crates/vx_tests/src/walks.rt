@@ -1,6 +1,6 @@
 // Walks, rewrites, folds and containers of nodes.
 mod containers;
-mod rewrites;
+pub mod rewrites;
 mod trees;
 
 use crate::build::{binary, col, literal};

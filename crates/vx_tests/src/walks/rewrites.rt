@@ -17,7 +17,7 @@ use vx_walk::TraversalOrder::{Continue, Stop};
 use vx_walk::{Node, NodeExt, NodeRewriter, Transformed, TraversalOrder};
 
 /// The tree with the next literal from 0 for each field.
-fn numbered(alloc: Global, tree: Expression) -> VortexResult<Transformed<Expression>> {
+pub fn numbered(alloc: Global, tree: Expression) -> VortexResult<Transformed<Expression>> {
     let mut next = 0i32;
     tree.transform_down(
         alloc,

@@ -1,0 +1,59 @@
+// Trees whose memory is refused: bound, collected, drawn.
+use super::reading::reads;
+use crate::build::col;
+use crate::tree_texts::RANGE as RANGE_DRAWN;
+use crate::trees::{range_of_x, scope_of_x};
+use std::alloc::Global;
+use std::fmt::Write;
+use std::test::Fail;
+use vx_build::and_collect;
+use vx_tree::{Expression, VortexResult};
+
+pub const RANGE: &str = "(($.x >= null) and ($.x <= 5i32))";
+
+#[test]
+fn bind_of_a_range(rt: HostRuntime) -> Result<(), Fail> {
+    let alloc = rt.alloc();
+    let source = range_of_x(alloc)?;
+    let scope = scope_of_x(&rt, alloc)?;
+    rt.println("called")?;
+    let answer = source.bind(alloc, &scope);
+    assert!(rt; reads(&source, RANGE) && reads(&scope, "{x=i32}"));
+    let bound = answer?;
+    assert!(rt; reads(&bound, RANGE) && reads(bound.dtype(), "bool?"));
+    Ok(rt.println("answered")?)
+}
+
+/// The fields `$.a` to `$.e`.
+fn five_fields(alloc: Global) -> VortexResult<Vec<Expression>> {
+    let mut items = Vec::new(alloc);
+    for name in ["a", "b", "c", "d", "e"] {
+        items.push(col(alloc, name)?)?;
+    }
+    Ok(items)
+}
+
+#[test]
+fn and_collect_of_five_items(rt: HostRuntime) -> Result<(), Fail> {
+    let alloc = rt.alloc();
+    let items = five_fields(alloc)?;
+    rt.println("called")?;
+    let collected = and_collect(alloc, items)?.ok_or("none")?;
+    let text = "((($.a and $.b) and ($.c and $.d)) and $.e)";
+    assert!(rt; reads(&collected, text));
+    Ok(rt.println("answered")?)
+}
+
+#[test]
+fn display_tree_into_a_string(rt: HostRuntime) -> Result<(), Fail> {
+    let alloc = rt.alloc();
+    let source = range_of_x(alloc)?;
+    let mut page = String::new(alloc);
+    rt.println("called")?;
+    let answer = write!(page, "{}", source.display_tree());
+    assert!(rt; reads(&source, RANGE));
+    assert!(rt; RANGE_DRAWN.starts_with(page.as_str()));
+    answer?;
+    assert_eq!(rt; page.as_str(), RANGE_DRAWN);
+    Ok(rt.println("answered")?)
+}

@@ -1,0 +1,72 @@
+// Names, types, scalars and columns whose memory is refused.
+use super::reading::reads;
+use crate::build::{fields, i32_type};
+use std::alloc::Global;
+use std::process::Abort;
+use std::test::Fail;
+use vx_tree::Nullability::{NonNullable, Nullable};
+use vx_tree::{
+    Column, DType, FieldName, FieldNames, Nullability, PType, Scalar, StructFields, Value,
+    VortexResult,
+};
+
+#[test]
+fn try_new_of_a_column(rt: HostRuntime) -> Result<(), Fail> {
+    let alloc = rt.alloc();
+    let rows = vec![in alloc; Value::Int(7), Value::Null]?;
+    rt.println("called")?;
+    let column = Column::try_new(i32_type(Nullable), rows)?;
+    assert!(rt; reads(&column, "[7i32, null]") && reads(column.dtype(), "i32?"));
+    Ok(rt.println("answered")?)
+}
+
+#[test]
+fn new_of_names(rt: HostRuntime) -> Result<(), Fail> {
+    let alloc = rt.alloc();
+    let list = vec![in alloc; FieldName::new(alloc, "a")?, FieldName::new(alloc, "b")?]?;
+    rt.println("called")?;
+    let names = FieldNames::new(alloc, list)?;
+    assert_eq!(rt; names.len(), 2);
+    assert!(rt; names.get(0).is_some_and(|name| reads(name, "a")));
+    assert!(rt; names.get(1).is_some_and(|name| reads(name, "b")));
+    Ok(rt.println("answered")?)
+}
+
+#[test]
+fn struct_of_a_scalar(rt: HostRuntime) -> Result<(), Fail> {
+    let alloc = rt.alloc();
+    let names = FieldNames::new(alloc, vec![in alloc; FieldName::new(alloc, "x")?]?)?;
+    let types = vec![in alloc; DType::Primitive(PType::I32, NonNullable)]?;
+    let fields = StructFields::new(alloc, names, types)?;
+    let values = vec![in alloc; Scalar::from_i32(5)]?;
+    rt.println("called")?;
+    let row = Scalar::struct_(alloc, DType::Struct(fields, Nullable), values)?;
+    assert!(rt; reads(&row, "{x: 5i32}") && reads(row.dtype(), "{x=i32}?"));
+    Ok(rt.println("answered")?)
+}
+
+/// A struct of one number in a struct.
+fn nested(
+    rt: &impl Abort,
+    alloc: Global,
+    inner: Nullability,
+    outer: Nullability,
+) -> VortexResult<DType> {
+    let types = vec![in alloc; i32_type(inner)]?;
+    let inside = DType::Struct(fields(rt, alloc, &["x"], types)?, NonNullable);
+    let types = vec![in alloc; inside]?;
+    Ok(DType::Struct(fields(rt, alloc, &["a"], types)?, outer))
+}
+
+#[test]
+fn union_of_nested_structs(rt: HostRuntime) -> Result<(), Fail> {
+    let alloc = rt.alloc();
+    let one = nested(&rt, alloc, NonNullable, Nullable)?;
+    let other = nested(&rt, alloc, Nullable, NonNullable)?;
+    rt.println("called")?;
+    let answer = one.union(alloc, &other);
+    assert!(rt; reads(&one, "{a={x=i32}}?") && reads(&other, "{a={x=i32?}}"));
+    let joined = answer?.ok_or("none")?;
+    assert!(rt; reads(&joined, "{a={x=i32?}}?"));
+    Ok(rt.println("answered")?)
+}
