@@ -1,0 +1,4 @@
+pub mod Keeps
+pub mod Steps
+pub mod Weights
+pub mod Lawful
