@@ -28,6 +28,8 @@ mod rows;
 #[cfg(test)]
 mod runs;
 #[cfg(test)]
+mod shapes;
+#[cfg(test)]
 mod sql;
 #[cfg(test)]
 mod texts;
