@@ -4,3 +4,4 @@ pub mod Fitting
 pub mod Above
 pub mod ItemTexts
 pub mod Misfits
+pub mod PathSets

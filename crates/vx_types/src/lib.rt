@@ -1,7 +1,9 @@
-// Values, scalars and columns, over the types of the crate below, which is handed on.
+// Values, scalars, columns and paths, over the types of the crate below, which is handed on.
 #![tactic(auto)]
 
 mod column;
+mod field_path;
+mod field_path_set;
 mod fits;
 pub mod laws;
 mod scalar;
@@ -9,6 +11,8 @@ mod value;
 mod value_texts;
 
 pub use column::Column;
+pub use field_path::{Field, FieldPath};
+pub use field_path_set::{FieldPathSet, FieldPaths};
 pub use scalar::Scalar;
 pub use value::Value;
 pub use vx_dtype::{
