@@ -1,46 +1,49 @@
--- What is handed back for a container.
-use Rattle.std.specs.Prelude.{◌≡◌, ◌⊎◌, ◌||◌, List, [], ◌∷◌, Ok, Err, IsOk}
-use Rattle.std.specs.declared.alloc.Global.{Global}
-use Rattle.std.specs.declared.boxed.Box.{Box}
-use Rattle.std.specs.declared.rc.Rc.{Rc}
-use Rattle.std.specs.declared.vec.Vec.{Vec}
+-- How a container is mapped: its elements are handed over and back.
+use Rattle.std.specs.Prelude.{◌≡◌, ◌||◌, Ok, Err, Bool, false}
 use Rattle.vx_dtype.specs.declared.error.VortexError.{VortexError}
 use Rattle.vx_dtype.specs.declared.error.VortexError.TheVariants.{OutOfMemory}
+use Rattle.vx_walk.specs.declared.order.TraversalOrder.{TraversalOrder}
 use Rattle.vx_walk.specs.declared.order.TraversalOrder.TheVariants.{Stop, Continue}
 use Rattle.vx_walk.specs.declared.transformed.Transformed.{Transformed}
 use Rattle.vx_walk.specs.Handed.{Back, seen}
-use Rattle.vx_walk.specs.Mapping.{MappedAll}
 use Rattle.vx_walk.specs.Orders.{GoesOn}
+use Rattle.vx_walk.specs.Shapes.{Holder, vector, box, rc, Shape, element, row, inside, Row, no_part, part, shape_seen}
 
--- a pair as a list
-abbrev pub both : {C : Type 0} → C × C → List C
-both p = p.0 ∷ (p.1 ∷ [])
+-- a part, changed where c says so, in front of what is handed back for the later ones
+abbrev pub part_front : {E : Type 0} → Shape E → Bool → Back (Row E) → Back (Row E)
+part_front s c (Ok t) = Ok (record { value = part s t.value; order = t.order; changed = c || t.changed })
+part_front s c (Err e) = Err e
 
--- a container that was made anew: seen by f it is what is handed back, unless there was no memory for it
-abbrev pub Wrapped : {B N : Type 0} → (B → N) → Back N → Back B → Type 0
-Wrapped f r a = (seen f a ≡ r) ⊎ (IsOk r × (a ≡ Err OutOfMemory))
+-- a vector is reserved, and the clone of what an `Rc` shares is made, before an element is handed over
+abbrev pub AsksFirst : Holder → Type 0
+AsksFirst vector = Unit {0}
+AsksFirst box = ⊥
+AsksFirst rc = Unit {0}
 
-module _ {V C : Type 0} (K : V → C → Back C → V → Type 0) where
-  -- what the box holds is handed over and back, into a box
-  pub record MappedBox (v : V) (b : Box C Global) (a : Back (Box C Global)) (w : V) : Type 0 where
-    pub held : Back C
-    pub is : K v b.value held w
-    pub told : Wrapped (λ (x : Box C Global). x.value) held a
+-- a new box and a new `Rc` are made after the last one is handed back
+abbrev pub AsksLast : Holder → Type 0
+AsksLast vector = ⊥
+AsksLast box = Unit {0}
+AsksLast rc = Unit {0}
 
-  -- the first is handed over and back, and then the second, unless the first answers Stop or is refused
-  pub data MappedPair (v : V) (p : C × C) : Back (C × C) → V → Type 0 where
-    first_refused : {e : VortexError} {w : V} → K v p.0 (Err e) w → MappedPair v p (Err e) w
-    stopped : {t : Transformed C} {w : V} → K v p.0 (Ok t) w → t.order ≡ Stop → MappedPair v p (Ok (record { value = (t.value, p.1); order = Stop; changed = t.changed })) w
-    second_refused : {t : Transformed C} {e : VortexError} {u w : V} → K v p.0 (Ok t) u → GoesOn t.order → K u p.1 (Err e) w → MappedPair v p (Err e) w
-    whole : {t s : Transformed C} {u w : V} → K v p.0 (Ok t) u → GoesOn t.order → K u p.1 (Ok s) w → MappedPair v p (Ok (record { value = (t.value, s.value); order = s.order; changed = t.changed || s.changed })) w
+module _ {V E M : Type 0} (mirror : E → M) (R : V → E → Back E → V → Type 0) where
+  mutual
+    -- the elements are handed over and back from left to right, each to its own place, until Stop or a refusal
+    pub data Mapped : V → Shape E → Back (Shape E) → V → Type 0 where
+      at : {v w : V} {e : E} (a : Back E) → R v e a w → Mapped v (element e) (seen element a) w
+      along : {v w : V} {r : Row E} (a : Back (Row E)) → MappedRow Continue v r a w → Mapped v (row r) (seen row a) w
+      within : {h : Holder} {v w : V} {s : Shape E} (a : Back (Shape E)) → Mapped v s a w → Mapped v (inside h s) (seen (inside h) a) w
+      -- what an `Rc` shares is cloned, and the clone's elements are seen alike
+      cloned : {v w : V} {s : Shape E} {a : Back (Shape E)} (copy : Shape E) → shape_seen mirror copy ≡ shape_seen mirror s → Mapped v (inside rc copy) a w → Mapped v (inside rc s) a w
+      -- there was no memory to begin
+      not_begun : {h : Holder} {v : V} {s : Shape E} → AsksFirst h → Mapped v (inside h s) (Err OutOfMemory) v
+      -- there was no memory to hold what was handed back
+      not_held : {h : Holder} {v w : V} {s : Shape E} {t : Transformed (Shape E)} → AsksLast h → Mapped v s (Ok t) w → Mapped v (inside h s) (Err OutOfMemory) w
 
-  -- the containers of the vector are handed over and back, each to its own place
-  pub record MappedVec (v : V) (c : Vec C Global) (a : Back (Vec C Global)) (w : V) : Type 0 where
-    pub row : Back (List C)
-    pub is : MappedAll K Continue v c.items row w
-    pub told : seen (λ (x : Vec C Global). x.items) a ≡ row
-
--- what the `Rc` holds, or a clone of it, is handed over and back, into an `Rc`; or there was no memory for a clone
-pub data MappedRc {V C : Type 0} (clones : C → C → Type 0) (K : V → C → Back C → V → Type 0) (v : V) (c : Rc C Global) : Back (Rc C Global) → V → Type 0 where
-  handed : {x : C} {held : Back C} {a : Back (Rc C Global)} {w : V} → (x ≡ c.value) ⊎ clones c.value x → K v x held w → Wrapped (λ (y : Rc C Global). y.value) held a → MappedRc clones K v c a w
-  not_cloned : MappedRc clones K v c (Err OutOfMemory) v
+    -- the parts are handed over and back from left to right, each to its own place; o is the order of the one before
+    pub data MappedRow : TraversalOrder → V → Row E → Back (Row E) → V → Type 0 where
+      none : {o : TraversalOrder} {v : V} → MappedRow o v no_part (Ok (record { value = no_part; order = o; changed = false })) v
+      -- after Stop a part stays
+      keep : {v w : V} {s : Shape E} {r : Row E} (a : Back (Row E)) → MappedRow Stop v r a w → MappedRow Stop v (part s r) (part_front s false a) w
+      next : {o : TraversalOrder} {u v w : V} {s : Shape E} {r : Row E} {t : Transformed (Shape E)} (a : Back (Row E)) → GoesOn o → Mapped u s (Ok t) v → MappedRow t.order v r a w → MappedRow o u (part s r) (part_front t.value t.changed a) w
+      fail : {o : TraversalOrder} {v w : V} {s : Shape E} {r : Row E} {e : VortexError} → GoesOn o → Mapped v s (Err e) w → MappedRow o v (part s r) (Err e) w

@@ -1,6 +1,7 @@
 pub mod Orders
 pub mod Handed
 pub mod Walks
+pub mod Shapes
 pub mod Mapping
 pub mod Rewrites
 pub mod Folds

@@ -1,4 +1,4 @@
--- Elements visited, or handed over and back, one after another; and a node over children that were.
+-- The children of a node, handed over and back one after another, and the node over them.
 use Rattle.std.specs.Prelude.{◌≡◌, List, [], ◌∷◌, Result, Ok, Err, Bool, true, false}
 use Rattle.vx_dtype.specs.declared.error.VortexError.{VortexError}
 use Rattle.vx_dtype.specs.declared.error.VortexError.TheVariants.{OutOfMemory}
@@ -6,7 +6,7 @@ use Rattle.vx_walk.specs.declared.order.TraversalOrder.{TraversalOrder}
 use Rattle.vx_walk.specs.declared.order.TraversalOrder.TheVariants.{Stop, Continue}
 use Rattle.vx_walk.specs.declared.transformed.Transformed.{Transformed}
 use Rattle.vx_walk.specs.Handed.{Back, seen, in_front}
-use Rattle.vx_walk.specs.Orders.{Answer, GoesOn}
+use Rattle.vx_walk.specs.Orders.{GoesOn}
 
 -- a step at an element that is seen as m, whose answer is seen as a
 pub record AtOwned {V N M : Type 0} (mirror : N → M) (R : V → N → Back N → V → Type 0) (v : V) (m : M) (a : Back M) (w : V) : Type 0 where
@@ -15,18 +15,6 @@ pub record AtOwned {V N M : Type 0} (mirror : N → M) (R : V → N → Back N �
   pub answer : Back N
   pub sees : seen mirror answer ≡ a
   pub step : R v node answer w
-
-module _ {V N : Type 0} (C : V → N → Answer → V → Type 0) where
-  -- the elements are visited from left to right until Stop or a refusal; the last answer is the answer, and o where there is no element
-  pub data Applied : TraversalOrder → List N → V → Answer → V → Type 0 where
-    done : {o : TraversalOrder} {v : V} → Applied o [] v (Ok o) v
-    next : {o p : TraversalOrder} {n : N} {ns : List N} {a : Answer} {u v w : V} → C u n (Ok p) v → GoesOn p → Applied p ns v a w → Applied o (n ∷ ns) u a w
-    stop : {o : TraversalOrder} {n : N} {ns : List N} {v w : V} → C v n (Ok Stop) w → Applied o (n ∷ ns) v (Ok Stop) w
-    fail : {o : TraversalOrder} {n : N} {ns : List N} {e : VortexError} {v w : V} → C v n (Err e) w → Applied o (n ∷ ns) v (Err e) w
-
-  -- the same, whatever the visitor becomes
-  abbrev pub AppliedTo : List N → V → Answer → Type 0
-  AppliedTo ns v a = (w : V) × Applied Continue ns v a w
 
 module _ {V N : Type 0} (C : V → N → Back N → V → Type 0) where
   -- the elements are handed over and back from left to right, each to its own place; o is the order of the one before

@@ -1,9 +1,9 @@
 // Containers of elements.
+ghost use Rattle.std.specs.Prelude.{◌≡◌};
 ghost use Rattle.std.specs.Fn.{CalledAt};
-ghost use Rattle.vx_walk.specs.Handed.{Back};
-ghost use Rattle.vx_walk.specs.Mapping.{Applied, AppliedTo};
-ghost use Rattle.vx_walk.specs.Orders.{Answer};
-ghost use Rattle.vx_walk.specs.declared.order.TraversalOrder.TheVariants.{Continue};
+ghost use Rattle.vx_walk.specs.Containers.{Mapped};
+ghost use Rattle.vx_walk.specs.Handed.{seen};
+ghost use Rattle.vx_walk.specs.Shapes.{parts, row, Shape, shape_seen, Visited, VisitedFrom};
 
 use crate::{ElementMapper, ElementVisitor, Transformed, TraversalOrder};
 use std::alloc::Global;
@@ -12,17 +12,18 @@ use vx_tree::VortexResult;
 /// What holds elements in an order. A box and an `Rc` pass on to what they hold; a pair and a `Vec` go
 /// from left to right, as the children of a node; an expression is one element.
 pub trait NodeContainer<T>: Sized {
-    /// The elements are visited from left to right by such steps: from the state before to the
-    /// answer and the state after.
-    ghost applies: { (V : Type 0) → (V → T → Answer → V → Type 0) → V → Self → Answer → V → Type 0 };
+    /// What elements are seen as; elements that are seen alike are equal.
+    ghost Mirror: { Type 0 };
 
-    /// The elements are handed over from left to right, and back to their own places, by such steps.
-    ghost maps: { (V : Type 0) → (V → T → Back T → V → Type 0) → V → Self → Back Self → V → Type 0 };
+    ghost mirror: { T → Mirror };
+
+    /// How the elements lie in it.
+    ghost shape: { Self → Shape T };
 
     /// Calls the visitor at the elements, as [`NodeContainer::apply_elements`] calls a closure.
     fn apply_with<V: ElementVisitor<T>>(&self, visitor: &mut V) -> VortexResult<TraversalOrder>
         requires { V.ready visitor.old }
-        ensures applied { applies V V.gives visitor.old self.now result visitor.new }
+        ensures applied { Visited V.gives visitor.old (shape self.now) result visitor.new }
         ensures ready { V.ready visitor.new };
 
     /// Hands the elements to the mapper, as [`NodeContainer::map_elements`] hands them to a closure.
@@ -32,7 +33,7 @@ pub trait NodeContainer<T>: Sized {
         mapper: &mut V,
     ) -> VortexResult<Transformed<Self>>
         requires { V.ready mapper.old }
-        ensures mapped { maps V V.gives mapper.old self result mapper.new }
+        ensures mapped { Mapped mirror V.gives mapper.old (shape self) (seen shape result) mapper.new }
         ensures ready { V.ready mapper.new };
 
     /// Calls `f` at the elements from left to right, until it answers Stop or refuses. The last
@@ -43,7 +44,7 @@ pub trait NodeContainer<T>: Sized {
         mut f: F,
     ) -> VortexResult<TraversalOrder>
         requires { F.IsAlwaysCallable f }
-        ensures { (g : F) × applies F (CalledAt F.FnMut) f self.now result g }
+        ensures { VisitedFrom (CalledAt F.FnMut) f (shape self.now) result }
     {
         self.apply_with(&mut f)
     }
@@ -59,10 +60,16 @@ pub trait NodeContainer<T>: Sized {
         mut f: F,
     ) -> VortexResult<Transformed<Self>>
         requires { F.IsAlwaysCallable f }
-        ensures { (g : F) × maps F F.step f self result g }
+        ensures { (g : F) × Mapped mirror F.step f (shape self) (seen shape result) g }
     {
         self.map_with(alloc, &mut f)
     }
+}
+
+/// A container whose clones hold equal elements in the same places, as an `Rc` asks of what it holds.
+pub trait CloneContainer<T>: NodeContainer<T> + Clone {
+    /// A clone is equal to what it is a clone of.
+    ghost clones_are_alike: { (c d : Self) → Self.is_clone c d → shape_seen Self.mirror (Self.shape d) ≡ shape_seen Self.mirror (Self.shape c) };
 }
 
 /// Calls `f` at the elements of the containers, from left to right, as
@@ -72,7 +79,7 @@ pub fn apply_ref_elements<T, C: NodeContainer<T>, F: FnMut(&T) -> VortexResult<T
     mut f: F,
 ) -> VortexResult<TraversalOrder>
     requires { F.IsAlwaysCallable f }
-    ensures { AppliedTo (C.applies F (CalledAt F.FnMut)) containers.now f result }
+    ensures { VisitedFrom (CalledAt F.FnMut) f (row (parts C.shape containers.now)) result }
 {
     apply_each(containers, &mut f)
 }
@@ -83,7 +90,7 @@ pub(crate) fn apply_each<T, C: NodeContainer<T>, V: ElementVisitor<T>>(
     visitor: &mut V,
 ) -> VortexResult<TraversalOrder>
     requires { V.ready visitor.old }
-    ensures applied { Applied (C.applies V V.gives) Continue containers.now visitor.old result visitor.new }
+    ensures applied { Visited V.gives visitor.old (row (parts C.shape containers.now)) result visitor.new }
     ensures ready { V.ready visitor.new }
 {
     let mut order = TraversalOrder::Continue;

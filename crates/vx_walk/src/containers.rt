@@ -1,20 +1,25 @@
 // The containers.
-ghost use Rattle.std.specs.Prelude.{◌≡◌, ◌⊎◌};
-ghost use Rattle.vx_walk.specs.Containers.{both, MappedBox, MappedPair, MappedRc, MappedVec};
-ghost use Rattle.vx_walk.specs.Mapping.{Applied};
-ghost use Rattle.vx_walk.specs.declared.order.TraversalOrder.TheVariants.{Continue};
+ghost use Rattle.std.proofs.Common.{ap};
+ghost use Rattle.std.specs.Prelude.{◌≡◌};
+ghost use Rattle.vx_tree.specs.Trees.{Tree};
+ghost use Rattle.vx_tree.specs.Views.{tree_of};
+ghost use Rattle.vx_walk.specs.Shapes.{box, clones_seen, pair_seen, shape_seen, element, inside, no_part, part, parts, rc, row, vector};
 
 use crate::container::apply_each;
-use crate::{ElementMapper, ElementVisitor, NodeContainer, Transformed, TraversalOrder};
+use crate::{
+    CloneContainer, ElementMapper, ElementVisitor, NodeContainer, Transformed, TraversalOrder,
+};
 use std::alloc::Global;
 use std::rc::Rc;
 use vx_tree::{Expression, VortexResult};
 
 /// An expression is one element.
 impl NodeContainer<Expression> for Expression {
-    ghost applies = { λ V R v e a w. R v e a w };
+    ghost Mirror = { Tree };
 
-    ghost maps = { λ V R v e a w. R v e a w };
+    ghost mirror = { tree_of };
+
+    ghost shape = { λ e. element e };
 
     fn apply_with<V: ElementVisitor<Expression>>(
         &self,
@@ -34,9 +39,11 @@ impl NodeContainer<Expression> for Expression {
 
 /// The elements of what the box holds.
 impl<T, C: NodeContainer<T> + Drop> NodeContainer<T> for Box<C> {
-    ghost applies = { λ V R v b a w. C.applies V R v b.value a w };
+    ghost Mirror = { C.Mirror };
 
-    ghost maps = { λ V R v b a w. MappedBox (C.maps V R) v b a w };
+    ghost mirror = { C.mirror };
+
+    ghost shape = { λ b. inside box (C.shape b.value) };
 
     fn apply_with<V: ElementVisitor<T>>(&self, visitor: &mut V) -> VortexResult<TraversalOrder> {
         (**self).apply_with(visitor)
@@ -61,10 +68,12 @@ impl<T, C: NodeContainer<T> + Drop> NodeContainer<T> for Box<C> {
 }
 
 /// The elements of what the `Rc` holds; where it is shared, of a clone of that.
-impl<T, C: NodeContainer<T> + Clone> NodeContainer<T> for Rc<C> {
-    ghost applies = { λ V R v c a w. C.applies V R v c.value a w };
+impl<T, C: CloneContainer<T>> NodeContainer<T> for Rc<C> {
+    ghost Mirror = { C.Mirror };
 
-    ghost maps = { λ V R v c a w. MappedRc C.is_clone (C.maps V R) v c a w };
+    ghost mirror = { C.mirror };
+
+    ghost shape = { λ c. inside rc (C.shape c.value) };
 
     fn apply_with<V: ElementVisitor<T>>(&self, visitor: &mut V) -> VortexResult<TraversalOrder> {
         (**self).apply_with(visitor)
@@ -91,9 +100,11 @@ impl<T, C: NodeContainer<T> + Clone> NodeContainer<T> for Rc<C> {
 
 /// The elements of the first, then of the second.
 impl<T, C: NodeContainer<T> + Drop> NodeContainer<T> for (C, C) {
-    ghost applies = { λ V R v p a w. Applied (C.applies V R) Continue (both p) v a w };
+    ghost Mirror = { C.Mirror };
 
-    ghost maps = { λ V R v p a w. MappedPair (C.maps V R) v p a w };
+    ghost mirror = { C.mirror };
+
+    ghost shape = { λ p. row (part (C.shape p.0) (part (C.shape p.1) no_part)) };
 
     fn apply_with<V: ElementVisitor<T>>(&self, visitor: &mut V) -> VortexResult<TraversalOrder> {
         match self.0.apply_with(visitor)? {
@@ -127,9 +138,11 @@ impl<T, C: NodeContainer<T> + Drop> NodeContainer<T> for (C, C) {
 
 /// The elements of each, from left to right.
 impl<T, C: NodeContainer<T> + Drop> NodeContainer<T> for Vec<C> {
-    ghost applies = { λ V R v c a w. Applied (C.applies V R) Continue c.items v a w };
+    ghost Mirror = { C.Mirror };
 
-    ghost maps = { λ V R v c a w. MappedVec (C.maps V R) v c a w };
+    ghost mirror = { C.mirror };
+
+    ghost shape = { λ v. inside vector (row (parts C.shape v.items)) };
 
     fn apply_with<V: ElementVisitor<T>>(&self, visitor: &mut V) -> VortexResult<TraversalOrder> {
         apply_each(self.as_slice(), visitor)
@@ -154,7 +167,7 @@ impl<T, C: NodeContainer<T> + Drop> NodeContainer<T> for Vec<C> {
                     container.map_with(alloc, mapper)?
                 }
             };
-            values.push(handed.value)?;
+            values.push_reserved(handed.value);
             order = handed.order;
             changed = changed | handed.changed;
         }
@@ -164,4 +177,24 @@ impl<T, C: NodeContainer<T> + Drop> NodeContainer<T> for Vec<C> {
             changed,
         })
     }
+}
+
+impl CloneContainer<Expression> for Expression {
+    ghost clones_are_alike = { λ c d same. ap (λ t. element t) same };
+}
+
+impl<T, C: CloneContainer<T> + Drop> CloneContainer<T> for Box<C> {
+    ghost clones_are_alike = { λ c d same. ap (λ s. inside box s) (C.clones_are_alike c.value d.value same) };
+}
+
+impl<T, C: CloneContainer<T> + Drop> CloneContainer<T> for Rc<C> {
+    ghost clones_are_alike = { λ c d same. ap (λ x. inside rc (shape_seen C.mirror (C.shape x))) same };
+}
+
+impl<T, C: CloneContainer<T> + Drop> CloneContainer<T> for (C, C) {
+    ghost clones_are_alike = { λ c d same. pair_seen C.mirror C.shape C.is_clone C.clones_are_alike c d same };
+}
+
+impl<T, C: CloneContainer<T> + Drop> CloneContainer<T> for Vec<C> {
+    ghost clones_are_alike = { λ c d same. ap (λ r. inside vector (row r)) (clones_seen C.mirror C.shape C.is_clone C.clones_are_alike c.items d.items same.0) };
 }

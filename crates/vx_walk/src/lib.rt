@@ -16,7 +16,7 @@ mod transformed;
 mod trees;
 mod visit;
 
-pub use container::{NodeContainer, apply_ref_elements};
+pub use container::{CloneContainer, NodeContainer, apply_ref_elements};
 pub use elements::{ElementMapper, ElementVisitor};
 pub use ext::NodeExt;
 pub use fold::{FoldDownContext, FoldUp, NodeFolderContext};

@@ -3,7 +3,8 @@ ghost use Rattle.std.specs.Prelude.{◌≡◌, ℕ, ◌<◌, List, length, Conta
 ghost use Rattle.std.specs.Fn.{CalledAt};
 ghost use Rattle.vx_dtype.specs.declared.error.VortexError.{VortexError};
 ghost use Rattle.vx_walk.specs.Handed.{seen, seen_node};
-ghost use Rattle.vx_walk.specs.Mapping.{AppliedTo, AtOwned, MappedTo};
+ghost use Rattle.vx_walk.specs.Mapping.{AtOwned, MappedTo};
+ghost use Rattle.vx_walk.specs.Shapes.{element, parts, row, VisitedFrom};
 ghost use Rattle.vx_walk.specs.Walks.{At};
 
 use crate::siblings::{map_siblings, rebuild};
@@ -49,7 +50,7 @@ pub trait Node: Sized + Clone {
         mut f: F,
     ) -> VortexResult<TraversalOrder>
         requires { F.IsAlwaysCallable f }
-        ensures { AppliedTo (At mirror (CalledAt F.FnMut)) (kids (mirror self.now)) f result }
+        ensures { VisitedFrom (At mirror (CalledAt F.FnMut)) f (row (parts element (kids (mirror self.now)))) result }
     {
         let mut order = TraversalOrder::Continue;
         for child in self.children_slice() {

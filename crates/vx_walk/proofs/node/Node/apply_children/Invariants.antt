@@ -1,5 +1,6 @@
-use Rattle.std.proofs.Common.{drop, map}
+use Rattle.std.proofs.Common.{drop}
 use Rattle.std.specs.Fn.{CalledAt}
+use Rattle.vx_walk.specs.Shapes.{element, parts}
 use Rattle.vx_walk.specs.Walks.{At}
 use Rattle.vx_walk.proofs.Calls.{Reached}
 use Rattle.vx_walk.proofs.node.Node.apply_children.Given as goal
@@ -7,5 +8,5 @@ use Rattle.vx_walk.proofs.node.Node.apply_children.Given as goal
 abbrev pub invariant-loop-child : goal.invariant-loop-child
 invariant-loop-child g l = record {
   callable : goal.F-IsAlwaysCallable g l.f;
-  reached : Reached (At g.Self.Node.mirror (CalledAt g.F.FnMut)) (map g.Self.Node.mirror l.child-items) (map g.Self.Node.mirror (drop l.child-index l.child-items)) l.initial.f l.f l.order;
+  reached : Reached (At g.Self.Node.mirror (CalledAt g.F.FnMut)) (parts (λ n. element (g.Self.Node.mirror n)) l.child-items) (parts (λ n. element (g.Self.Node.mirror n)) (drop l.child-index l.child-items)) l.initial.f l.f l.order;
 }
