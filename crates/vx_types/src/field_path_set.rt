@@ -53,7 +53,8 @@ impl FieldPathSet {
     }
 
     /// The paths of which no other is a proper prefix, in their order. Takes no memory. Each of a
-    /// path's proper prefixes is looked up, so all of them together cost what the paths' lengths do.
+    /// path's proper prefixes is looked up by its hash: a path costs the square of its length, however
+    /// many others there are.
     pub fn iter(&self) -> FieldPaths<'_>
         ensures { result ≡ minimal_paths self.now }
     {
