@@ -18,7 +18,7 @@ pub trait NodeContainer<T>: Sized {
 
     ghost mirror: { T → Mirror };
 
-    /// How the elements lie in it.
+    /// How the elements lie in it. By this contracts say how it is visited and mapped.
     ghost shape: { Self → Shape T };
 
     /// Calls the visitor at the elements, as [`NodeContainer::apply_elements`] calls a closure.
@@ -38,8 +38,8 @@ pub trait NodeContainer<T>: Sized {
         ensures ready { V.ready mapper.new };
 
     /// Calls `f` at the elements from left to right, until it answers Stop or refuses. The last
-    /// answer is the answer, Continue where there is no element. Takes no memory, and fails only where
-    /// `f` does.
+    /// answer is the answer, and that of a part without elements is Continue. Takes no memory, and
+    /// fails only where `f` does.
     final fn apply_elements<F: FnMut(&T) -> VortexResult<TraversalOrder>>(
         &self,
         mut f: F,
@@ -55,7 +55,8 @@ pub trait NodeContainer<T>: Sized {
     /// stands in its own place, and after a Stop the later ones stay. It is changed where one is, and
     /// the order is the last one answered.
     ///
-    /// Refuses as `f` does, and with `OutOfMemory` (1).
+    /// Refuses as `f` does, and with `OutOfMemory` (1), where a vector, a box or an `Rc` is
+    /// made anew.
     final fn map_elements<F: FnMut(T) -> VortexResult<Transformed<T>>>(
         self,
         alloc: Global,
