@@ -6,7 +6,8 @@ use Rattle.vx_dtype.specs.declared.error.VortexError.{VortexError}
 use Rattle.vx_walk.specs.declared.order.TraversalOrder.{TraversalOrder}
 use Rattle.vx_walk.specs.declared.order.TraversalOrder.TheVariants.{Skip, Stop, Continue}
 use Rattle.vx_walk.specs.Orders.{Answer, GoesOn}
-use Rattle.vx_walk.specs.Shapes.{Shape, row, Row, no_part, part, parts, Visited, along, VisitedRow, done, next, stop, fail}
+use Rattle.vx_walk.specs.Shapes.{Shape, row, Row, no_part, part, parts}
+use Rattle.vx_walk.specs.Visits.{Visited, along, VisitedRow, done, next, stop, fail}
 
 module _ {V E : Type 0} (R : V → E → Answer → V → Type 0) where
   -- the parts `all` before `left` have been visited; the visitor was v and is w, and answered o last

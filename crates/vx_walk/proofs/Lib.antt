@@ -1,8 +1,10 @@
 pub mod Calls
 pub mod Folding
 pub mod Mappings
+pub mod Places
 pub mod Rows
 pub mod Rewriting
 pub mod Steps
 pub mod Unchanged
+pub mod Visits
 pub mod Walking

@@ -28,7 +28,7 @@ AsksLast rc = Unit {0}
 
 module _ {V E M : Type 0} (mirror : E → M) (R : V → E → Back E → V → Type 0) where
   mutual
-    -- the elements are handed over and back from left to right, each to its own place, until Stop or a refusal
+    -- the elements of a container are handed over and back from left to right, each to its own place, until Stop or a refusal
     pub data Mapped : V → Shape E → Back (Shape E) → V → Type 0 where
       at : {v w : V} {e : E} (a : Back E) → R v e a w → Mapped v (element e) (seen element a) w
       along : {v w : V} {r : Row E} (a : Back (Row E)) → MappedRow Continue v r a w → Mapped v (row r) (seen row a) w
@@ -40,10 +40,13 @@ module _ {V E M : Type 0} (mirror : E → M) (R : V → E → Back E → V → T
       -- there was no memory to hold what was handed back
       not_held : {h : Holder} {v w : V} {s : Shape E} {t : Transformed (Shape E)} → AsksLast h → Mapped v s (Ok t) w → Mapped v (inside h s) (Err OutOfMemory) w
 
-    -- the parts are handed over and back from left to right, each to its own place; o is the order of the one before
+    -- the parts of a row are handed over and back from left to right, each to its own place; o is the order of the one before
     pub data MappedRow : TraversalOrder → V → Row E → Back (Row E) → V → Type 0 where
+      -- no part is left: the last order is the order
       none : {o : TraversalOrder} {v : V} → MappedRow o v no_part (Ok (record { value = no_part; order = o; changed = false })) v
       -- after Stop a part stays
       keep : {v w : V} {s : Shape E} {r : Row E} (a : Back (Row E)) → MappedRow Stop v r a w → MappedRow Stop v (part s r) (part_front s false a) w
+      -- a part is handed back, then the later ones; it is changed where one is
       next : {o : TraversalOrder} {u v w : V} {s : Shape E} {r : Row E} {t : Transformed (Shape E)} (a : Back (Row E)) → GoesOn o → Mapped u s (Ok t) v → MappedRow t.order v r a w → MappedRow o u (part s r) (part_front t.value t.changed a) w
+      -- a refusal is the answer
       fail : {o : TraversalOrder} {v w : V} {s : Shape E} {r : Row E} {e : VortexError} → GoesOn o → Mapped v s (Err e) w → MappedRow o v (part s r) (Err e) w

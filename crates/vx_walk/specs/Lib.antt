@@ -2,6 +2,8 @@ pub mod Orders
 pub mod Handed
 pub mod Walks
 pub mod Shapes
+pub mod Visits
+pub mod Clones
 pub mod Mapping
 pub mod Rewrites
 pub mod Folds

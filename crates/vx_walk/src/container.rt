@@ -1,9 +1,10 @@
 // Containers of elements.
-ghost use Rattle.std.specs.Prelude.{◌≡◌};
+ghost use Rattle.std.specs.Prelude.{◌≡◌, IfOk};
 ghost use Rattle.std.specs.Fn.{CalledAt};
 ghost use Rattle.vx_walk.specs.Containers.{Mapped};
 ghost use Rattle.vx_walk.specs.Handed.{seen};
-ghost use Rattle.vx_walk.specs.Shapes.{parts, row, Shape, shape_seen, Visited, VisitedFrom};
+ghost use Rattle.vx_walk.specs.Shapes.{elements, parts, places, row, Shape};
+ghost use Rattle.vx_walk.specs.Visits.{Continues, Visited, VisitedFrom, VisitsEach};
 
 use crate::{ElementMapper, ElementVisitor, Transformed, TraversalOrder};
 use std::alloc::Global;
@@ -17,7 +18,7 @@ pub trait NodeContainer<T>: Sized {
 
     ghost mirror: { T → Mirror };
 
-    /// How the elements lie in it.
+    /// How the elements lie in it. By this contracts say how it is visited and mapped.
     ghost shape: { Self → Shape T };
 
     /// Calls the visitor at the elements, as [`NodeContainer::apply_elements`] calls a closure.
@@ -37,14 +38,15 @@ pub trait NodeContainer<T>: Sized {
         ensures ready { V.ready mapper.new };
 
     /// Calls `f` at the elements from left to right, until it answers Stop or refuses. The last
-    /// answer is the answer, Continue where there is no element. Takes no memory, and fails only where
-    /// `f` does.
+    /// answer is the answer, and that of a part without elements is Continue. Takes no memory, and
+    /// fails only where `f` does.
     final fn apply_elements<F: FnMut(&T) -> VortexResult<TraversalOrder>>(
         &self,
         mut f: F,
     ) -> VortexResult<TraversalOrder>
         requires { F.IsAlwaysCallable f }
-        ensures { VisitedFrom (CalledAt F.FnMut) f (shape self.now) result }
+        ensures visited { VisitedFrom (CalledAt F.FnMut) f (shape self.now) result }
+        ensures each { Continues (CalledAt F.FnMut) → VisitsEach (CalledAt F.FnMut) f (elements (shape self.now)) result }
     {
         self.apply_with(&mut f)
     }
@@ -53,23 +55,19 @@ pub trait NodeContainer<T>: Sized {
     /// stands in its own place, and after a Stop the later ones stay. It is changed where one is, and
     /// the order is the last one answered.
     ///
-    /// Refuses as `f` does, and with `OutOfMemory` (1).
+    /// Refuses as `f` does, and with `OutOfMemory` (1), where a vector, a box or an `Rc` is
+    /// made anew.
     final fn map_elements<F: FnMut(T) -> VortexResult<Transformed<T>>>(
         self,
         alloc: Global,
         mut f: F,
     ) -> VortexResult<Transformed<Self>>
         requires { F.IsAlwaysCallable f }
-        ensures { (g : F) × Mapped mirror F.step f (shape self) (seen shape result) g }
+        ensures mapped { (g : F) × Mapped mirror F.step f (shape self) (seen shape result) g }
+        ensures places { IfOk result (λ t. places (shape t.value) ≡ places (shape self)) }
     {
         self.map_with(alloc, &mut f)
     }
-}
-
-/// A container whose clones hold equal elements in the same places, as an `Rc` asks of what it holds.
-pub trait CloneContainer<T>: NodeContainer<T> + Clone {
-    /// A clone is equal to what it is a clone of.
-    ghost clones_are_alike: { (c d : Self) → Self.is_clone c d → shape_seen Self.mirror (Self.shape d) ≡ shape_seen Self.mirror (Self.shape c) };
 }
 
 /// Calls `f` at the elements of the containers, from left to right, as
@@ -79,7 +77,8 @@ pub fn apply_ref_elements<T, C: NodeContainer<T>, F: FnMut(&T) -> VortexResult<T
     mut f: F,
 ) -> VortexResult<TraversalOrder>
     requires { F.IsAlwaysCallable f }
-    ensures { VisitedFrom (CalledAt F.FnMut) f (row (parts C.shape containers.now)) result }
+    ensures visited { VisitedFrom (CalledAt F.FnMut) f (row (parts C.shape containers.now)) result }
+    ensures each { Continues (CalledAt F.FnMut) → VisitsEach (CalledAt F.FnMut) f (elements (row (parts C.shape containers.now))) result }
 {
     apply_each(containers, &mut f)
 }

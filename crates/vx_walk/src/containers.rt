@@ -1,9 +1,8 @@
 // The containers.
-ghost use Rattle.std.proofs.Common.{ap};
 ghost use Rattle.std.specs.Prelude.{◌≡◌};
 ghost use Rattle.vx_tree.specs.Trees.{Tree};
 ghost use Rattle.vx_tree.specs.Views.{tree_of};
-ghost use Rattle.vx_walk.specs.Shapes.{box, clones_seen, pair_seen, shape_seen, element, inside, no_part, part, parts, rc, row, vector};
+ghost use Rattle.vx_walk.specs.Shapes.{box, element, inside, no_part, part, parts, rc, row, vector};
 
 use crate::container::apply_each;
 use crate::{
@@ -177,24 +176,4 @@ impl<T, C: NodeContainer<T> + Drop> NodeContainer<T> for Vec<C> {
             changed,
         })
     }
-}
-
-impl CloneContainer<Expression> for Expression {
-    ghost clones_are_alike = { λ c d same. ap (λ t. element t) same };
-}
-
-impl<T, C: CloneContainer<T> + Drop> CloneContainer<T> for Box<C> {
-    ghost clones_are_alike = { λ c d same. ap (λ s. inside box s) (C.clones_are_alike c.value d.value same) };
-}
-
-impl<T, C: CloneContainer<T> + Drop> CloneContainer<T> for Rc<C> {
-    ghost clones_are_alike = { λ c d same. ap (λ x. inside rc (shape_seen C.mirror (C.shape x))) same };
-}
-
-impl<T, C: CloneContainer<T> + Drop> CloneContainer<T> for (C, C) {
-    ghost clones_are_alike = { λ c d same. pair_seen C.mirror C.shape C.is_clone C.clones_are_alike c d same };
-}
-
-impl<T, C: CloneContainer<T> + Drop> CloneContainer<T> for Vec<C> {
-    ghost clones_are_alike = { λ c d same. ap (λ r. inside vector (row r)) (clones_seen C.mirror C.shape C.is_clone C.clones_are_alike c.items d.items same.0) };
 }

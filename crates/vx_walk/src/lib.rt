@@ -1,6 +1,7 @@
 // Walks over trees: visitors, rewriters, folds, and containers of nodes.
 #![tactic(auto)]
 
+mod clone_container;
 mod closures;
 mod container;
 mod containers;
@@ -16,7 +17,8 @@ mod transformed;
 mod trees;
 mod visit;
 
-pub use container::{CloneContainer, NodeContainer, apply_ref_elements};
+pub use clone_container::CloneContainer;
+pub use container::{NodeContainer, apply_ref_elements};
 pub use elements::{ElementMapper, ElementVisitor};
 pub use ext::NodeExt;
 pub use fold::{FoldDownContext, FoldUp, NodeFolderContext};

@@ -4,7 +4,8 @@ ghost use Rattle.std.specs.Fn.{CalledAt};
 ghost use Rattle.vx_dtype.specs.declared.error.VortexError.{VortexError};
 ghost use Rattle.vx_walk.specs.Handed.{seen, seen_node};
 ghost use Rattle.vx_walk.specs.Mapping.{AtOwned, MappedTo};
-ghost use Rattle.vx_walk.specs.Shapes.{element, parts, row, VisitedFrom};
+ghost use Rattle.vx_walk.specs.Shapes.{element, parts, row};
+ghost use Rattle.vx_walk.specs.Visits.{VisitedFrom};
 ghost use Rattle.vx_walk.specs.Walks.{At};
 
 use crate::siblings::{map_siblings, rebuild};

@@ -1,4 +1,4 @@
-use Rattle.vx_walk.specs.Shapes.{at}
+use Rattle.vx_walk.specs.Visits.{at}
 use Rattle.vx_walk.proofs.containers.ExpressionNodeContainer.apply_with.Goals as goal
 
 pub returns-clause-applied : goal.returns-clause-applied

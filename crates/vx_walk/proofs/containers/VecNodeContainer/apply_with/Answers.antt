@@ -1,4 +1,4 @@
-use Rattle.vx_walk.specs.Shapes.{within}
+use Rattle.vx_walk.specs.Visits.{within}
 use Rattle.vx_walk.proofs.containers.VecNodeContainer.apply_with.Goals as goal
 
 pub returns-clause-applied : goal.returns-clause-applied

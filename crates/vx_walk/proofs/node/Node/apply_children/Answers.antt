@@ -1,5 +1,6 @@
 use Rattle.std.proofs.Common.{rules, ◌≡◌, of_calls, refl, Err}
-use Rattle.vx_walk.specs.Shapes.{element, at}
+use Rattle.vx_walk.specs.Shapes.{element}
+use Rattle.vx_walk.specs.Visits.{at}
 use Rattle.vx_walk.proofs.Calls.{Reached-at, Reached-end, Reached-next, Reached-stop, Reached-fail, parts_of_seen}
 use Rattle.vx_walk.proofs.node.Node.apply_children.Goals as goal
 
