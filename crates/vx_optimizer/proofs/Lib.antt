@@ -1,0 +1,3 @@
+pub mod Weighing
+pub mod Rebuilding
+pub mod Forms

@@ -1,0 +1,6 @@
+// The optimizer, for any lawful set of rules.
+#![tactic(auto)]
+
+mod root;
+
+pub use root::optimize_root;
