@@ -1,3 +1,4 @@
 pub mod Weighing
 pub mod Rebuilding
 pub mod Forms
+pub mod Children

@@ -1,12 +1,15 @@
 -- Steps of children, taken below the node over them.
-use Rattle.std.proofs.Common.{◌≡◌, ℕ, suc, subst}
-use Rattle.std.specs.Prelude.{Ok}
+use Rattle.std.proofs.Common.{◌≡◌, ◌⊎◌, inl, inr, ℕ, suc, refl, subst}
+use Rattle.std.specs.Prelude.{Some, Ok, Err}
+use Rattle.vx_dtype.specs.declared.error.VortexError.{VortexError}
 use Rattle.vx_types.specs.Types.{LogicalType}
 use Rattle.vx_fn.specs.Functions.{Function, fn_type}
-use Rattle.vx_tree.specs.Trees.{BoundTree, node, BoundTrees, no_bound, bound, node_types, WellTyped, EachWellTyped}
+use Rattle.vx_tree.specs.Trees.{BoundTree, scope, node, BoundTrees, no_bound, bound, node_types, unbound, WellTyped, EachWellTyped}
+use Rattle.vx_tree.specs.Binding.{node_over}
+use Rattle.vx_tree.specs.Nodes.{function_at, bound_children_of}
 use Rattle.vx_keep.specs.Keeps.{Keeps, KeepsEach, keeps_none, keeps_more}
 use Rattle.vx_keep.specs.Lawful.{Lawful}
-use Rattle.vx_keep.specs.Steps.{Step, below, OneStep, this_one, later_one, Steps, no_step, one_more, EachNormal}
+use Rattle.vx_keep.specs.Steps.{Step, below, OneStep, this_one, later_one, Steps, no_step, one_more, EachNormal, NormalBelow}
 use Rattle.vx_keep.proofs.Keeping.{keeps_again}
 use Rattle.vx_keep.proofs.Stepping.{one_step_keeps}
 use Rattle.vx_optimizer.specs.NormalForms.{NormalForm, NormalForms, no_form, form}
@@ -48,6 +51,13 @@ module _ {R : BoundTree → BoundTree → Type 0} where
 same_type : (f : Function) (bs : BoundTrees) {t t' : LogicalType} → fn_type f (node_types bs) ≡ Ok t → fn_type f (node_types bs) ≡ Ok t' → t ≡ t'
 same_type f bs e d = cc
 
+-- the node v was reached from b, and no rule fits below its root
+pub record Rebuilt (R : BoundTree → BoundTree → Type 0) (b v : BoundTree) : Type 0 where
+  pub typed : WellTyped v
+  pub count : ℕ
+  pub steps : Steps R b count v
+  pub below : NormalBelow R v
+
 module _ {R : BoundTree → BoundTree → Type 0} (law : Lawful R) where
   -- after each the node is typed anew
   steps_below : {f : Function} {t' : LogicalType} {us bs : BoundTrees} {t : LogicalType} → StepsAmong R bs us → WellTyped (node t f bs) → fn_type f (node_types us) ≡ Ok t' → (n : ℕ) × Steps R (node t f bs) n (node t' f us)
@@ -58,6 +68,27 @@ module _ {R : BoundTree → BoundTree → Type 0} (law : Lawful R) where
       let rest = steps_below r again.2.typed_after e in
       (suc rest.0, one_more (below s again.1) rest.1)
 
-  -- the children's normal forms are reached below the node, which is typed anew
-  pub node_steps : {t : LogicalType} {f : Function} {bs us : BoundTrees} {t' : LogicalType} → NormalForms R bs us → WellTyped (node t f bs) → fn_type f (node_types us) ≡ Ok t' → (n : ℕ) × Steps R (node t f bs) n (node t' f us)
-  node_steps h w e = steps_below (among_all h) w e
+  -- a well-typed node over normal forms of its children is typed anew, and reached
+  pub node_again : (b : BoundTree) (f : Function) (us : BoundTrees) → function_at (unbound b) ≡ Some f → WellTyped b → NormalForms R (bound_children_of b) us → (v : BoundTree) × (node_over f us ≡ Ok v) × Rebuilt R b v
+  node_again (scope t) f us is w h = cc
+  node_again (node t g bs) f us is w h =
+      let again = keeps_again t g bs us w (each_keeps h) in
+      let reached = steps_below (among_all h) w again.1 in
+      let all : Rebuilt R (node t g bs) (node again.0 g us) = record { typed = again.2.typed_after; count = reached.0; steps = reached.1; below = each_normal h } in
+      let same : g ≡ f = cc in
+      subst (λ x. (v : BoundTree) × (node_over x us ≡ Ok v) × Rebuilt R (node t g bs) v) same (node again.0 g us, rw again.1 refl, all)
+
+  -- what was made of the normal forms is that
+  pub rebuilt : (b v : BoundTree) (f : Function) (us : BoundTrees) → function_at (unbound b) ≡ Some f → WellTyped b → NormalForms R (bound_children_of b) us → node_over f us ≡ Ok v → Rebuilt R b v
+  rebuilt b v f us is w h made =
+      let again = node_again b f us is w h in
+      let same : again.0 ≡ v = cc in
+      subst (Rebuilt R b) same again.2
+
+  -- and nothing but memory can be refused
+  pub memory_alone : (b : BoundTree) (f : Function) (us : BoundTrees) (e out : VortexError) → function_at (unbound b) ≡ Some f → WellTyped b → NormalForms R (bound_children_of b) us → (e ≡ out) ⊎ (node_over f us ≡ Err e) → e ≡ out
+  memory_alone b f us e out is w h (inl same) = same
+  memory_alone b f us e out is w h (inr refused) =
+      let again = node_again b f us is w h in
+      let q = again.1 in
+      cc

@@ -5,7 +5,8 @@ use Rattle.vx_types.specs.Types.{LogicalType, Fields, Datum}
 use Rattle.vx_types.specs.Fields.{field_count}
 use Rattle.vx_dtype.specs.Joins.{Narrower, narrower, NarrowerShape, same_atomic_shape, narrower_list, narrower_fixed, narrower_struct, NarrowerFields, no_fields, narrower_field}
 use Rattle.vx_fn.specs.Functions.{Function, literal, get_item, pack, zip, case_when, select, fn_type}
-use Rattle.vx_tree.specs.Trees.{BoundTree, node, BoundTrees, no_bound, bound, WellTyped, EachWellTyped, node_types}
+use Rattle.vx_tree.specs.Trees.{BoundTree, scope, node, BoundTrees, no_bound, bound, WellTyped, EachWellTyped, node_types}
+use Rattle.vx_tree.specs.Nodes.{bound_children_of}
 use Rattle.vx_keep.specs.Lawful.{Lawful}
 use Rattle.vx_keep.specs.Steps.{Step, here, below, OneStep, this_one, later_one, Steps, no_step, one_more}
 use Rattle.vx_keep.specs.Weights.{width, weight, weights}
@@ -40,7 +41,7 @@ node_lighter (case_when pairs has_else) t t' bs us e p h = omega (arith, h)
 node_lighter _ t t' bs us e p h = omega (arith, h)
 
 -- the children weigh less together than the well-typed node over them
-pub weights-below : (f : Function) (t : LogicalType) (bs : BoundTrees) → fn_type f (node_types bs) ≡ Ok t → weights bs < weight (node t f bs)
+weights-below : (f : Function) (t : LogicalType) (bs : BoundTrees) → fn_type f (node_types bs) ≡ Ok t → weights bs < weight (node t f bs)
 weights-below (literal u c) t no_bound e = omega arith
 weights-below (literal u c) t (bound b bs) e = cc
 weights-below (select sel) t bs e = grind arith
@@ -49,6 +50,15 @@ weights-below (pack names n) t bs e = omega arith
 weights-below zip t bs e = omega arith
 weights-below (case_when pairs has_else) t bs e = omega arith
 weights-below _ t bs e = omega arith
+
+-- what is below the root is lighter than the tree, and well typed if it is
+pub weights-children : (b : BoundTree) → WellTyped b → weights (bound_children_of b) < weight b
+weights-children (scope t) w = omega arith
+weights-children (node t f bs) w = weights-below f t bs w.0
+
+pub typed-children : (b : BoundTree) → WellTyped b → EachWellTyped (bound_children_of b)
+typed-children (scope t) w = tt
+typed-children (node t f bs) w = w.2
 
 module _ (R : BoundTree → BoundTree → Type 0) (law : Lawful R) where
   mutual

@@ -2,5 +2,7 @@
 #![tactic(auto)]
 
 mod root;
+mod whole;
 
-pub use root::optimize_root;
+pub use root::{optimize_root, optimized_root};
+pub use whole::{optimize_with, optimized};

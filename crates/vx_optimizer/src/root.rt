@@ -32,3 +32,23 @@ pub fn optimize_root<R: Rule>(
     }
     Ok(Some(current))
 }
+
+/// What the rules leave at the root, as [`optimize_root`] gives it, the tree itself where none fits
+/// there. Asks a well-typed tree.
+///
+/// Refuses with `OutOfMemory` (1) alone.
+pub fn optimized_root<R: Rule>(
+    alloc: Global,
+    rules: &R,
+    tree: &BoundExpression,
+) -> VortexResult<BoundExpression>
+    requires { WellTyped (bound_of tree.now) }
+    ensures form { IfOk result (λ u. RootNormalForm (R.gives rules.now) (bound_of tree.now) (bound_of u)) }
+    ensures same { GivesNothing (R.gives rules.now) (bound_of tree.now) → IfOk result (λ u. bound_of u ≡ bound_of tree.now) }
+    ensures memory { IfErr result (λ e. e ≡ OutOfMemory) }
+{
+    match optimize_root(alloc, rules, tree)? {
+        Some(form) => Ok(form),
+        None => Ok(tree.clone()?),
+    }
+}
