@@ -1,5 +1,6 @@
 use Rattle.std.proofs.Common.{◌≡◌, ◌+◌, ◌-◌, ◌*◌, ◌<◌, ◌≤◌, [], ◌∷◌, ◌++◌, length, take, drop, drop_of_length-le, map, refl, sym, ◌∙◌, ap, arith}
-use Rattle.std.specs.Prelude.{Some}
+use Rattle.std.specs.Prelude.{Option, Some}
+use Rattle.vx_fn.specs.Functions.{Function}
 use Rattle.std.proofs.lemmas.List.{append_assoc, take_rest}
 use Rattle.std.proofs.lemmas.Result.{err_from_is_err_and}
 use Rattle.vx_tree.specs.Nodes.{bound_children_of}
@@ -11,6 +12,10 @@ use Rattle.vx_optimizer.proofs.Forms.{form_below, form_again, itself}
 use Rattle.vx_optimizer.proofs.Rebuilding.{rebuilt, memory_alone}
 use Rattle.vx_optimizer.proofs.Weighing.{weights-children, typed-children}
 use Rattle.vx_optimizer.proofs.whole.+optimizer.Goals as goal
+
+-- a clone of the node's function
+function_kept : (at : Option Function) (f copy : Function) → Some f ≡ at → copy ≡ f → at ≡ Some copy
+function_kept at f copy is same = cc
 
 pub optimize_with-returns-clause-form : goal.optimize_with-returns-clause-form
 optimize_with-returns-clause-form g t c =
@@ -35,23 +40,23 @@ pub optimize_below-returns-in_err-rebuilt-clause-memory : goal.optimize_below-re
 optimize_below-returns-in_err-rebuilt-clause-memory g t c =
     let law = g.met.R.Rule.lawful c.args.rules.now in
     let forms = (rw (c.in-Some-2.is, c.children.ensures.trees) at c.in_ok-children.ensures.forms).forms in
-    let function = sym c.in-Some.ensures ∙ ap Some (sym c.in_ok-clone.ensures.cases) in
+    let is = function_kept _ _ _ c.in-Some.ensures c.in_ok-clone.ensures.cases in
     let p = err_from_is_err_and c.from_residual-in_err-rebuilt.result c.from_residual-in_err-rebuilt.ensures.1 in
-    rw (p.1, p.2) (memory_alone law _ _ _ _ _ function c.requires.typed forms c.in_err-rebuilt.ensures.node)
+    rw (p.1, p.2) (memory_alone law _ _ _ _ _ is c.requires.typed forms c.in_err-rebuilt.ensures.node)
 
 pub optimize_below-optimize_root-requires : goal.optimize_below-optimize_root-requires
 optimize_below-optimize_root-requires g t c =
     let law = g.met.R.Rule.lawful c.args.rules.now in
     let forms = (rw (c.in-Some-2.is, c.children.ensures.trees) at c.in_ok-children.ensures.forms).forms in
-    let function = sym c.in-Some.ensures ∙ ap Some (sym c.in_ok-clone.ensures.cases) in
-    (rebuilt law _ _ _ _ function c.requires.typed forms c.in_ok-rebuilt.ensures.node).typed
+    let is = function_kept _ _ _ c.in-Some.ensures c.in_ok-clone.ensures.cases in
+    (rebuilt law _ _ _ _ is c.requires.typed forms c.in_ok-rebuilt.ensures.node).typed
 
 pub optimize_below-returns-clause-form : goal.optimize_below-returns-clause-form
 optimize_below-returns-clause-form g t c =
     let law = g.met.R.Rule.lawful c.args.rules.now in
     let forms = (rw (c.in-Some-2.is, c.children.ensures.trees) at c.in_ok-children.ensures.forms).forms in
-    let function = sym c.in-Some.ensures ∙ ap Some (sym c.in_ok-clone.ensures.cases) in
-    let made = rebuilt law _ _ _ _ function c.requires.typed forms c.in_ok-rebuilt.ensures.node in
+    let is = function_kept _ _ _ c.in-Some.ensures c.in_ok-clone.ensures.cases in
+    let made = rebuilt law _ _ _ _ is c.requires.typed forms c.in_ok-rebuilt.ensures.node in
     rw c.unwrap_or.ensures (form_again law bound_of _ c.in_ok-rebuilt.rebuilt c.in_ok-again.again c.requires.typed made c.in_ok-again.ensures.form c.in_ok-again.ensures.none)
 
 pub optimize_children-optimize_with-requires : goal.optimize_children-optimize_with-requires
