@@ -3,3 +3,4 @@ pub mod Rebuilding
 pub mod Forms
 pub mod Children
 pub mod Normality
+pub mod Folding

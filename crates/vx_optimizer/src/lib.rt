@@ -3,6 +3,8 @@
 
 mod laws;
 mod root;
+#[cfg(test)]
+mod tests;
 mod whole;
 
 pub use laws::{normal_is_final, steps_keep};
