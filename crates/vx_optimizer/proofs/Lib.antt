@@ -1,0 +1,6 @@
+pub mod Weighing
+pub mod Rebuilding
+pub mod Forms
+pub mod Children
+pub mod Normality
+pub mod Folding

@@ -1,0 +1,3 @@
+pub mod ConstantFolding
+pub mod Laws
+pub mod NormalForms
