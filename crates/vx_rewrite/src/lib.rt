@@ -1,0 +1,10 @@
+// Analyses and rewriting of bound trees: what the crates below have, under one name.
+#![tactic(auto)]
+
+pub use vx_analysis::{
+    Annotation, BoundAnnotations, BoundLabels, covers, descendent_bound_annotations,
+    direct_bound_annotations, free_fields, label_bound_tree,
+};
+pub use vx_keep::Rule;
+pub use vx_optimizer::optimize_with;
+pub use vx_paths::referenced_field_paths;
