@@ -23,8 +23,9 @@ pub fn direct_bound_annotations<
     F: Fn(&BoundExpression) -> VortexResult<Vec<A>> + Drop,
 >(alloc: Global, e: &BoundExpression, annotate: F) -> VortexResult<BoundAnnotations<A>>
     requires { F.IsAlwaysCallable annotate }
-    ensures annotated { IfOk result (λ m. (answers : BoundTree → List A) → AnswersAlike A.eq (F.post annotate) answers
-        → ((k : _) → is_some (entry_at (key_of k) m) ≡ (is_reached (answered answers) (key_of k) (bound_of e.now) && answered answers (key_of k))) × IsAnnotated A.eq answers m) }
+    ensures nodes { IfOk result (λ m. (answers : BoundTree → List A) → AnswersAlike A.eq (F.post annotate) answers
+        → (k : _) → is_some (entry_at (key_of k) m) ≡ (is_reached (answered answers) (key_of k) (bound_of e.now) && answered answers (key_of k))) }
+    ensures annotations { IfOk result (λ m. (answers : BoundTree → List A) → AnswersAlike A.eq (F.post annotate) answers → IsAnnotated A.eq answers m) }
     ensures refusal { IfErr result (λ y. (y ≡ OutOfMemory) ⊎ ((x : _) × F.post annotate x (Err y))) }
 {
     let mut annotations = HashMap::new(alloc);

@@ -139,31 +139,31 @@ fn covered_trees(rt: HostRuntime) -> Result<(), Fail> {
     Ok(())
 }
 
-/// No annotation, but a refusal of literals.
-fn no_literal(alloc: Global, e: &BoundExpression) -> VortexResult<Vec<FieldName>> {
+/// No annotation, but refusals of scope roots and of literals.
+fn refuse(alloc: Global, e: &BoundExpression) -> VortexResult<Vec<FieldName>> {
+    if e.is_root() {
+        return Err(VortexError::NotBool);
+    }
     if e.is::<Literal>() {
         return Err(VortexError::NotText);
     }
     Ok(Vec::new(alloc))
 }
 
+/// Asserts that the answer is the refusal of the scope root, which is met before any literal.
+fn is_first<T: Drop>(rt: &impl Abort, answer: VortexResult<T>) -> Result<(), Fail> {
+    assert!(rt; matches!(answer, Err(VortexError::NotBool)));
+    Ok(())
+}
+
 #[test]
-fn refusals_are_passed_on(rt: HostRuntime) -> Result<(), Fail> {
+fn the_first_refusal_is_passed_on(rt: HostRuntime) -> Result<(), Fail> {
     let alloc = rt.alloc();
     let e = both(alloc)?;
-    let refuse = |node: &BoundExpression| no_literal(alloc, node);
-    assert!(rt;
-        matches!(
-            descendent_bound_annotations(alloc, &e, refuse),
-            Err(VortexError::NotText)
-        )
-    );
-    let refuse = |node: &BoundExpression| no_literal(alloc, node);
-    assert!(rt;
-        matches!(
-            direct_bound_annotations(alloc, &e, refuse),
-            Err(VortexError::NotText)
-        )
-    );
-    Ok(())
+    let found = descendent_bound_annotations(alloc, &e, |node: &BoundExpression| {
+        refuse(alloc, node)
+    });
+    is_first(&rt, found)?;
+    let found = direct_bound_annotations(alloc, &e, |node: &BoundExpression| refuse(alloc, node));
+    is_first(&rt, found)
 }
