@@ -1,14 +1,14 @@
 -- The minimal paths among those that a tree references fix its meaning.
-use Rattle.std.proofs.Common.{◌≡◌, inl, inr, List, [], ◌∷◌, refl, sym, ap, ◌∙◌, map}
+use Rattle.std.proofs.Common.{◌≡◌, inl, inr, List, [], ◌∷◌, refl, sym, ◌∙◌, map}
 use Rattle.std.specs.List.{AllZip}
 use Rattle.vx_types.specs.Fits.{Fits}
 use Rattle.vx_types.specs.Paths.{minimal_paths}
-use Rattle.vx_types.specs.Types.{LogicalType, Datum}
+use Rattle.vx_types.specs.Types.{Datum}
 use Rattle.vx_fn.specs.Faults.{IsIn}
 use Rattle.vx_tree.proofs.Meant.{mean-unbound}
 use Rattle.vx_tree.proofs.Trees.{each_passes}
 use Rattle.vx_tree.specs.Meaning.{mean, value}
-use Rattle.vx_tree.specs.Trees.{BoundTree, unbound, node_type, WellTyped}
+use Rattle.vx_tree.specs.Trees.{BoundTree, unbound, WellTyped}
 use Rattle.vx_paths.specs.Agreement.{AgreeAlong, FixTheMeaning}
 use Rattle.vx_paths.specs.Asked.{whole, asked, referenced}
 use Rattle.vx_paths.proofs.Interference.{paths-agree, asked-lead}

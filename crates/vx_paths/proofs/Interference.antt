@@ -1,5 +1,5 @@
 -- The paths that a tree asks for fix its value.
-use Rattle.std.proofs.Common.{◌≡◌, List, [], ◌∷◌, ◌++◌, refl, sym, subst, Bool, Some, None, ◌||◌, map}
+use Rattle.std.proofs.Common.{◌≡◌, List, [], ◌∷◌, refl, sym, subst, Bool, Some, None, ◌||◌, map}
 use Rattle.vx_types.specs.Fields.{field_type, field_value}
 use Rattle.vx_types.specs.Fits.{Fits, EachFits, none_fit, more_fit}
 use Rattle.vx_types.specs.Paths.{Path}
@@ -7,7 +7,7 @@ use Rattle.vx_types.specs.Types.{Name, LogicalType, ty, Shape, struct, Fields, D
 use Rattle.vx_fn.proofs.Rows.{fn_type-found}
 use Rattle.vx_fn.proofs.Sound.{included-known}
 use Rattle.vx_fn.specs.Faults.{IsIn}
-use Rattle.vx_fn.specs.Functions.{Function, get_item, select, included}
+use Rattle.vx_fn.specs.Functions.{Function, get_item, included}
 use Rattle.vx_fn.specs.Rows.{FnType, of_get_item, of_select}
 use Rattle.vx_fn.specs.Values.{fn_value}
 use Rattle.vx_tree.proofs.Trees.{or_none, value-fits, values-fit}

@@ -1,5 +1,5 @@
 -- Agreement along the minimal members of a set is agreement along all of them.
-use Rattle.std.proofs.Common.{◌≡◌, ℕ, zero, suc, ◌+◌, ◌<◌, ◌≤◌, inl, inr, List, [], ◌∷◌, ◌++◌, length, append_assoc, filter, refl, sym, ap, ◌∙◌, subst, Bool, true, false, ◌||◌, ◌&&◌, arith}
+use Rattle.std.proofs.Common.{◌≡◌, ℕ, zero, suc, ◌+◌, ◌<◌, inl, inr, List, [], ◌∷◌, ◌++◌, length, append_assoc, filter, refl, sym, ap, ◌∙◌, subst, Bool, true, false, ◌||◌, arith}
 use Rattle.std.specs.Prelude.{cond, if◌then◌else◌, not}
 use Rattle.std.specs.List.{list_any}
 use Rattle.std.specs.Str.{bytes_eq}

@@ -1,5 +1,5 @@
 -- What nodes ask their children for, and what requests on the stack stand for.
-use Rattle.std.proofs.Common.{◌≡◌, ◌≢◌, ℕ, ◌+◌, ◌<◌, ◌≤◌, ◌==◌, List, [], ◌∷◌, ◌++◌, length, get_or, drop, append_assoc, filter, map, refl, sym, ap, ◌∙◌, Bool, true, false, ◌||◌, arith}
+use Rattle.std.proofs.Common.{◌≡◌, ◌≢◌, ℕ, ◌+◌, ◌<◌, ◌≤◌, ◌==◌, List, [], ◌∷◌, ◌++◌, length, get_or, drop, append_assoc, filter, map, refl, sym, ap, ◌∙◌, Bool, true, false, arith}
 use Rattle.std.specs.Prelude.{if◌then◌else◌, cond}
 use Rattle.std.specs.List.{flat_map}
 use Rattle.std.proofs.lemmas.Bool.{eqb-true}
@@ -122,7 +122,7 @@ selects_names selection fs nullable names ends e h =
 pub asked_step : (bs : List BoundExpression) (i : ℕ) (b : BoundExpression) (paths done new all : List Path) → i < length bs → b ≡ get_or bs i b → new ≡ done ++ asked (bound_of b) paths → done ++ each_asked (bounds_of (drop i bs)) paths ≡ all → new ++ each_asked (bounds_of (drop (i + 1) bs)) paths ≡ all
 asked_step bs i b paths done new all h is e so_far =
     let step : each_asked (bounds_of (drop i bs)) paths ≡ asked (bound_of b) paths ++ each_asked (bounds_of (drop (i + 1) bs)) paths =
-        at_drop_more (λ xs. each_asked (bounds_of xs) paths) bs i b h ∙ ap (λ x. asked (bound_of x) paths ++ each_asked (bounds_of (drop (i + 1) bs)) paths) (sym is) in
+    at_drop_more (λ xs. each_asked (bounds_of xs) paths) bs i b h ∙ ap (λ x. asked (bound_of x) paths ++ each_asked (bounds_of (drop (i + 1) bs)) paths) (sym is) in
     ap (λ ps. ps ++ each_asked (bounds_of (drop (i + 1) bs)) paths) e ∙ append_assoc done (asked (bound_of b) paths) (each_asked (bounds_of (drop (i + 1) bs)) paths) ∙ ap (λ ps. done ++ ps) (sym step) ∙ so_far
 
 -- no tree is left

@@ -12,16 +12,18 @@ use Rattle.vx_tree.specs.Trees.{BoundTree, scope, node, BoundTrees, no_bound, bo
 abbrev pub whole : List Path
 whole = [] ∷ []
 
--- a path for each of the names, which it alone is of
+-- for each of the names the path of it alone
 abbrev pub each_alone : List Name → List Path
 each_alone names = map (λ a. a ∷ []) names
 
--- what a selection of these names asks for where it is asked for the path: each of them for the whole, else the path itself
+-- what a selection of these names asks for, for one path that it is asked for: each of the names for the whole,
+-- else the path, if it begins with one of them
 abbrev pub selected_path : List Name → Path → List Path
 selected_path names [] = each_alone names
 selected_path names (a ∷ path) = if is_among names a then (a ∷ path) ∷ [] else []
 
--- what a selection of these names asks for: where there is none, whether a struct that may be null is null
+-- what a selection of these names asks for; where there is no name, the whole of a struct that may be null, to tell
+-- whether it is null
 abbrev pub selected_paths : List Name → Bool → List Path → List Path
 selected_paths [] nullable paths = if nullable then whole else []
 selected_paths (a ∷ names) nullable paths = flat_map (selected_path (a ∷ names)) paths

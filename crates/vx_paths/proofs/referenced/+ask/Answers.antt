@@ -1,14 +1,12 @@
-use Rattle.std.proofs.Common.{◌≡◌, ◌≢◌, ◌++◌, ◌<◌, [], List, length, sym, ap, subst, ◌∙◌, arith, rules}
+use Rattle.std.proofs.Common.{◌≡◌, ◌≢◌, ◌++◌, [], sym, ap, subst, ◌∙◌, arith, rules}
 use Rattle.std.specs.Prelude.{OnOk}
 use Rattle.std.proofs.lemmas.List.{append-nil}
-use Rattle.vx_types.specs.Paths.{Path}
 use Rattle.vx_types.specs.Views.{type_of}
-use Rattle.vx_fn.specs.Functions.{get_item, select}
 use Rattle.vx_fn.specs.Views.{function_of}
 use Rattle.vx_tree.specs.declared.bound.BoundExpression.{the_lemmas}
 use Rattle.vx_tree.specs.Trees.{node, node_type}
 use Rattle.vx_tree.specs.Views.{bound_of, bounds_of}
-use Rattle.vx_paths.specs.Asked.{asked, each_asked, select_paths}
+use Rattle.vx_paths.specs.Asked.{asked, select_paths}
 use Rattle.vx_paths.specs.Requests.{front_path, end_paths, requested, selected_of}
 use Rattle.vx_paths.proofs.Requests.{nothing, something, asked-nothing, asks_item, asks_selection, asks_none, first_type}
 use Rattle.vx_paths.proofs.referenced.+ask.Goals as goal
