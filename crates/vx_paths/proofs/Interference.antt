@@ -21,53 +21,57 @@ use Rattle.vx_paths.proofs.Selections.{select_leads, select_agree}
 
 -- ---- an item
 
-pub item_leads : (a : Name) (fs : Fields) (s : Shape) (n m k : Bool) (paths : List Path) → field_type a fs ≡ Some (ty s m) → EachLeads paths (ty s k) → EachLeads (map (λ p. a ∷ p) paths) (ty (struct fs) n)
+item_leads : (a : Name) (fs : Fields) (s : Shape) (n m k : Bool) (paths : List Path) → field_type a fs ≡ Some (ty s m) → EachLeads paths (ty s k) → EachLeads (map (λ p. a ∷ p) paths) (ty (struct fs) n)
 item_leads a fs s n m k [] e l = tt
 item_leads a fs s n m k (path ∷ paths) e l =
     (from_some (field_type a fs) (ty s m) (λ t. Leads path t) e (leads-nullability path s k m l.0), item_leads a fs s n m k paths e l.1)
 
-pub item_agree_one : (a : Name) (fs : Fields) (s : Shape) (n m : Bool) (path : Path) (v w : Datum) → field_type a fs ≡ Some (ty s m) → Agree (a ∷ path) (ty (struct fs) n) v w → Agree path (ty s (m || n)) (fn_value (get_item a) (ty (struct fs) n ∷ []) (v ∷ [])) (fn_value (get_item a) (ty (struct fs) n ∷ []) (w ∷ []))
+item_agree_one : (a : Name) (fs : Fields) (s : Shape) (n m : Bool) (path : Path) (v w : Datum) → field_type a fs ≡ Some (ty s m) → Agree (a ∷ path) (ty (struct fs) n) v w → Agree path (ty s (m || n)) (fn_value (get_item a) (ty (struct fs) n ∷ []) (v ∷ [])) (fn_value (get_item a) (ty (struct fs) n ∷ []) (w ∷ []))
 item_agree_one a fs s n m path null null e h = agree-null path (ty s (m || n))
 item_agree_one a fs s n m path (struct_of vs) (struct_of ws) e h =
     agree-nullability path s m (m || n) _ _ (at_some (field_type a fs) (ty s m) (λ t. Agree path t (field_value a fs vs) (field_value a fs ws)) e h)
 item_agree_one a fs s n m path _ _ e h = elim h [ ]
 
-pub item_agree : (a : Name) (fs : Fields) (s : Shape) (n m : Bool) (paths : List Path) (v w : Datum) → field_type a fs ≡ Some (ty s m) → AgreeAlong (map (λ p. a ∷ p) paths) (ty (struct fs) n) v w → AgreeAlong paths (ty s (m || n)) (fn_value (get_item a) (ty (struct fs) n ∷ []) (v ∷ [])) (fn_value (get_item a) (ty (struct fs) n ∷ []) (w ∷ []))
+item_agree : (a : Name) (fs : Fields) (s : Shape) (n m : Bool) (paths : List Path) (v w : Datum) → field_type a fs ≡ Some (ty s m) → AgreeAlong (map (λ p. a ∷ p) paths) (ty (struct fs) n) v w → AgreeAlong paths (ty s (m || n)) (fn_value (get_item a) (ty (struct fs) n ∷ []) (v ∷ [])) (fn_value (get_item a) (ty (struct fs) n ∷ []) (w ∷ []))
 item_agree a fs s n m [] v w e h = tt
 item_agree a fs s n m (path ∷ paths) v w e h = (item_agree_one a fs s n m path v w e h.0, item_agree a fs s n m paths v w e h.1)
 
 -- ---- one node
 
-pub data EachAgree (ps : List Path) : List LogicalType → List Datum → List Datum → Type 0 where
+-- the values agree along the paths, each as one of the type beside it
+data EachAgree (ps : List Path) : List LogicalType → List Datum → List Datum → Type 0 where
   agree_none : EachAgree ps [] [] []
   agree_more : {t : LogicalType} {v w : Datum} {ts : List LogicalType} {vs ws : List Datum} → AgreeAlong ps t v w → EachAgree ps ts vs ws → EachAgree ps (t ∷ ts) (v ∷ vs) (w ∷ ws)
 
+-- the paths lead to a place in each of the types
 abbrev pub LeadEverywhere : List Path → List LogicalType → Type 0
 LeadEverywhere ps [] = Unit {0}
 LeadEverywhere ps (t ∷ ts) = EachLeads ps t × LeadEverywhere ps ts
 
-pub no_paths_lead : (ts : List LogicalType) → LeadEverywhere [] ts
+no_paths_lead : (ts : List LogicalType) → LeadEverywhere [] ts
 no_paths_lead [] = tt
 no_paths_lead (t ∷ ts) = (tt, no_paths_lead ts)
 
-pub roots_lead : (ts : List LogicalType) → LeadEverywhere ([] ∷ []) ts
+roots_lead : (ts : List LogicalType) → LeadEverywhere ([] ∷ []) ts
 roots_lead [] = tt
 roots_lead (t ∷ ts) = ((tt, tt), roots_lead ts)
 
-pub equal_values : {ts : List LogicalType} {vs ws : List Datum} → EachAgree ([] ∷ []) ts vs ws → vs ≡ ws
+equal_values : {ts : List LogicalType} {vs ws : List Datum} → EachAgree ([] ∷ []) ts vs ws → vs ≡ ws
 equal_values agree_none = refl
 equal_values (agree_more {v = v} {w = w} {vs = vs} {ws = ws} e es) = let q : v ≡ w = e.0 in let r : vs ≡ ws = equal_values es in cc
 
-pub node_leads : {f : Function} {ts : List LogicalType} {t : LogicalType} (paths : List Path) → FnType f ts t → EachLeads paths t → LeadEverywhere (child_paths f ts paths) ts
+-- what a node asks its children for leads to places in their types
+node_leads : {f : Function} {ts : List LogicalType} {t : LogicalType} (paths : List Path) → FnType f ts t → EachLeads paths t → LeadEverywhere (child_paths f ts paths) ts
 node_leads {ts = ts} [] d l = no_paths_lead ts
 node_leads (path ∷ paths) (of_get_item {a = a} {fs = fs} {s = s} {n = n} {m = m} e) l = (item_leads a fs s n m (m || n) (path ∷ paths) e l, tt)
 node_leads (path ∷ paths) (of_select {sel = sel} {fs = fs} {n = n} e) l = (select_leads (included sel fs) fs n (path ∷ paths) (included-known sel fs e) l, tt)
 node_leads {ts = ts} (path ∷ paths) _ l = roots_lead ts
 
-pub by_equal : (f : Function) (ts : List LogicalType) (t : LogicalType) (vs ws : List Datum) (paths : List Path) → EachLeads paths t → Fits (fn_value f ts vs) t → vs ≡ ws → AgreeAlong paths t (fn_value f ts vs) (fn_value f ts ws)
+by_equal : (f : Function) (ts : List LogicalType) (t : LogicalType) (vs ws : List Datum) (paths : List Path) → EachLeads paths t → Fits (fn_value f ts vs) t → vs ≡ ws → AgreeAlong paths t (fn_value f ts vs) (fn_value f ts ws)
 by_equal f ts t vs ws paths l e q = subst (λ ws. AgreeAlong paths t (fn_value f ts vs) (fn_value f ts ws)) q (along-refl paths t (fn_value f ts vs) l e)
 
-pub node_agree : {f : Function} {ts : List LogicalType} {t : LogicalType} {vs ws : List Datum} (paths : List Path) → FnType f ts t → EachLeads paths t → EachFits vs ts → EachFits ws ts → Fits (fn_value f ts vs) t → EachAgree (child_paths f ts paths) ts vs ws → AgreeAlong paths t (fn_value f ts vs) (fn_value f ts ws)
+-- where its children agree along what they are asked for, a node agrees along what it is asked for
+node_agree : {f : Function} {ts : List LogicalType} {t : LogicalType} {vs ws : List Datum} (paths : List Path) → FnType f ts t → EachLeads paths t → EachFits vs ts → EachFits ws ts → Fits (fn_value f ts vs) t → EachAgree (child_paths f ts paths) ts vs ws → AgreeAlong paths t (fn_value f ts vs) (fn_value f ts ws)
 node_agree [] d l x y e a = tt
 node_agree (path ∷ paths) (of_get_item {a = a} {fs = fs} {s = s} {n = n} {m = m} h) l x y e (agree_more {v = v} {w = w} g agree_none) = item_agree a fs s n m (path ∷ paths) v w h g
 node_agree (path ∷ paths) (of_select {sel = sel} {fs = fs} {n = n} h) l (more_fit x none_fit) (more_fit y none_fit) e (agree_more {v = v} {w = w} g agree_none) =
@@ -76,6 +80,7 @@ node_agree {f = f} {ts = ts} {t = t} {vs = vs} {ws = ws} (path ∷ paths) _ l x 
 
 -- ---- trees
 
+-- two rows that agree along what a tree asks for give it values that agree along what it is asked for
 mutual
   pub paths-agree : (b : BoundTree) (s : LogicalType) (first second : List Datum) (v w : Datum) (paths : List Path) → WellTyped b → Over b s → HasNoFault b first → HasNoFault b second → IsIn v first → IsIn w second → Fits v s → Fits w s → EachLeads paths (node_type b) → AgreeAlong (asked b paths) s v w → AgreeAlong paths (node_type b) (value b v) (value b w)
   paths-agree (scope t) s first second v w paths k o m n i j x y l a = subst (λ u. AgreeAlong paths u v w) (sym o) a

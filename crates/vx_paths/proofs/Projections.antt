@@ -8,9 +8,10 @@ use Rattle.vx_dtype.proofs.Known.{known_first}
 use Rattle.vx_types.specs.Fields.{field_type, field_value, first_unknown, is_among, project, project_values, put_field}
 use Rattle.vx_types.specs.Types.{Name, LogicalType, Fields, Data, datum}
 
-pub same_name : (a b : Name) → bytes_eq a b ≡ true → a ≡ b
+same_name : (a b : Name) → bytes_eq a b ≡ true → a ≡ b
 same_name a b e = (bytes_eq-Decides a b).0 e
 
+-- a projection has the type of the first field of each of its names
 pub project-type : (b : Name) (names : List Name) (fs : Fields) → first_unknown names fs ≡ None → is_among names b ≡ true → field_type b (project names fs) ≡ field_type b fs
 project-type b [] fs k m = cc
 project-type b (a ∷ names) fs k m =
@@ -22,6 +23,7 @@ project-type b (a ∷ names) fs k m =
     go (Some t) q h true d m r = let y : b ≡ a = same_name b a d in rw d (sym q ∙ ap (λ z. field_type z fs) (sym y))
     go (Some t) q h false d m r = rw d (r m)
 
+-- and its value
 pub project-value : (b : Name) (names : List Name) (fs : Fields) (vs : Data) → first_unknown names fs ≡ None → is_among names b ≡ true → field_value b (project names fs) (project_values names fs vs) ≡ field_value b fs vs
 project-value b [] fs vs k m = cc
 project-value b (a ∷ names) fs vs k m =
@@ -33,6 +35,7 @@ project-value b (a ∷ names) fs vs k m =
     go (Some t) q h true d m r = let y : b ≡ a = same_name b a d in rw d (ap (λ z. field_value z fs vs) (sym y))
     go (Some t) q h false d m r = rw d (r m)
 
+-- and no other field
 pub project-missing : (b : Name) (names : List Name) (fs : Fields) → is_among names b ≡ false → field_type b (project names fs) ≡ None
 project-missing b [] fs m = refl
 project-missing b (a ∷ names) fs m = go (field_type a fs) (bytes_eq b a) refl m (project-missing b names fs)
