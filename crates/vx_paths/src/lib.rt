@@ -1,0 +1,10 @@
+// The field paths of its scope that a bound tree references.
+#![tactic(auto)]
+
+mod referenced;
+mod request;
+mod selection;
+#[cfg(test)]
+mod tests;
+
+pub use referenced::referenced_field_paths;
