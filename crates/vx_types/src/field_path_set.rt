@@ -52,8 +52,8 @@ impl FieldPathSet {
         Ok(())
     }
 
-    /// The paths of which no other is a proper prefix, in their order. Takes no memory. Each of a
-    /// path's proper prefixes is looked up, so all of them together cost what the paths' lengths do.
+    /// The paths of which no other is a proper prefix, in their order. Takes no memory. A path's proper
+    /// prefixes are looked up one after another, so the paths aren't compared each with each.
     pub fn iter(&self) -> FieldPaths<'_>
         ensures { result ≡ minimal_paths self.now }
     {
