@@ -1,5 +1,5 @@
 -- At which nodes constants fold.
-use Rattle.std.proofs.Common.{◌≡◌, ◌≢◌, ◌<◌, Bool, true, false, List, refl, sym, ◌∙◌, ap, subst, arith}
+use Rattle.std.proofs.Common.{◌≡◌, ◌≢◌, ◌<◌, Bool, true, false, List, refl, sym, ◌∙◌, subst, arith}
 use Rattle.std.specs.Prelude.{Option, Some, None, Ok, MatchOption, not}
 use Rattle.vx_types.specs.Types.{LogicalType, Datum, bool, is_nullable}
 use Rattle.vx_fn.specs.Functions.{Function, literal, negation, is_null, truth_type, Typing, of_one, fn_type}

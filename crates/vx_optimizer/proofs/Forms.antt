@@ -2,7 +2,6 @@
 use Rattle.std.proofs.Common.{◌≡◌, ◌↔◌, ℕ, suc, refl, sym, subst, arith}
 use Rattle.std.specs.Prelude.{Option, Some, None, IfSome, IsNone, unwrap_or}
 use Rattle.vx_tree.specs.Trees.{BoundTree, scope, node, WellTyped}
-use Rattle.vx_keep.specs.Keeps.{Keeps}
 use Rattle.vx_keep.specs.Lawful.{Lawful}
 use Rattle.vx_keep.specs.Steps.{here, Steps, no_step, one_more, RootSteps, no_root_step, one_more_at_root, GivesNothing, Normal, NormalBelow}
 use Rattle.vx_keep.proofs.Keeping.{keeps_refl}

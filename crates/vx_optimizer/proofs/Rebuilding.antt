@@ -4,15 +4,15 @@ use Rattle.std.specs.Prelude.{Some, Ok, Err}
 use Rattle.vx_dtype.specs.declared.error.VortexError.{VortexError}
 use Rattle.vx_types.specs.Types.{LogicalType}
 use Rattle.vx_fn.specs.Functions.{Function, fn_type}
-use Rattle.vx_tree.specs.Trees.{BoundTree, scope, node, BoundTrees, no_bound, bound, node_types, unbound, WellTyped, EachWellTyped}
+use Rattle.vx_tree.specs.Trees.{BoundTree, scope, node, BoundTrees, bound, node_types, unbound, WellTyped}
 use Rattle.vx_tree.specs.Binding.{node_over}
 use Rattle.vx_tree.specs.Nodes.{function_at, bound_children_of}
-use Rattle.vx_keep.specs.Keeps.{Keeps, KeepsEach, keeps_none, keeps_more}
+use Rattle.vx_keep.specs.Keeps.{KeepsEach, keeps_none, keeps_more}
 use Rattle.vx_keep.specs.Lawful.{Lawful}
-use Rattle.vx_keep.specs.Steps.{Step, below, OneStep, this_one, later_one, Steps, no_step, one_more, EachNormal, NormalBelow}
+use Rattle.vx_keep.specs.Steps.{below, OneStep, this_one, later_one, Steps, no_step, one_more, EachNormal, NormalBelow}
 use Rattle.vx_keep.proofs.Keeping.{keeps_again}
 use Rattle.vx_keep.proofs.Stepping.{one_step_keeps}
-use Rattle.vx_optimizer.specs.NormalForms.{NormalForm, NormalForms, no_form, form}
+use Rattle.vx_optimizer.specs.NormalForms.{NormalForms, no_form, form}
 
 pub steps_then : {R : BoundTree → BoundTree → Type 0} {b u w : BoundTree} {m n : ℕ} → Steps R b m u → Steps R u n w → (k : ℕ) × Steps R b k w
 steps_then no_step r = (_, r)

@@ -1,9 +1,9 @@
 -- What steps take of a tree's weight, and that a tree weighs more than what is below its root.
-use Rattle.std.proofs.Common.{◌≡◌, ℕ, suc, ◌+◌, ◌*◌, ◌<◌, ◌≤◌, refl, ap, arith}
+use Rattle.std.proofs.Common.{◌≡◌, ℕ, ◌+◌, ◌*◌, ◌<◌, ◌≤◌, refl, ap, arith}
 use Rattle.std.specs.Prelude.{Ok}
 use Rattle.vx_types.specs.Types.{LogicalType, Fields, Datum}
 use Rattle.vx_types.specs.Fields.{field_count}
-use Rattle.vx_dtype.specs.Joins.{Narrower, narrower, NarrowerShape, same_atomic_shape, narrower_list, narrower_fixed, narrower_struct, NarrowerFields, no_fields, narrower_field}
+use Rattle.vx_dtype.specs.Joins.{Narrower, narrower, same_atomic_shape, narrower_list, narrower_fixed, narrower_struct, NarrowerFields, no_fields, narrower_field}
 use Rattle.vx_fn.specs.Functions.{Function, literal, get_item, pack, zip, case_when, select, fn_type}
 use Rattle.vx_tree.specs.Trees.{BoundTree, scope, node, BoundTrees, no_bound, bound, WellTyped, EachWellTyped, node_types}
 use Rattle.vx_tree.specs.Nodes.{bound_children_of}

@@ -1,18 +1,18 @@
 -- A small set of rules, to show what an author of rules states and proves: null tests and negations of constants.
-use Rattle.std.proofs.Common.{◌≡◌, ◌<◌, Bool, false, [], ◌∷◌, refl, sym, ap, subst, arith}
-use Rattle.std.specs.Prelude.{not, Ok}
+use Rattle.std.proofs.Common.{◌≡◌, ◌<◌, Bool, false, refl, sym, ap, subst, arith}
+use Rattle.std.specs.Prelude.{not}
 use Rattle.vx_types.specs.Types.{LogicalType, ty, Datum, null, bool, is_nullable, is_null_datum}
 use Rattle.vx_types.specs.Fits.{Fits}
 use Rattle.vx_types.specs.Joins.{Narrower}
 use Rattle.vx_fn.proofs.Monotone.{narrower_refl}
-use Rattle.vx_fn.specs.Functions.{Function, get_item, pack, zip, case_when, select, literal, negation, is_null, truth_type, fn_type}
+use Rattle.vx_fn.specs.Functions.{get_item, pack, zip, case_when, select, literal, negation, is_null, truth_type}
 use Rattle.vx_tree.proofs.Trees.{value-fits, each_passes, or_none}
 use Rattle.vx_tree.specs.Meaning.{value}
-use Rattle.vx_tree.specs.Trees.{BoundTree, scope, node, BoundTrees, no_bound, bound, node_type, node_types, WellTyped}
+use Rattle.vx_tree.specs.Trees.{BoundTree, scope, node, no_bound, bound, node_type, WellTyped}
 use Rattle.vx_keep.specs.Keeps.{Keeps}
 use Rattle.vx_keep.specs.Lawful.{Lawful}
 use Rattle.vx_keep.specs.Steps.{NormalBelow}
-use Rattle.vx_keep.specs.Weights.{weight, weights}
+use Rattle.vx_keep.specs.Weights.{weight}
 
 -- the literal `true` or `false`
 abbrev pub truth_literal : Bool → BoundTree

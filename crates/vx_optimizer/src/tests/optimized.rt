@@ -73,7 +73,12 @@ fn a_node_is_tried_again_where_its_child_changed(rt: HostRuntime) -> Result<(), 
 fn children_that_stay_stand_in_their_places(rt: HostRuntime) -> Result<(), Fail> {
     let alloc = rt.alloc();
     let tree = and(alloc, stays_and_folds(alloc)?, truth(alloc, false)?)?;
-    whole_gives(&rt, alloc, &tree, "((vortex.is_null($) and true) and false)")
+    whole_gives(
+        &rt,
+        alloc,
+        &tree,
+        "((vortex.is_null($) and true) and false)",
+    )
 }
 
 /// Asserts that no rule fits at any node.

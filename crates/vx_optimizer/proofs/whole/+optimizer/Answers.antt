@@ -1,4 +1,4 @@
-use Rattle.std.proofs.Common.{◌≡◌, ◌+◌, ◌-◌, ◌*◌, ◌<◌, ◌≤◌, [], ◌∷◌, ◌++◌, length, take, drop, drop_of_length-le, map, refl, sym, ◌∙◌, ap, arith}
+use Rattle.std.proofs.Common.{◌≡◌, ◌+◌, ◌-◌, ◌*◌, ◌<◌, ◌≤◌, [], ◌∷◌, ◌++◌, length, take, drop, drop_of_length-le, map, refl, arith}
 use Rattle.std.specs.Prelude.{Option, Some}
 use Rattle.vx_fn.specs.Functions.{Function}
 use Rattle.std.proofs.lemmas.List.{append_assoc, take_rest}
