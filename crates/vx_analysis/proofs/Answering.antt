@@ -1,6 +1,6 @@
 -- A map of the nodes with answers, child by child.
 use Rattle.std.proofs.Common.{◌≡◌, ℕ, ◌+◌, ◌<◌, ◌≤◌, get_or, drop, List, length, Bool, true, false, ◌||◌, refl, sym, ap, ◌∙◌}
-use Rattle.std.specs.Prelude.{Option, Some, is_some, not, cond, ◌&&◌}
+use Rattle.std.specs.Prelude.{Some, is_some, not, cond, ◌&&◌}
 use Rattle.std.specs.HashMap.{HashMap}
 use Rattle.vx_tree.specs.Equality.{equal_bound, equal_bound-Decides, equal_bound_equiv}
 use Rattle.vx_tree.specs.Nodes.{bound_children_of}

@@ -1,5 +1,5 @@
 -- The test of covered trees.
-use Rattle.std.proofs.Common.{◌≡◌, Bool, true, refl, inl, inr}
+use Rattle.std.proofs.Common.{Bool, refl, inl, inr}
 use Rattle.std.specs.Prelude.{IsTrue, ◌↔◌}
 use Rattle.vx_tree.specs.Trees.{BoundTree, scope, node, BoundTrees, no_bound, bound}
 use Rattle.vx_analysis.specs.Covers.{Covered, AreCovered, is_covered, are_covered}

@@ -1,15 +1,10 @@
 -- A map of labels, child by child.
 use Rattle.std.proofs.Common.{◌≡◌, ℕ, ◌+◌, ◌<◌, ◌≤◌, get_or, drop, List, length, refl, sym, ap, ◌∙◌}
-use Rattle.vx_tree.specs.Nodes.{bound_children_of}
-use Rattle.vx_tree.specs.Trees.{BoundTree, scope, node}
+use Rattle.vx_tree.specs.Trees.{BoundTree}
 use Rattle.vx_tree.specs.Views.{bound_of, bounds_of}
 use Rattle.vx_tree.specs.declared.bound.BoundExpression.{BoundExpression}
 use Rattle.vx_analysis.specs.Labels.{label, merged}
 use Rattle.vx_analysis.proofs.Subtrees.{bounds-next, bounds-end}
-
-pub label-children : {L : Type 0} (own : BoundTree → L) (merge : L → L → L) (b : BoundTree) → label own merge b ≡ merged own merge (own b) (bound_children_of b)
-label-children own merge (scope t) = refl
-label-children own merge (node t f bs) = refl
 
 -- one more child is merged
 pub merged-next : {L : Type 0} (own : BoundTree → L) (merge : L → L → L) (ts : List BoundExpression) (i : ℕ) (t : BoundExpression) (l m all : L) → i < length ts → t ≡ get_or ts i t

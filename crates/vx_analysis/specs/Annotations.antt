@@ -1,5 +1,5 @@
 -- Annotations of the nodes of a tree.
-use Rattle.std.specs.Prelude.{◌≡◌, Bool, true, false, ◌||◌, List, [], ◌∷◌, IfSome, if◌then◌else◌, Result, Ok, Vec, is_some}
+use Rattle.std.specs.Prelude.{◌≡◌, Bool, true, false, ◌||◌, List, [], ◌∷◌, IfSome, if◌then◌else◌, Result, Ok, Vec}
 use Rattle.std.specs.Borrow.{Bor}
 use Rattle.std.specs.HashMap.{HashMap}
 use Rattle.std.specs.HashSet.{HashSet, contains}
@@ -10,7 +10,6 @@ use Rattle.vx_tree.specs.Views.{bound_of}
 use Rattle.vx_tree.specs.declared.bound.BoundExpression.{BoundExpression}
 use Rattle.vx_tree.specs.declared.exact.ExactBoundExpr.{ExactBoundExpr}
 use Rattle.vx_analysis.specs.Keys.{key_of, entry_at}
-use Rattle.vx_analysis.specs.Reached.{is_reached, IsClosed}
 
 -- whether there is some item
 abbrev pub is_some_item : {A : Type 0} → List A → Bool

@@ -6,7 +6,7 @@ ghost use Rattle.vx_dtype.specs.declared.error.VortexError.TheVariants.{OutOfMem
 ghost use Rattle.vx_tree.specs.Nodes.{bound_children_of};
 ghost use Rattle.vx_tree.specs.Trees.{BoundTree};
 ghost use Rattle.vx_tree.specs.Views.{bound_of};
-ghost use Rattle.vx_analysis.specs.Annotations.{answered, AnswersAlike, is_annotation, is_annotation_in, IsAnnotationsOf, IsAnnotated};
+ghost use Rattle.vx_analysis.specs.Annotations.{answered, AnswersAlike, is_annotation, IsAnnotationsOf, IsAnnotated};
 ghost use Rattle.vx_analysis.specs.Keys.{key_of, entry_at};
 ghost use Rattle.vx_analysis.specs.Reached.{is_reached, is_reached_in, IsClosed};
 

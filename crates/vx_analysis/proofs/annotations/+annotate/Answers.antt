@@ -5,7 +5,7 @@ use Rattle.std.proofs.lemmas.Result.{err_from_is_err_and, on_ok_weaker}
 use Rattle.vx_tree.specs.Nodes.{size_of, bound_children_of}
 use Rattle.vx_tree.specs.Trees.{unbound}
 use Rattle.vx_tree.specs.Views.{bound_of}
-use Rattle.vx_analysis.specs.Annotations.{answered, is_annotation, is_annotation_in, IsAnnotationsOf}
+use Rattle.vx_analysis.specs.Annotations.{answered, is_annotation_in, IsAnnotationsOf}
 use Rattle.vx_analysis.specs.Keys.{key_of, entry_at}
 use Rattle.vx_analysis.specs.Reached.{is_reached_in}
 use Rattle.vx_analysis.proofs.Annotating.{some_item, no_item, items-alike, answered-set, unanswered-set, union-next, union-end}

@@ -1,4 +1,4 @@
-use Rattle.std.proofs.Common.{◌≡◌, sym, subst}
+use Rattle.std.proofs.Common.{sym, subst}
 use Rattle.std.specs.Prelude.{IsTrue, ◌↔◌}
 use Rattle.vx_tree.specs.Views.{bound_of}
 use Rattle.vx_analysis.specs.Covers.{has_single, Covered}

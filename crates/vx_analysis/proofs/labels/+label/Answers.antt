@@ -1,12 +1,12 @@
-use Rattle.std.proofs.Common.{◌≡◌, ◌<◌, ◌+◌, ◌*◌, arith, rules, sym, ap, ◌∙◌}
+use Rattle.std.proofs.Common.{◌≡◌, ◌<◌, ◌+◌, ◌*◌, arith, rules, ap, ◌∙◌}
 use Rattle.vx_tree.specs.Nodes.{size_of}
 use Rattle.vx_tree.specs.Trees.{unbound}
 use Rattle.vx_tree.specs.Views.{bound_of}
 use Rattle.vx_analysis.specs.Keys.{key_of, entry_at}
-use Rattle.vx_analysis.specs.Labels.{label, merged}
+use Rattle.vx_analysis.specs.Labels.{label}
 use Rattle.vx_analysis.specs.Reached.{nowhere}
-use Rattle.vx_analysis.proofs.Labelling.{label-children, merged-next, merged-end}
-use Rattle.vx_analysis.proofs.Subtrees.{child-smaller, reached-next, reached-end, closed-with, closed-at, nodes-with, entries-with, entry-found, is_some-found}
+use Rattle.vx_analysis.proofs.Labelling.{merged-next, merged-end}
+use Rattle.vx_analysis.proofs.Subtrees.{child-smaller, reached-next, closed-with, closed-at, nodes-with, entries-with, entry-found, is_some-found}
 use Rattle.vx_analysis.proofs.labels.+label.Goals as goal
 
 pub label_of-merge_one-requires : goal.label_of-merge_one-requires
