@@ -1,0 +1,4 @@
+pub mod Kleene
+pub mod Ands
+pub mod Ranges
+pub mod Merges

@@ -1,0 +1,3 @@
+pub mod Conjuncts
+pub mod Merging
+pub mod Laws
