@@ -1,19 +1,16 @@
 -- Ands of the same conjuncts keep each other, with the same type.
 use Rattle.std.proofs.Common.{◌≡◌, List, [], ◌∷◌, refl, sym, subst, ap, ◌∙◌, Bool, true, false, ◌||◌}
-use Rattle.std.specs.Prelude.{Ok, None}
-use Rattle.vx_types.specs.Types.{truth, LogicalType, ty, atomic, Datum, is_nullable}
+use Rattle.std.specs.Prelude.{Ok}
+use Rattle.vx_types.specs.Types.{LogicalType, Datum, is_nullable}
 use Rattle.vx_dtype.specs.Joins.{Narrower}
-use Rattle.vx_fn.specs.Functions.{Function, binary, and_also, truth_type, fn_type}
+use Rattle.vx_fn.specs.Functions.{binary, and_also, truth_type, fn_type}
 use Rattle.vx_fn.specs.Rows.{FnType, of_and}
 use Rattle.vx_tree.specs.Meaning.{value}
-use Rattle.vx_fn.specs.Values.{kleene_and}
 use Rattle.vx_tree.specs.Faults.{HasNoFault}
-use Rattle.vx_fn.specs.Faults.{IsIn}
-use Rattle.vx_tree.specs.Trees.{BoundTree, node, node_type, WellTyped, Over}
-use Rattle.vx_keep.specs.Keeps.{Keeps, keeps_none, keeps_more}
-use Rattle.vx_types.specs.Fits.{IsBatch}
+use Rattle.vx_tree.specs.Trees.{BoundTree, node_type, WellTyped, Over}
+use Rattle.vx_keep.specs.Keeps.{keeps_none, keeps_more}
 use Rattle.vx_fusing.specs.Conjuncts.{two_bounds, and_node, and_of}
-use Rattle.vx_fn.proofs.Rows.{fn_type-found, fn_type-only}
+use Rattle.vx_fn.proofs.Rows.{fn_type-found}
 use Rattle.vx_fn.proofs.Monotone.{narrower_refl}
 use Rattle.vx_keep.proofs.Keeping.{keeps_node, keeps_trans, keeps_refl}
 use Rattle.vx_tree.proofs.Trees.{or_none}

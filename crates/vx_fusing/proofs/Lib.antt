@@ -1,4 +1,10 @@
 pub mod Kleene
 pub mod Ands
-pub mod Ranges
+pub mod Comparisons
 pub mod Merges
+pub mod Binaries
+pub mod Pairs
+pub mod Refusals
+pub mod Found
+pub mod Pairing
+pub mod Children

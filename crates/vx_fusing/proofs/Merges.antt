@@ -1,19 +1,19 @@
 -- Merges keep, keep trees fused below, and end.
-use Rattle.std.proofs.Common.{◌≡◌, ◌⊎◌, inl, inr, ℕ, zero, suc, ◌+◌, ◌<◌, ◌≤◌, List, [], ◌∷◌, ◌++◌, length, refl, sym, subst, ap, ◌∙◌, Bool, true, false, arith, ◌||◌}
-use Rattle.std.specs.Prelude.{Option, Some, None, Ok, IsFalse, if◌then◌else◌}
+use Rattle.std.proofs.Common.{◌≡◌, ◌⊎◌, inl, inr, ℕ, ◌+◌, ◌<◌, ◌≤◌, List, [], ◌∷◌, ◌++◌, length, refl, sym, subst, ap, ◌∙◌, Bool, true, false, arith}
+use Rattle.std.specs.Prelude.{None, Ok, if◌then◌else◌}
 use Rattle.std.proofs.lemmas.List.{length-append}
-use Rattle.vx_types.specs.Types.{LogicalType, is_nullable}
-use Rattle.vx_fn.specs.Functions.{Function, binary, and_also, fn_type, truth_type}
+use Rattle.vx_types.specs.Types.{LogicalType}
+use Rattle.vx_fn.specs.Functions.{Function, binary, and_also, fn_type}
 use Rattle.vx_fn.specs.Faults.{IsIn}
 use Rattle.vx_tree.specs.Trees.{BoundTree, scope, node, BoundTrees, no_bound, bound, node_type, node_types, WellTyped, EachWellTyped}
 use Rattle.vx_keep.specs.Keeps.{Keeps}
 use Rattle.vx_keep.specs.Steps.{Step, here, below, OneStep, this_one, later_one, Steps, no_step, one_more}
 use Rattle.vx_keep.proofs.Stepping.{step_keeps, steps_keep}
-use Rattle.vx_fusing.specs.Conjuncts.{and_node, and_of, is_and, conjuncts, range_of, Range, between_node, MergeTo, below_and_above, above_and_below, Mergeable, NoneMergeable, Fused, EachFused, FusedBelow}
-use Rattle.vx_fusing.specs.Merging.{Replaced, itself, on_left, on_right, Removed, left_gone, right_gone, from_left, from_right, IsFirstPair, MergeAt, right_stays, right_goes, Merges, KeepsAlike}
+use Rattle.vx_fusing.specs.Conjuncts.{and_node, and_of, is_and, conjuncts, range_of, between_node, MergeTo, below_and_above, above_and_below, Mergeable, NoneMergeable, Fused, EachFused, FusedBelow}
+use Rattle.vx_fusing.specs.Merging.{Replaced, itself, on_left, on_right, Removed, left_gone, right_gone, from_left, from_right, MergeAt, right_stays, right_goes, Merges, KeepsAlike}
 use Rattle.vx_fusing.specs.Laws.{is_conjunction, and_count, and_counts}
-use Rattle.vx_fusing.proofs.Ands.{AndParts, and_parts_of, alike_refl, alike_trans, and_alike, and_again, and_exchange, and_regroup, and_group}
-use Rattle.vx_fusing.proofs.Ranges.{merged_alike, merged_parts, merged_ands}
+use Rattle.vx_fusing.proofs.Ands.{and_parts_of, alike_refl, alike_trans, and_alike, and_again, and_exchange, and_regroup, and_group}
+use Rattle.vx_fusing.proofs.Comparisons.{merged_alike, merged_parts, merged_ands}
 
 -- ---- merges keep
 
@@ -107,12 +107,12 @@ in_append x (y ∷ xs) ys (inr i) = go (in_append x xs ys i)
     go (inl j) = inl (inr j)
     go (inr j) = inr j
 
-in_first : {A : Type 0} (x : A) (xs ys : List A) → IsIn x xs → IsIn x (xs ++ ys)
+pub in_first : {A : Type 0} (x : A) (xs ys : List A) → IsIn x xs → IsIn x (xs ++ ys)
 in_first x [] ys i = elim i [ ]
 in_first x (y ∷ xs) ys (inl e) = inl e
 in_first x (y ∷ xs) ys (inr i) = inr (in_first x xs ys i)
 
-in_second : {A : Type 0} (x : A) (xs ys : List A) → IsIn x ys → IsIn x (xs ++ ys)
+pub in_second : {A : Type 0} (x : A) (xs ys : List A) → IsIn x ys → IsIn x (xs ++ ys)
 in_second x [] ys i = i
 in_second x (y ∷ xs) ys i = inr (in_second x xs ys i)
 
@@ -144,7 +144,7 @@ within_append m xs xs' ys ys' f g x i = either
     (λ j. either (λ k. inl (in_second x xs ys k)) (λ q. inr q) (g x j))
     (in_append x xs' ys' i)
 
-replaced_within : {c m l u : BoundTree} {front : List BoundTree} → Replaced c m front l u → is_and m ≡ false → Within m (conjuncts u) (conjuncts l)
+pub replaced_within : {c m l u : BoundTree} {front : List BoundTree} → Replaced c m front l u → is_and m ≡ false → Within m (conjuncts u) (conjuncts l)
 replaced_within {m = m} (itself q) e = λ x i. inr (in_alone x m e i)
 replaced_within {m = m} (on_left {l = l} {l' = l'} {r = r} p) e = within_append m (conjuncts l) (conjuncts l') (conjuncts r) (conjuncts r) (replaced_within p e) (within_itself m (conjuncts r))
 replaced_within {m = m} (on_right {l = l} {r = r} {r' = r'} p) e = within_append m (conjuncts l) (conjuncts l) (conjuncts r) (conjuncts r') (within_itself m (conjuncts l)) (replaced_within p e)
@@ -161,15 +161,15 @@ removed_within {d = d} (right_gone {l = l} q) = λ x i. in_first x (conjuncts l)
 removed_within (from_left {l = l} {l' = l'} {r = r} p) = all_append (conjuncts l) (conjuncts l') (conjuncts r) (conjuncts r) (removed_within p) (λ x i. i)
 removed_within (from_right {l = l} {r = r} {r' = r'} p) = all_append (conjuncts l) (conjuncts l) (conjuncts r) (conjuncts r') (λ x i. i) (removed_within p)
 
-in_own : (b : BoundTree) → is_and b ≡ false → IsIn b (conjuncts b)
+pub in_own : (b : BoundTree) → is_and b ≡ false → IsIn b (conjuncts b)
 in_own b e = subst (IsIn b) (sym (alone b e)) (inl refl)
 
-replaced_from : {c m l u : BoundTree} {front : List BoundTree} → Replaced c m front l u → IsIn c (conjuncts l)
+pub replaced_from : {c m l u : BoundTree} {front : List BoundTree} → Replaced c m front l u → IsIn c (conjuncts l)
 replaced_from {c = c} (itself q) = in_own c q
 replaced_from {c = c} (on_left {l = l} {r = r} p) = in_first c (conjuncts l) (conjuncts r) (replaced_from p)
 replaced_from {c = c} (on_right {l = l} {r = r} p) = in_second c (conjuncts l) (conjuncts r) (replaced_from p)
 
-removed_from : {d r u : BoundTree} {front : List BoundTree} → Removed d front r u → IsIn d (conjuncts r)
+pub removed_from : {d r u : BoundTree} {front : List BoundTree} → Removed d front r u → IsIn d (conjuncts r)
 removed_from {d = d} (left_gone {r = r} q) = in_first d (conjuncts d) (conjuncts r) (in_own d q)
 removed_from {d = d} (right_gone {l = l} q) = in_second d (conjuncts l) (conjuncts d) (in_own d q)
 removed_from {d = d} (from_left {l = l} {r = r} p) = in_first d (conjuncts l) (conjuncts r) (removed_from p)
@@ -178,11 +178,11 @@ removed_from {d = d} (from_right {l = l} {r = r} p) = in_second d (conjuncts l) 
 -- ---- what is merged stays fused
 
 -- a tree that is no range comparison is mergeable with none
-no_left : {c d m : BoundTree} → MergeTo c d m → range_of c ≡ None → ⊥
+pub no_left : {c d m : BoundTree} → MergeTo c d m → range_of c ≡ None → ⊥
 no_left (below_and_above e f) n = cc
 no_left (above_and_below e f) n = cc
 
-no_right : {c d m : BoundTree} → MergeTo c d m → range_of d ≡ None → ⊥
+pub no_right : {c d m : BoundTree} → MergeTo c d m → range_of d ≡ None → ⊥
 no_right (below_and_above e f) n = cc
 no_right (above_and_below e f) n = cc
 
@@ -198,14 +198,14 @@ none_within m xs ys e f none c d i j k = either
 none_all : (xs ys : List BoundTree) → AllIn xs ys → NoneMergeable ys ys → NoneMergeable xs xs
 none_all xs ys f none c d i j k = none c d (f c i) (f d j) k
 
-replaced_fused : {c m l u : BoundTree} {front : List BoundTree} → Replaced c m front l u → is_and m ≡ false → range_of m ≡ None → Fused m → Fused l → Fused u
+pub replaced_fused : {c m l u : BoundTree} {front : List BoundTree} → Replaced c m front l u → is_and m ≡ false → range_of m ≡ None → Fused m → Fused l → Fused u
 replaced_fused (itself q) e n fm f = fm
 replaced_fused {m = m} (on_left {t = t} {l = l} {l' = l'} {r = r} p) e n fm f =
     (none_within m (conjuncts (and_of l' r)) (conjuncts (and_node t l r)) n (replaced_within (on_left {t = t} {r = r} p) e) f.0, (replaced_fused p e n fm f.1.0, f.1.1))
 replaced_fused {m = m} (on_right {t = t} {l = l} {r = r} {r' = r'} p) e n fm f =
     (none_within m (conjuncts (and_of l r')) (conjuncts (and_node t l r)) n (replaced_within (on_right {t = t} {l = l} p) e) f.0, (f.1.0, (replaced_fused p e n fm f.1.1.0, tt)))
 
-removed_fused : {d r u : BoundTree} {front : List BoundTree} → Removed d front r u → Fused r → Fused u
+pub removed_fused : {d r u : BoundTree} {front : List BoundTree} → Removed d front r u → Fused r → Fused u
 removed_fused (left_gone q) f = f.1.1.0
 removed_fused (right_gone q) f = f.1.0
 removed_fused (from_left {t = t} {l = l} {l' = l'} {r = r} p) f =
@@ -213,12 +213,12 @@ removed_fused (from_left {t = t} {l = l} {l' = l'} {r = r} p) f =
 removed_fused (from_right {t = t} {l = l} {r = r} {r' = r'} p) f =
     (none_all (conjuncts (and_of l r')) (conjuncts (and_node t l r)) (removed_within (from_right {t = t} {l = l} p)) f.0, (f.1.0, (removed_fused p f.1.1.0, tt)))
 
-conjunct_fused : {c m l u : BoundTree} {front : List BoundTree} → Replaced c m front l u → Fused l → Fused c
+pub conjunct_fused : {c m l u : BoundTree} {front : List BoundTree} → Replaced c m front l u → Fused l → Fused c
 conjunct_fused (itself q) f = f
 conjunct_fused (on_left p) f = conjunct_fused p f.1.0
 conjunct_fused (on_right p) f = conjunct_fused p f.1.1.0
 
-gone_fused : {d r u : BoundTree} {front : List BoundTree} → Removed d front r u → Fused r → Fused d
+pub gone_fused : {d r u : BoundTree} {front : List BoundTree} → Removed d front r u → Fused r → Fused d
 gone_fused (left_gone q) f = f.1.0
 gone_fused (right_gone q) f = f.1.1.0
 gone_fused (from_left p) f = gone_fused p f.1.0
@@ -231,12 +231,12 @@ between_fused x y z ls us p q r = (λ c d i j k. only c d i k, (p, (q, (r, tt)))
     only c d (inl q) k = no_left k.1 (rw q refl)
     only c d (inr j) k = j
 
-record Plain (m : BoundTree) : Type 0 where
-  no_and : is_and m ≡ false
-  no_range : range_of m ≡ None
-  fused : Fused m
+pub record Plain (m : BoundTree) : Type 0 where
+  pub no_and : is_and m ≡ false
+  pub no_range : range_of m ≡ None
+  pub fused : Fused m
 
-merged_plain : {c d m : BoundTree} → MergeTo c d m → Fused c → Fused d → Plain m
+pub merged_plain : {c d m : BoundTree} → MergeTo c d m → Fused c → Fused d → Plain m
 merged_plain {m = m} k p q =
     let a = merged_parts k p q in
     subst Plain (sym a.5) (record { no_and = refl; no_range = refl; fused = between_fused a.0 a.1 a.2 a.3 a.4 a.6 a.7 a.8; })

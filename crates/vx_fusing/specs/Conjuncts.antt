@@ -1,9 +1,11 @@
 -- The conjuncts of a tree, range comparisons, and when two of them are one Between.
 use Rattle.std.specs.Prelude.{◌≡◌, Bool, true, false, ◌&&◌, ◌||◌, List, [], ◌∷◌, ◌++◌, Option, Some, None, if◌then◌else◌}
 use Rattle.vx_types.specs.Types.{LogicalType, is_nullable}
-use Rattle.vx_fn.specs.Functions.{binary, and_also, compares, Comparison, above, at_least, below, at_most, mirrored, get_item, literal, between, truth_type}
+use Rattle.vx_fn.specs.Functions.{binary, and_also, compares, Comparison, above, at_least, below, at_most, mirrored, between, truth_type}
 use Rattle.vx_fn.specs.Faults.{IsIn}
-use Rattle.vx_tree.specs.Trees.{BoundTree, scope, node, BoundTrees, no_bound, bound, node_type}
+use Rattle.vx_fn.specs.Markers.{is_get_item, is_literal}
+use Rattle.vx_tree.specs.Trees.{BoundTree, scope, node, BoundTrees, no_bound, bound, unbound, node_type}
+use Rattle.vx_tree.specs.Nodes.{is_call_of}
 
 -- two trees as the children of a node
 abbrev pub two_bounds : BoundTree → BoundTree → BoundTrees
@@ -38,13 +40,11 @@ pub data Range : Type 0 where
 
 -- whether the node is a field of a struct
 abbrev pub is_item : BoundTree → Bool
-is_item (node t (get_item a) bs) = true
-is_item b = false
+is_item b = is_call_of is_get_item (unbound b)
 
 -- whether the node is a literal
-abbrev pub is_literal : BoundTree → Bool
-is_literal (node t (literal u c) bs) = true
-is_literal b = false
+abbrev pub is_constant : BoundTree → Bool
+is_constant b = is_call_of is_literal (unbound b)
 
 -- what the comparison of x with y says of x, for an item x and a literal y
 abbrev pub range : Comparison → BoundTree → BoundTree → Option Range
@@ -57,8 +57,8 @@ range c x y = None
 -- the range of a comparison between an item and a literal, which is turned round where the literal is on the left
 abbrev pub range_of : BoundTree → Option Range
 range_of (node t (binary (compares c)) (bound x (bound y no_bound))) =
-    if is_item x && is_literal y then range c x y
-    else if is_literal x && is_item y then range (mirrored c) y x
+    if is_item x && is_constant y then range c x y
+    else if is_constant x && is_item y then range (mirrored c) y x
     else None
 range_of b = None
 

@@ -1,6 +1,11 @@
 // Range fusing: two comparisons of one item in a conjunction as one Between.
 #![tactic(auto)]
 
+mod finding;
 mod laws;
+mod merge;
+mod nodes;
+mod ranges;
 
+pub use finding::find_between;
 pub use laws::{fused_stays, merge_shortens, merge_stays_fused, merges_end, merges_keep};

@@ -1,15 +1,14 @@
 -- A range comparison compares, and two of one item are one Between.
 use Rattle.std.proofs.Common.{◌≡◌, List, [], ◌∷◌, refl, sym, subst, ap, ◌∙◌, Bool, true, false, ◌||◌, ◌&&◌, ◌+◌, ◌≤◌, arith}
-use Rattle.std.specs.Prelude.{Option, Some, None, Ok, if◌then◌else◌}
-use Rattle.std.proofs.lemmas.Bool.{and_parts}
-use Rattle.vx_types.specs.Types.{Atomic, same_atomic, LogicalType, ty, atomic, Datum, is_nullable}
-use Rattle.vx_fn.specs.Functions.{binary, compares, between, Comparison, equal, different, above, at_least, below, at_most, truth_type, fn_type, mirrored}
+use Rattle.std.specs.Prelude.{Some, None, Ok, if◌then◌else◌}
+use Rattle.vx_types.specs.Types.{Atomic, LogicalType, ty, atomic, Datum, is_nullable}
+use Rattle.vx_fn.specs.Functions.{binary, compares, between, Comparison, above, at_least, below, at_most, truth_type, fn_type, mirrored}
 use Rattle.vx_fn.specs.Rows.{FnType, of_comparison, of_between}
 use Rattle.vx_tree.specs.Meaning.{value}
-use Rattle.vx_fn.specs.Values.{compared, kleene_and, below_or}
+use Rattle.vx_fn.specs.Values.{compared, below_or}
 use Rattle.vx_tree.specs.Faults.{HasNoFault}
 use Rattle.vx_tree.specs.Trees.{BoundTree, node, bound, no_bound, node_type, WellTyped, Over}
-use Rattle.vx_fusing.specs.Conjuncts.{two_bounds, and_of, is_item, is_literal, Range, from_below, from_above, range, range_of, between_node, MergeTo, below_and_above, above_and_below, Fused}
+use Rattle.vx_fusing.specs.Conjuncts.{two_bounds, and_of, is_item, is_constant, Range, from_below, from_above, range, range_of, between_node, MergeTo, below_and_above, above_and_below, Fused}
 use Rattle.vx_fn.proofs.Rows.{fn_type-found, fn_type-only}
 use Rattle.vx_dtype.proofs.Unions.{same_atomic-eq}
 use Rattle.vx_dtype.specs.Equality.{same_atomic-Decides}
@@ -17,7 +16,7 @@ use Rattle.vx_tree.proofs.Trees.{or_none}
 use Rattle.vx_fusing.specs.Merging.{KeepsAlike}
 use Rattle.vx_fusing.specs.Laws.{and_count}
 use Rattle.vx_fusing.proofs.Kleene.{and_comm, compared-turned}
-use Rattle.vx_fusing.proofs.Ands.{AndParts, and_parts_of, and_quiet, alike}
+use Rattle.vx_fusing.proofs.Ands.{and_parts_of, and_quiet, alike}
 
 -- ---- what a range comparison is
 
@@ -45,7 +44,7 @@ range-turned at_least t x y r e = let q : from_above false x y ≡ r = cc in sub
 range-turned _ t x y r e = cc
 
 range-says : (c : BoundTree) (r : Range) → range_of c ≡ Some r → Says c r
-range-says (node t (binary (compares c)) (bound x (bound y no_bound))) r e = go (is_item x && is_literal y) (is_literal x && is_item y) e
+range-says (node t (binary (compares c)) (bound x (bound y no_bound))) r e = go (is_item x && is_constant y) (is_constant x && is_item y) e
   where
     go : (a b : Bool) → (if a then range c x y else if b then range (mirrored c) y x else None) ≡ Some r → Says (node t (binary (compares c)) (two_bounds x y)) r
     go true b h = range-as_is c t x y r h
