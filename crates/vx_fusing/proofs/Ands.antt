@@ -23,14 +23,17 @@ pub alike : (b u : BoundTree) → WellTyped b → WellTyped u → node_type u �
     → ((s : LogicalType) → Over b s → Over u s)
     → ((batch : List Datum) → HasNoFault b batch → HasNoFault u batch)
     → ((v : Datum) → value u v ≡ value b v) → KeepsAlike b u
-alike b u w x e o n m = (record {
-  typed_before = w;
-  typed_after = x;
-  scopes = o;
-  type = subst (Narrower (node_type u)) e (narrower_refl (node_type u));
-  no_fault = λ s batch p i q. n batch q;
-  meaning = λ s batch p i q v j. m v;
-}, e)
+alike b u w x e o n m = (
+  record {
+    typed_before = w;
+    typed_after = x;
+    scopes = o;
+    type = subst (Narrower (node_type u)) e (narrower_refl (node_type u));
+    no_fault = λ s batch p i q. n batch q;
+    meaning = λ s batch p i q v j. m v;
+  },
+  e,
+)
 
 pub alike_refl : (b : BoundTree) → WellTyped b → KeepsAlike b b
 alike_refl b w = (keeps_refl b w, refl)
@@ -56,7 +59,7 @@ pub record AndParts (t : LogicalType) (l r : BoundTree) : Type 0 where
 pub and_parts_of : (t : LogicalType) (l r : BoundTree) → WellTyped (and_node t l r) → AndParts t l r
 and_parts_of t l r w =
     let x = and_types (fn_type-found (binary and_also) (node_type l ∷ node_type r ∷ []) t w.0) in
-    record { left = w.2.0; right = w.2.1.0; left_truth = x.0; right_truth = x.1; type = x.2; }
+    record { left = w.2.0; right = w.2.1.0; left_truth = x.0; right_truth = x.1; type = x.2 }
 
 truth_of : (a : LogicalType) → IsTruth a → (b : LogicalType) → IsTruth b → fn_type (binary and_also) (a ∷ b ∷ []) ≡ Ok (truth_type (is_nullable a || is_nullable b))
 truth_of a e b h = rw (e, h) refl
@@ -86,9 +89,11 @@ and_alike t l l' r r' w k h =
     let p = and_parts_of t l r w in
     let x : IsTruth (node_type l') = subst IsTruth (sym k.1) p.left_truth in
     let y : IsTruth (node_type r') = subst IsTruth (sym h.1) p.right_truth in
-    let e : truth_type (is_nullable (node_type l') || is_nullable (node_type r')) ≡ t = rw (k.1, h.1) (sym p.type) in
-    (keeps_node t (node_type (and_of l' r')) (binary and_also) (two_bounds l r) (two_bounds l' r') w (keeps_more k.0 (keeps_more h.0 keeps_none)) (truth_of (node_type l') x (node_type r') y)
-      (subst (Narrower (node_type (and_of l' r'))) e (narrower_refl (node_type (and_of l' r')))), e)
+    let e : truth_type (is_nullable (node_type l') || is_nullable (node_type r')) ≡ t = rw (k.1, h.1) (sym p.type) in (
+      keeps_node t (node_type (and_of l' r')) (binary and_also) (two_bounds l r) (two_bounds l' r') w (keeps_more k.0 (keeps_more h.0 keeps_none)) (truth_of (node_type l') x (node_type r') y)
+          (subst (Narrower (node_type (and_of l' r'))) e (narrower_refl (node_type (and_of l' r')))),
+      e,
+    )
 
 -- the same And, typed anew
 pub and_again : (t : LogicalType) (l r : BoundTree) → WellTyped (and_node t l r) → KeepsAlike (and_node t l r) (and_of l r)
@@ -126,9 +131,9 @@ and_regroup t u a b c w =
     (ap truth_type (sym (or_assoc na nb nc) ∙ ap (λ n. n || nc) (sym e)) ∙ sym p.type)
     (λ s o. (o.0.0, ((o.0.1.0, (o.1.0, tt)), tt)))
     (λ batch n.
-        let x = and_quiet t (and_node u a b) c batch n in
-        let y = and_quiet u a b batch x.0 in
-        quiet_of a (and_of b c) batch y.0 (quiet_of b c batch y.1 x.1))
+    let x = and_quiet t (and_node u a b) c batch n in
+    let y = and_quiet u a b batch x.0 in
+    quiet_of a (and_of b c) batch y.0 (quiet_of b c batch y.1 x.1))
     (λ v. sym (and_assoc (value a v) (value b v) (value c v)))
 
 pub and_group : (t u : LogicalType) (a b c : BoundTree) → WellTyped (and_node t a (and_node u b c)) → KeepsAlike (and_node t a (and_node u b c)) (and_of (and_of a b) c)
@@ -144,7 +149,7 @@ and_group t u a b c w =
     (ap truth_type (or_assoc na nb nc ∙ ap (λ n. na || n) (sym e)) ∙ sym p.type)
     (λ s o. ((o.0, (o.1.0.0, tt)), (o.1.0.1.0, tt)))
     (λ batch n.
-        let x = and_quiet t a (and_node u b c) batch n in
-        let y = and_quiet u b c batch x.1 in
-        quiet_of (and_of a b) c batch (quiet_of a b batch x.0 y.0) y.1)
+    let x = and_quiet t a (and_node u b c) batch n in
+    let y = and_quiet u b c batch x.1 in
+    quiet_of (and_of a b) c batch (quiet_of a b batch x.0 y.0) y.1)
     (λ v. and_assoc (value a v) (value b v) (value c v))

@@ -61,14 +61,14 @@ pub record IsFusedBelow (b u : BoundTree) : Type 0 where
   pub fused : FusedBelow u
 
 pub over_fused : (b : BoundTree) (us : BoundTrees) → WellTyped b → EachFusedOf (bound_children_of b) us → IsFusedBelow b (over_children b us)
-over_fused (scope t) us w fs = record { count = zero; merges = no_step; fused = tt; }
-over_fused (node t f bs) us w fs = let p = each_steps fs in record { count = p.0; merges = node_steps t f p.1 w.0 w.2; fused = each_is_fused fs; }
+over_fused (scope t) us w fs = record { count = zero; merges = no_step; fused = tt }
+over_fused (node t f bs) us w fs = let p = each_steps fs in record { count = p.0; merges = node_steps t f p.1 w.0 w.2; fused = each_is_fused fs }
 
 pub then_fused : {b u w : BoundTree} → IsFusedBelow b u → IsFusedOf u w → IsFusedOf b w
-then_fused p q = let m = merges_append p.merges q.merges in record { count = m.0; merges = m.1; fused = q.fused; }
+then_fused p q = let m = merges_append p.merges q.merges in record { count = m.0; merges = m.1; fused = q.fused }
 
 pub already_fused : {b u : BoundTree} → IsFusedBelow b u → Fused u → IsFusedOf b u
-already_fused p f = record { count = p.count; merges = p.merges; fused = f; }
+already_fused p f = record { count = p.count; merges = p.merges; fused = f }
 
 pub children_typed : (b : BoundTree) → WellTyped b → EachWellTyped (bound_children_of b)
 children_typed (scope t) w = tt
@@ -118,7 +118,7 @@ each_joined none_fused g = more_fused g none_fused
 each_joined (more_fused f fs) g = more_fused f (each_joined fs g)
 
 pub itself_fused : (b : BoundTree) → Fused b → IsFusedOf b b
-itself_fused b f = record { count = zero; merges = no_step; fused = f; }
+itself_fused b f = record { count = zero; merges = no_step; fused = f }
 
 pub each_itself : (bs : BoundTrees) → EachFused bs → EachFusedOf bs bs
 each_itself no_bound f = none_fused

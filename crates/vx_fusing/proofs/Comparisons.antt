@@ -74,10 +74,10 @@ or_comm false false = refl
 compare_types : {k : Comparison} {x y c : BoundTree} → IsCompare k x y c → WellTyped c → Compared x y c
 compare_types {k = k} {x = x} {y = y} (as_is {t = t}) w =
     let f = comparison_types (fn_type-found (binary (compares k)) (node_type x ∷ node_type y ∷ []) t w.0) in
-    record { item = w.2.0; literal = w.2.1.0; kind = f.0; item_type = f.1; literal_type = f.2; nullable = ap is_nullable f.3; }
+    record { item = w.2.0; literal = w.2.1.0; kind = f.0; item_type = f.1; literal_type = f.2; nullable = ap is_nullable f.3 }
 compare_types {x = x} {y = y} (turned {t = t} {j = j} e) w =
     let f = comparison_types (fn_type-found (binary (compares j)) (node_type y ∷ node_type x ∷ []) t w.0) in
-    record { item = w.2.1.0; literal = w.2.0; kind = f.0; item_type = f.2; literal_type = f.1; nullable = ap is_nullable f.3 ∙ or_comm (is_nullable (node_type y)) (is_nullable (node_type x)); }
+    record { item = w.2.1.0; literal = w.2.0; kind = f.0; item_type = f.2; literal_type = f.1; nullable = ap is_nullable f.3 ∙ or_comm (is_nullable (node_type y)) (is_nullable (node_type x)) }
 
 compare_scopes : {k : Comparison} {x y c : BoundTree} → IsCompare k x y c → (s : LogicalType) → Over c s → Over x s × Over y s
 compare_scopes as_is s o = (o.0, o.1.0)
@@ -137,10 +137,10 @@ module _ (c d x y z : BoundTree) (ls us : Bool) (low : IsCompare (if ls then abo
       (ap truth_type (rw (p.nullable, q.nullable) (or_three (is_nullable (node_type x)) (is_nullable (node_type y)) (is_nullable (node_type z)))))
       (λ s o. let a = compare_scopes low s o.0 in let b = compare_scopes high s o.1.0 in (a.0, (a.1, (b.1, tt))))
       (λ batch n.
-          let a = and_quiet (node_type (and_of c d)) c d batch n in
-          let k = compare_quiet low batch a.0 in
-          let l = compare_quiet high batch a.1 in
-          quiet_three (node_type c) ls us x y z batch k.0 k.1 l.1)
+      let a = and_quiet (node_type (and_of c d)) c d batch n in
+      let k = compare_quiet low batch a.0 in
+      let l = compare_quiet high batch a.1 in
+      quiet_three (node_type c) ls us x y z batch k.0 k.1 l.1)
       (λ v. rw (compare_value low v, above_value ls (value x v) (value y v), compare_value high v) refl)
 
 module _ (c d x y z : BoundTree) (ls us : Bool) (high : IsCompare (below_or us) x z c) (low : IsCompare (if ls then above else at_least) x y d) where
@@ -155,10 +155,10 @@ module _ (c d x y z : BoundTree) (ls us : Bool) (high : IsCompare (below_or us) 
       (ap truth_type (rw (p.nullable, q.nullable) (or_three_turned (is_nullable (node_type x)) (is_nullable (node_type y)) (is_nullable (node_type z)))))
       (λ s o. let a = compare_scopes low s o.1.0 in let b = compare_scopes high s o.0 in (a.0, (a.1, (b.1, tt))))
       (λ batch n.
-          let a = and_quiet (node_type (and_of c d)) c d batch n in
-          let k = compare_quiet low batch a.1 in
-          let l = compare_quiet high batch a.0 in
-          quiet_three (node_type c) ls us x y z batch k.0 k.1 l.1)
+      let a = and_quiet (node_type (and_of c d)) c d batch n in
+      let k = compare_quiet low batch a.1 in
+      let l = compare_quiet high batch a.0 in
+      quiet_three (node_type c) ls us x y z batch k.0 k.1 l.1)
       (λ v. rw (compare_value low v, above_value ls (value x v) (value y v), compare_value high v) (and_comm (compared (below_or ls) (value y v) (value x v)) (compared (below_or us) (value x v) (value z v))))
 
 pub merged_alike : {c d m : BoundTree} → MergeTo c d m → WellTyped (and_of c d) → KeepsAlike (and_of c d) m

@@ -52,7 +52,7 @@ pub left_is_some : {d l u : BoundTree} → LeftMerged d l u → NoneMergeable (c
 left_is_some {d = d} k none = none k.conjunct d (replaced_from k.replaced) (inl refl) (k.merged, k.mergeable)
 
 left_alone : {d l m : BoundTree} → is_and l ≡ false → MergeTo l d m → LeftMerged d l m
-left_alone {d = d} {l = l} {m = m} e k = record { conjunct = l; merged = m; front = []; mergeable = k; none_of_front = none_of_none (d ∷ []); replaced = itself e; }
+left_alone {d = d} {l = l} {m = m} e k = record { conjunct = l; merged = m; front = []; mergeable = k; none_of_front = none_of_none (d ∷ []); replaced = itself e }
 
 left_none_alone : {d l : BoundTree} → is_and l ≡ false → (Mergeable l d → ⊥) → NoneMergeable (conjuncts l) (d ∷ [])
 left_none_alone {d = d} {l = l} e nil = subst (λ cs. NoneMergeable cs (d ∷ [])) (sym (alone l e)) (one_pair l d nil)
@@ -62,10 +62,10 @@ pub left_single : (d l : BoundTree) (r : Result (Option BoundExpression) VortexE
 left_single d l r e p = found_as _ _ (Mergeable l d → ⊥) (λ m. MergeTo l d (bound_of m)) r (left_none_alone e) (λ none k. left_is_some (left_alone e k.1) none) (λ m k. left_alone e k) p
 
 pub left_in_first : {d x y l u w : BoundTree} → IsBinary and_also x y l → LeftMerged d x u → w ≡ and_of u y → LeftMerged d l w
-left_in_first {d = d} {x = x} {y = y} {l = l} {u = u} {w = w} b k e = subst (λ z. LeftMerged d z w) (sym b.1) (subst (LeftMerged d (and_node b.0 x y)) (sym e) (record { conjunct = k.conjunct; merged = k.merged; front = k.front; mergeable = k.mergeable; none_of_front = k.none_of_front; replaced = on_left k.replaced; }))
+left_in_first {d = d} {x = x} {y = y} {l = l} {u = u} {w = w} b k e = subst (λ z. LeftMerged d z w) (sym b.1) (subst (LeftMerged d (and_node b.0 x y)) (sym e) (record { conjunct = k.conjunct; merged = k.merged; front = k.front; mergeable = k.mergeable; none_of_front = k.none_of_front; replaced = on_left k.replaced }))
 
 pub left_in_second : {d x y l u w : BoundTree} → IsBinary and_also x y l → NoneMergeable (conjuncts x) (d ∷ []) → LeftMerged d y u → w ≡ and_of x u → LeftMerged d l w
-left_in_second {d = d} {x = x} {y = y} {l = l} {u = u} {w = w} b nil k e = subst (λ z. LeftMerged d z w) (sym b.1) (subst (LeftMerged d (and_node b.0 x y)) (sym e) (record { conjunct = k.conjunct; merged = k.merged; front = conjuncts x ++ k.front; mergeable = k.mergeable; none_of_front = none_append_left (conjuncts x) k.front (d ∷ []) nil k.none_of_front; replaced = on_right k.replaced; }))
+left_in_second {d = d} {x = x} {y = y} {l = l} {u = u} {w = w} b nil k e = subst (λ z. LeftMerged d z w) (sym b.1) (subst (LeftMerged d (and_node b.0 x y)) (sym e) (record { conjunct = k.conjunct; merged = k.merged; front = conjuncts x ++ k.front; mergeable = k.mergeable; none_of_front = none_append_left (conjuncts x) k.front (d ∷ []) nil k.none_of_front; replaced = on_right k.replaced }))
 
 pub left_none : {d x y l : BoundTree} → IsBinary and_also x y l → NoneMergeable (conjuncts x) (d ∷ []) → NoneMergeable (conjuncts y) (d ∷ []) → NoneMergeable (conjuncts l) (d ∷ [])
 left_none {d = d} {x = x} {y = y} b f g = subst (λ z. NoneMergeable (conjuncts z) (d ∷ [])) (sym b.1) (none_append_left (conjuncts x) (conjuncts y) (d ∷ []) f g)
@@ -81,8 +81,12 @@ right_is_some {l = l} {r = r} k none = none k.left k.right (replaced_from k.repl
 
 pub right_single : {l r u : BoundTree} → is_and r ≡ false → LeftMerged r l u → PairMerged l r u None
 right_single {l = l} {r = r} e k = record {
-  left = k.conjunct; right = r; merged = k.merged; front = k.front; back = [];
-  first = record { mergeable = k.mergeable; none_of_back = none_to_none (conjuncts l); none_of_front = k.none_of_front; };
+  left = k.conjunct;
+  right = r;
+  merged = k.merged;
+  front = k.front;
+  back = [];
+  first = record { mergeable = k.mergeable; none_of_back = none_to_none (conjuncts l); none_of_front = k.none_of_front };
   replaced = k.replaced;
   gone = whole e;
 }
@@ -111,14 +115,26 @@ gone_second t x (part p) = part (from_right p)
 
 pub right_in_first : {l x u : BoundTree} {rest : Option BoundTree} (t : LogicalType) (y : BoundTree) → PairMerged l x u rest → PairMerged l (and_node t x y) u (joined rest (Some y))
 right_in_first t y k = record {
-  left = k.left; right = k.right; merged = k.merged; front = k.front; back = k.back; first = k.first; replaced = k.replaced; gone = gone_first t y k.gone;
+  left = k.left;
+  right = k.right;
+  merged = k.merged;
+  front = k.front;
+  back = k.back;
+  first = k.first;
+  replaced = k.replaced;
+  gone = gone_first t y k.gone;
 }
 
 pub right_in_second : {l y u : BoundTree} {rest : Option BoundTree} (t : LogicalType) (x : BoundTree) → NoneMergeable (conjuncts l) (conjuncts x) → PairMerged l y u rest → PairMerged l (and_node t x y) u (joined (Some x) rest)
 right_in_second {l = l} t x nil k = record {
-  left = k.left; right = k.right; merged = k.merged; front = k.front; back = conjuncts x ++ k.back;
-  first = record { mergeable = k.first.mergeable; none_of_back = none_append_right (conjuncts l) (conjuncts x) k.back nil k.first.none_of_back; none_of_front = k.first.none_of_front; };
-  replaced = k.replaced; gone = gone_second t x k.gone;
+  left = k.left;
+  right = k.right;
+  merged = k.merged;
+  front = k.front;
+  back = conjuncts x ++ k.back;
+  first = record { mergeable = k.first.mergeable; none_of_back = none_append_right (conjuncts l) (conjuncts x) k.back nil k.first.none_of_back; none_of_front = k.first.none_of_front };
+  replaced = k.replaced;
+  gone = gone_second t x k.gone;
 }
 
 pub right_none : (l : BoundTree) {x y r : BoundTree} → IsBinary and_also x y r → NoneMergeable (conjuncts l) (conjuncts x) → NoneMergeable (conjuncts l) (conjuncts y) → NoneMergeable (conjuncts l) (conjuncts r)

@@ -8,3 +8,4 @@ pub mod Refusals
 pub mod Found
 pub mod Pairing
 pub mod Children
+pub mod Unique

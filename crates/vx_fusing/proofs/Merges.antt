@@ -77,7 +77,7 @@ merge_alike b u w (right_goes {t = t} {l = l} {l' = l'} {c = c} {d = d} fl fd q 
 pub merge_keeps : (b u : BoundTree) → WellTyped b → MergeAt b u → Keeps b u
 merge_keeps b u w m = (merge_alike b u w m).0
 
-same_ok : (f : Function) (ts us : List LogicalType) (t u : LogicalType) → us ≡ ts → fn_type f ts ≡ Ok t → fn_type f us ≡ Ok u → u ≡ t
+pub same_ok : (f : Function) (ts us : List LogicalType) (t u : LogicalType) → us ≡ ts → fn_type f ts ≡ Ok t → fn_type f us ≡ Ok u → u ≡ t
 same_ok f ts us t u e p q = let r : fn_type f us ≡ Ok t = rw e p in cc
 
 mutual
@@ -189,9 +189,9 @@ no_right (above_and_below e f) n = cc
 none_within : (m : BoundTree) (xs ys : List BoundTree) → range_of m ≡ None → Within m xs ys → NoneMergeable ys ys → NoneMergeable xs xs
 none_within m xs ys e f none c d i j k = either
     (λ p. either
-        (λ q. none c d p q k)
-        (λ q. no_right k.1 (subst (λ x. range_of x ≡ None) (sym q) e))
-        (f d j))
+    (λ q. none c d p q k)
+    (λ q. no_right k.1 (subst (λ x. range_of x ≡ None) (sym q) e))
+    (f d j))
     (λ p. no_left k.1 (subst (λ x. range_of x ≡ None) (sym p) e))
     (f c i)
 
@@ -239,7 +239,7 @@ pub record Plain (m : BoundTree) : Type 0 where
 pub merged_plain : {c d m : BoundTree} → MergeTo c d m → Fused c → Fused d → Plain m
 merged_plain {m = m} k p q =
     let a = merged_parts k p q in
-    subst Plain (sym a.5) (record { no_and = refl; no_range = refl; fused = between_fused a.0 a.1 a.2 a.3 a.4 a.6 a.7 a.8; })
+    subst Plain (sym a.5) (record { no_and = refl; no_range = refl; fused = between_fused a.0 a.1 a.2 a.3 a.4 a.6 a.7 a.8 })
 
 fused_below : (b : BoundTree) → Fused b → FusedBelow b
 fused_below (scope t) f = tt
@@ -262,15 +262,15 @@ fused_no_merge b u f (right_goes {l = l} {c = c} {d = d} {m = m} fl fd q first p
     f.0 c d (in_first c (conjuncts l) (conjuncts d) (replaced_from p)) (in_second d (conjuncts l) (conjuncts d) (in_own d q)) (m, first.mergeable)
 
 mutual
-  fused_no_step : {b u : BoundTree} → Step MergeAt b u → Fused b → ⊥
+  pub fused_no_step : {b u : BoundTree} → Step MergeAt b u → Fused b → ⊥
   fused_no_step (here {b = b} {u = u} m) f = fused_no_merge b u f m
   fused_no_step (below s e) f = fused_no_steps s f.1
 
-  fused_no_steps : {bs us : BoundTrees} → OneStep MergeAt bs us → EachFused bs → ⊥
+  pub fused_no_steps : {bs us : BoundTrees} → OneStep MergeAt bs us → EachFused bs → ⊥
   fused_no_steps (this_one s) f = fused_no_step s f.0
   fused_no_steps (later_one s) f = fused_no_steps s f.1
 
-fused_steps : {b u : BoundTree} {n : ℕ} → Steps MergeAt b n u → Fused b → u ≡ b
+pub fused_steps : {b u : BoundTree} {n : ℕ} → Steps MergeAt b n u → Fused b → u ≡ b
 fused_steps no_step f = refl
 fused_steps (one_more s r) f = absurd (fused_no_step s f)
 

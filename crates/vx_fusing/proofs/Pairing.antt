@@ -82,7 +82,7 @@ second_alone {l = l} {x = x} {u = u} {rest = rest} b none p = subst (λ z. Pairs
 
 -- what is merged with a single conjunct
 pub pairs_single : {l r u : BoundTree} → PairMerged l r u None → PairsMerged l r u None
-pairs_single {u = u} k = record { pairs = last_pair k; none_left = none_to_none (conjuncts u); }
+pairs_single {u = u} k = record { pairs = last_pair k; none_left = none_to_none (conjuncts u) }
 
 -- ---- at their And
 
@@ -127,7 +127,7 @@ pub merged_root : {b l r u w : BoundTree} {rest : Option BoundTree} → IsBinary
 merged_root {l = l} {r = r} {u = u} {w = w} {rest = rest} b f p e =
     let g : Fused l × (Fused r × Unit {0}) = subst FusedBelow b.1 f in
     let q = pairs_merge b.0 p.pairs g.0 g.1.0 in
-    subst (λ z. IsFusedOf z w) (sym b.1) (subst (IsFusedOf (and_node b.0 l r)) (sym e) (record { count = q.0; merges = q.1; fused = whole_fused u rest q.2 q.3 p.none_left; }))
+    subst (λ z. IsFusedOf z w) (sym b.1) (subst (IsFusedOf (and_node b.0 l r)) (sym e) (record { count = q.0; merges = q.1; fused = whole_fused u rest q.2 q.3 p.none_left }))
 
 pub fused_root : {b l r : BoundTree} → IsBinary and_also l r b → FusedBelow b → NoneMergeable (conjuncts l) (conjuncts r) → Fused b
 fused_root {l = l} {r = r} b f none =

@@ -39,3 +39,7 @@ abbrev mutual
 -- merging ends: there are no more merges than Ands
 abbrev pub MergesEnd : Type 0
 MergesEnd = (b u : BoundTree) (n : ℕ) → Merges b n u → n + and_count u ≤ and_count b
+
+-- merges of a well-typed tree that leave no mergeable pair give one and the same tree, whatever their order
+abbrev pub FusingIsUnique : Type 0
+FusingIsUnique = (b u w : BoundTree) (n k : ℕ) → WellTyped b → Merges b n u → Fused u → Merges b k w → Fused w → u ≡ w

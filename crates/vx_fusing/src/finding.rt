@@ -33,6 +33,7 @@ pub fn find_between(alloc: Global, tree: BoundExpression) -> VortexResult<BoundE
     requires { WellTyped (bound_of tree) }
     ensures merges { IfOk result (λ u. (n : ℕ) × Merges (bound_of tree) n (bound_of u)) }
     ensures fused { IfOk result (λ u. Fused (bound_of u)) }
+    ensures well_typed { IfOk result (λ u. WellTyped (bound_of u)) }
     ensures keeps { IfOk result (λ u. Keeps (bound_of tree) (bound_of u)) }
     ensures dtype { IfOk result (λ u. node_type (bound_of u) ≡ node_type (bound_of tree)) }
     ensures stays { Fused (bound_of tree) → result ≡ Ok tree }
@@ -64,7 +65,7 @@ fn root_fused(alloc: Global, tree: BoundExpression) -> VortexResult<BoundExpress
     ensures memory { IfErr result (λ e. e ≡ OutOfMemory) }
 {
     match merge_root(alloc, &tree)? {
-        Some(u) => Ok(u),
+        Some(merged) => Ok(merged),
         None => Ok(tree),
     }
 }
@@ -80,7 +81,9 @@ fn with_fused(
 {
     match b {
         BoundExpression::Scalar {
-            dtype, scalar_fn, ..
+            dtype,
+            scalar_fn,
+            ..
         } => Ok(BoundExpression::Scalar {
             dtype: dtype.clone()?,
             scalar_fn: scalar_fn.clone()?,
@@ -117,10 +120,7 @@ fn fused_children(
 }
 
 // The list with one more at its end.
-fn pushed(
-    mut list: Vec<BoundExpression>,
-    b: BoundExpression,
-) -> VortexResult<Vec<BoundExpression>>
+fn pushed(mut list: Vec<BoundExpression>, b: BoundExpression) -> VortexResult<Vec<BoundExpression>>
     ensures items { IfOk result (λ v. v.items ≡ list.items ++ b ∷ []) }
     ensures memory { IfErr result (λ e. e ≡ OutOfMemory) }
 {

@@ -1,5 +1,5 @@
 // Laws of merges, as functions without a body.
-ghost use Rattle.vx_fusing.specs.Laws.{FusedStays, MergeShortens, MergesEnd, MergesKeep, MergeStaysFused};
+ghost use Rattle.vx_fusing.specs.Laws.{FusedStays, FusingIsUnique, MergeShortens, MergesEnd, MergesKeep, MergeStaysFused};
 
 /// Any number of merges keeps the tree, with an equal type.
 pub fn merges_keep()
@@ -24,4 +24,9 @@ pub fn merge_shortens()
 /// There are no more merges than Ands.
 pub fn merges_end()
     ensures { MergesEnd }
+{}
+
+/// Merges that leave no two mergeable conjuncts give one and the same tree, whatever their order.
+pub fn fusing_is_unique()
+    ensures { FusingIsUnique }
 {}

@@ -101,11 +101,7 @@ pub(crate) fn merge_pairs(
 
 // The conjunctions after the merges of the right one's first child, with those of its second.
 #[cycle(merging)]
-fn merge_second(
-    alloc: Global,
-    before: Merged,
-    second: &BoundExpression,
-) -> VortexResult<Merged>
+fn merge_second(alloc: Global, before: Merged, second: &BoundExpression) -> VortexResult<Merged>
     ensures merged { IfOk result (λ m. MergesSecond (bound_of before.left) (option_map bound_of before.right) (bound_of second.now) (bound_of m.left) (option_map bound_of m.right)) }
     ensures memory { IfErr result (λ e. e ≡ OutOfMemory) }
 {

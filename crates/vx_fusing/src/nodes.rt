@@ -13,10 +13,17 @@ use std::rc::Rc;
 use vx_tree::{BoundExpression, DType, Nullability, Operator, ScalarFnRef, VortexResult};
 
 // The operator and the operands of a binary node, if it has two.
-pub(crate) fn as_binary(b: &BoundExpression) -> Option<(Operator, &BoundExpression, &BoundExpression)>
+pub(crate) fn as_binary(
+    b: &BoundExpression,
+) -> Option<(Operator, &BoundExpression, &BoundExpression)>
     ensures { MatchOption result (IsOther (bound_of b.now)) (λ p. IsBinary (operation_of p.0) (bound_of p.1.now) (bound_of p.2.now) (bound_of b.now)) }
 {
-    let BoundExpression::Scalar { scalar_fn, children, .. } = b else {
+    let BoundExpression::Scalar {
+        scalar_fn,
+        children,
+        ..
+    } = b
+    else {
         return None;
     };
     let ScalarFnRef::Binary(op) = scalar_fn else {
@@ -66,7 +73,12 @@ pub(crate) fn and_of(
 {
     let nullable = l.dtype().is_nullable() || r.dtype().is_nullable();
     let children = vec![in alloc; l, r]?;
-    truth_node(alloc, ScalarFnRef::Binary(Operator::And), nullable, children)
+    truth_node(
+        alloc,
+        ScalarFnRef::Binary(Operator::And),
+        nullable,
+        children,
+    )
 }
 
 // The And of a new left child and the old right one.

@@ -99,7 +99,7 @@ fn between_of_one_item(
 ) -> VortexResult<Option<BoundExpression>>
     ensures { Finds (bound_of lower.entry.item.now ≢ bound_of upper.entry.item.now)
         (λ b. (bound_of lower.entry.item.now ≡ bound_of upper.entry.item.now)
-            × (bound_of b ≡ between_node (is_strict lower.entry.strict) (is_strict upper.entry.strict) (bound_of lower.entry.item.now) (bound_of lower.entry.bound.now) (bound_of upper.entry.bound.now))) result }
+        × (bound_of b ≡ between_node (is_strict lower.entry.strict) (is_strict upper.entry.strict) (bound_of lower.entry.item.now) (bound_of lower.entry.bound.now) (bound_of upper.entry.bound.now))) result }
 {
     if lower.item == upper.item {
         return Ok(Some(between(alloc, lower, upper)?));

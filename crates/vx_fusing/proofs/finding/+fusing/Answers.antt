@@ -104,24 +104,24 @@ fused_children-loop-i-preserved t c =
     let more = bounds_of-take_more c.args.children.now c.loop-i.i child (omega arith) c.index-children-i.is in
     let so_far = bounds_of (take c.loop-i.i c.args.children.now) in
     elim c.match-branch-2.branch [
-      fused_children-in-Some-Some+in_ok-pushed-in-Some-Some w ↦
-        let answer = rw w.in-Some-Some.is-0 at c.in_ok-changed.ensures in
-        let done = rw w.in-Some-Some.is-1 at c.loop-i.invariant in
-        rw (w.updated-is, more, w.in_ok-pushed-in-Some-Some.ensures.items, bounds_of-append w.in-Some-Some.before.items (w.in-Some-Some.changed ∷ []))
-        (λ f. done.0 (front_fused so_far (bound_of child) f), each_joined done.1 answer.1)
-    | fused_children-in-Some-None+in_ok-copies-in-Some-None+in_ok-pushed-in-Some-None w ↦
-        let answer = rw w.in-Some-None.is-0 at c.in_ok-changed.ensures in
-        let done = rw w.in-Some-None.is-1 at c.loop-i.invariant in
-        rw (w.updated-is, more, w.in_ok-pushed-in-Some-None.ensures.items, bounds_of-append w.in_ok-copies-in-Some-None.field-0.items (w.in-Some-None.changed ∷ []), w.in_ok-copies-in-Some-None.ensures)
-        (λ f. answer.0 (last_fused so_far (bound_of child) f), each_joined (each_itself so_far done) answer.1)
-    | fused_children-in-None-Some+in_ok-clone-in-None-Some+in_ok-pushed-in-None-Some w ↦
-        let answer = rw w.in-None-Some.is-0 at c.in_ok-changed.ensures in
-        let done = rw w.in-None-Some.is-1 at c.loop-i.invariant in
-        let same : bound_of w.in_ok-clone-in-None-Some.field-0 ≡ bound_of child = search rules in
-        rw (w.updated-is, more, w.in_ok-pushed-in-None-Some.ensures.items, bounds_of-append w.in-None-Some.before.items (w.in_ok-clone-in-None-Some.field-0 ∷ []), same)
-        (λ f. done.0 (front_fused so_far (bound_of child) f), each_joined done.1 (itself_fused (bound_of child) answer))
-    | fused_children-in-None-None w ↦
-        let answer = rw w.in-None-None.is-0 at c.in_ok-changed.ensures in
-        let done = rw w.in-None-None.is-1 at c.loop-i.invariant in
-        rw (w.updated-is, more) (all_fused so_far (bound_of child) done answer)
+      | fused_children-in-Some-Some+in_ok-pushed-in-Some-Some w ↦
+          let answer = rw w.in-Some-Some.is-0 at c.in_ok-changed.ensures in
+          let done = rw w.in-Some-Some.is-1 at c.loop-i.invariant in
+          rw (w.updated-is, more, w.in_ok-pushed-in-Some-Some.ensures.items, bounds_of-append w.in-Some-Some.before.items (w.in-Some-Some.changed ∷ []))
+          (λ f. done.0 (front_fused so_far (bound_of child) f), each_joined done.1 answer.1)
+      | fused_children-in-Some-None+in_ok-copies-in-Some-None+in_ok-pushed-in-Some-None w ↦
+          let answer = rw w.in-Some-None.is-0 at c.in_ok-changed.ensures in
+          let done = rw w.in-Some-None.is-1 at c.loop-i.invariant in
+          rw (w.updated-is, more, w.in_ok-pushed-in-Some-None.ensures.items, bounds_of-append w.in_ok-copies-in-Some-None.field-0.items (w.in-Some-None.changed ∷ []), w.in_ok-copies-in-Some-None.ensures)
+          (λ f. answer.0 (last_fused so_far (bound_of child) f), each_joined (each_itself so_far done) answer.1)
+      | fused_children-in-None-Some+in_ok-clone-in-None-Some+in_ok-pushed-in-None-Some w ↦
+          let answer = rw w.in-None-Some.is-0 at c.in_ok-changed.ensures in
+          let done = rw w.in-None-Some.is-1 at c.loop-i.invariant in
+          let same : bound_of w.in_ok-clone-in-None-Some.field-0 ≡ bound_of child = search rules in
+          rw (w.updated-is, more, w.in_ok-pushed-in-None-Some.ensures.items, bounds_of-append w.in-None-Some.before.items (w.in_ok-clone-in-None-Some.field-0 ∷ []), same)
+          (λ f. done.0 (front_fused so_far (bound_of child) f), each_joined done.1 (itself_fused (bound_of child) answer))
+      | fused_children-in-None-None w ↦
+          let answer = rw w.in-None-None.is-0 at c.in_ok-changed.ensures in
+          let done = rw w.in-None-None.is-1 at c.loop-i.invariant in
+          rw (w.updated-is, more) (all_fused so_far (bound_of child) done answer)
     ]

@@ -17,6 +17,11 @@ returns-in-Some-clause-merges c = let p = rw c.in-Some.is at c.in_ok-u.ensures i
 pub returns-in-Some-clause-fused : goal.returns-in-Some-clause-fused
 returns-in-Some-clause-fused c = let p = rw c.in-Some.is at c.in_ok-u.ensures in p.1.fused
 
+pub returns-in-Some-clause-well_typed : goal.returns-in-Some-clause-well_typed
+returns-in-Some-clause-well_typed c =
+    let p = rw c.in-Some.is at c.in_ok-u.ensures in
+    (merges_alike (bound_of c.args.tree) (bound_of c.in-Some.u) p.1.count c.requires p.1.merges).0.typed_after
+
 pub returns-in-Some-clause-keeps : goal.returns-in-Some-clause-keeps
 returns-in-Some-clause-keeps c =
     let p = rw c.in-Some.is at c.in_ok-u.ensures in

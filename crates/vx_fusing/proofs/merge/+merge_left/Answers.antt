@@ -52,9 +52,10 @@ returns-in_err-with_right t c = λ d e.
 
 pub returns-in-Some-3 : goal.returns-in-Some-3
 returns-in-Some-3 t c = λ d e.
-    let p = rw c.in-Some-3.is at (c.in_ok-u-2.ensures d e) in
-    (λ n. p.0 (none_on_right (d ∷ []) c.in-Some.ensures n),
-      left_in_second c.in-Some.ensures (rw c.in_default-2.is at (c.in_ok-u.ensures d e)) p.1 c.in_ok-with_right.ensures.node)
+    let p = rw c.in-Some-3.is at (c.in_ok-u-2.ensures d e) in (
+      λ n. p.0 (none_on_right (d ∷ []) c.in-Some.ensures n),
+      left_in_second c.in-Some.ensures (rw c.in_default-2.is at (c.in_ok-u.ensures d e)) p.1 c.in_ok-with_right.ensures.node,
+    )
 
 pub returns : goal.returns
 returns t c = λ d e. left_none c.in-Some.ensures (rw c.in_default-2.is at (c.in_ok-u.ensures d e)) (rw c.in_default-3.is at (c.in_ok-u-2.ensures d e))

@@ -60,9 +60,10 @@ merge_pairs-returns-in_ok-merge_second-in-Some-2 t c =
 pub merge_pairs-returns-in_ok-behind-in-Some-3 : goal.merge_pairs-returns-in_ok-behind-in-Some-3
 merge_pairs-returns-in_ok-behind-in-Some-3 t c =
     let none = rw c.in-None.is at c.in_ok-merged.ensures in
-    let p = rw c.in-Some-3.is at c.in_ok-merged-in-None.ensures in
-    (λ n. p.0 (none_with_right _ c.in-Some.ensures n),
-      rw (c.in_ok-behind-in-Some-3.ensures.left, c.in_ok-behind-in-Some-3.ensures.right) (second_alone c.in-Some.ensures none p.1))
+    let p = rw c.in-Some-3.is at c.in_ok-merged-in-None.ensures in (
+      λ n. p.0 (none_with_right _ c.in-Some.ensures n),
+      rw (c.in_ok-behind-in-Some-3.ensures.left, c.in_ok-behind-in-Some-3.ensures.right) (second_alone c.in-Some.ensures none p.1),
+    )
 
 pub merge_pairs-returns-in-None-2 : goal.merge_pairs-returns-in-None-2
 merge_pairs-returns-in-None-2 t c =

@@ -15,8 +15,8 @@ pub returns-in_default-as_slice : goal.returns-in_default-as_slice
 returns-in_default-as_slice c =
     let items : c.as_slice.result.now ≡ c.in-Scalar.children.value.items = search rules in
     let other : length c.in-Scalar.children.value.items ≡ 2 → ⊥ =
-        elim c.in_default-as_slice.branch [
-          in_default-as_slice-via-then-as_slice-lt2 w ↦ λ e. search rules
-        | in_default-as_slice-via-else-as_slice-lt2+else-this-lt3 w ↦ λ e. search rules
-        ] in
+    elim c.in_default-as_slice.branch [
+      | in_default-as_slice-via-then-as_slice-lt2 w ↦ λ e. search rules
+      | in_default-as_slice-via-else-as_slice-lt2+else-this-lt3 w ↦ λ e. search rules
+    ] in
     other_children c.args.b.now c.in-Scalar.dtype c.in-Scalar.scalar_fn c.in-Scalar.children c.in-Binary.op c.in-Scalar.is c.in-Binary.is other
