@@ -1,0 +1,145 @@
+-- Merges of children are merges of the node, and merges follow one another.
+use Rattle.std.proofs.Common.{◌≡◌, ℕ, zero, suc, ◌+◌, ◌<◌, ◌≤◌, List, [], ◌∷◌, ◌++◌, length, get_or, take, refl, sym, ap, subst, ◌∙◌, arith}
+use Rattle.std.specs.Prelude.{Ok}
+use Rattle.std.proofs.lemmas.List.{take_more}
+use Rattle.vx_types.specs.Types.{LogicalType}
+use Rattle.vx_fn.specs.Functions.{Function, fn_type}
+use Rattle.vx_tree.specs.Trees.{BoundTree, scope, node, BoundTrees, no_bound, bound, unbound, unbound_each, node_types, WellTyped, EachWellTyped}
+use Rattle.vx_tree.specs.Nodes.{bound_children_of, size_of, sizes_of}
+use Rattle.vx_tree.specs.Views.{bound_of, bounds_of}
+use Rattle.vx_tree.specs.declared.bound.BoundExpression.{BoundExpression}
+use Rattle.vx_keep.specs.Steps.{below, OneStep, this_one, later_one, no_step, one_more}
+use Rattle.vx_keep.proofs.Stepping.{one_step_keeps}
+use Rattle.vx_keep.proofs.Keeping.{each_typed_after}
+use Rattle.vx_fusing.specs.Conjuncts.{Fused, EachFused, FusedBelow}
+use Rattle.vx_fusing.specs.Merging.{MergeAt, Merges, IsFusedOf}
+use Rattle.vx_fusing.specs.Finding.{EachFusedOf, none_fused, more_fused, over_children}
+use Rattle.vx_fusing.proofs.Merges.{merge_keeps, one_step_types}
+
+merges_append : {b u w : BoundTree} {n k : ℕ} → Merges b n u → Merges u k w → (m : ℕ) × Merges b m w
+merges_append {k = k} no_step q = (k, q)
+merges_append (one_more s r) q = let p = merges_append r q in (suc p.0, one_more s p.1)
+
+-- ---- merges of a list of children
+
+data ListSteps : BoundTrees → ℕ → BoundTrees → Type 0 where
+  no_list_step : {bs : BoundTrees} → ListSteps bs zero bs
+  one_list_step : {bs cs us : BoundTrees} {n : ℕ} → OneStep MergeAt bs cs → ListSteps cs n us → ListSteps bs (suc n) us
+
+first_steps : {b u : BoundTree} {n : ℕ} (bs : BoundTrees) → Merges b n u → ListSteps (bound b bs) n (bound u bs)
+first_steps bs no_step = no_list_step
+first_steps bs (one_more s r) = one_list_step (this_one s) (first_steps bs r)
+
+later_steps : {bs us : BoundTrees} {n : ℕ} (b : BoundTree) → ListSteps bs n us → ListSteps (bound b bs) n (bound b us)
+later_steps b no_list_step = no_list_step
+later_steps b (one_list_step s r) = one_list_step (later_one s) (later_steps b r)
+
+list_append : {bs cs us : BoundTrees} {n k : ℕ} → ListSteps bs n cs → ListSteps cs k us → (m : ℕ) × ListSteps bs m us
+list_append {k = k} no_list_step q = (k, q)
+list_append (one_list_step s r) q = let p = list_append r q in (suc p.0, one_list_step s p.1)
+
+each_steps : {bs us : BoundTrees} → EachFusedOf bs us → (n : ℕ) × ListSteps bs n us
+each_steps none_fused = (zero, no_list_step)
+each_steps (more_fused {u = u} {bs = bs} f fs) = let p = each_steps fs in list_append (first_steps bs f.merges) (later_steps u p.1)
+
+each_is_fused : {bs us : BoundTrees} → EachFusedOf bs us → EachFused us
+each_is_fused none_fused = tt
+each_is_fused (more_fused f fs) = (f.fused, each_is_fused fs)
+
+node_steps : {bs us : BoundTrees} {n : ℕ} (t : LogicalType) (f : Function) → ListSteps bs n us → fn_type f (node_types bs) ≡ Ok t → EachWellTyped bs → Merges (node t f bs) n (node t f us)
+node_steps t f no_list_step e w = no_step
+node_steps t f (one_list_step {cs = cs} s r) e w =
+    let again : fn_type f (node_types cs) ≡ Ok t = ap (fn_type f) (one_step_types s w) ∙ e in
+    one_more (below s again) (node_steps t f r again (each_typed_after (one_step_keeps MergeAt merge_keeps s w)))
+
+-- ---- a node over fused children
+
+-- a node whose children are merged is reached by merges, and no pair is left below it
+pub record IsFusedBelow (b u : BoundTree) : Type 0 where
+  pub count : ℕ
+  pub merges : Merges b count u
+  pub fused : FusedBelow u
+
+pub over_fused : (b : BoundTree) (us : BoundTrees) → WellTyped b → EachFusedOf (bound_children_of b) us → IsFusedBelow b (over_children b us)
+over_fused (scope t) us w fs = record { count = zero; merges = no_step; fused = tt }
+over_fused (node t f bs) us w fs = let p = each_steps fs in record { count = p.0; merges = node_steps t f p.1 w.0 w.2; fused = each_is_fused fs }
+
+pub then_fused : {b u w : BoundTree} → IsFusedBelow b u → IsFusedOf u w → IsFusedOf b w
+then_fused p q = let m = merges_append p.merges q.merges in record { count = m.0; merges = m.1; fused = q.fused }
+
+pub already_fused : {b u : BoundTree} → IsFusedBelow b u → Fused u → IsFusedOf b u
+already_fused p f = record { count = p.count; merges = p.merges; fused = f }
+
+pub children_typed : (b : BoundTree) → WellTyped b → EachWellTyped (bound_children_of b)
+children_typed (scope t) w = tt
+children_typed (node t f bs) w = w.2
+
+pub children_fused : (b : BoundTree) → EachFused (bound_children_of b) → FusedBelow b
+children_fused (scope t) f = tt
+children_fused (node t g bs) f = f
+
+pub fused_children : (b : BoundTree) → Fused b → EachFused (bound_children_of b)
+fused_children (scope t) f = tt
+fused_children (node t g bs) f = f.1
+
+pub children_smaller : (b : BoundTree) → sizes_of (unbound_each (bound_children_of b)) < size_of (unbound b)
+children_smaller (scope t) = omega arith
+children_smaller (node t f bs) = omega arith
+
+-- ---- children one after another
+
+-- the trees of the second list behind those of the first
+abbrev pub with_more : BoundTrees → BoundTrees → BoundTrees
+with_more no_bound cs = cs
+with_more (bound b bs) cs = bound b (with_more bs cs)
+
+pub bounds_of-append : (xs ys : List BoundExpression) → bounds_of (xs ++ ys) ≡ with_more (bounds_of xs) (bounds_of ys)
+bounds_of-append [] ys = refl
+bounds_of-append (x ∷ xs) ys = ap (bound (bound_of x)) (bounds_of-append xs ys)
+
+pub bounds_of-take_more : (bs : List BoundExpression) (i : ℕ) (b : BoundExpression) → i < length bs → b ≡ get_or bs i b → bounds_of (take (i + 1) bs) ≡ with_more (bounds_of (take i bs)) (bound (bound_of b) no_bound)
+bounds_of-take_more bs i b h e =
+    ap bounds_of (take_more bs i b h) ∙ bounds_of-append (take i bs) (get_or bs i b ∷ []) ∙ ap (λ x. with_more (bounds_of (take i bs)) (bound (bound_of x) no_bound)) (sym e)
+
+pub all_fused : (bs : BoundTrees) (c : BoundTree) → EachFused bs → Fused c → EachFused (with_more bs (bound c no_bound))
+all_fused no_bound c f g = (g, tt)
+all_fused (bound b bs) c f g = (f.0, all_fused bs c f.1 g)
+
+pub front_fused : (bs : BoundTrees) (c : BoundTree) → EachFused (with_more bs (bound c no_bound)) → EachFused bs
+front_fused no_bound c f = tt
+front_fused (bound b bs) c f = (f.0, front_fused bs c f.1)
+
+pub last_fused : (bs : BoundTrees) (c : BoundTree) → EachFused (with_more bs (bound c no_bound)) → Fused c
+last_fused no_bound c f = f.0
+last_fused (bound b bs) c f = last_fused bs c f.1
+
+pub each_joined : {bs us : BoundTrees} {c w : BoundTree} → EachFusedOf bs us → IsFusedOf c w → EachFusedOf (with_more bs (bound c no_bound)) (with_more us (bound w no_bound))
+each_joined none_fused g = more_fused g none_fused
+each_joined (more_fused f fs) g = more_fused f (each_joined fs g)
+
+pub itself_fused : (b : BoundTree) → Fused b → IsFusedOf b b
+itself_fused b f = record { count = zero; merges = no_step; fused = f }
+
+pub each_itself : (bs : BoundTrees) → EachFused bs → EachFusedOf bs bs
+each_itself no_bound f = none_fused
+each_itself (bound b bs) f = more_fused (itself_fused b f.0) (each_itself bs f.1)
+
+pub take_fused : (bs : List BoundExpression) (i : ℕ) → EachFused (bounds_of bs) → EachFused (bounds_of (take i bs))
+take_fused bs zero f = tt
+take_fused [] (suc i) f = tt
+take_fused (b ∷ bs) (suc i) f = (f.0, take_fused bs i f.1)
+
+pub item_fused : (bs : List BoundExpression) (i : ℕ) (b : BoundExpression) → i < length bs → b ≡ get_or bs i b → EachFused (bounds_of bs) → Fused (bound_of b)
+item_fused [] i b h e f = absurd (omega arith)
+item_fused (c ∷ bs) zero b h e f = subst (λ x. Fused (bound_of x)) (sym e) f.0
+item_fused (c ∷ bs) (suc i) b h e f = item_fused bs i b (omega arith) e f.1
+
+pub item_typed : (bs : List BoundExpression) (i : ℕ) (b : BoundExpression) → i < length bs → b ≡ get_or bs i b → EachWellTyped (bounds_of bs) → WellTyped (bound_of b)
+item_typed [] i b h e w = absurd (omega arith)
+item_typed (c ∷ bs) zero b h e w = subst (λ x. WellTyped (bound_of x)) (sym e) w.0
+item_typed (c ∷ bs) (suc i) b h e w = item_typed bs i b (omega arith) e w.1
+
+pub item_smaller : (bs : List BoundExpression) (i : ℕ) (b : BoundExpression) → i < length bs → b ≡ get_or bs i b → size_of (unbound (bound_of b)) ≤ sizes_of (unbound_each (bounds_of bs))
+item_smaller [] i b h e = absurd (omega arith)
+item_smaller (c ∷ bs) zero b h e = let q : size_of (unbound (bound_of b)) ≡ size_of (unbound (bound_of c)) = ap (λ x. size_of (unbound (bound_of x))) e in omega arith
+item_smaller (c ∷ bs) (suc i) b h e = let q = item_smaller bs i b (omega arith) e in omega arith

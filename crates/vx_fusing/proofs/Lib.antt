@@ -1,0 +1,11 @@
+pub mod Kleene
+pub mod Ands
+pub mod Comparisons
+pub mod Merges
+pub mod Binaries
+pub mod Pairs
+pub mod Refusals
+pub mod Found
+pub mod Pairing
+pub mod Children
+pub mod Unique

@@ -1,0 +1,4 @@
+pub mod Conjuncts
+pub mod Merging
+pub mod Laws
+pub mod Finding

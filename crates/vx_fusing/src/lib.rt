@@ -1,0 +1,15 @@
+// Range fusing: two comparisons of one item in a conjunction as one Between.
+#![tactic(auto)]
+
+mod finding;
+mod laws;
+mod merge;
+mod nodes;
+mod ranges;
+
+pub use finding::find_between;
+pub use laws::{
+    fused_stays, fusing_is_unique, merge_shortens, merge_stays_fused, merges_end, merges_keep};
+
+#[cfg(test)]
+mod tests;

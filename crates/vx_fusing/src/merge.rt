@@ -1,0 +1,153 @@
+// Merges of two conjunctions, conjunct by conjunct. Nothing is copied before a pair is found; then
+// the Ands above its two conjuncts are made anew, and share all that is beside them.
+ghost use Rattle.std.specs.Prelude.{◌≡◌, ◌∷◌, [], Some, IfErr, IfOk, IsFalse, option_map};
+ghost use Rattle.vx_dtype.specs.declared.error.VortexError.TheVariants.{OutOfMemory};
+ghost use Rattle.vx_tree.specs.Trees.{BoundTree};
+ghost use Rattle.vx_tree.specs.Views.{bound_of};
+ghost use Rattle.vx_fusing.specs.Conjuncts.{conjuncts, is_and, range_of, Fused, FusedBelow, Mergeable, MergeTo, NoneMergeable};
+ghost use Rattle.vx_fusing.specs.Finding.{Finds, joined, range_seen, LeftMerged, MergesSecond, PairsMerged};
+ghost use Rattle.vx_fusing.specs.Merging.{IsFusedOf};
+
+use crate::nodes::{and_of, as_and, joined, with_left, with_right};
+use crate::ranges::{RangeComparison, merged, range_of};
+use std::alloc::Global;
+use vx_tree::{BoundExpression, VortexResult};
+
+// What two conjunctions are after merges: the right one may be gone.
+#[derive(Drop)]
+pub(crate) struct Merged {
+    pub left: BoundExpression,
+    pub right: Option<BoundExpression>,
+}
+
+// The Between of a conjunct and one of that range, None where they aren't mergeable.
+fn merge_conjunct(
+    alloc: Global,
+    c: &BoundExpression,
+    range: RangeComparison<'_>,
+) -> VortexResult<Option<BoundExpression>>
+    ensures { (d : BoundTree) → range_of d ≡ Some (range_seen range.entry) →
+        Finds (Mergeable (bound_of c.now) d → ⊥) (λ m. MergeTo (bound_of c.now) d (bound_of m)) result }
+{
+    match range_of(c) {
+        Some(other) => merged(alloc, other, range),
+        None => Ok(None),
+    }
+}
+
+// The left conjunction with its first conjunct that is mergeable with one of that range merged with
+// it.
+fn merge_left(
+    alloc: Global,
+    l: &BoundExpression,
+    range: RangeComparison<'_>,
+) -> VortexResult<Option<BoundExpression>>
+    ensures { (d : BoundTree) → range_of d ≡ Some (range_seen range.entry) →
+        Finds (NoneMergeable (conjuncts (bound_of l.now)) (d ∷ [])) (λ u. LeftMerged d (bound_of l.now) (bound_of u)) result }
+{
+    let Some((first, second)) = as_and(l) else {
+        return merge_conjunct(alloc, l, range);
+    };
+    if let Some(u) = merge_left(alloc, first, range)? {
+        return Ok(Some(with_left(alloc, u, second)?));
+    }
+    if let Some(u) = merge_left(alloc, second, range)? {
+        return Ok(Some(with_right(alloc, first, u)?));
+    }
+    Ok(None)
+}
+
+// The two conjunctions with the first conjunct of the left one merged with the right one, which is
+// a single conjunct.
+fn merge_single(
+    alloc: Global,
+    l: &BoundExpression,
+    d: &BoundExpression,
+) -> VortexResult<Option<Merged>>
+    requires { IsFalse (is_and (bound_of d.now)) }
+    ensures { Finds (NoneMergeable (conjuncts (bound_of l.now)) (conjuncts (bound_of d.now))) (λ m. PairsMerged (bound_of l.now) (bound_of d.now) (bound_of m.left) (option_map bound_of m.right)) result }
+{
+    let Some(range) = range_of(d) else {
+        return Ok(None);
+    };
+    match merge_left(alloc, l, range)? {
+        Some(left) => Ok(Some(Merged { left, right: None })),
+        None => Ok(None),
+    }
+}
+
+// The two conjunctions with their pairs merged, one after another: the right conjuncts are taken in
+// order, and for each one those of the left one. No earlier one finds a partner after a merge, since
+// the left conjunction has one range less: so each right conjunct is looked at once.
+#[cycle(merging)]
+pub(crate) fn merge_pairs(
+    alloc: Global,
+    l: &BoundExpression,
+    r: &BoundExpression,
+) -> VortexResult<Option<Merged>>
+    ensures { Finds (NoneMergeable (conjuncts (bound_of l.now)) (conjuncts (bound_of r.now))) (λ m. PairsMerged (bound_of l.now) (bound_of r.now) (bound_of m.left) (option_map bound_of m.right)) result }
+{
+    let Some((first, second)) = as_and(r) else {
+        return merge_single(alloc, l, r);
+    };
+    match merge_pairs(alloc, l, first)? {
+        Some(merged) => Ok(Some(merge_second(alloc, merged, second)?)),
+        None => match merge_pairs(alloc, l, second)? {
+            Some(merged) => Ok(Some(behind(alloc, first, merged)?)),
+            None => Ok(None),
+        },
+    }
+}
+
+// The conjunctions after the merges of the right one's first child, with those of its second.
+#[cycle(merging)]
+fn merge_second(alloc: Global, before: Merged, second: &BoundExpression) -> VortexResult<Merged>
+    ensures merged { IfOk result (λ m. MergesSecond (bound_of before.left) (option_map bound_of before.right) (bound_of second.now) (bound_of m.left) (option_map bound_of m.right)) }
+    ensures memory { IfErr result (λ e. e ≡ OutOfMemory) }
+{
+    let Merged { left, right } = before;
+    match merge_pairs(alloc, &left, second)? {
+        Some(later) => Ok(Merged {
+            left: later.left,
+            right: joined(alloc, right, later.right)?,
+        }),
+        None => Ok(Merged {
+            left,
+            right: joined(alloc, right, Some(second.clone()?))?,
+        }),
+    }
+}
+
+// The same with the right one's first child, of which nothing was merged, before what is left of
+// its second.
+fn behind(alloc: Global, first: &BoundExpression, merged: Merged) -> VortexResult<Merged>
+    ensures left { IfOk result (λ m. bound_of m.left ≡ bound_of merged.left) }
+    ensures right { IfOk result (λ m. option_map bound_of m.right ≡ joined (Some (bound_of first.now)) (option_map bound_of merged.right)) }
+    ensures memory { IfErr result (λ e. e ≡ OutOfMemory) }
+{
+    let Merged { left, right } = merged;
+    Ok(Merged {
+        left,
+        right: joined(alloc, Some(first.clone()?), right)?,
+    })
+}
+
+// The tree with the pairs at its root merged, which are the only ones.
+pub(crate) fn merge_root(
+    alloc: Global,
+    b: &BoundExpression,
+) -> VortexResult<Option<BoundExpression>>
+    requires { FusedBelow (bound_of b.now) }
+    ensures { Finds (Fused (bound_of b.now)) (λ u. IsFusedOf (bound_of b.now) (bound_of u)) result }
+{
+    let Some((l, r)) = as_and(b) else {
+        return Ok(None);
+    };
+    let Some(Merged { left, right }) = merge_pairs(alloc, l, r)? else {
+        return Ok(None);
+    };
+    match right {
+        Some(right) => Ok(Some(and_of(alloc, left, right)?)),
+        None => Ok(Some(left)),
+    }
+}
