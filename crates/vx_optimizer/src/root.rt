@@ -11,7 +11,7 @@ use vx_keep::Rule;
 use vx_tree::{BoundExpression, VortexResult};
 
 /// What the rules give at the root, one after another until none fits there; None exactly where none
-/// fits at first. Asks a well-typed tree.
+/// fits at first. It keeps the tree, so its type is no wider. Asks a well-typed tree.
 ///
 /// Refuses with `OutOfMemory` (1) alone, however many steps there are.
 pub fn optimize_root<R: Rule>(
