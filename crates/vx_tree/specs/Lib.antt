@@ -7,6 +7,7 @@ pub mod Views
 pub mod Binding
 pub mod Nodes
 pub mod Equality
+pub mod Hashes
 pub mod Uniqueness
 pub mod Harness
 pub mod Texts

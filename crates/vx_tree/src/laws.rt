@@ -1,5 +1,6 @@
 // Laws of trees.
 ghost use Rattle.vx_tree.specs.Equality.{EqualityIsExact};
+ghost use Rattle.vx_tree.specs.Hashes.{EqualTreesAreAlike};
 ghost use Rattle.vx_tree.specs.Meant.{BoundMeansItsSource};
 ghost use Rattle.vx_tree.specs.Soundness.{TypesAreSound};
 ghost use Rattle.vx_tree.specs.Uniqueness.{BindingIsUnique};
@@ -22,4 +23,9 @@ pub fn binding_is_unique()
 /// Trees of either kind are equal exactly where they are one tree.
 pub fn equality_is_exact()
     ensures { EqualityIsExact }
+{}
+
+/// Equal trees of either kind are hashed alike, and equal bound trees have one value at each row.
+pub fn equal_trees_are_alike()
+    ensures { EqualTreesAreAlike }
 {}

@@ -11,7 +11,9 @@ mod contains;
 mod display;
 mod display_tree;
 mod equality;
+mod exact;
 mod expression;
+mod hashed;
 mod laws;
 mod scope;
 mod sql;
@@ -24,8 +26,12 @@ mod worked;
 pub use bound::BoundExpression;
 pub use display::ExprDisplay;
 pub use display_tree::{DisplayFormat, DisplayTreeExpr};
+pub use exact::ExactBoundExpr;
 pub use expression::Expression;
-pub use laws::{binding_is_unique, bound_means_its_source, equality_is_exact, types_are_sound};
+pub use laws::{
+    binding_is_unique, bound_means_its_source, equal_trees_are_alike, equality_is_exact,
+    types_are_sound,
+};
 pub use scope::Scope;
 pub use vx_fn::{
     Between, BetweenOptions, Binary, CaseWhen, CaseWhenOptions, Cast, ChildName, EmptyOptions,
