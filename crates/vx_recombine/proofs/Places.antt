@@ -74,7 +74,7 @@ module _ {A : Type 0} (eq : A → A → Bool) (laws : IsEquivalence eq) where
       go false some more e = e
 
   -- equal annotations have the same pieces
-  pieces_of-equal : (xs : List (Piece A)) (a c : A) → eq a c ≡ true → pieces_of eq xs a ≡ pieces_of eq xs c
+  pub pieces_of-equal : (xs : List (Piece A)) (a c : A) → eq a c ≡ true → pieces_of eq xs a ≡ pieces_of eq xs c
   pieces_of-equal [] a c e = refl
   pieces_of-equal (x ∷ xs) a c e = rw (laws.congr a c x.0 e, pieces_of-equal xs a c e) refl
 

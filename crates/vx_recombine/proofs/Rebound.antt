@@ -106,6 +106,11 @@ pub replaced_typed : (names : List Name) (ps qs : BoundTrees) (root : BoundTree)
     → (t : LogicalType) × (typed (unbound root) (struct_type names qs) ≡ Ok t) × Narrower t (node_type root)
 replaced_typed names ps qs r ks w o = typed_again r (struct_type names ps) (struct_type names qs) (scope_narrower names ps qs ks) w o
 
+-- the type of a root that is bound over them
+pub rebound_type : (names : List Name) (ps qs : BoundTrees) (root root' : BoundTree) → KeepsEach ps qs → WellTyped root → Over root (struct_type names ps)
+    → unbound root' ≡ unbound root → WellTyped root' → Over root' (struct_type names qs) → Narrower (node_type root') (node_type root)
+rebound_type names ps qs r r' ks w o e w' o' = (rebound r r' (struct_type names ps) (struct_type names qs) (scope_narrower names ps qs ks) w o w' o' e).type
+
 pub replaced_recombine : (names : List Name) (ps qs : BoundTrees) (root root' b : BoundTree) → KeepsEach ps qs → WellTyped root → Over root (struct_type names ps) → Recombines ps root b
     → unbound root' ≡ unbound root → WellTyped root' → Over root' (struct_type names qs)
     → Narrower (node_type root') (node_type root) × Recombines qs root' b
