@@ -1,0 +1,6 @@
+pub mod Subtrees
+pub mod Labelling
+pub mod Annotating
+pub mod Covering
+pub mod Answering
+pub mod Reading

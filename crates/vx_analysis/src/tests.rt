@@ -1,0 +1,4 @@
+// Worked answers, with memory enough.
+mod annotated;
+mod labelled;
+mod scope;
