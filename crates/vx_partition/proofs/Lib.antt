@@ -1,0 +1,7 @@
+pub mod Collecting
+pub mod Finding
+pub mod Growing
+pub mod Grouping
+pub mod Naming
+pub mod Rebindings
+pub mod Replacing

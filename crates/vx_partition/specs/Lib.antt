@@ -1,0 +1,5 @@
+pub mod Keys
+pub mod Partitioned
+pub mod Only
+pub mod Collecting
+pub mod Packing
