@@ -1,4 +1,5 @@
 pub mod Collecting
+pub mod Filling
 pub mod Finding
 pub mod Growing
 pub mod Grouping

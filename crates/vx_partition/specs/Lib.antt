@@ -3,3 +3,4 @@ pub mod Partitioned
 pub mod Only
 pub mod Collecting
 pub mod Packing
+pub mod Filling

@@ -2,6 +2,7 @@
 #![tactic(auto)]
 
 mod collect;
+mod fill;
 mod groups;
 mod holes;
 mod joined;
