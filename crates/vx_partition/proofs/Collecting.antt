@@ -6,7 +6,7 @@ use Rattle.vx_types.specs.Types.{LogicalType}
 use Rattle.vx_tree.specs.declared.bound.BoundExpression.{BoundExpression}
 use Rattle.vx_tree.specs.Trees.{BoundTree, scope, node, BoundTrees, no_bound, bound}
 use Rattle.vx_tree.specs.Views.{bound_of, bounds_of}
-use Rattle.vx_recombine.specs.Pieces.{Piece, Group, piece_or, pieces, each_pieces}
+use Rattle.vx_recombine.specs.Pieces.{Piece, Group, pieces, each_pieces}
 use Rattle.vx_partition.specs.declared.mark.Mark.{Mark}
 use Rattle.vx_partition.specs.declared.mark.Mark.TheVariants.{Kept, Above}
 use Rattle.vx_partition.specs.Collecting.{collected, SameGroups, has_some, hole_mark, marked, marks_of, marks_of_each, IsWalked}
@@ -105,17 +105,16 @@ module _ {A : Type 0} (eq : A → A → Bool) where
 
     -- ---- a node
 
-
     pub piece_walked : (before : List (Piece A)) (b : BoundTree) (a : A) (mark : Mark) (old new : List Mark) (gs : List (Group A)) → only b ≡ Some a → mark ≡ hole_mark eq before a → new ≡ old ++ mark ∷ []
         → SameGroups eq gs (collected eq (before ++ (a, b) ∷ [])) → IsWalked eq before (pieces only b) (marks_of eq only before b) true old new gs
-    piece_walked before (scope t) a mark old new gs e is put s = rw e record { told = refl; noted = put ∙ ap (λ m. old ++ m ∷ []) is; groups = s; }
-    piece_walked before (node t f bs) a mark old new gs e is put s = rw e record { told = refl; noted = put ∙ ap (λ m. old ++ m ∷ []) is; groups = s; }
+    piece_walked before (scope t) a mark old new gs e is put s = rw e record { told = refl; noted = put ∙ ap (λ m. old ++ m ∷ []) is; groups = s }
+    piece_walked before (node t f bs) a mark old new gs e is put s = rw e record { told = refl; noted = put ∙ ap (λ m. old ++ m ∷ []) is; groups = s }
 
     pub scope_walked : (before : List (Piece A)) (b : BoundTree) (t : LogicalType) (old new : List Mark) (gs : List (Group A)) → b ≡ scope t → only b ≡ None → new ≡ old ++ Kept ∷ [] → SameGroups eq gs (collected eq before)
         → IsWalked eq before (pieces only b) (marks_of eq only before b) false old new gs
     scope_walked before b t old new gs is e put s =
         let none : only (scope t) ≡ None = ap only (sym is) ∙ e in
-        rw is (rw none record { told = refl; noted = put; groups = subst (λ xs. SameGroups eq gs (collected eq xs)) (sym (append-nil before)) s; })
+        rw is (rw none record { told = refl; noted = put; groups = subst (λ xs. SameGroups eq gs (collected eq xs)) (sym (append-nil before)) s })
 
     pub node_walked : (before : List (Piece A)) (b : BoundTree) (t : LogicalType) (f : Function) (bs : BoundTrees) (some : Bool) (old new : List Mark) (gs : List (Group A)) → b ≡ node t f bs → only b ≡ None
         → IsWalked eq before (each_pieces only bs) (marked eq None before (each_pieces only bs) (marks_of_each eq only before bs)) some old new gs → IsWalked eq before (pieces only b) (marks_of eq only before b) some old new gs

@@ -1,5 +1,5 @@
 -- One more piece goes behind the others of its annotation, or begins a group behind the others.
-use Rattle.std.proofs.Common.{◌≡◌, ℕ, zero, suc, ◌+◌, Bool, true, false, List, [], ◌∷◌, ◌++◌, length, map, refl, sym, ap, subst, ◌∙◌, true≢false, arith}
+use Rattle.std.proofs.Common.{◌≡◌, ℕ, Bool, true, false, List, [], ◌∷◌, ◌++◌, length, map, refl, sym, ap, subst, ◌∙◌, true≢false}
 use Rattle.std.specs.Prelude.{if◌then◌else◌, ◌||◌, not, cond}
 use Rattle.std.specs.Cmp.{IsEquivalence}
 use Rattle.std.specs.List.{list_any, filter, position_or_len}
@@ -8,7 +8,7 @@ use Rattle.std.proofs.lemmas.List.{append-nil}
 use Rattle.vx_tree.specs.Trees.{BoundTree}
 use Rattle.vx_recombine.specs.Pieces.{Piece, Group, pieces_of, others, annotations_of, grouped}
 use Rattle.vx_recombine.proofs.Places.{pieces_of-equal}
-use Rattle.vx_partition.specs.Collecting.{collected, SameGroups, hole_mark}
+use Rattle.vx_partition.specs.Collecting.{collected, SameGroups}
 
 module _ {A : Type 0} (eq : A → A → Bool) where
   -- one more piece of groups
@@ -75,6 +75,7 @@ module _ {A : Type 0} (eq : A → A → Bool) where
       where
         apart : eq x c ≡ true → eq a c ≡ false
         apart q = turned c a false (sym (laws.congr x c a q) ∙ turned a x false e)
+
         go : (t : Bool) → eq x c ≡ t → list_any (eq a) (others eq x ks) ≡ list_any (eq a) ks → list_any (eq a) (cond (not t) (c ∷ others eq x ks) (others eq x ks)) ≡ (eq a c || list_any (eq a) ks)
         go true q r = rw (apart q) r
         go false q r = ap (λ b. eq a c || b) r

@@ -7,7 +7,6 @@ use Rattle.vx_tree.specs.Trees.{BoundTree, scope, node, BoundTrees, no_bound, bo
 use Rattle.vx_recombine.specs.Pieces.{Piece, piece_or, pieces, each_pieces, pieces_of, annotations_of}
 use Rattle.vx_recombine.specs.Holes.{hole, hole_or, with_holes, each_with_holes}
 use Rattle.vx_partition.specs.declared.mark.Mark.{Mark}
-use Rattle.vx_partition.specs.declared.mark.Mark.TheVariants.{Kept, Above, Hole}
 use Rattle.vx_partition.specs.Collecting.{marked, marks_of, marks_of_each}
 use Rattle.vx_partition.specs.Packing.{hole_at}
 use Rattle.vx_partition.specs.Filling.{hole_or_tree, filled, filled_each}

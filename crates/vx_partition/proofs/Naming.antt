@@ -2,14 +2,14 @@
 use Rattle.std.proofs.Common.{◌≡◌, ℕ, zero, suc, ◌+◌, ◌<◌, false, List, [], ◌∷◌, ◌++◌, length, drop, map, add-one, Ok, refl, sym, ap, ◌∙◌, append_assoc, arith}
 use Rattle.std.proofs.lemmas.Bool.{eq-eqb}
 use Rattle.vx_types.specs.Types.{Name}
-use Rattle.vx_fn.specs.Functions.{pack, fn_type}
+use Rattle.vx_fn.specs.Functions.{pack}
 use Rattle.vx_fn.specs.Rows.{of_pack}
 use Rattle.vx_fn.proofs.Rows.{fn_type-only}
 use Rattle.vx_tree.specs.Binding.{node_over}
 use Rattle.vx_tree.specs.Trees.{node, node_types, on_ok}
 use Rattle.vx_tree.specs.Views.{bound_of, bounds_of}
 use Rattle.vx_tree.specs.declared.bound.BoundExpression.{BoundExpression}
-use Rattle.vx_recombine.specs.Items.{struct_type, packed}
+use Rattle.vx_recombine.specs.Items.{packed}
 use Rattle.vx_recombine.specs.Partitions.{piece_name, piece_names}
 
 names_from : (text : List ℕ) (j : ℕ) (ps : List BoundExpression) (i : ℕ) → i < length ps

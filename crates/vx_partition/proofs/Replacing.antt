@@ -1,15 +1,14 @@
 -- Partitions that keep the old ones.
-use Rattle.std.proofs.Common.{◌≡◌, ◌⊎◌, inl, inr, ⊎_elim, suc, List, [], ◌∷◌, length, Result, Ok, Err, refl, sym, ap, subst, ◌∙◌}
+use Rattle.std.proofs.Common.{◌≡◌, ◌⊎◌, inl, inr, suc, List, [], ◌∷◌, length, Ok, Err, refl, sym, ap, ◌∙◌}
 use Rattle.vx_dtype.specs.declared.error.VortexError.{VortexError}
 use Rattle.vx_dtype.specs.declared.error.VortexError.TheVariants.{OutOfMemory}
 use Rattle.vx_types.specs.Types.{Name, LogicalType}
 use Rattle.vx_fn.specs.Functions.{Typing}
-use Rattle.vx_keep.specs.Keeps.{KeepsEach, keeps_none, keeps_more}
+use Rattle.vx_keep.specs.Keeps.{KeepsEach, keeps_more}
 use Rattle.vx_tree.specs.declared.bound.BoundExpression.{BoundExpression}
 use Rattle.vx_tree.specs.Trees.{BoundTree, BoundTrees, no_bound, bound, unbound, typed, WellTyped, Over}
 use Rattle.vx_tree.specs.Views.{bounds_of}
 use Rattle.vx_recombine.specs.Items.{struct_type}
-use Rattle.vx_recombine.specs.Recombining.{Recombines}
 use Rattle.vx_recombine.proofs.Rebound.{replaced_typed, replaced_recombine, rebound_type}
 use Rattle.vx_partition.specs.Partitioned.{IsBoundAgain, StillRecombines}
 

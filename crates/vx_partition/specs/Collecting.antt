@@ -1,5 +1,5 @@
 -- What a walk collects: the pieces in groups, and a mark for each node that it visits.
-use Rattle.std.specs.Prelude.{◌≡◌, ℕ, Bool, true, false, List, [], ◌∷◌, ◌++◌, length, map, Option, Some, None, Vec}
+use Rattle.std.specs.Prelude.{◌≡◌, Bool, true, false, List, [], ◌∷◌, ◌++◌, length, map, Option, Some, None, Vec}
 use Rattle.std.specs.List.{position_or_len}
 use Rattle.indexmap.specs.IndexMap.{IndexMap}
 use Rattle.vx_tree.specs.declared.bound.BoundExpression.{BoundExpression}

@@ -1,13 +1,10 @@
 -- What is made of the groups: their partitions, and the holes that take the pieces out of them.
-use Rattle.std.specs.Prelude.{◌≡◌, ℕ, zero, suc, List, [], ◌∷◌, Option, Some, None, slice_get}
+use Rattle.std.specs.Prelude.{ℕ, zero, suc, List, [], ◌∷◌, Option, None, slice_get}
 use Rattle.vx_types.specs.Types.{Name, LogicalType}
 use Rattle.vx_fn.specs.Functions.{get_item}
-use Rattle.vx_tree.specs.Trees.{BoundTree, scope, node, BoundTrees, no_bound, bound, node_type}
-use Rattle.vx_tree.specs.Views.{bounds_from}
+use Rattle.vx_tree.specs.Trees.{BoundTree, scope, node, no_bound, bound, node_type}
 use Rattle.vx_recombine.specs.Pieces.{Group}
-use Rattle.vx_recombine.specs.Partitions.{piece_names, partition, partitions}
-use Rattle.vx_partition.specs.declared.mark.Mark.{Mark}
-use Rattle.vx_partition.specs.declared.mark.Mark.TheVariants.{Kept, Above, Hole}
+use Rattle.vx_recombine.specs.Partitions.{piece_names, partition}
 
 -- the item of that name, of which the type is known
 abbrev pub typed_item : LogicalType → Name → BoundTree → BoundTree

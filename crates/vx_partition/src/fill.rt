@@ -64,11 +64,7 @@ fn fill_each(
 }
 
 // The hole of that index of that group, if there is one.
-fn hole_at(
-    holes: &[Vec<BoundExpression>],
-    group: usize,
-    index: usize,
-) -> Option<&BoundExpression>
+fn hole_at(holes: &[Vec<BoundExpression>], group: usize, index: usize) -> Option<&BoundExpression>
     ensures { option_map (λ b. bound_of b.now) result ≡ hole_at (holes_seen holes.now) group index }
 {
     match holes.get(group) {

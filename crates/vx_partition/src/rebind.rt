@@ -23,11 +23,7 @@ pub(crate) fn rebind(
 }
 
 #[cycle(rebind)]
-fn rebind_one(
-    alloc: Global,
-    e: &BoundExpression,
-    scope: &DType,
-) -> VortexResult<BoundExpression>
+fn rebind_one(alloc: Global, e: &BoundExpression, scope: &DType) -> VortexResult<BoundExpression>
     ensures bound { Answers bound_of result (binding (unbound (bound_of e.now)) (type_of scope.now)) }
     ensures typed { IfOk result (λ b. WellTyped (bound_of b)) }
 {

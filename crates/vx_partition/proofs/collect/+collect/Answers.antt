@@ -1,8 +1,8 @@
-use Rattle.std.proofs.Common.{rules, ◌≡◌, List, None, Some, refl, arith, ap, sym, ◌∙◌}
-use Rattle.vx_tree.specs.Views.{bound_of, bounds_of}
+use Rattle.std.proofs.Common.{refl, arith}
+use Rattle.vx_tree.specs.Views.{bounds_of}
 use Rattle.vx_partition.specs.Only.{only_annotation}
 use Rattle.vx_partition.specs.Collecting.{groups_in}
-use Rattle.vx_partition.proofs.Collecting.{starts, goes_on, some_below, none_below, piece_walked, scope_walked, node_walked}
+use Rattle.vx_partition.proofs.Collecting.{starts, goes_on}
 use Rattle.vx_partition.proofs.collect.+collect.Goals as goal
 
 pub collect_below-loop-child-init : goal.collect_below-loop-child-init

@@ -1,4 +1,4 @@
-use Rattle.std.proofs.Common.{◌≡◌, ◌∷◌, [], ◌++◌, None, length, ap, sym, ◌∙◌, rules}
+use Rattle.std.proofs.Common.{◌≡◌, ◌∷◌, [], None, length, rules}
 use Rattle.std.specs.Map.{lookup}
 use Rattle.vx_partition.proofs.Grouping.{pushed, begun, none_there}
 use Rattle.vx_partition.proofs.groups.add_piece.Goals as goal

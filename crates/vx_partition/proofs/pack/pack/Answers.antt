@@ -1,4 +1,4 @@
-use Rattle.std.proofs.Common.{rules, ◌≡◌, ap, ◌∙◌, subst, false, ◌⊎◌}
+use Rattle.std.proofs.Common.{rules, ◌≡◌, ap, ◌∙◌, subst, false}
 use Rattle.vx_types.specs.Answers.{Answers}
 use Rattle.vx_fn.specs.Functions.{pack}
 use Rattle.vx_tree.specs.Binding.{node_over}

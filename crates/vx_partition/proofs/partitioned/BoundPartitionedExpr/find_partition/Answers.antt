@@ -1,8 +1,7 @@
-use Rattle.std.proofs.Common.{◌≡◌, Ok, ap, sym, ◌∙◌, rules, position, slice_get, None, Some, Option, ℕ}
+use Rattle.std.proofs.Common.{◌≡◌, Ok, ap, sym, ◌∙◌, rules, position, slice_get, None, Some}
 use Rattle.std.specs.Option.{option_map, option_copied}
 use Rattle.std.specs.Str.{bytes_eq}
-use Rattle.vx_tree.specs.Views.{bound_of, bounds_of}
-use Rattle.vx_tree.specs.Trees.{BoundTree}
+use Rattle.vx_tree.specs.Views.{bound_of}
 use Rattle.vx_partition.proofs.Finding.{named_at, at_found, copied_at, copied_seen}
 use Rattle.vx_partition.proofs.partitioned.BoundPartitionedExpr.find_partition.Goals as goal
 
