@@ -1,0 +1,6 @@
+pub mod Taken
+pub mod Places
+pub mod EachPiece
+pub mod Packing
+pub mod Recombined
+pub mod Rebound
