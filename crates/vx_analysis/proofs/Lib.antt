@@ -3,4 +3,5 @@ pub mod Labelling
 pub mod Annotating
 pub mod Covering
 pub mod Answering
+pub mod Refusing
 pub mod Reading

@@ -2,5 +2,6 @@ pub mod Keys
 pub mod Reached
 pub mod Labels
 pub mod Annotations
+pub mod Refusals
 pub mod Covers
 pub mod Fields

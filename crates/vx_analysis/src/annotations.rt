@@ -1,5 +1,5 @@
 // Annotations of the nodes of a bound tree.
-ghost use Rattle.std.specs.Prelude.{◌≡◌, ◌||◌, ◌&&◌, ◌⊎◌, not, is_some, List, Err, IfErr, IfOk, OnOk};
+ghost use Rattle.std.specs.Prelude.{◌≡◌, ◌||◌, ◌&&◌, ◌⊎◌, not, is_some, None, Some, List, Err, IfErr, IfOk, OnOk};
 ghost use Rattle.std.specs.HashSet.{contains};
 ghost use Rattle.std.specs.List.{list_any};
 ghost use Rattle.vx_dtype.specs.declared.error.VortexError.TheVariants.{OutOfMemory};
@@ -9,6 +9,7 @@ ghost use Rattle.vx_tree.specs.Views.{bound_of};
 ghost use Rattle.vx_analysis.specs.Annotations.{answered, AnswersAlike, is_annotation, IsAnnotationsOf, IsAnnotated};
 ghost use Rattle.vx_analysis.specs.Keys.{key_of, entry_at};
 ghost use Rattle.vx_analysis.specs.Reached.{is_reached, is_reached_in, IsClosed};
+ghost use Rattle.vx_analysis.specs.Refusals.{SaysBy, first_refusal, IsUnrefused};
 
 use crate::Annotation;
 use crate::entries::{entry, put};
@@ -34,6 +35,8 @@ pub fn descendent_bound_annotations<
         → (k : _) → is_some (entry_at (key_of k) m) ≡ is_reached (answered answers) (key_of k) (bound_of e.now)) }
     ensures annotations { IfOk result (λ m. (answers : BoundTree → List A) → AnswersAlike A.eq (F.post annotate) answers → IsAnnotated A.eq answers m) }
     ensures refusal { IfErr result (λ y. (y ≡ OutOfMemory) ⊎ ((x : _) × F.post annotate x (Err y))) }
+    ensures first { IfErr result (λ y. (said : _) → SaysBy A.eq (F.post annotate) said → (y ≡ OutOfMemory) ⊎ (first_refusal said (bound_of e.now) ≡ Some y)) }
+    ensures unrefused { OnOk result ((said : _) → SaysBy A.eq (F.post annotate) said → first_refusal said (bound_of e.now) ≡ None) }
 {
     let mut annotations = HashMap::new(alloc);
     let set = annotations_of(alloc, e, &annotate, &mut annotations)?;
@@ -54,6 +57,8 @@ fn annotations_of<A: Annotation + Drop, F: Fn(&BoundExpression) -> VortexResult<
         → IsAnnotationsOf A.eq answers (bound_of e.now) s × IsAnnotated A.eq answers annotations.new
         × ((k : _) → is_some (entry_at (key_of k) annotations.new) ≡ ((not (answered answers (bound_of e.now)) && is_reached_in (answered answers) (key_of k) (bound_children_of (bound_of e.now))) || is_some (entry_at (key_of k) annotations.old)))) }
     ensures refusal { IfErr result (λ y. (y ≡ OutOfMemory) ⊎ ((x : _) × F.post annotate.now x (Err y))) }
+    ensures first { IfErr result (λ y. (said : _) → SaysBy A.eq (F.post annotate.now) said → IsUnrefused said annotations.old → (y ≡ OutOfMemory) ⊎ (first_refusal said (bound_of e.now) ≡ Some y)) }
+    ensures unrefused { OnOk result ((said : _) → SaysBy A.eq (F.post annotate.now) said → IsUnrefused said annotations.old → (first_refusal said (bound_of e.now) ≡ None) × IsUnrefused said annotations.new) }
 {
     let answers = annotate(e)?;
     if !answers.is_empty() {
@@ -81,6 +86,8 @@ fn add_child<A: Annotation + Drop, F: Fn(&BoundExpression) -> VortexResult<Vec<A
         → ((a : A) → contains A.eq set.new a ≡ (contains A.eq set.old a || is_annotation A.eq answers a (bound_of child.now))) × IsAnnotated A.eq answers annotations.new
         × ((k : _) → is_some (entry_at (key_of k) annotations.new) ≡ (is_reached (answered answers) (key_of k) (bound_of child.now) || is_some (entry_at (key_of k) annotations.old)))) }
     ensures refusal { IfErr result (λ y. (y ≡ OutOfMemory) ⊎ ((x : _) × F.post annotate.now x (Err y))) }
+    ensures first { IfErr result (λ y. (said : _) → SaysBy A.eq (F.post annotate.now) said → IsUnrefused said annotations.old → (y ≡ OutOfMemory) ⊎ (first_refusal said (bound_of child.now) ≡ Some y)) }
+    ensures unrefused { OnOk result ((said : _) → SaysBy A.eq (F.post annotate.now) said → IsUnrefused said annotations.old → (first_refusal said (bound_of child.now) ≡ None) × IsUnrefused said annotations.new) }
 {
     if let Some(below) = entry(annotations, child)? {
         return add_all(alloc, set, below);

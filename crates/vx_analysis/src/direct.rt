@@ -1,11 +1,12 @@
 // The nodes of a bound tree that are annotated themselves.
-ghost use Rattle.std.specs.Prelude.{◌≡◌, ◌||◌, ◌&&◌, ◌⊎◌, is_some, List, Err, IfErr, IfOk, OnOk};
+ghost use Rattle.std.specs.Prelude.{◌≡◌, ◌||◌, ◌&&◌, ◌⊎◌, is_some, None, Some, List, Err, IfErr, IfOk, OnOk};
 ghost use Rattle.vx_dtype.specs.declared.error.VortexError.TheVariants.{OutOfMemory};
 ghost use Rattle.vx_tree.specs.Trees.{BoundTree};
 ghost use Rattle.vx_tree.specs.Views.{bound_of};
 ghost use Rattle.vx_analysis.specs.Annotations.{answered, AnswersAlike, IsAnnotated};
 ghost use Rattle.vx_analysis.specs.Keys.{key_of, entry_at};
 ghost use Rattle.vx_analysis.specs.Reached.{is_reached};
+ghost use Rattle.vx_analysis.specs.Refusals.{SaysBy, first_refusal};
 
 use crate::annotations::set_of;
 use crate::entries::put;
@@ -27,6 +28,8 @@ pub fn direct_bound_annotations<
         → (k : _) → is_some (entry_at (key_of k) m) ≡ (is_reached (answered answers) (key_of k) (bound_of e.now) && answered answers (key_of k))) }
     ensures annotations { IfOk result (λ m. (answers : BoundTree → List A) → AnswersAlike A.eq (F.post annotate) answers → IsAnnotated A.eq answers m) }
     ensures refusal { IfErr result (λ y. (y ≡ OutOfMemory) ⊎ ((x : _) × F.post annotate x (Err y))) }
+    ensures first { IfErr result (λ y. (said : _) → SaysBy A.eq (F.post annotate) said → (y ≡ OutOfMemory) ⊎ (first_refusal said (bound_of e.now) ≡ Some y)) }
+    ensures unrefused { OnOk result ((said : _) → SaysBy A.eq (F.post annotate) said → first_refusal said (bound_of e.now) ≡ None) }
 {
     let mut annotations = HashMap::new(alloc);
     annotate_into(alloc, e, &annotate, &mut annotations)?;
@@ -45,6 +48,8 @@ fn annotate_into<A: Annotation + Drop, F: Fn(&BoundExpression) -> VortexResult<V
         → ((k : _) → is_some (entry_at (key_of k) annotations.new) ≡ ((is_reached (answered answers) (key_of k) (bound_of e.now) && answered answers (key_of k)) || is_some (entry_at (key_of k) annotations.old)))
         × IsAnnotated A.eq answers annotations.new) }
     ensures refusal { IfErr result (λ y. (y ≡ OutOfMemory) ⊎ ((x : _) × F.post annotate.now x (Err y))) }
+    ensures first { IfErr result (λ y. (said : _) → SaysBy A.eq (F.post annotate.now) said → (y ≡ OutOfMemory) ⊎ (first_refusal said (bound_of e.now) ≡ Some y)) }
+    ensures unrefused { OnOk result ((said : _) → SaysBy A.eq (F.post annotate.now) said → first_refusal said (bound_of e.now) ≡ None) }
 {
     let answers = annotate(e)?;
     if !answers.is_empty() {
