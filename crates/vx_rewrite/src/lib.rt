@@ -9,3 +9,4 @@ pub use vx_fusing::find_between;
 pub use vx_keep::Rule;
 pub use vx_optimizer::optimize_with;
 pub use vx_paths::referenced_field_paths;
+pub use vx_standard::{Optimize, StandardRules};

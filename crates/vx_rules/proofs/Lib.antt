@@ -1,0 +1,13 @@
+pub mod Children
+pub mod Joins
+pub mod FillLaws
+pub mod CaseLaws
+pub mod PackLaws
+pub mod ZipLaws
+pub mod SelectLaws
+pub mod Keeping
+pub mod Lightening
+pub mod Modesty
+pub mod Shapes
+pub mod Decisions
+pub mod Lawfulness

@@ -1,0 +1,4 @@
+pub mod Rules
+pub mod Given
+pub mod Modest
+pub mod Laws

@@ -1,0 +1,4 @@
+pub mod Named
+pub mod Answering
+pub mod Counted
+pub mod Coalesces

@@ -1,0 +1,14 @@
+// The standard rules as code, and trees optimized by them.
+#![tactic(auto)]
+
+mod cases;
+mod nodes;
+mod optimize;
+mod packs;
+mod standard;
+#[cfg(test)]
+mod tests;
+mod zips;
+
+pub use optimize::Optimize;
+pub use standard::StandardRules;

@@ -1,0 +1,4 @@
+// Trees before and after the standard rules.
+mod build;
+mod deep;
+mod rows;

@@ -1,0 +1,49 @@
+// The rule of a choice by a literal.
+ghost use Rattle.std.specs.Prelude.{◌≡◌, Ok};
+ghost use Rattle.std.specs.Option.{option_map};
+ghost use Rattle.vx_types.specs.Answers.{Answers};
+ghost use Rattle.vx_types.specs.Views.{type_of};
+ghost use Rattle.vx_rules.specs.Given.{as_type, zip_given};
+ghost use Rattle.vx_tree.specs.Views.{bound_of};
+
+use crate::nodes::{literal_value, node};
+use std::alloc::Global;
+use vx_fn::ScalarFnRef;
+use vx_tree::{BoundExpression, VortexResult};
+use vx_types::{DType, Value};
+
+// A choice by a literal that isn't null is the chosen branch.
+pub(crate) fn zip_by_literal(
+    alloc: Global,
+    dtype: &DType,
+    if_true: &BoundExpression,
+    if_false: &BoundExpression,
+    mask: &BoundExpression,
+) -> VortexResult<Option<BoundExpression>>
+    ensures { Answers (option_map bound_of) result (Ok (zip_given (type_of dtype.now) (bound_of if_true.now) (bound_of if_false.now) (bound_of mask.now))) }
+{
+    let Some(scalar) = literal_value(mask) else {
+        return Ok(None);
+    };
+    match scalar.value() {
+        Value::Bool(true) => Ok(Some(as_type(alloc, dtype, if_true)?)),
+        Value::Bool(false) => Ok(Some(as_type(alloc, dtype, if_false)?)),
+        _ => Ok(None),
+    }
+}
+
+// The branch, cast to the type where its own is another.
+fn as_type(alloc: Global, dtype: &DType, branch: &BoundExpression) -> VortexResult<BoundExpression>
+    ensures { Answers bound_of result (Ok (as_type (type_of dtype.now) (bound_of branch.now))) }
+{
+    if branch.dtype() == dtype {
+        return Ok(branch.clone()?);
+    }
+    let children = vec![in alloc; branch.clone()?]?;
+    node(
+        alloc,
+        dtype.clone()?,
+        ScalarFnRef::Cast(dtype.clone()?),
+        children,
+    )
+}
