@@ -1,6 +1,2 @@
 pub mod Keys
 pub mod Partitioned
-pub mod Only
-pub mod Collecting
-pub mod Packing
-pub mod Filling

@@ -1,16 +1,12 @@
-// Bound trees split into partitions by annotations of their nodes.
+// Partitions of bound trees: their keys, finding one, and others in their place.
 #![tactic(auto)]
 
-mod collect;
-mod fill;
-mod groups;
-mod holes;
 mod joined;
 mod key;
-mod mark;
-mod pack;
 mod partitioned;
 mod rebind;
+#[cfg(test)]
+mod tests;
 
 pub use key::PartitionKey;
 pub use partitioned::BoundPartitionedExpr;
