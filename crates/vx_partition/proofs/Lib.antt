@@ -1,3 +1,9 @@
+pub mod Collecting
+pub mod Filling
 pub mod Finding
+pub mod Growing
+pub mod Grouping
+pub mod Holed
+pub mod Naming
 pub mod Rebindings
 pub mod Replacing

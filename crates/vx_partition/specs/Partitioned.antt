@@ -1,9 +1,34 @@
--- What replacing partitions gives.
-use Rattle.std.specs.Prelude.{◌≡◌}
-use Rattle.vx_tree.specs.Trees.{BoundTree, BoundTrees, unbound, node_type, WellTyped, Over}
+-- A partitioned tree, its text, and the name that is taken twice.
+use Rattle.std.specs.Prelude.{◌≡◌, ℕ, List, [], ◌∷◌, ◌++◌, Option, Some, None, Result, Ok, Err, if◌then◌else◌, codes}
+use Rattle.std.specs.List.{list_any}
+use Rattle.std.specs.Str.{bytes_eq}
+use Rattle.vx_dtype.specs.declared.error.VortexError.{VortexError}
+use Rattle.vx_dtype.specs.declared.error.VortexError.TheVariants.{PartitionNameTaken}
+use Rattle.vx_types.specs.Types.{Name}
+use Rattle.vx_fn.specs.Texts.{with_commas, named_texts}
+use Rattle.vx_tree.specs.Texts.{sql, sqls}
+use Rattle.vx_tree.specs.Trees.{Tree, Trees, BoundTree, BoundTrees, unbound, node_type, WellTyped, Over}
 use Rattle.vx_types.specs.Types.{LogicalType}
 use Rattle.vx_types.specs.Joins.{Narrower}
 use Rattle.vx_recombine.specs.Recombining.{Recombines}
+
+-- the first name that stands a second time, where `before` has the names to its left
+abbrev pub first_taken : List Name → List Name → Option Name
+first_taken before [] = None
+first_taken before (a ∷ names) = if list_any (bytes_eq a) before then Some a else first_taken (a ∷ before) names
+
+-- the names where none stands twice, else the first that does
+abbrev pub unless_taken : Option Name → List Name → Result (List Name) VortexError
+unless_taken None names = Ok names
+unless_taken (Some a) names = Err (PartitionNameTaken a)
+
+-- the names of partitions, or the refusal of the first that is taken
+abbrev pub free_names : List Name → Result (List Name) VortexError
+free_names names = unless_taken (first_taken [] names) names
+
+-- the root's text, and each partition's behind its name
+abbrev pub partitioned_text : Tree → List Name → Trees → List ℕ
+partitioned_text e names parts = codes "root: " ++ (sql e ++ (codes " {" ++ (with_commas (named_texts names (sqls parts)) ++ codes "}")))
 
 -- the source of a root, bound to the type s
 pub record IsBoundAgain (root : BoundTree) (s : LogicalType) (again : BoundTree) : Type 0 where

@@ -1,8 +1,14 @@
-// Partitions of bound trees: their keys, finding one, and others in their place.
+// Bound trees split into partitions by annotations of their nodes.
 #![tactic(auto)]
 
+mod collect;
+mod fill;
+mod groups;
+mod holes;
 mod joined;
 mod key;
+mod mark;
+mod pack;
 mod partitioned;
 mod rebind;
 #[cfg(test)]
