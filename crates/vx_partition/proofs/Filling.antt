@@ -17,11 +17,11 @@ abbrev pub joined_with : List BoundExpression → BoundTrees → BoundTrees
 joined_with [] bs = bs
 joined_with (b ∷ made) bs = bound (bound_of b) (joined_with made bs)
 
-with_last : (made : List BoundExpression) (b : BoundExpression) (bs : BoundTrees) → joined_with (made ++ b ∷ []) bs ≡ joined_with made (bound (bound_of b) bs)
+pub with_last : (made : List BoundExpression) (b : BoundExpression) (bs : BoundTrees) → joined_with (made ++ b ∷ []) bs ≡ joined_with made (bound (bound_of b) bs)
 with_last [] b bs = refl
 with_last (x ∷ made) b bs = ap (bound (bound_of x)) (with_last made b bs)
 
-with_none : (made : List BoundExpression) → joined_with made no_bound ≡ bounds_of made
+pub with_none : (made : List BoundExpression) → joined_with made no_bound ≡ bounds_of made
 with_none [] = refl
 with_none (x ∷ made) = ap (bound (bound_of x)) (with_none made)
 

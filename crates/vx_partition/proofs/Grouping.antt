@@ -27,7 +27,7 @@ abbrev items_of : {Z : Type 0} → Option (Vec BoundExpression Z) → List Bound
 items_of None = []
 items_of (Some v) = v.items
 
-count_seen : (bs : List BoundExpression) → length (map bound_of bs) ≡ length bs
+pub count_seen : (bs : List BoundExpression) → length (map bound_of bs) ≡ length bs
 count_seen [] = refl
 count_seen (b ∷ bs) = ap suc (count_seen bs)
 

@@ -22,7 +22,7 @@ module _ {A : Type 0} (eq : A → A → Bool) where
   put (k ∷ ks) a = if eq a k then k ∷ ks else k ∷ put ks a
 
   -- no annotation is equal to a later one
-  abbrev Apart : List A → Type 0
+  abbrev pub Apart : List A → Type 0
   Apart [] = Unit {0}
   Apart (k ∷ ks) = (list_any (eq k) ks ≡ false) × Apart ks
 
@@ -64,12 +64,12 @@ module _ {A : Type 0} (eq : A → A → Bool) where
         go true e r = r
         go false e r = rw (e, r) refl
 
-    annotations-apart : (xs : List (Piece A)) → Apart (annotations_of eq xs)
+    pub annotations-apart : (xs : List (Piece A)) → Apart (annotations_of eq xs)
     annotations-apart [] = tt
     annotations-apart (x ∷ xs) = (any-others x.0 (annotations_of eq xs), apart-filter (λ b. not (eq x.0 b)) (annotations_of eq xs) (annotations-apart xs))
 
     -- those that are left out don't count for what isn't equal to them
-    any-left : (a x : A) (ks : List A) → eq a x ≡ false → list_any (eq a) (others eq x ks) ≡ list_any (eq a) ks
+    pub any-left : (a x : A) (ks : List A) → eq a x ≡ false → list_any (eq a) (others eq x ks) ≡ list_any (eq a) ks
     any-left a x [] e = refl
     any-left a x (c ∷ ks) e = go (eq x c) refl (any-left a x ks e)
       where

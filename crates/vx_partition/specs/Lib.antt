@@ -4,3 +4,4 @@ pub mod Only
 pub mod Collecting
 pub mod Packing
 pub mod Filling
+pub mod Splitting

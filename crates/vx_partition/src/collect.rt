@@ -1,5 +1,6 @@
 // The walk that collects the pieces of a tree.
-ghost use Rattle.std.specs.Prelude.{◌≡◌, List, IfOk, None};
+ghost use Rattle.std.specs.Prelude.{◌≡◌, List, IfOk, IfErr, None};
+ghost use Rattle.vx_dtype.specs.declared.error.VortexError.TheVariants.{OutOfMemory};
 ghost use Rattle.std.specs.Option.{option_copied};
 ghost use Rattle.vx_recombine.specs.Pieces.{Piece, pieces, each_pieces};
 ghost use Rattle.vx_tree.specs.Views.{bound_of, bounds_of};
@@ -22,8 +23,9 @@ pub(crate) fn collect<A: Annotation + Drop>(
     groups: &mut Groups<A>,
     marks: &mut Vec<Mark>,
 ) -> VortexResult<bool>
-    ensures { IfOk result (λ some. (before : List (Piece _)) → SameGroups A.eq (groups_in groups.old) (collected A.eq before) →
+    ensures walked { IfOk result (λ some. (before : List (Piece _)) → SameGroups A.eq (groups_in groups.old) (collected A.eq before) →
         IsWalked A.eq before (pieces (only_annotation annotations.now) (bound_of e.now)) (marks_of A.eq (only_annotation annotations.now) before (bound_of e.now)) some marks.old.items marks.new.items (groups_in groups.new)) }
+    ensures memory { IfErr result (λ y. y ≡ OutOfMemory) }
 {
     if let Some(annotation) = only_annotation(annotations, e)? {
         let mark = add_piece(alloc, groups, annotation, e.clone()?)?;
@@ -50,8 +52,9 @@ fn collect_below<A: Annotation + Drop>(
     groups: &mut Groups<A>,
     marks: &mut Vec<Mark>,
 ) -> VortexResult<bool>
-    ensures { IfOk result (λ some. (before : List (Piece _)) → SameGroups A.eq (groups_in groups.old) (collected A.eq before) →
+    ensures walked { IfOk result (λ some. (before : List (Piece _)) → SameGroups A.eq (groups_in groups.old) (collected A.eq before) →
         IsWalked A.eq before (each_pieces (only_annotation annotations.now) (bounds_of children.now)) (marked A.eq None before (each_pieces (only_annotation annotations.now) (bounds_of children.now)) (marks_of_each A.eq (only_annotation annotations.now) before (bounds_of children.now))) some marks.old.items marks.new.items (groups_in groups.new)) }
+    ensures memory { IfErr result (λ y. y ≡ OutOfMemory) }
 {
     let here = marks.len();
     marks.push(Mark::Above)?;

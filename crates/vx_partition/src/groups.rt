@@ -1,5 +1,6 @@
 // Pieces by their annotations, in the order in which these first appear.
-ghost use Rattle.std.specs.Prelude.{◌≡◌, ◌++◌, ◌∷◌, [], List, OnOk, IfOk};
+ghost use Rattle.std.specs.Prelude.{◌≡◌, ◌++◌, ◌∷◌, [], List, IfOk, IfErr};
+ghost use Rattle.vx_dtype.specs.declared.error.VortexError.TheVariants.{OutOfMemory};
 ghost use Rattle.vx_recombine.specs.Pieces.{Piece};
 ghost use Rattle.vx_tree.specs.Views.{bound_of};
 ghost use Rattle.vx_partition.specs.Collecting.{groups_in, collected, SameGroups, hole_mark};
@@ -20,8 +21,9 @@ pub(crate) fn add_piece<A: Annotation + Drop>(
     annotation: &A,
     piece: BoundExpression,
 ) -> VortexResult<Mark>
-    ensures { IfOk result (λ mark. (before : List (Piece _)) → SameGroups A.eq (groups_in groups.old) (collected A.eq before) →
+    ensures added { IfOk result (λ mark. (before : List (Piece _)) → SameGroups A.eq (groups_in groups.old) (collected A.eq before) →
         (mark ≡ hole_mark A.eq before annotation.now) × SameGroups A.eq (groups_in groups.new) (collected A.eq (before ++ (annotation.now, bound_of piece) ∷ []))) }
+    ensures memory { IfErr result (λ y. y ≡ OutOfMemory) }
 {
     let group = groups.len();
     match groups.get_index_of(annotation) {

@@ -7,12 +7,18 @@ mod groups;
 mod holes;
 mod joined;
 mod key;
+mod laws;
 mod mark;
+mod names;
 mod pack;
 mod partitioned;
 mod rebind;
+mod shown;
+mod split;
 #[cfg(test)]
 mod tests;
 
 pub use key::PartitionKey;
+pub use laws::field_names_are_free;
 pub use partitioned::BoundPartitionedExpr;
+pub use split::{partition_bound, partition_bound_annotations};

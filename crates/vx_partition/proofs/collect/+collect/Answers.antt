@@ -13,4 +13,4 @@ pub collect_below-loop-child-preserved : goal.collect_below-loop-child-preserved
 collect_below-loop-child-preserved g t c = λ before s.
     let l = c.loop-child in
     goes_on g.A.PartialEq.eq (only_annotation c.args.annotations.now) before (bounds_of c.args.children.now) c.args.children.now l.child-index c.child-item.result l.some c.in_ok-found.found c.args.marks.now.items l.marks.items c.collect.new.marks.items
-    (groups_in l.groups) (groups_in c.collect.new.groups) (omega arith) c.child-item.is c.in_ok-found.ensures (l.invariant before s)
+    (groups_in l.groups) (groups_in c.collect.new.groups) (omega arith) c.child-item.is c.in_ok-found.ensures.walked (l.invariant before s)

@@ -3,13 +3,13 @@ use Rattle.std.specs.Map.{lookup}
 use Rattle.vx_partition.proofs.Grouping.{pushed, begun, none_there}
 use Rattle.vx_partition.proofs.groups.add_piece.Goals as goal
 
-pub returns-in_ok-push-in-Some : goal.returns-in_ok-push-in-Some
-returns-in_ok-push-in-Some g c =
+pub returns-in_ok-push-in-Some-clause-added : goal.returns-in_ok-push-in-Some-clause-added
+returns-in_ok-push-in-Some-clause-added g c =
     let count : c.len-index.result ≡ length c.index_mut-pieces.result.now.items = search rules in
     pushed g.A.PartialEq.eq g.met.A.Eq.laws c.args.groups.now.entries c.args.annotation.now c.args.piece c.in-Some.group c.len-index.result _ _ c.in-Some.ensures.index c.index_mut-pieces.ensures.value count c.in_ok-push-in-Some.ensures.items
 
-pub returns-in_ok-insert-in-None : goal.returns-in_ok-insert-in-None
-returns-in_ok-insert-in-None g c =
+pub returns-in_ok-insert-in-None-clause-added : goal.returns-in_ok-insert-in-None-clause-added
+returns-in_ok-insert-in-None-clause-added g c =
     let eq = g.A.PartialEq.eq in
     let es = c.args.groups.now.entries in
     let none : lookup (eq c.args.annotation.now) es ≡ None = none_there _ c.in-None.ensures.found in
