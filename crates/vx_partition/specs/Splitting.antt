@@ -53,3 +53,7 @@ IsAnnotatedBy {A} eq post b m = (answers : BoundTree → List A) → AnswersAlik
 -- the refusal of the first name that two annotations of the tree's pieces have, by the map
 abbrev pub IsTakenBy : {A S Z : Type 0} → (A → A → Bool) → (A → Name) → HashMap ExactBoundExpr (HashSet A S) Z → BoundTree → VortexError → Type 0
 IsTakenBy eq name m b y = free_names (partition_names name (groups eq (only_annotation m) b)) ≡ Err y
+
+-- the same by some map that has the closure's answers
+abbrev pub IsTakenBySome : {A Z : Type 0} → (A → A → Bool) → (A → Name) → (Bor BoundExpression → Result (Vec A Z) VortexError → Type 0) → BoundTree → VortexError → Type 0
+IsTakenBySome {A} eq name post b y = (m : AnnotationMap A) × IsAnnotatedBy eq post b m × IsTakenBy eq name m b y

@@ -10,7 +10,7 @@ ghost use Rattle.vx_partition.specs.Filling.{filled};
 ghost use Rattle.vx_partition.specs.Only.{only_annotation};
 ghost use Rattle.vx_partition.specs.Packing.{all_holes, all_names};
 ghost use Rattle.vx_partition.specs.Partitioned.{free_names};
-ghost use Rattle.vx_partition.specs.Splitting.{AnnotationMap, IsAnnotatedBy, IsPartitioned, IsSplitBy, IsTakenBy};
+ghost use Rattle.vx_partition.specs.Splitting.{AnnotationMap, IsAnnotatedBy, IsPartitioned, IsSplitBy, IsTakenBySome};
 ghost use Rattle.vx_recombine.specs.Holes.{recombination};
 ghost use Rattle.vx_recombine.specs.Items.{struct_type};
 ghost use Rattle.vx_recombine.specs.Partitions.{partitions, partition_names};
@@ -46,10 +46,9 @@ pub fn partition_bound<
     requires well_typed { WellTyped (bound_of e) }
     ensures split { IfOk result (λ p. (m : AnnotationMap A) × IsAnnotatedBy A.eq (F.post annotate) (bound_of e) m
         × IsSplitBy A.eq A.text A.name m (bound_of e) p.partition_names (bounds_of p.partitions.items) p.partition_annotations.items (bound_of p.root)) }
-    ensures refusal { IfErr result (λ y. (y ≡ OutOfMemory) ⊎ ((x : _) × F.post annotate x (Err y))
-        ⊎ ((m : AnnotationMap A) × IsAnnotatedBy A.eq (F.post annotate) (bound_of e) m × IsTakenBy A.eq A.name m (bound_of e) y)) }
+    ensures refusal { IfErr result (λ y. (y ≡ OutOfMemory) ⊎ ((x : _) × F.post annotate x (Err y)) ⊎ IsTakenBySome A.eq A.name (F.post annotate) (bound_of e) y) }
     ensures first { IfErr result (λ y. (said : _) → SaysBy A.eq (F.post annotate) said → (y ≡ OutOfMemory) ⊎ (first_refusal said (bound_of e) ≡ Some y)
-        ⊎ ((first_refusal said (bound_of e) ≡ None) × ((m : AnnotationMap A) × IsAnnotatedBy A.eq (F.post annotate) (bound_of e) m × IsTakenBy A.eq A.name m (bound_of e) y))) }
+        ⊎ ((first_refusal said (bound_of e) ≡ None) × IsTakenBySome A.eq A.name (F.post annotate) (bound_of e) y)) }
     ensures unrefused { OnOk result ((said : _) → SaysBy A.eq (F.post annotate) said → first_refusal said (bound_of e) ≡ None) }
 {
     let annotations = descendent_bound_annotations(alloc, &e, annotate)?;

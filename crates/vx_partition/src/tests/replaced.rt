@@ -1,5 +1,5 @@
 // Partitions found, and replaced.
-use super::nodes::{get_item, literal, name, one_name, packed};
+use super::nodes::{get_item, name, one_name, packed};
 use crate::BoundPartitionedExpr;
 use std::alloc::Global;
 use std::process::Abort;
@@ -15,11 +15,6 @@ fn with_field(rt: &impl Abort, alloc: Global, text: &str, dtype: DType) -> Vorte
     Ok(DType::Struct(fields, NonNullable))
 }
 
-/// A truth value, packed under that name.
-fn truth(alloc: Global, text: &str, truth: bool) -> VortexResult<BoundExpression> {
-    packed(alloc, text, literal(alloc, Scalar::from_bool(truth))?)
-}
-
 /// `$.b.b_0` over the partition `pack(b_0: true)`, which is called `b`.
 fn partitioned(rt: &impl Abort, alloc: Global) -> VortexResult<BoundPartitionedExpr<FieldName>> {
     let partition = with_field(rt, alloc, "b_0", DType::Bool(NonNullable))?;
@@ -27,7 +22,7 @@ fn partitioned(rt: &impl Abort, alloc: Global) -> VortexResult<BoundPartitionedE
     let b = get_item(alloc, "b", BoundExpression::new_root(scope))?;
     Ok(BoundPartitionedExpr {
         root: get_item(alloc, "b_0", b)?,
-        partitions: vec![in alloc; truth(alloc, "b_0", true)?]?,
+        partitions: vec![in alloc; packed(alloc, "b_0", true)?]?,
         partition_names: one_name(alloc, "b")?,
         partition_annotations: vec![in alloc; name(alloc, "b")?]?,
     })
@@ -61,7 +56,7 @@ fn partitions_are_replaced(rt: HostRuntime) -> Result<(), Fail> {
     let alloc = rt.alloc();
     let mut whole = partitioned(&rt, alloc)?;
     assert_eq!(rt; whole.partition_names.len(), whole.partitions.len());
-    whole.replace_partitions(alloc, vec![in alloc; truth(alloc, "b_0", false)?]?)?;
+    whole.replace_partitions(alloc, vec![in alloc; packed(alloc, "b_0", false)?]?)?;
     shows(&rt, alloc, &whole, "root: $.b.b_0 {b: pack(b_0: false)}")
 }
 
@@ -80,7 +75,7 @@ fn a_refusal_changes_nothing(rt: HostRuntime) -> Result<(), Fail> {
             })
         )
     );
-    let other = vec![in alloc; truth(alloc, "zz", true)?]?;
+    let other = vec![in alloc; packed(alloc, "zz", true)?]?;
     let refusal = whole
         .replace_partitions(alloc, other)
         .err()
