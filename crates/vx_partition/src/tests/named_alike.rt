@@ -47,7 +47,7 @@ impl PartitionKey for Key {
     ghost same_name = { λ a b e. refl };
 
     fn field_name(&self, alloc: Global) -> VortexResult<FieldName> {
-        name(alloc, "p")
+        FieldName::new(alloc, "p")
     }
 }
 
