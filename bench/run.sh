@@ -1,6 +1,7 @@
 #!/bin/sh
-# Builds the static library and the driver, and runs the benchmark. Give it a number of rows, or
-# none for 1,000,000.
+# Builds the static library and the driver, and runs the benchmark: the queries over 1,000,000 rows
+# and then the passes. Give it a number of rows for the queries alone, or the word passes for the
+# passes alone.
 set -eu
 cd "$(dirname "$0")"
 (cd ../crates/vx_c && rt lib >/dev/null)
@@ -8,4 +9,6 @@ mkdir -p out
 # The processor is the one that the library is built for.
 rustc --edition 2024 -C opt-level=3 -C target-cpu=x86-64-v2 src/main.rs -o out/compare \
     -C link-arg="$PWD/../crates/vx_c/out/libvx_c.a"
+# A pass calls itself at each level of a tree, and the deepest has 32,770 levels: 4 GiB of stack.
+ulimit -s 4194304 2>/dev/null || ulimit -s "$(ulimit -H -s)"
 exec out/compare "$@"

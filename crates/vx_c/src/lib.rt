@@ -7,7 +7,11 @@ ghost use Rattle.vx_tree.specs.Views.{bound_of};
 
 mod batch;
 mod digest;
+mod family;
+mod pass;
+mod passes;
 mod query;
+mod subject;
 
 use digest::Digest;
 use query::Query;
@@ -19,14 +23,14 @@ use vx_types::{Column, VortexError, VortexResult};
 /// How a call ended.
 #[derive(Clone, Copy, Debug, PartialEq, Eq)]
 pub enum Status {
-    /// 0: the digest is that of the query's column.
+    /// 0: what was asked for is written.
     Answered,
     /// 1: memory ran out.
     OutOfMemory,
-    /// 2: the query was refused for another cause.
+    /// 2: a call was refused for another cause.
     Refused,
-    /// 3: no query has that number.
-    NoSuchQuery,
+    /// 3: nothing has that number.
+    NoSuchNumber,
 }
 
 /// Makes the batch of so many rows and the bound tree of the query with that number, evaluates the
@@ -45,15 +49,25 @@ pub extern "C" fn vx_evaluate(
     ensures kept { result ≢ 0 → digest.new ≡ digest.old }
 {
     let Some(query) = Query::of(number) else {
-        return Status::NoSuchQuery as u8;
+        return Status::NoSuchNumber as u8;
     };
     match evaluated(alloc, query, rows, repeats) {
         Ok(last) => {
             *digest = last;
             Status::Answered as u8
         }
-        Err(VortexError::OutOfMemory) => Status::OutOfMemory as u8,
-        Err(_) => Status::Refused as u8,
+        Err(refusal) => refused(refusal),
+    }
+}
+
+// The number of a refusal's status.
+fn refused(refusal: VortexError) -> u8
+    ensures status { result < 4 }
+    ensures refused { result ≢ 0 }
+{
+    match refusal {
+        VortexError::OutOfMemory => Status::OutOfMemory as u8,
+        _ => Status::Refused as u8,
     }
 }
 
