@@ -1,0 +1,65 @@
+// A query as one run.
+ghost use Rattle.std.specs.Prelude.{◌≡◌, Ok, Err};
+ghost use Rattle.vx_dtype.specs.declared.error.VortexError.{VortexError};
+ghost use Rattle.vx_query.specs.Queries.{FaultsAlone, IsBound, IsMeantBy, IsRefusedWith, Runs, RunsPassed};
+ghost use Rattle.vx_tree.specs.Faults.{HasNoFault};
+ghost use Rattle.vx_tree.specs.Trees.{BoundTree, typed, Over, WellTyped};
+ghost use Rattle.vx_tree.specs.Views.{bound_of, tree_of};
+ghost use Rattle.vx_types.specs.Types.{LogicalType};
+
+use crate::split::run_split;
+use std::alloc::Global;
+use vx_eval::apply_bound;
+use vx_rewrite::{Pass, run_passes};
+use vx_tree::{BoundExpression, Expression};
+use vx_types::{Column, VortexResult};
+
+/// The rows of a query: the source is bound to the batch's type, rewritten by the passes in their
+/// order, and evaluated over the batch. With `split`, over a struct, the tree is split by the fields
+/// of the scope that its nodes read where these cover it; then the partitions are optimized, each is
+/// evaluated, and the root over their results.
+///
+/// Where the source faults nowhere on the batch, the answer has the batch's length, and in each row
+/// the source's meaning there, whatever the passes are and however it is split.
+///
+/// Refuses with the source's first refusal (2 to 11, but 3) exactly where it has no type over the
+/// batch's, and with `OutOfMemory` (1); a source that faults on the batch may be refused with
+/// `AddOverflow` (13), `CastNull` (14) or `BadFill` (15), too.
+pub fn run_query(
+    alloc: Global,
+    source: &Expression,
+    batch: &Column,
+    passes: &[Pass],
+    split: bool,
+) -> VortexResult<Column>
+    ensures refusal { (refusal : VortexError) → typed (tree_of source.now) batch.now.type ≡ Err refusal → IsRefusedWith refusal result }
+    ensures meaning { (b : BoundTree) → IsBound (tree_of source.now) batch.now.type b → HasNoFault b batch.now.rows → IsMeantBy (tree_of source.now) batch.now result }
+    ensures faults { (t : LogicalType) → typed (tree_of source.now) batch.now.type ≡ Ok t → FaultsAlone result }
+    ensures run { (b : BoundTree) → IsBound (tree_of source.now) batch.now.type b → RunsPassed passes.now split b batch.now result }
+{
+    // (what it promises is that the rows fit)
+    let _rows = batch.shared_rows();
+    let bound = source.bind(alloc, batch.dtype())?;
+    let tree = run_passes(alloc, bound, passes)?;
+    run_tree(alloc, tree, batch, split)
+}
+
+// What the tree gives over the batch, split where that is asked and the batch is of structs.
+fn run_tree(
+    alloc: Global,
+    tree: BoundExpression,
+    batch: &Column,
+    split: bool,
+) -> VortexResult<Column>
+    requires well_typed { WellTyped (bound_of tree) }
+    requires over { Over (bound_of tree) batch.now.type }
+    ensures { Runs split (bound_of tree) batch.now result }
+{
+    if !split {
+        return apply_bound(alloc, batch, &tree);
+    }
+    match batch.dtype().as_struct_fields_opt() {
+        Some(fields) => run_split(alloc, tree, fields, batch),
+        None => apply_bound(alloc, batch, &tree),
+    }
+}
