@@ -1,7 +1,8 @@
 // The fields of the scope that a node reads itself.
 ghost use Rattle.std.specs.Prelude.{◌≡◌, IfOk, Ok};
 ghost use Rattle.vx_types.specs.Answers.{Answers};
-ghost use Rattle.vx_types.specs.Views.{names_of};
+ghost use Rattle.vx_types.specs.Fields.{field_names};
+ghost use Rattle.vx_types.specs.Views.{fields_of};
 ghost use Rattle.vx_tree.specs.Views.{bound_of, bounds_of};
 ghost use Rattle.vx_analysis.specs.Fields.{free_fields, field_of_root};
 
@@ -17,10 +18,13 @@ pub fn free_fields(
     e: &BoundExpression,
     scope: &StructFields,
 ) -> VortexResult<Vec<FieldName>>
-    ensures { Answers (λ names. names.items) result (Ok (free_fields (bound_of e.now) (names_of scope.now))) }
+    ensures { Answers (λ names. names.items) result (Ok (free_fields (bound_of e.now) (field_names (fields_of scope.now)))) }
 {
     match e {
-        BoundExpression::Root { .. } => Ok(copies(alloc, scope.names().as_slice())?),
+        BoundExpression::Root { .. } => {
+            let names = &scope.names().as_slice()[..scope.nfields()];
+            Ok(copies(alloc, names)?)
+        }
         BoundExpression::Scalar {
             scalar_fn: ScalarFnRef::GetItem(name),
             children,

@@ -1,22 +1,51 @@
-// Split trees, evaluated.
-ghost use Rattle.std.specs.Prelude.{◌≡◌, length, IfOk, IfErr};
+// Trees split by the fields of their scope, and evaluated.
+ghost use Rattle.std.specs.Prelude.{◌≡◌, length, IfOk, IfErr, Some, true};
 ghost use Rattle.vx_dtype.specs.Answers.{Answers};
 ghost use Rattle.vx_dtype.specs.declared.error.VortexError.TheVariants.{OutOfMemory};
 ghost use Rattle.vx_optimizer.specs.NormalForms.{NormalForms};
+ghost use Rattle.vx_query.specs.Queries.{Runs, split_names};
 ghost use Rattle.vx_query.specs.Splits.{part_answers, split_evaluation};
 ghost use Rattle.vx_recombine.specs.Items.{struct_type};
 ghost use Rattle.vx_rules.specs.Rules.{RuleAt};
 ghost use Rattle.vx_tree.specs.Trees.{WellTyped, EachWellTyped, Over, EachOver};
 ghost use Rattle.vx_tree.specs.Views.{bound_of, bounds_of};
+ghost use Rattle.vx_types.specs.Fields.{field_names};
+ghost use Rattle.vx_types.specs.Views.{fields_of};
 
 use std::alloc::Global;
 use vx_eval::apply_bound;
-use vx_rewrite::{BoundPartitionedExpr, Optimize};
+use vx_rewrite::{
+    BoundPartitionedExpr, Optimize, covers, descendent_bound_annotations, free_fields,
+    partition_bound_annotations,
+};
 use vx_tree::{BoundExpression, FieldName};
-use vx_types::{Column, Nullability, VortexResult};
+use vx_types::{Column, Nullability, StructFields, VortexResult};
+
+// What the tree gives over the batch: split by the fields of the scope that its nodes read, where
+// these cover it, else whole.
+pub(crate) fn run_split(
+    alloc: Global,
+    tree: BoundExpression,
+    fields: &StructFields,
+    batch: &Column,
+) -> VortexResult<Column>
+    requires well_typed { WellTyped (bound_of tree) }
+    requires over { Over (bound_of tree) batch.now.type }
+    requires fields { split_names true batch.now.type ≡ Some (field_names (fields_of fields.now)) }
+    ensures { Runs true (bound_of tree) batch.now result }
+{
+    let annotations = descendent_bound_annotations(alloc, &tree, |e| free_fields(alloc, e, fields))?;
+    if !covers(alloc, &tree, &annotations)? {
+        return apply_bound(alloc, batch, &tree);
+    }
+    let mut split = partition_bound_annotations(alloc, tree, annotations)?;
+    let forms = optimized_each(alloc, split.partitions.as_slice())?;
+    split.replace_partitions(alloc, forms)?;
+    evaluate_split(alloc, batch, &split)
+}
 
 // The partitions, each optimized at every node.
-pub(crate) fn optimized_each(
+fn optimized_each(
     alloc: Global,
     partitions: &[BoundExpression],
 ) -> VortexResult<Vec<BoundExpression>>
@@ -32,7 +61,7 @@ pub(crate) fn optimized_each(
 }
 
 // The columns of the partitions, joined, and the root over them.
-pub(crate) fn evaluate_split(
+fn evaluate_split(
     alloc: Global,
     batch: &Column,
     split: &BoundPartitionedExpr<FieldName>,
