@@ -1,3 +1,16 @@
+pub mod Collecting
+pub mod Filling
+pub mod FreeNames
 pub mod Finding
+pub mod Growing
+pub mod Grouping
+pub mod Holed
+pub mod Mapped
+pub mod Naming
+pub mod Packs
 pub mod Rebindings
 pub mod Replacing
+pub mod Showing
+pub mod Splits
+pub mod Tables
+pub mod Taking

@@ -3,6 +3,7 @@ ghost use Rattle.std.specs.Prelude.{◌≡◌, ℕ, List, Ok, Some, refl, true};
 ghost use Rattle.vx_types.specs.Answers.{Answers};
 ghost use Rattle.vx_types.specs.Types.{Name};
 ghost use Rattle.vx_partition.specs.Keys.{same_bytes};
+ghost use Rattle.vx_recombine.specs.Partitions.{piece_name};
 
 use std::alloc::Global;
 use std::fmt::Display;
@@ -45,4 +46,16 @@ impl PartitionKey for FieldName {
     fn field_name(&self, _alloc: Global) -> VortexResult<FieldName> {
         Ok(self.clone()?)
     }
+}
+
+// The name of the key's piece of that index.
+pub(crate) fn piece_name<A: PartitionKey>(
+    alloc: Global,
+    key: &A,
+    index: usize,
+) -> VortexResult<FieldName>
+    ensures { Answers (λ name. name) result (Ok (piece_name (A.text key.now) index)) }
+{
+    let text = format!(in alloc; "{key}_{index}")?;
+    FieldName::new(alloc, text.as_str())
 }

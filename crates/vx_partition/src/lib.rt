@@ -1,12 +1,24 @@
-// Partitions of bound trees: their keys, finding one, and others in their place.
+// Bound trees split into partitions by annotations of their nodes.
 #![tactic(auto)]
 
+mod collect;
+mod fill;
+mod groups;
+mod holes;
 mod joined;
 mod key;
+mod laws;
+mod mark;
+mod names;
+mod pack;
 mod partitioned;
 mod rebind;
+mod shown;
+mod split;
 #[cfg(test)]
 mod tests;
 
 pub use key::PartitionKey;
+pub use laws::field_names_are_free;
 pub use partitioned::BoundPartitionedExpr;
+pub use split::{partition_bound, partition_bound_annotations};

@@ -1,0 +1,55 @@
+-- What a tree that was split promises.
+use Rattle.std.specs.Prelude.{◌≡◌, ℕ, Bool, true, false, List, [], ◌∷◌, IsTrue, is_some, Result, Ok, Err, Vec}
+use Rattle.std.specs.declared.hash.BuildHasherDefault.{BuildHasherDefault}
+use Rattle.std.specs.declared.hash.FoldHasher.{FoldHasher}
+use Rattle.std.specs.Borrow.{Bor}
+use Rattle.std.specs.Cmp.Lexicographic.{pointwise}
+use Rattle.std.specs.HashMap.{HashMap}
+use Rattle.std.specs.HashSet.{HashSet}
+use Rattle.vx_dtype.specs.declared.error.VortexError.{VortexError}
+use Rattle.vx_types.specs.Types.{Name}
+use Rattle.vx_tree.specs.Trees.{BoundTree, BoundTrees, node_type, WellTyped, EachWellTyped, Over}
+use Rattle.vx_tree.specs.declared.bound.BoundExpression.{BoundExpression}
+use Rattle.vx_tree.specs.declared.exact.ExactBoundExpr.{ExactBoundExpr}
+use Rattle.vx_analysis.specs.Annotations.{answered, AnswersAlike, IsAnnotated}
+use Rattle.vx_analysis.specs.Covers.{has_single, Covered}
+use Rattle.vx_analysis.specs.Keys.{key_of, entry_at}
+use Rattle.vx_analysis.specs.Reached.{is_reached}
+use Rattle.vx_recombine.specs.Holes.{recombination}
+use Rattle.vx_recombine.specs.Items.{struct_type}
+use Rattle.vx_recombine.specs.Partitions.{partitions, partition_names}
+use Rattle.vx_recombine.specs.Pieces.{pieces, annotations_of, groups}
+use Rattle.vx_recombine.specs.Recombining.{Recombines, NoOtherFault}
+use Rattle.vx_partition.specs.Only.{only_annotation}
+use Rattle.vx_partition.specs.Partitioned.{free_names}
+
+-- partitions and root are well typed, the root with the tree's type; and where each scope root is covered, the root
+-- is over the struct of the partitions and recombines them, and no other fault is lost
+pub record IsPartitioned (covered : Type 0) (names : List Name) (parts : BoundTrees) (root b : BoundTree) : Type 0 where
+  pub partitions_typed : EachWellTyped parts
+  pub root_typed : WellTyped root
+  pub same_type : node_type root ≡ node_type b
+  pub over_partitions : covered → Over root (struct_type names parts)
+  pub recombines : covered → Recombines parts root b
+  pub no_other_fault : covered → NoOtherFault parts root b
+
+module _ {A S Z : Type 0} (eq : A → A → Bool) (text : A → List ℕ) (name : A → Name) (m : HashMap ExactBoundExpr (HashSet A S) Z) (b : BoundTree) where
+  -- the names are free, and names, partitions, annotations and root are those of the tree's pieces by the map
+  pub record IsSplitBy (names : List Name) (parts : BoundTrees) (keys : List A) (root : BoundTree) : Type 0 where
+    pub named : free_names (partition_names name (groups eq (only_annotation m) b)) ≡ Ok names
+    pub packed : parts ≡ partitions text (groups eq (only_annotation m) b)
+    pub annotated : IsTrue (pointwise eq keys (annotations_of eq (pieces (only_annotation m) b)))
+    pub holed : root ≡ recombination eq text name (only_annotation m) b
+    pub partitioned : IsPartitioned (Covered (has_single m) b) names parts root b
+
+-- a map from the nodes of a tree to sets of annotations
+abbrev pub AnnotationMap : Type 0 → Type 0
+AnnotationMap A = HashMap ExactBoundExpr (HashSet A (BuildHasherDefault FoldHasher)) (BuildHasherDefault FoldHasher)
+
+-- the map has the nodes that are reached, each with its annotations, by whatever the closure answers alike
+abbrev pub IsAnnotatedBy : {A Z : Type 0} → (A → A → Bool) → (Bor BoundExpression → Result (Vec A Z) VortexError → Type 0) → BoundTree → AnnotationMap A → Type 0
+IsAnnotatedBy {A} eq post b m = (answers : BoundTree → List A) → AnswersAlike eq post answers → ((k : ExactBoundExpr) → is_some (entry_at (key_of k) m) ≡ is_reached (answered answers) (key_of k) b) × IsAnnotated eq answers m
+
+-- the refusal of the first name that two annotations of the tree's pieces have, by the map
+abbrev pub IsTakenBy : {A S Z : Type 0} → (A → A → Bool) → (A → Name) → HashMap ExactBoundExpr (HashSet A S) Z → BoundTree → VortexError → Type 0
+IsTakenBy eq name m b y = free_names (partition_names name (groups eq (only_annotation m) b)) ≡ Err y

@@ -1,0 +1,37 @@
+// The names of partitions, of which none may be taken twice.
+ghost use Rattle.std.specs.Prelude.{◌≡◌};
+ghost use Rattle.std.specs.List.{list_any};
+ghost use Rattle.std.specs.Str.{bytes_eq};
+ghost use Rattle.vx_types.specs.Answers.{Answers};
+ghost use Rattle.vx_partition.specs.Collecting.{groups_in};
+ghost use Rattle.vx_partition.specs.Partitioned.{free_names};
+ghost use Rattle.vx_recombine.specs.Partitions.{partition_names};
+
+use crate::PartitionKey;
+use crate::groups::Groups;
+use std::alloc::Global;
+use vx_tree::{FieldName, FieldNames, VortexError, VortexResult};
+
+// The field name of each group, or the first that an earlier group has.
+pub(crate) fn free_names<A: PartitionKey>(
+    alloc: Global,
+    groups: &Groups<A>,
+) -> VortexResult<FieldNames>
+    ensures { Answers (λ names. names) result (free_names (partition_names A.name (groups_in groups.now))) }
+{
+    let mut names = Vec::with_capacity(alloc, groups.len())?;
+    for annotation in groups.keys() {
+        let name = annotation.field_name(alloc)?;
+        if is_taken(names.as_slice(), &name) {
+            return Err(VortexError::PartitionNameTaken(name));
+        }
+        names.push(name)?;
+    }
+    FieldNames::new(alloc, names)
+}
+
+fn is_taken(names: &[FieldName], name: &FieldName) -> bool
+    ensures { result ≡ list_any (bytes_eq name.now) names.now }
+{
+    names.iter().any(|other| *name == *other)
+}

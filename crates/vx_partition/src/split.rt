@@ -1,0 +1,126 @@
+// Bound trees split into partitions.
+ghost use Rattle.std.specs.Prelude.{◌≡◌, ◌⊎◌, [], length, map, Err, IfErr, IfOk, IsTrue, None, OnOk, Some};
+ghost use Rattle.std.specs.Cmp.Lexicographic.{pointwise};
+ghost use Rattle.vx_dtype.specs.declared.error.VortexError.TheVariants.{OutOfMemory};
+ghost use Rattle.vx_types.specs.Answers.{Answers};
+ghost use Rattle.vx_analysis.specs.Covers.{has_single, Covered};
+ghost use Rattle.vx_analysis.specs.Refusals.{SaysBy, first_refusal};
+ghost use Rattle.vx_partition.specs.Collecting.{groups_in, SameGroups, marks_of};
+ghost use Rattle.vx_partition.specs.Filling.{filled};
+ghost use Rattle.vx_partition.specs.Only.{only_annotation};
+ghost use Rattle.vx_partition.specs.Packing.{all_holes, all_names};
+ghost use Rattle.vx_partition.specs.Partitioned.{free_names};
+ghost use Rattle.vx_partition.specs.Splitting.{AnnotationMap, IsAnnotatedBy, IsPartitioned, IsSplitBy, IsTakenBy};
+ghost use Rattle.vx_recombine.specs.Holes.{recombination};
+ghost use Rattle.vx_recombine.specs.Items.{struct_type};
+ghost use Rattle.vx_recombine.specs.Partitions.{partitions, partition_names};
+ghost use Rattle.vx_recombine.specs.Pieces.{pieces, annotations_of, groups};
+ghost use Rattle.vx_tree.specs.Trees.{scope, WellTyped};
+ghost use Rattle.vx_tree.specs.Views.{bound_of, bounds_of};
+
+use crate::collect::collect;
+use crate::fill::fill;
+use crate::groups::Groups;
+use crate::holes::all_holes;
+use crate::joined::joined_dtype;
+use crate::mark::Mark;
+use crate::names::free_names;
+use crate::pack::pack_groups;
+use crate::{BoundPartitionedExpr, PartitionKey};
+use indexmap::IndexMap;
+use std::alloc::Global;
+use vx_analysis::{BoundAnnotations, descendent_bound_annotations};
+use vx_tree::{BoundExpression, FieldNames, VortexResult};
+
+/// The tree split by what the closure annotates its nodes with: as
+/// [`partition_bound_annotations`] splits it by the map of
+/// [`descendent_bound_annotations`].
+///
+/// Refuses with what the closure refuses, the first that is met, else with `PartitionNameTaken` (17)
+/// exactly where two annotations of the pieces have one field name, and with `OutOfMemory` (1).
+pub fn partition_bound<
+    A: PartitionKey + Drop,
+    F: Fn(&BoundExpression) -> VortexResult<Vec<A>> + Drop,
+>(alloc: Global, e: BoundExpression, annotate: F) -> VortexResult<BoundPartitionedExpr<A>>
+    requires callable { F.IsAlwaysCallable annotate }
+    requires well_typed { WellTyped (bound_of e) }
+    ensures split { IfOk result (λ p. (m : AnnotationMap A) × IsAnnotatedBy A.eq (F.post annotate) (bound_of e) m
+        × IsSplitBy A.eq A.text A.name m (bound_of e) p.partition_names (bounds_of p.partitions.items) p.partition_annotations.items (bound_of p.root)) }
+    ensures refusal { IfErr result (λ y. (y ≡ OutOfMemory) ⊎ ((x : _) × F.post annotate x (Err y))
+        ⊎ ((m : AnnotationMap A) × IsAnnotatedBy A.eq (F.post annotate) (bound_of e) m × IsTakenBy A.eq A.name m (bound_of e) y)) }
+    ensures first { IfErr result (λ y. (said : _) → SaysBy A.eq (F.post annotate) said → (y ≡ OutOfMemory) ⊎ (first_refusal said (bound_of e) ≡ Some y)
+        ⊎ ((first_refusal said (bound_of e) ≡ None) × ((m : AnnotationMap A) × IsAnnotatedBy A.eq (F.post annotate) (bound_of e) m × IsTakenBy A.eq A.name m (bound_of e) y))) }
+    ensures unrefused { OnOk result ((said : _) → SaysBy A.eq (F.post annotate) said → first_refusal said (bound_of e) ≡ None) }
+{
+    let annotations = descendent_bound_annotations(alloc, &e, annotate)?;
+    partition_bound_annotations(alloc, e, annotations)
+}
+
+/// The tree split by the annotations of its nodes: the pieces of each annotation packed, and the
+/// root, which has holes in their place. A piece is an outermost node that has exactly one
+/// annotation in the map; partitions stand in the order in which their annotations first appear.
+///
+/// Where the map covers the tree ([`vx_analysis::covers`]) the root over the partitions' results
+/// gives what the tree does. A scope root that no piece covers keeps its old type.
+///
+/// Refuses with `PartitionNameTaken` (17) exactly where two annotations of the pieces have one field
+/// name, with the first name that an earlier one has, and with `OutOfMemory` (1).
+pub fn partition_bound_annotations<A: PartitionKey + Drop>(
+    alloc: Global,
+    e: BoundExpression,
+    annotations: BoundAnnotations<A>,
+) -> VortexResult<BoundPartitionedExpr<A>>
+    requires { WellTyped (bound_of e) }
+    ensures names { Answers (λ p. p.partition_names) result (free_names (partition_names A.name (groups A.eq (only_annotation annotations) (bound_of e)))) }
+    ensures partitions { IfOk result (λ p. bounds_of p.partitions.items ≡ partitions A.text (groups A.eq (only_annotation annotations) (bound_of e))) }
+    ensures annotations { IfOk result (λ p. IsTrue (pointwise A.eq p.partition_annotations.items (annotations_of A.eq (pieces (only_annotation annotations) (bound_of e))))) }
+    ensures root { IfOk result (λ p. bound_of p.root ≡ recombination A.eq A.text A.name (only_annotation annotations) (bound_of e)) }
+    ensures partitioned { IfOk result (λ p. IsPartitioned (Covered (has_single annotations) (bound_of e)) p.partition_names (bounds_of p.partitions.items) (bound_of p.root) (bound_of e)) }
+{
+    let (groups, marks) = collected(alloc, &e, &annotations)?;
+    let names = free_names(alloc, &groups)?;
+    put_together(alloc, &e, names, groups, marks.as_slice())
+}
+
+// The groups of the tree's pieces, and its marks.
+fn collected<A: PartitionKey + Drop>(
+    alloc: Global,
+    e: &BoundExpression,
+    annotations: &BoundAnnotations<A>,
+) -> VortexResult<(Groups<A>, Vec<Mark>)>
+    ensures found { IfOk result (λ r. SameGroups A.eq (groups_in r.0) (groups A.eq (only_annotation annotations.now) (bound_of e.now))) }
+    ensures marks { IfOk result (λ r. r.1.items ≡ marks_of A.eq (only_annotation annotations.now) [] (bound_of e.now)) }
+    ensures memory { IfErr result (λ y. y ≡ OutOfMemory) }
+{
+    let mut groups = IndexMap::new(alloc);
+    let mut marks = Vec::new(alloc);
+    collect(alloc, e, annotations, &mut groups, &mut marks)?;
+    Ok((groups, marks))
+}
+
+// The partitions of the groups under these names, and the tree over them as its marks say.
+fn put_together<A: PartitionKey + Drop>(
+    alloc: Global,
+    e: &BoundExpression,
+    names: FieldNames,
+    groups: Groups<A>,
+    marks: &[Mark],
+) -> VortexResult<BoundPartitionedExpr<A>>
+    requires { length names ≡ length (groups_in groups) }
+    ensures names { IfOk result (λ p. p.partition_names ≡ names) }
+    ensures annotations { IfOk result (λ p. p.partition_annotations.items ≡ map (λ g. g.0) (groups_in groups)) }
+    ensures partitions { IfOk result (λ p. bounds_of p.partitions.items ≡ partitions A.text (groups_in groups)) }
+    ensures root { IfOk result (λ p. (rest : _) × (filled (all_holes (scope (struct_type names (partitions A.text (groups_in groups)))) names (all_names A.text (groups_in groups)) (partitions A.text (groups_in groups))) (bound_of e.now) marks.now ≡ (bound_of p.root, rest))) }
+    ensures memory { IfErr result (λ y. y ≡ OutOfMemory) }
+{
+    let packed = pack_groups(alloc, groups)?;
+    let partitions = packed.partitions.as_slice();
+    let root = BoundExpression::new_root(joined_dtype(alloc, &names, partitions)?);
+    let holes = all_holes(alloc, &root, &names, packed.names.as_slice(), partitions)?;
+    Ok(BoundPartitionedExpr {
+        root: fill(alloc, e, &mut marks.iter(), holes.as_slice())?,
+        partitions: packed.partitions,
+        partition_names: names,
+        partition_annotations: packed.annotations,
+    })
+}
