@@ -1,5 +1,5 @@
 -- Partitions evaluated one after another.
-use Rattle.std.proofs.Common.{◌≡◌, ℕ, ◌+◌, ◌<◌, ◌≤◌, List, [], ◌∷◌, ◌++◌, map, length, get_or, drop, drop_of_length-le, append_assoc, append_nil, Option, Some, None, Result, Ok, Err, refl, sym, ap, ◌∙◌}
+use Rattle.std.proofs.Common.{◌≡◌, ℕ, ◌+◌, ◌<◌, ◌≤◌, List, [], ◌∷◌, ◌++◌, map, length, get_or, drop, drop_of_length-le, append_assoc, append-nil, Option, Some, None, Result, Ok, Err, refl, sym, ap, ◌∙◌}
 use Rattle.std.specs.Option.{option_or}
 use Rattle.vx_dtype.specs.declared.error.VortexError.{VortexError}
 use Rattle.vx_types.specs.Columns.{Batch, batch}
@@ -55,4 +55,4 @@ faults_at es c made i e r all h is faults so_far =
 -- each has its column
 pub all_columns : (es : List BoundExpression) (c : Batch) (made : List Batch) (i : ℕ) (all : Result (List Batch) VortexError) → length es ≤ i
     → all ≡ behind made (part_answers (bounds_of (drop i es)) c) → all ≡ Ok made
-all_columns es c made i all h so_far = so_far ∙ rw (drop_of_length-le es h) (ap ok_columns (append_nil made))
+all_columns es c made i all h so_far = so_far ∙ rw (drop_of_length-le es h) (ap ok_columns (append-nil made))

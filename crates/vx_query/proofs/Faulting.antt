@@ -1,5 +1,5 @@
 -- Nodes fault with faults alone.
-use Rattle.std.proofs.Common.{◌≡◌, ℕ, Bool, true, false, List, map, Option, Some, None, Result, Err, refl}
+use Rattle.std.proofs.Common.{◌≡◌, ℕ, Bool, true, false, List, map, Option, Some, None, Result, Err, refl, subst}
 use Rattle.std.specs.Option.{option_or, option_map}
 use Rattle.std.specs.Prelude.{position, if◌then◌else◌}
 use Rattle.vx_dtype.specs.declared.error.VortexError.{VortexError}
@@ -21,10 +21,10 @@ either (Some z) p y a b e = a y e
 
 in_row : (o : Option ℕ) (make : ℕ → VortexError) (y : VortexError) → ((n : ℕ) → IsFault (make n)) → option_map make o ≡ Some y → IsFault y
 in_row None make y k e = cc
-in_row (Some n) make y k e = let h = k n in cc
+in_row (Some n) make y k e = let same : make n ≡ y = cc in subst IsFault same (k n)
 
 bad_fill : (b : Bool) (y : VortexError) → when b BadFill ≡ Some y → IsFault y
-bad_fill true y e = let h : IsFault BadFill = tt in cc
+bad_fill true y e = let same : BadFill ≡ y = cc in subst IsFault same tt
 bad_fill false y e = cc
 
 node_faults : (f : Function) (ts : List LogicalType) (rows : List (List Datum)) (y : VortexError) → node_fault f ts rows ≡ Some y → IsFault y

@@ -1,5 +1,4 @@
 -- How evaluation refuses.
-use Rattle.std.specs.Prelude.{Unit}
 use Rattle.vx_dtype.specs.declared.error.VortexError.{VortexError}
 use Rattle.vx_dtype.specs.declared.error.VortexError.TheVariants.{AddOverflow, CastNull, BadFill}
 

@@ -1,5 +1,5 @@
 -- Passes keep the tree, one after another.
-use Rattle.std.proofs.Common.{◌≡◌, List, [], ◌∷◌, subst, sym}
+use Rattle.std.proofs.Common.{◌≡◌, ℕ, ◌+◌, ◌<◌, List, [], ◌∷◌, length, get_or, drop, drop-cons, add-one, subst, sym}
 use Rattle.vx_tree.specs.Trees.{BoundTree, WellTyped}
 use Rattle.vx_keep.specs.Keeps.{Keeps}
 use Rattle.vx_keep.proofs.Keeping.{keeps_refl, keeps_trans}
@@ -20,3 +20,8 @@ passed_keeps [] b u w p = subst (Keeps b) (sym p) (keeps_refl b w)
 passed_keeps (pass ∷ rest) b u w p =
     let k = gives_keeps pass b p.0 w p.1 in
     keeps_trans b p.0 u k (passed_keeps rest p.0 u k.typed_after p.2)
+
+-- one pass, and then those behind it
+pub passed_next : (passes : List Pass) (i : ℕ) (pass : Pass) (b c u : BoundTree) → i < length passes → pass ≡ get_or passes i pass
+    → Gives pass b c → Passed (drop (i + 1) passes) c u → Passed (drop i passes) b u
+passed_next passes i pass b c u h is g rest = rw (drop-cons passes i pass h, ← is) (c, g, rw add-one at rest)

@@ -13,6 +13,8 @@ pub use vx_analysis::{
 pub use vx_fusing::find_between;
 pub use vx_keep::Rule;
 pub use vx_optimizer::optimize_with;
-pub use vx_partition::{BoundPartitionedExpr, PartitionKey};
+pub use vx_partition::{
+    BoundPartitionedExpr, PartitionKey, partition_bound, partition_bound_annotations,
+};
 pub use vx_paths::referenced_field_paths;
 pub use vx_standard::{Optimize, StandardRules};
