@@ -1,18 +1,19 @@
 -- The partitions' columns joined are the column of the structs that their values make.
-use Rattle.std.proofs.Common.{◌≡◌, ℕ, ◌<◌, List, [], ◌∷◌, map, length, get_or, suc, refl, sym, ap, subst, ◌∙◌, arith, eq-eqb, Bool, true, false, ◌&&◌, Option, Some, None, Result, Ok, Err}
-use Rattle.std.specs.Prelude.{if◌then◌else◌}
+use Rattle.std.proofs.Common.{◌≡◌, ℕ, ◌<◌, List, [], ◌∷◌, map, length, get_or, suc, inl, inr, ◌⊎◌, refl, sym, ap, subst, ◌∙◌, arith, eq-eqb, Bool, true, false, ◌&&◌, Option, Some, None, Result, Ok, Err}
 use Rattle.std.specs.List.{list_all, range_with_len}
 use Rattle.std.proofs.lemmas.List.{length-map, get_or-map, ext_get_or}
 use Rattle.std.proofs.lemmas.List.FromFn.{length-map-range_with_len, get_or-map-range_with_len}
 use Rattle.vx_dtype.specs.declared.error.VortexError.{VortexError}
-use Rattle.vx_dtype.specs.declared.error.VortexError.TheVariants.{LengthMismatch}
+use Rattle.vx_dtype.specs.declared.error.VortexError.TheVariants.{OutOfMemory}
 use Rattle.vx_types.specs.Columns.{Batch, batch}
 use Rattle.vx_types.specs.Fields.{data_of, fields_named}
 use Rattle.vx_types.specs.StructColumns.{rows_in, types_in, all_long, row_at, struct_at, struct_rows, struct_column}
 use Rattle.vx_types.specs.Types.{Name, LogicalType, ty, struct, Datum, null, struct_of}
+use Rattle.vx_tree.specs.declared.bound.BoundExpression.{BoundExpression}
 use Rattle.vx_tree.specs.Faults.{each_fault}
 use Rattle.vx_tree.specs.Meaning.{mean, value, values}
 use Rattle.vx_tree.specs.Trees.{BoundTree, BoundTrees, no_bound, bound, unbound, node_type, node_types, EachWellTyped, EachOver}
+use Rattle.vx_tree.specs.Views.{bounds_of}
 use Rattle.vx_tree.proofs.Meant.{mean-unbound}
 use Rattle.vx_eval.specs.Columns.{unless_fault}
 use Rattle.vx_eval.specs.Evaluation.{evaluation}
@@ -72,12 +73,30 @@ length-columns : (bs : BoundTrees) (c : Batch) → length (part_columns bs c) �
 length-columns no_bound c = refl
 length-columns (bound b bs) c = ap suc (length-columns bs c)
 
-pub as_many : (bs : BoundTrees) (c : Batch) (cs : List Batch) → part_answers bs c ≡ Ok cs → length cs ≡ length (node_types bs)
-as_many bs c cs e = ap length (have_columns bs c cs e).are ∙ length-columns bs c
+counted : (es : List BoundExpression) → length (node_types (bounds_of es)) ≡ length es
+counted [] = refl
+counted (e ∷ es) = ap suc (counted es)
 
--- the root over the joined column, where no partition faults
-pub root_answers : (names : List Name) (bs : BoundTrees) (root : BoundTree) (c j : Batch) → each_fault bs c.rows ≡ None → j ≡ joined_column names bs c.rows → evaluation root j ≡ split_evaluation names bs root c
-root_answers names bs root c j quiet is = rw (is, quiet) refl
+pub as_many : (es : List BoundExpression) (c : Batch) (cs : List Batch) → part_answers (bounds_of es) c ≡ Ok cs → length cs ≡ length es
+as_many es c cs e = ap length (have_columns (bounds_of es) c cs e).are ∙ length-columns (bounds_of es) c ∙ counted es
+
+-- ---- the columns that were made, joined
+
+module _ (names : List Name) (bs : BoundTrees) (c : Batch) (cs : List Batch) (w : EachWellTyped bs) (o : EachOver bs c.type) (made : part_answers bs c ≡ Ok cs) where
+  joined_so : struct_column names cs (length c.rows) false ≡ Ok (joined_column names bs c.rows)
+  joined_so = ap (λ xs. struct_column names xs (length c.rows) false) (have_columns bs c cs made).are ∙ columns_joined names bs c w o
+
+  -- joining them is refused for memory alone
+  pub joins : (e : VortexError) → (e ≡ OutOfMemory) ⊎ (struct_column names cs (length c.rows) false ≡ Err e) → e ≡ OutOfMemory
+  joins e (inl m) = m
+  joins e (inr q) = let p = joined_so in cc
+
+  pub is_joined : (j : Batch) → struct_column names cs (length c.rows) false ≡ Ok j → j ≡ joined_column names bs c.rows
+  is_joined j q = let p = joined_so in cc
+
+  -- what the root gives over them is what the split gives
+  pub root_answers : (root : BoundTree) (j : Batch) → struct_column names cs (length c.rows) false ≡ Ok j → evaluation root j ≡ split_evaluation names bs root c
+  root_answers root j q = rw (is_joined j q, (have_columns bs c cs made).quiet) refl
 
 pub part_faults : (names : List Name) (bs : BoundTrees) (root : BoundTree) (c : Batch) (y : VortexError) → part_answers bs c ≡ Err y → split_evaluation names bs root c ≡ Err y
 part_faults names bs root c y e = rw (has_fault bs c y e) refl

@@ -1,9 +1,9 @@
 -- What a query answers.
-use Rattle.std.specs.Prelude.{◌≡◌, ◌⊎◌, Bool, true, false, List, Option, Some, None, Result, Ok, Err, MatchResult, map, is_some, nat_eq}
-use Rattle.std.specs.Cmp.Lexicographic.{pointwise}
+use Rattle.std.specs.Prelude.{◌≡◌, ◌⊎◌, Bool, true, false, List, Option, Some, None, Result, Ok, Err, MatchResult, map, is_some}
 use Rattle.std.specs.HashMap.{HashMap}
 use Rattle.std.specs.HashSet.{HashSet}
 use Rattle.std.specs.Option.{option_map}
+use Rattle.std.specs.Str.{bytes_eq}
 use Rattle.vx_dtype.specs.Answers.{Answers}
 use Rattle.vx_dtype.specs.declared.error.VortexError.{VortexError}
 use Rattle.vx_dtype.specs.declared.error.VortexError.TheVariants.{OutOfMemory}
@@ -46,14 +46,10 @@ abbrev pub split_names : Bool → LogicalType → Option (List Name)
 split_names true s = option_map field_names (struct_fields s)
 split_names false s = None
 
--- names as annotations are equal where they have the same bytes
-abbrev pub same_name : Name → Name → Bool
-same_name = pointwise nat_eq
-
 -- the map of u's nodes to the fields of the scope that they read
 pub record IsFieldMap {S Z : Type 0} (names : List Name) (u : BoundTree) (m : HashMap ExactBoundExpr (HashSet Name S) Z) : Type 0 where
   pub nodes : (k : ExactBoundExpr) → is_some (entry_at (key_of k) m) ≡ is_reached (answered (λ b. free_fields b names)) (key_of k) u
-  pub annotations : IsAnnotated same_name (λ b. free_fields b names) m
+  pub annotations : IsAnnotated bytes_eq (λ b. free_fields b names) m
 
 -- the tree u is split by the map, its partitions are optimized, the root is bound to what they give, and all are evaluated
 pub record IsSplitRun {S Z : Type 0} (m : HashMap ExactBoundExpr (HashSet Name S) Z) (u : BoundTree) (c : Batch) (result : Result Batch VortexError) : Type 0 where
@@ -61,7 +57,7 @@ pub record IsSplitRun {S Z : Type 0} (m : HashMap ExactBoundExpr (HashSet Name S
   pub partitions : BoundTrees
   pub annotations : List Name
   pub root : BoundTree
-  pub split : IsSplitBy same_name (λ a. a) (λ a. a) m u names partitions annotations root
+  pub split : IsSplitBy bytes_eq (λ a. a) (λ a. a) m u names partitions annotations root
   pub forms : BoundTrees
   pub optimized : NormalForms RuleAt partitions forms
   pub again : BoundTree
