@@ -5,6 +5,7 @@ pub mod Samples
 pub mod Kleene
 pub mod Coalesce
 pub mod Cases
+pub mod Fused
 pub mod Pages
 pub mod PageTexts
 pub mod Runs

@@ -12,9 +12,10 @@ use Rattle.vx_tree.specs.TreeTexts.{tree_text}
 use Rattle.vx_run.specs.Kleene.{kleene}
 use Rattle.vx_run.specs.Coalesce.{coalesce}
 use Rattle.vx_run.specs.Cases.{cases}
+use Rattle.vx_run.specs.Fused.{fused}
 use Rattle.vx_run.specs.Samples.{Sample}
 use Rattle.vx_run.specs.declared.row.Row.{Row}
-use Rattle.vx_run.specs.declared.row.Row.TheVariants.{Kleene, Coalesce, Cases}
+use Rattle.vx_run.specs.declared.row.Row.TheVariants.{Kleene, Coalesce, Cases, Fused}
 
 -- the lines of a text, a type, a column and a tree text
 abbrev pub lines_of : List ℕ → List ℕ → List ℕ → List ℕ → List ℕ
@@ -34,6 +35,7 @@ abbrev pub sample_of : Row → Sample
 sample_of Kleene = kleene
 sample_of Coalesce = coalesce
 sample_of Cases = cases
+sample_of Fused = fused
 
 -- the text, none where there is a refusal
 abbrev pub or_nothing : Result (List ℕ) VortexError → List ℕ

@@ -4,6 +4,7 @@
 mod cases;
 mod coalesce;
 mod examples;
+mod fused;
 mod kleene;
 mod laws;
 mod pages;
@@ -11,7 +12,9 @@ mod row;
 mod run;
 mod writing;
 
-pub use laws::{cases_page_is, coalesce_page_is, kleene_page_is};
+pub use laws::{
+    cases_page_is, coalesce_page_is, fused_is_kleene_merged, fused_page_is, kleene_page_is,
+};
 pub use row::Row;
 pub use run::run_show;
 pub use writing::tell;

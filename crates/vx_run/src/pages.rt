@@ -2,7 +2,7 @@
 ghost use Rattle.std.specs.Prelude.{Ok, string_bytes};
 ghost use Rattle.vx_dtype.specs.Answers.{Answers};
 ghost use Rattle.vx_tree.specs.Faults.{HasNoFault};
-ghost use Rattle.vx_tree.specs.Trees.{WellTyped, Over, unbound};
+ghost use Rattle.vx_tree.specs.Trees.{WellTyped, Over, node_type, unbound};
 ghost use Rattle.vx_tree.specs.Texts.{sql};
 ghost use Rattle.vx_tree.specs.TreeTexts.{tree_text};
 ghost use Rattle.vx_tree.specs.Views.{tree_of, bound_of};
@@ -10,11 +10,12 @@ ghost use Rattle.vx_types.specs.Views.{type_of};
 ghost use Rattle.vx_types.specs.ValueTexts.{column_text};
 ghost use Rattle.vx_dtype.specs.Texts.{type_text};
 ghost use Rattle.vx_eval.specs.Evaluation.{evaluation};
-ghost use Rattle.vx_run.specs.Pages.{page_of, page_text, lines_of};
+ghost use Rattle.vx_run.specs.Pages.{page_of, page_text, lines, lines_of};
 ghost use Rattle.vx_run.specs.Quiet.{IsQuiet};
+ghost use Rattle.vx_run.specs.declared.row.Row.TheVariants.{Fused};
 
 use crate::row::Row;
-use crate::{cases, coalesce, kleene};
+use crate::{cases, coalesce, fused, kleene};
 use std::alloc::Global;
 use vx_eval::apply_bound;
 use vx_tree::{BoundExpression, Expression};
@@ -28,26 +29,48 @@ pub fn page(alloc: Global, row: Row) -> VortexResult<String>
         Row::Kleene => page_text(alloc, &kleene::source(alloc)?, &kleene::batch(alloc)?),
         Row::Coalesce => page_text(alloc, &coalesce::source(alloc)?, &coalesce::batch(alloc)?),
         Row::Cases => page_text(alloc, &cases::source(alloc)?, &cases::batch(alloc)?),
+        Row::Fused => fused_page(alloc),
     }
 }
 
-// The expression's text, its type, its result over the batch, and its tree text, or what binding
-// refuses. Asks an expression that faults on no batch.
+// The page of the row `fused`, whose tree is found bound.
+fn fused_page(alloc: Global) -> VortexResult<String>
+    ensures { Answers string_bytes result (Ok (page_of Fused)) }
+{
+    let batch = kleene::batch(alloc)?;
+    let tree = fused::tree(alloc, batch.dtype())?;
+    bound_text(alloc, &tree, &batch)
+}
+
+// The lines of an expression over the batch, or what binding refuses. Asks an expression that faults
+// on no batch.
 fn page_text(alloc: Global, source: &Expression, batch: &Column) -> VortexResult<String>
     requires { IsQuiet (tree_of source.now) }
     ensures { Answers string_bytes result (page_text (tree_of source.now) batch.now) }
 {
     let bound = source.bind(alloc, batch.dtype())?;
-    let column = result_of(alloc, batch, &bound)?;
-    lines(alloc, source, bound.dtype(), &column)
+    bound_text(alloc, &bound, batch)
 }
 
-// The lines of an expression, a type and a column.
-fn lines(alloc: Global, source: &Expression, t: &DType, column: &Column) -> VortexResult<String>
-    ensures { Answers string_bytes result (Ok (lines_of (sql (tree_of source.now)) (type_text (type_of t.now)) (column_text column.now.rows column.now.type) (tree_text (tree_of source.now)))) }
+// The tree's text, its type, its result over the batch, and its tree text. Asks a tree over the
+// batch's type that faults on no batch.
+fn bound_text(alloc: Global, bound: &BoundExpression, batch: &Column) -> VortexResult<String>
+    requires typed { WellTyped (bound_of bound.now) }
+    requires over { Over (bound_of bound.now) batch.now.type }
+    requires quiet { IsQuiet (unbound (bound_of bound.now)) }
+    ensures { let tree = bound_of bound.now in Answers string_bytes result (Ok (lines (unbound tree) batch.now (node_type tree))) }
 {
-    let tree = source.display_tree();
-    Ok(format!(in alloc; "text: {source}\ntype: {t}\nresult: {column}\ntree:\n{tree}\n")?)
+    let column = result_of(alloc, batch, bound)?;
+    lines(alloc, bound, bound.dtype(), &column)
+}
+
+// The lines of a tree, a type and a column.
+fn lines(alloc: Global, bound: &BoundExpression, t: &DType, column: &Column) -> VortexResult<String>
+    ensures { let tree = unbound (bound_of bound.now) in
+        Answers string_bytes result (Ok (lines_of (sql tree) (type_text (type_of t.now)) (column_text column.now.rows column.now.type) (tree_text tree))) }
+{
+    let tree = bound.display_tree();
+    Ok(format!(in alloc; "text: {bound}\ntype: {t}\nresult: {column}\ntree:\n{tree}\n")?)
 }
 
 // The expression's value in each row. Asks an expression that faults on no batch.

@@ -11,6 +11,8 @@ pub enum Row {
     Coalesce,
     /// A CASE of two conditions.
     Cases,
+    /// The bounds of `Kleene` as one range.
+    Fused,
 }
 
 /// The row that the words name, or the complaint that is made of them.
@@ -35,6 +37,7 @@ fn row_named(name: &str) -> Option<Row>
         "kleene" => Some(Row::Kleene),
         "coalesce" => Some(Row::Coalesce),
         "cases" => Some(Row::Cases),
+        "fused" => Some(Row::Fused),
         _ => None,
     }
 }

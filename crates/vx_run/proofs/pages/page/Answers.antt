@@ -1,0 +1,7 @@
+use Rattle.std.proofs.Common.{sym, subst, string_bytes, Ok}
+use Rattle.vx_dtype.specs.Answers.{Answers}
+use Rattle.vx_run.specs.Pages.{page_of}
+use Rattle.vx_run.proofs.pages.page.Goals as goal
+
+pub returns-in-Fused : goal.returns-in-Fused
+returns-in-Fused c = subst (λ r. Answers string_bytes c.fused_page.result (Ok (page_of r))) (sym c.in-Fused.is) c.fused_page.ensures
