@@ -18,6 +18,7 @@ use Rattle.vx_tree.proofs.Meant.{mean-unbound}
 use Rattle.vx_eval.specs.Columns.{unless_fault}
 use Rattle.vx_eval.specs.Evaluation.{evaluation}
 use Rattle.vx_recombine.specs.Items.{joined}
+use Rattle.vx_query.proofs.Counting.{counted}
 use Rattle.vx_query.specs.Splits.{part_columns, part_answers, joined_column, split_evaluation, fault_or}
 
 types-columns : (bs : BoundTrees) (c : Batch) → types_in (part_columns bs c) ≡ node_types bs
@@ -72,10 +73,6 @@ has_fault bs c y e = go (each_fault bs c.rows) refl e
 length-columns : (bs : BoundTrees) (c : Batch) → length (part_columns bs c) ≡ length (node_types bs)
 length-columns no_bound c = refl
 length-columns (bound b bs) c = ap suc (length-columns bs c)
-
-counted : (es : List BoundExpression) → length (node_types (bounds_of es)) ≡ length es
-counted [] = refl
-counted (e ∷ es) = ap suc (counted es)
 
 pub as_many : (es : List BoundExpression) (c : Batch) (cs : List Batch) → part_answers (bounds_of es) c ≡ Ok cs → length cs ≡ length es
 as_many es c cs e = ap length (have_columns (bounds_of es) c cs e).are ∙ length-columns (bounds_of es) c ∙ counted es

@@ -11,7 +11,7 @@ use Rattle.vx_types.specs.Columns.{Batch}
 use Rattle.vx_types.specs.Fields.{field_names}
 use Rattle.vx_types.specs.Types.{Name, LogicalType, struct_fields}
 use Rattle.vx_tree.specs.Meaning.{mean}
-use Rattle.vx_tree.specs.Trees.{Tree, BoundTree, BoundTrees}
+use Rattle.vx_tree.specs.Trees.{Tree, BoundTree, BoundTrees, unbound, WellTyped, Over}
 use Rattle.vx_tree.specs.declared.exact.ExactBoundExpr.{ExactBoundExpr}
 use Rattle.vx_analysis.specs.Annotations.{answered, IsAnnotated}
 use Rattle.vx_analysis.specs.Covers.{has_single, Covered}
@@ -28,6 +28,12 @@ use Rattle.vx_rewrite.specs.declared.passes.Pass.{Pass}
 use Rattle.vx_rules.specs.Rules.{RuleAt}
 use Rattle.vx_query.specs.Refusals.{IsFault}
 use Rattle.vx_query.specs.Splits.{split_evaluation}
+
+-- b is the source e with the type of each node, over a scope of type s
+pub record IsBound (e : Tree) (s : LogicalType) (b : BoundTree) : Type 0 where
+  pub source : unbound b ≡ e
+  pub well_typed : WellTyped b
+  pub over : Over b s
 
 -- the call gave the column with the meaning of e in each row, unless memory ran out
 abbrev pub IsMeantBy : Tree → Batch → Result Batch VortexError → Type 0

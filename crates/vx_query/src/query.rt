@@ -1,8 +1,7 @@
 // A query as one run.
 ghost use Rattle.std.specs.Prelude.{◌≡◌, Ok, Err};
 ghost use Rattle.vx_dtype.specs.declared.error.VortexError.{VortexError};
-ghost use Rattle.vx_query.specs.Queries.{FaultsAlone, IsMeantBy, IsRefusedWith, RunsPassed};
-ghost use Rattle.vx_tree.specs.Binding.{binding};
+ghost use Rattle.vx_query.specs.Queries.{FaultsAlone, IsBound, IsMeantBy, IsRefusedWith, RunsPassed};
 ghost use Rattle.vx_tree.specs.Faults.{HasNoFault};
 ghost use Rattle.vx_tree.specs.Trees.{BoundTree, typed};
 ghost use Rattle.vx_tree.specs.Views.{tree_of};
@@ -34,9 +33,9 @@ pub fn run_query(
     split: bool,
 ) -> VortexResult<Column>
     ensures refusal { (refusal : VortexError) → typed (tree_of source.now) batch.now.type ≡ Err refusal → IsRefusedWith refusal result }
-    ensures meaning { (b : BoundTree) → binding (tree_of source.now) batch.now.type ≡ Ok b → HasNoFault b batch.now.rows → IsMeantBy (tree_of source.now) batch.now result }
+    ensures meaning { (b : BoundTree) → IsBound (tree_of source.now) batch.now.type b → HasNoFault b batch.now.rows → IsMeantBy (tree_of source.now) batch.now result }
     ensures faults { (t : LogicalType) → typed (tree_of source.now) batch.now.type ≡ Ok t → FaultsAlone result }
-    ensures run { (b : BoundTree) → binding (tree_of source.now) batch.now.type ≡ Ok b → RunsPassed passes.now split b batch.now result }
+    ensures run { (b : BoundTree) → IsBound (tree_of source.now) batch.now.type b → RunsPassed passes.now split b batch.now result }
 {
     // (what it promises of the rows is that they fit)
     let _rows = batch.shared_rows();

@@ -1,0 +1,30 @@
+-- There are as many names as partitions.
+use Rattle.std.proofs.Common.{◌≡◌, ℕ, List, [], ◌∷◌, length, suc, Option, Some, None, Result, Ok, refl, sym, ap, ◌∙◌}
+use Rattle.vx_types.specs.Types.{Name}
+use Rattle.vx_tree.specs.declared.bound.BoundExpression.{BoundExpression}
+use Rattle.vx_tree.specs.Trees.{node_types}
+use Rattle.vx_tree.specs.Views.{bounds_of}
+use Rattle.vx_recombine.specs.Partitions.{partitions, partition_names}
+use Rattle.vx_recombine.specs.Pieces.{Group}
+use Rattle.vx_partition.specs.Partitioned.{first_taken, unless_taken, free_names}
+
+pub counted : (es : List BoundExpression) → length (node_types (bounds_of es)) ≡ length es
+counted [] = refl
+counted (e ∷ es) = ap suc (counted es)
+
+counted_names : {A : Type 0} (text : A → List ℕ) (name : A → Name) (gs : List (Group A)) → length (partition_names name gs) ≡ length (node_types (partitions text gs))
+counted_names text name [] = refl
+counted_names text name (g ∷ gs) = ap suc (counted_names text name gs)
+
+-- names that are free are the names themselves
+free_are : (given names : List Name) → free_names given ≡ Ok names → names ≡ given
+free_are given names e = go (first_taken [] given) e
+  where
+    go : (o : Option Name) → unless_taken o given ≡ Ok names → names ≡ given
+    go None e = cc
+    go (Some a) e = cc
+
+pub as_many_names : {A : Type 0} (text : A → List ℕ) (name : A → Name) (gs : List (Group A)) (names : List Name) (es : List BoundExpression)
+    → free_names (partition_names name gs) ≡ Ok names → bounds_of es ≡ partitions text gs → length names ≡ length es
+as_many_names text name gs names es named packed =
+    ap length (free_are (partition_names name gs) names named) ∙ counted_names text name gs ∙ ap (λ bs. length (node_types bs)) (sym packed) ∙ counted es
