@@ -1,8 +1,6 @@
 -- What follows of a query from how its tree was evaluated.
 use Rattle.std.proofs.Common.{◌≡◌, ◌⊎◌, Bool, List, Option, Some, None, Result, Ok, Err, refl, sym, ap, ◌∙◌, inl, inr}
 use Rattle.std.specs.Prelude.{MatchResult}
-use Rattle.std.specs.HashMap.{HashMap}
-use Rattle.std.specs.HashSet.{HashSet}
 use Rattle.vx_dtype.specs.Answers.{Answers}
 use Rattle.vx_dtype.specs.declared.error.VortexError.{VortexError}
 use Rattle.vx_dtype.specs.declared.error.VortexError.TheVariants.{OutOfMemory}
@@ -11,10 +9,10 @@ use Rattle.vx_types.specs.Fits.{IsBatch}
 use Rattle.vx_types.specs.Types.{Name}
 use Rattle.vx_tree.specs.Faults.{HasNoFault, each_fault}
 use Rattle.vx_tree.specs.Trees.{BoundTree, BoundTrees, WellTyped, Over, unbound}
-use Rattle.vx_tree.specs.declared.exact.ExactBoundExpr.{ExactBoundExpr}
 use Rattle.vx_analysis.specs.Covers.{has_single, Covered}
 use Rattle.vx_eval.specs.Evaluation.{evaluation}
 use Rattle.vx_keep.specs.Keeps.{Keeps}
+use Rattle.vx_partition.specs.Splitting.{AnnotationMap}
 use Rattle.vx_recombine.specs.Recombining.{Recombines}
 use Rattle.vx_recombine.proofs.Rebound.{replaced_recombine}
 use Rattle.vx_rewrite.specs.Passes.{Passed}
@@ -31,7 +29,7 @@ use Rattle.vx_query.proofs.Meant.{whole_means, split_means}
 -- ---- where the source doesn't fault
 
 module _ (b u : BoundTree) (c : Batch) (k : Keeps b u) (o : Over b c.type) (fit : IsBatch c.type c.rows) (quiet : HasNoFault b c.rows) where
-  parted_means : {S Z : Type 0} (m : HashMap ExactBoundExpr (HashSet Name S) Z) (r : Result Batch VortexError) → Covered (has_single m) u → IsSplitRun m u c r → IsMeantBy (unbound b) c r
+  parted_means : (m : AnnotationMap Name) (r : Result Batch VortexError) → Covered (has_single m) u → IsSplitRun m u c r → IsMeantBy (unbound b) c r
   parted_means m r cov run =
       let p = run.split.partitioned in
       let a = run.bound_again in

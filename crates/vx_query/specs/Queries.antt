@@ -1,7 +1,5 @@
 -- What a query answers.
 use Rattle.std.specs.Prelude.{◌≡◌, ◌⊎◌, Bool, true, false, List, Option, Some, None, Result, Ok, Err, MatchResult, map, is_some}
-use Rattle.std.specs.HashMap.{HashMap}
-use Rattle.std.specs.HashSet.{HashSet}
 use Rattle.std.specs.Option.{option_map}
 use Rattle.std.specs.Str.{bytes_eq}
 use Rattle.vx_dtype.specs.Answers.{Answers}
@@ -21,7 +19,7 @@ use Rattle.vx_analysis.specs.Reached.{is_reached}
 use Rattle.vx_eval.specs.Evaluation.{evaluation}
 use Rattle.vx_optimizer.specs.NormalForms.{NormalForms}
 use Rattle.vx_partition.specs.Partitioned.{IsBoundAgain}
-use Rattle.vx_partition.specs.Splitting.{IsSplitBy}
+use Rattle.vx_partition.specs.Splitting.{AnnotationMap, IsSplitBy}
 use Rattle.vx_recombine.specs.Items.{struct_type}
 use Rattle.vx_rewrite.specs.Passes.{Passed}
 use Rattle.vx_rewrite.specs.declared.passes.Pass.{Pass}
@@ -53,12 +51,12 @@ split_names true s = option_map field_names (struct_fields s)
 split_names false s = None
 
 -- the map of u's nodes to the fields of the scope that they read
-pub record IsFieldMap {S Z : Type 0} (names : List Name) (u : BoundTree) (m : HashMap ExactBoundExpr (HashSet Name S) Z) : Type 0 where
+pub record IsFieldMap (names : List Name) (u : BoundTree) (m : AnnotationMap Name) : Type 0 where
   pub nodes : (k : ExactBoundExpr) → is_some (entry_at (key_of k) m) ≡ is_reached (answered (λ b. free_fields b names)) (key_of k) u
   pub annotations : IsAnnotated bytes_eq (λ b. free_fields b names) m
 
 -- the tree u is split by the map, its partitions are optimized, the root is bound to what they give, and all are evaluated
-pub record IsSplitRun {S Z : Type 0} (m : HashMap ExactBoundExpr (HashSet Name S) Z) (u : BoundTree) (c : Batch) (result : Result Batch VortexError) : Type 0 where
+pub record IsSplitRun (m : AnnotationMap Name) (u : BoundTree) (c : Batch) (result : Result Batch VortexError) : Type 0 where
   pub names : List Name
   pub partitions : BoundTrees
   pub annotations : List Name
@@ -74,9 +72,9 @@ pub record IsSplitRun {S Z : Type 0} (m : HashMap ExactBoundExpr (HashSet Name S
 pub data Runs (split : Bool) (u : BoundTree) (c : Batch) (result : Result Batch VortexError) : Type 0 where
   no_memory : result ≡ Err OutOfMemory → Runs split u c result
   whole : split_names split c.type ≡ None → Answers (λ x. x) result (evaluation u c) → Runs split u c result
-  uncovered : {S Z : Type 0} {names : List Name} {m : HashMap ExactBoundExpr (HashSet Name S) Z} → split_names split c.type ≡ Some names → IsFieldMap names u m →
+  uncovered : {names : List Name} {m : AnnotationMap Name} → split_names split c.type ≡ Some names → IsFieldMap names u m →
       (Covered (has_single m) u → ⊥) → Answers (λ x. x) result (evaluation u c) → Runs split u c result
-  parted : {S Z : Type 0} {names : List Name} {m : HashMap ExactBoundExpr (HashSet Name S) Z} → split_names split c.type ≡ Some names → IsFieldMap names u m →
+  parted : {names : List Name} {m : AnnotationMap Name} → split_names split c.type ≡ Some names → IsFieldMap names u m →
       Covered (has_single m) u → IsSplitRun m u c result → Runs split u c result
 
 -- some tree that the passes may answer for b is evaluated so, unless memory ran out
