@@ -1,14 +1,12 @@
 -- Names that no earlier one takes.
-use Rattle.std.proofs.Common.{◌≡◌, Bool, true, false, List, [], ◌∷◌, ◌++◌, map, Option, Some, None, Ok, nat_eq, refl, sym, ap, ◌∙◌, true≢false}
+use Rattle.std.proofs.Common.{◌≡◌, Bool, true, false, List, [], ◌∷◌, ◌++◌, Option, Some, None, Ok, refl, sym, ap, ◌∙◌, true≢false}
 use Rattle.std.specs.Prelude.{if◌then◌else◌, ◌||◌, IsFalse}
 use Rattle.std.specs.Cmp.{IsEquivalence}
-use Rattle.std.specs.Cmp.Lexicographic.{pointwise}
 use Rattle.std.specs.List.{list_any}
 use Rattle.std.specs.Str.{bytes_eq}
 use Rattle.std.proofs.lemmas.Bool.{or_parts}
 use Rattle.std.proofs.lemmas.List.Folds.{list_any-append}
 use Rattle.vx_types.specs.Types.{Name}
-use Rattle.vx_tree.specs.Trees.{BoundTree}
 use Rattle.vx_recombine.specs.Partitions.{Distinct, partition_names}
 use Rattle.vx_recombine.specs.Pieces.{Piece, pieces, annotations_of, grouped}
 use Rattle.vx_partition.specs.Keys.{same_bytes}

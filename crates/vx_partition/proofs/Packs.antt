@@ -1,5 +1,5 @@
 -- One more group is packed.
-use Rattle.std.proofs.Common.{◌≡◌, ℕ, List, [], ◌∷◌, ◌++◌, map, Vec, refl, sym, ap, ◌∙◌, append_assoc}
+use Rattle.std.proofs.Common.{◌≡◌, ℕ, List, [], ◌∷◌, ◌++◌, map, Vec, sym, ap, ◌∙◌, append_assoc}
 use Rattle.vx_types.specs.Types.{Name}
 use Rattle.vx_tree.specs.Trees.{bound}
 use Rattle.vx_tree.specs.Views.{bound_of, bounds_of}

@@ -1,18 +1,15 @@
 -- What is put together from the groups of a tree's pieces is the tree's split.
-use Rattle.std.proofs.Common.{◌≡◌, ℕ, suc, ◌+◌, ◌<◌, ◌^◌, Bool, true, false, List, [], ◌∷◌, ◌++◌, length, map, Option, Some, None, Ok, Err, refl, sym, ap, subst, ◌∙◌, true≢false, append_assoc, append-nil, inl, inr, arith, Vec}
-use Rattle.std.specs.Prelude.{if◌then◌else◌, ◌||◌, ◌==◌, cond, IsFalse, IsTrue, Result, IfOk, IfErr}
+use Rattle.std.proofs.Common.{◌≡◌, ℕ, suc, ◌<◌, ◌^◌, Bool, true, List, [], ◌∷◌, length, map, Option, Some, None, Ok, Err, refl, sym, ap, subst, ◌∙◌, true≢false, append-nil, inl, inr, arith, Vec}
+use Rattle.std.specs.Prelude.{IsTrue, Result, IfOk, IfErr}
 use Rattle.std.specs.Cmp.{IsEquivalence}
 use Rattle.std.specs.Cmp.Lexicographic.{pointwise}
 use Rattle.std.specs.HashMap.{HashMap}
 use Rattle.std.specs.HashSet.{HashSet}
-use Rattle.std.specs.List.{list_any}
-use Rattle.std.specs.Str.{bytes_eq}
-use Rattle.std.proofs.lemmas.Bool.{or_parts, eqb-true}
-use Rattle.std.proofs.lemmas.List.Folds.{list_any-append}
+use Rattle.std.proofs.lemmas.Bool.{eqb-true}
 use Rattle.vx_dtype.specs.declared.error.VortexError.{VortexError}
 use Rattle.vx_dtype.specs.declared.error.VortexError.TheVariants.{OutOfMemory}
 use Rattle.vx_types.specs.Answers.{Answers}
-use Rattle.vx_types.specs.Types.{Name, LogicalType}
+use Rattle.vx_types.specs.Types.{Name}
 use Rattle.vx_tree.specs.Trees.{BoundTree, scope, node, BoundTrees, no_bound, bound, WellTyped}
 use Rattle.vx_tree.specs.Views.{bounds_of}
 use Rattle.vx_tree.specs.declared.bound.BoundExpression.{BoundExpression}
@@ -25,12 +22,12 @@ use Rattle.vx_recombine.specs.Partitions.{Distinct, IsShared, AllShort, partitio
 use Rattle.vx_recombine.specs.Pieces.{Piece, Group, CoveredBy, Covered, EachCovered, pieces, annotations_of, grouped, groups}
 use Rattle.vx_recombine.specs.Recombining.{SplitsRecombine}
 use Rattle.vx_partition.specs.declared.mark.Mark.{Mark}
-use Rattle.vx_partition.specs.Collecting.{collected, SameGroups, marks_of}
+use Rattle.vx_partition.specs.Collecting.{SameGroups, marks_of}
 use Rattle.vx_partition.specs.Filling.{filled}
 use Rattle.vx_partition.specs.Only.{only_annotation, only_item, only_key}
 use Rattle.vx_partition.specs.Packing.{all_holes, all_names}
-use Rattle.vx_partition.specs.Partitioned.{first_taken, unless_taken, free_names}
-use Rattle.vx_partition.specs.Splitting.{IsPartitioned, IsSplitBy}
+use Rattle.vx_partition.specs.Partitioned.{first_taken, free_names}
+use Rattle.vx_partition.specs.Splitting.{IsSplitBy}
 use Rattle.vx_partition.proofs.FreeNames.{free_differ, unless_none}
 use Rattle.vx_partition.proofs.Grouping.{seen, count_seen}
 use Rattle.vx_partition.proofs.Holed.{tree_filled}

@@ -1,6 +1,6 @@
 -- The holes of all partitions, by the places of their groups and of the pieces in these.
-use Rattle.std.proofs.Common.{◌≡◌, ℕ, zero, suc, ◌+◌, ◌<◌, Bool, true, false, List, [], ◌∷◌, ◌++◌, length, map, Option, Some, None, slice_get, refl, sym, ap, subst, ◌∙◌, true≢false, arith, inl, inr}
-use Rattle.std.specs.Prelude.{if◌then◌else◌, ◌||◌, not, cond, IsFalse}
+use Rattle.std.proofs.Common.{◌≡◌, ℕ, zero, suc, ◌+◌, Bool, true, false, List, [], ◌∷◌, ◌++◌, length, map, Option, Some, slice_get, refl, sym, ap, subst, ◌∙◌, true≢false, arith, inl, inr}
+use Rattle.std.specs.Prelude.{if◌then◌else◌, ◌||◌, not, cond}
 use Rattle.std.specs.Cmp.{IsEquivalence}
 use Rattle.std.specs.List.{list_any, filter, position_or_len}
 use Rattle.std.specs.Str.{bytes_eq}
@@ -8,15 +8,14 @@ use Rattle.std.proofs.lemmas.Bool.{or_parts}
 use Rattle.std.proofs.lemmas.Slice.Eq.{bytes_eq-Decides}
 use Rattle.vx_types.specs.Types.{Name, LogicalType}
 use Rattle.vx_fn.specs.Faults.{IsIn}
-use Rattle.vx_tree.specs.Trees.{BoundTree, scope, BoundTrees, node_type}
+use Rattle.vx_tree.specs.Trees.{BoundTree, scope, node_type}
 use Rattle.vx_tree.specs.Views.{bounds_from}
-use Rattle.vx_recombine.specs.Items.{item_of, struct_type, tree_named}
-use Rattle.vx_recombine.specs.Pieces.{Piece, Group, pieces_of, others, annotations_of, grouped}
+use Rattle.vx_recombine.specs.Items.{item_of, tree_named}
+use Rattle.vx_recombine.specs.Pieces.{Piece, Group, pieces_of, others, annotations_of}
 use Rattle.vx_recombine.specs.Partitions.{piece_name, piece_names, Distinct, IsShared, AllShort, partition, partitions, partition_names, partitioned_type}
-use Rattle.vx_recombine.specs.Holes.{hole}
 use Rattle.vx_recombine.proofs.Places.{annotation-found, piece-found, pieces_of-equal}
 use Rattle.vx_recombine.proofs.Taken.{item-type}
-use Rattle.vx_partition.specs.Collecting.{collected, SameGroups}
+use Rattle.vx_partition.specs.Collecting.{collected}
 use Rattle.vx_partition.specs.Packing.{typed_item, holes_of, all_holes, all_names, hole_at}
 use Rattle.vx_partition.proofs.Growing.{any-left}
 use Rattle.vx_partition.proofs.Holed.{IsTable}

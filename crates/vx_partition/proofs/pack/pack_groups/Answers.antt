@@ -1,4 +1,4 @@
-use Rattle.std.proofs.Common.{◌≡◌, ◌∷◌, [], length, map, rules, ap, sym, ◌∙◌, arith, refl}
+use Rattle.std.proofs.Common.{◌≡◌, ◌∷◌, [], length, map, rules, ap, ◌∙◌}
 use Rattle.vx_tree.specs.Views.{bound_of}
 use Rattle.vx_recombine.specs.Partitions.{piece_names, partition}
 use Rattle.vx_partition.specs.Collecting.{groups_in}

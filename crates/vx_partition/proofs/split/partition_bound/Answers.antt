@@ -11,5 +11,5 @@ returns-in_err-annotations-clause-refusal g c =
 pub returns-clause-first : goal.returns-clause-first
 returns-clause-first g c =
     let m = c.in_ok-annotations.annotations in
-    taken_after g.A.PartialEq.eq g.A.PartitionKey.text g.A.PartitionKey.name _ (bound_of c.args.e) c.partition_bound_annotations.result (λ p. p.partition_names) m _ _
+    taken_after g.A.PartialEq.eq g.A.PartitionKey.name _ (bound_of c.args.e) c.partition_bound_annotations.result (λ p. p.partition_names) m _ _
     (λ answers alike. (c.in_ok-annotations.ensures.nodes answers alike, c.in_ok-annotations.ensures.annotations answers alike)) c.in_ok-annotations.ensures.unrefused c.partition_bound_annotations.ensures.names

@@ -1,4 +1,4 @@
-use Rattle.std.proofs.Common.{◌≡◌, Ok, inl, inr, ap, ◌∙◌, sym}
+use Rattle.std.proofs.Common.{◌≡◌, Ok, inl, inr, ◌∙◌, sym}
 use Rattle.std.proofs.lemmas.Result.{err_from_is_err_and, IfOk-weaker}
 use Rattle.vx_tree.specs.Views.{bound_of, bounds_of}
 use Rattle.vx_recombine.proofs.Recombined.{splits_recombine}

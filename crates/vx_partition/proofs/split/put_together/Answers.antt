@@ -1,7 +1,7 @@
-use Rattle.std.proofs.Common.{◌≡◌, ap, sym, ◌∙◌, length, List, rules}
+use Rattle.std.proofs.Common.{◌≡◌, ap, sym, ◌∙◌, length, rules}
 use Rattle.std.specs.Slice.Iter.{iter_rest}
 use Rattle.vx_types.specs.Views.{type_of}
-use Rattle.vx_tree.specs.Trees.{BoundTree, scope}
+use Rattle.vx_tree.specs.Trees.{scope}
 use Rattle.vx_tree.specs.Views.{bound_of, bounds_of}
 use Rattle.vx_recombine.specs.Items.{struct_type}
 use Rattle.vx_recombine.specs.Partitions.{partitions}
