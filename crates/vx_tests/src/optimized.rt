@@ -1,5 +1,5 @@
 // Trees before and after the standard rules: texts, types, and rows, which stay.
-use crate::build::{col, fields, i32_type, literal, named, names};
+use crate::build::{col, i32_type, literal, named, names};
 use crate::results::{numbers, rows_of_field, rows_of_x, shows};
 use crate::rows::{item_of_pack, number, twice_selected, with_x, zero_for_null};
 use crate::shapes::{empty_rows, item_of_two, repacked, turned};
