@@ -1,6 +1,11 @@
 // Analyses and rewriting of bound trees: what the crates below have, under one name.
 #![tactic(auto)]
 
+mod laws;
+mod passes;
+
+pub use laws::passes_keep;
+pub use passes::{Pass, run_passes};
 pub use vx_analysis::{
     Annotation, BoundAnnotations, BoundLabels, covers, descendent_bound_annotations,
     direct_bound_annotations, free_fields, label_bound_tree,
@@ -8,5 +13,6 @@ pub use vx_analysis::{
 pub use vx_fusing::find_between;
 pub use vx_keep::Rule;
 pub use vx_optimizer::optimize_with;
+pub use vx_partition::{BoundPartitionedExpr, PartitionKey};
 pub use vx_paths::referenced_field_paths;
 pub use vx_standard::{Optimize, StandardRules};

@@ -5,3 +5,4 @@ pub mod Above
 pub mod ItemTexts
 pub mod Misfits
 pub mod PathSets
+pub mod StructRows

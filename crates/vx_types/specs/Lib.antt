@@ -7,6 +7,7 @@ pub mod Equality
 pub mod Hashes
 pub mod Codes
 pub mod Columns
+pub mod StructColumns
 pub mod Paths
 pub mod ValueTexts
 pub use Rattle.vx_dtype.specs.Answers

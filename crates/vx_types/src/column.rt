@@ -71,6 +71,16 @@ impl Column {
         &self.rows
     }
 
+    // The type, and the rows, which other columns may share.
+    pub(crate) fn into_parts(self) -> (DType, Rc<Vec<Value>>)
+        ensures dtype { type_of result.0 ≡ self.type }
+        ensures rows { map value_of result.1.value.items ≡ self.rows }
+        ensures fit { first_misfit self.type self.rows ≡ None }
+    {
+        let Column { dtype, rows } = self;
+        (dtype, rows)
+    }
+
     /// The number of rows.
     pub fn len(&self) -> usize
         ensures { result ≡ length self.now.rows }

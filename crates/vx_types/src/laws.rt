@@ -1,9 +1,11 @@
-// What `==` says of values, and what misfits are; the laws of names and types are handed on.
-ghost use Rattle.std.specs.Prelude.{◌≡◌, ◌↔◌, ℕ, List, Some, None, IsTrue};
-ghost use Rattle.vx_types.specs.Types.{LogicalType, Datum};
+// What `==` says of values, what misfits are, and what joined columns hold; the laws of names and types are handed on.
+ghost use Rattle.std.specs.Prelude.{◌≡◌, ◌↔◌, ◌<◌, ℕ, get_or, List, Some, None, IsTrue};
+ghost use Rattle.vx_types.specs.Types.{LogicalType, Datum, null, struct_of};
 ghost use Rattle.vx_types.specs.Fits.{Fits, IsBatch};
 ghost use Rattle.vx_types.specs.Columns.{first_misfit, IsFirstMisfit};
+ghost use Rattle.vx_types.specs.Fields.{data_of};
 ghost use Rattle.vx_types.specs.Joins.{Narrower};
+ghost use Rattle.vx_types.specs.StructColumns.{row_at, struct_rows};
 ghost use Rattle.vx_types.specs.Views.{value_of};
 
 use crate::{Column, Scalar, Value};
@@ -43,4 +45,9 @@ pub fn values_stay_values_above()
 pub fn first_misfit_is_the_first()
     ensures misfit { (t : LogicalType) → (rows : List Datum) → (i : ℕ) → first_misfit t rows ≡ Some i → IsFirstMisfit t rows i }
     ensures none { (t : LogicalType) → (rows : List Datum) → (first_misfit t rows ≡ None) ↔ IsBatch t rows }
+{}
+
+/// Row k of joined columns is the struct of the columns' values in their rows k.
+pub fn joined_rows_are_the_columns_rows()
+    ensures { (n : ℕ) → (columns : List (List Datum)) → (k : ℕ) → k < n → get_or (struct_rows n columns) k null ≡ struct_of (data_of (row_at k columns)) }
 {}

@@ -7,6 +7,7 @@ mod field_path_set;
 mod fits;
 pub mod laws;
 mod scalar;
+mod struct_column;
 mod value;
 mod value_texts;
 

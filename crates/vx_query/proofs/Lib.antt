@@ -1,0 +1,4 @@
+pub mod Lists
+pub mod Answered
+pub mod Joined
+pub mod Faulting

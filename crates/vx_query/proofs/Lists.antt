@@ -1,0 +1,52 @@
+-- Loops over bound trees: what holds of those that are left, and what was made of those before.
+use Rattle.std.proofs.Common.{◌≡◌, ℕ, ◌+◌, ◌<◌, ◌≤◌, List, [], ◌∷◌, ◌++◌, length, get_or, drop, drop-cons, drop_of_length-le, add-one, refl, sym, ap, subst, ◌∙◌}
+use Rattle.vx_types.specs.Types.{LogicalType}
+use Rattle.vx_tree.specs.declared.bound.BoundExpression.{BoundExpression}
+use Rattle.vx_tree.specs.Trees.{BoundTree, BoundTrees, no_bound, bound, WellTyped, EachWellTyped, Over, EachOver}
+use Rattle.vx_tree.specs.Views.{bound_of, bounds_of}
+use Rattle.vx_keep.specs.Keeps.{KeepsEach, keeps_none, keeps_more}
+use Rattle.vx_optimizer.specs.NormalForms.{NormalForm, NormalForms, no_form, form}
+use Rattle.vx_tree.proofs.Bindings.{before}
+
+-- the next one and those behind it
+pub split_at : (es : List BoundExpression) (i : ℕ) (e : BoundExpression) → i < length es → e ≡ get_or es i e
+    → bounds_of (drop i es) ≡ bound (bound_of e) (bounds_of (drop (i + 1) es))
+split_at es i e h is = rw (add-one, drop-cons es i e h, ← is)
+
+pub typed_at : (es : List BoundExpression) (i : ℕ) (e : BoundExpression) → i < length es → e ≡ get_or es i e
+    → EachWellTyped (bounds_of (drop i es)) → WellTyped (bound_of e) × EachWellTyped (bounds_of (drop (i + 1) es))
+typed_at es i e h is w = subst EachWellTyped (split_at es i e h is) w
+
+pub over_at : (s : LogicalType) (es : List BoundExpression) (i : ℕ) (e : BoundExpression) → i < length es → e ≡ get_or es i e
+    → EachOver (bounds_of (drop i es)) s → Over (bound_of e) s × EachOver (bounds_of (drop (i + 1) es)) s
+over_at s es i e h is o = subst (λ bs. EachOver bs s) (split_at es i e h is) o
+
+before_push : (made : List BoundExpression) (b : BoundExpression) (bs : BoundTrees) → before (made ++ b ∷ []) bs ≡ before made (bound (bound_of b) bs)
+before_push [] b bs = refl
+before_push (x ∷ made) b bs = ap (bound (bound_of x)) (before_push made b bs)
+
+before_nothing : (made : List BoundExpression) → before made no_bound ≡ bounds_of made
+before_nothing [] = refl
+before_nothing (x ∷ made) = ap (bound (bound_of x)) (before_nothing made)
+
+module _ (R : BoundTree → BoundTree → Type 0) where
+  -- normal forms of those that are left make, behind those that were made, normal forms of all
+  abbrev pub FormsLeft : BoundTrees → List BoundExpression → BoundTrees → Type 0
+  FormsLeft all made left = (us : BoundTrees) → NormalForms R left us → NormalForms R all (before made us)
+
+  pub next_form : (es : List BoundExpression) (all : BoundTrees) (made new : List BoundExpression) (i : ℕ) (e u : BoundExpression)
+      → i < length es → e ≡ get_or es i e → new ≡ made ++ u ∷ [] → NormalForm R (bound_of e) (bound_of u)
+      → FormsLeft all made (bounds_of (drop i es)) → FormsLeft all new (bounds_of (drop (i + 1) es))
+  next_form es all made new i e u h is pushed f left us fs =
+      let more = subst (λ bs. NormalForms R bs (bound (bound_of u) us)) (sym (split_at es i e h is)) (form f fs) in
+      subst (NormalForms R all) (sym (before_push made u us) ∙ ap (λ xs. before xs us) (sym pushed)) (left (bound (bound_of u) us) more)
+
+  pub last_form : (es : List BoundExpression) (all : BoundTrees) (made : List BoundExpression) (i : ℕ) → length es ≤ i
+      → FormsLeft all made (bounds_of (drop i es)) → NormalForms R all (bounds_of made)
+  last_form es all made i h left =
+      subst (NormalForms R all) (before_nothing made) (left no_bound (subst (λ xs. NormalForms R (bounds_of xs) no_bound) (sym (drop_of_length-le es h)) no_form))
+
+  -- normal forms keep, each its tree
+  pub forms_keep : {bs us : BoundTrees} → NormalForms R bs us → KeepsEach bs us
+  forms_keep no_form = keeps_none
+  forms_keep (form f fs) = keeps_more f.keeps (forms_keep fs)
