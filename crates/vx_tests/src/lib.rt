@@ -36,6 +36,8 @@ mod shapes;
 #[cfg(test)]
 mod sql;
 #[cfg(test)]
+mod struct_columns;
+#[cfg(test)]
 mod texts;
 #[cfg(test)]
 mod tree_texts;
