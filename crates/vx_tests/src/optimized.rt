@@ -193,26 +193,13 @@ fn choice(alloc: Global, mask: Scalar, root_first: bool) -> VortexResult<Express
 fn a_choice_by_a_literal_is_made(rt: HostRuntime) -> Result<(), Fail> {
     let alloc = rt.alloc();
     let batch = Column::try_new(i32_type(Nullable), numbers(alloc, &[None, Some(4)])?)?;
-    for (mask, text, after, rows) in [
-        (
-            true,
-            "zip(1i32, $, true)",
-            "cast(1i32 as i32?)",
-            "[1i32, 1i32]",
-        ),
-        (
-            false,
-            "zip($, 1i32, false)",
-            "cast(1i32 as i32?)",
-            "[1i32, 1i32]",
-        ),
-    ] {
+    for (mask, text) in [(true, "zip(1i32, $, true)"), (false, "zip($, 1i32, false)")] {
         let texts = Texts {
             before: (text, "i32?"),
-            after: (after, "i32?"),
+            after: ("cast(1i32 as i32?)", "i32?"),
         };
         let source = choice(alloc, Scalar::from_bool(mask), !mask)?;
-        becomes(&rt, alloc, source, &batch, texts, rows)?;
+        becomes(&rt, alloc, source, &batch, texts, "[1i32, 1i32]")?;
     }
     let unknown = choice(alloc, Scalar::null(DType::Bool(Nullable)), false)?;
     stays(

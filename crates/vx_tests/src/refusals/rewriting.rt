@@ -1,4 +1,7 @@
 // Optimizing, fusing and labels whose memory is refused.
+ghost use Rattle.vx_tree.specs.Trees.{WellTyped};
+ghost use Rattle.vx_tree.specs.Views.{bound_of};
+
 use super::reading::reads;
 use crate::build::{col, i32_type, literal, names};
 use crate::fused::{COMPARISONS, RANGES, scope_of, three_ranges};
@@ -27,8 +30,26 @@ fn find_between_of_six_comparisons(rt: HostRuntime) -> Result<(), Fail> {
     Ok(rt.println("answered")?)
 }
 
-/// Asserts what is left of the source over `{x=i32?}`, and that its tree stays as it was.
+/// Asserts what is left of the tree, and that the tree stays as it was.
 fn leaves(
+    rt: &(impl Abort + Print),
+    alloc: Global,
+    tree: &BoundExpression,
+    before: &str,
+    text: &str,
+) -> Result<(), Fail>
+    requires { WellTyped (bound_of tree.now) }
+{
+    rt.println("called")?;
+    let answer = tree.optimize_recursive(alloc);
+    assert!(rt; reads(tree, before));
+    let left = answer?;
+    assert!(rt; reads(&left, text));
+    Ok(rt.println("answered")?)
+}
+
+/// The same of the source over `{x=i32?}`.
+fn leaves_of(
     rt: &(impl Abort + Print),
     alloc: Global,
     source: Expression,
@@ -37,21 +58,16 @@ fn leaves(
     let scope = with_x(rt, alloc, i32_type(Nullable), NonNullable)?;
     let bound = source.bind(alloc, &scope)?;
     let before = format!(in alloc; "{bound}")?;
-    rt.println("called")?;
-    let answer = bound.optimize_recursive(alloc);
-    assert!(rt; reads(&bound, before.as_str()));
-    let left = answer?;
-    assert!(rt; reads(&left, text));
-    Ok(rt.println("answered")?)
+    leaves(rt, alloc, &bound, before.as_str(), text)
 }
 
 // The first of them makes no request: each of its steps takes a child, which is shared.
 #[test]
 fn optimize_recursive_of_items_and_cases(rt: HostRuntime) -> Result<(), Fail> {
     let alloc = rt.alloc();
-    leaves(&rt, alloc, repacked(alloc, col(alloc, "x")?, 101)?, "$.x")?;
-    leaves(&rt, alloc, item_of_pack(alloc)?, "vortex.mask($.x, true)")?;
-    leaves(
+    leaves_of(&rt, alloc, repacked(alloc, col(alloc, "x")?, 101)?, "$.x")?;
+    leaves_of(&rt, alloc, item_of_pack(alloc)?, "vortex.mask($.x, true)")?;
+    leaves_of(
         &rt,
         alloc,
         zero_for_null(alloc)?,
