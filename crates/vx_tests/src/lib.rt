@@ -14,9 +14,13 @@ mod faults;
 #[cfg(test)]
 mod functions;
 #[cfg(test)]
+mod fused;
+#[cfg(test)]
 mod matching;
 #[cfg(test)]
 mod no_rows;
+#[cfg(test)]
+mod optimized;
 #[cfg(test)]
 mod pressure;
 #[cfg(test)]
@@ -31,6 +35,8 @@ mod runs;
 mod shapes;
 #[cfg(test)]
 mod sql;
+#[cfg(test)]
+mod struct_columns;
 #[cfg(test)]
 mod texts;
 #[cfg(test)]

@@ -1,5 +1,9 @@
 // Worked rows as runs: results of evaluation.
+ghost use Rattle.vx_tree.specs.Trees.{WellTyped};
+ghost use Rattle.vx_tree.specs.Views.{bound_of};
+
 use crate::build::{col, fields, i32_type, literal, names, prints, refused};
+use crate::refusals::reading::reads;
 use crate::rows::{item_of_pack, two_cases, with_x, zero_for_null};
 use std::alloc::Global;
 use std::process::Abort;
@@ -7,7 +11,7 @@ use std::test::Fail;
 use vx_build::{fill_null, ilike, like, mask, root, select, select_exclude};
 use vx_eval::apply_bound;
 use vx_tree::Nullability::{NonNullable, Nullable};
-use vx_tree::{Column, DType, Expression, Scalar, Value, VortexResult};
+use vx_tree::{BoundExpression, Column, DType, Expression, Scalar, Value, VortexResult};
 
 /// Whole numbers, and nulls between them.
 pub fn numbers(alloc: Global, given: &[Option<i128>]) -> VortexResult<Vec<Value>> {
@@ -21,13 +25,25 @@ pub fn numbers(alloc: Global, given: &[Option<i128>]) -> VortexResult<Vec<Value>
     Ok(values)
 }
 
-/// Rows of the one field `x`, of type `i32?`.
-pub fn rows_of_x(rt: &impl Abort, alloc: Global, x: &[Option<i128>]) -> Result<Column, Fail> {
-    let mut rows = Vec::with_capacity(alloc, x.len())?;
-    for value in numbers(alloc, x)? {
+/// Rows of one field.
+pub fn rows_of_field(
+    rt: &impl Abort,
+    alloc: Global,
+    name: &str,
+    dtype: DType,
+    values: Vec<Value>,
+) -> Result<Column, Fail> {
+    let mut rows = Vec::with_capacity(alloc, values.len())?;
+    for value in values {
         rows.push(Value::Struct(vec![in alloc; value]?))?;
     }
-    Ok(Column::try_new(with_x(rt, alloc, i32_type(Nullable), NonNullable)?, rows)?)
+    let fields = fields(rt, alloc, &[name], vec![in alloc; dtype]?)?;
+    Ok(Column::try_new(DType::Struct(fields, NonNullable), rows)?)
+}
+
+/// Rows of the one field `x`, of type `i32?`.
+pub fn rows_of_x(rt: &impl Abort, alloc: Global, x: &[Option<i128>]) -> Result<Column, Fail> {
+    rows_of_field(rt, alloc, "x", i32_type(Nullable), numbers(alloc, x)?)
 }
 
 /// Rows of the two fields `x`, of type `i32?`, and `y`, of that type.
@@ -62,6 +78,24 @@ pub fn gives(
     rows: &str,
 ) -> Result<(), Fail> {
     prints(rt, alloc, evaluated(alloc, source, batch)?, rows)
+}
+
+/// Asserts the text of the tree and of its type, and its rows over the batch.
+pub fn shows(
+    rt: &impl Abort,
+    alloc: Global,
+    tree: BoundExpression,
+    batch: &Column,
+    texts: (&str, &str),
+    rows: &str,
+) -> Result<(), Fail>
+    requires { WellTyped (bound_of tree) }
+{
+    assert!(rt; reads(&tree, texts.0), "{tree} and not {}", texts.0);
+    assert!(rt; reads(tree.dtype(), texts.1), "of {tree}");
+    let answer = apply_bound(alloc, batch, &tree)?;
+    assert!(rt; reads(&answer, rows), "{answer} and not {rows}");
+    Ok(())
 }
 
 /// The text of `BadFill`.

@@ -31,7 +31,7 @@ pub fn number(alloc: Global, value: i32) -> VortexResult<Expression> {
 }
 
 /// `pack([(a, 1), (b, 2)], nullability)`, of which `b` is selected twice.
-fn twice_selected(alloc: Global, nullability: Nullability) -> VortexResult<Expression> {
+pub fn twice_selected(alloc: Global, nullability: Nullability) -> VortexResult<Expression> {
     let first = named(alloc, "a", number(alloc, 1)?)?;
     let second = named(alloc, "b", number(alloc, 2)?)?;
     let packed = pack(alloc, vec![in alloc; first, second]?, nullability)?;

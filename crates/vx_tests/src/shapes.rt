@@ -11,7 +11,7 @@ use vx_tree::test_harness::struct_dtype;
 use vx_tree::{Column, DType, Expression, FieldName, Scalar, Value, VortexResult};
 
 /// So many rows of the struct of no fields.
-fn empty_rows(rt: &impl Abort, alloc: Global, count: usize) -> Result<Column, Fail> {
+pub fn empty_rows(rt: &impl Abort, alloc: Global, count: usize) -> Result<Column, Fail> {
     let mut rows = Vec::with_capacity(alloc, count)?;
     for _ in 0..count {
         rows.push(Value::Struct(Vec::new(alloc)))?;
@@ -21,7 +21,7 @@ fn empty_rows(rt: &impl Abort, alloc: Global, count: usize) -> Result<Column, Fa
 }
 
 /// `true`, turned a thousand times.
-fn turned(alloc: Global) -> VortexResult<Expression> {
+pub fn turned(alloc: Global) -> VortexResult<Expression> {
     let mut turned = lit(alloc, Scalar::from_bool(true))?;
     for _ in 0..1000 {
         turned = not(alloc, turned)?;
@@ -37,7 +37,7 @@ fn a_deep_tree_is_evaluated(rt: HostRuntime) -> Result<(), Fail> {
 }
 
 /// The item `a` of a pack of what is given, so many times over, as `a`.
-fn repacked(alloc: Global, innermost: Expression, times: usize) -> VortexResult<Expression> {
+pub fn repacked(alloc: Global, innermost: Expression, times: usize) -> VortexResult<Expression> {
     let mut inner = innermost;
     for _ in 0..times {
         let packed = pack(
@@ -133,14 +133,19 @@ fn an_empty_selection_of_a_pack_is_never_null(rt: HostRuntime) -> Result<(), Fai
     prints(&rt, alloc, answer, "[{}, {}]")
 }
 
-#[test]
-fn the_first_of_two_names_is_taken(rt: HostRuntime) -> Result<(), Fail> {
-    let alloc = rt.alloc();
+/// The item `a` of a pack that has two.
+pub fn item_of_two(alloc: Global) -> VortexResult<Expression> {
     let first = named(alloc, "a", number(alloc, 1)?)?;
     let second = named(alloc, "a", number(alloc, 2)?)?;
     let packed = pack(alloc, vec![in alloc; first, second]?, NonNullable)?;
-    let item = get_item(alloc, FieldName::new(alloc, "a")?, packed)?;
-    gives(&rt, alloc, item, &empty_rows(&rt, alloc, 1)?, "[1i32]")
+    get_item(alloc, FieldName::new(alloc, "a")?, packed)
+}
+
+#[test]
+fn the_first_of_two_names_is_taken(rt: HostRuntime) -> Result<(), Fail> {
+    let alloc = rt.alloc();
+    let one = empty_rows(&rt, alloc, 1)?;
+    gives(&rt, alloc, item_of_two(alloc)?, &one, "[1i32]")
 }
 
 #[test]
