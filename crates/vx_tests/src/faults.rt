@@ -11,7 +11,7 @@ use vx_tree::{
     Column, DType, Expression, Operator, PType, Scalar, Value, VortexError, VortexResult,
 };
 
-const OVERFLOW: &str = "the sum of row 0 is out of range";
+pub const OVERFLOW: &str = "the sum of row 0 is out of range";
 
 const NULL_CAST: &str = "the null of row 1 would be made non-null";
 
@@ -22,7 +22,7 @@ fn next(alloc: Global, number: Scalar) -> VortexResult<Expression> {
 }
 
 /// `CASE WHEN false THEN (127i8 + 1i8) ELSE 0i8 END`
-fn unchosen_overflow(alloc: Global) -> VortexResult<Expression> {
+pub fn unchosen_overflow(alloc: Global) -> VortexResult<Expression> {
     let never = literal(alloc, Scalar::from_bool(false))?;
     let overflow = next(alloc, Scalar::from_i8(127))?;
     case_when(alloc, never, overflow, literal(alloc, Scalar::from_i8(0))?)

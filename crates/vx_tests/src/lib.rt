@@ -16,13 +16,19 @@ mod functions;
 #[cfg(test)]
 mod fused;
 #[cfg(test)]
+mod generated;
+#[cfg(test)]
 mod matching;
 #[cfg(test)]
 mod no_rows;
 #[cfg(test)]
 mod optimized;
 #[cfg(test)]
+mod partitions;
+#[cfg(test)]
 mod pressure;
+#[cfg(test)]
+mod queries;
 #[cfg(test)]
 mod refusals;
 #[cfg(test)]

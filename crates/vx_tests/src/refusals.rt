@@ -8,6 +8,7 @@
 pub mod evaluation;
 mod paths;
 mod program;
+mod queries;
 pub mod reading;
 mod rewriting;
 pub mod trees;

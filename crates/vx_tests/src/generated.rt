@@ -1,0 +1,90 @@
+// Trees made by chance, evaluated as they are and as queries: the rows stay.
+mod layer;
+mod maker;
+mod nodes;
+mod scope;
+mod seeds;
+
+use maker::Maker;
+use nodes::some_tree;
+use scope::batch;
+use std::alloc::Global;
+use std::process::Abort;
+use std::test::Fail;
+use vx_eval::apply_bound;
+use vx_query::run_query;
+use vx_rewrite::Pass;
+use vx_tree::{Column, Expression, VortexError, VortexResult};
+
+const TREES: usize = 40;
+
+/// Whether the columns have the same rows.
+fn same_rows(a: &Column, b: &Column) -> bool {
+    a.len() == b.len() && (0..a.len()).all(|i| a.row(i) == b.row(i))
+}
+
+/// Whether the refusal is a fault of a node on a batch.
+fn is_fault(refusal: &VortexError) -> bool {
+    matches!(
+        refusal,
+        VortexError::AddOverflow { .. } | VortexError::CastNull { .. } | VortexError::BadFill
+    )
+}
+
+/// Whether the answer is allowed beside that of plain evaluation: the same rows, or where that
+/// faults, any rows or a fault.
+fn is_allowed(plain: &VortexResult<Column>, answer: &VortexResult<Column>) -> bool {
+    match (plain, answer) {
+        (Ok(rows), Ok(answer)) => same_rows(rows, answer),
+        (Ok(_), Err(_)) => false,
+        (Err(_), Ok(_)) => true,
+        (Err(_), Err(refusal)) => is_fault(refusal),
+    }
+}
+
+/// Asserts what each query of the source answers, and tells whether the source faults nowhere.
+fn agrees(
+    rt: &impl Abort,
+    alloc: Global,
+    source: &Expression,
+    batch: &Column,
+) -> VortexResult<bool> {
+    let bound = source.bind(alloc, batch.dtype())?;
+    let plain = apply_bound(alloc, batch, &bound);
+    let queries: [(&[Pass], bool); 5] = [
+        (&[], false),
+        (&[Pass::Optimize], false),
+        (&[Pass::OptimizeRecursive], false),
+        (&[Pass::FindBetween], false),
+        (&[], true),
+    ];
+    for (passes, split) in queries {
+        let answer = run_query(alloc, source, batch, passes, split);
+        assert!(rt;
+            is_allowed(&plain, &answer),
+            "{source} by {passes:?}, split: {split}"
+        );
+    }
+    Ok(plain.is_ok())
+}
+
+/// How many of so many trees fault nowhere; the queries of all of them agree.
+fn without_fault(rt: &impl Abort, alloc: Global, seed: u64, trees: usize) -> VortexResult<usize> {
+    let batch = batch(rt, alloc)?;
+    let mut maker = Maker::new(rt, alloc, seed)?;
+    let mut count: usize = 0;
+    for _ in 0..trees {
+        let tree = some_tree(&mut maker)?;
+        if agrees(rt, alloc, &tree, &batch)? {
+            count = count.saturating_add(1);
+        }
+    }
+    Ok(count)
+}
+
+#[test]
+fn queries_agree_with_plain_evaluation(rt: HostRuntime) -> Result<(), Fail> {
+    let count = without_fault(&rt, rt.alloc(), 1, TREES)?;
+    assert!(rt; count > TREES / 4, "{count}");
+    Ok(())
+}
