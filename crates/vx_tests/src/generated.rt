@@ -16,11 +16,11 @@ use vx_query::run_query;
 use vx_rewrite::Pass;
 use vx_tree::{Column, Expression, VortexError, VortexResult};
 
-const TREES: usize = 40;
+const TREES: usize = 2000;
 
 /// Whether the columns have the same rows.
 fn same_rows(a: &Column, b: &Column) -> bool {
-    a.len() == b.len() && (0..a.len()).all(|i| a.row(i) == b.row(i))
+    a.shared_rows().as_slice() == b.shared_rows().as_slice()
 }
 
 /// Whether the refusal is a fault of a node on a batch.

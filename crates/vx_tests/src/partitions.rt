@@ -191,31 +191,41 @@ pub fn truth(alloc: Global, name: &str, truth: bool) -> VortexResult<Expression>
     )
 }
 
-/// Asserts that one partition in place of the source's is refused, and that nothing changes.
-fn refuses_one(
+/// One partition of another name.
+fn other(rt: &impl Abort, alloc: Global) -> VortexResult<Vec<BoundExpression>> {
+    let bound = truth(alloc, "zz", true)?.bind(alloc, &scope(rt, alloc)?)?;
+    Ok(vec![in alloc; bound]?)
+}
+
+/// Asserts that the partitions are refused in place of the old ones, and that nothing changes.
+fn refuses(
     rt: &impl Abort,
     alloc: Global,
-    source: Expression,
-    text: &str,
-    refusal: &str,
+    whole: &mut BoundPartitionedExpr<FieldName>,
+    others: Vec<BoundExpression>,
+    texts: (&str, &str),
 ) -> Result<(), Fail> {
-    let scope = scope(rt, alloc)?;
-    let mut whole = divided(alloc, &source, &scope)?;
     assert_eq!(rt; whole.partition_names.len(), whole.partitions.len());
-    let other = truth(alloc, "zz", true)?.bind(alloc, &scope)?;
-    let answer = whole.replace_partitions(alloc, vec![in alloc; other]?);
-    refused(rt, alloc, answer, refusal)?;
-    assert!(rt; reads(&whole, text), "{whole} and not {text}");
+    let answer = whole.replace_partitions(alloc, others);
+    refused(rt, alloc, answer, texts.1)?;
+    assert!(rt; reads(whole, texts.0), "{whole}");
     Ok(())
 }
 
 #[test]
-fn a_refused_replacement_changes_nothing(rt: HostRuntime) -> Result<(), Fail> {
+fn a_partition_of_another_type_is_refused(rt: HostRuntime) -> Result<(), Fail> {
     let alloc = rt.alloc();
-    let one = small_b_and_true(alloc)?;
-    refuses_one(&rt, alloc, one, ONE_PIECE, "no such field: b_0")?;
-    let count = "2 partitions are needed, and 1 given";
-    refuses_one(&rt, alloc, two_conditions(alloc)?, DIVIDED, count)
+    let mut whole = divided(alloc, &small_b_and_true(alloc)?, &scope(&rt, alloc)?)?;
+    let texts = (ONE_PIECE, "no such field: b_0");
+    refuses(&rt, alloc, &mut whole, other(&rt, alloc)?, texts)
+}
+
+#[test]
+fn another_number_of_partitions_is_refused(rt: HostRuntime) -> Result<(), Fail> {
+    let alloc = rt.alloc();
+    let mut whole = divided(alloc, &two_conditions(alloc)?, &scope(&rt, alloc)?)?;
+    let texts = (DIVIDED, "2 partitions are needed, and 1 given");
+    refuses(&rt, alloc, &mut whole, other(&rt, alloc)?, texts)
 }
 
 /// The columns of the partitions over the batch, joined.

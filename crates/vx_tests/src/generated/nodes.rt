@@ -163,18 +163,29 @@ fn two_bounds(maker: &mut Maker) -> VortexResult<Expression> {
     and(maker.alloc, above, below)
 }
 
+fn operator(maker: &mut Maker) -> Operator {
+    match maker.seeds.below(6) {
+        0 => Operator::Eq,
+        1 => Operator::NotEq,
+        2 => Operator::Gt,
+        3 => Operator::Gte,
+        4 => Operator::Lt,
+        _ => Operator::Lte,
+    }
+}
+
+// A kind that can be compared.
+fn comparable(maker: &mut Maker) -> Kind {
+    match maker.seeds.below(3) {
+        0 => Kind::Truth,
+        1 => Kind::Number,
+        _ => Kind::Text,
+    }
+}
+
 fn compared(maker: &mut Maker) -> VortexResult<Expression> {
-    let operators = [
-        Operator::Eq,
-        Operator::NotEq,
-        Operator::Gt,
-        Operator::Gte,
-        Operator::Lt,
-        Operator::Lte,
-    ];
-    let operator = operators[maker.seeds.below(operators.len())];
-    let kinds = [Kind::Truth, Kind::Number, Kind::Text];
-    let kind = kinds[maker.seeds.below(kinds.len())];
+    let operator = operator(maker);
+    let kind = comparable(maker);
     let lhs = maker.tree(kind)?;
     binary(maker.alloc, operator, lhs, maker.literal(kind)?)
 }
