@@ -16,7 +16,8 @@ use vx_query::run_query;
 use vx_rewrite::Pass;
 use vx_tree::{Column, Expression, VortexError, VortexResult};
 
-const TREES: usize = 2000;
+// Of each test.
+const TREES: usize = 500;
 
 /// Whether the columns have the same rows.
 fn same_rows(a: &Column, b: &Column) -> bool {
@@ -68,23 +69,37 @@ fn agrees(
     Ok(plain.is_ok())
 }
 
-/// How many of so many trees fault nowhere; the queries of all of them agree.
-fn without_fault(rt: &impl Abort, alloc: Global, seed: u64, trees: usize) -> VortexResult<usize> {
+/// Asserts that the queries of so many trees agree, of which more than a quarter fault nowhere.
+fn all_agree(rt: &impl Abort, alloc: Global, seed: u64) -> Result<(), Fail> {
     let batch = batch(rt, alloc)?;
     let mut maker = Maker::new(rt, alloc, seed)?;
     let mut count: usize = 0;
-    for _ in 0..trees {
+    for _ in 0..TREES {
         let tree = some_tree(&mut maker)?;
         if agrees(rt, alloc, &tree, &batch)? {
             count = count.saturating_add(1);
         }
     }
-    Ok(count)
+    assert!(rt; count > TREES / 4, "{count}");
+    Ok(())
 }
 
 #[test]
-fn queries_agree_with_plain_evaluation(rt: HostRuntime) -> Result<(), Fail> {
-    let count = without_fault(&rt, rt.alloc(), 1, TREES)?;
-    assert!(rt; count > TREES / 4, "{count}");
-    Ok(())
+fn queries_of_the_first_trees_agree(rt: HostRuntime) -> Result<(), Fail> {
+    all_agree(&rt, rt.alloc(), 1)
+}
+
+#[test]
+fn queries_of_the_second_trees_agree(rt: HostRuntime) -> Result<(), Fail> {
+    all_agree(&rt, rt.alloc(), 2)
+}
+
+#[test]
+fn queries_of_the_third_trees_agree(rt: HostRuntime) -> Result<(), Fail> {
+    all_agree(&rt, rt.alloc(), 3)
+}
+
+#[test]
+fn queries_of_the_last_trees_agree(rt: HostRuntime) -> Result<(), Fail> {
+    all_agree(&rt, rt.alloc(), 4)
 }

@@ -4,7 +4,7 @@ use super::maker::Maker;
 use crate::build::{named, names};
 use vx_build::{
     and, between, binary, case_when, case_when_no_else, cast, checked_add, fill_null, get_item,
-    is_not_null, is_null, mask, not, or, pack, select, select_exclude, zip_expr,
+    is_not_null, is_null, mask, not, or, pack, root, select, select_exclude, zip_expr,
 };
 use vx_tree::StrictComparison::{NonStrict, Strict};
 use vx_tree::{
@@ -48,7 +48,7 @@ fn node(maker: &mut Maker, kind: Kind) -> VortexResult<Expression> {
 }
 
 fn truth(maker: &mut Maker) -> VortexResult<Expression> {
-    match maker.seeds.below(8) {
+    match maker.seeds.below(9) {
         0 => joined(maker),
         1 => not(maker.alloc, maker.tree(Kind::Truth)?),
         2 => range(maker),
@@ -56,6 +56,7 @@ fn truth(maker: &mut Maker) -> VortexResult<Expression> {
         4 => nullness(maker),
         5 => two_bounds(maker),
         6 => no_field_is_null(maker),
+        7 => is_null(maker.alloc, root()),
         _ => compared(maker),
     }
 }
