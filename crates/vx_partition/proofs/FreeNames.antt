@@ -1,7 +1,8 @@
 -- Names that no earlier one takes.
 use Rattle.std.proofs.Common.{◌≡◌, Bool, true, false, List, [], ◌∷◌, ◌++◌, Option, Some, None, Ok, refl, sym, ap, ◌∙◌, true≢false}
-use Rattle.std.specs.Prelude.{if◌then◌else◌, ◌||◌, IsFalse}
+use Rattle.std.specs.Prelude.{if◌then◌else◌, ◌||◌, cond, not, IsFalse}
 use Rattle.std.specs.Cmp.{IsEquivalence}
+use Rattle.std.specs.HashSet.{HashSet, contains, Updates}
 use Rattle.std.specs.List.{list_any}
 use Rattle.std.specs.Str.{bytes_eq}
 use Rattle.std.proofs.lemmas.Bool.{or_parts}
@@ -49,6 +50,43 @@ free_differ before (a ∷ names) e = go (list_any (bytes_eq a) before) e (free_d
 pub unless_none : (o : Option Name) (names given : List Name) → unless_taken o names ≡ Ok given → (o ≡ None) × (given ≡ names)
 unless_none None names given e = (refl, let q : names ≡ given = cc in sym q)
 unless_none (Some a) names given e = cc
+
+-- ---- names beside a set that has them
+
+-- the set has these names, and no other
+abbrev pub HasNames : {S : Type 0} → HashSet Name S → List Name → Type 0
+HasNames s names = (b : Name) → contains bytes_eq s b ≡ list_any (bytes_eq b) names
+
+-- a name whose copy was new to the set is none of those
+pub new_to_set : {S : Type 0} (s : HashSet Name S) (names : List Name) (a copy : Name) (added : Bool) → HasNames s names → copy ≡ a → added ≡ not (contains bytes_eq s copy) → added ≡ true
+    → list_any (bytes_eq a) names ≡ false
+new_to_set s names a copy added has same told new = go (list_any (bytes_eq a) names) (sym new ∙ told ∙ ap (λ n. not (contains bytes_eq s n)) same ∙ ap not (has a))
+  where
+    go : (t : Bool) → true ≡ not t → t ≡ false
+    go true e = e
+    go false e = refl
+
+-- it doesn't decide what is left to look at
+pub decides-next : (names new left rest : List Name) (a : Name) → list_any (bytes_eq a) names ≡ false → new ≡ names ++ a ∷ [] → left ≡ a ∷ rest → first_taken new rest ≡ first_taken names left
+decides-next names new left rest a free is next = rw (is, next, free) refl
+
+-- with the copy the set has it too
+pub has_names-next : {S : Type 0} (s t : HashSet Name S) (names new : List Name) (a copy : Name) → HasNames s names → copy ≡ a → Updates bytes_eq s t copy true → new ≡ names ++ a ∷ [] → HasNames t new
+has_names-next s t names new a copy has same put is b =
+    put.0 b ∙ ap (λ n. cond (bytes_eq n b) true (contains bytes_eq s b)) same ∙ go (bytes_eq a b) refl ∙ sym (ap (list_any (bytes_eq b)) is ∙ list_any-append (bytes_eq b) names (a ∷ []))
+  where
+    or_true : (t : Bool) → true ≡ (t || true)
+    or_true true = refl
+    or_true false = refl
+
+    or_false : (t : Bool) → t ≡ (t || false)
+    or_false true = refl
+    or_false false = refl
+
+    go : (t : Bool) → bytes_eq a b ≡ t → cond t true (contains bytes_eq s b) ≡ (list_any (bytes_eq b) names || (bytes_eq b a || false))
+    go true q = or_true (list_any (bytes_eq b) names) ∙ sym (ap (λ t. list_any (bytes_eq b) names || (t || false)) (ap (λ n. bytes_eq b n) (same_bytes a b q) ∙ same_name b))
+    go false q = has b ∙ or_false (list_any (bytes_eq b) names)
+        ∙ sym (ap (λ t. list_any (bytes_eq b) names || (t || false)) (other_name b a (λ e. true≢false (sym (same_name a) ∙ ap (bytes_eq a) (sym e) ∙ q))))
 
 -- ---- names that are their own annotations
 

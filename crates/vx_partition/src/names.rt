@@ -1,7 +1,5 @@
 // The names of partitions, of which none may be taken twice.
 ghost use Rattle.std.specs.Prelude.{◌≡◌};
-ghost use Rattle.std.specs.List.{list_any};
-ghost use Rattle.std.specs.Str.{bytes_eq};
 ghost use Rattle.vx_types.specs.Answers.{Answers};
 ghost use Rattle.vx_partition.specs.Collecting.{groups_in};
 ghost use Rattle.vx_partition.specs.Partitioned.{free_names};
@@ -10,7 +8,8 @@ ghost use Rattle.vx_recombine.specs.Partitions.{partition_names};
 use crate::PartitionKey;
 use crate::groups::Groups;
 use std::alloc::Global;
-use vx_tree::{FieldName, FieldNames, VortexError, VortexResult};
+use std::collections::HashSet;
+use vx_tree::{FieldNames, VortexError, VortexResult};
 
 // The field name of each group, or the first that an earlier group has.
 pub(crate) fn free_names<A: PartitionKey>(
@@ -20,18 +19,13 @@ pub(crate) fn free_names<A: PartitionKey>(
     ensures { Answers (λ names. names) result (free_names (partition_names A.name (groups_in groups.now))) }
 {
     let mut names = Vec::with_capacity(alloc, groups.len())?;
+    let mut seen = HashSet::with_capacity(alloc, groups.len())?;
     for annotation in groups.keys() {
         let name = annotation.field_name(alloc)?;
-        if is_taken(names.as_slice(), &name) {
+        if !seen.insert(name.clone()?)? {
             return Err(VortexError::PartitionNameTaken(name));
         }
         names.push(name)?;
     }
     FieldNames::new(alloc, names)
-}
-
-fn is_taken(names: &[FieldName], name: &FieldName) -> bool
-    ensures { result ≡ list_any (bytes_eq name.now) names.now }
-{
-    names.iter().any(|other| *name == *other)
 }
