@@ -4,18 +4,17 @@ ghost use Rattle.vx_partition.specs.Keys.{same_bytes};
 ghost use Rattle.vx_tree.specs.Trees.{WellTyped};
 ghost use Rattle.vx_tree.specs.Views.{bound_of};
 
-use super::nodes::{name, truth};
-use crate::{PartitionKey, partition_bound, partition_bound_annotations};
 use std::alloc::Global;
 use std::fmt;
 use std::fmt::{Display, Formatter, Write};
-use std::process::Abort;
 use std::test::Fail;
-use vx_analysis::{Annotation, direct_bound_annotations};
-use vx_tree::{
-    Binary, BoundExpression, FieldName, Operator, ScalarFnRef, ScalarFnVTable, VortexError,
-    VortexResult,
+use vx_rewrite::{
+    Annotation, PartitionKey, direct_bound_annotations, partition_bound,
+    partition_bound_annotations,
 };
+use vx_samples::{i32_type, parsed, prints};
+use vx_tree::Nullability::NonNullable;
+use vx_tree::{BoundExpression, FieldName, ScalarFnRef, VortexError, VortexResult};
 
 /// A key with a text of its own, and the field name that all keys have.
 #[derive(Clone, Debug, PartialEq, Eq, Hash, Drop)]
@@ -56,39 +55,35 @@ fn key_of(alloc: Global, e: &BoundExpression) -> VortexResult<Vec<Key>> {
     let mut keys = Vec::new(alloc);
     if let Some(ScalarFnRef::Literal(_)) = e.as_scalar() {
         let text = format!(in alloc; "{e}")?;
-        keys.push(Key(name(alloc, text.as_str())?))?;
+        keys.push(Key(FieldName::new(alloc, text.as_str())?))?;
     }
     Ok(keys)
 }
 
-/// The And of the two truth values.
-fn both(rt: &impl Abort, alloc: Global, left: bool, right: bool) -> VortexResult<BoundExpression>
+/// The tree of the words over a scope that it doesn't read.
+fn bound(alloc: Global, words: &str) -> Result<BoundExpression, Fail>
     ensures { IfOk result (λ e. WellTyped (bound_of e)) }
 {
-    let children = vec![in alloc; truth(alloc, left)?, truth(alloc, right)?]?;
-    let e = BoundExpression::try_new(alloc, Binary::bind(Operator::And), children)?;
-    assert!(rt; e.is_well_typed(alloc)?);
-    Ok(e)
+    Ok(parsed(alloc, words)?.bind(alloc, &i32_type(NonNullable))?)
 }
 
 #[test]
 fn equal_pieces_are_two(rt: HostRuntime) -> Result<(), Fail> {
     let alloc = rt.alloc();
-    let e = both(&rt, alloc, true, true)?;
+    let e = bound(alloc, "true true and")?;
     let keys = |node: &BoundExpression| key_of(alloc, node);
     let annotations = direct_bound_annotations(alloc, &e, keys)?;
     let whole = partition_bound_annotations(alloc, e, annotations)?;
-    assert_eq!(rt;
-        format!(in alloc; "{whole}")?.as_str(),
-        "root: ($.p.true_0 and $.p.true_1) {p: pack(true_0: true, true_1: true)}"
-    );
-    Ok(())
+    prints(
+        whole,
+        "root: ($.p.true_0 and $.p.true_1) {p: pack(true_0: true, true_1: true)}",
+    )
 }
 
 #[test]
 fn a_name_is_taken_once(rt: HostRuntime) -> Result<(), Fail> {
     let alloc = rt.alloc();
-    let e = both(&rt, alloc, true, false)?;
+    let e = bound(alloc, "true false and")?;
     let split = partition_bound(alloc, e, |node: &BoundExpression| key_of(alloc, node));
     let refusal = split.err().ok_or("not refused")?;
     assert!(rt; matches!(&refusal, VortexError::PartitionNameTaken(_)));

@@ -1,12 +1,10 @@
-// Trees before and after `find_between`.
-mod words;
-
-use crate::find_between;
-use crate::tests::words::{parsed, struct_type};
+// What trees are fused to, row by row.
 use std::alloc::Global;
-use std::process::Abort;
 use std::test::Fail;
-use vx_tree::{DType, Nullability, PType};
+use vx_rewrite::find_between;
+use vx_samples::{i32_type, parsed, reads, struct_of};
+use vx_tree::Nullability::{NonNullable, Nullable};
+use vx_tree::{DType, VortexResult};
 
 // Rows of a tree, each operator behind its operands, and the text of what it is fused to.
 const ROWS: &str = r#"x null >= x 5 <= and;(null <= $.x <= 5i32)
@@ -39,41 +37,49 @@ x 1 > x 5 < and 1 0 case;CASE WHEN (1i32 < $.x < 5i32) THEN 1i32 ELSE 0i32 END
 x 1 > x 5 < and y 1 > y 5 < and and;((1i32 < $.x < 5i32) and (1i32 < $.y < 5i32))
 x 5 < y 1 > or x 1 > x 5 < and and;((($.x < 5i32) or ($.y > 1i32)) and (1i32 < $.x < 5i32))"#;
 
-// Asserts what the tree is fused to, and that a second call changes nothing.
-fn fuses(
-    rt: &impl Abort,
-    alloc: Global,
-    scope: &DType,
-    tree: &str,
-    text: &str,
-) -> Result<(), Fail> {
-    let bound = parsed(alloc, tree)?.bind(alloc, scope)?;
+// `{x=i32, y=i32, z=i32, n=i32?, b=bool, t=utf8, p={x=i32}, q={x=i32}}`.
+fn scope(alloc: Global) -> VortexResult<DType> {
+    let whole = i32_type(NonNullable);
+    let inner = struct_of(alloc, &["x"], vec![in alloc; whole.clone()?]?)?;
+    let types = vec![in alloc;
+        whole.clone()?,
+        whole.clone()?,
+        whole,
+        i32_type(Nullable),
+        DType::Bool(NonNullable),
+        DType::Utf8(NonNullable),
+        inner.clone()?,
+        inner,
+    ]?;
+    struct_of(alloc, &["x", "y", "z", "n", "b", "t", "p", "q"], types)
+}
+
+// Fails unless the tree is fused to that text, and a second call changes nothing.
+fn fuses(alloc: Global, scope: &DType, words: &str, text: &str) -> Result<(), Fail> {
+    let bound = parsed(alloc, words)?.bind(alloc, scope)?;
     let once = find_between(alloc, bound)?;
-    assert_eq!(rt; format!(in alloc; "{once}")?.as_str(), text, "{tree}");
+    let shown = once.clone()?;
     let twice = find_between(alloc, once)?;
-    assert_eq!(rt; format!(in alloc; "{twice}")?.as_str(), text, "{tree}");
-    Ok(())
+    if reads(&shown, text) && twice == shown {
+        return Ok(());
+    }
+    Err(Fail::new(format_args!("{words}: {shown}, then {twice}, and not {text}")))
 }
 
 #[test]
 fn rows_are_fused(rt: HostRuntime) -> Result<(), Fail> {
     let alloc = rt.alloc();
-    let scope = struct_type(&rt, alloc)?;
+    let scope = scope(alloc)?;
     for row in ROWS.lines() {
-        let (tree, text) = row.split_once(';').ok_or("no text")?;
-        fuses(&rt, alloc, &scope, tree, text)?;
+        let (words, text) = row.split_once(';').ok_or("no text")?;
+        fuses(alloc, &scope, words, text)?;
     }
     Ok(())
 }
 
 #[test]
 fn ranges_of_the_scope_stay(rt: HostRuntime) -> Result<(), Fail> {
-    let scope = DType::Primitive(PType::I32, Nullability::NonNullable);
-    fuses(
-        &rt,
-        rt.alloc(),
-        &scope,
-        "$ 1 > $ 5 < and",
-        "(($ > 1i32) and ($ < 5i32))",
-    )
+    let scope = i32_type(NonNullable);
+    let text = "(($ > 1i32) and ($ < 5i32))";
+    fuses(rt.alloc(), &scope, "$ 1 > $ 5 < and", text)
 }
