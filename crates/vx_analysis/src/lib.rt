@@ -16,5 +16,3 @@ pub use direct::direct_bound_annotations;
 pub use fields::free_fields;
 pub use labels::{BoundLabels, label_bound_tree};
 
-#[cfg(test)]
-mod tests;

@@ -12,5 +12,3 @@ pub use laws::{
     fused_stays, fusing_is_unique, merge_shortens, merge_stays_fused, merges_end, merges_keep,
 };
 
-#[cfg(test)]
-mod tests;

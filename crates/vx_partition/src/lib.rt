@@ -15,8 +15,6 @@ mod partitioned;
 mod rebind;
 mod shown;
 mod split;
-#[cfg(test)]
-mod tests;
 
 pub use key::PartitionKey;
 pub use laws::field_names_are_free;

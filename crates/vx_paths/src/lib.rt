@@ -4,7 +4,5 @@
 mod referenced;
 mod request;
 mod selection;
-#[cfg(test)]
-mod tests;
 
 pub use referenced::referenced_field_paths;

@@ -6,8 +6,6 @@ mod nodes;
 mod optimize;
 mod packs;
 mod standard;
-#[cfg(test)]
-mod tests;
 mod zips;
 
 pub use optimize::Optimize;

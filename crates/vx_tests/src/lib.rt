@@ -2,8 +2,6 @@
 #![tactic(auto)]
 
 #[cfg(test)]
-mod build;
-#[cfg(test)]
 mod columns;
 #[cfg(test)]
 mod comparisons;
@@ -31,6 +29,8 @@ mod runs;
 mod shapes;
 #[cfg(test)]
 mod sql;
+#[cfg(test)]
+mod struct_columns;
 #[cfg(test)]
 mod texts;
 #[cfg(test)]

@@ -7,7 +7,6 @@
 // and at neither by a call that takes memory; and says `answered` after the answer.
 pub mod evaluation;
 mod program;
-pub mod reading;
 pub mod trees;
 mod values;
 mod walks;

@@ -52,6 +52,17 @@ vortex.case_when(case_when(pairs=2, else=true))
 └── else: vortex.literal(30i32)
 ";
 
+pub const FUSED: &str = "text: (null <= $.x <= 5i32)
+type: bool?
+result: [false, null]
+tree:
+vortex.between(lower_strict: <=, upper_strict: <=)
+├── array: vortex.get_item(x)
+│   └── input: vortex.root()
+├── lower: vortex.literal(null)
+└── upper: vortex.literal(5i32)
+";
+
 /// Takes so many writes of at most so many bytes, and then fails.
 #[derive(Drop)]
 struct Halting {
@@ -88,10 +99,11 @@ pub fn words_of(alloc: Global, texts: &[&str]) -> Result<Vec<String>, Fail> {
 fn the_words_give_a_page_or_a_message(rt: HostRuntime) -> Result<(), Fail> {
     let alloc = rt.alloc();
     let usage = "usage: vx_show ROW\n";
-    let cases: [(&[&str], &str, &str, u8); 6] = [
+    let cases: [(&[&str], &str, &str, u8); 7] = [
         (&["kleene"], KLEENE, "", 0),
         (&["coalesce"], COALESCE, "", 0),
         (&["cases"], CASES, "", 0),
+        (&["fused"], FUSED, "", 0),
         (&["zz"], "", "unknown row\n", 2),
         (&[], "", usage, 2),
         (&["kleene", "kleene"], "", usage, 2),

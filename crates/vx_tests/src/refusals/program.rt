@@ -1,5 +1,5 @@
 // The program whose memory is refused: the page whole, or not a byte of it.
-use crate::runs::{CASES, COALESCE, KLEENE, words_of};
+use crate::runs::{CASES, COALESCE, FUSED, KLEENE, words_of};
 use std::alloc::Global;
 use std::process::Abort;
 use std::test::Fail;
@@ -28,7 +28,12 @@ fn shows(rt: &(impl Abort + Print), alloc: Global, row: &str, page: &str) -> Res
 #[test]
 fn run_show_of_each_row(rt: HostRuntime) -> Result<(), Fail> {
     let alloc = rt.alloc();
-    for (row, page) in [("kleene", KLEENE), ("coalesce", COALESCE), ("cases", CASES)] {
+    for (row, page) in [
+        ("kleene", KLEENE),
+        ("coalesce", COALESCE),
+        ("cases", CASES),
+        ("fused", FUSED),
+    ] {
         shows(&rt, alloc, row, page)?;
     }
     Ok(())

@@ -1,4 +1,0 @@
-// Worked answers, with memory enough.
-mod annotated;
-mod labelled;
-mod scope;

@@ -1,0 +1,21 @@
+// Tests of analyses, rewriting and queries, as tables: worked rows, and each public call once.
+#![tactic(auto)]
+
+#[cfg(test)]
+mod annotations;
+#[cfg(test)]
+mod fused;
+#[cfg(test)]
+mod generated;
+#[cfg(test)]
+mod labels;
+#[cfg(test)]
+mod optimized;
+#[cfg(test)]
+mod partitions;
+#[cfg(test)]
+mod paths;
+#[cfg(test)]
+mod queries;
+#[cfg(test)]
+mod refusals;

@@ -1,0 +1,91 @@
+// Trees split by keys that all have one field name.
+ghost use Rattle.std.specs.Prelude.{◌≡◌, IfOk, Some, codes, refl};
+ghost use Rattle.vx_partition.specs.Keys.{same_bytes};
+ghost use Rattle.vx_tree.specs.Trees.{WellTyped};
+ghost use Rattle.vx_tree.specs.Views.{bound_of};
+
+use std::alloc::Global;
+use std::fmt;
+use std::fmt::{Display, Formatter, Write};
+use std::test::Fail;
+use vx_rewrite::{
+    Annotation, PartitionKey, direct_bound_annotations, partition_bound,
+    partition_bound_annotations,
+};
+use vx_samples::{i32_type, parsed, prints};
+use vx_tree::Nullability::NonNullable;
+use vx_tree::{BoundExpression, FieldName, ScalarFnRef, VortexError, VortexResult};
+
+/// A key with a text of its own, and the field name that all keys have.
+#[derive(Clone, Debug, PartialEq, Eq, Hash, Drop)]
+struct Key(FieldName);
+
+impl Display for Key {
+    ghost output = { λ key. Some key.0 };
+
+    fn fmt<W: Write>(&self, f: &mut Formatter<W>) -> fmt::Result {
+        self.0.fmt(f)
+    }
+}
+
+impl Annotation for Key {
+    fn copy(&self, _alloc: Global) -> VortexResult<Key> {
+        Ok(Key(self.0.clone()?))
+    }
+}
+
+impl PartitionKey for Key {
+    ghost text = { λ key. key.0 };
+
+    ghost name = { λ key. codes "p" };
+
+    ghost shows = { λ key. refl };
+
+    ghost same_text = { λ a b e. same_bytes a.0 b.0 e };
+
+    ghost same_name = { λ a b e. refl };
+
+    fn field_name(&self, alloc: Global) -> VortexResult<FieldName> {
+        FieldName::new(alloc, "p")
+    }
+}
+
+/// The text of the literal, nothing for another node.
+fn key_of(alloc: Global, e: &BoundExpression) -> VortexResult<Vec<Key>> {
+    let mut keys = Vec::new(alloc);
+    if let Some(ScalarFnRef::Literal(_)) = e.as_scalar() {
+        let text = format!(in alloc; "{e}")?;
+        keys.push(Key(FieldName::new(alloc, text.as_str())?))?;
+    }
+    Ok(keys)
+}
+
+/// The tree of the words over a scope that it doesn't read.
+fn bound(alloc: Global, words: &str) -> Result<BoundExpression, Fail>
+    ensures { IfOk result (λ e. WellTyped (bound_of e)) }
+{
+    Ok(parsed(alloc, words)?.bind(alloc, &i32_type(NonNullable))?)
+}
+
+#[test]
+fn equal_pieces_are_two(rt: HostRuntime) -> Result<(), Fail> {
+    let alloc = rt.alloc();
+    let e = bound(alloc, "true true and")?;
+    let keys = |node: &BoundExpression| key_of(alloc, node);
+    let annotations = direct_bound_annotations(alloc, &e, keys)?;
+    let whole = partition_bound_annotations(alloc, e, annotations)?;
+    prints(
+        whole,
+        "root: ($.p.true_0 and $.p.true_1) {p: pack(true_0: true, true_1: true)}",
+    )
+}
+
+#[test]
+fn a_name_is_taken_once(rt: HostRuntime) -> Result<(), Fail> {
+    let alloc = rt.alloc();
+    let e = bound(alloc, "true false and")?;
+    let split = partition_bound(alloc, e, |node: &BoundExpression| key_of(alloc, node));
+    let refusal = split.err().ok_or("not refused")?;
+    assert!(rt; matches!(&refusal, VortexError::PartitionNameTaken(_)));
+    Ok(())
+}

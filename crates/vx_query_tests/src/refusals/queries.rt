@@ -1,0 +1,86 @@
+// Queries and partitions whose memory is refused.
+use crate::partitions::{CONDITIONS, DIVIDED, TWO_CONDITIONS, divided, rows_of, scope, truth};
+use std::alloc::Global;
+use std::process::Abort;
+use std::test::Fail;
+use vx_query::run_query;
+use vx_rewrite::{BoundPartitionedExpr, Pass, free_fields, partition_bound};
+use vx_samples::{parsed, reads};
+use vx_tree::{BoundExpression, Column, Expression, FieldName, VortexResult};
+
+const ROWS: &str = "[{a: {x: 1i32, y: 7i32}, b: 4i32, c: 0i32}, \
+                    {a: {x: 0i32, y: 7i32}, b: 9i32, c: 0i32}]";
+
+/// Asserts what the query answers, split or not, and that it leaves what is lent as it was.
+fn answers(
+    rt: &(impl Abort + Print),
+    alloc: Global,
+    source: &Expression,
+    batch: &Column,
+    split: bool,
+) -> Result<(), Fail> {
+    let passes = [Pass::FindBetween, Pass::OptimizeRecursive, Pass::Optimize];
+    rt.println("called")?;
+    let answer = run_query(alloc, source, batch, &passes, split);
+    assert!(rt; reads(source, TWO_CONDITIONS) && reads(batch, ROWS));
+    let column = answer?;
+    assert!(rt; reads(&column, "[true, false]"));
+    Ok(rt.println("answered")?)
+}
+
+#[test]
+fn run_query_of_two_conditions(rt: HostRuntime) -> Result<(), Fail> {
+    let alloc = rt.alloc();
+    let source = parsed(alloc, CONDITIONS)?;
+    let batch = rows_of(alloc, &[[1, 7, 4, 0], [0, 7, 9, 0]])?;
+    answers(&rt, alloc, &source, &batch, false)?;
+    answers(&rt, alloc, &source, &batch, true)
+}
+
+#[test]
+fn partition_bound_of_two_conditions(rt: HostRuntime) -> Result<(), Fail> {
+    let alloc = rt.alloc();
+    let scope = scope(alloc)?;
+    let fields = scope.as_struct_fields_opt().ok_or("no struct")?;
+    let bound = parsed(alloc, CONDITIONS)?.bind(alloc, &scope)?;
+    let shared = bound.clone()?;
+    rt.println("called")?;
+    let answer = partition_bound(
+        alloc,
+        bound,
+        |node: &BoundExpression| free_fields(alloc, node, fields),
+    );
+    assert!(rt; reads(&shared, TWO_CONDITIONS));
+    let whole = answer?;
+    assert!(rt; is_divided(&whole, DIVIDED));
+    Ok(rt.println("answered")?)
+}
+
+/// Whether it is of that text, and split by a and b.
+fn is_divided(whole: &BoundPartitionedExpr<FieldName>, text: &str) -> bool {
+    let annotations = whole.partition_annotations.as_slice();
+    reads(whole, text) && matches!(annotations, [a, b] if a.as_str() == "a" && b.as_str() == "b")
+}
+
+/// Two other partitions, of the same type.
+fn others(alloc: Global) -> VortexResult<Vec<BoundExpression>> {
+    let first = truth(alloc, "a_0", true)?;
+    let second = truth(alloc, "b_0", false)?;
+    Ok(vec![in alloc; first, second]?)
+}
+
+const REPLACED: &str = "root: ($.a.a_0 and $.b.b_0) {a: pack(a_0: true), b: pack(b_0: false)}";
+
+#[test]
+fn replace_partitions_of_two(rt: HostRuntime) -> Result<(), Fail> {
+    let alloc = rt.alloc();
+    let mut whole = divided(alloc, &parsed(alloc, CONDITIONS)?, &scope(alloc)?)?;
+    let others = others(alloc)?;
+    assert_eq!(rt; whole.partition_names.len(), whole.partitions.len());
+    rt.println("called")?;
+    let answer = whole.replace_partitions(alloc, others);
+    let text = if answer.is_ok() { REPLACED } else { DIVIDED };
+    assert!(rt; is_divided(&whole, text));
+    answer?;
+    Ok(rt.println("answered")?)
+}

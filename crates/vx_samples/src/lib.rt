@@ -1,0 +1,18 @@
+// What tests are made of: types, batches and trees, and how a test looks at what it was answered.
+#![tactic(auto)]
+
+mod batches;
+mod rows;
+mod texts;
+mod trees;
+mod types;
+mod words;
+mod worked;
+
+pub use batches::{empty_rows, numbers, rows_of_field, rows_of_x};
+pub use rows::{evaluated, faults, gives, shows};
+pub use texts::{prints, reads, refused};
+pub use trees::{binary, col, literal, named, number};
+pub use types::{fields, i32_type, names, scope_of_x, struct_of, with_x};
+pub use words::parsed;
+pub use worked::{repacked, turned, unchosen_overflow};
