@@ -15,4 +15,3 @@ pub use covered::covers;
 pub use direct::direct_bound_annotations;
 pub use fields::free_fields;
 pub use labels::{BoundLabels, label_bound_tree};
-

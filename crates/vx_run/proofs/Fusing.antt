@@ -38,10 +38,10 @@ abbrev to_high : BoundTree
 to_high = node (truth_type false) (binary (compares at_most)) (two_bounds item high)
 
 -- the tree of `kleene`, and of `fused`
-abbrev unfused : BoundTree
+abbrev pub unfused : BoundTree
 unfused = and_node bool_or_null from_low to_high
 
-abbrev range : BoundTree
+abbrev pub range : BoundTree
 range = between_node false false item low high
 
 item_typed : WellTyped item
@@ -53,8 +53,11 @@ low_typed = (refl, refl, tt)
 high_typed : WellTyped high
 high_typed = (refl, refl, tt)
 
-unfused_typed : WellTyped unfused
+pub unfused_typed : WellTyped unfused
 unfused_typed = (refl, tt, ((refl, tt, (item_typed, (low_typed, tt))), ((refl, tt, (item_typed, (high_typed, tt))), tt)))
+
+pub unfused_over : Over unfused kleene.batch.type
+unfused_over = (((refl, tt), (tt, tt)), (((refl, tt), (tt, tt)), tt))
 
 item_fused : Fused item
 item_fused = fused_alone item (tt, tt) refl

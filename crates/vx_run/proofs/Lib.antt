@@ -1,3 +1,4 @@
 pub mod Quiet
 pub mod Fusing
 pub mod Shown
+pub mod Queried

@@ -1,16 +1,19 @@
 // What the row `fused` shows: the bounds of the row `kleene` as one range.
-ghost use Rattle.std.specs.Prelude.{◌≡◌};
+ghost use Rattle.std.specs.Prelude.{◌≡◌, Ok};
 ghost use Rattle.vx_dtype.specs.Answers.{Answers};
 ghost use Rattle.vx_types.specs.Views.{type_of};
+ghost use Rattle.vx_eval.specs.Evaluation.{evaluation};
 ghost use Rattle.vx_tree.specs.Binding.{binding};
+ghost use Rattle.vx_tree.specs.Trees.{BoundTree};
 ghost use Rattle.vx_tree.specs.Views.{bound_of};
 ghost use Rattle.vx_run.specs.Fused.{fused};
 
 use crate::kleene;
 use std::alloc::Global;
-use vx_fusing::find_between;
+use vx_query::run_query;
+use vx_rewrite::{Pass, find_between};
 use vx_tree::BoundExpression;
-use vx_types::{DType, VortexResult};
+use vx_types::{Column, DType, VortexResult};
 
 /// `null <= $.x <= 5`, found in the expression of `kleene` over a scope of that type. Asks the type
 /// of its rows.
@@ -20,4 +23,19 @@ pub fn tree(alloc: Global, scope: &DType) -> VortexResult<BoundExpression>
 {
     let bound = kleene::source(alloc)?.bind(alloc, scope)?;
     find_between(alloc, bound)
+}
+
+/// What the expression of `kleene` gives over the batch, as a query by `find_between`. Asks a batch
+/// of the type of its rows.
+pub fn result(alloc: Global, batch: &Column) -> VortexResult<Column>
+    requires { batch.now.type ≡ fused.batch.type }
+    ensures { (b : BoundTree) → binding fused.source fused.batch.type ≡ Ok b → Answers (λ c. c) result (evaluation b batch.now) }
+{
+    run_query(
+        alloc,
+        &kleene::source(alloc)?,
+        batch,
+        &[Pass::FindBetween],
+        false,
+    )
 }

@@ -17,4 +17,6 @@ pub use laws::{
 };
 pub use row::Row;
 pub use run::run_show;
+pub use vx_query::run_query;
+pub use vx_rewrite::Pass;
 pub use writing::tell;

@@ -1,8 +1,8 @@
 // The pages of the rows.
-ghost use Rattle.std.specs.Prelude.{Ok, string_bytes};
+ghost use Rattle.std.specs.Prelude.{◌≡◌, IfErr, Ok, string_bytes};
 ghost use Rattle.vx_dtype.specs.Answers.{Answers};
-ghost use Rattle.vx_tree.specs.Faults.{HasNoFault};
-ghost use Rattle.vx_tree.specs.Trees.{WellTyped, Over, node_type, unbound};
+ghost use Rattle.vx_dtype.specs.declared.error.VortexError.TheVariants.{OutOfMemory};
+ghost use Rattle.vx_tree.specs.Trees.{BoundTree, node_type, unbound};
 ghost use Rattle.vx_tree.specs.Texts.{sql};
 ghost use Rattle.vx_tree.specs.TreeTexts.{tree_text};
 ghost use Rattle.vx_tree.specs.Views.{tree_of, bound_of};
@@ -10,6 +10,7 @@ ghost use Rattle.vx_types.specs.Views.{type_of};
 ghost use Rattle.vx_types.specs.ValueTexts.{column_text};
 ghost use Rattle.vx_dtype.specs.Texts.{type_text};
 ghost use Rattle.vx_eval.specs.Evaluation.{evaluation};
+ghost use Rattle.vx_query.specs.Queries.{IsBound};
 ghost use Rattle.vx_run.specs.Pages.{page_of, page_text, lines, lines_of};
 ghost use Rattle.vx_run.specs.Quiet.{IsQuiet};
 ghost use Rattle.vx_run.specs.declared.row.Row.TheVariants.{Fused};
@@ -17,7 +18,7 @@ ghost use Rattle.vx_run.specs.declared.row.Row.TheVariants.{Fused};
 use crate::row::Row;
 use crate::{cases, coalesce, fused, kleene};
 use std::alloc::Global;
-use vx_eval::apply_bound;
+use vx_query::run_query;
 use vx_tree::{BoundExpression, Expression};
 use vx_types::{Column, DType, VortexResult};
 
@@ -33,13 +34,14 @@ pub fn page(alloc: Global, row: Row) -> VortexResult<String>
     }
 }
 
-// The page of the row `fused`, whose tree is found bound.
+// The page of the row `fused`: the expression of `kleene` as a query by `find_between`.
 fn fused_page(alloc: Global) -> VortexResult<String>
     ensures { Answers string_bytes result (Ok (page_of Fused)) }
 {
     let batch = kleene::batch(alloc)?;
     let tree = fused::tree(alloc, batch.dtype())?;
-    bound_text(alloc, &tree, &batch)
+    let column = fused::result(alloc, &batch)?;
+    bound_text(alloc, &tree, &batch, &column)
 }
 
 // The lines of an expression over the batch, or what binding refuses. Asks an expression that faults
@@ -49,19 +51,34 @@ fn page_text(alloc: Global, source: &Expression, batch: &Column) -> VortexResult
     ensures { Answers string_bytes result (page_text (tree_of source.now) batch.now) }
 {
     let bound = source.bind(alloc, batch.dtype())?;
-    bound_text(alloc, &bound, batch)
+    let column = result_of(alloc, source, batch)?;
+    bound_text(alloc, &bound, batch, &column)
 }
 
-// The tree's text, its type, its result over the batch, and its tree text. Asks a tree over the
-// batch's type that faults on no batch.
-fn bound_text(alloc: Global, bound: &BoundExpression, batch: &Column) -> VortexResult<String>
-    requires typed { WellTyped (bound_of bound.now) }
-    requires over { Over (bound_of bound.now) batch.now.type }
+// What the expression gives over the batch, as a query without a pass. Asks an expression that faults
+// on no batch.
+fn result_of(alloc: Global, source: &Expression, batch: &Column) -> VortexResult<Column>
+    requires { IsQuiet (tree_of source.now) }
+    ensures memory { (b : BoundTree) → IsBound (tree_of source.now) batch.now.type b → IfErr result (λ e. e ≡ OutOfMemory) }
+    ensures evaluation { (b : BoundTree) → IsBound (tree_of source.now) batch.now.type b → Answers (λ c. c) result (evaluation b batch.now) }
+{
+    run_query(alloc, source, batch, &[], false)
+}
+
+// The tree's text, its type, its result over the batch, and its tree text. Asks a tree that faults
+// on no batch, and what it gives over this one.
+#[tactic(auto, using(crate::proofs::Quiet::never_faults))]
+fn bound_text(
+    alloc: Global,
+    bound: &BoundExpression,
+    batch: &Column,
+    column: &Column,
+) -> VortexResult<String>
     requires quiet { IsQuiet (unbound (bound_of bound.now)) }
+    requires column { evaluation (bound_of bound.now) batch.now ≡ Ok column.now }
     ensures { let tree = bound_of bound.now in Answers string_bytes result (Ok (lines (unbound tree) batch.now (node_type tree))) }
 {
-    let column = result_of(alloc, batch, bound)?;
-    lines(alloc, bound, bound.dtype(), &column)
+    lines(alloc, bound, bound.dtype(), column)
 }
 
 // The lines of a tree, a type and a column.
@@ -71,16 +88,4 @@ fn lines(alloc: Global, bound: &BoundExpression, t: &DType, column: &Column) -> 
 {
     let tree = bound.display_tree();
     Ok(format!(in alloc; "text: {bound}\ntype: {t}\nresult: {column}\ntree:\n{tree}\n")?)
-}
-
-// The expression's value in each row. Asks an expression that faults on no batch.
-#[tactic(auto, using(crate::proofs::Quiet::never_faults))]
-fn result_of(alloc: Global, batch: &Column, b: &BoundExpression) -> VortexResult<Column>
-    requires typed { WellTyped (bound_of b.now) }
-    requires over { Over (bound_of b.now) batch.now.type }
-    requires quiet { IsQuiet (unbound (bound_of b.now)) }
-    ensures meaning { Answers (λ c. c) result (evaluation (bound_of b.now) batch.now) }
-    ensures quiet { HasNoFault (bound_of b.now) batch.now.rows }
-{
-    apply_bound(alloc, batch, b)
 }

@@ -1,0 +1,9 @@
+use Rattle.vx_tree.specs.Views.{tree_of}
+use Rattle.vx_run.proofs.Fusing.{made, unfused}
+use Rattle.vx_run.proofs.Queried.{fused_query}
+use Rattle.vx_run.proofs.fused.result.Goals as goal
+
+pub returns : goal.returns
+returns c =
+    fused_query (tree_of c.in_ok-source.field-0) c.args.batch.now c.run_query.result (made _ c.in_ok-source.ensures) c.requires
+    (c.run_query.ensures.run unfused)
