@@ -1,18 +1,12 @@
 // Annotations, read out of their map.
-use crate::partitions::{CONDITIONS, scope};
+use crate::partitions::{CONDITIONS, scope, tree};
 use std::alloc::Global;
 use std::process::Abort;
 use std::test::Fail;
 use vx_rewrite::{
     BoundAnnotations, descendent_bound_annotations, direct_bound_annotations, free_fields,
 };
-use vx_samples::parsed;
 use vx_tree::{BoundExpression, ExactBoundExpr, FieldName, Literal, VortexError, VortexResult};
-
-/// The words over `{a={x=i32, y=i32}, b=i32, c=i32}`.
-fn tree(alloc: Global, words: &str) -> Result<BoundExpression, Fail> {
-    Ok(parsed(alloc, words)?.bind(alloc, &scope(alloc)?)?)
-}
 
 /// Asserts that the set at the tree has those names, which stand one space apart, and no other.
 fn has(

@@ -1,10 +1,10 @@
 // Labels, read out of their map.
-use crate::partitions::scope;
+use crate::partitions::tree;
 use std::alloc::Global;
 use std::process::Abort;
 use std::test::Fail;
 use vx_rewrite::{BoundLabels, label_bound_tree};
-use vx_samples::{binary, col, literal, parsed};
+use vx_samples::{binary, col, literal};
 use vx_tree::test_harness::struct_dtype;
 use vx_tree::{BoundExpression, ExactBoundExpr, Operator, Scalar, VortexResult};
 
@@ -64,11 +64,6 @@ fn heights_and_sizes(rt: HostRuntime) -> Result<(), Fail> {
     let e = equal(alloc)?;
     has(&rt, &heights(alloc, &e)?, 4, equal(alloc)?, 3)?;
     has(&rt, &sizes(alloc, &e)?, 4, equal(alloc)?, 4)
-}
-
-/// The words over `{a={x=i32, y=i32}, b=i32, c=i32}`.
-fn tree(alloc: Global, words: &str) -> Result<BoundExpression, Fail> {
-    Ok(parsed(alloc, words)?.bind(alloc, &scope(alloc)?)?)
 }
 
 #[test]

@@ -24,6 +24,11 @@ pub fn scope(alloc: Global) -> VortexResult<DType> {
     struct_of(alloc, &["a", "b", "c"], types)
 }
 
+/// The words over that scope.
+pub fn tree(alloc: Global, words: &str) -> Result<BoundExpression, Fail> {
+    Ok(parsed(alloc, words)?.bind(alloc, &scope(alloc)?)?)
+}
+
 /// A row of that scope: x, y, b and c.
 fn row(alloc: Global, [x, y, b, c]: [i128; 4]) -> VortexResult<Value> {
     let a = Value::Struct(vec![in alloc; Value::Int(x), Value::Int(y)]?);
@@ -114,16 +119,31 @@ fn trees_are_split_by_their_fields(rt: HostRuntime) -> Result<(), Fail> {
     Ok(())
 }
 
+/// The words over the scope, split by the fields that their nodes read.
+fn split(alloc: Global, words: &str) -> Result<BoundPartitionedExpr<FieldName>, Fail> {
+    Ok(divided(alloc, &parsed(alloc, words)?, &scope(alloc)?)?)
+}
+
+/// Whether the partition of that field has that text; none where there is no such partition.
+fn found_reads(
+    alloc: Global,
+    whole: &BoundPartitionedExpr<FieldName>,
+    field: &str,
+    text: &str,
+) -> VortexResult<Option<bool>> {
+    let field = FieldName::new(alloc, field)?;
+    match whole.find_partition(alloc, &field)? {
+        Some(found) => Ok(Some(reads(found, text))),
+        None => Ok(None),
+    }
+}
+
 #[test]
 fn partitions_are_found_by_their_field(rt: HostRuntime) -> Result<(), Fail> {
     let alloc = rt.alloc();
-    let source = parsed(alloc, "a b c pack(a,b,c)")?;
-    let whole = divided(alloc, &source, &scope(alloc)?)?;
-    let c = FieldName::new(alloc, "c")?;
-    let found = whole.find_partition(alloc, &c)?.ok_or("none")?;
-    assert!(rt; reads(found, "pack(c_0: $.c)"), "{found}");
-    let unknown = FieldName::new(alloc, "zz")?;
-    assert!(rt; whole.find_partition(alloc, &unknown)?.is_none());
+    let whole = split(alloc, "a b c pack(a,b,c)")?;
+    assert!(rt; found_reads(alloc, &whole, "c", "pack(c_0: $.c)")? == Some(true));
+    assert!(rt; found_reads(alloc, &whole, "zz", "")?.is_none());
     Ok(())
 }
 
@@ -137,7 +157,7 @@ pub fn truth(alloc: Global, name: &str, truth: bool) -> VortexResult<BoundExpres
 /// Asserts that one partition of another type is refused in place of the old ones, and that nothing
 /// changes.
 fn refuses(rt: &impl Abort, alloc: Global, words: &str, texts: (&str, &str)) -> Result<(), Fail> {
-    let mut whole = divided(alloc, &parsed(alloc, words)?, &scope(alloc)?)?;
+    let mut whole = split(alloc, words)?;
     let other = vec![in alloc; truth(alloc, "zz", true)?]?;
     assert_eq!(rt; whole.partition_names.len(), whole.partitions.len());
     let answer = whole.replace_partitions(alloc, other);
@@ -176,7 +196,7 @@ fn joined(
 
 /// The root of the source, split, over its partitions' columns.
 fn rejoined(rt: &impl Abort, alloc: Global, words: &str, batch: &Column) -> Result<Column, Fail> {
-    let whole = divided(alloc, &parsed(alloc, words)?, batch.dtype())?;
+    let whole = split(alloc, words)?;
     let joined = joined(rt, alloc, &whole, batch)?;
     assert!(rt; whole.root.is_well_typed(alloc)?);
     Ok(apply_bound(alloc, &joined, &whole.root)?)
@@ -196,7 +216,7 @@ fn the_root_over_the_partitions_gives_the_rows(rt: HostRuntime) -> Result<(), Fa
 fn a_root_that_is_not_covered_keeps_its_scope(rt: HostRuntime) -> Result<(), Fail> {
     let alloc = rt.alloc();
     let batch = rows_of(alloc, &[[1, 7, 4, 0]])?;
-    let whole = divided(alloc, &parsed(alloc, NOT_COVERED)?, batch.dtype())?;
+    let whole = split(alloc, NOT_COVERED)?;
     let joined = joined(&rt, alloc, &whole, &batch)?;
     assert!(rt; whole.root.is_well_typed(alloc)?);
     refused(

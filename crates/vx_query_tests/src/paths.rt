@@ -48,7 +48,6 @@ const ROWS: [(&str, &str); 8] = [
     ("a a.x pack(a,x)", "$.a"),
     ("$ pack(x) .x", "$"),
     ("b a.x b pack(p,q,r)", "$.b $.a.x"),
-    // the fields that are kept, though an item is another
     ("$ {~b,c}", "$.a"),
 ];
 

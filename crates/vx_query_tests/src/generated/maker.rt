@@ -32,7 +32,7 @@ impl Layer {
         Ok(trees.push(tree)?)
     }
 
-    /// One of the trees of the kind; a field where there is none.
+    /// One of the trees of the kind; the scope where there is none.
     fn tree(&self, kind: Kind, number: usize) -> &str {
         let trees = match kind {
             Kind::Truth => &self.truths,
@@ -41,10 +41,21 @@ impl Layer {
             Kind::Pair => &self.pairs,
         };
         match trees.len() {
-            0 => kind.fields()[0],
+            0 => "$",
             count => trees[number % count].as_str(),
         }
     }
+}
+
+/// The fields of the scope.
+fn fields(alloc: Global) -> Result<Layer, AllocError> {
+    let mut layer = Layer::new(alloc);
+    for kind in KINDS {
+        for field in kind.fields() {
+            layer.push(kind, String::from_str(alloc, field)?)?;
+        }
+    }
+    Ok(layer)
 }
 
 // How many nodes stand above one another.
@@ -67,7 +78,7 @@ impl Maker {
 
     /// The words of a tree.
     pub fn tree(&mut self) -> Result<String, AllocError> {
-        let mut below = Layer::new(self.alloc);
+        let mut below = fields(self.alloc)?;
         for _ in 1..LAYERS {
             below = self.layer_above(&below)?;
         }
