@@ -1,4 +1,5 @@
-// Tests of analyses, rewriting and queries, as tables: worked rows, and each public call once.
+// Tests of analyses, rewriting, queries and the program, as tables: worked rows, and each public
+// call once.
 #![tactic(auto)]
 
 #[cfg(test)]
@@ -16,6 +17,10 @@ mod partitions;
 #[cfg(test)]
 mod paths;
 #[cfg(test)]
+mod pressure;
+#[cfg(test)]
 mod queries;
 #[cfg(test)]
 mod refusals;
+#[cfg(test)]
+mod runs;

@@ -2,5 +2,6 @@
 // ample memory, and `tools/refusals.sh` again with the first, second, .. request refused; how such a
 // test is written is said in docs/REFUSALS.md.
 mod paths;
+mod program;
 mod queries;
 mod rewriting;

@@ -1,7 +1,9 @@
 // Comparisons of values of each comparable kind, with null on each side.
+use crate::build::{binary, col, fields};
+use crate::results::gives;
 use std::alloc::Global;
+use std::process::Abort;
 use std::test::Fail;
-use vx_samples::{binary, col, fields, gives};
 use vx_tree::Nullability::{NonNullable, Nullable};
 use vx_tree::{Column, DType, Operator, PType, Value, VortexResult};
 
@@ -24,6 +26,7 @@ fn five_rows(alloc: Global, low: &Value, high: &Value) -> VortexResult<Vec<Value
 
 /// Asserts what `$.x` compared with `$.y` gives over those rows.
 fn compares(
+    rt: &impl Abort,
     alloc: Global,
     operator: Operator,
     dtype: &DType,
@@ -32,10 +35,10 @@ fn compares(
     answers: &str,
 ) -> Result<(), Fail> {
     let types = vec![in alloc; dtype.clone()?, dtype.clone()?]?;
-    let scope = DType::Struct(fields(alloc, &["x", "y"], types)?, NonNullable);
+    let scope = DType::Struct(fields(rt, alloc, &["x", "y"], types)?, NonNullable);
     let rows = Column::try_new(scope, five_rows(alloc, low, high)?)?;
     let compared = binary(alloc, operator, col(alloc, "x")?, col(alloc, "y")?)?;
-    gives(alloc, compared, &rows, answers)
+    gives(rt, alloc, compared, &rows, answers)
 }
 
 #[test]
@@ -44,6 +47,7 @@ fn each_comparable_kind_has_an_order(rt: HostRuntime) -> Result<(), Fail> {
     let answers = "[null, null, true, false, false]";
     let (no, yes) = (Value::Bool(false), Value::Bool(true));
     compares(
+        &rt,
         alloc,
         Operator::Lt,
         &DType::Bool(Nullable),
@@ -53,7 +57,7 @@ fn each_comparable_kind_has_an_order(rt: HostRuntime) -> Result<(), Fail> {
     )?;
     let (less, more) = (Value::Int(-2), Value::Int(1));
     let i64_type = DType::Primitive(PType::I64, Nullable);
-    compares(alloc, Operator::Lt, &i64_type, &less, &more, answers)
+    compares(&rt, alloc, Operator::Lt, &i64_type, &less, &more, answers)
 }
 
 #[test]
@@ -63,6 +67,7 @@ fn texts_and_bytes_are_ordered_by_their_bytes(rt: HostRuntime) -> Result<(), Fai
     let capital = Value::Utf8(String::from_str(alloc, "Z")?);
     let small = Value::Utf8(String::from_str(alloc, "a")?);
     compares(
+        &rt,
         alloc,
         Operator::Lt,
         &DType::Utf8(Nullable),
@@ -73,6 +78,7 @@ fn texts_and_bytes_are_ordered_by_their_bytes(rt: HostRuntime) -> Result<(), Fai
     let short = Value::Binary(vec![in alloc; 1]?);
     let long = Value::Binary(vec![in alloc; 1, 0]?);
     compares(
+        &rt,
         alloc,
         Operator::Lt,
         &DType::Binary(Nullable),
@@ -95,7 +101,7 @@ fn each_comparison_asks_for_its_orders(rt: HostRuntime) -> Result<(), Fail> {
         (Operator::Lt, "[null, null, true, false, false]"),
         (Operator::Lte, "[null, null, true, false, true]"),
     ] {
-        compares(alloc, operator, &dtype, &low, &high, answers)?;
+        compares(&rt, alloc, operator, &dtype, &low, &high, answers)?;
     }
     Ok(())
 }
@@ -117,8 +123,8 @@ fn truth_values_follow_kleene(rt: HostRuntime) -> Result<(), Fail> {
             "[true, true, true, true, true]",
         ),
     ] {
-        compares(alloc, operator, &dtype, &no, &yes, of_no)?;
-        compares(alloc, operator, &dtype, &yes, &no, of_yes)?;
+        compares(&rt, alloc, operator, &dtype, &no, &yes, of_no)?;
+        compares(&rt, alloc, operator, &dtype, &yes, &no, of_yes)?;
     }
     Ok(())
 }

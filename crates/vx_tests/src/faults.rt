@@ -1,12 +1,11 @@
 // Faults of trees on batches, and the batch that is refused.
+use crate::build::{binary, col, i32_type, literal, named, prints, refused};
+use crate::results::{evaluated, faults, gives, numbers, rows_of_x};
+use crate::rows::number;
 use std::alloc::Global;
 use std::test::Fail;
 use vx_build::{case_when, cast, pack, root};
 use vx_eval::apply_bound;
-use vx_samples::{
-    binary, col, evaluated, faults, gives, i32_type, literal, named, number, numbers, prints,
-    refused, rows_of_x, unchosen_overflow,
-};
 use vx_tree::Nullability::{NonNullable, Nullable};
 use vx_tree::{
     Column, DType, Expression, Operator, PType, Scalar, Value, VortexError, VortexResult,
@@ -22,23 +21,30 @@ fn next(alloc: Global, number: Scalar) -> VortexResult<Expression> {
     binary(alloc, Operator::Add, literal(alloc, number)?, one)
 }
 
+/// `CASE WHEN false THEN (127i8 + 1i8) ELSE 0i8 END`
+fn unchosen_overflow(alloc: Global) -> VortexResult<Expression> {
+    let never = literal(alloc, Scalar::from_bool(false))?;
+    let overflow = next(alloc, Scalar::from_i8(127))?;
+    case_when(alloc, never, overflow, literal(alloc, Scalar::from_i8(0))?)
+}
+
 #[test]
 fn a_branch_that_is_not_chosen_faults(rt: HostRuntime) -> Result<(), Fail> {
     let alloc = rt.alloc();
-    let one = rows_of_x(alloc, &[None])?;
+    let one = rows_of_x(&rt, alloc, &[None])?;
     let overflow = evaluated(alloc, unchosen_overflow(alloc)?, &one);
     assert!(rt; matches!(&overflow, Err(VortexError::AddOverflow { row: 0 })));
-    let none = rows_of_x(alloc, &[])?;
-    gives(alloc, unchosen_overflow(alloc)?, &none, "[]")
+    let none = rows_of_x(&rt, alloc, &[])?;
+    gives(&rt, alloc, unchosen_overflow(alloc)?, &none, "[]")
 }
 
 #[test]
 fn a_sum_with_null_is_null(rt: HostRuntime) -> Result<(), Fail> {
     let alloc = rt.alloc();
-    let one = rows_of_x(alloc, &[None])?;
+    let one = rows_of_x(&rt, alloc, &[None])?;
     let i8_or_null = DType::Primitive(PType::I8, Nullable);
     let null = next(alloc, Scalar::null(i8_or_null))?;
-    gives(alloc, null, &one, "[null]")
+    gives(&rt, alloc, null, &one, "[null]")
 }
 
 /// `cast($.x as i32)`
@@ -49,8 +55,8 @@ fn cast_x(alloc: Global) -> VortexResult<Expression> {
 #[test]
 fn a_cast_refuses_null(rt: HostRuntime) -> Result<(), Fail> {
     let alloc = rt.alloc();
-    let x = rows_of_x(alloc, &[Some(1), None])?;
-    faults(alloc, cast_x(alloc)?, &x, NULL_CAST)
+    let x = rows_of_x(&rt, alloc, &[Some(1), None])?;
+    faults(&rt, alloc, cast_x(alloc)?, &x, NULL_CAST)
 }
 
 /// A struct of two.
@@ -63,13 +69,13 @@ fn both(alloc: Global, first: Expression, second: Expression) -> VortexResult<Ex
 #[test]
 fn the_first_child_faults_first(rt: HostRuntime) -> Result<(), Fail> {
     let alloc = rt.alloc();
-    let x = rows_of_x(alloc, &[Some(1), None])?;
+    let x = rows_of_x(&rt, alloc, &[Some(1), None])?;
     let overflow = next(alloc, Scalar::from_i8(127))?;
     let cast_first = both(alloc, cast_x(alloc)?, overflow)?;
-    faults(alloc, cast_first, &x, NULL_CAST)?;
+    faults(&rt, alloc, cast_first, &x, NULL_CAST)?;
     let overflow = next(alloc, Scalar::from_i8(127))?;
     let sum_first = both(alloc, overflow, cast_x(alloc)?)?;
-    faults(alloc, sum_first, &x, OVERFLOW)
+    faults(&rt, alloc, sum_first, &x, OVERFLOW)
 }
 
 /// The sum of two numbers of the type in one row.
@@ -100,7 +106,7 @@ fn sums_end_at_the_limits_of_their_type(rt: HostRuntime) -> Result<(), Fail> {
     ];
     for (p, limit, step) in limits {
         assert!(rt; sum_of(alloc, p, limit, 0).is_ok(), "{limit}");
-        refused(sum_of(alloc, p, limit, step), OVERFLOW)?;
+        refused(&rt, alloc, sum_of(alloc, p, limit, step), OVERFLOW)?;
     }
     Ok(())
 }
@@ -110,8 +116,8 @@ fn a_batch_of_another_type_is_refused(rt: HostRuntime) -> Result<(), Fail> {
     let alloc = rt.alloc();
     let bound = number(alloc, 1)?.bind(alloc, &i32_type(Nullable))?;
     let rows = Column::try_new(i32_type(NonNullable), numbers(alloc, &[Some(1)])?)?;
-    prints(apply_bound(alloc, &rows, &bound)?, "[1i32]")?;
+    prints(&rt, alloc, apply_bound(alloc, &rows, &bound)?, "[1i32]")?;
     let bound = root().bind(alloc, &i32_type(Nullable))?;
     let answer = apply_bound(alloc, &rows, &bound);
-    refused(answer, "the column isn't of the scope's type")
+    refused(&rt, alloc, answer, "the column isn't of the scope's type")
 }

@@ -2,6 +2,8 @@
 #![tactic(auto)]
 
 #[cfg(test)]
+mod build;
+#[cfg(test)]
 mod columns;
 #[cfg(test)]
 mod comparisons;
@@ -24,13 +26,9 @@ mod results;
 #[cfg(test)]
 mod rows;
 #[cfg(test)]
-mod runs;
-#[cfg(test)]
 mod shapes;
 #[cfg(test)]
 mod sql;
-#[cfg(test)]
-mod struct_columns;
 #[cfg(test)]
 mod texts;
 #[cfg(test)]

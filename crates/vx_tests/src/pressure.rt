@@ -1,17 +1,16 @@
 // The first request of a call refused, since all memory is taken. Each call is made before too, with
 // memory, so that the stack has grown as far as it needs.
 use crate::refusals::evaluation::TWO_CASES;
+use crate::refusals::reading::reads;
 use crate::refusals::trees::RANGE;
+use crate::results::rows_of_x;
 use crate::rows::two_cases;
-use crate::runs::{KLEENE, words_of};
-use crate::trees::range_of_x;
+use crate::trees::{range_of_x, scope_of_x};
 use std::alloc::Global;
 use std::process::Abort;
 use std::test::Fail;
 use vx_eval::apply_bound;
 use vx_pressure::Shortage;
-use vx_run::run_show;
-use vx_samples::{reads, rows_of_x, scope_of_x};
 use vx_tree::{Column, DType, Expression, VortexError, VortexResult};
 
 /// Whether binding, which succeeds, is refused where all memory is taken.
@@ -26,7 +25,7 @@ fn refuses_to_bind(alloc: Global, source: &Expression, scope: &DType) -> VortexR
 fn bind_is_refused(rt: HostRuntime) -> Result<(), Fail> {
     let alloc = rt.alloc();
     let source = range_of_x(alloc)?;
-    let scope = scope_of_x(alloc)?;
+    let scope = scope_of_x(&rt, alloc)?;
     assert!(rt; refuses_to_bind(alloc, &source, &scope)?);
     assert!(rt; reads(&source, RANGE) && reads(&scope, "{x=i32}"));
     Ok(())
@@ -54,26 +53,8 @@ fn refuses_to_evaluate(
 #[test]
 fn apply_bound_is_refused(rt: HostRuntime) -> Result<(), Fail> {
     let alloc = rt.alloc();
-    let x = rows_of_x(alloc, &[Some(1), Some(5), None])?;
+    let x = rows_of_x(&rt, alloc, &[Some(1), Some(5), None])?;
     refuses_to_evaluate(&rt, alloc, two_cases(alloc)?, &x, TWO_CASES)?;
     assert!(rt; reads(&x, "[{x: 1i32}, {x: 5i32}, {x: null}]"));
-    Ok(())
-}
-
-#[test]
-fn run_show_is_refused(rt: HostRuntime) -> Result<(), Fail> {
-    let alloc = rt.alloc();
-    let words = words_of(alloc, &["kleene"])?;
-    let mut out = Vec::with_capacity(alloc, 1024)?;
-    let mut err = Vec::with_capacity(alloc, 64)?;
-    assert_eq!(rt; run_show(alloc, words.as_slice(), &mut out, &mut err), 0);
-    assert_eq!(rt; out.as_slice(), KLEENE.as_bytes());
-    out.clear();
-    let shortage = Shortage::new(alloc)?;
-    let status = run_show(alloc, words.as_slice(), &mut out, &mut err);
-    drop(shortage);
-    assert_eq!(rt; status, 1);
-    assert!(rt; out.is_empty());
-    assert_eq!(rt; err.as_slice(), "out of memory\n".as_bytes());
     Ok(())
 }

@@ -1,4 +1,5 @@
 // Worked rows as runs: texts and types of trees, and refusals of binding.
+use crate::build::{binary, col, fields, i32_type, literal, named, names, prints, refused};
 use std::alloc::Global;
 use std::process::Abort;
 use std::rc::Rc;
@@ -7,15 +8,27 @@ use vx_build::{
     case_when, cast, checked_add, eq, get_item, is_null, like, mask, nested_case_when, not, pack,
     root, select, select_exclude, zip_expr,
 };
-use vx_samples::{
-    binary, col, fields, i32_type, literal, named, names, number, prints, refused, with_x,
-};
 use vx_tree::Nullability::{NonNullable, Nullable};
 use vx_tree::test_harness::struct_dtype;
 use vx_tree::{
     DType, EmptyOptions, Expression, FieldName, Nullability, Operator, PType, Scalar, ScalarFnRef,
     VortexResult,
 };
+
+/// The struct type of the one field `x`.
+pub fn with_x(
+    rt: &impl Abort,
+    alloc: Global,
+    dtype: DType,
+    nullability: Nullability,
+) -> VortexResult<DType> {
+    let types = vec![in alloc; dtype]?;
+    Ok(DType::Struct(fields(rt, alloc, &["x"], types)?, nullability))
+}
+
+pub fn number(alloc: Global, value: i32) -> VortexResult<Expression> {
+    literal(alloc, Scalar::from_i32(value))
+}
 
 /// `pack([(a, 1), (b, 2)], nullability)`, of which `b` is selected twice.
 fn twice_selected(alloc: Global, nullability: Nullability) -> VortexResult<Expression> {
@@ -70,15 +83,15 @@ fn shows(
 ) -> Result<(), Fail> {
     let bound = source.bind(alloc, scope)?;
     assert!(rt; bound.is_well_typed(alloc)?, "of {text}");
-    prints(bound.dtype().clone()?, dtype)?;
-    prints(source, text)?;
-    prints(bound, text)
+    prints(rt, alloc, bound.dtype().clone()?, dtype)?;
+    prints(rt, alloc, source, text)?;
+    prints(rt, alloc, bound, text)
 }
 
 #[test]
 fn rows_of_cases_have_their_text_and_type(rt: HostRuntime) -> Result<(), Fail> {
     let alloc = rt.alloc();
-    let x = with_x(alloc, i32_type(Nullable), NonNullable)?;
+    let x = with_x(&rt, alloc, i32_type(Nullable), NonNullable)?;
     let row_7 = "CASE WHEN vortex.is_null($.x) THEN 0i32 ELSE $.x END";
     shows(&rt, alloc, zero_for_null(alloc)?, &x, row_7, "i32?")?;
     let row_8 = "CASE WHEN ($.x > 0i32) THEN 10i32 WHEN ($.x > 3i32) THEN 20i32 ELSE 30i32 END";
@@ -97,11 +110,11 @@ fn a_row_of_zip_has_its_text_and_type(rt: HostRuntime) -> Result<(), Fail> {
 #[test]
 fn rows_of_selections_have_their_text_and_type(rt: HostRuntime) -> Result<(), Fail> {
     let alloc = rt.alloc();
-    let nullable_x = with_x(alloc, i32_type(NonNullable), Nullable)?;
+    let nullable_x = with_x(&rt, alloc, i32_type(NonNullable), Nullable)?;
     let row_5 = select(alloc, names(alloc, &[])?, root())?;
     shows(&rt, alloc, row_5, &nullable_x, "${}", "{}?")?;
     let types = vec![in alloc; i32_type(NonNullable), DType::Utf8(NonNullable)]?;
-    let x_twice = DType::Struct(fields(alloc, &["x", "x"], types)?, NonNullable);
+    let x_twice = DType::Struct(fields(&rt, alloc, &["x", "x"], types)?, NonNullable);
     let row_22 = select_exclude(alloc, names(alloc, &[])?, root())?;
     shows(&rt, alloc, row_22, &x_twice, "${~ }", "{x=i32, x=i32}")
 }
@@ -109,7 +122,7 @@ fn rows_of_selections_have_their_text_and_type(rt: HostRuntime) -> Result<(), Fa
 #[test]
 fn rows_of_packs_have_their_text_and_type(rt: HostRuntime) -> Result<(), Fail> {
     let alloc = rt.alloc();
-    let x = with_x(alloc, i32_type(NonNullable), NonNullable)?;
+    let x = with_x(&rt, alloc, i32_type(NonNullable), NonNullable)?;
     shows(
         &rt,
         alloc,
@@ -139,21 +152,21 @@ fn rows_of_packs_have_their_text_and_type(rt: HostRuntime) -> Result<(), Fail> {
 }
 
 /// Asserts that the source isn't bound over the type of the harness, and by what refusal.
-fn unbound(alloc: Global, source: Expression, text: &str) -> Result<(), Fail> {
+fn unbound(rt: &impl Abort, alloc: Global, source: Expression, text: &str) -> Result<(), Fail> {
     let scope = struct_dtype(alloc)?;
-    refused(source.bind(alloc, &scope), text)
+    refused(rt, alloc, source.bind(alloc, &scope), text)
 }
 
 #[test]
 fn operators_refuse_other_kinds(rt: HostRuntime) -> Result<(), Fail> {
     let alloc = rt.alloc();
     let equal = eq(alloc, root(), root())?;
-    unbound(alloc, equal, "lists and structs aren't compared")?;
+    unbound(&rt, alloc, equal, "lists and structs aren't compared")?;
     let text = literal(alloc, Scalar::utf8(alloc, "t")?)?;
     let sum = checked_add(alloc, text.clone()?, text)?;
-    unbound(alloc, sum, "a number type is needed")?;
+    unbound(&rt, alloc, sum, "a number type is needed")?;
     let liked = like(alloc, number(alloc, 1)?, number(alloc, 2)?)?;
-    unbound(alloc, liked, "a text type is needed")
+    unbound(&rt, alloc, liked, "a text type is needed")
 }
 
 #[test]
@@ -161,10 +174,10 @@ fn casts_and_masks_refuse_other_types(rt: HostRuntime) -> Result<(), Fail> {
     let alloc = rt.alloc();
     let wide = DType::Primitive(PType::I64, NonNullable);
     let cast = cast(alloc, number(alloc, 1)?, wide)?;
-    unbound(alloc, cast, "types differ in more than nullability")?;
+    unbound(&rt, alloc, cast, "types differ in more than nullability")?;
     let maybe = literal(alloc, Scalar::null(DType::Bool(Nullable)))?;
     let masked = mask(alloc, number(alloc, 1)?, maybe)?;
-    unbound(alloc, masked, "a truth type is needed")
+    unbound(&rt, alloc, masked, "a truth type is needed")
 }
 
 #[test]
@@ -173,7 +186,7 @@ fn cases_refuse_other_conditions(rt: HostRuntime) -> Result<(), Fail> {
     let condition = col(alloc, "a")?;
     let first = number(alloc, 1)?;
     let chosen = case_when(alloc, condition, first, number(alloc, 2)?)?;
-    unbound(alloc, chosen, "a truth type is needed")
+    unbound(&rt, alloc, chosen, "a truth type is needed")
 }
 
 /// A zip of one child, put together by its fields.
@@ -188,9 +201,9 @@ fn zip_of_one(alloc: Global, child: Expression) -> VortexResult<Expression> {
 fn a_child_is_refused_before_its_node(rt: HostRuntime) -> Result<(), Fail> {
     let alloc = rt.alloc();
     let unknown = zip_of_one(alloc, col(alloc, "zz")?)?;
-    unbound(alloc, unknown, "no such field: zz")?;
+    unbound(&rt, alloc, unknown, "no such field: zz")?;
     let lone = zip_of_one(alloc, root())?;
-    unbound(alloc, lone, "3 children are needed, and 1 given")
+    unbound(&rt, alloc, lone, "3 children are needed, and 1 given")
 }
 
 #[test]

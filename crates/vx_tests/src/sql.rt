@@ -1,8 +1,9 @@
 // The SQL text of a node of each function, with each of its options.
+use crate::build::{col, i32_type, names, prints};
 use std::alloc::Global;
+use std::process::Abort;
 use std::rc::Rc;
 use std::test::Fail;
-use vx_samples::{col, i32_type, names, prints};
 use vx_tree::Nullability::{NonNullable, Nullable};
 use vx_tree::StrictComparison::{NonStrict, Strict};
 use vx_tree::{
@@ -26,9 +27,9 @@ fn over_fields(alloc: Global, function: ScalarFnRef) -> VortexResult<Expression>
 }
 
 /// Asserts the SQL text of a node of the function.
-fn writes(alloc: Global, function: ScalarFnRef, sql: &str) -> Result<(), Fail> {
+fn writes(rt: &impl Abort, alloc: Global, function: ScalarFnRef, sql: &str) -> Result<(), Fail> {
     let node = over_fields(alloc, function)?;
-    prints(node, sql)
+    prints(rt, alloc, node, sql)
 }
 
 #[test]
@@ -36,17 +37,17 @@ fn calls_have_their_name(rt: HostRuntime) -> Result<(), Fail> {
     let alloc = rt.alloc();
     let none = EmptyOptions;
     let fill_null = ScalarFnRef::FillNull(none);
-    writes(alloc, fill_null, "vortex.fill_null($, $.a)")?;
-    writes(alloc, ScalarFnRef::Zip(none), "zip($, $.a, $.b)")?;
-    writes(alloc, ScalarFnRef::Not(none), "vortex.not($)")?;
-    writes(alloc, ScalarFnRef::IsNull(none), "vortex.is_null($)")?;
+    writes(&rt, alloc, fill_null, "vortex.fill_null($, $.a)")?;
+    writes(&rt, alloc, ScalarFnRef::Zip(none), "zip($, $.a, $.b)")?;
+    writes(&rt, alloc, ScalarFnRef::Not(none), "vortex.not($)")?;
+    writes(&rt, alloc, ScalarFnRef::IsNull(none), "vortex.is_null($)")?;
     let is_not_null = ScalarFnRef::IsNotNull(none);
-    writes(alloc, is_not_null, "vortex.is_not_null($)")?;
-    writes(alloc, ScalarFnRef::Mask(none), "vortex.mask($, $.a)")?;
+    writes(&rt, alloc, is_not_null, "vortex.is_not_null($)")?;
+    writes(&rt, alloc, ScalarFnRef::Mask(none), "vortex.mask($, $.a)")?;
     let item = ScalarFnRef::GetItem(FieldName::new(alloc, "x")?);
-    writes(alloc, item, "$.x")?;
+    writes(&rt, alloc, item, "$.x")?;
     let cast = ScalarFnRef::Cast(i32_type(Nullable));
-    writes(alloc, cast, "cast($ as i32?)")
+    writes(&rt, alloc, cast, "cast($ as i32?)")
 }
 
 #[test]
@@ -63,7 +64,7 @@ fn operators_stand_between_their_operands(rt: HostRuntime) -> Result<(), Fail> {
         (Operator::Or, "($ or $.a)"),
         (Operator::Add, "($ + $.a)"),
     ] {
-        writes(alloc, ScalarFnRef::Binary(operator), sql)?;
+        writes(&rt, alloc, ScalarFnRef::Binary(operator), sql)?;
     }
     Ok(())
 }
@@ -81,7 +82,7 @@ fn bounds_stand_around_the_middle(rt: HostRuntime) -> Result<(), Fail> {
             lower_strict,
             upper_strict,
         };
-        writes(alloc, ScalarFnRef::Between(options), sql)?;
+        writes(&rt, alloc, ScalarFnRef::Between(options), sql)?;
     }
     Ok(())
 }
@@ -99,7 +100,7 @@ fn like_has_four_words(rt: HostRuntime) -> Result<(), Fail> {
             negated,
             case_insensitive,
         };
-        writes(alloc, ScalarFnRef::Like(options), sql)?;
+        writes(&rt, alloc, ScalarFnRef::Like(options), sql)?;
     }
     Ok(())
 }
@@ -121,7 +122,7 @@ fn cases_list_their_pairs(rt: HostRuntime) -> Result<(), Fail> {
             num_when_then_pairs,
             has_else,
         };
-        writes(alloc, ScalarFnRef::CaseWhen(options), sql)?;
+        writes(&rt, alloc, ScalarFnRef::CaseWhen(options), sql)?;
     }
     Ok(())
 }
@@ -140,8 +141,8 @@ fn structs_name_their_children(rt: HostRuntime) -> Result<(), Fail> {
         (NonNullable, "pack(x: $, y: $.a)", "pack()"),
     ] {
         let two = pack(alloc, &["x", "y"], nullability)?;
-        writes(alloc, two, sql)?;
-        writes(alloc, pack(alloc, &[], nullability)?, empty)?;
+        writes(&rt, alloc, two, sql)?;
+        writes(&rt, alloc, pack(alloc, &[], nullability)?, empty)?;
     }
     Ok(())
 }
@@ -150,37 +151,42 @@ fn structs_name_their_children(rt: HostRuntime) -> Result<(), Fail> {
 fn selections_name_what_they_keep(rt: HostRuntime) -> Result<(), Fail> {
     let alloc = rt.alloc();
     let kept = FieldSelection::Include(names(alloc, &["a", "b"])?);
-    writes(alloc, ScalarFnRef::Select(kept), "${a, b}")?;
+    writes(&rt, alloc, ScalarFnRef::Select(kept), "${a, b}")?;
     let left_out = FieldSelection::Exclude(names(alloc, &["a", "b"])?);
-    writes(alloc, ScalarFnRef::Select(left_out), "${~ a, b}")?;
+    writes(&rt, alloc, ScalarFnRef::Select(left_out), "${~ a, b}")?;
     let nothing = FieldSelection::Include(names(alloc, &[])?);
-    writes(alloc, ScalarFnRef::Select(nothing), "${}")?;
+    writes(&rt, alloc, ScalarFnRef::Select(nothing), "${}")?;
     let all = FieldSelection::Exclude(names(alloc, &[])?);
-    writes(alloc, ScalarFnRef::Select(all), "${~ }")
+    writes(&rt, alloc, ScalarFnRef::Select(all), "${~ }")
 }
 
 /// Asserts the SQL text of a node of the function over `$` alone, whatever its arity.
-fn writes_over_root(alloc: Global, scalar_fn: ScalarFnRef, sql: &str) -> Result<(), Fail> {
+fn writes_over_root(
+    rt: &impl Abort,
+    alloc: Global,
+    scalar_fn: ScalarFnRef,
+    sql: &str,
+) -> Result<(), Fail> {
     let children = Rc::new(alloc, vec![in alloc; Expression::Root]?)?;
     let node = Expression::Scalar {
         scalar_fn,
         children,
     };
-    prints(node, sql)
+    prints(rt, alloc, node, sql)
 }
 
 #[test]
 fn a_wrong_number_of_children_is_a_call(rt: HostRuntime) -> Result<(), Fail> {
     let alloc = rt.alloc();
     let equal = ScalarFnRef::Binary(Operator::Eq);
-    writes_over_root(alloc, equal, "vortex.binary($)")?;
+    writes_over_root(&rt, alloc, equal, "vortex.binary($)")?;
     let zip = ScalarFnRef::Zip(EmptyOptions);
-    writes_over_root(alloc, zip, "vortex.zip($)")?;
+    writes_over_root(&rt, alloc, zip, "vortex.zip($)")?;
     let empty = pack(alloc, &[], NonNullable)?;
-    writes_over_root(alloc, empty, "vortex.pack($)")?;
+    writes_over_root(&rt, alloc, empty, "vortex.pack($)")?;
     let no_pairs = ScalarFnRef::CaseWhen(CaseWhenOptions {
         num_when_then_pairs: 0,
         has_else: false,
     });
-    writes_over_root(alloc, no_pairs, "vortex.case_when($)")
+    writes_over_root(&rt, alloc, no_pairs, "vortex.case_when($)")
 }

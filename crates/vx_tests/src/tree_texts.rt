@@ -1,10 +1,11 @@
 // The tree texts of both trees: lines and bars, and what each function's children are called.
-use crate::rows::zero_for_null;
+use crate::build::{binary, col, fields, i32_type, literal, named, names, prints};
+use crate::rows::{number, zero_for_null};
 use std::alloc::Global;
 use std::fmt::Write;
+use std::process::Abort;
 use std::rc::Rc;
 use std::test::Fail;
-use vx_samples::{binary, col, fields, i32_type, literal, named, names, number, prints};
 use vx_tree::Nullability::{NonNullable, Nullable};
 use vx_tree::StrictComparison::{NonStrict, Strict};
 use vx_tree::{
@@ -14,12 +15,18 @@ use vx_tree::{
 };
 
 /// Asserts the tree text of the source and of what it is bound to, over the struct of that field.
-fn draws(alloc: Global, source: Expression, field: &str, text: &str) -> Result<(), Fail> {
+fn draws(
+    rt: &impl Abort,
+    alloc: Global,
+    source: Expression,
+    field: &str,
+    text: &str,
+) -> Result<(), Fail> {
     let types = vec![in alloc; i32_type(Nullable)]?;
-    let scope = DType::Struct(fields(alloc, &[field], types)?, NonNullable);
+    let scope = DType::Struct(fields(rt, alloc, &[field], types)?, NonNullable);
     let bound = source.bind(alloc, &scope)?;
-    prints(bound.display_tree(), text)?;
-    prints(source.display_tree(), text)
+    prints(rt, alloc, bound.display_tree(), text)?;
+    prints(rt, alloc, source.display_tree(), text)
 }
 
 const SELECT: &str = "vortex.select({fizz, buzz})
@@ -46,7 +53,7 @@ fn fizz_and_buzz(alloc: Global) -> VortexResult<Expression> {
 #[test]
 fn a_last_child_has_no_bar_below(rt: HostRuntime) -> Result<(), Fail> {
     let alloc = rt.alloc();
-    draws(alloc, fizz_and_buzz(alloc)?, "answer", SELECT)
+    draws(&rt, alloc, fizz_and_buzz(alloc)?, "answer", SELECT)
 }
 
 const COALESCE: &str = "vortex.case_when(case_when(pairs=1, else=true))
@@ -60,7 +67,7 @@ const COALESCE: &str = "vortex.case_when(case_when(pairs=1, else=true))
 #[test]
 fn a_middle_child_has_a_bar_below(rt: HostRuntime) -> Result<(), Fail> {
     let alloc = rt.alloc();
-    draws(alloc, zero_for_null(alloc)?, "x", COALESCE)
+    draws(&rt, alloc, zero_for_null(alloc)?, "x", COALESCE)
 }
 
 pub const RANGE: &str = "vortex.binary(and)
@@ -80,7 +87,7 @@ fn bars_stand_below_one_another(rt: HostRuntime) -> Result<(), Fail> {
     let lower = binary(alloc, Operator::Gte, col(alloc, "x")?, null)?;
     let upper = binary(alloc, Operator::Lte, col(alloc, "x")?, number(alloc, 5)?)?;
     let range = binary(alloc, Operator::And, lower, upper)?;
-    draws(alloc, range, "x", RANGE)
+    draws(&rt, alloc, range, "x", RANGE)
 }
 
 #[test]
@@ -88,8 +95,8 @@ fn a_root_is_one_line(rt: HostRuntime) -> Result<(), Fail> {
     let alloc = rt.alloc();
     let source = Expression::Root;
     let bound = BoundExpression::new_root(i32_type(Nullable));
-    prints(DisplayTreeExpr(&source), "vortex.root()")?;
-    prints(DisplayTreeExpr(&bound), "vortex.root()")
+    prints(&rt, alloc, DisplayTreeExpr(&source), "vortex.root()")?;
+    prints(&rt, alloc, DisplayTreeExpr(&bound), "vortex.root()")
 }
 
 #[test]
@@ -100,15 +107,20 @@ fn a_format_is_one_of_two(rt: HostRuntime) -> Result<(), Fail> {
         (DisplayFormat::Tree, "vortex.root()"),
     ] {
         match format {
-            DisplayFormat::Compact => prints(Expression::Root, text)?,
-            DisplayFormat::Tree => prints(Expression::Root.display_tree(), text)?,
+            DisplayFormat::Compact => prints(&rt, alloc, Expression::Root, text)?,
+            DisplayFormat::Tree => prints(&rt, alloc, Expression::Root.display_tree(), text)?,
         }
     }
     Ok(())
 }
 
 /// Asserts the tree text of the function's node over scope roots alone, which are called so.
-fn calls_children(alloc: Global, scalar_fn: ScalarFnRef, names: &[&str]) -> Result<(), Fail> {
+fn calls_children(
+    rt: &impl Abort,
+    alloc: Global,
+    scalar_fn: ScalarFnRef,
+    names: &[&str],
+) -> Result<(), Fail> {
     let mut text = format!(in alloc; "{scalar_fn}")?;
     let mut children = Vec::new(alloc);
     for (index, name) in names.iter().enumerate() {
@@ -120,7 +132,7 @@ fn calls_children(alloc: Global, scalar_fn: ScalarFnRef, names: &[&str]) -> Resu
         scalar_fn,
         children: Rc::new(alloc, children)?,
     };
-    prints(node.display_tree(), text.as_str())
+    prints(rt, alloc, node.display_tree(), text.as_str())
 }
 
 #[test]
@@ -128,16 +140,16 @@ fn only_children_have_names(rt: HostRuntime) -> Result<(), Fail> {
     let alloc = rt.alloc();
     let none = EmptyOptions;
     let item = ScalarFnRef::GetItem(FieldName::new(alloc, "a")?);
-    calls_children(alloc, item, &["input"])?;
-    calls_children(alloc, ScalarFnRef::Not(none), &["input"])?;
-    calls_children(alloc, ScalarFnRef::IsNull(none), &["input"])?;
-    calls_children(alloc, ScalarFnRef::IsNotNull(none), &["input"])?;
+    calls_children(&rt, alloc, item, &["input"])?;
+    calls_children(&rt, alloc, ScalarFnRef::Not(none), &["input"])?;
+    calls_children(&rt, alloc, ScalarFnRef::IsNull(none), &["input"])?;
+    calls_children(&rt, alloc, ScalarFnRef::IsNotNull(none), &["input"])?;
     let cast = ScalarFnRef::Cast(i32_type(Nullable));
-    calls_children(alloc, cast, &["input"])?;
+    calls_children(&rt, alloc, cast, &["input"])?;
     let nothing = ScalarFnRef::Select(FieldSelection::Exclude(names(alloc, &[])?));
-    calls_children(alloc, nothing, &["child"])?;
+    calls_children(&rt, alloc, nothing, &["child"])?;
     let five = ScalarFnRef::Literal(Scalar::from_i32(5));
-    calls_children(alloc, five, &[])
+    calls_children(&rt, alloc, five, &[])
 }
 
 #[test]
@@ -145,22 +157,22 @@ fn several_children_have_names(rt: HostRuntime) -> Result<(), Fail> {
     let alloc = rt.alloc();
     let none = EmptyOptions;
     let zip = ScalarFnRef::Zip(none);
-    calls_children(alloc, zip, &["if_true", "if_false", "mask"])?;
+    calls_children(&rt, alloc, zip, &["if_true", "if_false", "mask"])?;
     let between = ScalarFnRef::Between(BetweenOptions {
         lower_strict: Strict,
         upper_strict: NonStrict,
     });
-    calls_children(alloc, between, &["array", "lower", "upper"])?;
+    calls_children(&rt, alloc, between, &["array", "lower", "upper"])?;
     let fill_null = ScalarFnRef::FillNull(none);
-    calls_children(alloc, fill_null, &["input", "fill_value"])?;
+    calls_children(&rt, alloc, fill_null, &["input", "fill_value"])?;
     let sum = ScalarFnRef::Binary(Operator::Add);
-    calls_children(alloc, sum, &["lhs", "rhs"])?;
+    calls_children(&rt, alloc, sum, &["lhs", "rhs"])?;
     let like = ScalarFnRef::Like(LikeOptions {
         negated: true,
         case_insensitive: true,
     });
-    calls_children(alloc, like, &["child", "pattern"])?;
-    calls_children(alloc, ScalarFnRef::Mask(none), &["input", "mask"])
+    calls_children(&rt, alloc, like, &["child", "pattern"])?;
+    calls_children(&rt, alloc, ScalarFnRef::Mask(none), &["input", "mask"])
 }
 
 /// The shape of a CASE.
@@ -183,12 +195,12 @@ fn pack(alloc: Global, texts: &[&str]) -> VortexResult<ScalarFnRef> {
 fn children_of_any_number_have_names(rt: HostRuntime) -> Result<(), Fail> {
     let alloc = rt.alloc();
     let words = ["when_0", "then_0", "when_1", "then_1", "else"];
-    calls_children(alloc, case(2, true), &words)?;
-    calls_children(alloc, case(2, false), &words[..4])?;
-    calls_children(alloc, case(0, true), &["else"])?;
-    calls_children(alloc, case(0, false), &[])?;
-    calls_children(alloc, pack(alloc, &["b", "a", "b"])?, &["b", "a", "b"])?;
-    calls_children(alloc, pack(alloc, &[])?, &[])
+    calls_children(&rt, alloc, case(2, true), &words)?;
+    calls_children(&rt, alloc, case(2, false), &words[..4])?;
+    calls_children(&rt, alloc, case(0, true), &["else"])?;
+    calls_children(&rt, alloc, case(0, false), &[])?;
+    calls_children(&rt, alloc, pack(alloc, &["b", "a", "b"])?, &["b", "a", "b"])?;
+    calls_children(&rt, alloc, pack(alloc, &[])?, &[])
 }
 
 #[test]
@@ -196,11 +208,11 @@ fn a_wrong_number_of_children_is_counted(rt: HostRuntime) -> Result<(), Fail> {
     let alloc = rt.alloc();
     let none = EmptyOptions;
     let equal = ScalarFnRef::Binary(Operator::Eq);
-    calls_children(alloc, equal.clone()?, &["0"])?;
-    calls_children(alloc, equal, &["0", "1", "2"])?;
-    calls_children(alloc, ScalarFnRef::Not(none), &[])?;
+    calls_children(&rt, alloc, equal.clone()?, &["0"])?;
+    calls_children(&rt, alloc, equal, &["0", "1", "2"])?;
+    calls_children(&rt, alloc, ScalarFnRef::Not(none), &[])?;
     let five = ScalarFnRef::Literal(Scalar::from_i32(5));
-    calls_children(alloc, five, &["0"])?;
-    calls_children(alloc, pack(alloc, &["a"])?, &["0", "1"])?;
-    calls_children(alloc, case(1, true), &["0", "1"])
+    calls_children(&rt, alloc, five, &["0"])?;
+    calls_children(&rt, alloc, pack(alloc, &["a"])?, &["0", "1"])?;
+    calls_children(&rt, alloc, case(1, true), &["0", "1"])
 }

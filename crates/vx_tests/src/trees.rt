@@ -1,8 +1,9 @@
 // Trees: their texts, children, binding and refusals.
+use crate::build::{binary, col, fields, i32_type, literal, names, prints, refused};
 use std::alloc::Global;
+use std::process::Abort;
 use std::test::Fail;
 use vx_build::{root, select_exclude};
-use vx_samples::{binary, col, fields, i32_type, literal, names, prints, refused, scope_of_x};
 use vx_tree::Nullability::{NonNullable, Nullable};
 use vx_tree::test_harness::struct_dtype;
 use vx_tree::{
@@ -19,24 +20,30 @@ pub fn range_of_x(alloc: Global) -> VortexResult<Expression> {
     binary(alloc, Operator::And, lower, upper)
 }
 
+/// `{x=i32}`
+pub fn scope_of_x(rt: &impl Abort, alloc: Global) -> VortexResult<DType> {
+    let types = vec![in alloc; i32_type(NonNullable)]?;
+    Ok(DType::Struct(fields(rt, alloc, &["x"], types)?, NonNullable))
+}
+
 #[test]
 fn a_range_has_its_text_and_type(rt: HostRuntime) -> Result<(), Fail> {
     let alloc = rt.alloc();
     let text = "(($.x >= null) and ($.x <= 5i32))";
     let source = range_of_x(alloc)?;
-    let scope = scope_of_x(alloc)?;
+    let scope = scope_of_x(&rt, alloc)?;
     let bound = source.bind(alloc, &scope)?;
     assert!(rt; *bound.dtype() == DType::Bool(Nullable));
     assert!(rt; bound.is_root_bound_to(&scope));
-    prints(source, text)?;
-    prints(bound, text)
+    prints(&rt, alloc, source, text)?;
+    prints(&rt, alloc, bound, text)
 }
 
 #[test]
 fn a_scope_is_its_type(rt: HostRuntime) -> Result<(), Fail> {
     let alloc = rt.alloc();
     let source = range_of_x(alloc)?;
-    let scope = Scope::new(scope_of_x(alloc)?);
+    let scope = Scope::new(scope_of_x(&rt, alloc)?);
     let bound = source.bind_scope(alloc, &scope)?;
     assert!(rt; bound.is_root_bound_to(scope.root()));
     assert!(rt; !bound.is_root_bound_to(&i32_type(NonNullable)));
@@ -58,7 +65,7 @@ fn a_number_is_no_text(rt: HostRuntime) -> Result<(), Fail> {
         )
     );
     let dtype = compared.return_dtype(alloc, &scope);
-    refused(dtype, "types differ in more than nullability")
+    refused(&rt, alloc, dtype, "types differ in more than nullability")
 }
 
 #[test]
@@ -67,14 +74,14 @@ fn binding_refuses_children_first(rt: HostRuntime) -> Result<(), Fail> {
     let compared = binary(alloc, Operator::Eq, root(), root())?;
     let both = binary(alloc, Operator::And, col(alloc, "zz")?, compared)?;
     let answer = both.bind(alloc, &struct_dtype(alloc)?);
-    refused(answer, "no such field: zz")
+    refused(&rt, alloc, answer, "no such field: zz")
 }
 
 #[test]
 fn the_harness_has_its_type(rt: HostRuntime) -> Result<(), Fail> {
     let alloc = rt.alloc();
     let text = "{a=i32, col1=u16?, col2=u16?, bool1=bool, bool2=bool}";
-    prints(struct_dtype(alloc)?, text)
+    prints(&rt, alloc, struct_dtype(alloc)?, text)
 }
 
 #[test]
@@ -82,7 +89,7 @@ fn an_unknown_name_is_refused_where_it_is_left_out(rt: HostRuntime) -> Result<()
     let alloc = rt.alloc();
     let left_out = select_exclude(alloc, names(alloc, &["zz"])?, root())?;
     let answer = left_out.bind(alloc, &struct_dtype(alloc)?);
-    refused(answer, "no such field: zz")
+    refused(&rt, alloc, answer, "no such field: zz")
 }
 
 #[test]
@@ -94,7 +101,7 @@ fn a_case_needs_a_pair(rt: HostRuntime) -> Result<(), Fail> {
     });
     let empty = Expression::try_new(alloc, no_pairs, Vec::new(alloc))?;
     let answer = empty.bind(alloc, &struct_dtype(alloc)?);
-    refused(answer, "a CASE without a pair")
+    refused(&rt, alloc, answer, "a CASE without a pair")
 }
 
 const ONE_OF_THREE: &str = "3 children are needed, and 1 given";
@@ -104,23 +111,23 @@ fn a_wrong_number_of_children_is_refused(rt: HostRuntime) -> Result<(), Fail> {
     let alloc = rt.alloc();
     let one = vec![in alloc; root()]?;
     let compared = Expression::try_new(alloc, ScalarFnRef::Binary(Operator::Eq), one);
-    refused(compared, "2 children are needed, and 1 given")?;
+    refused(&rt, alloc, compared, "2 children are needed, and 1 given")?;
     let one = vec![in alloc; root()]?;
     let zipped = Expression::try_new(alloc, ScalarFnRef::Zip(EmptyOptions), one);
-    refused(zipped, ONE_OF_THREE)?;
+    refused(&rt, alloc, zipped, ONE_OF_THREE)?;
     let one = vec![in alloc; BoundExpression::new_root(i32_type(Nullable))]?;
     let bound = BoundExpression::try_new(alloc, ScalarFnRef::Zip(EmptyOptions), one);
-    refused(bound, ONE_OF_THREE)
+    refused(&rt, alloc, bound, ONE_OF_THREE)
 }
 
 #[test]
 fn a_node_refuses_a_wrong_number_of_other_children(rt: HostRuntime) -> Result<(), Fail> {
     let alloc = rt.alloc();
     let item = col(alloc, "x")?.with_children(alloc, Vec::new(alloc));
-    refused(item, "1 children are needed, and 0 given")?;
+    refused(&rt, alloc, item, "1 children are needed, and 0 given")?;
     let one = vec![in alloc; root()]?;
     let answer = root().with_children(alloc, one);
-    refused(answer, "1 children given to the scope root")
+    refused(&rt, alloc, answer, "1 children given to the scope root")
 }
 
 #[test]
@@ -151,7 +158,7 @@ fn nodes_show_their_children(rt: HostRuntime) -> Result<(), Fail> {
 #[test]
 fn bound_nodes_show_their_function_and_children(rt: HostRuntime) -> Result<(), Fail> {
     let alloc = rt.alloc();
-    let bound = range_of_x(alloc)?.bind(alloc, &scope_of_x(alloc)?)?;
+    let bound = range_of_x(alloc)?.bind(alloc, &scope_of_x(&rt, alloc)?)?;
     assert!(rt; bound.as_scalar() == Some(&ScalarFnRef::Binary(Operator::And)));
     assert!(rt; bound.as_opt::<Binary>() == Some(&Operator::And));
     assert!(rt; bound.is::<Binary>());
@@ -168,7 +175,7 @@ fn a_tree_contains_the_functions_of_its_nodes(rt: HostRuntime) -> Result<(), Fai
     let source = range_of_x(alloc)?;
     assert!(rt; source.contains::<Binary>() && source.contains::<GetItem>());
     assert!(rt; !source.contains::<IsNull>());
-    let bound = source.bind(alloc, &scope_of_x(alloc)?)?;
+    let bound = source.bind(alloc, &scope_of_x(&rt, alloc)?)?;
     assert!(rt; bound.contains::<Binary>() && bound.contains::<GetItem>());
     assert!(rt; !bound.contains::<IsNull>());
     Ok(())
@@ -185,7 +192,7 @@ fn a_node_takes_other_children(rt: HostRuntime) -> Result<(), Fail> {
     let alloc = rt.alloc();
     let swapped = vec![in alloc; col(alloc, "bool2")?, col(alloc, "bool1")?]?;
     let swapped = either(alloc)?.with_children(alloc, swapped)?;
-    prints(swapped, "($.bool2 or $.bool1)")
+    prints(&rt, alloc, swapped, "($.bool2 or $.bool1)")
 }
 
 #[test]
@@ -216,8 +223,8 @@ fn validity_is_a_truth_value(rt: HostRuntime) -> Result<(), Fail> {
     let alloc = rt.alloc();
     let valid = root().bind(alloc, &i32_type(Nullable))?.validity(alloc)?;
     assert!(rt; *valid.dtype() == DType::Bool(NonNullable));
-    prints(valid, "vortex.is_not_null($)")?;
+    prints(&rt, alloc, valid, "vortex.is_not_null($)")?;
     let null = literal(alloc, Scalar::null(i32_type(Nullable)))?;
     let never = null.bind(alloc, &i32_type(Nullable))?.validity(alloc)?;
-    prints(never, "false")
+    prints(&rt, alloc, never, "false")
 }

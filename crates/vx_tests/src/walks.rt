@@ -3,13 +3,13 @@ mod containers;
 pub mod rewrites;
 mod trees;
 
+use crate::build::{binary, col, literal};
 use crate::walks::trees::{HasField, both, comparisons, deep};
 use std::alloc::Global;
 use std::marker::PhantomData;
 use std::process::Abort;
 use std::test::Fail;
 use vx_build::{case_when, root};
-use vx_samples::{binary, col, literal};
 use vx_tree::test_harness::struct_dtype;
 use vx_tree::{
     Binary, Expression, FieldName, GetItem, Operator, Scalar, VortexError, VortexResult,

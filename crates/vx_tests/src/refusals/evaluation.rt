@@ -1,11 +1,11 @@
 // Evaluation whose memory is refused: the result or the fault, and what was lent.
-use crate::results::{BAD_FILL, fill, like_of, two_numbers};
+use super::reading::reads;
+use crate::results::{BAD_FILL, fill, like_of, rows_of_x, two_numbers};
 use crate::rows::two_cases;
 use std::alloc::Global;
 use std::process::Abort;
 use std::test::Fail;
 use vx_eval::apply_bound;
-use vx_samples::{reads, rows_of_x};
 use vx_tree::{Column, Expression, VortexError, VortexResult};
 
 /// What an evaluation is about, and the column or the fault that it answers.
@@ -47,7 +47,7 @@ pub const TWO_CASES: &str =
 #[test]
 fn apply_bound_of_two_cases(rt: HostRuntime) -> Result<(), Fail> {
     let alloc = rt.alloc();
-    let x = rows_of_x(alloc, &[Some(1), Some(5), None])?;
+    let x = rows_of_x(&rt, alloc, &[Some(1), Some(5), None])?;
     let texts = Texts {
         tree: TWO_CASES,
         batch: "[{x: 1i32}, {x: 5i32}, {x: null}]",
@@ -65,7 +65,7 @@ fn fills(
     batch: &str,
     answer: &str,
 ) -> Result<(), Fail> {
-    let rows = two_numbers(alloc, x, y)?;
+    let rows = two_numbers(rt, alloc, x, y)?;
     let tree = "vortex.fill_null($.x, $.y)";
     let texts = Texts {
         tree,
@@ -95,7 +95,7 @@ fn likes(
     tree: &str,
     answer: &str,
 ) -> Result<(), Fail> {
-    let one = rows_of_x(alloc, &[None])?;
+    let one = rows_of_x(rt, alloc, &[None])?;
     let source = like_of(alloc, words.0, words.1, case_insensitive)?;
     let batch = "[{x: null}]";
     let texts = Texts {

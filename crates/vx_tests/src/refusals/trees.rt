@@ -1,11 +1,12 @@
 // Trees whose memory is refused: bound, collected, drawn.
+use super::reading::reads;
+use crate::build::col;
 use crate::tree_texts::RANGE as RANGE_DRAWN;
-use crate::trees::range_of_x;
+use crate::trees::{range_of_x, scope_of_x};
 use std::alloc::Global;
 use std::fmt::Write;
 use std::test::Fail;
 use vx_build::and_collect;
-use vx_samples::{col, reads, scope_of_x};
 use vx_tree::{Expression, VortexResult};
 
 pub const RANGE: &str = "(($.x >= null) and ($.x <= 5i32))";
@@ -14,7 +15,7 @@ pub const RANGE: &str = "(($.x >= null) and ($.x <= 5i32))";
 fn bind_of_a_range(rt: HostRuntime) -> Result<(), Fail> {
     let alloc = rt.alloc();
     let source = range_of_x(alloc)?;
-    let scope = scope_of_x(alloc)?;
+    let scope = scope_of_x(&rt, alloc)?;
     rt.println("called")?;
     let answer = source.bind(alloc, &scope);
     assert!(rt; reads(&source, RANGE) && reads(&scope, "{x=i32}"));

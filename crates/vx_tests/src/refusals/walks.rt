@@ -1,8 +1,9 @@
 // A rewrite whose memory is refused.
+use super::reading::reads;
+use crate::build::{col, literal};
 use crate::walks::rewrites::numbered;
 use std::test::Fail;
 use vx_build::{and, eq};
-use vx_samples::{col, literal, reads};
 use vx_tree::Scalar;
 
 #[test]

@@ -1,10 +1,10 @@
 // Containers of nodes.
+use crate::build::{col, literal};
 use crate::walks::trees::both;
 use std::alloc::Global;
 use std::process::Abort;
 use std::rc::Rc;
 use std::test::Fail;
-use vx_samples::{col, literal};
 use vx_tree::{Expression, Scalar, VortexError, VortexResult};
 use vx_walk::TraversalOrder::{Continue, Skip, Stop};
 use vx_walk::{NodeContainer, Transformed, apply_ref_elements};

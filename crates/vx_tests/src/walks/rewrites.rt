@@ -5,12 +5,12 @@ ghost use Rattle.vx_tree.specs.Views.{tree_of};
 ghost use Rattle.vx_walk.specs.Heights.{height_of};
 ghost use Rattle.vx_walk.specs.declared.order.TraversalOrder.TheVariants.{Skip};
 
+use crate::build::{binary, col, literal, prints};
 use crate::walks::trees::{both, comparisons, deep};
 use std::alloc::Global;
 use std::marker::PhantomData;
 use std::test::Fail;
 use vx_build::{and, eq, lit, root};
-use vx_samples::{binary, col, literal, prints};
 use vx_tree::test_harness::struct_dtype;
 use vx_tree::{BoundExpression, Expression, GetItem, Operator, Scalar, VortexError, VortexResult};
 use vx_walk::TraversalOrder::{Continue, Stop};
@@ -42,7 +42,12 @@ fn fields_are_numbered(rt: HostRuntime) -> Result<(), Fail> {
     let rewritten = numbered(alloc, tree)?;
     assert!(rt; rewritten.changed);
     assert!(rt; rewritten.order == Continue);
-    prints(rewritten.into_inner(), "((0i32 = 1i32) and 2i32)")?;
+    prints(
+        &rt,
+        alloc,
+        rewritten.into_inner(),
+        "((0i32 = 1i32) and 2i32)",
+    )?;
     let unchanged = numbered(alloc, root())?;
     assert!(rt; !unchanged.changed);
     Ok(())
@@ -79,7 +84,7 @@ fn the_way_up_comes_after_skip(rt: HostRuntime) -> Result<(), Fail> {
     let alloc = rt.alloc();
     let rewritten = col(alloc, "x")?.rewrite(alloc, &mut Rooted)?;
     assert!(rt; rewritten.changed);
-    prints(rewritten.value, "$")
+    prints(&rt, alloc, rewritten.value, "$")
 }
 
 /// Hands every node back as it is.
@@ -156,7 +161,7 @@ fn children_are_mapped_until_stop(rt: HostRuntime) -> Result<(), Fail> {
     })?;
     assert!(rt; mapped.changed);
     assert!(rt; mapped.order == Stop);
-    prints(mapped.value, "($ and $.b)")?;
+    prints(&rt, alloc, mapped.value, "($ and $.b)")?;
     let kept = both(alloc)?.map_children(alloc, |child| Ok(Transformed::no(child)))?;
     assert!(rt; !kept.changed);
     assert!(rt; kept.value == both(alloc)?);
@@ -171,7 +176,7 @@ fn a_bound_node_is_typed_anew(rt: HostRuntime) -> Result<(), Fail> {
         let value = other.clone()?;
         Ok(Transformed::yes(value))
     })?;
-    prints(mapped.value, "($.bool1 = $.bool1)")?;
+    prints(&rt, alloc, mapped.value, "($.bool1 = $.bool1)")?;
     let mut first = true;
     let refused = bound_equality(alloc)?.map_children(alloc, |child| {
         if first {

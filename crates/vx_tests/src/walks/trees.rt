@@ -1,7 +1,7 @@
 // The trees that are walked.
+use crate::build::col;
 use std::alloc::Global;
 use vx_build::{and, eq, not, not_eq};
-use vx_samples::col;
 use vx_tree::{BoundExpression, Expression, FieldName, GetItem, VortexResult};
 
 /// A node that may be a field.
