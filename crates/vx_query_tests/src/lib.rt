@@ -24,3 +24,5 @@ mod queries;
 mod refusals;
 #[cfg(test)]
 mod runs;
+#[cfg(test)]
+mod struct_columns;
