@@ -1,4 +1,4 @@
--- How a query ends.
+-- Why a query ends so.
 use Rattle.std.proofs.Common.{◌≡◌, ◌⊎◌, Bool, List, Result, Ok, Err, refl, sym, ap, subst, ◌∙◌, inl, inr}
 use Rattle.vx_dtype.specs.declared.error.VortexError.{VortexError}
 use Rattle.vx_dtype.specs.declared.error.VortexError.TheVariants.{OutOfMemory}
@@ -12,15 +12,9 @@ use Rattle.vx_tree.specs.Trees.{Tree, BoundTree, typed, node_type}
 use Rattle.vx_tree.proofs.Meant.{typed-unbound}
 use Rattle.vx_tree.proofs.Unique.{binding-unbound}
 use Rattle.vx_rewrite.specs.declared.passes.Pass.{Pass}
-use Rattle.vx_query.specs.Queries.{IsBound, IsMeantBy, IsRefusedWith, FaultsAlone, RunsPassed, not_passed}
+use Rattle.vx_query.specs.Promises.{Promised}
+use Rattle.vx_query.specs.Queries.{IsBound, IsMeantBy, RunsPassed, not_passed}
 use Rattle.vx_query.proofs.Running.{passed_means, passed_faults}
-
--- what a query promises of its answer
-pub record Ends (e : Tree) (c : Batch) (passes : List Pass) (split : Bool) (r : Result Batch VortexError) : Type 0 where
-  pub refusal : (refusal : VortexError) → typed e c.type ≡ Err refusal → IsRefusedWith refusal r
-  pub meaning : (b : BoundTree) → IsBound e c.type b → HasNoFault b c.rows → IsMeantBy e c r
-  pub faults : (t : LogicalType) → typed e c.type ≡ Ok t → FaultsAlone r
-  pub run : (b : BoundTree) → IsBound e c.type b → RunsPassed passes split b c r
 
 -- a bound source has a type
 typed_source : (e : Tree) (s : LogicalType) (b : BoundTree) → IsBound e s b → typed e s ≡ Ok (node_type b)
@@ -41,11 +35,11 @@ same_refusal x y given a b = cc
 
 module _ (e : Tree) (c : Batch) (passes : List Pass) (split : Bool) where
   -- for want of memory
-  pub memory_ends : Ends e c passes split (Err OutOfMemory)
+  pub memory_ends : Promised e c passes split (Err OutOfMemory)
   memory_ends = record { refusal = λ y t. inl refl; meaning = λ b is quiet. refl; faults = λ t typed. inl refl; run = λ b is. not_passed refl }
 
   -- with a refusal of typing
-  pub refusal_ends : (x : VortexError) → (x ≡ OutOfMemory) ⊎ (typed e c.type ≡ Err x) → Ends e c passes split (Err x)
+  pub refusal_ends : (x : VortexError) → (x ≡ OutOfMemory) ⊎ (typed e c.type ≡ Err x) → Promised e c passes split (Err x)
   refusal_ends x (inl m) = rw m memory_ends
   refusal_ends x (inr refused) = record {
     refusal = λ y t. inr (same_refusal x y (typed e c.type) refused t);
@@ -55,7 +49,7 @@ module _ (e : Tree) (c : Batch) (passes : List Pass) (split : Bool) where
   }
 
   -- evaluated
-  pub evaluation_ends : (b : BoundTree) (r : Result Batch VortexError) → IsBound e c.type b → IsBatch c.type c.rows → RunsPassed passes split b c r → Ends e c passes split r
+  pub evaluation_ends : (b : BoundTree) (r : Result Batch VortexError) → IsBound e c.type b → IsBatch c.type c.rows → RunsPassed passes split b c r → Promised e c passes split r
   evaluation_ends b r is fit runs = record {
     refusal = λ y t. not_both (node_type b) y (typed e c.type) (typed_source e c.type b is) t;
     meaning = λ u also quiet.

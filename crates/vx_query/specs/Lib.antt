@@ -1,3 +1,4 @@
 pub mod Refusals
 pub mod Splits
 pub mod Queries
+pub mod Promises
