@@ -1,11 +1,11 @@
 // What collects give of none to nine items, and of a thousand.
-use crate::tests::scope::{bound_field, field};
+use crate::tests::nodes::{answers, items, seen};
+use crate::tests::scope::Tree;
+use crate::tests::texts::prints;
 use crate::{and_collect, bound, or_collect};
 use std::alloc::Global;
-use std::fmt::Display;
 use std::process::Abort;
-use std::test::Fail;
-use vx_tree::{Binary, BoundExpression, Expression, VortexError, VortexResult};
+use vx_tree::{Binary, Expression, VortexResult};
 
 // Rows of fields, and the texts of what they are collected to by And and by Or.
 const ROWS: &str = r";none;none
@@ -19,65 +19,51 @@ a b c d e a b;((($.a and $.b) and ($.c and $.d)) and (($.e and $.a) and $.b));((
 a b c d e a b c;((($.a and $.b) and ($.c and $.d)) and (($.e and $.a) and ($.b and $.c)));((($.a or $.b) or ($.c or $.d)) or (($.e or $.a) or ($.b or $.c)))
 a b c d e a b c d;(((($.a and $.b) and ($.c and $.d)) and (($.e and $.a) and ($.b and $.c))) and $.d);(((($.a or $.b) or ($.c or $.d)) or (($.e or $.a) or ($.b or $.c))) or $.d)";
 
-/// The fields of the scope by these names.
-fn items(alloc: Global, texts: &str) -> VortexResult<Vec<Expression>> {
-    let mut items = Vec::new(alloc);
-    for text in texts.split_whitespace() {
-        items.push(field(alloc, text)?)?;
-    }
-    Ok(items)
-}
-
-/// The same, bound.
-fn bound_items(rt: &impl Abort, alloc: Global, texts: &str) -> VortexResult<Vec<BoundExpression>> {
-    let mut items = Vec::new(alloc);
-    for text in texts.split_whitespace() {
-        items.push(bound_field(rt, alloc, text)?)?;
-    }
-    Ok(items)
-}
-
-/// Asserts the text of what was collected, `none` for None.
-fn collects<T: Display + Drop>(
+/// Asserts that the call collects the fields to what prints as the text, `none` for None.
+fn collects<T: Tree, F: FnOnce(Global, Vec<T>) -> VortexResult<Option<T>>>(
     rt: &impl Abort,
     alloc: Global,
-    collected: Option<T>,
+    call: F,
+    texts: &str,
     text: &str,
-) -> Result<(), Fail> {
-    let shown = match collected {
-        Some(joined) => format!(in alloc; "{joined}")?,
-        None => String::from_str(alloc, "none")?,
-    };
-    assert_eq!(rt; shown.as_str(), text);
-    Ok(())
+)
+    requires { F.IsAlwaysCallable call }
+{
+    match call(alloc, items(rt, alloc, texts)).expect(rt, "memory") {
+        Some(joined) => prints(rt, &joined, text),
+        None => prints(rt, &"none", text),
+    }
+}
+
+/// Asserts what the call answers over fields, at least one.
+fn some<T: Tree, F: FnOnce(Global, Vec<T>) -> VortexResult<Option<T>>>(
+    rt: &impl Abort,
+    alloc: Global,
+    call: F,
+    texts: &str,
+    text: &str,
+)
+    requires { F.IsAlwaysCallable call }
+{
+    let collected = call(alloc, items(rt, alloc, texts));
+    answers(
+        rt,
+        collected.map(|joined| joined.expect(rt, "a tree")),
+        text,
+    );
 }
 
 #[test]
-fn items_are_paired_in_rounds(rt: HostRuntime) -> Result<(), Fail> {
+fn items_are_paired_in_rounds(rt: HostRuntime) {
     let alloc = rt.alloc();
     for row in ROWS.lines() {
-        let (texts, answers) = row.split_once(';').ok_or("no answer")?;
-        let (ands, ors) = answers.split_once(';').ok_or("no answer by Or")?;
-        let joined = and_collect(alloc, items(alloc, texts)?)?;
-        collects(&rt, alloc, joined, ands)?;
-        let joined = or_collect(alloc, items(alloc, texts)?)?;
-        collects(&rt, alloc, joined, ors)?;
+        let (texts, joined) = row.split_once(';').expect(&rt, "what is joined");
+        let (ands, ors) = joined.split_once(';').expect(&rt, "what Or joins");
+        collects(&rt, alloc, and_collect, texts, ands);
+        collects(&rt, alloc, or_collect, texts, ors);
+        collects(&rt, alloc, bound::and_collect, texts, ands);
+        collects(&rt, alloc, bound::or_collect, texts, ors);
     }
-    Ok(())
-}
-
-#[test]
-fn bound_items_are_paired_in_rounds(rt: HostRuntime) -> Result<(), Fail> {
-    let alloc = rt.alloc();
-    for row in ROWS.lines() {
-        let (texts, answers) = row.split_once(';').ok_or("no answer")?;
-        let (ands, ors) = answers.split_once(';').ok_or("no answer by Or")?;
-        let joined = bound::and_collect(alloc, bound_items(&rt, alloc, texts)?)?;
-        collects(&rt, alloc, joined, ands)?;
-        let joined = bound::or_collect(alloc, bound_items(&rt, alloc, texts)?)?;
-        collects(&rt, alloc, joined, ors)?;
-    }
-    Ok(())
 }
 
 /// How many operators stand above the first item.
@@ -96,35 +82,23 @@ fn depth_of_first(joined: &Expression) -> usize {
 }
 
 #[test]
-fn a_thousand_items_are_ten_deep(rt: HostRuntime) -> Result<(), Fail> {
+fn a_thousand_items_are_ten_deep(rt: HostRuntime) {
     let alloc = rt.alloc();
-    let mut items = Vec::new(alloc);
-    for _ in 0..1000 {
-        items.push(field(alloc, "a")?)?;
-    }
-    let joined = and_collect(alloc, items)?.ok_or("none")?;
-    assert_eq!(rt; depth_of_first(&joined), 10);
-    Ok(())
+    let texts = "a ".repeat(alloc, 1000).expect(&rt, "memory");
+    let thousand = items(&rt, alloc, &texts);
+    assert!(rt; thousand.len() == 1000);
+    let joined = and_collect(alloc, thousand).expect(&rt, "memory");
+    let joined = joined.expect(&rt, "a tree");
+    assert!(rt; seen(joined, depth_of_first) == 10);
 }
 
 #[test]
-fn bound_collects_are_truths(rt: HostRuntime) -> Result<(), Fail> {
+fn bound_collects_are_truths(rt: HostRuntime) {
     let alloc = rt.alloc();
-    let truths = bound_items(&rt, alloc, "a b c")?;
-    let joined = bound::or_collect(alloc, truths)?.ok_or("none")?;
-    assert_eq!(rt; format!(in alloc; "{}", joined.dtype())?.as_str(), "bool?");
-    let number = bound_items(&rt, alloc, "i")?;
-    let alone = bound::and_collect(alloc, number)?.ok_or("none")?;
-    assert_eq!(rt; format!(in alloc; "{}", alone.dtype())?.as_str(), "i32");
-    Ok(())
-}
-
-#[test]
-fn bound_collects_refuse_other_types(rt: HostRuntime) -> Result<(), Fail> {
-    let alloc = rt.alloc();
-    let last = bound_items(&rt, alloc, "a b i")?;
-    assert!(rt; matches!(bound::and_collect(alloc, last), Err(VortexError::NotBool)));
-    let first = bound_items(&rt, alloc, "s a")?;
-    assert!(rt; matches!(bound::or_collect(alloc, first), Err(VortexError::NotBool)));
-    Ok(())
+    let truth = "(($.a or $.b) or $.c): bool?";
+    some(&rt, alloc, bound::or_collect, "a b c", truth);
+    some(&rt, alloc, bound::and_collect, "i", "$.i: i32");
+    let not_bool = "a truth type is needed";
+    some(&rt, alloc, bound::and_collect, "a b i", not_bool);
+    some(&rt, alloc, bound::or_collect, "s a", not_bool);
 }

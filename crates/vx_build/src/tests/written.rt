@@ -1,5 +1,6 @@
 // The SQL text of what each constructor gives.
-use crate::tests::scope::{field, name, names, prints};
+use crate::tests::nodes::{answers, elements, item, one, pair, seen, selection, three, two};
+use crate::tests::scope::{Tree, name, names};
 use crate::{
     and, between, binary, case_when, case_when_no_else, cast, checked_add, col, eq, fill_null,
     get_item, gt, gt_eq, ilike, is_not_null, is_null, is_root, like, lit, lt, lt_eq, mask,
@@ -8,135 +9,66 @@ use crate::{
 };
 use std::alloc::Global;
 use std::process::Abort;
-use std::test::Fail;
 use vx_tree::Nullability::{NonNullable, Nullable};
 use vx_tree::StrictComparison::{NonStrict, Strict};
 use vx_tree::{
-    BetweenOptions, DType, Expression, Nullability, Operator, PType, Scalar, StrictComparison,
-    VortexResult,
+    BetweenOptions, DType, Expression, Operator, PType, Scalar, StrictComparison, VortexResult,
 };
 
-/// Asserts the text of what the call gives over `$.a`.
-fn over_one<F: FnOnce(Global, Expression) -> VortexResult<Expression>>(
-    rt: &impl Abort,
-    alloc: Global,
-    call: F,
-    sql: &str,
-) -> Result<(), Fail>
-    requires { F.IsAlwaysCallable call }
-{
-    let child = field(alloc, "a")?;
-    let node = call(alloc, child)?;
-    prints(rt, alloc, node, sql)
-}
-
-/// Asserts the text of what the call gives over `$.a` and `$.b`.
-fn over_two<F: FnOnce(Global, Expression, Expression) -> VortexResult<Expression>>(
-    rt: &impl Abort,
-    alloc: Global,
-    call: F,
-    sql: &str,
-) -> Result<(), Fail>
-    requires { F.IsAlwaysCallable call }
-{
-    let first = field(alloc, "a")?;
-    let second = field(alloc, "b")?;
-    let node = call(alloc, first, second)?;
-    prints(rt, alloc, node, sql)
-}
-
-/// Asserts the text of what the call gives over `$.a`, `$.b` and `$.c`.
-fn over_three<F: FnOnce(Global, Expression, Expression, Expression) -> VortexResult<Expression>>(
-    rt: &impl Abort,
-    alloc: Global,
-    call: F,
-    sql: &str,
-) -> Result<(), Fail>
-    requires { F.IsAlwaysCallable call }
-{
-    let first = field(alloc, "a")?;
-    let second = field(alloc, "b")?;
-    let third = field(alloc, "c")?;
-    let node = call(alloc, first, second, third)?;
-    prints(rt, alloc, node, sql)
+#[test]
+fn operators_stand_between_their_operands(rt: HostRuntime) {
+    let alloc = rt.alloc();
+    two(&rt, alloc, eq, "a b => ($.a = $.b)");
+    two(&rt, alloc, not_eq, "a b => ($.a != $.b)");
+    two(&rt, alloc, gt_eq, "a b => ($.a >= $.b)");
+    two(&rt, alloc, gt, "a b => ($.a > $.b)");
+    two(&rt, alloc, lt_eq, "a b => ($.a <= $.b)");
+    two(&rt, alloc, lt, "a b => ($.a < $.b)");
+    two(&rt, alloc, or, "a b => ($.a or $.b)");
+    two(&rt, alloc, and, "a b => ($.a and $.b)");
+    two(&rt, alloc, checked_add, "a b => ($.a + $.b)");
+    one(&rt, alloc, not, "a => vortex.not($.a)");
+    let (lhs, rhs) = pair(&rt, alloc, "a b");
+    answers(&rt, binary(alloc, Operator::Gt, lhs, rhs), "($.a > $.b)");
 }
 
 #[test]
-fn comparisons_stand_between_their_operands(rt: HostRuntime) -> Result<(), Fail> {
+fn patterns_and_nulls_have_their_calls(rt: HostRuntime) {
     let alloc = rt.alloc();
-    over_two(&rt, alloc, eq, "($.a = $.b)")?;
-    over_two(&rt, alloc, not_eq, "($.a != $.b)")?;
-    over_two(&rt, alloc, gt_eq, "($.a >= $.b)")?;
-    over_two(&rt, alloc, gt, "($.a > $.b)")?;
-    over_two(&rt, alloc, lt_eq, "($.a <= $.b)")?;
-    over_two(&rt, alloc, lt, "($.a < $.b)")
+    two(&rt, alloc, like, "a b => ($.a like $.b)");
+    two(&rt, alloc, ilike, "a b => ($.a ilike $.b)");
+    two(&rt, alloc, not_like, "a b => ($.a not like $.b)");
+    two(&rt, alloc, not_ilike, "a b => ($.a not ilike $.b)");
+    one(&rt, alloc, is_null, "a => vortex.is_null($.a)");
+    one(&rt, alloc, is_not_null, "a => vortex.is_not_null($.a)");
+    two(&rt, alloc, fill_null, "a b => vortex.fill_null($.a, $.b)");
+    two(&rt, alloc, mask, "a b => vortex.mask($.a, $.b)");
 }
 
 #[test]
-fn logic_and_sums_stand_between_their_operands(rt: HostRuntime) -> Result<(), Fail> {
+fn choices_list_their_pairs(rt: HostRuntime) {
     let alloc = rt.alloc();
-    over_two(&rt, alloc, or, "($.a or $.b)")?;
-    over_two(&rt, alloc, and, "($.a and $.b)")?;
-    over_two(&rt, alloc, checked_add, "($.a + $.b)")?;
-    over_one(&rt, alloc, not, "vortex.not($.a)")?;
-    let above = binary(alloc, Operator::Gt, field(alloc, "a")?, field(alloc, "b")?)?;
-    prints(&rt, alloc, above, "($.a > $.b)")
-}
-
-#[test]
-fn patterns_stand_after_their_texts(rt: HostRuntime) -> Result<(), Fail> {
-    let alloc = rt.alloc();
-    over_two(&rt, alloc, like, "($.a like $.b)")?;
-    over_two(&rt, alloc, ilike, "($.a ilike $.b)")?;
-    over_two(&rt, alloc, not_like, "($.a not like $.b)")?;
-    over_two(&rt, alloc, not_ilike, "($.a not ilike $.b)")
-}
-
-#[test]
-fn null_has_its_calls(rt: HostRuntime) -> Result<(), Fail> {
-    let alloc = rt.alloc();
-    over_one(&rt, alloc, is_null, "vortex.is_null($.a)")?;
-    over_one(&rt, alloc, is_not_null, "vortex.is_not_null($.a)")?;
-    over_two(&rt, alloc, fill_null, "vortex.fill_null($.a, $.b)")?;
-    over_two(&rt, alloc, mask, "vortex.mask($.a, $.b)")
-}
-
-#[test]
-fn choices_have_one_pair(rt: HostRuntime) -> Result<(), Fail> {
-    let alloc = rt.alloc();
-    let with_else = "CASE WHEN $.a THEN $.b ELSE $.c END";
-    over_three(&rt, alloc, case_when, with_else)?;
-    over_two(&rt, alloc, case_when_no_else, "CASE WHEN $.a THEN $.b END")?;
-    over_three(&rt, alloc, zip_expr, "zip($.b, $.c, $.a)")
-}
-
-/// A condition and the value beside it.
-fn pair(alloc: Global, condition: &str, value: &str) -> VortexResult<(Expression, Expression)> {
-    let condition = field(alloc, condition)?;
-    Ok((condition, field(alloc, value)?))
-}
-
-#[test]
-fn nested_choices_list_their_pairs(rt: HostRuntime) -> Result<(), Fail> {
-    let alloc = rt.alloc();
-    let first = pair(alloc, "a", "b")?;
-    let second = pair(alloc, "c", "d")?;
-    let pairs = vec![in alloc; first, second]?;
-    let chosen = nested_case_when(alloc, pairs, Some(field(alloc, "e")?))?;
+    let with_else = "a b c => CASE WHEN $.a THEN $.b ELSE $.c END";
+    three(&rt, alloc, case_when, with_else);
+    let without_else = "a b => CASE WHEN $.a THEN $.b END";
+    two(&rt, alloc, case_when_no_else, without_else);
+    three(&rt, alloc, zip_expr, "a b c => zip($.b, $.c, $.a)");
+    let first = pair(&rt, alloc, "a b");
+    let alone = vec![in alloc; first].expect(&rt, "memory");
+    let chosen = nested_case_when(alloc, alone, None);
+    answers(&rt, chosen, "CASE WHEN $.a THEN $.b END");
+    let first = pair(&rt, alloc, "a b");
+    let second = pair(&rt, alloc, "c d");
+    let both = vec![in alloc; first, second].expect(&rt, "memory");
+    let otherwise = Expression::field(&rt, alloc, "e");
+    let chosen = nested_case_when(alloc, both, Some(otherwise));
     let text = "CASE WHEN $.a THEN $.b WHEN $.c THEN $.d ELSE $.e END";
-    prints(&rt, alloc, chosen, text)
-}
-
-#[test]
-fn nested_choices_may_have_no_else(rt: HostRuntime) -> Result<(), Fail> {
-    let alloc = rt.alloc();
-    let alone = vec![in alloc; pair(alloc, "a", "b")?]?;
-    let chosen = nested_case_when(alloc, alone, None)?;
-    prints(&rt, alloc, chosen, "CASE WHEN $.a THEN $.b END")
+    answers(&rt, chosen, text);
 }
 
 /// `$.a` between `$.b` and `$.c`.
 fn bounded(
+    rt: &impl Abort,
     alloc: Global,
     lower_strict: StrictComparison,
     upper_strict: StrictComparison,
@@ -145,64 +77,48 @@ fn bounded(
         lower_strict,
         upper_strict,
     };
-    let lower = field(alloc, "b")?;
-    let upper = field(alloc, "c")?;
-    between(alloc, field(alloc, "a")?, lower, upper, options)
+    let (lower, upper) = pair(rt, alloc, "b c");
+    between(
+        alloc,
+        Expression::field(rt, alloc, "a"),
+        lower,
+        upper,
+        options,
+    )
 }
 
 #[test]
-fn bounds_stand_around_the_middle(rt: HostRuntime) -> Result<(), Fail> {
+fn bounds_values_and_casts_show_their_options(rt: HostRuntime) {
     let alloc = rt.alloc();
-    let above = bounded(alloc, Strict, NonStrict)?;
-    prints(&rt, alloc, above, "($.b < $.a <= $.c)")?;
-    let below = bounded(alloc, NonStrict, Strict)?;
-    prints(&rt, alloc, below, "($.b <= $.a < $.c)")
-}
-
-#[test]
-fn fields_follow_their_struct(rt: HostRuntime) -> Result<(), Fail> {
-    let alloc = rt.alloc();
-    prints(&rt, alloc, root(), "$")?;
-    let item = col(alloc, name(alloc, "x")?)?;
-    assert!(rt; is_root(&root()) && !is_root(&item));
-    prints(&rt, alloc, item, "$.x")?;
-    let nested = get_item(alloc, name(alloc, "x")?, field(alloc, "a")?)?;
-    prints(&rt, alloc, nested, "$.a.x")
-}
-
-#[test]
-fn selections_name_what_they_keep(rt: HostRuntime) -> Result<(), Fail> {
-    let alloc = rt.alloc();
-    let kept = select(alloc, names(alloc, "y x y")?, field(alloc, "a")?)?;
-    prints(&rt, alloc, kept, "$.a{y, x, y}")?;
-    let left = select_exclude(alloc, names(alloc, "y x")?, root())?;
-    prints(&rt, alloc, left, "${~ y, x}")
-}
-
-/// A struct of `$.a` and `$.b`, both by the name `x`.
-fn packed(alloc: Global, nullability: Nullability) -> VortexResult<Expression> {
-    let first = (name(alloc, "x")?, field(alloc, "a")?);
-    let second = (name(alloc, "x")?, field(alloc, "b")?);
-    pack(alloc, vec![in alloc; first, second]?, nullability)
-}
-
-#[test]
-fn structs_name_their_children(rt: HostRuntime) -> Result<(), Fail> {
-    let alloc = rt.alloc();
-    let never_null = packed(alloc, NonNullable)?;
-    prints(&rt, alloc, never_null, "pack(x: $.a, x: $.b)")?;
-    let nullable = packed(alloc, Nullable)?;
-    prints(&rt, alloc, nullable, "pack(x: $.a, x: $.b)?")?;
-    let empty = pack(alloc, Vec::new(alloc), NonNullable)?;
-    prints(&rt, alloc, empty, "pack()")
-}
-
-#[test]
-fn values_show_themselves_and_casts_their_target(rt: HostRuntime) -> Result<(), Fail> {
-    let alloc = rt.alloc();
-    let five = lit(alloc, Scalar::from_i32(5))?;
-    prints(&rt, alloc, five, "5i32")?;
+    let above = bounded(&rt, alloc, Strict, NonStrict);
+    answers(&rt, above, "($.b < $.a <= $.c)");
+    let below = bounded(&rt, alloc, NonStrict, Strict);
+    answers(&rt, below, "($.b <= $.a < $.c)");
+    answers(&rt, lit(alloc, Scalar::from_i32(5)), "5i32");
     let target = DType::Primitive(PType::I32, Nullable);
-    let wider = cast(alloc, field(alloc, "a")?, target)?;
-    prints(&rt, alloc, wider, "cast($.a as i32?)")
+    let wider = cast(alloc, Expression::field(&rt, alloc, "a"), target);
+    answers(&rt, wider, "cast($.a as i32?)");
+}
+
+#[test]
+fn fields_follow_their_struct(rt: HostRuntime) {
+    let alloc = rt.alloc();
+    answers(&rt, Ok(root()), "$");
+    assert!(rt; seen(root(), is_root));
+    assert!(rt; !seen(Expression::field(&rt, alloc, "x"), is_root));
+    answers(&rt, col(alloc, name(&rt, alloc, "x")), "$.x");
+    item(&rt, alloc, get_item, "a x => $.a.x");
+    selection(&rt, alloc, select, "a y x y => $.a{y, x, y}");
+    let left = select_exclude(alloc, names(&rt, alloc, "y x"), root());
+    answers(&rt, left, "${~ y, x}");
+}
+
+#[test]
+fn structs_name_their_children(rt: HostRuntime) {
+    let alloc = rt.alloc();
+    let never_null = pack(alloc, elements(&rt, alloc, "a b"), NonNullable);
+    answers(&rt, never_null, "pack(x: $.a, x: $.b)");
+    let nullable = pack(alloc, elements(&rt, alloc, "a b"), Nullable);
+    answers(&rt, nullable, "pack(x: $.a, x: $.b)?");
+    answers(&rt, pack(alloc, Vec::new(alloc), NonNullable), "pack()");
 }
