@@ -1,7 +1,7 @@
 // Columns and scalars: what fits, and the first that doesn't.
-use crate::build::{i32_type, prints, refused};
 use std::rc::Rc;
 use std::test::Fail;
+use vx_samples::{i32_type, prints, refused};
 use vx_tree::Nullability::{NonNullable, Nullable};
 use vx_tree::{Column, DType, FieldName, FieldNames, PType, Scalar, StructFields, Value};
 
@@ -11,19 +11,9 @@ fn the_first_misfit_is_named(rt: HostRuntime) -> Result<(), Fail> {
     let bytes = DType::Primitive(PType::I8, NonNullable);
     let rows = vec![in alloc; Value::Int(127), Value::Int(300), Value::Int(400)]?;
     let column = Column::try_new(bytes, rows);
-    refused(
-        &rt,
-        alloc,
-        column,
-        "the value of row 1 doesn't fit the type",
-    )?;
+    refused(column, "the value of row 1 doesn't fit the type")?;
     let scalar = Scalar::try_new(i32_type(NonNullable), Value::Null);
-    refused(
-        &rt,
-        alloc,
-        scalar,
-        "the value of row 0 doesn't fit the type",
-    )
+    refused(scalar, "the value of row 0 doesn't fit the type")
 }
 
 #[test]
@@ -96,5 +86,5 @@ fn a_struct_scalar_holds_its_fields(rt: HostRuntime) -> Result<(), Fail> {
     let fields = StructFields::new(alloc, names, types)?;
     let values = vec![in alloc; Scalar::from_i32(5)]?;
     let row = Scalar::struct_(alloc, DType::Struct(fields, Nullable), values)?;
-    prints(&rt, alloc, row, "{x: 5i32}")
+    prints(row, "{x: 5i32}")
 }

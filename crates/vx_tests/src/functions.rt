@@ -1,8 +1,8 @@
 // Functions: their texts, markers, and the types and refusals of their nodes.
-use crate::build::{i32_type, names, prints};
 use std::alloc::Global;
 use std::process::Abort;
 use std::test::Fail;
+use vx_samples::{i32_type, names, prints};
 use vx_tree::Nullability::{NonNullable, Nullable};
 use vx_tree::{
     BetweenOptions, Binary, CaseWhenOptions, DType, EmptyOptions, FieldName, FieldSelection,
@@ -21,7 +21,7 @@ fn shows(
     assert_eq!(rt; function.arity(), arity, "of {text}");
     assert!(rt; text.starts_with(function.id()), "of {text}");
     assert!(rt; function.clone()? == function, "of {text}");
-    prints(rt, alloc, function, text)
+    prints(function, text)
 }
 
 #[test]

@@ -2,8 +2,6 @@
 #![tactic(auto)]
 
 #[cfg(test)]
-mod build;
-#[cfg(test)]
 mod columns;
 #[cfg(test)]
 mod comparisons;

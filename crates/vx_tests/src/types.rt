@@ -1,8 +1,7 @@
 // Names, types and their fields.
-use crate::build::{fields, i32_type, names, prints, refused};
 use std::alloc::Global;
-use std::process::Abort;
 use std::test::Fail;
+use vx_samples::{fields, i32_type, names, prints, refused};
 use vx_tree::Nullability::{NonNullable, Nullable};
 use vx_tree::{DType, FieldName, FieldNames, Nullability, VortexError, VortexResult};
 
@@ -33,7 +32,7 @@ fn a_struct_type_gives_the_first_field_of_a_name(rt: HostRuntime) -> Result<(), 
         DType::Utf8(Nullable),
         DType::Bool(Nullable),
     ]?;
-    let row = fields(&rt, alloc, &["x", "y", "x"], types)?;
+    let row = fields(alloc, &["x", "y", "x"], types)?;
     assert_eq!(rt; row.nfields(), 3);
     assert_eq!(rt; row.names().len(), 3);
     assert!(rt; row.field(&FieldName::new(alloc, "x")?) == Some(&i32_type(NonNullable)));
@@ -51,14 +50,14 @@ fn projections_follow_the_names(rt: HostRuntime) -> Result<(), Fail> {
         DType::Utf8(Nullable),
         DType::Bool(Nullable),
     ]?;
-    let row = fields(&rt, alloc, &["x", "y", "x"], types)?;
+    let row = fields(alloc, &["x", "y", "x"], types)?;
     let some = row.project(alloc, &names(alloc, &["y", "x"])?)?;
     let unknown = row.project(alloc, &names(alloc, &["y", "z", "w"])?);
-    refused(&rt, alloc, unknown, "no such field: z")?;
+    refused(unknown, "no such field: z")?;
     let projected = DType::Struct(some, NonNullable);
     assert!(rt; projected.as_struct_fields_opt().is_some());
     assert!(rt; i32_type(Nullable).as_struct_fields_opt().is_none());
-    prints(&rt, alloc, projected, "{y=utf8?, x=i32}")
+    prints(projected, "{y=utf8?, x=i32}")
 }
 
 #[test]
@@ -75,22 +74,21 @@ fn nullability_is_the_outer_one(rt: HostRuntime) -> Result<(), Fail> {
 
 /// The struct type of one number.
 fn with_number(
-    rt: &impl Abort,
     alloc: Global,
     name: &str,
     inner: Nullability,
     outer: Nullability,
 ) -> VortexResult<DType> {
     let types = vec![in alloc; i32_type(inner)]?;
-    Ok(DType::Struct(fields(rt, alloc, &[name], types)?, outer))
+    Ok(DType::Struct(fields(alloc, &[name], types)?, outer))
 }
 
 #[test]
 fn types_differ_in_nullability_or_in_more(rt: HostRuntime) -> Result<(), Fail> {
     let alloc = rt.alloc();
-    let narrow = with_number(&rt, alloc, "x", NonNullable, Nullable)?;
-    let wide = with_number(&rt, alloc, "x", Nullable, NonNullable)?;
-    let other = with_number(&rt, alloc, "y", Nullable, NonNullable)?;
+    let narrow = with_number(alloc, "x", NonNullable, Nullable)?;
+    let wide = with_number(alloc, "x", Nullable, NonNullable)?;
+    let other = with_number(alloc, "y", Nullable, NonNullable)?;
     assert!(rt; narrow != wide);
     assert!(rt; narrow.eq_ignore_nullability(&wide));
     assert!(rt; !wide.eq_ignore_nullability(&other));
@@ -98,5 +96,5 @@ fn types_differ_in_nullability_or_in_more(rt: HostRuntime) -> Result<(), Fail> {
     let Some(joined) = narrow.union(alloc, &wide)? else {
         return Err(Fail::from(VortexError::BaseTypesDiffer));
     };
-    prints(&rt, alloc, joined, "{x=i32?}?")
+    prints(joined, "{x=i32?}?")
 }

@@ -1,9 +1,7 @@
 // Names, types, scalars and columns whose memory is refused.
-use super::reading::reads;
-use crate::build::{fields, i32_type};
 use std::alloc::Global;
-use std::process::Abort;
 use std::test::Fail;
+use vx_samples::{fields, i32_type, reads};
 use vx_tree::Nullability::{NonNullable, Nullable};
 use vx_tree::{
     Column, DType, FieldName, FieldNames, Nullability, PType, Scalar, StructFields, Value,
@@ -46,23 +44,18 @@ fn struct_of_a_scalar(rt: HostRuntime) -> Result<(), Fail> {
 }
 
 /// A struct of one number in a struct.
-fn nested(
-    rt: &impl Abort,
-    alloc: Global,
-    inner: Nullability,
-    outer: Nullability,
-) -> VortexResult<DType> {
+fn nested(alloc: Global, inner: Nullability, outer: Nullability) -> VortexResult<DType> {
     let types = vec![in alloc; i32_type(inner)]?;
-    let inside = DType::Struct(fields(rt, alloc, &["x"], types)?, NonNullable);
+    let inside = DType::Struct(fields(alloc, &["x"], types)?, NonNullable);
     let types = vec![in alloc; inside]?;
-    Ok(DType::Struct(fields(rt, alloc, &["a"], types)?, outer))
+    Ok(DType::Struct(fields(alloc, &["a"], types)?, outer))
 }
 
 #[test]
 fn union_of_nested_structs(rt: HostRuntime) -> Result<(), Fail> {
     let alloc = rt.alloc();
-    let one = nested(&rt, alloc, NonNullable, Nullable)?;
-    let other = nested(&rt, alloc, Nullable, NonNullable)?;
+    let one = nested(alloc, NonNullable, Nullable)?;
+    let other = nested(alloc, Nullable, NonNullable)?;
     rt.println("called")?;
     let answer = one.union(alloc, &other);
     assert!(rt; reads(&one, "{a={x=i32}}?") && reads(&other, "{a={x=i32?}}"));
