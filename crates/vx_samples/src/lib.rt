@@ -9,10 +9,10 @@ mod types;
 mod words;
 mod worked;
 
-pub use batches::{empty_rows, numbers, rows_of_field, rows_of_x};
+pub use batches::{batch, empty_rows, numbers, rows_of_field, rows_of_x};
 pub use rows::{evaluated, faults, gives, shows};
 pub use texts::{prints, reads, refused};
-pub use trees::{binary, col, literal, named, number};
-pub use types::{fields, i32_type, names, scope_of_x, struct_of, with_x};
-pub use words::parsed;
-pub use worked::{repacked, turned, unchosen_overflow};
+pub use trees::{binary, col, literal, number};
+pub use types::{fields, i32_type, names, scope, scope_of_x, struct_of, with_x};
+pub use words::{bound, boxed, function, parsed};
+pub use worked::{UNCHOSEN_OVERFLOW, repacked, turned, unchosen_overflow};

@@ -1,17 +1,18 @@
 // Worked trees that take more than words.
-use crate::trees::{binary, literal, named};
+use crate::trees::{literal, named};
+use crate::words::parsed;
 use std::alloc::Global;
-use vx_build::{case_when, get_item, not, pack};
+use std::test::Fail;
+use vx_build::{get_item, not, pack};
 use vx_tree::Nullability::NonNullable;
-use vx_tree::{Expression, FieldName, Operator, Scalar, VortexResult};
+use vx_tree::{Expression, FieldName, Scalar, VortexResult};
+
+/// `CASE WHEN false THEN (127i8 + 1i8) ELSE 0i8 END`, as words.
+pub const UNCHOSEN_OVERFLOW: &str = "false 127i8 1i8 + 0i8 case";
 
 /// `CASE WHEN false THEN (127i8 + 1i8) ELSE 0i8 END`
-pub fn unchosen_overflow(alloc: Global) -> VortexResult<Expression> {
-    let never = literal(alloc, Scalar::from_bool(false))?;
-    let most = literal(alloc, Scalar::from_i8(127))?;
-    let one = literal(alloc, Scalar::from_i8(1))?;
-    let overflow = binary(alloc, Operator::Add, most, one)?;
-    case_when(alloc, never, overflow, literal(alloc, Scalar::from_i8(0))?)
+pub fn unchosen_overflow(alloc: Global) -> Result<Expression, Fail> {
+    parsed(alloc, UNCHOSEN_OVERFLOW)
 }
 
 /// `true`, turned a thousand times.

@@ -1,7 +1,8 @@
 // Columns and scalars: what fits, and the first that doesn't.
-use crate::build::{i32_type, prints, refused};
+use crate::looks::{differs, same};
 use std::rc::Rc;
 use std::test::Fail;
+use vx_samples::{i32_type, prints, reads, refused};
 use vx_tree::Nullability::{NonNullable, Nullable};
 use vx_tree::{Column, DType, FieldName, FieldNames, PType, Scalar, StructFields, Value};
 
@@ -11,19 +12,9 @@ fn the_first_misfit_is_named(rt: HostRuntime) -> Result<(), Fail> {
     let bytes = DType::Primitive(PType::I8, NonNullable);
     let rows = vec![in alloc; Value::Int(127), Value::Int(300), Value::Int(400)]?;
     let column = Column::try_new(bytes, rows);
-    refused(
-        &rt,
-        alloc,
-        column,
-        "the value of row 1 doesn't fit the type",
-    )?;
+    refused(column, "the value of row 1 doesn't fit the type")?;
     let scalar = Scalar::try_new(i32_type(NonNullable), Value::Null);
-    refused(
-        &rt,
-        alloc,
-        scalar,
-        "the value of row 0 doesn't fit the type",
-    )
+    refused(scalar, "the value of row 0 doesn't fit the type")
 }
 
 #[test]
@@ -42,24 +33,24 @@ fn a_column_is_its_type_and_its_rows(rt: HostRuntime) -> Result<(), Fail> {
     let column = Column::try_new(i32_type(Nullable), rows)?;
     assert_eq!(rt; column.len(), 2);
     assert!(rt; !column.is_empty());
-    assert!(rt; *column.dtype() == i32_type(Nullable));
-    assert!(rt; *column.row(0) == Value::Int(7));
-    assert!(rt; *column.row(1) == Value::Null);
+    assert!(rt; reads(column.dtype(), "i32?"));
+    assert!(rt; matches!(column.row(0), Value::Int(7)));
+    assert!(rt; column.row(1).is_null());
     Ok(())
 }
 
 #[test]
-fn columns_share_their_rows(rt: HostRuntime) -> Result<(), Fail> {
+fn columns_share_their_rows(rt: HostRuntime) {
     let alloc = rt.alloc();
-    let rows = vec![in alloc; Value::Int(7), Value::Null]?;
-    let column = Column::try_new(i32_type(Nullable), rows)?;
-    let dtype = column.dtype().clone()?;
-    let shared = Column::from_shared(dtype, column.shared_rows().clone()?);
-    assert!(rt; shared == column);
-    assert!(rt; column.clone()? == column);
-    let other = Column::try_new(i32_type(Nullable), vec![in alloc; Value::Int(7)]?)?;
-    assert!(rt; other != column);
-    Ok(())
+    let rows = vec![in alloc; Value::Int(7), Value::Null].expect(&rt, "memory");
+    let column = Column::try_new(i32_type(Nullable), rows).expect(&rt, "a column");
+    let dtype = column.dtype().clone().expect(&rt, "memory");
+    let rows = column.shared_rows().clone().expect(&rt, "memory");
+    same(&rt, Column::from_shared(dtype, rows), &column);
+    same(&rt, column.clone().expect(&rt, "memory"), &column);
+    let one = vec![in alloc; Value::Int(7)].expect(&rt, "memory");
+    let other = Column::try_new(i32_type(Nullable), one).expect(&rt, "a column");
+    differs(&rt, other, &column);
 }
 
 #[test]
@@ -76,16 +67,15 @@ fn values_fit_or_not(rt: HostRuntime) -> Result<(), Fail> {
 }
 
 #[test]
-fn scalars_show_their_type_and_value(rt: HostRuntime) -> Result<(), Fail> {
+fn scalars_show_their_type_and_value(rt: HostRuntime) {
     let null = Scalar::null(DType::Utf8(Nullable));
     assert!(rt; null.is_null());
-    assert!(rt; *null.dtype() == DType::Utf8(Nullable));
+    assert!(rt; reads(null.dtype(), "utf8?"));
     let five = Scalar::from_i32(5);
     assert!(rt; !five.is_null());
-    assert!(rt; *five.value() == Value::Int(5));
-    assert!(rt; five.clone()? == five);
-    assert!(rt; five != Scalar::from_i64(5));
-    Ok(())
+    assert!(rt; matches!(five.value(), Value::Int(5)));
+    same(&rt, five.clone().expect(&rt, "memory"), &five);
+    differs(&rt, Scalar::from_i64(5), &five);
 }
 
 #[test]
@@ -96,5 +86,5 @@ fn a_struct_scalar_holds_its_fields(rt: HostRuntime) -> Result<(), Fail> {
     let fields = StructFields::new(alloc, names, types)?;
     let values = vec![in alloc; Scalar::from_i32(5)]?;
     let row = Scalar::struct_(alloc, DType::Struct(fields, Nullable), values)?;
-    prints(&rt, alloc, row, "{x: 5i32}")
+    prints(row, "{x: 5i32}")
 }

@@ -1,51 +1,35 @@
 // Functions: their texts, markers, and the types and refusals of their nodes.
-use crate::build::{i32_type, names, prints};
 use std::alloc::Global;
 use std::process::Abort;
 use std::test::Fail;
+use vx_samples::{i32_type, names, prints, refused};
 use vx_tree::Nullability::{NonNullable, Nullable};
 use vx_tree::{
-    BetweenOptions, Binary, CaseWhenOptions, DType, EmptyOptions, FieldName, FieldSelection,
-    FillNull, GetItem, LikeOptions, Literal, Operator, PackOptions, Scalar, ScalarFnRef,
-    ScalarFnVTable, StrictComparison, VortexError,
+    BetweenOptions, Binary, CaseWhenOptions, DType, EmptyOptions, FieldName, FieldNames,
+    FieldSelection, FillNull, GetItem, LikeOptions, Literal, Operator, PackOptions, Scalar,
+    ScalarFnRef, ScalarFnVTable, StrictComparison, VortexError, VortexResult,
 };
 
 /// Asserts the text and the number of children of a function.
-fn shows(
-    rt: &impl Abort,
-    alloc: Global,
-    function: ScalarFnRef,
-    text: &str,
-    arity: usize,
-) -> Result<(), Fail> {
+fn shows(rt: &impl Abort, function: ScalarFnRef, text: &str, arity: usize) -> Result<(), Fail> {
     assert_eq!(rt; function.arity(), arity, "of {text}");
     assert!(rt; text.starts_with(function.id()), "of {text}");
-    assert!(rt; function.clone()? == function, "of {text}");
-    prints(rt, alloc, function, text)
+    assert!(rt;
+        function.clone().expect(rt, "memory") == function,
+        "of {text}"
+    );
+    prints(function, text)
 }
 
 #[test]
 fn functions_without_options_print_their_name(rt: HostRuntime) -> Result<(), Fail> {
-    let alloc = rt.alloc();
     let none = EmptyOptions;
-    shows(
-        &rt,
-        alloc,
-        ScalarFnRef::FillNull(none),
-        "vortex.fill_null()",
-        2,
-    )?;
-    shows(&rt, alloc, ScalarFnRef::Zip(none), "vortex.zip()", 3)?;
-    shows(&rt, alloc, ScalarFnRef::Not(none), "vortex.not()", 1)?;
-    shows(&rt, alloc, ScalarFnRef::IsNull(none), "vortex.is_null()", 1)?;
-    shows(
-        &rt,
-        alloc,
-        ScalarFnRef::IsNotNull(none),
-        "vortex.is_not_null()",
-        1,
-    )?;
-    shows(&rt, alloc, ScalarFnRef::Mask(none), "vortex.mask()", 2)
+    shows(&rt, ScalarFnRef::FillNull(none), "vortex.fill_null()", 2)?;
+    shows(&rt, ScalarFnRef::Zip(none), "vortex.zip()", 3)?;
+    shows(&rt, ScalarFnRef::Not(none), "vortex.not()", 1)?;
+    shows(&rt, ScalarFnRef::IsNull(none), "vortex.is_null()", 1)?;
+    shows(&rt, ScalarFnRef::IsNotNull(none), "vortex.is_not_null()", 1)?;
+    shows(&rt, ScalarFnRef::Mask(none), "vortex.mask()", 2)
 }
 
 #[test]
@@ -54,29 +38,28 @@ fn functions_print_their_options(rt: HostRuntime) -> Result<(), Fail> {
     let name = FieldName::new(alloc, "answer")?;
     shows(
         &rt,
-        alloc,
         ScalarFnRef::GetItem(name),
         "vortex.get_item(answer)",
         1,
     )?;
     let five = ScalarFnRef::Literal(Scalar::from_i32(5));
-    shows(&rt, alloc, five, "vortex.literal(5i32)", 0)?;
+    shows(&rt, five, "vortex.literal(5i32)", 0)?;
     let cast = ScalarFnRef::Cast(i32_type(Nullable));
-    shows(&rt, alloc, cast, "vortex.cast(i32?)", 1)?;
+    shows(&rt, cast, "vortex.cast(i32?)", 1)?;
     let unequal = ScalarFnRef::Binary(Operator::NotEq);
-    shows(&rt, alloc, unequal, "vortex.binary(!=)", 2)?;
+    shows(&rt, unequal, "vortex.binary(!=)", 2)?;
     let case = ScalarFnRef::CaseWhen(CaseWhenOptions {
         num_when_then_pairs: 1,
         has_else: true,
     });
     let text = "vortex.case_when(case_when(pairs=1, else=true))";
-    shows(&rt, alloc, case, text, 3)?;
+    shows(&rt, case, text, 3)?;
     let between = ScalarFnRef::Between(BetweenOptions {
         lower_strict: StrictComparison::Strict,
         upper_strict: StrictComparison::NonStrict,
     });
     let text = "vortex.between(lower_strict: <, upper_strict: <=)";
-    shows(&rt, alloc, between, text, 3)
+    shows(&rt, between, text, 3)
 }
 
 #[test]
@@ -94,29 +77,16 @@ fn functions_of_names_print_them(rt: HostRuntime) -> Result<(), Fail> {
     ] {
         let names = names(alloc, &["x", "y"])?;
         let pack = ScalarFnRef::Pack(PackOptions { names, nullability });
-        shows(&rt, alloc, pack, text, 2)?;
+        shows(&rt, pack, text, 2)?;
     }
     let kept = FieldSelection::Include(names(alloc, &["a", "b"])?);
-    shows(
-        &rt,
-        alloc,
-        ScalarFnRef::Select(kept),
-        "vortex.select({a, b})",
-        1,
-    )?;
+    shows(&rt, ScalarFnRef::Select(kept), "vortex.select({a, b})", 1)?;
     let left_out = FieldSelection::Exclude(names(alloc, &["a"])?);
-    shows(
-        &rt,
-        alloc,
-        ScalarFnRef::Select(left_out),
-        "vortex.select(~{a})",
-        1,
-    )
+    shows(&rt, ScalarFnRef::Select(left_out), "vortex.select(~{a})", 1)
 }
 
 #[test]
 fn like_prints_its_four_words(rt: HostRuntime) -> Result<(), Fail> {
-    let alloc = rt.alloc();
     for (negated, case_insensitive, text) in [
         (false, false, "vortex.like(like)"),
         (true, false, "vortex.like(not like)"),
@@ -127,7 +97,7 @@ fn like_prints_its_four_words(rt: HostRuntime) -> Result<(), Fail> {
             negated,
             case_insensitive,
         };
-        shows(&rt, alloc, ScalarFnRef::Like(like), text, 2)?;
+        shows(&rt, ScalarFnRef::Like(like), text, 2)?;
     }
     Ok(())
 }
@@ -153,30 +123,32 @@ fn operators_print_their_signs_and_swap(rt: HostRuntime) -> Result<(), Fail> {
     Ok(())
 }
 
+/// Asserts what the first children of the function are called.
+fn calls(rt: &impl Abort, alloc: Global, function: ScalarFnRef, names: &[&str]) {
+    for (index, name) in names.iter().enumerate() {
+        assert!(rt; index < function.arity());
+        let child_name = function.child_name(alloc, index).expect(rt, "memory");
+        assert_eq!(rt; child_name.as_str(), *name);
+    }
+}
+
 #[test]
-fn children_have_names(rt: HostRuntime) -> Result<(), Fail> {
+fn children_have_names(rt: HostRuntime) {
     let alloc = rt.alloc();
     let zip = ScalarFnRef::Zip(EmptyOptions);
-    for (index, name) in ["if_true", "if_false", "mask"].into_iter().enumerate() {
-        assert!(rt; index < zip.arity());
-        assert_eq!(rt; zip.child_name(alloc, index)?.as_str(), name);
-    }
+    calls(&rt, alloc, zip, &["if_true", "if_false", "mask"]);
     let case = ScalarFnRef::CaseWhen(CaseWhenOptions {
         num_when_then_pairs: 1,
         has_else: true,
     });
-    for (index, name) in ["when_0", "then_0", "else"].into_iter().enumerate() {
-        assert!(rt; index < case.arity());
-        assert_eq!(rt; case.child_name(alloc, index)?.as_str(), name);
-    }
+    calls(&rt, alloc, case, &["when_0", "then_0", "else"]);
     assert_eq!(rt; StrictComparison::Strict.sign(), "<");
-    Ok(())
 }
 
 #[test]
 fn markers_see_their_own_function(rt: HostRuntime) -> Result<(), Fail> {
     let alloc = rt.alloc();
-    let item = GetItem::bind(FieldName::new(alloc, "a")?);
+    let item = Box::new(alloc, GetItem::bind(FieldName::new(alloc, "a")?))?;
     assert!(rt; item.is::<GetItem>());
     assert!(rt; !item.is::<Literal>());
     assert!(rt;
@@ -184,25 +156,40 @@ fn markers_see_their_own_function(rt: HostRuntime) -> Result<(), Fail> {
             .is_some_and(|name| name.as_str() == "a")
     );
     assert!(rt; item.as_opt::<Binary>().is_none());
-    assert!(rt; Binary::options_of(&Binary::bind(Operator::And)) == Some(&Operator::And));
+    let and = Box::new(alloc, Binary::bind(Operator::And))?;
+    assert!(rt; Binary::options_of(&*and) == Some(&Operator::And));
     assert!(rt; FillNull::supports_dtype(&DType::Utf8(Nullable)));
     Ok(())
 }
 
+/// What the selection keeps of the names.
+fn kept(
+    rt: &impl Abort,
+    alloc: Global,
+    selection: &FieldSelection,
+    texts: &[&str],
+) -> VortexResult<FieldNames> {
+    let all = names(alloc, texts).expect(rt, "memory");
+    selection.normalize_to_included_fields(alloc, &all)
+}
+
+/// Asserts that the selection keeps those of the names `b`, `a`, `c`.
+fn keeps(rt: &impl Abort, alloc: Global, selection: &FieldSelection, texts: &[&str]) {
+    let kept = kept(rt, alloc, selection, &["b", "a", "c"]).expect(rt, "names");
+    assert!(rt; kept == names(alloc, texts).expect(rt, "memory"));
+}
+
 #[test]
-fn selections_keep_names(rt: HostRuntime) -> Result<(), Fail> {
+fn selections_keep_names(rt: HostRuntime) {
     let alloc = rt.alloc();
-    let selection = FieldSelection::Exclude(names(alloc, &["a"])?);
-    assert!(rt; selection.is_exclude() && !selection.is_include());
-    assert_eq!(rt; selection.field_names().len(), 1);
-    let kept = selection.normalize_to_included_fields(alloc, &names(alloc, &["b", "a", "c"])?)?;
-    assert!(rt; kept == names(alloc, &["b", "c"])?);
-    let given = FieldSelection::Include(names(alloc, &["c", "b"])?);
-    let kept = given.normalize_to_included_fields(alloc, &names(alloc, &["b", "a", "c"])?)?;
-    assert!(rt; kept == names(alloc, &["c", "b"])?);
-    let refused = given.normalize_to_included_fields(alloc, &names(alloc, &["c"])?);
+    let left_out = FieldSelection::Exclude(names(alloc, &["a"]).expect(&rt, "memory"));
+    assert!(rt; left_out.is_exclude() && !left_out.is_include());
+    assert_eq!(rt; left_out.field_names().len(), 1);
+    keeps(&rt, alloc, &left_out, &["b", "c"]);
+    let given = FieldSelection::Include(names(alloc, &["c", "b"]).expect(&rt, "memory"));
+    keeps(&rt, alloc, &given, &["c", "b"]);
+    let refused = kept(&rt, alloc, &given, &["c"]);
     assert!(rt; matches!(&refused, Err(VortexError::NoSuchField(name)) if name.as_str() == "b"));
-    Ok(())
 }
 
 #[test]
@@ -217,27 +204,21 @@ fn a_case_has_two_children_a_pair(rt: HostRuntime) -> Result<(), Fail> {
     Ok(())
 }
 
+/// The type of a node of the function over children of the types `i32?` and `i32`.
+fn typed(alloc: Global, function: ScalarFnRef) -> VortexResult<DType> {
+    let types = [i32_type(Nullable), i32_type(NonNullable)];
+    function.return_dtype(alloc, &types)
+}
+
 #[test]
 fn a_node_is_typed_or_refused(rt: HostRuntime) -> Result<(), Fail> {
     let alloc = rt.alloc();
-    let types = [i32_type(Nullable), i32_type(NonNullable)];
-    let compared = ScalarFnRef::Binary(Operator::Lt).return_dtype(alloc, &types)?;
-    assert!(rt; compared == DType::Bool(Nullable));
-    let sum = ScalarFnRef::Binary(Operator::Add).return_dtype(alloc, &types)?;
-    assert!(rt; sum == i32_type(Nullable));
-    let filled = ScalarFnRef::FillNull(EmptyOptions).return_dtype(alloc, &types)?;
-    assert!(rt; filled == i32_type(NonNullable));
-    let refused = ScalarFnRef::Binary(Operator::Or).return_dtype(alloc, &types);
-    assert!(rt; matches!(refused, Err(VortexError::NotBool)));
-    let refused = ScalarFnRef::Zip(EmptyOptions).return_dtype(alloc, &types);
-    assert!(rt;
-        matches!(
-            refused,
-            Err(VortexError::ArityMismatch {
-                expected: 3,
-                got: 2
-            })
-        )
-    );
-    Ok(())
+    let none = EmptyOptions;
+    prints(typed(alloc, ScalarFnRef::Binary(Operator::Lt))?, "bool?")?;
+    prints(typed(alloc, ScalarFnRef::Binary(Operator::Add))?, "i32?")?;
+    prints(typed(alloc, ScalarFnRef::FillNull(none))?, "i32")?;
+    let not_bool = typed(alloc, ScalarFnRef::Binary(Operator::Or));
+    refused(not_bool, "a truth type is needed")?;
+    let two_of_three = typed(alloc, ScalarFnRef::Zip(none));
+    refused(two_of_three, "3 children are needed, and 2 given")
 }

@@ -2,8 +2,6 @@
 #![tactic(auto)]
 
 #[cfg(test)]
-mod build;
-#[cfg(test)]
 mod columns;
 #[cfg(test)]
 mod comparisons;
@@ -13,6 +11,8 @@ mod errors;
 mod faults;
 #[cfg(test)]
 mod functions;
+#[cfg(test)]
+mod looks;
 #[cfg(test)]
 mod matching;
 #[cfg(test)]

@@ -6,6 +6,7 @@ ghost use Rattle.vx_types.specs.Views.{type_of};
 use std::alloc::Global;
 use std::test::Fail;
 use vx_eval::first_match;
+use vx_samples::prints;
 use vx_tree::Nullability::Nullable;
 use vx_tree::{Column, DType, PType, Value, VortexResult};
 
@@ -22,12 +23,14 @@ fn the_first_match_is_chosen(rt: HostRuntime) -> Result<(), Fail> {
     let alloc = rt.alloc();
     let truth = DType::Bool(Nullable);
     let dtype = DType::Primitive(PType::I32, Nullable);
-    let conditions = [two_rows(alloc, &truth, Value::Null, Value::Bool(true))?];
-    let values = [two_rows(alloc, &dtype, Value::Int(1), Value::Int(2))?];
-    let otherwise = two_rows(alloc, &dtype, Value::Int(3), Value::Int(4))?;
-    let chosen = first_match(alloc, &conditions, &values, Some(&otherwise), &dtype)?;
-    assert_eq!(rt; format!(in alloc; "{chosen}")?.as_str(), "[3i32, 2i32]");
-    let or_null = first_match(alloc, &conditions, &values, None, &dtype)?;
-    assert_eq!(rt; format!(in alloc; "{or_null}")?.as_str(), "[null, 2i32]");
-    Ok(())
+    let condition = two_rows(alloc, &truth, Value::Null, Value::Bool(true));
+    let conditions = [condition.expect(&rt, "memory")];
+    let value = two_rows(alloc, &dtype, Value::Int(1), Value::Int(2));
+    let values = [value.expect(&rt, "memory")];
+    let otherwise = two_rows(alloc, &dtype, Value::Int(3), Value::Int(4));
+    let otherwise = otherwise.expect(&rt, "memory");
+    let chosen = first_match(alloc, &conditions, &values, Some(&otherwise), &dtype);
+    prints(chosen.expect(&rt, "a column"), "[3i32, 2i32]")?;
+    let or_null = first_match(alloc, &conditions, &values, None, &dtype);
+    prints(or_null.expect(&rt, "a column"), "[null, 2i32]")
 }

@@ -1,16 +1,15 @@
 // The first request of a call refused, since all memory is taken. Each call is made before too, with
 // memory, so that the stack has grown as far as it needs.
 use crate::refusals::evaluation::TWO_CASES;
-use crate::refusals::reading::reads;
 use crate::refusals::trees::RANGE;
-use crate::results::rows_of_x;
-use crate::rows::two_cases;
-use crate::trees::{range_of_x, scope_of_x};
+use crate::rows;
+use crate::trees::RANGE_OF_X;
 use std::alloc::Global;
 use std::process::Abort;
 use std::test::Fail;
 use vx_eval::apply_bound;
 use vx_pressure::Shortage;
+use vx_samples::{batch, bound, boxed, reads, scope_of_x};
 use vx_tree::{Column, DType, Expression, VortexError, VortexResult};
 
 /// Whether binding, which succeeds, is refused where all memory is taken.
@@ -24,10 +23,10 @@ fn refuses_to_bind(alloc: Global, source: &Expression, scope: &DType) -> VortexR
 #[test]
 fn bind_is_refused(rt: HostRuntime) -> Result<(), Fail> {
     let alloc = rt.alloc();
-    let source = range_of_x(alloc)?;
-    let scope = scope_of_x(&rt, alloc)?;
-    assert!(rt; refuses_to_bind(alloc, &source, &scope)?);
-    assert!(rt; reads(&source, RANGE) && reads(&scope, "{x=i32}"));
+    let source = boxed(alloc, RANGE_OF_X)?;
+    let scope = scope_of_x(alloc)?;
+    assert!(rt; refuses_to_bind(alloc, &*source, &scope)?);
+    assert!(rt; reads(&*source, RANGE) && reads(&scope, "{x=i32}"));
     Ok(())
 }
 
@@ -36,25 +35,25 @@ fn bind_is_refused(rt: HostRuntime) -> Result<(), Fail> {
 fn refuses_to_evaluate(
     rt: &impl Abort,
     alloc: Global,
-    source: Expression,
+    words: &str,
     batch: &Column,
     tree: &str,
-) -> VortexResult<()> {
-    let bound = source.bind(alloc, batch.dtype())?;
+) -> Result<(), Fail> {
+    let bound = bound(alloc, words, batch.dtype())?;
     drop(apply_bound(alloc, batch, &bound)?);
     let shortage = Shortage::new(alloc)?;
     let answer = apply_bound(alloc, batch, &bound);
     drop(shortage);
     assert!(rt; matches!(answer, Err(VortexError::OutOfMemory)));
-    assert!(rt; reads(&bound, tree));
+    assert!(rt; reads(&*bound, tree));
     Ok(())
 }
 
 #[test]
 fn apply_bound_is_refused(rt: HostRuntime) -> Result<(), Fail> {
     let alloc = rt.alloc();
-    let x = rows_of_x(&rt, alloc, &[Some(1), Some(5), None])?;
-    refuses_to_evaluate(&rt, alloc, two_cases(alloc)?, &x, TWO_CASES)?;
+    let x = batch(alloc, "x:i32?; 1; 5; null")?;
+    refuses_to_evaluate(&rt, alloc, rows::TWO_CASES, &x, TWO_CASES)?;
     assert!(rt; reads(&x, "[{x: 1i32}, {x: 5i32}, {x: null}]"));
     Ok(())
 }

@@ -6,7 +6,13 @@
 // A test prepares, says `called` and calls; looks at what it lent before it looks at the answer,
 // and at neither by a call that takes memory; and says `answered` after the answer.
 pub mod evaluation;
-pub mod reading;
 pub mod trees;
 mod values;
 mod walks;
+
+use std::test::Fail;
+
+/// Says that the answer was looked at.
+fn answered(rt: &impl Print) -> Result<(), Fail> {
+    Ok(rt.println("answered")?)
+}

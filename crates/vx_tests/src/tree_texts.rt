@@ -1,32 +1,19 @@
 // The tree texts of both trees: lines and bars, and what each function's children are called.
-use crate::build::{binary, col, fields, i32_type, literal, named, names, prints};
-use crate::rows::{number, zero_for_null};
+use crate::rows::ZERO_FOR_NULL;
+use crate::trees::RANGE_OF_X;
 use std::alloc::Global;
 use std::fmt::Write;
-use std::process::Abort;
 use std::rc::Rc;
 use std::test::Fail;
-use vx_tree::Nullability::{NonNullable, Nullable};
-use vx_tree::StrictComparison::{NonStrict, Strict};
-use vx_tree::{
-    BetweenOptions, BoundExpression, CaseWhenOptions, DType, DisplayFormat, DisplayTreeExpr,
-    EmptyOptions, Expression, FieldName, FieldSelection, LikeOptions, Operator, PackOptions,
-    Scalar, ScalarFnRef, VortexResult,
-};
+use vx_samples::{bound, boxed, function, i32_type, prints, reads, scope};
+use vx_tree::Nullability::Nullable;
+use vx_tree::{BoundExpression, DisplayFormat, DisplayTreeExpr, Expression, Scalar, ScalarFnRef};
 
-/// Asserts the tree text of the source and of what it is bound to, over the struct of that field.
-fn draws(
-    rt: &impl Abort,
-    alloc: Global,
-    source: Expression,
-    field: &str,
-    text: &str,
-) -> Result<(), Fail> {
-    let types = vec![in alloc; i32_type(Nullable)]?;
-    let scope = DType::Struct(fields(rt, alloc, &[field], types)?, NonNullable);
-    let bound = source.bind(alloc, &scope)?;
-    prints(rt, alloc, bound.display_tree(), text)?;
-    prints(rt, alloc, source.display_tree(), text)
+/// Asserts the tree text of the tree of the words and of what it is bound to.
+fn draws(alloc: Global, words: &str, fields: &str, text: &str) -> Result<(), Fail> {
+    let scope = scope(alloc, fields)?;
+    prints(bound(alloc, words, &scope)?.display_tree(), text)?;
+    prints(boxed(alloc, words)?.display_tree(), text)
 }
 
 const SELECT: &str = "vortex.select({fizz, buzz})
@@ -38,22 +25,10 @@ const SELECT: &str = "vortex.select({fizz, buzz})
         └── rhs: vortex.get_item(answer)
             └── input: vortex.root()";
 
-/// `pack(fizz: $, bar: 5i32, buzz: (42i32 = $.answer))?{fizz, buzz}`
-fn fizz_and_buzz(alloc: Global) -> VortexResult<Expression> {
-    let answer = col(alloc, "answer")?;
-    let buzz = binary(alloc, Operator::Eq, number(alloc, 42)?, answer)?;
-    let five = number(alloc, 5)?;
-    let fizz = named(alloc, "fizz", vx_build::root())?;
-    let bar = named(alloc, "bar", five)?;
-    let buzz = named(alloc, "buzz", buzz)?;
-    let packed = vx_build::pack(alloc, vec![in alloc; fizz, bar, buzz]?, Nullable)?;
-    vx_build::select(alloc, names(alloc, &["fizz", "buzz"])?, packed)
-}
-
 #[test]
 fn a_last_child_has_no_bar_below(rt: HostRuntime) -> Result<(), Fail> {
-    let alloc = rt.alloc();
-    draws(&rt, alloc, fizz_and_buzz(alloc)?, "answer", SELECT)
+    let words = "$ 5 42 answer = pack(fizz,bar,buzz)? {fizz,buzz}";
+    draws(rt.alloc(), words, "answer:i32?", SELECT)
 }
 
 const COALESCE: &str = "vortex.case_when(case_when(pairs=1, else=true))
@@ -66,8 +41,7 @@ const COALESCE: &str = "vortex.case_when(case_when(pairs=1, else=true))
 
 #[test]
 fn a_middle_child_has_a_bar_below(rt: HostRuntime) -> Result<(), Fail> {
-    let alloc = rt.alloc();
-    draws(&rt, alloc, zero_for_null(alloc)?, "x", COALESCE)
+    draws(rt.alloc(), ZERO_FOR_NULL, "x:i32?", COALESCE)
 }
 
 pub const RANGE: &str = "vortex.binary(and)
@@ -82,137 +56,161 @@ pub const RANGE: &str = "vortex.binary(and)
 
 #[test]
 fn bars_stand_below_one_another(rt: HostRuntime) -> Result<(), Fail> {
-    let alloc = rt.alloc();
-    let null = literal(alloc, Scalar::null(i32_type(Nullable)))?;
-    let lower = binary(alloc, Operator::Gte, col(alloc, "x")?, null)?;
-    let upper = binary(alloc, Operator::Lte, col(alloc, "x")?, number(alloc, 5)?)?;
-    let range = binary(alloc, Operator::And, lower, upper)?;
-    draws(&rt, alloc, range, "x", RANGE)
+    draws(rt.alloc(), RANGE_OF_X, "x:i32?", RANGE)
 }
 
 #[test]
-fn a_root_is_one_line(rt: HostRuntime) -> Result<(), Fail> {
+fn a_root_is_one_line(rt: HostRuntime) {
     let alloc = rt.alloc();
-    let source = Expression::Root;
+    let source = Box::new(alloc, Expression::Root).expect(&rt, "memory");
+    assert!(rt; reads(&DisplayTreeExpr(&*source), "vortex.root()"));
     let bound = BoundExpression::new_root(i32_type(Nullable));
-    prints(&rt, alloc, DisplayTreeExpr(&source), "vortex.root()")?;
-    prints(&rt, alloc, DisplayTreeExpr(&bound), "vortex.root()")
+    let bound = Box::new(alloc, bound).expect(&rt, "memory");
+    assert!(rt; reads(&DisplayTreeExpr(&*bound), "vortex.root()"));
 }
 
 #[test]
 fn a_format_is_one_of_two(rt: HostRuntime) -> Result<(), Fail> {
-    let alloc = rt.alloc();
     for (format, text) in [
         (DisplayFormat::Compact, "$"),
         (DisplayFormat::Tree, "vortex.root()"),
     ] {
         match format {
-            DisplayFormat::Compact => prints(&rt, alloc, Expression::Root, text)?,
-            DisplayFormat::Tree => prints(&rt, alloc, Expression::Root.display_tree(), text)?,
+            DisplayFormat::Compact => prints(Expression::Root, text)?,
+            DisplayFormat::Tree => prints(Expression::Root.display_tree(), text)?,
         }
     }
     Ok(())
 }
 
-/// Asserts the tree text of the function's node over scope roots alone, which are called so.
-fn calls_children(
-    rt: &impl Abort,
-    alloc: Global,
-    scalar_fn: ScalarFnRef,
-    names: &[&str],
-) -> Result<(), Fail> {
-    let mut text = format!(in alloc; "{scalar_fn}")?;
+/// A node of the function over so many scope roots.
+fn over_roots(alloc: Global, word: &str, count: usize) -> Result<Box<Expression>, Fail> {
     let mut children = Vec::new(alloc);
-    for (index, name) in names.iter().enumerate() {
-        let sign = if index + 1 == names.len() { '└' } else { '├' };
-        write!(text, "\n{sign}── {name}: vortex.root()")?;
+    for _ in 0..count {
         children.push(Expression::Root)?;
     }
+    let children = Rc::new(alloc, children)?;
+    let scalar_fn = function(alloc, word)?.ok_or("no function")?;
     let node = Expression::Scalar {
         scalar_fn,
-        children: Rc::new(alloc, children)?,
+        children,
     };
-    prints(rt, alloc, node.display_tree(), text.as_str())
+    Ok(Box::new(alloc, node)?)
+}
+
+/// Asserts the tree text of the function's node over scope roots alone: its first line, and what the
+/// children are called, one space apart.
+fn calls_children(alloc: Global, word: &str, line: &str, names: &str) -> Result<(), Fail> {
+    let mut text = String::from_str(alloc, line)?;
+    let mut count = 0usize;
+    let last = names.split_whitespace().count();
+    for name in names.split_whitespace() {
+        count = count.saturating_add(1);
+        let sign = if count == last { '└' } else { '├' };
+        write!(text, "\n{sign}── {name}: vortex.root()")?;
+    }
+    let node = over_roots(alloc, word, count)?;
+    prints(node.display_tree(), text.as_str())
 }
 
 #[test]
-fn only_children_have_names(rt: HostRuntime) -> Result<(), Fail> {
+fn children_have_names(rt: HostRuntime) -> Result<(), Fail> {
     let alloc = rt.alloc();
-    let none = EmptyOptions;
-    let item = ScalarFnRef::GetItem(FieldName::new(alloc, "a")?);
-    calls_children(&rt, alloc, item, &["input"])?;
-    calls_children(&rt, alloc, ScalarFnRef::Not(none), &["input"])?;
-    calls_children(&rt, alloc, ScalarFnRef::IsNull(none), &["input"])?;
-    calls_children(&rt, alloc, ScalarFnRef::IsNotNull(none), &["input"])?;
-    let cast = ScalarFnRef::Cast(i32_type(Nullable));
-    calls_children(&rt, alloc, cast, &["input"])?;
-    let nothing = ScalarFnRef::Select(FieldSelection::Exclude(names(alloc, &[])?));
-    calls_children(&rt, alloc, nothing, &["child"])?;
-    let five = ScalarFnRef::Literal(Scalar::from_i32(5));
-    calls_children(&rt, alloc, five, &[])
+    for (word, line, names) in [
+        (".a", "vortex.get_item(a)", "input"),
+        ("not", "vortex.not()", "input"),
+        ("is_null", "vortex.is_null()", "input"),
+        ("is_not_null", "vortex.is_not_null()", "input"),
+        ("cast(i32?)", "vortex.cast(i32?)", "input"),
+        ("{~}", "vortex.select(~{})", "child"),
+        ("zip", "vortex.zip()", "if_true if_false mask"),
+        (
+            "between(<,<=)",
+            "vortex.between(lower_strict: <, upper_strict: <=)",
+            "array lower upper",
+        ),
+        ("fill_null", "vortex.fill_null()", "input fill_value"),
+        ("+", "vortex.binary(+)", "lhs rhs"),
+        ("not_ilike", "vortex.like(not ilike)", "child pattern"),
+        ("mask", "vortex.mask()", "input mask"),
+    ] {
+        calls_children(alloc, word, line, names)?;
+    }
+    Ok(())
 }
 
-#[test]
-fn several_children_have_names(rt: HostRuntime) -> Result<(), Fail> {
-    let alloc = rt.alloc();
-    let none = EmptyOptions;
-    let zip = ScalarFnRef::Zip(none);
-    calls_children(&rt, alloc, zip, &["if_true", "if_false", "mask"])?;
-    let between = ScalarFnRef::Between(BetweenOptions {
-        lower_strict: Strict,
-        upper_strict: NonStrict,
-    });
-    calls_children(&rt, alloc, between, &["array", "lower", "upper"])?;
-    let fill_null = ScalarFnRef::FillNull(none);
-    calls_children(&rt, alloc, fill_null, &["input", "fill_value"])?;
-    let sum = ScalarFnRef::Binary(Operator::Add);
-    calls_children(&rt, alloc, sum, &["lhs", "rhs"])?;
-    let like = ScalarFnRef::Like(LikeOptions {
-        negated: true,
-        case_insensitive: true,
-    });
-    calls_children(&rt, alloc, like, &["child", "pattern"])?;
-    calls_children(&rt, alloc, ScalarFnRef::Mask(none), &["input", "mask"])
-}
+const PACK_OF_THREE: &str = "vortex.pack(names: [b, a, b], nullability: NonNullable)";
 
-/// The shape of a CASE.
-fn case(num_when_then_pairs: u32, has_else: bool) -> ScalarFnRef {
-    ScalarFnRef::CaseWhen(CaseWhenOptions {
-        num_when_then_pairs,
-        has_else,
-    })
-}
-
-/// A struct of children by those names.
-fn pack(alloc: Global, texts: &[&str]) -> VortexResult<ScalarFnRef> {
-    Ok(ScalarFnRef::Pack(PackOptions {
-        names: names(alloc, texts)?,
-        nullability: NonNullable,
-    }))
-}
+const CASE_OF_TWO: &str = "vortex.case_when(case_when(pairs=2, else=true))";
 
 #[test]
 fn children_of_any_number_have_names(rt: HostRuntime) -> Result<(), Fail> {
     let alloc = rt.alloc();
-    let words = ["when_0", "then_0", "when_1", "then_1", "else"];
-    calls_children(&rt, alloc, case(2, true), &words)?;
-    calls_children(&rt, alloc, case(2, false), &words[..4])?;
-    calls_children(&rt, alloc, case(0, true), &["else"])?;
-    calls_children(&rt, alloc, case(0, false), &[])?;
-    calls_children(&rt, alloc, pack(alloc, &["b", "a", "b"])?, &["b", "a", "b"])?;
-    calls_children(&rt, alloc, pack(alloc, &[])?, &[])
+    for (word, line, names) in [
+        (
+            "cases(2,else)",
+            CASE_OF_TWO,
+            "when_0 then_0 when_1 then_1 else",
+        ),
+        (
+            "cases(2)",
+            "vortex.case_when(case_when(pairs=2, else=false))",
+            "when_0 then_0 when_1 then_1",
+        ),
+        (
+            "cases(0,else)",
+            "vortex.case_when(case_when(pairs=0, else=true))",
+            "else",
+        ),
+        (
+            "cases(0)",
+            "vortex.case_when(case_when(pairs=0, else=false))",
+            "",
+        ),
+        ("pack(b,a,b)", PACK_OF_THREE, "b a b"),
+        (
+            "pack()",
+            "vortex.pack(names: [], nullability: NonNullable)",
+            "",
+        ),
+    ] {
+        calls_children(alloc, word, line, names)?;
+    }
+    Ok(())
 }
 
 #[test]
 fn a_wrong_number_of_children_is_counted(rt: HostRuntime) -> Result<(), Fail> {
     let alloc = rt.alloc();
-    let none = EmptyOptions;
-    let equal = ScalarFnRef::Binary(Operator::Eq);
-    calls_children(&rt, alloc, equal.clone()?, &["0"])?;
-    calls_children(&rt, alloc, equal, &["0", "1", "2"])?;
-    calls_children(&rt, alloc, ScalarFnRef::Not(none), &[])?;
-    let five = ScalarFnRef::Literal(Scalar::from_i32(5));
-    calls_children(&rt, alloc, five, &["0"])?;
-    calls_children(&rt, alloc, pack(alloc, &["a"])?, &["0", "1"])?;
-    calls_children(&rt, alloc, case(1, true), &["0", "1"])
+    for (word, line, names) in [
+        ("=", "vortex.binary(=)", "0"),
+        ("=", "vortex.binary(=)", "0 1 2"),
+        ("not", "vortex.not()", ""),
+        (
+            "pack(a)",
+            "vortex.pack(names: [a], nullability: NonNullable)",
+            "0 1",
+        ),
+        (
+            "case",
+            "vortex.case_when(case_when(pairs=1, else=true))",
+            "0 1",
+        ),
+    ] {
+        calls_children(alloc, word, line, names)?;
+    }
+    Ok(())
+}
+
+#[test]
+fn a_literal_has_no_child_and_counts_one(rt: HostRuntime) -> Result<(), Fail> {
+    let alloc = rt.alloc();
+    prints(boxed(alloc, "5")?.display_tree(), "vortex.literal(5i32)")?;
+    let children = Rc::new(alloc, vec![in alloc; Expression::Root]?)?;
+    let over_root = Expression::Scalar {
+        scalar_fn: ScalarFnRef::Literal(Scalar::from_i32(5)),
+        children,
+    };
+    let text = "vortex.literal(5i32)\n└── 0: vortex.root()";
+    prints(over_root.display_tree(), text)
 }

@@ -3,17 +3,14 @@ mod containers;
 pub mod rewrites;
 mod trees;
 
-use crate::build::{binary, col, literal};
-use crate::walks::trees::{HasField, both, comparisons, deep};
+use crate::walks::trees::{BOTH, COMPARISONS, HasField, deep, over_harness};
 use std::alloc::Global;
 use std::marker::PhantomData;
 use std::process::Abort;
 use std::test::Fail;
-use vx_build::{case_when, root};
-use vx_tree::test_harness::struct_dtype;
-use vx_tree::{
-    Binary, Expression, FieldName, GetItem, Operator, Scalar, VortexError, VortexResult,
-};
+use vx_build::root;
+use vx_samples::boxed;
+use vx_tree::{Binary, Expression, FieldName, GetItem, Operator, VortexError, VortexResult};
 use vx_walk::TraversalOrder::{Continue, Skip, Stop};
 use vx_walk::{
     FoldDownContext, FoldUp, Node, NodeExt, NodeFolderContext, NodeVisitor, TraversalOrder,
@@ -94,22 +91,17 @@ fn finds<N: Node + HasField>(
 #[test]
 fn names_are_collected_over_both_trees(rt: HostRuntime) -> Result<(), Fail> {
     let alloc = rt.alloc();
-    finds(&rt, alloc, &comparisons(alloc)?, "col1 col2 col3 col4")?;
-    let same = binary(
-        alloc,
-        Operator::Eq,
-        col(alloc, "col1")?,
-        col(alloc, "col2")?,
-    )?;
-    let bound = same.bind(alloc, &struct_dtype(alloc)?)?;
-    finds(&rt, alloc, &bound, "col1 col2")
+    let source = boxed(alloc, COMPARISONS)?;
+    finds(&rt, alloc, &*source, "col1 col2 col3 col4")?;
+    let bound = over_harness(alloc, "col1 col2 =")?;
+    finds(&rt, alloc, &*bound, "col1 col2")
 }
 
 /// Answers Skip on the way up of the nodes that are equal to one, and sees whether an operator's way
 /// up comes.
 #[derive(Drop)]
 struct SkipAt {
-    node: Expression,
+    node: Box<Expression>,
     above: bool,
 }
 
@@ -125,7 +117,7 @@ impl NodeVisitor for SkipAt {
     }
 
     fn visit_up(&mut self, node: &Expression) -> VortexResult<TraversalOrder> {
-        if *node == self.node {
+        if *node == *self.node {
             return Ok(Skip);
         }
         self.above = self.above | node.is::<Binary>();
@@ -138,10 +130,11 @@ fn a_last_child_skips_the_way_up(rt: HostRuntime) -> Result<(), Fail> {
     let alloc = rt.alloc();
     for (name, order, above) in [("b", Skip, false), ("a", Continue, true)] {
         let mut visitor = SkipAt {
-            node: col(alloc, name)?,
+            node: boxed(alloc, name)?,
             above: false,
         };
-        assert!(rt; both(alloc)?.accept(&mut visitor)? == order, "at {name}");
+        let both = boxed(alloc, BOTH)?;
+        assert!(rt; both.accept(&mut visitor)? == order, "at {name}");
         assert!(rt; visitor.above == above, "at {name}");
     }
     Ok(())
@@ -152,7 +145,8 @@ fn a_pre_order_walk_skips_and_stops(rt: HostRuntime) -> Result<(), Fail> {
     let alloc = rt.alloc();
     for (at_equal, names, order) in [(Skip, "col3 col4", Continue), (Stop, "", Stop)] {
         let mut found: Vec<FieldName> = Vec::new(alloc);
-        let answer = pre_order_visit_down(&comparisons(alloc)?, |node: &Expression| {
+        let tree = boxed(alloc, COMPARISONS)?;
+        let answer = pre_order_visit_down(&*tree, |node: &Expression| {
             if node.as_opt::<Binary>() == Some(&Operator::Eq) {
                 return Ok(at_equal);
             }
@@ -168,17 +162,14 @@ fn a_pre_order_walk_skips_and_stops(rt: HostRuntime) -> Result<(), Fail> {
 }
 
 /// `CASE WHEN $.bool1 THEN 1i32 ELSE 2i32 END`
-fn choice(alloc: Global) -> VortexResult<Expression> {
-    let one = literal(alloc, Scalar::from_i32(1))?;
-    let two = literal(alloc, Scalar::from_i32(2))?;
-    case_when(alloc, col(alloc, "bool1")?, one, two)
-}
+const CHOICE: &str = "bool1 1 2 case";
 
 #[test]
 fn a_refusal_ends_the_calls(rt: HostRuntime) -> Result<(), Fail> {
     let alloc = rt.alloc();
     let mut calls = 0u32;
-    let answer = choice(alloc)?.apply_children(|_child: &Expression| {
+    let choice = boxed(alloc, CHOICE)?;
+    let answer = choice.apply_children(|_child: &Expression| {
         calls = calls.saturating_add(1);
         if calls == 2 {
             return Err(VortexError::NotBool);
@@ -191,13 +182,20 @@ fn a_refusal_ends_the_calls(rt: HostRuntime) -> Result<(), Fail> {
 }
 
 #[test]
-fn nodes_count_and_visit_their_children(rt: HostRuntime) -> Result<(), Fail> {
+fn nodes_count_their_children(rt: HostRuntime) -> Result<(), Fail> {
     let alloc = rt.alloc();
-    let tree = choice(alloc)?;
+    let tree = boxed(alloc, CHOICE)?;
     assert_eq!(rt; tree.children_count(), 3);
     assert_eq!(rt; tree.children_slice().len(), 3);
-    let bound = tree.bind(alloc, &struct_dtype(alloc)?)?;
+    let bound = over_harness(alloc, CHOICE)?;
     assert_eq!(rt; bound.children_count(), 3);
+    Ok(())
+}
+
+#[test]
+fn children_are_visited_until_stop(rt: HostRuntime) -> Result<(), Fail> {
+    let alloc = rt.alloc();
+    let bound = over_harness(alloc, CHOICE)?;
     let mut calls = 0u32;
     let answer = bound.apply_children(|_child| {
         calls = calls.saturating_add(1);
@@ -205,8 +203,13 @@ fn nodes_count_and_visit_their_children(rt: HostRuntime) -> Result<(), Fail> {
     })?;
     assert!(rt; answer == Stop);
     assert_eq!(rt; calls, 2);
-    assert!(rt; root().apply_children(|_child| Ok(Stop))? == Continue);
     Ok(())
+}
+
+#[test]
+fn a_root_has_no_children_to_visit(rt: HostRuntime) {
+    let answer = root().apply_children(|_child| Ok(Stop));
+    assert!(rt; answer.expect(&rt, "no refusal") == Continue);
 }
 
 /// The number of nodes on the longest way down from a node: each has one more than the context above
@@ -249,25 +252,30 @@ impl<N: Node> NodeFolderContext for Depth<N> {
 }
 
 /// How deep the tree is, down to the limit.
-fn depth_of<N: Node>(alloc: Global, tree: N, limit: u32, ends: bool) -> VortexResult<FoldUp<u32>> {
+fn depth_of<N: Node>(
+    alloc: Global,
+    tree: Box<N>,
+    limit: u32,
+    ends: bool,
+) -> VortexResult<FoldUp<u32>> {
     let mut folder = Depth {
         limit,
         ends,
         of: PhantomData,
     };
-    tree.fold_context(alloc, &0, &mut folder)
+    Box::into_inner(tree).fold_context(alloc, &0, &mut folder)
 }
 
 #[test]
 fn depth_is_counted_by_the_context(rt: HostRuntime) -> Result<(), Fail> {
     let alloc = rt.alloc();
-    let whole = depth_of(alloc, comparisons(alloc)?, 9, true)?;
+    let whole = depth_of(alloc, boxed(alloc, COMPARISONS)?, 9, true)?;
     assert!(rt; matches!(whole, FoldUp::Continue(4)));
-    let skipped = depth_of(alloc, comparisons(alloc)?, 3, false)?;
+    let skipped = depth_of(alloc, boxed(alloc, COMPARISONS)?, 3, false)?;
     assert!(rt; matches!(skipped, FoldUp::Continue(3)));
-    let ended = depth_of(alloc, comparisons(alloc)?, 3, true)?;
+    let ended = depth_of(alloc, boxed(alloc, COMPARISONS)?, 3, true)?;
     assert!(rt; matches!(ended, FoldUp::Stop(3)));
-    let bound = choice(alloc)?.bind(alloc, &struct_dtype(alloc)?)?;
+    let bound = over_harness(alloc, CHOICE)?;
     assert!(rt; matches!(depth_of(alloc, bound, 9, true)?, FoldUp::Continue(3)));
     Ok(())
 }
@@ -277,13 +285,13 @@ fn a_deep_tree_is_walked_and_folded(rt: HostRuntime) -> Result<(), Fail> {
     let alloc = rt.alloc();
     let tree = deep(alloc)?;
     let mut nodes = 0u32;
-    let answer = pre_order_visit_down(&tree, |_node| {
+    let answer = pre_order_visit_down(&*tree, |_node: &Expression| {
         nodes = nodes.saturating_add(1);
         Ok(Continue)
     })?;
     assert!(rt; answer == Continue);
     assert_eq!(rt; nodes, 1002);
-    finds(&rt, alloc, &tree, "bool1")?;
+    finds(&rt, alloc, &*tree, "bool1")?;
     assert!(rt; matches!(depth_of(alloc, tree, 2000, true)?, FoldUp::Continue(1002)));
     Ok(())
 }

@@ -87,6 +87,9 @@ fn of_one(word: &str) -> Option<ScalarFnRef> {
 
 // Functions of several children: `case` is of one pair and an ELSE, `case2` of two, `when` has none.
 fn of_several(word: &str) -> Option<ScalarFnRef> {
+    if let Some(word) = word.strip_prefix("cases(") {
+        return numbered_cases(word.trim_end_matches(')'));
+    }
     Some(match word {
         "fill_null" => ScalarFnRef::FillNull(EmptyOptions),
         "mask" => ScalarFnRef::Mask(EmptyOptions),
@@ -94,10 +97,21 @@ fn of_several(word: &str) -> Option<ScalarFnRef> {
         "case" => cases(1, true),
         "case2" => cases(2, true),
         "when" => cases(1, false),
-        "between(<=,<)" => between(NonStrict, Strict),
+        "between(<,<)" => between(Strict, Strict),
         "between(<,<=)" => between(Strict, NonStrict),
+        "between(<=,<)" => between(NonStrict, Strict),
+        "between(<=,<=)" => between(NonStrict, NonStrict),
         _ => return None,
     })
+}
+
+// `cases(2)`, or `cases(2,else)`.
+fn numbered_cases(word: &str) -> Option<ScalarFnRef> {
+    let (number, has_else) = match word.strip_suffix(",else") {
+        Some(number) => (number, true),
+        None => (word, false),
+    };
+    Some(cases(number.parse().ok()?, has_else))
 }
 
 fn cases(num_when_then_pairs: u32, has_else: bool) -> ScalarFnRef {

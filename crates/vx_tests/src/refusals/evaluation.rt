@@ -1,12 +1,13 @@
 // Evaluation whose memory is refused: the result or the fault, and what was lent.
-use super::reading::reads;
-use crate::results::{BAD_FILL, fill, like_of, rows_of_x, two_numbers};
-use crate::rows::two_cases;
+use crate::refusals::answered;
+use crate::results::{BAD_FILL, FILL};
+use crate::rows;
 use std::alloc::Global;
 use std::process::Abort;
 use std::test::Fail;
 use vx_eval::apply_bound;
-use vx_tree::{Column, Expression, VortexError, VortexResult};
+use vx_samples::{batch, bound, reads};
+use vx_tree::{Column, VortexError, VortexResult};
 
 /// What an evaluation is about, and the column or the fault that it answers.
 #[derive(Clone, Copy)]
@@ -25,20 +26,21 @@ fn is_answer(answer: VortexResult<Column>, text: &str) -> VortexResult<bool> {
     }
 }
 
-/// Asserts what evaluation answers, and that it leaves the tree and the batch as they were.
+/// Asserts what evaluation of the tree of the words answers, and that it leaves the tree and the batch
+/// as they were.
 fn answers(
     rt: &(impl Abort + Print),
     alloc: Global,
-    source: Expression,
+    words: &str,
     batch: &Column,
     texts: Texts<'_>,
 ) -> Result<(), Fail> {
-    let bound = source.bind(alloc, batch.dtype())?;
+    let bound = bound(alloc, words, batch.dtype())?;
     rt.println("called")?;
     let answer = apply_bound(alloc, batch, &bound);
-    assert!(rt; reads(&bound, texts.tree) && reads(batch, texts.batch));
+    assert!(rt; reads(&*bound, texts.tree) && reads(batch, texts.batch));
     assert!(rt; is_answer(answer, texts.answer)?);
-    Ok(rt.println("answered")?)
+    answered(rt)
 }
 
 pub const TWO_CASES: &str =
@@ -47,76 +49,58 @@ pub const TWO_CASES: &str =
 #[test]
 fn apply_bound_of_two_cases(rt: HostRuntime) -> Result<(), Fail> {
     let alloc = rt.alloc();
-    let x = rows_of_x(&rt, alloc, &[Some(1), Some(5), None])?;
+    let x = batch(alloc, "x:i32?; 1; 5; null")?;
     let texts = Texts {
         tree: TWO_CASES,
         batch: "[{x: 1i32}, {x: 5i32}, {x: null}]",
         answer: "[10i32, 10i32, 30i32]",
     };
-    answers(&rt, alloc, two_cases(alloc)?, &x, texts)
-}
-
-/// Asserts what the fill of x by y answers.
-fn fills(
-    rt: &(impl Abort + Print),
-    alloc: Global,
-    x: &[Option<i128>],
-    y: &[Option<i128>],
-    batch: &str,
-    answer: &str,
-) -> Result<(), Fail> {
-    let rows = two_numbers(rt, alloc, x, y)?;
-    let tree = "vortex.fill_null($.x, $.y)";
-    let texts = Texts {
-        tree,
-        batch,
-        answer,
-    };
-    answers(rt, alloc, fill(alloc)?, &rows, texts)
+    answers(&rt, alloc, rows::TWO_CASES, &x, texts)
 }
 
 #[test]
 fn apply_bound_of_fills(rt: HostRuntime) -> Result<(), Fail> {
     let alloc = rt.alloc();
-    let x = [None, Some(3)];
-    let sevens = "[{x: null, y: 7i32}, {x: 3i32, y: 7i32}]";
-    fills(&rt, alloc, &x, &[Some(7), Some(7)], sevens, "[7i32, 3i32]")?;
-    let two_fills = "[{x: null, y: 1i32}, {x: 3i32, y: 2i32}]";
-    fills(&rt, alloc, &x, &[Some(1), Some(2)], two_fills, BAD_FILL)?;
-    fills(&rt, alloc, &[], &[], "[]", "[]")
-}
-
-/// Asserts what a LIKE of two texts answers over one row.
-fn likes(
-    rt: &(impl Abort + Print),
-    alloc: Global,
-    words: (&str, &str),
-    case_insensitive: bool,
-    tree: &str,
-    answer: &str,
-) -> Result<(), Fail> {
-    let one = rows_of_x(rt, alloc, &[None])?;
-    let source = like_of(alloc, words.0, words.1, case_insensitive)?;
-    let batch = "[{x: null}]";
-    let texts = Texts {
-        tree,
-        batch,
-        answer,
-    };
-    answers(rt, alloc, source, &one, texts)
+    for (given, rows, answer) in [
+        (
+            "x:i32? y:i32; null 7; 3 7",
+            "[{x: null, y: 7i32}, {x: 3i32, y: 7i32}]",
+            "[7i32, 3i32]",
+        ),
+        (
+            "x:i32? y:i32; null 1; 3 2",
+            "[{x: null, y: 1i32}, {x: 3i32, y: 2i32}]",
+            BAD_FILL,
+        ),
+        ("x:i32? y:i32", "[]", "[]"),
+    ] {
+        let texts = Texts {
+            tree: "vortex.fill_null($.x, $.y)",
+            batch: rows,
+            answer,
+        };
+        answers(&rt, alloc, FILL, &batch(alloc, given)?, texts)?;
+    }
+    Ok(())
 }
 
 #[test]
 fn apply_bound_of_likes(rt: HostRuntime) -> Result<(), Fail> {
     let alloc = rt.alloc();
-    for (words, case_insensitive, tree, answer) in [
-        (("a%b", r"a\%b"), false, r#"("a%b" like "a\%b")"#, "[true]"),
-        (("axb", r"a\%b"), false, r#"("axb" like "a\%b")"#, "[false]"),
-        (("axb", "a_b"), false, r#"("axb" like "a_b")"#, "[true]"),
-        ((r"x\", r"x\"), false, r#"("x\" like "x\")"#, "[true]"),
-        (("ABC", "a%"), true, r#"("ABC" ilike "a%")"#, "[true]"),
+    let one = batch(alloc, "x:i32?; null")?;
+    for (words, tree, answer) in [
+        (r"'a%b 'a\%b like", r#"("a%b" like "a\%b")"#, "[true]"),
+        (r"'axb 'a\%b like", r#"("axb" like "a\%b")"#, "[false]"),
+        ("'axb 'a_b like", r#"("axb" like "a_b")"#, "[true]"),
+        (r"'x\ 'x\ like", r#"("x\" like "x\")"#, "[true]"),
+        ("'ABC 'a% ilike", r#"("ABC" ilike "a%")"#, "[true]"),
     ] {
-        likes(&rt, alloc, words, case_insensitive, tree, answer)?;
+        let texts = Texts {
+            tree,
+            batch: "[{x: null}]",
+            answer,
+        };
+        answers(&rt, alloc, words, &one, texts)?;
     }
     Ok(())
 }

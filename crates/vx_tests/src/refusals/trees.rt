@@ -1,34 +1,39 @@
 // Trees whose memory is refused: bound, collected, drawn.
-use super::reading::reads;
-use crate::build::col;
+use crate::refusals::answered;
 use crate::tree_texts::RANGE as RANGE_DRAWN;
-use crate::trees::{range_of_x, scope_of_x};
+use crate::trees::RANGE_OF_X;
 use std::alloc::Global;
 use std::fmt::Write;
 use std::test::Fail;
 use vx_build::and_collect;
-use vx_tree::{Expression, VortexResult};
+use vx_samples::{boxed, reads, scope_of_x};
+use vx_tree::{BoundExpression, Expression, VortexResult};
 
 pub const RANGE: &str = "(($.x >= null) and ($.x <= 5i32))";
+
+/// Whether the answer is the range, bound. Hands on that a request was refused.
+fn is_range(answer: VortexResult<BoundExpression>) -> VortexResult<bool> {
+    let bound = answer?;
+    Ok(reads(&bound, RANGE) && reads(bound.dtype(), "bool?"))
+}
 
 #[test]
 fn bind_of_a_range(rt: HostRuntime) -> Result<(), Fail> {
     let alloc = rt.alloc();
-    let source = range_of_x(alloc)?;
-    let scope = scope_of_x(&rt, alloc)?;
+    let source = boxed(alloc, RANGE_OF_X)?;
+    let scope = scope_of_x(alloc)?;
     rt.println("called")?;
     let answer = source.bind(alloc, &scope);
-    assert!(rt; reads(&source, RANGE) && reads(&scope, "{x=i32}"));
-    let bound = answer?;
-    assert!(rt; reads(&bound, RANGE) && reads(bound.dtype(), "bool?"));
-    Ok(rt.println("answered")?)
+    assert!(rt; reads(&*source, RANGE) && reads(&scope, "{x=i32}"));
+    assert!(rt; is_range(answer)?);
+    answered(&rt)
 }
 
 /// The fields `$.a` to `$.e`.
-fn five_fields(alloc: Global) -> VortexResult<Vec<Expression>> {
+fn five_fields(alloc: Global) -> Result<Vec<Expression>, Fail> {
     let mut items = Vec::new(alloc);
     for name in ["a", "b", "c", "d", "e"] {
-        items.push(col(alloc, name)?)?;
+        items.push(Box::into_inner(boxed(alloc, name)?))?;
     }
     Ok(items)
 }
@@ -41,19 +46,19 @@ fn and_collect_of_five_items(rt: HostRuntime) -> Result<(), Fail> {
     let collected = and_collect(alloc, items)?.ok_or("none")?;
     let text = "((($.a and $.b) and ($.c and $.d)) and $.e)";
     assert!(rt; reads(&collected, text));
-    Ok(rt.println("answered")?)
+    answered(&rt)
 }
 
 #[test]
 fn display_tree_into_a_string(rt: HostRuntime) -> Result<(), Fail> {
     let alloc = rt.alloc();
-    let source = range_of_x(alloc)?;
+    let source = boxed(alloc, RANGE_OF_X)?;
     let mut page = String::new(alloc);
     rt.println("called")?;
     let answer = write!(page, "{}", source.display_tree());
-    assert!(rt; reads(&source, RANGE));
+    assert!(rt; reads(&*source, RANGE));
     assert!(rt; RANGE_DRAWN.starts_with(page.as_str()));
     answer?;
     assert_eq!(rt; page.as_str(), RANGE_DRAWN);
-    Ok(rt.println("answered")?)
+    answered(&rt)
 }

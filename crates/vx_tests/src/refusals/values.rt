@@ -1,9 +1,8 @@
 // Names, types, scalars and columns whose memory is refused.
-use super::reading::reads;
-use crate::build::{fields, i32_type};
+use crate::refusals::answered;
 use std::alloc::Global;
-use std::process::Abort;
 use std::test::Fail;
+use vx_samples::{fields, i32_type, reads};
 use vx_tree::Nullability::{NonNullable, Nullable};
 use vx_tree::{
     Column, DType, FieldName, FieldNames, Nullability, PType, Scalar, StructFields, Value,
@@ -17,7 +16,7 @@ fn try_new_of_a_column(rt: HostRuntime) -> Result<(), Fail> {
     rt.println("called")?;
     let column = Column::try_new(i32_type(Nullable), rows)?;
     assert!(rt; reads(&column, "[7i32, null]") && reads(column.dtype(), "i32?"));
-    Ok(rt.println("answered")?)
+    answered(&rt)
 }
 
 #[test]
@@ -29,7 +28,7 @@ fn new_of_names(rt: HostRuntime) -> Result<(), Fail> {
     assert_eq!(rt; names.len(), 2);
     assert!(rt; names.get(0).is_some_and(|name| reads(name, "a")));
     assert!(rt; names.get(1).is_some_and(|name| reads(name, "b")));
-    Ok(rt.println("answered")?)
+    answered(&rt)
 }
 
 #[test]
@@ -42,31 +41,25 @@ fn struct_of_a_scalar(rt: HostRuntime) -> Result<(), Fail> {
     rt.println("called")?;
     let row = Scalar::struct_(alloc, DType::Struct(fields, Nullable), values)?;
     assert!(rt; reads(&row, "{x: 5i32}") && reads(row.dtype(), "{x=i32}?"));
-    Ok(rt.println("answered")?)
+    answered(&rt)
 }
 
 /// A struct of one number in a struct.
-fn nested(
-    rt: &impl Abort,
-    alloc: Global,
-    inner: Nullability,
-    outer: Nullability,
-) -> VortexResult<DType> {
+fn nested(alloc: Global, inner: Nullability, outer: Nullability) -> VortexResult<DType> {
     let types = vec![in alloc; i32_type(inner)]?;
-    let inside = DType::Struct(fields(rt, alloc, &["x"], types)?, NonNullable);
+    let inside = DType::Struct(fields(alloc, &["x"], types)?, NonNullable);
     let types = vec![in alloc; inside]?;
-    Ok(DType::Struct(fields(rt, alloc, &["a"], types)?, outer))
+    Ok(DType::Struct(fields(alloc, &["a"], types)?, outer))
 }
 
 #[test]
 fn union_of_nested_structs(rt: HostRuntime) -> Result<(), Fail> {
     let alloc = rt.alloc();
-    let one = nested(&rt, alloc, NonNullable, Nullable)?;
-    let other = nested(&rt, alloc, Nullable, NonNullable)?;
+    let one = nested(alloc, NonNullable, Nullable)?;
+    let other = nested(alloc, Nullable, NonNullable)?;
     rt.println("called")?;
     let answer = one.union(alloc, &other);
     assert!(rt; reads(&one, "{a={x=i32}}?") && reads(&other, "{a={x=i32?}}"));
-    let joined = answer?.ok_or("none")?;
-    assert!(rt; reads(&joined, "{a={x=i32?}}?"));
-    Ok(rt.println("answered")?)
+    assert!(rt; answer?.is_some_and(|joined| reads(&joined, "{a={x=i32?}}?")));
+    answered(&rt)
 }

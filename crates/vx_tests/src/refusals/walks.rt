@@ -1,19 +1,22 @@
 // A rewrite whose memory is refused.
-use super::reading::reads;
-use crate::build::{col, literal};
+use crate::refusals::answered;
 use crate::walks::rewrites::numbered;
 use std::test::Fail;
-use vx_build::{and, eq};
-use vx_tree::Scalar;
+use vx_samples::{boxed, reads};
+use vx_tree::Expression;
+use vx_walk::Transformed;
+
+/// Whether each field became the next number.
+fn is_numbered(rewritten: Transformed<Expression>) -> bool {
+    rewritten.changed && reads(&rewritten.value, "((0i32 = 1i32) and 2i32)")
+}
 
 #[test]
 fn transform_down_of_fields(rt: HostRuntime) -> Result<(), Fail> {
     let alloc = rt.alloc();
-    let equal = eq(alloc, col(alloc, "col1")?, col(alloc, "col2")?)?;
-    let tree = and(alloc, equal, literal(alloc, Scalar::from_i32(2))?)?;
+    let tree = boxed(alloc, "col1 col2 = 2 and")?;
     rt.println("called")?;
-    let rewritten = numbered(alloc, tree)?;
-    assert!(rt; rewritten.changed);
-    assert!(rt; reads(&rewritten.value, "((0i32 = 1i32) and 2i32)"));
-    Ok(rt.println("answered")?)
+    let rewritten = numbered(alloc, Box::into_inner(tree))?;
+    assert!(rt; is_numbered(rewritten));
+    answered(&rt)
 }

@@ -5,14 +5,14 @@ ghost use Rattle.vx_tree.specs.Views.{tree_of};
 ghost use Rattle.vx_walk.specs.Heights.{height_of};
 ghost use Rattle.vx_walk.specs.declared.order.TraversalOrder.TheVariants.{Skip};
 
-use crate::build::{binary, col, literal, prints};
-use crate::walks::trees::{both, comparisons, deep};
+use crate::walks::trees::{BOTH, COMPARISONS, deep, over_harness};
 use std::alloc::Global;
 use std::marker::PhantomData;
+use std::process::Abort;
 use std::test::Fail;
-use vx_build::{and, eq, lit, root};
-use vx_tree::test_harness::struct_dtype;
-use vx_tree::{BoundExpression, Expression, GetItem, Operator, Scalar, VortexError, VortexResult};
+use vx_build::{lit, root};
+use vx_samples::{boxed, prints, refused};
+use vx_tree::{BoundExpression, Expression, GetItem, Scalar, VortexResult};
 use vx_walk::TraversalOrder::{Continue, Stop};
 use vx_walk::{Node, NodeExt, NodeRewriter, Transformed, TraversalOrder};
 
@@ -37,17 +37,11 @@ pub fn numbered(alloc: Global, tree: Expression) -> VortexResult<Transformed<Exp
 #[test]
 fn fields_are_numbered(rt: HostRuntime) -> Result<(), Fail> {
     let alloc = rt.alloc();
-    let equal = eq(alloc, col(alloc, "col1")?, col(alloc, "col2")?)?;
-    let tree = and(alloc, equal, literal(alloc, Scalar::from_i32(2))?)?;
-    let rewritten = numbered(alloc, tree)?;
+    let tree = boxed(alloc, "col1 col2 = 2 and")?;
+    let rewritten = numbered(alloc, Box::into_inner(tree))?;
     assert!(rt; rewritten.changed);
     assert!(rt; rewritten.order == Continue);
-    prints(
-        &rt,
-        alloc,
-        rewritten.into_inner(),
-        "((0i32 = 1i32) and 2i32)",
-    )?;
+    prints(rewritten.into_inner(), "((0i32 = 1i32) and 2i32)")?;
     let unchanged = numbered(alloc, root())?;
     assert!(rt; !unchanged.changed);
     Ok(())
@@ -82,9 +76,10 @@ impl NodeRewriter for Rooted {
 #[test]
 fn the_way_up_comes_after_skip(rt: HostRuntime) -> Result<(), Fail> {
     let alloc = rt.alloc();
-    let rewritten = col(alloc, "x")?.rewrite(alloc, &mut Rooted)?;
+    let tree = Box::into_inner(boxed(alloc, "x")?);
+    let rewritten = tree.rewrite(alloc, &mut Rooted)?;
     assert!(rt; rewritten.changed);
-    prints(&rt, alloc, rewritten.value, "$")
+    prints(rewritten.value, "$")
 }
 
 /// Hands every node back as it is.
@@ -111,48 +106,56 @@ impl<N: Node> NodeRewriter for Same<N> {
     }
 }
 
-/// The tree after a rewrite that hands every node back as it is.
-fn handed_back<N: Node>(alloc: Global, tree: N) -> VortexResult<Transformed<N>> {
-    tree.rewrite(alloc, &mut Same { of: PhantomData })
+/// Asserts that a rewrite that hands every node back as it is gives the tree that is wanted, which is
+/// the same.
+fn is_handed_back<N: Node + PartialEq>(
+    rt: &impl Abort,
+    alloc: Global,
+    tree: Box<N>,
+    wanted: &N,
+) -> Result<(), Fail> {
+    let same = Box::into_inner(tree).rewrite(alloc, &mut Same { of: PhantomData })?;
+    assert!(rt; !same.changed);
+    assert!(rt; same.value == *wanted);
+    Ok(())
 }
 
 /// `($.col1 = $.col2)`, bound
-fn bound_equality(alloc: Global) -> VortexResult<BoundExpression> {
-    let sides = (col(alloc, "col1")?, col(alloc, "col2")?);
-    let equal = binary(alloc, Operator::Eq, sides.0, sides.1)?;
-    equal.bind(alloc, &struct_dtype(alloc)?)
+fn bound_equality(alloc: Global) -> Result<Box<BoundExpression>, Fail> {
+    over_harness(alloc, "col1 col2 =")
 }
 
 #[test]
 fn a_rewrite_may_change_nothing(rt: HostRuntime) -> Result<(), Fail> {
     let alloc = rt.alloc();
-    let tree = comparisons(alloc)?;
-    let rewritten = handed_back(alloc, tree.clone()?)?;
-    assert!(rt; !rewritten.changed);
-    assert!(rt; rewritten.value == tree);
-    let bound = bound_equality(alloc)?;
-    let rewritten = handed_back(alloc, bound.clone()?)?;
-    assert!(rt; !rewritten.changed);
-    assert!(rt; rewritten.value == bound);
-    Ok(())
+    let wanted = boxed(alloc, COMPARISONS)?;
+    is_handed_back(&rt, alloc, boxed(alloc, COMPARISONS)?, &*wanted)?;
+    let wanted = bound_equality(alloc)?;
+    is_handed_back(&rt, alloc, bound_equality(alloc)?, &*wanted)
+}
+
+#[test]
+fn a_deep_tree_is_handed_back(rt: HostRuntime) -> Result<(), Fail> {
+    let alloc = rt.alloc();
+    let wanted = deep(alloc)?;
+    is_handed_back(&rt, alloc, deep(alloc)?, &*wanted)
 }
 
 #[test]
 fn a_deep_tree_is_rewritten(rt: HostRuntime) -> Result<(), Fail> {
     let alloc = rt.alloc();
-    let same = handed_back(alloc, deep(alloc)?)?;
-    assert!(rt; !same.changed);
-    assert!(rt; same.value == deep(alloc)?);
-    let rewritten = numbered(alloc, deep(alloc)?)?;
+    let wanted = deep(alloc)?;
+    let rewritten = numbered(alloc, Box::into_inner(deep(alloc)?))?;
     assert!(rt; rewritten.changed);
-    assert!(rt; rewritten.value != same.value);
+    assert!(rt; rewritten.value != *wanted);
     Ok(())
 }
 
 #[test]
 fn children_are_mapped_until_stop(rt: HostRuntime) -> Result<(), Fail> {
     let alloc = rt.alloc();
-    let mapped = both(alloc)?.map_children(alloc, |_child| {
+    let both = Box::into_inner(boxed(alloc, BOTH)?);
+    let mapped = both.map_children(alloc, |_child| {
         Ok(Transformed {
             value: root(),
             order: Stop,
@@ -161,50 +164,55 @@ fn children_are_mapped_until_stop(rt: HostRuntime) -> Result<(), Fail> {
     })?;
     assert!(rt; mapped.changed);
     assert!(rt; mapped.order == Stop);
-    prints(&rt, alloc, mapped.value, "($ and $.b)")?;
-    let kept = both(alloc)?.map_children(alloc, |child| Ok(Transformed::no(child)))?;
+    prints(mapped.value, "($ and $.b)")
+}
+
+#[test]
+fn children_may_be_kept(rt: HostRuntime) -> Result<(), Fail> {
+    let alloc = rt.alloc();
+    let both = Box::into_inner(boxed(alloc, BOTH)?);
+    let kept = both.map_children(alloc, |child| Ok(Transformed::no(child)))?;
     assert!(rt; !kept.changed);
-    assert!(rt; kept.value == both(alloc)?);
-    Ok(())
+    prints(kept.value, "($.a and $.b)")
 }
 
 #[test]
 fn a_bound_node_is_typed_anew(rt: HostRuntime) -> Result<(), Fail> {
     let alloc = rt.alloc();
-    let other = col(alloc, "bool1")?.bind(alloc, &struct_dtype(alloc)?)?;
-    let mapped = bound_equality(alloc)?.map_children(alloc, |_child| {
-        let value = other.clone()?;
-        Ok(Transformed::yes(value))
+    let other = over_harness(alloc, "bool1")?;
+    let equality = Box::into_inner(bound_equality(alloc)?);
+    let mapped = equality.map_children(alloc, |child| {
+        drop(child);
+        Ok(Transformed::yes((*other).clone()?))
     })?;
-    prints(&rt, alloc, mapped.value, "($.bool1 = $.bool1)")?;
+    prints(mapped.value, "($.bool1 = $.bool1)")
+}
+
+#[test]
+fn a_bound_node_of_other_types_is_refused(rt: HostRuntime) -> Result<(), Fail> {
+    let alloc = rt.alloc();
+    let other = over_harness(alloc, "bool1")?;
     let mut first = true;
-    let refused = bound_equality(alloc)?.map_children(alloc, |child| {
+    let equality = Box::into_inner(bound_equality(alloc)?);
+    let mapped = equality.map_children(alloc, |child| {
         if first {
             first = false;
-            return Ok(Transformed::yes(other.clone()?));
+            drop(child);
+            return Ok(Transformed::yes((*other).clone()?));
         }
         Ok(Transformed::no(child))
     });
-    assert!(rt; matches!(refused, Err(VortexError::BaseTypesDiffer)));
-    Ok(())
+    refused(mapped, "types differ in more than nullability")
 }
 
 #[test]
 fn a_node_is_rebuilt_by_its_trait(rt: HostRuntime) -> Result<(), Fail> {
     let alloc = rt.alloc();
-    let refused = Node::with_children(both(alloc)?, alloc, Vec::new(alloc));
-    assert!(rt;
-        matches!(
-            refused,
-            Err(VortexError::ArityMismatch {
-                expected: 2,
-                got: 0
-            })
-        )
-    );
-    let refused = Node::with_children(bound_equality(alloc)?, alloc, Vec::new(alloc));
-    assert!(rt; refused.is_err());
-    Ok(())
+    let both = Box::into_inner(boxed(alloc, BOTH)?);
+    let text = "2 children are needed, and 0 given";
+    refused(Node::with_children(both, alloc, Vec::new(alloc)), text)?;
+    let equality = Box::into_inner(bound_equality(alloc)?);
+    refused(Node::with_children(equality, alloc, Vec::new(alloc)), text)
 }
 
 #[test]

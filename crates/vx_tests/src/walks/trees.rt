@@ -1,8 +1,9 @@
 // The trees that are walked.
-use crate::build::col;
 use std::alloc::Global;
-use vx_build::{and, eq, not, not_eq};
-use vx_tree::{BoundExpression, Expression, FieldName, GetItem, VortexResult};
+use std::test::Fail;
+use vx_samples::{bound, boxed};
+use vx_tree::test_harness::struct_dtype;
+use vx_tree::{BoundExpression, Expression, FieldName, GetItem};
 
 /// A node that may be a field.
 pub trait HasField {
@@ -22,22 +23,21 @@ impl HasField for BoundExpression {
 }
 
 /// `($.a and $.b)`
-pub fn both(alloc: Global) -> VortexResult<Expression> {
-    and(alloc, col(alloc, "a")?, col(alloc, "b")?)
-}
+pub const BOTH: &str = "a b and";
 
 /// `(($.col1 = $.col2) and ($.col3 != $.col4))`
-pub fn comparisons(alloc: Global) -> VortexResult<Expression> {
-    let equal = eq(alloc, col(alloc, "col1")?, col(alloc, "col2")?)?;
-    let unequal = not_eq(alloc, col(alloc, "col3")?, col(alloc, "col4")?)?;
-    and(alloc, equal, unequal)
-}
+pub const COMPARISONS: &str = "col1 col2 = col3 col4 != and";
 
 /// `$.bool1`, turned a thousand times.
-pub fn deep(alloc: Global) -> VortexResult<Expression> {
-    let mut deep = col(alloc, "bool1")?;
+pub fn deep(alloc: Global) -> Result<Box<Expression>, Fail> {
+    let mut words = String::from_str(alloc, "bool1")?;
     for _ in 0..1000 {
-        deep = not(alloc, deep)?;
+        words.push_str(" not")?;
     }
-    Ok(deep)
+    boxed(alloc, words.as_str())
+}
+
+/// The tree of the words, bound to the type of the harness.
+pub fn over_harness(alloc: Global, words: &str) -> Result<Box<BoundExpression>, Fail> {
+    bound(alloc, words, &struct_dtype(alloc)?)
 }
