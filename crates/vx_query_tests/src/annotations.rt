@@ -1,6 +1,7 @@
 // Annotations, read out of their map.
 use crate::partitions::{CONDITIONS, scope, tree};
 use std::alloc::Global;
+use std::collections::HashSet;
 use std::process::Abort;
 use std::test::Fail;
 use vx_rewrite::{
@@ -8,15 +9,23 @@ use vx_rewrite::{
 };
 use vx_tree::{BoundExpression, ExactBoundExpr, FieldName, Literal, VortexError, VortexResult};
 
+/// The set at the tree.
+fn set_at(
+    found: &BoundAnnotations<FieldName>,
+    e: Box<BoundExpression>,
+) -> Option<&HashSet<FieldName>> {
+    found.get(&ExactBoundExpr(Box::into_inner(e)))
+}
+
 /// Asserts that the set at the tree has those names, which stand one space apart, and no other.
 fn has(
     rt: &impl Abort,
     alloc: Global,
     found: &BoundAnnotations<FieldName>,
-    e: BoundExpression,
+    e: Box<BoundExpression>,
     names: &str,
 ) -> Result<(), Fail> {
-    let set = found.get(&ExactBoundExpr(e)).ok_or("no entry")?;
+    let set = set_at(found, e).ok_or("no entry")?;
     let mut count: usize = 0;
     for name in names.split_whitespace() {
         assert!(rt;
@@ -51,7 +60,7 @@ fn read(alloc: Global, words: &str) -> Result<BoundAnnotations<FieldName>, Fail>
     let e = tree(alloc, words)?;
     Ok(descendent_bound_annotations(
         alloc,
-        &e,
+        &*e,
         |node: &BoundExpression| free_fields(alloc, node, fields),
     )?)
 }
@@ -63,7 +72,7 @@ fn read_themselves(alloc: Global, words: &str) -> Result<BoundAnnotations<FieldN
     let e = tree(alloc, words)?;
     Ok(direct_bound_annotations(
         alloc,
-        &e,
+        &*e,
         |node: &BoundExpression| free_fields(alloc, node, fields),
     )?)
 }
@@ -125,10 +134,10 @@ fn is_first<T: Drop>(rt: &impl Abort, answer: VortexResult<T>) -> Result<(), Fai
 fn the_first_refusal_is_passed_on(rt: HostRuntime) -> Result<(), Fail> {
     let alloc = rt.alloc();
     let e = tree(alloc, CONDITIONS)?;
-    let found = descendent_bound_annotations(alloc, &e, |node: &BoundExpression| {
+    let found = descendent_bound_annotations(alloc, &*e, |node: &BoundExpression| {
         refuse(alloc, node)
     });
     is_first(&rt, found)?;
-    let found = direct_bound_annotations(alloc, &e, |node: &BoundExpression| refuse(alloc, node));
+    let found = direct_bound_annotations(alloc, &*e, |node: &BoundExpression| refuse(alloc, node));
     is_first(&rt, found)
 }

@@ -5,7 +5,7 @@ mod table;
 use std::alloc::Global;
 use std::test::Fail;
 use vx_rewrite::find_between;
-use vx_samples::{i32_type, names, numbers, parsed, scope_of_x, shows};
+use vx_samples::{bound, i32_type, names, numbers, scope_of_x, shows};
 use vx_tree::Nullability::{NonNullable, Nullable};
 use vx_tree::{Column, DType, FieldNames, StructFields, Value, VortexError, VortexResult};
 
@@ -17,10 +17,22 @@ fn fuses(
     texts: (&str, &str),
     rows: &str,
 ) -> Result<(), Fail> {
-    let bound = parsed(alloc, words)?.bind(alloc, batch.dtype())?;
-    let fused = find_between(alloc, bound.clone()?)?;
-    shows(alloc, bound, batch, (texts.0, "bool?"), rows)?;
-    shows(alloc, fused, batch, (texts.1, "bool?"), rows)
+    let bound = bound(alloc, words, batch.dtype())?;
+    let fused = Box::new(alloc, find_between(alloc, (*bound).clone()?)?)?;
+    shows(
+        alloc,
+        Box::into_inner(bound),
+        batch,
+        (texts.0, "bool?"),
+        rows,
+    )?;
+    shows(
+        alloc,
+        Box::into_inner(fused),
+        batch,
+        (texts.1, "bool?"),
+        rows,
+    )
 }
 
 /// Rows of numbers, with nulls between them.

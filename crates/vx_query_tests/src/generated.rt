@@ -10,7 +10,7 @@ use std::test::Fail;
 use vx_eval::apply_bound;
 use vx_query::run_query;
 use vx_rewrite::Pass;
-use vx_samples::{fields, i32_type, parsed, struct_of};
+use vx_samples::{boxed, fields, i32_type, struct_of};
 use vx_tree::Nullability::{NonNullable, Nullable};
 use vx_tree::{Column, DType, Expression, Value, VortexError, VortexResult};
 
@@ -79,7 +79,7 @@ fn agrees(
     source: &Expression,
     batch: &Column,
 ) -> VortexResult<bool> {
-    let bound = source.bind(alloc, batch.dtype())?;
+    let bound = Box::new(alloc, source.bind(alloc, batch.dtype())?)?;
     let plain = apply_bound(alloc, batch, &bound);
     let queries: [(&[Pass], bool); 5] = [
         (&[], false),
@@ -108,8 +108,8 @@ fn all_agree(rt: &impl Abort, alloc: Global, seed: u64) -> Result<(), Fail> {
     let mut count: usize = 0;
     for _ in 0..TREES {
         let words = maker.tree()?;
-        let tree = parsed(alloc, words.as_str())?;
-        if agrees(rt, alloc, &tree, &batch)? {
+        let tree = boxed(alloc, words.as_str())?;
+        if agrees(rt, alloc, &*tree, &batch)? {
             count = count.saturating_add(1);
         }
     }

@@ -4,9 +4,9 @@ use std::alloc::Global;
 use std::process::Abort;
 use std::test::Fail;
 use vx_rewrite::{BoundLabels, label_bound_tree};
-use vx_samples::{binary, col, literal};
+use vx_samples::{binary, bound, col};
 use vx_tree::test_harness::struct_dtype;
-use vx_tree::{BoundExpression, ExactBoundExpr, Operator, Scalar, VortexResult};
+use vx_tree::{BoundExpression, ExactBoundExpr, Operator, VortexResult};
 
 /// One more than the highest child's.
 pub fn heights(alloc: Global, e: &BoundExpression) -> VortexResult<BoundLabels<u64>> {
@@ -43,51 +43,52 @@ fn has(
     rt: &impl Abort,
     labels: &BoundLabels<u64>,
     len: usize,
-    e: BoundExpression,
+    e: Box<BoundExpression>,
     label: u64,
 ) -> Result<(), Fail> {
     assert_eq!(rt; labels.len(), len);
-    let found = labels.get(&ExactBoundExpr(e)).copied();
+    let found = labels.get(&ExactBoundExpr(Box::into_inner(e))).copied();
     assert!(rt; found == Some(label), "{found:?} and not {label}");
     Ok(())
 }
 
 /// `($.col1 = 5u16)`
-pub fn equal(alloc: Global) -> VortexResult<BoundExpression> {
-    let five = literal(alloc, Scalar::from_u16(5))?;
-    binary(alloc, Operator::Eq, col(alloc, "col1")?, five)?.bind(alloc, &struct_dtype(alloc)?)
+pub fn equal(alloc: Global) -> Result<Box<BoundExpression>, Fail> {
+    bound(alloc, "col1 5u16 =", &struct_dtype(alloc)?)
 }
 
 #[test]
 fn heights_and_sizes(rt: HostRuntime) -> Result<(), Fail> {
     let alloc = rt.alloc();
     let e = equal(alloc)?;
-    has(&rt, &heights(alloc, &e)?, 4, equal(alloc)?, 3)?;
-    has(&rt, &sizes(alloc, &e)?, 4, equal(alloc)?, 4)
+    has(&rt, &heights(alloc, &*e)?, 4, equal(alloc)?, 3)?;
+    has(&rt, &sizes(alloc, &*e)?, 4, equal(alloc)?, 4)
 }
 
 #[test]
 fn merged_from_the_left(rt: HostRuntime) -> Result<(), Fail> {
     let alloc = rt.alloc();
-    let labels = folded(alloc, &tree(alloc, "a.x 1 >=")?)?;
+    let labels = folded(alloc, &*tree(alloc, "a.x 1 >=")?)?;
     // $ 1, $.a 3, $.a.x 5, the literal 1, and (1 * 2 + 5) * 2 + 1.
     has(&rt, &labels, 5, tree(alloc, "a.x 1 >=")?, 15)
 }
 
 /// `$.bool1`, and ten times the And of the last tree with itself.
-fn shared(alloc: Global) -> VortexResult<BoundExpression> {
-    let mut shared = col(alloc, "bool1")?;
+fn shared(alloc: Global) -> VortexResult<Box<BoundExpression>> {
+    let mut shared = Box::new(alloc, col(alloc, "bool1")?)?;
     for _ in 0..10 {
-        let same = shared.clone()?;
-        shared = binary(alloc, Operator::And, shared, same)?;
+        let same = (*shared).clone()?;
+        let both = binary(alloc, Operator::And, Box::into_inner(shared), same)?;
+        shared = Box::new(alloc, both)?;
     }
-    shared.bind(alloc, &struct_dtype(alloc)?)
+    let bound = shared.bind(alloc, &struct_dtype(alloc)?)?;
+    Ok(Box::new(alloc, bound)?)
 }
 
 #[test]
 fn shared_nodes_are_one(rt: HostRuntime) -> Result<(), Fail> {
     let alloc = rt.alloc();
-    let labels = sizes(alloc, &shared(alloc)?)?;
+    let labels = sizes(alloc, &*shared(alloc)?)?;
     has(&rt, &labels, 12, shared(alloc)?, 3071)
 }
 
@@ -95,6 +96,6 @@ fn shared_nodes_are_one(rt: HostRuntime) -> Result<(), Fail> {
 fn a_tree_bound_apart_is_the_same_key(rt: HostRuntime) -> Result<(), Fail> {
     let alloc = rt.alloc();
     let words = "a.x 1 >= b 5 < and";
-    let labels = sizes(alloc, &tree(alloc, words)?)?;
+    let labels = sizes(alloc, &*tree(alloc, words)?)?;
     has(&rt, &labels, 9, tree(alloc, words)?, 10)
 }

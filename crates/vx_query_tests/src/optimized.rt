@@ -4,8 +4,8 @@ use std::process::Abort;
 use std::test::Fail;
 use vx_rewrite::Optimize;
 use vx_samples::{
-    col, empty_rows, i32_type, literal, numbers, parsed, repacked, rows_of_field, rows_of_x, shows,
-    turned, with_x,
+    batch, bound, boxed, col, empty_rows, i32_type, literal, numbers, repacked, rows_of_field,
+    rows_of_x, shows, turned, with_x,
 };
 use vx_tree::Nullability::{NonNullable, Nullable};
 use vx_tree::{Column, DType, Expression, Scalar, Value, VortexResult};
@@ -20,25 +20,25 @@ struct Row<'a> {
 
 /// Fails unless the words over the batch are that row.
 fn becomes(alloc: Global, words: &str, batch: &Column, row: Row<'_>) -> Result<(), Fail> {
-    let bound = parsed(alloc, words)?.bind(alloc, batch.dtype())?;
-    let left = bound.optimize_recursive(alloc)?;
-    shows(alloc, bound, batch, row.before, row.rows)?;
-    shows(alloc, left, batch, row.after, row.rows)
+    let bound = bound(alloc, words, batch.dtype())?;
+    let left = Box::new(alloc, bound.optimize_recursive(alloc)?)?;
+    shows(alloc, Box::into_inner(bound), batch, row.before, row.rows)?;
+    shows(alloc, Box::into_inner(left), batch, row.after, row.rows)
 }
 
 /// Asserts that no rule fits at any node of the source over the batch, and what it shows.
 fn stays(
     rt: &impl Abort,
     alloc: Global,
-    source: Expression,
+    source: &Expression,
     batch: &Column,
     texts: (&str, &str),
     rows: &str,
 ) -> Result<(), Fail> {
-    let bound = source.bind(alloc, batch.dtype())?;
+    let bound = Box::new(alloc, source.bind(alloc, batch.dtype())?)?;
     assert!(rt; bound.try_optimize_recursive(alloc)?.is_none(), "{bound}");
-    assert!(rt; bound.optimize_recursive(alloc)? == bound, "{bound}");
-    shows(alloc, bound, batch, texts, rows)
+    assert!(rt; bound.optimize_recursive(alloc)? == *bound, "{bound}");
+    shows(alloc, Box::into_inner(bound), batch, texts, rows)
 }
 
 #[test]
@@ -139,18 +139,21 @@ fn each_rule_is_tried_at_each_node(rt: HostRuntime) -> Result<(), Fail> {
 fn a_selection_of_what_may_be_null_stays(rt: HostRuntime) -> Result<(), Fail> {
     let alloc = rt.alloc();
     let x = rows_of_x(alloc, &[None, Some(4)])?;
-    let twice = parsed(alloc, "1 2 pack(a,b)? {b,b}")?;
+    let twice = boxed(alloc, "1 2 pack(a,b)? {b,b}")?;
     let texts = ("pack(a: 1i32, b: 2i32)?{b, b}", "{b=i32, b=i32}?");
     let rows = "[{b: 2i32, b: 2i32}, {b: 2i32, b: 2i32}]";
-    stays(&rt, alloc, twice, &x, texts, rows)
+    stays(&rt, alloc, &*twice, &x, texts, rows)
 }
 
 /// 1 where the scope's struct `s` is null, else that.
-fn one_for_no_struct(alloc: Global, dtype: DType) -> Result<Expression, Fail> {
+fn one_for_no_struct(alloc: Global, dtype: DType) -> Result<Box<Expression>, Fail> {
     let one = vec![in alloc; Value::Int(1)]?;
-    let one = literal(alloc, Scalar::try_new(dtype, Value::Struct(one))?)?;
-    let missing = parsed(alloc, "s is_null")?;
-    Ok(vx_build::case_when(alloc, missing, one, col(alloc, "s")?)?)
+    let one = Scalar::try_new(dtype, Value::Struct(one))?;
+    let one = Box::new(alloc, literal(alloc, one)?)?;
+    let missing = Box::into_inner(boxed(alloc, "s is_null")?);
+    let given = col(alloc, "s")?;
+    let filled = vx_build::case_when(alloc, missing, Box::into_inner(one), given)?;
+    Ok(Box::new(alloc, filled)?)
 }
 
 #[test]
@@ -163,7 +166,7 @@ fn no_struct_is_filled(rt: HostRuntime) -> Result<(), Fail> {
     let batch = rows_of_field(alloc, "s", dtype.as_nullable(), values)?;
     let text = "CASE WHEN vortex.is_null($.s) THEN {x: 1i32} ELSE $.s END";
     let rows = "[{x: 1i32}, {x: 4i32}]";
-    stays(&rt, alloc, source, &batch, (text, "{x=i32}?"), rows)
+    stays(&rt, alloc, &*source, &batch, (text, "{x=i32}?"), rows)
 }
 
 // A choice between 1 and the scope root by a literal.
@@ -217,26 +220,13 @@ fn a_choice_by_a_literal_is_made(rt: HostRuntime) -> Result<(), Fail> {
     Ok(())
 }
 
-/// `zip(1i32, $, null)`
-fn unknown_choice(alloc: Global) -> VortexResult<Expression> {
-    let mask = literal(alloc, Scalar::null(DType::Bool(Nullable)))?;
-    let one = literal(alloc, Scalar::from_i32(1))?;
-    vx_build::zip_expr(alloc, mask, one, Expression::Root)
-}
-
 #[test]
 fn a_choice_by_null_stays(rt: HostRuntime) -> Result<(), Fail> {
     let alloc = rt.alloc();
     let batch = plain_rows(alloc)?;
+    let unknown = boxed(alloc, "1 $ null:bool zip")?;
     let texts = ("zip(1i32, $, null)", "i32?");
-    stays(
-        &rt,
-        alloc,
-        unknown_choice(alloc)?,
-        &batch,
-        texts,
-        "[null, 4i32]",
-    )
+    stays(&rt, alloc, &*unknown, &batch, texts, "[null, 4i32]")
 }
 
 /// A row of the struct of the one field `x`.
@@ -245,20 +235,24 @@ fn one_x(alloc: Global) -> VortexResult<Value> {
 }
 
 #[test]
-fn no_field_of_what_may_be_null_is_left(rt: HostRuntime) -> Result<(), Fail> {
+fn no_field_of_what_may_be_null_stays(rt: HostRuntime) -> Result<(), Fail> {
     let alloc = rt.alloc();
+    let rows = vec![in alloc; Value::Null, one_x(alloc)?]?;
     let maybe = with_x(alloc, i32_type(NonNullable), Nullable)?;
-    let batch = Column::try_new(maybe, vec![in alloc; Value::Null, one_x(alloc)?]?)?;
-    let none = parsed(alloc, "$ {}")?;
-    stays(&rt, alloc, none, &batch, ("${}", "{}?"), "[null, {}]")?;
-    let never = with_x(alloc, i32_type(NonNullable), NonNullable)?;
-    let batch = Column::try_new(never, vec![in alloc; one_x(alloc)?]?)?;
+    let batch = Column::try_new(maybe, rows)?;
+    let none = boxed(alloc, "$ {}")?;
+    stays(&rt, alloc, &*none, &batch, ("${}", "{}?"), "[null, {}]")
+}
+
+#[test]
+fn no_field_of_what_is_never_null_is_an_empty_pack(rt: HostRuntime) -> Result<(), Fail> {
+    let alloc = rt.alloc();
     let row = Row {
         before: ("${}", "{}"),
         after: ("pack()", "{}"),
         rows: "[{}]",
     };
-    becomes(alloc, "$ {}", &batch, row)
+    becomes(alloc, "$ {}", &batch(alloc, "x:i32; 1")?, row)
 }
 
 /// A text, and another so many times on each side of it.
@@ -282,12 +276,14 @@ fn nested(
 
 /// Fails unless of so many packs, of each of which an item is taken, what is innermost is left.
 fn takes(alloc: Global, batch: &Column, levels: usize) -> Result<(), Fail> {
-    let bound = repacked(alloc, col(alloc, "x")?, levels)?.bind(alloc, batch.dtype())?;
-    let left = bound.optimize(alloc)?;
+    let source = Box::new(alloc, repacked(alloc, col(alloc, "x")?, levels)?)?;
+    let bound = Box::new(alloc, source.bind(alloc, batch.dtype())?)?;
+    let left = Box::new(alloc, bound.optimize(alloc)?)?;
     let text = nested(alloc, "pack(a: ", "$.x", ").a", levels)?;
     let rows = "[10i32, null]";
-    shows(alloc, bound, batch, (text.as_str(), "i32?"), rows)?;
-    shows(alloc, left, batch, ("$.x", "i32?"), rows)
+    let taken = (text.as_str(), "i32?");
+    shows(alloc, Box::into_inner(bound), batch, taken, rows)?;
+    shows(alloc, Box::into_inner(left), batch, ("$.x", "i32?"), rows)
 }
 
 #[test]
@@ -310,8 +306,8 @@ fn rows_of_b(alloc: Global) -> VortexResult<Column> {
 fn optimize_stays_at_the_root(rt: HostRuntime) -> Result<(), Fail> {
     let alloc = rt.alloc();
     let batch = rows_of_b(alloc)?;
-    let bound = parsed(alloc, NEGATED_FILL)?.bind(alloc, batch.dtype())?;
-    assert!(rt; bound.optimize(alloc)? == bound);
+    let bound = bound(alloc, NEGATED_FILL, batch.dtype())?;
+    assert!(rt; bound.optimize(alloc)? == *bound);
     let row = Row {
         before: ("vortex.not(vortex.fill_null($.b, false))", "bool"),
         after: ("vortex.not($.b)", "bool"),
@@ -326,7 +322,8 @@ fn a_deep_tree_without_a_rule_stays(rt: HostRuntime) -> Result<(), Fail> {
     let two = empty_rows(alloc, 2)?;
     let text = nested(alloc, "vortex.not(", "true", ")", 1000)?;
     let texts = (text.as_str(), "bool");
-    stays(&rt, alloc, turned(alloc)?, &two, texts, "[true, true]")
+    let deep = Box::new(alloc, turned(alloc)?)?;
+    stays(&rt, alloc, &*deep, &two, texts, "[true, true]")
 }
 
 #[test]

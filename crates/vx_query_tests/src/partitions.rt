@@ -9,24 +9,23 @@ use vx_eval::apply_bound;
 use vx_rewrite::{
     BoundPartitionedExpr, covers, descendent_bound_annotations, free_fields, partition_bound,
 };
-use vx_samples::{i32_type, literal, named, parsed, prints, reads, refused, struct_of};
+use vx_samples::{bound, boxed, i32_type, prints, reads, refused, struct_of};
 use vx_tree::Nullability::NonNullable;
 use vx_tree::{
-    BoundExpression, Column, DType, Expression, FieldName, Scalar, Value, VortexError, VortexResult,
+    BoundExpression, Column, DType, Expression, FieldName, Value, VortexError, VortexResult,
 };
 
 /// `{a={x=i32, y=i32}, b=i32, c=i32}`
 pub fn scope(alloc: Global) -> VortexResult<DType> {
-    let number = i32_type(NonNullable);
-    let numbers = vec![in alloc; number.clone()?, number.clone()?]?;
+    let numbers = vec![in alloc; i32_type(NonNullable), i32_type(NonNullable)]?;
     let pair = struct_of(alloc, &["x", "y"], numbers)?;
-    let types = vec![in alloc; pair, number.clone()?, number]?;
+    let types = vec![in alloc; pair, i32_type(NonNullable), i32_type(NonNullable)]?;
     struct_of(alloc, &["a", "b", "c"], types)
 }
 
 /// The words over that scope.
-pub fn tree(alloc: Global, words: &str) -> Result<BoundExpression, Fail> {
-    Ok(parsed(alloc, words)?.bind(alloc, &scope(alloc)?)?)
+pub fn tree(alloc: Global, words: &str) -> Result<Box<BoundExpression>, Fail> {
+    bound(alloc, words, &scope(alloc)?)
 }
 
 /// A row of that scope: x, y, b and c.
@@ -73,7 +72,7 @@ pub fn divided(
 /// Whether the fields that the source's nodes read cover it.
 fn covered(alloc: Global, source: &Expression, scope: &DType) -> VortexResult<bool> {
     let fields = scope.as_struct_fields_opt().ok_or(VortexError::NotAStruct)?;
-    let bound = source.bind(alloc, scope)?;
+    let bound = Box::new(alloc, source.bind(alloc, scope)?)?;
     let annotations = descendent_bound_annotations(
         alloc,
         &bound,
@@ -112,16 +111,18 @@ fn trees_are_split_by_their_fields(rt: HostRuntime) -> Result<(), Fail> {
     let alloc = rt.alloc();
     let scope = scope(alloc)?;
     for (words, text, is_covered) in ROWS {
-        let source = parsed(alloc, words)?;
-        prints(divided(alloc, &source, &scope)?, text)?;
-        assert_eq!(rt; covered(alloc, &source, &scope)?, is_covered, "of {text}");
+        let source = boxed(alloc, words)?;
+        prints(divided(alloc, &*source, &scope)?, text)?;
+        assert_eq!(rt; covered(alloc, &*source, &scope)?, is_covered, "of {text}");
     }
     Ok(())
 }
 
 /// The words over the scope, split by the fields that their nodes read.
-fn split(alloc: Global, words: &str) -> Result<BoundPartitionedExpr<FieldName>, Fail> {
-    Ok(divided(alloc, &parsed(alloc, words)?, &scope(alloc)?)?)
+pub fn split(alloc: Global, words: &str) -> Result<Box<BoundPartitionedExpr<FieldName>>, Fail> {
+    let source = boxed(alloc, words)?;
+    let whole = divided(alloc, &*source, &scope(alloc)?)?;
+    Ok(Box::new(alloc, whole)?)
 }
 
 /// Whether the partition of that field has that text; none where there is no such partition.
@@ -147,22 +148,16 @@ fn partitions_are_found_by_their_field(rt: HostRuntime) -> Result<(), Fail> {
     Ok(())
 }
 
-/// The truth value, packed under that name, over the scope.
-pub fn truth(alloc: Global, name: &str, truth: bool) -> VortexResult<BoundExpression> {
-    let truth = literal(alloc, Scalar::from_bool(truth))?;
-    let only = vec![in alloc; named(alloc, name, truth)?]?;
-    vx_build::pack(alloc, only, NonNullable)?.bind(alloc, &scope(alloc)?)
-}
-
 /// Asserts that one partition of another type is refused in place of the old ones, and that nothing
 /// changes.
 fn refuses(rt: &impl Abort, alloc: Global, words: &str, texts: (&str, &str)) -> Result<(), Fail> {
     let mut whole = split(alloc, words)?;
-    let other = vec![in alloc; truth(alloc, "zz", true)?]?;
+    let other = tree(alloc, "true pack(zz)")?;
+    let other = vec![in alloc; Box::into_inner(other)]?;
     assert_eq!(rt; whole.partition_names.len(), whole.partitions.len());
     let answer = whole.replace_partitions(alloc, other);
     refused(answer, texts.1)?;
-    prints(whole, texts.0)
+    prints(&*whole, texts.0)
 }
 
 #[test]
@@ -197,8 +192,8 @@ fn joined(
 /// The root of the source, split, over its partitions' columns.
 fn rejoined(rt: &impl Abort, alloc: Global, words: &str, batch: &Column) -> Result<Column, Fail> {
     let whole = split(alloc, words)?;
-    let joined = joined(rt, alloc, &whole, batch)?;
     assert!(rt; whole.root.is_well_typed(alloc)?);
+    let joined = joined(rt, alloc, &whole, batch)?;
     Ok(apply_bound(alloc, &joined, &whole.root)?)
 }
 
@@ -217,8 +212,8 @@ fn a_root_that_is_not_covered_keeps_its_scope(rt: HostRuntime) -> Result<(), Fai
     let alloc = rt.alloc();
     let batch = rows_of(alloc, &[[1, 7, 4, 0]])?;
     let whole = split(alloc, NOT_COVERED)?;
-    let joined = joined(&rt, alloc, &whole, &batch)?;
     assert!(rt; whole.root.is_well_typed(alloc)?);
+    let joined = joined(&rt, alloc, &whole, &batch)?;
     refused(
         apply_bound(alloc, &joined, &whole.root),
         "the column isn't of the scope's type",

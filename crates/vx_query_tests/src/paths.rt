@@ -4,7 +4,7 @@ use std::alloc::{AllocError, Global};
 use std::process::Abort;
 use std::test::Fail;
 use vx_rewrite::referenced_field_paths;
-use vx_samples::{fields, i32_type, parsed, struct_of, with_x};
+use vx_samples::{bound, fields, i32_type, struct_of, with_x};
 use vx_tree::Nullability::{NonNullable, Nullable};
 use vx_tree::{DType, FieldName, VortexResult};
 use vx_types::{Field, FieldPath, FieldPathSet};
@@ -33,8 +33,8 @@ fn asks(
     scope: &DType,
     wanted: &str,
 ) -> Result<(), Fail> {
-    let bound = parsed(alloc, words)?.bind(alloc, scope)?;
-    let paths = referenced_field_paths(alloc, &bound)?;
+    let bound = bound(alloc, words, scope)?;
+    let paths = referenced_field_paths(alloc, &*bound)?;
     assert_eq!(rt; shown(alloc, &paths)?.as_str(), wanted, "{words}");
     Ok(())
 }

@@ -6,8 +6,8 @@ use std::test::Fail;
 use vx_query::run_query;
 use vx_rewrite::Pass;
 use vx_samples::{
-    empty_rows, i32_type, number, numbers, parsed, prints, reads, refused, rows_of_field,
-    rows_of_x, unchosen_overflow,
+    boxed, empty_rows, i32_type, numbers, prints, reads, refused, rows_of_field, rows_of_x,
+    unchosen_overflow,
 };
 use vx_tree::Nullability::NonNullable;
 use vx_tree::test_harness::struct_dtype;
@@ -52,56 +52,44 @@ fn a_range_by_null_keeps_its_rows(rt: HostRuntime) -> Result<(), Fail> {
     let alloc = rt.alloc();
     let x = numbers(alloc, &[Some(10), Some(1)])?;
     let batch = rows_of_field(alloc, "x", i32_type(NonNullable), x)?;
-    let range = parsed(alloc, "x null >= x 5 <= and")?;
-    gives_always(&rt, alloc, &range, &batch, "[false, null]")
+    let range = boxed(alloc, "x null >= x 5 <= and")?;
+    gives_always(&rt, alloc, &*range, &batch, "[false, null]")
 }
 
 // 0 where x is null, else x.
 const ZERO_FOR_NULL: &str = "x is_null 0 x case";
 
-/// A value for where x is above the number.
-fn pair(alloc: Global, bound: &str, value: i32) -> Result<(Expression, Expression), Fail> {
-    let condition = parsed(alloc, bound)?;
-    Ok((condition, number(alloc, value)?))
-}
-
-/// 10 where x is above 0, 20 where it is above 3, else 30.
-fn two_cases(alloc: Global) -> Result<Expression, Fail> {
-    let first = pair(alloc, "x 0 >", 10)?;
-    let second = pair(alloc, "x 3 >", 20)?;
-    let pairs = vec![in alloc; first, second]?;
-    let otherwise = number(alloc, 30)?;
-    Ok(vx_build::nested_case_when(alloc, pairs, Some(otherwise))?)
-}
+// 10 where x is above 0, 20 where it is above 3, else 30.
+const TWO_CASES: &str = "x 0 > 10 x 3 > 20 30 cases(2,else)";
 
 #[test]
 fn cases_keep_their_rows(rt: HostRuntime) -> Result<(), Fail> {
     let alloc = rt.alloc();
     let x = rows_of_x(alloc, &[None, Some(4)])?;
-    let source = parsed(alloc, ZERO_FOR_NULL)?;
-    gives_always(&rt, alloc, &source, &x, "[0i32, 4i32]")?;
+    let source = boxed(alloc, ZERO_FOR_NULL)?;
+    gives_always(&rt, alloc, &*source, &x, "[0i32, 4i32]")?;
     let x = rows_of_x(alloc, &[Some(1), Some(5), None])?;
-    let chosen = "[10i32, 10i32, 30i32]";
-    gives_always(&rt, alloc, &two_cases(alloc)?, &x, chosen)
+    let source = boxed(alloc, TWO_CASES)?;
+    gives_always(&rt, alloc, &*source, &x, "[10i32, 10i32, 30i32]")
 }
 
 #[test]
 fn two_conditions_keep_their_rows(rt: HostRuntime) -> Result<(), Fail> {
     let alloc = rt.alloc();
     let batch = rows_of(alloc, &[[1, 7, 4, 0], [0, 7, 4, 0], [1, 7, 5, 0]])?;
-    let source = parsed(alloc, CONDITIONS)?;
-    gives_always(&rt, alloc, &source, &batch, "[true, false, false]")
+    let source = boxed(alloc, CONDITIONS)?;
+    gives_always(&rt, alloc, &*source, &batch, "[true, false, false]")
 }
 
 #[test]
 fn fields_that_are_not_read_change_nothing(rt: HostRuntime) -> Result<(), Fail> {
     let alloc = rt.alloc();
-    let source = parsed(alloc, CONDITIONS)?;
+    let source = boxed(alloc, CONDITIONS)?;
     let passes = [Pass::FindBetween, Pass::OptimizeRecursive, Pass::Optimize];
     for given in [[[1, 7, 4, 0], [0, 7, 9, 0]], [[1, -3, 4, 8], [0, 2, 9, -5]]] {
         let batch = rows_of(alloc, &given)?;
         for split in [false, true] {
-            let answer = run_query(alloc, &source, &batch, &passes, split)?;
+            let answer = run_query(alloc, &*source, &batch, &passes, split)?;
             prints(answer, "[true, false]")?;
         }
     }
@@ -112,14 +100,14 @@ fn fields_that_are_not_read_change_nothing(rt: HostRuntime) -> Result<(), Fail> 
 fn a_type_is_narrowed_by_a_pass_or_a_split(rt: HostRuntime) -> Result<(), Fail> {
     let alloc = rt.alloc();
     let x = rows_of_x(alloc, &[None, Some(4)])?;
-    let source = parsed(alloc, ZERO_FOR_NULL)?;
+    let source = boxed(alloc, ZERO_FOR_NULL)?;
     let cases: [(&[Pass], bool, &str); 3] = [
         (&[], false, "i32?"),
         (&[Pass::OptimizeRecursive], false, "i32"),
         (&[], true, "i32"),
     ];
     for (passes, split, dtype) in cases {
-        let answer = run_query(alloc, &source, &x, passes, split)?;
+        let answer = run_query(alloc, &*source, &x, passes, split)?;
         assert!(rt;
             reads(answer.dtype(), dtype),
             "{} and not {dtype}",
@@ -132,17 +120,17 @@ fn a_type_is_narrowed_by_a_pass_or_a_split(rt: HostRuntime) -> Result<(), Fail> 
 #[test]
 fn a_tree_without_partitions_has_rows(rt: HostRuntime) -> Result<(), Fail> {
     let alloc = rt.alloc();
-    let truth = parsed(alloc, "true")?;
+    let truth = boxed(alloc, "true")?;
     let two = empty_rows(alloc, 2)?;
-    gives_always(&rt, alloc, &truth, &two, "[true, true]")
+    gives_always(&rt, alloc, &*truth, &two, "[true, true]")
 }
 
 #[test]
 fn a_tree_that_is_not_covered_is_evaluated_whole(rt: HostRuntime) -> Result<(), Fail> {
     let alloc = rt.alloc();
     let batch = rows_of(alloc, &[[1, 7, 4, 0], [0, 7, 9, 0]])?;
-    let source = parsed(alloc, NOT_COVERED)?;
-    gives_always(&rt, alloc, &source, &batch, "[false, false]")
+    let source = boxed(alloc, NOT_COVERED)?;
+    gives_always(&rt, alloc, &*source, &batch, "[false, false]")
 }
 
 /// Fails unless the query is refused so by every list of at most two passes, split and not.
@@ -172,7 +160,7 @@ fn a_source_without_a_type_is_refused(rt: HostRuntime) -> Result<(), Fail> {
         ("a 'nope =", "types differ in more than nullability"),
         ("a 1 2 case", "a truth type is needed"),
     ] {
-        refuses_always(alloc, &parsed(alloc, words)?, &batch, refusal)?;
+        refuses_always(alloc, &*boxed(alloc, words)?, &batch, refusal)?;
     }
     Ok(())
 }
@@ -180,9 +168,9 @@ fn a_source_without_a_type_is_refused(rt: HostRuntime) -> Result<(), Fail> {
 #[test]
 fn a_source_that_faults_is_refused(rt: HostRuntime) -> Result<(), Fail> {
     let alloc = rt.alloc();
-    let source = unchosen_overflow(alloc)?;
+    let source = Box::new(alloc, unchosen_overflow(alloc)?)?;
     let one = rows_of_x(alloc, &[None])?;
-    refuses_always(alloc, &source, &one, "the sum of row 0 is out of range")?;
+    refuses_always(alloc, &*source, &one, "the sum of row 0 is out of range")?;
     let none = rows_of_x(alloc, &[])?;
-    gives_always(&rt, alloc, &source, &none, "[]")
+    gives_always(&rt, alloc, &*source, &none, "[]")
 }

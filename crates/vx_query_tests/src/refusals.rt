@@ -5,3 +5,10 @@ mod paths;
 mod program;
 mod queries;
 mod rewriting;
+
+use std::test::Fail;
+
+/// Says that the answer was looked at.
+fn answered(rt: &impl Print) -> Result<(), Fail> {
+    Ok(rt.println("answered")?)
+}

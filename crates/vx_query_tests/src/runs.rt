@@ -2,6 +2,7 @@
 use std::alloc::Global;
 use std::io;
 use std::io::Write;
+use std::process::Abort;
 use std::test::Fail;
 use vx_run::run_show;
 
@@ -95,29 +96,35 @@ pub fn words_of(alloc: Global, texts: &[&str]) -> Result<Vec<String>, Fail> {
     Ok(words)
 }
 
+/// Asserts the status of the words, and what they write: a page or a message.
+fn gives(
+    rt: &impl Abort,
+    alloc: Global,
+    texts: &[&str],
+    status: u8,
+    (page, message): (&str, &str),
+) -> Result<(), Fail> {
+    let words = words_of(alloc, texts)?;
+    let mut out = Vec::new(alloc);
+    let mut err = Vec::new(alloc);
+    let answer = run_show(alloc, words.as_slice(), &mut out, &mut err);
+    assert_eq!(rt; answer, status, "of {texts:?}");
+    assert_eq!(rt; out.as_slice(), page.as_bytes(), "of {texts:?}");
+    assert_eq!(rt; err.as_slice(), message.as_bytes(), "of {texts:?}");
+    Ok(())
+}
+
 #[test]
 fn the_words_give_a_page_or_a_message(rt: HostRuntime) -> Result<(), Fail> {
     let alloc = rt.alloc();
+    gives(&rt, alloc, &["kleene"], 0, (KLEENE, ""))?;
+    gives(&rt, alloc, &["coalesce"], 0, (COALESCE, ""))?;
+    gives(&rt, alloc, &["cases"], 0, (CASES, ""))?;
+    gives(&rt, alloc, &["fused"], 0, (FUSED, ""))?;
+    gives(&rt, alloc, &["zz"], 2, ("", "unknown row\n"))?;
     let usage = "usage: vx_show ROW\n";
-    let cases: [(&[&str], &str, &str, u8); 7] = [
-        (&["kleene"], KLEENE, "", 0),
-        (&["coalesce"], COALESCE, "", 0),
-        (&["cases"], CASES, "", 0),
-        (&["fused"], FUSED, "", 0),
-        (&["zz"], "", "unknown row\n", 2),
-        (&[], "", usage, 2),
-        (&["kleene", "kleene"], "", usage, 2),
-    ];
-    for (texts, page, message, status) in cases {
-        let words = words_of(alloc, texts)?;
-        let mut out = Vec::new(alloc);
-        let mut err = Vec::new(alloc);
-        let answer = run_show(alloc, words.as_slice(), &mut out, &mut err);
-        assert_eq!(rt; answer, status, "of {texts:?}");
-        assert_eq!(rt; out.as_slice(), page.as_bytes(), "of {texts:?}");
-        assert_eq!(rt; err.as_slice(), message.as_bytes(), "of {texts:?}");
-    }
-    Ok(())
+    gives(&rt, alloc, &[], 2, ("", usage))?;
+    gives(&rt, alloc, &["kleene", "kleene"], 2, ("", usage))
 }
 
 #[test]

@@ -94,11 +94,12 @@ fn conjunction(
     alloc: Global,
     items: Vec<Expression>,
     scope: &DType,
-) -> Result<BoundExpression, Fail>
-    ensures { IfOk result (λ e. WellTyped (bound_of e)) }
+) -> Result<Box<BoundExpression>, Fail>
+    ensures { IfOk result (λ e. WellTyped (bound_of e.value)) }
 {
     let all = and_collect(alloc, items)?.ok_or("no item")?;
-    Ok(all.bind(alloc, scope)?)
+    let bound = all.bind(alloc, scope)?;
+    Ok(Box::new(alloc, bound)?)
 }
 
 #[test]
@@ -106,9 +107,9 @@ fn a_thousand_comparisons_are_half_as_many_ranges(rt: HostRuntime) -> Result<(),
     let alloc = rt.alloc();
     let scope = scope_of(alloc, column_names(alloc)?)?;
     let many = conjunction(alloc, many_comparisons(alloc)?, &scope)?;
-    let fused = find_between(alloc, many)?;
-    assert!(rt; fused == conjunction(alloc, many_ranges(alloc)?, &scope)?);
-    assert!(rt; find_between(alloc, fused.clone()?)? == fused);
+    let fused = Box::new(alloc, find_between(alloc, Box::into_inner(many))?)?;
+    assert!(rt; *fused == *conjunction(alloc, many_ranges(alloc)?, &scope)?);
+    assert!(rt; find_between(alloc, (*fused).clone()?)? == *fused);
     Ok(())
 }
 
@@ -141,7 +142,7 @@ fn a_thousand_comparisons_keep_their_rows(rt: HostRuntime) -> Result<(), Fail> {
     let batch = Column::try_new(scope_of(alloc, column_names(alloc)?)?, rows)?;
     let many = conjunction(alloc, many_comparisons(alloc)?, batch.dtype())?;
     let wanted = "[true, null, false]";
-    let fused = find_between(alloc, many.clone()?)?;
-    has_rows(alloc, many, &batch, wanted)?;
-    has_rows(alloc, fused, &batch, wanted)
+    let fused = Box::new(alloc, find_between(alloc, (*many).clone()?)?)?;
+    has_rows(alloc, Box::into_inner(many), &batch, wanted)?;
+    has_rows(alloc, Box::into_inner(fused), &batch, wanted)
 }

@@ -2,7 +2,7 @@
 use std::alloc::Global;
 use std::test::Fail;
 use vx_rewrite::find_between;
-use vx_samples::{i32_type, parsed, reads, struct_of};
+use vx_samples::{bound, i32_type, reads, struct_of};
 use vx_tree::Nullability::{NonNullable, Nullable};
 use vx_tree::{DType, VortexResult};
 
@@ -56,14 +56,13 @@ fn scope(alloc: Global) -> VortexResult<DType> {
 
 // Fails unless the tree is fused to that text, and a second call changes nothing.
 fn fuses(alloc: Global, scope: &DType, words: &str, text: &str) -> Result<(), Fail> {
-    let bound = parsed(alloc, words)?.bind(alloc, scope)?;
-    let once = find_between(alloc, bound)?;
-    let shown = once.clone()?;
-    let twice = find_between(alloc, once)?;
-    if reads(&shown, text) && twice == shown {
+    let bound = bound(alloc, words, scope)?;
+    let once = Box::new(alloc, find_between(alloc, Box::into_inner(bound))?)?;
+    let twice = Box::new(alloc, find_between(alloc, (*once).clone()?)?)?;
+    if reads(&*once, text) && *twice == *once {
         return Ok(());
     }
-    Err(Fail::new(format_args!("{words}: {shown}, then {twice}, and not {text}")))
+    Err(Fail::new(format_args!("{words}: {once}, then {twice}, and not {text}")))
 }
 
 #[test]

@@ -1,8 +1,6 @@
 // Trees split by keys that all have one field name.
-ghost use Rattle.std.specs.Prelude.{◌≡◌, IfOk, Some, codes, refl};
+ghost use Rattle.std.specs.Prelude.{◌≡◌, Some, codes, refl};
 ghost use Rattle.vx_partition.specs.Keys.{same_bytes};
-ghost use Rattle.vx_tree.specs.Trees.{WellTyped};
-ghost use Rattle.vx_tree.specs.Views.{bound_of};
 
 use std::alloc::Global;
 use std::fmt;
@@ -12,7 +10,7 @@ use vx_rewrite::{
     Annotation, PartitionKey, direct_bound_annotations, partition_bound,
     partition_bound_annotations,
 };
-use vx_samples::{i32_type, parsed, prints};
+use vx_samples::{bound, i32_type, prints};
 use vx_tree::Nullability::NonNullable;
 use vx_tree::{BoundExpression, FieldName, ScalarFnRef, VortexError, VortexResult};
 
@@ -60,20 +58,13 @@ fn key_of(alloc: Global, e: &BoundExpression) -> VortexResult<Vec<Key>> {
     Ok(keys)
 }
 
-/// The tree of the words over a scope that it doesn't read.
-fn bound(alloc: Global, words: &str) -> Result<BoundExpression, Fail>
-    ensures { IfOk result (λ e. WellTyped (bound_of e)) }
-{
-    Ok(parsed(alloc, words)?.bind(alloc, &i32_type(NonNullable))?)
-}
-
 #[test]
 fn equal_pieces_are_two(rt: HostRuntime) -> Result<(), Fail> {
     let alloc = rt.alloc();
-    let e = bound(alloc, "true true and")?;
+    let e = bound(alloc, "true true and", &i32_type(NonNullable))?;
     let keys = |node: &BoundExpression| key_of(alloc, node);
-    let annotations = direct_bound_annotations(alloc, &e, keys)?;
-    let whole = partition_bound_annotations(alloc, e, annotations)?;
+    let annotations = direct_bound_annotations(alloc, &*e, keys)?;
+    let whole = partition_bound_annotations(alloc, Box::into_inner(e), annotations)?;
     prints(
         whole,
         "root: ($.p.true_0 and $.p.true_1) {p: pack(true_0: true, true_1: true)}",
@@ -83,7 +74,7 @@ fn equal_pieces_are_two(rt: HostRuntime) -> Result<(), Fail> {
 #[test]
 fn a_name_is_taken_once(rt: HostRuntime) -> Result<(), Fail> {
     let alloc = rt.alloc();
-    let e = bound(alloc, "true false and")?;
+    let e = Box::into_inner(bound(alloc, "true false and", &i32_type(NonNullable))?);
     let split = partition_bound(alloc, e, |node: &BoundExpression| key_of(alloc, node));
     let refusal = split.err().ok_or("not refused")?;
     assert!(rt; matches!(&refusal, VortexError::PartitionNameTaken(_)));

@@ -1,4 +1,5 @@
 // A set of paths whose memory is refused.
+use crate::refusals::answered;
 use std::alloc::Global;
 use std::test::Fail;
 use vx_tree::{FieldName, VortexResult};
@@ -62,5 +63,5 @@ fn extend_of_a_set(rt: HostRuntime) -> Result<(), Fail> {
     assert!(rt; OLD <= count);
     answer?;
     assert_eq!(rt; count, PATHS.len());
-    Ok(rt.println("answered")?)
+    answered(&rt)
 }

@@ -1,4 +1,5 @@
 // The program whose memory is refused: the page whole, or not a byte of it.
+use crate::refusals::answered;
 use crate::runs::{CASES, COALESCE, FUSED, KLEENE, words_of};
 use std::alloc::Global;
 use std::process::Abort;
@@ -22,7 +23,7 @@ fn shows(rt: &(impl Abort + Print), alloc: Global, row: &str, page: &str) -> Res
     assert_eq!(rt; status, 0);
     assert_eq!(rt; out.as_slice(), page.as_bytes());
     assert!(rt; err.is_empty());
-    Ok(rt.println("answered")?)
+    answered(rt)
 }
 
 #[test]

@@ -1,12 +1,13 @@
 // Queries and partitions whose memory is refused.
-use crate::partitions::{CONDITIONS, DIVIDED, TWO_CONDITIONS, divided, rows_of, scope, truth};
+use crate::partitions::{CONDITIONS, DIVIDED, TWO_CONDITIONS, rows_of, scope, split, tree};
+use crate::refusals::answered;
 use std::alloc::Global;
 use std::process::Abort;
 use std::test::Fail;
 use vx_query::run_query;
 use vx_rewrite::{BoundPartitionedExpr, Pass, free_fields, partition_bound};
-use vx_samples::{parsed, reads};
-use vx_tree::{BoundExpression, Column, Expression, FieldName, VortexResult};
+use vx_samples::{bound, boxed, reads};
+use vx_tree::{BoundExpression, Column, Expression, FieldName};
 
 const ROWS: &str = "[{a: {x: 1i32, y: 7i32}, b: 4i32, c: 0i32}, \
                     {a: {x: 0i32, y: 7i32}, b: 9i32, c: 0i32}]";
@@ -25,16 +26,16 @@ fn answers(
     assert!(rt; reads(source, TWO_CONDITIONS) && reads(batch, ROWS));
     let column = answer?;
     assert!(rt; reads(&column, "[true, false]"));
-    Ok(rt.println("answered")?)
+    answered(rt)
 }
 
 #[test]
 fn run_query_of_two_conditions(rt: HostRuntime) -> Result<(), Fail> {
     let alloc = rt.alloc();
-    let source = parsed(alloc, CONDITIONS)?;
+    let source = boxed(alloc, CONDITIONS)?;
     let batch = rows_of(alloc, &[[1, 7, 4, 0], [0, 7, 9, 0]])?;
-    answers(&rt, alloc, &source, &batch, false)?;
-    answers(&rt, alloc, &source, &batch, true)
+    answers(&rt, alloc, &*source, &batch, false)?;
+    answers(&rt, alloc, &*source, &batch, true)
 }
 
 #[test]
@@ -42,18 +43,18 @@ fn partition_bound_of_two_conditions(rt: HostRuntime) -> Result<(), Fail> {
     let alloc = rt.alloc();
     let scope = scope(alloc)?;
     let fields = scope.as_struct_fields_opt().ok_or("no struct")?;
-    let bound = parsed(alloc, CONDITIONS)?.bind(alloc, &scope)?;
-    let shared = bound.clone()?;
+    let bound = bound(alloc, CONDITIONS, &scope)?;
+    let shared = Box::new(alloc, (*bound).clone()?)?;
     rt.println("called")?;
     let answer = partition_bound(
         alloc,
-        bound,
+        Box::into_inner(bound),
         |node: &BoundExpression| free_fields(alloc, node, fields),
     );
-    assert!(rt; reads(&shared, TWO_CONDITIONS));
+    assert!(rt; reads(&*shared, TWO_CONDITIONS));
     let whole = answer?;
     assert!(rt; is_divided(&whole, DIVIDED));
-    Ok(rt.println("answered")?)
+    answered(&rt)
 }
 
 /// Whether it is of that text, and split by a and b.
@@ -63,10 +64,12 @@ fn is_divided(whole: &BoundPartitionedExpr<FieldName>, text: &str) -> bool {
 }
 
 /// Two other partitions, of the same type.
-fn others(alloc: Global) -> VortexResult<Vec<BoundExpression>> {
-    let first = truth(alloc, "a_0", true)?;
-    let second = truth(alloc, "b_0", false)?;
-    Ok(vec![in alloc; first, second]?)
+fn others(alloc: Global) -> Result<Vec<BoundExpression>, Fail> {
+    let mut others = Vec::new(alloc);
+    for words in ["true pack(a_0)", "false pack(b_0)"] {
+        others.push(Box::into_inner(tree(alloc, words)?))?;
+    }
+    Ok(others)
 }
 
 const REPLACED: &str = "root: ($.a.a_0 and $.b.b_0) {a: pack(a_0: true), b: pack(b_0: false)}";
@@ -74,7 +77,7 @@ const REPLACED: &str = "root: ($.a.a_0 and $.b.b_0) {a: pack(a_0: true), b: pack
 #[test]
 fn replace_partitions_of_two(rt: HostRuntime) -> Result<(), Fail> {
     let alloc = rt.alloc();
-    let mut whole = divided(alloc, &parsed(alloc, CONDITIONS)?, &scope(alloc)?)?;
+    let mut whole = split(alloc, CONDITIONS)?;
     let others = others(alloc)?;
     assert_eq!(rt; whole.partition_names.len(), whole.partitions.len());
     rt.println("called")?;
@@ -82,5 +85,5 @@ fn replace_partitions_of_two(rt: HostRuntime) -> Result<(), Fail> {
     let text = if answer.is_ok() { REPLACED } else { DIVIDED };
     assert!(rt; is_divided(&whole, text));
     answer?;
-    Ok(rt.println("answered")?)
+    answered(&rt)
 }

@@ -4,11 +4,12 @@ ghost use Rattle.vx_tree.specs.Views.{bound_of};
 
 use crate::fused::{COMPARISONS, RANGES, THREE_RANGES, scope_of};
 use crate::labels::{equal, heights, sizes};
+use crate::refusals::answered;
 use std::alloc::Global;
 use std::process::Abort;
 use std::test::Fail;
 use vx_rewrite::{BoundLabels, Optimize, find_between};
-use vx_samples::{col, i32_type, names, parsed, reads, repacked, with_x};
+use vx_samples::{bound, boxed, col, i32_type, names, reads, repacked, with_x};
 use vx_tree::Nullability::{NonNullable, Nullable};
 use vx_tree::{BoundExpression, ExactBoundExpr, Expression};
 
@@ -16,14 +17,14 @@ use vx_tree::{BoundExpression, ExactBoundExpr, Expression};
 fn find_between_of_six_comparisons(rt: HostRuntime) -> Result<(), Fail> {
     let alloc = rt.alloc();
     let scope = scope_of(alloc, names(alloc, &["x", "y", "z"])?)?;
-    let bound = parsed(alloc, THREE_RANGES)?.bind(alloc, &scope)?;
-    let shared = bound.clone()?;
+    let bound = bound(alloc, THREE_RANGES, &scope)?;
+    let shared = Box::new(alloc, (*bound).clone()?)?;
     rt.println("called")?;
-    let answer = find_between(alloc, bound);
-    assert!(rt; reads(&shared, COMPARISONS));
+    let answer = find_between(alloc, Box::into_inner(bound));
+    assert!(rt; reads(&*shared, COMPARISONS));
     let fused = answer?;
     assert!(rt; reads(&fused, RANGES));
-    Ok(rt.println("answered")?)
+    answered(&rt)
 }
 
 /// Asserts what is left of the tree, and that the tree stays as it was.
@@ -41,18 +42,18 @@ fn leaves(
     assert!(rt; reads(tree, before));
     let left = answer?;
     assert!(rt; reads(&left, text));
-    Ok(rt.println("answered")?)
+    answered(rt)
 }
 
 /// The same of the source over `{x=i32?}`.
 fn leaves_of(
     rt: &(impl Abort + Print),
     alloc: Global,
-    source: Expression,
+    source: &Expression,
     text: &str,
 ) -> Result<(), Fail> {
     let scope = with_x(alloc, i32_type(Nullable), NonNullable)?;
-    let bound = source.bind(alloc, &scope)?;
+    let bound = Box::new(alloc, source.bind(alloc, &scope)?)?;
     let before = format!(in alloc; "{bound}")?;
     leaves(rt, alloc, &bound, before.as_str(), text)
 }
@@ -61,38 +62,40 @@ fn leaves_of(
 #[test]
 fn optimize_recursive_of_items_and_cases(rt: HostRuntime) -> Result<(), Fail> {
     let alloc = rt.alloc();
-    leaves_of(&rt, alloc, repacked(alloc, col(alloc, "x")?, 101)?, "$.x")?;
-    let item = parsed(alloc, "x pack(a)? .a")?;
-    leaves_of(&rt, alloc, item, "vortex.mask($.x, true)")?;
-    let case = parsed(alloc, "x is_null 0 x case")?;
-    leaves_of(&rt, alloc, case, "vortex.fill_null($.x, 0i32)")
+    let items = Box::new(alloc, repacked(alloc, col(alloc, "x")?, 101)?)?;
+    leaves_of(&rt, alloc, &*items, "$.x")?;
+    let item = boxed(alloc, "x pack(a)? .a")?;
+    leaves_of(&rt, alloc, &*item, "vortex.mask($.x, true)")?;
+    let case = boxed(alloc, "x is_null 0 x case")?;
+    leaves_of(&rt, alloc, &*case, "vortex.fill_null($.x, 0i32)")
 }
 
-/// Whether there are four labels, and that one at the key.
-fn has(labels: &BoundLabels<u64>, key: &ExactBoundExpr, label: u64) -> bool {
-    labels.len() == 4 && labels.get(key) == Some(&label)
+/// Whether there are four labels, and that one at the tree.
+fn has(labels: &BoundLabels<u64>, e: Box<BoundExpression>, label: u64) -> bool {
+    let key = ExactBoundExpr(Box::into_inner(e));
+    labels.len() == 4 && labels.get(&key) == Some(&label)
 }
 
 #[test]
 fn label_bound_tree_of_heights(rt: HostRuntime) -> Result<(), Fail> {
     let alloc = rt.alloc();
-    let key = ExactBoundExpr(equal(alloc)?);
+    let e = equal(alloc)?;
     rt.println("called")?;
-    let answer = heights(alloc, &key.0);
-    assert!(rt; reads(&key.0, "($.col1 = 5u16)"));
+    let answer = heights(alloc, &*e);
+    assert!(rt; reads(&*e, "($.col1 = 5u16)"));
     let labels = answer?;
-    assert!(rt; has(&labels, &key, 3));
-    Ok(rt.println("answered")?)
+    assert!(rt; has(&labels, e, 3));
+    answered(&rt)
 }
 
 #[test]
 fn label_bound_tree_of_sizes(rt: HostRuntime) -> Result<(), Fail> {
     let alloc = rt.alloc();
-    let key = ExactBoundExpr(equal(alloc)?);
+    let e = equal(alloc)?;
     rt.println("called")?;
-    let answer = sizes(alloc, &key.0);
-    assert!(rt; reads(&key.0, "($.col1 = 5u16)"));
+    let answer = sizes(alloc, &*e);
+    assert!(rt; reads(&*e, "($.col1 = 5u16)"));
     let labels = answer?;
-    assert!(rt; has(&labels, &key, 4));
-    Ok(rt.println("answered")?)
+    assert!(rt; has(&labels, e, 4));
+    answered(&rt)
 }
