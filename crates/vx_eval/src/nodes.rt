@@ -50,20 +50,20 @@ pub fn apply<'a>(
             choice::zip(alloc, count, if_true, if_false, mask)
         }
         ScalarFnRef::Binary(operator) => {
-            let (lhs, rhs) = two(columns);
-            binary(alloc, count, *operator, first_type(children), &lhs, &rhs)
+            let (lhs, rhs) = pair(columns.as_slice());
+            binary(alloc, count, *operator, first_type(children), lhs, rhs)
         }
-        ScalarFnRef::Not(_) => logic::not(alloc, count, &one(columns)),
+        ScalarFnRef::Not(_) => logic::not(alloc, count, single(columns.as_slice())),
         ScalarFnRef::Between(options) => {
-            let (array, lower, upper) = three(columns);
-            comparison::between(alloc, count, options, &array, &lower, &upper)
+            let (array, lower, upper) = triple(columns.as_slice());
+            comparison::between(alloc, count, options, array, lower, upper)
         }
         ScalarFnRef::Like(options) => {
-            let (child, pattern) = two(columns);
-            text::like(alloc, count, options, &child, &pattern)
+            let (child, pattern) = pair(columns.as_slice());
+            text::like(alloc, count, options, child, pattern)
         }
-        ScalarFnRef::IsNull(_) => nulls::is_null(alloc, count, &one(columns)),
-        ScalarFnRef::IsNotNull(_) => nulls::is_not_null(alloc, count, &one(columns)),
+        ScalarFnRef::IsNull(_) => nulls::is_null(alloc, count, single(columns.as_slice())),
+        ScalarFnRef::IsNotNull(_) => nulls::is_not_null(alloc, count, single(columns.as_slice())),
         ScalarFnRef::Mask(_) => {
             let (input, mask) = two(columns);
             nulls::mask(alloc, count, input, mask)
@@ -115,6 +115,30 @@ fn first_type(children: &[BoundExpression]) -> &DType
     ensures { (rest : List LogicalType) × (node_types (bounds_of children.now) ≡ type_of result.now ∷ rest) }
 {
     children[0].dtype()
+}
+
+// The one column, lent.
+fn single<'c, 'a>(columns: &'c [Rows<'a>]) -> &'c Rows<'a>
+    requires { length columns.now ≡ 1 }
+    ensures { columns.now ≡ result.now ∷ [] }
+{
+    &columns[0]
+}
+
+// The two columns, lent.
+fn pair<'c, 'a>(columns: &'c [Rows<'a>]) -> (&'c Rows<'a>, &'c Rows<'a>)
+    requires { length columns.now ≡ 2 }
+    ensures { columns.now ≡ result.0.now ∷ result.1.now ∷ [] }
+{
+    (&columns[0], &columns[1])
+}
+
+// The three columns, lent.
+fn triple<'c, 'a>(columns: &'c [Rows<'a>]) -> (&'c Rows<'a>, &'c Rows<'a>, &'c Rows<'a>)
+    requires { length columns.now ≡ 3 }
+    ensures { columns.now ≡ result.0.now ∷ result.1.now ∷ result.2.now ∷ [] }
+{
+    (&columns[0], &columns[1], &columns[2])
 }
 
 // The one column.

@@ -89,9 +89,19 @@ impl<'a> Rows<'a> {
         match self {
             Rows::Lent(values) => Ok(values.clone()?),
             Rows::Owned(values) => Ok(Rc::new(alloc, values)?),
-            Rows::Truths(truths, _) => Ok(Rc::new(alloc, truth_values(alloc, truths.as_slice())?)?),
-            lent => Ok(Rc::new(alloc, lent.copies(alloc)?)?),
+            rows => rows.shared_copies(alloc),
         }
+    }
+
+    // A copy of each value, in a `Vec` that others may share.
+    fn shared_copies(&self, alloc: Global) -> VortexResult<Rc<Vec<Value>>>
+        ensures { Answers (λ values. values_of values.value.items) result (Ok (rows_view self.now)) }
+    {
+        let values = match self {
+            Rows::Truths(truths, _) => truth_values(alloc, truths.as_slice())?,
+            rows => rows.copies(alloc)?,
+        };
+        Ok(Rc::new(alloc, values)?)
     }
 
     // A copy of each value.

@@ -1,4 +1,4 @@
-use Rattle.std.proofs.Common.{ap, refl}
+use Rattle.std.proofs.Common.{◌∙◌, ap, refl, sym}
 use Rattle.vx_types.specs.Views.{admits_null}
 use Rattle.vx_fn.specs.Views.{function_of}
 use Rattle.vx_tree.specs.Trees.{node_types}
@@ -34,19 +34,19 @@ pub returns-in-Zip : goal.returns-in-Zip
 returns-in-Zip c = at_node _ _ _ _ _ _ _ _ (ap function_of c.in-Zip.is) refl (ap rows_views c.three-if_true.ensures) (c.zip.ensures (node_types (bounds_of c.args.children.now)))
 
 pub returns-in-Binary : goal.returns-in-Binary
-returns-in-Binary c = at_node _ _ _ _ _ _ _ _ (ap function_of c.in-Binary.is) c.first_type-in-Binary.ensures.1 (ap rows_views c.two-lhs.ensures) (c.binary.ensures c.first_type-in-Binary.ensures.0)
+returns-in-Binary c = at_node _ _ _ _ _ _ _ _ (ap function_of c.in-Binary.is) c.first_type-in-Binary.ensures.1 (ap rows_views (sym c.as_slice.ensures.value ∙ c.pair.ensures)) (c.binary.ensures c.first_type-in-Binary.ensures.0)
 
 pub returns-in-Not : goal.returns-in-Not
-returns-in-Not c = at_node _ _ _ _ _ _ _ _ (ap function_of c.in-Not.is) refl (ap rows_views c.one-in-Not.ensures) (c.not.ensures (node_types (bounds_of c.args.children.now)))
+returns-in-Not c = at_node _ _ _ _ _ _ _ _ (ap function_of c.in-Not.is) refl (ap rows_views (sym c.as_slice-in-Not.ensures.value ∙ c.single.ensures)) (c.not.ensures (node_types (bounds_of c.args.children.now)))
 
 pub returns-in-Between : goal.returns-in-Between
-returns-in-Between c = at_node _ _ _ _ _ _ _ _ (ap function_of c.in-Between.is) refl (ap rows_views c.three-array.ensures) (c.between.ensures (node_types (bounds_of c.args.children.now)))
+returns-in-Between c = at_node _ _ _ _ _ _ _ _ (ap function_of c.in-Between.is) refl (ap rows_views (sym c.as_slice-in-Between.ensures.value ∙ c.triple.ensures)) (c.between.ensures (node_types (bounds_of c.args.children.now)))
 
 pub returns-in-IsNull : goal.returns-in-IsNull
-returns-in-IsNull c = at_node _ _ _ _ _ _ _ _ (ap function_of c.in-IsNull.is) refl (ap rows_views c.one-in-IsNull.ensures) (c.is_null.ensures (node_types (bounds_of c.args.children.now)))
+returns-in-IsNull c = at_node _ _ _ _ _ _ _ _ (ap function_of c.in-IsNull.is) refl (ap rows_views (sym c.as_slice-in-IsNull.ensures.value ∙ c.single-in-IsNull.ensures)) (c.is_null.ensures (node_types (bounds_of c.args.children.now)))
 
 pub returns-in-IsNotNull : goal.returns-in-IsNotNull
-returns-in-IsNotNull c = at_node _ _ _ _ _ _ _ _ (ap function_of c.in-IsNotNull.is) refl (ap rows_views c.one-in-IsNotNull.ensures) (c.is_not_null.ensures (node_types (bounds_of c.args.children.now)))
+returns-in-IsNotNull c = at_node _ _ _ _ _ _ _ _ (ap function_of c.in-IsNotNull.is) refl (ap rows_views (sym c.as_slice-in-IsNotNull.ensures.value ∙ c.single-in-IsNotNull.ensures)) (c.is_not_null.ensures (node_types (bounds_of c.args.children.now)))
 
 pub returns-in-Mask : goal.returns-in-Mask
 returns-in-Mask c = at_node _ _ _ _ _ _ _ _ (ap function_of c.in-Mask.is) refl (ap rows_views c.two-input-in-Mask.ensures) (c.mask.ensures (node_types (bounds_of c.args.children.now)))
@@ -55,4 +55,4 @@ pub returns : goal.returns
 returns c = at_node _ _ _ _ _ _ _ _ (ap function_of c.in-Cast.is) refl (ap rows_views c.one-in-Cast.ensures) (c.cast.ensures (node_types (bounds_of c.args.children.now)))
 
 pub returns-in-Like : goal.returns-in-Like
-returns-in-Like c = at_node _ _ _ _ _ _ _ _ (ap function_of c.in-Like.is) refl (ap rows_views c.two-child.ensures) (c.like.ensures (node_types (bounds_of c.args.children.now)))
+returns-in-Like c = at_node _ _ _ _ _ _ _ _ (ap function_of c.in-Like.is) refl (ap rows_views (sym c.as_slice-in-Like.ensures.value ∙ c.pair-in-Like.ensures)) (c.like.ensures (node_types (bounds_of c.args.children.now)))
