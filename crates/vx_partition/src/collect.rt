@@ -4,12 +4,13 @@ ghost use Rattle.vx_dtype.specs.declared.error.VortexError.TheVariants.{OutOfMem
 ghost use Rattle.std.specs.Option.{option_copied};
 ghost use Rattle.vx_recombine.specs.Pieces.{Piece, pieces, each_pieces};
 ghost use Rattle.vx_tree.specs.Views.{bound_of, bounds_of};
-ghost use Rattle.vx_partition.specs.Only.{only_annotation};
+ghost use Rattle.vx_partition.specs.Only.{only_annotation, only_key};
 ghost use Rattle.vx_partition.specs.Collecting.{groups_in, collected, SameGroups, marked, marks_of, marks_of_each, IsWalked};
 
 use crate::groups::{Groups, add_piece};
 use crate::mark::Mark;
 use std::alloc::{AllocError, Global};
+use std::collections::HashSet;
 use vx_analysis::{Annotation, BoundAnnotations};
 use vx_tree::{BoundExpression, ExactBoundExpr, VortexResult};
 
@@ -78,13 +79,16 @@ fn only_annotation<'a, A: Annotation>(
     ensures { IfOk result (λ a. option_copied a ≡ only_annotation annotations.now (bound_of e.now)) }
 {
     let key = ExactBoundExpr(e.clone()?);
-    match annotations.get(&key) {
-        Some(set) => {
-            if set.len() != 1 {
-                return Ok(None);
-            }
-            Ok(set.iter().next())
-        }
-        None => Ok(None),
+    Ok(only_key(annotations.get(&key)))
+}
+
+// The annotation of the set, if it has exactly one.
+fn only_key<A: Annotation>(set: Option<&HashSet<A>>) -> Option<&A>
+    ensures { option_copied result ≡ only_key (option_copied set.entry) }
+{
+    let set = set?;
+    if set.len() != 1 {
+        return None;
     }
+    set.iter().next()
 }

@@ -1,11 +1,14 @@
-// The type of the struct that the partitions' results make.
+// The struct that the partitions' results make: its type, and the holes over it.
 ghost use Rattle.std.specs.Prelude.{◌≡◌, length, IfOk, Ok, map};
 ghost use Rattle.vx_types.specs.Answers.{Answers};
 ghost use Rattle.vx_types.specs.Views.{type_of};
 ghost use Rattle.vx_recombine.specs.Items.{struct_type};
-ghost use Rattle.vx_tree.specs.Trees.{node_types};
+ghost use Rattle.vx_partition.specs.Filling.{holes_seen};
+ghost use Rattle.vx_partition.specs.Packing.{all_holes};
+ghost use Rattle.vx_tree.specs.Trees.{node_types, scope};
 ghost use Rattle.vx_tree.specs.Views.{bounds_of};
 
+use crate::holes::all_holes;
 use std::alloc::{AllocError, Global};
 use vx_tree::{BoundExpression, DType, FieldNames, Nullability, StructFields, VortexResult};
 
@@ -21,6 +24,21 @@ pub(crate) fn joined_dtype(
     let types = dtypes_of(alloc, partitions)?;
     let fields = StructFields::new(alloc, names.clone()?, types)?;
     Ok(DType::Struct(fields, Nullability::NonNullable))
+}
+
+// The holes of the partitions' pieces, over the scope of that type.
+pub(crate) fn joined_holes(
+    alloc: Global,
+    names: &FieldNames,
+    piece_names: &[FieldNames],
+    partitions: &[BoundExpression],
+) -> VortexResult<Vec<Vec<BoundExpression>>>
+    requires named { length names.now ≡ length partitions.now }
+    requires pieces_named { length piece_names.now ≡ length partitions.now }
+    ensures { Answers (λ holes. holes_seen holes.items) result (Ok (all_holes (scope (struct_type names.now (bounds_of partitions.now))) names.now piece_names.now (bounds_of partitions.now))) }
+{
+    let root = BoundExpression::new_root(joined_dtype(alloc, names, partitions)?);
+    all_holes(alloc, &root, names, piece_names, partitions)
 }
 
 fn dtypes_of(alloc: Global, nodes: &[BoundExpression]) -> Result<Vec<DType>, AllocError>

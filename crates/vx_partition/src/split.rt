@@ -21,8 +21,7 @@ ghost use Rattle.vx_tree.specs.Views.{bound_of, bounds_of};
 use crate::collect::collect;
 use crate::fill::fill;
 use crate::groups::Groups;
-use crate::holes::all_holes;
-use crate::joined::joined_dtype;
+use crate::joined::joined_holes;
 use crate::mark::Mark;
 use crate::names::free_names;
 use crate::pack::pack_groups;
@@ -76,9 +75,25 @@ pub fn partition_bound_annotations<A: PartitionKey + Drop>(
     ensures root { IfOk result (λ p. bound_of p.root ≡ recombination A.eq A.text A.name (only_annotation annotations) (bound_of e)) }
     ensures partitioned { IfOk result (λ p. IsPartitioned (Covered (has_single annotations) (bound_of e)) p.partition_names (bounds_of p.partitions.items) (bound_of p.root) (bound_of e)) }
 {
-    let (groups, marks) = collected(alloc, &e, &annotations)?;
+    split_by(alloc, &e, &annotations)
+}
+
+// The tree split by the annotations.
+fn split_by<A: PartitionKey + Drop>(
+    alloc: Global,
+    e: &BoundExpression,
+    annotations: &BoundAnnotations<A>,
+) -> VortexResult<BoundPartitionedExpr<A>>
+    requires { WellTyped (bound_of e.now) }
+    ensures names { Answers (λ p. p.partition_names) result (free_names (partition_names A.name (groups A.eq (only_annotation annotations.now) (bound_of e.now)))) }
+    ensures partitions { IfOk result (λ p. bounds_of p.partitions.items ≡ partitions A.text (groups A.eq (only_annotation annotations.now) (bound_of e.now))) }
+    ensures annotations { IfOk result (λ p. IsTrue (pointwise A.eq p.partition_annotations.items (annotations_of A.eq (pieces (only_annotation annotations.now) (bound_of e.now))))) }
+    ensures root { IfOk result (λ p. bound_of p.root ≡ recombination A.eq A.text A.name (only_annotation annotations.now) (bound_of e.now)) }
+    ensures partitioned { IfOk result (λ p. IsPartitioned (Covered (has_single annotations.now) (bound_of e.now)) p.partition_names (bounds_of p.partitions.items) (bound_of p.root) (bound_of e.now)) }
+{
+    let (groups, marks) = collected(alloc, e, annotations)?;
     let names = free_names(alloc, &groups)?;
-    put_together(alloc, &e, names, groups, marks.as_slice())
+    put_together(alloc, e, names, groups, marks.as_slice())
 }
 
 // The groups of the tree's pieces, and its marks.
@@ -114,8 +129,7 @@ fn put_together<A: PartitionKey + Drop>(
 {
     let packed = pack_groups(alloc, groups)?;
     let partitions = packed.partitions.as_slice();
-    let root = BoundExpression::new_root(joined_dtype(alloc, &names, partitions)?);
-    let holes = all_holes(alloc, &root, &names, packed.names.as_slice(), partitions)?;
+    let holes = joined_holes(alloc, &names, packed.names.as_slice(), partitions)?;
     Ok(BoundPartitionedExpr {
         root: fill(alloc, e, &mut marks.iter(), holes.as_slice())?,
         partitions: packed.partitions,

@@ -1,6 +1,5 @@
 use Rattle.std.proofs.Common.{◌≡◌, ap, sym, ◌∙◌, length, rules}
 use Rattle.std.specs.Slice.Iter.{iter_rest}
-use Rattle.vx_types.specs.Views.{type_of}
 use Rattle.vx_tree.specs.Trees.{scope}
 use Rattle.vx_tree.specs.Views.{bound_of, bounds_of}
 use Rattle.vx_recombine.specs.Items.{struct_type}
@@ -11,18 +10,13 @@ use Rattle.vx_partition.specs.Packing.{all_holes, all_names}
 use Rattle.vx_partition.proofs.Splits.{parts_count, own_count}
 use Rattle.vx_partition.proofs.split.put_together.Goals as goal
 
-pub joined_dtype-requires : goal.joined_dtype-requires
-joined_dtype-requires g c =
+pub joined_holes-requires-clause-named : goal.joined_holes-requires-clause-named
+joined_holes-requires-clause-named g c =
     let gs = groups_in c.args.groups in
     c.requires ∙ sym (parts_count g.A.PartitionKey.text gs c.in_ok-packed.packed.partitions.items c.in_ok-packed.ensures.partitions) ∙ ap length (sym c.as_slice-partitions.ensures.value)
 
-pub all_holes-requires-clause-named : goal.all_holes-requires-clause-named
-all_holes-requires-clause-named g c =
-    let gs = groups_in c.args.groups in
-    c.requires ∙ sym (parts_count g.A.PartitionKey.text gs c.in_ok-packed.packed.partitions.items c.in_ok-packed.ensures.partitions) ∙ ap length (sym c.as_slice-partitions.ensures.value)
-
-pub all_holes-requires-clause-pieces_named : goal.all_holes-requires-clause-pieces_named
-all_holes-requires-clause-pieces_named g c =
+pub joined_holes-requires-clause-pieces_named : goal.joined_holes-requires-clause-pieces_named
+joined_holes-requires-clause-pieces_named g c =
     let gs = groups_in c.args.groups in
     let text = g.A.PartitionKey.text in
     ap length (c.as_slice.ensures.value ∙ c.in_ok-packed.ensures.names) ∙ own_count text gs ∙ sym (parts_count text gs c.in_ok-packed.packed.partitions.items c.in_ok-packed.ensures.partitions) ∙ ap length (sym c.as_slice-partitions.ensures.value)
@@ -34,15 +28,12 @@ returns-clause-root g c =
     let names = c.args.names in
     let lent = c.as_slice-partitions.result.now in
     let b = bound_of c.args.e.now in
-    let root = bound_of c.new_root-root.result in
     let parts_are : bounds_of lent ≡ partitions text gs = ap bounds_of c.as_slice-partitions.ensures.value ∙ c.in_ok-packed.ensures.partitions in
     let own_are : c.as_slice.result.now ≡ all_names text gs = c.as_slice.ensures.value ∙ c.in_ok-packed.ensures.names in
-    let dtype : type_of c.in_ok-joined_dtype.field-0 ≡ struct_type names (bounds_of lent) = search rules in
-    let root_is : root ≡ scope (struct_type names (partitions text gs)) = c.new_root-root.ensures ∙ ap scope dtype ∙ ap (λ bs. scope (struct_type names bs)) parts_are in
-    let made : holes_seen c.in_ok-holes.holes.items ≡ all_holes root names c.as_slice.result.now (bounds_of lent) = search rules in
+    let made : holes_seen c.in_ok-holes.holes.items ≡ all_holes (scope (struct_type names (bounds_of lent))) names c.as_slice.result.now (bounds_of lent) = search rules in
     let holes : holes_seen c.as_slice-2.result.now ≡ all_holes (scope (struct_type names (partitions text gs))) names (all_names text gs) (partitions text gs) =
-    ap holes_seen c.as_slice-2.ensures.value ∙ made ∙ ap (λ r. all_holes r names c.as_slice.result.now (bounds_of lent)) root_is
-    ∙ ap (λ ns. all_holes (scope (struct_type names (partitions text gs))) names ns (bounds_of lent)) own_are
-    ∙ ap (λ bs. all_holes (scope (struct_type names (partitions text gs))) names (all_names text gs) bs) parts_are in
+    ap holes_seen c.as_slice-2.ensures.value ∙ made
+    ∙ ap (λ ns. all_holes (scope (struct_type names (bounds_of lent))) names ns (bounds_of lent)) own_are
+    ∙ ap (λ bs. all_holes (scope (struct_type names bs)) names (all_names text gs) bs) parts_are in
     let done : filled (holes_seen c.as_slice-2.result.now) b (iter_rest c.iter.result) ≡ (bound_of c.in_ok-fill.field-0, iter_rest c.fill.new.marks) = c.in_ok-fill.ensures in
     (iter_rest c.fill.new.marks, ap (λ hs. filled hs b c.args.marks.now) (sym holes) ∙ ap (filled (holes_seen c.as_slice-2.result.now) b) (sym c.iter.ensures.rest) ∙ done)

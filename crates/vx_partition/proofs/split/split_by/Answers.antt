@@ -8,12 +8,12 @@ use Rattle.vx_partition.specs.Collecting.{groups_in}
 use Rattle.vx_partition.specs.Only.{only_annotation}
 use Rattle.vx_partition.specs.Partitioned.{free_names}
 use Rattle.vx_partition.proofs.Splits.{all_short, answered, named_count, names_answered, names_same}
-use Rattle.vx_partition.proofs.split.partition_bound_annotations.Goals as goal
+use Rattle.vx_partition.proofs.split.split_by.Goals as goal
 
 pub returns-in_err-names-clause-names : goal.returns-in_err-names-clause-names
 returns-in_err-names-clause-names g c =
     let p = err_from_is_err_and c.from_residual-in_err-names.result c.from_residual-in_err-names.ensures.1 in
-    let same = names_same g.A.PartialEq.eq g.A.PartitionKey.name g.met.A.PartitionKey.same_name (groups_in c.in_ok-groups.groups) (groups g.A.PartialEq.eq (only_annotation c.args.annotations) (bound_of c.args.e)) c.in_ok-groups.ensures.found in
+    let same = names_same g.A.PartialEq.eq g.A.PartitionKey.name g.met.A.PartitionKey.same_name (groups_in c.in_ok-groups.groups) (groups g.A.PartialEq.eq (only_annotation c.args.annotations.now) (bound_of c.args.e.now)) c.in_ok-groups.ensures.found in
     rw (p.1, p.2) (elim c.in_err-names.ensures [
       | inl memory ↦ inl memory
       | inr taken ↦ inr (sym same ∙ taken)
@@ -28,8 +28,8 @@ returns g c =
     let text = g.A.PartitionKey.text in
     let name = g.A.PartitionKey.name in
     let gs = groups_in c.in_ok-groups.groups in
-    let m = c.args.annotations in
-    let b = bound_of c.args.e in
+    let m = c.args.annotations.now in
+    let b = bound_of c.args.e.now in
     let r = c.put_together.result in
     let e = c.put_together.ensures in
     let same = names_same eq name g.met.A.PartitionKey.same_name gs (groups eq (only_annotation m) b) c.in_ok-groups.ensures.found in
