@@ -86,7 +86,10 @@ fn between(
         lower_strict: lower.strict,
         upper_strict: upper.strict,
     };
-    let children = vec![in alloc; item.clone()?, lower.bound.clone()?, upper.bound.clone()?]?;
+    let mut children = Vec::with_capacity(alloc, 3)?;
+    children.push(item.clone()?)?;
+    children.push(lower.bound.clone()?)?;
+    children.push(upper.bound.clone()?)?;
     truth_node(alloc, ScalarFnRef::Between(options), nullable, children)
 }
 
