@@ -15,7 +15,7 @@ const LONG: f64 = 2_000.0;
 
 /// A pass is left out at a size where it takes more milliseconds than this if its time grows with the
 /// square of the size, each size being so many times the one before.
-const TOO_LONG: f64 = 30_000.0;
+const TOO_LONG: f64 = 10_000.0;
 const STEP: f64 = 16.0;
 
 /// The families but the shared trees, and their numbers in the library.

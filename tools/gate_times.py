@@ -1,0 +1,67 @@
+#!/usr/bin/env python3
+"""Runs the gate, `rt ci`, with so many jobs, and prints what each crate took of it: the processor
+minutes of its proof, of its tests and of its must-fail edits, as read off the provers' processes
+every second, and the minutes of the whole. Nothing else may be proved on the machine meanwhile.
+docs/BENCHMARKS.md has what it printed.
+
+usage: tools/gate_times.py JOBS
+"""
+import collections
+import os
+import subprocess
+import sys
+import time
+
+TICKS = os.sysconf("SC_CLK_TCK")
+TASKS = ("proof", "tests", "edits")
+
+
+def provers():
+    """Each running prover: the process, its crate and task, and its processor seconds so far."""
+    for pid in filter(str.isdigit, os.listdir("/proc")):
+        try:
+            with open(f"/proc/{pid}/cmdline") as file:
+                words = file.read().split("\0")
+            with open(f"/proc/{pid}/stat") as file:
+                stat = file.read().rsplit(")", 1)[1].split()
+            folder = os.readlink(f"/proc/{pid}/cwd")
+        except OSError:
+            continue
+        if os.path.basename(words[0]) != "rattle" or "--crate-name" not in words:
+            continue
+        crate = words[words.index("--crate-name") + 1]
+        is_edit = os.path.basename(folder).startswith("rt-edit-")
+        task = "edits" if is_edit else "tests" if "--test" in words else "proof"
+        # a process is known by its number and the time of its start
+        yield (pid, stat[19]), (crate, task), (int(stat[11]) + int(stat[12])) / TICKS
+
+
+def crates():
+    """The crates of crates.txt, in its order."""
+    with open("crates.txt") as file:
+        names = [line.split(":")[0].split() for line in file if not line.startswith("#")]
+    return [words[0] for words in names if words]
+
+
+def main():
+    os.chdir(os.path.join(os.path.dirname(os.path.abspath(__file__)), ".."))
+    begin, seen = time.monotonic(), {}
+    gate = subprocess.Popen(["rt", "ci"], env={**os.environ, "RT_JOBS": sys.argv[1]})
+    while gate.poll() is None:
+        for process, of, seconds in provers():
+            seen[process] = of, seconds
+        time.sleep(1)
+    minutes = collections.Counter()
+    for of, seconds in seen.values():
+        minutes[of] += seconds / 60
+    print("| Crate | Proof | Tests | Edits |\n|---|---:|---:|---:|")
+    for crate in crates():
+        cells = [minutes[crate, task] for task in TASKS]
+        print(f"| `{crate}` |", " | ".join(f"{it:.1f}" if it else "" for it in cells), "|")
+    taken = (time.monotonic() - begin) / 60
+    print(f"\n{sum(minutes.values()):.0f} processor minutes, {taken:.0f} minutes, status {gate.returncode}")
+    return gate.returncode
+
+
+if __name__ == "__main__":
+    sys.exit(main())
