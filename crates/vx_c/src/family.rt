@@ -2,8 +2,8 @@
 ghost use Rattle.std.specs.Prelude.{◌<◌};
 
 use std::alloc::Global;
-use vx_build::{and, and_collect, case_when, col, get_item, gt_eq, is_null, lit, lt, not, pack};
-use vx_tree::Expression;
+use vx_build::{and, and_collect, binary, case_when, col, get_item, is_null, lit, lt, not, pack};
+use vx_tree::{Expression, Operator};
 use vx_types::{
     DType, FieldName, FieldNames, Nullability, PType, Scalar, StructFields, VortexResult,
 };
@@ -75,13 +75,14 @@ fn conjunction(alloc: Global, size: usize) -> VortexResult<Expression> {
 
 // A lower bound of the field in even rounds, and an upper bound in odd ones.
 fn bound_of_field(alloc: Global, field: usize, round: usize) -> VortexResult<Expression> {
-    let item = col(alloc, numbered(alloc, field)?)?;
-    let literal = number(alloc, small(round).saturating_mul(10))?;
-    if round % 2 == 0 {
-        gt_eq(alloc, item, literal)
+    let operator = if round % 2 == 0 {
+        Operator::Gte
     } else {
-        lt(alloc, item, literal)
-    }
+        Operator::Lt
+    };
+    let item = Box::new(alloc, col(alloc, numbered(alloc, field)?)?)?;
+    let literal = number(alloc, small(round).saturating_mul(10))?;
+    binary(alloc, operator, Box::into_inner(item), literal)
 }
 
 fn deep(alloc: Global, size: usize) -> VortexResult<Expression> {
@@ -93,43 +94,50 @@ fn deep(alloc: Global, size: usize) -> VortexResult<Expression> {
 }
 
 fn items_of_packs(alloc: Global, size: usize) -> VortexResult<Expression> {
-    let mut tree = field(alloc, "x")?;
+    let mut tree = Box::new(alloc, field(alloc, "x")?)?;
     for _ in 0..size {
         let name = FieldName::new(alloc, "a")?;
-        let elements = vec![in alloc; (name.clone()?, tree)]?;
-        tree = get_item(
-            alloc,
-            name,
-            pack(alloc, elements, Nullability::NonNullable)?,
-        )?;
+        let element = (name.clone()?, Box::into_inner(tree));
+        let packed = pack(alloc, vec![in alloc; element]?, Nullability::NonNullable)?;
+        tree = Box::new(alloc, get_item(alloc, name, packed)?)?;
     }
-    Ok(tree)
+    Ok(Box::into_inner(tree))
 }
 
 fn wide(alloc: Global, size: usize) -> VortexResult<Expression> {
     let mut elements = Vec::with_capacity(alloc, size)?;
     for i in 0..size {
-        let below = lt(alloc, field(alloc, "x")?, number(alloc, small(i))?)?;
-        elements.push((numbered(alloc, i)?, below))?;
+        let name = numbered(alloc, i)?;
+        elements.push((name, below(alloc, small(i))?))?;
     }
     pack(alloc, elements, Nullability::NonNullable)
 }
 
+// `$.x` below the number.
+fn below(alloc: Global, bound: i32) -> VortexResult<Expression> {
+    let x = Box::new(alloc, field(alloc, "x")?)?;
+    let bound = number(alloc, bound)?;
+    lt(alloc, Box::into_inner(x), bound)
+}
+
 fn shared(alloc: Global, size: usize) -> VortexResult<Expression> {
-    let mut tree = lit(alloc, Scalar::from_bool(true))?;
+    let mut tree = Box::new(alloc, lit(alloc, Scalar::from_bool(true))?)?;
     for _ in 0..size {
-        tree = and(alloc, tree.clone()?, tree)?;
+        let same = (*tree).clone()?;
+        tree = Box::new(alloc, and(alloc, same, Box::into_inner(tree))?)?;
     }
-    Ok(tree)
+    Ok(Box::into_inner(tree))
 }
 
 fn cases(alloc: Global, size: usize) -> VortexResult<Expression> {
-    let mut tree = number(alloc, small(size))?;
+    let mut tree = Box::new(alloc, number(alloc, small(size))?)?;
     for i in (0..size).rev() {
-        let tested = is_null(alloc, field(alloc, "x")?)?;
-        tree = case_when(alloc, tested, number(alloc, small(i))?, tree)?;
+        let tested = Box::new(alloc, is_null(alloc, field(alloc, "x")?)?)?;
+        let value = number(alloc, small(i))?;
+        let case = case_when(alloc, Box::into_inner(tested), value, Box::into_inner(tree))?;
+        tree = Box::new(alloc, case)?;
     }
-    Ok(tree)
+    Ok(Box::into_inner(tree))
 }
 
 // `{f0: i32, f1: i32, ..}`.

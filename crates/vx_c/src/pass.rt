@@ -48,48 +48,55 @@ impl Pass {
 
     /// Runs the pass once, and lets its result go.
     pub fn run(self, alloc: Global, subject: &Subject) -> VortexResult<()>
-        requires { WellTyped (bound_of subject.now.bound) }
+        requires { WellTyped (bound_of subject.now.bound.value) }
     {
-        let Subject {
-            tree,
-            bound,
-            fields,
-            scope,
-        } = subject;
+        let (bound, fields) = (&*subject.bound, &subject.fields);
         match self {
-            Pass::Bind => _ = tree.bind(alloc, scope)?,
-            Pass::Display => _ = format!(in alloc; "{bound}")?,
-            Pass::Optimize => _ = bound.optimize_recursive(alloc)?,
-            Pass::Fuse => _ = find_between(alloc, bound.clone()?)?,
-            Pass::Label => label(alloc, bound)?,
-            Pass::Annotate => annotate(alloc, bound, fields)?,
-            Pass::Partition => partition(alloc, bound, fields)?,
-            Pass::Paths => _ = referenced_field_paths(alloc, bound)?,
+            Pass::Bind => gone(subject.tree.bind(alloc, &subject.scope)),
+            Pass::Display => display(alloc, bound),
+            Pass::Optimize => gone(bound.optimize_recursive(alloc)),
+            Pass::Fuse => fuse(alloc, bound),
+            Pass::Label => label(alloc, bound),
+            Pass::Annotate => annotate(alloc, bound, fields),
+            Pass::Partition => partition(alloc, bound, fields),
+            Pass::Paths => gone(referenced_field_paths(alloc, bound)),
         }
-        Ok(())
     }
 }
 
+// Lets what a call answers go. Of a type parameter the prover writes nothing out.
+fn gone<T: Drop>(answer: VortexResult<T>) -> VortexResult<()> {
+    answer.map(|_result| ())
+}
+
+fn display(alloc: Global, bound: &BoundExpression) -> VortexResult<()> {
+    let _ = format!(in alloc; "{bound}")?;
+    Ok(())
+}
+
+fn fuse(alloc: Global, bound: &BoundExpression) -> VortexResult<()>
+    requires { WellTyped (bound_of bound.now) }
+{
+    gone(find_between(alloc, bound.clone()?))
+}
+
 fn label(alloc: Global, bound: &BoundExpression) -> VortexResult<()> {
-    let _ = label_bound_tree(
+    gone(label_bound_tree(
         alloc,
         bound,
         |_node: &BoundExpression| 1,
         |label: u64, child: &u64| label.saturating_add(*child),
-    )?;
-    Ok(())
+    ))
 }
 
 fn annotate(alloc: Global, bound: &BoundExpression, fields: &StructFields) -> VortexResult<()> {
     let read = |node: &BoundExpression| free_fields(alloc, node, fields);
-    let _ = descendent_bound_annotations(alloc, bound, read)?;
-    Ok(())
+    gone(descendent_bound_annotations(alloc, bound, read))
 }
 
 fn partition(alloc: Global, bound: &BoundExpression, fields: &StructFields) -> VortexResult<()>
     requires { WellTyped (bound_of bound.now) }
 {
     let read = |node: &BoundExpression| free_fields(alloc, node, fields);
-    let _ = partition_bound(alloc, bound.clone()?, read)?;
-    Ok(())
+    gone(partition_bound(alloc, bound.clone()?, read))
 }

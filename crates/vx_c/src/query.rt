@@ -1,8 +1,8 @@
 // The queries that are timed.
 use crate::batch;
 use std::alloc::Global;
-use vx_build::{and, col, get_item, gt, gt_eq, like, lit, lt_eq, nested_case_when, pack};
-use vx_tree::Expression;
+use vx_build::{and, binary, col, get_item, like, lit, nested_case_when, pack};
+use vx_tree::{Expression, Operator};
 use vx_types::{Column, FieldName, Nullability, Scalar, VortexResult};
 
 /// A query that is timed.
@@ -51,35 +51,45 @@ impl Query {
 }
 
 fn range(alloc: Global) -> VortexResult<Expression> {
-    let lower = gt_eq(alloc, field(alloc, "x")?, number(alloc, 10)?)?;
-    let upper = lt_eq(alloc, field(alloc, "x")?, number(alloc, 500_000)?)?;
-    and(alloc, lower, upper)
+    let lower = Box::new(alloc, compared(alloc, Operator::Gte, 10)?)?;
+    let upper = compared(alloc, Operator::Lte, 500_000)?;
+    and(alloc, Box::into_inner(lower), upper)
 }
 
 fn case(alloc: Global) -> VortexResult<Expression> {
-    let first = above(alloc, 0, 10)?;
-    let second = above(alloc, 3, 20)?;
-    let pairs = vec![in alloc; first, second]?;
+    let mut pairs = Vec::with_capacity(alloc, 2)?;
+    pairs.push(above(alloc, 0, 10)?)?;
+    pairs.push(above(alloc, 3, 20)?)?;
     nested_case_when(alloc, pairs, Some(number(alloc, 30)?))
 }
 
 // The value for where `$.x` is above the bound.
 fn above(alloc: Global, bound: i32, value: i32) -> VortexResult<(Expression, Expression)> {
-    let condition = gt(alloc, field(alloc, "x")?, number(alloc, bound)?)?;
-    Ok((condition, number(alloc, value)?))
+    let condition = Box::new(alloc, compared(alloc, Operator::Gt, bound)?)?;
+    let value = number(alloc, value)?;
+    Ok((Box::into_inner(condition), value))
+}
+
+// `$.x` compared with the number.
+fn compared(alloc: Global, operator: Operator, bound: i32) -> VortexResult<Expression> {
+    let x = Box::new(alloc, field(alloc, "x")?)?;
+    let bound = number(alloc, bound)?;
+    binary(alloc, operator, Box::into_inner(x), bound)
 }
 
 fn liked(alloc: Global) -> VortexResult<Expression> {
+    let text = Box::new(alloc, field(alloc, "s")?)?;
     let pattern = lit(alloc, Scalar::utf8(alloc, "%b%d")?)?;
-    like(alloc, field(alloc, "s")?, pattern)
+    like(alloc, Box::into_inner(text), pattern)
 }
 
 fn item(alloc: Global) -> VortexResult<Expression> {
-    let x = named(alloc, "a", "x")?;
-    let y = named(alloc, "b", "y")?;
-    let z = named(alloc, "c", "z")?;
-    let packed = pack(alloc, vec![in alloc; x, y, z]?, Nullability::NonNullable)?;
-    get_item(alloc, FieldName::new(alloc, "b")?, packed)
+    let mut fields = Vec::with_capacity(alloc, 3)?;
+    fields.push(named(alloc, "a", "x")?)?;
+    fields.push(named(alloc, "b", "y")?)?;
+    fields.push(named(alloc, "c", "z")?)?;
+    let name = FieldName::new(alloc, "b")?;
+    get_item(alloc, name, pack(alloc, fields, Nullability::NonNullable)?)
 }
 
 // The field of the scope, to be packed by that name.

@@ -12,24 +12,24 @@ use vx_types::{DType, Nullability, StructFields, VortexResult};
 #[derive(Debug, Drop)]
 pub struct Subject {
     /// The tree.
-    pub tree: Expression,
+    pub tree: Box<Expression>,
     /// The fields of its scope.
     pub fields: StructFields,
     /// The type of its scope.
     pub scope: DType,
     /// The tree, bound.
-    pub bound: BoundExpression,
+    pub bound: Box<BoundExpression>,
 }
 
 impl Subject {
     /// The family's tree of that size.
     pub fn new(alloc: Global, family: Family, size: usize) -> VortexResult<Subject>
-        ensures { IfOk result (λ s. WellTyped (bound_of s.bound)) }
+        ensures { IfOk result (λ s. WellTyped (bound_of s.bound.value)) }
     {
-        let tree = family.tree(alloc, size)?;
+        let tree = Box::new(alloc, family.tree(alloc, size)?)?;
         let fields = family.fields(alloc, size)?;
         let scope = DType::Struct(fields.clone()?, Nullability::NonNullable);
-        let bound = tree.bind(alloc, &scope)?;
+        let bound = Box::new(alloc, tree.bind(alloc, &scope)?)?;
         Ok(Subject {
             tree,
             fields,
