@@ -57,10 +57,11 @@ fn fill_of<'a>(node: &'a BoundExpression, children: &'a [BoundExpression]) -> &'
 fn truth(alloc: Global, value: bool) -> VortexResult<BoundExpression>
     ensures { Answers bound_of result (Ok (truth_literal value)) }
 {
+    let children = Rc::new(alloc, Vec::new(alloc))?;
     Ok(BoundExpression::Scalar {
         dtype: DType::Bool(Nullability::NonNullable),
         scalar_fn: ScalarFnRef::Literal(Scalar::from_bool(value)),
-        children: Rc::new(alloc, Vec::new(alloc))?,
+        children,
     })
 }
 
@@ -68,9 +69,10 @@ fn truth(alloc: Global, value: bool) -> VortexResult<BoundExpression>
 fn not_null(alloc: Global, node: &BoundExpression) -> VortexResult<BoundExpression>
     ensures { Answers bound_of result (Ok (not_null_of (bound_of node.now))) }
 {
+    let children = Rc::new(alloc, vec![in alloc; node.clone()?]?)?;
     Ok(BoundExpression::Scalar {
         dtype: DType::Bool(Nullability::NonNullable),
         scalar_fn: ScalarFnRef::IsNotNull(EmptyOptions),
-        children: Rc::new(alloc, vec![in alloc; node.clone()?]?)?,
+        children,
     })
 }
