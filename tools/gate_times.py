@@ -1,10 +1,10 @@
 #!/usr/bin/env python3
 """Runs the gate, `rt ci`, with so many jobs, and prints what each crate took of it: the processor
 minutes of its proof, of its tests and of its must-fail edits, as read off the provers' processes
-every second, and the minutes of the whole. Nothing else may be proved on the machine meanwhile.
-docs/BENCHMARKS.md has what it printed.
+every second, and the minutes of the whole. Nothing else may be proved meanwhile on the processors
+that it may run on. docs/BENCHMARKS.md has what it printed.
 
-usage: tools/gate_times.py JOBS
+usage: [taskset -c PROCESSORS] tools/gate_times.py JOBS
 """
 import collections
 import os
@@ -17,7 +17,8 @@ TASKS = ("proof", "tests", "edits")
 
 
 def provers():
-    """Each running prover: the process, its crate and task, and its processor seconds so far."""
+    """Each prover on our processors: the process, its crate and task, its processor seconds so far."""
+    ours = os.sched_getaffinity(0)
     for pid in filter(str.isdigit, os.listdir("/proc")):
         try:
             with open(f"/proc/{pid}/cmdline") as file:
@@ -25,6 +26,8 @@ def provers():
             with open(f"/proc/{pid}/stat") as file:
                 stat = file.read().rsplit(")", 1)[1].split()
             folder = os.readlink(f"/proc/{pid}/cwd")
+            if os.sched_getaffinity(int(pid)) != ours:
+                continue
         except OSError:
             continue
         if os.path.basename(words[0]) != "rattle" or "--crate-name" not in words:
