@@ -1,13 +1,16 @@
 -- Pairs of two conjunctions, one after another, are merges of their And.
 use Rattle.std.proofs.Common.{◌≡◌, ℕ, suc, List, ◌++◌, refl, sym, subst, false}
-use Rattle.std.specs.Prelude.{Option, Some, None}
+use Rattle.std.specs.Prelude.{Option, Some, None, Result, Ok, Err, IfOk, option_map}
 use Rattle.std.proofs.lemmas.List.{append-nil}
+use Rattle.vx_dtype.specs.declared.error.VortexError.{VortexError}
 use Rattle.vx_types.specs.Types.{LogicalType}
 use Rattle.vx_fn.specs.Functions.{and_also}
 use Rattle.vx_tree.specs.Trees.{BoundTree, node_type}
+use Rattle.vx_tree.specs.Views.{bound_of}
 use Rattle.vx_keep.specs.Steps.{here, no_step, one_more}
 use Rattle.vx_fusing.specs.Conjuncts.{and_node, and_of, is_and, conjuncts, range_of, MergeTo, below_and_above, above_and_below, NoneMergeable, Fused, FusedBelow}
 use Rattle.vx_fusing.specs.Merging.{IsFirstPair, Replaced, MergeAt, right_stays, right_goes, Merges, IsFusedOf}
+use Rattle.vx_fusing.specs.declared.merge.Merged.{Merged}
 use Rattle.vx_fusing.specs.Finding.{IsBinary, Gone, whole, part, PairMerged, Pairs, last_pair, and_pairs, conjuncts_left, joined, PairsMerged, MergesSecond, with_pairs, without_pairs}
 use Rattle.vx_fusing.proofs.Merges.{either, in_first, in_second, no_left, merged_plain, replaced_within, replaced_fused, removed_fused, conjunct_fused, gone_fused, fused_and}
 use Rattle.vx_fusing.proofs.Found.{none_append_right, none_to_none, right_is_some, right_in_first, right_in_second}
@@ -72,6 +75,11 @@ first_and_second {l = l} {x = x} {y = y} {u = u} {w = w} {left = left} b p (with
   pairs = pairs_in_first b.0 y p.pairs;
   none_left = none_joined (conjuncts u) left (Some y) p.none_left none;
 }))
+
+-- what the second child leaves is what is answered, where its parts are
+pub second_answered : {l y u : BoundTree} {right rest : Option BoundTree} (r : Result Merged VortexError) → IfOk r (λ m. bound_of m.left ≡ u) → IfOk r (λ m. option_map bound_of m.right ≡ rest) → MergesSecond l right y u rest → IfOk r (λ m. MergesSecond l right y (bound_of m.left) (option_map bound_of m.right))
+second_answered (Ok m) p q s = rw (p, q) s
+second_answered (Err e) p q s = p
 
 -- what is merged with the second child alone
 pub second_alone : {l x y r u : BoundTree} {rest : Option BoundTree} → IsBinary and_also x y r → NoneMergeable (conjuncts l) (conjuncts x) → PairsMerged l y u rest → PairsMerged l r u (joined (Some x) rest)

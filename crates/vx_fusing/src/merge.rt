@@ -105,30 +105,48 @@ fn merge_second(alloc: Global, before: Merged, second: &BoundExpression) -> Vort
     ensures merged { IfOk result (λ m. MergesSecond (bound_of before.left) (option_map bound_of before.right) (bound_of second.now) (bound_of m.left) (option_map bound_of m.right)) }
     ensures memory { IfErr result (λ e. e ≡ OutOfMemory) }
 {
-    let Merged { left, right } = before;
-    match merge_pairs(alloc, &left, second)? {
-        Some(later) => Ok(Merged {
-            left: later.left,
-            right: joined(alloc, right, later.right)?,
-        }),
-        None => Ok(Merged {
-            left,
-            right: joined(alloc, right, Some(second.clone()?))?,
-        }),
+    match merge_pairs(alloc, &before.left, second)? {
+        Some(later) => rejoined(alloc, later.left, before.right, later.right),
+        None => in_front(alloc, before, second),
     }
 }
 
-// The same with the right one's first child, of which nothing was merged, before what is left of
-// its second.
+// The conjunctions after the merges of the right one's first child, what is left of which stands in
+// front of its second, of which nothing is merged.
+fn in_front(alloc: Global, merged: Merged, second: &BoundExpression) -> VortexResult<Merged>
+    ensures left { IfOk result (λ m. bound_of m.left ≡ bound_of merged.left) }
+    ensures right { IfOk result (λ m. option_map bound_of m.right ≡ joined (option_map bound_of merged.right) (Some (bound_of second.now))) }
+    ensures memory { IfErr result (λ e. e ≡ OutOfMemory) }
+{
+    let second = second.clone()?;
+    rejoined(alloc, merged.left, merged.right, Some(second))
+}
+
+// The conjunctions after the merges of the right one's second child, what is left of which stands
+// behind its first, of which nothing is merged.
 fn behind(alloc: Global, first: &BoundExpression, merged: Merged) -> VortexResult<Merged>
     ensures left { IfOk result (λ m. bound_of m.left ≡ bound_of merged.left) }
     ensures right { IfOk result (λ m. option_map bound_of m.right ≡ joined (Some (bound_of first.now)) (option_map bound_of merged.right)) }
     ensures memory { IfErr result (λ e. e ≡ OutOfMemory) }
 {
-    let Merged { left, right } = merged;
+    let first = first.clone()?;
+    rejoined(alloc, merged.left, Some(first), merged.right)
+}
+
+// The left conjunction, and the right one of what is left of its two children.
+fn rejoined(
+    alloc: Global,
+    left: BoundExpression,
+    first: Option<BoundExpression>,
+    second: Option<BoundExpression>,
+) -> VortexResult<Merged>
+    ensures left { IfOk result (λ m. bound_of m.left ≡ bound_of left) }
+    ensures right { IfOk result (λ m. option_map bound_of m.right ≡ joined (option_map bound_of first) (option_map bound_of second)) }
+    ensures memory { IfErr result (λ e. e ≡ OutOfMemory) }
+{
     Ok(Merged {
         left,
-        right: joined(alloc, Some(first.clone()?), right)?,
+        right: joined(alloc, first, second)?,
     })
 }
 

@@ -6,7 +6,7 @@ use Rattle.vx_tree.specs.Views.{bound_of}
 use Rattle.vx_fusing.specs.Finding.{with_pairs, without_pairs}
 use Rattle.vx_fusing.proofs.Binaries.{left_smaller, right_smaller}
 use Rattle.vx_fusing.proofs.Found.{none_with_left, none_with_right, right_none}
-use Rattle.vx_fusing.proofs.Pairing.{first_and_second, second_alone}
+use Rattle.vx_fusing.proofs.Pairing.{first_and_second, second_alone, second_answered}
 use Rattle.vx_fusing.proofs.Refusals.{failed, spent}
 use Rattle.vx_fusing.proofs.merge.+merging.Goals as goal
 
@@ -69,13 +69,12 @@ pub merge_pairs-returns-in-None-2 : goal.merge_pairs-returns-in-None-2
 merge_pairs-returns-in-None-2 t c =
     right_none (bound_of c.args.l.now) c.in-Some.ensures (rw c.in-None.is at c.in_ok-merged.ensures) (rw c.in-None-2.is at c.in_ok-merged-in-None.ensures)
 
-pub merge_second-returns-in_ok-joined-in-Some-clause-merged : goal.merge_second-returns-in_ok-joined-in-Some-clause-merged
-merge_second-returns-in_ok-joined-in-Some-clause-merged t c =
+pub merge_second-returns-in-Some-clause-merged : goal.merge_second-returns-in-Some-clause-merged
+merge_second-returns-in-Some-clause-merged t c =
     let p = rw c.in-Some.is at c.in_ok-later.ensures in
-    rw c.in_ok-joined-in-Some.ensures.joined (with_pairs p.1)
+    second_answered c.rejoined.result c.rejoined.ensures.left c.rejoined.ensures.right (with_pairs p.1)
 
-pub merge_second-returns-in_ok-joined-in-None-clause-merged : goal.merge_second-returns-in_ok-joined-in-None-clause-merged
-merge_second-returns-in_ok-joined-in-None-clause-merged t c =
+pub merge_second-returns-in-None-clause-merged : goal.merge_second-returns-in-None-clause-merged
+merge_second-returns-in-None-clause-merged t c =
     let none = rw c.in-None.is at c.in_ok-later.ensures in
-    let same : bound_of c.in_ok-clone-in-None.field-0 ≡ bound_of c.args.second.now = search rules in
-    rw (c.in_ok-joined-in-None.ensures.joined, same) (without_pairs refl none)
+    second_answered c.in_front.result c.in_front.ensures.left c.in_front.ensures.right (without_pairs refl none)
