@@ -17,10 +17,11 @@ use vx_types::{Column, DType, Nullability, PType, Value, VortexResult};
 pub fn source(alloc: Global) -> VortexResult<Expression>
     ensures { Answers tree_of result (Ok cases.source) }
 {
-    let first = (above(alloc, 0)?, number(alloc, 10)?);
-    let second = (above(alloc, 3)?, number(alloc, 20)?);
+    let mut cases = Vec::with_capacity(alloc, 2)?;
+    cases.push((above(alloc, 0)?, number(alloc, 10)?))?;
+    cases.push((above(alloc, 3)?, number(alloc, 20)?))?;
     let otherwise = number(alloc, 30)?;
-    nested_case_when(alloc, vec![in alloc; first, second]?, Some(otherwise))
+    nested_case_when(alloc, cases, Some(otherwise))
 }
 
 // Whether x is above the number.
