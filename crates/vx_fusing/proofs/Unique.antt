@@ -1,5 +1,5 @@
 -- Merges that leave no pair give one and the same tree, whatever their order.
-use Rattle.std.proofs.Common.{◌≡◌, ◌⊎◌, inl, inr, ℕ, zero, suc, List, [], ◌∷◌, ◌++◌, refl, sym, ap, subst, ◌∙◌, Bool, true, false}
+use Rattle.std.proofs.Common.{◌≡◌, ◌⊎◌, inl, inr, ℕ, suc, List, [], ◌∷◌, ◌++◌, refl, sym, ap, subst, ◌∙◌, Bool, true, false}
 use Rattle.std.specs.Prelude.{Ok, Some}
 use Rattle.vx_types.specs.Types.{LogicalType}
 use Rattle.vx_fn.specs.Functions.{Function, fn_type}
@@ -8,7 +8,7 @@ use Rattle.vx_tree.specs.Trees.{BoundTree, node, BoundTrees, bound, node_types, 
 use Rattle.vx_keep.specs.Steps.{Step, here, below, OneStep, this_one, later_one, no_step, one_more}
 use Rattle.vx_keep.proofs.Stepping.{step_keeps, one_step_keeps}
 use Rattle.vx_keep.proofs.Keeping.{each_typed_after}
-use Rattle.vx_fusing.specs.Conjuncts.{and_node, and_of, is_and, conjuncts, Range, from_below, from_above, range_of, between_node, MergeTo, below_and_above, above_and_below, Mergeable, NoneMergeable, Fused, FusedBelow}
+use Rattle.vx_fusing.specs.Conjuncts.{and_of, is_and, conjuncts, from_below, from_above, between_node, MergeTo, below_and_above, above_and_below, Mergeable, NoneMergeable, Fused, FusedBelow}
 use Rattle.vx_fusing.specs.Merging.{Replaced, itself, on_left, on_right, Removed, left_gone, right_gone, from_left, from_right, MergeAt, right_stays, right_goes, Merges}
 use Rattle.vx_fusing.specs.Laws.{FusingIsUnique}
 use Rattle.vx_fusing.proofs.Merges.{in_first, in_second, in_own, replaced_from, removed_from, merge_keeps, same_ok, one_step_types, fused_no_step, fused_no_steps, fused_steps}
