@@ -76,7 +76,7 @@ first_and_second {l = l} {x = x} {y = y} {u = u} {w = w} {left = left} b p (with
   none_left = none_joined (conjuncts u) left (Some y) p.none_left none;
 }))
 
--- what the second child leaves is what is answered, where its parts are
+-- an answer merges the second child if its parts are those of trees that do
 pub second_answered : {l y u : BoundTree} {right rest : Option BoundTree} (r : Result Merged VortexError) → IfOk r (λ m. bound_of m.left ≡ u) → IfOk r (λ m. option_map bound_of m.right ≡ rest) → MergesSecond l right y u rest → IfOk r (λ m. MergesSecond l right y (bound_of m.left) (option_map bound_of m.right))
 second_answered (Ok m) p q s = rw (p, q) s
 second_answered (Err e) p q s = p

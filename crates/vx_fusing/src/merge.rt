@@ -111,8 +111,8 @@ fn merge_second(alloc: Global, before: Merged, second: &BoundExpression) -> Vort
     }
 }
 
-// The conjunctions after the merges of the right one's first child, what is left of which stands in
-// front of its second, of which nothing is merged.
+// The conjunctions where pairs of the right one's first child are merged and its second has none:
+// what is left of the first stands in front of the second.
 fn in_front(alloc: Global, merged: Merged, second: &BoundExpression) -> VortexResult<Merged>
     ensures left { IfOk result (λ m. bound_of m.left ≡ bound_of merged.left) }
     ensures right { IfOk result (λ m. option_map bound_of m.right ≡ joined (option_map bound_of merged.right) (Some (bound_of second.now))) }
@@ -122,8 +122,8 @@ fn in_front(alloc: Global, merged: Merged, second: &BoundExpression) -> VortexRe
     rejoined(alloc, merged.left, merged.right, Some(second))
 }
 
-// The conjunctions after the merges of the right one's second child, what is left of which stands
-// behind its first, of which nothing is merged.
+// The conjunctions where pairs of the right one's second child are merged and its first has none:
+// what is left of the second stands behind the first.
 fn behind(alloc: Global, first: &BoundExpression, merged: Merged) -> VortexResult<Merged>
     ensures left { IfOk result (λ m. bound_of m.left ≡ bound_of merged.left) }
     ensures right { IfOk result (λ m. option_map bound_of m.right ≡ joined (Some (bound_of first.now)) (option_map bound_of merged.right)) }
