@@ -1,13 +1,13 @@
 // Batches: as words, rows of one field, and of none.
 use crate::types::{i32_type, scope, struct_of};
+use crate::unread::Unread;
 use crate::words::value;
 use std::alloc::Global;
-use std::test::Fail;
 use vx_tree::Nullability::Nullable;
 use vx_tree::{Column, DType, Value, VortexResult};
 
 /// The batch of that text: its scope's fields, and its rows behind them, as `x:i32? y:utf8; 1 'a; null 'b`.
-pub fn batch(alloc: Global, text: &str) -> Result<Column, Fail> {
+pub fn batch(alloc: Global, text: &str) -> Result<Column, Unread> {
     let (fields, values) = text.split_once(';').unwrap_or((text, ""));
     let scope = Box::new(alloc, scope(alloc, fields)?)?;
     let mut rows = Vec::new(alloc);
@@ -19,7 +19,7 @@ pub fn batch(alloc: Global, text: &str) -> Result<Column, Fail> {
     Ok(Column::try_new(Box::into_inner(scope), rows)?)
 }
 
-fn row(alloc: Global, words: &str) -> VortexResult<Value> {
+fn row(alloc: Global, words: &str) -> Result<Value, Unread> {
     let mut values = Vec::new(alloc);
     for word in words.split_whitespace() {
         values.push(value(alloc, word)?)?;

@@ -6,6 +6,7 @@ mod rows;
 mod texts;
 mod trees;
 mod types;
+mod unread;
 mod words;
 mod worked;
 
@@ -14,5 +15,9 @@ pub use rows::{evaluated, faults, gives, shows};
 pub use texts::{prints, reads, refused};
 pub use trees::{binary, col, literal, number};
 pub use types::{fields, i32_type, names, scope, scope_of_x, struct_of, with_x};
-pub use words::{bound, boxed, function, parsed};
+pub use unread::Unread;
+pub use words::{
+    ByParts, Maker, any_function, bound, boxed, dtype, function, operator, parsed, push_values,
+    read_tree, scalar, selection, typed, value,
+};
 pub use worked::{UNCHOSEN_OVERFLOW, repacked, turned, unchosen_overflow};

@@ -3,9 +3,9 @@ ghost use Rattle.std.specs.Prelude.{◌≡◌};
 ghost use Rattle.vx_types.specs.Types.{is_nullable};
 ghost use Rattle.vx_types.specs.Views.{admits_null, type_of};
 
+use crate::unread::Unread;
 use crate::words::dtype;
 use std::alloc::Global;
-use std::test::Fail;
 use vx_tree::Nullability::NonNullable;
 use vx_tree::{
     DType, FieldName, FieldNames, Nullability, PType, StructFields, VortexError, VortexResult,
@@ -34,13 +34,13 @@ pub fn struct_of(alloc: Global, texts: &[&str], types: Vec<DType>) -> VortexResu
 }
 
 /// The struct of these fields that is never null, as `x:i32? y:utf8`.
-pub fn scope(alloc: Global, fields: &str) -> Result<DType, Fail> {
+pub fn scope(alloc: Global, fields: &str) -> Result<DType, Unread> {
     let mut texts = Vec::new(alloc);
     let mut types = Vec::new(alloc);
     for field in fields.split_whitespace() {
         let (name, kind) = field.split_once(':').ok_or("no type")?;
         texts.push(name)?;
-        types.push(dtype(kind).ok_or("no type of that name")?)?;
+        types.push(dtype(alloc, kind)?)?;
     }
     Ok(struct_of(alloc, texts.as_slice(), types)?)
 }

@@ -1,8 +1,8 @@
 // Worked trees that take more than words.
 use crate::trees::{literal, named};
+use crate::unread::Unread;
 use crate::words::parsed;
 use std::alloc::Global;
-use std::test::Fail;
 use vx_build::{get_item, not, pack};
 use vx_tree::Nullability::NonNullable;
 use vx_tree::{Expression, FieldName, Scalar, VortexResult};
@@ -11,7 +11,7 @@ use vx_tree::{Expression, FieldName, Scalar, VortexResult};
 pub const UNCHOSEN_OVERFLOW: &str = "false 127i8 1i8 + 0i8 case";
 
 /// `CASE WHEN false THEN (127i8 + 1i8) ELSE 0i8 END`
-pub fn unchosen_overflow(alloc: Global) -> Result<Expression, Fail> {
+pub fn unchosen_overflow(alloc: Global) -> Result<Expression, Unread> {
     parsed(alloc, UNCHOSEN_OVERFLOW)
 }
 
