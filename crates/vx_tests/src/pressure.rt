@@ -1,8 +1,7 @@
 // The first request of a call refused, since all memory is taken. Each call is made before too, with
 // memory, so that the stack has grown as far as it needs.
-use crate::refusals::evaluation::TWO_CASES;
+use crate::refusals::evaluation::{TWO_CASES, TWO_CASES_WRITTEN};
 use crate::refusals::trees::RANGE;
-use crate::rows;
 use crate::trees::RANGE_OF_X;
 use std::alloc::Global;
 use std::process::Abort;
@@ -53,7 +52,7 @@ fn refuses_to_evaluate(
 fn apply_bound_is_refused(rt: HostRuntime) -> Result<(), Fail> {
     let alloc = rt.alloc();
     let x = batch(alloc, "x:i32?; 1; 5; null")?;
-    refuses_to_evaluate(&rt, alloc, rows::TWO_CASES, &x, TWO_CASES)?;
+    refuses_to_evaluate(&rt, alloc, TWO_CASES, &x, TWO_CASES_WRITTEN)?;
     assert!(rt; reads(&x, "[{x: 1i32}, {x: 5i32}, {x: null}]"));
     Ok(())
 }

@@ -1,7 +1,5 @@
 // Evaluation whose memory is refused: the result or the fault, and what was lent.
 use crate::refusals::answered;
-use crate::results::{BAD_FILL, FILL};
-use crate::rows;
 use std::alloc::Global;
 use std::process::Abort;
 use std::test::Fail;
@@ -43,7 +41,10 @@ fn answers(
     answered(rt)
 }
 
-pub const TWO_CASES: &str =
+/// 10 where x is above 0, 20 where it is above 3, else 30.
+pub const TWO_CASES: &str = "x 0 > 10 x 3 > 20 30 cases(2,else)";
+
+pub const TWO_CASES_WRITTEN: &str =
     "CASE WHEN ($.x > 0i32) THEN 10i32 WHEN ($.x > 3i32) THEN 20i32 ELSE 30i32 END";
 
 #[test]
@@ -51,12 +52,15 @@ fn apply_bound_of_two_cases(rt: HostRuntime) -> Result<(), Fail> {
     let alloc = rt.alloc();
     let x = batch(alloc, "x:i32?; 1; 5; null")?;
     let texts = Texts {
-        tree: TWO_CASES,
+        tree: TWO_CASES_WRITTEN,
         batch: "[{x: 1i32}, {x: 5i32}, {x: null}]",
         answer: "[10i32, 10i32, 30i32]",
     };
-    answers(&rt, alloc, rows::TWO_CASES, &x, texts)
+    answers(&rt, alloc, TWO_CASES, &x, texts)
 }
+
+/// The text of `BadFill`.
+const BAD_FILL: &str = "a fill that is null, not one value, or of an unsupported type";
 
 #[test]
 fn apply_bound_of_fills(rt: HostRuntime) -> Result<(), Fail> {
@@ -79,7 +83,7 @@ fn apply_bound_of_fills(rt: HostRuntime) -> Result<(), Fail> {
             batch: rows,
             answer,
         };
-        answers(&rt, alloc, FILL, &batch(alloc, given)?, texts)?;
+        answers(&rt, alloc, "x y fill_null", &batch(alloc, given)?, texts)?;
     }
     Ok(())
 }

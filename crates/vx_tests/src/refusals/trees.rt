@@ -1,6 +1,5 @@
 // Trees whose memory is refused: bound, collected, drawn.
 use crate::refusals::answered;
-use crate::tree_texts::RANGE as RANGE_DRAWN;
 use crate::trees::RANGE_OF_X;
 use std::alloc::Global;
 use std::fmt::Write;
@@ -10,6 +9,16 @@ use vx_samples::{boxed, reads, scope_of_x};
 use vx_tree::{BoundExpression, Expression, VortexResult};
 
 pub const RANGE: &str = "(($.x >= null) and ($.x <= 5i32))";
+
+const RANGE_DRAWN: &str = "vortex.binary(and)
+├── lhs: vortex.binary(>=)
+│   ├── lhs: vortex.get_item(x)
+│   │   └── input: vortex.root()
+│   └── rhs: vortex.literal(null)
+└── rhs: vortex.binary(<=)
+    ├── lhs: vortex.get_item(x)
+    │   └── input: vortex.root()
+    └── rhs: vortex.literal(5i32)";
 
 /// Whether the answer is the range, bound. Hands on that a request was refused.
 fn is_range(answer: VortexResult<BoundExpression>) -> VortexResult<bool> {
