@@ -10,7 +10,7 @@ use vx_rewrite::{
     Annotation, PartitionKey, direct_bound_annotations, partition_bound,
     partition_bound_annotations,
 };
-use vx_samples::{bound, i32_type, prints};
+use vx_samples::{bound, i32_type, reads};
 use vx_tree::Nullability::NonNullable;
 use vx_tree::{BoundExpression, FieldName, ScalarFnRef, VortexError, VortexResult};
 
@@ -58,25 +58,29 @@ fn key_of(alloc: Global, e: &BoundExpression) -> VortexResult<Vec<Key>> {
     Ok(keys)
 }
 
+/// The words over numbers, which they don't read.
+fn tree(alloc: Global, words: &str) -> Result<Box<BoundExpression>, Fail> {
+    bound(alloc, words, &i32_type(NonNullable))
+}
+
 #[test]
 fn equal_pieces_are_two(rt: HostRuntime) -> Result<(), Fail> {
     let alloc = rt.alloc();
-    let e = bound(alloc, "true true and", &i32_type(NonNullable))?;
+    let e = tree(alloc, "true true and")?;
     let keys = |node: &BoundExpression| key_of(alloc, node);
-    let annotations = direct_bound_annotations(alloc, &*e, keys)?;
-    let whole = partition_bound_annotations(alloc, Box::into_inner(e), annotations)?;
-    prints(
-        whole,
-        "root: ($.p.true_0 and $.p.true_1) {p: pack(true_0: true, true_1: true)}",
-    )
+    let annotations = direct_bound_annotations(alloc, &*e, keys).expect(&rt, "memory");
+    let split = partition_bound_annotations(alloc, Box::into_inner(e), annotations);
+    let text = "root: ($.p.true_0 and $.p.true_1) {p: pack(true_0: true, true_1: true)}";
+    assert!(rt; matches!(&split, Ok(whole) if reads(whole, text)));
+    Ok(())
 }
 
 #[test]
 fn a_name_is_taken_once(rt: HostRuntime) -> Result<(), Fail> {
     let alloc = rt.alloc();
-    let e = Box::into_inner(bound(alloc, "true false and", &i32_type(NonNullable))?);
-    let split = partition_bound(alloc, e, |node: &BoundExpression| key_of(alloc, node));
-    let refusal = split.err().ok_or("not refused")?;
-    assert!(rt; matches!(&refusal, VortexError::PartitionNameTaken(_)));
+    let e = tree(alloc, "true false and")?;
+    let keys = |node: &BoundExpression| key_of(alloc, node);
+    let split = partition_bound(alloc, Box::into_inner(e), keys);
+    assert!(rt; matches!(&split, Err(VortexError::PartitionNameTaken(p)) if p.as_str() == "p"));
     Ok(())
 }
