@@ -4,7 +4,7 @@ ghost use Rattle.vx_tree.specs.Trees.{WellTyped};
 ghost use Rattle.vx_tree.specs.Views.{bound_of};
 
 use std::alloc::Global;
-use vx_samples::{Unread, boxed, dtype, push_values};
+use vx_samples::{Unread, boxed, dtype, values};
 use vx_tree::{BoundExpression, Column, DType, Expression, VortexResult};
 
 /// The scope, batches of its type, and the tree that a ditto mark stands for.
@@ -68,13 +68,4 @@ impl Scene {
         let bound = source.bind(alloc, &self.scope)?;
         Ok(Box::new(alloc, bound)?)
     }
-}
-
-/// The values of the words.
-pub fn values(alloc: Global, words: &str) -> Result<Vec<vx_tree::Value>, Unread> {
-    let mut values = Vec::new(alloc);
-    for word in words.split_whitespace() {
-        push_values(alloc, word, &mut values)?;
-    }
-    Ok(values)
 }

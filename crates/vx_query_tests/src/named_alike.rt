@@ -60,7 +60,7 @@ fn key_of(alloc: Global, e: &BoundExpression) -> VortexResult<Vec<Key>> {
 
 /// The words over numbers, which they don't read.
 fn tree(alloc: Global, words: &str) -> Result<Box<BoundExpression>, Fail> {
-    bound(alloc, words, &i32_type(NonNullable))
+    Ok(bound(alloc, words, &i32_type(NonNullable))?)
 }
 
 #[test]

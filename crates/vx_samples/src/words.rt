@@ -12,24 +12,19 @@ mod types;
 mod values;
 
 use crate::unread::Unread;
-pub use functions::{function, operator, selection};
+pub use functions::{names, operator, selection};
 pub use makers::{ByParts, Maker};
-pub use operands::{scalar, typed};
+pub use operands::typed;
 pub use reader::{any_function, read_tree};
 use std::alloc::Global;
-pub use types::dtype;
-pub use values::{push_values, value};
-use vx_tree::{BoundExpression, DType, Expression};
+pub use types::{dtype, i32_type};
+pub use values::{value, values};
+use vx_tree::{BoundExpression, Column, DType, Expression};
 
-/// The tree of the words.
-pub fn parsed(alloc: Global, words: &str) -> Result<Expression, Unread> {
-    read_tree(alloc, &ByParts, words)
-}
-
-/// The tree of the words, behind a box: wherever a test may end, the prover writes out a tree that
+/// The tree of the words, behind a box: wherever a caller may end, the prover writes out a tree that
 /// isn't behind one.
 pub fn boxed(alloc: Global, words: &str) -> Result<Box<Expression>, Unread> {
-    Ok(Box::new(alloc, parsed(alloc, words)?)?)
+    Ok(Box::new(alloc, read_tree(alloc, &ByParts, words)?)?)
 }
 
 /// The tree of the words, bound to the scope.
@@ -38,4 +33,10 @@ pub fn bound(alloc: Global, words: &str, scope: &DType) -> Result<Box<BoundExpre
 {
     let bound = boxed(alloc, words)?.bind(alloc, scope)?;
     Ok(Box::new(alloc, bound)?)
+}
+
+/// The column of that type with these rows, which stand one space apart.
+pub fn column(alloc: Global, kind: &str, rows: &str) -> Result<Column, Unread> {
+    let rows = values(alloc, rows)?;
+    Ok(Column::try_new(dtype(alloc, kind)?, rows)?)
 }

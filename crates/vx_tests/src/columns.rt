@@ -4,14 +4,14 @@ use std::alloc::Global;
 use std::rc::Rc;
 use std::test::Fail;
 use vx_eval::apply_bound;
-use vx_samples::{bound, i32_type, numbers, reads};
+use vx_samples::{bound, column, i32_type, reads, values};
 use vx_tree::Nullability::{NonNullable, Nullable};
 use vx_tree::{Column, DType, Value, VortexError, VortexResult};
 
 #[test]
 fn a_column_is_its_type_and_its_rows(rt: HostRuntime) {
     let alloc = rt.alloc();
-    let rows = numbers(alloc, &[Some(7), None]).expect(&rt, "memory");
+    let rows = values(alloc, "7 null").expect(&rt, "values");
     let column = Column::try_new(i32_type(Nullable), rows).expect(&rt, "a column");
     assert_eq!(rt; column.len(), 2);
     assert!(rt; !column.is_empty());
@@ -22,7 +22,7 @@ fn a_column_is_its_type_and_its_rows(rt: HostRuntime) {
     let rows = column.shared_rows().clone().expect(&rt, "memory");
     same(&rt, Column::from_shared(dtype, rows), &column);
     same(&rt, column.clone().expect(&rt, "memory"), &column);
-    let one = numbers(alloc, &[Some(7)]).expect(&rt, "memory");
+    let one = values(alloc, "7").expect(&rt, "values");
     let other = Column::try_new(i32_type(Nullable), one).expect(&rt, "a column");
     differs(&rt, other, &column);
 }
@@ -32,11 +32,11 @@ fn values_fit_or_not(rt: HostRuntime) {
     let alloc = rt.alloc();
     let number = Rc::new(alloc, i32_type(NonNullable)).expect(&rt, "memory");
     let pair = DType::FixedSizeList(number, 2, NonNullable);
-    let both = numbers(alloc, &[Some(1), Some(2)]).expect(&rt, "memory");
+    let both = values(alloc, "1 2").expect(&rt, "values");
     let two = Value::List(both);
     assert!(rt; two.fits(&pair));
     same(&rt, two.clone().expect(&rt, "memory"), &two);
-    let one = numbers(alloc, &[Some(1)]).expect(&rt, "memory");
+    let one = values(alloc, "1").expect(&rt, "values");
     assert!(rt; !Value::List(one).fits(&pair));
     assert!(rt; !Value::Null.fits(&pair) && Value::Null.fits(&pair.as_nullable()));
     assert!(rt; Value::Null.is_null() && !Value::Bool(false).is_null());
@@ -45,7 +45,7 @@ fn values_fit_or_not(rt: HostRuntime) {
 /// What the tree of the words, over `i32?`, answers on one row of `i32`.
 fn over_narrower(alloc: Global, words: &str) -> Result<VortexResult<Column>, Fail> {
     let bound = bound(alloc, words, &i32_type(Nullable))?;
-    let rows = Column::try_new(i32_type(NonNullable), numbers(alloc, &[Some(1)])?)?;
+    let rows = column(alloc, "i32", "1")?;
     Ok(apply_bound(alloc, &rows, &bound))
 }
 

@@ -4,7 +4,7 @@ use std::alloc::Global;
 use std::process::Abort;
 use std::test::Fail;
 use vx_build::{bound, root};
-use vx_samples::{boxed, i32_type, prints, reads, scope_of_x};
+use vx_samples::{boxed, dtype, i32_type, reads};
 use vx_tree::Nullability::{NonNullable, Nullable};
 use vx_tree::test_harness::struct_dtype;
 use vx_tree::{
@@ -20,13 +20,13 @@ pub const RANGE_OF_X: &str = "x null >= x 5 <= and";
 fn a_range_has_its_text_and_type(rt: HostRuntime) -> Result<(), Fail> {
     let alloc = rt.alloc();
     let text = "(($.x >= null) and ($.x <= 5i32))";
-    let scope = scope_of_x(alloc)?;
+    let scope = dtype(alloc, "{x=i32}")?;
     let source = boxed(alloc, RANGE_OF_X)?;
     let bound = source.bind(alloc, &scope)?;
     assert!(rt; *bound.dtype() == DType::Bool(Nullable));
     assert!(rt; bound.is_root_bound_to(&scope));
-    prints(bound, text)?;
-    prints(&*source, text)
+    assert!(rt; reads(&bound, text) && reads(&*source, text));
+    Ok(())
 }
 
 #[test]
@@ -70,7 +70,7 @@ fn nodes_show_their_function_and_children(rt: HostRuntime) -> Result<(), Fail> {
 #[test]
 fn bound_nodes_show_their_function_and_children(rt: HostRuntime) -> Result<(), Fail> {
     let alloc = rt.alloc();
-    let bound = vx_samples::bound(alloc, RANGE_OF_X, &scope_of_x(alloc)?)?;
+    let bound = vx_samples::bound(alloc, RANGE_OF_X, &dtype(alloc, "{x=i32}")?)?;
     assert!(rt; matches!(bound.as_scalar(), Some(ScalarFnRef::Binary(Operator::And))));
     assert!(rt; bound.as_opt::<Binary>() == Some(&Operator::And));
     assert!(rt; bound.is::<Binary>());
@@ -102,7 +102,7 @@ fn binds_alike(rt: &impl Abort, alloc: Global, source: &Expression, scope: &Scop
 fn a_scope_is_its_type(rt: HostRuntime) -> Result<(), Fail> {
     let alloc = rt.alloc();
     let source = boxed(alloc, RANGE_OF_X)?;
-    let scope = Scope::new(scope_of_x(alloc).expect(&rt, "memory"));
+    let scope = Scope::new(dtype(alloc, "{x=i32}").expect(&rt, "a type"));
     binds_alike(&rt, alloc, &*source, &scope);
     Ok(())
 }

@@ -3,13 +3,12 @@ mod grammar;
 mod maker;
 mod seeds;
 
-use crate::scene::values;
 use maker::Maker;
 use std::alloc::Global;
 use vx_eval::apply_bound;
 use vx_query::run_query;
 use vx_rewrite::Pass;
-use vx_samples::{Unread, boxed, dtype};
+use vx_samples::{Unread, boxed, column};
 use vx_tree::{Column, Expression, VortexError, VortexResult};
 
 const SCOPE: &str = "{a={x=i32?,y=i32}?,b=i32?,m=bool?,s=utf8}";
@@ -22,8 +21,7 @@ pub fn by_chance(alloc: Global, words: &str) -> Result<String, Unread> {
     let (seed, count) = words.split_once(' ').ok_or("no count")?;
     let seed = seed.parse().map_err(|_| Unread::Word("no seed"))?;
     let count: usize = count.parse().map_err(|_| Unread::Word("no count"))?;
-    let batch = Column::try_new(dtype(alloc, SCOPE)?, values(alloc, ROWS)?)?;
-    let batch = Box::new(alloc, batch)?;
+    let batch = Box::new(alloc, column(alloc, SCOPE, ROWS)?)?;
     let mut maker = Maker::new(alloc, seed);
     let mut without_fault: usize = 0;
     for _ in 0..count {

@@ -2,7 +2,7 @@
 use crate::told::told;
 use std::alloc::Global;
 use vx_samples::{Unread, any_function, dtype, operator};
-use vx_tree::{FieldName, FieldNames, ScalarFnRef, VortexResult};
+use vx_tree::{ScalarFnRef, VortexResult};
 
 fn function_of(alloc: Global, word: &str) -> Result<Box<ScalarFnRef>, Unread> {
     Ok(Box::new(alloc, any_function(alloc, word)?)?)
@@ -65,11 +65,7 @@ pub fn node_type(alloc: Global, word: &str, types: &str) -> Result<String, Unrea
 /// The names that the selection keeps of those that are there.
 pub fn kept(alloc: Global, selection: &str, names: &str) -> Result<String, Unread> {
     let selection = vx_samples::selection(alloc, selection)?.ok_or("no selection")?;
-    let mut there = Vec::new(alloc);
-    for name in names.split_whitespace() {
-        there.push(FieldName::new(alloc, name)?)?;
-    }
-    let there = FieldNames::new(alloc, there)?;
+    let there = vx_samples::names(alloc, names, ' ')?;
     match selection.normalize_to_included_fields(alloc, &there) {
         Ok(kept) => {
             let mut text = String::new(alloc);

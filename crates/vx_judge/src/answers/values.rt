@@ -1,10 +1,9 @@
 // Answers of types, scalars and columns.
-use crate::scene::values;
 use crate::told::{refused, told};
 use std::alloc::Global;
-use vx_samples::{Unread, dtype, typed, value};
+use vx_samples::{Unread, dtype, typed, value, values};
 use vx_tree::Nullability::NonNullable;
-use vx_tree::{Column, DType, FieldName, FieldNames, Scalar, VortexError, VortexResult};
+use vx_tree::{Column, DType, FieldNames, Scalar, VortexError, VortexResult};
 
 /// The text of the type.
 pub fn type_text(alloc: Global, text: &str) -> Result<String, Unread> {
@@ -43,16 +42,12 @@ pub fn column(alloc: Global, dtype: &str, rows: &str) -> Result<String, Unread> 
 
 /// Columns, `TYPE: ROW ..` each with a `;` between them, as structs of so many rows under the names.
 pub fn joined(alloc: Global, names: &str, columns: &str, rows: &str) -> Result<String, Unread> {
-    let mut all = Vec::new(alloc);
-    for name in names.split_whitespace() {
-        all.push(FieldName::new(alloc, name)?)?;
-    }
-    let names = FieldNames::new(alloc, all)?;
+    let names = vx_samples::names(alloc, names, ' ')?;
     let mut given = Vec::new(alloc);
     for text in columns.split(';') {
         let (dtype, rows) = text.trim().split_once(' ').unwrap_or((text.trim(), ""));
-        let dtype = vx_samples::dtype(alloc, dtype.strip_suffix(':').ok_or("no type")?)?;
-        given.push(Column::try_new(dtype, values(alloc, rows)?)?)?;
+        let dtype = dtype.strip_suffix(':').ok_or("no type")?;
+        given.push(vx_samples::column(alloc, dtype, rows)?)?;
     }
     let rows = rows.parse().map_err(|_| Unread::Word("no number of rows"))?;
     Ok(joined_text(alloc, names, given, rows)?)

@@ -1,30 +1,18 @@
 // Queries and partitions whose memory is refused.
 use crate::refusals::answered;
-use crate::worked::{CONDITIONS, scope, tree};
+use crate::worked::{CONDITIONS, SCOPE, scope, tree};
 use std::alloc::Global;
 use std::process::Abort;
 use std::test::Fail;
 use vx_query::run_query;
 use vx_rewrite::{BoundPartitionedExpr, Pass, free_fields, partition_bound};
-use vx_samples::{bound, boxed, reads};
-use vx_tree::{BoundExpression, Column, Expression, FieldName, Value, VortexResult};
+use vx_samples::{bound, boxed, column, reads};
+use vx_tree::{BoundExpression, Column, Expression, FieldName};
 
 const TWO_CONDITIONS: &str = "(($.a.x >= 1i32) and ($.b < 5i32))";
 
 const DIVIDED: &str = "root: ($.a.a_0 and $.b.b_0) \
                        {a: pack(a_0: ($.a.x >= 1i32)), b: pack(b_0: ($.b < 5i32))}";
-
-/// A row of the scope, of which c is 0: x, y and b.
-fn row(alloc: Global, [x, y, b]: [i128; 3]) -> VortexResult<Value> {
-    let a = Value::Struct(vec![in alloc; Value::Int(x), Value::Int(y)]?);
-    Ok(Value::Struct(vec![in alloc; a, Value::Int(b), Value::Int(0)]?))
-}
-
-/// Two rows of the scope.
-fn two_rows(alloc: Global) -> VortexResult<Column> {
-    let rows = vec![in alloc; row(alloc, [1, 7, 4])?, row(alloc, [0, 7, 9])?]?;
-    Column::try_new(scope(alloc)?, rows)
-}
 
 const ROWS: &str = "[{a: {x: 1i32, y: 7i32}, b: 4i32, c: 0i32}, \
                     {a: {x: 0i32, y: 7i32}, b: 9i32, c: 0i32}]";
@@ -50,7 +38,7 @@ fn answers(
 fn run_query_of_two_conditions(rt: HostRuntime) -> Result<(), Fail> {
     let alloc = rt.alloc();
     let source = boxed(alloc, CONDITIONS)?;
-    let batch = two_rows(alloc)?;
+    let batch = column(alloc, SCOPE, "{{1,7},4,0} {{0,7},9,0}")?;
     answers(&rt, alloc, &*source, &batch, false)?;
     answers(&rt, alloc, &*source, &batch, true)
 }

@@ -7,10 +7,9 @@ use std::alloc::Global;
 use std::process::Abort;
 use std::test::Fail;
 use vx_rewrite::{BoundLabels, Optimize, find_between, label_bound_tree};
-use vx_samples::{bound, boxed, col, i32_type, reads, repacked, struct_of, with_x};
-use vx_tree::Nullability::{NonNullable, Nullable};
+use vx_samples::{bound, boxed, dtype, reads};
 use vx_tree::test_harness::struct_dtype;
-use vx_tree::{BoundExpression, DType, ExactBoundExpr, Expression, VortexResult};
+use vx_tree::{BoundExpression, ExactBoundExpr, Expression, VortexResult};
 
 /// Whether x, y and z are at least 0 and below 10.
 const THREE_RANGES: &str = "x 0 >= y 0 >= and z 0 >= and z 10 < y 10 < and x 10 < and and";
@@ -21,16 +20,10 @@ const COMPARISONS: &str = "(((($.x >= 0i32) and ($.y >= 0i32)) and ($.z >= 0i32)
 const RANGES: &str =
     "(((0i32 <= $.x < 10i32) and (0i32 <= $.y < 10i32)) and (0i32 <= $.z < 10i32))";
 
-/// `{x=i32?, y=i32?, z=i32?}`
-fn three_numbers(alloc: Global) -> VortexResult<DType> {
-    let types = vec![in alloc; i32_type(Nullable), i32_type(Nullable), i32_type(Nullable)]?;
-    struct_of(alloc, &["x", "y", "z"], types)
-}
-
 #[test]
 fn find_between_of_six_comparisons(rt: HostRuntime) -> Result<(), Fail> {
     let alloc = rt.alloc();
-    let scope = three_numbers(alloc)?;
+    let scope = dtype(alloc, "{x=i32?,y=i32?,z=i32?}")?;
     let bound = bound(alloc, THREE_RANGES, &scope)?;
     let shared = Box::new(alloc, (*bound).clone()?)?;
     rt.println("called")?;
@@ -66,7 +59,7 @@ fn leaves_of(
     source: &Expression,
     text: &str,
 ) -> Result<(), Fail> {
-    let scope = with_x(alloc, i32_type(Nullable), NonNullable)?;
+    let scope = dtype(alloc, "{x=i32?}")?;
     let bound = Box::new(alloc, source.bind(alloc, &scope)?)?;
     let before = format!(in alloc; "{bound}")?;
     leaves(rt, alloc, &bound, before.as_str(), text)
@@ -76,7 +69,7 @@ fn leaves_of(
 #[test]
 fn optimize_recursive_of_items_and_cases(rt: HostRuntime) -> Result<(), Fail> {
     let alloc = rt.alloc();
-    let items = Box::new(alloc, repacked(alloc, col(alloc, "x")?, 101)?)?;
+    let items = boxed(alloc, "x times(101) pack(a) .a end")?;
     leaves_of(&rt, alloc, &*items, "$.x")?;
     let item = boxed(alloc, "x pack(a)? .a")?;
     leaves_of(&rt, alloc, &*item, "vortex.mask($.x, true)")?;
@@ -86,7 +79,7 @@ fn optimize_recursive_of_items_and_cases(rt: HostRuntime) -> Result<(), Fail> {
 
 /// `($.col1 = 5u16)`
 fn equal(alloc: Global) -> Result<Box<BoundExpression>, Fail> {
-    bound(alloc, "col1 5u16 =", &struct_dtype(alloc)?)
+    Ok(bound(alloc, "col1 5u16 =", &struct_dtype(alloc)?)?)
 }
 
 /// One more than the highest child's.

@@ -1,7 +1,6 @@
 // Functions by their words.
 use super::pieces::within;
 use super::types::dtype;
-use crate::types::names;
 use crate::unread::Unread;
 use std::alloc::Global;
 use vx_tree::Nullability::{NonNullable, Nullable};
@@ -33,13 +32,13 @@ pub fn function(alloc: Global, word: &str) -> Result<Option<ScalarFnRef>, Unread
     )
 }
 
-// The names, one comma apart.
-fn listed(alloc: Global, list: &str) -> VortexResult<FieldNames> {
+/// The names of the list, with such a mark between them; none of an empty list.
+pub fn names(alloc: Global, list: &str, mark: char) -> VortexResult<FieldNames> {
     if list.is_empty() {
-        return names(alloc, &[]);
+        return FieldNames::empty(alloc);
     }
     let mut names = Vec::new(alloc);
-    for name in list.split(',') {
+    for name in list.split(mark) {
         names.push(FieldName::new(alloc, name)?)?;
     }
     FieldNames::new(alloc, names)
@@ -54,7 +53,7 @@ fn pack(alloc: Global, word: &str) -> VortexResult<Option<PackOptions>> {
     let Some(list) = within(word, "pack") else {
         return Ok(None);
     };
-    let names = listed(alloc, list)?;
+    let names = names(alloc, list, ',')?;
     Ok(Some(PackOptions { names, nullability }))
 }
 
@@ -67,8 +66,8 @@ pub fn selection(alloc: Global, word: &str) -> VortexResult<Option<FieldSelectio
         return Ok(None);
     };
     Ok(Some(match list.strip_prefix('~') {
-        Some(list) => FieldSelection::exclude(listed(alloc, list)?),
-        None => FieldSelection::include(listed(alloc, list)?),
+        Some(list) => FieldSelection::exclude(names(alloc, list, ',')?),
+        None => FieldSelection::include(names(alloc, list, ',')?),
     }))
 }
 

@@ -1,7 +1,6 @@
 // The literals and the paths of fields by their words.
-use super::types::{dtype, ptype};
+use super::types::{dtype, i32_type, ptype};
 use super::values::value;
-use crate::types::i32_type;
 use crate::unread::Unread;
 use std::alloc::Global;
 use vx_tree::Nullability::{NonNullable, Nullable};

@@ -1,10 +1,14 @@
 // Types by their texts.
+ghost use Rattle.std.specs.Prelude.{◌≡◌};
+ghost use Rattle.vx_types.specs.Types.{is_nullable};
+ghost use Rattle.vx_types.specs.Views.{admits_null, type_of};
+
 use super::pieces::{numbered, parted};
 use crate::unread::Unread;
 use std::alloc::Global;
 use std::rc::Rc;
 use vx_tree::Nullability::{NonNullable, Nullable};
-use vx_tree::{DType, FieldName, FieldNames, PType, StructFields};
+use vx_tree::{DType, FieldName, FieldNames, Nullability, PType, StructFields};
 
 const MARKS: [char; 10] = ['(', ')', '[', ']', '{', '}', ',', '=', '*', '?'];
 
@@ -158,6 +162,12 @@ impl TypeReader {
 // The name, with the number in the place of each `#`.
 fn numbered_name(alloc: Global, name: &str, number: usize) -> Result<FieldName, Unread> {
     Ok(FieldName::new(alloc, numbered(alloc, name, number)?.as_str())?)
+}
+
+pub fn i32_type(nullability: Nullability) -> DType
+    ensures { is_nullable (type_of result) ≡ admits_null nullability }
+{
+    DType::Primitive(PType::I32, nullability)
 }
 
 /// A type that is no struct and no list, as it prints.

@@ -18,8 +18,17 @@ pub fn value(alloc: Global, word: &str) -> Result<Value, Unread> {
     values.pop().ok_or(Unread::Word("no value"))
 }
 
-/// Pushes the value of the word, with `7*` before it seven times.
-pub fn push_values(alloc: Global, word: &str, values: &mut Vec<Value>) -> Result<(), Unread> {
+/// The values of the words, which stand one space apart.
+pub fn values(alloc: Global, words: &str) -> Result<Vec<Value>, Unread> {
+    let mut values = Vec::new(alloc);
+    for word in words.split_whitespace() {
+        push_values(alloc, word, &mut values)?;
+    }
+    Ok(values)
+}
+
+// Pushes the value of the word, with `7*` before it seven times.
+fn push_values(alloc: Global, word: &str, values: &mut Vec<Value>) -> Result<(), Unread> {
     if let Some(text) = word.strip_prefix('\'') {
         return Ok(values.push(Value::Utf8(String::from_str(alloc, text)?))?);
     }

@@ -4,7 +4,7 @@ use std::alloc::Global;
 use std::process::Abort;
 use std::test::Fail;
 use vx_eval::apply_bound;
-use vx_samples::{batch, bound, reads};
+use vx_samples::{bound, column, reads};
 use vx_tree::{Column, VortexError, VortexResult};
 
 /// What an evaluation is about, and the column or the fault that it answers.
@@ -50,7 +50,7 @@ pub const TWO_CASES_WRITTEN: &str =
 #[test]
 fn apply_bound_of_two_cases(rt: HostRuntime) -> Result<(), Fail> {
     let alloc = rt.alloc();
-    let x = batch(alloc, "x:i32?; 1; 5; null")?;
+    let x = column(alloc, "{x=i32?}", "{1} {5} {null}")?;
     let texts = Texts {
         tree: TWO_CASES_WRITTEN,
         batch: "[{x: 1i32}, {x: 5i32}, {x: null}]",
@@ -67,23 +67,29 @@ fn apply_bound_of_fills(rt: HostRuntime) -> Result<(), Fail> {
     let alloc = rt.alloc();
     for (given, rows, answer) in [
         (
-            "x:i32? y:i32; null 7; 3 7",
+            "{null,7} {3,7}",
             "[{x: null, y: 7i32}, {x: 3i32, y: 7i32}]",
             "[7i32, 3i32]",
         ),
         (
-            "x:i32? y:i32; null 1; 3 2",
+            "{null,1} {3,2}",
             "[{x: null, y: 1i32}, {x: 3i32, y: 2i32}]",
             BAD_FILL,
         ),
-        ("x:i32? y:i32", "[]", "[]"),
+        ("", "[]", "[]"),
     ] {
         let texts = Texts {
             tree: "vortex.fill_null($.x, $.y)",
             batch: rows,
             answer,
         };
-        answers(&rt, alloc, "x y fill_null", &batch(alloc, given)?, texts)?;
+        answers(
+            &rt,
+            alloc,
+            "x y fill_null",
+            &column(alloc, "{x=i32?,y=i32}", given)?,
+            texts,
+        )?;
     }
     Ok(())
 }
@@ -91,7 +97,7 @@ fn apply_bound_of_fills(rt: HostRuntime) -> Result<(), Fail> {
 #[test]
 fn apply_bound_of_likes(rt: HostRuntime) -> Result<(), Fail> {
     let alloc = rt.alloc();
-    let one = batch(alloc, "x:i32?; null")?;
+    let one = column(alloc, "{x=i32?}", "{null}")?;
     for (words, tree, answer) in [
         (r"'a%b 'a\%b like", r#"("a%b" like "a\%b")"#, "[true]"),
         (r"'axb 'a\%b like", r#"("axb" like "a\%b")"#, "[false]"),
