@@ -4,21 +4,21 @@ ghost use Rattle.vx_tree.specs.Trees.{WellTyped};
 ghost use Rattle.vx_tree.specs.Views.{bound_of};
 
 mod functions;
+mod literals;
 mod makers;
 mod operands;
 mod pieces;
 mod reader;
 mod types;
-mod values;
 
 use crate::unread::Unread;
 pub use functions::{names, operator, selection};
+pub use literals::{value, values};
 pub use makers::{ByParts, Maker};
 pub use operands::typed;
 pub use reader::{any_function, read_tree};
 use std::alloc::Global;
 pub use types::{dtype, i32_type};
-pub use values::{value, values};
 use vx_tree::{BoundExpression, Column, DType, Expression};
 
 /// The tree of the words, behind a box: wherever a caller may end, the prover writes out a tree that

@@ -1,6 +1,6 @@
 // The literals and the paths of fields by their words.
+use super::literals::value;
 use super::types::{dtype, i32_type, ptype};
-use super::values::value;
 use crate::unread::Unread;
 use std::alloc::Global;
 use vx_tree::Nullability::{NonNullable, Nullable};
