@@ -30,7 +30,7 @@ pub fn answer(
         (Kind::OfSource(kind), [words]) => sources::answer(alloc, kind, scene, words),
         (Kind::OfBound(kind), [words]) => bound::answer(alloc, kind, scene, words),
         (Kind::OfTwo(kind), [by, words]) => pairs::answer(alloc, kind, scene, by, words),
-        (Kind::OfWords(kind), _) => words::answer(alloc, kind, columns),
+        (Kind::OfWords(kind), _) => words::answer(alloc, kind, scene, columns),
         _ => Err(Unread::Word("another number of columns")),
     }
 }

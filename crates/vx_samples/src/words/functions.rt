@@ -66,8 +66,8 @@ pub fn selection(alloc: Global, word: &str) -> VortexResult<Option<FieldSelectio
         return Ok(None);
     };
     Ok(Some(match list.strip_prefix('~') {
-        Some(list) => FieldSelection::exclude(names(alloc, list, ',')?),
-        None => FieldSelection::include(names(alloc, list, ',')?),
+        Some(list) => FieldSelection::Exclude(names(alloc, list, ',')?),
+        None => FieldSelection::Include(names(alloc, list, ',')?),
     }))
 }
 

@@ -153,10 +153,21 @@ pub fn any_function(alloc: Global, word: &str) -> Result<ScalarFnRef, Unread> {
 
 // The field of fields of the scope, as `a.x`.
 fn read_path<M: Maker>(alloc: Global, maker: &M, path: &str) -> Result<M::Tree, Unread> {
-    let mut items = vec![in alloc; maker.root(alloc)?]?;
+    let mut item = maker.root(alloc)?;
     for name in path.split('.') {
-        let item = ScalarFnRef::GetItem(FieldName::new(alloc, name)?);
-        items = vec![in alloc; maker.node(alloc, item, items)?]?;
+        item = read_item(alloc, maker, name, item)?;
     }
-    items.pop().ok_or(Unread::Word("no path"))
+    Ok(item)
+}
+
+fn read_item<M: Maker>(
+    alloc: Global,
+    maker: &M,
+    name: &str,
+    child: M::Tree,
+) -> Result<M::Tree, Unread> {
+    let mut children = Vec::new(alloc);
+    children.push(child)?;
+    let item = ScalarFnRef::GetItem(FieldName::new(alloc, name)?);
+    Ok(maker.node(alloc, item, children)?)
 }
