@@ -1,54 +1,31 @@
 // The rows that the queries are evaluated over. The driver makes the same ones.
 ghost use Rattle.std.specs.Prelude.{◌<◌};
 
+use crate::fields::{self, fields};
 use std::alloc::Global;
-use vx_types::{
-    Column, DType, FieldName, FieldNames, Nullability, PType, StructFields, Value, VortexResult,
-};
+use vx_types::{Column, DType, FieldNames, Nullability, StructFields, Value, VortexResult};
 
-/// So many rows `{x: number}`, numbers and nulls.
-pub fn numbers(alloc: Global, rows: usize) -> VortexResult<Column> {
-    let names = vec![in alloc; FieldName::new(alloc, "x")?]?;
-    let types = vec![in alloc; number_type()]?;
-    let fields = StructFields::new(alloc, FieldNames::new(alloc, names)?, types)?;
+/// So many rows of a number for each name, numbers and nulls. Each of a row's numbers is the first
+/// one of the next row.
+pub fn numbers(alloc: Global, names: FieldNames, rows: usize) -> VortexResult<Column> {
     let mut values = Vec::with_capacity(alloc, rows)?;
     for i in 0..rows {
-        values.push(Value::Struct(vec![in alloc; number(i)]?))?;
+        values.push(Value::Struct(numbers_from(alloc, i, names.len())?))?;
     }
-    column(fields, values)
-}
-
-/// So many rows `{x: number, y: number, z: number}`, numbers and nulls.
-pub fn triples(alloc: Global, rows: usize) -> VortexResult<Column> {
-    let names = vec![in alloc;
-        FieldName::new(alloc, "x")?,
-        FieldName::new(alloc, "y")?,
-        FieldName::new(alloc, "z")?,
-    ]?;
-    let types = vec![in alloc; number_type(), number_type(), number_type()]?;
-    let fields = StructFields::new(alloc, FieldNames::new(alloc, names)?, types)?;
-    let mut values = Vec::with_capacity(alloc, rows)?;
-    for i in 0..rows {
-        let row = vec![in alloc;
-            number(i),
-            number(i.wrapping_add(1)),
-            number(i.wrapping_add(2)),
-        ]?;
-        values.push(Value::Struct(row))?;
-    }
-    column(fields, values)
+    column(
+        fields::numbers(alloc, names, Nullability::Nullable)?,
+        values,
+    )
 }
 
 /// So many rows `{s: text}`, short texts and nulls.
 pub fn texts(alloc: Global, rows: usize) -> VortexResult<Column> {
-    let names = vec![in alloc; FieldName::new(alloc, "s")?]?;
-    let types = vec![in alloc; DType::Utf8(Nullability::Nullable)]?;
-    let fields = StructFields::new(alloc, FieldNames::new(alloc, names)?, types)?;
     let mut values = Vec::with_capacity(alloc, rows)?;
     for i in 0..rows {
         values.push(Value::Struct(vec![in alloc; text(alloc, i)?]?))?;
     }
-    column(fields, values)
+    let types = vec![in alloc; DType::Utf8(Nullability::Nullable)]?;
+    column(fields(alloc, fields::names(alloc, &["s"])?, types)?, values)
 }
 
 // The column of structs.
@@ -56,9 +33,13 @@ fn column(fields: StructFields, rows: Vec<Value>) -> VortexResult<Column> {
     Column::try_new(DType::Struct(fields, Nullability::NonNullable), rows)
 }
 
-// `i32?`.
-fn number_type() -> DType {
-    DType::Primitive(PType::I32, Nullability::Nullable)
+// The numbers of a row: those of its place and of the next ones.
+fn numbers_from(alloc: Global, first: usize, count: usize) -> VortexResult<Vec<Value>> {
+    let mut numbers = Vec::with_capacity(alloc, count)?;
+    for i in 0..count {
+        numbers.push(number(first.wrapping_add(i)))?;
+    }
+    Ok(numbers)
 }
 
 // A number below a million that looks like chance.

@@ -1,12 +1,11 @@
 // Families of trees, each of any size.
 ghost use Rattle.std.specs.Prelude.{◌<◌};
 
+use crate::fields::{fields, names, numbered, numbered_names, numbers};
+use crate::trees::Trees;
 use std::alloc::Global;
-use vx_build::{and, and_collect, binary, case_when, col, get_item, is_null, lit, lt, not, pack};
-use vx_tree::{Expression, Operator};
-use vx_types::{
-    DType, FieldName, FieldNames, Nullability, PType, Scalar, StructFields, VortexResult,
-};
+use vx_tree::{CaseWhenOptions, EmptyOptions, Expression, Operator, Scalar, ScalarFnRef};
+use vx_types::{DType, FieldName, Nullability, PType, StructFields, VortexResult};
 
 /// A family of trees, with one of each size `n`.
 #[derive(Clone, Copy, Debug, PartialEq, Eq)]
@@ -44,121 +43,116 @@ impl Family {
     /// value `b` and a number `x`.
     pub fn fields(self, alloc: Global, size: usize) -> VortexResult<StructFields> {
         match self {
-            Family::Conjunction => numbers(alloc, fields_of(size)),
+            Family::Conjunction => {
+                let names = numbered_names(alloc, fields_of(size))?;
+                numbers(alloc, names, Nullability::NonNullable)
+            }
             _ => pair(alloc),
         }
     }
 
     /// The tree of that size.
-    pub fn tree(self, alloc: Global, size: usize) -> VortexResult<Expression> {
+    pub fn tree(self, alloc: Global, size: usize) -> VortexResult<Box<Expression>> {
+        let mut trees = Trees::new(alloc);
+        self.make(alloc, size, &mut trees)?;
+        trees.last(alloc)
+    }
+
+    // Makes the tree of that size.
+    fn make(self, alloc: Global, size: usize, trees: &mut Trees) -> VortexResult<()> {
         match self {
-            Family::Conjunction => conjunction(alloc, size),
-            Family::Deep => deep(alloc, size),
-            Family::ItemsOfPacks => items_of_packs(alloc, size),
-            Family::Wide => wide(alloc, size),
-            Family::Shared => shared(alloc, size),
-            Family::Cases => cases(alloc, size),
+            Family::Conjunction => conjunction(alloc, size, trees),
+            Family::Deep => deep(alloc, size, trees),
+            Family::ItemsOfPacks => items_of_packs(alloc, size, trees),
+            Family::Wide => wide(alloc, size, trees),
+            Family::Shared => shared(alloc, size, trees),
+            Family::Cases => cases(alloc, size, trees),
         }
     }
 }
 
-fn conjunction(alloc: Global, size: usize) -> VortexResult<Expression> {
-    let mut items = Vec::with_capacity(alloc, size)?;
+fn conjunction(alloc: Global, size: usize, trees: &mut Trees) -> VortexResult<()> {
     for i in 0..size {
-        items.push(bound_of_field(alloc, i % fields_of(size), i / fields_of(size))?)?;
+        bound_of_field(alloc, i % fields_of(size), i / fields_of(size), trees)?;
     }
-    match and_collect(alloc, items)? {
-        Some(joined) => Ok(joined),
-        None => lit(alloc, Scalar::from_bool(true)),
-    }
+    trees.join(alloc)
 }
 
 // A lower bound of the field in even rounds, and an upper bound in odd ones.
-fn bound_of_field(alloc: Global, field: usize, round: usize) -> VortexResult<Expression> {
+fn bound_of_field(
+    alloc: Global,
+    field: usize,
+    round: usize,
+    trees: &mut Trees,
+) -> VortexResult<()> {
     let operator = if round % 2 == 0 {
         Operator::Gte
     } else {
         Operator::Lt
     };
-    let item = Box::new(alloc, col(alloc, numbered(alloc, field)?)?)?;
-    let literal = number(alloc, small(round).saturating_mul(10))?;
-    binary(alloc, operator, Box::into_inner(item), literal)
+    trees.field(alloc, numbered(alloc, field)?)?;
+    trees.number(alloc, small(round).saturating_mul(10))?;
+    trees.binary(alloc, operator)
 }
 
-fn deep(alloc: Global, size: usize) -> VortexResult<Expression> {
-    let mut tree = field(alloc, "b")?;
+fn deep(alloc: Global, size: usize, trees: &mut Trees) -> VortexResult<()> {
+    trees.field(alloc, FieldName::new(alloc, "b")?)?;
     for _ in 0..size {
-        tree = not(alloc, tree)?;
+        trees.call(alloc, ScalarFnRef::Not(EmptyOptions))?;
     }
-    Ok(tree)
+    Ok(())
 }
 
-fn items_of_packs(alloc: Global, size: usize) -> VortexResult<Expression> {
-    let mut tree = Box::new(alloc, field(alloc, "x")?)?;
+fn items_of_packs(alloc: Global, size: usize, trees: &mut Trees) -> VortexResult<()> {
+    trees.x(alloc)?;
     for _ in 0..size {
-        let name = FieldName::new(alloc, "a")?;
-        let element = (name.clone()?, Box::into_inner(tree));
-        let packed = pack(alloc, vec![in alloc; element]?, Nullability::NonNullable)?;
-        tree = Box::new(alloc, get_item(alloc, name, packed)?)?;
+        trees.pack(alloc, names(alloc, &["a"])?)?;
+        trees.item(alloc, FieldName::new(alloc, "a")?)?;
     }
-    Ok(Box::into_inner(tree))
+    Ok(())
 }
 
-fn wide(alloc: Global, size: usize) -> VortexResult<Expression> {
-    let mut elements = Vec::with_capacity(alloc, size)?;
+fn wide(alloc: Global, size: usize, trees: &mut Trees) -> VortexResult<()> {
     for i in 0..size {
-        let name = numbered(alloc, i)?;
-        elements.push((name, below(alloc, small(i))?))?;
+        trees.compared(alloc, Operator::Lt, small(i))?;
     }
-    pack(alloc, elements, Nullability::NonNullable)
+    trees.pack(alloc, numbered_names(alloc, size)?)
 }
 
-// `$.x` below the number.
-fn below(alloc: Global, bound: i32) -> VortexResult<Expression> {
-    let x = Box::new(alloc, field(alloc, "x")?)?;
-    let bound = number(alloc, bound)?;
-    lt(alloc, Box::into_inner(x), bound)
-}
-
-fn shared(alloc: Global, size: usize) -> VortexResult<Expression> {
-    let mut tree = Box::new(alloc, lit(alloc, Scalar::from_bool(true))?)?;
+fn shared(alloc: Global, size: usize, trees: &mut Trees) -> VortexResult<()> {
+    trees.literal(alloc, Scalar::from_bool(true))?;
     for _ in 0..size {
-        let same = (*tree).clone()?;
-        tree = Box::new(alloc, and(alloc, same, Box::into_inner(tree))?)?;
+        trees.again()?;
+        trees.binary(alloc, Operator::And)?;
     }
-    Ok(Box::into_inner(tree))
+    Ok(())
 }
 
-fn cases(alloc: Global, size: usize) -> VortexResult<Expression> {
-    let mut tree = Box::new(alloc, number(alloc, small(size))?)?;
-    for i in (0..size).rev() {
-        let tested = Box::new(alloc, is_null(alloc, field(alloc, "x")?)?)?;
-        let value = number(alloc, small(i))?;
-        let case = case_when(alloc, Box::into_inner(tested), value, Box::into_inner(tree))?;
-        tree = Box::new(alloc, case)?;
+// The pairs in their order, and each CASE over its pair and the ELSE behind it.
+fn cases(alloc: Global, size: usize, trees: &mut Trees) -> VortexResult<()> {
+    for i in 0..size {
+        trees.x(alloc)?;
+        trees.call(alloc, ScalarFnRef::IsNull(EmptyOptions))?;
+        trees.number(alloc, small(i))?;
     }
-    Ok(Box::into_inner(tree))
-}
-
-// `{f0: i32, f1: i32, ..}`.
-fn numbers(alloc: Global, count: usize) -> VortexResult<StructFields> {
-    let mut names = Vec::with_capacity(alloc, count)?;
-    let mut types = Vec::with_capacity(alloc, count)?;
-    for i in 0..count {
-        names.push(numbered(alloc, i)?)?;
-        types.push(DType::Primitive(PType::I32, Nullability::NonNullable))?;
+    trees.number(alloc, small(size))?;
+    let case = CaseWhenOptions {
+        num_when_then_pairs: 1,
+        has_else: true,
+    };
+    for _ in 0..size {
+        trees.call(alloc, ScalarFnRef::CaseWhen(case))?;
     }
-    StructFields::new(alloc, FieldNames::new(alloc, names)?, types)
+    Ok(())
 }
 
 // `{b: bool, x: i32?}`.
 fn pair(alloc: Global) -> VortexResult<StructFields> {
-    let names = vec![in alloc; FieldName::new(alloc, "b")?, FieldName::new(alloc, "x")?]?;
     let types = vec![in alloc;
         DType::Bool(Nullability::NonNullable),
         DType::Primitive(PType::I32, Nullability::Nullable),
     ]?;
-    StructFields::new(alloc, FieldNames::new(alloc, names)?, types)
+    fields(alloc, names(alloc, &["b", "x"])?, types)
 }
 
 // How many fields a conjunction of that size has.
@@ -166,20 +160,6 @@ fn fields_of(size: usize) -> usize
     ensures { 0 < result }
 {
     (size / 4).max(1)
-}
-
-// `f0`, `f1`, ..
-fn numbered(alloc: Global, i: usize) -> VortexResult<FieldName> {
-    let text = format!(in alloc; "f{i}")?;
-    FieldName::new(alloc, text.as_str())
-}
-
-fn field(alloc: Global, name: &str) -> VortexResult<Expression> {
-    col(alloc, FieldName::new(alloc, name)?)
-}
-
-fn number(alloc: Global, n: i32) -> VortexResult<Expression> {
-    lit(alloc, Scalar::from_i32(n))
 }
 
 // The number, or the largest that there is.

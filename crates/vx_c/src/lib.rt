@@ -8,10 +8,12 @@ ghost use Rattle.vx_tree.specs.Views.{bound_of};
 mod batch;
 mod digest;
 mod family;
+mod fields;
 mod pass;
 mod passes;
 mod query;
 mod subject;
+mod trees;
 
 use digest::Digest;
 use query::Query;
@@ -74,7 +76,7 @@ fn refused(refusal: VortexError) -> u8
 // The digest of the query's column over its batch.
 fn evaluated(alloc: Global, query: Query, rows: usize, repeats: u32) -> VortexResult<Digest> {
     let batch = Box::new(alloc, query.batch(alloc, rows)?)?;
-    let source = Box::new(alloc, query.tree(alloc)?)?;
+    let source = query.tree(alloc)?;
     let tree = Box::new(alloc, source.bind(alloc, batch.dtype())?)?;
     repeated(alloc, &*batch, &*tree, repeats)
 }

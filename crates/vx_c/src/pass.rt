@@ -50,9 +50,9 @@ impl Pass {
     pub fn run(self, alloc: Global, subject: &Subject) -> VortexResult<()>
         requires { WellTyped (bound_of subject.now.bound.value) }
     {
-        let (bound, fields) = (&*subject.bound, &subject.fields);
+        let (bound, fields) = (&*subject.bound, &*subject.fields);
         match self {
-            Pass::Bind => gone(subject.tree.bind(alloc, &subject.scope)),
+            Pass::Bind => gone(subject.tree.bind(alloc, &*subject.scope)),
             Pass::Display => display(alloc, bound),
             Pass::Optimize => gone(bound.optimize_recursive(alloc)),
             Pass::Fuse => fuse(alloc, bound),

@@ -1,9 +1,10 @@
 // The queries that are timed.
 use crate::batch;
+use crate::fields::names;
+use crate::trees::Trees;
 use std::alloc::Global;
-use vx_build::{and, binary, col, get_item, like, lit, nested_case_when, pack};
-use vx_tree::{Expression, Operator};
-use vx_types::{Column, FieldName, Nullability, Scalar, VortexResult};
+use vx_tree::{CaseWhenOptions, Expression, LikeOptions, Operator, Scalar, ScalarFnRef};
+use vx_types::{Column, FieldName, VortexResult};
 
 /// A query that is timed.
 #[derive(Clone, Copy, Debug, PartialEq, Eq)]
@@ -33,74 +34,63 @@ impl Query {
     /// The rows that the query is evaluated over.
     pub fn batch(self, alloc: Global, rows: usize) -> VortexResult<Column> {
         match self {
-            Query::Range | Query::Case => batch::numbers(alloc, rows),
+            Query::Range | Query::Case => batch::numbers(alloc, names(alloc, &["x"])?, rows),
             Query::Like => batch::texts(alloc, rows),
-            Query::Item => batch::triples(alloc, rows),
+            Query::Item => batch::numbers(alloc, names(alloc, &["x", "y", "z"])?, rows),
         }
     }
 
     /// The query as a tree.
-    pub fn tree(self, alloc: Global) -> VortexResult<Expression> {
+    pub fn tree(self, alloc: Global) -> VortexResult<Box<Expression>> {
+        let mut trees = Trees::new(alloc);
+        self.make(alloc, &mut trees)?;
+        trees.last(alloc)
+    }
+
+    // Makes the query's tree.
+    fn make(self, alloc: Global, trees: &mut Trees) -> VortexResult<()> {
         match self {
-            Query::Range => range(alloc),
-            Query::Case => case(alloc),
-            Query::Like => liked(alloc),
-            Query::Item => item(alloc),
+            Query::Range => range(alloc, trees),
+            Query::Case => case(alloc, trees),
+            Query::Like => liked(alloc, trees),
+            Query::Item => item(alloc, trees),
         }
     }
 }
 
-fn range(alloc: Global) -> VortexResult<Expression> {
-    let lower = Box::new(alloc, compared(alloc, Operator::Gte, 10)?)?;
-    let upper = compared(alloc, Operator::Lte, 500_000)?;
-    and(alloc, Box::into_inner(lower), upper)
+fn range(alloc: Global, trees: &mut Trees) -> VortexResult<()> {
+    trees.compared(alloc, Operator::Gte, 10)?;
+    trees.compared(alloc, Operator::Lte, 500_000)?;
+    trees.binary(alloc, Operator::And)
 }
 
-fn case(alloc: Global) -> VortexResult<Expression> {
-    let mut pairs = Vec::with_capacity(alloc, 2)?;
-    pairs.push(above(alloc, 0, 10)?)?;
-    pairs.push(above(alloc, 3, 20)?)?;
-    nested_case_when(alloc, pairs, Some(number(alloc, 30)?))
+fn case(alloc: Global, trees: &mut Trees) -> VortexResult<()> {
+    trees.compared(alloc, Operator::Gt, 0)?;
+    trees.number(alloc, 10)?;
+    trees.compared(alloc, Operator::Gt, 3)?;
+    trees.number(alloc, 20)?;
+    trees.number(alloc, 30)?;
+    let options = CaseWhenOptions {
+        num_when_then_pairs: 2,
+        has_else: true,
+    };
+    trees.call(alloc, ScalarFnRef::CaseWhen(options))
 }
 
-// The value for where `$.x` is above the bound.
-fn above(alloc: Global, bound: i32, value: i32) -> VortexResult<(Expression, Expression)> {
-    let condition = Box::new(alloc, compared(alloc, Operator::Gt, bound)?)?;
-    let value = number(alloc, value)?;
-    Ok((Box::into_inner(condition), value))
+fn liked(alloc: Global, trees: &mut Trees) -> VortexResult<()> {
+    trees.field(alloc, FieldName::new(alloc, "s")?)?;
+    trees.literal(alloc, Scalar::utf8(alloc, "%b%d")?)?;
+    let options = LikeOptions {
+        negated: false,
+        case_insensitive: false,
+    };
+    trees.call(alloc, ScalarFnRef::Like(options))
 }
 
-// `$.x` compared with the number.
-fn compared(alloc: Global, operator: Operator, bound: i32) -> VortexResult<Expression> {
-    let x = Box::new(alloc, field(alloc, "x")?)?;
-    let bound = number(alloc, bound)?;
-    binary(alloc, operator, Box::into_inner(x), bound)
-}
-
-fn liked(alloc: Global) -> VortexResult<Expression> {
-    let text = Box::new(alloc, field(alloc, "s")?)?;
-    let pattern = lit(alloc, Scalar::utf8(alloc, "%b%d")?)?;
-    like(alloc, Box::into_inner(text), pattern)
-}
-
-fn item(alloc: Global) -> VortexResult<Expression> {
-    let mut fields = Vec::with_capacity(alloc, 3)?;
-    fields.push(named(alloc, "a", "x")?)?;
-    fields.push(named(alloc, "b", "y")?)?;
-    fields.push(named(alloc, "c", "z")?)?;
-    let name = FieldName::new(alloc, "b")?;
-    get_item(alloc, name, pack(alloc, fields, Nullability::NonNullable)?)
-}
-
-// The field of the scope, to be packed by that name.
-fn named(alloc: Global, name: &str, of: &str) -> VortexResult<(FieldName, Expression)> {
-    Ok((FieldName::new(alloc, name)?, field(alloc, of)?))
-}
-
-fn field(alloc: Global, name: &str) -> VortexResult<Expression> {
-    col(alloc, FieldName::new(alloc, name)?)
-}
-
-fn number(alloc: Global, n: i32) -> VortexResult<Expression> {
-    lit(alloc, Scalar::from_i32(n))
+fn item(alloc: Global, trees: &mut Trees) -> VortexResult<()> {
+    trees.x(alloc)?;
+    trees.field(alloc, FieldName::new(alloc, "y")?)?;
+    trees.field(alloc, FieldName::new(alloc, "z")?)?;
+    trees.pack(alloc, names(alloc, &["a", "b", "c"])?)?;
+    trees.item(alloc, FieldName::new(alloc, "b")?)
 }

@@ -14,9 +14,9 @@ pub struct Subject {
     /// The tree.
     pub tree: Box<Expression>,
     /// The fields of its scope.
-    pub fields: StructFields,
+    pub fields: Box<StructFields>,
     /// The type of its scope.
-    pub scope: DType,
+    pub scope: Box<DType>,
     /// The tree, bound.
     pub bound: Box<BoundExpression>,
 }
@@ -26,10 +26,10 @@ impl Subject {
     pub fn new(alloc: Global, family: Family, size: usize) -> VortexResult<Subject>
         ensures { IfOk result (λ s. WellTyped (bound_of s.bound.value)) }
     {
-        let tree = Box::new(alloc, family.tree(alloc, size)?)?;
-        let fields = family.fields(alloc, size)?;
-        let scope = DType::Struct(fields.clone()?, Nullability::NonNullable);
-        let bound = Box::new(alloc, tree.bind(alloc, &scope)?)?;
+        let tree = family.tree(alloc, size)?;
+        let fields = Box::new(alloc, family.fields(alloc, size)?)?;
+        let scope = scope(alloc, &*fields)?;
+        let bound = Box::new(alloc, tree.bind(alloc, &*scope)?)?;
         Ok(Subject {
             tree,
             fields,
@@ -37,6 +37,12 @@ impl Subject {
             bound,
         })
     }
+}
+
+// The struct of the fields that is never null.
+fn scope(alloc: Global, fields: &StructFields) -> VortexResult<Box<DType>> {
+    let scope = DType::Struct(fields.clone()?, Nullability::NonNullable);
+    Ok(Box::new(alloc, scope)?)
 }
 
 /// How many nodes a walk of the tree visits: one that is shared counts each time it is met.

@@ -55,25 +55,27 @@ fn run_to_end(
     let _rows = batch.shared_rows();
     let bound = source.bind(alloc, batch.dtype())?;
     let tree = run_passes(alloc, bound, passes)?;
-    run_tree(alloc, tree, batch, split)
+    let answer = run_tree(alloc, &tree, batch, split);
+    drop(tree);
+    answer
 }
 
 // What the tree gives over the batch, split where that is asked and the batch is of structs.
 fn run_tree(
     alloc: Global,
-    tree: BoundExpression,
+    tree: &BoundExpression,
     batch: &Column,
     split: bool,
 ) -> VortexResult<Column>
-    requires well_typed { WellTyped (bound_of tree) }
-    requires over { Over (bound_of tree) batch.now.type }
-    ensures { Runs split (bound_of tree) batch.now result }
+    requires well_typed { WellTyped (bound_of tree.now) }
+    requires over { Over (bound_of tree.now) batch.now.type }
+    ensures { Runs split (bound_of tree.now) batch.now result }
 {
     if !split {
-        return apply_bound(alloc, batch, &tree);
+        return apply_bound(alloc, batch, tree);
     }
     match batch.dtype().as_struct_fields_opt() {
         Some(fields) => run_split(alloc, tree, fields, batch),
-        None => apply_bound(alloc, batch, &tree),
+        None => apply_bound(alloc, batch, tree),
     }
 }

@@ -26,21 +26,24 @@ use vx_types::{Column, Nullability, StructFields, VortexResult};
 // these cover it, else whole.
 pub(crate) fn run_split(
     alloc: Global,
-    tree: BoundExpression,
+    tree: &BoundExpression,
     fields: &StructFields,
     batch: &Column,
 ) -> VortexResult<Column>
-    requires well_typed { WellTyped (bound_of tree) }
-    requires over { Over (bound_of tree) batch.now.type }
+    requires well_typed { WellTyped (bound_of tree.now) }
+    requires over { Over (bound_of tree.now) batch.now.type }
     requires fields { split_names true batch.now.type ≡ Some (field_names (fields_of fields.now)) }
-    ensures { Runs true (bound_of tree) batch.now result }
+    ensures { Runs true (bound_of tree.now) batch.now result }
 {
-    let annotations = fields_read(alloc, &tree, fields)?;
-    if !covers(alloc, &tree, &annotations)? {
-        return apply_bound(alloc, batch, &tree);
+    let annotations = fields_read(alloc, tree, fields)?;
+    if !covers(alloc, tree, &annotations)? {
+        return apply_bound(alloc, batch, tree);
     }
-    let split = optimized_split(alloc, tree, annotations)?;
-    evaluate_split(alloc, batch, &split)
+    let copy = tree.clone()?;
+    let split = optimized_split(alloc, copy, annotations)?;
+    let answer = evaluate_split(alloc, batch, &split);
+    drop(split);
+    answer
 }
 
 // The fields of the scope that the nodes of the tree read.

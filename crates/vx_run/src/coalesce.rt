@@ -14,16 +14,19 @@ use vx_types::{Column, DType, Nullability, PType, Value, VortexResult};
 pub fn source(alloc: Global) -> VortexResult<Expression>
     ensures { Answers tree_of result (Ok coalesce.source) }
 {
-    let condition = is_null(alloc, field_x(alloc)?)?;
-    case_when(alloc, condition, number(alloc, 0)?, field_x(alloc)?)
+    let condition = Box::new(alloc, is_null(alloc, field_x(alloc)?)?)?;
+    let zero = Box::new(alloc, number(alloc, 0)?)?;
+    let x = field_x(alloc)?;
+    case_when(alloc, Box::into_inner(condition), Box::into_inner(zero), x)
 }
 
 /// The rows `{x: null}` and `{x: 4}`.
 pub fn batch(alloc: Global) -> VortexResult<Column>
     ensures { Answers (λ c. c) result (Ok coalesce.batch) }
 {
-    let null = row_of(alloc, Value::Null)?;
-    let four = row_of(alloc, Value::Int(4))?;
+    let mut rows = Vec::with_capacity(alloc, 2)?;
+    rows.push(row_of(alloc, Value::Null)?)?;
+    rows.push(row_of(alloc, Value::Int(4))?)?;
     let dtype = DType::Primitive(PType::I32, Nullability::Nullable);
-    Column::try_new(with_x(alloc, dtype)?, vec![in alloc; null, four]?)
+    Column::try_new(with_x(alloc, dtype)?, rows)
 }

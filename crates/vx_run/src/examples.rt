@@ -2,13 +2,14 @@
 ghost use Rattle.std.specs.Prelude.{Ok};
 ghost use Rattle.vx_dtype.specs.Answers.{Answers};
 ghost use Rattle.vx_types.specs.Views.{type_of, value_of};
-ghost use Rattle.vx_tree.specs.Examples.{i32, with_x, row_of, x, lit};
+ghost use Rattle.vx_tree.specs.Examples.{i32, with_x, row_of, x, lit, operated};
 ghost use Rattle.vx_types.specs.Types.{int};
+ghost use Rattle.vx_fn.specs.Views.{operation_of};
 ghost use Rattle.vx_tree.specs.Views.{tree_of};
 
 use std::alloc::Global;
-use vx_build::{col, lit};
-use vx_tree::Expression;
+use vx_build::{binary, col, lit};
+use vx_tree::{Expression, Operator};
 use vx_types::{
     DType, FieldName, FieldNames, Nullability, Scalar, StructFields, Value, VortexResult,
 };
@@ -42,4 +43,13 @@ pub fn number(alloc: Global, n: i32) -> VortexResult<Expression>
     ensures { Answers tree_of result (Ok (lit i32 (int n))) }
 {
     lit(alloc, Scalar::from_i32(n))
+}
+
+// `$.x` compared with the other operand.
+pub fn x_compared(alloc: Global, operator: Operator, other: Expression) -> VortexResult<Expression>
+    ensures { Answers tree_of result (Ok (operated (operation_of operator) x (tree_of other))) }
+{
+    let other = Box::new(alloc, other)?;
+    let x = field_x(alloc)?;
+    binary(alloc, operator, x, Box::into_inner(other))
 }

@@ -21,7 +21,8 @@ pub fn tree(alloc: Global, scope: &DType) -> VortexResult<BoundExpression>
     requires { type_of scope.now ≡ fused.batch.type }
     ensures { Answers bound_of result (binding fused.source fused.batch.type) }
 {
-    let bound = kleene::source(alloc)?.bind(alloc, scope)?;
+    let unfused = Box::new(alloc, kleene::source(alloc)?)?;
+    let bound = unfused.bind(alloc, scope)?;
     find_between(alloc, bound)
 }
 
@@ -31,11 +32,6 @@ pub fn result(alloc: Global, batch: &Column) -> VortexResult<Column>
     requires { batch.now.type ≡ fused.batch.type }
     ensures { (b : BoundTree) → binding fused.source fused.batch.type ≡ Ok b → Answers (λ c. c) result (evaluation b batch.now) }
 {
-    run_query(
-        alloc,
-        &kleene::source(alloc)?,
-        batch,
-        &[Pass::FindBetween],
-        false,
-    )
+    let unfused = Box::new(alloc, kleene::source(alloc)?)?;
+    run_query(alloc, &*unfused, batch, &[Pass::FindBetween], false)
 }

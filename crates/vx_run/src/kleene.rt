@@ -4,10 +4,10 @@ ghost use Rattle.vx_dtype.specs.Answers.{Answers};
 ghost use Rattle.vx_tree.specs.Views.{tree_of};
 ghost use Rattle.vx_run.specs.Kleene.{kleene};
 
-use crate::examples::{field_x, number, row_of, with_x};
+use crate::examples::{number, row_of, with_x, x_compared};
 use std::alloc::Global;
-use vx_build::{and, gt_eq, lit, lt_eq};
-use vx_tree::Expression;
+use vx_build::{and, lit};
+use vx_tree::{Expression, Operator};
 use vx_types::{Column, DType, Nullability, PType, Scalar, Value, VortexResult};
 
 /// `$.x >= null and $.x <= 5`.
@@ -15,17 +15,18 @@ pub fn source(alloc: Global) -> VortexResult<Expression>
     ensures { Answers tree_of result (Ok kleene.source) }
 {
     let null = Scalar::null(DType::Primitive(PType::I32, Nullability::Nullable));
-    let lower = gt_eq(alloc, field_x(alloc)?, lit(alloc, null)?)?;
-    let upper = lt_eq(alloc, field_x(alloc)?, number(alloc, 5)?)?;
-    and(alloc, lower, upper)
+    let lower = Box::new(alloc, x_compared(alloc, Operator::Gte, lit(alloc, null)?)?)?;
+    let upper = x_compared(alloc, Operator::Lte, number(alloc, 5)?)?;
+    and(alloc, Box::into_inner(lower), upper)
 }
 
 /// The rows `{x: 10}` and `{x: 1}`.
 pub fn batch(alloc: Global) -> VortexResult<Column>
     ensures { Answers (λ c. c) result (Ok kleene.batch) }
 {
-    let ten = row_of(alloc, Value::Int(10))?;
-    let one = row_of(alloc, Value::Int(1))?;
+    let mut rows = Vec::with_capacity(alloc, 2)?;
+    rows.push(row_of(alloc, Value::Int(10))?)?;
+    rows.push(row_of(alloc, Value::Int(1))?)?;
     let dtype = DType::Primitive(PType::I32, Nullability::NonNullable);
-    Column::try_new(with_x(alloc, dtype)?, vec![in alloc; ten, one]?)
+    Column::try_new(with_x(alloc, dtype)?, rows)
 }

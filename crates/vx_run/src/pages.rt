@@ -27,9 +27,18 @@ pub fn page(alloc: Global, row: Row) -> VortexResult<String>
     ensures { Answers string_bytes result (Ok (page_of row)) }
 {
     match row {
-        Row::Kleene => page_text(alloc, &kleene::source(alloc)?, &kleene::batch(alloc)?),
-        Row::Coalesce => page_text(alloc, &coalesce::source(alloc)?, &coalesce::batch(alloc)?),
-        Row::Cases => page_text(alloc, &cases::source(alloc)?, &cases::batch(alloc)?),
+        Row::Kleene => {
+            let batch = kleene::batch(alloc)?;
+            sample_text(alloc, kleene::source(alloc)?, batch)
+        }
+        Row::Coalesce => {
+            let batch = coalesce::batch(alloc)?;
+            sample_text(alloc, coalesce::source(alloc)?, batch)
+        }
+        Row::Cases => {
+            let batch = cases::batch(alloc)?;
+            sample_text(alloc, cases::source(alloc)?, batch)
+        }
         Row::Fused => fused_page(alloc),
     }
 }
@@ -39,20 +48,50 @@ fn fused_page(alloc: Global) -> VortexResult<String>
     ensures { Answers string_bytes result (Ok (page_of Fused)) }
 {
     let batch = kleene::batch(alloc)?;
-    let tree = fused::tree(alloc, batch.dtype())?;
     let column = fused::result(alloc, &batch)?;
-    bound_text(alloc, &tree, &batch, &column)
+    let tree = fused::tree(alloc, batch.dtype())?;
+    let text = bound_text(alloc, &tree, &batch, &column);
+    drop(tree);
+    text
 }
 
 // The lines of an expression over the batch, or what binding refuses. Asks an expression that faults
 // on no batch.
+fn sample_text(alloc: Global, source: Expression, batch: Column) -> VortexResult<String>
+    requires { IsQuiet (tree_of source) }
+    ensures { Answers string_bytes result (page_text (tree_of source) batch) }
+{
+    let text = page_text(alloc, &source, &batch);
+    drop(source);
+    drop(batch);
+    text
+}
+
+// The same of what is lent. Whatever is owned where a call may be refused is written out by the
+// prover, and what is dropped by name isn't.
 fn page_text(alloc: Global, source: &Expression, batch: &Column) -> VortexResult<String>
     requires { IsQuiet (tree_of source.now) }
     ensures { Answers string_bytes result (page_text (tree_of source.now) batch.now) }
 {
     let bound = source.bind(alloc, batch.dtype())?;
+    let text = evaluated_text(alloc, source, &bound, batch);
+    drop(bound);
+    text
+}
+
+// The lines of an expression over the batch, and bound to its type. Asks one that faults on no batch.
+fn evaluated_text(
+    alloc: Global,
+    source: &Expression,
+    bound: &BoundExpression,
+    batch: &Column,
+) -> VortexResult<String>
+    requires quiet { IsQuiet (tree_of source.now) }
+    requires bound { IsBound (tree_of source.now) batch.now.type (bound_of bound.now) }
+    ensures { let tree = bound_of bound.now in Answers string_bytes result (Ok (lines (unbound tree) batch.now (node_type tree))) }
+{
     let column = result_of(alloc, source, batch)?;
-    bound_text(alloc, &bound, batch, &column)
+    bound_text(alloc, bound, batch, &column)
 }
 
 // What the expression gives over the batch, as a query without a pass. Asks an expression that faults

@@ -25,8 +25,8 @@ returns-in_err-tree c =
     let is : c.from_residual-in_err-tree.result ≡ Err OutOfMemory = search (rules, memory) in
     subst (Promised e c.args.batch.now c.args.passes.now c.args.split) (sym is) (memory_ends e c.args.batch.now c.args.passes.now c.args.split)
 
-pub run_tree-requires-clause-over : goal.run_tree-requires-clause-over
-run_tree-requires-clause-over c = c.in_ok-tree.ensures.keeps.scopes c.args.batch.now.type (rw (← c.dtype.ensures) c.in_ok-bound.ensures.over.0)
+pub run_tree-answer-requires-clause-over : goal.run_tree-answer-requires-clause-over
+run_tree-answer-requires-clause-over c = c.in_ok-tree.ensures.keeps.scopes c.args.batch.now.type (rw (← c.dtype.ensures) c.in_ok-bound.ensures.over.0)
 
 -- the tree was evaluated
 pub returns : goal.returns
@@ -36,4 +36,4 @@ returns c =
     let over : Over (bound_of c.in_ok-bound.bound) column.type = rw (← c.dtype.ensures) c.in_ok-bound.ensures.over.0 in
     let is : IsBound e column.type (bound_of c.in_ok-bound.bound) = record { source = c.in_ok-bound.ensures.over.1; well_typed = c.in_ok-bound.ensures.well_typed; over = over } in
     let fit : IsBatch column.type column.rows = (no_misfit column.type column.rows).0 c.shared_rows-rows.ensures.fit in
-    evaluation_ends e column c.args.passes.now c.args.split (bound_of c.in_ok-bound.bound) c.run_tree.result is fit (passed c.in_ok-tree.ensures.passed c.run_tree.ensures)
+    evaluation_ends e column c.args.passes.now c.args.split (bound_of c.in_ok-bound.bound) c.run_tree-answer.result is fit (passed c.in_ok-tree.ensures.passed c.run_tree-answer.ensures)

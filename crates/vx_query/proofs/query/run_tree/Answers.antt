@@ -22,4 +22,4 @@ run_split-requires-clause-fields c = ap (option_map field_names) (sym (rw (c.in-
 pub returns-in-Some : goal.returns-in-Some
 returns-in-Some c =
     let asked : c.args.split ≡ true = search rules in
-    subst (λ s. Runs s (bound_of c.args.tree) c.args.batch.now c.run_split.result) (sym asked) c.run_split.ensures
+    subst (λ s. Runs s (bound_of c.args.tree.now) c.args.batch.now c.run_split.result) (sym asked) c.run_split.ensures
