@@ -16,9 +16,9 @@ fn main(rt: HostRuntime) -> Result<ExitCode> {
     for name in env::args(&rt)?.skip(1) {
         let name = name.as_str();
         let text = fs::read_to_string(&rt, name)?;
-        let (aim, tally) = if name.contains("wrong-") {
+        let (aim, tally) = if name.starts_with("wrong-") {
             (Aim::Wrong, &mut wrong)
-        } else if name.contains("unread-") {
+        } else if name.starts_with("unread-") {
             (Aim::Unread, &mut unread)
         } else {
             (Aim::Right, &mut right)

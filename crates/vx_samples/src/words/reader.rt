@@ -155,6 +155,9 @@ pub fn any_function(alloc: Global, word: &str) -> Result<ScalarFnRef, Unread> {
 fn read_path<M: Maker>(alloc: Global, maker: &M, path: &str) -> Result<M::Tree, Unread> {
     let mut item = maker.root(alloc)?;
     for name in path.split('.') {
+        if name.is_empty() || name.contains(['(', ')', '|']) {
+            return Err(Unread::Word("neither a function nor a field"));
+        }
         item = read_item(alloc, maker, name, item)?;
     }
     Ok(item)

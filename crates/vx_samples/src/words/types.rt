@@ -31,11 +31,16 @@ pub fn dtype(alloc: Global, text: &str) -> Result<DType, Unread> {
     reader.last()
 }
 
-/// The struct of fields that is being read: its names, and how many types were read before it.
+/// A type that is being read: a list, one of a fixed size, or a struct by the names that were read of
+/// it and the number of types that were read before it.
 #[derive(Drop)]
-struct OpenStruct {
-    names: Vec<FieldName>,
-    before: usize,
+enum Open {
+    List,
+    FixedSizeList,
+    Struct {
+        names: Vec<FieldName>,
+        before: usize,
+    },
 }
 
 // A type is read from left to right: what is read waits, and so does what it stands in.
@@ -43,7 +48,7 @@ struct OpenStruct {
 struct TypeReader {
     alloc: Global,
     read: Vec<DType>,
-    open: Vec<OpenStruct>,
+    open: Vec<Open>,
     times: usize,
 }
 
@@ -51,7 +56,8 @@ impl TypeReader {
     fn take(&mut self, word: &str, mark: Option<char>) -> Result<(), Unread> {
         match mark {
             Some('(') => match word {
-                "list" | "fixed_size_list" => Ok(()),
+                "list" => Ok(self.open.push(Open::List)?),
+                "fixed_size_list" => Ok(self.open.push(Open::FixedSizeList)?),
                 _ => Err(Unread::Word("neither list nor fixed_size_list")),
             },
             Some('{') => self.open_struct(),
@@ -89,20 +95,25 @@ impl TypeReader {
         Ok(self.read.push(dtype.as_nullable())?)
     }
 
+    // The element of a list was read; that of one of a fixed size waits for its size.
     fn list(&mut self) -> Result<(), Unread> {
-        let element = Rc::new(self.alloc, self.last()?)?;
-        Ok(self.read.push(DType::List(element, NonNullable))?)
+        match self.open.pop().ok_or("no list to close")? {
+            Open::List => {
+                let element = Rc::new(self.alloc, self.last()?)?;
+                Ok(self.read.push(DType::List(element, NonNullable))?)
+            }
+            Open::FixedSizeList => Ok(self.open.push(Open::FixedSizeList)?),
+            Open::Struct { .. } => Err(Unread::Word("a struct closed as a list")),
+        }
     }
 
-    // A list that was read, made one of that size.
     fn sized(&mut self, size: &str) -> Result<(), Unread> {
         let size = size.parse().map_err(|_| Unread::Word("no size"))?;
-        match self.last()? {
-            DType::List(element, _) => {
-                Ok(
-                    self.read
-                        .push(DType::FixedSizeList(element, size, NonNullable))?,
-                )
+        match self.open.pop().ok_or("the size of nothing")? {
+            Open::FixedSizeList => {
+                let element = Rc::new(self.alloc, self.last()?)?;
+                let list = DType::FixedSizeList(element, size, NonNullable);
+                Ok(self.read.push(list)?)
             }
             _ => Err(Unread::Word("the size of no list")),
         }
@@ -111,7 +122,7 @@ impl TypeReader {
     fn open_struct(&mut self) -> Result<(), Unread> {
         let before = self.read.len();
         let names = Vec::new(self.alloc);
-        Ok(self.open.push(OpenStruct { names, before })?)
+        Ok(self.open.push(Open::Struct { names, before })?)
     }
 
     fn repeat(&mut self, times: &str) -> Result<(), Unread> {
@@ -122,9 +133,11 @@ impl TypeReader {
     }
 
     fn name(&mut self, name: &str) -> Result<(), Unread> {
-        let open = self.open.last_mut().ok_or("a name outside a struct")?;
+        let Some(Open::Struct { names, .. }) = self.open.last_mut() else {
+            return Err(Unread::Word("a name outside a struct"));
+        };
         for number in 0..self.times {
-            open.names.push(numbered_name(self.alloc, name, number)?)?;
+            names.push(numbered_name(self.alloc, name, number)?)?;
         }
         self.times = 1;
         Ok(())
@@ -132,8 +145,10 @@ impl TypeReader {
 
     // The last type once more for each name that has none.
     fn fill(&mut self) -> Result<(), Unread> {
-        let open = self.open.last().ok_or("a comma outside a struct")?;
-        let wanted = open.before.saturating_add(open.names.len());
+        let Some(Open::Struct { names, before }) = self.open.last() else {
+            return Err(Unread::Word("a comma outside a struct"));
+        };
+        let wanted = before.saturating_add(names.len());
         let missing = wanted.saturating_sub(self.read.len());
         for _ in 0..missing {
             let last = self.read.last().ok_or("a name without a type")?;
@@ -145,12 +160,14 @@ impl TypeReader {
 
     fn close_struct(&mut self) -> Result<(), Unread> {
         self.fill()?;
-        let open = self.open.pop().ok_or("no struct to close")?;
-        if self.read.len() < open.before {
-            return Err(Unread::Word("a list around half a struct"));
+        let Some(Open::Struct { names, before }) = self.open.pop() else {
+            return Err(Unread::Word("no struct to close"));
+        };
+        if self.read.len() < before {
+            return Err(Unread::Word("fewer types than names"));
         }
-        let types = self.read.split_off(open.before)?;
-        let names = FieldNames::new(self.alloc, open.names)?;
+        let types = self.read.split_off(before)?;
+        let names = FieldNames::new(self.alloc, names)?;
         if names.len() != types.len() {
             return Err(Unread::Word("not one type a name"));
         }
