@@ -1,8 +1,8 @@
 #!/usr/bin/env python3
-"""Runs the gate, `rt ci`, with so many jobs, and prints what each crate took of it: the processor
-minutes of its proof, of its tests and of its must-fail edits, as read off the provers' processes
-every second, and the minutes of the whole. Nothing else may be proved meanwhile on the processors
-that it may run on. docs/BENCHMARKS.md has what it printed.
+"""Runs the gate from nothing, `rt ci --anew`, with so many jobs, and prints what each crate took of
+it: the processor minutes of its proof, of its tests and of its must-fail edits, as read off the
+provers' processes every second, and the minutes of the whole. Nothing else may be proved meanwhile on
+the processors that it may run on. docs/BENCHMARKS.md has what it printed.
 
 usage: [taskset -c PROCESSORS] tools/gate_times.py JOBS
 """
@@ -49,7 +49,7 @@ def crates():
 def main():
     os.chdir(os.path.join(os.path.dirname(os.path.abspath(__file__)), ".."))
     begin, seen = time.monotonic(), {}
-    gate = subprocess.Popen(["rt", "ci"], env={**os.environ, "RT_JOBS": sys.argv[1]})
+    gate = subprocess.Popen(["rt", "ci", "--anew"], env={**os.environ, "RT_JOBS": sys.argv[1]})
     while gate.poll() is None:
         for process, of, seconds in provers():
             seen[process] = of, seconds
