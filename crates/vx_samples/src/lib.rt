@@ -10,5 +10,5 @@ pub use texts::reads;
 pub use unread::Unread;
 pub use words::{
     ByParts, Maker, any_function, bound, boxed, column, dtype, i32_type, names, operator,
-    read_tree, selection, typed, value, values,
+    read_tree, selected, selection, typed, value, values,
 };

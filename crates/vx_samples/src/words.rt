@@ -12,11 +12,11 @@ mod reader;
 mod types;
 
 use crate::unread::Unread;
-pub use functions::{names, operator, selection};
+pub use functions::{any_function, names, operator, selected, selection};
 pub use literals::{value, values};
 pub use makers::{ByParts, Maker};
 pub use operands::typed;
-pub use reader::{any_function, read_tree};
+pub use reader::read_tree;
 use std::alloc::Global;
 pub use types::{dtype, i32_type};
 use vx_tree::{BoundExpression, Column, DType, Expression};

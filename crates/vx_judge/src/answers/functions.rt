@@ -1,11 +1,11 @@
 // Answers of functions: their texts, children and types.
 use crate::told::told;
 use std::alloc::Global;
-use vx_samples::{Unread, any_function, dtype, operator};
+use vx_samples::{Unread, any_function, dtype, operator, selected};
 use vx_tree::{ScalarFnRef, VortexResult};
 
 fn function_of(alloc: Global, word: &str) -> Result<Box<ScalarFnRef>, Unread> {
-    Ok(Box::new(alloc, any_function(alloc, word)?)?)
+    Ok(any_function(alloc, word)?.ok_or("no function")?)
 }
 
 /// The function's text, which its id begins, and how many children it takes; its clone is equal.
@@ -64,7 +64,8 @@ pub fn node_type(alloc: Global, word: &str, types: &str) -> Result<String, Unrea
 
 /// The names that the selection keeps of those that are there.
 pub fn kept(alloc: Global, selection: &str, names: &str) -> Result<String, Unread> {
-    let selection = vx_samples::selection(alloc, selection)?.ok_or("no selection")?;
+    let list = selected(selection).ok_or("no selection")?;
+    let selection = vx_samples::selection(alloc, list)?;
     let there = vx_samples::names(alloc, names, ' ')?;
     match selection.normalize_to_included_fields(alloc, &there) {
         Ok(kept) => {

@@ -1,4 +1,5 @@
 // Functions by their words.
+use super::operands::literal;
 use super::pieces::within;
 use super::types::dtype;
 use crate::unread::Unread;
@@ -10,26 +11,45 @@ use vx_tree::{
     LikeOptions, Operator, PackOptions, ScalarFnRef, StrictComparison, VortexResult,
 };
 
-/// The function of the word; none where the word is no function's.
-pub fn function(alloc: Global, word: &str) -> Result<Option<ScalarFnRef>, Unread> {
+/// The function of the word, that of a literal where the word is one; none where it is neither.
+pub fn any_function(alloc: Global, word: &str) -> Result<Option<Box<ScalarFnRef>>, Unread> {
     if let Some(name) = word.strip_prefix('.') {
-        return Ok(Some(ScalarFnRef::GetItem(FieldName::new(alloc, name)?)));
+        return item(alloc, name);
     }
     if let Some(target) = within(word, "cast") {
-        return Ok(Some(ScalarFnRef::Cast(dtype(alloc, target)?)));
+        return cast(alloc, target);
     }
-    if let Some(selection) = selection(alloc, word)? {
-        return Ok(Some(ScalarFnRef::Select(selection)));
+    if let Some(list) = selected(word) {
+        return select(alloc, list);
     }
-    if let Some(options) = pack(alloc, word)? {
-        return Ok(Some(ScalarFnRef::Pack(options)));
+    if word.starts_with("pack(") {
+        return pack(alloc, word);
     }
-    let plain = operator(word).map(ScalarFnRef::Binary);
-    Ok(
-        plain
-            .or_else(|| without_options(word))
-            .or_else(|| with_options(word)),
-    )
+    match operator(word)
+        .map(ScalarFnRef::Binary)
+        .or_else(|| without_options(word))
+        .or_else(|| with_options(word))
+    {
+        Some(scalar_fn) => some(alloc, scalar_fn),
+        None => literal(alloc, word),
+    }
+}
+
+// A function behind a box, which is cheaper to prove wherever it is held.
+fn some(alloc: Global, scalar_fn: ScalarFnRef) -> Result<Option<Box<ScalarFnRef>>, Unread> {
+    Ok(Some(Box::new(alloc, scalar_fn)?))
+}
+
+fn item(alloc: Global, name: &str) -> Result<Option<Box<ScalarFnRef>>, Unread> {
+    some(alloc, ScalarFnRef::GetItem(FieldName::new(alloc, name)?))
+}
+
+fn cast(alloc: Global, target: &str) -> Result<Option<Box<ScalarFnRef>>, Unread> {
+    some(alloc, ScalarFnRef::Cast(dtype(alloc, target)?))
+}
+
+fn select(alloc: Global, list: &str) -> Result<Option<Box<ScalarFnRef>>, Unread> {
+    some(alloc, ScalarFnRef::Select(selection(alloc, list)?))
 }
 
 /// The names of the list, with such a mark between them; none of an empty list.
@@ -45,30 +65,28 @@ pub fn names(alloc: Global, list: &str, mark: char) -> VortexResult<FieldNames> 
 }
 
 // `pack(a,b)`, or `pack(a,b)?`, which gives a type with null.
-fn pack(alloc: Global, word: &str) -> VortexResult<Option<PackOptions>> {
+fn pack(alloc: Global, word: &str) -> Result<Option<Box<ScalarFnRef>>, Unread> {
     let (word, nullability) = match word.strip_suffix('?') {
         Some(word) => (word, Nullable),
         None => (word, NonNullable),
     };
-    let Some(list) = within(word, "pack") else {
-        return Ok(None);
-    };
+    let list = within(word, "pack").ok_or("no pack")?;
     let names = names(alloc, list, ',')?;
-    Ok(Some(PackOptions { names, nullability }))
+    some(alloc, ScalarFnRef::Pack(PackOptions { names, nullability }))
 }
 
-/// `{a,b}`, or `{~a,b}`, which leaves them out.
-pub fn selection(alloc: Global, word: &str) -> VortexResult<Option<FieldSelection>> {
-    let list = word
-        .strip_prefix('{')
-        .and_then(|rest| rest.strip_suffix('}'));
-    let Some(list) = list.filter(|list| !list.contains(':')) else {
-        return Ok(None);
-    };
-    Ok(Some(match list.strip_prefix('~') {
-        Some(list) => FieldSelection::Exclude(names(alloc, list, ',')?),
-        None => FieldSelection::Include(names(alloc, list, ',')?),
-    }))
+/// What stands between the braces of the word, which is no value's.
+pub fn selected(word: &str) -> Option<&str> {
+    let list = word.strip_prefix('{')?.strip_suffix('}')?;
+    if list.contains(':') { None } else { Some(list) }
+}
+
+/// `a,b`, or `~a,b`, which leaves them out.
+pub fn selection(alloc: Global, list: &str) -> VortexResult<FieldSelection> {
+    match list.strip_prefix('~') {
+        Some(list) => Ok(FieldSelection::Exclude(names(alloc, list, ',')?)),
+        None => Ok(FieldSelection::Include(names(alloc, list, ',')?)),
+    }
 }
 
 /// The operator of that sign.

@@ -136,18 +136,29 @@ fn flat(alloc: Global, word: &str) -> Result<Value, Unread> {
         return Ok(Value::Binary(bytes(alloc, digits)?));
     }
     if let Some(digits) = within(word, "text") {
-        let bytes = bytes(alloc, digits)?;
-        let text = std::str::from_utf8(bytes.as_slice()).map_err(|_| Unread::Word("no UTF-8"))?;
-        return Ok(Value::Utf8(String::from_str(alloc, text)?));
+        return text(alloc, digits);
     }
     match word {
         "null" => Ok(Value::Null),
         "true" => Ok(Value::Bool(true)),
         "false" => Ok(Value::Bool(false)),
-        _ => match word.parse::<i128>() {
-            Ok(number) => Ok(Value::Int(number)),
-            Err(_) => Err(Unread::Word("no value")),
-        },
+        _ => number(word),
+    }
+}
+
+fn number(word: &str) -> Result<Value, Unread> {
+    match word.parse::<i128>() {
+        Ok(number) => Ok(Value::Int(number)),
+        Err(_) => Err(Unread::Word("no value")),
+    }
+}
+
+// The text of these bytes.
+fn text(alloc: Global, digits: &str) -> Result<Value, Unread> {
+    let bytes = bytes(alloc, digits)?;
+    match std::str::from_utf8(bytes.as_slice()) {
+        Ok(text) => Ok(Value::Utf8(String::from_str(alloc, text)?)),
+        Err(_) => Err(Unread::Word("no UTF-8")),
     }
 }
 

@@ -15,7 +15,7 @@ pub trait Maker {
     fn node(
         &self,
         alloc: Global,
-        scalar_fn: ScalarFnRef,
+        scalar_fn: Box<ScalarFnRef>,
         children: Vec<Self::Tree>,
     ) -> VortexResult<Self::Tree>;
 
@@ -23,22 +23,23 @@ pub trait Maker {
     fn raw_node(
         &self,
         alloc: Global,
-        scalar_fn: ScalarFnRef,
+        scalar_fn: Box<ScalarFnRef>,
         children: Vec<Self::Tree>,
     ) -> Result<Self::Tree, Unread>;
 
-    /// The And of all items, balanced; None of no items.
-    fn all(&self, alloc: Global, items: Vec<Self::Tree>) -> VortexResult<Option<Self::Tree>>;
-
-    /// The Or of all items, balanced; None of no items.
-    fn any(&self, alloc: Global, items: Vec<Self::Tree>) -> VortexResult<Option<Self::Tree>>;
+    /// The And or else the Or of all items, balanced; None of no items.
+    fn joined(
+        &self,
+        alloc: Global,
+        by_and: bool,
+        items: Vec<Self::Tree>,
+    ) -> VortexResult<Option<Self::Tree>>;
 
     /// The tree once more.
     fn again(&self, tree: &Self::Tree) -> VortexResult<Self::Tree>;
 }
 
-/// Sources, by their fields where the number of children isn't the function's, and by
-/// `Expression::try_new` elsewhere.
+/// Sources, by `Expression::try_new`, and by their fields where the number of children is given.
 pub struct ByParts;
 
 impl Maker for ByParts {
@@ -51,31 +52,36 @@ impl Maker for ByParts {
     fn node(
         &self,
         alloc: Global,
-        scalar_fn: ScalarFnRef,
+        scalar_fn: Box<ScalarFnRef>,
         children: Vec<Expression>,
     ) -> VortexResult<Expression> {
-        Expression::try_new(alloc, scalar_fn, children)
+        Expression::try_new(alloc, Box::into_inner(scalar_fn), children)
     }
 
     fn raw_node(
         &self,
         alloc: Global,
-        scalar_fn: ScalarFnRef,
+        scalar_fn: Box<ScalarFnRef>,
         children: Vec<Expression>,
     ) -> Result<Expression, Unread> {
         let children = Rc::new(alloc, children)?;
         Ok(Expression::Scalar {
-            scalar_fn,
+            scalar_fn: Box::into_inner(scalar_fn),
             children,
         })
     }
 
-    fn all(&self, alloc: Global, items: Vec<Expression>) -> VortexResult<Option<Expression>> {
-        vx_build::and_collect(alloc, items)
-    }
-
-    fn any(&self, alloc: Global, items: Vec<Expression>) -> VortexResult<Option<Expression>> {
-        vx_build::or_collect(alloc, items)
+    fn joined(
+        &self,
+        alloc: Global,
+        by_and: bool,
+        items: Vec<Expression>,
+    ) -> VortexResult<Option<Expression>> {
+        if by_and {
+            vx_build::and_collect(alloc, items)
+        } else {
+            vx_build::or_collect(alloc, items)
+        }
     }
 
     fn again(&self, tree: &Expression) -> VortexResult<Expression> {

@@ -1,7 +1,6 @@
 // Trees from words, each function behind its children.
-use super::functions::function;
+use super::functions::any_function;
 use super::makers::Maker;
-use super::operands::scalar;
 use super::pieces::{numbered, within};
 use crate::unread::Unread;
 use std::alloc::Global;
@@ -13,79 +12,135 @@ use vx_tree::{FieldName, ScalarFnRef};
 /// place of each `#`.
 pub fn read_tree<M: Maker>(alloc: Global, maker: &M, words: &str) -> Result<M::Tree, Unread> {
     let mut trees = Vec::new(alloc);
-    let mut times = 0usize;
-    let mut block: Option<String> = None;
-    for word in words.split(' ') {
-        match (block.take(), word) {
-            (Some(text), "end") => repeat(alloc, maker, &mut trees, text.as_str(), times)?,
-            (Some(text), _) => block = Some(longer(text, word)?),
-            (None, _) => match within(word, "times") {
-                Some(number) => {
-                    times = number
-                        .parse()
-                        .map_err(|_| Unread::Word("no number of times"))?;
-                    block = Some(String::new(alloc));
-                }
-                None => read_word(alloc, maker, &mut trees, word)?,
-            },
-        }
+    read_words(alloc, maker, &mut trees, words)?;
+    match (trees.pop(), trees.is_empty()) {
+        (Some(tree), true) => Ok(tree),
+        _ => Err(Unread::Word("not one tree")),
     }
-    let tree = trees.pop().ok_or("no word")?;
-    if block.is_some() || !trees.is_empty() {
-        return Err(Unread::Word("not one tree"));
-    }
-    Ok(tree)
 }
 
-// The words with one more.
-fn longer(words: String, word: &str) -> Result<String, Unread> {
-    let mut words = words;
-    if !words.is_empty() {
-        words.push(' ')?;
-    }
-    words.push_str(word)?;
-    Ok(words)
-}
-
-fn repeat<M: Maker>(
+fn read_words<M: Maker>(
     alloc: Global,
     maker: &M,
     trees: &mut Vec<M::Tree>,
     words: &str,
-    times: usize,
 ) -> Result<(), Unread> {
-    for number in 0..times {
-        let words = numbered(alloc, words, number)?;
-        for word in words.as_str().split(' ') {
-            read_word(alloc, maker, trees, word)?;
+    if !words.contains("times(") {
+        return read_each(alloc, maker, trees, words);
+    }
+    let words = repeated(alloc, words)?;
+    read_each(alloc, maker, trees, words.as_str())
+}
+
+// The words with each `times(7) .. end` as the words that it stands for.
+fn repeated(alloc: Global, words: &str) -> Result<String, Unread> {
+    let mut text = String::new(alloc);
+    for (i, part) in words.split("times(").enumerate() {
+        if i == 0 {
+            text.push_str(part)?;
+        } else {
+            push_times(alloc, &mut text, part)?;
         }
+    }
+    Ok(text)
+}
+
+// What stands behind `times(`: a number, the words, and what follows their `end`.
+fn push_times(alloc: Global, text: &mut String, part: &str) -> Result<(), Unread> {
+    let (times, rest) = part.split_once(") ").ok_or("no number of times")?;
+    let times: usize = times
+        .parse()
+        .map_err(|_| Unread::Word("no number of times"))?;
+    let (words, rest) = rest.split_once(" end").ok_or("no end")?;
+    for number in 0..times {
+        if number > 0 {
+            text.push(' ')?;
+        }
+        text.push_str(numbered(alloc, words, number)?.as_str())?;
+    }
+    Ok(text.push_str(rest)?)
+}
+
+fn read_each<M: Maker>(
+    alloc: Global,
+    maker: &M,
+    trees: &mut Vec<M::Tree>,
+    words: &str,
+) -> Result<(), Unread> {
+    for word in words.split(' ') {
+        read_word(alloc, maker, trees, word)?;
     }
     Ok(())
 }
 
-// The word over the last of the trees.
+/// What a word says of the last trees.
+#[derive(Drop)]
+enum Step<'a> {
+    /// The last one stands once more.
+    Again,
+    /// So many are joined, by And or by Or.
+    Joined { by_and: bool, count: usize },
+    /// A function goes over as many as it takes.
+    Node(Box<ScalarFnRef>),
+    /// A function goes over so many.
+    RawNode(Box<ScalarFnRef>, usize),
+    /// A field of fields of the scope, or the scope, which is `$`.
+    Path(&'a str),
+}
+
 fn read_word<M: Maker>(
     alloc: Global,
     maker: &M,
     trees: &mut Vec<M::Tree>,
     word: &str,
 ) -> Result<(), Unread> {
-    if word == "dup" {
-        let again = maker.again(trees.last().ok_or("no tree")?)?;
-        return Ok(trees.push(again)?);
+    match read_step(alloc, word)? {
+        Step::Again => push_again(maker, trees),
+        Step::Joined { by_and, count } => push_joined(alloc, maker, trees, by_and, count),
+        Step::Node(scalar_fn) => push_node(alloc, maker, trees, scalar_fn),
+        Step::RawNode(scalar_fn, count) => push_raw_node(alloc, maker, trees, scalar_fn, count),
+        Step::Path(path) => push_path(alloc, maker, trees, path),
     }
-    if let Some(joined) = read_joined(alloc, maker, trees, word)? {
-        return Ok(trees.push(joined)?);
+}
+
+fn read_step<'a>(alloc: Global, word: &'a str) -> Result<Step<'a>, Unread> {
+    match word {
+        "dup" => return Ok(Step::Again),
+        "$" => return Ok(Step::Path(word)),
+        _ => {}
     }
-    let made = match function(alloc, word)? {
-        Some(scalar_fn) => {
-            let scalar_fn = Box::new(alloc, scalar_fn)?;
-            let children = taken(trees, scalar_fn.arity())?;
-            maker.node(alloc, Box::into_inner(scalar_fn), children)?
-        }
-        None => read_other(alloc, maker, trees, word)?,
+    if let Some((by_and, number)) = joined(word) {
+        let count = number
+            .parse()
+            .map_err(|_| Unread::Word("no number of items"))?;
+        return Ok(Step::Joined { by_and, count });
+    }
+    match any_function(alloc, word)? {
+        Some(scalar_fn) => Ok(Step::Node(scalar_fn)),
+        None => raw_step(alloc, word),
+    }
+}
+
+// `all(7)` or `any(7)`: whether the items are joined by And, and their number.
+fn joined(word: &str) -> Option<(bool, &str)> {
+    match within(word, "all") {
+        Some(number) => Some((true, number)),
+        None => within(word, "any").map(|number| (false, number)),
+    }
+}
+
+// `zip/1`, or a path.
+fn raw_step<'a>(alloc: Global, word: &'a str) -> Result<Step<'a>, Unread> {
+    let Some((name, count)) = word.rsplit_once('/') else {
+        return Ok(Step::Path(word));
     };
-    Ok(trees.push(made)?)
+    let count = count
+        .parse()
+        .map_err(|_| Unread::Word("no number of children"))?;
+    match any_function(alloc, name)? {
+        Some(scalar_fn) => Ok(Step::RawNode(scalar_fn, count)),
+        None => Err(Unread::Word("no function")),
+    }
 }
 
 // The last trees, so many of them.
@@ -94,83 +149,73 @@ fn taken<T>(trees: &mut Vec<T>, count: usize) -> Result<Vec<T>, Unread> {
     Ok(trees.split_off(first)?)
 }
 
-// `all(7)` or `any(7)`.
-fn read_joined<M: Maker>(
+fn push_again<M: Maker>(maker: &M, trees: &mut Vec<M::Tree>) -> Result<(), Unread> {
+    let again = maker.again(trees.last().ok_or("no tree")?)?;
+    Ok(trees.push(again)?)
+}
+
+fn push_joined<M: Maker>(
     alloc: Global,
     maker: &M,
     trees: &mut Vec<M::Tree>,
-    word: &str,
-) -> Result<Option<M::Tree>, Unread> {
-    let (number, is_all) = match (within(word, "all"), within(word, "any")) {
-        (Some(number), _) => (number, true),
-        (None, Some(number)) => (number, false),
-        (None, None) => return Ok(None),
-    };
-    let number = number
-        .parse()
-        .map_err(|_| Unread::Word("no number of items"))?;
-    let items = taken(trees, number)?;
-    let joined = if is_all {
-        maker.all(alloc, items)?
-    } else {
-        maker.any(alloc, items)?
-    };
-    Ok(Some(joined.ok_or("no item")?))
+    by_and: bool,
+    count: usize,
+) -> Result<(), Unread> {
+    let items = taken(trees, count)?;
+    let joined = maker.joined(alloc, by_and, items)?;
+    Ok(trees.push(joined.ok_or("no item")?)?)
 }
 
-// `zip/1`, the scope, a literal or a path of fields.
-fn read_other<M: Maker>(
+fn push_node<M: Maker>(
     alloc: Global,
     maker: &M,
     trees: &mut Vec<M::Tree>,
-    word: &str,
-) -> Result<M::Tree, Unread> {
-    if word == "$" {
-        return Ok(maker.root(alloc)?);
-    }
-    if let Some(scalar) = scalar(alloc, word)? {
-        let literal = Box::new(alloc, ScalarFnRef::Literal(scalar))?;
-        return Ok(maker.node(alloc, Box::into_inner(literal), Vec::new(alloc))?);
-    }
-    if let Some((name, count)) = word.rsplit_once('/') {
-        let scalar_fn = Box::new(alloc, any_function(alloc, name)?)?;
-        let count = count
-            .parse()
-            .map_err(|_| Unread::Word("no number of children"))?;
-        let children = taken(trees, count)?;
-        return maker.raw_node(alloc, Box::into_inner(scalar_fn), children);
-    }
-    read_path(alloc, maker, word)
+    scalar_fn: Box<ScalarFnRef>,
+) -> Result<(), Unread> {
+    let children = taken(trees, scalar_fn.arity())?;
+    let node = maker.node(alloc, scalar_fn, children)?;
+    Ok(trees.push(node)?)
 }
 
-/// The function of the word, a literal's where the word is one.
-pub fn any_function(alloc: Global, word: &str) -> Result<ScalarFnRef, Unread> {
-    match function(alloc, word)? {
-        Some(scalar_fn) => Ok(scalar_fn),
-        None => Ok(ScalarFnRef::Literal(scalar(alloc, word)?.ok_or("no function")?)),
-    }
+fn push_raw_node<M: Maker>(
+    alloc: Global,
+    maker: &M,
+    trees: &mut Vec<M::Tree>,
+    scalar_fn: Box<ScalarFnRef>,
+    count: usize,
+) -> Result<(), Unread> {
+    let children = taken(trees, count)?;
+    let node = maker.raw_node(alloc, scalar_fn, children)?;
+    Ok(trees.push(node)?)
 }
 
-// The field of fields of the scope, as `a.x`.
-fn read_path<M: Maker>(alloc: Global, maker: &M, path: &str) -> Result<M::Tree, Unread> {
-    let mut item = maker.root(alloc)?;
+// `$`, or the field of fields of the scope, as `a.x`.
+fn push_path<M: Maker>(
+    alloc: Global,
+    maker: &M,
+    trees: &mut Vec<M::Tree>,
+    path: &str,
+) -> Result<(), Unread> {
+    let root = maker.root(alloc)?;
+    trees.push(root)?;
+    if path == "$" {
+        return Ok(());
+    }
     for name in path.split('.') {
-        if name.is_empty() || name.contains(['(', ')', '|']) {
-            return Err(Unread::Word("neither a function nor a field"));
-        }
-        item = read_item(alloc, maker, name, item)?;
+        push_item(alloc, maker, trees, name)?;
     }
-    Ok(item)
+    Ok(())
 }
 
-fn read_item<M: Maker>(
+fn push_item<M: Maker>(
     alloc: Global,
     maker: &M,
+    trees: &mut Vec<M::Tree>,
     name: &str,
-    child: M::Tree,
-) -> Result<M::Tree, Unread> {
-    let mut children = Vec::new(alloc);
-    children.push(child)?;
+) -> Result<(), Unread> {
+    if name.is_empty() || name.contains(['(', ')', '|']) {
+        return Err(Unread::Word("neither a function nor a field"));
+    }
     let item = ScalarFnRef::GetItem(FieldName::new(alloc, name)?);
-    Ok(maker.node(alloc, item, children)?)
+    push_node(alloc, maker, trees, Box::new(alloc, item)?)
 }

@@ -167,13 +167,18 @@ impl TypeReader {
             return Err(Unread::Word("fewer types than names"));
         }
         let types = self.read.split_off(before)?;
-        let names = FieldNames::new(self.alloc, names)?;
-        if names.len() != types.len() {
-            return Err(Unread::Word("not one type a name"));
-        }
-        let fields = StructFields::new(self.alloc, names, types)?;
-        Ok(self.read.push(DType::Struct(fields, NonNullable))?)
+        let dtype = struct_of(self.alloc, names, types)?;
+        Ok(self.read.push(dtype)?)
     }
+}
+
+fn struct_of(alloc: Global, names: Vec<FieldName>, types: Vec<DType>) -> Result<DType, Unread> {
+    let names = FieldNames::new(alloc, names)?;
+    if names.len() != types.len() {
+        return Err(Unread::Word("not one type a name"));
+    }
+    let fields = StructFields::new(alloc, names, types)?;
+    Ok(DType::Struct(fields, NonNullable))
 }
 
 // The name, with the number in the place of each `#`.

@@ -24,10 +24,10 @@ impl Maker for BoundConstructors<'_> {
     fn node(
         &self,
         alloc: Global,
-        scalar_fn: ScalarFnRef,
+        scalar_fn: Box<ScalarFnRef>,
         children: Vec<BoundExpression>,
     ) -> VortexResult<BoundExpression> {
-        match scalar_fn {
+        match Box::into_inner(scalar_fn) {
             ScalarFnRef::GetItem(name) => item(alloc, name, one(children)?, self.scope),
             ScalarFnRef::Literal(scalar) => build::lit(alloc, scalar),
             ScalarFnRef::Pack(options) => {
@@ -52,26 +52,23 @@ impl Maker for BoundConstructors<'_> {
     fn raw_node(
         &self,
         _alloc: Global,
-        _scalar_fn: ScalarFnRef,
+        _scalar_fn: Box<ScalarFnRef>,
         _children: Vec<BoundExpression>,
     ) -> Result<BoundExpression, Unread> {
         Err(Unread::Word("no constructor for any number of children"))
     }
 
-    fn all(
+    fn joined(
         &self,
         alloc: Global,
+        by_and: bool,
         items: Vec<BoundExpression>,
     ) -> VortexResult<Option<BoundExpression>> {
-        build::and_collect(alloc, items)
-    }
-
-    fn any(
-        &self,
-        alloc: Global,
-        items: Vec<BoundExpression>,
-    ) -> VortexResult<Option<BoundExpression>> {
-        build::or_collect(alloc, items)
+        if by_and {
+            build::and_collect(alloc, items)
+        } else {
+            build::or_collect(alloc, items)
+        }
     }
 
     fn again(&self, tree: &BoundExpression) -> VortexResult<BoundExpression> {

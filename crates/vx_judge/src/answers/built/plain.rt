@@ -19,10 +19,10 @@ impl Maker for Constructors {
     fn node(
         &self,
         alloc: Global,
-        scalar_fn: ScalarFnRef,
+        scalar_fn: Box<ScalarFnRef>,
         children: Vec<Expression>,
     ) -> VortexResult<Expression> {
-        match scalar_fn {
+        match Box::into_inner(scalar_fn) {
             ScalarFnRef::GetItem(name) => item(alloc, name, one(children)?),
             ScalarFnRef::Literal(scalar) => vx_build::lit(alloc, scalar),
             ScalarFnRef::Pack(options) => {
@@ -47,18 +47,23 @@ impl Maker for Constructors {
     fn raw_node(
         &self,
         _alloc: Global,
-        _scalar_fn: ScalarFnRef,
+        _scalar_fn: Box<ScalarFnRef>,
         _children: Vec<Expression>,
     ) -> Result<Expression, Unread> {
         Err(Unread::Word("no constructor for any number of children"))
     }
 
-    fn all(&self, alloc: Global, items: Vec<Expression>) -> VortexResult<Option<Expression>> {
-        vx_build::and_collect(alloc, items)
-    }
-
-    fn any(&self, alloc: Global, items: Vec<Expression>) -> VortexResult<Option<Expression>> {
-        vx_build::or_collect(alloc, items)
+    fn joined(
+        &self,
+        alloc: Global,
+        by_and: bool,
+        items: Vec<Expression>,
+    ) -> VortexResult<Option<Expression>> {
+        if by_and {
+            vx_build::and_collect(alloc, items)
+        } else {
+            vx_build::or_collect(alloc, items)
+        }
     }
 
     fn again(&self, tree: &Expression) -> VortexResult<Expression> {
