@@ -11,8 +11,6 @@ mod nulls;
 mod operands;
 mod operators;
 mod rounds;
-#[cfg(test)]
-mod tests;
 mod texts;
 mod values;
 

@@ -58,5 +58,10 @@ fn sum(dtype: &DType, v: &Value, w: &Value) -> Option<Value>
 fn within(dtype: &DType, value: Value) -> Option<Value>
     ensures { MatchOption result (fits (value_of value) (type_of dtype.now) ≡ false) (λ v. (value_of v ≡ value_of value) × (fits (value_of value) (type_of dtype.now) ≡ true)) }
 {
-    if value.fits(dtype) { Some(value) } else { None }
+    if value.fits(dtype) {
+        Some(value)
+    } else {
+        drop(value);
+        None
+    }
 }

@@ -16,7 +16,10 @@ pub fn cast<'a>(count: usize, target: &DType, input: Rows<'a>) -> VortexResult<R
     ensures { (ts : List LogicalType) → Evaluates (functions.cast (type_of target.now)) ts count (rows_view input.entry ∷ []) result }
 {
     match first_misfit(count, target, &input) {
-        Some(row) => Err(VortexError::CastNull { row }),
+        Some(row) => {
+            drop(input);
+            Err(VortexError::CastNull { row })
+        }
         None => Ok(input),
     }
 }

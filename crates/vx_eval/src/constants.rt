@@ -8,7 +8,7 @@ use std::marker::Model;
 use vx_types::Value;
 
 /// Null, false and true, to be lent by a column that holds no values of its own.
-#[derive(Debug, Drop)]
+#[derive(Drop)]
 pub struct Constants {
     lent_null: Value,
     lent_false: Value,

@@ -30,7 +30,7 @@ pub fn apply_bound(alloc: Global, batch: &Column, b: &BoundExpression) -> Vortex
     if !b.is_root_bound_to(batch.dtype()) {
         return Err(VortexError::ScopeMismatch);
     }
-    let rows = trees::evaluate_over(alloc, batch, b)?;
+    let rows = trees::evaluate_over(alloc, batch, b)?.into_shared(alloc)?;
     let dtype = b.dtype().clone()?;
-    Ok(Column::from_shared(dtype, rows.into_shared(alloc)?))
+    Ok(Column::from_shared(dtype, rows))
 }

@@ -32,10 +32,18 @@ pub fn get_item<'a>(
     ensures { Evaluates (functions.get_item name.now) (type_of dtype.now ∷ []) count (rows_view input.entry ∷ []) result }
 {
     let place = place_of(name, dtype);
+    // Columns and values are let go of by `drop`: in place that takes the proof far longer.
     match input {
-        Rows::Lent(rows) => Ok(Rows::Item(rows, place, Constants::new())),
+        Rows::Lent(rows) => {
+            drop(input);
+            Ok(Rows::Item(rows, place, Constants::new()))
+        }
         Rows::Owned(rows) => overwritten(rows, |_, row| Ok(item_moved(row, place))),
-        lent => tabulated(alloc, count, |i| item_copied(lent.row(i), place)),
+        lent => {
+            let items = tabulated(alloc, count, |i| item_copied(lent.row(i), place));
+            drop(lent);
+            items
+        }
     }
 }
 
@@ -71,7 +79,10 @@ fn item_moved(row: Value, place: usize) -> Value
         } else {
             Value::Null
         },
-        _ => Value::Null,
+        other => {
+            drop(other);
+            Value::Null
+        }
     }
 }
 
@@ -120,11 +131,11 @@ pub fn select<'a>(
     count: usize,
     selection: &FieldSelection,
     dtype: &DType,
-    input: Rows<'a>,
+    input: &Rows,
 ) -> VortexResult<Rows<'a>>
     requires typed { IsOk (select_type selection.now (type_of dtype.now)) }
-    requires long { length (rows_view input) ≡ count }
-    ensures { Evaluates (functions.select selection.now) (type_of dtype.now ∷ []) count (rows_view input.entry ∷ []) result }
+    requires long { length (rows_view input.now) ≡ count }
+    ensures { Evaluates (functions.select selection.now) (type_of dtype.now ∷ []) count (rows_view input.now ∷ []) result }
 {
     let places = places_of(alloc, selection, dtype)?;
     let places = places.as_slice();

@@ -50,7 +50,8 @@ pub fn overwritten<'a, F: Fn(usize, Value) -> Result<Value, AllocError>>(
 {
     for i in 0..values.len() {
         let row = std::mem::replace(&mut values[i], Value::Null);
-        values[i] = f(i, row)?;
+        let made = f(i, row)?;
+        drop(std::mem::replace(&mut values[i], made));
     }
     Ok(Rows::Owned(values))
 }

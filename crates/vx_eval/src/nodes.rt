@@ -39,11 +39,13 @@ pub fn apply<'a>(
         ScalarFnRef::Pack(_) => fields::pack(alloc, count, columns),
         ScalarFnRef::Select(selection) => {
             let dtype = only(children).dtype();
-            fields::select(alloc, count, selection, dtype, one(columns))
+            fields::select(alloc, count, selection, dtype, single(columns.as_slice()))
         }
         ScalarFnRef::FillNull(_) => {
             let (input, fill) = two(columns);
-            nulls::fill_null(alloc, count, first_type(children), input, &fill)
+            let filled = nulls::fill_null(alloc, count, first_type(children), input, &fill);
+            drop(fill);
+            filled
         }
         ScalarFnRef::Zip(_) => {
             let (if_true, if_false, mask) = three(columns);

@@ -76,12 +76,18 @@ pub fn fill_null<'a>(
     requires fill { length (rows_view fill.now) ≡ count }
     ensures { (ts : List LogicalType) → Evaluates functions.fill_null (type_of dtype.now ∷ ts) count (rows_view input.entry ∷ rows_view fill.now ∷ []) result }
 {
+    // Columns and values are let go of by `drop`: in place that takes the proof far longer.
     if is_bad_fill(count, dtype, fill) {
+        drop(input);
         return Err(VortexError::BadFill);
     }
     match input {
         Rows::Owned(values) => overwritten(values, |i, row| filled(row, fill.row(i))),
-        lent => tabulated(alloc, count, |i| filled_copy(lent.row(i), fill.row(i))),
+        lent => {
+            let filled = tabulated(alloc, count, |i| filled_copy(lent.row(i), fill.row(i)));
+            drop(lent);
+            filled
+        }
     }
 }
 
@@ -89,7 +95,12 @@ pub fn fill_null<'a>(
 fn filled(v: Value, fill: &Value) -> Result<Value, AllocError>
     ensures { IfOk result (λ out. value_of out ≡ (if is_null_datum (value_of v) then value_of fill.now else value_of v)) }
 {
-    if v.is_null() { copied(fill) } else { Ok(v) }
+    if v.is_null() {
+        drop(v);
+        copied(fill)
+    } else {
+        Ok(v)
+    }
 }
 
 // A copy of the value, or of the fill where it is null.

@@ -15,7 +15,7 @@ use std::rc::Rc;
 use vx_types::{Value, VortexResult};
 
 /// The values of a column, row by row: lent, or its own to move.
-#[derive(Debug, Drop)]
+#[derive(Drop)]
 pub enum Rows<'a> {
     /// The values of a column that is lent.
     Lent(&'a Rc<Vec<Value>>),
@@ -86,10 +86,18 @@ impl<'a> Rows<'a> {
     pub fn into_shared(self, alloc: Global) -> VortexResult<Rc<Vec<Value>>>
         ensures { Answers (λ values. values_of values.value.items) result (Ok (rows_view self.entry)) }
     {
+        // Columns are let go of by `drop`: in place that takes the proof far longer.
         match self {
-            Rows::Lent(values) => Ok(values.clone()?),
+            Rows::Lent(values) => {
+                drop(self);
+                Ok(values.clone()?)
+            }
             Rows::Owned(values) => Ok(Rc::new(alloc, values)?),
-            rows => rows.shared_copies(alloc),
+            rows => {
+                let copies = rows.shared_copies(alloc);
+                drop(rows);
+                copies
+            }
         }
     }
 

@@ -97,6 +97,9 @@ pub bounds_of-append : (xs ys : List BoundExpression) → bounds_of (xs ++ ys) �
 bounds_of-append [] ys = refl
 bounds_of-append (x ∷ xs) ys = ap (bound (bound_of x)) (bounds_of-append xs ys)
 
+pub bounds_of-front : (xs ys zs : List BoundExpression) → bounds_of xs ≡ bounds_of ys → bounds_of (xs ++ zs) ≡ bounds_of (ys ++ zs)
+bounds_of-front xs ys zs e = bounds_of-append xs zs ∙ ap (λ bs. with_more bs (bounds_of zs)) e ∙ sym (bounds_of-append ys zs)
+
 pub bounds_of-take_more : (bs : List BoundExpression) (i : ℕ) (b : BoundExpression) → i < length bs → b ≡ get_or bs i b → bounds_of (take (i + 1) bs) ≡ with_more (bounds_of (take i bs)) (bound (bound_of b) no_bound)
 bounds_of-take_more bs i b h e =
     ap bounds_of (take_more bs i b h) ∙ bounds_of-append (take i bs) (get_or bs i b ∷ []) ∙ ap (λ x. with_more (bounds_of (take i bs)) (bound (bound_of x) no_bound)) (sym e)

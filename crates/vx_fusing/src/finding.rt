@@ -12,7 +12,7 @@ ghost use Rattle.vx_fusing.specs.Merging.{IsFusedOf, Merges};
 use crate::merge::merge_root;
 use std::alloc::{AllocError, Global};
 use std::rc::Rc;
-use vx_tree::{BoundExpression, VortexResult};
+use vx_tree::{BoundExpression, VortexError, VortexResult};
 
 /// The tree with each two range comparisons of one item in a conjunction as one `Between`.
 ///
@@ -39,9 +39,17 @@ pub fn find_between(alloc: Global, tree: BoundExpression) -> VortexResult<BoundE
     ensures stays { Fused (bound_of tree) → result ≡ Ok tree }
     ensures memory { IfErr result (λ e. e ≡ OutOfMemory) }
 {
-    match fused(alloc, &tree)? {
-        Some(u) => Ok(u),
-        None => Ok(tree),
+    // Trees are let go of by `drop`: in place that takes the proof far longer.
+    match fused(alloc, &tree) {
+        Ok(Some(u)) => {
+            drop(tree);
+            Ok(u)
+        }
+        Ok(None) => Ok(tree),
+        Err(e) => {
+            drop(tree);
+            Err(e)
+        }
     }
 }
 
@@ -64,9 +72,16 @@ fn root_fused(alloc: Global, tree: BoundExpression) -> VortexResult<BoundExpress
     ensures fused { IfOk result (λ u. IsFusedOf (bound_of tree) (bound_of u)) }
     ensures memory { IfErr result (λ e. e ≡ OutOfMemory) }
 {
-    match merge_root(alloc, &tree)? {
-        Some(merged) => Ok(merged),
-        None => Ok(tree),
+    match merge_root(alloc, &tree) {
+        Ok(Some(merged)) => {
+            drop(tree);
+            Ok(merged)
+        }
+        Ok(None) => Ok(tree),
+        Err(e) => {
+            drop(tree);
+            Err(e)
+        }
     }
 }
 
@@ -84,11 +99,16 @@ fn with_fused(
             dtype,
             scalar_fn,
             ..
-        } => Ok(BoundExpression::Scalar {
-            dtype: dtype.clone()?,
-            scalar_fn: scalar_fn.clone()?,
-            children: Rc::new(alloc, children)?,
-        }),
+        } => {
+            let children = Rc::new(alloc, children)?;
+            let dtype = dtype.clone()?;
+            let scalar_fn = scalar_fn.clone()?;
+            Ok(BoundExpression::Scalar {
+                dtype,
+                scalar_fn,
+                children,
+            })
+        }
         BoundExpression::Root { dtype } => Ok(BoundExpression::Root {
             dtype: dtype.clone()?,
         }),
@@ -109,9 +129,7 @@ fn fused_children(
     for (i, child) in children.iter().enumerate() {
         match (fused(alloc, child)?, updated) {
             (Some(changed), Some(before)) => updated = Some(pushed(before, changed)?),
-            (Some(changed), None) => {
-                updated = Some(pushed(copies(alloc, &children[..i])?, changed)?)
-            }
+            (Some(changed), None) => { updated = Some(copies_and(alloc, &children[..i], changed)?) }
             (None, Some(before)) => updated = Some(pushed(before, child.clone()?)?),
             (None, None) => updated = None,
         }
@@ -120,12 +138,30 @@ fn fused_children(
 }
 
 // The list with one more at its end.
-fn pushed(mut list: Vec<BoundExpression>, b: BoundExpression) -> VortexResult<Vec<BoundExpression>>
-    ensures items { IfOk result (λ v. v.items ≡ list.items ++ b ∷ []) }
+fn pushed<T: Drop>(mut list: Vec<T>, item: T) -> VortexResult<Vec<T>>
+    ensures items { IfOk result (λ v. v.items ≡ list.items ++ item ∷ []) }
     ensures memory { IfErr result (λ e. e ≡ OutOfMemory) }
 {
-    list.push(b)?;
+    list.push(item)?;
     Ok(list)
+}
+
+// The same trees, and one more at their end.
+fn copies_and(
+    alloc: Global,
+    list: &[BoundExpression],
+    last: BoundExpression,
+) -> VortexResult<Vec<BoundExpression>>
+    ensures trees { IfOk result (λ v. bounds_of v.items ≡ bounds_of (list.now ++ last ∷ [])) }
+    ensures memory { IfErr result (λ e. e ≡ OutOfMemory) }
+{
+    match copies(alloc, list) {
+        Ok(copied) => pushed(copied, last),
+        Err(AllocError) => {
+            drop(last);
+            Err(VortexError::OutOfMemory)
+        }
+    }
 }
 
 // The same trees.

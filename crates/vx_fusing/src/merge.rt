@@ -105,9 +105,17 @@ fn merge_second(alloc: Global, before: Merged, second: &BoundExpression) -> Vort
     ensures merged { IfOk result (λ m. MergesSecond (bound_of before.left) (option_map bound_of before.right) (bound_of second.now) (bound_of m.left) (option_map bound_of m.right)) }
     ensures memory { IfErr result (λ e. e ≡ OutOfMemory) }
 {
-    match merge_pairs(alloc, &before.left, second)? {
-        Some(later) => rejoined(alloc, later.left, before.right, later.right),
-        None => in_front(alloc, before, second),
+    // Trees are let go of by `drop`: in place that takes the proof far longer.
+    match merge_pairs(alloc, &before.left, second) {
+        Ok(Some(later)) => {
+            drop(before.left);
+            rejoined(alloc, later.left, before.right, later.right)
+        }
+        Ok(None) => in_front(alloc, before, second),
+        Err(e) => {
+            drop(before);
+            Err(e)
+        }
     }
 }
 
@@ -118,7 +126,7 @@ fn in_front(alloc: Global, merged: Merged, second: &BoundExpression) -> VortexRe
     ensures right { IfOk result (λ m. option_map bound_of m.right ≡ joined (option_map bound_of merged.right) (Some (bound_of second.now))) }
     ensures memory { IfErr result (λ e. e ≡ OutOfMemory) }
 {
-    let second = second.clone()?;
+    let (merged, second) = second.clone().map(|second| (merged, second))?;
     rejoined(alloc, merged.left, merged.right, Some(second))
 }
 
@@ -129,7 +137,7 @@ fn behind(alloc: Global, first: &BoundExpression, merged: Merged) -> VortexResul
     ensures right { IfOk result (λ m. option_map bound_of m.right ≡ joined (Some (bound_of first.now)) (option_map bound_of merged.right)) }
     ensures memory { IfErr result (λ e. e ≡ OutOfMemory) }
 {
-    let first = first.clone()?;
+    let (first, merged) = first.clone().map(|first| (first, merged))?;
     rejoined(alloc, merged.left, Some(first), merged.right)
 }
 
@@ -144,10 +152,7 @@ fn rejoined(
     ensures right { IfOk result (λ m. option_map bound_of m.right ≡ joined (option_map bound_of first) (option_map bound_of second)) }
     ensures memory { IfErr result (λ e. e ≡ OutOfMemory) }
 {
-    Ok(Merged {
-        left,
-        right: joined(alloc, first, second)?,
-    })
+    joined(alloc, first, second).map(|right| Merged { left, right })
 }
 
 // The tree with the pairs at its root merged, which are the only ones.

@@ -47,19 +47,17 @@ pub(crate) fn as_and(b: &BoundExpression) -> Option<(&BoundExpression, &BoundExp
 
 // A node of a function that gives truth values, which the caller knows to be of that type.
 pub(crate) fn truth_node(
-    alloc: Global,
     scalar_fn: ScalarFnRef,
     nullable: bool,
-    children: Vec<BoundExpression>,
-) -> VortexResult<BoundExpression>
-    ensures node { IfOk result (λ b. bound_of b ≡ node (truth_type nullable) (function_of scalar_fn) (bounds_of children.items)) }
-    ensures memory { IfErr result (λ e. e ≡ OutOfMemory) }
+    children: Rc<Vec<BoundExpression>>,
+) -> BoundExpression
+    ensures { bound_of result ≡ node (truth_type nullable) (function_of scalar_fn) (bounds_of children.value.items) }
 {
-    Ok(BoundExpression::Scalar {
+    BoundExpression::Scalar {
         dtype: DType::Bool(Nullability::of(nullable)),
         scalar_fn,
-        children: Rc::new(alloc, children)?,
-    })
+        children,
+    }
 }
 
 // The And of the two.
@@ -72,13 +70,9 @@ pub(crate) fn and_of(
     ensures memory { IfErr result (λ e. e ≡ OutOfMemory) }
 {
     let nullable = l.dtype().is_nullable() || r.dtype().is_nullable();
-    let children = vec![in alloc; l, r]?;
-    truth_node(
-        alloc,
-        ScalarFnRef::Binary(Operator::And),
-        nullable,
-        children,
-    )
+    let children = Rc::new(alloc, vec![in alloc; l, r]?)?;
+    let and = ScalarFnRef::Binary(Operator::And);
+    Ok(truth_node(and, nullable, children))
 }
 
 // The And of a new left child and the old right one.
@@ -90,7 +84,8 @@ pub(crate) fn with_left(
     ensures node { IfOk result (λ b. bound_of b ≡ and_of (bound_of left) (bound_of right.now)) }
     ensures memory { IfErr result (λ e. e ≡ OutOfMemory) }
 {
-    and_of(alloc, left, right.clone()?)
+    let (left, right) = right.clone().map(|right| (left, right))?;
+    and_of(alloc, left, right)
 }
 
 // The And of the old left child and a new right one.
@@ -102,7 +97,8 @@ pub(crate) fn with_right(
     ensures node { IfOk result (λ b. bound_of b ≡ and_of (bound_of left.now) (bound_of right)) }
     ensures memory { IfErr result (λ e. e ≡ OutOfMemory) }
 {
-    and_of(alloc, left.clone()?, right)
+    let (left, right) = left.clone().map(|left| (left, right))?;
+    and_of(alloc, left, right)
 }
 
 // The And of what is left of two trees, or the one of which something is.

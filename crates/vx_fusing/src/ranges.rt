@@ -9,6 +9,7 @@ ghost use Rattle.vx_fusing.specs.Finding.{Finds, range_by, range_seen};
 
 use crate::nodes::{as_binary, truth_node};
 use std::alloc::Global;
+use std::rc::Rc;
 use vx_tree::{
     BetweenOptions, BoundExpression, GetItem, Literal, Operator, ScalarFnRef, StrictComparison,
     VortexResult,
@@ -90,7 +91,9 @@ fn between(
     children.push(item.clone()?)?;
     children.push(lower.bound.clone()?)?;
     children.push(upper.bound.clone()?)?;
-    truth_node(alloc, ScalarFnRef::Between(options), nullable, children)
+    let children = Rc::new(alloc, children)?;
+    let between = ScalarFnRef::Between(options);
+    Ok(truth_node(between, nullable, children))
 }
 
 // The same, if the items are equal; to find out takes no memory. Items are compared by their names

@@ -5,8 +5,6 @@ mod characters;
 mod laws;
 mod parts;
 mod pattern;
-#[cfg(test)]
-mod tests;
 mod walk;
 
 pub use laws::accepts_what_is_like;

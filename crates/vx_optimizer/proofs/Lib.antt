@@ -3,4 +3,3 @@ pub mod Rebuilding
 pub mod Forms
 pub mod Children
 pub mod Normality
-pub mod Folding

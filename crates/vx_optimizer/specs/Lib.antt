@@ -1,3 +1,2 @@
-pub mod ConstantFolding
 pub mod Laws
 pub mod NormalForms

@@ -3,8 +3,6 @@
 
 mod laws;
 mod root;
-#[cfg(test)]
-mod tests;
 mod whole;
 
 pub use laws::{normal_is_final, steps_keep};

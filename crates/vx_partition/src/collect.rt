@@ -79,7 +79,10 @@ fn only_annotation<'a, A: Annotation>(
     ensures { IfOk result (λ a. option_copied a ≡ only_annotation annotations.now (bound_of e.now)) }
 {
     let key = ExactBoundExpr(e.clone()?);
-    Ok(only_key(annotations.get(&key)))
+    let only = only_key(annotations.get(&key));
+    // By `drop`: to let go of a tree in place takes the proof far longer.
+    drop(key);
+    Ok(only)
 }
 
 // The annotation of the set, if it has exactly one.

@@ -35,10 +35,13 @@ pub(crate) fn fill(
                 children,
             } => {
                 let filled = fill_each(alloc, children.as_slice(), marks, holes)?;
+                let children = Rc::new(alloc, filled)?;
+                let dtype = dtype.clone()?;
+                let scalar_fn = scalar_fn.clone()?;
                 Ok(BoundExpression::Scalar {
-                    dtype: dtype.clone()?,
-                    scalar_fn: scalar_fn.clone()?,
-                    children: Rc::new(alloc, filled)?,
+                    dtype,
+                    scalar_fn,
+                    children,
                 })
             }
         },

@@ -23,10 +23,13 @@ fn typed_item(
 {
     let mut children = Vec::with_capacity(alloc, 1)?;
     children.push(from.clone()?)?;
+    let children = Rc::new(alloc, children)?;
+    let dtype = dtype.clone()?;
+    let name = name.clone()?;
     Ok(BoundExpression::Scalar {
-        dtype: dtype.clone()?,
-        scalar_fn: ScalarFnRef::GetItem(name.clone()?),
-        children: Rc::new(alloc, children)?,
+        dtype,
+        scalar_fn: ScalarFnRef::GetItem(name),
+        children,
     })
 }
 
@@ -59,7 +62,10 @@ fn item_holes(
     ensures { Answers (λ holes. map bound_of holes.items) result (Ok (holes_of (typed_item (node_type (bound_of partition.now)) name.now (bound_of root.now)) piece_names.now (bound_children_of (bound_of partition.now)))) }
 {
     let item = typed_item(alloc, partition.dtype(), name, root)?;
-    holes_of(alloc, &item, piece_names, partition.children())
+    let holes = holes_of(alloc, &item, piece_names, partition.children());
+    // By `drop`: to let go of a tree in place takes the proof far longer.
+    drop(item);
+    holes
 }
 
 // The holes of each partition, which is an item of the root.

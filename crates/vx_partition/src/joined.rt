@@ -38,7 +38,10 @@ pub(crate) fn joined_holes(
     ensures { Answers (λ holes. holes_seen holes.items) result (Ok (all_holes (scope (struct_type names.now (bounds_of partitions.now))) names.now piece_names.now (bounds_of partitions.now))) }
 {
     let root = BoundExpression::new_root(joined_dtype(alloc, names, partitions)?);
-    all_holes(alloc, &root, names, piece_names, partitions)
+    let holes = all_holes(alloc, &root, names, piece_names, partitions);
+    // By `drop`: to let go of a tree in place takes the proof far longer.
+    drop(root);
+    holes
 }
 
 fn dtypes_of(alloc: Global, nodes: &[BoundExpression]) -> Result<Vec<DType>, AllocError>

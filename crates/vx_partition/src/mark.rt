@@ -1,7 +1,7 @@
 // What a walk found at a node.
 
 /// What becomes of a node where the pieces are taken out.
-#[derive(Clone, Copy, Debug)]
+#[derive(Clone, Copy)]
 pub(crate) enum Mark {
     /// It stays: no piece stands at it or below it.
     Kept,

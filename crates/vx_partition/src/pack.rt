@@ -1,12 +1,12 @@
 // Partitions: the pieces of each annotation, packed.
-ghost use Rattle.std.specs.Prelude.{◌≡◌, length, map, Ok, IfOk, IfErr};
+ghost use Rattle.std.specs.Prelude.{◌≡◌, ◌∷◌, ◌++◌, [], length, map, Ok, IfOk, IfErr, OnOk};
 ghost use Rattle.vx_dtype.specs.declared.error.VortexError.TheVariants.{OutOfMemory};
 ghost use Rattle.vx_types.specs.Answers.{Answers};
 ghost use Rattle.vx_tree.specs.Views.{bound_of, bounds_of};
 ghost use Rattle.vx_recombine.specs.Items.{packed};
 ghost use Rattle.vx_partition.specs.Collecting.{groups_in};
 ghost use Rattle.vx_partition.specs.Packing.{all_names};
-ghost use Rattle.vx_recombine.specs.Partitions.{piece_names, partitions};
+ghost use Rattle.vx_recombine.specs.Partitions.{piece_names, partition, partitions};
 
 use crate::PartitionKey;
 use crate::groups::Groups;
@@ -32,20 +32,37 @@ pub(crate) fn pack_groups<A: PartitionKey + Drop>(
     ensures partitions { IfOk result (λ p. bounds_of p.partitions.items ≡ partitions A.text (groups_in groups)) }
     ensures memory { IfErr result (λ y. y ≡ OutOfMemory) }
 {
-    let mut annotations = Vec::with_capacity(alloc, groups.len())?;
-    let mut names = Vec::with_capacity(alloc, groups.len())?;
-    let mut partitions = Vec::with_capacity(alloc, groups.len())?;
-    for (annotation, pieces) in groups {
-        let own = piece_names(alloc, &annotation, pieces.as_slice())?;
-        partitions.push(pack(alloc, &own, pieces)?)?;
-        names.push(own)?;
-        annotations.push(annotation)?;
-    }
-    Ok(Packed {
+    let annotations = Vec::with_capacity(alloc, groups.len())?;
+    let names = Vec::with_capacity(alloc, groups.len())?;
+    let partitions = Vec::with_capacity(alloc, groups.len())?;
+    let mut packed = Packed {
         annotations,
         names,
         partitions,
-    })
+    };
+    for (annotation, pieces) in groups {
+        add_group(alloc, &mut packed, annotation, pieces)?;
+    }
+    Ok(packed)
+}
+
+// One more group, packed behind the others.
+fn add_group<A: PartitionKey + Drop>(
+    alloc: Global,
+    packed: &mut Packed<A>,
+    annotation: A,
+    pieces: Vec<BoundExpression>,
+) -> VortexResult<()>
+    ensures annotations { OnOk result (packed.new.annotations.items ≡ packed.old.annotations.items ++ annotation ∷ []) }
+    ensures names { OnOk result (packed.new.names.items ≡ packed.old.names.items ++ piece_names (A.text annotation) 0 (map bound_of pieces.items) ∷ []) }
+    ensures partitions { OnOk result ((b : _) × (packed.new.partitions.items ≡ packed.old.partitions.items ++ b ∷ []) × (bound_of b ≡ partition A.text (annotation, map bound_of pieces.items))) }
+    ensures memory { IfErr result (λ y. y ≡ OutOfMemory) }
+{
+    let own = piece_names(alloc, &annotation, pieces.as_slice())?;
+    packed.partitions.push(pack(alloc, &own, pieces)?)?;
+    packed.names.push(own)?;
+    packed.annotations.push(annotation)?;
+    Ok(())
 }
 
 // The names of the key's pieces, by their indices.

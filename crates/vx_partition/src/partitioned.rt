@@ -82,7 +82,8 @@ impl<A: Drop> BoundPartitionedExpr<A> {
         }
         let scope = joined_dtype(alloc, &self.partition_names, partitions.as_slice())?;
         let root = rebind(alloc, &self.root, &scope)?;
-        self.root = root;
+        // By `drop`: to let go of a tree in place takes the proof far longer.
+        drop(std::mem::replace(&mut self.root, root));
         self.partitions = partitions;
         Ok(())
     }

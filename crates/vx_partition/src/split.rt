@@ -50,8 +50,14 @@ pub fn partition_bound<
         ⊎ ((first_refusal said (bound_of e) ≡ None) × IsTakenBySome A.eq A.name (F.post annotate) (bound_of e) y)) }
     ensures unrefused { OnOk result ((said : _) → SaysBy A.eq (F.post annotate) said → first_refusal said (bound_of e) ≡ None) }
 {
-    let annotations = descendent_bound_annotations(alloc, &e, annotate)?;
-    partition_bound_annotations(alloc, e, annotations)
+    // Trees are let go of by `drop`: in place that takes the proof far longer.
+    match descendent_bound_annotations(alloc, &e, annotate) {
+        Ok(annotations) => partition_bound_annotations(alloc, e, annotations),
+        Err(refusal) => {
+            drop(e);
+            Err(refusal)
+        }
+    }
 }
 
 /// The tree split by the annotations of its nodes: the pieces of each annotation packed, and the
@@ -75,7 +81,9 @@ pub fn partition_bound_annotations<A: PartitionKey + Drop>(
     ensures root { IfOk result (λ p. bound_of p.root ≡ recombination A.eq A.text A.name (only_annotation annotations) (bound_of e)) }
     ensures partitioned { IfOk result (λ p. IsPartitioned (Covered (has_single annotations) (bound_of e)) p.partition_names (bounds_of p.partitions.items) (bound_of p.root) (bound_of e)) }
 {
-    split_by(alloc, &e, &annotations)
+    let split = split_by(alloc, &e, &annotations);
+    drop(e);
+    split
 }
 
 // The tree split by the annotations.

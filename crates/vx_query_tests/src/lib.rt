@@ -1,28 +1,20 @@
-// Tests of analyses, rewriting, queries and the program, as tables: worked rows, and each public
-// call once.
+// Tests of analyses, rewriting, queries and the program that no row of a table says: closures and
+// keys of our own, writers that fail, and refused memory.
 #![tactic(auto)]
 
 #[cfg(test)]
-mod annotations;
+mod closures;
 #[cfg(test)]
-mod fused;
+mod field_paths;
 #[cfg(test)]
-mod generated;
-#[cfg(test)]
-mod labels;
-#[cfg(test)]
-mod optimized;
-#[cfg(test)]
-mod partitions;
-#[cfg(test)]
-mod paths;
+mod named_alike;
 #[cfg(test)]
 mod pressure;
-#[cfg(test)]
-mod queries;
 #[cfg(test)]
 mod refusals;
 #[cfg(test)]
 mod runs;
 #[cfg(test)]
 mod struct_columns;
+#[cfg(test)]
+mod worked;

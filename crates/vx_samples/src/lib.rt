@@ -1,18 +1,14 @@
-// What tests are made of: types, batches and trees, and how a test looks at what it was answered.
+// What tables and tests are made of: trees, types and values as words, and texts compared as they are
+// written.
 #![tactic(auto)]
 
-mod batches;
-mod rows;
 mod texts;
-mod trees;
-mod types;
+mod unread;
 mod words;
-mod worked;
 
-pub use batches::{batch, empty_rows, numbers, rows_of_field, rows_of_x};
-pub use rows::{evaluated, faults, gives, shows};
-pub use texts::{prints, reads, refused};
-pub use trees::{binary, col, literal, number};
-pub use types::{fields, i32_type, names, scope, scope_of_x, struct_of, with_x};
-pub use words::{bound, boxed, function, parsed};
-pub use worked::{UNCHOSEN_OVERFLOW, repacked, turned, unchosen_overflow};
+pub use texts::reads;
+pub use unread::Unread;
+pub use words::{
+    ByParts, Maker, any_function, bound, boxed, column, dtype, i32_type, names, operator,
+    read_tree, selection, typed, value, values,
+};

@@ -1,8 +1,6 @@
 // A value's text compared as it is written, so that no memory is taken.
 use std::fmt;
 use std::fmt::{Display, Write};
-use std::test::Fail;
-use vx_tree::VortexResult;
 
 /// A text that is awaited, less what was written of it.
 #[derive(Drop)]
@@ -21,20 +19,4 @@ impl Write for Awaited<'_> {
 pub fn reads<T: Display>(value: &T, text: &str) -> bool {
     let mut awaited = Awaited { rest: text };
     write!(awaited, "{value}").is_ok() && awaited.rest.is_empty()
-}
-
-/// Fails unless the value prints as the text.
-pub fn prints<T: Display + Drop>(value: T, text: &str) -> Result<(), Fail> {
-    if reads(&value, text) {
-        return Ok(());
-    }
-    Err(Fail::new(format_args!("{value} and not {text}")))
-}
-
-/// Fails unless the call was refused with that text.
-pub fn refused<T: Drop>(answer: VortexResult<T>, text: &str) -> Result<(), Fail> {
-    match answer {
-        Ok(_) => Err(Fail::new(format_args!("not refused: {text}"))),
-        Err(refusal) => prints(refusal, text),
-    }
 }

@@ -1,15 +1,14 @@
 // The first request of a call refused, since all memory is taken. Each call is made before too, with
 // memory, so that the stack has grown as far as it needs.
-use crate::refusals::evaluation::TWO_CASES;
+use crate::refusals::evaluation::{TWO_CASES, TWO_CASES_WRITTEN};
 use crate::refusals::trees::RANGE;
-use crate::rows;
 use crate::trees::RANGE_OF_X;
 use std::alloc::Global;
 use std::process::Abort;
 use std::test::Fail;
 use vx_eval::apply_bound;
 use vx_pressure::Shortage;
-use vx_samples::{batch, bound, boxed, reads, scope_of_x};
+use vx_samples::{bound, boxed, column, dtype, reads};
 use vx_tree::{Column, DType, Expression, VortexError, VortexResult};
 
 /// Whether binding, which succeeds, is refused where all memory is taken.
@@ -24,7 +23,7 @@ fn refuses_to_bind(alloc: Global, source: &Expression, scope: &DType) -> VortexR
 fn bind_is_refused(rt: HostRuntime) -> Result<(), Fail> {
     let alloc = rt.alloc();
     let source = boxed(alloc, RANGE_OF_X)?;
-    let scope = scope_of_x(alloc)?;
+    let scope = dtype(alloc, "{x=i32}")?;
     assert!(rt; refuses_to_bind(alloc, &*source, &scope)?);
     assert!(rt; reads(&*source, RANGE) && reads(&scope, "{x=i32}"));
     Ok(())
@@ -52,8 +51,8 @@ fn refuses_to_evaluate(
 #[test]
 fn apply_bound_is_refused(rt: HostRuntime) -> Result<(), Fail> {
     let alloc = rt.alloc();
-    let x = batch(alloc, "x:i32?; 1; 5; null")?;
-    refuses_to_evaluate(&rt, alloc, rows::TWO_CASES, &x, TWO_CASES)?;
+    let x = column(alloc, "{x=i32?}", "{1} {5} {null}")?;
+    refuses_to_evaluate(&rt, alloc, TWO_CASES, &x, TWO_CASES_WRITTEN)?;
     assert!(rt; reads(&x, "[{x: 1i32}, {x: 5i32}, {x: null}]"));
     Ok(())
 }

@@ -1,15 +1,16 @@
-// Trees: their texts, children, binding and refusals.
+// Trees: their functions and children, and nodes made anew.
 use crate::looks::same;
 use std::alloc::Global;
 use std::process::Abort;
 use std::test::Fail;
-use vx_build::root;
-use vx_samples::{bound, boxed, i32_type, prints, refused, scope_of_x};
+use vx_build::{bound, root};
+use vx_samples::{boxed, dtype, i32_type, reads};
 use vx_tree::Nullability::{NonNullable, Nullable};
 use vx_tree::test_harness::struct_dtype;
 use vx_tree::{
-    Binary, BoundExpression, DType, EmptyOptions, ExprDisplay, Expression, GetItem, IsNull,
-    Operator, ScalarFnRef, Scope, VortexError, VortexResult,
+    Binary, BoundExpression, DType, DisplayFormat, DisplayTreeExpr, EmptyOptions, ExprDisplay,
+    Expression, FieldName, GetItem, IsNull, Operator, Scalar, ScalarFnRef, Scope, VortexError,
+    VortexResult,
 };
 
 /// `(($.x >= null) and ($.x <= 5i32))`
@@ -19,13 +20,67 @@ pub const RANGE_OF_X: &str = "x null >= x 5 <= and";
 fn a_range_has_its_text_and_type(rt: HostRuntime) -> Result<(), Fail> {
     let alloc = rt.alloc();
     let text = "(($.x >= null) and ($.x <= 5i32))";
-    let scope = scope_of_x(alloc)?;
+    let scope = dtype(alloc, "{x=i32}")?;
     let source = boxed(alloc, RANGE_OF_X)?;
     let bound = source.bind(alloc, &scope)?;
     assert!(rt; *bound.dtype() == DType::Bool(Nullable));
     assert!(rt; bound.is_root_bound_to(&scope));
-    prints(bound, text)?;
-    prints(&*source, text)
+    assert!(rt; reads(&bound, text) && reads(&*source, text));
+    Ok(())
+}
+
+#[test]
+fn a_number_is_no_text(rt: HostRuntime) -> Result<(), Fail> {
+    let alloc = rt.alloc();
+    let scope = struct_dtype(alloc)?;
+    let compared = boxed(alloc, "a 'nope =")?;
+    let answer = compared.bind(alloc, &scope);
+    assert!(rt; matches!(answer, Err(VortexError::BaseTypesDiffer)));
+    let dtype = compared.return_dtype(alloc, &scope);
+    assert!(rt; matches!(dtype, Err(VortexError::BaseTypesDiffer)));
+    let a = FieldName::new(alloc, "a").expect(&rt, "memory");
+    let nope = Scalar::utf8(alloc, "nope").expect(&rt, "memory");
+    let a = bound::col(alloc, a, scope).expect(&rt, "a field");
+    let nope = bound::lit(alloc, nope).expect(&rt, "memory");
+    let compared = bound::eq(alloc, a, nope);
+    assert!(rt; matches!(compared, Err(VortexError::BaseTypesDiffer)));
+    Ok(())
+}
+
+#[test]
+fn nodes_show_their_function_and_children(rt: HostRuntime) -> Result<(), Fail> {
+    let alloc = rt.alloc();
+    let source = boxed(alloc, RANGE_OF_X)?;
+    assert!(rt; !source.is_root() && !vx_build::is_root(&*source));
+    assert!(rt; matches!(source.as_scalar(), Some(ScalarFnRef::Binary(Operator::And))));
+    assert!(rt; source.as_opt::<Binary>() == Some(&Operator::And));
+    assert!(rt; source.as_opt::<GetItem>().is_none());
+    assert!(rt; source.is::<Binary>());
+    assert!(rt; *source.as_::<Binary>() == Operator::And);
+    assert!(rt; source.contains::<Binary>() && source.contains::<GetItem>());
+    assert!(rt; !source.contains::<IsNull>());
+    assert_eq!(rt; source.display_children_count(), 2);
+    assert_eq!(rt; source.children().len(), 2);
+    assert!(rt; source.child(0) != source.child(1));
+    assert!(rt; source.child(1) == source.display_child(1));
+    same(&rt, (*source).clone().expect(&rt, "memory"), &*source);
+    Ok(())
+}
+
+#[test]
+fn bound_nodes_show_their_function_and_children(rt: HostRuntime) -> Result<(), Fail> {
+    let alloc = rt.alloc();
+    let bound = vx_samples::bound(alloc, RANGE_OF_X, &dtype(alloc, "{x=i32}")?)?;
+    assert!(rt; matches!(bound.as_scalar(), Some(ScalarFnRef::Binary(Operator::And))));
+    assert!(rt; bound.as_opt::<Binary>() == Some(&Operator::And));
+    assert!(rt; bound.is::<Binary>());
+    assert!(rt; *bound.as_::<Binary>() == Operator::And);
+    assert!(rt; bound.contains::<Binary>() && bound.contains::<GetItem>());
+    assert!(rt; !bound.contains::<IsNull>());
+    assert_eq!(rt; bound.display_children_count(), 2);
+    assert_eq!(rt; bound.children().len(), 2);
+    assert!(rt; bound.child(0) != bound.child(1));
+    Ok(())
 }
 
 /// Asserts that the source, a truth value, is bound to the scope as it is to the scope's type.
@@ -46,127 +101,90 @@ fn binds_alike(rt: &impl Abort, alloc: Global, source: &Expression, scope: &Scop
 #[test]
 fn a_scope_is_its_type(rt: HostRuntime) -> Result<(), Fail> {
     let alloc = rt.alloc();
-    let scope = Scope::new(scope_of_x(alloc)?);
-    binds_alike(&rt, alloc, &*boxed(alloc, RANGE_OF_X)?, &scope);
+    let source = boxed(alloc, RANGE_OF_X)?;
+    let scope = Scope::new(dtype(alloc, "{x=i32}").expect(&rt, "a type"));
+    binds_alike(&rt, alloc, &*source, &scope);
     Ok(())
 }
 
-#[test]
-fn a_number_is_no_text(rt: HostRuntime) -> Result<(), Fail> {
-    let alloc = rt.alloc();
-    let scope = struct_dtype(alloc)?;
-    let compared = boxed(alloc, "a 'nope =")?;
-    let answer = compared.bind(alloc, &scope);
-    assert!(rt; matches!(answer, Err(VortexError::BaseTypesDiffer)));
-    let dtype = compared.return_dtype(alloc, &scope);
-    refused(dtype, "types differ in more than nullability")
+/// The node of the function over the scope root alone.
+fn over_root(rt: &impl Abort, alloc: Global, scalar_fn: ScalarFnRef) -> VortexResult<Expression> {
+    let one = vec![in alloc; root()].expect(rt, "memory");
+    Expression::try_new(alloc, scalar_fn, one)
+}
+
+/// Asserts that the answer is that so many children are given, and not as many as are needed.
+fn is_mismatch<T: Drop>(rt: &impl Abort, answer: VortexResult<T>, needed: usize, given: usize) {
+    assert!(rt;
+        matches!(&answer, Err(VortexError::ArityMismatch { expected, got })
+            if *expected == needed && *got == given)
+    );
 }
 
 #[test]
-fn the_harness_has_its_type(rt: HostRuntime) -> Result<(), Fail> {
+fn a_wrong_number_of_children_is_refused(rt: HostRuntime) {
     let alloc = rt.alloc();
-    let text = "{a=i32, col1=u16?, col2=u16?, bool1=bool, bool2=bool}";
-    prints(struct_dtype(alloc)?, text)
-}
-
-const ONE_OF_THREE: &str = "3 children are needed, and 1 given";
-
-#[test]
-fn a_wrong_number_of_children_is_refused(rt: HostRuntime) -> Result<(), Fail> {
-    let alloc = rt.alloc();
-    let one = vec![in alloc; root()]?;
-    let compared = Expression::try_new(alloc, ScalarFnRef::Binary(Operator::Eq), one);
-    refused(compared, "2 children are needed, and 1 given")?;
-    let one = vec![in alloc; root()]?;
-    let zipped = Expression::try_new(alloc, ScalarFnRef::Zip(EmptyOptions), one);
-    refused(zipped, ONE_OF_THREE)?;
-    let one = vec![in alloc; BoundExpression::new_root(i32_type(Nullable))]?;
+    let compared = over_root(&rt, alloc, ScalarFnRef::Binary(Operator::Eq));
+    is_mismatch(&rt, compared, 2, 1);
+    let zipped = over_root(&rt, alloc, ScalarFnRef::Zip(EmptyOptions));
+    is_mismatch(&rt, zipped, 3, 1);
+    let one = vec![in alloc; BoundExpression::new_root(i32_type(Nullable))];
+    let one = one.expect(&rt, "memory");
     let bound = BoundExpression::try_new(alloc, ScalarFnRef::Zip(EmptyOptions), one);
-    refused(bound, ONE_OF_THREE)
-}
-
-/// The tree of the words over no children.
-fn without_children(alloc: Global, words: &str) -> Result<VortexResult<Expression>, Fail> {
-    let tree = boxed(alloc, words)?;
-    Ok(Box::into_inner(tree).with_children(alloc, Vec::new(alloc)))
+    is_mismatch(&rt, bound, 3, 1);
 }
 
 #[test]
-fn a_node_refuses_a_wrong_number_of_other_children(rt: HostRuntime) -> Result<(), Fail> {
+fn a_node_takes_as_many_other_children(rt: HostRuntime) -> Result<(), Fail> {
     let alloc = rt.alloc();
-    let item = without_children(alloc, "x")?;
-    refused(item, "1 children are needed, and 0 given")?;
-    let one = vec![in alloc; root()]?;
-    let answer = root().with_children(alloc, one);
-    refused(answer, "1 children given to the scope root")
-}
-
-#[test]
-fn nodes_show_their_function(rt: HostRuntime) -> Result<(), Fail> {
-    let alloc = rt.alloc();
-    let source = boxed(alloc, RANGE_OF_X)?;
-    let root = Box::new(alloc, Expression::Root)?;
-    assert!(rt; root.is_root() && !source.is_root());
-    assert!(rt; matches!(source.as_scalar(), Some(ScalarFnRef::Binary(Operator::And))));
-    assert!(rt; source.as_opt::<Binary>() == Some(&Operator::And));
-    assert!(rt; source.as_opt::<GetItem>().is_none());
-    assert!(rt; source.is::<Binary>());
-    assert!(rt; *source.as_::<Binary>() == Operator::And);
-    same(&rt, (*source).clone().expect(&rt, "memory"), &*source);
-    Ok(())
-}
-
-#[test]
-fn nodes_show_their_children(rt: HostRuntime) -> Result<(), Fail> {
-    let source = boxed(rt.alloc(), RANGE_OF_X)?;
-    assert_eq!(rt; source.display_children_count(), 2);
-    assert_eq!(rt; source.children().len(), 2);
-    assert!(rt; source.child(0) != source.child(1));
-    assert!(rt; source.child(1) == source.display_child(1));
-    Ok(())
-}
-
-#[test]
-fn bound_nodes_show_their_function_and_children(rt: HostRuntime) -> Result<(), Fail> {
-    let alloc = rt.alloc();
-    let bound = bound(alloc, RANGE_OF_X, &scope_of_x(alloc)?)?;
-    assert!(rt; matches!(bound.as_scalar(), Some(ScalarFnRef::Binary(Operator::And))));
-    assert!(rt; bound.as_opt::<Binary>() == Some(&Operator::And));
-    assert!(rt; bound.is::<Binary>());
-    assert!(rt; *bound.as_::<Binary>() == Operator::And);
-    assert_eq!(rt; bound.display_children_count(), 2);
-    assert_eq!(rt; bound.children().len(), 2);
-    assert!(rt; bound.child(0) != bound.child(1));
-    Ok(())
-}
-
-#[test]
-fn a_tree_contains_the_functions_of_its_nodes(rt: HostRuntime) -> Result<(), Fail> {
-    let alloc = rt.alloc();
-    let source = boxed(alloc, RANGE_OF_X)?;
-    assert!(rt; source.contains::<Binary>() && source.contains::<GetItem>());
-    assert!(rt; !source.contains::<IsNull>());
-    let bound = bound(alloc, RANGE_OF_X, &scope_of_x(alloc)?)?;
-    assert!(rt; bound.contains::<Binary>() && bound.contains::<GetItem>());
-    assert!(rt; !bound.contains::<IsNull>());
-    Ok(())
-}
-
-#[test]
-fn a_node_takes_other_children(rt: HostRuntime) -> Result<(), Fail> {
-    let alloc = rt.alloc();
-    let second = Box::into_inner(boxed(alloc, "bool2")?);
-    let mut swapped = vec![in alloc; second]?;
-    swapped.push(Box::into_inner(boxed(alloc, "bool1")?))?;
+    let second = boxed(alloc, "bool2")?;
+    let first = boxed(alloc, "bool1")?;
     let either = boxed(alloc, "bool1 bool2 or")?;
-    let answer = Box::into_inner(either).with_children(alloc, swapped)?;
-    prints(answer, "($.bool2 or $.bool1)")
+    let item = boxed(alloc, "x")?;
+    let answer = Box::into_inner(item).with_children(alloc, Vec::new(alloc));
+    is_mismatch(&rt, answer, 1, 0);
+    let swapped = vec![in alloc; Box::into_inner(second), Box::into_inner(first)];
+    let answer = Box::into_inner(either).with_children(alloc, swapped.expect(&rt, "memory"));
+    assert!(rt; matches!(&answer, Ok(tree) if reads(tree, "($.bool2 or $.bool1)")));
+    Ok(())
+}
+
+#[test]
+fn a_root_has_no_children_and_one_line(rt: HostRuntime) {
+    let alloc = rt.alloc();
+    assert!(rt; Expression::Root.is_root() && vx_build::is_root(&root()));
+    let one = vec![in alloc; root()].expect(&rt, "memory");
+    let answer = root().with_children(alloc, one);
+    assert!(rt; matches!(&answer, Err(VortexError::RootChildren { got: 1 })));
+    let scope = struct_dtype(alloc).expect(&rt, "memory");
+    let root = BoundExpression::new_root(scope.clone().expect(&rt, "memory"));
+    assert!(rt; root.is_root());
+    let unchanged = root.with_children(alloc, Vec::new(alloc));
+    let unchanged = Box::new(alloc, unchanged.expect(&rt, "a tree")).expect(&rt, "memory");
+    assert!(rt; unchanged.is_root());
+    same(&rt, scope, unchanged.dtype());
+    for (format, text) in [
+        (DisplayFormat::Compact, "$"),
+        (DisplayFormat::Tree, "vortex.root()"),
+    ] {
+        assert!(rt;
+            match format {
+                DisplayFormat::Compact => reads(&Expression::Root, text),
+                DisplayFormat::Tree => reads(&Expression::Root.display_tree(), text),
+            }
+        );
+    }
+    let source = Box::new(alloc, Expression::Root).expect(&rt, "memory");
+    assert!(rt; reads(&DisplayTreeExpr(&*source), "vortex.root()"));
+    let bound = BoundExpression::new_root(i32_type(Nullable));
+    let bound = Box::new(alloc, bound).expect(&rt, "memory");
+    assert!(rt; reads(&DisplayTreeExpr(&*bound), "vortex.root()"));
 }
 
 #[test]
 fn a_bound_node_takes_other_children(rt: HostRuntime) -> Result<(), Fail> {
     let alloc = rt.alloc();
-    let bound = bound(alloc, "bool1 bool2 or", &struct_dtype(alloc)?)?;
+    let bound = vx_samples::bound(alloc, "bool1 bool2 or", &struct_dtype(alloc)?)?;
     let mut children = Vec::new(alloc);
     for child in bound.children() {
         let child = child.clone().expect(&rt, "memory");
@@ -178,34 +196,16 @@ fn a_bound_node_takes_other_children(rt: HostRuntime) -> Result<(), Fail> {
     Ok(())
 }
 
-#[test]
-fn a_bound_root_has_no_children(rt: HostRuntime) {
-    let alloc = rt.alloc();
-    let root = BoundExpression::new_root(struct_dtype(alloc).expect(&rt, "memory"));
-    assert!(rt; root.is_root());
-    let unchanged = root
-        .with_children(alloc, Vec::new(alloc))
-        .expect(&rt, "memory");
-    let unchanged = Box::new(alloc, unchanged).expect(&rt, "memory");
-    assert!(rt; unchanged.is_root());
-    same(
-        &rt,
-        struct_dtype(alloc).expect(&rt, "memory"),
-        unchanged.dtype(),
-    );
-}
-
-/// The validity of the tree of the words over `i32?`.
-fn validity_of(alloc: Global, words: &str) -> Result<BoundExpression, Fail> {
-    let bound = bound(alloc, words, &i32_type(Nullable))?;
-    Ok(bound.validity(alloc)?)
+/// Asserts that nothing is collected of no items.
+fn is_nothing<T: Drop>(rt: &impl Abort, collected: VortexResult<Option<T>>) {
+    assert!(rt; matches!(&collected, Ok(None)));
 }
 
 #[test]
-fn validity_is_a_truth_value(rt: HostRuntime) -> Result<(), Fail> {
+fn nothing_is_collected_of_no_items(rt: HostRuntime) {
     let alloc = rt.alloc();
-    let valid = validity_of(alloc, "$")?;
-    assert!(rt; *valid.dtype() == DType::Bool(NonNullable));
-    prints(valid, "vortex.is_not_null($)")?;
-    prints(validity_of(alloc, "null")?, "false")
+    is_nothing(&rt, vx_build::and_collect(alloc, Vec::new(alloc)));
+    is_nothing(&rt, vx_build::or_collect(alloc, Vec::new(alloc)));
+    is_nothing(&rt, bound::and_collect(alloc, Vec::new(alloc)));
+    is_nothing(&rt, bound::or_collect(alloc, Vec::new(alloc)));
 }

@@ -2,21 +2,28 @@
 ghost use Rattle.vx_tree.specs.Trees.{WellTyped};
 ghost use Rattle.vx_tree.specs.Views.{bound_of};
 
-use crate::fused::{COMPARISONS, RANGES, THREE_RANGES, scope_of};
-use crate::labels::{equal, heights, sizes};
 use crate::refusals::answered;
 use std::alloc::Global;
 use std::process::Abort;
 use std::test::Fail;
-use vx_rewrite::{BoundLabels, Optimize, find_between};
-use vx_samples::{bound, boxed, col, i32_type, names, reads, repacked, with_x};
-use vx_tree::Nullability::{NonNullable, Nullable};
-use vx_tree::{BoundExpression, ExactBoundExpr, Expression};
+use vx_rewrite::{BoundLabels, Optimize, find_between, label_bound_tree};
+use vx_samples::{bound, boxed, dtype, reads};
+use vx_tree::test_harness::struct_dtype;
+use vx_tree::{BoundExpression, ExactBoundExpr, Expression, VortexResult};
+
+/// Whether x, y and z are at least 0 and below 10.
+const THREE_RANGES: &str = "x 0 >= y 0 >= and z 0 >= and z 10 < y 10 < and x 10 < and and";
+
+const COMPARISONS: &str = "(((($.x >= 0i32) and ($.y >= 0i32)) and ($.z >= 0i32)) and \
+                           ((($.z < 10i32) and ($.y < 10i32)) and ($.x < 10i32)))";
+
+const RANGES: &str =
+    "(((0i32 <= $.x < 10i32) and (0i32 <= $.y < 10i32)) and (0i32 <= $.z < 10i32))";
 
 #[test]
 fn find_between_of_six_comparisons(rt: HostRuntime) -> Result<(), Fail> {
     let alloc = rt.alloc();
-    let scope = scope_of(alloc, names(alloc, &["x", "y", "z"])?)?;
+    let scope = dtype(alloc, "{x=i32?,y=i32?,z=i32?}")?;
     let bound = bound(alloc, THREE_RANGES, &scope)?;
     let shared = Box::new(alloc, (*bound).clone()?)?;
     rt.println("called")?;
@@ -52,7 +59,7 @@ fn leaves_of(
     source: &Expression,
     text: &str,
 ) -> Result<(), Fail> {
-    let scope = with_x(alloc, i32_type(Nullable), NonNullable)?;
+    let scope = dtype(alloc, "{x=i32?}")?;
     let bound = Box::new(alloc, source.bind(alloc, &scope)?)?;
     let before = format!(in alloc; "{bound}")?;
     leaves(rt, alloc, &bound, before.as_str(), text)
@@ -62,12 +69,37 @@ fn leaves_of(
 #[test]
 fn optimize_recursive_of_items_and_cases(rt: HostRuntime) -> Result<(), Fail> {
     let alloc = rt.alloc();
-    let items = Box::new(alloc, repacked(alloc, col(alloc, "x")?, 101)?)?;
+    let items = boxed(alloc, "x times(101) pack(a) .a end")?;
     leaves_of(&rt, alloc, &*items, "$.x")?;
     let item = boxed(alloc, "x pack(a)? .a")?;
     leaves_of(&rt, alloc, &*item, "vortex.mask($.x, true)")?;
     let case = boxed(alloc, "x is_null 0 x case")?;
     leaves_of(&rt, alloc, &*case, "vortex.fill_null($.x, 0i32)")
+}
+
+/// `($.col1 = 5u16)`
+fn equal(alloc: Global) -> Result<Box<BoundExpression>, Fail> {
+    Ok(bound(alloc, "col1 5u16 =", &struct_dtype(alloc)?)?)
+}
+
+/// One more than the highest child's.
+fn heights(alloc: Global, e: &BoundExpression) -> VortexResult<BoundLabels<u64>> {
+    label_bound_tree(
+        alloc,
+        e,
+        |_node: &BoundExpression| 1,
+        |label: u64, child: &u64| label.max(child.saturating_add(1)),
+    )
+}
+
+/// One and the children's.
+fn sizes(alloc: Global, e: &BoundExpression) -> VortexResult<BoundLabels<u64>> {
+    label_bound_tree(
+        alloc,
+        e,
+        |_node: &BoundExpression| 1,
+        |label: u64, child: &u64| label.saturating_add(*child),
+    )
 }
 
 /// Whether there are four labels, and that one at the tree.

@@ -1,6 +1,7 @@
 // Functions by their words.
-use super::operands::dtype;
-use crate::types::names;
+use super::pieces::within;
+use super::types::dtype;
+use crate::unread::Unread;
 use std::alloc::Global;
 use vx_tree::Nullability::{NonNullable, Nullable};
 use vx_tree::StrictComparison::{NonStrict, Strict};
@@ -9,56 +10,70 @@ use vx_tree::{
     LikeOptions, Operator, PackOptions, ScalarFnRef, StrictComparison, VortexResult,
 };
 
-/// The function of the word; none where the word is an operand.
-pub fn function(alloc: Global, word: &str) -> VortexResult<Option<ScalarFnRef>> {
+/// The function of the word; none where the word is no function's.
+pub fn function(alloc: Global, word: &str) -> Result<Option<ScalarFnRef>, Unread> {
     if let Some(name) = word.strip_prefix('.') {
         return Ok(Some(ScalarFnRef::GetItem(FieldName::new(alloc, name)?)));
     }
-    if let Some(list) = word.strip_prefix('{') {
-        return Ok(Some(selection(alloc, list)?));
+    if let Some(target) = within(word, "cast") {
+        return Ok(Some(ScalarFnRef::Cast(dtype(alloc, target)?)));
     }
-    if let Some(list) = word.strip_prefix("pack(") {
-        return Ok(Some(pack(alloc, list)?));
+    if let Some(selection) = selection(alloc, word)? {
+        return Ok(Some(ScalarFnRef::Select(selection)));
     }
-    let plain = operator(word)
-        .or_else(|| of_one(word))
-        .or_else(|| of_several(word));
-    Ok(plain.or_else(|| like(word)))
+    if let Some(options) = pack(alloc, word)? {
+        return Ok(Some(ScalarFnRef::Pack(options)));
+    }
+    let plain = operator(word).map(ScalarFnRef::Binary);
+    Ok(
+        plain
+            .or_else(|| without_options(word))
+            .or_else(|| with_options(word)),
+    )
 }
 
-// The names, one comma apart.
-fn listed(alloc: Global, list: &str) -> VortexResult<FieldNames> {
+/// The names of the list, with such a mark between them; none of an empty list.
+pub fn names(alloc: Global, list: &str, mark: char) -> VortexResult<FieldNames> {
     if list.is_empty() {
-        return names(alloc, &[]);
+        return FieldNames::empty(alloc);
     }
     let mut names = Vec::new(alloc);
-    for name in list.split(',') {
+    for name in list.split(mark) {
         names.push(FieldName::new(alloc, name)?)?;
     }
     FieldNames::new(alloc, names)
 }
 
 // `pack(a,b)`, or `pack(a,b)?`, which gives a type with null.
-fn pack(alloc: Global, list: &str) -> VortexResult<ScalarFnRef> {
-    let (list, nullability) = match list.strip_suffix(")?") {
-        Some(list) => (list, Nullable),
-        None => (list.trim_end_matches(')'), NonNullable),
+fn pack(alloc: Global, word: &str) -> VortexResult<Option<PackOptions>> {
+    let (word, nullability) = match word.strip_suffix('?') {
+        Some(word) => (word, Nullable),
+        None => (word, NonNullable),
     };
-    let names = listed(alloc, list)?;
-    Ok(ScalarFnRef::Pack(PackOptions { names, nullability }))
+    let Some(list) = within(word, "pack") else {
+        return Ok(None);
+    };
+    let names = names(alloc, list, ',')?;
+    Ok(Some(PackOptions { names, nullability }))
 }
 
-// `{a,b}`, or `{~a,b}`, which leaves them out.
-fn selection(alloc: Global, list: &str) -> VortexResult<ScalarFnRef> {
-    let list = list.trim_end_matches('}');
-    Ok(ScalarFnRef::Select(match list.strip_prefix('~') {
-        Some(list) => FieldSelection::Exclude(listed(alloc, list)?),
-        None => FieldSelection::Include(listed(alloc, list)?),
+/// `{a,b}`, or `{~a,b}`, which leaves them out.
+pub fn selection(alloc: Global, word: &str) -> VortexResult<Option<FieldSelection>> {
+    let list = word
+        .strip_prefix('{')
+        .and_then(|rest| rest.strip_suffix('}'));
+    let Some(list) = list.filter(|list| !list.contains(':')) else {
+        return Ok(None);
+    };
+    Ok(Some(match list.strip_prefix('~') {
+        Some(list) => FieldSelection::Exclude(names(alloc, list, ',')?),
+        None => FieldSelection::Include(names(alloc, list, ',')?),
     }))
 }
 
-fn operator(word: &str) -> Option<ScalarFnRef> {
-    Some(ScalarFnRef::Binary(match word {
+/// The operator of that sign.
+pub fn operator(sign: &str) -> Option<Operator> {
+    Some(match sign {
         "=" => Operator::Eq,
         "!=" => Operator::NotEq,
         ">" => Operator::Gt,
@@ -69,66 +84,67 @@ fn operator(word: &str) -> Option<ScalarFnRef> {
         "and" => Operator::And,
         "or" => Operator::Or,
         _ => return None,
-    }))
+    })
 }
 
-// Functions of one child.
-fn of_one(word: &str) -> Option<ScalarFnRef> {
-    if let Some(word) = word.strip_prefix("cast(") {
-        return dtype(word.trim_end_matches(')')).map(ScalarFnRef::Cast);
-    }
+fn without_options(word: &str) -> Option<ScalarFnRef> {
     Some(match word {
         "not" => ScalarFnRef::Not(EmptyOptions),
         "is_null" => ScalarFnRef::IsNull(EmptyOptions),
         "is_not_null" => ScalarFnRef::IsNotNull(EmptyOptions),
-        _ => return None,
-    })
-}
-
-// Functions of several children: `case` is of one pair and an ELSE, `case2` of two, `when` has none.
-fn of_several(word: &str) -> Option<ScalarFnRef> {
-    if let Some(word) = word.strip_prefix("cases(") {
-        return numbered_cases(word.trim_end_matches(')'));
-    }
-    Some(match word {
         "fill_null" => ScalarFnRef::FillNull(EmptyOptions),
         "mask" => ScalarFnRef::Mask(EmptyOptions),
         "zip" => ScalarFnRef::Zip(EmptyOptions),
-        "case" => cases(1, true),
-        "case2" => cases(2, true),
-        "when" => cases(1, false),
-        "between(<,<)" => between(Strict, Strict),
-        "between(<,<=)" => between(Strict, NonStrict),
-        "between(<=,<)" => between(NonStrict, Strict),
-        "between(<=,<=)" => between(NonStrict, NonStrict),
         _ => return None,
     })
 }
 
-// `cases(2)`, or `cases(2,else)`.
-fn numbered_cases(word: &str) -> Option<ScalarFnRef> {
-    let (number, has_else) = match word.strip_suffix(",else") {
-        Some(number) => (number, true),
-        None => (word, false),
-    };
-    Some(cases(number.parse().ok()?, has_else))
+fn with_options(word: &str) -> Option<ScalarFnRef> {
+    if let Some(options) = like(word) {
+        return Some(ScalarFnRef::Like(options));
+    }
+    if let Some(signs) = within(word, "between") {
+        return Some(ScalarFnRef::Between(bounds(signs)?));
+    }
+    Some(ScalarFnRef::CaseWhen(cases(word)?))
 }
 
-fn cases(num_when_then_pairs: u32, has_else: bool) -> ScalarFnRef {
-    ScalarFnRef::CaseWhen(CaseWhenOptions {
+// `case` is of one pair and an ELSE, `case2` of two, `when` has none; else `cases(2)`, or
+// `cases(2,else)`.
+fn cases(word: &str) -> Option<CaseWhenOptions> {
+    let (num_when_then_pairs, has_else) = match word {
+        "case" => (1, true),
+        "case2" => (2, true),
+        "when" => (1, false),
+        _ => match within(word, "cases")?.split_once(',') {
+            Some((pairs, "else")) => (pairs.parse().ok()?, true),
+            Some(_) => return None,
+            None => (within(word, "cases")?.parse().ok()?, false),
+        },
+    };
+    Some(CaseWhenOptions {
         num_when_then_pairs,
         has_else,
     })
 }
 
-fn between(lower_strict: StrictComparison, upper_strict: StrictComparison) -> ScalarFnRef {
-    ScalarFnRef::Between(BetweenOptions {
-        lower_strict,
-        upper_strict,
+fn bounds(signs: &str) -> Option<BetweenOptions> {
+    let (lower, upper) = signs.split_once(',')?;
+    Some(BetweenOptions {
+        lower_strict: strictness(lower)?,
+        upper_strict: strictness(upper)?,
     })
 }
 
-fn like(word: &str) -> Option<ScalarFnRef> {
+fn strictness(sign: &str) -> Option<StrictComparison> {
+    match sign {
+        "<" => Some(Strict),
+        "<=" => Some(NonStrict),
+        _ => None,
+    }
+}
+
+fn like(word: &str) -> Option<LikeOptions> {
     let (negated, case_insensitive) = match word {
         "like" => (false, false),
         "not_like" => (true, false),
@@ -136,8 +152,8 @@ fn like(word: &str) -> Option<ScalarFnRef> {
         "not_ilike" => (true, true),
         _ => return None,
     };
-    Some(ScalarFnRef::Like(LikeOptions {
+    Some(LikeOptions {
         negated,
         case_insensitive,
-    }))
+    })
 }

@@ -1,12 +1,10 @@
 // Evaluation whose memory is refused: the result or the fault, and what was lent.
 use crate::refusals::answered;
-use crate::results::{BAD_FILL, FILL};
-use crate::rows;
 use std::alloc::Global;
 use std::process::Abort;
 use std::test::Fail;
 use vx_eval::apply_bound;
-use vx_samples::{batch, bound, reads};
+use vx_samples::{bound, column, reads};
 use vx_tree::{Column, VortexError, VortexResult};
 
 /// What an evaluation is about, and the column or the fault that it answers.
@@ -43,43 +41,55 @@ fn answers(
     answered(rt)
 }
 
-pub const TWO_CASES: &str =
+/// 10 where x is above 0, 20 where it is above 3, else 30.
+pub const TWO_CASES: &str = "x 0 > 10 x 3 > 20 30 cases(2,else)";
+
+pub const TWO_CASES_WRITTEN: &str =
     "CASE WHEN ($.x > 0i32) THEN 10i32 WHEN ($.x > 3i32) THEN 20i32 ELSE 30i32 END";
 
 #[test]
 fn apply_bound_of_two_cases(rt: HostRuntime) -> Result<(), Fail> {
     let alloc = rt.alloc();
-    let x = batch(alloc, "x:i32?; 1; 5; null")?;
+    let x = column(alloc, "{x=i32?}", "{1} {5} {null}")?;
     let texts = Texts {
-        tree: TWO_CASES,
+        tree: TWO_CASES_WRITTEN,
         batch: "[{x: 1i32}, {x: 5i32}, {x: null}]",
         answer: "[10i32, 10i32, 30i32]",
     };
-    answers(&rt, alloc, rows::TWO_CASES, &x, texts)
+    answers(&rt, alloc, TWO_CASES, &x, texts)
 }
+
+/// The text of `BadFill`.
+const BAD_FILL: &str = "a fill that is null, not one value, or of an unsupported type";
 
 #[test]
 fn apply_bound_of_fills(rt: HostRuntime) -> Result<(), Fail> {
     let alloc = rt.alloc();
     for (given, rows, answer) in [
         (
-            "x:i32? y:i32; null 7; 3 7",
+            "{null,7} {3,7}",
             "[{x: null, y: 7i32}, {x: 3i32, y: 7i32}]",
             "[7i32, 3i32]",
         ),
         (
-            "x:i32? y:i32; null 1; 3 2",
+            "{null,1} {3,2}",
             "[{x: null, y: 1i32}, {x: 3i32, y: 2i32}]",
             BAD_FILL,
         ),
-        ("x:i32? y:i32", "[]", "[]"),
+        ("", "[]", "[]"),
     ] {
         let texts = Texts {
             tree: "vortex.fill_null($.x, $.y)",
             batch: rows,
             answer,
         };
-        answers(&rt, alloc, FILL, &batch(alloc, given)?, texts)?;
+        answers(
+            &rt,
+            alloc,
+            "x y fill_null",
+            &column(alloc, "{x=i32?,y=i32}", given)?,
+            texts,
+        )?;
     }
     Ok(())
 }
@@ -87,7 +97,7 @@ fn apply_bound_of_fills(rt: HostRuntime) -> Result<(), Fail> {
 #[test]
 fn apply_bound_of_likes(rt: HostRuntime) -> Result<(), Fail> {
     let alloc = rt.alloc();
-    let one = batch(alloc, "x:i32?; null")?;
+    let one = column(alloc, "{x=i32?}", "{null}")?;
     for (words, tree, answer) in [
         (r"'a%b 'a\%b like", r#"("a%b" like "a\%b")"#, "[true]"),
         (r"'axb 'a\%b like", r#"("axb" like "a\%b")"#, "[false]"),

@@ -1,15 +1,24 @@
 // Trees whose memory is refused: bound, collected, drawn.
 use crate::refusals::answered;
-use crate::tree_texts::RANGE as RANGE_DRAWN;
 use crate::trees::RANGE_OF_X;
 use std::alloc::Global;
 use std::fmt::Write;
 use std::test::Fail;
 use vx_build::and_collect;
-use vx_samples::{boxed, reads, scope_of_x};
+use vx_samples::{boxed, dtype, reads};
 use vx_tree::{BoundExpression, Expression, VortexResult};
 
 pub const RANGE: &str = "(($.x >= null) and ($.x <= 5i32))";
+
+const RANGE_DRAWN: &str = "vortex.binary(and)
+├── lhs: vortex.binary(>=)
+│   ├── lhs: vortex.get_item(x)
+│   │   └── input: vortex.root()
+│   └── rhs: vortex.literal(null)
+└── rhs: vortex.binary(<=)
+    ├── lhs: vortex.get_item(x)
+    │   └── input: vortex.root()
+    └── rhs: vortex.literal(5i32)";
 
 /// Whether the answer is the range, bound. Hands on that a request was refused.
 fn is_range(answer: VortexResult<BoundExpression>) -> VortexResult<bool> {
@@ -21,7 +30,7 @@ fn is_range(answer: VortexResult<BoundExpression>) -> VortexResult<bool> {
 fn bind_of_a_range(rt: HostRuntime) -> Result<(), Fail> {
     let alloc = rt.alloc();
     let source = boxed(alloc, RANGE_OF_X)?;
-    let scope = scope_of_x(alloc)?;
+    let scope = dtype(alloc, "{x=i32}")?;
     rt.println("called")?;
     let answer = source.bind(alloc, &scope);
     assert!(rt; reads(&*source, RANGE) && reads(&scope, "{x=i32}"));

@@ -2,7 +2,7 @@
 use crate::refusals::answered;
 use std::alloc::Global;
 use std::test::Fail;
-use vx_samples::{fields, i32_type, reads};
+use vx_samples::{dtype, i32_type, reads};
 use vx_tree::Nullability::{NonNullable, Nullable};
 use vx_tree::{
     Column, DType, FieldName, FieldNames, Nullability, PType, Scalar, StructFields, Value,
@@ -44,19 +44,11 @@ fn struct_of_a_scalar(rt: HostRuntime) -> Result<(), Fail> {
     answered(&rt)
 }
 
-/// A struct of one number in a struct.
-fn nested(alloc: Global, inner: Nullability, outer: Nullability) -> VortexResult<DType> {
-    let types = vec![in alloc; i32_type(inner)]?;
-    let inside = DType::Struct(fields(alloc, &["x"], types)?, NonNullable);
-    let types = vec![in alloc; inside]?;
-    Ok(DType::Struct(fields(alloc, &["a"], types)?, outer))
-}
-
 #[test]
 fn union_of_nested_structs(rt: HostRuntime) -> Result<(), Fail> {
     let alloc = rt.alloc();
-    let one = nested(alloc, NonNullable, Nullable)?;
-    let other = nested(alloc, Nullable, NonNullable)?;
+    let one = dtype(alloc, "{a={x=i32}}?")?;
+    let other = dtype(alloc, "{a={x=i32?}}")?;
     rt.println("called")?;
     let answer = one.union(alloc, &other);
     assert!(rt; reads(&one, "{a={x=i32}}?") && reads(&other, "{a={x=i32?}}"));

@@ -1,6 +1,7 @@
 // Containers of nodes.
 use crate::walks::trees::BOTH;
 use std::alloc::Global;
+use std::fmt::Write;
 use std::process::Abort;
 use std::rc::Rc;
 use std::test::Fail;
@@ -32,51 +33,50 @@ fn zero(alloc: Global) -> VortexResult<Expression> {
 }
 
 /// Asserts that the expressions print so, one space apart.
-fn print(
-    rt: &impl Abort,
-    alloc: Global,
-    expressions: &[Expression],
-    wanted: &str,
-) -> Result<(), Fail> {
+fn print(rt: &impl Abort, alloc: Global, expressions: &[Expression], wanted: &str) {
     let mut text = String::new(alloc);
     for expression in expressions {
-        text.push_str(format!(in alloc; "{expression} ")?.as_str())?;
+        let written = write!(text, "{expression} ");
+        assert!(rt; written.is_ok());
     }
     assert_eq!(rt; text.as_str().trim(), wanted);
-    Ok(())
 }
 
 #[test]
-fn a_vector_is_mapped_until_stop(rt: HostRuntime) -> Result<(), Fail> {
+fn elements_are_mapped_in_order_until_stop(rt: HostRuntime) -> Result<(), Fail> {
     let alloc = rt.alloc();
-    let mapped = three(alloc)?.map_elements(alloc, |element: Expression| {
+    let elements = three(alloc)?;
+    let pair = (items(alloc, &["a"])?, items(alloc, &["b"])?);
+    let mapped = elements.map_elements(alloc, |element: Expression| {
         drop(element);
         Ok(Transformed {
             value: zero(alloc)?,
             order: Stop,
             changed: true,
         })
-    })?;
+    });
+    let mapped = mapped.expect(&rt, "a vector");
     assert!(rt; mapped.changed);
     assert!(rt; mapped.order == Stop);
-    print(&rt, alloc, mapped.value.as_slice(), "0i32 $.b $.c")
+    print(&rt, alloc, mapped.value.as_slice(), "0i32 $.b $.c");
+    let kept = pair.map_elements(alloc, |element: Expression| Ok(Transformed::no(element)));
+    let kept = kept.expect(&rt, "a pair");
+    assert!(rt; !kept.changed);
+    print(&rt, alloc, kept.value.0.as_slice(), "$.a");
+    print(&rt, alloc, kept.value.1.as_slice(), "$.b");
+    Ok(())
 }
 
 #[test]
-fn a_pair_keeps_its_order(rt: HostRuntime) -> Result<(), Fail> {
+fn visits_end_at_a_refusal_or_stop(rt: HostRuntime) -> Result<(), Fail> {
     let alloc = rt.alloc();
-    let pair = (items(alloc, &["a"])?, items(alloc, &["b"])?);
-    let mapped = pair.map_elements(alloc, |element: Expression| Ok(Transformed::no(element)))?;
-    assert!(rt; !mapped.changed);
-    print(&rt, alloc, mapped.value.0.as_slice(), "$.a")?;
-    print(&rt, alloc, mapped.value.1.as_slice(), "$.b")
-}
-
-#[test]
-fn a_refusal_ends_the_visits(rt: HostRuntime) -> Result<(), Fail> {
-    let alloc = rt.alloc();
+    let elements = three(alloc)?;
+    let mut pairs = Vec::new(alloc);
+    for _ in 0..2 {
+        pairs.push((boxed(alloc, "a")?, boxed(alloc, "b")?))?;
+    }
     let mut calls = 0u32;
-    let answer = three(alloc)?.apply_elements(|_element: &Expression| {
+    let answer = elements.apply_elements(|_element: &Expression| {
         calls = calls.saturating_add(1);
         if calls == 2 {
             return Err(VortexError::NotBool);
@@ -85,6 +85,13 @@ fn a_refusal_ends_the_visits(rt: HostRuntime) -> Result<(), Fail> {
     });
     assert!(rt; matches!(answer, Err(VortexError::NotBool)));
     assert_eq!(rt; calls, 2);
+    let mut calls = 0u32;
+    let answer = apply_ref_elements(pairs.as_slice(), |_element: &Expression| {
+        calls = calls.saturating_add(1);
+        Ok(if calls == 3 { Stop } else { Skip })
+    });
+    assert!(rt; matches!(answer, Ok(Stop)));
+    assert_eq!(rt; calls, 3);
     Ok(())
 }
 
@@ -111,57 +118,28 @@ fn containers_hold_their_elements(rt: HostRuntime) -> Result<(), Fail> {
     Ok(())
 }
 
-#[test]
-fn slices_hold_the_elements_of_their_containers(rt: HostRuntime) -> Result<(), Fail> {
-    let alloc = rt.alloc();
-    let mut pairs = Vec::new(alloc);
-    for _ in 0..2 {
-        pairs.push((boxed(alloc, "a")?, boxed(alloc, "b")?))?;
-    }
-    let mut calls = 0u32;
-    let answer = apply_ref_elements(pairs.as_slice(), |_element: &Expression| {
-        calls = calls.saturating_add(1);
-        Ok(if calls == 3 { Stop } else { Skip })
-    })?;
-    assert!(rt; answer == Stop);
-    assert_eq!(rt; calls, 3);
-    Ok(())
-}
-
-/// The container with a literal for each element.
-fn zeroed<C: NodeContainer<Expression>>(
-    alloc: Global,
-    container: C,
-) -> VortexResult<Transformed<C>> {
-    container.map_elements(alloc, |element: Expression| {
+/// The container with a literal for each element, each of which is handed back as another.
+fn zeroed<C: NodeContainer<Expression>>(rt: &impl Abort, alloc: Global, container: C) -> C {
+    let mapped = container.map_elements(alloc, |element: Expression| {
         drop(element);
         Ok(Transformed::yes(zero(alloc)?))
-    })
-}
-
-#[test]
-fn an_element_is_mapped_alone(rt: HostRuntime) -> Result<(), Fail> {
-    let alloc = rt.alloc();
-    let one = zeroed(alloc, both(alloc)?)?;
-    assert!(rt; one.changed && reads(&one.value, "0i32"));
-    Ok(())
-}
-
-#[test]
-fn boxed_elements_are_mapped(rt: HostRuntime) -> Result<(), Fail> {
-    let alloc = rt.alloc();
-    let boxed = zeroed(alloc, Box::new(alloc, three(alloc)?)?)?;
-    assert!(rt; boxed.changed);
-    print(&rt, alloc, boxed.value.as_slice(), "0i32 0i32 0i32")
-}
-
-#[test]
-fn a_shared_element_is_mapped_apart(rt: HostRuntime) -> Result<(), Fail> {
-    let alloc = rt.alloc();
-    let shared = Rc::new(alloc, both(alloc)?)?;
-    let mapped = zeroed(alloc, shared.clone()?)?;
+    });
+    let mapped = mapped.expect(rt, "a container");
     assert!(rt; mapped.changed);
-    assert!(rt; reads(&*mapped.value, "0i32"));
+    mapped.value
+}
+
+#[test]
+fn elements_are_mapped_alone_boxed_and_shared(rt: HostRuntime) -> Result<(), Fail> {
+    let alloc = rt.alloc();
+    let one = boxed(alloc, BOTH)?;
+    let boxed = Box::new(alloc, three(alloc)?)?;
+    let shared = Rc::new(alloc, both(alloc)?)?;
+    assert!(rt; reads(&zeroed(&rt, alloc, Box::into_inner(one)), "0i32"));
+    let boxed = zeroed(&rt, alloc, boxed);
+    print(&rt, alloc, boxed.as_slice(), "0i32 0i32 0i32");
+    let apart = zeroed(&rt, alloc, shared.clone().expect(&rt, "memory"));
+    assert!(rt; reads(&*apart, "0i32"));
     assert!(rt; reads(&*shared, "($.a and $.b)"));
     Ok(())
 }

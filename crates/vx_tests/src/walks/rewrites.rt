@@ -11,8 +11,8 @@ use std::marker::PhantomData;
 use std::process::Abort;
 use std::test::Fail;
 use vx_build::{lit, root};
-use vx_samples::{boxed, prints, refused};
-use vx_tree::{BoundExpression, Expression, GetItem, Scalar, VortexResult};
+use vx_samples::{boxed, reads};
+use vx_tree::{BoundExpression, Expression, GetItem, Scalar, VortexError, VortexResult};
 use vx_walk::TraversalOrder::{Continue, Stop};
 use vx_walk::{Node, NodeExt, NodeRewriter, Transformed, TraversalOrder};
 
@@ -38,12 +38,23 @@ pub fn numbered(alloc: Global, tree: Expression) -> VortexResult<Transformed<Exp
 fn fields_are_numbered(rt: HostRuntime) -> Result<(), Fail> {
     let alloc = rt.alloc();
     let tree = boxed(alloc, "col1 col2 = 2 and")?;
-    let rewritten = numbered(alloc, Box::into_inner(tree))?;
+    let rewritten = numbered(alloc, Box::into_inner(tree)).expect(&rt, "a tree");
     assert!(rt; rewritten.changed);
     assert!(rt; rewritten.order == Continue);
-    prints(rewritten.into_inner(), "((0i32 = 1i32) and 2i32)")?;
-    let unchanged = numbered(alloc, root())?;
+    assert!(rt; reads(&rewritten.into_inner(), "((0i32 = 1i32) and 2i32)"));
+    let unchanged = numbered(alloc, root()).expect(&rt, "a tree");
     assert!(rt; !unchanged.changed);
+    Ok(())
+}
+
+#[test]
+fn a_deep_tree_is_rewritten(rt: HostRuntime) -> Result<(), Fail> {
+    let alloc = rt.alloc();
+    let wanted = deep(alloc)?;
+    let tree = deep(alloc)?;
+    let rewritten = numbered(alloc, Box::into_inner(tree)).expect(&rt, "a tree");
+    assert!(rt; rewritten.changed);
+    assert!(rt; rewritten.value != *wanted);
     Ok(())
 }
 
@@ -76,10 +87,12 @@ impl NodeRewriter for Rooted {
 #[test]
 fn the_way_up_comes_after_skip(rt: HostRuntime) -> Result<(), Fail> {
     let alloc = rt.alloc();
-    let tree = Box::into_inner(boxed(alloc, "x")?);
-    let rewritten = tree.rewrite(alloc, &mut Rooted)?;
+    let tree = boxed(alloc, "x")?;
+    let rewritten = Box::into_inner(tree).rewrite(alloc, &mut Rooted);
+    let rewritten = rewritten.expect(&rt, "a tree");
     assert!(rt; rewritten.changed);
-    prints(rewritten.value, "$")
+    assert!(rt; reads(&rewritten.value, "$"));
+    Ok(())
 }
 
 /// Hands every node back as it is.
@@ -108,16 +121,11 @@ impl<N: Node> NodeRewriter for Same<N> {
 
 /// Asserts that a rewrite that hands every node back as it is gives the tree that is wanted, which is
 /// the same.
-fn is_handed_back<N: Node + PartialEq>(
-    rt: &impl Abort,
-    alloc: Global,
-    tree: Box<N>,
-    wanted: &N,
-) -> Result<(), Fail> {
-    let same = Box::into_inner(tree).rewrite(alloc, &mut Same { of: PhantomData })?;
+fn is_handed_back<N: Node + PartialEq>(rt: &impl Abort, alloc: Global, tree: Box<N>, wanted: &N) {
+    let same = Box::into_inner(tree).rewrite(alloc, &mut Same { of: PhantomData });
+    let same = same.expect(rt, "a tree");
     assert!(rt; !same.changed);
     assert!(rt; same.value == *wanted);
-    Ok(())
 }
 
 /// `($.col1 = $.col2)`, bound
@@ -129,72 +137,51 @@ fn bound_equality(alloc: Global) -> Result<Box<BoundExpression>, Fail> {
 fn a_rewrite_may_change_nothing(rt: HostRuntime) -> Result<(), Fail> {
     let alloc = rt.alloc();
     let wanted = boxed(alloc, COMPARISONS)?;
-    is_handed_back(&rt, alloc, boxed(alloc, COMPARISONS)?, &*wanted)?;
+    is_handed_back(&rt, alloc, boxed(alloc, COMPARISONS)?, &*wanted);
     let wanted = bound_equality(alloc)?;
-    is_handed_back(&rt, alloc, bound_equality(alloc)?, &*wanted)
-}
-
-#[test]
-fn a_deep_tree_is_handed_back(rt: HostRuntime) -> Result<(), Fail> {
-    let alloc = rt.alloc();
+    is_handed_back(&rt, alloc, bound_equality(alloc)?, &*wanted);
     let wanted = deep(alloc)?;
-    is_handed_back(&rt, alloc, deep(alloc)?, &*wanted)
-}
-
-#[test]
-fn a_deep_tree_is_rewritten(rt: HostRuntime) -> Result<(), Fail> {
-    let alloc = rt.alloc();
-    let wanted = deep(alloc)?;
-    let rewritten = numbered(alloc, Box::into_inner(deep(alloc)?))?;
-    assert!(rt; rewritten.changed);
-    assert!(rt; rewritten.value != *wanted);
+    is_handed_back(&rt, alloc, deep(alloc)?, &*wanted);
     Ok(())
 }
 
 #[test]
-fn children_are_mapped_until_stop(rt: HostRuntime) -> Result<(), Fail> {
+fn children_are_mapped_until_stop_or_kept(rt: HostRuntime) -> Result<(), Fail> {
     let alloc = rt.alloc();
-    let both = Box::into_inner(boxed(alloc, BOTH)?);
-    let mapped = both.map_children(alloc, |_child| {
+    let first = boxed(alloc, BOTH)?;
+    let second = boxed(alloc, BOTH)?;
+    let mapped = Box::into_inner(first).map_children(alloc, |_child| {
         Ok(Transformed {
             value: root(),
             order: Stop,
             changed: true,
         })
-    })?;
+    });
+    let mapped = mapped.expect(&rt, "a tree");
     assert!(rt; mapped.changed);
     assert!(rt; mapped.order == Stop);
-    prints(mapped.value, "($ and $.b)")
-}
-
-#[test]
-fn children_may_be_kept(rt: HostRuntime) -> Result<(), Fail> {
-    let alloc = rt.alloc();
-    let both = Box::into_inner(boxed(alloc, BOTH)?);
-    let kept = both.map_children(alloc, |child| Ok(Transformed::no(child)))?;
+    assert!(rt; reads(&mapped.value, "($ and $.b)"));
+    let kept = Box::into_inner(second).map_children(alloc, |child| Ok(Transformed::no(child)));
+    let kept = kept.expect(&rt, "a tree");
     assert!(rt; !kept.changed);
-    prints(kept.value, "($.a and $.b)")
+    assert!(rt; reads(&kept.value, "($.a and $.b)"));
+    Ok(())
 }
 
 #[test]
-fn a_bound_node_is_typed_anew(rt: HostRuntime) -> Result<(), Fail> {
+fn a_bound_node_is_typed_anew_or_refused(rt: HostRuntime) -> Result<(), Fail> {
     let alloc = rt.alloc();
     let other = over_harness(alloc, "bool1")?;
-    let equality = Box::into_inner(bound_equality(alloc)?);
-    let mapped = equality.map_children(alloc, |child| {
+    let equality = bound_equality(alloc)?;
+    let differing = bound_equality(alloc)?;
+    let mapped = Box::into_inner(equality).map_children(alloc, |child| {
         drop(child);
         Ok(Transformed::yes((*other).clone()?))
-    })?;
-    prints(mapped.value, "($.bool1 = $.bool1)")
-}
-
-#[test]
-fn a_bound_node_of_other_types_is_refused(rt: HostRuntime) -> Result<(), Fail> {
-    let alloc = rt.alloc();
-    let other = over_harness(alloc, "bool1")?;
+    });
+    let mapped = mapped.expect(&rt, "a tree");
+    assert!(rt; reads(&mapped.value, "($.bool1 = $.bool1)"));
     let mut first = true;
-    let equality = Box::into_inner(bound_equality(alloc)?);
-    let mapped = equality.map_children(alloc, |child| {
+    let refused = Box::into_inner(differing).map_children(alloc, |child| {
         if first {
             first = false;
             drop(child);
@@ -202,21 +189,34 @@ fn a_bound_node_of_other_types_is_refused(rt: HostRuntime) -> Result<(), Fail> {
         }
         Ok(Transformed::no(child))
     });
-    refused(mapped, "types differ in more than nullability")
+    assert!(rt; matches!(&refused, Err(VortexError::BaseTypesDiffer)));
+    Ok(())
+}
+
+/// Asserts that a node of two children isn't made anew without children.
+fn keeps_its_children<N: Node + Drop>(rt: &impl Abort, alloc: Global, node: Box<N>) {
+    let answer = Node::with_children(Box::into_inner(node), alloc, Vec::new(alloc));
+    assert!(rt;
+        matches!(
+            &answer,
+            Err(VortexError::ArityMismatch {
+                expected: 2,
+                got: 0
+            })
+        )
+    );
 }
 
 #[test]
 fn a_node_is_rebuilt_by_its_trait(rt: HostRuntime) -> Result<(), Fail> {
     let alloc = rt.alloc();
-    let both = Box::into_inner(boxed(alloc, BOTH)?);
-    let text = "2 children are needed, and 0 given";
-    refused(Node::with_children(both, alloc, Vec::new(alloc)), text)?;
-    let equality = Box::into_inner(bound_equality(alloc)?);
-    refused(Node::with_children(equality, alloc, Vec::new(alloc)), text)
+    keeps_its_children(&rt, alloc, boxed(alloc, BOTH)?);
+    keeps_its_children(&rt, alloc, bound_equality(alloc)?);
+    Ok(())
 }
 
 #[test]
-fn what_is_handed_back_is_seen(rt: HostRuntime) -> Result<(), Fail> {
+fn what_is_handed_back_is_seen_and_mapped(rt: HostRuntime) {
     let yes = Transformed::yes(4u8);
     assert!(rt; yes.changed);
     assert!(rt; yes.order == Continue);
@@ -224,7 +224,15 @@ fn what_is_handed_back_is_seen(rt: HostRuntime) -> Result<(), Fail> {
     assert!(rt; !no.changed);
     let half = no.map(|value| value / 2);
     assert_eq!(rt; half.value, 2);
-    assert!(rt; !half.clone()?.changed);
+    assert!(rt; !half.clone().expect(&rt, "memory").changed);
     assert_eq!(rt; half.into_inner(), 2);
-    Ok(())
+    let stopped = Transformed {
+        value: 4u8,
+        order: Stop,
+        changed: true,
+    };
+    let above = stopped.map(|value| value > 3);
+    assert!(rt; above.value);
+    assert!(rt; above.changed);
+    assert!(rt; above.order == Stop);
 }

@@ -34,10 +34,10 @@ pub fn deep(alloc: Global) -> Result<Box<Expression>, Fail> {
     for _ in 0..1000 {
         words.push_str(" not")?;
     }
-    boxed(alloc, words.as_str())
+    Ok(boxed(alloc, words.as_str())?)
 }
 
 /// The tree of the words, bound to the type of the harness.
 pub fn over_harness(alloc: Global, words: &str) -> Result<Box<BoundExpression>, Fail> {
-    bound(alloc, words, &struct_dtype(alloc)?)
+    Ok(bound(alloc, words, &struct_dtype(alloc)?)?)
 }

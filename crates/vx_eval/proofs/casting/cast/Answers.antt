@@ -11,6 +11,6 @@ pub returns-in-Some : goal.returns-in-Some
 returns-in-Some c = λ ts.
     refused (cast (type_of c.args.target.now)) ts c.args.count (rows_view c.args.input ∷ []) (CastNull c.in-Some.row) (ap (option_map CastNull) (sym c.first_misfit.ensures ∙ c.in-Some.is))
 
-pub returns : goal.returns
-returns c = λ ts.
+pub returns-in-None : goal.returns-in-None
+returns-in-None c = λ ts.
     given (cast (type_of c.args.target.now)) ts c.args.count (rows_view c.args.input ∷ []) (rows_view c.args.input) (ap (option_map CastNull) (sym c.first_misfit.ensures ∙ c.in-None.is)) (sym (all_rows _ _ c.requires))

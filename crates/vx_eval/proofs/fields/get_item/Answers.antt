@@ -27,7 +27,7 @@ returns-in-Lent c =
 pub returns-in_default : goal.returns-in_default
 returns-in_default c =
     evaluated (get_item c.args.name.now) (type_of c.args.dtype.now ∷ []) c.args.count (rows_view c.args.input ∷ []) _ refl
-    (c.tabulated.ensures.rows _ (λ i v lt p.
+    (c.tabulated-items.ensures.rows _ (λ i v lt p.
     let item : value_of v ≡ item_at c.place_of-place.result (get_or (rows_view c.in_default.lent) i null) = search rules in
     item ∙ ap (λ r. item_at c.place_of-place.result (get_or (rows_view r) i null)) (sym c.in_default.lent-is) ∙ sym (c.place_of-place.ensures (get_or (rows_view c.args.input) i null))))
-    c.tabulated.ensures.memory
+    c.tabulated-items.ensures.memory

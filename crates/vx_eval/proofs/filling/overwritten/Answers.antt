@@ -6,7 +6,7 @@ use Rattle.vx_eval.proofs.filling.overwritten.Goals as goal
 pub loop-i-preserved : goal.loop-i-preserved
 loop-i-preserved g c = record {
   long = grind (arith, common_steps);
-  written = λ h by. overwritten_more h _ _ _ _ _ _ (c.loop-i.invariant.written h by) (omega arith) (cc (c.replace-row.ensures.value, c.index_mut.ensures.value)) (by _ _ _ (omega arith) c.in_ok-values.ensures);
+  written = λ h by. overwritten_more h _ _ _ c.replace-row.result _ _ (c.loop-i.invariant.written h by) (omega arith) (cc (c.replace-row.ensures.value, c.index_mut.ensures.value)) (by _ _ _ (omega arith) (rw c.replace.ensures.after c.in_ok-made.ensures));
 }
 
 pub returns-clause-rows : goal.returns-clause-rows

@@ -20,12 +20,12 @@ from_shared-requires c =
     let h = height c.args.conditions.now in
     let last = last_rows c.args.otherwise (λ c. c.now.rows) (IsTrue (is_nullable t)) (λ rows. (length rows ≡ h) × IsBatch t rows) c.requires.last in
     let counted = count_is _ _ _ c.requires.some c.index-conditions-0.is c.len-count.ensures in
-    let rows = chosen_rows c.len-count.result h (rows_in c.args.conditions.now) (rows_in c.args.values.now) _ _ _ c.in_ok-columns.ensures counted (as_many _ _ c.requires.pairs) c.in_ok-rows.ensures.rows in
-    made_fits t _ _ _ c.in_ok-dtype.ensures.cases c.in_ok-into_shared.ensures (chosen_fit t h _ _ _ _ rows c.requires.choices c.requires.fit last)
+    let rows = chosen_rows c.len-count.result h (rows_in c.args.conditions.now) (rows_in c.args.values.now) _ _ _ c.in_ok-columns.ensures counted (as_many _ _ c.requires.pairs) c.in_ok-first_true.ensures.rows in
+    made_fits t _ _ _ c.in_ok-dtype.ensures.cases c.in_ok-rows.ensures (chosen_fit t h _ _ _ _ rows c.requires.choices c.requires.fit last)
 
 pub returns : goal.returns
 returns c =
     let h = height c.args.conditions.now in
     let counted = count_is _ _ _ c.requires.some c.index-conditions-0.is c.len-count.ensures in
-    let rows = chosen_rows c.len-count.result h (rows_in c.args.conditions.now) (rows_in c.args.values.now) _ _ _ c.in_ok-columns.ensures counted (as_many _ _ c.requires.pairs) c.in_ok-rows.ensures.rows in
-    ap Ok (column_of (type_of c.args.dtype.now) _ _ _ _ _ rows c.in_ok-into_shared.ensures c.in_ok-dtype.ensures.cases c.from_shared.ensures)
+    let rows = chosen_rows c.len-count.result h (rows_in c.args.conditions.now) (rows_in c.args.values.now) _ _ _ c.in_ok-columns.ensures counted (as_many _ _ c.requires.pairs) c.in_ok-first_true.ensures.rows in
+    ap Ok (column_of (type_of c.args.dtype.now) _ _ _ _ _ rows c.in_ok-rows.ensures c.in_ok-dtype.ensures.cases c.from_shared.ensures)

@@ -28,16 +28,16 @@ pub returns-in-Pack : goal.returns-in-Pack
 returns-in-Pack c = at_node _ _ _ _ _ _ _ _ (ap function_of c.in-Pack.is) refl refl (c.pack.ensures c.in-Pack.field-0.names (admits_null c.in-Pack.field-0.nullability) (node_types (bounds_of c.args.children.now)))
 
 pub returns-in-FillNull : goal.returns-in-FillNull
-returns-in-FillNull c = at_node _ _ _ _ _ _ _ _ (ap function_of c.in-FillNull.is) c.first_type.ensures.1 (ap rows_views c.two-input.ensures) (c.fill_null.ensures c.first_type.ensures.0)
+returns-in-FillNull c = at_node _ _ _ _ _ _ _ _ (ap function_of c.in-FillNull.is) c.first_type.ensures.1 (ap rows_views c.two-input.ensures) (c.fill_null-filled.ensures c.first_type.ensures.0)
 
 pub returns-in-Zip : goal.returns-in-Zip
 returns-in-Zip c = at_node _ _ _ _ _ _ _ _ (ap function_of c.in-Zip.is) refl (ap rows_views c.three-if_true.ensures) (c.zip.ensures (node_types (bounds_of c.args.children.now)))
 
 pub returns-in-Binary : goal.returns-in-Binary
-returns-in-Binary c = at_node _ _ _ _ _ _ _ _ (ap function_of c.in-Binary.is) c.first_type-in-Binary.ensures.1 (ap rows_views (sym c.as_slice.ensures.value ∙ c.pair.ensures)) (c.binary.ensures c.first_type-in-Binary.ensures.0)
+returns-in-Binary c = at_node _ _ _ _ _ _ _ _ (ap function_of c.in-Binary.is) c.first_type-in-Binary.ensures.1 (ap rows_views (sym c.as_slice-in-Binary.ensures.value ∙ c.pair.ensures)) (c.binary.ensures c.first_type-in-Binary.ensures.0)
 
 pub returns-in-Not : goal.returns-in-Not
-returns-in-Not c = at_node _ _ _ _ _ _ _ _ (ap function_of c.in-Not.is) refl (ap rows_views (sym c.as_slice-in-Not.ensures.value ∙ c.single.ensures)) (c.not.ensures (node_types (bounds_of c.args.children.now)))
+returns-in-Not c = at_node _ _ _ _ _ _ _ _ (ap function_of c.in-Not.is) refl (ap rows_views (sym c.as_slice-in-Not.ensures.value ∙ c.single-in-Not.ensures)) (c.not.ensures (node_types (bounds_of c.args.children.now)))
 
 pub returns-in-Between : goal.returns-in-Between
 returns-in-Between c = at_node _ _ _ _ _ _ _ _ (ap function_of c.in-Between.is) refl (ap rows_views (sym c.as_slice-in-Between.ensures.value ∙ c.triple.ensures)) (c.between.ensures (node_types (bounds_of c.args.children.now)))

@@ -24,7 +24,7 @@ returns-in-Owned c = λ ts.
 pub returns-in_default : goal.returns-in_default
 returns-in_default c = λ ts.
     evaluated fill_null (type_of c.args.dtype.now ∷ ts) c.args.count (rows_view c.args.input ∷ rows_view c.args.fill.now ∷ []) _ (fill_quiet (type_of c.args.dtype.now ∷ ts) c.args.count (rows_view c.args.input) (rows_view c.args.fill.now) c.requires.fill (sym (c.if-is_bad_fill.ensures ts)))
-    (c.tabulated.ensures.rows _ (λ i v lt p.
+    (c.tabulated-filled.ensures.rows _ (λ i v lt p.
     let filled : value_of v ≡ (if is_null_datum (get_or (rows_view c.in_default.lent) i null) then get_or (rows_view c.args.fill.now) i null else get_or (rows_view c.in_default.lent) i null) = search rules in
     filled ∙ ap (λ r. if is_null_datum (get_or (rows_view r) i null) then get_or (rows_view c.args.fill.now) i null else get_or (rows_view r) i null) (sym c.in_default.lent-is)))
-    c.tabulated.ensures.memory
+    c.tabulated-filled.ensures.memory

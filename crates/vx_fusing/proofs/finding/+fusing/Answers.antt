@@ -8,7 +8,7 @@ use Rattle.vx_fusing.specs.Finding.{EachFusedOf}
 use Rattle.vx_fusing.proofs.Children.{IsFusedBelow, over_fused, then_fused, children_typed, children_fused, fused_children, children_smaller, bounds_of-append, bounds_of-take_more, all_fused, last_fused, front_fused, each_joined, itself_fused, each_itself, take_fused, item_fused, item_typed, item_smaller}
 use Rattle.vx_fusing.proofs.Refusals.{failed, spent}
 use Rattle.vx_fusing.proofs.finding.+fusing.Goals as goal
-use Rattle.vx_fusing.proofs.finding.+fusing.Goals.{fused_children-in-Some-Some+in_ok-pushed-in-Some-Some, fused_children-in-Some-None+in_ok-copies-in-Some-None+in_ok-pushed-in-Some-None, fused_children-in-None-Some+in_ok-clone-in-None-Some+in_ok-pushed-in-None-Some, fused_children-in-None-None}
+use Rattle.vx_fusing.proofs.finding.+fusing.Goals.{fused_children-in-Some-Some+in_ok-pushed-in-Some-Some, fused_children-in-Some-None+in_ok-copies_and-in-Some-None, fused_children-in-None-Some+in_ok-clone-in-None-Some+in_ok-pushed-in-None-Some, fused_children-in-None-None}
 
 pub fused-fused_children-requires : goal.fused-fused_children-requires
 fused-fused_children-requires t c =
@@ -74,16 +74,10 @@ fused_children-returns-in_err-pushed-in-Some-Some t c =
     let same : c.from_residual-in_err-pushed-in-Some-Some.result ≡ Err OutOfMemory = search rules in
     spent _ _ same (λ f. p.0 (item_fused c.args.children.now c.loop-i.i c.index-children-i.result (omega arith) c.index-children-i.is f))
 
-pub fused_children-returns-in_err-copies-in-Some-None : goal.fused_children-returns-in_err-copies-in-Some-None
-fused_children-returns-in_err-copies-in-Some-None t c =
+pub fused_children-returns-in_err-copies_and-in-Some-None : goal.fused_children-returns-in_err-copies_and-in-Some-None
+fused_children-returns-in_err-copies_and-in-Some-None t c =
     let p = rw c.in-Some-None.is-0 at c.in_ok-changed.ensures in
-    let same : c.from_residual-in_err-copies-in-Some-None.result ≡ Err OutOfMemory = search rules in
-    spent _ _ same (λ f. p.0 (item_fused c.args.children.now c.loop-i.i c.index-children-i.result (omega arith) c.index-children-i.is f))
-
-pub fused_children-returns-in_err-pushed-in-Some-None : goal.fused_children-returns-in_err-pushed-in-Some-None
-fused_children-returns-in_err-pushed-in-Some-None t c =
-    let p = rw c.in-Some-None.is-0 at c.in_ok-changed.ensures in
-    let same : c.from_residual-in_err-pushed-in-Some-None.result ≡ Err OutOfMemory = search rules in
+    let same : c.from_residual-in_err-copies_and-in-Some-None.result ≡ Err OutOfMemory = search rules in
     spent _ _ same (λ f. p.0 (item_fused c.args.children.now c.loop-i.i c.index-children-i.result (omega arith) c.index-children-i.is f))
 
 pub fused_children-returns-in_err-clone-in-None-Some : goal.fused_children-returns-in_err-clone-in-None-Some
@@ -109,10 +103,10 @@ fused_children-loop-i-preserved t c =
           let done = rw w.in-Some-Some.is-1 at c.loop-i.invariant in
           rw (w.updated-is, more, w.in_ok-pushed-in-Some-Some.ensures.items, bounds_of-append w.in-Some-Some.before.items (w.in-Some-Some.changed ∷ []))
           (λ f. done.0 (front_fused so_far (bound_of child) f), each_joined done.1 answer.1)
-      | fused_children-in-Some-None+in_ok-copies-in-Some-None+in_ok-pushed-in-Some-None w ↦
+      | fused_children-in-Some-None+in_ok-copies_and-in-Some-None w ↦
           let answer = rw w.in-Some-None.is-0 at c.in_ok-changed.ensures in
           let done = rw w.in-Some-None.is-1 at c.loop-i.invariant in
-          rw (w.updated-is, more, w.in_ok-pushed-in-Some-None.ensures.items, bounds_of-append w.in_ok-copies-in-Some-None.field-0.items (w.in-Some-None.changed ∷ []), w.in_ok-copies-in-Some-None.ensures)
+          rw (w.updated-is, more, w.in_ok-copies_and-in-Some-None.ensures.trees, bounds_of-append (take c.loop-i.i c.args.children.now) (w.in-Some-None.changed ∷ []))
           (λ f. answer.0 (last_fused so_far (bound_of child) f), each_joined (each_itself so_far done) answer.1)
       | fused_children-in-None-Some+in_ok-clone-in-None-Some+in_ok-pushed-in-None-Some w ↦
           let answer = rw w.in-None-Some.is-0 at c.in_ok-changed.ensures in

@@ -4,4 +4,4 @@ use Rattle.vx_partition.proofs.pack.pack_groups.Given as goal
 
 abbrev pub invariant-loop-annotation : goal.invariant-loop-annotation
 invariant-loop-annotation g l =
-    PackedSo g.A.PartitionKey.text (groups_in l.fn.groups) l.annotations.items l.names.items l.partitions.items l.annotation-iterator
+    PackedSo g.A.PartitionKey.text (groups_in l.fn.groups) l.packed.annotations.items l.packed.names.items l.packed.partitions.items l.annotation-iterator

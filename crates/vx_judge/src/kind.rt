@@ -1,0 +1,191 @@
+// What a line of a table asks.
+
+/// The kind of a line: what its answer is of.
+#[derive(Clone, Copy)]
+pub enum Kind {
+    OfSource(SourceKind),
+    OfBound(BoundKind),
+    OfTwo(PairKind),
+    OfWords(WordsKind),
+}
+
+/// Kinds of lines that ask of a source.
+#[derive(Clone, Copy)]
+pub enum SourceKind {
+    Text,
+    TextLength,
+    TreeText,
+    Type,
+    Built,
+    BuiltBound,
+    Depth,
+    AnyQuery,
+}
+
+/// Kinds of lines that ask of a source that is bound to the scope.
+#[derive(Clone, Copy)]
+pub enum BoundKind {
+    Source,
+    Rows,
+    Validity,
+    ValidityRows,
+    Optimized,
+    OptimizedRows,
+    OptimizedOrNone,
+    OptimizedAtRoot,
+    Fused,
+    FusedRows,
+    Paths,
+    OptimizedPaths,
+    Size,
+    Sizes,
+    Heights,
+    Fields,
+    OwnFields,
+    Annotations,
+    Covers,
+    Split,
+    SplitRows,
+    Replaced,
+    ReplacedRows,
+}
+
+/// Kinds of lines that ask of a tree by something else.
+#[derive(Clone, Copy)]
+pub enum PairKind {
+    Passes,
+    Query,
+    QueryType,
+    Partition,
+    ReplacedBy,
+    Equal,
+    FusedAs,
+}
+
+/// Kinds of lines that ask of no tree.
+#[derive(Clone, Copy)]
+pub enum WordsKind {
+    Like,
+    Error,
+    Function,
+    ChildNames,
+    NodeType,
+    Kept,
+    Swapped,
+    TypeText,
+    Union,
+    Scalar,
+    Column,
+    Joined,
+    PathSet,
+    FirstMatch,
+    ByChance,
+    PeeledText,
+}
+
+impl Kind {
+    /// The kind of that name.
+    pub fn named(name: &str) -> Option<Kind> {
+        of_source(name)
+            .map(Kind::OfSource)
+            .or_else(|| of_bound(name).map(Kind::OfBound))
+            .or_else(|| of_two(name).map(Kind::OfTwo))
+            .or_else(|| of_words(name).map(Kind::OfWords))
+    }
+
+    /// How many columns it has before the answer that is wanted.
+    pub fn columns(self) -> usize {
+        match self {
+            Kind::OfSource(_) | Kind::OfBound(_) => 1,
+            Kind::OfTwo(_) => 2,
+            Kind::OfWords(kind) => match kind {
+                WordsKind::Like
+                | WordsKind::NodeType
+                | WordsKind::Kept
+                | WordsKind::Union
+                | WordsKind::Column => 2,
+                WordsKind::Joined => 3,
+                WordsKind::FirstMatch | WordsKind::PeeledText => 4,
+                _ => 1,
+            },
+        }
+    }
+}
+
+fn of_source(name: &str) -> Option<SourceKind> {
+    Some(match name {
+        "text" => SourceKind::Text,
+        "text length" => SourceKind::TextLength,
+        "tree text" => SourceKind::TreeText,
+        "type" => SourceKind::Type,
+        "built" => SourceKind::Built,
+        "built bound" => SourceKind::BuiltBound,
+        "depth" => SourceKind::Depth,
+        "any query" => SourceKind::AnyQuery,
+        _ => return None,
+    })
+}
+
+fn of_bound(name: &str) -> Option<BoundKind> {
+    Some(match name {
+        "source" => BoundKind::Source,
+        "rows" => BoundKind::Rows,
+        "validity" => BoundKind::Validity,
+        "validity rows" => BoundKind::ValidityRows,
+        "optimized" => BoundKind::Optimized,
+        "optimized rows" => BoundKind::OptimizedRows,
+        "optimized or none" => BoundKind::OptimizedOrNone,
+        "optimized at root" => BoundKind::OptimizedAtRoot,
+        "fused" => BoundKind::Fused,
+        "fused rows" => BoundKind::FusedRows,
+        "paths" => BoundKind::Paths,
+        "optimized paths" => BoundKind::OptimizedPaths,
+        "size" => BoundKind::Size,
+        "sizes" => BoundKind::Sizes,
+        "heights" => BoundKind::Heights,
+        "fields" => BoundKind::Fields,
+        "own fields" => BoundKind::OwnFields,
+        "annotations" => BoundKind::Annotations,
+        "covers" => BoundKind::Covers,
+        "split" => BoundKind::Split,
+        "split rows" => BoundKind::SplitRows,
+        "replaced" => BoundKind::Replaced,
+        "replaced rows" => BoundKind::ReplacedRows,
+        _ => return None,
+    })
+}
+
+fn of_two(name: &str) -> Option<PairKind> {
+    Some(match name {
+        "passes" => PairKind::Passes,
+        "query" => PairKind::Query,
+        "query type" => PairKind::QueryType,
+        "partition" => PairKind::Partition,
+        "replaced by" => PairKind::ReplacedBy,
+        "equal" => PairKind::Equal,
+        "fused as" => PairKind::FusedAs,
+        _ => return None,
+    })
+}
+
+fn of_words(name: &str) -> Option<WordsKind> {
+    Some(match name {
+        "like" => WordsKind::Like,
+        "error" => WordsKind::Error,
+        "function" => WordsKind::Function,
+        "child names" => WordsKind::ChildNames,
+        "node type" => WordsKind::NodeType,
+        "kept" => WordsKind::Kept,
+        "swapped" => WordsKind::Swapped,
+        "type text" => WordsKind::TypeText,
+        "union" => WordsKind::Union,
+        "scalar" => WordsKind::Scalar,
+        "column" => WordsKind::Column,
+        "joined" => WordsKind::Joined,
+        "path set" => WordsKind::PathSet,
+        "first match" => WordsKind::FirstMatch,
+        "by chance" => WordsKind::ByChance,
+        "peeled text" => WordsKind::PeeledText,
+        _ => return None,
+    })
+}

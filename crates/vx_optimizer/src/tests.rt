@@ -1,3 +1,0 @@
-// The optimizer with a small set of rules.
-mod constant_folding;
-mod optimized;

@@ -1,0 +1,86 @@
+// Trees split by keys that all have one field name.
+ghost use Rattle.std.specs.Prelude.{◌≡◌, Some, codes, refl};
+ghost use Rattle.vx_partition.specs.Keys.{same_bytes};
+
+use std::alloc::Global;
+use std::fmt;
+use std::fmt::{Display, Formatter, Write};
+use std::test::Fail;
+use vx_rewrite::{
+    Annotation, PartitionKey, direct_bound_annotations, partition_bound,
+    partition_bound_annotations,
+};
+use vx_samples::{bound, i32_type, reads};
+use vx_tree::Nullability::NonNullable;
+use vx_tree::{BoundExpression, FieldName, ScalarFnRef, VortexError, VortexResult};
+
+/// A key with a text of its own, and the field name that all keys have.
+#[derive(Clone, Debug, PartialEq, Eq, Hash, Drop)]
+struct Key(FieldName);
+
+impl Display for Key {
+    ghost output = { λ key. Some key.0 };
+
+    fn fmt<W: Write>(&self, f: &mut Formatter<W>) -> fmt::Result {
+        self.0.fmt(f)
+    }
+}
+
+impl Annotation for Key {
+    fn copy(&self, _alloc: Global) -> VortexResult<Key> {
+        Ok(Key(self.0.clone()?))
+    }
+}
+
+impl PartitionKey for Key {
+    ghost text = { λ key. key.0 };
+
+    ghost name = { λ key. codes "p" };
+
+    ghost shows = { λ key. refl };
+
+    ghost same_text = { λ a b e. same_bytes a.0 b.0 e };
+
+    ghost same_name = { λ a b e. refl };
+
+    fn field_name(&self, alloc: Global) -> VortexResult<FieldName> {
+        FieldName::new(alloc, "p")
+    }
+}
+
+/// The text of the literal, nothing for another node.
+fn key_of(alloc: Global, e: &BoundExpression) -> VortexResult<Vec<Key>> {
+    let mut keys = Vec::new(alloc);
+    if let Some(ScalarFnRef::Literal(_)) = e.as_scalar() {
+        let text = format!(in alloc; "{e}")?;
+        keys.push(Key(FieldName::new(alloc, text.as_str())?))?;
+    }
+    Ok(keys)
+}
+
+/// The words over numbers, which they don't read.
+fn tree(alloc: Global, words: &str) -> Result<Box<BoundExpression>, Fail> {
+    Ok(bound(alloc, words, &i32_type(NonNullable))?)
+}
+
+#[test]
+fn equal_pieces_are_two(rt: HostRuntime) -> Result<(), Fail> {
+    let alloc = rt.alloc();
+    let e = tree(alloc, "true true and")?;
+    let keys = |node: &BoundExpression| key_of(alloc, node);
+    let annotations = direct_bound_annotations(alloc, &*e, keys).expect(&rt, "memory");
+    let split = partition_bound_annotations(alloc, Box::into_inner(e), annotations);
+    let text = "root: ($.p.true_0 and $.p.true_1) {p: pack(true_0: true, true_1: true)}";
+    assert!(rt; matches!(&split, Ok(whole) if reads(whole, text)));
+    Ok(())
+}
+
+#[test]
+fn a_name_is_taken_once(rt: HostRuntime) -> Result<(), Fail> {
+    let alloc = rt.alloc();
+    let e = tree(alloc, "true false and")?;
+    let keys = |node: &BoundExpression| key_of(alloc, node);
+    let split = partition_bound(alloc, Box::into_inner(e), keys);
+    assert!(rt; matches!(&split, Err(VortexError::PartitionNameTaken(p)) if p.as_str() == "p"));
+    Ok(())
+}

@@ -1,0 +1,19 @@
+// A worked tree and its scope.
+use std::alloc::Global;
+use std::test::Fail;
+use vx_samples::{Unread, bound, dtype};
+use vx_tree::{BoundExpression, DType};
+
+/// Two conditions, of a field each.
+pub const CONDITIONS: &str = "a.x 1 >= b 5 < and";
+
+pub const SCOPE: &str = "{a={x=i32,y=i32},b=i32,c=i32}";
+
+pub fn scope(alloc: Global) -> Result<DType, Unread> {
+    dtype(alloc, SCOPE)
+}
+
+/// The words over that scope.
+pub fn tree(alloc: Global, words: &str) -> Result<Box<BoundExpression>, Fail> {
+    Ok(bound(alloc, words, &scope(alloc)?)?)
+}

@@ -1,0 +1,36 @@
+// Runs the tables of `data/`: `vx_rows NAME.table ..`.
+//
+// The lines of a table whose name begins with `wrong-` are wrong on purpose, and have to be told;
+// those of one that begins with `unread-` can't be read.
+#![tactic(auto)]
+
+use anyhow::{Context, Result};
+use std::process::ExitCode;
+use std::rt::Files;
+use std::{env, fs};
+use vx_judge::{Aim, Tally, judge_table};
+
+fn main(rt: HostRuntime) -> Result<ExitCode> {
+    let alloc = rt.alloc();
+    let (mut wrong, mut unread, mut right) = (Tally::default(), Tally::default(), Tally::default());
+    for name in env::args(&rt)?.skip(1) {
+        let name = name.as_str();
+        let text = fs::read_to_string(&rt, name)?;
+        let (aim, tally) = if name.starts_with("wrong-") {
+            (Aim::Wrong, &mut wrong)
+        } else if name.starts_with("unread-") {
+            (Aim::Unread, &mut unread)
+        } else {
+            (Aim::Right, &mut right)
+        };
+        judge_table(alloc, name, text.as_str(), aim, tally, &mut rt.stdout())?;
+    }
+    println!(rt; "{} wrong lines, {} not told", wrong.rows, wrong.failed)?;
+    println!(rt;
+        "{} lines that can't be read, {} not refused",
+        unread.rows, unread.failed
+    )?;
+    println!(rt; "{} rows, {} failed", right.rows, right.failed)?;
+    let failed = wrong.failed + unread.failed + right.failed;
+    Ok(ExitCode::from(if failed == 0 { 0 } else { 1 }))
+}

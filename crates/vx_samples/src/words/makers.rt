@@ -1,0 +1,84 @@
+// How trees are put together.
+use crate::unread::Unread;
+use std::alloc::Global;
+use std::rc::Rc;
+use vx_tree::{Expression, ScalarFnRef, VortexResult};
+
+/// A way to put trees together, by which words are read.
+pub trait Maker {
+    type Tree: Drop;
+
+    /// The scope root.
+    fn root(&self, alloc: Global) -> VortexResult<Self::Tree>;
+
+    /// The function over the children, as many as it takes.
+    fn node(
+        &self,
+        alloc: Global,
+        scalar_fn: ScalarFnRef,
+        children: Vec<Self::Tree>,
+    ) -> VortexResult<Self::Tree>;
+
+    /// The function over the children, however many.
+    fn raw_node(
+        &self,
+        alloc: Global,
+        scalar_fn: ScalarFnRef,
+        children: Vec<Self::Tree>,
+    ) -> Result<Self::Tree, Unread>;
+
+    /// The And of all items, balanced; None of no items.
+    fn all(&self, alloc: Global, items: Vec<Self::Tree>) -> VortexResult<Option<Self::Tree>>;
+
+    /// The Or of all items, balanced; None of no items.
+    fn any(&self, alloc: Global, items: Vec<Self::Tree>) -> VortexResult<Option<Self::Tree>>;
+
+    /// The tree once more.
+    fn again(&self, tree: &Self::Tree) -> VortexResult<Self::Tree>;
+}
+
+/// Sources, by their fields where the number of children isn't the function's, and by
+/// `Expression::try_new` elsewhere.
+pub struct ByParts;
+
+impl Maker for ByParts {
+    type Tree = Expression;
+
+    fn root(&self, _alloc: Global) -> VortexResult<Expression> {
+        Ok(Expression::Root)
+    }
+
+    fn node(
+        &self,
+        alloc: Global,
+        scalar_fn: ScalarFnRef,
+        children: Vec<Expression>,
+    ) -> VortexResult<Expression> {
+        Expression::try_new(alloc, scalar_fn, children)
+    }
+
+    fn raw_node(
+        &self,
+        alloc: Global,
+        scalar_fn: ScalarFnRef,
+        children: Vec<Expression>,
+    ) -> Result<Expression, Unread> {
+        let children = Rc::new(alloc, children)?;
+        Ok(Expression::Scalar {
+            scalar_fn,
+            children,
+        })
+    }
+
+    fn all(&self, alloc: Global, items: Vec<Expression>) -> VortexResult<Option<Expression>> {
+        vx_build::and_collect(alloc, items)
+    }
+
+    fn any(&self, alloc: Global, items: Vec<Expression>) -> VortexResult<Option<Expression>> {
+        vx_build::or_collect(alloc, items)
+    }
+
+    fn again(&self, tree: &Expression) -> VortexResult<Expression> {
+        Ok(tree.clone()?)
+    }
+}
