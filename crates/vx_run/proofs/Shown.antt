@@ -19,10 +19,14 @@ pub shown : {A : Type 0} (view : A → List ℕ) (e : Tree) (b : BoundTree) (c :
 shown view e b c s r over given same says =
     subst (Answers view r) (ap (λ d. Ok (lines d c (node_type b))) same ∙ sym (ap (λ u. on_ok (λ t. Ok (lines e c t)) (typed e u)) (sym over) ∙ ap (on_ok (λ t. Ok (lines e c t))) given)) says
 
+-- the batch of `kleene` is the one that was made
+pub same_batch : (c : Batch) → Answers (λ x. x) (Ok c) (Ok kleene.batch) → c ≡ kleene.batch
+same_batch c given = cc
+
 -- the lines of the tree of `fused` are its page
 pub fused_shown : {A : Type 0} (view : A → List ℕ) (b : BoundTree) (c : Batch) (r : Result A VortexError) → Answers (λ x. x) (Ok c) (Ok kleene.batch) → binding fused.source fused.batch.type ≡ Ok b
     → Answers view r (Ok (lines (unbound b) c (node_type b))) → Answers view r (Ok (page_of Fused))
 fused_shown view b c r given is says =
     let found : b ≡ range = cc in
-    let rows : c ≡ kleene.batch = cc in
+    let rows = same_batch c given in
     subst (λ d. Answers view r (Ok (lines (unbound d) kleene.batch (node_type d)))) found (subst (λ k. Answers view r (Ok (lines (unbound b) k (node_type b)))) rows says)

@@ -32,6 +32,8 @@ pub fn result(alloc: Global, batch: &Column) -> VortexResult<Column>
     requires { batch.now.type ≡ fused.batch.type }
     ensures { (b : BoundTree) → binding fused.source fused.batch.type ≡ Ok b → Answers (λ c. c) result (evaluation b batch.now) }
 {
-    let unfused = Box::new(alloc, kleene::source(alloc)?)?;
-    run_query(alloc, &*unfused, batch, &[Pass::FindBetween], false)
+    let unfused = kleene::source(alloc)?;
+    let answer = run_query(alloc, &unfused, batch, &[Pass::FindBetween], false);
+    drop(unfused);
+    answer
 }

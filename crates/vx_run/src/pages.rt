@@ -2,6 +2,7 @@
 ghost use Rattle.std.specs.Prelude.{◌≡◌, IfErr, Ok, string_bytes};
 ghost use Rattle.vx_dtype.specs.Answers.{Answers};
 ghost use Rattle.vx_dtype.specs.declared.error.VortexError.TheVariants.{OutOfMemory};
+ghost use Rattle.vx_tree.specs.Binding.{binding};
 ghost use Rattle.vx_tree.specs.Trees.{BoundTree, node_type, unbound};
 ghost use Rattle.vx_tree.specs.Texts.{sql};
 ghost use Rattle.vx_tree.specs.TreeTexts.{tree_text};
@@ -11,6 +12,7 @@ ghost use Rattle.vx_types.specs.ValueTexts.{column_text};
 ghost use Rattle.vx_dtype.specs.Texts.{type_text};
 ghost use Rattle.vx_eval.specs.Evaluation.{evaluation};
 ghost use Rattle.vx_query.specs.Queries.{IsBound};
+ghost use Rattle.vx_run.specs.Fused.{fused};
 ghost use Rattle.vx_run.specs.Pages.{page_of, page_text, lines, lines_of};
 ghost use Rattle.vx_run.specs.Quiet.{IsQuiet};
 ghost use Rattle.vx_run.specs.declared.row.Row.TheVariants.{Fused};
@@ -48,11 +50,20 @@ fn fused_page(alloc: Global) -> VortexResult<String>
     ensures { Answers string_bytes result (Ok (page_of Fused)) }
 {
     let batch = kleene::batch(alloc)?;
-    let column = fused::result(alloc, &batch)?;
     let tree = fused::tree(alloc, batch.dtype())?;
-    let text = bound_text(alloc, &tree, &batch, &column);
+    let text = fused_text(alloc, &tree, &batch);
     drop(tree);
     text
+}
+
+// The lines of the tree of the row `fused`. Asks that tree, and its batch.
+fn fused_text(alloc: Global, tree: &BoundExpression, batch: &Column) -> VortexResult<String>
+    requires tree { binding fused.source fused.batch.type ≡ Ok (bound_of tree.now) }
+    requires batch { batch.now ≡ fused.batch }
+    ensures { let tree = bound_of tree.now in Answers string_bytes result (Ok (lines (unbound tree) batch.now (node_type tree))) }
+{
+    let column = fused::result(alloc, batch)?;
+    bound_text(alloc, tree, batch, &column)
 }
 
 // The lines of an expression over the batch, or what binding refuses. Asks an expression that faults

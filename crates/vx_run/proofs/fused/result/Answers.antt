@@ -5,5 +5,5 @@ use Rattle.vx_run.proofs.fused.result.Goals as goal
 
 pub returns : goal.returns
 returns c =
-    fused_query (tree_of c.in_ok-unfused.unfused.value) c.args.batch.now c.run_query.result (rw c.in_ok-unfused.ensures.value (made _ c.in_ok-source.ensures)) c.requires
-    (c.run_query.ensures.run unfused)
+    fused_query (tree_of c.in_ok-unfused.unfused) c.args.batch.now c.run_query-answer.result (made _ c.in_ok-unfused.ensures) c.requires
+    (c.run_query-answer.ensures.run unfused)
