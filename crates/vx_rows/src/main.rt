@@ -1,12 +1,11 @@
-// Runs the tables of `data/`: `vx_rows NAME.table ..`.
+// Runs the tables that it is given: `vx_rows NAME.table ..`.
 //
 // The lines of a table whose name begins with `wrong-` are wrong on purpose, and have to be told;
-// those of one that begins with `unread-` can't be read.
+// those of one that begins with `unread-` can't be read, and have to be refused.
 #![tactic(auto)]
 
 use anyhow::{Context, Result};
 use std::process::ExitCode;
-use std::rt::Files;
 use std::{env, fs};
 use vx_judge::{Aim, Tally, judge_table};
 
@@ -15,7 +14,7 @@ fn main(rt: HostRuntime) -> Result<ExitCode> {
     let (mut wrong, mut unread, mut right) = (Tally::default(), Tally::default(), Tally::default());
     for name in env::args(&rt)?.skip(1) {
         let name = name.as_str();
-        let text = fs::read_to_string(&rt, name)?;
+        let text = fs::read_to_string(&rt, name).context(format_args!("reading {name}"))?;
         let (aim, tally) = if name.starts_with("wrong-") {
             (Aim::Wrong, &mut wrong)
         } else if name.starts_with("unread-") {
@@ -31,6 +30,10 @@ fn main(rt: HostRuntime) -> Result<ExitCode> {
         unread.rows, unread.failed
     )?;
     println!(rt; "{} rows, {} failed", right.rows, right.failed)?;
-    let failed = wrong.failed + unread.failed + right.failed;
-    Ok(ExitCode::from(if failed == 0 { 0 } else { 1 }))
+    let is_right = wrong.failed == 0 && unread.failed == 0 && right.failed == 0;
+    Ok(if is_right {
+        ExitCode::SUCCESS
+    } else {
+        ExitCode::FAILURE
+    })
 }

@@ -10,7 +10,7 @@ use std::alloc::Global;
 use vx_eval::first_match;
 use vx_like::{Pattern, is_like};
 use vx_samples::{Unread, column, dtype, values};
-use vx_tree::{Column, DType, VortexResult};
+use vx_tree::{Column, DType, Value, VortexResult};
 
 /// Whether the text is like the pattern, or `ilike` where only the ignored case makes it so.
 pub fn like(alloc: Global, pattern: &str, text: &str) -> Result<String, Unread> {
@@ -127,5 +127,12 @@ fn column_of(alloc: Global, kind: &DType, rows: &str) -> Result<Column, Unread>
     ensures { IfOk result (λ c. IsBatch (type_of kind.now) c.rows) }
 {
     let rows = values(alloc, rows)?;
-    Ok(Column::try_new(kind.clone()?, rows)?)
+    let column = batch_of(kind, rows)?;
+    Ok(column)
+}
+
+fn batch_of(kind: &DType, rows: Vec<Value>) -> VortexResult<Column>
+    ensures { IfOk result (λ c. IsBatch (type_of kind.now) c.rows) }
+{
+    Column::try_new(kind.clone()?, rows)
 }
