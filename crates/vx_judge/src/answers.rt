@@ -3,6 +3,7 @@ mod analyses;
 mod bound;
 mod built;
 mod chance;
+mod distinct;
 mod functions;
 mod matches;
 mod pairs;

@@ -2,11 +2,11 @@
 ghost use Rattle.vx_tree.specs.Trees.{WellTyped};
 ghost use Rattle.vx_tree.specs.Views.{bound_of};
 
+use crate::answers::distinct::distinct_nodes;
 use crate::answers::paths::shown_paths;
 use crate::kind::BoundKind;
 use crate::scene::Scene;
 use std::alloc::Global;
-use std::collections::HashSet;
 use vx_rewrite::{BoundLabels, Optimize, label_bound_tree, referenced_field_paths};
 use vx_tree::{BoundExpression, ExactBoundExpr, Expression, VortexResult};
 
@@ -52,9 +52,13 @@ fn labels(
         push_label(alloc, &mut text, &labels, equal)?;
         return Ok(text);
     }
-    let mut seen = HashSet::new(alloc);
     let mut text = String::new(alloc);
-    push_labels(alloc, &mut text, &labels, equal, &mut seen)?;
+    for node in distinct_nodes(alloc, equal)?.iter() {
+        if !text.is_empty() {
+            text.push(' ')?;
+        }
+        push_label(alloc, &mut text, &labels, node)?;
+    }
     let count = labels.len();
     Ok(format!(in alloc; "{text} ({count})")?)
 }
@@ -77,27 +81,6 @@ fn sizes(alloc: Global, e: &BoundExpression) -> VortexResult<BoundLabels<u64>> {
         |_node: &BoundExpression| 1,
         |label: u64, child: &u64| label.saturating_add(*child),
     )
-}
-
-// The labels of the nodes that weren't seen, each at its first place.
-fn push_labels(
-    alloc: Global,
-    text: &mut String,
-    labels: &BoundLabels<u64>,
-    e: &BoundExpression,
-    seen: &mut HashSet<ExactBoundExpr>,
-) -> VortexResult<()> {
-    if !seen.insert(ExactBoundExpr(e.clone()?))? {
-        return Ok(());
-    }
-    if !text.is_empty() {
-        text.push(' ')?;
-    }
-    push_label(alloc, text, labels, e)?;
-    for child in e.children() {
-        push_labels(alloc, text, labels, child, seen)?;
-    }
-    Ok(())
 }
 
 fn push_label(

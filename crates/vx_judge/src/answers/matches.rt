@@ -1,5 +1,5 @@
 // Answers of patterns, and of the first match.
-ghost use Rattle.std.specs.Prelude.{◌≡◌, ◌<◌, length, IfOk};
+ghost use Rattle.std.specs.Prelude.{◌≡◌, ◌<◌, length, IfOk, IsTrue};
 ghost use Rattle.vx_eval.specs.Choices.{rows_in, height, EachBatch};
 ghost use Rattle.vx_eval.specs.Columns.{AllLong};
 ghost use Rattle.vx_types.specs.Fits.{IsBatch};
@@ -7,10 +7,11 @@ ghost use Rattle.vx_types.specs.Views.{type_of};
 
 use crate::told::told;
 use std::alloc::Global;
+use vx_dtype::laws::types_are_equal_exactly;
 use vx_eval::first_match;
 use vx_like::{Pattern, is_like};
 use vx_samples::{Unread, column, dtype, values};
-use vx_tree::{Column, DType, Value, VortexResult};
+use vx_tree::{Column, DType, VortexResult};
 
 /// Whether the text is like the pattern, or `ilike` where only the ignored case makes it so.
 pub fn like(alloc: Global, pattern: &str, text: &str) -> Result<String, Unread> {
@@ -127,12 +128,18 @@ fn column_of(alloc: Global, kind: &DType, rows: &str) -> Result<Column, Unread>
     ensures { IfOk result (λ c. IsBatch (type_of kind.now) c.rows) }
 {
     let rows = values(alloc, rows)?;
-    let column = batch_of(kind, rows)?;
-    Ok(column)
+    let column = Column::try_new(kind.clone()?, rows)?;
+    if is_of(&column, kind) {
+        Ok(column)
+    } else {
+        Err(Unread::Word("a column of another type"))
+    }
 }
 
-fn batch_of(kind: &DType, rows: Vec<Value>) -> VortexResult<Column>
-    ensures { IfOk result (λ c. IsBatch (type_of kind.now) c.rows) }
+// Whether the column is of that type; then its rows are.
+fn is_of(column: &Column, kind: &DType) -> bool
+    ensures { IsTrue result → IsBatch (type_of kind.now) column.now.rows }
 {
-    Column::try_new(kind.clone()?, rows)
+    let _rows = column.shared_rows();
+    types_are_equal_exactly(column.dtype(), kind)
 }

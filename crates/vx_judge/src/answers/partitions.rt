@@ -2,12 +2,12 @@
 ghost use Rattle.vx_tree.specs.Trees.{WellTyped};
 ghost use Rattle.vx_tree.specs.Views.{bound_of};
 
+use crate::answers::distinct::distinct_nodes;
 use crate::answers::split::{divided, joined_rows, replaced_by_optimized, shown};
 use crate::kind::BoundKind;
 use crate::scene::Scene;
 use crate::told::agreed;
 use std::alloc::Global;
-use std::collections::HashSet;
 use vx_rewrite::{
     BoundAnnotations, covers, descendent_bound_annotations, direct_bound_annotations, free_fields,
     partition_bound,
@@ -128,30 +128,13 @@ fn all_sets(
     found: &BoundAnnotations<FieldName>,
     equal: &BoundExpression,
 ) -> VortexResult<String> {
-    let mut seen = HashSet::new(alloc);
     let mut text = String::new(alloc);
-    push_sets(alloc, &mut text, found, equal, &mut seen)?;
+    for node in distinct_nodes(alloc, equal)?.iter() {
+        if !text.is_empty() {
+            text.push(' ')?;
+        }
+        text.push_str(set_at(alloc, found, node)?.as_str())?;
+    }
     let count = found.len();
     Ok(format!(in alloc; "{text} ({count})")?)
-}
-
-// The sets at the nodes that weren't seen, each at its first place.
-fn push_sets(
-    alloc: Global,
-    text: &mut String,
-    found: &BoundAnnotations<FieldName>,
-    node: &BoundExpression,
-    seen: &mut HashSet<ExactBoundExpr>,
-) -> VortexResult<()> {
-    if !seen.insert(ExactBoundExpr(node.clone()?))? {
-        return Ok(());
-    }
-    if !text.is_empty() {
-        text.push(' ')?;
-    }
-    text.push_str(set_at(alloc, found, node)?.as_str())?;
-    for child in node.children() {
-        push_sets(alloc, text, found, child, seen)?;
-    }
-    Ok(())
 }

@@ -1,61 +1,191 @@
-// Bound trees by their constructors.
-use super::pairs::{cases, named, one, three, two};
+// The constructors over bound children.
+ghost use Rattle.std.specs.Prelude.{◌<◌, ◌^◌, length};
+
+use super::constructors::Constructors;
 use std::alloc::Global;
 use vx_build::bound as build;
-use vx_samples::{Maker, Unread};
 use vx_tree::{
-    BoundExpression, DType, FieldName, FieldSelection, Operator, ScalarFnRef, VortexError,
-    VortexResult,
+    BetweenOptions, BoundExpression, DType, FieldName, FieldNames, LikeOptions, Nullability,
+    Operator, Scalar, ScalarFnRef, VortexResult,
 };
 
-/// By the constructors over bound children, the scope root of this type.
+/// Those of bound trees, whose scope root has this type.
 #[derive(Clone, Copy)]
-pub struct BoundConstructors<'a> {
+pub struct OfBound<'a> {
     pub scope: &'a DType,
 }
 
-impl Maker for BoundConstructors<'_> {
+impl Constructors for OfBound<'_> {
     type Tree = BoundExpression;
 
-    fn root(&self, _alloc: Global) -> VortexResult<BoundExpression> {
+    fn root(&self) -> VortexResult<BoundExpression> {
         Ok(build::root(self.scope.clone()?))
     }
 
-    fn node(
+    fn item(
         &self,
         alloc: Global,
-        scalar_fn: Box<ScalarFnRef>,
-        children: Vec<BoundExpression>,
+        name: FieldName,
+        child: BoundExpression,
     ) -> VortexResult<BoundExpression> {
-        match Box::into_inner(scalar_fn) {
-            ScalarFnRef::GetItem(name) => item(alloc, name, one(children)?, self.scope),
-            ScalarFnRef::Literal(scalar) => build::lit(alloc, scalar),
-            ScalarFnRef::Pack(options) => {
-                let elements = named(alloc, &options.names, children)?;
-                build::pack(alloc, elements, options.nullability)
-            }
-            ScalarFnRef::Select(FieldSelection::Include(names)) => {
-                build::select(alloc, names, one(children)?)
-            }
-            ScalarFnRef::Select(FieldSelection::Exclude(names)) => {
-                build::select_exclude(alloc, names, one(children)?)
-            }
-            ScalarFnRef::CaseWhen(options) => chosen(alloc, options.has_else, children),
-            ScalarFnRef::Cast(target) => build::cast(alloc, one(children)?, target),
-            ScalarFnRef::Not(_) => build::not(alloc, one(children)?),
-            ScalarFnRef::IsNull(_) => build::is_null(alloc, one(children)?),
-            ScalarFnRef::IsNotNull(_) => build::is_not_null(alloc, one(children)?),
-            scalar_fn => of_several(alloc, scalar_fn, children),
+        if child.is_root() {
+            drop(child);
+            return build::col(alloc, name, self.scope.clone()?);
+        }
+        build::get_item(alloc, name, child)
+    }
+
+    fn lit(&self, alloc: Global, value: Scalar) -> VortexResult<BoundExpression> {
+        build::lit(alloc, value)
+    }
+
+    fn pack(
+        &self,
+        alloc: Global,
+        elements: Vec<(FieldName, BoundExpression)>,
+        nullability: Nullability,
+    ) -> VortexResult<BoundExpression> {
+        build::pack(alloc, elements, nullability)
+    }
+
+    fn select(
+        &self,
+        alloc: Global,
+        excludes: bool,
+        names: FieldNames,
+        child: BoundExpression,
+    ) -> VortexResult<BoundExpression> {
+        if excludes {
+            build::select_exclude(alloc, names, child)
+        } else {
+            build::select(alloc, names, child)
         }
     }
 
-    fn raw_node(
+    fn cast(
         &self,
-        _alloc: Global,
-        _scalar_fn: Box<ScalarFnRef>,
-        _children: Vec<BoundExpression>,
-    ) -> Result<BoundExpression, Unread> {
-        Err(Unread::Word("no constructor for any number of children"))
+        alloc: Global,
+        child: BoundExpression,
+        target: DType,
+    ) -> VortexResult<BoundExpression> {
+        build::cast(alloc, child, target)
+    }
+
+    fn test(
+        &self,
+        alloc: Global,
+        scalar_fn: &ScalarFnRef,
+        child: BoundExpression,
+    ) -> VortexResult<BoundExpression> {
+        match scalar_fn {
+            ScalarFnRef::IsNull(_) => build::is_null(alloc, child),
+            ScalarFnRef::IsNotNull(_) => build::is_not_null(alloc, child),
+            _ => build::not(alloc, child),
+        }
+    }
+
+    fn binary(
+        &self,
+        alloc: Global,
+        operator: Operator,
+        lhs: BoundExpression,
+        rhs: BoundExpression,
+    ) -> VortexResult<BoundExpression> {
+        build::binary(alloc, operator, lhs, rhs)
+    }
+
+    fn operator(
+        &self,
+        alloc: Global,
+        operator: Operator,
+        lhs: BoundExpression,
+        rhs: BoundExpression,
+    ) -> VortexResult<BoundExpression> {
+        match operator {
+            Operator::Eq => build::eq(alloc, lhs, rhs),
+            Operator::NotEq => build::not_eq(alloc, lhs, rhs),
+            Operator::Gt => build::gt(alloc, lhs, rhs),
+            Operator::Gte => build::gt_eq(alloc, lhs, rhs),
+            Operator::Lt => build::lt(alloc, lhs, rhs),
+            Operator::Lte => build::lt_eq(alloc, lhs, rhs),
+            Operator::And => build::and(alloc, lhs, rhs),
+            Operator::Or => build::or(alloc, lhs, rhs),
+            Operator::Add => build::checked_add(alloc, lhs, rhs),
+        }
+    }
+
+    fn fill_or_mask(
+        &self,
+        alloc: Global,
+        fills: bool,
+        first: BoundExpression,
+        second: BoundExpression,
+    ) -> VortexResult<BoundExpression> {
+        if fills {
+            build::fill_null(alloc, first, second)
+        } else {
+            build::mask(alloc, first, second)
+        }
+    }
+
+    fn like(
+        &self,
+        alloc: Global,
+        options: LikeOptions,
+        child: BoundExpression,
+        pattern: BoundExpression,
+    ) -> VortexResult<BoundExpression> {
+        match (options.negated, options.case_insensitive) {
+            (false, false) => build::like(alloc, child, pattern),
+            (true, false) => build::not_like(alloc, child, pattern),
+            (false, true) => build::ilike(alloc, child, pattern),
+            (true, true) => build::not_ilike(alloc, child, pattern),
+        }
+    }
+
+    fn between(
+        &self,
+        alloc: Global,
+        (child, lower, upper): (BoundExpression, BoundExpression, BoundExpression),
+        options: BetweenOptions,
+    ) -> VortexResult<BoundExpression> {
+        build::between(alloc, child, lower, upper, options)
+    }
+
+    fn zip_expr(
+        &self,
+        alloc: Global,
+        (if_true, if_false, mask): (BoundExpression, BoundExpression, BoundExpression),
+    ) -> VortexResult<BoundExpression> {
+        build::zip_expr(alloc, if_true, if_false, mask)
+    }
+
+    fn case_when(
+        &self,
+        alloc: Global,
+        (condition, value, otherwise): (BoundExpression, BoundExpression, BoundExpression),
+    ) -> VortexResult<BoundExpression> {
+        build::case_when(alloc, condition, value, otherwise)
+    }
+
+    fn case_when_no_else(
+        &self,
+        alloc: Global,
+        (condition, value): (BoundExpression, BoundExpression),
+    ) -> VortexResult<BoundExpression> {
+        build::case_when_no_else(alloc, condition, value)
+    }
+
+    fn nested_case_when(
+        &self,
+        alloc: Global,
+        pairs: Vec<(BoundExpression, BoundExpression)>,
+        otherwise: Option<BoundExpression>,
+    ) -> VortexResult<BoundExpression>
+        requires some { 0 < length pairs.items }
+        requires countable { length pairs.items < 2 ^ 32 }
+    {
+        build::nested_case_when(alloc, pairs, otherwise)
     }
 
     fn joined(
@@ -74,113 +204,4 @@ impl Maker for BoundConstructors<'_> {
     fn again(&self, tree: &BoundExpression) -> VortexResult<BoundExpression> {
         Ok(tree.clone()?)
     }
-}
-
-// A field of the scope by `col`, another one by `get_item`.
-fn item(
-    alloc: Global,
-    name: FieldName,
-    child: BoundExpression,
-    scope: &DType,
-) -> VortexResult<BoundExpression> {
-    if child.is_root() {
-        return build::col(alloc, name, scope.clone()?);
-    }
-    build::get_item(alloc, name, child)
-}
-
-// A node of two or three children.
-fn of_several(
-    alloc: Global,
-    scalar_fn: ScalarFnRef,
-    children: Vec<BoundExpression>,
-) -> VortexResult<BoundExpression> {
-    match scalar_fn {
-        ScalarFnRef::Between(options) => {
-            let (child, lower, upper) = three(children)?;
-            build::between(alloc, child, lower, upper, options)
-        }
-        ScalarFnRef::Zip(_) => {
-            let (if_true, if_false, mask) = three(children)?;
-            build::zip_expr(alloc, if_true, if_false, mask)
-        }
-        scalar_fn => {
-            let (first, second) = two(children)?;
-            of_two(alloc, scalar_fn, first, second)
-        }
-    }
-}
-
-fn of_two(
-    alloc: Global,
-    scalar_fn: ScalarFnRef,
-    first: BoundExpression,
-    second: BoundExpression,
-) -> VortexResult<BoundExpression> {
-    match scalar_fn {
-        ScalarFnRef::Binary(operator) => compared(alloc, operator, first, second),
-        ScalarFnRef::FillNull(_) => build::fill_null(alloc, first, second),
-        ScalarFnRef::Mask(_) => build::mask(alloc, first, second),
-        ScalarFnRef::Like(options) => match (options.negated, options.case_insensitive) {
-            (false, false) => build::like(alloc, first, second),
-            (true, false) => build::not_like(alloc, first, second),
-            (false, true) => build::ilike(alloc, first, second),
-            (true, true) => build::not_ilike(alloc, first, second),
-        },
-        _ => Err(VortexError::NoPairs),
-    }
-}
-
-// By the operator's own constructor, whose tree `binary` has to give, too.
-fn compared(
-    alloc: Global,
-    operator: Operator,
-    lhs: BoundExpression,
-    rhs: BoundExpression,
-) -> VortexResult<BoundExpression> {
-    let again = build::binary(alloc, operator, lhs.clone()?, rhs.clone()?)?;
-    let own = match operator {
-        Operator::Eq => build::eq(alloc, lhs, rhs)?,
-        Operator::NotEq => build::not_eq(alloc, lhs, rhs)?,
-        Operator::Gt => build::gt(alloc, lhs, rhs)?,
-        Operator::Gte => build::gt_eq(alloc, lhs, rhs)?,
-        Operator::Lt => build::lt(alloc, lhs, rhs)?,
-        Operator::Lte => build::lt_eq(alloc, lhs, rhs)?,
-        Operator::And => build::and(alloc, lhs, rhs)?,
-        Operator::Or => build::or(alloc, lhs, rhs)?,
-        Operator::Add => build::checked_add(alloc, lhs, rhs)?,
-    };
-    same(own, again)
-}
-
-// A CASE of one pair by its own constructor, whose tree `nested_case_when` has to give, too.
-fn chosen(
-    alloc: Global,
-    has_else: bool,
-    children: Vec<BoundExpression>,
-) -> VortexResult<BoundExpression> {
-    let count = children.len();
-    let again = children.to_vec(alloc)?;
-    let (pairs, otherwise) = cases(alloc, has_else, again)?;
-    let nested = build::nested_case_when(alloc, pairs, otherwise)?;
-    let own = match (count, has_else) {
-        (3, true) => {
-            let (condition, value, otherwise) = three(children)?;
-            build::case_when(alloc, condition, value, otherwise)?
-        }
-        (2, false) => {
-            let (condition, value) = two(children)?;
-            build::case_when_no_else(alloc, condition, value)?
-        }
-        _ => return Ok(nested),
-    };
-    same(own, nested)
-}
-
-// The tree, which two constructors give; `LengthMismatch` where they give two.
-fn same(own: BoundExpression, again: BoundExpression) -> VortexResult<BoundExpression> {
-    if own != again {
-        return Err(VortexError::LengthMismatch);
-    }
-    Ok(own)
 }
