@@ -2,8 +2,8 @@
 use vx_samples::names;
 use vx_tree::Nullability::Nullable;
 use vx_tree::{
-    Binary, DType, FieldName, FieldSelection, FillNull, GetItem, Literal, Operator, ScalarFnVTable,
-    StrictComparison,
+    Binary, DType, FieldName, FieldNames, FieldSelection, FillNull, GetItem, Literal, Operator,
+    ScalarFnVTable, StrictComparison,
 };
 
 #[test]
@@ -27,10 +27,14 @@ fn markers_see_their_own_function(rt: HostRuntime) {
 #[test]
 fn selections_tell_their_names(rt: HostRuntime) {
     let alloc = rt.alloc();
-    let left_out = FieldSelection::exclude(names(alloc, "a", ' ').expect(&rt, "memory"));
+    let left_out = FieldSelection::Exclude(names(alloc, "a", ' ').expect(&rt, "memory"));
     assert!(rt; left_out.is_exclude() && !left_out.is_include());
     assert_eq!(rt; left_out.field_names().len(), 1);
-    let given = FieldSelection::include(names(alloc, "c b", ' ').expect(&rt, "memory"));
+    let given = FieldSelection::Include(names(alloc, "c b", ' ').expect(&rt, "memory"));
     assert!(rt; given.is_include() && !given.is_exclude());
     assert_eq!(rt; given.field_names().len(), 2);
+    let none = FieldNames::empty(alloc).expect(&rt, "memory");
+    assert!(rt; FieldSelection::exclude(none).is_exclude());
+    let none = FieldNames::empty(alloc).expect(&rt, "memory");
+    assert!(rt; FieldSelection::include(none).is_include());
 }

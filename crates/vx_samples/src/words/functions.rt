@@ -8,7 +8,7 @@ use vx_tree::Nullability::{NonNullable, Nullable};
 use vx_tree::StrictComparison::{NonStrict, Strict};
 use vx_tree::{
     BetweenOptions, CaseWhenOptions, EmptyOptions, FieldName, FieldNames, FieldSelection,
-    LikeOptions, Operator, PackOptions, ScalarFnRef, StrictComparison, VortexResult,
+    LikeOptions, Nullability, Operator, PackOptions, ScalarFnRef, StrictComparison, VortexResult,
 };
 
 /// The function of the word, that of a literal where the word is one; none where it is neither.
@@ -22,8 +22,8 @@ pub fn any_function(alloc: Global, word: &str) -> Result<Option<Box<ScalarFnRef>
     if let Some(list) = selected(word) {
         return select(alloc, list);
     }
-    if word.starts_with("pack(") {
-        return pack(alloc, word);
+    if let Some((list, nullability)) = packed(word) {
+        return pack(alloc, list, nullability);
     }
     match operator(word)
         .map(ScalarFnRef::Binary)
@@ -65,12 +65,18 @@ pub fn names(alloc: Global, list: &str, mark: char) -> VortexResult<FieldNames> 
 }
 
 // `pack(a,b)`, or `pack(a,b)?`, which gives a type with null.
-fn pack(alloc: Global, word: &str) -> Result<Option<Box<ScalarFnRef>>, Unread> {
-    let (word, nullability) = match word.strip_suffix('?') {
-        Some(word) => (word, Nullable),
-        None => (word, NonNullable),
-    };
-    let list = within(word, "pack").ok_or("no pack")?;
+fn packed(word: &str) -> Option<(&str, Nullability)> {
+    match word.strip_suffix('?') {
+        Some(word) => Some((within(word, "pack")?, Nullable)),
+        None => Some((within(word, "pack")?, NonNullable)),
+    }
+}
+
+fn pack(
+    alloc: Global,
+    list: &str,
+    nullability: Nullability,
+) -> Result<Option<Box<ScalarFnRef>>, Unread> {
     let names = names(alloc, list, ',')?;
     some(alloc, ScalarFnRef::Pack(PackOptions { names, nullability }))
 }

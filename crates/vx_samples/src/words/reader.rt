@@ -115,9 +115,12 @@ fn read_step<'a>(alloc: Global, word: &'a str) -> Result<Step<'a>, Unread> {
             .map_err(|_| Unread::Word("no number of items"))?;
         return Ok(Step::Joined { by_and, count });
     }
+    if let Some((name, count)) = raw(word) {
+        return raw_step(alloc, name, count);
+    }
     match any_function(alloc, word)? {
         Some(scalar_fn) => Ok(Step::Node(scalar_fn)),
-        None => raw_step(alloc, word),
+        None => Ok(Step::Path(word)),
     }
 }
 
@@ -129,14 +132,16 @@ fn joined(word: &str) -> Option<(bool, &str)> {
     }
 }
 
-// `zip/1`, or a path.
-fn raw_step<'a>(alloc: Global, word: &'a str) -> Result<Step<'a>, Unread> {
-    let Some((name, count)) = word.rsplit_once('/') else {
-        return Ok(Step::Path(word));
-    };
-    let count = count
-        .parse()
-        .map_err(|_| Unread::Word("no number of children"))?;
+// `zip/1`: the function's word, and the number of its children.
+fn raw(word: &str) -> Option<(&str, usize)> {
+    if word.starts_with('\'') {
+        return None;
+    }
+    let (name, count) = word.rsplit_once('/')?;
+    Some((name, count.parse().ok()?))
+}
+
+fn raw_step<'a>(alloc: Global, name: &str, count: usize) -> Result<Step<'a>, Unread> {
     match any_function(alloc, name)? {
         Some(scalar_fn) => Ok(Step::RawNode(scalar_fn, count)),
         None => Err(Unread::Word("no function")),
@@ -213,7 +218,7 @@ fn push_item<M: Maker>(
     trees: &mut Vec<M::Tree>,
     name: &str,
 ) -> Result<(), Unread> {
-    if name.is_empty() || name.contains(['(', ')', '|']) {
+    if name.is_empty() || name.contains(['(', ')', '|', '/']) {
         return Err(Unread::Word("neither a function nor a field"));
     }
     let item = ScalarFnRef::GetItem(FieldName::new(alloc, name)?);

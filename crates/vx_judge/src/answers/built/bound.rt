@@ -157,7 +157,7 @@ impl Constructors for OfBound<'_> {
         alloc: Global,
         (if_true, if_false, mask): (BoundExpression, BoundExpression, BoundExpression),
     ) -> VortexResult<BoundExpression> {
-        build::zip_expr(alloc, if_true, if_false, mask)
+        build::zip_expr(alloc, mask, if_true, if_false)
     }
 
     fn case_when(

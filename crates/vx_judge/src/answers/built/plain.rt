@@ -144,7 +144,7 @@ impl Constructors for OfSources {
         alloc: Global,
         (if_true, if_false, mask): (Expression, Expression, Expression),
     ) -> VortexResult<Expression> {
-        vx_build::zip_expr(alloc, if_true, if_false, mask)
+        vx_build::zip_expr(alloc, mask, if_true, if_false)
     }
 
     fn case_when(
