@@ -1,12 +1,10 @@
 // Names, types, scalars and columns whose memory is refused.
 use crate::refusals::answered;
-use std::alloc::Global;
 use std::test::Fail;
 use vx_samples::{dtype, i32_type, reads};
 use vx_tree::Nullability::{NonNullable, Nullable};
 use vx_tree::{
     Column, DType, FieldName, FieldNames, Nullability, PType, Scalar, StructFields, Value,
-    VortexResult,
 };
 
 #[test]
