@@ -1,14 +1,9 @@
 // Functions by their types, and selections by their names.
-ghost use Rattle.std.specs.List.{IsDistinct};
-ghost use Rattle.std.specs.Prelude.{IfOk};
-ghost use Rattle.std.specs.Str.{bytes_eq};
-
-use std::alloc::Global;
 use vx_samples::names;
 use vx_tree::Nullability::Nullable;
 use vx_tree::{
-    Binary, DType, FieldName, FieldNames, FieldSelection, FillNull, GetItem, Literal, Operator,
-    ScalarFnVTable, StrictComparison, VortexResult,
+    Binary, DType, FieldName, FieldSelection, FillNull, GetItem, Literal, Operator, ScalarFnVTable,
+    StrictComparison,
 };
 
 #[test]
@@ -29,13 +24,6 @@ fn markers_see_their_own_function(rt: HostRuntime) {
     assert_eq!(rt; StrictComparison::Strict.sign(), "<");
 }
 
-/// No name, and so none twice.
-fn no_names(alloc: Global) -> VortexResult<FieldNames>
-    ensures { IfOk result (λ names. IsDistinct bytes_eq names) }
-{
-    FieldNames::empty(alloc)
-}
-
 #[test]
 fn selections_tell_their_names(rt: HostRuntime) {
     let alloc = rt.alloc();
@@ -45,8 +33,4 @@ fn selections_tell_their_names(rt: HostRuntime) {
     let given = FieldSelection::Include(names(alloc, "c b", ' ').expect(&rt, "memory"));
     assert!(rt; given.is_include() && !given.is_exclude());
     assert_eq!(rt; given.field_names().len(), 2);
-    let none = no_names(alloc).expect(&rt, "memory");
-    assert!(rt; FieldSelection::exclude(none).is_exclude());
-    let none = no_names(alloc).expect(&rt, "memory");
-    assert!(rt; FieldSelection::include(none).is_include());
 }
