@@ -58,15 +58,10 @@ fn key_of(alloc: Global, e: &BoundExpression) -> VortexResult<Vec<Key>> {
     Ok(keys)
 }
 
-/// The words over numbers, which they don't read.
-fn tree(alloc: Global, words: &str) -> Result<Box<BoundExpression>, Fail> {
-    Ok(bound(alloc, words, &i32_type(NonNullable))?)
-}
-
 #[test]
 fn equal_pieces_are_two(rt: HostRuntime) -> Result<(), Fail> {
     let alloc = rt.alloc();
-    let e = tree(alloc, "true true and")?;
+    let e = bound(alloc, "true true and", &i32_type(NonNullable))?;
     let keys = |node: &BoundExpression| key_of(alloc, node);
     let annotations = direct_bound_annotations(alloc, &*e, keys).expect(&rt, "memory");
     let split = partition_bound_annotations(alloc, Box::into_inner(e), annotations);
@@ -78,7 +73,7 @@ fn equal_pieces_are_two(rt: HostRuntime) -> Result<(), Fail> {
 #[test]
 fn a_name_is_taken_once(rt: HostRuntime) -> Result<(), Fail> {
     let alloc = rt.alloc();
-    let e = tree(alloc, "true false and")?;
+    let e = bound(alloc, "true false and", &i32_type(NonNullable))?;
     let keys = |node: &BoundExpression| key_of(alloc, node);
     let split = partition_bound(alloc, Box::into_inner(e), keys);
     assert!(rt; matches!(&split, Err(VortexError::PartitionNameTaken(p)) if p.as_str() == "p"));
