@@ -5,7 +5,7 @@ use Rattle.vx_keep.specs.Keeps.{Keeps}
 use Rattle.vx_keep.proofs.Keeping.{keeps_refl, keeps_trans}
 use Rattle.vx_fusing.proofs.Merges.{merges_alike}
 use Rattle.vx_rewrite.specs.declared.passes.Pass.{Pass}
-use Rattle.vx_rewrite.specs.declared.passes.Pass.TheVariants.{Optimize, OptimizeRecursive, FindBetween}
+use Rattle.vx_rewrite.specs.declared.passes.Pass.TheVariants.{Optimize, OptimizeRecursive, FindBetween, Branches}
 use Rattle.vx_rewrite.specs.Passes.{Gives, Passed}
 
 -- one pass keeps
@@ -13,6 +13,7 @@ pub gives_keeps : (pass : Pass) (b u : BoundTree) → WellTyped b → Gives pass
 gives_keeps Optimize b u w g = g.keeps
 gives_keeps OptimizeRecursive b u w g = g.keeps
 gives_keeps FindBetween b u w g = (merges_alike b u g.count w g.merges).0
+gives_keeps Branches b u w g = g.keeps
 
 -- and so does a list of them
 pub passed_keeps : (passes : List Pass) (b u : BoundTree) → WellTyped b → Passed passes b u → Keeps b u

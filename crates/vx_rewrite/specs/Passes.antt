@@ -4,14 +4,16 @@ use Rattle.vx_tree.specs.Trees.{BoundTree}
 use Rattle.vx_fusing.specs.Merging.{IsFusedOf}
 use Rattle.vx_optimizer.specs.NormalForms.{NormalForm, RootNormalForm}
 use Rattle.vx_rules.specs.Rules.{RuleAt}
+use Rattle.vx_branch_rules.specs.Branches.{BranchRuleAt}
 use Rattle.vx_rewrite.specs.declared.passes.Pass.{Pass}
-use Rattle.vx_rewrite.specs.declared.passes.Pass.TheVariants.{Optimize, OptimizeRecursive, FindBetween}
+use Rattle.vx_rewrite.specs.declared.passes.Pass.TheVariants.{Optimize, OptimizeRecursive, FindBetween, Branches}
 
--- u is what the pass may answer for b: a normal form at the root, one of the whole tree, or the tree fused
+-- u is what the pass may answer for b: a normal form at the root, one of the whole tree by the standard or the branch rules, or the tree fused
 abbrev pub Gives : Pass → BoundTree → BoundTree → Type 0
 Gives Optimize b u = RootNormalForm RuleAt b u
 Gives OptimizeRecursive b u = NormalForm RuleAt b u
 Gives FindBetween b u = IsFusedOf b u
+Gives Branches b u = NormalForm BranchRuleAt b u
 
 -- u is what the passes may answer for b, one after another
 abbrev pub Passed : List Pass → BoundTree → BoundTree → Type 0

@@ -10,6 +10,7 @@ pub use vx_analysis::{
     Annotation, BoundAnnotations, BoundLabels, covers, descendent_bound_annotations,
     direct_bound_annotations, free_fields, label_bound_tree,
 };
+pub use vx_branches::BranchRules;
 pub use vx_fusing::find_between;
 pub use vx_keep::Rule;
 pub use vx_optimizer::optimize_with;

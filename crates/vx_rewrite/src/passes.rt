@@ -7,7 +7,9 @@ ghost use Rattle.vx_tree.specs.Trees.{WellTyped};
 ghost use Rattle.vx_tree.specs.Views.{bound_of};
 
 use std::alloc::Global;
+use vx_branches::BranchRules;
 use vx_fusing::find_between;
+use vx_optimizer::optimized;
 use vx_standard::Optimize;
 use vx_tree::{BoundExpression, VortexResult};
 
@@ -20,6 +22,9 @@ pub enum Pass {
     OptimizeRecursive,
     /// Comparisons of one item as one `Between`: [`find_between`].
     FindBetween,
+    /// The branch rules at every node: [`optimize_with`](vx_optimizer::optimize_with) of
+    /// [`BranchRules`], the tree itself on None.
+    Branches,
 }
 
 /// The tree after these passes, in their order; for an empty list the tree itself. It keeps the
@@ -55,5 +60,6 @@ fn run_pass(alloc: Global, tree: BoundExpression, pass: Pass) -> VortexResult<Bo
         Pass::Optimize => tree.optimize(alloc),
         Pass::OptimizeRecursive => tree.optimize_recursive(alloc),
         Pass::FindBetween => find_between(alloc, tree),
+        Pass::Branches => optimized(alloc, &BranchRules, &tree),
     }
 }

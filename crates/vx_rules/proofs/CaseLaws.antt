@@ -1,5 +1,5 @@
 -- The rules of CASE keep the tree at which they apply.
-use Rattle.std.proofs.Common.{◌≡◌, List, [], ◌∷◌, refl, sym, subst, Bool, true, false, map}
+use Rattle.std.proofs.Common.{◌≡◌, ◌∙◌, List, [], ◌∷◌, refl, sym, subst, Bool, true, false, map}
 use Rattle.std.specs.Prelude.{Some, None, if◌then◌else◌, not}
 use Rattle.std.specs.List.{list_any}
 use Rattle.std.specs.declared.cmp.Ordering.{Ordering}
@@ -11,28 +11,29 @@ use Rattle.std.proofs.lemmas.Bool.{or_left, or_right, or_from}
 use Rattle.vx_fn.proofs.Rows.{fn_type-found, fn_type-only}
 use Rattle.vx_fn.proofs.Monotone.{same_at}
 use Rattle.vx_dtype.proofs.Unions.{same_atomic-eq}
-use Rattle.vx_rules.proofs.Children.{second_quiet, third_quiet}
-use Rattle.vx_rules.proofs.Joins.{above-left, above-right, same_atomic-refl}
+use Rattle.vx_rule_sets.proofs.Cases.{case_typed}
+use Rattle.vx_rule_sets.proofs.Children.{second_quiet, third_quiet}
+use Rattle.vx_rule_sets.proofs.Joins.{above-left, above-right, same_atomic-refl}
 use Rattle.vx_types.specs.Types.{Atomic, LogicalType, ty, atomic, Datum, null, bool, int, utf8, bytes, list_of, struct_of, is_nullable, with_nullability, is_null_datum}
-use Rattle.vx_dtype.specs.Joins.{same_base, join, union_all, Narrower, narrower, same_atomic_shape}
+use Rattle.vx_dtype.specs.Joins.{same_base, join, Narrower, narrower, same_atomic_shape}
 use Rattle.vx_fn.specs.Functions.{case_when, is_null, is_not_null, is_atomic}
-use Rattle.vx_fn.specs.Rows.{FnType, of_case_else, of_fill_null}
+use Rattle.vx_fn.specs.Rows.{FnType, of_fill_null}
 use Rattle.vx_tree.specs.Meaning.{value, values}
 use Rattle.vx_tree.specs.Faults.{first_fault}
 use Rattle.vx_fn.specs.Faults.{fill_of, differs, some_differ}
 use Rattle.vx_tree.specs.Trees.{BoundTree, node, node_type, WellTyped}
 use Rattle.vx_keep.specs.Keeps.{Keeps}
-use Rattle.vx_rules.specs.Rules.{one_bound, two_bounds, literal_node, fill_node, IsCoalesce, null_first, null_last}
+use Rattle.vx_rule_sets.specs.Nodes.{one_bound, two_bounds, literal_node}
+use Rattle.vx_rules.specs.Rules.{fill_node, IsCoalesce, null_first, null_last}
 
 -- the type of a CASE of one pair and an ELSE
 pair_type : {p a b u : LogicalType} → FnType (case_when 1 true) (p ∷ a ∷ b ∷ []) u → (same_base a b ≡ true) × (u ≡ join a b)
-pair_type {p = p} {a = a} {b = b} {u = u} (of_case_else {us = vs} {u = v} l z c d e) =
-    let x : a ≡ v = cc in
-    let y : b ∷ [] ≡ vs = cc in
-    let f : union_all a (b ∷ []) ≡ Some u = subst (λ vs. union_all a vs ≡ Some u) (sym y) (subst (λ v. union_all v vs ≡ Some u) (sym x) e) in
-    let k = same_at a b [] u f in
-    let g : Some (join a b) ≡ Some u = k.1 in
-    (k.0, (let q : u ≡ join a b = cc in q))
+pair_type {a = a} {b = b} d =
+    let k = case_typed d in
+    let x = same_at a b [] k.joined k.union in
+    let g : Some (join a b) ≡ Some k.joined = x.1 in
+    let q : k.joined ≡ join a b = cc in
+    (x.0, k.type ∙ q)
 
 null_or : (v : Datum) → v ≡ (if is_null_datum v then null else v)
 null_or null = refl

@@ -5,7 +5,6 @@ use Rattle.std.specs.Option.{option_map}
 use Rattle.std.proofs.Math.Bool.{or-true}
 use Rattle.std.proofs.Math.Dec.{eqb-suc-zero}
 use Rattle.std.proofs.lemmas.Bool.{eqb-true}
-use Rattle.vx_types.specs.Equality.{equal_type, equal_type-Decides}
 use Rattle.vx_types.specs.Fields.{project, field_count}
 use Rattle.vx_types.specs.Types.{Name, LogicalType, ty, struct, Fields, no_field, field, Datum, null, bool, is_nullable, is_null_datum}
 use Rattle.vx_fn.specs.Functions.{case_when, get_item, literal, pack, select, fill_null, zip, is_null, is_not_null, is_atomic, included}
@@ -13,22 +12,17 @@ use Rattle.vx_fn.specs.Selections.{kept_names}
 use Rattle.vx_fn.specs.declared.options.FieldSelection.{FieldSelection}
 use Rattle.vx_tree.specs.Equality.{equal_bound, equal_bound-Decides}
 use Rattle.vx_tree.specs.Trees.{BoundTree, node, BoundTrees, no_bound, bound, node_type, WellTyped}
-use Rattle.vx_rules.proofs.Shapes.{literal_shape, pack_nullable, kept_of_pack, Selected, selected, none_included, some_included}
-use Rattle.vx_rules.specs.Given.{only_if, fill_given, null_test, replaced_null, coalesce_given, case_given, item_given, zip_given, is_pack, none_given, some_given, select_given, given_at}
-use Rattle.vx_rules.specs.Rules.{one_bound, two_bounds, three_bounds, literal_node, fill_node, mask_node, cast_node, empty_pack, child_named, children_named, are_nullable, IsCoalesce, null_first, null_last, RuleAt, fill_of_not_null, coalesce_to_null, coalesce, item_of_pack, item_of_nullable_pack, zip_chosen, zip_cast, select_none, select_none_of_pack, select_of_pack}
+use Rattle.vx_rule_sets.proofs.Literals.{literal_shape}
+use Rattle.vx_rules.proofs.Shapes.{pack_nullable, kept_of_pack, Selected, selected, none_included, some_included}
+use Rattle.vx_rule_sets.specs.Nodes.{only_if, one_bound, two_bounds, three_bounds, literal_node, AsType, as_it_is, as_cast, as_type}
+use Rattle.vx_rules.specs.Given.{fill_given, null_test, replaced_null, coalesce_given, case_given, item_given, zip_given, is_pack, none_given, some_given, select_given, given_at}
+use Rattle.vx_rules.specs.Rules.{fill_node, mask_node, empty_pack, child_named, children_named, are_nullable, IsCoalesce, null_first, null_last, RuleAt, fill_of_not_null, coalesce_to_null, coalesce, item_of_pack, item_of_nullable_pack, zip_chosen, zip_cast, select_none, select_none_of_pack, select_of_pack}
+use Rattle.vx_rule_sets.proofs.Casts.{as_type-is, is-as_type}
+use Rattle.vx_rule_sets.proofs.Sets.{decided_functional}
+use Rattle.vx_rule_sets.specs.Sets.{Functional}
 
 same_bound : (x : BoundTree) → equal_bound x x ≡ true
 same_bound x = (equal_bound-Decides x x).1 refl
-
-true_is_false : true ≡ false → ⊥
-true_is_false e = cc
-
-other_type : (t u : LogicalType) → t ≢ u → equal_type t u ≡ false
-other_type t u other = go (equal_type t u) refl
-  where
-    go : (b : Bool) → equal_type t u ≡ b → b ≡ false
-    go true e = absurd (other ((equal_type-Decides t u).0 e))
-    go false e = refl
 
 -- ---- what a rule gives is given
 
@@ -67,8 +61,8 @@ rule_given b u w (coalesce {x = x} null_first e p) = rw (same_bound x, e, p) ref
 rule_given b u w (coalesce {x = x} null_last e p) = rw (same_bound x, e, p) refl
 rule_given b u w (item_of_pack e) = rw e refl
 rule_given b u w (item_of_nullable_pack e) = rw e refl
-rule_given b u w (zip_chosen {t = t} {c = c} {x = x} {y = y} e) = rw ((equal_type-Decides (node_type (if c then x else y)) t).1 e) refl
-rule_given b u w (zip_cast {t = t} {c = c} {x = x} {y = y} e) = rw (other_type (node_type (if c then x else y)) t e) refl
+rule_given b u w (zip_chosen {t = t} {c = c} {x = x} {y = y} e) = rw (as_type-is {t = t} (as_it_is e)) refl
+rule_given b u w (zip_cast {t = t} {c = c} {x = x} {y = y} e) = rw (as_type-is {t = t} (as_cast e)) refl
 rule_given b u w (select_none {t = t} {selection = s} {x = x} {fs = fs} q e) = given_empty t s x false (empty_selected t s x fs false w q e) (rw q refl)
 rule_given b u w (select_none_of_pack {t = t} {selection = s} {fs = fs} {n = n} {names = names} {xs = xs} e) =
     let x = node (ty (struct fs) n) (pack names n) xs in
@@ -152,15 +146,11 @@ item_rule t a _ u e = cc
 zip_rule : (t : LogicalType) (x y m u : BoundTree) → WellTyped m → zip_given t x y m ≡ Some u → RuleAt (node t zip (three_bounds x y m)) u
 zip_rule t x y (node m (literal v (bool c)) ls) u w e =
     subst (λ l. RuleAt (node t zip (three_bounds x y l)) u) (sym (literal_shape m v (bool c) ls w))
-    (go (equal_type (node_type (if c then x else y)) t) refl e)
+    (let q : as_type t (if c then x else y) ≡ u = cc in go u (subst (AsType t (if c then x else y)) q (is-as_type t (if c then x else y))))
   where
-    go : (b : Bool) → equal_type (node_type (if c then x else y)) t ≡ b → Some (if b then (if c then x else y) else cast_node t (if c then x else y)) ≡ Some u → RuleAt (node t zip (three_bounds x y (literal_node m (bool c)))) u
-    go true q e =
-        let h : (if c then x else y) ≡ u = cc in
-        subst (RuleAt (node t zip (three_bounds x y (literal_node m (bool c))))) h (zip_chosen ((equal_type-Decides (node_type (if c then x else y)) t).0 q))
-    go false q e =
-        let h : cast_node t (if c then x else y) ≡ u = cc in
-        subst (RuleAt (node t zip (three_bounds x y (literal_node m (bool c))))) h (zip_cast (λ same. true_is_false (sym ((equal_type-Decides (node_type (if c then x else y)) t).1 same) ∙ q)))
+    go : (u : BoundTree) → AsType t (if c then x else y) u → RuleAt (node t zip (three_bounds x y (literal_node m (bool c)))) u
+    go _ (as_it_is q) = zip_chosen q
+    go _ (as_cast q) = zip_cast q
 zip_rule t x y _ u w e = cc
 
 -- ---- a selection
@@ -225,5 +215,5 @@ given_rule _ u w e = cc
 pub rule_decided : (b u : BoundTree) → WellTyped b → RuleAt b u ↔ (given_at b ≡ Some u)
 rule_decided b u w = (rule_given b u w, given_rule b u w)
 
-pub rule_functional : (b u v : BoundTree) → WellTyped b → RuleAt b u → RuleAt b v → u ≡ v
-rule_functional b u v w r s = let e = rule_given b u w r in let f = rule_given b v w s in cc
+pub rule_functional : Functional RuleAt
+rule_functional = decided_functional RuleAt given_at rule_decided

@@ -11,7 +11,7 @@ use Rattle.vx_fn.specs.Rows.{FnType, of_fill_null}
 use Rattle.vx_tree.specs.Meaning.{value}
 use Rattle.vx_tree.specs.Trees.{BoundTree, node, node_type, WellTyped}
 use Rattle.vx_keep.specs.Keeps.{Keeps}
-use Rattle.vx_rules.specs.Rules.{two_bounds}
+use Rattle.vx_rule_sets.specs.Nodes.{two_bounds}
 
 never_null : (v : Datum) (t : LogicalType) → is_nullable t ≡ false → Fits v t → is_null_datum v ≡ false
 never_null null (ty s n) e h = cc

@@ -15,7 +15,7 @@ rule_keeps b u w (coalesce {x = x} {t = t} {c = c} i z p) = keeps_coalesce x t c
 rule_keeps b u w (item_of_pack {t = t} {p = p} {a = a} {names = names} {xs = xs} {x = x} e) = keeps_item_of_pack t p a names xs x w e
 rule_keeps b u w (item_of_nullable_pack {t = t} {p = p} {a = a} {names = names} {xs = xs} {x = x} e) = keeps_item_of_nullable_pack t p a names xs x w e
 rule_keeps b u w (zip_chosen {t = t} {m = m} {c = c} {x = x} {y = y} e) = keeps_zip_chosen t m c x y w
-rule_keeps b u w (zip_cast {t = t} {m = m} {c = c} {x = x} {y = y} e) = keeps_zip_cast t m c x y w
+rule_keeps b u w (zip_cast {t = t} {m = m} {c = c} {x = x} {y = y} e) = keeps_zip_cast t m c x y w e
 rule_keeps b u w (select_none {t = t} {selection = s} {x = x} {fs = fs} q e) = keeps_select_none t s x fs w q e
 rule_keeps b u w (select_none_of_pack {t = t} {selection = s} {fs = fs} {n = n} {names = names} {xs = xs} e) = keeps_select_none_of_pack t s fs n names xs w e
 rule_keeps b u w (select_of_pack {gs = gs} {selection = s} {fs = fs} {n = n} {names = names} {xs = xs} e h) = keeps_select_of_pack gs s fs n names xs w

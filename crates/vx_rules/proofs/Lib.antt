@@ -1,5 +1,4 @@
-pub mod Children
-pub mod Joins
+pub mod Named
 pub mod FillLaws
 pub mod CaseLaws
 pub mod PackLaws

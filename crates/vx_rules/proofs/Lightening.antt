@@ -1,7 +1,8 @@
 -- What a rule gives is lighter.
 use Rattle.std.proofs.Common.{◌≡◌, inl, inr, ◌+◌, ◌*◌, ◌<◌, ◌≤◌, List, [], ◌∷◌, refl, ap, Bool, true, false, length, arith}
 use Rattle.std.specs.Prelude.{Option, Some, None, if◌then◌else◌}
-use Rattle.vx_rules.proofs.Children.{IsChild, named-child}
+use Rattle.vx_rule_sets.proofs.Children.{IsChild}
+use Rattle.vx_rules.proofs.Named.{named-child}
 use Rattle.vx_rules.proofs.SelectLaws.{selected_is}
 use Rattle.vx_types.specs.Types.{Name}
 use Rattle.vx_types.specs.Fields.{field_count}

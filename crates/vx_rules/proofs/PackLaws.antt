@@ -4,7 +4,8 @@ use Rattle.std.specs.Prelude.{Some, None}
 use Rattle.std.proofs.lemmas.Bool.{or_left, or_right}
 use Rattle.vx_fn.proofs.Rows.{fn_type-found}
 use Rattle.vx_fn.proofs.Monotone.{shape_refl}
-use Rattle.vx_rules.proofs.Children.{first_quiet, children_quiet, child-well_typed, child-over, child-quiet, named-child, named-type, named-value}
+use Rattle.vx_rule_sets.proofs.Children.{first_quiet, children_quiet, child-well_typed, child-over, child-quiet}
+use Rattle.vx_rules.proofs.Named.{named-child, named-type, named-value}
 use Rattle.vx_types.specs.Types.{Name, LogicalType, ty, Shape, struct, Fields, Datum, with_nullability}
 use Rattle.vx_types.specs.Fields.{field_type, fields_named}
 use Rattle.vx_dtype.specs.Joins.{Narrower, narrower}
@@ -14,7 +15,8 @@ use Rattle.vx_tree.specs.Meaning.{value}
 use Rattle.vx_tree.specs.Faults.{HasNoFault, first_fault}
 use Rattle.vx_tree.specs.Trees.{BoundTree, node, BoundTrees, no_bound, node_type, node_types, WellTyped}
 use Rattle.vx_keep.specs.Keeps.{Keeps}
-use Rattle.vx_rules.specs.Rules.{one_bound, mask_node, child_named}
+use Rattle.vx_rule_sets.specs.Nodes.{one_bound}
+use Rattle.vx_rules.specs.Rules.{mask_node, child_named}
 
 pub pack_type : {names : List Name} {n : Bool} {ts : List LogicalType} {p : LogicalType} → FnType (pack names n) ts p → p ≡ ty (struct (fields_named names ts)) n
 pack_type (of_pack e) = refl

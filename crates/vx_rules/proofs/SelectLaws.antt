@@ -1,12 +1,13 @@
 -- The rules of Select keep the tree at which they apply.
-use Rattle.std.proofs.Common.{◌≡◌, ℕ, suc, List, [], ◌∷◌, refl, sym, ap, subst, Bool, true, false, length, ◌∙◌, arith}
+use Rattle.std.proofs.Common.{◌≡◌, suc, List, [], ◌∷◌, refl, sym, ap, subst, Bool, true, false, length, ◌∙◌, arith}
 use Rattle.std.specs.Prelude.{Option, Some, None, if◌then◌else◌, Ok, is_some}
 use Rattle.std.specs.Str.{bytes_eq}
 use Rattle.vx_fn.proofs.Rows.{fn_type-found, fn_type-only}
 use Rattle.vx_fn.proofs.Monotone.{narrower_refl}
 use Rattle.vx_dtype.proofs.Known.{known_first}
 use Rattle.vx_fn.proofs.Sound.{included-known}
-use Rattle.vx_rules.proofs.Children.{first_quiet, children_quiet, child-well_typed, child-over, child-quiet, named-child, named-type, named-value}
+use Rattle.vx_rule_sets.proofs.Children.{first_quiet, children_quiet, child-well_typed, child-over, child-quiet}
+use Rattle.vx_rules.proofs.Named.{named-child, named-type, named-value}
 use Rattle.vx_rules.proofs.PackLaws.{pack_type}
 use Rattle.vx_tree.proofs.Trees.{value-fits, each_passes}
 use Rattle.vx_types.specs.Types.{Name, LogicalType, ty, struct, Fields, no_field, Datum, struct_of, Data, null}
@@ -19,7 +20,8 @@ use Rattle.vx_tree.specs.Meaning.{value, values}
 use Rattle.vx_tree.specs.Faults.{first_fault, each_fault}
 use Rattle.vx_tree.specs.Trees.{BoundTree, node, BoundTrees, no_bound, bound, node_type, node_types, WellTyped, EachWellTyped, EachOver}
 use Rattle.vx_keep.specs.Keeps.{Keeps}
-use Rattle.vx_rules.specs.Rules.{one_bound, child_named, put_child, children_named, empty_pack}
+use Rattle.vx_rule_sets.specs.Nodes.{one_bound}
+use Rattle.vx_rules.specs.Rules.{child_named, put_child, children_named, empty_pack}
 use Rattle.vx_fn.specs.declared.options.FieldSelection.{FieldSelection}
 
 -- ---- no field of what is never null

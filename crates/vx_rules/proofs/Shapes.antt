@@ -1,26 +1,18 @@
 -- What typing says of the shape of a node.
 use Rattle.std.proofs.Common.{◌≡◌, ◌≢◌, List, [], ◌∷◌, refl, sym, ap, Bool, ◌∙◌, length, arith}
-use Rattle.std.specs.Prelude.{None, Ok}
+use Rattle.std.specs.Prelude.{None}
 use Rattle.vx_fn.proofs.Rows.{fn_type-found}
 use Rattle.vx_fn.proofs.Sound.{included-known}
-use Rattle.vx_fn.specs.Functions.{literal, pack, select, selection_names, included, fn_type}
+use Rattle.vx_fn.specs.Functions.{pack, select, selection_names, included}
 use Rattle.vx_fn.specs.Rows.{FnType, of_pack, of_select}
 use Rattle.vx_fn.specs.Selections.{kept_names}
 use Rattle.vx_fn.specs.declared.options.FieldSelection.{FieldSelection}
 use Rattle.vx_rules.proofs.PackLaws.{pack_type}
 use Rattle.vx_rules.proofs.SelectLaws.{project-count}
-use Rattle.vx_rules.specs.Rules.{literal_node, one_bound}
-use Rattle.vx_tree.specs.Trees.{BoundTree, node, BoundTrees, no_bound, bound, node_type, node_types, WellTyped}
+use Rattle.vx_rule_sets.specs.Nodes.{one_bound}
+use Rattle.vx_tree.specs.Trees.{BoundTree, node, BoundTrees, node_type, node_types, WellTyped}
 use Rattle.vx_types.specs.Fields.{field_names, field_count, fields_named, first_unknown, project}
-use Rattle.vx_types.specs.Types.{Name, LogicalType, ty, struct, Fields, no_field, Datum}
-
--- a literal has no children, and its own type
-literal_alone : (t u : LogicalType) (c : Datum) (ls : BoundTrees) → fn_type (literal u c) (node_types ls) ≡ Ok t → node t (literal u c) ls ≡ literal_node t c
-literal_alone t u c no_bound e = let q : u ≡ t = cc in rw q refl
-literal_alone t u c (bound l ls) e = cc
-
-pub literal_shape : (t u : LogicalType) (c : Datum) (ls : BoundTrees) → WellTyped (node t (literal u c) ls) → node t (literal u c) ls ≡ literal_node t c
-literal_shape t u c ls w = literal_alone t u c ls w.0
+use Rattle.vx_types.specs.Types.{Name, LogicalType, ty, struct, Fields, no_field}
 
 -- ---- packs
 

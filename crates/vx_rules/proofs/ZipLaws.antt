@@ -1,25 +1,19 @@
 -- The rules of Zip keep the tree at which they apply.
-use Rattle.std.proofs.Common.{◌≡◌, inl, inr, List, [], ◌∷◌, ◌≤◌, refl, sym, subst, Bool, true, false, map, length, arith}
-use Rattle.std.specs.Prelude.{None, if◌then◌else◌, position}
-use Rattle.std.specs.List.{position_or_len}
-use Rattle.std.proofs.lemmas.Bool.{le-ltb}
-use Rattle.vx_fn.proofs.Rows.{fn_type-found, fn_type-only}
-use Rattle.vx_fn.proofs.Monotone.{narrower_refl}
-use Rattle.vx_tree.proofs.Trees.{value-fits, each_passes}
-use Rattle.vx_rules.proofs.Children.{first_quiet, second_quiet, children_quiet}
-use Rattle.vx_rules.proofs.Joins.{above-left, above-right, narrower-same}
-use Rattle.vx_types.proofs.Above.{fits-above}
+use Rattle.std.proofs.Common.{◌≡◌, List, [], ◌∷◌, refl, sym, subst, Bool, true, false, ◌≢◌}
+use Rattle.std.specs.Prelude.{if◌then◌else◌}
+use Rattle.vx_fn.proofs.Rows.{fn_type-found}
+use Rattle.vx_rule_sets.proofs.Children.{first_quiet, second_quiet, children_quiet}
+use Rattle.vx_rule_sets.proofs.Joins.{above-left, above-right}
 use Rattle.vx_types.specs.Types.{LogicalType, Datum, bool}
-use Rattle.vx_types.specs.Fits.{Fits}
 use Rattle.vx_dtype.specs.Joins.{same_base, join, Narrower}
-use Rattle.vx_fn.specs.Functions.{zip, cast}
-use Rattle.vx_fn.specs.Rows.{FnType, of_zip, of_cast}
-use Rattle.vx_tree.specs.Meaning.{value, values}
+use Rattle.vx_fn.specs.Functions.{zip}
+use Rattle.vx_fn.specs.Rows.{FnType, of_zip}
+use Rattle.vx_tree.specs.Meaning.{value}
 use Rattle.vx_tree.specs.Faults.{HasNoFault}
-use Rattle.vx_fn.specs.Faults.{IsIn, misfits}
 use Rattle.vx_tree.specs.Trees.{BoundTree, node, node_type, WellTyped, Over}
 use Rattle.vx_keep.specs.Keeps.{Keeps}
-use Rattle.vx_rules.specs.Rules.{one_bound, two_bounds, three_bounds, literal_node, cast_node}
+use Rattle.vx_rule_sets.specs.Nodes.{one_bound, two_bounds, three_bounds, literal_node, cast_node, as_cast}
+use Rattle.vx_rule_sets.proofs.Casts.{keeps_as_type}
 
 zip_type : {a b m t : LogicalType} → FnType zip (a ∷ b ∷ m ∷ []) t → (same_base a b ≡ true) × (t ≡ join a b)
 zip_type (of_zip s) = (s, refl)
@@ -67,37 +61,6 @@ keeps_zip_chosen t m c x y w = record {
   meaning = λ s batch o i n v j. chosen-value t m x y c v;
 }
 
-no_position : {A : Type 0} (p : A → Bool) (xs : List A) → ((x : A) → IsIn x xs → p x ≡ false) → position p xs ≡ None
-no_position p xs e = let k : length xs ≤ position_or_len p xs = passed xs e in rw (le-ltb _ _ k) refl
-  where
-    passed : (xs : List _) → ((x : _) → IsIn x xs → p x ≡ false) → length xs ≤ position_or_len p xs
-    passed [] e = omega arith
-    passed (x ∷ xs) e = let h : length xs ≤ position_or_len p xs = passed xs (λ y i. e y (inr i)) in rw (e x (inl refl)) (omega arith)
-
-fits_cast : (t : LogicalType) (v : Datum) → Fits v t → misfits t (v ∷ []) ≡ false
-fits_cast t v e = rw e refl
-
-cast_quiet : (t : LogicalType) (x : BoundTree) (batch : List Datum) → HasNoFault x batch → ((v : Datum) → IsIn v batch → Fits (value x v) t) → HasNoFault (node t (cast t) (one_bound x)) batch
-cast_quiet t x batch n e =
-    let rows = map (values (one_bound x)) batch in
-    let k : position (misfits t) rows ≡ None = no_position (misfits t) rows (each batch e) in
-    rw (n, k) refl
-  where
-    each : (batch : List Datum) → ((v : Datum) → IsIn v batch → Fits (value x v) t) → (row : List Datum) → IsIn row (map (values (one_bound x)) batch) → misfits t row ≡ false
-    each [] e row i = elim i [ ]
-    each (v ∷ batch) e row (inl q) = subst (λ row. misfits t row ≡ false) (sym q) (fits_cast t (value x v) (e v (inl refl)))
-    each (v ∷ batch) e row (inr i) = each batch (λ w j. e w (inr j)) row i
-
-pub keeps_zip_cast : (t m : LogicalType) (c : Bool) (x y : BoundTree) → WellTyped (node t zip (three_bounds x y (literal_node m (bool c)))) → Keeps (node t zip (three_bounds x y (literal_node m (bool c)))) (cast_node t (if c then x else y))
+pub keeps_zip_cast : (t m : LogicalType) (c : Bool) (x y : BoundTree) → WellTyped (node t zip (three_bounds x y (literal_node m (bool c)))) → node_type (if c then x else y) ≢ t → Keeps (node t zip (three_bounds x y (literal_node m (bool c)))) (cast_node t (if c then x else y))
 unfolding both
-keeps_zip_cast t m c x y w = record {
-  typed_before = w;
-  typed_after = (fn_type-only (of_cast {t = node_type (if c then x else y)} {u = t} (narrower-same _ _ (chosen-below t m x y c w))), tt, (chosen-well_typed t m x y c w, tt));
-  scopes = λ s o. (chosen-over t m x y c s o, tt);
-  type = narrower_refl t;
-  no_fault = λ s batch o i n.
-      cast_quiet t (if c then x else y) batch (chosen-quiet t m x y c batch n)
-      (λ v j. fits-above (value (if c then x else y) v) (chosen-below t m x y c w)
-      (value-fits (if c then x else y) s batch v (chosen-well_typed t m x y c w) (chosen-over t m x y c s o) (chosen-quiet t m x y c batch n) j (each_passes _ batch v i j)));
-  meaning = λ s batch o i n v j. chosen-value t m x y c v;
-}
+keeps_zip_cast t m c x y w e = keeps_as_type (both t m x y c) (if c then x else y) (cast_node t (if c then x else y)) (keeps_zip_chosen t m c x y w) (as_cast e)

@@ -3,33 +3,13 @@ use Rattle.std.specs.Prelude.{ℕ, Bool, true, false, ◌&&◌, ◌||◌, ◌==�
 use Rattle.std.specs.Option.{option_map}
 use Rattle.vx_types.specs.Fields.{field_count}
 use Rattle.vx_types.specs.Types.{struct_fields, Name, LogicalType, Fields, Datum, bool, is_nullable, is_null_datum}
-use Rattle.vx_types.specs.Equality.{equal_type}
 use Rattle.vx_fn.specs.Functions.{case_when, get_item, literal, pack, select, fill_null, zip, is_null, is_not_null, is_atomic}
 use Rattle.vx_fn.specs.Selections.{kept_names}
 use Rattle.vx_fn.specs.declared.options.FieldSelection.{FieldSelection}
-use Rattle.vx_tree.specs.Trees.{BoundTree, node, BoundTrees, no_bound, bound, node_type}
+use Rattle.vx_tree.specs.Trees.{BoundTree, node, no_bound, node_type}
 use Rattle.vx_tree.specs.Equality.{equal_bound}
-use Rattle.vx_rules.specs.Rules.{fill_node, mask_node, cast_node, child_named, children_named, are_nullable}
-
--- the only one of the trees
-abbrev pub only_one : BoundTrees → Option BoundTree
-only_one (bound x no_bound) = Some x
-only_one _ = None
-
--- the two trees
-abbrev pub two_of : BoundTrees → Option (BoundTree × BoundTree)
-two_of (bound x (bound y no_bound)) = Some (x, y)
-two_of _ = None
-
--- the three trees
-abbrev pub three_of : BoundTrees → Option (BoundTree × BoundTree × BoundTree)
-three_of (bound x (bound y (bound z no_bound))) = Some (x, y, z)
-three_of _ = None
-
--- the tree, if the test holds
-abbrev pub only_if : Bool → BoundTree → Option BoundTree
-only_if true u = Some u
-only_if false u = None
+use Rattle.vx_rule_sets.specs.Nodes.{only_one, two_of, three_of, only_if, literal_value, as_type}
+use Rattle.vx_rules.specs.Rules.{fill_node, mask_node, child_named, children_named, are_nullable}
 
 -- a fill of what is never null is its input
 abbrev pub fill_given : BoundTree → Option BoundTree
@@ -47,11 +27,6 @@ null_test (node p is_null xs) y z = option_map (λ x. record { tested = x; if_nu
 null_test (node p is_not_null xs) y z = option_map (λ x. record { tested = x; if_null = z; if_not = y }) (only_one xs)
 null_test _ y z = None
 
--- the value of a literal
-abbrev pub literal_value : BoundTree → Option Datum
-literal_value (node t (literal u c) xs) = Some c
-literal_value _ = None
-
 -- x, where its null is replaced by a null, or by another literal c that stands in y
 abbrev pub replaced_null : BoundTree → BoundTree → Datum → Option BoundTree
 replaced_null x y c = if is_null_datum c then Some x else only_if (is_atomic (node_type x)) (fill_node x y)
@@ -68,10 +43,6 @@ case_given pairs has_else p y z = if pairs == 1 && has_else then option_and_then
 abbrev pub item_given : Name → BoundTree → Option BoundTree
 item_given a (node p (pack names n) xs) = option_map (λ x. if n then mask_node x else x) (child_named a names xs)
 item_given a _ = None
-
--- the tree as one of the type
-abbrev pub as_type : LogicalType → BoundTree → BoundTree
-as_type t x = if equal_type (node_type x) t then x else cast_node t x
 
 -- the branch that a truth value chooses, as one of the type
 abbrev pub chosen : LogicalType → BoundTree → BoundTree → Datum → Option BoundTree

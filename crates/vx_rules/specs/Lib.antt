@@ -1,4 +1,3 @@
 pub mod Rules
 pub mod Given
-pub mod Modest
 pub mod Laws

@@ -5,22 +5,7 @@ use Rattle.vx_types.specs.Types.{Name, LogicalType, ty, struct, Fields, no_field
 use Rattle.vx_fn.specs.Functions.{case_when, get_item, literal, pack, select, fill_null, zip, is_null, is_not_null, mask, cast, included, is_atomic, truth_type}
 use Rattle.vx_fn.specs.declared.options.FieldSelection.{FieldSelection}
 use Rattle.vx_tree.specs.Trees.{BoundTree, node, BoundTrees, no_bound, bound, node_type}
-
--- one bound tree
-abbrev pub one_bound : BoundTree → BoundTrees
-one_bound x = bound x no_bound
-
--- two bound trees
-abbrev pub two_bounds : BoundTree → BoundTree → BoundTrees
-two_bounds x y = bound x (one_bound y)
-
--- three bound trees
-abbrev pub three_bounds : BoundTree → BoundTree → BoundTree → BoundTrees
-three_bounds x y z = bound x (two_bounds y z)
-
--- the literal of that type
-abbrev pub literal_node : LogicalType → Datum → BoundTree
-literal_node t c = node t (literal t c) no_bound
+use Rattle.vx_rule_sets.specs.Nodes.{one_bound, two_bounds, three_bounds, literal_node, cast_node}
 
 -- x, and where it is null what is beside it
 abbrev pub fill_node : BoundTree → BoundTree → BoundTree
@@ -29,10 +14,6 @@ fill_node x y = node (with_nullability (is_nullable (node_type y)) (node_type x)
 -- x under a mask that is true in every row
 abbrev pub mask_node : BoundTree → BoundTree
 mask_node x = node (with_nullability true (node_type x)) mask (two_bounds x (literal_node (truth_type false) (bool true)))
-
--- x as a value of that type
-abbrev pub cast_node : LogicalType → BoundTree → BoundTree
-cast_node t x = node t (cast t) (one_bound x)
 
 -- a struct without fields
 abbrev pub empty_pack : Bool → BoundTree

@@ -1,7 +1,8 @@
 -- A test for null whose other value is what it looks at.
 use Rattle.std.proofs.Common.{◌≡◌, refl, true, false, Bool, not}
 use Rattle.std.specs.Prelude.{Some}
-use Rattle.vx_rules.specs.Given.{NullTest, coalesce_given, literal_value, replaced_null}
+use Rattle.vx_rules.specs.Given.{NullTest, coalesce_given, replaced_null}
+use Rattle.vx_rule_sets.specs.Nodes.{literal_value}
 use Rattle.vx_tree.specs.Equality.{equal_bound}
 use Rattle.vx_types.specs.Types.{Datum}
 

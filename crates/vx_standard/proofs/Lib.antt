@@ -1,4 +1,2 @@
 pub mod Named
-pub mod Answering
-pub mod Counted
 pub mod Coalesces

@@ -7,9 +7,9 @@ ghost use Rattle.vx_rules.specs.Rules.{fill_node};
 ghost use Rattle.vx_standard.specs.Views.{null_test_of, null_test_over};
 ghost use Rattle.vx_tree.specs.Views.{bound_of};
 
-use crate::nodes::{literal_value, node, only};
 use std::alloc::Global;
 use vx_fn::{CaseWhenOptions, EmptyOptions, FillNull, ScalarFnRef};
+use vx_rule_sets::{literal_value, node, only};
 use vx_tree::{BoundExpression, VortexResult};
 use vx_types::Scalar;
 

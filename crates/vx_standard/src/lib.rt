@@ -2,7 +2,6 @@
 #![tactic(auto)]
 
 mod cases;
-mod nodes;
 mod optimize;
 mod packs;
 mod standard;

@@ -11,9 +11,9 @@ ghost use Rattle.vx_rules.specs.Given.{item_given, is_pack, none_given, some_giv
 ghost use Rattle.vx_rules.specs.Rules.{mask_node, child_named, children_named, are_nullable};
 ghost use Rattle.vx_tree.specs.Views.{bound_of, bounds_of};
 
-use crate::nodes::node;
 use std::alloc::{AllocError, Global};
 use vx_fn::{EmptyOptions, FieldSelection, Pack, PackOptions, ScalarFnRef};
+use vx_rule_sets::node;
 use vx_tree::{BoundExpression, VortexResult};
 use vx_types::{DType, FieldName, FieldNames, Nullability, Scalar, StructFields};
 

@@ -6,12 +6,12 @@ ghost use Rattle.vx_rules.specs.Given.{given_at, fill_given};
 ghost use Rattle.vx_tree.specs.Views.{bound_of};
 
 use crate::cases::coalesce;
-use crate::nodes::{only, pair, triple};
 use crate::packs::{item_of_pack, selection};
 use crate::zips::zip_by_literal;
 use std::alloc::Global;
 use vx_fn::ScalarFnRef;
 use vx_keep::Rule;
+use vx_rule_sets::{only, pair, triple};
 use vx_tree::{BoundExpression, VortexResult};
 
 /// The standard rules, at most one of which fits a node:

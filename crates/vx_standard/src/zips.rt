@@ -3,12 +3,11 @@ ghost use Rattle.std.specs.Prelude.{◌≡◌, Ok};
 ghost use Rattle.std.specs.Option.{option_map};
 ghost use Rattle.vx_types.specs.Answers.{Answers};
 ghost use Rattle.vx_types.specs.Views.{type_of};
-ghost use Rattle.vx_rules.specs.Given.{as_type, zip_given};
+ghost use Rattle.vx_rules.specs.Given.{zip_given};
 ghost use Rattle.vx_tree.specs.Views.{bound_of};
 
-use crate::nodes::{literal_value, node};
 use std::alloc::Global;
-use vx_fn::ScalarFnRef;
+use vx_rule_sets::{as_type, literal_value};
 use vx_tree::{BoundExpression, VortexResult};
 use vx_types::{DType, Value};
 
@@ -30,20 +29,4 @@ pub(crate) fn zip_by_literal(
         Value::Bool(false) => Ok(Some(as_type(alloc, dtype, if_false)?)),
         _ => Ok(None),
     }
-}
-
-// The branch, cast to the type where its own is another.
-fn as_type(alloc: Global, dtype: &DType, branch: &BoundExpression) -> VortexResult<BoundExpression>
-    ensures { Answers bound_of result (Ok (as_type (type_of dtype.now) (bound_of branch.now))) }
-{
-    if branch.dtype() == dtype {
-        return Ok(branch.clone()?);
-    }
-    let children = vec![in alloc; branch.clone()?]?;
-    node(
-        alloc,
-        dtype.clone()?,
-        ScalarFnRef::Cast(dtype.clone()?),
-        children,
-    )
 }

@@ -1,5 +1,5 @@
-use Rattle.vx_rules.proofs.Modesty.{rule_stays_normal}
+use Rattle.vx_rules.proofs.Lawfulness.{rules_lawful}
 use Rattle.vx_rules.proofs.laws.rules_stay_normal.Goals as goal
 
 pub returns : goal.returns
-returns c = rule_stays_normal
+returns c = rules_lawful.normal

@@ -1,0 +1,10 @@
+pub mod Children
+pub mod Joins
+pub mod Inside
+pub mod Sets
+pub mod Casts
+pub mod Literals
+pub mod Cases
+pub mod Counted
+pub mod Answering
+pub mod Prelude

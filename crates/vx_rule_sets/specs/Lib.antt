@@ -1,0 +1,4 @@
+pub mod Nodes
+pub mod Modest
+pub mod Sets
+pub mod Prelude
