@@ -1,10 +1,11 @@
 #!/usr/bin/env python3
-"""Runs the gate from nothing, `rt ci --anew`, with so many jobs, and prints what each crate took of
-it: the processor minutes of its proof, of its tests and of its must-fail edits, as read off the
-provers' processes every second, and the minutes of the whole. Nothing else may be proved meanwhile on
-the processors that it may run on. docs/BENCHMARKS.md has what it printed.
+"""Runs the gate from nothing, `rt ci --anew`, or proves named crates and those below them for it, `rt
+ci CRATE ..`, which leaves out what the machine has kept, with so many jobs. Prints what each crate
+took of it: the processor minutes of its proof, of its tests and of its must-fail edits, as read off
+the provers' processes every second, and the minutes of the whole. Nothing else may be proved meanwhile
+on the processors that it may run on. docs/BENCHMARKS.md has what it printed.
 
-usage: [taskset -c PROCESSORS] tools/gate_times.py JOBS
+usage: [taskset -c PROCESSORS] tools/gate_times.py JOBS [CRATE ..]
 """
 import collections
 import os
@@ -48,8 +49,9 @@ def crates():
 
 def main():
     os.chdir(os.path.join(os.path.dirname(os.path.abspath(__file__)), ".."))
+    jobs, *named = sys.argv[1:]
     begin, seen = time.monotonic(), {}
-    gate = subprocess.Popen(["rt", "ci", "--anew"], env={**os.environ, "RT_JOBS": sys.argv[1]})
+    gate = subprocess.Popen(["rt", "ci", *(named or ["--anew"])], env={**os.environ, "RT_JOBS": jobs})
     while gate.poll() is None:
         for process, of, seconds in provers():
             seen[process] = of, seconds
@@ -60,7 +62,8 @@ def main():
     print("| Crate | Proof | Tests | Edits |\n|---|---:|---:|---:|")
     for crate in crates():
         cells = [minutes[crate, task] for task in TASKS]
-        print(f"| `{crate}` |", " | ".join(f"{it:.1f}" if it else "" for it in cells), "|")
+        if any(cells):
+            print(f"| `{crate}` |", " | ".join(f"{it:.1f}" if it else "" for it in cells), "|")
     taken = (time.monotonic() - begin) / 60
     print(f"\n{sum(minutes.values()):.0f} processor minutes, {taken:.0f} minutes, status {gate.returncode}")
     return gate.returncode
