@@ -1,18 +1,16 @@
 -- The tree of the row `kleene`, bound, and what merging leaves of it.
 use Rattle.std.specs.Prelude.{◌≡◌, ℕ, false, Ok, Err, Result, IfOk, IfErr, codes}
-use Rattle.std.proofs.Common.{refl, sym, ap, ◌∙◌, inl, subst}
+use Rattle.std.proofs.Common.{refl, sym, ap, inl, subst}
 use Rattle.vx_dtype.specs.Answers.{Answers}
 use Rattle.vx_dtype.specs.declared.error.VortexError.{VortexError}
 use Rattle.vx_dtype.specs.declared.error.VortexError.TheVariants.{OutOfMemory}
-use Rattle.vx_types.specs.Types.{LogicalType, null}
+use Rattle.vx_types.specs.Types.{null}
 use Rattle.vx_fn.specs.Functions.{get_item, literal, binary, compares, at_least, at_most, truth_type}
 use Rattle.vx_tree.specs.Binding.{binding}
 use Rattle.vx_tree.specs.Examples.{i32, i32_or_null, bool_or_null, with_x, number_of}
-use Rattle.vx_tree.specs.Trees.{Tree, BoundTree, scope, node, no_bound, bound, unbound, WellTyped, Over}
-use Rattle.vx_tree.specs.Views.{bound_of, tree_of}
+use Rattle.vx_tree.specs.Trees.{BoundTree, scope, node, no_bound, bound, WellTyped, Over}
+use Rattle.vx_tree.specs.Views.{bound_of}
 use Rattle.vx_tree.specs.declared.bound.BoundExpression.{BoundExpression}
-use Rattle.vx_tree.specs.declared.expression.Expression.{Expression}
-use Rattle.vx_tree.proofs.Unique.{binding-unbound}
 use Rattle.vx_keep.specs.Steps.{here, no_step, one_more}
 use Rattle.vx_fusing.specs.Conjuncts.{two_bounds, and_node, between_node, below_and_above, Fused}
 use Rattle.vx_fusing.specs.Merging.{itself, right_goes, Merges}
@@ -88,15 +86,7 @@ fused_is_kleene_merged b u n e m f =
 
 -- ---- what the code finds
 
--- the tree of `kleene` is the one that was made
-pub made : (e : Expression) → Answers tree_of (Ok e) (Ok kleene.source) → kleene.source ≡ tree_of e
-made e given = cc
-
--- the bound tree of `kleene`
-pub bound_kleene : (b : BoundTree) (e : Tree) (s : LogicalType) → WellTyped b → Over b s → unbound b ≡ e → kleene.source ≡ e → s ≡ kleene.batch.type → binding kleene.source kleene.batch.type ≡ Ok b
-bound_kleene b e s w o from is over = let known = binding-unbound b s w o in ap (λ t. binding t kleene.batch.type) (is ∙ sym from) ∙ ap (binding (unbound b)) (sym over) ∙ known
-
--- what is found in it is the tree of `fused`
+-- what is found in the tree of `kleene` is that of `fused`
 pub found : (b : BoundTree) (r : Result BoundExpression VortexError) → binding kleene.source kleene.batch.type ≡ Ok b → IfOk r (λ u. (n : ℕ) × Merges b n (bound_of u)) → IfOk r (λ u. Fused (bound_of u)) → IfErr r (λ e. e ≡ OutOfMemory) →
     Answers bound_of r (binding fused.source fused.batch.type)
 found b (Ok u) e m f memory = fused_is_kleene_merged b (bound_of u) m.0 e m.1 f

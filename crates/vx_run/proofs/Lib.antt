@@ -1,4 +1,6 @@
 pub mod Quiet
+pub mod Made
 pub mod Fusing
+pub mod Branching
 pub mod Shown
 pub mod Queried

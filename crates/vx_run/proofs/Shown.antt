@@ -1,16 +1,23 @@
 -- Trees and the pages that show them.
-use Rattle.std.specs.Prelude.{◌≡◌, ℕ, List, Result, Ok}
+use Rattle.std.specs.Prelude.{◌≡◌, ℕ, List, Option, None, Some, Result, Ok, map}
 use Rattle.std.proofs.Common.{sym, ap, subst, ◌∙◌}
 use Rattle.vx_dtype.specs.Answers.{Answers}
 use Rattle.vx_dtype.specs.declared.error.VortexError.{VortexError}
-use Rattle.vx_types.specs.Columns.{Batch}
+use Rattle.vx_types.specs.Columns.{Batch, batch}
 use Rattle.vx_types.specs.Types.{LogicalType}
 use Rattle.vx_tree.specs.Binding.{binding}
+use Rattle.vx_tree.specs.Faults.{first_fault}
+use Rattle.vx_tree.specs.Meaning.{mean}
 use Rattle.vx_tree.specs.Trees.{Tree, BoundTree, node_type, on_ok, typed, unbound}
+use Rattle.vx_eval.specs.Columns.{unless_fault}
+use Rattle.vx_eval.specs.Evaluation.{evaluation}
+use Rattle.vx_run.specs.Branches.{branches}
+use Rattle.vx_run.specs.Coalesce.{coalesce}
 use Rattle.vx_run.specs.Fused.{fused}
 use Rattle.vx_run.specs.Kleene.{kleene}
 use Rattle.vx_run.specs.Pages.{lines, page_of, page_text}
-use Rattle.vx_run.specs.declared.row.Row.TheVariants.{Fused}
+use Rattle.vx_run.specs.declared.row.Row.TheVariants.{Fused, Branches}
+use Rattle.vx_run.proofs.Branching.{filled}
 use Rattle.vx_run.proofs.Fusing.{range}
 
 -- the lines of a bound tree are those of its source
@@ -19,14 +26,29 @@ pub shown : {A : Type 0} (view : A → List ℕ) (e : Tree) (b : BoundTree) (c :
 shown view e b c s r over given same says =
     subst (Answers view r) (ap (λ d. Ok (lines d c (node_type b))) same ∙ sym (ap (λ u. on_ok (λ t. Ok (lines e c t)) (typed e u)) (sym over) ∙ ap (on_ok (λ t. Ok (lines e c t))) given)) says
 
--- the batch of `kleene` is the one that was made
-pub same_batch : (c : Batch) → Answers (λ x. x) (Ok c) (Ok kleene.batch) → c ≡ kleene.batch
-same_batch c given = cc
+-- what evaluation gives has the tree's type, and its source's meaning in each row
+pub evaluated : (b : BoundTree) (c d : Batch) → evaluation b c ≡ Ok d → d ≡ batch (node_type b) (map (mean (unbound b) c.type) c.rows)
+evaluated b c d e = go (first_fault b c.rows) e
+  where
+    go : (f : Option VortexError) → unless_fault f (batch (node_type b) (map (mean (unbound b) c.type) c.rows)) ≡ Ok d → d ≡ batch (node_type b) (map (mean (unbound b) c.type) c.rows)
+    go None e = cc
+    go (Some x) e = cc
+
+-- the batch is the one that was made
+pub same_batch : (c d : Batch) → Answers (λ x. x) (Ok c) (Ok d) → c ≡ d
+same_batch c d given = cc
+
+-- the lines of a tree over a batch are those of the same tree and batch
+same_lines : {A : Type 0} (view : A → List ℕ) (b u : BoundTree) (c d : Batch) (r : Result A VortexError) → b ≡ u → c ≡ d → Answers view r (Ok (lines (unbound b) c (node_type b))) → Answers view r (Ok (lines (unbound u) d (node_type u)))
+same_lines view b u c d r tree rows says =
+    subst (λ t. Answers view r (Ok (lines (unbound t) d (node_type t)))) tree (subst (λ k. Answers view r (Ok (lines (unbound b) k (node_type b)))) rows says)
 
 -- the lines of the tree of `fused` are its page
 pub fused_shown : {A : Type 0} (view : A → List ℕ) (b : BoundTree) (c : Batch) (r : Result A VortexError) → Answers (λ x. x) (Ok c) (Ok kleene.batch) → binding fused.source fused.batch.type ≡ Ok b
     → Answers view r (Ok (lines (unbound b) c (node_type b))) → Answers view r (Ok (page_of Fused))
-fused_shown view b c r given is says =
-    let found : b ≡ range = cc in
-    let rows = same_batch c given in
-    subst (λ d. Answers view r (Ok (lines (unbound d) kleene.batch (node_type d)))) found (subst (λ k. Answers view r (Ok (lines (unbound b) k (node_type b)))) rows says)
+fused_shown view b c r given is says = same_lines view b range c kleene.batch r cc (same_batch c kleene.batch given) says
+
+-- and those of the tree of `branches` its page
+pub branches_shown : {A : Type 0} (view : A → List ℕ) (b : BoundTree) (c : Batch) (r : Result A VortexError) → Answers (λ x. x) (Ok c) (Ok coalesce.batch) → binding branches.source branches.batch.type ≡ Ok b
+    → Answers view r (Ok (lines (unbound b) c (node_type b))) → Answers view r (Ok (page_of Branches))
+branches_shown view b c r given is says = same_lines view b filled c coalesce.batch r cc (same_batch c coalesce.batch given) says

@@ -6,6 +6,7 @@ pub mod Kleene
 pub mod Coalesce
 pub mod Cases
 pub mod Fused
+pub mod Branches
 pub mod Pages
 pub mod PageTexts
 pub mod Runs

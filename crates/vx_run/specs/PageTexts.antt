@@ -1,7 +1,7 @@
 -- The pages of the rows, byte for byte.
 use Rattle.std.specs.Prelude.{◌≡◌, codes, encode_utf8_all}
 use Rattle.vx_run.specs.Pages.{page_of}
-use Rattle.vx_run.specs.declared.row.Row.TheVariants.{Kleene, Coalesce, Cases, Fused}
+use Rattle.vx_run.specs.declared.row.Row.TheVariants.{Kleene, Coalesce, Cases, Fused, Branches}
 
 -- the page of `kleene`
 abbrev pub KleenePageIs : Type 0
@@ -18,3 +18,7 @@ CasesPageIs = page_of Cases ≡ encode_utf8_all (codes "text: CASE WHEN ($.x > 0
 -- the page of `fused`
 abbrev pub FusedPageIs : Type 0
 FusedPageIs = page_of Fused ≡ encode_utf8_all (codes "text: (null <= $.x <= 5i32)\ntype: bool?\nresult: [false, null]\ntree:\nvortex.between(lower_strict: <=, upper_strict: <=)\n├── array: vortex.get_item(x)\n│   └── input: vortex.root()\n├── lower: vortex.literal(null)\n└── upper: vortex.literal(5i32)\n")
+
+-- the page of `branches`
+abbrev pub BranchesPageIs : Type 0
+BranchesPageIs = page_of Branches ≡ encode_utf8_all (codes "text: vortex.fill_null($.x, 0i32)\ntype: i32\nresult: [0i32, 4i32]\ntree:\nvortex.fill_null()\n├── input: vortex.get_item(x)\n│   └── input: vortex.root()\n└── fill_value: vortex.literal(0i32)\n")

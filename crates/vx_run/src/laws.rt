@@ -1,5 +1,6 @@
 // Laws of the pages.
-ghost use Rattle.vx_run.specs.PageTexts.{KleenePageIs, CoalescePageIs, CasesPageIs, FusedPageIs};
+ghost use Rattle.vx_run.specs.PageTexts.{KleenePageIs, CoalescePageIs, CasesPageIs, FusedPageIs, BranchesPageIs};
+ghost use Rattle.vx_run.specs.Branches.{BranchesIsNormalForm};
 ghost use Rattle.vx_run.specs.Fused.{FusedIsKleeneMerged};
 
 /// The page of the row `kleene`, byte for byte.
@@ -22,7 +23,17 @@ pub fn fused_page_is()
     ensures { FusedPageIs }
 {}
 
+/// The page of the row `branches`, byte for byte.
+pub fn branches_page_is()
+    ensures { BranchesPageIs }
+{}
+
 /// The tree of the row `fused` is what merging leaves of that of the row `kleene`.
 pub fn fused_is_kleene_merged()
     ensures { FusedIsKleeneMerged }
+{}
+
+/// The tree of the row `branches` is what the branch rules leave of its CASE, whatever their order.
+pub fn branches_is_normal_form()
+    ensures { BranchesIsNormalForm }
 {}

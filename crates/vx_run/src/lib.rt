@@ -1,6 +1,7 @@
 // A run of the program, over any two writers.
 #![tactic(auto)]
 
+mod branches;
 mod cases;
 mod coalesce;
 mod examples;
@@ -13,7 +14,8 @@ mod run;
 mod writing;
 
 pub use laws::{
-    cases_page_is, coalesce_page_is, fused_is_kleene_merged, fused_page_is, kleene_page_is,
+    branches_is_normal_form, branches_page_is, cases_page_is, coalesce_page_is,
+    fused_is_kleene_merged, fused_page_is, kleene_page_is,
 };
 pub use row::Row;
 pub use run::run_show;

@@ -12,13 +12,14 @@ ghost use Rattle.vx_types.specs.ValueTexts.{column_text};
 ghost use Rattle.vx_dtype.specs.Texts.{type_text};
 ghost use Rattle.vx_eval.specs.Evaluation.{evaluation};
 ghost use Rattle.vx_query.specs.Queries.{IsBound};
+ghost use Rattle.vx_run.specs.Branches.{branches};
 ghost use Rattle.vx_run.specs.Fused.{fused};
 ghost use Rattle.vx_run.specs.Pages.{page_of, page_text, lines, lines_of};
 ghost use Rattle.vx_run.specs.Quiet.{IsQuiet};
-ghost use Rattle.vx_run.specs.declared.row.Row.TheVariants.{Fused};
+ghost use Rattle.vx_run.specs.declared.row.Row.TheVariants.{Branches, Fused};
 
 use crate::row::Row;
-use crate::{cases, coalesce, fused, kleene};
+use crate::{branches, cases, coalesce, fused, kleene};
 use std::alloc::Global;
 use vx_query::run_query;
 use vx_tree::{BoundExpression, Expression};
@@ -42,6 +43,7 @@ pub fn page(alloc: Global, row: Row) -> VortexResult<String>
             sample_text(alloc, cases::source(alloc)?, batch)
         }
         Row::Fused => fused_page(alloc),
+        Row::Branches => branches_page(alloc),
     }
 }
 
@@ -63,6 +65,27 @@ fn fused_text(alloc: Global, tree: &BoundExpression, batch: &Column) -> VortexRe
     ensures { let tree = bound_of tree.now in Answers string_bytes result (Ok (lines (unbound tree) batch.now (node_type tree))) }
 {
     let column = fused::result(alloc, batch)?;
+    bound_text(alloc, tree, batch, &column)
+}
+
+// The page of the row `branches`: the CASE as a query by the branch rules.
+fn branches_page(alloc: Global) -> VortexResult<String>
+    ensures { Answers string_bytes result (Ok (page_of Branches)) }
+{
+    let batch = coalesce::batch(alloc)?;
+    let tree = branches::tree(alloc, batch.dtype())?;
+    let text = branches_text(alloc, &tree, &batch);
+    drop(tree);
+    text
+}
+
+// The lines of the tree of the row `branches`. Asks that tree, and its batch.
+fn branches_text(alloc: Global, tree: &BoundExpression, batch: &Column) -> VortexResult<String>
+    requires tree { binding branches.source branches.batch.type ≡ Ok (bound_of tree.now) }
+    requires batch { batch.now ≡ branches.batch }
+    ensures { let tree = bound_of tree.now in Answers string_bytes result (Ok (lines (unbound tree) batch.now (node_type tree))) }
+{
+    let column = branches::result(alloc, batch)?;
     bound_text(alloc, tree, batch, &column)
 }
 
@@ -115,17 +138,16 @@ fn result_of(alloc: Global, source: &Expression, batch: &Column) -> VortexResult
     run_query(alloc, source, batch, &[], false)
 }
 
-// The tree's text, its type, its result over the batch, and its tree text. Asks a tree that faults
-// on no batch, and what it gives over this one.
-#[tactic(auto, using(crate::proofs::Quiet::never_faults))]
+// The tree's text, its type, its result over the batch, and its tree text. Asks what it gives over
+// the batch.
+#[tactic(auto, using(crate::proofs::Shown::evaluated))]
 fn bound_text(
     alloc: Global,
     bound: &BoundExpression,
     batch: &Column,
     column: &Column,
 ) -> VortexResult<String>
-    requires quiet { IsQuiet (unbound (bound_of bound.now)) }
-    requires column { evaluation (bound_of bound.now) batch.now ≡ Ok column.now }
+    requires { evaluation (bound_of bound.now) batch.now ≡ Ok column.now }
     ensures { let tree = bound_of bound.now in Answers string_bytes result (Ok (lines (unbound tree) batch.now (node_type tree))) }
 {
     lines(alloc, bound, bound.dtype(), column)

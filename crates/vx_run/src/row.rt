@@ -13,6 +13,8 @@ pub enum Row {
     Cases,
     /// The bounds of `Kleene` as one range.
     Fused,
+    /// A CASE whose first condition never holds, after the branch rules.
+    Branches,
 }
 
 /// The row that the words name, or the complaint that is made of them.
@@ -38,6 +40,7 @@ fn row_named(name: &str) -> Option<Row>
         "coalesce" => Some(Row::Coalesce),
         "cases" => Some(Row::Cases),
         "fused" => Some(Row::Fused),
+        "branches" => Some(Row::Branches),
         _ => None,
     }
 }

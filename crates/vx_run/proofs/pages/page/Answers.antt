@@ -5,3 +5,6 @@ use Rattle.vx_run.proofs.pages.page.Goals as goal
 
 pub returns-in-Fused : goal.returns-in-Fused
 returns-in-Fused c = subst (λ r. Answers string_bytes c.fused_page.result (Ok (page_of r))) (sym c.in-Fused.is) c.fused_page.ensures
+
+pub returns-in-Branches : goal.returns-in-Branches
+returns-in-Branches c = subst (λ r. Answers string_bytes c.branches_page.result (Ok (page_of r))) (sym c.in-Branches.is) c.branches_page.ensures
