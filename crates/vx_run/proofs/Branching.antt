@@ -13,11 +13,11 @@ use Rattle.vx_tree.specs.Views.{bound_of}
 use Rattle.vx_tree.specs.declared.bound.BoundExpression.{BoundExpression}
 use Rattle.vx_keep.specs.Steps.{here, Steps, no_step, one_more, GivesNothing, Normal, NormalBelow}
 use Rattle.vx_optimizer.specs.NormalForms.{NormalForm}
-use Rattle.vx_rules.specs.Modest.{IsLiteral, is_literal}
-use Rattle.vx_rules.specs.Rules.{RuleAt, fill_of_not_null, coalesce_to_null, coalesce, null_first, one_bound, two_bounds, three_bounds, literal_node}
+use Rattle.vx_rule_sets.specs.Modest.{IsLiteral, is_literal}
+use Rattle.vx_rules.specs.Rules.{RuleAt, fill_of_not_null, coalesce_to_null, coalesce, null_first}
+use Rattle.vx_rule_sets.specs.Nodes.{one_bound, two_bounds, three_bounds, literal_node}
 use Rattle.vx_branch_rules.specs.Branches.{BranchRuleAt, other_pairs, is_false}
-use Rattle.vx_branch_rules.proofs.Lawfulness.{branch_rules_modest}
-use Rattle.vx_branch_rules.proofs.Unique.{one_normal_form}
+use Rattle.vx_branch_rules.proofs.Lawfulness.{branch_rules_modest, branch_form_is_one}
 use Rattle.vx_run.specs.Branches.{BranchesIsNormalForm, branches, never_then_zero}
 
 -- `$.x`, whether it is null, false and 0, bound to the rows' type
@@ -104,7 +104,7 @@ to_filled = one_more (here (inr (other_pairs is_false (omega arith) refl))) (one
 
 -- the tree of `branches` is the only normal form of the CASE
 pub one_form : (u : BoundTree) (n : ℕ) → Steps BranchRuleAt unfilled n u → Normal BranchRuleAt u → filled ≡ u
-one_form u n s g = one_normal_form unfilled filled u 2 n unfilled_typed below_normal to_filled filled_normal s g
+one_form u n s g = branch_form_is_one unfilled filled u 2 n unfilled_typed below_normal to_filled filled_normal s g
 
 pub branches_is_normal_form : BranchesIsNormalForm
 branches_is_normal_form b u n e s g =
