@@ -8,7 +8,9 @@ use crate::scene::Scene;
 use crate::told::{agreed, barred, push_rows, refused, typed};
 use std::alloc::Global;
 use vx_eval::apply_bound;
-use vx_rewrite::{Optimize, StandardRules, find_between, optimize_with};
+use vx_rewrite::{
+    BranchRules, Optimize, Pass, Rule, StandardRules, find_between, optimize_with, run_passes,
+};
 use vx_samples::Unread;
 use vx_tree::{BoundExpression, Column, Expression, VortexError, VortexResult};
 
@@ -33,6 +35,9 @@ pub fn answer(
         | BoundKind::OptimizedRows
         | BoundKind::OptimizedOrNone
         | BoundKind::OptimizedAtRoot
+        | BoundKind::ByBranches
+        | BoundKind::ByBranchesRows
+        | BoundKind::ByBranchesOrNone
         | BoundKind::Fused
         | BoundKind::FusedRows => rewritten(alloc, kind, scene, &bound),
         BoundKind::Paths
@@ -116,6 +121,10 @@ fn rewritten(
         }
         BoundKind::OptimizedOrNone => optimized_or_none(alloc, bound),
         BoundKind::OptimizedAtRoot => optimized_at_root(alloc, bound),
+        BoundKind::ByBranches | BoundKind::ByBranchesRows => {
+            by_rules(alloc, kind, scene, &BranchRules, bound)
+        }
+        BoundKind::ByBranchesOrNone => by_branches_or_none(alloc, bound),
         BoundKind::Fused | BoundKind::FusedRows => fused(alloc, kind, scene, bound),
         _ => optimized(alloc, kind, scene, bound),
     }
@@ -130,9 +139,37 @@ fn optimized(
     requires { WellTyped (bound_of bound.now) }
 {
     let left = Box::new(alloc, bound.optimize_recursive(alloc)?)?;
+    typed_or_rows(alloc, kind, scene, &left)
+}
+
+// What the rules leave, the tree itself where none fits at any node.
+fn by_rules<R: Rule>(
+    alloc: Global,
+    kind: BoundKind,
+    scene: &Scene,
+    rules: &R,
+    bound: &BoundExpression,
+) -> VortexResult<String>
+    requires { WellTyped (bound_of bound.now) }
+{
+    match optimize_with(alloc, rules, bound)? {
+        Some(left) => typed_or_rows(alloc, kind, scene, &*Box::new(alloc, left)?),
+        None => typed_or_rows(alloc, kind, scene, bound),
+    }
+}
+
+// The text and the type of what is left, or its rows.
+fn typed_or_rows(
+    alloc: Global,
+    kind: BoundKind,
+    scene: &Scene,
+    left: &BoundExpression,
+) -> VortexResult<String>
+    requires { WellTyped (bound_of left.now) }
+{
     match kind {
-        BoundKind::OptimizedRows => rows(alloc, scene, &left),
-        _ => typed(alloc, &left),
+        BoundKind::OptimizedRows | BoundKind::ByBranchesRows => rows(alloc, scene, left),
+        _ => typed(alloc, left),
     }
 }
 
@@ -159,15 +196,36 @@ fn optimized_or_none(alloc: Global, bound: &BoundExpression) -> VortexResult<Str
     requires { WellTyped (bound_of bound.now) }
 {
     let tried = typed_or_none(alloc, bound.try_optimize_recursive(alloc)?)?;
-    let by_rules = typed_or_none(alloc, optimize_with(alloc, &StandardRules, bound)?)?;
-    if tried.as_str() != "none" {
-        return agreed(alloc, tried, by_rules);
-    }
     let left = Box::new(alloc, bound.optimize_recursive(alloc)?)?;
-    if *left != *bound {
-        return Ok(format!(in alloc; "none, and optimized {left}")?);
-    }
+    let by_rules = by_rules_or_none(alloc, &StandardRules, bound, &left)?;
     agreed(alloc, tried, by_rules)
+}
+
+fn by_branches_or_none(alloc: Global, bound: &BoundExpression) -> VortexResult<String>
+    requires { WellTyped (bound_of bound.now) }
+{
+    let passed = run_passes(alloc, bound.clone()?, &[Pass::Branches])?;
+    by_rules_or_none(alloc, &BranchRules, bound, &*Box::new(alloc, passed)?)
+}
+
+// What the rules give, none where no rule fits at any node. What another call leaves has to be the
+// same, and the tree itself where none fits.
+fn by_rules_or_none<R: Rule>(
+    alloc: Global,
+    rules: &R,
+    bound: &BoundExpression,
+    left: &BoundExpression,
+) -> VortexResult<String>
+    requires { WellTyped (bound_of bound.now) }
+{
+    let given = typed_or_none(alloc, optimize_with(alloc, rules, bound)?)?;
+    if given.as_str() != "none" {
+        return agreed(alloc, given, typed(alloc, left)?);
+    }
+    if *left != *bound {
+        return Ok(format!(in alloc; "none, and left {left}")?);
+    }
+    Ok(given)
 }
 
 fn typed_or_none(alloc: Global, tree: Option<BoundExpression>) -> VortexResult<String> {

@@ -44,11 +44,12 @@ pub fn by_chance(alloc: Global, words: &str) -> Result<String, Unread> {
 fn agrees(alloc: Global, source: &Expression, batch: &Column) -> VortexResult<Option<bool>> {
     let bound = Box::new(alloc, source.bind(alloc, batch.dtype())?)?;
     let plain = apply_bound(alloc, batch, &bound);
-    let queries: [(&[Pass], bool); 5] = [
+    let queries: [(&[Pass], bool); 6] = [
         (&[], false),
         (&[Pass::Optimize], false),
         (&[Pass::OptimizeRecursive], false),
         (&[Pass::FindBetween], false),
+        (&[Pass::Branches], false),
         (&[], true),
     ];
     for (passes, split) in queries {

@@ -14,7 +14,8 @@ pub struct Plan {
     pub split: bool,
 }
 
-/// The plan of the words: `root`, `all` and `fuse` for passes, `none` for none, and at last `split`.
+/// The plan of the words: `root`, `all`, `fuse` and `branches` for passes, `none` for none, and at
+/// last `split`.
 pub fn read_plan(alloc: Global, words: &str) -> Result<Plan, Unread> {
     let mut passes = Vec::new(alloc);
     let mut split = false;
@@ -23,6 +24,7 @@ pub fn read_plan(alloc: Global, words: &str) -> Result<Plan, Unread> {
             "root" => passes.push(Pass::Optimize)?,
             "all" => passes.push(Pass::OptimizeRecursive)?,
             "fuse" => passes.push(Pass::FindBetween)?,
+            "branches" => passes.push(Pass::Branches)?,
             "split" => split = true,
             "none" => {}
             _ => return Err(Unread::Word("no pass")),
@@ -48,7 +50,12 @@ pub fn query_rows(
 
 /// What the query gives by each list of at most two passes, split and not.
 pub fn any_query(alloc: Global, scene: &Scene, source: &Expression) -> VortexResult<String> {
-    let passes = [Pass::Optimize, Pass::OptimizeRecursive, Pass::FindBetween];
+    let passes = [
+        Pass::Optimize,
+        Pass::OptimizeRecursive,
+        Pass::FindBetween,
+        Pass::Branches,
+    ];
     let none = split_or_not(alloc, scene, source, Vec::new(alloc))?;
     let mut told = String::from_str(alloc, none.as_str())?;
     for first in passes {
