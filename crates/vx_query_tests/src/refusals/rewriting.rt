@@ -6,7 +6,9 @@ use crate::refusals::answered;
 use std::alloc::Global;
 use std::process::Abort;
 use std::test::Fail;
-use vx_rewrite::{BoundLabels, Optimize, find_between, label_bound_tree};
+use vx_rewrite::{
+    BoundLabels, BranchRules, Optimize, find_between, label_bound_tree, optimize_with,
+};
 use vx_samples::{bound, boxed, dtype, reads};
 use vx_tree::test_harness::struct_dtype;
 use vx_tree::{BoundExpression, ExactBoundExpr, Expression, VortexResult};
@@ -75,6 +77,49 @@ fn optimize_recursive_of_items_and_cases(rt: HostRuntime) -> Result<(), Fail> {
     leaves_of(&rt, alloc, &*item, "vortex.mask($.x, true)")?;
     let case = boxed(alloc, "x is_null 0 x case")?;
     leaves_of(&rt, alloc, &*case, "vortex.fill_null($.x, 0i32)")
+}
+
+/// Asserts what the branch rules leave of the words over `{x=i32?,y=i32}`, and that the tree stays as
+/// it was.
+fn decides(
+    rt: &(impl Abort + Print),
+    alloc: Global,
+    words: &str,
+    before: &str,
+    text: &str,
+) -> Result<(), Fail> {
+    let scope = dtype(alloc, "{x=i32?,y=i32}")?;
+    let bound = bound(alloc, words, &scope)?;
+    rt.println("called")?;
+    let answer = optimize_with(alloc, &BranchRules, &*bound);
+    assert!(rt; reads(&*bound, before));
+    let left = answer?;
+    assert!(rt; matches!(&left, Some(left) if reads(left, text)));
+    answered(rt)
+}
+
+// One of each of the four rules, and one with a standard rule behind it.
+#[test]
+fn optimize_with_branch_rules(rt: HostRuntime) -> Result<(), Fail> {
+    let alloc = rt.alloc();
+    let then = "CASE WHEN true THEN 1i32 ELSE $.x END";
+    decides(&rt, alloc, "true 1 x case", then, "cast(1i32 as i32?)")?;
+    let others = "CASE WHEN false THEN $.x WHEN ($.y > 0i32) THEN 1i32 ELSE 2i32 END";
+    let left = "CASE WHEN ($.y > 0i32) THEN 1i32 ELSE 2i32 END";
+    decides(&rt, alloc, "false x y 0 > 1 2 case2", others, left)?;
+    let otherwise = "CASE WHEN null THEN $.x ELSE 2i32 END";
+    decides(
+        &rt,
+        alloc,
+        "null:bool? x 2 case",
+        otherwise,
+        "cast(2i32 as i32?)",
+    )?;
+    let none = "CASE WHEN false THEN 1i32 END";
+    decides(&rt, alloc, "false 1 when", none, "null")?;
+    let case = "CASE WHEN false THEN $.x WHEN vortex.is_null($.x) THEN 0i32 ELSE $.x END";
+    let fill = "vortex.fill_null($.x, 0i32)";
+    decides(&rt, alloc, "false x x is_null 0 x case2", case, fill)
 }
 
 /// `($.col1 = 5u16)`
