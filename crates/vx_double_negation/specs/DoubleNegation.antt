@@ -84,7 +84,7 @@ lightens b u w negated_twice = omega arith
 not_at_literals : {b u : BoundTree} → DoubleNegationAt b u → IsLiteral b → ⊥
 not_at_literals negated_twice l = elim l [ ]
 
-double_negation_modest : Modest DoubleNegationAt
+pub double_negation_modest : Modest DoubleNegationAt
 double_negation_modest = record {
   from = λ b u r. elim r [ negated_twice {x = x} ↦ below_inside x _ (in_first at_first) ];
   at_literals = λ b l u r. not_at_literals r l;
