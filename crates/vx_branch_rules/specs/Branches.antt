@@ -6,6 +6,7 @@ use Rattle.vx_tree.specs.Trees.{BoundTree, node, BoundTrees, bound, node_types}
 use Rattle.vx_rule_sets.specs.Sets.{either}
 use Rattle.vx_rules.specs.Rules.{RuleAt}
 use Rattle.vx_rule_sets.specs.Nodes.{two_bounds, three_bounds, literal_node, AsType}
+
 -- false or null: a condition that never chooses its value
 pub data NeverHolds : Datum → Type 0 where
   is_false : NeverHolds (bool false)

@@ -7,6 +7,7 @@ use Rattle.vx_fn.specs.Functions.{case_when}
 use Rattle.vx_tree.specs.Binding.{node_over}
 use Rattle.vx_tree.specs.Trees.{BoundTree, node, BoundTrees, bound, WellTyped}
 use Rattle.vx_rule_sets.specs.Nodes.{as_type, literal_value, only_one, literal_node, first_two}
+
 -- the CASE of the other pairs, with the type that they give
 abbrev pub others_given : ℕ → Bool → BoundTrees → Option BoundTree
 others_given pairs has_else rest = result_ok (node_over (case_when (pairs - 1) has_else) rest)

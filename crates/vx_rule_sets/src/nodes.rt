@@ -92,7 +92,11 @@ pub fn first_two(
 /// The tree as one of the type: itself, or a cast of it where its type is another.
 ///
 /// Refuses with `OutOfMemory` (1) alone.
-pub fn as_type(alloc: Global, dtype: &DType, tree: &BoundExpression) -> VortexResult<BoundExpression>
+pub fn as_type(
+    alloc: Global,
+    dtype: &DType,
+    tree: &BoundExpression,
+) -> VortexResult<BoundExpression>
     ensures { Answers bound_of result (Ok (as_type (type_of dtype.now) (bound_of tree.now))) }
 {
     if tree.dtype() == dtype {
@@ -123,10 +127,7 @@ pub fn null_of(alloc: Global, dtype: &DType) -> VortexResult<BoundExpression>
 }
 
 /// The same trees, in a list of their own: the children of each are shared with it, not copied.
-pub fn copies(
-    alloc: Global,
-    trees: &[BoundExpression],
-) -> Result<Vec<BoundExpression>, AllocError>
+pub fn copies(alloc: Global, trees: &[BoundExpression]) -> Result<Vec<BoundExpression>, AllocError>
     ensures { IfOk result (λ v. map bound_of v.items ≡ map bound_of trees.now) }
 {
     let mut copied = Vec::with_capacity(alloc, trees.len())?;
