@@ -1,6 +1,6 @@
 -- A rule set of one rule, from its definition to its laws: a negation of a negation is what is negated.
 use Rattle.std.proofs.Common.{◌≡◌, ◌<◌, [], ◌∷◌, refl, sym, subst, Bool, true, false, arith}
-use Rattle.std.specs.Prelude.{Option, Some, option_and_then}
+use Rattle.std.specs.Prelude.{Option, Some, None, option_and_then}
 use Rattle.vx_types.specs.Fits.{Fits}
 use Rattle.vx_types.specs.Types.{LogicalType, ty, atomic, truth, Datum, null, bool}
 use Rattle.vx_dtype.specs.Joins.{Narrower}
@@ -8,7 +8,7 @@ use Rattle.vx_fn.specs.Functions.{negation}
 use Rattle.vx_fn.specs.Rows.{FnType, of_not}
 use Rattle.vx_fn.specs.Values.{kleene_not}
 use Rattle.vx_tree.specs.Meaning.{value}
-use Rattle.vx_rule_sets.specs.Prelude.{BoundTree, node, BoundTrees, no_bound, bound, node_type, WellTyped, Keeps, Lawful, weight, one_bound, only_one, Inside, in_first, at_first, IsLiteral, Modest, DecidedBy}
+use Rattle.vx_rule_sets.specs.Prelude.{BoundTree, node, BoundTrees, no_bound, bound, node_type, WellTyped, Keeps, Lawful, weight, one_bound, only_one, Inside, in_first, at_first, IsLiteral, EachFrom, Modest, DecidedBy, bound_children_of}
 use Rattle.vx_rule_sets.proofs.Prelude.{narrower_refl, fn_type-found, value-fits, each_passes, only_quiet, below_inside, modest_lawful}
 
 -- ---- the rule
@@ -81,14 +81,14 @@ keeps b x w (negated_twice {t = t} {u = u}) =
 lightens : (b u : BoundTree) → WellTyped b → DoubleNegationAt b u → weight u < weight b
 lightens b u w negated_twice = omega arith
 
+from_below : (b u : BoundTree) → DoubleNegationAt b u → EachFrom (bound_children_of b) (bound_children_of u)
+from_below b x negated_twice = below_inside x _ (in_first at_first)
+
 not_at_literals : {b u : BoundTree} → DoubleNegationAt b u → IsLiteral b → ⊥
 not_at_literals negated_twice l = elim l [ ]
 
 pub double_negation_modest : Modest DoubleNegationAt
-double_negation_modest = record {
-  from = λ b u r. elim r [ negated_twice {x = x} ↦ below_inside x _ (in_first at_first) ];
-  at_literals = λ b l u r. not_at_literals r l;
-}
+double_negation_modest = record { from = from_below; at_literals = λ b l u r. not_at_literals r l }
 
 pub double_negation_lawful : Lawful DoubleNegationAt
 double_negation_lawful = modest_lawful DoubleNegationAt double_negation_modest keeps lightens

@@ -1,5 +1,6 @@
 -- What the definition of a rule set names, in one place.
 pub use Rattle.vx_tree.specs.Trees.{BoundTree, scope, node, BoundTrees, no_bound, bound, node_type, node_types, WellTyped, Over}
+pub use Rattle.vx_tree.specs.Nodes.{bound_children_of}
 pub use Rattle.vx_keep.specs.Keeps.{Keeps}
 pub use Rattle.vx_keep.specs.Lawful.{Lawful}
 pub use Rattle.vx_keep.specs.Steps.{Normal, NormalBelow, GivesNothing}
