@@ -94,7 +94,7 @@ const PAIRS: [&str; 4] = [
 ];
 
 /// Nodes that give what their children give.
-pub const OF_ANY_KIND: [&str; 12] = [
+pub const OF_ANY_KIND: [&str; 15] = [
     "N1 X2 pack(q,p) .p",
     "N1 X2 pack(q,p)? .p",
     "X1 X2 T3 zip",
@@ -108,4 +108,8 @@ pub const OF_ANY_KIND: [&str; 12] = [
     // null is replaced, or stays
     "X1 is_null #x X1 case",
     "X1 is_not_null X1 #x case",
+    // the first condition decides
+    "#t X1 X2 case",
+    "#t X1 T2 X3 #x case2",
+    "#t X1 when",
 ];
