@@ -46,9 +46,9 @@ same_lines view b u c d r tree rows says =
 -- the lines of the tree of `fused` are its page
 pub fused_shown : {A : Type 0} (view : A → List ℕ) (b : BoundTree) (c : Batch) (r : Result A VortexError) → Answers (λ x. x) (Ok c) (Ok kleene.batch) → binding fused.source fused.batch.type ≡ Ok b
     → Answers view r (Ok (lines (unbound b) c (node_type b))) → Answers view r (Ok (page_of Fused))
-fused_shown view b c r given is says = same_lines view b range c kleene.batch r cc (same_batch c kleene.batch given) says
+fused_shown view b c r given is says = let found : b ≡ range = cc in same_lines view b range c kleene.batch r found (same_batch c kleene.batch given) says
 
 -- and those of the tree of `branches` its page
 pub branches_shown : {A : Type 0} (view : A → List ℕ) (b : BoundTree) (c : Batch) (r : Result A VortexError) → Answers (λ x. x) (Ok c) (Ok coalesce.batch) → binding branches.source branches.batch.type ≡ Ok b
     → Answers view r (Ok (lines (unbound b) c (node_type b))) → Answers view r (Ok (page_of Branches))
-branches_shown view b c r given is says = same_lines view b filled c coalesce.batch r cc (same_batch c coalesce.batch given) says
+branches_shown view b c r given is says = let found : b ≡ filled = cc in same_lines view b filled c coalesce.batch r found (same_batch c coalesce.batch given) says

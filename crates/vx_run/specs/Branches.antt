@@ -1,5 +1,5 @@
 -- What the row `branches` shows: a CASE whose first condition never holds, after the branch rules.
-use Rattle.std.specs.Prelude.{◌≡◌, ℕ, false, Ok}
+use Rattle.std.specs.Prelude.{◌≡◌, ℕ, true, false, Ok}
 use Rattle.vx_types.specs.Types.{bool}
 use Rattle.vx_fn.specs.Functions.{case_when, fill_null, is_null, truth_type}
 use Rattle.vx_tree.specs.Binding.{binding}
