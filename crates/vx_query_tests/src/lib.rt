@@ -1,5 +1,5 @@
-// Tests of analyses, rewriting, queries and the program that no row of a table says: closures and
-// keys of our own, writers that fail, and refused memory.
+// Tests of analyses, rewriting, queries and the program that no row of a table says: closures, keys
+// and rules of our own, writers that fail, and refused memory.
 #![tactic(auto)]
 
 #[cfg(test)]
@@ -8,6 +8,8 @@ mod closures;
 mod field_paths;
 #[cfg(test)]
 mod named_alike;
+#[cfg(test)]
+mod own_rules;
 #[cfg(test)]
 mod pressure;
 #[cfg(test)]

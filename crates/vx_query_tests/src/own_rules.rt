@@ -1,0 +1,52 @@
+// The optimizer by rules of a test's own.
+use crate::worked::scope;
+use std::alloc::Global;
+use std::test::Fail;
+use vx_rewrite::{Rule, StandardRules, optimize_with};
+use vx_samples::{bound, reads};
+use vx_tree::{BoundExpression, Literal, VortexError, VortexResult};
+
+/// The standard rules, to which memory is refused at each literal.
+struct Refused;
+
+impl Rule for Refused {
+    ghost use Rattle.vx_rules.specs.Rules.{RuleAt};
+    ghost use Rattle.vx_rules.proofs.Lawfulness.{rules_lawful};
+
+    ghost gives = { λ _. RuleAt };
+
+    ghost lawful = { λ _. rules_lawful };
+
+    fn apply_at(
+        &self,
+        alloc: Global,
+        node: &BoundExpression,
+    ) -> VortexResult<Option<BoundExpression>> {
+        if node.is::<Literal>() {
+            return Err(VortexError::OutOfMemory);
+        }
+        StandardRules.apply_at(alloc, node)
+    }
+}
+
+#[test]
+fn rules_of_our_own_are_applied(rt: HostRuntime) -> Result<(), Fail> {
+    let alloc = rt.alloc();
+    let e = bound(alloc, "a pack(p) .p .x", &scope(alloc)?)?;
+    let left = optimize_with(alloc, &Refused, &*e)?;
+    assert!(rt; matches!(&left, Some(left) if reads(left, "$.a.x")));
+    let e = bound(alloc, "a.x", &scope(alloc)?)?;
+    assert!(rt; optimize_with(alloc, &Refused, &*e)?.is_none());
+    Ok(())
+}
+
+// At the second child, behind one that is changed.
+#[test]
+fn a_refusal_of_a_rule_is_passed_on(rt: HostRuntime) -> Result<(), Fail> {
+    let alloc = rt.alloc();
+    let e = bound(alloc, "b pack(p) .p 5 <", &scope(alloc)?)?;
+    let left = optimize_with(alloc, &Refused, &*e);
+    assert!(rt; matches!(left, Err(VortexError::OutOfMemory)));
+    assert!(rt; reads(&*e, "(pack(p: $.b).p < 5i32)"));
+    Ok(())
+}
