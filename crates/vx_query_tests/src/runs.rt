@@ -64,6 +64,16 @@ vortex.between(lower_strict: <=, upper_strict: <=)
 └── upper: vortex.literal(5i32)
 ";
 
+pub const BRANCHES: &str = "text: vortex.fill_null($.x, 0i32)
+type: i32
+result: [0i32, 4i32]
+tree:
+vortex.fill_null()
+├── input: vortex.get_item(x)
+│   └── input: vortex.root()
+└── fill_value: vortex.literal(0i32)
+";
+
 /// Takes so many writes of at most so many bytes, and then fails.
 #[derive(Drop)]
 struct Halting {
@@ -121,6 +131,7 @@ fn the_words_give_a_page_or_a_message(rt: HostRuntime) -> Result<(), Fail> {
     gives(&rt, alloc, &["coalesce"], 0, (COALESCE, ""))?;
     gives(&rt, alloc, &["cases"], 0, (CASES, ""))?;
     gives(&rt, alloc, &["fused"], 0, (FUSED, ""))?;
+    gives(&rt, alloc, &["branches"], 0, (BRANCHES, ""))?;
     gives(&rt, alloc, &["zz"], 2, ("", "unknown row\n"))?;
     let usage = "usage: vx_show ROW\n";
     gives(&rt, alloc, &[], 2, ("", usage))?;

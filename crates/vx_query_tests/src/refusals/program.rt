@@ -1,6 +1,6 @@
 // The program whose memory is refused: the page whole, or not a byte of it.
 use crate::refusals::answered;
-use crate::runs::{CASES, COALESCE, FUSED, KLEENE, words_of};
+use crate::runs::{BRANCHES, CASES, COALESCE, FUSED, KLEENE, words_of};
 use std::alloc::Global;
 use std::process::Abort;
 use std::test::Fail;
@@ -34,6 +34,7 @@ fn run_show_of_each_row(rt: HostRuntime) -> Result<(), Fail> {
         ("coalesce", COALESCE),
         ("cases", CASES),
         ("fused", FUSED),
+        ("branches", BRANCHES),
     ] {
         shows(&rt, alloc, row, page)?;
     }
