@@ -2,6 +2,7 @@
 use crate::worked::scope;
 use std::alloc::Global;
 use std::test::Fail;
+use vx_double_negation::DoubleNegation;
 use vx_rewrite::{Rule, StandardRules, optimize_with};
 use vx_samples::{bound, reads};
 use vx_tree::{BoundExpression, Literal, VortexError, VortexResult};
@@ -30,13 +31,13 @@ impl Rule for Refused {
 }
 
 #[test]
-fn rules_of_our_own_are_applied(rt: HostRuntime) -> Result<(), Fail> {
+fn a_rule_of_our_own_is_applied(rt: HostRuntime) -> Result<(), Fail> {
     let alloc = rt.alloc();
-    let e = bound(alloc, "a pack(p) .p .x", &scope(alloc)?)?;
-    let left = optimize_with(alloc, &Refused, &*e)?;
-    assert!(rt; matches!(&left, Some(left) if reads(left, "$.a.x")));
-    let e = bound(alloc, "a.x", &scope(alloc)?)?;
-    assert!(rt; optimize_with(alloc, &Refused, &*e)?.is_none());
+    let e = bound(alloc, "b 5 < not not not", &scope(alloc)?)?;
+    let left = optimize_with(alloc, &DoubleNegation, &*e)?;
+    assert!(rt; matches!(&left, Some(left) if reads(left, "vortex.not(($.b < 5i32))")));
+    let e = bound(alloc, "b 5 < not", &scope(alloc)?)?;
+    assert!(rt; optimize_with(alloc, &DoubleNegation, &*e)?.is_none());
     Ok(())
 }
 
