@@ -1,25 +1,19 @@
 -- What the code answers is what the rules give.
-use Rattle.std.proofs.Common.{◌≡◌, inl, inr, ◌⊎◌, ◌<◌, ◌-◌, ℕ, List, [], ◌∷◌, length, refl, sym, ap, subst, Bool, true, false, arith}
-use Rattle.std.specs.Prelude.{Option, Some, None, Result, Ok, Err, IfOk, IfErr, MatchOption, IsOk, IsTrue}
-use Rattle.std.specs.Option.{option_map}
+use Rattle.std.proofs.Common.{◌≡◌, inl, inr, ◌⊎◌, ◌<◌, ◌-◌, ℕ, ◌∷◌, refl, sym, ap, subst, Bool, true, false, arith}
+use Rattle.std.specs.Prelude.{Some, Result, Ok, Err, IsOk, IsTrue}
 use Rattle.std.specs.Result.{result_ok}
 use Rattle.vx_dtype.specs.declared.error.VortexError.{VortexError}
-use Rattle.vx_dtype.specs.declared.error.VortexError.TheVariants.{OutOfMemory}
 use Rattle.vx_types.specs.Answers.{Answers}
 use Rattle.vx_types.specs.Types.{LogicalType, ty, is_nullable, with_nullability}
 use Rattle.vx_fn.specs.Functions.{case_when}
 use Rattle.vx_fn.proofs.Rows.{fn_type-found, fn_type-only}
-use Rattle.vx_keep.specs.Steps.{GivesNothing}
-use Rattle.vx_rules.specs.Rules.{RuleAt}
 use Rattle.vx_tree.specs.Binding.{node_over}
 use Rattle.vx_tree.specs.Trees.{BoundTree, node, BoundTrees, no_bound, bound, node_type, node_types, WellTyped}
-use Rattle.vx_tree.specs.Views.{bound_of, bounds_of}
+use Rattle.vx_tree.specs.Views.{bound_of}
 use Rattle.vx_tree.specs.declared.bound.BoundExpression.{BoundExpression}
 use Rattle.vx_rule_sets.proofs.Cases.{CaseTyped, case_typed, others_typed}
-use Rattle.vx_branch_rules.proofs.Decisions.{branch_decided}
-use Rattle.vx_branch_rules.specs.Branches.{BranchRuleAt}
 use Rattle.vx_rule_sets.specs.Nodes.{first_two}
-use Rattle.vx_branch_rules.specs.Given.{branch_given, AreBehindPair}
+use Rattle.vx_branch_rules.specs.Given.{AreBehindPair}
 
 -- ---- the first pair
 

@@ -8,7 +8,7 @@ use Rattle.vx_fn.specs.Functions.{negation}
 use Rattle.vx_fn.specs.Rows.{FnType, of_not}
 use Rattle.vx_fn.specs.Values.{kleene_not}
 use Rattle.vx_tree.specs.Meaning.{value}
-use Rattle.vx_rule_sets.specs.Prelude.{BoundTree, node, BoundTrees, no_bound, bound, node_type, WellTyped, Keeps, Lawful, weight, one_bound, only_one, Inside, in_first, at_first, IsLiteral, EachFrom, Modest, DecidedBy, bound_children_of}
+use Rattle.vx_rule_sets.specs.Prelude.{BoundTree, node, no_bound, bound, node_type, WellTyped, Keeps, Lawful, weight, one_bound, only_one, in_first, at_first, IsLiteral, EachFrom, Modest, DecidedBy, bound_children_of}
 use Rattle.vx_rule_sets.proofs.Prelude.{narrower_refl, fn_type-found, value-fits, each_passes, only_quiet, below_inside, modest_lawful}
 
 -- ---- the rule

@@ -3,7 +3,7 @@ use Rattle.std.specs.Prelude.{ℕ, Bool, true, false, ◌&&◌, ◌||◌, ◌==�
 use Rattle.std.specs.Option.{option_map}
 use Rattle.vx_types.specs.Fields.{field_count}
 use Rattle.vx_types.specs.Types.{struct_fields, Name, LogicalType, Fields, Datum, bool, is_nullable, is_null_datum}
-use Rattle.vx_fn.specs.Functions.{case_when, get_item, literal, pack, select, fill_null, zip, is_null, is_not_null, is_atomic}
+use Rattle.vx_fn.specs.Functions.{case_when, get_item, pack, select, fill_null, zip, is_null, is_not_null, is_atomic}
 use Rattle.vx_fn.specs.Selections.{kept_names}
 use Rattle.vx_fn.specs.declared.options.FieldSelection.{FieldSelection}
 use Rattle.vx_tree.specs.Trees.{BoundTree, node, no_bound, node_type}

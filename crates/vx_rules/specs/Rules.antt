@@ -2,7 +2,7 @@
 use Rattle.std.specs.Prelude.{◌≡◌, ◌≢◌, Bool, true, false, ◌&&◌, ◌||◌, not, List, [], ◌∷◌, Option, Some, None, if◌then◌else◌, IsTrue, IsFalse}
 use Rattle.std.specs.Str.{bytes_eq}
 use Rattle.vx_types.specs.Types.{Name, LogicalType, ty, struct, Fields, no_field, field, Datum, null, bool, is_nullable, with_nullability, is_null_datum}
-use Rattle.vx_fn.specs.Functions.{case_when, get_item, literal, pack, select, fill_null, zip, is_null, is_not_null, mask, cast, included, is_atomic, truth_type}
+use Rattle.vx_fn.specs.Functions.{case_when, get_item, pack, select, fill_null, zip, is_null, is_not_null, mask, included, is_atomic, truth_type}
 use Rattle.vx_fn.specs.declared.options.FieldSelection.{FieldSelection}
 use Rattle.vx_tree.specs.Trees.{BoundTree, node, BoundTrees, no_bound, bound, node_type}
 use Rattle.vx_rule_sets.specs.Nodes.{one_bound, two_bounds, three_bounds, literal_node, cast_node}
