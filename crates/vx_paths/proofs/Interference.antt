@@ -16,7 +16,8 @@ use Rattle.vx_tree.specs.Meaning.{value, values}
 use Rattle.vx_tree.specs.Trees.{BoundTree, scope, node, BoundTrees, no_bound, bound, node_type, node_types, WellTyped, EachWellTyped, Over, EachOver}
 use Rattle.vx_paths.specs.Agreement.{Agree, AgreeAlong}
 use Rattle.vx_paths.specs.Asked.{child_paths, asked, each_asked}
-use Rattle.vx_paths.proofs.Leading.{Leads, EachLeads, leads-nullability, agree-nullability, at_some, from_some, along-refl, agree-null, along-left, along-right, leads-append}
+use Rattle.vx_paths.specs.Leading.{Leads, EachLeads}
+use Rattle.vx_paths.proofs.Leading.{leads-nullability, agree-nullability, at_some, from_some, along-refl, agree-null, along-left, along-right, leads-append}
 use Rattle.vx_paths.proofs.Selections.{select_leads, select_agree}
 
 -- ---- an item
@@ -61,7 +62,7 @@ equal_values agree_none = refl
 equal_values (agree_more {v = v} {w = w} {vs = vs} {ws = ws} e es) = let q : v ≡ w = e.0 in let r : vs ≡ ws = equal_values es in cc
 
 -- what a node asks its children for leads to places in their types
-node_leads : {f : Function} {ts : List LogicalType} {t : LogicalType} (paths : List Path) → FnType f ts t → EachLeads paths t → LeadEverywhere (child_paths f ts paths) ts
+pub node_leads : {f : Function} {ts : List LogicalType} {t : LogicalType} (paths : List Path) → FnType f ts t → EachLeads paths t → LeadEverywhere (child_paths f ts paths) ts
 node_leads {ts = ts} [] d l = no_paths_lead ts
 node_leads (path ∷ paths) (of_get_item {a = a} {fs = fs} {s = s} {n = n} {m = m} e) l = (item_leads a fs s n m (m || n) (path ∷ paths) e l, tt)
 node_leads (path ∷ paths) (of_select {sel = sel} {fs = fs} {n = n} e) l = (select_leads (included sel fs) fs n (path ∷ paths) (included-known sel fs e) l, tt)

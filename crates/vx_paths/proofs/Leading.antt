@@ -1,4 +1,4 @@
--- Paths that lead to a place in a type, and agreement along them.
+-- Agreement along paths that lead to a place in a type.
 use Rattle.std.proofs.Common.{◌≡◌, List, [], ◌∷◌, ◌++◌, refl, sym, subst, Bool, true, false, Option, Some, None}
 use Rattle.std.specs.Option.{IsSomeAnd}
 use Rattle.vx_types.proofs.Fitting.{field_value-fits}
@@ -7,17 +7,7 @@ use Rattle.vx_types.specs.Fits.{Fits}
 use Rattle.vx_types.specs.Paths.{Path}
 use Rattle.vx_types.specs.Types.{LogicalType, ty, Shape, atomic, list, fixed, struct, Datum, null, struct_of}
 use Rattle.vx_paths.specs.Agreement.{Agree, AgreeAlong}
-
--- the path leads to a place in the type
-abbrev pub Leads : Path → LogicalType → Type 0
-Leads [] t = Unit {0}
-Leads (a ∷ path) (ty (struct fs) n) = IsSomeAnd (field_type a fs) (λ t. Leads path t)
-Leads (a ∷ path) _ = ⊥
-
--- each path leads to a place in the type
-abbrev pub EachLeads : List Path → LogicalType → Type 0
-EachLeads [] t = Unit {0}
-EachLeads (path ∷ paths) t = Leads path t × EachLeads paths t
+use Rattle.vx_paths.specs.Leading.{Leads, EachLeads}
 
 -- nullability matters neither to paths nor to agreement
 pub leads-nullability : (path : Path) (s : Shape) (n m : Bool) → Leads path (ty s n) → Leads path (ty s m)

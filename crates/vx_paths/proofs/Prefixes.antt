@@ -12,7 +12,8 @@ use Rattle.vx_types.specs.Paths.{Path, equal_path, is_member, add_path, add_path
 use Rattle.vx_types.specs.Types.{LogicalType, Datum}
 use Rattle.vx_fn.specs.Faults.{IsIn}
 use Rattle.vx_paths.specs.Agreement.{Agree, AgreeAlong}
-use Rattle.vx_paths.proofs.Leading.{Leads, EachLeads, agree-longer}
+use Rattle.vx_paths.specs.Leading.{Leads, EachLeads}
+use Rattle.vx_paths.proofs.Leading.{agree-longer}
 
 -- ---- members
 

@@ -10,7 +10,8 @@ use Rattle.vx_types.specs.Paths.{Path}
 use Rattle.vx_types.specs.Types.{Name, LogicalType, ty, struct, Fields, no_field, Datum, null, struct_of, Data}
 use Rattle.vx_paths.specs.Agreement.{Agree, AgreeAlong}
 use Rattle.vx_paths.specs.Asked.{each_alone, selected_path, selected_paths}
-use Rattle.vx_paths.proofs.Leading.{Leads, EachLeads, along-refl, along-left, along-right, leads-append}
+use Rattle.vx_paths.specs.Leading.{Leads, EachLeads}
+use Rattle.vx_paths.proofs.Leading.{along-refl, along-left, along-right, leads-append}
 use Rattle.vx_paths.proofs.Projections.{project-type, project-value, project-missing}
 
 -- ---- what is asked for leads to a place in the child's type

@@ -1,3 +1,4 @@
+pub mod Leading
 pub mod Agreement
 pub mod Asked
 pub mod Requests
