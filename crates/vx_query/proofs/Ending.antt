@@ -12,8 +12,9 @@ use Rattle.vx_tree.specs.Trees.{Tree, BoundTree, typed, node_type}
 use Rattle.vx_tree.proofs.Meant.{typed-unbound}
 use Rattle.vx_tree.proofs.Unique.{binding-unbound}
 use Rattle.vx_rewrite.specs.declared.passes.Pass.{Pass}
+use Rattle.vx_split.specs.Sources.{IsBound, IsMeantBy}
 use Rattle.vx_query.specs.Promises.{Promised}
-use Rattle.vx_query.specs.Queries.{IsBound, IsMeantBy, RunsPassed, not_passed}
+use Rattle.vx_query.specs.Queries.{RunsPassed, not_passed}
 use Rattle.vx_query.proofs.Running.{passed_means, passed_faults}
 
 -- a bound source has a type

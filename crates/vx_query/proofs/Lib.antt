@@ -1,10 +1,6 @@
 pub mod Lists
-pub mod Answered
-pub mod Counting
-pub mod Joined
 pub mod Faulting
 pub mod Optimized
 pub mod Unsplit
-pub mod Meant
 pub mod Running
 pub mod Ending

@@ -1,25 +1,12 @@
--- Loops over bound trees: what holds of those that are left, and what was made of those before.
-use Rattle.std.proofs.Common.{◌≡◌, ℕ, ◌+◌, ◌<◌, ◌≤◌, List, [], ◌∷◌, ◌++◌, length, get_or, drop, drop-cons, drop_of_length-le, add-one, refl, sym, ap, subst, ◌∙◌}
-use Rattle.vx_types.specs.Types.{LogicalType}
+-- Normal forms made one after another.
+use Rattle.std.proofs.Common.{◌≡◌, ℕ, ◌+◌, ◌<◌, ◌≤◌, List, [], ◌∷◌, ◌++◌, length, get_or, drop, drop_of_length-le, refl, sym, ap, subst, ◌∙◌}
 use Rattle.vx_tree.specs.declared.bound.BoundExpression.{BoundExpression}
-use Rattle.vx_tree.specs.Trees.{BoundTree, BoundTrees, no_bound, bound, WellTyped, EachWellTyped, Over, EachOver}
+use Rattle.vx_tree.specs.Trees.{BoundTree, BoundTrees, no_bound, bound}
 use Rattle.vx_tree.specs.Views.{bound_of, bounds_of}
 use Rattle.vx_keep.specs.Keeps.{KeepsEach, keeps_none, keeps_more}
 use Rattle.vx_optimizer.specs.NormalForms.{NormalForm, NormalForms, no_form, form}
 use Rattle.vx_tree.proofs.Bindings.{before}
-
--- the next one and those behind it
-pub split_at : (es : List BoundExpression) (i : ℕ) (e : BoundExpression) → i < length es → e ≡ get_or es i e
-    → bounds_of (drop i es) ≡ bound (bound_of e) (bounds_of (drop (i + 1) es))
-split_at es i e h is = rw (add-one, drop-cons es i e h, ← is)
-
-pub typed_at : (es : List BoundExpression) (i : ℕ) (e : BoundExpression) → i < length es → e ≡ get_or es i e
-    → EachWellTyped (bounds_of (drop i es)) → WellTyped (bound_of e) × EachWellTyped (bounds_of (drop (i + 1) es))
-typed_at es i e h is w = subst EachWellTyped (split_at es i e h is) w
-
-pub over_at : (s : LogicalType) (es : List BoundExpression) (i : ℕ) (e : BoundExpression) → i < length es → e ≡ get_or es i e
-    → EachOver (bounds_of (drop i es)) s → Over (bound_of e) s × EachOver (bounds_of (drop (i + 1) es)) s
-over_at s es i e h is o = subst (λ bs. EachOver bs s) (split_at es i e h is) o
+use Rattle.vx_split.proofs.Lists.{split_at}
 
 before_push : (made : List BoundExpression) (b : BoundExpression) (bs : BoundTrees) → before (made ++ b ∷ []) bs ≡ before made (bound (bound_of b) bs)
 before_push [] b bs = refl

@@ -1,50 +1,44 @@
 -- A split whose partitions were optimized.
-use Rattle.std.proofs.Common.{◌≡◌, ◌⊎◌, inl, inr, List, Option, Err, rules}
-use Rattle.std.specs.Cmp.Rules.{comparing}
-use Rattle.std.specs.Str.{bytes_eq}
+use Rattle.std.proofs.Common.{◌≡◌, List, Option, Some, None, Result, true, subst}
+use Rattle.vx_dtype.specs.Answers.{Answers}
 use Rattle.vx_dtype.specs.declared.error.VortexError.{VortexError}
-use Rattle.vx_dtype.specs.declared.error.VortexError.TheVariants.{OutOfMemory}
+use Rattle.vx_types.specs.Columns.{Batch}
 use Rattle.vx_types.specs.Types.{Name, LogicalType}
-use Rattle.vx_analysis.specs.Covers.{has_single, Covered}
-use Rattle.vx_keep.specs.Keeps.{KeepsEach}
 use Rattle.vx_keep.proofs.Keeping.{each_typed_after}
-use Rattle.vx_tree.specs.Trees.{BoundTree, BoundTrees, EachWellTyped, Over, EachOver}
+use Rattle.vx_tree.specs.Trees.{BoundTree, BoundTrees, WellTyped, EachWellTyped, Over, EachOver}
+use Rattle.vx_eval.specs.Evaluation.{evaluation}
 use Rattle.vx_optimizer.specs.NormalForms.{NormalForms}
-use Rattle.vx_partition.specs.Partitioned.{free_names, IsBoundAgain}
-use Rattle.vx_partition.specs.Splitting.{AnnotationMap, IsSplitBy}
-use Rattle.vx_partition.proofs.FreeNames.{names_are_free}
+use Rattle.vx_partition.specs.Partitioned.{IsBoundAgain}
 use Rattle.vx_recombine.specs.Items.{struct_type}
-use Rattle.vx_recombine.specs.Partitions.{partition_names}
-use Rattle.vx_recombine.specs.Pieces.{groups}
 use Rattle.vx_recombine.specs.Recombining.{Recombines}
 use Rattle.vx_recombine.proofs.Rebound.{replaced_recombine}
 use Rattle.vx_rules.specs.Rules.{RuleAt}
-use Rattle.vx_query.specs.Queries.{IsOptimizedSplit}
+use Rattle.vx_split.specs.Division.{Parts, IsSplitOf, no_fields, not_covered, divided}
+use Rattle.vx_split.specs.Splits.{split_evaluation}
+use Rattle.vx_query.specs.Queries.{Runs, whole, uncovered, parted}
 use Rattle.vx_query.proofs.Lists.{forms_keep}
 
--- names of fields are never taken: a split by them is refused for memory alone
-pub memory_alone : (only : BoundTree → Option Name) (b : BoundTree) (e : VortexError) → (e ≡ OutOfMemory) ⊎ (free_names (partition_names (λ a. a) (groups bytes_eq only b)) ≡ Err e) → e ≡ OutOfMemory
-memory_alone only b e (inl m) = m
-memory_alone only b e (inr q) = let free = names_are_free (search (comparing, rules)) only b in cc
+-- a tree without a split is evaluated whole
+pub unsplit : (c : Batch) (u : BoundTree) (r : Result Batch VortexError) (o : Option Parts) → IsSplitOf c.type u o → o ≡ None → Answers (λ x. x) r (evaluation u c) → Runs true u c r
+unsplit c u r None (no_fields h) e a = whole h a
+unsplit c u r None (not_covered h f n) e a = uncovered h f n a
+unsplit c u r (Some p) s e a = absurd cc
 
--- a split, normal forms of its partitions, and its root bound again to what they give
-pub optimized_is : (m : AnnotationMap Name) (u : BoundTree) (names given : List Name) (parts forms made : BoundTrees) (keys : List Name) (root again : BoundTree) → given ≡ names → made ≡ forms
-    → IsSplitBy bytes_eq (λ a. a) (λ a. a) m u names parts keys root → NormalForms RuleAt parts forms → IsBoundAgain root (struct_type names forms) again → IsOptimizedSplit m u given made again
-optimized_is m u names given parts forms made keys root again e f s n b = rw (e, f) (record { partitions = parts; annotations = keys; root = root; split = s; optimized = n; bound_again = b })
+-- and one with a split by it, with its partitions optimized and its root bound again to what they give
+pub split_runs : (c : Batch) (u : BoundTree) (r : Result Batch VortexError) (p : Parts) (names : List Name) (forms : BoundTrees) (again : BoundTree) → IsSplitOf c.type u (Some p) → names ≡ p.names
+    → NormalForms RuleAt p.partitions forms → IsBoundAgain p.root (struct_type p.names forms) again → Answers (λ x. x) r (split_evaluation names forms again c) → Runs true u c r
+split_runs c u r p names forms again (divided h f cov count split) e n b a =
+    parted h f cov (record { partitions = p.partitions; annotations = p.annotations; root = p.root; split = split; optimized = n; bound_again = b }) (subst (λ xs. Answers (λ x. x) r (split_evaluation xs forms again c)) e a)
 
-module _ (m : AnnotationMap Name) (u : BoundTree) (names : List Name) (forms : BoundTrees) (again : BoundTree) (cov : Covered (has_single m) u) (s : IsOptimizedSplit m u names forms again) where
-  kept : KeepsEach s.partitions forms
-  kept = forms_keep RuleAt s.optimized
-
-  -- it recombines
+module _ (names : List Name) (parts forms : BoundTrees) (root again u : BoundTree) (w : WellTyped root) (o : Over root (struct_type names parts)) (re : Recombines parts root u) (n : NormalForms RuleAt parts forms)
+         (b : IsBoundAgain root (struct_type names forms) again) where
+  -- the normal forms recombine
   pub recombined : Recombines forms again u
-  recombined =
-      let p = s.split.partitioned in
-      (replaced_recombine names s.partitions forms s.root again u kept p.root_typed (p.over_partitions cov) (p.recombines cov) s.bound_again.source s.bound_again.well_typed s.bound_again.over).1
+  recombined = (replaced_recombine names parts forms root again u (forms_keep RuleAt n) w o re b.source b.well_typed b.over).1
 
   -- and may be evaluated over what the tree is over
-  pub forms_typed : EachWellTyped forms
-  forms_typed = each_typed_after kept
-
   pub forms_over : (t : LogicalType) → Over u t → EachOver forms t
-  forms_over t o = recombined.scopes t o
+  forms_over t over = recombined.scopes t over
+
+pub forms_typed : {parts forms : BoundTrees} → NormalForms RuleAt parts forms → EachWellTyped forms
+forms_typed n = each_typed_after (forms_keep RuleAt n)

@@ -13,19 +13,23 @@ use Rattle.vx_keep.specs.Keeps.{Keeps}
 use Rattle.vx_partition.specs.Splitting.{AnnotationMap}
 use Rattle.vx_rewrite.specs.declared.passes.Pass.{Pass}
 use Rattle.vx_rewrite.proofs.Passing.{passed_keeps}
-use Rattle.vx_query.specs.Queries.{IsMeantBy, FaultsAlone, IsOptimizedSplit, Runs, no_memory, whole, uncovered, parted, RunsPassed, not_passed, passed}
+use Rattle.vx_split.specs.Sources.{IsMeantBy}
+use Rattle.vx_query.specs.Queries.{FaultsAlone, IsOptimizedSplit, Runs, no_memory, whole, uncovered, parted, RunsPassed, not_passed, passed}
 use Rattle.vx_query.specs.Refusals.{IsFault}
-use Rattle.vx_query.specs.Splits.{joined_column, split_evaluation, fault_or}
+use Rattle.vx_split.specs.Splits.{joined_column, split_evaluation, fault_or}
 use Rattle.vx_query.proofs.Faulting.{each_faults, evaluation_faults}
 use Rattle.vx_query.proofs.Optimized.{recombined}
-use Rattle.vx_query.proofs.Meant.{whole_means, split_means}
+use Rattle.vx_split.proofs.Meant.{whole_means, split_means}
 
 -- ---- where the source doesn't fault
 
 module _ (b u : BoundTree) (c : Batch) (k : Keeps b u) (o : Over b c.type) (fit : IsBatch c.type c.rows) (quiet : HasNoFault b c.rows) where
   parted_means : (m : AnnotationMap Name) (names : List Name) (forms : BoundTrees) (again : BoundTree) (r : Result Batch VortexError) → Covered (has_single m) u → IsOptimizedSplit m u names forms again
       → Answers (λ x. x) r (split_evaluation names forms again c) → IsMeantBy (unbound b) c r
-  parted_means m names forms again r cov split answer = split_means b u c k o fit quiet names forms again r split.bound_again.well_typed split.bound_again.over (recombined m u names forms again cov split) answer
+  parted_means m names forms again r cov split answer =
+      let p = split.split.partitioned in
+      let re = recombined names split.partitions forms split.root again u p.root_typed (p.over_partitions cov) (p.recombines cov) split.optimized split.bound_again in
+      split_means b u c k o fit quiet names forms again r split.bound_again.well_typed split.bound_again.over re answer
 
   pub runs_mean : (split : Bool) (r : Result Batch VortexError) → Runs split u c r → IsMeantBy (unbound b) c r
   runs_mean split r (no_memory e) = rw e refl

@@ -1,4 +1,3 @@
 pub mod Refusals
-pub mod Splits
 pub mod Queries
 pub mod Promises

@@ -6,7 +6,8 @@ use Rattle.vx_types.specs.Types.{LogicalType}
 use Rattle.vx_tree.specs.Faults.{HasNoFault}
 use Rattle.vx_tree.specs.Trees.{Tree, BoundTree, typed}
 use Rattle.vx_rewrite.specs.declared.passes.Pass.{Pass}
-use Rattle.vx_query.specs.Queries.{IsBound, IsMeantBy, IsRefusedWith, FaultsAlone, RunsPassed}
+use Rattle.vx_split.specs.Sources.{IsBound, IsMeantBy}
+use Rattle.vx_query.specs.Queries.{IsRefusedWith, FaultsAlone, RunsPassed}
 
 -- all that a query promises of its answer
 pub record Promised (e : Tree) (c : Batch) (passes : List Pass) (split : Bool) (r : Result Batch VortexError) : Type 0 where

@@ -2,7 +2,8 @@
 ghost use Rattle.std.specs.Prelude.{◌≡◌, Ok, Err};
 ghost use Rattle.vx_dtype.specs.declared.error.VortexError.{VortexError};
 ghost use Rattle.vx_query.specs.Promises.{Promised};
-ghost use Rattle.vx_query.specs.Queries.{FaultsAlone, IsBound, IsMeantBy, IsRefusedWith, Runs, RunsPassed};
+ghost use Rattle.vx_query.specs.Queries.{FaultsAlone, IsRefusedWith, Runs, RunsPassed};
+ghost use Rattle.vx_split.specs.Sources.{IsBound, IsMeantBy};
 ghost use Rattle.vx_tree.specs.Faults.{HasNoFault};
 ghost use Rattle.vx_tree.specs.Trees.{BoundTree, typed, Over, WellTyped};
 ghost use Rattle.vx_tree.specs.Views.{bound_of, tree_of};
@@ -71,11 +72,9 @@ fn run_tree(
     requires over { Over (bound_of tree.now) batch.now.type }
     ensures { Runs split (bound_of tree.now) batch.now result }
 {
-    if !split {
-        return apply_bound(alloc, batch, tree);
-    }
-    match batch.dtype().as_struct_fields_opt() {
-        Some(fields) => run_split(alloc, tree, fields, batch),
-        None => apply_bound(alloc, batch, tree),
+    if split {
+        run_split(alloc, tree, batch)
+    } else {
+        apply_bound(alloc, batch, tree)
     }
 }

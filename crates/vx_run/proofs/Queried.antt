@@ -12,7 +12,8 @@ use Rattle.vx_eval.specs.Evaluation.{evaluation}
 use Rattle.vx_rewrite.specs.Passes.{Passed}
 use Rattle.vx_rewrite.specs.declared.passes.Pass.{Pass}
 use Rattle.vx_rewrite.specs.declared.passes.Pass.TheVariants.{FindBetween, Branches}
-use Rattle.vx_query.specs.Queries.{IsMeantBy, Runs, no_memory, whole, uncovered, parted, RunsPassed, not_passed, passed, IsBound}
+use Rattle.vx_split.specs.Sources.{IsBound, IsMeantBy}
+use Rattle.vx_query.specs.Queries.{Runs, no_memory, whole, uncovered, parted, RunsPassed, not_passed, passed}
 use Rattle.vx_run.specs.Branches.{branches, never_then_zero}
 use Rattle.vx_run.specs.Fused.{fused}
 use Rattle.vx_run.specs.Kleene.{kleene}

@@ -11,7 +11,7 @@ ghost use Rattle.vx_types.specs.Views.{type_of};
 ghost use Rattle.vx_types.specs.ValueTexts.{column_text};
 ghost use Rattle.vx_dtype.specs.Texts.{type_text};
 ghost use Rattle.vx_eval.specs.Evaluation.{evaluation};
-ghost use Rattle.vx_query.specs.Queries.{IsBound};
+ghost use Rattle.vx_split.specs.Sources.{IsBound};
 ghost use Rattle.vx_run.specs.Branches.{branches};
 ghost use Rattle.vx_run.specs.Fused.{fused};
 ghost use Rattle.vx_run.specs.Pages.{page_of, page_text, lines, lines_of};

@@ -5,7 +5,8 @@ use Rattle.vx_types.proofs.Misfits.{no_misfit}
 use Rattle.vx_tree.specs.Trees.{Over}
 use Rattle.vx_tree.specs.Views.{bound_of, tree_of}
 use Rattle.vx_query.specs.Promises.{Promised}
-use Rattle.vx_query.specs.Queries.{IsBound, passed}
+use Rattle.vx_split.specs.Sources.{IsBound}
+use Rattle.vx_query.specs.Queries.{passed}
 use Rattle.vx_query.proofs.Ending.{memory_ends, refusal_ends, evaluation_ends}
 use Rattle.vx_query.proofs.query.run_to_end.Goals as goal
 

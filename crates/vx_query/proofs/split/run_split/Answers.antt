@@ -1,39 +1,42 @@
-use Rattle.std.proofs.Common.{◌≡◌, rules, IsTrue}
+use Rattle.std.proofs.Common.{◌≡◌, ◌∙◌, ap, subst, rules, Some, None}
+use Rattle.vx_types.specs.Views.{type_of}
 use Rattle.vx_tree.specs.Views.{bound_of, bounds_of}
-use Rattle.vx_query.specs.Queries.{uncovered, parted}
-use Rattle.vx_query.proofs.Optimized.{forms_typed, forms_over}
+use Rattle.vx_split.specs.Division.{IsSplitOf, parts_of}
+use Rattle.vx_split.proofs.Counting.{counted}
+use Rattle.vx_split.proofs.Divided.{sound}
+use Rattle.vx_query.proofs.Optimized.{unsplit, split_runs, forms_typed, forms_over}
 use Rattle.vx_query.proofs.split.run_split.Goals as goal
 
-pub returns-then-not-branch : goal.returns-then-not-branch
-returns-then-not-branch c =
-    uncovered c.requires.fields c.in_ok-annotations.ensures.map (λ cov. let told = c.in_ok-covers.ensures.1 cov in let untold = c.if-not-branch.true in cc)
-    (c.apply_bound.ensures.meaning c.requires.over)
-
-pub optimized_split-requires-clause-well_typed : goal.optimized_split-requires-clause-well_typed
-optimized_split-requires-clause-well_typed c = let same : bound_of c.in_ok-copy.copy ≡ bound_of c.args.tree.now = search rules in rw same c.requires.well_typed
-
-pub optimized_split-requires-clause-covered : goal.optimized_split-requires-clause-covered
-optimized_split-requires-clause-covered c =
-    let told : IsTrue c.in_ok-covers.field-0 = search rules in
-    let same : bound_of c.in_ok-copy.copy ≡ bound_of c.args.tree.now = search rules in
-    rw same (c.in_ok-covers.ensures.0 told)
+pub optimized-requires-clause-count : goal.optimized-requires-clause-count
+optimized-requires-clause-count c =
+    let is : c.in_ok-split.field-0 ≡ Some c.in-Some.split = search rules in
+    let split = subst (λ o. IsSplitOf (type_of c.dtype.result.now) (bound_of c.args.tree.now) (parts_of o)) is c.in_ok-split.ensures.split in
+    (sound split).counted ∙ counted c.in-Some.split.partitions.items
 
 pub evaluate_split-answer-requires-clause-partitions : goal.evaluate_split-answer-requires-clause-partitions
-evaluate_split-answer-requires-clause-partitions c =
-    let told : IsTrue c.in_ok-covers.field-0 = search rules in
-    let same : bound_of c.in_ok-copy.copy ≡ bound_of c.args.tree.now = search rules in
-    forms_typed c.in_ok-annotations.annotations (bound_of c.args.tree.now) c.in_ok-split.split.partition_names (bounds_of c.in_ok-split.split.partitions.items) (bound_of c.in_ok-split.split.root)
-    (c.in_ok-covers.ensures.0 told) (rw same at c.in_ok-split.ensures.split)
+evaluate_split-answer-requires-clause-partitions c = forms_typed c.in_ok-split-in-Some.ensures.forms
 
 pub evaluate_split-answer-requires-clause-over : goal.evaluate_split-answer-requires-clause-over
 evaluate_split-answer-requires-clause-over c =
-    let told : IsTrue c.in_ok-covers.field-0 = search rules in
-    let same : bound_of c.in_ok-copy.copy ≡ bound_of c.args.tree.now = search rules in
-    forms_over c.in_ok-annotations.annotations (bound_of c.args.tree.now) c.in_ok-split.split.partition_names (bounds_of c.in_ok-split.split.partitions.items) (bound_of c.in_ok-split.split.root)
-    (c.in_ok-covers.ensures.0 told) (rw same at c.in_ok-split.ensures.split) c.args.batch.now.type c.requires.over
+    let is : c.in_ok-split.field-0 ≡ Some c.in-Some.split = search rules in
+    let split = subst (λ o. IsSplitOf (type_of c.dtype.result.now) (bound_of c.args.tree.now) (parts_of o)) is c.in_ok-split.ensures.split in
+    let s = sound split in
+    let p = c.in-Some.split in
+    let q = c.in_ok-split-in-Some in
+    forms_over p.partition_names (bounds_of p.partitions.items) (bounds_of q.split.partitions.items) (bound_of p.root) (bound_of q.split.root) (bound_of c.args.tree.now)
+    s.root_typed s.root_over s.recombines q.ensures.forms q.ensures.root c.args.batch.now.type c.requires.over
 
-pub returns : goal.returns
-returns c =
-    let told : IsTrue c.in_ok-covers.field-0 = search rules in
-    let same : bound_of c.in_ok-copy.copy ≡ bound_of c.args.tree.now = search rules in
-    parted c.requires.fields c.in_ok-annotations.ensures.map (c.in_ok-covers.ensures.0 told) (rw same at c.in_ok-split.ensures.split) c.evaluate_split-answer.ensures
+pub returns-in_ok-split-in-Some : goal.returns-in_ok-split-in-Some
+returns-in_ok-split-in-Some c =
+    let is : c.in_ok-split.field-0 ≡ Some c.in-Some.split = search rules in
+    let over_it = subst (λ o. IsSplitOf (type_of c.dtype.result.now) (bound_of c.args.tree.now) (parts_of o)) is c.in_ok-split.ensures.split in
+    let split = subst (λ t. IsSplitOf t (bound_of c.args.tree.now) (parts_of (Some c.in-Some.split))) c.dtype.ensures over_it in
+    let q = c.in_ok-split-in-Some in
+    split_runs c.args.batch.now (bound_of c.args.tree.now) c.evaluate_split-answer.result _ q.split.partition_names (bounds_of q.split.partitions.items) (bound_of q.split.root)
+    split q.ensures.names q.ensures.forms q.ensures.root c.evaluate_split-answer.ensures
+
+pub returns-in-None : goal.returns-in-None
+returns-in-None c =
+    let is : c.in_ok-split.field-0 ≡ None = search rules in
+    let split = subst (λ t. IsSplitOf t (bound_of c.args.tree.now) (parts_of c.in_ok-split.field-0)) c.dtype.ensures c.in_ok-split.ensures.split in
+    unsplit c.args.batch.now (bound_of c.args.tree.now) c.apply_bound.result (parts_of c.in_ok-split.field-0) split (ap parts_of is) (c.apply_bound.ensures.meaning c.requires.over)

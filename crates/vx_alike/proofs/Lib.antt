@@ -1,0 +1,2 @@
+pub mod Pruned
+pub mod Faulting

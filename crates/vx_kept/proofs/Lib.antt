@@ -1,0 +1,5 @@
+pub mod Sizes
+pub mod Loops
+pub mod Keeping
+pub mod Agreeing
+pub mod Finding

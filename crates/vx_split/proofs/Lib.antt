@@ -1,0 +1,6 @@
+pub mod Lists
+pub mod Counting
+pub mod Answered
+pub mod Joined
+pub mod Meant
+pub mod Divided

@@ -1,0 +1,8 @@
+// Trees split by the fields of their scope, and what such splits give over a batch.
+#![tactic(auto)]
+
+mod division;
+mod evaluation;
+
+pub use division::split_by_fields;
+pub use evaluation::evaluate_split;
