@@ -31,7 +31,7 @@ split_runs c u r p names forms again (divided h f cov count split) e n b a =
     parted h f cov (record { partitions = p.partitions; annotations = p.annotations; root = p.root; split = split; optimized = n; bound_again = b }) (subst (λ xs. Answers (λ x. x) r (split_evaluation xs forms again c)) e a)
 
 module _ (names : List Name) (parts forms : BoundTrees) (root again u : BoundTree) (w : WellTyped root) (o : Over root (struct_type names parts)) (re : Recombines parts root u) (n : NormalForms RuleAt parts forms)
-         (b : IsBoundAgain root (struct_type names forms) again) where
+    (b : IsBoundAgain root (struct_type names forms) again) where
   -- the normal forms recombine
   pub recombined : Recombines forms again u
   recombined = (replaced_recombine names parts forms root again u (forms_keep RuleAt n) w o re b.source b.well_typed b.over).1
