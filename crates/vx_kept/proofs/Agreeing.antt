@@ -1,6 +1,6 @@
 -- What is kept of a batch agrees with it along the paths.
-use Rattle.std.proofs.Common.{◌≡◌, ◌≢◌, inl, inr, List, [], ◌∷◌, refl, sym, ap, ◌∙◌, subst, Bool, true, false, ◌||◌, map, filter, Option, Some, None}
-use Rattle.std.specs.Prelude.{if◌then◌else◌, is_some, not}
+use Rattle.std.proofs.Common.{◌≡◌, inl, inr, List, [], ◌∷◌, refl, sym, ap, ◌∙◌, subst, Bool, true, false, map, Option, Some, None}
+use Rattle.std.specs.Prelude.{if◌then◌else◌}
 use Rattle.std.specs.List.{list_any, filter_map, AllZip}
 use Rattle.std.specs.Option.{IsSomeAnd}
 use Rattle.std.specs.Str.{bytes_eq}
@@ -14,7 +14,7 @@ use Rattle.vx_types.specs.Types.{Name, LogicalType, ty, struct, Fields, no_field
 use Rattle.vx_fn.specs.Faults.{IsIn}
 use Rattle.vx_paths.specs.Agreement.{Agree, AgreeAlong, RowsAgree}
 use Rattle.vx_paths.specs.Leading.{Leads, EachLeads}
-use Rattle.vx_paths.proofs.Leading.{agree-refl, at_some}
+use Rattle.vx_paths.proofs.Leading.{agree-refl}
 use Rattle.vx_kept.specs.Defaults.{default_of}
 use Rattle.vx_kept.specs.Kept.{rest_behind, rests, others, at_paths, kept, fields_kept}
 

@@ -1,10 +1,10 @@
 -- Paths that aren't lost lead to a place.
-use Rattle.std.proofs.Common.{◌≡◌, List, [], ◌∷◌, ◌++◌, Option, Some, None, Result, Ok, Err, refl, sym, ◌∙◌, ap}
+use Rattle.std.proofs.Common.{◌≡◌, List, [], ◌∷◌, Option, Some, None, Ok, refl}
 use Rattle.std.specs.Option.{IsSomeAnd, option_or}
 use Rattle.vx_dtype.specs.declared.error.VortexError.{VortexError}
 use Rattle.vx_types.specs.Fields.{field_type}
 use Rattle.vx_types.specs.Paths.{Path}
-use Rattle.vx_types.specs.Types.{Name, LogicalType, ty, struct}
+use Rattle.vx_types.specs.Types.{LogicalType, ty, struct}
 use Rattle.vx_paths.specs.Leading.{Leads, EachLeads}
 use Rattle.vx_kept.specs.Lost.{in_field, lost, first_lost, unless_lost}
 
