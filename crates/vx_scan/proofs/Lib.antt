@@ -1,0 +1,3 @@
+pub mod Opened
+pub mod Reading
+pub mod Scanning

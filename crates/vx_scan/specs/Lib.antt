@@ -1,0 +1,3 @@
+pub mod Plans
+pub mod Propositions
+pub mod Scans
