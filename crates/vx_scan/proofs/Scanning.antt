@@ -32,8 +32,8 @@ use Rattle.vx_kept.specs.Kept.{kept, kept_batch}
 use Rattle.vx_kept.proofs.Keeping.{kept_rows-fit}
 use Rattle.vx_split.proofs.Divided.{Sound}
 use Rattle.vx_scan.specs.Plans.{IsPlan}
-use Rattle.vx_scan.specs.Scans.{planned_evaluation, KeepsMeaning, Scanned}
-use Rattle.vx_scan.proofs.Opened.{sound_of}
+use Rattle.vx_scan.specs.Scans.{planned_evaluation, HasTypeOf, KeepsMeaning, Scanned}
+use Rattle.vx_scan.proofs.Opened.{sound_of, root_type_of}
 use Rattle.vx_scan.proofs.Reading.{read-agrees}
 
 -- ---- answers
@@ -59,6 +59,10 @@ no_fault_in (Some fault) a x e = cc
 no_fault_before : {A : Type 0} (o : Option VortexError) (answer : Result A VortexError) (x : A) → fault_or o answer ≡ Ok x → (o ≡ None) × (answer ≡ Ok x)
 no_fault_before None answer x e = (refl, e)
 no_fault_before (Some fault) answer x e = cc
+
+type_in : (o : Option VortexError) (b x : Batch) → unless_fault o b ≡ Ok x → x.type ≡ b.type
+type_in None b x e = let is : b ≡ x = cc in ap (λ (c : Batch). c.type) (sym is)
+type_in (Some fault) b x e = cc
 
 -- ---- a planned tree over what was read
 
@@ -97,6 +101,15 @@ module _ (u : BoundTree) (ps : List Path) (c : Batch) (w : WellTyped u) (o : Ove
       no_fault_in (first_fault p.root (map (joined p.partitions) read.rows)) (batch (node_type p.root) (map (mean (unbound p.root) (struct_type p.names p.partitions)) (map (joined p.partitions) read.rows))) x parts.1 in
       alike.faults ∙ s.no_other_fault read.rows parts.0 root
 
+-- what is evaluated has the tree's type
+evaluated_typed : (u : BoundTree) (split : Option Parts) (r : Result Batch VortexError) (read : Batch) → ((p : Parts) → split ≡ Some p → node_type p.root ≡ node_type u)
+    → Answers (λ x. x) r (planned_evaluation split u read) → HasTypeOf u r
+evaluated_typed u split (Err y) read root a = tt
+evaluated_typed u None (Ok x) read root a = type_in (first_fault u read.rows) _ x a
+evaluated_typed u (Some p) (Ok x) read root a =
+    let parts = no_fault_before (each_fault p.partitions read.rows) (evaluation p.root (joined_column p.names p.partitions read.rows)) x a in
+    type_in (first_fault p.root (map (joined p.partitions) read.rows)) _ x parts.1 ∙ root p refl
+
 -- ---- a plan
 
 read_alike : (s : LogicalType) (u : BoundTree) (ps : List Path) (split : Option Parts) (c : Batch) (plan : IsPlan s u ps split) (o : Over u c.type) (fit : IsBatch c.type c.rows) → ReadAlike u ps c plan.well_typed o fit
@@ -132,6 +145,7 @@ scanned s u ps split c r plan same fit a =
       evaluated = λ e. a;
       meaning = λ e. source_means u c r plan.well_typed o fit means;
       faults = λ e. (λ quiet. answered _ r (means quiet), evaluated_quiet u ps c plan.well_typed o fit split r good alike a);
+      typed = λ e. evaluated_typed u split r (kept_batch (minimal_paths ps) c) (root_type_of plan.divided) a;
     }
 
 -- one that memory ran out of
@@ -140,7 +154,7 @@ unread s u ps split c plan same fit = scanned s u ps split c (Err OutOfMemory) p
 
 -- and one of a batch of another type
 pub mismatched : (s : LogicalType) (u : BoundTree) (ps : List Path) (split : Option Parts) (c : Batch) → c.type ≢ s → Scanned s u ps split c (Err ScopeMismatch)
-mismatched s u ps split c other = record { mismatch = λ e. refl; evaluated = λ e. absurd (other e); meaning = λ e. absurd (other e); faults = λ e. absurd (other e) }
+mismatched s u ps split c other = record { mismatch = λ e. refl; evaluated = λ e. absurd (other e); meaning = λ e. absurd (other e); faults = λ e. absurd (other e); typed = λ e. absurd (other e) }
 
 -- ---- steps of the code
 

@@ -7,7 +7,7 @@ use Rattle.vx_types.specs.Columns.{Batch}
 use Rattle.vx_types.specs.Paths.{Path, minimal_paths}
 use Rattle.vx_types.specs.Types.{LogicalType}
 use Rattle.vx_tree.specs.Faults.{HasNoFault}
-use Rattle.vx_tree.specs.Trees.{Tree, BoundTree}
+use Rattle.vx_tree.specs.Trees.{Tree, BoundTree, node_type}
 use Rattle.vx_keep.specs.Steps.{Steps}
 use Rattle.vx_branch_rules.specs.Branches.{BranchRuleAt}
 use Rattle.vx_eval.specs.Evaluation.{evaluation}
@@ -29,9 +29,14 @@ KeepsMeaning u c result = (e : Tree) (b : BoundTree) (n : ℕ) → IsBound e c.t
 abbrev pub IsRefusedWhere : BoundTree → Batch → Result Batch VortexError → Type 0
 IsRefusedWhere u c result = (HasNoFault u c.rows → MatchResult result (λ x. Unit {0}) (λ y. y ≡ OutOfMemory)) × MatchResult result (λ x. HasNoFault u c.rows) (λ y. Unit {0})
 
+-- a column, where there is one, of the tree's type
+abbrev pub HasTypeOf : BoundTree → Result Batch VortexError → Type 0
+HasTypeOf u result = MatchResult result (λ x. x.type ≡ node_type u) (λ y. Unit {0})
+
 -- all that a scan promises of its answer, over a batch that a reader stands for
 pub record Scanned (s : LogicalType) (u : BoundTree) (paths : List Path) (split : Option Parts) (c : Batch) (r : Result Batch VortexError) : Type 0 where
   pub mismatch : c.type ≢ s → IsErrOf r ScopeMismatch
   pub evaluated : c.type ≡ s → Answers (λ x. x) r (planned_evaluation split u (kept_batch (minimal_paths paths) c))
   pub meaning : c.type ≡ s → KeepsMeaning u c r
   pub faults : c.type ≡ s → IsRefusedWhere u c r
+  pub typed : c.type ≡ s → HasTypeOf u r

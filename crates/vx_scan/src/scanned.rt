@@ -4,7 +4,7 @@ ghost use Rattle.vx_dtype.specs.Answers.{Answers};
 ghost use Rattle.vx_dtype.specs.declared.error.VortexError.TheVariants.{ScopeMismatch};
 ghost use Rattle.vx_kept.specs.Kept.{kept_batch};
 ghost use Rattle.vx_kept.specs.Readers.{AreJust};
-ghost use Rattle.vx_scan.specs.Scans.{IsRefusedWhere, KeepsMeaning, Scanned, planned_evaluation};
+ghost use Rattle.vx_scan.specs.Scans.{HasTypeOf, IsRefusedWhere, KeepsMeaning, Scanned, planned_evaluation};
 ghost use Rattle.vx_split.specs.Division.{parts_of};
 ghost use Rattle.vx_tree.specs.Views.{bound_of};
 ghost use Rattle.vx_types.specs.Paths.{minimal_paths};
@@ -21,8 +21,8 @@ use vx_types::{Column, VortexError, VortexResult};
 /// partitions over what was read, joined, and the root over them, where the plan has a split, and
 /// else the tree.
 ///
-/// Where the source of the plan faults nowhere on the batch, the answer has the batch's length, and
-/// in each row the source's meaning there. Asks a reader that allows just the plan's paths, where its
+/// The answer has the tree's type. Where the source of the plan faults nowhere on the batch, it has
+/// the batch's length, and in each row the source's meaning there. Asks a reader that allows just the plan's paths, where its
 /// batch is of the plan's type.
 ///
 /// Refuses with `ScopeMismatch` (12) exactly where the batch is of another type than the plan's. Else
@@ -36,6 +36,7 @@ pub fn scan<R: PathReader>(alloc: Global, reader: &R, plan: &ScanPlan) -> Vortex
         Answers (λ c. c) result (planned_evaluation (parts_of plan.now.split) (bound_of plan.now.tree) (kept_batch (minimal_paths plan.now.paths) (R.batch reader.now))) }
     ensures meaning { (R.batch reader.now).type ≡ type_of plan.now.scope → KeepsMeaning (bound_of plan.now.tree) (R.batch reader.now) result }
     ensures faults { (R.batch reader.now).type ≡ type_of plan.now.scope → IsRefusedWhere (bound_of plan.now.tree) (R.batch reader.now) result }
+    ensures typed { (R.batch reader.now).type ≡ type_of plan.now.scope → HasTypeOf (bound_of plan.now.tree) result }
 {
     scan_to_end(alloc, reader, plan)
 }
