@@ -10,12 +10,13 @@ ghost use Rattle.vx_types.specs.Views.{type_of};
 
 use std::alloc::Global;
 use vx_branches::BranchRules;
+use vx_kept::ColumnReader;
 use vx_optimizer::optimized;
 use vx_partition::BoundPartitionedExpr;
 use vx_paths::referenced_field_paths;
 use vx_split::split_by_fields;
 use vx_tree::{BoundExpression, Expression, FieldName};
-use vx_types::{DType, FieldPathSet, VortexResult};
+use vx_types::{Column, DType, FieldPathSet, VortexResult};
 
 /// A query over batches of one type, made ready to be scanned: its tree, at no node of which a rule
 /// fits, the paths that this references, and its split by the fields that its nodes read.
@@ -56,6 +57,17 @@ impl ScanPlan {
         ensures { option_map (λ p. p.now) result ≡ self.now.split }
     {
         self.split.as_ref()
+    }
+
+    /// A reader of the batch that allows just the plan's paths, as [`scan`](crate::scan) asks where
+    /// the batch is of the plan's type. Refuses with `OutOfMemory` (1) alone.
+    pub fn reader_of(&self, alloc: Global, batch: Column) -> VortexResult<ColumnReader>
+        ensures column { IfOk result (λ r. r.column ≡ batch) }
+        ensures allowed { IfOk result (λ r. r.allowed ≡ self.now.paths) }
+        ensures memory { IfErr result (λ e. e ≡ OutOfMemory) }
+    {
+        let allowed = referenced_field_paths(alloc, &self.tree)?;
+        Ok(ColumnReader::new(batch, allowed))
     }
 }
 
