@@ -4,7 +4,7 @@ use Rattle.std.proofs.Common.{refl, sym, ap, inl, inr, subst, arith}
 use Rattle.vx_dtype.specs.Answers.{Answers}
 use Rattle.vx_dtype.specs.declared.error.VortexError.{VortexError}
 use Rattle.vx_dtype.specs.declared.error.VortexError.TheVariants.{OutOfMemory}
-use Rattle.vx_types.specs.Types.{LogicalType, bool}
+use Rattle.vx_types.specs.Types.{Name, LogicalType, bool}
 use Rattle.vx_fn.specs.Functions.{case_when, get_item, fill_null, is_null, truth_type}
 use Rattle.vx_tree.specs.Binding.{binding}
 use Rattle.vx_tree.specs.Examples.{i32, i32_or_null, with_x, number_of}
@@ -60,15 +60,15 @@ unfilled_over = (tt, ((refl, tt), (((refl, tt), tt), (tt, ((refl, tt), tt)))))
 
 -- ---- where no rule fits
 
-nothing_at_scope : (t : LogicalType) → GivesNothing BranchRuleAt (scope t)
+pub nothing_at_scope : (t : LogicalType) → GivesNothing BranchRuleAt (scope t)
 nothing_at_scope t u (inl (coalesce_to_null i)) = elim i [ ]
 nothing_at_scope t u (inl (coalesce i e p)) = elim i [ ]
 nothing_at_scope t u (inr r) = elim r [ ]
 
-nothing_at_item : GivesNothing BranchRuleAt item
-nothing_at_item u (inl (coalesce_to_null i)) = elim i [ ]
-nothing_at_item u (inl (coalesce i e p)) = elim i [ ]
-nothing_at_item u (inr r) = elim r [ ]
+pub nothing_at_item : (t : LogicalType) (a : Name) (s : LogicalType) → GivesNothing BranchRuleAt (node t (get_item a) (one_bound (scope s)))
+nothing_at_item t a s u (inl (coalesce_to_null i)) = elim i [ ]
+nothing_at_item t a s u (inl (coalesce i e p)) = elim i [ ]
+nothing_at_item t a s u (inr r) = elim r [ ]
 
 nothing_at_test : GivesNothing BranchRuleAt test
 nothing_at_test u (inl (coalesce_to_null i)) = elim i [ ]
@@ -85,11 +85,11 @@ nothing_at_filled : GivesNothing BranchRuleAt filled
 nothing_at_filled u (inl r) = not_filled r
 nothing_at_filled u (inr r) = elim r [ ]
 
-literal_normal : (b : BoundTree) → IsLiteral b → Normal BranchRuleAt b
+pub literal_normal : (b : BoundTree) → IsLiteral b → Normal BranchRuleAt b
 literal_normal b is_literal = (branch_rules_modest.at_literals _ is_literal, tt)
 
 item_normal : Normal BranchRuleAt item
-item_normal = (nothing_at_item, (nothing_at_scope _, tt))
+item_normal = (nothing_at_item _ _ _, (nothing_at_scope _, tt))
 
 below_normal : NormalBelow BranchRuleAt unfilled
 below_normal = (literal_normal never is_literal, (item_normal, ((nothing_at_test, (item_normal, tt)), (literal_normal zero is_literal, (item_normal, tt)))))

@@ -16,9 +16,11 @@ use Rattle.vx_run.specs.Coalesce.{coalesce}
 use Rattle.vx_run.specs.Fused.{fused}
 use Rattle.vx_run.specs.Kleene.{kleene}
 use Rattle.vx_run.specs.Pages.{lines, page_of, page_text}
-use Rattle.vx_run.specs.declared.row.Row.TheVariants.{Fused, Branches}
+use Rattle.vx_run.specs.Scan.{scan}
+use Rattle.vx_run.specs.declared.row.Row.TheVariants.{Fused, Branches, Scan}
 use Rattle.vx_run.proofs.Branching.{filled}
 use Rattle.vx_run.proofs.Fusing.{range}
+use Rattle.vx_run.proofs.Scanned.{both, bound_both}
 
 -- the lines of a bound tree are those of its source
 pub shown : {A : Type 0} (view : A → List ℕ) (e : Tree) (b : BoundTree) (c : Batch) (s : LogicalType) (r : Result A VortexError) →
@@ -52,3 +54,8 @@ fused_shown view b c r given is says = let found : b ≡ range = cc in same_line
 pub branches_shown : {A : Type 0} (view : A → List ℕ) (b : BoundTree) (c : Batch) (r : Result A VortexError) → Answers (λ x. x) (Ok c) (Ok coalesce.batch) → binding branches.source branches.batch.type ≡ Ok b
     → Answers view r (Ok (lines (unbound b) c (node_type b))) → Answers view r (Ok (page_of Branches))
 branches_shown view b c r given is says = let found : b ≡ filled = cc in same_lines view b filled c coalesce.batch r found (same_batch c coalesce.batch given) says
+
+-- and those of the tree of `scan` its page
+pub scan_shown : {A : Type 0} (view : A → List ℕ) (b : BoundTree) (c : Batch) (r : Result A VortexError) → Answers (λ x. x) (Ok c) (Ok scan.batch) → binding scan.source scan.batch.type ≡ Ok b
+    → Answers view r (Ok (lines (unbound b) c (node_type b))) → Answers view r (Ok (page_of Scan))
+scan_shown view b c r given is says = let found : b ≡ both = sym (bound_both b is) in same_lines view b both c scan.batch r found (same_batch c scan.batch given) says

@@ -7,6 +7,7 @@ pub mod Coalesce
 pub mod Cases
 pub mod Fused
 pub mod Branches
+pub mod Scan
 pub mod Pages
 pub mod PageTexts
 pub mod Runs

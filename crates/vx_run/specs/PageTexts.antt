@@ -1,7 +1,7 @@
 -- The pages of the rows, byte for byte.
 use Rattle.std.specs.Prelude.{◌≡◌, codes, encode_utf8_all}
 use Rattle.vx_run.specs.Pages.{page_of}
-use Rattle.vx_run.specs.declared.row.Row.TheVariants.{Kleene, Coalesce, Cases, Fused, Branches}
+use Rattle.vx_run.specs.declared.row.Row.TheVariants.{Kleene, Coalesce, Cases, Fused, Branches, Scan}
 
 -- the page of `kleene`
 abbrev pub KleenePageIs : Type 0
@@ -22,3 +22,7 @@ FusedPageIs = page_of Fused ≡ encode_utf8_all (codes "text: (null <= $.x <= 5i
 -- the page of `branches`
 abbrev pub BranchesPageIs : Type 0
 BranchesPageIs = page_of Branches ≡ encode_utf8_all (codes "text: vortex.fill_null($.x, 0i32)\ntype: i32\nresult: [0i32, 4i32]\ntree:\nvortex.fill_null()\n├── input: vortex.get_item(x)\n│   └── input: vortex.root()\n└── fill_value: vortex.literal(0i32)\n")
+
+-- the page of `scan`
+abbrev pub ScanPageIs : Type 0
+ScanPageIs = page_of Scan ≡ encode_utf8_all (codes "text: (($.a.x >= 1i32) and ($.b < 5i32))\ntype: bool?\nresult: [true, false]\ntree:\nvortex.binary(and)\n├── lhs: vortex.binary(>=)\n│   ├── lhs: vortex.get_item(x)\n│   │   └── input: vortex.get_item(a)\n│   │       └── input: vortex.root()\n│   └── rhs: vortex.literal(1i32)\n└── rhs: vortex.binary(<)\n    ├── lhs: vortex.get_item(b)\n    │   └── input: vortex.root()\n    └── rhs: vortex.literal(5i32)\n")

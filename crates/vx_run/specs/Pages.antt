@@ -14,9 +14,10 @@ use Rattle.vx_run.specs.Coalesce.{coalesce}
 use Rattle.vx_run.specs.Cases.{cases}
 use Rattle.vx_run.specs.Fused.{fused}
 use Rattle.vx_run.specs.Branches.{branches}
+use Rattle.vx_run.specs.Scan.{scan}
 use Rattle.vx_run.specs.Samples.{Sample}
 use Rattle.vx_run.specs.declared.row.Row.{Row}
-use Rattle.vx_run.specs.declared.row.Row.TheVariants.{Kleene, Coalesce, Cases, Fused, Branches}
+use Rattle.vx_run.specs.declared.row.Row.TheVariants.{Kleene, Coalesce, Cases, Fused, Branches, Scan}
 
 -- the lines of a text, a type, a column and a tree text
 abbrev pub lines_of : List ℕ → List ℕ → List ℕ → List ℕ → List ℕ
@@ -38,6 +39,7 @@ sample_of Coalesce = coalesce
 sample_of Cases = cases
 sample_of Fused = fused
 sample_of Branches = branches
+sample_of Scan = scan
 
 -- the text, none where there is a refusal
 abbrev pub or_nothing : Result (List ℕ) VortexError → List ℕ

@@ -2,7 +2,7 @@
 use Rattle.std.specs.Prelude.{ℕ, List, [], ◌∷◌, Option, Some, None, Result, Err, ok_or, if◌then◌else◌, codes}
 use Rattle.std.specs.Str.{bytes_eq}
 use Rattle.vx_run.specs.declared.row.Row.{Row}
-use Rattle.vx_run.specs.declared.row.Row.TheVariants.{Kleene, Coalesce, Cases, Fused, Branches}
+use Rattle.vx_run.specs.declared.row.Row.TheVariants.{Kleene, Coalesce, Cases, Fused, Branches, Scan}
 
 -- the row of that name
 abbrev pub row_named : List ℕ → Option Row
@@ -12,6 +12,7 @@ row_named name =
     else if bytes_eq name (codes "cases") then Some Cases
     else if bytes_eq name (codes "fused") then Some Fused
     else if bytes_eq name (codes "branches") then Some Branches
+    else if bytes_eq name (codes "scan") then Some Scan
     else None
 
 -- the complaint about a number of words other than one

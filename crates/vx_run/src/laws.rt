@@ -1,5 +1,5 @@
 // Laws of the pages.
-ghost use Rattle.vx_run.specs.PageTexts.{KleenePageIs, CoalescePageIs, CasesPageIs, FusedPageIs, BranchesPageIs};
+ghost use Rattle.vx_run.specs.PageTexts.{KleenePageIs, CoalescePageIs, CasesPageIs, FusedPageIs, BranchesPageIs, ScanPageIs};
 ghost use Rattle.vx_run.specs.Branches.{BranchesIsNormalForm};
 ghost use Rattle.vx_run.specs.Fused.{FusedIsKleeneMerged};
 
@@ -26,6 +26,11 @@ pub fn fused_page_is()
 /// The page of the row `branches`, byte for byte.
 pub fn branches_page_is()
     ensures { BranchesPageIs }
+{}
+
+/// The page of the row `scan`, byte for byte.
+pub fn scan_page_is()
+    ensures { ScanPageIs }
 {}
 
 /// The tree of the row `fused` is what merging leaves of that of the row `kleene`.

@@ -16,12 +16,14 @@ ghost use Rattle.vx_run.specs.Branches.{branches};
 ghost use Rattle.vx_run.specs.Fused.{fused};
 ghost use Rattle.vx_run.specs.Pages.{page_of, page_text, lines, lines_of};
 ghost use Rattle.vx_run.specs.Quiet.{IsQuiet};
-ghost use Rattle.vx_run.specs.declared.row.Row.TheVariants.{Branches, Fused};
+ghost use Rattle.vx_run.specs.Scan.{scan};
+ghost use Rattle.vx_run.specs.declared.row.Row.TheVariants.{Branches, Fused, Scan};
 
 use crate::row::Row;
-use crate::{branches, cases, coalesce, fused, kleene};
+use crate::{branches, cases, coalesce, fused, kleene, scan};
 use std::alloc::Global;
 use vx_query::run_query;
+use vx_scan::ScanPlan;
 use vx_tree::{BoundExpression, Expression};
 use vx_types::{Column, DType, VortexResult};
 
@@ -44,6 +46,7 @@ pub fn page(alloc: Global, row: Row) -> VortexResult<String>
         }
         Row::Fused => fused_page(alloc),
         Row::Branches => branches_page(alloc),
+        Row::Scan => scan_page(alloc),
     }
 }
 
@@ -87,6 +90,28 @@ fn branches_text(alloc: Global, tree: &BoundExpression, batch: &Column) -> Vorte
 {
     let column = branches::result(alloc, batch)?;
     bound_text(alloc, tree, batch, &column)
+}
+
+// The page of the row `scan`: the conditions scanned by their plan.
+fn scan_page(alloc: Global) -> VortexResult<String>
+    ensures { Answers string_bytes result (Ok (page_of Scan)) }
+{
+    let batch = scan::batch(alloc)?;
+    let plan = scan::planned(alloc, batch.dtype())?;
+    let text = scan_text(alloc, &plan, &batch);
+    drop(plan);
+    text
+}
+
+// The lines of the tree of the row `scan`. Asks its plan and its batch.
+fn scan_text(alloc: Global, plan: &ScanPlan, batch: &Column) -> VortexResult<String>
+    requires tree { binding scan.source scan.batch.type ≡ Ok (bound_of plan.now.tree) }
+    requires scope { type_of plan.now.scope ≡ scan.batch.type }
+    requires batch { batch.now ≡ scan.batch }
+    ensures { let tree = bound_of plan.now.tree in Answers string_bytes result (Ok (lines (unbound tree) batch.now (node_type tree))) }
+{
+    let column = scan::result(alloc, plan, batch)?;
+    bound_text(alloc, plan.tree(), batch, &column)
 }
 
 // The lines of an expression over the batch, or what binding refuses. Asks an expression that faults

@@ -15,6 +15,8 @@ pub enum Row {
     Fused,
     /// A CASE whose first condition never holds, after the branch rules.
     Branches,
+    /// Conditions on two fields, of which a scan reads no more.
+    Scan,
 }
 
 /// The row that the words name, or the complaint that is made of them.
@@ -41,6 +43,7 @@ fn row_named(name: &str) -> Option<Row>
         "cases" => Some(Row::Cases),
         "fused" => Some(Row::Fused),
         "branches" => Some(Row::Branches),
+        "scan" => Some(Row::Scan),
         _ => None,
     }
 }

@@ -8,3 +8,6 @@ returns-in-Fused c = subst (λ r. Answers string_bytes c.fused_page.result (Ok (
 
 pub returns-in-Branches : goal.returns-in-Branches
 returns-in-Branches c = subst (λ r. Answers string_bytes c.branches_page.result (Ok (page_of r))) (sym c.in-Branches.is) c.branches_page.ensures
+
+pub returns-in-Scan : goal.returns-in-Scan
+returns-in-Scan c = subst (λ r. Answers string_bytes c.scan_page.result (Ok (page_of r))) (sym c.in-Scan.is) c.scan_page.ensures
