@@ -13,10 +13,17 @@ fn main() {
         None => {
             queries::table(1_000_000);
             println!();
+            queries::scans(1_000_000);
+            println!();
             passes::tables();
         }
         Some("passes") => passes::tables(),
-        Some(rows) => queries::table(rows.parse().expect("a number of rows, or the word passes")),
+        Some(rows) => {
+            let rows = rows.parse().expect("a number of rows, or the word passes");
+            queries::table(rows);
+            println!();
+            queries::scans(rows);
+        }
     }
 }
 

@@ -11,6 +11,7 @@ const SAMPLES: usize = 5;
 
 unsafe extern "C" {
     fn vx_evaluate(number: u8, rows: usize, repeats: u32, digest: *mut Digest) -> u8;
+    fn vx_scanned(number: u8, rows: usize, repeats: u32, digest: *mut Digest) -> u8;
 }
 
 /// A query: its number in the library, and what is written by hand.
@@ -122,4 +123,45 @@ fn median(mut readings: Vec<f64>) -> f64 {
 fn bytes(call: impl Fn(u32) -> Digest) -> usize {
     let peak = |repeats| memory::peak(|| _ = black_box(call(repeats)));
     peak(1) - peak(0)
+}
+
+/// The number of the filter of two fields of a hundred in the library.
+const WIDE: u8 = 4;
+
+/// Prints the table of the filter over so many rows of a hundred fields: by a scan, and evaluated
+/// over the whole batch. A reading takes one evaluation, since the batch is large.
+pub fn scans(rows: usize) {
+    println!(
+        "| Query | Rows | Scan (ms) | Whole batch (ms) | Ratio | Peak of the scan (bytes) | Peak over the whole (bytes) |"
+    );
+    println!("|---|---:|---:|---:|---:|---:|---:|");
+    let scanned = |repeats| wide(vx_scanned, rows, repeats);
+    let whole = |repeats| wide(vx_evaluate, rows, repeats);
+    assert_eq!(scanned(1), whole(1), "a filter of two fields");
+    let one = |call: &dyn Fn(u32) -> Digest| {
+        let none = milliseconds(|| call(0));
+        milliseconds(|| call(1)) - none
+    };
+    let (by_scan, by_whole) = (0..SAMPLES)
+        .map(|_| (one(&scanned), one(&whole)))
+        .unzip();
+    let (by_scan, by_whole) = (median(by_scan), median(by_whole));
+    println!(
+        "| two fields of a hundred | {rows} | {by_scan:.1} | {by_whole:.1} | {:.2} | {} | {} |",
+        by_scan / by_whole,
+        bytes(scanned),
+        bytes(whole),
+    );
+}
+
+/// Makes the batch and runs the filter so often through the call, for the digest of the last column.
+fn wide(
+    call: unsafe extern "C" fn(u8, usize, u32, *mut Digest) -> u8,
+    rows: usize,
+    repeats: u32,
+) -> Digest {
+    let mut digest = Digest::default();
+    let status = unsafe { call(WIDE, rows, repeats, &mut digest) };
+    assert_eq!(status, 0, "a filter of two fields");
+    digest
 }

@@ -12,11 +12,13 @@ mod fields;
 mod pass;
 mod passes;
 mod query;
+mod scans;
 mod subject;
 mod trees;
 
 use digest::Digest;
 use query::Query;
+use scans::scanned;
 use std::alloc::Global;
 use vx_eval::apply_bound;
 use vx_tree::BoundExpression;
@@ -54,6 +56,30 @@ pub extern "C" fn vx_evaluate(
         return Status::NoSuchNumber as u8;
     };
     match evaluated(alloc, query, rows, repeats) {
+        Ok(last) => {
+            *digest = last;
+            Status::Answered as u8
+        }
+        Err(refusal) => refused(refusal),
+    }
+}
+
+/// The same by scans: a plan of the query is scanned so often, through its own reader of the batch.
+#[unsafe(no_mangle)]
+pub extern "C" fn vx_scanned(
+    alloc: Global,
+    number: u8,
+    rows: usize,
+    repeats: u32,
+    digest: &mut Digest,
+) -> u8
+    ensures status { result < 4 }
+    ensures kept { result ≢ 0 → digest.new ≡ digest.old }
+{
+    let Some(query) = Query::of(number) else {
+        return Status::NoSuchNumber as u8;
+    };
+    match scanned(alloc, query, rows, repeats) {
         Ok(last) => {
             *digest = last;
             Status::Answered as u8

@@ -1,6 +1,6 @@
 // The queries that are timed.
 use crate::batch;
-use crate::fields::names;
+use crate::fields::{names, numbered, numbered_names};
 use crate::trees::Trees;
 use std::alloc::Global;
 use vx_tree::{CaseWhenOptions, Expression, LikeOptions, Operator, Scalar, ScalarFnRef};
@@ -17,6 +17,8 @@ pub enum Query {
     Like,
     /// `pack(a: $.x, b: $.y, c: $.z).b`.
     Item,
+    /// `(($.f7 >= 10i32) and ($.f42 <= 500000i32))`, over a hundred fields.
+    Wide,
 }
 
 impl Query {
@@ -27,6 +29,7 @@ impl Query {
             1 => Some(Query::Case),
             2 => Some(Query::Like),
             3 => Some(Query::Item),
+            4 => Some(Query::Wide),
             _ => None,
         }
     }
@@ -37,6 +40,7 @@ impl Query {
             Query::Range | Query::Case => batch::numbers(alloc, names(alloc, &["x"])?, rows),
             Query::Like => batch::texts(alloc, rows),
             Query::Item => batch::numbers(alloc, names(alloc, &["x", "y", "z"])?, rows),
+            Query::Wide => batch::numbers(alloc, numbered_names(alloc, 100)?, rows),
         }
     }
 
@@ -54,6 +58,7 @@ impl Query {
             Query::Case => case(alloc, trees),
             Query::Like => liked(alloc, trees),
             Query::Item => item(alloc, trees),
+            Query::Wide => wide(alloc, trees),
         }
     }
 }
@@ -93,4 +98,14 @@ fn item(alloc: Global, trees: &mut Trees) -> VortexResult<()> {
     trees.field(alloc, FieldName::new(alloc, "z")?)?;
     trees.pack(alloc, names(alloc, &["a", "b", "c"])?)?;
     trees.item(alloc, FieldName::new(alloc, "b")?)
+}
+
+fn wide(alloc: Global, trees: &mut Trees) -> VortexResult<()> {
+    trees.field(alloc, numbered(alloc, 7)?)?;
+    trees.number(alloc, 10)?;
+    trees.binary(alloc, Operator::Gte)?;
+    trees.field(alloc, numbered(alloc, 42)?)?;
+    trees.number(alloc, 500_000)?;
+    trees.binary(alloc, Operator::Lte)?;
+    trees.binary(alloc, Operator::And)
 }
