@@ -10,6 +10,7 @@ mod pairs;
 mod partitions;
 mod paths;
 mod queries;
+mod scans;
 mod sources;
 mod split;
 mod values;

@@ -20,6 +20,10 @@ pub enum SourceKind {
     BuiltBound,
     Depth,
     AnyQuery,
+    Planned,
+    PlannedPaths,
+    PlannedSplit,
+    Scan,
 }
 
 /// Kinds of lines that ask of a source that is bound to the scope.
@@ -59,6 +63,7 @@ pub enum PairKind {
     Passes,
     Query,
     QueryType,
+    ScanOver,
     Partition,
     ReplacedBy,
     Equal,
@@ -81,6 +86,8 @@ pub enum WordsKind {
     Column,
     Joined,
     PathSet,
+    Read,
+    Reader,
     FirstMatch,
     ByChance,
     PeeledText,
@@ -125,6 +132,10 @@ fn of_source(name: &str) -> Option<SourceKind> {
         "built bound" => SourceKind::BuiltBound,
         "depth" => SourceKind::Depth,
         "any query" => SourceKind::AnyQuery,
+        "planned" => SourceKind::Planned,
+        "planned paths" => SourceKind::PlannedPaths,
+        "planned split" => SourceKind::PlannedSplit,
+        "scan" => SourceKind::Scan,
         _ => return None,
     })
 }
@@ -166,6 +177,7 @@ fn of_two(name: &str) -> Option<PairKind> {
         "passes" => PairKind::Passes,
         "query" => PairKind::Query,
         "query type" => PairKind::QueryType,
+        "scan over" => PairKind::ScanOver,
         "partition" => PairKind::Partition,
         "replaced by" => PairKind::ReplacedBy,
         "equal" => PairKind::Equal,
@@ -189,6 +201,8 @@ fn of_words(name: &str) -> Option<WordsKind> {
         "column" => WordsKind::Column,
         "joined" => WordsKind::Joined,
         "path set" => WordsKind::PathSet,
+        "read" => WordsKind::Read,
+        "reader" => WordsKind::Reader,
         "first match" => WordsKind::FirstMatch,
         "by chance" => WordsKind::ByChance,
         "peeled text" => WordsKind::PeeledText,

@@ -2,7 +2,7 @@
 use crate::refusals::Named;
 use std::alloc::{AllocError, Global};
 use std::fmt::Display;
-use vx_tree::{BoundExpression, Column, VortexError, VortexResult};
+use vx_tree::{BoundExpression, VortexError, VortexResult};
 
 /// What is answered, or `! ` and the refusal's name.
 pub fn told<T: Display + Drop>(alloc: Global, answer: VortexResult<T>) -> VortexResult<String> {
@@ -25,10 +25,10 @@ pub fn typed(alloc: Global, tree: &BoundExpression) -> VortexResult<String> {
 }
 
 /// Adds what is answered over one more batch.
-pub fn push_rows(
+pub fn push_rows<T: Display + Drop>(
     alloc: Global,
     rows: &mut String,
-    answer: VortexResult<Column>,
+    answer: VortexResult<T>,
 ) -> VortexResult<()> {
     if !rows.is_empty() {
         rows.push_str(" / ")?;

@@ -1,7 +1,9 @@
 // Answers that are of a tree by something else: passes, a partition, other trees.
 use crate::answers::partitions::fields_read;
 use crate::answers::queries::{Plan, query_rows, read_plan};
+use crate::answers::scans::scan_over;
 use crate::answers::split::{divided, replace, shown};
+use crate::answers::values::typed_column;
 use crate::kind::PairKind;
 use crate::scene::Scene;
 use crate::told::{refused, told, typed};
@@ -31,6 +33,10 @@ pub fn answer(
             alloc,
             query_type(alloc, scene, &source, &read_plan(alloc, by)?),
         ),
+        PairKind::ScanOver => {
+            let column = typed_column(alloc, by)?;
+            text_of(alloc, scan_over(alloc, scene, &source, &column))
+        }
         PairKind::Equal => {
             let first = scene.source(alloc, by)?;
             text_of(alloc, compared(alloc, scene, &first, &source))

@@ -29,13 +29,18 @@ fn push_path(text: &mut String, path: &FieldPath) -> VortexResult<()> {
 pub fn path_set(alloc: Global, groups: &str) -> Result<String, Unread> {
     let mut set = FieldPathSet::new(alloc);
     for group in groups.split(';') {
-        let mut paths = Vec::new(alloc);
-        for text in group.split_whitespace() {
-            paths.push(path(alloc, text)?)?;
-        }
-        set.extend(paths)?;
+        set.extend(paths_of(alloc, group)?)?;
     }
     Ok(shown_paths(alloc, &set)?)
+}
+
+/// The paths of the words: `a.x b`, the root path as `$`.
+pub fn paths_of(alloc: Global, words: &str) -> VortexResult<Vec<FieldPath>> {
+    let mut paths = Vec::new(alloc);
+    for text in words.split_whitespace() {
+        paths.push(path(alloc, text)?)?;
+    }
+    Ok(paths)
 }
 
 // `a.x`, or `$`.

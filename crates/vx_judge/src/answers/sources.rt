@@ -1,6 +1,7 @@
 // Answers that are of a source: its texts, its type, and how it is built.
 use crate::answers::built::{built, built_bound};
 use crate::answers::queries::any_query;
+use crate::answers::scans::planned;
 use crate::kind::SourceKind;
 use crate::scene::Scene;
 use crate::told::{agreed, barred, refused, told};
@@ -26,6 +27,10 @@ pub fn answer(
         SourceKind::BuiltBound => built_bound(alloc, scene, words)?,
         SourceKind::Depth => format!(in alloc; "{}", depth(&source))?,
         SourceKind::AnyQuery => any_query(alloc, scene, &source)?,
+        SourceKind::Planned
+        | SourceKind::PlannedPaths
+        | SourceKind::PlannedSplit
+        | SourceKind::Scan => planned(alloc, kind, scene, &source)?,
     })
 }
 

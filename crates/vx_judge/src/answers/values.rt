@@ -45,12 +45,17 @@ pub fn joined(alloc: Global, names: &str, columns: &str, rows: &str) -> Result<S
     let names = vx_samples::names(alloc, names, ' ')?;
     let mut given = Vec::new(alloc);
     for text in columns.split(';') {
-        let (dtype, rows) = text.trim().split_once(' ').unwrap_or((text.trim(), ""));
-        let dtype = dtype.strip_suffix(':').ok_or("no type")?;
-        given.push(vx_samples::column(alloc, dtype, rows)?)?;
+        given.push(Box::into_inner(typed_column(alloc, text.trim())?))?;
     }
     let rows = rows.parse().map_err(|_| Unread::Word("no number of rows"))?;
     Ok(joined_text(alloc, names, given, rows)?)
+}
+
+/// The column of the words: its type with a colon, and its rows.
+pub fn typed_column(alloc: Global, text: &str) -> Result<Box<Column>, Unread> {
+    let (dtype, rows) = text.split_once(' ').unwrap_or((text, ""));
+    let dtype = dtype.strip_suffix(':').ok_or("no type")?;
+    Ok(Box::new(alloc, vx_samples::column(alloc, dtype, rows)?)?)
 }
 
 fn joined_text(

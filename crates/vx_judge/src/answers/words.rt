@@ -3,6 +3,7 @@ use crate::answers::chance::by_chance;
 use crate::answers::functions::{child_names, kept, node_type, shown_function, swapped};
 use crate::answers::matches::{like, matched};
 use crate::answers::paths::path_set;
+use crate::answers::scans::{read, read_through};
 use crate::answers::sources::peeled_text;
 use crate::answers::values::{column, joined, scalar_text, type_text, union};
 use crate::kind::WordsKind;
@@ -35,6 +36,8 @@ pub fn answer(
         (WordsKind::Column, [dtype, rows]) => column(alloc, dtype, rows),
         (WordsKind::Joined, [names, columns, rows]) => joined(alloc, names, columns, rows),
         (WordsKind::PathSet, [groups]) => path_set(alloc, groups),
+        (WordsKind::Read, [paths]) => Ok(read(alloc, scene, paths)?),
+        (WordsKind::Reader, [paths]) => Ok(read_through(alloc, scene, paths)?),
         (WordsKind::FirstMatch, [kind, conditions, chosen, otherwise]) => {
             matched(alloc, kind, conditions, chosen, otherwise)
         }
