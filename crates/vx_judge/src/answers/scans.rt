@@ -10,9 +10,8 @@ use crate::told::{push_rows, refused, told, typed};
 use std::alloc::Global;
 use std::fmt;
 use vx_kept::{ColumnReader, PathReader, read_referenced};
-use vx_rewrite::referenced_field_paths;
 use vx_scan::{ScanPlan, plan, scan};
-use vx_tree::{Column, DType, Expression, VortexResult};
+use vx_tree::{Column, Expression, VortexResult};
 use vx_types::{FieldPath, FieldPathSet};
 
 /// The answer to a line that asks of the source, planned for scans of the scope, or what refuses that.
@@ -92,19 +91,19 @@ impl fmt::Display for WithType {
 
 // What a scan gives of the column, read along the plan's paths alone.
 fn scanned(alloc: Global, plan: &ScanPlan, column: &Column) -> VortexResult<WithType> {
-    let allowed = allowed(alloc, plan, column.dtype())?;
-    let reader = ColumnReader::new(column.clone()?, allowed);
+    let reader = reader(alloc, plan, column)?;
     Ok(WithType(scan(alloc, &reader, plan)?))
 }
 
-// The plan's paths, in a set of their own; none for a column of another type than the plan's.
-fn allowed(alloc: Global, plan: &ScanPlan, dtype: &DType) -> VortexResult<FieldPathSet>
-    ensures { IfOk result (λ paths. type_of dtype.now ≡ type_of plan.now.scope → paths ≡ plan.now.paths) }
+// A reader of the column that allows the plan's paths, and none where it is of another type.
+fn reader(alloc: Global, plan: &ScanPlan, column: &Column) -> VortexResult<ColumnReader>
+    ensures { IfOk result (λ r. r.column.type ≡ type_of plan.now.scope → r.allowed ≡ plan.now.paths) }
 {
-    if *dtype != *plan.scope() {
-        return Ok(FieldPathSet::new(alloc));
+    let column = column.clone()?;
+    if *column.dtype() != *plan.scope() {
+        return Ok(ColumnReader::new(column, FieldPathSet::new(alloc)));
     }
-    referenced_field_paths(alloc, plan.tree())
+    plan.reader_of(alloc, column)
 }
 
 /// What is read of each batch along the paths.
