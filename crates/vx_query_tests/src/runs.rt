@@ -74,6 +74,22 @@ vortex.fill_null()
 └── fill_value: vortex.literal(0i32)
 ";
 
+pub const SCAN: &str = "text: (($.a.x >= 1i32) and ($.b < 5i32))
+type: bool?
+result: [true, false]
+tree:
+vortex.binary(and)
+├── lhs: vortex.binary(>=)
+│   ├── lhs: vortex.get_item(x)
+│   │   └── input: vortex.get_item(a)
+│   │       └── input: vortex.root()
+│   └── rhs: vortex.literal(1i32)
+└── rhs: vortex.binary(<)
+    ├── lhs: vortex.get_item(b)
+    │   └── input: vortex.root()
+    └── rhs: vortex.literal(5i32)
+";
+
 /// Takes so many writes of at most so many bytes, and then fails.
 #[derive(Drop)]
 struct Halting {
@@ -132,6 +148,7 @@ fn the_words_give_a_page_or_a_message(rt: HostRuntime) -> Result<(), Fail> {
     gives(&rt, alloc, &["cases"], 0, (CASES, ""))?;
     gives(&rt, alloc, &["fused"], 0, (FUSED, ""))?;
     gives(&rt, alloc, &["branches"], 0, (BRANCHES, ""))?;
+    gives(&rt, alloc, &["scan"], 0, (SCAN, ""))?;
     gives(&rt, alloc, &["zz"], 2, ("", "unknown row\n"))?;
     let usage = "usage: vx_show ROW\n";
     gives(&rt, alloc, &[], 2, ("", usage))?;

@@ -1,6 +1,6 @@
 // The program whose memory is refused: the page whole, or not a byte of it.
 use crate::refusals::answered;
-use crate::runs::{BRANCHES, CASES, COALESCE, FUSED, KLEENE, words_of};
+use crate::runs::{BRANCHES, CASES, COALESCE, FUSED, KLEENE, SCAN, words_of};
 use std::alloc::Global;
 use std::process::Abort;
 use std::test::Fail;
@@ -35,6 +35,7 @@ fn run_show_of_each_row(rt: HostRuntime) -> Result<(), Fail> {
         ("cases", CASES),
         ("fused", FUSED),
         ("branches", BRANCHES),
+        ("scan", SCAN),
     ] {
         shows(&rt, alloc, row, page)?;
     }
