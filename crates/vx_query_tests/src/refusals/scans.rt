@@ -141,7 +141,7 @@ fn scans(
 }
 
 /// The plan of the words.
-fn planned(alloc: Global, words: &str) -> Result<Box<ScanPlan>, Fail> {
+fn plan_of(alloc: Global, words: &str) -> Result<Box<ScanPlan>, Fail> {
     let source = boxed(alloc, words)?;
     let scope = dtype(alloc, SCOPE)?;
     Ok(Box::new(alloc, plan(alloc, &*source, &scope)?)?)
@@ -150,14 +150,14 @@ fn planned(alloc: Global, words: &str) -> Result<Box<ScanPlan>, Fail> {
 #[test]
 fn scan_by_partitions(rt: HostRuntime) -> Result<(), Fail> {
     let alloc = rt.alloc();
-    let plan = planned(alloc, CONDITIONS)?;
+    let plan = plan_of(alloc, CONDITIONS)?;
     scans(&rt, alloc, &plan, OF_FIELDS, "[true, false]")
 }
 
 #[test]
 fn scan_of_the_tree_whole(rt: HostRuntime) -> Result<(), Fail> {
     let alloc = rt.alloc();
-    let plan = planned(alloc, "$ is_null b 5 < and")?;
+    let plan = plan_of(alloc, "$ is_null b 5 < and")?;
     scans(&rt, alloc, &plan, OF_ROWS, "[false, false]")
 }
 
