@@ -1,4 +1,4 @@
-// Tests of analyses, rewriting, queries and the program that no row of a table says: closures, keys
+// Tests of analyses, rewriting, queries, scans and the program that no row of a table says: closures, keys
 // and rules of our own, writers that fail, and refused memory.
 #![tactic(auto)]
 
