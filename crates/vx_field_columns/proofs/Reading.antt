@@ -1,5 +1,5 @@
 -- What is kept of rows along paths is what is kept of the rows that were read.
-use Rattle.std.proofs.Common.{◌≡◌, ℕ, ◌+◌, ◌<◌, ◌≤◌, List, [], ◌∷◌, ◌++◌, append_assoc, append-nil, length, get_or, drop, drop-cons, drop_of_length-le, add-one, map, refl, sym, ap, ◌∙◌, Bool, true, false, ◌||◌, not, Some, None, Option, Result, Ok, Err, suc, ◌⊎◌, inl, inr}
+use Rattle.std.proofs.Common.{◌≡◌, ℕ, ◌+◌, ◌<◌, List, [], ◌∷◌, ◌++◌, append_assoc, length, get_or, drop, drop-cons, add-one, map, refl, sym, ap, ◌∙◌, Bool, true, false, ◌||◌, Some, None, Option, Result, Ok, Err, suc, ◌⊎◌, inl, inr}
 use Rattle.std.specs.Prelude.{is_some, if◌then◌else◌}
 use Rattle.std.specs.List.{range_with_len}
 use Rattle.std.specs.Str.{bytes_eq}
@@ -7,14 +7,14 @@ use Rattle.std.proofs.lemmas.Bool.{or_parts}
 use Rattle.std.proofs.lemmas.List.{length-map}
 use Rattle.vx_dtype.specs.declared.error.VortexError.{VortexError}
 use Rattle.vx_dtype.specs.declared.error.VortexError.TheVariants.{OutOfMemory}
-use Rattle.vx_types.specs.Columns.{Batch, batch}
+use Rattle.vx_types.specs.Columns.{Batch}
 use Rattle.vx_types.specs.Fields.{data_of, fields_named}
 use Rattle.vx_types.specs.Paths.{Path, is_member}
 use Rattle.vx_types.specs.StructColumns.{all_long, row_at, rows_in, struct_at, struct_column, struct_type, types_in}
 use Rattle.vx_types.specs.Types.{Name, LogicalType, ty, struct, Datum, null, struct_of}
 use Rattle.vx_kept.specs.Defaults.{default_of}
 use Rattle.vx_kept.specs.Kept.{rest_behind, rests, others, at_paths, kept, fields_kept, kept_batch}
-use Rattle.vx_field_columns.specs.FieldColumns.{reaches, is_asked, read_column, read_columns, joined}
+use Rattle.vx_field_columns.specs.FieldColumns.{is_asked, read_column, read_columns, joined}
 
 abbrev answer : {A : Type 0} → A → Result A VortexError
 answer x = Ok x
@@ -68,6 +68,7 @@ same_at (path ∷ paths) all every inside within default a i = go (is_member (pa
     go false e = i
 
 module _ (asked : List Path) where
+  -- in a column that was read
   one_kept : (paths : List Path) (a : Name) (c : Batch) (k : ℕ) → (is_asked asked a ≡ false → rests a paths ≡ [])
       → kept (rests a paths) c.type (get_or (read_column asked a c).rows k null) ≡ kept (rests a paths) c.type (get_or c.rows k null)
   one_kept paths a c k none = go (is_asked asked a) refl
@@ -76,17 +77,20 @@ module _ (asked : List Path) where
       go true e = refl
       go false e = rw (none e) (default_kept c.type (get_or (kept_batch [] c).rows k null) ∙ sym (default_kept c.type (get_or c.rows k null)))
 
+  -- in each of the columns, at row k
   each_kept : (paths : List Path) (names : List Name) (cs : List Batch) (k : ℕ) → ((a : Name) → is_asked asked a ≡ false → rests a paths ≡ [])
       → fields_kept paths (fields_named names (types_in cs)) (data_of (row_at k (rows_in (read_columns asked names cs)))) ≡ fields_kept paths (fields_named names (types_in cs)) (data_of (row_at k (rows_in cs)))
   each_kept paths [] cs k none = refl
   each_kept paths (a ∷ names) [] k none = refl
   each_kept paths (a ∷ names) (c ∷ cs) k none = rw (one_kept paths a c k (none a), each_kept (others a paths) names cs k (λ b e. still_none paths b a (none b e))) refl
 
+  -- where each is asked, all are read
   all_read : (names : List Name) (cs : List Batch) → ((a : Name) → is_asked asked a ≡ true) → read_columns asked names cs ≡ cs
   all_read [] cs all = refl
   all_read (a ∷ names) [] all = refl
   all_read (a ∷ names) (c ∷ cs) all = rw (all a, all_read names cs all) refl
 
+  -- in each row as much is kept of the columns that were read as of all
   struct_kept : (names : List Name) (cs : List Batch) (k : ℕ) → kept asked (struct_type names cs false) (struct_at (rows_in (read_columns asked names cs)) k) ≡ kept asked (struct_type names cs false) (struct_at (rows_in cs) k)
   struct_kept names cs k =
       same_at asked _ _ _ _ _ (λ e. ap (λ read. struct_at (rows_in read) k) (all_read names cs (λ a. root_asks asked a e)))
@@ -96,6 +100,7 @@ module _ (asked : List Path) where
   rows_kept names cs [] = refl
   rows_kept names cs (k ∷ ks) = rw (struct_kept names cs k, rows_kept names cs ks) refl
 
+  -- their types and lengths are those of all
   types_stay : (names : List Name) (cs : List Batch) → types_in (read_columns asked names cs) ≡ types_in cs
   types_stay [] cs = refl
   types_stay (a ∷ names) [] = refl
@@ -105,7 +110,7 @@ module _ (asked : List Path) where
       go true rest = ap (λ ts. c.type ∷ ts) rest
       go false rest = ap (λ ts. c.type ∷ ts) rest
 
-  -- of the columns that were read as much is kept as of all
+  -- so of the batch that they make
   read_kept : (names : List Name) (cs : List Batch) (n : ℕ) → kept_batch asked (joined names (read_columns asked names cs) n) ≡ kept_batch asked (joined names cs n)
   read_kept names cs n = rw (types_stay names cs, rows_kept names cs (range_with_len 0 n)) refl
 
@@ -132,13 +137,6 @@ module _ (asked : List Path) where
       let ns : drop i names ≡ a ∷ drop (i + 1) names = rw (add-one, drop-cons names i a h, ← p) refl in
       let one : drop i cs ≡ c ∷ drop (i + 1) cs = rw (add-one, drop-cons cs i c k, ← q) refl in
       so_far ∙ rw (ns, one, is) (sym (rw pushed (append_assoc made (x ∷ []) rest)))
-
-  pub end_read : (names : List Name) (cs made : List Batch) (i : ℕ) (all : List Batch) → length cs ≤ i → all ≡ made ++ read_columns asked (drop i names) (drop i cs) → all ≡ made
-  end_read names cs made i all h so_far = so_far ∙ rw (drop_of_length-le cs h) (go (drop i names))
-    where
-      go : (ns : List Name) → (made ++ read_columns asked ns []) ≡ made
-      go [] = append-nil made
-      go (a ∷ ns) = append-nil made
 
   -- ---- the columns that were read, joined
 

@@ -18,8 +18,12 @@ use vx_types::{
     VortexError, VortexResult,
 };
 
-/// Rows of structs, none of them null, kept as a column for each field. Of the columns only those
-/// are read that paths ask for.
+#[cfg(test)]
+mod tests;
+
+/// Rows of structs, none of them null, kept as a column for each field, and read by their columns:
+/// a read along paths copies the columns whose names some path begins with, and looks at no value of
+/// the others, unless the root path asks for all.
 #[derive(Drop)]
 pub struct FieldColumns {
     dtype: DType,
@@ -122,7 +126,7 @@ fn read_columns(
     Ok(read)
 }
 
-// The column of the field of that name, or as many defaults, for which no row is read.
+// The column of the field of that name, or as many defaults, for which no value is looked at.
 fn read_column(
     alloc: Global,
     name: &FieldName,

@@ -1,4 +1,4 @@
-use Rattle.std.proofs.Common.{arith, refl, ap, sym, ◌∙◌, ◌∷◌, [], ◌++◌, None, ◌≡◌, map}
+use Rattle.std.proofs.Common.{arith, ap, sym, ◌∙◌, ◌∷◌, [], None, ◌≡◌, map}
 use Rattle.std.proofs.lemmas.List.{map_more, map-append}
 use Rattle.std.proofs.lemmas.List.Elements.{All-more}
 use Rattle.vx_types.specs.Columns.{Batch, first_misfit}
