@@ -1,7 +1,7 @@
 // A reader of one's own, as an example: rows kept as columns, one for each field.
 #![tactic(auto)]
 
-ghost use Rattle.std.specs.Prelude.{◌≡◌, Ok, IfOk, false, length, map, true};
+ghost use Rattle.std.specs.Prelude.{◌≡◌, IsErrOf, Ok, IfOk, false, length, map, true};
 ghost use Rattle.std.specs.Coded.{Coded-set};
 ghost use Rattle.vx_types.specs.Answers.{Answers};
 ghost use Rattle.vx_types.specs.Codes.{type_code};
@@ -9,6 +9,7 @@ ghost use Rattle.vx_types.specs.Fits.{IsBatch};
 ghost use Rattle.vx_types.specs.Paths.{minimal_paths, path_of};
 ghost use Rattle.vx_types.specs.StructColumns.{EachFit, all_long, struct_column, struct_type, types_in};
 ghost use Rattle.vx_types.specs.Views.{type_of};
+ghost use Rattle.vx_dtype.specs.declared.error.VortexError.TheVariants.{LengthMismatch};
 ghost use Rattle.vx_field_columns.specs.FieldColumns.{is_asked, joined, reaches, read_column, read_columns};
 
 use std::alloc::{AllocError, Global};
@@ -53,6 +54,7 @@ impl FieldColumns {
         requires { length names ≡ length columns.items }
         ensures batch { Answers (λ r. joined r.names r.columns.items r.rows) result (struct_column names columns.items rows false) }
         ensures allowed { IfOk result (λ r. r.allowed ≡ allowed) }
+        ensures mismatch { all_long rows columns.items ≡ false → IsErrOf result LengthMismatch }
     {
         if !all_long(columns.as_slice(), rows) {
             return Err(VortexError::LengthMismatch);
