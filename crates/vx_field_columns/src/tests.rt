@@ -34,8 +34,7 @@ fn reader(alloc: Global) -> VortexResult<FieldColumns> {
 fn only_what_is_asked_is_read(rt: HostRuntime) -> Result<(), Fail> {
     let alloc = rt.alloc();
     let reader = reader(alloc).expect(&rt, "a reader");
-    let paths = field_a(alloc).expect(&rt, "paths");
-    let read = reader.read(alloc, &paths).expect(&rt, "a column");
+    let read = reader.read(alloc, &reader.allowed).expect(&rt, "a column");
     let text = format!(in alloc; "{read}").expect(&rt, "a text");
     assert!(rt;
         text.as_str() == "[{a: 1i32, b: 0i32}, {a: 2i32, b: 0i32}]",
