@@ -55,13 +55,7 @@ pub extern "C" fn vx_evaluate(
     let Some(query) = Query::of(number) else {
         return Status::NoSuchNumber as u8;
     };
-    match evaluated(alloc, query, rows, repeats) {
-        Ok(last) => {
-            *digest = last;
-            Status::Answered as u8
-        }
-        Err(refusal) => refused(refusal),
-    }
+    answered(evaluated(alloc, query, rows, repeats), digest)
 }
 
 /// The same by scans: a plan of the query is scanned so often, through its own reader of the batch.
@@ -79,7 +73,15 @@ pub extern "C" fn vx_scanned(
     let Some(query) = Query::of(number) else {
         return Status::NoSuchNumber as u8;
     };
-    match scanned(alloc, query, rows, repeats) {
+    answered(scanned(alloc, query, rows, repeats), digest)
+}
+
+// The number of the status, with the digest written where there is one.
+fn answered(last: VortexResult<Digest>, digest: &mut Digest) -> u8
+    ensures status { result < 4 }
+    ensures kept { result ≢ 0 → digest.new ≡ digest.old }
+{
+    match last {
         Ok(last) => {
             *digest = last;
             Status::Answered as u8
