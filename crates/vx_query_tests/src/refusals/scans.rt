@@ -26,13 +26,16 @@ struct Paths<'a>(&'a FieldPathSet);
 
 impl fmt::Display for Paths<'_> {
     fn fmt<W: fmt::Write>(&self, f: &mut fmt::Formatter<W>) -> fmt::Result {
-        let mut before = "$";
+        let mut is_first = true;
         for path in self.0.iter() {
-            f.write_str(before)?;
+            if !is_first {
+                f.write_str(" ")?;
+            }
+            is_first = false;
+            f.write_str("$")?;
             for Field::Name(name) in path.parts() {
                 write!(f, ".{name}")?;
             }
-            before = " $";
         }
         Ok(())
     }
