@@ -1,9 +1,9 @@
 -- Choices between columns, row by row.
-use Rattle.std.specs.Prelude.{ℕ, List, [], ◌∷◌, map, length, get_or, Option, Some, None, if◌then◌else◌}
+use Rattle.std.specs.Prelude.{ℕ, List, [], ◌∷◌, map, length, get_or, Option, Some, None}
 use Rattle.vx_types.specs.Columns.{Batch}
 use Rattle.vx_types.specs.Fits.{IsBatch}
 use Rattle.vx_types.specs.Types.{LogicalType, Datum, null}
-use Rattle.vx_fn.specs.Values.{is_true}
+pub use Rattle.vx_merge.specs.Merges.{first_match}
 use Rattle.vx_eval.specs.Columns.{row_at}
 
 -- the rows of each column
@@ -19,11 +19,6 @@ height (c ∷ cs) = length c.rows
 abbrev pub EachBatch : LogicalType → List (List Datum) → Type 0
 EachBatch t [] = Unit {0}
 EachBatch t (c ∷ cs) = IsBatch t c × EachBatch t cs
-
--- of conditions and the values beside them, the value beside the first true condition, else the last
-abbrev pub first_match : List Datum → List Datum → Datum → Datum
-first_match (c ∷ cs) (v ∷ vs) otherwise = if is_true c then v else first_match cs vs otherwise
-first_match _ _ otherwise = otherwise
 
 -- the column's value at that row, null without a column
 abbrev pub else_at : Option (List Datum) → ℕ → Datum
