@@ -10,3 +10,5 @@ mod Taking
 mod FirstRows
 mod Likes
 mod Matched
+mod Trues
+mod Masked

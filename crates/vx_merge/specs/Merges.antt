@@ -55,17 +55,17 @@ abbrev pub unclaimed : List Bool → List (List Bool) → List Bool
 unclaimed open_rows [] = open_rows
 unclaimed open_rows (m ∷ ms) = unclaimed (but open_rows m) ms
 
--- where a call answers at a row that is in the mask, it is what g gives there
-abbrev pub AnswersIn : {E : Type 0} → (ℕ → Result Value E → Type 0) → List Bool → (ℕ → Datum) → Type 0
-AnswersIn post m g = (i : ℕ) (v : Value) → i < length m → get_or m i false ≡ true → post i (Ok v) → value_of v ≡ g i
+-- where a call answers at a row from one on that is in the mask, it is what g gives there
+abbrev pub AnswersIn : {E : Type 0} → (ℕ → Result Value E → Type 0) → List Bool → ℕ → (ℕ → Datum) → Type 0
+AnswersIn post m from g = (i : ℕ) (v : Value) → from ≤ i → i < length m → get_or m i false ≡ true → post i (Ok v) → value_of v ≡ g i
 
 -- the values at the rows from one on that are in the mask are what g gives there
 abbrev pub HoldsIn : List Bool → ℕ → List Datum → (ℕ → Datum) → Type 0
-HoldsIn m from vs g = (k : ℕ) → from ≤ k → get_or m k false ≡ true → get_or vs k null ≡ g k
+HoldsIn m from vs g = (k : ℕ) → from ≤ k → k < length m → get_or m k false ≡ true → get_or vs k null ≡ g k
 
--- g gives that value at each row that is in the mask
-abbrev pub IsIn : List Bool → Datum → (ℕ → Datum) → Type 0
-IsIn m v g = (k : ℕ) → get_or m k false ≡ true → v ≡ g k
+-- the value is what g gives at each row from one on that is in the mask
+abbrev pub IsIn : List Bool → ℕ → Datum → (ℕ → Datum) → Type 0
+IsIn m from v g = (k : ℕ) → from ≤ k → k < length m → get_or m k false ≡ true → v ≡ g k
 
 -- the values from that row on are as they were
 abbrev pub StaysFrom : ℕ → List Datum → List Datum → Type 0

@@ -42,7 +42,7 @@ pub fn push_with<F: Fn(usize) -> Result<Value, AllocError>>(
     requires here { get_or mask.now from false ≡ true }
     requires call { (i : ℕ) → i < length mask.now → F.pre f i }
     ensures run { IfOk result (λ end. IsRunFrom mask.now from end) }
-    ensures rows { (g : ℕ → Datum) → AnswersIn (λ i r. F.post f i r) mask.now g → values_of rows.old.items ≡ each_row from g → IfOk result (λ end. values_of rows.new.items ≡ each_row end g) }
+    ensures rows { (g : ℕ → Datum) → AnswersIn (λ i r. F.post f i r) mask.now from g → values_of rows.old.items ≡ each_row from g → IfOk result (λ end. values_of rows.new.items ≡ each_row end g) }
 {
     for i in from..mask.len() {
         if !mask[i] {

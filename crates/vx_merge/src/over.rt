@@ -30,7 +30,7 @@ pub fn write_with<F: Fn(usize) -> Result<Value, AllocError>>(
 ) -> Result<(), AllocError>
     requires mask { length mask.now ≡ length rows.old.items }
     requires call { (i : ℕ) → i < length mask.now → F.pre f i }
-    ensures { (g : ℕ → Datum) → AnswersIn (λ i r. F.post f i r) mask.now g → IfOk result (λ _. IsWritten mask.now g (values_of rows.old.items) (values_of rows.new.items)) }
+    ensures { (g : ℕ → Datum) → AnswersIn (λ i r. F.post f i r) mask.now 0 g → IfOk result (λ _. IsWritten mask.now g (values_of rows.old.items) (values_of rows.new.items)) }
 {
     for i in 0..mask.len() {
         if !mask[i] {

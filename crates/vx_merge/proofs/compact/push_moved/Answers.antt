@@ -11,5 +11,5 @@ loop-i-preserved c =
       long = grind (arith, common_steps);
       left = left_more _ c.loop-i.values.items c.loop-i.i _ c.loop-i.invariant.left;
       rows = λ h holds so_far. row_pushed h _ _ c.loop-i.i _ (c.loop-i.invariant.rows h holds so_far) c.in_ok-push.ensures.items
-          (moved_is _ c.loop-i.values.items c.loop-i.i _ (h c.loop-i.i) c.loop-i.invariant.left (omega arith) (cc (c.replace.ensures.value, c.index_mut.ensures.value)) (holds c.loop-i.i (omega arith) on));
+          (moved_is _ c.loop-i.values.items c.loop-i.i _ (h c.loop-i.i) c.loop-i.invariant.left (omega arith) (cc (c.replace.ensures.value, c.index_mut.ensures.value)) (holds c.loop-i.i (omega arith) (omega arith) on));
     }

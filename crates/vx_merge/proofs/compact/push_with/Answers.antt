@@ -7,5 +7,5 @@ loop-i-preserved g c =
     let on : get_or c.args.mask.now c.loop-i.i false ≡ true = search rules in
     record {
       on = on_more c.args.mask.now c.args.from c.loop-i.i c.loop-i.invariant.on on;
-      rows = λ h by so_far. row_pushed h _ _ c.loop-i.i _ (c.loop-i.invariant.rows h by so_far) c.in_ok-push.ensures.items (by _ _ (omega arith) on c.in_ok-f.ensures);
+      rows = λ h by so_far. row_pushed h _ _ c.loop-i.i _ (c.loop-i.invariant.rows h by so_far) c.in_ok-push.ensures.items (by _ _ (omega arith) (omega arith) on c.in_ok-f.ensures);
     }

@@ -13,7 +13,7 @@ loop-i-preserved g c =
     let on : get_or c.args.mask.now c.loop-i.i false ≡ true = search rules in
     record {
       long = grind (arith, common_steps);
-      written = λ h by. written_put c.args.mask.now h _ _ c.loop-i.i _ (c.loop-i.invariant.written h by) (omega arith) on (by _ _ (omega arith) on c.in_ok-rows.ensures);
+      written = λ h by. written_put c.args.mask.now h _ _ c.loop-i.i _ (c.loop-i.invariant.written h by) (omega arith) on (by _ _ (omega arith) (omega arith) on c.in_ok-rows.ensures);
     }
 
 pub returns : goal.returns

@@ -7,5 +7,5 @@ use Rattle.vx_merge.proofs.over.write_with.Given as goal
 abbrev pub invariant-loop-i : goal.invariant-loop-i
 invariant-loop-i g l = record {
   long : length l.rows.items ≡ length l.fn.rows.items;
-  written : (h : ℕ → Datum) → AnswersIn (λ i r. goal.F-post g l.f i r) l.mask h → Written l.mask h (values_of l.fn.rows.items) l.i (values_of l.rows.items);
+  written : (h : ℕ → Datum) → AnswersIn (λ i r. goal.F-post g l.f i r) l.mask 0 h → Written l.mask h (values_of l.fn.rows.items) l.i (values_of l.rows.items);
 }
