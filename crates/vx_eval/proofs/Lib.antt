@@ -12,3 +12,4 @@ mod Likes
 mod Matched
 mod Trues
 mod Masked
+mod Branches

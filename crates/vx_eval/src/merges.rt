@@ -9,7 +9,7 @@ ghost use Rattle.vx_mask.specs.Masks.{both, but};
 ghost use Rattle.vx_merge.specs.Merges.{EachMask, claimed};
 ghost use Rattle.vx_eval.specs.Choices.{EachBatch};
 ghost use Rattle.vx_eval.specs.Columns.{rows_views, each_row, AllLong};
-ghost use Rattle.vx_eval.specs.Merging.{masks_in, columns_in, InSomeMask, first_merged};
+ghost use Rattle.vx_eval.specs.FirstMerged.{masks_in, columns_in, InSomeMask, first_merged};
 
 use crate::merging::merged;
 use crate::rows::Rows;

@@ -1,6 +1,6 @@
 use Rattle.std.proofs.Common.{◌≡◌, ◌++◌, drop}
 use Rattle.vx_eval.specs.Columns.{rows_views}
-use Rattle.vx_eval.specs.Merging.{columns_in}
+use Rattle.vx_eval.specs.FirstMerged.{columns_in}
 use Rattle.vx_eval.proofs.merges.lent.Given as goal
 
 abbrev pub invariant-loop-branch : goal.invariant-loop-branch

@@ -1,7 +1,7 @@
 use Rattle.std.proofs.Common.{◌≡◌, ◌++◌, drop, length, true}
 use Rattle.std.proofs.Math.ListN.{replicate}
 use Rattle.vx_merge.specs.Merges.{claimed, unclaimed}
-use Rattle.vx_eval.specs.Merging.{masks_in}
+use Rattle.vx_eval.specs.FirstMerged.{masks_in}
 use Rattle.vx_eval.proofs.merges.own_rows.Given as goal
 
 abbrev pub invariant-loop-branch : goal.invariant-loop-branch
