@@ -76,19 +76,6 @@ pub record Splitting (n : ℕ) (cs : List (List Datum)) (rs : List Rows) (masks 
   pub values_are : rows_views values ++ values_in (rows_views rs) ≡ values_in cs
   pub last_is : alone (rows_views rs) ≡ alone cs
 
-pub split_none : (n : ℕ) (rs : List Rows) (open_rows : List Bool) → AllLong n (rows_views rs) → open_rows ≡ replicate n true → Splitting n (rows_views rs) rs [] open_rows []
-split_none n rs open_rows all is = record {
-  size = ap length is ∙ length-replicate n true;
-  all = all;
-  masks_are = ap (λ o. claimed o (truths (conditions_in (rows_views rs)))) is;
-  rest_is = ap (λ o. unclaimed o (truths (conditions_in (rows_views rs)))) is;
-  values_are = refl;
-  last_is = refl;
-}
-
-pub condition_long : (n : ℕ) (cs : List (List Datum)) (rs rest : List Rows) (a : Rows) (masks : List (List Bool)) (open_rows : List Bool) (values : List Rows) → Splitting n cs rs masks open_rows values → rs ≡ a ∷ rest → length (rows_view a) ≡ length open_rows
-condition_long n cs rs rest a masks open_rows values s e = (subst (λ l. AllLong n (rows_views l)) e s.all).0 ∙ sym s.size
-
 pub split_more : (n : ℕ) (cs : List (List Datum)) (rs mid rest : List Rows) (a b : Rows) (masks new : List (List Bool)) (m open_rows left : List Bool) (values more : List Rows) → Splitting n cs rs masks open_rows values → rs ≡ a ∷ mid → mid ≡ b ∷ rest →
     m ≡ both (map is_true (rows_view a)) open_rows → left ≡ but open_rows (map is_true (rows_view a)) → new ≡ masks ++ m ∷ [] → more ≡ values ++ b ∷ [] → Splitting n cs rest new left more
 split_more n cs rs mid rest a b masks new m open_rows left values more s e f own leaves pushed valued =
@@ -113,24 +100,6 @@ pub record IsSplit (n : ℕ) (cs : List (List Datum)) (masks : List (List Bool))
   pub rest_is : rest ≡ unclaimed (replicate n true) (truths (conditions_in cs))
   pub values_are : rows_views values ≡ values_in cs
   pub last_is : option_map rows_view last ≡ alone cs
-
-pub split_done : (n : ℕ) (cs : List (List Datum)) (rs : List Rows) (masks : List (List Bool)) (open_rows : List Bool) (values : List Rows) → Splitting n cs rs masks open_rows values → rs ≡ [] → IsSplit n cs masks open_rows values None
-split_done n cs rs masks open_rows values s e = record {
-  masks_are = sym (append-nil masks) ∙ sym (ap (λ l. masks ++ claimed open_rows (truths (conditions_in (rows_views l)))) e) ∙ s.masks_are;
-  rest_is = sym (ap (λ l. unclaimed open_rows (truths (conditions_in (rows_views l)))) e) ∙ s.rest_is;
-  values_are = sym (append-nil (rows_views values)) ∙ sym (ap (λ l. rows_views values ++ values_in (rows_views l)) e) ∙ s.values_are;
-  last_is = sym (ap (λ l. alone (rows_views l)) e) ∙ s.last_is;
-}
-
-pub split_alone : (n : ℕ) (cs : List (List Datum)) (rs mid : List Rows) (a : Rows) (masks : List (List Bool)) (open_rows : List Bool) (values : List Rows) → Splitting n cs rs masks open_rows values → rs ≡ a ∷ mid → mid ≡ [] → IsSplit n cs masks open_rows values (Some a)
-split_alone n cs rs mid a masks open_rows values s e f =
-    let whole : rs ≡ a ∷ [] = e ∙ ap (λ l. a ∷ l) f in
-    record {
-      masks_are = sym (append-nil masks) ∙ sym (ap (λ l. masks ++ claimed open_rows (truths (conditions_in (rows_views l)))) whole) ∙ s.masks_are;
-      rest_is = sym (ap (λ l. unclaimed open_rows (truths (conditions_in (rows_views l)))) whole) ∙ s.rest_is;
-      values_are = sym (append-nil (rows_views values)) ∙ sym (ap (λ l. rows_views values ++ values_in (rows_views l)) whole) ∙ s.values_are;
-      last_is = sym (ap (λ l. alone (rows_views l)) whole) ∙ s.last_is;
-    }
 
 -- ---- all rows
 
@@ -228,9 +197,6 @@ if_ok (Err e) P Q f h = tt
 pub stretch_left : (rs : List Rows) (end j : ℕ) (r s : Rows) → j < length rs → r ≡ get_or rs j r → ((k : ℕ) → end ≤ k → get_or (rows_view s) k null ≡ get_or (rows_view r) k null) → SameRows end (rows_views rs) (rows_views (set rs j s))
 stretch_left rs end j r s lt is left = λ k h. row_kept rs k j r s lt is (left k h)
 
-pub same_later : (a b : ℕ) (cs now after : List (List Datum)) → SameRows a cs now → SameRows b now after → a ≤ b → SameRows b cs after
-same_later a b cs now after s t le = λ k h. t k h ∙ s k (omega arith)
-
 -- ---- over rows that are there
 
 pub mask_front : (n : ℕ) (ms : List (List Bool)) (m : List Bool) → EachMask n (ms ++ m ∷ []) → EachMask n ms × (length m ≡ n)
@@ -292,15 +258,6 @@ pub same_in : (m : List Bool) (from : ℕ) (r : Rows) (v : Bor Value) (n : ℕ) 
 same_in m from r v n g is long holds = λ k low within on.
     let size : length (rows_view r) ≡ n = ap (λ x. length (rows_view x)) is ∙ length-replicate n (value_of v.now) in
     sym (ap (λ x. get_or (rows_view x) k null) is ∙ get_or-replicate n k (value_of v.now) null (omega arith)) ∙ holds k low within on
-
-pub written_same : (m : List Bool) (r : Rows) (v : Bor Value) (n : ℕ) (before after : List Datum) → r ≡ Same v n → length (rows_view r) ≡ length before → IsWritten m (λ k. value_of v.now) before after → IsWritten m (λ k. get_or (rows_view r) k null) before after
-written_same m r v n before after is long w =
-    record {
-      long = w.long;
-      at = λ k lt.
-          let size : length (rows_view r) ≡ n = ap (λ x. length (rows_view x)) is ∙ length-replicate n (value_of v.now) in
-          w.at k lt ∙ ap (λ d. if get_or m k false then d else get_or before k null) (sym (ap (λ x. get_or (rows_view x) k null) is ∙ get_or-replicate n k (value_of v.now) null (omega arith)));
-    }
 
 -- ---- the choice as a whole
 

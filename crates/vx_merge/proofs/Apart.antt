@@ -120,10 +120,6 @@ pub claimed-snoc : (open_rows : List Bool) (ms : List (List Bool)) (m : List Boo
 claimed-snoc open_rows [] m = refl
 claimed-snoc open_rows (x ∷ ms) m = ap (λ l. both x open_rows ∷ l) (claimed-snoc (but open_rows x) ms m)
 
-pub unclaimed-snoc : (open_rows : List Bool) (ms : List (List Bool)) (m : List Bool) → unclaimed open_rows (ms ++ m ∷ []) ≡ but (unclaimed open_rows ms) m
-unclaimed-snoc open_rows [] m = refl
-unclaimed-snoc open_rows (x ∷ ms) m = unclaimed-snoc (but open_rows x) ms m
-
 pub length-unclaimed : (open_rows : List Bool) (ms : List (List Bool)) → EachMask (length open_rows) ms → length (unclaimed open_rows ms) ≡ length open_rows
 length-unclaimed open_rows [] each = refl
 length-unclaimed open_rows (m ∷ ms) each =
