@@ -1,8 +1,8 @@
 -- Choices between columns by masks.
-use Rattle.std.proofs.Common.{◌≡◌, ℕ, ◌+◌, ◌<◌, ◌≤◌, List, [], ◌∷◌, ◌++◌, map, length, get_or, refl, sym, ap, subst, ◌∙◌, arith, zero, suc, Bool, true, false, ◌&&◌, not, Option, Some, None, Result, Ok, Err, IfOk, Bor, append_assoc}
-use Rattle.std.specs.Prelude.{⊤, if◌then◌else◌, MatchOption, option_map}
+use Rattle.std.proofs.Common.{◌≡◌, ℕ, ◌+◌, ◌<◌, ◌≤◌, List, [], ◌∷◌, ◌++◌, map, length, get_or, refl, sym, ap, subst, ◌∙◌, arith, zero, suc, Bool, true, false, Option, Some, None, Result, Ok, Err, IfOk, Bor, append_assoc}
+use Rattle.std.specs.Prelude.{if◌then◌else◌, MatchOption, option_map}
 use Rattle.std.proofs.Math.ListN.{replicate, set}
-use Rattle.std.proofs.lemmas.List.{length-map, map-append, append-nil, get_or-map, ext_get_or, get_or-replicate, length-append, length-replicate}
+use Rattle.std.proofs.lemmas.List.{length-map, map-append, ext_get_or, get_or-replicate, length-append, length-replicate}
 use Rattle.std.proofs.lemmas.List.FromFn.{length-map-range_with_len, get_or-map-range_with_len}
 use Rattle.vx_types.specs.Types.{Datum, null}
 use Rattle.vx_types.specs.declared.value.Value.{Value}
@@ -10,13 +10,13 @@ use Rattle.vx_types.specs.Views.{value_of}
 use Rattle.vx_fn.specs.Values.{is_true, first_true}
 use Rattle.vx_mask.specs.Masks.{both, but, IsAll}
 use Rattle.vx_mask.proofs.Pairs.{length-but}
-use Rattle.vx_merge.specs.Merges.{merged_at, mask_row, EachMask, AreApart, NoneAt, HoldsIn, IsIn, claimed, unclaimed, IsWritten}
+use Rattle.vx_merge.specs.Merges.{merged_at, EachMask, AreApart, HoldsIn, IsIn, claimed, unclaimed, IsWritten}
 use Rattle.vx_merge.proofs.Apart.{merged-at, merged-claimed, merged-snoc, claimed_apart, claimed_long, length-claimed, claimed-snoc, length-unclaimed, both-all}
 use Rattle.vx_eval.specs.declared.rows.Rows.{Rows}
 use Rattle.vx_eval.specs.declared.rows.Rows.TheVariants.{Same}
 use Rattle.vx_eval.specs.Choices.{else_at, conditions_in, values_in, alone, truths, SameRows}
 use Rattle.vx_eval.specs.Columns.{values_of, rows_view, rows_views, row_at, each_row, AllLong}
-use Rattle.vx_eval.proofs.Taking.{at_place, row_kept, lengths_kept}
+use Rattle.vx_eval.proofs.Taking.{at_place, row_kept}
 
 -- ---- rows that are given one by one
 

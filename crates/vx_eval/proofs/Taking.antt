@@ -1,10 +1,8 @@
 -- Columns out of which one value is taken.
-use Rattle.std.proofs.Common.{◌≡◌, ◌≢◌, ℕ, ◌+◌, ◌<◌, ◌≤◌, List, [], ◌∷◌, map, length, get_or, take, drop, refl, sym, ap, ◌∙◌, arith, zero, suc, true, false, get_or-set_other}
-use Rattle.std.specs.Prelude.{⊤, MatchOption, Option, Some, None}
+use Rattle.std.proofs.Common.{◌≡◌, ◌≢◌, ℕ, ◌<◌, ◌≤◌, List, [], ◌∷◌, map, length, get_or, take, refl, sym, ap, ◌∙◌, arith, zero, suc, get_or-set_other}
 use Rattle.std.proofs.Math.ListN.{set}
-use Rattle.std.proofs.lemmas.List.{drop_more, nil_from_length, length-drop, map-set}
+use Rattle.std.proofs.lemmas.List.{map-set}
 use Rattle.vx_types.specs.Types.{Datum, null}
-use Rattle.vx_fn.specs.Values.{is_true, first_true}
 use Rattle.vx_eval.specs.declared.rows.Rows.{Rows}
 use Rattle.vx_types.specs.declared.value.Value.{Value}
 use Rattle.vx_eval.specs.Columns.{values_of, rows_view, rows_views, row_at, AllLong, HaveRow}

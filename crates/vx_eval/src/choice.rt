@@ -48,11 +48,7 @@ pub fn zip<'a>(
 /// every row is answered as it is. Else what is owned is moved, and of what is lent only the chosen
 /// values are copied; a last column that is owned stays where it stands, and the others are written
 /// over it. Refuses with `OutOfMemory` (1) alone.
-pub fn first_true<'a>(
-    alloc: Global,
-    count: usize,
-    columns: Vec<Rows<'a>>,
-) -> VortexResult<Rows<'a>>
+pub fn first_true<'a>(alloc: Global, count: usize, columns: Vec<Rows<'a>>) -> VortexResult<Rows<'a>>
     requires { AllLong count (rows_views columns.items) }
     ensures rows { IfOk result (λ out. rows_view out ≡ each_row count (λ k. values.first_true (row_at (rows_views columns.entry.items) k))) }
     ensures memory { IfErr result (λ e. e ≡ OutOfMemory) }

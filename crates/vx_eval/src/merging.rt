@@ -31,13 +31,7 @@ pub fn merged<'a>(
 {
     match place_of_all(masks.as_slice()) {
         Some(place) => Ok(values.swap_remove(place)),
-        None => Ok(Rows::Owned(in_order(
-            alloc,
-            count,
-            merging,
-            masks.as_slice(),
-            values,
-        )?)),
+        None => Ok(Rows::Owned(in_order(alloc, count, merging, masks.as_slice(), values)?)),
     }
 }
 

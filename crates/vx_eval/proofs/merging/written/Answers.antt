@@ -2,7 +2,7 @@ use Rattle.std.proofs.Common.{◌≡◌, ◌<◌, ◌∙◌, arith, sym, length,
 use Rattle.std.proofs.lemmas.Grind.{common_steps}
 use Rattle.vx_types.specs.Types.{null}
 use Rattle.vx_mask.specs.Masks.{IsAll}
-use Rattle.vx_eval.specs.Columns.{values_of, rows_views}
+use Rattle.vx_eval.specs.Columns.{values_of}
 use Rattle.vx_eval.proofs.Masked.{whole_is, over_front, over_more, over_done}
 use Rattle.vx_eval.proofs.merging.written.Goals as goal
 

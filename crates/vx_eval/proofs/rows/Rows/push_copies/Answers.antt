@@ -1,4 +1,4 @@
-use Rattle.std.proofs.Common.{◌≡◌, ◌∙◌, ap, sym, rules, get_or, length}
+use Rattle.std.proofs.Common.{◌≡◌, ◌∙◌, ap, sym, rules, get_or}
 use Rattle.vx_types.specs.Types.{null}
 use Rattle.vx_types.specs.Views.{value_of}
 use Rattle.vx_eval.specs.Columns.{rows_view}

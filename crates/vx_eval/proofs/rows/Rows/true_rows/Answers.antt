@@ -1,6 +1,6 @@
-use Rattle.std.proofs.Common.{arith, ap, length}
+use Rattle.std.proofs.Common.{arith}
 use Rattle.vx_eval.specs.Columns.{rows_view}
-use Rattle.vx_eval.proofs.Trues.{true_pushed, true_all}
+use Rattle.vx_eval.proofs.Trues.{true_pushed}
 use Rattle.vx_eval.proofs.rows.Rows.true_rows.Goals as goal
 
 pub loop-i-preserved : goal.loop-i-preserved
