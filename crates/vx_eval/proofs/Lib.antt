@@ -10,6 +10,3 @@ mod Taking
 mod FirstRows
 mod Likes
 mod Matched
-mod Trues
-mod Masked
-mod Branches

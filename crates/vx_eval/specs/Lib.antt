@@ -3,4 +3,3 @@ pub mod Evaluation
 pub mod Kernels
 pub mod PackedItem
 pub mod Choices
-pub mod FirstMerged

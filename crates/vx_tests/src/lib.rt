@@ -9,8 +9,6 @@ mod functions;
 #[cfg(test)]
 mod looks;
 #[cfg(test)]
-mod masks;
-#[cfg(test)]
 mod pressure;
 #[cfg(test)]
 mod refusals;

@@ -1,3 +1,0 @@
-mod Writing
-mod Limits
-pub mod Apart
