@@ -5,7 +5,6 @@ mod paths;
 mod program;
 mod queries;
 mod rewriting;
-mod scans;
 
 use std::test::Fail;
 

@@ -19,8 +19,7 @@ fn path(alloc: Global, text: &str) -> VortexResult<FieldPath> {
     Ok(path)
 }
 
-/// The paths of the texts.
-pub fn paths(alloc: Global, texts: &[&str]) -> VortexResult<Vec<FieldPath>> {
+fn paths(alloc: Global, texts: &[&str]) -> VortexResult<Vec<FieldPath>> {
     let mut paths = Vec::with_capacity(alloc, texts.len())?;
     for text in texts {
         paths.push(path(alloc, text)?)?;
