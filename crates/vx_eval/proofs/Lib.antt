@@ -10,3 +10,6 @@ mod Taking
 mod FirstRows
 mod Likes
 mod Matched
+mod Trues
+mod Masked
+mod Branches

@@ -1,10 +1,8 @@
 -- Columns out of which one value is taken.
-use Rattle.std.proofs.Common.{◌≡◌, ◌≢◌, ℕ, ◌+◌, ◌<◌, ◌≤◌, List, [], ◌∷◌, map, length, get_or, take, drop, refl, sym, ap, ◌∙◌, arith, zero, suc, true, false, get_or-set_other}
-use Rattle.std.specs.Prelude.{⊤, MatchOption, Option, Some, None}
+use Rattle.std.proofs.Common.{◌≡◌, ◌≢◌, ℕ, ◌<◌, ◌≤◌, List, [], ◌∷◌, map, length, get_or, take, refl, sym, ap, ◌∙◌, arith, zero, suc, get_or-set_other}
 use Rattle.std.proofs.Math.ListN.{set}
-use Rattle.std.proofs.lemmas.List.{drop_more, nil_from_length, length-drop, map-set}
+use Rattle.std.proofs.lemmas.List.{map-set}
 use Rattle.vx_types.specs.Types.{Datum, null}
-use Rattle.vx_fn.specs.Values.{is_true, first_true}
 use Rattle.vx_eval.specs.declared.rows.Rows.{Rows}
 use Rattle.vx_types.specs.declared.value.Value.{Value}
 use Rattle.vx_eval.specs.Columns.{values_of, rows_view, rows_views, row_at, AllLong, HaveRow}
@@ -72,40 +70,6 @@ lengths_kept (x ∷ xs) (suc m) r s lt is same = ap (λ ns. length (rows_view x)
 pub row_long : (rs : List Rows) (i : ℕ) → length (row_at (rows_views rs) i) ≡ length rs
 row_long [] i = refl
 row_long (x ∷ xs) i = ap suc (row_long xs i)
-
--- ---- conditions and values in turn
-
-two_on : (row : List Datum) (m : ℕ) → m + 1 < length row → drop m row ≡ get_or row m null ∷ get_or row (m + 1) null ∷ drop (m + 2) row
-two_on row m lt =
-    let next : m + 1 + 1 ≡ m + 2 = omega arith in
-    drop_more row m null (omega arith) ∙ ap (λ l. get_or row m null ∷ l) (drop_more row (m + 1) null lt) ∙ ap (λ k. get_or row m null ∷ get_or row (m + 1) null ∷ drop k row) next
-
-pub passed_over : (row : List Datum) (m : ℕ) (c : Datum) → m + 1 < length row → c ≡ get_or row m null → is_true c ≡ false → first_true (drop m row) ≡ first_true (drop (m + 2) row)
-passed_over row m c lt at off =
-    let here : is_true (get_or row m null) ≡ false = ap is_true (sym at) ∙ off in
-    rw (two_on row m lt, here) refl
-
-pub stopped_at : (row : List Datum) (m : ℕ) (c : Datum) → m + 1 < length row → c ≡ get_or row m null → is_true c ≡ true → get_or row (m + 1) null ≡ first_true (drop m row)
-stopped_at row m c lt at on =
-    let here : is_true (get_or row m null) ≡ true = ap is_true (sym at) ∙ on in
-    rw (two_on row m lt, here) refl
-
-pub last_alone : (row : List Datum) (m : ℕ) → m < length row → length row ≤ m + 1 → get_or row m null ≡ first_true (drop m row)
-last_alone row m lt le =
-    let rest : drop (m + 1) row ≡ [] = nil_from_length (drop (m + 1) row) (omega (arith, length-drop (m + 1) row)) in
-    rw (drop_more row m null lt, rest) refl
-
-pub none_left : (row : List Datum) (m : ℕ) → length row ≤ m → first_true (drop m row) ≡ null
-none_left row m le = let rest : drop m row ≡ [] = nil_from_length (drop m row) (omega (arith, length-drop m row)) in rw rest refl
-
-pub place_within : (place : Option ℕ) (n : ℕ) (P : Type 0) (Q : ℕ → Type 0) → MatchOption place P (λ p. (p < n) × Q p) → MatchOption place ⊤ (λ p. p < n)
-place_within None n P Q h = tt
-place_within (Some p) n P Q h = h.0
-
-pub chosen_is : (place : Option ℕ) (n : ℕ) (row : List Datum) (d : Datum) → MatchOption place (first_true row ≡ null) (λ p. (p < n) × (get_or row p null ≡ first_true row)) →
-    MatchOption place (d ≡ null) (λ p. d ≡ get_or row p null) → d ≡ first_true row
-chosen_is None n row d h e = e ∙ sym h
-chosen_is (Some p) n row d h e = e ∙ h.1
 
 -- ---- rows of structs
 

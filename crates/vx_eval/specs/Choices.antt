@@ -1,9 +1,10 @@
--- Choices between columns, row by row.
-use Rattle.std.specs.Prelude.{ℕ, List, [], ◌∷◌, map, length, get_or, Option, Some, None, if◌then◌else◌}
+-- Choices between columns.
+use Rattle.std.specs.Prelude.{◌≡◌, ℕ, ◌≤◌, List, [], ◌∷◌, map, length, get_or, Bool, Option, Some, None}
 use Rattle.vx_types.specs.Columns.{Batch}
 use Rattle.vx_types.specs.Fits.{IsBatch}
 use Rattle.vx_types.specs.Types.{LogicalType, Datum, null}
 use Rattle.vx_fn.specs.Values.{is_true}
+pub use Rattle.vx_merge.specs.Merges.{first_match}
 use Rattle.vx_eval.specs.Columns.{row_at}
 
 -- the rows of each column
@@ -20,11 +21,6 @@ abbrev pub EachBatch : LogicalType → List (List Datum) → Type 0
 EachBatch t [] = Unit {0}
 EachBatch t (c ∷ cs) = IsBatch t c × EachBatch t cs
 
--- of conditions and the values beside them, the value beside the first true condition, else the last
-abbrev pub first_match : List Datum → List Datum → Datum → Datum
-first_match (c ∷ cs) (v ∷ vs) otherwise = if is_true c then v else first_match cs vs otherwise
-first_match _ _ otherwise = otherwise
-
 -- the column's value at that row, null without a column
 abbrev pub else_at : Option (List Datum) → ℕ → Datum
 else_at None k = null
@@ -39,3 +35,27 @@ abbrev pub in_turn : List (List Datum) → List (List Datum) → Option (List Da
 in_turn (c ∷ cs) (v ∷ vs) otherwise = c ∷ v ∷ in_turn cs vs otherwise
 in_turn _ _ None = []
 in_turn _ _ (Some c) = c ∷ []
+
+-- of columns in turn, the conditions
+abbrev pub conditions_in : List (List Datum) → List (List Datum)
+conditions_in (c ∷ v ∷ cs) = c ∷ conditions_in cs
+conditions_in _ = []
+
+-- and the values beside them
+abbrev pub values_in : List (List Datum) → List (List Datum)
+values_in (c ∷ v ∷ cs) = v ∷ values_in cs
+values_in _ = []
+
+-- and the last column, where it stands alone
+abbrev pub alone : List (List Datum) → Option (List Datum)
+alone (c ∷ v ∷ cs) = alone cs
+alone (c ∷ []) = Some c
+alone [] = None
+
+-- for each condition the mask of the rows at which it is true
+abbrev pub truths : List (List Datum) → List (List Bool)
+truths conditions = map (λ c. map is_true c) conditions
+
+-- from that row on, columns have the same rows
+abbrev pub SameRows : ℕ → List (List Datum) → List (List Datum) → Type 0
+SameRows from before now = (k : ℕ) → from ≤ k → row_at now k ≡ row_at before k

@@ -1,21 +1,16 @@
 -- Columns of values, the rows of several of them, and what a function gives over them.
-use Rattle.std.specs.Prelude.{◌≡◌, ℕ, ◌<◌, List, [], ◌∷◌, map, Option, Some, None, Result, Ok, Err, get_or, length, zero, suc, Bool}
-use Rattle.std.specs.List.{range_with_len}
+use Rattle.std.specs.Prelude.{◌≡◌, ℕ, ◌<◌, List, [], ◌∷◌, map, Option, Some, None, Result, Ok, Err, length, zero, suc, Bool}
 use Rattle.std.proofs.Math.ListN.{replicate}
 use Rattle.vx_dtype.specs.declared.error.VortexError.{VortexError}
-use Rattle.vx_types.specs.declared.value.Value.{Value}
 use Rattle.vx_dtype.specs.Answers.{Answers}
 use Rattle.vx_types.specs.Types.{LogicalType, Datum, null, bool, struct_of, Data, no_datum, datum}
 use Rattle.vx_types.specs.Views.{value_of}
 use Rattle.vx_fn.specs.Functions.{Function}
 use Rattle.vx_fn.specs.Values.{fn_value}
 use Rattle.vx_fn.specs.Faults.{node_fault}
+pub use Rattle.vx_merge.specs.Merges.{values_of, each_row, row_at}
 use Rattle.vx_eval.specs.declared.rows.Rows.{Rows}
 use Rattle.vx_eval.specs.declared.rows.Rows.TheVariants.{Lent, Item, Owned, Same, Truths}
-
--- what each value stands for
-abbrev pub values_of : List Value → List Datum
-values_of vs = map value_of vs
 
 -- the value at that place
 abbrev pub datum_at : ℕ → Data → Datum
@@ -49,14 +44,6 @@ rows_view (Truths truths c) = map truth_datum truths.items
 -- the same of each of some columns
 abbrev pub rows_views : List Rows → List (List Datum)
 rows_views rs = map rows_view rs
-
--- the values of f at the first n rows
-abbrev pub each_row : {A : Type 0} → ℕ → (ℕ → A) → List A
-each_row n f = map f (range_with_len 0 n)
-
--- row k of columns: each column's value there
-abbrev pub row_at : List (List Datum) → ℕ → List Datum
-row_at cs k = map (λ c. get_or c k null) cs
 
 -- the first n rows of columns
 abbrev pub rows_of : ℕ → List (List Datum) → List (List Datum)

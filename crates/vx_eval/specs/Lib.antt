@@ -3,3 +3,4 @@ pub mod Evaluation
 pub mod Kernels
 pub mod PackedItem
 pub mod Choices
+pub mod FirstMerged

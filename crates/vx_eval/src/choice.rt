@@ -1,15 +1,21 @@
-// Choices between columns, row by row: the value beside the first condition that is true.
-ghost use Rattle.std.specs.Prelude.{◌≡◌, ◌≢◌, ◌<◌, ⊤, ℕ, Bool, IfOk, IfErr, MatchOption, length, get_or, map, List, [], ◌∷◌};
-ghost use Rattle.vx_types.specs.Types.{LogicalType, null};
-ghost use Rattle.vx_types.specs.Views.{value_of};
+// Choices between columns: the value beside the first condition that is true, by masks.
+ghost use Rattle.std.specs.Prelude.{◌≡◌, ⊤, ℕ, Bool, true, IfOk, IfErr, MatchOption, option_map, length, map, List, [], ◌∷◌};
+ghost use Rattle.std.proofs.Math.ListN.{replicate};
+ghost use Rattle.vx_types.specs.Types.{LogicalType};
 ghost use Rattle.vx_dtype.specs.declared.error.VortexError.TheVariants.{OutOfMemory};
 ghost use Rattle.vx_fn.specs.Functions as functions;
 ghost use Rattle.vx_fn.specs.Values as values;
-ghost use Rattle.vx_eval.specs.Columns.{rows_view, rows_views, row_at, each_row, AllLong, HaveRow, Evaluates};
+ghost use Rattle.vx_mask.specs.Masks.{both, but};
+ghost use Rattle.vx_merge.specs.Merges.{claimed, unclaimed};
+ghost use Rattle.vx_eval.specs.Columns.{rows_view, rows_views, row_at, each_row, AllLong, Evaluates};
+ghost use Rattle.vx_eval.specs.Choices.{conditions_in, values_in, alone, truths};
 
-use crate::rows::{Rows, take_at};
+use crate::merging::{merged, written};
+use crate::rows::Rows;
 use std::alloc::{AllocError, Global};
-use vx_types::{Value, VortexResult};
+use vx_mask::RowMask;
+use vx_merge::preferred;
+use vx_types::VortexResult;
 
 /// A CASE over its conditions and values in turn, with ELSE last. Refuses with `OutOfMemory` (1)
 /// alone.
@@ -38,58 +44,92 @@ pub fn zip<'a>(
 }
 
 /// Of conditions and values in turn, at each row the value beside the first condition that is true
-/// there, else that of a last column that stands alone, else null. What is owned is moved, and of
-/// what is lent only the chosen values are copied. Refuses with `OutOfMemory` (1) alone.
-pub fn first_true<'a>(
-    alloc: Global,
-    count: usize,
-    mut columns: Vec<Rows<'a>>,
-) -> VortexResult<Rows<'a>>
+/// there, else that of a last column that stands alone, else null. A column of values that takes
+/// every row is answered as it is. Else what is owned is moved, and of what is lent only the chosen
+/// values are copied; a last column that is owned stays where it stands, and the others are written
+/// over it. Refuses with `OutOfMemory` (1) alone.
+pub fn first_true<'a>(alloc: Global, count: usize, columns: Vec<Rows<'a>>) -> VortexResult<Rows<'a>>
     requires { AllLong count (rows_views columns.items) }
     ensures rows { IfOk result (λ out. rows_view out ≡ each_row count (λ k. values.first_true (row_at (rows_views columns.entry.items) k))) }
     ensures memory { IfErr result (λ e. e ≡ OutOfMemory) }
 {
-    let mut chosen = Vec::with_capacity(alloc, count)?;
-    for i in 0..count {
-        let place = chosen_place(&columns, i);
-        chosen.push(take_or_null(&mut columns, place, i)?)?;
-    }
-    Ok(Rows::Owned(chosen))
-}
-
-// The column whose value is chosen at that row, if there is one.
-fn chosen_place(columns: &Vec<Rows>, i: usize) -> Option<usize>
-    requires { HaveRow i (rows_views columns.now.items) }
-    ensures { let row = row_at (rows_views columns.now.items) i in MatchOption result (values.first_true row ≡ null) (λ place. (place < length columns.now.items) × (get_or row place null ≡ values.first_true row)) }
-{
-    let mut place = 0;
-    while place + 1 < columns.len() {
-        if columns[place].is_true(i) {
-            return Some(place + 1);
+    let Branches {
+        mut masks,
+        mut values,
+        rest,
+        last,
+    } = split(alloc, count, columns)?;
+    let merging = preferred(masks.as_slice(), count);
+    match last {
+        None => merged(alloc, count, merging, masks, values),
+        Some(Rows::Owned(rows)) => written(rows, masks, values),
+        Some(column) => {
+            masks.push(rest)?;
+            values.push(column)?;
+            merged(alloc, count, merging, masks, values)
         }
-        place += 2;
-    }
-    if place < columns.len() {
-        Some(place)
-    } else {
-        None
     }
 }
 
-// The value of that row of that column, moved where it is owned, or null without a column.
-fn take_or_null(
-    columns: &mut Vec<Rows>,
-    place: Option<usize>,
-    i: usize,
-) -> Result<Value, AllocError>
-    requires within { MatchOption place ⊤ (λ p. p < length columns.old.items) }
-    requires row { HaveRow i (rows_views columns.old.items) }
-    ensures value { IfOk result (λ v. MatchOption place (value_of v ≡ null) (λ p. value_of v ≡ get_or (row_at (rows_views columns.old.items) i) p null)) }
-    ensures others { (k : ℕ) → k ≢ i → row_at (rows_views columns.new.items) k ≡ row_at (rows_views columns.old.items) k }
-    ensures long { map length (rows_views columns.new.items) ≡ map length (rows_views columns.old.items) }
+// Columns of values, each beside the mask of the rows that are its own, the rows that are left, and
+// the column for them.
+#[derive(Drop)]
+struct Branches<'a> {
+    masks: Vec<RowMask>,
+    values: Vec<Rows<'a>>,
+    rest: RowMask,
+    last: Option<Rows<'a>>,
+}
+
+// Each condition as the mask of the rows at which it is true and none before it, beside its values.
+fn split<'a>(
+    alloc: Global,
+    count: usize,
+    columns: Vec<Rows<'a>>,
+) -> Result<Branches<'a>, AllocError>
+    requires { AllLong count (rows_views columns.items) }
+    ensures masks { IfOk result (λ b. b.masks.items ≡ claimed (replicate count true) (truths (conditions_in (rows_views columns.entry.items)))) }
+    ensures rest { IfOk result (λ b. b.rest ≡ unclaimed (replicate count true) (truths (conditions_in (rows_views columns.entry.items)))) }
+    ensures values { IfOk result (λ b. rows_views b.values.items ≡ values_in (rows_views columns.entry.items)) }
+    ensures last { IfOk result (λ b. option_map rows_view b.last ≡ alone (rows_views columns.entry.items)) }
 {
-    match place {
-        Some(place) => take_at(columns, place, i),
-        None => Ok(Value::Null),
+    let mut masks = Vec::new(alloc);
+    let mut values = Vec::new(alloc);
+    let mut rest = RowMask::new(vec![in alloc; true; count]?);
+    let mut columns = columns.into_iter();
+    while let Some(condition) = columns.next() {
+        match columns.next() {
+            Some(column) => {
+                masks.push(own_rows(alloc, condition, &mut rest)?)?;
+                values.push(column)?;
+            }
+            None => {
+                return Ok(Branches {
+                    masks,
+                    values,
+                    rest,
+                    last: Some(condition),
+                });
+            }
+        }
     }
+    Ok(Branches {
+        masks,
+        values,
+        rest,
+        last: None,
+    })
+}
+
+// Of the rows that are left those at which the condition is true; they are taken out of the rest.
+fn own_rows(alloc: Global, condition: Rows, rest: &mut RowMask) -> Result<RowMask, AllocError>
+    requires { length (rows_view condition) ≡ length rest.old }
+    ensures own { IfOk result (λ mask. mask ≡ both (map values.is_true (rows_view condition.entry)) rest.old) }
+    ensures left { IfOk result (λ _. rest.new ≡ but rest.old (map values.is_true (rows_view condition.entry))) }
+{
+    let mask = condition.true_rows(alloc, rest.len());
+    drop(condition);
+    let mut mask = mask?;
+    mask.claim(rest);
+    Ok(mask)
 }

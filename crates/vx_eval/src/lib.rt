@@ -11,6 +11,8 @@ mod fields;
 mod filling;
 mod logic;
 mod matching;
+mod merges;
+mod merging;
 mod nodes;
 mod nulls;
 mod packed;
@@ -21,3 +23,6 @@ mod truths;
 
 pub use evaluation::apply_bound;
 pub use matching::first_match;
+pub use merges::{merge_compact, merge_runs};
+pub use vx_mask::RowMask;
+pub use vx_merge::prefer_runs;

@@ -1,10 +1,12 @@
 // The values of a column while it is worked on.
-ghost use Rattle.std.specs.Prelude.{◌≡◌, ◌≢◌, ◌<◌, ℕ, IfOk, length, get_or, map, Ok};
+ghost use Rattle.std.specs.Prelude.{◌≡◌, ◌≢◌, ◌<◌, ℕ, IfOk, true, false, length, get_or, map, Ok};
 ghost use Rattle.vx_dtype.specs.Answers.{Answers};
-ghost use Rattle.vx_types.specs.Types.{null};
+ghost use Rattle.vx_types.specs.Types.{Datum, null};
 ghost use Rattle.vx_types.specs.Views.{value_of};
 ghost use Rattle.vx_fn.specs.Values as values;
-ghost use Rattle.vx_eval.specs.Columns.{values_of, rows_view, rows_views, row_at, truth_of, HaveRow};
+ghost use Rattle.vx_mask.specs.Masks.{IsRunFrom};
+ghost use Rattle.vx_merge.specs.Merges.{HoldsIn, StaysFrom, IsWritten};
+ghost use Rattle.vx_eval.specs.Columns.{each_row, values_of, rows_view, rows_views, row_at, truth_of, HaveRow};
 
 use crate::constants::Constants;
 use crate::fields::item_row;
@@ -12,6 +14,10 @@ use crate::filling::collected;
 use crate::truths::{truth_of, truth_values};
 use std::alloc::{AllocError, Global};
 use std::rc::Rc;
+use vx_mask::RowMask;
+use vx_merge::{
+    Merging, push_moved, push_repeated, push_with, write_moved, write_repeated, write_with,
+};
 use vx_types::{Value, VortexResult};
 
 /// The values of a column, row by row: lent, or its own to move.
@@ -78,6 +84,79 @@ impl<'a> Rows<'a> {
         match self {
             Rows::Owned(values) => Ok(std::mem::replace(&mut values[i], Value::Null)),
             _ => copied(self.row(i)),
+        }
+    }
+
+    /// The mask of the rows whose value is true, of which there are so many.
+    pub fn true_rows(&self, alloc: Global, count: usize) -> Result<RowMask, AllocError>
+        requires { length (rows_view self.now) ≡ count }
+        ensures { IfOk result (λ mask. mask ≡ map values.is_true (rows_view self.now)) }
+    {
+        let mut bits = Vec::with_capacity(alloc, count)?;
+        for i in 0..count {
+            bits.push(self.is_true(i))?;
+        }
+        Ok(RowMask::new(bits))
+    }
+
+    /// Puts the values from that row on, as far as the mask is true, behind others, and gives the
+    /// row behind them. What is owned is moved, what is lent copied; the values behind them stay.
+    /// Asks a mask that is true at that row, and as many values as rows.
+    pub fn push_rows(
+        &mut self,
+        merging: Merging,
+        rows: &mut Vec<Value>,
+        mask: &RowMask,
+        from: usize,
+    ) -> Result<usize, AllocError>
+        requires within { from < length mask.now }
+        requires here { get_or mask.now from false ≡ true }
+        requires values { length (rows_view self.old) ≡ length mask.now }
+        ensures run { IfOk result (λ end. IsRunFrom mask.now from end) }
+        ensures rows { (g : ℕ → Datum) → HoldsIn mask.now from (rows_view self.old) g → values_of rows.old.items ≡ each_row from g → IfOk result (λ end. values_of rows.new.items ≡ each_row end g) }
+        ensures left { IfOk result (λ end. StaysFrom end (rows_view self.old) (rows_view self.new)) }
+        ensures long { IfOk result (λ _. length (rows_view self.new) ≡ length (rows_view self.old)) }
+    {
+        match self {
+            Rows::Owned(values) => push_moved(merging, rows, mask, from, values),
+            _ => self.push_copies(merging, rows, mask, from),
+        }
+    }
+
+    // The same of copies.
+    fn push_copies(
+        &self,
+        merging: Merging,
+        rows: &mut Vec<Value>,
+        mask: &RowMask,
+        from: usize,
+    ) -> Result<usize, AllocError>
+        requires within { from < length mask.now }
+        requires here { get_or mask.now from false ≡ true }
+        requires values { length (rows_view self.now) ≡ length mask.now }
+        ensures run { IfOk result (λ end. IsRunFrom mask.now from end) }
+        ensures rows { (g : ℕ → Datum) → HoldsIn mask.now from (rows_view self.now) g → values_of rows.old.items ≡ each_row from g → IfOk result (λ end. values_of rows.new.items ≡ each_row end g) }
+    {
+        match self {
+            Rows::Same(value, _) => push_repeated(merging, rows, mask, from, value),
+            column => push_with(merging, rows, mask, from, |i| copied(column.row(i))),
+        }
+    }
+
+    /// Writes the values of the true rows into these rows: what is owned is moved, what is lent
+    /// copied. Asks a mask and values of as many rows.
+    pub fn write_rows(self, rows: &mut Vec<Value>, mask: &RowMask) -> Result<(), AllocError>
+        requires mask { length mask.now ≡ length rows.old.items }
+        requires column { length (rows_view self) ≡ length rows.old.items }
+        ensures { IfOk result (λ _. IsWritten mask.now (λ k. get_or (rows_view self.entry) k null) (values_of rows.old.items) (values_of rows.new.items)) }
+    {
+        match self {
+            Rows::Owned(values) => {
+                write_moved(rows, mask.as_slice(), values);
+                Ok(())
+            }
+            Rows::Same(value, _) => write_repeated(rows, mask.as_slice(), value),
+            column => write_with(rows, mask.as_slice(), |i| copied(column.row(i))),
         }
     }
 

@@ -9,6 +9,8 @@ mod functions;
 #[cfg(test)]
 mod looks;
 #[cfg(test)]
+mod masks;
+#[cfg(test)]
 mod pressure;
 #[cfg(test)]
 mod refusals;

@@ -6,6 +6,7 @@
 // A test prepares, says `called` and calls; looks at what it lent before it looks at the answer,
 // and at neither by a call that takes memory; and says `answered` after the answer.
 pub mod evaluation;
+mod merges;
 pub mod trees;
 mod values;
 mod walks;

@@ -1,0 +1,3 @@
+mod Runs
+mod Stretches
+pub mod Pairs

@@ -1,0 +1,3 @@
+mod Writing
+mod Limits
+pub mod Apart
