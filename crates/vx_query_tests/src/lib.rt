@@ -1,5 +1,5 @@
-// Tests of analyses, rewriting, queries and the program that no row of a table says: closures, keys
-// and rules of our own, writers that fail, and refused memory.
+// Tests of analyses, rewriting, queries, scans and the program that no row of a table says: closures,
+// keys and rules of our own, writers that fail, and refused memory.
 #![tactic(auto)]
 
 #[cfg(test)]

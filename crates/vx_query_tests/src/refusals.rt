@@ -5,6 +5,7 @@ mod paths;
 mod program;
 mod queries;
 mod rewriting;
+mod scans;
 
 use std::test::Fail;
 

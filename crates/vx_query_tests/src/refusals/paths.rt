@@ -19,7 +19,8 @@ fn path(alloc: Global, text: &str) -> VortexResult<FieldPath> {
     Ok(path)
 }
 
-fn paths(alloc: Global, texts: &[&str]) -> VortexResult<Vec<FieldPath>> {
+/// The paths of the texts.
+pub fn paths(alloc: Global, texts: &[&str]) -> VortexResult<Vec<FieldPath>> {
     let mut paths = Vec::with_capacity(alloc, texts.len())?;
     for text in texts {
         paths.push(path(alloc, text)?)?;
