@@ -14,7 +14,8 @@ use Rattle.vx_eval.specs.declared.rows.Rows.{Rows}
 use Rattle.vx_eval.specs.Choices.{EachBatch}
 use Rattle.vx_eval.specs.Columns.{rows_view, rows_views, each_row, AllLong}
 use Rattle.vx_eval.specs.FirstMerged.{masks_in, columns_in, InSomeMask, first_merged}
-use Rattle.vx_eval.proofs.Masked.{each_same, each-snoc, own_pair, own_long, own_apart, own_at, long-snoc}
+use Rattle.vx_eval.proofs.Filled.{each_same}
+use Rattle.vx_eval.proofs.Masked.{each-snoc, own_pair, own_long, own_apart, own_at, long-snoc}
 use Rattle.vx_eval.proofs.Matched.{batch_at, rows_fit}
 
 abbrev Branch : Type 0

@@ -17,7 +17,7 @@ use Rattle.vx_types.specs.declared.value.Value.{Value}
 use Rattle.vx_types.specs.Types.{LogicalType, Datum, null}
 use Rattle.vx_types.specs.Views.{value_of}
 use Rattle.vx_fn.specs.Functions.{Function, Operation, compares, binary}
-use Rattle.vx_fn.specs.Values.{fn_value}
+use Rattle.vx_fn.specs.Values.{fn_value, binary_value}
 use Rattle.vx_fn.specs.Faults.{node_fault}
 use Rattle.vx_eval.specs.declared.rows.Rows.{Rows}
 use Rattle.vx_eval.specs.declared.rows.Rows.TheVariants.{Owned}
@@ -64,6 +64,13 @@ evaluated_in_place f ts n cs input v g (Ok out) quiet is long same made memory =
     let rows : rows_view out ≡ each_row n (λ k. g k (get_or (rows_view input) k null)) = made ∙ ap (λ m. each_row m (λ k. g k (get_or (values_of v.items) k null))) count ∙ ap (λ x. each_row n (λ k. g k (get_or (rows_view x) k null))) (sym is) in
     evaluated f ts n cs (Ok out) quiet (rows ∙ same) memory
 evaluated_in_place f ts n cs input v g (Err e) quiet is long same made memory = inl memory
+
+-- rows that are the same one by one
+pub each_same : (n : ℕ) (f g : ℕ → Datum) → ((k : ℕ) → k < n → f k ≡ g k) → each_row n f ≡ each_row n g
+each_same n f g h =
+    let size : length (each_row n f) ≡ n = length-map-range_with_len f 0 n in
+    ext_get_or null (each_row n f) (each_row n g) (size ∙ sym (length-map-range_with_len g 0 n))
+    (λ k lt. let within : k < n = omega arith in get_or-map-range_with_len f 0 n k k null within (omega arith) ∙ h k within ∙ sym (get_or-map-range_with_len g 0 n k k null within (omega arith)))
 
 -- rows that are all taken are the column
 pub all_rows : (ds : List Datum) (n : ℕ) → length ds ≡ n → each_row n (λ k. get_or ds k null) ≡ ds
@@ -128,3 +135,11 @@ repeated_still f ts n m c x d r is long h =
     let many : m ≡ n = sym (length-replicate m d) ∙ ap length (sym is) ∙ long in
     let same : replicate n d ≡ x = ap (λ k. replicate k d) (sym many) ∙ sym is in
     subst (λ y. Evaluates f ts n (c ∷ y ∷ []) r) same h
+
+-- what a comparison tells of each value of a column and of one value
+pub compared_with : (op : Operation) (ts : List LogicalType) (n : ℕ) (c : List Datum) (d : Datum) → IsTrue (is_comparison op) → length c ≡ n →
+    node_answer (binary op) ts (rows_of n (c ∷ replicate n d ∷ [])) ≡ Ok (map (λ v. binary_value op v d) c)
+compared_with op ts n c d is long =
+    let told = λ (v : Datum). binary_value op v d in
+    let each = each_same n (λ k. fn_value (binary op) ts (row_at (c ∷ replicate n d ∷ []) k)) (λ k. told (get_or c k null)) (λ k lt. ap (binary_value op (get_or c k null)) (repeated_at n k d lt)) in
+    given (binary op) ts n (c ∷ replicate n d ∷ []) (map told c) (comparison_quiet op ts _ is) (sym (each ∙ each_of told c n long))

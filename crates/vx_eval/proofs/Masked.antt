@@ -16,15 +16,10 @@ use Rattle.vx_eval.specs.declared.rows.Rows.{Rows}
 use Rattle.vx_eval.specs.declared.rows.Rows.TheVariants.{Same}
 use Rattle.vx_eval.specs.Choices.{else_at, conditions_in, values_in, alone, truths, SameRows}
 use Rattle.vx_eval.specs.Columns.{values_of, rows_view, rows_views, row_at, each_row, AllLong}
+use Rattle.vx_eval.proofs.Filled.{each_same}
 use Rattle.vx_eval.proofs.Taking.{at_place, row_kept}
 
 -- ---- rows that are given one by one
-
-pub each_same : (n : ℕ) (f g : ℕ → Datum) → ((k : ℕ) → k < n → f k ≡ g k) → each_row n f ≡ each_row n g
-each_same n f g h =
-    let size : length (each_row n f) ≡ n = length-map-range_with_len f 0 n in
-    ext_get_or null (each_row n f) (each_row n g) (size ∙ sym (length-map-range_with_len g 0 n))
-    (λ k lt. let within : k < n = omega arith in get_or-map-range_with_len f 0 n k k null within (omega arith) ∙ h k within ∙ sym (get_or-map-range_with_len g 0 n k k null within (omega arith)))
 
 pub as_rows : (n : ℕ) (f : ℕ → Datum) (ds : List Datum) → length ds ≡ n → ((k : ℕ) → k < n → get_or ds k null ≡ f k) → ds ≡ each_row n f
 as_rows n f ds long h =

@@ -10,7 +10,7 @@ use Rattle.vx_fn.specs.Values.{fn_value}
 use Rattle.vx_fn.specs.Faults.{node_fault}
 pub use Rattle.vx_merge.specs.Merges.{values_of, each_row, row_at}
 use Rattle.vx_eval.specs.declared.rows.Rows.{Rows}
-use Rattle.vx_eval.specs.declared.rows.Rows.TheVariants.{Lent, Item, Owned, Same, Truths}
+use Rattle.vx_eval.specs.declared.rows.Rows.TheVariants.{Lent, Item, Owned, Same, Truths, Compared}
 
 -- the value at that place
 abbrev pub datum_at : ℕ → Data → Datum
@@ -40,6 +40,7 @@ rows_view (Item values k c) = map (item_at k) (values_of values.now.value.items)
 rows_view (Owned values) = values_of values.items
 rows_view (Same v n) = replicate n (value_of v.now)
 rows_view (Truths truths c) = map truth_datum truths.items
+rows_view (Compared items) = items
 
 -- the same of each of some columns
 abbrev pub rows_views : List Rows → List (List Datum)

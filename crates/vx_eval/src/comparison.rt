@@ -12,7 +12,7 @@ ghost use Rattle.vx_fn.specs.Views.{operation_of, is_strict};
 ghost use Rattle.vx_eval.specs.Columns.{rows_view, truth_datum, Evaluates};
 ghost use Rattle.vx_eval.specs.Kernels.{is_comparison, agrees_with};
 
-use crate::fields::item_row;
+use crate::compared::ComparedItem;
 use crate::logic::kleene_and;
 use crate::rows::Rows;
 use crate::truths::told;
@@ -27,8 +27,8 @@ pub fn compare<'a>(
     alloc: Global,
     count: usize,
     operator: Operator,
-    lhs: &Rows,
-    rhs: &Rows,
+    lhs: &Rows<'a>,
+    rhs: &Rows<'a>,
 ) -> VortexResult<Rows<'a>>
     requires comparison { IsTrue (is_comparison (operation_of operator)) }
     requires left { length (rows_view lhs.now) ≡ count }
@@ -41,27 +41,23 @@ pub fn compare<'a>(
     }
 }
 
-// The same with one value on the right of all rows; a field of lent structs is read where it lies.
+// The same with one value on the right of all rows; a field of lent structs is compared where it
+// lies, when its rows are asked for.
 fn compare_with<'a>(
     alloc: Global,
     count: usize,
     operator: Operator,
-    lhs: &Rows,
-    value: &Value,
+    lhs: &Rows<'a>,
+    value: &'a Value,
 ) -> VortexResult<Rows<'a>>
     requires comparison { IsTrue (is_comparison (operation_of operator)) }
     requires left { length (rows_view lhs.now) ≡ count }
     ensures { (ts : List LogicalType) → Evaluates (binary (operation_of operator)) ts count (rows_view lhs.now ∷ replicate count (value_of value.now) ∷ []) result }
 {
     match lhs {
-        Rows::Item(rows, place, constants) => {
-            let rows = rows.as_slice();
-            let null = constants.null();
-            told(
-                alloc,
-                count,
-                |i| compared(operator, item_row(null, rows, *place, i), value),
-            )
+        Rows::Item(rows, place, _) => {
+            let items = ComparedItem::new(operator, *rows, *place, value);
+            Ok(Rows::Compared(items))
         }
         _ => told(alloc, count, |i| compared(operator, lhs.row(i), value)),
     }
@@ -110,9 +106,9 @@ fn below(strict: StrictComparison) -> Operator
     }
 }
 
-// Null where one of the two is, else whether their order is one that the operator asks for.
+/// Null where one of the two is, else whether their order is one that the operator asks for.
 #[inline(always)]
-fn compared(operator: Operator, v: &Value, w: &Value) -> Option<bool>
+pub fn compared(operator: Operator, v: &Value, w: &Value) -> Option<bool>
     requires { IsTrue (is_comparison (operation_of operator)) }
     ensures { truth_datum result ≡ binary_value (operation_of operator) (value_of v.now) (value_of w.now) }
 {

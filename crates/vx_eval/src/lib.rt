@@ -4,6 +4,7 @@
 mod arithmetic;
 mod casting;
 mod choice;
+mod compared;
 mod comparison;
 mod constants;
 mod evaluation;

@@ -87,8 +87,8 @@ fn binary<'a>(
     count: usize,
     operator: Operator,
     dtype: &DType,
-    lhs: &Rows,
-    rhs: &Rows,
+    lhs: &Rows<'a>,
+    rhs: &Rows<'a>,
 ) -> VortexResult<Rows<'a>>
     requires numbers { operation_of operator ≡ adds → IsTrue (is_number (type_of dtype.now)) }
     requires left { length (rows_view lhs.now) ≡ count }

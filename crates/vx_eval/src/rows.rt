@@ -8,6 +8,7 @@ ghost use Rattle.vx_mask.specs.Masks.{IsRunFrom};
 ghost use Rattle.vx_merge.specs.Merges.{HoldsIn, StaysFrom, IsWritten};
 ghost use Rattle.vx_eval.specs.Columns.{each_row, values_of, rows_view, rows_views, row_at, truth_of, HaveRow};
 
+use crate::compared::ComparedItem;
 use crate::constants::Constants;
 use crate::fields::item_row;
 use crate::filling::collected;
@@ -33,6 +34,8 @@ pub enum Rows<'a> {
     Same(&'a Value, usize),
     /// Truth values, and null where there is none.
     Truths(Vec<Option<bool>>, Constants),
+    /// Items that are lent, each to be compared with one value.
+    Compared(ComparedItem<'a>),
 }
 
 impl<'a> Rows<'a> {
@@ -49,6 +52,7 @@ impl<'a> Rows<'a> {
             Rows::Owned(values) => &values[i],
             Rows::Same(value, _) => value,
             Rows::Truths(truths, constants) => constants.truth(truths[i]),
+            Rows::Compared(items) => items.row(i),
         }
     }
 
@@ -60,6 +64,7 @@ impl<'a> Rows<'a> {
     {
         match self {
             Rows::Truths(truths, _) => truths[i],
+            Rows::Compared(items) => items.truth(i),
             values => truth_of(values.row(i)),
         }
     }
@@ -208,6 +213,7 @@ impl<'a> Rows<'a> {
             Rows::Owned(values) => values.len(),
             Rows::Same(_, count) => *count,
             Rows::Truths(truths, _) => truths.len(),
+            Rows::Compared(items) => items.len(),
         }
     }
 }

@@ -1,25 +1,22 @@
-use Rattle.std.proofs.Common.{◌≡◌, rules, ap, sym, ◌∙◌, ◌∷◌, [], map, get_or}
+use Rattle.std.proofs.Common.{◌≡◌, rules, ap, sym, ◌∙◌, ◌∷◌, [], map, get_or, Ok}
 use Rattle.std.proofs.Math.ListN.{replicate}
-use Rattle.vx_types.specs.Types.{null}
+use Rattle.vx_types.specs.Types.{Datum, null}
 use Rattle.vx_types.specs.Views.{value_of}
 use Rattle.vx_fn.specs.Functions.{binary}
 use Rattle.vx_fn.specs.Values.{binary_value}
 use Rattle.vx_fn.specs.Views.{operation_of}
 use Rattle.vx_eval.specs.Columns.{values_of, rows_view, item_at, truth_datum}
-use Rattle.vx_eval.proofs.Filled.{evaluated, comparison_quiet, repeated_at}
+use Rattle.vx_eval.proofs.Filled.{evaluated, comparison_quiet, repeated_at, compared_with, map_map}
 use Rattle.vx_eval.proofs.comparison.compare_with.Goals as goal
 
 pub returns-in-Item : goal.returns-in-Item
 returns-in-Item c = λ ts.
     let op = operation_of c.args.operator in
     let d = value_of c.args.value.now in
-    evaluated (binary op) ts c.args.count (rows_view c.args.lhs.now ∷ replicate c.args.count d ∷ []) _ (comparison_quiet _ ts _ c.requires.comparison)
-    (c.told.ensures.rows _ (λ i t lt p.
-    let here : truth_datum t ≡ binary_value op (get_or (map (item_at c.in-Item.place) (values_of c.as_slice-rows.result.now)) i null) d = search rules in
-    let lying : get_or (map (item_at c.in-Item.place) (values_of c.as_slice-rows.result.now)) i null ≡ get_or (rows_view c.args.lhs.now) i null =
-    ap (λ vs. get_or (map (item_at c.in-Item.place) (values_of vs)) i null) (c.as_slice-rows.ensures.value ∙ ap (λ v. v.items) c.deref.ensures) ∙ ap (λ r. get_or (rows_view r) i null) (sym c.in-Item.is) in
-    here ∙ ap (λ x. binary_value op x d) lying ∙ ap (binary_value op (get_or (rows_view c.args.lhs.now) i null)) (sym (repeated_at c.args.count i d lt))))
-    c.told.ensures.memory
+    let rows = values_of c.in-Item.rows.now.value.items in
+    let told = λ (v : Datum). binary_value op v d in
+    let items : c.new.result ≡ map told (rows_view c.args.lhs.now) = c.new.ensures ∙ sym (map_map told (item_at c.in-Item.place) rows) ∙ ap (λ r. map told (rows_view r)) (sym c.in-Item.is) in
+    compared_with op ts c.args.count (rows_view c.args.lhs.now) d c.requires.comparison c.requires.left ∙ ap Ok (sym items)
 
 pub returns-in_default : goal.returns-in_default
 returns-in_default c = λ ts.

@@ -1,0 +1,89 @@
+// Comparisons of a lent field with one value, told row by row where they are asked for.
+ghost use Rattle.std.specs.Prelude.{◌≡◌, ◌<◌, IsTrue, length, get_or, map};
+ghost use Rattle.vx_types.specs.Types.{null};
+ghost use Rattle.vx_types.specs.Views.{value_of};
+ghost use Rattle.vx_fn.specs.Values.{binary_value};
+ghost use Rattle.vx_fn.specs.Views.{operation_of};
+ghost use Rattle.vx_eval.specs.Columns.{values_of, item_at, truth_datum};
+ghost use Rattle.vx_eval.specs.Kernels.{is_comparison};
+
+use crate::comparison::compared;
+use crate::constants::Constants;
+use crate::fields::item_row;
+use std::marker::Model;
+use std::rc::Rc;
+use vx_fn::Operator;
+use vx_types::Value;
+
+/// The items at one place of structs that are lent, each to be compared with one value.
+#[derive(Drop)]
+pub struct ComparedItem<'a> {
+    operator: Operator,
+    rows: &'a Rc<Vec<Value>>,
+    place: usize,
+    value: &'a Value,
+    constants: Constants,
+}
+
+impl<'a> Model for ComparedItem<'a> {
+    ghost use Rattle.std.specs.Prelude.{List, IsTrue, map};
+    ghost use Rattle.vx_types.specs.Types.{Datum};
+    ghost use Rattle.vx_types.specs.Views.{value_of};
+    ghost use Rattle.vx_fn.specs.Values.{binary_value};
+    ghost use Rattle.vx_fn.specs.Views.{operation_of};
+    ghost use Rattle.vx_eval.specs.Columns.{values_of, item_at};
+    ghost use Rattle.vx_eval.specs.Kernels.{is_comparison};
+
+    ghost Value = { List Datum };
+
+    ghost view = { λ c. map (λ row. binary_value (operation_of c.operator) (item_at c.place row) (value_of c.value.now)) (values_of c.rows.now.value.items) };
+
+    ghost invariant = { λ c. IsTrue (is_comparison (operation_of c.operator)) };
+}
+
+impl<'a> ComparedItem<'a> {
+    /// The comparison of each item at that place with the value. Asks one of the six comparisons.
+    pub fn new(
+        operator: Operator,
+        rows: &'a Rc<Vec<Value>>,
+        place: usize,
+        value: &'a Value,
+    ) -> ComparedItem<'a>
+        requires { IsTrue (is_comparison (operation_of operator)) }
+        ensures { result ≡ map (λ row. binary_value (operation_of operator) (item_at place row) (value_of value.now)) (values_of rows.now.value.items) }
+    {
+        ComparedItem {
+            operator,
+            rows,
+            place,
+            value,
+            constants: Constants::new(),
+        }
+    }
+
+    /// The number of rows.
+    pub fn len(&self) -> usize
+        ensures { result ≡ length self.now }
+    {
+        self.rows.len()
+    }
+
+    /// What the comparison tells of that row. Asks an index below the number of rows.
+    #[inline(always)]
+    pub fn truth(&self, i: usize) -> Option<bool>
+        requires { i < length self.now }
+        ensures { truth_datum result ≡ get_or self.now i null }
+    {
+        let rows = self.rows.as_slice();
+        let item = item_row(self.constants.null(), rows, self.place, i);
+        compared(self.operator, item, self.value)
+    }
+
+    /// The same as a value. Asks an index below the number of rows.
+    pub fn row(&self, i: usize) -> &Value
+        requires { i < length self.now }
+        ensures { value_of result.now ≡ get_or self.now i null }
+    {
+        self.constants.truth(self.truth(i))
+    }
+}
