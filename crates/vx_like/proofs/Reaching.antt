@@ -77,3 +77,9 @@ pub some_rest-end : (ahead : List program.Part) (cs : List ℕ) → (length ahea
 some_rest-end [] [] e = refl
 some_rest-end [] (c ∷ cs) e = some_rest-end [] cs e
 some_rest-end (p ∷ ahead) cs e = absurd (omega (arith, eqb-true _ _ e))
+
+-- a match does not begin at a character that its first part, one for one character, does not take
+pub past-untaken : (p : Part) (ps : List Part) (c : ℕ) (cs : List ℕ) → is_any_text p ≡ false → takes p c ≡ false → some_rest (matches (p ∷ ps)) (c ∷ cs) ≡ some_rest (matches (p ∷ ps)) cs
+past-untaken any_text ps c cs i e = cc
+past-untaken any_one ps c cs i e = cc
+past-untaken (just d) ps c cs i e = rw e refl

@@ -1,7 +1,8 @@
 // The walk over a text along the parts of a pattern.
-ghost use Rattle.std.specs.Prelude.{◌≡◌};
+ghost use Rattle.std.specs.Prelude.{◌≡◌, ◌≤◌, ◌∷◌, List, length};
+ghost use Rattle.vx_fn.specs.Values as values;
 ghost use Rattle.vx_fn.specs.Values.{matches, some_rest};
-ghost use Rattle.vx_like.specs.Patterns.{characters, parts_view};
+ghost use Rattle.vx_like.specs.Patterns.{characters, part_view, parts_view};
 ghost use Rattle.vx_like.specs.Walks.{Stops};
 
 use crate::characters::split_first;
@@ -34,7 +35,8 @@ fn spells_some_rest(parts: &[Part], text: &str, ignore_case: bool) -> bool
 {
     let mut ahead = parts;
     let mut begin = text;
-    while !ahead.is_empty() {
+    while let Some(first) = ahead.first() {
+        begin = from_first_taken(*first, begin, ignore_case);
         match run(ahead, begin, ignore_case) {
             Stop::AtEnd => return true,
             Stop::AtAnyText(after, rest) => {
@@ -49,6 +51,25 @@ fn spells_some_rest(parts: &[Part], text: &str, ignore_case: bool) -> bool
     }
     // Any text at the end of the pattern takes all that is left.
     true
+}
+
+// The text from the first character on that the part takes, or all of it where the part stands for
+// any text: no match of the part and others begins at those before it.
+fn from_first_taken(part: Part, text: &str, ignore_case: bool) -> &str
+    ensures rests { (ps : List values.Part) → some_rest (matches (part_view part ∷ ps)) (characters ignore_case result.now) ≡ some_rest (matches (part_view part ∷ ps)) (characters ignore_case text.now) }
+    ensures shorter { length (characters ignore_case result.now) ≤ length (characters ignore_case text.now) }
+{
+    let mut left = text;
+    if part.is_any_text() {
+        return left;
+    }
+    while let Some((c, rest)) = split_first(left, ignore_case) {
+        if part.takes(c) {
+            break;
+        }
+        left = rest;
+    }
+    left
 }
 
 // Goes along the parts that stand for one character each, as far as they take the text's.
