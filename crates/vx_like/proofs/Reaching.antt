@@ -1,6 +1,6 @@
 -- How a run along parts keeps what they match.
-use Rattle.std.proofs.Common.{◌≡◌, ℕ, List, [], ◌∷◌, length, refl, sym, ◌∙◌, Bool, true, false, inl, inr, ◌==◌, arith}
-use Rattle.std.proofs.lemmas.Bool.{and_parts, eqb-true, or_cases, or_left, or_right}
+use Rattle.std.proofs.Common.{◌≡◌, ℕ, List, [], ◌∷◌, length, refl, sym, ap, ◌∙◌, Bool, true, false, inl, inr, ◌==◌, arith}
+use Rattle.std.proofs.lemmas.Bool.{and_parts, or_cases, or_left, or_right}
 use Rattle.std.specs.Str.{IsUtf8}
 use Rattle.vx_fn.specs.Values.{Part, any_text, any_one, just, matches, some_rest}
 use Rattle.vx_like.specs.declared.parts.Part as program
@@ -73,13 +73,21 @@ reaches-end ci ps ts [] left u e r = r.here ∙ matches-nothing ci left u
 reaches-end ci ps ts (p ∷ ahead) left u e r = absurd (omega (arith, e))
 
 -- no parts match after the whole text
-pub some_rest-end : (ahead : List program.Part) (cs : List ℕ) → (length ahead == 0) ≡ true → some_rest (matches (parts_view ahead)) cs ≡ true
+pub some_rest-end : (ahead : List program.Part) (cs : List ℕ) → length ahead ≡ 0 → some_rest (matches (parts_view ahead)) cs ≡ true
 some_rest-end [] [] e = refl
 some_rest-end [] (c ∷ cs) e = some_rest-end [] cs e
-some_rest-end (p ∷ ahead) cs e = absurd (omega (arith, eqb-true _ _ e))
+some_rest-end (p ∷ ahead) cs e = absurd (omega (arith, e))
 
 -- a match does not begin at a character that its first part, one for one character, does not take
 pub past-untaken : (p : Part) (ps : List Part) (c : ℕ) (cs : List ℕ) → is_any_text p ≡ false → takes p c ≡ false → some_rest (matches (p ∷ ps)) (c ∷ cs) ≡ some_rest (matches (p ∷ ps)) cs
 past-untaken any_text ps c cs i e = cc
 past-untaken any_one ps c cs i e = cc
 past-untaken (just d) ps c cs i e = rw e refl
+
+-- nor does one begin at the front that is left behind so
+pub rests-past : (p : Part) (ps : List Part) (c : ℕ) (left rest text : List ℕ) → left ≡ c ∷ rest → is_any_text p ≡ false → takes p c ≡ false → some_rest (matches (p ∷ ps)) left ≡ some_rest (matches (p ∷ ps)) text → some_rest (matches (p ∷ ps)) rest ≡ some_rest (matches (p ∷ ps)) text
+rests-past p ps c left rest text is i e so_far = sym (past-untaken p ps c rest i e) ∙ ap (some_rest (matches (p ∷ ps))) (sym is) ∙ so_far
+
+-- a match that is looked for further on decides the same
+pub begun : (ps qs : List Part) (p : Part) (rest : List Part) (cs ds ts : List ℕ) → ps ≡ p ∷ rest → some_rest (matches (p ∷ rest)) ds ≡ some_rest (matches (p ∷ rest)) cs → some_rest (matches ps) cs ≡ some_rest (matches qs) ts → some_rest (matches ps) ds ≡ some_rest (matches qs) ts
+begun ps qs p rest cs ds ts is later so_far = ap (λ x. some_rest (matches x) ds) is ∙ later ∙ ap (λ x. some_rest (matches x) cs) (sym is) ∙ so_far

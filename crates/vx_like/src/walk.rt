@@ -35,7 +35,7 @@ fn spells_some_rest(parts: &[Part], text: &str, ignore_case: bool) -> bool
 {
     let mut ahead = parts;
     let mut begin = text;
-    while let Some(first) = ahead.first() {
+    while let Some((first, _)) = ahead.split_first() {
         begin = from_first_taken(*first, begin, ignore_case);
         match run(ahead, begin, ignore_case) {
             Stop::AtEnd => return true,
