@@ -22,7 +22,7 @@ use Rattle.vx_fn.specs.Faults.{node_fault}
 use Rattle.vx_eval.specs.declared.rows.Rows.{Rows}
 use Rattle.vx_eval.specs.declared.rows.Rows.TheVariants.{Owned}
 use Rattle.vx_eval.specs.Columns.{values_of, each_row, row_at, rows_of, rows_view, unless_fault, node_answer, Evaluates}
-use Rattle.vx_eval.specs.Kernels.{is_comparison}
+use Rattle.vx_eval.specs.Items.{compared_items, is_comparison, item_at}
 
 -- one more row, at the loop's index
 pub row_pushed : {A : Type 0} (f : A → Datum) (h : ℕ → Datum) (out new : List A) (i : ℕ) (v : A) → map f out ≡ each_row i h → new ≡ out ++ v ∷ [] → f v ≡ h i → map f new ≡ each_row (i + 1) h
@@ -143,3 +143,9 @@ compared_with op ts n c d is long =
     let told = λ (v : Datum). binary_value op v d in
     let each = each_same n (λ k. fn_value (binary op) ts (row_at (c ∷ replicate n d ∷ []) k)) (λ k. told (get_or c k null)) (λ k lt. ap (binary_value op (get_or c k null)) (repeated_at n k d lt)) in
     given (binary op) ts n (c ∷ replicate n d ∷ []) (map told c) (comparison_quiet op ts _ is) (sym (each ∙ each_of told c n long))
+
+-- what is told of one row
+pub told_at : (op : Operation) (k : ℕ) (d : Datum) (vs : List Datum) (i : ℕ) → i < length (compared_items op k d vs) → get_or (compared_items op k d vs) i null ≡ binary_value op (get_or (map (item_at k) vs) i null) d
+told_at op k d [] i lt = absurd (omega arith)
+told_at op k d (v ∷ vs) zero lt = refl
+told_at op k d (v ∷ vs) (suc i) lt = told_at op k d vs i (omega arith)

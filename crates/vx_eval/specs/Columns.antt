@@ -9,24 +9,9 @@ use Rattle.vx_fn.specs.Functions.{Function}
 use Rattle.vx_fn.specs.Values.{fn_value}
 use Rattle.vx_fn.specs.Faults.{node_fault}
 pub use Rattle.vx_merge.specs.Merges.{values_of, each_row, row_at}
+pub use Rattle.vx_eval.specs.Items.{datum_at, item_at, truth_datum}
 use Rattle.vx_eval.specs.declared.rows.Rows.{Rows}
 use Rattle.vx_eval.specs.declared.rows.Rows.TheVariants.{Lent, Item, Owned, Same, Truths, Compared}
-
--- the value at that place
-abbrev pub datum_at : ℕ → Data → Datum
-datum_at k no_datum = null
-datum_at zero (datum v vs) = v
-datum_at (suc k) (datum v vs) = datum_at k vs
-
--- the item at that place of a struct, null of what is none
-abbrev pub item_at : ℕ → Datum → Datum
-item_at k (struct_of vs) = datum_at k vs
-item_at k _ = null
-
--- the value that a truth value is, or null
-abbrev pub truth_datum : Option Bool → Datum
-truth_datum None = null
-truth_datum (Some b) = bool b
 
 -- the truth value that a value is, if it is one
 abbrev pub truth_of : Datum → Option Bool

@@ -9,6 +9,7 @@ use Rattle.vx_fn.specs.Functions.{Operation, compares}
 use Rattle.vx_fn.specs.Values.{agrees, flipped}
 use Rattle.vx_like.specs.Patterns.{Compiled, accepts}
 use Rattle.vx_eval.specs.Columns.{truth_datum, datum_at}
+pub use Rattle.vx_eval.specs.Items.{is_comparison}
 
 -- where a call answers at one of the first n rows, it is what g gives there
 abbrev pub AnswersRows : {E : Type 0} → (ℕ → Result Value E → Type 0) → ℕ → (ℕ → Datum) → Type 0
@@ -26,11 +27,6 @@ MakesRows post n g = (i : ℕ) (x v : Value) → i < n → post i x (Ok v) → v
 abbrev pub items_at : List ℕ → Datum → Datum
 items_at ks (struct_of vs) = struct_of (data_of (map (λ k. datum_at k vs) ks))
 items_at ks _ = null
-
--- whether the operation is one of the six comparisons
-abbrev pub is_comparison : Operation → Bool
-is_comparison (compares c) = true
-is_comparison _ = false
 
 -- whether an order is one that a comparison asks for
 abbrev pub agrees_with : Operation → Ordering → Bool

@@ -4,3 +4,4 @@ pub mod Kernels
 pub mod PackedItem
 pub mod Choices
 pub mod FirstMerged
+pub mod Items

@@ -1,11 +1,10 @@
 // Comparisons of a lent field with one value, told row by row where they are asked for.
-ghost use Rattle.std.specs.Prelude.{◌≡◌, ◌<◌, IsTrue, length, get_or, map};
+ghost use Rattle.std.specs.Prelude.{◌≡◌, ◌<◌, IsTrue, length, get_or};
 ghost use Rattle.vx_types.specs.Types.{null};
 ghost use Rattle.vx_types.specs.Views.{value_of};
-ghost use Rattle.vx_fn.specs.Values.{binary_value};
 ghost use Rattle.vx_fn.specs.Views.{operation_of};
-ghost use Rattle.vx_eval.specs.Columns.{values_of, item_at, truth_datum};
-ghost use Rattle.vx_eval.specs.Kernels.{is_comparison};
+ghost use Rattle.vx_merge.specs.Merges.{values_of};
+ghost use Rattle.vx_eval.specs.Items.{compared_items, is_comparison, truth_datum};
 
 use crate::comparison::compared;
 use crate::constants::Constants;
@@ -26,17 +25,20 @@ pub struct ComparedItem<'a> {
 }
 
 impl<'a> Model for ComparedItem<'a> {
-    ghost use Rattle.std.specs.Prelude.{List, IsTrue, map};
+    ghost use Rattle.std.specs.Prelude.{List, IsTrue};
+    ghost use Rattle.std.specs.Coded.{coded_list};
+    ghost use Rattle.vx_types.specs.Codes.{datum_code};
     ghost use Rattle.vx_types.specs.Types.{Datum};
     ghost use Rattle.vx_types.specs.Views.{value_of};
-    ghost use Rattle.vx_fn.specs.Values.{binary_value};
     ghost use Rattle.vx_fn.specs.Views.{operation_of};
-    ghost use Rattle.vx_eval.specs.Columns.{values_of, item_at};
-    ghost use Rattle.vx_eval.specs.Kernels.{is_comparison};
+    ghost use Rattle.vx_merge.specs.Merges.{values_of};
+    ghost use Rattle.vx_eval.specs.Items.{compared_items, is_comparison};
 
     ghost Value = { List Datum };
 
-    ghost view = { λ c. map (λ row. binary_value (operation_of c.operator) (item_at c.place row) (value_of c.value.now)) (values_of c.rows.now.value.items) };
+    ghost coded = { coded_list datum_code };
+
+    ghost view = { λ c. compared_items (operation_of c.operator) c.place (value_of c.value.now) (values_of c.rows.now.value.items) };
 
     ghost invariant = { λ c. IsTrue (is_comparison (operation_of c.operator)) };
 }
@@ -50,7 +52,7 @@ impl<'a> ComparedItem<'a> {
         value: &'a Value,
     ) -> ComparedItem<'a>
         requires { IsTrue (is_comparison (operation_of operator)) }
-        ensures { result ≡ map (λ row. binary_value (operation_of operator) (item_at place row) (value_of value.now)) (values_of rows.now.value.items) }
+        ensures { result ≡ compared_items (operation_of operator) place (value_of value.now) (values_of rows.now.value.items) }
     {
         ComparedItem {
             operator,

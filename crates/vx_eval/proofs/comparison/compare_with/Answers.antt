@@ -15,7 +15,7 @@ returns-in-Item c = λ ts.
     let d = value_of c.args.value.now in
     let rows = values_of c.in-Item.rows.now.value.items in
     let told = λ (v : Datum). binary_value op v d in
-    let items : c.new.result ≡ map told (rows_view c.args.lhs.now) = c.new.ensures ∙ sym (map_map told (item_at c.in-Item.place) rows) ∙ ap (λ r. map told (rows_view r)) (sym c.in-Item.is) in
+    let items : c.new-items.result ≡ map told (rows_view c.args.lhs.now) = c.new-items.ensures ∙ sym (map_map told (item_at c.in-Item.place) rows) ∙ ap (λ r. map told (rows_view r)) (sym c.in-Item.is) in
     compared_with op ts c.args.count (rows_view c.args.lhs.now) d c.requires.comparison c.requires.left ∙ ap Ok (sym items)
 
 pub returns-in_default : goal.returns-in_default
@@ -23,7 +23,7 @@ returns-in_default c = λ ts.
     let op = operation_of c.args.operator in
     let d = value_of c.args.value.now in
     evaluated (binary op) ts c.args.count (rows_view c.args.lhs.now ∷ replicate c.args.count d ∷ []) _ (comparison_quiet _ ts _ c.requires.comparison)
-    (c.told-in_default.ensures.rows _ (λ i t lt p.
+    (c.told.ensures.rows _ (λ i t lt p.
     let here : truth_datum t ≡ binary_value op (get_or (rows_view c.args.lhs.now) i null) d = search rules in
     here ∙ ap (binary_value op (get_or (rows_view c.args.lhs.now) i null)) (sym (repeated_at c.args.count i d lt))))
-    c.told-in_default.ensures.memory
+    c.told.ensures.memory

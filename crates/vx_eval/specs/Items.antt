@@ -1,0 +1,30 @@
+-- Items of structs, and truth values told of them.
+use Rattle.std.specs.Prelude.{ℕ, List, map, Option, Some, None, zero, suc, Bool, true, false}
+use Rattle.vx_types.specs.Types.{Datum, null, bool, struct_of, Data, no_datum, datum}
+use Rattle.vx_fn.specs.Functions.{Operation, compares}
+use Rattle.vx_fn.specs.Values.{binary_value}
+
+-- the value at that place
+abbrev pub datum_at : ℕ → Data → Datum
+datum_at k no_datum = null
+datum_at zero (datum v vs) = v
+datum_at (suc k) (datum v vs) = datum_at k vs
+
+-- the item at that place of a struct, null of what is none
+abbrev pub item_at : ℕ → Datum → Datum
+item_at k (struct_of vs) = datum_at k vs
+item_at k _ = null
+
+-- the value that a truth value is, or null
+abbrev pub truth_datum : Option Bool → Datum
+truth_datum None = null
+truth_datum (Some b) = bool b
+
+-- whether the operation is one of the six comparisons
+abbrev pub is_comparison : Operation → Bool
+is_comparison (compares c) = true
+is_comparison _ = false
+
+-- what the operation tells of the item at that place of each struct and of one value
+abbrev pub compared_items : Operation → ℕ → Datum → List Datum → List Datum
+compared_items op k d vs = map (λ v. binary_value op (item_at k v) d) vs
