@@ -171,7 +171,7 @@ pub(crate) fn merge_root(
     }
 }
 
-// The same for the And of the two, apart from it: most nodes are none.
+// The same for the And of the two. It stands apart, so that another node costs one look.
 #[inline(never)]
 fn merge_and(
     alloc: Global,
