@@ -1,6 +1,8 @@
 -- Merges of children are merges of the node, and merges follow one another.
-use Rattle.std.proofs.Common.{◌≡◌, ℕ, zero, suc, ◌+◌, ◌<◌, ◌≤◌, List, [], ◌∷◌, ◌++◌, length, get_or, take, refl, sym, ap, subst, ◌∙◌, arith}
-use Rattle.std.specs.Prelude.{Ok}
+use Rattle.std.proofs.Common.{◌≡◌, ℕ, zero, suc, ◌+◌, ◌<◌, ◌≤◌, List, [], ◌∷◌, ◌++◌, length, get_or, take, drop, refl, sym, ap, subst, ◌∙◌, arith}
+use Rattle.std.specs.Prelude.{Option, Some, None, Ok, MatchOption}
+use Rattle.std.specs.declared.alloc.Global.{Global}
+use Rattle.std.specs.declared.boxed.Box.{Box}
 use Rattle.std.proofs.lemmas.List.{take_more}
 use Rattle.vx_types.specs.Types.{LogicalType}
 use Rattle.vx_fn.specs.Functions.{Function, fn_type}
@@ -13,7 +15,7 @@ use Rattle.vx_keep.proofs.Stepping.{one_step_keeps}
 use Rattle.vx_keep.proofs.Keeping.{each_typed_after}
 use Rattle.vx_fusing.specs.Conjuncts.{Fused, EachFused, FusedBelow}
 use Rattle.vx_fusing.specs.Merging.{MergeAt, Merges, IsFusedOf}
-use Rattle.vx_fusing.specs.Finding.{EachFusedOf, none_fused, more_fused, over_children}
+use Rattle.vx_fusing.specs.Finding.{EachFusedOf, none_fused, more_fused, over_children, Finds, FirstChanged}
 use Rattle.vx_fusing.proofs.Merges.{merge_keeps, one_step_types}
 
 merges_append : {b u w : BoundTree} {n k : ℕ} → Merges b n u → Merges u k w → (m : ℕ) × Merges b m w
@@ -108,29 +110,12 @@ pub all_fused : (bs : BoundTrees) (c : BoundTree) → EachFused bs → Fused c �
 all_fused no_bound c f g = (g, tt)
 all_fused (bound b bs) c f g = (f.0, all_fused bs c f.1 g)
 
-pub front_fused : (bs : BoundTrees) (c : BoundTree) → EachFused (with_more bs (bound c no_bound)) → EachFused bs
-front_fused no_bound c f = tt
-front_fused (bound b bs) c f = (f.0, front_fused bs c f.1)
-
-pub last_fused : (bs : BoundTrees) (c : BoundTree) → EachFused (with_more bs (bound c no_bound)) → Fused c
-last_fused no_bound c f = f.0
-last_fused (bound b bs) c f = last_fused bs c f.1
-
 pub each_joined : {bs us : BoundTrees} {c w : BoundTree} → EachFusedOf bs us → IsFusedOf c w → EachFusedOf (with_more bs (bound c no_bound)) (with_more us (bound w no_bound))
 each_joined none_fused g = more_fused g none_fused
 each_joined (more_fused f fs) g = more_fused f (each_joined fs g)
 
 pub itself_fused : (b : BoundTree) → Fused b → IsFusedOf b b
 itself_fused b f = record { count = zero; merges = no_step; fused = f }
-
-pub each_itself : (bs : BoundTrees) → EachFused bs → EachFusedOf bs bs
-each_itself no_bound f = none_fused
-each_itself (bound b bs) f = more_fused (itself_fused b f.0) (each_itself bs f.1)
-
-pub take_fused : (bs : List BoundExpression) (i : ℕ) → EachFused (bounds_of bs) → EachFused (bounds_of (take i bs))
-take_fused bs zero f = tt
-take_fused [] (suc i) f = tt
-take_fused (b ∷ bs) (suc i) f = (f.0, take_fused bs i f.1)
 
 pub item_fused : (bs : List BoundExpression) (i : ℕ) (b : BoundExpression) → i < length bs → b ≡ get_or bs i b → EachFused (bounds_of bs) → Fused (bound_of b)
 item_fused [] i b h e f = absurd (omega arith)
@@ -146,3 +131,44 @@ pub item_smaller : (bs : List BoundExpression) (i : ℕ) (b : BoundExpression) �
 item_smaller [] i b h e = absurd (omega arith)
 item_smaller (c ∷ bs) zero b h e = let q : size_of (unbound (bound_of b)) ≡ size_of (unbound (bound_of c)) = ap (λ x. size_of (unbound (bound_of x))) e in omega arith
 item_smaller (c ∷ bs) (suc i) b h e = let q = item_smaller bs i b (omega arith) e in omega arith
+
+-- ---- the first child that changes, and those behind it
+
+pub first_changed : (bs : List BoundExpression) (i : ℕ) (b : BoundExpression) {u : BoundTree} → i < length bs → b ≡ get_or bs i b → EachFused (bounds_of (take i bs)) → (Fused (bound_of b) → ⊥) → IsFusedOf (bound_of b) u → FirstChanged (bounds_of bs) i u
+first_changed [] i b h e f n p = absurd (omega arith)
+first_changed (c ∷ bs) zero b {u = u} h e f n p = subst (λ x. (Fused (bound_of x) → ⊥) × IsFusedOf (bound_of x) u) e (n, p)
+first_changed (c ∷ bs) (suc i) b h e f n p = (f.0, first_changed bs i b (omega arith) e f.1 n p)
+
+pub changed_inside : (bs : List BoundExpression) (cs : BoundTrees) (i : ℕ) (u : BoundTree) → bounds_of bs ≡ cs → FirstChanged cs i u → i < length bs
+changed_inside bs cs i u e p = go bs i (subst (λ z. FirstChanged z i u) (sym e) p)
+  where
+    go : (bs : List BoundExpression) (i : ℕ) → FirstChanged (bounds_of bs) i u → i < length bs
+    go [] i p = absurd p
+    go (b ∷ bs) zero p = omega arith
+    go (b ∷ bs) (suc i) p = let h = go bs i p.1 in omega arith
+
+pub changed_unfused : (bs : BoundTrees) (i : ℕ) (u : BoundTree) → FirstChanged bs i u → EachFused bs → ⊥
+changed_unfused no_bound i u p f = p
+changed_unfused (bound b bs) zero u p f = p.0 f.0
+changed_unfused (bound b bs) (suc i) u p f = changed_unfused bs i u p.1 f.1
+
+pub drop_typed : (n : ℕ) (bs : List BoundExpression) → EachWellTyped (bounds_of bs) → EachWellTyped (bounds_of (drop n bs))
+drop_typed zero bs w = w
+drop_typed (suc n) [] w = tt
+drop_typed (suc n) (b ∷ bs) w = drop_typed n bs w.1
+
+pub drop_smaller : (n : ℕ) (bs : List BoundExpression) → sizes_of (unbound_each (bounds_of (drop n bs))) ≤ sizes_of (unbound_each (bounds_of bs))
+drop_smaller zero bs = omega arith
+drop_smaller (suc n) [] = omega arith
+drop_smaller (suc n) (b ∷ bs) = let q = drop_smaller n bs in omega arith
+
+-- the children before the first that changes, what is fused of it, and the rest fused
+pub each_from : (bs : List BoundExpression) (i : ℕ) (u : BoundTree) {us : BoundTrees} → FirstChanged (bounds_of bs) i u → EachFusedOf (bounds_of (drop (suc i) bs)) us → EachFusedOf (bounds_of bs) (with_more (with_more (bounds_of (take i bs)) (bound u no_bound)) us)
+each_from [] i u p fs = absurd p
+each_from (b ∷ bs) zero u p fs = more_fused p.1 fs
+each_from (b ∷ bs) (suc i) u p fs = more_fused (itself_fused (bound_of b) p.0) (each_from bs i u p.1 fs)
+
+-- what is put behind the list for a child is fused of it
+pub put_fused : {b : BoundTree} (u : BoundExpression) (changed : Option (Box BoundExpression Global)) → Finds (Fused b) (λ w. IsFusedOf b (bound_of w.value)) (Ok changed) → MatchOption changed (bound_of u ≡ b) (λ c. u ≡ c.value) → IsFusedOf b (bound_of u)
+put_fused {b = b} u None p e = rw e (itself_fused b p)
+put_fused {b = b} u (Some c) p e = rw e p.1

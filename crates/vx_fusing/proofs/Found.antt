@@ -2,6 +2,8 @@
 use Rattle.std.proofs.Common.{◌≡◌, inl, inr, List, [], ◌∷◌, ◌++◌, refl, sym, subst, false}
 use Rattle.std.specs.Prelude.{Option, Some, None, Result}
 use Rattle.std.proofs.lemmas.List.{append-nil}
+use Rattle.std.specs.declared.alloc.Global.{Global}
+use Rattle.std.specs.declared.boxed.Box.{Box}
 use Rattle.vx_dtype.specs.declared.error.VortexError.{VortexError}
 use Rattle.vx_types.specs.Types.{LogicalType}
 use Rattle.vx_fn.specs.Functions.{and_also}
@@ -58,8 +60,8 @@ left_none_alone : {d l : BoundTree} → is_and l ≡ false → (Mergeable l d �
 left_none_alone {d = d} {l = l} e nil = subst (λ cs. NoneMergeable cs (d ∷ [])) (sym (alone l e)) (one_pair l d nil)
 
 -- a single conjunct is merged, or isn't
-pub left_single : (d l : BoundTree) (r : Result (Option BoundExpression) VortexError) → is_and l ≡ false → Finds (Mergeable l d → ⊥) (λ m. MergeTo l d (bound_of m)) r → Finds (NoneMergeable (conjuncts l) (d ∷ [])) (λ u. LeftMerged d l (bound_of u)) r
-left_single d l r e p = found_as _ _ (Mergeable l d → ⊥) (λ m. MergeTo l d (bound_of m)) r (left_none_alone e) (λ none k. left_is_some (left_alone e k.1) none) (λ m k. left_alone e k) p
+pub left_single : (d l : BoundTree) (r : Result (Option (Box BoundExpression Global)) VortexError) → is_and l ≡ false → Finds (Mergeable l d → ⊥) (λ m. MergeTo l d (bound_of m.value)) r → Finds (NoneMergeable (conjuncts l) (d ∷ [])) (λ u. LeftMerged d l (bound_of u.value)) r
+left_single d l r e p = found_as _ _ (Mergeable l d → ⊥) (λ m. MergeTo l d (bound_of m.value)) r (left_none_alone e) (λ none k. left_is_some (left_alone e k.1) none) (λ m k. left_alone e k) p
 
 pub left_in_first : {d x y l u w : BoundTree} → IsBinary and_also x y l → LeftMerged d x u → w ≡ and_of u y → LeftMerged d l w
 left_in_first {d = d} {x = x} {y = y} {l = l} {u = u} {w = w} b k e = subst (λ z. LeftMerged d z w) (sym b.1) (subst (LeftMerged d (and_node b.0 x y)) (sym e) (record { conjunct = k.conjunct; merged = k.merged; front = k.front; mergeable = k.mergeable; none_of_front = k.none_of_front; replaced = on_left k.replaced }))

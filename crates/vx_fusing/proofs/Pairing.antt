@@ -11,7 +11,7 @@ use Rattle.vx_keep.specs.Steps.{here, no_step, one_more}
 use Rattle.vx_fusing.specs.Conjuncts.{and_node, and_of, is_and, conjuncts, range_of, MergeTo, below_and_above, above_and_below, NoneMergeable, Fused, FusedBelow}
 use Rattle.vx_fusing.specs.Merging.{IsFirstPair, Replaced, MergeAt, right_stays, right_goes, Merges, IsFusedOf}
 use Rattle.vx_fusing.specs.declared.merge.Merged.{Merged}
-use Rattle.vx_fusing.specs.Finding.{IsBinary, Gone, whole, part, PairMerged, Pairs, last_pair, and_pairs, conjuncts_left, joined, PairsMerged, MergesSecond, with_pairs, without_pairs}
+use Rattle.vx_fusing.specs.Finding.{IsBinary, Gone, whole, part, PairMerged, Pairs, last_pair, and_pairs, conjuncts_left, joined, tree_in, PairsMerged, MergesSecond, with_pairs, without_pairs}
 use Rattle.vx_fusing.proofs.Merges.{either, in_first, in_second, no_left, merged_plain, replaced_within, replaced_fused, removed_fused, conjunct_fused, gone_fused, fused_and}
 use Rattle.vx_fusing.proofs.Found.{none_append_right, none_to_none, right_is_some, right_in_first, right_in_second}
 
@@ -77,7 +77,7 @@ first_and_second {l = l} {x = x} {y = y} {u = u} {w = w} {left = left} b p (with
 }))
 
 -- an answer merges the second child if its parts are those of trees that do
-pub second_answered : {l y u : BoundTree} {right rest : Option BoundTree} (r : Result Merged VortexError) → IfOk r (λ m. bound_of m.left ≡ u) → IfOk r (λ m. option_map bound_of m.right ≡ rest) → MergesSecond l right y u rest → IfOk r (λ m. MergesSecond l right y (bound_of m.left) (option_map bound_of m.right))
+pub second_answered : {l y u : BoundTree} {right rest : Option BoundTree} (r : Result Merged VortexError) → IfOk r (λ m. bound_of m.left.value ≡ u) → IfOk r (λ m. option_map tree_in m.right ≡ rest) → MergesSecond l right y u rest → IfOk r (λ m. MergesSecond l right y (bound_of m.left.value) (option_map tree_in m.right))
 second_answered (Ok m) p q s = rw (p, q) s
 second_answered (Err e) p q s = p
 

@@ -1,5 +1,7 @@
 -- What the steps of `find_between` answer.
-use Rattle.std.specs.Prelude.{◌≡◌, List, [], ◌∷◌, Option, Some, None, Result, Ok, Err, Bool, IsFalse}
+use Rattle.std.specs.Prelude.{◌≡◌, ℕ, zero, suc, List, [], ◌∷◌, Option, Some, None, Result, Ok, Err, Bool, IsFalse}
+use Rattle.std.specs.declared.alloc.Global.{Global}
+use Rattle.std.specs.declared.boxed.Box.{Box}
 use Rattle.vx_dtype.specs.declared.error.VortexError.{VortexError}
 use Rattle.vx_dtype.specs.declared.error.VortexError.TheVariants.{OutOfMemory}
 use Rattle.vx_types.specs.Types.{LogicalType}
@@ -7,11 +9,16 @@ use Rattle.vx_fn.specs.Functions.{Operation, compares, binary}
 use Rattle.vx_fn.specs.Views.{is_strict}
 use Rattle.vx_tree.specs.Trees.{BoundTree, scope, node, BoundTrees, no_bound, bound}
 use Rattle.vx_tree.specs.Views.{bound_of}
+use Rattle.vx_tree.specs.declared.bound.BoundExpression.{BoundExpression}
 use Rattle.vx_fusing.specs.declared.ranges.RangeComparison.{RangeComparison}
 use Rattle.vx_fusing.specs.declared.ranges.Side.{Side}
 use Rattle.vx_fusing.specs.declared.ranges.Side.TheVariants.{Below, Above}
-use Rattle.vx_fusing.specs.Conjuncts.{two_bounds, and_of, is_and, conjuncts, Range, from_below, from_above, range, range_of, MergeTo, NoneMergeable}
+use Rattle.vx_fusing.specs.Conjuncts.{two_bounds, and_of, is_and, conjuncts, Range, from_below, from_above, range, range_of, MergeTo, NoneMergeable, Fused}
 use Rattle.vx_fusing.specs.Merging.{Replaced, Removed, IsFirstPair, IsFusedOf}
+
+-- the tree in a box
+abbrev pub tree_in : Box BoundExpression Global → BoundTree
+tree_in b = bound_of b.value
 
 -- None where there is nothing to do, else what is done, or memory ran out
 abbrev pub Finds : {A : Type 0} → Type 0 → (A → Type 0) → Result (Option A) VortexError → Type 0
@@ -100,6 +107,12 @@ pub data MergesSecond (l : BoundTree) (right : Option BoundTree) (y u : BoundTre
 pub data EachFusedOf : BoundTrees → BoundTrees → Type 0 where
   none_fused : EachFusedOf no_bound no_bound
   more_fused : {b u : BoundTree} {bs us : BoundTrees} → IsFusedOf b u → EachFusedOf bs us → EachFusedOf (bound b bs) (bound u us)
+
+-- the child at that index is the first that isn't fused, and u is what is fused of it
+abbrev pub FirstChanged : BoundTrees → ℕ → BoundTree → Type 0
+FirstChanged no_bound i u = ⊥
+FirstChanged (bound b bs) zero u = (Fused b → ⊥) × IsFusedOf b u
+FirstChanged (bound b bs) (suc i) u = Fused b × FirstChanged bs i u
 
 -- the node with the same type over other children
 abbrev pub over_children : BoundTree → BoundTrees → BoundTree

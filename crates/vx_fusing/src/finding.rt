@@ -1,12 +1,13 @@
 // The whole of range fusing: children first, then the pairs at the root.
-ghost use Rattle.std.specs.Prelude.{◌≡◌, ℕ, ◌∷◌, ◌++◌, [], Ok, IfErr, IfOk};
+ghost use Rattle.std.specs.Prelude.{◌≡◌, ℕ, List, ◌∷◌, ◌++◌, [], Ok, IfErr, IfOk, MatchOption};
 ghost use Rattle.vx_dtype.specs.declared.error.VortexError.TheVariants.{OutOfMemory};
 ghost use Rattle.vx_keep.specs.Keeps.{Keeps};
 ghost use Rattle.vx_tree.specs.Nodes.{bound_children_of};
 ghost use Rattle.vx_tree.specs.Trees.{node_type, EachWellTyped, WellTyped};
 ghost use Rattle.vx_tree.specs.Views.{bound_of, bounds_of};
-ghost use Rattle.vx_fusing.specs.Conjuncts.{EachFused, Fused, FusedBelow};
-ghost use Rattle.vx_fusing.specs.Finding.{over_children, EachFusedOf, Finds};
+ghost use Rattle.vx_tree.specs.declared.bound.BoundExpression.{BoundExpression};
+ghost use Rattle.vx_fusing.specs.Conjuncts.{Fused, FusedBelow};
+ghost use Rattle.vx_fusing.specs.Finding.{over_children, EachFusedOf, Finds, FirstChanged};
 ghost use Rattle.vx_fusing.specs.Merging.{IsFusedOf, Merges};
 
 use crate::merge::merge_root;
@@ -43,7 +44,7 @@ pub fn find_between(alloc: Global, tree: BoundExpression) -> VortexResult<BoundE
     match fused(alloc, &tree) {
         Ok(Some(u)) => {
             drop(tree);
-            Ok(u)
+            Ok(Box::into_inner(u))
         }
         Ok(None) => Ok(tree),
         Err(e) => {
@@ -54,22 +55,97 @@ pub fn find_between(alloc: Global, tree: BoundExpression) -> VortexResult<BoundE
 }
 
 // The same, None where nothing is merged.
+//
+// Trees may be deep, so the frame of a level is kept small: what is merged goes up in a box, and
+// what a node takes that changes is done in functions that aren't inlined.
 #[cycle(fusing)]
-fn fused(alloc: Global, b: &BoundExpression) -> VortexResult<Option<BoundExpression>>
+fn fused(alloc: Global, b: &BoundExpression) -> VortexResult<Option<Box<BoundExpression>>>
     requires { WellTyped (bound_of b.now) }
-    ensures { Finds (Fused (bound_of b.now)) (λ u. IsFusedOf (bound_of b.now) (bound_of u)) result }
+    ensures { Finds (Fused (bound_of b.now)) (λ u. IsFusedOf (bound_of b.now) (bound_of u.value)) result }
 {
-    let Some(children) = fused_children(alloc, b.children())? else {
-        return merge_root(alloc, b);
-    };
+    let children = b.children();
+    for (i, child) in children.iter().enumerate() {
+        if let Some(changed) = fused(alloc, child)? {
+            return fused_from(alloc, b, i, changed);
+        }
+    }
+    merge_root(alloc, b)
+}
+
+// The same where the child at that index is the first in which something is merged.
+#[cycle(fusing)]
+#[inline(never)]
+fn fused_from(
+    alloc: Global,
+    b: &BoundExpression,
+    i: usize,
+    changed: Box<BoundExpression>,
+) -> VortexResult<Option<Box<BoundExpression>>>
+    requires typed { WellTyped (bound_of b.now) }
+    requires first { FirstChanged (bound_children_of (bound_of b.now)) i (bound_of changed.value) }
+    ensures { Finds (Fused (bound_of b.now)) (λ u. IsFusedOf (bound_of b.now) (bound_of u.value)) result }
+{
+    let children = b.children();
+    let front = copies_and(alloc, &children[..i], changed)?;
+    let all = fused_rest(alloc, front, &children[i + 1..])?;
+    Ok(Some(fused_over(alloc, b, all)?))
+}
+
+// The list, and behind it the rest of the children, each of them fused.
+#[cycle(fusing)]
+#[inline(never)]
+fn fused_rest(
+    alloc: Global,
+    mut list: Vec<BoundExpression>,
+    rest: &[BoundExpression],
+) -> VortexResult<Vec<BoundExpression>>
+    requires { EachWellTyped (bounds_of rest.now) }
+    ensures fused { IfOk result (λ v. (us : List BoundExpression) × (v.items ≡ list.items ++ us) × EachFusedOf (bounds_of rest.now) (bounds_of us)) }
+    ensures memory { IfErr result (λ e. e ≡ OutOfMemory) }
+{
+    for child in rest {
+        let changed = fused(alloc, child)?;
+        push_fused(&mut list, child, changed)?;
+    }
+    Ok(list)
+}
+
+// Puts what is fused of the tree at the end of the list, a copy of it where nothing is merged.
+#[inline(never)]
+fn push_fused(
+    list: &mut Vec<BoundExpression>,
+    tree: &BoundExpression,
+    changed: Option<Box<BoundExpression>>,
+) -> Result<(), AllocError>
+    ensures { IfOk result (λ _. (u : BoundExpression) × (list.new.items ≡ list.old.items ++ u ∷ [])
+        × MatchOption changed (bound_of u ≡ bound_of tree.now) (λ c. u ≡ c.value)) }
+{
+    match changed {
+        Some(changed) => Ok(list.push(Box::into_inner(changed))?),
+        None => Ok(list.push(tree.clone()?)?),
+    }
+}
+
+// The node over its fused children, with the pairs at its root merged.
+#[inline(never)]
+fn fused_over(
+    alloc: Global,
+    b: &BoundExpression,
+    children: Vec<BoundExpression>,
+) -> VortexResult<Box<BoundExpression>>
+    requires typed { WellTyped (bound_of b.now) }
+    requires each { EachFusedOf (bound_children_of (bound_of b.now)) (bounds_of children.items) }
+    ensures fused { IfOk result (λ u. IsFusedOf (bound_of b.now) (bound_of u.value)) }
+    ensures memory { IfErr result (λ e. e ≡ OutOfMemory) }
+{
     let over = with_fused(alloc, b, children)?;
-    Ok(Some(root_fused(alloc, over)?))
+    root_fused(alloc, over)
 }
 
 // The tree with the pairs at its root merged, if there are any.
-fn root_fused(alloc: Global, tree: BoundExpression) -> VortexResult<BoundExpression>
+fn root_fused(alloc: Global, tree: BoundExpression) -> VortexResult<Box<BoundExpression>>
     requires { FusedBelow (bound_of tree) }
-    ensures fused { IfOk result (λ u. IsFusedOf (bound_of tree) (bound_of u)) }
+    ensures fused { IfOk result (λ u. IsFusedOf (bound_of tree) (bound_of u.value)) }
     ensures memory { IfErr result (λ e. e ≡ OutOfMemory) }
 {
     match merge_root(alloc, &tree) {
@@ -77,7 +153,7 @@ fn root_fused(alloc: Global, tree: BoundExpression) -> VortexResult<BoundExpress
             drop(tree);
             Ok(merged)
         }
-        Ok(None) => Ok(tree),
+        Ok(None) => Ok(Box::new(alloc, tree)?),
         Err(e) => {
             drop(tree);
             Err(e)
@@ -115,28 +191,6 @@ fn with_fused(
     }
 }
 
-// Each of the children, from left to right, None where nothing is merged. They are copied at the
-// first change.
-#[cycle(fusing)]
-fn fused_children(
-    alloc: Global,
-    children: &[BoundExpression],
-) -> VortexResult<Option<Vec<BoundExpression>>>
-    requires { EachWellTyped (bounds_of children.now) }
-    ensures { Finds (EachFused (bounds_of children.now)) (λ us. EachFusedOf (bounds_of children.now) (bounds_of us.items)) result }
-{
-    let mut updated: Option<Vec<BoundExpression>> = None;
-    for (i, child) in children.iter().enumerate() {
-        match (fused(alloc, child)?, updated) {
-            (Some(changed), Some(before)) => updated = Some(pushed(before, changed)?),
-            (Some(changed), None) => { updated = Some(copies_and(alloc, &children[..i], changed)?) }
-            (None, Some(before)) => updated = Some(pushed(before, child.clone()?)?),
-            (None, None) => updated = None,
-        }
-    }
-    Ok(updated)
-}
-
 // The list with one more at its end.
 fn pushed<T: Drop>(mut list: Vec<T>, item: T) -> VortexResult<Vec<T>>
     ensures items { IfOk result (λ v. v.items ≡ list.items ++ item ∷ []) }
@@ -147,16 +201,17 @@ fn pushed<T: Drop>(mut list: Vec<T>, item: T) -> VortexResult<Vec<T>>
 }
 
 // The same trees, and one more at their end.
+#[inline(never)]
 fn copies_and(
     alloc: Global,
     list: &[BoundExpression],
-    last: BoundExpression,
+    last: Box<BoundExpression>,
 ) -> VortexResult<Vec<BoundExpression>>
-    ensures trees { IfOk result (λ v. bounds_of v.items ≡ bounds_of (list.now ++ last ∷ [])) }
+    ensures trees { IfOk result (λ v. bounds_of v.items ≡ bounds_of (list.now ++ last.value ∷ [])) }
     ensures memory { IfErr result (λ e. e ≡ OutOfMemory) }
 {
     match copies(alloc, list) {
-        Ok(copied) => pushed(copied, last),
+        Ok(copied) => pushed(copied, Box::into_inner(last)),
         Err(AllocError) => {
             drop(last);
             Err(VortexError::OutOfMemory)

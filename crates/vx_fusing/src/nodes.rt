@@ -6,9 +6,9 @@ ghost use Rattle.vx_fn.specs.Views.{function_of, operation_of};
 ghost use Rattle.vx_tree.specs.Trees.{node};
 ghost use Rattle.vx_tree.specs.Views.{bound_of, bounds_of};
 ghost use Rattle.vx_fusing.specs.Conjuncts.{and_of, is_and};
-ghost use Rattle.vx_fusing.specs.Finding.{joined, IsBinary, IsOther};
+ghost use Rattle.vx_fusing.specs.Finding.{joined, tree_in, IsBinary, IsOther};
 
-use std::alloc::Global;
+use std::alloc::{AllocError, Global};
 use std::rc::Rc;
 use vx_tree::{BoundExpression, DType, Nullability, Operator, ScalarFnRef, VortexResult};
 
@@ -35,12 +35,26 @@ pub(crate) fn as_binary(
     }
 }
 
-// The children of an And.
+// The children of an And. Its function is looked at first, since most nodes are none.
 pub(crate) fn as_and(b: &BoundExpression) -> Option<(&BoundExpression, &BoundExpression)>
     ensures { MatchOption result (IsFalse (is_and (bound_of b.now))) (λ p. IsBinary and_also (bound_of p.0.now) (bound_of p.1.now) (bound_of b.now)) }
 {
-    match as_binary(b) {
-        Some((Operator::And, l, r)) => Some((l, r)),
+    let BoundExpression::Scalar {
+        scalar_fn,
+        children,
+        ..
+    } = b
+    else {
+        return None;
+    };
+    let ScalarFnRef::Binary(op) = scalar_fn else {
+        return None;
+    };
+    let Operator::And = op else {
+        return None;
+    };
+    match children.as_slice() {
+        [l, r] => Some((l, r)),
         _ => None,
     }
 }
@@ -61,58 +75,72 @@ pub(crate) fn truth_node(
 }
 
 // The And of the two.
+#[inline(never)]
 pub(crate) fn and_of(
     alloc: Global,
     l: BoundExpression,
     r: BoundExpression,
-) -> VortexResult<BoundExpression>
-    ensures node { IfOk result (λ b. bound_of b ≡ and_of (bound_of l) (bound_of r)) }
+) -> VortexResult<Box<BoundExpression>>
+    ensures node { IfOk result (λ b. bound_of b.value ≡ and_of (bound_of l) (bound_of r)) }
     ensures memory { IfErr result (λ e. e ≡ OutOfMemory) }
 {
     let nullable = l.dtype().is_nullable() || r.dtype().is_nullable();
     let children = Rc::new(alloc, vec![in alloc; l, r]?)?;
     let and = ScalarFnRef::Binary(Operator::And);
-    Ok(truth_node(and, nullable, children))
+    Ok(Box::new(alloc, truth_node(and, nullable, children))?)
 }
 
 // The And of a new left child and the old right one.
+#[inline(never)]
 pub(crate) fn with_left(
     alloc: Global,
-    left: BoundExpression,
+    left: Box<BoundExpression>,
     right: &BoundExpression,
-) -> VortexResult<BoundExpression>
-    ensures node { IfOk result (λ b. bound_of b ≡ and_of (bound_of left) (bound_of right.now)) }
+) -> VortexResult<Box<BoundExpression>>
+    ensures node { IfOk result (λ b. bound_of b.value ≡ and_of (bound_of left.value) (bound_of right.now)) }
     ensures memory { IfErr result (λ e. e ≡ OutOfMemory) }
 {
     let (left, right) = right.clone().map(|right| (left, right))?;
-    and_of(alloc, left, right)
+    and_of(alloc, Box::into_inner(left), right)
 }
 
 // The And of the old left child and a new right one.
+#[inline(never)]
 pub(crate) fn with_right(
     alloc: Global,
     left: &BoundExpression,
-    right: BoundExpression,
-) -> VortexResult<BoundExpression>
-    ensures node { IfOk result (λ b. bound_of b ≡ and_of (bound_of left.now) (bound_of right)) }
+    right: Box<BoundExpression>,
+) -> VortexResult<Box<BoundExpression>>
+    ensures node { IfOk result (λ b. bound_of b.value ≡ and_of (bound_of left.now) (bound_of right.value)) }
     ensures memory { IfErr result (λ e. e ≡ OutOfMemory) }
 {
     let (left, right) = left.clone().map(|left| (left, right))?;
-    and_of(alloc, left, right)
+    and_of(alloc, left, Box::into_inner(right))
 }
 
 // The And of what is left of two trees, or the one of which something is.
 pub(crate) fn joined(
     alloc: Global,
-    l: Option<BoundExpression>,
-    r: Option<BoundExpression>,
-) -> VortexResult<Option<BoundExpression>>
-    ensures joined { IfOk result (λ o. option_map bound_of o ≡ joined (option_map bound_of l) (option_map bound_of r)) }
+    l: Option<Box<BoundExpression>>,
+    r: Option<Box<BoundExpression>>,
+) -> VortexResult<Option<Box<BoundExpression>>>
+    ensures joined { IfOk result (λ o. option_map tree_in o ≡ joined (option_map tree_in l) (option_map tree_in r)) }
     ensures memory { IfErr result (λ e. e ≡ OutOfMemory) }
 {
     match (l, r) {
-        (Some(l), Some(r)) => Ok(Some(and_of(alloc, l, r)?)),
+        (Some(l), Some(r)) => Ok(Some(and_of(alloc, Box::into_inner(l), Box::into_inner(r))?)),
         (Some(l), None) => Ok(Some(l)),
         (None, r) => Ok(r),
     }
+}
+
+// A copy of the tree, in a box.
+#[inline(never)]
+pub(crate) fn boxed(
+    alloc: Global,
+    tree: &BoundExpression,
+) -> Result<Box<BoundExpression>, AllocError>
+    ensures { IfOk result (λ b. bound_of b.value ≡ bound_of tree.now) }
+{
+    Ok(Box::new(alloc, tree.clone()?)?)
 }

@@ -71,12 +71,13 @@ pub(crate) fn range_of(b: &BoundExpression) -> Option<RangeComparison<'_>>
 }
 
 // The Between of two ranges of one item, which bound it from below and from above.
+#[inline(never)]
 fn between(
     alloc: Global,
     lower: RangeComparison<'_>,
     upper: RangeComparison<'_>,
-) -> VortexResult<BoundExpression>
-    ensures node { IfOk result (λ b. bound_of b ≡ between_node (is_strict lower.entry.strict) (is_strict upper.entry.strict) (bound_of lower.entry.item.now) (bound_of lower.entry.bound.now) (bound_of upper.entry.bound.now)) }
+) -> VortexResult<Box<BoundExpression>>
+    ensures node { IfOk result (λ b. bound_of b.value ≡ between_node (is_strict lower.entry.strict) (is_strict upper.entry.strict) (bound_of lower.entry.item.now) (bound_of lower.entry.bound.now) (bound_of upper.entry.bound.now)) }
     ensures memory { IfErr result (λ e. e ≡ OutOfMemory) }
 {
     let item = lower.item;
@@ -93,7 +94,7 @@ fn between(
     children.push(upper.bound.clone()?)?;
     let children = Rc::new(alloc, children)?;
     let between = ScalarFnRef::Between(options);
-    Ok(truth_node(between, nullable, children))
+    Ok(Box::new(alloc, truth_node(between, nullable, children))?)
 }
 
 // The same, if the items are equal; to find out takes no memory. Items are compared by their names
@@ -102,10 +103,10 @@ fn between_of_one_item(
     alloc: Global,
     lower: RangeComparison<'_>,
     upper: RangeComparison<'_>,
-) -> VortexResult<Option<BoundExpression>>
+) -> VortexResult<Option<Box<BoundExpression>>>
     ensures { Finds (bound_of lower.entry.item.now ≢ bound_of upper.entry.item.now)
         (λ b. (bound_of lower.entry.item.now ≡ bound_of upper.entry.item.now)
-        × (bound_of b ≡ between_node (is_strict lower.entry.strict) (is_strict upper.entry.strict) (bound_of lower.entry.item.now) (bound_of lower.entry.bound.now) (bound_of upper.entry.bound.now))) result }
+        × (bound_of b.value ≡ between_node (is_strict lower.entry.strict) (is_strict upper.entry.strict) (bound_of lower.entry.item.now) (bound_of lower.entry.bound.now) (bound_of upper.entry.bound.now))) result }
 {
     if lower.item == upper.item {
         return Ok(Some(between(alloc, lower, upper)?));
@@ -119,9 +120,9 @@ pub(crate) fn merged(
     alloc: Global,
     c: RangeComparison<'_>,
     d: RangeComparison<'_>,
-) -> VortexResult<Option<BoundExpression>>
+) -> VortexResult<Option<Box<BoundExpression>>>
     ensures { (x y : BoundTree) → range_of x ≡ Some (range_seen c.entry) → range_of y ≡ Some (range_seen d.entry) →
-        Finds (Mergeable x y → ⊥) (λ m. MergeTo x y (bound_of m)) result }
+        Finds (Mergeable x y → ⊥) (λ m. MergeTo x y (bound_of m.value)) result }
 {
     match (c.side, d.side) {
         (Side::Below, Side::Above) => between_of_one_item(alloc, c, d),

@@ -11,25 +11,25 @@ pub returns-in-Err-clause-memory : goal.returns-in-Err-clause-memory
 returns-in-Err-clause-memory c = c.in-Err.ensures.1
 
 pub returns-in-Ok-Some-clause-merges : goal.returns-in-Ok-Some-clause-merges
-returns-in-Ok-Some-clause-merges c = let p = rw c.in-Ok-Some.field-0-is at c.in-Ok-Some.ensures in (p.1.count, p.1.merges)
+returns-in-Ok-Some-clause-merges c = let p = rw c.in-Ok-Some.field-0-is at c.in-Ok-Some.ensures in rw c.into_inner.ensures (p.1.count, p.1.merges)
 
 pub returns-in-Ok-Some-clause-fused : goal.returns-in-Ok-Some-clause-fused
-returns-in-Ok-Some-clause-fused c = let p = rw c.in-Ok-Some.field-0-is at c.in-Ok-Some.ensures in p.1.fused
+returns-in-Ok-Some-clause-fused c = let p = rw c.in-Ok-Some.field-0-is at c.in-Ok-Some.ensures in rw c.into_inner.ensures p.1.fused
 
 pub returns-in-Ok-Some-clause-well_typed : goal.returns-in-Ok-Some-clause-well_typed
 returns-in-Ok-Some-clause-well_typed c =
     let p = rw c.in-Ok-Some.field-0-is at c.in-Ok-Some.ensures in
-    (merges_alike (bound_of c.args.tree) (bound_of c.in-Ok-Some.u) p.1.count c.requires p.1.merges).0.typed_after
+    rw c.into_inner.ensures (merges_alike (bound_of c.args.tree) (bound_of c.in-Ok-Some.u.value) p.1.count c.requires p.1.merges).0.typed_after
 
 pub returns-in-Ok-Some-clause-keeps : goal.returns-in-Ok-Some-clause-keeps
 returns-in-Ok-Some-clause-keeps c =
     let p = rw c.in-Ok-Some.field-0-is at c.in-Ok-Some.ensures in
-    (merges_alike (bound_of c.args.tree) (bound_of c.in-Ok-Some.u) p.1.count c.requires p.1.merges).0
+    rw c.into_inner.ensures (merges_alike (bound_of c.args.tree) (bound_of c.in-Ok-Some.u.value) p.1.count c.requires p.1.merges).0
 
 pub returns-in-Ok-Some-clause-dtype : goal.returns-in-Ok-Some-clause-dtype
 returns-in-Ok-Some-clause-dtype c =
     let p = rw c.in-Ok-Some.field-0-is at c.in-Ok-Some.ensures in
-    (merges_alike (bound_of c.args.tree) (bound_of c.in-Ok-Some.u) p.1.count c.requires p.1.merges).1
+    rw c.into_inner.ensures (merges_alike (bound_of c.args.tree) (bound_of c.in-Ok-Some.u.value) p.1.count c.requires p.1.merges).1
 
 pub returns-in-Ok-Some-clause-stays : goal.returns-in-Ok-Some-clause-stays
 returns-in-Ok-Some-clause-stays c = let p = rw c.in-Ok-Some.field-0-is at c.in-Ok-Some.ensures in λ f. absurd (p.0 f)

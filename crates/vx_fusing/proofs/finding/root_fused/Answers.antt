@@ -8,5 +8,7 @@ returns-in-Err-clause-memory c = c.in-Err.ensures.1
 pub returns-in-Ok-Some-clause-fused : goal.returns-in-Ok-Some-clause-fused
 returns-in-Ok-Some-clause-fused c = let p = rw c.in-Ok-Some.field-0-is at c.in-Ok-Some.ensures in p.1
 
-pub returns-in-Ok-None-clause-fused : goal.returns-in-Ok-None-clause-fused
-returns-in-Ok-None-clause-fused c = itself_fused (bound_of c.args.tree) (rw c.in-Ok-None.field-0-is at c.in-Ok-None.ensures)
+pub returns-in_ok-new-in-Ok-None-clause-fused : goal.returns-in_ok-new-in-Ok-None-clause-fused
+returns-in_ok-new-in-Ok-None-clause-fused c =
+    let none = rw c.in-Ok-None.field-0-is at c.in-Ok-None.ensures in
+    rw c.in_ok-new-in-Ok-None.ensures.ok (itself_fused (bound_of c.args.tree) none)

@@ -71,10 +71,10 @@ merge_pairs-returns-in-None-2 t c =
 
 pub merge_second-returns-in-Ok-Some-clause-merged : goal.merge_second-returns-in-Ok-Some-clause-merged
 merge_second-returns-in-Ok-Some-clause-merged t c =
-    let p = rw c.in-Ok-Some.field-0-is at c.in-Ok-Some.ensures in
+    let p = rw (c.in-Ok-Some.field-0-is, c.deref.ensures) at c.in-Ok-Some.ensures in
     second_answered c.rejoined.result c.rejoined.ensures.left c.rejoined.ensures.right (with_pairs p.1)
 
 pub merge_second-returns-in-Ok-None-clause-merged : goal.merge_second-returns-in-Ok-None-clause-merged
 merge_second-returns-in-Ok-None-clause-merged t c =
-    let none = rw c.in-Ok-None.field-0-is at c.in-Ok-None.ensures in
+    let none = rw (c.in-Ok-None.field-0-is, c.deref.ensures) at c.in-Ok-None.ensures in
     second_answered c.in_front.result c.in_front.ensures.left c.in_front.ensures.right (without_pairs refl none)

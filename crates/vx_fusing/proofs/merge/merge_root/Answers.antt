@@ -1,35 +1,9 @@
-use Rattle.std.proofs.Common.{rules, ◌≡◌, Err, refl}
-use Rattle.vx_dtype.specs.declared.error.VortexError.TheVariants.{OutOfMemory}
 use Rattle.vx_tree.specs.Views.{bound_of}
 use Rattle.vx_fusing.proofs.Merges.{fused_alone}
-use Rattle.vx_fusing.proofs.Pairing.{merged_root, fused_root, root_unfused, none_across}
-use Rattle.vx_fusing.proofs.Refusals.{failed, spent}
 use Rattle.vx_fusing.proofs.merge.merge_root.Goals as goal
 
-pub returns-in_default : goal.returns-in_default
-returns-in_default c = fused_alone (bound_of c.args.b.now) c.requires c.in_default.ensures
-
-pub returns-in_err-left : goal.returns-in_err-left
-returns-in_err-left c =
-    let p = c.in_err-left.ensures in
-    let same : c.from_residual.result ≡ Err c.in_err-left.field-0.0 = search rules in
-    failed _ _ same p.1 (λ f. p.0 (none_across c.in-Some.ensures f))
-
-pub returns-in_default-2 : goal.returns-in_default-2
-returns-in_default-2 c = fused_root c.in-Some.ensures c.requires (rw c.in_default-2.is at c.in_ok-left.ensures)
-
-pub returns-in_err-and_of-in-Some-right : goal.returns-in_err-and_of-in-Some-right
-returns-in_err-and_of-in-Some-right c =
-    let p = rw c.in-Some-2.is at c.in_ok-left.ensures in
-    let same : c.from_residual-in_err-and_of-in-Some-right.result ≡ Err OutOfMemory = search rules in
-    spent _ _ same (root_unfused c.in-Some.ensures p.1)
-
-pub returns-in_ok-and_of-in-Some-right : goal.returns-in_ok-and_of-in-Some-right
-returns-in_ok-and_of-in-Some-right c =
-    let p = rw c.in-Some-2.is at c.in_ok-left.ensures in
-    (root_unfused c.in-Some.ensures p.1, merged_root c.in-Some.ensures c.requires (rw c.in-Some-right.is at p.1) c.in_ok-and_of-in-Some-right.ensures.node)
+pub returns-in-Some : goal.returns-in-Some
+returns-in-Some c = c.merge_and.ensures (bound_of c.args.b.now) c.in-Some.ensures c.requires
 
 pub returns-in-None : goal.returns-in-None
-returns-in-None c =
-    let p = rw c.in-Some-2.is at c.in_ok-left.ensures in
-    (root_unfused c.in-Some.ensures p.1, merged_root c.in-Some.ensures c.requires (rw c.in-None.is at p.1) refl)
+returns-in-None c = fused_alone (bound_of c.args.b.now) c.requires c.in-None.ensures
