@@ -55,6 +55,74 @@ pub fn item(rows: &[Value]) -> Vec<Value> {
     each(rows, |row| field(row, 1).clone())
 }
 
+/// `CASE WHEN ($.k = 0i32) THEN $.x WHEN ($.k = 1i32) THEN $.y ELSE ($.z + 1i32) END`.
+pub fn case_with_sum(rows: &[Value]) -> Vec<Value> {
+    each(rows, |row| match field(row, 3) {
+        Value::Int(0) => field(row, 0).clone(),
+        Value::Int(1) => field(row, 1).clone(),
+        _ => added(field(row, 2), &Value::Int(1)),
+    })
+}
+
+/// `CASE WHEN ($.k = 0i32) THEN $.x WHEN ($.k = 1i32) THEN $.y ELSE $.z END`.
+pub fn case_of_fields(rows: &[Value]) -> Vec<Value> {
+    each(rows, |row| match field(row, 3) {
+        Value::Int(0) => field(row, 0).clone(),
+        Value::Int(1) => field(row, 1).clone(),
+        _ => field(row, 2).clone(),
+    })
+}
+
+/// `zip($.x, $.y, ($.z >= 400000i32))`.
+pub fn zip(rows: &[Value]) -> Vec<Value> {
+    each(rows, |row| match field(row, 2) {
+        Value::Int(z) if *z >= 400_000 => field(row, 0).clone(),
+        _ => field(row, 1).clone(),
+    })
+}
+
+/// `vortex.fill_null($.x, 5i32)`.
+pub fn fill_null(rows: &[Value]) -> Vec<Value> {
+    each(rows, |row| match field(row, 0) {
+        Value::Null => Value::Int(5),
+        x => x.clone(),
+    })
+}
+
+/// `($.x + $.y)`.
+pub fn sum(rows: &[Value]) -> Vec<Value> {
+    each(rows, |row| added(field(row, 0), field(row, 1)))
+}
+
+/// `vortex.is_null($.x)`.
+pub fn is_null(rows: &[Value]) -> Vec<Value> {
+    each(rows, |row| {
+        Value::Bool(matches!(field(row, 0), Value::Null))
+    })
+}
+
+/// `(($.f0 >= -50000i32) and ($.f0 <= 850000i32))`, joined by And with the same of `f1`, `f2` and `f3`.
+pub fn four_ranges(rows: &[Value]) -> Vec<Value> {
+    each(rows, |row| {
+        let mut all = Value::Bool(true);
+        for place in 0..4 {
+            match field(row, place) {
+                Value::Int(n) if (-50_000..=850_000).contains(n) => {}
+                Value::Int(_) => return Value::Bool(false),
+                _ => all = Value::Null,
+            }
+        }
+        all
+    })
+}
+
+/// `pack(a: $.x, b: $.y, c: $.z)`.
+pub fn pack(rows: &[Value]) -> Vec<Value> {
+    each(rows, |row| {
+        Value::Struct((0..3).map(|place| field(row, place).clone()).collect())
+    })
+}
+
 fn each(rows: &[Value], f: impl Fn(&Value) -> Value) -> Vec<Value> {
     rows.iter().map(f).collect()
 }
@@ -63,6 +131,17 @@ fn field(row: &Value, place: usize) -> &Value {
     match row {
         Value::Struct(items) => &items[place],
         _ => &Value::Null,
+    }
+}
+
+// The sum of two numbers, which has to be an `i32`, and null with a null.
+fn added(left: &Value, right: &Value) -> Value {
+    match (left, right) {
+        (Value::Int(left), Value::Int(right)) => {
+            let sum = i32::try_from(left + right).expect("a sum within i32");
+            Value::Int(i128::from(sum))
+        }
+        _ => Value::Null,
     }
 }
 

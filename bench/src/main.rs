@@ -2,29 +2,35 @@
 mod batch;
 mod by_hand;
 mod clock;
+mod comparison;
+mod growth;
+mod library;
 mod memory;
 mod passes;
 mod queries;
+mod readings;
+mod scans;
 
 fn main() {
     println!("{}", machine());
     println!();
     match std::env::args().nth(1).as_deref() {
         None => {
-            queries::table(1_000_000);
-            println!();
-            queries::scans(1_000_000);
+            queries_and_scan(1_000_000);
             println!();
             passes::tables();
         }
         Some("passes") => passes::tables(),
-        Some(rows) => {
-            let rows = rows.parse().expect("a number of rows, or the word passes");
-            queries::table(rows);
-            println!();
-            queries::scans(rows);
-        }
+        Some("growth") => growth::table(),
+        Some(rows) => queries_and_scan(rows.parse().expect("a number of rows, passes or growth")),
     }
+}
+
+/// Prints the tables of the queries and of the scan over so many rows.
+fn queries_and_scan(rows: usize) {
+    comparison::table(rows);
+    println!();
+    scans::table(rows);
 }
 
 /// The processor and its cores.

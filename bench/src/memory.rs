@@ -21,6 +21,16 @@ pub fn peak(call: impl FnOnce()) -> usize {
     PEAK.load(Relaxed) - before
 }
 
+/// The bytes that the system can still give, if it tells.
+pub fn available() -> Option<usize> {
+    let told = std::fs::read_to_string("/proc/meminfo").ok()?;
+    let rest = told
+        .lines()
+        .find_map(|line| line.strip_prefix("MemAvailable:"))?;
+    let kibibytes: usize = rest.trim().strip_suffix(" kB")?.parse().ok()?;
+    Some(1024 * kibibytes)
+}
+
 fn held(block: *mut u8) {
     let live = LIVE.load(Relaxed) + unsafe { malloc_usable_size(block) };
     LIVE.store(live, Relaxed);

@@ -5,6 +5,27 @@ use crate::fields::{self, fields};
 use std::alloc::Global;
 use vx_types::{Column, DType, FieldNames, Nullability, StructFields, Value, VortexResult};
 
+/// How the keys 0, 1 and 2 stand in the rows.
+#[derive(Clone, Copy, Debug, PartialEq, Eq)]
+pub enum Keys {
+    /// In turns, each in a run of 1,000 rows.
+    InRuns,
+    /// Scattered.
+    Scattered,
+}
+
+impl Keys {
+    // The key of that row.
+    fn key(self, i: usize) -> Value {
+        let turn = match self {
+            Keys::InRuns => i as u64 / 1_000,
+            // `scattered` alone goes up by one step a row, and a processor learns to tell the next key.
+            Keys::Scattered => scattered(i.wrapping_mul(scattered(i) as usize)),
+        };
+        Value::Int(i128::from(turn % 3))
+    }
+}
+
 /// So many rows of a number for each name, numbers and nulls. Each of a row's numbers is the first
 /// one of the next row.
 pub fn numbers(alloc: Global, names: FieldNames, rows: usize) -> VortexResult<Column> {
@@ -12,10 +33,16 @@ pub fn numbers(alloc: Global, names: FieldNames, rows: usize) -> VortexResult<Co
     for i in 0..rows {
         values.push(Value::Struct(numbers_from(alloc, i, names.len())?))?;
     }
-    column(
-        fields::numbers(alloc, names, Nullability::Nullable)?,
-        values,
-    )
+    numeric(alloc, names, values)
+}
+
+/// So many rows `{x, y, z, k}`: three numbers as above, and a key.
+pub fn keyed(alloc: Global, keys: Keys, rows: usize) -> VortexResult<Column> {
+    let mut values = Vec::with_capacity(alloc, rows)?;
+    for i in 0..rows {
+        values.push(keyed_row(alloc, keys, i)?)?;
+    }
+    numeric(alloc, fields::names(alloc, &["x", "y", "z", "k"])?, values)
 }
 
 /// So many rows `{s: text}`, short texts and nulls.
@@ -26,6 +53,11 @@ pub fn texts(alloc: Global, rows: usize) -> VortexResult<Column> {
     }
     let types = vec![in alloc; DType::Utf8(Nullability::Nullable)]?;
     column(fields(alloc, fields::names(alloc, &["s"])?, types)?, values)
+}
+
+// The column of structs of numbers by these names.
+fn numeric(alloc: Global, names: FieldNames, rows: Vec<Value>) -> VortexResult<Column> {
+    column(fields::numbers(alloc, names, Nullability::Nullable)?, rows)
 }
 
 // The column of structs.
@@ -40,6 +72,13 @@ fn numbers_from(alloc: Global, first: usize, count: usize) -> VortexResult<Vec<V
         numbers.push(number(first.wrapping_add(i)))?;
     }
     Ok(numbers)
+}
+
+// The struct of three numbers and a key of that row.
+fn keyed_row(alloc: Global, keys: Keys, i: usize) -> VortexResult<Value> {
+    let (second, third) = (number(i.wrapping_add(1)), number(i.wrapping_add(2)));
+    let items = vec![in alloc; number(i), second, third, keys.key(i)]?;
+    Ok(Value::Struct(items))
 }
 
 // A number below a million that looks like chance.

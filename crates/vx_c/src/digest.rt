@@ -1,15 +1,15 @@
 // What is told of a column.
 use vx_types::{Column, Value};
 
-/// Some numbers that tell columns apart.
+/// Some numbers that tell columns apart, of the values in the rows and in the items of structs.
 #[repr(C)]
 #[derive(Clone, Copy, Debug, Default, PartialEq, Eq)]
 pub struct Digest {
-    /// How many rows are null.
+    /// How many values are null.
     pub nulls: u64,
-    /// How many rows are true.
+    /// How many values are true.
     pub trues: u64,
-    /// The sum of the rows' numbers, modulo 2^64.
+    /// The sum of the numbers, modulo 2^64.
     pub sum: i64,
 }
 
@@ -23,14 +23,19 @@ impl Digest {
         digest
     }
 
-    // Takes another row in.
-    fn add(&mut self, row: &Value) {
-        match row {
+    // Takes another value in, and of a struct its items.
+    fn add(&mut self, value: &Value) {
+        match value {
             Value::Null => self.nulls = self.nulls.wrapping_add(1),
             Value::Bool(true) => self.trues = self.trues.wrapping_add(1),
             Value::Int(n) => {
                 let n = i64::try_from(*n).unwrap_or(0);
                 self.sum = self.sum.wrapping_add(n);
+            }
+            Value::Struct(items) => {
+                for item in items.as_slice() {
+                    self.add(item);
+                }
             }
             _ => {}
         }

@@ -4,7 +4,7 @@ ghost use Rattle.std.specs.Prelude.{◌<◌};
 use crate::fields::{fields, names, numbered, numbered_names, numbers};
 use crate::trees::Trees;
 use std::alloc::Global;
-use vx_tree::{CaseWhenOptions, EmptyOptions, Expression, Operator, Scalar, ScalarFnRef};
+use vx_tree::{EmptyOptions, Expression, Operator, Scalar, ScalarFnRef};
 use vx_types::{DType, FieldName, Nullability, PType, StructFields, VortexResult};
 
 /// A family of trees, with one of each size `n`.
@@ -91,12 +91,11 @@ fn bound_of_field(
         Operator::Lt
     };
     trees.field(alloc, numbered(alloc, field)?)?;
-    trees.number(alloc, small(round).saturating_mul(10))?;
-    trees.binary(alloc, operator)
+    trees.with_number(alloc, operator, small(round).saturating_mul(10))
 }
 
 fn deep(alloc: Global, size: usize, trees: &mut Trees) -> VortexResult<()> {
-    trees.field(alloc, FieldName::new(alloc, "b")?)?;
+    trees.named(alloc, "b")?;
     for _ in 0..size {
         trees.call(alloc, ScalarFnRef::Not(EmptyOptions))?;
     }
@@ -136,12 +135,8 @@ fn cases(alloc: Global, size: usize, trees: &mut Trees) -> VortexResult<()> {
         trees.number(alloc, small(i))?;
     }
     trees.number(alloc, small(size))?;
-    let case = CaseWhenOptions {
-        num_when_then_pairs: 1,
-        has_else: true,
-    };
     for _ in 0..size {
-        trees.call(alloc, ScalarFnRef::CaseWhen(case))?;
+        trees.case(alloc, 1)?;
     }
     Ok(())
 }

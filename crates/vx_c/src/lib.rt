@@ -12,6 +12,7 @@ mod fields;
 mod pass;
 mod passes;
 mod query;
+mod query_trees;
 mod scans;
 mod subject;
 mod trees;

@@ -1,10 +1,8 @@
-// The queries that are timed.
-use crate::batch;
-use crate::fields::{names, numbered, numbered_names};
-use crate::trees::Trees;
+// The queries that are timed, and their rows.
+use crate::batch::Keys;
+use crate::{batch, fields};
 use std::alloc::Global;
-use vx_tree::{CaseWhenOptions, Expression, LikeOptions, Operator, Scalar, ScalarFnRef};
-use vx_types::{Column, FieldName, VortexResult};
+use vx_types::{Column, VortexResult};
 
 /// A query that is timed.
 #[derive(Clone, Copy, Debug, PartialEq, Eq)]
@@ -19,6 +17,24 @@ pub enum Query {
     Item,
     /// `(($.f7 >= 10i32) and ($.f42 <= 500000i32))`, over a hundred fields.
     Wide,
+    /// `CASE WHEN ($.k = 0i32) THEN $.x WHEN ($.k = 1i32) THEN $.y ELSE ($.z + 1i32) END`, over rows
+    /// with such keys.
+    CaseWithSum(Keys),
+    /// The same with `ELSE $.z END`.
+    CaseOfFields(Keys),
+    /// `zip($.x, $.y, ($.z >= 400000i32))`.
+    Zip,
+    /// `vortex.fill_null($.x, 5i32)`.
+    FillNull,
+    /// `($.x + $.y)`.
+    Sum,
+    /// `vortex.is_null($.x)`.
+    IsNull,
+    /// `(($.f0 >= -50000i32) and ($.f0 <= 850000i32))`, joined by And with the same of `f1`, `f2` and
+    /// `f3`.
+    FourRanges,
+    /// `pack(a: $.x, b: $.y, c: $.z)`.
+    Pack,
 }
 
 impl Query {
@@ -30,6 +46,16 @@ impl Query {
             2 => Some(Query::Like),
             3 => Some(Query::Item),
             4 => Some(Query::Wide),
+            5 => Some(Query::CaseWithSum(Keys::InRuns)),
+            6 => Some(Query::CaseWithSum(Keys::Scattered)),
+            7 => Some(Query::CaseOfFields(Keys::InRuns)),
+            8 => Some(Query::CaseOfFields(Keys::Scattered)),
+            9 => Some(Query::Zip),
+            10 => Some(Query::FillNull),
+            11 => Some(Query::Sum),
+            12 => Some(Query::IsNull),
+            13 => Some(Query::FourRanges),
+            14 => Some(Query::Pack),
             _ => None,
         }
     }
@@ -37,75 +63,27 @@ impl Query {
     /// The rows that the query is evaluated over.
     pub fn batch(self, alloc: Global, rows: usize) -> VortexResult<Column> {
         match self {
-            Query::Range | Query::Case => batch::numbers(alloc, names(alloc, &["x"])?, rows),
+            Query::Range | Query::Case | Query::FillNull | Query::IsNull => {
+                named(alloc, &["x"], rows)
+            }
+            Query::Sum => named(alloc, &["x", "y"], rows),
+            Query::Item | Query::Zip | Query::Pack => named(alloc, &["x", "y", "z"], rows),
+            Query::FourRanges => numbered(alloc, 4, rows),
+            Query::Wide => numbered(alloc, 100, rows),
+            Query::CaseWithSum(keys) | Query::CaseOfFields(keys) => {
+                batch::keyed(alloc, keys, rows)
+            }
             Query::Like => batch::texts(alloc, rows),
-            Query::Item => batch::numbers(alloc, names(alloc, &["x", "y", "z"])?, rows),
-            Query::Wide => batch::numbers(alloc, numbered_names(alloc, 100)?, rows),
-        }
-    }
-
-    /// The query as a tree.
-    pub fn tree(self, alloc: Global) -> VortexResult<Box<Expression>> {
-        let mut trees = Trees::new(alloc);
-        self.make(alloc, &mut trees)?;
-        trees.last(alloc)
-    }
-
-    // Makes the query's tree.
-    fn make(self, alloc: Global, trees: &mut Trees) -> VortexResult<()> {
-        match self {
-            Query::Range => range(alloc, trees),
-            Query::Case => case(alloc, trees),
-            Query::Like => liked(alloc, trees),
-            Query::Item => item(alloc, trees),
-            Query::Wide => wide(alloc, trees),
         }
     }
 }
 
-fn range(alloc: Global, trees: &mut Trees) -> VortexResult<()> {
-    trees.compared(alloc, Operator::Gte, 10)?;
-    trees.compared(alloc, Operator::Lte, 500_000)?;
-    trees.binary(alloc, Operator::And)
+// So many rows of numbers by these names.
+fn named(alloc: Global, texts: &[&str], rows: usize) -> VortexResult<Column> {
+    batch::numbers(alloc, fields::names(alloc, texts)?, rows)
 }
 
-fn case(alloc: Global, trees: &mut Trees) -> VortexResult<()> {
-    trees.compared(alloc, Operator::Gt, 0)?;
-    trees.number(alloc, 10)?;
-    trees.compared(alloc, Operator::Gt, 3)?;
-    trees.number(alloc, 20)?;
-    trees.number(alloc, 30)?;
-    let options = CaseWhenOptions {
-        num_when_then_pairs: 2,
-        has_else: true,
-    };
-    trees.call(alloc, ScalarFnRef::CaseWhen(options))
-}
-
-fn liked(alloc: Global, trees: &mut Trees) -> VortexResult<()> {
-    trees.field(alloc, FieldName::new(alloc, "s")?)?;
-    trees.literal(alloc, Scalar::utf8(alloc, "%b%d")?)?;
-    let options = LikeOptions {
-        negated: false,
-        case_insensitive: false,
-    };
-    trees.call(alloc, ScalarFnRef::Like(options))
-}
-
-fn item(alloc: Global, trees: &mut Trees) -> VortexResult<()> {
-    trees.x(alloc)?;
-    trees.field(alloc, FieldName::new(alloc, "y")?)?;
-    trees.field(alloc, FieldName::new(alloc, "z")?)?;
-    trees.pack(alloc, names(alloc, &["a", "b", "c"])?)?;
-    trees.item(alloc, FieldName::new(alloc, "b")?)
-}
-
-fn wide(alloc: Global, trees: &mut Trees) -> VortexResult<()> {
-    trees.field(alloc, numbered(alloc, 7)?)?;
-    trees.number(alloc, 10)?;
-    trees.binary(alloc, Operator::Gte)?;
-    trees.field(alloc, numbered(alloc, 42)?)?;
-    trees.number(alloc, 500_000)?;
-    trees.binary(alloc, Operator::Lte)?;
-    trees.binary(alloc, Operator::And)
+// So many rows of numbers by the names `f0`, `f1`, ..
+fn numbered(alloc: Global, count: usize, rows: usize) -> VortexResult<Column> {
+    batch::numbers(alloc, fields::numbered_names(alloc, count)?, rows)
 }

@@ -2,7 +2,8 @@
 use std::alloc::Global;
 use vx_build::and_collect;
 use vx_tree::{
-    Expression, FieldName, Operator, PackOptions, Scalar, ScalarFnRef, VortexError, VortexResult,
+    CaseWhenOptions, Expression, FieldName, Operator, PackOptions, Scalar, ScalarFnRef,
+    VortexError, VortexResult,
 };
 use vx_types::{FieldNames, Nullability};
 
@@ -41,9 +42,14 @@ impl Trees {
         self.call(alloc, ScalarFnRef::GetItem(name))
     }
 
+    /// The scope's field whose name is that text.
+    pub fn named(&mut self, alloc: Global, text: &str) -> VortexResult<()> {
+        self.field(alloc, FieldName::new(alloc, text)?)
+    }
+
     /// The scope's field `x`.
     pub fn x(&mut self, alloc: Global) -> VortexResult<()> {
-        self.field(alloc, FieldName::new(alloc, "x")?)
+        self.named(alloc, "x")
     }
 
     /// The scalar, whatever the row.
@@ -61,11 +67,25 @@ impl Trees {
         self.call(alloc, ScalarFnRef::Binary(operator))
     }
 
+    /// The operator between the last tree and the number.
+    pub fn with_number(&mut self, alloc: Global, operator: Operator, n: i32) -> VortexResult<()> {
+        self.number(alloc, n)?;
+        self.binary(alloc, operator)
+    }
+
     /// `$.x` compared with the number.
     pub fn compared(&mut self, alloc: Global, operator: Operator, n: i32) -> VortexResult<()> {
         self.x(alloc)?;
-        self.number(alloc, n)?;
-        self.binary(alloc, operator)
+        self.with_number(alloc, operator, n)
+    }
+
+    /// The CASE of the last trees: so many conditions, each before its value, and ELSE.
+    pub fn case(&mut self, alloc: Global, num_when_then_pairs: u32) -> VortexResult<()> {
+        let options = CaseWhenOptions {
+            num_when_then_pairs,
+            has_else: true,
+        };
+        self.call(alloc, ScalarFnRef::CaseWhen(options))
     }
 
     /// The struct of the last trees, by these names.

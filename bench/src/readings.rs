@@ -1,0 +1,42 @@
+//! What an evaluation takes, read off runs that differ only in how often they evaluate.
+use crate::batch::Digest;
+use crate::clock::milliseconds;
+use crate::memory;
+use std::hint::black_box;
+
+/// Readings for a median, and fewer of them for a table that takes long.
+pub const READINGS: usize = 5;
+pub const FEW_READINGS: usize = 3;
+
+/// The rows that the evaluations of a reading go over together, and the fewest evaluations.
+const ROWS: usize = 10_000_000;
+const FEWEST: usize = 5;
+
+/// The medians of so many readings of two sides, each of the one followed by one of the other.
+pub fn medians(readings: usize, one: impl Fn() -> f64, other: impl Fn() -> f64) -> (f64, f64) {
+    let (one, other) = (0..readings).map(|_| (one(), other())).unzip();
+    (median(one), median(other))
+}
+
+fn median(mut readings: Vec<f64>) -> f64 {
+    readings.sort_by(f64::total_cmp);
+    readings[readings.len() / 2]
+}
+
+/// The milliseconds of one evaluation over so many rows, by a run with many and one with a single one.
+pub fn reading(rows: usize, call: impl Fn(u32) -> Digest) -> f64 {
+    let evaluations = evaluations(rows);
+    let one = milliseconds(|| call(1));
+    let more = milliseconds(|| call(1 + evaluations));
+    (more - one) / f64::from(evaluations)
+}
+
+fn evaluations(rows: usize) -> u32 {
+    (ROWS / rows.max(1)).max(FEWEST) as u32
+}
+
+/// The bytes at the peak of one evaluation, beyond those of its batch.
+pub fn bytes(call: impl Fn(u32) -> Digest) -> usize {
+    let peak = |repeats| memory::peak(|| _ = black_box(call(repeats)));
+    peak(1) - peak(0)
+}
