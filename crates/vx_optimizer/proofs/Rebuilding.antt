@@ -1,5 +1,5 @@
 -- Steps of children, taken below the node over them.
-use Rattle.std.proofs.Common.{◌≡◌, ◌⊎◌, inl, inr, ℕ, suc, refl, subst}
+use Rattle.std.proofs.Common.{◌≡◌, ℕ, suc, refl, subst}
 use Rattle.std.specs.Prelude.{Some, Result, Ok, Err}
 use Rattle.std.specs.Result.{IsOkAnd}
 use Rattle.vx_dtype.specs.declared.error.VortexError.{VortexError}

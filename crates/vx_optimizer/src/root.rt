@@ -50,7 +50,7 @@ pub fn optimized_root<R: Rule>(
     }
 }
 
-// What [`optimize_root`] gives, in a box: a node is large, and this stands in a recursion's way.
+// What [`optimize_root`] gives, in a box and with no node in the caller's frame.
 #[inline(never)]
 pub(crate) fn root_form<R: Rule>(
     alloc: Global,
@@ -71,7 +71,7 @@ pub(crate) fn root_form<R: Rule>(
     Ok(Some(current))
 }
 
-// What the rules give at the root, in a box.
+// What the rules give at the root, the same way.
 #[inline(never)]
 fn one_step<R: Rule>(
     alloc: Global,

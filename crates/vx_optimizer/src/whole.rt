@@ -58,9 +58,8 @@ pub fn optimized<R: Rule>(
     }
 }
 
-// What [`optimize_with`] gives, in a box. A node is large, and a frame has a place for each that it
-// handles, so in this recursion nodes are handled by functions that it doesn't go through, and which
-// aren't inlined.
+// What [`optimize_with`] gives, in a box. A node is large, and a frame has a place for each that its
+// function handles: so what makes, copies or stores one isn't inlined into this recursion.
 #[cycle(optimizer)]
 fn normal_form<R: Rule>(
     alloc: Global,
