@@ -1,7 +1,11 @@
 -- How normal forms are put together.
 use Rattle.std.proofs.Common.{◌≡◌, ◌↔◌, ℕ, suc, refl, sym, subst, arith}
 use Rattle.std.specs.Prelude.{Option, Some, None, IfSome, IsNone, unwrap_or}
+use Rattle.std.specs.Option.{option_map}
+use Rattle.std.specs.Global.{Box}
+use Rattle.vx_tree.specs.declared.bound.BoundExpression.{BoundExpression}
 use Rattle.vx_tree.specs.Trees.{BoundTree, scope, node, WellTyped}
+use Rattle.vx_tree.specs.Views.{bound_of}
 use Rattle.vx_keep.specs.Lawful.{Lawful}
 use Rattle.vx_keep.specs.Steps.{here, Steps, no_step, one_more, RootSteps, no_root_step, one_more_at_root, GivesNothing, Normal, NormalBelow}
 use Rattle.vx_keep.proofs.Keeping.{keeps_refl}
@@ -27,6 +31,20 @@ root_itself {R = R} b u w n e =
 pub itself : {R : BoundTree → BoundTree → Type 0} (b u : BoundTree) → WellTyped b → Normal R b → u ≡ b → NormalForm R b u
 itself {R = R} b u w n e =
     subst (NormalForm R b) (sym e) record { count = 0; steps = no_step; lighter = omega arith; normal = n; keeps = keeps_refl b w }
+
+-- the tree in the box
+abbrev pub boxed : Box BoundExpression → BoundTree
+boxed u = bound_of u.value
+
+pub boxed-unwrap_or : (found : Option (Box BoundExpression)) (u : Box BoundExpression) → boxed (unwrap_or found u) ≡ unwrap_or (option_map boxed found) (boxed u)
+boxed-unwrap_or None u = refl
+boxed-unwrap_or (Some v) u = refl
+
+-- the form that was found, and the tree itself where it is normal
+pub form_or_itself : {R : BoundTree → BoundTree → Type 0} (b : BoundTree) (found : Option (Box BoundExpression)) → WellTyped b
+    → IfSome found (λ u. NormalForm R b (bound_of u.value)) → (IsNone found ↔ Normal R b) → NormalForm R b (unwrap_or (option_map boxed found) b)
+form_or_itself b None w h none = itself b b w (none.0 refl) refl
+form_or_itself b (Some u) w h none = h
 
 -- a tree is normal where no rule fits at its root and below it
 pub node_normal : (R : BoundTree → BoundTree → Type 0) (b : BoundTree) → GivesNothing R b → NormalBelow R b → Normal R b
@@ -60,14 +78,10 @@ module _ {R : BoundTree → BoundTree → Type 0} (law : Lawful R) where
   }
 
   -- the root, and then what lies below it
-  pub form_below : {X : Type 0} (view : X → BoundTree) (b : BoundTree) (current : X) (below : Option X) → WellTyped b → RootNormalForm R b (view current)
-      → IfSome below (λ u. NormalForm R (view current) (view u)) → (IsNone below ↔ Normal R (view current)) → NormalForm R b (view (unwrap_or below current))
-  form_below view b current None w root h none = whole_form (steps-root_steps root.steps) w (none.0 refl)
-  form_below view b current (Some u) w root h none = whole_form (steps_then (steps-root_steps root.steps) h.steps).1 w h.normal
+  pub form_below : {b u v : BoundTree} → WellTyped b → RootNormalForm R b u → NormalForm R u v → NormalForm R b v
+  form_below w root h = whole_form (steps_then (steps-root_steps root.steps) h.steps).1 w h.normal
 
   -- the node made anew, and then its root again
-  pub form_again : {X : Type 0} (view : X → BoundTree) (b : BoundTree) (made : X) (again : Option X) → WellTyped b → Rebuilt R b (view made)
-      → IfSome again (λ u. RootNormalForm R (view made) (view u)) → (IsNone again ↔ GivesNothing R (view made)) → NormalForm R b (view (unwrap_or again made))
-  form_again view b made None w k h none = whole_form k.steps w (node_normal R (view made) (none.0 refl) k.below)
-  form_again view b made (Some u) w k h none =
-      whole_form (steps_then k.steps (steps-root_steps h.steps)).1 w (node_normal R (view u) h.normal (root_steps_below h.steps k.typed k.below))
+  pub form_again : {b v u : BoundTree} → WellTyped b → Rebuilt R b v → RootNormalForm R v u → NormalForm R b u
+  form_again {u = u} w k h =
+      whole_form (steps_then k.steps (steps-root_steps h.steps)).1 w (node_normal R u h.normal (root_steps_below h.steps k.typed k.below))

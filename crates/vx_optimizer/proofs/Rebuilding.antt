@@ -1,6 +1,7 @@
 -- Steps of children, taken below the node over them.
-use Rattle.std.proofs.Common.{◌≡◌, ◌⊎◌, inl, inr, ℕ, suc, refl, subst}
-use Rattle.std.specs.Prelude.{Some, Ok, Err}
+use Rattle.std.proofs.Common.{◌≡◌, ℕ, suc, refl, subst}
+use Rattle.std.specs.Prelude.{Some, Result, Ok, Err}
+use Rattle.std.specs.Result.{IsOkAnd}
 use Rattle.vx_dtype.specs.declared.error.VortexError.{VortexError}
 use Rattle.vx_types.specs.Types.{LogicalType}
 use Rattle.vx_fn.specs.Functions.{Function, fn_type}
@@ -51,6 +52,14 @@ module _ {R : BoundTree → BoundTree → Type 0} where
 same_type : (f : Function) (bs : BoundTrees) {t t' : LogicalType} → fn_type f (node_types bs) ≡ Ok t → fn_type f (node_types bs) ≡ Ok t' → t ≡ t'
 same_type f bs e d = cc
 
+-- where a typed node can be made, it is what was made
+pub same_made : {made : Result BoundTree VortexError} {u v : BoundTree} → made ≡ Ok u → made ≡ Ok v → u ≡ v
+same_made is also = cc
+
+pub typed_made : (made : Result BoundTree VortexError) (v : BoundTree) → IsOkAnd made WellTyped → made ≡ Ok v → WellTyped v
+typed_made (Ok u) v w is = subst WellTyped (same_made refl is) w
+typed_made (Err e) v w is = absurd w
+
 -- the node v was reached from b, and no rule fits below its root
 pub record Rebuilt (R : BoundTree → BoundTree → Type 0) (b v : BoundTree) : Type 0 where
   pub typed : WellTyped v
@@ -77,18 +86,3 @@ module _ {R : BoundTree → BoundTree → Type 0} (law : Lawful R) where
       let all : Rebuilt R (node t g bs) (node again.0 g us) = record { typed = again.2.typed_after; count = reached.0; steps = reached.1; below = each_normal h } in
       let same : g ≡ f = cc in
       subst (λ x. (v : BoundTree) × (node_over x us ≡ Ok v) × Rebuilt R (node t g bs) v) same (node again.0 g us, rw again.1 refl, all)
-
-  -- what was made of the normal forms is that
-  pub rebuilt : (b v : BoundTree) (f : Function) (us : BoundTrees) → function_at (unbound b) ≡ Some f → WellTyped b → NormalForms R (bound_children_of b) us → node_over f us ≡ Ok v → Rebuilt R b v
-  rebuilt b v f us is w h made =
-      let again = node_again b f us is w h in
-      let same : again.0 ≡ v = cc in
-      subst (Rebuilt R b) same again.2
-
-  -- and nothing but memory can be refused
-  pub memory_alone : (b : BoundTree) (f : Function) (us : BoundTrees) (e out : VortexError) → function_at (unbound b) ≡ Some f → WellTyped b → NormalForms R (bound_children_of b) us → (e ≡ out) ⊎ (node_over f us ≡ Err e) → e ≡ out
-  memory_alone b f us e out is w h (inl same) = same
-  memory_alone b f us e out is w h (inr refused) =
-      let again = node_again b f us is w h in
-      let q = again.1 in
-      cc

@@ -1,13 +1,18 @@
 // The rules at every node of a tree, until none fits at any.
-ghost use Rattle.std.specs.Prelude.{◌≡◌, ◌↔◌, ◌≤◌, length, map, take, IfOk, IfErr, IfSome, IsNone, MatchOption};
+ghost use Rattle.std.specs.Prelude.{◌≡◌, ◌↔◌, ◌<◌, [], ◌∷◌, ◌++◌, length, map, take, IfOk, IfErr, IfSome, IsNone, MatchOption, unwrap_or};
+ghost use Rattle.std.specs.Option.{option_map};
+ghost use Rattle.std.specs.Result.{ForOk, IsOkAnd};
 ghost use Rattle.vx_dtype.specs.declared.error.VortexError.TheVariants.{OutOfMemory};
+ghost use Rattle.vx_fn.specs.Views.{function_of};
+ghost use Rattle.vx_tree.specs.Binding.{node_over};
 ghost use Rattle.vx_tree.specs.Trees.{WellTyped, EachWellTyped};
 ghost use Rattle.vx_tree.specs.Views.{bound_of, bounds_of};
 ghost use Rattle.vx_keep.specs.Steps.{GivesNothing, Normal, EachNormal};
-ghost use Rattle.vx_optimizer.specs.NormalForms.{NormalForm, SomeNormalForms, NormalFormsBehind};
+ghost use Rattle.vx_optimizer.specs.NormalForms.{NormalForm, RootNormalForm, SomeNormalForms, NormalFormsBehind};
 
-use crate::root::optimize_root;
+use crate::root::root_form;
 use std::alloc::{AllocError, Global};
+use vx_fn::ScalarFnRef;
 use vx_keep::Rule;
 use vx_tree::{BoundExpression, VortexResult};
 
@@ -17,7 +22,6 @@ use vx_tree::{BoundExpression, VortexResult};
 ///
 /// Takes no memory but what the rules take where none fits; else a node is made anew only where a
 /// child of it changed. Refuses with `OutOfMemory` (1) alone, however many steps there are.
-#[cycle(optimizer)]
 pub fn optimize_with<R: Rule>(
     alloc: Global,
     rules: &R,
@@ -28,18 +32,16 @@ pub fn optimize_with<R: Rule>(
     ensures none { IfOk result (λ o. IsNone o ↔ Normal (R.gives rules.now) (bound_of tree.now)) }
     ensures memory { IfErr result (λ e. e ≡ OutOfMemory) }
 {
-    let Some(current) = optimize_root(alloc, rules, tree)? else {
-        return optimize_below(alloc, rules, tree);
-    };
-    let below = optimize_below(alloc, rules, &current)?;
-    Ok(Some(below.unwrap_or(current)))
+    match normal_form(alloc, rules, tree)? {
+        Some(form) => Ok(Some(Box::into_inner(form))),
+        None => Ok(None),
+    }
 }
 
 /// A normal form of the tree, as [`optimize_with`] gives it, the tree itself where no rule fits at any
 /// node. Asks a well-typed tree.
 ///
 /// Refuses with `OutOfMemory` (1) alone.
-#[cycle(optimizer)]
 pub fn optimized<R: Rule>(
     alloc: Global,
     rules: &R,
@@ -56,16 +58,52 @@ pub fn optimized<R: Rule>(
     }
 }
 
+// What [`optimize_with`] gives, in a box. A node is large, and a frame has a place for each that its
+// function handles: so what makes, copies or stores one isn't inlined into this recursion.
+#[cycle(optimizer)]
+fn normal_form<R: Rule>(
+    alloc: Global,
+    rules: &R,
+    tree: &BoundExpression,
+) -> VortexResult<Option<Box<BoundExpression>>>
+    requires { WellTyped (bound_of tree.now) }
+    ensures form { IfOk result (λ o. IfSome o (λ u. NormalForm (R.gives rules.now) (bound_of tree.now) (bound_of u.value))) }
+    ensures none { IfOk result (λ o. IsNone o ↔ Normal (R.gives rules.now) (bound_of tree.now)) }
+    ensures memory { IfErr result (λ e. e ≡ OutOfMemory) }
+{
+    let Some(current) = root_form(alloc, rules, tree)? else {
+        return optimize_below(alloc, rules, tree);
+    };
+    Ok(Some(optimize_current(alloc, rules, current)?))
+}
+
+// A normal form of a tree that the rules left at its root.
+#[cycle(optimizer)]
+#[inline(never)]
+fn optimize_current<R: Rule>(
+    alloc: Global,
+    rules: &R,
+    current: Box<BoundExpression>,
+) -> VortexResult<Box<BoundExpression>>
+    requires typed { WellTyped (bound_of current.value) }
+    requires at_root { GivesNothing (R.gives rules.now) (bound_of current.value) }
+    ensures form { IfOk result (λ u. NormalForm (R.gives rules.now) (bound_of current.value) (bound_of u.value)) }
+    ensures memory { IfErr result (λ e. e ≡ OutOfMemory) }
+{
+    let below = optimize_below(alloc, rules, &current)?;
+    Ok(below.unwrap_or(current))
+}
+
 // The same for a tree at whose root no rule fits.
 #[cycle(optimizer)]
 fn optimize_below<R: Rule>(
     alloc: Global,
     rules: &R,
     tree: &BoundExpression,
-) -> VortexResult<Option<BoundExpression>>
+) -> VortexResult<Option<Box<BoundExpression>>>
     requires typed { WellTyped (bound_of tree.now) }
     requires at_root { GivesNothing (R.gives rules.now) (bound_of tree.now) }
-    ensures form { IfOk result (λ o. IfSome o (λ u. NormalForm (R.gives rules.now) (bound_of tree.now) (bound_of u))) }
+    ensures form { IfOk result (λ o. IfSome o (λ u. NormalForm (R.gives rules.now) (bound_of tree.now) (bound_of u.value))) }
     ensures none { IfOk result (λ o. IsNone o ↔ Normal (R.gives rules.now) (bound_of tree.now)) }
     ensures memory { IfErr result (λ e. e ≡ OutOfMemory) }
 {
@@ -75,9 +113,26 @@ fn optimize_below<R: Rule>(
     let Some(children) = optimize_children(alloc, rules, tree.children())? else {
         return Ok(None);
     };
-    let rebuilt = BoundExpression::try_new(alloc, function.clone()?, children)?;
-    let again = optimize_root(alloc, rules, &rebuilt)?;
-    Ok(Some(again.unwrap_or(rebuilt)))
+    Ok(Some(rebuilt(alloc, rules, function, children)?))
+}
+
+// The node of the function over the children, and then the rules at its root.
+#[inline(never)]
+fn rebuilt<R: Rule>(
+    alloc: Global,
+    rules: &R,
+    function: &ScalarFnRef,
+    children: Vec<BoundExpression>,
+) -> VortexResult<Box<BoundExpression>>
+    requires { IsOkAnd (node_over (function_of function.now) (bounds_of children.items)) WellTyped }
+    ensures form { IfOk result (λ u. ForOk (node_over (function_of function.now) (bounds_of children.items)) (λ b. RootNormalForm (R.gives rules.now) b (bound_of u.value))) }
+    ensures memory { IfErr result (λ e. e ≡ OutOfMemory) }
+{
+    let node = BoundExpression::try_new(alloc, function.clone()?, children)?;
+    match root_form(alloc, rules, &node)? {
+        Some(again) => Ok(again),
+        None => Ok(Box::new(alloc, node)?),
+    }
 }
 
 // A normal form of each child; None where no rule fits in any. Nothing is kept of those before the
@@ -93,9 +148,8 @@ fn optimize_children<R: Rule>(
     ensures memory { IfErr result (λ e. e ≡ OutOfMemory) }
 {
     for (i, child) in children.iter().enumerate() {
-        if let Some(form) = optimize_with(alloc, rules, child)? {
-            let mut forms = first_children(alloc, children, i)?;
-            forms.push(form)?;
+        if let Some(form) = normal_form(alloc, rules, child)? {
+            let forms = first_forms(alloc, children, i, form)?;
             return Ok(Some(optimize_rest(alloc, rules, forms, &children[i + 1..])?));
         }
     }
@@ -115,23 +169,44 @@ fn optimize_rest<R: Rule>(
     ensures memory { IfErr result (λ e. e ≡ OutOfMemory) }
 {
     for child in rest {
-        forms.push(optimized(alloc, rules, child)?)?;
+        let form = normal_form(alloc, rules, child)?;
+        push_form(&mut forms, child, form)?;
     }
     Ok(forms)
 }
 
-// So many of the children from the left, in a list with room for all.
-fn first_children(
+// So many of the children from the left, and the form of the next, in a list with room for all.
+#[inline(never)]
+fn first_forms(
     alloc: Global,
     children: &[BoundExpression],
     count: usize,
+    form: Box<BoundExpression>,
 ) -> Result<Vec<BoundExpression>, AllocError>
-    requires { count ≤ length children.now }
-    ensures { IfOk result (λ v. map bound_of v.items ≡ map bound_of (take count children.now)) }
+    requires { count < length children.now }
+    ensures { IfOk result (λ v. map bound_of v.items ≡ map bound_of (take count children.now) ++ bound_of form.value ∷ []) }
 {
     let mut first = Vec::with_capacity(alloc, children.len())?;
     for child in &children[..count] {
         first.push(child.clone()?)?;
     }
+    first.push(Box::into_inner(form))?;
     Ok(first)
+}
+
+// The form of the child behind the others, the child itself where it has no other.
+#[inline(never)]
+fn push_form(
+    forms: &mut Vec<BoundExpression>,
+    child: &BoundExpression,
+    form: Option<Box<BoundExpression>>,
+) -> Result<(), AllocError>
+    ensures { IfOk result (λ _. map bound_of forms.new.items ≡ map bound_of forms.old.items ++ unwrap_or (option_map (λ u. bound_of u.value) form) (bound_of child.now) ∷ []) }
+{
+    let form = match form {
+        Some(form) => Box::into_inner(form),
+        None => child.clone()?,
+    };
+    forms.push(form)?;
+    Ok(())
 }

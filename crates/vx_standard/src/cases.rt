@@ -22,6 +22,7 @@ struct NullTest<'a> {
 }
 
 // A CASE of one pair and an ELSE that replaces the null of a tree by a literal.
+#[inline(never)]
 pub(crate) fn coalesce(
     alloc: Global,
     options: CaseWhenOptions,
@@ -90,6 +91,7 @@ fn coalesce_by(
 }
 
 // The tree, if its null is replaced by a null; else a fill by the literal, if the tree's type has one.
+#[inline(never)]
 fn replaced_null(
     alloc: Global,
     input: &BoundExpression,

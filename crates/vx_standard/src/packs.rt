@@ -18,6 +18,7 @@ use vx_tree::{BoundExpression, VortexResult};
 use vx_types::{DType, FieldName, FieldNames, Nullability, Scalar, StructFields};
 
 // A field of a pack is the first child of its name, under a mask where the pack is nullable.
+#[inline(never)]
 pub(crate) fn item_of_pack(
     alloc: Global,
     name: &FieldName,
@@ -43,6 +44,7 @@ pub(crate) fn item_of_pack(
 }
 
 // The tree under a mask that is true in every row.
+#[inline(never)]
 fn masked(alloc: Global, input: &BoundExpression) -> VortexResult<BoundExpression>
     ensures { Answers bound_of result (Ok (mask_node (bound_of input.now))) }
 {
@@ -62,6 +64,7 @@ fn masked(alloc: Global, input: &BoundExpression) -> VortexResult<BoundExpressio
 }
 
 // A selection, whose type has the fields that it keeps.
+#[inline(never)]
 pub(crate) fn selection(
     alloc: Global,
     dtype: &DType,
@@ -80,6 +83,7 @@ pub(crate) fn selection(
 }
 
 // No field of what is never null, or of a pack, is an empty pack.
+#[inline(never)]
 fn none_of(
     alloc: Global,
     dtype: &DType,
@@ -104,6 +108,7 @@ fn none_of(
 
 // Some fields of a pack are the pack of the first children of their names, if a null of it leaves each
 // of them null.
+#[inline(never)]
 fn some_of(
     alloc: Global,
     dtype: &DType,

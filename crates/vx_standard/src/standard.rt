@@ -88,6 +88,7 @@ fn given_at(alloc: Global, node: &BoundExpression) -> VortexResult<Option<BoundE
 }
 
 // A fill of what is never null is its input.
+#[inline(never)]
 fn fill_of_not_null(input: &BoundExpression) -> VortexResult<Option<BoundExpression>>
     ensures { Answers (option_map bound_of) result (Ok (fill_given (bound_of input.now))) }
 {

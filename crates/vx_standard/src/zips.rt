@@ -12,6 +12,7 @@ use vx_tree::{BoundExpression, VortexResult};
 use vx_types::{DType, Value};
 
 // A choice by a literal that isn't null is the chosen branch.
+#[inline(never)]
 pub(crate) fn zip_by_literal(
     alloc: Global,
     dtype: &DType,

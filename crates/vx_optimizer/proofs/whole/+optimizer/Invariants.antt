@@ -15,11 +15,11 @@ invariant-optimize_rest-loop-child g l = record {
   left : Left (g.R.Rule.gives l.rules) so_far (bounds_of (drop l.child-index l.rest)) (bounds_of l.rest);
 }
 
-abbrev pub decreases-optimize_with : goal.decreases-optimize_with
-decreases-optimize_with g l = 5 * weight (bound_of l.tree.now) + 2
+abbrev pub decreases-normal_form : goal.decreases-normal_form
+decreases-normal_form g l = 5 * weight (bound_of l.tree.now) + 3
 
-abbrev pub decreases-optimized : goal.decreases-optimized
-decreases-optimized g l = 5 * weight (bound_of l.tree.now) + 3
+abbrev pub decreases-optimize_current : goal.decreases-optimize_current
+decreases-optimize_current g l = 5 * weight (bound_of l.current.value) + 2
 
 abbrev pub decreases-optimize_below : goal.decreases-optimize_below
 decreases-optimize_below g l = 5 * weight (bound_of l.tree.now) + 1

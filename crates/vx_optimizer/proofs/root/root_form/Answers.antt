@@ -1,7 +1,7 @@
 use Rattle.std.proofs.Common.{suc}
 use Rattle.vx_keep.specs.Steps.{no_root_step, one_more_at_root}
 use Rattle.vx_optimizer.proofs.Forms.{root_steps_then, root_form}
-use Rattle.vx_optimizer.proofs.root.optimize_root.Goals as goal
+use Rattle.vx_optimizer.proofs.root.root_form.Goals as goal
 
 pub loop-current-init : goal.loop-current-init
 loop-current-init g c =
@@ -17,7 +17,7 @@ loop-current-init g c =
 pub loop-current-preserved : goal.loop-current-preserved
 loop-current-preserved g c =
     let law = g.met.R.Rule.lawful c.args.rules.now in
-    let given = rw c.in-Some-2.is at c.in_ok-lighter.ensures.gives in
+    let given = rw (c.in-Some-2.is, c.deref.ensures) at c.in_ok-lighter.ensures.gives in
     let before = c.loop-current.invariant in
     record {
       count = suc before.count;
@@ -29,4 +29,4 @@ loop-current-preserved g c =
 pub returns-clause-form : goal.returns-clause-form
 returns-clause-form g c =
     let law = g.met.R.Rule.lawful c.args.rules.now in
-    root_form law c.loop-current.invariant.steps c.requires (rw c.in_default-2.is at c.in_ok-lighter.ensures.gives)
+    root_form law c.loop-current.invariant.steps c.requires (rw (c.in_default-2.is, c.deref.ensures) at c.in_ok-lighter.ensures.gives)
