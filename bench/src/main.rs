@@ -3,6 +3,7 @@ mod batch;
 mod by_hand;
 mod clock;
 mod comparison;
+mod depths;
 mod growth;
 mod library;
 mod memory;
@@ -12,9 +13,14 @@ mod readings;
 mod scans;
 
 fn main() {
+    let mut words = std::env::args().skip(1);
+    let word = words.next();
+    if word.as_deref() == Some("one") {
+        return depths::one(words);
+    }
     println!("{}", machine());
     println!();
-    match std::env::args().nth(1).as_deref() {
+    match word.as_deref() {
         None => {
             queries_and_scan(1_000_000);
             println!();
@@ -22,7 +28,11 @@ fn main() {
         }
         Some("passes") => passes::tables(),
         Some("growth") => growth::table(),
-        Some(rows) => queries_and_scan(rows.parse().expect("a number of rows, passes or growth")),
+        Some("depths") => depths::table(),
+        Some(rows) => queries_and_scan(
+            rows.parse()
+                .expect("a number of rows, passes, growth or depths"),
+        ),
     }
 }
 

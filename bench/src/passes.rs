@@ -29,7 +29,7 @@ const FAMILIES: [(&str, u8); 5] = [
 const SHARED: u8 = 4;
 
 /// The passes, in the order of their numbers in the library.
-const PASSES: [&str; 8] = [
+pub const PASSES: [&str; 8] = [
     "bind",
     "display",
     "optimize_recursive",
@@ -101,6 +101,11 @@ pub fn tables() {
             cost.bytes_a_node()
         );
     }
+}
+
+/// One run of the pass over the family's tree of that size.
+pub fn once(family: u8, size: usize, pass: u8) {
+    Run { family, size, pass }.through_library(1);
 }
 
 /// The pass's costs at the sizes, none where it is left out.
