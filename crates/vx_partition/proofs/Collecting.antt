@@ -15,10 +15,10 @@ has_some-append : {X : Type 0} (xs ys : List X) → has_some (xs ++ ys) ≡ (has
 has_some-append [] ys = refl
 has_some-append (x ∷ xs) ys = refl
 
-bounds_next : (es : List BoundExpression) (i : ℕ) (e : BoundExpression) → i < length es → e ≡ get_or es i e → bounds_of (drop i es) ≡ bound (bound_of e) (bounds_of (drop (i + 1) es))
+pub bounds_next : (es : List BoundExpression) (i : ℕ) (e : BoundExpression) → i < length es → e ≡ get_or es i e → bounds_of (drop i es) ≡ bound (bound_of e) (bounds_of (drop (i + 1) es))
 bounds_next es i e h is = rw (add-one, drop-cons es i e h, ← is) refl
 
-bounds_end : (es : List BoundExpression) (i : ℕ) → length es ≤ i → bounds_of (drop i es) ≡ no_bound
+pub bounds_end : (es : List BoundExpression) (i : ℕ) → length es ≤ i → bounds_of (drop i es) ≡ no_bound
 bounds_end es i h = rw (drop_of_length-le es h) refl
 
 take-front : {X : Type 0} (xs ys : List X) → take (length xs) (xs ++ ys) ≡ xs

@@ -6,6 +6,7 @@ pub mod Growing
 pub mod Grouping
 pub mod Holed
 pub mod Mapped
+pub mod Meeting
 pub mod Naming
 pub mod Packs
 pub mod Rebindings

@@ -27,7 +27,7 @@ use Rattle.vx_partition.specs.Filling.{filled}
 use Rattle.vx_partition.specs.Only.{only_annotation, only_item, only_key}
 use Rattle.vx_partition.specs.Packing.{all_holes, all_names}
 use Rattle.vx_partition.specs.Partitioned.{first_taken, free_names}
-use Rattle.vx_partition.specs.Splitting.{IsSplitBy}
+use Rattle.vx_partition.specs.Splitting.{IsSplitBy, IsSplitByPieces}
 use Rattle.vx_partition.proofs.FreeNames.{free_differ, unless_none}
 use Rattle.vx_partition.proofs.Grouping.{seen, count_seen}
 use Rattle.vx_partition.proofs.Holed.{tree_filled}
@@ -109,11 +109,11 @@ module _ {A S Z : Type 0} (m : HashMap ExactBoundExpr (HashSet A S) Z) where
 
 -- ---- the split
 
-module _ {A S Z : Type 0} (eq : A → A → Bool) (laws : IsEquivalence eq) (splits : SplitsRecombine eq) (text name : A → List ℕ) (same_text : IsShared eq text) (same_names : IsShared eq name)
-    (m : HashMap ExactBoundExpr (HashSet A S) Z) (b : BoundTree) (gs : List (Group A)) (same : SameGroups eq gs (groups eq (only_annotation m) b)) where
+module _ {A : Type 0} (eq : A → A → Bool) (laws : IsEquivalence eq) (splits : SplitsRecombine eq) (text name : A → List ℕ) (same_text : IsShared eq text) (same_names : IsShared eq name)
+    (only : BoundTree → Option A) (b : BoundTree) (gs : List (Group A)) (same : SameGroups eq gs (groups eq only b)) where
   module _ (names : List Name) (given : free_names (partition_names name gs) ≡ Ok names) where
     abbrev all : List (Group A)
-    all = groups eq (only_annotation m) b
+    all = groups eq only b
 
     known : (first_taken [] (partition_names name gs) ≡ None) × (names ≡ partition_names name gs)
     known = unless_none (first_taken [] (partition_names name gs)) (partition_names name gs) names given
@@ -124,10 +124,9 @@ module _ {A S Z : Type 0} (eq : A → A → Bool) (laws : IsEquivalence eq) (spl
     differ : Distinct (partition_names name all)
     differ = free_differ [] (partition_names name all) (ap (first_taken []) (sym (names_alike eq name same_names gs all same)) ∙ known.0)
 
-    pub filled_so : AllShort gs → (marks rest : List Mark) (u : BoundTree) → marks ≡ marks_of eq (only_annotation m) [] b
-        → filled (all_holes (scope (struct_type names (partitions text gs))) names (all_names text gs) (partitions text gs)) b marks ≡ (u, rest) → u ≡ recombination eq text name (only_annotation m) b
+    pub filled_so : AllShort gs → (marks rest : List Mark) (u : BoundTree) → marks ≡ marks_of eq only [] b
+        → filled (all_holes (scope (struct_type names (partitions text gs))) names (all_names text gs) (partitions text gs)) b marks ≡ (u, rest) → u ≡ recombination eq text name only b
     filled_so short marks rest u is made =
-        let only = only_annotation m in
         let xs = pieces only b in
         let holes_same : all_holes (scope (struct_type names (partitions text gs))) names (all_names text gs) (partitions text gs) ≡ group_holes text name (partitioned_type text name all) all =
         rw (named, partitions_alike eq text same_text gs all same, own_names_alike eq text same_text gs all same) refl in
@@ -136,10 +135,9 @@ module _ {A S Z : Type 0} (eq : A → A → Bool) (laws : IsEquivalence eq) (spl
         ap (λ r. r.0) (sym made ∙ ap (λ hs. filled hs b marks) holes_same
         ∙ ap (filled (group_holes text name (partitioned_type text name all) all) b) (is ∙ sym (append-nil (marks_of eq only [] b))) ∙ own)
 
-    pub split_so : WellTyped b → AllShort gs → (keys : List A) (parts : BoundTrees) (root : BoundTree) → keys ≡ map (λ g. g.0) gs → parts ≡ partitions text gs → root ≡ recombination eq text name (only_annotation m) b
-        → IsSplitBy eq text name m b names parts keys root
+    pub split_so : WellTyped b → AllShort gs → (keys : List A) (parts : BoundTrees) (root : BoundTree) → keys ≡ map (λ g. g.0) gs → parts ≡ partitions text gs → root ≡ recombination eq text name only b
+        → IsSplitByPieces eq text name only b names parts keys root
     split_so w short keys parts r keys_are parts_are root_is =
-        let only = only_annotation m in
         let split = splits text name same_text same_names only b w differ (short_alike eq gs all same short) in
         let parts_of : parts ≡ partitions text all = parts_are ∙ partitions_alike eq text same_text gs all same in
         record {
@@ -151,21 +149,41 @@ module _ {A S Z : Type 0} (eq : A → A → Bool) (laws : IsEquivalence eq) (spl
             partitions_typed = split.partitions_typed;
             root_typed = split.root_typed;
             same_type = split.same_type;
-            over_partitions = λ c. split.over_partitions (covered_pieces m b c);
-            recombines = λ c. split.recombines (covered_pieces m b c);
-            no_other_fault = λ c. split.no_other_fault (covered_pieces m b c);
+            over_partitions = λ c. split.over_partitions c;
+            recombines = λ c. split.recombines c;
+            no_other_fault = λ c. split.no_other_fault c;
           };
         }
 
     -- so is a call's answer that was put together from them
-    pub answered : {P : Type 0} (r : Result P VortexError) (names_of : P → List Name) (keys_of : P → List A) (parts_of : P → BoundTrees) (root_of : P → BoundTree) (marks : List Mark) → WellTyped b → AllShort gs → marks ≡ marks_of eq (only_annotation m) [] b
+    pub answered : {P : Type 0} (r : Result P VortexError) (names_of : P → List Name) (keys_of : P → List A) (parts_of : P → BoundTrees) (root_of : P → BoundTree) (marks : List Mark) → WellTyped b → AllShort gs → marks ≡ marks_of eq only [] b
         → IfOk r (λ p. names_of p ≡ names) → IfOk r (λ p. keys_of p ≡ map (λ g. g.0) gs) → IfOk r (λ p. parts_of p ≡ partitions text gs)
         → IfOk r (λ p. (rest : List Mark) × (filled (all_holes (scope (struct_type names (partitions text gs))) names (all_names text gs) (partitions text gs)) b marks ≡ (root_of p, rest)))
-        → IfOk r (λ p. IsSplitBy eq text name m b (names_of p) (parts_of p) (keys_of p) (root_of p))
+        → IfOk r (λ p. IsSplitByPieces eq text name only b (names_of p) (parts_of p) (keys_of p) (root_of p))
     answered (Ok p) names_of keys_of parts_of root_of marks w short is n k q h =
-        subst (λ ns. IsSplitBy eq text name m b ns (parts_of p) (keys_of p) (root_of p)) (sym n)
+        subst (λ ns. IsSplitByPieces eq text name only b ns (parts_of p) (keys_of p) (root_of p)) (sym n)
         (split_so w short (keys_of p) (parts_of p) (root_of p) k q (filled_so short marks h.0 (root_of p) is h.1))
     answered (Err y) names_of keys_of parts_of root_of marks w short is n k q h = tt
+
+-- a split by the pieces of a map is one by the map
+module _ {A S Z : Type 0} (eq : A → A → Bool) (text name : A → List ℕ) (m : HashMap ExactBoundExpr (HashSet A S) Z) (b : BoundTree) where
+  pub split_by_map : (names : List Name) (parts : BoundTrees) (keys : List A) (root : BoundTree) → IsSplitByPieces eq text name (only_annotation m) b names parts keys root → IsSplitBy eq text name m b names parts keys root
+  split_by_map names parts keys root s =
+      let p = s.partitioned in
+      record {
+        named = s.named;
+        packed = s.packed;
+        annotated = s.annotated;
+        holed = s.holed;
+        partitioned = record {
+          partitions_typed = p.partitions_typed;
+          root_typed = p.root_typed;
+          same_type = p.same_type;
+          over_partitions = λ c. p.over_partitions (covered_pieces m b c);
+          recombines = λ c. p.recombines (covered_pieces m b c);
+          no_other_fault = λ c. p.no_other_fault (covered_pieces m b c);
+        };
+      }
 
 -- as many partitions as groups, and as many lists of piece names
 pub parts_count : {A : Type 0} (text : A → List ℕ) (gs : List (Group A)) (ps : List BoundExpression) → bounds_of ps ≡ partitions text gs → length ps ≡ length gs

@@ -1,5 +1,5 @@
 -- What a tree that was split promises.
-use Rattle.std.specs.Prelude.{◌≡◌, ℕ, Bool, List, IsTrue, is_some, Result, Ok, Err, Vec}
+use Rattle.std.specs.Prelude.{◌≡◌, ℕ, Bool, List, IsTrue, Option, is_some, Result, Ok, Err, Vec}
 use Rattle.std.specs.declared.hash.BuildHasherDefault.{BuildHasherDefault}
 use Rattle.std.specs.declared.hash.FoldHasher.{FoldHasher}
 use Rattle.std.specs.Borrow.{Bor}
@@ -19,6 +19,7 @@ use Rattle.vx_recombine.specs.Holes.{recombination}
 use Rattle.vx_recombine.specs.Items.{struct_type}
 use Rattle.vx_recombine.specs.Partitions.{partitions, partition_names}
 use Rattle.vx_recombine.specs.Pieces.{pieces, annotations_of, groups}
+use Rattle.vx_recombine.specs.Pieces as by_pieces
 use Rattle.vx_recombine.specs.Recombining.{Recombines, NoOtherFault}
 use Rattle.vx_partition.specs.Only.{only_annotation}
 use Rattle.vx_partition.specs.Partitioned.{free_names}
@@ -33,14 +34,23 @@ pub record IsPartitioned (covered : Type 0) (names : List Name) (parts : BoundTr
   pub recombines : covered → Recombines parts root b
   pub no_other_fault : covered → NoOtherFault parts root b
 
-module _ {A S Z : Type 0} (eq : A → A → Bool) (text : A → List ℕ) (name : A → Name) (m : HashMap ExactBoundExpr (HashSet A S) Z) (b : BoundTree) where
-  -- the names are free, and names, partitions, annotations and root are those of the tree's pieces by the map
-  pub record IsSplitBy (names : List Name) (parts : BoundTrees) (keys : List A) (root : BoundTree) : Type 0 where
-    pub named : free_names (partition_names name (groups eq (only_annotation m) b)) ≡ Ok names
-    pub packed : parts ≡ partitions text (groups eq (only_annotation m) b)
-    pub annotated : IsTrue (pointwise eq keys (annotations_of eq (pieces (only_annotation m) b)))
-    pub holed : root ≡ recombination eq text name (only_annotation m) b
-    pub partitioned : IsPartitioned (Covered (has_single m) b) names parts root b
+-- `only` gives the annotation of a node that has exactly one
+module _ {A : Type 0} (eq : A → A → Bool) (text : A → List ℕ) (name : A → Name) (only : BoundTree → Option A) (covered : Type 0) (b : BoundTree) where
+  -- the names are free, and names, partitions, annotations and root are those of the tree's pieces
+  pub record IsSplit (names : List Name) (parts : BoundTrees) (keys : List A) (root : BoundTree) : Type 0 where
+    pub named : free_names (partition_names name (groups eq only b)) ≡ Ok names
+    pub packed : parts ≡ partitions text (groups eq only b)
+    pub annotated : IsTrue (pointwise eq keys (annotations_of eq (pieces only b)))
+    pub holed : root ≡ recombination eq text name only b
+    pub partitioned : IsPartitioned covered names parts root b
+
+-- a tree split by its pieces alone, which cover it where each scope root lies at or below one
+abbrev pub IsSplitByPieces : {A : Type 0} → (A → A → Bool) → (A → List ℕ) → (A → Name) → (BoundTree → Option A) → BoundTree → List Name → BoundTrees → List A → BoundTree → Type 0
+IsSplitByPieces eq text name only b = IsSplit eq text name only (by_pieces.Covered only b) b
+
+-- a tree split by a map
+abbrev pub IsSplitBy : {A S Z : Type 0} → (A → A → Bool) → (A → List ℕ) → (A → Name) → HashMap ExactBoundExpr (HashSet A S) Z → BoundTree → List Name → BoundTrees → List A → BoundTree → Type 0
+IsSplitBy eq text name m b = IsSplit eq text name (only_annotation m) (Covered (has_single m) b) b
 
 -- a map from the nodes of a tree to sets of annotations
 abbrev pub AnnotationMap : Type 0 → Type 0

@@ -1,21 +1,22 @@
 // Bound trees split into partitions.
-ghost use Rattle.std.specs.Prelude.{◌≡◌, ◌⊎◌, [], length, map, Err, IfErr, IfOk, IsTrue, None, OnOk, Some};
+ghost use Rattle.std.specs.Prelude.{◌≡◌, ◌⊎◌, [], length, map, Err, IfErr, IfOk, IsTrue, None, OnOk, Option, Some};
 ghost use Rattle.std.specs.Cmp.Lexicographic.{pointwise};
+ghost use Rattle.std.specs.Option.{option_copied};
 ghost use Rattle.vx_dtype.specs.declared.error.VortexError.TheVariants.{OutOfMemory};
 ghost use Rattle.vx_types.specs.Answers.{Answers};
 ghost use Rattle.vx_analysis.specs.Covers.{has_single, Covered};
 ghost use Rattle.vx_analysis.specs.Refusals.{SaysBy, first_refusal};
 ghost use Rattle.vx_partition.specs.Collecting.{groups_in, SameGroups, marks_of};
 ghost use Rattle.vx_partition.specs.Filling.{filled};
-ghost use Rattle.vx_partition.specs.Only.{only_annotation};
+ghost use Rattle.vx_partition.specs.Only.{annotations_met, only_annotation};
 ghost use Rattle.vx_partition.specs.Packing.{all_holes, all_names};
 ghost use Rattle.vx_partition.specs.Partitioned.{free_names};
-ghost use Rattle.vx_partition.specs.Splitting.{AnnotationMap, IsAnnotatedBy, IsPartitioned, IsSplitBy, IsTakenBySome};
+ghost use Rattle.vx_partition.specs.Splitting.{AnnotationMap, IsAnnotatedBy, IsPartitioned, IsSplitBy, IsSplitByPieces, IsTakenBySome};
 ghost use Rattle.vx_recombine.specs.Holes.{recombination};
 ghost use Rattle.vx_recombine.specs.Items.{struct_type};
 ghost use Rattle.vx_recombine.specs.Partitions.{partitions, partition_names};
 ghost use Rattle.vx_recombine.specs.Pieces.{pieces, annotations_of, groups};
-ghost use Rattle.vx_tree.specs.Trees.{scope, WellTyped};
+ghost use Rattle.vx_tree.specs.Trees.{BoundTree, scope, WellTyped};
 ghost use Rattle.vx_tree.specs.Views.{bound_of, bounds_of};
 
 use crate::collect::collect;
@@ -23,6 +24,7 @@ use crate::fill::fill;
 use crate::groups::Groups;
 use crate::joined::joined_holes;
 use crate::mark::Mark;
+use crate::met::meet;
 use crate::names::free_names;
 use crate::pack::pack_groups;
 use crate::{BoundPartitionedExpr, PartitionKey};
@@ -81,25 +83,45 @@ pub fn partition_bound_annotations<A: PartitionKey + Drop>(
     ensures root { IfOk result (λ p. bound_of p.root ≡ recombination A.eq A.text A.name (only_annotation annotations) (bound_of e)) }
     ensures partitioned { IfOk result (λ p. IsPartitioned (Covered (has_single annotations) (bound_of e)) p.partition_names (bounds_of p.partitions.items) (bound_of p.root) (bound_of e)) }
 {
-    let split = split_by(alloc, &e, &annotations);
+    let split = split_by_map(alloc, &e, &annotations);
     drop(e);
     split
 }
 
-// The tree split by the annotations.
-fn split_by<A: PartitionKey + Drop>(
+// The tree split by the map.
+fn split_by_map<A: PartitionKey + Drop>(
     alloc: Global,
     e: &BoundExpression,
     annotations: &BoundAnnotations<A>,
 ) -> VortexResult<BoundPartitionedExpr<A>>
     requires { WellTyped (bound_of e.now) }
     ensures names { Answers (λ p. p.partition_names) result (free_names (partition_names A.name (groups A.eq (only_annotation annotations.now) (bound_of e.now)))) }
-    ensures partitions { IfOk result (λ p. bounds_of p.partitions.items ≡ partitions A.text (groups A.eq (only_annotation annotations.now) (bound_of e.now))) }
-    ensures annotations { IfOk result (λ p. IsTrue (pointwise A.eq p.partition_annotations.items (annotations_of A.eq (pieces (only_annotation annotations.now) (bound_of e.now))))) }
-    ensures root { IfOk result (λ p. bound_of p.root ≡ recombination A.eq A.text A.name (only_annotation annotations.now) (bound_of e.now)) }
-    ensures partitioned { IfOk result (λ p. IsPartitioned (Covered (has_single annotations.now) (bound_of e.now)) p.partition_names (bounds_of p.partitions.items) (bound_of p.root) (bound_of e.now)) }
+    ensures split { IfOk result (λ p. IsSplitBy A.eq A.text A.name annotations.now (bound_of e.now) p.partition_names (bounds_of p.partitions.items) p.partition_annotations.items (bound_of p.root)) }
 {
-    let (groups, marks) = collected(alloc, e, annotations)?;
+    let mut met = Vec::new(alloc);
+    meet(e, annotations, &mut met)?;
+    partition_bound_met(alloc, e, met.as_slice())
+}
+
+/// The tree split by the annotations of its nodes, as [`partition_bound_annotations`] splits it by a
+/// map: `met` has the annotation of each node that has exactly one and None of any other, a node
+/// before its children and these from left to right, where below a node with one annotation no node
+/// is looked at. Its cost is linear in the nodes.
+///
+/// Refuses with `PartitionNameTaken` (17) exactly where two annotations of the pieces have one field
+/// name, with the first name that an earlier one has, and with `OutOfMemory` (1).
+pub fn partition_bound_met<A: PartitionKey + Drop>(
+    alloc: Global,
+    e: &BoundExpression,
+    met: &[Option<&A>],
+) -> VortexResult<BoundPartitionedExpr<A>>
+    requires { WellTyped (bound_of e.now) }
+    ensures names { (only : BoundTree → Option A) → map option_copied met.now ≡ annotations_met only (bound_of e.now) →
+        Answers (λ p. p.partition_names) result (free_names (partition_names A.name (groups A.eq only (bound_of e.now)))) }
+    ensures split { (only : BoundTree → Option A) → map option_copied met.now ≡ annotations_met only (bound_of e.now) →
+        IfOk result (λ p. IsSplitByPieces A.eq A.text A.name only (bound_of e.now) p.partition_names (bounds_of p.partitions.items) p.partition_annotations.items (bound_of p.root)) }
+{
+    let (groups, marks) = collected(alloc, e, met)?;
     let names = free_names(alloc, &groups)?;
     put_together(alloc, e, names, groups, marks.as_slice())
 }
@@ -108,15 +130,15 @@ fn split_by<A: PartitionKey + Drop>(
 fn collected<A: PartitionKey + Drop>(
     alloc: Global,
     e: &BoundExpression,
-    annotations: &BoundAnnotations<A>,
+    met: &[Option<&A>],
 ) -> VortexResult<(Groups<A>, Vec<Mark>)>
-    ensures found { IfOk result (λ r. SameGroups A.eq (groups_in r.0) (groups A.eq (only_annotation annotations.now) (bound_of e.now))) }
-    ensures marks { IfOk result (λ r. r.1.items ≡ marks_of A.eq (only_annotation annotations.now) [] (bound_of e.now)) }
+    ensures found { IfOk result (λ r. (only : BoundTree → Option A) → map option_copied met.now ≡ annotations_met only (bound_of e.now) → SameGroups A.eq (groups_in r.0) (groups A.eq only (bound_of e.now))) }
+    ensures marks { IfOk result (λ r. (only : BoundTree → Option A) → map option_copied met.now ≡ annotations_met only (bound_of e.now) → r.1.items ≡ marks_of A.eq only [] (bound_of e.now)) }
     ensures memory { IfErr result (λ y. y ≡ OutOfMemory) }
 {
     let mut groups = IndexMap::new(alloc);
     let mut marks = Vec::new(alloc);
-    collect(alloc, e, annotations, &mut groups, &mut marks)?;
+    collect(alloc, e, &mut met.iter(), &mut groups, &mut marks)?;
     Ok((groups, marks))
 }
 
