@@ -13,9 +13,11 @@ use Rattle.vx_partition.proofs.Meeting.{left_below, met_here}
 use Rattle.vx_partition.proofs.collect.+collect.Goals as goal
 
 pub collect_below-loop-child-init : goal.collect_below-loop-child-init
-collect_below-loop-child-init g t c = λ only rest h.
-    (h, λ before s.
-    starts g.A.PartialEq.eq only before (bounds_of c.args.children.now) (bounds_of c.args.children.now) c.args.marks.now.items c.push.new.self.items (groups_in c.args.groups.now) refl c.in_ok-push.ensures.items s)
+collect_below-loop-child-init g t c = λ only rest h. (
+  h,
+  λ before s.
+      starts g.A.PartialEq.eq only before (bounds_of c.args.children.now) (bounds_of c.args.children.now) c.args.marks.now.items c.push.new.self.items (groups_in c.args.groups.now) refl c.in_ok-push.ensures.items s,
+)
 
 pub collect_below-loop-child-preserved : goal.collect_below-loop-child-preserved
 collect_below-loop-child-preserved g t c = λ only rest h.
@@ -25,10 +27,12 @@ collect_below-loop-child-preserved g t c = λ only rest h.
     let e = c.child-item.result in
     let below = annotations_met_in only (bounds_of (drop (i + 1) es)) in
     let inv = l.invariant only rest h in
-    let next = inv.0 ∙ ap (λ bs. annotations_met_in only bs ++ rest) (bounds_next es i e (omega arith) c.child-item.is) ∙ append_assoc (annotations_met only (bound_of e)) below rest in
-    (c.in_ok-found.ensures.left only (below ++ rest) next, λ before s.
-    goes_on g.A.PartialEq.eq only before (bounds_of es) es i e l.some c.in_ok-found.found c.args.marks.now.items l.marks.items c.collect.new.marks.items
-    (groups_in l.groups) (groups_in c.collect.new.groups) (omega arith) c.child-item.is (c.in_ok-found.ensures.walked only (below ++ rest) next) (inv.1 before s))
+    let next = inv.0 ∙ ap (λ bs. annotations_met_in only bs ++ rest) (bounds_next es i e (omega arith) c.child-item.is) ∙ append_assoc (annotations_met only (bound_of e)) below rest in (
+      c.in_ok-found.ensures.left only (below ++ rest) next,
+      λ before s.
+          goes_on g.A.PartialEq.eq only before (bounds_of es) es i e l.some c.in_ok-found.found c.args.marks.now.items l.marks.items c.collect.new.marks.items
+          (groups_in l.groups) (groups_in c.collect.new.groups) (omega arith) c.child-item.is (c.in_ok-found.ensures.walked only (below ++ rest) next) (inv.1 before s),
+    )
 
 pub collect-returns-in-Some-clause-walked : goal.collect-returns-in-Some-clause-walked
 collect-returns-in-Some-clause-walked g t c = λ only rest h before s.
