@@ -3,4 +3,6 @@ pub mod Counting
 pub mod Answered
 pub mod Joined
 pub mod Meant
+pub mod Names
+pub mod Walked
 pub mod Divided

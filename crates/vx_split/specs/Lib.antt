@@ -1,3 +1,5 @@
+pub mod Reading
+pub mod Reads
 pub mod Division
 pub mod Splits
 pub mod Sources

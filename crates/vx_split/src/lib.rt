@@ -3,6 +3,7 @@
 
 mod division;
 mod evaluation;
+mod reading;
 
 pub use division::split_by_fields;
 pub use evaluation::evaluate_split;
