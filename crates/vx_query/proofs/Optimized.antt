@@ -21,14 +21,14 @@ use Rattle.vx_query.proofs.Lists.{forms_keep}
 -- a tree without a split is evaluated whole
 pub unsplit : (c : Batch) (u : BoundTree) (r : Result Batch VortexError) (o : Option Parts) → IsSplitOf c.type u o → o ≡ None → Answers (λ x. x) r (evaluation u c) → Runs true u c r
 unsplit c u r None (no_fields h) e a = whole h a
-unsplit c u r None (not_covered h f n) e a = uncovered h f n a
+unsplit c u r None (not_covered h n) e a = uncovered h n a
 unsplit c u r (Some p) s e a = absurd cc
 
 -- and one with a split by it, with its partitions optimized and its root bound again to what they give
 pub split_runs : (c : Batch) (u : BoundTree) (r : Result Batch VortexError) (p : Parts) (names : List Name) (forms : BoundTrees) (again : BoundTree) → IsSplitOf c.type u (Some p) → names ≡ p.names
     → NormalForms RuleAt p.partitions forms → IsBoundAgain p.root (struct_type p.names forms) again → Answers (λ x. x) r (split_evaluation names forms again c) → Runs true u c r
-split_runs c u r p names forms again (divided h f cov count split) e n b a =
-    parted h f cov (record { partitions = p.partitions; annotations = p.annotations; root = p.root; split = split; optimized = n; bound_again = b }) (subst (λ xs. Answers (λ x. x) r (split_evaluation xs forms again c)) e a)
+split_runs c u r p names forms again (divided h cov count split) e n b a =
+    parted h cov (record { partitions = p.partitions; annotations = p.annotations; root = p.root; split = split; optimized = n; bound_again = b }) (subst (λ xs. Answers (λ x. x) r (split_evaluation xs forms again c)) e a)
 
 module _ (names : List Name) (parts forms : BoundTrees) (root again u : BoundTree) (w : WellTyped root) (o : Over root (struct_type names parts)) (re : Recombines parts root u) (n : NormalForms RuleAt parts forms)
     (b : IsBoundAgain root (struct_type names forms) again) where

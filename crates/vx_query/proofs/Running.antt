@@ -7,12 +7,11 @@ use Rattle.vx_types.specs.Fits.{IsBatch}
 use Rattle.vx_types.specs.Types.{Name}
 use Rattle.vx_tree.specs.Faults.{HasNoFault, each_fault}
 use Rattle.vx_tree.specs.Trees.{BoundTree, BoundTrees, WellTyped, Over, unbound}
-use Rattle.vx_analysis.specs.Covers.{has_single, Covered}
 use Rattle.vx_eval.specs.Evaluation.{evaluation}
 use Rattle.vx_keep.specs.Keeps.{Keeps}
-use Rattle.vx_partition.specs.Splitting.{AnnotationMap}
 use Rattle.vx_rewrite.specs.declared.passes.Pass.{Pass}
 use Rattle.vx_rewrite.proofs.Passing.{passed_keeps}
+use Rattle.vx_split.specs.Division.{FieldsCover}
 use Rattle.vx_split.specs.Sources.{IsMeantBy}
 use Rattle.vx_query.specs.Queries.{FaultsAlone, IsOptimizedSplit, Runs, no_memory, whole, uncovered, parted, RunsPassed, not_passed, passed}
 use Rattle.vx_query.specs.Refusals.{IsFault}
@@ -24,9 +23,9 @@ use Rattle.vx_split.proofs.Meant.{whole_means, split_means}
 -- ---- where the source doesn't fault
 
 module _ (b u : BoundTree) (c : Batch) (k : Keeps b u) (o : Over b c.type) (fit : IsBatch c.type c.rows) (quiet : HasNoFault b c.rows) where
-  parted_means : (m : AnnotationMap Name) (names : List Name) (forms : BoundTrees) (again : BoundTree) (r : Result Batch VortexError) → Covered (has_single m) u → IsOptimizedSplit m u names forms again
+  parted_means : (fields names : List Name) (forms : BoundTrees) (again : BoundTree) (r : Result Batch VortexError) → FieldsCover fields u → IsOptimizedSplit fields u names forms again
       → Answers (λ x. x) r (split_evaluation names forms again c) → IsMeantBy (unbound b) c r
-  parted_means m names forms again r cov split answer =
+  parted_means fields names forms again r cov split answer =
       let p = split.split.partitioned in
       let re = recombined names split.partitions forms split.root again u p.root_typed (p.over_partitions cov) (p.recombines cov) split.optimized split.bound_again in
       split_means b u c k o fit quiet names forms again r split.bound_again.well_typed split.bound_again.over re answer
@@ -34,8 +33,8 @@ module _ (b u : BoundTree) (c : Batch) (k : Keeps b u) (o : Over b c.type) (fit 
   pub runs_mean : (split : Bool) (r : Result Batch VortexError) → Runs split u c r → IsMeantBy (unbound b) c r
   runs_mean split r (no_memory e) = rw e refl
   runs_mean split r (whole s a) = whole_means b u c k o fit quiet r a
-  runs_mean split r (uncovered s m n a) = whole_means b u c k o fit quiet r a
-  runs_mean split r (parted {names = names} {m = m} {forms = forms} {again = again} s f cov p a) = parted_means m names forms again r cov p a
+  runs_mean split r (uncovered s n a) = whole_means b u c k o fit quiet r a
+  runs_mean split r (parted {fields = fields} {names = names} {forms = forms} {again = again} s cov p a) = parted_means fields names forms again r cov p a
 
 -- so for whatever the passes answered
 pub passed_means : (passes : List Pass) (split : Bool) (b : BoundTree) (c : Batch) (r : Result Batch VortexError) → WellTyped b → Over b c.type → IsBatch c.type c.rows → HasNoFault b c.rows
@@ -62,8 +61,8 @@ split_evaluated names parts root c (Err y) (inr e) = inr (go (each_fault parts c
 runs_fault : (split : Bool) (u : BoundTree) (c : Batch) (r : Result Batch VortexError) → Runs split u c r → FaultsAlone r
 runs_fault split u c r (no_memory e) = rw e (inl refl)
 runs_fault split u c r (whole s a) = evaluated u c r a
-runs_fault split u c r (uncovered s m n a) = evaluated u c r a
-runs_fault split u c r (parted {names = names} {forms = forms} {again = again} s f cov p a) = split_evaluated names forms again c r a
+runs_fault split u c r (uncovered s n a) = evaluated u c r a
+runs_fault split u c r (parted {names = names} {forms = forms} {again = again} s cov p a) = split_evaluated names forms again c r a
 
 pub passed_faults : (passes : List Pass) (split : Bool) (b : BoundTree) (c : Batch) (r : Result Batch VortexError) → RunsPassed passes split b c r → FaultsAlone r
 passed_faults passes split b c r (not_passed e) = rw e (inl refl)

@@ -1,22 +1,19 @@
 -- What a query answers.
 use Rattle.std.specs.Prelude.{◌≡◌, ◌⊎◌, Bool, List, Some, None, Result, Err, MatchResult}
-use Rattle.std.specs.Str.{bytes_eq}
 use Rattle.vx_dtype.specs.Answers.{Answers}
 use Rattle.vx_dtype.specs.declared.error.VortexError.{VortexError}
 use Rattle.vx_dtype.specs.declared.error.VortexError.TheVariants.{OutOfMemory}
 use Rattle.vx_types.specs.Columns.{Batch}
 use Rattle.vx_types.specs.Types.{Name}
 use Rattle.vx_tree.specs.Trees.{BoundTree, BoundTrees}
-use Rattle.vx_analysis.specs.Covers.{has_single, Covered}
 use Rattle.vx_eval.specs.Evaluation.{evaluation}
 use Rattle.vx_optimizer.specs.NormalForms.{NormalForms}
 use Rattle.vx_partition.specs.Partitioned.{IsBoundAgain}
-use Rattle.vx_partition.specs.Splitting.{AnnotationMap, IsSplitBy}
 use Rattle.vx_recombine.specs.Items.{struct_type}
 use Rattle.vx_rewrite.specs.Passes.{Passed}
 use Rattle.vx_rewrite.specs.declared.passes.Pass.{Pass}
 use Rattle.vx_rules.specs.Rules.{RuleAt}
-use Rattle.vx_split.specs.Division.{split_names, IsFieldMap}
+use Rattle.vx_split.specs.Division.{split_names, FieldsCover, IsSplitByFields}
 use Rattle.vx_split.specs.Splits.{split_evaluation}
 use Rattle.vx_query.specs.Refusals.{IsFault}
 
@@ -28,12 +25,12 @@ IsRefusedWith refusal result = MatchResult result (λ x. ⊥) (λ y. (y ≡ OutO
 abbrev pub FaultsAlone : Result Batch VortexError → Type 0
 FaultsAlone result = MatchResult result (λ x. Unit {0}) (λ y. (y ≡ OutOfMemory) ⊎ IsFault y)
 
--- the tree u is split by the map, its partitions are optimized to these forms, and its root is bound again to what they give
-pub record IsOptimizedSplit (m : AnnotationMap Name) (u : BoundTree) (names : List Name) (forms : BoundTrees) (again : BoundTree) : Type 0 where
+-- the tree u is split by these fields, its partitions are optimized to these forms, and its root is bound again to what they give
+pub record IsOptimizedSplit (fields : List Name) (u : BoundTree) (names : List Name) (forms : BoundTrees) (again : BoundTree) : Type 0 where
   pub partitions : BoundTrees
   pub annotations : List Name
   pub root : BoundTree
-  pub split : IsSplitBy bytes_eq (λ a. a) (λ a. a) m u names partitions annotations root
+  pub split : IsSplitByFields fields u names partitions annotations root
   pub optimized : NormalForms RuleAt partitions forms
   pub bound_again : IsBoundAgain root (struct_type names forms) again
 
@@ -41,10 +38,10 @@ pub record IsOptimizedSplit (m : AnnotationMap Name) (u : BoundTree) (names : Li
 pub data Runs (split : Bool) (u : BoundTree) (c : Batch) (result : Result Batch VortexError) : Type 0 where
   no_memory : result ≡ Err OutOfMemory → Runs split u c result
   whole : split_names split c.type ≡ None → Answers (λ x. x) result (evaluation u c) → Runs split u c result
-  uncovered : {fields : List Name} {m : AnnotationMap Name} → split_names split c.type ≡ Some fields → IsFieldMap fields u m →
-      (Covered (has_single m) u → ⊥) → Answers (λ x. x) result (evaluation u c) → Runs split u c result
-  parted : {fields names : List Name} {m : AnnotationMap Name} {forms : BoundTrees} {again : BoundTree} → split_names split c.type ≡ Some fields → IsFieldMap fields u m →
-      Covered (has_single m) u → IsOptimizedSplit m u names forms again → Answers (λ x. x) result (split_evaluation names forms again c) → Runs split u c result
+  uncovered : {fields : List Name} → split_names split c.type ≡ Some fields →
+      (FieldsCover fields u → ⊥) → Answers (λ x. x) result (evaluation u c) → Runs split u c result
+  parted : {fields names : List Name} {forms : BoundTrees} {again : BoundTree} → split_names split c.type ≡ Some fields →
+      FieldsCover fields u → IsOptimizedSplit fields u names forms again → Answers (λ x. x) result (split_evaluation names forms again c) → Runs split u c result
 
 -- some tree that the passes may answer for b is evaluated so, unless memory ran out
 pub data RunsPassed (passes : List Pass) (split : Bool) (b : BoundTree) (c : Batch) (result : Result Batch VortexError) : Type 0 where

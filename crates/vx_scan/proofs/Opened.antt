@@ -33,7 +33,7 @@ pub sound_of : {s : LogicalType} {u : BoundTree} {split : Option Parts} → ∥ 
 sound_of {s = s} {u = u} is p e = ∥∥₁_elim is (sound-prop u p) (λ split. sound (subst (IsSplitOf s u) e split))
 
 root_typed : {s : LogicalType} {u : BoundTree} {p : Parts} → IsSplitOf s u (Some p) → node_type p.root ≡ node_type u
-root_typed (divided h f cov count split) = split.partitioned.same_type
+root_typed (divided h cov count split) = split.partitioned.same_type
 
 -- its root has the tree's type
 pub root_type_of : {s : LogicalType} {u : BoundTree} {split : Option Parts} → ∥ IsSplitOf s u split ∥₁ → (p : Parts) → split ≡ Some p → node_type p.root ≡ node_type u
