@@ -29,7 +29,7 @@ const FAMILIES: [(&str, u8); 5] = [
 const SHARED: u8 = 4;
 
 /// The passes, in the order of their numbers in the library.
-pub const PASSES: [&str; 8] = [
+pub const PASSES: [&str; 10] = [
     "bind",
     "display",
     "optimize_recursive",
@@ -38,6 +38,8 @@ pub const PASSES: [&str; 8] = [
     "annotations",
     "partition_bound",
     "referenced_field_paths",
+    "split_by_fields",
+    "plan",
 ];
 
 unsafe extern "C" {

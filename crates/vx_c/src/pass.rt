@@ -6,6 +6,8 @@ use crate::subject::Subject;
 use std::alloc::Global;
 use vx_analysis::{descendent_bound_annotations, free_fields, label_bound_tree};
 use vx_rewrite::{Optimize, find_between, partition_bound, referenced_field_paths};
+use vx_scan::plan;
+use vx_split::split_by_fields;
 use vx_tree::BoundExpression;
 use vx_types::{StructFields, VortexResult};
 
@@ -28,6 +30,10 @@ pub enum Pass {
     Partition,
     /// The paths that are read.
     Paths,
+    /// The tree split by the fields of its scope, as queries and scans split it.
+    Split,
+    /// The tree planned: bound, optimized, its paths and its split.
+    Plan,
 }
 
 impl Pass {
@@ -42,6 +48,8 @@ impl Pass {
             5 => Some(Pass::Annotate),
             6 => Some(Pass::Partition),
             7 => Some(Pass::Paths),
+            8 => Some(Pass::Split),
+            9 => Some(Pass::Plan),
             _ => None,
         }
     }
@@ -60,6 +68,8 @@ impl Pass {
             Pass::Annotate => annotate(alloc, bound, fields),
             Pass::Partition => partition(alloc, bound, fields),
             Pass::Paths => gone(referenced_field_paths(alloc, bound)),
+            Pass::Split => gone(split_by_fields(alloc, bound, &*subject.scope)),
+            Pass::Plan => gone(plan(alloc, &*subject.tree, &*subject.scope)),
         }
     }
 }
