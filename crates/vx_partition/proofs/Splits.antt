@@ -6,6 +6,7 @@ use Rattle.std.specs.Cmp.Lexicographic.{pointwise}
 use Rattle.std.specs.HashMap.{HashMap}
 use Rattle.std.specs.HashSet.{HashSet}
 use Rattle.std.proofs.lemmas.Bool.{eqb-true}
+use Rattle.std.proofs.lemmas.List.{length-map}
 use Rattle.vx_dtype.specs.declared.error.VortexError.{VortexError}
 use Rattle.vx_dtype.specs.declared.error.VortexError.TheVariants.{OutOfMemory}
 use Rattle.vx_types.specs.Answers.{Answers}
@@ -26,7 +27,7 @@ use Rattle.vx_partition.specs.Collecting.{SameGroups, marks_of}
 use Rattle.vx_partition.specs.Filling.{filled}
 use Rattle.vx_partition.specs.Only.{only_annotation, only_item, only_key}
 use Rattle.vx_partition.specs.Packing.{all_holes, all_names}
-use Rattle.vx_partition.specs.Partitioned.{first_taken, free_names}
+use Rattle.vx_partition.specs.Partitioned.{first_taken, free_names, EquallyMany}
 use Rattle.vx_partition.specs.Splitting.{IsSplitBy, IsSplitByPieces}
 use Rattle.vx_partition.proofs.FreeNames.{free_differ, unless_none}
 use Rattle.vx_partition.proofs.Grouping.{seen, count_seen}
@@ -209,3 +210,8 @@ pub names_answered : {P : Type 0} (r : Result P VortexError) (names_of : P → L
     → IfOk r (λ p. names_of p ≡ names) → IfErr r (λ y. y ≡ OutOfMemory) → Answers names_of r said
 names_answered (Ok p) names_of names said e n m = e ∙ ap (λ ns. Ok ns) (sym n)
 names_answered (Err y) names_of names said e n m = inl m
+
+-- names, annotations and partitions are as many as the groups
+pub equally_many : {A : Type 0} (text : A → List ℕ) (gs : List (Group A)) (names : List Name) (keys : List A) (ps : List BoundExpression) → length names ≡ length gs → keys ≡ map (λ g. g.0) gs → bounds_of ps ≡ partitions text gs → EquallyMany names keys ps
+equally_many text gs names keys ps n k p =
+    let count = parts_count text gs ps p in (n ∙ sym count, ap length k ∙ length-map gs (λ g. g.0) ∙ sym count)

@@ -1,5 +1,5 @@
 -- A partitioned tree, its text, and the name that is taken twice.
-use Rattle.std.specs.Prelude.{◌≡◌, ℕ, List, [], ◌∷◌, ◌++◌, Option, Some, None, Result, Ok, Err, if◌then◌else◌, codes}
+use Rattle.std.specs.Prelude.{◌≡◌, ℕ, List, [], ◌∷◌, ◌++◌, length, Option, Some, None, Result, Ok, Err, if◌then◌else◌, codes}
 use Rattle.std.specs.List.{list_any}
 use Rattle.std.specs.Str.{bytes_eq}
 use Rattle.vx_dtype.specs.declared.error.VortexError.{VortexError}
@@ -33,6 +33,10 @@ free_names names = unless_taken (first_taken [] names) names
 -- names that annotate themselves are free: each annotation is the name of its partition
 abbrev pub NamesAreFree : Type 0
 NamesAreFree = (only : BoundTree → Option Name) (b : BoundTree) → free_names (partition_names (λ a. a) (groups bytes_eq only b)) ≡ Ok (annotations_of bytes_eq (pieces only b))
+
+-- names, annotations and partitions are equally many
+abbrev pub EquallyMany : {A P : Type 0} → List Name → List A → List P → Type 0
+EquallyMany names annotations partitions = (length names ≡ length partitions) × (length annotations ≡ length partitions)
 
 -- the texts of bound trees
 abbrev pub texts_of : List BoundExpression → List (List ℕ)

@@ -3,7 +3,7 @@ ghost use Rattle.std.specs.Prelude.{◌≡◌, ◌≢◌, length, Ok, Err, OnOk,
 ghost use Rattle.vx_types.specs.Answers.{Answers};
 ghost use Rattle.vx_dtype.specs.declared.error.VortexError.TheVariants.{OutOfMemory, PartitionCount};
 ghost use Rattle.vx_keep.specs.Keeps.{KeepsEach};
-ghost use Rattle.vx_partition.specs.Partitioned.{IsBoundAgain, StillRecombines};
+ghost use Rattle.vx_partition.specs.Partitioned.{EquallyMany, IsBoundAgain, StillRecombines};
 ghost use Rattle.vx_tree.specs.Trees.{WellTyped, Over, unbound, typed, node_type};
 ghost use Rattle.vx_tree.specs.Views.{bound_of, bounds_of};
 ghost use Rattle.vx_recombine.specs.Items.{struct_type, tree_named};
@@ -69,6 +69,8 @@ impl<A: Drop> BoundPartitionedExpr<A> {
         ensures partitions { OnOk result (self.new.partitions ≡ partitions) }
         ensures names { self.new.partition_names ≡ self.old.partition_names }
         ensures annotations { self.new.partition_annotations ≡ self.old.partition_annotations }
+        ensures counts { EquallyMany self.old.partition_names self.old.partition_annotations.items self.old.partitions.items →
+            EquallyMany self.new.partition_names self.new.partition_annotations.items self.new.partitions.items }
         ensures unchanged { OnErr result (self.new ≡ self.old) }
         ensures kept { KeepsEach (bounds_of self.old.partitions.items) (bounds_of partitions.items) →
             WellTyped (bound_of self.old.root) →

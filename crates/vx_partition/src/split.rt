@@ -10,7 +10,7 @@ ghost use Rattle.vx_partition.specs.Collecting.{groups_in, SameGroups, marks_of}
 ghost use Rattle.vx_partition.specs.Filling.{filled};
 ghost use Rattle.vx_partition.specs.Only.{annotations_met, only_annotation};
 ghost use Rattle.vx_partition.specs.Packing.{all_holes, all_names};
-ghost use Rattle.vx_partition.specs.Partitioned.{free_names};
+ghost use Rattle.vx_partition.specs.Partitioned.{free_names, EquallyMany};
 ghost use Rattle.vx_partition.specs.Splitting.{AnnotationMap, IsAnnotatedBy, IsPartitioned, IsSplitBy, IsSplitByPieces, IsTakenBySome};
 ghost use Rattle.vx_recombine.specs.Holes.{recombination};
 ghost use Rattle.vx_recombine.specs.Items.{struct_type};
@@ -47,6 +47,7 @@ pub fn partition_bound<
     requires well_typed { WellTyped (bound_of e) }
     ensures split { IfOk result (λ p. (m : AnnotationMap A) × IsAnnotatedBy A.eq (F.post annotate) (bound_of e) m
         × IsSplitBy A.eq A.text A.name m (bound_of e) p.partition_names (bounds_of p.partitions.items) p.partition_annotations.items (bound_of p.root)) }
+    ensures counts { IfOk result (λ p. EquallyMany p.partition_names p.partition_annotations.items p.partitions.items) }
     ensures refusal { IfErr result (λ y. (y ≡ OutOfMemory) ⊎ ((x : _) × F.post annotate x (Err y)) ⊎ IsTakenBySome A.eq A.name (F.post annotate) (bound_of e) y) }
     ensures first { IfErr result (λ y. (said : _) → SaysBy A.eq (F.post annotate) said → (y ≡ OutOfMemory) ⊎ (first_refusal said (bound_of e) ≡ Some y)
         ⊎ ((first_refusal said (bound_of e) ≡ None) × IsTakenBySome A.eq A.name (F.post annotate) (bound_of e) y)) }
@@ -81,6 +82,7 @@ pub fn partition_bound_annotations<A: PartitionKey + Drop>(
     ensures partitions { IfOk result (λ p. bounds_of p.partitions.items ≡ partitions A.text (groups A.eq (only_annotation annotations) (bound_of e))) }
     ensures annotations { IfOk result (λ p. IsTrue (pointwise A.eq p.partition_annotations.items (annotations_of A.eq (pieces (only_annotation annotations) (bound_of e))))) }
     ensures root { IfOk result (λ p. bound_of p.root ≡ recombination A.eq A.text A.name (only_annotation annotations) (bound_of e)) }
+    ensures counts { IfOk result (λ p. EquallyMany p.partition_names p.partition_annotations.items p.partitions.items) }
     ensures partitioned { IfOk result (λ p. IsPartitioned (Covered (has_single annotations) (bound_of e)) p.partition_names (bounds_of p.partitions.items) (bound_of p.root) (bound_of e)) }
 {
     let split = split_by_map(alloc, &e, &annotations);
@@ -96,6 +98,7 @@ fn split_by_map<A: PartitionKey + Drop>(
 ) -> VortexResult<BoundPartitionedExpr<A>>
     requires { WellTyped (bound_of e.now) }
     ensures names { Answers (λ p. p.partition_names) result (free_names (partition_names A.name (groups A.eq (only_annotation annotations.now) (bound_of e.now)))) }
+    ensures counts { IfOk result (λ p. EquallyMany p.partition_names p.partition_annotations.items p.partitions.items) }
     ensures split { IfOk result (λ p. IsSplitBy A.eq A.text A.name annotations.now (bound_of e.now) p.partition_names (bounds_of p.partitions.items) p.partition_annotations.items (bound_of p.root)) }
 {
     let mut met = Vec::new(alloc);
@@ -118,6 +121,7 @@ pub fn partition_bound_met<A: PartitionKey + Drop>(
     requires { WellTyped (bound_of e.now) }
     ensures names { (only : BoundTree → Option A) → map option_copied met.now ≡ annotations_met only (bound_of e.now) →
         Answers (λ p. p.partition_names) result (free_names (partition_names A.name (groups A.eq only (bound_of e.now)))) }
+    ensures counts { IfOk result (λ p. EquallyMany p.partition_names p.partition_annotations.items p.partitions.items) }
     ensures split { (only : BoundTree → Option A) → map option_copied met.now ≡ annotations_met only (bound_of e.now) →
         IfOk result (λ p. IsSplitByPieces A.eq A.text A.name only (bound_of e.now) p.partition_names (bounds_of p.partitions.items) p.partition_annotations.items (bound_of p.root)) }
 {
@@ -152,6 +156,7 @@ fn put_together<A: PartitionKey + Drop>(
 ) -> VortexResult<BoundPartitionedExpr<A>>
     requires { length names ≡ length (groups_in groups) }
     ensures names { IfOk result (λ p. p.partition_names ≡ names) }
+    ensures counts { IfOk result (λ p. EquallyMany p.partition_names p.partition_annotations.items p.partitions.items) }
     ensures annotations { IfOk result (λ p. p.partition_annotations.items ≡ map (λ g. g.0) (groups_in groups)) }
     ensures partitions { IfOk result (λ p. bounds_of p.partitions.items ≡ partitions A.text (groups_in groups)) }
     ensures root { IfOk result (λ p. (rest : _) × (filled (all_holes (scope (struct_type names (partitions A.text (groups_in groups)))) names (all_names A.text (groups_in groups)) (partitions A.text (groups_in groups))) (bound_of e.now) marks.now ≡ (bound_of p.root, rest))) }

@@ -7,7 +7,7 @@ use Rattle.vx_recombine.specs.Partitions.{partitions}
 use Rattle.vx_partition.specs.Collecting.{groups_in}
 use Rattle.vx_partition.specs.Filling.{filled, holes_seen}
 use Rattle.vx_partition.specs.Packing.{all_holes, all_names}
-use Rattle.vx_partition.proofs.Splits.{parts_count, own_count}
+use Rattle.vx_partition.proofs.Splits.{equally_many, parts_count, own_count}
 use Rattle.vx_partition.proofs.split.put_together.Goals as goal
 
 pub joined_holes-requires-clause-named : goal.joined_holes-requires-clause-named
@@ -37,3 +37,8 @@ returns-clause-root g c =
     ∙ ap (λ bs. all_holes (scope (struct_type names bs)) names (all_names text gs) bs) parts_are in
     let done : filled (holes_seen c.as_slice-2.result.now) b (iter_rest c.iter.result) ≡ (bound_of c.in_ok-fill.field-0, iter_rest c.fill.new.marks) = c.in_ok-fill.ensures in
     (iter_rest c.fill.new.marks, ap (λ hs. filled hs b c.args.marks.now) (sym holes) ∙ ap (filled (holes_seen c.as_slice-2.result.now) b) (sym c.iter.ensures.rest) ∙ done)
+
+pub returns-clause-counts : goal.returns-clause-counts
+returns-clause-counts g c =
+    let gs = groups_in c.args.groups in
+    equally_many g.A.PartitionKey.text gs c.args.names c.in_ok-packed.packed.annotations.items c.in_ok-packed.packed.partitions.items c.requires c.in_ok-packed.ensures.annotations c.in_ok-packed.ensures.partitions

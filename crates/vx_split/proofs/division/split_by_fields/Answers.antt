@@ -1,17 +1,15 @@
-use Rattle.std.proofs.Common.{◌≡◌, ◌∙◌, ap, false, length, map, None, rules, Some, sym, true}
+use Rattle.std.proofs.Common.{◌≡◌, ◌∙◌, ap, false, map, None, rules, Some, sym, true}
 use Rattle.std.specs.Option.{option_copied, option_map}
-use Rattle.std.specs.Str.{bytes_eq}
 use Rattle.vx_dtype.specs.declared.error.VortexError.TheVariants.{OutOfMemory}
 use Rattle.vx_types.specs.Fields.{field_names}
 use Rattle.vx_types.specs.Types.{struct_fields}
 use Rattle.vx_types.specs.Views.{fields_of, type_of}
 use Rattle.vx_tree.specs.Views.{bound_of}
 use Rattle.vx_partition.specs.Only.{annotations_met}
-use Rattle.vx_recombine.specs.Pieces.{groups}
 use Rattle.vx_split.specs.Division.{no_fields, not_covered}
 use Rattle.vx_split.specs.Reading.{only_field}
 use Rattle.vx_split.specs.Reads.{IsReadBy}
-use Rattle.vx_split.proofs.Counting.{counted, as_many_names}
+use Rattle.vx_split.proofs.Counting.{counted}
 use Rattle.vx_split.proofs.Divided.{covered_so, divided_by_pieces, memory_alone, uncovered}
 use Rattle.vx_split.proofs.division.split_by_fields.Goals as goal
 
@@ -49,5 +47,5 @@ returns-clause-split c =
     let covered : c.in_ok-reading.reading.is_covered ≡ true = search rules in
     let p = c.in_ok-partition_bound_met.field-0 in
     let split = c.in_ok-partition_bound_met.ensures.split (only_field names) met in
-    let count : length p.partition_names ≡ length p.partitions.items = as_many_names (λ a. a) (λ a. a) (groups bytes_eq (only_field names) u) p.partition_names p.partitions.items (c.in_ok-partition_bound_met.ensures.names (only_field names) met) split.packed in
+    let count = c.in_ok-partition_bound_met.ensures.counts.0 in
     divided_by_pieces (type_of c.args.scope.now) u _ (ap (option_map field_names) fields) (covered_so names u c.in_ok-reading.reading.is_covered (c.in_ok-reading.ensures names told).covers covered) (count ∙ sym (counted p.partitions.items)) split
