@@ -89,10 +89,15 @@ impl fmt::Display for WithType {
     }
 }
 
-// What a scan gives of the column, read along the plan's paths alone.
+// The same as `scan_column`, with the column's type.
 fn scanned(alloc: Global, plan: &ScanPlan, column: &Column) -> VortexResult<WithType> {
+    Ok(WithType(scan_column(alloc, plan, column)?))
+}
+
+/// What a scan gives of the column, read along the plan's paths alone.
+pub fn scan_column(alloc: Global, plan: &ScanPlan, column: &Column) -> VortexResult<Column> {
     let reader = reader(alloc, plan, column)?;
-    Ok(WithType(scan(alloc, &reader, plan)?))
+    scan(alloc, &reader, plan)
 }
 
 // A reader of the column that allows the plan's paths, and none where it is of another type.
