@@ -1,16 +1,14 @@
 -- A map of the nodes with answers, child by child.
-use Rattle.std.proofs.Common.{◌≡◌, ℕ, ◌+◌, ◌<◌, ◌≤◌, get_or, drop, List, length, Bool, true, false, ◌||◌, refl, sym, ap, ◌∙◌}
+use Rattle.std.proofs.Common.{◌≡◌, Bool, true, false, ◌||◌, refl, sym, ap, ◌∙◌}
 use Rattle.std.specs.Prelude.{Some, is_some, not, cond, ◌&&◌}
 use Rattle.std.specs.HashMap.{HashMap}
 use Rattle.vx_tree.specs.Equality.{equal_bound, equal_bound-Decides, equal_bound_equiv}
 use Rattle.vx_tree.specs.Nodes.{bound_children_of}
-use Rattle.vx_tree.specs.Trees.{BoundTree}
-use Rattle.vx_tree.specs.Views.{bound_of, bounds_of}
-use Rattle.vx_tree.specs.declared.bound.BoundExpression.{BoundExpression}
+use Rattle.vx_tree.specs.Trees.{BoundTree, BoundTrees, no_bound, bound}
 use Rattle.vx_tree.specs.declared.exact.ExactBoundExpr.{ExactBoundExpr}
 use Rattle.vx_analysis.specs.Keys.{key_of, entry_at}
 use Rattle.vx_analysis.specs.Reached.{is_reached, is_reached_in}
-use Rattle.vx_analysis.proofs.Subtrees.{bounds-next, bounds-end, reached-children}
+use Rattle.vx_analysis.proofs.Subtrees.{reached-children}
 
 both_turn : (r q s b : Bool) → (((r || q) && s) || b) ≡ ((q && s) || ((r && s) || b))
 both_turn true true true b = refl
@@ -25,17 +23,16 @@ and_false false = refl
 
 module _ (stops : BoundTree → Bool) where
   -- one more child's nodes that stop have entries
-  pub stopped-next : (n : BoundTree) (ts : List BoundExpression) (i : ℕ) (t : BoundExpression) (s before after all : Bool) → i < length ts → t ≡ get_or ts i t
-      → after ≡ ((is_reached stops n (bound_of t) && s) || before)
-      → ((is_reached_in stops n (bounds_of (drop i ts)) && s) || before) ≡ all → ((is_reached_in stops n (bounds_of (drop (i + 1) ts)) && s) || after) ≡ all
-  stopped-next n ts i t s before after all h is e rest =
-      let left = is_reached_in stops n (bounds_of (drop (i + 1) ts)) in
-      ap (λ b. (left && s) || b) e ∙ sym (both_turn (is_reached stops n (bound_of t)) left s before)
-      ∙ sym (ap (λ bs. (is_reached_in stops n bs && s) || before) (bounds-next ts i t h is)) ∙ rest
+  pub stopped-next : (n : BoundTree) (left rest : BoundTrees) (b : BoundTree) (s before after all : Bool) → left ≡ bound b rest
+      → after ≡ ((is_reached stops n b && s) || before)
+      → ((is_reached_in stops n left && s) || before) ≡ all → ((is_reached_in stops n rest && s) || after) ≡ all
+  stopped-next n left rest b s before after all next e so_far =
+      ap (λ x. (is_reached_in stops n rest && s) || x) e ∙ sym (both_turn (is_reached stops n b) (is_reached_in stops n rest) s before)
+      ∙ sym (ap (λ bs. (is_reached_in stops n bs && s) || before) next) ∙ so_far
 
   -- all children's have
-  pub stopped-end : (n : BoundTree) (ts : List BoundExpression) (i : ℕ) (s last all : Bool) → length ts ≤ i → ((is_reached_in stops n (bounds_of (drop i ts)) && s) || last) ≡ all → last ≡ all
-  stopped-end n ts i s last all h rest = ap (λ bs. (is_reached_in stops n bs && s) || last) (sym (bounds-end ts i h)) ∙ rest
+  pub stopped-end : (n : BoundTree) (left : BoundTrees) (s last all : Bool) → left ≡ no_bound → ((is_reached_in stops n left && s) || last) ≡ all → last ≡ all
+  stopped-end n left s last all none so_far = ap (λ bs. (is_reached_in stops n bs && s) || last) (sym none) ∙ so_far
 
   -- a node that stops has one itself
   pub stopped-here : {X S : Type 0} (b : BoundTree) (x : X) (old new : HashMap ExactBoundExpr X S) (k : ExactBoundExpr) → stops b ≡ true

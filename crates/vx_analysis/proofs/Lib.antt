@@ -1,3 +1,4 @@
+pub mod Numbering
 pub mod Subtrees
 pub mod Labelling
 pub mod Annotating

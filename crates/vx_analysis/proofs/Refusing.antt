@@ -1,18 +1,15 @@
 -- The first refusal that is met, child by child.
-use Rattle.std.proofs.Common.{◌≡◌, ℕ, ◌+◌, ◌<◌, ◌≤◌, get_or, drop, List, [], ◌∷◌, length, Bool, refl, sym, ap, inl, inr, ◌∙◌}
+use Rattle.std.proofs.Common.{◌≡◌, ◌<◌, List, [], ◌∷◌, length, Bool, refl, sym, ap, inl, inr, ◌∙◌}
 use Rattle.std.specs.Prelude.{◌⊎◌, Option, None, Some, Result, Ok, Err, IsOkAnd}
 use Rattle.std.specs.Cmp.{IsEquivalence}
 use Rattle.std.specs.Option.{option_or}
 use Rattle.vx_dtype.specs.declared.error.VortexError.{VortexError}
 use Rattle.vx_dtype.specs.declared.error.VortexError.TheVariants.{OutOfMemory}
 use Rattle.vx_tree.specs.Nodes.{bound_children_of}
-use Rattle.vx_tree.specs.Trees.{BoundTree, scope, node}
-use Rattle.vx_tree.specs.Views.{bound_of, bounds_of}
-use Rattle.vx_tree.specs.declared.bound.BoundExpression.{BoundExpression}
+use Rattle.vx_tree.specs.Trees.{BoundTree, scope, node, BoundTrees, no_bound, bound}
 use Rattle.vx_analysis.specs.Annotations.{SameAnnotations}
 use Rattle.vx_analysis.specs.Refusals.{refusal_or, first_refusal, first_refusal_in}
 use Rattle.vx_analysis.proofs.Annotating.{items-alike, some_item, no_item}
-use Rattle.vx_analysis.proofs.Subtrees.{bounds-next, bounds-end}
 
 module _ {A : Type 0} where
   -- a node with the same answers as some refuses nothing
@@ -44,30 +41,32 @@ module _ {A : Type 0} where
     refused-here b y (inl spent) = inl spent
     refused-here b y (inr is) = inr (first_refusal-children b ∙ ap (λ r. refusal_or r (first_refusal_in said (bound_children_of b))) is)
 
-    -- one more child refuses nothing
-    pub refusal-next : (ts : List BoundExpression) (i : ℕ) (t : BoundExpression) (all : Option VortexError) → i < length ts → t ≡ get_or ts i t
-        → first_refusal said (bound_of t) ≡ None → first_refusal_in said (bounds_of (drop i ts)) ≡ all → first_refusal_in said (bounds_of (drop (i + 1) ts)) ≡ all
-    refusal-next ts i t all h is none rest =
-        sym (ap (λ o. option_or o (first_refusal_in said (bounds_of (drop (i + 1) ts)))) none)
-        ∙ sym (ap (first_refusal_in said) (bounds-next ts i t h is)) ∙ rest
+    -- the same at a tree that is equal to it
+    pub refused-as : (b c : BoundTree) (y : VortexError) → b ≡ c → (y ≡ OutOfMemory) ⊎ (said b ≡ Err y) → (y ≡ OutOfMemory) ⊎ (first_refusal said c ≡ Some y)
+    refused-as b c y same (inl spent) = inl spent
+    refused-as b c y same (inr is) = refused-here c y (inr (sym (ap said same) ∙ is))
 
-    module _ (eq : A → A → Bool) (q : IsEquivalence eq) (b : BoundTree) (own : List A) (ts : List BoundExpression) (i : ℕ) where
+    -- one more child refuses nothing
+    pub refusal-next : (left rest : BoundTrees) (b : BoundTree) (all : Option VortexError) → left ≡ bound b rest
+        → first_refusal said b ≡ None → first_refusal_in said left ≡ all → first_refusal_in said rest ≡ all
+    refusal-next left rest b all next none so_far =
+        sym (ap (λ o. option_or o (first_refusal_in said rest)) none) ∙ sym (ap (first_refusal_in said) next) ∙ so_far
+
+    module _ (eq : A → A → Bool) (q : IsEquivalence eq) (b : BoundTree) (own : List A) (bs left : BoundTrees) where
       -- a node without answers refuses first what its children do
-      refusal-below : IsOkAnd (said b) (SameAnnotations eq own) → length own ≡ 0 → bounds_of ts ≡ bound_children_of b
-          → first_refusal said b ≡ first_refusal_in said (bounds_of ts)
+      refusal-below : IsOkAnd (said b) (SameAnnotations eq own) → length own ≡ 0 → bs ≡ bound_children_of b → first_refusal said b ≡ first_refusal_in said bs
       refusal-below same none e =
           first_refusal-children b ∙ none-refusal eq q own (said b) _ same none ∙ sym (ap (first_refusal_in said) e)
 
       -- a node without answers, where the children up to one that refuses don't
-      pub refused-below : (t : BoundExpression) (y : VortexError) → IsOkAnd (said b) (SameAnnotations eq own) → length own ≡ 0 → bounds_of ts ≡ bound_children_of b
-          → i < length ts → t ≡ get_or ts i t → first_refusal_in said (bounds_of (drop i ts)) ≡ first_refusal_in said (bounds_of ts)
-          → (y ≡ OutOfMemory) ⊎ (first_refusal said (bound_of t) ≡ Some y) → (y ≡ OutOfMemory) ⊎ (first_refusal said b ≡ Some y)
-      refused-below t y same none e h is rest (inl spent) = inl spent
-      refused-below t y same none e h is rest (inr here) =
-          inr (refusal-below same none e ∙ sym rest ∙ ap (first_refusal_in said) (bounds-next ts i t h is)
-          ∙ ap (λ o. option_or o (first_refusal_in said (bounds_of (drop (i + 1) ts)))) here)
+      pub refused-below : (rest : BoundTrees) (c : BoundTree) (y : VortexError) → IsOkAnd (said b) (SameAnnotations eq own) → length own ≡ 0 → bs ≡ bound_children_of b
+          → left ≡ bound c rest → first_refusal_in said left ≡ first_refusal_in said bs
+          → (y ≡ OutOfMemory) ⊎ (first_refusal said c ≡ Some y) → (y ≡ OutOfMemory) ⊎ (first_refusal said b ≡ Some y)
+      refused-below rest c y same none e next so_far (inl spent) = inl spent
+      refused-below rest c y same none e next so_far (inr here) =
+          inr (refusal-below same none e ∙ sym so_far ∙ ap (first_refusal_in said) next ∙ ap (λ o. option_or o (first_refusal_in said rest)) here)
 
       -- a node without answers, where no child refuses
-      pub unrefused-below : IsOkAnd (said b) (SameAnnotations eq own) → length own ≡ 0 → bounds_of ts ≡ bound_children_of b
-          → length ts ≤ i → first_refusal_in said (bounds_of (drop i ts)) ≡ first_refusal_in said (bounds_of ts) → first_refusal said b ≡ None
-      unrefused-below same none e h rest = refusal-below same none e ∙ sym rest ∙ ap (first_refusal_in said) (bounds-end ts i h)
+      pub unrefused-below : IsOkAnd (said b) (SameAnnotations eq own) → length own ≡ 0 → bs ≡ bound_children_of b
+          → left ≡ no_bound → first_refusal_in said left ≡ first_refusal_in said bs → first_refusal said b ≡ None
+      unrefused-below same none e end so_far = refusal-below same none e ∙ sym so_far ∙ ap (first_refusal_in said) end

@@ -105,16 +105,15 @@ module _ (stops : BoundTree → Bool) where
     ]
 
   -- one more child is reached
-  pub reached-next : (n : BoundTree) (ts : List BoundExpression) (i : ℕ) (t : BoundExpression) (before after all : Bool) → i < length ts → t ≡ get_or ts i t
-      → after ≡ (is_reached stops n (bound_of t) || before) → (is_reached_in stops n (bounds_of (drop i ts)) || before) ≡ all → (is_reached_in stops n (bounds_of (drop (i + 1) ts)) || after) ≡ all
-  reached-next n ts i t before after all h is e rest =
-      let left = is_reached_in stops n (bounds_of (drop (i + 1) ts)) in
-      ap (λ b. left || b) e ∙ sym (or_turn (is_reached stops n (bound_of t)) left before)
-      ∙ sym (ap (λ bs. is_reached_in stops n bs || before) (bounds-next ts i t h is)) ∙ rest
+  pub reached-next : (n : BoundTree) (left rest : BoundTrees) (b : BoundTree) (before after all : Bool) → left ≡ bound b rest
+      → after ≡ (is_reached stops n b || before) → (is_reached_in stops n left || before) ≡ all → (is_reached_in stops n rest || after) ≡ all
+  reached-next n left rest b before after all next e so_far =
+      ap (λ x. is_reached_in stops n rest || x) e ∙ sym (or_turn (is_reached stops n b) (is_reached_in stops n rest) before)
+      ∙ sym (ap (λ bs. is_reached_in stops n bs || before) next) ∙ so_far
 
   -- all children are reached
-  pub reached-end : (n : BoundTree) (ts : List BoundExpression) (i : ℕ) (last all : Bool) → length ts ≤ i → (is_reached_in stops n (bounds_of (drop i ts)) || last) ≡ all → last ≡ all
-  reached-end n ts i last all h rest = ap (λ bs. is_reached_in stops n bs || last) (sym (bounds-end ts i h)) ∙ rest
+  pub reached-end : (n : BoundTree) (left : BoundTrees) (last all : Bool) → left ≡ no_bound → (is_reached_in stops n left || last) ≡ all → last ≡ all
+  reached-end n left last all none so_far = ap (λ bs. is_reached_in stops n bs || last) (sym none) ∙ so_far
 
   module _ {X S : Type 0} where
     -- a map that has entries for what is reached from one more tree is closed as it was
@@ -125,10 +124,10 @@ module _ (stops : BoundTree → Bool) where
       | inr was ↦ nodes k ∙ or_second (is_reached stops (key_of k) b) _ (closed j k was below)
     ]
 
-    -- where a tree has an entry, those reached from it have one
-    pub closed-at : (x : BoundExpression) (m : HashMap ExactBoundExpr X S) → IsClosed stops m → is_some (entry_at (bound_of x) m) ≡ true → (k : ExactBoundExpr)
-        → is_some (entry_at (key_of k) m) ≡ (is_reached stops (key_of k) (bound_of x) || is_some (entry_at (key_of k) m))
-    closed-at x m closed here k = absorbed (is_reached stops (key_of k) (bound_of x)) _ (closed (record { 0 = x }) k here)
+    -- where a key has an entry, those reached from its tree have one
+    pub closed-at : (j : ExactBoundExpr) (m : HashMap ExactBoundExpr X S) → IsClosed stops m → is_some (entry_at (key_of j) m) ≡ true → (k : ExactBoundExpr)
+        → is_some (entry_at (key_of k) m) ≡ (is_reached stops (key_of k) (key_of j) || is_some (entry_at (key_of k) m))
+    closed-at j m closed here k = absorbed (is_reached stops (key_of k) (key_of j)) _ (closed j k here)
       where
         absorbed : (r s : Bool) → (r ≡ true → s ≡ true) → s ≡ (r || s)
         absorbed true s h = h refl
@@ -148,6 +147,12 @@ module _ (stops : BoundTree → Bool) where
         cases : (same w was : Bool) (m : Option X) → is_some m ≡ (w || was) → is_some (cond same (Some l) m) ≡ ((same || w) || was)
         cases true w was m h = refl
         cases false w was m h = h
+
+-- an entry at one of two equal trees is one at the other
+pub put-as : {X S : Type 0} (b c : BoundTree) (x : X) (old new : HashMap ExactBoundExpr X S) → b ≡ c
+    → ((k : ExactBoundExpr) → entry_at (key_of k) new ≡ cond (equal_bound b (key_of k)) (Some x) (entry_at (key_of k) old))
+    → (k : ExactBoundExpr) → entry_at (key_of k) new ≡ cond (equal_bound c (key_of k)) (Some x) (entry_at (key_of k) old)
+put-as b c x old new same put k = put k ∙ ap (λ t. cond (equal_bound t (key_of k)) (Some x) (entry_at (key_of k) old)) same
 
 -- ---- a map without entries
 
@@ -178,11 +183,9 @@ module _ {X S : Type 0} (P : BoundTree → X → Type 0) where
       cases false e = was k
 
   -- what is said of each entry is said of one that is found
-  pub entry-found : (e : BoundExpression) (m : HashMap ExactBoundExpr X S) (r : Option (Bor X)) (x : Bor X) → option_copied r ≡ entry_at (bound_of e) m → r ≡ Some x
-      → ((k : ExactBoundExpr) → IfSome (entry_at (key_of k) m) (P (key_of k))) → P (bound_of e) x.now
-  entry-found e m r x is found all =
-      let at : IfSome (entry_at (bound_of e) m) (P (bound_of e)) = all (record { 0 = e }) in
-      subst (λ o. IfSome o (P (bound_of e))) (sym is ∙ ap option_copied found) at
+  pub entry-found : (j : ExactBoundExpr) (m : HashMap ExactBoundExpr X S) (r : Option (Bor X)) (x : Bor X) → option_copied r ≡ entry_at (key_of j) m → r ≡ Some x
+      → ((k : ExactBoundExpr) → IfSome (entry_at (key_of k) m) (P (key_of k))) → P (key_of j) x.now
+  entry-found j m r x is found all = subst (λ o. IfSome o (P (key_of j))) (sym is ∙ ap option_copied found) (all j)
 
 -- there is an entry where one is found
 pub is_some-found : {X : Type 0} (o : Option X) (r : Option (Bor X)) (x : Bor X) → option_copied r ≡ o → r ≡ Some x → is_some o ≡ true

@@ -1,4 +1,5 @@
 pub mod Keys
+pub mod Numbers
 pub mod Reached
 pub mod Labels
 pub mod Annotations

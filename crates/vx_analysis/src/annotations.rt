@@ -1,5 +1,5 @@
 // Annotations of the nodes of a bound tree.
-ghost use Rattle.std.specs.Prelude.{◌≡◌, ◌||◌, ◌&&◌, ◌⊎◌, not, is_some, None, Some, List, Err, IfErr, IfOk, OnOk};
+ghost use Rattle.std.specs.Prelude.{◌≡◌, ◌<◌, ◌||◌, ◌&&◌, ◌⊎◌, not, is_some, None, Some, List, Err, IfErr, IfOk, OnOk, length};
 ghost use Rattle.std.specs.HashSet.{contains};
 ghost use Rattle.std.specs.List.{list_any};
 ghost use Rattle.vx_dtype.specs.declared.error.VortexError.TheVariants.{OutOfMemory};
@@ -8,11 +8,14 @@ ghost use Rattle.vx_tree.specs.Trees.{BoundTree};
 ghost use Rattle.vx_tree.specs.Views.{bound_of};
 ghost use Rattle.vx_analysis.specs.Annotations.{answered, AnswersAlike, is_annotation, IsAnnotationsOf, IsAnnotated};
 ghost use Rattle.vx_analysis.specs.Keys.{key_of, entry_at};
+ghost use Rattle.vx_analysis.specs.Numbers.{tree_at, IsNumbered};
 ghost use Rattle.vx_analysis.specs.Reached.{is_reached, is_reached_in, IsClosed};
 ghost use Rattle.vx_analysis.specs.Refusals.{SaysBy, first_refusal, IsUnrefused};
 
 use crate::Annotation;
-use crate::entries::{entry, put};
+use crate::entries::put_at;
+use crate::numbers::{NumberedNode, number_of};
+use indexmap::IndexSet;
 use std::alloc::{AllocError, Global};
 use std::collections::{HashMap, HashSet};
 use vx_tree::{BoundExpression, ExactBoundExpr, VortexResult};
@@ -24,7 +27,8 @@ pub type BoundAnnotations<A> = HashMap<ExactBoundExpr, HashSet<A>>;
 /// none, those of its children together. What lies below a node with answers isn't reached through
 /// it. There is an entry for each node that is reached, and no other.
 ///
-/// Equal nodes are annotated once. Refuses with what the closure refuses, the first that is met,
+/// Equal nodes are annotated once. Takes time linear in the nodes, in expectation, beside that of the
+/// closure and of copying annotations. Refuses with what the closure refuses, the first that is met,
 /// and with `OutOfMemory` (1).
 pub fn descendent_bound_annotations<
     A: Annotation + Drop,
@@ -38,9 +42,12 @@ pub fn descendent_bound_annotations<
     ensures first { IfErr result (λ y. (said : _) → SaysBy A.eq (F.post annotate) said → (y ≡ OutOfMemory) ⊎ (first_refusal said (bound_of e.now) ≡ Some y)) }
     ensures unrefused { OnOk result ((said : _) → SaysBy A.eq (F.post annotate) said → first_refusal said (bound_of e.now) ≡ None) }
 {
+    let mut nodes = IndexSet::new(alloc);
+    let number = number_of(alloc, e, &mut nodes)?;
     let mut annotations = HashMap::new(alloc);
-    let set = annotations_of(alloc, e, &annotate, &mut annotations)?;
-    put(&mut annotations, e, set)?;
+    let nodes = nodes.as_slice();
+    let set = annotations_of(alloc, nodes, number, &annotate, &mut annotations)?;
+    put_at(&mut annotations, &nodes[number].key, set)?;
     Ok(annotations)
 }
 
@@ -48,25 +55,29 @@ pub fn descendent_bound_annotations<
 #[cycle(annotate)]
 fn annotations_of<A: Annotation + Drop, F: Fn(&BoundExpression) -> VortexResult<Vec<A>>>(
     alloc: Global,
-    e: &BoundExpression,
+    nodes: &[NumberedNode],
+    number: usize,
     annotate: &F,
     annotations: &mut BoundAnnotations<A>,
 ) -> VortexResult<HashSet<A>>
-    requires { F.IsAlwaysCallable annotate.now }
+    requires numbered { IsNumbered nodes.now }
+    requires within { number < length nodes.now }
+    requires callable { F.IsAlwaysCallable annotate.now }
     ensures annotated { IfOk result (λ s. (answers : BoundTree → List A) → AnswersAlike A.eq (F.post annotate.now) answers → IsClosed (answered answers) annotations.old → IsAnnotated A.eq answers annotations.old
-        → IsAnnotationsOf A.eq answers (bound_of e.now) s × IsAnnotated A.eq answers annotations.new
-        × ((k : _) → is_some (entry_at (key_of k) annotations.new) ≡ ((not (answered answers (bound_of e.now)) && is_reached_in (answered answers) (key_of k) (bound_children_of (bound_of e.now))) || is_some (entry_at (key_of k) annotations.old)))) }
+        → IsAnnotationsOf A.eq answers (tree_at nodes.now number) s × IsAnnotated A.eq answers annotations.new
+        × ((k : _) → is_some (entry_at (key_of k) annotations.new) ≡ ((not (answered answers (tree_at nodes.now number)) && is_reached_in (answered answers) (key_of k) (bound_children_of (tree_at nodes.now number))) || is_some (entry_at (key_of k) annotations.old)))) }
     ensures refusal { IfErr result (λ y. (y ≡ OutOfMemory) ⊎ ((x : _) × F.post annotate.now x (Err y))) }
-    ensures first { IfErr result (λ y. (said : _) → SaysBy A.eq (F.post annotate.now) said → IsUnrefused said annotations.old → (y ≡ OutOfMemory) ⊎ (first_refusal said (bound_of e.now) ≡ Some y)) }
-    ensures unrefused { OnOk result ((said : _) → SaysBy A.eq (F.post annotate.now) said → IsUnrefused said annotations.old → (first_refusal said (bound_of e.now) ≡ None) × IsUnrefused said annotations.new) }
+    ensures first { IfErr result (λ y. (said : _) → SaysBy A.eq (F.post annotate.now) said → IsUnrefused said annotations.old → (y ≡ OutOfMemory) ⊎ (first_refusal said (tree_at nodes.now number) ≡ Some y)) }
+    ensures unrefused { OnOk result ((said : _) → SaysBy A.eq (F.post annotate.now) said → IsUnrefused said annotations.old → (first_refusal said (tree_at nodes.now number) ≡ None) × IsUnrefused said annotations.new) }
 {
-    let answers = annotate(e)?;
+    let node = &nodes[number];
+    let answers = annotate(node.key.expr())?;
     if !answers.is_empty() {
         return Ok(set_of(alloc, answers)?);
     }
     let mut set = HashSet::new(alloc);
-    for child in e.children() {
-        add_child(alloc, child, annotate, annotations, &mut set)?;
+    for child in node.children.as_slice() {
+        add_child(alloc, nodes, *child, annotate, annotations, &mut set)?;
     }
     Ok(set)
 }
@@ -76,25 +87,29 @@ fn annotations_of<A: Annotation + Drop, F: Fn(&BoundExpression) -> VortexResult<
 #[cycle(annotate)]
 fn add_child<A: Annotation + Drop, F: Fn(&BoundExpression) -> VortexResult<Vec<A>>>(
     alloc: Global,
-    child: &BoundExpression,
+    nodes: &[NumberedNode],
+    child: usize,
     annotate: &F,
     annotations: &mut BoundAnnotations<A>,
     set: &mut HashSet<A>,
 ) -> VortexResult<()>
-    requires { F.IsAlwaysCallable annotate.now }
+    requires numbered { IsNumbered nodes.now }
+    requires within { child < length nodes.now }
+    requires callable { F.IsAlwaysCallable annotate.now }
     ensures annotated { OnOk result ((answers : BoundTree → List A) → AnswersAlike A.eq (F.post annotate.now) answers → IsClosed (answered answers) annotations.old → IsAnnotated A.eq answers annotations.old
-        → ((a : A) → contains A.eq set.new a ≡ (contains A.eq set.old a || is_annotation A.eq answers a (bound_of child.now))) × IsAnnotated A.eq answers annotations.new
-        × ((k : _) → is_some (entry_at (key_of k) annotations.new) ≡ (is_reached (answered answers) (key_of k) (bound_of child.now) || is_some (entry_at (key_of k) annotations.old)))) }
+        → ((a : A) → contains A.eq set.new a ≡ (contains A.eq set.old a || is_annotation A.eq answers a (tree_at nodes.now child))) × IsAnnotated A.eq answers annotations.new
+        × ((k : _) → is_some (entry_at (key_of k) annotations.new) ≡ (is_reached (answered answers) (key_of k) (tree_at nodes.now child) || is_some (entry_at (key_of k) annotations.old)))) }
     ensures refusal { IfErr result (λ y. (y ≡ OutOfMemory) ⊎ ((x : _) × F.post annotate.now x (Err y))) }
-    ensures first { IfErr result (λ y. (said : _) → SaysBy A.eq (F.post annotate.now) said → IsUnrefused said annotations.old → (y ≡ OutOfMemory) ⊎ (first_refusal said (bound_of child.now) ≡ Some y)) }
-    ensures unrefused { OnOk result ((said : _) → SaysBy A.eq (F.post annotate.now) said → IsUnrefused said annotations.old → (first_refusal said (bound_of child.now) ≡ None) × IsUnrefused said annotations.new) }
+    ensures first { IfErr result (λ y. (said : _) → SaysBy A.eq (F.post annotate.now) said → IsUnrefused said annotations.old → (y ≡ OutOfMemory) ⊎ (first_refusal said (tree_at nodes.now child) ≡ Some y)) }
+    ensures unrefused { OnOk result ((said : _) → SaysBy A.eq (F.post annotate.now) said → IsUnrefused said annotations.old → (first_refusal said (tree_at nodes.now child) ≡ None) × IsUnrefused said annotations.new) }
 {
-    if let Some(below) = entry(annotations, child)? {
+    let key = &nodes[child].key;
+    if let Some(below) = annotations.get(key) {
         return add_all(alloc, set, below);
     }
-    let below = annotations_of(alloc, child, annotate, annotations)?;
+    let below = annotations_of(alloc, nodes, child, annotate, annotations)?;
     add_all(alloc, set, &below)?;
-    put(annotations, child, below)?;
+    put_at(annotations, key, below)?;
     Ok(())
 }
 

@@ -18,6 +18,8 @@ use vx_tree::{BoundExpression, VortexResult};
 /// The closure's answers at each node that is reached and has some. What lies below such a node
 /// isn't reached through it. There is no other entry.
 ///
+/// Takes time linear in the nodes, in expectation, beside that of the closure.
+///
 /// Refuses with what the closure refuses, the first that is met, and with `OutOfMemory` (1).
 pub fn direct_bound_annotations<
     A: Annotation + Drop,

@@ -8,6 +8,7 @@ mod direct;
 mod entries;
 mod fields;
 mod labels;
+mod numbers;
 
 pub use annotation::Annotation;
 pub use annotations::{BoundAnnotations, descendent_bound_annotations};

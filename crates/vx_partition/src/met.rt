@@ -54,7 +54,7 @@ fn only_annotation<'a, A: Annotation>(
 ) -> Result<Option<&'a A>, AllocError>
     ensures { IfOk result (λ a. option_copied a ≡ only_annotation annotations.now (bound_of e.now)) }
 {
-    let key = ExactBoundExpr(e.clone()?);
+    let key = ExactBoundExpr::new(e.clone()?);
     let only = only_key(annotations.get(&key));
     // By `drop`: to let go of a tree in place takes the proof far longer.
     drop(key);

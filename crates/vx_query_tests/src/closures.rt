@@ -26,7 +26,9 @@ fn labels_are_merged_from_the_left(rt: HostRuntime) -> Result<(), Fail> {
     let labels = folded(alloc, &*e).expect(&rt, "memory");
     // $ 1, $.a 3, $.a.x 5, the literal 1, and (1 * 2 + 5) * 2 + 1.
     assert_eq!(rt; labels.len(), 5);
-    let found = labels.get(&ExactBoundExpr(Box::into_inner(apart))).copied();
+    let found = labels
+        .get(&ExactBoundExpr::new(Box::into_inner(apart)))
+        .copied();
     assert!(rt; found == Some(15), "{found:?} and not 15");
     Ok(())
 }

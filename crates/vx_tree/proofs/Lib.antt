@@ -9,3 +9,4 @@ pub mod Texts
 pub mod TreeTexts
 pub mod Nullness
 pub mod Checks
+pub mod Keys

@@ -8,6 +8,8 @@ pub mod Binding
 pub mod Nodes
 pub mod Equality
 pub mod Hashes
+pub mod Digests
+pub mod Exact
 pub mod Uniqueness
 pub mod Harness
 pub mod Texts

@@ -89,7 +89,7 @@ fn push_label(
     labels: &BoundLabels<u64>,
     e: &BoundExpression,
 ) -> VortexResult<()> {
-    match labels.get(&ExactBoundExpr(e.clone()?)) {
+    match labels.get(&ExactBoundExpr::new(e.clone()?)) {
         Some(label) => Ok(text.push_str(format!(in alloc; "{label}")?.as_str())?),
         None => Ok(text.push('-')?),
     }

@@ -17,7 +17,7 @@ pub fn distinct_nodes(
         let Some(node) = waiting.pop() else {
             break;
         };
-        if seen.insert(ExactBoundExpr(node.clone()?))? {
+        if seen.insert(ExactBoundExpr::new(node.clone()?))? {
             nodes.push(node)?;
             for child in node.children().iter().rev() {
                 waiting.push(child)?;

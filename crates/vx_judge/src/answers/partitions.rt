@@ -104,7 +104,7 @@ fn set_at(
     found: &BoundAnnotations<FieldName>,
     node: &BoundExpression,
 ) -> VortexResult<String> {
-    let Some(set) = found.get(&ExactBoundExpr(node.clone()?)) else {
+    let Some(set) = found.get(&ExactBoundExpr::new(node.clone()?)) else {
         return Ok(String::from_str(alloc, "-")?);
     };
     let mut names: Vec<&str> = Vec::new(alloc);

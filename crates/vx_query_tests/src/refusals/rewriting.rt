@@ -149,7 +149,7 @@ fn sizes(alloc: Global, e: &BoundExpression) -> VortexResult<BoundLabels<u64>> {
 
 /// Whether there are four labels, and that one at the tree.
 fn has(labels: &BoundLabels<u64>, e: Box<BoundExpression>, label: u64) -> bool {
-    let key = ExactBoundExpr(Box::into_inner(e));
+    let key = ExactBoundExpr::new(Box::into_inner(e));
     labels.len() == 4 && labels.get(&key) == Some(&label)
 }
 

@@ -10,7 +10,7 @@ use Rattle.vx_analysis.specs.Reached.{is_reached_in}
 use Rattle.vx_analysis.proofs.Annotating.{some_item, no_item, items-alike, answered-set}
 use Rattle.vx_analysis.proofs.Answering.{stopped-next, stopped-end, stopped-here, stopped-below}
 use Rattle.vx_analysis.proofs.Refusing.{refused-here, refused-below, unrefused-here, unrefused-below, refusal-next}
-use Rattle.vx_analysis.proofs.Subtrees.{child-smaller, entries-with}
+use Rattle.vx_analysis.proofs.Subtrees.{bounds-next, bounds-end, child-smaller, entries-with}
 use Rattle.vx_analysis.proofs.direct.+annotate_into.Goals as goal
 
 pub returns-in_err-answers-clause-refusal : goal.returns-in_err-answers-clause-refusal
@@ -40,16 +40,14 @@ annotate_into-requires g t c =
 
 pub loop-child-preserved : goal.loop-child-preserved
 loop-child-preserved g t c =
-    let ts = c.children-child-items.result.now in
-    let i = c.loop-child.child-index in
-    let child = c.child-item.result in (
+    let next = bounds-next c.children-child-items.result.now c.loop-child.child-index c.child-item.result (omega arith) c.child-item.is in (
       λ answers alike was.
           let before = c.loop-child.invariant.0 answers alike was in
           let one = c.in_ok-annotate_into.ensures.annotated answers alike before.0 in (
             one.1,
-            λ k. stopped-next (answered answers) (key_of k) ts i child _ _ _ _ (omega arith) c.child-item.is (one.0 k) (before.1 k),
+            λ k. stopped-next (answered answers) (key_of k) _ _ _ _ _ _ _ next (one.0 k) (before.1 k),
           ),
-      λ said says. refusal-next said ts i child _ (omega arith) c.child-item.is (c.in_ok-annotate_into.ensures.unrefused said says) (c.loop-child.invariant.1 said says),
+      λ said says. refusal-next said _ _ _ _ next (c.in_ok-annotate_into.ensures.unrefused said says) (c.loop-child.invariant.1 said says),
     )
 
 pub returns-clause-annotated : goal.returns-clause-annotated
@@ -63,7 +61,7 @@ returns-clause-annotated g t c =
     let here : answered answers b ≡ false = sym (items-alike eq g.met.A.Eq.laws own (answers b) same) ∙ no_item own none in
     let all = c.loop-child.invariant.0 answers alike was in (
       λ k. stopped-below (answered answers) b (key_of k) _ _ here
-          (stopped-end (answered answers) (key_of k) c.children-child-items.result.now c.loop-child.child-index _ _ _ (omega arith) (all.1 k)
+          (stopped-end (answered answers) (key_of k) _ _ _ _ (bounds-end c.children-child-items.result.now c.loop-child.child-index (omega arith)) (all.1 k)
           ∙ ap (λ bs. (is_reached_in (answered answers) (key_of k) bs && answered answers (key_of k)) || is_some (entry_at (key_of k) c.args.annotations.now)) c.children-child-items.ensures.trees),
       all.0,
     )
@@ -88,8 +86,9 @@ returns-in_err-annotate_into-clause-first g t c =
     rw (p.1, p.2) (λ said says.
     let own = c.in_ok-answers.answers.items in
     let none : length own ≡ 0 = search rules in
-    refused-below said g.A.PartialEq.eq g.met.A.Eq.laws (bound_of c.args.e.now) own c.children-child-items.result.now c.loop-child.child-index c.child-item.result _
-    (says c.args.e _ c.in_ok-answers.ensures) none c.children-child-items.ensures.trees (omega arith) c.child-item.is
+    let next = bounds-next c.children-child-items.result.now c.loop-child.child-index c.child-item.result (omega arith) c.child-item.is in
+    refused-below said g.A.PartialEq.eq g.met.A.Eq.laws (bound_of c.args.e.now) own _ _ _ _ _
+    (says c.args.e _ c.in_ok-answers.ensures) none c.children-child-items.ensures.trees next
     (c.loop-child.invariant.1 said says) (c.in_err-annotate_into.ensures.first said says))
 
 pub returns-clause-unrefused : goal.returns-clause-unrefused
@@ -97,5 +96,6 @@ returns-clause-unrefused g t c =
     λ said says.
     let own = c.in_ok-answers.answers.items in
     let none : length own ≡ 0 = search rules in
-    unrefused-below said g.A.PartialEq.eq g.met.A.Eq.laws (bound_of c.args.e.now) own c.children-child-items.result.now c.loop-child.child-index
-    (says c.args.e _ c.in_ok-answers.ensures) none c.children-child-items.ensures.trees (omega arith) (c.loop-child.invariant.1 said says)
+    unrefused-below said g.A.PartialEq.eq g.met.A.Eq.laws (bound_of c.args.e.now) own _ _
+    (says c.args.e _ c.in_ok-answers.ensures) none c.children-child-items.ensures.trees
+    (bounds-end c.children-child-items.result.now c.loop-child.child-index (omega arith)) (c.loop-child.invariant.1 said says)

@@ -1,0 +1,37 @@
+use Rattle.std.proofs.Common.{◌≡◌, ◌<◌, arith, rules, sym, subst, length, map, ◌++◌, drop, ◌+◌}
+use Rattle.std.specs.Prelude.{All}
+use Rattle.std.proofs.lemmas.Result.{on_ok_weaker}
+use Rattle.vx_tree.specs.Nodes.{size_of}
+use Rattle.vx_tree.specs.Trees.{unbound}
+use Rattle.vx_tree.specs.Views.{bound_of}
+use Rattle.vx_analysis.specs.Numbers.{tree_at}
+use Rattle.vx_analysis.proofs.Numbering.{below-next, numbers-next}
+use Rattle.vx_analysis.proofs.Subtrees.{child-smaller}
+use Rattle.vx_analysis.proofs.numbers.+number_of.Goals as goal
+
+pub number_of-requires : goal.number_of-requires
+number_of-requires t c =
+    let fewer : size_of (unbound (bound_of c.child-item.result)) < size_of (unbound (bound_of c.args.e.now)) =
+    child-smaller _ c.children-child-items.result.now c.loop-child.child-index _ c.children-child-items.ensures.trees (omega arith) c.child-item.is in
+    search rules
+
+pub loop-child-preserved : goal.loop-child-preserved
+loop-child-preserved t c =
+    let before = c.loop-child.nodes.keys in
+    let after = c.number_of.new.nodes.keys in
+    let numbers = c.loop-child.children.items in
+    let one = c.in_ok-number.ensures in
+    let children = c.children-child-items.result.now in
+    record {
+      numbered = one.numbered;
+      kept = λ i b is. one.kept i b (c.loop-child.invariant.kept i b is);
+      below = subst (All (λ k. k < length after)) (sym c.in_ok-push.ensures.items)
+          (below-next before after one.kept numbers c.in_ok-number.number c.loop-child.invariant.below one.number.0);
+      trees = subst (λ ks. map (tree_at after) ks ++ map bound_of (drop (c.loop-child.child-index + 1) children) ≡ map bound_of children) (sym c.in_ok-push.ensures.items)
+          (numbers-next before after one.kept numbers c.in_ok-number.number children c.loop-child.child-index c.child-item.result c.loop-child.invariant.below one.number.1 (omega arith) c.child-item.is
+          c.loop-child.invariant.trees);
+    }
+
+pub returns-clause-kept : goal.returns-clause-kept
+returns-clause-kept t c =
+    on_ok_weaker c.number_over.result (λ kept i b is. kept i b (c.loop-child.invariant.kept i b is)) c.number_over.ensures.kept
