@@ -10,3 +10,4 @@ pub mod TreeTexts
 pub mod Nullness
 pub mod Checks
 pub mod Keys
+pub mod Deepest

@@ -6,6 +6,8 @@ pub mod Meant
 pub mod Views
 pub mod Binding
 pub mod Nodes
+pub mod Depths
+pub mod Levels
 pub mod Equality
 pub mod Hashes
 pub mod Digests

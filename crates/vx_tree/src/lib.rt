@@ -8,6 +8,7 @@ mod bound_accessors;
 mod bound_contains;
 mod checked;
 mod contains;
+mod depth;
 mod digest;
 mod display;
 mod display_tree;

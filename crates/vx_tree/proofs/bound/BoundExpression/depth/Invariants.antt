@@ -1,0 +1,13 @@
+use Rattle.std.proofs.Common.{◌≡◌, ◌+◌}
+use Rattle.vx_tree.specs.Depths.{depth_of}
+use Rattle.vx_tree.specs.Levels.{greatest, lent_bound_depth}
+use Rattle.vx_tree.specs.Trees.{unbound}
+use Rattle.vx_tree.specs.Views.{bound_of}
+use Rattle.vx_tree.proofs.bound.BoundExpression.depth.Given as goal
+
+-- the levels so far and those below are all
+abbrev pub invariant-loop-alloc : goal.invariant-loop-alloc
+invariant-loop-alloc l = l.depth + greatest lent_bound_depth l.level.items ≡ depth_of (unbound (bound_of l.self))
+
+abbrev pub decreases-loop-alloc : goal.decreases-loop-alloc
+decreases-loop-alloc l = greatest lent_bound_depth l.level.items

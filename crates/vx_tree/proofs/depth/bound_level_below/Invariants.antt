@@ -1,0 +1,15 @@
+use Rattle.std.proofs.Common.{◌≡◌, ◌+◌, drop}
+use Rattle.std.specs.Prelude.{max}
+use Rattle.vx_tree.specs.Depths.{depth_of}
+use Rattle.vx_tree.specs.Levels.{greatest, lent_bound_depth, lent_bound_depth_below}
+use Rattle.vx_tree.specs.Trees.{unbound}
+use Rattle.vx_tree.specs.Views.{bound_of}
+use Rattle.vx_tree.proofs.depth.bound_level_below.Given as goal
+
+-- the children that are found, those of this node that are left, and those of the nodes that are left have together the greatest depth of all
+abbrev pub invariant-loop-child : goal.invariant-loop-child
+invariant-loop-child l =
+    max (max (greatest lent_bound_depth l.below.items) (greatest (λ t. depth_of (unbound (bound_of t))) (drop l.child-index l.child-items))) (greatest lent_bound_depth_below (drop (l.i + 1) l.level)) ≡ greatest lent_bound_depth_below l.level
+
+abbrev pub invariant-loop-i : goal.invariant-loop-i
+invariant-loop-i l = max (greatest lent_bound_depth l.below.items) (greatest lent_bound_depth_below (drop l.i l.level)) ≡ greatest lent_bound_depth_below l.level
