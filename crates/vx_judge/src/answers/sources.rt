@@ -25,7 +25,7 @@ pub fn answer(
         SourceKind::Type => agreed_type(alloc, scene, &source)?,
         SourceKind::Built => built(alloc, scene.words(words), &source)?,
         SourceKind::BuiltBound => built_bound(alloc, scene, words)?,
-        SourceKind::Depth => format!(in alloc; "{}", depth(&source))?,
+        SourceKind::Depth => depth(alloc, scene, &source)?,
         SourceKind::AnyQuery => any_query(alloc, scene, &source)?,
         SourceKind::Planned
         | SourceKind::PlannedPaths
@@ -131,14 +131,16 @@ fn binds_alike(
     Ok(*other == *bound)
 }
 
-// How many nodes stand above the first scope root or literal, by first children.
-fn depth(source: &Expression) -> usize {
-    let mut node = source;
-    for depth in 0..usize::MAX {
-        match node.children().first() {
-            Some(first) => node = first,
-            None => return depth,
+// How deep the source is, also once it is bound.
+fn depth(alloc: Global, scene: &Scene, source: &Expression) -> VortexResult<String> {
+    let depth = source.depth(alloc)?;
+    let depth = format!(in alloc; "{depth}")?;
+    match scene.bind(alloc, source) {
+        Ok(bound) => {
+            let other = bound.depth(alloc)?;
+            let other = format!(in alloc; "{other}")?;
+            agreed(alloc, depth, other)
         }
+        Err(_) => Ok(depth),
     }
-    usize::MAX
 }
