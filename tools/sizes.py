@@ -1,0 +1,125 @@
+#!/usr/bin/env python3
+"""Runs calls over trees and scopes of great width and size, and prints what each takes.
+
+Each is a table of one scope and one line, which the proved program `vx_rows` reads, runs through the
+public calls and judges: so the answers are compared, too. `rt ci` or `rt run vx_rows` has built it.
+docs/SIZES.md has what was measured. A size in place of 100,000 may be given: `tools/sizes.py 10000`.
+"""
+import os
+import resource
+import subprocess
+import sys
+import tempfile
+
+PROGRAM = os.path.abspath(os.path.join(os.path.dirname(__file__), "..", "crates/vx_rows/out/vx_rows"))
+SECONDS = 120
+
+
+def wide(n):
+    """A scope of n fields, and the last of them."""
+    last = f"c{n - 1}"
+    scope = [f"scope | {{{n}*c#=i32?}}", f"batch | {{{n}*7}}"]
+    return scope, last, [
+        ("type", f"type | {last} | i32?"),
+        ("text", f"text | {last} | $.{last}"),
+        ("optimized", f"optimized | {last} | $.{last} : i32?"),
+        ("rows", f"rows | {last} | [7i32]"),
+        ("paths", f"paths | {last} | $.{last}"),
+        ("planned split", f"planned split | {last} | root: $.{last}.{last}_0 {{{last}: pack({last}_0: $.{last})}}"),
+        ("scan", f"scan | {last} | [7i32] : i32?"),
+    ]
+
+
+def conjuncts(n):
+    """n conjuncts over one field, collected in rounds."""
+    tree = f"times({n}) a # >= end all({n})"
+    rounds, left = 0, n
+    while left > 1:
+        rounds, left = rounds + 1, (left + 1) // 2
+    return ["scope | {a=i32}", f"batch | {{{n}}} {{0}}"], None, [
+        ("depth", f"depth | {tree} | {rounds + 3}"),
+        ("type", f"type | {tree} | bool"),
+        ("optimized or none", f"optimized or none | {tree} | none"),
+        ("rows", f"rows | {tree} | [true, false]"),
+        ("paths", f"paths | {tree} | $.a"),
+        ("size", f"size | {tree} | {5 * n - 1}"),
+        ("covers", f"covers | {tree} | true"),
+        ("scan", f"scan | {tree} | [true, false] : bool"),
+    ]
+
+
+def ranges(n):
+    """n fields, each between two bounds: the lower bounds all before the upper ones."""
+    tree = f"times({n}) c# 0 >= end all({n}) times({n}) c# 9 < end all({n}) and"
+    return [f"scope | {{{n}*c#=i32}}", f"batch | {{{n}*7}}"], None, [
+        ("type", f"type | {tree} | bool"),
+        ("fused rows", f"fused rows | {tree} | [true]"),
+        ("query", f"query | fuse split | {tree} | [true]"),
+        ("scan", f"scan | {tree} | [true] : bool"),
+    ]
+
+
+def name(n):
+    """A name of ten times n bytes."""
+    word = "n" * (10 * n)
+    return [f"scope | {{{word}=i32}}", "batch | {7}"], None, [
+        ("type", f"type | {word} | i32"),
+        ("text length", f"text length | {word} | {10 * n + 2}"),
+        ("rows", f"rows | {word} | [7i32]"),
+        ("paths", f"paths | {word} | $.{word}"),
+        ("scan", f"scan | {word} | [7i32] : i32"),
+    ]
+
+
+def shared(n):
+    """A tree in which one node is shared, n times over: 2^n ways lead down."""
+    tree = f"true times({n}) dup and end"
+    return ["scope | {a=i32}", "batch | {7}"], None, [
+        ("type", f"type | {tree} | bool"),
+        ("optimized or none", f"optimized or none | {tree} | none"),
+        ("rows", f"rows | {tree} | [true]"),
+        ("size", f"size | {tree} | {2 ** (n + 1) - 1}"),
+    ]
+
+
+def measured(scope, line):
+    """The seconds and the bytes at the peak that the line takes, and whether it was answered."""
+    with tempfile.TemporaryDirectory() as room:
+        with open(os.path.join(room, "one.table"), "w", encoding="utf-8") as table:
+            table.write("\n".join([*scope, line]) + "\n")
+        before = resource.getrusage(resource.RUSAGE_CHILDREN).ru_utime
+        try:
+            ran = subprocess.run([PROGRAM, "one.table"], cwd=room, capture_output=True, text=True, timeout=SECONDS)
+        except subprocess.TimeoutExpired:
+            return f"over {SECONDS} s", ""
+        usage = resource.getrusage(resource.RUSAGE_CHILDREN)
+        if ran.returncode == 0:
+            return f"{usage.ru_utime - before:.2f} s", ""
+        if ran.returncode < 0:
+            return f"killed by signal {-ran.returncode}", ""
+        return "ANOTHER ANSWER", ran.stdout[:300]
+
+
+def main():
+    n = int(sys.argv[1]) if len(sys.argv) > 1 else 100_000
+    shapes = [
+        (f"{n} fields", wide(n)),
+        (f"{n} conjuncts", conjuncts(n)),
+        (f"{n // 100} ranges", ranges(n // 100)),
+        (f"a name of {10 * n} bytes", name(n)),
+        *[(f"shared {k} times over", shared(k)) for k in (10, 15, 20)],
+    ]
+    print("| Shape | Line | Time |\n|---|---|---:|")
+    wrong = False
+    for shape, (scope, _, lines) in shapes:
+        empty, _ = measured(scope, "text | 1 | 1i32")
+        print(f"| {shape} | nothing but the scope and its batch | {empty} |", flush=True)
+        for call, line in lines:
+            took, said = measured(scope, line)
+            wrong |= bool(said)
+            print(f"| {shape} | {call} | {took} |{said}", flush=True)
+    return 1 if wrong else 0
+
+
+if __name__ == "__main__":
+    sys.exit(main())
