@@ -5,7 +5,7 @@ use Rattle.vx_fn.specs.Values.{kleene_and, kleene_or, kleene_not, is_true, is_fa
 use Rattle.vx_eval.specs.Columns.{truth_datum, truth_of}
 
 -- what a value is to the tables: itself, or null where it is no truth value
-abbrev seen : Datum → Datum
+abbrev pub seen : Datum → Datum
 seen v = truth_datum (truth_of v)
 
 true_seen : (v : Datum) → is_true (seen v) ≡ is_true v
@@ -15,6 +15,12 @@ true_seen _ = refl
 false_seen : (v : Datum) → is_false (seen v) ≡ is_false v
 false_seen (bool b) = refl
 false_seen _ = refl
+
+pub left_seen : (v w : Datum) → kleene_and v w ≡ kleene_and (seen v) w
+left_seen v w = rw (true_seen v, false_seen v) refl
+
+pub right_seen : (v w : Datum) → kleene_and v w ≡ kleene_and v (seen w)
+right_seen v w = rw (true_seen w, false_seen w) refl
 
 pub and_told : (v w : Datum) (t : Option Bool) → truth_datum t ≡ kleene_and (seen v) (seen w) → truth_datum t ≡ kleene_and v w
 and_told v w t e = e ∙ rw (true_seen v, true_seen w, false_seen v, false_seen w) refl

@@ -11,5 +11,6 @@ mod FirstRows
 mod Likes
 mod Matched
 mod Trues
+mod Conjoined
 mod Masked
 mod Branches

@@ -1,7 +1,7 @@
 -- Columns of trees' values, and the rows of their children's values.
-use Rattle.std.proofs.Common.{◌≡◌, ℕ, ◌<◌, List, [], ◌∷◌, map, length, get_or, refl, sym, ap, subst, ◌∙◌, arith, Option, Some, None, Result, Ok, suc, IsOk, rules, Vec, vec_len}
+use Rattle.std.proofs.Common.{◌≡◌, ℕ, ◌+◌, ◌<◌, List, [], ◌∷◌, ◌++◌, append_assoc, drop, map, length, get_or, refl, sym, ap, subst, ◌∙◌, arith, Option, Some, None, Result, Ok, Err, suc, IsOk, rules, Vec, vec_len}
 use Rattle.std.specs.Option.{option_or}
-use Rattle.std.proofs.lemmas.List.{length-map, get_or-map, ext_get_or, map-id}
+use Rattle.std.proofs.lemmas.List.{drop_more, map-append, length-map, get_or-map, ext_get_or, map-id}
 use Rattle.std.proofs.lemmas.List.FromFn.{length-map-range_with_len, get_or-map-range_with_len}
 use Rattle.std.specs.declared.alloc.Global.{Global}
 use Rattle.std.specs.declared.rc.Rc.{Rc}
@@ -20,13 +20,13 @@ use Rattle.vx_fn.specs.Values.{fn_value}
 use Rattle.vx_fn.specs.Faults.{node_fault}
 use Rattle.vx_fn.specs.Views.{function_of}
 use Rattle.vx_tree.specs.declared.bound.BoundExpression.{BoundExpression, Scalar, Root, the_lemmas}
-use Rattle.vx_tree.specs.Faults.{each_fault}
+use Rattle.vx_tree.specs.Faults.{first_fault, each_fault}
 use Rattle.vx_tree.specs.Meaning.{value, values}
-use Rattle.vx_tree.specs.Trees.{scope, node, BoundTrees, no_bound, bound, node_type, node_types}
+use Rattle.vx_tree.specs.Trees.{EachWellTyped, BoundTree, scope, node, BoundTrees, no_bound, bound, node_type, node_types}
 use Rattle.vx_tree.specs.Views.{bound_of, bounds_of}
 use Rattle.vx_eval.specs.declared.rows.Rows.{Rows}
 use Rattle.vx_eval.specs.Columns.{values_of, row_at, rows_of, rows_view, rows_views, unless_fault, node_answer, Evaluates, AllLong}
-use Rattle.vx_eval.specs.Evaluation.{columns, tree_answer, each_answer}
+use Rattle.vx_eval.specs.Evaluation.{columns, tree_answer, each_answer, prepended}
 use Rattle.vx_eval.proofs.Filled.{map_map}
 
 row_at-columns : (bs : BoundTrees) (batch : List Datum) (k : ℕ) → k < length batch → row_at (columns bs batch) k ≡ values bs (get_or batch k null)
@@ -146,3 +146,35 @@ as_long_as batch n bs rs counted e =
 
 pub as_counted : (n : ℕ) (v w : Vec Value Global) → n ≡ vec_len v → v ≡ w → n ≡ length w.items
 as_counted n v w counted is = counted ∙ v.ok.0 ∙ ap (λ u. length u.items) is
+
+-- ---- columns, one child after another
+
+first_given : (b : BoundTree) (bs : BoundTrees) (rows col : List Datum) → tree_answer b rows ≡ Ok col → each_answer (bound b bs) rows ≡ prepended (col ∷ []) (each_answer bs rows)
+first_given b bs rows col e = go (first_fault b rows) refl e
+  where
+    before : (cs : List (List Datum)) (o : Option VortexError) → unless_fault o (col ∷ cs) ≡ prepended (col ∷ []) (unless_fault o cs)
+    before cs None = refl
+    before cs (Some fault) = refl
+
+    go : (o : Option VortexError) → first_fault b rows ≡ o → unless_fault o (map (value b) rows) ≡ Ok col → each_answer (bound b bs) rows ≡ prepended (col ∷ []) (each_answer bs rows)
+    go None q e =
+        let same : map (value b) rows ≡ col = cc in
+        ap (λ o. unless_fault (option_or o (each_fault bs rows)) (map (value b) rows ∷ columns bs rows)) q ∙ ap (λ c. unless_fault (each_fault bs rows) (c ∷ columns bs rows)) same ∙ before (columns bs rows) (each_fault bs rows)
+    go (Some fault) q e = cc
+
+prepended_twice : (xs : List (List Datum)) (c : List Datum) (r : Result (List (List Datum)) VortexError) → prepended xs (prepended (c ∷ []) r) ≡ prepended (xs ++ c ∷ []) r
+prepended_twice xs c (Ok ds) = ap Ok (sym (append_assoc xs (c ∷ []) ds))
+prepended_twice xs c (Err fault) = refl
+
+child_on : (bs : List BoundExpression) (i : ℕ) (b : BoundExpression) → i < length bs → b ≡ get_or bs i b → drop i bs ≡ b ∷ drop (i + 1) bs
+child_on bs i b lt is = drop_more bs i b lt ∙ ap (λ x. x ∷ drop (i + 1) bs) (sym is)
+
+pub column_put : (bs : List BoundExpression) (rows : List Datum) (i : ℕ) (b : BoundExpression) (rs new : List Rows) (r : Rows) (want : Result (List (List Datum)) VortexError) → i < length bs → b ≡ get_or bs i b →
+    want ≡ prepended (rows_views rs) (each_answer (bounds_of (drop i bs)) rows) → tree_answer (bound_of b) rows ≡ Ok (rows_view r) → new ≡ rs ++ r ∷ [] → want ≡ prepended (rows_views new) (each_answer (bounds_of (drop (i + 1) bs)) rows)
+column_put bs rows i b rs new r want lt is so_far given pushed =
+    let rest = each_answer (bounds_of (drop (i + 1) bs)) rows in
+    so_far ∙ ap (λ l. prepended (rows_views rs) (each_answer (bounds_of l) rows)) (child_on bs i b lt is) ∙ ap (prepended (rows_views rs)) (first_given (bound_of b) (bounds_of (drop (i + 1) bs)) rows (rows_view r) given)
+    ∙ prepended_twice (rows_views rs) (rows_view r) rest ∙ sym (ap (λ l. prepended l rest) (ap rows_views pushed ∙ map-append rows_view rs (r ∷ [])))
+
+pub typed_on : (bs : List BoundExpression) (i : ℕ) (b : BoundExpression) → i < length bs → b ≡ get_or bs i b → EachWellTyped (bounds_of (drop i bs)) → EachWellTyped (bounds_of (drop (i + 1) bs))
+typed_on bs i b lt is typed = let all : EachWellTyped (bounds_of (b ∷ drop (i + 1) bs)) = subst (λ l. EachWellTyped (bounds_of l)) (child_on bs i b lt is) typed in all.1

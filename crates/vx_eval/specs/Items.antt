@@ -1,8 +1,9 @@
 -- Items of structs, and truth values told of them.
-use Rattle.std.specs.Prelude.{ℕ, List, map, Option, Some, None, zero, suc, Bool, true, false}
+use Rattle.std.specs.Prelude.{◌≡◌, ℕ, List, [], ◌∷◌, map, length, Option, Some, None, zero, suc, Bool, true, false}
 use Rattle.vx_types.specs.Types.{Datum, null, bool, struct_of, Data, no_datum, datum}
 use Rattle.vx_fn.specs.Functions.{Operation, compares}
-use Rattle.vx_fn.specs.Values.{binary_value}
+use Rattle.vx_fn.specs.Values.{binary_value, kleene_and}
+use Rattle.vx_merge.specs.Merges.{each_row, row_at}
 
 -- the value at that place
 abbrev pub datum_at : ℕ → Data → Datum
@@ -28,3 +29,17 @@ is_comparison _ = false
 -- what the operation tells of the item at that place of each struct and of one value
 abbrev pub compared_items : Operation → ℕ → Datum → List Datum → List Datum
 compared_items op k d vs = map (λ v. binary_value op (item_at k v) d) vs
+
+-- each column has n values
+abbrev pub AllLong : ℕ → List (List Datum) → Type 0
+AllLong n [] = Unit {0}
+AllLong n (c ∷ cs) = (length c ≡ n) × AllLong n cs
+
+-- the And of all of them, and true of none
+abbrev pub all_of : List Datum → Datum
+all_of [] = bool true
+all_of (v ∷ vs) = kleene_and v (all_of vs)
+
+-- the same of the values that each of the first n rows has in the columns
+abbrev pub conjoined : ℕ → List (List Datum) → List Datum
+conjoined n cs = each_row n (λ k. all_of (row_at cs k))

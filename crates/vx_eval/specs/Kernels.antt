@@ -1,5 +1,5 @@
 -- What the kernels of single functions are told.
-use Rattle.std.specs.Prelude.{◌≡◌, ℕ, ◌<◌, List, map, Option, Some, None, Result, Ok, Bool, true, false}
+use Rattle.std.specs.Prelude.{◌≡◌, ℕ, ◌<◌, List, map, Option, Some, None, Result, Ok, Bool, false}
 use Rattle.vx_types.specs.declared.value.Value.{Value}
 use Rattle.vx_types.specs.Fields.{data_of}
 use Rattle.vx_types.specs.Types.{Datum, null, bool, utf8, struct_of}

@@ -7,10 +7,8 @@ ghost use Rattle.vx_merge.specs.Merges.{values_of};
 ghost use Rattle.vx_eval.specs.Items.{compared_items, is_comparison, truth_datum};
 
 use crate::comparison::compared;
-use crate::constants::Constants;
 use crate::fields::item_row;
 use std::marker::Model;
-use std::rc::Rc;
 use vx_fn::Operator;
 use vx_types::Value;
 
@@ -18,10 +16,9 @@ use vx_types::Value;
 #[derive(Drop)]
 pub struct ComparedItem<'a> {
     operator: Operator,
-    rows: &'a Rc<Vec<Value>>,
+    rows: &'a [Value],
     place: usize,
     value: &'a Value,
-    constants: Constants,
 }
 
 impl<'a> Model for ComparedItem<'a> {
@@ -38,7 +35,7 @@ impl<'a> Model for ComparedItem<'a> {
 
     ghost coded = { coded_list datum_code };
 
-    ghost view = { λ c. compared_items (operation_of c.operator) c.place (value_of c.value.now) (values_of c.rows.now.value.items) };
+    ghost view = { λ c. compared_items (operation_of c.operator) c.place (value_of c.value.now) (values_of c.rows.now) };
 
     ghost invariant = { λ c. IsTrue (is_comparison (operation_of c.operator)) };
 }
@@ -47,19 +44,30 @@ impl<'a> ComparedItem<'a> {
     /// The comparison of each item at that place with the value. Asks one of the six comparisons.
     pub fn new(
         operator: Operator,
-        rows: &'a Rc<Vec<Value>>,
+        rows: &'a [Value],
         place: usize,
         value: &'a Value,
     ) -> ComparedItem<'a>
         requires { IsTrue (is_comparison (operation_of operator)) }
-        ensures { result ≡ compared_items (operation_of operator) place (value_of value.now) (values_of rows.now.value.items) }
+        ensures { result ≡ compared_items (operation_of operator) place (value_of value.now) (values_of rows.now) }
     {
         ComparedItem {
             operator,
             rows,
             place,
             value,
-            constants: Constants::new(),
+        }
+    }
+
+    /// The same comparisons.
+    pub fn copy(&self) -> ComparedItem<'a>
+        ensures { result ≡ self.now }
+    {
+        ComparedItem {
+            operator: self.operator,
+            rows: self.rows,
+            place: self.place,
+            value: self.value,
         }
     }
 
@@ -70,22 +78,15 @@ impl<'a> ComparedItem<'a> {
         self.rows.len()
     }
 
-    /// What the comparison tells of that row. Asks an index below the number of rows.
+    /// What the comparison tells of that row, where the null that is given stands for an item that
+    /// isn't there. Asks an index below the number of rows.
     #[inline(always)]
-    pub fn truth(&self, i: usize) -> Option<bool>
-        requires { i < length self.now }
+    pub fn truth(&self, otherwise: &Value, i: usize) -> Option<bool>
+        requires null { value_of otherwise.now ≡ null }
+        requires within { i < length self.now }
         ensures { truth_datum result ≡ get_or self.now i null }
     {
-        let rows = self.rows.as_slice();
-        let item = item_row(self.constants.null(), rows, self.place, i);
+        let item = item_row(otherwise, self.rows, self.place, i);
         compared(self.operator, item, self.value)
-    }
-
-    /// The same as a value. Asks an index below the number of rows.
-    pub fn row(&self, i: usize) -> &Value
-        requires { i < length self.now }
-        ensures { value_of result.now ≡ get_or self.now i null }
-    {
-        self.constants.truth(self.truth(i))
     }
 }

@@ -13,6 +13,7 @@ ghost use Rattle.vx_eval.specs.Columns.{rows_view, truth_datum, Evaluates};
 ghost use Rattle.vx_eval.specs.Kernels.{is_comparison, agrees_with};
 
 use crate::compared::ComparedItem;
+use crate::conjunction::Conjunction;
 use crate::logic::kleene_and;
 use crate::rows::Rows;
 use crate::truths::told;
@@ -56,8 +57,8 @@ fn compare_with<'a>(
 {
     match lhs {
         Rows::Item(rows, place, _) => {
-            let items = ComparedItem::new(operator, *rows, *place, value);
-            Ok(Rows::Compared(items))
+            let item = ComparedItem::new(operator, rows.as_slice(), *place, value);
+            Ok(Rows::Compared(Conjunction::new(alloc, item)?))
         }
         _ => told(alloc, count, |i| compared(operator, lhs.row(i), value)),
     }

@@ -6,6 +6,7 @@ mod casting;
 mod choice;
 mod compared;
 mod comparison;
+mod conjunction;
 mod constants;
 mod evaluation;
 mod fields;

@@ -10,13 +10,26 @@ use crate::truths::told;
 use std::alloc::Global;
 use vx_types::VortexResult;
 
-/// The And of two columns. Refuses with `OutOfMemory` (1) alone.
-pub fn and<'a>(alloc: Global, count: usize, lhs: &Rows, rhs: &Rows) -> VortexResult<Rows<'a>>
-    requires left { length (rows_view lhs.now) ≡ count }
-    requires right { length (rows_view rhs.now) ≡ count }
-    ensures { (ts : List LogicalType) → Evaluates (binary and_also) ts count (rows_view lhs.now ∷ rows_view rhs.now ∷ []) result }
+/// The And of two columns; of comparisons that wait to be asked for, one that waits, too. Refuses
+/// with `OutOfMemory` (1) alone.
+pub fn and<'a>(alloc: Global, count: usize, lhs: Rows<'a>, rhs: Rows<'a>) -> VortexResult<Rows<'a>>
+    requires left { length (rows_view lhs) ≡ count }
+    requires right { length (rows_view rhs) ≡ count }
+    ensures { (ts : List LogicalType) → Evaluates (binary and_also) ts count (rows_view lhs.entry ∷ rows_view rhs.entry ∷ []) result }
 {
-    told(alloc, count, |i| kleene_and(lhs.truth(i), rhs.truth(i)))
+    match (lhs, rhs) {
+        (Rows::Compared(first), Rows::Compared(second)) => {
+            let joined = first.and(&second);
+            drop(second);
+            Ok(Rows::Compared(joined?))
+        }
+        (lhs, rhs) => {
+            let truths = told(alloc, count, |i| kleene_and(lhs.truth(i), rhs.truth(i)));
+            drop(lhs);
+            drop(rhs);
+            truths
+        }
+    }
 }
 
 /// The Or of two columns. Refuses with `OutOfMemory` (1) alone.

@@ -52,8 +52,7 @@ pub fn apply<'a>(
             choice::zip(alloc, count, if_true, if_false, mask)
         }
         ScalarFnRef::Binary(operator) => {
-            let (lhs, rhs) = pair(columns.as_slice());
-            binary(alloc, count, *operator, first_type(children), lhs, rhs)
+            binary(alloc, count, *operator, first_type(children), columns)
         }
         ScalarFnRef::Not(_) => logic::not(alloc, count, single(columns.as_slice())),
         ScalarFnRef::Between(options) => {
@@ -87,19 +86,30 @@ fn binary<'a>(
     count: usize,
     operator: Operator,
     dtype: &DType,
-    lhs: &Rows<'a>,
-    rhs: &Rows<'a>,
+    columns: Vec<Rows<'a>>,
 ) -> VortexResult<Rows<'a>>
     requires numbers { operation_of operator ≡ adds → IsTrue (is_number (type_of dtype.now)) }
-    requires left { length (rows_view lhs.now) ≡ count }
-    requires right { length (rows_view rhs.now) ≡ count }
-    ensures { (ts : List LogicalType) → Evaluates (functions.binary (operation_of operator)) (type_of dtype.now ∷ ts) count (rows_view lhs.now ∷ rows_view rhs.now ∷ []) result }
+    requires two { length columns.items ≡ 2 }
+    requires long { AllLong count (rows_views columns.items) }
+    ensures { (ts : List LogicalType) → Evaluates (functions.binary (operation_of operator)) (type_of dtype.now ∷ ts) count (rows_views columns.entry.items) result }
 {
     match operator {
-        Operator::And => logic::and(alloc, count, lhs, rhs),
-        Operator::Or => logic::or(alloc, count, lhs, rhs),
-        Operator::Add => arithmetic::add(alloc, count, dtype, lhs, rhs),
-        _ => comparison::compare(alloc, count, operator, lhs, rhs),
+        Operator::And => {
+            let (lhs, rhs) = two(columns);
+            logic::and(alloc, count, lhs, rhs)
+        }
+        Operator::Or => {
+            let (lhs, rhs) = pair(columns.as_slice());
+            logic::or(alloc, count, lhs, rhs)
+        }
+        Operator::Add => {
+            let (lhs, rhs) = pair(columns.as_slice());
+            arithmetic::add(alloc, count, dtype, lhs, rhs)
+        }
+        _ => {
+            let (lhs, rhs) = pair(columns.as_slice());
+            comparison::compare(alloc, count, operator, lhs, rhs)
+        }
     }
 }
 

@@ -8,11 +8,11 @@ ghost use Rattle.vx_mask.specs.Masks.{IsRunFrom};
 ghost use Rattle.vx_merge.specs.Merges.{HoldsIn, StaysFrom, IsWritten};
 ghost use Rattle.vx_eval.specs.Columns.{each_row, values_of, rows_view, rows_views, row_at, truth_of, HaveRow};
 
-use crate::compared::ComparedItem;
+use crate::conjunction::Conjunction;
 use crate::constants::Constants;
 use crate::fields::item_row;
 use crate::filling::collected;
-use crate::truths::{truth_of, truth_values};
+use crate::truths::{truth_at, truth_of, truth_value};
 use std::alloc::{AllocError, Global};
 use std::rc::Rc;
 use vx_mask::RowMask;
@@ -34,8 +34,8 @@ pub enum Rows<'a> {
     Same(&'a Value, usize),
     /// Truth values, and null where there is none.
     Truths(Vec<Option<bool>>, Constants),
-    /// Items that are lent, each to be compared with one value.
-    Compared(ComparedItem<'a>),
+    /// Comparisons of items that are lent, joined by And.
+    Compared(Conjunction<'a>),
 }
 
 impl<'a> Rows<'a> {
@@ -52,7 +52,7 @@ impl<'a> Rows<'a> {
             Rows::Owned(values) => &values[i],
             Rows::Same(value, _) => value,
             Rows::Truths(truths, constants) => constants.truth(truths[i]),
-            Rows::Compared(items) => items.row(i),
+            Rows::Compared(tests) => tests.row(i),
         }
     }
 
@@ -64,7 +64,7 @@ impl<'a> Rows<'a> {
     {
         match self {
             Rows::Truths(truths, _) => truths[i],
-            Rows::Compared(items) => items.truth(i),
+            Rows::Compared(tests) => tests.truth(i),
             values => truth_of(values.row(i)),
         }
     }
@@ -189,10 +189,7 @@ impl<'a> Rows<'a> {
     fn shared_copies(&self, alloc: Global) -> VortexResult<Rc<Vec<Value>>>
         ensures { Answers (λ values. values_of values.value.items) result (Ok (rows_view self.now)) }
     {
-        let values = match self {
-            Rows::Truths(truths, _) => truth_values(alloc, truths.as_slice())?,
-            rows => rows.copies(alloc)?,
-        };
+        let values = self.copies(alloc)?;
         Ok(Rc::new(alloc, values)?)
     }
 
@@ -200,7 +197,12 @@ impl<'a> Rows<'a> {
     fn copies(&self, alloc: Global) -> VortexResult<Vec<Value>>
         ensures { Answers (λ values. values_of values.items) result (Ok (rows_view self.now)) }
     {
-        collected(alloc, self.len(), |i| copied(self.row(i)))
+        let count = self.len();
+        match self {
+            Rows::Truths(truths, _) => collected(alloc, count, |i| Ok(truth_at(truths.as_slice(), i))),
+            Rows::Compared(tests) => collected(alloc, count, |i| Ok(truth_value(tests.truth(i)))),
+            rows => collected(alloc, count, |i| copied(rows.row(i))),
+        }
     }
 
     // The number of rows.
@@ -213,7 +215,7 @@ impl<'a> Rows<'a> {
             Rows::Owned(values) => values.len(),
             Rows::Same(_, count) => *count,
             Rows::Truths(truths, _) => truths.len(),
-            Rows::Compared(items) => items.len(),
+            Rows::Compared(tests) => tests.len(),
         }
     }
 }

@@ -1,10 +1,9 @@
 // Columns of truth values, and of null where there is none.
-ghost use Rattle.std.specs.Prelude.{◌≡◌, ◌<◌, ℕ, Bool, IfOk, IfErr, Ok, Option, map};
-ghost use Rattle.vx_dtype.specs.Answers.{Answers};
+ghost use Rattle.std.specs.Prelude.{◌≡◌, ◌<◌, ℕ, IfOk, IfErr, Option, length, map, get_or};
 ghost use Rattle.vx_dtype.specs.declared.error.VortexError.TheVariants.{OutOfMemory};
-ghost use Rattle.vx_types.specs.Types.{Datum};
+ghost use Rattle.vx_types.specs.Types.{Datum, null};
 ghost use Rattle.vx_types.specs.Views.{value_of};
-ghost use Rattle.vx_eval.specs.Columns.{values_of, rows_view, truth_datum, truth_of, each_row};
+ghost use Rattle.vx_eval.specs.Columns.{rows_view, truth_datum, truth_of, each_row};
 ghost use Rattle.vx_eval.specs.Kernels.{TellsRows};
 
 use crate::constants::Constants;
@@ -39,23 +38,22 @@ pub fn truth_of(value: &Value) -> Option<bool>
     }
 }
 
-/// The truth values and nulls as values. Refuses with `OutOfMemory` (1) alone.
-pub fn truth_values(alloc: Global, truths: &[Option<bool>]) -> VortexResult<Vec<Value>>
-    ensures { Answers (λ values. values_of values.items) result (Ok (map truth_datum truths.now)) }
-{
-    let mut values = Vec::with_capacity(alloc, truths.len())?;
-    for i in 0..truths.len() {
-        values.push(truth_value(truths[i]))?;
-    }
-    Ok(values)
-}
-
-// The truth value or null as a value.
-fn truth_value(truth: Option<bool>) -> Value
+/// The truth value or null as a value.
+#[inline]
+pub fn truth_value(truth: Option<bool>) -> Value
     ensures { value_of result ≡ truth_datum truth }
 {
     match truth {
         None => Value::Null,
         Some(b) => Value::Bool(b),
     }
+}
+
+/// The truth value or null of that row as a value.
+#[inline]
+pub fn truth_at(truths: &[Option<bool>], i: usize) -> Value
+    requires { i < length truths.now }
+    ensures { value_of result ≡ get_or (map truth_datum truths.now) i null }
+{
+    truth_value(truths[i])
 }

@@ -34,7 +34,7 @@ pub returns-in-Zip : goal.returns-in-Zip
 returns-in-Zip c = at_node _ _ _ _ _ _ _ _ (ap function_of c.in-Zip.is) refl (ap rows_views c.three-if_true.ensures) (c.zip.ensures (node_types (bounds_of c.args.children.now)))
 
 pub returns-in-Binary : goal.returns-in-Binary
-returns-in-Binary c = at_node _ _ _ _ _ _ _ _ (ap function_of c.in-Binary.is) c.first_type-in-Binary.ensures.1 (ap rows_views (sym c.as_slice-in-Binary.ensures.value ∙ c.pair.ensures)) (c.binary.ensures c.first_type-in-Binary.ensures.0)
+returns-in-Binary c = at_node _ _ _ _ _ _ _ _ (ap function_of c.in-Binary.is) c.first_type-in-Binary.ensures.1 refl (c.binary.ensures c.first_type-in-Binary.ensures.0)
 
 pub returns-in-Not : goal.returns-in-Not
 returns-in-Not c = at_node _ _ _ _ _ _ _ _ (ap function_of c.in-Not.is) refl (ap rows_views (sym c.as_slice-in-Not.ensures.value ∙ c.single-in-Not.ensures)) (c.not.ensures (node_types (bounds_of c.args.children.now)))
@@ -55,4 +55,4 @@ pub returns : goal.returns
 returns c = at_node _ _ _ _ _ _ _ _ (ap function_of c.in-Cast.is) refl (ap rows_views c.one-in-Cast.ensures) (c.cast.ensures (node_types (bounds_of c.args.children.now)))
 
 pub returns-in-Like : goal.returns-in-Like
-returns-in-Like c = at_node _ _ _ _ _ _ _ _ (ap function_of c.in-Like.is) refl (ap rows_views (sym c.as_slice-in-Like.ensures.value ∙ c.pair-in-Like.ensures)) (c.like.ensures (node_types (bounds_of c.args.children.now)))
+returns-in-Like c = at_node _ _ _ _ _ _ _ _ (ap function_of c.in-Like.is) refl (ap rows_views (sym c.as_slice-in-Like.ensures.value ∙ c.pair.ensures)) (c.like.ensures (node_types (bounds_of c.args.children.now)))

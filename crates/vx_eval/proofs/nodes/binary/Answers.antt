@@ -1,15 +1,24 @@
-use Rattle.std.proofs.Common.{◌∷◌}
+use Rattle.std.proofs.Common.{◌∙◌, ap, refl, sym, subst, ◌∷◌}
 use Rattle.vx_types.specs.Views.{type_of}
+use Rattle.vx_fn.specs.Functions as functions
+use Rattle.vx_fn.specs.Views.{operation_of}
+use Rattle.vx_eval.specs.Columns.{rows_views, Evaluates}
+use Rattle.vx_eval.proofs.Transposed.{at_node}
 use Rattle.vx_eval.proofs.nodes.binary.Goals as goal
 
 pub returns-in-And : goal.returns-in-And
-returns-in-And c = λ ts. rw c.in-And.is (c.and.ensures (type_of c.args.dtype.now ∷ ts))
+returns-in-And c = λ ts. at_node _ _ _ _ _ _ _ _ (ap (λ o. functions.binary (operation_of o)) c.in-And.is) refl (ap rows_views c.two-lhs.ensures) (c.and.ensures (type_of c.args.dtype.now ∷ ts))
 
 pub returns-in-Or : goal.returns-in-Or
-returns-in-Or c = λ ts. rw c.in-Or.is (c.or.ensures (type_of c.args.dtype.now ∷ ts))
+returns-in-Or c = λ ts.
+    at_node _ _ _ _ _ _ _ _ (ap (λ o. functions.binary (operation_of o)) c.in-Or.is) refl (ap rows_views (sym c.as_slice.ensures.value ∙ c.pair.ensures)) (c.or.ensures (type_of c.args.dtype.now ∷ ts))
 
 pub returns-in-Add : goal.returns-in-Add
-returns-in-Add c = λ ts. rw c.in-Add.is (c.add.ensures ts)
+returns-in-Add c = λ ts.
+    at_node _ _ _ _ _ _ _ _ (ap (λ o. functions.binary (operation_of o)) c.in-Add.is) refl (ap rows_views (sym c.as_slice-in-Add.ensures.value ∙ c.pair-in-Add.ensures)) (c.add.ensures ts)
 
-pub returns-in_default : goal.returns-in_default
-returns-in_default c = λ ts. c.compare.ensures (type_of c.args.dtype.now ∷ ts)
+pub returns : goal.returns
+returns c = λ ts.
+    let all = type_of c.args.dtype.now ∷ ts in
+    let op = functions.binary (operation_of c.args.operator) in
+    subst (λ cs. Evaluates op all c.args.count cs c.compare.result) (sym (ap rows_views (sym c.as_slice-in_default.ensures.value ∙ c.pair-in_default.ensures))) (c.compare.ensures all)

@@ -2,7 +2,7 @@ use Rattle.std.proofs.Common.{arith, ap, ◌∙◌}
 use Rattle.vx_tree.specs.Views.{bounds_of}
 use Rattle.vx_eval.specs.Columns.{values_of}
 use Rattle.vx_eval.proofs.PackedItems.{item_given, place_within, picked_is}
-use Rattle.vx_eval.proofs.Transposed.{as_many, as_long_as, as_counted, root_given, node_given}
+use Rattle.vx_eval.proofs.Transposed.{column_put, typed_on, as_many, as_long_as, as_counted, root_given, node_given}
 use Rattle.vx_eval.proofs.trees.+evaluate.Goals as goal
 
 pub evaluate-apply-requires-clause-number : goal.evaluate-apply-requires-clause-number
@@ -37,3 +37,13 @@ evaluate_item-returns t c =
     let within = place_within _ _ _ _ c.as_slice.result.now c.args.place c.in-Scalar.is those c.requires.packs in
     let counted = as_many (bounds_of c.as_slice.result.now) (values_of c.args.batch.now.value.items) columns given in
     picked_is _ _ _ _ c.as_slice.result.now (values_of c.args.batch.now.value.items) columns _ c.args.place c.in-Scalar.is those given (omega (arith, within, counted)) c.swap_remove.ensures.value
+
+pub evaluate_each-loop-child-preserved : goal.evaluate_each-loop-child-preserved
+evaluate_each-loop-child-preserved t c =
+    let i = c.loop-child.child-index in
+    let bs = c.args.children.now in
+    let child = c.child-item.result in
+    record {
+      answer = column_put bs (values_of c.args.batch.now.value.items) i child c.loop-child.columns.items c.push.new.self.items c.in_ok-evaluate.field-0 _ (omega arith) c.child-item.is c.loop-child.invariant.answer c.in_ok-evaluate.ensures c.in_ok-push.ensures.items;
+      typed = typed_on bs i child (omega arith) c.child-item.is c.loop-child.invariant.typed;
+    }

@@ -1,0 +1,147 @@
+-- Comparisons joined by And.
+use Rattle.std.proofs.Common.{◌≡◌, ℕ, ◌+◌, ◌<◌, ◌≤◌, List, [], ◌∷◌, ◌++◌, map, length, get_or, drop, refl, sym, ap, ◌∙◌, arith, zero, suc, IsTrue, Option, Some, None, Bool, true, false}
+use Rattle.std.specs.Prelude.{if◌then◌else◌, ◌||◌}
+use Rattle.std.proofs.lemmas.List.{drop_more, drop_all, map-append, length-map, append-nil}
+use Rattle.std.proofs.lemmas.List.FromFn.{length-map-range_with_len, get_or-map-range_with_len}
+use Rattle.vx_types.specs.Types.{Datum, null, bool, is_null_datum}
+use Rattle.vx_fn.specs.Functions.{Operation, compares}
+use Rattle.vx_fn.specs.Values.{kleene_and, is_false, binary_value, agrees, order}
+use Rattle.vx_eval.specs.Columns.{each_row, row_at, truth_datum, truth_of}
+use Rattle.vx_eval.specs.Items.{AllLong, all_of, conjoined, compared_items, is_comparison, item_at}
+use Rattle.vx_eval.proofs.Filled.{each_same, all_rows, told_at}
+use Rattle.vx_eval.proofs.Kleene.{seen, left_seen, right_seen}
+
+-- ---- And
+
+told_thrice : (a b c : Option Bool) → kleene_and (kleene_and (truth_datum a) (truth_datum b)) (truth_datum c) ≡ kleene_and (truth_datum a) (kleene_and (truth_datum b) (truth_datum c))
+told_thrice (Some false) b c = refl
+told_thrice (Some true) (Some false) c = refl
+told_thrice (Some true) (Some true) (Some true) = refl
+told_thrice (Some true) (Some true) (Some false) = refl
+told_thrice (Some true) (Some true) None = refl
+told_thrice (Some true) None (Some true) = refl
+told_thrice (Some true) None (Some false) = refl
+told_thrice (Some true) None None = refl
+told_thrice None (Some false) c = refl
+told_thrice None (Some true) (Some true) = refl
+told_thrice None (Some true) (Some false) = refl
+told_thrice None (Some true) None = refl
+told_thrice None None (Some true) = refl
+told_thrice None None (Some false) = refl
+told_thrice None None None = refl
+
+and_assoc : (u v w : Datum) → kleene_and (kleene_and u v) w ≡ kleene_and u (kleene_and v w)
+and_assoc u v w =
+    ap (λ x. kleene_and x w) (left_seen u v ∙ right_seen (seen u) v)
+    ∙ right_seen (kleene_and (seen u) (seen v)) w
+    ∙ told_thrice (truth_of u) (truth_of v) (truth_of w)
+    ∙ sym (ap (kleene_and (seen u)) (left_seen v w ∙ right_seen (seen v) w))
+    ∙ sym (left_seen u (kleene_and v w))
+
+true_and : (v : Datum) → kleene_and (bool true) v ≡ seen v
+true_and (bool true) = refl
+true_and (bool false) = refl
+true_and _ = refl
+
+true_all : (ds : List Datum) → kleene_and (bool true) (all_of ds) ≡ all_of ds
+true_all [] = refl
+true_all (v ∷ vs) = sym (and_assoc (bool true) v (all_of vs)) ∙ ap (λ x. kleene_and x (all_of vs)) (true_and v) ∙ sym (left_seen v (all_of vs))
+
+all_both : (xs ys : List Datum) → all_of (xs ++ ys) ≡ kleene_and (all_of xs) (all_of ys)
+all_both [] ys = sym (true_all ys)
+all_both (x ∷ xs) ys = ap (kleene_and x) (all_both xs ys) ∙ sym (and_assoc x (all_of xs) (all_of ys))
+
+and_true : (t : Option Bool) → kleene_and (truth_datum t) (bool true) ≡ truth_datum t
+and_true (Some true) = refl
+and_true (Some false) = refl
+and_true None = refl
+
+-- ---- columns
+
+pub conjoined_long : (n : ℕ) (cs : List (List Datum)) → length (conjoined n cs) ≡ n
+conjoined_long n cs = length-map-range_with_len (λ k. all_of (row_at cs k)) 0 n
+
+pub conjoined_at : (n i : ℕ) (cs : List (List Datum)) → i < n → get_or (conjoined n cs) i null ≡ all_of (row_at cs i)
+conjoined_at n i cs lt = get_or-map-range_with_len (λ k. all_of (row_at cs k)) 0 n i i null lt (omega arith)
+
+pub long_there : (n m : ℕ) (cs : List (List Datum)) (c : List Datum) → AllLong n cs → m < length cs → c ≡ get_or cs m c → length c ≡ n
+long_there n m [] c all lt is = absurd (omega arith)
+long_there n zero (x ∷ cs) c all lt is = ap length is ∙ all.0
+long_there n (suc m) (x ∷ cs) c all lt is = long_there n m cs c all.1 (omega arith) is
+
+here_at : (i m : ℕ) (cs : List (List Datum)) (c : List Datum) → m < length cs → c ≡ get_or cs m c → get_or c i null ≡ get_or (row_at cs i) m null
+here_at i m [] c lt is = absurd (omega arith)
+here_at i zero (x ∷ cs) c lt is = ap (λ y. get_or y i null) is
+here_at i (suc m) (x ∷ cs) c lt is = here_at i m cs c (omega arith) is
+
+pub all_start : (ds : List Datum) → kleene_and (truth_datum (Some true)) (all_of (drop 0 ds)) ≡ all_of ds
+all_start ds = true_all ds
+
+-- one more comparison is told
+pub all_more : (i m : ℕ) (cs : List (List Datum)) (c : List Datum) (x y t : Datum) → m < length cs → c ≡ get_or cs m c → kleene_and x (all_of (drop m (row_at cs i))) ≡ all_of (row_at cs i) →
+    t ≡ get_or c i null → y ≡ kleene_and x t → kleene_and y (all_of (drop (m + 1) (row_at cs i))) ≡ all_of (row_at cs i)
+all_more i m cs c x y t lt is so_far here told =
+    let row = row_at cs i in
+    let rest = all_of (drop (m + 1) row) in
+    let within : m < length row = omega (arith, length-map cs (λ d. get_or d i null)) in
+    ap (λ z. kleene_and z rest) (told ∙ ap (kleene_and x) (here ∙ here_at i m cs c lt is)) ∙ and_assoc x (get_or row m null) rest ∙ sym (ap (λ l. kleene_and x (all_of l)) (drop_more row m null within)) ∙ so_far
+
+false_is : (y : Datum) → true ≡ is_false y → y ≡ bool false
+false_is (bool false) h = refl
+false_is (bool true) h = cc
+false_is _ h = cc
+
+-- one is false
+pub all_false : (i m : ℕ) (cs : List (List Datum)) (y : Datum) → kleene_and y (all_of (drop m (row_at cs i))) ≡ all_of (row_at cs i) → true ≡ is_false y → y ≡ all_of (row_at cs i)
+all_false i m cs y so_far found = let is : y ≡ bool false = false_is y found in is ∙ ap (λ z. kleene_and z (all_of (drop m (row_at cs i)))) (sym is) ∙ so_far
+
+-- all are told
+pub all_told : (i m : ℕ) (cs : List (List Datum)) (t : Option Bool) → length cs ≤ m → kleene_and (truth_datum t) (all_of (drop m (row_at cs i))) ≡ all_of (row_at cs i) → truth_datum t ≡ all_of (row_at cs i)
+all_told i m cs t end so_far =
+    let row = row_at cs i in
+    let all : length row ≤ m = omega (arith, length-map cs (λ d. get_or d i null)) in
+    sym (and_true t) ∙ sym (ap (λ l. kleene_and (truth_datum t) (all_of l)) (drop_all m row all)) ∙ so_far
+
+-- ---- a comparison alone, and two of them
+
+compared_told : (b a : Bool) → kleene_and (if b then null else bool a) (bool true) ≡ (if b then null else bool a)
+compared_told true a = refl
+compared_told false true = refl
+compared_told false false = refl
+
+comparison_told : (op : Operation) (v w : Datum) → IsTrue (is_comparison op) → kleene_and (binary_value op v w) (bool true) ≡ binary_value op v w
+comparison_told (compares c) v w is = compared_told (is_null_datum v || is_null_datum w) (agrees c (order v w))
+comparison_told _ v w is = cc
+
+pub conjoined_alone : (op : Operation) (place : ℕ) (d : Datum) (vs : List Datum) → IsTrue (is_comparison op) →
+    conjoined (length (compared_items op place d vs)) (compared_items op place d vs ∷ []) ≡ compared_items op place d vs
+conjoined_alone op place d vs is =
+    let ds = compared_items op place d vs in
+    each_same (length ds) (λ k. kleene_and (get_or ds k null) (bool true)) (λ k. get_or ds k null)
+    (λ k lt. let at = told_at op place d vs k lt in ap (λ x. kleene_and x (bool true)) at ∙ comparison_told op (get_or (map (item_at place) vs) k null) d is ∙ sym at)
+    ∙ all_rows ds (length ds) refl
+
+pub conjoined_both : (n m : ℕ) (xs ys all : List (List Datum)) (s o : List Datum) → s ≡ conjoined n xs → o ≡ conjoined m ys → length o ≡ length s → all ≡ xs ++ ys →
+    conjoined n all ≡ each_row (length s) (λ k. kleene_and (get_or s k null) (get_or o k null))
+conjoined_both n m xs ys all s o is also as_long joined =
+    let long : length s ≡ n = ap length is ∙ conjoined_long n xs in
+    let other : m ≡ n = sym (conjoined_long m ys) ∙ sym (ap length also) ∙ as_long ∙ long in
+    each_same n (λ k. all_of (row_at all k)) (λ k. kleene_and (get_or s k null) (get_or o k null))
+    (λ k lt.
+    ap (λ l. all_of (row_at l k)) joined ∙ ap all_of (map-append (λ c. get_or c k null) xs ys) ∙ all_both (row_at xs k) (row_at ys k)
+    ∙ ap (λ x. kleene_and x (all_of (row_at ys k))) (sym (ap (λ l. get_or l k null) is ∙ conjoined_at n k xs lt))
+    ∙ ap (kleene_and (get_or s k null)) (sym (ap (λ l. get_or l k null) also ∙ conjoined_at m k ys (omega (arith, other, lt)))))
+    ∙ ap (λ l. each_row l (λ k. kleene_and (get_or s k null) (get_or o k null))) (sym long)
+
+pub both_long : (n m : ℕ) (xs ys all : List (List Datum)) → AllLong n xs → AllLong m ys → m ≡ n → all ≡ xs ++ ys → AllLong n all
+both_long n m xs ys all first second same joined = rw joined (go xs first)
+  where
+    go : (xs : List (List Datum)) → AllLong n xs → AllLong n (xs ++ ys)
+    go [] a = rw (← same) second
+    go (x ∷ xs) a = (a.0, go xs a.1)
+
+pub joined_all : (k : ℕ) (xs ys now : List (List Datum)) → length ys ≤ k → now ++ drop k ys ≡ xs ++ ys → now ≡ xs ++ ys
+joined_all k xs ys now end so_far = sym (append-nil now) ∙ sym (ap (λ l. now ++ l) (drop_all k ys end)) ∙ so_far
+
+pub counts_same : (n m : ℕ) (xs ys : List (List Datum)) (s o : List Datum) → conjoined n xs ≡ s → conjoined m ys ≡ o → length o ≡ length s → m ≡ n
+counts_same n m xs ys s o is also same = sym (conjoined_long m ys) ∙ ap length also ∙ same ∙ sym (ap length is) ∙ conjoined_long n xs

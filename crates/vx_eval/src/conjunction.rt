@@ -1,0 +1,103 @@
+// Comparisons joined by And, told row by row where they are asked for.
+ghost use Rattle.std.specs.Prelude.{◌≡◌, ◌<◌, IfOk, length, get_or, ◌∷◌, []};
+ghost use Rattle.vx_types.specs.Types.{null};
+ghost use Rattle.vx_types.specs.Views.{value_of};
+ghost use Rattle.vx_fn.specs.Values as values;
+ghost use Rattle.vx_merge.specs.Merges.{each_row};
+ghost use Rattle.vx_eval.specs.Items.{conjoined, truth_datum};
+
+use crate::compared::ComparedItem;
+use crate::constants::Constants;
+use crate::logic::kleene_and;
+use std::alloc::{AllocError, Global};
+use std::marker::Model;
+use vx_types::Value;
+
+/// Comparisons of lent items, joined by Kleene's And: they are told in one walk of the rows, and of
+/// a row no more of them than up to the first that is false.
+#[derive(Drop)]
+pub struct Conjunction<'a> {
+    count: usize,
+    items: Vec<ComparedItem<'a>>,
+    constants: Constants,
+}
+
+impl<'a> Model for Conjunction<'a> {
+    ghost use Rattle.std.specs.Prelude.{List};
+    ghost use Rattle.std.specs.Coded.{coded_list};
+    ghost use Rattle.vx_types.specs.Codes.{datum_code};
+    ghost use Rattle.vx_types.specs.Types.{Datum};
+    ghost use Rattle.vx_eval.specs.Items.{conjoined, AllLong};
+
+    ghost Value = { List Datum };
+
+    ghost coded = { coded_list datum_code };
+
+    ghost view = { λ c. conjoined c.count c.items.items };
+
+    ghost invariant = { λ c. AllLong c.count c.items.items };
+}
+
+impl<'a> Conjunction<'a> {
+    /// The one comparison.
+    pub fn new(alloc: Global, item: ComparedItem<'a>) -> Result<Conjunction<'a>, AllocError>
+        ensures { IfOk result (λ c. c ≡ conjoined (length item.entry) (item.entry ∷ [])) }
+    {
+        Ok(Conjunction {
+            count: item.len(),
+            items: vec![in alloc; item]?,
+            constants: Constants::new(),
+        })
+    }
+
+    /// The number of rows.
+    pub fn len(&self) -> usize
+        ensures { result ≡ length self.now }
+    {
+        self.count
+    }
+
+    /// What is told of that row. Asks an index below the number of rows.
+    pub fn truth(&self, i: usize) -> Option<bool>
+        requires { i < length self.now }
+        ensures { truth_datum result ≡ get_or self.now i null }
+    {
+        let items = self.items.as_slice();
+        let mut all = Some(true);
+        for k in 0..items.len() {
+            all = kleene_and(all, items[k].truth(self.constants.null(), i));
+            if is_false(all) {
+                return all;
+            }
+        }
+        all
+    }
+
+    /// The same as a value. Asks an index below the number of rows.
+    pub fn row(&self, i: usize) -> &Value
+        requires { i < length self.now }
+        ensures { value_of result.now ≡ get_or self.now i null }
+    {
+        self.constants.truth(self.truth(i))
+    }
+
+    /// The And with another conjunction. Asks as many rows.
+    pub fn and(self, other: &Conjunction<'a>) -> Result<Conjunction<'a>, AllocError>
+        requires { length other.now ≡ length self }
+        ensures { IfOk result (λ c. c ≡ each_row (length self.entry) (λ k. values.kleene_and (get_or self.entry k null) (get_or other.now k null))) }
+    {
+        let mut joined = self;
+        let others = other.items.as_slice();
+        for k in 0..others.len() {
+            joined.items.push(others[k].copy())?;
+        }
+        Ok(joined)
+    }
+}
+
+// Whether it is false.
+fn is_false(truth: Option<bool>) -> bool
+    ensures { result ≡ values.is_false (truth_datum truth) }
+{
+    matches!(truth, Some(false))
+}
