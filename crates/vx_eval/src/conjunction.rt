@@ -58,6 +58,7 @@ impl<'a> Conjunction<'a> {
     }
 
     /// What is told of that row. Asks an index below the number of rows.
+    #[inline(always)]
     pub fn truth(&self, i: usize) -> Option<bool>
         requires { i < length self.now }
         ensures { truth_datum result ≡ get_or self.now i null }

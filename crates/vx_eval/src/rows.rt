@@ -199,7 +199,11 @@ impl<'a> Rows<'a> {
     {
         let count = self.len();
         match self {
-            Rows::Truths(truths, _) => collected(alloc, count, |i| Ok(truth_at(truths.as_slice(), i))),
+            Rows::Truths(truths, _) => collected(
+                alloc,
+                count,
+                |i| Ok(truth_at(truths.as_slice(), i)),
+            ),
             Rows::Compared(tests) => collected(alloc, count, |i| Ok(truth_value(tests.truth(i)))),
             rows => collected(alloc, count, |i| copied(rows.row(i))),
         }
