@@ -26,8 +26,8 @@ use Rattle.vx_run.proofs.Fusing.{fused_is_kleene_merged, unfused, unfused_typed,
 whole_runs : (u : BoundTree) (c : Batch) (r : Result Batch VortexError) → Runs false u c r → Answers (λ x. x) r (evaluation u c)
 whole_runs u c r (no_memory e) = rw e (inl refl)
 whole_runs u c r (whole s a) = a
-whole_runs u c r (uncovered s m n a) = a
-whole_runs u c r (parted s m v i a) = cc
+whole_runs u c r (uncovered s n a) = a
+whole_runs u c r (parted s v i a) = cc
 
 -- passes that lead to one tree alone give what that tree gives
 one_tree : (passes : List Pass) (b u : BoundTree) (c : Batch) (r : Result Batch VortexError) → ((w : BoundTree) → Passed passes b w → w ≡ u) → RunsPassed passes false b c r → Answers (λ x. x) r (evaluation u c)
