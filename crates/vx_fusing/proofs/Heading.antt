@@ -1,6 +1,6 @@
 -- The first places of items, by what the maps have.
-use Rattle.std.proofs.Common.{◌≡◌, refl, sym, subst, ap, ◌∙◌, Bool, true, false, cond, ℕ}
-use Rattle.std.specs.Prelude.{Option, Some, None, Result, Ok, Err, IsSome, OnOk, IfOk}
+use Rattle.std.proofs.Common.{◌≡◌, refl, sym, ap, ◌∙◌, Bool, true, false, cond, ℕ}
+use Rattle.std.specs.Prelude.{Option, Some, None, Result, Ok, Err, IsSome, OnOk}
 use denote.Ref.{Bor}
 use Rattle.vx_tree.specs.Equality.{equal_bound, equal_bound-Decides}
 use Rattle.vx_tree.specs.Trees.{BoundTree}

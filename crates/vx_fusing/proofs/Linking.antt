@@ -8,7 +8,6 @@ use Rattle.vx_tree.specs.Equality.{equal_bound, equal_bound-Decides}
 use Rattle.vx_tree.specs.Trees.{BoundTree}
 use Rattle.vx_tree.specs.Views.{bound_of}
 use Rattle.vx_tree.specs.declared.bound.BoundExpression.{BoundExpression}
-use Rattle.vx_fusing.specs.declared.heads.Heads.{Heads}
 use Rattle.vx_fusing.specs.declared.left.Left.{Left}
 use Rattle.vx_fusing.specs.declared.left.Place.{Place}
 use Rattle.vx_fusing.specs.declared.left.Place.TheVariants.{Other, Open, Merged}

@@ -1,5 +1,5 @@
 -- The pairs with the two children of a right conjunction, one child after the other.
-use Rattle.std.proofs.Common.{◌≡◌, inl, ℕ, List, [], ◌∷◌, set, refl, sym, subst, ap, ◌∙◌}
+use Rattle.std.proofs.Common.{◌≡◌, inl, ℕ, [], ◌∷◌, set, refl, sym, subst, ◌∙◌}
 use Rattle.std.specs.Prelude.{Option, Some, None, Result, Ok, Err, IsFalse, IfOk, IfErr, option_map}
 use Rattle.std.specs.declared.alloc.Global.{Global}
 use Rattle.std.specs.declared.boxed.Box.{Box}
@@ -10,13 +10,12 @@ use Rattle.vx_tree.specs.Trees.{BoundTree}
 use Rattle.vx_tree.specs.Views.{bound_of}
 use Rattle.vx_tree.specs.declared.bound.BoundExpression.{BoundExpression}
 use Rattle.vx_fusing.specs.declared.left.Left.{Left}
-use Rattle.vx_fusing.specs.declared.left.Place.{Place}
 use Rattle.vx_fusing.specs.declared.left.Place.TheVariants.{Open, Merged}
 use Rattle.vx_fusing.specs.declared.ranges.RangeComparison.{RangeComparison}
 use Rattle.vx_fn.specs.Views.{is_strict}
 use Rattle.vx_fusing.specs.Conjuncts.{is_and, conjuncts, range_of, MergeTo, NoneMergeable}
 use Rattle.vx_fusing.specs.Finding.{range_seen, tree_in, joined, IsBinary, PairsMerged, LeftMerged, with_pairs, without_pairs}
-use Rattle.vx_fusing.specs.Indexed.{opposite, head_of, rests, rest_of, Bounded, Holds, IsFirst, IsLeft, IsLinked, TakesOne, TakesAll}
+use Rattle.vx_fusing.specs.Indexed.{opposite, head_of, rests, rest_of, Bounded, Holds, IsFirst, IsLeft, TakesOne, TakesAll}
 use Rattle.vx_fusing.proofs.Pairs.{opposite_pair}
 use Rattle.vx_fusing.proofs.Linking.{bounded_inside, first_is, none_is, first_bounds, merged_linked}
 use Rattle.vx_fusing.proofs.Holding.{IsFree, free_of, split_at, holds_none, range_held, holds_merged}

@@ -1,5 +1,5 @@
 -- What merging with an index keeps: of a left conjunction its conjuncts, and where the ranges of an item stand.
-use Rattle.std.specs.Prelude.{◌≡◌, ℕ, zero, suc, ◌<◌, List, [], ◌∷◌, ◌++◌, Option, Some, None, Result, Ok, Err, Bool, true, false, IsFalse, option_map, slice_get, MatchOption, if◌then◌else◌, length}
+use Rattle.std.specs.Prelude.{◌≡◌, ℕ, zero, suc, ◌<◌, List, [], ◌∷◌, ◌++◌, Option, Some, None, Result, Ok, Err, Bool, true, false, IsFalse, option_map, slice_get, if◌then◌else◌, length}
 use Rattle.std.specs.HashMap.{HashMap, get_by}
 use Rattle.std.specs.declared.alloc.Global.{Global}
 use Rattle.std.specs.declared.boxed.Box.{Box}

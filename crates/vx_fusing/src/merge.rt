@@ -17,7 +17,8 @@ use crate::ranges::{RangeComparison, merged, range_of};
 use std::alloc::{AllocError, Global};
 use vx_tree::{BoundExpression, VortexResult};
 
-// From how many conjuncts on of either conjunction an index is faster than a search.
+// From how many conjuncts of either conjunction on an index is made. Where one of the two has fewer,
+// a search takes less than so many comparisons for each conjunct of the other, and no memory.
 const WIDE: usize = 8;
 
 // What two conjunctions are after merges: the right one may be gone.
@@ -163,7 +164,7 @@ fn rejoined(
 }
 
 // The two conjunctions with their pairs merged. Wide ones are merged by an index of the left one,
-// and by a search where there is no memory for it: a tree without a pair is to take none.
+// and by a search where there is no memory for it, so that a tree without a pair is never refused.
 fn merge_sides(
     alloc: Global,
     l: &BoundExpression,
@@ -171,7 +172,7 @@ fn merge_sides(
 ) -> VortexResult<Option<Merged>>
     ensures { Finds (NoneMergeable (conjuncts (bound_of l.now)) (conjuncts (bound_of r.now))) (λ m. PairsMerged (bound_of l.now) (bound_of r.now) (bound_of m.left.value) (option_map tree_in m.right)) result }
 {
-    if conjuncts_in(l, WIDE) < WIDE || conjuncts_in(r, WIDE) < WIDE {
+    if conjuncts_in(r, WIDE) < WIDE || conjuncts_in(l, WIDE) < WIDE {
         return merge_pairs(alloc, l, r);
     }
     match left_of(alloc, l) {

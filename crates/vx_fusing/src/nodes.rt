@@ -59,17 +59,18 @@ pub(crate) fn as_and(b: &BoundExpression) -> Option<(&BoundExpression, &BoundExp
     }
 }
 
-// How many conjuncts the tree has, up to a limit.
+// How many conjuncts the tree has, up to a limit. Each conjunct that is counted costs two looks at
+// most, however deep the tree is: an And has one on either side.
 pub(crate) fn conjuncts_in(b: &BoundExpression, limit: usize) -> usize
     ensures { result ≤ limit }
 {
-    if limit == 0 {
-        return 0;
+    if limit <= 1 {
+        return limit;
     }
     let Some((first, second)) = as_and(b) else {
         return 1;
     };
-    let before = conjuncts_in(first, limit);
+    let before = conjuncts_in(first, limit - 1);
     before + conjuncts_in(second, limit - before)
 }
 

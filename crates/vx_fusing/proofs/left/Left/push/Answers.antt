@@ -1,4 +1,4 @@
-use Rattle.std.proofs.Common.{rules, ◌≡◌, refl}
+use Rattle.std.proofs.Common.{rules}
 use Rattle.vx_fusing.specs.declared.left.Left.{Left}
 use Rattle.vx_fusing.proofs.Linking.{pushed_open, pushed_other}
 use Rattle.vx_fusing.proofs.left.Left.push.Goals as goal

@@ -1,4 +1,4 @@
-use Rattle.std.proofs.Common.{◌≡◌, Some, None, sym, subst, ◌∙◌}
+use Rattle.std.proofs.Common.{◌≡◌, Some, sym, subst, ◌∙◌}
 use Rattle.vx_tree.specs.Views.{bound_of}
 use Rattle.vx_fusing.specs.Indexed.{opposite, head_of, SetsHead}
 use Rattle.vx_fusing.proofs.Linking.{first_is, bounded_read, place_read, open_of}
