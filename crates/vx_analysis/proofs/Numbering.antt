@@ -82,7 +82,7 @@ keeps-insert ns m = cases (list_any (equal_numbered m) ns)
     cases true i b is = is
     cases false i b is = keeps-append ns m i b is
 
-got-append : (ns : List NumberedNode) (m : NumberedNode) (i : ℕ) (n : NumberedNode) → slice_get (ns ++ m ∷ []) i ≡ Some n → (slice_get ns i ≡ Some n) ⊎ ((i ≡ length ns) × (n ≡ m))
+pub got-append : {A : Type 0} (ns : List A) (m : A) (i : ℕ) (n : A) → slice_get (ns ++ m ∷ []) i ≡ Some n → (slice_get ns i ≡ Some n) ⊎ ((i ≡ length ns) × (n ≡ m))
 got-append [] m zero n got = inr (refl, cc)
 got-append [] m (suc i) n got = cc
 got-append (x ∷ ns) m zero n got = inl got

@@ -9,7 +9,6 @@ use Rattle.vx_analysis.specs.declared.numbers.NumberedNode.{NumberedNode}
 use Rattle.vx_analysis.proofs.Numbering.{keeps-insert, numbered-insert, number-insert, has-insert}
 use Rattle.vx_analysis.proofs.numbers.number_over.Goals as goal
 
-
 pub returns-clause-kept : goal.returns-clause-kept
 returns-clause-kept c =
     subst (KeepsNumbers c.args.nodes.now.keys) (sym c.in_ok-number.ensures.keys)
