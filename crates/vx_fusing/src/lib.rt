@@ -2,10 +2,7 @@
 #![tactic(auto)]
 
 mod finding;
-mod heads;
-mod indexed;
 mod laws;
-mod left;
 mod merge;
 mod nodes;
 mod ranges;
