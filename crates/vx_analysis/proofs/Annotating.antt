@@ -7,11 +7,7 @@ use Rattle.std.specs.HashSet.{HashSet, contains}
 use Rattle.vx_tree.specs.Nodes.{bound_children_of}
 use Rattle.vx_tree.specs.Trees.{BoundTree, scope, node, BoundTrees, no_bound, bound}
 use Rattle.vx_analysis.specs.Annotations.{is_some_item, answered, SameAnnotations, is_annotation, is_annotation_in, IsAnnotationsOf}
-use Rattle.vx_analysis.proofs.Subtrees.{or_first, or_false}
-
-or_assoc : (a b c : Bool) → ((a || b) || c) ≡ (a || (b || c))
-or_assoc true b c = refl
-or_assoc false b c = refl
+use Rattle.vx_analysis.proofs.Subtrees.{or_first, or_false, or_assoc}
 
 pub some_item : {A : Type 0} (xs : List A) → 0 < length xs → is_some_item xs ≡ true
 some_item [] h = absurd (omega arith)

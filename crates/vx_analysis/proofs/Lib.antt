@@ -1,5 +1,5 @@
-pub mod Numbering
 pub mod Subtrees
+pub mod Numbering
 pub mod Labelling
 pub mod Annotating
 pub mod Covering

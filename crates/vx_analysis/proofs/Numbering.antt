@@ -1,5 +1,5 @@
 -- Nodes that are numbered by their place in a list.
-use Rattle.std.proofs.Common.{◌≡◌, ◌≢◌, ℕ, zero, suc, ◌+◌, ◌<◌, ◌≤◌, get_or, drop, arith, List, [], ◌∷◌, ◌++◌, length, map, Bool, true, false, ◌&&◌, refl, sym, ap, subst, inl, inr, ◌∙◌, length-append}
+use Rattle.std.proofs.Common.{◌≡◌, ◌≢◌, ℕ, zero, suc, ◌+◌, ◌<◌, ◌≤◌, get_or, drop, arith, List, [], ◌∷◌, ◌++◌, length, map, Bool, true, false, ◌&&◌, ◌||◌, refl, sym, ap, subst, inl, inr, ◌∙◌, length-append}
 use Rattle.std.specs.Prelude.{◌⊎◌, All, Some, Option, if◌then◌else◌, nat_eq, slice_get}
 use Rattle.std.specs.Cmp.{first_so, second_so}
 use Rattle.std.specs.Cmp.Lexicographic.{pointwise, same_text}
@@ -14,8 +14,10 @@ use Rattle.vx_tree.specs.Nodes.{bound_children_of}
 use Rattle.vx_tree.specs.Trees.{BoundTree, scope, node, BoundTrees, no_bound, bound}
 use Rattle.vx_tree.specs.Views.{bound_of, bounds_from}
 use Rattle.vx_tree.specs.declared.bound.BoundExpression.{BoundExpression}
-use Rattle.vx_analysis.specs.Numbers.{head_of, node_tree, equal_numbered, tree_at, trees_at, IsNumberOf, IsNumbered, KeepsNumbers}
+use Rattle.vx_analysis.specs.Numbers.{head_of, node_tree, equal_numbered, tree_at, trees_at, has_node, IsNumberOf, IsNumbered, KeepsNumbers}
+use Rattle.vx_analysis.specs.Reached.{nowhere, occurs, occurs_in}
 use Rattle.vx_analysis.specs.declared.numbers.NumberedNode.{NumberedNode}
+use Rattle.vx_analysis.proofs.Subtrees.{or_first, or_second, or_assoc, reached-children}
 
 -- ---- the trees of numbers
 
@@ -80,7 +82,7 @@ keeps-insert ns m = cases (list_any (equal_numbered m) ns)
     cases true i b is = is
     cases false i b is = keeps-append ns m i b is
 
-got-append : (ns : List NumberedNode) (m : NumberedNode) (i : ℕ) (n : NumberedNode) → slice_get (ns ++ m ∷ []) i ≡ Some n → (slice_get ns i ≡ Some n) ⊎ ((i ≡ length ns) × (n ≡ m))
+pub got-append : {A : Type 0} (ns : List A) (m : A) (i : ℕ) (n : A) → slice_get (ns ++ m ∷ []) i ≡ Some n → (slice_get ns i ≡ Some n) ⊎ ((i ≡ length ns) × (n ≡ m))
 got-append [] m zero n got = inr (refl, cc)
 got-append [] m (suc i) n got = cc
 got-append (x ∷ ns) m zero n got = inl got
@@ -115,16 +117,55 @@ like-tree (node t f bs) (node u g cs) like same =
     let head : node t f no_bound ≡ node u g no_bound = (equal_bound-Decides (node t f no_bound) (node u g no_bound)).0 like in
     cc (head, same)
 
--- the number that the node is found at, or gets, is one of its tree
-pub number-insert : (ns : List NumberedNode) (m k : NumberedNode) (r : ℕ) → IsNumbered ns → trees_at ns m.children.items ≡ bound_children_of (node_tree m)
-    → r < length ns → slice_get ns r ≡ Some k → equal_numbered m k ≡ true → IsNumberOf ns r (node_tree m)
-number-insert ns m k r numbered children within got same =
+-- the number that a node is found at, or gets, is one of its tree
+pub number-insert : (ns : List NumberedNode) (m k : NumberedNode) (r : ℕ) → IsNumbered ns → All (λ j. j < length ns) m.children.items → trees_at ns m.children.items ≡ bound_children_of (node_tree m)
+    → r < length (insert_key equal_numbered ns m) → slice_get (insert_key equal_numbered ns m) r ≡ Some k → equal_numbered m k ≡ true → IsNumberOf (insert_key equal_numbered ns m) r (node_tree m)
+number-insert ns m k r was below children within got same =
+    let all = insert_key equal_numbered ns m in
+    let stored = numbered-insert ns m was below children r k got in
     let others : Bool = equal_bound (head_of (node_tree m)) (head_of (node_tree k)) && pointwise nat_eq m.children.items k.children.items in
     let rest : others ≡ true = second_so (nat_eq (digest_of (node_tree m)) (digest_of (node_tree k))) others same in
     let like : equal_bound (head_of (node_tree m)) (head_of (node_tree k)) ≡ true = first_so _ (pointwise nat_eq m.children.items k.children.items) rest in
     let numbers : m.children.items ≡ k.children.items = same_text m.children.items k.children.items (sym (second_so (equal_bound (head_of (node_tree m)) (head_of (node_tree k))) _ rest)) in
-    let tree : node_tree m ≡ node_tree k = like-tree (node_tree m) (node_tree k) like (sym children ∙ ap (trees_at ns) numbers ∙ (numbered r k got).0) in
-    (within, tree-got ns r k got ∙ sym tree)
+    let kept : trees_at all m.children.items ≡ trees_at ns m.children.items = trees-kept ns all (keeps-insert ns m) m.children.items below in
+    let tree : node_tree m ≡ node_tree k = like-tree (node_tree m) (node_tree k) like (sym children ∙ sym kept ∙ ap (trees_at all) numbers ∙ stored.0) in
+    (within, tree-got all r k got ∙ sym tree)
+
+-- ---- which trees have a number
+
+-- the tree of a number is that of a node
+has-at : (ns : List NumberedNode) (i : ℕ) (b n : BoundTree) → IsNumberOf ns i b → equal_bound n b ≡ true → has_node n ns ≡ true
+has-at [] i b n is same = absurd (omega (arith, is.0))
+has-at (m ∷ ns) zero b n is same = or_first _ (has_node n ns) (ap (equal_bound n) is.1 ∙ same)
+has-at (m ∷ ns) (suc i) b n is same = or_second (equal_bound n (node_tree m)) _ (has-at ns i b n (omega (arith, is.0), is.1) same)
+
+has-append : (ns : List NumberedNode) (m : NumberedNode) (n : BoundTree) → has_node n (ns ++ m ∷ []) ≡ (equal_bound n (node_tree m) || has_node n ns)
+has-append [] m n = refl
+has-append (x ∷ ns) m n = ap (λ r. equal_bound n (node_tree x) || r) (has-append ns m n) ∙ turn (equal_bound n (node_tree x)) (equal_bound n (node_tree m)) (has_node n ns)
+  where
+    turn : (a b c : Bool) → (a || (b || c)) ≡ (b || (a || c))
+    turn true true c = refl
+    turn true false c = refl
+    turn false b c = refl
+
+-- one more tree has one
+pub has-insert : (ns : List NumberedNode) (m : NumberedNode) (r : ℕ) → IsNumberOf (insert_key equal_numbered ns m) r (node_tree m) → (n : BoundTree)
+    → has_node n (insert_key equal_numbered ns m) ≡ (equal_bound n (node_tree m) || has_node n ns)
+has-insert ns m r is n = cases (list_any (equal_numbered m) ns) is
+  where
+    absorbed : (a b : Bool) → (a ≡ true → b ≡ true) → b ≡ (a || b)
+    absorbed true b h = h refl
+    absorbed false b h = refl
+
+    cases : (there : Bool) → IsNumberOf (if there then ns else ns ++ m ∷ []) r (node_tree m) → has_node n (if there then ns else ns ++ m ∷ []) ≡ (equal_bound n (node_tree m) || has_node n ns)
+    cases true at = absorbed (equal_bound n (node_tree m)) (has_node n ns) (has-at ns r (node_tree m) n at)
+    cases false at = has-append ns m n
+
+-- a tree and those below it have one
+pub has-below : (b n : BoundTree) (old mid new : Bool) → new ≡ (equal_bound n b || mid) → mid ≡ (occurs_in n (bound_children_of b) || old) → new ≡ (occurs n b || old)
+has-below b n old mid new here below =
+    here ∙ ap (λ r. equal_bound n b || r) below ∙ sym (or_assoc (equal_bound n b) (occurs_in n (bound_children_of b)) old)
+    ∙ ap (λ r. r || old) (sym (reached-children nowhere n b))
 
 -- ---- the numbers of children
 

@@ -29,6 +29,10 @@ pub or_either : (a b : Bool) → (a || b) ≡ true → (a ≡ true) ⊎ (b ≡ t
 or_either true b h = inl refl
 or_either false b h = inr h
 
+pub or_assoc : (a b c : Bool) → ((a || b) || c) ≡ (a || (b || c))
+or_assoc true b c = refl
+or_assoc false b c = refl
+
 pub or_turn : (a b s : Bool) → ((a || b) || s) ≡ (b || (a || s))
 or_turn true true s = refl
 or_turn true false s = refl

@@ -2,6 +2,7 @@ pub mod Keys
 pub mod Numbers
 pub mod Reached
 pub mod Labels
+pub mod NumberedLabels
 pub mod Annotations
 pub mod Refusals
 pub mod Covers

@@ -3,6 +3,7 @@ use Rattle.std.specs.Prelude.{◌≡◌, ◌<◌, ℕ, Bool, false, List, map, g
 use Rattle.std.specs.Ordering.{eq_of_both}
 use Rattle.std.specs.Cmp.{IsEquivalence, on_equiv, and_equiv, nat_eq_equiv, first_so}
 use Rattle.std.specs.Hash as fed
+use Rattle.std.specs.List.{list_any}
 use Rattle.std.proofs.Common.{true, ap}
 use Rattle.std.proofs.lemmas.Bool.{eqb-true}
 use Rattle.std.specs.Cmp.Lexicographic.{pointwise, nat_list_eq_equiv}
@@ -47,6 +48,10 @@ trees_at ns is = bounds_from (map (tree_at ns) is)
 -- i is a number of the tree
 abbrev pub IsNumberOf : List NumberedNode → ℕ → BoundTree → Type 0
 IsNumberOf ns i b = (i < length ns) × (tree_at ns i ≡ b)
+
+-- whether one of the nodes has the tree
+abbrev pub has_node : BoundTree → List NumberedNode → Bool
+has_node n ns = list_any (λ m. equal_bound n (node_tree m)) ns
 
 -- what is a number of a tree stays one
 abbrev pub KeepsNumbers : List NumberedNode → List NumberedNode → Type 0

@@ -1,12 +1,12 @@
 // Labels of the nodes of a bound tree, from the leaves up.
-ghost use Rattle.std.specs.Prelude.{◌≡◌, ◌<◌, ◌||◌, IfErr, IfOk, OnOk, is_some, length};
+ghost use Rattle.std.specs.Prelude.{◌≡◌, ◌<◌, IfErr, IfOk, is_some, length};
 ghost use Rattle.vx_dtype.specs.declared.error.VortexError.TheVariants.{OutOfMemory};
-ghost use Rattle.vx_tree.specs.Nodes.{bound_children_of};
 ghost use Rattle.vx_tree.specs.Trees.{BoundTree};
 ghost use Rattle.vx_tree.specs.Views.{bound_of};
 ghost use Rattle.vx_analysis.specs.Keys.{key_of, entry_at};
-ghost use Rattle.vx_analysis.specs.Reached.{nowhere, occurs, occurs_in, IsClosed};
-ghost use Rattle.vx_analysis.specs.Numbers.{tree_at, IsNumbered};
+ghost use Rattle.vx_analysis.specs.Reached.{occurs};
+ghost use Rattle.vx_analysis.specs.Numbers.{tree_at, has_node, IsNumbered};
+ghost use Rattle.vx_analysis.specs.NumberedLabels.{HasLabels};
 ghost use Rattle.vx_analysis.specs.Labels.{label, AnswersBy, MergesBy, IsLabelled};
 
 use crate::entries::put_at;
@@ -37,66 +37,73 @@ pub fn label_bound_tree<L: Drop, F: Fn(&BoundExpression) -> L + Drop, G: Fn(L, &
     ensures refusal { IfErr result (λ y. y ≡ OutOfMemory) }
 {
     let mut nodes = IndexSet::new(alloc);
-    let number = number_of(alloc, e, &mut nodes)?;
-    let mut labels = HashMap::new(alloc);
+    let _root = number_of(alloc, e, &mut nodes)?;
     let nodes = nodes.as_slice();
-    let label = label_of(nodes, number, &self_label, &merge_child, &mut labels)?;
-    put_at(&mut labels, &nodes[number].key, label)?;
+    let labels = labels_of(alloc, nodes, &self_label, &merge_child)?;
+    Ok(labels_by_key(alloc, nodes, labels)?)
+}
+
+// The labels of the nodes, in the order of their numbers.
+fn labels_of<L: Drop, F: Fn(&BoundExpression) -> L, G: Fn(L, &L) -> L>(
+    alloc: Global,
+    nodes: &[NumberedNode],
+    self_label: &F,
+    merge_child: &G,
+) -> Result<Vec<L>, AllocError>
+    requires numbered { IsNumbered nodes.now }
+    requires labels { F.IsAlwaysCallable self_label.now }
+    requires merges { G.IsAlwaysCallable merge_child.now }
+    ensures count { IfOk result (λ labels. length labels.items ≡ length nodes.now) }
+    ensures labels { IfOk result (λ labels. (own : BoundTree → L) (merge : L → L → L) → AnswersBy (F.post self_label.now) own → MergesBy (G.post merge_child.now) merge
+        → HasLabels own merge nodes.now labels.items) }
+{
+    let mut labels = Vec::with_capacity(alloc, nodes.len())?;
+    for number in 0..nodes.len() {
+        let label = label_of(nodes, number, labels.as_slice(), self_label, merge_child);
+        labels.push(label)?;
+    }
     Ok(labels)
 }
 
-// The label of the node, after those below it have entries.
-#[cycle(label)]
-fn label_of<L: Drop, F: Fn(&BoundExpression) -> L, G: Fn(L, &L) -> L>(
+// The label of the node; those of its children, whose numbers are lower, are there.
+fn label_of<L, F: Fn(&BoundExpression) -> L, G: Fn(L, &L) -> L>(
     nodes: &[NumberedNode],
     number: usize,
+    labels: &[L],
     self_label: &F,
     merge_child: &G,
-    labels: &mut BoundLabels<L>,
-) -> Result<L, AllocError>
+) -> L
     requires numbered { IsNumbered nodes.now }
     requires within { number < length nodes.now }
+    requires count { length labels.now ≡ number }
     requires labels { F.IsAlwaysCallable self_label.now }
     requires merges { G.IsAlwaysCallable merge_child.now }
-    requires closed { IsClosed nowhere labels.old }
-    ensures nodes { OnOk result ((k : _) → is_some (entry_at (key_of k) labels.new) ≡ (occurs_in (key_of k) (bound_children_of (tree_at nodes.now number)) || is_some (entry_at (key_of k) labels.old))) }
-    ensures labels { IfOk result (λ l. (own : BoundTree → L) (merge : L → L → L) → AnswersBy (F.post self_label.now) own → MergesBy (G.post merge_child.now) merge → IsLabelled own merge labels.old
-        → (l ≡ label own merge (tree_at nodes.now number)) × IsLabelled own merge labels.new) }
+    ensures { (own : BoundTree → L) (merge : L → L → L) → AnswersBy (F.post self_label.now) own → MergesBy (G.post merge_child.now) merge → HasLabels own merge nodes.now labels.now
+        → result ≡ label own merge (tree_at nodes.now number) }
 {
     let node = &nodes[number];
     let mut label = self_label(node.key.expr());
     for child in node.children.as_slice() {
-        label = merge_one(label, nodes, *child, self_label, merge_child, labels)?;
+        label = merge_child(label, &labels[*child]);
     }
-    Ok(label)
+    label
 }
 
-// The label with the child's merged into it, after the child and those below it have entries. Where
-// the child has one already, so have those below it.
-#[cycle(label)]
-fn merge_one<L: Drop, F: Fn(&BoundExpression) -> L, G: Fn(L, &L) -> L>(
-    so_far: L,
+// The labels by the keys of their nodes.
+fn labels_by_key<L: Drop>(
+    alloc: Global,
     nodes: &[NumberedNode],
-    child: usize,
-    self_label: &F,
-    merge_child: &G,
-    labels: &mut BoundLabels<L>,
-) -> Result<L, AllocError>
-    requires numbered { IsNumbered nodes.now }
-    requires within { child < length nodes.now }
-    requires labels { F.IsAlwaysCallable self_label.now }
-    requires merges { G.IsAlwaysCallable merge_child.now }
-    requires closed { IsClosed nowhere labels.old }
-    ensures nodes { OnOk result ((k : _) → is_some (entry_at (key_of k) labels.new) ≡ (occurs (key_of k) (tree_at nodes.now child) || is_some (entry_at (key_of k) labels.old))) }
-    ensures labels { IfOk result (λ l. (own : BoundTree → L) (merge : L → L → L) → AnswersBy (F.post self_label.now) own → MergesBy (G.post merge_child.now) merge → IsLabelled own merge labels.old
-        → (l ≡ merge so_far (label own merge (tree_at nodes.now child))) × IsLabelled own merge labels.new) }
+    labels: Vec<L>,
+) -> Result<BoundLabels<L>, AllocError>
+    requires { length labels.items ≡ length nodes.now }
+    ensures nodes { IfOk result (λ m. (k : _) → is_some (entry_at (key_of k) m) ≡ has_node (key_of k) nodes.now) }
+    ensures labels { IfOk result (λ m. (own : BoundTree → L) (merge : L → L → L) → HasLabels own merge nodes.now labels.items → IsLabelled own merge m) }
 {
-    let key = &nodes[child].key;
-    if let Some(below) = labels.get(key) {
-        return Ok(merge_child(so_far, below));
+    let mut by_key = HashMap::with_capacity(alloc, nodes.len())?;
+    let mut number = 0;
+    for label in labels {
+        put_at(&mut by_key, &nodes[number].key, label)?;
+        number += 1;
     }
-    let below = label_of(nodes, child, self_label, merge_child, labels)?;
-    let merged = merge_child(so_far, &below);
-    put_at(labels, key, below)?;
-    Ok(merged)
+    Ok(by_key)
 }

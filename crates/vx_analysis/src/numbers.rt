@@ -1,12 +1,13 @@
 // Numbers of the nodes of a bound tree: equal nodes have one.
-ghost use Rattle.std.specs.Prelude.{◌≡◌, ◌<◌, ℕ, ◌++◌, All, IfOk, OnOk, length};
+ghost use Rattle.std.specs.Prelude.{◌≡◌, ◌<◌, ◌||◌, All, IfOk, OnOk, length};
 ghost use Rattle.std.specs.Cmp.{partial_equiv_from_equiv};
 ghost use Rattle.std.specs.Hash as fed;
 ghost use Rattle.vx_tree.specs.Digests.{digest_of, digests_of};
 ghost use Rattle.vx_tree.specs.Equality.{equal_bound};
 ghost use Rattle.vx_tree.specs.Nodes.{bound_children_of};
 ghost use Rattle.vx_tree.specs.Views.{bound_of};
-ghost use Rattle.vx_analysis.specs.Numbers.{head_of, node_tree, equal_numbered, equal_numbered_equiv, numbered_alike, trees_at, IsNumberOf, IsNumbered, KeepsNumbers};
+ghost use Rattle.vx_analysis.specs.Numbers.{head_of, node_tree, equal_numbered, equal_numbered_equiv, numbered_alike, trees_at, has_node, IsNumberOf, IsNumbered, KeepsNumbers};
+ghost use Rattle.vx_analysis.specs.Reached.{occurs};
 
 use indexmap::IndexSet;
 use std::alloc::{AllocError, Global};
@@ -83,6 +84,7 @@ pub(crate) fn number_of(
     ensures number { IfOk result (λ i. IsNumberOf nodes.new.keys i (bound_of e.now)) }
     ensures numbered { OnOk result (IsNumbered nodes.new.keys) }
     ensures kept { OnOk result (KeepsNumbers nodes.old.keys nodes.new.keys) }
+    ensures nodes { OnOk result ((n : _) → has_node n nodes.new.keys ≡ (occurs n (bound_of e.now) || has_node n nodes.old.keys)) }
 {
     let mut children = Vec::new(alloc);
     for child in e.children() {
@@ -105,6 +107,7 @@ fn number_over(
     ensures number { IfOk result (λ i. IsNumberOf nodes.new.keys i (bound_of e.now)) }
     ensures numbered { OnOk result (IsNumbered nodes.new.keys) }
     ensures kept { OnOk result (KeepsNumbers nodes.old.keys nodes.new.keys) }
+    ensures nodes { OnOk result ((n : _) → has_node n nodes.new.keys ≡ (equal_bound n (bound_of e.now) || has_node n nodes.old.keys)) }
 {
     let digests = digests_at(alloc, nodes.as_slice(), children.as_slice())?;
     let key = ExactBoundExpr::over(e.clone()?, digests.as_slice());

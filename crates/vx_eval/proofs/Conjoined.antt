@@ -7,7 +7,7 @@ use Rattle.vx_types.specs.Types.{Datum, null, bool, is_null_datum}
 use Rattle.vx_fn.specs.Functions.{Operation, compares}
 use Rattle.vx_fn.specs.Values.{kleene_and, is_false, binary_value, agrees, order}
 use Rattle.vx_eval.specs.Columns.{each_row, row_at, truth_datum, truth_of}
-use Rattle.vx_eval.specs.Items.{AllLong, all_of, conjoined, compared_items, is_comparison, item_at}
+use Rattle.vx_eval.specs.Items.{AllLong, HaveRow, all_of, conjoined, compared_items, is_comparison, item_at}
 use Rattle.vx_eval.proofs.Filled.{each_same, all_rows, told_at}
 use Rattle.vx_eval.proofs.Kleene.{seen, left_seen, right_seen}
 
@@ -64,10 +64,14 @@ conjoined_long n cs = length-map-range_with_len (λ k. all_of (row_at cs k)) 0 n
 pub conjoined_at : (n i : ℕ) (cs : List (List Datum)) → i < n → get_or (conjoined n cs) i null ≡ all_of (row_at cs i)
 conjoined_at n i cs lt = get_or-map-range_with_len (λ k. all_of (row_at cs k)) 0 n i i null lt (omega arith)
 
-pub long_there : (n m : ℕ) (cs : List (List Datum)) (c : List Datum) → AllLong n cs → m < length cs → c ≡ get_or cs m c → length c ≡ n
-long_there n m [] c all lt is = absurd (omega arith)
-long_there n zero (x ∷ cs) c all lt is = ap length is ∙ all.0
-long_there n (suc m) (x ∷ cs) c all lt is = long_there n m cs c all.1 (omega arith) is
+pub have_there : (i m : ℕ) (cs : List (List Datum)) (c : List Datum) → HaveRow i cs → m < length cs → c ≡ get_or cs m c → i < length c
+have_there i m [] c have lt is = absurd (omega arith)
+have_there i zero (x ∷ cs) c have lt is = let same : length c ≡ length x = ap length is in omega (arith, same, have.0)
+have_there i (suc m) (x ∷ cs) c have lt is = have_there i m cs c have.1 (omega arith) is
+
+pub have_row : (n i : ℕ) (cs : List (List Datum)) → AllLong n cs → i < n → HaveRow i cs
+have_row n i [] all lt = tt
+have_row n i (c ∷ cs) all lt = (omega (arith, all.0, lt), have_row n i cs all.1 lt)
 
 here_at : (i m : ℕ) (cs : List (List Datum)) (c : List Datum) → m < length cs → c ≡ get_or cs m c → get_or c i null ≡ get_or (row_at cs i) m null
 here_at i m [] c lt is = absurd (omega arith)
@@ -145,3 +149,16 @@ joined_all k xs ys now end so_far = sym (append-nil now) ∙ sym (ap (λ l. now 
 
 pub counts_same : (n m : ℕ) (xs ys : List (List Datum)) (s o : List Datum) → conjoined n xs ≡ s → conjoined m ys ≡ o → length o ≡ length s → m ≡ n
 counts_same n m xs ys s o is also same = sym (conjoined_long m ys) ∙ ap length also ∙ same ∙ sym (ap length is) ∙ conjoined_long n xs
+
+-- one comparison told alone
+pub alone_told : (n i : ℕ) (d self : List Datum) (t : Option Bool) → conjoined n (d ∷ []) ≡ self → i < n → truth_datum t ≡ get_or d i null → truth_datum t ≡ get_or self i null
+alone_told n i d self t is lt told = sym (and_true t) ∙ ap (λ v. kleene_and v (bool true)) told ∙ sym (conjoined_at n i (d ∷ []) lt) ∙ ap (λ ds. get_or ds i null) is
+
+-- all of them told together
+pub together_told : (n i : ℕ) (cs : List (List Datum)) (self : List Datum) (v : Datum) → conjoined n cs ≡ self → i < n → v ≡ all_of (row_at cs i) → v ≡ get_or self i null
+together_told n i cs self v is lt told = told ∙ sym (conjoined_at n i cs lt) ∙ ap (λ ds. get_or ds i null) is
+
+pub only_one : (cs : List (List Datum)) (c : List Datum) → length cs ≡ 1 → c ≡ get_or cs 0 c → cs ≡ c ∷ []
+only_one [] c one is = absurd (omega (arith, one))
+only_one (x ∷ []) c one is = ap (λ d. d ∷ []) (sym is)
+only_one (x ∷ y ∷ cs) c one is = absurd (omega (arith, one))

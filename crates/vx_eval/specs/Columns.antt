@@ -9,7 +9,7 @@ use Rattle.vx_fn.specs.Functions.{Function}
 use Rattle.vx_fn.specs.Values.{fn_value}
 use Rattle.vx_fn.specs.Faults.{node_fault}
 pub use Rattle.vx_merge.specs.Merges.{values_of, each_row, row_at}
-pub use Rattle.vx_eval.specs.Items.{datum_at, item_at, truth_datum, AllLong}
+pub use Rattle.vx_eval.specs.Items.{datum_at, item_at, truth_datum, AllLong, HaveRow}
 use Rattle.vx_eval.specs.declared.rows.Rows.{Rows}
 use Rattle.vx_eval.specs.declared.rows.Rows.TheVariants.{Lent, Item, Owned, Same, Truths, Compared}
 
@@ -34,11 +34,6 @@ rows_views rs = map rows_view rs
 -- the first n rows of columns
 abbrev pub rows_of : ℕ → List (List Datum) → List (List Datum)
 rows_of n cs = each_row n (row_at cs)
-
--- each column has a row of that index
-abbrev pub HaveRow : ℕ → List (List Datum) → Type 0
-HaveRow i [] = Unit {0}
-HaveRow i (c ∷ cs) = (i < length c) × HaveRow i cs
 
 -- the fault, or what there is without one
 abbrev pub unless_fault : {A : Type 0} → Option VortexError → A → Result A VortexError

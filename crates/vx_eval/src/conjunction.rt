@@ -3,8 +3,8 @@ ghost use Rattle.std.specs.Prelude.{◌≡◌, ◌<◌, IfOk, length, get_or, �
 ghost use Rattle.vx_types.specs.Types.{null};
 ghost use Rattle.vx_types.specs.Views.{value_of};
 ghost use Rattle.vx_fn.specs.Values as values;
-ghost use Rattle.vx_merge.specs.Merges.{each_row};
-ghost use Rattle.vx_eval.specs.Items.{conjoined, truth_datum};
+ghost use Rattle.vx_merge.specs.Merges.{each_row, row_at};
+ghost use Rattle.vx_eval.specs.Items.{all_of, conjoined, truth_datum, HaveRow};
 
 use crate::compared::ComparedItem;
 use crate::constants::Constants;
@@ -63,15 +63,10 @@ impl<'a> Conjunction<'a> {
         requires { i < length self.now }
         ensures { truth_datum result ≡ get_or self.now i null }
     {
-        let items = self.items.as_slice();
-        let mut all = Some(true);
-        for k in 0..items.len() {
-            all = kleene_and(all, items[k].truth(self.constants.null(), i));
-            if is_false(all) {
-                return all;
-            }
+        match self.items.as_slice() {
+            [item] => item.truth(self.constants.null(), i),
+            items => all_told(items, self.constants.null(), i),
         }
-        all
     }
 
     /// The same as a value. Asks an index below the number of rows.
@@ -94,6 +89,22 @@ impl<'a> Conjunction<'a> {
         }
         Ok(joined)
     }
+}
+
+// What is told of that row by all of the comparisons, up to the first that is false.
+fn all_told(items: &[ComparedItem], otherwise: &Value, i: usize) -> Option<bool>
+    requires null { value_of otherwise.now ≡ null }
+    requires within { HaveRow i items.now }
+    ensures { truth_datum result ≡ all_of (row_at items.now i) }
+{
+    let mut all = Some(true);
+    for k in 0..items.len() {
+        all = kleene_and(all, items[k].truth(otherwise, i));
+        if is_false(all) {
+            return all;
+        }
+    }
+    all
 }
 
 // Whether it is false.

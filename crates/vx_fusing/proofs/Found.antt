@@ -53,10 +53,10 @@ none_with_right {x = x} {y = y} cs b n c d i j k = subst (λ z. NoneMergeable cs
 pub left_is_some : {d l u : BoundTree} → LeftMerged d l u → NoneMergeable (conjuncts l) (d ∷ []) → ⊥
 left_is_some {d = d} k none = none k.conjunct d (replaced_from k.replaced) (inl refl) (k.merged, k.mergeable)
 
-left_alone : {d l m : BoundTree} → is_and l ≡ false → MergeTo l d m → LeftMerged d l m
+pub left_alone : {d l m : BoundTree} → is_and l ≡ false → MergeTo l d m → LeftMerged d l m
 left_alone {d = d} {l = l} {m = m} e k = record { conjunct = l; merged = m; front = []; mergeable = k; none_of_front = none_of_none (d ∷ []); replaced = itself e }
 
-left_none_alone : {d l : BoundTree} → is_and l ≡ false → (Mergeable l d → ⊥) → NoneMergeable (conjuncts l) (d ∷ [])
+pub left_none_alone : {d l : BoundTree} → is_and l ≡ false → (Mergeable l d → ⊥) → NoneMergeable (conjuncts l) (d ∷ [])
 left_none_alone {d = d} {l = l} e nil = subst (λ cs. NoneMergeable cs (d ∷ [])) (sym (alone l e)) (one_pair l d nil)
 
 -- a single conjunct is merged, or isn't

@@ -9,3 +9,7 @@ pub mod Found
 pub mod Pairing
 pub mod Children
 pub mod Unique
+pub mod Linking
+pub mod Holding
+pub mod Taking
+pub mod Heading

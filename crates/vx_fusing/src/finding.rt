@@ -25,11 +25,18 @@ use vx_tree::{BoundExpression, VortexError, VortexResult};
 /// meet is merged, too. The type stays, and so does the meaning wherever the tree doesn't fault.
 ///
 /// Asks a well-typed tree. Refuses with `OutOfMemory` (1) alone. A tree without a pair is answered
-/// as it is, and takes no memory; so is what a first call answered.
+/// as it is, however little memory there is; so is what a first call answered.
 ///
-/// At each And every right conjunct is compared with the left ones until one fits: their sides
-/// first, then their names, then their trees. So the time grows with the square of a conjunction's
-/// ranges; a merge makes the Ands above its two conjuncts anew, and everything else is shared.
+/// Where both children of an And have eight conjuncts or more, the ranges of the left one are put
+/// into an index by their sides and items, which is let go of afterwards. Each right range then
+/// costs one look-up, which visits the nodes of its item, and the Ands above what is merged are made
+/// anew once. So the time grows with the number of conjuncts.
+///
+/// At any other And, and where there is no memory for an index, every right conjunct is compared
+/// with the left ones until one fits: their sides first, then their names, then their trees; and
+/// each merge makes the Ands above its two conjuncts anew. That takes no memory before there is a
+/// pair. In a chain, where one child of each And is a single conjunct, the time grows with the
+/// square of the ranges. Everything else is shared.
 pub fn find_between(alloc: Global, tree: BoundExpression) -> VortexResult<BoundExpression>
     requires { WellTyped (bound_of tree) }
     ensures merges { IfOk result (λ u. (n : ℕ) × Merges (bound_of tree) n (bound_of u)) }

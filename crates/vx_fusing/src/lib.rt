@@ -2,7 +2,10 @@
 #![tactic(auto)]
 
 mod finding;
+mod heads;
+mod indexed;
 mod laws;
+mod left;
 mod merge;
 mod nodes;
 mod ranges;

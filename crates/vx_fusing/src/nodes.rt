@@ -1,5 +1,5 @@
 // Nodes of two children, and nodes that give truth values.
-ghost use Rattle.std.specs.Prelude.{◌≡◌, ◌∷◌, [], IsFalse, IfErr, IfOk, MatchOption, option_map};
+ghost use Rattle.std.specs.Prelude.{◌≡◌, ◌≤◌, ◌∷◌, [], IsFalse, IfErr, IfOk, MatchOption, option_map};
 ghost use Rattle.vx_dtype.specs.declared.error.VortexError.TheVariants.{OutOfMemory};
 ghost use Rattle.vx_fn.specs.Functions.{and_also, truth_type};
 ghost use Rattle.vx_fn.specs.Views.{function_of, operation_of};
@@ -57,6 +57,21 @@ pub(crate) fn as_and(b: &BoundExpression) -> Option<(&BoundExpression, &BoundExp
         [l, r] => Some((l, r)),
         _ => None,
     }
+}
+
+// How many conjuncts the tree has, up to a limit. Each conjunct that is counted costs two looks at
+// most, however deep the tree is: an And has one on either side.
+pub(crate) fn conjuncts_in(b: &BoundExpression, limit: usize) -> usize
+    ensures { result ≤ limit }
+{
+    if limit <= 1 {
+        return limit;
+    }
+    let Some((first, second)) = as_and(b) else {
+        return 1;
+    };
+    let before = conjuncts_in(first, limit - 1);
+    before + conjuncts_in(second, limit - before)
 }
 
 // A node of a function that gives truth values, which the caller knows to be of that type.

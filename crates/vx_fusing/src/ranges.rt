@@ -6,6 +6,7 @@ ghost use Rattle.vx_tree.specs.Trees.{BoundTree};
 ghost use Rattle.vx_tree.specs.Views.{bound_of};
 ghost use Rattle.vx_fusing.specs.Conjuncts.{between_node, range_of, Mergeable, MergeTo};
 ghost use Rattle.vx_fusing.specs.Finding.{Finds, range_by, range_seen};
+ghost use Rattle.vx_fusing.specs.Indexed.{opposite};
 
 use crate::nodes::{as_binary, truth_node};
 use std::alloc::Global;
@@ -20,6 +21,18 @@ use vx_tree::{
 pub(crate) enum Side {
     Below,
     Above,
+}
+
+impl Side {
+    // The other side.
+    pub(crate) fn opposite(self) -> Side
+        ensures { result ≡ opposite self }
+    {
+        match self {
+            Side::Below => Side::Above,
+            Side::Above => Side::Below,
+        }
+    }
 }
 
 // An item that is bounded from one side.
@@ -112,6 +125,24 @@ fn between_of_one_item(
         return Ok(Some(between(alloc, lower, upper)?));
     }
     Ok(None)
+}
+
+// The Between of two ranges of one item, from opposite sides.
+pub(crate) fn between_of(
+    alloc: Global,
+    c: RangeComparison<'_>,
+    d: RangeComparison<'_>,
+) -> VortexResult<Box<BoundExpression>>
+    requires sides { c.side ≡ opposite d.side }
+    requires item { bound_of c.item.now ≡ bound_of d.item.now }
+    ensures merged { (x y : BoundTree) → range_of x ≡ Some (range_seen c.entry) → range_of y ≡ Some (range_seen d.entry) →
+        IfOk result (λ m. MergeTo x y (bound_of m.value)) }
+    ensures memory { IfErr result (λ e. e ≡ OutOfMemory) }
+{
+    match c.side {
+        Side::Below => between(alloc, c, d),
+        Side::Above => between(alloc, d, c),
+    }
 }
 
 // The Between of two conjuncts with these ranges, None where they aren't mergeable, which is found

@@ -1,39 +1,30 @@
-use Rattle.std.proofs.Common.{◌≡◌, ◌+◌, ◌∙◌, sym, ap, subst, arith, length, get_or}
-use Rattle.vx_types.specs.Types.{null}
-use Rattle.vx_eval.specs.Columns.{row_at}
-use Rattle.vx_eval.specs.Items.{AllLong, all_of}
-use Rattle.vx_eval.proofs.Conjoined.{all_start, all_more, all_false, all_told, long_there, conjoined_at, conjoined_long}
+use Rattle.std.proofs.Common.{◌≡◌, ◌<◌, ◌∙◌, ◌∷◌, [], sym, ap, subst, arith, length}
+use Rattle.vx_eval.specs.Items.{AllLong, HaveRow, conjoined}
+use Rattle.vx_eval.proofs.Conjoined.{alone_told, conjoined_long, have_row, have_there, only_one, together_told}
 use Rattle.vx_eval.proofs.conjunction.Conjunction.truth.Goals as goal
-
-pub loop-k-init : goal.loop-k-init
-loop-k-init c = all_start (row_at c.as_slice-items.result.now c.args.i)
 
 pub truth-requires-clause-within : goal.truth-requires-clause-within
 truth-requires-clause-within c =
     let count = c.self.inside.count in
-    let those : c.as_slice-items.result.now ≡ c.self.inside.items.items = c.as_slice-items.ensures.value in
-    let as_long : length c.index-items-k.result ≡ count = long_there count c.loop-k.k c.as_slice-items.result.now c.index-items-k.result (subst (AllLong count) (sym those) c.self.invariant) (omega arith) c.index-items-k.is in
     let rows : length c.args.self.now ≡ count = sym (ap length c.self.view_is) ∙ conjoined_long count c.self.inside.items.items in
-    omega (arith, as_long, rows, c.requires)
+    let have : HaveRow c.args.i c.as_slice.result.now = have_row count c.args.i c.as_slice.result.now (subst (AllLong count) (sym c.as_slice.ensures.value) c.self.invariant) (omega (arith, rows, c.requires)) in
+    have_there c.args.i 0 c.as_slice.result.now c.item-item.result have (omega (arith, c.in-len1.len_at_least)) c.item-item.is
 
-pub returns-then-is_false : goal.returns-then-is_false
-returns-then-is_false c =
-    let i = c.args.i in
+pub all_told-requires-clause-within : goal.all_told-requires-clause-within
+all_told-requires-clause-within c =
     let count = c.self.inside.count in
-    let those : c.as_slice-items.result.now ≡ c.self.inside.items.items = c.as_slice-items.ensures.value in
     let rows : length c.args.self.now ≡ count = sym (ap length c.self.view_is) ∙ conjoined_long count c.self.inside.items.items in
-    let more = all_more i c.loop-k.k c.as_slice-items.result.now c.index-items-k.result _ _ _ (omega arith) c.index-items-k.is c.loop-k.invariant c.truth.ensures c.kleene_and-all.ensures in
-    all_false i (c.loop-k.k + 1) c.as_slice-items.result.now _ more (sym c.if-is_false.true ∙ c.is_false.ensures)
-    ∙ ap (λ l. all_of (row_at l i)) those ∙ sym (conjoined_at count i c.self.inside.items.items (omega (arith, rows, c.requires))) ∙ ap (λ ds. get_or ds i null) c.self.view_is
+    have_row count c.args.i c.as_slice.result.now (subst (AllLong count) (sym c.as_slice.ensures.value) c.self.invariant) (omega (arith, rows, c.requires))
 
-pub loop-k-preserved : goal.loop-k-preserved
-loop-k-preserved c = all_more c.args.i c.loop-k.k c.as_slice-items.result.now c.index-items-k.result _ _ _ (omega arith) c.index-items-k.is c.loop-k.invariant c.truth.ensures c.kleene_and-all.ensures
-
-pub returns : goal.returns
-returns c =
-    let i = c.args.i in
+pub returns-in-len1 : goal.returns-in-len1
+returns-in-len1 c =
     let count = c.self.inside.count in
-    let those : c.as_slice-items.result.now ≡ c.self.inside.items.items = c.as_slice-items.ensures.value in
     let rows : length c.args.self.now ≡ count = sym (ap length c.self.view_is) ∙ conjoined_long count c.self.inside.items.items in
-    all_told i c.loop-k.k c.as_slice-items.result.now c.loop-k.all c.loop-k-test.false c.loop-k.invariant
-    ∙ ap (λ l. all_of (row_at l i)) those ∙ sym (conjoined_at count i c.self.inside.items.items (omega (arith, rows, c.requires))) ∙ ap (λ ds. get_or ds i null) c.self.view_is
+    let one = only_one c.as_slice.result.now c.item-item.result (omega (arith, c.in-len1.len_at_least, c.in-len1.len_below)) c.item-item.is in
+    alone_told count c.args.i c.item-item.result c.args.self.now _ (ap (conjoined count) (sym one ∙ c.as_slice.ensures.value) ∙ c.self.view_is) (omega (arith, rows, c.requires)) c.truth.ensures
+
+pub returns-in_default : goal.returns-in_default
+returns-in_default c =
+    let count = c.self.inside.count in
+    let rows : length c.args.self.now ≡ count = sym (ap length c.self.view_is) ∙ conjoined_long count c.self.inside.items.items in
+    together_told count c.args.i c.as_slice.result.now c.args.self.now _ (ap (conjoined count) c.as_slice.ensures.value ∙ c.self.view_is) (omega (arith, rows, c.requires)) c.all_told.ensures
