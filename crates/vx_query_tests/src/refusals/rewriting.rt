@@ -22,18 +22,52 @@ const COMPARISONS: &str = "(((($.x >= 0i32) and ($.y >= 0i32)) and ($.z >= 0i32)
 const RANGES: &str =
     "(((0i32 <= $.x < 10i32) and (0i32 <= $.y < 10i32)) and (0i32 <= $.z < 10i32))";
 
-#[test]
-fn find_between_of_six_comparisons(rt: HostRuntime) -> Result<(), Fail> {
-    let alloc = rt.alloc();
+/// Eight comparisons of x and y from below and eight from above, the last one of z, so that an
+/// index finds the pairs.
+const SEVEN_RANGES: &str = "x 0 >= y 0 >= x 1 >= y 1 >= x 2 >= y 2 >= x 3 >= y 3 >= all(8) \
+                            x 10 < y 10 < x 11 < y 11 < x 12 < y 12 < x 13 < z 13 < all(8) and";
+
+const SIXTEEN_COMPARISONS: &str = "((((($.x >= 0i32) and ($.y >= 0i32)) \
+                                   and (($.x >= 1i32) and ($.y >= 1i32))) \
+                                   and ((($.x >= 2i32) and ($.y >= 2i32)) \
+                                   and (($.x >= 3i32) and ($.y >= 3i32)))) \
+                                   and (((($.x < 10i32) and ($.y < 10i32)) \
+                                   and (($.x < 11i32) and ($.y < 11i32))) \
+                                   and ((($.x < 12i32) and ($.y < 12i32)) \
+                                   and (($.x < 13i32) and ($.z < 13i32)))))";
+
+const SEVEN_FUSED: &str = "(((((0i32 <= $.x < 10i32) and (0i32 <= $.y < 10i32)) \
+                           and ((1i32 <= $.x < 11i32) and (1i32 <= $.y < 11i32))) \
+                           and (((2i32 <= $.x < 12i32) and (2i32 <= $.y < 12i32)) \
+                           and ((3i32 <= $.x < 13i32) and ($.y >= 3i32)))) and ($.z < 13i32))";
+
+/// Asserts what the tree of those words is fused to, and that its copies stay as it was.
+fn fuses(
+    rt: &(impl Abort + Print),
+    alloc: Global,
+    words: &str,
+    before: &str,
+    after: &str,
+) -> Result<(), Fail> {
     let scope = dtype(alloc, "{x=i32?,y=i32?,z=i32?}")?;
-    let bound = bound(alloc, THREE_RANGES, &scope)?;
+    let bound = bound(alloc, words, &scope)?;
     let shared = Box::new(alloc, (*bound).clone()?)?;
     rt.println("called")?;
     let answer = find_between(alloc, Box::into_inner(bound));
-    assert!(rt; reads(&*shared, COMPARISONS));
+    assert!(rt; reads(&*shared, before));
     let fused = answer?;
-    assert!(rt; reads(&fused, RANGES));
-    answered(&rt)
+    assert!(rt; reads(&fused, after));
+    answered(rt)
+}
+
+#[test]
+fn find_between_of_six_comparisons(rt: HostRuntime) -> Result<(), Fail> {
+    fuses(&rt, rt.alloc(), THREE_RANGES, COMPARISONS, RANGES)
+}
+
+#[test]
+fn find_between_of_sixteen_comparisons(rt: HostRuntime) -> Result<(), Fail> {
+    fuses(&rt, rt.alloc(), SEVEN_RANGES, SIXTEEN_COMPARISONS, SEVEN_FUSED)
 }
 
 /// Asserts what is left of the tree, and that the tree stays as it was.
