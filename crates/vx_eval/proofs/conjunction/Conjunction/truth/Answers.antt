@@ -1,4 +1,4 @@
-use Rattle.std.proofs.Common.{◌≡◌, ◌<◌, ◌∙◌, ◌∷◌, [], sym, ap, subst, arith, length}
+use Rattle.std.proofs.Common.{◌≡◌, ◌∙◌, sym, ap, subst, arith, length}
 use Rattle.vx_eval.specs.Items.{AllLong, HaveRow, conjoined}
 use Rattle.vx_eval.proofs.Conjoined.{alone_told, conjoined_long, have_row, have_there, only_one, together_told}
 use Rattle.vx_eval.proofs.conjunction.Conjunction.truth.Goals as goal
