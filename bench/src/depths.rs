@@ -5,26 +5,39 @@ use std::process::{Command, Stdio};
 /// The families whose trees are as deep as they are large, and the levels of one of their sizes.
 const DEEP: [(&str, u8, usize); 3] = [("deep", 1, 1), ("getpack", 2, 2), ("case", 5, 1)];
 
-/// Deeper trees aren't tried, and of a pass that is slower than linear none deeper than the second.
+/// Deeper trees aren't tried.
 const DEEPEST: usize = 131_072;
-const DEEPEST_OF_SLOW: usize = 32_768;
 
-/// Passes whose time grows with the square of the depth.
-const SLOW: [&str; 3] = ["label_bound_tree", "annotations", "partition_bound"];
+/// What goes down a tree beside the passes that are timed, in the order of its numbers in the library,
+/// which follow theirs.
+const OTHERS: [&str; 16] = [
+    "return_dtype",
+    "==",
+    "text of the source",
+    "display_tree",
+    "contains",
+    "is_well_typed, is_root_bound_to",
+    "ExactBoundExpr::new",
+    "validity",
+    "accept, pre_order_visit_down",
+    "rewrite, transform_down",
+    "fold_context",
+    "optimize_with (branch rules)",
+    "direct_bound_annotations",
+    "apply_bound",
+    "run_query (all passes, split)",
+    "scan",
+];
 
 /// Prints for each pass the levels of the deepest tree of each family from which it returned.
 pub fn table() {
     println!("| Pass | Levels of deep | of getpack | of case |");
     println!("|---|---:|---:|---:|");
-    for (number, pass) in (0..).zip(PASSES) {
-        let most = if SLOW.contains(&pass) {
-            DEEPEST_OF_SLOW
-        } else {
-            DEEPEST
-        };
+    for (number, pass) in (0..).zip(PASSES.into_iter().chain(OTHERS)) {
         let cells = DEEP.map(|(_, family, levels)| {
-            let size = largest(most / levels, |size| returns(family, size, number));
-            let more = if size == most / levels { "≥ " } else { "" };
+            let most = DEEPEST / levels;
+            let size = largest(most, |size| returns(family, size, number));
+            let more = if size == most { "≥ " } else { "" };
             format!("{more}{}", size * levels)
         });
         println!("| {pass} | {} |", cells.join(" | "));

@@ -9,6 +9,7 @@ mod batch;
 mod digest;
 mod family;
 mod fields;
+mod over_a_row;
 mod pass;
 mod passes;
 mod query;
@@ -16,6 +17,7 @@ mod query_trees;
 mod scans;
 mod subject;
 mod trees;
+mod walks;
 
 use digest::Digest;
 use query::Query;
