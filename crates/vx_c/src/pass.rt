@@ -11,9 +11,7 @@ use vx_analysis::{
     descendent_bound_annotations, direct_bound_annotations, free_fields, label_bound_tree,
 };
 use vx_optimizer::optimize_with;
-use vx_rewrite::{
-    BranchRules, Optimize, find_between, partition_bound, referenced_field_paths,
-};
+use vx_rewrite::{BranchRules, Optimize, find_between, partition_bound, referenced_field_paths};
 use vx_scan::plan;
 use vx_split::split_by_fields;
 use vx_tree::{BoundExpression, ExactBoundExpr, Mask};
@@ -155,7 +153,11 @@ fn gone<T: Drop>(answer: VortexResult<T>) -> VortexResult<()> {
 
 // Refuses where a test that holds of every tree was told false.
 fn told(holds: bool) -> VortexResult<()> {
-    if holds { Ok(()) } else { Err(VortexError::NotBool) }
+    if holds {
+        Ok(())
+    } else {
+        Err(VortexError::NotBool)
+    }
 }
 
 fn written<T: Display>(alloc: Global, text: &T) -> VortexResult<()> {

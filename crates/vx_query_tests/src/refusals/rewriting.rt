@@ -67,7 +67,13 @@ fn find_between_of_six_comparisons(rt: HostRuntime) -> Result<(), Fail> {
 
 #[test]
 fn find_between_of_sixteen_comparisons(rt: HostRuntime) -> Result<(), Fail> {
-    fuses(&rt, rt.alloc(), SEVEN_RANGES, SIXTEEN_COMPARISONS, SEVEN_FUSED)
+    fuses(
+        &rt,
+        rt.alloc(),
+        SEVEN_RANGES,
+        SIXTEEN_COMPARISONS,
+        SEVEN_FUSED,
+    )
 }
 
 /// Asserts what is left of the tree, and that the tree stays as it was.
