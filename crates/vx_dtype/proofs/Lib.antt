@@ -3,3 +3,4 @@ pub mod Known
 pub mod Built
 pub mod FieldTexts
 pub mod Unions
+pub mod FirstPlaces
