@@ -4,3 +4,4 @@ pub mod Built
 pub mod FieldTexts
 pub mod Unions
 pub mod FirstPlaces
+pub mod FieldsAt

@@ -64,10 +64,7 @@ impl NameList {
 
 // The first place of each name. The names are taken from the last to the first, so that of a repeated
 // name the first place stays.
-fn first_places(
-    alloc: Global,
-    names: &[FieldName],
-) -> Result<HashMap<FieldName, usize>, AllocError>
+fn first_places(alloc: Global, names: &[FieldName]) -> Result<HashMap<FieldName, usize>, AllocError>
     ensures { IfOk result (λ index. TellsFirstPlaces index names.now) }
 {
     let mut index = HashMap::with_capacity(alloc, names.len())?;
