@@ -38,7 +38,7 @@ impl StructFields {
     pub fn field(&self, name: &FieldName) -> Option<&DType>
         ensures { option_map (λ t. type_of t.now) result ≡ field_type name.now (fields_of self.now) }
     {
-        field_of(self.names.as_slice(), self.types.as_slice(), name)
+        field_of(&self.names, &self.types, name)
     }
 
     /// The fields but those of the given names, each the first of its name. Refuses with `OutOfMemory` (1),
@@ -47,11 +47,7 @@ impl StructFields {
         ensures fields { Answers fields_of result (projected_without names.now (fields_of self.now)) }
         ensures names { IfOk result (λ s. names_of s ≡ names_without names.now (field_names (fields_of self.now))) }
     {
-        match unknown_of(
-            self.names.as_slice(),
-            self.types.as_slice(),
-            names.as_slice(),
-        ) {
+        match unknown_of(&self.names, &self.types, names.as_slice()) {
             Some(name) => Err(VortexError::NoSuchField(name.clone()?)),
             None => {
                 let own = own_names(self.names.as_slice(), self.types.as_slice());
@@ -67,12 +63,7 @@ impl StructFields {
         ensures fields { Answers fields_of result (projected names.now (fields_of self.now)) }
         ensures names { IfOk result (λ s. names_of s ≡ names.now) }
     {
-        let types = types_of(
-            alloc,
-            self.names.as_slice(),
-            self.types.as_slice(),
-            names.as_slice(),
-        )?;
+        let types = types_of(alloc, &self.names, &self.types, names.as_slice())?;
         Ok(struct_of(alloc, names.clone()?, types)?)
     }
 }
@@ -94,22 +85,16 @@ fn own_names<'a>(names: &'a [FieldName], types: &[DType]) -> &'a [FieldName]
 }
 
 // The type of the first field of that name.
-fn field_of<'a>(names: &[FieldName], types: &'a [DType], name: &FieldName) -> Option<&'a DType>
+fn field_of<'a>(names: &FieldNames, types: &'a [DType], name: &FieldName) -> Option<&'a DType>
     ensures { option_map (λ t. type_of t.now) result ≡ field_type name.now (fields_view names.now types.now) }
 {
-    for i in 0..field_count(names, types) {
-        let t = &types[i];
-        if *name == names[i] {
-            return Some(t);
-        }
-    }
-    None
+    types.get(names.find(name)?)
 }
 
 // For each name the type of the first field of that name.
 fn types_of(
     alloc: Global,
-    names: &[FieldName],
+    names: &FieldNames,
     types: &[DType],
     wanted: &[FieldName],
 ) -> VortexResult<Vec<DType>>
@@ -128,7 +113,7 @@ fn types_of(
 
 // The first of the names that no field has.
 fn unknown_of<'a>(
-    names: &[FieldName],
+    names: &FieldNames,
     types: &[DType],
     wanted: &'a [FieldName],
 ) -> Option<&'a FieldName>

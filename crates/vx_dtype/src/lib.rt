@@ -9,6 +9,7 @@ mod fields;
 mod hashed;
 mod joins;
 pub mod laws;
+mod name_list;
 mod names;
 mod shown;
 

@@ -12,6 +12,7 @@ ghost use Rattle.vx_dtype.specs.Names.{names_alike};
 ghost use Rattle.std.proofs.Common.{rules};
 
 use crate::VortexResult;
+use crate::name_list::NameList;
 use std::alloc::{AllocError, Global};
 use std::fmt;
 use std::hash::{Hash, Hasher};
@@ -102,10 +103,10 @@ impl fmt::Debug for FieldName {
     }
 }
 
-/// A list of names, repeats allowed; clones share it.
+/// A list of names, repeats allowed; clones share it. In a long list a name is looked up by its hash.
 #[derive(Drop)]
 pub struct FieldNames {
-    names: Rc<Vec<FieldName>>,
+    list: Rc<NameList>,
 }
 
 impl Model for FieldNames {
@@ -113,7 +114,7 @@ impl Model for FieldNames {
 
     ghost Value = { List (List ℕ) };
 
-    ghost view = { λ a. a.names.value.items };
+    ghost view = { λ a. a.list.value };
 }
 
 impl FieldNames {
@@ -122,7 +123,7 @@ impl FieldNames {
         ensures { Answers (λ all. all) result (Ok names.items) }
     {
         Ok(FieldNames {
-            names: Rc::new(alloc, names)?,
+            list: Rc::new(alloc, NameList::new(alloc, names)?)?,
         })
     }
 
@@ -137,14 +138,14 @@ impl FieldNames {
     pub fn find(&self, name: &FieldName) -> Option<usize>
         ensures { result ≡ position (bytes_eq name.now) self.now }
     {
-        self.iter().position(|other| *name == *other)
+        self.list.find(name)
     }
 
     /// Whether the name is one of these.
     pub fn contains(&self, name: &FieldName) -> bool
         ensures { result ≡ is_among self.now name.now }
     {
-        self.iter().any(|other| *name == *other)
+        self.find(name).is_some()
     }
 
     /// The names but the given ones, in their order. Refuses with `OutOfMemory` (1) alone.
@@ -158,35 +159,35 @@ impl FieldNames {
     pub fn get(&self, i: usize) -> Option<&FieldName>
         ensures { option_copied result ≡ slice_get self.now i }
     {
-        self.names.get(i)
+        self.as_slice().get(i)
     }
 
     /// How many names there are.
     pub fn len(&self) -> usize
         ensures { result ≡ length self.now }
     {
-        self.names.len()
+        self.as_slice().len()
     }
 
     /// Whether there is no name.
     pub fn is_empty(&self) -> bool
         ensures { result ≡ (length self.now == 0) }
     {
-        self.names.is_empty()
+        self.as_slice().is_empty()
     }
 
     /// The names one after another.
     pub fn iter(&self) -> Iter<'_, FieldName>
         ensures { iter_rest result ≡ self.now }
     {
-        self.names.iter()
+        self.as_slice().iter()
     }
 
     /// The names as a slice.
     pub fn as_slice(&self) -> &[FieldName]
         ensures { result.now ≡ self.now }
     {
-        self.names.as_slice()
+        self.list.as_slice()
     }
 }
 
@@ -212,7 +213,7 @@ impl Clone for FieldNames {
 
     fn clone(&self) -> Result<FieldNames, AllocError> {
         Ok(FieldNames {
-            names: self.names.clone()?,
+            list: self.list.clone()?,
         })
     }
 }
@@ -223,7 +224,7 @@ impl PartialEq for FieldNames {
     ghost laws = { Prim.search (comparing, rules) };
 
     fn eq(&self, other: &FieldNames) -> bool {
-        self.names == other.names
+        self.as_slice() == other.as_slice()
     }
 }
 
@@ -237,12 +238,12 @@ impl Hash for FieldNames {
     ghost respects_eq = { names_alike.fed };
 
     fn hash<H: Hasher>(&self, state: &mut H) {
-        self.names.hash(state);
+        self.as_slice().hash(state);
     }
 }
 
 impl fmt::Debug for FieldNames {
     fn fmt<W: fmt::Write>(&self, f: &mut fmt::Formatter<W>) -> fmt::Result {
-        fmt::Debug::fmt(&self.names, f)
+        fmt::Debug::fmt(self.as_slice(), f)
     }
 }
