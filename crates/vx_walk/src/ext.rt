@@ -106,7 +106,7 @@ pub trait NodeExt: Node {
         ensures folded { Folded Self.mirror Self.kids F.down_gives F.up_gives context.now (Self.mirror self) folder.old folder.new result }
         ensures ready { F.ready folder.new }
     {
-        fold(alloc, self, context, folder)
+        fold(alloc, &self, context, folder)
     }
 }
 
