@@ -9,7 +9,7 @@ use Rattle.vx_walk.specs.declared.fold.FoldDownContext.{FoldDownContext}
 use Rattle.vx_walk.specs.declared.fold.FoldDownContext.TheVariants as Down
 use Rattle.vx_walk.specs.declared.fold.FoldUp.{FoldUp}
 use Rattle.vx_walk.specs.declared.fold.FoldUp.TheVariants as Up
-use Rattle.vx_walk.specs.Folds.{FoldEvent, down, up, FoldedRow, all, ended, in_front, FoldAll, refused, skipped, stopped, lost, cut, whole, none, next, end, fail, spent, FoldStep, Folded}
+use Rattle.vx_walk.specs.Folds.{FoldEvent, down, up, FoldedRow, all, ended, in_front, FoldAll, refused, skipped, stopped, lost, cut, whole, none, next, end, fail, spent, FoldStep, Folded, HandedUp, not_cloned, handed}
 use Rattle.vx_walk.proofs.Steps.{FoldsTo-append}
 
 -- rs before the rest
@@ -83,8 +83,9 @@ module _ {V N M X R : Type 0} (mirror : N → M) (kids : M → List M) (D : V �
   FoldFront-at items i x {y} {ns} {v} {w} {rs} h e f =
       rw add-one (subst (λ z. FoldFront y ns (mirror z ∷ map mirror (drop (suc i) items)) v w rs) (sym e) (rw (drop-cons items i x h) at f))
 
-  pub FoldFront-end : (items : List N) (i : ℕ) {y : X} {ns : List M} {v w : V} {rs : List R} → length items ≤ i → FoldFront y ns (map mirror (drop i items)) v w rs → FoldedAll y ns v w (Ok (all rs))
-  FoldFront-end items i h f = FoldFront-done (rw (drop_all i items h) at f)
+  -- no sibling is left
+  pub FoldFront-end : (items : List N) (i : ℕ) {y : X} {ns : List M} {v w : V} {rs : List R} → length items ≤ i → FoldFront y ns (map mirror (drop i items)) v w rs → FoldFront y ns [] v w rs
+  FoldFront-end items i h f = rw (drop_all i items h) at f
 
   pub Folded-refused : {x : X} (n : N) {v w : V} {e : VortexError} → D v x n (Err e) w → Folded mirror kids D U x (mirror n) v w (Err e)
   Folded-refused {x} n {v} {w} {e} d = record { events = down x (mirror n) (Err e) ∷ []; is = refused; steps = (w, (n, refl, d), refl) }
@@ -101,9 +102,13 @@ module _ {V N M X R : Type 0} (mirror : N → M) (kids : M → List M) (D : V �
   pub Folded-cut : {x y : X} (n : N) {u v w : V} {r : R} → D u x n (Ok (Down.Continue y)) v → FoldedAll y (kids (mirror n)) v w (Ok (ended r)) → Folded mirror kids D U x (mirror n) u w (Ok (Up.Stop r))
   Folded-cut {x} {y} n {u} {v} {w} d k = record { events = down x (mirror n) (Ok (Down.Continue y)) ∷ k.events; is = cut k.is; steps = (v, (n, refl, d), k.steps) }
 
-  pub Folded-whole : {x y : X} (n : N) {u v w z : V} {rs : List R} {a : Result (FoldUp R) VortexError} → D u x n (Ok (Down.Continue y)) v → FoldedAll y (kids (mirror n)) v w (Ok (all rs)) → U w n y rs a z → Folded mirror kids D U x (mirror n) u z a
-  Folded-whole {x} {y} n {u} {v} {w} {z} {rs} {a} d k s = record {
-    events = down x (mirror n) (Ok (Down.Continue y)) ∷ (k.events ++ (up (mirror n) y rs a ∷ []));
-    is = whole k.is;
-    steps = (v, (n, refl, d), FoldsTo-append (FoldStep mirror kids D U) v w z k.events (up (mirror n) y rs a ∷ []) k.steps (z, (n, refl, s), refl));
-  }
+  -- the children, then the way up of a clone of the node, unless there was no memory for that
+  pub Folded-handed_up : {x y : X} (n : N) {u v w z : V} {rs : List R} {a : Result (FoldUp R) VortexError} → D u x n (Ok (Down.Continue y)) v → FoldFront y (kids (mirror n)) [] v w rs → HandedUp mirror U (mirror n) y rs w a z → Folded mirror kids D U x (mirror n) u z a
+  Folded-handed_up n d f not_cloned = Folded-lost n d (FoldFront-spent f)
+  Folded-handed_up {x} {y} n {u} {v} {w} {z} {rs} {a} d f (handed m same s) =
+      let k = FoldFront-done f in
+      record {
+        events = down x (mirror n) (Ok (Down.Continue y)) ∷ (k.events ++ (up (mirror n) y rs a ∷ []));
+        is = whole k.is;
+        steps = (v, (n, refl, d), FoldsTo-append (FoldStep mirror kids D U) v w z k.events (up (mirror n) y rs a ∷ []) k.steps (z, (m, same, s), refl));
+      }

@@ -1,11 +1,8 @@
 -- Siblings that are handed over and back, one after another.
-use Rattle.std.proofs.Common.{◌≡◌, ℕ, ◌+◌, ◌<◌, ◌≤◌, List, [], ◌∷◌, length, map, get_or, drop, add-one, refl, ap, sym, subst, ◌∙◌, arith, Result, Ok, Err, Bool, true, false, ◌||◌, ◌⊎◌, inl, inr, IfOk, IfErr, IsOk}
-use Rattle.std.specs.Prelude.{Option, Some, None, is_some, MatchResult}
-use Rattle.std.specs.declared.vec.Vec.{Vec}
-use Rattle.std.specs.declared.alloc.Global.{Global}
+use Rattle.std.proofs.Common.{◌≡◌, ℕ, suc, ◌+◌, ◌<◌, ◌≤◌, List, [], ◌∷◌, ◌++◌, length, map, get_or, drop, add-one, append_assoc, append-nil, refl, ap, sym, subst, ◌∙◌, Result, Ok, Err, Bool, true, false, ◌||◌, IfOk, IfErr}
 use Rattle.std.specs.List.{Contains}
 use Rattle.std.proofs.Math.Seq.{drop-cons}
-use Rattle.std.proofs.lemmas.List.{drop_all, drop-map, reverse-append, length-map, get_or-map}
+use Rattle.std.proofs.lemmas.List.{drop_all, length-map, get_or-map, map-append}
 use Rattle.vx_dtype.specs.declared.error.VortexError.{VortexError}
 use Rattle.vx_dtype.specs.declared.error.VortexError.TheVariants.{OutOfMemory}
 use Rattle.vx_walk.specs.declared.order.TraversalOrder.{TraversalOrder}
@@ -15,160 +12,79 @@ use Rattle.vx_walk.specs.declared.siblings.Siblings.{Siblings}
 use Rattle.vx_walk.specs.Handed.{Back, in_front, looking, seen}
 use Rattle.vx_walk.specs.Orders.{GoesOn}
 use Rattle.vx_walk.specs.Mapping.{MappedAll, none, keep, next, fail, spent, RebuiltAs, MappedTo, refused, not_rebuilt, back}
-use Rattle.vx_walk.specs.Siblings.{AreBack, IsRow, InFront, MapsRow, RebuiltFrom}
+use Rattle.vx_walk.specs.Siblings.{seen_siblings, StepAt, stays, goes, not_cloned}
 
-or_assoc : (a b c : Bool) → (a || b) || c ≡ a || (b || c)
-or_assoc true b c = refl
-or_assoc false b c = refl
+-- ms, one of them changed where c, before what is handed back for the later ones
+abbrev pub before : {M : Type 0} → List M → Bool → Back (List M) → Back (List M)
+before ms c (Ok r) = Ok (record { value = ms ++ r.value; order = r.order; changed = c || r.changed })
+before ms c (Err e) = Err e
 
--- ---- one sibling in front
+before-front : {M : Type 0} (ms : List M) (c : Bool) (m : M) (d : Bool) (r : Back (List M)) → before ms c (in_front m d r) ≡ before (ms ++ m ∷ []) (c || d) r
+before-front ms true m d (Ok r) = rw append_assoc refl
+before-front ms false m d (Ok r) = rw append_assoc refl
+before-front ms c m d (Err e) = refl
 
-AreBack-front : {N M : Type 0} (f : N → M) (c : Bool) (x : N) (v w : Option (Vec N Global)) (xs : List M) → AreBack f c v xs → InFront x v w → AreBack f c w (f x ∷ xs)
-AreBack-front f true x (Some v) (Some w) xs b i = rw (i, reverse-append) (ap (λ l. f x ∷ l) b)
-AreBack-front f true x (Some v) None xs b i = i
-AreBack-front f true x None w xs b i = absurd b
-AreBack-front f false x (Some v) w xs b i = absurd b
-AreBack-front f false x None (Some w) xs b i = i
-AreBack-front f false x None None xs b i = tt
+before-start : {M : Type 0} (r : Back (List M)) → before [] false r ≡ r
+before-start (Ok r) = refl
+before-start (Err e) = refl
 
--- ---- siblings that stay, and siblings without memory
-
-pub or_false : (c : Bool) → c || false ≡ c
-or_false true = refl
-or_false false = refl
-
--- what `stay` gives is what is handed back where nothing is changed, or the refusal for memory
-pub IsRow-stays : {N M : Type 0} (f : N → M) (c : Bool) (o : TraversalOrder) (ms : List M) (result : Result (Siblings N) VortexError) → MatchResult result (λ s. (s.order ≡ o) × AreBack f c s.handed_back ms) (λ e. e ≡ OutOfMemory) → IsRow f c result (Ok (record { value = ms; order = o; changed = false })) ⊎ IsRow f c result (Err OutOfMemory)
-IsRow-stays f c o ms (Ok s) h = inl (h.0, rw or_false h.1)
-IsRow-stays f c o ms (Err e) h = inr h
-
--- the later ones are lost where they are refused
-pub IsRow-lost : {N M : Type 0} (f : N → M) (c d : Bool) (x : M) (e : VortexError) (r : Back (List M)) → IsRow f (c || d) (Err e) r → IsRow f c (Err e) (in_front x d r)
-IsRow-lost f c d x e (Ok r) k = k
-IsRow-lost f c d x e (Err q) k = k
-
--- a call that puts one in front gives it, or there is no memory
-pub IsRow-front : {N M : Type 0} (f : N → M) (c d : Bool) (x : N) (later : Siblings N) (r : Back (List M)) (result : Result (Siblings N) VortexError) → IsRow f (c || d) (Ok later) r → MatchResult result (λ s. (s.order ≡ later.order) × InFront x later.handed_back s.handed_back) (λ e. e ≡ OutOfMemory) → IsRow f c result (in_front (f x) d r) ⊎ (IsRow f c result (Err OutOfMemory) × IsOk r)
-IsRow-front f c d x later (Ok r) (Ok s) k i = inl (i.0 ∙ k.0, rw (← or_assoc c d r.changed) (AreBack-front f _ x later.handed_back s.handed_back r.value k.1 i.1))
-IsRow-front f c d x later (Ok r) (Err e) k i = inr (i, refl)
-IsRow-front f c d x later (Err e) result k i = absurd k
-
-pub in_front-ok : {A : Type 0} (x : A) (c : Bool) (r : Back (List A)) → IsOk (in_front x c r) → IsOk r
-in_front-ok x c (Ok r) h = h
-in_front-ok x c (Err e) h = h
-
-module _ {V M : Type 0} (C : V → M → Back M → V → Type 0) where
-  -- after Stop nothing is handed over
-  MappedAll-stays : (v : V) (ms : List M) → MappedAll C Stop v ms (Ok (record { value = ms; order = Stop; changed = false })) v
-  MappedAll-stays v [] = none
-  MappedAll-stays v (m ∷ ms) = keep _ (MappedAll-stays v ms)
-
-  -- there is no memory for what was handed back
-  MappedAll-spent : {o : TraversalOrder} {v w : V} {ms : List M} (r : Back (List M)) → MappedAll C o v ms r w → IsOk r → MappedAll C o v ms (Err OutOfMemory) w
-  MappedAll-spent _ none h = spent
-  MappedAll-spent _ (keep {n = n} r k) h = keep (Err OutOfMemory) (MappedAll-spent r k (in_front-ok n false r h))
-  MappedAll-spent _ (next {t = t} r g c k) h = next (Err OutOfMemory) g c (MappedAll-spent r k (in_front-ok t.value t.changed r h))
-  MappedAll-spent _ (fail g c) h = cc
-  MappedAll-spent _ spent h = cc
+before-end : {M : Type 0} (ms : List M) (o : TraversalOrder) (c : Bool) → before ms c (Ok (record { value = []; order = o; changed = false })) ≡ Ok (record { value = ms; order = o; changed = c })
+before-end ms o true = rw (append-nil ms) refl
+before-end ms o false = rw (append-nil ms) refl
 
 module _ {V N M : Type 0} (f : N → M) (C : V → M → Back M → V → Type 0) where
-  -- no sibling is left, or the last answer was Stop
-  pub MapsRow-stays : (o : TraversalOrder) (c : Bool) (v : V) (ms : List M) (result : Result (Siblings N) VortexError) → (o ≡ Stop) ⊎ (ms ≡ []) → MatchResult result (λ s. (s.order ≡ o) × AreBack f c s.handed_back ms) (λ e. e ≡ OutOfMemory) → MapsRow f C o c v ms result v
-  MapsRow-stays o c v ms result k h = elim (IsRow-stays f c o ms result h) [
-    | inl t ↦ record {
-      row = _;
-      is = elim k [
-        | inl s ↦ rw s (MappedAll-stays C v ms)
-        | inr n ↦ rw n none
-      ];
-      told = t;
-    }
-    | inr t ↦ record { row = Err OutOfMemory; is = spent; told = t }
-  ]
+  -- the siblings ms have been handed over and back down to `left`: they are xs now, one of them changed where b, the last order was o, and the state went from v to w
+  pub record RowFront (ms left : List M) (v w : V) (xs : List N) (o : TraversalOrder) (b : Bool) : Type 0 where
+    pub rest : (r : Back (List M)) (x : V) → MappedAll C o w left r x → MappedAll C Continue v ms (before (map f xs) b r) x
 
-  -- there was no memory for a clone
-  pub MapsRow-spent : (o : TraversalOrder) (c : Bool) (v : V) (ms : List M) → MapsRow f C o c v ms (Err OutOfMemory) v
-  MapsRow-spent o c v ms = record { row = Err OutOfMemory; is = spent; told = refl }
+  pub RowFront-start : (ms : List M) (v : V) → RowFront ms ms v v [] Continue false
+  RowFront-start ms v = record { rest = λ r x h. subst (λ a. MappedAll C Continue v ms a x) (sym (before-start r)) h }
 
-  -- the mapper refuses
-  pub MapsRow-fail : (o : TraversalOrder) (c : Bool) (v w : V) (m : M) (ms : List M) (e : VortexError) → GoesOn o → C v m (Err e) w → MapsRow f C o c v (m ∷ ms) (Err e) w
-  MapsRow-fail o c v w m ms e g s = record { row = Err e; is = fail g s; told = refl }
+  before-last : (xs : List N) (b : Bool) (y : N) (d : Bool) (r : Back (List M)) → before (map f xs) b (in_front (f y) d r) ≡ before (map f (xs ++ y ∷ [])) (b || d) r
+  before-last xs b y d r = rw (map-append f xs (y ∷ [])) (before-front (map f xs) b (f y) d r)
 
-  -- a later sibling is refused
-  pub MapsRow-lost : (o : TraversalOrder) (c : Bool) (u v w : V) (m : M) (ms : List M) (t : Transformed M) (e : VortexError) → GoesOn o → C u m (Ok t) v → MapsRow f C t.order (c || t.changed) v ms (Err e) w → MapsRow f C o c u (m ∷ ms) (Err e) w
-  MapsRow-lost o c u v w m ms t e g s k = record { row = _; is = next k.row g s k.is; told = IsRow-lost f c t.changed t.value e k.row k.told }
+  StepAt-next : {ms : List M} {m : M} {v w x : V} {o : TraversalOrder} {t : Transformed M} → StepAt C o v m (Ok t) w → (r : Back (List M)) → MappedAll C t.order w ms r x → MappedAll C o v (m ∷ ms) (in_front t.value t.changed r) x
+  StepAt-next (stays k) r q = rw k (keep r q)
+  StepAt-next (goes k c) r q = next r k c q
 
-  -- a sibling in front of the later ones
-  pub MapsRow-front : (o : TraversalOrder) (c : Bool) (u v w : V) (m : M) (ms : List M) (t : Transformed N) (later : Siblings N) (result : Result (Siblings N) VortexError) → GoesOn o → C u m (Ok (looking f t)) v → MapsRow f C t.order (c || t.changed) v ms (Ok later) w → MatchResult result (λ s. (s.order ≡ later.order) × InFront t.value later.handed_back s.handed_back) (λ e. e ≡ OutOfMemory) → MapsRow f C o c u (m ∷ ms) result w
-  MapsRow-front o c u v w m ms t later result g s k h = elim (IsRow-front f c t.changed t.value later k.row result k.told h) [
-    | inl q ↦ record { row = _; is = next k.row g s k.is; told = q }
-    | inr q ↦ record { row = Err OutOfMemory; is = next (Err OutOfMemory) g s (MappedAll-spent C k.row k.is q.1); told = q.0 }
-  ]
+  -- a sibling was handed back
+  pub RowFront-step : {ms left : List M} {m : M} {v w x : V} {xs : List N} {o : TraversalOrder} {b : Bool} (h : Transformed N) → RowFront ms (m ∷ left) v w xs o b → StepAt C o w m (Ok (looking f h)) x → RowFront ms left v x (xs ++ h.value ∷ []) h.order (b || h.changed)
+  RowFront-step {ms} {v = v} {xs = xs} {b = b} h q s = record {
+    rest = λ r y n. subst (λ a. MappedAll C Continue v ms a y) (before-last xs b h.value h.changed r) (q.rest (in_front (f h.value) h.changed r) y (StepAt-next s r n));
+  }
+
+  -- a sibling was refused, or there was no memory for its clone
+  pub RowFront-fail : {ms left : List M} {m : M} {v w x : V} {xs : List N} {o : TraversalOrder} {b : Bool} {e : VortexError} → RowFront ms (m ∷ left) v w xs o b → StepAt C o w m (Err e) x → MappedAll C Continue v ms (Err e) x
+  RowFront-fail {x = x} {e = e} q (goes k c) = q.rest (Err e) x (fail k c)
+  RowFront-fail {w = w} q not_cloned = q.rest (Err OutOfMemory) w spent
+
+  -- there is no memory
+  pub RowFront-spent : {ms left : List M} {v w : V} {xs : List N} {o : TraversalOrder} {b : Bool} → RowFront ms left v w xs o b → MappedAll C Continue v ms (Err OutOfMemory) w
+  RowFront-spent {w = w} q = q.rest (Err OutOfMemory) w spent
+
+  -- the sibling x stands at i
+  pub RowFront-at : (items : List N) (i : ℕ) (x : N) {ms : List M} {v w : V} {xs : List N} {o : TraversalOrder} {b : Bool} → i < length items → x ≡ get_or items i x → RowFront ms (map f (drop i items)) v w xs o b → RowFront ms (f x ∷ map f (drop (i + 1) items)) v w xs o b
+  RowFront-at items i x {ms} {v} {w} {xs} {o} {b} h e q =
+      rw add-one (subst (λ z. RowFront ms (f z ∷ map f (drop (suc i) items)) v w xs o b) (sym e) (rw (drop-cons items i x h) at q))
+
+  -- no sibling is left
+  pub RowFront-end : (items : List N) (i : ℕ) {ms : List M} {v w : V} {xs : List N} {o : TraversalOrder} {b : Bool} → length items ≤ i → RowFront ms (map f (drop i items)) v w xs o b → MappedAll C Continue v ms (Ok (record { value = map f xs; order = o; changed = b })) w
+  RowFront-end items i {ms} {v} {w} {xs} {o} {b} h q =
+      let k : RowFront ms [] v w xs o b = rw (drop_all i items h) at q in
+      subst (λ a. MappedAll C Continue v ms a w) (before-end (map f xs) o b) (k.rest (Ok (record { value = []; order = o; changed = false })) w none)
 
 -- ---- the node over its siblings
 
--- what `rebuild` gives of siblings that were handed back is the node over them, or the node where none was changed
-RebuiltAs-row : {N M : Type 0} (f : N → M) (B : M → List M → Result M VortexError → Type 0) (n : M) (c : Bool) (back : Option (Vec N Global)) (ms : List M) (a : Result M VortexError) → AreBack f c back ms → RebuiltFrom f B n back a → RebuiltAs B n ms c a
-RebuiltAs-row f B n true (Some v) ms a k h = rw (← k) h
-RebuiltAs-row f B n true None ms a k h = absurd k
-RebuiltAs-row f B n false (Some v) ms a k h = absurd k
-RebuiltAs-row f B n false None ms a k h = h
-
-AreBack-changed : {N M : Type 0} (f : N → M) (c : Bool) (back : Option (Vec N Global)) (ms : List M) → AreBack f c back ms → is_some back ≡ c
-AreBack-changed f true (Some v) ms k = refl
-AreBack-changed f true None ms k = absurd k
-AreBack-changed f false (Some v) ms k = absurd k
-AreBack-changed f false None ms k = refl
-
--- what is said of `rebuild` of siblings
-pub record IsRebuilt {N M : Type 0} (f : N → M) (B : M → List M → Result M VortexError → Type 0) (n : M) (r : Transformed (List M)) (result : Back N) : Type 0 where
-  pub ok : IfOk result (λ t. (t.order ≡ r.order) × (t.changed ≡ r.changed) × RebuiltAs B n r.value r.changed (Ok (f t.value)))
-  pub err : IfErr result (λ e. RebuiltAs B n r.value r.changed (Err e))
-
-pub IsRebuilt-row : {N M : Type 0} (f : N → M) (B : M → List M → Result M VortexError → Type 0) (n : M) (s : Siblings N) (r : Transformed (List M)) (result : Back N) → IsRow f false (Ok s) (Ok r) → IfOk result (λ t. (t.order ≡ s.order) × (t.changed ≡ is_some s.handed_back) × RebuiltFrom f B n s.handed_back (Ok (f t.value))) → IfErr result (λ e. RebuiltFrom f B n s.handed_back (Err e)) → IsRebuilt f B n r result
-IsRebuilt-row f B n s r (Ok t) k h q = record { ok = (h.0 ∙ k.0, h.1 ∙ AreBack-changed f _ s.handed_back r.value k.1, RebuiltAs-row f B n _ s.handed_back r.value (Ok (f t.value)) k.1 h.2); err = tt }
-IsRebuilt-row f B n s r (Err e) k h q = record { ok = tt; err = RebuiltAs-row f B n _ s.handed_back r.value (Err e) k.1 q }
-
 -- the children were refused
-pub MappedTo-refused : {V N M : Type 0} (f : N → M) (B : M → List M → Result M VortexError → Type 0) (C : V → M → Back M → V → Type 0) (ns : List M) (n : M) (v w : V) (e : VortexError) → MapsRow f C Continue false v ns (Err e) w → MappedTo B C ns n v (Err e)
-MappedTo-refused f B C ns n v w e k = go k.row k.is k.told
-  where
-    go : (r : Back (List _)) → MappedAll C Continue v ns r w → IsRow f false (Err e) r → MappedTo B C ns n v (Err e)
-    go (Ok r) m t = absurd t
-    go (Err d) m t = rw t (refused m)
+pub MappedTo-refused : {V M : Type 0} (B : M → List M → Result M VortexError → Type 0) (C : V → M → Back M → V → Type 0) (ns : List M) (n : M) (v w : V) (e : VortexError) → MappedAll C Continue v ns (Err e) w → MappedTo B C ns n v (Err e)
+MappedTo-refused B C ns n v w e k = refused k
 
 -- the node was rebuilt, or stays
-pub MappedTo-rebuilt : {V N M : Type 0} (f : N → M) (B : M → List M → Result M VortexError → Type 0) (C : V → M → Back M → V → Type 0) (ns : List M) (n : M) (v w : V) (s : Siblings N) (result : Back N) → MapsRow f C Continue false v ns (Ok s) w → IfOk result (λ t. (t.order ≡ s.order) × (t.changed ≡ is_some s.handed_back) × RebuiltFrom f B n s.handed_back (Ok (f t.value))) → IfErr result (λ e. RebuiltFrom f B n s.handed_back (Err e)) → MappedTo B C ns n v (seen f result)
-MappedTo-rebuilt f B C ns n v w s result k h q = go k.row k.is k.told
-  where
-    close : (r : Transformed (List _)) (result' : Back _) → MappedAll C Continue v ns (Ok r) w → IsRebuilt f B n r result' → MappedTo B C ns n v (seen f result')
-    close r (Ok t) m b = rw (b.ok.0, b.ok.1) (back (f t.value) m b.ok.2)
-    close r (Err e) m b = not_rebuilt m b.err
-
-    go : (r : Back (List _)) → MappedAll C Continue v ns r w → IsRow f false (Ok s) r → MappedTo B C ns n v (seen f result)
-    go (Err d) m t = absurd t
-    go (Ok r) m t = close r result m (IsRebuilt-row f B n s r result t h q)
+pub MappedTo-rebuilt : {V N M : Type 0} (f : N → M) (B : M → List M → Result M VortexError → Type 0) (C : V → M → Back M → V → Type 0) (ns : List M) (n : M) (v w : V) (s : Siblings N) (result : Back N) → MappedAll C Continue v ns (seen_siblings f (Ok s)) w → IfOk result (λ t. (t.order ≡ s.order) × (t.changed ≡ s.changed) × RebuiltAs B n (map f s.handed_back.items) s.changed (Ok (f t.value))) → IfErr result (λ e. RebuiltAs B n (map f s.handed_back.items) s.changed (Err e)) → MappedTo B C ns n v (seen f result)
+MappedTo-rebuilt f B C ns n v w s (Ok t) k h q = rw (h.0, h.1) (back (f t.value) k h.2)
+MappedTo-rebuilt f B C ns n v w s (Err e) k h q = not_rebuilt k q
 
 -- ---- places
-
--- the siblings from i on
-pub rest-seen : {N M : Type 0} (f : N → M) (all : List N) (ms : List M) (i : ℕ) → map f all ≡ ms → map f (drop i all) ≡ drop i ms
-rest-seen f all ms i k = sym (drop-map f i all) ∙ ap (λ l. drop i l) k
-
--- no sibling is left
-pub none-left : {N M : Type 0} (f : N → M) (all : List N) (ms : List M) (i : ℕ) → map f all ≡ ms → i ≡ length all → drop i ms ≡ []
-none-left f all ms i k h = subst (λ l. drop i l ≡ []) k (let e : length (map f all) ≤ i = rw length-map (omega arith) in drop_all i (map f all) e)
-
--- a sibling is left
-pub one-left : {N M : Type 0} (f : N → M) (all : List N) (ms : List M) (i : ℕ) → map f all ≡ ms → i ≤ length ms → ¬ (i ≡ length all) → i < length all
-one-left f all ms i k h n = let e : length all ≡ length ms = subst (λ l. length all ≡ length l) k (sym (length-map all f)) in omega arith
-
--- the sibling x stands at i
-pub drop-seen : {N M : Type 0} (f : N → M) (all : List N) (ms : List M) (i : ℕ) (x : N) → map f all ≡ ms → i < length all → x ≡ get_or all i x → drop i ms ≡ f x ∷ drop (i + 1) ms
-drop-seen f all ms i x k h e =
-    let s : i < length (map f all) = rw length-map h in
-    let q : get_or (map f all) i (f x) ≡ f x = get_or-map f all i x (f x) h ∙ ap f (sym e) in
-    subst (λ l. drop i l ≡ f x ∷ drop (i + 1) l) k (rw add-one (drop-cons (map f all) i (f x) s ∙ rw q refl))
 
 -- a child is lower than its node
 pub child_is_lower : {N M : Type 0} (mirror : N → M) (kids : M → List M) (height : M → ℕ) → ((m k : M) → Contains (kids m) k → height k < height m) → (items : List N) (i : ℕ) (x : N) (n : M) → i < length items → x ≡ get_or items i x → map mirror items ≡ kids n → height (mirror x) < height n

@@ -65,3 +65,8 @@ module _ {V N M X R : Type 0} (mirror : N → M) (kids : M → List M) (D : V �
     pub events : List (FoldEvent M X R)
     pub is : Fold kids x m events a
     pub steps : FoldsTo FoldStep v events w
+
+-- the way up of a node that is seen as m and handed over, unless there is no memory for a clone of it
+pub data HandedUp {V N M X R : Type 0} (mirror : N → M) (U : V → N → X → List R → Result (FoldUp R) VortexError → V → Type 0) (m : M) (x : X) (rs : List R) (v : V) : Result (FoldUp R) VortexError → V → Type 0 where
+  not_cloned : HandedUp mirror U m x rs v (Err OutOfMemory) v
+  handed : {a : Result (FoldUp R) VortexError} {w : V} (n : N) → mirror n ≡ m → U v n x rs a w → HandedUp mirror U m x rs v a w

@@ -50,6 +50,10 @@ module _ {V M : Type 0} (kids : M → List M) (B : M → List M → Result M Vor
     pub is : Rewrite kids B n events a
     pub steps : FoldsTo (Step D U) v events w
 
+-- the same as a step of the rewriter at the node
+abbrev pub RewritesTo : {V M : Type 0} → (M → List M) → (M → List M → Result M VortexError → Type 0) → (V → M → Back M → V → Type 0) → (V → M → Back M → V → Type 0) → V → M → Back M → V → Type 0
+RewritesTo kids B D U v n a w = Rewritten kids B D U n v w a
+
 -- on the way up a node is handed back as it is
 abbrev pub GoesUpUnchanged : {V M : Type 0} → V → M → Back M → V → Type 0
 GoesUpUnchanged v m a w = (a ≡ Ok (kept m)) × (w ≡ v)

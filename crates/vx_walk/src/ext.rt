@@ -56,7 +56,8 @@ pub trait NodeExt: Node {
     ///
     /// Refuses as the rewriter and `with_children` do, which ends the rewrite, and with `OutOfMemory`
     /// (1). The rewriter then is where its own steps left it. Memory is taken for clones of the nodes
-    /// that are handed out, as far as a clone takes some, and for nodes that are rebuilt.
+    /// that are handed out, as far as a clone takes some, for a list of the children that are handed
+    /// back, and for nodes that are rebuilt.
     final fn rewrite<R: NodeRewriter<NodeTy = Self>>(
         self,
         alloc: Global,
@@ -106,7 +107,7 @@ pub trait NodeExt: Node {
         ensures folded { Folded Self.mirror Self.kids F.down_gives F.up_gives context.now (Self.mirror self) folder.old folder.new result }
         ensures ready { F.ready folder.new }
     {
-        fold(alloc, self, context, folder)
+        fold(alloc, &self, context, folder)
     }
 }
 

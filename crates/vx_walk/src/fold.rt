@@ -1,7 +1,7 @@
 // Folders, and the fold of a tree.
 ghost use Rattle.std.specs.Prelude.{◌≡◌, List, Result};
 ghost use Rattle.vx_dtype.specs.declared.error.VortexError.{VortexError};
-ghost use Rattle.vx_walk.specs.Folds.{Folded};
+ghost use Rattle.vx_walk.specs.Folds.{Folded, HandedUp};
 ghost use Rattle.vx_walk.specs.declared.fold.FoldDownContext.{FoldDownContext};
 ghost use Rattle.vx_walk.specs.declared.fold.FoldUp.{FoldUp};
 
@@ -71,29 +71,57 @@ pub trait NodeFolderContext {
         ensures ready { ready self.new };
 }
 
-// The fold of a tree.
+// The fold of a tree. The folder is called by functions of their own, so that what it does takes no
+// stack at each level, and nodes are lent on the way down: none stands in a frame.
 pub(crate) fn fold<N: Node, F: NodeFolderContext<NodeTy = N>>(
     alloc: Global,
-    node: N,
+    node: &N,
     context: &F::Context,
     folder: &mut F,
 ) -> VortexResult<FoldUp<F::Result>>
     requires { F.ready folder.old }
-    ensures folded { Folded N.mirror N.kids F.down_gives F.up_gives context.now (N.mirror node) folder.old folder.new result }
+    ensures folded { Folded N.mirror N.kids F.down_gives F.up_gives context.now (N.mirror node.now) folder.old folder.new result }
     ensures ready { F.ready folder.new }
 {
-    let below = match folder.visit_down(context, &node)? {
+    let below = match visit_down(node, context, folder)? {
         FoldDownContext::Continue(below) => below,
         FoldDownContext::Skip(r) => return Ok(FoldUp::Continue(r)),
         FoldDownContext::Stop(r) => return Ok(FoldUp::Stop(r)),
     };
     let mut results = Vec::with_capacity(alloc, node.children_count())?;
     for child in node.children_slice() {
-        let child = child.clone()?;
         match fold(alloc, child, &below, folder)? {
             FoldUp::Continue(r) => results.push(r)?,
             FoldUp::Stop(r) => return Ok(FoldUp::Stop(r)),
         }
     }
-    folder.visit_up(node, &below, results)
+    visit_up(node, &below, results, folder)
+}
+
+#[inline(never)]
+fn visit_down<N: Node, F: NodeFolderContext<NodeTy = N>>(
+    node: &N,
+    context: &F::Context,
+    folder: &mut F,
+) -> VortexResult<FoldDownContext<F::Context, F::Result>>
+    requires { F.ready folder.old }
+    ensures gives { F.down_gives folder.old context.now node.now result folder.new }
+    ensures ready { F.ready folder.new }
+{
+    folder.visit_down(context, node)
+}
+
+// The way up of a clone of the node.
+#[inline(never)]
+fn visit_up<N: Node, F: NodeFolderContext<NodeTy = N>>(
+    node: &N,
+    context: &F::Context,
+    children: Vec<F::Result>,
+    folder: &mut F,
+) -> VortexResult<FoldUp<F::Result>>
+    requires { F.ready folder.old }
+    ensures handed { HandedUp N.mirror F.up_gives (N.mirror node.now) context.now children.items folder.old result folder.new }
+    ensures ready { F.ready folder.new }
+{
+    folder.visit_up(node.clone()?, context, children)
 }

@@ -76,7 +76,7 @@ pub trait Node: Sized + Clone {
         requires { F.IsAlwaysCallable f }
         ensures { MappedTo rebuild_gives (AtOwned mirror F.step) (kids (mirror self)) (mirror self) f (seen mirror result) }
     {
-        let siblings = map_siblings(alloc, &self, 0, TraversalOrder::Continue, false, &mut f)?;
+        let siblings = map_siblings(alloc, self.children_slice(), &mut f)?;
         rebuild(alloc, self, siblings)
     }
 

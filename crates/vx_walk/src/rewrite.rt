@@ -1,13 +1,13 @@
 // Rewriters, and the rewrite of a tree.
-ghost use Rattle.std.specs.Prelude.{◌≡◌, ◌≤◌, length, drop, Ok};
+ghost use Rattle.std.specs.Prelude.{◌≡◌, ◌≤◌, Ok};
 ghost use Rattle.vx_walk.specs.Handed.{Back, seen};
-ghost use Rattle.vx_walk.specs.Mapping.{AtOwned};
-ghost use Rattle.vx_walk.specs.Rewrites.{Rewritten};
-ghost use Rattle.vx_walk.specs.Siblings.{RewritesRow};
+ghost use Rattle.vx_walk.specs.Mapping.{AtOwned, MappedAll};
+ghost use Rattle.vx_walk.specs.Rewrites.{RewritesTo, Rewritten};
+ghost use Rattle.vx_walk.specs.Siblings.{seen_siblings, StepAt};
 ghost use Rattle.vx_walk.specs.declared.order.TraversalOrder.TheVariants.{Continue};
 ghost use Rattle.vx_walk.specs.declared.transformed.Transformed.{Transformed};
 
-use crate::siblings::{Siblings, rebuild, stay};
+use crate::siblings::{Siblings, rebuild};
 use crate::{Node, Transformed, TraversalOrder};
 use std::alloc::Global;
 use vx_tree::VortexResult;
@@ -45,7 +45,8 @@ pub trait NodeRewriter: Sized {
     ghost no_higher: { (v w : Self) (n : Self.NodeTy) (t : Transformed Self.NodeTy) → ready v → down_gives v n (Ok t) w → t.order ≡ Continue → Self.NodeTy.height (Self.NodeTy.mirror t.value) ≤ Self.NodeTy.height (Self.NodeTy.mirror n) };
 }
 
-// The rewrite of a tree.
+// The rewrite of a tree. The rewriter is called by functions of their own, so that what it does takes
+// no stack at each level.
 #[cycle(rewrite)]
 pub(crate) fn rewrite_node<N: Node, R: NodeRewriter<NodeTy = N>>(
     alloc: Global,
@@ -60,7 +61,7 @@ pub(crate) fn rewrite_node<N: Node, R: NodeRewriter<NodeTy = N>>(
         value,
         order,
         changed,
-    } = rewriter.visit_down(node)?;
+    } = visit_down(node, rewriter)?;
     match order {
         TraversalOrder::Stop => {
             return Ok(Transformed {
@@ -70,48 +71,93 @@ pub(crate) fn rewrite_node<N: Node, R: NodeRewriter<NodeTy = N>>(
             });
         }
         TraversalOrder::Skip => {
-            let up = rewriter.visit_up(value)?;
+            let up = visit_up(value, rewriter)?;
             return Ok(up.marked(changed));
         }
         TraversalOrder::Continue => {}
     }
-    let siblings = rewrite_siblings(alloc, &value, 0, TraversalOrder::Continue, false, rewriter)?;
+    let siblings = rewrite_children(alloc, &value, rewriter)?;
     let handed = rebuild(alloc, value, siblings)?;
     match handed.order {
         TraversalOrder::Continue => {
             let below = handed.changed | changed;
-            let up = rewriter.visit_up(handed.value)?;
+            let up = visit_up(handed.value, rewriter)?;
             Ok(up.marked(below))
         }
         TraversalOrder::Skip | TraversalOrder::Stop => Ok(handed.marked(changed)),
     }
 }
 
-// The rewrites of the children from that index on, from left to right, until one answers Stop.
+// The rewrites of the children, from left to right, until one answers Stop; later ones stay.
 #[cycle(rewrite)]
-fn rewrite_siblings<N: Node, R: NodeRewriter<NodeTy = N>>(
+fn rewrite_children<N: Node, R: NodeRewriter<NodeTy = N>>(
     alloc: Global,
     parent: &N,
-    index: usize,
-    order: TraversalOrder,
-    changed: bool,
     rewriter: &mut R,
 ) -> VortexResult<Siblings<N>>
-    requires ready { R.ready rewriter.old }
-    requires in_range { index ≤ length (N.kids (N.mirror parent.now)) }
-    ensures rewritten { RewritesRow N.mirror N.kids N.rebuild_gives (AtOwned N.mirror R.down_gives) (AtOwned N.mirror R.up_gives) order changed rewriter.old (drop index (N.kids (N.mirror parent.now))) result rewriter.new }
+    requires { R.ready rewriter.old }
+    ensures rewritten { MappedAll (RewritesTo N.kids N.rebuild_gives (AtOwned N.mirror R.down_gives) (AtOwned N.mirror R.up_gives)) Continue rewriter.old (N.kids (N.mirror parent.now)) (seen_siblings N.mirror result) rewriter.new }
     ensures ready { R.ready rewriter.new }
 {
-    let children = parent.children_slice();
-    if index == children.len() {
-        return stay(alloc, children, index, order, changed);
+    let mut handed_back = Vec::with_capacity(alloc, parent.children_count())?;
+    let mut order = TraversalOrder::Continue;
+    let mut changed = false;
+    for child in parent.children_slice() {
+        let handed = rewrite_child(alloc, child, order, rewriter)?;
+        handed_back.push(handed.value)?;
+        order = handed.order;
+        changed = changed | handed.changed;
     }
-    if let TraversalOrder::Stop = order {
-        return stay(alloc, children, index, order, changed);
+    Ok(Siblings {
+        handed_back,
+        order,
+        changed,
+    })
+}
+
+// The rewrite of a clone of the child; after Stop it stays.
+#[cycle(rewrite)]
+fn rewrite_child<N: Node, R: NodeRewriter<NodeTy = N>>(
+    alloc: Global,
+    child: &N,
+    order: TraversalOrder,
+    rewriter: &mut R,
+) -> VortexResult<Transformed<N>>
+    requires { R.ready rewriter.old }
+    ensures step { StepAt (RewritesTo N.kids N.rebuild_gives (AtOwned N.mirror R.down_gives) (AtOwned N.mirror R.up_gives)) order rewriter.old (N.mirror child.now) (seen N.mirror result) rewriter.new }
+    ensures ready { R.ready rewriter.new }
+{
+    let value = child.clone()?;
+    match order {
+        TraversalOrder::Stop => Ok(Transformed {
+            value,
+            order,
+            changed: false,
+        }),
+        TraversalOrder::Skip | TraversalOrder::Continue => rewrite_node(alloc, value, rewriter),
     }
-    let child = children[index].clone()?;
-    let handed = rewrite_node(alloc, child, rewriter)?;
-    let changed = changed | handed.changed;
-    let later = rewrite_siblings(alloc, parent, index + 1, handed.order, changed, rewriter)?;
-    later.with_first(handed.value)
+}
+
+#[inline(never)]
+fn visit_down<N: Node, R: NodeRewriter<NodeTy = N>>(
+    node: N,
+    rewriter: &mut R,
+) -> VortexResult<Transformed<N>>
+    requires { R.ready rewriter.old }
+    ensures gives { R.down_gives rewriter.old node result rewriter.new }
+    ensures ready { R.ready rewriter.new }
+{
+    rewriter.visit_down(node)
+}
+
+#[inline(never)]
+fn visit_up<N: Node, R: NodeRewriter<NodeTy = N>>(
+    node: N,
+    rewriter: &mut R,
+) -> VortexResult<Transformed<N>>
+    requires { R.ready rewriter.old }
+    ensures gives { R.up_gives rewriter.old node result rewriter.new }
+    ensures ready { R.ready rewriter.new }
+{
+    rewriter.visit_up(node)
 }

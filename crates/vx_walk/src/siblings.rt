@@ -1,123 +1,96 @@
-// The children of a node as they are handed over and back. Nothing is kept of them where none was
-// changed, so that no memory is taken for a node that stays: while the later ones are handed over,
-// the earlier ones wait in the calls.
-ghost use Rattle.std.specs.Prelude.{◌≡◌, ◌≤◌, length, drop, map, is_some, Ok, Err, IfOk, IfErr, MatchResult};
-ghost use Rattle.vx_dtype.specs.declared.error.VortexError.TheVariants.{OutOfMemory};
-ghost use Rattle.vx_walk.specs.Mapping.{AtOwned};
-ghost use Rattle.vx_walk.specs.Siblings.{AreBack, InFront, MapsRow, RebuiltFrom};
+// The children of a node as they are handed over and back. One may be handed back as another node
+// and unchanged, which counts where a later one is changed: so each is kept until the last is known.
+ghost use Rattle.std.specs.Prelude.{◌≡◌, map, Ok, Err, IfOk, IfErr};
+ghost use Rattle.vx_walk.specs.Handed.{seen};
+ghost use Rattle.vx_walk.specs.Mapping.{AtOwned, MappedAll, RebuiltAs};
+ghost use Rattle.vx_walk.specs.Siblings.{seen_siblings, StepAt};
+ghost use Rattle.vx_walk.specs.declared.order.TraversalOrder.TheVariants.{Continue};
 
 use crate::{ElementMapper, Node, Transformed, TraversalOrder};
 use std::alloc::Global;
 use vx_tree::VortexResult;
 
-// Siblings that were handed back, from the last to the first; None where none was changed.
+// Siblings that were handed back, from left to right.
 #[derive(Drop)]
 pub(crate) struct Siblings<T> {
-    pub handed_back: Option<Vec<T>>,
+    pub handed_back: Vec<T>,
     pub order: TraversalOrder,
+    pub changed: bool,
 }
 
-impl<T: Drop> Siblings<T> {
-    // The same with one more before them.
-    pub fn with_first(self, first: T) -> VortexResult<Siblings<T>>
-        ensures { MatchResult result (λ s. (s.order ≡ self.order) × InFront first self.handed_back s.handed_back) (λ e. e ≡ OutOfMemory) }
-    {
-        let Siblings { handed_back, order } = self;
-        match handed_back {
-            None => Ok(Siblings {
-                handed_back: None,
-                order,
-            }),
-            Some(mut values) => {
-                values.push(first)?;
-                Ok(Siblings {
-                    handed_back: Some(values),
-                    order,
-                })
-            }
-        }
-    }
-}
-
-// The siblings from that index on as they are; nothing is kept where no earlier one was changed.
-pub(crate) fn stay<N: Node>(
+// Hands the siblings to the mapper, from left to right, until it answers Stop; later ones stay.
+pub(crate) fn map_siblings<N: Node, V: ElementMapper<N>>(
     alloc: Global,
     siblings: &[N],
-    index: usize,
-    order: TraversalOrder,
-    changed: bool,
+    mapper: &mut V,
 ) -> VortexResult<Siblings<N>>
-    requires { index ≤ length siblings.now }
-    ensures { MatchResult result (λ s. (s.order ≡ order) × AreBack N.mirror changed s.handed_back (map N.mirror (drop index siblings.now))) (λ e. e ≡ OutOfMemory) }
+    requires { V.ready mapper.old }
+    ensures mapped { MappedAll (AtOwned N.mirror V.gives) Continue mapper.old (map N.mirror siblings.now) (seen_siblings N.mirror result) mapper.new }
+    ensures ready { V.ready mapper.new }
 {
-    if !changed {
-        return Ok(Siblings {
-            handed_back: None,
-            order,
-        });
+    let mut handed_back = Vec::with_capacity(alloc, siblings.len())?;
+    let mut order = TraversalOrder::Continue;
+    let mut changed = false;
+    for sibling in siblings {
+        let handed = map_sibling(sibling, order, mapper)?;
+        handed_back.push(handed.value)?;
+        order = handed.order;
+        changed = changed | handed.changed;
     }
-    let mut values = Vec::with_capacity(alloc, siblings.len())?;
-    for sibling in &siblings[index..] {
-        values.push(sibling.clone()?)?;
-    }
-    values.reverse();
     Ok(Siblings {
-        handed_back: Some(values),
+        handed_back,
         order,
+        changed,
     })
 }
 
-// Hands the children from that index on to the mapper, from left to right, until it answers Stop.
-pub(crate) fn map_siblings<N: Node, V: ElementMapper<N>>(
-    alloc: Global,
-    parent: &N,
-    index: usize,
+// Hands a clone of the sibling to the mapper; after Stop it stays.
+fn map_sibling<N: Node, V: ElementMapper<N>>(
+    sibling: &N,
     order: TraversalOrder,
-    changed: bool,
     mapper: &mut V,
-) -> VortexResult<Siblings<N>>
-    requires ready { V.ready mapper.old }
-    requires in_range { index ≤ length (N.kids (N.mirror parent.now)) }
-    ensures mapped { MapsRow N.mirror (AtOwned N.mirror V.gives) order changed mapper.old (drop index (N.kids (N.mirror parent.now))) result mapper.new }
+) -> VortexResult<Transformed<N>>
+    requires { V.ready mapper.old }
+    ensures step { StepAt (AtOwned N.mirror V.gives) order mapper.old (N.mirror sibling.now) (seen N.mirror result) mapper.new }
     ensures ready { V.ready mapper.new }
 {
-    let children = parent.children_slice();
-    if index == children.len() {
-        return stay(alloc, children, index, order, changed);
+    let value = sibling.clone()?;
+    match order {
+        TraversalOrder::Stop => Ok(Transformed {
+            value,
+            order,
+            changed: false,
+        }),
+        TraversalOrder::Skip | TraversalOrder::Continue => mapper.map(value),
     }
-    if let TraversalOrder::Stop = order {
-        return stay(alloc, children, index, order, changed);
-    }
-    let child = children[index].clone()?;
-    let handed = mapper.map(child)?;
-    let changed = changed | handed.changed;
-    let later = map_siblings(alloc, parent, index + 1, handed.order, changed, mapper)?;
-    later.with_first(handed.value)
 }
 
 // The node over its siblings that were handed back; it stays where none was changed.
+#[inline(never)]
 pub(crate) fn rebuild<N: Node>(
     alloc: Global,
     node: N,
     siblings: Siblings<N>,
 ) -> VortexResult<Transformed<N>>
-    ensures ok { IfOk result (λ t. (t.order ≡ siblings.order) × (t.changed ≡ is_some siblings.handed_back) × RebuiltFrom N.mirror N.rebuild_gives (N.mirror node) siblings.handed_back (Ok (N.mirror t.value))) }
-    ensures err { IfErr result (λ e. RebuiltFrom N.mirror N.rebuild_gives (N.mirror node) siblings.handed_back (Err e)) }
+    ensures ok { IfOk result (λ t. (t.order ≡ siblings.order) × (t.changed ≡ siblings.changed) × RebuiltAs N.rebuild_gives (N.mirror node) (map N.mirror siblings.handed_back.items) siblings.changed (Ok (N.mirror t.value))) }
+    ensures err { IfErr result (λ e. RebuiltAs N.rebuild_gives (N.mirror node) (map N.mirror siblings.handed_back.items) siblings.changed (Err e)) }
 {
-    let Siblings { handed_back, order } = siblings;
-    match handed_back {
-        None => Ok(Transformed {
+    let Siblings {
+        handed_back,
+        order,
+        changed,
+    } = siblings;
+    if !changed {
+        return Ok(Transformed {
             value: node,
             order,
-            changed: false,
-        }),
-        Some(mut values) => {
-            values.reverse();
-            Ok(Transformed {
-                value: node.with_children(alloc, values)?,
-                order,
-                changed: true,
-            })
-        }
+            changed,
+        });
     }
+    let value = node.with_children(alloc, handed_back)?;
+    Ok(Transformed {
+        value,
+        order,
+        changed,
+    })
 }

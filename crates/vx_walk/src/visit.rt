@@ -33,7 +33,8 @@ pub trait NodeVisitor {
         ensures ready { ready self.new };
 }
 
-// The walk of a tree.
+// The walk of a tree. The visitor is called by functions of their own, so that what it does takes no
+// stack at each level.
 pub(crate) fn walk<N: Node, V: NodeVisitor<NodeTy = N>>(
     node: &N,
     visitor: &mut V,
@@ -42,9 +43,9 @@ pub(crate) fn walk<N: Node, V: NodeVisitor<NodeTy = N>>(
     ensures walked { Walked N.kids (At N.mirror V.down_gives) (At N.mirror V.up_gives) (N.mirror node.now) visitor.old visitor.new result }
     ensures ready { V.ready visitor.new }
 {
-    match visitor.visit_down(node)? {
+    match visit_down(node, visitor)? {
         TraversalOrder::Stop => return Ok(TraversalOrder::Stop),
-        TraversalOrder::Skip => return visitor.visit_up(node),
+        TraversalOrder::Skip => return visit_up(node, visitor),
         TraversalOrder::Continue => {}
     }
     let mut order = TraversalOrder::Continue;
@@ -55,7 +56,31 @@ pub(crate) fn walk<N: Node, V: NodeVisitor<NodeTy = N>>(
         }
     }
     match order {
-        TraversalOrder::Continue => visitor.visit_up(node),
+        TraversalOrder::Continue => visit_up(node, visitor),
         TraversalOrder::Skip | TraversalOrder::Stop => Ok(order),
     }
+}
+
+#[inline(never)]
+fn visit_down<N: Node, V: NodeVisitor<NodeTy = N>>(
+    node: &N,
+    visitor: &mut V,
+) -> VortexResult<TraversalOrder>
+    requires { V.ready visitor.old }
+    ensures gives { V.down_gives visitor.old node.now result visitor.new }
+    ensures ready { V.ready visitor.new }
+{
+    visitor.visit_down(node)
+}
+
+#[inline(never)]
+fn visit_up<N: Node, V: NodeVisitor<NodeTy = N>>(
+    node: &N,
+    visitor: &mut V,
+) -> VortexResult<TraversalOrder>
+    requires { V.ready visitor.old }
+    ensures gives { V.up_gives visitor.old node.now result visitor.new }
+    ensures ready { V.ready visitor.new }
+{
+    visitor.visit_up(node)
 }

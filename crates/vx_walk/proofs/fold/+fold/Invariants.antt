@@ -3,7 +3,7 @@ use Rattle.vx_walk.proofs.Folding.{FoldFront}
 use Rattle.vx_walk.proofs.fold.+fold.Given as goal
 
 abbrev pub decreases-fold : goal.decreases-fold
-decreases-fold g l = g.N.Node.height (g.N.Node.mirror l.node)
+decreases-fold g l = g.N.Node.height (g.N.Node.mirror l.node.now)
 
 abbrev pub invariant-loop-child : goal.invariant-loop-child
 invariant-loop-child g l = record {
