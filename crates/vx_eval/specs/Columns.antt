@@ -1,9 +1,9 @@
 -- Columns of values, the rows of several of them, and what a function gives over them.
-use Rattle.std.specs.Prelude.{◌≡◌, ℕ, ◌<◌, List, [], ◌∷◌, map, Option, Some, None, Result, Ok, Err, length, zero, suc, Bool}
+use Rattle.std.specs.Prelude.{ℕ, List, map, Option, Some, None, Result, Ok, Err, Bool}
 use Rattle.std.proofs.Math.ListN.{replicate}
 use Rattle.vx_dtype.specs.declared.error.VortexError.{VortexError}
 use Rattle.vx_dtype.specs.Answers.{Answers}
-use Rattle.vx_types.specs.Types.{LogicalType, Datum, null, bool, struct_of, Data, no_datum, datum}
+use Rattle.vx_types.specs.Types.{LogicalType, Datum, bool}
 use Rattle.vx_types.specs.Views.{value_of}
 use Rattle.vx_fn.specs.Functions.{Function}
 use Rattle.vx_fn.specs.Values.{fn_value}

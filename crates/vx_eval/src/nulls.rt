@@ -92,6 +92,7 @@ pub fn fill_null<'a>(
 }
 
 // The value, or a copy of the fill where it is null.
+#[inline]
 fn filled(v: Value, fill: &Value) -> Result<Value, AllocError>
     ensures { IfOk result (λ out. value_of out ≡ (if is_null_datum (value_of v) then value_of fill.now else value_of v)) }
 {
@@ -104,6 +105,7 @@ fn filled(v: Value, fill: &Value) -> Result<Value, AllocError>
 }
 
 // A copy of the value, or of the fill where it is null.
+#[inline]
 fn filled_copy(v: &Value, fill: &Value) -> Result<Value, AllocError>
     ensures { IfOk result (λ out. value_of out ≡ (if is_null_datum (value_of v.now) then value_of fill.now else value_of v.now)) }
 {
@@ -118,11 +120,14 @@ fn is_bad_fill(count: usize, dtype: &DType, fill: &Rows) -> bool
     !FillNull::supports_dtype(dtype) || has_null(count, fill) || some_differ(count, fill)
 }
 
-// Whether some row is null.
+// Whether some row is null; one value for all rows is looked at once.
 fn has_null(count: usize, fill: &Rows) -> bool
     requires { length (rows_view fill.now) ≡ count }
     ensures { result ≡ list_any is_null_datum (rows_view fill.now) }
 {
+    if let Rows::Same(value, _) = fill {
+        return 0 < count && value.is_null();
+    }
     for i in 0..count {
         if fill.row(i).is_null() {
             return true;
@@ -131,11 +136,14 @@ fn has_null(count: usize, fill: &Rows) -> bool
     false
 }
 
-// Whether some row differs from the first.
+// Whether some row differs from the first; one value for all rows is looked at once.
 fn some_differ(count: usize, fill: &Rows) -> bool
     requires { length (rows_view fill.now) ≡ count }
     ensures { result ≡ some_differ (rows_view fill.now) }
 {
+    if let Rows::Same(value, _) = fill {
+        return 1 < count && order(value, value).is_ne();
+    }
     for i in 1..count {
         if order(fill.row(0), fill.row(i)).is_ne() {
             return true;

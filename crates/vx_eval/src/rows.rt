@@ -40,6 +40,7 @@ pub enum Rows<'a> {
 
 impl<'a> Rows<'a> {
     /// The value of that row. Asks an index below the number of rows.
+    #[inline]
     pub fn row(&self, i: usize) -> &Value
         requires { i < length (rows_view self.now) }
         ensures { value_of result.now ≡ get_or (rows_view self.now) i null }
