@@ -5,6 +5,7 @@ pub mod Soundness
 pub mod Meant
 pub mod Views
 pub mod Binding
+pub mod Pushed
 pub mod Nodes
 pub mod Depths
 pub mod Levels

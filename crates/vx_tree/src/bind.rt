@@ -1,15 +1,18 @@
 // Binding: an expression over a scope, with the type of each node.
-ghost use Rattle.std.specs.Prelude.{◌≡◌, ◌↔◌, ℕ, IfOk, IsTrue};
+ghost use Rattle.std.specs.Prelude.{◌≡◌, ◌↔◌, ℕ, Err, IfOk, IsTrue, OnOk};
 ghost use Rattle.vx_types.specs.Answers.{Answers};
 ghost use Rattle.vx_types.specs.Views.{type_of};
-ghost use Rattle.vx_tree.specs.Binding.{binding, each_binding};
+ghost use Rattle.vx_fn.specs.Views.{function_of};
+ghost use Rattle.vx_tree.specs.Binding.{binding, each_binding, node_over};
 ghost use Rattle.vx_tree.specs.Nodes.{is_over};
-ghost use Rattle.vx_tree.specs.Trees.{WellTyped, EachWellTyped, Over, unbound, typed, node_type};
+ghost use Rattle.vx_tree.specs.Pushed.{Pushes};
+ghost use Rattle.vx_tree.specs.Trees.{WellTyped, EachWellTyped, Over, root, unbound, typed, node_type};
 ghost use Rattle.vx_tree.specs.Views.{tree_of, trees_of, bound_of, bounds_of};
 
 use crate::{BoundExpression, Expression, Scope};
 use std::alloc::Global;
-use vx_types::{DType, VortexResult};
+use vx_fn::ScalarFnRef;
+use vx_types::{DType, VortexError, VortexResult};
 
 impl Expression {
     /// The tree with the type of each node, over a scope of that type. Its cost is linear in the
@@ -36,7 +39,6 @@ impl Expression {
     }
 }
 
-#[cycle(bind)]
 fn bind_one(alloc: Global, e: &Expression, scope: &DType) -> VortexResult<BoundExpression>
     ensures bound { Answers bound_of result (binding (tree_of e.now) (type_of scope.now)) }
     ensures typed { IfOk result (λ b. WellTyped (bound_of b)) }
@@ -55,6 +57,8 @@ fn bind_one(alloc: Global, e: &Expression, scope: &DType) -> VortexResult<BoundE
     }
 }
 
+// The recursion, which handles no node: its frame has a place for each that a function handles. So
+// what makes, stores or lets go of nodes stands in functions that aren't inlined.
 #[cycle(bind)]
 fn bind_all(alloc: Global, es: &[Expression], scope: &DType) -> VortexResult<Vec<BoundExpression>>
     ensures bound { Answers (λ nodes. bounds_of nodes.items) result (each_binding (trees_of es.now) (type_of scope.now)) }
@@ -62,9 +66,70 @@ fn bind_all(alloc: Global, es: &[Expression], scope: &DType) -> VortexResult<Vec
 {
     let mut nodes = Vec::with_capacity(alloc, es.len())?;
     for i in 0..es.len() {
-        nodes.push(bind_one(alloc, &es[i], scope)?)?;
+        if let Err(refusal) = push_bound(alloc, &es[i], scope, &mut nodes) {
+            return refused(nodes, refusal);
+        }
     }
     Ok(nodes)
+}
+
+// Adds the tree, bound, to the nodes.
+#[cycle(bind)]
+fn push_bound(
+    alloc: Global,
+    e: &Expression,
+    scope: &DType,
+    nodes: &mut Vec<BoundExpression>,
+) -> VortexResult<()>
+    ensures bound { Pushes bound_of nodes.old.items result (binding (tree_of e.now) (type_of scope.now)) nodes.new.items }
+    ensures typed { OnOk result (EachWellTyped (bounds_of nodes.old.items) → EachWellTyped (bounds_of nodes.new.items)) }
+{
+    match e {
+        Expression::Root => push_root(scope, nodes),
+        Expression::Scalar {
+            scalar_fn,
+            children,
+        } => {
+            let below = bind_all(alloc, children.as_slice(), scope)?;
+            push_node(alloc, scalar_fn, below, nodes)
+        }
+    }
+}
+
+// Adds the scope root.
+#[inline(never)]
+fn push_root(scope: &DType, nodes: &mut Vec<BoundExpression>) -> VortexResult<()>
+    ensures bound { Pushes bound_of nodes.old.items result (binding root (type_of scope.now)) nodes.new.items }
+    ensures typed { OnOk result (EachWellTyped (bounds_of nodes.old.items) → EachWellTyped (bounds_of nodes.new.items)) }
+{
+    nodes.push(BoundExpression::Root {
+        dtype: scope.clone()?,
+    })?;
+    Ok(())
+}
+
+// Adds the node of the function over the children.
+#[inline(never)]
+fn push_node(
+    alloc: Global,
+    scalar_fn: &ScalarFnRef,
+    children: Vec<BoundExpression>,
+    nodes: &mut Vec<BoundExpression>,
+) -> VortexResult<()>
+    ensures bound { Pushes bound_of nodes.old.items result (node_over (function_of scalar_fn.now) (bounds_of children.items)) nodes.new.items }
+    ensures typed { EachWellTyped (bounds_of children.items) → OnOk result (EachWellTyped (bounds_of nodes.old.items) → EachWellTyped (bounds_of nodes.new.items)) }
+{
+    nodes.push(BoundExpression::try_new(alloc, scalar_fn.clone()?, children)?)?;
+    Ok(())
+}
+
+// The refusal, after the nodes so far are let go.
+#[inline(never)]
+fn refused(nodes: Vec<BoundExpression>, refusal: VortexError) -> VortexResult<Vec<BoundExpression>>
+    ensures { result ≡ Err refusal }
+{
+    drop(nodes);
+    Err(refusal)
 }
 
 impl BoundExpression {

@@ -3,7 +3,7 @@ ghost use Rattle.std.specs.Prelude.{◌≡◌, ◌≢◌, ℕ, length, IfOk, IfS
 ghost use Rattle.vx_types.specs.Answers.{Answers, Exactly};
 ghost use Rattle.vx_types.specs.Views.{type_of};
 ghost use Rattle.vx_dtype.specs.declared.error.VortexError.TheVariants.{ArityMismatch};
-ghost use Rattle.vx_fn.specs.Functions.{arity_of};
+ghost use Rattle.vx_fn.specs.Functions.{arity_of, fn_type, HasFittingLiteral};
 ghost use Rattle.vx_fn.specs.Views.{function_of};
 ghost use Rattle.vx_tree.specs.Binding.{node_over};
 ghost use Rattle.vx_tree.specs.Nodes.{bound_over, bound_children_of, is_root, number_refusal};
@@ -12,6 +12,7 @@ ghost use Rattle.vx_tree.specs.Views.{bound_of, bounds_of};
 
 use std::alloc::{AllocError, Global};
 use std::rc::Rc;
+use std::slice;
 use vx_fn::ScalarFnRef;
 use vx_types::{DType, VortexError, VortexResult};
 
@@ -91,8 +92,7 @@ impl BoundExpression {
         if got != expected {
             return Err(VortexError::ArityMismatch { expected, got });
         }
-        let types = dtypes_of(alloc, children.as_slice())?;
-        let dtype = scalar_fn.return_dtype(alloc, types.as_slice())?;
+        let dtype = dtype_over(alloc, &scalar_fn, children.as_slice())?;
         Ok(BoundExpression::Scalar {
             dtype,
             scalar_fn,
@@ -134,6 +134,30 @@ impl BoundExpression {
             BoundExpression::Scalar { scalar_fn, .. } => {
                 BoundExpression::try_new(alloc, scalar_fn, children)
             }
+        }
+    }
+}
+
+// The type of a node of the function over the children. That of an only child is read in place, and
+// those of two are copied into no list.
+#[inline(never)]
+fn dtype_over(
+    alloc: Global,
+    scalar_fn: &ScalarFnRef,
+    children: &[BoundExpression],
+) -> VortexResult<DType>
+    ensures typed { Answers type_of result (fn_type (function_of scalar_fn.now) (node_types (bounds_of children.now))) }
+    ensures literal { IfOk result (λ _. HasFittingLiteral (function_of scalar_fn.now)) }
+{
+    match children {
+        [child] => scalar_fn.return_dtype(alloc, slice::from_ref(child.dtype())),
+        [left, right] => {
+            let types = [left.dtype().clone()?, right.dtype().clone()?];
+            scalar_fn.return_dtype(alloc, &types)
+        }
+        _ => {
+            let types = dtypes_of(alloc, children)?;
+            scalar_fn.return_dtype(alloc, types.as_slice())
         }
     }
 }

@@ -1,14 +1,14 @@
 use Rattle.std.proofs.Common.{arith}
 use Rattle.vx_types.specs.Views.{type_of}
-use Rattle.vx_tree.proofs.Bindings.{next, end, well_typed_push}
+use Rattle.vx_tree.proofs.Bindings.{next, end}
 use Rattle.vx_tree.proofs.bind.+bind.Goals as goal
 
 pub bind_all-loop-i-preserved : goal.bind_all-loop-i-preserved
 bind_all-loop-i-preserved t c =
-    let pushed = c.in_ok-push.ensures.items in (
-      next c.args.es.now (type_of c.args.scope.now) c.loop-i.nodes.items c.push.new.self.items c.loop-i.i c.index-es-i.result c.in_ok-bind_one.field-0 _
-          (omega arith) c.index-es-i.is pushed c.in_ok-bind_one.ensures.bound c.loop-i.invariant.0,
-      well_typed_push c.loop-i.nodes.items c.push.new.self.items c.in_ok-bind_one.field-0 pushed c.loop-i.invariant.1 c.in_ok-bind_one.ensures.typed,
+    let pushed = c.in_default.ensures.bound in (
+      next c.args.es.now (type_of c.args.scope.now) c.loop-i.nodes.items c.push_bound.new.nodes.items c.loop-i.i c.index-es-i.result pushed.0 _
+          (omega arith) c.index-es-i.is pushed.1 pushed.2 c.loop-i.invariant.0,
+      c.in_default.ensures.typed c.loop-i.invariant.1,
     )
 
 pub bind_all-returns-clause-bound : goal.bind_all-returns-clause-bound

@@ -5,8 +5,9 @@ use Rattle.vx_tree.proofs.typing.+typing.Goals as goal
 
 pub type_all-loop-i-preserved : goal.type_all-loop-i-preserved
 type_all-loop-i-preserved t c =
-    next c.args.es.now (type_of c.args.scope.now) c.loop-i.types.items c.push.new.self.items c.loop-i.i c.index-es-i.result c.in_ok-type_one.field-0 _
-    (omega arith) c.index-es-i.is c.in_ok-push.ensures.items c.in_ok-type_one.ensures c.loop-i.invariant
+    let pushed = c.in_ok-push_type.ensures in
+    next c.args.es.now (type_of c.args.scope.now) c.loop-i.types.items c.push_type.new.types.items c.loop-i.i c.index-es-i.result pushed.0 _
+    (omega arith) c.index-es-i.is pushed.1 pushed.2 c.loop-i.invariant
 
 pub type_all-returns : goal.type_all-returns
 type_all-returns t c = end c.args.es.now (type_of c.args.scope.now) c.loop-i.types.items c.loop-i.i _ (omega arith) c.loop-i.invariant
