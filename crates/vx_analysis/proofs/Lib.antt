@@ -1,5 +1,6 @@
 pub mod Subtrees
 pub mod Numbering
+pub mod OneNumber
 pub mod Labelling
 pub mod Annotating
 pub mod Covering

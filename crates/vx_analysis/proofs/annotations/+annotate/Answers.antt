@@ -1,12 +1,12 @@
-use Rattle.std.proofs.Common.{◌≡◌, ◌<◌, ◌≤◌, ◌+◌, ◌*◌, ◌||◌, true, false, length, get_or, drop, arith, rules, sym, ap, subst, inr, ◌∙◌}
-use Rattle.std.specs.Prelude.{◌==◌, All, not, None, Some, is_some, ◌&&◌, IsOkAnd}
+use Rattle.std.proofs.Common.{◌≡◌, ◌<◌, ◌+◌, ◌*◌, ◌||◌, true, false, length, get_or, drop, arith, rules, sym, ap, subst, inr, ◌∙◌}
+use Rattle.std.specs.Prelude.{◌==◌, All, not, None, is_some, ◌&&◌, IsOkAnd}
 use Rattle.std.specs.HashSet.{contains}
 use Rattle.std.proofs.lemmas.Result.{err_from_is_err_and, on_ok_weaker}
 use Rattle.vx_tree.specs.Nodes.{bound_children_of}
 use Rattle.vx_tree.specs.Views.{bound_of}
 use Rattle.vx_analysis.specs.Annotations.{answered, is_annotation, is_annotation_in, IsAnnotationsOf, SameAnnotations}
 use Rattle.vx_analysis.specs.Keys.{key_of, entry_at}
-use Rattle.vx_analysis.specs.Numbers.{node_tree, tree_at, trees_at}
+use Rattle.vx_analysis.specs.Numbers.{tree_at, trees_at}
 use Rattle.vx_analysis.specs.Reached.{is_reached, is_reached_in}
 use Rattle.vx_analysis.specs.Refusals.{first_refusal}
 use Rattle.vx_analysis.proofs.Annotating.{some_item, some-items, no_item, items-alike, answered-set, unanswered-set, union-next, union-end}
@@ -70,7 +70,7 @@ pub annotations_of-add_child-requires : goal.annotations_of-add_child-requires
 annotations_of-add_child-requires g t c κs within =
     let ks = c.as_slice-child-items.result.now in
     let own = (node-children c.args.nodes.now c.requires.numbered c.args.number c.index-nodes-number.result c.requires.within c.index-nodes-number.is).1 in
-    let all : All (λ k. k < c.args.number) ks = subst (All (λ k. k < c.args.number)) (sym c.as_slice-child-items.ensures.value) own in
+    let all : All (λ k. k < c.args.number) ks = subst (All (λ k. k < c.args.number)) (sym c.as_slice-child-items.ensures) own in
     let below : get_or ks c.loop-child.child-index 0 < c.args.number = all c.loop-child.child-index 0 (omega arith) in
     let falls : 2 * get_or ks c.loop-child.child-index 0 + 1 < 2 * c.args.number = omega (arith, below) in
     let has : get_or ks c.loop-child.child-index 0 < length c.args.nodes.now = omega (arith, below, c.requires.within) in
@@ -114,7 +114,7 @@ annotations_of-returns-clause-annotated g t c =
     let none : length own ≡ 0 = search rules in
     let here : answered answers b ≡ false = sym (items-alike eq g.met.A.Eq.laws own (answers b) same) ∙ no_item own none in
     let children : trees_at ns ks ≡ bound_children_of b =
-    ap (trees_at ns) c.as_slice-child-items.ensures.value ∙ (node-children ns c.requires.numbered c.args.number node c.requires.within c.index-nodes-number.is).0 in
+    ap (trees_at ns) c.as_slice-child-items.ensures ∙ (node-children ns c.requires.numbered c.args.number node c.requires.within c.index-nodes-number.is).0 in
     let left = trees_at ns (drop c.loop-child.child-index ks) in
     let end = trees-end ns ks c.loop-child.child-index (omega arith) in
     let all = c.loop-child.invariant.0 answers alike closed was in (
@@ -179,7 +179,7 @@ annotations_of-returns-in_err-add_child-clause-first g t c =
     let tree = lent ∙ sym (tree-read ns c.args.number node c.requires.within c.index-nodes-number.is) in
     let same = subst (λ x. IsOkAnd (said x) (SameAnnotations g.A.PartialEq.eq own)) tree (says c.expr.result _ c.in_ok-answers.ensures) in
     let children : trees_at ns ks ≡ bound_children_of b =
-    ap (trees_at ns) c.as_slice-child-items.ensures.value ∙ (node-children ns c.requires.numbered c.args.number node c.requires.within c.index-nodes-number.is).0 in
+    ap (trees_at ns) c.as_slice-child-items.ensures ∙ (node-children ns c.requires.numbered c.args.number node c.requires.within c.index-nodes-number.is).0 in
     let before = c.loop-child.invariant.1 said says was in
     refused-below said g.A.PartialEq.eq g.met.A.Eq.laws b own (trees_at ns ks) (trees_at ns (drop i ks)) (trees_at ns (drop (i + 1) ks)) (tree_at ns (get_or ks i 0)) _
     same none children (trees-next ns ks i (omega arith)) before.1 (c.in_err-add_child.ensures.first said says before.0))
@@ -198,6 +198,6 @@ annotations_of-returns-clause-unrefused g t c =
     let tree = lent ∙ sym (tree-read ns c.args.number node c.requires.within c.index-nodes-number.is) in
     let same = subst (λ x. IsOkAnd (said x) (SameAnnotations g.A.PartialEq.eq own)) tree (says c.expr.result _ c.in_ok-answers.ensures) in
     let children : trees_at ns ks ≡ bound_children_of b =
-    ap (trees_at ns) c.as_slice-child-items.ensures.value ∙ (node-children ns c.requires.numbered c.args.number node c.requires.within c.index-nodes-number.is).0 in
+    ap (trees_at ns) c.as_slice-child-items.ensures ∙ (node-children ns c.requires.numbered c.args.number node c.requires.within c.index-nodes-number.is).0 in
     let all = c.loop-child.invariant.1 said says was in
     (unrefused-below said g.A.PartialEq.eq g.met.A.Eq.laws b own (trees_at ns ks) (trees_at ns (drop i ks)) same none children (trees-end ns ks i (omega arith)) all.1, all.0)

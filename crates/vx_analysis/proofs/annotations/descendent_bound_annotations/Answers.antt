@@ -1,4 +1,4 @@
-use Rattle.std.proofs.Common.{◌≡◌, get_or, sym, ap, subst, ◌∙◌}
+use Rattle.std.proofs.Common.{get_or, sym, ap, subst, ◌∙◌}
 use Rattle.vx_tree.specs.Views.{bound_of}
 use Rattle.vx_analysis.specs.Annotations.{answered, IsAnnotationsOf}
 use Rattle.vx_analysis.specs.Keys.{key_of}

@@ -1,4 +1,4 @@
-use Rattle.std.proofs.Common.{◌≡◌, arith, rules, length, sym, ap, subst, ◌∙◌}
+use Rattle.std.proofs.Common.{rules, sym, ap, subst, ◌∙◌}
 use Rattle.vx_analysis.specs.Labels.{label}
 use Rattle.vx_analysis.specs.NumberedLabels.{HasLabels}
 use Rattle.vx_analysis.specs.Numbers.{tree_at}
