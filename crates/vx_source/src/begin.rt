@@ -60,7 +60,8 @@ fn begin_word(
         Some(Keyword::Case) => {
             let (open, bracket) = opened(open, found)?;
             let mut open = open;
-            open.frames.push(Frame::Case(CasePart::Condition, Vec::new(alloc), bracket))?;
+            open.frames
+                .push(Frame::Case(CasePart::Condition, Vec::new(alloc), bracket))?;
             Ok(state(open, Mode::Case))
         }
         Some(_) => Err(expected(found, Expected::Operand)),
@@ -98,7 +99,14 @@ pub(crate) fn literal_at(
     bytes: (usize, usize),
     found: &Found,
 ) -> Result<State, ParseError> {
-    let made = node(alloc, ScalarFnRef::Literal(scalar), Vec::new(alloc), bytes, open.room, found)?;
+    let made = node(
+        alloc,
+        ScalarFnRef::Literal(scalar),
+        Vec::new(alloc),
+        bytes,
+        open.room,
+        found,
+    )?;
     Ok(tight(open, made))
 }
 

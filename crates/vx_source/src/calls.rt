@@ -26,7 +26,8 @@ pub(crate) fn call(
     };
     let mut open = open;
     if is_word(&name, "pack") {
-        open.frames.push(Frame::Pack(Vec::new(alloc), Vec::new(alloc), bracket))?;
+        open.frames
+            .push(Frame::Pack(Vec::new(alloc), Vec::new(alloc), bracket))?;
         return Ok(state(open, Mode::FirstPacked(start)));
     }
     if is_word(&name, "cast") {
@@ -39,7 +40,8 @@ pub(crate) fn call(
             expected: Expected::Function,
         });
     };
-    open.frames.push(Frame::Call(callee, Vec::new(alloc), bracket))?;
+    open.frames
+        .push(Frame::Call(callee, Vec::new(alloc), bracket))?;
     Ok(state(open, Mode::FirstChild))
 }
 
@@ -108,7 +110,8 @@ pub(crate) fn children(
         room: bracket.room,
     };
     let mut open = open;
-    open.frames.push(Frame::Call(callee, Vec::new(alloc), bracket))?;
+    open.frames
+        .push(Frame::Call(callee, Vec::new(alloc), bracket))?;
     Ok(state(open, Mode::FirstChild))
 }
 
@@ -117,10 +120,20 @@ pub(crate) fn first_child(alloc: Global, open: Open, found: &Found) -> Result<St
     let Token::Sign(Sign::CloseParen) = found.token else {
         return begin(alloc, open, found);
     };
-    let Open { mut frames, room: _ } = open;
+    let Open {
+        mut frames,
+        room: _,
+    } = open;
     match frames.pop() {
         Some(Frame::Call(callee, children, bracket)) => {
-            called(alloc, outside(frames, bracket), callee, children, bracket.start, found)
+            called(
+                alloc,
+                outside(frames, bracket),
+                callee,
+                children,
+                bracket.start,
+                found,
+            )
         }
         _ => Err(refusal(found, Expected::Operand)),
     }
@@ -220,6 +233,13 @@ pub(crate) fn pack(
         return Err(ParseError::OutOfMemory);
     };
     let options = PackOptions { names, nullability };
-    let made = node(alloc, ScalarFnRef::Pack(options), children, bytes, open.room, found)?;
+    let made = node(
+        alloc,
+        ScalarFnRef::Pack(options),
+        children,
+        bytes,
+        open.room,
+        found,
+    )?;
     Ok(tight(open, made))
 }

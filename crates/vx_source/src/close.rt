@@ -32,7 +32,14 @@ pub(crate) fn close(
         Some(Frame::Call(callee, children, bracket)) => {
             let mut children = children;
             children.push(operand)?;
-            close_child(alloc, Open { frames, room }, callee, children, bracket, found)
+            close_child(
+                alloc,
+                Open { frames, room },
+                callee,
+                children,
+                bracket,
+                found,
+            )
         }
         Some(Frame::Pack(names, children, bracket)) => {
             let mut children = children;
@@ -49,7 +56,13 @@ pub(crate) fn close(
                 _ => Err(refusal(found, Expected::CommaOrCloseParen)),
             }
         }
-        Some(Frame::Cast(bracket)) => cast_type(alloc, Open { frames, room }, operand, bracket, found),
+        Some(Frame::Cast(bracket)) => cast_type(
+            alloc,
+            Open { frames, room },
+            operand,
+            bracket,
+            found,
+        ),
         Some(Frame::Case(part, children, bracket)) => {
             let mut children = children;
             children.push(operand)?;
@@ -84,7 +97,14 @@ fn close_child(
             Ok(state(Open { frames, room }, Mode::Operand))
         }
         Token::Sign(Sign::CloseParen) => {
-            called(alloc, outside(frames, bracket), callee, children, bracket.start, found)
+            called(
+                alloc,
+                outside(frames, bracket),
+                callee,
+                children,
+                bracket.start,
+                found,
+            )
         }
         _ => Err(refusal(found, Expected::CommaOrCloseParen)),
     }
@@ -155,6 +175,13 @@ fn end_case(
     let Open { frames, room: _ } = open;
     let open = outside(frames, bracket);
     let bytes = (bracket.start, found.end);
-    let made = node(alloc, ScalarFnRef::CaseWhen(options), children, bytes, open.room, found)?;
+    let made = node(
+        alloc,
+        ScalarFnRef::CaseWhen(options),
+        children,
+        bytes,
+        open.room,
+        found,
+    )?;
     Ok(tight(open, made))
 }

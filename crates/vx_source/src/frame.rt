@@ -96,7 +96,9 @@ impl Frame {
             Frame::Chain(_, _) => Some(Level::And),
             Frame::Not(_) => Some(Level::Not),
             Frame::Binary(Operator::Add, _) => Some(Level::Sum),
-            Frame::Binary(_, _) | Frame::Like(_, _) | Frame::Upper { .. } => Some(Level::Comparison),
+            Frame::Binary(_, _) | Frame::Like(_, _) | Frame::Upper { .. } => Some(
+                Level::Comparison,
+            ),
             _ => None,
         }
     }

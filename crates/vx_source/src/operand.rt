@@ -103,7 +103,14 @@ pub(crate) fn node_over(
     room: usize,
     found: &Found,
 ) -> Result<Operand, ParseError> {
-    node(alloc, scalar_fn, Vec::from_array(alloc, [operand])?, bytes, room, found)
+    node(
+        alloc,
+        scalar_fn,
+        Vec::from_array(alloc, [operand])?,
+        bytes,
+        room,
+        found,
+    )
 }
 
 // The node of the function over two operands, from the first to the second.
@@ -116,5 +123,12 @@ pub(crate) fn node_between(
     found: &Found,
 ) -> Result<Operand, ParseError> {
     let bytes = (lhs.places.start, rhs.places.end);
-    node(alloc, scalar_fn, Vec::from_array(alloc, [lhs, rhs])?, bytes, room, found)
+    node(
+        alloc,
+        scalar_fn,
+        Vec::from_array(alloc, [lhs, rhs])?,
+        bytes,
+        room,
+        found,
+    )
 }

@@ -138,7 +138,16 @@ fn strict(found: &Found) -> Option<StrictComparison> {
 }
 
 fn between(options: &[Found]) -> Option<BetweenOptions> {
-    let [lower_word, colon, lower, comma, upper_word, other_colon, upper] = options else {
+    let [
+        lower_word,
+        colon,
+        lower,
+        comma,
+        upper_word,
+        other_colon,
+        upper,
+    ] = options
+    else {
         return None;
     };
     let is_spelled = is_keyword(lower_word, "lower_strict")
@@ -156,8 +165,18 @@ fn between(options: &[Found]) -> Option<BetweenOptions> {
 }
 
 fn case_when(options: &[Found]) -> Option<CaseWhenOptions> {
-    let [word, open, pairs_word, equal, pairs, comma, else_word, other_equal, has_else, close] =
-        options
+    let [
+        word,
+        open,
+        pairs_word,
+        equal,
+        pairs,
+        comma,
+        else_word,
+        other_equal,
+        has_else,
+        close,
+    ] = options
     else {
         return None;
     };
@@ -213,7 +232,17 @@ fn names(alloc: Global, list: &[Found]) -> Result<Option<FieldNames>, ParseError
 }
 
 fn pack(alloc: Global, options: &[Found]) -> Result<Option<ScalarFnRef>, ParseError> {
-    let [names_word, colon, open, list @ .., close, comma, word, other_colon, nullability] = options
+    let [
+        names_word,
+        colon,
+        open,
+        list @ ..,
+        close,
+        comma,
+        word,
+        other_colon,
+        nullability,
+    ] = options
     else {
         return Ok(None);
     };
@@ -245,13 +274,9 @@ fn select(alloc: Global, options: &[Found]) -> Result<Option<ScalarFnRef>, Parse
         [tilde, open, list @ .., close]
             if is_token(tilde, Sign::Tilde)
                 && is_token(open, Sign::OpenBrace)
-                && is_token(close, Sign::CloseBrace) =>
-        {
-            (true, list)
-        }
+                && is_token(close, Sign::CloseBrace) => { (true, list) }
         [open, list @ .., close]
-            if is_token(open, Sign::OpenBrace) && is_token(close, Sign::CloseBrace) =>
-        {
+            if is_token(open, Sign::OpenBrace) && is_token(close, Sign::CloseBrace) => {
             (false, list)
         }
         _ => return Ok(None),
@@ -267,12 +292,7 @@ fn select(alloc: Global, options: &[Found]) -> Result<Option<ScalarFnRef>, Parse
 }
 
 // The type that the tokens say.
-fn dtype(
-    alloc: Global,
-    tokens: &[Found],
-    room: usize,
-    end: &Found,
-) -> Result<DType, ParseError> {
+fn dtype(alloc: Global, tokens: &[Found], room: usize, end: &Found) -> Result<DType, ParseError> {
     let mut reader = TypeReader::new(alloc, room);
     for found in tokens {
         match reader.step(alloc, found)? {
@@ -287,12 +307,7 @@ fn dtype(
 }
 
 // The scalar that the tokens say.
-fn scalar(
-    alloc: Global,
-    tokens: &[Found],
-    room: usize,
-    end: &Found,
-) -> Result<Scalar, ParseError> {
+fn scalar(alloc: Global, tokens: &[Found], room: usize, end: &Found) -> Result<Scalar, ParseError> {
     if let [only] = tokens {
         if let Some(literal) = suffixed(only) {
             return literal;

@@ -109,7 +109,15 @@ fn settle(alloc: Global, now: State, found: &Found) -> Result<(State, bool), Par
                 Token::Sign(Sign::Question) => (Nullability::Nullable, found.end, true),
                 _ => (Nullability::NonNullable, end, false),
             };
-            let made = pack(alloc, open, names, operands, nullability, (start, end), found)?;
+            let made = pack(
+                alloc,
+                open,
+                names,
+                operands,
+                nullability,
+                (start, end),
+                found,
+            )?;
             Ok((made, is_read))
         }
         mode => Ok((state(open, mode), false)),

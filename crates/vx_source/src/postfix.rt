@@ -25,7 +25,14 @@ pub(crate) fn field(
     found: &Found,
 ) -> Result<Operand, ParseError> {
     let bytes = (operand.places.start, end);
-    node_over(alloc, ScalarFnRef::GetItem(name), operand, bytes, room, found)
+    node_over(
+        alloc,
+        ScalarFnRef::GetItem(name),
+        operand,
+        bytes,
+        room,
+        found,
+    )
 }
 
 // The field of the scope root that a word is.
@@ -63,7 +70,14 @@ pub(crate) fn selection(
 ) -> Result<State, ParseError> {
     match &found.token {
         Token::Sign(Sign::Tilde) => Ok(state(open, Mode::Exclusion(operand))),
-        Token::Sign(Sign::CloseBrace) => select(alloc, open, operand, false, Vec::new(alloc), found),
+        Token::Sign(Sign::CloseBrace) => select(
+            alloc,
+            open,
+            operand,
+            false,
+            Vec::new(alloc),
+            found,
+        ),
         _ => selection_name(open, operand, false, Vec::new(alloc), found),
     }
 }
@@ -129,7 +143,14 @@ fn select(
         FieldSelection::Include(names)
     };
     let bytes = (operand.places.start, found.end);
-    let made = node_over(alloc, ScalarFnRef::Select(selection), operand, bytes, open.room, found)?;
+    let made = node_over(
+        alloc,
+        ScalarFnRef::Select(selection),
+        operand,
+        bytes,
+        open.room,
+        found,
+    )?;
     Ok(tight(open, made))
 }
 
@@ -175,12 +196,21 @@ pub(crate) fn read_type(
         TypeStep::More(next) => Ok((state(open, Mode::Type(wanted, next, found.end)), true)),
         TypeStep::Done(dtype) => match wanted {
             TypeFor::Literal(draft, start) => {
-                Ok((typed(alloc, open, draft, dtype, (start, end), found)?, false))
+                Ok((
+                    typed(alloc, open, draft, dtype, (start, end), found)?,
+                    false,
+                ))
             }
             TypeFor::Cast(operand) => {
                 let bytes = (operand.places.start, end);
-                let made =
-                    node_over(alloc, ScalarFnRef::Cast(dtype), operand, bytes, open.room, found)?;
+                let made = node_over(
+                    alloc,
+                    ScalarFnRef::Cast(dtype),
+                    operand,
+                    bytes,
+                    open.room,
+                    found,
+                )?;
                 Ok((tight(open, made), false))
             }
             TypeFor::CastCall(operand, start, room) => {
@@ -190,8 +220,14 @@ pub(crate) fn read_type(
                 let Open { frames, room: _ } = open;
                 let open = Open { frames, room };
                 let bytes = (start, found.end);
-                let made =
-                    node_over(alloc, ScalarFnRef::Cast(dtype), operand, bytes, open.room, found)?;
+                let made = node_over(
+                    alloc,
+                    ScalarFnRef::Cast(dtype),
+                    operand,
+                    bytes,
+                    open.room,
+                    found,
+                )?;
                 Ok((tight(open, made), true))
             }
         },

@@ -46,10 +46,24 @@ fn joined(
         }
         Frame::Not(start) => {
             let bytes = (start, operand.places.end);
-            node_over(alloc, ScalarFnRef::Not(EmptyOptions), operand, bytes, room, found)
+            node_over(
+                alloc,
+                ScalarFnRef::Not(EmptyOptions),
+                operand,
+                bytes,
+                room,
+                found,
+            )
         }
         Frame::Binary(operator, lhs) => {
-            node_between(alloc, ScalarFnRef::Binary(operator), lhs, operand, room, found)
+            node_between(
+                alloc,
+                ScalarFnRef::Binary(operator),
+                lhs,
+                operand,
+                room,
+                found,
+            )
         }
         Frame::Like(options, lhs) => {
             node_between(alloc, ScalarFnRef::Like(options), lhs, operand, room, found)
@@ -67,7 +81,14 @@ fn joined(
             };
             let bytes = (start, operand.places.end);
             let operands = Vec::from_array(alloc, [array, lower, operand])?;
-            node(alloc, ScalarFnRef::Between(options), operands, bytes, room, found)
+            node(
+                alloc,
+                ScalarFnRef::Between(options),
+                operands,
+                bytes,
+                room,
+                found,
+            )
         }
         // Nothing else waits for an operand alone.
         _ => Ok(operand),

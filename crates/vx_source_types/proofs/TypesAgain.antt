@@ -16,7 +16,7 @@ use Rattle.vx_source_types.specs.TypeLeads.{TypeLeads, stays, leads, type_nestin
 
 -- a state
 abbrev at : List TypeFrame → TypeMode → ℕ → TypeState
-at fs m r = record { open = fs; mode = m; room = r }
+at fs m r = record { frames = fs; mode = m; room = r }
 
 then : {s t u : TypeState} {bs cs ds : List ℕ} → TypeLeads s bs t cs → TypeLeads t cs u ds → TypeLeads s bs u ds
 then stays k = k

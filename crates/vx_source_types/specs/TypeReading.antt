@@ -40,7 +40,7 @@ pub data TypeMode : Type 0 where
 
 -- a type that is being read, and the nesting that is still allowed
 pub record TypeState : Type 0 where
-  pub open : List TypeFrame
+  pub frames : List TypeFrame
   pub mode : TypeMode
   pub room : ℕ
 
@@ -59,7 +59,7 @@ refused _ wanted = Err wanted
 
 -- the state goes on
 abbrev pub goes : List TypeFrame → TypeMode → ℕ → TypeAnswer
-goes fs m r = Ok (more (record { open = fs; mode = m; room = r }))
+goes fs m r = Ok (more (record { frames = fs; mode = m; room = r }))
 
 -- what is done inside one more bracket, where more nesting is allowed
 abbrev pub within : {A : Type 0} → ℕ → (ℕ → Result A Expected) → Result A Expected
@@ -69,14 +69,35 @@ within (suc r) f = f r
 -- the number type of that name
 abbrev pub ptype_word : List ℕ → Option PType
 ptype_word w =
-    elim (same_word w (codes "u8")) [ true ↦ Some U8 | false ↦
-    elim (same_word w (codes "u16")) [ true ↦ Some U16 | false ↦
-    elim (same_word w (codes "u32")) [ true ↦ Some U32 | false ↦
-    elim (same_word w (codes "u64")) [ true ↦ Some U64 | false ↦
-    elim (same_word w (codes "i8")) [ true ↦ Some I8 | false ↦
-    elim (same_word w (codes "i16")) [ true ↦ Some I16 | false ↦
-    elim (same_word w (codes "i32")) [ true ↦ Some I32 | false ↦
-    elim (same_word w (codes "i64")) [ true ↦ Some I64 | false ↦ None ] ] ] ] ] ] ] ]
+    elim (same_word w (codes "u8")) [
+      | true ↦ Some U8
+      | false ↦
+          elim (same_word w (codes "u16")) [
+            | true ↦ Some U16
+            | false ↦
+                elim (same_word w (codes "u32")) [
+                  | true ↦ Some U32
+                  | false ↦
+                      elim (same_word w (codes "u64")) [
+                        | true ↦ Some U64
+                        | false ↦
+                            elim (same_word w (codes "i8")) [
+                              | true ↦ Some I8
+                              | false ↦
+                                  elim (same_word w (codes "i16")) [
+                                    | true ↦ Some I16
+                                    | false ↦
+                                        elim (same_word w (codes "i32")) [
+                                          | true ↦ Some I32
+                                          | false ↦
+                                              elim (same_word w (codes "i64")) [ true ↦ Some I64 | false ↦ None ]
+                                        ]
+                                  ]
+                            ]
+                      ]
+                ]
+          ]
+    ]
 
 -- a number type that was found, as a kind of type
 abbrev pub of_number : Option PType → Option Atomic
@@ -86,9 +107,15 @@ of_number (Some p) = Some (number p)
 -- the type without parts of that name
 abbrev pub atomic_word : List ℕ → Option Atomic
 atomic_word w =
-    elim (same_word w (codes "bool")) [ true ↦ Some truth | false ↦
-    elim (same_word w (codes "utf8")) [ true ↦ Some text | false ↦
-    elim (same_word w (codes "binary")) [ true ↦ Some octets | false ↦ of_number (ptype_word w) ] ] ]
+    elim (same_word w (codes "bool")) [
+      | true ↦ Some truth
+      | false ↦
+          elim (same_word w (codes "utf8")) [
+            | true ↦ Some text
+            | false ↦
+                elim (same_word w (codes "binary")) [ true ↦ Some octets | false ↦ of_number (ptype_word w) ]
+          ]
+    ]
 
 -- what a word begins: a type without parts, a list, a fixed list, or no type
 pub data TypeWord : Type 0 where
@@ -103,8 +130,11 @@ plain_or_none (Some p) = plain_word (ty (atomic p) false)
 
 abbrev pub type_word_of : List ℕ → TypeWord
 type_word_of w =
-    elim (same_word w (codes "list")) [ true ↦ list_word | false ↦
-    elim (same_word w (codes "fixed_size_list")) [ true ↦ fixed_word | false ↦ plain_or_none (atomic_word w) ] ]
+    elim (same_word w (codes "list")) [
+      | true ↦ list_word
+      | false ↦
+          elim (same_word w (codes "fixed_size_list")) [ true ↦ fixed_word | false ↦ plain_or_none (atomic_word w) ]
+    ]
 
 -- what the word begins
 abbrev pub word_begins : List TypeFrame → ℕ → TypeWord → TypeAnswer
@@ -208,4 +238,4 @@ type_next fs (unmarked t) r x = marked fs r t x
 type_next fs (whole t) r x = type_ends fs r t x
 
 abbrev pub type_step : TypeState → Lexeme → TypeAnswer
-type_step s x = type_next s.open s.mode s.room x
+type_step s x = type_next s.frames s.mode s.room x

@@ -49,7 +49,7 @@ mode_of (Unmarked t) = reading.unmarked (type_of t)
 mode_of (Whole t) = reading.whole (type_of t)
 
 abbrev pub reader_of : TypeReader → reading.TypeState
-reader_of r = record { open = frames_of r.open.items; mode = mode_of r.mode; room = r.room }
+reader_of r = record { frames = frames_of r.frames.items; mode = mode_of r.mode; room = r.room }
 
 abbrev pub step_of : TypeStep → reading.TypeGoes
 step_of (More r) = reading.more (reader_of r)

@@ -14,7 +14,9 @@ mod value_reader;
 
 pub use literal::{number_literal, plain_literal, typed_literal};
 pub use names::{NameText, field_name, is_word, write_name, write_names};
-pub use parse::{DEFAULT_NESTING, parse_scalar, parse_scalar_with, parse_type, parse_type_with, suffixed};
+pub use parse::{
+    DEFAULT_NESTING, parse_scalar, parse_scalar_with, parse_type, parse_type_with, suffixed,
+};
 pub use scalar_text::{ScalarText, write_scalar};
 pub use state::{expected, inside};
 pub use type_reader::{length_of, refusal};

@@ -6,7 +6,11 @@ use vx_source_tokens::Expected;
 use vx_types::{DType, FieldName, Nullability, PType, Scalar, StructFields, Value};
 
 /// The number with a type's name behind it, if it is in the type's range.
-pub fn number_literal(negative: bool, magnitude: Option<u64>, suffix: &FieldName) -> Option<Scalar> {
+pub fn number_literal(
+    negative: bool,
+    magnitude: Option<u64>,
+    suffix: &FieldName,
+) -> Option<Scalar> {
     let p = ptype_word(suffix)?;
     let dtype = DType::Primitive(p, Nullability::NonNullable);
     Scalar::try_new(dtype, Value::Int(signed(negative, magnitude?))).ok()
@@ -42,11 +46,7 @@ pub fn typed_literal(draft: Draft, dtype: DType) -> Option<Scalar> {
 
 // What is left of the names behind those of the value's structs, if these are the type's.
 #[cycle(names)]
-fn names_left<'a>(
-    value: &Value,
-    dtype: &DType,
-    names: &'a [FieldName],
-) -> Option<&'a [FieldName]> {
+fn names_left<'a>(value: &Value, dtype: &DType, names: &'a [FieldName]) -> Option<&'a [FieldName]> {
     match value {
         Value::List(items) => match dtype {
             DType::List(element, _) | DType::FixedSizeList(element, _, _) => {

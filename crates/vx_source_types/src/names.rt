@@ -92,5 +92,7 @@ pub fn field_name(token: &Token) -> Option<&FieldName>
 pub fn is_word(name: &FieldName, word: &str) -> bool
     ensures { result ≡ same_word name.now word.now }
 {
-    name.as_str().as_bytes().eq_ignore_ascii_case(word.as_bytes())
+    name.as_str()
+        .as_bytes()
+        .eq_ignore_ascii_case(word.as_bytes())
 }

@@ -83,7 +83,11 @@ fn write_items<W: Write>(values: &[Value], t: &DType, f: &mut Formatter<W>) -> f
 
 // Writes the values of a struct, each after its field's name.
 #[cycle(write)]
-fn write_row<W: Write>(values: &[Value], fields: &StructFields, f: &mut Formatter<W>) -> fmt::Result {
+fn write_row<W: Write>(
+    values: &[Value],
+    fields: &StructFields,
+    f: &mut Formatter<W>,
+) -> fmt::Result {
     let names = fields.names().as_slice();
     let types = fields.types();
     for i in 0..values.len().min(fields.nfields()) {

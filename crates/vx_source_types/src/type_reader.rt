@@ -19,10 +19,10 @@ use vx_source_tokens::{Expected, Found, ParseError, Sign, Token};
 impl TypeReader {
     /// A type of which nothing is read yet, with that many brackets allowed inside one another.
     pub fn new(alloc: Global, room: usize) -> TypeReader
-        ensures { reader_of result ≡ record { open = []; mode = reading.type_due; room = room } }
+        ensures { reader_of result ≡ record { frames = []; mode = reading.type_due; room = room } }
     {
         TypeReader {
-            open: Vec::new(alloc),
+            frames: Vec::new(alloc),
             mode: TypeMode::Begin,
             room,
         }
@@ -32,53 +32,53 @@ impl TypeReader {
     pub fn step(self, alloc: Global, found: &Found) -> Result<TypeStep, ParseError>
         ensures { Reads step_of result (reading.type_step (reader_of self) (lexeme_of found.now.token)) }
     {
-        let TypeReader { open, mode, room } = self;
+        let TypeReader { frames, mode, room } = self;
         match mode {
             TypeMode::Unmarked(dtype) => match &found.token {
                 Token::Sign(Sign::Question) => {
                     let dtype = dtype.with_nullability(Nullability::Nullable);
-                    Ok(more(open, TypeMode::Whole(dtype), room))
+                    Ok(more(frames, TypeMode::Whole(dtype), room))
                 }
-                _ => close(alloc, open, dtype, room, found),
+                _ => close(alloc, frames, dtype, room, found),
             },
-            TypeMode::Whole(dtype) => close(alloc, open, dtype, room, found),
-            TypeMode::Begin => begin(alloc, open, room, found),
-            TypeMode::ListOpens => opens(open, TypeFrame::List { room }, room, found),
+            TypeMode::Whole(dtype) => close(alloc, frames, dtype, room, found),
+            TypeMode::Begin => begin(alloc, frames, room, found),
+            TypeMode::ListOpens => opens(frames, TypeFrame::List { room }, room, found),
             TypeMode::FixedSizeListOpens => {
-                opens(open, TypeFrame::FixedSizeList { room }, room, found)
+                opens(frames, TypeFrame::FixedSizeList { room }, room, found)
             }
-            TypeMode::FirstField(fields) => first_field(alloc, open, fields, room, found),
-            TypeMode::NextField(fields) => next_field(open, fields, room, found),
-            TypeMode::FieldType(fields, name) => field_type(open, fields, name, room, found),
-            TypeMode::LengthOpens(element) => length_opens(open, element, room, found),
-            TypeMode::Length(element) => length_at(open, element, room, found),
+            TypeMode::FirstField(fields) => first_field(alloc, frames, fields, room, found),
+            TypeMode::NextField(fields) => next_field(frames, fields, room, found),
+            TypeMode::FieldType(fields, name) => field_type(frames, fields, name, room, found),
+            TypeMode::LengthOpens(element) => length_opens(frames, element, room, found),
+            TypeMode::Length(element) => length_at(frames, element, room, found),
             TypeMode::LengthCloses(element, size) => {
-                length_closes(alloc, open, element, size, room, found)
+                length_closes(alloc, frames, element, size, room, found)
             }
         }
     }
 }
 
-fn more(open: Vec<TypeFrame>, mode: TypeMode, room: usize) -> TypeStep
-    ensures { step_of result ≡ reading.more (record { open = frames_of open.items; mode = mode_of mode; room = room }) }
+fn more(frames: Vec<TypeFrame>, mode: TypeMode, room: usize) -> TypeStep
+    ensures { step_of result ≡ reading.more (record { frames = frames_of frames.items; mode = mode_of mode; room = room }) }
 {
-    TypeStep::More(TypeReader { open, mode, room })
+    TypeStep::More(TypeReader { frames, mode, room })
 }
 
 // The beginning of a type.
 fn begin(
     alloc: Global,
-    open: Vec<TypeFrame>,
+    frames: Vec<TypeFrame>,
     room: usize,
     found: &Found,
 ) -> Result<TypeStep, ParseError>
-    ensures { Reads step_of result (reading.type_begins (frames_of open.items) room (lexeme_of found.now.token)) }
+    ensures { Reads step_of result (reading.type_begins (frames_of frames.items) room (lexeme_of found.now.token)) }
 {
     match &found.token {
         Token::Word(name) => match type_word(name) {
-            TypeWord::Plain(dtype) => Ok(more(open, TypeMode::Unmarked(dtype), room)),
-            TypeWord::List => Ok(more(open, TypeMode::ListOpens, room)),
-            TypeWord::FixedSizeList => Ok(more(open, TypeMode::FixedSizeListOpens, room)),
+            TypeWord::Plain(dtype) => Ok(more(frames, TypeMode::Unmarked(dtype), room)),
+            TypeWord::List => Ok(more(frames, TypeMode::ListOpens, room)),
+            TypeWord::FixedSizeList => Ok(more(frames, TypeMode::FixedSizeListOpens, room)),
             TypeWord::None => Err(expected(found, Expected::TypeName)),
         },
         Token::Sign(Sign::OpenBrace) => {
@@ -88,7 +88,7 @@ fn begin(
                 types: Vec::new(alloc),
                 room,
             };
-            Ok(more(open, TypeMode::FirstField(fields), less))
+            Ok(more(frames, TypeMode::FirstField(fields), less))
         }
         _ => Err(refusal(found, Expected::TypeName)),
     }
@@ -106,18 +106,18 @@ pub fn refusal(found: &Found, wanted: Expected) -> ParseError
 
 // The bracket before an element type.
 fn opens(
-    mut open: Vec<TypeFrame>,
+    mut frames: Vec<TypeFrame>,
     frame: TypeFrame,
     room: usize,
     found: &Found,
 ) -> Result<TypeStep, ParseError>
-    ensures { Reads step_of result (reading.element_opens (frames_of open.items) room (frame_of frame) (lexeme_of found.now.token)) }
+    ensures { Reads step_of result (reading.element_opens (frames_of frames.items) room (frame_of frame) (lexeme_of found.now.token)) }
 {
     match &found.token {
         Token::Sign(Sign::OpenParen) => {
             let less = inside(room, found)?;
-            open.push(frame)?;
-            Ok(more(open, TypeMode::Begin, less))
+            frames.push(frame)?;
+            Ok(more(frames, TypeMode::Begin, less))
         }
         _ => Err(refusal(found, Expected::OpenParen)),
     }
@@ -126,39 +126,39 @@ fn opens(
 // What follows a whole type.
 fn close(
     alloc: Global,
-    mut open: Vec<TypeFrame>,
+    mut frames: Vec<TypeFrame>,
     dtype: DType,
     room: usize,
     found: &Found,
 ) -> Result<TypeStep, ParseError>
-    ensures { Reads step_of result (reading.type_ends (frames_of open.items) room (type_of dtype) (lexeme_of found.now.token)) }
+    ensures { Reads step_of result (reading.type_ends (frames_of frames.items) room (type_of dtype) (lexeme_of found.now.token)) }
 {
-    match open.pop() {
+    match frames.pop() {
         None => Ok(TypeStep::Done(dtype)),
         Some(TypeFrame::List { room: outside }) => match &found.token {
             Token::Sign(Sign::CloseParen) => {
                 let list = DType::List(Rc::new(alloc, dtype)?, Nullability::NonNullable);
-                Ok(more(open, TypeMode::Unmarked(list), outside))
+                Ok(more(frames, TypeMode::Unmarked(list), outside))
             }
             _ => Err(refusal(found, Expected::CloseParen)),
         },
         Some(TypeFrame::FixedSizeList { room: outside }) => match &found.token {
-            Token::Sign(Sign::CloseParen) => Ok(more(open, TypeMode::LengthOpens(dtype), outside)),
+            Token::Sign(Sign::CloseParen) => Ok(more(
+                frames,
+                TypeMode::LengthOpens(dtype),
+                outside,
+            )),
             _ => Err(refusal(found, Expected::CloseParen)),
         },
         Some(TypeFrame::Struct(fields, name)) => {
             let fields = with_field(fields, name, dtype)?;
-            close_field(alloc, open, fields, room, found)
+            close_field(alloc, frames, fields, room, found)
         }
     }
 }
 
 // The fields with another.
-fn with_field(
-    fields: FieldsSoFar,
-    name: FieldName,
-    dtype: DType,
-) -> Result<FieldsSoFar, AllocError>
+fn with_field(fields: FieldsSoFar, name: FieldName, dtype: DType) -> Result<FieldsSoFar, AllocError>
     ensures { IfOk result (λ d. fields_read d ≡ reading.with_field (fields_read fields) name (type_of dtype)) }
 {
     let FieldsSoFar {
@@ -174,16 +174,16 @@ fn with_field(
 // What follows the type of a field.
 fn close_field(
     alloc: Global,
-    open: Vec<TypeFrame>,
+    frames: Vec<TypeFrame>,
     fields: FieldsSoFar,
     room: usize,
     found: &Found,
 ) -> Result<TypeStep, ParseError>
-    ensures { Reads step_of result (reading.field_ends (frames_of open.items) room (fields_read fields) (lexeme_of found.now.token)) }
+    ensures { Reads step_of result (reading.field_ends (frames_of frames.items) room (fields_read fields) (lexeme_of found.now.token)) }
 {
     match &found.token {
-        Token::Sign(Sign::Comma) => Ok(more(open, TypeMode::NextField(fields), room)),
-        Token::Sign(Sign::CloseBrace) => end_fields(alloc, open, fields),
+        Token::Sign(Sign::Comma) => Ok(more(frames, TypeMode::NextField(fields), room)),
+        Token::Sign(Sign::CloseBrace) => end_fields(alloc, frames, fields),
         _ => Err(refusal(found, Expected::CommaOrCloseBrace)),
     }
 }
@@ -191,10 +191,10 @@ fn close_field(
 // The struct of the fields.
 fn end_fields(
     alloc: Global,
-    open: Vec<TypeFrame>,
+    frames: Vec<TypeFrame>,
     fields: FieldsSoFar,
 ) -> Result<TypeStep, ParseError>
-    ensures { Reads step_of result (reading.struct_ends (frames_of open.items) (fields_read fields)) }
+    ensures { Reads step_of result (reading.struct_ends (frames_of frames.items) (fields_read fields)) }
 {
     let FieldsSoFar { names, types, room } = fields;
     let Ok(names) = FieldNames::new(alloc, names) else {
@@ -204,82 +204,82 @@ fn end_fields(
         return Err(ParseError::OutOfMemory);
     };
     let dtype = DType::Struct(fields, Nullability::NonNullable);
-    Ok(more(open, TypeMode::Unmarked(dtype), room))
+    Ok(more(frames, TypeMode::Unmarked(dtype), room))
 }
 
 fn first_field(
     alloc: Global,
-    open: Vec<TypeFrame>,
+    frames: Vec<TypeFrame>,
     fields: FieldsSoFar,
     room: usize,
     found: &Found,
 ) -> Result<TypeStep, ParseError>
-    ensures { Reads step_of result (reading.first_field_at (frames_of open.items) room (fields_read fields) (lexeme_of found.now.token)) }
+    ensures { Reads step_of result (reading.first_field_at (frames_of frames.items) room (fields_read fields) (lexeme_of found.now.token)) }
 {
     match &found.token {
-        Token::Sign(Sign::CloseBrace) => end_fields(alloc, open, fields),
-        _ => next_field(open, fields, room, found),
+        Token::Sign(Sign::CloseBrace) => end_fields(alloc, frames, fields),
+        _ => next_field(frames, fields, room, found),
     }
 }
 
 // The name of a field.
 fn next_field(
-    open: Vec<TypeFrame>,
+    frames: Vec<TypeFrame>,
     fields: FieldsSoFar,
     room: usize,
     found: &Found,
 ) -> Result<TypeStep, ParseError>
-    ensures { Reads step_of result (reading.field_named (frames_of open.items) room (fields_read fields) (lexeme_of found.now.token) (name_at (lexeme_of found.now.token))) }
+    ensures { Reads step_of result (reading.field_named (frames_of frames.items) room (fields_read fields) (lexeme_of found.now.token) (name_at (lexeme_of found.now.token))) }
 {
     match field_name(&found.token) {
-        Some(name) => Ok(more(open, TypeMode::FieldType(fields, name.clone()?), room)),
+        Some(name) => Ok(more(frames, TypeMode::FieldType(fields, name.clone()?), room)),
         None => Err(refusal(found, Expected::Name)),
     }
 }
 
 // The sign before the type of a field.
 fn field_type(
-    mut open: Vec<TypeFrame>,
+    mut frames: Vec<TypeFrame>,
     fields: FieldsSoFar,
     name: FieldName,
     room: usize,
     found: &Found,
 ) -> Result<TypeStep, ParseError>
-    ensures { Reads step_of result (reading.field_type_at (frames_of open.items) room (fields_read fields) name (lexeme_of found.now.token)) }
+    ensures { Reads step_of result (reading.field_type_at (frames_of frames.items) room (fields_read fields) name (lexeme_of found.now.token)) }
 {
     match &found.token {
         Token::Sign(Sign::Equal) => {
-            open.push(TypeFrame::Struct(fields, name))?;
-            Ok(more(open, TypeMode::Begin, room))
+            frames.push(TypeFrame::Struct(fields, name))?;
+            Ok(more(frames, TypeMode::Begin, room))
         }
         _ => Err(refusal(found, Expected::FieldType)),
     }
 }
 
 fn length_opens(
-    open: Vec<TypeFrame>,
+    frames: Vec<TypeFrame>,
     element: DType,
     room: usize,
     found: &Found,
 ) -> Result<TypeStep, ParseError>
-    ensures { Reads step_of result (reading.length_opens_at (frames_of open.items) room (type_of element) (lexeme_of found.now.token)) }
+    ensures { Reads step_of result (reading.length_opens_at (frames_of frames.items) room (type_of element) (lexeme_of found.now.token)) }
 {
     match &found.token {
-        Token::Sign(Sign::OpenBracket) => Ok(more(open, TypeMode::Length(element), room)),
+        Token::Sign(Sign::OpenBracket) => Ok(more(frames, TypeMode::Length(element), room)),
         _ => Err(refusal(found, Expected::OpenBracket)),
     }
 }
 
 fn length_at(
-    open: Vec<TypeFrame>,
+    frames: Vec<TypeFrame>,
     element: DType,
     room: usize,
     found: &Found,
 ) -> Result<TypeStep, ParseError>
-    ensures { Reads step_of result (reading.length_read (frames_of open.items) room (type_of element) (lexeme_of found.now.token) (reading.length_at (lexeme_of found.now.token))) }
+    ensures { Reads step_of result (reading.length_read (frames_of frames.items) room (type_of element) (lexeme_of found.now.token) (reading.length_at (lexeme_of found.now.token))) }
 {
     match length_of(&found.token) {
-        Some(size) => Ok(more(open, TypeMode::LengthCloses(element, size), room)),
+        Some(size) => Ok(more(frames, TypeMode::LengthCloses(element, size), room)),
         None => Err(refusal(found, Expected::Length)),
     }
 }
@@ -304,19 +304,22 @@ pub fn length_of(token: &Token) -> Option<u32>
 
 fn length_closes(
     alloc: Global,
-    open: Vec<TypeFrame>,
+    frames: Vec<TypeFrame>,
     element: DType,
     size: u32,
     room: usize,
     found: &Found,
 ) -> Result<TypeStep, ParseError>
-    ensures { Reads step_of result (reading.length_closes_at (frames_of open.items) room (type_of element) size (lexeme_of found.now.token)) }
+    ensures { Reads step_of result (reading.length_closes_at (frames_of frames.items) room (type_of element) size (lexeme_of found.now.token)) }
 {
     match &found.token {
         Token::Sign(Sign::CloseBracket) => {
-            let list =
-                DType::FixedSizeList(Rc::new(alloc, element)?, size, Nullability::NonNullable);
-            Ok(more(open, TypeMode::Unmarked(list), room))
+            let list = DType::FixedSizeList(
+                Rc::new(alloc, element)?,
+                size,
+                Nullability::NonNullable,
+            );
+            Ok(more(frames, TypeMode::Unmarked(list), room))
         }
         _ => Err(refusal(found, Expected::CloseBracket)),
     }

@@ -63,7 +63,7 @@ pub enum TypeMode {
 #[derive(Drop)]
 pub struct TypeReader {
     /// What is open, the innermost last.
-    pub open: Vec<TypeFrame>,
+    pub frames: Vec<TypeFrame>,
     /// What is due.
     pub mode: TypeMode,
     /// How many more brackets are allowed inside.

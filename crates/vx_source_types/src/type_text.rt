@@ -67,7 +67,12 @@ fn write_fields<W: Write>(
 
 // Writes the field of that index, its name and its type.
 #[cycle(write)]
-fn write_field<W: Write>(i: usize, name: &FieldName, t: &DType, f: &mut Formatter<W>) -> fmt::Result {
+fn write_field<W: Write>(
+    i: usize,
+    name: &FieldName,
+    t: &DType,
+    f: &mut Formatter<W>,
+) -> fmt::Result {
     f.write_str(separator(i))?;
     write_name(name, f)?;
     f.write_str("=")?;

@@ -87,7 +87,12 @@ impl ValueReader {
             ValueMode::Value => begin(alloc, open, names, room, found),
             ValueMode::FirstItem(items) => match &found.token {
                 Token::Sign(Sign::CloseBracket) => {
-                    Ok(more(open, ValueMode::Whole(Value::List(items.items)), names, items.room))
+                    Ok(more(
+                        open,
+                        ValueMode::Whole(Value::List(items.items)),
+                        names,
+                        items.room,
+                    ))
                 }
                 _ => {
                     let mut open = open;
@@ -97,7 +102,12 @@ impl ValueReader {
             },
             ValueMode::FirstField(items) => match &found.token {
                 Token::Sign(Sign::CloseBrace) => {
-                    Ok(more(open, ValueMode::Whole(Value::Struct(items.items)), names, items.room))
+                    Ok(more(
+                        open,
+                        ValueMode::Whole(Value::Struct(items.items)),
+                        names,
+                        items.room,
+                    ))
                 }
                 _ => next_field(open, items, names, room, found),
             },
