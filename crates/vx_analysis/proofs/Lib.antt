@@ -1,5 +1,8 @@
 pub mod Subtrees
 pub mod Numbering
+pub mod OneNumber
+pub mod ByNumber
+pub mod Uniting
 pub mod Labelling
 pub mod Annotating
 pub mod Covering

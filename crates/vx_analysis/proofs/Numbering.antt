@@ -14,7 +14,7 @@ use Rattle.vx_tree.specs.Nodes.{bound_children_of}
 use Rattle.vx_tree.specs.Trees.{BoundTree, scope, node, BoundTrees, no_bound, bound}
 use Rattle.vx_tree.specs.Views.{bound_of, bounds_from}
 use Rattle.vx_tree.specs.declared.bound.BoundExpression.{BoundExpression}
-use Rattle.vx_analysis.specs.Numbers.{head_of, node_tree, equal_numbered, tree_at, trees_at, has_node, IsNumberOf, IsNumbered, KeepsNumbers}
+use Rattle.vx_analysis.specs.Numbers.{head_of, node_tree, equal_numbered, tree_at, trees_at, has_node, IsNumberOf, HasChildrenBelow, IsNumbered, KeepsNumbers}
 use Rattle.vx_analysis.specs.Reached.{nowhere, occurs, occurs_in}
 use Rattle.vx_analysis.specs.declared.numbers.NumberedNode.{NumberedNode}
 use Rattle.vx_analysis.proofs.Subtrees.{or_first, or_second, or_assoc, reached-children}
@@ -39,7 +39,7 @@ read-tree [] i d h = absurd (omega arith)
 read-tree (m ∷ ns) zero d h = refl
 read-tree (m ∷ ns) (suc i) d h = read-tree ns i d (omega arith)
 
-tree-got : (ns : List NumberedNode) (i : ℕ) (n : NumberedNode) → slice_get ns i ≡ Some n → tree_at ns i ≡ node_tree n
+pub tree-got : (ns : List NumberedNode) (i : ℕ) (n : NumberedNode) → slice_get ns i ≡ Some n → tree_at ns i ≡ node_tree n
 tree-got [] i n got = cc
 tree-got (m ∷ ns) zero n got = cc
 tree-got (m ∷ ns) (suc i) n got = tree-got ns i n got
@@ -48,7 +48,7 @@ tree-got (m ∷ ns) (suc i) n got = tree-got ns i n got
 pub node-children : (ns : List NumberedNode) → IsNumbered ns → (i : ℕ) (n : NumberedNode) → i < length ns → n ≡ get_or ns i n
     → (trees_at ns n.children.items ≡ bound_children_of (tree_at ns i)) × All (λ k. k < i) n.children.items
 node-children ns numbered i n within is =
-    let here = numbered i n (slice_get_read ns (length ns) i n refl within is) in
+    let here = numbered.0 i n (slice_get_read ns (length ns) i n refl within is) in
     (here.0 ∙ ap bound_children_of (sym (tree-read ns i n within is)), here.1)
 
 -- what is a number stays one, and of the same tree
@@ -67,7 +67,7 @@ trees-kept old new keeps ks below = ap bounds_from (each-kept old new keeps ks b
 
 -- ---- one more node
 
-tree-append : (ns : List NumberedNode) (m : NumberedNode) (i : ℕ) → i < length ns → tree_at (ns ++ m ∷ []) i ≡ tree_at ns i
+pub tree-append : (ns : List NumberedNode) (m : NumberedNode) (i : ℕ) → i < length ns → tree_at (ns ++ m ∷ []) i ≡ tree_at ns i
 tree-append [] m i h = absurd (omega arith)
 tree-append (n ∷ ns) m zero h = refl
 tree-append (n ∷ ns) m (suc i) h = tree-append ns m i (omega arith)
@@ -91,12 +91,12 @@ got-append (x ∷ ns) m (suc i) n got = elim (got-append ns m i n got) [
   | inr last ↦ inr (ap suc last.0, last.1)
 ]
 
--- nodes stay numbered where one more has its children's numbers
-pub numbered-insert : (ns : List NumberedNode) (m : NumberedNode) → IsNumbered ns → All (λ k. k < length ns) m.children.items → trees_at ns m.children.items ≡ bound_children_of (node_tree m)
-    → IsNumbered (insert_key equal_numbered ns m)
-numbered-insert ns m was below children = cases (list_any (equal_numbered m) ns)
+-- one more node has its children's numbers
+pub children-insert : (ns : List NumberedNode) (m : NumberedNode) → HasChildrenBelow ns → All (λ k. k < length ns) m.children.items → trees_at ns m.children.items ≡ bound_children_of (node_tree m)
+    → HasChildrenBelow (insert_key equal_numbered ns m)
+children-insert ns m was below children = cases (list_any (equal_numbered m) ns)
   where
-    cases : (there : Bool) → IsNumbered (if there then ns else ns ++ m ∷ [])
+    cases : (there : Bool) → HasChildrenBelow (if there then ns else ns ++ m ∷ [])
     cases true i n got = was i n got
     cases false i n got = elim (got-append ns m i n got) [
       | inl there ↦
@@ -118,11 +118,11 @@ like-tree (node t f bs) (node u g cs) like same =
     cc (head, same)
 
 -- the number that a node is found at, or gets, is one of its tree
-pub number-insert : (ns : List NumberedNode) (m k : NumberedNode) (r : ℕ) → IsNumbered ns → All (λ j. j < length ns) m.children.items → trees_at ns m.children.items ≡ bound_children_of (node_tree m)
+pub number-insert : (ns : List NumberedNode) (m k : NumberedNode) (r : ℕ) → HasChildrenBelow ns → All (λ j. j < length ns) m.children.items → trees_at ns m.children.items ≡ bound_children_of (node_tree m)
     → r < length (insert_key equal_numbered ns m) → slice_get (insert_key equal_numbered ns m) r ≡ Some k → equal_numbered m k ≡ true → IsNumberOf (insert_key equal_numbered ns m) r (node_tree m)
 number-insert ns m k r was below children within got same =
     let all = insert_key equal_numbered ns m in
-    let stored = numbered-insert ns m was below children r k got in
+    let stored = children-insert ns m was below children r k got in
     let others : Bool = equal_bound (head_of (node_tree m)) (head_of (node_tree k)) && pointwise nat_eq m.children.items k.children.items in
     let rest : others ≡ true = second_so (nat_eq (digest_of (node_tree m)) (digest_of (node_tree k))) others same in
     let like : equal_bound (head_of (node_tree m)) (head_of (node_tree k)) ≡ true = first_so _ (pointwise nat_eq m.children.items k.children.items) rest in

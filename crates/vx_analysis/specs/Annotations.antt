@@ -3,6 +3,8 @@ use Rattle.std.specs.Prelude.{◌≡◌, Bool, true, false, ◌||◌, List, [], 
 use Rattle.std.specs.Borrow.{Bor}
 use Rattle.std.specs.HashMap.{HashMap}
 use Rattle.std.specs.HashSet.{HashSet, contains}
+use Rattle.std.specs.declared.hash.BuildHasherDefault.{BuildHasherDefault}
+use Rattle.std.specs.declared.hash.FoldHasher.{FoldHasher}
 use Rattle.std.specs.List.{list_any}
 use Rattle.vx_dtype.specs.declared.error.VortexError.{VortexError}
 use Rattle.vx_tree.specs.Trees.{BoundTree, scope, node, BoundTrees, no_bound, bound}
@@ -48,3 +50,7 @@ module _ {A : Type 0} (eq : A → A → Bool) where
     -- each entry is the set of its node's annotations
     abbrev pub IsAnnotated : {S Z : Type 0} → HashMap ExactBoundExpr (HashSet A S) Z → Type 0
     IsAnnotated m = (k : ExactBoundExpr) → IfSome (entry_at (key_of k) m) (IsAnnotationsOf (key_of k))
+
+-- a map from the nodes of a tree to sets of annotations
+abbrev pub AnnotationMap : Type 0 → Type 0
+AnnotationMap A = HashMap ExactBoundExpr (HashSet A (BuildHasherDefault FoldHasher)) (BuildHasherDefault FoldHasher)

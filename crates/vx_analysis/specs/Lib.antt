@@ -1,5 +1,6 @@
 pub mod Keys
 pub mod Numbers
+pub mod ByNumber
 pub mod Reached
 pub mod Labels
 pub mod NumberedLabels

@@ -58,9 +58,17 @@ abbrev pub KeepsNumbers : List NumberedNode → List NumberedNode → Type 0
 KeepsNumbers old new = (i : ℕ) (b : BoundTree) → IsNumberOf old i b → IsNumberOf new i b
 
 -- each node has its children's numbers, which are below its own
-abbrev pub IsNumbered : List NumberedNode → Type 0
-IsNumbered ns = (i : ℕ) (n : NumberedNode) → slice_get ns i ≡ Some n
+abbrev pub HasChildrenBelow : List NumberedNode → Type 0
+HasChildrenBelow ns = (i : ℕ) (n : NumberedNode) → slice_get ns i ≡ Some n
     → (trees_at ns n.children.items ≡ bound_children_of (node_tree n)) × All (λ k. k < i) n.children.items
+
+-- no tree has two numbers
+abbrev pub HasOneNumberEach : List NumberedNode → Type 0
+HasOneNumberEach ns = (i j : ℕ) → i < length ns → j < length ns → tree_at ns i ≡ tree_at ns j → i ≡ j
+
+-- the nodes are numbered, each behind its children and once
+abbrev pub IsNumbered : List NumberedNode → Type 0
+IsNumbered ns = HasChildrenBelow ns × HasOneNumberEach ns
 
 -- equal numbered nodes are hashed alike
 pub numbered_alike : (m n : NumberedNode) → equal_numbered m n ≡ true → fed.u64 (digest_of (node_tree m)) ≡ fed.u64 (digest_of (node_tree n))

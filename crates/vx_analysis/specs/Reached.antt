@@ -33,3 +33,8 @@ occurs n b = is_reached nowhere n b
 -- whether n is a node of one of the trees
 abbrev pub occurs_in : BoundTree → BoundTrees → Bool
 occurs_in n bs = is_reached_in nowhere n bs
+
+-- each of the trees has an entry
+abbrev pub HaveEntries : {X S : Type 0} → BoundTrees → HashMap ExactBoundExpr X S → Type 0
+HaveEntries no_bound m = Unit {0}
+HaveEntries (bound b bs) m = IsTrue (is_some (entry_at b m)) × HaveEntries bs m

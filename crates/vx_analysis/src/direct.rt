@@ -8,7 +8,7 @@ ghost use Rattle.vx_analysis.specs.Keys.{key_of, entry_at};
 ghost use Rattle.vx_analysis.specs.Reached.{is_reached};
 ghost use Rattle.vx_analysis.specs.Refusals.{SaysBy, first_refusal};
 
-use crate::annotations::set_of;
+use crate::annotated::set_of;
 use crate::entries::put;
 use crate::{Annotation, BoundAnnotations};
 use std::alloc::Global;

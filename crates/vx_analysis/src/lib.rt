@@ -1,6 +1,7 @@
 // Analyses of bound trees: what each node is labelled or annotated with.
 #![tactic(auto)]
 
+mod annotated;
 mod annotation;
 mod annotations;
 mod covered;

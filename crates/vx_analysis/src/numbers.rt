@@ -10,6 +10,7 @@ ghost use Rattle.vx_analysis.specs.Numbers.{head_of, node_tree, equal_numbered, 
 ghost use Rattle.vx_analysis.specs.Reached.{occurs};
 
 use indexmap::IndexSet;
+use smallvec::SmallVec;
 use std::alloc::{AllocError, Global};
 use std::hash::{Hash, Hasher};
 use vx_tree::{BoundExpression, ExactBoundExpr};
@@ -17,12 +18,15 @@ use vx_tree::{BoundExpression, ExactBoundExpr};
 // The nodes of a tree by their numbers, each behind those below it.
 pub(crate) type NumberedNodes = IndexSet<NumberedNode>;
 
+// The numbers of a node's children: most nodes have two at most, which take no block of their own.
+pub(crate) type ChildNumbers = SmallVec<usize, 2>;
+
 // A node, and the numbers of its children. Two are equal by what is at the nodes and by their
 // children's numbers, so that no tree is compared.
 #[derive(Drop)]
 pub(crate) struct NumberedNode {
     pub(crate) key: ExactBoundExpr,
-    pub(crate) children: Vec<usize>,
+    pub(crate) children: ChildNumbers,
 }
 
 impl PartialEq for NumberedNode {
@@ -74,7 +78,8 @@ fn is_like(b: &BoundExpression, c: &BoundExpression) -> bool
 }
 
 // The number of the tree, after those below it have theirs. Each node is visited once, and but for
-// its children's numbers its function and its type alone are read.
+// its children's numbers its function and its type alone are read. It calls itself at each level,
+// so what holds a node stands in a function that isn't inlined.
 pub(crate) fn number_of(
     alloc: Global,
     e: &BoundExpression,
@@ -86,7 +91,7 @@ pub(crate) fn number_of(
     ensures kept { OnOk result (KeepsNumbers nodes.old.keys nodes.new.keys) }
     ensures nodes { OnOk result ((n : _) → has_node n nodes.new.keys ≡ (occurs n (bound_of e.now) || has_node n nodes.old.keys)) }
 {
-    let mut children = Vec::new(alloc);
+    let mut children = SmallVec::new(alloc);
     for child in e.children() {
         let number = number_of(alloc, child, nodes)?;
         children.push(number)?;
@@ -95,10 +100,11 @@ pub(crate) fn number_of(
 }
 
 // The number of the tree, whose children have those numbers.
+#[inline(never)]
 fn number_over(
     alloc: Global,
     e: &BoundExpression,
-    children: Vec<usize>,
+    children: ChildNumbers,
     nodes: &mut NumberedNodes,
 ) -> Result<usize, AllocError>
     requires numbered { IsNumbered nodes.old.keys }
@@ -120,11 +126,11 @@ fn digests_at(
     alloc: Global,
     nodes: &[NumberedNode],
     numbers: &[usize],
-) -> Result<Vec<u64>, AllocError>
+) -> Result<SmallVec<u64, 2>, AllocError>
     requires { All (λ k. k < length nodes.now) numbers.now }
     ensures { IfOk result (λ digests. digests.items ≡ digests_of (trees_at nodes.now numbers.now)) }
 {
-    let mut digests = Vec::with_capacity(alloc, numbers.len())?;
+    let mut digests = SmallVec::with_capacity(alloc, numbers.len())?;
     for number in numbers {
         digests.push(nodes[*number].key.digest())?;
     }

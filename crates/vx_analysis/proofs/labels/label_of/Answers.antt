@@ -10,7 +10,7 @@ pub offset_bounds-labels-child : goal.offset_bounds-labels-child
 offset_bounds-labels-child g c =
     let ks = c.as_slice-child-items.result.now in
     let own = (node-children c.args.nodes.now c.requires.numbered c.args.number c.index-nodes-number.result c.requires.within c.index-nodes-number.is).1 in
-    let all : All (λ k. k < c.args.number) ks = subst (All (λ k. k < c.args.number)) (sym c.as_slice-child-items.ensures.value) own in
+    let all : All (λ k. k < c.args.number) ks = subst (All (λ k. k < c.args.number)) (sym c.as_slice-child-items.ensures) own in
     let below : get_or ks c.loop-child.child-index 0 < c.args.number = all c.loop-child.child-index 0 (omega arith) in
     let has : get_or ks c.loop-child.child-index 0 < length c.args.labels.now = omega (arith, below, c.requires.count) in
     search rules
@@ -19,7 +19,7 @@ pub bounds-labels-child : goal.bounds-labels-child
 bounds-labels-child g c =
     let ks = c.as_slice-child-items.result.now in
     let own = (node-children c.args.nodes.now c.requires.numbered c.args.number c.index-nodes-number.result c.requires.within c.index-nodes-number.is).1 in
-    let all : All (λ k. k < c.args.number) ks = subst (All (λ k. k < c.args.number)) (sym c.as_slice-child-items.ensures.value) own in
+    let all : All (λ k. k < c.args.number) ks = subst (All (λ k. k < c.args.number)) (sym c.as_slice-child-items.ensures) own in
     let below : get_or ks c.loop-child.child-index 0 < c.args.number = all c.loop-child.child-index 0 (omega arith) in
     omega (arith, below, c.requires.count)
 
@@ -31,7 +31,7 @@ loop-child-preserved g c =
     let i = c.loop-child.child-index in
     let child = get_or ks i 0 in
     let bounds = (node-children ns c.requires.numbered c.args.number c.index-nodes-number.result c.requires.within c.index-nodes-number.is).1 in
-    let all : All (λ k. k < c.args.number) ks = subst (All (λ k. k < c.args.number)) (sym c.as_slice-child-items.ensures.value) bounds in
+    let all : All (λ k. k < c.args.number) ks = subst (All (λ k. k < c.args.number)) (sym c.as_slice-child-items.ensures) bounds in
     let below : get_or ks i 0 < c.args.number = all i 0 (omega arith) in
     let within : get_or ks i 0 < length c.args.labels.now = omega (arith, below, c.requires.count) in
     let stored = has child c.index-labels-child.result (slice_get_read c.args.labels.now (length c.args.labels.now) child c.index-labels-child.result refl within c.index-labels-child.is) in

@@ -28,9 +28,9 @@ loop-child-preserved t c =
       kept = λ i b is. one.kept i b (c.loop-child.invariant.kept i b is);
       nodes = λ n. reached-next nowhere n (bounds_of (drop c.loop-child.child-index children)) (bounds_of (drop (c.loop-child.child-index + 1) children)) (bound_of c.child-item.result) _ _ _
           (bounds-next children c.loop-child.child-index c.child-item.result (omega arith) c.child-item.is) (one.nodes n) (c.loop-child.invariant.nodes n);
-      below = subst (All (λ k. k < length after)) (sym c.in_ok-push.ensures.items)
+      below = subst (All (λ k. k < length after)) (sym c.in_ok-push.ensures.ok)
           (below-next before after one.kept numbers c.in_ok-number.number c.loop-child.invariant.below one.number.0);
-      trees = subst (λ ks. map (tree_at after) ks ++ map bound_of (drop (c.loop-child.child-index + 1) children) ≡ map bound_of children) (sym c.in_ok-push.ensures.items)
+      trees = subst (λ ks. map (tree_at after) ks ++ map bound_of (drop (c.loop-child.child-index + 1) children) ≡ map bound_of children) (sym c.in_ok-push.ensures.ok)
           (numbers-next before after one.kept numbers c.in_ok-number.number children c.loop-child.child-index c.child-item.result c.loop-child.invariant.below one.number.1 (omega arith) c.child-item.is
           c.loop-child.invariant.trees);
     }

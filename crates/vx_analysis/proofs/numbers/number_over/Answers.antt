@@ -6,7 +6,8 @@ use Rattle.vx_tree.specs.Nodes.{bound_children_of}
 use Rattle.vx_tree.specs.Views.{bound_of}
 use Rattle.vx_analysis.specs.Numbers.{node_tree, equal_numbered, has_node, IsNumberOf, IsNumbered, KeepsNumbers}
 use Rattle.vx_analysis.specs.declared.numbers.NumberedNode.{NumberedNode}
-use Rattle.vx_analysis.proofs.Numbering.{keeps-insert, numbered-insert, number-insert, has-insert}
+use Rattle.vx_analysis.proofs.Numbering.{keeps-insert, number-insert, has-insert}
+use Rattle.vx_analysis.proofs.OneNumber.{numbered-insert}
 use Rattle.vx_analysis.proofs.numbers.number_over.Goals as goal
 
 pub returns-clause-kept : goal.returns-clause-kept
@@ -31,7 +32,7 @@ returns-clause-number c =
     let within = subst (λ ns. number < length ns) keys c.in_ok-number.ensures.within in
     let got = subst (λ ns. slice_get ns number ≡ Some stored.0) keys stored.1 in
     let is : IsNumberOf (insert_key equal_numbered c.args.nodes.now.keys added) number (node_tree added) =
-    number-insert c.args.nodes.now.keys added stored.0 number c.requires.numbered c.requires.within (c.requires.children ∙ ap bound_children_of (sym tree)) within got stored.2 in
+    number-insert c.args.nodes.now.keys added stored.0 number c.requires.numbered.0 c.requires.within (c.requires.children ∙ ap bound_children_of (sym tree)) within got stored.2 in
     let here : IsNumberOf c.insert_full.new.self.keys number (node_tree added) = subst (λ ns. IsNumberOf ns number (node_tree added)) (sym keys) is in
     (here.0, here.1 ∙ tree)
 
@@ -46,5 +47,5 @@ returns-clause-nodes c =
     let within = subst (λ ns. number < length ns) keys c.in_ok-number.ensures.within in
     let got = subst (λ ns. slice_get ns number ≡ Some stored.0) keys stored.1 in
     let is : IsNumberOf (insert_key equal_numbered c.args.nodes.now.keys added) number (node_tree added) =
-    number-insert c.args.nodes.now.keys added stored.0 number c.requires.numbered c.requires.within (c.requires.children ∙ ap bound_children_of (sym tree)) within got stored.2 in
+    number-insert c.args.nodes.now.keys added stored.0 number c.requires.numbered.0 c.requires.within (c.requires.children ∙ ap bound_children_of (sym tree)) within got stored.2 in
     ap (has_node n) keys ∙ has-insert c.args.nodes.now.keys added number is n ∙ ap (λ b. equal_bound n b || has_node n c.args.nodes.now.keys) tree

@@ -1,7 +1,7 @@
 use Rattle.std.proofs.Common.{◌≡◌, ◌||◌}
 use Rattle.std.specs.List.{list_any}
 use Rattle.std.specs.HashSet.{contains}
-use Rattle.vx_analysis.proofs.annotations.add_all.Given as goal
+use Rattle.vx_analysis.proofs.annotated.add_all.Given as goal
 
 -- the set and the annotations that are left have together those of both sets
 abbrev pub invariant-loop-annotation : goal.invariant-loop-annotation
