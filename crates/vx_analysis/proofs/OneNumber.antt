@@ -88,7 +88,7 @@ numbered-insert ns m was below children = (children-insert ns m was.0 below chil
 
     cases : (there : Bool) → list_any (equal_numbered m) ns ≡ there → HasOneNumberEach (if there then ns else ns ++ m ∷ [])
     cases true e = was.1
-    cases false e i j h k same =
+    cases false e = λ i j h k same.
         let long : length (ns ++ m ∷ []) ≡ length ns + 1 = length-append ns (m ∷ []) in
         elim (before-or-last (length ns) i (omega (arith, h, long))) [
           | inl a ↦ elim (before-or-last (length ns) j (omega (arith, k, long))) [
