@@ -3,7 +3,7 @@ use Rattle.std.proofs.Common.{◌≡◌, ◌≢◌, ℕ, zero, suc, ◌+◌, ◌
 use Rattle.std.specs.Prelude.{Option, None, Some, cond, slice_set}
 use Rattle.vx_tree.specs.Equality.{equal_bound, equal_bound-Decides, equal_bound_equiv}
 use Rattle.vx_tree.specs.Trees.{BoundTree}
-use Rattle.vx_analysis.specs.ByNumber.{entries_by, hashed_by}
+use Rattle.vx_analysis.specs.ByNumber.{entries_by, hashed_by, by_number}
 use Rattle.vx_analysis.specs.Keys.{key_of, entry_at}
 use Rattle.vx_analysis.specs.Numbers.{node_tree, tree_at, HasOneNumberEach}
 use Rattle.vx_analysis.specs.declared.numbers.NumberedNode.{NumberedNode}
@@ -76,6 +76,14 @@ module _ {X S : Type 0} (s : S) where
           let other : equal_bound (tree_at ns i) b ≡ false =
           ap (equal_bound (tree_at ns i)) ((equal_bound-Decides b (node_tree n)).0 e) ∙ apart (n ∷ ns) one (suc i) 0 h (omega arith) (no-suc i) in
           sym (ap (λ t. cond t (Some x) (Some y)) other)
+
+-- the same of the map with no hash builder
+pub read-number : {X : Type 0} (ns : List NumberedNode) (xs : List (Option X)) (i : ℕ) → HasOneNumberEach ns → i < length ns → length xs ≡ length ns → entry_at (tree_at ns i) (by_number ns xs) ≡ get_or xs i None
+read-number ns xs i one h count = entry-at-number {S = Unit {0}} (tt {0}) ns xs i one h count
+
+pub written-number : {X : Type 0} (b : BoundTree) (ns : List NumberedNode) (xs : List (Option X)) (i : ℕ) (x : X) → HasOneNumberEach ns → i < length ns → length xs ≡ length ns
+    → entry_at b (by_number ns (slice_set xs i (Some x))) ≡ cond (equal_bound (tree_at ns i) b) (Some x) (entry_at b (by_number ns xs))
+written-number b ns xs i x one h count = entry-written {S = Unit {0}} (tt {0}) b ns xs i x one h count
 
 -- where nothing stands there are no entries, nor with one more place
 pub none-pushed : {X : Type 0} (xs : List (Option X)) → ((ns : List NumberedNode) → entries_by ns xs ≡ []) → (ns : List NumberedNode) → entries_by ns (xs ++ None ∷ []) ≡ []

@@ -13,7 +13,7 @@ use Rattle.vx_analysis.specs.Numbers.{node_tree, tree_at, trees_at, HasOneNumber
 use Rattle.vx_analysis.specs.Reached.{is_reached, is_reached_in, HaveEntries}
 use Rattle.vx_analysis.specs.declared.numbers.NumberedNode.{NumberedNode}
 use Rattle.vx_analysis.proofs.Annotating.{union-next}
-use Rattle.vx_analysis.proofs.ByNumber.{entry-at-number}
+use Rattle.vx_analysis.proofs.ByNumber.{read-number}
 use Rattle.vx_analysis.proofs.Numbering.{read-tree, trees-next}
 use Rattle.vx_analysis.proofs.Subtrees.{or_first, or_second, reached-itself}
 
@@ -46,11 +46,11 @@ if-there (Some x) said there = said
 
 module _ {A S : Type 0} (eq : A → A → Bool) (answers : BoundTree → List A) (ns : List NumberedNode) (xs : List (Option (HashSet A S))) (one : HasOneNumberEach ns) (count : length xs ≡ length ns)
     (ks : List ℕ) (within : All (λ k. k < length ns) ks) (i : ℕ) (h : i < length ks) where
-  child : BoundTree
+  abbrev child : BoundTree
   child = tree_at ns (get_or ks i 0)
 
   entry-of-child : entry_at child (by_number ns xs) ≡ get_or xs (get_or ks i 0) None
-  entry-of-child = entry-at-number tt ns xs (get_or ks i 0) one (within i 0 h) count
+  entry-of-child = read-number ns xs (get_or ks i 0) one (within i 0 h) count
 
   -- one more child's set is added
   pub unite-next : (below : HashSet A S) (before after all : A → Bool) → get_or xs (get_or ks i 0) None ≡ Some below → IsAnnotated eq answers (by_number ns xs)

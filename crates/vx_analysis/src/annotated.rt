@@ -110,8 +110,9 @@ fn put_union<A: Annotation + Drop>(
             → (a : A) → contains A.eq set a ≡ is_annotation_in A.eq answers a (bound_children_of (tree_at nodes.now number)))) }
     ensures refusal { IfErr result (λ y. y ≡ OutOfMemory) }
 {
+    let node = &nodes[number];
     let mut set = HashSet::new(alloc);
-    for child in nodes[number].children.as_slice() {
+    for child in node.children.as_slice() {
         if let Some(below) = &sets[*child] {
             add_all(alloc, &mut set, below)?;
         }

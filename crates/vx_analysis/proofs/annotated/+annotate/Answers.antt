@@ -1,5 +1,6 @@
 use Rattle.std.proofs.Common.{◌≡◌, ◌<◌, ◌≤◌, ◌+◌, ◌||◌, true, false, length, get_or, drop, arith, rules, sym, ap, subst, inl, inr, ◌∙◌}
 use Rattle.std.specs.Prelude.{◌==◌, All, not, None, Some, is_some, ◌&&◌, IsOkAnd, cond}
+use Rattle.std.proofs.lemmas.List.{length-set}
 use Rattle.std.proofs.lemmas.Result.{err_from_is_err_and, on_ok_weaker, IfErr-weaker}
 use Rattle.vx_tree.specs.Equality.{equal_bound}
 use Rattle.vx_tree.specs.Nodes.{bound_children_of}
@@ -11,7 +12,7 @@ use Rattle.vx_analysis.specs.Numbers.{tree_at, trees_at}
 use Rattle.vx_analysis.specs.Reached.{is_reached, is_reached_in, HaveEntries}
 use Rattle.vx_analysis.specs.Refusals.{first_refusal}
 use Rattle.vx_analysis.proofs.Annotating.{some_item, some-items, no_item, items-alike, answered-set, unanswered-set}
-use Rattle.vx_analysis.proofs.ByNumber.{entry-at-number, entry-written}
+use Rattle.vx_analysis.proofs.ByNumber.{read-number, written-number}
 use Rattle.vx_analysis.proofs.Numbering.{trees-next, trees-end, tree-read, read-tree, node-children}
 use Rattle.vx_analysis.proofs.Refusing.{refused-as, refused-below, unrefused-here, unrefused-below, refusal-next}
 use Rattle.vx_analysis.proofs.Subtrees.{or_first, reached-next, reached-end, closed-with, closed-at, nodes-with, entries-with}
@@ -29,7 +30,7 @@ returns-then-is_some-clause-annotated g t c =
     let tree = read-tree ns c.args.number c.index-nodes-number.result c.requires.within in
     let placed : is_some (get_or c.args.sets.now.items c.args.number None) ≡ true = search rules in
     let here : is_some (entry_at (key_of node.key) old) ≡ true =
-    ap (λ b. is_some (entry_at b old)) tree ∙ ap is_some (entry-at-number tt ns c.args.sets.now.items c.args.number c.requires.numbered.1 c.requires.within c.requires.count) ∙ placed in
+    ap (λ b. is_some (entry_at b old)) tree ∙ ap is_some (read-number ns c.args.sets.now.items c.args.number c.requires.numbered.1 c.requires.within c.requires.count) ∙ placed in
     (was, λ k. closed-at (answered answers) node.key old closed here k ∙ ap (λ b. is_reached (answered answers) (key_of k) b || is_some (entry_at (key_of k) old)) tree)
 
 pub returns-then-is_some-clause-unrefused : goal.returns-then-is_some-clause-unrefused
@@ -39,7 +40,7 @@ returns-then-is_some-clause-unrefused g t c =
     let old = by_number ns c.args.sets.now.items in
     let placed : is_some (get_or c.args.sets.now.items c.args.number None) ≡ true = search rules in
     let here : is_some (entry_at (tree_at ns c.args.number) old) ≡ true =
-    ap is_some (entry-at-number tt ns c.args.sets.now.items c.args.number c.requires.numbered.1 c.requires.within c.requires.count) ∙ placed in
+    ap is_some (read-number ns c.args.sets.now.items c.args.number c.requires.numbered.1 c.requires.within c.requires.count) ∙ placed in
     (if-there (entry_at (tree_at ns c.args.number) old) (said-at old (λ n s. first_refusal said n ≡ None) ns c.args.number c.requires.within was) here, was)
 
 -- ---- a node with answers
@@ -74,7 +75,7 @@ returns-then-not-is_empty-clause-annotated g t c =
     let some : 0 < length own = search rules in
     let here : answered answers b ≡ true = sym (items-alike eq g.met.A.Eq.laws own (answers b) same) ∙ some_item own some in
     let written : (k : _) → entry_at (key_of k) new ≡ cond (equal_bound b (key_of k)) (Some put.0) (entry_at (key_of k) old) =
-    λ k. ap (λ xs. entry_at (key_of k) (by_number ns xs)) put.1 ∙ entry-written tt (key_of k) ns c.args.sets.now.items c.args.number put.0 c.requires.numbered.1 c.requires.within c.requires.count in (
+    λ k. ap (λ xs. entry_at (key_of k) (by_number ns xs)) put.1 ∙ written-number (key_of k) ns c.args.sets.now.items c.args.number put.0 c.requires.numbered.1 c.requires.within c.requires.count in (
       entries-with (λ n s. IsAnnotationsOf eq answers n s) b put.0 old new (answered-set eq answers b own put.0 same here put.2) written was,
       λ k. nodes-with (answered answers) b put.0 old old new k
           (ap (λ x. (not x && is_reached_in (answered answers) (key_of k) (bound_children_of b)) || is_some (entry_at (key_of k) old)) (sym here)) (written k),
@@ -95,7 +96,7 @@ returns-then-not-is_empty-clause-unrefused g t c =
     let tree = lent ∙ sym (tree-read ns c.args.number c.index-nodes-number.result c.requires.within c.index-nodes-number.is) in
     let here = subst (λ x. first_refusal said x ≡ None) tree (unrefused-here said g.A.PartialEq.eq g.met.A.Eq.laws (bound_of c.expr.result.now) own (says c.expr.result _ c.in_ok-answers.ensures) some) in
     let written : (k : _) → entry_at (key_of k) new ≡ cond (equal_bound b (key_of k)) (Some put.0) (entry_at (key_of k) old) =
-    λ k. ap (λ xs. entry_at (key_of k) (by_number ns xs)) put.1 ∙ entry-written tt (key_of k) ns c.args.sets.now.items c.args.number put.0 c.requires.numbered.1 c.requires.within c.requires.count in
+    λ k. ap (λ xs. entry_at (key_of k) (by_number ns xs)) put.1 ∙ written-number (key_of k) ns c.args.sets.now.items c.args.number put.0 c.requires.numbered.1 c.requires.within c.requires.count in
     (here, entries-with (λ n s. first_refusal said n ≡ None) b put.0 old new here written was))
     c.put_answers.ensures.put
 
@@ -163,7 +164,7 @@ returns-clause-annotated g t c =
     let there : HaveEntries (bound_children_of b) mid =
     subst (λ bs. HaveEntries bs mid) children (entries-there mid stops ns ks within (λ k h. reached k ∙ or_first _ (is_some (entry_at (key_of k) old)) h)) in
     let written : (k : _) → entry_at (key_of k) new ≡ cond (equal_bound b (key_of k)) (Some put.0) (entry_at (key_of k) mid) =
-    λ k. ap (λ xs. entry_at (key_of k) (by_number ns xs)) put.1 ∙ entry-written tt (key_of k) ns c.loop-child.sets.items c.args.number put.0 c.requires.numbered.1 c.requires.within c.loop-child.invariant.0 in (
+    λ k. ap (λ xs. entry_at (key_of k) (by_number ns xs)) put.1 ∙ written-number (key_of k) ns c.loop-child.sets.items c.args.number put.0 c.requires.numbered.1 c.requires.within c.loop-child.invariant.0 in (
       entries-with (λ n s. IsAnnotationsOf eq answers n s) b put.0 mid new (unanswered-set eq answers b put.0 here (put.2 answers all.1 there)) written all.1,
       λ k. nodes-with stops b put.0 old mid new k
           (reached k ∙ ap (λ bs. is_reached_in stops (key_of k) bs || is_some (entry_at (key_of k) old)) children
@@ -212,6 +213,34 @@ returns-clause-unrefused g t c =
     let all = c.loop-child.invariant.2 said says was in
     let here = unrefused-below said g.A.PartialEq.eq g.met.A.Eq.laws b own (trees_at ns ks) (trees_at ns (drop i ks)) same none children (trees-end ns ks i (omega arith)) all.1 in
     let written : (k : _) → entry_at (key_of k) new ≡ cond (equal_bound b (key_of k)) (Some put.0) (entry_at (key_of k) mid) =
-    λ k. ap (λ xs. entry_at (key_of k) (by_number ns xs)) put.1 ∙ entry-written tt (key_of k) ns c.loop-child.sets.items c.args.number put.0 c.requires.numbered.1 c.requires.within c.loop-child.invariant.0 in
+    λ k. ap (λ xs. entry_at (key_of k) (by_number ns xs)) put.1 ∙ written-number (key_of k) ns c.loop-child.sets.items c.args.number put.0 c.requires.numbered.1 c.requires.within c.loop-child.invariant.0 in
     (here, entries-with (λ n s. first_refusal said n ≡ None) b put.0 mid new here written all.0))
     c.put_union.ensures.put
+
+-- ---- counts, and refusals for want of memory
+
+pub returns-then-not-is_empty-clause-count : goal.returns-then-not-is_empty-clause-count
+returns-then-not-is_empty-clause-count g t c =
+    on_ok_weaker c.put_answers.result (λ put. ap length put.1 ∙ length-set c.args.sets.now.items c.args.number (Some put.0) ∙ c.requires.count) c.put_answers.ensures.put
+
+pub returns-clause-count : goal.returns-clause-count
+returns-clause-count g t c =
+    on_ok_weaker c.put_union.result (λ put. ap length put.1 ∙ length-set c.loop-child.sets.items c.args.number (Some put.0) ∙ c.loop-child.invariant.0) c.put_union.ensures.put
+
+pub returns-then-not-is_empty-clause-refusal : goal.returns-then-not-is_empty-clause-refusal
+returns-then-not-is_empty-clause-refusal g t c = IfErr-weaker c.put_answers.result _ _ (λ y spent. inl spent) c.put_answers.ensures.refusal
+
+pub returns-then-not-is_empty-clause-first : goal.returns-then-not-is_empty-clause-first
+returns-then-not-is_empty-clause-first g t c = IfErr-weaker c.put_answers.result _ _ (λ y spent said says was. inl spent) c.put_answers.ensures.refusal
+
+pub returns-clause-refusal : goal.returns-clause-refusal
+returns-clause-refusal g t c = IfErr-weaker c.put_union.result _ _ (λ y spent. inl spent) c.put_union.ensures.refusal
+
+pub returns-clause-first : goal.returns-clause-first
+returns-clause-first g t c = IfErr-weaker c.put_union.result _ _ (λ y spent said says was. inl spent) c.put_union.ensures.refusal
+
+pub put_union-requires-clause-count : goal.put_union-requires-clause-count
+put_union-requires-clause-count g t c = c.loop-child.invariant.0
+
+pub put_answers-requires : goal.put_answers-requires
+put_answers-requires g t c = omega (arith, c.requires.within, c.requires.count)
