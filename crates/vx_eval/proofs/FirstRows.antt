@@ -1,11 +1,13 @@
 -- Tests over all rows of a column, and the first row at which one passes.
 use Rattle.std.proofs.Common.{◌≡◌, ℕ, ◌<◌, List, [], ◌∷◌, map, length, get_or, refl, sym, ap, ◌∙◌, arith, Some, None, Bool, true, false, zero, suc, IsTrue}
 use Rattle.std.specs.Prelude.{not, ◌||◌, position}
+use Rattle.std.proofs.lemmas.List.{length-replicate}
+use Rattle.std.proofs.Math.ListN.{replicate}
 use Rattle.std.specs.List.{list_any, range_with_len}
 use Rattle.std.specs.Option.{option_map}
 use Rattle.vx_dtype.specs.declared.error.VortexError.TheVariants.{AddOverflow, BadFill}
 use Rattle.vx_types.specs.Fits.{fits}
-use Rattle.vx_types.specs.Types.{LogicalType, ty, atomic, number, Datum, null, int}
+use Rattle.vx_types.specs.Types.{LogicalType, ty, atomic, number, Datum, null, int, is_null_datum}
 use Rattle.vx_fn.specs.Faults.{node_fault, is_outside, overflows, misfits, fill_of, is_bad_fill, some_differ, differs, when}
 use Rattle.vx_fn.specs.Functions.{binary, adds, fill_null}
 use Rattle.vx_fn.specs.Values.{sum_of}
@@ -34,6 +36,31 @@ none_differ (v ∷ vs) all = none_any (differs v) null vs (λ k h. all k (omega 
 pub one_differs : (ds : List Datum) (k : ℕ) → suc k < length ds → differs (get_or ds 0 null) (get_or ds (suc k) null) ≡ true → some_differ ds ≡ true
 one_differs [] k lt here = absurd (omega arith)
 one_differs (v ∷ vs) k lt here = some_any (differs v) null vs k (omega arith) here
+
+-- ---- one value in all rows
+
+none_repeated : (p : Datum → Bool) (n : ℕ) (d : Datum) → p d ≡ false → list_any p (replicate n d) ≡ false
+none_repeated p zero d not_here = refl
+none_repeated p (suc n) d not_here = rw not_here (none_repeated p n d not_here)
+
+any_repeated : (p : Datum → Bool) (n : ℕ) (d : Datum) (b : Bool) → p d ≡ b → list_any p (replicate (suc n) d) ≡ b
+any_repeated p n d true here = rw here refl
+any_repeated p n d false here = none_repeated p (suc n) d here
+
+pub null_repeated : (n m : ℕ) (c : List Datum) (d : Datum) → c ≡ replicate m d → length c ≡ n → 0 < n → list_any is_null_datum c ≡ is_null_datum d
+null_repeated n m c d is long some = let count : m ≡ n = sym (length-replicate m d) ∙ ap length (sym is) ∙ long in ap (list_any is_null_datum) (is ∙ ap (λ k. replicate k d) count) ∙ go n some
+  where
+    go : (n : ℕ) → 0 < n → list_any is_null_datum (replicate n d) ≡ is_null_datum d
+    go zero some = absurd (omega arith)
+    go (suc n) some = any_repeated is_null_datum n d (is_null_datum d) refl
+
+pub repeated_differs : (n m : ℕ) (c : List Datum) (d : Datum) → c ≡ replicate m d → length c ≡ n → 1 < n → some_differ c ≡ differs d d
+repeated_differs n m c d is long more = let count : m ≡ n = sym (length-replicate m d) ∙ ap length (sym is) ∙ long in ap some_differ (is ∙ ap (λ k. replicate k d) count) ∙ go n more
+  where
+    go : (n : ℕ) → 1 < n → some_differ (replicate n d) ≡ differs d d
+    go zero more = absurd (omega arith)
+    go (suc zero) more = absurd (omega arith)
+    go (suc (suc n)) more = any_repeated (differs d) n d (differs d d) refl
 
 -- ---- casts
 

@@ -9,9 +9,9 @@ use Rattle.vx_fn.specs.Functions.{Function}
 use Rattle.vx_fn.specs.Values.{fn_value}
 use Rattle.vx_fn.specs.Faults.{node_fault}
 pub use Rattle.vx_merge.specs.Merges.{values_of, each_row, row_at}
-pub use Rattle.vx_eval.specs.Items.{datum_at, item_at, truth_datum, AllLong, HaveRow}
+pub use Rattle.vx_eval.specs.Items.{datum_at, item_at, truth_datum, null_told, AllLong, HaveRow}
 use Rattle.vx_eval.specs.declared.rows.Rows.{Rows}
-use Rattle.vx_eval.specs.declared.rows.Rows.TheVariants.{Lent, Item, Owned, Same, Truths, Compared}
+use Rattle.vx_eval.specs.declared.rows.Rows.TheVariants.{Lent, Item, Owned, Same, Truths, Compared, Nulls}
 
 -- the truth value that a value is, if it is one
 abbrev pub truth_of : Datum → Option Bool
@@ -26,6 +26,7 @@ rows_view (Owned values) = values_of values.items
 rows_view (Same v n) = replicate n (value_of v.now)
 rows_view (Truths truths c) = map truth_datum truths.items
 rows_view (Compared items) = items
+rows_view (Nulls values k negated c) = map (null_told negated) (map (item_at k) (values_of values.now.value.items))
 
 -- the same of each of some columns
 abbrev pub rows_views : List Rows → List (List Datum)

@@ -1,8 +1,8 @@
 -- Items of structs, and truth values told of them.
 use Rattle.std.specs.Prelude.{◌≡◌, ℕ, ◌<◌, List, [], ◌∷◌, map, length, Option, Some, None, zero, suc, Bool, true, false}
-use Rattle.vx_types.specs.Types.{Datum, null, bool, struct_of, Data, no_datum, datum}
+use Rattle.vx_types.specs.Types.{Datum, null, bool, is_null_datum, struct_of, Data, no_datum, datum}
 use Rattle.vx_fn.specs.Functions.{Operation, compares}
-use Rattle.vx_fn.specs.Values.{binary_value, kleene_and}
+use Rattle.vx_fn.specs.Values.{binary_value, flipped, kleene_and}
 use Rattle.vx_merge.specs.Merges.{each_row, row_at}
 
 -- the value at that place
@@ -20,6 +20,10 @@ item_at k _ = null
 abbrev pub truth_datum : Option Bool → Datum
 truth_datum None = null
 truth_datum (Some b) = bool b
+
+-- whether a value is null, or not where that is negated
+abbrev pub null_told : Bool → Datum → Datum
+null_told negated v = bool (flipped negated (is_null_datum v))
 
 -- whether the operation is one of the six comparisons
 abbrev pub is_comparison : Operation → Bool

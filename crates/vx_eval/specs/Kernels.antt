@@ -1,11 +1,13 @@
 -- What the kernels of single functions are told.
-use Rattle.std.specs.Prelude.{◌≡◌, ℕ, ◌<◌, List, map, Option, Some, None, Result, Ok, Bool, false}
+use Rattle.std.specs.Prelude.{◌≡◌, ℕ, ◌<◌, ℤ, List, [], ◌∷◌, map, Option, Some, None, Result, Ok, Bool, false, not, ◌&&◌}
+use Rattle.std.specs.Int.Signed.{le_z}
 use Rattle.vx_types.specs.declared.value.Value.{Value}
 use Rattle.vx_types.specs.Fields.{data_of}
-use Rattle.vx_types.specs.Types.{Datum, null, bool, utf8, struct_of}
+use Rattle.vx_types.specs.Types.{LogicalType, Datum, null, bool, int, utf8, struct_of}
 use Rattle.vx_types.specs.Views.{value_of}
 use Rattle.std.specs.declared.cmp.Ordering.{Ordering}
 use Rattle.vx_fn.specs.Functions.{Operation, compares}
+use Rattle.vx_fn.specs.Faults.{is_outside}
 use Rattle.vx_fn.specs.Values.{agrees, flipped}
 use Rattle.vx_like.specs.Patterns.{Compiled, accepts}
 use Rattle.vx_eval.specs.Columns.{truth_datum, datum_at}
@@ -22,6 +24,14 @@ TellsRows post n g = (i : ℕ) (t : Option Bool) → i < n → post i t → trut
 -- where a call answers at one of the first n rows and its value, it is what g makes of them
 abbrev pub MakesRows : {E : Type 0} → (ℕ → Value → Result Value E → Type 0) → ℕ → (ℕ → Datum → Datum) → Type 0
 MakesRows post n g = (i : ℕ) (x v : Value) → i < n → post i x (Ok v) → value_of v ≡ g i (value_of x)
+
+-- whether the number lies between the two, or is one of them
+abbrev pub is_between : ℤ → ℤ → ℤ → Bool
+is_between lowest highest i = le_z lowest i && le_z i highest
+
+-- the numbers of the type are those from the lowest to the highest
+abbrev pub IsRange : LogicalType → ℤ → ℤ → Type 0
+IsRange t lowest highest = (i : ℤ) → is_outside (t ∷ []) (int i) ≡ not (is_between lowest highest i)
 
 -- the struct of the items at those places of a struct, null of what is none
 abbrev pub items_at : List ℕ → Datum → Datum

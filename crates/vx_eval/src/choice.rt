@@ -59,11 +59,14 @@ pub fn first_true<'a>(alloc: Global, count: usize, columns: Vec<Rows<'a>>) -> Vo
         rest,
         last,
     } = split(alloc, count, columns)?;
-    let merging = preferred(masks.as_slice(), count);
     match last {
-        None => merged(alloc, count, merging, masks, values),
+        None => {
+            let merging = preferred(masks.as_slice(), count);
+            merged(alloc, count, merging, masks, values)
+        }
         Some(Rows::Owned(rows)) => written(rows, masks, values),
         Some(column) => {
+            let merging = preferred(masks.as_slice(), count);
             masks.push(rest)?;
             values.push(column)?;
             merged(alloc, count, merging, masks, values)

@@ -1,49 +1,65 @@
 // Null: tests for it, and what makes it or puts a value in its place.
-ghost use Rattle.std.specs.Prelude.{◌≡◌, ◌||◌, not, length, IfOk, List, [], ◌∷◌, if◌then◌else◌};
+ghost use Rattle.std.specs.Prelude.{◌≡◌, ◌||◌, length, get_or, IfOk, IfErr, List, [], ◌∷◌, if◌then◌else◌};
 ghost use Rattle.std.specs.List.{list_any};
-ghost use Rattle.vx_types.specs.Types.{LogicalType, bool, is_null_datum};
+ghost use Rattle.vx_dtype.specs.declared.error.VortexError.TheVariants.{OutOfMemory};
+ghost use Rattle.vx_types.specs.Types.{LogicalType, null, is_null_datum};
 ghost use Rattle.vx_types.specs.Views.{type_of, value_of};
 ghost use Rattle.vx_fn.specs.Faults.{is_bad_fill, some_differ};
 ghost use Rattle.vx_fn.specs.Functions as functions;
-ghost use Rattle.vx_eval.specs.Columns.{rows_view, truth_datum, Evaluates};
+ghost use Rattle.vx_eval.specs.Columns.{rows_view, truth_datum, each_row, null_told, Evaluates};
 
 use crate::choice::first_true;
 use crate::comparison::order;
+use crate::constants::Constants;
 use crate::filling::{overwritten, tabulated};
 use crate::rows::{Rows, copied};
+use crate::text::flipped;
 use crate::truths::told;
 use std::alloc::{AllocError, Global};
 use vx_fn::FillNull;
 use vx_types::{DType, Value, VortexError, VortexResult};
 
-/// Whether each value is null. Refuses with `OutOfMemory` (1) alone.
-pub fn is_null<'a>(alloc: Global, count: usize, input: &Rows) -> VortexResult<Rows<'a>>
+/// Whether each value is null; a field of lent structs is looked at where it lies, when its rows
+/// are asked for. Refuses with `OutOfMemory` (1) alone.
+pub fn is_null<'a>(alloc: Global, count: usize, input: &Rows<'a>) -> VortexResult<Rows<'a>>
     requires { length (rows_view input.now) ≡ count }
     ensures { (ts : List LogicalType) → Evaluates functions.is_null ts count (rows_view input.now ∷ []) result }
 {
-    told(alloc, count, |i| null_test(input.row(i)))
+    null_tests(alloc, count, false, input)
 }
 
-/// Whether each value is another one than null. Refuses with `OutOfMemory` (1) alone.
-pub fn is_not_null<'a>(alloc: Global, count: usize, input: &Rows) -> VortexResult<Rows<'a>>
+/// Whether each value is another one than null; a field as above. Refuses with `OutOfMemory` (1)
+/// alone.
+pub fn is_not_null<'a>(alloc: Global, count: usize, input: &Rows<'a>) -> VortexResult<Rows<'a>>
     requires { length (rows_view input.now) ≡ count }
     ensures { (ts : List LogicalType) → Evaluates functions.is_not_null ts count (rows_view input.now ∷ []) result }
 {
-    told(alloc, count, |i| value_test(input.row(i)))
+    null_tests(alloc, count, true, input)
 }
 
-// Whether the value is null.
-fn null_test(v: &Value) -> Option<bool>
-    ensures { truth_datum result ≡ bool (is_null_datum (value_of v.now)) }
+// Whether each value is null, or that it isn't.
+fn null_tests<'a>(
+    alloc: Global,
+    count: usize,
+    negated: bool,
+    input: &Rows<'a>,
+) -> VortexResult<Rows<'a>>
+    requires { length (rows_view input.now) ≡ count }
+    ensures rows { IfOk result (λ out. rows_view out ≡ each_row count (λ k. null_told negated (get_or (rows_view input.now) k null))) }
+    ensures memory { IfErr result (λ e. e ≡ OutOfMemory) }
 {
-    Some(v.is_null())
+    match input {
+        Rows::Item(rows, place, _) => Ok(Rows::Nulls(*rows, *place, negated, Constants::new())),
+        _ => told(alloc, count, |i| null_test(negated, input.row(i))),
+    }
 }
 
-// Whether the value isn't null.
-fn value_test(v: &Value) -> Option<bool>
-    ensures { truth_datum result ≡ bool (not (is_null_datum (value_of v.now))) }
+/// Whether the value is null, or, where it is negated, that it isn't.
+#[inline]
+pub fn null_test(negated: bool, v: &Value) -> Option<bool>
+    ensures { truth_datum result ≡ null_told negated (value_of v.now) }
 {
-    Some(!v.is_null())
+    Some(flipped(negated, v.is_null()))
 }
 
 /// The values where the mask is true, and null elsewhere; those that are owned are moved.
@@ -92,6 +108,7 @@ pub fn fill_null<'a>(
 }
 
 // The value, or a copy of the fill where it is null.
+#[inline]
 fn filled(v: Value, fill: &Value) -> Result<Value, AllocError>
     ensures { IfOk result (λ out. value_of out ≡ (if is_null_datum (value_of v) then value_of fill.now else value_of v)) }
 {
@@ -104,6 +121,7 @@ fn filled(v: Value, fill: &Value) -> Result<Value, AllocError>
 }
 
 // A copy of the value, or of the fill where it is null.
+#[inline]
 fn filled_copy(v: &Value, fill: &Value) -> Result<Value, AllocError>
     ensures { IfOk result (λ out. value_of out ≡ (if is_null_datum (value_of v.now) then value_of fill.now else value_of v.now)) }
 {
@@ -118,11 +136,14 @@ fn is_bad_fill(count: usize, dtype: &DType, fill: &Rows) -> bool
     !FillNull::supports_dtype(dtype) || has_null(count, fill) || some_differ(count, fill)
 }
 
-// Whether some row is null.
+// Whether some row is null; one value for all rows is looked at once.
 fn has_null(count: usize, fill: &Rows) -> bool
     requires { length (rows_view fill.now) ≡ count }
     ensures { result ≡ list_any is_null_datum (rows_view fill.now) }
 {
+    if let Rows::Same(value, _) = fill {
+        return 0 < count && value.is_null();
+    }
     for i in 0..count {
         if fill.row(i).is_null() {
             return true;
@@ -131,11 +152,14 @@ fn has_null(count: usize, fill: &Rows) -> bool
     false
 }
 
-// Whether some row differs from the first.
+// Whether some row differs from the first; one value for all rows is looked at once.
 fn some_differ(count: usize, fill: &Rows) -> bool
     requires { length (rows_view fill.now) ≡ count }
     ensures { result ≡ some_differ (rows_view fill.now) }
 {
+    if let Rows::Same(value, _) = fill {
+        return 1 < count && order(value, value).is_ne();
+    }
     for i in 1..count {
         if order(fill.row(0), fill.row(i)).is_ne() {
             return true;

@@ -12,6 +12,7 @@ use crate::conjunction::Conjunction;
 use crate::constants::Constants;
 use crate::fields::item_row;
 use crate::filling::collected;
+use crate::nulls::null_test;
 use crate::truths::{truth_at, truth_of, truth_value};
 use std::alloc::{AllocError, Global};
 use std::rc::Rc;
@@ -36,10 +37,14 @@ pub enum Rows<'a> {
     Truths(Vec<Option<bool>>, Constants),
     /// Comparisons of items that are lent, joined by And.
     Compared(Conjunction<'a>),
+    /// Whether the items at one place of structs that are lent are null; or that they aren't, where
+    /// it is negated.
+    Nulls(&'a Rc<Vec<Value>>, usize, bool, Constants),
 }
 
 impl<'a> Rows<'a> {
     /// The value of that row. Asks an index below the number of rows.
+    #[inline]
     pub fn row(&self, i: usize) -> &Value
         requires { i < length (rows_view self.now) }
         ensures { value_of result.now ≡ get_or (rows_view self.now) i null }
@@ -53,6 +58,10 @@ impl<'a> Rows<'a> {
             Rows::Same(value, _) => value,
             Rows::Truths(truths, constants) => constants.truth(truths[i]),
             Rows::Compared(tests) => tests.row(i),
+            Rows::Nulls(values, place, negated, constants) => {
+                let item = item_row(constants.null(), values.as_slice(), *place, i);
+                constants.truth(null_test(*negated, item))
+            }
         }
     }
 
@@ -65,6 +74,9 @@ impl<'a> Rows<'a> {
         match self {
             Rows::Truths(truths, _) => truths[i],
             Rows::Compared(tests) => tests.truth(i),
+            Rows::Nulls(values, place, negated, constants) => {
+                null_test(*negated, item_row(constants.null(), values.as_slice(), *place, i))
+            }
             values => truth_of(values.row(i)),
         }
     }
@@ -205,6 +217,7 @@ impl<'a> Rows<'a> {
                 |i| Ok(truth_at(truths.as_slice(), i)),
             ),
             Rows::Compared(tests) => collected(alloc, count, |i| Ok(truth_value(tests.truth(i)))),
+            Rows::Nulls(..) => collected(alloc, count, |i| Ok(truth_value(self.truth(i)))),
             rows => collected(alloc, count, |i| copied(rows.row(i))),
         }
     }
@@ -220,6 +233,7 @@ impl<'a> Rows<'a> {
             Rows::Same(_, count) => *count,
             Rows::Truths(truths, _) => truths.len(),
             Rows::Compared(tests) => tests.len(),
+            Rows::Nulls(values, _, _, _) => values.len(),
         }
     }
 }

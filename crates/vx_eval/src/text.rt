@@ -116,8 +116,9 @@ fn liked(alloc: Global, options: &LikeOptions, v: &Value, w: &Value) -> VortexRe
     }
 }
 
-// The answer, turned round where it is negated.
-fn flipped(negated: bool, b: bool) -> bool
+/// The answer, turned round where it is negated.
+#[inline]
+pub fn flipped(negated: bool, b: bool) -> bool
     ensures { result ≡ values.flipped negated b }
 {
     if negated { !b } else { b }
