@@ -5,8 +5,10 @@ use std::process::{Command, Stdio};
 /// The families whose trees are as deep as they are large, and the levels of one of their sizes.
 const DEEP: [(&str, u8, usize); 3] = [("deep", 1, 1), ("getpack", 2, 2), ("case", 5, 1)];
 
-/// Deeper trees aren't tried.
+/// Deeper trees aren't tried, and for `display_tree`, whose text grows with the square of the depth,
+/// none deeper than the second.
 const DEEPEST: usize = 131_072;
+const DEEPEST_TEXT: usize = 14_336;
 
 /// What goes down a tree beside the passes that are timed, in the order of its numbers in the library,
 /// which follow theirs.
@@ -35,7 +37,10 @@ pub fn table() {
     println!("|---|---:|---:|---:|");
     for (number, pass) in (0..).zip(PASSES.into_iter().chain(OTHERS)) {
         let cells = DEEP.map(|(_, family, levels)| {
-            let most = DEEPEST / levels;
+            let most = match pass {
+                "display_tree" => DEEPEST_TEXT / levels,
+                _ => DEEPEST / levels,
+            };
             let size = largest(most, |size| returns(family, size, number));
             let more = if size == most { "≥ " } else { "" };
             format!("{more}{}", size * levels)
