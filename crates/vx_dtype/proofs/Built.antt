@@ -130,11 +130,6 @@ pub projected_end : (wanted : List Name) (fs : Fields) (found : List DType) (i :
     → all ≡ after wanted found (projected (drop i wanted) fs) → all ≡ Ok (fields_view wanted found)
 projected_end wanted fs found i all h so_far = so_far ∙ rw (drop_of_length-le wanted h) (after_ok wanted found)
 
--- ---- lookups
-
-pub field_type_end : (a : Name) (names : List Name) (types : List DType) (i : ℕ) → field_count (fields_view names types) ≤ i → field_type a (fields_view (drop i names) (drop i types)) ≡ None
-field_type_end a names types i h = rw (fields_end names types i h)
-
 -- ---- names left out
 
 pub projected_kept : (names : List Name) (fs : Fields) → None ≡ first_unknown names fs → projected (names_without names (field_names fs)) fs ≡ projected_without names fs

@@ -1,5 +1,5 @@
 -- An index of first places, made from the last name to the first.
-use Rattle.std.proofs.Common.{◌≡◌, ℕ, ◌+◌, ◌≤◌, List, ◌∷◌, length, subst, get_or, drop, drop-cons, add-one, cond, Option, Some, sym, ap, ◌∙◌, arith}
+use Rattle.std.proofs.Common.{◌≡◌, ℕ, ◌+◌, ◌≤◌, List, ◌∷◌, length, subst, get_or, drop, drop-cons, add-one, cond, Some, sym, ap, ◌∙◌, arith}
 use Rattle.std.specs.HashMap.{HashMap, get, Updates}
 use Rattle.std.specs.List.{position_from}
 use Rattle.std.specs.Str.{bytes_eq}
