@@ -8,7 +8,7 @@ use std::alloc::{AllocError, Global};
 use std::collections::HashMap;
 use std::marker::Model;
 
-// Up to so many names a walk along them is as fast as the index.
+// A list of at most so many names has no index: a walk along them is short.
 const NARROW: usize = 16;
 
 // The names of a list, which never change, so that the index stays true.
