@@ -5,11 +5,11 @@
 # deepest trees that each pass returns from.
 set -eu
 cd "$(dirname "$0")"
-(cd ../crates/vx_c && rt lib >/dev/null)
+(cd ../crates/vx_bench && rt lib >/dev/null)
 mkdir -p out
 # The processor is the one that the library is built for.
 rustc --edition 2024 -C opt-level=3 -C target-cpu=x86-64-v2 src/main.rs -o out/compare \
-    -C link-arg="$PWD/../crates/vx_c/out/libvx_c.a"
+    -C link-arg="$PWD/../crates/vx_bench/out/libvx_bench.a"
 # A pass calls itself at each level of a tree, and the deepest has 32,770 levels: 4 GiB of stack.
 ulimit -s 4194304 2>/dev/null || ulimit -s "$(ulimit -H -s)"
 exec out/compare "$@"

@@ -4,7 +4,7 @@ use Rattle.std.specs.Prelude.{Option, IsOk, MatchBool, MatchResult, slice_get}
 use Rattle.std.specs.List.{list_all}
 use Rattle.vx_dtype.specs.declared.error.VortexError.{VortexError}
 use Rattle.vx_dtype.specs.declared.error.VortexError.TheVariants.{NotBool}
-use Rattle.vx_types.specs.Types.{LogicalType, is_nullable}
+use Rattle.vx_value.specs.Types.{LogicalType, is_nullable}
 use Rattle.vx_fn.specs.Functions.{Operation, binary, binary_type, logic_type, needs, is_truth, truth_type}
 use Rattle.vx_tree.specs.Trees.{BoundTree, node, node_type, on_ok}
 use Rattle.vx_tree.specs.Views.{bounds_from}

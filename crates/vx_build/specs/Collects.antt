@@ -4,7 +4,7 @@ use Rattle.std.specs.List.{list_all}
 use Rattle.vx_dtype.specs.declared.error.VortexError.{VortexError}
 use Rattle.vx_dtype.specs.declared.error.VortexError.TheVariants.{OutOfMemory, NotBool}
 use Rattle.vx_dtype.specs.Answers.{Answers}
-use Rattle.vx_types.specs.Types.{LogicalType}
+use Rattle.vx_value.specs.Types.{LogicalType}
 use Rattle.vx_fn.specs.Functions.{Operation, binary, is_truth}
 use Rattle.vx_tree.specs.declared.expression.Expression.{Expression}
 use Rattle.vx_tree.specs.declared.bound.BoundExpression.{BoundExpression}

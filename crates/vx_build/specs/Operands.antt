@@ -1,6 +1,6 @@
 -- The children of nodes that take any number of them.
 use Rattle.std.specs.Prelude.{List, [], ◌∷◌, ◌++◌, map, flat_map, Option, option_to_list}
-use Rattle.vx_types.specs.Types.{Name}
+use Rattle.vx_value.specs.Types.{Name}
 
 -- each condition and the value beside it
 abbrev pub pair_operands : {A : Type 0} → List (A × A) → List A

@@ -1,6 +1,6 @@
 // Constructors of the scope and of structs.
 ghost use Rattle.std.specs.Prelude.{◌≡◌, [], ◌∷◌};
-ghost use Rattle.vx_types.specs.Views.{admits_null};
+ghost use Rattle.vx_value.specs.Views.{admits_null};
 ghost use Rattle.vx_fn.specs.Functions.{get_item, pack, select};
 ghost use Rattle.vx_fn.specs.declared.options.FieldSelection.TheVariants.{Include, Exclude};
 ghost use Rattle.vx_tree.specs.Nodes.{is_root};

@@ -4,12 +4,12 @@ use Rattle.std.specs.Prelude.{if◌then◌else◌}
 use Rattle.std.specs.List.{list_any}
 use Rattle.std.proofs.Math.ListN.{replicate}
 use Rattle.std.proofs.lemmas.List.{drop_more, drop_all, append-nil, map-append, length-map, length-append}
-use Rattle.vx_types.specs.Columns.{Batch}
-use Rattle.vx_types.specs.Fits.{Fits, IsBatch}
-use Rattle.vx_types.specs.Types.{LogicalType, Datum, null}
-use Rattle.vx_mask.specs.Masks.{both, but}
-use Rattle.vx_merge.specs.Merges.{merged_at, EachMask, AreApart, claimed, unclaimed}
-use Rattle.vx_merge.proofs.Apart.{merged-snoc, claimed-snoc}
+use Rattle.vx_value.specs.Columns.{Batch}
+use Rattle.vx_value.specs.Fits.{Fits, IsBatch}
+use Rattle.vx_value.specs.Types.{LogicalType, Datum, null}
+use Rattle.vx_eval_mask.specs.Masks.{both, but}
+use Rattle.vx_eval_merge.specs.Merges.{merged_at, EachMask, AreApart, claimed, unclaimed}
+use Rattle.vx_eval_merge.proofs.Apart.{merged-snoc, claimed-snoc}
 use Rattle.vx_eval.specs.declared.rows.Rows.{Rows}
 use Rattle.vx_eval.specs.Choices.{EachBatch}
 use Rattle.vx_eval.specs.Columns.{rows_view, rows_views, each_row, AllLong}

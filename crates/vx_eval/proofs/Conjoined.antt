@@ -3,7 +3,7 @@ use Rattle.std.proofs.Common.{◌≡◌, ℕ, ◌+◌, ◌<◌, ◌≤◌, List,
 use Rattle.std.specs.Prelude.{if◌then◌else◌, ◌||◌}
 use Rattle.std.proofs.lemmas.List.{drop_more, drop_all, map-append, length-map, append-nil}
 use Rattle.std.proofs.lemmas.List.FromFn.{length-map-range_with_len, get_or-map-range_with_len}
-use Rattle.vx_types.specs.Types.{Datum, null, bool, is_null_datum}
+use Rattle.vx_value.specs.Types.{Datum, null, bool, is_null_datum}
 use Rattle.vx_fn.specs.Functions.{Operation, compares}
 use Rattle.vx_fn.specs.Values.{kleene_and, is_false, binary_value, agrees, order}
 use Rattle.vx_eval.specs.Columns.{each_row, row_at, truth_datum, truth_of}

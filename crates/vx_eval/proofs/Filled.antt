@@ -13,9 +13,9 @@ use Rattle.std.specs.declared.vec.Vec.{Vec}
 use Rattle.vx_dtype.specs.declared.error.VortexError.{VortexError}
 use Rattle.vx_dtype.specs.declared.error.VortexError.TheVariants.{OutOfMemory}
 use Rattle.vx_dtype.specs.Answers.{Answers}
-use Rattle.vx_types.specs.declared.value.Value.{Value}
-use Rattle.vx_types.specs.Types.{LogicalType, Datum, null}
-use Rattle.vx_types.specs.Views.{value_of}
+use Rattle.vx_value.specs.declared.value.Value.{Value}
+use Rattle.vx_value.specs.Types.{LogicalType, Datum, null}
+use Rattle.vx_value.specs.Views.{value_of}
 use Rattle.vx_fn.specs.Functions.{Function, Operation, compares, binary}
 use Rattle.vx_fn.specs.Values.{fn_value, binary_value}
 use Rattle.vx_fn.specs.Faults.{node_fault}

@@ -6,8 +6,8 @@ use Rattle.std.proofs.Math.ListN.{replicate}
 use Rattle.std.specs.List.{list_any, range_with_len}
 use Rattle.std.specs.Option.{option_map}
 use Rattle.vx_dtype.specs.declared.error.VortexError.TheVariants.{AddOverflow, BadFill}
-use Rattle.vx_types.specs.Fits.{fits}
-use Rattle.vx_types.specs.Types.{LogicalType, ty, atomic, number, Datum, null, int, is_null_datum}
+use Rattle.vx_value.specs.Fits.{fits}
+use Rattle.vx_value.specs.Types.{LogicalType, ty, atomic, number, Datum, null, int, is_null_datum}
 use Rattle.vx_fn.specs.Faults.{node_fault, is_outside, overflows, misfits, fill_of, is_bad_fill, some_differ, differs, when}
 use Rattle.vx_fn.specs.Functions.{binary, adds, fill_null}
 use Rattle.vx_fn.specs.Values.{sum_of}

@@ -2,10 +2,10 @@
 use Rattle.std.proofs.Common.{◌≡◌, List, [], ◌∷◌, map, refl, subst, Option, Some, None, Result, Ok, Err, IfOk, inl, inr}
 use Rattle.vx_dtype.specs.declared.error.VortexError.{VortexError}
 use Rattle.vx_dtype.specs.Answers.{Answers}
-use Rattle.vx_types.specs.Columns.{first_misfit}
-use Rattle.vx_types.specs.Fits.{Fits, IsBatch}
-use Rattle.vx_types.specs.Types.{LogicalType, Datum}
-use Rattle.vx_types.proofs.Misfits.{no_misfit}
+use Rattle.vx_value.specs.Columns.{first_misfit}
+use Rattle.vx_value.specs.Fits.{Fits, IsBatch}
+use Rattle.vx_value.specs.Types.{LogicalType, Datum}
+use Rattle.vx_value.proofs.Misfits.{no_misfit}
 use Rattle.vx_fn.specs.Faults.{IsIn}
 use Rattle.vx_tree.specs.Faults.{first_fault}
 use Rattle.vx_tree.specs.Meaning.{value}

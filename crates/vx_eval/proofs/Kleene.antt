@@ -1,6 +1,6 @@
 -- Kleene's tables over truth values, of which null and all that is none are the third.
 use Rattle.std.proofs.Common.{◌≡◌, Option, Bool, refl, ◌∙◌}
-use Rattle.vx_types.specs.Types.{Datum, bool}
+use Rattle.vx_value.specs.Types.{Datum, bool}
 use Rattle.vx_fn.specs.Values.{kleene_and, kleene_or, kleene_not, is_true, is_false}
 use Rattle.vx_eval.specs.Columns.{truth_datum, truth_of}
 

@@ -2,9 +2,9 @@
 use Rattle.std.proofs.Common.{◌≡◌, ℕ, ◌<◌, List, get_or, refl, sym, ap, ◌∙◌, Some, None, Result, Ok, Bool}
 use Rattle.std.proofs.Math.ListN.{replicate}
 use Rattle.vx_dtype.specs.declared.error.VortexError.{VortexError}
-use Rattle.vx_types.specs.Types.{Datum, null, utf8}
+use Rattle.vx_value.specs.Types.{Datum, null, utf8}
 use Rattle.vx_fn.specs.Values.{liked}
-use Rattle.vx_like.specs.Patterns.{Compiled, compiled}
+use Rattle.vx_eval_like.specs.Patterns.{Compiled, compiled}
 use Rattle.vx_eval.specs.Kernels.{text_of, accepted}
 use Rattle.vx_eval.proofs.Filled.{repeated_at}
 

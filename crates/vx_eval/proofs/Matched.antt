@@ -4,9 +4,9 @@ use Rattle.std.specs.Prelude.{if◌then◌else◌, MatchOption, option_map}
 use Rattle.std.specs.List.{range_with_len, list_all}
 use Rattle.std.proofs.lemmas.Bool.{and_parts}
 use Rattle.vx_dtype.specs.declared.error.VortexError.{VortexError}
-use Rattle.vx_types.specs.Columns.{Batch, batch}
-use Rattle.vx_types.specs.Fits.{fits, Fits, IsBatch}
-use Rattle.vx_types.specs.Types.{LogicalType, ty, Datum, null, is_nullable}
+use Rattle.vx_value.specs.Columns.{Batch, batch}
+use Rattle.vx_value.specs.Fits.{fits, Fits, IsBatch}
+use Rattle.vx_value.specs.Types.{LogicalType, ty, Datum, null, is_nullable}
 use Rattle.vx_fn.specs.Values.{is_true, first_true}
 use Rattle.vx_eval.specs.Choices.{rows_in, height, EachBatch, matched_at, in_turn}
 use Rattle.vx_eval.specs.Columns.{row_at, each_row, AllLong}

@@ -1,8 +1,8 @@
 -- A column of a tree's values has the meaning of its source in its rows.
 use Rattle.std.proofs.Common.{◌≡◌, List, [], ◌∷◌, map, refl, Option, Some, None, Result, Ok}
 use Rattle.vx_dtype.specs.declared.error.VortexError.{VortexError}
-use Rattle.vx_types.specs.Columns.{Batch, batch}
-use Rattle.vx_types.specs.Types.{LogicalType, Datum}
+use Rattle.vx_value.specs.Columns.{Batch, batch}
+use Rattle.vx_value.specs.Types.{LogicalType, Datum}
 use Rattle.vx_tree.specs.Faults.{first_fault}
 use Rattle.vx_tree.specs.Meaning.{mean, value}
 use Rattle.vx_tree.specs.Trees.{BoundTree, WellTyped, Over, node_type, unbound}

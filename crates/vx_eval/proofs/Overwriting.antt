@@ -4,9 +4,9 @@ use Rattle.std.proofs.Math.ListN.{set}
 use Rattle.std.proofs.lemmas.List.{ext_get_or, map-set, length-map, get_or-map}
 use Rattle.std.proofs.lemmas.List.FromFn.{length-map-range_with_len, get_or-map-range_with_len}
 use Rattle.std.proofs.lemmas.Grind.{common_steps}
-use Rattle.vx_types.specs.Types.{Datum, null}
-use Rattle.vx_types.specs.declared.value.Value.{Value}
-use Rattle.vx_types.specs.Views.{value_of}
+use Rattle.vx_value.specs.Types.{Datum, null}
+use Rattle.vx_value.specs.declared.value.Value.{Value}
+use Rattle.vx_value.specs.Views.{value_of}
 use Rattle.vx_eval.specs.Columns.{values_of, each_row}
 
 -- the first i rows of xs are written over by g in ys

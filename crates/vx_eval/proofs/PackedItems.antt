@@ -8,9 +8,9 @@ use Rattle.std.proofs.lemmas.Bool.Decides.{nat_tests}
 use Rattle.vx_dtype.specs.declared.error.VortexError.{VortexError}
 use Rattle.vx_dtype.specs.declared.error.VortexError.TheVariants.{ArityMismatch}
 use Rattle.vx_dtype.specs.declared.dtype.DType.{DType}
-use Rattle.vx_types.specs.Fields.{field_value, fields_named, data_of}
-use Rattle.vx_types.specs.Types.{Name, LogicalType, ty, struct, Datum, null, struct_of}
-use Rattle.vx_types.specs.Views.{type_of}
+use Rattle.vx_value.specs.Fields.{field_value, fields_named, data_of}
+use Rattle.vx_value.specs.Types.{Name, LogicalType, ty, struct, Datum, null, struct_of}
+use Rattle.vx_value.specs.Views.{type_of}
 use Rattle.vx_fn.specs.declared.function.ScalarFnRef.{ScalarFnRef}
 use Rattle.vx_fn.specs.declared.function.ScalarFnRef.TheVariants.{GetItem}
 use Rattle.vx_fn.specs.Functions.{Function, get_item, pack, fn_type, pack_type}

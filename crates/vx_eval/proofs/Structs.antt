@@ -6,10 +6,10 @@ use Rattle.std.proofs.lemmas.List.{take_more, map-append}
 use Rattle.std.proofs.Common.{inl, inr}
 use Rattle.std.specs.Str.{bytes_eq}
 use Rattle.std.proofs.lemmas.List.Quantifiers.{position-Some}
-use Rattle.vx_types.specs.declared.value.Value.{Value, Struct, Null, the_lemmas}
-use Rattle.vx_types.specs.Fields.{field_value, field_type, field_names, field_count, first_unknown, project, project_values, data_of}
-use Rattle.vx_types.specs.Types.{Name, LogicalType, Datum, null, struct_of, Data, no_datum, datum, Fields, no_field, field, ty, struct}
-use Rattle.vx_types.specs.Views.{value_of, type_of, fields_of, admits_null}
+use Rattle.vx_value.specs.declared.value.Value.{Value, Struct, Null, the_lemmas}
+use Rattle.vx_value.specs.Fields.{field_value, field_type, field_names, field_count, first_unknown, project, project_values, data_of}
+use Rattle.vx_value.specs.Types.{Name, LogicalType, Datum, null, struct_of, Data, no_datum, datum, Fields, no_field, field, ty, struct}
+use Rattle.vx_value.specs.Views.{value_of, type_of, fields_of, admits_null}
 use Rattle.vx_dtype.specs.declared.dtype.DType.{DType, the_lemmas as the_types}
 use Rattle.vx_dtype.specs.declared.dtype.DType as program
 use Rattle.vx_dtype.specs.declared.dtype.StructFields.{StructFields}

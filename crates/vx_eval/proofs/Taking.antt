@@ -2,9 +2,9 @@
 use Rattle.std.proofs.Common.{◌≡◌, ◌≢◌, ℕ, ◌<◌, ◌≤◌, List, [], ◌∷◌, map, length, get_or, take, refl, sym, ap, ◌∙◌, arith, zero, suc, get_or-set_other}
 use Rattle.std.proofs.Math.ListN.{set}
 use Rattle.std.proofs.lemmas.List.{map-set}
-use Rattle.vx_types.specs.Types.{Datum, null}
+use Rattle.vx_value.specs.Types.{Datum, null}
 use Rattle.vx_eval.specs.declared.rows.Rows.{Rows}
-use Rattle.vx_types.specs.declared.value.Value.{Value}
+use Rattle.vx_value.specs.declared.value.Value.{Value}
 use Rattle.vx_eval.specs.Columns.{values_of, rows_view, rows_views, row_at, AllLong, HaveRow}
 
 -- where one value is replaced, the others stay

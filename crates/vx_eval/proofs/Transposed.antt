@@ -7,10 +7,10 @@ use Rattle.std.specs.declared.alloc.Global.{Global}
 use Rattle.std.specs.declared.rc.Rc.{Rc}
 use Rattle.vx_dtype.specs.declared.dtype.DType.{DType}
 use Rattle.vx_dtype.specs.declared.error.VortexError.{VortexError}
-use Rattle.vx_types.specs.declared.value.Value.{Value}
+use Rattle.vx_value.specs.declared.value.Value.{Value}
 use Rattle.vx_dtype.specs.Answers.{Answers}
-use Rattle.vx_types.specs.Types.{Name, LogicalType, Datum, null}
-use Rattle.vx_types.specs.Views.{type_of, value_of}
+use Rattle.vx_value.specs.Types.{Name, LogicalType, Datum, null}
+use Rattle.vx_value.specs.Views.{type_of, value_of}
 use Rattle.vx_fn.specs.declared.function.ScalarFnRef.{ScalarFnRef}
 use Rattle.vx_fn.specs.Functions.{Function, Operation, Typing, literal, get_item, select, binary, adds, is_number, needs, fn_type}
 use Rattle.vx_dtype.specs.declared.error.VortexError.TheVariants.{NotNumeric}

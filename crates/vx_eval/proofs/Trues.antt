@@ -1,7 +1,7 @@
 -- The rows of a column that are true.
 use Rattle.std.proofs.Common.{◌≡◌, ℕ, ◌+◌, ◌<◌, ◌≤◌, List, [], ◌∷◌, ◌++◌, map, length, get_or, drop, sym, ap, ◌∙◌, append_assoc, Bool}
 use Rattle.std.proofs.lemmas.List.{drop_more, drop_all, append-nil}
-use Rattle.vx_types.specs.Types.{Datum, null}
+use Rattle.vx_value.specs.Types.{Datum, null}
 use Rattle.vx_fn.specs.Values.{is_true}
 
 pub true_pushed : (ds : List Datum) (bits new : List Bool) (i : ℕ) (b : Bool) → bits ++ map is_true (drop i ds) ≡ map is_true ds → i < length ds → b ≡ is_true (get_or ds i null) → new ≡ bits ++ b ∷ [] → new ++ map is_true (drop (i + 1) ds) ≡ map is_true ds

@@ -1,10 +1,10 @@
 -- Choices between columns.
 use Rattle.std.specs.Prelude.{◌≡◌, ℕ, ◌≤◌, List, [], ◌∷◌, map, length, get_or, Bool, Option, Some, None}
-use Rattle.vx_types.specs.Columns.{Batch}
-use Rattle.vx_types.specs.Fits.{IsBatch}
-use Rattle.vx_types.specs.Types.{LogicalType, Datum, null}
+use Rattle.vx_value.specs.Columns.{Batch}
+use Rattle.vx_value.specs.Fits.{IsBatch}
+use Rattle.vx_value.specs.Types.{LogicalType, Datum, null}
 use Rattle.vx_fn.specs.Values.{is_true}
-pub use Rattle.vx_merge.specs.Merges.{first_match}
+pub use Rattle.vx_eval_merge.specs.Merges.{first_match}
 use Rattle.vx_eval.specs.Columns.{row_at}
 
 -- the rows of each column

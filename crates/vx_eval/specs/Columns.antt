@@ -3,12 +3,12 @@ use Rattle.std.specs.Prelude.{ℕ, List, map, Option, Some, None, Result, Ok, Er
 use Rattle.std.proofs.Math.ListN.{replicate}
 use Rattle.vx_dtype.specs.declared.error.VortexError.{VortexError}
 use Rattle.vx_dtype.specs.Answers.{Answers}
-use Rattle.vx_types.specs.Types.{LogicalType, Datum, bool}
-use Rattle.vx_types.specs.Views.{value_of}
+use Rattle.vx_value.specs.Types.{LogicalType, Datum, bool}
+use Rattle.vx_value.specs.Views.{value_of}
 use Rattle.vx_fn.specs.Functions.{Function}
 use Rattle.vx_fn.specs.Values.{fn_value}
 use Rattle.vx_fn.specs.Faults.{node_fault}
-pub use Rattle.vx_merge.specs.Merges.{values_of, each_row, row_at}
+pub use Rattle.vx_eval_merge.specs.Merges.{values_of, each_row, row_at}
 pub use Rattle.vx_eval.specs.Items.{datum_at, item_at, truth_datum, AllLong, HaveRow}
 use Rattle.vx_eval.specs.declared.rows.Rows.{Rows}
 use Rattle.vx_eval.specs.declared.rows.Rows.TheVariants.{Lent, Item, Owned, Same, Truths, Compared}

@@ -1,10 +1,10 @@
 -- Columns beside masks, merged.
 use Rattle.std.specs.Prelude.{◌≡◌, ◌<◌, ℕ, List, map, length, get_or, Bool, true, false, ◌||◌}
 use Rattle.std.specs.List.{list_any}
-use Rattle.vx_types.specs.Columns.{Batch}
-use Rattle.vx_types.specs.Types.{Datum, null}
-use Rattle.vx_merge.specs.Merges.{merged_at}
-pub use Rattle.vx_merge.specs.Choices.{masks_in}
+use Rattle.vx_value.specs.Columns.{Batch}
+use Rattle.vx_value.specs.Types.{Datum, null}
+use Rattle.vx_eval_merge.specs.Merges.{merged_at}
+pub use Rattle.vx_eval_merge.specs.Choices.{masks_in}
 
 -- the rows of the columns beside the masks
 abbrev pub columns_in : List (List Bool × Batch) → List (List Datum)

@@ -1,15 +1,15 @@
 -- What the kernels of single functions are told.
 use Rattle.std.specs.Prelude.{◌≡◌, ℕ, ◌<◌, ℤ, List, [], ◌∷◌, map, Option, Some, None, Result, Ok, Bool, false, not, ◌&&◌}
 use Rattle.std.specs.Int.Signed.{le_z}
-use Rattle.vx_types.specs.declared.value.Value.{Value}
-use Rattle.vx_types.specs.Fields.{data_of}
-use Rattle.vx_types.specs.Types.{LogicalType, Datum, null, bool, int, utf8, struct_of}
-use Rattle.vx_types.specs.Views.{value_of}
+use Rattle.vx_value.specs.declared.value.Value.{Value}
+use Rattle.vx_value.specs.Fields.{data_of}
+use Rattle.vx_value.specs.Types.{LogicalType, Datum, null, bool, int, utf8, struct_of}
+use Rattle.vx_value.specs.Views.{value_of}
 use Rattle.std.specs.declared.cmp.Ordering.{Ordering}
 use Rattle.vx_fn.specs.Functions.{Operation, compares}
 use Rattle.vx_fn.specs.Faults.{is_outside}
 use Rattle.vx_fn.specs.Values.{agrees, flipped}
-use Rattle.vx_like.specs.Patterns.{Compiled, accepts}
+use Rattle.vx_eval_like.specs.Patterns.{Compiled, accepts}
 use Rattle.vx_eval.specs.Columns.{truth_datum, datum_at}
 pub use Rattle.vx_eval.specs.Items.{is_comparison}
 

@@ -2,7 +2,7 @@
 use Rattle.std.specs.Prelude.{◌≡◌, ◌<◌, ⊤, ℕ, List, [], length, get_or, Option, None, Result, Ok, Err, position}
 use Rattle.std.specs.Str.{bytes_eq}
 use Rattle.vx_dtype.specs.declared.error.VortexError.{VortexError}
-use Rattle.vx_types.specs.Types.{Name, LogicalType, Datum}
+use Rattle.vx_value.specs.Types.{Name, LogicalType, Datum}
 use Rattle.vx_fn.specs.Functions.{Function, get_item, pack}
 use Rattle.vx_tree.specs.Trees.{BoundTree, scope, node, BoundTrees, no_bound, bound, node_types}
 use Rattle.vx_eval.specs.Evaluation.{tree_answer, each_answer}

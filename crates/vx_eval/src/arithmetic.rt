@@ -1,8 +1,8 @@
 // Sums.
 ghost use Rattle.std.specs.Prelude.{◌≡◌, ℤ, false, true, length, List, [], ◌∷◌, IsTrue, MatchOption};
-ghost use Rattle.vx_types.specs.Fits.{fits_ptype};
-ghost use Rattle.vx_types.specs.Types.{LogicalType, int};
-ghost use Rattle.vx_types.specs.Views.{type_of, value_of};
+ghost use Rattle.vx_value.specs.Fits.{fits_ptype};
+ghost use Rattle.vx_value.specs.Types.{LogicalType, int};
+ghost use Rattle.vx_value.specs.Views.{type_of, value_of};
 ghost use Rattle.vx_fn.specs.Faults.{is_outside};
 ghost use Rattle.vx_fn.specs.Functions.{binary, adds, is_number};
 ghost use Rattle.vx_fn.specs.Values.{sum_of};

@@ -1,7 +1,7 @@
 // Casts.
 ghost use Rattle.std.specs.Prelude.{◌≡◌, length, position, List, [], ◌∷◌};
-ghost use Rattle.vx_types.specs.Types.{LogicalType};
-ghost use Rattle.vx_types.specs.Views.{type_of};
+ghost use Rattle.vx_value.specs.Types.{LogicalType};
+ghost use Rattle.vx_value.specs.Views.{type_of};
 ghost use Rattle.vx_fn.specs.Faults.{misfits};
 ghost use Rattle.vx_fn.specs.Functions as functions;
 ghost use Rattle.vx_eval.specs.Columns.{rows_view, rows_of, Evaluates};

@@ -1,20 +1,20 @@
 // Choices between columns: the value beside the first condition that is true, by masks.
 ghost use Rattle.std.specs.Prelude.{◌≡◌, ⊤, ℕ, Bool, true, IfOk, IfErr, MatchOption, option_map, length, map, List, [], ◌∷◌};
 ghost use Rattle.std.proofs.Math.ListN.{replicate};
-ghost use Rattle.vx_types.specs.Types.{LogicalType};
+ghost use Rattle.vx_value.specs.Types.{LogicalType};
 ghost use Rattle.vx_dtype.specs.declared.error.VortexError.TheVariants.{OutOfMemory};
 ghost use Rattle.vx_fn.specs.Functions as functions;
 ghost use Rattle.vx_fn.specs.Values as values;
-ghost use Rattle.vx_mask.specs.Masks.{both, but};
-ghost use Rattle.vx_merge.specs.Merges.{claimed, unclaimed};
+ghost use Rattle.vx_eval_mask.specs.Masks.{both, but};
+ghost use Rattle.vx_eval_merge.specs.Merges.{claimed, unclaimed};
 ghost use Rattle.vx_eval.specs.Columns.{rows_view, rows_views, row_at, each_row, AllLong, Evaluates};
 ghost use Rattle.vx_eval.specs.Choices.{conditions_in, values_in, alone, truths};
 
 use crate::merging::{merged, written};
 use crate::rows::Rows;
 use std::alloc::{AllocError, Global};
-use vx_mask::RowMask;
-use vx_merge::preferred;
+use vx_eval_mask::RowMask;
+use vx_eval_merge::preferred;
 use vx_types::VortexResult;
 
 /// A CASE over its conditions and values in turn, with ELSE last. Refuses with `OutOfMemory` (1)

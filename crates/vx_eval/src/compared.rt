@@ -1,9 +1,9 @@
 // Comparisons of a lent field with one value, told row by row where they are asked for.
 ghost use Rattle.std.specs.Prelude.{◌≡◌, ◌<◌, IsTrue, length, get_or};
-ghost use Rattle.vx_types.specs.Types.{null};
-ghost use Rattle.vx_types.specs.Views.{value_of};
+ghost use Rattle.vx_value.specs.Types.{null};
+ghost use Rattle.vx_value.specs.Views.{value_of};
 ghost use Rattle.vx_fn.specs.Views.{operation_of};
-ghost use Rattle.vx_merge.specs.Merges.{values_of};
+ghost use Rattle.vx_eval_merge.specs.Merges.{values_of};
 ghost use Rattle.vx_eval.specs.Items.{compared_items, is_comparison, truth_datum};
 
 use crate::comparison::compared;
@@ -24,11 +24,11 @@ pub struct ComparedItem<'a> {
 impl<'a> Model for ComparedItem<'a> {
     ghost use Rattle.std.specs.Prelude.{List, IsTrue};
     ghost use Rattle.std.specs.Coded.{coded_list};
-    ghost use Rattle.vx_types.specs.Codes.{datum_code};
-    ghost use Rattle.vx_types.specs.Types.{Datum};
-    ghost use Rattle.vx_types.specs.Views.{value_of};
+    ghost use Rattle.vx_value.specs.Codes.{datum_code};
+    ghost use Rattle.vx_value.specs.Types.{Datum};
+    ghost use Rattle.vx_value.specs.Views.{value_of};
     ghost use Rattle.vx_fn.specs.Views.{operation_of};
-    ghost use Rattle.vx_merge.specs.Merges.{values_of};
+    ghost use Rattle.vx_eval_merge.specs.Merges.{values_of};
     ghost use Rattle.vx_eval.specs.Items.{compared_items, is_comparison};
 
     ghost Value = { List Datum };

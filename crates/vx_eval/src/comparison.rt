@@ -2,8 +2,8 @@
 ghost use Rattle.std.specs.Prelude.{◌≡◌, length, List, [], ◌∷◌, IsTrue};
 ghost use Rattle.std.specs.Ordering.{int_cmp};
 ghost use Rattle.std.proofs.Math.ListN.{replicate};
-ghost use Rattle.vx_types.specs.Types.{LogicalType};
-ghost use Rattle.vx_types.specs.Views.{value_of};
+ghost use Rattle.vx_value.specs.Types.{LogicalType};
+ghost use Rattle.vx_value.specs.Views.{value_of};
 ghost use Rattle.vx_fn.specs.Functions.{binary, compares};
 ghost use Rattle.vx_fn.specs.Functions as functions;
 ghost use Rattle.vx_fn.specs.Values.{binary_value, below_or, kleene_and, compared};

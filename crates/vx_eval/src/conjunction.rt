@@ -1,9 +1,9 @@
 // Comparisons joined by And, told row by row where they are asked for.
 ghost use Rattle.std.specs.Prelude.{◌≡◌, ◌<◌, IfOk, length, get_or, ◌∷◌, []};
-ghost use Rattle.vx_types.specs.Types.{null};
-ghost use Rattle.vx_types.specs.Views.{value_of};
+ghost use Rattle.vx_value.specs.Types.{null};
+ghost use Rattle.vx_value.specs.Views.{value_of};
 ghost use Rattle.vx_fn.specs.Values as values;
-ghost use Rattle.vx_merge.specs.Merges.{each_row, row_at};
+ghost use Rattle.vx_eval_merge.specs.Merges.{each_row, row_at};
 ghost use Rattle.vx_eval.specs.Items.{all_of, conjoined, truth_datum, HaveRow};
 
 use crate::compared::ComparedItem;
@@ -25,8 +25,8 @@ pub struct Conjunction<'a> {
 impl<'a> Model for Conjunction<'a> {
     ghost use Rattle.std.specs.Prelude.{List};
     ghost use Rattle.std.specs.Coded.{coded_list};
-    ghost use Rattle.vx_types.specs.Codes.{datum_code};
-    ghost use Rattle.vx_types.specs.Types.{Datum};
+    ghost use Rattle.vx_value.specs.Codes.{datum_code};
+    ghost use Rattle.vx_value.specs.Types.{Datum};
     ghost use Rattle.vx_eval.specs.Items.{conjoined, AllLong};
 
     ghost Value = { List Datum };

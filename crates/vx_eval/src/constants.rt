@@ -1,7 +1,7 @@
 // Null and the truth values, to be lent.
 ghost use Rattle.std.specs.Prelude.{◌≡◌};
-ghost use Rattle.vx_types.specs.Types.{null};
-ghost use Rattle.vx_types.specs.Views.{value_of};
+ghost use Rattle.vx_value.specs.Types.{null};
+ghost use Rattle.vx_value.specs.Views.{value_of};
 ghost use Rattle.vx_eval.specs.Columns.{truth_datum};
 
 use std::marker::Model;
@@ -17,8 +17,8 @@ pub struct Constants {
 
 impl Model for Constants {
     ghost use Rattle.std.specs.Prelude.{◌≡◌, ⊤, false, true};
-    ghost use Rattle.vx_types.specs.Types.{null, bool};
-    ghost use Rattle.vx_types.specs.Views.{value_of};
+    ghost use Rattle.vx_value.specs.Types.{null, bool};
+    ghost use Rattle.vx_value.specs.Views.{value_of};
 
     ghost Value = { ⊤ };
 

@@ -1,9 +1,9 @@
 // Structs: their fields, and structs of columns.
 ghost use Rattle.std.specs.Prelude.{◌≡◌, ◌≢◌, ◌<◌, ℕ, Bool, true, is_some, length, get_or, map, List, [], ◌∷◌, IsOk, IfOk, IfErr, Ok, None};
 ghost use Rattle.vx_dtype.specs.Answers.{Answers};
-ghost use Rattle.vx_types.specs.Fields.{data_of, field_type, field_value, first_unknown, project_values};
-ghost use Rattle.vx_types.specs.Types.{Name, LogicalType, Datum, Data, null, struct_of};
-ghost use Rattle.vx_types.specs.Views.{type_of, fields_of, value_of};
+ghost use Rattle.vx_value.specs.Fields.{data_of, field_type, field_value, first_unknown, project_values};
+ghost use Rattle.vx_value.specs.Types.{Name, LogicalType, Datum, Data, null, struct_of};
+ghost use Rattle.vx_value.specs.Views.{type_of, fields_of, value_of};
 ghost use Rattle.vx_dtype.specs.declared.error.VortexError.TheVariants.{OutOfMemory};
 ghost use Rattle.vx_fn.specs.Functions.{item_type, select_type, selection_names, included};
 ghost use Rattle.vx_fn.specs.Functions as functions;

@@ -1,6 +1,6 @@
 // Columns that are filled row by row.
 ghost use Rattle.std.specs.Prelude.{◌≡◌, ◌<◌, ℕ, IfOk, IfErr, length, get_or, Ok};
-ghost use Rattle.vx_types.specs.Types.{Datum, null};
+ghost use Rattle.vx_value.specs.Types.{Datum, null};
 ghost use Rattle.vx_dtype.specs.declared.error.VortexError.TheVariants.{OutOfMemory};
 ghost use Rattle.vx_eval.specs.Columns.{values_of, rows_view, each_row};
 ghost use Rattle.vx_eval.specs.Kernels.{AnswersRows, MakesRows};

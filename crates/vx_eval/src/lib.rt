@@ -26,5 +26,5 @@ mod truths;
 pub use evaluation::apply_bound;
 pub use matching::first_match;
 pub use merges::{merge_compact, merge_runs};
-pub use vx_mask::RowMask;
-pub use vx_merge::prefer_runs;
+pub use vx_eval_mask::RowMask;
+pub use vx_eval_merge::prefer_runs;

@@ -1,6 +1,6 @@
 // Truth values and null, by Kleene's tables.
 ghost use Rattle.std.specs.Prelude.{◌≡◌, length, List, [], ◌∷◌};
-ghost use Rattle.vx_types.specs.Types.{LogicalType};
+ghost use Rattle.vx_value.specs.Types.{LogicalType};
 ghost use Rattle.vx_fn.specs.Functions.{binary, and_also, or_else, negation};
 ghost use Rattle.vx_fn.specs.Values as values;
 ghost use Rattle.vx_eval.specs.Columns.{rows_view, truth_datum, Evaluates};

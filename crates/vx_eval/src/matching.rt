@@ -1,10 +1,10 @@
 // The value beside the first condition that is true, over columns.
 ghost use Rattle.std.specs.Prelude.{◌≡◌, ◌<◌, length, option_map, IsTrue, MatchOption, Ok};
 ghost use Rattle.vx_dtype.specs.Answers.{Answers};
-ghost use Rattle.vx_types.specs.Columns.{batch};
-ghost use Rattle.vx_types.specs.Fits.{IsBatch};
-ghost use Rattle.vx_types.specs.Types.{is_nullable};
-ghost use Rattle.vx_types.specs.Views.{type_of};
+ghost use Rattle.vx_value.specs.Columns.{batch};
+ghost use Rattle.vx_value.specs.Fits.{IsBatch};
+ghost use Rattle.vx_value.specs.Types.{is_nullable};
+ghost use Rattle.vx_value.specs.Views.{type_of};
 ghost use Rattle.vx_eval.specs.Choices.{rows_in, height, EachBatch, matched_at, in_turn};
 ghost use Rattle.vx_eval.specs.Columns.{rows_views, each_row, AllLong};
 

@@ -2,11 +2,11 @@
 ghost use Rattle.std.specs.Prelude.{◌≡◌, Ok, IfOk, length, map, true, ◌++◌, ◌∷◌, []};
 ghost use Rattle.std.proofs.Math.ListN.{replicate};
 ghost use Rattle.vx_dtype.specs.Answers.{Answers};
-ghost use Rattle.vx_types.specs.Columns.{batch};
-ghost use Rattle.vx_types.specs.Fits.{IsBatch};
-ghost use Rattle.vx_types.specs.Views.{type_of};
-ghost use Rattle.vx_mask.specs.Masks.{both, but};
-ghost use Rattle.vx_merge.specs.Merges.{EachMask, claimed};
+ghost use Rattle.vx_value.specs.Columns.{batch};
+ghost use Rattle.vx_value.specs.Fits.{IsBatch};
+ghost use Rattle.vx_value.specs.Views.{type_of};
+ghost use Rattle.vx_eval_mask.specs.Masks.{both, but};
+ghost use Rattle.vx_eval_merge.specs.Merges.{EachMask, claimed};
 ghost use Rattle.vx_eval.specs.Choices.{EachBatch};
 ghost use Rattle.vx_eval.specs.Columns.{rows_views, each_row, AllLong};
 ghost use Rattle.vx_eval.specs.FirstMerged.{masks_in, columns_in, InSomeMask, first_merged};
@@ -14,8 +14,8 @@ ghost use Rattle.vx_eval.specs.FirstMerged.{masks_in, columns_in, InSomeMask, fi
 use crate::merging::merged;
 use crate::rows::Rows;
 use std::alloc::{AllocError, Global};
-use vx_mask::RowMask;
-use vx_merge::Merging;
+use vx_eval_mask::RowMask;
+use vx_eval_merge::Merging;
 use vx_types::{Column, DType, VortexResult};
 
 /// At each row the value of the first column whose mask is true there, as a column of the type and

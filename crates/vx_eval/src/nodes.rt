@@ -1,7 +1,7 @@
 // The function of a node over its children's columns.
 ghost use Rattle.std.specs.Prelude.{◌≡◌, ◌<◌, length, List, [], ◌∷◌, IsOk, IsTrue};
-ghost use Rattle.vx_types.specs.Types.{LogicalType};
-ghost use Rattle.vx_types.specs.Views.{type_of};
+ghost use Rattle.vx_value.specs.Types.{LogicalType};
+ghost use Rattle.vx_value.specs.Views.{type_of};
 ghost use Rattle.vx_fn.specs.Functions.{fn_type, adds, is_number};
 ghost use Rattle.vx_fn.specs.Functions as functions;
 ghost use Rattle.vx_fn.specs.Views.{function_of, operation_of};

@@ -1,8 +1,8 @@
 // Null: tests for it, and what makes it or puts a value in its place.
 ghost use Rattle.std.specs.Prelude.{◌≡◌, ◌||◌, not, length, IfOk, List, [], ◌∷◌, if◌then◌else◌};
 ghost use Rattle.std.specs.List.{list_any};
-ghost use Rattle.vx_types.specs.Types.{LogicalType, bool, is_null_datum};
-ghost use Rattle.vx_types.specs.Views.{type_of, value_of};
+ghost use Rattle.vx_value.specs.Types.{LogicalType, bool, is_null_datum};
+ghost use Rattle.vx_value.specs.Views.{type_of, value_of};
 ghost use Rattle.vx_fn.specs.Faults.{is_bad_fill, some_differ};
 ghost use Rattle.vx_fn.specs.Functions as functions;
 ghost use Rattle.vx_eval.specs.Columns.{rows_view, truth_datum, Evaluates};

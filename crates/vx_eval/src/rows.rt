@@ -1,11 +1,11 @@
 // The values of a column while it is worked on.
 ghost use Rattle.std.specs.Prelude.{◌≡◌, ◌≢◌, ◌<◌, ℕ, IfOk, true, false, length, get_or, map, Ok};
 ghost use Rattle.vx_dtype.specs.Answers.{Answers};
-ghost use Rattle.vx_types.specs.Types.{Datum, null};
-ghost use Rattle.vx_types.specs.Views.{value_of};
+ghost use Rattle.vx_value.specs.Types.{Datum, null};
+ghost use Rattle.vx_value.specs.Views.{value_of};
 ghost use Rattle.vx_fn.specs.Values as values;
-ghost use Rattle.vx_mask.specs.Masks.{IsRunFrom};
-ghost use Rattle.vx_merge.specs.Merges.{HoldsIn, StaysFrom, IsWritten};
+ghost use Rattle.vx_eval_mask.specs.Masks.{IsRunFrom};
+ghost use Rattle.vx_eval_merge.specs.Merges.{HoldsIn, StaysFrom, IsWritten};
 ghost use Rattle.vx_eval.specs.Columns.{each_row, values_of, rows_view, rows_views, row_at, truth_of, HaveRow};
 
 use crate::conjunction::Conjunction;
@@ -15,8 +15,8 @@ use crate::filling::collected;
 use crate::truths::{truth_at, truth_of, truth_value};
 use std::alloc::{AllocError, Global};
 use std::rc::Rc;
-use vx_mask::RowMask;
-use vx_merge::{
+use vx_eval_mask::RowMask;
+use vx_eval_merge::{
     Merging, push_moved, push_repeated, push_with, write_moved, write_repeated, write_with,
 };
 use vx_types::{Value, VortexResult};

@@ -2,8 +2,8 @@
 ghost use Rattle.std.specs.Prelude.{◌≡◌, length, option_map, List, [], ◌∷◌, Ok};
 ghost use Rattle.std.proofs.Math.ListN.{replicate};
 ghost use Rattle.vx_dtype.specs.Answers.{Answers};
-ghost use Rattle.vx_types.specs.Types.{LogicalType};
-ghost use Rattle.vx_types.specs.Views.{value_of};
+ghost use Rattle.vx_value.specs.Types.{LogicalType};
+ghost use Rattle.vx_value.specs.Views.{value_of};
 ghost use Rattle.vx_fn.specs.Functions as functions;
 ghost use Rattle.vx_fn.specs.Values as values;
 ghost use Rattle.vx_eval.specs.Columns.{rows_view, truth_datum, Evaluates};
@@ -13,8 +13,8 @@ use crate::constants::Constants;
 use crate::rows::Rows;
 use crate::truths::told;
 use std::alloc::Global;
+use vx_eval_like::{Pattern, is_like};
 use vx_fn::LikeOptions;
-use vx_like::{Pattern, is_like};
 use vx_types::{Value, VortexResult};
 
 /// Whether each text is like the pattern beside it. One pattern for all rows is read once.

@@ -1,7 +1,7 @@
 // Trees over whole columns, children first.
 ghost use Rattle.std.specs.Prelude.{IfOk};
 ghost use Rattle.vx_dtype.specs.Answers.{Answers};
-ghost use Rattle.vx_types.specs.Fits.{IsBatch};
+ghost use Rattle.vx_value.specs.Fits.{IsBatch};
 ghost use Rattle.vx_tree.specs.Trees.{node_type, WellTyped, EachWellTyped, Over};
 ghost use Rattle.vx_tree.specs.Views.{bound_of, bounds_of};
 ghost use Rattle.vx_eval.specs.Columns.{values_of, rows_view, rows_views};

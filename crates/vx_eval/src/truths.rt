@@ -1,8 +1,8 @@
 // Columns of truth values, and of null where there is none.
 ghost use Rattle.std.specs.Prelude.{◌≡◌, ◌<◌, ℕ, IfOk, IfErr, Option, length, map, get_or};
 ghost use Rattle.vx_dtype.specs.declared.error.VortexError.TheVariants.{OutOfMemory};
-ghost use Rattle.vx_types.specs.Types.{Datum, null};
-ghost use Rattle.vx_types.specs.Views.{value_of};
+ghost use Rattle.vx_value.specs.Types.{Datum, null};
+ghost use Rattle.vx_value.specs.Views.{value_of};
 ghost use Rattle.vx_eval.specs.Columns.{rows_view, truth_datum, truth_of, each_row};
 ghost use Rattle.vx_eval.specs.Kernels.{TellsRows};
 

@@ -3,9 +3,9 @@ use Rattle.std.proofs.Common.{◌≡◌, ◌≤◌, List, [], ◌∷◌, length,
 use Rattle.std.proofs.lemmas.List.{take_all}
 use Rattle.std.specs.Prelude.{option_and_then}
 use Rattle.vx_dtype.specs.declared.dtype.DType.{DType}
-use Rattle.vx_types.specs.Types.{LogicalType}
-use Rattle.vx_types.specs.Joins.{union, union_all}
-use Rattle.vx_types.specs.Views.{type_of}
+use Rattle.vx_value.specs.Types.{LogicalType}
+use Rattle.vx_value.specs.Joins.{union, union_all}
+use Rattle.vx_value.specs.Views.{type_of}
 use Rattle.vx_fn.specs.Functions.{branches}
 
 -- what is left of a slice after its first two

@@ -4,9 +4,9 @@ use Rattle.std.specs.Prelude.{Option, Some, None, IsTrue, if◌then◌else◌, i
 use Rattle.std.specs.List.{list_all}
 use Rattle.std.proofs.lemmas.Bool.{and_parts, and_from, or_left, or_right}
 use Rattle.std.specs.Str.{bytes_eq}
-use Rattle.vx_types.specs.Types.{Name, truth, number, text, octets, LogicalType, ty, Shape, atomic, list, fixed, struct, Fields, no_field, field, is_nullable, with_nullability}
-use Rattle.vx_types.specs.Joins.{same_base, same_base_shape, same_base_fields, join, join_shape, join_fields, union_all, Narrower, narrower, NarrowerShape, same_atomic_shape, narrower_list, narrower_fixed, narrower_struct, NarrowerFields, no_fields, narrower_field, NarrowerEach, no_types, narrower_more}
-use Rattle.vx_types.specs.Fields.{field_type, field_names, names_without, project, put_field, first_unknown, fields_named}
+use Rattle.vx_value.specs.Types.{Name, truth, number, text, octets, LogicalType, ty, Shape, atomic, list, fixed, struct, Fields, no_field, field, is_nullable, with_nullability}
+use Rattle.vx_value.specs.Joins.{same_base, same_base_shape, same_base_fields, join, join_shape, join_fields, union_all, Narrower, narrower, NarrowerShape, same_atomic_shape, narrower_list, narrower_fixed, narrower_struct, NarrowerFields, no_fields, narrower_field, NarrowerEach, no_types, narrower_more}
+use Rattle.vx_value.specs.Fields.{field_type, field_names, names_without, project, put_field, first_unknown, fields_named}
 use Rattle.vx_fn.specs.Functions.{Function, get_item, mask, selection_names, included, conditions, branches, is_truth}
 use Rattle.vx_fn.specs.declared.options.FieldSelection.{FieldSelection}
 use Rattle.vx_fn.specs.declared.options.FieldSelection.TheVariants.{Include, Exclude}

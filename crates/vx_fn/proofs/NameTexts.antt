@@ -1,7 +1,7 @@
 -- The text of names with commas between them, one name at a time.
 use Rattle.std.proofs.Common.{◌≡◌, ℕ, ◌+◌, ◌-◌, ◌<◌, ◌≤◌, List, [], ◌∷◌, ◌++◌, length, get_or, take, drop, codes, sym, ap, ◌∙◌, append_assoc, append-nil, arith}
 use Rattle.std.proofs.lemmas.List.{at_drop_more, at_drop_all, take_all}
-use Rattle.vx_types.specs.Types.{Name}
+use Rattle.vx_value.specs.Types.{Name}
 use Rattle.vx_fn.specs.Texts.{after_commas, with_commas}
 
 -- a comma and the next name, before what is left

@@ -2,13 +2,13 @@
 use Rattle.std.proofs.Common.{◌≡◌, ℕ, zero, suc, inl, inr, ◌+◌, ◌*◌, List, [], ◌∷◌, length, refl, sym, subst, Bool, true, false, ◌||◌, arith, ◌⊎◌}
 use Rattle.std.specs.Prelude.{Some, None, not, if◌then◌else◌}
 use Rattle.std.proofs.lemmas.Bool.{eqb-true, or_left, or_right}
-use Rattle.vx_types.proofs.Fitting.{fits-not_null, fits-wider, fits-nullable, join-fits-left, join-fits-right, Into, into_none, into_more, union_all-into, field_value-fits, project-fits, pack-fits}
+use Rattle.vx_value.proofs.Fitting.{fits-not_null, fits-wider, fits-nullable, join-fits-left, join-fits-right, Into, into_none, into_more, union_all-into, field_value-fits, project-fits, pack-fits}
 use Rattle.vx_dtype.proofs.Known.{first_unknown-filter, first_unknown-own}
 use Rattle.vx_dtype.proofs.Unions.{same_atomic-eq}
-use Rattle.vx_types.specs.Types.{Name, Atomic, truth, number, text, LogicalType, ty, Shape, atomic, struct, Fields, Datum, null, bool, int, utf8, struct_of, is_nullable, with_nullability, is_null_datum}
-use Rattle.vx_types.specs.Fits.{fits, Fits, EachFits, none_fit, more_fit}
-use Rattle.vx_types.specs.Joins.{same_base, join}
-use Rattle.vx_types.specs.Fields.{field_type, field_value, project, first_unknown, field_names}
+use Rattle.vx_value.specs.Types.{Name, Atomic, truth, number, text, LogicalType, ty, Shape, atomic, struct, Fields, Datum, null, bool, int, utf8, struct_of, is_nullable, with_nullability, is_null_datum}
+use Rattle.vx_value.specs.Fits.{fits, Fits, EachFits, none_fit, more_fit}
+use Rattle.vx_value.specs.Joins.{same_base, join}
+use Rattle.vx_value.specs.Fields.{field_type, field_value, project, first_unknown, field_names}
 use Rattle.vx_dtype.specs.declared.dtype.PType.{PType}
 use Rattle.vx_fn.specs.Functions.{Function, get_item, select, fill_null, binary, cast, adds, Comparison, selection_names, included, branches, HasFittingLiteral}
 use Rattle.vx_fn.specs.declared.options.FieldSelection.{FieldSelection}

@@ -6,7 +6,7 @@ use Rattle.std.specs.Cmp.{bool_cmp_total}
 use Rattle.std.specs.Ordering.{ordering_reverse}
 use Rattle.std.proofs.lemmas.Cmp.{int_cmp_total, nat_list_cmp_total}
 use Rattle.std.proofs.Math.IntN.{+ℤ_comm}
-use Rattle.vx_types.specs.Types.{Datum, null, bool, int, utf8, bytes, list_of, struct_of, is_null_datum}
+use Rattle.vx_value.specs.Types.{Datum, null, bool, int, utf8, bytes, list_of, struct_of, is_null_datum}
 use Rattle.vx_fn.specs.Functions.{Comparison, equal, different, above, at_least, below, at_most, mirrored, compares, and_also, or_else, adds}
 use Rattle.vx_fn.specs.Laws.{SwappedOverExchangedOperands}
 use Rattle.vx_fn.specs.Values.{is_true, is_false, kleene_and, kleene_or, order, agrees, compared, sum_of}

@@ -1,7 +1,7 @@
 -- The names of a function's children, by their index.
 use Rattle.std.specs.Prelude.{ℕ, ◌*◌, ◌/◌, ◌%◌, ◌==◌, ◌++◌, [], codes, get_or, if◌then◌else◌}
 use Rattle.std.specs.Fmt.{decimal}
-use Rattle.vx_types.specs.Types.{Name}
+use Rattle.vx_value.specs.Types.{Name}
 use Rattle.vx_fn.specs.Functions.{Function, case_when, literal, pack, select, fill_null, zip, binary, between, like, mask}
 
 -- a word for the first child, and one for the second

@@ -9,9 +9,9 @@ use Rattle.std.specs.Str.{bytes_eq}
 use Rattle.std.proofs.Common.{ap}
 use Rattle.std.proofs.lemmas.Slice.Eq.{bytes_eq-Decides, slice_eq-Decides}
 use Rattle.std.proofs.lemmas.Bool.Decides.{Decides-eqb, Decides-and, Decides-like}
-use Rattle.vx_types.specs.Types.{Name}
-use Rattle.vx_types.specs.Equality.{apart, itself, equivalence_of, equal_type, equal_type-Decides, equal_datum, equal_datum-Decides}
-use Rattle.vx_types.specs.Hashes.{type_fed, datum_fed}
+use Rattle.vx_value.specs.Types.{Name}
+use Rattle.vx_value.specs.Equality.{apart, itself, equivalence_of, equal_type, equal_type-Decides, equal_datum, equal_datum-Decides}
+use Rattle.vx_value.specs.Hashes.{type_fed, datum_fed}
 use Rattle.vx_fn.specs.declared.options.FieldSelection.{FieldSelection}
 use Rattle.vx_fn.specs.declared.options.FieldSelection.TheVariants.{Include, Exclude}
 use Rattle.vx_fn.specs.Functions.{Comparison, equal, different, above, at_least, below, at_most, Operation, compares, and_also, or_else, adds, Function, case_when, get_item, literal, pack, select, fill_null, zip, binary, negation, between, like, is_null, is_not_null, mask, cast}

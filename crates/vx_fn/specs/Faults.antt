@@ -5,8 +5,8 @@ use Rattle.std.specs.List.{list_any}
 use Rattle.std.specs.Ordering.{is_eq}
 use Rattle.vx_dtype.specs.declared.error.VortexError.{VortexError}
 use Rattle.vx_dtype.specs.declared.error.VortexError.TheVariants.{AddOverflow, CastNull, BadFill}
-use Rattle.vx_types.specs.Types.{LogicalType, ty, atomic, number, Datum, int, null, is_null_datum}
-use Rattle.vx_types.specs.Fits.{fits, fits_ptype}
+use Rattle.vx_value.specs.Types.{LogicalType, ty, atomic, number, Datum, int, null, is_null_datum}
+use Rattle.vx_value.specs.Fits.{fits, fits_ptype}
 use Rattle.vx_fn.specs.Functions.{Function, binary, adds, cast, fill_null, is_atomic}
 use Rattle.vx_fn.specs.Values.{order, sum_of, at_two}
 

@@ -4,13 +4,13 @@ use Rattle.std.specs.List.{list_all}
 use Rattle.vx_dtype.specs.declared.error.VortexError.{VortexError}
 use Rattle.vx_dtype.specs.declared.error.VortexError.TheVariants.{ArityMismatch, NotAStruct, NoSuchField, BaseTypesDiffer, NotBool, NotComparable, NotNumeric, NotText, NoPairs}
 use Rattle.vx_fn.specs.declared.options.FieldSelection.{FieldSelection}
-use Rattle.vx_types.specs.Answers.{known_or}
-use Rattle.vx_types.specs.Types.{Name, truth, number, text, LogicalType, ty, atomic, struct, Fields, Datum, is_nullable, with_nullability}
-use Rattle.vx_types.specs.Fits.{Fits}
-use Rattle.vx_types.specs.Joins.{same_base, union, union_all}
+use Rattle.vx_value.specs.Answers.{known_or}
+use Rattle.vx_value.specs.Types.{Name, truth, number, text, LogicalType, ty, atomic, struct, Fields, Datum, is_nullable, with_nullability}
+use Rattle.vx_value.specs.Fits.{Fits}
+use Rattle.vx_value.specs.Joins.{same_base, union, union_all}
 pub use Rattle.vx_fn.specs.Selections.{selection_names, is_inclusion}
 use Rattle.vx_fn.specs.Selections.{kept_names}
-use Rattle.vx_types.specs.Fields.{field_names, field_type, project, first_unknown, fields_named}
+use Rattle.vx_value.specs.Fields.{field_names, field_type, project, first_unknown, fields_named}
 
 -- how two operands are compared
 pub data Comparison : Type 0 where

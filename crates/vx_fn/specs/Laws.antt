@@ -1,7 +1,7 @@
 -- What typing and operators promise.
 use Rattle.std.specs.Prelude.{List, ◌≡◌, ◌↔◌, Ok}
-use Rattle.vx_types.specs.Types.{LogicalType, Datum}
-use Rattle.vx_types.specs.Joins.{Narrower, NarrowerEach}
+use Rattle.vx_value.specs.Types.{LogicalType, Datum}
+use Rattle.vx_value.specs.Joins.{Narrower, NarrowerEach}
 use Rattle.vx_fn.specs.Functions.{Function, fn_type, Operation, swapped}
 use Rattle.vx_fn.specs.Rows.{FnType}
 use Rattle.vx_fn.specs.Values.{binary_value}

@@ -2,7 +2,7 @@
 use Rattle.std.specs.Prelude.{◌≡◌, ◌↔◌, Bool, true, false, Option, Some, None, is_some, refl}
 use Rattle.vx_dtype.specs.declared.dtype.DType.{DType}
 use Rattle.vx_dtype.specs.declared.names.FieldName.{FieldName}
-use Rattle.vx_types.specs.declared.scalar.Scalar.{Scalar}
+use Rattle.vx_value.specs.declared.scalar.Scalar.{Scalar}
 use Rattle.vx_fn.specs.declared.options.CaseWhenOptions.{CaseWhenOptions}
 use Rattle.vx_fn.specs.declared.options.PackOptions.{PackOptions}
 use Rattle.vx_fn.specs.declared.options.FieldSelection.{FieldSelection}

@@ -2,8 +2,8 @@
 use Rattle.std.specs.Prelude.{Bool, true, false, Result, Ok, Err, IsTrue}
 use Rattle.vx_dtype.specs.declared.error.VortexError.{VortexError}
 use Rattle.vx_dtype.specs.declared.error.VortexError.TheVariants.{NoSuchField, BaseTypesDiffer}
-use Rattle.vx_types.specs.Answers.{Exactly}
-use Rattle.vx_types.specs.Types.{LogicalType}
+use Rattle.vx_value.specs.Answers.{Exactly}
+use Rattle.vx_value.specs.Types.{LogicalType}
 use Rattle.vx_fn.specs.Functions.{Function, case_when, binary, negation, between, like, is_null, is_not_null, Typing}
 
 -- whether a node's type is a truth type or a number type, which is made without a copy

@@ -1,9 +1,9 @@
 -- The typing of a node as a relation: for each function the children's types it takes, and the type that it then has.
 use Rattle.std.specs.Prelude.{◌≡◌, ℕ, ◌==◌, Bool, true, false, ◌||◌, IsTrue, List, [], ◌∷◌, length, Some, None, not}
 use Rattle.std.specs.List.{list_all}
-use Rattle.vx_types.specs.Types.{Name, same_ptype, Atomic, truth, number, text, same_atomic, LogicalType, ty, Shape, atomic, struct, Fields, Datum, is_nullable, with_nullability}
-use Rattle.vx_types.specs.Joins.{same_base, join, union_all}
-use Rattle.vx_types.specs.Fields.{field_type, project, first_unknown, fields_named}
+use Rattle.vx_value.specs.Types.{Name, same_ptype, Atomic, truth, number, text, same_atomic, LogicalType, ty, Shape, atomic, struct, Fields, Datum, is_nullable, with_nullability}
+use Rattle.vx_value.specs.Joins.{same_base, join, union_all}
+use Rattle.vx_value.specs.Fields.{field_type, project, first_unknown, fields_named}
 use Rattle.vx_dtype.specs.declared.dtype.PType.{PType}
 use Rattle.vx_fn.specs.Functions.{Function, case_when, get_item, literal, pack, select, fill_null, zip, binary, negation, between, like, is_null, is_not_null, mask, cast, compares, and_also, or_else, adds, Comparison, selection_names, included, case_children, conditions, branches, is_truth}
 use Rattle.vx_fn.specs.declared.options.FieldSelection.{FieldSelection}

@@ -1,9 +1,9 @@
 -- Which names a selection keeps.
 use Rattle.std.specs.Prelude.{Bool, true, false, not, List, Option, Result, Ok, find}
 use Rattle.vx_dtype.specs.declared.error.VortexError.{VortexError}
-use Rattle.vx_types.specs.Answers.{known_or}
-use Rattle.vx_types.specs.Fields.{is_among, names_without}
-use Rattle.vx_types.specs.Types.{Name}
+use Rattle.vx_value.specs.Answers.{known_or}
+use Rattle.vx_value.specs.Fields.{is_among, names_without}
+use Rattle.vx_value.specs.Types.{Name}
 use Rattle.vx_fn.specs.declared.options.FieldSelection.{FieldSelection}
 use Rattle.vx_fn.specs.declared.options.FieldSelection.TheVariants.{Include, Exclude}
 

@@ -1,9 +1,9 @@
 -- The texts of functions: with their options, as a node of a tree text, and as SQL over their children's texts.
 use Rattle.std.specs.Prelude.{ℕ, Bool, true, false, List, [], ◌∷◌, ◌++◌, ◌==◌, codes, get_or, length, if◌then◌else◌}
 use Rattle.std.specs.Fmt.{decimal}
-use Rattle.vx_types.specs.Types.{Name}
-use Rattle.vx_types.specs.Texts.{mark, type_text}
-use Rattle.vx_types.specs.ValueTexts.{value_text}
+use Rattle.vx_value.specs.Types.{Name}
+use Rattle.vx_value.specs.Texts.{mark, type_text}
+use Rattle.vx_value.specs.ValueTexts.{value_text}
 use Rattle.vx_fn.specs.declared.options.FieldSelection.{FieldSelection}
 use Rattle.vx_fn.specs.declared.options.FieldSelection.TheVariants.{Include, Exclude}
 use Rattle.vx_fn.specs.Functions.{equal, different, above, at_least, below, at_most, Operation, compares, and_also, or_else, adds, Function, case_when, get_item, literal, pack, select, zip, binary, between, like, cast, arity_of, id_of}

@@ -1,6 +1,6 @@
 -- What a `ScalarFnRef` stands for.
 use Rattle.std.specs.Prelude.{Bool, true, false}
-use Rattle.vx_types.specs.Views.{admits_null, type_of}
+use Rattle.vx_value.specs.Views.{admits_null, type_of}
 use Rattle.vx_fn.specs.declared.options.Operator.{Operator}
 use Rattle.vx_fn.specs.declared.options.Operator.TheVariants.{Eq, NotEq, Gt, Gte, Lt, Lte, And, Or, Add}
 use Rattle.vx_fn.specs.declared.options.StrictComparison.{StrictComparison}

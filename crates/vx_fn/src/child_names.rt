@@ -1,7 +1,7 @@
 // The names of a function's children.
 ghost use Rattle.std.specs.Prelude.{◌≡◌, ◌<◌, Ok, Some};
 ghost use Rattle.std.specs.Fmt.{WritesOnOk};
-ghost use Rattle.vx_types.specs.Answers.{Answers};
+ghost use Rattle.vx_value.specs.Answers.{Answers};
 ghost use Rattle.vx_fn.specs.ChildNames.{case_child_name, child_name_of, child_word};
 ghost use Rattle.vx_fn.specs.Functions.{arity_of};
 ghost use Rattle.vx_fn.specs.Views.{function_of};

@@ -1,6 +1,6 @@
 // Which of the available names a selection keeps.
 ghost use Rattle.std.specs.Prelude.{◌≡◌, option_map};
-ghost use Rattle.vx_types.specs.Answers.{Answers};
+ghost use Rattle.vx_value.specs.Answers.{Answers};
 ghost use Rattle.vx_fn.specs.Selections.{first_missing, normalized};
 
 use crate::FieldSelection;

@@ -1,7 +1,7 @@
 // The texts of functions and of their options.
 ghost use Rattle.std.specs.Prelude.{◌≡◌, Some, []};
 ghost use Rattle.std.specs.Fmt.{WritesOnOk};
-ghost use Rattle.vx_types.specs.Views.{admits_null};
+ghost use Rattle.vx_value.specs.Views.{admits_null};
 ghost use Rattle.vx_fn.specs.Texts.{with_commas, operation_text, bound_text, nullability_text, like_text, selection_text, pack_text, between_text, case_text, options_text, function_text};
 ghost use Rattle.vx_fn.specs.Views.{function_of, operation_of, is_strict};
 

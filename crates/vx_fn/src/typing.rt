@@ -1,7 +1,7 @@
 // The number of a function's children, and the type of a node over their types.
 ghost use Rattle.std.specs.Prelude.{◌≡◌, ◌≢◌, ℕ, map, length, IsTrue, IfOk, IsErrOf};
-ghost use Rattle.vx_types.specs.Answers.{Answers, Exactly};
-ghost use Rattle.vx_types.specs.Views.{type_of};
+ghost use Rattle.vx_value.specs.Answers.{Answers, Exactly};
+ghost use Rattle.vx_value.specs.Views.{type_of};
 ghost use Rattle.vx_dtype.specs.declared.error.VortexError.TheVariants.{ArityMismatch};
 ghost use Rattle.vx_fn.specs.Functions.{fn_type, arity_of, HasFittingLiteral};
 ghost use Rattle.vx_fn.specs.Memory.{RefusesEarly, is_typed_in_place};

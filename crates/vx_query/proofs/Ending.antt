@@ -2,9 +2,9 @@
 use Rattle.std.proofs.Common.{◌≡◌, ◌⊎◌, Bool, List, Result, Ok, Err, refl, sym, ap, subst, ◌∙◌, inl, inr}
 use Rattle.vx_dtype.specs.declared.error.VortexError.{VortexError}
 use Rattle.vx_dtype.specs.declared.error.VortexError.TheVariants.{OutOfMemory}
-use Rattle.vx_types.specs.Columns.{Batch}
-use Rattle.vx_types.specs.Fits.{IsBatch}
-use Rattle.vx_types.specs.Types.{LogicalType}
+use Rattle.vx_value.specs.Columns.{Batch}
+use Rattle.vx_value.specs.Fits.{IsBatch}
+use Rattle.vx_value.specs.Types.{LogicalType}
 use Rattle.vx_fn.specs.Functions.{Typing}
 use Rattle.vx_tree.specs.Binding.{binding}
 use Rattle.vx_tree.specs.Faults.{HasNoFault}
@@ -12,7 +12,7 @@ use Rattle.vx_tree.specs.Trees.{Tree, BoundTree, typed, node_type}
 use Rattle.vx_tree.proofs.Meant.{typed-unbound}
 use Rattle.vx_tree.proofs.Unique.{binding-unbound}
 use Rattle.vx_rewrite.specs.declared.passes.Pass.{Pass}
-use Rattle.vx_split.specs.Sources.{IsBound, IsMeantBy}
+use Rattle.vx_query_split.specs.Sources.{IsBound, IsMeantBy}
 use Rattle.vx_query.specs.Promises.{Promised}
 use Rattle.vx_query.specs.Queries.{RunsPassed, not_passed}
 use Rattle.vx_query.proofs.Running.{passed_means, passed_faults}

@@ -4,8 +4,8 @@ use Rattle.std.specs.Option.{option_or, option_map}
 use Rattle.std.specs.Prelude.{position}
 use Rattle.vx_dtype.specs.declared.error.VortexError.{VortexError}
 use Rattle.vx_dtype.specs.declared.error.VortexError.TheVariants.{AddOverflow, CastNull, BadFill}
-use Rattle.vx_types.specs.Columns.{Batch, batch}
-use Rattle.vx_types.specs.Types.{LogicalType, Datum}
+use Rattle.vx_value.specs.Columns.{Batch, batch}
+use Rattle.vx_value.specs.Types.{LogicalType, Datum}
 use Rattle.vx_fn.specs.Faults.{node_fault, overflows, misfits, is_bad_fill, fill_of, when}
 use Rattle.vx_fn.specs.Functions.{Function, binary, adds, cast, fill_null}
 use Rattle.vx_tree.specs.Faults.{first_fault, each_fault}

@@ -3,10 +3,10 @@ use Rattle.std.proofs.Common.{◌≡◌, ℕ, ◌+◌, ◌<◌, ◌≤◌, List,
 use Rattle.vx_tree.specs.declared.bound.BoundExpression.{BoundExpression}
 use Rattle.vx_tree.specs.Trees.{BoundTree, BoundTrees, no_bound, bound}
 use Rattle.vx_tree.specs.Views.{bound_of, bounds_of}
-use Rattle.vx_keep.specs.Keeps.{KeepsEach, keeps_none, keeps_more}
-use Rattle.vx_optimizer.specs.NormalForms.{NormalForm, NormalForms, no_form, form}
+use Rattle.vx_rewrite_keep.specs.Keeps.{KeepsEach, keeps_none, keeps_more}
+use Rattle.vx_rewrite_optimizer.specs.NormalForms.{NormalForm, NormalForms, no_form, form}
 use Rattle.vx_tree.proofs.Bindings.{before}
-use Rattle.vx_split.proofs.Lists.{split_at}
+use Rattle.vx_query_split.proofs.Lists.{split_at}
 
 before_push : (made : List BoundExpression) (b : BoundExpression) (bs : BoundTrees) → before (made ++ b ∷ []) bs ≡ before made (bound (bound_of b) bs)
 before_push [] b bs = refl

@@ -2,19 +2,19 @@
 use Rattle.std.proofs.Common.{◌≡◌, List, Option, Some, None, Result, true, subst}
 use Rattle.vx_dtype.specs.Answers.{Answers}
 use Rattle.vx_dtype.specs.declared.error.VortexError.{VortexError}
-use Rattle.vx_types.specs.Columns.{Batch}
-use Rattle.vx_types.specs.Types.{Name, LogicalType}
-use Rattle.vx_keep.proofs.Keeping.{each_typed_after}
+use Rattle.vx_value.specs.Columns.{Batch}
+use Rattle.vx_value.specs.Types.{Name, LogicalType}
+use Rattle.vx_rewrite_keep.proofs.Keeping.{each_typed_after}
 use Rattle.vx_tree.specs.Trees.{BoundTree, BoundTrees, WellTyped, EachWellTyped, Over, EachOver}
 use Rattle.vx_eval.specs.Evaluation.{evaluation}
-use Rattle.vx_optimizer.specs.NormalForms.{NormalForms}
-use Rattle.vx_partition.specs.Partitioned.{IsBoundAgain}
-use Rattle.vx_recombine.specs.Items.{struct_type}
-use Rattle.vx_recombine.specs.Recombining.{Recombines}
-use Rattle.vx_recombine.proofs.Rebound.{replaced_recombine}
-use Rattle.vx_rules.specs.Rules.{RuleAt}
-use Rattle.vx_split.specs.Division.{Parts, IsSplitOf, no_fields, not_covered, divided}
-use Rattle.vx_split.specs.Splits.{split_evaluation}
+use Rattle.vx_rewrite_optimizer.specs.NormalForms.{NormalForms}
+use Rattle.vx_rewrite_split.specs.Partitioned.{IsBoundAgain}
+use Rattle.vx_rewrite_recombine.specs.Items.{struct_type}
+use Rattle.vx_rewrite_recombine.specs.Recombining.{Recombines}
+use Rattle.vx_rewrite_recombine.proofs.Rebound.{replaced_recombine}
+use Rattle.vx_rewrite_rules.specs.Rules.{RuleAt}
+use Rattle.vx_query_split.specs.Division.{Parts, IsSplitOf, no_fields, not_covered, divided}
+use Rattle.vx_query_split.specs.Splits.{split_evaluation}
 use Rattle.vx_query.specs.Queries.{Runs, whole, uncovered, parted}
 use Rattle.vx_query.proofs.Lists.{forms_keep}
 

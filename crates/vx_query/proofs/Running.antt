@@ -2,23 +2,23 @@
 use Rattle.std.proofs.Common.{◌≡◌, Bool, List, Option, Some, None, Result, Ok, Err, refl, inl, inr}
 use Rattle.vx_dtype.specs.Answers.{Answers}
 use Rattle.vx_dtype.specs.declared.error.VortexError.{VortexError}
-use Rattle.vx_types.specs.Columns.{Batch}
-use Rattle.vx_types.specs.Fits.{IsBatch}
-use Rattle.vx_types.specs.Types.{Name}
+use Rattle.vx_value.specs.Columns.{Batch}
+use Rattle.vx_value.specs.Fits.{IsBatch}
+use Rattle.vx_value.specs.Types.{Name}
 use Rattle.vx_tree.specs.Faults.{HasNoFault, each_fault}
 use Rattle.vx_tree.specs.Trees.{BoundTree, BoundTrees, WellTyped, Over, unbound}
 use Rattle.vx_eval.specs.Evaluation.{evaluation}
-use Rattle.vx_keep.specs.Keeps.{Keeps}
+use Rattle.vx_rewrite_keep.specs.Keeps.{Keeps}
 use Rattle.vx_rewrite.specs.declared.passes.Pass.{Pass}
 use Rattle.vx_rewrite.proofs.Passing.{passed_keeps}
-use Rattle.vx_split.specs.Division.{FieldsCover}
-use Rattle.vx_split.specs.Sources.{IsMeantBy}
+use Rattle.vx_query_split.specs.Division.{FieldsCover}
+use Rattle.vx_query_split.specs.Sources.{IsMeantBy}
 use Rattle.vx_query.specs.Queries.{FaultsAlone, IsOptimizedSplit, Runs, no_memory, whole, uncovered, parted, RunsPassed, not_passed, passed}
 use Rattle.vx_query.specs.Refusals.{IsFault}
-use Rattle.vx_split.specs.Splits.{joined_column, split_evaluation, fault_or}
+use Rattle.vx_query_split.specs.Splits.{joined_column, split_evaluation, fault_or}
 use Rattle.vx_query.proofs.Faulting.{each_faults, evaluation_faults}
 use Rattle.vx_query.proofs.Optimized.{recombined}
-use Rattle.vx_split.proofs.Meant.{whole_means, split_means}
+use Rattle.vx_query_split.proofs.Meant.{whole_means, split_means}
 
 -- ---- where the source doesn't fault
 

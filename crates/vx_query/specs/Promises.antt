@@ -1,12 +1,12 @@
 -- What a query promises.
 use Rattle.std.specs.Prelude.{◌≡◌, Bool, List, Result, Ok, Err}
 use Rattle.vx_dtype.specs.declared.error.VortexError.{VortexError}
-use Rattle.vx_types.specs.Columns.{Batch}
-use Rattle.vx_types.specs.Types.{LogicalType}
+use Rattle.vx_value.specs.Columns.{Batch}
+use Rattle.vx_value.specs.Types.{LogicalType}
 use Rattle.vx_tree.specs.Faults.{HasNoFault}
 use Rattle.vx_tree.specs.Trees.{Tree, BoundTree, typed}
 use Rattle.vx_rewrite.specs.declared.passes.Pass.{Pass}
-use Rattle.vx_split.specs.Sources.{IsBound, IsMeantBy}
+use Rattle.vx_query_split.specs.Sources.{IsBound, IsMeantBy}
 use Rattle.vx_query.specs.Queries.{IsRefusedWith, FaultsAlone, RunsPassed}
 
 -- all that a query promises of its answer

@@ -3,18 +3,18 @@ use Rattle.std.specs.Prelude.{◌≡◌, ◌⊎◌, Bool, List, Some, None, Resu
 use Rattle.vx_dtype.specs.Answers.{Answers}
 use Rattle.vx_dtype.specs.declared.error.VortexError.{VortexError}
 use Rattle.vx_dtype.specs.declared.error.VortexError.TheVariants.{OutOfMemory}
-use Rattle.vx_types.specs.Columns.{Batch}
-use Rattle.vx_types.specs.Types.{Name}
+use Rattle.vx_value.specs.Columns.{Batch}
+use Rattle.vx_value.specs.Types.{Name}
 use Rattle.vx_tree.specs.Trees.{BoundTree, BoundTrees}
 use Rattle.vx_eval.specs.Evaluation.{evaluation}
-use Rattle.vx_optimizer.specs.NormalForms.{NormalForms}
-use Rattle.vx_partition.specs.Partitioned.{IsBoundAgain}
-use Rattle.vx_recombine.specs.Items.{struct_type}
+use Rattle.vx_rewrite_optimizer.specs.NormalForms.{NormalForms}
+use Rattle.vx_rewrite_split.specs.Partitioned.{IsBoundAgain}
+use Rattle.vx_rewrite_recombine.specs.Items.{struct_type}
 use Rattle.vx_rewrite.specs.Passes.{Passed}
 use Rattle.vx_rewrite.specs.declared.passes.Pass.{Pass}
-use Rattle.vx_rules.specs.Rules.{RuleAt}
-use Rattle.vx_split.specs.Division.{split_names, FieldsCover, IsSplitByFields}
-use Rattle.vx_split.specs.Splits.{split_evaluation}
+use Rattle.vx_rewrite_rules.specs.Rules.{RuleAt}
+use Rattle.vx_query_split.specs.Division.{split_names, FieldsCover, IsSplitByFields}
+use Rattle.vx_query_split.specs.Splits.{split_evaluation}
 use Rattle.vx_query.specs.Refusals.{IsFault}
 
 -- the call gave that refusal, unless memory ran out

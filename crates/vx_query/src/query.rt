@@ -3,11 +3,11 @@ ghost use Rattle.std.specs.Prelude.{◌≡◌, Ok, Err};
 ghost use Rattle.vx_dtype.specs.declared.error.VortexError.{VortexError};
 ghost use Rattle.vx_query.specs.Promises.{Promised};
 ghost use Rattle.vx_query.specs.Queries.{FaultsAlone, IsRefusedWith, Runs, RunsPassed};
-ghost use Rattle.vx_split.specs.Sources.{IsBound, IsMeantBy};
+ghost use Rattle.vx_query_split.specs.Sources.{IsBound, IsMeantBy};
 ghost use Rattle.vx_tree.specs.Faults.{HasNoFault};
 ghost use Rattle.vx_tree.specs.Trees.{BoundTree, typed, Over, WellTyped};
 ghost use Rattle.vx_tree.specs.Views.{bound_of, tree_of};
-ghost use Rattle.vx_types.specs.Types.{LogicalType};
+ghost use Rattle.vx_value.specs.Types.{LogicalType};
 
 use crate::split::run_split;
 use std::alloc::Global;

@@ -1,6 +1,6 @@
 // Trees split by keys that all have one field name.
 ghost use Rattle.std.specs.Prelude.{◌≡◌, Some, codes, refl};
-ghost use Rattle.vx_partition.specs.Keys.{same_bytes};
+ghost use Rattle.vx_rewrite_split.specs.Keys.{same_bytes};
 
 use std::alloc::Global;
 use std::fmt;
@@ -10,7 +10,7 @@ use vx_rewrite::{
     Annotation, PartitionKey, direct_bound_annotations, partition_bound,
     partition_bound_annotations,
 };
-use vx_samples::{bound, i32_type, reads};
+use vx_test_samples::{bound, i32_type, reads};
 use vx_tree::Nullability::NonNullable;
 use vx_tree::{BoundExpression, FieldName, ScalarFnRef, VortexError, VortexResult};
 

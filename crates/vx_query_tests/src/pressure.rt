@@ -2,8 +2,8 @@
 // memory, so that the stack has grown as far as it needs.
 use crate::runs::{KLEENE, words_of};
 use std::test::Fail;
-use vx_pressure::Shortage;
 use vx_run::run_show;
+use vx_test_pressure::Shortage;
 
 #[test]
 fn run_show_is_refused(rt: HostRuntime) -> Result<(), Fail> {

@@ -1,6 +1,6 @@
 // A column of structs that has no columns and may be null, of which no row of a table is made.
 use std::test::Fail;
-use vx_samples::reads;
+use vx_test_samples::reads;
 use vx_tree::Nullability::Nullable;
 use vx_tree::{Column, FieldNames};
 

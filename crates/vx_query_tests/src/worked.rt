@@ -1,7 +1,7 @@
 // A worked tree and its scope.
 use std::alloc::Global;
 use std::test::Fail;
-use vx_samples::{Unread, bound, dtype};
+use vx_test_samples::{Unread, bound, dtype};
 use vx_tree::{BoundExpression, DType};
 
 /// Two conditions, of a field each.

@@ -1,10 +1,10 @@
 -- What passes over a bound tree give.
 use Rattle.std.specs.Prelude.{◌≡◌, List, [], ◌∷◌}
 use Rattle.vx_tree.specs.Trees.{BoundTree}
-use Rattle.vx_fusing.specs.Merging.{IsFusedOf}
-use Rattle.vx_optimizer.specs.NormalForms.{NormalForm, RootNormalForm}
-use Rattle.vx_rules.specs.Rules.{RuleAt}
-use Rattle.vx_branch_rules.specs.Branches.{BranchRuleAt}
+use Rattle.vx_rewrite_fusing.specs.Merging.{IsFusedOf}
+use Rattle.vx_rewrite_optimizer.specs.NormalForms.{NormalForm, RootNormalForm}
+use Rattle.vx_rewrite_rules.specs.Rules.{RuleAt}
+use Rattle.vx_rewrite_branch_rules.specs.Branches.{BranchRuleAt}
 use Rattle.vx_rewrite.specs.declared.passes.Pass.{Pass}
 use Rattle.vx_rewrite.specs.declared.passes.Pass.TheVariants.{Optimize, OptimizeRecursive, FindBetween, Branches}
 

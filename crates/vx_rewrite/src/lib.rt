@@ -6,16 +6,16 @@ mod passes;
 
 pub use laws::passes_keep;
 pub use passes::{Pass, run_passes};
-pub use vx_analysis::{
+pub use vx_rewrite_analysis::{
     Annotation, BoundAnnotations, BoundLabels, covers, descendent_bound_annotations,
     direct_bound_annotations, free_fields, label_bound_tree,
 };
-pub use vx_branches::BranchRules;
-pub use vx_fusing::find_between;
-pub use vx_keep::Rule;
-pub use vx_optimizer::optimize_with;
-pub use vx_partition::{
+pub use vx_rewrite_branches::BranchRules;
+pub use vx_rewrite_fusing::find_between;
+pub use vx_rewrite_keep::Rule;
+pub use vx_rewrite_optimizer::optimize_with;
+pub use vx_rewrite_paths::referenced_field_paths;
+pub use vx_rewrite_split::{
     BoundPartitionedExpr, PartitionKey, partition_bound, partition_bound_annotations,
 };
-pub use vx_paths::referenced_field_paths;
-pub use vx_standard::{Optimize, StandardRules};
+pub use vx_rewrite_standard::{Optimize, StandardRules};

@@ -1,16 +1,16 @@
 // Passes over bound trees, one after another.
 ghost use Rattle.std.specs.Prelude.{◌≡◌, IfOk, IfErr};
 ghost use Rattle.vx_dtype.specs.declared.error.VortexError.TheVariants.{OutOfMemory};
-ghost use Rattle.vx_keep.specs.Keeps.{Keeps};
+ghost use Rattle.vx_rewrite_keep.specs.Keeps.{Keeps};
 ghost use Rattle.vx_rewrite.specs.Passes.{Gives, Passed};
 ghost use Rattle.vx_tree.specs.Trees.{WellTyped};
 ghost use Rattle.vx_tree.specs.Views.{bound_of};
 
 use std::alloc::Global;
-use vx_branches::BranchRules;
-use vx_fusing::find_between;
-use vx_optimizer::optimized;
-use vx_standard::Optimize;
+use vx_rewrite_branches::BranchRules;
+use vx_rewrite_fusing::find_between;
+use vx_rewrite_optimizer::optimized;
+use vx_rewrite_standard::Optimize;
 use vx_tree::{BoundExpression, VortexResult};
 
 /// A pass over a bound tree.
@@ -22,7 +22,7 @@ pub enum Pass {
     OptimizeRecursive,
     /// Comparisons of one item as one `Between`: [`find_between`].
     FindBetween,
-    /// The branch rules at every node: [`optimize_with`](vx_optimizer::optimize_with) of
+    /// The branch rules at every node: [`optimize_with`](vx_rewrite_optimizer::optimize_with) of
     /// [`BranchRules`], the tree itself on None.
     Branches,
 }

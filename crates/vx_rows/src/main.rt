@@ -7,7 +7,7 @@
 use anyhow::{Context, Result};
 use std::process::ExitCode;
 use std::{env, fs};
-use vx_judge::{Aim, Tally, judge_table};
+use vx_test_judge::{Aim, Tally, judge_table};
 
 fn main(rt: HostRuntime) -> Result<ExitCode> {
     let alloc = rt.alloc();

@@ -4,20 +4,20 @@ use Rattle.std.proofs.Common.{refl, sym, ap, inl, inr, subst, arith}
 use Rattle.vx_dtype.specs.Answers.{Answers}
 use Rattle.vx_dtype.specs.declared.error.VortexError.{VortexError}
 use Rattle.vx_dtype.specs.declared.error.VortexError.TheVariants.{OutOfMemory}
-use Rattle.vx_types.specs.Types.{Name, LogicalType, bool}
+use Rattle.vx_value.specs.Types.{Name, LogicalType, bool}
 use Rattle.vx_fn.specs.Functions.{case_when, get_item, fill_null, is_null, truth_type}
 use Rattle.vx_tree.specs.Binding.{binding}
 use Rattle.vx_tree.specs.Examples.{i32, i32_or_null, with_x, number_of}
 use Rattle.vx_tree.specs.Trees.{BoundTree, scope, node, bound, WellTyped, Over}
 use Rattle.vx_tree.specs.Views.{bound_of}
 use Rattle.vx_tree.specs.declared.bound.BoundExpression.{BoundExpression}
-use Rattle.vx_keep.specs.Steps.{here, Steps, no_step, one_more, GivesNothing, Normal, NormalBelow}
-use Rattle.vx_optimizer.specs.NormalForms.{NormalForm}
-use Rattle.vx_rule_sets.specs.Modest.{IsLiteral, is_literal}
-use Rattle.vx_rules.specs.Rules.{RuleAt, fill_of_not_null, coalesce_to_null, coalesce, null_first}
-use Rattle.vx_rule_sets.specs.Nodes.{one_bound, two_bounds, three_bounds, literal_node}
-use Rattle.vx_branch_rules.specs.Branches.{BranchRuleAt, other_pairs, is_false}
-use Rattle.vx_branch_rules.proofs.Lawfulness.{branch_rules_modest, branch_form_is_one}
+use Rattle.vx_rewrite_keep.specs.Steps.{here, Steps, no_step, one_more, GivesNothing, Normal, NormalBelow}
+use Rattle.vx_rewrite_optimizer.specs.NormalForms.{NormalForm}
+use Rattle.vx_rewrite_rule_sets.specs.Modest.{IsLiteral, is_literal}
+use Rattle.vx_rewrite_rules.specs.Rules.{RuleAt, fill_of_not_null, coalesce_to_null, coalesce, null_first}
+use Rattle.vx_rewrite_rule_sets.specs.Nodes.{one_bound, two_bounds, three_bounds, literal_node}
+use Rattle.vx_rewrite_branch_rules.specs.Branches.{BranchRuleAt, other_pairs, is_false}
+use Rattle.vx_rewrite_branch_rules.proofs.Lawfulness.{branch_rules_modest, branch_form_is_one}
 use Rattle.vx_run.specs.Branches.{BranchesIsNormalForm, branches, never_then_zero}
 
 -- `$.x`, whether it is null, false and 0, bound to the rows' type

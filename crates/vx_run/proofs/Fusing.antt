@@ -4,18 +4,18 @@ use Rattle.std.proofs.Common.{refl, sym, ap, inl, subst}
 use Rattle.vx_dtype.specs.Answers.{Answers}
 use Rattle.vx_dtype.specs.declared.error.VortexError.{VortexError}
 use Rattle.vx_dtype.specs.declared.error.VortexError.TheVariants.{OutOfMemory}
-use Rattle.vx_types.specs.Types.{null}
+use Rattle.vx_value.specs.Types.{null}
 use Rattle.vx_fn.specs.Functions.{get_item, literal, binary, compares, at_least, at_most, truth_type}
 use Rattle.vx_tree.specs.Binding.{binding}
 use Rattle.vx_tree.specs.Examples.{i32, i32_or_null, bool_or_null, with_x, number_of}
 use Rattle.vx_tree.specs.Trees.{BoundTree, scope, node, no_bound, bound, WellTyped, Over}
 use Rattle.vx_tree.specs.Views.{bound_of}
 use Rattle.vx_tree.specs.declared.bound.BoundExpression.{BoundExpression}
-use Rattle.vx_keep.specs.Steps.{here, no_step, one_more}
-use Rattle.vx_fusing.specs.Conjuncts.{two_bounds, and_node, between_node, below_and_above, Fused}
-use Rattle.vx_fusing.specs.Merging.{itself, right_goes, Merges}
-use Rattle.vx_fusing.proofs.Merges.{fused_alone}
-use Rattle.vx_fusing.proofs.Unique.{fusing_is_unique}
+use Rattle.vx_rewrite_keep.specs.Steps.{here, no_step, one_more}
+use Rattle.vx_rewrite_fusing.specs.Conjuncts.{two_bounds, and_node, between_node, below_and_above, Fused}
+use Rattle.vx_rewrite_fusing.specs.Merging.{itself, right_goes, Merges}
+use Rattle.vx_rewrite_fusing.proofs.Merges.{fused_alone}
+use Rattle.vx_rewrite_fusing.proofs.Unique.{fusing_is_unique}
 use Rattle.vx_run.specs.Fused.{FusedIsKleeneMerged, fused}
 use Rattle.vx_run.specs.Kleene.{kleene}
 

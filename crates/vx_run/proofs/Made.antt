@@ -2,7 +2,7 @@
 use Rattle.std.specs.Prelude.{◌≡◌, Ok}
 use Rattle.std.proofs.Common.{sym, ap, ◌∙◌}
 use Rattle.vx_dtype.specs.Answers.{Answers}
-use Rattle.vx_types.specs.Types.{LogicalType}
+use Rattle.vx_value.specs.Types.{LogicalType}
 use Rattle.vx_tree.specs.Binding.{binding}
 use Rattle.vx_tree.specs.Trees.{Tree, BoundTree, unbound, WellTyped, Over}
 use Rattle.vx_tree.specs.Views.{tree_of}

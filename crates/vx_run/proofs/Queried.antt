@@ -4,7 +4,7 @@ use Rattle.std.proofs.Common.{refl, sym, ◌∙◌, subst, inl}
 use Rattle.vx_dtype.specs.Answers.{Answers}
 use Rattle.vx_dtype.specs.declared.error.VortexError.{VortexError}
 use Rattle.vx_dtype.specs.declared.error.VortexError.TheVariants.{OutOfMemory}
-use Rattle.vx_types.specs.Columns.{Batch}
+use Rattle.vx_value.specs.Columns.{Batch}
 use Rattle.vx_tree.specs.Binding.{binding}
 use Rattle.vx_tree.specs.Faults.{HasNoFault}
 use Rattle.vx_tree.specs.Trees.{Tree, BoundTree, Over}
@@ -12,7 +12,7 @@ use Rattle.vx_eval.specs.Evaluation.{evaluation}
 use Rattle.vx_rewrite.specs.Passes.{Passed}
 use Rattle.vx_rewrite.specs.declared.passes.Pass.{Pass}
 use Rattle.vx_rewrite.specs.declared.passes.Pass.TheVariants.{FindBetween, Branches}
-use Rattle.vx_split.specs.Sources.{IsBound, IsMeantBy}
+use Rattle.vx_query_split.specs.Sources.{IsBound, IsMeantBy}
 use Rattle.vx_query.specs.Queries.{Runs, no_memory, whole, uncovered, parted, RunsPassed, not_passed, passed}
 use Rattle.vx_run.specs.Branches.{branches, never_then_zero}
 use Rattle.vx_run.specs.Fused.{fused}

@@ -1,6 +1,6 @@
 -- A tree of functions that never fault faults nowhere.
 use Rattle.std.proofs.Common.{◌≡◌, List, map, refl, None, IsTrue}
-use Rattle.vx_types.specs.Types.{LogicalType, Datum}
+use Rattle.vx_value.specs.Types.{LogicalType, Datum}
 use Rattle.vx_fn.specs.Faults.{node_fault}
 use Rattle.vx_fn.specs.Functions.{Function, binary, adds, cast, fill_null}
 use Rattle.vx_tree.specs.Faults.{each_fault, HasNoFault}

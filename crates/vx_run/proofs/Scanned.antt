@@ -3,27 +3,27 @@ use Rattle.std.specs.Prelude.{◌≡◌, ℕ, false, List, Result, Ok, Err, IfOk
 use Rattle.std.proofs.Common.{refl, sym, ap, inl, inr, subst, ◌∙◌, rules}
 use Rattle.vx_dtype.specs.Answers.{Answers}
 use Rattle.vx_dtype.specs.declared.error.VortexError.{VortexError}
-use Rattle.vx_types.specs.Columns.{Batch, batch}
-use Rattle.vx_types.specs.Types.{Name, LogicalType, Datum}
+use Rattle.vx_value.specs.Columns.{Batch, batch}
+use Rattle.vx_value.specs.Types.{Name, LogicalType, Datum}
 use Rattle.vx_fn.specs.Functions.{Operation, get_item, binary, and_also, compares, at_least, below, truth_type}
 use Rattle.vx_tree.specs.Binding.{binding}
 use Rattle.vx_tree.specs.Examples.{i32, i32_or_null, bool_or_null, number_of}
 use Rattle.vx_tree.specs.Faults.{HasNoFault}
 use Rattle.vx_tree.specs.Meaning.{mean}
-use Rattle.vx_types.specs.Views.{type_of}
+use Rattle.vx_value.specs.Views.{type_of}
 use Rattle.vx_tree.specs.Views.{bound_of}
 use Rattle.vx_tree.specs.Trees.{Tree, BoundTree, scope, node, BoundTrees, unbound, node_type, WellTyped, Over}
-use Rattle.vx_keep.proofs.Stepping.{no_step_left}
-use Rattle.vx_keep.specs.Steps.{Steps, no_step, one_more, GivesNothing, Normal}
+use Rattle.vx_rewrite_keep.proofs.Stepping.{no_step_left}
+use Rattle.vx_rewrite_keep.specs.Steps.{Steps, no_step, one_more, GivesNothing, Normal}
 use Rattle.vx_eval.specs.Evaluation.{evaluation}
-use Rattle.vx_rule_sets.specs.Modest.{is_literal}
-use Rattle.vx_rule_sets.specs.Nodes.{one_bound, two_bounds, literal_node}
-use Rattle.vx_rules.specs.Rules.{coalesce_to_null, coalesce}
-use Rattle.vx_branch_rules.specs.Branches.{BranchRuleAt}
+use Rattle.vx_rewrite_rule_sets.specs.Modest.{is_literal}
+use Rattle.vx_rewrite_rule_sets.specs.Nodes.{one_bound, two_bounds, literal_node}
+use Rattle.vx_rewrite_rules.specs.Rules.{coalesce_to_null, coalesce}
+use Rattle.vx_rewrite_branch_rules.specs.Branches.{BranchRuleAt}
 use Rattle.vx_scan.specs.Plans.{IsPlanFor}
 use Rattle.vx_scan.specs.declared.planned.ScanPlan.{ScanPlan}
 use Rattle.vx_scan.specs.Scans.{KeepsMeaning, HasTypeOf}
-use Rattle.vx_split.specs.Sources.{IsBound}
+use Rattle.vx_query_split.specs.Sources.{IsBound}
 use Rattle.vx_run.specs.Quiet.{IsQuiet}
 use Rattle.vx_run.specs.Scan.{scan, scanned_type, pair_or_null}
 use Rattle.vx_run.proofs.Branching.{nothing_at_scope, nothing_at_item, literal_normal}

@@ -3,8 +3,8 @@ use Rattle.std.specs.Prelude.{◌≡◌, ℕ, List, Option, None, Some, Result, 
 use Rattle.std.proofs.Common.{sym, ap, subst, ◌∙◌}
 use Rattle.vx_dtype.specs.Answers.{Answers}
 use Rattle.vx_dtype.specs.declared.error.VortexError.{VortexError}
-use Rattle.vx_types.specs.Columns.{Batch, batch}
-use Rattle.vx_types.specs.Types.{LogicalType}
+use Rattle.vx_value.specs.Columns.{Batch, batch}
+use Rattle.vx_value.specs.Types.{LogicalType}
 use Rattle.vx_tree.specs.Binding.{binding}
 use Rattle.vx_tree.specs.Faults.{first_fault}
 use Rattle.vx_tree.specs.Meaning.{mean}

@@ -1,7 +1,7 @@
 -- What the row `coalesce` shows: a CASE that gives 0 for null.
 use Rattle.std.specs.Prelude.{[], ◌∷◌}
-use Rattle.vx_types.specs.Columns.{batch}
-use Rattle.vx_types.specs.Types.{null}
+use Rattle.vx_value.specs.Columns.{batch}
+use Rattle.vx_value.specs.Types.{null}
 use Rattle.vx_tree.specs.Examples.{i32_or_null, with_x, row_of, number_of}
 use Rattle.vx_tree.specs.WorkedRows.{zero_for_null}
 use Rattle.vx_run.specs.Samples.{Sample}

@@ -3,8 +3,8 @@ use Rattle.std.specs.Prelude.{◌≡◌, ℕ, Ok}
 use Rattle.vx_tree.specs.Binding.{binding}
 use Rattle.vx_tree.specs.Trees.{BoundTree}
 use Rattle.vx_tree.specs.WorkedRows.{fused_range_of_x}
-use Rattle.vx_fusing.specs.Conjuncts.{Fused}
-use Rattle.vx_fusing.specs.Merging.{Merges}
+use Rattle.vx_rewrite_fusing.specs.Conjuncts.{Fused}
+use Rattle.vx_rewrite_fusing.specs.Merging.{Merges}
 use Rattle.vx_run.specs.Kleene.{kleene}
 use Rattle.vx_run.specs.Samples.{Sample}
 

@@ -1,6 +1,6 @@
 -- What the row `kleene` shows: two bounds of one field, of which one is null.
 use Rattle.std.specs.Prelude.{[], ◌∷◌}
-use Rattle.vx_types.specs.Columns.{batch}
+use Rattle.vx_value.specs.Columns.{batch}
 use Rattle.vx_tree.specs.Examples.{i32, with_x, row_of, number_of}
 use Rattle.vx_tree.specs.WorkedRows.{range_of_x}
 use Rattle.vx_run.specs.Samples.{Sample}

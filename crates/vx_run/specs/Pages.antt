@@ -1,10 +1,10 @@
 -- The page of a row: an expression's text, its type, its result over a batch, and its tree text.
 use Rattle.std.specs.Prelude.{ℕ, List, [], ◌++◌, Result, Ok, Err, map, codes}
 use Rattle.vx_dtype.specs.declared.error.VortexError.{VortexError}
-use Rattle.vx_types.specs.Columns.{Batch}
+use Rattle.vx_value.specs.Columns.{Batch}
 use Rattle.vx_dtype.specs.Texts.{type_text}
-use Rattle.vx_types.specs.Types.{LogicalType}
-use Rattle.vx_types.specs.ValueTexts.{column_text}
+use Rattle.vx_value.specs.Types.{LogicalType}
+use Rattle.vx_value.specs.ValueTexts.{column_text}
 use Rattle.vx_tree.specs.Trees.{Tree, on_ok, typed}
 use Rattle.vx_tree.specs.Meaning.{mean}
 use Rattle.vx_tree.specs.Texts.{sql}

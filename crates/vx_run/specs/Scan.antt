@@ -1,7 +1,7 @@
 -- What the row `scan` shows: conditions on two fields, over what a plan of them reads.
 use Rattle.std.specs.Prelude.{ℕ, List, true, [], ◌∷◌, codes}
-use Rattle.vx_types.specs.Columns.{batch}
-use Rattle.vx_types.specs.Types.{LogicalType, ty, struct, no_field, field, Datum, null, utf8, struct_of, no_datum, datum}
+use Rattle.vx_value.specs.Columns.{batch}
+use Rattle.vx_value.specs.Types.{LogicalType, ty, struct, no_field, field, Datum, null, utf8, struct_of, no_datum, datum}
 use Rattle.vx_fn.specs.Functions.{get_item, and_also, compares, at_least, below}
 use Rattle.vx_tree.specs.Examples.{i32, utf8_type, struct_type, row_of_two, number_of, one, col, lit_i32, operated}
 use Rattle.vx_tree.specs.Trees.{Tree, call}

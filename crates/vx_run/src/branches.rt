@@ -2,8 +2,8 @@
 ghost use Rattle.std.specs.Prelude.{◌≡◌, false, Ok, IfOk, IfErr};
 ghost use Rattle.vx_dtype.specs.Answers.{Answers};
 ghost use Rattle.vx_dtype.specs.declared.error.VortexError.TheVariants.{OutOfMemory};
-ghost use Rattle.vx_types.specs.Types.{bool};
-ghost use Rattle.vx_types.specs.Views.{type_of};
+ghost use Rattle.vx_value.specs.Types.{bool};
+ghost use Rattle.vx_value.specs.Views.{type_of};
 ghost use Rattle.vx_fn.specs.Functions.{is_null, truth_type};
 ghost use Rattle.vx_eval.specs.Evaluation.{evaluation};
 ghost use Rattle.vx_tree.specs.Binding.{binding};
@@ -15,9 +15,9 @@ ghost use Rattle.vx_run.specs.Branches.{branches, never_then_zero};
 use crate::examples::{field_x, number};
 use std::alloc::Global;
 use vx_build::{is_null, lit, nested_case_when};
-use vx_optimizer::optimized;
 use vx_query::run_query;
 use vx_rewrite::{BranchRules, Pass};
+use vx_rewrite_optimizer::optimized;
 use vx_tree::{BoundExpression, Expression};
 use vx_types::{Column, DType, Scalar, VortexResult};
 

@@ -2,7 +2,7 @@
 ghost use Rattle.std.specs.Prelude.{◌≡◌, Ok, IfOk, IfErr};
 ghost use Rattle.vx_dtype.specs.declared.error.VortexError.TheVariants.{OutOfMemory};
 ghost use Rattle.vx_dtype.specs.Answers.{Answers};
-ghost use Rattle.vx_types.specs.Types.{int};
+ghost use Rattle.vx_value.specs.Types.{int};
 ghost use Rattle.vx_fn.specs.Functions.{compares, above};
 ghost use Rattle.vx_tree.specs.Examples.{i32, x, lit, operated};
 ghost use Rattle.vx_tree.specs.Views.{tree_of};

@@ -1,9 +1,9 @@
 // Small expressions, types and values over one field x, of which the rows are made.
 ghost use Rattle.std.specs.Prelude.{Ok};
 ghost use Rattle.vx_dtype.specs.Answers.{Answers};
-ghost use Rattle.vx_types.specs.Views.{type_of, value_of};
+ghost use Rattle.vx_value.specs.Views.{type_of, value_of};
 ghost use Rattle.vx_tree.specs.Examples.{i32, with_x, row_of, x, lit, operated};
-ghost use Rattle.vx_types.specs.Types.{int};
+ghost use Rattle.vx_value.specs.Types.{int};
 ghost use Rattle.vx_fn.specs.Views.{operation_of};
 ghost use Rattle.vx_tree.specs.Views.{tree_of};
 

@@ -1,7 +1,7 @@
 // What the row `fused` shows: the bounds of the row `kleene` as one range.
 ghost use Rattle.std.specs.Prelude.{◌≡◌, Ok};
 ghost use Rattle.vx_dtype.specs.Answers.{Answers};
-ghost use Rattle.vx_types.specs.Views.{type_of};
+ghost use Rattle.vx_value.specs.Views.{type_of};
 ghost use Rattle.vx_eval.specs.Evaluation.{evaluation};
 ghost use Rattle.vx_tree.specs.Binding.{binding};
 ghost use Rattle.vx_tree.specs.Trees.{BoundTree};

@@ -4,13 +4,13 @@ use Rattle.std.specs.Coded.{Coded-set, coded_ℕ, coded_option}
 use Rattle.std.proofs.Common.{subst}
 use mathlib.Core.Logic.{∥∥₁_elim}
 use Rattle.vx_dtype.specs.Codes.{type_code}
-use Rattle.vx_types.specs.Codes.{datum_code}
-use Rattle.vx_types.specs.Types.{LogicalType, Datum}
+use Rattle.vx_value.specs.Codes.{datum_code}
+use Rattle.vx_value.specs.Types.{LogicalType, Datum}
 use Rattle.vx_tree.specs.Trees.{BoundTree, BoundTrees, node_type}
 use Rattle.vx_dtype.specs.declared.error.VortexError.{VortexError}
-use Rattle.vx_recombine.specs.Recombining.{Recombines, NoOtherFault}
-use Rattle.vx_split.specs.Division.{Parts, IsSplitOf, divided}
-use Rattle.vx_split.proofs.Divided.{Sound, sound}
+use Rattle.vx_rewrite_recombine.specs.Recombining.{Recombines, NoOtherFault}
+use Rattle.vx_query_split.specs.Division.{Parts, IsSplitOf, divided}
+use Rattle.vx_query_split.proofs.Divided.{Sound, sound}
 use Rattle.vx_scan.specs.Propositions.{refusal_code, well_typed-prop, each_well_typed-prop, over-prop, each_over-prop}
 
 datum-set : IsSet Datum

@@ -1,17 +1,17 @@
 -- The referenced paths of a tree lead somewhere in its scope's type, so what is read along them agrees with the batch.
 use Rattle.std.proofs.Common.{◌≡◌, List, [], ◌∷◌, ◌++◌, sym, subst, filter, map, Bool, true, false}
 use Rattle.std.specs.Prelude.{cond, if◌then◌else◌, not}
-use Rattle.vx_types.specs.Fits.{IsBatch}
-use Rattle.vx_types.specs.Paths.{Path, is_member, add_path, add_paths, has_proper_prefix, minimal_paths}
-use Rattle.vx_types.specs.Types.{LogicalType, Datum}
+use Rattle.vx_value.specs.Fits.{IsBatch}
+use Rattle.vx_value.specs.Paths.{Path, is_member, add_path, add_paths, has_proper_prefix, minimal_paths}
+use Rattle.vx_value.specs.Types.{LogicalType, Datum}
 use Rattle.vx_tree.specs.Trees.{BoundTree, WellTyped, Over}
-use Rattle.vx_paths.specs.Agreement.{RowsAgree}
-use Rattle.vx_paths.specs.Asked.{whole, asked, referenced}
-use Rattle.vx_paths.proofs.Interference.{asked-lead}
-use Rattle.vx_paths.specs.Leading.{Leads, EachLeads}
-use Rattle.vx_paths.proofs.Leading.{leads-append}
-use Rattle.vx_kept.specs.Kept.{kept}
-use Rattle.vx_kept.proofs.Agreeing.{kept_rows-agree}
+use Rattle.vx_rewrite_paths.specs.Agreement.{RowsAgree}
+use Rattle.vx_rewrite_paths.specs.Asked.{whole, asked, referenced}
+use Rattle.vx_rewrite_paths.proofs.Interference.{asked-lead}
+use Rattle.vx_rewrite_paths.specs.Leading.{Leads, EachLeads}
+use Rattle.vx_rewrite_paths.proofs.Leading.{leads-append}
+use Rattle.vx_scan_kept.specs.Kept.{kept}
+use Rattle.vx_scan_kept.proofs.Agreeing.{kept_rows-agree}
 
 filter-leads : (test : Path → Bool) (ps : List Path) (t : LogicalType) → EachLeads ps t → EachLeads (filter test ps) t
 filter-leads test [] t l = tt

@@ -4,33 +4,33 @@ use Rattle.std.specs.Prelude.{MatchResult, not}
 use Rattle.vx_dtype.specs.Answers.{Answers}
 use Rattle.vx_dtype.specs.declared.error.VortexError.{VortexError}
 use Rattle.vx_dtype.specs.declared.error.VortexError.TheVariants.{OutOfMemory, ScopeMismatch}
-use Rattle.vx_types.specs.Columns.{Batch, batch}
-use Rattle.vx_types.specs.Equality.{equal_type, equal_type-Decides}
-use Rattle.vx_types.specs.Fits.{IsBatch}
-use Rattle.vx_types.specs.Paths.{Path, minimal_paths}
-use Rattle.vx_types.specs.Types.{LogicalType, Datum}
+use Rattle.vx_value.specs.Columns.{Batch, batch}
+use Rattle.vx_value.specs.Equality.{equal_type, equal_type-Decides}
+use Rattle.vx_value.specs.Fits.{IsBatch}
+use Rattle.vx_value.specs.Paths.{Path, minimal_paths}
+use Rattle.vx_value.specs.Types.{LogicalType, Datum}
 use Rattle.vx_fn.specs.Faults.{IsIn}
 use Rattle.vx_tree.proofs.Meant.{mean-unbound}
 use Rattle.vx_tree.specs.Faults.{HasNoFault, first_fault, each_fault}
 use Rattle.vx_tree.specs.Meaning.{mean}
 use Rattle.vx_tree.specs.Trees.{BoundTree, node_type, unbound, WellTyped, Over}
-use Rattle.vx_keep.proofs.Keeping.{keeps_refl}
-use Rattle.vx_keep.proofs.Stepping.{steps_keep}
-use Rattle.vx_keep.specs.Keeps.{Keeps}
-use Rattle.vx_branch_rules.proofs.Lawfulness.{branch_rules_lawful, branch_normal}
-use Rattle.vx_branch_rules.specs.Branches.{BranchRuleAt}
-use Rattle.vx_paths.proofs.Fixing.{minimal_paths-fix}
-use Rattle.vx_recombine.specs.Items.{struct_type, joined}
+use Rattle.vx_rewrite_keep.proofs.Keeping.{keeps_refl}
+use Rattle.vx_rewrite_keep.proofs.Stepping.{steps_keep}
+use Rattle.vx_rewrite_keep.specs.Keeps.{Keeps}
+use Rattle.vx_rewrite_branch_rules.proofs.Lawfulness.{branch_rules_lawful, branch_normal}
+use Rattle.vx_rewrite_branch_rules.specs.Branches.{BranchRuleAt}
+use Rattle.vx_rewrite_paths.proofs.Fixing.{minimal_paths-fix}
+use Rattle.vx_rewrite_recombine.specs.Items.{struct_type, joined}
 use Rattle.vx_eval.specs.Columns.{unless_fault}
 use Rattle.vx_eval.specs.Evaluation.{evaluation}
-use Rattle.vx_split.proofs.Meant.{whole_means, split_means}
-use Rattle.vx_split.specs.Division.{Parts}
-use Rattle.vx_split.specs.Sources.{IsMeantBy}
-use Rattle.vx_split.specs.Splits.{fault_or, joined_column}
-use Rattle.vx_alike.proofs.Faulting.{normal_trees-alike}
-use Rattle.vx_kept.specs.Kept.{kept, kept_batch}
-use Rattle.vx_kept.proofs.Keeping.{kept_rows-fit}
-use Rattle.vx_split.proofs.Divided.{Sound}
+use Rattle.vx_query_split.proofs.Meant.{whole_means, split_means}
+use Rattle.vx_query_split.specs.Division.{Parts}
+use Rattle.vx_query_split.specs.Sources.{IsMeantBy}
+use Rattle.vx_query_split.specs.Splits.{fault_or, joined_column}
+use Rattle.vx_scan_alike.proofs.Faulting.{normal_trees-alike}
+use Rattle.vx_scan_kept.specs.Kept.{kept, kept_batch}
+use Rattle.vx_scan_kept.proofs.Keeping.{kept_rows-fit}
+use Rattle.vx_query_split.proofs.Divided.{Sound}
 use Rattle.vx_scan.specs.Plans.{IsPlan}
 use Rattle.vx_scan.specs.Scans.{planned_evaluation, HasTypeOf, KeepsMeaning, Scanned}
 use Rattle.vx_scan.proofs.Opened.{sound_of, root_type_of}

@@ -1,13 +1,13 @@
 -- What a plan for scans promises.
 use Rattle.std.specs.Prelude.{◌≡◌, ℕ, List, Option}
-use Rattle.vx_types.specs.Paths.{Path}
-use Rattle.vx_types.specs.Types.{LogicalType}
+use Rattle.vx_value.specs.Paths.{Path}
+use Rattle.vx_value.specs.Types.{LogicalType}
 use Rattle.vx_tree.specs.Trees.{Tree, BoundTree, WellTyped, Over}
-use Rattle.vx_keep.specs.Steps.{Normal, Steps}
-use Rattle.vx_branch_rules.specs.Branches.{BranchRuleAt}
-use Rattle.vx_paths.specs.Asked.{referenced}
-use Rattle.vx_split.specs.Division.{Parts, IsSplitOf}
-use Rattle.vx_split.specs.Sources.{IsBound}
+use Rattle.vx_rewrite_keep.specs.Steps.{Normal, Steps}
+use Rattle.vx_rewrite_branch_rules.specs.Branches.{BranchRuleAt}
+use Rattle.vx_rewrite_paths.specs.Asked.{referenced}
+use Rattle.vx_query_split.specs.Division.{Parts, IsSplitOf}
+use Rattle.vx_query_split.specs.Sources.{IsBound}
 
 -- the plan's tree is well typed, over its scope, and no rule fits at any of its nodes; the paths are those that it references, and the split is its own
 pub record IsPlan (s : LogicalType) (u : BoundTree) (paths : List Path) (split : Option Parts) : Type 0 where

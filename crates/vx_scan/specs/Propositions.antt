@@ -3,13 +3,13 @@ use Rattle.std.specs.Prelude.{List, Option}
 use Rattle.std.specs.Coded.{Coded, Coded-set, coded_bool, coded_list, coded_ℕ, coded_result, codes, ×_prop, Unit-prop}
 use Rattle.vx_dtype.specs.Codes.{type_code}
 use Rattle.vx_dtype.specs.declared.error.VortexError.{VortexError}
-use Rattle.vx_types.specs.Paths.{Path}
-use Rattle.vx_types.specs.Types.{LogicalType}
+use Rattle.vx_value.specs.Paths.{Path}
+use Rattle.vx_value.specs.Types.{LogicalType}
 use Rattle.vx_fn.specs.Functions.{Function, HasFittingLiteral, literal, Typing}
 use Rattle.vx_tree.specs.Trees.{BoundTree, scope, node, BoundTrees, no_bound, bound, WellTyped, EachWellTyped, Over, EachOver}
-use Rattle.vx_keep.specs.Steps.{Normal, EachNormal}
-use Rattle.vx_branch_rules.specs.Branches.{BranchRuleAt}
-use Rattle.vx_split.specs.Division.{Parts}
+use Rattle.vx_rewrite_keep.specs.Steps.{Normal, EachNormal}
+use Rattle.vx_rewrite_branch_rules.specs.Branches.{BranchRuleAt}
+use Rattle.vx_query_split.specs.Division.{Parts}
 use Rattle.vx_scan.specs.Plans.{IsPlan}
 
 pub refusal_code : Coded VortexError

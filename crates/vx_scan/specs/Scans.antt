@@ -3,18 +3,18 @@ use Rattle.std.specs.Prelude.{◌≡◌, ◌≢◌, ℕ, List, Option, Some, Non
 use Rattle.vx_dtype.specs.declared.error.VortexError.{VortexError}
 use Rattle.vx_dtype.specs.declared.error.VortexError.TheVariants.{OutOfMemory, ScopeMismatch}
 use Rattle.vx_dtype.specs.Answers.{Answers}
-use Rattle.vx_types.specs.Columns.{Batch}
-use Rattle.vx_types.specs.Paths.{Path, minimal_paths}
-use Rattle.vx_types.specs.Types.{LogicalType}
+use Rattle.vx_value.specs.Columns.{Batch}
+use Rattle.vx_value.specs.Paths.{Path, minimal_paths}
+use Rattle.vx_value.specs.Types.{LogicalType}
 use Rattle.vx_tree.specs.Faults.{HasNoFault}
 use Rattle.vx_tree.specs.Trees.{Tree, BoundTree, node_type}
-use Rattle.vx_keep.specs.Steps.{Steps}
-use Rattle.vx_branch_rules.specs.Branches.{BranchRuleAt}
+use Rattle.vx_rewrite_keep.specs.Steps.{Steps}
+use Rattle.vx_rewrite_branch_rules.specs.Branches.{BranchRuleAt}
 use Rattle.vx_eval.specs.Evaluation.{evaluation}
-use Rattle.vx_kept.specs.Kept.{kept_batch}
-use Rattle.vx_split.specs.Division.{Parts}
-use Rattle.vx_split.specs.Sources.{IsBound, IsMeantBy}
-use Rattle.vx_split.specs.Splits.{split_evaluation}
+use Rattle.vx_scan_kept.specs.Kept.{kept_batch}
+use Rattle.vx_query_split.specs.Division.{Parts}
+use Rattle.vx_query_split.specs.Sources.{IsBound, IsMeantBy}
+use Rattle.vx_query_split.specs.Splits.{split_evaluation}
 
 -- what the tree gives over the batch: by its split, if there is one, else whole
 abbrev pub planned_evaluation : Option Parts → BoundTree → Batch → Result Batch VortexError

@@ -3,18 +3,18 @@ ghost use Rattle.std.specs.Prelude.{◌≡◌, ◌⊎◌, Err, IfErr, IfOk, opti
 ghost use Rattle.vx_dtype.specs.declared.error.VortexError.TheVariants.{OutOfMemory};
 ghost use Rattle.vx_scan.specs.Plans.{IsPlan, IsPlanFor};
 ghost use Rattle.vx_scan.specs.Propositions.{plan-prop};
-ghost use Rattle.vx_split.specs.Division.{parts_of};
+ghost use Rattle.vx_query_split.specs.Division.{parts_of};
 ghost use Rattle.vx_tree.specs.Trees.{typed};
 ghost use Rattle.vx_tree.specs.Views.{bound_of, tree_of};
-ghost use Rattle.vx_types.specs.Views.{type_of};
+ghost use Rattle.vx_value.specs.Views.{type_of};
 
 use std::alloc::Global;
-use vx_branches::BranchRules;
-use vx_kept::ColumnReader;
-use vx_optimizer::optimized;
-use vx_partition::BoundPartitionedExpr;
-use vx_paths::referenced_field_paths;
-use vx_split::split_by_fields;
+use vx_query_split::split_by_fields;
+use vx_rewrite_branches::BranchRules;
+use vx_rewrite_optimizer::optimized;
+use vx_rewrite_paths::referenced_field_paths;
+use vx_rewrite_split::BoundPartitionedExpr;
+use vx_scan_kept::ColumnReader;
 use vx_tree::{BoundExpression, Expression, FieldName};
 use vx_types::{Column, DType, FieldPathSet, VortexResult};
 

@@ -2,19 +2,19 @@
 ghost use Rattle.std.specs.Prelude.{◌≡◌, ◌≢◌, IsErrOf};
 ghost use Rattle.vx_dtype.specs.Answers.{Answers};
 ghost use Rattle.vx_dtype.specs.declared.error.VortexError.TheVariants.{ScopeMismatch};
-ghost use Rattle.vx_kept.specs.Kept.{kept_batch};
-ghost use Rattle.vx_kept.specs.Readers.{AreJust};
+ghost use Rattle.vx_scan_kept.specs.Kept.{kept_batch};
+ghost use Rattle.vx_scan_kept.specs.Readers.{AreJust};
 ghost use Rattle.vx_scan.specs.Scans.{HasTypeOf, IsRefusedWhere, KeepsMeaning, Scanned, planned_evaluation};
-ghost use Rattle.vx_split.specs.Division.{parts_of};
+ghost use Rattle.vx_query_split.specs.Division.{parts_of};
 ghost use Rattle.vx_tree.specs.Views.{bound_of};
-ghost use Rattle.vx_types.specs.Paths.{minimal_paths};
-ghost use Rattle.vx_types.specs.Views.{type_of};
+ghost use Rattle.vx_value.specs.Paths.{minimal_paths};
+ghost use Rattle.vx_value.specs.Views.{type_of};
 
 use crate::ScanPlan;
 use std::alloc::Global;
 use vx_eval::apply_bound;
-use vx_kept::PathReader;
-use vx_split::evaluate_split;
+use vx_query_split::evaluate_split;
+use vx_scan_kept::PathReader;
 use vx_types::{Column, VortexError, VortexResult};
 
 /// What the plan's tree gives over the reader's batch, of which the plan's paths alone are read: the

@@ -4,7 +4,7 @@ use std::alloc::Global;
 use std::rc::Rc;
 use std::test::Fail;
 use vx_eval::apply_bound;
-use vx_samples::{bound, column, i32_type, reads, values};
+use vx_test_samples::{bound, column, i32_type, reads, values};
 use vx_tree::Nullability::{NonNullable, Nullable};
 use vx_tree::{Column, DType, Value, VortexError, VortexResult};
 

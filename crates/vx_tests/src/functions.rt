@@ -4,7 +4,7 @@ ghost use Rattle.std.specs.List.{IsDistinct};
 ghost use Rattle.std.specs.Str.{bytes_eq};
 
 use std::alloc::Global;
-use vx_samples::names;
+use vx_test_samples::names;
 use vx_tree::Nullability::Nullable;
 use vx_tree::{
     Binary, DType, FieldName, FieldNames, FieldSelection, FillNull, GetItem, Literal, Operator,

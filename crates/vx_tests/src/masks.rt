@@ -1,13 +1,13 @@
 // Masks of rows, and columns merged by them.
 ghost use Rattle.std.specs.Prelude.{◌≡◌, ◌<◌, ℕ, IsTrue, true, false, ◌||◌, length, get_or};
-ghost use Rattle.vx_types.specs.Fits.{IsBatch};
-ghost use Rattle.vx_types.specs.Views.{type_of};
+ghost use Rattle.vx_value.specs.Fits.{IsBatch};
+ghost use Rattle.vx_value.specs.Views.{type_of};
 
 use std::alloc::{AllocError, Global};
 use std::test::Fail;
 use vx_dtype::laws::types_are_equal_exactly;
 use vx_eval::{RowMask, merge_compact, merge_runs, prefer_runs};
-use vx_samples::{column, i32_type, reads};
+use vx_test_samples::{column, i32_type, reads};
 use vx_tree::Nullability::NonNullable;
 use vx_tree::{Column, DType, VortexResult};
 

@@ -7,8 +7,8 @@ use std::alloc::Global;
 use std::process::Abort;
 use std::test::Fail;
 use vx_eval::apply_bound;
-use vx_pressure::Shortage;
-use vx_samples::{bound, boxed, column, dtype, reads};
+use vx_test_pressure::Shortage;
+use vx_test_samples::{bound, boxed, column, dtype, reads};
 use vx_tree::{Column, DType, Expression, VortexError, VortexResult};
 
 /// Whether binding, which succeeds, is refused where all memory is taken.

@@ -1,6 +1,6 @@
 // Scalars by their constructors: texts, types and values.
 use crate::looks::{differs, same};
-use vx_samples::reads;
+use vx_test_samples::reads;
 use vx_tree::Nullability::Nullable;
 use vx_tree::{DType, Scalar, Value};
 

@@ -4,7 +4,7 @@ use std::alloc::Global;
 use std::process::Abort;
 use std::test::Fail;
 use vx_build::{bound, root};
-use vx_samples::{boxed, dtype, i32_type, reads};
+use vx_test_samples::{boxed, dtype, i32_type, reads};
 use vx_tree::Nullability::{NonNullable, Nullable};
 use vx_tree::test_harness::struct_dtype;
 use vx_tree::{
@@ -70,7 +70,7 @@ fn nodes_show_their_function_and_children(rt: HostRuntime) -> Result<(), Fail> {
 #[test]
 fn bound_nodes_show_their_function_and_children(rt: HostRuntime) -> Result<(), Fail> {
     let alloc = rt.alloc();
-    let bound = vx_samples::bound(alloc, RANGE_OF_X, &dtype(alloc, "{x=i32}")?)?;
+    let bound = vx_test_samples::bound(alloc, RANGE_OF_X, &dtype(alloc, "{x=i32}")?)?;
     assert!(rt; matches!(bound.as_scalar(), Some(ScalarFnRef::Binary(Operator::And))));
     assert!(rt; bound.as_opt::<Binary>() == Some(&Operator::And));
     assert!(rt; bound.is::<Binary>());
@@ -184,7 +184,7 @@ fn a_root_has_no_children_and_one_line(rt: HostRuntime) {
 #[test]
 fn a_bound_node_takes_other_children(rt: HostRuntime) -> Result<(), Fail> {
     let alloc = rt.alloc();
-    let bound = vx_samples::bound(alloc, "bool1 bool2 or", &struct_dtype(alloc)?)?;
+    let bound = vx_test_samples::bound(alloc, "bool1 bool2 or", &struct_dtype(alloc)?)?;
     let mut children = Vec::new(alloc);
     for child in bound.children() {
         let child = child.clone().expect(&rt, "memory");

@@ -1,8 +1,8 @@
 -- Binding gives the type of the tree, over the scope, and keeps the tree; it refuses where typing does.
 use Rattle.std.proofs.Common.{◌≡◌, inl, inr, ⊎_elim, List, ◌∷◌, Result, Ok, Err, refl, ap, subst, ◌∙◌, IfOk}
 use Rattle.vx_dtype.specs.declared.error.VortexError.{VortexError}
-use Rattle.vx_types.specs.Answers.{Answers}
-use Rattle.vx_types.specs.Types.{LogicalType}
+use Rattle.vx_value.specs.Answers.{Answers}
+use Rattle.vx_value.specs.Types.{LogicalType}
 use Rattle.vx_fn.specs.Functions.{Function, Typing, fn_type}
 use Rattle.vx_tree.specs.declared.bound.BoundExpression.{BoundExpression}
 use Rattle.vx_tree.specs.Trees.{Tree, root, call, Trees, no_tree, tree, BoundTree, node, BoundTrees, bound, on_ok, typed, each_typed, node_type, node_types, unbound, unbound_each, Over, EachOver}

@@ -4,7 +4,7 @@ use Rattle.std.specs.Prelude.{Option, None, option_map, IsErr, IfSome, ◌==◌,
 use Rattle.std.proofs.lemmas.Bool.Decides.{nat_tests}
 use Rattle.vx_dtype.specs.declared.error.VortexError.{VortexError}
 use Rattle.vx_dtype.specs.declared.error.VortexError.TheVariants.{ArityMismatch, RootChildren}
-use Rattle.vx_types.specs.Types.{LogicalType}
+use Rattle.vx_value.specs.Types.{LogicalType}
 use Rattle.vx_fn.specs.Functions.{Function, case_when, get_item, literal, pack, select, fill_null, zip, binary, negation, between, like, is_null, is_not_null, mask, cast, Typing, fn_type, arity_of, of_one, of_two, of_three, of_many, case_children, case_type, pack_type}
 use Rattle.vx_tree.specs.declared.expression.Expression.{Expression}
 use Rattle.vx_tree.specs.declared.bound.BoundExpression.{BoundExpression}

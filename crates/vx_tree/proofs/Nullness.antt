@@ -1,7 +1,7 @@
 -- What validity tells.
 use Rattle.std.proofs.Common.{◌≡◌, ◌≢◌, length, IfOk, Result, List, [], ◌∷◌, refl, sym, ap, subst, ◌∙◌, Bool, true, false, map}
 use Rattle.std.specs.Prelude.{Ok, Err, not, if◌then◌else◌}
-use Rattle.vx_types.specs.Types.{LogicalType, Datum, bool, is_null_datum}
+use Rattle.vx_value.specs.Types.{LogicalType, Datum, bool, is_null_datum}
 use Rattle.vx_fn.specs.Functions.{literal, pack, fill_null}
 use Rattle.vx_fn.specs.Faults.{IsIn}
 use Rattle.vx_tree.specs.Faults.{HasNoFault, first_fault, each_fault}
@@ -9,7 +9,7 @@ use Rattle.vx_tree.specs.Meaning.{value, values}
 use Rattle.vx_tree.specs.Trees.{BoundTree, node, no_bound, bound, node_types, WellTyped}
 use Rattle.vx_tree.specs.Validity.{truth_literal, not_null_of, fill_of_node, validity_of, TellsValidity}
 use Rattle.vx_dtype.specs.declared.error.VortexError.{VortexError}
-use Rattle.vx_types.specs.Answers.{Answers}
+use Rattle.vx_value.specs.Answers.{Answers}
 use Rattle.vx_tree.specs.declared.bound.BoundExpression.{BoundExpression}
 use Rattle.vx_tree.specs.Views.{bound_of, bounds_from}
 use Rattle.vx_tree.proofs.Trees.{or_none, row_safe, IsIn-map}

@@ -2,7 +2,7 @@
 use Rattle.std.proofs.Common.{◌≡◌, ◌≢◌, ℕ, zero, suc, ◌+◌, ◌<◌, ◌≤◌, List, [], ◌∷◌, ◌++◌, length, get_or, drop, map, codes, refl, sym, ap, ◌∙◌, arith, Some, append_assoc}
 use Rattle.std.proofs.lemmas.List.{at_drop_more, at_drop_all}
 use Rattle.std.proofs.lemmas.Bool.Decides.{nat_tests}
-use Rattle.vx_types.specs.Types.{Name}
+use Rattle.vx_value.specs.Types.{Name}
 use Rattle.vx_fn.specs.Functions.{Function, arity_of}
 use Rattle.vx_fn.specs.Texts.{node_sql, own_sql, call_sql, after_commas, with_commas, named_texts, pairs_sql}
 use Rattle.vx_tree.specs.Nodes.{function_at, children_of, size_of, sizes_of}

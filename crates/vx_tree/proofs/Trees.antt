@@ -6,8 +6,8 @@ use Rattle.std.specs.Option.{option_or, option_map}
 use Rattle.std.proofs.lemmas.Bool.{and_parts, or_parts, ltb-false, le-ltb}
 use Rattle.vx_fn.proofs.Rows.{fn_type-found}
 use Rattle.vx_fn.proofs.Sound.{IsSafe, fn_value-fits}
-use Rattle.vx_types.specs.Types.{LogicalType, Datum, is_null_datum}
-use Rattle.vx_types.specs.Fits.{Fits, EachFits, none_fit, more_fit}
+use Rattle.vx_value.specs.Types.{LogicalType, Datum, is_null_datum}
+use Rattle.vx_value.specs.Fits.{Fits, EachFits, none_fit, more_fit}
 use Rattle.vx_fn.specs.Functions.{Function, binary, adds, cast, fill_null}
 use Rattle.vx_tree.specs.Meaning.{value, values}
 use Rattle.vx_dtype.specs.declared.error.VortexError.{VortexError}

@@ -2,8 +2,8 @@
 use Rattle.std.proofs.Common.{◌≡◌, ℕ, ◌+◌, ◌<◌, ◌≤◌, List, [], ◌∷◌, ◌++◌, length, get_or, drop, drop-cons, drop_of_length-le, map, add-one, Result, Ok, Err, refl, sym, ap, ◌∙◌}
 use Rattle.vx_dtype.specs.declared.dtype.DType.{DType}
 use Rattle.vx_dtype.specs.declared.error.VortexError.{VortexError}
-use Rattle.vx_types.specs.Types.{LogicalType}
-use Rattle.vx_types.specs.Views.{type_of}
+use Rattle.vx_value.specs.Types.{LogicalType}
+use Rattle.vx_value.specs.Views.{type_of}
 use Rattle.vx_tree.specs.declared.expression.Expression.{Expression}
 use Rattle.vx_tree.specs.Trees.{on_ok, typed, each_typed}
 use Rattle.vx_tree.specs.Views.{tree_of, trees_of}

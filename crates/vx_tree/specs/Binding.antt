@@ -1,7 +1,7 @@
 -- A tree bound to a scope's type: each node with its type, or the first refusal.
 use Rattle.std.specs.Prelude.{Result, Ok}
 use Rattle.vx_dtype.specs.declared.error.VortexError.{VortexError}
-use Rattle.vx_types.specs.Types.{LogicalType}
+use Rattle.vx_value.specs.Types.{LogicalType}
 use Rattle.vx_fn.specs.Functions.{Function, fn_type}
 use Rattle.vx_tree.specs.Trees.{Tree, root, call, Trees, no_tree, tree, BoundTree, scope, node, BoundTrees, no_bound, bound, node_types, on_ok}
 

@@ -1,8 +1,8 @@
 -- The test that a bound tree is well typed.
 use Rattle.std.specs.Prelude.{Bool, true, false, ◌&&◌, Ok, Err}
-use Rattle.vx_types.specs.Equality.{equal_type}
-use Rattle.vx_types.specs.Fits.{fits}
-use Rattle.vx_types.specs.Types.{LogicalType}
+use Rattle.vx_value.specs.Equality.{equal_type}
+use Rattle.vx_value.specs.Fits.{fits}
+use Rattle.vx_value.specs.Types.{LogicalType}
 use Rattle.vx_fn.specs.Functions.{Function, literal, Typing, fn_type}
 use Rattle.vx_tree.specs.Trees.{BoundTree, scope, node, BoundTrees, no_bound, bound, node_types}
 

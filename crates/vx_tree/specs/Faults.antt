@@ -1,7 +1,7 @@
 -- Which node faults on a batch, and in which row.
 use Rattle.std.specs.Prelude.{◌≡◌, List, Option, None, map}
 use Rattle.std.specs.Option.{option_or}
-use Rattle.vx_types.specs.Types.{Datum}
+use Rattle.vx_value.specs.Types.{Datum}
 use Rattle.vx_dtype.specs.declared.error.VortexError.{VortexError}
 use Rattle.vx_fn.specs.Faults.{node_fault}
 use Rattle.vx_tree.specs.Meaning.{values}

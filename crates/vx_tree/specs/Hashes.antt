@@ -2,7 +2,7 @@
 use Rattle.std.specs.Prelude.{◌≡◌, ◌++◌, IsTrue}
 use Rattle.std.specs.Hash.{HashWrites, Alike, same_Alike}
 use Rattle.std.specs.Hash as fed
-use Rattle.vx_types.specs.Types.{Datum}
+use Rattle.vx_value.specs.Types.{Datum}
 use Rattle.vx_fn.specs.Equality.{function_fed}
 use Rattle.vx_tree.specs.Equality.{equal_tree, equal_tree-Decides, equal_bound, equal_bound-Decides}
 use Rattle.vx_tree.specs.Trees.{Tree, root, call, Trees, no_tree, tree, BoundTree, unbound}

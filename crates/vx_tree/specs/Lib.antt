@@ -21,9 +21,9 @@ pub mod Validity
 pub mod Checked
 pub mod Examples
 pub mod WorkedRows
-pub use Rattle.vx_types.specs.Answers
-pub use Rattle.vx_types.specs.Types
-pub use Rattle.vx_types.specs.Views as TypeViews
+pub use Rattle.vx_value.specs.Answers
+pub use Rattle.vx_value.specs.Types
+pub use Rattle.vx_value.specs.Views as TypeViews
 pub use Rattle.vx_fn.specs.Functions
 pub use Rattle.vx_fn.specs.Markers
 pub use Rattle.vx_fn.specs.Views as FunctionViews

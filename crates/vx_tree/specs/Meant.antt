@@ -1,6 +1,6 @@
 -- A bound tree's own value is the meaning of its source.
 use Rattle.std.specs.Prelude.{◌≡◌, Ok}
-use Rattle.vx_types.specs.Types.{LogicalType, Datum}
+use Rattle.vx_value.specs.Types.{LogicalType, Datum}
 use Rattle.vx_tree.specs.Trees.{BoundTree, unbound, node_type, typed, WellTyped, Over}
 use Rattle.vx_tree.specs.Meaning.{mean, value}
 

@@ -1,12 +1,12 @@
 -- What typing promises of values.
 use Rattle.std.specs.Prelude.{List}
-use Rattle.vx_types.specs.Types.{LogicalType, Datum}
-use Rattle.vx_types.specs.Fits.{Fits}
+use Rattle.vx_value.specs.Types.{LogicalType, Datum}
+use Rattle.vx_value.specs.Fits.{Fits}
 use Rattle.vx_tree.specs.Trees.{BoundTree, node_type, WellTyped, Over}
 use Rattle.vx_tree.specs.Meaning.{value}
 use Rattle.vx_tree.specs.Faults.{HasNoFault}
 use Rattle.vx_fn.specs.Faults.{IsIn}
-use Rattle.vx_types.specs.Fits.{IsBatch}
+use Rattle.vx_value.specs.Fits.{IsBatch}
 
 -- at each row of a batch on which a well-typed tree doesn't fault its value fits its type
 abbrev pub TypesAreSound : Type 0

@@ -1,6 +1,6 @@
 -- Both trees, typing, and what makes a bound tree right.
 use Rattle.std.specs.Prelude.{◌≡◌, List, [], ◌∷◌, Result, Ok, Err}
-use Rattle.vx_types.specs.Types.{LogicalType}
+use Rattle.vx_value.specs.Types.{LogicalType}
 use Rattle.vx_fn.specs.Functions.{Function, HasFittingLiteral, Typing, fn_type}
 use Rattle.vx_dtype.specs.declared.error.VortexError.{VortexError}
 

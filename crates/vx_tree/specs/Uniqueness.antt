@@ -1,6 +1,6 @@
 -- There is one way to bind a tree to a scope.
 use Rattle.std.specs.Prelude.{◌≡◌, Ok}
-use Rattle.vx_types.specs.Types.{LogicalType}
+use Rattle.vx_value.specs.Types.{LogicalType}
 use Rattle.vx_tree.specs.Trees.{BoundTree, unbound, WellTyped, Over}
 use Rattle.vx_tree.specs.Binding.{binding}
 

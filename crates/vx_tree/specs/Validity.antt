@@ -1,6 +1,6 @@
 -- The tree that is true exactly where another isn't null.
 use Rattle.std.specs.Prelude.{◌≡◌, Bool, true, false, not, List}
-use Rattle.vx_types.specs.Types.{LogicalType, Datum, bool, is_null_datum}
+use Rattle.vx_value.specs.Types.{LogicalType, Datum, bool, is_null_datum}
 use Rattle.vx_fn.specs.Functions.{literal, pack, fill_null, is_not_null, truth_type}
 use Rattle.vx_fn.specs.Faults.{IsIn}
 use Rattle.vx_tree.specs.Faults.{HasNoFault}

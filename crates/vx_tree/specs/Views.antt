@@ -1,6 +1,6 @@
 -- What expressions stand for.
 use Rattle.std.specs.Prelude.{List, [], ◌∷◌, map}
-use Rattle.vx_types.specs.Views.{type_of}
+use Rattle.vx_value.specs.Views.{type_of}
 use Rattle.vx_fn.specs.Views.{function_of}
 use Rattle.vx_tree.specs.declared.expression.Expression.{Expression, fold-Expression}
 use Rattle.vx_tree.specs.declared.expression.Expression.TheOpen.{Expression-F}

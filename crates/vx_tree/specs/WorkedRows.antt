@@ -3,8 +3,8 @@ use Rattle.std.specs.Prelude.{◌≡◌, ℕ, Bool, true, false, List, [], ◌�
 use Rattle.vx_dtype.specs.declared.dtype.PType.TheVariants.{I8, U64}
 use Rattle.vx_dtype.specs.declared.error.VortexError.{VortexError}
 use Rattle.vx_dtype.specs.declared.error.VortexError.TheVariants.{ArityMismatch, NoSuchField, BaseTypesDiffer, NotBool, NoPairs, AddOverflow, BadFill}
-use Rattle.vx_types.specs.Types.{truth, number, LogicalType, ty, atomic, struct, no_field, field, Datum, null, bool, utf8, struct_of, no_datum}
-use Rattle.vx_types.specs.Columns.{first_misfit}
+use Rattle.vx_value.specs.Types.{truth, number, LogicalType, ty, atomic, struct, no_field, field, Datum, null, bool, utf8, struct_of, no_datum}
+use Rattle.vx_value.specs.Columns.{first_misfit}
 use Rattle.vx_fn.specs.declared.options.FieldSelection.TheVariants.{Include, Exclude}
 use Rattle.vx_fn.specs.Functions.{case_when, get_item, pack, select, fill_null, zip, between, like, is_null, compares, and_also, adds, equal, above, at_least, at_most}
 use Rattle.vx_tree.specs.Examples.{i8, i32, i32_or_null, bool_or_null, utf8_type, struct_type, with_x, row_of, row_of_two, number_of, one, two, three, col, x, lit, lit_i32, lit_text, operated}

@@ -1,7 +1,7 @@
 // Expressions bound to a scope: each node has its type.
 ghost use Rattle.std.specs.Prelude.{◌≡◌, ◌≢◌, ℕ, length, IfOk, IfSome, IsErrOf, IsTrue, Ok, map};
-ghost use Rattle.vx_types.specs.Answers.{Answers, Exactly};
-ghost use Rattle.vx_types.specs.Views.{type_of};
+ghost use Rattle.vx_value.specs.Answers.{Answers, Exactly};
+ghost use Rattle.vx_value.specs.Views.{type_of};
 ghost use Rattle.vx_dtype.specs.declared.error.VortexError.TheVariants.{ArityMismatch};
 ghost use Rattle.vx_fn.specs.Functions.{arity_of, fn_type, HasFittingLiteral};
 ghost use Rattle.vx_fn.specs.Views.{function_of};

@@ -1,8 +1,8 @@
 // The test that a bound tree is well typed.
 ghost use Rattle.std.specs.Prelude.{◌≡◌, ◌↔◌, IfOk, IsTrue, MatchResult, Ok, map};
-ghost use Rattle.vx_types.specs.Answers.{Answers};
+ghost use Rattle.vx_value.specs.Answers.{Answers};
 ghost use Rattle.vx_dtype.specs.declared.error.VortexError.TheVariants.{OutOfMemory};
-ghost use Rattle.vx_types.specs.Views.{type_of};
+ghost use Rattle.vx_value.specs.Views.{type_of};
 ghost use Rattle.vx_fn.specs.Functions.{fn_type};
 ghost use Rattle.vx_fn.specs.Views.{function_of};
 ghost use Rattle.vx_tree.specs.Checked.{is_given, has_fitting_literal, is_well_typed, are_well_typed};

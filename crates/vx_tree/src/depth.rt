@@ -1,7 +1,7 @@
 // How deep trees are. The nodes are visited level by level, over lists on the heap, so that the
 // stack doesn't grow with the tree.
 ghost use Rattle.std.specs.Prelude.{◌≡◌, ◌+◌, IfOk, Ok};
-ghost use Rattle.vx_types.specs.Answers.{Answers};
+ghost use Rattle.vx_value.specs.Answers.{Answers};
 ghost use Rattle.vx_tree.specs.Depths.{depth_of};
 ghost use Rattle.vx_tree.specs.Levels.{greatest, lent_depth, lent_depth_below, lent_bound_depth, lent_bound_depth_below};
 ghost use Rattle.vx_tree.specs.Trees.{unbound};

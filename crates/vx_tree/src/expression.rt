@@ -1,6 +1,6 @@
 // Expressions that aren't bound to a scope.
 ghost use Rattle.std.specs.Prelude.{◌≡◌, ℕ, IfOk, IsErr, Ok};
-ghost use Rattle.vx_types.specs.Answers.{Answers, Exactly};
+ghost use Rattle.vx_value.specs.Answers.{Answers, Exactly};
 ghost use Rattle.vx_fn.specs.Views.{function_of};
 ghost use Rattle.vx_tree.specs.Nodes.{call_over, tree_over};
 ghost use Rattle.vx_tree.specs.Trees.{root};

@@ -1,6 +1,6 @@
 // The scope that an expression is bound to.
 ghost use Rattle.std.specs.Prelude.{◌≡◌};
-ghost use Rattle.vx_types.specs.Views.{type_of};
+ghost use Rattle.vx_value.specs.Views.{type_of};
 
 use std::marker::Model;
 use vx_types::DType;
@@ -12,9 +12,9 @@ pub struct Scope {
 }
 
 impl Model for Scope {
-    ghost use Rattle.vx_types.specs.Codes.{type_code};
-    ghost use Rattle.vx_types.specs.Types.{LogicalType};
-    ghost use Rattle.vx_types.specs.Views.{type_of};
+    ghost use Rattle.vx_value.specs.Codes.{type_code};
+    ghost use Rattle.vx_value.specs.Types.{LogicalType};
+    ghost use Rattle.vx_value.specs.Views.{type_of};
 
     ghost Value = { LogicalType };
 

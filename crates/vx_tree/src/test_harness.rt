@@ -1,7 +1,7 @@
 // What tests of expressions share.
 ghost use Rattle.std.specs.Prelude.{Ok};
-ghost use Rattle.vx_types.specs.Answers.{Answers};
-ghost use Rattle.vx_types.specs.Views.{type_of};
+ghost use Rattle.vx_value.specs.Answers.{Answers};
+ghost use Rattle.vx_value.specs.Views.{type_of};
 ghost use Rattle.vx_tree.specs.Harness.{harness_type};
 
 use std::alloc::Global;

@@ -1,7 +1,7 @@
 // The type of an expression over a scope, with no bound tree built.
 ghost use Rattle.std.specs.Prelude.{◌≡◌, ℕ, map};
-ghost use Rattle.vx_types.specs.Answers.{Answers};
-ghost use Rattle.vx_types.specs.Views.{type_of};
+ghost use Rattle.vx_value.specs.Answers.{Answers};
+ghost use Rattle.vx_value.specs.Views.{type_of};
 ghost use Rattle.vx_fn.specs.Functions.{fn_type};
 ghost use Rattle.vx_fn.specs.Views.{function_of};
 ghost use Rattle.vx_tree.specs.Pushed.{Pushes};

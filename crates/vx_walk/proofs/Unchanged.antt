@@ -3,7 +3,7 @@ use Rattle.std.proofs.Common.{◌≡◌, List, [], ◌∷◌, ◌++◌, refl, ap
 use Rattle.std.specs.List.{FoldsTo}
 use Rattle.vx_dtype.specs.declared.error.VortexError.{VortexError}
 use Rattle.vx_dtype.specs.declared.error.VortexError.TheVariants.{OutOfMemory}
-use Rattle.vx_types.specs.Answers.{Answers}
+use Rattle.vx_value.specs.Answers.{Answers}
 use Rattle.vx_walk.specs.declared.order.TraversalOrder.{TraversalOrder}
 use Rattle.vx_walk.specs.declared.order.TraversalOrder.TheVariants.{Continue}
 use Rattle.vx_walk.specs.declared.transformed.Transformed.{Transformed}

@@ -3,7 +3,7 @@ use Rattle.std.specs.Prelude.{◌≡◌, ℕ, ◌+◌, ◌<◌, List, [], ◌∷
 use Rattle.std.specs.List.{Contains}
 use Rattle.std.proofs.Common.{ap, subst, arith, suc, zero}
 use Rattle.vx_dtype.specs.declared.error.VortexError.{VortexError}
-use Rattle.vx_types.specs.Answers.{Answers, Exactly}
+use Rattle.vx_value.specs.Answers.{Answers, Exactly}
 use Rattle.vx_tree.specs.Trees.{Tree, root, call, Trees, no_tree, tree, BoundTree, scope, node, BoundTrees, no_bound, bound, unbound, unbound_each, WellTyped, EachWellTyped}
 use Rattle.vx_tree.specs.Nodes.{is_root, children_of, bound_children_of, tree_over, bound_over, number_refusal}
 use Rattle.vx_tree.specs.Views.{trees_from, bounds_from}

@@ -1,6 +1,6 @@
 // Walks, rewrites and folds as calls of a node.
 ghost use Rattle.std.specs.Prelude.{◌≡◌, ◌≤◌, Ok};
-ghost use Rattle.vx_types.specs.Answers.{Answers};
+ghost use Rattle.vx_value.specs.Answers.{Answers};
 ghost use Rattle.vx_walk.specs.Folds.{Folded};
 ghost use Rattle.vx_walk.specs.Handed.{kept, looking, seen};
 ghost use Rattle.vx_walk.specs.Mapping.{AtOwned};

@@ -1,6 +1,6 @@
 // Constructors of literals and casts, over bound children.
 ghost use Rattle.std.specs.Prelude.{[], ◌∷◌};
-ghost use Rattle.vx_types.specs.Views.{type_of};
+ghost use Rattle.vx_value.specs.Views.{type_of};
 ghost use Rattle.vx_fn.specs.Functions.{literal, cast};
 ghost use Rattle.vx_tree.specs.Trees.{no_bound};
 ghost use Rattle.vx_tree.specs.Views.{bounds_of};

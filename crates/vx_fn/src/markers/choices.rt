@@ -1,6 +1,6 @@
 // The markers of the functions that choose between values.
 ghost use Rattle.std.specs.Prelude.{◌≡◌};
-ghost use Rattle.vx_types.specs.Views.{type_of};
+ghost use Rattle.vx_value.specs.Views.{type_of};
 ghost use Rattle.vx_fn.specs.Functions.{is_atomic};
 ghost use Rattle.vx_fn.specs.Markers as options;
 ghost use Rattle.vx_fn.specs.declared.function.ScalarFnRef.TheVariants as of;

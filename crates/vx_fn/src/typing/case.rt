@@ -1,9 +1,9 @@
 // The type of a CASE, whose children are conditions and values in turn, and the ELSE value last.
 ghost use Rattle.std.specs.Prelude.{◌≡◌, ℕ, map, Ok, option_map};
 ghost use Rattle.std.specs.List.{list_all};
-ghost use Rattle.vx_types.specs.Answers.{Answers};
-ghost use Rattle.vx_types.specs.Joins.{union_all};
-ghost use Rattle.vx_types.specs.Views.{type_of};
+ghost use Rattle.vx_value.specs.Answers.{Answers};
+ghost use Rattle.vx_value.specs.Joins.{union_all};
+ghost use Rattle.vx_value.specs.Views.{type_of};
 ghost use Rattle.vx_fn.specs.Functions.{case_when, is_truth, case_type, case_union, conditions, branches};
 ghost use Rattle.vx_fn.specs.Memory.{RefusesEarly};
 

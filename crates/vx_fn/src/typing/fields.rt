@@ -1,7 +1,7 @@
 // The types of nodes that make a struct or take one apart.
 ghost use Rattle.std.specs.Prelude.{◌≡◌, ℕ, map, IfOk, length};
-ghost use Rattle.vx_types.specs.Answers.{Answers};
-ghost use Rattle.vx_types.specs.Views.{type_of, fields_of, admits_null};
+ghost use Rattle.vx_value.specs.Answers.{Answers};
+ghost use Rattle.vx_value.specs.Views.{type_of, fields_of, admits_null};
 ghost use Rattle.vx_fn.specs.Functions.{get_item, select, item_type, pack_type, select_type, selected};
 ghost use Rattle.vx_fn.specs.Memory.{RefusesEarly};
 

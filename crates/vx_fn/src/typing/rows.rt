@@ -1,8 +1,8 @@
 // The types of nodes whose function looks at types alone: a function for each row of the table.
 ghost use Rattle.std.specs.Prelude.{◌≡◌, Ok};
-ghost use Rattle.vx_types.specs.Answers.{Answers, Exactly};
-ghost use Rattle.vx_types.specs.Fits.{Fits};
-ghost use Rattle.vx_types.specs.Views.{type_of};
+ghost use Rattle.vx_value.specs.Answers.{Answers, Exactly};
+ghost use Rattle.vx_value.specs.Fits.{Fits};
+ghost use Rattle.vx_value.specs.Views.{type_of};
 ghost use Rattle.vx_fn.specs.Functions.{fill_null, zip, mask as mask_function, cast, is_truth, is_text, is_number, is_atomic, truth_type, binary_type, comparison_type, logic_type, sum_type, fill_type, zip_type, not_type, between_type, like_type, mask_type, cast_type};
 ghost use Rattle.vx_fn.specs.Memory.{RefusesEarly};
 ghost use Rattle.vx_fn.specs.Views.{operation_of};

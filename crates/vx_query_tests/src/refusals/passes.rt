@@ -4,7 +4,7 @@ use std::alloc::Global;
 use std::process::Abort;
 use std::test::Fail;
 use vx_rewrite::{Pass, run_passes};
-use vx_samples::{bound, dtype, reads};
+use vx_test_samples::{bound, dtype, reads};
 
 const ITEM: &str = "x 0 >= x 10 < and pack(r) .r";
 

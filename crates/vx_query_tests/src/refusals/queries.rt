@@ -6,7 +6,7 @@ use std::process::Abort;
 use std::test::Fail;
 use vx_query::run_query;
 use vx_rewrite::{BoundPartitionedExpr, Pass, free_fields, partition_bound};
-use vx_samples::{bound, boxed, column, reads};
+use vx_test_samples::{bound, boxed, column, reads};
 use vx_tree::{BoundExpression, Column, Expression, FieldName};
 
 const TWO_CONDITIONS: &str = "(($.a.x >= 1i32) and ($.b < 5i32))";

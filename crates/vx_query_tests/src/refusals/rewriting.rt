@@ -9,7 +9,7 @@ use std::test::Fail;
 use vx_rewrite::{
     BoundLabels, BranchRules, Optimize, find_between, label_bound_tree, optimize_with,
 };
-use vx_samples::{bound, boxed, dtype, reads};
+use vx_test_samples::{bound, boxed, dtype, reads};
 use vx_tree::test_harness::struct_dtype;
 use vx_tree::{BoundExpression, ExactBoundExpr, Expression, VortexResult};
 

@@ -6,9 +6,9 @@ use std::alloc::Global;
 use std::fmt;
 use std::process::Abort;
 use std::test::Fail;
-use vx_kept::{PathReader, read_referenced};
-use vx_samples::{boxed, column, dtype, reads};
 use vx_scan::{ScanPlan, plan, scan};
+use vx_scan_kept::{PathReader, read_referenced};
+use vx_test_samples::{boxed, column, dtype, reads};
 use vx_tree::{Column, Expression};
 use vx_types::{Field, FieldPathSet};
 

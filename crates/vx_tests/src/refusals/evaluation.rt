@@ -4,7 +4,7 @@ use std::alloc::Global;
 use std::process::Abort;
 use std::test::Fail;
 use vx_eval::apply_bound;
-use vx_samples::{bound, column, reads};
+use vx_test_samples::{bound, column, reads};
 use vx_tree::{Column, VortexError, VortexResult};
 
 /// What an evaluation is about, and the column or the fault that it answers.

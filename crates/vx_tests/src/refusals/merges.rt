@@ -2,7 +2,7 @@
 use crate::masks::{By, Masked, is_mask, merged, sample};
 use crate::refusals::answered;
 use std::test::Fail;
-use vx_samples::reads;
+use vx_test_samples::reads;
 
 /// Whether masks and columns are as they were made.
 fn is_lent(of: &Masked) -> bool {

@@ -5,7 +5,7 @@ use std::alloc::Global;
 use std::fmt::Write;
 use std::test::Fail;
 use vx_build::and_collect;
-use vx_samples::{boxed, dtype, reads};
+use vx_test_samples::{boxed, dtype, reads};
 use vx_tree::{BoundExpression, Expression, VortexResult};
 
 pub const RANGE: &str = "(($.x >= null) and ($.x <= 5i32))";

@@ -1,7 +1,7 @@
 // Names, types, scalars and columns whose memory is refused.
 use crate::refusals::answered;
 use std::test::Fail;
-use vx_samples::{dtype, i32_type, reads};
+use vx_test_samples::{dtype, i32_type, reads};
 use vx_tree::Nullability::{NonNullable, Nullable};
 use vx_tree::{
     Column, DType, FieldName, FieldNames, Nullability, PType, Scalar, StructFields, Value,

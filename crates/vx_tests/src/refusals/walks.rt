@@ -2,7 +2,7 @@
 use crate::refusals::answered;
 use crate::walks::rewrites::numbered;
 use std::test::Fail;
-use vx_samples::{boxed, reads};
+use vx_test_samples::{boxed, reads};
 use vx_tree::Expression;
 use vx_walk::Transformed;
 

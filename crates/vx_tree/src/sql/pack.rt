@@ -1,7 +1,7 @@
 // The SQL text of a struct of named children.
 ghost use Rattle.std.specs.Prelude.{◌≡◌, ◌<◌, length, get_or, []};
 ghost use Rattle.std.specs.Fmt.{WritesOnOk};
-ghost use Rattle.vx_types.specs.Views.{admits_null};
+ghost use Rattle.vx_value.specs.Views.{admits_null};
 ghost use Rattle.vx_fn.specs.Texts.{with_commas, named_texts, pack_sql};
 ghost use Rattle.vx_tree.specs.Texts.{texts};
 

@@ -1,7 +1,7 @@
 use Rattle.std.proofs.Common.{◌∷◌, [], arith, below_more, ◌≡◌, ◌∙◌, ap, get_or}
 use Rattle.vx_dtype.specs.declared.error.VortexError.TheVariants.{AddOverflow}
-use Rattle.vx_types.specs.Types.{null}
-use Rattle.vx_types.specs.Views.{type_of, value_of}
+use Rattle.vx_value.specs.Types.{null}
+use Rattle.vx_value.specs.Views.{type_of, value_of}
 use Rattle.vx_fn.specs.Functions.{binary, adds}
 use Rattle.vx_fn.specs.Values.{sum_of}
 use Rattle.vx_eval.specs.Columns.{rows_view, each_row}

@@ -1,6 +1,6 @@
 use Rattle.std.proofs.Common.{◌≡◌, ◌<◌, ◌∷◌, [], ℕ, get_or, false}
-use Rattle.vx_types.specs.Types.{null}
-use Rattle.vx_types.specs.Views.{type_of}
+use Rattle.vx_value.specs.Types.{null}
+use Rattle.vx_value.specs.Views.{type_of}
 use Rattle.vx_fn.specs.Faults.{is_outside}
 use Rattle.vx_fn.specs.Values.{sum_of}
 use Rattle.vx_eval.specs.Columns.{values_of, rows_view, each_row}

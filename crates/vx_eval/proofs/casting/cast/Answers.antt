@@ -1,7 +1,7 @@
 use Rattle.std.proofs.Common.{◌∷◌, [], ap, sym, ◌∙◌}
 use Rattle.std.specs.Option.{option_map}
 use Rattle.vx_dtype.specs.declared.error.VortexError.TheVariants.{CastNull}
-use Rattle.vx_types.specs.Views.{type_of}
+use Rattle.vx_value.specs.Views.{type_of}
 use Rattle.vx_fn.specs.Functions.{cast}
 use Rattle.vx_eval.specs.Columns.{rows_view}
 use Rattle.vx_eval.proofs.Filled.{refused, given, all_rows}

@@ -1,6 +1,6 @@
 use Rattle.std.proofs.Common.{arith, sym, below_more, ◌∙◌, ap}
-use Rattle.vx_types.specs.Fits.{fits}
-use Rattle.vx_types.specs.Views.{type_of}
+use Rattle.vx_value.specs.Fits.{fits}
+use Rattle.vx_value.specs.Views.{type_of}
 use Rattle.vx_eval.specs.Columns.{rows_view}
 use Rattle.vx_eval.proofs.FirstRows.{first_misfit_at, no_misfit_at}
 use Rattle.vx_eval.proofs.casting.first_misfit.Goals as goal

@@ -1,7 +1,7 @@
 use Rattle.std.proofs.Common.{◌≡◌, ◌<◌, ℕ, get_or, true}
-use Rattle.vx_types.specs.Fits.{fits}
-use Rattle.vx_types.specs.Types.{null}
-use Rattle.vx_types.specs.Views.{type_of}
+use Rattle.vx_value.specs.Fits.{fits}
+use Rattle.vx_value.specs.Types.{null}
+use Rattle.vx_value.specs.Views.{type_of}
 use Rattle.vx_eval.specs.Columns.{rows_view}
 use Rattle.vx_eval.proofs.casting.first_misfit.Given as goal
 

@@ -1,5 +1,5 @@
 use Rattle.std.proofs.Common.{rules, ap, ◌∷◌, []}
-use Rattle.vx_types.specs.Views.{value_of}
+use Rattle.vx_value.specs.Views.{value_of}
 use Rattle.vx_fn.specs.Functions.{binary}
 use Rattle.vx_fn.specs.Views.{operation_of}
 use Rattle.vx_eval.specs.Columns.{rows_view}

@@ -1,7 +1,7 @@
 use Rattle.std.proofs.Common.{◌≡◌, rules, ap, sym, ◌∙◌, ◌∷◌, [], map, length, get_or, Ok}
 use Rattle.std.proofs.Math.ListN.{replicate}
-use Rattle.vx_types.specs.Types.{Datum, null}
-use Rattle.vx_types.specs.Views.{value_of}
+use Rattle.vx_value.specs.Types.{Datum, null}
+use Rattle.vx_value.specs.Views.{value_of}
 use Rattle.vx_fn.specs.Functions.{binary}
 use Rattle.vx_fn.specs.Values.{binary_value}
 use Rattle.vx_fn.specs.Views.{operation_of}

@@ -1,8 +1,8 @@
 use Rattle.std.proofs.Common.{arith, ap, sym, ◌∙◌, ◌∷◌, [], map, ℕ}
 use Rattle.std.proofs.lemmas.List.{map-append}
-use Rattle.vx_types.specs.Fields.{data_of, field_value, first_unknown}
-use Rattle.vx_types.specs.Types.{Name}
-use Rattle.vx_types.specs.Views.{fields_of}
+use Rattle.vx_value.specs.Fields.{data_of, field_value, first_unknown}
+use Rattle.vx_value.specs.Types.{Name}
+use Rattle.vx_value.specs.Views.{fields_of}
 use Rattle.vx_eval.specs.Columns.{datum_at}
 use Rattle.vx_eval.proofs.Structs.{known_at, projected_at, mapped_more}
 use Rattle.vx_eval.proofs.Taking.{whole}

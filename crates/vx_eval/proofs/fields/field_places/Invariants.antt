@@ -1,7 +1,7 @@
 use Rattle.std.proofs.Common.{◌≡◌, map, take}
-use Rattle.vx_types.specs.Fields.{field_value}
-use Rattle.vx_types.specs.Types.{Data}
-use Rattle.vx_types.specs.Views.{fields_of}
+use Rattle.vx_value.specs.Fields.{field_value}
+use Rattle.vx_value.specs.Types.{Data}
+use Rattle.vx_value.specs.Views.{fields_of}
 use Rattle.vx_eval.specs.Columns.{datum_at}
 use Rattle.vx_eval.proofs.fields.field_places.Given as goal
 

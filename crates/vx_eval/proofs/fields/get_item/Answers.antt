@@ -1,6 +1,6 @@
 use Rattle.std.proofs.Common.{◌≡◌, rules, refl, sym, ap, ◌∙◌, ◌∷◌, [], map, get_or, Ok}
-use Rattle.vx_types.specs.Types.{null}
-use Rattle.vx_types.specs.Views.{type_of, value_of}
+use Rattle.vx_value.specs.Types.{null}
+use Rattle.vx_value.specs.Views.{type_of, value_of}
 use Rattle.vx_fn.specs.Functions.{get_item}
 use Rattle.vx_fn.specs.Values.{item_value}
 use Rattle.vx_eval.specs.declared.rows.Rows.TheVariants.{Item}

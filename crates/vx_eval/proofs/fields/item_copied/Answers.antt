@@ -1,6 +1,6 @@
 use Rattle.std.proofs.Common.{◌≡◌, rules, arith, subst, IfOk}
 use Rattle.std.proofs.lemmas.Grind.{common_steps}
-use Rattle.vx_types.specs.Views.{value_of}
+use Rattle.vx_value.specs.Views.{value_of}
 use Rattle.vx_eval.specs.Columns.{item_at}
 use Rattle.vx_eval.proofs.Structs.{item_taken, item_past}
 use Rattle.vx_eval.proofs.fields.item_copied.Goals as goal

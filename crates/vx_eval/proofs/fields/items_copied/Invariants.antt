@@ -1,5 +1,5 @@
 use Rattle.std.proofs.Common.{◌≡◌, map, take}
-use Rattle.vx_types.specs.Views.{value_of}
+use Rattle.vx_value.specs.Views.{value_of}
 use Rattle.vx_eval.specs.Columns.{values_of, item_at}
 use Rattle.vx_eval.proofs.fields.items_copied.Given as goal
 

@@ -1,7 +1,7 @@
 use Rattle.std.proofs.Common.{arith, ◌∙◌, ◌≡◌, ◌≢◌, ap, refl}
-use Rattle.vx_types.specs.Views.{value_of}
-use Rattle.vx_types.specs.Fields.{data_of}
-use Rattle.vx_types.specs.Types.{struct_of}
+use Rattle.vx_value.specs.Views.{value_of}
+use Rattle.vx_value.specs.Fields.{data_of}
+use Rattle.vx_value.specs.Types.{struct_of}
 use Rattle.vx_fn.specs.Functions.{pack}
 use Rattle.vx_eval.specs.Columns.{rows_views, row_at, each_row}
 use Rattle.vx_eval.proofs.Filled.{row_pushed, given}

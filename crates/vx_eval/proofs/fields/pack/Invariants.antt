@@ -1,6 +1,6 @@
 use Rattle.std.proofs.Common.{◌≡◌, ◌≤◌, ℕ, length, map}
-use Rattle.vx_types.specs.Fields.{data_of}
-use Rattle.vx_types.specs.Types.{struct_of}
+use Rattle.vx_value.specs.Fields.{data_of}
+use Rattle.vx_value.specs.Types.{struct_of}
 use Rattle.vx_eval.specs.Columns.{values_of, rows_views, row_at, each_row}
 use Rattle.vx_eval.proofs.fields.pack.Given as goal
 

@@ -1,6 +1,6 @@
 use Rattle.std.proofs.Common.{◌≡◌, rules, refl, sym, ap, ◌∙◌, ◌∷◌, [], get_or}
-use Rattle.vx_types.specs.Types.{null}
-use Rattle.vx_types.specs.Views.{type_of, value_of}
+use Rattle.vx_value.specs.Types.{null}
+use Rattle.vx_value.specs.Views.{type_of, value_of}
 use Rattle.vx_fn.specs.Functions.{select}
 use Rattle.vx_eval.specs.Columns.{rows_view}
 use Rattle.vx_eval.specs.Kernels.{items_at}

@@ -1,6 +1,6 @@
 use Rattle.std.proofs.Common.{arith, ◌∙◌, ap}
-use Rattle.vx_types.specs.Fields.{data_of}
-use Rattle.vx_types.specs.Types.{struct_of}
+use Rattle.vx_value.specs.Fields.{data_of}
+use Rattle.vx_value.specs.Types.{struct_of}
 use Rattle.vx_eval.specs.Columns.{rows_views, row_at}
 use Rattle.vx_eval.proofs.Structs.{value_of-Struct}
 use Rattle.vx_eval.proofs.Taking.{row_still, row_long, whole}

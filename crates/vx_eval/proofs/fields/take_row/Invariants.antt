@@ -1,5 +1,5 @@
 use Rattle.std.proofs.Common.{◌≡◌, ◌≢◌, ◌≤◌, ℕ, get_or, length, map, take}
-use Rattle.vx_types.specs.Types.{null}
+use Rattle.vx_value.specs.Types.{null}
 use Rattle.vx_eval.specs.Columns.{values_of, rows_views, row_at}
 use Rattle.vx_eval.proofs.fields.take_row.Given as goal
 

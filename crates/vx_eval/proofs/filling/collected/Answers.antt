@@ -1,5 +1,5 @@
 use Rattle.std.proofs.Common.{arith}
-use Rattle.vx_types.specs.Views.{value_of}
+use Rattle.vx_value.specs.Views.{value_of}
 use Rattle.vx_eval.proofs.Filled.{row_pushed}
 use Rattle.vx_eval.proofs.filling.collected.Goals as goal
 

@@ -1,5 +1,5 @@
 use Rattle.std.proofs.Common.{◌≡◌, ℕ}
-use Rattle.vx_types.specs.Types.{Datum}
+use Rattle.vx_value.specs.Types.{Datum}
 use Rattle.vx_eval.specs.Columns.{values_of, each_row}
 use Rattle.vx_eval.specs.Kernels.{AnswersRows}
 use Rattle.vx_eval.proofs.filling.collected.Given as goal

@@ -1,5 +1,5 @@
 use Rattle.std.proofs.Common.{◌≡◌, ℕ, length}
-use Rattle.vx_types.specs.Types.{Datum}
+use Rattle.vx_value.specs.Types.{Datum}
 use Rattle.vx_eval.specs.Columns.{values_of}
 use Rattle.vx_eval.specs.Kernels.{MakesRows}
 use Rattle.vx_eval.proofs.Overwriting.{Written}

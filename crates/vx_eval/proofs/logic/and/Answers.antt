@@ -1,5 +1,5 @@
 use Rattle.std.proofs.Common.{rules, refl, sym, ap, ◌∙◌, ◌∷◌, [], length, get_or}
-use Rattle.vx_types.specs.Types.{null}
+use Rattle.vx_value.specs.Types.{null}
 use Rattle.vx_fn.specs.Functions.{binary, and_also}
 use Rattle.vx_fn.specs.Values.{kleene_and}
 use Rattle.vx_eval.specs.Columns.{rows_view, each_row}

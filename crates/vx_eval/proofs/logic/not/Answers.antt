@@ -1,5 +1,5 @@
 use Rattle.std.proofs.Common.{rules, refl, ◌∷◌, [], get_or}
-use Rattle.vx_types.specs.Types.{null}
+use Rattle.vx_value.specs.Types.{null}
 use Rattle.vx_fn.specs.Functions.{negation}
 use Rattle.vx_eval.specs.Columns.{rows_view}
 use Rattle.vx_eval.proofs.Filled.{evaluated}

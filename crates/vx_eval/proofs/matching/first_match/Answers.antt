@@ -1,7 +1,7 @@
 use Rattle.std.proofs.Common.{◌≡◌, ap, length, IsTrue, Ok}
-use Rattle.vx_types.specs.Fits.{IsBatch}
-use Rattle.vx_types.specs.Types.{is_nullable}
-use Rattle.vx_types.specs.Views.{type_of}
+use Rattle.vx_value.specs.Fits.{IsBatch}
+use Rattle.vx_value.specs.Types.{is_nullable}
+use Rattle.vx_value.specs.Views.{type_of}
 use Rattle.vx_eval.specs.Choices.{rows_in, height}
 use Rattle.vx_eval.proofs.Fitting.{made_fits}
 use Rattle.vx_eval.proofs.Matched.{count_is, as_many, last_rows, turned_long, chosen_rows, chosen_fit, column_of}

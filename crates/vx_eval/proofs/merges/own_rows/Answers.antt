@@ -1,5 +1,5 @@
 use Rattle.std.proofs.Common.{◌≡◌, ◌∙◌, ap, arith, length, sym}
-use Rattle.vx_mask.proofs.Pairs.{length-but}
+use Rattle.vx_eval_mask.proofs.Pairs.{length-but}
 use Rattle.vx_eval.proofs.Branches.{branch_long, own_more, left_more, own_done}
 use Rattle.vx_eval.proofs.merges.own_rows.Goals as goal
 

@@ -1,9 +1,9 @@
 use Rattle.std.proofs.Common.{◌≡◌, ◌<◌, ◌≤◌, ◌∙◌, arith, sym, length, get_or, []}
-use Rattle.vx_types.specs.Types.{null}
-use Rattle.vx_types.specs.Views.{value_of}
-use Rattle.vx_mask.specs.Masks.{IsRunFrom}
-use Rattle.vx_merge.specs.Merges.{merged_at}
-use Rattle.vx_merge.proofs.Apart.{merged-none}
+use Rattle.vx_value.specs.Types.{null}
+use Rattle.vx_value.specs.Views.{value_of}
+use Rattle.vx_eval_mask.specs.Masks.{IsRunFrom}
+use Rattle.vx_eval_merge.specs.Merges.{merged_at}
+use Rattle.vx_eval_merge.proofs.Apart.{merged-none}
 use Rattle.vx_eval.proofs.Filled.{row_pushed}
 use Rattle.vx_eval.proofs.Structs.{value_of-Null}
 use Rattle.vx_eval.proofs.Taking.{lengths_kept}

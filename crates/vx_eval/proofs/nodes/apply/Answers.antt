@@ -1,5 +1,5 @@
 use Rattle.std.proofs.Common.{◌∙◌, ap, refl, sym}
-use Rattle.vx_types.specs.Views.{admits_null}
+use Rattle.vx_value.specs.Views.{admits_null}
 use Rattle.vx_fn.specs.Views.{function_of}
 use Rattle.vx_tree.specs.Trees.{node_types}
 use Rattle.vx_tree.specs.Views.{bounds_of}

@@ -1,5 +1,5 @@
 use Rattle.std.proofs.Common.{◌∙◌, ap, refl, sym, subst, ◌∷◌}
-use Rattle.vx_types.specs.Views.{type_of}
+use Rattle.vx_value.specs.Views.{type_of}
 use Rattle.vx_fn.specs.Functions as functions
 use Rattle.vx_fn.specs.Views.{operation_of}
 use Rattle.vx_eval.specs.Columns.{rows_views, Evaluates}

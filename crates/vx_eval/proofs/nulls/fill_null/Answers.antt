@@ -1,8 +1,8 @@
 use Rattle.std.proofs.Common.{◌≡◌, rules, refl, sym, ap, ◌∙◌, ◌∷◌, [], get_or}
 use Rattle.std.specs.Prelude.{if◌then◌else◌}
 use Rattle.vx_dtype.specs.declared.error.VortexError.TheVariants.{BadFill}
-use Rattle.vx_types.specs.Types.{null, is_null_datum}
-use Rattle.vx_types.specs.Views.{type_of, value_of}
+use Rattle.vx_value.specs.Types.{null, is_null_datum}
+use Rattle.vx_value.specs.Views.{type_of, value_of}
 use Rattle.vx_fn.specs.Functions.{fill_null}
 use Rattle.vx_eval.specs.Columns.{rows_view}
 use Rattle.vx_eval.proofs.Filled.{evaluated, evaluated_in_place, refused}

@@ -1,6 +1,6 @@
 use Rattle.std.proofs.Common.{ap, arith, rules, sym, ◌∙◌}
-use Rattle.vx_types.specs.Types.{null, is_null_datum}
-use Rattle.vx_types.specs.Views.{value_of}
+use Rattle.vx_value.specs.Types.{null, is_null_datum}
+use Rattle.vx_value.specs.Views.{value_of}
 use Rattle.vx_eval.specs.Columns.{rows_view}
 use Rattle.vx_eval.proofs.FirstRows.{none_any, null_repeated}
 use Rattle.vx_eval.proofs.nulls.has_null.Goals as goal

@@ -1,5 +1,5 @@
 use Rattle.std.proofs.Common.{◌≡◌, ◌<◌, ℕ, get_or, false}
-use Rattle.vx_types.specs.Types.{null, is_null_datum}
+use Rattle.vx_value.specs.Types.{null, is_null_datum}
 use Rattle.vx_eval.specs.Columns.{rows_view}
 use Rattle.vx_eval.proofs.nulls.has_null.Given as goal
 

@@ -1,5 +1,5 @@
 use Rattle.std.proofs.Common.{ap, arith, rules, sym, ◌∙◌}
-use Rattle.vx_types.specs.Views.{value_of}
+use Rattle.vx_value.specs.Views.{value_of}
 use Rattle.vx_eval.specs.Columns.{rows_view}
 use Rattle.vx_eval.proofs.FirstRows.{none_differ, repeated_differs}
 use Rattle.vx_eval.proofs.nulls.some_differ.Goals as goal

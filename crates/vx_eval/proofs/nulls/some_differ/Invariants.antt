@@ -1,5 +1,5 @@
 use Rattle.std.proofs.Common.{◌≡◌, ◌<◌, suc, ℕ, get_or, false}
-use Rattle.vx_types.specs.Types.{null}
+use Rattle.vx_value.specs.Types.{null}
 use Rattle.vx_fn.specs.Faults.{differs}
 use Rattle.vx_eval.specs.Columns.{rows_view}
 use Rattle.vx_eval.proofs.nulls.some_differ.Given as goal

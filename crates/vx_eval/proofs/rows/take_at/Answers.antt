@@ -1,5 +1,5 @@
 use Rattle.std.proofs.Common.{◌≡◌, sym, subst, IfOk}
-use Rattle.vx_types.specs.Views.{value_of}
+use Rattle.vx_value.specs.Views.{value_of}
 use Rattle.vx_eval.proofs.Taking.{row_there, at_place, place_kept, row_kept, lengths_kept}
 use Rattle.vx_eval.proofs.rows.take_at.Goals as goal
 

@@ -1,5 +1,5 @@
 use Rattle.std.proofs.Common.{ap}
-use Rattle.vx_types.specs.Views.{value_of}
+use Rattle.vx_value.specs.Views.{value_of}
 use Rattle.vx_fn.specs.Functions.{like}
 use Rattle.vx_eval.specs.Columns.{rows_view}
 use Rattle.vx_eval.proofs.Filled.{repeated_still}

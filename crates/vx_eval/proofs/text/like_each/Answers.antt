@@ -1,5 +1,5 @@
 use Rattle.std.proofs.Common.{◌≡◌, arith, refl, ap, ◌∙◌, ◌∷◌, [], get_or}
-use Rattle.vx_types.specs.Types.{null}
+use Rattle.vx_value.specs.Types.{null}
 use Rattle.vx_fn.specs.Functions.{like}
 use Rattle.vx_fn.specs.Values.{liked}
 use Rattle.vx_eval.specs.Columns.{truth_datum, rows_view, each_row}

@@ -1,5 +1,5 @@
 use Rattle.std.proofs.Common.{◌≡◌, get_or, map}
-use Rattle.vx_types.specs.Types.{null}
+use Rattle.vx_value.specs.Types.{null}
 use Rattle.vx_fn.specs.Values.{liked}
 use Rattle.vx_eval.specs.Columns.{truth_datum, rows_view, each_row}
 use Rattle.vx_eval.proofs.text.like_each.Given as goal

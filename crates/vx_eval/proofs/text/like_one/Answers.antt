@@ -1,8 +1,8 @@
 use Rattle.std.proofs.Common.{◌≡◌, rules, refl, ap, sym, ◌∙◌, ◌∷◌, [], get_or}
 use Rattle.std.specs.Prelude.{option_map}
 use Rattle.std.proofs.Math.ListN.{replicate}
-use Rattle.vx_types.specs.Types.{null}
-use Rattle.vx_types.specs.Views.{value_of}
+use Rattle.vx_value.specs.Types.{null}
+use Rattle.vx_value.specs.Views.{value_of}
 use Rattle.vx_fn.specs.Functions.{like}
 use Rattle.vx_eval.specs.Columns.{rows_view, truth_datum}
 use Rattle.vx_eval.specs.Kernels.{accepted}

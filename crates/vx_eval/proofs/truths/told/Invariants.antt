@@ -1,5 +1,5 @@
 use Rattle.std.proofs.Common.{◌≡◌, ℕ, map}
-use Rattle.vx_types.specs.Types.{Datum}
+use Rattle.vx_value.specs.Types.{Datum}
 use Rattle.vx_eval.specs.Columns.{truth_datum, each_row}
 use Rattle.vx_eval.specs.Kernels.{TellsRows}
 use Rattle.vx_eval.proofs.truths.told.Given as goal

@@ -1,11 +1,11 @@
 use Rattle.std.proofs.Common.{◌≡◌, Err, rules, subst, sym}
 use Rattle.vx_dtype.specs.declared.error.VortexError.TheVariants.{OutOfMemory}
-use Rattle.vx_types.specs.Fits.{IsBatch}
-use Rattle.vx_types.proofs.Misfits.{no_misfit}
+use Rattle.vx_value.specs.Fits.{IsBatch}
+use Rattle.vx_value.proofs.Misfits.{no_misfit}
 use Rattle.vx_tree.specs.Trees.{Over}
 use Rattle.vx_tree.specs.Views.{bound_of, tree_of}
 use Rattle.vx_query.specs.Promises.{Promised}
-use Rattle.vx_split.specs.Sources.{IsBound}
+use Rattle.vx_query_split.specs.Sources.{IsBound}
 use Rattle.vx_query.specs.Queries.{passed}
 use Rattle.vx_query.proofs.Ending.{memory_ends, refusal_ends, evaluation_ends}
 use Rattle.vx_query.proofs.query.run_to_end.Goals as goal

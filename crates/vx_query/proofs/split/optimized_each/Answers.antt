@@ -1,7 +1,7 @@
 use Rattle.std.proofs.Common.{arith}
-use Rattle.vx_rules.specs.Rules.{RuleAt}
+use Rattle.vx_rewrite_rules.specs.Rules.{RuleAt}
 use Rattle.vx_tree.specs.Views.{bounds_of}
-use Rattle.vx_split.proofs.Lists.{typed_at}
+use Rattle.vx_query_split.proofs.Lists.{typed_at}
 use Rattle.vx_query.proofs.Lists.{next_form, last_form}
 use Rattle.vx_query.proofs.split.optimized_each.Goals as goal
 

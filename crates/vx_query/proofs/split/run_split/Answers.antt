@@ -1,9 +1,9 @@
 use Rattle.std.proofs.Common.{◌≡◌, ◌∙◌, ap, subst, rules, Some, None}
-use Rattle.vx_types.specs.Views.{type_of}
+use Rattle.vx_value.specs.Views.{type_of}
 use Rattle.vx_tree.specs.Views.{bound_of, bounds_of}
-use Rattle.vx_split.specs.Division.{IsSplitOf, parts_of}
-use Rattle.vx_split.proofs.Counting.{counted}
-use Rattle.vx_split.proofs.Divided.{sound}
+use Rattle.vx_query_split.specs.Division.{IsSplitOf, parts_of}
+use Rattle.vx_query_split.proofs.Counting.{counted}
+use Rattle.vx_query_split.proofs.Divided.{sound}
 use Rattle.vx_query.proofs.Optimized.{unsplit, split_runs, forms_typed, forms_over}
 use Rattle.vx_query.proofs.split.run_split.Goals as goal
 

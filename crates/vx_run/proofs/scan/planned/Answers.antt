@@ -1,4 +1,4 @@
-use Rattle.vx_types.specs.Views.{type_of}
+use Rattle.vx_value.specs.Views.{type_of}
 use Rattle.vx_run.specs.Scan.{scan}
 use Rattle.vx_run.proofs.Made.{made}
 use Rattle.vx_run.proofs.Scanned.{planned_tree}

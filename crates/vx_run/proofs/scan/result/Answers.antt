@@ -1,6 +1,6 @@
 use Rattle.std.proofs.Common.{◌≡◌, ◌∙◌, sym, ap}
-use Rattle.vx_types.specs.Columns.{Batch}
-use Rattle.vx_types.specs.Views.{type_of}
+use Rattle.vx_value.specs.Columns.{Batch}
+use Rattle.vx_value.specs.Views.{type_of}
 use Rattle.vx_tree.specs.Views.{bound_of}
 use Rattle.vx_run.proofs.Scanned.{both_scanned}
 use Rattle.vx_run.proofs.scan.result.Goals as goal

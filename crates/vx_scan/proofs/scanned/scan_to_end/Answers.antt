@@ -1,16 +1,16 @@
 use Rattle.std.proofs.Common.{◌≡◌, ◌≢◌, ◌∙◌, sym, ap, subst, rules, Err, Some}
 use Rattle.vx_dtype.specs.Answers.{Answers}
 use Rattle.vx_dtype.specs.declared.error.VortexError.TheVariants.{OutOfMemory}
-use Rattle.vx_types.specs.Paths.{minimal_paths}
-use Rattle.vx_types.specs.Views.{type_of}
+use Rattle.vx_value.specs.Paths.{minimal_paths}
+use Rattle.vx_value.specs.Views.{type_of}
 use Rattle.vx_tree.specs.Trees.{Over}
 use Rattle.vx_tree.specs.Views.{bound_of, bounds_of}
 use Rattle.vx_eval.specs.Evaluation.{evaluation}
-use Rattle.vx_split.specs.Splits.{split_evaluation}
-use Rattle.vx_kept.specs.Kept.{kept_batch}
-use Rattle.vx_kept.specs.Readers.{AreAmong}
-use Rattle.vx_split.specs.Division.{parts_of}
-use Rattle.vx_split.proofs.Counting.{counted}
+use Rattle.vx_query_split.specs.Splits.{split_evaluation}
+use Rattle.vx_scan_kept.specs.Kept.{kept_batch}
+use Rattle.vx_scan_kept.specs.Readers.{AreAmong}
+use Rattle.vx_query_split.specs.Division.{parts_of}
+use Rattle.vx_query_split.proofs.Counting.{counted}
 use Rattle.vx_scan.proofs.Opened.{sound_of}
 use Rattle.vx_scan.specs.Scans.{Scanned, planned_evaluation}
 use Rattle.vx_scan.proofs.Scanning.{differs, agrees, only_memory, read_so, over_read, scanned, unread, mismatched}

@@ -1,5 +1,5 @@
 use Rattle.std.proofs.Common.{◌∙◌, sym}
-use Rattle.vx_types.proofs.Misfits.{no_misfit}
+use Rattle.vx_value.proofs.Misfits.{no_misfit}
 use Rattle.vx_tests.proofs.masks.is_of.Goals as goal
 
 -- the column's own rows are of its type, which is the one asked for

@@ -1,5 +1,5 @@
 use Rattle.std.proofs.Common.{◌≡◌, drop}
-use Rattle.vx_types.specs.Views.{type_of}
+use Rattle.vx_value.specs.Views.{type_of}
 use Rattle.vx_tree.specs.Nodes.{is_over, are_over}
 use Rattle.vx_tree.specs.Views.{bound_of, bounds_of}
 use Rattle.vx_tree.proofs.bind.+is_over.Given as goal

@@ -1,5 +1,5 @@
 use Rattle.std.proofs.Common.{◌≡◌, sym, subst, rules}
-use Rattle.vx_types.specs.Views.{type_of}
+use Rattle.vx_value.specs.Views.{type_of}
 use Rattle.vx_tree.specs.declared.bound.BoundExpression.{Root, the_lemmas}
 use Rattle.vx_tree.specs.Trees.{scope, WellTyped}
 use Rattle.vx_tree.specs.Views.{bound_of}

@@ -1,5 +1,5 @@
 use Rattle.std.proofs.Common.{arith}
-use Rattle.vx_types.specs.Views.{type_of}
+use Rattle.vx_value.specs.Views.{type_of}
 use Rattle.vx_tree.proofs.Typings.{next, end}
 use Rattle.vx_tree.proofs.typing.+typing.Goals as goal
 

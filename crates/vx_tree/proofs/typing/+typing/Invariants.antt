@@ -1,5 +1,5 @@
 use Rattle.std.proofs.Common.{◌≡◌, drop}
-use Rattle.vx_types.specs.Views.{type_of}
+use Rattle.vx_value.specs.Views.{type_of}
 use Rattle.vx_tree.specs.Trees.{each_typed}
 use Rattle.vx_tree.specs.Views.{trees_of}
 use Rattle.vx_tree.proofs.Typings.{after}

@@ -1,9 +1,9 @@
 use Rattle.std.proofs.Common.{◌<◌, ap, sym, subst, ◌∙◌, length, get_or}
-use Rattle.vx_types.specs.Types.{null}
-use Rattle.vx_types.specs.Views.{value_of}
+use Rattle.vx_value.specs.Types.{null}
+use Rattle.vx_value.specs.Views.{value_of}
 use Rattle.vx_fn.specs.Values.{binary_value}
 use Rattle.vx_fn.specs.Views.{operation_of}
-use Rattle.vx_merge.specs.Merges.{values_of}
+use Rattle.vx_eval_merge.specs.Merges.{values_of}
 use Rattle.vx_eval.proofs.Filled.{told_at}
 use Rattle.vx_eval.proofs.compared.ComparedItem.truth.Goals as goal
 

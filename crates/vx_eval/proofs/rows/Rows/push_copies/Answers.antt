@@ -1,6 +1,6 @@
 use Rattle.std.proofs.Common.{◌≡◌, ◌∙◌, ap, sym, rules, get_or}
-use Rattle.vx_types.specs.Types.{null}
-use Rattle.vx_types.specs.Views.{value_of}
+use Rattle.vx_value.specs.Types.{null}
+use Rattle.vx_value.specs.Views.{value_of}
 use Rattle.vx_eval.specs.Columns.{rows_view}
 use Rattle.vx_eval.proofs.Masked.{same_in}
 use Rattle.vx_eval.proofs.rows.Rows.push_copies.Goals as goal

@@ -1,7 +1,7 @@
 use Rattle.std.proofs.Common.{◌≡◌, refl, sym, ap, ◌∙◌, Some, None, Ok, Result, map, option_map}
 use Rattle.vx_dtype.specs.declared.error.VortexError.{VortexError}
-use Rattle.vx_types.specs.Joins.{union, union_all}
-use Rattle.vx_types.specs.Views.{type_of}
+use Rattle.vx_value.specs.Joins.{union, union_all}
+use Rattle.vx_value.specs.Views.{type_of}
 use Rattle.vx_fn.specs.Functions.{branches}
 use Rattle.vx_fn.proofs.Cases.{later, branches_step, union_all_some, union_all_none}
 use Rattle.vx_fn.proofs.typing.case.+joined_branches.Goals as goal

@@ -1,5 +1,5 @@
 use Rattle.std.proofs.Common.{◌≡◌, length, take, map}
-use Rattle.vx_types.specs.Views.{type_of}
+use Rattle.vx_value.specs.Views.{type_of}
 use Rattle.vx_fn.proofs.typing.fields.copied.Given as goal
 
 abbrev pub invariant-loop-t : goal.invariant-loop-t

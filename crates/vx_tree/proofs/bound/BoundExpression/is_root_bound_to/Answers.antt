@@ -1,5 +1,5 @@
 use Rattle.std.proofs.Common.{◌∙◌, sym}
-use Rattle.vx_types.specs.Views.{type_of}
+use Rattle.vx_value.specs.Views.{type_of}
 use Rattle.vx_tree.specs.Views.{bound_of}
 use Rattle.vx_tree.proofs.Unique.{is_over-Decides}
 use Rattle.vx_tree.proofs.bound.BoundExpression.is_root_bound_to.Goals as goal

@@ -1,5 +1,5 @@
 use Rattle.std.proofs.Common.{◌≡◌, ◌≢◌, inr, length, refl, ap, ◌∙◌, arith, rules}
-use Rattle.vx_types.specs.Views.{type_of}
+use Rattle.vx_value.specs.Views.{type_of}
 use Rattle.vx_tree.specs.declared.bound.BoundExpression.{the_lemmas}
 use Rattle.vx_fn.specs.Views.{function_of}
 use Rattle.vx_tree.specs.Nodes.{bound_children_of}

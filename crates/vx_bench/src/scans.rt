@@ -1,0 +1,39 @@
+// Queries that are planned and scanned.
+ghost use Rattle.std.specs.Prelude.{◌≡◌};
+
+use crate::digest::Digest;
+use crate::query::Query;
+use std::alloc::Global;
+use vx_scan::{ScanPlan, plan, scan};
+use vx_scan_kept::ColumnReader;
+use vx_types::VortexResult;
+
+/// The digest of the query's column over its batch, by scans.
+pub fn scanned(alloc: Global, query: Query, rows: usize, repeats: u32) -> VortexResult<Digest> {
+    let batch = Box::new(alloc, query.batch(alloc, rows)?)?;
+    let source = query.tree(alloc)?;
+    let plan = Box::new(alloc, plan(alloc, &*source, batch.dtype())?)?;
+    let reader = plan.reader_of(alloc, Box::into_inner(batch))?;
+    let answer = repeated(alloc, &reader, &*plan, repeats);
+    drop(reader);
+    answer
+}
+
+// Scans the reader's batch so often, for the digest of the last column.
+fn repeated(
+    alloc: Global,
+    reader: &ColumnReader,
+    plan: &ScanPlan,
+    repeats: u32,
+) -> VortexResult<Digest>
+    requires { reader.now.allowed ≡ plan.now.paths }
+{
+    if repeats == 0 {
+        return Ok(Digest::default());
+    }
+    for _ in 1..repeats {
+        drop(scan(alloc, reader, plan)?);
+    }
+    let column = scan(alloc, reader, plan)?;
+    Ok(Digest::of(&column))
+}

@@ -1,5 +1,0 @@
-use Rattle.vx_fusing.proofs.Merges.{fused_stays}
-use Rattle.vx_fusing.proofs.laws.fused_stays.Goals as goal
-
-pub returns : goal.returns
-returns c = fused_stays

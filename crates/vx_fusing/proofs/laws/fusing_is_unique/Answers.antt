@@ -1,5 +1,0 @@
-use Rattle.vx_fusing.proofs.Unique.{fusing_is_unique}
-use Rattle.vx_fusing.proofs.laws.fusing_is_unique.Goals as goal
-
-pub returns : goal.returns
-returns c = fusing_is_unique

@@ -1,5 +1,0 @@
-use Rattle.vx_fusing.proofs.Merges.{merge_shortens}
-use Rattle.vx_fusing.proofs.laws.merge_shortens.Goals as goal
-
-pub returns : goal.returns
-returns c = merge_shortens

@@ -1,5 +1,0 @@
-use Rattle.vx_fusing.proofs.Merges.{merge_stays_fused}
-use Rattle.vx_fusing.proofs.laws.merge_stays_fused.Goals as goal
-
-pub returns : goal.returns
-returns c = merge_stays_fused

@@ -1,5 +1,0 @@
-use Rattle.vx_fusing.proofs.Merges.{merges_end}
-use Rattle.vx_fusing.proofs.laws.merges_end.Goals as goal
-
-pub returns : goal.returns
-returns c = merges_end

@@ -1,0 +1,54 @@
+// Splits evaluated over a batch.
+ghost use Rattle.std.specs.Prelude.{◌≡◌, length};
+ghost use Rattle.vx_dtype.specs.Answers.{Answers};
+ghost use Rattle.vx_rewrite_recombine.specs.Items.{struct_type};
+ghost use Rattle.vx_query_split.specs.Splits.{part_answers, split_evaluation};
+ghost use Rattle.vx_tree.specs.Trees.{WellTyped, EachWellTyped, Over, EachOver};
+ghost use Rattle.vx_tree.specs.Views.{bound_of, bounds_of};
+
+use std::alloc::Global;
+use vx_eval::apply_bound;
+use vx_rewrite_split::BoundPartitionedExpr;
+use vx_tree::{BoundExpression, FieldName};
+use vx_types::{Column, Nullability, VortexResult};
+
+/// What the split gives over the batch, a row for each of the batch's: each partition's column, and
+/// the root over the structs that these make.
+///
+/// Asks well-typed partitions over the batch's type, a name for each, and a well-typed root over the
+/// struct of their types. Refuses with the fault (13 to 15) of the first partition that faults on the
+/// batch, else of the root over the structs, and with `OutOfMemory` (1).
+pub fn evaluate_split(
+    alloc: Global,
+    batch: &Column,
+    split: &BoundPartitionedExpr<FieldName>,
+) -> VortexResult<Column>
+    requires names { length split.now.partition_names ≡ length split.now.partitions.items }
+    requires partitions { EachWellTyped (bounds_of split.now.partitions.items) }
+    requires over { EachOver (bounds_of split.now.partitions.items) batch.now.type }
+    requires root { WellTyped (bound_of split.now.root) }
+    requires joined { Over (bound_of split.now.root) (struct_type split.now.partition_names (bounds_of split.now.partitions.items)) }
+    ensures { Answers (λ c. c) result (split_evaluation split.now.partition_names (bounds_of split.now.partitions.items) (bound_of split.now.root) batch.now) }
+{
+    let columns = evaluate_each(alloc, batch, split.partitions.as_slice())?;
+    let names = split.partition_names.clone()?;
+    let joined = Column::struct_of(alloc, names, columns, batch.len(), Nullability::NonNullable)?;
+    apply_bound(alloc, &joined, &split.root)
+}
+
+// A column for each partition.
+fn evaluate_each(
+    alloc: Global,
+    batch: &Column,
+    partitions: &[BoundExpression],
+) -> VortexResult<Vec<Column>>
+    requires well_typed { EachWellTyped (bounds_of partitions.now) }
+    requires over { EachOver (bounds_of partitions.now) batch.now.type }
+    ensures { Answers (λ columns. columns.items) result (part_answers (bounds_of partitions.now) batch.now) }
+{
+    let mut columns = Vec::with_capacity(alloc, partitions.len())?;
+    for i in 0..partitions.len() {
+        columns.push(apply_bound(alloc, batch, &partitions[i])?)?;
+    }
+    Ok(columns)
+}

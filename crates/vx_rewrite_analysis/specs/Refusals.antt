@@ -1,0 +1,40 @@
+-- The first refusal of a closure that annotates nodes.
+use Rattle.std.specs.Prelude.{◌≡◌, ◌⊎◌, Bool, List, [], ◌∷◌, Option, None, Some, IfSome, Result, Ok, Err, IsOkAnd, MatchResult, Vec}
+use Rattle.std.specs.Borrow.{Bor}
+use Rattle.std.specs.HashMap.{HashMap}
+use Rattle.std.specs.Option.{option_or}
+use Rattle.vx_dtype.specs.declared.error.VortexError.{VortexError}
+use Rattle.vx_dtype.specs.declared.error.VortexError.TheVariants.{OutOfMemory}
+use Rattle.vx_tree.specs.Trees.{BoundTree, scope, node, BoundTrees, no_bound, bound}
+use Rattle.vx_tree.specs.Views.{bound_of}
+use Rattle.vx_tree.specs.declared.bound.BoundExpression.{BoundExpression}
+use Rattle.vx_tree.specs.declared.exact.ExactBoundExpr.{ExactBoundExpr}
+use Rattle.vx_rewrite_analysis.specs.Annotations.{SameAnnotations}
+use Rattle.vx_rewrite_analysis.specs.Keys.{key_of, entry_at}
+
+-- a closure that answers by its tree alone, as said says, save where memory runs out
+abbrev pub SaysBy : {A Z : Type 0} → (A → A → Bool) → (Bor BoundExpression → Result (Vec A Z) VortexError → Type 0) → (BoundTree → Result (List A) VortexError) → Type 0
+SaysBy {A} {Z} eq post said = (x : Bor BoundExpression) (r : Result (Vec A Z) VortexError) → post x r
+    → MatchResult r (λ v. IsOkAnd (said (bound_of x.now)) (SameAnnotations eq v.items)) (λ y. (y ≡ OutOfMemory) ⊎ (said (bound_of x.now) ≡ Err y))
+
+module _ {A : Type 0} where
+  -- the refusal that is met: a node's own; none where it has answers; else that below it
+  abbrev pub refusal_or : Result (List A) VortexError → Option VortexError → Option VortexError
+  refusal_or (Err y) below = Some y
+  refusal_or (Ok []) below = below
+  refusal_or (Ok (a ∷ rest)) below = None
+
+  module _ (said : BoundTree → Result (List A) VortexError) where
+    -- the first refusal that is met: at the node, or, where it has no answers, at its children from left to right
+    abbrev mutual
+      pub first_refusal : BoundTree → Option VortexError
+      first_refusal (scope t) = refusal_or (said (scope t)) None
+      first_refusal (node t f bs) = refusal_or (said (node t f bs)) (first_refusal_in bs)
+
+      pub first_refusal_in : BoundTrees → Option VortexError
+      first_refusal_in no_bound = None
+      first_refusal_in (bound b bs) = option_or (first_refusal b) (first_refusal_in bs)
+
+    -- at and below the node of each entry no refusal is met
+    abbrev pub IsUnrefused : {X S : Type 0} → HashMap ExactBoundExpr X S → Type 0
+    IsUnrefused m = (k : ExactBoundExpr) → IfSome (entry_at (key_of k) m) (λ x. first_refusal (key_of k) ≡ None)

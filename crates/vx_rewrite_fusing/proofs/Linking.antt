@@ -1,0 +1,284 @@
+-- Where the ranges of an item stand, after a conjunct is put in front or merged.
+use Rattle.std.proofs.Common.{◌≡◌, ◌⊎◌, inl, inr, ℕ, zero, suc, ◌<◌, ◌≤◌, List, [], ◌∷◌, ◌++◌, length, get_or, set, refl, sym, subst, ap, ◌∙◌, Bool, true, false, arith, length-append, length-set}
+use Rattle.std.specs.Prelude.{Option, Some, None, slice_get}
+use Rattle.std.specs.declared.alloc.Global.{Global}
+use Rattle.std.specs.declared.boxed.Box.{Box}
+use denote.Ref.{Bor}
+use Rattle.vx_tree.specs.Equality.{equal_bound, equal_bound-Decides}
+use Rattle.vx_tree.specs.Trees.{BoundTree}
+use Rattle.vx_tree.specs.Views.{bound_of}
+use Rattle.vx_tree.specs.declared.bound.BoundExpression.{BoundExpression}
+use Rattle.vx_rewrite_fusing.specs.declared.left.Left.{Left}
+use Rattle.vx_rewrite_fusing.specs.declared.left.Place.{Place}
+use Rattle.vx_rewrite_fusing.specs.declared.left.Place.TheVariants.{Other, Open, Merged}
+use Rattle.vx_rewrite_fusing.specs.declared.ranges.RangeComparison.{RangeComparison}
+use Rattle.vx_rewrite_fusing.specs.declared.ranges.Side.{Side}
+use Rattle.vx_rewrite_fusing.specs.declared.ranges.Side.TheVariants.{Below, Above}
+use Rattle.vx_rewrite_fusing.specs.Indexed.{Bounded, bounded_by, bounded_at, next_of, next_at, IsLast, head_of, SetsHead, IsLinked, IsFirst}
+use Rattle.vx_rewrite_fusing.proofs.Merges.{either}
+
+-- ---- what stands at a place
+
+pub bounded_inside : (ps : List Place) (i : ℕ) (k : Bounded) → bounded_at ps i ≡ Some k → i < length ps
+bounded_inside [] i k e = cc
+bounded_inside (p ∷ ps) zero k e = omega arith
+bounded_inside (p ∷ ps) (suc i) k e = let h = bounded_inside ps i k e in omega arith
+
+bounded_front : (ps qs : List Place) (i : ℕ) → i < length ps → bounded_at (ps ++ qs) i ≡ bounded_at ps i
+bounded_front [] qs i l = absurd (omega arith)
+bounded_front (p ∷ ps) qs zero l = refl
+bounded_front (p ∷ ps) qs (suc i) l = bounded_front ps qs i (omega arith)
+
+next_front : (ps qs : List Place) (i : ℕ) → i < length ps → next_at (ps ++ qs) i ≡ next_at ps i
+next_front [] qs i l = absurd (omega arith)
+next_front (p ∷ ps) qs zero l = refl
+next_front (p ∷ ps) qs (suc i) l = next_front ps qs i (omega arith)
+
+bounded_end : (ps : List Place) (p : Place) → bounded_at (ps ++ p ∷ []) (length ps) ≡ bounded_by p
+bounded_end [] p = refl
+bounded_end (q ∷ ps) p = bounded_end ps p
+
+next_end : (ps : List Place) (p : Place) → next_at (ps ++ p ∷ []) (length ps) ≡ next_of p
+next_end [] p = refl
+next_end (q ∷ ps) p = next_end ps p
+
+bounded_here : (ps : List Place) (i : ℕ) (p : Place) → slice_get ps i ≡ Some p → bounded_at ps i ≡ bounded_by p
+bounded_here [] i p e = cc
+bounded_here (q ∷ ps) zero p e = let h : q ≡ p = cc in ap bounded_by h
+bounded_here (q ∷ ps) (suc i) p e = bounded_here ps i p e
+
+next_here : (ps : List Place) (i : ℕ) (p : Place) → slice_get ps i ≡ Some p → next_at ps i ≡ next_of p
+next_here [] i p e = cc
+next_here (q ∷ ps) zero p e = let h : q ≡ p = cc in ap next_of h
+next_here (q ∷ ps) (suc i) p e = next_here ps i p e
+
+bounded_set : (ps : List Place) (i : ℕ) (q : Place) → i < length ps → bounded_at (set ps i q) i ≡ bounded_by q
+bounded_set [] i q l = absurd (omega arith)
+bounded_set (p ∷ ps) zero q l = refl
+bounded_set (p ∷ ps) (suc i) q l = bounded_set ps i q (omega arith)
+
+bounded_apart : (ps : List Place) (i j : ℕ) (q : Place) → (j ≡ i → ⊥) → bounded_at (set ps i q) j ≡ bounded_at ps j
+bounded_apart [] i j q n = refl
+bounded_apart (p ∷ ps) zero zero q n = absurd (n refl)
+bounded_apart (p ∷ ps) zero (suc j) q n = refl
+bounded_apart (p ∷ ps) (suc i) zero q n = refl
+bounded_apart (p ∷ ps) (suc i) (suc j) q n = bounded_apart ps i j q (λ e. n (ap suc e))
+
+next_apart : (ps : List Place) (i j : ℕ) (q : Place) → (j ≡ i → ⊥) → next_at (set ps i q) j ≡ next_at ps j
+next_apart [] i j q n = refl
+next_apart (p ∷ ps) zero zero q n = absurd (n refl)
+next_apart (p ∷ ps) zero (suc j) q n = refl
+next_apart (p ∷ ps) (suc i) zero q n = refl
+next_apart (p ∷ ps) (suc i) (suc j) q n = next_apart ps i j q (λ e. n (ap suc e))
+
+-- the place that is read
+pub bounded_read : (ps : List Place) (i : ℕ) (p : Place) → i < length ps → p ≡ get_or ps i p → bounded_at ps i ≡ bounded_by p
+bounded_read [] i p l e = absurd (omega arith)
+bounded_read (q ∷ ps) zero p l e = ap bounded_by (sym e)
+bounded_read (q ∷ ps) (suc i) p l e = bounded_read ps i p (omega arith) e
+
+pub place_read : (ps : List Place) (i : ℕ) (p : Place) → i < length ps → p ≡ get_or ps i p → slice_get ps i ≡ Some p
+place_read [] i p l e = absurd (omega arith)
+place_read (q ∷ ps) zero p l e = ap Some (sym e)
+place_read (q ∷ ps) (suc i) p l e = place_read ps i p (omega arith) e
+
+-- a place that is one of an item is open
+pub open_of : (p : Place) (k : Bounded) → bounded_by p ≡ Some k → (r : RangeComparison) × (next : Option ℕ) × (p ≡ Open r next)
+open_of Other k e = cc
+open_of (Open r next) k e = (r, next, refl)
+open_of (Merged b) k e = cc
+
+-- ---- the last place of an item
+
+below_or : (i n : ℕ) → (i < n) ⊎ (n ≤ i)
+below_or i zero = inr (omega arith)
+below_or zero (suc n) = inl (omega arith)
+below_or (suc i) (suc n) = either (λ (l : i < n). inl (omega arith)) (λ (l : n ≤ i). inr (omega arith)) (below_or i n)
+
+last_agrees : (ps qs : List Place) (k : Bounded) (n : ℕ) (o : Option ℕ) → ((i : ℕ) → i < n → bounded_at ps i ≡ Some k → bounded_at qs i ≡ Some k) → ((i : ℕ) → i < n → bounded_at qs i ≡ Some k → bounded_at ps i ≡ Some k) → IsLast ps k n o → IsLast qs k n o
+last_agrees ps qs k n None f g h = λ i l e. h i l (g i l e)
+last_agrees ps qs k n (Some j) f g h = (h.0, f j h.0 h.1, λ i a b e. h.2 i a b (g i b e))
+
+last_up : (ps : List Place) (k : Bounded) (n m : ℕ) (o : Option ℕ) → n ≤ m → ((i : ℕ) → n ≤ i → i < m → bounded_at ps i ≡ Some k → ⊥) → IsLast ps k n o → IsLast ps k m o
+last_up ps k n m None l f h = λ i b e. either (λ p. h i p e) (λ p. f i p b e) (below_or i n)
+last_up ps k n m (Some j) l f h = (let a : j < n = h.0 in omega arith, h.1, λ i a b e. either (λ p. h.2 i a p e) (λ p. f i p b e) (below_or i n))
+
+last_front : (ps qs : List Place) (k : Bounded) (n : ℕ) (o : Option ℕ) → n ≤ length ps → IsLast ps k n o → IsLast (ps ++ qs) k n o
+last_front ps qs k n o l h = last_agrees ps (ps ++ qs) k n o
+    (λ i b e. bounded_front ps qs i (omega arith) ∙ e)
+    (λ i b e. sym (bounded_front ps qs i (omega arith)) ∙ e)
+    h
+
+-- a place of another item behind the last one
+last_past : (ps : List Place) (p : Place) (k : Bounded) (o : Option ℕ) → (bounded_by p ≡ Some k → ⊥) → IsLast ps k (length ps) o → IsLast (ps ++ p ∷ []) k (length (ps ++ p ∷ [])) o
+last_past ps p k o n h = last_up (ps ++ p ∷ []) k (length ps) (length (ps ++ p ∷ [])) o (omega (arith, length-append ps (p ∷ [])))
+    (λ i a b e.
+    let same : i ≡ length ps = omega (arith, length-append ps (p ∷ [])) in
+    n (sym (bounded_end ps p) ∙ (ap (bounded_at (ps ++ p ∷ [])) (sym same) ∙ e)))
+    (last_front ps (p ∷ []) k (length ps) o (omega arith) h)
+
+-- a place of the item behind the last one
+last_there : (ps : List Place) (p : Place) (k : Bounded) → bounded_by p ≡ Some k → IsLast (ps ++ p ∷ []) k (length (ps ++ p ∷ [])) (Some (length ps))
+last_there ps p k e = (omega (arith, length-append ps (p ∷ [])), bounded_end ps p ∙ e, λ i a b f. omega (arith, length-append ps (p ∷ [])))
+
+-- ---- a conjunct in front
+
+-- the last place of each item is kept behind one more place
+abbrev NextsRight : List Place → Type 0
+NextsRight ps = (i : ℕ) (k : Bounded) → bounded_at ps i ≡ Some k → IsLast ps k i (next_at ps i)
+
+nexts_pushed : (ps : List Place) (p : Place) → NextsRight ps → ((k : Bounded) → bounded_by p ≡ Some k → IsLast ps k (length ps) (next_of p)) → NextsRight (ps ++ p ∷ [])
+nexts_pushed ps p f g i k e = either inside at_end (below_or i (length ps))
+  where
+    inside : i < length ps → IsLast (ps ++ p ∷ []) k i (next_at (ps ++ p ∷ []) i)
+    inside l = subst (IsLast (ps ++ p ∷ []) k i) (sym (next_front ps (p ∷ []) i l)) (last_front ps (p ∷ []) k i (next_at ps i) (omega arith) (f i k (sym (bounded_front ps (p ∷ []) i l) ∙ e)))
+
+    at_end : length ps ≤ i → IsLast (ps ++ p ∷ []) k i (next_at (ps ++ p ∷ []) i)
+    at_end l =
+        let b = bounded_inside (ps ++ p ∷ []) i k e in
+        let same : length ps ≡ i = omega (arith, length-append ps (p ∷ [])) in
+        let here : bounded_by p ≡ Some k = sym (bounded_end ps p) ∙ (ap (bounded_at (ps ++ p ∷ [])) same ∙ e) in
+        subst (λ j. IsLast (ps ++ p ∷ []) k j (next_at (ps ++ p ∷ []) j)) same
+        (subst (IsLast (ps ++ p ∷ []) k (length ps)) (sym (next_end ps p)) (last_front ps (p ∷ []) k (length ps) (next_of p) (omega arith) (g k here)))
+
+tree_or : (b c : BoundTree) → (b ≡ c) ⊎ (b ≡ c → ⊥)
+tree_or b c = go (equal_bound b c) refl
+  where
+    go : (r : Bool) → equal_bound b c ≡ r → (b ≡ c) ⊎ (b ≡ c → ⊥)
+    go true e = inl ((equal_bound-Decides b c).0 e)
+    go false e = inr (λ h. let f : equal_bound b c ≡ true = (equal_bound-Decides b c).1 h in cc)
+
+-- whether two ranges bound one item from one side
+pub same_or : (t s : Side) (b c : BoundTree) → ((t ≡ s) × (b ≡ c)) ⊎ ((t ≡ s) × (b ≡ c) → ⊥)
+same_or Below Below b c = either (λ e. inl (refl, e)) (λ n. inr (λ h. n h.1)) (tree_or b c)
+same_or Above Above b c = either (λ e. inl (refl, e)) (λ n. inr (λ h. n h.1)) (tree_or b c)
+same_or Below Above b c = inr (λ h. let e : Below ≡ Above = h.0 in cc)
+same_or Above Below b c = inr (λ h. let e : Above ≡ Below = h.0 in cc)
+
+pub parts_same : {s t : Side} {b c : BoundTree} → ◌≡◌ {A = Option Bounded} (Some (s, b)) (Some (t, c)) → (s ≡ t) × (b ≡ c)
+parts_same {s = s} {t = t} {b = b} {c = c} e = (ap side e, ap tree e)
+  where
+    side : Option Bounded → Side
+    side None = s
+    side (Some k) = k.0
+
+    tree : Option Bounded → BoundTree
+    tree None = b
+    tree (Some k) = k.1
+
+pub pushed_open : (old new : Left) (r : RangeComparison) (next : Option ℕ) → IsLinked old → new.places.items ≡ old.places.items ++ Open r next ∷ [] → next ≡ head_of old.heads r.side r.item → SetsHead old.heads new.heads r.side r.item (Some (length old.places.items)) → IsLinked new
+pushed_open old new r next linked e before sets = record {
+  heads = λ s x. subst (λ qs. IsLast qs (s, bound_of x.now) (length qs) (head_of new.heads s x)) (sym e) (either (here s x) (elsewhere s x) (same_or s r.side (bound_of x.now) (bound_of r.item.now)));
+  nexts = subst NextsRight (sym e) (nexts_pushed ps p linked.nexts (λ k f. subst (λ j. IsLast ps j (length ps) next) (own k f) (subst (IsLast ps (r.side, bound_of r.item.now) (length ps)) (sym before) (linked.heads r.side r.item))));
+}
+  where
+    ps : List Place
+    ps = old.places.items
+
+    p : Place
+    p = Open r next
+
+    own : (k : Bounded) → Some (r.side, bound_of r.item.now) ≡ Some k → (r.side, bound_of r.item.now) ≡ k
+    own k f = cc
+
+    here : (s : Side) (x : Bor BoundExpression) → (s ≡ r.side) × (bound_of x.now ≡ bound_of r.item.now) → IsLast (ps ++ p ∷ []) (s, bound_of x.now) (length (ps ++ p ∷ [])) (head_of new.heads s x)
+    here s x same = subst (IsLast (ps ++ p ∷ []) (s, bound_of x.now) (length (ps ++ p ∷ []))) (sym ((sets s x).0 same)) (last_there ps p (s, bound_of x.now) (rw (same.0, same.1) refl))
+
+    elsewhere : (s : Side) (x : Bor BoundExpression) → ((s ≡ r.side) × (bound_of x.now ≡ bound_of r.item.now) → ⊥) → IsLast (ps ++ p ∷ []) (s, bound_of x.now) (length (ps ++ p ∷ [])) (head_of new.heads s x)
+    elsewhere s x apart = subst (IsLast (ps ++ p ∷ []) (s, bound_of x.now) (length (ps ++ p ∷ []))) (sym ((sets s x).1 apart)) (last_past ps p (s, bound_of x.now) (head_of old.heads s x) (λ f. let q = parts_same f in apart (sym q.0, sym q.1)) (linked.heads s x))
+
+pub pushed_other : (old new : Left) → IsLinked old → new.places.items ≡ old.places.items ++ Other ∷ [] → new.heads ≡ old.heads → IsLinked new
+pushed_other old new linked e same = record {
+  heads = λ s x. subst (λ qs. IsLast qs (s, bound_of x.now) (length qs) (head_of new.heads s x)) (sym e) (subst (λ h. IsLast (ps ++ Other ∷ []) (s, bound_of x.now) (length (ps ++ Other ∷ [])) (head_of h s x)) (sym same) (last_past ps Other (s, bound_of x.now) (head_of old.heads s x) (λ f. cc) (linked.heads s x)));
+  nexts = subst NextsRight (sym e) (nexts_pushed ps Other linked.nexts (λ k f. cc));
+}
+  where
+    ps : List Place
+    ps = old.places.items
+
+-- ---- a range that is merged
+
+-- a range is taken out
+module _ (ps : List Place) (i : ℕ) (q : Place) (k : Bounded) (gone : bounded_by q ≡ None) (inside : i < length ps) (here : bounded_at ps i ≡ Some k) (behind : (j : ℕ) → i < j → j < length ps → bounded_at ps j ≡ Some k → ⊥) where
+  open_apart : (j : ℕ) (h : Bounded) → bounded_at (set ps i q) j ≡ Some h → j ≡ i → ⊥
+  open_apart j h e s = let f : bounded_at (set ps i q) i ≡ None = bounded_set ps i q inside ∙ gone in let g : bounded_at (set ps i q) i ≡ Some h = subst (λ m. bounded_at (set ps i q) m ≡ Some h) s e in cc
+
+  last_of_other : (h : Bounded) (n : ℕ) (o : Option ℕ) → (h ≡ k → ⊥) → IsLast ps h n o → IsLast (set ps i q) h n o
+  last_of_other h n o apart last = last_agrees ps (set ps i q) h n o
+      (λ j l e. bounded_apart ps i j q (λ s. let f : bounded_at ps i ≡ Some h = subst (λ m. bounded_at ps m ≡ Some h) s e in apart (cc)) ∙ e)
+      (λ j l e. sym (bounded_apart ps i j q (open_apart j h e)) ∙ e)
+      last
+
+  last_below : (h : Bounded) (n : ℕ) (o : Option ℕ) → n ≤ i → IsLast ps h n o → IsLast (set ps i q) h n o
+  last_below h n o l last = last_agrees ps (set ps i q) h n o
+      (λ j b e. bounded_apart ps i j q (λ s. omega arith) ∙ e)
+      (λ j b e. sym (bounded_apart ps i j q (λ s. omega arith)) ∙ e)
+      last
+
+  last_of_it : (o : Option ℕ) → IsLast ps k i o → IsLast (set ps i q) k (length (set ps i q)) o
+  last_of_it o last = last_up (set ps i q) k i (length (set ps i q)) o (omega (arith, length-set ps i q))
+      (λ j a b e.
+      let n : j ≡ i → ⊥ = open_apart j k e in
+      let less : j < length ps = omega (arith, length-set ps i q) in
+      let above : i < j = apart_above i j a n in
+      behind j above less (sym (bounded_apart ps i j q n) ∙ e))
+      (last_below k i o (omega arith) last)
+    where
+      apart_above : (a b : ℕ) → a ≤ b → (b ≡ a → ⊥) → a < b
+      apart_above a b l n = either (λ m. m) (λ m. absurd (n (omega arith))) (below_or a b)
+
+  nexts_set : NextsRight ps → NextsRight (set ps i q)
+  nexts_set f j h e = subst (IsLast (set ps i q) h j) (sym (next_apart ps i j q n)) (either past front (below_or i j))
+    where
+      n : j ≡ i → ⊥
+      n = open_apart j h e
+
+      was : bounded_at ps j ≡ Some h
+      was = sym (bounded_apart ps i j q n) ∙ e
+
+      past : i < j → IsLast (set ps i q) h j (next_at ps j)
+      past l = last_of_other h j (next_at ps j) (λ s. behind j l (bounded_inside ps j h was) (was ∙ ap Some s)) (f j h was)
+
+      front : j ≤ i → IsLast (set ps i q) h j (next_at ps j)
+      front l = last_below h j (next_at ps j) l (f j h was)
+
+-- the kept place is one of the range
+pub first_is : (left : Left) (s : Side) (x : Bor BoundExpression) (i : ℕ) → IsLinked left → head_of left.heads s x ≡ Some i → IsLast left.places.items (s, bound_of x.now) (length left.places.items) (Some i)
+first_is left s x i linked e = subst (IsLast left.places.items (s, bound_of x.now) (length left.places.items)) e (linked.heads s x)
+
+pub none_is : (left : Left) (s : Side) (x : Bor BoundExpression) → IsLinked left → head_of left.heads s x ≡ None → (j : ℕ) → bounded_at left.places.items j ≡ Some (s, bound_of x.now) → ⊥
+none_is left s x linked e j f = go (subst (IsLast left.places.items (s, bound_of x.now) (length left.places.items)) e (linked.heads s x))
+  where
+    go : IsLast left.places.items (s, bound_of x.now) (length left.places.items) None → ⊥
+    go h = h j (bounded_inside left.places.items j (s, bound_of x.now) f) f
+
+-- a first range bounds the item from that side
+pub first_bounds : (old new : Left) (s : Side) (x : Bor BoundExpression) (i : ℕ) (r : RangeComparison) → IsLinked old → IsFirst old new s x i r → (r.side ≡ s) × (bound_of r.item.now ≡ bound_of x.now)
+first_bounds old new s x i r linked first =
+    let last = first_is old s x i linked first.head in
+    parts_same (sym (bounded_here old.places.items i (Open r first.next) first.is_open) ∙ last.1)
+
+pub merged_linked : (old mid new : Left) (s : Side) (x : Bor BoundExpression) (i : ℕ) (r : RangeComparison) (b : Box BoundExpression Global) → IsLinked old → IsFirst old mid s x i r → new.heads ≡ mid.heads → new.places.items ≡ set old.places.items i (Merged b) → IsLinked new
+merged_linked old mid new s x i r b linked first same e = record {
+  heads = λ t y. subst (λ qs. IsLast qs (t, bound_of y.now) (length qs) (head_of new.heads t y)) (sym e) (subst (λ h. IsLast qs (t, bound_of y.now) (length qs) (head_of h t y)) (sym same) (either (here t y) (elsewhere t y) (same_or t s (bound_of y.now) (bound_of x.now))));
+  nexts = subst NextsRight (sym e) (nexts_set ps i (Merged b) (s, bound_of x.now) refl last.0 last.1 last.2 linked.nexts);
+}
+  where
+    ps : List Place
+    ps = old.places.items
+
+    qs : List Place
+    qs = set ps i (Merged b)
+
+    last : (i < length ps) × (bounded_at ps i ≡ Some (s, bound_of x.now)) × ((j : ℕ) → i < j → j < length ps → bounded_at ps j ≡ Some (s, bound_of x.now) → ⊥)
+    last = first_is old s x i linked first.head
+
+    next : IsLast ps (s, bound_of x.now) i first.next
+    next = subst (IsLast ps (s, bound_of x.now) i) (next_here ps i (Open r first.next) first.is_open) (linked.nexts i (s, bound_of x.now) last.1)
+
+    here : (t : Side) (y : Bor BoundExpression) → (t ≡ s) × (bound_of y.now ≡ bound_of x.now) → IsLast qs (t, bound_of y.now) (length qs) (head_of mid.heads t y)
+    here t y h = subst (IsLast qs (t, bound_of y.now) (length qs)) (sym ((first.sets t y).0 h)) (rw (h.0, h.1) (last_of_it ps i (Merged b) (s, bound_of x.now) refl last.0 last.1 last.2 first.next next))
+
+    elsewhere : (t : Side) (y : Bor BoundExpression) → ((t ≡ s) × (bound_of y.now ≡ bound_of x.now) → ⊥) → IsLast qs (t, bound_of y.now) (length qs) (head_of mid.heads t y)
+    elsewhere t y n = subst (IsLast qs (t, bound_of y.now) (length qs)) (sym ((first.sets t y).1 n)) (last_of_other ps i (Merged b) (s, bound_of x.now) refl last.0 last.1 last.2 (t, bound_of y.now) (length qs) (head_of old.heads t y) (λ h. n (ap (λ (z : Bounded). z.0) h, ap (λ (z : Bounded). z.1) h))
+        (rw (length-set ps i (Merged b)) (linked.heads t y)))

@@ -1,0 +1,174 @@
+// Bound trees split into partitions.
+ghost use Rattle.std.specs.Prelude.{◌≡◌, ◌⊎◌, [], length, map, Err, IfErr, IfOk, IsTrue, None, OnOk, Option, Some};
+ghost use Rattle.std.specs.Cmp.Lexicographic.{pointwise};
+ghost use Rattle.std.specs.Option.{option_copied};
+ghost use Rattle.vx_dtype.specs.declared.error.VortexError.TheVariants.{OutOfMemory};
+ghost use Rattle.vx_value.specs.Answers.{Answers};
+ghost use Rattle.vx_rewrite_analysis.specs.Covers.{has_single, Covered};
+ghost use Rattle.vx_rewrite_analysis.specs.Refusals.{SaysBy, first_refusal};
+ghost use Rattle.vx_rewrite_split.specs.Collecting.{groups_in, SameGroups, marks_of};
+ghost use Rattle.vx_rewrite_split.specs.Filling.{filled};
+ghost use Rattle.vx_rewrite_split.specs.Only.{annotations_met, only_annotation};
+ghost use Rattle.vx_rewrite_split.specs.Packing.{all_holes, all_names};
+ghost use Rattle.vx_rewrite_split.specs.Partitioned.{free_names, EquallyMany};
+ghost use Rattle.vx_rewrite_split.specs.Splitting.{AnnotationMap, IsAnnotatedBy, IsPartitioned, IsSplitBy, IsSplitByPieces, IsTakenBySome};
+ghost use Rattle.vx_rewrite_recombine.specs.Holes.{recombination};
+ghost use Rattle.vx_rewrite_recombine.specs.Items.{struct_type};
+ghost use Rattle.vx_rewrite_recombine.specs.Partitions.{partitions, partition_names};
+ghost use Rattle.vx_rewrite_recombine.specs.Pieces.{pieces, annotations_of, groups};
+ghost use Rattle.vx_tree.specs.Trees.{BoundTree, scope, WellTyped};
+ghost use Rattle.vx_tree.specs.Views.{bound_of, bounds_of};
+
+use crate::collect::collect;
+use crate::fill::fill;
+use crate::groups::Groups;
+use crate::joined::joined_holes;
+use crate::mark::Mark;
+use crate::met::meet;
+use crate::names::free_names;
+use crate::pack::pack_groups;
+use crate::{BoundPartitionedExpr, PartitionKey};
+use indexmap::IndexMap;
+use std::alloc::Global;
+use vx_rewrite_analysis::{BoundAnnotations, descendent_bound_annotations};
+use vx_tree::{BoundExpression, FieldNames, VortexResult};
+
+/// The tree split by what the closure annotates its nodes with: as
+/// [`partition_bound_annotations`] splits it by the map of
+/// [`descendent_bound_annotations`].
+///
+/// Refuses with what the closure refuses, the first that is met, else with `PartitionNameTaken` (17)
+/// exactly where two annotations of the pieces have one field name, and with `OutOfMemory` (1).
+pub fn partition_bound<
+    A: PartitionKey + Drop,
+    F: Fn(&BoundExpression) -> VortexResult<Vec<A>> + Drop,
+>(alloc: Global, e: BoundExpression, annotate: F) -> VortexResult<BoundPartitionedExpr<A>>
+    requires callable { F.IsAlwaysCallable annotate }
+    requires well_typed { WellTyped (bound_of e) }
+    ensures split { IfOk result (λ p. (m : AnnotationMap A) × IsAnnotatedBy A.eq (F.post annotate) (bound_of e) m
+        × IsSplitBy A.eq A.text A.name m (bound_of e) p.partition_names (bounds_of p.partitions.items) p.partition_annotations.items (bound_of p.root)) }
+    ensures counts { IfOk result (λ p. EquallyMany p.partition_names p.partition_annotations.items p.partitions.items) }
+    ensures refusal { IfErr result (λ y. (y ≡ OutOfMemory) ⊎ ((x : _) × F.post annotate x (Err y)) ⊎ IsTakenBySome A.eq A.name (F.post annotate) (bound_of e) y) }
+    ensures first { IfErr result (λ y. (said : _) → SaysBy A.eq (F.post annotate) said → (y ≡ OutOfMemory) ⊎ (first_refusal said (bound_of e) ≡ Some y)
+        ⊎ ((first_refusal said (bound_of e) ≡ None) × IsTakenBySome A.eq A.name (F.post annotate) (bound_of e) y)) }
+    ensures unrefused { OnOk result ((said : _) → SaysBy A.eq (F.post annotate) said → first_refusal said (bound_of e) ≡ None) }
+{
+    // Trees are let go of by `drop`: in place that takes the proof far longer.
+    match descendent_bound_annotations(alloc, &e, annotate) {
+        Ok(annotations) => partition_bound_annotations(alloc, e, annotations),
+        Err(refusal) => {
+            drop(e);
+            Err(refusal)
+        }
+    }
+}
+
+/// The tree split by the annotations of its nodes: the pieces of each annotation packed, and the
+/// root, which has holes in their place. A piece is an outermost node that has exactly one
+/// annotation in the map; partitions stand in the order in which their annotations first appear.
+///
+/// Where the map covers the tree ([`vx_rewrite_analysis::covers`]) the root over the partitions' results
+/// gives what the tree does. A scope root that no piece covers keeps its old type.
+///
+/// Refuses with `PartitionNameTaken` (17) exactly where two annotations of the pieces have one field
+/// name, with the first name that an earlier one has, and with `OutOfMemory` (1).
+pub fn partition_bound_annotations<A: PartitionKey + Drop>(
+    alloc: Global,
+    e: BoundExpression,
+    annotations: BoundAnnotations<A>,
+) -> VortexResult<BoundPartitionedExpr<A>>
+    requires { WellTyped (bound_of e) }
+    ensures names { Answers (λ p. p.partition_names) result (free_names (partition_names A.name (groups A.eq (only_annotation annotations) (bound_of e)))) }
+    ensures partitions { IfOk result (λ p. bounds_of p.partitions.items ≡ partitions A.text (groups A.eq (only_annotation annotations) (bound_of e))) }
+    ensures annotations { IfOk result (λ p. IsTrue (pointwise A.eq p.partition_annotations.items (annotations_of A.eq (pieces (only_annotation annotations) (bound_of e))))) }
+    ensures root { IfOk result (λ p. bound_of p.root ≡ recombination A.eq A.text A.name (only_annotation annotations) (bound_of e)) }
+    ensures counts { IfOk result (λ p. EquallyMany p.partition_names p.partition_annotations.items p.partitions.items) }
+    ensures partitioned { IfOk result (λ p. IsPartitioned (Covered (has_single annotations) (bound_of e)) p.partition_names (bounds_of p.partitions.items) (bound_of p.root) (bound_of e)) }
+{
+    let split = split_by_map(alloc, &e, &annotations);
+    drop(e);
+    split
+}
+
+// The tree split by the map.
+fn split_by_map<A: PartitionKey + Drop>(
+    alloc: Global,
+    e: &BoundExpression,
+    annotations: &BoundAnnotations<A>,
+) -> VortexResult<BoundPartitionedExpr<A>>
+    requires { WellTyped (bound_of e.now) }
+    ensures names { Answers (λ p. p.partition_names) result (free_names (partition_names A.name (groups A.eq (only_annotation annotations.now) (bound_of e.now)))) }
+    ensures counts { IfOk result (λ p. EquallyMany p.partition_names p.partition_annotations.items p.partitions.items) }
+    ensures split { IfOk result (λ p. IsSplitBy A.eq A.text A.name annotations.now (bound_of e.now) p.partition_names (bounds_of p.partitions.items) p.partition_annotations.items (bound_of p.root)) }
+{
+    let mut met = Vec::new(alloc);
+    meet(e, annotations, &mut met)?;
+    partition_bound_met(alloc, e, met.as_slice())
+}
+
+/// The tree split by the annotations of its nodes, as [`partition_bound_annotations`] splits it by a
+/// map: `met` has the annotation of each node that has exactly one and None of any other, a node
+/// before its children and these from left to right, where below a node with one annotation no node
+/// is looked at. Its cost is linear in the nodes.
+///
+/// Refuses with `PartitionNameTaken` (17) exactly where two annotations of the pieces have one field
+/// name, with the first name that an earlier one has, and with `OutOfMemory` (1).
+pub fn partition_bound_met<A: PartitionKey + Drop>(
+    alloc: Global,
+    e: &BoundExpression,
+    met: &[Option<&A>],
+) -> VortexResult<BoundPartitionedExpr<A>>
+    requires { WellTyped (bound_of e.now) }
+    ensures names { (only : BoundTree → Option A) → map option_copied met.now ≡ annotations_met only (bound_of e.now) →
+        Answers (λ p. p.partition_names) result (free_names (partition_names A.name (groups A.eq only (bound_of e.now)))) }
+    ensures counts { IfOk result (λ p. EquallyMany p.partition_names p.partition_annotations.items p.partitions.items) }
+    ensures split { (only : BoundTree → Option A) → map option_copied met.now ≡ annotations_met only (bound_of e.now) →
+        IfOk result (λ p. IsSplitByPieces A.eq A.text A.name only (bound_of e.now) p.partition_names (bounds_of p.partitions.items) p.partition_annotations.items (bound_of p.root)) }
+{
+    let (groups, marks) = collected(alloc, e, met)?;
+    let names = free_names(alloc, &groups)?;
+    put_together(alloc, e, names, groups, marks.as_slice())
+}
+
+// The groups of the tree's pieces, and its marks.
+fn collected<A: PartitionKey + Drop>(
+    alloc: Global,
+    e: &BoundExpression,
+    met: &[Option<&A>],
+) -> VortexResult<(Groups<A>, Vec<Mark>)>
+    ensures found { IfOk result (λ r. (only : BoundTree → Option A) → map option_copied met.now ≡ annotations_met only (bound_of e.now) → SameGroups A.eq (groups_in r.0) (groups A.eq only (bound_of e.now))) }
+    ensures marks { IfOk result (λ r. (only : BoundTree → Option A) → map option_copied met.now ≡ annotations_met only (bound_of e.now) → r.1.items ≡ marks_of A.eq only [] (bound_of e.now)) }
+    ensures memory { IfErr result (λ y. y ≡ OutOfMemory) }
+{
+    let mut groups = IndexMap::new(alloc);
+    let mut marks = Vec::new(alloc);
+    collect(alloc, e, &mut met.iter(), &mut groups, &mut marks)?;
+    Ok((groups, marks))
+}
+
+// The partitions of the groups under these names, and the tree over them as its marks say.
+fn put_together<A: PartitionKey + Drop>(
+    alloc: Global,
+    e: &BoundExpression,
+    names: FieldNames,
+    groups: Groups<A>,
+    marks: &[Mark],
+) -> VortexResult<BoundPartitionedExpr<A>>
+    requires { length names ≡ length (groups_in groups) }
+    ensures names { IfOk result (λ p. p.partition_names ≡ names) }
+    ensures counts { IfOk result (λ p. EquallyMany p.partition_names p.partition_annotations.items p.partitions.items) }
+    ensures annotations { IfOk result (λ p. p.partition_annotations.items ≡ map (λ g. g.0) (groups_in groups)) }
+    ensures partitions { IfOk result (λ p. bounds_of p.partitions.items ≡ partitions A.text (groups_in groups)) }
+    ensures root { IfOk result (λ p. (rest : _) × (filled (all_holes (scope (struct_type names (partitions A.text (groups_in groups)))) names (all_names A.text (groups_in groups)) (partitions A.text (groups_in groups))) (bound_of e.now) marks.now ≡ (bound_of p.root, rest))) }
+    ensures memory { IfErr result (λ y. y ≡ OutOfMemory) }
+{
+    let packed = pack_groups(alloc, groups)?;
+    let partitions = packed.partitions.as_slice();
+    let holes = joined_holes(alloc, &names, packed.names.as_slice(), partitions)?;
+    Ok(BoundPartitionedExpr {
+        root: fill(alloc, e, &mut marks.iter(), holes.as_slice())?,
+        partitions: packed.partitions,
+        partition_names: names,
+        partition_annotations: packed.annotations,
+    })
+}

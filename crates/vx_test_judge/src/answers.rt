@@ -1,0 +1,38 @@
+// Answers to the lines of tables, each of the public calls that its kind names.
+mod analyses;
+mod bound;
+mod built;
+mod chance;
+mod distinct;
+mod functions;
+mod matches;
+mod pairs;
+mod partitions;
+mod paths;
+mod queries;
+mod scans;
+mod sources;
+mod split;
+mod values;
+mod words;
+
+use crate::kind::Kind;
+use crate::scene::Scene;
+use std::alloc::Global;
+use vx_test_samples::Unread;
+
+/// The answer to a line of that kind with these columns.
+pub fn answer(
+    alloc: Global,
+    kind: Kind,
+    scene: &Scene,
+    columns: &[&str],
+) -> Result<String, Unread> {
+    match (kind, columns) {
+        (Kind::OfSource(kind), [words]) => sources::answer(alloc, kind, scene, words),
+        (Kind::OfBound(kind), [words]) => bound::answer(alloc, kind, scene, words),
+        (Kind::OfTwo(kind), [by, words]) => pairs::answer(alloc, kind, scene, by, words),
+        (Kind::OfWords(kind), _) => words::answer(alloc, kind, scene, columns),
+        _ => Err(Unread::Word("another number of columns")),
+    }
+}

@@ -1,0 +1,106 @@
+// Trees made by chance, evaluated as they are, as queries and by scans: the rows stay.
+mod grammar;
+mod maker;
+mod seeds;
+
+use crate::answers::scans::scan_column;
+use maker::Maker;
+use std::alloc::Global;
+use vx_eval::apply_bound;
+use vx_query::run_query;
+use vx_rewrite::Pass;
+use vx_scan::plan;
+use vx_test_samples::{Unread, boxed, column};
+use vx_tree::{Column, Expression, VortexError, VortexResult};
+
+const SCOPE: &str = "{a={x=i32?,y=i32}?,b=i32?,m=bool?,s=utf8}";
+
+// With null in each field that may be null.
+const ROWS: &str = "{null,1,true,'ab} {{null,2},null,false,'} {{3,-1},3,null,'abab}";
+
+/// What the queries and scans of so many trees answer beside their evaluation, from a seed on:
+/// `SEED COUNT`. Of the trees that are answered otherwise the one of the shortest words is told. More
+/// than a quarter of the trees have to fault nowhere.
+pub fn by_chance(alloc: Global, words: &str) -> Result<String, Unread> {
+    let (seed, count) = words.split_once(' ').ok_or("no count")?;
+    let seed = seed.parse().map_err(|_| Unread::Word("no seed"))?;
+    let count: usize = count.parse().map_err(|_| Unread::Word("no count"))?;
+    let batch = Box::new(alloc, column(alloc, SCOPE, ROWS)?)?;
+    let mut maker = Maker::new(alloc, seed);
+    let mut without_fault: usize = 0;
+    let mut shortest = None;
+    for _ in 0..count {
+        let words = maker.tree()?;
+        let tree = boxed(alloc, words.as_str())?;
+        match agrees(alloc, &tree, &batch)? {
+            Some(true) => without_fault = without_fault.saturating_add(1),
+            Some(false) => {}
+            None => shortest = Some(shorter(shortest, words)),
+        }
+    }
+    if let Some(words) = shortest {
+        let tree = boxed(alloc, words.as_str())?;
+        return Ok(format!(in alloc; "another answer to {tree}")?);
+    }
+    if without_fault <= count / 4 {
+        return Ok(format!(in alloc; "only {without_fault} are without a fault")?);
+    }
+    Ok(String::from_str(alloc, "all agree")?)
+}
+
+// The shorter of the words, the earlier of equally long ones.
+fn shorter(earlier: Option<String>, words: String) -> String {
+    match earlier {
+        Some(earlier) if earlier.len() <= words.len() => earlier,
+        _ => words,
+    }
+}
+
+// Whether the source faults nowhere on the batch; None where a query or a scan answers otherwise.
+fn agrees(alloc: Global, source: &Expression, batch: &Column) -> VortexResult<Option<bool>> {
+    let bound = Box::new(alloc, source.bind(alloc, batch.dtype())?)?;
+    let plain = apply_bound(alloc, batch, &bound);
+    let all = [
+        Pass::FindBetween,
+        Pass::OptimizeRecursive,
+        Pass::Branches,
+        Pass::Optimize,
+    ];
+    let queries: [(&[Pass], bool); 7] = [
+        (&[], false),
+        (&[Pass::Optimize], false),
+        (&[Pass::OptimizeRecursive], false),
+        (&[Pass::FindBetween], false),
+        (&[Pass::Branches], false),
+        (&[], true),
+        (&all, true),
+    ];
+    for (passes, split) in queries {
+        if !is_allowed(&plain, &run_query(alloc, source, batch, passes, split)) {
+            return Ok(None);
+        }
+    }
+    let plan = Box::new(alloc, plan(alloc, source, batch.dtype())?)?;
+    if !is_allowed(&plain, &scan_column(alloc, &plan, batch)) {
+        return Ok(None);
+    }
+    Ok(Some(plain.is_ok()))
+}
+
+// Whether the answer may stand beside that of plain evaluation: the same rows, or where that faults,
+// any rows or a fault.
+fn is_allowed(plain: &VortexResult<Column>, answer: &VortexResult<Column>) -> bool {
+    match (plain, answer) {
+        (Ok(rows), Ok(answer)) => rows.shared_rows().as_slice() == answer.shared_rows().as_slice(),
+        (Ok(_), Err(_)) => false,
+        (Err(_), Ok(_)) => true,
+        (Err(_), Err(refusal)) => is_fault(refusal),
+    }
+}
+
+fn is_fault(refusal: &VortexError) -> bool {
+    matches!(
+        refusal,
+        VortexError::AddOverflow { .. } | VortexError::CastNull { .. } | VortexError::BadFill
+    )
+}

@@ -1,0 +1,50 @@
+// Answers that are of no tree.
+use crate::answers::chance::by_chance;
+use crate::answers::functions::{child_names, kept, node_type, shown_function, swapped};
+use crate::answers::matches::{like, matched};
+use crate::answers::paths::path_set;
+use crate::answers::scans::{read, read_through};
+use crate::answers::sources::peeled_text;
+use crate::answers::values::{column, joined, scalar_text, type_text, union};
+use crate::kind::WordsKind;
+use crate::refusals::refusal;
+use crate::scene::Scene;
+use std::alloc::Global;
+use vx_test_samples::Unread;
+
+/// The answer to a line of that kind with these columns.
+pub fn answer(
+    alloc: Global,
+    kind: WordsKind,
+    scene: &Scene,
+    columns: &[&str],
+) -> Result<String, Unread> {
+    match (kind, columns) {
+        (WordsKind::Like, [pattern, text]) => like(alloc, pattern, text),
+        (WordsKind::Error, [name]) => {
+            let refusal = refusal(alloc, name)?;
+            Ok(format!(in alloc; "{refusal}")?)
+        }
+        (WordsKind::Function, [word]) => shown_function(alloc, word),
+        (WordsKind::ChildNames, [word]) => child_names(alloc, word),
+        (WordsKind::NodeType, [word, types]) => node_type(alloc, word, types),
+        (WordsKind::Kept, [selection, names]) => kept(alloc, selection, names),
+        (WordsKind::Swapped, [sign]) => swapped(alloc, sign),
+        (WordsKind::TypeText, [text]) => type_text(alloc, text),
+        (WordsKind::Union, [first, second]) => union(alloc, first, second),
+        (WordsKind::Scalar, [word]) => scalar_text(alloc, word),
+        (WordsKind::Column, [dtype, rows]) => column(alloc, dtype, rows),
+        (WordsKind::Joined, [names, columns, rows]) => joined(alloc, names, columns, rows),
+        (WordsKind::PathSet, [groups]) => path_set(alloc, groups),
+        (WordsKind::Read, [paths]) => Ok(read(alloc, scene, paths)?),
+        (WordsKind::Reader, [paths]) => Ok(read_through(alloc, scene, paths)?),
+        (WordsKind::FirstMatch, [kind, conditions, chosen, otherwise]) => {
+            matched(alloc, kind, conditions, chosen, otherwise)
+        }
+        (WordsKind::PeeledText, [times, open, close, words]) => {
+            peeled_text(alloc, times, open, close, scene.words(words))
+        }
+        (WordsKind::ByChance, [seed]) => by_chance(alloc, seed),
+        _ => Err(Unread::Word("another number of columns")),
+    }
+}

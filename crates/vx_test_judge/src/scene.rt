@@ -1,0 +1,71 @@
+// What the lines of a table stand over: a scope, its batches, and a tree.
+ghost use Rattle.std.specs.Prelude.{IfOk};
+ghost use Rattle.vx_tree.specs.Trees.{WellTyped};
+ghost use Rattle.vx_tree.specs.Views.{bound_of};
+
+use std::alloc::Global;
+use vx_test_samples::{Unread, boxed, dtype, values};
+use vx_tree::{BoundExpression, Column, DType, Expression, VortexResult};
+
+/// The scope, batches of its type, and the tree that a ditto mark stands for.
+#[derive(Drop)]
+pub struct Scene {
+    pub scope: Box<DType>,
+    pub batches: Vec<Column>,
+    tree: String,
+}
+
+impl Scene {
+    /// The scope of no fields, without a batch.
+    pub fn new(alloc: Global) -> Result<Scene, Unread> {
+        Ok(Scene {
+            scope: Box::new(alloc, dtype(alloc, "{}")?)?,
+            batches: Vec::new(alloc),
+            tree: String::new(alloc),
+        })
+    }
+
+    /// Takes a line that sets the scene, and tells whether the line does so.
+    pub fn set(&mut self, alloc: Global, name: &str, rest: &str) -> Result<bool, Unread> {
+        match name {
+            "scope" => {
+                self.scope = Box::new(alloc, dtype(alloc, rest)?)?;
+                self.batches = Vec::new(alloc);
+            }
+            "batch" => {
+                let batch = self.column(alloc, rest)?;
+                self.batches.push(batch)?;
+            }
+            "no batch" if rest.is_empty() => self.batches = Vec::new(alloc),
+            "tree" => self.tree = String::from_str(alloc, rest)?,
+            _ => return Ok(false),
+        }
+        Ok(true)
+    }
+
+    fn column(&self, alloc: Global, rows: &str) -> Result<Column, Unread> {
+        let dtype = (*self.scope).clone()?;
+        Ok(Column::try_new(dtype, values(alloc, rows)?)?)
+    }
+
+    /// The words, or those of the tree in place of a ditto mark.
+    pub fn words<'a>(&'a self, words: &'a str) -> &'a str {
+        if words == "\"" {
+            return self.tree.as_str();
+        }
+        words
+    }
+
+    /// The tree of the words.
+    pub fn source(&self, alloc: Global, words: &str) -> Result<Box<Expression>, Unread> {
+        boxed(alloc, self.words(words))
+    }
+
+    /// The source, bound to the scope.
+    pub fn bind(&self, alloc: Global, source: &Expression) -> VortexResult<Box<BoundExpression>>
+        ensures { IfOk result (λ b. WellTyped (bound_of b.value)) }
+    {
+        let bound = source.bind(alloc, &self.scope)?;
+        Ok(Box::new(alloc, bound)?)
+    }
+}

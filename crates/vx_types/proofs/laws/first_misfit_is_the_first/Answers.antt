@@ -1,5 +1,0 @@
-use Rattle.vx_types.proofs.Misfits.{misfit-is_first, no_misfit}
-use Rattle.vx_types.proofs.laws.first_misfit_is_the_first.Goals as goal
-
-pub returns : goal.returns
-returns c = record { misfit = misfit-is_first; none = no_misfit }

@@ -1,5 +1,0 @@
-use Rattle.vx_types.proofs.StructRows.{struct_row}
-use Rattle.vx_types.proofs.laws.joined_rows_are_the_columns_rows.Goals as goal
-
-pub returns : goal.returns
-returns c = struct_row

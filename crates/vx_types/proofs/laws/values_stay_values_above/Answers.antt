@@ -1,5 +1,0 @@
-use Rattle.vx_types.proofs.Above.{fits-above}
-use Rattle.vx_types.proofs.laws.values_stay_values_above.Goals as goal
-
-pub returns : goal.returns
-returns c = λ v t u p e. fits-above v p e

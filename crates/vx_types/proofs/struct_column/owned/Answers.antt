@@ -1,5 +1,0 @@
-use Rattle.vx_types.proofs.StructRows.{owned_rows}
-use Rattle.vx_types.proofs.struct_column.owned.Goals as goal
-
-pub returns : goal.returns
-returns c = owned_rows _ _ c.unwrap_or_clone.ensures.ok

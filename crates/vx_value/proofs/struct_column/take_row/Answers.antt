@@ -1,0 +1,15 @@
+use Rattle.std.proofs.Common.{arith, ◌∙◌, ap}
+use Rattle.vx_value.specs.Fields.{data_of}
+use Rattle.vx_value.specs.Types.{struct_of}
+use Rattle.vx_value.specs.StructColumns.{columns_of, row_at}
+use Rattle.vx_value.proofs.StructRows.{row_still, row_long, whole, value_of-Struct}
+use Rattle.vx_value.proofs.struct_column.take_row.Goals as goal
+
+pub take_at-requires-clause-row : goal.take_at-requires-clause-row
+take_at-requires-clause-row c = row_still _ _ _ c.loop-place.invariant.long c.requires
+
+pub returns-clause-value : goal.returns-clause-value
+returns-clause-value c =
+    let vs = c.args.columns.now.items in
+    value_of-Struct c.loop-place.items
+    ∙ ap (λ ds. struct_of (data_of ds)) (c.loop-place.invariant.taken ∙ whole (row_at c.args.i (columns_of vs)) c.loop-place.place (omega (arith, row_long vs c.args.i)))

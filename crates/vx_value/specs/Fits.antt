@@ -1,0 +1,85 @@
+-- Which values are of a type.
+use Rattle.std.specs.Prelude.{ℕ, ◌+◌, ◌^◌, Bool, true, false, ◌&&◌, ◌==◌, List, [], ◌∷◌, ℤ, pos, negsuc, IsTrue, nat_lt}
+use Rattle.std.specs.List.{list_all}
+use Rattle.vx_dtype.specs.declared.dtype.PType.{PType}
+use Rattle.vx_value.specs.Types.{bits, is_signed, truth, number, text, octets, LogicalType, ty, atomic, list, fixed, struct, Fields, no_field, field, Datum, null, bool, int, utf8, bytes, list_of, struct_of, Data, no_datum, datum}
+
+-- whether the number lies in the range of the number type
+abbrev pub fits_ptype : ℤ → PType → Bool
+fits_ptype (pos n) p = nat_lt n (2 ^ bits p)
+fits_ptype (negsuc n) p = is_signed p && nat_lt n (2 ^ bits p)
+
+-- how many values there are
+abbrev pub count : Data → ℕ
+count no_datum = 0
+count (datum v vs) = count vs + 1
+
+-- whether the value is one of the type: null of every nullable type, else by the type's shape
+abbrev mutual
+  pub fits : Datum → LogicalType → Bool
+  fits null (ty s n) = n
+  fits (bool b) (ty (atomic truth) n) = true
+  fits (int i) (ty (atomic (number p)) n) = fits_ptype i p
+  fits (utf8 t) (ty (atomic text) n) = true
+  fits (bytes t) (ty (atomic octets) n) = true
+  fits (list_of vs) (ty (list t) n) = each_fits vs t
+  fits (list_of vs) (ty (fixed t k) n) = (count vs == k) && each_fits vs t
+  fits (struct_of vs) (ty (struct fs) n) = fields_fit vs fs
+  fits _ _ = false
+
+  -- each of the values is one of the element type
+  pub each_fits : Data → LogicalType → Bool
+  each_fits no_datum t = true
+  each_fits (datum v vs) t = fits v t && each_fits vs t
+
+  -- as many values as fields, each of its field's type
+  pub fields_fit : Data → Fields → Bool
+  fields_fit no_datum no_field = true
+  fields_fit (datum v vs) (field a t fs) = fits v t && fields_fit vs fs
+  fields_fit _ _ = false
+
+-- the value is one of the type
+abbrev pub Fits : Datum → LogicalType → Type 0
+Fits v t = IsTrue (fits v t)
+
+-- each row is a value of the type
+abbrev pub IsBatch : LogicalType → List Datum → Type 0
+IsBatch s batch = IsTrue (list_all (λ v. fits v s) batch)
+
+-- each value is one of the type beside it
+pub data EachFits : List Datum → List LogicalType → Type 0 where
+  none_fit : EachFits [] []
+  more_fit : {v : Datum} {t : LogicalType} {vs : List Datum} {ts : List LogicalType} → Fits v t → EachFits vs ts → EachFits (v ∷ vs) (t ∷ ts)
+
+-- whether the value is one of the type but for nulls and the ranges of numbers, as it stays where a node faults
+abbrev mutual
+  pub shaped : Datum → LogicalType → Bool
+  shaped null t = true
+  shaped (bool b) (ty (atomic truth) n) = true
+  shaped (int i) (ty (atomic (number p)) n) = true
+  shaped (utf8 t) (ty (atomic text) n) = true
+  shaped (bytes t) (ty (atomic octets) n) = true
+  shaped (list_of vs) (ty (list t) n) = each_shaped vs t
+  shaped (list_of vs) (ty (fixed t k) n) = (count vs == k) && each_shaped vs t
+  shaped (struct_of vs) (ty (struct fs) n) = fields_shaped vs fs
+  shaped _ _ = false
+
+  -- so for each item of a list
+  pub each_shaped : Data → LogicalType → Bool
+  each_shaped no_datum t = true
+  each_shaped (datum v vs) t = shaped v t && each_shaped vs t
+
+  -- so for each value of a struct and the field beside it
+  pub fields_shaped : Data → Fields → Bool
+  fields_shaped no_datum no_field = true
+  fields_shaped (datum v vs) (field a t fs) = shaped v t && fields_shaped vs fs
+  fields_shaped _ _ = false
+
+-- the value is one of the type but for nulls and the ranges of numbers
+abbrev pub Shaped : Datum → LogicalType → Type 0
+Shaped v t = IsTrue (shaped v t)
+
+-- so for each value and the type beside it
+pub data AllShaped : List Datum → List LogicalType → Type 0 where
+  none_shaped : AllShaped [] []
+  more_shaped : {v : Datum} {t : LogicalType} {vs : List Datum} {ts : List LogicalType} → Shaped v t → AllShaped vs ts → AllShaped (v ∷ vs) (t ∷ ts)

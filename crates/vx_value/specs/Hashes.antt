@@ -1,0 +1,27 @@
+-- What a value feeds to a hasher, so that equal ones are hashed alike.
+use Rattle.std.specs.Prelude.{◌++◌}
+use Rattle.std.specs.Hash.{HashWrites, Alike, same_Alike}
+use Rattle.std.specs.Hash as fed
+use Rattle.vx_value.specs.Values.{Datum, null, bool, int, utf8, bytes, list_of, struct_of, Data, no_datum, datum}
+use Rattle.vx_value.specs.Equality.{equal_datum, equal_datum-Decides}
+pub use Rattle.vx_dtype.specs.Hashes.{atomic_fed, type_fed, shape_fed, fields_fed, type_alike, fields_alike}
+
+-- a value is hashed as its kind's number and what it holds
+abbrev mutual
+  pub datum_fed : Datum → HashWrites
+  datum_fed null = fed.u8 0
+  datum_fed (bool b) = fed.u8 1 ++ fed.bool b
+  datum_fed (int i) = fed.u8 2 ++ fed.i128 i
+  datum_fed (utf8 t) = fed.u8 3 ++ fed.str t
+  datum_fed (bytes t) = fed.u8 4 ++ fed.slice fed.u8 t
+  datum_fed (list_of vs) = fed.u8 5 ++ data_fed vs
+  datum_fed (struct_of vs) = fed.u8 6 ++ data_fed vs
+
+  -- values are hashed one after another, each after a one, and a zero ends them
+  pub data_fed : Data → HashWrites
+  data_fed no_datum = fed.u8 0
+  data_fed (datum v vs) = fed.u8 1 ++ (datum_fed v ++ data_fed vs)
+
+-- equal values are hashed alike
+pub datum_alike : Alike equal_datum datum_fed
+datum_alike = same_Alike datum_fed equal_datum-Decides

@@ -1,0 +1,25 @@
+-- What the program's types and values stand for.
+use Rattle.std.specs.Prelude.{List, map, string_bytes}
+use Rattle.vx_value.specs.declared.value.Value.{Value, fold-Value}
+use Rattle.vx_value.specs.declared.value.Value.TheOpen.{Value-F}
+use Rattle.vx_value.specs.Fields.{data_of}
+use Rattle.vx_value.specs.Values.{Datum, null, bool, int, utf8, bytes, list_of, struct_of, Data}
+pub use Rattle.vx_dtype.specs.Views.{admits_null, type_step, fields_step, type_of, fields_view, fields_of, names_of, SameFields}
+
+-- a value is made from its parts, seen already
+abbrev pub value_step : Value-F Datum → Datum
+value_step Value-F.Null = null
+value_step (Value-F.Bool b) = bool b
+value_step (Value-F.Int i) = int i
+value_step (Value-F.Utf8 s) = utf8 (string_bytes s)
+value_step (Value-F.Binary v) = bytes v.items
+value_step (Value-F.List v) = list_of (data_of v.items)
+value_step (Value-F.Struct v) = struct_of (data_of v.items)
+
+-- the value that a `Value` stands for
+abbrev pub value_of : Value → Datum
+value_of = fold-Value Datum value_step
+
+-- the values that these stand for, one after another
+abbrev pub data_view : List Value → Data
+data_view vs = data_of (map value_of vs)

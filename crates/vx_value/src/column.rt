@@ -1,0 +1,164 @@
+// Columns: rows of one type.
+ghost use Rattle.std.specs.Prelude.{◌≡◌, ℕ, ◌<◌, ◌==◌, IsErrOf, MatchOption, Ok, None, length, map, get_or};
+ghost use Rattle.std.specs.Cmp.{partial_equiv_from_equiv};
+ghost use Rattle.vx_value.specs.Answers.{Answers};
+ghost use Rattle.vx_value.specs.Columns.{Batch, batch, first_misfit, equal_batch, equal_batch_equiv};
+ghost use Rattle.vx_value.specs.Types.{null};
+ghost use Rattle.vx_value.specs.Fits.{Fits};
+ghost use Rattle.vx_value.specs.Views.{type_of, value_of};
+ghost use Rattle.vx_dtype.specs.declared.error.VortexError.TheVariants.{RowMisfit};
+
+use crate::Value;
+use crate::value::equal_all;
+use crate::value_texts::write_items;
+use std::alloc::AllocError;
+use std::fmt;
+use std::marker::Model;
+use std::rc::Rc;
+use vx_dtype::{DType, VortexError, VortexResult};
+
+/// Rows beside their type, each of which is a value of that type; clones share the rows.
+#[derive(Debug, Drop)]
+pub struct Column {
+    dtype: DType,
+    rows: Rc<Vec<Value>>,
+}
+
+impl Model for Column {
+    ghost use Rattle.std.specs.Prelude.{◌≡◌, map, None};
+    ghost use Rattle.vx_value.specs.Columns.{Batch, batch_code, batch, first_misfit};
+    ghost use Rattle.vx_value.specs.Views.{type_of, value_of};
+
+    ghost Value = { Batch };
+
+    ghost coded = { batch_code };
+
+    ghost view = { λ c. batch (type_of c.dtype) (map value_of c.rows.value.items) };
+
+    ghost invariant = { λ c. first_misfit (type_of c.dtype) (map value_of c.rows.value.items) ≡ None };
+}
+
+impl Column {
+    /// The column of these rows, in the memory of their `Vec`. Refuses with `RowMisfit` (18) and the
+    /// index of the first row that isn't a value of the type, before it takes any memory.
+    pub fn try_new(dtype: DType, rows: Vec<Value>) -> VortexResult<Column>
+        ensures { MatchOption (first_misfit (type_of dtype) (map value_of rows.items))
+            (Answers (λ c. c) result (Ok (batch (type_of dtype) (map value_of rows.items))))
+            (λ row. IsErrOf result (RowMisfit row)) }
+    {
+        if let Some(row) = first_misfit(&dtype, rows.as_slice()) {
+            return Err(VortexError::RowMisfit { row });
+        }
+        let alloc = *rows.allocator();
+        Ok(Column {
+            dtype,
+            rows: Rc::new(alloc, rows)?,
+        })
+    }
+
+    /// The column of rows that are shared already. Asks rows that all are values of the type.
+    pub fn from_shared(dtype: DType, rows: Rc<Vec<Value>>) -> Column
+        requires { first_misfit (type_of dtype) (map value_of rows.value.items) ≡ None }
+        ensures { result ≡ batch (type_of dtype) (map value_of rows.value.items) }
+    {
+        Column { dtype, rows }
+    }
+
+    /// The rows, to be shared with another column.
+    pub fn shared_rows(&self) -> &Rc<Vec<Value>>
+        ensures rows { map value_of result.now.value.items ≡ self.now.rows }
+        ensures fit { first_misfit self.now.type self.now.rows ≡ None }
+    {
+        &self.rows
+    }
+
+    // The type, and the rows, which other columns may share.
+    pub(crate) fn into_parts(self) -> (DType, Rc<Vec<Value>>)
+        ensures dtype { type_of result.0 ≡ self.type }
+        ensures rows { map value_of result.1.value.items ≡ self.rows }
+        ensures fit { first_misfit self.type self.rows ≡ None }
+    {
+        let Column { dtype, rows } = self;
+        (dtype, rows)
+    }
+
+    /// The number of rows.
+    pub fn len(&self) -> usize
+        ensures { result ≡ length self.now.rows }
+    {
+        self.rows.len()
+    }
+
+    /// Whether there is no row.
+    pub fn is_empty(&self) -> bool
+        ensures { result ≡ (length self.now.rows == 0) }
+    {
+        self.rows.is_empty()
+    }
+
+    /// The type of the rows.
+    pub fn dtype(&self) -> &DType
+        ensures { type_of result.now ≡ self.now.type }
+    {
+        &self.dtype
+    }
+
+    /// The row of that index. Asks an index below `len`.
+    pub fn row(&self, i: usize) -> &Value
+        requires { i < length self.now.rows }
+        ensures value { value_of result.now ≡ get_or self.now.rows i null }
+        ensures fits { Fits (value_of result.now) self.now.type }
+    {
+        &self.rows[i]
+    }
+}
+
+impl Clone for Column {
+    ghost is_clone = { λ c copy. copy ≡ c };
+
+    fn clone(&self) -> Result<Column, AllocError> {
+        Ok(Column {
+            dtype: self.dtype.clone()?,
+            rows: self.rows.clone()?,
+        })
+    }
+}
+
+impl PartialEq for Column {
+    ghost eq = { equal_batch };
+
+    ghost laws = { partial_equiv_from_equiv equal_batch_equiv };
+
+    fn eq(&self, other: &Column) -> bool {
+        self.dtype == other.dtype && equal_all(self.rows.as_slice(), other.rows.as_slice())
+    }
+}
+
+impl Eq for Column {
+    ghost laws = { equal_batch_equiv };
+}
+
+impl fmt::Display for Column {
+    ghost use Rattle.std.specs.Prelude.{Some};
+    ghost use Rattle.vx_value.specs.ValueTexts.{column_text};
+
+    ghost output = { λ c. Some (column_text c.rows c.type) };
+
+    fn fmt<W: fmt::Write>(&self, f: &mut fmt::Formatter<W>) -> fmt::Result {
+        f.write_str("[")?;
+        write_items(self.rows.as_slice(), &self.dtype, f)?;
+        f.write_str("]")
+    }
+}
+
+// The index of the first row that isn't a value of the type.
+fn first_misfit(t: &DType, rows: &[Value]) -> Option<usize>
+    ensures { result ≡ first_misfit (type_of t.now) (map value_of rows.now) }
+{
+    for (i, row) in rows.iter().enumerate() {
+        if !row.fits(t) {
+            return Some(i);
+        }
+    }
+    None
+}

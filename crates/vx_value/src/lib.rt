@@ -1,0 +1,18 @@
+// Values, scalars, columns and field paths, over the types of the crate below.
+#![tactic(auto)]
+
+mod column;
+mod field_path;
+mod field_path_set;
+mod fits;
+pub mod laws;
+mod scalar;
+mod struct_column;
+mod value;
+mod value_texts;
+
+pub use column::Column;
+pub use field_path::{Field, FieldPath};
+pub use field_path_set::{FieldPathSet, FieldPaths};
+pub use scalar::Scalar;
+pub use value::Value;
