@@ -1,7 +1,7 @@
 // Analyses and rewriting of bound trees: what the crates below have, under one name.
 #![tactic(auto)]
 
-mod laws;
+pub mod laws;
 mod passes;
 
 pub use laws::passes_keep;
@@ -13,7 +13,7 @@ pub use vx_rewrite_analysis::{
 pub use vx_rewrite_branches::BranchRules;
 pub use vx_rewrite_fusing::find_between;
 pub use vx_rewrite_keep::Rule;
-pub use vx_rewrite_optimizer::optimize_with;
+pub use vx_rewrite_optimizer::{optimize_root, optimize_with, optimized, optimized_root};
 pub use vx_rewrite_paths::referenced_field_paths;
 pub use vx_rewrite_split::{
     BoundPartitionedExpr, PartitionKey, partition_bound, partition_bound_annotations,
