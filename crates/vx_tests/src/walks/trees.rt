@@ -28,10 +28,10 @@ pub const BOTH: &str = "a b and";
 /// `(($.col1 = $.col2) and ($.col3 != $.col4))`
 pub const COMPARISONS: &str = "col1 col2 = col3 col4 != and";
 
-/// `$.bool1`, turned a thousand times.
+/// `$.bool1`, turned ten thousand times.
 pub fn deep(alloc: Global) -> Result<Box<Expression>, Fail> {
     let mut words = String::from_str(alloc, "bool1")?;
-    for _ in 0..1000 {
+    for _ in 0..10_000 {
         words.push_str(" not")?;
     }
     Ok(boxed(alloc, words.as_str())?)
