@@ -12,7 +12,7 @@ use Rattle.vx_walk.specs.declared.siblings.Siblings.{Siblings}
 use Rattle.vx_walk.specs.Handed.{Back, in_front, looking, seen}
 use Rattle.vx_walk.specs.Orders.{GoesOn}
 use Rattle.vx_walk.specs.Mapping.{MappedAll, none, keep, next, fail, spent, RebuiltAs, MappedTo, refused, not_rebuilt, back}
-use Rattle.vx_walk.specs.Siblings.{seen_siblings, StepAt, stays, goes, not_cloned}
+use Rattle.vx_walk.specs.Siblings.{Pushed, seen_siblings, StepAt, stays, goes, not_cloned}
 
 -- ms, one of them changed where c, before what is handed back for the later ones
 abbrev pub before : {M : Type 0} → List M → Bool → Back (List M) → Back (List M)
@@ -57,6 +57,10 @@ module _ {V N M : Type 0} (f : N → M) (C : V → M → Back M → V → Type 0
   pub RowFront-fail : {ms left : List M} {m : M} {v w x : V} {xs : List N} {o : TraversalOrder} {b : Bool} {e : VortexError} → RowFront ms (m ∷ left) v w xs o b → StepAt C o w m (Err e) x → MappedAll C Continue v ms (Err e) x
   RowFront-fail {x = x} {e = e} q (goes k c) = q.rest (Err e) x (fail k c)
   RowFront-fail {w = w} q not_cloned = q.rest (Err OutOfMemory) w spent
+
+  -- a sibling was put behind the others
+  pub RowFront-pushed : {ms left : List M} {m : M} {v w x : V} {s after : Siblings N} (t : Transformed N) → RowFront ms (m ∷ left) v w s.handed_back.items s.order s.changed → Pushed s.handed_back.items s.changed t after → StepAt C s.order w m (Ok (looking f t)) x → RowFront ms left v x after.handed_back.items after.order after.changed
+  RowFront-pushed t q p s = rw (p.items, p.order, p.changed) (RowFront-step t q s)
 
   -- there is no memory
   pub RowFront-spent : {ms left : List M} {v w : V} {xs : List N} {o : TraversalOrder} {b : Bool} → RowFront ms left v w xs o b → MappedAll C Continue v ms (Err OutOfMemory) w
