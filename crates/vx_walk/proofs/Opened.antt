@@ -61,7 +61,7 @@ module _ {V N M : Type 0} (f : N → M) (kids : M → List M) (B : M → List M 
 
   pub RowFront-unfinished : {A : Type 0} {ms left : List M} {m : M} {v w x y z : V} {s opened after below : Siblings N} {e : VortexError} (t : Transformed N) (others : List N) (last : N) → RowFront f (RewritesTo kids B D U) ms (m ∷ left) v w s.handed_back.items s.order s.changed → Pushed s.handed_back.items s.changed t opened → GoesOn s.order → Opened f D w m t x → opened.handed_back.items ≡ others ++ last ∷ [] → MappedAll (RewritesTo kids B D U) Continue x (kids (f last)) (seen_siblings f (Ok below)) y → FinishesAt {A = A} f B U below opened y (Err e) after z → MappedAll (RewritesTo kids B D U) Continue v ms (Err e) z
   RowFront-unfinished t others last q p g k stood mapped fin =
-      RowFront-fail f (RewritesTo kids B D U) q (goes g (Finished t fin.1.0 last k (same_last t fin.0 fin.1.0 p fin.1.1.0).1 (same_last t others last p stood).1 mapped fin.1.1.1))
+      RowFront-fail f (RewritesTo kids B D U) q (goes g (Finished t fin.1 last k (same_last t fin.0 fin.1 p fin.2).1 (same_last t others last p stood).1 mapped fin.3))
 
   pub RowFront-finished : {A : Type 0} {ms left : List M} {m : M} {v w x y z : V} {s opened after below : Siblings N} {u : A} (t : Transformed N) (others : List N) (last : N) → RowFront f (RewritesTo kids B D U) ms (m ∷ left) v w s.handed_back.items s.order s.changed → Pushed s.handed_back.items s.changed t opened → GoesOn s.order → Opened f D w m t x → opened.handed_back.items ≡ others ++ last ∷ [] → MappedAll (RewritesTo kids B D U) Continue x (kids (f last)) (seen_siblings f (Ok below)) y → FinishesAt {A = A} f B U below opened y (Ok u) after z → RowFront f (RewritesTo kids B D U) ms left v z after.handed_back.items after.order after.changed
   RowFront-finished {s = s} t others last q p g k stood mapped (beside, n, waited, h, put, fin) =
