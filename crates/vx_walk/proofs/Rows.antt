@@ -59,8 +59,8 @@ module _ {V N M : Type 0} (f : N → M) (C : V → M → Back M → V → Type 0
   RowFront-fail {w = w} q not_cloned = q.rest (Err OutOfMemory) w spent
 
   -- a sibling was put behind the others
-  pub RowFront-pushed : {ms left : List M} {m : M} {v w x : V} {s after : Siblings N} (t : Transformed N) → RowFront ms (m ∷ left) v w s.handed_back.items s.order s.changed → Pushed s.handed_back.items s.changed t after → StepAt C s.order w m (Ok (looking f t)) x → RowFront ms left v x after.handed_back.items after.order after.changed
-  RowFront-pushed t q p s = rw (p.items, p.order, p.changed) (RowFront-step t q s)
+  pub RowFront-pushed : {ms left : List M} {m : M} {v w x : V} (s : Siblings N) {after : Siblings N} (t : Transformed N) → RowFront ms (m ∷ left) v w s.handed_back.items s.order s.changed → Pushed s.handed_back.items s.changed t after → StepAt C s.order w m (Ok (looking f t)) x → RowFront ms left v x after.handed_back.items after.order after.changed
+  RowFront-pushed s t q p k = rw (p.items, p.order, p.changed) (RowFront-step t q k)
 
   -- there is no memory
   pub RowFront-spent : {ms left : List M} {v w : V} {xs : List N} {o : TraversalOrder} {b : Bool} → RowFront ms left v w xs o b → MappedAll C Continue v ms (Err OutOfMemory) w

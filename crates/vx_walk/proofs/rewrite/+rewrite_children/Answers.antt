@@ -35,7 +35,7 @@ loop-child-preserved-then-not-is_open g t c =
       ready = search rules;
       len = omega (arith, c.in_ok-is_open.ensures.len, c.loop-child.invariant.len);
       room = omega (arith, c.in_ok-is_open.ensures.capacity, c.loop-child.invariant.room);
-      front = RowFront-pushed _ _ k.0 q k.1 k.2;
+      front = RowFront-pushed _ _ c.loop-child.siblings k.0 q k.1 k.2;
     }
 
 pub rewrite_children-requires : goal.rewrite_children-requires
@@ -54,14 +54,14 @@ returns-in_err-below-clause-rewritten g t c =
     let e : c.from_residual-in_err-below.result ≡ Err c.in_err-below.field-0.0 = search rules in
     let q = RowFront-at _ _ _ _ _ c.loop-child-test.true c.child-item.is c.loop-child.invariant.front in
     let k = rw c.if-not-is_open.false at c.in_ok-is_open.ensures.begun in
-    rw e (rw c.children_slice-child-items.ensures at (RowFront-lost _ _ _ _ _ k.0 c.last.ensures.0 c.last.result.now q k.1 k.2 k.3 c.last.ensures.1 c.in_err-below.ensures.rewritten))
+    rw e (rw c.children_slice-child-items.ensures at (RowFront-lost _ _ _ _ _ c.loop-child.siblings k.0 c.last.ensures.0 c.last.result.now q k.1 k.2 k.3 c.last.ensures.1 c.in_err-below.ensures.rewritten))
 
 pub returns-in_err-finish_child-clause-rewritten : goal.returns-in_err-finish_child-clause-rewritten
 returns-in_err-finish_child-clause-rewritten g t c =
     let e : c.from_residual-in_err-finish_child.result ≡ Err c.in_err-finish_child.field-0.0 = search rules in
     let q = RowFront-at _ _ _ _ _ c.loop-child-test.true c.child-item.is c.loop-child.invariant.front in
     let k = rw c.if-not-is_open.false at c.in_ok-is_open.ensures.begun in
-    rw e (rw c.children_slice-child-items.ensures at (RowFront-unfinished _ _ _ _ _ k.0 c.last.ensures.0 c.last.result.now q k.1 k.2 k.3 c.last.ensures.1 c.in_ok-below.ensures.rewritten c.in_err-finish_child.ensures.finished))
+    rw e (rw c.children_slice-child-items.ensures at (RowFront-unfinished _ _ _ _ _ c.loop-child.siblings c.in_ok-below.below k.0 c.last.ensures.0 c.last.result.now q k.1 k.2 k.3 c.last.ensures.1 c.in_ok-below.ensures.rewritten c.in_err-finish_child.ensures.finished))
 
 pub loop-child-preserved : goal.loop-child-preserved
 loop-child-preserved g t c =
@@ -71,7 +71,7 @@ loop-child-preserved g t c =
       ready = search rules;
       len = omega (arith, c.in_ok-finish_child.ensures.len, c.in_ok-is_open.ensures.len, c.loop-child.invariant.len);
       room = omega (arith, c.in_ok-finish_child.ensures.capacity, c.in_ok-is_open.ensures.capacity, c.loop-child.invariant.room);
-      front = RowFront-finished _ _ _ _ _ k.0 c.last.ensures.0 c.last.result.now q k.1 k.2 k.3 c.last.ensures.1 c.in_ok-below.ensures.rewritten c.in_ok-finish_child.ensures.finished;
+      front = RowFront-finished _ _ _ _ _ c.loop-child.siblings c.in_ok-below.below k.0 c.last.ensures.0 c.last.result.now q k.1 k.2 k.3 c.last.ensures.1 c.in_ok-below.ensures.rewritten c.in_ok-finish_child.ensures.finished;
     }
 
 pub returns-clause-rewritten : goal.returns-clause-rewritten

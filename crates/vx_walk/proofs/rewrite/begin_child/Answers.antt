@@ -14,18 +14,18 @@ returns-in-Stop-clause-begun g c =
     let same : g.N.Node.mirror c.in_ok-value.value ≡ g.N.Node.mirror c.args.child.now = g.met.N.Node.clones_are_equal _ _ c.in_ok-value.ensures.cases in
     (record { value = c.in_ok-value.value; order = Stop; changed = false }, c.push.ensures.pushed, rw same (stays c.in-Stop.is))
 
-pub returns-in_err-begin-clause-begun : goal.returns-in_err-begin-clause-begun
-returns-in_err-begin-clause-begun g c =
-    let e : c.from_residual-in_err-begin.result ≡ Err c.in_err-begin.field-0.0 = search rules in
+pub returns-in_err-handed-clause-begun : goal.returns-in_err-handed-clause-begun
+returns-in_err-handed-clause-begun g c =
+    let e : c.from_residual-in_err-handed.result ≡ Err c.in_err-handed.field-0.0 = search rules in
     let same : g.N.Node.mirror c.in_ok-value.value ≡ g.N.Node.mirror c.args.child.now = g.met.N.Node.clones_are_equal _ _ c.in_ok-value.ensures.cases in
-    rw e (goes c.in_default.not-Stop (rw same at c.in_err-begin.ensures.begun))
+    rw e (goes c.in_default.not-Stop (rw same at c.in_err-handed.ensures.begun))
 
 pub returns-in-Whole-clause-begun : goal.returns-in-Whole-clause-begun
 returns-in-Whole-clause-begun g c =
     let same : g.N.Node.mirror c.in_ok-value.value ≡ g.N.Node.mirror c.args.child.now = g.met.N.Node.clones_are_equal _ _ c.in_ok-value.ensures.cases in
-    (c.in-Whole.handed, c.push-in-Whole.ensures.pushed, goes c.in_default.not-Stop (rw (same, c.in-Whole.is) at c.in_ok-begin.ensures.begun))
+    (c.in-Whole.handed, c.push-in-Whole.ensures.pushed, goes c.in_default.not-Stop (rw (c.in-Whole.is, same) at c.in_ok-handed.ensures.begun))
 
 pub returns-in-Open-clause-begun : goal.returns-in-Open-clause-begun
 returns-in-Open-clause-begun g c =
     let same : g.N.Node.mirror c.in_ok-value.value ≡ g.N.Node.mirror c.args.child.now = g.met.N.Node.clones_are_equal _ _ c.in_ok-value.ensures.cases in
-    (c.in-Open.down, c.push-in-Open.ensures.pushed, c.in_default.not-Stop, rw (same, c.in-Open.is) at c.in_ok-begin.ensures.begun)
+    (c.in-Open.down, c.push-in-Open.ensures.pushed, c.in_default.not-Stop, rw (c.in-Open.is, same) at c.in_ok-handed.ensures.begun)
