@@ -62,10 +62,6 @@ module _ {V N M : Type 0} (f : N → M) (C : V → M → Back M → V → Type 0
   pub RowFront-pushed : {ms left : List M} {m : M} {v w x : V} (s : Siblings N) {after : Siblings N} (t : Transformed N) → RowFront ms (m ∷ left) v w s.handed_back.items s.order s.changed → Pushed s.handed_back.items s.changed t after → StepAt C s.order w m (Ok (looking f t)) x → RowFront ms left v x after.handed_back.items after.order after.changed
   RowFront-pushed s t q p k = rw (p.items, p.order, p.changed) (RowFront-step t q k)
 
-  -- there is no memory
-  pub RowFront-spent : {ms left : List M} {v w : V} {xs : List N} {o : TraversalOrder} {b : Bool} → RowFront ms left v w xs o b → MappedAll C Continue v ms (Err OutOfMemory) w
-  RowFront-spent {w = w} q = q.rest (Err OutOfMemory) w spent
-
   -- the sibling x stands at i
   pub RowFront-at : (items : List N) (i : ℕ) (x : N) {ms : List M} {v w : V} {xs : List N} {o : TraversalOrder} {b : Bool} → i < length items → x ≡ get_or items i x → RowFront ms (map f (drop i items)) v w xs o b → RowFront ms (f x ∷ map f (drop (i + 1) items)) v w xs o b
   RowFront-at items i x {ms} {v} {w} {xs} {o} {b} h e q =

@@ -65,20 +65,12 @@ pub(crate) fn map_siblings<N: Node, V: ElementMapper<N>>(
     ensures mapped { MappedAll (AtOwned N.mirror V.gives) Continue mapper.old (map N.mirror siblings.now) (seen_siblings N.mirror result) mapper.new }
     ensures ready { V.ready mapper.new }
 {
-    let mut handed_back = Vec::with_capacity(alloc, siblings.len())?;
-    let mut order = TraversalOrder::Continue;
-    let mut changed = false;
+    let mut mapped = Siblings::with_capacity(alloc, siblings.len())?;
     for sibling in siblings {
-        let handed = map_sibling(sibling, order, mapper)?;
-        handed_back.push(handed.value)?;
-        order = handed.order;
-        changed = changed | handed.changed;
+        let handed = map_sibling(sibling, mapped.order, mapper)?;
+        mapped.push(handed);
     }
-    Ok(Siblings {
-        handed_back,
-        order,
-        changed,
-    })
+    Ok(mapped)
 }
 
 // Hands a clone of the sibling to the mapper; after Stop it stays.
