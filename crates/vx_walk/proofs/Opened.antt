@@ -1,8 +1,7 @@
 -- A sibling whose children are rewritten while it waits behind the others.
-use Rattle.std.proofs.Common.{◌≡◌, ℕ, ◌≤◌, ◌<◌, List, [], ◌∷◌, ◌++◌, refl, sym, ap, subst, ◌∙◌, Result, Ok, Err, Bool, true, false, ◌||◌, arith}
+use Rattle.std.proofs.Common.{◌≡◌, ℕ, ◌≤◌, List, [], ◌∷◌, ◌++◌, refl, sym, subst, ◌∙◌, Result, Ok, Err, Bool, true, false, ◌||◌}
 use Rattle.std.proofs.lemmas.List.{same_from_push}
 use Rattle.vx_dtype.specs.declared.error.VortexError.{VortexError}
-use Rattle.vx_walk.specs.declared.order.TraversalOrder.{TraversalOrder}
 use Rattle.vx_walk.specs.declared.order.TraversalOrder.TheVariants.{Continue}
 use Rattle.vx_walk.specs.declared.siblings.Siblings.{Siblings}
 use Rattle.vx_walk.specs.declared.transformed.Transformed.{Transformed}

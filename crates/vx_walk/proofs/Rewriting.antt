@@ -1,5 +1,5 @@
 -- The rewrite of siblings, one after another, and of a node over them.
-use Rattle.std.proofs.Common.{◌≡◌, List, [], ◌∷◌, ◌++◌, map, refl, subst, Result, Ok, Err, Bool, true, false, ◌||◌}
+use Rattle.std.proofs.Common.{◌≡◌, List, [], ◌∷◌, ◌++◌, map, refl, subst, Result, Ok, Err, Bool, ◌||◌}
 use Rattle.std.proofs.Math.Bool.{or_assoc}
 use Rattle.std.specs.List.{FoldsTo}
 use Rattle.vx_dtype.specs.declared.error.VortexError.{VortexError}
