@@ -1,6 +1,7 @@
 pub mod Calls
 pub mod Folding
 pub mod Mappings
+pub mod Opened
 pub mod Places
 pub mod Rows
 pub mod Rewriting

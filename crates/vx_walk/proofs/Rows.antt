@@ -12,7 +12,7 @@ use Rattle.vx_walk.specs.declared.siblings.Siblings.{Siblings}
 use Rattle.vx_walk.specs.Handed.{Back, in_front, looking, seen}
 use Rattle.vx_walk.specs.Orders.{GoesOn}
 use Rattle.vx_walk.specs.Mapping.{MappedAll, none, keep, next, fail, spent, RebuiltAs, MappedTo, refused, not_rebuilt, back}
-use Rattle.vx_walk.specs.Siblings.{seen_siblings, StepAt, stays, goes, not_cloned}
+use Rattle.vx_walk.specs.Siblings.{Pushed, seen_siblings, StepAt, stays, goes, not_cloned}
 
 -- ms, one of them changed where c, before what is handed back for the later ones
 abbrev pub before : {M : Type 0} → List M → Bool → Back (List M) → Back (List M)
@@ -58,9 +58,9 @@ module _ {V N M : Type 0} (f : N → M) (C : V → M → Back M → V → Type 0
   RowFront-fail {x = x} {e = e} q (goes k c) = q.rest (Err e) x (fail k c)
   RowFront-fail {w = w} q not_cloned = q.rest (Err OutOfMemory) w spent
 
-  -- there is no memory
-  pub RowFront-spent : {ms left : List M} {v w : V} {xs : List N} {o : TraversalOrder} {b : Bool} → RowFront ms left v w xs o b → MappedAll C Continue v ms (Err OutOfMemory) w
-  RowFront-spent {w = w} q = q.rest (Err OutOfMemory) w spent
+  -- a sibling was put behind the others
+  pub RowFront-pushed : {ms left : List M} {m : M} {v w x : V} (s : Siblings N) {after : Siblings N} (t : Transformed N) → RowFront ms (m ∷ left) v w s.handed_back.items s.order s.changed → Pushed s.handed_back.items s.changed t after → StepAt C s.order w m (Ok (looking f t)) x → RowFront ms left v x after.handed_back.items after.order after.changed
+  RowFront-pushed s t q p k = rw (p.items, p.order, p.changed) (RowFront-step t q k)
 
   -- the sibling x stands at i
   pub RowFront-at : (items : List N) (i : ℕ) (x : N) {ms : List M} {v w : V} {xs : List N} {o : TraversalOrder} {b : Bool} → i < length items → x ≡ get_or items i x → RowFront ms (map f (drop i items)) v w xs o b → RowFront ms (f x ∷ map f (drop (i + 1) items)) v w xs o b

@@ -9,4 +9,5 @@ pub mod Rewrites
 pub mod Folds
 pub mod Heights
 pub mod Siblings
+pub mod Begun
 pub mod Containers

@@ -1,9 +1,10 @@
 // Rewriters, and the rewrite of a tree.
-ghost use Rattle.std.specs.Prelude.{◌≡◌, ◌≤◌, Ok};
+ghost use Rattle.std.specs.Prelude.{◌≡◌, ◌+◌, ◌<◌, ◌≤◌, Ok, OnOk, vec_len, vec_capacity};
+ghost use Rattle.vx_walk.specs.Begun.{Begins, BeginsAt, Finishes, FinishesAt};
 ghost use Rattle.vx_walk.specs.Handed.{Back, seen};
 ghost use Rattle.vx_walk.specs.Mapping.{AtOwned, MappedAll};
 ghost use Rattle.vx_walk.specs.Rewrites.{RewritesTo, Rewritten};
-ghost use Rattle.vx_walk.specs.Siblings.{seen_siblings, StepAt};
+ghost use Rattle.vx_walk.specs.Siblings.{row_seen, seen_siblings};
 ghost use Rattle.vx_walk.specs.declared.order.TraversalOrder.TheVariants.{Continue};
 ghost use Rattle.vx_walk.specs.declared.transformed.Transformed.{Transformed};
 
@@ -45,9 +46,7 @@ pub trait NodeRewriter: Sized {
     ghost no_higher: { (v w : Self) (n : Self.NodeTy) (t : Transformed Self.NodeTy) → ready v → down_gives v n (Ok t) w → t.order ≡ Continue → Self.NodeTy.height (Self.NodeTy.mirror t.value) ≤ Self.NodeTy.height (Self.NodeTy.mirror n) };
 }
 
-// The rewrite of a tree. The rewriter is called by functions of their own, so that what it does takes
-// no stack at each level.
-#[cycle(rewrite)]
+// The rewrite of a tree.
 pub(crate) fn rewrite_node<N: Node, R: NodeRewriter<NodeTy = N>>(
     alloc: Global,
     node: N,
@@ -57,39 +56,21 @@ pub(crate) fn rewrite_node<N: Node, R: NodeRewriter<NodeTy = N>>(
     ensures rewritten { Rewritten N.kids N.rebuild_gives (AtOwned N.mirror R.down_gives) (AtOwned N.mirror R.up_gives) (N.mirror node) rewriter.old rewriter.new (seen N.mirror result) }
     ensures ready { R.ready rewriter.new }
 {
-    let Transformed {
-        value,
-        order,
-        changed,
-    } = visit_down(node, rewriter)?;
-    match order {
-        TraversalOrder::Stop => {
-            return Ok(Transformed {
-                value,
-                order,
-                changed,
-            });
+    match begin(node, rewriter)? {
+        Begun::Whole(handed) => Ok(handed),
+        Begun::Open(down) => {
+            let below = rewrite_children(alloc, &down.value, rewriter)?;
+            let up = finish(alloc, down.value, below, rewriter)?;
+            Ok(up.marked(down.changed))
         }
-        TraversalOrder::Skip => {
-            let up = visit_up(value, rewriter)?;
-            return Ok(up.marked(changed));
-        }
-        TraversalOrder::Continue => {}
-    }
-    let siblings = rewrite_children(alloc, &value, rewriter)?;
-    let handed = rebuild(alloc, value, siblings)?;
-    match handed.order {
-        TraversalOrder::Continue => {
-            let below = handed.changed | changed;
-            let up = visit_up(handed.value, rewriter)?;
-            Ok(up.marked(below))
-        }
-        TraversalOrder::Skip | TraversalOrder::Stop => Ok(handed.marked(changed)),
     }
 }
 
 // The rewrites of the children, from left to right, until one answers Stop; later ones stay.
-#[cycle(rewrite)]
+//
+// The recursion handles no node: its frame has a place for each that a function handles. So a child
+// waits as the last of its siblings while its own children are rewritten, and what hands nodes out,
+// takes or makes them stands in functions that aren't inlined.
 fn rewrite_children<N: Node, R: NodeRewriter<NodeTy = N>>(
     alloc: Global,
     parent: &N,
@@ -99,65 +80,119 @@ fn rewrite_children<N: Node, R: NodeRewriter<NodeTy = N>>(
     ensures rewritten { MappedAll (RewritesTo N.kids N.rebuild_gives (AtOwned N.mirror R.down_gives) (AtOwned N.mirror R.up_gives)) Continue rewriter.old (N.kids (N.mirror parent.now)) (seen_siblings N.mirror result) rewriter.new }
     ensures ready { R.ready rewriter.new }
 {
-    let mut handed_back = Vec::with_capacity(alloc, parent.children_count())?;
-    let mut order = TraversalOrder::Continue;
-    let mut changed = false;
+    let mut siblings = Siblings::with_capacity(alloc, parent.children_count())?;
     for child in parent.children_slice() {
-        let handed = rewrite_child(alloc, child, order, rewriter)?;
-        handed_back.push(handed.value)?;
-        order = handed.order;
-        changed = changed | handed.changed;
+        let is_open = begin_child(child, &mut siblings, rewriter)?;
+        if !is_open {
+            continue;
+        }
+        let below = rewrite_children(alloc, siblings.last(), rewriter)?;
+        finish_child(alloc, below, &mut siblings, rewriter)?;
     }
-    Ok(Siblings {
-        handed_back,
-        order,
-        changed,
-    })
+    Ok(siblings)
 }
 
-// The rewrite of a clone of the child; after Stop it stays.
-#[cycle(rewrite)]
-fn rewrite_child<N: Node, R: NodeRewriter<NodeTy = N>>(
-    alloc: Global,
+// Puts a clone of the child behind its siblings, after its way down, and says whether its children
+// come next. After Stop it stays.
+#[inline(never)]
+fn begin_child<N: Node, R: NodeRewriter<NodeTy = N>>(
     child: &N,
-    order: TraversalOrder,
+    siblings: &mut Siblings<N>,
     rewriter: &mut R,
-) -> VortexResult<Transformed<N>>
-    requires { R.ready rewriter.old }
-    ensures step { StepAt (RewritesTo N.kids N.rebuild_gives (AtOwned N.mirror R.down_gives) (AtOwned N.mirror R.up_gives)) order rewriter.old (N.mirror child.now) (seen N.mirror result) rewriter.new }
+) -> VortexResult<bool>
+    requires ready { R.ready rewriter.old }
+    requires room { vec_len siblings.old.handed_back < vec_capacity siblings.old.handed_back }
+    ensures begun { BeginsAt N.mirror (RewritesTo N.kids N.rebuild_gives (AtOwned N.mirror R.down_gives) (AtOwned N.mirror R.up_gives)) (AtOwned N.mirror R.down_gives) siblings.old rewriter.old (N.mirror child.now) result siblings.new rewriter.new }
+    ensures len { OnOk result (vec_len siblings.new.handed_back ≡ vec_len siblings.old.handed_back + 1) }
+    ensures capacity { OnOk result (vec_capacity siblings.new.handed_back ≡ vec_capacity siblings.old.handed_back) }
     ensures ready { R.ready rewriter.new }
 {
     let value = child.clone()?;
-    match order {
-        TraversalOrder::Stop => Ok(Transformed {
+    if let TraversalOrder::Stop = siblings.order {
+        siblings.push(Transformed {
             value,
-            order,
+            order: TraversalOrder::Stop,
             changed: false,
-        }),
-        TraversalOrder::Skip | TraversalOrder::Continue => rewrite_node(alloc, value, rewriter),
+        });
+        return Ok(false);
+    }
+    match begin(value, rewriter)? {
+        Begun::Whole(handed) => {
+            siblings.push(handed);
+            Ok(false)
+        }
+        Begun::Open(down) => {
+            siblings.push(down);
+            Ok(true)
+        }
     }
 }
 
+// Finishes the last of the siblings, over its children that were handed back.
 #[inline(never)]
-fn visit_down<N: Node, R: NodeRewriter<NodeTy = N>>(
-    node: N,
+fn finish_child<N: Node, R: NodeRewriter<NodeTy = N>>(
+    alloc: Global,
+    below: Siblings<N>,
+    siblings: &mut Siblings<N>,
     rewriter: &mut R,
-) -> VortexResult<Transformed<N>>
-    requires { R.ready rewriter.old }
-    ensures gives { R.down_gives rewriter.old node result rewriter.new }
+) -> VortexResult<()>
+    requires ready { R.ready rewriter.old }
+    requires waits { 0 < vec_len siblings.old.handed_back }
+    requires room { vec_len siblings.old.handed_back ≤ vec_capacity siblings.old.handed_back }
+    ensures finished { FinishesAt N.mirror N.rebuild_gives (AtOwned N.mirror R.up_gives) below siblings.old rewriter.old result siblings.new rewriter.new }
+    ensures len { OnOk result (vec_len siblings.new.handed_back ≡ vec_len siblings.old.handed_back) }
+    ensures capacity { OnOk result (vec_capacity siblings.new.handed_back ≡ vec_capacity siblings.old.handed_back) }
     ensures ready { R.ready rewriter.new }
 {
-    rewriter.visit_down(node)
+    let node = siblings.handed_back.take_last();
+    let up = finish(alloc, node, below, rewriter)?;
+    siblings.push(up);
+    Ok(())
 }
 
-#[inline(never)]
-fn visit_up<N: Node, R: NodeRewriter<NodeTy = N>>(
+// A node after its way down.
+#[derive(Drop)]
+enum Begun<N> {
+    // Its rewrite is over: the way down answered Stop, or Skip, and its way up followed.
+    Whole(Transformed<N>),
+    // Its children come next.
+    Open(Transformed<N>),
+}
+
+// The rewrite of a node as far as its way down.
+fn begin<N: Node, R: NodeRewriter<NodeTy = N>>(node: N, rewriter: &mut R) -> VortexResult<Begun<N>>
+    requires { R.ready rewriter.old }
+    ensures begun { Begins N.mirror (RewritesTo N.kids N.rebuild_gives (AtOwned N.mirror R.down_gives) (AtOwned N.mirror R.up_gives)) (AtOwned N.mirror R.down_gives) rewriter.old (N.mirror node) result rewriter.new }
+    ensures ready { R.ready rewriter.new }
+{
+    let down = rewriter.visit_down(node)?;
+    match down.order {
+        TraversalOrder::Stop => Ok(Begun::Whole(down)),
+        TraversalOrder::Skip => {
+            let up = rewriter.visit_up(down.value)?;
+            Ok(Begun::Whole(up.marked(down.changed)))
+        }
+        TraversalOrder::Continue => Ok(Begun::Open(down)),
+    }
+}
+
+// The node over its children that were handed back, and after its way up if they answered Continue.
+fn finish<N: Node, R: NodeRewriter<NodeTy = N>>(
+    alloc: Global,
     node: N,
+    below: Siblings<N>,
     rewriter: &mut R,
 ) -> VortexResult<Transformed<N>>
     requires { R.ready rewriter.old }
-    ensures gives { R.up_gives rewriter.old node result rewriter.new }
+    ensures finished { Finishes N.rebuild_gives (AtOwned N.mirror R.up_gives) (N.mirror node) (row_seen N.mirror below) rewriter.old (seen N.mirror result) rewriter.new }
     ensures ready { R.ready rewriter.new }
 {
-    rewriter.visit_up(node)
+    let handed = rebuild(alloc, node, below)?;
+    match handed.order {
+        TraversalOrder::Continue => {
+            let up = rewriter.visit_up(handed.value)?;
+            Ok(up.marked(handed.changed))
+        }
+        TraversalOrder::Skip | TraversalOrder::Stop => Ok(handed),
+    }
 }
