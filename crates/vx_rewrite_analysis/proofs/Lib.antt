@@ -1,6 +1,10 @@
 pub mod Subtrees
 pub mod Numbering
 pub mod OneNumber
+pub mod ByNumber
+pub mod Looking
+pub mod Uniting
+pub mod Entering
 pub mod Labelling
 pub mod Annotating
 pub mod Covering

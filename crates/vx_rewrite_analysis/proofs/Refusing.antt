@@ -1,13 +1,13 @@
 -- The first refusal that is met, child by child.
-use Rattle.std.proofs.Common.{◌≡◌, ◌<◌, List, [], ◌∷◌, length, Bool, refl, sym, ap, inl, inr, ◌∙◌}
-use Rattle.std.specs.Prelude.{◌⊎◌, Option, None, Some, Result, Ok, Err, IsOkAnd}
+use Rattle.std.proofs.Common.{◌≡◌, ◌<◌, arith, List, [], ◌∷◌, length, Bool, refl, sym, ap, inl, inr, ◌∙◌}
+use Rattle.std.specs.Prelude.{◌⊎◌, Option, None, Some, Result, Ok, Err, IsOkAnd, if◌then◌else◌}
 use Rattle.std.specs.Cmp.{IsEquivalence}
 use Rattle.std.specs.Option.{option_or}
 use Rattle.vx_dtype.specs.declared.error.VortexError.{VortexError}
 use Rattle.vx_dtype.specs.declared.error.VortexError.TheVariants.{OutOfMemory}
 use Rattle.vx_tree.specs.Nodes.{bound_children_of}
 use Rattle.vx_tree.specs.Trees.{BoundTree, scope, node, BoundTrees, no_bound, bound}
-use Rattle.vx_rewrite_analysis.specs.Annotations.{SameAnnotations}
+use Rattle.vx_rewrite_analysis.specs.Annotations.{is_some_item, SameAnnotations}
 use Rattle.vx_rewrite_analysis.specs.Refusals.{refusal_or, first_refusal, first_refusal_in}
 use Rattle.vx_rewrite_analysis.proofs.Annotating.{items-alike, some_item, no_item}
 
@@ -35,6 +35,12 @@ module _ {A : Type 0} where
     pub unrefused-here : (eq : A → A → Bool) → IsEquivalence eq → (b : BoundTree) (own : List A) → IsOkAnd (said b) (SameAnnotations eq own) → 0 < length own
         → first_refusal said b ≡ None
     unrefused-here eq q b own same some = first_refusal-children b ∙ answers-refusal eq q own (said b) _ same some
+
+    -- a node refuses first what its children do, or nothing, if it has answers
+    pub refusal-split : (eq : A → A → Bool) → IsEquivalence eq → (b : BoundTree) (own : List A) (bs : BoundTrees) → IsOkAnd (said b) (SameAnnotations eq own) → bs ≡ bound_children_of b
+        → first_refusal said b ≡ (if is_some_item own then None else first_refusal_in said bs)
+    refusal-split eq q b [] bs same children = first_refusal-children b ∙ none-refusal eq q [] (said b) _ same refl ∙ sym (ap (first_refusal_in said) children)
+    refusal-split eq q b (a ∷ rest) bs same children = unrefused-here eq q b (a ∷ rest) same (omega arith)
 
     -- a node that refuses itself
     pub refused-here : (b : BoundTree) (y : VortexError) → (y ≡ OutOfMemory) ⊎ (said b ≡ Err y) → (y ≡ OutOfMemory) ⊎ (first_refusal said b ≡ Some y)

@@ -64,7 +64,7 @@ sizes-within [] i d h = absurd (omega arith)
 sizes-within (t ∷ ts) zero d h = omega arith
 sizes-within (t ∷ ts) (suc i) d h = omega (arith, sizes-within ts i d (omega arith))
 
-sizes-below : (b : BoundTree) → sizes_of (unbound_each (bound_children_of b)) < size_of (unbound b)
+pub sizes-below : (b : BoundTree) → sizes_of (unbound_each (bound_children_of b)) < size_of (unbound b)
 sizes-below (scope t) = omega arith
 sizes-below (node t f bs) = omega arith
 

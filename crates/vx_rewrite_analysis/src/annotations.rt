@@ -1,20 +1,21 @@
 // Annotations of the nodes of a bound tree.
-ghost use Rattle.std.specs.Prelude.{◌≡◌, ◌<◌, ◌||◌, ◌&&◌, ◌⊎◌, not, is_some, None, Some, List, Err, IfErr, IfOk, OnOk, length};
+ghost use Rattle.std.specs.Prelude.{◌≡◌, ◌<◌, ◌||◌, ◌⊎◌, All, is_some, None, Some, List, Err, IfErr, IfOk, OnOk, get_or, length, if◌then◌else◌};
 ghost use Rattle.std.specs.HashSet.{contains};
 ghost use Rattle.std.specs.List.{list_any};
 ghost use Rattle.vx_dtype.specs.declared.error.VortexError.TheVariants.{OutOfMemory};
-ghost use Rattle.vx_tree.specs.Nodes.{bound_children_of};
 ghost use Rattle.vx_tree.specs.Trees.{BoundTree};
 ghost use Rattle.vx_tree.specs.Views.{bound_of};
-ghost use Rattle.vx_rewrite_analysis.specs.Annotations.{answered, AnswersAlike, is_annotation, IsAnnotationsOf, IsAnnotated};
+ghost use Rattle.vx_rewrite_analysis.specs.Annotations.{answered, is_some_item, AnswersAlike, SameAnnotations, IsAnnotationsOf, IsAnnotated};
+ghost use Rattle.vx_rewrite_analysis.specs.ByNumber.{has_some, has_annotation, HasEach, HasReached};
 ghost use Rattle.vx_rewrite_analysis.specs.Keys.{key_of, entry_at};
-ghost use Rattle.vx_rewrite_analysis.specs.Numbers.{tree_at, IsNumbered};
-ghost use Rattle.vx_rewrite_analysis.specs.Reached.{is_reached, is_reached_in, IsClosed};
-ghost use Rattle.vx_rewrite_analysis.specs.Refusals.{SaysBy, first_refusal, IsUnrefused};
+ghost use Rattle.vx_rewrite_analysis.specs.Numbers.{IsNumbered};
+ghost use Rattle.vx_rewrite_analysis.specs.Reached.{is_reached};
+ghost use Rattle.vx_rewrite_analysis.specs.Refusals.{SaysBy, first_refusal};
 
 use crate::Annotation;
 use crate::entries::put_at;
 use crate::numbers::{NumberedNode, number_of};
+use crate::reached::{OwnAnswers, own_answers};
 use indexmap::IndexSet;
 use std::alloc::{AllocError, Global};
 use std::collections::{HashMap, HashSet};
@@ -43,74 +44,88 @@ pub fn descendent_bound_annotations<
     ensures unrefused { OnOk result ((said : _) → SaysBy A.eq (F.post annotate) said → first_refusal said (bound_of e.now) ≡ None) }
 {
     let mut nodes = IndexSet::new(alloc);
-    let number = number_of(alloc, e, &mut nodes)?;
-    let mut annotations = HashMap::new(alloc);
+    let root = number_of(alloc, e, &mut nodes)?;
     let nodes = nodes.as_slice();
-    let set = annotations_of(alloc, nodes, number, &annotate, &mut annotations)?;
-    put_at(&mut annotations, &nodes[number].key, set)?;
-    Ok(annotations)
+    let own = own_answers(alloc, nodes, root, &annotate)?;
+    let sets = sets_of(alloc, nodes, own)?;
+    Ok(sets_by_key(alloc, nodes, sets)?)
 }
 
-// The annotations of the node, after those reached below it have entries.
-#[cycle(annotate)]
-fn annotations_of<A: Annotation + Drop, F: Fn(&BoundExpression) -> VortexResult<Vec<A>>>(
+// The annotations of the nodes that are reached, by number.
+type AnnotationSets<A> = Vec<Option<HashSet<A>>>;
+
+// The annotations of the nodes with those answers, from the lowest number up: those of a node's
+// children are there before its own.
+fn sets_of<A: Annotation + Drop>(
     alloc: Global,
     nodes: &[NumberedNode],
-    number: usize,
-    annotate: &F,
-    annotations: &mut BoundAnnotations<A>,
-) -> VortexResult<HashSet<A>>
+    own: OwnAnswers<A>,
+) -> VortexResult<AnnotationSets<A>>
     requires numbered { IsNumbered nodes.now }
-    requires within { number < length nodes.now }
-    requires callable { F.IsAlwaysCallable annotate.now }
-    ensures annotated { IfOk result (λ s. (answers : BoundTree → List A) → AnswersAlike A.eq (F.post annotate.now) answers → IsClosed (answered answers) annotations.old → IsAnnotated A.eq answers annotations.old
-        → IsAnnotationsOf A.eq answers (tree_at nodes.now number) s × IsAnnotated A.eq answers annotations.new
-        × ((k : _) → is_some (entry_at (key_of k) annotations.new) ≡ ((not (answered answers (tree_at nodes.now number)) && is_reached_in (answered answers) (key_of k) (bound_children_of (tree_at nodes.now number))) || is_some (entry_at (key_of k) annotations.old)))) }
-    ensures refusal { IfErr result (λ y. (y ≡ OutOfMemory) ⊎ ((x : _) × F.post annotate.now x (Err y))) }
-    ensures first { IfErr result (λ y. (said : _) → SaysBy A.eq (F.post annotate.now) said → IsUnrefused said annotations.old → (y ≡ OutOfMemory) ⊎ (first_refusal said (tree_at nodes.now number) ≡ Some y)) }
-    ensures unrefused { OnOk result ((said : _) → SaysBy A.eq (F.post annotate.now) said → IsUnrefused said annotations.old → (first_refusal said (tree_at nodes.now number) ≡ None) × IsUnrefused said annotations.new) }
+    requires count { length own.items ≡ length nodes.now }
+    ensures count { IfOk result (λ sets. length sets.items ≡ length nodes.now) }
+    ensures annotations { IfOk result (λ sets. (answers : BoundTree → List A) (root : BoundTree) → HasEach (λ b v. SameAnnotations A.eq v.items (answers b)) nodes.now own.items → HasReached (answered answers) root nodes.now own.items
+        → HasEach (IsAnnotationsOf A.eq answers) nodes.now sets.items × HasReached (answered answers) root nodes.now sets.items) }
+    ensures refusal { IfErr result (λ y. y ≡ OutOfMemory) }
 {
-    let node = &nodes[number];
-    let answers = annotate(node.key.expr())?;
+    let mut sets = Vec::with_capacity(alloc, nodes.len())?;
+    for answers in own {
+        let Some(answers) = answers else {
+            sets.push(None)?;
+            continue;
+        };
+        let number = sets.len();
+        let node = &nodes[number];
+        let set = set_at(alloc, node, answers, sets.as_slice())?;
+        sets.push(Some(set))?;
+    }
+    Ok(sets)
+}
+
+// The node's answers, or, where there are none, its children's annotations together.
+fn set_at<A: Annotation + Drop>(
+    alloc: Global,
+    node: &NumberedNode,
+    answers: Vec<A>,
+    sets: &[Option<HashSet<A>>],
+) -> VortexResult<HashSet<A>>
+    requires { All (λ k. k < length sets.now) node.now.children.items }
+    ensures set { IfOk result (λ s. (a : A) → contains A.eq s a
+        ≡ (if is_some_item answers.items then list_any (A.eq a) answers.items else list_any (λ k. has_annotation A.eq a (get_or sets.now k None)) node.now.children.items)) }
+    ensures refusal { IfErr result (λ y. y ≡ OutOfMemory) }
+{
     if !answers.is_empty() {
         return Ok(set_of(alloc, answers)?);
     }
     let mut set = HashSet::new(alloc);
     for child in node.children.as_slice() {
-        add_child(alloc, nodes, *child, annotate, annotations, &mut set)?;
+        let Some(below) = &sets[*child] else {
+            continue;
+        };
+        add_all(alloc, &mut set, below)?;
     }
     Ok(set)
 }
 
-// Adds the child's annotations, after the child and those reached below it have entries. Where the
-// child has one already, so have those below it.
-#[cycle(annotate)]
-fn add_child<A: Annotation + Drop, F: Fn(&BoundExpression) -> VortexResult<Vec<A>>>(
+// The annotations by the keys of their nodes.
+fn sets_by_key<A: Annotation + Drop>(
     alloc: Global,
     nodes: &[NumberedNode],
-    child: usize,
-    annotate: &F,
-    annotations: &mut BoundAnnotations<A>,
-    set: &mut HashSet<A>,
-) -> VortexResult<()>
-    requires numbered { IsNumbered nodes.now }
-    requires within { child < length nodes.now }
-    requires callable { F.IsAlwaysCallable annotate.now }
-    ensures annotated { OnOk result ((answers : BoundTree → List A) → AnswersAlike A.eq (F.post annotate.now) answers → IsClosed (answered answers) annotations.old → IsAnnotated A.eq answers annotations.old
-        → ((a : A) → contains A.eq set.new a ≡ (contains A.eq set.old a || is_annotation A.eq answers a (tree_at nodes.now child))) × IsAnnotated A.eq answers annotations.new
-        × ((k : _) → is_some (entry_at (key_of k) annotations.new) ≡ (is_reached (answered answers) (key_of k) (tree_at nodes.now child) || is_some (entry_at (key_of k) annotations.old)))) }
-    ensures refusal { IfErr result (λ y. (y ≡ OutOfMemory) ⊎ ((x : _) × F.post annotate.now x (Err y))) }
-    ensures first { IfErr result (λ y. (said : _) → SaysBy A.eq (F.post annotate.now) said → IsUnrefused said annotations.old → (y ≡ OutOfMemory) ⊎ (first_refusal said (tree_at nodes.now child) ≡ Some y)) }
-    ensures unrefused { OnOk result ((said : _) → SaysBy A.eq (F.post annotate.now) said → IsUnrefused said annotations.old → (first_refusal said (tree_at nodes.now child) ≡ None) × IsUnrefused said annotations.new) }
+    sets: AnnotationSets<A>,
+) -> Result<BoundAnnotations<A>, AllocError>
+    requires { length sets.items ≡ length nodes.now }
+    ensures nodes { IfOk result (λ m. (k : _) → is_some (entry_at (key_of k) m) ≡ has_some (key_of k) nodes.now sets.items) }
+    ensures annotations { IfOk result (λ m. (answers : BoundTree → List A) → HasEach (IsAnnotationsOf A.eq answers) nodes.now sets.items → IsAnnotated A.eq answers m) }
 {
-    let key = &nodes[child].key;
-    if let Some(below) = annotations.get(key) {
-        return add_all(alloc, set, below);
+    let mut by_key = HashMap::with_capacity(alloc, nodes.len())?;
+    let mut number = 0;
+    for set in sets {
+        if let Some(set) = set {
+            put_at(&mut by_key, &nodes[number].key, set)?;
+        }
+        number += 1;
     }
-    let below = annotations_of(alloc, nodes, child, annotate, annotations)?;
-    add_all(alloc, set, &below)?;
-    put_at(annotations, key, below)?;
-    Ok(())
+    Ok(by_key)
 }
 
 // The set of those annotations.

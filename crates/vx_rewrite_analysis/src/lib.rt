@@ -9,6 +9,7 @@ mod entries;
 mod fields;
 mod labels;
 mod numbers;
+mod reached;
 
 pub use annotation::Annotation;
 pub use annotations::{BoundAnnotations, descendent_bound_annotations};
