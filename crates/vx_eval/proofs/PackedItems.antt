@@ -1,5 +1,5 @@
 -- Items of structs that are packed and taken apart again.
-use Rattle.std.proofs.Common.{◌≡◌, ℕ, ◌<◌, List, [], ◌∷◌, map, length, get_or, refl, sym, ap, subst, ◌∙◌, arith, zero, suc, Option, Some, None, Result, Ok, Err, IsOk, Bool, true, false, Vec, Global}
+use Rattle.std.proofs.Common.{◌≡◌, ℕ, ◌<◌, List, [], ◌∷◌, map, length, get_or, refl, sym, ap, ◌∙◌, arith, zero, suc, Option, Some, None, Ok, Err, IsOk, Bool, true, false, Vec, Global}
 use Rattle.std.specs.Prelude.{⊤, MatchOption, if◌then◌else◌, ◌==◌, position}
 use Rattle.std.specs.declared.rc.Rc.{Rc}
 use Rattle.std.specs.Str.{bytes_eq}
@@ -21,9 +21,6 @@ use Rattle.vx_tree.specs.Faults.{each_fault}
 use Rattle.vx_tree.specs.Meaning.{value, values}
 use Rattle.vx_tree.specs.Trees.{node, BoundTrees, no_bound, bound, node_types, EachWellTyped}
 use Rattle.vx_tree.specs.Views.{bound_of, bounds_of}
-use Rattle.vx_dtype.specs.Answers.{Answers}
-use Rattle.vx_eval.specs.declared.rows.Rows.{Rows}
-use Rattle.vx_eval.specs.Columns.{rows_view, rows_views}
 use Rattle.vx_eval.specs.Evaluation.{columns, tree_answer, each_answer}
 use Rattle.vx_eval.specs.PackedItem.{item_answer, PacksAt, place_in_node, place_taken, TakesOut}
 use Rattle.vx_eval.proofs.Filled.{map_same}
@@ -97,24 +94,19 @@ place_of_first f a children x r is typed first at = rw is (go children (rw is at
 -- ---- from what the calls give
 
 -- a node that takes an item out gives the item's column
-pub item_given : (e : BoundExpression) (t : DType) (f : ScalarFnRef) (all : Rc (Vec BoundExpression Global) Global) (children : List BoundExpression) (x : BoundExpression) (k : ℕ) (batch : List Datum) (r : Result Rows VortexError) →
-    e ≡ Scalar t f all → children ≡ all.value.items → x ≡ get_or children 0 x → TakesOut (function_of f) (bounds_of children) k → Answers rows_view r (item_answer (bound_of x) k batch) → Answers rows_view r (tree_answer (bound_of e) batch)
-item_given e t f all children x k batch r is those first takes gives = rw (is, bound_of-Scalar t f all, ← those) (go children first takes)
+pub item_given : (e : BoundExpression) (t : DType) (f : ScalarFnRef) (all : Rc (Vec BoundExpression Global) Global) (children : List BoundExpression) (x : BoundExpression) (k : ℕ) (batch : List Datum) →
+    e ≡ Scalar t f all → children ≡ all.value.items → x ≡ get_or children 0 x → TakesOut (function_of f) (bounds_of children) k → item_answer (bound_of x) k batch ≡ tree_answer (bound_of e) batch
+item_given e t f all children x k batch is those first takes = rw (is, bound_of-Scalar t f all, ← those) (go children first takes)
   where
-    go : (children : List BoundExpression) → x ≡ get_or children 0 x → TakesOut (function_of f) (bounds_of children) k → Answers rows_view r (tree_answer (node (type_of t) (function_of f) (bounds_of children)) batch)
+    go : (children : List BoundExpression) → x ≡ get_or children 0 x → TakesOut (function_of f) (bounds_of children) k → item_answer (bound_of x) k batch ≡ tree_answer (node (type_of t) (function_of f) (bounds_of children)) batch
     go [] e takes = absurd takes
-    go (y ∷ ys) e takes = subst (Answers rows_view r) (ap (λ z. item_answer (bound_of z) k batch) e ∙ sym (takes.1 (type_of t) batch)) gives
+    go (y ∷ ys) e takes = ap (λ z. item_answer (bound_of z) k batch) e ∙ sym (takes.1 (type_of t) batch)
 
 pub place_within : (e : BoundExpression) (t : DType) (f : ScalarFnRef) (all : Rc (Vec BoundExpression Global) Global) (children : List BoundExpression) (k : ℕ) →
     e ≡ Scalar t f all → children ≡ all.value.items → PacksAt (bound_of e) k → k < length (node_types (bounds_of children))
 place_within e t f all children k is those packs = rw those ((rw (is, bound_of-Scalar t f all) at packs).1)
 
 -- the item of a pack whose children's columns are there
-pub picked_is : (e : BoundExpression) (t : DType) (f : ScalarFnRef) (all : Rc (Vec BoundExpression Global) Global) (children : List BoundExpression) (batch : List Datum) (rs : List Rows) (x : Rows) (k : ℕ) →
-    e ≡ Scalar t f all → children ≡ all.value.items → each_answer (bounds_of children) batch ≡ Ok (rows_views rs) → k < length rs → x ≡ get_or rs k x → item_answer (bound_of e) k batch ≡ Ok (rows_view x)
-picked_is e t f all children batch rs x k is those given lt at = rw (is, bound_of-Scalar t f all, ← those, given) (ap Ok (go rs k lt at))
-  where
-    go : (rs : List Rows) (k : ℕ) → k < length rs → x ≡ get_or rs k x → get_or (rows_views rs) k [] ≡ rows_view x
-    go [] k lt e = absurd (omega arith)
-    go (y ∷ ys) zero lt e = ap rows_view (sym e)
-    go (y ∷ ys) (suc k) lt e = go ys k (omega arith) e
+pub picked_is : (e : BoundExpression) (t : DType) (f : ScalarFnRef) (all : Rc (Vec BoundExpression Global) Global) (children : List BoundExpression) (batch : List Datum) (cs : List (List Datum)) (k : ℕ) →
+    e ≡ Scalar t f all → children ≡ all.value.items → each_answer (bounds_of children) batch ≡ Ok cs → Ok (get_or cs k []) ≡ item_answer (bound_of e) k batch
+picked_is e t f all children batch cs k is those given = rw (is, bound_of-Scalar t f all, ← those, given) refl

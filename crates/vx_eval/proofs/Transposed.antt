@@ -8,7 +8,6 @@ use Rattle.std.specs.declared.rc.Rc.{Rc}
 use Rattle.vx_dtype.specs.declared.dtype.DType.{DType}
 use Rattle.vx_dtype.specs.declared.error.VortexError.{VortexError}
 use Rattle.vx_value.specs.declared.value.Value.{Value}
-use Rattle.vx_dtype.specs.Answers.{Answers}
 use Rattle.vx_value.specs.Types.{Name, LogicalType, Datum, null}
 use Rattle.vx_value.specs.Views.{type_of, value_of}
 use Rattle.vx_fn.specs.declared.function.ScalarFnRef.{ScalarFnRef}
@@ -65,16 +64,14 @@ answered bs batch cs e = go (each_fault bs batch) refl e
     go (Some fault) q e = cc
 
 -- a node over columns that its children gave
-over_columns : (t : LogicalType) (f : Function) (bs : BoundTrees) (batch : List Datum) (n : ℕ) (cs : List (List Datum)) (r : Result Rows VortexError) →
-    n ≡ length batch → each_answer bs batch ≡ Ok cs → Evaluates f (node_types bs) n cs r → Answers rows_view r (tree_answer (node t f bs) batch)
-over_columns t f bs batch n cs r counted given gives =
+over_columns : (t : LogicalType) (f : Function) (bs : BoundTrees) (batch : List Datum) (n : ℕ) (cs : List (List Datum)) →
+    n ≡ length batch → each_answer bs batch ≡ Ok cs → node_answer f (node_types bs) (rows_of n cs) ≡ tree_answer (node t f bs) batch
+over_columns t f bs batch n cs counted given =
     let a = answered bs batch cs given in
     let rows : rows_of n cs ≡ map (values bs) batch = ap (λ k. rows_of k cs) counted ∙ ap (rows_of (length batch)) (sym a.are) ∙ rows_of-columns bs batch in
-    let same : node_answer f (node_types bs) (rows_of n cs) ≡ tree_answer (node t f bs) batch =
     ap (node_answer f (node_types bs)) rows
     ∙ ap (unless_fault (node_fault f (node_types bs) (map (values bs) batch))) (map_map (fn_value f (node_types bs)) (values bs) batch)
-    ∙ ap (λ o. unless_fault (option_or o (node_fault f (node_types bs) (map (values bs) batch))) (map (value (node t f bs)) batch)) (sym a.quiet) in
-    subst (Answers rows_view r) same gives
+    ∙ ap (λ o. unless_fault (option_or o (node_fault f (node_types bs) (map (values bs) batch))) (map (value (node t f bs)) batch)) (sym a.quiet)
 
 root_answer : (t : LogicalType) (batch : List Datum) → tree_answer (scope t) batch ≡ Ok batch
 root_answer t batch = ap Ok (map-id batch)
@@ -91,11 +88,11 @@ bound_of-Scalar t f all = search (rules, the_lemmas)
 bound_of-Root : (t : DType) → bound_of (Root t) ≡ scope (type_of t)
 bound_of-Root t = search (rules, the_lemmas)
 
-pub node_given : (e : BoundExpression) (t : DType) (f : ScalarFnRef) (all : Rc (Vec BoundExpression Global) Global) (children : List BoundExpression) (batch : List Value) (n : ℕ) (rs : List Rows) (r : Result Rows VortexError) →
+pub node_given : (e : BoundExpression) (t : DType) (f : ScalarFnRef) (all : Rc (Vec BoundExpression Global) Global) (children : List BoundExpression) (batch : List Value) (n : ℕ) (rs : List Rows) →
     e ≡ Scalar t f all → children ≡ all.value.items → n ≡ length batch → each_answer (bounds_of children) (values_of batch) ≡ Ok (rows_views rs) →
-    Evaluates (function_of f) (node_types (bounds_of children)) n (rows_views rs) r → Answers rows_view r (tree_answer (bound_of e) (values_of batch))
-node_given e t f all children batch n rs r is those counted given gives =
-    rw (is, bound_of-Scalar t f all, ← those) (over_columns (type_of t) (function_of f) (bounds_of children) (values_of batch) n (rows_views rs) r (counted ∙ sym (length-map batch value_of)) given gives)
+    node_answer (function_of f) (node_types (bounds_of children)) (rows_of n (rows_views rs)) ≡ tree_answer (bound_of e) (values_of batch)
+node_given e t f all children batch n rs is those counted given =
+    rw (is, bound_of-Scalar t f all, ← those) (over_columns (type_of t) (function_of f) (bounds_of children) (values_of batch) n (rows_views rs) (counted ∙ sym (length-map batch value_of)) given)
 
 pub root_given : (e : BoundExpression) (t : DType) (batch : List Datum) → e ≡ Root t → tree_answer (bound_of e) batch ≡ Ok batch
 root_given e t batch is = rw (is, bound_of-Root t) (root_answer (type_of t) batch)
@@ -178,3 +175,12 @@ column_put bs rows i b rs new r want lt is so_far given pushed =
 
 pub typed_on : (bs : List BoundExpression) (i : ℕ) (b : BoundExpression) → i < length bs → b ≡ get_or bs i b → EachWellTyped (bounds_of (drop i bs)) → EachWellTyped (bounds_of (drop (i + 1) bs))
 typed_on bs i b lt is typed = let all : EachWellTyped (bounds_of (b ∷ drop (i + 1) bs)) = subst (λ l. EachWellTyped (bounds_of l)) (child_on bs i b lt is) typed in all.1
+
+-- ---- a tree alone
+
+pub alone_given : (b : BoundExpression) (bs : List BoundExpression) (rows : List Datum) (rs : List Rows) (r : Rows) → bs ≡ b ∷ [] → each_answer (bounds_of bs) rows ≡ Ok (rows_views rs) → rs ≡ r ∷ [] → tree_answer (bound_of b) rows ≡ Ok (rows_view r)
+alone_given b bs rows rs r those given is = go (first_fault (bound_of b) rows) refl (rw (those, is) at given)
+  where
+    go : (o : Option VortexError) → first_fault (bound_of b) rows ≡ o → each_answer (bounds_of (b ∷ [])) rows ≡ Ok (rows_view r ∷ []) → tree_answer (bound_of b) rows ≡ Ok (rows_view r)
+    go None q e = let same = rw q at e in rw q cc
+    go (Some fault) q e = let same = rw q at e in cc

@@ -77,8 +77,25 @@ impl<'a> Conjunction<'a> {
         self.constants.truth(self.truth(i))
     }
 
-    /// The And with another conjunction. Asks as many rows.
-    pub fn and(self, other: &Conjunction<'a>) -> Result<Conjunction<'a>, AllocError>
+    /// The And with another conjunction. Asks as many rows. The fewer comparisons go behind the
+    /// others, so a chain of Ands costs its length on whichever side it goes on.
+    pub fn and(self, other: Conjunction<'a>) -> Result<Conjunction<'a>, AllocError>
+        requires { length other ≡ length self }
+        ensures { IfOk result (λ c. c ≡ each_row (length self.entry) (λ k. values.kleene_and (get_or self.entry k null) (get_or other.entry k null))) }
+    {
+        if self.items.len() < other.items.len() {
+            let joined = other.before(&self);
+            drop(self);
+            joined
+        } else {
+            let joined = self.before(&other);
+            drop(other);
+            joined
+        }
+    }
+
+    // The And, with the comparisons of the other one behind these.
+    fn before(self, other: &Conjunction<'a>) -> Result<Conjunction<'a>, AllocError>
         requires { length other.now ≡ length self }
         ensures { IfOk result (λ c. c ≡ each_row (length self.entry) (λ k. values.kleene_and (get_or self.entry k null) (get_or other.now k null))) }
     {

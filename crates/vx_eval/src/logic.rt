@@ -18,11 +18,7 @@ pub fn and<'a>(alloc: Global, count: usize, lhs: Rows<'a>, rhs: Rows<'a>) -> Vor
     ensures { (ts : List LogicalType) → Evaluates (binary and_also) ts count (rows_view lhs.entry ∷ rows_view rhs.entry ∷ []) result }
 {
     match (lhs, rhs) {
-        (Rows::Compared(first), Rows::Compared(second)) => {
-            let joined = first.and(&second);
-            drop(second);
-            Ok(Rows::Compared(joined?))
-        }
+        (Rows::Compared(first), Rows::Compared(second)) => Ok(Rows::Compared(first.and(second)?)),
         (lhs, rhs) => {
             let truths = told(alloc, count, |i| kleene_and(lhs.truth(i), rhs.truth(i)));
             drop(lhs);

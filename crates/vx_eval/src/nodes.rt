@@ -153,8 +153,8 @@ fn triple<'c, 'a>(columns: &'c [Rows<'a>]) -> (&'c Rows<'a>, &'c Rows<'a>, &'c R
     (&columns[0], &columns[1], &columns[2])
 }
 
-// The one column.
-fn one<'a>(mut columns: Vec<Rows<'a>>) -> Rows<'a>
+/// The one column. Asks for just one.
+pub fn one<'a>(mut columns: Vec<Rows<'a>>) -> Rows<'a>
     requires { length columns.items ≡ 1 }
     ensures { columns.entry.items ≡ result ∷ [] }
 {

@@ -1,20 +1,25 @@
 // Trees over whole columns, children first.
-ghost use Rattle.std.specs.Prelude.{IfOk};
+ghost use Rattle.std.specs.Prelude.{◌≡◌, ◌<◌, [], length, get_or, IfOk, IsOk, Err, Ok};
 ghost use Rattle.vx_dtype.specs.Answers.{Answers};
 ghost use Rattle.vx_value.specs.Fits.{IsBatch};
-ghost use Rattle.vx_tree.specs.Trees.{node_type, WellTyped, EachWellTyped, Over};
+ghost use Rattle.vx_fn.specs.Functions.{fn_type};
+ghost use Rattle.vx_fn.specs.Views.{function_of};
+ghost use Rattle.vx_tree.specs.Pushed.{Pushes};
+ghost use Rattle.vx_tree.specs.Trees.{node_type, node_types, WellTyped, EachWellTyped, Over};
 ghost use Rattle.vx_tree.specs.Views.{bound_of, bounds_of};
-ghost use Rattle.vx_eval.specs.Columns.{values_of, rows_view, rows_views};
+ghost use Rattle.vx_eval.specs.Columns.{values_of, rows_view, rows_views, rows_of, node_answer, AllLong};
 ghost use Rattle.vx_eval.specs.Evaluation.{tree_answer, each_answer};
 ghost use Rattle.vx_eval.specs.PackedItem.{item_answer, PacksAt};
 
-use crate::nodes::apply;
+use crate::nodes::{apply, one};
 use crate::packed::item_place;
 use crate::rows::Rows;
 use std::alloc::Global;
 use std::rc::Rc;
+use std::slice;
+use vx_fn::ScalarFnRef;
 use vx_tree::BoundExpression;
-use vx_types::{Column, Value, VortexResult};
+use vx_types::{Column, Value, VortexError, VortexResult};
 
 /// The tree's value in each row of a batch of its scope's type, or the first fault.
 /// Refuses with `OutOfMemory` (1) too.
@@ -32,7 +37,6 @@ pub fn evaluate_over<'a>(
 }
 
 // The tree's value in each row of a batch, or the first fault.
-#[cycle(evaluate)]
 fn evaluate<'a>(
     alloc: Global,
     batch: &'a Rc<Vec<Value>>,
@@ -41,47 +45,13 @@ fn evaluate<'a>(
     requires { WellTyped (bound_of b.now) }
     ensures { Answers rows_view result (tree_answer (bound_of b.now) (values_of batch.now.value.items)) }
 {
-    match b {
-        BoundExpression::Root { .. } => Ok(Rows::Lent(batch)),
-        BoundExpression::Scalar {
-            scalar_fn,
-            children,
-            ..
-        } => {
-            let children = children.as_slice();
-            match item_place(scalar_fn, children) {
-                Some(place) => evaluate_item(alloc, batch, &children[0], place),
-                None => {
-                    let columns = evaluate_each(alloc, batch, children)?;
-                    apply(alloc, batch.len(), scalar_fn, children, columns)
-                }
-            }
-        }
-    }
+    let columns = evaluate_each(alloc, batch, slice::from_ref(b))?;
+    Ok(one(columns))
 }
 
-// The column at that place of those that a `pack` packs.
-#[cycle(evaluate)]
-fn evaluate_item<'a>(
-    alloc: Global,
-    batch: &'a Rc<Vec<Value>>,
-    pack: &'a BoundExpression,
-    place: usize,
-) -> VortexResult<Rows<'a>>
-    requires typed { WellTyped (bound_of pack.now) }
-    requires packs { PacksAt (bound_of pack.now) place }
-    ensures { Answers rows_view result (item_answer (bound_of pack.now) place (values_of batch.now.value.items)) }
-{
-    match pack {
-        BoundExpression::Scalar { children, .. } => {
-            let mut columns = evaluate_each(alloc, batch, children.as_slice())?;
-            Ok(columns.swap_remove(place))
-        }
-        BoundExpression::Root { .. } => unreachable!(),
-    }
-}
-
-// A column for each child.
+// A column for each child. The recursion handles no column: its frame has a place for each that a
+// function handles. So what makes, stores or lets go of columns stands in functions that aren't
+// inlined.
 #[cycle(evaluate)]
 fn evaluate_each<'a>(
     alloc: Global,
@@ -93,7 +63,112 @@ fn evaluate_each<'a>(
 {
     let mut columns = Vec::with_capacity(alloc, children.len())?;
     for child in children {
-        columns.push(evaluate(alloc, batch, child)?)?;
+        if let Err(fault) = push_evaluated(alloc, batch, child, &mut columns) {
+            return refused(columns, fault);
+        }
     }
     Ok(columns)
+}
+
+// Adds the tree's value in each row of the batch to the columns.
+#[cycle(evaluate)]
+fn push_evaluated<'a>(
+    alloc: Global,
+    batch: &'a Rc<Vec<Value>>,
+    b: &'a BoundExpression,
+    columns: &mut Vec<Rows<'a>>,
+) -> VortexResult<()>
+    requires { WellTyped (bound_of b.now) }
+    ensures { Pushes rows_view columns.old.items result (tree_answer (bound_of b.now) (values_of batch.now.value.items)) columns.new.items }
+{
+    match b {
+        BoundExpression::Root { .. } => push_batch(batch, columns),
+        BoundExpression::Scalar {
+            scalar_fn,
+            children,
+            ..
+        } => {
+            let children = children.as_slice();
+            match item_place(scalar_fn, children) {
+                Some(place) => push_item(alloc, batch, &children[0], place, columns),
+                None => {
+                    let below = evaluate_each(alloc, batch, children)?;
+                    push_applied(alloc, batch.len(), scalar_fn, children, below, columns)
+                }
+            }
+        }
+    }
+}
+
+// Adds the column at that place of those that a `pack` packs.
+#[cycle(evaluate)]
+fn push_item<'a>(
+    alloc: Global,
+    batch: &'a Rc<Vec<Value>>,
+    pack: &'a BoundExpression,
+    place: usize,
+    columns: &mut Vec<Rows<'a>>,
+) -> VortexResult<()>
+    requires typed { WellTyped (bound_of pack.now) }
+    requires packs { PacksAt (bound_of pack.now) place }
+    ensures { Pushes rows_view columns.old.items result (item_answer (bound_of pack.now) place (values_of batch.now.value.items)) columns.new.items }
+{
+    match pack {
+        BoundExpression::Scalar { children, .. } => {
+            let below = evaluate_each(alloc, batch, children.as_slice())?;
+            push_picked(below, place, columns)
+        }
+        BoundExpression::Root { .. } => unreachable!(),
+    }
+}
+
+// Adds the rows of the batch, lent.
+#[inline(never)]
+fn push_batch<'a>(batch: &'a Rc<Vec<Value>>, columns: &mut Vec<Rows<'a>>) -> VortexResult<()>
+    ensures { Pushes rows_view columns.old.items result (Ok (values_of batch.now.value.items)) columns.new.items }
+{
+    columns.push(Rows::Lent(batch))?;
+    Ok(())
+}
+
+// Adds what the function gives over its children's columns.
+#[inline(never)]
+fn push_applied<'a>(
+    alloc: Global,
+    count: usize,
+    f: &'a ScalarFnRef,
+    children: &'a [BoundExpression],
+    below: Vec<Rows<'a>>,
+    columns: &mut Vec<Rows<'a>>,
+) -> VortexResult<()>
+    requires typed { IsOk (fn_type (function_of f.now) (node_types (bounds_of children.now))) }
+    requires number { length below.items ≡ length (node_types (bounds_of children.now)) }
+    requires long { AllLong count (rows_views below.items) }
+    ensures { Pushes rows_view columns.old.items result (node_answer (function_of f.now) (node_types (bounds_of children.now)) (rows_of count (rows_views below.entry.items))) columns.new.items }
+{
+    columns.push(apply(alloc, count, f, children, below)?)?;
+    Ok(())
+}
+
+// Adds the column at that place, and lets the others go.
+#[inline(never)]
+fn push_picked<'a>(
+    mut below: Vec<Rows<'a>>,
+    place: usize,
+    columns: &mut Vec<Rows<'a>>,
+) -> VortexResult<()>
+    requires { place < length below.items }
+    ensures { Pushes rows_view columns.old.items result (Ok (get_or (rows_views below.entry.items) place [])) columns.new.items }
+{
+    columns.push(below.swap_remove(place))?;
+    Ok(())
+}
+
+// The fault, after the columns so far are let go.
+#[inline(never)]
+fn refused<'a>(columns: Vec<Rows<'a>>, fault: VortexError) -> VortexResult<Vec<Rows<'a>>>
+    ensures { result ≡ Err fault }
+{
+    drop(columns);
+    Err(fault)
 }

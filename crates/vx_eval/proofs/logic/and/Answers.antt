@@ -7,15 +7,15 @@ use Rattle.vx_eval.proofs.Filled.{evaluated, given}
 use Rattle.vx_eval.proofs.Kleene.{and_told}
 use Rattle.vx_eval.proofs.logic.and.Goals as goal
 
-pub returns-in_ok-joined-in-Compared-Compared : goal.returns-in_ok-joined-in-Compared-Compared
-returns-in_ok-joined-in-Compared-Compared c = λ ts.
+pub returns-in_ok-and-in-Compared-Compared : goal.returns-in_ok-and-in-Compared-Compared
+returns-in_ok-and-in-Compared-Compared c = λ ts.
     let n = c.args.count in
     let l = rows_view c.args.lhs in
     let r = rows_view c.args.rhs in
     let first = c.in-Compared-Compared.first in
     let second = c.in-Compared-Compared.second in
     let joined =
-    c.in_ok-joined-in-Compared-Compared.ensures
+    c.in_ok-and-in-Compared-Compared.ensures
     ∙ ap (λ x. each_row (length x) (λ k. kleene_and (get_or x k null) (get_or second k null))) (sym (ap rows_view c.in-Compared-Compared.is-0))
     ∙ ap (λ y. each_row (length l) (λ k. kleene_and (get_or l k null) (get_or y k null))) (sym (ap rows_view c.in-Compared-Compared.is-1))
     ∙ ap (λ m. each_row m (λ k. kleene_and (get_or l k null) (get_or r k null))) c.requires.left in

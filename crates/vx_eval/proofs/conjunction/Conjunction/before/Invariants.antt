@@ -1,5 +1,5 @@
 use Rattle.std.proofs.Common.{◌≡◌, ◌++◌, drop}
-use Rattle.vx_eval.proofs.conjunction.Conjunction.and.Given as goal
+use Rattle.vx_eval.proofs.conjunction.Conjunction.before.Given as goal
 
 abbrev pub invariant-loop-k : goal.invariant-loop-k
 invariant-loop-k l = record {

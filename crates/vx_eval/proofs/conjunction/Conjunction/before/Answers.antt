@@ -1,7 +1,7 @@
 use Rattle.std.proofs.Common.{◌≡◌, ◌++◌, ◌∙◌, sym, ap, subst}
 use Rattle.vx_eval.specs.Items.{AllLong, conjoined}
 use Rattle.vx_eval.proofs.Conjoined.{conjoined_both, both_long, joined_all, counts_same}
-use Rattle.vx_eval.proofs.conjunction.Conjunction.and.Goals as goal
+use Rattle.vx_eval.proofs.conjunction.Conjunction.before.Goals as goal
 
 pub invariant_of-joined : goal.invariant_of-joined
 invariant_of-joined c =
