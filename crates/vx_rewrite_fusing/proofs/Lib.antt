@@ -11,5 +11,6 @@ pub mod Children
 pub mod Unique
 pub mod Linking
 pub mod Holding
-pub mod Taking
 pub mod Heading
+pub mod Chains
+pub mod Cutting

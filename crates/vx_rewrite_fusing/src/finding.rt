@@ -10,7 +10,9 @@ ghost use Rattle.vx_rewrite_fusing.specs.Conjuncts.{Fused, FusedBelow};
 ghost use Rattle.vx_rewrite_fusing.specs.Finding.{over_children, EachFusedOf, Finds, FirstChanged};
 ghost use Rattle.vx_rewrite_fusing.specs.Merging.{IsFusedOf, Merges};
 
+use crate::chain::{fused_tree, is_wide, merge_places, places_of, trees_of};
 use crate::merge::merge_root;
+use crate::nodes::{as_and, boxed};
 use std::alloc::{AllocError, Global};
 use std::rc::Rc;
 use vx_tree::{BoundExpression, VortexError, VortexResult};
@@ -67,6 +69,109 @@ pub fn find_between(alloc: Global, tree: BoundExpression) -> VortexResult<BoundE
 // what a node takes that changes is done in functions that aren't inlined.
 #[cycle(fusing)]
 fn fused(alloc: Global, b: &BoundExpression) -> VortexResult<Option<Box<BoundExpression>>>
+    requires { WellTyped (bound_of b.now) }
+    ensures { Finds (Fused (bound_of b.now)) (λ u. IsFusedOf (bound_of b.now) (bound_of u.value)) result }
+{
+    if is_wide(b) {
+        fused_chain(alloc, b)
+    } else {
+        fused_node(alloc, b)
+    }
+}
+
+// The same for a chain of Ands, by the items of its ranges. Where there is no memory for a list of its
+// trees nothing is lost: the Ands are gone through one by one.
+#[cycle(fusing)]
+#[inline(never)]
+fn fused_chain(alloc: Global, b: &BoundExpression) -> VortexResult<Option<Box<BoundExpression>>>
+    requires { WellTyped (bound_of b.now) }
+    ensures { Finds (Fused (bound_of b.now)) (λ u. IsFusedOf (bound_of b.now) (bound_of u.value)) result }
+{
+    let Ok(trees) = trees_of(alloc, b) else {
+        return fused_node(alloc, b);
+    };
+    let Ok(room) = Vec::with_capacity(alloc, trees.len()) else {
+        return fused_node(alloc, b);
+    };
+    let found = fused_each(alloc, trees.as_slice(), room)?;
+    merged_chain(alloc, b, found.as_slice())
+}
+
+// What is fused of each of the trees, in a list that has room for all.
+#[cycle(fusing)]
+#[inline(never)]
+fn fused_each(
+    alloc: Global,
+    trees: &[&BoundExpression],
+    mut found: Vec<Option<Box<BoundExpression>>>,
+) -> VortexResult<Vec<Option<Box<BoundExpression>>>>
+    requires typed { EachTyped (map (λ x. bound_of x.now) trees.now) }
+    requires empty { vec_len found ≡ 0 }
+    requires room { length trees.now ≤ vec_capacity found }
+    ensures found { IfOk result (λ v. EachFound (map (λ x. bound_of x.now) trees.now) v.items) }
+    ensures err { IfErr result (λ e. (AllFused (map (λ x. bound_of x.now) trees.now) → ⊥) × (e ≡ OutOfMemory)) }
+{
+    for tree in trees {
+        found.push_reserved(fused(alloc, tree)?);
+    }
+    Ok(found)
+}
+
+// The chain over its fused trees, with the pairs of its Ands merged: by their items, or by a search
+// where there is no memory for an index, so that a tree without a pair is never refused.
+#[inline(never)]
+fn merged_chain(
+    alloc: Global,
+    b: &BoundExpression,
+    found: &[Option<Box<BoundExpression>>],
+) -> VortexResult<Option<Box<BoundExpression>>>
+    requires typed { WellTyped (bound_of b.now) }
+    requires chain { IsChain (bound_of b.now) found.now }
+    ensures { Finds (Fused (bound_of b.now)) (λ u. IsFusedOf (bound_of b.now) (bound_of u.value)) result }
+{
+    match places_of(alloc, b, found) {
+        Ok(places) => merge_places(alloc, places, b, found),
+        Err(AllocError) => search_chain(alloc, b, found),
+    }
+}
+
+// The same by a search at each of the Ands.
+fn search_chain(
+    alloc: Global,
+    b: &BoundExpression,
+    found: &[Option<Box<BoundExpression>>],
+) -> VortexResult<Option<Box<BoundExpression>>>
+    requires typed { WellTyped (bound_of b.now) }
+    requires chain { IsChain (bound_of b.now) found.now }
+    ensures { Finds (Fused (bound_of b.now)) (λ u. IsFusedOf (bound_of b.now) (bound_of u.value)) result }
+{
+    let (last, earlier) = found.split_first().unwrap();
+    let Some((l, r)) = as_and(b) else {
+        return copy_of(alloc, last);
+    };
+    let left = search_chain(alloc, l, earlier)?;
+    if left.is_none() && last.is_none() {
+        return merge_root(alloc, b);
+    }
+    let children = vec![in alloc; fused_tree(l, &left).clone()?, fused_tree(r, last).clone()?]?;
+    Ok(Some(fused_over(alloc, b, children)?))
+}
+
+// A copy of the tree, if there is one.
+fn copy_of(
+    alloc: Global,
+    found: &Option<Box<BoundExpression>>,
+) -> VortexResult<Option<Box<BoundExpression>>>
+{
+    match found {
+        Some(tree) => Ok(Some(boxed(alloc, tree)?)),
+        None => Ok(None),
+    }
+}
+
+// The same for a node by its children, one after another.
+#[cycle(fusing)]
+fn fused_node(alloc: Global, b: &BoundExpression) -> VortexResult<Option<Box<BoundExpression>>>
     requires { WellTyped (bound_of b.now) }
     ensures { Finds (Fused (bound_of b.now)) (λ u. IsFusedOf (bound_of b.now) (bound_of u.value)) result }
 {
