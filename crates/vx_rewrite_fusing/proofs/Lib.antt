@@ -14,3 +14,4 @@ pub mod Holding
 pub mod Heading
 pub mod Chains
 pub mod Cutting
+pub mod Standing

@@ -264,7 +264,7 @@ abbrev pub EndsNoted : List Place → BoundTree → Type 0
 EndsNoted all over = (back : List Place) × (ps : List Place) × (all ≡ back ++ ps) × IsNoted over ps
 
 -- the pairs of each And of a chain are merged
-pub record ChainMerged (all back ps : List Place) (b over : BoundTree) : Type 0 where
+pub record ChainMerged (all back : List Place) (b over : BoundTree) : Type 0 where
   pub left : List Place
   pub tree : BoundTree
   pub parts : all ≡ back ++ left
@@ -273,6 +273,6 @@ pub record ChainMerged (all back ps : List Place) (b over : BoundTree) : Type 0 
   pub stays : Fused b → has_merged left ≡ false
   pub apart : NoPair left left
 
-abbrev pub ChainMerges : List Place → List Place → List Place → BoundTree → BoundTree → Result ℕ VortexError → Type 0
-ChainMerges all back ps b over (Ok begin) = ChainMerged all back ps b over
-ChainMerges all back ps b over (Err e) = (Fused b → ⊥) × (e ≡ OutOfMemory)
+abbrev pub ChainMerges : List Place → List Place → BoundTree → BoundTree → Result ℕ VortexError → Type 0
+ChainMerges all back b over (Ok begin) = ChainMerged all back b over
+ChainMerges all back b over (Err e) = (Fused b → ⊥) × (e ≡ OutOfMemory)

@@ -1,6 +1,6 @@
 // Chains of Ands, `((a and b) and c) and d`: the trees between the Ands, and the pairs of each And
 // merged by the items of their ranges, so that each conjunct costs one look-up.
-ghost use Rattle.std.specs.Prelude.{◌≡◌, ◌+◌, ◌||◌, List, [], ◌∷◌, ◌++◌, None, Ok, Some, IfErr, IfOk, MatchOption, OnOk, length, map, option_map};
+ghost use Rattle.std.specs.Prelude.{◌≡◌, ◌+◌, ◌||◌, List, [], ◌∷◌, ◌++◌, None, Ok, Some, IfErr, IfOk, MatchOption, OnOk, false, length, map, option_map};
 ghost use Rattle.vx_dtype.specs.declared.error.VortexError.TheVariants.{OutOfMemory};
 ghost use Rattle.vx_tree.specs.Trees.{BoundTree, WellTyped};
 ghost use Rattle.vx_tree.specs.Views.{bound_of};
