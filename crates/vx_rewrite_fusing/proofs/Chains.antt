@@ -1,4 +1,4 @@
--- Chains of Ands over their fused trees, and the pairs of each And merged.
+-- Ands in which nothing is merged yet.
 use Rattle.std.proofs.Common.{◌≡◌, ◌⊎◌, inl, inr, ℕ, zero, suc, ◌<◌, ◌≤◌, ◌+◌, List, [], ◌∷◌, ◌++◌, length, refl, sym, subst, ap, ◌∙◌, Bool, true, false, ◌||◌, arith, append_assoc, length-append}
 use Rattle.std.specs.Prelude.{Option, Some, None, Result, Ok, Err, IsFalse, IsTrue, option_map}
 use Rattle.std.specs.declared.alloc.Global.{Global}
@@ -43,8 +43,8 @@ unmerged_stays (both {t = t} {l = l} {r = r} {l' = l'} {r' = r'} {ls = ls} {rs =
     either_false false b f = (refl, f)
 
 -- the places of the children of an And in which nothing is merged: those of the left, and those of the right one in front of them
-pub noted_parts : {x y r : BoundTree} {rs : List Place} → IsBinary and_also x y r → WellTyped r → IsNoted r rs → (lefts : List Place) × (rights : List Place) × (rs ≡ rights ++ lefts) × IsNoted x lefts × IsNoted y rights × (length rights ≡ length (conjuncts y))
-noted_parts {x = x} {y = y} {rs = rs} b w noted =
+pub noted_split : {x y r : BoundTree} {rs : List Place} → IsBinary and_also x y r → IsNoted r rs → (lefts : List Place) × (rights : List Place) × (rs ≡ rights ++ lefts) × IsNoted x lefts × IsNoted y rights × (length rights ≡ length (conjuncts y))
+noted_split {x = x} {y = y} {rs = rs} b noted =
     let p = both_places b noted.0 in
     let e : (has_merged p.rights || has_merged p.lefts) ≡ false = sym (merged_append p.rights p.lefts) ∙ (ap has_merged (sym p.parts) ∙ noted.1) in
     let f = either_false (has_merged p.rights) (has_merged p.lefts) e in

@@ -15,3 +15,4 @@ pub mod Heading
 pub mod Chains
 pub mod Cutting
 pub mod Standing
+pub mod Along

@@ -13,7 +13,7 @@ use Rattle.vx_rewrite_fusing.specs.Conjuncts.{and_node, and_of, is_and, conjunct
 use Rattle.vx_rewrite_fusing.specs.Finding.{range_seen, joined, IsBinary, PairsMerged, with_pairs, without_pairs}
 use Rattle.vx_rewrite_fusing.specs.Places.{turned, Bounded, bounded_by, has_merged, BecomesBy, Has, Holds, no_range, open_range, merged_range, gone_range, both, IsCut, IsNoted, IsStanding, IsWithin, MergedAt, at_stays, at_merged, MergesAt, NoPair, RightMerged, RightMerges, Takes, takes_none, takes_some, TreesMerged}
 use Rattle.vx_rewrite_fusing.proofs.Ands.{and_parts_of}
-use Rattle.vx_rewrite_fusing.proofs.Chains.{typed_and, noted_parts}
+use Rattle.vx_rewrite_fusing.proofs.Chains.{typed_and, noted_split}
 use Rattle.vx_rewrite_fusing.proofs.Found.{no_range_none, none_with_left, none_with_right, right_none, right_none_single, right_single, single_none}
 use Rattle.vx_rewrite_fusing.proofs.Holding.{has_first, has_second, has_either, holds_none, merged_append, turned_back}
 use Rattle.vx_rewrite_fusing.proofs.Merges.{alone, either}
@@ -156,7 +156,7 @@ module _ {all back rs mid ls : List Place} {x y r : BoundTree} {at start : ℕ} 
 
   noted_second : WellTyped r → IsNoted r rs → IsNoted x firsts × IsNoted y seconds
   noted_second w noted =
-      let p = noted_parts b w noted in
+      let p = noted_split b noted in
       let same = same_split p.1 seconds p.0 firsts (sym p.2 ∙ split.0) (p.5 ∙ sym split.1) in
       (subst (IsNoted x) same.1 p.3, subst (IsNoted y) same.0 p.4)
 
