@@ -97,7 +97,7 @@ chained_and c cs p = ap (λ z. chained z (c ∷ cs)) p.1
 and_parts : {l r b : BoundTree} → IsBinary and_also l r b → WellTyped b → WellTyped l × WellTyped r
 and_parts {l = l} {r = r} p w = let q = and_parts_of p.0 l r (subst WellTyped p.1 w) in (q.left, q.right)
 
-and_or : (b : BoundTree) → ((l : BoundTree) × (r : BoundTree) × IsBinary and_also l r b) ⊎ (is_and b ≡ false)
+pub and_or : (b : BoundTree) → ((l : BoundTree) × (r : BoundTree) × IsBinary and_also l r b) ⊎ (is_and b ≡ false)
 and_or (node t (binary and_also) (bound l (bound r no_bound))) = inl (l, r, (t, refl))
 and_or _ = inr refl
 
@@ -265,3 +265,6 @@ one_conjunct b c cs e f =
 -- where the places of what its left child became begin
 pub chain_count : {all : List Place} {over : BoundTree} {start : ℕ} (back lefts : List Place) → all ≡ back ++ lefts → IsNoted over lefts → start + length (conjuncts over) ≡ length all → start ≡ length back
 chain_count back lefts e noted s = omega (arith, s, ap length e, length-append back lefts, holds_count noted.0)
+
+pub end_noted : (b : BoundTree) (c : Found) (cs : List Found) (ps : List Place) → WellTyped b → is_and b ≡ false → IsChain b (c ∷ cs) → (WellTyped (tree_or b c) → IsNoted (tree_or b c) ps) → IsNoted (chained b (c ∷ cs)) ps
+end_noted b c cs ps w e f h = subst (λ z. IsNoted z ps) (sym (chained_alone b c cs e)) (h (found_typed b c w (found_single b c cs e f).0).0)

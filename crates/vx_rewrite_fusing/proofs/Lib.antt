@@ -16,3 +16,4 @@ pub mod Chains
 pub mod Cutting
 pub mod Standing
 pub mod Along
+pub mod Telling
