@@ -17,3 +17,4 @@ pub mod Cutting
 pub mod Standing
 pub mod Along
 pub mod Telling
+pub mod Wide

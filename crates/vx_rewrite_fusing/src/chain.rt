@@ -1,10 +1,10 @@
 // Chains of Ands, `((a and b) and c) and d`: the trees between the Ands, and the pairs of each And
 // merged by the items of their ranges, so that each conjunct costs one look-up.
-ghost use Rattle.std.specs.Prelude.{◌≡◌, ◌+◌, ◌||◌, List, [], ◌∷◌, ◌++◌, None, Ok, Some, IfErr, IfOk, MatchOption, OnOk, false, length, map, option_map};
+ghost use Rattle.std.specs.Prelude.{◌≡◌, ◌+◌, ◌||◌, IsTrue, List, [], ◌∷◌, ◌++◌, None, Ok, Some, IfErr, IfOk, MatchOption, OnOk, false, length, map, option_map};
 ghost use Rattle.vx_dtype.specs.declared.error.VortexError.TheVariants.{OutOfMemory};
 ghost use Rattle.vx_tree.specs.Trees.{BoundTree, WellTyped};
 ghost use Rattle.vx_tree.specs.Views.{bound_of};
-ghost use Rattle.vx_rewrite_fusing.specs.Conjuncts.{conjuncts, Fused};
+ghost use Rattle.vx_rewrite_fusing.specs.Conjuncts.{conjuncts, is_and, Fused};
 ghost use Rattle.vx_rewrite_fusing.specs.Finding.{Finds, tree_in};
 ghost use Rattle.vx_rewrite_fusing.specs.Finding as spec;
 ghost use Rattle.vx_rewrite_fusing.specs.Merging.{IsFusedOf};
@@ -21,7 +21,9 @@ use vx_tree::{BoundExpression, VortexResult};
 const WIDE: usize = 8;
 
 // Whether the tree is an And whose left child has many conjuncts.
-pub(crate) fn is_wide(b: &BoundExpression) -> bool {
+pub(crate) fn is_wide(b: &BoundExpression) -> bool
+    ensures { IsTrue result → IsTrue (is_and (bound_of b.now)) }
+{
     match as_and(b) {
         Some((l, _)) => conjuncts_in(l, WIDE) >= WIDE,
         None => false,

@@ -1,14 +1,15 @@
 // The whole of range fusing: children first, then the pairs at the root.
-ghost use Rattle.std.specs.Prelude.{◌≡◌, ℕ, List, ◌∷◌, ◌++◌, [], Ok, IfErr, IfOk, MatchOption};
+ghost use Rattle.std.specs.Prelude.{◌≡◌, ◌≤◌, ℕ, All, IsTrue, List, ◌∷◌, ◌++◌, [], Ok, IfErr, IfOk, MatchOption, MatchResult, length, map, vec_capacity, vec_len};
 ghost use Rattle.vx_dtype.specs.declared.error.VortexError.TheVariants.{OutOfMemory};
 ghost use Rattle.vx_rewrite_keep.specs.Keeps.{Keeps};
 ghost use Rattle.vx_tree.specs.Nodes.{bound_children_of};
-ghost use Rattle.vx_tree.specs.Trees.{node_type, EachWellTyped, WellTyped};
+ghost use Rattle.vx_tree.specs.Trees.{node_type, BoundTree, EachWellTyped, WellTyped};
 ghost use Rattle.vx_tree.specs.Views.{bound_of, bounds_of};
 ghost use Rattle.vx_tree.specs.declared.bound.BoundExpression.{BoundExpression};
-ghost use Rattle.vx_rewrite_fusing.specs.Conjuncts.{Fused, FusedBelow};
-ghost use Rattle.vx_rewrite_fusing.specs.Finding.{over_children, EachFusedOf, Finds, FirstChanged};
+ghost use Rattle.vx_rewrite_fusing.specs.Conjuncts.{is_and, two_bounds, Fused, FusedBelow};
+ghost use Rattle.vx_rewrite_fusing.specs.Finding.{over_children, tree_in, EachFusedOf, Finds, FirstChanged};
 ghost use Rattle.vx_rewrite_fusing.specs.Merging.{IsFusedOf, Merges};
+ghost use Rattle.vx_rewrite_fusing.specs.Places.{EachFound, IsChain};
 
 use crate::chain::{fused_tree, is_wide, merge_places, places_of, trees_of};
 use crate::merge::merge_root;
@@ -84,7 +85,8 @@ fn fused(alloc: Global, b: &BoundExpression) -> VortexResult<Option<Box<BoundExp
 #[cycle(fusing)]
 #[inline(never)]
 fn fused_chain(alloc: Global, b: &BoundExpression) -> VortexResult<Option<Box<BoundExpression>>>
-    requires { WellTyped (bound_of b.now) }
+    requires typed { WellTyped (bound_of b.now) }
+    requires chain { IsTrue (is_and (bound_of b.now)) }
     ensures { Finds (Fused (bound_of b.now)) (λ u. IsFusedOf (bound_of b.now) (bound_of u.value)) result }
 {
     let Ok(trees) = trees_of(alloc, b) else {
@@ -105,11 +107,11 @@ fn fused_each(
     trees: &[&BoundExpression],
     mut found: Vec<Option<Box<BoundExpression>>>,
 ) -> VortexResult<Vec<Option<Box<BoundExpression>>>>
-    requires typed { EachTyped (map (λ x. bound_of x.now) trees.now) }
+    requires typed { All WellTyped (map (λ x. bound_of x.now) trees.now) }
     requires empty { vec_len found ≡ 0 }
     requires room { length trees.now ≤ vec_capacity found }
     ensures found { IfOk result (λ v. EachFound (map (λ x. bound_of x.now) trees.now) v.items) }
-    ensures err { IfErr result (λ e. (AllFused (map (λ x. bound_of x.now) trees.now) → ⊥) × (e ≡ OutOfMemory)) }
+    ensures err { IfErr result (λ e. (All Fused (map (λ x. bound_of x.now) trees.now) → ⊥) × (e ≡ OutOfMemory)) }
 {
     for tree in trees {
         found.push_reserved(fused(alloc, tree)?);
@@ -147,21 +149,37 @@ fn search_chain(
 {
     let (last, earlier) = found.split_first().unwrap();
     let Some((l, r)) = as_and(b) else {
-        return copy_of(alloc, last);
+        return Ok(copy_of(alloc, last)?);
     };
     let left = search_chain(alloc, l, earlier)?;
     if left.is_none() && last.is_none() {
         return merge_root(alloc, b);
     }
-    let children = vec![in alloc; fused_tree(l, &left).clone()?, fused_tree(r, last).clone()?]?;
+    let children = two(alloc, fused_tree(l, &left), fused_tree(r, last))?;
     Ok(Some(fused_over(alloc, b, children)?))
+}
+
+// The two trees in a list.
+#[inline(never)]
+fn two(
+    alloc: Global,
+    l: &BoundExpression,
+    r: &BoundExpression,
+) -> Result<Vec<BoundExpression>, AllocError>
+    ensures { IfOk result (λ v. bounds_of v.items ≡ two_bounds (bound_of l.now) (bound_of r.now)) }
+{
+    let mut trees = Vec::with_capacity(alloc, 2)?;
+    trees.push(l.clone()?)?;
+    trees.push(r.clone()?)?;
+    Ok(trees)
 }
 
 // A copy of the tree, if there is one.
 fn copy_of(
     alloc: Global,
     found: &Option<Box<BoundExpression>>,
-) -> VortexResult<Option<Box<BoundExpression>>>
+) -> Result<Option<Box<BoundExpression>>, AllocError>
+    ensures { (b : BoundTree) → Finds (Fused b) (λ u. IsFusedOf b (tree_in u)) (Ok found.now) → MatchResult result (λ o. Finds (Fused b) (λ u. IsFusedOf b (tree_in u)) (Ok o)) (λ e. Fused b → ⊥) }
 {
     match found {
         Some(tree) => Ok(Some(boxed(alloc, tree)?)),

@@ -7,7 +7,7 @@ use Rattle.vx_rewrite_fusing.proofs.chain.trees_of.Given as goal
 
 -- the trees so far are followed by those of the rest
 abbrev pub invariant-loop-l : goal.invariant-loop-l
-invariant-loop-l l = chain_trees (bound_of l.b.now) ≡ map (λ x. bound_of x.now) l.trees.items ++ chain_trees (bound_of l.rest.now)
+invariant-loop-l l = chain_trees (bound_of l.b) ≡ map (λ x. bound_of x.now) l.trees.items ++ chain_trees (bound_of l.rest)
 
 abbrev pub decreases-loop-l : goal.decreases-loop-l
-decreases-loop-l l = size_of (unbound (bound_of l.rest.now))
+decreases-loop-l l = size_of (unbound (bound_of l.rest))

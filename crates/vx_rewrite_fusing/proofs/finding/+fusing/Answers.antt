@@ -10,8 +10,8 @@ use Rattle.vx_rewrite_fusing.proofs.Children.{children_typed, children_fused, fu
 use Rattle.vx_rewrite_fusing.proofs.Refusals.{failed, spent}
 use Rattle.vx_rewrite_fusing.proofs.finding.+fusing.Goals as goal
 
-pub fused-fused-requires : goal.fused-fused-requires
-fused-fused-requires t c =
+pub fused_node-fused-requires : goal.fused_node-fused-requires
+fused_node-fused-requires t c =
     let b = bound_of c.args.b.now in
     let xs = c.children-children.result.now in
     let x = c.index-children-i.result in
@@ -19,33 +19,33 @@ fused-fused-requires t c =
     let typed : WellTyped (bound_of x) = item_typed xs c.loop-i.i x (omega arith) c.index-children-i.is each in
     let less = item_smaller xs c.loop-i.i x (omega arith) c.index-children-i.is in
     let below : sizes_of (unbound_each (bounds_of xs)) < size_of (unbound b) = rw c.children-children.ensures.trees (children_smaller b) in
-    let smaller : 3 * size_of (unbound (bound_of x)) + 1 < 3 * size_of (unbound b) + 1 = omega arith in
+    let smaller : 8 * size_of (unbound (bound_of x)) + 3 < 8 * size_of (unbound b) + 1 = omega arith in
     search rules
 
-pub fused-returns-in_err-changed : goal.fused-returns-in_err-changed
-fused-returns-in_err-changed t c =
+pub fused_node-returns-in_err-changed : goal.fused_node-returns-in_err-changed
+fused_node-returns-in_err-changed t c =
     let p = c.in_err-changed.ensures in
     let same : c.from_residual.result ≡ Err c.in_err-changed.field-0.0 = search rules in
     failed _ _ same p.1 (λ f. p.0 (item_fused c.children-children.result.now c.loop-i.i c.index-children-i.result (omega arith) c.index-children-i.is (rw c.children-children.ensures.trees (fused_children (bound_of c.args.b.now) f))))
 
-pub fused-fused_from-requires : goal.fused-fused_from-requires
-fused-fused_from-requires t c =
+pub fused_node-fused_from-requires : goal.fused_node-fused_from-requires
+fused_node-fused_from-requires t c =
     let b = bound_of c.args.b.now in
     let p = rw c.in-Some.is at c.in_ok-changed.ensures in
     let first : FirstChanged (bound_children_of b) c.loop-i.i (bound_of c.in-Some.changed.value) =
     rw (← c.children-children.ensures.trees) (first_changed c.children-children.result.now c.loop-i.i c.index-children-i.result (omega arith) c.index-children-i.is c.loop-i.invariant p.0 p.1) in
-    let smaller : 3 * size_of (unbound b) < 3 * size_of (unbound b) + 1 = omega arith in
+    let smaller : 8 * size_of (unbound b) < 8 * size_of (unbound b) + 1 = omega arith in
     search rules
 
-pub fused-loop-i-preserved : goal.fused-loop-i-preserved
-fused-loop-i-preserved t c =
+pub fused_node-loop-i-preserved : goal.fused_node-loop-i-preserved
+fused_node-loop-i-preserved t c =
     let x = c.index-children-i.result in
     let xs = c.children-children.result.now in
     rw (bounds_of-take_more xs c.loop-i.i x (omega arith) c.index-children-i.is)
     (all_fused (bounds_of (take c.loop-i.i xs)) (bound_of x) c.loop-i.invariant (rw c.in_default.is at c.in_ok-changed.ensures))
 
-pub fused-merge_root-requires : goal.fused-merge_root-requires
-fused-merge_root-requires t c =
+pub fused_node-merge_root-requires : goal.fused_node-merge_root-requires
+fused_node-merge_root-requires t c =
     let each : EachFused (bounds_of c.children-children.result.now) = rw (take_all c.loop-i.i c.children-children.result.now (omega arith)) at c.loop-i.invariant in
     children_fused (bound_of c.args.b.now) (rw (← c.children-children.ensures.trees) each)
 
@@ -85,7 +85,7 @@ fused_from-fused_rest-requires t c =
     let typed : EachWellTyped (bounds_of (take (length xs - n) (drop n xs))) = rw rest (drop_typed n xs each) in
     let less = drop_smaller n xs in
     let below : sizes_of (unbound_each (bounds_of xs)) < size_of (unbound b) = rw c.children-children.ensures.trees (children_smaller b) in
-    let smaller : 3 * sizes_of (unbound_each (bounds_of (take (length xs - n) (drop n xs)))) + 2 < 3 * size_of (unbound b) = rw rest (omega arith) in
+    let smaller : 8 * sizes_of (unbound_each (bounds_of (take (length xs - n) (drop n xs)))) + 4 < 8 * size_of (unbound b) = rw rest (omega arith) in
     search rules
 
 pub fused_from-returns-in_err-front : goal.fused_from-returns-in_err-front
@@ -127,7 +127,7 @@ fused_rest-fused-requires t c =
     let x = c.child-item.result in
     let typed : WellTyped (bound_of x) = item_typed xs c.loop-child.child-index x (omega arith) c.child-item.is c.requires in
     let less = item_smaller xs c.loop-child.child-index x (omega arith) c.child-item.is in
-    let smaller : 3 * size_of (unbound (bound_of x)) + 1 < 3 * sizes_of (unbound_each (bounds_of xs)) + 2 = omega arith in
+    let smaller : 8 * size_of (unbound (bound_of x)) + 3 < 8 * sizes_of (unbound_each (bounds_of xs)) + 4 = omega arith in
     search rules
 
 pub fused_rest-loop-child-preserved : goal.fused_rest-loop-child-preserved
