@@ -1,4 +1,4 @@
-use Rattle.std.proofs.Common.{rules, ◌≡◌, suc, ◌<◌, ◌+◌, ◌-◌, ◌*◌, arith, length, take, drop, [], ◌∷◌, ◌++◌, Err, refl, sym}
+use Rattle.std.proofs.Common.{rules, ◌≡◌, map, subst, ap, ◌∙◌, suc, ◌<◌, ◌+◌, ◌-◌, ◌*◌, arith, length, take, drop, [], ◌∷◌, ◌++◌, Err, refl, sym}
 use Rattle.std.proofs.lemmas.List.{append-nil, append_assoc, length-take-le, take_rest, take_all}
 use Rattle.vx_dtype.specs.declared.error.VortexError.TheVariants.{OutOfMemory}
 use Rattle.vx_tree.specs.Nodes.{bound_children_of, size_of, sizes_of}
@@ -8,6 +8,11 @@ use Rattle.vx_rewrite_fusing.specs.Conjuncts.{EachFused}
 use Rattle.vx_rewrite_fusing.specs.Finding.{EachFusedOf, none_fused, FirstChanged}
 use Rattle.vx_rewrite_fusing.proofs.Children.{children_typed, children_fused, fused_children, children_smaller, bounds_of-append, bounds_of-take_more, all_fused, each_joined, item_fused, item_typed, item_smaller, first_changed, changed_inside, changed_unfused, drop_typed, drop_smaller, each_from, with_more, put_fused}
 use Rattle.vx_rewrite_fusing.proofs.Refusals.{failed, spent}
+use Rattle.std.specs.Prelude.{All}
+use Rattle.vx_tree.specs.Trees.{BoundTree}
+use Rattle.vx_rewrite_fusing.specs.Conjuncts.{Fused}
+use Rattle.vx_rewrite_fusing.specs.Places.{chain_trees}
+use Rattle.vx_rewrite_fusing.proofs.Wide.{chain_fused, chain_smaller, chain_typed, found_there, size_there, sizes, there}
 use Rattle.vx_rewrite_fusing.proofs.finding.+fusing.Goals as goal
 
 pub fused_node-fused-requires : goal.fused_node-fused-requires
@@ -143,3 +148,41 @@ pub fused_rest-returns-clause-fused : goal.fused_rest-returns-clause-fused
 fused_rest-returns-clause-fused t c =
     let done = c.loop-child.invariant in
     (done.0, done.1, rw (take_all c.loop-child.child-index c.args.rest.now (omega arith)) at done.2)
+
+pub fused_chain-fused_each-requires : goal.fused_chain-fused_each-requires
+fused_chain-fused_each-requires t c =
+    let b = bound_of c.args.b.now in
+    let same : map (λ x. bound_of x.now) c.as_slice.result.now ≡ chain_trees b = ap (map (λ x. bound_of x.now)) c.as_slice.ensures.value ∙ c.in-Ok.ensures in
+    let typed : All WellTyped (map (λ x. bound_of x.now) c.as_slice.result.now) = subst (All WellTyped) (sym same) (chain_typed b c.requires.typed) in
+    let below : sizes (map (λ x. bound_of x.now) c.as_slice.result.now) < size_of (unbound b) = rw same (chain_smaller b c.requires.chain) in
+    let smaller : 8 * sizes (map (λ x. bound_of x.now) c.as_slice.result.now) + 4 < 8 * size_of (unbound b) + 2 = omega arith in
+    search rules
+
+pub fused_chain-returns-in_err-found : goal.fused_chain-returns-in_err-found
+fused_chain-returns-in_err-found t c =
+    let b = bound_of c.args.b.now in
+    let same : map (λ x. bound_of x.now) c.as_slice.result.now ≡ chain_trees b = ap (map (λ x. bound_of x.now)) c.as_slice.ensures.value ∙ c.in-Ok.ensures in
+    let err = c.in_err-found.ensures.err in
+    let is : c.from_residual.result ≡ Err c.in_err-found.field-0.0 = search rules in
+    failed _ _ is err.1 (λ f. err.0 (subst (All Fused) (sym same) (chain_fused b f)))
+
+pub fused_each-fused-requires : goal.fused_each-fused-requires
+fused_each-fused-requires t c =
+    let x = c.tree-item.result in
+    let typed : WellTyped (bound_of x.now) = there WellTyped c.args.trees.now c.loop-tree.tree-index x (omega arith) c.tree-item.is c.requires.typed in
+    let less = size_there c.args.trees.now c.loop-tree.tree-index x (omega arith) c.tree-item.is in
+    let smaller : 8 * size_of (unbound (bound_of x.now)) + 3 < 8 * sizes (map (λ z. bound_of z.now) c.args.trees.now) + 4 = omega arith in
+    search rules
+
+pub fused_each-returns-in_err-fused-clause-err : goal.fused_each-returns-in_err-fused-clause-err
+fused_each-returns-in_err-fused-clause-err t c =
+    let x = c.tree-item.result in
+    let err = c.in_err-fused.ensures in
+    let is : c.from_residual.result ≡ Err c.in_err-fused.field-0.0 = search rules in
+    rw is (λ f. err.0 (there Fused c.args.trees.now c.loop-tree.tree-index x (omega arith) c.tree-item.is f), err.1)
+
+pub fused_each-loop-tree-preserved : goal.fused_each-loop-tree-preserved
+fused_each-loop-tree-preserved t c =
+    let x = c.tree-item.result in
+    let more = found_there c.args.trees.now c.loop-tree.tree-index x c.loop-tree.found.items c.in_ok-fused.field-0 (omega arith) c.tree-item.is c.loop-tree.invariant.0 c.in_ok-fused.ensures in
+    (rw c.push_reserved.ensures.items more, search rules, search rules)
