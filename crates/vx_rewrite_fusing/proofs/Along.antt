@@ -1,21 +1,21 @@
 -- Chains of Ands over their fused trees, and the pairs of each And merged.
-use Rattle.std.proofs.Common.{◌≡◌, ◌⊎◌, inl, inr, ℕ, zero, suc, ◌<◌, ◌≤◌, ◌+◌, List, [], ◌∷◌, ◌++◌, length, refl, sym, subst, ap, ◌∙◌, Bool, true, false, ◌||◌, arith, append_assoc, length-append}
-use Rattle.std.specs.Prelude.{Option, Some, None, Result, Ok, Err, IsFalse, IsTrue, option_map}
+use Rattle.std.proofs.Common.{◌≡◌, ◌⊎◌, inl, inr, ℕ, ◌+◌, List, [], ◌∷◌, ◌++◌, length, refl, sym, subst, ap, ◌∙◌, Bool, true, false, arith, append_assoc, length-append}
+use Rattle.std.specs.Prelude.{Option, Some, None, Result, Ok, Err}
 use Rattle.std.proofs.lemmas.List.{append-nil}
 use Rattle.std.specs.declared.alloc.Global.{Global}
 use Rattle.std.specs.declared.boxed.Box.{Box}
 use Rattle.vx_dtype.specs.declared.error.VortexError.{VortexError}
 use Rattle.vx_dtype.specs.declared.error.VortexError.TheVariants.{OutOfMemory}
-use Rattle.vx_value.specs.Types.{LogicalType, is_nullable}
-use Rattle.vx_fn.specs.Functions.{Function, binary, and_also, truth_type}
-use Rattle.vx_tree.specs.Trees.{BoundTree, scope, node, BoundTrees, no_bound, bound, node_type, WellTyped}
+use Rattle.vx_value.specs.Types.{LogicalType}
+use Rattle.vx_fn.specs.Functions.{Function, binary, and_also}
+use Rattle.vx_tree.specs.Trees.{BoundTree, node, BoundTrees, no_bound, bound, node_type, WellTyped}
 use Rattle.vx_tree.specs.declared.bound.BoundExpression.{BoundExpression}
 use Rattle.vx_rewrite_keep.specs.Steps.{Step, OneStep, here, below, this_one, later_one, no_step, one_more}
 use Rattle.vx_rewrite_fusing.specs.declared.places.Place.{Place}
 use Rattle.vx_rewrite_fusing.specs.Conjuncts.{and_node, and_of, is_and, conjuncts, Fused, NoneMergeable}
-use Rattle.vx_rewrite_fusing.specs.Finding.{tree_in, joined, Finds, IsBinary, PairsMerged, more_fused, none_fused}
+use Rattle.vx_rewrite_fusing.specs.Finding.{tree_in, joined, Finds, IsBinary, more_fused, none_fused}
 use Rattle.vx_rewrite_fusing.specs.Merging.{IsFusedOf, MergeAt, right_stays, right_goes, Merges}
-use Rattle.vx_rewrite_fusing.specs.Places.{chain_trees, chained, has_merged, some_found, tree_or, ChainMerged, ChainMerges, EachFound, EndsNoted, Holds, both, IsChain, IsNoted, IsStanding, NoPair, RightMerged, RightMerges, Takes, takes_none, takes_some}
+use Rattle.vx_rewrite_fusing.specs.Places.{chain_trees, chained, has_merged, tree_or, ChainMerged, ChainMerges, EachFound, Holds, both, IsChain, IsNoted, IsStanding, RightMerged, RightMerges, Takes, takes_none, takes_some}
 use Rattle.vx_rewrite_fusing.proofs.Ands.{AndParts, and_parts_of}
 use Rattle.vx_rewrite_fusing.proofs.Chains.{noted_split}
 use Rattle.vx_rewrite_fusing.proofs.Children.{IsFusedBelow, already_fused, itself_fused, over_fused, then_fused}

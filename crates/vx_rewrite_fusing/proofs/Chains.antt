@@ -1,17 +1,12 @@
 -- Ands in which nothing is merged yet.
-use Rattle.std.proofs.Common.{◌≡◌, ◌⊎◌, inl, inr, ℕ, zero, suc, ◌<◌, ◌≤◌, ◌+◌, List, [], ◌∷◌, ◌++◌, length, refl, sym, subst, ap, ◌∙◌, Bool, true, false, ◌||◌, arith, append_assoc, length-append}
-use Rattle.std.specs.Prelude.{Option, Some, None, Result, Ok, Err, IsFalse, IsTrue, option_map}
-use Rattle.std.specs.declared.alloc.Global.{Global}
-use Rattle.std.specs.declared.boxed.Box.{Box}
-use Rattle.vx_value.specs.Types.{LogicalType, is_nullable}
-use Rattle.vx_fn.specs.Functions.{and_also, truth_type}
-use Rattle.vx_tree.specs.Trees.{BoundTree, node_type, WellTyped}
-use Rattle.vx_tree.specs.Views.{bound_of}
-use Rattle.vx_tree.specs.declared.bound.BoundExpression.{BoundExpression}
+use Rattle.std.proofs.Common.{◌≡◌, List, ◌++◌, length, refl, sym, subst, ap, ◌∙◌, Bool, true, false, ◌||◌}
+use Rattle.std.specs.Prelude.{Option, Some}
+use Rattle.vx_value.specs.Types.{LogicalType}
+use Rattle.vx_fn.specs.Functions.{and_also}
+use Rattle.vx_tree.specs.Trees.{BoundTree, WellTyped}
 use Rattle.vx_rewrite_fusing.specs.declared.places.Place.{Place}
-use Rattle.vx_rewrite_fusing.specs.Conjuncts.{and_node, and_of, is_and, conjuncts, NoneMergeable, Fused}
-use Rattle.vx_rewrite_fusing.specs.Finding.{tree_in, joined, IsBinary, PairsMerged}
-use Rattle.vx_rewrite_fusing.specs.Merging.{IsFusedOf}
+use Rattle.vx_rewrite_fusing.specs.Conjuncts.{and_node, and_of, conjuncts}
+use Rattle.vx_rewrite_fusing.specs.Finding.{joined, IsBinary}
 use Rattle.vx_rewrite_fusing.specs.Places.{has_merged, Holds, no_range, open_range, merged_range, gone_range, both, IsNoted}
 use Rattle.vx_rewrite_fusing.proofs.Ands.{and_parts_of}
 use Rattle.vx_rewrite_fusing.proofs.Holding.{both_places, holds_count, merged_append, noted_and}

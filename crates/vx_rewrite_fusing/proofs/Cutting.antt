@@ -12,9 +12,9 @@ use Rattle.vx_rewrite_fusing.specs.declared.places.Places.{Places}
 use Rattle.vx_rewrite_fusing.specs.declared.ranges.RangeComparison.{RangeComparison}
 use Rattle.vx_rewrite_fusing.specs.declared.ranges.Side.{Side}
 use Rattle.vx_rewrite_fusing.specs.declared.ranges.Side.TheVariants.{Below, Above}
-use Rattle.vx_rewrite_fusing.specs.Conjuncts.{range_of, conjuncts, MergeTo, NoneMergeable}
+use Rattle.vx_rewrite_fusing.specs.Conjuncts.{range_of, MergeTo}
 use Rattle.vx_rewrite_fusing.specs.Finding.{range_seen, tree_in, LeftMerged}
-use Rattle.vx_rewrite_fusing.specs.Places.{opposite, turned, Bounded, bounded_by, bounded_at, head_of, BecomesBy, Has, Holds, IsCut, IsLast, IsLinked, IsWithin, MergedAt, at_stays, at_merged, SetsHead}
+use Rattle.vx_rewrite_fusing.specs.Places.{opposite, turned, Bounded, bounded_by, bounded_at, head_of, BecomesBy, Has, Holds, IsCut, IsLast, IsLinked, IsWithin, MergedAt, at_stays, SetsHead}
 use Rattle.vx_rewrite_fusing.proofs.Linking.{below_or, bounded_inside, first_is, none_is, place_read, removed_linked}
 use Rattle.vx_rewrite_fusing.proofs.Holding.{has_first, has_second, has_either, has_at, place_of, holds_merged, IsSplit, split_at}
 use Rattle.vx_rewrite_fusing.proofs.Merges.{either}
@@ -65,10 +65,6 @@ opposite_twice : (s : Side) → opposite (opposite s) ≡ s
 opposite_twice Below = refl
 opposite_twice Above = refl
 
-other_side : (s : Side) → opposite s ≡ s → ⊥
-other_side Below e = let f : Above ≡ Below = e in cc
-other_side Above e = let f : Below ≡ Above = e in cc
-
 -- ---- at a cut
 
 -- the place that is read there is the conjunct
@@ -88,9 +84,9 @@ module _ (places : Places) (right : RangeComparison) (after : Option ℕ) {back 
 
   pub stays : (Has ls key → ⊥) → MergedAt places.list.items back p mid ls
   stays none = at_stays cut.parts (λ k e h.
-    let f : Some (right.side, bound_of right.item.now) ≡ Some k = subst (λ z. bounded_by z ≡ Some k) own e in
-    let g : (right.side, bound_of right.item.now) ≡ k = cc in
-    none (subst (λ z. Has ls (turned z)) (sym g) h))
+      let f : Some (right.side, bound_of right.item.now) ≡ Some k = subst (λ z. bounded_by z ≡ Some k) own e in
+      let g : (right.side, bound_of right.item.now) ≡ k = cc in
+      none (subst (λ z. Has ls (turned z)) (sym g) h))
 
   pub none_of_none : head_of places.heads (opposite right.side) right.item ≡ None → Has ls key → ⊥
   none_of_none e h =

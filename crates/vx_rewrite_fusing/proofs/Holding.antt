@@ -17,7 +17,7 @@ use Rattle.vx_rewrite_fusing.specs.declared.ranges.Side.{Side}
 use Rattle.vx_rewrite_fusing.specs.declared.ranges.Side.TheVariants.{Below, Above}
 use Rattle.vx_rewrite_fusing.specs.Conjuncts.{and_node, and_of, is_and, conjuncts, range_of, MergeTo, below_and_above, above_and_below, Mergeable, NoneMergeable, Fused}
 use Rattle.vx_rewrite_fusing.specs.Finding.{range_from, range_seen, tree_in, conjuncts_left, joined, IsBinary, LeftMerged}
-use Rattle.vx_rewrite_fusing.specs.Places.{opposite, turned, Bounded, bounded_by, bounded_at, became_place, has_merged, Has, NoPair, Holds, no_range, open_range, merged_range, gone_range, both, IsPlaceOf, IsNoted}
+use Rattle.vx_rewrite_fusing.specs.Places.{opposite, turned, Bounded, bounded_at, became_place, has_merged, Has, NoPair, Holds, no_range, open_range, merged_range, gone_range, both, IsPlaceOf, IsNoted}
 use Rattle.vx_rewrite_fusing.proofs.Merges.{alone, either, in_own, in_first, in_second, no_left, none_of_fused}
 use Rattle.vx_rewrite_fusing.proofs.Pairs.{opposite_pair}
 use Rattle.vx_rewrite_fusing.proofs.Pairing.{conjuncts_left-joined}
@@ -150,8 +150,8 @@ holds_none d q (merged_range {c = c} {b = b} a m n) e f = left_none_alone m (λ 
 holds_none d q (gone_range a) e f = λ c z i j k. i
 holds_none d q (both {l' = l'} {r' = r'} {ls = ls} {rs = rs} same h g) e f =
     subst (λ cs. NoneMergeable cs (d ∷ [])) (sym (conjuncts_left-joined l' r')) (none_append_left (conjuncts_left l') (conjuncts_left r') (d ∷ [])
-        (holds_none d q h e (λ x. f (has_second rs ls (opposite q.side, bound_of q.item.now) x)))
-        (holds_none d q g e (λ x. f (has_first rs ls (opposite q.side, bound_of q.item.now) x))))
+    (holds_none d q h e (λ x. f (has_second rs ls (opposite q.side, bound_of q.item.now) x)))
+    (holds_none d q g e (λ x. f (has_first rs ls (opposite q.side, bound_of q.item.now) x))))
 
 -- ---- a range at a place is a conjunct
 
@@ -189,7 +189,7 @@ fused_no_pair {l = l} h f k i j =
     let two = ap (λ (z : Bounded). z.0) d.4 in
     let item = ap (λ (z : Bounded). z.1) c.4 ∙ sym (ap (λ (z : Bounded). z.1) d.4) in
     none_of_fused l f c.0 d.0 c.2 d.2 (opposite_pair c.0 d.0 (is_strict c.1.strict) (is_strict d.1.strict) (bound_of c.1.item.now) (bound_of c.1.bound.now) (bound_of d.1.item.now) (bound_of d.1.bound.now) c.1.side d.1.side
-        (one ∙ (sym (opposite_twice k.0) ∙ ap opposite (sym two))) item c.3 d.3)
+    (one ∙ (sym (opposite_twice k.0) ∙ ap opposite (sym two))) item c.3 d.3)
   where
     opposite_twice : (s : Side) → opposite (opposite s) ≡ s
     opposite_twice Below = refl
@@ -241,12 +241,12 @@ becomes_both d q r next b t l z l' z' ls rs back front same h g e free on_left o
     let w = on_right back rest x (λ i. none (has_first rest ls k i)) in
     let parts : (back ++ Merged b ∷ rest) ++ ls ≡ back ++ Merged b ∷ front = append_assoc back (Merged b ∷ rest) ls ∙ ap (λ v. back ++ Merged b ∷ v) (sym y) in
     becomes_second d (and_node t l z) l' z' (back ++ Merged b ∷ rest) (back ++ Merged b ∷ front) w (holds_none d q h e (λ i. none (has_second rest ls k i)))
-        (λ u held. subst (λ ps. Holds (and_node t l z) ps (joined l' (Some u))) parts (both {t = t} same h held))
+    (λ u held. subst (λ ps. Holds (and_node t l z) ps (joined l' (Some u))) parts (both {t = t} same h held))
 becomes_both d q r next b t l z l' z' ls rs back front same h g e free on_left on_right (in_ls rest x y) =
     let w = on_left rest front y free in
     let parts : rs ++ (rest ++ Merged b ∷ front) ≡ back ++ Merged b ∷ front = sym (append_assoc rs rest (Merged b ∷ front)) ∙ ap (λ v. v ++ Merged b ∷ front) (sym x) in
     becomes_first d (and_node t l z) l' z' (rest ++ Merged b ∷ front) (back ++ Merged b ∷ front) w
-        (λ u held. subst (λ ps. Holds (and_node t l z) ps (joined (Some u) z')) parts (both {t = t} same held g))
+    (λ u held. subst (λ ps. Holds (and_node t l z) ps (joined (Some u) z')) parts (both {t = t} same held g))
 
 pub holds_merged : {l : BoundTree} {o : Option BoundTree} {ps : List Place} (d : BoundTree) (q r : RangeComparison) (next : Option ℕ) (b : Box BoundExpression Global) → Holds l ps o → range_of d ≡ Some (range_seen q)
     → ((c : BoundTree) → range_of c ≡ Some (range_seen r) → MergeTo c d (tree_in b))

@@ -80,13 +80,6 @@ place_read [] i p l e = absurd (omega arith)
 place_read (q ∷ ps) zero p l e = ap Some (sym e)
 place_read (q ∷ ps) (suc i) p l e = place_read ps i p (omega arith) e
 
--- a place that is one of an item is open
-pub open_of : (p : Place) (k : Bounded) → bounded_by p ≡ Some k → (r : RangeComparison) × (next : Option ℕ) × (p ≡ Open r next)
-open_of Other k e = cc
-open_of Gone k e = cc
-open_of (Open r next) k e = (r, next, refl)
-open_of (Merged b) k e = cc
-
 -- ---- the last place of an item
 
 pub below_or : (i n : ℕ) → (i < n) ⊎ (n ≤ i)

@@ -1,17 +1,15 @@
 -- The conjuncts of a right tree merged with those of a left one, one after another.
-use Rattle.std.proofs.Common.{◌≡◌, ◌⊎◌, inl, inr, ℕ, zero, suc, ◌<◌, ◌≤◌, ◌+◌, ◌-◌, List, [], ◌∷◌, ◌++◌, length, take, drop, refl, sym, subst, ap, ◌∙◌, Bool, true, false, ◌||◌, arith, append_assoc, length-append}
+use Rattle.std.proofs.Common.{◌≡◌, inl, inr, ℕ, zero, suc, ◌≤◌, ◌+◌, ◌-◌, List, [], ◌∷◌, ◌++◌, length, take, drop, refl, sym, subst, ap, ◌∙◌, Bool, true, false, ◌||◌, arith, append_assoc, length-append}
 use Rattle.std.specs.Prelude.{Option, Some, None, Result, Ok, Err, IsFalse}
 use Rattle.vx_dtype.specs.declared.error.VortexError.{VortexError}
-use Rattle.vx_dtype.specs.declared.error.VortexError.TheVariants.{OutOfMemory}
-use Rattle.vx_value.specs.Types.{LogicalType}
 use Rattle.vx_fn.specs.Functions.{and_also}
 use Rattle.vx_tree.specs.Trees.{BoundTree, WellTyped}
 use Rattle.vx_rewrite_fusing.specs.declared.places.Place.{Place}
 use Rattle.vx_rewrite_fusing.specs.declared.places.Place.TheVariants.{Open, Gone}
 use Rattle.vx_rewrite_fusing.specs.declared.ranges.RangeComparison.{RangeComparison}
 use Rattle.vx_rewrite_fusing.specs.Conjuncts.{and_node, and_of, is_and, conjuncts, range_of, NoneMergeable}
-use Rattle.vx_rewrite_fusing.specs.Finding.{range_seen, joined, IsBinary, PairsMerged, with_pairs, without_pairs}
-use Rattle.vx_rewrite_fusing.specs.Places.{turned, Bounded, bounded_by, has_merged, BecomesBy, Has, Holds, no_range, open_range, merged_range, gone_range, both, IsCut, IsNoted, IsStanding, IsWithin, MergedAt, at_stays, at_merged, MergesAt, NoPair, RightMerged, RightMerges, Takes, takes_none, takes_some, TreesMerged}
+use Rattle.vx_rewrite_fusing.specs.Finding.{range_seen, joined, IsBinary, with_pairs, without_pairs}
+use Rattle.vx_rewrite_fusing.specs.Places.{turned, Bounded, bounded_by, has_merged, Has, Holds, no_range, open_range, merged_range, gone_range, both, IsCut, IsNoted, IsStanding, MergedAt, at_stays, at_merged, MergesAt, NoPair, RightMerged, RightMerges, Takes, takes_none, takes_some}
 use Rattle.vx_rewrite_fusing.proofs.Ands.{and_parts_of}
 use Rattle.vx_rewrite_fusing.proofs.Chains.{typed_and, noted_split}
 use Rattle.vx_rewrite_fusing.proofs.Found.{no_range_none, none_with_left, none_with_right, right_none, right_none_single, right_single, single_none}
@@ -28,13 +26,16 @@ single_list (p ∷ q ∷ rs) e = absurd (omega arith)
 
 pub one_stands : {all back rs mid ls : List Place} {r : BoundTree} {at start : ℕ} → IsFalse (is_and r) → IsStanding all back rs mid ls r at start → (p : Place) × (rs ≡ p ∷ []) × IsCut all back p mid ls (at - 1) start
 one_stands {all = all} {back = back} {rs = rs} {mid = mid} {ls = ls} {r = r} {at = at} {start = start} a s =
-    let one = single_list rs (s.count ∙ ap length (alone r a)) in
-    (one.0, one.1, record {
-      parts = s.parts ∙ ap (λ z. back ++ (z ++ (mid ++ ls))) one.1;
-      at_back = let l : at ≡ length (back ++ one.0 ∷ []) = s.at_back ∙ ap (λ z. length (back ++ z)) one.1 in omega (arith, length-append back (one.0 ∷ []));
-      at_left = s.at_left ∙ ap (λ z. length (back ++ (z ++ mid))) one.1;
-      apart = s.apart;
-    })
+    let one = single_list rs (s.count ∙ ap length (alone r a)) in (
+      one.0,
+      one.1,
+      record {
+        parts = s.parts ∙ ap (λ z. back ++ (z ++ (mid ++ ls))) one.1;
+        at_back = let l : at ≡ length (back ++ one.0 ∷ []) = s.at_back ∙ ap (λ z. length (back ++ z)) one.1 in omega (arith, length-append back (one.0 ∷ []));
+        at_left = s.at_left ∙ ap (λ z. length (back ++ (z ++ mid))) one.1;
+        apart = s.apart;
+      },
+    )
 
 none_of_place : (u r : BoundTree) (l : BoundTree) (p : Place) (ls : List Place) → Holds r (p ∷ []) (Some r) → has_merged (p ∷ []) ≡ false → Holds l ls (Some u) → ((k : Bounded) → bounded_by p ≡ Some k → Has ls (turned k) → ⊥) → NoneMergeable (conjuncts u) (conjuncts r)
 none_of_place u r l p ls h m held none = go h refl
@@ -85,7 +86,7 @@ right_of_one {all = all} {back = back} {rs = rs} {mid = mid} {ls = ls} {r = r} {
   parts = e;
   long = ap length (sym one);
   stays = λ m. cc;
-  rights_within = λ k h. elim h [ | inl f ↦ (let g : None ≡ Some k = f in cc) | inr j ↦ elim j [ ] ];
+  rights_within = λ k h. elim h [ inl f ↦ (let g : None ≡ Some k = f in cc) | inr j ↦ elim j [ ] ];
   lefts_within = within;
   apart = λ k h i. elim i [
     | inl f ↦ (let g : None ≡ Some (turned k) = f in cc)

@@ -1,6 +1,6 @@
 -- What is left of trees, told from their places.
 use Rattle.std.proofs.Common.{◌≡◌, ◌⊎◌, inl, inr, List, [], ◌∷◌, ◌++◌, refl, sym, subst, ap, ◌∙◌, Bool, true, false, ◌||◌}
-use Rattle.std.specs.Prelude.{Option, Some, None, Result, Ok, Err, IfErr, IfOk, IsFalse, IsTrue, MatchOption, option_map}
+use Rattle.std.specs.Prelude.{Option, Some, None, Result, Ok, Err, IfErr, IfOk, IsTrue, MatchOption, option_map}
 use Rattle.std.specs.declared.alloc.Global.{Global}
 use Rattle.std.specs.declared.boxed.Box.{Box}
 use Rattle.vx_dtype.specs.declared.error.VortexError.{VortexError}
@@ -9,11 +9,11 @@ use Rattle.vx_fn.specs.Functions.{and_also}
 use Rattle.vx_tree.specs.Trees.{BoundTree, WellTyped}
 use Rattle.vx_tree.specs.declared.bound.BoundExpression.{BoundExpression}
 use Rattle.vx_rewrite_fusing.specs.declared.places.Place.{Place}
-use Rattle.vx_rewrite_fusing.specs.Conjuncts.{and_node, and_of, is_and, Fused}
+use Rattle.vx_rewrite_fusing.specs.Conjuncts.{and_of, is_and, Fused}
 use Rattle.vx_rewrite_fusing.specs.Finding.{tree_in, joined, Finds, IsBinary}
 use Rattle.vx_rewrite_fusing.specs.Merging.{IsFusedOf}
-use Rattle.vx_rewrite_fusing.specs.Places.{became_place, chain_trees, chained, has_merged, rests, rest_of, some_found, tree_or, ChainMerged, EachFound, Holds, IsChain, IsLeftOver, IsTold}
-use Rattle.vx_rewrite_fusing.proofs.Along.{Found, IsFound, and_or, chain_alone, chained_alone, chained_and, found_and, found_single, found_stays, fused_sides}
+use Rattle.vx_rewrite_fusing.specs.Places.{became_place, chained, has_merged, rests, rest_of, some_found, tree_or, ChainMerged, Holds, IsChain, IsLeftOver, IsTold}
+use Rattle.vx_rewrite_fusing.proofs.Along.{Found, and_or, chained_and, found_and, found_single, found_stays, fused_sides}
 use Rattle.vx_rewrite_fusing.proofs.Chains.{typed_and}
 use Rattle.vx_rewrite_fusing.proofs.Holding.{BothPlaces, OnePlace, both_places, merged_append}
 
@@ -134,11 +134,6 @@ right_changed c cs ps rights lefts e h = go (has_merged rights) refl h
     go : (x : Bool) → has_merged rights ≡ x → IsTrue (x || some_found (c ∷ [])) → IsTrue (has_merged ps || some_found (c ∷ cs))
     go true f g = first_true (has_merged ps) (some_found (c ∷ cs)) (right_merged ps rights lefts e f)
     go false f g = second_true (has_merged ps) (some_found (c ∷ cs)) (more c g)
-
--- a tree of the chain
-pub left_of_one : (now front ps : List Place) (b : BoundTree) (o : Option BoundTree) (res : Result Left VortexError) → IsLeftOver (has_merged ps) now front b o res → IsLeftOver (has_merged ps || some_found (None ∷ [])) now front b o res
-left_of_one now front ps b o (Ok left) h = (h.0, told_by (has_merged ps) _ b o left (first_true (has_merged ps) false) h.1)
-left_of_one now front ps b o (Err e) h = (first_true (has_merged ps) false h.0, h.1)
 
 -- ---- the whole chain
 

@@ -1,10 +1,10 @@
 -- The trees of a chain: their sizes, and what is found of all of them.
-use Rattle.std.proofs.Common.{◌≡◌, ◌⊎◌, inl, inr, ℕ, zero, suc, ◌+◌, ◌<◌, ◌≤◌, List, [], ◌∷◌, ◌++◌, length, get_or, map, take, refl, sym, subst, ap, ◌∙◌, true, arith}
+use Rattle.std.proofs.Common.{◌≡◌, ℕ, zero, suc, ◌+◌, ◌<◌, ◌≤◌, List, [], ◌∷◌, ◌++◌, length, get_or, map, take, refl, sym, subst, ap, ◌∙◌, true, arith}
 use Rattle.std.proofs.lemmas.List.{take_more}
 use denote.Ref.{Bor}
 use Rattle.vx_tree.specs.Views.{bound_of}
 use Rattle.vx_tree.specs.declared.bound.BoundExpression.{BoundExpression}
-use Rattle.std.specs.Prelude.{All, Option, Some, None, Ok}
+use Rattle.std.specs.Prelude.{All}
 use Rattle.vx_fn.specs.Functions.{binary, and_also}
 use Rattle.vx_tree.specs.Nodes.{size_of}
 use Rattle.vx_tree.specs.Trees.{BoundTree, node, no_bound, bound, unbound, WellTyped}

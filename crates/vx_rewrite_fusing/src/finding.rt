@@ -30,16 +30,18 @@ use vx_tree::{BoundExpression, VortexError, VortexResult};
 /// Asks a well-typed tree. Refuses with `OutOfMemory` (1) alone. A tree without a pair is answered
 /// as it is, however little memory there is; so is what a first call answered.
 ///
-/// Where both children of an And have eight conjuncts or more, the ranges of the left one are put
-/// into an index by their sides and items, which is let go of afterwards. Each right range then
-/// costs one look-up, which visits the nodes of its item, and the Ands above what is merged are made
-/// anew once. So the time grows with the number of conjuncts.
+/// A chain of Ands, `((a and b) and c) and d`, is fused at once where the left child of the last one
+/// has eight conjuncts or more: the ranges of all its conjuncts are put into an index by their sides
+/// and items, which is let go of afterwards, so that each range costs one look-up, which visits the
+/// nodes of its item, and the Ands above what is merged are made anew once. So the time grows with the
+/// number of conjuncts; one that stands below right children of such chains is looked up once for
+/// each, as in a balanced tree of Ands once for every level at most.
 ///
 /// At any other And, and where there is no memory for an index, every right conjunct is compared
 /// with the left ones until one fits: their sides first, then their names, then their trees; and
 /// each merge makes the Ands above its two conjuncts anew. That takes no memory before there is a
-/// pair. In a chain, where one child of each And is a single conjunct, the time grows with the
-/// square of the ranges. Everything else is shared.
+/// pair. In a chain to the right, `a and (b and (c and d))`, the time grows with the square of the
+/// ranges. Everything else is shared.
 pub fn find_between(alloc: Global, tree: BoundExpression) -> VortexResult<BoundExpression>
     requires { WellTyped (bound_of tree) }
     ensures merges { IfOk result (λ u. (n : ℕ) × Merges (bound_of tree) n (bound_of u)) }

@@ -84,12 +84,7 @@ impl<'a> Places<'a> {
 
     // Merges the range at that place with the first one from `start` on that bounds its item from
     // the other side, if there is one: it is gone then.
-    pub(crate) fn merge_at(
-        &mut self,
-        alloc: Global,
-        at: usize,
-        start: usize,
-    ) -> VortexResult<()>
+    pub(crate) fn merge_at(&mut self, alloc: Global, at: usize, start: usize) -> VortexResult<()>
         requires linked { IsLinked self.old }
         requires cut { CanMerge self.old.list.items at start }
         ensures linked { OnOk result (IsLinked self.new) }

@@ -1,12 +1,11 @@
-use Rattle.std.proofs.Common.{rules, ◌≡◌, ◌+◌, ◌-◌, ◌<◌, ◌≤◌, List, [], ◌∷◌, ◌++◌, refl, sym, subst, ap, ◌∙◌, arith, length, append_assoc, length-append}
-use Rattle.std.specs.Prelude.{Ok, Err}
-use Rattle.vx_dtype.specs.declared.error.VortexError.TheVariants.{OutOfMemory}
+use Rattle.std.proofs.Common.{rules, ◌≡◌, ◌+◌, ◌<◌, [], ◌∷◌, ◌++◌, sym, subst, ap, ◌∙◌, arith, length, append_assoc, length-append}
+use Rattle.std.specs.Prelude.{Err}
 use Rattle.vx_tree.specs.Nodes.{size_of}
 use Rattle.vx_tree.specs.Trees.{unbound, WellTyped}
 use Rattle.vx_tree.specs.Views.{bound_of}
 use Rattle.vx_rewrite_fusing.specs.Conjuncts.{conjuncts}
-use Rattle.vx_rewrite_fusing.specs.Places.{chained, tree_or, CanStand, ChainMerged, ChainMerges, EndsNoted, IsChain, IsNoted}
-use Rattle.vx_rewrite_fusing.proofs.Along.{Found, ChainParts, and_sides, chain_alone, chain_count, chain_end, chain_err, chain_merges, chain_parts, found_and, one_conjunct, right_stands}
+use Rattle.vx_rewrite_fusing.specs.Places.{chained, CanStand, ChainMerged, ChainMerges, EndsNoted, IsChain, IsNoted}
+use Rattle.vx_rewrite_fusing.proofs.Along.{and_sides, chain_count, chain_end, chain_err, chain_merges, chain_parts, found_and, one_conjunct, right_stands}
 use Rattle.vx_rewrite_fusing.proofs.Binaries.{left_smaller}
 use Rattle.vx_rewrite_fusing.proofs.Holding.{holds_count}
 use Rattle.vx_rewrite_fusing.proofs.chain.+merge_chain.Goals as goal
@@ -37,7 +36,7 @@ returns-in_default-clause-merged t c = λ back ps parts noted.
     let found : c.args.found.now ≡ c.unwrap.result.0.now ∷ c.unwrap.result.1.now = search rules in
     let b = bound_of c.args.b.now in
     subst (λ z. ChainMerged c.args.places.now.list.items back b (chained b z)) (sym found)
-        (chain_end b c.unwrap.result.0.now c.unwrap.result.1.now c.requires.typed c.in_default.ensures (subst (IsChain b) found c.requires.chain) parts (subst (λ z. IsNoted (chained b z) ps) found noted))
+    (chain_end b c.unwrap.result.0.now c.unwrap.result.1.now c.requires.typed c.in_default.ensures (subst (IsChain b) found c.requires.chain) parts (subst (λ z. IsNoted (chained b z) ps) found noted))
 
 pub merge_chain-requires : goal.merge_chain-requires
 merge_chain-requires t c =
@@ -87,4 +86,4 @@ returns-clause-merged t c = λ back ps parts noted.
     let stands = right_stands m p.on_right at in
     let right = rw c.fused_tree.ensures at (c.merge_right.ensures.merged back p.rights [] m.left (rw (sym c.fused_tree.ensures) at stands)) in
     subst (λ z. ChainMerges c.merge_right.new.places.list.items back b (chained b z) c.merge_right.result) (sym found)
-        (chain_merges c.merge_right.new.places.list.items back c.unwrap.result.0.now c.unwrap.result.1.now c.in-Some.ensures c.requires.typed (subst (IsChain b) found c.requires.chain) p.on_right m c.merge_right.result right)
+    (chain_merges c.merge_right.new.places.list.items back c.unwrap.result.0.now c.unwrap.result.1.now c.in-Some.ensures c.requires.typed (subst (IsChain b) found c.requires.chain) p.on_right m c.merge_right.result right)

@@ -1,10 +1,8 @@
-use Rattle.std.proofs.Common.{rules, ◌≡◌, ◌-◌, ◌++◌, ◌<◌, ◌≤◌, ◌+◌, List, refl, sym, subst, ap, ◌∙◌, arith, length}
-use Rattle.std.specs.Prelude.{Ok, Err}
-use Rattle.vx_dtype.specs.declared.error.VortexError.TheVariants.{OutOfMemory}
+use Rattle.std.proofs.Common.{rules, ◌≡◌, ◌++◌, ◌<◌, sym, subst}
+use Rattle.std.specs.Prelude.{Err}
 use Rattle.vx_tree.specs.Nodes.{size_of}
 use Rattle.vx_tree.specs.Trees.{unbound}
 use Rattle.vx_tree.specs.Views.{bound_of}
-use Rattle.vx_rewrite_fusing.specs.Conjuncts.{conjuncts}
 use Rattle.vx_rewrite_fusing.specs.Places.{CanStand, RightMerges}
 use Rattle.vx_rewrite_fusing.proofs.Binaries.{left_smaller, right_smaller}
 use Rattle.vx_rewrite_fusing.proofs.Standing.{firsts, seconds, one_stands, right_of_one, one_errs, first_stands, second_stands, two_merge, first_errs}

@@ -1,4 +1,4 @@
-use Rattle.std.proofs.Common.{rules, ◌≡◌, ◌<◌, List, [], ◌∷◌, ◌++◌, refl, sym, subst, ap, ◌∙◌, append_assoc}
+use Rattle.std.proofs.Common.{rules, ◌≡◌, ◌<◌, ◌∷◌, ◌++◌, sym, subst, ap, ◌∙◌, append_assoc}
 use Rattle.vx_tree.specs.Nodes.{size_of}
 use Rattle.vx_tree.specs.Trees.{unbound, WellTyped}
 use Rattle.vx_tree.specs.Views.{bound_of}
@@ -29,5 +29,8 @@ returns-clause-noted t c =
     let b = bound_of c.args.b.now in
     let right = c.in_ok-note.ensures.noted in
     let typed : WellTyped (tree_or (bound_of c.in-Some.r.now) c.unwrap.result.0.now) → IsNoted (tree_or (bound_of c.in-Some.r.now) c.unwrap.result.0.now) right.0 = rw c.fused_tree-2.ensures at right.2 in
-    on_ok c.note_chain.result (λ k. (right.0 ++ k.0, k.1 ∙ (ap (λ z. z ++ k.0) right.1 ∙ append_assoc c.args.places.now.list.items right.0 k.0),
-        subst (λ z. IsNoted (chained b z) (right.0 ++ k.0)) (sym found) (chain_noted c.unwrap.result.0.now c.unwrap.result.1.now k.0 right.0 c.in-Some.ensures c.requires.typed (subst (IsChain b) found c.requires.chain) k.2 typed))) c.note_chain.ensures.noted
+    on_ok c.note_chain.result (λ k. (
+      right.0 ++ k.0,
+      k.1 ∙ (ap (λ z. z ++ k.0) right.1 ∙ append_assoc c.args.places.now.list.items right.0 k.0),
+      subst (λ z. IsNoted (chained b z) (right.0 ++ k.0)) (sym found) (chain_noted c.unwrap.result.0.now c.unwrap.result.1.now k.0 right.0 c.in-Some.ensures c.requires.typed (subst (IsChain b) found c.requires.chain) k.2 typed),
+    )) c.note_chain.ensures.noted

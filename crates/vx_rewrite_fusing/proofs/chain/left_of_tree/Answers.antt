@@ -1,2 +1,0 @@
-use Rattle.std.proofs.Common.{rules}
-use Rattle.vx_rewrite_fusing.proofs.chain.left_of_tree.Goals as goal

@@ -1,11 +1,5 @@
-use Rattle.std.proofs.Common.{rules, ◌≡◌, List, [], ◌∷◌, ◌++◌, refl, sym, subst}
-use Rattle.std.specs.Prelude.{Ok, Err, None, Some}
-use Rattle.vx_dtype.specs.declared.error.VortexError.TheVariants.{OutOfMemory}
-use Rattle.vx_tree.specs.Views.{bound_of}
-use Rattle.vx_rewrite_fusing.specs.Conjuncts.{Fused}
-use Rattle.vx_rewrite_fusing.specs.Finding.{Finds, tree_in}
-use Rattle.vx_rewrite_fusing.specs.Merging.{IsFusedOf}
-use Rattle.vx_rewrite_fusing.specs.Places.{chained, EndsNoted}
+use Rattle.std.proofs.Common.{rules, ◌≡◌, [], refl}
+use Rattle.std.specs.Prelude.{Err, Some}
 use Rattle.vx_rewrite_fusing.proofs.Refusals.{failed}
 use Rattle.vx_rewrite_fusing.proofs.Telling.{chain_found, chain_same, chain_unfused}
 use Rattle.vx_rewrite_fusing.proofs.chain.merge_places.Goals as goal

@@ -9,7 +9,6 @@ use Rattle.vx_rewrite_fusing.specs.Finding.{EachFusedOf, none_fused, FirstChange
 use Rattle.vx_rewrite_fusing.proofs.Children.{children_typed, children_fused, fused_children, children_smaller, bounds_of-append, bounds_of-take_more, all_fused, each_joined, item_fused, item_typed, item_smaller, first_changed, changed_inside, changed_unfused, drop_typed, drop_smaller, each_from, with_more, put_fused}
 use Rattle.vx_rewrite_fusing.proofs.Refusals.{failed, spent}
 use Rattle.std.specs.Prelude.{All}
-use Rattle.vx_tree.specs.Trees.{BoundTree}
 use Rattle.vx_rewrite_fusing.specs.Conjuncts.{Fused}
 use Rattle.vx_rewrite_fusing.specs.Places.{chain_trees}
 use Rattle.vx_rewrite_fusing.proofs.Wide.{chain_fused, chain_smaller, chain_typed, found_there, size_there, sizes, there}

@@ -1,13 +1,12 @@
-use Rattle.std.proofs.Common.{rules, ◌≡◌, ◌<◌, ◌≤◌, List, refl, sym, subst, ap, ◌∙◌, arith, length, set}
-use Rattle.std.specs.Prelude.{Some, None, Ok, Err, slice_get}
+use Rattle.std.proofs.Common.{rules, ◌≡◌, ◌≤◌, refl, sym, subst, ap, ◌∙◌}
+use Rattle.std.specs.Prelude.{Some, None, Err}
 use Rattle.std.specs.Vec.{with_item}
 use Rattle.vx_tree.specs.Views.{bound_of}
 use Rattle.vx_dtype.specs.declared.error.VortexError.TheVariants.{OutOfMemory}
-use Rattle.vx_rewrite_fusing.specs.declared.places.Place.{Place}
 use Rattle.vx_rewrite_fusing.specs.declared.places.Place.TheVariants.{Open, Merged, Gone}
 use Rattle.vx_rewrite_fusing.specs.declared.places.Places.{Places}
 use Rattle.vx_rewrite_fusing.specs.Places.{opposite, bounded_by, head_of, at_merged, MergesAt, SetsHead}
-use Rattle.vx_rewrite_fusing.proofs.Cutting.{read_there, stays, none_of_none, none_before, has_it, lefts, lefts_within, becomes, written, written_twice, linked_after}
+use Rattle.vx_rewrite_fusing.proofs.Cutting.{read_there, stays, none_of_none, none_before, has_it, lefts, lefts_within, becomes, written_twice, linked_after}
 use Rattle.vx_rewrite_fusing.proofs.Holding.{held_mergeable}
 use Rattle.vx_rewrite_fusing.proofs.Linking.{bounded_read, first_bounds, first_is, place_read}
 use Rattle.vx_rewrite_fusing.proofs.places.Places.merge_at.Goals as goal
@@ -77,6 +76,6 @@ returns-clause-merged c = λ back p mid ls cut.
     let there = place_read c.args.self.now.list.items c.in-Some-first.first c.index-2.result.now last.0 c.index-2.ensures ∙ ap Some c.in-Some-range_at.ensures in
     let late : c.args.start ≤ c.in-Some-first.first = search rules in
     at_merged {lefts = lefts c.args.self.now c.in-Some.right c.in-Some.after c.requires.linked cut own c.in-Some-first.first c.in-Some-range_at.left c.in-Some-range_at.next head late there c.in_ok-merged.merged} own
-        (written_twice c.args.self.now c.in-Some.right c.in-Some.after c.requires.linked cut own c.in-Some-first.first c.in-Some-range_at.left c.in-Some-range_at.next head late there c.in_ok-merged.merged)
-        (lefts_within c.args.self.now c.in-Some.right c.in-Some.after c.requires.linked cut own c.in-Some-first.first c.in-Some-range_at.left c.in-Some-range_at.next head late there c.in_ok-merged.merged)
-        (becomes c.args.self.now c.in-Some.right c.in-Some.after c.requires.linked cut own c.in-Some-first.first c.in-Some-range_at.left c.in-Some-range_at.next head late there c.in_ok-merged.merged (λ x d e f. c.in_ok-merged.ensures.merged x d e f))
+    (written_twice c.args.self.now c.in-Some.right c.in-Some.after c.requires.linked cut own c.in-Some-first.first c.in-Some-range_at.left c.in-Some-range_at.next head late there c.in_ok-merged.merged)
+    (lefts_within c.args.self.now c.in-Some.right c.in-Some.after c.requires.linked cut own c.in-Some-first.first c.in-Some-range_at.left c.in-Some-range_at.next head late there c.in_ok-merged.merged)
+    (becomes c.args.self.now c.in-Some.right c.in-Some.after c.requires.linked cut own c.in-Some-first.first c.in-Some-range_at.left c.in-Some-range_at.next head late there c.in_ok-merged.merged (λ x d e f. c.in_ok-merged.ensures.merged x d e f))
