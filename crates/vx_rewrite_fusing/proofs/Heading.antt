@@ -9,7 +9,7 @@ use Rattle.vx_tree.specs.declared.bound.BoundExpression.{BoundExpression}
 use Rattle.vx_rewrite_fusing.specs.declared.heads.Heads.{Heads}
 use Rattle.vx_rewrite_fusing.specs.declared.ranges.Side.{Side}
 use Rattle.vx_rewrite_fusing.specs.declared.ranges.Side.TheVariants.{Below, Above}
-use Rattle.vx_rewrite_fusing.specs.Indexed.{kept, head_of, place_at, SetsHead}
+use Rattle.vx_rewrite_fusing.specs.Places.{kept, head_of, place_at, SetsHead}
 
 -- what is kept for an item after one is kept anew
 at_same : (b c : BoundTree) (o : Option ℕ) (w : Option (Option ℕ)) → c ≡ b → kept (cond (equal_bound b c) (Some o) w) ≡ o

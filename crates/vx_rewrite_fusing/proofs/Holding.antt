@@ -1,43 +1,27 @@
--- A left conjunction in which conjuncts are merged in their places.
-use Rattle.std.proofs.Common.{◌≡◌, ℕ, zero, suc, ◌<◌, List, [], ◌∷◌, ◌++◌, length, set, refl, sym, subst, ap, ◌∙◌, Bool, true, false, ◌||◌, arith, append_assoc, length-append}
-use Rattle.std.specs.Prelude.{Option, Some, None, IsFalse, MatchOption, slice_get, option_map, option_to_list}
+-- What is left of a tree whose conjuncts are merged in their places.
+use Rattle.std.proofs.Common.{◌≡◌, ◌⊎◌, inl, inr, ℕ, zero, suc, ◌<◌, List, [], ◌∷◌, ◌++◌, length, set, refl, sym, subst, ap, ◌∙◌, Bool, true, false, ◌||◌, arith, append_assoc, length-append}
+use Rattle.std.specs.Prelude.{Option, Some, None, IsFalse, slice_get, option_map, option_to_list}
 use Rattle.std.specs.declared.alloc.Global.{Global}
 use Rattle.std.specs.declared.boxed.Box.{Box}
 use Rattle.vx_value.specs.Types.{LogicalType, is_nullable}
 use Rattle.vx_fn.specs.Functions.{and_also, truth_type}
+use Rattle.vx_fn.specs.Views.{is_strict}
 use Rattle.vx_fn.specs.Faults.{IsIn}
 use Rattle.vx_tree.specs.Trees.{BoundTree, node_type}
 use Rattle.vx_tree.specs.Views.{bound_of}
 use Rattle.vx_tree.specs.declared.bound.BoundExpression.{BoundExpression}
-use Rattle.vx_rewrite_fusing.specs.declared.left.Place.{Place}
-use Rattle.vx_rewrite_fusing.specs.declared.left.Place.TheVariants.{Other, Open, Merged}
+use Rattle.vx_rewrite_fusing.specs.declared.places.Place.{Place}
+use Rattle.vx_rewrite_fusing.specs.declared.places.Place.TheVariants.{Other, Open, Merged, Gone}
 use Rattle.vx_rewrite_fusing.specs.declared.ranges.RangeComparison.{RangeComparison}
 use Rattle.vx_rewrite_fusing.specs.declared.ranges.Side.{Side}
 use Rattle.vx_rewrite_fusing.specs.declared.ranges.Side.TheVariants.{Below, Above}
-use Rattle.vx_rewrite_fusing.specs.Conjuncts.{and_node, and_of, is_and, conjuncts, range_of, MergeTo, below_and_above, above_and_below, Mergeable, NoneMergeable}
-use Rattle.vx_rewrite_fusing.specs.Finding.{range_from, range_seen, tree_in, IsBinary, LeftMerged}
-use Rattle.vx_rewrite_fusing.specs.Indexed.{opposite, Bounded, bounded_by, bounded_at, is_merged, and_after, and_changed, Holds, no_range, open_range, merged_range, both, IsPlaceOf, IsNoted, IsTree}
-use Rattle.vx_rewrite_fusing.proofs.Merges.{in_own, in_first, in_second, no_left}
-use Rattle.vx_rewrite_fusing.proofs.Found.{left_alone, left_none_alone, left_in_first, left_in_second, left_none}
-
--- ---- places without a range
-
--- no place is one of the item
-abbrev pub IsFree : List Place → Bounded → Type 0
-IsFree [] k = Unit {0}
-IsFree (p ∷ ps) k = (bounded_by p ≡ Some k → ⊥) × IsFree ps k
-
-pub free_of : (ps : List Place) (k : Bounded) → ((j : ℕ) → bounded_at ps j ≡ Some k → ⊥) → IsFree ps k
-free_of [] k h = tt
-free_of (p ∷ ps) k h = (h zero, free_of ps k (λ j. h (suc j)))
-
-free_first : (ps qs : List Place) (k : Bounded) → IsFree (ps ++ qs) k → IsFree ps k
-free_first [] qs k h = tt
-free_first (p ∷ ps) qs k h = (h.0, free_first ps qs k h.1)
-
-free_second : (ps qs : List Place) (k : Bounded) → IsFree (ps ++ qs) k → IsFree qs k
-free_second [] qs k h = h
-free_second (p ∷ ps) qs k h = free_second ps qs k h.1
+use Rattle.vx_rewrite_fusing.specs.Conjuncts.{and_node, and_of, is_and, conjuncts, range_of, MergeTo, below_and_above, above_and_below, Mergeable, NoneMergeable, Fused}
+use Rattle.vx_rewrite_fusing.specs.Finding.{range_from, range_seen, tree_in, conjuncts_left, joined, IsBinary, LeftMerged}
+use Rattle.vx_rewrite_fusing.specs.Places.{opposite, turned, Bounded, bounded_at, became_place, has_merged, Has, NoPair, Holds, no_range, open_range, merged_range, gone_range, both, IsPlaceOf, IsNoted}
+use Rattle.vx_rewrite_fusing.proofs.Merges.{alone, either, in_own, in_first, in_second, no_left, none_of_fused}
+use Rattle.vx_rewrite_fusing.proofs.Pairs.{opposite_pair}
+use Rattle.vx_rewrite_fusing.proofs.Pairing.{conjuncts_left-joined}
+use Rattle.vx_rewrite_fusing.proofs.Found.{left_alone, left_none_alone, left_in_first, left_in_second, none_append_left}
 
 -- ---- a list at a place
 
@@ -87,35 +71,53 @@ only p q [] front e = (cc, refl, cc)
 only p q (x ∷ []) front e = cc
 only p q (x ∷ y ∷ back) front e = cc
 
+-- ---- what some place bounds
+
+pub has_first : (ps qs : List Place) (k : Bounded) → Has ps k → Has (ps ++ qs) k
+has_first [] qs k h = elim h [ ]
+has_first (p ∷ ps) qs k (inl e) = inl e
+has_first (p ∷ ps) qs k (inr h) = inr (has_first ps qs k h)
+
+pub has_second : (ps qs : List Place) (k : Bounded) → Has qs k → Has (ps ++ qs) k
+has_second [] qs k h = h
+has_second (p ∷ ps) qs k h = inr (has_second ps qs k h)
+
+pub has_either : (ps qs : List Place) (k : Bounded) → Has (ps ++ qs) k → Has ps k ⊎ Has qs k
+has_either [] qs k h = inr h
+has_either (p ∷ ps) qs k (inl e) = inl (inl e)
+has_either (p ∷ ps) qs k (inr h) = either (λ x. inl (inr x)) (λ x. inr x) (has_either ps qs k h)
+
+pub has_at : (ps : List Place) (i : ℕ) (k : Bounded) → bounded_at ps i ≡ Some k → Has ps k
+has_at [] i k e = cc
+has_at (p ∷ ps) zero k e = inl e
+has_at (p ∷ ps) (suc i) k e = inr (has_at ps i k e)
+
+pub place_of : (ps : List Place) (k : Bounded) → Has ps k → (i : ℕ) × (bounded_at ps i ≡ Some k)
+place_of [] k h = elim h [ ]
+place_of (p ∷ ps) k (inl e) = (zero, e)
+place_of (p ∷ ps) k (inr h) = let r = place_of ps k h in (suc r.0, r.1)
+
+pub turned_back : (k : Bounded) → turned (turned k) ≡ k
+turned_back (Below, b) = refl
+turned_back (Above, b) = refl
+
+-- two lists that bound nothing from opposite sides, one behind the other
+pub no_pair_joined : (rs ls : List Place) → NoPair rs rs → NoPair ls (rs ++ ls) → NoPair (rs ++ ls) (rs ++ ls)
+no_pair_joined rs ls f g k h i = either (λ r. either (λ s. f k r s) (λ s. g (turned k) s (has_first rs ls (turned (turned k)) (subst (Has rs) (sym (turned_back k)) r))) (has_either rs ls (turned k) i)) (λ s. g k s i) (has_either rs ls k h)
+
 -- ---- whether something is merged
 
-merged_append : (ys xs : List Place) → is_merged (ys ++ xs) ≡ (is_merged ys || is_merged xs)
+pub merged_append : (ys xs : List Place) → has_merged (ys ++ xs) ≡ (has_merged ys || has_merged xs)
 merged_append [] xs = refl
 merged_append (Merged b ∷ ys) xs = refl
+merged_append (Gone ∷ ys) xs = refl
 merged_append (Other ∷ ys) xs = merged_append ys xs
 merged_append (Open r next ∷ ys) xs = merged_append ys xs
 
-merged_there : (back : List Place) (b : Box BoundExpression Global) (front : List Place) → is_merged (back ++ Merged b ∷ front) ≡ true
-merged_there [] b front = refl
-merged_there (Merged a ∷ back) b front = refl
-merged_there (Other ∷ back) b front = merged_there back b front
-merged_there (Open r next ∷ back) b front = merged_there back b front
+-- ---- an And
 
--- ---- the And of what is held
-
-after_binary : (m : Bool) (t : LogicalType) (x y : BoundTree) → IsBinary and_also x y (and_after m t x y)
-after_binary true t x y = (truth_type (is_nullable (node_type x) || is_nullable (node_type y)), refl)
-after_binary false t x y = (t, refl)
-
-after_conjuncts : (m : Bool) (t : LogicalType) (x y : BoundTree) → conjuncts (and_after m t x y) ≡ conjuncts x ++ conjuncts y
-after_conjuncts true t x y = refl
-after_conjuncts false t x y = refl
-
--- something is merged in one of the two
-both_merged : {l l' r r' : BoundTree} {ls rs : List Place} (t : LogicalType) (ps : List Place) → Holds l ls l' → Holds r rs r' → rs ++ ls ≡ ps → is_merged ps ≡ true → Holds (and_node t l r) ps (and_of l' r')
-both_merged {l = l} {l' = l'} {r = r} {r' = r'} {ls = ls} {rs = rs} t ps h g e m =
-    let again : is_merged (rs ++ ls) ≡ true = ap is_merged e ∙ m in
-    subst (λ qs. Holds (and_node t l r) qs (and_of l' r')) e (subst (λ z. Holds (and_node t l r) (rs ++ ls) (and_after z t l' r')) again (both {t = t} h g))
+and_binary : (x y : BoundTree) → IsBinary and_also x y (and_of x y)
+and_binary x y = (truth_type (is_nullable (node_type x) || is_nullable (node_type y)), refl)
 
 -- ---- what is mergeable by its side and item
 
@@ -141,80 +143,114 @@ merged_unranged (below_and_above e f) = refl
 merged_unranged (above_and_below e f) = refl
 
 -- no place is one of the item, and no conjunct is mergeable
-pub holds_none : {l u : BoundTree} {ps : List Place} (d : BoundTree) (q : RangeComparison) → Holds l ps u → range_of d ≡ Some (range_seen q) → IsFree ps (opposite q.side, bound_of q.item.now) → NoneMergeable (conjuncts u) (d ∷ [])
+pub holds_none : {l : BoundTree} {o : Option BoundTree} {ps : List Place} (d : BoundTree) (q : RangeComparison) → Holds l ps o → range_of d ≡ Some (range_seen q) → (Has ps (opposite q.side, bound_of q.item.now) → ⊥) → NoneMergeable (conjuncts_left o) (d ∷ [])
 holds_none d q (no_range {c = c} a n) e f = left_none_alone a (λ k. no_left k.1 n)
-holds_none d q (open_range {c = c} {r = r} {next = next} a n) e f = left_none_alone a (λ k. f.0 (mergeable_key c d r q n e k))
+holds_none d q (open_range {c = c} {r = r} {next = next} a n) e f = left_none_alone a (λ k. f (inl (mergeable_key c d r q n e k)))
 holds_none d q (merged_range {c = c} {b = b} a m n) e f = left_none_alone m (λ k. no_left k.1 n)
-holds_none d q (both {t = t} {l = l} {l' = l'} {r = r} {r' = r'} {ls = ls} {rs = rs} h g) e f =
-    left_none (after_binary (is_merged (rs ++ ls)) t l' r') (holds_none d q h e (free_second rs ls (opposite q.side, bound_of q.item.now) f)) (holds_none d q g e (free_first rs ls (opposite q.side, bound_of q.item.now) f))
+holds_none d q (gone_range a) e f = λ c z i j k. i
+holds_none d q (both {l' = l'} {r' = r'} {ls = ls} {rs = rs} same h g) e f =
+    subst (λ cs. NoneMergeable cs (d ∷ [])) (sym (conjuncts_left-joined l' r')) (none_append_left (conjuncts_left l') (conjuncts_left r') (d ∷ [])
+    (holds_none d q h e (λ x. f (has_second rs ls (opposite q.side, bound_of q.item.now) x)))
+    (holds_none d q g e (λ x. f (has_first rs ls (opposite q.side, bound_of q.item.now) x))))
 
 -- ---- a range at a place is a conjunct
 
-abbrev RangeIn : RangeComparison → BoundTree → Type 0
-RangeIn r u = (c : BoundTree) × IsIn c (conjuncts u) × (range_of c ≡ Some (range_seen r))
+abbrev pub RangeIn : Bounded → Option BoundTree → Type 0
+RangeIn k o = (c : BoundTree) × (r : RangeComparison) × IsIn c (conjuncts_left o) × (range_of c ≡ Some (range_seen r)) × ((r.side, bound_of r.item.now) ≡ k)
 
-in_left : (r : RangeComparison) (m : Bool) (t : LogicalType) (x y : BoundTree) → RangeIn r x → RangeIn r (and_after m t x y)
-in_left r m t x y h = (h.0, subst (IsIn h.0) (sym (after_conjuncts m t x y)) (in_first h.0 (conjuncts x) (conjuncts y) h.1), h.2)
+range_joined : (k : Bounded) (l r : Option BoundTree) → RangeIn k l ⊎ RangeIn k r → RangeIn k (joined l r)
+range_joined k l r (inl h) = (h.0, h.1, subst (IsIn h.0) (sym (conjuncts_left-joined l r)) (in_first h.0 (conjuncts_left l) (conjuncts_left r) h.2), h.3, h.4)
+range_joined k l r (inr h) = (h.0, h.1, subst (IsIn h.0) (sym (conjuncts_left-joined l r)) (in_second h.0 (conjuncts_left l) (conjuncts_left r) h.2), h.3, h.4)
 
-in_right : (r : RangeComparison) (m : Bool) (t : LogicalType) (x y : BoundTree) → RangeIn r y → RangeIn r (and_after m t x y)
-in_right r m t x y h = (h.0, subst (IsIn h.0) (sym (after_conjuncts m t x y)) (in_second h.0 (conjuncts x) (conjuncts y) h.1), h.2)
+pub range_held : {l : BoundTree} {o : Option BoundTree} {ps : List Place} (k : Bounded) → Holds l ps o → Has ps k → RangeIn k o
+range_held k (no_range a n) (inl e) = cc
+range_held k (no_range a n) (inr h) = absurd h
+range_held k (open_range {c = c} {r = r} a n) (inl e) = (c, r, in_own c a, n, cc)
+range_held k (open_range a n) (inr h) = absurd h
+range_held k (merged_range a m n) (inl e) = cc
+range_held k (merged_range a m n) (inr h) = absurd h
+range_held k (gone_range a) (inl e) = cc
+range_held k (gone_range a) (inr h) = absurd h
+range_held k (both {l' = l'} {r' = r'} {ls = ls} {rs = rs} same h g) i = range_joined k l' r' (either (λ x. inr (range_held k g x)) (λ x. inl (range_held k h x)) (has_either rs ls k i))
 
-range_in_both : (r : RangeComparison) (next : Option ℕ) (m : Bool) (t : LogicalType) (x y : BoundTree) (ls rs back front : List Place)
-    → ((back front : List Place) → ls ≡ back ++ Open r next ∷ front → RangeIn r x)
-    → ((back front : List Place) → rs ≡ back ++ Open r next ∷ front → RangeIn r y)
-    → Parts rs ls back (Open r next) front → RangeIn r (and_after m t x y)
-range_in_both r next m t x y ls rs back front h g (in_rs rest e f) = in_right r m t x y (g back rest e)
-range_in_both r next m t x y ls rs back front h g (in_ls rest e f) = in_left r m t x y (h rest front f)
+-- a range at a place, and one that is bounded from the other side, are mergeable
+pub held_mergeable : {l u : BoundTree} {ps : List Place} (d : BoundTree) (q : RangeComparison) → Holds l ps (Some u) → range_of d ≡ Some (range_seen q) → Has ps (opposite q.side, bound_of q.item.now) → NoneMergeable (conjuncts u) (d ∷ []) → ⊥
+held_mergeable d q h e i none =
+    let k : Bounded = (opposite q.side, bound_of q.item.now) in
+    let c = range_held k h i in
+    none c.0 d c.2 (inl refl) (opposite_pair c.0 d (is_strict c.1.strict) (is_strict q.strict) (bound_of c.1.item.now) (bound_of c.1.bound.now) (bound_of q.item.now) (bound_of q.bound.now) c.1.side q.side (ap (λ (z : Bounded). z.0) c.4) (ap (λ (z : Bounded). z.1) c.4) c.3 e)
 
-pub range_held : {l u : BoundTree} {ps : List Place} (r : RangeComparison) (next : Option ℕ) → Holds l ps u → (back front : List Place) → ps ≡ back ++ Open r next ∷ front → RangeIn r u
-range_held r next (no_range {c = c} a n) back front e = let h = only Other (Open r next) back front e in let f : Other ≡ Open r next = h.0 in cc
-range_held r next (open_range {c = c} {r = p} {next = o} a n) back front e =
-    let h = only (Open p o) (Open r next) back front e in
-    let f : Open p o ≡ Open r next = h.0 in
-    let s : p ≡ r = cc in
-    (c, in_own c a, n ∙ ap (λ z. Some (range_seen z)) s)
-range_held r next (merged_range {c = c} {b = b} a m n) back front e = let h = only (Merged b) (Open r next) back front e in let f : Merged b ≡ Open r next = h.0 in cc
-range_held r next (both {t = t} {l = l} {l' = l'} {r = z} {r' = r'} {ls = ls} {rs = rs} h g) back front e =
-    range_in_both r next (is_merged (rs ++ ls)) t l' r' ls rs back front (range_held r next h) (range_held r next g) (parts_of rs ls back (Open r next) front e)
+-- a fused tree bounds nothing from opposite sides
+pub fused_no_pair : {l : BoundTree} {ps : List Place} → Holds l ps (Some l) → Fused l → NoPair ps ps
+fused_no_pair {l = l} h f k i j =
+    let c = range_held k h i in
+    let d = range_held (turned k) h j in
+    let one = ap (λ (z : Bounded). z.0) c.4 in
+    let two = ap (λ (z : Bounded). z.0) d.4 in
+    let item = ap (λ (z : Bounded). z.1) c.4 ∙ sym (ap (λ (z : Bounded). z.1) d.4) in
+    none_of_fused l f c.0 d.0 c.2 d.2 (opposite_pair c.0 d.0 (is_strict c.1.strict) (is_strict d.1.strict) (bound_of c.1.item.now) (bound_of c.1.bound.now) (bound_of d.1.item.now) (bound_of d.1.bound.now) c.1.side d.1.side
+    (one ∙ (sym (opposite_twice k.0) ∙ ap opposite (sym two))) item c.3 d.3)
+  where
+    opposite_twice : (s : Side) → opposite (opposite s) ≡ s
+    opposite_twice Below = refl
+    opposite_twice Above = refl
 
 -- ---- a range is merged
 
 -- the first conjunct that is mergeable with d is merged with it, and the tree with it is held
-pub record Becomes (d l u : BoundTree) (ps : List Place) : Type 0 where
+pub record Becomes (d l : BoundTree) (o : Option BoundTree) (ps : List Place) : Type 0 where
+  pub was : BoundTree
+  pub is_was : o ≡ Some was
   pub tree : BoundTree
-  pub merged : LeftMerged d u tree
-  pub holds : Holds l ps tree
+  pub merged : LeftMerged d was tree
+  pub holds : Holds l ps (Some tree)
 
-becomes_alone : (d c : BoundTree) (b : Box BoundExpression Global) (back front : List Place) → IsFalse (is_and c) → MergeTo c d (tree_in b) → back ≡ [] → front ≡ [] → Becomes d c c (back ++ Merged b ∷ front)
-becomes_alone d c b back front a k e f = rw (e, f) (record { tree = tree_in b; merged = left_alone a k; holds = merged_range a (merged_single k) (merged_unranged k) })
+becomes_alone : (d c : BoundTree) (b : Box BoundExpression Global) (back front : List Place) → IsFalse (is_and c) → MergeTo c d (tree_in b) → back ≡ [] → front ≡ [] → Becomes d c (Some c) (back ++ Merged b ∷ front)
+becomes_alone d c b back front a k e f = rw (e, f) (record { was = c; is_was = refl; tree = tree_in b; merged = left_alone a k; holds = merged_range a (merged_single k) (merged_unranged k) })
 
-becomes_both : (d : BoundTree) (q r : RangeComparison) (next : Option ℕ) (b : Box BoundExpression Global) (t : LogicalType) (l l' z z' : BoundTree) (ls rs back front : List Place)
-    → Holds l ls l' → Holds z rs z' → range_of d ≡ Some (range_seen q) → IsFree front (opposite q.side, bound_of q.item.now)
-    → ((back front : List Place) → ls ≡ back ++ Open r next ∷ front → IsFree front (opposite q.side, bound_of q.item.now) → Becomes d l l' (back ++ Merged b ∷ front))
-    → ((back front : List Place) → rs ≡ back ++ Open r next ∷ front → IsFree front (opposite q.side, bound_of q.item.now) → Becomes d z z' (back ++ Merged b ∷ front))
-    → Parts rs ls back (Open r next) front → Becomes d (and_node t l z) (and_after (is_merged (rs ++ ls)) t l' z') (back ++ Merged b ∷ front)
-becomes_both d q r next b t l l' z z' ls rs back front h g e free on_left on_right (in_rs rest x y) =
+-- in the second of two trees
+becomes_second : (d x : BoundTree) (l' r' : Option BoundTree) (ys ps : List Place) {z : BoundTree} → Becomes d z r' ys → NoneMergeable (conjuncts_left l') (d ∷ []) → ((w : BoundTree) → Holds z ys (Some w) → Holds x ps (joined l' (Some w))) → Becomes d x (joined l' r') ps
+becomes_second d x None r' ys ps w none h = record { was = w.was; is_was = w.is_was; tree = w.tree; merged = w.merged; holds = h w.tree w.holds }
+becomes_second d x (Some l') r' ys ps w none h = record {
+  was = and_of l' w.was;
+  is_was = rw w.is_was refl;
+  tree = and_of l' w.tree;
+  merged = left_in_second (and_binary l' w.was) none w.merged refl;
+  holds = h w.tree w.holds;
+}
+
+-- in the first
+becomes_first : (d x : BoundTree) (l' r' : Option BoundTree) (xs ps : List Place) {z : BoundTree} → Becomes d z l' xs → ((w : BoundTree) → Holds z xs (Some w) → Holds x ps (joined (Some w) r')) → Becomes d x (joined l' r') ps
+becomes_first d x l' None xs ps w h = record { was = w.was; is_was = rw w.is_was refl; tree = w.tree; merged = w.merged; holds = h w.tree w.holds }
+becomes_first d x l' (Some r') xs ps w h = record {
+  was = and_of w.was r';
+  is_was = rw w.is_was refl;
+  tree = and_of w.tree r';
+  merged = left_in_first (and_binary w.was r') w.merged refl;
+  holds = h w.tree w.holds;
+}
+
+becomes_both : (d : BoundTree) (q r : RangeComparison) (next : Option ℕ) (b : Box BoundExpression Global) (t : LogicalType) (l z : BoundTree) (l' z' : Option BoundTree) (ls rs back front : List Place) → and_node t l z ≡ and_of l z
+    → Holds l ls l' → Holds z rs z' → range_of d ≡ Some (range_seen q) → (Has front (opposite q.side, bound_of q.item.now) → ⊥)
+    → ((back front : List Place) → ls ≡ back ++ Open r next ∷ front → (Has front (opposite q.side, bound_of q.item.now) → ⊥) → Becomes d l l' (back ++ Merged b ∷ front))
+    → ((back front : List Place) → rs ≡ back ++ Open r next ∷ front → (Has front (opposite q.side, bound_of q.item.now) → ⊥) → Becomes d z z' (back ++ Merged b ∷ front))
+    → Parts rs ls back (Open r next) front → Becomes d (and_node t l z) (joined l' z') (back ++ Merged b ∷ front)
+becomes_both d q r next b t l z l' z' ls rs back front same h g e free on_left on_right (in_rs rest x y) =
     let k : Bounded = (opposite q.side, bound_of q.item.now) in
-    let each : IsFree (rest ++ ls) k = subst (λ w. IsFree w k) y free in
-    let w = on_right back rest x (free_first rest ls k each) in
+    let none : Has (rest ++ ls) k → ⊥ = subst (λ w. Has w k → ⊥) y free in
+    let w = on_right back rest x (λ i. none (has_first rest ls k i)) in
     let parts : (back ++ Merged b ∷ rest) ++ ls ≡ back ++ Merged b ∷ front = append_assoc back (Merged b ∷ rest) ls ∙ ap (λ v. back ++ Merged b ∷ v) (sym y) in
-    record {
-      tree = and_of l' w.tree;
-      merged = left_in_second (after_binary (is_merged (rs ++ ls)) t l' z') (holds_none d q h e (free_second rest ls k each)) w.merged refl;
-      holds = both_merged t (back ++ Merged b ∷ front) h w.holds parts (merged_there back b front);
-    }
-becomes_both d q r next b t l l' z z' ls rs back front h g e free on_left on_right (in_ls rest x y) =
+    becomes_second d (and_node t l z) l' z' (back ++ Merged b ∷ rest) (back ++ Merged b ∷ front) w (holds_none d q h e (λ i. none (has_second rest ls k i)))
+    (λ u held. subst (λ ps. Holds (and_node t l z) ps (joined l' (Some u))) parts (both {t = t} same h held))
+becomes_both d q r next b t l z l' z' ls rs back front same h g e free on_left on_right (in_ls rest x y) =
     let w = on_left rest front y free in
     let parts : rs ++ (rest ++ Merged b ∷ front) ≡ back ++ Merged b ∷ front = sym (append_assoc rs rest (Merged b ∷ front)) ∙ ap (λ v. v ++ Merged b ∷ front) (sym x) in
-    record {
-      tree = and_of w.tree z';
-      merged = left_in_first (after_binary (is_merged (rs ++ ls)) t l' z') w.merged refl;
-      holds = both_merged t (back ++ Merged b ∷ front) w.holds g parts (merged_there back b front);
-    }
+    becomes_first d (and_node t l z) l' z' (rest ++ Merged b ∷ front) (back ++ Merged b ∷ front) w
+    (λ u held. subst (λ ps. Holds (and_node t l z) ps (joined (Some u) z')) parts (both {t = t} same held g))
 
-pub holds_merged : {l u : BoundTree} {ps : List Place} (d : BoundTree) (q r : RangeComparison) (next : Option ℕ) (b : Box BoundExpression Global) → Holds l ps u → range_of d ≡ Some (range_seen q)
+pub holds_merged : {l : BoundTree} {o : Option BoundTree} {ps : List Place} (d : BoundTree) (q r : RangeComparison) (next : Option ℕ) (b : Box BoundExpression Global) → Holds l ps o → range_of d ≡ Some (range_seen q)
     → ((c : BoundTree) → range_of c ≡ Some (range_seen r) → MergeTo c d (tree_in b))
-    → (back front : List Place) → ps ≡ back ++ Open r next ∷ front → IsFree front (opposite q.side, bound_of q.item.now) → Becomes d l u (back ++ Merged b ∷ front)
+    → (back front : List Place) → ps ≡ back ++ Open r next ∷ front → (Has front (opposite q.side, bound_of q.item.now) → ⊥) → Becomes d l o (back ++ Merged b ∷ front)
 holds_merged d q r next b (no_range {c = c} a n) e merges back front f free = let h = only Other (Open r next) back front f in let g : Other ≡ Open r next = h.0 in cc
 holds_merged d q r next b (open_range {c = c} {r = p} {next = o} a n) e merges back front f free =
     let h = only (Open p o) (Open r next) back front f in
@@ -222,8 +258,9 @@ holds_merged d q r next b (open_range {c = c} {r = p} {next = o} a n) e merges b
     let s : p ≡ r = cc in
     becomes_alone d c b back front a (merges c (n ∙ ap (λ z. Some (range_seen z)) s)) h.1 h.2
 holds_merged d q r next b (merged_range {c = c} {b = w} a m n) e merges back front f free = let h = only (Merged w) (Open r next) back front f in let g : Merged w ≡ Open r next = h.0 in cc
-holds_merged d q r next b (both {t = t} {l = l} {l' = l'} {r = z} {r' = z'} {ls = ls} {rs = rs} h g) e merges back front f free =
-    becomes_both d q r next b t l l' z z' ls rs back front h g e free (holds_merged d q r next b h e merges) (holds_merged d q r next b g e merges) (parts_of rs ls back (Open r next) front f)
+holds_merged d q r next b (gone_range a) e merges back front f free = let h = only Gone (Open r next) back front f in let g : Gone ≡ Open r next = h.0 in cc
+holds_merged d q r next b (both {t = t} {l = l} {r = z} {l' = l'} {r' = z'} {ls = ls} {rs = rs} same h g) e merges back front f free =
+    becomes_both d q r next b t l z l' z' ls rs back front same h g e free (holds_merged d q r next b h e merges) (holds_merged d q r next b g e merges) (parts_of rs ls back (Open r next) front f)
 
 -- ---- nothing is merged yet
 
@@ -231,49 +268,61 @@ pub noted_single : (l : BoundTree) (o : Option RangeComparison) (p : Place) → 
 noted_single l None p a e f = subst (λ z. IsNoted l (z ∷ [])) (sym f) (no_range a (sym e), refl)
 noted_single l (Some r) p a e f = subst (λ z. IsNoted l (z ∷ [])) (sym f.1) (open_range {r = r} {next = f.0} a (sym e), refl)
 
-pub noted_both : {x y l : BoundTree} {xs ys : List Place} → IsBinary and_also x y l → IsNoted x xs → IsNoted y ys → IsNoted l (ys ++ xs)
-noted_both {x = x} {y = y} {l = l} {xs = xs} {ys = ys} b h g =
-    let none : is_merged (ys ++ xs) ≡ false = merged_append ys xs ∙ rw (h.1, g.1) refl in
-    subst (λ z. IsNoted z (ys ++ xs)) (sym b.1) (subst (λ m. Holds (and_node b.0 x y) (ys ++ xs) (and_after m b.0 x y)) none (both {t = b.0} h.0 g.0), none)
-
--- ---- the tree is made
+pub noted_and : (t : LogicalType) (x y : BoundTree) (xs ys : List Place) → and_node t x y ≡ and_of x y → IsNoted x xs → IsNoted y ys → IsNoted (and_node t x y) (ys ++ xs)
+noted_and t x y xs ys same h g = (subst (λ z. Holds (and_node t x y) (ys ++ xs) (Some z)) (sym same) (both {t = t} same h.0 g.0), merged_append ys xs ∙ rw (h.1, g.1) refl)
 
 -- a single conjunct has one place
-pub record OnePlace (l : BoundTree) (ps : List Place) (u : BoundTree) : Type 0 where
+pub record OnePlace (l : BoundTree) (ps : List Place) (o : Option BoundTree) : Type 0 where
   pub place : Place
   pub alone : ps ≡ place ∷ []
-  pub merged : (b : Box BoundExpression Global) → place ≡ Merged b → u ≡ tree_in b
-  pub stays : is_merged (place ∷ []) ≡ false → u ≡ l
+  pub merged : (b : Option (Box BoundExpression Global)) → place ≡ became_place b → o ≡ option_map tree_in b
+  pub stays : has_merged (place ∷ []) ≡ false → o ≡ Some l
 
-pub one_place : {l u : BoundTree} {ps : List Place} → Holds l ps u → IsFalse (is_and l) → OnePlace l ps u
-one_place (no_range {c = c} x n) a = record { place = Other; alone = refl; merged = λ b e. cc; stays = λ e. refl }
-one_place (open_range {c = c} {r = r} {next = next} x n) a = record { place = Open r next; alone = refl; merged = λ b e. cc; stays = λ e. refl }
-one_place (merged_range {c = c} {b = w} x m n) a = record { place = Merged w; alone = refl; merged = λ b e. let s : w ≡ b = cc in ap tree_in s; stays = λ e. cc }
-one_place (both h g) a = cc
+pub one_place : {l : BoundTree} {o : Option BoundTree} {ps : List Place} → Holds l ps o → IsFalse (is_and l) → OnePlace l ps o
+one_place (no_range {c = c} x n) a = record { place = Other; alone = refl; merged = λ b e. not_other b e; stays = λ e. refl }
+  where
+    not_other : {A : Type 0} (b : Option (Box BoundExpression Global)) → Other ≡ became_place b → A
+    not_other None e = cc
+    not_other (Some b) e = cc
+one_place (open_range {c = c} {r = r} {next = next} x n) a = record { place = Open r next; alone = refl; merged = λ b e. not_open b e; stays = λ e. refl }
+  where
+    not_open : {A : Type 0} (b : Option (Box BoundExpression Global)) → Open r next ≡ became_place b → A
+    not_open None e = cc
+    not_open (Some b) e = cc
+one_place (merged_range {c = c} {b = w} x m n) a = record { place = Merged w; alone = refl; merged = λ b e. same b e; stays = λ e. cc }
+  where
+    same : (b : Option (Box BoundExpression Global)) → Merged w ≡ became_place b → Some (tree_in w) ≡ option_map tree_in b
+    same None e = cc
+    same (Some b) e = let s : w ≡ b = cc in ap (λ z. Some (tree_in z)) s
+one_place (gone_range {c = c} x) a = record { place = Gone; alone = refl; merged = λ b e. same b e; stays = λ e. cc }
+  where
+    same : (b : Option (Box BoundExpression Global)) → Gone ≡ became_place b → None ≡ option_map tree_in b
+    same None e = refl
+    same (Some b) e = cc
+one_place (both same h g) a = cc
 
 -- the places of an And are those of its children
-pub record BothPlaces (x y l : BoundTree) (ps : List Place) (u : BoundTree) : Type 0 where
-  pub type : LogicalType
+pub record BothPlaces (x y l : BoundTree) (ps : List Place) (o : Option BoundTree) : Type 0 where
   pub lefts : List Place
   pub rights : List Place
-  pub left : BoundTree
-  pub right : BoundTree
+  pub left : Option BoundTree
+  pub right : Option BoundTree
   pub parts : ps ≡ rights ++ lefts
   pub on_left : Holds x lefts left
   pub on_right : Holds y rights right
-  pub whole : l ≡ and_node type x y
-  pub tree : u ≡ and_after (is_merged (rights ++ lefts)) type left right
+  pub whole : l ≡ and_of x y
+  pub tree : o ≡ joined left right
 
-pub both_places : {x y l u : BoundTree} {ps : List Place} → IsBinary and_also x y l → Holds l ps u → BothPlaces x y l ps u
+pub both_places : {x y l : BoundTree} {o : Option BoundTree} {ps : List Place} → IsBinary and_also x y l → Holds l ps o → BothPlaces x y l ps o
 both_places b (no_range {c = c} a n) = let e : is_and c ≡ true = rw b.1 refl in cc
 both_places b (open_range {c = c} a n) = let e : is_and c ≡ true = rw b.1 refl in cc
 both_places b (merged_range {c = c} a m n) = let e : is_and c ≡ true = rw b.1 refl in cc
-both_places {x = x} {y = y} b (both {t = t} {l = l} {l' = l'} {r = r} {r' = r'} {ls = ls} {rs = rs} h g) =
+both_places b (gone_range {c = c} a) = let e : is_and c ≡ true = rw b.1 refl in cc
+both_places {x = x} {y = y} b (both {t = t} {l = l} {r = r} {l' = l'} {r' = r'} {ls = ls} {rs = rs} typed h g) =
     let same : and_node t l r ≡ and_node b.0 x y = b.1 in
     let left : l ≡ x = cc in
     let right : r ≡ y = cc in
     record {
-      type = t;
       lefts = ls;
       rights = rs;
       left = l';
@@ -281,40 +330,17 @@ both_places {x = x} {y = y} b (both {t = t} {l = l} {l' = l'} {r = r} {r' = r'} 
       parts = refl;
       on_left = subst (λ z. Holds z ls l') left h;
       on_right = subst (λ z. Holds z rs r') right g;
-      whole = rw (left, right) refl;
+      whole = typed ∙ rw (left, right) refl;
       tree = refl;
     }
 
-pub tree_of_both : (t : LogicalType) (x y x' y' : BoundTree) (xs ys : List Place) (left right o : Option (Box BoundExpression Global)) → IsTree xs x x' left → IsTree ys y y' right
-    → option_map tree_in o ≡ and_changed x (option_map tree_in left) y (option_map tree_in right) → IsTree (ys ++ xs) (and_node t x y) (and_after (is_merged (ys ++ xs)) t x' y') o
-tree_of_both t x y x' y' xs ys None None None h g e =
-    let none : is_merged (ys ++ xs) ≡ false = merged_append ys xs ∙ rw (h.0, g.0) refl in
-    (none, rw (none, h.1, g.1) refl)
-tree_of_both t x y x' y' xs ys None None (Some o) h g e = cc
-tree_of_both t x y x' y' xs ys None (Some b) (Some o) h g e =
-    let some : is_merged (ys ++ xs) ≡ true = merged_append ys xs ∙ rw (h.0, g.0) refl in
-    let f : tree_in o ≡ and_of x (tree_in b) = cc in
-    (some, rw (some, h.1, ← g.1) f)
-tree_of_both t x y x' y' xs ys (Some a) None (Some o) h g e =
-    let some : is_merged (ys ++ xs) ≡ true = merged_append ys xs ∙ rw (h.0, g.0) refl in
-    let f : tree_in o ≡ and_of (tree_in a) y = cc in
-    (some, rw (some, ← h.1, g.1) f)
-tree_of_both t x y x' y' xs ys (Some a) (Some b) (Some o) h g e =
-    let some : is_merged (ys ++ xs) ≡ true = merged_append ys xs ∙ rw (h.0, g.0) refl in
-    let f : tree_in o ≡ and_of (tree_in a) (tree_in b) = cc in
-    (some, rw (some, ← h.1, ← g.1) f)
-tree_of_both t x y x' y' xs ys None (Some b) None h g e = cc
-tree_of_both t x y x' y' xs ys (Some a) None None h g e = cc
-tree_of_both t x y x' y' xs ys (Some a) (Some b) None h g e = cc
-
-pub tree_of_places : {x y l u : BoundTree} {ps : List Place} (b : BothPlaces x y l ps u) (left right o : Option (Box BoundExpression Global)) → IsTree b.lefts x b.left left → IsTree b.rights y b.right right
-    → option_map tree_in o ≡ and_changed x (option_map tree_in left) y (option_map tree_in right) → IsTree ps l u o
-tree_of_places {x = x} {y = y} b left right o h g e = rw (b.parts, b.whole, b.tree) (tree_of_both b.type x y b.left b.right b.lefts b.rights left right o h g e)
-
-pub tree_of_one : (l u : BoundTree) (p : Place) (o : Option (Box BoundExpression Global)) → ((b : Box BoundExpression Global) → p ≡ Merged b → u ≡ tree_in b) → (is_merged (p ∷ []) ≡ false → u ≡ l)
-    → MatchOption o (is_merged (p ∷ []) ≡ false) (λ b. p ≡ Merged b) → IsTree (p ∷ []) l u o
-tree_of_one l u p None f g h = (h, g h)
-tree_of_one l u p (Some b) f g h = (ap (λ z. is_merged (z ∷ [])) h, sym (f b h))
+-- each conjunct has a place
+pub holds_count : {l : BoundTree} {o : Option BoundTree} {ps : List Place} → Holds l ps o → length ps ≡ length (conjuncts l)
+holds_count (no_range {c = c} a n) = sym (ap length (alone c a))
+holds_count (open_range {c = c} a n) = sym (ap length (alone c a))
+holds_count (merged_range {c = c} a m n) = sym (ap length (alone c a))
+holds_count (gone_range {c = c} a) = sym (ap length (alone c a))
+holds_count (both {l = l} {r = r} {ls = ls} {rs = rs} same h g) = omega (arith, length-append rs ls, length-append (conjuncts l) (conjuncts r), holds_count h, holds_count g)
 
 -- the last place is taken
 ends : (xs ys : List Place) (p q : Place) → xs ++ p ∷ [] ≡ ys ++ q ∷ [] → (xs ≡ ys) × (p ≡ q)

@@ -11,5 +11,10 @@ pub mod Children
 pub mod Unique
 pub mod Linking
 pub mod Holding
-pub mod Taking
 pub mod Heading
+pub mod Chains
+pub mod Cutting
+pub mod Standing
+pub mod Along
+pub mod Telling
+pub mod Wide

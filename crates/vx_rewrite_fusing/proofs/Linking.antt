@@ -1,20 +1,18 @@
 -- Where the ranges of an item stand, after a conjunct is put in front or merged.
 use Rattle.std.proofs.Common.{◌≡◌, ◌⊎◌, inl, inr, ℕ, zero, suc, ◌<◌, ◌≤◌, List, [], ◌∷◌, ◌++◌, length, get_or, set, refl, sym, subst, ap, ◌∙◌, Bool, true, false, arith, length-append, length-set}
 use Rattle.std.specs.Prelude.{Option, Some, None, slice_get}
-use Rattle.std.specs.declared.alloc.Global.{Global}
-use Rattle.std.specs.declared.boxed.Box.{Box}
 use denote.Ref.{Bor}
 use Rattle.vx_tree.specs.Equality.{equal_bound, equal_bound-Decides}
 use Rattle.vx_tree.specs.Trees.{BoundTree}
 use Rattle.vx_tree.specs.Views.{bound_of}
 use Rattle.vx_tree.specs.declared.bound.BoundExpression.{BoundExpression}
-use Rattle.vx_rewrite_fusing.specs.declared.left.Left.{Left}
-use Rattle.vx_rewrite_fusing.specs.declared.left.Place.{Place}
-use Rattle.vx_rewrite_fusing.specs.declared.left.Place.TheVariants.{Other, Open, Merged}
+use Rattle.vx_rewrite_fusing.specs.declared.places.Places.{Places}
+use Rattle.vx_rewrite_fusing.specs.declared.places.Place.{Place}
+use Rattle.vx_rewrite_fusing.specs.declared.places.Place.TheVariants.{Other, Open, Merged, Gone}
 use Rattle.vx_rewrite_fusing.specs.declared.ranges.RangeComparison.{RangeComparison}
 use Rattle.vx_rewrite_fusing.specs.declared.ranges.Side.{Side}
 use Rattle.vx_rewrite_fusing.specs.declared.ranges.Side.TheVariants.{Below, Above}
-use Rattle.vx_rewrite_fusing.specs.Indexed.{Bounded, bounded_by, bounded_at, next_of, next_at, IsLast, head_of, SetsHead, IsLinked, IsFirst}
+use Rattle.vx_rewrite_fusing.specs.Places.{Bounded, bounded_by, bounded_at, next_of, next_at, IsLast, head_of, SetsHead, IsLinked}
 use Rattle.vx_rewrite_fusing.proofs.Merges.{either}
 
 -- ---- what stands at a place
@@ -82,15 +80,9 @@ place_read [] i p l e = absurd (omega arith)
 place_read (q ∷ ps) zero p l e = ap Some (sym e)
 place_read (q ∷ ps) (suc i) p l e = place_read ps i p (omega arith) e
 
--- a place that is one of an item is open
-pub open_of : (p : Place) (k : Bounded) → bounded_by p ≡ Some k → (r : RangeComparison) × (next : Option ℕ) × (p ≡ Open r next)
-open_of Other k e = cc
-open_of (Open r next) k e = (r, next, refl)
-open_of (Merged b) k e = cc
-
 -- ---- the last place of an item
 
-below_or : (i n : ℕ) → (i < n) ⊎ (n ≤ i)
+pub below_or : (i n : ℕ) → (i < n) ⊎ (n ≤ i)
 below_or i zero = inr (omega arith)
 below_or zero (suc n) = inl (omega arith)
 below_or (suc i) (suc n) = either (λ (l : i < n). inl (omega arith)) (λ (l : n ≤ i). inr (omega arith)) (below_or i n)
@@ -166,14 +158,14 @@ parts_same {s = s} {t = t} {b = b} {c = c} e = (ap side e, ap tree e)
     tree None = b
     tree (Some k) = k.1
 
-pub pushed_open : (old new : Left) (r : RangeComparison) (next : Option ℕ) → IsLinked old → new.places.items ≡ old.places.items ++ Open r next ∷ [] → next ≡ head_of old.heads r.side r.item → SetsHead old.heads new.heads r.side r.item (Some (length old.places.items)) → IsLinked new
+pub pushed_open : (old new : Places) (r : RangeComparison) (next : Option ℕ) → IsLinked old → new.list.items ≡ old.list.items ++ Open r next ∷ [] → next ≡ head_of old.heads r.side r.item → SetsHead old.heads new.heads r.side r.item (Some (length old.list.items)) → IsLinked new
 pushed_open old new r next linked e before sets = record {
   heads = λ s x. subst (λ qs. IsLast qs (s, bound_of x.now) (length qs) (head_of new.heads s x)) (sym e) (either (here s x) (elsewhere s x) (same_or s r.side (bound_of x.now) (bound_of r.item.now)));
   nexts = subst NextsRight (sym e) (nexts_pushed ps p linked.nexts (λ k f. subst (λ j. IsLast ps j (length ps) next) (own k f) (subst (IsLast ps (r.side, bound_of r.item.now) (length ps)) (sym before) (linked.heads r.side r.item))));
 }
   where
     ps : List Place
-    ps = old.places.items
+    ps = old.list.items
 
     p : Place
     p = Open r next
@@ -187,14 +179,14 @@ pushed_open old new r next linked e before sets = record {
     elsewhere : (s : Side) (x : Bor BoundExpression) → ((s ≡ r.side) × (bound_of x.now ≡ bound_of r.item.now) → ⊥) → IsLast (ps ++ p ∷ []) (s, bound_of x.now) (length (ps ++ p ∷ [])) (head_of new.heads s x)
     elsewhere s x apart = subst (IsLast (ps ++ p ∷ []) (s, bound_of x.now) (length (ps ++ p ∷ []))) (sym ((sets s x).1 apart)) (last_past ps p (s, bound_of x.now) (head_of old.heads s x) (λ f. let q = parts_same f in apart (sym q.0, sym q.1)) (linked.heads s x))
 
-pub pushed_other : (old new : Left) → IsLinked old → new.places.items ≡ old.places.items ++ Other ∷ [] → new.heads ≡ old.heads → IsLinked new
+pub pushed_other : (old new : Places) → IsLinked old → new.list.items ≡ old.list.items ++ Other ∷ [] → new.heads ≡ old.heads → IsLinked new
 pushed_other old new linked e same = record {
   heads = λ s x. subst (λ qs. IsLast qs (s, bound_of x.now) (length qs) (head_of new.heads s x)) (sym e) (subst (λ h. IsLast (ps ++ Other ∷ []) (s, bound_of x.now) (length (ps ++ Other ∷ [])) (head_of h s x)) (sym same) (last_past ps Other (s, bound_of x.now) (head_of old.heads s x) (λ f. cc) (linked.heads s x)));
   nexts = subst NextsRight (sym e) (nexts_pushed ps Other linked.nexts (λ k f. cc));
 }
   where
     ps : List Place
-    ps = old.places.items
+    ps = old.list.items
 
 -- ---- a range that is merged
 
@@ -243,42 +235,43 @@ module _ (ps : List Place) (i : ℕ) (q : Place) (k : Bounded) (gone : bounded_b
       front l = last_below h j (next_at ps j) l (f j h was)
 
 -- the kept place is one of the range
-pub first_is : (left : Left) (s : Side) (x : Bor BoundExpression) (i : ℕ) → IsLinked left → head_of left.heads s x ≡ Some i → IsLast left.places.items (s, bound_of x.now) (length left.places.items) (Some i)
-first_is left s x i linked e = subst (IsLast left.places.items (s, bound_of x.now) (length left.places.items)) e (linked.heads s x)
+pub first_is : (places : Places) (s : Side) (x : Bor BoundExpression) (i : ℕ) → IsLinked places → head_of places.heads s x ≡ Some i → IsLast places.list.items (s, bound_of x.now) (length places.list.items) (Some i)
+first_is places s x i linked e = subst (IsLast places.list.items (s, bound_of x.now) (length places.list.items)) e (linked.heads s x)
 
-pub none_is : (left : Left) (s : Side) (x : Bor BoundExpression) → IsLinked left → head_of left.heads s x ≡ None → (j : ℕ) → bounded_at left.places.items j ≡ Some (s, bound_of x.now) → ⊥
-none_is left s x linked e j f = go (subst (IsLast left.places.items (s, bound_of x.now) (length left.places.items)) e (linked.heads s x))
+pub none_is : (places : Places) (s : Side) (x : Bor BoundExpression) → IsLinked places → head_of places.heads s x ≡ None → (j : ℕ) → bounded_at places.list.items j ≡ Some (s, bound_of x.now) → ⊥
+none_is places s x linked e j f = go (subst (IsLast places.list.items (s, bound_of x.now) (length places.list.items)) e (linked.heads s x))
   where
-    go : IsLast left.places.items (s, bound_of x.now) (length left.places.items) None → ⊥
-    go h = h j (bounded_inside left.places.items j (s, bound_of x.now) f) f
+    go : IsLast places.list.items (s, bound_of x.now) (length places.list.items) None → ⊥
+    go h = h j (bounded_inside places.list.items j (s, bound_of x.now) f) f
 
--- a first range bounds the item from that side
-pub first_bounds : (old new : Left) (s : Side) (x : Bor BoundExpression) (i : ℕ) (r : RangeComparison) → IsLinked old → IsFirst old new s x i r → (r.side ≡ s) × (bound_of r.item.now ≡ bound_of x.now)
-first_bounds old new s x i r linked first =
-    let last = first_is old s x i linked first.head in
-    parts_same (sym (bounded_here old.places.items i (Open r first.next) first.is_open) ∙ last.1)
+-- the first range bounds the item from that side
+pub first_bounds : (places : Places) (s : Side) (x : Bor BoundExpression) (i : ℕ) (r : RangeComparison) (next : Option ℕ) → IsLinked places → head_of places.heads s x ≡ Some i → slice_get places.list.items i ≡ Some (Open r next) → (r.side ≡ s) × (bound_of r.item.now ≡ bound_of x.now)
+first_bounds places s x i r next linked head there =
+    let last = first_is places s x i linked head in
+    parts_same (sym (bounded_here places.list.items i (Open r next) there) ∙ last.1)
 
-pub merged_linked : (old mid new : Left) (s : Side) (x : Bor BoundExpression) (i : ℕ) (r : RangeComparison) (b : Box BoundExpression Global) → IsLinked old → IsFirst old mid s x i r → new.heads ≡ mid.heads → new.places.items ≡ set old.places.items i (Merged b) → IsLinked new
-merged_linked old mid new s x i r b linked first same e = record {
-  heads = λ t y. subst (λ qs. IsLast qs (t, bound_of y.now) (length qs) (head_of new.heads t y)) (sym e) (subst (λ h. IsLast qs (t, bound_of y.now) (length qs) (head_of h t y)) (sym same) (either (here t y) (elsewhere t y) (same_or t s (bound_of y.now) (bound_of x.now))));
-  nexts = subst NextsRight (sym e) (nexts_set ps i (Merged b) (s, bound_of x.now) refl last.0 last.1 last.2 linked.nexts);
+-- the first range of an item is taken out
+pub removed_linked : (old new : Places) (s : Side) (x : Bor BoundExpression) (i : ℕ) (r : RangeComparison) (after : Option ℕ) (q : Place) → bounded_by q ≡ None → IsLinked old → head_of old.heads s x ≡ Some i → slice_get old.list.items i ≡ Some (Open r after) → SetsHead old.heads new.heads s x after → new.list.items ≡ set old.list.items i q → IsLinked new
+removed_linked old new s x i r after q gone linked head there sets e = record {
+  heads = λ t y. subst (λ qs. IsLast qs (t, bound_of y.now) (length qs) (head_of new.heads t y)) (sym e) (either (here t y) (elsewhere t y) (same_or t s (bound_of y.now) (bound_of x.now)));
+  nexts = subst NextsRight (sym e) (nexts_set ps i q (s, bound_of x.now) gone last.0 last.1 last.2 linked.nexts);
 }
   where
     ps : List Place
-    ps = old.places.items
+    ps = old.list.items
 
     qs : List Place
-    qs = set ps i (Merged b)
+    qs = set ps i q
 
     last : (i < length ps) × (bounded_at ps i ≡ Some (s, bound_of x.now)) × ((j : ℕ) → i < j → j < length ps → bounded_at ps j ≡ Some (s, bound_of x.now) → ⊥)
-    last = first_is old s x i linked first.head
+    last = first_is old s x i linked head
 
-    next : IsLast ps (s, bound_of x.now) i first.next
-    next = subst (IsLast ps (s, bound_of x.now) i) (next_here ps i (Open r first.next) first.is_open) (linked.nexts i (s, bound_of x.now) last.1)
+    next : IsLast ps (s, bound_of x.now) i after
+    next = subst (IsLast ps (s, bound_of x.now) i) (next_here ps i (Open r after) there) (linked.nexts i (s, bound_of x.now) last.1)
 
-    here : (t : Side) (y : Bor BoundExpression) → (t ≡ s) × (bound_of y.now ≡ bound_of x.now) → IsLast qs (t, bound_of y.now) (length qs) (head_of mid.heads t y)
-    here t y h = subst (IsLast qs (t, bound_of y.now) (length qs)) (sym ((first.sets t y).0 h)) (rw (h.0, h.1) (last_of_it ps i (Merged b) (s, bound_of x.now) refl last.0 last.1 last.2 first.next next))
+    here : (t : Side) (y : Bor BoundExpression) → (t ≡ s) × (bound_of y.now ≡ bound_of x.now) → IsLast qs (t, bound_of y.now) (length qs) (head_of new.heads t y)
+    here t y h = subst (IsLast qs (t, bound_of y.now) (length qs)) (sym ((sets t y).0 h)) (rw (h.0, h.1) (last_of_it ps i q (s, bound_of x.now) gone last.0 last.1 last.2 after next))
 
-    elsewhere : (t : Side) (y : Bor BoundExpression) → ((t ≡ s) × (bound_of y.now ≡ bound_of x.now) → ⊥) → IsLast qs (t, bound_of y.now) (length qs) (head_of mid.heads t y)
-    elsewhere t y n = subst (IsLast qs (t, bound_of y.now) (length qs)) (sym ((first.sets t y).1 n)) (last_of_other ps i (Merged b) (s, bound_of x.now) refl last.0 last.1 last.2 (t, bound_of y.now) (length qs) (head_of old.heads t y) (λ h. n (ap (λ (z : Bounded). z.0) h, ap (λ (z : Bounded). z.1) h))
-        (rw (length-set ps i (Merged b)) (linked.heads t y)))
+    elsewhere : (t : Side) (y : Bor BoundExpression) → ((t ≡ s) × (bound_of y.now ≡ bound_of x.now) → ⊥) → IsLast qs (t, bound_of y.now) (length qs) (head_of new.heads t y)
+    elsewhere t y n = subst (IsLast qs (t, bound_of y.now) (length qs)) (sym ((sets t y).1 n)) (last_of_other ps i q (s, bound_of x.now) gone last.0 last.1 last.2 (t, bound_of y.now) (length qs) (head_of old.heads t y) (λ h. n (ap (λ (z : Bounded). z.0) h, ap (λ (z : Bounded). z.1) h))
+        (rw (length-set ps i q) (linked.heads t y)))

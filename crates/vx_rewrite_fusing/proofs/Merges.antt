@@ -320,7 +320,7 @@ not_itself (above_and_below e f) = cc
 alone_none : (b : BoundTree) → is_and b ≡ false → NoneMergeable (conjuncts b) (conjuncts b)
 alone_none b e c d i j k = not_itself (subst (λ x. MergeTo x b k.0) (in_alone c b e i) (subst (λ x. MergeTo c x k.0) (in_alone d b e j) k.1))
 
-none_of_fused : (b : BoundTree) → Fused b → NoneMergeable (conjuncts b) (conjuncts b)
+pub none_of_fused : (b : BoundTree) → Fused b → NoneMergeable (conjuncts b) (conjuncts b)
 none_of_fused (scope t) f = alone_none (scope t) refl
 none_of_fused (node t g bs) f = f.0
 

@@ -57,7 +57,7 @@ pairs_in_both : {l x y u w : BoundTree} (t : LogicalType) (left rest : Option Bo
 pairs_in_both {y = y} t None rest p none q = pairs_then (pairs_in_first t y p) q
 pairs_in_both {y = y} t (Some s) rest p none q = pairs_then (pairs_in_first t y p) (pairs_in_second (node_type (and_of s y)) s none q)
 
-conjuncts_left-joined : (l r : Option BoundTree) → conjuncts_left (joined l r) ≡ conjuncts_left l ++ conjuncts_left r
+pub conjuncts_left-joined : (l r : Option BoundTree) → conjuncts_left (joined l r) ≡ conjuncts_left l ++ conjuncts_left r
 conjuncts_left-joined None r = refl
 conjuncts_left-joined (Some l) None = sym (append-nil (conjuncts l))
 conjuncts_left-joined (Some l) (Some r) = refl

@@ -4,7 +4,7 @@ use Rattle.std.specs.Prelude.{Some}
 use Rattle.vx_tree.specs.Trees.{BoundTree}
 use Rattle.vx_rewrite_fusing.specs.declared.ranges.Side.{Side}
 use Rattle.vx_rewrite_fusing.specs.declared.ranges.Side.TheVariants.{Below, Above}
-use Rattle.vx_rewrite_fusing.specs.Indexed.{opposite}
+use Rattle.vx_rewrite_fusing.specs.Places.{opposite}
 use Rattle.vx_rewrite_fusing.specs.Conjuncts.{from_above, range_of, between_node, MergeTo, below_and_above, above_and_below, Mergeable}
 use Rattle.vx_rewrite_fusing.specs.Finding.{range_from}
 

@@ -1,6 +1,6 @@
 -- What is found where memory runs out, and what says the same of what is found.
 use Rattle.std.proofs.Common.{◌≡◌, subst, sym, refl}
-use Rattle.std.specs.Prelude.{Option, Some, None, Result, Ok, Err, MatchOption}
+use Rattle.std.specs.Prelude.{Option, Some, None, Result, Ok, Err}
 use Rattle.vx_dtype.specs.declared.error.VortexError.{VortexError}
 use Rattle.vx_dtype.specs.declared.error.VortexError.TheVariants.{OutOfMemory}
 use Rattle.vx_rewrite_fusing.specs.Finding.{Finds}
@@ -17,7 +17,3 @@ module _ {A : Type 0} (nothing : Type 0) (done : A → Type 0) where
   found_as other did (Ok None) f g h p = f p
   found_as other did (Ok (Some a)) f g h p = (λ n. p.0 (g n), h a p.1)
   found_as other did (Err e) f g h p = (λ n. p.0 (g n), p.1)
-
-  pub found_option : (o : Option A) → MatchOption o nothing (λ a. (nothing → ⊥) × done a) → Finds nothing done (Ok o)
-  found_option None p = p
-  found_option (Some a) p = p

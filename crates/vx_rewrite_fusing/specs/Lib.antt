@@ -2,4 +2,4 @@ pub mod Conjuncts
 pub mod Merging
 pub mod Laws
 pub mod Finding
-pub mod Indexed
+pub mod Places

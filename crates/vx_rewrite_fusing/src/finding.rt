@@ -1,16 +1,19 @@
 // The whole of range fusing: children first, then the pairs at the root.
-ghost use Rattle.std.specs.Prelude.{◌≡◌, ℕ, List, ◌∷◌, ◌++◌, [], Ok, IfErr, IfOk, MatchOption};
+ghost use Rattle.std.specs.Prelude.{◌≡◌, ◌≤◌, ℕ, All, IsTrue, List, ◌∷◌, ◌++◌, [], Ok, IfErr, IfOk, MatchOption, MatchResult, length, map, vec_capacity, vec_len};
 ghost use Rattle.vx_dtype.specs.declared.error.VortexError.TheVariants.{OutOfMemory};
 ghost use Rattle.vx_rewrite_keep.specs.Keeps.{Keeps};
 ghost use Rattle.vx_tree.specs.Nodes.{bound_children_of};
-ghost use Rattle.vx_tree.specs.Trees.{node_type, EachWellTyped, WellTyped};
+ghost use Rattle.vx_tree.specs.Trees.{node_type, BoundTree, EachWellTyped, WellTyped};
 ghost use Rattle.vx_tree.specs.Views.{bound_of, bounds_of};
 ghost use Rattle.vx_tree.specs.declared.bound.BoundExpression.{BoundExpression};
-ghost use Rattle.vx_rewrite_fusing.specs.Conjuncts.{Fused, FusedBelow};
-ghost use Rattle.vx_rewrite_fusing.specs.Finding.{over_children, EachFusedOf, Finds, FirstChanged};
+ghost use Rattle.vx_rewrite_fusing.specs.Conjuncts.{is_and, two_bounds, Fused, FusedBelow};
+ghost use Rattle.vx_rewrite_fusing.specs.Finding.{over_children, tree_in, EachFusedOf, Finds, FirstChanged};
 ghost use Rattle.vx_rewrite_fusing.specs.Merging.{IsFusedOf, Merges};
+ghost use Rattle.vx_rewrite_fusing.specs.Places.{EachFound, IsChain};
 
+use crate::chain::{fused_tree, is_wide, merge_places, places_of, trees_of};
 use crate::merge::merge_root;
+use crate::nodes::{as_and, boxed};
 use std::alloc::{AllocError, Global};
 use std::rc::Rc;
 use vx_tree::{BoundExpression, VortexError, VortexResult};
@@ -27,16 +30,18 @@ use vx_tree::{BoundExpression, VortexError, VortexResult};
 /// Asks a well-typed tree. Refuses with `OutOfMemory` (1) alone. A tree without a pair is answered
 /// as it is, however little memory there is; so is what a first call answered.
 ///
-/// Where both children of an And have eight conjuncts or more, the ranges of the left one are put
-/// into an index by their sides and items, which is let go of afterwards. Each right range then
-/// costs one look-up, which visits the nodes of its item, and the Ands above what is merged are made
-/// anew once. So the time grows with the number of conjuncts.
+/// A chain of Ands, `((a and b) and c) and d`, is fused at once where the left child of the last one
+/// has eight conjuncts or more: the ranges of all its conjuncts are put into an index by their sides
+/// and items, which is let go of afterwards, so that each range costs one look-up, which visits the
+/// nodes of its item, and the Ands above what is merged are made anew once. So the time grows with the
+/// number of conjuncts; one that stands below right children of such chains is looked up once for
+/// each, as in a balanced tree of Ands once for every level at most.
 ///
 /// At any other And, and where there is no memory for an index, every right conjunct is compared
 /// with the left ones until one fits: their sides first, then their names, then their trees; and
 /// each merge makes the Ands above its two conjuncts anew. That takes no memory before there is a
-/// pair. In a chain, where one child of each And is a single conjunct, the time grows with the
-/// square of the ranges. Everything else is shared.
+/// pair. In a chain to the right, `a and (b and (c and d))`, the time grows with the square of the
+/// ranges. Everything else is shared.
 pub fn find_between(alloc: Global, tree: BoundExpression) -> VortexResult<BoundExpression>
     requires { WellTyped (bound_of tree) }
     ensures merges { IfOk result (λ u. (n : ℕ) × Merges (bound_of tree) n (bound_of u)) }
@@ -67,6 +72,126 @@ pub fn find_between(alloc: Global, tree: BoundExpression) -> VortexResult<BoundE
 // what a node takes that changes is done in functions that aren't inlined.
 #[cycle(fusing)]
 fn fused(alloc: Global, b: &BoundExpression) -> VortexResult<Option<Box<BoundExpression>>>
+    requires { WellTyped (bound_of b.now) }
+    ensures { Finds (Fused (bound_of b.now)) (λ u. IsFusedOf (bound_of b.now) (bound_of u.value)) result }
+{
+    if is_wide(b) {
+        fused_chain(alloc, b)
+    } else {
+        fused_node(alloc, b)
+    }
+}
+
+// The same for a chain of Ands, by the items of its ranges. Where there is no memory for a list of its
+// trees nothing is lost: the Ands are gone through one by one.
+#[cycle(fusing)]
+#[inline(never)]
+fn fused_chain(alloc: Global, b: &BoundExpression) -> VortexResult<Option<Box<BoundExpression>>>
+    requires typed { WellTyped (bound_of b.now) }
+    requires chain { IsTrue (is_and (bound_of b.now)) }
+    ensures { Finds (Fused (bound_of b.now)) (λ u. IsFusedOf (bound_of b.now) (bound_of u.value)) result }
+{
+    let Ok(trees) = trees_of(alloc, b) else {
+        return fused_node(alloc, b);
+    };
+    let Ok(room) = Vec::with_capacity(alloc, trees.len()) else {
+        return fused_node(alloc, b);
+    };
+    let found = fused_each(alloc, trees.as_slice(), room)?;
+    merged_chain(alloc, b, found.as_slice())
+}
+
+// What is fused of each of the trees, in a list that has room for all.
+#[cycle(fusing)]
+#[inline(never)]
+fn fused_each(
+    alloc: Global,
+    trees: &[&BoundExpression],
+    mut found: Vec<Option<Box<BoundExpression>>>,
+) -> VortexResult<Vec<Option<Box<BoundExpression>>>>
+    requires typed { All WellTyped (map (λ x. bound_of x.now) trees.now) }
+    requires empty { vec_len found ≡ 0 }
+    requires room { length trees.now ≤ vec_capacity found }
+    ensures found { IfOk result (λ v. EachFound (map (λ x. bound_of x.now) trees.now) v.items) }
+    ensures err { IfErr result (λ e. (All Fused (map (λ x. bound_of x.now) trees.now) → ⊥) × (e ≡ OutOfMemory)) }
+{
+    for tree in trees {
+        found.push_reserved(fused(alloc, tree)?);
+    }
+    Ok(found)
+}
+
+// The chain over its fused trees, with the pairs of its Ands merged: by their items, or by a search
+// where there is no memory for an index, so that a tree without a pair is never refused.
+#[inline(never)]
+fn merged_chain(
+    alloc: Global,
+    b: &BoundExpression,
+    found: &[Option<Box<BoundExpression>>],
+) -> VortexResult<Option<Box<BoundExpression>>>
+    requires typed { WellTyped (bound_of b.now) }
+    requires chain { IsChain (bound_of b.now) found.now }
+    ensures { Finds (Fused (bound_of b.now)) (λ u. IsFusedOf (bound_of b.now) (bound_of u.value)) result }
+{
+    match places_of(alloc, b, found) {
+        Ok(places) => merge_places(alloc, places, b, found),
+        Err(AllocError) => search_chain(alloc, b, found),
+    }
+}
+
+// The same by a search at each of the Ands.
+fn search_chain(
+    alloc: Global,
+    b: &BoundExpression,
+    found: &[Option<Box<BoundExpression>>],
+) -> VortexResult<Option<Box<BoundExpression>>>
+    requires typed { WellTyped (bound_of b.now) }
+    requires chain { IsChain (bound_of b.now) found.now }
+    ensures { Finds (Fused (bound_of b.now)) (λ u. IsFusedOf (bound_of b.now) (bound_of u.value)) result }
+{
+    let (last, earlier) = found.split_first().unwrap();
+    let Some((l, r)) = as_and(b) else {
+        return Ok(copy_of(alloc, last)?);
+    };
+    let left = search_chain(alloc, l, earlier)?;
+    if left.is_none() && last.is_none() {
+        return merge_root(alloc, b);
+    }
+    let children = two(alloc, fused_tree(l, &left), fused_tree(r, last))?;
+    Ok(Some(fused_over(alloc, b, children)?))
+}
+
+// The two trees in a list.
+#[inline(never)]
+fn two(
+    alloc: Global,
+    l: &BoundExpression,
+    r: &BoundExpression,
+) -> Result<Vec<BoundExpression>, AllocError>
+    ensures { IfOk result (λ v. bounds_of v.items ≡ two_bounds (bound_of l.now) (bound_of r.now)) }
+{
+    let mut trees = Vec::with_capacity(alloc, 2)?;
+    trees.push(l.clone()?)?;
+    trees.push(r.clone()?)?;
+    Ok(trees)
+}
+
+// A copy of the tree, if there is one.
+fn copy_of(
+    alloc: Global,
+    found: &Option<Box<BoundExpression>>,
+) -> Result<Option<Box<BoundExpression>>, AllocError>
+    ensures { (b : BoundTree) → Finds (Fused b) (λ u. IsFusedOf b (tree_in u)) (Ok found.now) → MatchResult result (λ o. Finds (Fused b) (λ u. IsFusedOf b (tree_in u)) (Ok o)) (λ e. Fused b → ⊥) }
+{
+    match found {
+        Some(tree) => Ok(Some(boxed(alloc, tree)?)),
+        None => Ok(None),
+    }
+}
+
+// The same for a node by its children, one after another.
+#[cycle(fusing)]
+fn fused_node(alloc: Global, b: &BoundExpression) -> VortexResult<Option<Box<BoundExpression>>>
     requires { WellTyped (bound_of b.now) }
     ensures { Finds (Fused (bound_of b.now)) (λ u. IsFusedOf (bound_of b.now) (bound_of u.value)) result }
 {

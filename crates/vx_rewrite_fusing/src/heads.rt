@@ -4,7 +4,7 @@ ghost use Rattle.vx_tree.specs.Equality.{equal_bound};
 ghost use denote.Ref.{Bor};
 ghost use Rattle.vx_tree.specs.Views.{bound_of};
 ghost use Rattle.vx_tree.specs.declared.bound.BoundExpression.{BoundExpression};
-ghost use Rattle.vx_rewrite_fusing.specs.Indexed.{head_of, kept, place_at, SetsHead};
+ghost use Rattle.vx_rewrite_fusing.specs.Places.{head_of, kept, place_at, SetsHead};
 
 use crate::ranges::Side;
 use std::alloc::AllocError;

@@ -1,13 +1,13 @@
 // Range fusing: two comparisons of one item in a conjunction as one Between.
 #![tactic(auto)]
 
+mod chain;
 mod finding;
 mod heads;
-mod indexed;
 mod laws;
-mod left;
 mod merge;
 mod nodes;
+mod places;
 mod ranges;
 
 pub use finding::find_between;

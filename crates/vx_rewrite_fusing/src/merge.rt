@@ -10,16 +10,10 @@ ghost use Rattle.vx_rewrite_fusing.specs.Conjuncts.{conjuncts, is_and, range_of,
 ghost use Rattle.vx_rewrite_fusing.specs.Finding.{Finds, joined, range_seen, tree_in, IsBinary, LeftMerged, MergesSecond, PairsMerged};
 ghost use Rattle.vx_rewrite_fusing.specs.Merging.{IsFusedOf};
 
-use crate::indexed::merge_indexed;
-use crate::left::left_of;
-use crate::nodes::{and_of, as_and, boxed, conjuncts_in, joined, with_left, with_right};
+use crate::nodes::{and_of, as_and, boxed, joined, with_left, with_right};
 use crate::ranges::{RangeComparison, merged, range_of};
-use std::alloc::{AllocError, Global};
+use std::alloc::Global;
 use vx_tree::{BoundExpression, VortexResult};
-
-// From how many conjuncts of either conjunction on an index is made. Where one of the two has fewer,
-// a search takes less than so many comparisons for each conjunct of the other, and no memory.
-const WIDE: usize = 8;
 
 // What two conjunctions are after merges: the right one may be gone.
 #[derive(Drop)]
@@ -163,24 +157,6 @@ fn rejoined(
     joined(alloc, first, second).map(|right| Merged { left, right })
 }
 
-// The two conjunctions with their pairs merged. Wide ones are merged by an index of the left one,
-// and by a search where there is no memory for it, so that a tree without a pair is never refused.
-fn merge_sides(
-    alloc: Global,
-    l: &BoundExpression,
-    r: &BoundExpression,
-) -> VortexResult<Option<Merged>>
-    ensures { Finds (NoneMergeable (conjuncts (bound_of l.now)) (conjuncts (bound_of r.now))) (λ m. PairsMerged (bound_of l.now) (bound_of r.now) (bound_of m.left.value) (option_map tree_in m.right)) result }
-{
-    if conjuncts_in(r, WIDE) < WIDE || conjuncts_in(l, WIDE) < WIDE {
-        return merge_pairs(alloc, l, r);
-    }
-    match left_of(alloc, l) {
-        Ok(left) => merge_indexed(alloc, left, l, r),
-        Err(AllocError) => merge_pairs(alloc, l, r),
-    }
-}
-
 // The tree with the pairs at its root merged, which are the only ones.
 pub(crate) fn merge_root(
     alloc: Global,
@@ -205,7 +181,7 @@ fn merge_and(
     ensures { (b : BoundTree) → IsBinary and_also (bound_of l.now) (bound_of r.now) b → FusedBelow b →
         Finds (Fused b) (λ u. IsFusedOf b (bound_of u.value)) result }
 {
-    let Some(Merged { left, right }) = merge_sides(alloc, l, r)? else {
+    let Some(Merged { left, right }) = merge_pairs(alloc, l, r)? else {
         return Ok(None);
     };
     match right {

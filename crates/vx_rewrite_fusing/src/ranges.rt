@@ -6,7 +6,7 @@ ghost use Rattle.vx_tree.specs.Trees.{BoundTree};
 ghost use Rattle.vx_tree.specs.Views.{bound_of};
 ghost use Rattle.vx_rewrite_fusing.specs.Conjuncts.{between_node, range_of, Mergeable, MergeTo};
 ghost use Rattle.vx_rewrite_fusing.specs.Finding.{Finds, range_by, range_seen};
-ghost use Rattle.vx_rewrite_fusing.specs.Indexed.{opposite};
+ghost use Rattle.vx_rewrite_fusing.specs.Places.{opposite};
 
 use crate::nodes::{as_binary, truth_node};
 use std::alloc::Global;

@@ -1,4 +1,4 @@
-use Rattle.std.proofs.Common.{rules, ◌≡◌, suc, ◌<◌, ◌+◌, ◌-◌, ◌*◌, arith, length, take, drop, [], ◌∷◌, ◌++◌, Err, refl, sym}
+use Rattle.std.proofs.Common.{rules, ◌≡◌, map, subst, ap, ◌∙◌, suc, ◌<◌, ◌+◌, ◌-◌, ◌*◌, arith, length, take, drop, [], ◌∷◌, ◌++◌, Err, refl, sym}
 use Rattle.std.proofs.lemmas.List.{append-nil, append_assoc, length-take-le, take_rest, take_all}
 use Rattle.vx_dtype.specs.declared.error.VortexError.TheVariants.{OutOfMemory}
 use Rattle.vx_tree.specs.Nodes.{bound_children_of, size_of, sizes_of}
@@ -8,10 +8,14 @@ use Rattle.vx_rewrite_fusing.specs.Conjuncts.{EachFused}
 use Rattle.vx_rewrite_fusing.specs.Finding.{EachFusedOf, none_fused, FirstChanged}
 use Rattle.vx_rewrite_fusing.proofs.Children.{children_typed, children_fused, fused_children, children_smaller, bounds_of-append, bounds_of-take_more, all_fused, each_joined, item_fused, item_typed, item_smaller, first_changed, changed_inside, changed_unfused, drop_typed, drop_smaller, each_from, with_more, put_fused}
 use Rattle.vx_rewrite_fusing.proofs.Refusals.{failed, spent}
+use Rattle.std.specs.Prelude.{All}
+use Rattle.vx_rewrite_fusing.specs.Conjuncts.{Fused}
+use Rattle.vx_rewrite_fusing.specs.Places.{chain_trees}
+use Rattle.vx_rewrite_fusing.proofs.Wide.{chain_fused, chain_smaller, chain_typed, found_there, size_there, sizes, there}
 use Rattle.vx_rewrite_fusing.proofs.finding.+fusing.Goals as goal
 
-pub fused-fused-requires : goal.fused-fused-requires
-fused-fused-requires t c =
+pub fused_node-fused-requires : goal.fused_node-fused-requires
+fused_node-fused-requires t c =
     let b = bound_of c.args.b.now in
     let xs = c.children-children.result.now in
     let x = c.index-children-i.result in
@@ -19,33 +23,33 @@ fused-fused-requires t c =
     let typed : WellTyped (bound_of x) = item_typed xs c.loop-i.i x (omega arith) c.index-children-i.is each in
     let less = item_smaller xs c.loop-i.i x (omega arith) c.index-children-i.is in
     let below : sizes_of (unbound_each (bounds_of xs)) < size_of (unbound b) = rw c.children-children.ensures.trees (children_smaller b) in
-    let smaller : 3 * size_of (unbound (bound_of x)) + 1 < 3 * size_of (unbound b) + 1 = omega arith in
+    let smaller : 8 * size_of (unbound (bound_of x)) + 3 < 8 * size_of (unbound b) + 1 = omega arith in
     search rules
 
-pub fused-returns-in_err-changed : goal.fused-returns-in_err-changed
-fused-returns-in_err-changed t c =
+pub fused_node-returns-in_err-changed : goal.fused_node-returns-in_err-changed
+fused_node-returns-in_err-changed t c =
     let p = c.in_err-changed.ensures in
     let same : c.from_residual.result ≡ Err c.in_err-changed.field-0.0 = search rules in
     failed _ _ same p.1 (λ f. p.0 (item_fused c.children-children.result.now c.loop-i.i c.index-children-i.result (omega arith) c.index-children-i.is (rw c.children-children.ensures.trees (fused_children (bound_of c.args.b.now) f))))
 
-pub fused-fused_from-requires : goal.fused-fused_from-requires
-fused-fused_from-requires t c =
+pub fused_node-fused_from-requires : goal.fused_node-fused_from-requires
+fused_node-fused_from-requires t c =
     let b = bound_of c.args.b.now in
     let p = rw c.in-Some.is at c.in_ok-changed.ensures in
     let first : FirstChanged (bound_children_of b) c.loop-i.i (bound_of c.in-Some.changed.value) =
     rw (← c.children-children.ensures.trees) (first_changed c.children-children.result.now c.loop-i.i c.index-children-i.result (omega arith) c.index-children-i.is c.loop-i.invariant p.0 p.1) in
-    let smaller : 3 * size_of (unbound b) < 3 * size_of (unbound b) + 1 = omega arith in
+    let smaller : 8 * size_of (unbound b) < 8 * size_of (unbound b) + 1 = omega arith in
     search rules
 
-pub fused-loop-i-preserved : goal.fused-loop-i-preserved
-fused-loop-i-preserved t c =
+pub fused_node-loop-i-preserved : goal.fused_node-loop-i-preserved
+fused_node-loop-i-preserved t c =
     let x = c.index-children-i.result in
     let xs = c.children-children.result.now in
     rw (bounds_of-take_more xs c.loop-i.i x (omega arith) c.index-children-i.is)
     (all_fused (bounds_of (take c.loop-i.i xs)) (bound_of x) c.loop-i.invariant (rw c.in_default.is at c.in_ok-changed.ensures))
 
-pub fused-merge_root-requires : goal.fused-merge_root-requires
-fused-merge_root-requires t c =
+pub fused_node-merge_root-requires : goal.fused_node-merge_root-requires
+fused_node-merge_root-requires t c =
     let each : EachFused (bounds_of c.children-children.result.now) = rw (take_all c.loop-i.i c.children-children.result.now (omega arith)) at c.loop-i.invariant in
     children_fused (bound_of c.args.b.now) (rw (← c.children-children.ensures.trees) each)
 
@@ -85,7 +89,7 @@ fused_from-fused_rest-requires t c =
     let typed : EachWellTyped (bounds_of (take (length xs - n) (drop n xs))) = rw rest (drop_typed n xs each) in
     let less = drop_smaller n xs in
     let below : sizes_of (unbound_each (bounds_of xs)) < size_of (unbound b) = rw c.children-children.ensures.trees (children_smaller b) in
-    let smaller : 3 * sizes_of (unbound_each (bounds_of (take (length xs - n) (drop n xs)))) + 2 < 3 * size_of (unbound b) = rw rest (omega arith) in
+    let smaller : 8 * sizes_of (unbound_each (bounds_of (take (length xs - n) (drop n xs)))) + 4 < 8 * size_of (unbound b) = rw rest (omega arith) in
     search rules
 
 pub fused_from-returns-in_err-front : goal.fused_from-returns-in_err-front
@@ -127,7 +131,7 @@ fused_rest-fused-requires t c =
     let x = c.child-item.result in
     let typed : WellTyped (bound_of x) = item_typed xs c.loop-child.child-index x (omega arith) c.child-item.is c.requires in
     let less = item_smaller xs c.loop-child.child-index x (omega arith) c.child-item.is in
-    let smaller : 3 * size_of (unbound (bound_of x)) + 1 < 3 * sizes_of (unbound_each (bounds_of xs)) + 2 = omega arith in
+    let smaller : 8 * size_of (unbound (bound_of x)) + 3 < 8 * sizes_of (unbound_each (bounds_of xs)) + 4 = omega arith in
     search rules
 
 pub fused_rest-loop-child-preserved : goal.fused_rest-loop-child-preserved
@@ -143,3 +147,41 @@ pub fused_rest-returns-clause-fused : goal.fused_rest-returns-clause-fused
 fused_rest-returns-clause-fused t c =
     let done = c.loop-child.invariant in
     (done.0, done.1, rw (take_all c.loop-child.child-index c.args.rest.now (omega arith)) at done.2)
+
+pub fused_chain-fused_each-requires : goal.fused_chain-fused_each-requires
+fused_chain-fused_each-requires t c =
+    let b = bound_of c.args.b.now in
+    let same : map (λ x. bound_of x.now) c.as_slice.result.now ≡ chain_trees b = ap (map (λ x. bound_of x.now)) c.as_slice.ensures.value ∙ c.in-Ok.ensures in
+    let typed : All WellTyped (map (λ x. bound_of x.now) c.as_slice.result.now) = subst (All WellTyped) (sym same) (chain_typed b c.requires.typed) in
+    let below : sizes (map (λ x. bound_of x.now) c.as_slice.result.now) < size_of (unbound b) = rw same (chain_smaller b c.requires.chain) in
+    let smaller : 8 * sizes (map (λ x. bound_of x.now) c.as_slice.result.now) + 4 < 8 * size_of (unbound b) + 2 = omega arith in
+    search rules
+
+pub fused_chain-returns-in_err-found : goal.fused_chain-returns-in_err-found
+fused_chain-returns-in_err-found t c =
+    let b = bound_of c.args.b.now in
+    let same : map (λ x. bound_of x.now) c.as_slice.result.now ≡ chain_trees b = ap (map (λ x. bound_of x.now)) c.as_slice.ensures.value ∙ c.in-Ok.ensures in
+    let err = c.in_err-found.ensures.err in
+    let is : c.from_residual.result ≡ Err c.in_err-found.field-0.0 = search rules in
+    failed _ _ is err.1 (λ f. err.0 (subst (All Fused) (sym same) (chain_fused b f)))
+
+pub fused_each-fused-requires : goal.fused_each-fused-requires
+fused_each-fused-requires t c =
+    let x = c.tree-item.result in
+    let typed : WellTyped (bound_of x.now) = there WellTyped c.args.trees.now c.loop-tree.tree-index x (omega arith) c.tree-item.is c.requires.typed in
+    let less = size_there c.args.trees.now c.loop-tree.tree-index x (omega arith) c.tree-item.is in
+    let smaller : 8 * size_of (unbound (bound_of x.now)) + 3 < 8 * sizes (map (λ z. bound_of z.now) c.args.trees.now) + 4 = omega arith in
+    search rules
+
+pub fused_each-returns-in_err-fused-clause-err : goal.fused_each-returns-in_err-fused-clause-err
+fused_each-returns-in_err-fused-clause-err t c =
+    let x = c.tree-item.result in
+    let err = c.in_err-fused.ensures in
+    let is : c.from_residual.result ≡ Err c.in_err-fused.field-0.0 = search rules in
+    rw is (λ f. err.0 (there Fused c.args.trees.now c.loop-tree.tree-index x (omega arith) c.tree-item.is f), err.1)
+
+pub fused_each-loop-tree-preserved : goal.fused_each-loop-tree-preserved
+fused_each-loop-tree-preserved t c =
+    let x = c.tree-item.result in
+    let more = found_there c.args.trees.now c.loop-tree.tree-index x c.loop-tree.found.items c.in_ok-fused.field-0 (omega arith) c.tree-item.is c.loop-tree.invariant.0 c.in_ok-fused.ensures in
+    (rw c.push_reserved.ensures.items more, search rules, search rules)

@@ -1,5 +1,5 @@
 use Rattle.std.proofs.Common.{◌≡◌, None, refl, subst}
-use Rattle.vx_rewrite_fusing.specs.Indexed.{head_of}
+use Rattle.vx_rewrite_fusing.specs.Places.{head_of}
 use Rattle.vx_rewrite_fusing.proofs.Heading.{is_kept, sets_below, sets_above}
 use Rattle.vx_rewrite_fusing.proofs.heads.Heads.set.Goals as goal
 
