@@ -274,6 +274,11 @@ fn a_deep_tree_is_walked_and_folded(rt: HostRuntime) -> Result<(), Fail> {
     assert!(rt; answer == Continue);
     assert_eq!(rt; nodes, 10_002);
     finds(&rt, alloc, &*tree, "bool1")?;
-    assert!(rt; matches!(depth_of(alloc, tree, 20_000, true)?, FoldUp::Continue(10_002)));
+    assert!(rt;
+        matches!(
+            depth_of(alloc, tree, 20_000, true)?,
+            FoldUp::Continue(10_002)
+        )
+    );
     Ok(())
 }
