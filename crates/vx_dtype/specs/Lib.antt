@@ -1,3 +1,4 @@
+pub mod Lists
 pub mod Types
 pub mod Joins
 pub mod Fields

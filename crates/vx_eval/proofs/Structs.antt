@@ -21,7 +21,7 @@ use Rattle.vx_fn.specs.declared.options.FieldSelection.{FieldSelection}
 use Rattle.vx_fn.specs.declared.options.FieldSelection.TheVariants.{Include, Exclude}
 use Rattle.vx_fn.specs.Functions.{Typing, item_type, select_type, found, selection_names, included}
 use Rattle.vx_fn.specs.Values.{item_value, select_value}
-use Rattle.vx_fn.specs.Faults.{IsIn}
+use Rattle.vx_dtype.specs.Lists.{IsIn}
 use Rattle.vx_tree.proofs.Trees.{none_passes}
 use Rattle.vx_eval.specs.Columns.{values_of, datum_at, item_at}
 use Rattle.vx_eval.specs.Kernels.{items_at}

@@ -7,7 +7,7 @@ use Rattle.vx_dtype.specs.Answers.{Answers}
 use Rattle.vx_value.specs.Columns.{Batch, batch}
 use Rattle.vx_value.specs.Types.{Name, Datum}
 use Rattle.vx_value.specs.Fits.{IsBatch}
-use Rattle.vx_fn.specs.Faults.{IsIn}
+use Rattle.vx_dtype.specs.Lists.{IsIn}
 use Rattle.vx_tree.specs.Faults.{HasNoFault, each_fault}
 use Rattle.vx_tree.specs.Meaning.{mean, value}
 use Rattle.vx_tree.specs.Trees.{BoundTree, BoundTrees, WellTyped, Over, unbound, node_type}

@@ -10,11 +10,12 @@ use Rattle.vx_fn.proofs.Rows.{fn_type-found, fn_type-only}
 use Rattle.vx_tree.proofs.Trees.{or_none}
 use Rattle.vx_value.specs.Types.{Name, truth, number, text, octets, LogicalType, Shape, Fields, Datum, Data, no_datum, datum, struct_of, int, is_null_datum}
 use Rattle.vx_value.specs.Fields.{field_value, project_values}
-use Rattle.vx_dtype.specs.Joins.{Narrower, narrower, NarrowerShape, same_atomic_shape, narrower_list, narrower_fixed, narrower_struct, NarrowerFields, no_fields, narrower_field, NarrowerEach, no_types, narrower_more}
+use Rattle.vx_dtype.specs.Joins.{Narrower, narrower, NarrowerShape, same_atomic_shape, narrower_list, narrower_fixed, narrower_struct, NarrowerFields, no_fields, narrower_field, NarrowerEach}
+use Rattle.vx_dtype.specs.Lists.{none_beside, more_beside, IsIn}
 use Rattle.vx_fn.specs.Functions.{Function, get_item, select, fill_null, binary, adds, included, fn_type}
 use Rattle.vx_fn.specs.Values.{fn_value, at_one, item_value, select_value, sum_of, at_two}
 use Rattle.vx_tree.specs.Meaning.{values}
-use Rattle.vx_fn.specs.Faults.{overflows, is_outside, is_fillable, fill_of, some_differ, when, node_fault, IsIn}
+use Rattle.vx_fn.specs.Faults.{overflows, is_outside, is_fillable, fill_of, some_differ, when, node_fault}
 use Rattle.vx_tree.specs.Faults.{each_fault}
 use Rattle.vx_tree.specs.Trees.{BoundTree, node, BoundTrees, node_type, node_types, WellTyped, EachWellTyped, EachOver}
 use Rattle.vx_rewrite_keep.specs.Keeps.{Keeps, KeepsEach, keeps_none, keeps_more, KeepsUnderNodes}
@@ -53,22 +54,22 @@ at_one-equal f g (v ∷ []) e = e v
 at_one-equal f g (v ∷ w ∷ vs) e = refl
 
 item-names : {ts us : List LogicalType} (a : Name) (v : Datum) → NarrowerEach ts us → item_value a ts v ≡ item_value a us v
-item-names a v no_types = refl
-item-names a (struct_of vs) (narrower_more (narrower (narrower_struct p) i) no_types) = field_value-names a vs p
-item-names a v (narrower_more (narrower same_atomic_shape i) q) = refl
-item-names a v (narrower_more (narrower (narrower_list p) i) q) = refl
-item-names a v (narrower_more (narrower (narrower_fixed p) i) q) = refl
-item-names a v (narrower_more (narrower (narrower_struct p) i) (narrower_more q r)) = refl
-item-names a _ (narrower_more (narrower (narrower_struct p) i) no_types) = refl
+item-names a v none_beside = refl
+item-names a (struct_of vs) (more_beside (narrower (narrower_struct p) i) none_beside) = field_value-names a vs p
+item-names a v (more_beside (narrower same_atomic_shape i) q) = refl
+item-names a v (more_beside (narrower (narrower_list p) i) q) = refl
+item-names a v (more_beside (narrower (narrower_fixed p) i) q) = refl
+item-names a v (more_beside (narrower (narrower_struct p) i) (more_beside q r)) = refl
+item-names a _ (more_beside (narrower (narrower_struct p) i) none_beside) = refl
 
 select-names : {ts us : List LogicalType} (sel : FieldSelection) (v : Datum) → NarrowerEach ts us → select_value sel ts v ≡ select_value sel us v
-select-names sel v no_types = refl
-select-names sel (struct_of vs) (narrower_more (narrower (narrower_struct {fs = fs} p) i) no_types) = rw (← included-mono sel p, project_values-names (included sel fs) vs p) refl
-select-names sel v (narrower_more (narrower same_atomic_shape i) q) = refl
-select-names sel v (narrower_more (narrower (narrower_list p) i) q) = refl
-select-names sel v (narrower_more (narrower (narrower_fixed p) i) q) = refl
-select-names sel v (narrower_more (narrower (narrower_struct p) i) (narrower_more q r)) = refl
-select-names sel _ (narrower_more (narrower (narrower_struct p) i) no_types) = refl
+select-names sel v none_beside = refl
+select-names sel (struct_of vs) (more_beside (narrower (narrower_struct {fs = fs} p) i) none_beside) = rw (← included-mono sel p, project_values-names (included sel fs) vs p) refl
+select-names sel v (more_beside (narrower same_atomic_shape i) q) = refl
+select-names sel v (more_beside (narrower (narrower_list p) i) q) = refl
+select-names sel v (more_beside (narrower (narrower_fixed p) i) q) = refl
+select-names sel v (more_beside (narrower (narrower_struct p) i) (more_beside q r)) = refl
+select-names sel _ (more_beside (narrower (narrower_struct p) i) none_beside) = refl
 
 pub fn_value-narrower : {ts us : List LogicalType} (f : Function) (vs : List Datum) → NarrowerEach ts us → fn_value f ts vs ≡ fn_value f us vs
 fn_value-narrower {ts = ts} {us = us} (get_item a) vs q = at_one-equal (item_value a ts) (item_value a us) vs (λ v. item-names a v q)
@@ -78,22 +79,22 @@ fn_value-narrower _ vs q = refl
 -- ---- and so do faults
 
 outside-narrower : {ts us : List LogicalType} (v : Datum) → NarrowerEach ts us → is_outside ts v ≡ is_outside us v
-outside-narrower v no_types = refl
-outside-narrower (int i) (narrower_more (narrower (same_atomic_shape {p = number p}) j) q) = refl
-outside-narrower v (narrower_more (narrower (same_atomic_shape {p = truth}) i) q) = refl
-outside-narrower v (narrower_more (narrower (same_atomic_shape {p = text}) i) q) = refl
-outside-narrower v (narrower_more (narrower (same_atomic_shape {p = octets}) i) q) = refl
-outside-narrower v (narrower_more (narrower (narrower_list p) i) q) = refl
-outside-narrower v (narrower_more (narrower (narrower_fixed p) i) q) = refl
-outside-narrower v (narrower_more (narrower (narrower_struct p) i) q) = refl
-outside-narrower _ (narrower_more (narrower (same_atomic_shape {p = number p}) i) q) = refl
+outside-narrower v none_beside = refl
+outside-narrower (int i) (more_beside (narrower (same_atomic_shape {p = number p}) j) q) = refl
+outside-narrower v (more_beside (narrower (same_atomic_shape {p = truth}) i) q) = refl
+outside-narrower v (more_beside (narrower (same_atomic_shape {p = text}) i) q) = refl
+outside-narrower v (more_beside (narrower (same_atomic_shape {p = octets}) i) q) = refl
+outside-narrower v (more_beside (narrower (narrower_list p) i) q) = refl
+outside-narrower v (more_beside (narrower (narrower_fixed p) i) q) = refl
+outside-narrower v (more_beside (narrower (narrower_struct p) i) q) = refl
+outside-narrower _ (more_beside (narrower (same_atomic_shape {p = number p}) i) q) = refl
 
 fillable-narrower : {ts us : List LogicalType} → NarrowerEach ts us → is_fillable ts ≡ is_fillable us
-fillable-narrower no_types = refl
-fillable-narrower (narrower_more (narrower same_atomic_shape i) q) = refl
-fillable-narrower (narrower_more (narrower (narrower_list p) i) q) = refl
-fillable-narrower (narrower_more (narrower (narrower_fixed p) i) q) = refl
-fillable-narrower (narrower_more (narrower (narrower_struct p) i) q) = refl
+fillable-narrower none_beside = refl
+fillable-narrower (more_beside (narrower same_atomic_shape i) q) = refl
+fillable-narrower (more_beside (narrower (narrower_list p) i) q) = refl
+fillable-narrower (more_beside (narrower (narrower_fixed p) i) q) = refl
+fillable-narrower (more_beside (narrower (narrower_struct p) i) q) = refl
 
 pub node_fault-narrower : {ts us : List LogicalType} (f : Function) (rows : List (List Datum)) → NarrowerEach ts us → node_fault f ts rows ≡ node_fault f us rows
 node_fault-narrower {ts = ts} {us = us} (binary adds) rows q =
@@ -105,8 +106,8 @@ node_fault-narrower _ rows q = refl
 -- ---- trees
 
 pub types-narrower : {bs us : BoundTrees} → KeepsEach bs us → NarrowerEach (node_types us) (node_types bs)
-types-narrower keeps_none = no_types
-types-narrower (keeps_more k ks) = narrower_more k.type (types-narrower ks)
+types-narrower keeps_none = none_beside
+types-narrower (keeps_more k ks) = more_beside k.type (types-narrower ks)
 
 pub each_typed_after : {bs us : BoundTrees} → KeepsEach bs us → EachWellTyped us
 each_typed_after keeps_none = tt

@@ -10,7 +10,7 @@ use Rattle.std.proofs.lemmas.Slice.Eq.{bytes_eq-Decides}
 use Rattle.vx_value.specs.Fits.{Fits}
 use Rattle.vx_value.specs.Paths.{Path, equal_path, is_member, add_path, add_paths, is_proper_prefix, has_proper_prefix, minimal_paths}
 use Rattle.vx_value.specs.Types.{LogicalType, Datum}
-use Rattle.vx_fn.specs.Faults.{IsIn}
+use Rattle.vx_dtype.specs.Lists.{IsIn}
 use Rattle.vx_rewrite_paths.specs.Agreement.{Agree, AgreeAlong}
 use Rattle.vx_rewrite_paths.specs.Leading.{Leads, EachLeads}
 use Rattle.vx_rewrite_paths.proofs.Leading.{agree-longer}

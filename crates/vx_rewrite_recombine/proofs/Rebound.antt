@@ -3,11 +3,11 @@ use Rattle.std.proofs.Common.{◌≡◌, List, [], ◌∷◌, refl, ap, subst, m
 use Rattle.std.specs.Prelude.{Ok}
 use Rattle.vx_value.specs.Types.{Name, LogicalType, Datum}
 use Rattle.vx_value.specs.Fields.{fields_named}
-use Rattle.vx_value.specs.Joins.{Narrower, narrower, NarrowerFields, no_fields, narrower_field, narrower_struct, NarrowerEach, no_types, narrower_more}
+use Rattle.vx_value.specs.Joins.{Narrower, narrower, NarrowerFields, no_fields, narrower_field, narrower_struct, NarrowerEach}
+use Rattle.vx_dtype.specs.Lists.{none_beside, more_beside, IsIn}
 use Rattle.vx_value.specs.Fits.{IsBatch}
 use Rattle.vx_fn.specs.Functions.{Function, fn_type}
 use Rattle.vx_tree.specs.Meaning.{value, values}
-use Rattle.vx_fn.specs.Faults.{IsIn}
 use Rattle.vx_tree.specs.Faults.{HasNoFault, first_fault, each_fault}
 use Rattle.vx_tree.specs.Trees.{BoundTree, scope, node, BoundTrees, no_bound, bound, unbound, unbound_each, node_type, node_types, typed, each_typed, WellTyped, EachWellTyped, Over, EachOver}
 use Rattle.vx_rewrite_keep.specs.Keeps.{KeepsEach}
@@ -61,7 +61,7 @@ mutual
       node_rebound t t' f f' bs bs' q w.0 w'.0 (rebound_each bs bs' s s' n w.2 o w'.2 o' es)
 
   rebound_each : (bs bs' : BoundTrees) (s s' : LogicalType) → Narrower s' s → EachWellTyped bs → EachOver bs s → EachWellTyped bs' → EachOver bs' s' → unbound_each bs' ≡ unbound_each bs → ReboundEach bs bs'
-  rebound_each no_bound no_bound s s' n w o w' o' e = record { types = no_types; values_are = λ v. refl; faults_are = λ batch. refl }
+  rebound_each no_bound no_bound s s' n w o w' o' e = record { types = none_beside; values_are = λ v. refl; faults_are = λ batch. refl }
   rebound_each no_bound (bound b' bs') s s' n w o w' o' e = cc
   rebound_each (bound b bs) no_bound s s' n w o w' o' e = cc
   rebound_each (bound b bs) (bound b' bs') s s' n w o w' o' e =
@@ -70,7 +70,7 @@ mutual
       let one = rebound b b' s s' n w.0 o.0 w'.0 o'.0 q in
       let more = rebound_each bs bs' s s' n w.1 o.1 w'.1 o'.1 qs in
       record {
-        types = narrower_more one.type more.types;
+        types = more_beside one.type more.types;
         values_are = λ v. rw (one.value_is v, more.values_are v) refl;
         faults_are = λ batch. rw (one.fault_is batch, more.faults_are batch) refl;
       }
@@ -86,18 +86,18 @@ mutual
       (m.0, rw k.1 (fn_type-only m.1), m.2)
 
   each_typed_again : (rs : BoundTrees) (s s' : LogicalType) → Narrower s' s → EachWellTyped rs → EachOver rs s → (ts : List LogicalType) × (each_typed (unbound_each rs) s' ≡ Ok ts) × NarrowerEach ts (node_types rs)
-  each_typed_again no_bound s s' n w o = ([], refl, no_types)
+  each_typed_again no_bound s s' n w o = ([], refl, none_beside)
   each_typed_again (bound b bs) s s' n w o =
       let one = typed_again b s s' n w.0 o.0 in
       let more = each_typed_again bs s s' n w.1 o.1 in
-      (one.0 ∷ more.0, rw (one.1, more.1) refl, narrower_more one.2 more.2)
+      (one.0 ∷ more.0, rw (one.1, more.1) refl, more_beside one.2 more.2)
 
 -- ---- partitions that keep the old ones
 
 named-narrower : {ts us : List LogicalType} (names : List Name) → NarrowerEach ts us → NarrowerFields (fields_named names ts) (fields_named names us)
 named-narrower [] q = no_fields
-named-narrower (a ∷ names) no_types = no_fields
-named-narrower (a ∷ names) (narrower_more p q) = narrower_field p (named-narrower names q)
+named-narrower (a ∷ names) none_beside = no_fields
+named-narrower (a ∷ names) (more_beside p q) = narrower_field p (named-narrower names q)
 
 scope_narrower : (names : List Name) (ps qs : BoundTrees) → KeepsEach ps qs → Narrower (struct_type names qs) (struct_type names ps)
 scope_narrower names ps qs ks = narrower (narrower_struct (named-narrower names (types-narrower ks))) (λ e. e)

@@ -9,7 +9,8 @@ use Rattle.vx_value.specs.Fits.{Fits}
 use Rattle.vx_value.specs.Types.{LogicalType, Datum}
 use Rattle.vx_fn.proofs.Monotone.{narrower_refl}
 use Rattle.vx_fn.proofs.Rows.{fn_type-only}
-use Rattle.vx_fn.specs.Faults.{IsIn, misfits}
+use Rattle.vx_fn.specs.Faults.{misfits}
+use Rattle.vx_dtype.specs.Lists.{IsIn}
 use Rattle.vx_fn.specs.Rows.{of_cast}
 use Rattle.vx_tree.proofs.Trees.{value-fits, each_passes}
 use Rattle.vx_tree.specs.Faults.{HasNoFault}

@@ -9,7 +9,7 @@ use Rattle.vx_value.specs.Equality.{equal_type, equal_type-Decides}
 use Rattle.vx_value.specs.Fits.{IsBatch}
 use Rattle.vx_value.specs.Paths.{Path, minimal_paths}
 use Rattle.vx_value.specs.Types.{LogicalType, Datum}
-use Rattle.vx_fn.specs.Faults.{IsIn}
+use Rattle.vx_dtype.specs.Lists.{IsIn}
 use Rattle.vx_tree.proofs.Meant.{mean-unbound}
 use Rattle.vx_tree.specs.Faults.{HasNoFault, first_fault, each_fault}
 use Rattle.vx_tree.specs.Meaning.{mean}

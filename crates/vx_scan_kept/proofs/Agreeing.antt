@@ -11,7 +11,7 @@ use Rattle.vx_value.specs.Fields.{field_type, field_value}
 use Rattle.vx_value.specs.Fits.{Fits, fields_fit, IsBatch}
 use Rattle.vx_value.specs.Paths.{Path, is_member, equal_path}
 use Rattle.vx_value.specs.Types.{Name, LogicalType, ty, struct, Fields, no_field, field, Datum, null, struct_of, Data, no_datum, datum}
-use Rattle.vx_fn.specs.Faults.{IsIn}
+use Rattle.vx_dtype.specs.Lists.{IsIn}
 use Rattle.vx_rewrite_paths.specs.Agreement.{Agree, AgreeAlong, RowsAgree}
 use Rattle.vx_rewrite_paths.specs.Leading.{Leads, EachLeads}
 use Rattle.vx_rewrite_paths.proofs.Leading.{agree-refl}

@@ -7,12 +7,13 @@ use Rattle.std.proofs.lemmas.Bool.{and_parts, or_parts, ltb-false, le-ltb}
 use Rattle.vx_fn.proofs.Rows.{fn_type-found}
 use Rattle.vx_fn.proofs.Sound.{IsSafe, fn_value-fits}
 use Rattle.vx_value.specs.Types.{LogicalType, Datum, is_null_datum}
-use Rattle.vx_value.specs.Fits.{Fits, EachFits, none_fit, more_fit}
+use Rattle.vx_value.specs.Fits.{Fits, EachFits}
+use Rattle.vx_dtype.specs.Lists.{none_beside, more_beside, IsIn}
 use Rattle.vx_fn.specs.Functions.{Function, binary, adds, cast, fill_null}
 use Rattle.vx_tree.specs.Meaning.{value, values}
 use Rattle.vx_dtype.specs.declared.error.VortexError.{VortexError}
 use Rattle.vx_dtype.specs.declared.error.VortexError.TheVariants.{AddOverflow, CastNull}
-use Rattle.vx_fn.specs.Faults.{overflows, misfits, fill_of, when, node_fault, IsIn}
+use Rattle.vx_fn.specs.Faults.{overflows, misfits, fill_of, when, node_fault}
 use Rattle.vx_tree.specs.Faults.{each_fault, HasNoFault}
 use Rattle.vx_tree.specs.Trees.{BoundTree, scope, node, BoundTrees, no_bound, bound, node_type, node_types, WellTyped, EachWellTyped, Over, EachOver}
 
@@ -90,7 +91,7 @@ mutual
       (values-fit bs s batch v w.2 o q.0 i e)
 
   pub values-fit : (bs : BoundTrees) (s : LogicalType) (batch : List Datum) (v : Datum) → EachWellTyped bs → EachOver bs s → each_fault bs batch ≡ None → IsIn v batch → Fits v s → EachFits (values bs v) (node_types bs)
-  values-fit no_bound s batch v w o n i e = none_fit
+  values-fit no_bound s batch v w o n i e = none_beside
   values-fit (bound b bs) s batch v w o n i e =
       let q = or_none _ _ n in
-      more_fit (value-fits b s batch v w.0 o.0 q.0 i e) (values-fit bs s batch v w.1 o.1 q.1 i e)
+      more_beside (value-fits b s batch v w.0 o.0 q.0 i e) (values-fit bs s batch v w.1 o.1 q.1 i e)

@@ -10,7 +10,7 @@ ghost use Rattle.vx_dtype.specs.declared.error.VortexError.TheVariants.{RowMisfi
 
 use crate::Value;
 use crate::value::equal_all;
-use crate::value_texts::write_items;
+use crate::value_texts::write_list;
 use std::alloc::AllocError;
 use std::fmt;
 use std::marker::Model;
@@ -145,9 +145,7 @@ impl fmt::Display for Column {
     ghost output = { λ c. Some (column_text c.rows c.type) };
 
     fn fmt<W: fmt::Write>(&self, f: &mut fmt::Formatter<W>) -> fmt::Result {
-        f.write_str("[")?;
-        write_items(self.rows.as_slice(), &self.dtype, f)?;
-        f.write_str("]")
+        write_list(self.rows.as_slice(), &self.dtype, f)
     }
 }
 
