@@ -3,7 +3,7 @@ use Rattle.std.proofs.Common.{◌≡◌, List, [], ◌∷◌, refl, sym, ap, ◌
 use Rattle.std.specs.Prelude.{Some, None, if◌then◌else◌, is_some, filter, cond, not, ◌||◌}
 use Rattle.std.specs.Str.{bytes_eq}
 use Rattle.std.proofs.lemmas.Bool.{or_right}
-use Rattle.vx_dtype.specs.Types.{Name, LogicalType, Fields, no_field, field}
+use Rattle.vx_dtype.specs.Types.{Name, Fields, no_field, field}
 use Rattle.vx_dtype.specs.Fields.{field_type, field_names, is_among, first_missing, first_unknown}
 use Rattle.vx_dtype.proofs.NameTests.{own_name}
 

@@ -165,7 +165,7 @@ project-mono : {fs gs : Fields} (names : List Name) → NarrowerFields fs gs →
 project-mono [] q = no_fields
 project-mono {fs = fs} {gs = gs} (a ∷ names) q = put-mono a (field_type a fs) (field_type a gs) (known-mono a q) (λ t e. field_type-mono a t q e) (project-mono names q)
 
-fields_named-mono : {ts us : List LogicalType} (names : List Name) → NarrowerEach ts us → NarrowerFields (fields_named names ts) (fields_named names us)
+pub fields_named-mono : {ts us : List LogicalType} (names : List Name) → NarrowerEach ts us → NarrowerFields (fields_named names ts) (fields_named names us)
 fields_named-mono [] q = no_fields
 fields_named-mono (a ∷ names) none_beside = no_fields
 fields_named-mono (a ∷ names) (more_beside p q) = narrower_field p (fields_named-mono names q)

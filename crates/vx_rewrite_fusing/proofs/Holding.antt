@@ -6,6 +6,7 @@ use Rattle.std.specs.declared.boxed.Box.{Box}
 use Rattle.vx_value.specs.Types.{LogicalType, is_nullable}
 use Rattle.vx_fn.specs.Functions.{and_also, truth_type}
 use Rattle.vx_dtype.specs.Lists.{IsIn}
+use Rattle.vx_dtype.proofs.Lists.{in_left, in_right}
 use Rattle.vx_tree.specs.Trees.{BoundTree, node_type}
 use Rattle.vx_tree.specs.Views.{bound_of}
 use Rattle.vx_tree.specs.declared.bound.BoundExpression.{BoundExpression}
@@ -17,7 +18,7 @@ use Rattle.vx_rewrite_fusing.specs.declared.ranges.Side.TheVariants.{Below, Abov
 use Rattle.vx_rewrite_fusing.specs.Conjuncts.{and_node, and_of, is_and, conjuncts, range_of, MergeTo, below_and_above, above_and_below, Mergeable, NoneMergeable}
 use Rattle.vx_rewrite_fusing.specs.Finding.{range_from, range_seen, tree_in, IsBinary, LeftMerged}
 use Rattle.vx_rewrite_fusing.specs.Indexed.{opposite, Bounded, bounded_by, bounded_at, is_merged, and_after, and_changed, Holds, no_range, open_range, merged_range, both, IsPlaceOf, IsNoted, IsTree}
-use Rattle.vx_rewrite_fusing.proofs.Merges.{in_own, in_first, in_second, no_left}
+use Rattle.vx_rewrite_fusing.proofs.Merges.{in_own, no_left}
 use Rattle.vx_rewrite_fusing.proofs.Found.{left_alone, left_none_alone, left_in_first, left_in_second, left_none}
 
 -- ---- places without a range
@@ -154,10 +155,10 @@ abbrev RangeIn : RangeComparison → BoundTree → Type 0
 RangeIn r u = (c : BoundTree) × IsIn c (conjuncts u) × (range_of c ≡ Some (range_seen r))
 
 in_left : (r : RangeComparison) (m : Bool) (t : LogicalType) (x y : BoundTree) → RangeIn r x → RangeIn r (and_after m t x y)
-in_left r m t x y h = (h.0, subst (IsIn h.0) (sym (after_conjuncts m t x y)) (in_first h.0 (conjuncts x) (conjuncts y) h.1), h.2)
+in_left r m t x y h = (h.0, subst (IsIn h.0) (sym (after_conjuncts m t x y)) (in_left h.0 (conjuncts x) (conjuncts y) h.1), h.2)
 
 in_right : (r : RangeComparison) (m : Bool) (t : LogicalType) (x y : BoundTree) → RangeIn r y → RangeIn r (and_after m t x y)
-in_right r m t x y h = (h.0, subst (IsIn h.0) (sym (after_conjuncts m t x y)) (in_second h.0 (conjuncts x) (conjuncts y) h.1), h.2)
+in_right r m t x y h = (h.0, subst (IsIn h.0) (sym (after_conjuncts m t x y)) (in_right h.0 (conjuncts x) (conjuncts y) h.1), h.2)
 
 range_in_both : (r : RangeComparison) (next : Option ℕ) (m : Bool) (t : LogicalType) (x y : BoundTree) (ls rs back front : List Place)
     → ((back front : List Place) → ls ≡ back ++ Open r next ∷ front → RangeIn r x)

@@ -1,5 +1,5 @@
 -- A tree whose children are replaced by trees that keep them is kept.
-use Rattle.std.proofs.Common.{◌≡◌, inl, inr, List, [], ◌∷◌, refl, ap, map, ◌∙◌}
+use Rattle.std.proofs.Common.{◌≡◌, List, [], ◌∷◌, refl, ap, map, ◌∙◌}
 use Rattle.std.specs.Prelude.{None, if◌then◌else◌, Ok, not, ◌||◌, position}
 use Rattle.std.specs.List.{list_any}
 use Rattle.std.specs.Option.{option_map}
@@ -22,6 +22,7 @@ use Rattle.vx_rewrite_keep.specs.Keeps.{Keeps, KeepsEach, keeps_none, keeps_more
 use Rattle.vx_value.specs.Fits.{IsBatch}
 use Rattle.vx_fn.specs.declared.options.FieldSelection.{FieldSelection}
 use Rattle.vx_dtype.specs.declared.error.VortexError.TheVariants.{AddOverflow, BadFill}
+use Rattle.vx_dtype.proofs.Lists.{map_same}
 
 mutual
   pub narrower_trans : {t u w : LogicalType} → Narrower t u → Narrower u w → Narrower t w
@@ -130,10 +131,6 @@ each_meaning (keeps_more k ks) s batch o i n v e =
     let q = or_none _ _ n in
     rw (k.meaning s batch o.0 i q.0 v e, each_meaning ks s batch o.1 i q.1 v e) refl
 
-pub map-equal : {A B : Type 0} (f g : A → B) (xs : List A) → ((x : A) → IsIn x xs → f x ≡ g x) → map f xs ≡ map g xs
-map-equal f g [] e = refl
-map-equal f g (x ∷ xs) e = rw (e x (inl refl), map-equal f g xs (λ y i. e y (inr i))) refl
-
 pub keeps_node : (t t' : LogicalType) (f : Function) (bs us : BoundTrees) → WellTyped (node t f bs) → KeepsEach bs us → fn_type f (node_types us) ≡ Ok t' → Narrower t' t → Keeps (node t f bs) (node t' f us)
 keeps_node t t' f bs us w ks e p = record {
   typed_before = w;
@@ -142,7 +139,7 @@ keeps_node t t' f bs us w ks e p = record {
   type = p;
   no_fault = λ s batch o i n.
       let q = or_none _ _ n in
-      let rows : map (values us) batch ≡ map (values bs) batch = map-equal (values us) (values bs) batch (each_meaning ks s batch o i q.0) in
+      let rows : map (values us) batch ≡ map (values bs) batch = map_same (values us) (values bs) batch (each_meaning ks s batch o i q.0) in
       let x : each_fault us batch ≡ None = each_no_fault ks s batch o i q.0 in
       rw (x, rows, node_fault-narrower f (map (values bs) batch) (types-narrower ks)) q.1;
   meaning = λ s batch o i n v j.

@@ -2,9 +2,9 @@
 use Rattle.std.proofs.Common.{◌≡◌, List, [], ◌∷◌, refl, ap, subst, map}
 use Rattle.std.specs.Prelude.{Ok}
 use Rattle.vx_value.specs.Types.{Name, LogicalType, Datum}
-use Rattle.vx_value.specs.Fields.{fields_named}
-use Rattle.vx_value.specs.Joins.{Narrower, narrower, NarrowerFields, no_fields, narrower_field, narrower_struct, NarrowerEach}
+use Rattle.vx_value.specs.Joins.{Narrower, narrower, narrower_struct, NarrowerEach}
 use Rattle.vx_dtype.specs.Lists.{none_beside, more_beside, IsIn}
+use Rattle.vx_dtype.proofs.Lists.{map_same}
 use Rattle.vx_value.specs.Fits.{IsBatch}
 use Rattle.vx_fn.specs.Functions.{Function, fn_type}
 use Rattle.vx_tree.specs.Meaning.{value, values}
@@ -12,8 +12,8 @@ use Rattle.vx_tree.specs.Faults.{HasNoFault, first_fault, each_fault}
 use Rattle.vx_tree.specs.Trees.{BoundTree, scope, node, BoundTrees, no_bound, bound, unbound, unbound_each, node_type, node_types, typed, each_typed, WellTyped, EachWellTyped, Over, EachOver}
 use Rattle.vx_rewrite_keep.specs.Keeps.{KeepsEach}
 use Rattle.vx_fn.proofs.Rows.{fn_type-found, fn_type-only}
-use Rattle.vx_fn.proofs.Monotone.{fn_type-mono}
-use Rattle.vx_rewrite_keep.proofs.Keeping.{types-narrower, fn_value-narrower, node_fault-narrower, each_scopes, each_no_fault, each_meaning, map-equal}
+use Rattle.vx_fn.proofs.Monotone.{fn_type-mono, fields_named-mono}
+use Rattle.vx_rewrite_keep.proofs.Keeping.{types-narrower, fn_value-narrower, node_fault-narrower, each_scopes, each_no_fault, each_meaning}
 use Rattle.vx_rewrite_recombine.specs.Items.{struct_type, joined}
 use Rattle.vx_rewrite_recombine.specs.Recombining.{Recombines}
 
@@ -34,7 +34,7 @@ rows_are : (f g : List Datum → List Datum) (xs : List (List Datum)) → f ≡ 
 rows_are f g xs e = ap (λ h. map h xs) e
 
 values_of : (rs rs' : BoundTrees) (batch : List Datum) → ((v : Datum) → values rs' v ≡ values rs v) → map (values rs') batch ≡ map (values rs) batch
-values_of rs rs' batch e = map-equal (values rs') (values rs) batch (λ v i. e v)
+values_of rs rs' batch e = map_same (values rs') (values rs) batch (λ v i. e v)
 
 node_rebound : (t t' : LogicalType) (f f' : Function) (bs bs' : BoundTrees) → f' ≡ f → fn_type f (node_types bs) ≡ Ok t → fn_type f' (node_types bs') ≡ Ok t' → ReboundEach bs bs' → Rebound (node t f bs) (node t' f' bs')
 node_rebound t t' f f' bs bs' q w w' k =
@@ -94,13 +94,8 @@ mutual
 
 -- ---- partitions that keep the old ones
 
-named-narrower : {ts us : List LogicalType} (names : List Name) → NarrowerEach ts us → NarrowerFields (fields_named names ts) (fields_named names us)
-named-narrower [] q = no_fields
-named-narrower (a ∷ names) none_beside = no_fields
-named-narrower (a ∷ names) (more_beside p q) = narrower_field p (named-narrower names q)
-
 scope_narrower : (names : List Name) (ps qs : BoundTrees) → KeepsEach ps qs → Narrower (struct_type names qs) (struct_type names ps)
-scope_narrower names ps qs ks = narrower (narrower_struct (named-narrower names (types-narrower ks))) (λ e. e)
+scope_narrower names ps qs ks = narrower (narrower_struct (fields_named-mono names (types-narrower ks))) (λ e. e)
 
 pub replaced_typed : (names : List Name) (ps qs : BoundTrees) (root : BoundTree) → KeepsEach ps qs → WellTyped root → Over root (struct_type names ps)
     → (t : LogicalType) × (typed (unbound root) (struct_type names qs) ≡ Ok t) × Narrower t (node_type root)
@@ -123,7 +118,7 @@ replaced_recombine names ps qs r r' b ks w o rec e w' o' =
         scopes = λ s p. each_scopes ks s (rec.scopes s p);
         no_part_faults = λ s batch p i n. each_no_fault ks s batch (rec.scopes s p) i (rec.no_part_faults s batch p i n);
         no_fault = λ s batch p i n.
-            let rows : map (joined qs) batch ≡ map (joined ps) batch = map-equal (joined qs) (joined ps) batch (same_row s batch p i n) in
+            let rows : map (joined qs) batch ≡ map (joined ps) batch = map_same (joined qs) (joined ps) batch (same_row s batch p i n) in
             rw (again.fault_is (map (joined qs) batch), rows) (rec.no_fault s batch p i n);
         meaning = λ s batch p i n v j.
             rw (again.value_is (joined qs v), same_row s batch p i n v j) (rec.meaning s batch p i n v j);

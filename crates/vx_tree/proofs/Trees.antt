@@ -3,7 +3,7 @@ use Rattle.std.proofs.Common.{◌≡◌, inl, inr, ◌+◌, ◌≤◌, List, [],
 use Rattle.std.specs.Prelude.{Option, Some, None, not, cond, position, nat_lt}
 use Rattle.std.specs.List.{list_any, list_all, position_or_len, prefix_len}
 use Rattle.std.specs.Option.{option_or, option_map}
-use Rattle.std.proofs.lemmas.Bool.{and_parts, or_parts, ltb-false, le-ltb}
+use Rattle.std.proofs.lemmas.Bool.{and_parts, or_parts, ltb-false, le-ltb, not-false}
 use Rattle.vx_fn.proofs.Rows.{fn_type-found}
 use Rattle.vx_fn.proofs.Sound.{IsSafe, fn_value-fits}
 use Rattle.vx_value.specs.Types.{LogicalType, Datum, is_null_datum}
@@ -65,10 +65,6 @@ when_none : (b : Bool) (x : VortexError) → when b x ≡ None → b ≡ false
 when_none true x e = cc
 when_none false x e = refl
 
-not_false : (b : Bool) → not b ≡ false → b ≡ true
-not_false true e = refl
-not_false false e = cc
-
 -- ---- a node that doesn't fault on a batch is safe at each row
 
 pub row_safe : (f : Function) (ts : List LogicalType) (rows : List (List Datum)) (row : List Datum) → node_fault f ts rows ≡ None → IsIn row rows → IsSafe f ts row
@@ -77,7 +73,7 @@ row_safe (cast t) ts rows row e i = none_passes (misfits t) rows row (map_none C
 row_safe fill_null ts rows row e i =
     let a = or_parts _ _ (when_none _ _ e) in
     let b = or_parts _ _ a.0 in
-    (not_false _ b.0, none_of_any is_null_datum (map fill_of rows) (fill_of row) b.1 (IsIn-map fill_of rows row i))
+    (not-false _ b.0, none_of_any is_null_datum (map fill_of rows) (fill_of row) b.1 (IsIn-map fill_of rows row i))
 row_safe _ ts rows row e i = tt
 
 mutual

@@ -1,12 +1,11 @@
 -- Columns out of whose rows structs are made.
-use Rattle.std.proofs.Common.{◌≡◌, ◌≢◌, ℕ, ◌+◌, ◌<◌, ◌≤◌, List, [], ◌∷◌, ◌++◌, map, length, get_or, take, refl, sym, ap, ◌∙◌, arith, zero, suc, true, Bool, get_or-set_other, rules, vec_len}
+use Rattle.std.proofs.Common.{◌≡◌, ℕ, ◌+◌, ◌<◌, List, [], ◌∷◌, ◌++◌, map, length, get_or, refl, sym, ap, ◌∙◌, arith, zero, suc, true, Bool, rules, vec_len}
 use Rattle.std.specs.Prelude.{◌==◌, ◌⊎◌, None, Result, Ok, Err, IfOk}
 use Rattle.std.specs.declared.alloc.AllocError.{AllocError}
 use Rattle.std.specs.List.{AllZip, range_with_len}
 use Rattle.std.proofs.Common.{inl, inr}
-use Rattle.std.proofs.Math.ListN.{set}
 use Rattle.std.proofs.lemmas.Bool.{and_parts, and_from, eqb-true}
-use Rattle.std.proofs.lemmas.List.{map-append, map-set, get_or-map, ext_get_or, length-map}
+use Rattle.std.proofs.lemmas.List.{map-append, get_or-map, ext_get_or, length-map}
 use Rattle.std.proofs.lemmas.List.Elements.{All-nil, All-cons, All-head, All-tail}
 use Rattle.std.proofs.lemmas.List.FromFn.{map-range_with_len_more, length-map-range_with_len, get_or-map-range_with_len}
 use Rattle.std.specs.Global.{Vec}
@@ -14,7 +13,7 @@ use Rattle.vx_dtype.specs.declared.dtype.DType.{DType, the_lemmas as the_types}
 use Rattle.vx_dtype.specs.declared.dtype.DType.TheVariants as DType
 use Rattle.vx_dtype.specs.declared.dtype.Nullability.{Nullability}
 use Rattle.vx_dtype.specs.declared.dtype.StructFields.{StructFields}
-use Rattle.vx_value.specs.declared.value.Value.{Value, the_lemmas}
+use Rattle.vx_value.specs.declared.value.Value.{Value}
 use Rattle.vx_value.specs.declared.value.Value.TheVariants.{Struct}
 use Rattle.vx_value.specs.Types.{Name, LogicalType, ty, struct, Datum, null, struct_of}
 use Rattle.vx_value.specs.Fields.{data_of, fields_named}
@@ -22,7 +21,7 @@ use Rattle.vx_value.specs.Fits.{Fits, IsBatch, EachFits}
 use Rattle.vx_dtype.specs.Lists.{none_beside, more_beside}
 use Rattle.vx_value.specs.Views.{admits_null, fields_of, type_of, value_of}
 use Rattle.vx_value.specs.Columns.{Batch, first_misfit}
-use Rattle.vx_value.specs.StructColumns.{rows_in, types_in, columns_of, EachFit, all_long, HaveRow, row_at, struct_at, struct_rows, struct_type}
+use Rattle.vx_value.specs.StructColumns.{rows_in, types_in, EachFit, all_long, HaveRow, row_at, struct_at, struct_rows, struct_type}
 use Rattle.vx_value.proofs.Fitting.{pack-fits}
 use Rattle.vx_value.proofs.Lists.{fits_at}
 use Rattle.vx_value.proofs.Misfits.{no_misfit}

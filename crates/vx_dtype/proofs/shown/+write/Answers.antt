@@ -1,4 +1,4 @@
-use Rattle.std.proofs.Common.{◌++◌, arith, refl, rules}
+use Rattle.std.proofs.Common.{arith, refl, rules}
 use Rattle.std.proofs.Output.{has_written_append, has_written_of_eq}
 use Rattle.vx_dtype.proofs.FieldTexts.{field_texts_next, field_texts_all}
 use Rattle.vx_dtype.proofs.shown.+write.Goals as goal
