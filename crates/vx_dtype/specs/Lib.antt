@@ -7,5 +7,6 @@ pub mod Views
 pub mod Answers
 pub mod Equality
 pub mod Hashes
+pub mod Deciding
 pub mod Codes
 pub mod Texts

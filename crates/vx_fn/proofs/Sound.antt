@@ -1,7 +1,7 @@
 -- A well-typed tree gives a value of its type at each row of a batch on which it doesn't fault.
 use Rattle.std.proofs.Common.{◌≡◌, ℕ, zero, suc, inl, inr, ◌+◌, ◌*◌, List, [], ◌∷◌, length, refl, sym, subst, Bool, true, false, ◌||◌, arith, ◌⊎◌}
-use Rattle.std.specs.Prelude.{Some, None, not, if◌then◌else◌}
-use Rattle.std.proofs.lemmas.Bool.{eqb-true, or_left, or_right}
+use Rattle.std.specs.Prelude.{Some, None, if◌then◌else◌}
+use Rattle.std.proofs.lemmas.Bool.{eqb-true, not-false, or_left, or_right}
 use Rattle.vx_value.proofs.Fitting.{fits-not_null, fits-wider, fits-nullable, join-fits-left, join-fits-right, Into, into_none, into_more, union_all-into, field_value-fits, project-fits, pack-fits}
 use Rattle.vx_dtype.proofs.Known.{first_unknown-filter, first_unknown-own}
 use Rattle.vx_dtype.proofs.Unions.{same_atomic-eq}
@@ -78,11 +78,7 @@ like-fits neg ci _ _ n m e h = cc
 sum-fits : (p q : PType) (v w : Datum) (n m : Bool) → Fits v (ty (atomic (number p)) n) → Fits w (ty (atomic (number q)) m) → overflows (ty (atomic (number p)) n ∷ ty (atomic (number q)) m ∷ []) (v ∷ w ∷ []) ≡ false → Fits (sum_of v w) (ty (atomic (number p)) (n || m))
 sum-fits p q null w n m e h s = or_left n m e
 sum-fits p q (int i) null n m e h s = or_right n m h
-sum-fits p q (int i) (int j) n m e h s = not_false _ s
-  where
-    not_false : (b : Bool) → not b ≡ false → b ≡ true
-    not_false true e = refl
-    not_false false e = cc
+sum-fits p q (int i) (int j) n m e h s = not-false _ s
 sum-fits p q _ _ n m e h s = cc
 
 -- ---- CASE
@@ -171,11 +167,7 @@ mask-fits t true v e = fits-nullable v t e
 mask-fits t false v e = null_fits t
 
 cast-fits : (u : LogicalType) (v : Datum) → misfits u (v ∷ []) ≡ false → Fits v u
-cast-fits u v s = go (fits v u) s
-  where
-    go : (b : Bool) → not b ≡ false → b ≡ true
-    go true e = refl
-    go false e = cc
+cast-fits u v s = not-false (fits v u) s
 
 pub fn_value-fits : {f : Function} {ts : List LogicalType} {t : LogicalType} {vs : List Datum} → FnType f ts t → HasFittingLiteral f → IsSafe f ts vs → EachFits vs ts → Fits (fn_value f ts vs) t
 fn_value-fits (of_case_else {k = k} {ts = ts} l z c b u) lit safe a = first_true-fits a (into_at b (union_all-into _ _ _ u)) (inl (is_odd ts k (eqb-true _ _ l)))

@@ -14,6 +14,7 @@ use Rattle.vx_rewrite_keep.specs.Keeps.{KeepsEach}
 use Rattle.vx_fn.proofs.Rows.{fn_type-found, fn_type-only}
 use Rattle.vx_fn.proofs.Monotone.{fn_type-mono, fields_named-mono}
 use Rattle.vx_rewrite_keep.proofs.Keeping.{types-narrower, fn_value-narrower, node_fault-narrower, each_scopes, each_no_fault, each_meaning}
+use Rattle.vx_rewrite_keep.proofs.Stepping.{same_type}
 use Rattle.vx_rewrite_recombine.specs.Items.{struct_type, joined}
 use Rattle.vx_rewrite_recombine.specs.Recombining.{Recombines}
 
@@ -26,9 +27,6 @@ record ReboundEach (rs rs' : BoundTrees) : Type 0 where
   types : NarrowerEach (node_types rs') (node_types rs)
   values_are : (v : Datum) → values rs' v ≡ values rs v
   faults_are : (batch : List Datum) → each_fault rs' batch ≡ each_fault rs batch
-
-same_type : (f : Function) (ts : List LogicalType) (t u w : LogicalType) → fn_type f ts ≡ Ok t → fn_type f ts ≡ Ok u → Narrower t w → Narrower u w
-same_type f ts t u w e h p = let q : t ≡ u = cc in subst (λ t. Narrower t w) q p
 
 rows_are : (f g : List Datum → List Datum) (xs : List (List Datum)) → f ≡ g → map f xs ≡ map g xs
 rows_are f g xs e = ap (λ h. map h xs) e

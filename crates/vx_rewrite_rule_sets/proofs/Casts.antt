@@ -4,7 +4,8 @@ use Rattle.std.specs.Prelude.{None, position, if◌then◌else◌}
 use Rattle.std.specs.List.{position_or_len}
 use Rattle.std.proofs.lemmas.Bool.{le-ltb, true≢false}
 use Rattle.vx_value.proofs.Above.{fits-above}
-use Rattle.vx_value.specs.Equality.{equal_type, equal_type-Decides}
+use Rattle.vx_value.specs.Equality.{equal_type}
+use Rattle.vx_value.specs.Deciding.{equal_type-Decides}
 use Rattle.vx_value.specs.Fits.{Fits}
 use Rattle.vx_value.specs.Types.{LogicalType, Datum}
 use Rattle.vx_fn.proofs.Monotone.{narrower_refl}

@@ -5,7 +5,8 @@ use Rattle.vx_dtype.specs.Answers.{Answers}
 use Rattle.vx_dtype.specs.declared.error.VortexError.{VortexError}
 use Rattle.vx_dtype.specs.declared.error.VortexError.TheVariants.{OutOfMemory, ScopeMismatch}
 use Rattle.vx_value.specs.Columns.{Batch, batch}
-use Rattle.vx_value.specs.Equality.{equal_type, equal_type-Decides}
+use Rattle.vx_value.specs.Equality.{equal_type}
+use Rattle.vx_value.specs.Deciding.{equal_type-Decides}
 use Rattle.vx_value.specs.Fits.{IsBatch}
 use Rattle.vx_value.specs.Paths.{Path, minimal_paths}
 use Rattle.vx_value.specs.Types.{LogicalType, Datum}

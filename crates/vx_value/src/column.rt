@@ -2,7 +2,8 @@
 ghost use Rattle.std.specs.Prelude.{◌≡◌, ℕ, ◌<◌, ◌==◌, IsErrOf, MatchOption, Ok, None, length, map, get_or};
 ghost use Rattle.std.specs.Cmp.{partial_equiv_from_equiv};
 ghost use Rattle.vx_value.specs.Answers.{Answers};
-ghost use Rattle.vx_value.specs.Columns.{Batch, batch, first_misfit, equal_batch, equal_batch_equiv};
+ghost use Rattle.vx_value.specs.Columns.{Batch, batch, first_misfit, equal_batch};
+ghost use Rattle.vx_value.specs.Deciding.{equal_batch_equiv};
 ghost use Rattle.vx_value.specs.Types.{null};
 ghost use Rattle.vx_value.specs.Fits.{Fits};
 ghost use Rattle.vx_value.specs.Views.{type_of, value_of};
