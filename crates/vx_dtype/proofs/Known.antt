@@ -1,9 +1,9 @@
 -- Names that fields have.
 use Rattle.std.proofs.Common.{◌≡◌, List, [], ◌∷◌, refl, sym, ap, ◌∙◌, Bool, true, false}
-use Rattle.std.specs.Prelude.{Some, None, if◌then◌else◌, is_some, filter, cond, not, ◌||◌}
+use Rattle.std.specs.Prelude.{Option, Some, None, option_map, if◌then◌else◌, is_some, filter, cond, not, ◌||◌}
 use Rattle.std.specs.Str.{bytes_eq}
 use Rattle.std.proofs.lemmas.Bool.{or_right}
-use Rattle.vx_dtype.specs.Types.{Name, Fields, no_field, field}
+use Rattle.vx_dtype.specs.Types.{Name, LogicalType, Fields, no_field, field}
 use Rattle.vx_dtype.specs.Fields.{field_type, field_names, is_among, first_missing, first_unknown}
 use Rattle.vx_dtype.proofs.NameTests.{own_name}
 
@@ -15,6 +15,11 @@ known_by_type a (field b t fs) = go (bytes_eq a b) (known_by_type a fs)
     go : (c : Bool) → is_among (field_names fs) a ≡ is_some (field_type a fs) → (c || is_among (field_names fs) a) ≡ is_some (if c then Some t else field_type a fs)
     go true h = refl
     go false h = h
+
+-- what was found of a field tells whether the name is among those of the fields
+pub known_found : {T : Type 0} (seen : T → LogicalType) (found : Option T) (a : Name) (fs : Fields) → option_map seen found ≡ field_type a fs → is_some found ≡ is_among (field_names fs) a
+known_found seen None a fs e = ap is_some e ∙ sym (known_by_type a fs)
+known_found seen (Some t) a fs e = ap is_some e ∙ sym (known_by_type a fs)
 
 -- where none is missing the first isn't, and of the others none is
 first_there : (a : Name) (names available : List Name) → first_missing available (a ∷ names) ≡ None → (is_among available a ≡ true) × (first_missing available names ≡ None)

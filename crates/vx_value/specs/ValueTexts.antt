@@ -19,14 +19,10 @@ abbrev mutual
   value_text (int i) (ty (atomic (number p)) n) = signed_decimal i ++ ptype_text p
   value_text (utf8 s) t = codes "\"" ++ (s ++ codes "\"")
   value_text (bytes bs) t = codes "0x" ++ flat_map hex_byte bs
-  value_text (list_of vs) (ty (list t) n) = list_text vs t
-  value_text (list_of vs) (ty (fixed t k) n) = list_text vs t
+  value_text (list_of vs) (ty (list t) n) = codes "[" ++ (with_commas (item_texts vs t) ++ codes "]")
+  value_text (list_of vs) (ty (fixed t k) n) = codes "[" ++ (with_commas (item_texts vs t) ++ codes "]")
   value_text (struct_of vs) (ty (struct fs) n) = codes "{" ++ (with_commas (row_texts vs fs) ++ codes "}")
   value_text _ _ = []
-
-  -- the items of a list, between brackets
-  pub list_text : Data → LogicalType → List ℕ
-  list_text vs t = codes "[" ++ (with_commas (item_texts vs t) ++ codes "]")
 
   -- each item of a list
   pub item_texts : Data → LogicalType → List (List ℕ)
@@ -37,6 +33,10 @@ abbrev mutual
   pub row_texts : Data → Fields → List (List ℕ)
   row_texts (datum v vs) (field a t fs) = (a ++ (codes ": " ++ value_text v t)) ∷ row_texts vs fs
   row_texts _ _ = []
+
+-- the items of a list, between brackets
+abbrev pub list_text : Data → LogicalType → List ℕ
+list_text vs t = codes "[" ++ (with_commas (item_texts vs t) ++ codes "]")
 
 -- the rows of a column, as a list
 abbrev pub column_text : List Datum → LogicalType → List ℕ

@@ -1,6 +1,6 @@
 use Rattle.std.proofs.Common.{◌≡◌, sym, subst, IfOk}
 use Rattle.vx_value.specs.Views.{value_of}
-use Rattle.vx_value.proofs.Taking.{row_there, at_place, place_kept, row_kept, lengths_kept}
+use Rattle.vx_value.proofs.TakenRows.{row_there, at_place, place_kept, row_kept, lengths_kept}
 use Rattle.vx_value.proofs.taking.take_at.Goals as goal
 
 pub take-requires : goal.take-requires

@@ -3,7 +3,7 @@ use Rattle.std.proofs.lemmas.List.{take_all}
 use Rattle.vx_value.specs.Fields.{data_of}
 use Rattle.vx_value.specs.Types.{struct_of}
 use Rattle.vx_value.specs.StructColumns.{row_at}
-use Rattle.vx_value.proofs.Taking.{row_still, row_long, value_of-Struct}
+use Rattle.vx_value.proofs.TakenRows.{row_still, row_long, value_of-Struct}
 use Rattle.vx_value.proofs.taking.take_row.Goals as goal
 
 pub take_at-requires-clause-row : goal.take_at-requires-clause-row
