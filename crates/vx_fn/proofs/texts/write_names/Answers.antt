@@ -10,7 +10,7 @@ loop-i-preserved g c = λ plain.
     let name = c.fmt.ensures.writes comma.plain (search rules) in (
       _,
       has_written_append _ _ _ _ _ _ (has_written_append _ _ _ _ _ _ wrote comma) name,
-      text_next c.args.names.now c.loop-i.i c.name-item.result done _ _ (omega arith) c.name-item.is c.separator.ensures left,
+      text_next c.args.names.now c.loop-i.i c.index-names-i.result done _ _ (omega arith) c.index-names-i.is c.separator.ensures left,
     )
 
 pub returns : goal.returns
