@@ -62,7 +62,11 @@ fn write_value<W: Write>(value: &Value, t: &DType, f: &mut Formatter<W>) -> fmt:
         }
         Value::List(items) => match t {
             DType::List(element, _) => write_list(items.as_slice(), element.as_ref(), f),
-            DType::FixedSizeList(element, _, _) => write_list(items.as_slice(), element.as_ref(), f),
+            DType::FixedSizeList(element, _, _) => write_list(
+                items.as_slice(),
+                element.as_ref(),
+                f,
+            ),
             _ => Ok(()),
         },
         Value::Struct(items) => match t {
@@ -78,11 +82,7 @@ fn write_value<W: Write>(value: &Value, t: &DType, f: &mut Formatter<W>) -> fmt:
 
 // Writes the values with a comma between them, between brackets.
 #[cycle(write)]
-pub(crate) fn write_list<W: Write>(
-    values: &[Value],
-    t: &DType,
-    f: &mut Formatter<W>,
-) -> fmt::Result
+pub(crate) fn write_list<W: Write>(values: &[Value], t: &DType, f: &mut Formatter<W>) -> fmt::Result
     ensures { WritesOnOk W.write_str_gives f.old result (list_text (data_view values.now) (type_of t.now)) f.new }
 {
     f.write_str("[")?;
