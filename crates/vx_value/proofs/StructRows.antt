@@ -49,18 +49,24 @@ struct_pushed columns out new i v so_far pushed here =
 
 -- ---- columns that are as long as they should be, and whose rows fit
 
+abbrev IsLong : ℕ → List Datum → Type 0
+IsLong k rows = k < length rows
+
+abbrev RowsFit : Batch → Type 0
+RowsFit c = first_misfit c.type c.rows ≡ None
+
 pub rows_there : (n : ℕ) (cs : List Batch) → all_long n cs ≡ true → (k : ℕ) → k < n → HaveRow k (rows_in cs)
-rows_there n [] e k h = All-nil _
+rows_there n [] e k h = All-nil (IsLong k)
 rows_there n (c ∷ cs) e k h =
     let parts = and_parts (length c.rows == n) (all_long n cs) e in
     let here : length c.rows ≡ n = eqb-true (length c.rows) n parts.0 in
-    All-cons _ c.rows (rows_in cs) (omega arith) (rows_there n cs parts.1 k h)
+    All-cons (IsLong k) c.rows (rows_in cs) (omega arith) (rows_there n cs parts.1 k h)
 
 row_fits : (cs : List Batch) (k : ℕ) → EachFit cs → HaveRow k (rows_in cs) → EachFits (row_at k (rows_in cs)) (types_in cs)
 row_fits [] k fit h = none_beside
 row_fits (c ∷ cs) k fit h =
-    more_beside (fits_at c.type c.rows k null (All-head _ c cs fit) (All-head _ c.rows (rows_in cs) h))
-    (row_fits cs k (All-tail _ c cs fit) (All-tail _ c.rows (rows_in cs) h))
+    more_beside (fits_at c.type c.rows k null (All-head RowsFit c cs fit) (All-head (IsLong k) c.rows (rows_in cs) h))
+    (row_fits cs k (All-tail RowsFit c cs fit) (All-tail (IsLong k) c.rows (rows_in cs) h))
 
 each_fits : (t : LogicalType) (f : ℕ → Datum) (a n : ℕ) → ((k : ℕ) → k < a + n → Fits (f k) t) → IsBatch t (map f (range_with_len a n))
 each_fits t f a zero h = refl
