@@ -19,25 +19,31 @@ use Rattle.vx_scan_kept.specs.declared.wanted.Wanted.{Wanted}
 
 -- ---- values in front of others
 
+abbrev put_value : Value → Data → Data
+put_value v rest = datum (value_of v) rest
+
 abbrev pub behind : List Value → Data → Data
-behind = in_front (λ v rest. datum (value_of v) rest)
+behind = in_front put_value
 
 behind_push : (made : List Value) (v : Value) (rest : Data) → behind (made ++ v ∷ []) rest ≡ behind made (datum (value_of v) rest)
-behind_push made v rest = in_front-push _ made v rest
+behind_push made v rest = in_front-push put_value made v rest
 
 behind_nothing : (made : List Value) → behind made no_datum ≡ data_view made
-behind_nothing made = in_front-all _ no_datum data_view refl (λ x xs. refl) made
+behind_nothing made = in_front-all put_value no_datum data_view refl (λ x xs. refl) made
 
 -- ---- and wants
 
+abbrev put_want : Wanted → Wants → Wants
+put_want w rest = want (wanted_of w) rest
+
 abbrev pub behind_wants : List Wanted → Wants → Wants
-behind_wants = in_front (λ w rest. want (wanted_of w) rest)
+behind_wants = in_front put_want
 
 wants_push : (made : List Wanted) (w : Wanted) (rest : Wants) → behind_wants (made ++ w ∷ []) rest ≡ behind_wants made (want (wanted_of w) rest)
-wants_push made w rest = in_front-push _ made w rest
+wants_push made w rest = in_front-push put_want made w rest
 
 wants_nothing : (made : List Wanted) → behind_wants made no_want ≡ wanted_view made
-wants_nothing made = in_front-all _ no_want wanted_view refl (λ x xs. refl) made
+wants_nothing made = in_front-all put_want no_want wanted_view refl (λ x xs. refl) made
 
 -- ---- defaults of fields
 

@@ -15,17 +15,20 @@ ok_bounds bs = Ok bs
 abbrev pub put : BoundTree → Result BoundTrees VortexError → Result BoundTrees VortexError
 put b rest = on_ok (λ bs. Ok (bound b bs)) rest
 
+abbrev put_bound : BoundExpression → BoundTrees → BoundTrees
+put_bound b bs = bound (bound_of b) bs
+
 abbrev pub before : List BoundExpression → BoundTrees → BoundTrees
-before = in_front (λ b bs. bound (bound_of b) bs)
+before = in_front put_bound
 
 abbrev pub after : List BoundExpression → Result BoundTrees VortexError → Result BoundTrees VortexError
 after made rest = on_ok (λ bs. Ok (before made bs)) rest
 
 pub before_push : (made : List BoundExpression) (b : BoundExpression) (bs : BoundTrees) → before (made ++ b ∷ []) bs ≡ before made (bound (bound_of b) bs)
-before_push made b bs = in_front-push _ made b bs
+before_push made b bs = in_front-push put_bound made b bs
 
 pub before_nothing : (made : List BoundExpression) → before made no_bound ≡ bounds_of made
-before_nothing made = in_front-all _ no_bound bounds_of refl (λ x xs. refl) made
+before_nothing made = in_front-all put_bound no_bound bounds_of refl (λ x xs. refl) made
 
 pub after_push : (made : List BoundExpression) (b : BoundExpression) (rest : Result BoundTrees VortexError) → after (made ++ b ∷ []) rest ≡ after made (put (bound_of b) rest)
 after_push made b (Ok bs) = ap ok_bounds (before_push made b bs)
