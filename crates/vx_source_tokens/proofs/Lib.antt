@@ -1,0 +1,5 @@
+pub mod Choice
+pub mod Quoting
+pub mod Spelled
+pub mod Unquoting
+pub mod FirstTokens

@@ -1,0 +1,20 @@
+// The tokens of source text, and what a reader of source text refuses with.
+#![tactic(auto)]
+
+mod blanks;
+mod error;
+mod expected;
+mod first;
+mod number;
+mod quotes;
+mod signs;
+mod token;
+mod words;
+
+pub use error::ParseError;
+pub use expected::Expected;
+pub use first::{Found, first_token};
+pub use token::{Sign, Token};
+
+#[cfg(test)]
+mod tests;
