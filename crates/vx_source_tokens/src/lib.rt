@@ -15,6 +15,7 @@ pub use error::ParseError;
 pub use expected::Expected;
 pub use first::{Found, first_token};
 pub use token::{Sign, Token};
+pub use words::is_plain;
 
 #[cfg(test)]
 mod tests;

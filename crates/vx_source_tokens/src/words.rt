@@ -2,6 +2,8 @@
 ghost use Rattle.std.specs.Prelude.{◌≡◌, ◌≤◌, ◌+◌, length, drop, IfOk, take, false};
 ghost use Rattle.std.specs.List.{prefix_len};
 ghost use Rattle.vx_source_tokens.specs.Characters.{is_letter, is_digit, is_word};
+ghost use Rattle.std.specs.List.{list_all};
+ghost use Rattle.vx_source_tokens.specs.Spellings.{is_plain};
 ghost use Rattle.vx_source_tokens.specs.Tokens.{word_len};
 
 use std::alloc::{AllocError, Global};
@@ -27,6 +29,28 @@ fn is_word(b: u8) -> bool
     ensures { result ≡ is_word b }
 {
     is_letter(b) || is_digit(b)
+}
+
+/// Whether the text is a word: letters, digits and underscores, and no digit first.
+pub fn is_plain(text: &str) -> bool
+    ensures { result ≡ is_plain text.now }
+{
+    let [first, rest @ ..] = text.as_bytes() else {
+        return false;
+    };
+    is_letter(*first) && goes_on(rest)
+}
+
+// Whether a word goes on with all of the bytes.
+fn goes_on(bytes: &[u8]) -> bool
+    ensures { result ≡ list_all is_word bytes.now }
+{
+    for b in bytes {
+        if !is_word(*b) {
+            return false;
+        }
+    }
+    true
 }
 
 // How long the longest word at the front is.

@@ -3,12 +3,13 @@ use Rattle.std.specs.Prelude.{ℕ, zero, suc, ◌^◌, Bool, true, false, List, 
 use Rattle.vx_dtype.specs.declared.dtype.PType.{PType}
 use Rattle.vx_dtype.specs.declared.dtype.PType.TheVariants.{U8, U16, U32, U64, I8, I16, I32, I64}
 use Rattle.vx_dtype.specs.Fields.{fields_named}
-use Rattle.vx_value.specs.Types.{Name, Atomic, truth, number, text, octets, LogicalType, ty, Shape, atomic, list, fixed, struct, with_nullability}
+use Rattle.vx_dtype.specs.Types.{Name, Atomic, truth, number, text, octets, LogicalType, ty, Shape, atomic, list, fixed, struct, with_nullability}
 use Rattle.vx_source_tokens.specs.declared.expected.Expected.{Expected}
 use Rattle.vx_source_tokens.specs.declared.expected.Expected.TheVariants.{LessNesting, TypeName, OpenParen, CloseParen, OpenBracket, CloseBracket, Length, Name as AName, FieldType, CommaOrCloseBrace}
 use Rattle.vx_source_tokens.specs.declared.token.Sign.TheVariants.{OpenParen as ParenOpens, CloseParen as ParenCloses, OpenBracket as BracketOpens, CloseBracket as BracketCloses, OpenBrace as BraceOpens, CloseBrace as BraceCloses, Comma as CommaSign, Equal, Question}
-use Rattle.vx_source_tokens.specs.Tokens.{Lexeme, word, number as numeral, sign, invalid}
-use Rattle.vx_source_types.specs.Names.{name_at, same_word}
+use Rattle.vx_source_tokens.specs.Tokens.{Lexeme, word, number as numeral, sign}
+use Rattle.vx_source_dtype.specs.Reading.{Goes, more, done, Step, refused}
+use Rattle.vx_source_dtype.specs.Names.{name_at, same_word}
 
 -- the fields of a struct so far, names and types, and the nesting that is allowed outside it
 pub record FieldsRead : Type 0 where
@@ -44,18 +45,8 @@ pub record TypeState : Type 0 where
   pub mode : TypeMode
   pub room : ℕ
 
--- a token is a part of the type, or the type has ended before it
-pub data TypeGoes : Type 0 where
-  more : TypeState → TypeGoes
-  done : LogicalType → TypeGoes
-
 abbrev pub TypeAnswer : Type 0
-TypeAnswer = Result TypeGoes Expected
-
--- what would have stood right: in the token itself, or in its place
-abbrev pub refused : {A : Type 0} → Lexeme → Expected → Result A Expected
-refused (invalid inner) wanted = Err inner
-refused _ wanted = Err wanted
+TypeAnswer = Result (Goes TypeState LogicalType) Expected
 
 -- the state goes on
 abbrev pub goes : List TypeFrame → TypeMode → ℕ → TypeAnswer
@@ -237,5 +228,9 @@ type_next fs (field_type d a) r x = field_type_at fs r d a x
 type_next fs (unmarked t) r x = marked fs r t x
 type_next fs (whole t) r x = type_ends fs r t x
 
-abbrev pub type_step : TypeState → Lexeme → TypeAnswer
+abbrev pub type_step : Step TypeState LogicalType
 type_step s x = type_next s.frames s.mode s.room x
+
+-- nothing of a type is read, and so much nesting is allowed
+abbrev pub type_start : ℕ → TypeState
+type_start room = record { frames = []; mode = type_due; room = room }

@@ -1,14 +1,15 @@
 // Types, read token by token. What is open lies on a list in the heap, so that no text makes the stack grow.
-ghost use Rattle.std.specs.Prelude.{◌≡◌, ◌<◌, [], ◌∷◌, ◌++◌, length, map, IfOk, Ok, Err};
-ghost use Rattle.vx_value.specs.Types.{shape_of, is_nullable, ty, list, fixed};
-ghost use Rattle.vx_value.specs.Views.{type_of};
-ghost use Rattle.vx_source_tokens.specs.Views.{lexeme_of, Reads};
-ghost use Rattle.vx_source_types.specs.Names.{name_at};
-ghost use Rattle.vx_source_types.specs.TypeReading as reading;
-ghost use Rattle.vx_source_types.specs.TypeViews.{IsRefusal, frames_of, frame_of, mode_of, fields_read, reader_of, step_of};
+ghost use Rattle.std.specs.Prelude.{◌≡◌, IfOk, MatchResult, Ok};
+ghost use Rattle.vx_dtype.specs.Views.{type_of};
+ghost use Rattle.vx_source_tokens.specs.Views.{lexeme_of};
+ghost use Rattle.vx_source_tokens.specs.declared.error.ParseError.TheVariants.{OutOfMemory};
+ghost use Rattle.vx_source_dtype.specs.Names.{name_at};
+ghost use Rattle.vx_source_dtype.specs.Reading.{ReadsAt, more};
+ghost use Rattle.vx_source_dtype.specs.TypeReading as reading;
+ghost use Rattle.vx_source_dtype.specs.TypeViews.{frames_of, frame_of, mode_of, fields_read, reader_of, step_of};
 
 use crate::names::field_name;
-use crate::state::{expected, inside};
+use crate::state::{expected, inside, refusal};
 use crate::type_state::{FieldsSoFar, TypeFrame, TypeMode, TypeReader, TypeStep};
 use crate::type_words::{TypeWord, type_word};
 use std::alloc::{AllocError, Global};
@@ -19,7 +20,7 @@ use vx_source_tokens::{Expected, Found, ParseError, Sign, Token};
 impl TypeReader {
     /// A type of which nothing is read yet, with that many brackets allowed inside one another.
     pub fn new(alloc: Global, room: usize) -> TypeReader
-        ensures { reader_of result ≡ record { frames = []; mode = reading.type_due; room = room } }
+        ensures { reader_of result ≡ reading.type_start room }
     {
         TypeReader {
             frames: Vec::new(alloc),
@@ -30,7 +31,7 @@ impl TypeReader {
 
     /// Reads a token.
     pub fn step(self, alloc: Global, found: &Found) -> Result<TypeStep, ParseError>
-        ensures { Reads step_of result (reading.type_step (reader_of self) (lexeme_of found.now.token)) }
+        ensures { ReadsAt found.now.at step_of result (reading.type_step (reader_of self) (lexeme_of found.now.token)) }
     {
         let TypeReader { frames, mode, room } = self;
         match mode {
@@ -60,7 +61,7 @@ impl TypeReader {
 }
 
 fn more(frames: Vec<TypeFrame>, mode: TypeMode, room: usize) -> TypeStep
-    ensures { step_of result ≡ reading.more (record { frames = frames_of frames.items; mode = mode_of mode; room = room }) }
+    ensures { step_of result ≡ more (record { frames = frames_of frames.items; mode = mode_of mode; room = room }) }
 {
     TypeStep::More(TypeReader { frames, mode, room })
 }
@@ -72,7 +73,7 @@ fn begin(
     room: usize,
     found: &Found,
 ) -> Result<TypeStep, ParseError>
-    ensures { Reads step_of result (reading.type_begins (frames_of frames.items) room (lexeme_of found.now.token)) }
+    ensures { ReadsAt found.now.at step_of result (reading.type_begins (frames_of frames.items) room (lexeme_of found.now.token)) }
 {
     match &found.token {
         Token::Word(name) => match type_word(name) {
@@ -94,16 +95,6 @@ fn begin(
     }
 }
 
-/// The refusal of the token: what would have stood right in its place, or inside it.
-pub fn refusal(found: &Found, wanted: Expected) -> ParseError
-    ensures { IsRefusal (lexeme_of found.now.token) wanted result }
-{
-    match &found.token {
-        Token::Invalid(inner) => expected(found, *inner),
-        _ => expected(found, wanted),
-    }
-}
-
 // The bracket before an element type.
 fn opens(
     mut frames: Vec<TypeFrame>,
@@ -111,7 +102,7 @@ fn opens(
     room: usize,
     found: &Found,
 ) -> Result<TypeStep, ParseError>
-    ensures { Reads step_of result (reading.element_opens (frames_of frames.items) room (frame_of frame) (lexeme_of found.now.token)) }
+    ensures { ReadsAt found.now.at step_of result (reading.element_opens (frames_of frames.items) room (frame_of frame) (lexeme_of found.now.token)) }
 {
     match &found.token {
         Token::Sign(Sign::OpenParen) => {
@@ -131,7 +122,7 @@ fn close(
     room: usize,
     found: &Found,
 ) -> Result<TypeStep, ParseError>
-    ensures { Reads step_of result (reading.type_ends (frames_of frames.items) room (type_of dtype) (lexeme_of found.now.token)) }
+    ensures { ReadsAt found.now.at step_of result (reading.type_ends (frames_of frames.items) room (type_of dtype) (lexeme_of found.now.token)) }
 {
     match frames.pop() {
         None => Ok(TypeStep::Done(dtype)),
@@ -179,7 +170,7 @@ fn close_field(
     room: usize,
     found: &Found,
 ) -> Result<TypeStep, ParseError>
-    ensures { Reads step_of result (reading.field_ends (frames_of frames.items) room (fields_read fields) (lexeme_of found.now.token)) }
+    ensures { ReadsAt found.now.at step_of result (reading.field_ends (frames_of frames.items) room (fields_read fields) (lexeme_of found.now.token)) }
 {
     match &found.token {
         Token::Sign(Sign::Comma) => Ok(more(frames, TypeMode::NextField(fields), room)),
@@ -194,7 +185,7 @@ fn end_fields(
     frames: Vec<TypeFrame>,
     fields: FieldsSoFar,
 ) -> Result<TypeStep, ParseError>
-    ensures { Reads step_of result (reading.struct_ends (frames_of frames.items) (fields_read fields)) }
+    ensures { MatchResult result (λ s. reading.struct_ends (frames_of frames.items) (fields_read fields) ≡ Ok (step_of s)) (λ e. e ≡ OutOfMemory) }
 {
     let FieldsSoFar { names, types, room } = fields;
     let Ok(names) = FieldNames::new(alloc, names) else {
@@ -214,7 +205,7 @@ fn first_field(
     room: usize,
     found: &Found,
 ) -> Result<TypeStep, ParseError>
-    ensures { Reads step_of result (reading.first_field_at (frames_of frames.items) room (fields_read fields) (lexeme_of found.now.token)) }
+    ensures { ReadsAt found.now.at step_of result (reading.first_field_at (frames_of frames.items) room (fields_read fields) (lexeme_of found.now.token)) }
 {
     match &found.token {
         Token::Sign(Sign::CloseBrace) => end_fields(alloc, frames, fields),
@@ -229,7 +220,7 @@ fn next_field(
     room: usize,
     found: &Found,
 ) -> Result<TypeStep, ParseError>
-    ensures { Reads step_of result (reading.field_named (frames_of frames.items) room (fields_read fields) (lexeme_of found.now.token) (name_at (lexeme_of found.now.token))) }
+    ensures { ReadsAt found.now.at step_of result (reading.field_named (frames_of frames.items) room (fields_read fields) (lexeme_of found.now.token) (name_at (lexeme_of found.now.token))) }
 {
     match field_name(&found.token) {
         Some(name) => Ok(more(frames, TypeMode::FieldType(fields, name.clone()?), room)),
@@ -245,7 +236,7 @@ fn field_type(
     room: usize,
     found: &Found,
 ) -> Result<TypeStep, ParseError>
-    ensures { Reads step_of result (reading.field_type_at (frames_of frames.items) room (fields_read fields) name (lexeme_of found.now.token)) }
+    ensures { ReadsAt found.now.at step_of result (reading.field_type_at (frames_of frames.items) room (fields_read fields) name (lexeme_of found.now.token)) }
 {
     match &found.token {
         Token::Sign(Sign::Equal) => {
@@ -262,7 +253,7 @@ fn length_opens(
     room: usize,
     found: &Found,
 ) -> Result<TypeStep, ParseError>
-    ensures { Reads step_of result (reading.length_opens_at (frames_of frames.items) room (type_of element) (lexeme_of found.now.token)) }
+    ensures { ReadsAt found.now.at step_of result (reading.length_opens_at (frames_of frames.items) room (type_of element) (lexeme_of found.now.token)) }
 {
     match &found.token {
         Token::Sign(Sign::OpenBracket) => Ok(more(frames, TypeMode::Length(element), room)),
@@ -276,7 +267,7 @@ fn length_at(
     room: usize,
     found: &Found,
 ) -> Result<TypeStep, ParseError>
-    ensures { Reads step_of result (reading.length_read (frames_of frames.items) room (type_of element) (lexeme_of found.now.token) (reading.length_at (lexeme_of found.now.token))) }
+    ensures { ReadsAt found.now.at step_of result (reading.length_read (frames_of frames.items) room (type_of element) (lexeme_of found.now.token) (reading.length_at (lexeme_of found.now.token))) }
 {
     match length_of(&found.token) {
         Some(size) => Ok(more(frames, TypeMode::LengthCloses(element, size), room)),
@@ -310,7 +301,7 @@ fn length_closes(
     room: usize,
     found: &Found,
 ) -> Result<TypeStep, ParseError>
-    ensures { Reads step_of result (reading.length_closes_at (frames_of frames.items) room (type_of element) size (lexeme_of found.now.token)) }
+    ensures { ReadsAt found.now.at step_of result (reading.length_closes_at (frames_of frames.items) room (type_of element) size (lexeme_of found.now.token)) }
 {
     match &found.token {
         Token::Sign(Sign::CloseBracket) => {

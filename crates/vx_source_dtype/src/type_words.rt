@@ -1,9 +1,9 @@
 // The words of types.
 ghost use Rattle.std.specs.Prelude.{◌≡◌, codes, option_map};
-ghost use Rattle.vx_value.specs.Types.{ty, atomic};
-ghost use Rattle.vx_source_types.specs.TypeReading.{ptype_word, atomic_word, type_word_of};
-ghost use Rattle.vx_source_types.specs.TypeViews.{atomic_type, word_of};
-ghost use Rattle.vx_value.specs.Views.{type_of};
+ghost use Rattle.vx_dtype.specs.Types.{ty, atomic};
+ghost use Rattle.vx_source_dtype.specs.TypeReading.{ptype_word, atomic_word, type_word_of};
+ghost use Rattle.vx_source_dtype.specs.TypeViews.{atomic_type, word_of};
+ghost use Rattle.vx_dtype.specs.Views.{type_of};
 
 use crate::names::is_word;
 use vx_dtype::{DType, FieldName, Nullability, PType};
@@ -51,8 +51,8 @@ fn plain_type(name: &FieldName) -> Option<DType>
     }
 }
 
-// The number type of that name.
-pub(crate) fn ptype_word(name: &FieldName) -> Option<PType>
+/// The number type of that name, in either case.
+pub fn ptype_word(name: &FieldName) -> Option<PType>
     ensures { result ≡ ptype_word name.now }
 {
     if is_word(name, "u8") {

@@ -2,8 +2,8 @@
 use Rattle.std.specs.Prelude.{ℕ, suc, Bool, List, [], ◌++◌, codes}
 use Rattle.std.specs.Fmt.{decimal}
 use Rattle.vx_dtype.specs.Texts.{mark, atomic_text, separator_at}
-use Rattle.vx_value.specs.Types.{Name, LogicalType, ty, Shape, atomic, list, fixed, struct, Fields, no_field, field}
-use Rattle.vx_source_types.specs.Names.{name_source}
+use Rattle.vx_dtype.specs.Types.{Name, LogicalType, ty, Shape, atomic, list, fixed, struct, Fields, no_field, field}
+use Rattle.vx_source_dtype.specs.Names.{name_source}
 
 -- the text of a type, with the names that are no words between backquotes
 abbrev mutual

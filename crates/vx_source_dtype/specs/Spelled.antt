@@ -1,14 +1,7 @@
--- What the tokens at the front of a text make of a type that is being read.
-use Rattle.std.specs.Prelude.{◌≡◌, ℕ, ◌+◌, ◌<◌, ◌^◌, max, true, false, List, Ok}
+-- Which types a text can say, and how deep they are nested.
+use Rattle.std.specs.Prelude.{ℕ, ◌+◌, ◌<◌, ◌^◌, max}
 use Rattle.std.specs.Str.{IsUtf8}
-use Rattle.vx_value.specs.Types.{Name, LogicalType, ty, Shape, atomic, list, fixed, struct, Fields, no_field, field}
-use Rattle.vx_source_tokens.specs.Tokens.{Lexeme, first}
-use Rattle.vx_source_types.specs.TypeReading.{TypeMode, unmarked, whole, TypeState, more, type_step}
-
--- some tokens at the front of bs lead from s to u, and ds is left behind them
-pub data TypeLeads : TypeState → List ℕ → TypeState → List ℕ → Type 0 where
-  stays : {s : TypeState} {bs : List ℕ} → TypeLeads s bs s bs
-  leads : {s t u : TypeState} {bs cs ds : List ℕ} {x : Lexeme} → first bs ≡ (x, cs) → type_step s x ≡ Ok (more t) → TypeLeads t cs u ds → TypeLeads s bs u ds
+use Rattle.vx_dtype.specs.Types.{LogicalType, ty, Shape, atomic, list, fixed, struct, Fields, no_field, field}
 
 -- how many brackets are open at most at one place of the type's text
 abbrev mutual
@@ -39,8 +32,3 @@ abbrev mutual
   pub AreSpelled : Fields → Type 0
   AreSpelled no_field = Unit {0}
   AreSpelled (field a t fs) = IsUtf8 a × IsSpelled t × AreSpelled fs
-
--- a type that was read, behind which a question mark may still follow where it isn't nullable
-abbrev pub read_mode : LogicalType → TypeMode
-read_mode (ty s true) = whole (ty s true)
-read_mode (ty s false) = unmarked (ty s false)

@@ -2,7 +2,7 @@
 use Rattle.std.specs.Prelude.{ℕ, Bool, List, [], ◌∷◌, ◌++◌, Option, Some, None, map, codes}
 use Rattle.std.specs.Char.{to_ascii_lowercase}
 use Rattle.std.specs.Str.{bytes_eq}
-use Rattle.vx_value.specs.Types.{Name}
+use Rattle.vx_dtype.specs.Types.{Name}
 pub use Rattle.vx_source_tokens.specs.Spellings.{is_plain, doubled, between_quotes, name_source}
 use Rattle.vx_source_tokens.specs.Tokens.{Lexeme, word, quoted}
 
