@@ -1,0 +1,4 @@
+pub mod Reading
+pub mod TypesAgain
+pub mod FieldSources
+pub mod Doubling

@@ -1,5 +1,5 @@
 -- A text is read token by token: each token makes something else of what is read so far, or comes behind it.
-use Rattle.std.specs.Prelude.{◌≡◌, ℕ, false, List, Result, Ok, Err}
+use Rattle.std.specs.Prelude.{◌≡◌, ◌≤◌, ℕ, false, List, length, drop, Result, Ok, Err, MatchResult}
 use Rattle.vx_source_tokens.specs.declared.error.ParseError.{ParseError}
 use Rattle.vx_source_tokens.specs.declared.error.ParseError.TheVariants.{OutOfMemory, Unexpected}
 use Rattle.vx_source_tokens.specs.declared.expected.Expected.{Expected}
@@ -47,3 +47,14 @@ abbrev pub ReadsAt : {A B : Type 0} → ℕ → (A → B) → Result A ParseErro
 ReadsAt at view (Ok x) said = said ≡ Ok (view x)
 ReadsAt at view (Err OutOfMemory) said = Unit {0}
 ReadsAt at view (Err (Unexpected place e)) said = (place ≡ at) × (said ≡ Err e)
+
+-- what a whole text comes to: what is read, seen by view, or where it stops and what would have stood right there, unless
+-- memory ran out
+abbrev pub Parses : {S A B : Type 0} → Step S B → S → List ℕ → (A → B) → Result A ParseError → Type 0
+Parses step s bs view (Ok x) = IsRead step s bs (view x)
+Parses step s bs view (Err OutOfMemory) = Unit {0}
+Parses step s bs view (Err (Unexpected at e)) = (at ≤ length bs) × Stops step s bs (drop at bs) e
+
+-- the call gave that, seen by view, unless memory ran out
+abbrev pub Gives : {A B : Type 0} → (A → B) → Result A ParseError → B → Type 0
+Gives view result said = MatchResult result (λ x. view x ≡ said) (λ e. e ≡ OutOfMemory)

@@ -1,33 +1,66 @@
 // Whole texts of types.
+ghost use Rattle.std.specs.Prelude.{◌≡◌, ◌≤◌};
+ghost use Rattle.vx_dtype.specs.Types.{LogicalType};
+ghost use Rattle.vx_dtype.specs.Views.{type_of};
+ghost use Rattle.vx_source_tokens.specs.Views.{lexeme_of};
+ghost use Rattle.vx_source_dtype.specs.Reading.{ReadsAt, whole_text, IsRead, Parses, Gives};
+ghost use Rattle.vx_source_dtype.specs.Spelled.{IsSpelled, type_nesting};
+ghost use Rattle.vx_source_dtype.specs.TypeReading.{type_step, type_start};
+ghost use Rattle.vx_source_dtype.specs.TypeTexts.{type_source};
+
 use crate::state::refusal;
 use crate::type_state::{TypeReader, TypeStep};
 use std::alloc::Global;
 use vx_dtype::DType;
-use vx_source_tokens::{Expected, ParseError, Token, first_token};
+use vx_source_tokens::{Expected, Found, ParseError, Token, first_token};
 
 /// How much nesting is allowed where no other number is given.
 pub const DEFAULT_NESTING: usize = 200;
 
-/// The type that the text says. Time is linear in the text.
-pub fn parse_type(alloc: Global, text: &str) -> Result<DType, ParseError> {
+/// The type that the text says, with at most 200 brackets inside one another. Refuses with the byte where reading stopped
+/// and what would have stood right there, and with `OutOfMemory`. Time is linear in the text.
+pub fn parse_type(alloc: Global, text: &str) -> Result<DType, ParseError>
+    ensures parses { Parses type_step (type_start 200) text.now type_of result }
+    ensures complete { (t : LogicalType) → IsRead type_step (type_start 200) text.now t → Gives type_of result t }
+    ensures again { (t : LogicalType) → IsSpelled t → type_nesting t ≤ 200 → text.now ≡ type_source t → Gives type_of result t }
+{
     parse_type_with(alloc, text, DEFAULT_NESTING)
 }
 
-/// The type that the text says, with that many brackets allowed inside one another. Time is linear in the text.
-pub fn parse_type_with(alloc: Global, text: &str, nesting: usize) -> Result<DType, ParseError> {
+/// The same, with that many brackets allowed inside one another. Time is linear in the text.
+pub fn parse_type_with(alloc: Global, text: &str, nesting: usize) -> Result<DType, ParseError>
+    ensures parses { Parses type_step (type_start nesting) text.now type_of result }
+    ensures complete { (t : LogicalType) → IsRead type_step (type_start nesting) text.now t → Gives type_of result t }
+    ensures again { (t : LogicalType) → IsSpelled t → type_nesting t ≤ nesting → text.now ≡ type_source t → Gives type_of result t }
+{
+    read_type(alloc, text, nesting)
+}
+
+// The same, as a loop.
+fn read_type(alloc: Global, text: &str, nesting: usize) -> Result<DType, ParseError>
+    ensures { Parses type_step (type_start nesting) text.now type_of result }
+{
     let mut reader = TypeReader::new(alloc, nesting);
     let mut from = 0;
     loop {
         let found = first_token(alloc, text, from)?;
-        from = found.end;
         match reader.step(alloc, &found)? {
             TypeStep::More(next) => reader = next,
             TypeStep::Done(dtype) => {
-                return match found.token {
-                    Token::End => Ok(dtype),
-                    _ => Err(refusal(&found, Expected::End)),
-                };
+                ends(&found)?;
+                return Ok(dtype);
             }
         }
+        from = found.end;
+    }
+}
+
+/// Nothing where the text ends with the token, and else the token's refusal.
+pub fn ends(found: &Found) -> Result<(), ParseError>
+    ensures { ReadsAt found.now.at (λ u. u) result (whole_text tt (lexeme_of found.now.token)) }
+{
+    match &found.token {
+        Token::End => Ok(()),
+        _ => Err(refusal(found, Expected::End)),
     }
 }

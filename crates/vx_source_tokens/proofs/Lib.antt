@@ -3,3 +3,4 @@ pub mod Quoting
 pub mod Spelled
 pub mod Unquoting
 pub mod FirstTokens
+pub mod FirstNumbers

@@ -1,74 +1,25 @@
 // Values, read token by token. What is open lies on a list in the heap, so that no text makes the stack grow.
-use crate::names::{field_name, is_word};
-use crate::state::{expected, inside};
-use crate::type_reader::refusal;
+ghost use Rattle.std.specs.Prelude.{◌≡◌, Ok, IfOk, option_map};
+ghost use Rattle.vx_value.specs.Views.{value_of};
+ghost use Rattle.vx_source_tokens.specs.Views.{lexeme_of};
+ghost use Rattle.vx_source_dtype.specs.Names.{name_at};
+ghost use Rattle.vx_source_dtype.specs.Reading.{ReadsAt, more};
+ghost use Rattle.vx_source_types.specs.ValueReading as reading;
+ghost use Rattle.vx_source_types.specs.ValueViews.{frames_of, items_read, mode_of, reader_of, step_of};
+
+use crate::value_state::{Draft, ItemsSoFar, ValueFrame, ValueMode, ValueReader, ValueStep};
 use std::alloc::{AllocError, Global};
+use vx_source_dtype::{field_name, inside, is_word, refusal};
 use vx_source_tokens::{Expected, Found, ParseError, Sign, Token};
 use vx_types::{FieldName, Value};
 
-/// A value whose type isn't known yet, with the names of its structs in the order in which they stand.
-#[derive(Drop)]
-pub struct Draft {
-    /// The value.
-    pub value: Value,
-    /// The names.
-    pub names: Vec<FieldName>,
-}
-
-// The items of a list or the values of a struct so far, and the nesting that is allowed outside it.
-#[derive(Drop)]
-struct ItemsSoFar {
-    items: Vec<Value>,
-    room: usize,
-}
-
-// What is open around the value that is being read.
-#[derive(Drop)]
-enum ValueFrame {
-    List(ItemsSoFar),
-    Struct(ItemsSoFar),
-}
-
-// What is due next.
-#[derive(Drop)]
-enum ValueMode {
-    // A value.
-    Value,
-    // The first item, or the end of an empty list.
-    FirstItem(ItemsSoFar),
-    // The first field, or the end of an empty struct.
-    FirstField(ItemsSoFar),
-    // Another field.
-    NextField(ItemsSoFar),
-    // The sign between a field's name and its value.
-    FieldValue(ItemsSoFar),
-    // A value is there.
-    Whole(Value),
-}
-
-/// A value that is being read.
-#[derive(Drop)]
-pub struct ValueReader {
-    open: Vec<ValueFrame>,
-    mode: ValueMode,
-    names: Vec<FieldName>,
-    room: usize,
-}
-
-/// What a token makes of a value that is being read.
-#[derive(Drop)]
-pub enum ValueStep {
-    /// The token is a part of it.
-    More(ValueReader),
-    /// The value has ended before the token.
-    Done(Draft),
-}
-
 impl ValueReader {
     /// A value of which nothing is read yet, with that many brackets allowed inside one another.
-    pub fn new(alloc: Global, room: usize) -> ValueReader {
+    pub fn new(alloc: Global, room: usize) -> ValueReader
+        ensures { reader_of result ≡ reading.value_start room }
+    {
         ValueReader {
-            open: Vec::new(alloc),
+            frames: Vec::new(alloc),
             mode: ValueMode::Value,
             names: Vec::new(alloc),
             room,
@@ -76,58 +27,36 @@ impl ValueReader {
     }
 
     /// Reads a token.
-    pub fn step(self, alloc: Global, found: &Found) -> Result<ValueStep, ParseError> {
+    pub fn step(self, alloc: Global, found: &Found) -> Result<ValueStep, ParseError>
+        ensures { ReadsAt found.now.at step_of result (reading.value_step (reader_of self) (lexeme_of found.now.token)) }
+    {
         let ValueReader {
-            open,
+            frames,
             mode,
             names,
             room,
         } = self;
         match mode {
-            ValueMode::Value => begin(alloc, open, names, room, found),
-            ValueMode::FirstItem(items) => match &found.token {
-                Token::Sign(Sign::CloseBracket) => {
-                    Ok(more(
-                        open,
-                        ValueMode::Whole(Value::List(items.items)),
-                        names,
-                        items.room,
-                    ))
-                }
-                _ => {
-                    let mut open = open;
-                    open.push(ValueFrame::List(items))?;
-                    begin(alloc, open, names, room, found)
-                }
-            },
-            ValueMode::FirstField(items) => match &found.token {
-                Token::Sign(Sign::CloseBrace) => {
-                    Ok(more(
-                        open,
-                        ValueMode::Whole(Value::Struct(items.items)),
-                        names,
-                        items.room,
-                    ))
-                }
-                _ => next_field(open, items, names, room, found),
-            },
-            ValueMode::NextField(items) => next_field(open, items, names, room, found),
-            ValueMode::FieldValue(items) => match &found.token {
-                Token::Sign(Sign::Colon) => {
-                    let mut open = open;
-                    open.push(ValueFrame::Struct(items))?;
-                    Ok(more(open, ValueMode::Value, names, room))
-                }
-                _ => Err(refusal(found, Expected::FieldValue)),
-            },
-            ValueMode::Whole(value) => close(open, value, names, room, found),
+            ValueMode::Value => begin(alloc, frames, names, room, found),
+            ValueMode::FirstItem(items) => first_item(alloc, frames, items, names, room, found),
+            ValueMode::FirstField(items) => first_field(frames, items, names, room, found),
+            ValueMode::NextField(items) => next_field(frames, items, names, room, found),
+            ValueMode::FieldValue(items) => field_value(frames, items, names, room, found),
+            ValueMode::Whole(value) => close(frames, value, names, room, found),
         }
     }
 }
 
-fn more(open: Vec<ValueFrame>, mode: ValueMode, names: Vec<FieldName>, room: usize) -> ValueStep {
+fn more(
+    frames: Vec<ValueFrame>,
+    mode: ValueMode,
+    names: Vec<FieldName>,
+    room: usize,
+) -> ValueStep
+    ensures { step_of result ≡ more (record { frames = frames_of frames.items; mode = mode_of mode; names = names.items; room = room }) }
+{
     ValueStep::More(ValueReader {
-        open,
+        frames,
         mode,
         names,
         room,
@@ -137,65 +66,90 @@ fn more(open: Vec<ValueFrame>, mode: ValueMode, names: Vec<FieldName>, room: usi
 // The beginning of a value.
 fn begin(
     alloc: Global,
-    open: Vec<ValueFrame>,
+    frames: Vec<ValueFrame>,
     names: Vec<FieldName>,
     room: usize,
     found: &Found,
-) -> Result<ValueStep, ParseError> {
+) -> Result<ValueStep, ParseError>
+    ensures { ReadsAt found.now.at step_of result (reading.value_begins (frames_of frames.items) names.items room (lexeme_of found.now.token)) }
+{
     match &found.token {
         Token::Sign(Sign::OpenBracket) => {
             let less = inside(room, found)?;
-            let items = ItemsSoFar {
-                items: Vec::new(alloc),
-                room,
-            };
-            Ok(more(open, ValueMode::FirstItem(items), names, less))
+            Ok(more(frames, ValueMode::FirstItem(no_items(alloc, room)), names, less))
         }
         Token::Sign(Sign::OpenBrace) => {
             let less = inside(room, found)?;
-            let items = ItemsSoFar {
-                items: Vec::new(alloc),
-                room,
-            };
-            Ok(more(open, ValueMode::FirstField(items), names, less))
+            Ok(more(frames, ValueMode::FirstField(no_items(alloc, room)), names, less))
         }
-        _ => match simple_value(&found.token)? {
-            Some(value) => Ok(more(open, ValueMode::Whole(value), names, room)),
-            None => Err(refusal(found, Expected::Value)),
-        },
+        _ => begin_simple(frames, names, room, found),
     }
 }
 
-// The value of one token.
-fn simple_value(token: &Token) -> Result<Option<Value>, AllocError> {
+// No item yet.
+fn no_items(alloc: Global, room: usize) -> ItemsSoFar
+    ensures { items_read result ≡ reading.no_items room }
+{
+    ItemsSoFar {
+        items: Vec::new(alloc),
+        room,
+    }
+}
+
+// A value of one token.
+fn begin_simple(
+    frames: Vec<ValueFrame>,
+    names: Vec<FieldName>,
+    room: usize,
+    found: &Found,
+) -> Result<ValueStep, ParseError>
+    ensures { ReadsAt found.now.at step_of result (reading.simple_begins (frames_of frames.items) names.items room (lexeme_of found.now.token) (reading.simple_value (lexeme_of found.now.token))) }
+{
+    match simple_value(&found.token)? {
+        Some(value) => Ok(more(frames, ValueMode::Whole(value), names, room)),
+        None => Err(refusal(found, Expected::Value)),
+    }
+}
+
+// The value that the token is.
+fn simple_value(token: &Token) -> Result<Option<Value>, AllocError>
+    ensures { IfOk result (λ v. option_map value_of v ≡ reading.simple_value (lexeme_of token.now)) }
+{
     match token {
         Token::Word(name) => Ok(word_value(name)),
         Token::Number {
             negative,
             magnitude,
             suffix,
-        } => {
-            if !suffix.as_str().is_empty() {
-                return Ok(None);
-            }
-            Ok(match magnitude {
-                Some(magnitude) => Some(Value::Int(signed(*negative, *magnitude))),
-                None => None,
-            })
-        }
+        } => Ok(number_value(*negative, *magnitude, suffix)),
         Token::Text(text) => Ok(Some(Value::Utf8(text.clone()?))),
         Token::Octets(bytes) => Ok(Some(Value::Binary(bytes.clone()?))),
         _ => Ok(None),
     }
 }
 
+// The value of a number without a suffix.
+fn number_value(negative: bool, magnitude: Option<u64>, suffix: &FieldName) -> Option<Value>
+    ensures { option_map value_of result ≡ reading.number_value negative magnitude suffix.now }
+{
+    if !suffix.as_str().is_empty() {
+        return None;
+    }
+    Some(Value::Int(signed(negative, magnitude?)))
+}
+
 // The number, below zero or not.
-pub(crate) fn signed(negative: bool, magnitude: u64) -> i128 {
+pub(crate) fn signed(negative: bool, magnitude: u64) -> i128
+    ensures { result ≡ reading.signed negative magnitude }
+{
     let n = i128::from(magnitude);
     if negative { -n } else { n }
 }
 
-fn word_value(name: &FieldName) -> Option<Value> {
+// The value that the word is.
+fn word_value(name: &FieldName) -> Option<Value>
+    ensures { option_map value_of result ≡ reading.word_value name.now }
+{
     if is_word(name, "null") {
         Some(Value::Null)
     } else if is_word(name, "true") {
@@ -207,72 +161,159 @@ fn word_value(name: &FieldName) -> Option<Value> {
     }
 }
 
-// The name of a field.
-fn next_field(
-    open: Vec<ValueFrame>,
+// The first item of a list, or the end of an empty one.
+fn first_item(
+    alloc: Global,
+    mut frames: Vec<ValueFrame>,
     items: ItemsSoFar,
     names: Vec<FieldName>,
     room: usize,
     found: &Found,
-) -> Result<ValueStep, ParseError> {
-    let mut names = names;
-    let Some(name) = field_name(&found.token) else {
-        return Err(refusal(found, Expected::Name));
-    };
-    names.push(name.clone()?)?;
-    Ok(more(open, ValueMode::FieldValue(items), names, room))
+) -> Result<ValueStep, ParseError>
+    ensures { ReadsAt found.now.at step_of result (reading.first_item_at (frames_of frames.items) names.items room (items_read items) (lexeme_of found.now.token)) }
+{
+    if let Token::Sign(Sign::CloseBracket) = &found.token {
+        return Ok(end_list(frames, items, names));
+    }
+    frames.push(ValueFrame::List(items))?;
+    begin(alloc, frames, names, room, found)
+}
+
+// The list of the items.
+fn end_list(frames: Vec<ValueFrame>, items: ItemsSoFar, names: Vec<FieldName>) -> ValueStep
+    ensures { Ok (step_of result) ≡ reading.list_ends (frames_of frames.items) names.items (items_read items) }
+{
+    let ItemsSoFar { items, room } = items;
+    more(frames, ValueMode::Whole(Value::List(items)), names, room)
+}
+
+// The struct of the values.
+fn end_struct(frames: Vec<ValueFrame>, items: ItemsSoFar, names: Vec<FieldName>) -> ValueStep
+    ensures { Ok (step_of result) ≡ reading.row_ends (frames_of frames.items) names.items (items_read items) }
+{
+    let ItemsSoFar { items, room } = items;
+    more(frames, ValueMode::Whole(Value::Struct(items)), names, room)
+}
+
+// The first field of a struct, or the end of an empty one.
+fn first_field(
+    frames: Vec<ValueFrame>,
+    items: ItemsSoFar,
+    names: Vec<FieldName>,
+    room: usize,
+    found: &Found,
+) -> Result<ValueStep, ParseError>
+    ensures { ReadsAt found.now.at step_of result (reading.first_named_at (frames_of frames.items) names.items room (items_read items) (lexeme_of found.now.token)) }
+{
+    match &found.token {
+        Token::Sign(Sign::CloseBrace) => Ok(end_struct(frames, items, names)),
+        _ => next_field(frames, items, names, room, found),
+    }
+}
+
+// The name of a field.
+fn next_field(
+    frames: Vec<ValueFrame>,
+    items: ItemsSoFar,
+    mut names: Vec<FieldName>,
+    room: usize,
+    found: &Found,
+) -> Result<ValueStep, ParseError>
+    ensures { ReadsAt found.now.at step_of result (reading.value_named (frames_of frames.items) names.items room (items_read items) (lexeme_of found.now.token) (name_at (lexeme_of found.now.token))) }
+{
+    match field_name(&found.token) {
+        Some(name) => {
+            names.push(name.clone()?)?;
+            Ok(more(frames, ValueMode::FieldValue(items), names, room))
+        }
+        None => Err(refusal(found, Expected::Name)),
+    }
+}
+
+// The sign before the value of a field.
+fn field_value(
+    mut frames: Vec<ValueFrame>,
+    items: ItemsSoFar,
+    names: Vec<FieldName>,
+    room: usize,
+    found: &Found,
+) -> Result<ValueStep, ParseError>
+    ensures { ReadsAt found.now.at step_of result (reading.named_value_at (frames_of frames.items) names.items room (items_read items) (lexeme_of found.now.token)) }
+{
+    match &found.token {
+        Token::Sign(Sign::Colon) => {
+            frames.push(ValueFrame::Struct(items))?;
+            Ok(more(frames, ValueMode::Value, names, room))
+        }
+        _ => Err(refusal(found, Expected::FieldValue)),
+    }
 }
 
 // What follows a whole value.
 fn close(
-    mut open: Vec<ValueFrame>,
+    mut frames: Vec<ValueFrame>,
     value: Value,
     names: Vec<FieldName>,
     room: usize,
     found: &Found,
-) -> Result<ValueStep, ParseError> {
-    match open.pop() {
+) -> Result<ValueStep, ParseError>
+    ensures { ReadsAt found.now.at step_of result (reading.value_ends (frames_of frames.items) names.items room (value_of value) (lexeme_of found.now.token)) }
+{
+    match frames.pop() {
         None => Ok(ValueStep::Done(Draft { value, names })),
         Some(ValueFrame::List(items)) => {
-            let ItemsSoFar {
-                mut items,
-                room: outside,
-            } = items;
-            items.push(value)?;
-            match &found.token {
-                Token::Sign(Sign::Comma) => {
-                    let items = ItemsSoFar {
-                        items,
-                        room: outside,
-                    };
-                    open.push(ValueFrame::List(items))?;
-                    Ok(more(open, ValueMode::Value, names, room))
-                }
-                Token::Sign(Sign::CloseBracket) => {
-                    Ok(more(open, ValueMode::Whole(Value::List(items)), names, outside))
-                }
-                _ => Err(refusal(found, Expected::CommaOrCloseBracket)),
-            }
+            let items = with_item(items, value)?;
+            close_item(frames, items, names, room, found)
         }
         Some(ValueFrame::Struct(items)) => {
-            let ItemsSoFar {
-                mut items,
-                room: outside,
-            } = items;
-            items.push(value)?;
-            match &found.token {
-                Token::Sign(Sign::Comma) => {
-                    let items = ItemsSoFar {
-                        items,
-                        room: outside,
-                    };
-                    Ok(more(open, ValueMode::NextField(items), names, room))
-                }
-                Token::Sign(Sign::CloseBrace) => {
-                    Ok(more(open, ValueMode::Whole(Value::Struct(items)), names, outside))
-                }
-                _ => Err(refusal(found, Expected::CommaOrCloseBrace)),
-            }
+            let items = with_item(items, value)?;
+            close_field(frames, items, names, room, found)
         }
+    }
+}
+
+// The items with another.
+fn with_item(items: ItemsSoFar, value: Value) -> Result<ItemsSoFar, AllocError>
+    ensures { IfOk result (λ d. items_read d ≡ reading.with_item (items_read items) (value_of value)) }
+{
+    let ItemsSoFar { mut items, room } = items;
+    items.push(value)?;
+    Ok(ItemsSoFar { items, room })
+}
+
+// What follows an item of a list.
+fn close_item(
+    mut frames: Vec<ValueFrame>,
+    items: ItemsSoFar,
+    names: Vec<FieldName>,
+    room: usize,
+    found: &Found,
+) -> Result<ValueStep, ParseError>
+    ensures { ReadsAt found.now.at step_of result (reading.item_ends (frames_of frames.items) names.items room (items_read items) (lexeme_of found.now.token)) }
+{
+    match &found.token {
+        Token::Sign(Sign::Comma) => {
+            frames.push(ValueFrame::List(items))?;
+            Ok(more(frames, ValueMode::Value, names, room))
+        }
+        Token::Sign(Sign::CloseBracket) => Ok(end_list(frames, items, names)),
+        _ => Err(refusal(found, Expected::CommaOrCloseBracket)),
+    }
+}
+
+// What follows the value of a field.
+fn close_field(
+    frames: Vec<ValueFrame>,
+    items: ItemsSoFar,
+    names: Vec<FieldName>,
+    room: usize,
+    found: &Found,
+) -> Result<ValueStep, ParseError>
+    ensures { ReadsAt found.now.at step_of result (reading.named_ends (frames_of frames.items) names.items room (items_read items) (lexeme_of found.now.token)) }
+{
+    match &found.token {
+        Token::Sign(Sign::Comma) => Ok(more(frames, ValueMode::NextField(items), names, room)),
+        Token::Sign(Sign::CloseBrace) => Ok(end_struct(frames, items, names)),
+        _ => Err(refusal(found, Expected::CommaOrCloseBrace)),
     }
 }

@@ -1,0 +1,30 @@
+use Rattle.std.proofs.Common.{[], ◌++◌, length, ap, ◌∙◌, arith, refl}
+use Rattle.std.proofs.Output.{has_written_append, has_written_of_eq, writes_in_calls_nil}
+use Rattle.vx_dtype.specs.Fields.{field_count}
+use Rattle.vx_dtype.specs.Views.{type_of, fields_view}
+use Rattle.vx_source_dtype.specs.TypeTexts.{fields_source, field_source}
+use Rattle.vx_source_dtype.proofs.FieldSources.{fields_source_next, fields_source_all}
+use Rattle.vx_source_dtype.proofs.type_text.+write.Goals as goal
+
+pub write_fields-loop-i-init : goal.write_fields-loop-i-init
+write_fields-loop-i-init g t c = λ p.
+    let names = c.as_slice-names.ensures ∙ c.names.ensures.names in
+    let fields = ap (λ ns. fields_view ns c.types-types.result.now) names ∙ c.types-types.ensures.fields in
+    ([], record { wrote = writes_in_calls_nil _ _; plain = p }, ap (fields_source 0) fields)
+
+pub write_fields-loop-i-preserved : goal.write_fields-loop-i-preserved
+write_fields-loop-i-preserved g t c = λ p.
+    let h = c.loop-i.invariant p in
+    let count = ap length c.as_slice-names.ensures in (
+      h.0 ++ field_source c.loop-i.i c.index-names-i.result (type_of c.index-types-i.result),
+      has_written_append _ _ _ _ _ _ h.1 (c.in_ok-write_field.ensures h.1.plain refl),
+      fields_source_next c.as_slice-names.result.now c.types-types.result.now c.loop-i.i c.index-names-i.result c.index-types-i.result h.0 _ (omega arith) (omega arith) c.index-names-i.is c.index-types-i.is h.2,
+    )
+
+pub write_fields-returns : goal.write_fields-returns
+write_fields-returns g t c = λ p q.
+    let h = c.loop-i.invariant p in
+    let names = c.as_slice-names.ensures ∙ c.names.ensures.names in
+    let fields = ap (λ ns. fields_view ns c.types-types.result.now) names ∙ c.types-types.ensures.fields in
+    let count = ap field_count fields in
+    has_written_of_eq _ _ _ _ _ (fields_source_all c.as_slice-names.result.now c.types-types.result.now c.loop-i.i h.0 _ (omega arith) h.2) h.1
