@@ -1,0 +1,13 @@
+// Expressions read from source text.
+#![tactic(auto)]
+
+mod after;
+mod begin;
+mod calls;
+mod close;
+mod parse;
+mod postfix;
+mod state;
+
+pub use parse::{Placed, parse, parse_with, parse_with_places};
+pub use vx_source_operands::Places;

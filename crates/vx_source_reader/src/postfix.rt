@@ -1,0 +1,264 @@
+// What follows an operand and binds tightest.
+use crate::begin::literal_at;
+use crate::state::{Mode, State, TypeFor, state};
+use std::alloc::Global;
+use vx_source_operands::{Open, Operand, node_over, root};
+use vx_fn::{FieldSelection, ScalarFnRef};
+use vx_source_tokens::{Expected, Found, ParseError, Sign, Token};
+use vx_source_types::{
+    Draft, TypeReader, TypeStep, ValueReader, ValueStep, expected, field_name, inside,
+    plain_literal, refusal, typed_literal,
+};
+use vx_types::{DType, FieldName, FieldNames};
+
+pub(crate) fn tight(open: Open, operand: Operand) -> State {
+    state(open, Mode::Tight(operand))
+}
+
+// The field of the operand, whose name ends at that byte.
+pub(crate) fn field(
+    alloc: Global,
+    name: FieldName,
+    operand: Operand,
+    end: usize,
+    room: usize,
+    found: &Found,
+) -> Result<Operand, ParseError> {
+    let bytes = (operand.places.start, end);
+    node_over(
+        alloc,
+        ScalarFnRef::GetItem(name),
+        operand,
+        bytes,
+        room,
+        found,
+    )
+}
+
+// The field of the scope root that a word is.
+pub(crate) fn field_at(
+    alloc: Global,
+    name: FieldName,
+    start: usize,
+    end: usize,
+    room: usize,
+    found: &Found,
+) -> Result<Operand, ParseError> {
+    field(alloc, name, root(alloc, start, start), end, room, found)
+}
+
+// The name behind a dot.
+pub(crate) fn dot(
+    alloc: Global,
+    open: Open,
+    operand: Operand,
+    found: &Found,
+) -> Result<State, ParseError> {
+    let Some(name) = field_name(&found.token) else {
+        return Err(refusal(found, Expected::Name));
+    };
+    let made = field(alloc, name.clone()?, operand, found.end, open.room, found)?;
+    Ok(tight(open, made))
+}
+
+// What begins a selection.
+pub(crate) fn selection(
+    alloc: Global,
+    open: Open,
+    operand: Operand,
+    found: &Found,
+) -> Result<State, ParseError> {
+    match &found.token {
+        Token::Sign(Sign::Tilde) => Ok(state(open, Mode::Exclusion(operand))),
+        Token::Sign(Sign::CloseBrace) => select(
+            alloc,
+            open,
+            operand,
+            false,
+            Vec::new(alloc),
+            found,
+        ),
+        _ => selection_name(open, operand, false, Vec::new(alloc), found),
+    }
+}
+
+pub(crate) fn exclusion(
+    alloc: Global,
+    open: Open,
+    operand: Operand,
+    found: &Found,
+) -> Result<State, ParseError> {
+    match &found.token {
+        Token::Sign(Sign::CloseBrace) => select(alloc, open, operand, true, Vec::new(alloc), found),
+        _ => selection_name(open, operand, true, Vec::new(alloc), found),
+    }
+}
+
+pub(crate) fn selection_name(
+    open: Open,
+    operand: Operand,
+    excludes: bool,
+    names: Vec<FieldName>,
+    found: &Found,
+) -> Result<State, ParseError> {
+    let Some(name) = field_name(&found.token) else {
+        return Err(refusal(found, Expected::Name));
+    };
+    let mut names = names;
+    names.push(name.clone()?)?;
+    Ok(state(open, Mode::SelectionNext(operand, excludes, names)))
+}
+
+pub(crate) fn selection_next(
+    alloc: Global,
+    open: Open,
+    operand: Operand,
+    excludes: bool,
+    names: Vec<FieldName>,
+    found: &Found,
+) -> Result<State, ParseError> {
+    match &found.token {
+        Token::Sign(Sign::Comma) => {
+            Ok(state(open, Mode::SelectionName(operand, excludes, names)))
+        }
+        Token::Sign(Sign::CloseBrace) => select(alloc, open, operand, excludes, names, found),
+        _ => Err(refusal(found, Expected::CommaOrCloseBrace)),
+    }
+}
+
+fn select(
+    alloc: Global,
+    open: Open,
+    operand: Operand,
+    excludes: bool,
+    names: Vec<FieldName>,
+    found: &Found,
+) -> Result<State, ParseError> {
+    let Ok(names) = FieldNames::new(alloc, names) else {
+        return Err(ParseError::OutOfMemory);
+    };
+    let selection = if excludes {
+        FieldSelection::Exclude(names)
+    } else {
+        FieldSelection::Include(names)
+    };
+    let bytes = (operand.places.start, found.end);
+    let made = node_over(
+        alloc,
+        ScalarFnRef::Select(selection),
+        operand,
+        bytes,
+        open.room,
+        found,
+    )?;
+    Ok(tight(open, made))
+}
+
+// A value goes on, or has ended: its type follows, or it is a literal without one. None where the token is still to
+// be read.
+pub(crate) fn value(
+    alloc: Global,
+    open: Open,
+    reader: ValueReader,
+    bytes: (usize, usize),
+    found: &Found,
+) -> Result<(State, bool), ParseError> {
+    let (start, end) = bytes;
+    match reader.step(alloc, found)? {
+        ValueStep::More(next) => Ok((state(open, Mode::Value(next, start, found.end)), true)),
+        ValueStep::Done(draft) => {
+            if let Token::Sign(Sign::DoubleColon) = found.token {
+                let reader = TypeReader::new(alloc, open.room);
+                let mode = Mode::Type(TypeFor::Literal(draft, start), reader, found.end);
+                return Ok((state(open, mode), true));
+            }
+            match plain_literal(draft) {
+                Ok(scalar) => Ok((literal_at(alloc, open, scalar, (start, end), found)?, false)),
+                Err(expected) => Err(ParseError::Unexpected {
+                    at: start,
+                    expected,
+                }),
+            }
+        }
+    }
+}
+
+// A type goes on, or has ended, and the token is still to be read.
+pub(crate) fn read_type(
+    alloc: Global,
+    open: Open,
+    wanted: TypeFor,
+    reader: TypeReader,
+    end: usize,
+    found: &Found,
+) -> Result<(State, bool), ParseError> {
+    match reader.step(alloc, found)? {
+        TypeStep::More(next) => Ok((state(open, Mode::Type(wanted, next, found.end)), true)),
+        TypeStep::Done(dtype) => match wanted {
+            TypeFor::Literal(draft, start) => {
+                Ok((
+                    typed(alloc, open, draft, dtype, (start, end), found)?,
+                    false,
+                ))
+            }
+            TypeFor::Cast(operand) => {
+                let bytes = (operand.places.start, end);
+                let made = node_over(
+                    alloc,
+                    ScalarFnRef::Cast(dtype),
+                    operand,
+                    bytes,
+                    open.room,
+                    found,
+                )?;
+                Ok((tight(open, made), false))
+            }
+            TypeFor::CastCall(operand, start, room) => {
+                let Token::Sign(Sign::CloseParen) = found.token else {
+                    return Err(refusal(found, Expected::CloseParen));
+                };
+                let Open { frames, room: _ } = open;
+                let open = Open { frames, room };
+                let bytes = (start, found.end);
+                let made = node_over(
+                    alloc,
+                    ScalarFnRef::Cast(dtype),
+                    operand,
+                    bytes,
+                    open.room,
+                    found,
+                )?;
+                Ok((tight(open, made), true))
+            }
+        },
+    }
+}
+
+fn typed(
+    alloc: Global,
+    open: Open,
+    draft: Draft,
+    dtype: DType,
+    bytes: (usize, usize),
+    found: &Found,
+) -> Result<State, ParseError> {
+    let (start, _) = bytes;
+    match typed_literal(draft, dtype) {
+        Some(scalar) => literal_at(alloc, open, scalar, bytes, found),
+        None => Err(ParseError::Unexpected {
+            at: start,
+            expected: Expected::FittingType,
+        }),
+    }
+}
+
+// The type of a cast behind the operand.
+pub(crate) fn cast(
+    alloc: Global,
+    open: Open,
+    operand: Operand,
+    found: &Found,
+) -> Result<State, ParseError> {
+    let reader = TypeReader::new(alloc, open.room);
+    Ok(state(open, Mode::Type(TypeFor::Cast(operand), reader, found.end)))
+}
