@@ -8,7 +8,7 @@ use Rattle.vx_tree.specs.Nodes.{function_at, children_of}
 use Rattle.vx_tree.specs.Trees.{Tree}
 use Rattle.vx_tree.specs.Views.{tree_of, trees_of}
 use Rattle.vx_tree.proofs.Texts.{function_node}
-use Rattle.vx_source_types.specs.Names.{name_source}
+use Rattle.vx_source_dtype.specs.Names.{name_source}
 use Rattle.vx_source_writer.specs.SourceTexts.{source, sources, sources_of, node_source, own_source, full_source, is_shown}
 
 pub length-sources : (xs : List Expression) → length (sources_of xs) ≡ length xs
@@ -25,23 +25,23 @@ get_or-sources (y ∷ xs) (suc i) x h is = get_or-sources xs i x (omega arith) i
 source-node : (e : Tree) (f : Function) (xs : List Expression) → Some f ≡ function_at e → trees_of xs ≡ children_of e → node_source f (sources_of xs) ≡ source e
 source-node e f xs h is = ap (λ es. node_source f (sources es)) is ∙ ap source (sym (function_node e f h))
 
-node_source-own : (f : Function) (xs : List Expression) → is_shown f ≡ true → length xs ≡ arity_of f → node_source f (sources_of xs) ≡ own_source f (sources_of xs)
-node_source-own f xs s h = rw (s, length-sources xs) (grind (arith, nat_tests, h))
+pub node_source-own : (f : Function) (cs : List (List ℕ)) → is_shown f ≡ true → length cs ≡ arity_of f → node_source f cs ≡ own_source f cs
+node_source-own f cs s h = rw s (grind (arith, nat_tests, h))
 
-node_source-hidden : (f : Function) (xs : List Expression) → is_shown f ≡ false → node_source f (sources_of xs) ≡ full_source f (sources_of xs)
-node_source-hidden f xs s = rw s refl
+node_source-hidden : (f : Function) (cs : List (List ℕ)) → is_shown f ≡ false → node_source f cs ≡ full_source f cs
+node_source-hidden f cs s = rw s refl
 
-node_source-other : (f : Function) (xs : List Expression) → is_shown f ≡ true → length xs ≢ arity_of f → node_source f (sources_of xs) ≡ full_source f (sources_of xs)
-node_source-other f xs s h = rw (s, length-sources xs) (grind (arith, nat_tests, h))
+node_source-other : (f : Function) (cs : List (List ℕ)) → is_shown f ≡ true → length cs ≢ arity_of f → node_source f cs ≡ full_source f cs
+node_source-other f cs s h = rw s (grind (arith, nat_tests, h))
 
 pub source-own : (e : Tree) (f : Function) (xs : List Expression) → Some f ≡ function_at e → trees_of xs ≡ children_of e → is_shown f ≡ true → length xs ≡ arity_of f → own_source f (sources_of xs) ≡ source e
-source-own e f xs h is s n = sym (node_source-own f xs s n) ∙ source-node e f xs h is
+source-own e f xs h is s n = sym (node_source-own f (sources_of xs) s (length-sources xs ∙ n)) ∙ source-node e f xs h is
 
 pub source-hidden : (e : Tree) (f : Function) (xs : List Expression) → Some f ≡ function_at e → trees_of xs ≡ children_of e → is_shown f ≡ false → full_source f (sources_of xs) ≡ source e
-source-hidden e f xs h is s = sym (node_source-hidden f xs s) ∙ source-node e f xs h is
+source-hidden e f xs h is s = sym (node_source-hidden f (sources_of xs) s) ∙ source-node e f xs h is
 
 pub source-other : (e : Tree) (f : Function) (xs : List Expression) → Some f ≡ function_at e → trees_of xs ≡ children_of e → is_shown f ≡ true → length xs ≢ arity_of f → full_source f (sources_of xs) ≡ source e
-source-other e f xs h is s n = sym (node_source-other f xs s n) ∙ source-node e f xs h is
+source-other e f xs h is s n = sym (node_source-other f (sources_of xs) s (λ h. n (sym (length-sources xs) ∙ h))) ∙ source-node e f xs h is
 
 -- ---- names
 

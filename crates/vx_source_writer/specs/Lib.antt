@@ -1,2 +1,3 @@
 pub mod SourceTexts
 pub mod Options
+pub mod Plain

@@ -1,0 +1,99 @@
+-- Where nothing has to be written otherwise, source text is SQL text.
+use Rattle.std.proofs.Common.{◌≡◌, ℕ, zero, suc, List, [], ◌∷◌, ◌++◌, length, get_or, map, codes, true, refl, sym, ap, ◌∙◌, arith}
+use Rattle.std.proofs.lemmas.Bool.Decides.{nat_tests}
+use Rattle.std.specs.Fmt.{decimal}
+use Rattle.vx_dtype.specs.Texts.{mark, separator_at, type_text, shape_text, fields_text}
+use Rattle.vx_value.specs.Types.{Name, LogicalType, ty, Shape, atomic, list, fixed, struct, Fields, no_field, field}
+use Rattle.vx_fn.specs.declared.options.FieldSelection.{FieldSelection}
+use Rattle.vx_fn.specs.declared.options.FieldSelection.TheVariants.{Include, Exclude}
+use Rattle.vx_fn.specs.Functions.{Function, case_when, get_item, literal, pack, select, fill_null, zip, binary, negation, between, like, is_null, is_not_null, mask, cast, arity_of, selection_names}
+use Rattle.vx_fn.specs.Texts.{after_commas, with_commas, pack_sql, select_sql, own_sql, node_sql}
+use Rattle.vx_tree.specs.Nodes.{count_of}
+use Rattle.vx_tree.specs.Texts.{sql, sqls}
+use Rattle.vx_tree.specs.Trees.{Tree, root, call, Trees, no_tree, tree}
+use Rattle.vx_source_dtype.specs.Names.{is_plain, name_source, names_source, names_behind}
+use Rattle.vx_source_dtype.specs.TypeTexts.{type_source, shape_source, fields_source}
+use Rattle.vx_source_writer.specs.SourceTexts.{source, sources, node_source, own_source, select_source, is_shown}
+use Rattle.vx_source_writer.specs.Plain.{ArePlainNames, HasPlainNames, HasPlainShape, HavePlainNames, IsPlainFunction, IsPlain, ArePlain}
+use Rattle.vx_source_writer.proofs.Nodes.{node_source-own}
+
+-- ---- names
+
+name-plain : (a : Name) → is_plain a ≡ true → name_source a ≡ a
+name-plain a p = rw p refl
+
+behind-plain : (names : List Name) → ArePlainNames names → names_behind names ≡ after_commas names
+behind-plain [] p = refl
+behind-plain (a ∷ names) (p, ps) =
+    ap (λ x. codes ", " ++ (x ++ names_behind names)) (name-plain a p) ∙ ap (λ x. codes ", " ++ (a ++ x)) (behind-plain names ps)
+
+names-plain : (names : List Name) → ArePlainNames names → names_source names ≡ with_commas names
+names-plain [] p = refl
+names-plain (a ∷ names) (p, ps) = ap (λ x. x ++ names_behind names) (name-plain a p) ∙ ap (λ x. a ++ x) (behind-plain names ps)
+
+each-plain : (names : List Name) → ArePlainNames names → map name_source names ≡ names
+each-plain [] p = refl
+each-plain (a ∷ names) (p, ps) = ap (λ x. x ∷ map name_source names) (name-plain a p) ∙ ap (λ x. a ∷ x) (each-plain names ps)
+
+-- ---- types
+
+mutual
+  type-plain : (t : LogicalType) → HasPlainNames t → type_source t ≡ type_text t
+  type-plain (ty s n) p = ap (λ x. x ++ mark n) (shape-plain s p)
+
+  shape-plain : (s : Shape) → HasPlainShape s → shape_source s ≡ shape_text s
+  shape-plain (atomic q) p = refl
+  shape-plain (list t) p = ap (λ x. codes "list(" ++ (x ++ codes ")")) (type-plain t p)
+  shape-plain (fixed t k) p = ap (λ x. codes "fixed_size_list(" ++ (x ++ (codes ")[" ++ (decimal k ++ codes "]")))) (type-plain t p)
+  shape-plain (struct fs) p = ap (λ x. codes "{" ++ (x ++ codes "}")) (fields-plain 0 fs p)
+
+  fields-plain : (i : ℕ) (fs : Fields) → HavePlainNames fs → fields_source i fs ≡ fields_text i fs
+  fields-plain i no_field p = refl
+  fields-plain i (field a t fs) (p, q, r) =
+      ap (λ x. separator_at i ++ (x ++ (codes "=" ++ (type_source t ++ fields_source (suc i) fs)))) (name-plain a p)
+      ∙ ap (λ x. separator_at i ++ (a ++ (codes "=" ++ (x ++ fields_source (suc i) fs)))) (type-plain t q)
+      ∙ ap (λ x. separator_at i ++ (a ++ (codes "=" ++ (type_text t ++ x)))) (fields-plain (suc i) fs r)
+
+-- ---- functions
+
+select-plain : (selection : FieldSelection) (c : List ℕ) → ArePlainNames (selection_names selection) → select_source selection c ≡ select_sql selection c
+select-plain (Include names) c p = ap (λ x. c ++ (codes "{" ++ (x ++ codes "}"))) (names-plain names p)
+select-plain (Exclude names) c p = ap (λ x. c ++ (codes "{~ " ++ (x ++ codes "}"))) (names-plain names p)
+
+own-plain : (f : Function) (cs : List (List ℕ)) → IsPlainFunction f → own_source f cs ≡ own_sql f cs
+own-plain (get_item a) cs p = ap (λ x. get_or cs 0 [] ++ (codes "." ++ x)) (name-plain a p)
+own-plain (literal t v) cs p = p
+own-plain (pack names n) cs p = ap (λ x. pack_sql x n cs) (each-plain names p)
+own-plain (select selection) cs p = select-plain selection (get_or cs 0 []) p
+own-plain (cast t) cs p = ap (λ x. codes "cast(" ++ (get_or cs 0 [] ++ (codes " as " ++ (x ++ codes ")")))) (type-plain t p)
+own-plain (case_when pairs has_else) cs p = refl
+own-plain fill_null cs p = refl
+own-plain zip cs p = refl
+own-plain (binary op) cs p = refl
+own-plain negation cs p = refl
+own-plain (between lower_strict upper_strict) cs p = refl
+own-plain (like negated case_insensitive) cs p = refl
+own-plain is_null cs p = refl
+own-plain is_not_null cs p = refl
+own-plain mask cs p = refl
+
+node_sql-own : (f : Function) (cs : List (List ℕ)) → length cs ≡ arity_of f → node_sql f cs ≡ own_sql f cs
+node_sql-own f cs h = grind (arith, nat_tests, h)
+
+node-plain : (f : Function) (cs : List (List ℕ)) → is_shown f ≡ true → length cs ≡ arity_of f → IsPlainFunction f → node_source f cs ≡ node_sql f cs
+node-plain f cs s h p = node_source-own f cs s h ∙ own-plain f cs p ∙ sym (node_sql-own f cs h)
+
+-- ---- trees
+
+length-sqls : (es : Trees) → length (sqls es) ≡ count_of es
+length-sqls no_tree = refl
+length-sqls (tree e es) = omega (arith, length-sqls es)
+
+mutual
+  pub tree-plain : (e : Tree) → IsPlain e → source e ≡ sql e
+  tree-plain root p = refl
+  tree-plain (call f es) (shown, fits, own, below) = ap (node_source f) (trees-plain es below) ∙ node-plain f (sqls es) shown (length-sqls es ∙ fits) own
+
+  trees-plain : (es : Trees) → ArePlain es → sources es ≡ sqls es
+  trees-plain no_tree p = refl
+  trees-plain (tree e es) (p, ps) = ap (λ x. x ∷ sources es) (tree-plain e p) ∙ ap (λ xs. sql e ∷ xs) (trees-plain es ps)
