@@ -1,12 +1,8 @@
-// What is read of an expression: operands, and what is open around them.
+// What is read of an expression: keywords, and operands with the bytes that they were read from.
 #![tactic(auto)]
 
-mod frame;
 mod operand;
-mod reduce;
 mod words;
 
-pub use frame::{Bracket, Callee, CasePart, Frame, Level, Open};
 pub use operand::{Operand, Places, node, node_between, node_over, root};
-pub use reduce::reduce;
 pub use words::{Keyword, keyword};

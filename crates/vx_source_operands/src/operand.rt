@@ -1,9 +1,18 @@
 // What stands between the operators of a text: expressions, with the bytes that they were read from.
+ghost use Rattle.std.specs.Prelude.{◌≡◌, [], ◌∷◌, map, IfOk};
+ghost use Rattle.vx_fn.specs.Views.{function_of};
+ghost use Rattle.vx_tree.specs.Trees.{root};
+ghost use Rattle.vx_tree.specs.Views.{tree_of};
+ghost use Rattle.vx_source_dtype.specs.Reading.{ReadsAt};
+ghost use Rattle.vx_source_operands.specs.Operands.{height_of, heights_of, node_read};
+ghost use Rattle.vx_source_operands.specs.Views.{expression_in, operand_of, operands_of};
+
 use std::alloc::{AllocError, Global};
 use std::rc::Rc;
+use vx_fn::ScalarFnRef;
 use vx_source_tokens::{Expected, Found, ParseError};
 use vx_source_types::expected;
-use vx_tree::{Expression, ScalarFnRef};
+use vx_tree::Expression;
 
 /// The bytes that a node was read from, and those of its children.
 #[derive(Debug, Drop)]
@@ -16,19 +25,27 @@ pub struct Places {
     pub children: Vec<Places>,
 }
 
-// An expression that was read, how deep its tree is below its first node, and where it stands.
+/// An expression that was read, and where it stands.
 #[derive(Drop)]
 pub struct Operand {
+    /// The expression.
     pub tree: Expression,
-    pub depth: usize,
+    /// How many function nodes the longest way down has.
+    pub height: usize,
+    /// The bytes that its nodes were read from.
     pub places: Places,
+    ghost counted: { height ≡ height_of (tree_of tree) },
 }
 
-// The scope root, read from these bytes.
-pub fn root(alloc: Global, start: usize, end: usize) -> Operand {
+/// The scope root, read from these bytes.
+pub fn root(alloc: Global, start: usize, end: usize) -> Operand
+    ensures tree { operand_of result ≡ root }
+    ensures start { result.places.start ≡ start }
+    ensures end { result.places.end ≡ end }
+{
     Operand {
         tree: Expression::Root,
-        depth: 0,
+        height: 0,
         places: Places {
             start,
             end,
@@ -37,7 +54,8 @@ pub fn root(alloc: Global, start: usize, end: usize) -> Operand {
     }
 }
 
-// The node of the function over the operands. Refuses what is deeper than the room.
+/// The node of the function over the operands, read from these bytes. Refuses with `LessNesting`, at what was found, one
+/// that is higher than the room.
 pub fn node(
     alloc: Global,
     scalar_fn: ScalarFnRef,
@@ -45,56 +63,59 @@ pub fn node(
     bytes: (usize, usize),
     room: usize,
     found: &Found,
-) -> Result<Operand, ParseError> {
-    let deepest = deepest(operands.as_slice());
-    if deepest >= room {
+) -> Result<Operand, ParseError>
+    ensures tree { ReadsAt found.now.at operand_of result (node_read (function_of scalar_fn) (operands_of operands.items) room) }
+    ensures start { IfOk result (λ operand. operand.places.start ≡ bytes.0) }
+    ensures end { IfOk result (λ operand. operand.places.end ≡ bytes.1) }
+{
+    let highest = highest(operands.as_slice());
+    if highest >= room {
         return Err(expected(found, Expected::LessNesting));
     }
-    let (trees, places) = taken_apart(alloc, operands)?;
+    let (trees, children) = taken_apart(alloc, operands)?;
     let (start, end) = bytes;
     Ok(Operand {
         tree: Expression::Scalar {
             scalar_fn,
             children: Rc::new(alloc, trees)?,
         },
-        depth: deepest + 1,
+        height: highest + 1,
         places: Places {
             start,
             end,
-            children: places,
+            children,
         },
     })
 }
 
-// The depth of the deepest of them, 0 of none.
-fn deepest(operands: &[Operand]) -> usize {
-    let mut deepest = 0;
+// The height of the highest of them, 0 of none.
+fn highest(operands: &[Operand]) -> usize
+    ensures { result ≡ heights_of (operands_of operands.now) }
+{
+    let mut highest = 0;
     for operand in operands {
-        deepest = operand.depth.max(deepest);
+        highest = operand.height.max(highest);
     }
-    deepest
+    highest
 }
 
 // The trees and the places of the operands.
 fn taken_apart(
     alloc: Global,
     operands: Vec<Operand>,
-) -> Result<(Vec<Expression>, Vec<Places>), AllocError> {
+) -> Result<(Vec<Expression>, Vec<Places>), AllocError>
+    ensures { IfOk result (λ apart. apart.0.items ≡ map expression_in operands.items) }
+{
     let mut trees = Vec::with_capacity(alloc, operands.len())?;
     let mut places = Vec::with_capacity(alloc, operands.len())?;
     for operand in operands {
-        let Operand {
-            tree,
-            depth: _,
-            places: place,
-        } = operand;
-        trees.push(tree)?;
-        places.push(place)?;
+        trees.push(operand.tree)?;
+        places.push(operand.places)?;
     }
     Ok((trees, places))
 }
 
-// The node of the function over one operand.
+/// The node of the function over one operand, read from these bytes. Refuses as `node` does.
 pub fn node_over(
     alloc: Global,
     scalar_fn: ScalarFnRef,
@@ -102,18 +123,16 @@ pub fn node_over(
     bytes: (usize, usize),
     room: usize,
     found: &Found,
-) -> Result<Operand, ParseError> {
-    node(
-        alloc,
-        scalar_fn,
-        Vec::from_array(alloc, [operand])?,
-        bytes,
-        room,
-        found,
-    )
+) -> Result<Operand, ParseError>
+    ensures tree { ReadsAt found.now.at operand_of result (node_read (function_of scalar_fn) (operands_of (operand ∷ [])) room) }
+    ensures start { IfOk result (λ made. made.places.start ≡ bytes.0) }
+    ensures end { IfOk result (λ made. made.places.end ≡ bytes.1) }
+{
+    let operands = Vec::from_array(alloc, [operand])?;
+    node(alloc, scalar_fn, operands, bytes, room, found)
 }
 
-// The node of the function over two operands, from the first to the second.
+/// The node of the function over two operands, read from the first to the second. Refuses as `node` does.
 pub fn node_between(
     alloc: Global,
     scalar_fn: ScalarFnRef,
@@ -121,14 +140,12 @@ pub fn node_between(
     rhs: Operand,
     room: usize,
     found: &Found,
-) -> Result<Operand, ParseError> {
+) -> Result<Operand, ParseError>
+    ensures tree { ReadsAt found.now.at operand_of result (node_read (function_of scalar_fn) (operands_of (lhs ∷ rhs ∷ [])) room) }
+    ensures start { IfOk result (λ made. made.places.start ≡ lhs.places.start) }
+    ensures end { IfOk result (λ made. made.places.end ≡ rhs.places.end) }
+{
     let bytes = (lhs.places.start, rhs.places.end);
-    node(
-        alloc,
-        scalar_fn,
-        Vec::from_array(alloc, [lhs, rhs])?,
-        bytes,
-        room,
-        found,
-    )
+    let operands = Vec::from_array(alloc, [lhs, rhs])?;
+    node(alloc, scalar_fn, operands, bytes, room, found)
 }

@@ -1,34 +1,63 @@
 // Keywords.
+ghost use Rattle.std.specs.Prelude.{◌≡◌};
+ghost use Rattle.vx_source_operands.specs.Keywords.{beside, operator_words, value_words, case_words, keyword_of};
+
 use vx_source_types::is_word;
 use vx_types::FieldName;
 
-// A word that is no name where an operand or an operator is due.
+/// A word that is no name where an operand or an operator is due.
 #[derive(Clone, Copy, PartialEq, Eq)]
 pub enum Keyword {
+    /// `and`
     And,
+    /// `or`
     Or,
+    /// `not`
     Not,
+    /// `like`
     Like,
+    /// `ilike`
     Ilike,
+    /// `between`
     Between,
+    /// `is`
     Is,
+    /// `null`
     Null,
+    /// `true`
     True,
+    /// `false`
     False,
+    /// `as`
     As,
+    /// `case`
     Case,
+    /// `when`
     When,
+    /// `then`
     Then,
+    /// `else`
     Else,
+    /// `end`
     End,
 }
 
-// The keyword that the word is, in either case.
-pub fn keyword(name: &FieldName) -> Option<Keyword> {
-    operator_word(name).or(value_word(name)).or(case_word(name))
+/// The keyword that the word is, in either case.
+pub fn keyword(name: &FieldName) -> Option<Keyword>
+    ensures { result ≡ keyword_of name.now }
+{
+    if let Some(word) = operator_word(name) {
+        return Some(word);
+    }
+    match value_word(name) {
+        Some(word) => Some(word),
+        None => case_word(name),
+    }
 }
 
-fn operator_word(name: &FieldName) -> Option<Keyword> {
+fn operator_word(name: &FieldName) -> Option<Keyword>
+    ensures { result ≡ beside operator_words name.now }
+{
     if is_word(name, "and") {
         Some(Keyword::And)
     } else if is_word(name, "or") {
@@ -48,7 +77,9 @@ fn operator_word(name: &FieldName) -> Option<Keyword> {
     }
 }
 
-fn value_word(name: &FieldName) -> Option<Keyword> {
+fn value_word(name: &FieldName) -> Option<Keyword>
+    ensures { result ≡ beside value_words name.now }
+{
     if is_word(name, "null") {
         Some(Keyword::Null)
     } else if is_word(name, "true") {
@@ -60,7 +91,9 @@ fn value_word(name: &FieldName) -> Option<Keyword> {
     }
 }
 
-fn case_word(name: &FieldName) -> Option<Keyword> {
+fn case_word(name: &FieldName) -> Option<Keyword>
+    ensures { result ≡ beside case_words name.now }
+{
     if is_word(name, "case") {
         Some(Keyword::Case)
     } else if is_word(name, "when") {

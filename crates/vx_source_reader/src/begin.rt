@@ -1,8 +1,9 @@
 // The beginning of an operand.
+use crate::frame::{Bracket, CasePart, Frame, Open};
 use crate::postfix::tight;
 use crate::state::{Mode, State, state};
 use std::alloc::Global;
-use vx_source_operands::{Bracket, CasePart, Frame, Keyword, Open, keyword, node, root};
+use vx_source_operands::{Keyword, keyword, node, root};
 use vx_fn::ScalarFnRef;
 use vx_source_tokens::{Expected, Found, ParseError, Sign, Token};
 use vx_source_types::{ValueReader, ValueStep, expected, inside, refusal, suffixed};

@@ -1,4 +1,5 @@
 // Whole texts of expressions.
+use crate::frame::{Callee, Open};
 use crate::after::{after_is, after_loose, after_not, after_tight};
 use crate::begin::{begin, opened};
 use crate::calls::{
@@ -11,7 +12,7 @@ use crate::postfix::{
 use crate::state::{Mode, State, start, state};
 use std::alloc::Global;
 use vx_source_options::{function_of};
-use vx_source_operands::{Callee, Keyword, Open, Operand, Places, keyword};
+use vx_source_operands::{Keyword, Operand, Places, keyword};
 use vx_source_tokens::{Expected, Found, ParseError, Sign, Token, first_token};
 use vx_source_types::{DEFAULT_NESTING, refusal};
 use vx_tree::Expression;
@@ -43,7 +44,7 @@ pub fn parse_with(alloc: Global, text: &str, nesting: usize) -> Result<Expressio
 pub fn parse_with_places(alloc: Global, text: &str, nesting: usize) -> Result<Placed, ParseError> {
     let Operand {
         tree,
-        depth: _,
+        height: _,
         places,
     } = read(alloc, text, nesting)?;
     Ok(Placed {

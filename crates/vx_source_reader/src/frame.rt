@@ -1,18 +1,18 @@
 // What is open around the operand that is being read.
-use crate::operand::Operand;
 use vx_fn::{LikeOptions, Operator, ScalarFnRef, StrictComparison};
+use vx_source_operands::Operand;
 use vx_types::FieldName;
 
 // A bracket that is open: where it begins, and how much nesting is allowed outside it.
 #[derive(Clone, Copy)]
-pub struct Bracket {
-    pub start: usize,
-    pub room: usize,
+pub(crate) struct Bracket {
+    pub(crate) start: usize,
+    pub(crate) room: usize,
 }
 
 // What a call is of.
 #[derive(Drop)]
-pub enum Callee {
+pub(crate) enum Callee {
     // A function with its options, over as many children as it takes.
     Own(ScalarFnRef),
     // A function with its options, over any number of children.
@@ -23,14 +23,14 @@ pub enum Callee {
 
 // What a CASE waits for behind its operand.
 #[derive(Clone, Copy)]
-pub enum CasePart {
+pub(crate) enum CasePart {
     Condition,
     Value,
     Else,
 }
 
 #[derive(Drop)]
-pub enum Frame {
+pub(crate) enum Frame {
     // `or` or `and` between the items.
     Chain(Operator, Vec<Operand>),
     // `not`, which begins at that byte.
@@ -63,14 +63,14 @@ pub enum Frame {
 
 // What is open, and how much nesting is still allowed in it.
 #[derive(Drop)]
-pub struct Open {
-    pub frames: Vec<Frame>,
-    pub room: usize,
+pub(crate) struct Open {
+    pub(crate) frames: Vec<Frame>,
+    pub(crate) room: usize,
 }
 
 // How tightly operators bind, the loosest first.
 #[derive(Clone, Copy, PartialEq, Eq)]
-pub enum Level {
+pub(crate) enum Level {
     Or,
     And,
     Not,
@@ -90,14 +90,14 @@ impl Level {
     }
 
     // Whether this binds at least as tightly.
-    pub fn is_at_least(self, other: Level) -> bool {
+    pub(crate) fn is_at_least(self, other: Level) -> bool {
         self.rank() >= other.rank()
     }
 }
 
 impl Frame {
     // How tightly what waits for its last operand binds; None of a bracket, and of what waits for more.
-    pub fn level(&self) -> Option<Level> {
+    pub(crate) fn level(&self) -> Option<Level> {
         match self {
             Frame::Chain(Operator::Or, _) => Some(Level::Or),
             Frame::Chain(_, _) => Some(Level::And),
