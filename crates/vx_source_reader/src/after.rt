@@ -1,12 +1,12 @@
 // What follows an operand: a postfix, an operator, or what closes a bracket.
-use crate::frame::{Frame, Level, Open};
-use crate::reduce::reduce;
 use crate::close::close;
+use crate::frame::{Frame, Level, Open};
 use crate::postfix::cast;
+use crate::reduce::reduce;
 use crate::state::{Mode, State, state};
 use std::alloc::Global;
-use vx_source_operands::{Keyword, Operand, keyword, node_over};
 use vx_fn::{EmptyOptions, LikeOptions, Operator, ScalarFnRef, StrictComparison};
+use vx_source_operands::{Keyword, Operand, keyword, node_over};
 use vx_source_tokens::{Expected, Found, ParseError, Sign, Token};
 use vx_source_types::{expected, refusal};
 use vx_types::FieldName;

@@ -1,13 +1,13 @@
 // Functions that are called by their names.
-use crate::frame::{Bracket, Callee, Frame, Open};
 use crate::begin::{begin, opened};
 use crate::close::outside;
+use crate::frame::{Bracket, Callee, Frame, Open};
 use crate::postfix::tight;
 use crate::state::{Mode, State, state};
 use std::alloc::Global;
-use vx_source_options::{plain_function};
-use vx_source_operands::{Operand, node};
 use vx_fn::{CaseWhenOptions, EmptyOptions, PackOptions, ScalarFnRef};
+use vx_source_operands::{Operand, node};
+use vx_source_options::plain_function;
 use vx_source_tokens::{Expected, Found, ParseError, Sign, Token};
 use vx_source_types::{expected, field_name, is_word, refusal};
 use vx_types::{FieldName, FieldNames, Nullability};

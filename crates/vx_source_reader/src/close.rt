@@ -1,12 +1,12 @@
 // What closes a bracket, or goes on in it.
-use crate::frame::{Bracket, Callee, CasePart, Frame, Level, Open};
-use crate::reduce::reduce;
 use crate::calls::called;
+use crate::frame::{Bracket, Callee, CasePart, Frame, Level, Open};
 use crate::postfix::tight;
+use crate::reduce::reduce;
 use crate::state::{Mode, State, TypeFor, state};
 use std::alloc::Global;
-use vx_source_operands::{Keyword, Operand, keyword, node};
 use vx_fn::{CaseWhenOptions, ScalarFnRef};
+use vx_source_operands::{Keyword, Operand, keyword, node};
 use vx_source_tokens::{Expected, Found, ParseError, Sign, Token};
 use vx_source_types::{TypeReader, expected, refusal};
 

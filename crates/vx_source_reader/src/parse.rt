@@ -1,18 +1,18 @@
 // Whole texts of expressions.
-use crate::frame::{Callee, Open};
 use crate::after::{after_is, after_loose, after_not, after_tight};
 use crate::begin::{begin, opened};
 use crate::calls::{
     call, call_by_id, children, first_child, first_packed, pack, packed, packed_value,
 };
+use crate::frame::{Callee, Open};
 use crate::postfix::{
     dot, exclusion, field, field_at, read_type, selection, selection_name, selection_next, tight,
     value,
 };
 use crate::state::{Mode, State, start, state};
 use std::alloc::Global;
-use vx_source_options::{function_of};
 use vx_source_operands::{Keyword, Operand, Places, keyword};
+use vx_source_options::function_of;
 use vx_source_tokens::{Expected, Found, ParseError, Sign, Token, first_token};
 use vx_source_types::{DEFAULT_NESTING, refusal};
 use vx_tree::Expression;

@@ -1,10 +1,10 @@
 // What follows an operand and binds tightest.
-use crate::frame::{Open};
 use crate::begin::literal_at;
+use crate::frame::Open;
 use crate::state::{Mode, State, TypeFor, state};
 use std::alloc::Global;
-use vx_source_operands::{Operand, node_over, root};
 use vx_fn::{FieldSelection, ScalarFnRef};
+use vx_source_operands::{Operand, node_over, root};
 use vx_source_tokens::{Expected, Found, ParseError, Sign, Token};
 use vx_source_types::{
     Draft, TypeReader, TypeStep, ValueReader, ValueStep, expected, field_name, inside,

@@ -1,8 +1,8 @@
 // Operators that have their last operand.
 use crate::frame::{Frame, Level, Open};
 use std::alloc::Global;
-use vx_source_operands::{Operand, node, node_between, node_over};
 use vx_fn::{BetweenOptions, EmptyOptions, Operator, ScalarFnRef};
+use vx_source_operands::{Operand, node, node_between, node_over};
 use vx_source_tokens::{Found, ParseError};
 
 // The operand, joined to what waits for it and binds at least as tightly as the level.

@@ -1,8 +1,8 @@
 // How far a text is read.
-use crate::frame::{Open};
+use crate::frame::Open;
 use std::alloc::Global;
-use vx_source_operands::{Operand};
 use vx_fn::ScalarFnRef;
+use vx_source_operands::Operand;
 use vx_source_tokens::Found;
 use vx_source_types::{Draft, TypeReader, ValueReader};
 use vx_types::FieldName;

@@ -1,26 +1,31 @@
 -- Where nothing has to be written otherwise, source text is SQL text.
-use Rattle.std.proofs.Common.{◌≡◌, ℕ, zero, suc, List, [], ◌∷◌, ◌++◌, length, get_or, map, codes, true, refl, sym, ap, ◌∙◌, arith}
+use Rattle.std.proofs.Common.{◌≡◌, ℕ, Bool, zero, suc, List, [], ◌∷◌, ◌++◌, length, get_or, map, codes, ◌==◌, true, false, not, refl, sym, ap, ◌∙◌, append-nil, arith}
+use Rattle.std.proofs.lemmas.Bool.{and_parts}
 use Rattle.std.proofs.lemmas.Bool.Decides.{nat_tests}
+use Rattle.vx_source_tokens.proofs.Choice.{yes, no}
+use Rattle.std.specs.List.{list_all}
 use Rattle.std.specs.Fmt.{decimal}
 use Rattle.vx_dtype.specs.Texts.{mark, separator_at, type_text, shape_text, fields_text}
-use Rattle.vx_value.specs.Types.{Name, LogicalType, ty, Shape, atomic, list, fixed, struct, Fields, no_field, field}
+use Rattle.vx_value.specs.Types.{Name, truth, number, text, octets, LogicalType, ty, Shape, atomic, list, fixed, struct, Fields, no_field, field, Datum, bool, int, utf8, bytes}
+use Rattle.vx_value.specs.ValueTexts.{value_text}
 use Rattle.vx_fn.specs.declared.options.FieldSelection.{FieldSelection}
 use Rattle.vx_fn.specs.declared.options.FieldSelection.TheVariants.{Include, Exclude}
 use Rattle.vx_fn.specs.Functions.{Function, case_when, get_item, literal, pack, select, fill_null, zip, binary, negation, between, like, is_null, is_not_null, mask, cast, arity_of, selection_names}
-use Rattle.vx_fn.specs.Texts.{after_commas, with_commas, pack_sql, select_sql, own_sql, node_sql}
+use Rattle.vx_fn.specs.Texts.{after_commas, with_commas, pack_sql, select_sql, own_sql, call_sql, node_sql}
 use Rattle.vx_tree.specs.Nodes.{count_of}
 use Rattle.vx_tree.specs.Texts.{sql, sqls}
 use Rattle.vx_tree.specs.Trees.{Tree, root, call, Trees, no_tree, tree}
-use Rattle.vx_source_dtype.specs.Names.{is_plain, name_source, names_source, names_behind}
+use Rattle.vx_source_dtype.specs.Names.{is_plain, name_source, names_source, names_behind, doubled, between_quotes}
 use Rattle.vx_source_dtype.specs.TypeTexts.{type_source, shape_source, fields_source}
+use Rattle.vx_source_types.specs.ScalarTexts.{scalar_source}
 use Rattle.vx_source_writer.specs.SourceTexts.{source, sources, node_source, own_source, select_source, is_shown}
-use Rattle.vx_source_writer.specs.Plain.{ArePlainNames, HasPlainNames, HasPlainShape, HavePlainNames, IsPlainFunction, IsPlain, ArePlain}
+use Rattle.vx_source_writer.specs.Plain.{ArePlainNames, HasPlainNames, HasPlainShape, HavePlainNames, IsPlainLiteral, IsPlainFunction, IsPlain, ArePlain}
 use Rattle.vx_source_writer.proofs.Nodes.{node_source-own}
 
 -- ---- names
 
 name-plain : (a : Name) → is_plain a ≡ true → name_source a ≡ a
-name-plain a p = rw p refl
+name-plain a p = yes (is_plain a) a (between_quotes 96 a) p
 
 behind-plain : (names : List Name) → ArePlainNames names → names_behind names ≡ after_commas names
 behind-plain [] p = refl
@@ -54,6 +59,26 @@ mutual
       ∙ ap (λ x. separator_at i ++ (a ++ (codes "=" ++ (x ++ fields_source (suc i) fs)))) (type-plain t q)
       ∙ ap (λ x. separator_at i ++ (a ++ (codes "=" ++ (type_text t ++ x)))) (fields-plain (suc i) fs r)
 
+-- ---- literals
+
+is_false : (b : Bool) → not b ≡ true → b ≡ false
+is_false true h = absurd (cc)
+is_false false h = refl
+
+undoubled : (s : List ℕ) → list_all (λ b. not (b == 34)) s ≡ true → doubled 34 s ≡ s
+undoubled [] h = refl
+undoubled (b ∷ s) h =
+    let parts = and_parts (not (b == 34)) (list_all (λ c. not (c == 34)) s) h in
+    no (b == 34) (34 ∷ 34 ∷ doubled 34 s) (b ∷ doubled 34 s) (is_false (b == 34) parts.0) ∙ ap (λ x. b ∷ x) (undoubled s parts.1)
+
+literal-plain : (t : LogicalType) (v : Datum) → IsPlainLiteral t v → scalar_source v t ≡ value_text v t
+literal-plain (ty (atomic truth) false) (bool true) h = refl
+literal-plain (ty (atomic truth) false) (bool false) h = refl
+literal-plain (ty (atomic (number p)) false) (int i) h = refl
+literal-plain (ty (atomic text) false) (utf8 s) h = append-nil (between_quotes 34 s) ∙ ap (λ x. 34 ∷ (x ++ 34 ∷ [])) (undoubled s h)
+literal-plain (ty (atomic octets) false) (bytes bs) h = append-nil _
+literal-plain _ _ h = absurd h
+
 -- ---- functions
 
 select-plain : (selection : FieldSelection) (c : List ℕ) → ArePlainNames (selection_names selection) → select_source selection c ≡ select_sql selection c
@@ -62,7 +87,7 @@ select-plain (Exclude names) c p = ap (λ x. c ++ (codes "{~ " ++ (x ++ codes "}
 
 own-plain : (f : Function) (cs : List (List ℕ)) → IsPlainFunction f → own_source f cs ≡ own_sql f cs
 own-plain (get_item a) cs p = ap (λ x. get_or cs 0 [] ++ (codes "." ++ x)) (name-plain a p)
-own-plain (literal t v) cs p = p
+own-plain (literal t v) cs p = literal-plain t v p
 own-plain (pack names n) cs p = ap (λ x. pack_sql x n cs) (each-plain names p)
 own-plain (select selection) cs p = select-plain selection (get_or cs 0 []) p
 own-plain (cast t) cs p = ap (λ x. codes "cast(" ++ (get_or cs 0 [] ++ (codes " as " ++ (x ++ codes ")")))) (type-plain t p)
@@ -77,11 +102,9 @@ own-plain is_null cs p = refl
 own-plain is_not_null cs p = refl
 own-plain mask cs p = refl
 
-node_sql-own : (f : Function) (cs : List (List ℕ)) → length cs ≡ arity_of f → node_sql f cs ≡ own_sql f cs
-node_sql-own f cs h = grind (arith, nat_tests, h)
-
 node-plain : (f : Function) (cs : List (List ℕ)) → is_shown f ≡ true → length cs ≡ arity_of f → IsPlainFunction f → node_source f cs ≡ node_sql f cs
-node-plain f cs s h p = node_source-own f cs s h ∙ own-plain f cs p ∙ sym (node_sql-own f cs h)
+node-plain f cs s h p =
+    node_source-own f cs s h ∙ own-plain f cs p ∙ sym (yes (arity_of f == length cs) (own_sql f cs) (call_sql f cs) (grind (arith, nat_tests, h)))
 
 -- ---- trees
 

@@ -1,13 +1,12 @@
 -- Trees of which source text and SQL text are the same.
-use Rattle.std.specs.Prelude.{◌≡◌, ℕ, true, List, [], ◌∷◌}
-use Rattle.vx_value.specs.Types.{Name, LogicalType, ty, Shape, atomic, list, fixed, struct, Fields, no_field, field}
-use Rattle.vx_value.specs.ValueTexts.{value_text}
+use Rattle.std.specs.Prelude.{◌≡◌, ◌==◌, ℕ, true, false, not, List, [], ◌∷◌}
+use Rattle.std.specs.List.{list_all}
+use Rattle.vx_value.specs.Types.{Name, truth, number, text, octets, LogicalType, ty, Shape, atomic, list, fixed, struct, Fields, no_field, field, Datum, bool, int, utf8, bytes}
 use Rattle.vx_fn.specs.Functions.{Function, get_item, literal, pack, select, cast, arity_of, selection_names}
 use Rattle.vx_tree.specs.Nodes.{count_of}
 use Rattle.vx_tree.specs.Texts.{sql}
 use Rattle.vx_tree.specs.Trees.{Tree, root, call, Trees, no_tree, tree}
 use Rattle.vx_source_dtype.specs.Names.{is_plain}
-use Rattle.vx_source_types.specs.ScalarTexts.{scalar_source}
 use Rattle.vx_source_writer.specs.SourceTexts.{source, is_shown}
 
 -- the names are words
@@ -30,10 +29,18 @@ abbrev mutual
   HavePlainNames no_field = Unit {0}
   HavePlainNames (field a t fs) = (is_plain a ≡ true) × HasPlainNames t × HavePlainNames fs
 
--- the names, the types and the scalar of the function are written alike in both texts
+-- the literal is of a type without parts that isn't nullable, and if it is a text, no double quote stands in it
+abbrev pub IsPlainLiteral : LogicalType → Datum → Type 0
+IsPlainLiteral (ty (atomic truth) false) (bool b) = Unit {0}
+IsPlainLiteral (ty (atomic (number p)) false) (int i) = Unit {0}
+IsPlainLiteral (ty (atomic text) false) (utf8 s) = list_all (λ b. not (b == 34)) s ≡ true
+IsPlainLiteral (ty (atomic octets) false) (bytes bs) = Unit {0}
+IsPlainLiteral _ _ = ⊥
+
+-- the names and the types of the function are of words, and its literal is plain
 abbrev pub IsPlainFunction : Function → Type 0
 IsPlainFunction (get_item a) = is_plain a ≡ true
-IsPlainFunction (literal t v) = scalar_source v t ≡ value_text v t
+IsPlainFunction (literal t v) = IsPlainLiteral t v
 IsPlainFunction (pack names n) = ArePlainNames names
 IsPlainFunction (select selection) = ArePlainNames (selection_names selection)
 IsPlainFunction (cast t) = HasPlainNames t

@@ -105,11 +105,7 @@ fn write_own<W: Write>(
 
 // The text of one of the children.
 #[cycle(source)]
-fn write_child<W: Write>(
-    children: &[Expression],
-    index: usize,
-    f: &mut Formatter<W>,
-) -> fmt::Result
+fn write_child<W: Write>(children: &[Expression], index: usize, f: &mut Formatter<W>) -> fmt::Result
     requires { index < length children.now }
     ensures { WritesOnOk W.write_str_gives f.old result (get_or (sources_of children.now) index []) f.new }
 {

@@ -12,10 +12,7 @@ use vx_tree::Expression;
 
 // A CASE: conditions and values in turn, and what is left over as the ELSE.
 #[cycle(source)]
-pub(super) fn write_case<W: Write>(
-    children: &[Expression],
-    f: &mut Formatter<W>,
-) -> fmt::Result
+pub(super) fn write_case<W: Write>(children: &[Expression], f: &mut Formatter<W>) -> fmt::Result
     ensures { WritesOnOk W.write_str_gives f.old result (codes "CASE" ++ (pairs_sql (sources_of children.now) ++ codes " END")) f.new }
 {
     f.write_str("CASE")?;
@@ -40,11 +37,7 @@ fn write_branches<W: Write>(children: &[Expression], f: &mut Formatter<W>) -> fm
 
 // A condition and the value behind it.
 #[cycle(source)]
-fn write_pair<W: Write>(
-    children: &[Expression],
-    index: usize,
-    f: &mut Formatter<W>,
-) -> fmt::Result
+fn write_pair<W: Write>(children: &[Expression], index: usize, f: &mut Formatter<W>) -> fmt::Result
     requires { index + 1 < length children.now }
     ensures { WritesOnOk W.write_str_gives f.old result (pair_sql (sources_of children.now) index) f.new }
 {

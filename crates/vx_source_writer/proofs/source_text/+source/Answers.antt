@@ -1,5 +1,6 @@
-use Rattle.std.proofs.Common.{◌≡◌, ◌≢◌, ◌+◌, ◌*◌, ◌/◌, ◌<◌, [], ◌++◌, codes, length, get_or, drop, map, refl, sym, ap, append_assoc, ◌∙◌, append-nil, rules, arith}
+use Rattle.std.proofs.Common.{◌≡◌, ◌&&◌, ◌==◌, true, false, ◌+◌, ◌*◌, ◌/◌, ◌<◌, [], ◌++◌, codes, length, get_or, drop, map, refl, sym, ap, append_assoc, ◌∙◌, append-nil, rules, arith}
 use Rattle.std.proofs.lemmas.List.{drop_all}
+use Rattle.std.proofs.lemmas.Bool.Decides.{nat_tests}
 use Rattle.std.proofs.Output.{has_written_append, has_written_of_eq}
 use Rattle.vx_fn.specs.Functions.{arity_of}
 use Rattle.vx_fn.specs.Views.{function_of}
@@ -9,8 +10,8 @@ use Rattle.vx_tree.specs.Texts.{pair_sql}
 use Rattle.vx_tree.specs.Views.{tree_of}
 use Rattle.vx_tree.proofs.Texts.{after_commas-turn, with_commas-first, length-named_texts, get_or-named_texts, pairs_sql-turn, pairs_sql-else, pairs_sql-none, size_of-le_all}
 use Rattle.vx_source_dtype.specs.Names.{name_source}
-use Rattle.vx_source_writer.specs.SourceTexts.{sources_of}
-use Rattle.vx_source_writer.proofs.Nodes.{length-sources, get_or-sources, source-own, source-hidden, source-other, length-name_sources, get_or-name_sources}
+use Rattle.vx_source_writer.specs.SourceTexts.{sources_of, is_shown}
+use Rattle.vx_source_writer.proofs.Nodes.{length-sources, get_or-sources, source-own, source-full, length-name_sources, get_or-name_sources}
 use Rattle.vx_source_writer.proofs.source_text.+source.Goals as goal
 
 pub write_child-write_source-requires : goal.write_child-write_source-requires
@@ -51,19 +52,22 @@ write_list-returns g t c plain ok =
     let whole : get_or all 0 [] ++ done ≡ with_commas all = ap (λ x. get_or all 0 [] ++ x) rest ∙ with_commas-first all some in
     has_written_of_eq _ _ _ _ _ whole (has_written_append _ _ _ _ _ _ first wrote)
 
-pub write_source-returns-then-children-arity : goal.write_source-returns-then-children-arity
-write_source-returns-then-children-arity g t c plain ok =
-    let view = tree_of in
-    let same : length c.node_children-children.result.now ≡ arity_of (function_of c.in-Some.scalar_fn.now) = grind arith in
-    let whole = sql-own view (view c.args.node.now) (function_of c.in-Some.scalar_fn.now) c.node_children-children.result.now c.in-Some.ensures c.node_children-children.ensures same in
+pub write_source-returns-then-is_shown-children-arity : goal.write_source-returns-then-is_shown-children-arity
+write_source-returns-then-is_shown-children-arity g t c plain ok =
+    let f = function_of c.in-Some.scalar_fn.now in
+    let xs = c.children-children.result.now in
+    let shown : is_shown f ≡ true = search rules in
+    let fits : length xs ≡ arity_of f = grind arith in
+    let whole = source-own (tree_of c.args.node.now) f xs c.in-Some.ensures c.children-children.ensures.trees shown fits in
     has_written_of_eq _ _ _ _ _ whole (c.write_own.ensures plain ok)
 
-pub write_source-returns-else-children-arity : goal.write_source-returns-else-children-arity
-write_source-returns-else-children-arity g t c plain ok =
-    let view = tree_of in
-    let other : length c.node_children-children.result.now ≢ arity_of (function_of c.in-Some.scalar_fn.now) = grind arith in
-    let whole = sql-other view (view c.args.node.now) (function_of c.in-Some.scalar_fn.now) c.node_children-children.result.now c.in-Some.ensures c.node_children-children.ensures other in
-    has_written_of_eq _ _ _ _ _ whole (c.write_call.ensures plain ok)
+pub write_source-returns-else-is_shown-children-arity : goal.write_source-returns-else-is_shown-children-arity
+write_source-returns-else-is_shown-children-arity g t c plain ok =
+    let f = function_of c.in-Some.scalar_fn.now in
+    let xs = c.children-children.result.now in
+    let hidden : (is_shown f && arity_of f == length xs) ≡ false = grind (arith, nat_tests) in
+    let whole = source-full (tree_of c.args.node.now) f xs c.in-Some.ensures c.children-children.ensures.trees hidden in
+    has_written_of_eq _ _ _ _ _ whole (c.write_full.ensures plain ok)
 
 pub case::write_branches-loop-pair-preserved : goal.case::write_branches-loop-pair-preserved
 case::write_branches-loop-pair-preserved g t c = λ plain.
@@ -104,7 +108,7 @@ pack::write_named-loop-index-preserved g t c = λ plain.
     let l = c.loop-index in
     let cs = sources_of c.args.children.now in
     let all = named_texts (map name_source c.args.names.now) cs in
-    let many = length-named_texts (map name_source c.args.names.now) cs (omega (arith, length-sources c.args.children.now)) in
+    let many = length-named_texts (map name_source c.args.names.now) cs (omega (arith, length-sources c.args.children.now, length-name_sources c.args.names.now)) in
     let (done, wrote, left) = l.invariant plain in
     let one = c.write_str.ensures.writes wrote.plain (search rules) in
     let two = c.write_named_child-in-loop-index.ensures one.plain (search rules) in (
@@ -120,7 +124,7 @@ pack::write_named-returns g t c plain ok =
     let cs = sources_of children in
     let all = named_texts (map name_source c.args.names.now) cs in
     let count = length-sources children in
-    let many = length-named_texts (map name_source c.args.names.now) cs (omega (arith, count)) in
+    let many = length-named_texts (map name_source c.args.names.now) cs (omega (arith, count, length-name_sources c.args.names.now)) in
     let given : 0 < length children = grind arith in
     let first = c.write_named_child.ensures plain (search rules) in
     let (done, wrote, left) = l.invariant first.plain in
@@ -132,10 +136,13 @@ pack::write_named-returns g t c plain ok =
 pub pack::write_named_child-returns : goal.pack::write_named_child-returns
 pack::write_named_child-returns g t c plain ok =
     let cs = sources_of c.args.children.now in
-    let name = c.fmt.ensures.writes plain (search rules) in
+    let names = c.args.names.now in
+    let name = c.write_name.ensures plain (search rules) in
     let colon = c.write_str.ensures.writes name.plain (search rules) in
     let child = c.write_child.ensures colon.plain ok in
-    let a = c.index-names-index.result in
-    let whole : (a ++ codes ": ") ++ get_or cs c.args.index [] ≡ get_or (named_texts (map name_source c.args.names.now) cs) c.args.index [] =
-    append_assoc a _ _ ∙ get_or-named_texts (map name_source c.args.names.now) cs c.args.index a c.requires.named (omega (arith, length-sources c.args.children.now)) c.index-names-index.is in
+    let a = name_source c.index-names-index.result in
+    let within : c.args.index < length (map name_source names) = omega (arith, length-name_sources names, c.requires.named) in
+    let at : a ≡ get_or (map name_source names) c.args.index a = get_or-name_sources names c.args.index c.index-names-index.result c.requires.named c.index-names-index.is in
+    let whole : (a ++ codes ": ") ++ get_or cs c.args.index [] ≡ get_or (named_texts (map name_source names) cs) c.args.index [] =
+    append_assoc a _ _ ∙ get_or-named_texts (map name_source names) cs c.args.index a within (omega (arith, length-sources c.args.children.now)) at in
     has_written_of_eq _ _ _ _ _ whole (has_written_append _ _ _ _ _ _ (has_written_append _ _ _ _ _ _ name colon) child)
