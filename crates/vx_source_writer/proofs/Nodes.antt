@@ -1,8 +1,6 @@
 -- The source texts of lists of expressions, and that of a node over its children.
-use Rattle.std.proofs.Common.{◌≡◌, ℕ, zero, suc, ◌<◌, List, [], ◌∷◌, ◌&&◌, ◌==◌, length, get_or, map, false, true, refl, sym, ap, ◌∙◌, arith, Some}
-use Rattle.std.proofs.lemmas.Bool.{and_from}
-use Rattle.std.proofs.lemmas.Bool.Decides.{nat_tests}
-use Rattle.vx_source_tokens.proofs.Choice.{yes, no}
+use Rattle.std.proofs.Common.{◌≡◌, ◌≢◌, ℕ, zero, suc, ◌<◌, List, [], ◌∷◌, ◌==◌, length, get_or, map, false, true, refl, sym, ap, ◌∙◌, arith, Some}
+use Rattle.std.proofs.lemmas.Bool.{and_from, and_left, and_right, cond-true, cond-false, eq-eqb, ne_eqb}
 use Rattle.vx_value.specs.Types.{Name}
 use Rattle.vx_fn.specs.Functions.{Function, arity_of}
 use Rattle.vx_tree.specs.declared.expression.Expression.{Expression}
@@ -28,16 +26,23 @@ source-node : (e : Tree) (f : Function) (xs : List Expression) → Some f ≡ fu
 source-node e f xs h is = ap (λ es. node_source f (sources es)) is ∙ ap source (sym (function_node e f h))
 
 pub node_source-own : (f : Function) (cs : List (List ℕ)) → is_shown f ≡ true → length cs ≡ arity_of f → node_source f cs ≡ own_source f cs
-node_source-own f cs s h = yes (is_shown f && arity_of f == length cs) (own_source f cs) (full_source f cs) (and_from _ _ s (grind (arith, nat_tests, h)))
+node_source-own f cs s n = cond-true _ (own_source f cs) (full_source f cs) (and_from (is_shown f) (arity_of f == length cs) s (eq-eqb (arity_of f) (length cs) (sym n)))
 
-node_source-full : (f : Function) (cs : List (List ℕ)) → (is_shown f && arity_of f == length cs) ≡ false → node_source f cs ≡ full_source f cs
-node_source-full f cs h = no (is_shown f && arity_of f == length cs) (own_source f cs) (full_source f cs) h
+node_source-hidden : (f : Function) (cs : List (List ℕ)) → is_shown f ≡ false → node_source f cs ≡ full_source f cs
+node_source-hidden f cs s = cond-false _ (own_source f cs) (full_source f cs) (and_left (is_shown f) (arity_of f == length cs) s)
+
+node_source-other : (f : Function) (cs : List (List ℕ)) → length cs ≢ arity_of f → node_source f cs ≡ full_source f cs
+node_source-other f cs n =
+    cond-false _ (own_source f cs) (full_source f cs) (and_right (is_shown f) (arity_of f == length cs) (ne_eqb (arity_of f) (length cs) (λ e. n (sym e))))
 
 pub source-own : (e : Tree) (f : Function) (xs : List Expression) → Some f ≡ function_at e → trees_of xs ≡ children_of e → is_shown f ≡ true → length xs ≡ arity_of f → own_source f (sources_of xs) ≡ source e
 source-own e f xs h is s n = sym (node_source-own f (sources_of xs) s (length-sources xs ∙ n)) ∙ source-node e f xs h is
 
-pub source-full : (e : Tree) (f : Function) (xs : List Expression) → Some f ≡ function_at e → trees_of xs ≡ children_of e → (is_shown f && arity_of f == length xs) ≡ false → full_source f (sources_of xs) ≡ source e
-source-full e f xs h is s = sym (node_source-full f (sources_of xs) (ap (λ n. is_shown f && arity_of f == n) (length-sources xs) ∙ s)) ∙ source-node e f xs h is
+pub source-hidden : (e : Tree) (f : Function) (xs : List Expression) → Some f ≡ function_at e → trees_of xs ≡ children_of e → is_shown f ≡ false → full_source f (sources_of xs) ≡ source e
+source-hidden e f xs h is s = sym (node_source-hidden f (sources_of xs) s) ∙ source-node e f xs h is
+
+pub source-other : (e : Tree) (f : Function) (xs : List Expression) → Some f ≡ function_at e → trees_of xs ≡ children_of e → length xs ≢ arity_of f → full_source f (sources_of xs) ≡ source e
+source-other e f xs h is n = sym (node_source-other f (sources_of xs) (λ m. n (sym (length-sources xs) ∙ m))) ∙ source-node e f xs h is
 
 -- ---- names
 

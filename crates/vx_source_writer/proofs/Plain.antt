@@ -1,8 +1,6 @@
 -- Where nothing has to be written otherwise, source text is SQL text.
 use Rattle.std.proofs.Common.{◌≡◌, ℕ, Bool, zero, suc, List, [], ◌∷◌, ◌++◌, length, get_or, map, codes, ◌==◌, true, false, not, refl, sym, ap, ◌∙◌, append-nil, arith}
-use Rattle.std.proofs.lemmas.Bool.{and_parts}
-use Rattle.std.proofs.lemmas.Bool.Decides.{nat_tests}
-use Rattle.vx_source_tokens.proofs.Choice.{yes, no}
+use Rattle.std.proofs.lemmas.Bool.{and_parts, cond-true, eq-eqb, not-true}
 use Rattle.std.specs.List.{list_all}
 use Rattle.std.specs.Fmt.{decimal}
 use Rattle.vx_dtype.specs.Texts.{mark, separator_at, type_text, shape_text, fields_text}
@@ -25,7 +23,7 @@ use Rattle.vx_source_writer.proofs.Nodes.{node_source-own}
 -- ---- names
 
 name-plain : (a : Name) → is_plain a ≡ true → name_source a ≡ a
-name-plain a p = yes (is_plain a) a (between_quotes 96 a) p
+name-plain a p = ap (λ b. elim b as (λ v. List ℕ) [ true ↦ a | false ↦ between_quotes 96 a ]) p
 
 behind-plain : (names : List Name) → ArePlainNames names → names_behind names ≡ after_commas names
 behind-plain [] p = refl
@@ -61,15 +59,11 @@ mutual
 
 -- ---- literals
 
-is_false : (b : Bool) → not b ≡ true → b ≡ false
-is_false true h = absurd (cc)
-is_false false h = refl
-
 undoubled : (s : List ℕ) → list_all (λ b. not (b == 34)) s ≡ true → doubled 34 s ≡ s
 undoubled [] h = refl
 undoubled (b ∷ s) h =
     let parts = and_parts (not (b == 34)) (list_all (λ c. not (c == 34)) s) h in
-    no (b == 34) (34 ∷ 34 ∷ doubled 34 s) (b ∷ doubled 34 s) (is_false (b == 34) parts.0) ∙ ap (λ x. b ∷ x) (undoubled s parts.1)
+    ap (λ c. elim c as (λ v. List ℕ) [ true ↦ 34 ∷ 34 ∷ doubled 34 s | false ↦ b ∷ doubled 34 s ]) (not-true (b == 34) parts.0) ∙ ap (λ x. b ∷ x) (undoubled s parts.1)
 
 literal-plain : (t : LogicalType) (v : Datum) → IsPlainLiteral t v → scalar_source v t ≡ value_text v t
 literal-plain (ty (atomic truth) false) (bool true) h = refl
@@ -104,7 +98,7 @@ own-plain mask cs p = refl
 
 node-plain : (f : Function) (cs : List (List ℕ)) → is_shown f ≡ true → length cs ≡ arity_of f → IsPlainFunction f → node_source f cs ≡ node_sql f cs
 node-plain f cs s h p =
-    node_source-own f cs s h ∙ own-plain f cs p ∙ sym (yes (arity_of f == length cs) (own_sql f cs) (call_sql f cs) (grind (arith, nat_tests, h)))
+    node_source-own f cs s h ∙ own-plain f cs p ∙ sym (cond-true (arity_of f == length cs) (own_sql f cs) (call_sql f cs) (eq-eqb (arity_of f) (length cs) (sym h)))
 
 -- ---- trees
 

@@ -43,7 +43,10 @@ fn write_source<W: Write>(node: &Expression, f: &mut Formatter<W>) -> fmt::Resul
         return f.write_str("$");
     };
     let children = node.children();
-    if is_shown(scalar_fn) && children.len() == scalar_fn.arity() {
+    if !is_shown(scalar_fn) {
+        return write_full(scalar_fn, children, f);
+    }
+    if children.len() == scalar_fn.arity() {
         write_own(scalar_fn, children, f)
     } else {
         write_full(scalar_fn, children, f)

@@ -1,6 +1,5 @@
-use Rattle.std.proofs.Common.{◌≡◌, ◌&&◌, ◌==◌, true, false, ◌+◌, ◌*◌, ◌/◌, ◌<◌, [], ◌++◌, codes, length, get_or, drop, map, refl, sym, ap, append_assoc, ◌∙◌, append-nil, rules, arith}
+use Rattle.std.proofs.Common.{◌≡◌, ◌≢◌, true, false, ◌+◌, ◌*◌, ◌/◌, ◌<◌, [], ◌++◌, codes, length, get_or, drop, map, refl, sym, ap, append_assoc, ◌∙◌, append-nil, rules, arith}
 use Rattle.std.proofs.lemmas.List.{drop_all}
-use Rattle.std.proofs.lemmas.Bool.Decides.{nat_tests}
 use Rattle.std.proofs.Output.{has_written_append, has_written_of_eq}
 use Rattle.vx_fn.specs.Functions.{arity_of}
 use Rattle.vx_fn.specs.Views.{function_of}
@@ -11,7 +10,7 @@ use Rattle.vx_tree.specs.Views.{tree_of}
 use Rattle.vx_tree.proofs.Texts.{after_commas-turn, with_commas-first, length-named_texts, get_or-named_texts, pairs_sql-turn, pairs_sql-else, pairs_sql-none, size_of-le_all}
 use Rattle.vx_source_dtype.specs.Names.{name_source}
 use Rattle.vx_source_writer.specs.SourceTexts.{sources_of, is_shown}
-use Rattle.vx_source_writer.proofs.Nodes.{length-sources, get_or-sources, source-own, source-full, length-name_sources, get_or-name_sources}
+use Rattle.vx_source_writer.proofs.Nodes.{length-sources, get_or-sources, source-own, source-hidden, source-other, length-name_sources, get_or-name_sources}
 use Rattle.vx_source_writer.proofs.source_text.+source.Goals as goal
 
 pub write_child-write_source-requires : goal.write_child-write_source-requires
@@ -52,22 +51,27 @@ write_list-returns g t c plain ok =
     let whole : get_or all 0 [] ++ done ≡ with_commas all = ap (λ x. get_or all 0 [] ++ x) rest ∙ with_commas-first all some in
     has_written_of_eq _ _ _ _ _ whole (has_written_append _ _ _ _ _ _ first wrote)
 
-pub write_source-returns-then-is_shown-children-arity : goal.write_source-returns-then-is_shown-children-arity
-write_source-returns-then-is_shown-children-arity g t c plain ok =
+pub write_source-returns-then-not-is_shown : goal.write_source-returns-then-not-is_shown
+write_source-returns-then-not-is_shown g t c plain ok =
     let f = function_of c.in-Some.scalar_fn.now in
-    let xs = c.children-children.result.now in
+    let hidden : is_shown f ≡ false = search rules in
+    let whole = source-hidden (tree_of c.args.node.now) f c.children-children.result.now c.in-Some.ensures c.children-children.ensures.trees hidden in
+    has_written_of_eq _ _ _ _ _ whole (c.write_full.ensures plain ok)
+
+pub write_source-returns-then-children-arity : goal.write_source-returns-then-children-arity
+write_source-returns-then-children-arity g t c plain ok =
+    let f = function_of c.in-Some.scalar_fn.now in
     let shown : is_shown f ≡ true = search rules in
-    let fits : length xs ≡ arity_of f = grind arith in
-    let whole = source-own (tree_of c.args.node.now) f xs c.in-Some.ensures c.children-children.ensures.trees shown fits in
+    let fits : length c.children-children.result.now ≡ arity_of f = grind arith in
+    let whole = source-own (tree_of c.args.node.now) f c.children-children.result.now c.in-Some.ensures c.children-children.ensures.trees shown fits in
     has_written_of_eq _ _ _ _ _ whole (c.write_own.ensures plain ok)
 
-pub write_source-returns-else-is_shown-children-arity : goal.write_source-returns-else-is_shown-children-arity
-write_source-returns-else-is_shown-children-arity g t c plain ok =
+pub write_source-returns-else-children-arity : goal.write_source-returns-else-children-arity
+write_source-returns-else-children-arity g t c plain ok =
     let f = function_of c.in-Some.scalar_fn.now in
-    let xs = c.children-children.result.now in
-    let hidden : (is_shown f && arity_of f == length xs) ≡ false = grind (arith, nat_tests) in
-    let whole = source-full (tree_of c.args.node.now) f xs c.in-Some.ensures c.children-children.ensures.trees hidden in
-    has_written_of_eq _ _ _ _ _ whole (c.write_full.ensures plain ok)
+    let other : length c.children-children.result.now ≢ arity_of f = grind arith in
+    let whole = source-other (tree_of c.args.node.now) f c.children-children.result.now c.in-Some.ensures c.children-children.ensures.trees other in
+    has_written_of_eq _ _ _ _ _ whole (c.write_full-else-children-arity.ensures plain ok)
 
 pub case::write_branches-loop-pair-preserved : goal.case::write_branches-loop-pair-preserved
 case::write_branches-loop-pair-preserved g t c = λ plain.
