@@ -1,5 +1,5 @@
 -- What stands between the operators of a text.
-use Rattle.std.specs.Prelude.{ℕ, ◌+◌, true, false, List, map, max, Result, Ok, Err, nat_lt}
+use Rattle.std.specs.Prelude.{ℕ, ◌+◌, true, false, max, Result, Ok, Err, nat_lt}
 use Rattle.vx_source_tokens.specs.declared.expected.Expected.{Expected}
 use Rattle.vx_source_tokens.specs.declared.expected.Expected.TheVariants.{LessNesting}
 use Rattle.vx_fn.specs.Functions.{Function}

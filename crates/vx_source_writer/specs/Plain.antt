@@ -1,5 +1,5 @@
 -- Trees of which source text and SQL text are the same.
-use Rattle.std.specs.Prelude.{◌≡◌, ◌==◌, ℕ, true, false, not, List, [], ◌∷◌}
+use Rattle.std.specs.Prelude.{◌≡◌, ◌==◌, true, false, not, List, [], ◌∷◌}
 use Rattle.std.specs.List.{list_all}
 use Rattle.vx_value.specs.Types.{Name, truth, number, text, octets, LogicalType, ty, Shape, atomic, list, fixed, struct, Fields, no_field, field, Datum, bool, int, utf8, bytes}
 use Rattle.vx_fn.specs.Functions.{Function, get_item, literal, pack, select, cast, arity_of, selection_names}

@@ -1,5 +1,5 @@
 // Expressions as source text.
-ghost use Rattle.std.specs.Prelude.{◌≡◌, ◌<◌, Some, length, get_or, [], IsTrue};
+ghost use Rattle.std.specs.Prelude.{◌≡◌, ◌<◌, Some, length, get_or, []};
 ghost use Rattle.std.specs.Fmt.{WritesOnOk};
 ghost use Rattle.vx_fn.specs.Functions.{arity_of};
 ghost use Rattle.vx_fn.specs.Texts.{call_sql, with_commas};
