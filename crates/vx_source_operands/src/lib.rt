@@ -5,4 +5,4 @@ mod operand;
 mod words;
 
 pub use operand::{Operand, Places, node, node_between, node_over, root};
-pub use words::{Keyword, keyword};
+pub use words::{Keyword, as_keyword};

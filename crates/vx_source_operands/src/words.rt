@@ -43,7 +43,7 @@ pub enum Keyword {
 }
 
 /// The keyword that the word is, in either case.
-pub fn keyword(name: &FieldName) -> Option<Keyword>
+pub fn as_keyword(name: &FieldName) -> Option<Keyword>
     ensures { result ≡ keyword_of name.now }
 {
     if let Some(word) = operator_word(name) {

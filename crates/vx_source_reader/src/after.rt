@@ -3,10 +3,10 @@ use crate::close::close;
 use crate::frame::{Frame, Level, Open};
 use crate::postfix::cast;
 use crate::reduce::reduce;
-use crate::state::{Mode, State, state};
+use crate::state::{Mode, State, goes};
 use std::alloc::Global;
 use vx_fn::{EmptyOptions, LikeOptions, Operator, ScalarFnRef, StrictComparison};
-use vx_source_operands::{Keyword, Operand, keyword, node_over};
+use vx_source_operands::{Keyword, Operand, as_keyword, node_over};
 use vx_source_tokens::{Expected, Found, ParseError, Sign, Token};
 use vx_source_types::{expected, refusal};
 use vx_types::FieldName;
@@ -19,8 +19,8 @@ pub(crate) fn after_tight(
     found: &Found,
 ) -> Result<State, ParseError> {
     match &found.token {
-        Token::Sign(Sign::Dot) => Ok(state(open, Mode::Dot(operand))),
-        Token::Sign(Sign::OpenBrace) => Ok(state(open, Mode::Selection(operand))),
+        Token::Sign(Sign::Dot) => Ok(goes(open, Mode::Dot(operand))),
+        Token::Sign(Sign::OpenBrace) => Ok(goes(open, Mode::Selection(operand))),
         Token::Sign(Sign::DoubleColon) => cast(alloc, open, operand, found),
         Token::Sign(Sign::Plus) => {
             let (open, lhs) = reduce(alloc, open, operand, Level::Sum, found)?;
@@ -51,7 +51,7 @@ pub(crate) fn after_loose(
             Some(_) => Err(expected(found, Expected::Parens)),
             None => close(alloc, open, operand, found),
         },
-        Token::Word(name) => match keyword(name) {
+        Token::Word(name) => match as_keyword(name) {
             Some(Keyword::And) => chain(alloc, open, operand, Operator::And, found),
             Some(Keyword::Or) => chain(alloc, open, operand, Operator::Or, found),
             Some(Keyword::Like)
@@ -69,7 +69,7 @@ pub(crate) fn after_loose(
 fn pending(open: Open, frame: Frame) -> Result<State, ParseError> {
     let mut open = open;
     open.frames.push(frame)?;
-    Ok(state(open, Mode::Operand))
+    Ok(goes(open, Mode::Operand))
 }
 
 fn comparison(sign: Sign) -> Option<Operator> {
@@ -157,17 +157,17 @@ fn after_word(
     name: &FieldName,
     found: &Found,
 ) -> Result<State, ParseError> {
-    match keyword(name) {
+    match as_keyword(name) {
         Some(Keyword::And) => after_and(alloc, open, operand, found),
         Some(Keyword::Or) => chain(alloc, open, operand, Operator::Or, found),
         Some(Keyword::Like) => like(alloc, open, operand, false, false, found),
         Some(Keyword::Ilike) => like(alloc, open, operand, false, true, found),
-        Some(Keyword::Not) => Ok(state(open, Mode::NotLike(operand))),
+        Some(Keyword::Not) => Ok(goes(open, Mode::NotLike(operand))),
         Some(Keyword::Between) => {
             let (open, operand) = compared(alloc, open, operand, found)?;
             pending(open, Frame::Lower(operand))
         }
-        Some(Keyword::Is) => Ok(state(open, Mode::Is(operand))),
+        Some(Keyword::Is) => Ok(goes(open, Mode::Is(operand))),
         _ => close(alloc, open, operand, found),
     }
 }
@@ -197,7 +197,7 @@ pub(crate) fn after_not(
     found: &Found,
 ) -> Result<State, ParseError> {
     if let Token::Word(name) = &found.token {
-        match keyword(name) {
+        match as_keyword(name) {
             Some(Keyword::Like) => return like(alloc, open, operand, true, false, found),
             Some(Keyword::Ilike) => return like(alloc, open, operand, true, true, found),
             _ => {}
@@ -215,8 +215,8 @@ pub(crate) fn after_is(
     found: &Found,
 ) -> Result<State, ParseError> {
     if let Token::Word(name) = &found.token {
-        match keyword(name) {
-            Some(Keyword::Not) if !negated => return Ok(state(open, Mode::IsNot(operand))),
+        match as_keyword(name) {
+            Some(Keyword::Not) if !negated => return Ok(goes(open, Mode::IsNot(operand))),
             Some(Keyword::Null) => return null_test(alloc, open, operand, negated, found),
             _ => {}
         }
@@ -239,7 +239,7 @@ fn null_test(
     };
     let bytes = (operand.places.start, found.end);
     let made = node_over(alloc, scalar_fn, operand, bytes, open.room, found)?;
-    Ok(state(open, Mode::Loose(made)))
+    Ok(goes(open, Mode::Loose(made)))
 }
 
 // `and` behind an operand: between the bounds of a `between`, or between two items.

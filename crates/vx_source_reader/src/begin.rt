@@ -1,10 +1,10 @@
 // The beginning of an operand.
 use crate::frame::{Bracket, CasePart, Frame, Open};
 use crate::postfix::tight;
-use crate::state::{Mode, State, state};
+use crate::state::{Mode, State, goes};
 use std::alloc::Global;
 use vx_fn::ScalarFnRef;
-use vx_source_operands::{Keyword, keyword, node, root};
+use vx_source_operands::{Keyword, as_keyword, node, root};
 use vx_source_tokens::{Expected, Found, ParseError, Sign, Token};
 use vx_source_types::{ValueReader, ValueStep, expected, inside, refusal, suffixed};
 use vx_types::{FieldName, Scalar};
@@ -19,7 +19,7 @@ pub(crate) fn begin(alloc: Global, open: Open, found: &Found) -> Result<State, P
             let (open, bracket) = opened(open, found)?;
             let mut open = open;
             open.frames.push(Frame::Paren(bracket))?;
-            Ok(state(open, Mode::Operand))
+            Ok(goes(open, Mode::Operand))
         }
         Token::Number { .. } => match suffixed(found) {
             Some(literal) => literal_at(alloc, open, literal?, (found.at, found.end), found),
@@ -50,8 +50,8 @@ fn begin_word(
     name: &FieldName,
     found: &Found,
 ) -> Result<State, ParseError> {
-    match keyword(name) {
-        None => Ok(state(open, Mode::Word(name.clone()?, found.at, found.end))),
+    match as_keyword(name) {
+        None => Ok(goes(open, Mode::Word(name.clone()?, found.at, found.end))),
         Some(Keyword::Null) | Some(Keyword::True) | Some(Keyword::False) => {
             begin_value(alloc, open, found)
         }
@@ -61,7 +61,7 @@ fn begin_word(
             let mut open = open;
             open.frames
                 .push(Frame::Case(CasePart::Condition, Vec::new(alloc), bracket))?;
-            Ok(state(open, Mode::Case))
+            Ok(goes(open, Mode::Case))
         }
         Some(_) => Err(expected(found, Expected::Operand)),
     }
@@ -79,13 +79,13 @@ fn begin_not(open: Open, found: &Found) -> Result<State, ParseError> {
         }
     }
     open.frames.push(Frame::Not(found.at))?;
-    Ok(state(open, Mode::Operand))
+    Ok(goes(open, Mode::Operand))
 }
 
 // A value, whose type may follow.
 fn begin_value(alloc: Global, open: Open, found: &Found) -> Result<State, ParseError> {
     match ValueReader::new(alloc, open.room).step(alloc, found)? {
-        ValueStep::More(reader) => Ok(state(open, Mode::Value(reader, found.at, found.end))),
+        ValueStep::More(reader) => Ok(goes(open, Mode::Value(reader, found.at, found.end))),
         ValueStep::Done(_) => Err(refusal(found, Expected::Value)),
     }
 }

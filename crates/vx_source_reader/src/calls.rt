@@ -3,7 +3,7 @@ use crate::begin::{begin, opened};
 use crate::close::outside;
 use crate::frame::{Bracket, Callee, Frame, Open};
 use crate::postfix::tight;
-use crate::state::{Mode, State, state};
+use crate::state::{Mode, State, goes};
 use std::alloc::Global;
 use vx_fn::{CaseWhenOptions, EmptyOptions, PackOptions, ScalarFnRef};
 use vx_source_operands::{Operand, node};
@@ -29,11 +29,11 @@ pub(crate) fn call(
     if is_word(&name, "pack") {
         open.frames
             .push(Frame::Pack(Vec::new(alloc), Vec::new(alloc), bracket))?;
-        return Ok(state(open, Mode::FirstPacked(start)));
+        return Ok(goes(open, Mode::FirstPacked(start)));
     }
     if is_word(&name, "cast") {
         open.frames.push(Frame::Cast(bracket))?;
-        return Ok(state(open, Mode::Operand));
+        return Ok(goes(open, Mode::Operand));
     }
     let Some(callee) = callee(&name) else {
         return Err(ParseError::Unexpected {
@@ -43,7 +43,7 @@ pub(crate) fn call(
     };
     open.frames
         .push(Frame::Call(callee, Vec::new(alloc), bracket))?;
-    Ok(state(open, Mode::FirstChild))
+    Ok(goes(open, Mode::FirstChild))
 }
 
 fn callee(name: &FieldName) -> Option<Callee> {
@@ -94,7 +94,7 @@ pub(crate) fn children(
     let mut open = open;
     open.frames
         .push(Frame::Call(callee, Vec::new(alloc), bracket))?;
-    Ok(state(open, Mode::FirstChild))
+    Ok(goes(open, Mode::FirstChild))
 }
 
 // The first child of a call, or its end.
@@ -173,7 +173,7 @@ pub(crate) fn first_packed(
         room: outside_room,
     };
     let mode = Mode::PackEnd(Vec::new(alloc), Vec::new(alloc), start, found.end);
-    Ok(state(open, mode))
+    Ok(goes(open, mode))
 }
 
 // The name of a child of a struct that is packed.
@@ -187,7 +187,7 @@ pub(crate) fn packed(open: Open, found: &Found) -> Result<State, ParseError> {
             let mut names = names;
             names.push(name.clone()?)?;
             frames.push(Frame::Pack(names, children, bracket))?;
-            Ok(state(Open { frames, room }, Mode::PackedValue))
+            Ok(goes(Open { frames, room }, Mode::PackedValue))
         }
         _ => Err(refusal(found, Expected::Operand)),
     }
@@ -196,7 +196,7 @@ pub(crate) fn packed(open: Open, found: &Found) -> Result<State, ParseError> {
 // The colon behind the name.
 pub(crate) fn packed_value(open: Open, found: &Found) -> Result<State, ParseError> {
     match &found.token {
-        Token::Sign(Sign::Colon) => Ok(state(open, Mode::Operand)),
+        Token::Sign(Sign::Colon) => Ok(goes(open, Mode::Operand)),
         _ => Err(refusal(found, Expected::FieldValue)),
     }
 }

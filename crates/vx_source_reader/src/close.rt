@@ -3,10 +3,10 @@ use crate::calls::called;
 use crate::frame::{Bracket, Callee, CasePart, Frame, Level, Open};
 use crate::postfix::tight;
 use crate::reduce::reduce;
-use crate::state::{Mode, State, TypeFor, state};
+use crate::state::{Mode, State, TypeFor, goes};
 use std::alloc::Global;
 use vx_fn::{CaseWhenOptions, ScalarFnRef};
-use vx_source_operands::{Keyword, Operand, keyword, node};
+use vx_source_operands::{Keyword, Operand, as_keyword, node};
 use vx_source_tokens::{Expected, Found, ParseError, Sign, Token};
 use vx_source_types::{TypeReader, expected, refusal};
 
@@ -46,9 +46,9 @@ pub(crate) fn close(
             match &found.token {
                 Token::Sign(Sign::Comma) => {
                     frames.push(Frame::Pack(names, children, bracket))?;
-                    Ok(state(Open { frames, room }, Mode::Packed))
+                    Ok(goes(Open { frames, room }, Mode::Packed))
                 }
-                Token::Sign(Sign::CloseParen) => Ok(state(
+                Token::Sign(Sign::CloseParen) => Ok(goes(
                     outside(frames, bracket),
                     Mode::PackEnd(names, children, bracket.start, found.end),
                 )),
@@ -93,7 +93,7 @@ fn close_child(
     match &found.token {
         Token::Sign(Sign::Comma) => {
             frames.push(Frame::Call(callee, children, bracket))?;
-            Ok(state(Open { frames, room }, Mode::Operand))
+            Ok(goes(Open { frames, room }, Mode::Operand))
         }
         Token::Sign(Sign::CloseParen) => {
             called(
@@ -118,10 +118,10 @@ fn cast_type(
     found: &Found,
 ) -> Result<State, ParseError> {
     if let Token::Word(name) = &found.token {
-        if let Some(Keyword::As) = keyword(name) {
+        if let Some(Keyword::As) = as_keyword(name) {
             let reader = TypeReader::new(alloc, open.room);
             let wanted = TypeFor::CastCall(operand, bracket.start, bracket.room);
-            return Ok(state(open, Mode::Type(wanted, reader, found.end)));
+            return Ok(goes(open, Mode::Type(wanted, reader, found.end)));
         }
     }
     Err(refusal(found, Expected::As))
@@ -137,7 +137,7 @@ fn close_part(
     found: &Found,
 ) -> Result<State, ParseError> {
     let word = match &found.token {
-        Token::Word(name) => keyword(name),
+        Token::Word(name) => as_keyword(name),
         _ => None,
     };
     let next = match (part, word) {
@@ -153,7 +153,7 @@ fn close_part(
     };
     let Open { mut frames, room } = open;
     frames.push(Frame::Case(next, children, bracket))?;
-    Ok(state(Open { frames, room }, Mode::Operand))
+    Ok(goes(Open { frames, room }, Mode::Operand))
 }
 
 // The CASE of conditions and values in turn, and what is left over as the ELSE value.

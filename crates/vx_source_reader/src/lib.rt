@@ -6,10 +6,10 @@ mod begin;
 mod calls;
 mod close;
 mod frame;
-mod parse;
 mod postfix;
 mod reduce;
 mod state;
+mod whole;
 
-pub use parse::{Placed, parse, parse_with, parse_with_places};
 pub use vx_source_operands::Places;
+pub use whole::{Placed, parse, parse_with, parse_with_places};

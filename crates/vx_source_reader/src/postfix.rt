@@ -1,19 +1,19 @@
 // What follows an operand and binds tightest.
 use crate::begin::literal_at;
 use crate::frame::Open;
-use crate::state::{Mode, State, TypeFor, state};
+use crate::state::{Mode, State, TypeFor, goes};
 use std::alloc::Global;
 use vx_fn::{FieldSelection, ScalarFnRef};
 use vx_source_operands::{Operand, node_over, root};
 use vx_source_tokens::{Expected, Found, ParseError, Sign, Token};
 use vx_source_types::{
-    Draft, TypeReader, TypeStep, ValueReader, ValueStep, expected, field_name, inside,
-    plain_literal, refusal, typed_literal,
+    Draft, TypeReader, TypeStep, ValueReader, ValueStep, expected, field_name, plain_literal,
+    refusal, typed_literal,
 };
 use vx_types::{DType, FieldName, FieldNames};
 
 pub(crate) fn tight(open: Open, operand: Operand) -> State {
-    state(open, Mode::Tight(operand))
+    goes(open, Mode::Tight(operand))
 }
 
 // The field of the operand, whose name ends at that byte.
@@ -70,7 +70,7 @@ pub(crate) fn selection(
     found: &Found,
 ) -> Result<State, ParseError> {
     match &found.token {
-        Token::Sign(Sign::Tilde) => Ok(state(open, Mode::Exclusion(operand))),
+        Token::Sign(Sign::Tilde) => Ok(goes(open, Mode::Exclusion(operand))),
         Token::Sign(Sign::CloseBrace) => select(
             alloc,
             open,
@@ -107,7 +107,7 @@ pub(crate) fn selection_name(
     };
     let mut names = names;
     names.push(name.clone()?)?;
-    Ok(state(open, Mode::SelectionNext(operand, excludes, names)))
+    Ok(goes(open, Mode::SelectionNext(operand, excludes, names)))
 }
 
 pub(crate) fn selection_next(
@@ -120,7 +120,7 @@ pub(crate) fn selection_next(
 ) -> Result<State, ParseError> {
     match &found.token {
         Token::Sign(Sign::Comma) => {
-            Ok(state(open, Mode::SelectionName(operand, excludes, names)))
+            Ok(goes(open, Mode::SelectionName(operand, excludes, names)))
         }
         Token::Sign(Sign::CloseBrace) => select(alloc, open, operand, excludes, names, found),
         _ => Err(refusal(found, Expected::CommaOrCloseBrace)),
@@ -166,12 +166,12 @@ pub(crate) fn value(
 ) -> Result<(State, bool), ParseError> {
     let (start, end) = bytes;
     match reader.step(alloc, found)? {
-        ValueStep::More(next) => Ok((state(open, Mode::Value(next, start, found.end)), true)),
+        ValueStep::More(next) => Ok((goes(open, Mode::Value(next, start, found.end)), true)),
         ValueStep::Done(draft) => {
             if let Token::Sign(Sign::DoubleColon) = found.token {
                 let reader = TypeReader::new(alloc, open.room);
                 let mode = Mode::Type(TypeFor::Literal(draft, start), reader, found.end);
-                return Ok((state(open, mode), true));
+                return Ok((goes(open, mode), true));
             }
             match plain_literal(draft) {
                 Ok(scalar) => Ok((literal_at(alloc, open, scalar, (start, end), found)?, false)),
@@ -194,7 +194,7 @@ pub(crate) fn read_type(
     found: &Found,
 ) -> Result<(State, bool), ParseError> {
     match reader.step(alloc, found)? {
-        TypeStep::More(next) => Ok((state(open, Mode::Type(wanted, next, found.end)), true)),
+        TypeStep::More(next) => Ok((goes(open, Mode::Type(wanted, next, found.end)), true)),
         TypeStep::Done(dtype) => match wanted {
             TypeFor::Literal(draft, start) => {
                 Ok((
@@ -261,5 +261,5 @@ pub(crate) fn cast(
     found: &Found,
 ) -> Result<State, ParseError> {
     let reader = TypeReader::new(alloc, open.room);
-    Ok(state(open, Mode::Type(TypeFor::Cast(operand), reader, found.end)))
+    Ok(goes(open, Mode::Type(TypeFor::Cast(operand), reader, found.end)))
 }

@@ -87,6 +87,6 @@ pub(crate) fn start(alloc: Global, room: usize) -> State {
     }
 }
 
-pub(crate) fn state(open: Open, mode: Mode) -> State {
+pub(crate) fn goes(open: Open, mode: Mode) -> State {
     State { open, mode }
 }

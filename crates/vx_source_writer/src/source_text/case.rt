@@ -1,5 +1,5 @@
 // The source text of a CASE.
-ghost use Rattle.std.specs.Prelude.{◌≡◌, ◌<◌, ◌+◌, ◌++◌, length, codes};
+ghost use Rattle.std.specs.Prelude.{◌<◌, ◌+◌, ◌++◌, length, codes};
 ghost use Rattle.std.specs.Fmt.{WritesOnOk};
 ghost use Rattle.vx_fn.specs.Texts.{pairs_sql};
 ghost use Rattle.vx_tree.specs.Texts.{pair_sql};

@@ -9,9 +9,9 @@ use crate::postfix::{
     dot, exclusion, field, field_at, read_type, selection, selection_name, selection_next, tight,
     value,
 };
-use crate::state::{Mode, State, start, state};
+use crate::state::{Mode, State, goes, start};
 use std::alloc::Global;
-use vx_source_operands::{Keyword, Operand, Places, keyword};
+use vx_source_operands::{Keyword, Operand, Places, as_keyword};
 use vx_source_options::function_of;
 use vx_source_tokens::{Expected, Found, ParseError, Sign, Token, first_token};
 use vx_source_types::{DEFAULT_NESTING, refusal};
@@ -119,7 +119,7 @@ fn settle(alloc: Global, now: State, found: &Found) -> Result<(State, bool), Par
             )?;
             Ok((made, is_read))
         }
-        mode => Ok((state(open, mode), false)),
+        mode => Ok((goes(open, mode), false)),
     }
 }
 
@@ -135,7 +135,7 @@ fn after_first_word(
     match &found.token {
         Token::Sign(Sign::OpenParen) => Ok((call(alloc, open, name, start, found)?, true)),
         Token::Sign(Sign::Dot) if name.as_str().as_bytes() == b"vortex".as_slice() => {
-            Ok((state(open, Mode::Vortex(name, start, end)), true))
+            Ok((goes(open, Mode::Vortex(name, start, end)), true))
         }
         _ => {
             let made = field_at(alloc, name, start, end, open.room, found)?;
@@ -159,7 +159,7 @@ fn after_id(
         Token::Sign(Sign::OpenBracket) => {
             let (open, _) = opened(open, found)?;
             let mode = Mode::Options(name, Vec::new(alloc), 0, start);
-            Ok((state(open, mode), true))
+            Ok((goes(open, mode), true))
         }
         _ => {
             let vortex = field_at(alloc, word, start, end, open.room, found)?;
@@ -198,17 +198,15 @@ fn due(alloc: Global, open: Open, mode: Mode, found: &Found) -> Result<State, Pa
 fn due_name(alloc: Global, open: Open, mode: Mode, found: &Found) -> Result<State, ParseError> {
     match mode {
         Mode::Vortex(word, start, end) => match &found.token {
-            Token::Word(name) => {
-                Ok(state(open, Mode::Id(word, name.clone()?, start, found.end)))
-            }
+            Token::Word(name) => { Ok(goes(open, Mode::Id(word, name.clone()?, start, found.end))) }
             _ => {
                 let vortex = field_at(alloc, word, start, end, open.room, found)?;
                 dot(alloc, open, vortex, found)
             }
         },
         Mode::Case => match &found.token {
-            Token::Word(name) if keyword(name) == Some(Keyword::When) => {
-                Ok(state(open, Mode::Operand))
+            Token::Word(name) if as_keyword(name) == Some(Keyword::When) => {
+                Ok(goes(open, Mode::Operand))
             }
             _ => Err(refusal(found, Expected::When)),
         },
@@ -242,7 +240,7 @@ fn options_next(
                     frames,
                     room: room.saturating_add(1),
                 };
-                return Ok(state(open, Mode::Children(scalar_fn, start)));
+                return Ok(goes(open, Mode::Children(scalar_fn, start)));
             }
             depth.saturating_sub(1)
         }
@@ -252,5 +250,5 @@ fn options_next(
     };
     let mut options = options;
     options.push(found)?;
-    Ok(state(open, Mode::Options(name, options, depth, start)))
+    Ok(goes(open, Mode::Options(name, options, depth, start)))
 }
