@@ -17,17 +17,15 @@ use vx_tree::Expression;
 /// The scope root, read from these bytes.
 pub fn root(alloc: Global, start: usize, end: usize) -> Operand
     ensures tree { operand_of result ≡ root }
-    ensures start { result.places.start ≡ start }
-    ensures end { result.places.end ≡ end }
+    ensures start { result.start ≡ start }
+    ensures end { result.end ≡ end }
 {
     Operand {
         tree: Expression::Root,
         height: 0,
-        places: Places {
-            start,
-            end,
-            children: Vec::new(alloc),
-        },
+        start,
+        end,
+        children: Vec::new(alloc),
     }
 }
 
@@ -42,8 +40,8 @@ pub fn node(
     found: &Found,
 ) -> Result<Operand, ParseError>
     ensures tree { ReadsAt found.now.at operand_of result (node_read (function_of scalar_fn) (operands_of operands.items) room) }
-    ensures start { IfOk result (λ operand. operand.places.start ≡ bytes.0) }
-    ensures end { IfOk result (λ operand. operand.places.end ≡ bytes.1) }
+    ensures start { IfOk result (λ operand. operand.start ≡ bytes.0) }
+    ensures end { IfOk result (λ operand. operand.end ≡ bytes.1) }
 {
     let highest = highest(operands.as_slice());
     if highest >= room {
@@ -57,15 +55,14 @@ pub fn node(
             children: Rc::new(alloc, trees)?,
         },
         height: highest + 1,
-        places: Places {
-            start,
-            end,
-            children,
-        },
+        start,
+        end,
+        children,
     })
 }
 
 // The height of the highest of them, 0 of none.
+#[tactic(auto, using(crate::proofs::Heights::heights_next))]
 fn highest(operands: &[Operand]) -> usize
     ensures { result ≡ heights_of (operands_of operands.now) }
 {
@@ -87,7 +84,11 @@ fn taken_apart(
     let mut places = Vec::with_capacity(alloc, operands.len())?;
     for operand in operands {
         trees.push(operand.tree)?;
-        places.push(operand.places)?;
+        places.push(Places {
+            start: operand.start,
+            end: operand.end,
+            children: operand.children,
+        })?;
     }
     Ok((trees, places))
 }
@@ -102,8 +103,8 @@ pub fn node_over(
     found: &Found,
 ) -> Result<Operand, ParseError>
     ensures tree { ReadsAt found.now.at operand_of result (node_read (function_of scalar_fn) (operands_of (operand ∷ [])) room) }
-    ensures start { IfOk result (λ made. made.places.start ≡ bytes.0) }
-    ensures end { IfOk result (λ made. made.places.end ≡ bytes.1) }
+    ensures start { IfOk result (λ made. made.start ≡ bytes.0) }
+    ensures end { IfOk result (λ made. made.end ≡ bytes.1) }
 {
     let operands = Vec::from_array(alloc, [operand])?;
     node(alloc, scalar_fn, operands, bytes, room, found)
@@ -119,10 +120,10 @@ pub fn node_between(
     found: &Found,
 ) -> Result<Operand, ParseError>
     ensures tree { ReadsAt found.now.at operand_of result (node_read (function_of scalar_fn) (operands_of (lhs ∷ rhs ∷ [])) room) }
-    ensures start { IfOk result (λ made. made.places.start ≡ lhs.places.start) }
-    ensures end { IfOk result (λ made. made.places.end ≡ rhs.places.end) }
+    ensures start { IfOk result (λ made. made.start ≡ lhs.start) }
+    ensures end { IfOk result (λ made. made.end ≡ rhs.end) }
 {
-    let bytes = (lhs.places.start, rhs.places.end);
+    let bytes = (lhs.start, rhs.end);
     let operands = Vec::from_array(alloc, [lhs, rhs])?;
     node(alloc, scalar_fn, operands, bytes, room, found)
 }

@@ -23,7 +23,11 @@ pub struct Operand {
     pub tree: Expression,
     /// How many function nodes the longest way down has.
     pub height: usize,
-    /// The bytes that its nodes were read from.
-    pub places: Places,
+    /// The first byte of its text.
+    pub start: usize,
+    /// The byte behind the last.
+    pub end: usize,
+    /// The bytes that the children of its first node were read from.
+    pub children: Vec<Places>,
     ghost counted: { height ≡ height_of (tree_of tree) },
 }

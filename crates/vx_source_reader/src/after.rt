@@ -107,7 +107,7 @@ fn after_comparison(
         None => pending(Open { frames, room }, Frame::Binary(operator, operand)),
         Some(Frame::Binary(first, lower)) => match (bound(first), bound(operator)) {
             (Some(lower_strict), Some(upper_strict)) => {
-                let start = lower.places.start;
+                let start = lower.start;
                 pending(
                     Open { frames, room },
                     Frame::Upper {
@@ -237,7 +237,7 @@ fn null_test(
     } else {
         ScalarFnRef::IsNull(EmptyOptions)
     };
-    let bytes = (operand.places.start, found.end);
+    let bytes = (operand.start, found.end);
     let made = node_over(alloc, scalar_fn, operand, bytes, open.room, found)?;
     Ok(goes(open, Mode::Loose(made)))
 }
@@ -253,7 +253,7 @@ fn after_and(
     let Open { mut frames, room } = open;
     match frames.pop() {
         Some(Frame::Lower(array)) => {
-            let start = array.places.start;
+            let start = array.start;
             pending(
                 Open { frames, room },
                 Frame::Upper {

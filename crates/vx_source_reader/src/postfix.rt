@@ -25,7 +25,7 @@ pub(crate) fn field(
     room: usize,
     found: &Found,
 ) -> Result<Operand, ParseError> {
-    let bytes = (operand.places.start, end);
+    let bytes = (operand.start, end);
     node_over(
         alloc,
         ScalarFnRef::GetItem(name),
@@ -143,7 +143,7 @@ fn select(
     } else {
         FieldSelection::Include(names)
     };
-    let bytes = (operand.places.start, found.end);
+    let bytes = (operand.start, found.end);
     let made = node_over(
         alloc,
         ScalarFnRef::Select(selection),
@@ -203,7 +203,7 @@ pub(crate) fn read_type(
                 ))
             }
             TypeFor::Cast(operand) => {
-                let bytes = (operand.places.start, end);
+                let bytes = (operand.start, end);
                 let made = node_over(
                     alloc,
                     ScalarFnRef::Cast(dtype),

@@ -44,7 +44,7 @@ fn joined(
             collect(alloc, operator, items, room, found)
         }
         Frame::Not(start) => {
-            let bytes = (start, operand.places.end);
+            let bytes = (start, operand.end);
             node_over(
                 alloc,
                 ScalarFnRef::Not(EmptyOptions),
@@ -78,7 +78,7 @@ fn joined(
                 lower_strict,
                 upper_strict,
             };
-            let bytes = (start, operand.places.end);
+            let bytes = (start, operand.end);
             let operands = Vec::from_array(alloc, [array, lower, operand])?;
             node(
                 alloc,

@@ -45,11 +45,17 @@ pub fn parse_with_places(alloc: Global, text: &str, nesting: usize) -> Result<Pl
     let Operand {
         tree,
         height: _,
-        places,
+        start,
+        end,
+        children,
     } = read(alloc, text, nesting)?;
     Ok(Placed {
         expression: tree,
-        places,
+        places: Places {
+            start,
+            end,
+            children,
+        },
     })
 }
 

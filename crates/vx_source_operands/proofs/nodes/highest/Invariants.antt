@@ -5,4 +5,4 @@ use Rattle.vx_source_operands.specs.Views.{operands_of}
 use Rattle.vx_source_operands.proofs.nodes.highest.Given as goal
 
 abbrev pub invariant-loop-operand : goal.invariant-loop-operand
-invariant-loop-operand g l = max l.highest (heights_of (operands_of (drop l.operand-index l.operands))) ≡ heights_of (operands_of l.operands)
+invariant-loop-operand l = max l.highest (heights_of (operands_of (drop l.operand-index l.operands))) ≡ heights_of (operands_of l.operands)
