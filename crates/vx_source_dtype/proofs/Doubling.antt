@@ -43,8 +43,8 @@ doubled_none q (b ∷ bs) h = go (b == q) refl (doubled_none q bs) where
 -- a text up to its quote, and the quote twice
 pub doubled_step : (q : ℕ) (before front back rest all one two : List ℕ) → position_or_len (λ c. c == q) rest < length rest
     → front ≡ before_first (λ c. c == q) rest → back ≡ after_first (λ c. c == q) rest → one ≡ q ∷ [] → two ≡ q ∷ []
-    → before ++ doubled q rest ≡ all → ((before ++ front) ++ one) ++ two ++ doubled q back ≡ all
+    → before ++ doubled q rest ≡ all → (((before ++ front) ++ one) ++ two) ++ doubled q back ≡ all
 doubled_step q before front back rest all one two h f b o t e =
     let here : doubled q rest ≡ front ++ (q ∷ q ∷ doubled q back) = doubled_at q rest h ∙ rw (← f, ← b) refl in
-    let grouped : ((before ++ front) ++ (q ∷ [])) ++ (q ∷ []) ++ doubled q back ≡ before ++ (front ++ (q ∷ q ∷ doubled q back)) = simp append_assoc in
+    let grouped : (((before ++ front) ++ (q ∷ [])) ++ (q ∷ [])) ++ doubled q back ≡ before ++ (front ++ (q ∷ q ∷ doubled q back)) = simp append_assoc in
     rw (o, t) (grouped ∙ ap (λ xs. before ++ xs) (sym here) ∙ e)

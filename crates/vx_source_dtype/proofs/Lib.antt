@@ -1,4 +1,5 @@
 pub mod Reading
 pub mod TypesAgain
+pub mod TypeEnds
 pub mod FieldSources
 pub mod Doubling

@@ -4,3 +4,5 @@ pub mod Spelled
 pub mod Unquoting
 pub mod FirstTokens
 pub mod FirstNumbers
+pub mod FirstOctets
+pub mod FirstSigns

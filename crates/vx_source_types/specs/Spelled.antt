@@ -1,6 +1,7 @@
 -- Which values a text can say, and how deep they are nested.
-use Rattle.std.specs.Prelude.{ℕ, ◌+◌, ◌<◌, max, All}
+use Rattle.std.specs.Prelude.{ℕ, ◌+◌, max}
 use Rattle.std.specs.Str.{IsUtf8}
+use Rattle.hex.specs.Hex.{IsBytes}
 use Rattle.vx_value.specs.Types.{Datum, utf8, bytes, list_of, struct_of, Data, no_datum, datum}
 
 -- how many brackets are open at most at one place of the value's text
@@ -18,7 +19,7 @@ abbrev mutual
 abbrev mutual
   pub IsSpelledValue : Datum → Type 0
   IsSpelledValue (utf8 s) = IsUtf8 s
-  IsSpelledValue (bytes bs) = All (λ b. b < 256) bs
+  IsSpelledValue (bytes bs) = IsBytes bs
   IsSpelledValue (list_of vs) = AreSpelledValues vs
   IsSpelledValue (struct_of vs) = AreSpelledValues vs
   IsSpelledValue _ = Unit {0}

@@ -34,7 +34,10 @@ fn ranged(negative: bool, magnitude: u64, p: PType) -> Option<Scalar>
 fn fitting(dtype: DType, value: Value) -> Option<Scalar>
     ensures { result ≡ fitting (type_of dtype) (value_of value) }
 {
-    Scalar::try_new(dtype, value).ok()
+    match Scalar::try_new(dtype, value) {
+        Ok(scalar) => Some(scalar),
+        Err(_) => None,
+    }
 }
 
 /// The scalar of a value that no type follows, or what would have stood right.
