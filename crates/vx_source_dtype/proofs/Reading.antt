@@ -4,9 +4,8 @@ use Rattle.std.proofs.lemmas.Bool.{cases_lt}
 use Rattle.vx_source_tokens.specs.declared.error.ParseError.{ParseError}
 use Rattle.vx_source_tokens.specs.declared.error.ParseError.TheVariants.{OutOfMemory, Unexpected}
 use Rattle.vx_source_tokens.specs.declared.expected.Expected.{Expected}
-use Rattle.vx_source_tokens.specs.declared.expected.Expected.TheVariants.{End as TheEnd}
-use Rattle.vx_source_tokens.specs.Tokens.{Lexeme, end, invalid, skip, token_at, first}
-use Rattle.vx_source_dtype.specs.Reading.{Goes, more, done, Step, Leads, stays, leads, IsRead, is_read, Stops, stops_at, stops_behind, whole_text, Parses, Gives}
+use Rattle.vx_source_tokens.specs.Tokens.{Lexeme, end, invalid, Taken, skip, token_at, first}
+use Rattle.vx_source_dtype.specs.Reading.{Goes, more, done, Step, Leads, stays, leads, IsRead, is_read, Stops, stops_at, stops_behind, ReadsAt, whole_text, Parses, Gives}
 
 pub then : {S A : Type 0} (step : Step S A) {s t u : S} {bs cs ds : List ℕ} → Leads step s bs t cs → Leads step t cs u ds → Leads step s bs u ds
 then step stays k = k
@@ -19,6 +18,13 @@ one_more step h p q = then step h (leads p q stays)
 pub of_text : {S A : Type 0} (step : Step S A) {s u : S} {bs cs ds : List ℕ} → bs ≡ cs → Leads step s cs u ds → Leads step s bs u ds
 of_text step {s} {u} {bs} {cs} {ds} e h = subst (λ xs. Leads step s xs u ds) (sym e) h
 
+-- the first token of a text, and what is left behind it, are the only ones
+same_token : (bs : List ℕ) (x y : Lexeme) (cs es : List ℕ) → first bs ≡ (x, cs) → first bs ≡ (y, es) → x ≡ y
+same_token bs x y cs es p q = sym (ap (λ (t : Taken). t.0) p) ∙ ap (λ (t : Taken). t.0) q
+
+same_rest : (bs : List ℕ) (x y : Lexeme) (cs es : List ℕ) → first bs ≡ (x, cs) → first bs ≡ (y, es) → cs ≡ es
+same_rest bs x y cs es p q = sym (ap (λ (t : Taken). t.1) p) ∙ ap (λ (t : Taken). t.1) q
+
 -- no token is taken there
 abbrev Halts : {S A : Type 0} (step : Step S A) → S → List ℕ → Type 0
 Halts {S} {A} step u ds = (x : Lexeme) (cs : List ℕ) (t : S) → first ds ≡ (x, cs) → step u x ≡ Ok (more t) → ⊥
@@ -27,35 +33,33 @@ agree : {S A : Type 0} (step : Step S A) {s u v : S} {bs ds es : List ℕ} → L
 agree step stays stays p q = (refl, refl)
 agree step stays (leads {t = t} {cs = cs} {x = x} e f h) p q = absurd (p x cs t e f)
 agree step (leads {t = t} {cs = cs} {x = x} e f h) stays p q = absurd (q x cs t e f)
-agree step {v = v} {es = es} (leads {t = t} {cs = cs} {x = x} e f h) (leads {t = w} {cs = ds} {x = y} d g k) p q =
-    let same : x ≡ y = cc in
+agree step {bs = bs} {v = v} {es = es} (leads {t = t} {cs = cs} {x = x} e f h) (leads {t = w} {cs = ds} {x = y} d g k) p q =
+    let same : x ≡ y = same_token bs x y cs ds e d in
     let next : w ≡ t = cc in
-    let rest : ds ≡ cs = cc in
+    let rest : ds ≡ cs = same_rest bs y x ds cs d e in
     agree step h (subst (λ z. Leads step z cs v es) next (subst (λ z. Leads step w z v es) rest k)) p q
 
-halts_done : {S A : Type 0} (step : Step S A) {u : S} {ds cs : List ℕ} {x : Lexeme} {a : A} → first ds ≡ (x, cs) → step u x ≡ Ok (done a) → Halts step u ds
-halts_done step {u} {ds} {cs} {x} {a} p q = λ y es t f g. let same : x ≡ y = cc in (cc)
+halts_done : {S A : Type 0} (step : Step S A) {u : S} (ds : List ℕ) {cs : List ℕ} {x : Lexeme} {a : A} → first ds ≡ (x, cs) → step u x ≡ Ok (done a) → Halts step u ds
+halts_done step ds {cs} {x} p q = λ y es t f g. let same : x ≡ y = same_token ds x y cs es p f in (cc)
 
-halts_err : {S A : Type 0} (step : Step S A) {u : S} {ds cs : List ℕ} {x : Lexeme} {e : Expected} → first ds ≡ (x, cs) → step u x ≡ Err e → Halts step u ds
-halts_err step {u} {ds} {cs} {x} {e} p q = λ y es t f g. let same : x ≡ y = cc in (cc)
+halts_err : {S A : Type 0} (step : Step S A) {u : S} (ds : List ℕ) {cs : List ℕ} {x : Lexeme} {e : Expected} → first ds ≡ (x, cs) → step u x ≡ Err e → Halts step u ds
+halts_err step ds {cs} {x} p q = λ y es t f g. let same : x ≡ y = same_token ds x y cs es p f in (cc)
 
 -- a text is read as one thing alone
 pub read_once : {S A : Type 0} (step : Step S A) {s : S} {bs : List ℕ} {a b : A} → IsRead step s bs a → IsRead step s bs b → a ≡ b
 read_once step {a = a} {b = b} (is_read {u = u} {ds = ds} h p q) (is_read {u = v} {ds = es} k f g) =
-    let same = agree step h k (halts_done step p q) (halts_done step f g) in
-    let state : u ≡ v = same.0 in cc
+    let state : u ≡ v = (agree step h k (halts_done step ds p q) (halts_done step es f g)).0 in cc
 
 -- what is read doesn't stop
 pub read_or_stopped : {S A : Type 0} (step : Step S A) {s : S} {bs ds : List ℕ} {a : A} {e : Expected} → IsRead step s bs a → ¬ (Stops step s bs ds e)
-read_or_stopped step (is_read {u = u} {ds = ds} h p q) (stops_at {u = v} {ds = es} k f g) =
-    let same = agree step h k (halts_done step p q) (halts_err step f g) in
+read_or_stopped step (is_read {u = u} {ds = ds} {cs = cs} h p q) (stops_at {u = v} {ds = es} {cs = cs'} {x = x} k f g) =
+    let same = agree step h k (halts_done step ds p q) (halts_err step es f g) in
     let state : u ≡ v = same.0 in
-    let rest : ds ≡ es = same.1 in cc
-read_or_stopped step (is_read {u = u} {ds = ds} h p q) (stops_behind {u = v} {ds = es} {x = x} {a = b} {e = e} k f g w) =
-    let same = agree step h k (halts_done step p q) (halts_done step f g) in
-    let rest : ds ≡ es = same.1 in
-    let last : x ≡ end = cc in
-    let whole : whole_text b end ≡ Err e = subst (λ z. whole_text b z ≡ Err e) last w in cc
+    let last : end ≡ x = same_token es end x cs cs' (subst (λ z. first z ≡ (end, cs)) same.1 p) f in cc
+read_or_stopped step (is_read {u = u} {ds = ds} {cs = cs} h p q) (stops_behind {u = v} {ds = es} {cs = cs'} {x = x} {a = b} {e = e} k f g w) =
+    let same = agree step h k (halts_done step ds p q) (halts_done step es f g) in
+    let last : end ≡ x = same_token es end x cs cs' (subst (λ z. first z ≡ (end, cs)) same.1 p) f in
+    let whole : whole_text b end ≡ Err e = subst (λ z. whole_text b z ≡ Err e) (sym last) w in cc
 
 -- what a text comes to is what it is read as
 pub parses_as : {S A B : Type 0} (step : Step S B) {s : S} {bs : List ℕ} (view : A → B) (r : Result A ParseError) (a : B) → Parses step s bs view r → IsRead step s bs a → Gives view r a
@@ -78,26 +82,26 @@ forward bs from at to x cs p q h k l n = ⊎_elim (λ (a : from < to). a) (λ (b
       let all : length bs ≤ at = ⊎_elim (λ (a : at < length bs). let m = l a in absurd (omega arith)) (λ (c : length bs ≤ at). c) (cases_lt at (length bs)) in
       let none : drop at bs ≡ [] = drop_of_length-le bs all in
       let last = nothing_left (drop from bs) (drop at bs) q none in
-      n (let same : x ≡ end = cc in same)
+      n (same_token (drop from bs) x end cs [] p last)
 
 -- ---- how reading ends
 
--- the text has ended behind what was read
-pub whole : {S A : Type 0} (step : Step S A) {s u : S} {bs ds cs : List ℕ} {a : A} (x : Lexeme) → Leads step s bs u ds → first ds ≡ (x, cs) → step u x ≡ Ok (done a) → whole_text tt x ≡ Ok tt → IsRead step s bs a
-whole step end h p q w = is_read h p q
-whole step _ h p q w = cc
-
-not_whole : {A : Type 0} (a : A) (x : Lexeme) (e : Expected) → whole_text tt x ≡ Err e → whole_text a x ≡ Err e
-not_whole a end e w = cc
-not_whole a (invalid inner) e w = let same : inner ≡ e = cc in ap Err same
-not_whole a _ e w = let same : TheEnd ≡ e = cc in ap Err same
-
 -- a token that is no part of what is read, at its place
-pub stops_here : {S A : Type 0} (step : Step S A) {s u : S} {bs cs : List ℕ} {x : Lexeme} {e : Expected} (from at : ℕ) → Leads step s bs u (drop from bs) → first (drop from bs) ≡ (x, cs) → step u x ≡ Err e
-    → drop at bs ≡ skip false (drop from bs) → Stops step s bs (drop at bs) e
-stops_here step {s} {u} {bs} {cs} {x} {e} from at h p q r = subst (λ ds. Stops step s bs ds e) (sym r) (stops_at h p q)
+pub stopped : {S A B T : Type 0} (step : Step S B) {s u : S} {bs cs : List ℕ} {x : Lexeme} (view : A → B) (other : T → Goes S B) (error : ParseError) (from at : ℕ)
+    → Leads step s bs u (drop from bs) → first (drop from bs) ≡ (x, cs) → ReadsAt at other (Err error) (step u x) → at ≤ length bs → drop at bs ≡ skip false (drop from bs)
+    → Parses step s bs view (Err error)
+stopped step view other OutOfMemory from at h p q l r = tt
+stopped step {s} {u} {bs} {cs} {x} view other (Unexpected place e) from at h p q l r =
+    let here : place ≡ at = q.0 in
+    (omega arith, subst (λ k. Stops step s bs (drop k bs) e) (sym here) (subst (λ ds. Stops step s bs ds e) (sym r) (stops_at h p q.1)))
 
--- a token behind what is read, at its place
-pub stops_after : {S A : Type 0} (step : Step S A) {s u : S} {bs cs : List ℕ} {x : Lexeme} {a : A} {e : Expected} (from at : ℕ) → Leads step s bs u (drop from bs) → first (drop from bs) ≡ (x, cs) → step u x ≡ Ok (done a)
-    → whole_text tt x ≡ Err e → drop at bs ≡ skip false (drop from bs) → Stops step s bs (drop at bs) e
-stops_after step {s} {u} {bs} {cs} {x} {a} {e} from at h p q w r = subst (λ ds. Stops step s bs ds e) (sym r) (stops_behind h p q (not_whole a x e w))
+-- what is read, where the text has ended behind it
+pub finished : {S A B : Type 0} (step : Step S B) {s u : S} {bs cs : List ℕ} (view : A → B) (r : Result A ParseError) (x : Lexeme) (a : B) (from at : ℕ)
+    → Leads step s bs u (drop from bs) → first (drop from bs) ≡ (x, cs) → step u x ≡ Ok (done a) → ReadsAt at view r (whole_text a x) → at ≤ length bs → drop at bs ≡ skip false (drop from bs)
+    → Parses step s bs view r
+finished step {s} {u} {bs} view (Ok y) end a from at h p q w l r = let same : a ≡ view y = cc in subst (λ b. IsRead step s bs b) same (is_read h p q)
+finished step view (Ok y) _ a from at h p q w l r = cc
+finished step view (Err OutOfMemory) x a from at h p q w l r = tt
+finished step {s} {u} {bs} {cs} view (Err (Unexpected place e)) x a from at h p q w l r =
+    let here : place ≡ at = w.0 in
+    (omega arith, subst (λ k. Stops step s bs (drop k bs) e) (sym here) (subst (λ ds. Stops step s bs ds e) (sym r) (stops_behind h p q w.1)))

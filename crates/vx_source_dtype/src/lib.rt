@@ -10,7 +10,7 @@ mod type_text;
 mod type_words;
 
 pub use names::{NameText, field_name, is_word, write_name, write_names, write_quoted};
-pub use parse::{DEFAULT_NESTING, ends, parse_type, parse_type_with};
+pub use parse::{DEFAULT_NESTING, parse_type, parse_type_with};
 pub use state::{expected, inside, refusal};
 pub use type_reader::length_of;
 pub use type_state::{FieldsSoFar, TypeFrame, TypeMode, TypeReader, TypeStep};

@@ -48,9 +48,9 @@ pub fn write_names<W: Write>(names: &[FieldName], f: &mut Formatter<W>) -> fmt::
 fn write_behind<W: Write>(names: &[FieldName], f: &mut Formatter<W>) -> fmt::Result
     ensures { WritesOnOk W.write_str_gives f.old result (names_behind names.now) f.new }
 {
-    for name in names {
+    for i in 0..names.len() {
         f.write_str(", ")?;
-        write_name(name, f)?;
+        write_name(&names[i], f)?;
     }
     Ok(())
 }

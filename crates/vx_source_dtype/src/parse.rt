@@ -44,23 +44,21 @@ fn read_type(alloc: Global, text: &str, nesting: usize) -> Result<DType, ParseEr
     let mut from = 0;
     loop {
         let found = first_token(alloc, text, from)?;
-        match reader.step(alloc, &found)? {
-            TypeStep::More(next) => reader = next,
-            TypeStep::Done(dtype) => {
-                ends(&found)?;
-                return Ok(dtype);
-            }
+        match reader.step(alloc, &found) {
+            Ok(TypeStep::More(next)) => reader = next,
+            Ok(TypeStep::Done(dtype)) => return whole(dtype, &found),
+            Err(error) => return Err(error),
         }
         from = found.end;
     }
 }
 
-/// Nothing where the text ends with the token, and else the token's refusal.
-pub fn ends(found: &Found) -> Result<(), ParseError>
-    ensures { ReadsAt found.now.at (λ u. u) result (whole_text tt (lexeme_of found.now.token)) }
+// The type that was read, where the text ends behind it.
+fn whole(dtype: DType, found: &Found) -> Result<DType, ParseError>
+    ensures { ReadsAt found.now.at type_of result (whole_text (type_of dtype) (lexeme_of found.now.token)) }
 {
     match &found.token {
-        Token::End => Ok(()),
+        Token::End => Ok(dtype),
         _ => Err(refusal(found, Expected::End)),
     }
 }

@@ -3,7 +3,7 @@ use Rattle.std.specs.Fmt.{HasWritten, IsPlainFormatter}
 use Rattle.vx_source_dtype.specs.Names.{names_behind}
 use Rattle.vx_source_dtype.proofs.names.write_behind.Given as goal
 
-abbrev pub invariant-loop-name : goal.invariant-loop-name
-invariant-loop-name g l =
+abbrev pub invariant-loop-i : goal.invariant-loop-i
+invariant-loop-i g l =
     IsPlainFormatter l.initial.f →
-    (before : List ℕ) × HasWritten g.W.Write.write_str_gives l.initial.f before l.f × (before ++ names_behind (drop l.name-index l.names) ≡ names_behind l.names)
+    (before : List ℕ) × HasWritten g.W.Write.write_str_gives l.initial.f before l.f × (before ++ names_behind (drop l.i l.names) ≡ names_behind l.names)
