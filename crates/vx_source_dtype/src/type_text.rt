@@ -89,12 +89,7 @@ fn write_fields<W: Write>(fields: &StructFields, f: &mut Formatter<W>) -> fmt::R
 
 // Writes the field of that index, its name and its type.
 #[cycle(write)]
-fn write_field<W: Write>(
-    i: usize,
-    name: &FieldName,
-    t: &DType,
-    f: &mut Formatter<W>,
-) -> fmt::Result
+fn write_field<W: Write>(i: usize, name: &FieldName, t: &DType, f: &mut Formatter<W>) -> fmt::Result
     ensures { WritesOnOk W.write_str_gives f.old result (field_source i name.now (type_of t.now)) f.new }
 {
     f.write_str(separator(i))?;

@@ -12,11 +12,7 @@ use vx_source_tokens::Expected;
 use vx_value::{Scalar, Value};
 
 /// The number with a type's name behind it, if it is in the type's range.
-pub fn number_literal(
-    negative: bool,
-    magnitude: Option<u64>,
-    suffix: &FieldName,
-) -> Option<Scalar>
+pub fn number_literal(negative: bool, magnitude: Option<u64>, suffix: &FieldName) -> Option<Scalar>
     ensures { result ≡ number_literal negative magnitude suffix.now }
 {
     ranged(negative, magnitude?, ptype_word(suffix)?)

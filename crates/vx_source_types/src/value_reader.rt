@@ -47,12 +47,7 @@ impl ValueReader {
     }
 }
 
-fn more(
-    frames: Vec<ValueFrame>,
-    mode: ValueMode,
-    names: Vec<FieldName>,
-    room: usize,
-) -> ValueStep
+fn more(frames: Vec<ValueFrame>, mode: ValueMode, names: Vec<FieldName>, room: usize) -> ValueStep
     ensures { step_of result ≡ more (record { frames = frames_of frames.items; mode = mode_of mode; names = names.items; room = room }) }
 {
     ValueStep::More(ValueReader {
@@ -76,11 +71,21 @@ fn begin(
     match &found.token {
         Token::Sign(Sign::OpenBracket) => {
             let less = inside(room, found)?;
-            Ok(more(frames, ValueMode::FirstItem(no_items(alloc, room)), names, less))
+            Ok(more(
+                frames,
+                ValueMode::FirstItem(no_items(alloc, room)),
+                names,
+                less,
+            ))
         }
         Token::Sign(Sign::OpenBrace) => {
             let less = inside(room, found)?;
-            Ok(more(frames, ValueMode::FirstField(no_items(alloc, room)), names, less))
+            Ok(more(
+                frames,
+                ValueMode::FirstField(no_items(alloc, room)),
+                names,
+                less,
+            ))
         }
         _ => begin_simple(frames, names, room, found),
     }

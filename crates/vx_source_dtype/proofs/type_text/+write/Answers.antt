@@ -1,9 +1,10 @@
-use Rattle.std.proofs.Common.{[], ◌++◌, length, ap, ◌∙◌, arith, refl}
+use Rattle.std.proofs.Common.{ℕ, ◌+◌, ◌*◌, ◌<◌, ◌≤◌, [], ◌++◌, length, ap, ◌∙◌, arith, refl, rules}
 use Rattle.std.proofs.Output.{has_written_append, has_written_of_eq, writes_in_calls_nil}
 use Rattle.vx_dtype.specs.Fields.{field_count}
-use Rattle.vx_dtype.specs.Views.{type_of, fields_view}
+use Rattle.vx_dtype.specs.Views.{type_of, fields_view, fields_of}
+use Rattle.vx_source_dtype.specs.Spelled.{type_nesting, fields_nesting}
 use Rattle.vx_source_dtype.specs.TypeTexts.{fields_source, field_source}
-use Rattle.vx_source_dtype.proofs.FieldSources.{fields_source_next, fields_source_all}
+use Rattle.vx_source_dtype.proofs.FieldSources.{fields_source_next, fields_source_all, field_nested}
 use Rattle.vx_source_dtype.proofs.type_text.+write.Goals as goal
 
 pub write_fields-loop-i-init : goal.write_fields-loop-i-init
@@ -28,3 +29,13 @@ write_fields-returns g t c = λ p q.
     let fields = ap (λ ns. fields_view ns c.types-types.result.now) names ∙ c.types-types.ensures.fields in
     let count = ap field_count fields in
     has_written_of_eq _ _ _ _ _ (fields_source_all c.as_slice-names.result.now c.types-types.result.now c.loop-i.i h.0 _ (omega arith) h.2) h.1
+
+pub write_fields-write_field-requires : goal.write_fields-write_field-requires
+write_fields-write_field-requires g t c =
+    let count = ap length c.as_slice-names.ensures in
+    let names = c.as_slice-names.ensures ∙ c.names.ensures.names in
+    let fields = ap (λ ns. fields_view ns c.types-types.result.now) names ∙ c.types-types.ensures.fields in
+    let nested : type_nesting (type_of c.index-types-i.result) ≤ fields_nesting (fields_of c.args.fields.now) =
+    field_nested c.as_slice-names.result.now c.types-types.result.now c.loop-i.i c.index-types-i.result _ (omega arith) (omega arith) c.index-types-i.is fields in
+    let smaller : 3 * type_nesting (type_of c.index-types-i.result) + 1 < 3 * fields_nesting (fields_of c.args.fields.now) + 2 = omega arith in
+    search rules
