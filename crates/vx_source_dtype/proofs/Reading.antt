@@ -33,7 +33,7 @@ agree : {S A : Type 0} (step : Step S A) {s u v : S} {bs ds es : List ℕ} → L
 agree step stays stays p q = (refl, refl)
 agree step stays (leads {t = t} {cs = cs} {x = x} e f h) p q = absurd (p x cs t e f)
 agree step (leads {t = t} {cs = cs} {x = x} e f h) stays p q = absurd (q x cs t e f)
-agree step {bs = bs} {v = v} {es = es} (leads {t = t} {cs = cs} {x = x} e f h) (leads {t = w} {cs = ds} {x = y} d g k) p q =
+agree step {v = v} {bs = bs} {es = es} (leads {t = t} {cs = cs} {x = x} e f h) (leads {t = w} {cs = ds} {x = y} d g k) p q =
     let same : x ≡ y = same_token bs x y cs ds e d in
     let next : w ≡ t = cc in
     let rest : ds ≡ cs = same_rest bs y x ds cs d e in

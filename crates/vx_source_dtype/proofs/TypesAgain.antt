@@ -85,8 +85,8 @@ length_again t k fs r rest h =
 
 closed_fixed : (t : LogicalType) (k : ℕ) (fs : List TypeFrame) (r : ℕ) (rest : List ℕ) → k < 2 ^ 32
     → Goes (at (in_fixed (suc r) ∷ fs) (read_mode t) r) (41 ∷ 91 ∷ (decimal k ++ 93 ∷ rest)) (at fs (unmarked (ty (fixed t k) false)) (suc r)) rest
-closed_fixed (ty s true) k fs r rest h = leads (first_close_paren _) refl (leads (first_open_bracket _) refl (length_again (ty s true) k fs (suc r) rest h))
-closed_fixed (ty s false) k fs r rest h = leads (first_close_paren _) refl (leads (first_open_bracket _) refl (length_again (ty s false) k fs (suc r) rest h))
+closed_fixed (ty s true) k fs r rest h = leads (first_close_paren (91 ∷ (decimal k ++ 93 ∷ rest))) refl (leads (first_open_bracket (decimal k ++ 93 ∷ rest)) refl (length_again (ty s true) k fs (suc r) rest h))
+closed_fixed (ty s false) k fs r rest h = leads (first_close_paren (91 ∷ (decimal k ++ 93 ∷ rest))) refl (leads (first_open_bracket (decimal k ++ 93 ∷ rest)) refl (length_again (ty s false) k fs (suc r) rest h))
 
 -- the struct of the fields
 abbrev ended : List TypeFrame → FieldsRead → TypeState
@@ -188,18 +188,18 @@ mutual
   shape_again (list t) fs zero rest u h e = absurd (omega arith)
   shape_again (list t) fs (suc r) rest u h e =
       of_text type_step (ap (λ xs. codes "list(" ++ xs) (append_assoc (type_source t) (codes ")") rest))
-      (leads refl refl (leads (first_open_paren _) refl (then type_step (type_again t (in_list (suc r) ∷ fs) r (41 ∷ rest) u (omega arith) refl) (closed_list t fs r rest))))
+      (leads refl refl (leads (first_open_paren (type_source t ++ 41 ∷ rest)) refl (then type_step (type_again t (in_list (suc r) ∷ fs) r (41 ∷ rest) u (omega arith) refl) (closed_list t fs r rest))))
   shape_again (fixed t k) fs zero rest u h e = absurd (omega arith)
   shape_again (fixed t k) fs (suc r) rest u h e =
       let grouped : (type_source t ++ (codes ")[" ++ (decimal k ++ codes "]"))) ++ rest ≡ type_source t ++ (41 ∷ 91 ∷ (decimal k ++ 93 ∷ rest)) = simp append_assoc in
       of_text type_step (ap (λ xs. codes "fixed_size_list(" ++ xs) grouped)
-      (leads refl refl (leads (first_open_paren _) refl (then type_step (type_again t (in_fixed (suc r) ∷ fs) r (41 ∷ 91 ∷ (decimal k ++ 93 ∷ rest)) u.1 (omega arith) refl) (closed_fixed t k fs r rest u.0))))
+      (leads refl refl (leads (first_open_paren (type_source t ++ (41 ∷ 91 ∷ (decimal k ++ 93 ∷ rest)))) refl (then type_step (type_again t (in_fixed (suc r) ∷ fs) r (41 ∷ 91 ∷ (decimal k ++ 93 ∷ rest)) u.1 (omega arith) refl) (closed_fixed t k fs r rest u.0))))
   shape_again (struct gs) fs zero rest u h e = absurd (omega arith)
   shape_again (struct gs) fs (suc r) rest u h e =
       let none : FieldsRead = record { names = []; types = []; room = suc r } in
       let grouped : (fields_source 0 gs ++ codes "}") ++ rest ≡ fields_source 0 gs ++ 125 ∷ rest = append_assoc (fields_source 0 gs) (codes "}") rest in
       of_text type_step (ap (λ xs. codes "{" ++ xs) grouped)
-      (leads (first_open_brace _) refl (to_state (ap (λ xs. at fs (unmarked (ty (struct xs) false)) (suc r)) (fields_again gs)) (first_again gs none fs r rest u (omega arith))))
+      (leads (first_open_brace (fields_source 0 gs ++ 125 ∷ rest)) refl (to_state (ap (λ xs. at fs (unmarked (ty (struct xs) false)) (suc r)) (fields_again gs)) (first_again gs none fs r rest u (omega arith))))
 
   -- all the fields of a struct
   first_again : (gs : Fields) (d : FieldsRead) (fs : List TypeFrame) (r : ℕ) (rest : List ℕ) → AreSpelled gs → fields_nesting gs ≤ r

@@ -13,7 +13,7 @@ pub use scalar_text::{ScalarText, write_scalar};
 pub use value_state::{Draft, ItemsSoFar, ValueFrame, ValueMode, ValueReader, ValueStep};
 pub use vx_source_dtype::{
     DEFAULT_NESTING, FieldsSoFar, NameText, TypeFrame, TypeMode, TypeReader, TypeStep, TypeText,
-    ends, expected, field_name, inside, is_word, length_of, parse_type, parse_type_with, refusal,
+    expected, field_name, inside, is_word, length_of, parse_type, parse_type_with, refusal,
     write_name, write_names, write_quoted, write_type,
 };
 pub use vx_source_tokens::{Expected, Found, ParseError, Sign, Token, first_token};

@@ -5,7 +5,7 @@ ghost use Rattle.vx_value.specs.Fits.{Fits};
 ghost use Rattle.vx_source_tokens.specs.declared.error.ParseError.TheVariants.{Unexpected};
 ghost use Rattle.vx_source_tokens.specs.declared.expected.Expected.TheVariants.{Number as ANumber};
 ghost use Rattle.vx_source_tokens.specs.Views.{lexeme_of};
-ghost use Rattle.vx_source_dtype.specs.Reading.{ReadsAt, IsRead, Gives};
+ghost use Rattle.vx_source_dtype.specs.Reading.{ReadsAt, whole_text, IsRead, Gives};
 ghost use Rattle.vx_source_dtype.specs.Spelled.{IsSpelled, type_nesting};
 ghost use Rattle.vx_source_types.specs.ScalarReading as reading;
 ghost use Rattle.vx_source_types.specs.ScalarReading.{ReadsFrom, ParsesWithin};
@@ -17,7 +17,7 @@ ghost use Rattle.vx_source_types.specs.ValueViews.{draft_of};
 use crate::literal::{number_literal, plain_literal, typed_literal};
 use crate::value_state::{Draft, ValueReader, ValueStep};
 use std::alloc::Global;
-use vx_source_dtype::{DEFAULT_NESTING, TypeReader, TypeStep, ends, expected, refusal};
+use vx_source_dtype::{DEFAULT_NESTING, TypeReader, TypeStep, expected, refusal};
 use vx_source_tokens::{Expected, Found, ParseError, Sign, Token, first_token};
 use vx_value::Scalar;
 
@@ -56,14 +56,22 @@ fn read_scalar(alloc: Global, text: &str, nesting: usize) -> Result<Scalar, Pars
         if let ScalarMode::Begin = mode {
             begun = found.at;
         }
-        match step(alloc, mode, nesting, begun, &found)? {
-            ScalarStep::More(next) => mode = next,
-            ScalarStep::Done(scalar) => {
-                ends(&found)?;
-                return Ok(scalar);
-            }
+        match step(alloc, mode, nesting, begun, &found) {
+            Ok(ScalarStep::More(next)) => mode = next,
+            Ok(ScalarStep::Done(scalar)) => return whole(scalar, &found),
+            Err(error) => return Err(error),
         }
         from = found.end;
+    }
+}
+
+// The scalar that was read, where the text ends behind it.
+fn whole(scalar: Scalar, found: &Found) -> Result<Scalar, ParseError>
+    ensures { ReadsAt found.now.at (λ c. c) result (whole_text scalar (lexeme_of found.now.token)) }
+{
+    match &found.token {
+        Token::End => Ok(scalar),
+        _ => Err(refusal(found, Expected::End)),
     }
 }
 
