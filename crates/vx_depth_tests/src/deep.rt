@@ -1,6 +1,10 @@
-# Trees of ten thousand levels, through each call that goes down a tree. The text of `display_tree` grows with the
-# square of the depth, so it isn't asked for here; walks and rewrites have tests.
+// Trees of ten thousand levels through each call that goes down a tree, as lines of a table. The text of
+// `display_tree` grows with the square of the depth, so it isn't asked for; walks and rewrites have
+// tests of their own.
+use std::test::Fail;
+use vx_test_judge::{Aim, Tally, judge_table};
 
+const DEEP: &str = r#"
 ## A truth turned ten thousand times
 scope | {m=bool?}
 batch | {true} {null}
@@ -104,3 +108,20 @@ replaced rows | " | [true, false]
 query | all fuse split | " | [true, false]
 planned paths | " | $.m
 scan | " | [true, false] : bool
+"#;
+
+#[test]
+fn ten_thousand_levels_go_through_each_call(rt: HostRuntime) -> Result<(), Fail> {
+    let mut tally = Tally::default();
+    judge_table(
+        rt.alloc(),
+        "deep",
+        DEEP,
+        Aim::Right,
+        &mut tally,
+        &mut rt.stdout(),
+    )?;
+    assert_eq!(rt; tally.rows, 80);
+    assert_eq!(rt; tally.failed, 0);
+    Ok(())
+}

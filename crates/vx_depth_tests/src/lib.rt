@@ -1,0 +1,5 @@
+// Tests of deep trees, which run as LLVM builds them.
+#![tactic(auto)]
+
+#[cfg(test)]
+mod deep;
