@@ -11,7 +11,7 @@ use Rattle.vx_walk.specs.declared.transformed.Transformed.{Transformed}
 use Rattle.vx_walk.specs.declared.siblings.Siblings.{Siblings}
 use Rattle.vx_walk.specs.Handed.{Back, in_front, looking, seen}
 use Rattle.vx_walk.specs.Orders.{GoesOn}
-use Rattle.vx_walk.specs.Mapping.{MappedAll, none, keep, next, fail, spent, RebuiltAs, MappedTo, refused, not_rebuilt, back}
+use Rattle.vx_walk.specs.Mapping.{MappedAll, none, keep, next, fail, spent, RebuiltAs, MappedBy, refused, not_rebuilt, back}
 use Rattle.vx_walk.specs.Siblings.{Pushed, seen_siblings, StepAt, stays, goes, not_cloned}
 
 -- ms, one of them changed where c, before what is handed back for the later ones
@@ -76,13 +76,13 @@ module _ {V N M : Type 0} (f : N → M) (C : V → M → Back M → V → Type 0
 -- ---- the node over its siblings
 
 -- the children were refused
-pub MappedTo-refused : {V M : Type 0} (B : M → List M → Result M VortexError → Type 0) (C : V → M → Back M → V → Type 0) (ns : List M) (n : M) (v w : V) (e : VortexError) → MappedAll C Continue v ns (Err e) w → MappedTo B C ns n v (Err e)
-MappedTo-refused B C ns n v w e k = refused k
+pub MappedBy-refused : {V M : Type 0} (B : M → List M → Result M VortexError → Type 0) (C : V → M → Back M → V → Type 0) (ns : List M) (n : M) (v w : V) (e : VortexError) → MappedAll C Continue v ns (Err e) w → MappedBy B C ns n v (Err e) w
+MappedBy-refused B C ns n v w e k = refused k
 
 -- the node was rebuilt, or stays
-pub MappedTo-rebuilt : {V N M : Type 0} (f : N → M) (B : M → List M → Result M VortexError → Type 0) (C : V → M → Back M → V → Type 0) (ns : List M) (n : M) (v w : V) (s : Siblings N) (result : Back N) → MappedAll C Continue v ns (seen_siblings f (Ok s)) w → IfOk result (λ t. (t.order ≡ s.order) × (t.changed ≡ s.changed) × RebuiltAs B n (map f s.handed_back.items) s.changed (Ok (f t.value))) → IfErr result (λ e. RebuiltAs B n (map f s.handed_back.items) s.changed (Err e)) → MappedTo B C ns n v (seen f result)
-MappedTo-rebuilt f B C ns n v w s (Ok t) k h q = rw (h.0, h.1) (back (f t.value) k h.2)
-MappedTo-rebuilt f B C ns n v w s (Err e) k h q = not_rebuilt k q
+pub MappedBy-rebuilt : {V N M : Type 0} (f : N → M) (B : M → List M → Result M VortexError → Type 0) (C : V → M → Back M → V → Type 0) (ns : List M) (n : M) (v w : V) (s : Siblings N) (result : Back N) → MappedAll C Continue v ns (seen_siblings f (Ok s)) w → IfOk result (λ t. (t.order ≡ s.order) × (t.changed ≡ s.changed) × RebuiltAs B n (map f s.handed_back.items) s.changed (Ok (f t.value))) → IfErr result (λ e. RebuiltAs B n (map f s.handed_back.items) s.changed (Err e)) → MappedBy B C ns n v (seen f result) w
+MappedBy-rebuilt f B C ns n v w s (Ok t) k h q = rw (h.0, h.1) (back (f t.value) k h.2)
+MappedBy-rebuilt f B C ns n v w s (Err e) k h q = not_rebuilt k q
 
 -- ---- places
 

@@ -1,11 +1,15 @@
 -- Trees as nodes: their children as a list, and their heights.
-use Rattle.std.specs.Prelude.{◌≡◌, ℕ, ◌+◌, ◌<◌, List, [], ◌∷◌, length, max, refl, slice_index_or, Result, Ok, Err, IsErr, IfOk, IfSome, IsTrue}
+use Rattle.std.specs.Prelude.{◌≡◌, ℕ, ◌+◌, ◌<◌, ◌==◌, Bool, true, false, if◌then◌else◌, List, [], ◌∷◌, length, max, refl, slice_index_or, Result, Ok, Err, IsErr, IfOk, IfSome, IsTrue}
 use Rattle.std.specs.List.{Contains}
-use Rattle.std.proofs.Common.{ap, subst, arith, suc, zero}
+use Rattle.std.proofs.Common.{ap, subst, ◌∙◌, arith, suc, zero}
 use Rattle.vx_dtype.specs.declared.error.VortexError.{VortexError}
+use Rattle.vx_dtype.specs.declared.error.VortexError.TheVariants.{ArityMismatch}
 use Rattle.vx_value.specs.Answers.{Answers, Exactly}
-use Rattle.vx_tree.specs.Trees.{Tree, root, call, Trees, no_tree, tree, BoundTree, scope, node, BoundTrees, no_bound, bound, unbound, unbound_each, WellTyped, EachWellTyped}
-use Rattle.vx_tree.specs.Nodes.{is_root, children_of, bound_children_of, tree_over, bound_over, number_refusal}
+use Rattle.vx_value.specs.Types.{LogicalType}
+use Rattle.vx_fn.specs.Functions.{Function, arity_of, fn_type}
+use Rattle.vx_tree.specs.Binding.{node_over}
+use Rattle.vx_tree.specs.Trees.{Tree, root, call, Trees, no_tree, tree, BoundTree, scope, node, BoundTrees, no_bound, bound, unbound, unbound_each, WellTyped, EachWellTyped, node_types, on_ok}
+use Rattle.vx_tree.specs.Nodes.{is_root, children_of, bound_children_of, count_of, tree_over, bound_over, number_refusal}
 use Rattle.vx_tree.specs.Views.{trees_from, bounds_from}
 
 -- the trees as a list
@@ -88,3 +92,34 @@ kids_are_lower_of_tree (call f es) k c = lower_at es k c.0 c.1 c.2
 pub kids_are_lower_of_bound : (m k : BoundTree) → Contains (bound_kids_of m) k → bound_height_of k < bound_height_of m
 kids_are_lower_of_bound (scope t) k c = absurd (omega (arith, c.1))
 kids_are_lower_of_bound (node t f bs) k c = bound_lower_at bs k c.0 c.1 c.2
+
+-- what is there if the test holds
+if_ok : {A : Type 0} {P : A → Type 0} (b : Bool) (x : A) (e : VortexError) → P x → IfOk (if b then Ok x else Err e) P
+if_ok true x e p = p
+if_ok false x e p = cc
+
+node_children : (e : Tree) (es : Trees) → IfOk (tree_over e es) (λ n. children_of n ≡ es)
+node_children root no_tree = refl
+node_children root (tree e es) = cc
+node_children (call f old) es = if_ok (count_of es == arity_of f) (call f es) (ArityMismatch (arity_of f) (count_of es)) refl
+
+typed_children : (f : Function) (bs : BoundTrees) (t : Result LogicalType VortexError) → IfOk (on_ok (λ t. Ok (node t f bs)) t) (λ n. bound_children_of n ≡ bs)
+typed_children f bs (Ok t) = refl
+typed_children f bs (Err e) = cc
+
+bound_node_children : (b : BoundTree) (bs : BoundTrees) → IfOk (bound_over b bs) (λ n. bound_children_of n ≡ bs)
+bound_node_children (scope t) no_bound = refl
+bound_node_children (scope t) (bound b bs) = cc
+bound_node_children (node t f old) bs = typed_children f bs (fn_type f (node_types bs))
+
+-- a tree that was rebuilt has exactly the children that it was given
+pub rebuilt_over_of_tree : (m n : Tree) (ks : List Tree) → RebuildsTree m ks (Ok n) → kids_of n ≡ ks
+rebuilt_over_of_tree m n ks r =
+    let e : children_of n ≡ trees_from ks = subst (λ a. IfOk a (λ n. children_of n ≡ trees_from ks)) r.node (node_children m (trees_from ks)) in
+    ap items_of e ∙ items-trees ks
+
+-- a bound tree that was rebuilt has exactly the children that it was given
+pub rebuilt_over_of_bound : (m n : BoundTree) (ks : List BoundTree) → RebuildsBound m ks (Ok n) → bound_kids_of n ≡ ks
+rebuilt_over_of_bound m n ks r =
+    let e : bound_children_of n ≡ bounds_from ks = subst (λ a. IfOk a (λ n. bound_children_of n ≡ bounds_from ks)) r.node (bound_node_children m (bounds_from ks)) in
+    ap bound_items_of e ∙ bound_items-bounds ks

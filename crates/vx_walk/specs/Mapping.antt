@@ -33,7 +33,11 @@ RebuiltAs B n ms true a = B n ms a
 RebuiltAs B n ms false a = a ≡ Ok n
 
 -- a node whose children were handed over and back, with the order of the last; rebuilt where one was changed
-pub data MappedTo {V M : Type 0} (B : M → List M → Result M VortexError → Type 0) (C : V → M → Back M → V → Type 0) (ns : List M) (n : M) (v : V) : Back M → Type 0 where
-  refused : {e : VortexError} {w : V} → MappedAll C Continue v ns (Err e) w → MappedTo B C ns n v (Err e)
-  not_rebuilt : {r : Transformed (List M)} {e : VortexError} {w : V} → MappedAll C Continue v ns (Ok r) w → RebuiltAs B n r.value r.changed (Err e) → MappedTo B C ns n v (Err e)
-  back : (m : M) {r : Transformed (List M)} {w : V} → MappedAll C Continue v ns (Ok r) w → RebuiltAs B n r.value r.changed (Ok m) → MappedTo B C ns n v (Ok (record { value = m; order = r.order; changed = r.changed }))
+pub data MappedBy {V M : Type 0} (B : M → List M → Result M VortexError → Type 0) (C : V → M → Back M → V → Type 0) (ns : List M) (n : M) (v : V) : Back M → V → Type 0 where
+  refused : {e : VortexError} {w : V} → MappedAll C Continue v ns (Err e) w → MappedBy B C ns n v (Err e) w
+  not_rebuilt : {r : Transformed (List M)} {e : VortexError} {w : V} → MappedAll C Continue v ns (Ok r) w → RebuiltAs B n r.value r.changed (Err e) → MappedBy B C ns n v (Err e) w
+  back : (m : M) {r : Transformed (List M)} {w : V} → MappedAll C Continue v ns (Ok r) w → RebuiltAs B n r.value r.changed (Ok m) → MappedBy B C ns n v (Ok (record { value = m; order = r.order; changed = r.changed })) w
+
+-- the same, whatever the mapper becomes
+abbrev pub MappedTo : {V M : Type 0} → (M → List M → Result M VortexError → Type 0) → (V → M → Back M → V → Type 0) → List M → M → V → Back M → Type 0
+MappedTo {V} B C ns n v a = (w : V) × MappedBy B C ns n v a w

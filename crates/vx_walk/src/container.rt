@@ -80,11 +80,12 @@ pub fn apply_ref_elements<T, C: NodeContainer<T>, F: FnMut(&T) -> VortexResult<T
     ensures visited { VisitedFrom (CalledAt F.FnMut) f (row (parts C.shape containers.now)) result }
     ensures each { Continues (CalledAt F.FnMut) → VisitsEach (CalledAt F.FnMut) f (elements (row (parts C.shape containers.now))) result }
 {
-    apply_each(containers, &mut f)
+    apply_ref_elements_with(containers, &mut f)
 }
 
-// Calls the visitor at the elements of the containers.
-pub(crate) fn apply_each<T, C: NodeContainer<T>, V: ElementVisitor<T>>(
+/// Calls the visitor at the elements of the containers, as [`apply_ref_elements`] calls a closure.
+/// The visitor then is where these calls, and no others, left it.
+pub fn apply_ref_elements_with<T, C: NodeContainer<T>, V: ElementVisitor<T>>(
     containers: &[C],
     visitor: &mut V,
 ) -> VortexResult<TraversalOrder>

@@ -4,7 +4,7 @@ ghost use Rattle.vx_tree.specs.Trees.{Tree};
 ghost use Rattle.vx_tree.specs.Views.{tree_of};
 ghost use Rattle.vx_walk.specs.Shapes.{box, element, inside, no_part, part, parts, rc, row, vector};
 
-use crate::container::apply_each;
+use crate::container::apply_ref_elements_with;
 use crate::{
     CloneContainer, ElementMapper, ElementVisitor, NodeContainer, Transformed, TraversalOrder,
 };
@@ -144,7 +144,7 @@ impl<T, C: NodeContainer<T> + Drop> NodeContainer<T> for Vec<C> {
     ghost shape = { λ v. inside vector (row (parts C.shape v.items)) };
 
     fn apply_with<V: ElementVisitor<T>>(&self, visitor: &mut V) -> VortexResult<TraversalOrder> {
-        apply_each(self.as_slice(), visitor)
+        apply_ref_elements_with(self.as_slice(), visitor)
     }
 
     fn map_with<V: ElementMapper<T>>(

@@ -18,7 +18,7 @@ mod trees;
 mod visit;
 
 pub use clone_container::CloneContainer;
-pub use container::{NodeContainer, apply_ref_elements};
+pub use container::{NodeContainer, apply_ref_elements, apply_ref_elements_with};
 pub use elements::{ElementMapper, ElementVisitor};
 pub use ext::NodeExt;
 pub use fold::{FoldDownContext, FoldUp, NodeFolderContext};

@@ -1,15 +1,15 @@
 // Nodes of trees.
-ghost use Rattle.std.specs.Prelude.{◌≡◌, ℕ, ◌<◌, List, length, Contains, map, Result};
+ghost use Rattle.std.specs.Prelude.{◌≡◌, ℕ, ◌<◌, List, length, Contains, map, Ok, Result};
 ghost use Rattle.std.specs.Fn.{CalledAt};
 ghost use Rattle.vx_dtype.specs.declared.error.VortexError.{VortexError};
 ghost use Rattle.vx_walk.specs.Handed.{seen, seen_node};
-ghost use Rattle.vx_walk.specs.Mapping.{AtOwned, MappedTo};
+ghost use Rattle.vx_walk.specs.Mapping.{AtOwned, MappedTo, MappedBy};
 ghost use Rattle.vx_walk.specs.Shapes.{element, parts, row};
-ghost use Rattle.vx_walk.specs.Visits.{VisitedFrom};
+ghost use Rattle.vx_walk.specs.Visits.{Visited, VisitedFrom};
 ghost use Rattle.vx_walk.specs.Walks.{At};
 
 use crate::siblings::{map_siblings, rebuild};
-use crate::{Transformed, TraversalOrder};
+use crate::{ElementMapper, ElementVisitor, Transformed, TraversalOrder};
 use std::alloc::Global;
 use vx_tree::VortexResult;
 
@@ -53,9 +53,22 @@ pub trait Node: Sized + Clone {
         requires { F.IsAlwaysCallable f }
         ensures { VisitedFrom (At mirror (CalledAt F.FnMut)) f (row (parts element (kids (mirror self.now)))) result }
     {
+        self.apply_children_with(&mut f)
+    }
+
+    /// Calls the visitor at the children, as [`Node::apply_children`] calls a closure. The visitor
+    /// then is where these calls, and no others, left it.
+    final fn apply_children_with<V: ElementVisitor<Self>>(
+        &self,
+        visitor: &mut V,
+    ) -> VortexResult<TraversalOrder>
+        requires { V.ready visitor.old }
+        ensures applied { Visited (At mirror V.gives) visitor.old (row (parts element (kids (mirror self.now)))) result visitor.new }
+        ensures ready { V.ready visitor.new }
+    {
         let mut order = TraversalOrder::Continue;
         for child in self.children_slice() {
-            order = f(child)?;
+            order = visitor.visit(child)?;
             if let TraversalOrder::Stop = order {
                 return Ok(TraversalOrder::Stop);
             }
@@ -76,12 +89,29 @@ pub trait Node: Sized + Clone {
         requires { F.IsAlwaysCallable f }
         ensures { MappedTo rebuild_gives (AtOwned mirror F.step) (kids (mirror self)) (mirror self) f (seen mirror result) }
     {
-        let siblings = map_siblings(alloc, self.children_slice(), &mut f)?;
+        self.map_children_with(alloc, &mut f)
+    }
+
+    /// Hands the children to the mapper, as [`Node::map_children`] hands them to a closure. The
+    /// mapper then is where these calls, and no others, left it.
+    final fn map_children_with<V: ElementMapper<Self>>(
+        self,
+        alloc: Global,
+        mapper: &mut V,
+    ) -> VortexResult<Transformed<Self>>
+        requires { V.ready mapper.old }
+        ensures mapped { MappedBy rebuild_gives (AtOwned mirror V.gives) (kids (mirror self)) (mirror self) mapper.old (seen mirror result) mapper.new }
+        ensures ready { V.ready mapper.new }
+    {
+        let siblings = map_siblings(alloc, self.children_slice(), mapper)?;
         rebuild(alloc, self, siblings)
     }
 
     /// A child is lower than its node.
     ghost kids_are_lower: { (m k : Mirror) → Contains (kids m) k → height k < height m };
+
+    /// A node that was rebuilt has exactly the children that it was given.
+    ghost rebuilt_over: { (m n : Mirror) (ks : List Mirror) → rebuild_gives m ks (Ok n) → kids n ≡ ks };
 
     /// A clone is equal to what it is a clone of.
     ghost clones_are_equal: { (n m : Self) → Self.is_clone n m → mirror m ≡ mirror n };

@@ -3,7 +3,7 @@ ghost use Rattle.std.specs.Prelude.{◌≡◌, map};
 ghost use Rattle.vx_tree.specs.Trees.{Tree, BoundTree};
 ghost use Rattle.vx_tree.specs.Views.{tree_of, bound_of};
 ghost use Rattle.vx_walk.specs.Handed.{seen_node};
-ghost use Rattle.vx_walk.specs.Heights.{kids_of, height_of, kids_are_lower_of_tree, RebuildsTree, bound_kids_of, bound_height_of, kids_are_lower_of_bound, RebuildsBound};
+ghost use Rattle.vx_walk.specs.Heights.{kids_of, height_of, kids_are_lower_of_tree, RebuildsTree, rebuilt_over_of_tree, bound_kids_of, bound_height_of, kids_are_lower_of_bound, RebuildsBound, rebuilt_over_of_bound};
 
 use crate::Node;
 use std::alloc::Global;
@@ -21,6 +21,8 @@ impl Node for Expression {
     ghost rebuild_gives = { RebuildsTree };
 
     ghost kids_are_lower = { kids_are_lower_of_tree };
+
+    ghost rebuilt_over = { rebuilt_over_of_tree };
 
     ghost clones_are_equal = { λ n m h. h };
 
@@ -47,6 +49,8 @@ impl Node for BoundExpression {
     ghost rebuild_gives = { RebuildsBound };
 
     ghost kids_are_lower = { kids_are_lower_of_bound };
+
+    ghost rebuilt_over = { rebuilt_over_of_bound };
 
     ghost clones_are_equal = { λ n m h. h };
 

@@ -1,6 +1,6 @@
 use Rattle.std.proofs.Common.{rules, ◌≡◌, Err}
 use Rattle.vx_walk.proofs.Calls.{Reached-at, Reached-next, Reached-stop, Reached-fail, Reached-end}
-use Rattle.vx_walk.proofs.container.apply_each.Goals as goal
+use Rattle.vx_walk.proofs.container.apply_ref_elements_with.Goals as goal
 
 pub returns-in_err-order-clause-applied : goal.returns-in_err-order-clause-applied
 returns-in_err-order-clause-applied g c =

@@ -1,7 +1,7 @@
 use Rattle.std.proofs.Common.{drop}
 use Rattle.vx_walk.specs.Shapes.{parts}
 use Rattle.vx_walk.proofs.Calls.{Reached}
-use Rattle.vx_walk.proofs.container.apply_each.Given as goal
+use Rattle.vx_walk.proofs.container.apply_ref_elements_with.Given as goal
 
 abbrev pub invariant-loop-container : goal.invariant-loop-container
 invariant-loop-container g l = record {
