@@ -94,14 +94,14 @@ kids_are_lower_of_bound (scope t) k c = absurd (omega (arith, c.1))
 kids_are_lower_of_bound (node t f bs) k c = bound_lower_at bs k c.0 c.1 c.2
 
 -- what is there if the test holds
-if_ok : {A : Type 0} {P : A → Type 0} (b : Bool) (x : A) (e : VortexError) → P x → IfOk (if b then Ok x else Err e) P
-if_ok true x e p = p
-if_ok false x e p = cc
+if_ok : {A : Type 0} (P : A → Type 0) (b : Bool) (x : A) (e : VortexError) → P x → IfOk (if b then Ok x else Err e) P
+if_ok P true x e p = p
+if_ok P false x e p = cc
 
 node_children : (e : Tree) (es : Trees) → IfOk (tree_over e es) (λ n. children_of n ≡ es)
 node_children root no_tree = refl
 node_children root (tree e es) = cc
-node_children (call f old) es = if_ok (count_of es == arity_of f) (call f es) (ArityMismatch (arity_of f) (count_of es)) refl
+node_children (call f old) es = if_ok (λ n. children_of n ≡ es) (count_of es == arity_of f) (call f es) (ArityMismatch (arity_of f) (count_of es)) refl
 
 typed_children : (f : Function) (bs : BoundTrees) (t : Result LogicalType VortexError) → IfOk (on_ok (λ t. Ok (node t f bs)) t) (λ n. bound_children_of n ≡ bs)
 typed_children f bs (Ok t) = refl
