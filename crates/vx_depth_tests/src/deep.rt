@@ -12,6 +12,7 @@ tree | m times(10000) not end
 type | " | bool?
 depth | " | 10002
 text length | " | 120003
+peeled text | 10000 | vortex.not( | ) | " | $.m
 equal | " | " | equal
 rows | " | [true, null]
 validity rows | " | [true, false]
@@ -39,6 +40,7 @@ depth | " | 10002
 text length | " | 100003
 equal | " | " | equal
 rows | " | [true, false]
+validity rows | " | [true, true]
 optimized or none | " | none
 by branches or none | " | none
 fused as | " | " | equal
@@ -57,14 +59,20 @@ tree | times(10001) m end times(10000) and end
 type | " | bool
 depth | " | 10002
 text length | " | 100003
+equal | " | " | equal
 rows | " | [true, false]
+validity rows | " | [true, true]
 optimized or none | " | none
+by branches or none | " | none
 fused as | " | " | equal
 paths | " | $.m
 size | " | 30002
 annotations | " | [m]
+covers | " | true
 split rows | " | [true, false]
+replaced rows | " | [true, false]
 query | all fuse split | " | [true, false]
+planned paths | " | $.m
 scan | " | [true, false] : bool
 
 ## Of an item of a pack, five thousand times over, the field is left
@@ -75,8 +83,11 @@ type | " | i32?
 depth | " | 10002
 equal | " | " | equal
 rows | " | [10i32, null]
+validity rows | " | [true, false]
+optimized at root | " | $.x
 optimized | " | $.x : i32?
 by branches | " | $.x : i32?
+passes | root all fuse branches | " | $.x : i32?
 fused as | " | " | equal
 paths | " | $.x
 size | " | 10002
@@ -86,6 +97,8 @@ split rows | " | [10i32, null]
 replaced | " | root: $.x.x_0 {x: pack(x_0: $.x)} : i32?
 query | all fuse split | " | [10i32, null]
 planned | " | $.x : i32?
+planned paths | " | $.x
+planned split | " | root: $.x.x_0 {x: pack(x_0: $.x)}
 scan | " | [10i32, null] : i32?
 
 ## A condition of a condition of a condition
@@ -96,6 +109,7 @@ type | " | bool
 depth | " | 10002
 equal | " | " | equal
 rows | " | [true, false]
+validity rows | " | [true, true]
 optimized or none | " | none
 by branches or none | " | none
 fused as | " | " | equal
@@ -121,7 +135,7 @@ fn ten_thousand_levels_go_through_each_call(rt: HostRuntime) -> Result<(), Fail>
         &mut tally,
         &mut rt.stdout(),
     )?;
-    assert_eq!(rt; tally.rows, 80);
+    assert_eq!(rt; tally.rows, 94);
     assert_eq!(rt; tally.failed, 0);
     Ok(())
 }

@@ -2,6 +2,7 @@
 ghost use Rattle.std.specs.Prelude.{◌≡◌, Some, codes, refl};
 ghost use Rattle.vx_rewrite_split.specs.Keys.{same_bytes};
 
+use crate::worked::tree;
 use std::alloc::Global;
 use std::fmt;
 use std::fmt::{Display, Formatter, Write};
@@ -10,9 +11,8 @@ use vx_rewrite::{
     Annotation, PartitionKey, direct_bound_annotations, partition_bound,
     partition_bound_annotations,
 };
-use vx_test_samples::{bound, i32_type, reads};
-use vx_tree::Nullability::NonNullable;
-use vx_tree::{BoundExpression, FieldName, ScalarFnRef, VortexError, VortexResult};
+use vx_test_samples::reads;
+use vx_tree::{BoundExpression, FieldName, VortexError, VortexResult};
 
 /// A key with a text of its own, and the field name that all keys have.
 #[derive(Clone, Debug, PartialEq, Eq, Hash, Drop)]
@@ -48,12 +48,14 @@ impl PartitionKey for Key {
     }
 }
 
-/// The text of the literal, nothing for another node.
+/// `t1` of the condition on b, `t2` of that on c, nothing of another node.
 fn key_of(alloc: Global, e: &BoundExpression) -> VortexResult<Vec<Key>> {
     let mut keys = Vec::new(alloc);
-    if let Some(ScalarFnRef::Literal(_)) = e.as_scalar() {
-        let text = format!(in alloc; "{e}")?;
-        keys.push(Key(FieldName::new(alloc, text.as_str())?))?;
+    if reads(e, "($.b < 5i32)") {
+        keys.push(Key(FieldName::new(alloc, "t1")?))?;
+    }
+    if reads(e, "($.c < 5i32)") {
+        keys.push(Key(FieldName::new(alloc, "t2")?))?;
     }
     Ok(keys)
 }
@@ -61,11 +63,12 @@ fn key_of(alloc: Global, e: &BoundExpression) -> VortexResult<Vec<Key>> {
 #[test]
 fn equal_pieces_are_two(rt: HostRuntime) -> Result<(), Fail> {
     let alloc = rt.alloc();
-    let e = bound(alloc, "true true and", &i32_type(NonNullable))?;
+    let e = tree(alloc, "b 5 < b 5 < and")?;
     let keys = |node: &BoundExpression| key_of(alloc, node);
     let annotations = direct_bound_annotations(alloc, &*e, keys).expect(&rt, "memory");
     let split = partition_bound_annotations(alloc, Box::into_inner(e), annotations);
-    let text = "root: ($.p.true_0 and $.p.true_1) {p: pack(true_0: true, true_1: true)}";
+    let text = "root: ($.p.t1_0 and $.p.t1_1) \
+                {p: pack(t1_0: ($.b < 5i32), t1_1: ($.b < 5i32))}";
     assert!(rt; matches!(&split, Ok(whole) if reads(whole, text)));
     Ok(())
 }
@@ -73,7 +76,7 @@ fn equal_pieces_are_two(rt: HostRuntime) -> Result<(), Fail> {
 #[test]
 fn a_name_is_taken_once(rt: HostRuntime) -> Result<(), Fail> {
     let alloc = rt.alloc();
-    let e = bound(alloc, "true false and", &i32_type(NonNullable))?;
+    let e = tree(alloc, "b 5 < c 5 < and")?;
     let keys = |node: &BoundExpression| key_of(alloc, node);
     let split = partition_bound(alloc, Box::into_inner(e), keys);
     assert!(rt; matches!(&split, Err(VortexError::PartitionNameTaken(p)) if p.as_str() == "p"));

@@ -1,4 +1,8 @@
 // A worked tree and its scope.
+ghost use Rattle.std.specs.Prelude.{IfOk};
+ghost use Rattle.vx_tree.specs.Trees.{WellTyped};
+ghost use Rattle.vx_tree.specs.Views.{bound_of};
+
 use std::alloc::Global;
 use std::test::Fail;
 use vx_test_samples::{Unread, bound, dtype};
@@ -14,6 +18,8 @@ pub fn scope(alloc: Global) -> Result<DType, Unread> {
 }
 
 /// The words over that scope.
-pub fn tree(alloc: Global, words: &str) -> Result<Box<BoundExpression>, Fail> {
+pub fn tree(alloc: Global, words: &str) -> Result<Box<BoundExpression>, Fail>
+    ensures { IfOk result (λ b. WellTyped (bound_of b.value)) }
+{
     Ok(bound(alloc, words, &scope(alloc)?)?)
 }

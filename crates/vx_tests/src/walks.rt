@@ -273,6 +273,7 @@ fn a_deep_tree_is_walked_and_folded(rt: HostRuntime) -> Result<(), Fail> {
     })?;
     assert!(rt; answer == Continue);
     assert_eq!(rt; nodes, 10_002);
+    assert!(rt; tree.contains::<GetItem>() && !tree.contains::<Binary>());
     finds(&rt, alloc, &*tree, "bool1")?;
     assert!(rt;
         matches!(

@@ -3,6 +3,7 @@ use crate::refusals::answered;
 use crate::trees::RANGE_OF_X;
 use std::alloc::Global;
 use std::fmt::Write;
+use std::process::Abort;
 use std::test::Fail;
 use vx_build::and_collect;
 use vx_test_samples::{boxed, dtype, reads};
@@ -38,24 +39,39 @@ fn bind_of_a_range(rt: HostRuntime) -> Result<(), Fail> {
     answered(&rt)
 }
 
-/// The fields `$.a` to `$.e`.
-fn five_fields(alloc: Global) -> Result<Vec<Expression>, Fail> {
+/// The fields of those names.
+fn fields(alloc: Global, names: &[&str]) -> Result<Vec<Expression>, Fail> {
     let mut items = Vec::new(alloc);
-    for name in ["a", "b", "c", "d", "e"] {
+    for name in names {
         items.push(Box::into_inner(boxed(alloc, name)?))?;
     }
     Ok(items)
 }
 
-#[test]
-fn and_collect_of_five_items(rt: HostRuntime) -> Result<(), Fail> {
-    let alloc = rt.alloc();
-    let items = five_fields(alloc)?;
+const NAMES: [&str; 5] = ["a", "b", "c", "d", "e"];
+
+/// Asserts what the fields of those names are collected to.
+fn collect(
+    rt: &(impl Abort + Print),
+    alloc: Global,
+    names: &[&str],
+    text: &str,
+) -> Result<(), Fail> {
+    let items = fields(alloc, names)?;
     rt.println("called")?;
     let collected = and_collect(alloc, items)?.ok_or("none")?;
-    let text = "((($.a and $.b) and ($.c and $.d)) and $.e)";
     assert!(rt; reads(&collected, text));
-    answered(&rt)
+    answered(rt)
+}
+
+#[test]
+fn and_collect_of_one_to_five_items(rt: HostRuntime) -> Result<(), Fail> {
+    let alloc = rt.alloc();
+    collect(&rt, alloc, &NAMES[..1], "$.a")?;
+    collect(&rt, alloc, &NAMES[..3], "(($.a and $.b) and $.c)")?;
+    collect(&rt, alloc, &NAMES[..4], "(($.a and $.b) and ($.c and $.d))")?;
+    let five = "((($.a and $.b) and ($.c and $.d)) and $.e)";
+    collect(&rt, alloc, &NAMES, five)
 }
 
 #[test]
