@@ -3,5 +3,5 @@ pub mod Monotone
 pub mod Sound
 pub mod Cases
 pub mod Patterns
-pub mod NameTexts
 pub mod Swaps
+pub mod Kleene

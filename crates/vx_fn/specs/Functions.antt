@@ -1,13 +1,14 @@
 -- The fifteen functions, and the type that each gives over its children's types.
-use Rattle.std.specs.Prelude.{ℕ, ◌+◌, ◌*◌, Bool, true, false, ◌&&◌, ◌||◌, ◌==◌, not, List, [], ◌∷◌, length, Option, Some, None, Result, Ok, Err, if◌then◌else◌, ok_or, codes}
+use Rattle.std.specs.Prelude.{ℕ, ◌+◌, ◌*◌, Bool, true, false, ◌&&◌, ◌||◌, ◌==◌, not, List, [], ◌∷◌, length, Option, Some, None, Result, Ok, Err, if◌then◌else◌, ok_or, option_map, codes}
 use Rattle.std.specs.List.{list_all}
+use Rattle.std.specs.Result.{result_map_both}
 use Rattle.vx_dtype.specs.declared.error.VortexError.{VortexError}
 use Rattle.vx_dtype.specs.declared.error.VortexError.TheVariants.{ArityMismatch, NotAStruct, NoSuchField, BaseTypesDiffer, NotBool, NotComparable, NotNumeric, NotText, NoPairs}
 use Rattle.vx_fn.specs.declared.options.FieldSelection.{FieldSelection}
 use Rattle.vx_value.specs.Answers.{known_or}
 use Rattle.vx_value.specs.Types.{Name, truth, number, text, LogicalType, ty, atomic, struct, Fields, Datum, is_nullable, with_nullability}
 use Rattle.vx_value.specs.Fits.{Fits}
-use Rattle.vx_value.specs.Joins.{same_base, union, union_all}
+use Rattle.vx_value.specs.Joins.{same_base, union, union_of}
 pub use Rattle.vx_fn.specs.Selections.{selection_names, is_inclusion}
 use Rattle.vx_fn.specs.Selections.{kept_names}
 use Rattle.vx_value.specs.Fields.{field_names, field_type, project, first_unknown, fields_named}
@@ -15,11 +16,11 @@ use Rattle.vx_value.specs.Fields.{field_names, field_type, project, first_unknow
 -- how two operands are compared
 pub data Comparison : Type 0 where
   equal : Comparison
-  different : Comparison
-  above : Comparison
-  at_least : Comparison
-  below : Comparison
-  at_most : Comparison
+  not_equal : Comparison
+  greater : Comparison
+  greater_or_equal : Comparison
+  less : Comparison
+  less_or_equal : Comparison
 
 -- what a binary function does with its operands
 pub data Operation : Type 0 where
@@ -38,7 +39,7 @@ pub data Function : Type 0 where
   fill_null : Function
   zip : Function
   binary : Operation → Function
-  negation : Function
+  logical_not : Function
   between : (lower_strict upper_strict : Bool) → Function
   like : (negated case_insensitive : Bool) → Function
   is_null : Function
@@ -48,12 +49,12 @@ pub data Function : Type 0 where
 
 -- the comparison for exchanged operands
 abbrev pub mirrored : Comparison → Comparison
-mirrored above = below
-mirrored at_least = at_most
-mirrored below = above
-mirrored at_most = at_least
+mirrored greater = less
+mirrored greater_or_equal = less_or_equal
+mirrored less = greater
+mirrored less_or_equal = greater_or_equal
 mirrored equal = equal
-mirrored different = different
+mirrored not_equal = not_equal
 
 -- the operation for exchanged operands
 abbrev pub swapped : Operation → Operation
@@ -126,16 +127,14 @@ is_atomic _ = false
 abbrev pub truth_type : Bool → LogicalType
 truth_type n = ty (atomic truth) n
 
--- a union that was found, made nullable
-abbrev pub made_nullable : Option LogicalType → Typing
-made_nullable None = Err BaseTypesDiffer
-made_nullable (Some w) = Ok (with_nullability true w)
+-- the type of a CASE whose values have that union: nullable where there is no ELSE
+abbrev pub with_else : Bool → LogicalType → LogicalType
+with_else true w = w
+with_else false w = with_nullability true w
 
--- the union of the branches, nullable where there is no ELSE
+-- the type of a CASE of these values, if they have a union
 abbrev pub case_union : Bool → List LogicalType → Typing
-case_union has_else [] = Err NoPairs
-case_union true (t ∷ ts) = ok_or (union_all t ts) BaseTypesDiffer
-case_union false (t ∷ ts) = made_nullable (union_all t ts)
+case_union has_else values = ok_or (option_map (with_else has_else) (union_of values)) BaseTypesDiffer
 
 -- of the children of a CASE, the conditions
 abbrev pub conditions : {A : Type 0} → List A → List A
@@ -193,7 +192,7 @@ selected selection fs = known_or (first_unknown (selection_names selection) fs) 
 
 -- the row of a selection of fields
 abbrev pub select_type : FieldSelection → LogicalType → Typing
-select_type selection (ty (struct fs) n) = known_or (first_unknown (selection_names selection) fs) (Ok (ty (struct (project (included selection fs) fs)) n))
+select_type selection (ty (struct fs) n) = result_map_both (λ kept. ty (struct kept) n) (λ refusal. refusal) (selected selection fs)
 select_type selection _ = Err NotAStruct
 
 -- the row of a comparison
@@ -262,7 +261,7 @@ fn_type (select selection) = of_one (select_type selection)
 fn_type fill_null = of_two fill_type
 fn_type zip = of_three zip_type
 fn_type (binary op) = of_two (binary_type op)
-fn_type negation = of_one not_type
+fn_type logical_not = of_one not_type
 fn_type (between lower_strict upper_strict) = of_three between_type
 fn_type (like negated case_insensitive) = of_two like_type
 fn_type is_null = of_one (λ t. Ok (truth_type false))
@@ -280,7 +279,7 @@ id_of (select selection) = codes "vortex.select"
 id_of fill_null = codes "vortex.fill_null"
 id_of zip = codes "vortex.zip"
 id_of (binary op) = codes "vortex.binary"
-id_of negation = codes "vortex.not"
+id_of logical_not = codes "vortex.not"
 id_of (between lower_strict upper_strict) = codes "vortex.between"
 id_of (like negated case_insensitive) = codes "vortex.like"
 id_of is_null = codes "vortex.is_null"

@@ -1,5 +1,5 @@
 -- The value of a function node at one row, from its children's values.
-use Rattle.std.specs.Prelude.{◌≡◌, ◌↔◌, ◌++◌, ℕ, Bool, true, false, ◌&&◌, ◌||◌, ◌==◌, not, List, [], ◌∷◌, ◌+ℤ◌, if◌then◌else◌, map, chars}
+use Rattle.std.specs.Prelude.{◌≡◌, ◌++◌, ℕ, Bool, true, false, ◌&&◌, ◌||◌, ◌==◌, not, List, [], ◌∷◌, ◌+ℤ◌, if◌then◌else◌, map, chars}
 use Rattle.std.specs.declared.cmp.Ordering.{Ordering}
 use Rattle.std.specs.declared.cmp.Ordering.TheVariants.{Equal}
 use Rattle.std.specs.Ordering.{is_lt, is_le, is_gt, is_ge, is_eq, is_ne, nat_cmp, int_cmp, bool_cmp}
@@ -7,7 +7,7 @@ use Rattle.std.specs.Char.{to_ascii_lowercase}
 use Rattle.std.specs.Cmp.Lexicographic.{slice_cmp}
 use Rattle.vx_value.specs.Types.{Name, LogicalType, ty, struct, Datum, null, bool, int, utf8, bytes, struct_of, is_null_datum}
 use Rattle.vx_value.specs.Fields.{field_value, project_values, data_of}
-use Rattle.vx_fn.specs.Functions.{Function, case_when, get_item, literal, pack, select, fill_null, zip, binary, negation, between, like, is_null, is_not_null, mask, cast, Operation, compares, and_also, or_else, adds, Comparison, equal, different, above, at_least, below, at_most, included}
+use Rattle.vx_fn.specs.Functions.{Function, case_when, get_item, literal, pack, select, fill_null, zip, binary, logical_not, between, like, is_null, is_not_null, mask, cast, Operation, compares, and_also, or_else, adds, Comparison, equal, not_equal, greater, greater_or_equal, less, less_or_equal, included}
 use Rattle.vx_fn.specs.declared.options.FieldSelection.{FieldSelection}
 
 -- whether the value is true
@@ -46,19 +46,19 @@ order _ _ = Equal
 -- whether the comparison holds of operands in that order
 abbrev pub agrees : Comparison → Ordering → Bool
 agrees equal = is_eq
-agrees different = is_ne
-agrees above = is_gt
-agrees at_least = is_ge
-agrees below = is_lt
-agrees at_most = is_le
+agrees not_equal = is_ne
+agrees greater = is_gt
+agrees greater_or_equal = is_ge
+agrees less = is_lt
+agrees less_or_equal = is_le
 
 -- null with a null operand, else whether the comparison holds
 abbrev pub compared : Comparison → Datum → Datum → Datum
 compared c v w = if is_null_datum v || is_null_datum w then null else bool (agrees c (order v w))
 
 -- the comparison of a bound, strict or not
-abbrev pub below_or : Bool → Comparison
-below_or strict = if strict then below else at_most
+abbrev pub bound_comparison : Bool → Comparison
+bound_comparison strict = if strict then less else less_or_equal
 
 -- the sum of two numbers, or null
 abbrev pub sum_of : Datum → Datum → Datum
@@ -84,12 +84,19 @@ parts true [] = just 92 ∷ []
 parts true (c ∷ cs) = just c ∷ parts false cs
 parts false (c ∷ cs) = if c == 92 then parts true cs else part_of c ∷ parts false cs
 
+-- the text is one that the parts spell, each part in its turn
+abbrev pub Matches : List Part → List ℕ → Type 0
+Matches [] cs = cs ≡ []
+Matches (any_text ∷ rest) cs = (front : List ℕ) × (back : List ℕ) × (cs ≡ front ++ back) × Matches rest back
+Matches (any_one ∷ rest) cs = (c : ℕ) × (back : List ℕ) × (cs ≡ c ∷ back) × Matches rest back
+Matches (just d ∷ rest) cs = (back : List ℕ) × (cs ≡ d ∷ back) × Matches rest back
+
 -- whether the test passes at the text after some front of it
 abbrev pub some_rest : (List ℕ → Bool) → List ℕ → Bool
 some_rest test [] = test []
 some_rest test (c ∷ cs) = test (c ∷ cs) || some_rest test cs
 
--- whether the parts spell the text
+-- whether the parts spell the text: the test that decides `Matches`
 abbrev pub matches : List Part → List ℕ → Bool
 matches [] [] = true
 matches [] (c ∷ cs) = false
@@ -103,7 +110,11 @@ matches (just d ∷ rest) (c ∷ cs) = (c == d) && matches rest cs
 abbrev pub folded : Bool → List ℕ → List ℕ
 folded ignore_case cs = if ignore_case then map to_ascii_lowercase cs else cs
 
--- whether the text matches the pattern
+-- the text is one that the pattern's parts spell
+abbrev pub IsLike : Bool → List ℕ → List ℕ → Type 0
+IsLike ignore_case t p = Matches (parts false (folded ignore_case (chars p))) (folded ignore_case (chars t))
+
+-- whether it is: the test that decides `IsLike`
 abbrev pub is_like : Bool → List ℕ → List ℕ → Bool
 is_like ignore_case t p = matches (parts false (folded ignore_case (chars p))) (folded ignore_case (chars t))
 
@@ -166,21 +177,10 @@ fn_value (select sel) ts = at_one (select_value sel ts)
 fn_value fill_null ts = at_two (λ v w. if is_null_datum v then w else v)
 fn_value zip ts = at_three (λ v w m. if is_true m then v else w)
 fn_value (binary op) ts = at_two (binary_value op)
-fn_value negation ts = at_one kleene_not
-fn_value (between ls us) ts = at_three (λ v l u. kleene_and (compared (below_or ls) l v) (compared (below_or us) v u))
+fn_value logical_not ts = at_one kleene_not
+fn_value (between ls us) ts = at_three (λ v l u. kleene_and (compared (bound_comparison ls) l v) (compared (bound_comparison us) v u))
 fn_value (like negated ci) ts = at_two (liked negated ci)
 fn_value is_null ts = at_one (λ v. bool (is_null_datum v))
 fn_value is_not_null ts = at_one (λ v. bool (not (is_null_datum v)))
 fn_value mask ts = at_two (λ v m. if is_true m then v else null)
 fn_value (cast t) ts = at_one (λ v. v)
-
--- the text is one that the parts spell, each part in its turn
-abbrev pub Matches : List Part → List ℕ → Type 0
-Matches [] cs = cs ≡ []
-Matches (any_text ∷ rest) cs = (front : List ℕ) × (back : List ℕ) × (cs ≡ front ++ back) × Matches rest back
-Matches (any_one ∷ rest) cs = (c : ℕ) × (back : List ℕ) × (cs ≡ c ∷ back) × Matches rest back
-Matches (just d ∷ rest) cs = (back : List ℕ) × (cs ≡ d ∷ back) × Matches rest back
-
--- the test by search and the relation by cuts are one
-abbrev pub MatchesIsDecided : Type 0
-MatchesIsDecided = (ps : List Part) (cs : List ℕ) → (matches ps cs ≡ true) ↔ Matches ps cs
