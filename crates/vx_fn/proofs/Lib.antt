@@ -4,4 +4,3 @@ pub mod Sound
 pub mod Cases
 pub mod Patterns
 pub mod Swaps
-pub mod Kleene

@@ -1,4 +1,5 @@
 pub mod Lists
+pub mod Counting
 pub mod Answered
 pub mod Joined
 pub mod Meant

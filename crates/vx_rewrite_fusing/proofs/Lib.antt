@@ -1,3 +1,4 @@
+pub mod Kleene
 pub mod Ands
 pub mod Comparisons
 pub mod Merges
