@@ -14,7 +14,6 @@ use Rattle.vx_dtype.specs.declared.dtype.DType.TheVariants as DType
 use Rattle.vx_dtype.specs.declared.dtype.Nullability.{Nullability}
 use Rattle.vx_dtype.specs.declared.dtype.StructFields.{StructFields}
 use Rattle.vx_value.specs.declared.value.Value.{Value}
-use Rattle.vx_value.specs.declared.value.Value.TheVariants.{Struct}
 use Rattle.vx_value.specs.Types.{Name, LogicalType, ty, struct, Datum, null, struct_of}
 use Rattle.vx_value.specs.Fields.{data_of, fields_named}
 use Rattle.vx_value.specs.Fits.{Fits, IsBatch, EachFits}
