@@ -6,9 +6,9 @@ use Rattle.vx_dtype.specs.declared.error.VortexError.TheVariants.{NoSuchField}
 use Rattle.vx_dtype.specs.Types.{Name, LogicalType, Fields, no_field, field}
 use Rattle.vx_dtype.specs.Joins.{join, join_fields}
 use Rattle.vx_dtype.specs.Fields.{field_count, field_type, put_field, first_unknown, project}
-use Rattle.std.specs.Prelude.{not}
+use Rattle.std.specs.Prelude.{not, is_some, true, false}
 use Rattle.vx_dtype.specs.Fields.{is_among, names_without, field_names}
-use Rattle.vx_dtype.proofs.Known.{first_unknown-filter, first_unknown-own}
+use Rattle.vx_dtype.proofs.Known.{known_by_type, first_unknown-filter, first_unknown-own}
 use Rattle.vx_dtype.specs.Answers.{known_or, projected, projected_without}
 use Rattle.vx_dtype.specs.Views.{type_of, fields_view}
 use Rattle.vx_dtype.proofs.Pairs.{fields_step, fields_end}
@@ -78,35 +78,26 @@ known names fs a t None gs = refl
 known names fs a t (Some b) gs = refl
 
 pub projected_known : (a : Name) (names : List Name) (fs : Fields) (t : LogicalType) → Some t ≡ field_type a fs → projected (a ∷ names) fs ≡ add_field a t (projected names fs)
-projected_known a names fs t e = rw (← e) (known names fs a t (first_unknown names fs) (project names fs))
+projected_known a names fs t e =
+    let there : is_among (field_names fs) a ≡ true = known_by_type a fs ∙ ap is_some (sym e) in
+    rw (there, ← e) (known names fs a t (first_unknown names fs) (project names fs))
 
 pub projected_unknown : (a : Name) (names : List Name) (fs : Fields) → None ≡ field_type a fs → projected (a ∷ names) fs ≡ Err (NoSuchField a)
-projected_unknown a names fs e = rw (← e)
+projected_unknown a names fs e = let missing : is_among (field_names fs) a ≡ false = known_by_type a fs ∙ ap is_some (sym e) in rw missing
 
 -- the fields found so far, and then the rest
 abbrev pub after : List Name → List DType → Result Fields VortexError → Result Fields VortexError
-after (a ∷ names) (t ∷ ts) r = add_field a (type_of t) (after names ts r)
-after _ _ r = r
+after names ts (Ok fs) = Ok (before names ts fs)
+after names ts (Err e) = Err e
 
 pub after_none : (names : List Name) (r : Result Fields VortexError) → after names [] r ≡ r
-after_none [] r = refl
-after_none (a ∷ names) r = refl
+after_none names (Ok fs) = ap Ok (before_none names fs)
+after_none names (Err e) = refl
 
 after_push : (names : List Name) (ts : List DType) (t : DType) (a : Name) (r : Result Fields VortexError) → length ts < length names
     → after names (ts ++ t ∷ []) r ≡ after names ts (add_field (get_or names (length ts) a) (type_of t) r)
-after_push [] ts t a r h = absurd (omega arith)
-after_push (b ∷ names) [] t a r h = ap (add_field b (type_of t)) (after_none names r)
-after_push (b ∷ names) (u ∷ ts) t a r h = ap (add_field b (type_of u)) (after_push names ts t a r (omega arith))
-
-after_ok : (names : List Name) (ts : List DType) → after names ts (Ok no_field) ≡ Ok (fields_view names ts)
-after_ok [] ts = refl
-after_ok (a ∷ names) [] = refl
-after_ok (a ∷ names) (t ∷ ts) = ap (add_field a (type_of t)) (after_ok names ts)
-
-after_err : (names : List Name) (ts : List DType) (e : VortexError) → after names ts (Err e) ≡ Err e
-after_err [] ts e = refl
-after_err (a ∷ names) [] e = refl
-after_err (a ∷ names) (t ∷ ts) e = ap (add_field a (type_of t)) (after_err names ts e)
+after_push names ts t a (Ok fs) h = ap Ok (before_push names ts t a fs h)
+after_push names ts t a (Err e) h = refl
 
 pub projected_next : (wanted : List Name) (fs : Fields) (found new : List DType) (i : ℕ) (w : Name) (t : LogicalType) (x : DType) (all : Result Fields VortexError)
     → length found ≡ i → i < length wanted → w ≡ get_or wanted i w → Some t ≡ field_type w fs → type_of x ≡ t → new ≡ found ++ x ∷ []
@@ -124,11 +115,11 @@ pub projected_stops : (wanted : List Name) (fs : Fields) (found : List DType) (i
     → i < length wanted → w ≡ get_or wanted i w → None ≡ field_type w fs → all ≡ after wanted found (projected (drop i wanted) fs) → all ≡ Err (NoSuchField w)
 projected_stops wanted fs found i w all h is here so_far =
     let step : projected (drop i wanted) fs ≡ Err (NoSuchField w) = rw (drop-cons wanted i w h, ← is) (projected_unknown w _ fs here) in
-    so_far ∙ ap (after wanted found) step ∙ after_err wanted found (NoSuchField w)
+    so_far ∙ ap (after wanted found) step
 
 pub projected_end : (wanted : List Name) (fs : Fields) (found : List DType) (i : ℕ) (all : Result Fields VortexError) → length wanted ≤ i
     → all ≡ after wanted found (projected (drop i wanted) fs) → all ≡ Ok (fields_view wanted found)
-projected_end wanted fs found i all h so_far = so_far ∙ rw (drop_of_length-le wanted h) (after_ok wanted found)
+projected_end wanted fs found i all h so_far = so_far ∙ rw (drop_of_length-le wanted h) (ap Ok (before_nothing wanted found))
 
 -- ---- names left out
 

@@ -1,22 +1,26 @@
 -- The text of a struct's fields, one at a time.
-use Rattle.std.proofs.Common.{◌≡◌, ℕ, ◌+◌, ◌<◌, ◌≤◌, List, ◌++◌, length, get_or, drop, sym, ap, ◌∙◌, add-one, append_assoc, append-nil}
+use Rattle.std.proofs.Common.{◌≡◌, ℕ, ◌+◌, ◌<◌, ◌≤◌, List, [], ◌++◌, length, get_or, drop, codes, sym, ap, ◌∙◌}
+use Rattle.std.specs.Prelude.{◌==◌, if◌then◌else◌}
 use Rattle.vx_dtype.specs.declared.dtype.DType.{DType}
 use Rattle.vx_dtype.specs.Types.{Name}
 use Rattle.vx_dtype.specs.Fields.{field_count}
-use Rattle.vx_dtype.specs.Texts.{fields_text, field_text}
+use Rattle.vx_dtype.specs.Texts.{field_texts, type_text}
 use Rattle.vx_dtype.specs.Views.{type_of, fields_view}
+use Rattle.vx_dtype.proofs.Commas.{behind, written_next, written_all}
 use Rattle.vx_dtype.proofs.Pairs.{fields_next, fields_end}
 
-pub fields_text_next : (names : List Name) (types : List DType) (i : ℕ) (a : Name) (t : DType) (before all : List ℕ) → i < length names → i < length types
-    → a ≡ get_or names i a → t ≡ get_or types i t
-    → before ++ fields_text i (fields_view (drop i names) (drop i types)) ≡ all
-    → (before ++ field_text i a (type_of t)) ++ fields_text (i + 1) (fields_view (drop (i + 1) names) (drop (i + 1) types)) ≡ all
-fields_text_next names types i a t before all h k p q e =
-    let rest = fields_text (i + 1) (fields_view (drop (i + 1) names) (drop (i + 1) types)) in
-    let here : fields_text i (fields_view (drop i names) (drop i types)) ≡ field_text i a (type_of t) ++ rest =
-    ap (fields_text i) (fields_next names types i a t h k p q) ∙ rw add-one (simp append_assoc) in
-    append_assoc before (field_text i a (type_of t)) rest ∙ ap (λ r. before ++ r) (sym here) ∙ e
+-- the texts of the fields from the i-th on
+abbrev pub texts_from : ℕ → List Name → List DType → List (List ℕ)
+texts_from i names types = field_texts (fields_view (drop i names) (drop i types))
 
-pub fields_text_all : (names : List Name) (types : List DType) (i : ℕ) (before all : List ℕ) → field_count (fields_view names types) ≤ i
-    → before ++ fields_text i (fields_view (drop i names) (drop i types)) ≡ all → before ≡ all
-fields_text_all names types i before all h e = sym (append-nil before) ∙ ap (λ fs. before ++ fields_text i fs) (sym (fields_end names types i h)) ∙ e
+pub field_texts_next : (names : List Name) (types : List DType) (i : ℕ) (a : Name) (t : DType) (done separator all : List ℕ) → i < length names → i < length types
+    → a ≡ get_or names i a → t ≡ get_or types i t → separator ≡ (if i == 0 then [] else codes ", ")
+    → done ++ behind i (texts_from i names types) ≡ all
+    → ((done ++ separator) ++ (a ++ (codes "=" ++ type_text (type_of t)))) ++ behind (i + 1) (texts_from (i + 1) names types) ≡ all
+field_texts_next names types i a t done separator all h k p q s e =
+    let here = ap (λ fs. done ++ behind i (field_texts fs)) (fields_next names types i a t h k p q) in
+    written_next i done separator _ all _ s (sym here ∙ e)
+
+pub field_texts_all : (names : List Name) (types : List DType) (i : ℕ) (done all : List ℕ) → field_count (fields_view names types) ≤ i
+    → done ++ behind i (texts_from i names types) ≡ all → done ≡ all
+field_texts_all names types i done all h e = written_all i done all (ap (λ fs. done ++ behind i (field_texts fs)) (sym (fields_end names types i h)) ∙ e)

@@ -1,6 +1,9 @@
+pub mod Lists
 pub mod Pairs
+pub mod NameTests
 pub mod Known
 pub mod Built
+pub mod Commas
 pub mod FieldTexts
 pub mod Unions
 pub mod FirstPlaces

@@ -32,7 +32,7 @@ field_count_view [] types = omega arith
 field_count_view (a ∷ names) [] = omega arith
 field_count_view (a ∷ names) (t ∷ types) = let e = field_count_view names types in omega arith
 
-min_cases : (m n i : ℕ) → min m n ≤ i → (m ≤ i) ⊎ (n ≤ i)
+pub min_cases : (m n i : ℕ) → min m n ≤ i → (m ≤ i) ⊎ (n ≤ i)
 min_cases m n i h = ⊎_elim (λ (a : m < n). inl (omega arith)) (λ (b : n ≤ m). inr (omega arith)) (cases_lt m n)
 
 pub fields_end : (names : List Name) (types : List DType) (i : ℕ) → field_count (fields_view names types) ≤ i → fields_view (drop i names) (drop i types) ≡ no_field

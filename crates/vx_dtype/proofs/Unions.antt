@@ -6,7 +6,7 @@ use Rattle.std.proofs.lemmas.Bool.Decides.{Decides-eqb}
 use Rattle.std.proofs.lemmas.Slice.Eq.{bytes_eq-Decides}
 use Rattle.vx_dtype.specs.Types.{Atomic, same_atomic, LogicalType, ty, Shape, atomic, list, fixed, struct, Fields, no_field, field}
 use Rattle.vx_dtype.specs.Joins.{same_base, same_base_shape, same_base_fields, join, join_shape, join_fields, union, Narrower, narrower, NarrowerShape, same_atomic_shape, narrower_list, narrower_fixed, narrower_struct, NarrowerFields, no_fields, narrower_field}
-use Rattle.vx_dtype.specs.Equality.{same_atomic-Decides}
+use Rattle.vx_dtype.specs.Deciding.{same_atomic-Decides}
 
 -- kinds that pass the test are the same
 pub same_atomic-eq : (p q : Atomic) → same_atomic p q ≡ true → p ≡ q

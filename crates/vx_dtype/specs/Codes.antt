@@ -1,4 +1,4 @@
--- A code of types, so that they may be what a `Model` shows.
+-- Scaffolding: a code of types, so that they may be what a `Model` shows.
 use Rattle.std.specs.Prelude.{◌≡◌, refl}
 use Rattle.std.specs.Coded.{Coded, coded_ℕ, coded_bool, coded_list}
 use Rattle.std.proofs.Common.{ap}

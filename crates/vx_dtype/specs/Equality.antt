@@ -1,34 +1,8 @@
 -- When two types are equal, as tests that decide `≡`.
-use Rattle.std.specs.Prelude.{◌≡◌, Bool, true, false, ◌&&◌, ◌==◌, refl}
-use Rattle.std.specs.Bool.{Decides, beq}
-use Rattle.std.specs.Cmp.{IsEquivalence, booleans_Decides}
+use Rattle.std.specs.Prelude.{Bool, true, false, ◌&&◌, ◌==◌}
+use Rattle.std.specs.Bool.{beq}
 use Rattle.std.specs.Str.{bytes_eq}
-use Rattle.std.proofs.Common.{ap, sym, true≢false}
-use Rattle.std.proofs.lemmas.Slice.Eq.{bytes_eq-Decides}
-use Rattle.std.proofs.lemmas.Bool.Decides.{Decides-eqb, Decides-and, Decides-like, same_from_decides}
-use Rattle.vx_dtype.specs.declared.dtype.PType.{PType}
-use Rattle.vx_dtype.specs.declared.dtype.PType.TheVariants.{U8, U16, U32, U64, I8, I16, I32, I64}
-use Rattle.vx_dtype.specs.Types.{same_ptype, Atomic, truth, number, text, octets, same_atomic, LogicalType, ty, Shape, atomic, list, fixed, struct, Fields, no_field, field}
-
--- ---- tests that decide `≡`
-
--- false decides what can't be
-pub apart : {A : Type 0} {x y : A} → (x ≡ y → ⊥) → Decides false (x ≡ y)
-apart h = (λ e. absurd (true≢false (sym e)), λ e. absurd (h e))
-
--- true decides that a thing is itself
-pub itself : {A : Type 0} {x : A} → Decides true (x ≡ x)
-itself = (λ e. refl, λ e. refl)
-
--- a test that decides `≡` is an equivalence
-pub equivalence_of : {A : Type 0} {E : A → A → Bool} → ((x y : A) → Decides (E x y) (x ≡ y)) → IsEquivalence E
-equivalence_of d = record {
-  refl = λ x. (d x x).1 refl;
-  symm = λ x y. same_from_decides _ _ (d x y) (Decides-like _ sym sym (d y x));
-  congr = λ x y z h. let e = (d x y).0 h in cc;
-}
-
--- ---- types
+use Rattle.vx_dtype.specs.Types.{same_atomic, LogicalType, ty, Shape, atomic, list, fixed, struct, Fields, no_field, field}
 
 -- whether two types are the same, nullability and names included
 abbrev mutual
@@ -48,51 +22,3 @@ abbrev mutual
   equal_fields no_field no_field = true
   equal_fields (field a t fs) (field b u gs) = bytes_eq a b && (equal_type t u && equal_fields fs gs)
   equal_fields _ _ = false
-
--- the test says whether two number types are the same
-pub same_ptype-Decides : (p q : PType) → Decides (same_ptype p q) (p ≡ q)
-same_ptype-Decides U8 U8 = itself
-same_ptype-Decides U16 U16 = itself
-same_ptype-Decides U32 U32 = itself
-same_ptype-Decides U64 U64 = itself
-same_ptype-Decides I8 I8 = itself
-same_ptype-Decides I16 I16 = itself
-same_ptype-Decides I32 I32 = itself
-same_ptype-Decides I64 I64 = itself
-same_ptype-Decides _ _ = apart (λ e. cc)
-
--- the test says whether two such kinds are the same
-pub same_atomic-Decides : (p q : Atomic) → Decides (same_atomic p q) (p ≡ q)
-same_atomic-Decides truth truth = itself
-same_atomic-Decides (number p) (number q) = Decides-like _ (λ e. ap number e) (λ e. cc) (same_ptype-Decides p q)
-same_atomic-Decides text text = itself
-same_atomic-Decides octets octets = itself
-same_atomic-Decides _ _ = apart (λ e. cc)
-
--- the test says whether two types are the same
-mutual
-  pub equal_type-Decides : (t u : LogicalType) → Decides (equal_type t u) (t ≡ u)
-  equal_type-Decides (ty s n) (ty r m) = Decides-like _ (λ e. cc) (λ e. (cc, cc)) (Decides-and _ _ (booleans_Decides n m) (equal_shape-Decides s r))
-
-  -- the test says whether two shapes are the same
-  pub equal_shape-Decides : (s r : Shape) → Decides (equal_shape s r) (s ≡ r)
-  equal_shape-Decides (atomic p) (atomic q) = Decides-like _ (λ e. ap atomic e) (λ e. cc) (same_atomic-Decides p q)
-  equal_shape-Decides (list t) (list u) = Decides-like _ (λ e. ap list e) (λ e. cc) (equal_type-Decides t u)
-  equal_shape-Decides (fixed t k) (fixed u l) = Decides-like _ (λ e. cc) (λ e. (cc, cc)) (Decides-and _ _ (Decides-eqb k l) (equal_type-Decides t u))
-  equal_shape-Decides (struct fs) (struct gs) = Decides-like _ (λ e. ap struct e) (λ e. cc) (equal_fields-Decides fs gs)
-  equal_shape-Decides _ _ = apart (λ e. cc)
-
-  -- the test says whether the fields of two structs are the same
-  pub equal_fields-Decides : (fs gs : Fields) → Decides (equal_fields fs gs) (fs ≡ gs)
-  equal_fields-Decides no_field no_field = itself
-  equal_fields-Decides (field a t fs) (field b u gs) =
-      Decides-like _ (λ e. cc) (λ e. (cc, (cc, cc))) (Decides-and _ _ (bytes_eq-Decides a b) (Decides-and _ _ (equal_type-Decides t u) (equal_fields-Decides fs gs)))
-  equal_fields-Decides _ _ = apart (λ e. cc)
-
--- the test of types is an equivalence
-pub equal_type_equiv : IsEquivalence equal_type
-equal_type_equiv = equivalence_of equal_type-Decides
-
--- the test of fields is an equivalence
-pub equal_fields_equiv : IsEquivalence equal_fields
-equal_fields_equiv = equivalence_of equal_fields-Decides

@@ -1,5 +1,5 @@
 -- Fields of structs by name: the first field of a name is meant everywhere.
-use Rattle.std.specs.Prelude.{ℕ, ◌+◌, Bool, List, [], ◌∷◌, Option, Some, None, is_some, if◌then◌else◌, filter, not}
+use Rattle.std.specs.Prelude.{ℕ, ◌+◌, Bool, List, [], ◌∷◌, Option, Some, None, if◌then◌else◌, filter, find, not}
 use Rattle.std.specs.List.{list_any}
 use Rattle.std.specs.Str.{bytes_eq}
 use Rattle.vx_dtype.specs.Types.{Name, LogicalType, Fields, no_field, field}
@@ -22,6 +22,10 @@ is_among names a = list_any (bytes_eq a) names
 abbrev pub names_without : List Name → List Name → List Name
 names_without left_out names = filter (λ a. not (is_among left_out a)) names
 
+-- the first of the names that isn't among those
+abbrev pub first_missing : List Name → List Name → Option Name
+first_missing available names = find (λ a. not (is_among available a)) names
+
 -- how many fields there are
 abbrev pub field_count : Fields → ℕ
 field_count no_field = 0
@@ -39,8 +43,7 @@ project (a ∷ names) fs = put_field a (field_type a fs) (project names fs)
 
 -- the first of the names that no field has
 abbrev pub first_unknown : List Name → Fields → Option Name
-first_unknown [] fs = None
-first_unknown (a ∷ names) fs = if is_some (field_type a fs) then first_unknown names fs else Some a
+first_unknown names fs = first_missing (field_names fs) names
 
 -- each name with the type beside it, as long as both last
 abbrev pub fields_named : List Name → List LogicalType → Fields

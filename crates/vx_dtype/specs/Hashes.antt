@@ -1,9 +1,8 @@
 -- What a type feeds to a hasher, so that equal ones are hashed alike.
 use Rattle.std.specs.Prelude.{◌++◌}
-use Rattle.std.specs.Hash.{HashWrites, Alike, same_Alike}
+use Rattle.std.specs.Hash.{HashWrites}
 use Rattle.std.specs.Hash as fed
 use Rattle.vx_dtype.specs.Types.{ptype_index, Atomic, truth, number, text, octets, LogicalType, ty, Shape, atomic, list, fixed, struct, Fields, no_field, field}
-use Rattle.vx_dtype.specs.Equality.{equal_type, equal_type-Decides, equal_fields, equal_fields-Decides}
 
 -- such a kind is hashed as its number and what it holds
 abbrev pub atomic_fed : Atomic → HashWrites
@@ -28,11 +27,3 @@ abbrev mutual
   pub fields_fed : Fields → HashWrites
   fields_fed no_field = fed.u8 0
   fields_fed (field a t fs) = fed.u8 1 ++ (fed.str a ++ (type_fed t ++ fields_fed fs))
-
--- equal types are hashed alike
-pub type_alike : Alike equal_type type_fed
-type_alike = same_Alike type_fed equal_type-Decides
-
--- equal fields are hashed alike
-pub fields_alike : Alike equal_fields fields_fed
-fields_alike = same_Alike fields_fed equal_fields-Decides

@@ -1,6 +1,7 @@
 -- How two types relate: equal but for nullability, joined, one narrower than the other.
 use Rattle.std.specs.Prelude.{ℕ, Bool, true, false, ◌&&◌, ◌||◌, ◌==◌, List, [], ◌∷◌, Option, Some, None, option_and_then, if◌then◌else◌, IsTrue}
 use Rattle.std.specs.Str.{bytes_eq}
+use Rattle.vx_dtype.specs.Lists.{Beside}
 use Rattle.vx_dtype.specs.Types.{Name, Atomic, same_atomic, LogicalType, ty, Shape, atomic, list, fixed, struct, Fields, no_field, field}
 
 -- whether two types differ in nullability alone, at every level
@@ -48,6 +49,11 @@ abbrev pub union_all : LogicalType → List LogicalType → Option LogicalType
 union_all t [] = Some t
 union_all t (u ∷ us) = option_and_then (λ w. union_all w us) (union t u)
 
+-- the union of types, if there is one and a type of which it is
+abbrev pub union_of : List LogicalType → Option LogicalType
+union_of [] = None
+union_of (t ∷ ts) = union_all t ts
+
 -- the same type, but that the second may be nullable at more places
 mutual
   pub data Narrower : LogicalType → LogicalType → Type 0 where
@@ -66,6 +72,5 @@ mutual
     narrower_field : {a : Name} {t u : LogicalType} {fs gs : Fields} → Narrower t u → NarrowerFields fs gs → NarrowerFields (field a t fs) (field a u gs)
 
 -- each type is narrower than the one beside it
-pub data NarrowerEach : List LogicalType → List LogicalType → Type 0 where
-  no_types : NarrowerEach [] []
-  narrower_more : {t u : LogicalType} {ts us : List LogicalType} → Narrower t u → NarrowerEach ts us → NarrowerEach (t ∷ ts) (u ∷ us)
+abbrev pub NarrowerEach : List LogicalType → List LogicalType → Type 0
+NarrowerEach = Beside Narrower

@@ -1,3 +1,4 @@
+pub mod Lists
 pub mod Types
 pub mod Joins
 pub mod Fields
@@ -6,5 +7,6 @@ pub mod Views
 pub mod Answers
 pub mod Equality
 pub mod Hashes
+pub mod Deciding
 pub mod Codes
 pub mod Texts

@@ -1,9 +1,14 @@
--- The text of a type.
-use Rattle.std.specs.Prelude.{ℕ, zero, suc, Bool, true, false, List, [], ◌++◌, codes}
+-- Texts with commas between them, and the text of a type.
+use Rattle.std.specs.Prelude.{ℕ, Bool, true, false, List, [], ◌∷◌, ◌++◌, codes}
 use Rattle.std.specs.Fmt.{decimal}
+use Rattle.std.specs.List.{join_by}
 use Rattle.vx_dtype.specs.declared.dtype.PType.{PType}
 use Rattle.vx_dtype.specs.declared.dtype.PType.TheVariants.{U8, U16, U32, U64, I8, I16, I32, I64}
-use Rattle.vx_dtype.specs.Types.{Name, Atomic, truth, number, text, octets, LogicalType, ty, Shape, atomic, list, fixed, struct, Fields, no_field, field}
+use Rattle.vx_dtype.specs.Types.{Atomic, truth, number, text, octets, LogicalType, ty, Shape, atomic, list, fixed, struct, Fields, no_field, field}
+
+-- the texts, joined by `, `
+abbrev pub with_commas : List (List ℕ) → List ℕ
+with_commas = join_by (λ t. t) (codes ", ")
 
 -- a question mark where the type is nullable
 abbrev pub mark : Bool → List ℕ
@@ -28,11 +33,6 @@ atomic_text (number p) = ptype_text p
 atomic_text text = codes "utf8"
 atomic_text octets = codes "binary"
 
--- a comma before each field but the first
-abbrev pub separator_at : ℕ → List ℕ
-separator_at zero = []
-separator_at (suc i) = codes ", "
-
 -- the text of a type: that of its shape, marked where it is nullable
 abbrev mutual
   pub type_text : LogicalType → List ℕ
@@ -43,13 +43,9 @@ abbrev mutual
   shape_text (atomic p) = atomic_text p
   shape_text (list t) = codes "list(" ++ (type_text t ++ codes ")")
   shape_text (fixed t k) = codes "fixed_size_list(" ++ (type_text t ++ (codes ")[" ++ (decimal k ++ codes "]")))
-  shape_text (struct fs) = codes "{" ++ (fields_text 0 fs ++ codes "}")
+  shape_text (struct fs) = codes "{" ++ (with_commas (field_texts fs) ++ codes "}")
 
-  -- the fields, of which the first is the i-th of its struct
-  pub fields_text : ℕ → Fields → List ℕ
-  fields_text i no_field = []
-  fields_text i (field a t fs) = separator_at i ++ (a ++ (codes "=" ++ (type_text t ++ fields_text (suc i) fs)))
-
--- the field of that index with what separates it from the one before
-abbrev pub field_text : ℕ → Name → LogicalType → List ℕ
-field_text i a t = separator_at i ++ (a ++ (codes "=" ++ type_text t))
+  -- each field by its name and its type
+  pub field_texts : Fields → List (List ℕ)
+  field_texts no_field = []
+  field_texts (field a t fs) = (a ++ (codes "=" ++ type_text t)) ∷ field_texts fs

@@ -1,7 +1,8 @@
 // `==` of types: they are equal exactly where they stand for one and the same type.
 ghost use Rattle.std.specs.Prelude.{◌≡◌};
 ghost use Rattle.std.specs.Cmp.{on_equiv, on_per, partial_equiv_from_equiv};
-ghost use Rattle.vx_dtype.specs.Equality.{equal_type, equal_type_equiv, equal_fields, equal_fields_equiv};
+ghost use Rattle.vx_dtype.specs.Equality.{equal_type, equal_fields};
+ghost use Rattle.vx_dtype.specs.Deciding.{equal_type_equiv, equal_fields_equiv};
 ghost use Rattle.vx_dtype.specs.Views.{type_of, fields_view, fields_of};
 
 use crate::fields::field_count;

@@ -1,7 +1,7 @@
 // Fields of structs: names and types side by side, where a name without a type is no field.
 ghost use Rattle.std.specs.Prelude.{◌≡◌, ℕ, ◌≤◌, length, option_map, IfOk, take};
 ghost use Rattle.vx_dtype.specs.Answers.{Answers, projected, projected_without};
-ghost use Rattle.vx_dtype.specs.Fields.{field_count, field_names, field_type, first_unknown, names_without};
+ghost use Rattle.vx_dtype.specs.Fields.{field_count, field_names, field_type, first_unknown, is_among, names_without};
 ghost use Rattle.vx_dtype.specs.Views.{type_of, fields_of, fields_view, names_of};
 
 use crate::dtype::struct_of;
@@ -47,7 +47,7 @@ impl StructFields {
         ensures fields { Answers fields_of result (projected_without names.now (fields_of self.now)) }
         ensures names { IfOk result (λ s. names_of s ≡ names_without names.now (field_names (fields_of self.now))) }
     {
-        match unknown_of(&self.names, &self.types, names.as_slice()) {
+        match first_unknown(&self.names, &self.types, names) {
             Some(name) => Err(VortexError::NoSuchField(name.clone()?)),
             None => {
                 let own = own_names(self.names.as_slice(), self.types.as_slice());
@@ -112,18 +112,19 @@ fn types_of(
 }
 
 // The first of the names that no field has.
-fn unknown_of<'a>(
+fn first_unknown<'a>(
     names: &FieldNames,
     types: &[DType],
-    wanted: &'a [FieldName],
+    wanted: &'a FieldNames,
 ) -> Option<&'a FieldName>
     ensures { option_map (λ a. a.now) result ≡ first_unknown wanted.now (fields_view names.now types.now) }
 {
-    for i in 0..wanted.len() {
-        let name = &wanted[i];
-        if field_of(names, types, name).is_none() {
-            return Some(name);
-        }
-    }
-    None
+    wanted.iter().find(|name| !is_field(names, types, name))
+}
+
+// Whether a field has that name.
+fn is_field(names: &FieldNames, types: &[DType], name: &FieldName) -> bool
+    ensures { result ≡ is_among (field_names (fields_view names.now types.now)) name.now }
+{
+    field_of(names, types, name).is_some()
 }

@@ -1,7 +1,8 @@
 // Equal types are hashed alike: what is fed depends on the type that is stood for alone.
 ghost use Rattle.std.specs.Prelude.{◌≡◌, ℕ, fold};
 ghost use Rattle.vx_dtype.specs.Types.{ptype_index};
-ghost use Rattle.vx_dtype.specs.Hashes.{type_fed, fields_fed, type_alike, fields_alike};
+ghost use Rattle.vx_dtype.specs.Hashes.{type_fed, fields_fed};
+ghost use Rattle.vx_dtype.specs.Deciding.{type_alike, fields_alike};
 ghost use Rattle.vx_dtype.specs.Views.{type_of, fields_of, fields_view};
 
 use crate::fields::field_count;

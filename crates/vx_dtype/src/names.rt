@@ -8,7 +8,7 @@ ghost use Rattle.std.specs.Hash as fed;
 ghost use Rattle.std.specs.Cmp.Rules.{comparing, hashing};
 ghost use Rattle.vx_dtype.specs.Answers.{Answers};
 ghost use Rattle.vx_dtype.specs.Fields.{is_among, names_without};
-ghost use Rattle.vx_dtype.specs.Names.{names_alike};
+ghost use Rattle.vx_dtype.specs.Deciding.{names_alike};
 ghost use Rattle.std.proofs.Common.{rules};
 
 use crate::VortexResult;

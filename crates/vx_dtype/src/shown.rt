@@ -1,7 +1,7 @@
 // The text of a type.
-ghost use Rattle.std.specs.Prelude.{◌≡◌, ℕ, Some, []};
+ghost use Rattle.std.specs.Prelude.{◌≡◌, ◌==◌, ◌++◌, ℕ, Some, [], codes, if◌then◌else◌};
 ghost use Rattle.std.specs.Fmt.{WritesOnOk};
-ghost use Rattle.vx_dtype.specs.Texts.{type_text, fields_text, field_text, separator_at, ptype_text, mark};
+ghost use Rattle.vx_dtype.specs.Texts.{type_text, field_texts, with_commas, ptype_text, mark};
 ghost use Rattle.vx_dtype.specs.Views.{type_of, fields_view};
 
 use crate::fields::field_count;
@@ -89,27 +89,27 @@ fn write_type<W: Write>(t: &DType, f: &mut Formatter<W>) -> fmt::Result
 // Writes the fields with a comma between them.
 #[cycle(write)]
 fn write_fields<W: Write>(names: &[FieldName], types: &[DType], f: &mut Formatter<W>) -> fmt::Result
-    ensures { WritesOnOk W.write_str_gives f.old result (fields_text 0 (fields_view names.now types.now)) f.new }
+    ensures { WritesOnOk W.write_str_gives f.old result (with_commas (field_texts (fields_view names.now types.now))) f.new }
 {
     for i in 0..field_count(names, types) {
-        write_field(i, &names[i], &types[i], f)?;
+        f.write_str(separator(i))?;
+        write_field(&names[i], &types[i], f)?;
     }
     Ok(())
 }
 
 /// What stands in a text before each of several things but the first: a comma and a space.
 pub fn separator(i: usize) -> &'static str
-    ensures { result.now ≡ separator_at i }
+    ensures { result.now ≡ (if i == 0 then [] else codes ", ") }
 {
     if i == 0 { "" } else { ", " }
 }
 
-// Writes the field of that index, its name and its type.
+// Writes the name and the type of a field.
 #[cycle(write)]
-fn write_field<W: Write>(i: usize, name: &FieldName, t: &DType, f: &mut Formatter<W>) -> fmt::Result
-    ensures { WritesOnOk W.write_str_gives f.old result (field_text i name.now (type_of t.now)) f.new }
+fn write_field<W: Write>(name: &FieldName, t: &DType, f: &mut Formatter<W>) -> fmt::Result
+    ensures { WritesOnOk W.write_str_gives f.old result (name.now ++ (codes "=" ++ type_text (type_of t.now))) f.new }
 {
-    f.write_str(separator(i))?;
     name.fmt(f)?;
     f.write_str("=")?;
     write_type(t, f)

@@ -6,7 +6,7 @@ use Rattle.vx_value.specs.Columns.{first_misfit}
 use Rattle.vx_value.specs.Fits.{Fits, IsBatch}
 use Rattle.vx_value.specs.Types.{LogicalType, Datum}
 use Rattle.vx_value.proofs.Misfits.{no_misfit}
-use Rattle.vx_fn.specs.Faults.{IsIn}
+use Rattle.vx_dtype.specs.Lists.{IsIn}
 use Rattle.vx_tree.specs.Faults.{first_fault}
 use Rattle.vx_tree.specs.Meaning.{value}
 use Rattle.vx_tree.specs.Trees.{BoundTree, WellTyped, Over, node_type}

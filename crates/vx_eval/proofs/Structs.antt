@@ -1,7 +1,7 @@
 -- Fields of structs by their places.
 use Rattle.std.proofs.Common.{◌≡◌, ℕ, ◌<◌, ◌≤◌, List, [], ◌∷◌, length, get_or, take, refl, sym, ap, map, ◌++◌, ◌+◌, ◌∙◌, arith, zero, suc, rules, Vec, Global, Option, Some, None, Bool, true, false, Result, Ok, IsOk, add-one}
-use Rattle.std.specs.Prelude.{position, is_some, not, if◌then◌else◌}
-use Rattle.std.specs.List.{list_any}
+use Rattle.std.specs.Prelude.{position, is_some}
+use Rattle.std.specs.Result.{result_map_both}
 use Rattle.std.proofs.lemmas.List.{take_more, map-append}
 use Rattle.std.proofs.Common.{inl, inr}
 use Rattle.std.specs.Str.{bytes_eq}
@@ -16,12 +16,12 @@ use Rattle.vx_dtype.specs.declared.dtype.StructFields.{StructFields}
 use Rattle.vx_dtype.specs.declared.dtype.Nullability.{Nullability}
 use Rattle.vx_dtype.specs.declared.error.VortexError.{VortexError}
 use Rattle.vx_dtype.specs.Answers.{known_or}
-use Rattle.vx_dtype.proofs.Known.{first_unknown-filter, first_unknown-own}
+use Rattle.vx_dtype.proofs.Known.{known_first}
 use Rattle.vx_fn.specs.declared.options.FieldSelection.{FieldSelection}
-use Rattle.vx_fn.specs.declared.options.FieldSelection.TheVariants.{Include, Exclude}
-use Rattle.vx_fn.specs.Functions.{Typing, item_type, select_type, found, selection_names, included}
+use Rattle.vx_fn.specs.Functions.{item_type, select_type, found, selection_names, included}
 use Rattle.vx_fn.specs.Values.{item_value, select_value}
-use Rattle.vx_fn.specs.Faults.{IsIn}
+use Rattle.vx_fn.proofs.Sound.{included-known}
+use Rattle.vx_dtype.specs.Lists.{IsIn}
 use Rattle.vx_tree.proofs.Trees.{none_passes}
 use Rattle.vx_eval.specs.Columns.{values_of, datum_at, item_at}
 use Rattle.vx_eval.specs.Kernels.{items_at}
@@ -110,28 +110,19 @@ of_names names = Ok names
 pub selection_known : (sel : FieldSelection) (t : DType) (s : StructFields) (n : Nullability) → t ≡ program.Struct s n → IsOk (select_type sel (type_of t)) → first_unknown (selection_names sel) (fields_of s) ≡ None
 selection_known sel t s n is ok =
     let struct_is : type_of t ≡ ty (struct (fields_of s)) (admits_null n) = ap type_of is ∙ type_of-Struct s n in
-    go (first_unknown (selection_names sel) (fields_of s)) (Ok (ty (struct (project (included sel (fields_of s)) (fields_of s))) (admits_null n))) (rw struct_is at ok)
+    go (first_unknown (selection_names sel) (fields_of s)) (rw struct_is at ok)
   where
-    go : (o : Option Name) (answer : Typing) → IsOk (known_or o answer) → o ≡ None
-    go None answer ok = refl
-    go (Some a) answer ok = cc
-
-pub included_known : (sel : FieldSelection) (fs : Fields) → first_unknown (selection_names sel) fs ≡ None → first_unknown (included sel fs) fs ≡ None
-included_known (Include names) fs e = e
-included_known (Exclude names) fs e = first_unknown-filter (λ b. not (list_any (bytes_eq b) names)) (field_names fs) fs (first_unknown-own fs)
-
-known_first : (b : Name) (names : List Name) (fs : Fields) (c : Bool) → is_some (field_type b fs) ≡ c → (if c then first_unknown names fs else Some b) ≡ None →
-    (is_some (field_type b fs) ≡ true) × (first_unknown names fs ≡ None)
-known_first b names fs true q e = (q, e)
-known_first b names fs false q e = cc
+    go : (o : Option Name) → IsOk (result_map_both (λ kept. ty (struct kept) (admits_null n)) (λ refusal. refusal) (known_or o (Ok (project (included sel (fields_of s)) (fields_of s))))) → o ≡ None
+    go None ok = refl
+    go (Some a) ok = cc
 
 pub known_at : (names : List Name) (fs : Fields) (i : ℕ) (a : Name) → first_unknown names fs ≡ None → i < length names → a ≡ get_or names i a → is_some (field_type a fs) ≡ true
 known_at [] fs i a e lt is = absurd (omega arith)
-known_at (b ∷ names) fs zero a e lt is = ap (λ x. is_some (field_type x fs)) is ∙ (known_first b names fs (is_some (field_type b fs)) refl e).0
-known_at (b ∷ names) fs (suc i) a e lt is = known_at names fs i a (known_first b names fs (is_some (field_type b fs)) refl e).1 (omega arith) is
+known_at (b ∷ names) fs zero a e lt is = ap (λ x. is_some (field_type x fs)) is ∙ (known_first b names fs e).0
+known_at (b ∷ names) fs (suc i) a e lt is = known_at names fs i a (known_first b names fs e).1 (omega arith) is
 
 pub names_known : (sel : FieldSelection) (fs : Fields) (names : List Name) → of_names (included sel fs) ≡ Ok names → first_unknown (selection_names sel) fs ≡ None → first_unknown names fs ≡ None
-names_known sel fs names is e = let same : included sel fs ≡ names = cc in ap (λ ns. first_unknown ns fs) (sym same) ∙ included_known sel fs e
+names_known sel fs names is e = let same : included sel fs ≡ names = cc in ap (λ ns. first_unknown ns fs) (sym same) ∙ included-known sel fs e
 
 pub projected_at : (names : List Name) (fs : Fields) (vs : Data) → project_values names fs vs ≡ data_of (map (λ a. field_value a fs vs) names)
 projected_at [] fs vs = refl

@@ -3,5 +3,4 @@ pub mod Monotone
 pub mod Sound
 pub mod Cases
 pub mod Patterns
-pub mod NameTexts
 pub mod Swaps

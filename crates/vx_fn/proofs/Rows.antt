@@ -1,14 +1,15 @@
 -- The typing function and the typing relation are one.
 use Rattle.std.proofs.Common.{◌≡◌, ℕ, ◌==◌, List, [], ◌∷◌, length, refl, subst, Bool, true, false, ◌&&◌, ◌||◌}
-use Rattle.std.specs.Prelude.{Ok, Err, Option, Some, None, not, ok_or, if◌then◌else◌}
+use Rattle.std.specs.Prelude.{Ok, Err, Option, Some, None, not, ok_or, option_map, if◌then◌else◌}
 use Rattle.std.proofs.lemmas.Bool.{and_parts}
 use Rattle.std.specs.List.{list_all}
+use Rattle.std.specs.Result.{result_map_both}
 use Rattle.vx_value.specs.Types.{Name, Atomic, truth, number, text, LogicalType, ty, atomic, list, fixed, struct, Datum, is_nullable, with_nullability}
 use Rattle.vx_value.specs.Joins.{same_base, join, union, union_all}
 use Rattle.vx_value.specs.Fields.{field_type, project, first_unknown, fields_named}
 use Rattle.vx_dtype.specs.declared.dtype.PType.{PType}
 use Rattle.vx_value.specs.Answers.{known_or}
-use Rattle.vx_fn.specs.Functions.{Function, case_when, get_item, literal, pack, select, fill_null, zip, binary, negation, between, like, is_null, is_not_null, mask, cast, Operation, compares, and_also, or_else, adds, Comparison, selection_names, included, case_children, conditions, branches, is_truth, is_text, is_number, is_atomic, Typing, of_none, of_one, of_two, of_three, of_many, needs, fn_type, case_union, case_type, item_type, found, made_nullable, select_type, binary_type, truth_type}
+use Rattle.vx_fn.specs.Functions.{Function, case_when, get_item, literal, pack, select, fill_null, zip, binary, negation, between, like, is_null, is_not_null, mask, cast, Operation, compares, and_also, or_else, adds, Comparison, selection_names, included, case_children, conditions, branches, is_truth, is_text, is_number, is_atomic, Typing, of_none, of_one, of_two, of_three, of_many, needs, fn_type, case_union, case_type, item_type, found, with_else, select_type, binary_type, truth_type}
 use Rattle.vx_fn.specs.declared.options.FieldSelection.{FieldSelection}
 use Rattle.vx_dtype.specs.declared.error.VortexError.{VortexError}
 use Rattle.vx_dtype.specs.declared.error.VortexError.TheVariants.{ArityMismatch, NotBool, NotText, NotComparable, BaseTypesDiffer}
@@ -74,18 +75,14 @@ row_case k h ts t n e =
     let b = needs_ok _ _ _ a.1 in
     go h n (branches ts) refl b.1 a.0 b.0
   where
-    with_else : (length ts == case_children k true) ≡ true → (b : LogicalType) (bs : List LogicalType) (o : Option LogicalType) → union_all b bs ≡ o → branches ts ≡ b ∷ bs → ok_or o BaseTypesDiffer ≡ Ok t → not (k == 0) ≡ true → list_all is_truth (conditions ts) ≡ true → FnType (case_when k true) ts t
-    with_else n b bs None u q e c d = cc
-    with_else n b bs (Some w) u q e c d = ok_at (case_when k true) ts (of_case_else n c d q u) e
-
-    without : (length ts == case_children k false) ≡ true → (b : LogicalType) (bs : List LogicalType) (o : Option LogicalType) → union_all b bs ≡ o → branches ts ≡ b ∷ bs → made_nullable o ≡ Ok t → not (k == 0) ≡ true → list_all is_truth (conditions ts) ≡ true → FnType (case_when k false) ts t
-    without n b bs None u q e c d = cc
-    without n b bs (Some w) u q e c d = ok_at (case_when k false) ts (of_case n c d q u) e
+    united : (h : Bool) → (length ts == case_children k h) ≡ true → (b : LogicalType) (bs : List LogicalType) (o : Option LogicalType) → union_all b bs ≡ o → branches ts ≡ b ∷ bs → ok_or (option_map (with_else h) o) BaseTypesDiffer ≡ Ok t → not (k == 0) ≡ true → list_all is_truth (conditions ts) ≡ true → FnType (case_when k h) ts t
+    united h n b bs None u q e c d = cc
+    united true n b bs (Some w) u q e c d = ok_at (case_when k true) ts (of_case_else n c d q u) e
+    united false n b bs (Some w) u q e c d = ok_at (case_when k false) ts (of_case n c d q u) e
 
     go : (h : Bool) → (length ts == case_children k h) ≡ true → (bs : List LogicalType) → branches ts ≡ bs → case_union h bs ≡ Ok t → not (k == 0) ≡ true → list_all is_truth (conditions ts) ≡ true → FnType (case_when k h) ts t
     go h n [] q e c d = cc
-    go true n (b ∷ bs) q e c d = with_else n b bs (union_all b bs) refl q e c d
-    go false n (b ∷ bs) q e c d = without n b bs (union_all b bs) refl q e c d
+    go h n (b ∷ bs) q e c d = united h n b bs (union_all b bs) refl q e c d
 
 row_item : (a : Name) (t : LogicalType) (u : LogicalType) → item_type a u ≡ Ok t → FnType (get_item a) (u ∷ []) t
 row_item a t (ty (struct fs) n) e = go (field_type a fs) refl e
@@ -98,7 +95,7 @@ row_item a t _ e = cc
 row_select : (sel : FieldSelection) (t : LogicalType) (u : LogicalType) → select_type sel u ≡ Ok t → FnType (select sel) (u ∷ []) t
 row_select sel t (ty (struct fs) n) e = go (first_unknown (selection_names sel) fs) refl e
   where
-    go : (o : Option Name) → first_unknown (selection_names sel) fs ≡ o → known_or o (Ok (ty (struct (project (included sel fs) fs)) n)) ≡ Ok t → FnType (select sel) (ty (struct fs) n ∷ []) t
+    go : (o : Option Name) → first_unknown (selection_names sel) fs ≡ o → result_map_both (λ kept. ty (struct kept) n) (λ refusal. refusal) (known_or o (Ok (project (included sel fs) fs))) ≡ Ok t → FnType (select sel) (ty (struct fs) n ∷ []) t
     go None q e = ok_at (select sel) _ (of_select q) e
     go (Some a) q e = cc
 row_select sel t _ e = cc

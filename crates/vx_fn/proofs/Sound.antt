@@ -1,12 +1,13 @@
 -- A well-typed tree gives a value of its type at each row of a batch on which it doesn't fault.
 use Rattle.std.proofs.Common.{◌≡◌, ℕ, zero, suc, inl, inr, ◌+◌, ◌*◌, List, [], ◌∷◌, length, refl, sym, subst, Bool, true, false, ◌||◌, arith, ◌⊎◌}
-use Rattle.std.specs.Prelude.{Some, None, not, if◌then◌else◌}
-use Rattle.std.proofs.lemmas.Bool.{eqb-true, or_left, or_right}
+use Rattle.std.specs.Prelude.{Some, None, if◌then◌else◌}
+use Rattle.std.proofs.lemmas.Bool.{eqb-true, not-false, or_left, or_right}
 use Rattle.vx_value.proofs.Fitting.{fits-not_null, fits-wider, fits-nullable, join-fits-left, join-fits-right, Into, into_none, into_more, union_all-into, field_value-fits, project-fits, pack-fits}
 use Rattle.vx_dtype.proofs.Known.{first_unknown-filter, first_unknown-own}
 use Rattle.vx_dtype.proofs.Unions.{same_atomic-eq}
 use Rattle.vx_value.specs.Types.{Name, Atomic, truth, number, text, LogicalType, ty, Shape, atomic, struct, Fields, Datum, null, bool, int, utf8, struct_of, is_nullable, with_nullability, is_null_datum}
-use Rattle.vx_value.specs.Fits.{fits, Fits, EachFits, none_fit, more_fit}
+use Rattle.vx_value.specs.Fits.{fits, Fits, EachFits}
+use Rattle.vx_dtype.specs.Lists.{none_beside, more_beside}
 use Rattle.vx_value.specs.Joins.{same_base, join}
 use Rattle.vx_value.specs.Fields.{field_type, field_value, project, first_unknown, field_names}
 use Rattle.vx_dtype.specs.declared.dtype.PType.{PType}
@@ -77,11 +78,7 @@ like-fits neg ci _ _ n m e h = cc
 sum-fits : (p q : PType) (v w : Datum) (n m : Bool) → Fits v (ty (atomic (number p)) n) → Fits w (ty (atomic (number q)) m) → overflows (ty (atomic (number p)) n ∷ ty (atomic (number q)) m ∷ []) (v ∷ w ∷ []) ≡ false → Fits (sum_of v w) (ty (atomic (number p)) (n || m))
 sum-fits p q null w n m e h s = or_left n m e
 sum-fits p q (int i) null n m e h s = or_right n m h
-sum-fits p q (int i) (int j) n m e h s = not_false _ s
-  where
-    not_false : (b : Bool) → not b ≡ false → b ≡ true
-    not_false true e = refl
-    not_false false e = cc
+sum-fits p q (int i) (int j) n m e h s = not-false _ s
 sum-fits p q _ _ n m e h s = cc
 
 -- ---- CASE
@@ -103,10 +100,10 @@ cond_either true x y w p q = p
 cond_either false x y w p q = q
 
 first_true-fits : {vs : List Datum} {ts : List LogicalType} {w : LogicalType} → EachFits vs ts → Into (branches ts) w → IsOdd ts ⊎ Fits null w → Fits (first_true vs) w
-first_true-fits none_fit i (inl o) = elim o [ ]
-first_true-fits none_fit i (inr h) = h
-first_true-fits (more_fit e none_fit) (into_more f i) o = f _ e
-first_true-fits {vs = c ∷ v ∷ vs} {w = w} (more_fit d (more_fit e a)) (into_more f i) o = cond_either (is_true c) v (first_true vs) w (f v e) (first_true-fits a i o)
+first_true-fits none_beside i (inl o) = elim o [ ]
+first_true-fits none_beside i (inr h) = h
+first_true-fits (more_beside e none_beside) (into_more f i) o = f _ e
+first_true-fits {vs = c ∷ v ∷ vs} {w = w} (more_beside d (more_beside e a)) (into_more f i) o = cond_either (is_true c) v (first_true vs) w (f v e) (first_true-fits a i o)
 
 pub included-known : (sel : FieldSelection) (fs : Fields) → first_unknown (selection_names sel) fs ≡ None → first_unknown (included sel fs) fs ≡ None
 included-known (Include names) fs e = e
@@ -170,29 +167,25 @@ mask-fits t true v e = fits-nullable v t e
 mask-fits t false v e = null_fits t
 
 cast-fits : (u : LogicalType) (v : Datum) → misfits u (v ∷ []) ≡ false → Fits v u
-cast-fits u v s = go (fits v u) s
-  where
-    go : (b : Bool) → not b ≡ false → b ≡ true
-    go true e = refl
-    go false e = cc
+cast-fits u v s = not-false (fits v u) s
 
 pub fn_value-fits : {f : Function} {ts : List LogicalType} {t : LogicalType} {vs : List Datum} → FnType f ts t → HasFittingLiteral f → IsSafe f ts vs → EachFits vs ts → Fits (fn_value f ts vs) t
 fn_value-fits (of_case_else {k = k} {ts = ts} l z c b u) lit safe a = first_true-fits a (into_at b (union_all-into _ _ _ u)) (inl (is_odd ts k (eqb-true _ _ l)))
 fn_value-fits (of_case {w = w} l z c b u) lit safe a = first_true-fits a (into_at b (into_nullable (union_all-into _ _ _ u))) (inr (null_fits w))
-fn_value-fits (of_get_item {a = a} {fs = fs} {s = s} {n = n} {m = m} e) lit safe (more_fit {v = v} h none_fit) = item-fits a fs n m s v e h
-fn_value-fits of_literal lit safe none_fit = lit
+fn_value-fits (of_get_item {a = a} {fs = fs} {s = s} {n = n} {m = m} e) lit safe (more_beside {x = v} h none_beside) = item-fits a fs n m s v e h
+fn_value-fits of_literal lit safe none_beside = lit
 fn_value-fits (of_pack {names = names} e) lit safe a = pack-fits names (eqb-true _ _ e) a
-fn_value-fits (of_select {sel = sel} {fs = fs} {n = n} e) lit safe (more_fit {v = v} h none_fit) = select-fits sel fs n v e h
-fn_value-fits (of_fill_null {t = t} {u = u} s) lit safe (more_fit {v = v} e (more_fit {v = w} h none_fit)) = fill-fits t u v w s safe e h
-fn_value-fits (of_zip {t = t} {u = u} s) lit safe (more_fit {v = v} e (more_fit {v = w} h (more_fit {v = m} d none_fit))) = zip-fits t u (is_true m) v w s e h
-fn_value-fits (of_comparison {c = c} {p = p} {q = q} {n = n} {m = m} s) lit safe (more_fit {v = v} e (more_fit {v = w} h none_fit)) = compared-fits c v w (atomic p) (atomic q) n m e h
-fn_value-fits (of_and {n = n} {m = m}) lit safe (more_fit {v = v} e (more_fit {v = w} h none_fit)) = and-fits v w n m e h
-fn_value-fits (of_or {n = n} {m = m}) lit safe (more_fit {v = v} e (more_fit {v = w} h none_fit)) = or-fits v w n m e h
-fn_value-fits (of_add {p = p} {q = q} {n = n} {m = m} s) lit safe (more_fit {v = v} e (more_fit {v = w} h none_fit)) = sum-fits p q v w n m e h safe
-fn_value-fits (of_not {n = n}) lit safe (more_fit {v = v} e none_fit) = not-fits v n e
-fn_value-fits (of_between {ls = ls} {us = us} {p = p} {q = q} {r = r} {n = n} {m = m} {k = k} s x) lit safe (more_fit {v = v} e (more_fit {v = l} h (more_fit {v = u} d none_fit))) = between-fits ls us v l u p q r n m k e h d
-fn_value-fits (of_like {neg = neg} {ci = ci} {n = n} {m = m}) lit safe (more_fit {v = v} e (more_fit {v = w} h none_fit)) = like-fits neg ci v w n m e h
-fn_value-fits of_is_null lit safe (more_fit e none_fit) = refl
-fn_value-fits of_is_not_null lit safe (more_fit e none_fit) = refl
-fn_value-fits (of_mask {t = t}) lit safe (more_fit {v = v} e (more_fit {v = m} h none_fit)) = mask-fits t (is_true m) v e
-fn_value-fits (of_cast {u = u} s) lit safe (more_fit {v = v} e none_fit) = cast-fits u v safe
+fn_value-fits (of_select {sel = sel} {fs = fs} {n = n} e) lit safe (more_beside {x = v} h none_beside) = select-fits sel fs n v e h
+fn_value-fits (of_fill_null {t = t} {u = u} s) lit safe (more_beside {x = v} e (more_beside {x = w} h none_beside)) = fill-fits t u v w s safe e h
+fn_value-fits (of_zip {t = t} {u = u} s) lit safe (more_beside {x = v} e (more_beside {x = w} h (more_beside {x = m} d none_beside))) = zip-fits t u (is_true m) v w s e h
+fn_value-fits (of_comparison {c = c} {p = p} {q = q} {n = n} {m = m} s) lit safe (more_beside {x = v} e (more_beside {x = w} h none_beside)) = compared-fits c v w (atomic p) (atomic q) n m e h
+fn_value-fits (of_and {n = n} {m = m}) lit safe (more_beside {x = v} e (more_beside {x = w} h none_beside)) = and-fits v w n m e h
+fn_value-fits (of_or {n = n} {m = m}) lit safe (more_beside {x = v} e (more_beside {x = w} h none_beside)) = or-fits v w n m e h
+fn_value-fits (of_add {p = p} {q = q} {n = n} {m = m} s) lit safe (more_beside {x = v} e (more_beside {x = w} h none_beside)) = sum-fits p q v w n m e h safe
+fn_value-fits (of_not {n = n}) lit safe (more_beside {x = v} e none_beside) = not-fits v n e
+fn_value-fits (of_between {ls = ls} {us = us} {p = p} {q = q} {r = r} {n = n} {m = m} {k = k} s x) lit safe (more_beside {x = v} e (more_beside {x = l} h (more_beside {x = u} d none_beside))) = between-fits ls us v l u p q r n m k e h d
+fn_value-fits (of_like {neg = neg} {ci = ci} {n = n} {m = m}) lit safe (more_beside {x = v} e (more_beside {x = w} h none_beside)) = like-fits neg ci v w n m e h
+fn_value-fits of_is_null lit safe (more_beside e none_beside) = refl
+fn_value-fits of_is_not_null lit safe (more_beside e none_beside) = refl
+fn_value-fits (of_mask {t = t}) lit safe (more_beside {x = v} e (more_beside {x = m} h none_beside)) = mask-fits t (is_true m) v e
+fn_value-fits (of_cast {u = u} s) lit safe (more_beside {x = v} e none_beside) = cast-fits u v safe

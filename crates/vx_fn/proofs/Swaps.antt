@@ -1,27 +1,16 @@
 -- Operations over exchanged operands.
-use Rattle.std.proofs.Common.{◌≡◌, Bool, true, false, ◌||◌, ◌&&◌, if◌then◌else◌, refl, ap, ◌∙◌}
+use Rattle.std.proofs.Common.{◌≡◌, true, false, ◌||◌, ◌&&◌, if◌then◌else◌, refl, ap, ◌∙◌}
 use Rattle.std.specs.declared.cmp.Ordering.{Ordering}
 use Rattle.std.specs.declared.cmp.Ordering.TheVariants.{Less, Equal, Greater}
 use Rattle.std.specs.Cmp.{bool_cmp_total}
 use Rattle.std.specs.Ordering.{ordering_reverse}
 use Rattle.std.proofs.lemmas.Cmp.{int_cmp_total, nat_list_cmp_total}
+use Rattle.std.proofs.Math.Bool.{or_comm, and_comm}
 use Rattle.std.proofs.Math.IntN.{+ℤ_comm}
 use Rattle.vx_value.specs.Types.{Datum, null, bool, int, utf8, bytes, list_of, struct_of, is_null_datum}
 use Rattle.vx_fn.specs.Functions.{Comparison, equal, different, above, at_least, below, at_most, mirrored, compares, and_also, or_else, adds}
 use Rattle.vx_fn.specs.Laws.{SwappedOverExchangedOperands}
 use Rattle.vx_fn.specs.Values.{is_true, is_false, kleene_and, kleene_or, order, agrees, compared, sum_of}
-
-or_comm : (a b : Bool) → (a || b) ≡ (b || a)
-or_comm true true = refl
-or_comm true false = refl
-or_comm false true = refl
-or_comm false false = refl
-
-and_comm : (a b : Bool) → (a && b) ≡ (b && a)
-and_comm true true = refl
-and_comm true false = refl
-and_comm false true = refl
-and_comm false false = refl
 
 order-turned : (v w : Datum) → order v w ≡ ordering_reverse (order w v)
 order-turned (bool a) (bool b) = bool_cmp_total.antisymm a b

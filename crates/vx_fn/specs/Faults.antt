@@ -1,5 +1,5 @@
 -- Which node faults over its children's rows, and in which row.
-use Rattle.std.specs.Prelude.{◌≡◌, ◌⊎◌, Bool, false, ◌||◌, not, List, [], ◌∷◌, Option, Some, None, if◌then◌else◌, map, position}
+use Rattle.std.specs.Prelude.{Bool, false, ◌||◌, not, List, [], ◌∷◌, Option, Some, None, if◌then◌else◌, map, position}
 use Rattle.std.specs.Option.{option_map}
 use Rattle.std.specs.List.{list_any}
 use Rattle.std.specs.Ordering.{is_eq}
@@ -9,6 +9,7 @@ use Rattle.vx_value.specs.Types.{LogicalType, ty, atomic, number, Datum, int, nu
 use Rattle.vx_value.specs.Fits.{fits, fits_ptype}
 use Rattle.vx_fn.specs.Functions.{Function, binary, adds, cast, fill_null, is_atomic}
 use Rattle.vx_fn.specs.Values.{order, sum_of, at_two}
+pub use Rattle.vx_dtype.specs.Lists.{IsIn}
 
 -- whether a sum lies outside the number type of the first operand
 abbrev pub is_outside : List LogicalType → Datum → Bool
@@ -57,8 +58,3 @@ node_fault (binary adds) ts rows = option_map AddOverflow (position (overflows t
 node_fault (cast t) ts rows = option_map CastNull (position (misfits t) rows)
 node_fault fill_null ts rows = when (is_bad_fill ts (map fill_of rows)) BadFill
 node_fault _ ts rows = None
-
--- x is one of the elements
-abbrev pub IsIn : {A : Type 0} → A → List A → Type 0
-IsIn x [] = ⊥
-IsIn x (y ∷ ys) = (x ≡ y) ⊎ IsIn x ys

@@ -1,13 +1,14 @@
 -- The fifteen functions, and the type that each gives over its children's types.
-use Rattle.std.specs.Prelude.{ℕ, ◌+◌, ◌*◌, Bool, true, false, ◌&&◌, ◌||◌, ◌==◌, not, List, [], ◌∷◌, length, Option, Some, None, Result, Ok, Err, if◌then◌else◌, ok_or, codes}
+use Rattle.std.specs.Prelude.{ℕ, ◌+◌, ◌*◌, Bool, true, false, ◌&&◌, ◌||◌, ◌==◌, not, List, [], ◌∷◌, length, Option, Some, None, Result, Ok, Err, if◌then◌else◌, ok_or, option_map, codes}
 use Rattle.std.specs.List.{list_all}
+use Rattle.std.specs.Result.{result_map_both}
 use Rattle.vx_dtype.specs.declared.error.VortexError.{VortexError}
 use Rattle.vx_dtype.specs.declared.error.VortexError.TheVariants.{ArityMismatch, NotAStruct, NoSuchField, BaseTypesDiffer, NotBool, NotComparable, NotNumeric, NotText, NoPairs}
 use Rattle.vx_fn.specs.declared.options.FieldSelection.{FieldSelection}
 use Rattle.vx_value.specs.Answers.{known_or}
 use Rattle.vx_value.specs.Types.{Name, truth, number, text, LogicalType, ty, atomic, struct, Fields, Datum, is_nullable, with_nullability}
 use Rattle.vx_value.specs.Fits.{Fits}
-use Rattle.vx_value.specs.Joins.{same_base, union, union_all}
+use Rattle.vx_value.specs.Joins.{same_base, union, union_of}
 pub use Rattle.vx_fn.specs.Selections.{selection_names, is_inclusion}
 use Rattle.vx_fn.specs.Selections.{kept_names}
 use Rattle.vx_value.specs.Fields.{field_names, field_type, project, first_unknown, fields_named}
@@ -126,16 +127,14 @@ is_atomic _ = false
 abbrev pub truth_type : Bool → LogicalType
 truth_type n = ty (atomic truth) n
 
--- a union that was found, made nullable
-abbrev pub made_nullable : Option LogicalType → Typing
-made_nullable None = Err BaseTypesDiffer
-made_nullable (Some w) = Ok (with_nullability true w)
+-- the type of a CASE whose values have that union: nullable where there is no ELSE
+abbrev pub with_else : Bool → LogicalType → LogicalType
+with_else true w = w
+with_else false w = with_nullability true w
 
--- the union of the branches, nullable where there is no ELSE
+-- the type of a CASE of these values, if they have a union
 abbrev pub case_union : Bool → List LogicalType → Typing
-case_union has_else [] = Err NoPairs
-case_union true (t ∷ ts) = ok_or (union_all t ts) BaseTypesDiffer
-case_union false (t ∷ ts) = made_nullable (union_all t ts)
+case_union has_else values = ok_or (option_map (with_else has_else) (union_of values)) BaseTypesDiffer
 
 -- of the children of a CASE, the conditions
 abbrev pub conditions : {A : Type 0} → List A → List A
@@ -193,7 +192,7 @@ selected selection fs = known_or (first_unknown (selection_names selection) fs) 
 
 -- the row of a selection of fields
 abbrev pub select_type : FieldSelection → LogicalType → Typing
-select_type selection (ty (struct fs) n) = known_or (first_unknown (selection_names selection) fs) (Ok (ty (struct (project (included selection fs) fs)) n))
+select_type selection (ty (struct fs) n) = result_map_both (λ kept. ty (struct kept) n) (λ refusal. refusal) (selected selection fs)
 select_type selection _ = Err NotAStruct
 
 -- the row of a comparison

@@ -1,10 +1,10 @@
 -- What typing and operators promise.
-use Rattle.std.specs.Prelude.{List, ◌≡◌, ◌↔◌, Ok}
+use Rattle.std.specs.Prelude.{ℕ, Bool, true, List, ◌≡◌, ◌↔◌, Ok}
 use Rattle.vx_value.specs.Types.{LogicalType, Datum}
 use Rattle.vx_value.specs.Joins.{Narrower, NarrowerEach}
 use Rattle.vx_fn.specs.Functions.{Function, fn_type, Operation, swapped}
 use Rattle.vx_fn.specs.Rows.{FnType}
-use Rattle.vx_fn.specs.Values.{binary_value}
+use Rattle.vx_fn.specs.Values.{Part, matches, Matches, is_like, IsLike, binary_value}
 
 -- the function and the relation give the same types
 abbrev pub TypingIsTheRelation : Type 0
@@ -18,3 +18,11 @@ TypingIsMonotone = (f : Function) (ts us : List LogicalType) (u : LogicalType) �
 -- the swapped operation gives over operands what the operation gives over them exchanged
 abbrev pub SwappedOverExchangedOperands : Type 0
 SwappedOverExchangedOperands = (op : Operation) (v w : Datum) → binary_value (swapped op) v w ≡ binary_value op w v
+
+-- the test by search and the relation by cuts are one
+abbrev pub MatchesIsDecided : Type 0
+MatchesIsDecided = (ps : List Part) (cs : List ℕ) → (matches ps cs ≡ true) ↔ Matches ps cs
+
+-- so are whether a text is like a pattern, and that it is
+abbrev pub LikeIsDecided : Type 0
+LikeIsDecided = (ignore_case : Bool) (t p : List ℕ) → (is_like ignore_case t p ≡ true) ↔ IsLike ignore_case t p

@@ -9,4 +9,5 @@ pub mod Views
 pub mod Laws
 pub mod Markers
 pub mod Equality
+pub mod Deciding
 pub mod Texts

@@ -1,4 +1,5 @@
--- What each marker takes out of a `ScalarFnRef`, and which function it stands for.
+-- What each marker takes out of a `ScalarFnRef`, and which function it stands for. Beside it stands, as scaffolding, that it does so
+-- exactly, which the laws of `ScalarFnVTable` cite.
 use Rattle.std.specs.Prelude.{◌≡◌, ◌↔◌, Bool, true, false, Option, Some, None, is_some, refl}
 use Rattle.vx_dtype.specs.declared.dtype.DType.{DType}
 use Rattle.vx_dtype.specs.declared.names.FieldName.{FieldName}

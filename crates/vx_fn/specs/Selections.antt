@@ -1,8 +1,8 @@
 -- Which names a selection keeps.
-use Rattle.std.specs.Prelude.{Bool, true, false, not, List, Option, Result, Ok, find}
+use Rattle.std.specs.Prelude.{Bool, true, false, List, Result, Ok}
 use Rattle.vx_dtype.specs.declared.error.VortexError.{VortexError}
 use Rattle.vx_value.specs.Answers.{known_or}
-use Rattle.vx_value.specs.Fields.{is_among, names_without}
+use Rattle.vx_value.specs.Fields.{first_missing, names_without}
 use Rattle.vx_value.specs.Types.{Name}
 use Rattle.vx_fn.specs.declared.options.FieldSelection.{FieldSelection}
 use Rattle.vx_fn.specs.declared.options.FieldSelection.TheVariants.{Include, Exclude}
@@ -21,10 +21,6 @@ is_inclusion (Exclude names) = false
 abbrev pub kept_names : FieldSelection → List Name → List Name
 kept_names (Include names) available = names
 kept_names (Exclude names) available = names_without names available
-
--- the first of the names that isn't available
-abbrev pub first_missing : List Name → List Name → Option Name
-first_missing available names = find (λ a. not (is_among available a)) names
 
 -- what a selection keeps, or the first of its names that isn't available
 abbrev pub normalized : FieldSelection → List Name → Result (List Name) VortexError

@@ -3,20 +3,11 @@ use Rattle.std.specs.Prelude.{ℕ, Bool, true, false, List, [], ◌∷◌, ◌++
 use Rattle.std.specs.Fmt.{decimal}
 use Rattle.vx_value.specs.Types.{Name}
 use Rattle.vx_value.specs.Texts.{mark, type_text}
+pub use Rattle.vx_value.specs.Texts.{with_commas}
 use Rattle.vx_value.specs.ValueTexts.{value_text}
 use Rattle.vx_fn.specs.declared.options.FieldSelection.{FieldSelection}
 use Rattle.vx_fn.specs.declared.options.FieldSelection.TheVariants.{Include, Exclude}
 use Rattle.vx_fn.specs.Functions.{equal, different, above, at_least, below, at_most, Operation, compares, and_also, or_else, adds, Function, case_when, get_item, literal, pack, select, zip, binary, between, like, cast, arity_of, id_of}
-
--- each text behind a comma
-abbrev pub after_commas : List (List ℕ) → List ℕ
-after_commas [] = []
-after_commas (c ∷ cs) = codes ", " ++ (c ++ after_commas cs)
-
--- the texts, with commas between them
-abbrev pub with_commas : List (List ℕ) → List ℕ
-with_commas [] = []
-with_commas (c ∷ cs) = c ++ after_commas cs
 
 -- ---- options
 

@@ -1,5 +1,5 @@
 -- The value of a function node at one row, from its children's values.
-use Rattle.std.specs.Prelude.{◌≡◌, ◌↔◌, ◌++◌, ℕ, Bool, true, false, ◌&&◌, ◌||◌, ◌==◌, not, List, [], ◌∷◌, ◌+ℤ◌, if◌then◌else◌, map, chars}
+use Rattle.std.specs.Prelude.{◌≡◌, ◌++◌, ℕ, Bool, true, false, ◌&&◌, ◌||◌, ◌==◌, not, List, [], ◌∷◌, ◌+ℤ◌, if◌then◌else◌, map, chars}
 use Rattle.std.specs.declared.cmp.Ordering.{Ordering}
 use Rattle.std.specs.declared.cmp.Ordering.TheVariants.{Equal}
 use Rattle.std.specs.Ordering.{is_lt, is_le, is_gt, is_ge, is_eq, is_ne, nat_cmp, int_cmp, bool_cmp}
@@ -84,12 +84,19 @@ parts true [] = just 92 ∷ []
 parts true (c ∷ cs) = just c ∷ parts false cs
 parts false (c ∷ cs) = if c == 92 then parts true cs else part_of c ∷ parts false cs
 
+-- the text is one that the parts spell, each part in its turn
+abbrev pub Matches : List Part → List ℕ → Type 0
+Matches [] cs = cs ≡ []
+Matches (any_text ∷ rest) cs = (front : List ℕ) × (back : List ℕ) × (cs ≡ front ++ back) × Matches rest back
+Matches (any_one ∷ rest) cs = (c : ℕ) × (back : List ℕ) × (cs ≡ c ∷ back) × Matches rest back
+Matches (just d ∷ rest) cs = (back : List ℕ) × (cs ≡ d ∷ back) × Matches rest back
+
 -- whether the test passes at the text after some front of it
 abbrev pub some_rest : (List ℕ → Bool) → List ℕ → Bool
 some_rest test [] = test []
 some_rest test (c ∷ cs) = test (c ∷ cs) || some_rest test cs
 
--- whether the parts spell the text
+-- whether the parts spell the text: the test that decides `Matches`
 abbrev pub matches : List Part → List ℕ → Bool
 matches [] [] = true
 matches [] (c ∷ cs) = false
@@ -103,7 +110,11 @@ matches (just d ∷ rest) (c ∷ cs) = (c == d) && matches rest cs
 abbrev pub folded : Bool → List ℕ → List ℕ
 folded ignore_case cs = if ignore_case then map to_ascii_lowercase cs else cs
 
--- whether the text matches the pattern
+-- the text is one that the pattern's parts spell
+abbrev pub IsLike : Bool → List ℕ → List ℕ → Type 0
+IsLike ignore_case t p = Matches (parts false (folded ignore_case (chars p))) (folded ignore_case (chars t))
+
+-- whether it is: the test that decides `IsLike`
 abbrev pub is_like : Bool → List ℕ → List ℕ → Bool
 is_like ignore_case t p = matches (parts false (folded ignore_case (chars p))) (folded ignore_case (chars t))
 
@@ -173,14 +184,3 @@ fn_value is_null ts = at_one (λ v. bool (is_null_datum v))
 fn_value is_not_null ts = at_one (λ v. bool (not (is_null_datum v)))
 fn_value mask ts = at_two (λ v m. if is_true m then v else null)
 fn_value (cast t) ts = at_one (λ v. v)
-
--- the text is one that the parts spell, each part in its turn
-abbrev pub Matches : List Part → List ℕ → Type 0
-Matches [] cs = cs ≡ []
-Matches (any_text ∷ rest) cs = (front : List ℕ) × (back : List ℕ) × (cs ≡ front ++ back) × Matches rest back
-Matches (any_one ∷ rest) cs = (c : ℕ) × (back : List ℕ) × (cs ≡ c ∷ back) × Matches rest back
-Matches (just d ∷ rest) cs = (back : List ℕ) × (cs ≡ d ∷ back) × Matches rest back
-
--- the test by search and the relation by cuts are one
-abbrev pub MatchesIsDecided : Type 0
-MatchesIsDecided = (ps : List Part) (cs : List ℕ) → (matches ps cs ≡ true) ↔ Matches ps cs

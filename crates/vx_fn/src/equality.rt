@@ -1,7 +1,8 @@
 // `==` of functions: they are equal exactly where they stand for one and the same function.
 ghost use Rattle.std.specs.Prelude.{◌≡◌};
 ghost use Rattle.std.specs.Cmp.{on_equiv, on_per, partial_equiv_from_equiv};
-ghost use Rattle.vx_fn.specs.Equality.{equal_function, equal_function_equiv, operation_index, function_index, function_fed, function_alike};
+ghost use Rattle.vx_fn.specs.Equality.{equal_function, operation_index, function_index, function_fed};
+ghost use Rattle.vx_fn.specs.Deciding.{equal_function_equiv, function_alike};
 ghost use Rattle.vx_fn.specs.Views.{function_of, is_strict, operation_of};
 
 use crate::{FieldSelection, Operator, ScalarFnRef, StrictComparison};

@@ -1,6 +1,5 @@
 // What typing, operators and patterns promise.
-ghost use Rattle.vx_fn.specs.Laws.{SwappedOverExchangedOperands, TypingIsMonotone, TypingIsTheRelation};
-ghost use Rattle.vx_fn.specs.Values.{MatchesIsDecided};
+ghost use Rattle.vx_fn.specs.Laws.{LikeIsDecided, MatchesIsDecided, SwappedOverExchangedOperands, TypingIsMonotone, TypingIsTheRelation};
 
 /// The typing function gives the types of the typing relation, and no others.
 pub fn typing_is_the_relation()
@@ -12,9 +11,10 @@ pub fn typing_is_monotone()
     ensures { TypingIsMonotone }
 {}
 
-/// The test of a pattern by search decides the relation by cuts.
+/// The test of a pattern by search decides the relation by cuts, and so whether a text is like a pattern.
 pub fn matches_is_decided()
-    ensures { MatchesIsDecided }
+    ensures parts { MatchesIsDecided }
+    ensures like { LikeIsDecided }
 {}
 
 /// The swapped operator gives the operator's value over exchanged operands.

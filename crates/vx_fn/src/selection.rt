@@ -1,7 +1,8 @@
 // Which of the available names a selection keeps.
 ghost use Rattle.std.specs.Prelude.{◌≡◌, option_map};
 ghost use Rattle.vx_value.specs.Answers.{Answers};
-ghost use Rattle.vx_fn.specs.Selections.{first_missing, normalized};
+ghost use Rattle.vx_value.specs.Fields.{first_missing};
+ghost use Rattle.vx_fn.specs.Selections.{normalized};
 
 use crate::FieldSelection;
 use std::alloc::Global;

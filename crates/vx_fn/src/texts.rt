@@ -11,6 +11,7 @@ use crate::{
 };
 use std::fmt;
 use std::fmt::{Display, Formatter, Write};
+use vx_dtype::separator;
 use vx_types::{FieldName, Nullability};
 
 /// The name of the function, and its options between parentheses.
@@ -160,12 +161,8 @@ impl StrictComparison {
 pub fn write_names<W: Write>(names: &[FieldName], f: &mut Formatter<W>) -> fmt::Result
     ensures { WritesOnOk W.write_str_gives f.old result (with_commas names.now) f.new }
 {
-    let [first, rest @ ..] = names else {
-        return Ok(());
-    };
-    first.fmt(f)?;
-    for name in rest {
-        f.write_str(", ")?;
+    for (i, name) in names.iter().enumerate() {
+        f.write_str(separator(i))?;
         name.fmt(f)?;
     }
     Ok(())

@@ -11,7 +11,7 @@ use Rattle.vx_tree.specs.Trees.{BoundTree, node, bound, no_bound, node_type, Wel
 use Rattle.vx_rewrite_fusing.specs.Conjuncts.{two_bounds, and_of, is_item, is_constant, Range, from_below, from_above, range, range_of, between_node, MergeTo, below_and_above, above_and_below, Fused}
 use Rattle.vx_fn.proofs.Rows.{fn_type-found, fn_type-only}
 use Rattle.vx_dtype.proofs.Unions.{same_atomic-eq}
-use Rattle.vx_dtype.specs.Equality.{same_atomic-Decides}
+use Rattle.vx_dtype.specs.Deciding.{same_atomic-Decides}
 use Rattle.vx_tree.proofs.Trees.{or_none}
 use Rattle.vx_rewrite_fusing.specs.Merging.{KeepsAlike}
 use Rattle.vx_rewrite_fusing.specs.Laws.{and_count}

@@ -1,5 +1,5 @@
 -- A tree whose children are replaced by trees that keep them is kept.
-use Rattle.std.proofs.Common.{◌≡◌, inl, inr, List, [], ◌∷◌, refl, ap, map, ◌∙◌}
+use Rattle.std.proofs.Common.{◌≡◌, List, [], ◌∷◌, refl, ap, map, ◌∙◌}
 use Rattle.std.specs.Prelude.{None, if◌then◌else◌, Ok, not, ◌||◌, position}
 use Rattle.std.specs.List.{list_any}
 use Rattle.std.specs.Option.{option_map}
@@ -10,17 +10,19 @@ use Rattle.vx_fn.proofs.Rows.{fn_type-found, fn_type-only}
 use Rattle.vx_tree.proofs.Trees.{or_none}
 use Rattle.vx_value.specs.Types.{Name, truth, number, text, octets, LogicalType, Shape, Fields, Datum, Data, no_datum, datum, struct_of, int, is_null_datum}
 use Rattle.vx_value.specs.Fields.{field_value, project_values}
-use Rattle.vx_dtype.specs.Joins.{Narrower, narrower, NarrowerShape, same_atomic_shape, narrower_list, narrower_fixed, narrower_struct, NarrowerFields, no_fields, narrower_field, NarrowerEach, no_types, narrower_more}
+use Rattle.vx_dtype.specs.Joins.{Narrower, narrower, NarrowerShape, same_atomic_shape, narrower_list, narrower_fixed, narrower_struct, NarrowerFields, no_fields, narrower_field, NarrowerEach}
+use Rattle.vx_dtype.specs.Lists.{none_beside, more_beside, IsIn}
 use Rattle.vx_fn.specs.Functions.{Function, get_item, select, fill_null, binary, adds, included, fn_type}
 use Rattle.vx_fn.specs.Values.{fn_value, at_one, item_value, select_value, sum_of, at_two}
 use Rattle.vx_tree.specs.Meaning.{values}
-use Rattle.vx_fn.specs.Faults.{overflows, is_outside, is_fillable, fill_of, some_differ, when, node_fault, IsIn}
+use Rattle.vx_fn.specs.Faults.{overflows, is_outside, is_fillable, fill_of, some_differ, when, node_fault}
 use Rattle.vx_tree.specs.Faults.{each_fault}
 use Rattle.vx_tree.specs.Trees.{BoundTree, node, BoundTrees, node_type, node_types, WellTyped, EachWellTyped, EachOver}
 use Rattle.vx_rewrite_keep.specs.Keeps.{Keeps, KeepsEach, keeps_none, keeps_more, KeepsUnderNodes}
 use Rattle.vx_value.specs.Fits.{IsBatch}
 use Rattle.vx_fn.specs.declared.options.FieldSelection.{FieldSelection}
 use Rattle.vx_dtype.specs.declared.error.VortexError.TheVariants.{AddOverflow, BadFill}
+use Rattle.vx_dtype.proofs.Lists.{map_same}
 
 mutual
   pub narrower_trans : {t u w : LogicalType} → Narrower t u → Narrower u w → Narrower t w
@@ -53,22 +55,22 @@ at_one-equal f g (v ∷ []) e = e v
 at_one-equal f g (v ∷ w ∷ vs) e = refl
 
 item-names : {ts us : List LogicalType} (a : Name) (v : Datum) → NarrowerEach ts us → item_value a ts v ≡ item_value a us v
-item-names a v no_types = refl
-item-names a (struct_of vs) (narrower_more (narrower (narrower_struct p) i) no_types) = field_value-names a vs p
-item-names a v (narrower_more (narrower same_atomic_shape i) q) = refl
-item-names a v (narrower_more (narrower (narrower_list p) i) q) = refl
-item-names a v (narrower_more (narrower (narrower_fixed p) i) q) = refl
-item-names a v (narrower_more (narrower (narrower_struct p) i) (narrower_more q r)) = refl
-item-names a _ (narrower_more (narrower (narrower_struct p) i) no_types) = refl
+item-names a v none_beside = refl
+item-names a (struct_of vs) (more_beside (narrower (narrower_struct p) i) none_beside) = field_value-names a vs p
+item-names a v (more_beside (narrower same_atomic_shape i) q) = refl
+item-names a v (more_beside (narrower (narrower_list p) i) q) = refl
+item-names a v (more_beside (narrower (narrower_fixed p) i) q) = refl
+item-names a v (more_beside (narrower (narrower_struct p) i) (more_beside q r)) = refl
+item-names a _ (more_beside (narrower (narrower_struct p) i) none_beside) = refl
 
 select-names : {ts us : List LogicalType} (sel : FieldSelection) (v : Datum) → NarrowerEach ts us → select_value sel ts v ≡ select_value sel us v
-select-names sel v no_types = refl
-select-names sel (struct_of vs) (narrower_more (narrower (narrower_struct {fs = fs} p) i) no_types) = rw (← included-mono sel p, project_values-names (included sel fs) vs p) refl
-select-names sel v (narrower_more (narrower same_atomic_shape i) q) = refl
-select-names sel v (narrower_more (narrower (narrower_list p) i) q) = refl
-select-names sel v (narrower_more (narrower (narrower_fixed p) i) q) = refl
-select-names sel v (narrower_more (narrower (narrower_struct p) i) (narrower_more q r)) = refl
-select-names sel _ (narrower_more (narrower (narrower_struct p) i) no_types) = refl
+select-names sel v none_beside = refl
+select-names sel (struct_of vs) (more_beside (narrower (narrower_struct {fs = fs} p) i) none_beside) = rw (← included-mono sel p, project_values-names (included sel fs) vs p) refl
+select-names sel v (more_beside (narrower same_atomic_shape i) q) = refl
+select-names sel v (more_beside (narrower (narrower_list p) i) q) = refl
+select-names sel v (more_beside (narrower (narrower_fixed p) i) q) = refl
+select-names sel v (more_beside (narrower (narrower_struct p) i) (more_beside q r)) = refl
+select-names sel _ (more_beside (narrower (narrower_struct p) i) none_beside) = refl
 
 pub fn_value-narrower : {ts us : List LogicalType} (f : Function) (vs : List Datum) → NarrowerEach ts us → fn_value f ts vs ≡ fn_value f us vs
 fn_value-narrower {ts = ts} {us = us} (get_item a) vs q = at_one-equal (item_value a ts) (item_value a us) vs (λ v. item-names a v q)
@@ -78,22 +80,22 @@ fn_value-narrower _ vs q = refl
 -- ---- and so do faults
 
 outside-narrower : {ts us : List LogicalType} (v : Datum) → NarrowerEach ts us → is_outside ts v ≡ is_outside us v
-outside-narrower v no_types = refl
-outside-narrower (int i) (narrower_more (narrower (same_atomic_shape {p = number p}) j) q) = refl
-outside-narrower v (narrower_more (narrower (same_atomic_shape {p = truth}) i) q) = refl
-outside-narrower v (narrower_more (narrower (same_atomic_shape {p = text}) i) q) = refl
-outside-narrower v (narrower_more (narrower (same_atomic_shape {p = octets}) i) q) = refl
-outside-narrower v (narrower_more (narrower (narrower_list p) i) q) = refl
-outside-narrower v (narrower_more (narrower (narrower_fixed p) i) q) = refl
-outside-narrower v (narrower_more (narrower (narrower_struct p) i) q) = refl
-outside-narrower _ (narrower_more (narrower (same_atomic_shape {p = number p}) i) q) = refl
+outside-narrower v none_beside = refl
+outside-narrower (int i) (more_beside (narrower (same_atomic_shape {p = number p}) j) q) = refl
+outside-narrower v (more_beside (narrower (same_atomic_shape {p = truth}) i) q) = refl
+outside-narrower v (more_beside (narrower (same_atomic_shape {p = text}) i) q) = refl
+outside-narrower v (more_beside (narrower (same_atomic_shape {p = octets}) i) q) = refl
+outside-narrower v (more_beside (narrower (narrower_list p) i) q) = refl
+outside-narrower v (more_beside (narrower (narrower_fixed p) i) q) = refl
+outside-narrower v (more_beside (narrower (narrower_struct p) i) q) = refl
+outside-narrower _ (more_beside (narrower (same_atomic_shape {p = number p}) i) q) = refl
 
 fillable-narrower : {ts us : List LogicalType} → NarrowerEach ts us → is_fillable ts ≡ is_fillable us
-fillable-narrower no_types = refl
-fillable-narrower (narrower_more (narrower same_atomic_shape i) q) = refl
-fillable-narrower (narrower_more (narrower (narrower_list p) i) q) = refl
-fillable-narrower (narrower_more (narrower (narrower_fixed p) i) q) = refl
-fillable-narrower (narrower_more (narrower (narrower_struct p) i) q) = refl
+fillable-narrower none_beside = refl
+fillable-narrower (more_beside (narrower same_atomic_shape i) q) = refl
+fillable-narrower (more_beside (narrower (narrower_list p) i) q) = refl
+fillable-narrower (more_beside (narrower (narrower_fixed p) i) q) = refl
+fillable-narrower (more_beside (narrower (narrower_struct p) i) q) = refl
 
 pub node_fault-narrower : {ts us : List LogicalType} (f : Function) (rows : List (List Datum)) → NarrowerEach ts us → node_fault f ts rows ≡ node_fault f us rows
 node_fault-narrower {ts = ts} {us = us} (binary adds) rows q =
@@ -105,8 +107,8 @@ node_fault-narrower _ rows q = refl
 -- ---- trees
 
 pub types-narrower : {bs us : BoundTrees} → KeepsEach bs us → NarrowerEach (node_types us) (node_types bs)
-types-narrower keeps_none = no_types
-types-narrower (keeps_more k ks) = narrower_more k.type (types-narrower ks)
+types-narrower keeps_none = none_beside
+types-narrower (keeps_more k ks) = more_beside k.type (types-narrower ks)
 
 pub each_typed_after : {bs us : BoundTrees} → KeepsEach bs us → EachWellTyped us
 each_typed_after keeps_none = tt
@@ -129,10 +131,6 @@ each_meaning (keeps_more k ks) s batch o i n v e =
     let q = or_none _ _ n in
     rw (k.meaning s batch o.0 i q.0 v e, each_meaning ks s batch o.1 i q.1 v e) refl
 
-pub map-equal : {A B : Type 0} (f g : A → B) (xs : List A) → ((x : A) → IsIn x xs → f x ≡ g x) → map f xs ≡ map g xs
-map-equal f g [] e = refl
-map-equal f g (x ∷ xs) e = rw (e x (inl refl), map-equal f g xs (λ y i. e y (inr i))) refl
-
 pub keeps_node : (t t' : LogicalType) (f : Function) (bs us : BoundTrees) → WellTyped (node t f bs) → KeepsEach bs us → fn_type f (node_types us) ≡ Ok t' → Narrower t' t → Keeps (node t f bs) (node t' f us)
 keeps_node t t' f bs us w ks e p = record {
   typed_before = w;
@@ -141,7 +139,7 @@ keeps_node t t' f bs us w ks e p = record {
   type = p;
   no_fault = λ s batch o i n.
       let q = or_none _ _ n in
-      let rows : map (values us) batch ≡ map (values bs) batch = map-equal (values us) (values bs) batch (each_meaning ks s batch o i q.0) in
+      let rows : map (values us) batch ≡ map (values bs) batch = map_same (values us) (values bs) batch (each_meaning ks s batch o i q.0) in
       let x : each_fault us batch ≡ None = each_no_fault ks s batch o i q.0 in
       rw (x, rows, node_fault-narrower f (map (values bs) batch) (types-narrower ks)) q.1;
   meaning = λ s batch o i n v j.

@@ -11,7 +11,7 @@ use Rattle.vx_tree.specs.Trees.{BoundTree, scope, node, BoundTrees, bound, no_bo
 use Rattle.vx_rewrite_keep.specs.Keeps.{Keeps, KeepsEach, keeps_none, keeps_more}
 use Rattle.vx_rewrite_keep.specs.Steps.{Step, here, below, OneStep, this_one, later_one, Steps, no_step, one_more, GivesNothing, Normal, EachNormal, NormalBelow}
 
-same_type : (f : Function) (ts : List LogicalType) (t u v : LogicalType) → fn_type f ts ≡ Ok t → fn_type f ts ≡ Ok u → Narrower t v → Narrower u v
+pub same_type : (f : Function) (ts : List LogicalType) (t u v : LogicalType) → fn_type f ts ≡ Ok t → fn_type f ts ≡ Ok u → Narrower t v → Narrower u v
 same_type f ts t u v e h p = let q : t ≡ u = cc in subst (λ t. Narrower t v) q p
 
 module _ (R : BoundTree → BoundTree → Type 0) (keeps : (b u : BoundTree) → WellTyped b → R b u → Keeps b u) where

@@ -4,7 +4,7 @@ use Rattle.vx_value.specs.Types.{LogicalType, Datum}
 use Rattle.vx_value.specs.Joins.{Narrower}
 use Rattle.vx_value.specs.Fits.{IsBatch}
 use Rattle.vx_fn.specs.Functions.{Function, fn_type}
-use Rattle.vx_fn.specs.Faults.{IsIn}
+use Rattle.vx_dtype.specs.Lists.{IsIn}
 use Rattle.vx_tree.specs.Trees.{BoundTree, node, BoundTrees, no_bound, bound, node_type, node_types, WellTyped, Over}
 use Rattle.vx_tree.specs.Meaning.{value}
 use Rattle.vx_tree.specs.Faults.{HasNoFault}

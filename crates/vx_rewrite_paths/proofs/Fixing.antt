@@ -4,7 +4,7 @@ use Rattle.std.specs.List.{AllZip}
 use Rattle.vx_value.specs.Fits.{Fits}
 use Rattle.vx_value.specs.Paths.{minimal_paths}
 use Rattle.vx_value.specs.Types.{Datum}
-use Rattle.vx_fn.specs.Faults.{IsIn}
+use Rattle.vx_dtype.specs.Lists.{IsIn}
 use Rattle.vx_tree.proofs.Meant.{mean-unbound}
 use Rattle.vx_tree.proofs.Trees.{each_passes}
 use Rattle.vx_tree.specs.Meaning.{mean, value}

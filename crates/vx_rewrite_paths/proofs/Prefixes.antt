@@ -10,17 +10,13 @@ use Rattle.std.proofs.lemmas.Slice.Eq.{bytes_eq-Decides}
 use Rattle.vx_value.specs.Fits.{Fits}
 use Rattle.vx_value.specs.Paths.{Path, equal_path, is_member, add_path, add_paths, is_proper_prefix, has_proper_prefix, minimal_paths}
 use Rattle.vx_value.specs.Types.{LogicalType, Datum}
-use Rattle.vx_fn.specs.Faults.{IsIn}
+use Rattle.vx_dtype.specs.Lists.{IsIn}
+use Rattle.vx_dtype.proofs.Lists.{in_left}
 use Rattle.vx_rewrite_paths.specs.Agreement.{Agree, AgreeAlong}
 use Rattle.vx_rewrite_paths.specs.Leading.{Leads, EachLeads}
 use Rattle.vx_rewrite_paths.proofs.Leading.{agree-longer}
 
 -- ---- members
-
-pub in_append-left : {A : Type 0} (x : A) (xs ys : List A) → IsIn x xs → IsIn x (xs ++ ys)
-in_append-left x [] ys i = elim i [ ]
-in_append-left x (y ∷ xs) ys (inl e) = inl e
-in_append-left x (y ∷ xs) ys (inr i) = inr (in_append-left x xs ys i)
 
 in_append-last : {A : Type 0} (x : A) (xs : List A) → IsIn x (xs ++ x ∷ [])
 in_append-last x [] = inl refl
@@ -56,7 +52,7 @@ in_add-old ps x p i = go (is_member ps x)
   where
     go : (b : Bool) → IsIn p (if b then ps else ps ++ x ∷ [])
     go true = i
-    go false = in_append-left p ps (x ∷ []) i
+    go false = in_left p ps (x ∷ []) i
 
 in_add-new : (ps : List Path) (x : Path) → IsIn x (add_path ps x)
 in_add-new ps x = go (is_member ps x) refl

@@ -3,19 +3,16 @@ use Rattle.std.proofs.Common.{◌≡◌, List, [], ◌∷◌, refl, sym, ap, ◌
 use Rattle.std.specs.Prelude.{is_some}
 use Rattle.std.specs.List.{list_any}
 use Rattle.std.specs.Str.{bytes_eq}
-use Rattle.std.proofs.lemmas.Slice.Eq.{bytes_eq-Decides}
 use Rattle.vx_dtype.proofs.Known.{known_first}
+use Rattle.vx_dtype.proofs.NameTests.{same_name}
 use Rattle.vx_value.specs.Fields.{field_type, field_value, first_unknown, is_among, project, project_values, put_field}
 use Rattle.vx_value.specs.Types.{Name, LogicalType, Fields, Data, datum}
-
-same_name : (a b : Name) → bytes_eq a b ≡ true → a ≡ b
-same_name a b e = (bytes_eq-Decides a b).0 e
 
 -- a projection has the type of the first field of each of its names
 pub project-type : (b : Name) (names : List Name) (fs : Fields) → first_unknown names fs ≡ None → is_among names b ≡ true → field_type b (project names fs) ≡ field_type b fs
 project-type b [] fs k m = cc
 project-type b (a ∷ names) fs k m =
-    let x = known_first a names fs _ refl k in
+    let x = known_first a names fs k in
     go (field_type a fs) refl x.0 (bytes_eq b a) refl m (project-type b names fs x.1)
   where
     go : (o : Option LogicalType) → field_type a fs ≡ o → is_some o ≡ true → (c : Bool) → bytes_eq b a ≡ c → (c || list_any (bytes_eq b) names) ≡ true → (is_among names b ≡ true → field_type b (project names fs) ≡ field_type b fs) → field_type b (put_field a o (project names fs)) ≡ field_type b fs
@@ -27,7 +24,7 @@ project-type b (a ∷ names) fs k m =
 pub project-value : (b : Name) (names : List Name) (fs : Fields) (vs : Data) → first_unknown names fs ≡ None → is_among names b ≡ true → field_value b (project names fs) (project_values names fs vs) ≡ field_value b fs vs
 project-value b [] fs vs k m = cc
 project-value b (a ∷ names) fs vs k m =
-    let x = known_first a names fs _ refl k in
+    let x = known_first a names fs k in
     go (field_type a fs) refl x.0 (bytes_eq b a) refl m (project-value b names fs vs x.1)
   where
     go : (o : Option LogicalType) → field_type a fs ≡ o → is_some o ≡ true → (c : Bool) → bytes_eq b a ≡ c → (c || list_any (bytes_eq b) names) ≡ true → (is_among names b ≡ true → field_value b (project names fs) (project_values names fs vs) ≡ field_value b fs vs) → field_value b (put_field a o (project names fs)) (datum (field_value a fs vs) (project_values names fs vs)) ≡ field_value b fs vs

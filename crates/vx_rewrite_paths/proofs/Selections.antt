@@ -19,7 +19,7 @@ use Rattle.vx_rewrite_paths.proofs.Projections.{project-type, project-value, pro
 names-lead : (names : List Name) (fs : Fields) (n : Bool) → first_unknown names fs ≡ None → EachLeads (each_alone names) (ty (struct fs) n)
 names-lead [] fs n k = tt
 names-lead (a ∷ names) fs n k =
-    let x = known_first a names fs _ refl k in
+    let x = known_first a names fs k in
     (go (field_type a fs) x.0, names-lead names fs n x.1)
   where
     go : (o : Option LogicalType) → is_some o ≡ true → IsSomeAnd o (λ t. Unit {0})

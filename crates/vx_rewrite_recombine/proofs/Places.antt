@@ -7,9 +7,10 @@ use Rattle.std.specs.List.{list_any}
 use Rattle.std.specs.Str.{bytes_eq}
 use Rattle.std.proofs.lemmas.List.{append_cancel_left}
 use Rattle.std.proofs.lemmas.Fmt.{decimal_injective}
-use Rattle.std.proofs.lemmas.Slice.Eq.{bytes_eq-Decides}
 use Rattle.vx_value.specs.Types.{Name}
-use Rattle.vx_fn.specs.Faults.{IsIn}
+use Rattle.vx_dtype.specs.Lists.{IsIn}
+use Rattle.vx_dtype.proofs.NameTests.{own_name, other_name}
+use Rattle.vx_dtype.proofs.Lists.{in_the_middle}
 use Rattle.vx_tree.specs.Trees.{BoundTree, BoundTrees}
 use Rattle.vx_tree.specs.Views.{bounds_from}
 use Rattle.vx_rewrite_recombine.specs.Items.{tree_named}
@@ -17,16 +18,6 @@ use Rattle.vx_rewrite_recombine.specs.Pieces.{Piece, Group, pieces_of, others, a
 use Rattle.vx_rewrite_recombine.specs.Partitions.{piece_name, piece_names, Distinct, IsShared, AllShort, partition, partitions, partition_names}
 
 -- ---- names
-
-same_name : (n : Name) → bytes_eq n n ≡ true
-same_name n = (bytes_eq-Decides n n).1 refl
-
-other_name : (m n : Name) → (m ≡ n → ⊥) → bytes_eq m n ≡ false
-other_name m n h = by (bytes_eq m n) (λ e. h ((bytes_eq-Decides m n).0 e))
-  where
-    by : (b : Bool) → (b ≡ true → ⊥) → b ≡ false
-    by true k = absurd (k refl)
-    by false k = refl
 
 piece_name_injective : (t : List ℕ) (i j : ℕ) → i < 2 ^ 64 → j < 2 ^ 64 → piece_name t i ≡ piece_name t j → i ≡ j
 piece_name_injective t i j h k e = decimal_injective i j h k (append_cancel_left (t ++ codes "_") (decimal i) (decimal j) e)
@@ -49,7 +40,7 @@ named-piece : (t : List ℕ) (j i k : ℕ) (ps : List BoundTree) (p : BoundTree)
 named-piece t j i k [] p h e is = cc
 named-piece t j zero k (q ∷ ps) p h e is =
     let here : k ≡ j = omega arith in
-    let test : bytes_eq (piece_name t k) (piece_name t j) ≡ true = ap (λ x. bytes_eq (piece_name t x) (piece_name t j)) here ∙ same_name (piece_name t j) in
+    let test : bytes_eq (piece_name t k) (piece_name t j) ≡ true = ap (λ x. bytes_eq (piece_name t x) (piece_name t j)) here ∙ own_name (piece_name t j) in
     ap (λ b. if b then Some q else tree_named (piece_name t k) (piece_names t (j + 1) ps) (bounds_from ps)) test ∙ is
 named-piece t j (suc i) k (q ∷ ps) p h e is =
     let apart : k ≡ j → ⊥ = λ s. omega arith in
@@ -58,10 +49,6 @@ named-piece t j (suc i) k (q ∷ ps) p h e is =
     ap (λ b. if b then Some q else tree_named (piece_name t k) (piece_names t (j + 1) ps) (bounds_from ps)) test ∙ named-piece t (j + 1) i k ps p (omega arith) (omega arith) is
 
 -- ---- pieces of an annotation
-
-in_the_middle : {X : Type 0} (before : List X) (x : X) (after : List X) → IsIn x (before ++ (x ∷ after))
-in_the_middle [] x after = inl refl
-in_the_middle (y ∷ before) x after = inr (in_the_middle before x after)
 
 module _ {A : Type 0} (eq : A → A → Bool) (laws : IsEquivalence eq) where
   -- a piece stands behind the earlier ones with its annotation
@@ -115,7 +102,7 @@ module _ {A : Type 0} (eq : A → A → Bool) (laws : IsEquivalence eq) where
 
     name-among : (c : A) (cs : List A) → IsIn c cs → list_any (bytes_eq (name c)) (partition_names name (groups_of cs)) ≡ true
     name-among c [] i = absurd i
-    name-among c (d ∷ cs) (inl s) = rw (ap (λ z. bytes_eq (name z) (name d)) s ∙ same_name (name d)) refl
+    name-among c (d ∷ cs) (inl s) = rw (ap (λ z. bytes_eq (name z) (name d)) s ∙ own_name (name d)) refl
     name-among c (d ∷ cs) (inr i) = rw (name-among c cs i) (or-right (bytes_eq (name c) (name d)))
       where
         or-right : (t : Bool) → (t || true) ≡ true
@@ -132,7 +119,7 @@ module _ {A : Type 0} (eq : A → A → Bool) (laws : IsEquivalence eq) where
       key = h;
       alike = e;
       short = short.0;
-      found = rw (ap (λ n. bytes_eq n (name h)) (same_names a h e) ∙ same_name (name h)) refl;
+      found = rw (ap (λ n. bytes_eq n (name h)) (same_names a h e) ∙ own_name (name h)) refl;
     }
 
     found-later : (a h : A) (cs : List A) → bytes_eq (name a) (name h) ≡ false → FoundGroup a (partition_names name (groups_of cs)) (partitions text (groups_of cs))

@@ -2,18 +2,19 @@
 use Rattle.std.proofs.Common.{◌≡◌, List, [], ◌∷◌, refl, ap, subst, map}
 use Rattle.std.specs.Prelude.{Ok}
 use Rattle.vx_value.specs.Types.{Name, LogicalType, Datum}
-use Rattle.vx_value.specs.Fields.{fields_named}
-use Rattle.vx_value.specs.Joins.{Narrower, narrower, NarrowerFields, no_fields, narrower_field, narrower_struct, NarrowerEach, no_types, narrower_more}
+use Rattle.vx_value.specs.Joins.{Narrower, narrower, narrower_struct, NarrowerEach}
+use Rattle.vx_dtype.specs.Lists.{none_beside, more_beside, IsIn}
+use Rattle.vx_dtype.proofs.Lists.{map_same}
 use Rattle.vx_value.specs.Fits.{IsBatch}
 use Rattle.vx_fn.specs.Functions.{Function, fn_type}
 use Rattle.vx_tree.specs.Meaning.{value, values}
-use Rattle.vx_fn.specs.Faults.{IsIn}
 use Rattle.vx_tree.specs.Faults.{HasNoFault, first_fault, each_fault}
 use Rattle.vx_tree.specs.Trees.{BoundTree, scope, node, BoundTrees, no_bound, bound, unbound, unbound_each, node_type, node_types, typed, each_typed, WellTyped, EachWellTyped, Over, EachOver}
 use Rattle.vx_rewrite_keep.specs.Keeps.{KeepsEach}
 use Rattle.vx_fn.proofs.Rows.{fn_type-found, fn_type-only}
-use Rattle.vx_fn.proofs.Monotone.{fn_type-mono}
-use Rattle.vx_rewrite_keep.proofs.Keeping.{types-narrower, fn_value-narrower, node_fault-narrower, each_scopes, each_no_fault, each_meaning, map-equal}
+use Rattle.vx_fn.proofs.Monotone.{fn_type-mono, fields_named-mono}
+use Rattle.vx_rewrite_keep.proofs.Keeping.{types-narrower, fn_value-narrower, node_fault-narrower, each_scopes, each_no_fault, each_meaning}
+use Rattle.vx_rewrite_keep.proofs.Stepping.{same_type}
 use Rattle.vx_rewrite_recombine.specs.Items.{struct_type, joined}
 use Rattle.vx_rewrite_recombine.specs.Recombining.{Recombines}
 
@@ -27,14 +28,11 @@ record ReboundEach (rs rs' : BoundTrees) : Type 0 where
   values_are : (v : Datum) → values rs' v ≡ values rs v
   faults_are : (batch : List Datum) → each_fault rs' batch ≡ each_fault rs batch
 
-same_type : (f : Function) (ts : List LogicalType) (t u w : LogicalType) → fn_type f ts ≡ Ok t → fn_type f ts ≡ Ok u → Narrower t w → Narrower u w
-same_type f ts t u w e h p = let q : t ≡ u = cc in subst (λ t. Narrower t w) q p
-
 rows_are : (f g : List Datum → List Datum) (xs : List (List Datum)) → f ≡ g → map f xs ≡ map g xs
 rows_are f g xs e = ap (λ h. map h xs) e
 
 values_of : (rs rs' : BoundTrees) (batch : List Datum) → ((v : Datum) → values rs' v ≡ values rs v) → map (values rs') batch ≡ map (values rs) batch
-values_of rs rs' batch e = map-equal (values rs') (values rs) batch (λ v i. e v)
+values_of rs rs' batch e = map_same (values rs') (values rs) batch (λ v i. e v)
 
 node_rebound : (t t' : LogicalType) (f f' : Function) (bs bs' : BoundTrees) → f' ≡ f → fn_type f (node_types bs) ≡ Ok t → fn_type f' (node_types bs') ≡ Ok t' → ReboundEach bs bs' → Rebound (node t f bs) (node t' f' bs')
 node_rebound t t' f f' bs bs' q w w' k =
@@ -61,7 +59,7 @@ mutual
       node_rebound t t' f f' bs bs' q w.0 w'.0 (rebound_each bs bs' s s' n w.2 o w'.2 o' es)
 
   rebound_each : (bs bs' : BoundTrees) (s s' : LogicalType) → Narrower s' s → EachWellTyped bs → EachOver bs s → EachWellTyped bs' → EachOver bs' s' → unbound_each bs' ≡ unbound_each bs → ReboundEach bs bs'
-  rebound_each no_bound no_bound s s' n w o w' o' e = record { types = no_types; values_are = λ v. refl; faults_are = λ batch. refl }
+  rebound_each no_bound no_bound s s' n w o w' o' e = record { types = none_beside; values_are = λ v. refl; faults_are = λ batch. refl }
   rebound_each no_bound (bound b' bs') s s' n w o w' o' e = cc
   rebound_each (bound b bs) no_bound s s' n w o w' o' e = cc
   rebound_each (bound b bs) (bound b' bs') s s' n w o w' o' e =
@@ -70,7 +68,7 @@ mutual
       let one = rebound b b' s s' n w.0 o.0 w'.0 o'.0 q in
       let more = rebound_each bs bs' s s' n w.1 o.1 w'.1 o'.1 qs in
       record {
-        types = narrower_more one.type more.types;
+        types = more_beside one.type more.types;
         values_are = λ v. rw (one.value_is v, more.values_are v) refl;
         faults_are = λ batch. rw (one.fault_is batch, more.faults_are batch) refl;
       }
@@ -86,21 +84,16 @@ mutual
       (m.0, rw k.1 (fn_type-only m.1), m.2)
 
   each_typed_again : (rs : BoundTrees) (s s' : LogicalType) → Narrower s' s → EachWellTyped rs → EachOver rs s → (ts : List LogicalType) × (each_typed (unbound_each rs) s' ≡ Ok ts) × NarrowerEach ts (node_types rs)
-  each_typed_again no_bound s s' n w o = ([], refl, no_types)
+  each_typed_again no_bound s s' n w o = ([], refl, none_beside)
   each_typed_again (bound b bs) s s' n w o =
       let one = typed_again b s s' n w.0 o.0 in
       let more = each_typed_again bs s s' n w.1 o.1 in
-      (one.0 ∷ more.0, rw (one.1, more.1) refl, narrower_more one.2 more.2)
+      (one.0 ∷ more.0, rw (one.1, more.1) refl, more_beside one.2 more.2)
 
 -- ---- partitions that keep the old ones
 
-named-narrower : {ts us : List LogicalType} (names : List Name) → NarrowerEach ts us → NarrowerFields (fields_named names ts) (fields_named names us)
-named-narrower [] q = no_fields
-named-narrower (a ∷ names) no_types = no_fields
-named-narrower (a ∷ names) (narrower_more p q) = narrower_field p (named-narrower names q)
-
 scope_narrower : (names : List Name) (ps qs : BoundTrees) → KeepsEach ps qs → Narrower (struct_type names qs) (struct_type names ps)
-scope_narrower names ps qs ks = narrower (narrower_struct (named-narrower names (types-narrower ks))) (λ e. e)
+scope_narrower names ps qs ks = narrower (narrower_struct (fields_named-mono names (types-narrower ks))) (λ e. e)
 
 pub replaced_typed : (names : List Name) (ps qs : BoundTrees) (root : BoundTree) → KeepsEach ps qs → WellTyped root → Over root (struct_type names ps)
     → (t : LogicalType) × (typed (unbound root) (struct_type names qs) ≡ Ok t) × Narrower t (node_type root)
@@ -123,7 +116,7 @@ replaced_recombine names ps qs r r' b ks w o rec e w' o' =
         scopes = λ s p. each_scopes ks s (rec.scopes s p);
         no_part_faults = λ s batch p i n. each_no_fault ks s batch (rec.scopes s p) i (rec.no_part_faults s batch p i n);
         no_fault = λ s batch p i n.
-            let rows : map (joined qs) batch ≡ map (joined ps) batch = map-equal (joined qs) (joined ps) batch (same_row s batch p i n) in
+            let rows : map (joined qs) batch ≡ map (joined ps) batch = map_same (joined qs) (joined ps) batch (same_row s batch p i n) in
             rw (again.fault_is (map (joined qs) batch), rows) (rec.no_fault s batch p i n);
         meaning = λ s batch p i n v j.
             rw (again.value_is (joined qs v), same_row s batch p i n v j) (rec.meaning s batch p i n v j);

@@ -2,7 +2,7 @@
 use Rattle.std.specs.Prelude.{◌≡◌, ℕ, Bool, List, Option, None, map}
 use Rattle.vx_value.specs.Types.{Name, LogicalType, Datum}
 use Rattle.vx_value.specs.Fits.{IsBatch}
-use Rattle.vx_fn.specs.Faults.{IsIn}
+use Rattle.vx_dtype.specs.Lists.{IsIn}
 use Rattle.vx_tree.specs.Trees.{BoundTree, BoundTrees, node_type, WellTyped, EachWellTyped, Over, EachOver}
 use Rattle.vx_tree.specs.Meaning.{value}
 use Rattle.vx_tree.specs.Faults.{HasNoFault, each_fault}

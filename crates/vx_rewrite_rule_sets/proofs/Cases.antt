@@ -7,7 +7,7 @@ use Rattle.std.proofs.lemmas.Bool.{and_parts, eqb-true, eq-eqb}
 use Rattle.vx_value.specs.Types.{LogicalType, ty, null, with_nullability}
 use Rattle.vx_value.specs.Fits.{Fits}
 use Rattle.vx_dtype.specs.Joins.{same_base, join, union_all, Narrower, narrower}
-use Rattle.vx_fn.specs.Functions.{case_when, case_children, conditions, branches, is_truth}
+use Rattle.vx_fn.specs.Functions.{case_when, case_children, with_else, conditions, branches, is_truth}
 use Rattle.vx_fn.specs.Rows.{FnType, of_case_else, of_case}
 use Rattle.vx_fn.proofs.Monotone.{narrower_refl, shape_refl, nullable-mono, join-mono, same_at}
 use Rattle.vx_rewrite_keep.proofs.Keeping.{narrower_trans}
@@ -43,11 +43,6 @@ union_behind t u us w e =
     union_below us w (above-right t u x.0) x.1
 
 -- ---- a CASE
-
--- the type of a CASE whose values have that union
-abbrev pub with_else : Bool → LogicalType → LogicalType
-with_else true w = w
-with_else false w = with_nullability true w
 
 else_above : (has_else : Bool) (w : LogicalType) → Narrower w (with_else has_else w)
 else_above true w = narrower_refl w

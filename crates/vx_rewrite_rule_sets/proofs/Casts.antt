@@ -2,14 +2,16 @@
 use Rattle.std.proofs.Common.{◌≡◌, ◌≢◌, inl, inr, ◌+◌, ◌≤◌, List, [], ◌∷◌, refl, sym, subst, Bool, true, false, map, length, arith}
 use Rattle.std.specs.Prelude.{None, position, if◌then◌else◌}
 use Rattle.std.specs.List.{position_or_len}
-use Rattle.std.proofs.lemmas.Bool.{le-ltb}
+use Rattle.std.proofs.lemmas.Bool.{le-ltb, true≢false}
 use Rattle.vx_value.proofs.Above.{fits-above}
-use Rattle.vx_value.specs.Equality.{equal_type, equal_type-Decides}
+use Rattle.vx_value.specs.Equality.{equal_type}
+use Rattle.vx_value.specs.Deciding.{equal_type-Decides}
 use Rattle.vx_value.specs.Fits.{Fits}
 use Rattle.vx_value.specs.Types.{LogicalType, Datum}
 use Rattle.vx_fn.proofs.Monotone.{narrower_refl}
 use Rattle.vx_fn.proofs.Rows.{fn_type-only}
-use Rattle.vx_fn.specs.Faults.{IsIn, misfits}
+use Rattle.vx_fn.specs.Faults.{misfits}
+use Rattle.vx_dtype.specs.Lists.{IsIn}
 use Rattle.vx_fn.specs.Rows.{of_cast}
 use Rattle.vx_tree.proofs.Trees.{value-fits, each_passes}
 use Rattle.vx_tree.specs.Faults.{HasNoFault}
@@ -87,12 +89,9 @@ pub as_type-is : {t : LogicalType} {x u : BoundTree} → AsType t x u → as_typ
 as_type-is {t = t} {x = x} (as_it_is e) = rw (same_type (node_type x) t e) refl
 as_type-is {t = t} {x = x} (as_cast e) = rw (other_type (node_type x) t e) refl
 
-true_is_false : true ≡ false → ⊥
-true_is_false e = cc
-
 pub is-as_type : (t : LogicalType) (x : BoundTree) → AsType t x (as_type t x)
 is-as_type t x = go (equal_type (node_type x) t) refl
   where
     go : (b : Bool) → equal_type (node_type x) t ≡ b → AsType t x (if b then x else cast_node t x)
     go true q = as_it_is ((equal_type-Decides (node_type x) t).0 q)
-    go false q = as_cast (λ same. let e = same_type (node_type x) t same in true_is_false cc)
+    go false q = as_cast (λ same. let e = same_type (node_type x) t same in true≢false cc)

@@ -2,7 +2,7 @@
 use Rattle.std.proofs.Common.{◌≡◌, refl, Bool, true, false}
 use Rattle.std.specs.Prelude.{Some, None, IsSome, if◌then◌else◌}
 use Rattle.vx_dtype.proofs.Unions.{union-left, union-right, union-there}
-use Rattle.vx_dtype.specs.Equality.{same_atomic-Decides}
+use Rattle.vx_dtype.specs.Deciding.{same_atomic-Decides}
 use Rattle.vx_dtype.specs.Joins.{same_base, join, union, Narrower}
 use Rattle.vx_dtype.specs.Types.{LogicalType, Atomic, same_atomic}
 use Rattle.vx_fn.proofs.Monotone.{narrower_refl}

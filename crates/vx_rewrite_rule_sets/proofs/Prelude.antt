@@ -6,7 +6,7 @@ pub use Rattle.vx_rewrite_rule_sets.proofs.Children.{first_quiet, rest_quiet, ch
 pub use Rattle.vx_rewrite_rule_sets.proofs.Inside.{each_inside, below_inside, child-inside}
 pub use Rattle.vx_rewrite_rule_sets.proofs.Sets.{modest_stays_normal, modest_lawful, decided_functional, one_normal_form, either_normal, either_functional, either_modest, either_lawful}
 pub use Rattle.vx_rewrite_rule_sets.proofs.Casts.{keeps_as_type, as_type-weight, as_type-from, as_type-is, is-as_type}
-pub use Rattle.vx_rewrite_rule_sets.proofs.Cases.{with_else, CaseTyped, case_typed, first_narrower, OthersTyped, others_typed, else_narrower, null_fits}
+pub use Rattle.vx_rewrite_rule_sets.proofs.Cases.{CaseTyped, case_typed, first_narrower, OthersTyped, others_typed, else_narrower, null_fits}
 pub use Rattle.vx_rewrite_rule_sets.proofs.Literals.{literal_shape}
 pub use Rattle.vx_rewrite_rule_sets.proofs.Counted.{not_one, not_two, not_three, fewer_than_two}
 pub use Rattle.vx_rewrite_rule_sets.proofs.Answering.{answer_gives, answer_refuses, second_gives}

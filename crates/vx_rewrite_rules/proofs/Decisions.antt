@@ -4,7 +4,7 @@ use Rattle.std.specs.Prelude.{Option, Some, None, option_and_then, if◌then◌e
 use Rattle.std.specs.Option.{option_map}
 use Rattle.std.proofs.Math.Bool.{or-true}
 use Rattle.std.proofs.Math.Dec.{eqb-suc-zero}
-use Rattle.std.proofs.lemmas.Bool.{eqb-true}
+use Rattle.std.proofs.lemmas.Bool.{eqb-true, not-true}
 use Rattle.vx_value.specs.Fields.{project, field_count}
 use Rattle.vx_value.specs.Types.{Name, LogicalType, ty, struct, Fields, no_field, field, Datum, null, bool, is_nullable, is_null_datum}
 use Rattle.vx_fn.specs.Functions.{case_when, get_item, literal, pack, select, fill_null, zip, is_null, is_not_null, is_atomic, included}
@@ -76,16 +76,12 @@ under_test : (P : BoundTree → Type 0) (b : Bool) (x u : BoundTree) → (b ≡ 
 under_test P true x u k e = let q : x ≡ u = cc in subst P q (k refl)
 under_test P false x u k e = cc
 
-is_false : (b : Bool) → not b ≡ true → b ≡ false
-is_false true e = cc
-is_false false e = refl
-
 is_null_value : (c : Datum) → is_null_datum c ≡ true → c ≡ null
 is_null_value null e = refl
 is_null_value _ e = cc
 
 fill_rule : (t : LogicalType) (x y u : BoundTree) → fill_given x ≡ Some u → RuleAt (node t fill_null (two_bounds x y)) u
-fill_rule t x y u e = under_test (RuleAt (node t fill_null (two_bounds x y))) (not (is_nullable (node_type x))) x u (λ h. fill_of_not_null (is_false (is_nullable (node_type x)) h)) e
+fill_rule t x y u e = under_test (RuleAt (node t fill_null (two_bounds x y))) (not (is_nullable (node_type x))) x u (λ h. fill_of_not_null (not-true (is_nullable (node_type x)) h)) e
 
 -- ---- CASE
 
@@ -168,7 +164,7 @@ none_rule n selection x u w e = under_test (RuleAt (node (ty (struct no_field) n
         let f = s.from in
         let g = s.to in
         let m : s.nullable ≡ n = cc in
-        let q : n ≡ false = sym m ∙ (sym (ap is_nullable f) ∙ is_false (is_nullable (node_type x)) h) in
+        let q : n ≡ false = sym m ∙ (sym (ap is_nullable f) ∙ not-true (is_nullable (node_type x)) h) in
         rw q (select_none (f ∙ ap (ty (struct s.fields)) (m ∙ q)) (none_included s n refl))
 
     go : (x : BoundTree) → Selected selection (node_type x) (ty (struct no_field) n) → WellTyped (node (ty (struct no_field) n) (select selection) (one_bound x)) → (not (is_nullable (node_type x)) || is_pack x) ≡ true → RuleAt (node (ty (struct no_field) n) (select selection) (one_bound x)) (empty_pack n)

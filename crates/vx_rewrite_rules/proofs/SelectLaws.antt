@@ -71,7 +71,7 @@ module _ (names : List Name) (xs : BoundTrees) where
   -- what is to be shown of the first of the wanted names, given the child that it names
   by_child : (P : Option BoundTree → Type 0) (a : Name) (wanted : List Name) → first_unknown (a ∷ wanted) (fields_named names (node_types xs)) ≡ None → ((x : BoundTree) → child_named a names xs ≡ Some x → P (Some x)) → P (child_named a names xs)
   by_child P a wanted k f =
-      let q = known_first a wanted (fields_named names (node_types xs)) _ refl k in
+      let q = known_first a wanted (fields_named names (node_types xs)) k in
       go (child_named a names xs) refl (named-is_some a names xs ∙ q.0)
     where
       go : (o : Option BoundTree) → child_named a names xs ≡ o → is_some o ≡ true → P o
@@ -79,7 +79,7 @@ module _ (names : List Name) (xs : BoundTrees) where
       go (Some x) e h = f x e
 
   rest_known : (a : Name) (wanted : List Name) → first_unknown (a ∷ wanted) (fields_named names (node_types xs)) ≡ None → first_unknown wanted (fields_named names (node_types xs)) ≡ None
-  rest_known a wanted k = (known_first a wanted (fields_named names (node_types xs)) _ refl k).1
+  rest_known a wanted k = (known_first a wanted (fields_named names (node_types xs)) k).1
 
   picked-types : (wanted : List Name) → first_unknown wanted (fields_named names (node_types xs)) ≡ None → fields_named wanted (node_types (children_named wanted names xs)) ≡ project wanted (fields_named names (node_types xs))
   picked-types [] k = refl
@@ -123,7 +123,7 @@ module _ (names : List Name) (xs : BoundTrees) where
 pub project-count : (wanted : List Name) (fs : Fields) → first_unknown wanted fs ≡ None → field_count (project wanted fs) ≡ length wanted
 project-count [] fs k = refl
 project-count (a ∷ wanted) fs k =
-    let q = known_first a wanted fs _ refl k in
+    let q = known_first a wanted fs k in
     go (field_type a fs) q.0 (project-count wanted fs q.1)
   where
     go : (o : Option LogicalType) → is_some o ≡ true → field_count (project wanted fs) ≡ length wanted → field_count (put_field a o (project wanted fs)) ≡ length (a ∷ wanted)

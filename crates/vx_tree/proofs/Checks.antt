@@ -5,7 +5,7 @@ use Rattle.std.proofs.lemmas.Bool.Decides.{Decides-and, Decides-like}
 use Rattle.vx_dtype.specs.declared.error.VortexError.{VortexError}
 use Rattle.vx_dtype.specs.declared.error.VortexError.TheVariants.{OutOfMemory}
 use Rattle.vx_value.specs.Answers.{Answers}
-use Rattle.vx_value.specs.Equality.{apart, equal_type-Decides}
+use Rattle.vx_value.specs.Deciding.{apart, equal_type-Decides}
 use Rattle.vx_value.specs.Types.{LogicalType}
 use Rattle.vx_fn.specs.Functions.{Function, literal, HasFittingLiteral, Typing, fn_type}
 use Rattle.vx_tree.specs.Checked.{is_given, has_fitting_literal, is_well_typed, are_well_typed}

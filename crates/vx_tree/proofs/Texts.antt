@@ -4,7 +4,7 @@ use Rattle.std.proofs.lemmas.List.{at_drop_more, at_drop_all}
 use Rattle.std.proofs.lemmas.Bool.Decides.{nat_tests}
 use Rattle.vx_value.specs.Types.{Name}
 use Rattle.vx_fn.specs.Functions.{Function, arity_of}
-use Rattle.vx_fn.specs.Texts.{node_sql, own_sql, call_sql, after_commas, with_commas, named_texts, pairs_sql}
+use Rattle.vx_fn.specs.Texts.{node_sql, own_sql, call_sql, named_texts, pairs_sql}
 use Rattle.vx_tree.specs.Nodes.{function_at, children_of, size_of, sizes_of}
 use Rattle.vx_tree.specs.Texts.{sql, sqls, texts, pair_sql}
 use Rattle.vx_tree.specs.Trees.{Tree, root, call}
@@ -44,18 +44,6 @@ sql-own view e f xs h is n = sym (node_sql-own view f xs n) ∙ sql-node view e 
 
 pub sql-other : {A : Type 0} (view : A → Tree) (e : Tree) (f : Function) (xs : List A) → Some f ≡ function_at e → trees_from (map view xs) ≡ children_of e → length xs ≢ arity_of f → call_sql f (texts view xs) ≡ sql e
 sql-other view e f xs h is n = sym (node_sql-other view f xs n) ∙ sql-node view e f xs h is
-
--- ---- lists with commas
-
--- what is left of the texts, each behind a comma
-pub after_commas-turn : (done : List ℕ) (cs : List (List ℕ)) (i : ℕ) → i < length cs → ((done ++ codes ", ") ++ get_or cs i []) ++ after_commas (drop (i + 1) cs) ≡ done ++ after_commas (drop i cs)
-after_commas-turn done cs i lt =
-    append_assoc (done ++ codes ", ") (get_or cs i []) _ ∙ append_assoc done (codes ", ") _
-    ∙ ap (λ t. done ++ t) (sym (at_drop_more after_commas cs i [] lt))
-
-pub with_commas-first : (cs : List (List ℕ)) → 0 < length cs → get_or cs 0 [] ++ after_commas (drop 1 cs) ≡ with_commas cs
-with_commas-first [] h = absurd (omega arith)
-with_commas-first (c ∷ cs) h = refl
 
 -- ---- texts behind names
 

@@ -3,16 +3,17 @@ use Rattle.std.proofs.Common.{◌≡◌, inl, inr, ◌+◌, ◌≤◌, List, [],
 use Rattle.std.specs.Prelude.{Option, Some, None, not, cond, position, nat_lt}
 use Rattle.std.specs.List.{list_any, list_all, position_or_len, prefix_len}
 use Rattle.std.specs.Option.{option_or, option_map}
-use Rattle.std.proofs.lemmas.Bool.{and_parts, or_parts, ltb-false, le-ltb}
+use Rattle.std.proofs.lemmas.Bool.{and_parts, or_parts, ltb-false, le-ltb, not-false}
 use Rattle.vx_fn.proofs.Rows.{fn_type-found}
 use Rattle.vx_fn.proofs.Sound.{IsSafe, fn_value-fits}
 use Rattle.vx_value.specs.Types.{LogicalType, Datum, is_null_datum}
-use Rattle.vx_value.specs.Fits.{Fits, EachFits, none_fit, more_fit}
+use Rattle.vx_value.specs.Fits.{Fits, EachFits}
+use Rattle.vx_dtype.specs.Lists.{none_beside, more_beside, IsIn}
 use Rattle.vx_fn.specs.Functions.{Function, binary, adds, cast, fill_null}
 use Rattle.vx_tree.specs.Meaning.{value, values}
 use Rattle.vx_dtype.specs.declared.error.VortexError.{VortexError}
 use Rattle.vx_dtype.specs.declared.error.VortexError.TheVariants.{AddOverflow, CastNull}
-use Rattle.vx_fn.specs.Faults.{overflows, misfits, fill_of, when, node_fault, IsIn}
+use Rattle.vx_fn.specs.Faults.{overflows, misfits, fill_of, when, node_fault}
 use Rattle.vx_tree.specs.Faults.{each_fault, HasNoFault}
 use Rattle.vx_tree.specs.Trees.{BoundTree, scope, node, BoundTrees, no_bound, bound, node_type, node_types, WellTyped, EachWellTyped, Over, EachOver}
 
@@ -64,10 +65,6 @@ when_none : (b : Bool) (x : VortexError) → when b x ≡ None → b ≡ false
 when_none true x e = cc
 when_none false x e = refl
 
-not_false : (b : Bool) → not b ≡ false → b ≡ true
-not_false true e = refl
-not_false false e = cc
-
 -- ---- a node that doesn't fault on a batch is safe at each row
 
 pub row_safe : (f : Function) (ts : List LogicalType) (rows : List (List Datum)) (row : List Datum) → node_fault f ts rows ≡ None → IsIn row rows → IsSafe f ts row
@@ -76,7 +73,7 @@ row_safe (cast t) ts rows row e i = none_passes (misfits t) rows row (map_none C
 row_safe fill_null ts rows row e i =
     let a = or_parts _ _ (when_none _ _ e) in
     let b = or_parts _ _ a.0 in
-    (not_false _ b.0, none_of_any is_null_datum (map fill_of rows) (fill_of row) b.1 (IsIn-map fill_of rows row i))
+    (not-false _ b.0, none_of_any is_null_datum (map fill_of rows) (fill_of row) b.1 (IsIn-map fill_of rows row i))
 row_safe _ ts rows row e i = tt
 
 mutual
@@ -90,7 +87,7 @@ mutual
       (values-fit bs s batch v w.2 o q.0 i e)
 
   pub values-fit : (bs : BoundTrees) (s : LogicalType) (batch : List Datum) (v : Datum) → EachWellTyped bs → EachOver bs s → each_fault bs batch ≡ None → IsIn v batch → Fits v s → EachFits (values bs v) (node_types bs)
-  values-fit no_bound s batch v w o n i e = none_fit
+  values-fit no_bound s batch v w o n i e = none_beside
   values-fit (bound b bs) s batch v w o n i e =
       let q = or_none _ _ n in
-      more_fit (value-fits b s batch v w.0 o.0 q.0 i e) (values-fit bs s batch v w.1 o.1 q.1 i e)
+      more_beside (value-fits b s batch v w.0 o.0 q.0 i e) (values-fit bs s batch v w.1 o.1 q.1 i e)

@@ -3,7 +3,7 @@ use Rattle.std.proofs.Common.{◌≡◌, refl, sym, ap, ◌∙◌}
 use Rattle.std.specs.Prelude.{Ok}
 use Rattle.std.specs.Bool.{Decides}
 use Rattle.std.proofs.lemmas.Bool.Decides.{Decides-and}
-use Rattle.vx_value.specs.Equality.{equal_type-Decides}
+use Rattle.vx_value.specs.Deciding.{equal_type-Decides}
 use Rattle.vx_value.specs.Types.{LogicalType}
 use Rattle.vx_tree.specs.Binding.{node_over, binding, each_binding}
 use Rattle.vx_tree.specs.Nodes.{is_over, are_over}

@@ -4,8 +4,10 @@ use Rattle.std.specs.Bool.{Decides}
 use Rattle.std.specs.Cmp.{IsEquivalence}
 use Rattle.std.proofs.lemmas.Bool.Decides.{Decides-and, Decides-like}
 use Rattle.std.proofs.Common.{ap}
-use Rattle.vx_value.specs.Equality.{apart, itself, equivalence_of, equal_type, equal_type-Decides}
-use Rattle.vx_fn.specs.Equality.{equal_function, equal_function-Decides}
+use Rattle.vx_value.specs.Equality.{equal_type}
+use Rattle.vx_value.specs.Deciding.{apart, itself, equivalence_of, equal_type-Decides}
+use Rattle.vx_fn.specs.Equality.{equal_function}
+use Rattle.vx_fn.specs.Deciding.{equal_function-Decides}
 use Rattle.vx_tree.specs.Trees.{Tree, root, call, Trees, no_tree, tree, BoundTree, scope, node, BoundTrees, no_bound, bound}
 
 -- whether two trees, or two lists of trees, are equal

@@ -1,52 +1,61 @@
 -- The texts of the values of a list and of a struct, one at a time.
-use Rattle.std.proofs.Common.{◌≡◌, ℕ, ◌+◌, ◌<◌, ◌≤◌, min, ◌⊎◌, inl, inr, ⊎_elim, List, [], ◌++◌, length, get_or, drop, drop-cons, drop_of_length-le, refl, sym, ap, ◌∙◌, add-one, append_assoc, append-nil, arith}
-use Rattle.std.proofs.lemmas.Bool.{cases_lt}
+use Rattle.std.proofs.Common.{◌≡◌, ℕ, ◌+◌, ◌<◌, ◌≤◌, min, ⊎_elim, List, [], ◌∷◌, ◌++◌, length, get_or, drop, drop-cons, drop_of_length-le, codes, refl, sym, ap, ◌∙◌, add-one}
+use Rattle.std.specs.Prelude.{◌==◌, if◌then◌else◌}
 use Rattle.vx_dtype.specs.declared.dtype.DType.{DType}
 use Rattle.vx_value.specs.declared.value.Value.{Value}
 use Rattle.vx_value.specs.Types.{Name, LogicalType, Data, no_datum, datum, no_field}
 use Rattle.vx_value.specs.Fields.{field_count}
-use Rattle.vx_value.specs.ValueTexts.{items_text, row_text, item_text, named_text}
+use Rattle.vx_value.specs.ValueTexts.{value_text, item_texts, row_texts}
 use Rattle.vx_value.specs.Views.{type_of, fields_view, value_of, data_view}
-use Rattle.vx_dtype.proofs.Pairs.{fields_next, fields_end}
+use Rattle.vx_dtype.proofs.Commas.{behind, written_next, written_all}
+use Rattle.vx_dtype.proofs.Pairs.{fields_next, fields_end, min_cases}
 
 data_next : (values : List Value) (i : ℕ) (v : Value) → i < length values → v ≡ get_or values i v → data_view (drop i values) ≡ datum (value_of v) (data_view (drop (i + 1) values))
 data_next values i v h p = rw (add-one, drop-cons values i v h, ← p)
 
-pub items_text_step : (values : List Value) (t : LogicalType) (i : ℕ) (v : Value) (before all : List ℕ) → i < length values → v ≡ get_or values i v
-    → before ++ items_text i (data_view (drop i values)) t ≡ all
-    → (before ++ item_text i (value_of v) t) ++ items_text (i + 1) (data_view (drop (i + 1) values)) t ≡ all
-items_text_step values t i v before all h p e =
-    let rest = items_text (i + 1) (data_view (drop (i + 1) values)) t in
-    let here : items_text i (data_view (drop i values)) t ≡ item_text i (value_of v) t ++ rest =
-    ap (λ vs. items_text i vs t) (data_next values i v h p) ∙ rw add-one (simp append_assoc) in
-    append_assoc before (item_text i (value_of v) t) rest ∙ ap (λ r. before ++ r) (sym here) ∙ e
+-- ---- items
 
-pub row_text_step : (names : List Name) (values : List Value) (types : List DType) (i : ℕ) (a : Name) (v : Value) (t : DType) (before all : List ℕ)
+-- the texts of the items from the i-th on
+abbrev pub items_from : ℕ → List Value → LogicalType → List (List ℕ)
+items_from i values t = item_texts (data_view (drop i values)) t
+
+pub item_texts_next : (values : List Value) (t : LogicalType) (i : ℕ) (v : Value) (done separator all : List ℕ) → i < length values → v ≡ get_or values i v
+    → separator ≡ (if i == 0 then [] else codes ", ")
+    → done ++ behind i (items_from i values t) ≡ all
+    → ((done ++ separator) ++ value_text (value_of v) t) ++ behind (i + 1) (items_from (i + 1) values t) ≡ all
+item_texts_next values t i v done separator all h p s e =
+    written_next i done separator _ all _ s (ap (λ vs. done ++ behind i (item_texts vs t)) (sym (data_next values i v h p)) ∙ e)
+
+pub item_texts_all : (values : List Value) (t : LogicalType) (i : ℕ) (done all : List ℕ) → length values ≤ i → done ++ behind i (items_from i values t) ≡ all → done ≡ all
+item_texts_all values t i done all h e =
+    written_all i done all (ap (λ vs. done ++ behind i (item_texts (data_view vs) t)) (sym (drop_of_length-le values h)) ∙ e)
+
+-- ---- values behind their fields' names
+
+-- the texts of the values from the i-th on
+abbrev pub row_from : ℕ → List Name → List Value → List DType → List (List ℕ)
+row_from i names values types = row_texts (data_view (drop i values)) (fields_view (drop i names) (drop i types))
+
+pub row_texts_next : (names : List Name) (values : List Value) (types : List DType) (i : ℕ) (a : Name) (v : Value) (t : DType) (done separator all : List ℕ)
     → i < length names → i < length values → i < length types
-    → a ≡ get_or names i a → v ≡ get_or values i v → t ≡ get_or types i t
-    → before ++ row_text i (data_view (drop i values)) (fields_view (drop i names) (drop i types)) ≡ all
-    → (before ++ named_text i a (value_of v) (type_of t)) ++ row_text (i + 1) (data_view (drop (i + 1) values)) (fields_view (drop (i + 1) names) (drop (i + 1) types)) ≡ all
-row_text_step names values types i a v t before all h k l p q r e =
-    let rest = row_text (i + 1) (data_view (drop (i + 1) values)) (fields_view (drop (i + 1) names) (drop (i + 1) types)) in
-    let here : row_text i (data_view (drop i values)) (fields_view (drop i names) (drop i types)) ≡ named_text i a (value_of v) (type_of t) ++ rest =
-    ap (λ vs. row_text i vs (fields_view (drop i names) (drop i types))) (data_next values i v k q)
-    ∙ ap (row_text i (datum (value_of v) (data_view (drop (i + 1) values)))) (fields_next names types i a t h l p r) ∙ rw add-one (simp append_assoc) in
-    append_assoc before (named_text i a (value_of v) (type_of t)) rest ∙ ap (λ s. before ++ s) (sym here) ∙ e
+    → a ≡ get_or names i a → v ≡ get_or values i v → t ≡ get_or types i t → separator ≡ (if i == 0 then [] else codes ", ")
+    → done ++ behind i (row_from i names values types) ≡ all
+    → ((done ++ separator) ++ (a ++ (codes ": " ++ value_text (value_of v) (type_of t)))) ++ behind (i + 1) (row_from (i + 1) names values types) ≡ all
+row_texts_next names values types i a v t done separator all h k l p q r s e =
+    let here : row_from i names values types ≡ (a ++ (codes ": " ++ value_text (value_of v) (type_of t))) ∷ row_from (i + 1) names values types =
+    rw (data_next values i v k q, fields_next names types i a t h l p r) in
+    written_next i done separator _ all _ s (ap (λ ts. done ++ behind i ts) (sym here) ∙ e)
 
-no_row : (i : ℕ) (vs : Data) → row_text i vs no_field ≡ []
-no_row i no_datum = refl
-no_row i (datum v vs) = refl
+no_row : (vs : Data) → row_texts vs no_field ≡ []
+no_row no_datum = refl
+no_row (datum v vs) = refl
 
-min_cases : (m n i : ℕ) → min m n ≤ i → (m ≤ i) ⊎ (n ≤ i)
-min_cases m n i h = ⊎_elim (λ (a : m < n). inl (omega arith)) (λ (b : n ≤ m). inr (omega arith)) (cases_lt m n)
-
-row_text_end : (names : List Name) (values : List Value) (types : List DType) (i : ℕ) → min (length values) (field_count (fields_view names types)) ≤ i
-    → row_text i (data_view (drop i values)) (fields_view (drop i names) (drop i types)) ≡ []
-row_text_end names values types i h =
+row_end : (names : List Name) (values : List Value) (types : List DType) (i : ℕ) → min (length values) (field_count (fields_view names types)) ≤ i → row_from i names values types ≡ []
+row_end names values types i h =
     ⊎_elim (λ (a : length values ≤ i). rw (drop_of_length-le values a))
-    (λ (b : field_count (fields_view names types) ≤ i). ap (row_text i (data_view (drop i values))) (fields_end names types i b) ∙ no_row i _)
+    (λ (b : field_count (fields_view names types) ≤ i). ap (row_texts (data_view (drop i values))) (fields_end names types i b) ∙ no_row _)
     (min_cases (length values) (field_count (fields_view names types)) i h)
 
-pub row_text_all : (names : List Name) (values : List Value) (types : List DType) (i : ℕ) (before all : List ℕ) → min (length values) (field_count (fields_view names types)) ≤ i
-    → before ++ row_text i (data_view (drop i values)) (fields_view (drop i names) (drop i types)) ≡ all → before ≡ all
-row_text_all names values types i before all h e = sym (append-nil before) ∙ ap (λ r. before ++ r) (sym (row_text_end names values types i h)) ∙ e
+pub row_texts_all : (names : List Name) (values : List Value) (types : List DType) (i : ℕ) (done all : List ℕ) → min (length values) (field_count (fields_view names types)) ≤ i
+    → done ++ behind i (row_from i names values types) ≡ all → done ≡ all
+row_texts_all names values types i done all h e = written_all i done all (ap (λ ts. done ++ behind i ts) (sym (row_end names values types i h)) ∙ e)

@@ -5,4 +5,5 @@ pub mod Above
 pub mod ItemTexts
 pub mod Misfits
 pub mod PathSets
+pub mod TakenRows
 pub mod StructRows

@@ -10,7 +10,8 @@ use Rattle.std.proofs.lemmas.Map.Made.{is_some-lookup}
 use Rattle.indexmap.specs.IndexMap.{IndexMap, keys, values, insert_entry}
 use Rattle.indexmap.proofs.CallerLemmas.{insert_entry-new}
 use Rattle.vx_value.specs.declared.field_path.Field.{Field}
-use Rattle.vx_value.specs.Paths.{Path, name_equiv, part_name, path_of, equal_path, is_member, add_path, is_proper_prefix, has_proper_prefix}
+use Rattle.vx_value.specs.Paths.{Path, part_name, path_of, equal_path, is_member, add_path, is_proper_prefix, has_proper_prefix}
+use Rattle.vx_value.specs.Deciding.{name_equiv}
 
 -- comparing parts is comparing paths
 pub parts_alike : (xs ys : List Field) → pointwise (λ a b. bytes_eq (part_name a) (part_name b)) xs ys ≡ equal_path (path_of xs) (path_of ys)

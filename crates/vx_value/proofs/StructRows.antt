@@ -1,26 +1,26 @@
 -- Columns out of whose rows structs are made.
-use Rattle.std.proofs.Common.{◌≡◌, ◌≢◌, ℕ, ◌+◌, ◌<◌, ◌≤◌, List, [], ◌∷◌, ◌++◌, map, length, get_or, take, refl, sym, ap, ◌∙◌, arith, zero, suc, true, Bool, get_or-set_other, rules, vec_len}
+use Rattle.std.proofs.Common.{◌≡◌, ℕ, ◌+◌, ◌<◌, List, [], ◌∷◌, ◌++◌, map, length, get_or, refl, sym, ap, ◌∙◌, arith, zero, suc, true, Bool, rules, vec_len}
 use Rattle.std.specs.Prelude.{◌==◌, ◌⊎◌, None, Result, Ok, Err, IfOk}
 use Rattle.std.specs.declared.alloc.AllocError.{AllocError}
 use Rattle.std.specs.List.{AllZip, range_with_len}
 use Rattle.std.proofs.Common.{inl, inr}
-use Rattle.std.proofs.Math.ListN.{set}
 use Rattle.std.proofs.lemmas.Bool.{and_parts, and_from, eqb-true}
-use Rattle.std.proofs.lemmas.List.{map-append, map-set, get_or-map, ext_get_or, length-map}
+use Rattle.std.proofs.lemmas.List.{map-append, get_or-map, ext_get_or, length-map}
+use Rattle.std.proofs.lemmas.List.Elements.{All-nil, All-cons, All-head, All-tail}
 use Rattle.std.proofs.lemmas.List.FromFn.{map-range_with_len_more, length-map-range_with_len, get_or-map-range_with_len}
 use Rattle.std.specs.Global.{Vec}
 use Rattle.vx_dtype.specs.declared.dtype.DType.{DType, the_lemmas as the_types}
 use Rattle.vx_dtype.specs.declared.dtype.DType.TheVariants as DType
 use Rattle.vx_dtype.specs.declared.dtype.Nullability.{Nullability}
 use Rattle.vx_dtype.specs.declared.dtype.StructFields.{StructFields}
-use Rattle.vx_value.specs.declared.value.Value.{Value, the_lemmas}
-use Rattle.vx_value.specs.declared.value.Value.TheVariants.{Struct}
+use Rattle.vx_value.specs.declared.value.Value.{Value}
 use Rattle.vx_value.specs.Types.{Name, LogicalType, ty, struct, Datum, null, struct_of}
 use Rattle.vx_value.specs.Fields.{data_of, fields_named}
-use Rattle.vx_value.specs.Fits.{Fits, IsBatch, EachFits, none_fit, more_fit}
+use Rattle.vx_value.specs.Fits.{Fits, IsBatch, EachFits}
+use Rattle.vx_dtype.specs.Lists.{none_beside, more_beside}
 use Rattle.vx_value.specs.Views.{admits_null, fields_of, type_of, value_of}
 use Rattle.vx_value.specs.Columns.{Batch, first_misfit}
-use Rattle.vx_value.specs.StructColumns.{rows_in, types_in, columns_of, EachFit, all_long, HaveRow, row_at, struct_at, struct_rows, struct_type}
+use Rattle.vx_value.specs.StructColumns.{rows_in, types_in, EachFit, all_long, HaveRow, row_at, struct_at, struct_rows, struct_type}
 use Rattle.vx_value.proofs.Fitting.{pack-fits}
 use Rattle.vx_value.proofs.Lists.{fits_at}
 use Rattle.vx_value.proofs.Misfits.{no_misfit}
@@ -38,69 +38,7 @@ owned_rows rows (Ok values) (inl e) = ap (λ (v : Vec Value). map value_of v.ite
 owned_rows rows (Ok values) (inr h) = clones_alike rows.items values.items h.0
 owned_rows rows (Err e) h = tt
 
--- ---- one value is taken out of one of the columns
-
--- where one value is replaced, the others stay
-pub others_stay : (vs : List Value) (i k : ℕ) (x : Value) → k ≢ i → get_or (map value_of (set vs i x)) k null ≡ get_or (map value_of vs) k null
-others_stay vs i k x apart = rw (map-set, get_or-set_other) refl
-
--- columns of the same lengths have the same rows
-pub row_still : (i : ℕ) (cs ds : List (List Datum)) → map length ds ≡ map length cs → HaveRow i cs → HaveRow i ds
-row_still i [] [] e h = tt
-row_still i (c ∷ cs) (d ∷ ds) e h =
-    let first : length d ≡ length c = cc in
-    let rest : map length ds ≡ map length cs = cc in
-    (omega (arith, first, h.0), row_still i cs ds rest h.1)
-row_still i [] (d ∷ ds) e h = cc
-row_still i (c ∷ cs) [] e h = cc
-
-pub row_there : (vs : List (Vec Value)) (i m : ℕ) (v : Vec Value) → HaveRow i (columns_of vs) → m < length vs → v ≡ get_or vs m v → i < length (map value_of v.items)
-row_there [] i m v h lt is = absurd (omega arith)
-row_there (x ∷ xs) i zero v h lt is = rw is h.0
-row_there (x ∷ xs) i (suc m) v h lt is = row_there xs i m v h.1 (omega arith) is
-
--- a row's value in one of the columns
-pub at_place : (vs : List (Vec Value)) (i m : ℕ) (v : Vec Value) → m < length vs → v ≡ get_or vs m v → get_or (row_at i (columns_of vs)) m null ≡ get_or (map value_of v.items) i null
-at_place [] i m v lt is = absurd (omega arith)
-at_place (x ∷ xs) i zero v lt is = ap (λ (y : Vec Value). get_or (map value_of y.items) i null) (sym is)
-at_place (x ∷ xs) i (suc m) v lt is = at_place xs i m v (omega arith) is
-
--- a column is replaced by one that is the same in that row
-pub row_kept : (vs : List (Vec Value)) (k m : ℕ) (v w : Vec Value) → m < length vs → v ≡ get_or vs m v → get_or (map value_of w.items) k null ≡ get_or (map value_of v.items) k null →
-    row_at k (columns_of (set vs m w)) ≡ row_at k (columns_of vs)
-row_kept [] k m v w lt is same = absurd (omega arith)
-row_kept (x ∷ xs) k zero v w lt is same = ap (λ d. d ∷ row_at k (columns_of xs)) (same ∙ ap (λ (y : Vec Value). get_or (map value_of y.items) k null) is)
-row_kept (x ∷ xs) k (suc m) v w lt is same = ap (λ row. get_or (map value_of x.items) k null ∷ row) (row_kept xs k m v w (omega arith) is same)
-
--- the other columns stay
-pub place_kept : (vs : List (Vec Value)) (i m j : ℕ) (w : Vec Value) → j ≢ m → get_or (row_at i (columns_of (set vs m w))) j null ≡ get_or (row_at i (columns_of vs)) j null
-place_kept [] i m j w apart = refl
-place_kept (x ∷ xs) i zero zero w apart = absurd (apart refl)
-place_kept (x ∷ xs) i zero (suc j) w apart = refl
-place_kept (x ∷ xs) i (suc m) zero w apart = refl
-place_kept (x ∷ xs) i (suc m) (suc j) w apart = place_kept xs i m j w (λ e. apart (ap suc e))
-
--- and so do the lengths, with a column of the same length
-pub lengths_kept : (vs : List (Vec Value)) (m : ℕ) (v w : Vec Value) → m < length vs → v ≡ get_or vs m v → length (map value_of w.items) ≡ length (map value_of v.items) →
-    map length (columns_of (set vs m w)) ≡ map length (columns_of vs)
-lengths_kept [] m v w lt is same = absurd (omega arith)
-lengths_kept (x ∷ xs) zero v w lt is same = ap (λ n. n ∷ map length (columns_of xs)) (same ∙ ap (λ (y : Vec Value). length (map value_of y.items)) is)
-lengths_kept (x ∷ xs) (suc m) v w lt is same = ap (λ ns. length (map value_of x.items) ∷ ns) (lengths_kept xs m v w (omega arith) is same)
-
-pub row_long : (vs : List (Vec Value)) (i : ℕ) → length (row_at i (columns_of vs)) ≡ length vs
-row_long [] i = refl
-row_long (x ∷ xs) i = ap suc (row_long xs i)
-
 -- ---- the struct of a row
-
-pub value_of-Struct : (v : Vec Value) → value_of (Struct v) ≡ struct_of (data_of (map value_of v.items))
-value_of-Struct v = search (rules, the_lemmas)
-
-pub whole : {A : Type 0} (xs : List A) (n : ℕ) → length xs ≤ n → take n xs ≡ xs
-whole [] zero h = refl
-whole [] (suc n) h = refl
-whole (x ∷ xs) zero h = absurd (omega arith)
-whole (x ∷ xs) (suc n) h = ap (λ l. x ∷ l) (whole xs n (omega arith))
 
 -- one more struct, of the loop's row
 pub struct_pushed : (columns : List (List Datum)) (out new : List Value) (i : ℕ) (v : Value) → map value_of out ≡ struct_rows i columns → new ≡ out ++ v ∷ [] → value_of v ≡ struct_at columns i → map value_of new ≡ struct_rows (i + 1) columns
@@ -110,16 +48,24 @@ struct_pushed columns out new i v so_far pushed here =
 
 -- ---- columns that are as long as they should be, and whose rows fit
 
+abbrev IsLong : ℕ → List Datum → Type 0
+IsLong k rows = k < length rows
+
+abbrev RowsFit : Batch → Type 0
+RowsFit c = first_misfit c.type c.rows ≡ None
+
 pub rows_there : (n : ℕ) (cs : List Batch) → all_long n cs ≡ true → (k : ℕ) → k < n → HaveRow k (rows_in cs)
-rows_there n [] e k h = tt
+rows_there n [] e k h = All-nil (IsLong k)
 rows_there n (c ∷ cs) e k h =
     let parts = and_parts (length c.rows == n) (all_long n cs) e in
     let here : length c.rows ≡ n = eqb-true (length c.rows) n parts.0 in
-    (omega arith, rows_there n cs parts.1 k h)
+    All-cons (IsLong k) c.rows (rows_in cs) (omega arith) (rows_there n cs parts.1 k h)
 
 row_fits : (cs : List Batch) (k : ℕ) → EachFit cs → HaveRow k (rows_in cs) → EachFits (row_at k (rows_in cs)) (types_in cs)
-row_fits [] k fit h = none_fit
-row_fits (c ∷ cs) k fit h = more_fit (fits_at c.type c.rows k null (fit zero c (omega arith)) h.0) (row_fits cs k (λ j d lt. fit (suc j) d (omega arith)) h.1)
+row_fits [] k fit h = none_beside
+row_fits (c ∷ cs) k fit h =
+    more_beside (fits_at c.type c.rows k null (All-head RowsFit c cs fit) (All-head (IsLong k) c.rows (rows_in cs) h))
+    (row_fits cs k (All-tail RowsFit c cs fit) (All-tail (IsLong k) c.rows (rows_in cs) h))
 
 each_fits : (t : LogicalType) (f : ℕ → Datum) (a n : ℕ) → ((k : ℕ) → k < a + n → Fits (f k) t) → IsBatch t (map f (range_with_len a n))
 each_fits t f a zero h = refl

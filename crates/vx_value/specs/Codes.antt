@@ -1,4 +1,4 @@
--- A code of values, so that they may be what a `Model` shows.
+-- Scaffolding: a code of values, so that they may be what a `Model` shows.
 use Rattle.std.specs.Prelude.{◌≡◌, refl}
 use Rattle.std.specs.Coded.{Coded, coded_ℤ, coded_bool}
 use Rattle.std.proofs.Common.{ap}

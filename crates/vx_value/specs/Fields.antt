@@ -2,7 +2,7 @@
 use Rattle.std.specs.Prelude.{List, [], ◌∷◌, if◌then◌else◌}
 use Rattle.std.specs.Str.{bytes_eq}
 use Rattle.vx_value.specs.Types.{Name, Fields, field, Datum, null, Data, no_datum, datum}
-pub use Rattle.vx_dtype.specs.Fields.{field_type, field_names, is_among, names_without, field_count, put_field, project, first_unknown, fields_named}
+pub use Rattle.vx_dtype.specs.Fields.{field_type, field_names, is_among, names_without, first_missing, field_count, put_field, project, first_unknown, fields_named}
 
 -- the value of the first field of that name
 abbrev pub field_value : Name → Fields → Data → Datum

@@ -1,6 +1,7 @@
 -- Which values are of a type.
-use Rattle.std.specs.Prelude.{ℕ, ◌+◌, ◌^◌, Bool, true, false, ◌&&◌, ◌==◌, List, [], ◌∷◌, ℤ, pos, negsuc, IsTrue, nat_lt}
+use Rattle.std.specs.Prelude.{ℕ, ◌+◌, ◌^◌, Bool, true, false, ◌&&◌, ◌==◌, List, ℤ, pos, negsuc, IsTrue, nat_lt}
 use Rattle.std.specs.List.{list_all}
+use Rattle.vx_dtype.specs.Lists.{Beside}
 use Rattle.vx_dtype.specs.declared.dtype.PType.{PType}
 use Rattle.vx_value.specs.Types.{bits, is_signed, truth, number, text, octets, LogicalType, ty, atomic, list, fixed, struct, Fields, no_field, field, Datum, null, bool, int, utf8, bytes, list_of, struct_of, Data, no_datum, datum}
 
@@ -47,39 +48,5 @@ abbrev pub IsBatch : LogicalType → List Datum → Type 0
 IsBatch s batch = IsTrue (list_all (λ v. fits v s) batch)
 
 -- each value is one of the type beside it
-pub data EachFits : List Datum → List LogicalType → Type 0 where
-  none_fit : EachFits [] []
-  more_fit : {v : Datum} {t : LogicalType} {vs : List Datum} {ts : List LogicalType} → Fits v t → EachFits vs ts → EachFits (v ∷ vs) (t ∷ ts)
-
--- whether the value is one of the type but for nulls and the ranges of numbers, as it stays where a node faults
-abbrev mutual
-  pub shaped : Datum → LogicalType → Bool
-  shaped null t = true
-  shaped (bool b) (ty (atomic truth) n) = true
-  shaped (int i) (ty (atomic (number p)) n) = true
-  shaped (utf8 t) (ty (atomic text) n) = true
-  shaped (bytes t) (ty (atomic octets) n) = true
-  shaped (list_of vs) (ty (list t) n) = each_shaped vs t
-  shaped (list_of vs) (ty (fixed t k) n) = (count vs == k) && each_shaped vs t
-  shaped (struct_of vs) (ty (struct fs) n) = fields_shaped vs fs
-  shaped _ _ = false
-
-  -- so for each item of a list
-  pub each_shaped : Data → LogicalType → Bool
-  each_shaped no_datum t = true
-  each_shaped (datum v vs) t = shaped v t && each_shaped vs t
-
-  -- so for each value of a struct and the field beside it
-  pub fields_shaped : Data → Fields → Bool
-  fields_shaped no_datum no_field = true
-  fields_shaped (datum v vs) (field a t fs) = shaped v t && fields_shaped vs fs
-  fields_shaped _ _ = false
-
--- the value is one of the type but for nulls and the ranges of numbers
-abbrev pub Shaped : Datum → LogicalType → Type 0
-Shaped v t = IsTrue (shaped v t)
-
--- so for each value and the type beside it
-pub data AllShaped : List Datum → List LogicalType → Type 0 where
-  none_shaped : AllShaped [] []
-  more_shaped : {v : Datum} {t : LogicalType} {vs : List Datum} {ts : List LogicalType} → Shaped v t → AllShaped vs ts → AllShaped (v ∷ vs) (t ∷ ts)
+abbrev pub EachFits : List Datum → List LogicalType → Type 0
+EachFits = Beside Fits

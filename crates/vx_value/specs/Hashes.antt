@@ -1,10 +1,9 @@
 -- What a value feeds to a hasher, so that equal ones are hashed alike.
 use Rattle.std.specs.Prelude.{◌++◌}
-use Rattle.std.specs.Hash.{HashWrites, Alike, same_Alike}
+use Rattle.std.specs.Hash.{HashWrites}
 use Rattle.std.specs.Hash as fed
 use Rattle.vx_value.specs.Values.{Datum, null, bool, int, utf8, bytes, list_of, struct_of, Data, no_datum, datum}
-use Rattle.vx_value.specs.Equality.{equal_datum, equal_datum-Decides}
-pub use Rattle.vx_dtype.specs.Hashes.{atomic_fed, type_fed, shape_fed, fields_fed, type_alike, fields_alike}
+pub use Rattle.vx_dtype.specs.Hashes.{atomic_fed, type_fed, shape_fed, fields_fed}
 
 -- a value is hashed as its kind's number and what it holds
 abbrev mutual
@@ -21,7 +20,3 @@ abbrev mutual
   pub data_fed : Data → HashWrites
   data_fed no_datum = fed.u8 0
   data_fed (datum v vs) = fed.u8 1 ++ (datum_fed v ++ data_fed vs)
-
--- equal values are hashed alike
-pub datum_alike : Alike equal_datum datum_fed
-datum_alike = same_Alike datum_fed equal_datum-Decides

@@ -5,6 +5,7 @@ pub mod Fields
 pub mod Views
 pub mod Equality
 pub mod Hashes
+pub mod Deciding
 pub mod Codes
 pub mod Columns
 pub mod StructColumns

@@ -2,10 +2,7 @@
 use Rattle.std.specs.Prelude.{Bool, true, false, not, ◌&&◌, List, [], ◌∷◌, ◌++◌, map, filter, fold, if◌then◌else◌}
 use Rattle.std.specs.List.{list_any}
 use Rattle.std.specs.Str.{bytes_eq}
-use Rattle.std.specs.Cmp.{IsEquivalence}
-use Rattle.std.specs.Cmp.Lexicographic.{pointwise, lists_equiv, nat_list_eq_equiv}
-use Rattle.std.specs.Hash.{Alike, str, same_Alike}
-use Rattle.std.proofs.lemmas.Slice.Eq.{bytes_eq-Decides}
+use Rattle.std.specs.Cmp.Lexicographic.{pointwise}
 use Rattle.vx_value.specs.Types.{Name}
 use Rattle.vx_value.specs.declared.field_path.Field.{Field}
 use Rattle.vx_value.specs.declared.field_path.Field.TheVariants.{Name as named}
@@ -25,17 +22,6 @@ path_of = map part_name
 -- whether two paths are the same
 abbrev pub equal_path : Path → Path → Bool
 equal_path = pointwise bytes_eq
-
--- being the same name, and the same path, are equivalences
-pub name_equiv : IsEquivalence bytes_eq
-name_equiv = nat_list_eq_equiv
-
-pub equal_path_equiv : IsEquivalence equal_path
-equal_path_equiv = lists_equiv name_equiv
-
--- equal names are hashed alike
-pub name_alike : Alike bytes_eq str
-name_alike = same_Alike str bytes_eq-Decides
 
 -- whether the path is one of these
 abbrev pub is_member : List Path → Path → Bool

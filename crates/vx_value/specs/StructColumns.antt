@@ -1,5 +1,5 @@
 -- Columns joined into a column of structs, row by row.
-use Rattle.std.specs.Prelude.{◌≡◌, ℕ, ◌<◌, ◌==◌, Bool, List, [], ◌∷◌, map, length, get_or, None, All, Result, Ok, Err, if◌then◌else◌}
+use Rattle.std.specs.Prelude.{◌≡◌, ℕ, ◌<◌, ◌==◌, Bool, List, map, length, get_or, None, All, Result, Ok, Err, if◌then◌else◌}
 use Rattle.std.specs.List.{list_all, range_with_len}
 use Rattle.std.specs.Global.{Vec}
 use Rattle.vx_dtype.specs.declared.error.VortexError.{VortexError}
@@ -32,8 +32,7 @@ all_long n cs = list_all (λ (c : Batch). length c.rows == n) cs
 
 -- each column has a row of that index
 abbrev pub HaveRow : ℕ → List (List Datum) → Type 0
-HaveRow k [] = Unit {0}
-HaveRow k (rows ∷ others) = (k < length rows) × HaveRow k others
+HaveRow k columns = All (λ rows. k < length rows) columns
 
 -- row k of columns: each column's value there
 abbrev pub row_at : ℕ → List (List Datum) → List Datum

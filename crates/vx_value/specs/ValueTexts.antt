@@ -1,10 +1,10 @@
 -- The text of a value of a type, and of a column.
-use Rattle.std.specs.Prelude.{ℕ, suc, true, false, List, [], ◌∷◌, ◌++◌, codes, ◌/◌, ◌%◌}
+use Rattle.std.specs.Prelude.{ℕ, true, false, List, [], ◌∷◌, ◌++◌, codes, ◌/◌, ◌%◌}
 use Rattle.std.specs.Fmt.{signed_decimal, digit_glyph}
 use Rattle.std.specs.List.{flat_map}
-use Rattle.vx_value.specs.Types.{Name, number, LogicalType, ty, atomic, list, fixed, struct, Fields, field, Datum, null, bool, int, utf8, bytes, list_of, struct_of, Data, no_datum, datum}
+use Rattle.vx_value.specs.Types.{number, LogicalType, ty, atomic, list, fixed, struct, Fields, field, Datum, null, bool, int, utf8, bytes, list_of, struct_of, Data, no_datum, datum}
 use Rattle.vx_value.specs.Fields.{data_of}
-use Rattle.vx_value.specs.Texts.{ptype_text, separator_at}
+use Rattle.vx_value.specs.Texts.{with_commas, ptype_text}
 
 -- two digits a byte
 abbrev pub hex_byte : ℕ → List ℕ
@@ -19,29 +19,25 @@ abbrev mutual
   value_text (int i) (ty (atomic (number p)) n) = signed_decimal i ++ ptype_text p
   value_text (utf8 s) t = codes "\"" ++ (s ++ codes "\"")
   value_text (bytes bs) t = codes "0x" ++ flat_map hex_byte bs
-  value_text (list_of vs) (ty (list t) n) = codes "[" ++ (items_text 0 vs t ++ codes "]")
-  value_text (list_of vs) (ty (fixed t k) n) = codes "[" ++ (items_text 0 vs t ++ codes "]")
-  value_text (struct_of vs) (ty (struct fs) n) = codes "{" ++ (row_text 0 vs fs ++ codes "}")
+  value_text (list_of vs) (ty (list t) n) = codes "[" ++ (with_commas (item_texts vs t) ++ codes "]")
+  value_text (list_of vs) (ty (fixed t k) n) = codes "[" ++ (with_commas (item_texts vs t) ++ codes "]")
+  value_text (struct_of vs) (ty (struct fs) n) = codes "{" ++ (with_commas (row_texts vs fs) ++ codes "}")
   value_text _ _ = []
 
-  -- the items of a list, of which the first is the i-th
-  pub items_text : ℕ → Data → LogicalType → List ℕ
-  items_text i no_datum t = []
-  items_text i (datum v vs) t = separator_at i ++ (value_text v t ++ items_text (suc i) vs t)
+  -- each item of a list
+  pub item_texts : Data → LogicalType → List (List ℕ)
+  item_texts no_datum t = []
+  item_texts (datum v vs) t = value_text v t ∷ item_texts vs t
 
-  -- the values of a struct after their fields' names, of which the first is the i-th
-  pub row_text : ℕ → Data → Fields → List ℕ
-  row_text i (datum v vs) (field a t fs) = separator_at i ++ (a ++ (codes ": " ++ (value_text v t ++ row_text (suc i) vs fs)))
-  row_text i _ _ = []
+  -- each value of a struct after its field's name
+  pub row_texts : Data → Fields → List (List ℕ)
+  row_texts (datum v vs) (field a t fs) = (a ++ (codes ": " ++ value_text v t)) ∷ row_texts vs fs
+  row_texts _ _ = []
 
--- the value of that index with what separates it from the one before
-abbrev pub item_text : ℕ → Datum → LogicalType → List ℕ
-item_text i v t = separator_at i ++ value_text v t
-
--- the same after the name of its field
-abbrev pub named_text : ℕ → Name → Datum → LogicalType → List ℕ
-named_text i a v t = separator_at i ++ (a ++ (codes ": " ++ value_text v t))
+-- the items of a list, between brackets
+abbrev pub list_text : Data → LogicalType → List ℕ
+list_text vs t = codes "[" ++ (with_commas (item_texts vs t) ++ codes "]")
 
 -- the rows of a column, as a list
 abbrev pub column_text : List Datum → LogicalType → List ℕ
-column_text rows t = codes "[" ++ (items_text 0 (data_of rows) t ++ codes "]")
+column_text rows t = list_text (data_of rows) t

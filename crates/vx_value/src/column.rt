@@ -2,7 +2,8 @@
 ghost use Rattle.std.specs.Prelude.{◌≡◌, ℕ, ◌<◌, ◌==◌, IsErrOf, MatchOption, Ok, None, length, map, get_or};
 ghost use Rattle.std.specs.Cmp.{partial_equiv_from_equiv};
 ghost use Rattle.vx_value.specs.Answers.{Answers};
-ghost use Rattle.vx_value.specs.Columns.{Batch, batch, first_misfit, equal_batch, equal_batch_equiv};
+ghost use Rattle.vx_value.specs.Columns.{Batch, batch, first_misfit, equal_batch};
+ghost use Rattle.vx_value.specs.Deciding.{equal_batch_equiv};
 ghost use Rattle.vx_value.specs.Types.{null};
 ghost use Rattle.vx_value.specs.Fits.{Fits};
 ghost use Rattle.vx_value.specs.Views.{type_of, value_of};
@@ -10,7 +11,7 @@ ghost use Rattle.vx_dtype.specs.declared.error.VortexError.TheVariants.{RowMisfi
 
 use crate::Value;
 use crate::value::equal_all;
-use crate::value_texts::write_items;
+use crate::value_texts::write_list;
 use std::alloc::AllocError;
 use std::fmt;
 use std::marker::Model;
@@ -145,9 +146,7 @@ impl fmt::Display for Column {
     ghost output = { λ c. Some (column_text c.rows c.type) };
 
     fn fmt<W: fmt::Write>(&self, f: &mut fmt::Formatter<W>) -> fmt::Result {
-        f.write_str("[")?;
-        write_items(self.rows.as_slice(), &self.dtype, f)?;
-        f.write_str("]")
+        write_list(self.rows.as_slice(), &self.dtype, f)
     }
 }
 

@@ -4,8 +4,8 @@ ghost use Rattle.std.specs.Cmp.{on_equiv, on_per, partial_equiv_from_equiv};
 ghost use Rattle.std.specs.Hash as fed;
 ghost use Rattle.std.specs.Str.{bytes_eq};
 ghost use Rattle.vx_value.specs.Answers.{Answers, Exactly};
-ghost use Rattle.vx_value.specs.Names.{names_alike};
-ghost use Rattle.vx_value.specs.Paths.{equal_path, equal_path_equiv, part_name, name_equiv, name_alike, path_of};
+ghost use Rattle.vx_value.specs.Deciding.{equal_path_equiv, name_equiv, name_alike, names_alike};
+ghost use Rattle.vx_value.specs.Paths.{equal_path, part_name, path_of};
 
 use std::alloc::{AllocError, Global};
 use std::fmt;

@@ -8,6 +8,7 @@ mod fits;
 pub mod laws;
 mod scalar;
 mod struct_column;
+mod taking;
 mod value;
 mod value_texts;
 
@@ -15,4 +16,5 @@ pub use column::Column;
 pub use field_path::{Field, FieldPath};
 pub use field_path_set::{FieldPathSet, FieldPaths};
 pub use scalar::Scalar;
+pub use taking::{TakeRow, take_row};
 pub use value::Value;

@@ -1,13 +1,11 @@
 // Columns joined into a column of structs.
-ghost use Rattle.std.specs.Prelude.{◌≡◌, ◌≢◌, ◌<◌, ℕ, IsErrOf, IfOk, List, false, get_or, length, map};
+ghost use Rattle.std.specs.Prelude.{◌≡◌, ◌<◌, ℕ, IsErrOf, IfOk, false, length, map};
 ghost use Rattle.vx_value.specs.Answers.{Answers};
-ghost use Rattle.vx_value.specs.Fields.{data_of};
-ghost use Rattle.vx_value.specs.StructColumns.{all_long, rows_in, types_in, HaveRow, row_at, struct_rows, struct_column, EachFit, columns_of};
-ghost use Rattle.vx_value.specs.Types.{null, struct_of};
+ghost use Rattle.vx_value.specs.StructColumns.{all_long, rows_in, types_in, HaveRow, struct_rows, struct_column, EachFit, columns_of};
 ghost use Rattle.vx_value.specs.Views.{admits_null, type_of, value_of};
 ghost use Rattle.vx_dtype.specs.declared.error.VortexError.TheVariants.{LengthMismatch};
 
-use crate::{Column, Value};
+use crate::{Column, Value, take_row};
 use std::alloc::{AllocError, Global};
 use std::rc::Rc;
 use vx_dtype::{DType, FieldNames, Nullability, StructFields, VortexError, VortexResult};
@@ -84,41 +82,4 @@ fn struct_rows(
         structs.push(take_row(alloc, &mut columns, i)?)?;
     }
     Ok(structs)
-}
-
-// The struct of the columns' values in that row, moved out of them. Asks a row that each column has.
-fn take_row(alloc: Global, columns: &mut Vec<Vec<Value>>, i: usize) -> Result<Value, AllocError>
-    requires { HaveRow i (columns_of columns.old.items) }
-    ensures value { IfOk result (λ v. value_of v ≡ struct_of (data_of (row_at i (columns_of columns.old.items)))) }
-    ensures others { (k : ℕ) → k ≢ i → row_at k (columns_of columns.new.items) ≡ row_at k (columns_of columns.old.items) }
-    ensures long { map length (columns_of columns.new.items) ≡ map length (columns_of columns.old.items) }
-{
-    let mut items = Vec::with_capacity(alloc, columns.len())?;
-    for place in 0..columns.len() {
-        items.push(take_at(columns, place, i))?;
-    }
-    Ok(Value::Struct(items))
-}
-
-// The value of that row of that column, moved out of it; what stands elsewhere stays. Asks a column
-// that is there, and a row that each column has.
-fn take_at(columns: &mut Vec<Vec<Value>>, place: usize, i: usize) -> Value
-    requires within { place < length columns.old.items }
-    requires row { HaveRow i (columns_of columns.old.items) }
-    ensures value { value_of result ≡ get_or (row_at i (columns_of columns.old.items)) place null }
-    ensures rest { (m : ℕ) → m ≢ place → get_or (row_at i (columns_of columns.new.items)) m null ≡ get_or (row_at i (columns_of columns.old.items)) m null }
-    ensures others { (k : ℕ) → k ≢ i → row_at k (columns_of columns.new.items) ≡ row_at k (columns_of columns.old.items) }
-    ensures long { map length (columns_of columns.new.items) ≡ map length (columns_of columns.old.items) }
-{
-    take(&mut columns[place], i)
-}
-
-// The value at that place, moved out of it; the others stay. Asks a place that is there.
-fn take(values: &mut Vec<Value>, i: usize) -> Value
-    requires { i < length values.old.items }
-    ensures value { value_of result ≡ get_or (map value_of values.old.items) i null }
-    ensures others { (k : ℕ) → k ≢ i → get_or (map value_of values.new.items) k null ≡ get_or (map value_of values.old.items) k null }
-    ensures long { length (map value_of values.new.items) ≡ length (map value_of values.old.items) }
-{
-    std::mem::replace(&mut values[i], Value::Null)
 }

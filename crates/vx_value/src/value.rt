@@ -1,8 +1,9 @@
 // Values.
 ghost use Rattle.std.specs.Prelude.{◌≡◌, ℕ, IfOk, fold};
 ghost use Rattle.std.specs.Cmp.{on_equiv, on_per, partial_equiv_from_equiv};
-ghost use Rattle.vx_value.specs.Equality.{equal_datum, equal_data, equal_datum_equiv};
-ghost use Rattle.vx_value.specs.Hashes.{datum_fed, data_fed, datum_alike};
+ghost use Rattle.vx_value.specs.Deciding.{equal_datum_equiv, datum_alike};
+ghost use Rattle.vx_value.specs.Equality.{equal_datum, equal_data};
+ghost use Rattle.vx_value.specs.Hashes.{datum_fed, data_fed};
 ghost use Rattle.vx_value.specs.Types.{is_null_datum};
 ghost use Rattle.vx_value.specs.Views.{value_of, data_view};
 

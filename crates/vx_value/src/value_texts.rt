@@ -1,8 +1,9 @@
 // The text of a value of a type.
-ghost use Rattle.std.specs.Prelude.{◌≡◌, ℕ, Some, [], ◌∷◌};
+ghost use Rattle.std.specs.Prelude.{◌≡◌, ◌++◌, ℕ, Some, [], ◌∷◌, codes};
 ghost use Rattle.std.specs.Fmt.{WritesOnOk};
 ghost use Rattle.std.specs.List.{flat_map};
-ghost use Rattle.vx_value.specs.ValueTexts.{value_text, items_text, row_text, item_text, named_text, hex_byte};
+ghost use Rattle.vx_value.specs.Texts.{with_commas};
+ghost use Rattle.vx_value.specs.ValueTexts.{value_text, list_text, item_texts, row_texts, hex_byte};
 ghost use Rattle.vx_value.specs.Views.{type_of, fields_of, value_of, data_view};
 
 use crate::{Scalar, Value};
@@ -60,16 +61,12 @@ fn write_value<W: Write>(value: &Value, t: &DType, f: &mut Formatter<W>) -> fmt:
             write_bytes(bytes.as_slice(), f)
         }
         Value::List(items) => match t {
-            DType::List(element, _) => {
-                f.write_str("[")?;
-                write_items(items.as_slice(), element.as_ref(), f)?;
-                f.write_str("]")
-            }
-            DType::FixedSizeList(element, _, _) => {
-                f.write_str("[")?;
-                write_items(items.as_slice(), element.as_ref(), f)?;
-                f.write_str("]")
-            }
+            DType::List(element, _) => write_list(items.as_slice(), element.as_ref(), f),
+            DType::FixedSizeList(element, _, _) => write_list(
+                items.as_slice(),
+                element.as_ref(),
+                f,
+            ),
             _ => Ok(()),
         },
         Value::Struct(items) => match t {
@@ -83,55 +80,52 @@ fn write_value<W: Write>(value: &Value, t: &DType, f: &mut Formatter<W>) -> fmt:
     }
 }
 
+// Writes the values with a comma between them, between brackets.
+#[cycle(write)]
+pub(crate) fn write_list<W: Write>(values: &[Value], t: &DType, f: &mut Formatter<W>) -> fmt::Result
+    ensures { WritesOnOk W.write_str_gives f.old result (list_text (data_view values.now) (type_of t.now)) f.new }
+{
+    f.write_str("[")?;
+    write_items(values, t, f)?;
+    f.write_str("]")
+}
+
 // Writes the values with a comma between them.
 #[cycle(write)]
-pub(crate) fn write_items<W: Write>(
-    values: &[Value],
-    t: &DType,
-    f: &mut Formatter<W>,
-) -> fmt::Result
-    ensures { WritesOnOk W.write_str_gives f.old result (items_text 0 (data_view values.now) (type_of t.now)) f.new }
+fn write_items<W: Write>(values: &[Value], t: &DType, f: &mut Formatter<W>) -> fmt::Result
+    ensures { WritesOnOk W.write_str_gives f.old result (with_commas (item_texts (data_view values.now) (type_of t.now))) f.new }
 {
     for i in 0..values.len() {
-        write_item(i, &values[i], t, f)?;
+        f.write_str(separator(i))?;
+        write_value(&values[i], t, f)?;
     }
     Ok(())
 }
 
-// Writes the value of that index.
-#[cycle(write)]
-fn write_item<W: Write>(i: usize, value: &Value, t: &DType, f: &mut Formatter<W>) -> fmt::Result
-    ensures { WritesOnOk W.write_str_gives f.old result (item_text i (value_of value.now) (type_of t.now)) f.new }
-{
-    f.write_str(separator(i))?;
-    write_value(value, t, f)
-}
-
-// Writes the values of a struct, each after its field's name.
+// Writes the values of a struct, each after its field's name, with a comma between them.
 #[cycle(write)]
 fn write_row<W: Write>(values: &[Value], fields: &StructFields, f: &mut Formatter<W>) -> fmt::Result
-    ensures { WritesOnOk W.write_str_gives f.old result (row_text 0 (data_view values.now) (fields_of fields.now)) f.new }
+    ensures { WritesOnOk W.write_str_gives f.old result (with_commas (row_texts (data_view values.now) (fields_of fields.now))) f.new }
 {
     let names = fields.names().as_slice();
     let types = fields.types();
     for i in 0..values.len().min(fields.nfields()) {
-        write_named(i, &names[i], &values[i], &types[i], f)?;
+        f.write_str(separator(i))?;
+        write_named(&names[i], &values[i], &types[i], f)?;
     }
     Ok(())
 }
 
-// Writes the value of that index after its field's name.
+// Writes the value after its field's name.
 #[cycle(write)]
 fn write_named<W: Write>(
-    i: usize,
     name: &FieldName,
     value: &Value,
     t: &DType,
     f: &mut Formatter<W>,
 ) -> fmt::Result
-    ensures { WritesOnOk W.write_str_gives f.old result (named_text i name.now (value_of value.now) (type_of t.now)) f.new }
+    ensures { WritesOnOk W.write_str_gives f.old result (name.now ++ (codes ": " ++ value_text (value_of value.now) (type_of t.now))) f.new }
 {
-    f.write_str(separator(i))?;
     name.fmt(f)?;
     f.write_str(": ")?;
     write_value(value, t, f)

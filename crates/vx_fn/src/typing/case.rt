@@ -45,7 +45,7 @@ fn branches_dtype(alloc: Global, has_else: bool, types: &[DType]) -> VortexResul
     ensures early { RefusesEarly (case_when 0 has_else) type_of result (case_union has_else (branches (map type_of types.now))) }
 {
     let joined = match types {
-        [] => return Err(VortexError::NoPairs),
+        [] => None,
         [value] => Some(value.clone()?),
         [_, value, rest @ ..] => joined_branches(alloc, value.clone()?, rest)?,
     };

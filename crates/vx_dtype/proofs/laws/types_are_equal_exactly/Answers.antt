@@ -1,5 +1,5 @@
 use Rattle.std.proofs.lemmas.Bool.Decides.{Decides-at}
-use Rattle.vx_dtype.specs.Equality.{equal_type-Decides}
+use Rattle.vx_dtype.specs.Deciding.{equal_type-Decides}
 use Rattle.vx_dtype.proofs.laws.types_are_equal_exactly.Goals as goal
 
 pub returns : goal.returns

@@ -2,8 +2,8 @@ use Rattle.std.proofs.Common.{◌≡◌, ◌<◌, [], ◌++◌, codes, get_or, d
 use Rattle.std.proofs.lemmas.List.{drop_all}
 use Rattle.std.specs.Fmt.{HasWritten}
 use Rattle.std.proofs.Output.{has_written_append, has_written_of_eq}
-use Rattle.vx_fn.specs.Texts.{with_commas, after_commas, named_texts}
-use Rattle.vx_tree.proofs.Texts.{after_commas-turn, with_commas-first}
+use Rattle.vx_dtype.proofs.Commas.{after_commas, after_commas-turn, with_commas-first}
+use Rattle.vx_fn.specs.Texts.{with_commas, named_texts}
 use Rattle.vx_rewrite_split.specs.Partitioned.{texts_of}
 use Rattle.vx_rewrite_split.proofs.Showing.{count_named, nothing_named}
 use Rattle.vx_rewrite_split.proofs.shown.fmt_partitions.Goals as goal

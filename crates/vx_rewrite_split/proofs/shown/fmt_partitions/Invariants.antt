@@ -1,6 +1,7 @@
 use Rattle.std.proofs.Common.{◌≡◌, ℕ, List, ◌++◌, drop}
 use Rattle.std.specs.Fmt.{HasWritten, IsPlainFormatter}
-use Rattle.vx_fn.specs.Texts.{after_commas, named_texts}
+use Rattle.vx_dtype.proofs.Commas.{after_commas}
+use Rattle.vx_fn.specs.Texts.{named_texts}
 use Rattle.vx_rewrite_split.specs.Partitioned.{texts_of}
 use Rattle.vx_rewrite_split.proofs.shown.fmt_partitions.Given as goal
 

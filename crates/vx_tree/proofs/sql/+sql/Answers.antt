@@ -1,12 +1,13 @@
 use Rattle.std.proofs.Common.{◌≡◌, ◌≢◌, ◌+◌, ◌*◌, ◌/◌, ◌<◌, [], ◌++◌, codes, length, get_or, drop, refl, sym, ap, append_assoc, ◌∙◌, append-nil, rules, arith}
 use Rattle.std.proofs.lemmas.List.{drop_all}
 use Rattle.std.proofs.Output.{has_written_append, has_written_of_eq}
+use Rattle.vx_dtype.proofs.Commas.{after_commas, after_commas-turn, with_commas-first}
 use Rattle.vx_fn.specs.Functions.{arity_of}
 use Rattle.vx_fn.specs.Views.{function_of}
 use Rattle.vx_tree.specs.Nodes.{size_of}
-use Rattle.vx_fn.specs.Texts.{with_commas, after_commas, named_texts, pairs_sql}
+use Rattle.vx_fn.specs.Texts.{with_commas, named_texts, pairs_sql}
 use Rattle.vx_tree.specs.Texts.{texts, pair_sql}
-use Rattle.vx_tree.proofs.Texts.{length-texts, get_or-texts, sql-own, sql-other, after_commas-turn, with_commas-first, length-named_texts, get_or-named_texts, pairs_sql-turn, pairs_sql-else, pairs_sql-none, size_of-le_all}
+use Rattle.vx_tree.proofs.Texts.{length-texts, get_or-texts, sql-own, sql-other, length-named_texts, get_or-named_texts, pairs_sql-turn, pairs_sql-else, pairs_sql-none, size_of-le_all}
 use Rattle.vx_tree.proofs.sql.+sql.Goals as goal
 
 pub fmt_child-fmt_sql-requires : goal.fmt_child-fmt_sql-requires

@@ -1,6 +1,7 @@
 use Rattle.std.proofs.Common.{◌≡◌, ℕ, ◌+◌, ◌*◌, List, ◌++◌, map, drop}
 use Rattle.std.specs.Fmt.{HasWritten, IsPlainFormatter}
-use Rattle.vx_fn.specs.Texts.{after_commas, named_texts, pairs_sql}
+use Rattle.vx_dtype.proofs.Commas.{after_commas}
+use Rattle.vx_fn.specs.Texts.{named_texts, pairs_sql}
 use Rattle.vx_tree.specs.Nodes.{size_of, sizes_of}
 use Rattle.vx_tree.specs.Views.{trees_from}
 use Rattle.vx_tree.specs.Texts.{texts}

@@ -1,5 +1,5 @@
 use Rattle.std.proofs.lemmas.Bool.Decides.{Decides-at}
-use Rattle.vx_value.specs.Columns.{equal_batch-Decides}
+use Rattle.vx_value.specs.Deciding.{equal_batch-Decides}
 use Rattle.vx_value.proofs.laws.columns_are_equal_exactly.Goals as goal
 
 pub returns : goal.returns

@@ -1,7 +1,8 @@
 use Rattle.std.proofs.Common.{arith, ◌∙◌, ◌≢◌, ap}
 use Rattle.vx_value.specs.Fields.{data_of}
 use Rattle.vx_value.specs.Types.{struct_of}
-use Rattle.vx_value.proofs.StructRows.{row_still, struct_pushed}
+use Rattle.vx_value.proofs.StructRows.{struct_pushed}
+use Rattle.vx_value.proofs.TakenRows.{row_still}
 use Rattle.vx_value.proofs.struct_column.struct_rows.Goals as goal
 
 pub take_row-requires : goal.take_row-requires

@@ -1,17 +1,20 @@
-use Rattle.std.proofs.Common.{◌≡◌, ℕ, List, ◌++◌, drop}
+use Rattle.std.proofs.Common.{◌≡◌, ℕ, List, ◌++◌}
 use Rattle.std.specs.Fmt.{HasWritten, IsPlainFormatter}
-use Rattle.vx_value.specs.ValueTexts.{items_text, row_text}
-use Rattle.vx_value.specs.Views.{type_of, fields_view, fields_of, data_view}
+use Rattle.vx_dtype.proofs.Commas.{behind}
+use Rattle.vx_value.specs.Texts.{with_commas}
+use Rattle.vx_value.specs.ValueTexts.{row_texts}
+use Rattle.vx_value.specs.Views.{type_of, fields_of, data_view}
+use Rattle.vx_value.proofs.ItemTexts.{items_from, row_from}
 use Rattle.vx_value.proofs.value_texts.+write.Given as goal
 
 abbrev pub invariant-write_items-loop-i : goal.invariant-write_items-loop-i
 invariant-write_items-loop-i g l =
     IsPlainFormatter l.initial.f →
     (done : List ℕ) × HasWritten g.W.Write.write_str_gives l.initial.f done l.f
-    × (done ++ items_text l.i (data_view (drop l.i l.values)) (type_of l.t) ≡ items_text 0 (data_view l.values) (type_of l.t))
+    × (done ++ behind l.i (items_from l.i l.values (type_of l.t)) ≡ with_commas (items_from 0 l.values (type_of l.t)))
 
 abbrev pub invariant-write_row-loop-i : goal.invariant-write_row-loop-i
 invariant-write_row-loop-i g l =
     IsPlainFormatter l.initial.f →
     (done : List ℕ) × HasWritten g.W.Write.write_str_gives l.initial.f done l.f
-    × (done ++ row_text l.i (data_view (drop l.i l.values)) (fields_view (drop l.i l.names) (drop l.i l.types)) ≡ row_text 0 (data_view l.values) (fields_of l.fields))
+    × (done ++ behind l.i (row_from l.i l.names l.values l.types) ≡ with_commas (row_texts (data_view l.values) (fields_of l.fields)))

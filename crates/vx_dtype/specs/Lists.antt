@@ -1,0 +1,12 @@
+-- Words on lists of any elements.
+use Rattle.std.specs.Prelude.{◌≡◌, ◌⊎◌, List, [], ◌∷◌}
+
+-- x is one of the elements
+abbrev pub IsIn : {A : Type 0} → A → List A → Type 0
+IsIn x [] = ⊥
+IsIn x (y ∷ ys) = (x ≡ y) ⊎ IsIn x ys
+
+-- R holds of each element and the one beside it, and the lists are as long
+pub data Beside {A B : Type 0} (R : A → B → Type 0) : List A → List B → Type 0 where
+  none_beside : Beside R [] []
+  more_beside : {x : A} {y : B} {xs : List A} {ys : List B} → R x y → Beside R xs ys → Beside R (x ∷ xs) (y ∷ ys)
