@@ -1,4 +1,4 @@
--- What a constructor gives.
+-- What a call that makes a node of a function over children gives.
 use Rattle.std.specs.Prelude.{◌≡◌, Result, Ok, IfOk}
 use Rattle.vx_dtype.specs.declared.error.VortexError.{VortexError}
 use Rattle.vx_dtype.specs.Answers.{Answers}

@@ -11,7 +11,7 @@ use Rattle.vx_tree.specs.Nodes.{call_over}
 use Rattle.vx_tree.specs.Trees.{call, BoundTree, node, BoundTrees, unbound, unbound_each, node_types, on_ok, WellTyped, EachWellTyped, Over, EachOver}
 use Rattle.vx_tree.specs.Views.{tree_of, trees_of, bound_of}
 use Rattle.vx_tree.proofs.Nodes.{call_over-fits}
-use Rattle.vx_build.specs.Built.{GivesNode, GivesBoundNode}
+use Rattle.vx_tree.specs.Built.{GivesNode, GivesBoundNode}
 
 pub gives_node : (f : Function) (es : List Expression) (r : Result Expression VortexError) → length es ≡ arity_of f
     → Answers tree_of r (call_over f (trees_of es)) → GivesNode f (trees_of es) r
