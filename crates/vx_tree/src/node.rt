@@ -44,7 +44,7 @@ pub trait TreeNode: Drop + Sized {
 
     /// The node of the function over the children. Asks for as many as the function takes.
     ///
-    /// Over sources refuses with `OutOfMemory` (1) alone, over bound trees as the function does over
+    /// Over sources it refuses with `OutOfMemory` (1) alone, over bound trees as the function does over
     /// the children's types (4 to 11).
     fn of_function(
         alloc: Global,
