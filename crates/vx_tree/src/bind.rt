@@ -86,7 +86,8 @@ fn push_bound<T: TreeNode>(
     let Some(scalar_fn) = tree.node_function() else {
         return push_root(scope, nodes);
     };
-    let below = bind_all(alloc, tree.node_children(), scope)?;
+    let children = tree.node_children();
+    let below = bind_all(alloc, children, scope)?;
     push_node(alloc, scalar_fn, below, nodes)
 }
 
