@@ -19,7 +19,6 @@ pub use crate::operators::{
 pub use crate::texts::{ilike, like, not_ilike, not_like};
 pub use crate::values::cast;
 pub use collects::{and_collect, or_collect};
-
 use std::alloc::Global;
 use vx_tree::{BoundExpression, DType, FieldName, Scalar, ScalarFnRef, TreeNode, VortexResult};
 

@@ -1,10 +1,11 @@
 // Constructors of choices between values.
-ghost use Rattle.std.specs.Prelude.{◌<◌, ◌^◌, is_some, length, true, false, [], ◌∷◌};
+ghost use Rattle.std.specs.Prelude.{◌≡◌, ◌<◌, ◌^◌, is_some, length, true, false, [], ◌∷◌};
 ghost use Rattle.vx_fn.specs.Functions as function;
 ghost use Rattle.vx_fn.specs.Functions.{case_when, zip};
+ghost use Rattle.vx_fn.specs.Views.{function_of};
 ghost use Rattle.vx_build.specs.Operands.{case_operands};
 
-use crate::node::node;
+use crate::node::{node_of_three, node_of_two};
 use crate::operands::case_operands;
 use std::alloc::Global;
 use vx_tree::{CaseWhenOptions, EmptyOptions, ScalarFnRef, TreeNode, VortexResult};
@@ -20,14 +21,7 @@ pub fn case_when<T: TreeNode>(
 ) -> VortexResult<T>
     ensures { T.gives (case_when 1 true) (condition ∷ then_value ∷ else_value ∷ []) result }
 {
-    node(
-        alloc,
-        ScalarFnRef::CaseWhen(CaseWhenOptions {
-            num_when_then_pairs: 1,
-            has_else: true,
-        }),
-        [condition, then_value, else_value],
-    )
+    node_of_three(alloc, one_pair(true), condition, then_value, else_value)
 }
 
 /// The value where the condition is true, and else null. Over sources it refuses with `OutOfMemory`
@@ -35,14 +29,17 @@ pub fn case_when<T: TreeNode>(
 pub fn case_when_no_else<T: TreeNode>(alloc: Global, condition: T, then_value: T) -> VortexResult<T>
     ensures { T.gives (case_when 1 false) (condition ∷ then_value ∷ []) result }
 {
-    node(
-        alloc,
-        ScalarFnRef::CaseWhen(CaseWhenOptions {
-            num_when_then_pairs: 1,
-            has_else: false,
-        }),
-        [condition, then_value],
-    )
+    node_of_two(alloc, one_pair(false), condition, then_value)
+}
+
+// A CASE of one pair.
+fn one_pair(has_else: bool) -> ScalarFnRef
+    ensures { function_of result ≡ case_when 1 has_else }
+{
+    ScalarFnRef::CaseWhen(CaseWhenOptions {
+        num_when_then_pairs: 1,
+        has_else,
+    })
 }
 
 /// The first value where the mask is true, and else the second. The mask is the last child. Over
@@ -51,11 +48,8 @@ pub fn case_when_no_else<T: TreeNode>(alloc: Global, condition: T, then_value: T
 pub fn zip_expr<T: TreeNode>(alloc: Global, mask: T, if_true: T, if_false: T) -> VortexResult<T>
     ensures { T.gives zip (if_true ∷ if_false ∷ mask ∷ []) result }
 {
-    node(
-        alloc,
-        ScalarFnRef::Zip(EmptyOptions),
-        [if_true, if_false, mask],
-    )
+    let zip = ScalarFnRef::Zip(EmptyOptions);
+    node_of_three(alloc, zip, if_true, if_false, mask)
 }
 
 /// The child where the mask is true, and else null. Over sources it refuses with `OutOfMemory` (1)
@@ -64,7 +58,7 @@ pub fn zip_expr<T: TreeNode>(alloc: Global, mask: T, if_true: T, if_false: T) ->
 pub fn mask<T: TreeNode>(alloc: Global, child: T, mask: T) -> VortexResult<T>
     ensures { T.gives function.mask (child ∷ mask ∷ []) result }
 {
-    node(alloc, ScalarFnRef::Mask(EmptyOptions), [child, mask])
+    node_of_two(alloc, ScalarFnRef::Mask(EmptyOptions), child, mask)
 }
 
 /// The value beside the first condition that is true, else the ELSE value, else null. Asks for at

@@ -9,7 +9,7 @@ ghost use Rattle.vx_tree.specs.Trees.{root, tree, no_tree};
 ghost use Rattle.vx_tree.specs.Views.{tree_of};
 ghost use Rattle.vx_build.specs.Operands.{pack_names, pack_operands};
 
-use crate::node::node;
+use crate::node::node_of_one;
 use crate::operands::unzip;
 use std::alloc::Global;
 use vx_tree::{
@@ -43,7 +43,7 @@ pub fn col(alloc: Global, name: FieldName) -> VortexResult<Expression>
 pub fn get_item<T: TreeNode>(alloc: Global, name: FieldName, child: T) -> VortexResult<T>
     ensures { T.gives (get_item name) (child ∷ []) result }
 {
-    node(alloc, ScalarFnRef::GetItem(name), [child])
+    node_of_one(alloc, ScalarFnRef::GetItem(name), child)
 }
 
 /// The child's fields of these names, in the order of the names. A name may be repeated. Over
@@ -52,11 +52,8 @@ pub fn get_item<T: TreeNode>(alloc: Global, name: FieldName, child: T) -> Vortex
 pub fn select<T: TreeNode>(alloc: Global, names: FieldNames, child: T) -> VortexResult<T>
     ensures { T.gives (select (Include names)) (child ∷ []) result }
 {
-    node(
-        alloc,
-        ScalarFnRef::Select(FieldSelection::Include(names)),
-        [child],
-    )
+    let selection = FieldSelection::Include(names);
+    node_of_one(alloc, ScalarFnRef::Select(selection), child)
 }
 
 /// The child's fields of all other names, in the child's order. A name may be repeated. Over
@@ -65,11 +62,8 @@ pub fn select<T: TreeNode>(alloc: Global, names: FieldNames, child: T) -> Vortex
 pub fn select_exclude<T: TreeNode>(alloc: Global, names: FieldNames, child: T) -> VortexResult<T>
     ensures { T.gives (select (Exclude names)) (child ∷ []) result }
 {
-    node(
-        alloc,
-        ScalarFnRef::Select(FieldSelection::Exclude(names)),
-        [child],
-    )
+    let selection = FieldSelection::Exclude(names);
+    node_of_one(alloc, ScalarFnRef::Select(selection), child)
 }
 
 /// A struct of the trees under the names beside them, in their order. A name may be repeated.

@@ -2,7 +2,7 @@
 ghost use Rattle.std.specs.Prelude.{[], ◌∷◌};
 ghost use Rattle.vx_fn.specs.Functions.{fill_null, is_null, is_not_null};
 
-use crate::node::node;
+use crate::node::{node_of_one, node_of_two};
 use std::alloc::Global;
 use vx_tree::{EmptyOptions, ScalarFnRef, TreeNode, VortexResult};
 
@@ -10,14 +10,14 @@ use vx_tree::{EmptyOptions, ScalarFnRef, TreeNode, VortexResult};
 pub fn is_null<T: TreeNode>(alloc: Global, child: T) -> VortexResult<T>
     ensures { T.gives is_null (child ∷ []) result }
 {
-    node(alloc, ScalarFnRef::IsNull(EmptyOptions), [child])
+    node_of_one(alloc, ScalarFnRef::IsNull(EmptyOptions), child)
 }
 
 /// Whether the child isn't null. Refuses with `OutOfMemory` (1) alone. Over sources it refuses with `OutOfMemory` (1) alone, over bound trees as the node does.
 pub fn is_not_null<T: TreeNode>(alloc: Global, child: T) -> VortexResult<T>
     ensures { T.gives is_not_null (child ∷ []) result }
 {
-    node(alloc, ScalarFnRef::IsNotNull(EmptyOptions), [child])
+    node_of_one(alloc, ScalarFnRef::IsNotNull(EmptyOptions), child)
 }
 
 /// The child, or the fill value where the child is null. Over sources it refuses with `OutOfMemory`
@@ -25,9 +25,6 @@ pub fn is_not_null<T: TreeNode>(alloc: Global, child: T) -> VortexResult<T>
 pub fn fill_null<T: TreeNode>(alloc: Global, child: T, fill_value: T) -> VortexResult<T>
     ensures { T.gives fill_null (child ∷ fill_value ∷ []) result }
 {
-    node(
-        alloc,
-        ScalarFnRef::FillNull(EmptyOptions),
-        [child, fill_value],
-    )
+    let fill = ScalarFnRef::FillNull(EmptyOptions);
+    node_of_two(alloc, fill, child, fill_value)
 }

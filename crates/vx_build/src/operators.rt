@@ -3,7 +3,7 @@ ghost use Rattle.std.specs.Prelude.{[], ◌∷◌};
 ghost use Rattle.vx_fn.specs.Functions.{binary, negation, between, compares, equal, different, above, at_least, below, at_most, and_also, or_else, adds};
 ghost use Rattle.vx_fn.specs.Views.{operation_of, is_strict};
 
-use crate::node::node;
+use crate::node::{node_of_one, node_of_three, node_of_two};
 use std::alloc::Global;
 use vx_tree::{BetweenOptions, EmptyOptions, Operator, ScalarFnRef, TreeNode, VortexResult};
 
@@ -12,7 +12,7 @@ use vx_tree::{BetweenOptions, EmptyOptions, Operator, ScalarFnRef, TreeNode, Vor
 pub fn binary<T: TreeNode>(alloc: Global, operator: Operator, lhs: T, rhs: T) -> VortexResult<T>
     ensures { T.gives (binary (operation_of operator)) (lhs ∷ rhs ∷ []) result }
 {
-    node(alloc, ScalarFnRef::Binary(operator), [lhs, rhs])
+    node_of_two(alloc, ScalarFnRef::Binary(operator), lhs, rhs)
 }
 
 /// Whether the operands are equal. Over sources it refuses with `OutOfMemory` (1) alone, over bound
@@ -92,7 +92,7 @@ pub fn checked_add<T: TreeNode>(alloc: Global, lhs: T, rhs: T) -> VortexResult<T
 pub fn not<T: TreeNode>(alloc: Global, child: T) -> VortexResult<T>
     ensures { T.gives negation (child ∷ []) result }
 {
-    node(alloc, ScalarFnRef::Not(EmptyOptions), [child])
+    node_of_one(alloc, ScalarFnRef::Not(EmptyOptions), child)
 }
 
 /// Whether the value lies between the bounds, each let in or left out by the options. Over sources
@@ -107,5 +107,5 @@ pub fn between<T: TreeNode>(
 ) -> VortexResult<T>
     ensures { T.gives (between (is_strict options.lower_strict) (is_strict options.upper_strict)) (arr ∷ lower ∷ upper ∷ []) result }
 {
-    node(alloc, ScalarFnRef::Between(options), [arr, lower, upper])
+    node_of_three(alloc, ScalarFnRef::Between(options), arr, lower, upper)
 }

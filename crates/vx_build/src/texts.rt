@@ -3,7 +3,7 @@ ghost use Rattle.std.specs.Prelude.{◌≡◌, true, false, [], ◌∷◌};
 ghost use Rattle.vx_fn.specs.Functions.{like};
 ghost use Rattle.vx_fn.specs.Views.{function_of};
 
-use crate::node::node;
+use crate::node::node_of_two;
 use std::alloc::Global;
 use vx_tree::{LikeOptions, ScalarFnRef, TreeNode, VortexResult};
 
@@ -12,7 +12,7 @@ use vx_tree::{LikeOptions, ScalarFnRef, TreeNode, VortexResult};
 pub fn like<T: TreeNode>(alloc: Global, child: T, pattern: T) -> VortexResult<T>
     ensures { T.gives (like false false) (child ∷ pattern ∷ []) result }
 {
-    node(alloc, matching(false, false), [child, pattern])
+    node_of_two(alloc, matching(false, false), child, pattern)
 }
 
 /// Whether the text matches the pattern, the case of ASCII letters ignored. Over sources it refuses
@@ -20,7 +20,7 @@ pub fn like<T: TreeNode>(alloc: Global, child: T, pattern: T) -> VortexResult<T>
 pub fn ilike<T: TreeNode>(alloc: Global, child: T, pattern: T) -> VortexResult<T>
     ensures { T.gives (like false true) (child ∷ pattern ∷ []) result }
 {
-    node(alloc, matching(false, true), [child, pattern])
+    node_of_two(alloc, matching(false, true), child, pattern)
 }
 
 /// Whether the text doesn't match the pattern. Over sources it refuses with `OutOfMemory` (1)
@@ -28,7 +28,7 @@ pub fn ilike<T: TreeNode>(alloc: Global, child: T, pattern: T) -> VortexResult<T
 pub fn not_like<T: TreeNode>(alloc: Global, child: T, pattern: T) -> VortexResult<T>
     ensures { T.gives (like true false) (child ∷ pattern ∷ []) result }
 {
-    node(alloc, matching(true, false), [child, pattern])
+    node_of_two(alloc, matching(true, false), child, pattern)
 }
 
 /// Whether the text doesn't match the pattern, the case of ASCII letters ignored. Over sources it
@@ -36,7 +36,7 @@ pub fn not_like<T: TreeNode>(alloc: Global, child: T, pattern: T) -> VortexResul
 pub fn not_ilike<T: TreeNode>(alloc: Global, child: T, pattern: T) -> VortexResult<T>
     ensures { T.gives (like true true) (child ∷ pattern ∷ []) result }
 {
-    node(alloc, matching(true, true), [child, pattern])
+    node_of_two(alloc, matching(true, true), child, pattern)
 }
 
 // How a text is matched with a pattern.

@@ -5,7 +5,7 @@ ghost use Rattle.vx_fn.specs.Functions.{literal, cast};
 ghost use Rattle.vx_tree.specs.Built.{GivesNode};
 ghost use Rattle.vx_tree.specs.Trees.{no_tree};
 
-use crate::node::node;
+use crate::node::node_of_one;
 use std::alloc::Global;
 use vx_tree::{DType, Expression, Scalar, ScalarFnRef, TreeNode, VortexResult};
 
@@ -21,5 +21,5 @@ pub fn lit(alloc: Global, value: Scalar) -> VortexResult<Expression>
 pub fn cast<T: TreeNode>(alloc: Global, child: T, target: DType) -> VortexResult<T>
     ensures { T.gives (cast (type_of target)) (child ∷ []) result }
 {
-    node(alloc, ScalarFnRef::Cast(target), [child])
+    node_of_one(alloc, ScalarFnRef::Cast(target), child)
 }
