@@ -11,16 +11,14 @@ function_node (call g es) f h = cc
 
 -- ---- a child has fewer nodes
 
-pub size_of-le_all : {A : Type 0} (view : A → Tree) (xs : List A) (i : ℕ) (d : A) → i < length xs → size_of (view (get_or xs i d)) ≤ sizes_of (trees_from (map view xs))
-size_of-le_all view [] i d h = absurd (omega arith)
-size_of-le_all view (x ∷ xs) zero d h = omega arith
-size_of-le_all view (x ∷ xs) (suc i) d h = omega (arith, size_of-le_all view xs i d (omega arith))
+pub item_smaller : {A : Type 0} (view : A → Tree) (xs : List A) (i : ℕ) (x : A) → i < length xs → x ≡ get_or xs i x → size_of (view x) ≤ sizes_of (trees_from (map view xs))
+item_smaller view [] i x h at = absurd (omega arith)
+item_smaller view (y ∷ xs) zero x h at = omega (arith, ap (λ z. size_of (view z)) at)
+item_smaller view (y ∷ xs) (suc i) x h at = omega (arith, item_smaller view xs i x (omega arith) at)
 
 pub sizes_of-children : (e : Tree) → sizes_of (children_of e) < size_of e
 sizes_of-children root = omega arith
 sizes_of-children (call f es) = omega arith
 
 pub child_smaller : {A : Type 0} (view : A → Tree) (e : Tree) (xs : List A) (i : ℕ) (x : A) → trees_from (map view xs) ≡ children_of e → i < length xs → x ≡ get_or xs i x → size_of (view x) < size_of e
-child_smaller {A} view e xs i x is h at =
-    let within = size_of-le_all view xs i x h in
-    omega (arith, within, sizes_of-children e, ap sizes_of is, ap (λ (y : A). size_of (view y)) at)
+child_smaller view e xs i x is h at = omega (arith, item_smaller view xs i x h at, sizes_of-children e, ap sizes_of is)

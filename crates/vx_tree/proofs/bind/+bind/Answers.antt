@@ -1,16 +1,14 @@
 use Rattle.std.proofs.Common.{ap, arith}
 use Rattle.vx_value.specs.Views.{type_of}
-use Rattle.vx_tree.specs.Nodes.{size_of, sizes_of}
+use Rattle.vx_tree.specs.Nodes.{sizes_of}
 use Rattle.vx_tree.proofs.Bindings.{next, end}
-use Rattle.vx_tree.proofs.Seen.{size_of-le_all, sizes_of-children}
+use Rattle.vx_tree.proofs.Seen.{item_smaller, sizes_of-children}
 use Rattle.vx_tree.proofs.bind.+bind.Goals as goal
 
 pub bind_all-push_bound-requires : goal.bind_all-push_bound-requires
 bind_all-push_bound-requires g t c κs within =
-    let tree = g.T.TreeNode.tree in
-    let below = size_of-le_all tree c.args.trees.now c.loop-i.i c.index-trees-i.result (omega arith) in
-    let same = ap (λ x. size_of (tree x)) c.index-trees-i.is in
-    (omega (arith, below, same, c.decreases), within)
+    let below = item_smaller g.T.TreeNode.tree c.args.trees.now c.loop-i.i c.index-trees-i.result (omega arith) c.index-trees-i.is in
+    (omega (arith, below, c.decreases), within)
 
 pub push_bound-bind_all-requires : goal.push_bound-bind_all-requires
 push_bound-bind_all-requires g t c κs within =

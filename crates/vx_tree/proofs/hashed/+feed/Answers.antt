@@ -1,6 +1,6 @@
 use Rattle.std.proofs.Common.{ap, arith}
-use Rattle.vx_tree.specs.Nodes.{size_of, sizes_of}
-use Rattle.vx_tree.proofs.Seen.{size_of-le_all, sizes_of-children}
+use Rattle.vx_tree.specs.Nodes.{sizes_of}
+use Rattle.vx_tree.proofs.Seen.{item_smaller, sizes_of-children}
 use Rattle.vx_tree.proofs.hashed.+feed.Goals as goal
 
 pub feed-feed_all-requires : goal.feed-feed_all-requires
@@ -10,7 +10,5 @@ feed-feed_all-requires g t c κs within =
 
 pub feed_all-feed-requires : goal.feed_all-feed-requires
 feed_all-feed-requires g t c κs within =
-    let tree = g.T.TreeNode.tree in
-    let below = size_of-le_all tree c.args.nodes.now c.loop-node.node-index c.node-item.result (omega arith) in
-    let same = ap (λ x. size_of (tree x)) c.node-item.is in
-    (omega (arith, below, same, c.decreases), within)
+    let below = item_smaller g.T.TreeNode.tree c.args.nodes.now c.loop-node.node-index c.node-item.result (omega arith) c.node-item.is in
+    (omega (arith, below, c.decreases), within)

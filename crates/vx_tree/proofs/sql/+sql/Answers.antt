@@ -3,19 +3,16 @@ use Rattle.std.proofs.lemmas.List.{drop_all}
 use Rattle.std.proofs.Output.{has_written_append, has_written_of_eq}
 use Rattle.vx_fn.specs.Functions.{arity_of}
 use Rattle.vx_fn.specs.Views.{function_of}
-use Rattle.vx_tree.specs.Nodes.{size_of}
 use Rattle.vx_fn.specs.Texts.{with_commas, after_commas, named_texts, pairs_sql}
 use Rattle.vx_tree.specs.Texts.{texts, pair_sql}
 use Rattle.vx_tree.proofs.Texts.{length-texts, get_or-texts, sql-own, sql-other, after_commas-turn, with_commas-first, length-named_texts, get_or-named_texts, pairs_sql-turn, pairs_sql-else, pairs_sql-none}
-use Rattle.vx_tree.proofs.Seen.{size_of-le_all}
+use Rattle.vx_tree.proofs.Seen.{item_smaller}
 use Rattle.vx_tree.proofs.sql.+sql.Goals as goal
 
 pub fmt_child-fmt_sql-requires : goal.fmt_child-fmt_sql-requires
 fmt_child-fmt_sql-requires g t c κs within =
-    let view = g.T.TreeNode.tree in
-    let below = size_of-le_all view c.args.children.now c.args.index c.index-children-index.result c.requires in
-    let same = ap (λ x. size_of (view x)) c.index-children-index.is in
-    (omega (arith, below, same, c.decreases), within)
+    let below = item_smaller g.T.TreeNode.tree c.args.children.now c.args.index c.index-children-index.result c.requires c.index-children-index.is in
+    (omega (arith, below, c.decreases), within)
 
 pub fmt_child-returns : goal.fmt_child-returns
 fmt_child-returns g t c plain ok =
