@@ -11,10 +11,7 @@ use std::fmt::{Formatter, Write};
 
 // A CASE: conditions and values in turn, and what is left over as the ELSE.
 #[cycle(sql)]
-pub(super) fn fmt_case<T: TreeNode, W: Write>(
-    children: &[T],
-    f: &mut Formatter<W>,
-) -> fmt::Result
+pub(super) fn fmt_case<T: TreeNode, W: Write>(children: &[T], f: &mut Formatter<W>) -> fmt::Result
     ensures { WritesOnOk W.write_str_gives f.old result (codes "CASE" ++ (pairs_sql (texts T.tree children.now) ++ codes " END")) f.new }
 {
     f.write_str("CASE")?;

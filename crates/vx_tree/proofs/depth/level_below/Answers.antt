@@ -1,4 +1,4 @@
-use Rattle.std.proofs.Common.{◌≡◌, ◌+◌, ◌<◌, arith, refl, sym, subst, drop}
+use Rattle.std.proofs.Common.{◌≡◌, ◌+◌, arith, refl, sym, subst, drop}
 use Rattle.std.specs.Prelude.{max}
 use Rattle.vx_tree.specs.Depths.{depth_of}
 use Rattle.vx_tree.specs.Levels.{greatest, lent_depth, lent_depth_below}
