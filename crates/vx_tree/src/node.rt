@@ -44,8 +44,8 @@ pub trait TreeNode: Drop + Sized {
 
     /// The node of the function over the children. Asks for as many as the function takes.
     ///
-    /// Over sources it refuses with `OutOfMemory` (1) alone, over bound trees as the function does over
-    /// the children's types (4 to 11).
+    /// Over sources it refuses with `OutOfMemory` (1) alone, over bound trees as the function does
+    /// over the children's types (4 to 11).
     fn of_function(alloc: Global, scalar_fn: ScalarFnRef, children: Vec<Self>) -> VortexResult<Self>
         requires { length children.items ≡ arity_of (function_of scalar_fn) }
         ensures { gives (function_of scalar_fn) children.items result };
