@@ -175,7 +175,7 @@ fn dtype_over(
     }
 }
 
-/// The types of the nodes, from left to right.
+/// Copies of the types of the nodes, from left to right. Fails for want of memory alone.
 pub fn dtypes_of(alloc: Global, nodes: &[BoundExpression]) -> Result<Vec<DType>, AllocError>
     ensures types { IfOk result (λ types. map type_of types.items ≡ node_types (bounds_of nodes.now)) }
     ensures count { IfOk result (λ types. length types.items ≡ length nodes.now) }
