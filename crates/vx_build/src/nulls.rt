@@ -6,14 +6,14 @@ use crate::node::{node_of_one, node_of_two};
 use std::alloc::Global;
 use vx_tree::{EmptyOptions, ScalarFnRef, TreeNode, VortexResult};
 
-/// Whether the child is null. Refuses with `OutOfMemory` (1) alone. Over sources it refuses with `OutOfMemory` (1) alone, over bound trees as the node does.
+/// Whether the child is null. Refuses with `OutOfMemory` (1) alone.
 pub fn is_null<T: TreeNode>(alloc: Global, child: T) -> VortexResult<T>
     ensures { T.gives is_null (child ∷ []) result }
 {
     node_of_one(alloc, ScalarFnRef::IsNull(EmptyOptions), child)
 }
 
-/// Whether the child isn't null. Refuses with `OutOfMemory` (1) alone. Over sources it refuses with `OutOfMemory` (1) alone, over bound trees as the node does.
+/// Whether the child isn't null. Refuses with `OutOfMemory` (1) alone.
 pub fn is_not_null<T: TreeNode>(alloc: Global, child: T) -> VortexResult<T>
     ensures { T.gives is_not_null (child ∷ []) result }
 {

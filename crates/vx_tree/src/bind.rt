@@ -39,17 +39,17 @@ impl Expression {
     }
 }
 
-// The tree, bound. It goes through a list of one, so that there is one recursion.
 fn bind_tree<T: TreeNode>(alloc: Global, tree: &T, scope: &DType) -> VortexResult<BoundExpression>
     ensures bound { Answers bound_of result (binding (T.tree tree.now) (type_of scope.now)) }
     ensures typed { IfOk result (λ b. WellTyped (bound_of b)) }
 {
-    let mut nodes = Vec::with_capacity(alloc, 1)?;
-    push_bound(alloc, tree, scope, &mut nodes)?;
-    match nodes.pop() {
-        Some(node) => Ok(node),
-        None => unreachable!(),
-    }
+    let Some(scalar_fn) = tree.node_function() else {
+        return Ok(BoundExpression::Root {
+            dtype: scope.clone()?,
+        });
+    };
+    let children = bind_all(alloc, tree.node_children(), scope)?;
+    BoundExpression::try_new(alloc, scalar_fn.clone()?, children)
 }
 
 // The recursion, which handles no node: its frame has a place for each that a function handles. So

@@ -23,11 +23,21 @@ impl Expression {
     pub fn return_dtype(&self, alloc: Global, scope: &DType) -> VortexResult<DType>
         ensures { Answers type_of result (typed (tree_of self.now) (type_of scope.now)) }
     {
-        let mut types = Vec::with_capacity(alloc, 1)?;
-        push_type(alloc, self, scope, &mut types)?;
-        match types.pop() {
-            Some(dtype) => Ok(dtype),
-            None => unreachable!(),
+        type_one(alloc, self, scope)
+    }
+}
+
+fn type_one(alloc: Global, e: &Expression, scope: &DType) -> VortexResult<DType>
+    ensures { Answers type_of result (typed (tree_of e.now) (type_of scope.now)) }
+{
+    match e {
+        Expression::Root => Ok(scope.clone()?),
+        Expression::Scalar {
+            scalar_fn,
+            children,
+        } => {
+            let types = type_all(alloc, children.as_slice(), scope)?;
+            scalar_fn.return_dtype(alloc, types.as_slice())
         }
     }
 }
