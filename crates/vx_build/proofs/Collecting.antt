@@ -14,7 +14,7 @@ use Rattle.vx_tree.specs.Trees.{Tree, call, BoundTree, node, BoundTrees, unbound
 use Rattle.vx_tree.specs.Views.{bounds_from, trees_from, tree_of, bound_of}
 use Rattle.vx_build.specs.Rounds.{round, rounds, collected}
 use Rattle.vx_build.specs.Collects.{joined_tree, joined_bound, CollectsTrees, CollectsBound}
-use Rattle.vx_build.proofs.Built.{Kept, kept}
+use Rattle.vx_tree.proofs.Built.{Kept, kept}
 use Rattle.vx_build.proofs.Rounding.{found, then_ok, on_round, on_rounds}
 
 -- ---- one join

@@ -1,4 +1,3 @@
-pub mod Built
 pub mod CaseOperands
 pub mod Rounding
 pub mod RoundLoops

@@ -1,4 +1,3 @@
-pub mod Built
 pub mod Operands
 pub mod Rounds
 pub mod Collects

@@ -1,11 +1,16 @@
 -- Items joined in pairs, round after round, until one is left.
 use Rattle.std.specs.Prelude.{◌≡◌, ℕ, zero, suc, ◌^◌, ◌≤◌, List, [], ◌∷◌, ◌++◌, length, slice_get, Option, MatchOption, Result, Ok, IfOk}
 use Rattle.vx_dtype.specs.declared.error.VortexError.{VortexError}
+use Rattle.vx_fn.specs.Functions.{Function, Operation, binary}
 use Rattle.vx_tree.specs.Trees.{on_ok}
 
 -- what two items are joined to, or the refusal
 abbrev pub Joining : Type 0 → Type 0
 Joining X = X → X → Result X VortexError
+
+-- what two items are joined to under an operator, where it is known what a function gives over items
+abbrev pub joined_by : {X : Type 0} → (Function → List X → Result X VortexError) → Operation → Joining X
+joined_by over op x y = over (binary op) (x ∷ y ∷ [])
 
 -- one round: neighbours joined in pairs from left to right, and an odd last item carried on to the next round
 abbrev pub round : {X : Type 0} → Joining X → List X → Result (List X) VortexError

@@ -3,18 +3,18 @@ ghost use Rattle.std.specs.Prelude.{◌≡◌, [], ◌∷◌};
 ghost use Rattle.vx_value.specs.Views.{admits_null};
 ghost use Rattle.vx_fn.specs.Functions.{get_item, pack, select};
 ghost use Rattle.vx_fn.specs.declared.options.FieldSelection.TheVariants.{Include, Exclude};
+ghost use Rattle.vx_tree.specs.Built.{GivesNode};
 ghost use Rattle.vx_tree.specs.Nodes.{is_root};
 ghost use Rattle.vx_tree.specs.Trees.{root, tree, no_tree};
-ghost use Rattle.vx_tree.specs.Views.{tree_of, trees_of};
-ghost use Rattle.vx_build.specs.Built.{GivesNode};
+ghost use Rattle.vx_tree.specs.Views.{tree_of};
 ghost use Rattle.vx_build.specs.Operands.{pack_names, pack_operands};
 
-use crate::node::{node, node_of};
+use crate::node::node_of_one;
 use crate::operands::unzip;
 use std::alloc::Global;
 use vx_tree::{
     Expression, FieldName, FieldNames, FieldSelection, Nullability, PackOptions, ScalarFnRef,
-    VortexResult,
+    TreeNode, VortexResult,
 };
 
 /// The row of the scope.
@@ -38,53 +38,46 @@ pub fn col(alloc: Global, name: FieldName) -> VortexResult<Expression>
     get_item(alloc, name, root())
 }
 
-/// The child's first field of that name. Refuses with `OutOfMemory` (1) alone.
-pub fn get_item(alloc: Global, name: FieldName, child: Expression) -> VortexResult<Expression>
-    ensures { GivesNode (get_item name) (trees_of (child ∷ [])) result }
+/// The child's first field of that name. Over sources it refuses with `OutOfMemory` (1) alone, over
+/// bound trees as the node does: `NotAStruct` (4), `NoSuchField` (5).
+pub fn get_item<T: TreeNode>(alloc: Global, name: FieldName, child: T) -> VortexResult<T>
+    ensures { T.gives (get_item name) (child ∷ []) result }
 {
-    node(alloc, ScalarFnRef::GetItem(name), [child])
+    node_of_one(alloc, ScalarFnRef::GetItem(name), child)
 }
 
-/// The child's fields of these names, in the order of the names. A name may be repeated.
+/// The child's fields of these names, in the order of the names. A name may be repeated. Over
+/// sources it refuses with `OutOfMemory` (1) alone, over bound trees as the node does: `NotAStruct`
+/// (4), `NoSuchField` (5).
+pub fn select<T: TreeNode>(alloc: Global, names: FieldNames, child: T) -> VortexResult<T>
+    ensures { T.gives (select (Include names)) (child ∷ []) result }
+{
+    let selection = FieldSelection::Include(names);
+    node_of_one(alloc, ScalarFnRef::Select(selection), child)
+}
+
+/// The child's fields of all other names, in the child's order. A name may be repeated. Over
+/// sources it refuses with `OutOfMemory` (1) alone, over bound trees as the node does: `NotAStruct`
+/// (4), `NoSuchField` (5).
+pub fn select_exclude<T: TreeNode>(alloc: Global, names: FieldNames, child: T) -> VortexResult<T>
+    ensures { T.gives (select (Exclude names)) (child ∷ []) result }
+{
+    let selection = FieldSelection::Exclude(names);
+    node_of_one(alloc, ScalarFnRef::Select(selection), child)
+}
+
+/// A struct of the trees under the names beside them, in their order. A name may be repeated.
 /// Refuses with `OutOfMemory` (1) alone.
-pub fn select(alloc: Global, names: FieldNames, child: Expression) -> VortexResult<Expression>
-    ensures { GivesNode (select (Include names)) (trees_of (child ∷ [])) result }
-{
-    node(
-        alloc,
-        ScalarFnRef::Select(FieldSelection::Include(names)),
-        [child],
-    )
-}
-
-/// The child's fields of all other names, in the child's order. A name may be repeated. Refuses
-/// with `OutOfMemory` (1) alone.
-pub fn select_exclude(
+pub fn pack<T: TreeNode>(
     alloc: Global,
-    names: FieldNames,
-    child: Expression,
-) -> VortexResult<Expression>
-    ensures { GivesNode (select (Exclude names)) (trees_of (child ∷ [])) result }
-{
-    node(
-        alloc,
-        ScalarFnRef::Select(FieldSelection::Exclude(names)),
-        [child],
-    )
-}
-
-/// A struct of the expressions under the names beside them, in their order. A name may be repeated.
-/// Refuses with `OutOfMemory` (1) alone.
-pub fn pack(
-    alloc: Global,
-    elements: Vec<(FieldName, Expression)>,
+    elements: Vec<(FieldName, T)>,
     nullability: Nullability,
-) -> VortexResult<Expression>
-    ensures { GivesNode (pack (pack_names elements.items) (admits_null nullability)) (trees_of (pack_operands elements.items)) result }
+) -> VortexResult<T>
+    ensures { T.gives (pack (pack_names elements.items) (admits_null nullability)) (pack_operands elements.items) result }
 {
     let (names, children) = unzip(alloc, elements)?;
     let names = FieldNames::new(alloc, names)?;
-    node_of(
+    T::of_function(
         alloc,
         ScalarFnRef::Pack(PackOptions { names, nullability }),
         children,

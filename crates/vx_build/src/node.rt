@@ -1,34 +1,56 @@
-// The node of a function over unbound children.
-ghost use Rattle.std.specs.Prelude.{◌≡◌, length};
+// The node of a function over children of either kind. They are pushed one by one, since no array of
+// a type parameter can be handed on: nothing says that it fits into memory.
+ghost use Rattle.std.specs.Prelude.{◌≡◌, [], ◌∷◌};
 ghost use Rattle.vx_fn.specs.Functions.{arity_of};
 ghost use Rattle.vx_fn.specs.Views.{function_of};
-ghost use Rattle.vx_tree.specs.Views.{trees_of};
-ghost use Rattle.vx_build.specs.Built.{GivesNode};
 
 use std::alloc::Global;
-use vx_tree::{Expression, ScalarFnRef, VortexResult};
+use vx_tree::{ScalarFnRef, TreeNode, VortexResult};
 
-// The node of the function over its children, which are as many as it takes.
-pub(crate) fn node<const N: usize>(
+// The node of a function of one child.
+pub(crate) fn node_of_one<T: TreeNode>(
     alloc: Global,
     scalar_fn: ScalarFnRef,
-    children: [Expression; N],
-) -> VortexResult<Expression>
-    requires { length children ≡ arity_of (function_of scalar_fn) }
-    ensures { GivesNode (function_of scalar_fn) (trees_of children.entry) result }
+    child: T,
+) -> VortexResult<T>
+    requires { arity_of (function_of scalar_fn) ≡ 1 }
+    ensures { T.gives (function_of scalar_fn) (child ∷ []) result }
 {
-    node_of(alloc, scalar_fn, Vec::from_array(alloc, children)?)
+    let mut children = Vec::with_capacity(alloc, 1)?;
+    children.push(child)?;
+    T::of_function(alloc, scalar_fn, children)
 }
 
-// The same over children in a `Vec`.
-#[tactic(auto, using(crate::proofs::Built::gives_node))]
-pub(crate) fn node_of(
+// The node of a function of two children.
+pub(crate) fn node_of_two<T: TreeNode>(
     alloc: Global,
     scalar_fn: ScalarFnRef,
-    children: Vec<Expression>,
-) -> VortexResult<Expression>
-    requires { length children.items ≡ arity_of (function_of scalar_fn) }
-    ensures { GivesNode (function_of scalar_fn) (trees_of children.items) result }
+    first: T,
+    second: T,
+) -> VortexResult<T>
+    requires { arity_of (function_of scalar_fn) ≡ 2 }
+    ensures { T.gives (function_of scalar_fn) (first ∷ second ∷ []) result }
 {
-    Expression::try_new(alloc, scalar_fn, children)
+    let mut children = Vec::with_capacity(alloc, 2)?;
+    children.push(first)?;
+    children.push(second)?;
+    T::of_function(alloc, scalar_fn, children)
+}
+
+// The node of a function of three children.
+pub(crate) fn node_of_three<T: TreeNode>(
+    alloc: Global,
+    scalar_fn: ScalarFnRef,
+    first: T,
+    second: T,
+    third: T,
+) -> VortexResult<T>
+    requires { arity_of (function_of scalar_fn) ≡ 3 }
+    ensures { T.gives (function_of scalar_fn) (first ∷ second ∷ third ∷ []) result }
+{
+    let mut children = Vec::with_capacity(alloc, 3)?;
+    children.push(first)?;
+    children.push(second)?;
+    children.push(third)?;
+    T::of_function(alloc, scalar_fn, children)
 }

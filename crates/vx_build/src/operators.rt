@@ -2,106 +2,110 @@
 ghost use Rattle.std.specs.Prelude.{[], ◌∷◌};
 ghost use Rattle.vx_fn.specs.Functions.{binary, negation, between, compares, equal, different, above, at_least, below, at_most, and_also, or_else, adds};
 ghost use Rattle.vx_fn.specs.Views.{operation_of, is_strict};
-ghost use Rattle.vx_tree.specs.Views.{trees_of};
-ghost use Rattle.vx_build.specs.Built.{GivesNode};
 
-use crate::node::node;
+use crate::node::{node_of_one, node_of_three, node_of_two};
 use std::alloc::Global;
-use vx_tree::{BetweenOptions, EmptyOptions, Expression, Operator, ScalarFnRef, VortexResult};
+use vx_tree::{BetweenOptions, EmptyOptions, Operator, ScalarFnRef, TreeNode, VortexResult};
 
-/// The operator between two operands. Refuses with `OutOfMemory` (1) alone.
-pub fn binary(
-    alloc: Global,
-    operator: Operator,
-    lhs: Expression,
-    rhs: Expression,
-) -> VortexResult<Expression>
-    ensures { GivesNode (binary (operation_of operator)) (trees_of (lhs ∷ rhs ∷ [])) result }
+/// The operator between two operands. Over sources it refuses with `OutOfMemory` (1) alone, over
+/// bound trees as the node does (6 to 9).
+pub fn binary<T: TreeNode>(alloc: Global, operator: Operator, lhs: T, rhs: T) -> VortexResult<T>
+    ensures { T.gives (binary (operation_of operator)) (lhs ∷ rhs ∷ []) result }
 {
-    node(alloc, ScalarFnRef::Binary(operator), [lhs, rhs])
+    node_of_two(alloc, ScalarFnRef::Binary(operator), lhs, rhs)
 }
 
-/// Whether the operands are equal. Refuses with `OutOfMemory` (1) alone.
-pub fn eq(alloc: Global, lhs: Expression, rhs: Expression) -> VortexResult<Expression>
-    ensures { GivesNode (binary (compares equal)) (trees_of (lhs ∷ rhs ∷ [])) result }
+/// Whether the operands are equal. Over sources it refuses with `OutOfMemory` (1) alone, over bound
+/// trees as the node does: `NotComparable` (8), `BaseTypesDiffer` (6).
+pub fn eq<T: TreeNode>(alloc: Global, lhs: T, rhs: T) -> VortexResult<T>
+    ensures { T.gives (binary (compares equal)) (lhs ∷ rhs ∷ []) result }
 {
     binary(alloc, Operator::Eq, lhs, rhs)
 }
 
-/// Whether the operands differ. Refuses with `OutOfMemory` (1) alone.
-pub fn not_eq(alloc: Global, lhs: Expression, rhs: Expression) -> VortexResult<Expression>
-    ensures { GivesNode (binary (compares different)) (trees_of (lhs ∷ rhs ∷ [])) result }
+/// Whether the operands differ. Over sources it refuses with `OutOfMemory` (1) alone, over bound
+/// trees as the node does: `NotComparable` (8), `BaseTypesDiffer` (6).
+pub fn not_eq<T: TreeNode>(alloc: Global, lhs: T, rhs: T) -> VortexResult<T>
+    ensures { T.gives (binary (compares different)) (lhs ∷ rhs ∷ []) result }
 {
     binary(alloc, Operator::NotEq, lhs, rhs)
 }
 
-/// Whether the left operand is greater or equal. Refuses with `OutOfMemory` (1) alone.
-pub fn gt_eq(alloc: Global, lhs: Expression, rhs: Expression) -> VortexResult<Expression>
-    ensures { GivesNode (binary (compares at_least)) (trees_of (lhs ∷ rhs ∷ [])) result }
+/// Whether the left operand is greater or equal. Over sources it refuses with `OutOfMemory` (1)
+/// alone, over bound trees as the node does: `NotComparable` (8), `BaseTypesDiffer` (6).
+pub fn gt_eq<T: TreeNode>(alloc: Global, lhs: T, rhs: T) -> VortexResult<T>
+    ensures { T.gives (binary (compares at_least)) (lhs ∷ rhs ∷ []) result }
 {
     binary(alloc, Operator::Gte, lhs, rhs)
 }
 
-/// Whether the left operand is greater. Refuses with `OutOfMemory` (1) alone.
-pub fn gt(alloc: Global, lhs: Expression, rhs: Expression) -> VortexResult<Expression>
-    ensures { GivesNode (binary (compares above)) (trees_of (lhs ∷ rhs ∷ [])) result }
+/// Whether the left operand is greater. Over sources it refuses with `OutOfMemory` (1) alone, over
+/// bound trees as the node does: `NotComparable` (8), `BaseTypesDiffer` (6).
+pub fn gt<T: TreeNode>(alloc: Global, lhs: T, rhs: T) -> VortexResult<T>
+    ensures { T.gives (binary (compares above)) (lhs ∷ rhs ∷ []) result }
 {
     binary(alloc, Operator::Gt, lhs, rhs)
 }
 
-/// Whether the left operand is less or equal. Refuses with `OutOfMemory` (1) alone.
-pub fn lt_eq(alloc: Global, lhs: Expression, rhs: Expression) -> VortexResult<Expression>
-    ensures { GivesNode (binary (compares at_most)) (trees_of (lhs ∷ rhs ∷ [])) result }
+/// Whether the left operand is less or equal. Over sources it refuses with `OutOfMemory` (1) alone,
+/// over bound trees as the node does: `NotComparable` (8), `BaseTypesDiffer` (6).
+pub fn lt_eq<T: TreeNode>(alloc: Global, lhs: T, rhs: T) -> VortexResult<T>
+    ensures { T.gives (binary (compares at_most)) (lhs ∷ rhs ∷ []) result }
 {
     binary(alloc, Operator::Lte, lhs, rhs)
 }
 
-/// Whether the left operand is less. Refuses with `OutOfMemory` (1) alone.
-pub fn lt(alloc: Global, lhs: Expression, rhs: Expression) -> VortexResult<Expression>
-    ensures { GivesNode (binary (compares below)) (trees_of (lhs ∷ rhs ∷ [])) result }
+/// Whether the left operand is less. Over sources it refuses with `OutOfMemory` (1) alone, over
+/// bound trees as the node does: `NotComparable` (8), `BaseTypesDiffer` (6).
+pub fn lt<T: TreeNode>(alloc: Global, lhs: T, rhs: T) -> VortexResult<T>
+    ensures { T.gives (binary (compares below)) (lhs ∷ rhs ∷ []) result }
 {
     binary(alloc, Operator::Lt, lhs, rhs)
 }
 
-/// Whether one of the operands is true, by Kleene's table. Refuses with `OutOfMemory` (1)
-/// alone.
-pub fn or(alloc: Global, lhs: Expression, rhs: Expression) -> VortexResult<Expression>
-    ensures { GivesNode (binary or_else) (trees_of (lhs ∷ rhs ∷ [])) result }
+/// Whether one of the operands is true, by Kleene's table. Over sources it refuses with
+/// `OutOfMemory` (1) alone, over bound trees as the node does: `NotBool` (7).
+pub fn or<T: TreeNode>(alloc: Global, lhs: T, rhs: T) -> VortexResult<T>
+    ensures { T.gives (binary or_else) (lhs ∷ rhs ∷ []) result }
 {
     binary(alloc, Operator::Or, lhs, rhs)
 }
 
-/// Whether both operands are true, by Kleene's table. Refuses with `OutOfMemory` (1) alone.
-pub fn and(alloc: Global, lhs: Expression, rhs: Expression) -> VortexResult<Expression>
-    ensures { GivesNode (binary and_also) (trees_of (lhs ∷ rhs ∷ [])) result }
+/// Whether both operands are true, by Kleene's table. Over sources it refuses with `OutOfMemory`
+/// (1) alone, over bound trees as the node does: `NotBool` (7).
+pub fn and<T: TreeNode>(alloc: Global, lhs: T, rhs: T) -> VortexResult<T>
+    ensures { T.gives (binary and_also) (lhs ∷ rhs ∷ []) result }
 {
     binary(alloc, Operator::And, lhs, rhs)
 }
 
-/// The sum of the operands. Refuses with `OutOfMemory` (1) alone.
-pub fn checked_add(alloc: Global, lhs: Expression, rhs: Expression) -> VortexResult<Expression>
-    ensures { GivesNode (binary adds) (trees_of (lhs ∷ rhs ∷ [])) result }
+/// The sum of the operands. Over sources it refuses with `OutOfMemory` (1) alone, over bound trees
+/// as the node does: `NotNumeric` (9), `BaseTypesDiffer` (6).
+pub fn checked_add<T: TreeNode>(alloc: Global, lhs: T, rhs: T) -> VortexResult<T>
+    ensures { T.gives (binary adds) (lhs ∷ rhs ∷ []) result }
 {
     binary(alloc, Operator::Add, lhs, rhs)
 }
 
-/// The other truth value, null for null. Refuses with `OutOfMemory` (1) alone.
-pub fn not(alloc: Global, child: Expression) -> VortexResult<Expression>
-    ensures { GivesNode negation (trees_of (child ∷ [])) result }
+/// The other truth value, null for null. Over sources it refuses with `OutOfMemory` (1) alone, over
+/// bound trees as the node does: `NotBool` (7).
+pub fn not<T: TreeNode>(alloc: Global, child: T) -> VortexResult<T>
+    ensures { T.gives negation (child ∷ []) result }
 {
-    node(alloc, ScalarFnRef::Not(EmptyOptions), [child])
+    node_of_one(alloc, ScalarFnRef::Not(EmptyOptions), child)
 }
 
-/// Whether the value lies between the bounds, each let in or left out by the options. Refuses
-/// with `OutOfMemory` (1) alone.
-pub fn between(
+/// Whether the value lies between the bounds, each let in or left out by the options. Over sources
+/// it refuses with `OutOfMemory` (1) alone, over bound trees as the node does: `NotComparable` (8),
+/// `BaseTypesDiffer` (6).
+pub fn between<T: TreeNode>(
     alloc: Global,
-    arr: Expression,
-    lower: Expression,
-    upper: Expression,
+    arr: T,
+    lower: T,
+    upper: T,
     options: BetweenOptions,
-) -> VortexResult<Expression>
-    ensures { GivesNode (between (is_strict options.lower_strict) (is_strict options.upper_strict)) (trees_of (arr ∷ lower ∷ upper ∷ [])) result }
+) -> VortexResult<T>
+    ensures { T.gives (between (is_strict options.lower_strict) (is_strict options.upper_strict)) (arr ∷ lower ∷ upper ∷ []) result }
 {
-    node(alloc, ScalarFnRef::Between(options), [arr, lower, upper])
+    node_of_three(alloc, ScalarFnRef::Between(options), arr, lower, upper)
 }

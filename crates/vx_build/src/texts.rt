@@ -2,45 +2,45 @@
 ghost use Rattle.std.specs.Prelude.{◌≡◌, true, false, [], ◌∷◌};
 ghost use Rattle.vx_fn.specs.Functions.{like};
 ghost use Rattle.vx_fn.specs.Views.{function_of};
-ghost use Rattle.vx_tree.specs.Views.{trees_of};
-ghost use Rattle.vx_build.specs.Built.{GivesNode};
 
-use crate::node::node;
+use crate::node::node_of_two;
 use std::alloc::Global;
-use vx_tree::{Expression, LikeOptions, ScalarFnRef, VortexResult};
+use vx_tree::{LikeOptions, ScalarFnRef, TreeNode, VortexResult};
 
-/// Whether the text matches the pattern. Refuses with `OutOfMemory` (1) alone.
-pub fn like(alloc: Global, child: Expression, pattern: Expression) -> VortexResult<Expression>
-    ensures { GivesNode (like false false) (trees_of (child ∷ pattern ∷ [])) result }
+/// Whether the text matches the pattern. Over sources it refuses with `OutOfMemory` (1) alone, over
+/// bound trees as the node does: `NotText` (10).
+pub fn like<T: TreeNode>(alloc: Global, child: T, pattern: T) -> VortexResult<T>
+    ensures { T.gives (like false false) (child ∷ pattern ∷ []) result }
 {
-    node(alloc, matching(false, false), [child, pattern])
+    node_of_two(alloc, matching(false, false), child, pattern)
 }
 
-/// Whether the text matches the pattern, the case of ASCII letters ignored. Refuses with
-/// `OutOfMemory` (1) alone.
-pub fn ilike(alloc: Global, child: Expression, pattern: Expression) -> VortexResult<Expression>
-    ensures { GivesNode (like false true) (trees_of (child ∷ pattern ∷ [])) result }
+/// Whether the text matches the pattern, the case of ASCII letters ignored. Over sources it refuses
+/// with `OutOfMemory` (1) alone, over bound trees as the node does: `NotText` (10).
+pub fn ilike<T: TreeNode>(alloc: Global, child: T, pattern: T) -> VortexResult<T>
+    ensures { T.gives (like false true) (child ∷ pattern ∷ []) result }
 {
-    node(alloc, matching(false, true), [child, pattern])
+    node_of_two(alloc, matching(false, true), child, pattern)
 }
 
-/// Whether the text doesn't match the pattern. Refuses with `OutOfMemory` (1) alone.
-pub fn not_like(alloc: Global, child: Expression, pattern: Expression) -> VortexResult<Expression>
-    ensures { GivesNode (like true false) (trees_of (child ∷ pattern ∷ [])) result }
+/// Whether the text doesn't match the pattern. Over sources it refuses with `OutOfMemory` (1)
+/// alone, over bound trees as the node does: `NotText` (10).
+pub fn not_like<T: TreeNode>(alloc: Global, child: T, pattern: T) -> VortexResult<T>
+    ensures { T.gives (like true false) (child ∷ pattern ∷ []) result }
 {
-    node(alloc, matching(true, false), [child, pattern])
+    node_of_two(alloc, matching(true, false), child, pattern)
 }
 
-/// Whether the text doesn't match the pattern, the case of ASCII letters ignored. Refuses with
-/// `OutOfMemory` (1) alone.
-pub fn not_ilike(alloc: Global, child: Expression, pattern: Expression) -> VortexResult<Expression>
-    ensures { GivesNode (like true true) (trees_of (child ∷ pattern ∷ [])) result }
+/// Whether the text doesn't match the pattern, the case of ASCII letters ignored. Over sources it
+/// refuses with `OutOfMemory` (1) alone, over bound trees as the node does: `NotText` (10).
+pub fn not_ilike<T: TreeNode>(alloc: Global, child: T, pattern: T) -> VortexResult<T>
+    ensures { T.gives (like true true) (child ∷ pattern ∷ []) result }
 {
-    node(alloc, matching(true, true), [child, pattern])
+    node_of_two(alloc, matching(true, true), child, pattern)
 }
 
 // How a text is matched with a pattern.
-pub(crate) fn matching(negated: bool, case_insensitive: bool) -> ScalarFnRef
+fn matching(negated: bool, case_insensitive: bool) -> ScalarFnRef
     ensures { function_of result ≡ like negated case_insensitive }
 {
     ScalarFnRef::Like(LikeOptions {

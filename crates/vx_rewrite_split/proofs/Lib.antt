@@ -9,7 +9,6 @@ pub mod Mapped
 pub mod Meeting
 pub mod Naming
 pub mod Packs
-pub mod Rebindings
 pub mod Replacing
 pub mod Showing
 pub mod Splits

@@ -1,16 +1,18 @@
 // The struct that the partitions' results make: its type, and the holes over it.
-ghost use Rattle.std.specs.Prelude.{◌≡◌, length, IfOk, Ok, map};
+ghost use Rattle.std.specs.Prelude.{◌≡◌, length, Ok};
 ghost use Rattle.vx_value.specs.Answers.{Answers};
 ghost use Rattle.vx_value.specs.Views.{type_of};
 ghost use Rattle.vx_rewrite_recombine.specs.Items.{struct_type};
 ghost use Rattle.vx_rewrite_split.specs.Filling.{holes_seen};
 ghost use Rattle.vx_rewrite_split.specs.Packing.{all_holes};
-ghost use Rattle.vx_tree.specs.Trees.{node_types, scope};
+ghost use Rattle.vx_tree.specs.Trees.{scope};
 ghost use Rattle.vx_tree.specs.Views.{bounds_of};
 
 use crate::holes::all_holes;
-use std::alloc::{AllocError, Global};
-use vx_tree::{BoundExpression, DType, FieldNames, Nullability, StructFields, VortexResult};
+use std::alloc::Global;
+use vx_tree::{
+    BoundExpression, DType, FieldNames, Nullability, StructFields, VortexResult, dtypes_of,
+};
 
 // The struct type, not nullable, of the partitions' types under these names.
 pub(crate) fn joined_dtype(
@@ -42,15 +44,4 @@ pub(crate) fn joined_holes(
     // By `drop`: to let go of a tree in place takes the proof far longer.
     drop(root);
     holes
-}
-
-fn dtypes_of(alloc: Global, nodes: &[BoundExpression]) -> Result<Vec<DType>, AllocError>
-    ensures types { IfOk result (λ types. map type_of types.items ≡ node_types (bounds_of nodes.now)) }
-    ensures count { IfOk result (λ types. length types.items ≡ length nodes.now) }
-{
-    let mut types = Vec::with_capacity(alloc, nodes.len())?;
-    for node in nodes {
-        types.push(node.dtype().clone()?)?;
-    }
-    Ok(types)
 }

@@ -13,7 +13,6 @@ mod met;
 mod names;
 mod pack;
 mod partitioned;
-mod rebind;
 mod shown;
 mod split;
 

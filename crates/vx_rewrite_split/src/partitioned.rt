@@ -10,7 +10,6 @@ ghost use Rattle.vx_rewrite_recombine.specs.Items.{struct_type, tree_named};
 
 use crate::PartitionKey;
 use crate::joined::joined_dtype;
-use crate::rebind::rebind;
 use std::alloc::Global;
 use vx_tree::{BoundExpression, FieldNames, VortexError, VortexResult};
 
@@ -83,7 +82,7 @@ impl<A: Drop> BoundPartitionedExpr<A> {
             return Err(VortexError::PartitionCount { expected, got });
         }
         let scope = joined_dtype(alloc, &self.partition_names, partitions.as_slice())?;
-        let root = rebind(alloc, &self.root, &scope)?;
+        let root = self.root.rebind(alloc, &scope)?;
         // By `drop`: to let go of a tree in place takes the proof far longer.
         drop(std::mem::replace(&mut self.root, root));
         self.partitions = partitions;

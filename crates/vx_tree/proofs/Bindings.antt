@@ -1,12 +1,11 @@
 -- The nodes bound so far, and then the rest.
-use Rattle.std.proofs.Common.{◌≡◌, ℕ, ◌+◌, ◌<◌, ◌≤◌, List, [], ◌∷◌, ◌++◌, length, get_or, drop, drop-cons, drop_of_length-le, add-one, Result, Ok, Err, refl, sym, ap, ◌∙◌}
+use Rattle.std.proofs.Common.{◌≡◌, ℕ, ◌+◌, ◌<◌, ◌≤◌, List, [], ◌∷◌, ◌++◌, length, get_or, drop, drop-cons, drop_of_length-le, map, add-one, Result, Ok, Err, refl, sym, ap, ◌∙◌}
 use Rattle.vx_dtype.specs.declared.error.VortexError.{VortexError}
 use Rattle.vx_value.specs.Types.{LogicalType}
-use Rattle.vx_tree.specs.declared.expression.Expression.{Expression}
 use Rattle.vx_tree.specs.declared.bound.BoundExpression.{BoundExpression}
-use Rattle.vx_tree.specs.Trees.{BoundTree, BoundTrees, no_bound, bound, on_ok, WellTyped, EachWellTyped}
+use Rattle.vx_tree.specs.Trees.{Tree, BoundTree, BoundTrees, no_bound, bound, on_ok, WellTyped, EachWellTyped}
 use Rattle.vx_tree.specs.Binding.{binding, each_binding}
-use Rattle.vx_tree.specs.Views.{tree_of, trees_of, bound_of, bounds_of}
+use Rattle.vx_tree.specs.Views.{trees_from, bound_of, bounds_of}
 
 abbrev ok_bounds : BoundTrees → Result BoundTrees VortexError
 ok_bounds bs = Ok bs
@@ -33,34 +32,29 @@ after_push : (made : List BoundExpression) (b : BoundExpression) (rest : Result 
 after_push made b (Ok bs) = ap ok_bounds (before_push made b bs)
 after_push made b (Err e) = refl
 
-after_ok : (made : List BoundExpression) → after made (Ok no_bound) ≡ Ok (bounds_of made)
-after_ok made = ap ok_bounds (before_nothing made)
+module _ {A : Type 0} (view : A → Tree) (es : List A) (s : LogicalType) where
+  -- the trees from that index on, bound
+  abbrev pub rest_of : ℕ → Result BoundTrees VortexError
+  rest_of i = each_binding (trees_from (map view (drop i es))) s
 
-after_err : (made : List BoundExpression) (e : VortexError) → after made (Err e) ≡ Err e
-after_err made e = refl
+  step : (i : ℕ) (e : A) → i < length es → e ≡ get_or es i e → rest_of i ≡ on_ok (λ b. put b (rest_of (i + 1))) (binding (view e) s)
+  step i e h is = rw (add-one, drop-cons es i e h, ← is)
 
-step : (es : List Expression) (s : LogicalType) (i : ℕ) (e : Expression) → i < length es → e ≡ get_or es i e
-    → each_binding (trees_of (drop i es)) s ≡ on_ok (λ b. put b (each_binding (trees_of (drop (i + 1) es)) s)) (binding (tree_of e) s)
-step es s i e h is = rw (add-one, drop-cons es i e h, ← is)
+  -- one more is bound
+  pub next : (made new : List BoundExpression) (i : ℕ) (e : A) (b : BoundExpression) (all : Result BoundTrees VortexError) → i < length es → e ≡ get_or es i e
+      → new ≡ made ++ b ∷ [] → binding (view e) s ≡ Ok (bound_of b) → all ≡ after made (rest_of i) → all ≡ after new (rest_of (i + 1))
+  next made new i e b all h is pushed bound_to so_far =
+      let rest = rest_of (i + 1) in
+      so_far ∙ ap (after made) (step i e h is ∙ ap (on_ok (λ x. put x rest)) bound_to) ∙ sym (after_push made b rest) ∙ ap (λ bs. after bs rest) (sym pushed)
 
-pub next : (es : List Expression) (s : LogicalType) (made new : List BoundExpression) (i : ℕ) (e : Expression) (b : BoundExpression) (all : Result BoundTrees VortexError)
-    → i < length es → e ≡ get_or es i e → new ≡ made ++ b ∷ [] → binding (tree_of e) s ≡ Ok (bound_of b)
-    → all ≡ after made (each_binding (trees_of (drop i es)) s) → all ≡ after new (each_binding (trees_of (drop (i + 1) es)) s)
-next es s made new i e b all h is pushed bound_to so_far =
-    let rest = each_binding (trees_of (drop (i + 1) es)) s in
-    let here : each_binding (trees_of (drop i es)) s ≡ put (bound_of b) rest = step es s i e h is ∙ ap (on_ok (λ x. put x rest)) bound_to in
-    so_far ∙ ap (after made) here ∙ sym (after_push made b rest) ∙ ap (λ bs. after bs rest) (sym pushed)
+  -- one is refused
+  pub stops : (made : List BoundExpression) (i : ℕ) (e : A) (r : VortexError) (all : Result BoundTrees VortexError) → i < length es → e ≡ get_or es i e → binding (view e) s ≡ Err r
+      → all ≡ after made (rest_of i) → all ≡ Err r
+  stops made i e r all h is refused so_far = so_far ∙ ap (after made) (step i e h is ∙ ap (on_ok (λ x. put x (rest_of (i + 1)))) refused)
 
-pub stops : (es : List Expression) (s : LogicalType) (made : List BoundExpression) (i : ℕ) (e : Expression) (r : VortexError) (all : Result BoundTrees VortexError)
-    → i < length es → e ≡ get_or es i e → binding (tree_of e) s ≡ Err r
-    → all ≡ after made (each_binding (trees_of (drop i es)) s) → all ≡ Err r
-stops es s made i e r all h is refused so_far =
-    let here : each_binding (trees_of (drop i es)) s ≡ Err r = step es s i e h is ∙ ap (on_ok (λ x. put x (each_binding (trees_of (drop (i + 1) es)) s))) refused in
-    so_far ∙ ap (after made) here ∙ after_err made r
-
-pub end : (es : List Expression) (s : LogicalType) (made : List BoundExpression) (i : ℕ) (all : Result BoundTrees VortexError) → length es ≤ i
-    → all ≡ after made (each_binding (trees_of (drop i es)) s) → all ≡ Ok (bounds_of made)
-end es s made i all h so_far = so_far ∙ rw (drop_of_length-le es h) (after_ok made)
+  -- all are bound
+  pub end : (made : List BoundExpression) (i : ℕ) (all : Result BoundTrees VortexError) → length es ≤ i → all ≡ after made (rest_of i) → all ≡ Ok (bounds_of made)
+  end made i all h so_far = so_far ∙ rw (drop_of_length-le es h) (ap ok_bounds (before_nothing made))
 
 pub well_typed_push : (made new : List BoundExpression) (b : BoundExpression) → new ≡ made ++ b ∷ [] → EachWellTyped (bounds_of made) → WellTyped (bound_of b) → EachWellTyped (bounds_of new)
 well_typed_push made new b pushed w v = rw pushed (go made w)

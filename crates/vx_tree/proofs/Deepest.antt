@@ -1,14 +1,12 @@
 -- How deep trees are, level by level.
-use Rattle.std.proofs.Common.{◌≡◌, ℕ, ◌+◌, ◌<◌, get_or, drop, arith, List, [], ◌∷◌, ◌++◌, length, refl, sym, ap, ◌∙◌}
+use Rattle.std.proofs.Common.{◌≡◌, ℕ, ◌+◌, ◌<◌, get_or, drop, map, arith, List, [], ◌∷◌, ◌++◌, length, refl, sym, ap, ◌∙◌}
 use Rattle.std.specs.Prelude.{max}
 use Rattle.std.proofs.lemmas.List.{at_drop_more}
 use Rattle.vx_tree.specs.Depths.{depth_of, depths_of}
 use Rattle.vx_tree.specs.Levels.{greatest}
-use Rattle.vx_tree.specs.Nodes.{children_of, bound_children_of}
-use Rattle.vx_tree.specs.Trees.{Tree, root, call, BoundTree, scope, node, unbound, unbound_each}
-use Rattle.vx_tree.specs.Views.{tree_of, trees_of, bound_of, bounds_of}
-use Rattle.vx_tree.specs.declared.bound.BoundExpression.{BoundExpression}
-use Rattle.vx_tree.specs.declared.expression.Expression.{Expression}
+use Rattle.vx_tree.specs.Nodes.{children_of}
+use Rattle.vx_tree.specs.Trees.{Tree, root, call}
+use Rattle.vx_tree.specs.Views.{trees_from}
 
 -- ---- the greatest of numbers
 
@@ -49,22 +47,11 @@ module _ {X T : Type 0} (depth below : X → ℕ) (deep : T → ℕ) (level : Li
       let one : greatest depth (found ++ x ∷ []) ≡ max (greatest depth found) (depth x) = greatest-append depth found x in
       omega (arith, next, one, same, rest)
 
--- ---- the children of an expression
+-- ---- the children of a tree of either kind
 
-depths_of-trees_of : (ts : List Expression) → depths_of (trees_of ts) ≡ greatest (λ t. depth_of (tree_of t)) ts
-depths_of-trees_of [] = refl
-depths_of-trees_of (t ∷ ts) = ap (max (depth_of (tree_of t))) (depths_of-trees_of ts)
+depths_of-trees : {A : Type 0} (tree : A → Tree) (ts : List A) → depths_of (trees_from (map tree ts)) ≡ greatest (λ t. depth_of (tree t)) ts
+depths_of-trees tree [] = refl
+depths_of-trees tree (t ∷ ts) = ap (max (depth_of (tree t))) (depths_of-trees tree ts)
 
-pub children-depth : (e : Tree) (ts : List Expression) → trees_of ts ≡ children_of e → depths_of (children_of e) ≡ greatest (λ t. depth_of (tree_of t)) ts
-children-depth e ts is = ap depths_of (sym is) ∙ depths_of-trees_of ts
-
-depths_of-bounds_of : (bs : List BoundExpression) → depths_of (unbound_each (bounds_of bs)) ≡ greatest (λ b. depth_of (unbound (bound_of b))) bs
-depths_of-bounds_of [] = refl
-depths_of-bounds_of (b ∷ bs) = ap (max (depth_of (unbound (bound_of b)))) (depths_of-bounds_of bs)
-
-pub bound-children-depth : (b : BoundTree) (ts : List BoundExpression) → bounds_of ts ≡ bound_children_of b → depths_of (children_of (unbound b)) ≡ greatest (λ t. depth_of (unbound (bound_of t))) ts
-bound-children-depth b ts is = ap depths_of (below b) ∙ ap (λ bs. depths_of (unbound_each bs)) (sym is) ∙ depths_of-bounds_of ts
-  where
-    below : (c : BoundTree) → children_of (unbound c) ≡ unbound_each (bound_children_of c)
-    below (scope t) = refl
-    below (node t f bs) = refl
+pub children-depth : {A : Type 0} (tree : A → Tree) (e : Tree) (ts : List A) → trees_from (map tree ts) ≡ children_of e → depths_of (children_of e) ≡ greatest (λ t. depth_of (tree t)) ts
+children-depth tree e ts is = ap depths_of (sym is) ∙ depths_of-trees tree ts

@@ -4,6 +4,8 @@ pub mod Bindings
 pub mod Binds
 pub mod Typings
 pub mod Nodes
+pub mod Seen
+pub mod Built
 pub mod Unique
 pub mod Texts
 pub mod TreeTexts

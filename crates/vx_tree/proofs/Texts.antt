@@ -5,10 +5,11 @@ use Rattle.std.proofs.lemmas.Bool.Decides.{nat_tests}
 use Rattle.vx_value.specs.Types.{Name}
 use Rattle.vx_fn.specs.Functions.{Function, arity_of}
 use Rattle.vx_fn.specs.Texts.{node_sql, own_sql, call_sql, named_texts, pairs_sql}
-use Rattle.vx_tree.specs.Nodes.{function_at, children_of, size_of, sizes_of}
+use Rattle.vx_tree.specs.Nodes.{function_at, children_of}
 use Rattle.vx_tree.specs.Texts.{sql, sqls, texts, pair_sql}
-use Rattle.vx_tree.specs.Trees.{Tree, root, call}
+use Rattle.vx_tree.specs.Trees.{Tree, call}
 use Rattle.vx_tree.specs.Views.{trees_from}
+use Rattle.vx_tree.proofs.Seen.{function_node}
 
 pub length-texts : {A : Type 0} (view : A → Tree) (xs : List A) → length (texts view xs) ≡ length xs
 length-texts view [] = refl
@@ -19,16 +20,7 @@ get_or-texts view [] i x h is = absurd (omega arith)
 get_or-texts view (y ∷ xs) zero x h is = ap (λ z. sql (view z)) is
 get_or-texts view (y ∷ xs) (suc i) x h is = get_or-texts view xs i x (omega arith) is
 
-pub size_of-le_all : {A : Type 0} (view : A → Tree) (xs : List A) (i : ℕ) (d : A) → i < length xs → size_of (view (get_or xs i d)) ≤ sizes_of (trees_from (map view xs))
-size_of-le_all view [] i d h = absurd (omega arith)
-size_of-le_all view (x ∷ xs) zero d h = omega arith
-size_of-le_all view (x ∷ xs) (suc i) d h = omega (arith, size_of-le_all view xs i d (omega arith))
-
 -- ---- the text of a node, over its children
-
-pub function_node : (e : Tree) (f : Function) → Some f ≡ function_at e → e ≡ call f (children_of e)
-function_node root f h = absurd (cc)
-function_node (call g es) f h = cc
 
 node_sql-own : {A : Type 0} (view : A → Tree) (f : Function) (xs : List A) → length xs ≡ arity_of f → node_sql f (texts view xs) ≡ own_sql f (texts view xs)
 node_sql-own view f xs h = rw (length-texts view xs) (grind (arith, nat_tests, h))

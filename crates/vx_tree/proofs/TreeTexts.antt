@@ -4,11 +4,11 @@ use Rattle.std.proofs.lemmas.List.{at_drop_more, at_drop_all}
 use Rattle.std.proofs.lemmas.Bool.Decides.{nat_tests}
 use Rattle.vx_fn.specs.Functions.{Function}
 use Rattle.vx_fn.specs.Texts.{function_text}
-use Rattle.vx_tree.specs.Nodes.{function_at, children_of, count_of, size_of, sizes_of}
+use Rattle.vx_tree.specs.Nodes.{function_at, children_of, count_of}
 use Rattle.vx_tree.specs.TreeTexts.{branch, bar, called, is_last, lines_below, child_lines, on_new_lines, text_behind}
 use Rattle.vx_tree.specs.Trees.{Tree, root, call, Trees, tree}
 use Rattle.vx_tree.specs.Views.{trees_from}
-use Rattle.vx_tree.proofs.Texts.{function_node, size_of-le_all}
+use Rattle.vx_tree.proofs.Seen.{function_node}
 
 -- ---- lines behind a prefix
 
@@ -77,14 +77,3 @@ pub text_behind-node : {A : Type 0} (view : A → Tree) (p : List ℕ) (e : Tree
 text_behind-node view p e f xs h is =
     ap (λ n. function_text f ++ children_text view p f n 0 xs) (sym (count_of-trees_from view xs))
     ∙ ap (λ es. text_behind p (call f es)) is ∙ ap (text_behind p) (sym (function_node e f h))
-
--- ---- a child has fewer nodes
-
-sizes_of-children : (e : Tree) → sizes_of (children_of e) < size_of e
-sizes_of-children root = omega arith
-sizes_of-children (call f es) = omega arith
-
-pub child_smaller : {A : Type 0} (view : A → Tree) (e : Tree) (xs : List A) (i : ℕ) (x : A) → trees_from (map view xs) ≡ children_of e → i < length xs → x ≡ get_or xs i x → size_of (view x) < size_of e
-child_smaller {A} view e xs i x is h at =
-    let within = size_of-le_all view xs i x h in
-    omega (arith, within, sizes_of-children e, ap sizes_of is, ap (λ (y : A). size_of (view y)) at)

@@ -7,6 +7,7 @@ pub mod Views
 pub mod Binding
 pub mod Pushed
 pub mod Nodes
+pub mod Built
 pub mod Depths
 pub mod Levels
 pub mod Equality

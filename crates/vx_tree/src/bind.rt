@@ -1,5 +1,5 @@
-// Binding: an expression over a scope, with the type of each node.
-ghost use Rattle.std.specs.Prelude.{◌≡◌, ◌↔◌, ℕ, Err, IfOk, IsTrue, OnOk};
+// Binding: a tree over a scope, with the type of each node.
+ghost use Rattle.std.specs.Prelude.{◌≡◌, ◌↔◌, Err, IfOk, IsTrue, OnOk, map};
 ghost use Rattle.vx_value.specs.Answers.{Answers};
 ghost use Rattle.vx_value.specs.Views.{type_of};
 ghost use Rattle.vx_fn.specs.Views.{function_of};
@@ -7,9 +7,9 @@ ghost use Rattle.vx_tree.specs.Binding.{binding, each_binding, node_over};
 ghost use Rattle.vx_tree.specs.Nodes.{is_over};
 ghost use Rattle.vx_tree.specs.Pushed.{Pushes};
 ghost use Rattle.vx_tree.specs.Trees.{WellTyped, EachWellTyped, Over, root, unbound, typed, node_type};
-ghost use Rattle.vx_tree.specs.Views.{tree_of, trees_of, bound_of, bounds_of};
+ghost use Rattle.vx_tree.specs.Views.{tree_of, trees_from, bound_of, bounds_of};
 
-use crate::{BoundExpression, Expression, Scope};
+use crate::{BoundExpression, Expression, Scope, TreeNode};
 use std::alloc::Global;
 use vx_fn::ScalarFnRef;
 use vx_types::{DType, VortexError, VortexResult};
@@ -26,7 +26,7 @@ impl Expression {
         ensures well_typed { IfOk result (λ b. WellTyped (bound_of b)) }
         ensures over { IfOk result (λ b. Over (bound_of b) (type_of scope.now) × (unbound (bound_of b) ≡ tree_of self.now)) }
     {
-        bind_one(alloc, self, scope)
+        bind_tree(alloc, self, scope)
     }
 
     /// The tree bound to the type of the scope, as [`Expression::bind`] gives and refuses it.
@@ -39,34 +39,33 @@ impl Expression {
     }
 }
 
-fn bind_one(alloc: Global, e: &Expression, scope: &DType) -> VortexResult<BoundExpression>
-    ensures bound { Answers bound_of result (binding (tree_of e.now) (type_of scope.now)) }
+fn bind_tree<T: TreeNode>(alloc: Global, tree: &T, scope: &DType) -> VortexResult<BoundExpression>
+    ensures bound { Answers bound_of result (binding (T.tree tree.now) (type_of scope.now)) }
     ensures typed { IfOk result (λ b. WellTyped (bound_of b)) }
 {
-    match e {
-        Expression::Root => Ok(BoundExpression::Root {
+    let Some(scalar_fn) = tree.node_function() else {
+        return Ok(BoundExpression::Root {
             dtype: scope.clone()?,
-        }),
-        Expression::Scalar {
-            scalar_fn,
-            children,
-        } => {
-            let nodes = bind_all(alloc, children.as_slice(), scope)?;
-            BoundExpression::try_new(alloc, scalar_fn.clone()?, nodes)
-        }
-    }
+        });
+    };
+    let children = bind_all(alloc, tree.node_children(), scope)?;
+    BoundExpression::try_new(alloc, scalar_fn.clone()?, children)
 }
 
 // The recursion, which handles no node: its frame has a place for each that a function handles. So
 // what makes, stores or lets go of nodes stands in functions that aren't inlined.
 #[cycle(bind)]
-fn bind_all(alloc: Global, es: &[Expression], scope: &DType) -> VortexResult<Vec<BoundExpression>>
-    ensures bound { Answers (λ nodes. bounds_of nodes.items) result (each_binding (trees_of es.now) (type_of scope.now)) }
+fn bind_all<T: TreeNode>(
+    alloc: Global,
+    trees: &[T],
+    scope: &DType,
+) -> VortexResult<Vec<BoundExpression>>
+    ensures bound { Answers (λ nodes. bounds_of nodes.items) result (each_binding (trees_from (map T.tree trees.now)) (type_of scope.now)) }
     ensures typed { IfOk result (λ nodes. EachWellTyped (bounds_of nodes.items)) }
 {
-    let mut nodes = Vec::with_capacity(alloc, es.len())?;
-    for i in 0..es.len() {
-        if let Err(refusal) = push_bound(alloc, &es[i], scope, &mut nodes) {
+    let mut nodes = Vec::with_capacity(alloc, trees.len())?;
+    for i in 0..trees.len() {
+        if let Err(refusal) = push_bound(alloc, &trees[i], scope, &mut nodes) {
             return refused(nodes, refusal);
         }
     }
@@ -75,25 +74,21 @@ fn bind_all(alloc: Global, es: &[Expression], scope: &DType) -> VortexResult<Vec
 
 // Adds the tree, bound, to the nodes.
 #[cycle(bind)]
-fn push_bound(
+fn push_bound<T: TreeNode>(
     alloc: Global,
-    e: &Expression,
+    tree: &T,
     scope: &DType,
     nodes: &mut Vec<BoundExpression>,
 ) -> VortexResult<()>
-    ensures bound { Pushes bound_of nodes.old.items result (binding (tree_of e.now) (type_of scope.now)) nodes.new.items }
+    ensures bound { Pushes bound_of nodes.old.items result (binding (T.tree tree.now) (type_of scope.now)) nodes.new.items }
     ensures typed { OnOk result (EachWellTyped (bounds_of nodes.old.items) → EachWellTyped (bounds_of nodes.new.items)) }
 {
-    match e {
-        Expression::Root => push_root(scope, nodes),
-        Expression::Scalar {
-            scalar_fn,
-            children,
-        } => {
-            let below = bind_all(alloc, children.as_slice(), scope)?;
-            push_node(alloc, scalar_fn, below, nodes)
-        }
-    }
+    let Some(scalar_fn) = tree.node_function() else {
+        return push_root(scope, nodes);
+    };
+    let children = tree.node_children();
+    let below = bind_all(alloc, children, scope)?;
+    push_node(alloc, scalar_fn, below, nodes)
 }
 
 // Adds the scope root.
@@ -133,6 +128,19 @@ fn refused(nodes: Vec<BoundExpression>, refusal: VortexError) -> VortexResult<Ve
 }
 
 impl BoundExpression {
+    /// The tree without its types, bound to a scope of that type. Its cost is linear in the nodes.
+    ///
+    /// There is one exactly where typing gives the tree a type over that scope. Else the first
+    /// refusal is answered, the children's from left to right, then the node's: `ArityMismatch` (2)
+    /// before those of the function (4 to 11).
+    pub fn rebind(&self, alloc: Global, scope: &DType) -> VortexResult<BoundExpression>
+        ensures typed { Answers (λ b. node_type (bound_of b)) result (typed (unbound (bound_of self.now)) (type_of scope.now)) }
+        ensures well_typed { IfOk result (λ b. WellTyped (bound_of b)) }
+        ensures over { IfOk result (λ b. Over (bound_of b) (type_of scope.now) × (unbound (bound_of b) ≡ unbound (bound_of self.now))) }
+    {
+        bind_tree(alloc, self, scope)
+    }
+
     /// Whether every scope root of the tree has that type, true where there is none. Takes no memory.
     pub fn is_root_bound_to(&self, dtype: &DType) -> bool
         ensures { IsTrue result ↔ Over (bound_of self.now) (type_of dtype.now) }

@@ -1,5 +1,5 @@
 // Expressions bound to a scope: each node has its type.
-ghost use Rattle.std.specs.Prelude.{◌≡◌, ◌≢◌, ℕ, length, IfOk, IfSome, IsErrOf, IsTrue, Ok, map};
+ghost use Rattle.std.specs.Prelude.{◌≡◌, ◌≢◌, length, IfOk, IfSome, IsErrOf, IsTrue, Ok, map};
 ghost use Rattle.vx_value.specs.Answers.{Answers, Exactly};
 ghost use Rattle.vx_value.specs.Views.{type_of};
 ghost use Rattle.vx_dtype.specs.declared.error.VortexError.TheVariants.{ArityMismatch};
@@ -7,7 +7,7 @@ ghost use Rattle.vx_fn.specs.Functions.{arity_of, fn_type, HasFittingLiteral};
 ghost use Rattle.vx_fn.specs.Views.{function_of};
 ghost use Rattle.vx_tree.specs.Binding.{node_over};
 ghost use Rattle.vx_tree.specs.Nodes.{bound_over, bound_children_of, is_root, number_refusal};
-ghost use Rattle.vx_tree.specs.Trees.{scope, unbound, node_type, node_types, WellTyped, EachWellTyped};
+ghost use Rattle.vx_tree.specs.Trees.{scope, node, unbound, node_type, node_types, WellTyped, EachWellTyped};
 ghost use Rattle.vx_tree.specs.Views.{bound_of, bounds_of};
 
 use std::alloc::{AllocError, Global};
@@ -93,6 +93,19 @@ impl BoundExpression {
             return Err(VortexError::ArityMismatch { expected, got });
         }
         let dtype = dtype_over(alloc, &scalar_fn, children.as_slice())?;
+        BoundExpression::new_typed(alloc, dtype, scalar_fn, children)
+    }
+
+    /// The node of that type and function over the children, as they are: that the function gives
+    /// that type over theirs is for the caller to know. Refuses with `OutOfMemory` (1) alone.
+    pub fn new_typed(
+        alloc: Global,
+        dtype: DType,
+        scalar_fn: ScalarFnRef,
+        children: Vec<BoundExpression>,
+    ) -> VortexResult<BoundExpression>
+        ensures { Answers bound_of result (Ok (node (type_of dtype) (function_of scalar_fn) (bounds_of children.items))) }
+    {
         Ok(BoundExpression::Scalar {
             dtype,
             scalar_fn,
@@ -162,9 +175,10 @@ fn dtype_over(
     }
 }
 
-// The types of the nodes, from left to right.
-pub(crate) fn dtypes_of(alloc: Global, nodes: &[BoundExpression]) -> Result<Vec<DType>, AllocError>
-    ensures { IfOk result (λ types. map type_of types.items ≡ node_types (bounds_of nodes.now)) }
+/// Copies of the types of the nodes, from left to right. Fails for want of memory alone.
+pub fn dtypes_of(alloc: Global, nodes: &[BoundExpression]) -> Result<Vec<DType>, AllocError>
+    ensures types { IfOk result (λ types. map type_of types.items ≡ node_types (bounds_of nodes.now)) }
+    ensures count { IfOk result (λ types. length types.items ≡ length nodes.now) }
 {
     let mut types = Vec::with_capacity(alloc, nodes.len())?;
     for node in nodes {

@@ -3,11 +3,11 @@
 ghost use Rattle.std.specs.Prelude.{◌≡◌, ◌+◌, IfOk, Ok};
 ghost use Rattle.vx_value.specs.Answers.{Answers};
 ghost use Rattle.vx_tree.specs.Depths.{depth_of};
-ghost use Rattle.vx_tree.specs.Levels.{greatest, lent_depth, lent_depth_below, lent_bound_depth, lent_bound_depth_below};
+ghost use Rattle.vx_tree.specs.Levels.{greatest, lent_depth, lent_depth_below};
 ghost use Rattle.vx_tree.specs.Trees.{unbound};
 ghost use Rattle.vx_tree.specs.Views.{tree_of, bound_of};
 
-use crate::{BoundExpression, Expression};
+use crate::{BoundExpression, Expression, TreeNode};
 use std::alloc::{AllocError, Global};
 use vx_types::VortexResult;
 
@@ -20,14 +20,7 @@ impl Expression {
     pub fn depth(&self, alloc: Global) -> VortexResult<usize>
         ensures { Answers (λ depth. depth) result (Ok (depth_of (tree_of self.now))) }
     {
-        let mut depth = 0;
-        let mut level = Vec::new(alloc);
-        level.push(self)?;
-        while !level.is_empty() {
-            depth = one_more(depth)?;
-            level = level_below(alloc, level.as_slice())?;
-        }
-        Ok(depth)
+        levels(alloc, self)
     }
 }
 
@@ -40,15 +33,22 @@ impl BoundExpression {
     pub fn depth(&self, alloc: Global) -> VortexResult<usize>
         ensures { Answers (λ depth. depth) result (Ok (depth_of (unbound (bound_of self.now)))) }
     {
-        let mut depth = 0;
-        let mut level = Vec::new(alloc);
-        level.push(self)?;
-        while !level.is_empty() {
-            depth = one_more(depth)?;
-            level = bound_level_below(alloc, level.as_slice())?;
-        }
-        Ok(depth)
+        levels(alloc, self)
     }
+}
+
+// How many levels the tree has.
+fn levels<T: TreeNode>(alloc: Global, node: &T) -> VortexResult<usize>
+    ensures { Answers (λ levels. levels) result (Ok (depth_of (T.tree node.now))) }
+{
+    let mut depth = 0;
+    let mut level = Vec::new(alloc);
+    level.push(node)?;
+    while !level.is_empty() {
+        depth = one_more(depth)?;
+        level = level_below(alloc, level.as_slice())?;
+    }
+    Ok(depth)
 }
 
 // One more; no tree in memory has as many levels as would be refused.
@@ -62,31 +62,12 @@ fn one_more(depth: usize) -> Result<usize, AllocError>
 }
 
 // The children of the nodes.
-fn level_below<'a>(
-    alloc: Global,
-    level: &[&'a Expression],
-) -> Result<Vec<&'a Expression>, AllocError>
-    ensures { IfOk result (λ below. greatest lent_depth below.items ≡ greatest lent_depth_below level.now) }
+fn level_below<'a, T: TreeNode>(alloc: Global, level: &[&'a T]) -> Result<Vec<&'a T>, AllocError>
+    ensures { IfOk result (λ below. greatest (lent_depth T.tree) below.items ≡ greatest (lent_depth_below T.tree) level.now) }
 {
     let mut below = Vec::new(alloc);
     for i in 0..level.len() {
-        for child in level[i].children() {
-            below.push(child)?;
-        }
-    }
-    Ok(below)
-}
-
-// The same of bound nodes.
-fn bound_level_below<'a>(
-    alloc: Global,
-    level: &[&'a BoundExpression],
-) -> Result<Vec<&'a BoundExpression>, AllocError>
-    ensures { IfOk result (λ below. greatest lent_bound_depth below.items ≡ greatest lent_bound_depth_below level.now) }
-{
-    let mut below = Vec::new(alloc);
-    for i in 0..level.len() {
-        for child in level[i].children() {
+        for child in level[i].node_children() {
             below.push(child)?;
         }
     }

@@ -1,17 +1,15 @@
 // Printing trees of either kind.
-ghost use Rattle.std.specs.Prelude.{◌≡◌, ◌<◌, Some, map, option_map, refl};
+ghost use Rattle.std.specs.Prelude.{◌≡◌, ◌<◌, Some, refl};
 ghost use Rattle.std.specs.Fmt.{WritesOnOk};
-ghost use Rattle.vx_fn.specs.Views.{function_of};
-ghost use Rattle.vx_tree.specs.Nodes.{function_at, children_of, count_of, tree_at, bound_children_of, bound_at};
+ghost use Rattle.vx_tree.specs.Nodes.{children_of, count_of, tree_at, bound_children_of, bound_at};
 ghost use Rattle.vx_tree.specs.Texts.{sql};
 ghost use Rattle.vx_tree.specs.Trees.{Tree, unbound};
-ghost use Rattle.vx_tree.specs.Views.{tree_of, trees_from, bound_of};
+ghost use Rattle.vx_tree.specs.Views.{tree_of, bound_of};
 
 use crate::sql::fmt_sql;
 use crate::{BoundExpression, Expression};
 use std::fmt;
 use std::fmt::{Display, Formatter, Write};
-use vx_fn::ScalarFnRef;
 
 /// An expression that can be printed child by child.
 pub trait ExprDisplay: Display + Sized {
@@ -29,41 +27,6 @@ pub trait ExprDisplay: Display + Sized {
 
     /// It prints as the SQL text of its tree.
     ghost shown: { (e : Self) → Self.Display.output e ≡ Some (sql (tree e)) };
-}
-
-// A node of either tree, seen without types.
-pub(crate) trait DisplayNode: Sized {
-    ghost tree: { Self → Tree };
-
-    fn node_children(&self) -> &[Self]
-        ensures { trees_from (map tree result.now) ≡ children_of (tree self.now) };
-
-    fn node_function(&self) -> Option<&ScalarFnRef>
-        ensures { option_map (λ f. function_of f.now) result ≡ function_at (tree self.now) };
-}
-
-impl DisplayNode for Expression {
-    ghost tree = { tree_of };
-
-    fn node_children(&self) -> &[Self] {
-        self.children()
-    }
-
-    fn node_function(&self) -> Option<&ScalarFnRef> {
-        self.as_scalar()
-    }
-}
-
-impl DisplayNode for BoundExpression {
-    ghost tree = { λ b. unbound (bound_of b) };
-
-    fn node_children(&self) -> &[Self] {
-        self.children()
-    }
-
-    fn node_function(&self) -> Option<&ScalarFnRef> {
-        self.as_scalar()
-    }
 }
 
 impl Expression {

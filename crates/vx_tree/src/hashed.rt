@@ -1,10 +1,9 @@
 // Equal trees are hashed alike: what is fed depends on the tree that is stood for alone.
-ghost use Rattle.std.specs.Prelude.{◌≡◌, ℕ, fold};
+ghost use Rattle.std.specs.Prelude.{◌≡◌, fold, map};
 ghost use Rattle.vx_tree.specs.Hashes.{tree_fed, trees_fed, tree_alike, bound_fed, bound_alike};
-ghost use Rattle.vx_tree.specs.Trees.{unbound_each};
-ghost use Rattle.vx_tree.specs.Views.{tree_of, trees_of, bound_of, bounds_of};
+ghost use Rattle.vx_tree.specs.Views.{tree_of, trees_from, bound_of};
 
-use crate::{BoundExpression, Expression};
+use crate::{BoundExpression, Expression, TreeNode};
 use std::hash::{Hash, Hasher};
 
 impl Hash for Expression {
@@ -17,35 +16,6 @@ impl Hash for Expression {
     }
 }
 
-// Feeds the tree to the hasher.
-#[cycle(feed)]
-fn feed<H: Hasher>(e: &Expression, state: &mut H)
-    ensures { state.new ≡ fold H.write state.old (tree_fed (tree_of e.now)) }
-{
-    match e {
-        Expression::Root => state.write_u8(0),
-        Expression::Scalar {
-            scalar_fn,
-            children,
-        } => {
-            state.write_u8(1);
-            scalar_fn.hash(state);
-            feed_all(children.as_slice(), state);
-        }
-    }
-}
-
-// Feeds the trees, and then that there are no more.
-#[cycle(feed)]
-fn feed_all<H: Hasher>(es: &[Expression], state: &mut H)
-    ensures { state.new ≡ fold H.write state.old (trees_fed (trees_of es.now)) }
-{
-    for e in es {
-        feed(e, state);
-    }
-    state.write_u8(2);
-}
-
 impl Hash for BoundExpression {
     ghost hash_input = { λ b. bound_fed (bound_of b) };
 
@@ -53,36 +23,30 @@ impl Hash for BoundExpression {
 
     // The types are left out: trees that differ in them alone are bound to different scopes.
     fn hash<H: Hasher>(&self, state: &mut H) {
-        feed_bound(self, state);
+        feed(self, state);
     }
 }
 
 // Feeds the tree without its types to the hasher.
-#[cycle(feed_bound)]
-fn feed_bound<H: Hasher>(b: &BoundExpression, state: &mut H)
-    ensures { state.new ≡ fold H.write state.old (bound_fed (bound_of b.now)) }
+#[cycle(feed)]
+fn feed<T: TreeNode, H: Hasher>(node: &T, state: &mut H)
+    ensures { state.new ≡ fold H.write state.old (tree_fed (T.tree node.now)) }
 {
-    match b {
-        BoundExpression::Root { .. } => state.write_u8(0),
-        BoundExpression::Scalar {
-            scalar_fn,
-            children,
-            ..
-        } => {
-            state.write_u8(1);
-            scalar_fn.hash(state);
-            feed_bounds(children.as_slice(), state);
-        }
-    }
+    let Some(scalar_fn) = node.node_function() else {
+        return state.write_u8(0);
+    };
+    state.write_u8(1);
+    scalar_fn.hash(state);
+    feed_all(node.node_children(), state);
 }
 
-// Feeds the trees without their types, and then that there are no more.
-#[cycle(feed_bound)]
-fn feed_bounds<H: Hasher>(bs: &[BoundExpression], state: &mut H)
-    ensures { state.new ≡ fold H.write state.old (trees_fed (unbound_each (bounds_of bs.now))) }
+// Feeds the trees, and then that there are no more.
+#[cycle(feed)]
+fn feed_all<T: TreeNode, H: Hasher>(nodes: &[T], state: &mut H)
+    ensures { state.new ≡ fold H.write state.old (trees_fed (trees_from (map T.tree nodes.now))) }
 {
-    for b in bs {
-        feed_bound(b, state);
+    for node in nodes {
+        feed(node, state);
     }
     state.write_u8(2);
 }

@@ -5,7 +5,6 @@ mod accessors;
 mod bind;
 mod bound;
 mod bound_accessors;
-mod bound_contains;
 mod checked;
 mod contains;
 mod depth;
@@ -17,6 +16,7 @@ mod exact;
 mod expression;
 mod hashed;
 mod laws;
+mod node;
 mod scope;
 mod sql;
 pub mod test_harness;
@@ -25,7 +25,7 @@ mod typing;
 mod validity;
 mod worked;
 
-pub use bound::BoundExpression;
+pub use bound::{BoundExpression, dtypes_of};
 pub use display::ExprDisplay;
 pub use display_tree::{DisplayFormat, DisplayTreeExpr};
 pub use exact::ExactBoundExpr;
@@ -34,6 +34,7 @@ pub use laws::{
     binding_is_unique, bound_means_its_source, equal_trees_are_alike, equality_is_exact,
     types_are_sound,
 };
+pub use node::TreeNode;
 pub use scope::Scope;
 pub use vx_fn::{
     Between, BetweenOptions, Binary, CaseWhen, CaseWhenOptions, Cast, ChildName, EmptyOptions,
@@ -43,7 +44,7 @@ pub use vx_fn::{
     typing_is_the_relation, write_names,
 };
 pub use vx_types::{
-    Column, DType, FieldName, FieldNames, Nullability, PType, Scalar, StructFields, Value,
-    VortexError, VortexResult,
+    Column, DType, Field, FieldName, FieldNames, FieldPath, FieldPathSet, Nullability, PType,
+    Scalar, StructFields, Value, VortexError, VortexResult,
 };
 pub use worked::worked_rows;

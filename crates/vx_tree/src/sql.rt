@@ -10,7 +10,7 @@ mod case;
 mod infix;
 mod pack;
 
-use crate::display::DisplayNode;
+use crate::TreeNode;
 use case::fmt_case;
 use infix::{fmt_between, fmt_binary, fmt_like};
 use pack::fmt_pack;
@@ -20,7 +20,7 @@ use vx_fn::{FieldSelection, ScalarFnRef, write_names};
 
 // The text of a node.
 #[cycle(sql)]
-pub(crate) fn fmt_sql<T: DisplayNode, W: Write>(node: &T, f: &mut Formatter<W>) -> fmt::Result
+pub(crate) fn fmt_sql<T: TreeNode, W: Write>(node: &T, f: &mut Formatter<W>) -> fmt::Result
     ensures { WritesOnOk W.write_str_gives f.old result (sql (T.tree node.now)) f.new }
 {
     let Some(scalar_fn) = node.node_function() else {
@@ -36,7 +36,7 @@ pub(crate) fn fmt_sql<T: DisplayNode, W: Write>(node: &T, f: &mut Formatter<W>) 
 
 // The text of a node that has its number of children.
 #[cycle(sql)]
-fn fmt_own<T: DisplayNode, W: Write>(
+fn fmt_own<T: TreeNode, W: Write>(
     scalar_fn: &ScalarFnRef,
     children: &[T],
     f: &mut Formatter<W>,
@@ -79,7 +79,7 @@ fn fmt_own<T: DisplayNode, W: Write>(
 
 // The text of one of the children.
 #[cycle(sql)]
-fn fmt_child<T: DisplayNode, W: Write>(
+fn fmt_child<T: TreeNode, W: Write>(
     children: &[T],
     index: usize,
     f: &mut Formatter<W>,
@@ -92,7 +92,7 @@ fn fmt_child<T: DisplayNode, W: Write>(
 
 // The function's name, and the children between parentheses.
 #[cycle(sql)]
-fn fmt_call<T: DisplayNode, W: Write>(
+fn fmt_call<T: TreeNode, W: Write>(
     scalar_fn: &ScalarFnRef,
     children: &[T],
     f: &mut Formatter<W>,
@@ -107,7 +107,7 @@ fn fmt_call<T: DisplayNode, W: Write>(
 
 // The texts of the children, with commas between them.
 #[cycle(sql)]
-fn fmt_list<T: DisplayNode, W: Write>(children: &[T], f: &mut Formatter<W>) -> fmt::Result
+fn fmt_list<T: TreeNode, W: Write>(children: &[T], f: &mut Formatter<W>) -> fmt::Result
     ensures { WritesOnOk W.write_str_gives f.old result (with_commas (texts T.tree children.now)) f.new }
 {
     if children.is_empty() {
@@ -123,7 +123,7 @@ fn fmt_list<T: DisplayNode, W: Write>(children: &[T], f: &mut Formatter<W>) -> f
 
 // The child, and the names of the selection between braces, behind a tilde where they are left out.
 #[cycle(sql)]
-fn fmt_select<T: DisplayNode, W: Write>(
+fn fmt_select<T: TreeNode, W: Write>(
     selection: &FieldSelection,
     children: &[T],
     f: &mut Formatter<W>,

@@ -4,7 +4,7 @@ ghost use Rattle.std.specs.Fmt.{WritesOnOk};
 ghost use Rattle.vx_fn.specs.Views.{function_of};
 ghost use Rattle.vx_tree.specs.TreeTexts.{bar, branch, called, prefix_of, text_behind};
 
-use crate::display::DisplayNode;
+use crate::TreeNode;
 use std::fmt;
 use std::fmt::{Display, Formatter, Write};
 use vx_fn::{ChildName, ScalarFnRef};
@@ -20,7 +20,7 @@ pub(crate) enum Prefix<'a> {
 }
 
 // The text of a node, and a line for each node below it behind the prefix.
-pub(crate) fn fmt_tree<T: DisplayNode, W: Write>(
+pub(crate) fn fmt_tree<T: TreeNode, W: Write>(
     node: &T,
     prefix: &Prefix<'_>,
     f: &mut Formatter<W>,

@@ -1,13 +1,14 @@
 // The tree that is true exactly where another isn't null.
-ghost use Rattle.std.specs.Prelude.{◌≡◌, IfOk, Ok};
+ghost use Rattle.std.specs.Prelude.{◌≡◌, IfOk, Ok, false};
 ghost use Rattle.vx_value.specs.Answers.{Answers};
-ghost use Rattle.vx_tree.specs.Trees.{WellTyped};
+ghost use Rattle.vx_fn.specs.Functions.{truth_type};
+ghost use Rattle.vx_fn.specs.Views.{function_of};
+ghost use Rattle.vx_tree.specs.Trees.{WellTyped, node};
 ghost use Rattle.vx_tree.specs.Validity.{truth_literal, not_null_of, fill_of_node, validity_of, TellsValidity};
 ghost use Rattle.vx_tree.specs.Views.{bound_of, bounds_of};
 
 use crate::BoundExpression;
 use std::alloc::Global;
-use std::rc::Rc;
 use vx_fn::{EmptyOptions, ScalarFnRef};
 use vx_types::{DType, Nullability, Scalar, Value, VortexResult};
 
@@ -57,22 +58,26 @@ fn fill_of<'a>(node: &'a BoundExpression, children: &'a [BoundExpression]) -> &'
 fn truth(alloc: Global, value: bool) -> VortexResult<BoundExpression>
     ensures { Answers bound_of result (Ok (truth_literal value)) }
 {
-    let children = Rc::new(alloc, Vec::new(alloc))?;
-    Ok(BoundExpression::Scalar {
-        dtype: DType::Bool(Nullability::NonNullable),
-        scalar_fn: ScalarFnRef::Literal(Scalar::from_bool(value)),
-        children,
-    })
+    let scalar_fn = ScalarFnRef::Literal(Scalar::from_bool(value));
+    truth_node(alloc, scalar_fn, Vec::new(alloc))
 }
 
 // The test that the node isn't null.
 fn not_null(alloc: Global, node: &BoundExpression) -> VortexResult<BoundExpression>
     ensures { Answers bound_of result (Ok (not_null_of (bound_of node.now))) }
 {
-    let children = Rc::new(alloc, vec![in alloc; node.clone()?]?)?;
-    Ok(BoundExpression::Scalar {
-        dtype: DType::Bool(Nullability::NonNullable),
-        scalar_fn: ScalarFnRef::IsNotNull(EmptyOptions),
-        children,
-    })
+    let children = vec![in alloc; node.clone()?]?;
+    truth_node(alloc, ScalarFnRef::IsNotNull(EmptyOptions), children)
+}
+
+// A node of type `bool`, never null.
+fn truth_node(
+    alloc: Global,
+    scalar_fn: ScalarFnRef,
+    children: Vec<BoundExpression>,
+) -> VortexResult<BoundExpression>
+    ensures { Answers bound_of result (Ok (node (truth_type false) (function_of scalar_fn) (bounds_of children.items))) }
+{
+    let dtype = DType::Bool(Nullability::NonNullable);
+    BoundExpression::new_typed(alloc, dtype, scalar_fn, children)
 }

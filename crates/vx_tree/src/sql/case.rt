@@ -5,16 +5,13 @@ ghost use Rattle.vx_fn.specs.Texts.{pairs_sql};
 ghost use Rattle.vx_tree.specs.Texts.{texts, pair_sql};
 
 use super::fmt_child;
-use crate::display::DisplayNode;
+use crate::TreeNode;
 use std::fmt;
 use std::fmt::{Formatter, Write};
 
 // A CASE: conditions and values in turn, and what is left over as the ELSE.
 #[cycle(sql)]
-pub(super) fn fmt_case<T: DisplayNode, W: Write>(
-    children: &[T],
-    f: &mut Formatter<W>,
-) -> fmt::Result
+pub(super) fn fmt_case<T: TreeNode, W: Write>(children: &[T], f: &mut Formatter<W>) -> fmt::Result
     ensures { WritesOnOk W.write_str_gives f.old result (codes "CASE" ++ (pairs_sql (texts T.tree children.now) ++ codes " END")) f.new }
 {
     f.write_str("CASE")?;
@@ -23,7 +20,7 @@ pub(super) fn fmt_case<T: DisplayNode, W: Write>(
 }
 
 #[cycle(sql)]
-fn fmt_branches<T: DisplayNode, W: Write>(children: &[T], f: &mut Formatter<W>) -> fmt::Result
+fn fmt_branches<T: TreeNode, W: Write>(children: &[T], f: &mut Formatter<W>) -> fmt::Result
     ensures { WritesOnOk W.write_str_gives f.old result (pairs_sql (texts T.tree children.now)) f.new }
 {
     let pairs = children.len() / 2;
@@ -39,7 +36,7 @@ fn fmt_branches<T: DisplayNode, W: Write>(children: &[T], f: &mut Formatter<W>) 
 
 // A condition and the value behind it.
 #[cycle(sql)]
-fn fmt_pair<T: DisplayNode, W: Write>(
+fn fmt_pair<T: TreeNode, W: Write>(
     children: &[T],
     index: usize,
     f: &mut Formatter<W>,

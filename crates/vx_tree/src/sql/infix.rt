@@ -6,14 +6,14 @@ ghost use Rattle.vx_fn.specs.Views.{is_strict, operation_of};
 ghost use Rattle.vx_tree.specs.Texts.{texts};
 
 use super::fmt_child;
-use crate::display::DisplayNode;
+use crate::TreeNode;
 use std::fmt;
 use std::fmt::{Display, Formatter, Write};
 use vx_fn::{BetweenOptions, LikeOptions, Operator, StrictComparison};
 
 // An operator between its operands.
 #[cycle(sql)]
-pub(super) fn fmt_binary<T: DisplayNode, W: Write>(
+pub(super) fn fmt_binary<T: TreeNode, W: Write>(
     operator: Operator,
     operands: &[T],
     f: &mut Formatter<W>,
@@ -32,7 +32,7 @@ pub(super) fn fmt_binary<T: DisplayNode, W: Write>(
 
 // The word of a LIKE between the text and the pattern.
 #[cycle(sql)]
-pub(super) fn fmt_like<T: DisplayNode, W: Write>(
+pub(super) fn fmt_like<T: TreeNode, W: Write>(
     options: LikeOptions,
     children: &[T],
     f: &mut Formatter<W>,
@@ -51,7 +51,7 @@ pub(super) fn fmt_like<T: DisplayNode, W: Write>(
 
 // The lower bound and its sign, the middle, and the sign and the upper bound.
 #[cycle(sql)]
-pub(super) fn fmt_between<T: DisplayNode, W: Write>(
+pub(super) fn fmt_between<T: TreeNode, W: Write>(
     options: BetweenOptions,
     children: &[T],
     f: &mut Formatter<W>,
@@ -71,7 +71,7 @@ pub(super) fn fmt_between<T: DisplayNode, W: Write>(
 
 // One of the children, and the sign between it and what is above it.
 #[cycle(sql)]
-fn fmt_below<T: DisplayNode, W: Write>(
+fn fmt_below<T: TreeNode, W: Write>(
     children: &[T],
     index: usize,
     strict: StrictComparison,

@@ -6,7 +6,7 @@ ghost use Rattle.vx_fn.specs.Texts.{with_commas, named_texts, pack_sql};
 ghost use Rattle.vx_tree.specs.Texts.{texts};
 
 use super::fmt_child;
-use crate::display::DisplayNode;
+use crate::TreeNode;
 use std::fmt;
 use std::fmt::{Display, Formatter, Write};
 use vx_fn::PackOptions;
@@ -14,7 +14,7 @@ use vx_types::FieldName;
 
 // A struct of named children, with a question mark where it is nullable.
 #[cycle(sql)]
-pub(super) fn fmt_pack<T: DisplayNode, W: Write>(
+pub(super) fn fmt_pack<T: TreeNode, W: Write>(
     options: &PackOptions,
     children: &[T],
     f: &mut Formatter<W>,
@@ -34,7 +34,7 @@ pub(super) fn fmt_pack<T: DisplayNode, W: Write>(
 
 // The children, each behind its name, with commas between them.
 #[cycle(sql)]
-fn fmt_named<T: DisplayNode, W: Write>(
+fn fmt_named<T: TreeNode, W: Write>(
     names: &[FieldName],
     children: &[T],
     f: &mut Formatter<W>,
@@ -54,7 +54,7 @@ fn fmt_named<T: DisplayNode, W: Write>(
 }
 
 #[cycle(sql)]
-fn fmt_named_child<T: DisplayNode, W: Write>(
+fn fmt_named_child<T: TreeNode, W: Write>(
     names: &[FieldName],
     children: &[T],
     index: usize,

@@ -2,14 +2,14 @@ use Rattle.std.proofs.Common.{◌≡◌, inl, inr, ⊎_elim, Err, sym, ap, subst
 use Rattle.std.specs.Prelude.{map, option_map, slice_get}
 use Rattle.vx_dtype.specs.Answers.{Answers}
 use Rattle.vx_fn.specs.Views.{operation_of}
-use Rattle.vx_build.specs.Rounds.{collected}
+use Rattle.vx_build.specs.Rounds.{joined_by, collected}
 use Rattle.vx_build.proofs.RoundLoops.{collect_turn, collect_refused, collect_end, first_is}
 use Rattle.vx_build.proofs.rounds.collect.Goals as goal
 
 pub returns-in_err-left-clause-joined : goal.returns-in_err-left-clause-joined
 returns-in_err-left-clause-joined g c =
     let failed : c.from_residual.result ≡ Err c.in_err-left.field-0.0 = search rules in
-    subst (λ r. Answers (option_map g.T.Join.seen) r (collected (g.T.Join.joined (operation_of c.args.operator)) (map g.T.Join.seen c.args.items.items))) (sym failed)
+    subst (λ r. Answers (option_map g.T.TreeNode.seen) r (collected (joined_by g.T.TreeNode.over (operation_of c.args.operator)) (map g.T.TreeNode.seen c.args.items.items))) (sym failed)
     (⊎_elim (λ m. inl m) (λ q. inr (collect_refused _ _ _ _ _ (omega arith) q c.loop-alloc.invariant)) c.in_err-left.ensures)
 
 pub loop-alloc-smaller : goal.loop-alloc-smaller

@@ -9,7 +9,7 @@ loop-lhs-preserved g c =
     let pushed : c.push.new.self.items ≡ c.loop-lhs.left.items ++ c.match-next-2.push ∷ [] = search rules in
     elim c.match-next-2.branch [
       | in-Some-next+in_ok-join-in-Some-next w ↦
-          let joins = w.in_ok-join-in-Some-next.ensures ∙ ap (λ x. Ok (g.T.Join.seen x)) (sym w.push-is) in
+          let joins = w.in_ok-join-in-Some-next.ensures ∙ ap (λ x. Ok (g.T.TreeNode.seen x)) (sym w.push-is) in
           pair_turn _ _ _ _ _ _ _ _ _ _ _ c.in-Some.ensures.cases.0 w.in-Some-next.ensures.cases.0 joins pushed c.loop-lhs.invariant
       | in-None w ↦
           let none : c.next.new.self.rest.items ≡ [] = grind (arith, common_steps) in
