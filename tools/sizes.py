@@ -30,6 +30,20 @@ def wide(n):
     ]
 
 
+def chosen(n):
+    """A scope of n fields, of which a selection keeps half or leaves half out; a pack of all of them."""
+    names = [f"c{i}" for i in range(n)]
+    half, last = ",".join(names[: n // 2]), names[-1]
+    scope = [f"scope | {{{n}*c#=i32?}}", f"batch | {{{n}*7}}"]
+    return scope, None, [
+        ("type of half of them", f"type | $ {{{half}}} .c0 | i32?"),
+        ("type of the others", f"type | $ {{~{half}}} .{last} | i32?"),
+        ("rows of the others", f"rows | $ {{~{half}}} .{last} | [7i32]"),
+        ("paths of the others", f"paths | $ {{~{half}}} .{last} | $.{last}"),
+        ("optimized item of a pack", f"optimized | {' '.join(names)} pack({','.join(names)}) .{last} | $.{last} : i32?"),
+    ]
+
+
 def conjuncts(n):
     """n conjuncts over one field, collected in rounds."""
     tree = f"times({n}) a # >= end all({n})"
@@ -82,6 +96,17 @@ def shared(n):
     ]
 
 
+def twice(n):
+    """A field that is kept twice, n times over: its type has 2^n fields at the bottom."""
+    tree = f"x times({n}) pack(x) {{x,x}} end"
+    item = f"{tree} times({n}) .x end"
+    return ["scope | {x=i32}", "batch | {7}"], None, [
+        ("size", f"size | {tree} | {2 * n + 2}"),
+        ("rows", f"rows | {item} | [7i32]"),
+        ("optimized rows", f"optimized rows | {item} | [7i32]"),
+    ]
+
+
 def measured(scope, line):
     """The seconds and the bytes at the peak that the line takes, and whether it was answered."""
     with tempfile.TemporaryDirectory() as room:
@@ -104,10 +129,12 @@ def main():
     n = int(sys.argv[1]) if len(sys.argv) > 1 else 100_000
     shapes = [
         (f"{n} fields", wide(n)),
+        (f"{n} fields, chosen", chosen(n)),
         (f"{n} conjuncts", conjuncts(n)),
         (f"{n // 100} ranges", ranges(n // 100)),
         (f"a name of {10 * n} bytes", name(n)),
         *[(f"shared {k} times over", shared(k)) for k in (10, 15, 20)],
+        *[(f"kept twice {k} times over", twice(k)) for k in (5, 10, 15)],
     ]
     print("| Shape | Line | Time |\n|---|---|---:|")
     wrong = False
