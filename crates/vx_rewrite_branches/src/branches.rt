@@ -1,5 +1,5 @@
 // The rules of a CASE by its first condition.
-ghost use Rattle.std.specs.Prelude.{◌≡◌, ◌⊎◌, ◌<◌, Ok, Some, IsTrue};
+ghost use Rattle.std.specs.Prelude.{◌≡◌, ◌⊎◌, ◌<◌, None, Ok, Some, IsFalse, IsTrue};
 ghost use Rattle.std.specs.Option.{option_map};
 ghost use Rattle.vx_value.specs.Answers.{Answers};
 ghost use Rattle.vx_value.specs.Types.{is_nullable};
@@ -14,6 +14,19 @@ use vx_fn::{CaseWhenOptions, ScalarFnRef};
 use vx_rewrite_rule_sets::{as_type, copies, first_two, literal_value, null_of, only};
 use vx_tree::{BoundExpression, VortexResult};
 use vx_types::{DType, Value};
+
+// Whether something may be given at the node: at a CASE alone.
+pub(crate) fn may_give(node: &BoundExpression) -> bool
+    ensures { IsFalse result → branch_given (bound_of node.now) ≡ None }
+{
+    matches!(
+        node,
+        BoundExpression::Scalar {
+            scalar_fn: ScalarFnRef::CaseWhen(_),
+            ..
+        }
+    )
+}
 
 // What is given at a node.
 pub(crate) fn branch_given(

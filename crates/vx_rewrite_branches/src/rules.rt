@@ -1,5 +1,5 @@
 // The standard rules, and those of a CASE by its first condition.
-use crate::branches::branch_given;
+use crate::branches::{branch_given, may_give};
 use std::alloc::Global;
 use vx_rewrite_keep::Rule;
 use vx_rewrite_standard::StandardRules;
@@ -24,6 +24,10 @@ impl Rule for BranchRules {
     ghost gives = { λ _. BranchRuleAt };
 
     ghost lawful = { λ _. branch_rules_lawful };
+
+    fn may_fit(&self, node: &BoundExpression) -> bool {
+        StandardRules.may_fit(node) || may_give(node)
+    }
 
     fn apply_at(
         &self,

@@ -1,5 +1,5 @@
 // Sets of rules.
-ghost use Rattle.std.specs.Prelude.{◌≡◌, IfOk, IfErr, MatchOption};
+ghost use Rattle.std.specs.Prelude.{◌≡◌, IfOk, IfErr, IsFalse, MatchOption};
 ghost use Rattle.vx_dtype.specs.declared.error.VortexError.TheVariants.{OutOfMemory};
 ghost use Rattle.vx_tree.specs.Trees.{BoundTree, WellTyped};
 ghost use Rattle.vx_tree.specs.Views.{bound_of};
@@ -15,6 +15,19 @@ use vx_tree::{BoundExpression, VortexResult};
 pub trait Rule {
     /// What the rules give at the root of a tree.
     ghost gives: { Self → BoundTree → BoundTree → Type 0 };
+
+    /// Whether a rule may fit at the root: where this answers false, none does. Asks a well-typed
+    /// tree.
+    ///
+    /// It is asked at each node before [`Rule::apply_at`], so it should look at little. A set that
+    /// doesn't say is asked for its rules everywhere.
+    fn may_fit(&self, node: &BoundExpression) -> bool
+        requires { WellTyped (bound_of node.now) }
+        ensures none { IsFalse result → GivesNothing (gives self.now) (bound_of node.now) }
+    {
+        let _any = node;
+        true
+    }
 
     /// The tree that a rule gives at the root, None exactly where no rule fits. Asks a well-typed
     /// tree.

@@ -50,9 +50,27 @@ pub fn optimized_root<R: Rule>(
     }
 }
 
-// What [`optimize_root`] gives, in a box and with no node in the caller's frame.
-#[inline(never)]
+// What [`optimize_root`] gives, in a box and with no node in the caller's frame. Nothing is made
+// where no rule may fit.
 pub(crate) fn root_form<R: Rule>(
+    alloc: Global,
+    rules: &R,
+    tree: &BoundExpression,
+) -> VortexResult<Option<Box<BoundExpression>>>
+    requires { WellTyped (bound_of tree.now) }
+    ensures form { IfOk result (λ o. IfSome o (λ u. RootNormalForm (R.gives rules.now) (bound_of tree.now) (bound_of u.value))) }
+    ensures none { IfOk result (λ o. IsNone o ↔ GivesNothing (R.gives rules.now) (bound_of tree.now)) }
+    ensures memory { IfErr result (λ e. e ≡ OutOfMemory) }
+{
+    if !rules.may_fit(tree) {
+        return Ok(None);
+    }
+    fitting_form(alloc, rules, tree)
+}
+
+// The same, wherever a rule may fit.
+#[inline(never)]
+fn fitting_form<R: Rule>(
     alloc: Global,
     rules: &R,
     tree: &BoundExpression,

@@ -83,19 +83,18 @@ names_included names (a ∷ ends) = go (is_among names a) (names_included names 
 pub whole_included : (names : List Name) → flat_map (selected_path names) whole ≡ each_alone names
 whole_included names = append-nil (each_alone names)
 
--- where an item is asked for something, its child is asked for it inside the item's field
-pub asks_item : (b : BoundTree) (t : LogicalType) (f : Function) (a : Name) (bs : BoundTrees) (front : Path) (ends : List Path) → b ≡ node t f bs → f ≡ get_item a → asked b (map (λ end. front ++ end) ends) ≡ each_asked bs (map (λ end. (a ∷ front) ++ end) ends)
-asks_item b t f a bs front ends is fn = rw (is, fn) (ap (each_asked bs) (item_asks a (node_types bs) front ends))
+-- a node asks its children by its function
+pub asks_children : (b : BoundTree) (t : LogicalType) (f g : Function) (bs : BoundTrees) (paths : List Path) → b ≡ node t f bs → f ≡ g → asked b paths ≡ each_asked bs (child_paths g (node_types bs) paths)
+asks_children b t f g bs paths is fn = rw (is, fn) refl
 
--- where a selection is asked for something, its child is asked for what it selects
-pub asks_selection : (b : BoundTree) (t u : LogicalType) (f : Function) (selection : FieldSelection) (bs : BoundTrees) (us : List LogicalType) (paths below : List Path) → b ≡ node t f bs → f ≡ select selection → node_types bs ≡ u ∷ us → paths ≢ [] → select_paths selection u paths ≡ below → asked b paths ≡ each_asked bs below
-asks_selection b t u f selection bs us paths below is fn types h e =
-    rw (is, fn, types) (ap (each_asked bs) (selection_asks selection u us paths h ∙ e))
+-- where a selection is asked for something, its children are asked for what it selects
+pub asks_selection : (selection : FieldSelection) (u : LogicalType) (bs : BoundTrees) (us : List LogicalType) (paths below : List Path) → node_types bs ≡ u ∷ us → paths ≢ [] → select_paths selection u paths ≡ below → each_asked bs (child_paths (select selection) (node_types bs) paths) ≡ each_asked bs below
+asks_selection selection u bs us paths below types h e = rw types (ap (each_asked bs) (selection_asks selection u us paths h ∙ e))
 
--- a node without children asks for nothing
-pub asks_none : (b : BoundTree) (t : LogicalType) (f : Function) (cs : List BoundExpression) (paths : List Path) → b ≡ node t f (bounds_of cs) → length cs ≡ 0 → asked b paths ≡ []
-asks_none b t f [] paths is h = rw is refl
-asks_none b t f (c ∷ cs) paths is h = absurd (omega arith)
+-- no tree asks for nothing
+pub asks_none : (cs : List BoundExpression) (paths : List Path) → length cs ≡ 0 → each_asked (bounds_of cs) paths ≡ []
+asks_none [] paths h = refl
+asks_none (c ∷ cs) paths h = absurd (omega arith)
 
 -- the type of the first child
 pub first_type : (cs : List BoundExpression) (c : BoundExpression) → 0 < length cs → c ≡ get_or cs 0 c → (us : List LogicalType) × (node_types (bounds_of cs) ≡ node_type (bound_of c) ∷ us)

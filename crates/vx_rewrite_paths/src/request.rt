@@ -49,6 +49,7 @@ impl<'a> Request<'a> {
     }
 
     // Puts the paths behind those that are recorded.
+    #[inline(never)]
     pub(crate) fn record(&self, alloc: Global, recorded: &mut Vec<FieldPath>) -> VortexResult<()>
         ensures recorded { OnOk result (recorded.new.items ≡ recorded.old.items ++ requested self.now) }
         ensures memory { IfErr result (λ e. e ≡ OutOfMemory) }

@@ -1,8 +1,8 @@
 // The standard rules: which functions have one, each in a function of its own.
-ghost use Rattle.std.specs.Prelude.{◌≡◌, Ok};
+ghost use Rattle.std.specs.Prelude.{◌≡◌, IsFalse, None, Ok};
 ghost use Rattle.std.specs.Option.{option_map};
 ghost use Rattle.vx_value.specs.Answers.{Answers};
-ghost use Rattle.vx_rewrite_rules.specs.Given.{given_at, fill_given};
+ghost use Rattle.vx_rewrite_rules.specs.Given.{given_at, fill_given, is_pack};
 ghost use Rattle.vx_tree.specs.Views.{bound_of};
 
 use crate::cases::coalesce;
@@ -39,6 +39,10 @@ impl Rule for StandardRules {
 
     ghost lawful = { λ _. rules_lawful };
 
+    fn may_fit(&self, node: &BoundExpression) -> bool {
+        may_give(node)
+    }
+
     fn apply_at(
         &self,
         alloc: Global,
@@ -46,6 +50,44 @@ impl Rule for StandardRules {
     ) -> VortexResult<Option<BoundExpression>> {
         given_at(alloc, node)
     }
+}
+
+// Whether something may be given at the node: by its function, and of an item by its child's.
+fn may_give(node: &BoundExpression) -> bool
+    ensures { IsFalse result → given_at (bound_of node.now) ≡ None }
+{
+    let BoundExpression::Scalar {
+        scalar_fn,
+        children,
+        ..
+    } = node
+    else {
+        return false;
+    };
+    match scalar_fn {
+        ScalarFnRef::FillNull(_)
+        | ScalarFnRef::CaseWhen(_)
+        | ScalarFnRef::Zip(_)
+        | ScalarFnRef::Select(_) => true,
+        ScalarFnRef::GetItem(_) => match only(children.as_slice()) {
+            Some(input) => is_pack(input),
+            None => false,
+        },
+        _ => false,
+    }
+}
+
+// Whether the tree is a pack.
+fn is_pack(tree: &BoundExpression) -> bool
+    ensures { result ≡ is_pack (bound_of tree.now) }
+{
+    matches!(
+        tree,
+        BoundExpression::Scalar {
+            scalar_fn: ScalarFnRef::Pack(_),
+            ..
+        }
+    )
 }
 
 fn given_at(alloc: Global, node: &BoundExpression) -> VortexResult<Option<BoundExpression>>

@@ -3,7 +3,7 @@ use Rattle.vx_tree.specs.Trees.{WellTyped}
 use Rattle.vx_tree.specs.Views.{bound_of}
 use Rattle.vx_rewrite_keep.specs.Steps.{RootSteps, GivesNothing}
 use Rattle.vx_rewrite_keep.specs.Weights.{weight}
-use Rattle.vx_rewrite_optimizer.proofs.root.root_form.Given as goal
+use Rattle.vx_rewrite_optimizer.proofs.root.fitting_form.Given as goal
 
 abbrev pub invariant-loop-current : goal.invariant-loop-current
 invariant-loop-current g l = record {

@@ -1,7 +1,7 @@
 use Rattle.std.proofs.Common.{suc}
 use Rattle.vx_rewrite_keep.specs.Steps.{no_root_step, one_more_at_root}
 use Rattle.vx_rewrite_optimizer.proofs.Forms.{root_steps_then, root_form}
-use Rattle.vx_rewrite_optimizer.proofs.root.root_form.Goals as goal
+use Rattle.vx_rewrite_optimizer.proofs.root.fitting_form.Goals as goal
 
 pub loop-current-init : goal.loop-current-init
 loop-current-init g c =
