@@ -19,24 +19,25 @@ pub fn tabulated<'a, F: Fn(usize) -> Result<Value, AllocError>>(
     ensures rows { (g : ℕ → Datum) → AnswersRows (λ i r. F.post f i r) count g → IfOk result (λ out. rows_view out ≡ each_row count g) }
     ensures memory { IfErr result (λ e. e ≡ OutOfMemory) }
 {
-    Ok(Rows::Owned(collected(alloc, count, f)?))
+    let mut values = Vec::with_capacity(alloc, count)?;
+    push_made(&mut values, count, f)?;
+    Ok(Rows::Owned(values))
 }
 
-/// What the function gives at each row. Refuses with `OutOfMemory` (1) alone.
-pub fn collected<F: Fn(usize) -> Result<Value, AllocError>>(
-    alloc: Global,
+/// Puts what the function gives at each row behind other values.
+#[inline]
+pub fn push_made<F: Fn(usize) -> Result<Value, AllocError>>(
+    values: &mut Vec<Value>,
     count: usize,
     f: F,
-) -> VortexResult<Vec<Value>>
+) -> Result<(), AllocError>
     requires { (i : ℕ) → i < count → F.pre f i }
-    ensures rows { (g : ℕ → Datum) → AnswersRows (λ i r. F.post f i r) count g → IfOk result (λ out. values_of out.items ≡ each_row count g) }
-    ensures memory { IfErr result (λ e. e ≡ OutOfMemory) }
+    ensures { (g : ℕ → Datum) → AnswersRows (λ i r. F.post f i r) count g → IfOk result (λ _. values_of values.new.items ≡ values_of values.old.items ++ each_row count g) }
 {
-    let mut values = Vec::with_capacity(alloc, count)?;
     for i in 0..count {
         values.push(f(i)?)?;
     }
-    Ok(values)
+    Ok(())
 }
 
 /// What the function makes of each row, in place. Refuses with `OutOfMemory` (1) alone.

@@ -15,35 +15,19 @@ use crate::nodes::{apply, one};
 use crate::packed::item_place;
 use crate::rows::Rows;
 use std::alloc::Global;
-use std::rc::Rc;
 use std::slice;
 use vx_fn::ScalarFnRef;
 use vx_tree::BoundExpression;
-use vx_types::{Column, Value, VortexError, VortexResult};
+use vx_types::{Value, VortexError, VortexResult};
 
-/// The tree's value in each row of a batch of its scope's type, or the first fault.
-/// Refuses with `OutOfMemory` (1) too.
-pub fn evaluate_over<'a>(
+/// The tree's value in each row of a batch, or the first fault. Refuses with `OutOfMemory` (1) too.
+pub fn evaluate<'a>(
     alloc: Global,
-    batch: &'a Column,
-    b: &'a BoundExpression,
-) -> VortexResult<Rows<'a>>
-    requires typed { WellTyped (bound_of b.now) }
-    requires over { Over (bound_of b.now) batch.now.type }
-    ensures answer { Answers rows_view result (tree_answer (bound_of b.now) batch.now.rows) }
-    ensures fit { IfOk result (λ rows. IsBatch (node_type (bound_of b.now)) (rows_view rows)) }
-{
-    evaluate(alloc, batch.shared_rows(), b)
-}
-
-// The tree's value in each row of a batch, or the first fault.
-fn evaluate<'a>(
-    alloc: Global,
-    batch: &'a Rc<Vec<Value>>,
+    batch: &'a [Value],
     b: &'a BoundExpression,
 ) -> VortexResult<Rows<'a>>
     requires { WellTyped (bound_of b.now) }
-    ensures { Answers rows_view result (tree_answer (bound_of b.now) (values_of batch.now.value.items)) }
+    ensures { Answers rows_view result (tree_answer (bound_of b.now) (values_of batch.now)) }
 {
     let columns = evaluate_each(alloc, batch, slice::from_ref(b))?;
     Ok(one(columns))
@@ -55,11 +39,11 @@ fn evaluate<'a>(
 #[cycle(evaluate)]
 fn evaluate_each<'a>(
     alloc: Global,
-    batch: &'a Rc<Vec<Value>>,
+    batch: &'a [Value],
     children: &'a [BoundExpression],
 ) -> VortexResult<Vec<Rows<'a>>>
     requires { EachWellTyped (bounds_of children.now) }
-    ensures { Answers (λ v. rows_views v.items) result (each_answer (bounds_of children.now) (values_of batch.now.value.items)) }
+    ensures { Answers (λ v. rows_views v.items) result (each_answer (bounds_of children.now) (values_of batch.now)) }
 {
     let mut columns = Vec::with_capacity(alloc, children.len())?;
     for child in children {
@@ -74,12 +58,12 @@ fn evaluate_each<'a>(
 #[cycle(evaluate)]
 fn push_evaluated<'a>(
     alloc: Global,
-    batch: &'a Rc<Vec<Value>>,
+    batch: &'a [Value],
     b: &'a BoundExpression,
     columns: &mut Vec<Rows<'a>>,
 ) -> VortexResult<()>
     requires { WellTyped (bound_of b.now) }
-    ensures { Pushes rows_view columns.old.items result (tree_answer (bound_of b.now) (values_of batch.now.value.items)) columns.new.items }
+    ensures { Pushes rows_view columns.old.items result (tree_answer (bound_of b.now) (values_of batch.now)) columns.new.items }
 {
     match b {
         BoundExpression::Root { .. } => push_batch(batch, columns),
@@ -104,14 +88,14 @@ fn push_evaluated<'a>(
 #[cycle(evaluate)]
 fn push_item<'a>(
     alloc: Global,
-    batch: &'a Rc<Vec<Value>>,
+    batch: &'a [Value],
     pack: &'a BoundExpression,
     place: usize,
     columns: &mut Vec<Rows<'a>>,
 ) -> VortexResult<()>
     requires typed { WellTyped (bound_of pack.now) }
     requires packs { PacksAt (bound_of pack.now) place }
-    ensures { Pushes rows_view columns.old.items result (item_answer (bound_of pack.now) place (values_of batch.now.value.items)) columns.new.items }
+    ensures { Pushes rows_view columns.old.items result (item_answer (bound_of pack.now) place (values_of batch.now)) columns.new.items }
 {
     match pack {
         BoundExpression::Scalar { children, .. } => {
@@ -124,8 +108,8 @@ fn push_item<'a>(
 
 // Adds the rows of the batch, lent.
 #[inline(never)]
-fn push_batch<'a>(batch: &'a Rc<Vec<Value>>, columns: &mut Vec<Rows<'a>>) -> VortexResult<()>
-    ensures { Pushes rows_view columns.old.items result (Ok (values_of batch.now.value.items)) columns.new.items }
+fn push_batch<'a>(batch: &'a [Value], columns: &mut Vec<Rows<'a>>) -> VortexResult<()>
+    ensures { Pushes rows_view columns.old.items result (Ok (values_of batch.now)) columns.new.items }
 {
     columns.push(Rows::Lent(batch))?;
     Ok(())
