@@ -75,7 +75,7 @@ fn by_blocks(alloc: Global, rows: &[Value], b: &BoundExpression) -> VortexResult
     let mut from = 0;
     while from < rows.len() {
         let to = from + BLOCK.min(rows.len() - from);
-        evaluate(alloc, &rows[from..to], b)?.put_behind(&mut values)?;
+        values = evaluate(alloc, &rows[from..to], b)?.put_behind(values)?;
         from = to;
     }
     Ok(values)

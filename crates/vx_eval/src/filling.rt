@@ -1,5 +1,5 @@
 // Columns that are filled row by row.
-ghost use Rattle.std.specs.Prelude.{◌≡◌, ◌<◌, ℕ, IfOk, IfErr, length, get_or, Ok};
+ghost use Rattle.std.specs.Prelude.{◌++◌, ◌≡◌, ◌<◌, ℕ, IfOk, IfErr, length, get_or, Ok};
 ghost use Rattle.vx_value.specs.Types.{Datum, null};
 ghost use Rattle.vx_dtype.specs.declared.error.VortexError.TheVariants.{OutOfMemory};
 ghost use Rattle.vx_eval.specs.Columns.{values_of, rows_view, each_row};
@@ -19,25 +19,24 @@ pub fn tabulated<'a, F: Fn(usize) -> Result<Value, AllocError>>(
     ensures rows { (g : ℕ → Datum) → AnswersRows (λ i r. F.post f i r) count g → IfOk result (λ out. rows_view out ≡ each_row count g) }
     ensures memory { IfErr result (λ e. e ≡ OutOfMemory) }
 {
-    let mut values = Vec::with_capacity(alloc, count)?;
-    push_made(&mut values, count, f)?;
-    Ok(Rows::Owned(values))
+    Ok(Rows::Owned(made_behind(Vec::with_capacity(alloc, count)?, count, f)?))
 }
 
-/// Puts what the function gives at each row behind other values.
+/// Other values, with what the function gives at each row behind them. They are taken and given
+/// back, since pushing to a list that is lent costs more.
 #[inline]
-pub fn push_made<F: Fn(usize) -> Result<Value, AllocError>>(
-    values: &mut Vec<Value>,
+pub fn made_behind<F: Fn(usize) -> Result<Value, AllocError>>(
+    mut values: Vec<Value>,
     count: usize,
     f: F,
-) -> Result<(), AllocError>
+) -> Result<Vec<Value>, AllocError>
     requires { (i : ℕ) → i < count → F.pre f i }
-    ensures { (g : ℕ → Datum) → AnswersRows (λ i r. F.post f i r) count g → IfOk result (λ _. values_of values.new.items ≡ values_of values.old.items ++ each_row count g) }
+    ensures { (g : ℕ → Datum) → AnswersRows (λ i r. F.post f i r) count g → IfOk result (λ all. values_of all.items ≡ values_of values.items ++ each_row count g) }
 {
     for i in 0..count {
         values.push(f(i)?)?;
     }
-    Ok(())
+    Ok(values)
 }
 
 /// What the function makes of each row, in place. Refuses with `OutOfMemory` (1) alone.

@@ -1,5 +1,5 @@
 // The values of a column while it is worked on.
-ghost use Rattle.std.specs.Prelude.{◌≡◌, ◌≢◌, ◌<◌, ℕ, IfOk, true, false, length, get_or, map, Ok};
+ghost use Rattle.std.specs.Prelude.{◌++◌, ◌≡◌, ◌≢◌, ◌<◌, ℕ, IfOk, true, false, length, get_or, map, Ok};
 ghost use Rattle.vx_dtype.specs.Answers.{Answers};
 ghost use Rattle.vx_value.specs.Types.{Datum, null};
 ghost use Rattle.vx_value.specs.Views.{value_of};
@@ -11,7 +11,7 @@ ghost use Rattle.vx_eval.specs.Columns.{each_row, values_of, rows_view, rows_vie
 use crate::conjunction::Conjunction;
 use crate::constants::Constants;
 use crate::fields::item_row;
-use crate::filling::push_made;
+use crate::filling::made_behind;
 use crate::truths::{truth_at, truth_of, truth_value};
 use std::alloc::{AllocError, Global};
 use std::rc::Rc;
@@ -200,16 +200,16 @@ impl<'a> Rows<'a> {
         }
     }
 
-    /// Puts the values behind others: those that are owned are moved, the others copied.
-    pub fn put_behind(self, values: &mut Vec<Value>) -> Result<(), AllocError>
-        ensures { IfOk result (λ _. values_of values.new.items ≡ values_of values.old.items ++ rows_view self.entry) }
+    /// Other values, with these behind them: those that are owned are moved, the others copied.
+    pub fn put_behind(self, values: Vec<Value>) -> Result<Vec<Value>, AllocError>
+        ensures { IfOk result (λ all. values_of all.items ≡ values_of values.items ++ rows_view self.entry) }
     {
         match self {
-            Rows::Owned(mut own) => values.append(&mut own),
+            Rows::Owned(own) => joined(values, own),
             rows => {
-                let put = rows.push_all(values);
+                let all = rows.copied_behind(values);
                 drop(rows);
-                put
+                all
             }
         }
     }
@@ -218,20 +218,22 @@ impl<'a> Rows<'a> {
     fn copies(&self, alloc: Global) -> VortexResult<Vec<Value>>
         ensures { Answers (λ values. values_of values.items) result (Ok (rows_view self.now)) }
     {
-        let mut values = Vec::with_capacity(alloc, self.len())?;
-        self.push_all(&mut values)?;
-        Ok(values)
+        Ok(self.copied_behind(Vec::with_capacity(alloc, self.len())?)?)
     }
 
-    // Puts a copy of each value behind others.
-    fn push_all(&self, values: &mut Vec<Value>) -> Result<(), AllocError>
-        ensures { IfOk result (λ _. values_of values.new.items ≡ values_of values.old.items ++ rows_view self.now) }
+    // Other values, with a copy of each of these behind them.
+    fn copied_behind(&self, values: Vec<Value>) -> Result<Vec<Value>, AllocError>
+        ensures { IfOk result (λ all. values_of all.items ≡ values_of values.items ++ rows_view self.now) }
     {
         let count = self.len();
         match self {
-            Rows::Truths(truths, _) => push_made(values, count, |i| Ok(truth_at(truths.as_slice(), i))),
-            Rows::Compared(tests) => push_made(values, count, |i| Ok(truth_value(tests.truth(i)))),
-            rows => push_made(values, count, |i| copied(rows.row(i))),
+            Rows::Truths(truths, _) => made_behind(
+                values,
+                count,
+                |i| Ok(truth_at(truths.as_slice(), i)),
+            ),
+            Rows::Compared(tests) => made_behind(values, count, |i| Ok(truth_value(tests.truth(i)))),
+            rows => made_behind(values, count, |i| copied(rows.row(i))),
         }
     }
 
@@ -249,6 +251,14 @@ impl<'a> Rows<'a> {
             Rows::Compared(tests) => tests.len(),
         }
     }
+}
+
+// The values, with those of the other list moved behind them.
+fn joined(mut values: Vec<Value>, mut others: Vec<Value>) -> Result<Vec<Value>, AllocError>
+    ensures { IfOk result (λ all. all.items ≡ values.items ++ others.items) }
+{
+    values.append(&mut others)?;
+    Ok(values)
 }
 
 /// The same value; what takes no memory is copied here, and the rest by its `clone`.
