@@ -32,7 +32,7 @@ row_pushed f h out new i v so_far pushed here =
 pub row_put_behind : (h : ℕ → Datum) (old out new : List Value) (i : ℕ) (v : Value) → values_of out ≡ values_of old ++ each_row i h → new ≡ out ++ v ∷ [] → value_of v ≡ h i → values_of new ≡ values_of old ++ each_row (i + 1) h
 row_put_behind h old out new i v so_far pushed here =
     ap values_of pushed ∙ map-append value_of out (v ∷ []) ∙ ap (λ ds. ds ++ value_of v ∷ []) so_far ∙ append_assoc (values_of old) (each_row i h) (value_of v ∷ [])
-    ∙ ap (λ d. values_of old ++ each_row i h ++ d ∷ []) here ∙ ap (λ l. values_of old ++ l) (sym (map-range_with_len_more h 0 i i (omega arith)))
+    ∙ ap (λ d. values_of old ++ (each_row i h ++ d ∷ [])) here ∙ ap (λ l. values_of old ++ l) (sym (map-range_with_len_more h 0 i i (omega arith)))
 
 pub map_map : {A B C : Type 0} (f : B → C) (g : A → B) (xs : List A) → map f (map g xs) ≡ map (λ x. f (g x)) xs
 map_map f g [] = refl

@@ -1,5 +1,5 @@
 // Trees over a whole batch, a block of its rows after another where no node looks across rows.
-ghost use Rattle.std.specs.Prelude.{◌≡◌, false, IfOk};
+ghost use Rattle.std.specs.Prelude.{◌≡◌, ◌<◌, false, length, IfOk};
 ghost use Rattle.vx_dtype.specs.Answers.{Answers};
 ghost use Rattle.vx_value.specs.Fits.{IsBatch};
 ghost use Rattle.vx_tree.specs.Trees.{node_type, WellTyped, Over};
@@ -35,7 +35,7 @@ pub fn evaluate_over(
     match b {
         BoundExpression::Root { .. } => Ok(rows.clone()?),
         BoundExpression::Scalar { .. } => {
-            let values = values_over(alloc, rows.as_slice(), b)?;
+            let values = values_over(alloc, b, rows.as_slice())?;
             Ok(Rc::new(alloc, values)?)
         }
     }
@@ -43,31 +43,33 @@ pub fn evaluate_over(
 
 // The tree's value in each row, or the first fault. Of several blocks one may fault in a node, and a
 // later one in a node whose fault comes first: so where a block faults all rows are asked together.
-fn values_over(alloc: Global, rows: &[Value], b: &BoundExpression) -> VortexResult<Vec<Value>>
+fn values_over(alloc: Global, b: &BoundExpression, rows: &[Value]) -> VortexResult<Vec<Value>>
     requires { WellTyped (bound_of b.now) }
     ensures { Answers (λ values. values_of values.items) result (tree_answer (bound_of b.now) (values_of rows.now)) }
 {
     if rows.len() <= BLOCK || looks_across(b) {
-        return together(alloc, rows, b);
+        return together(alloc, b, rows);
     }
-    match by_blocks(alloc, rows, b) {
+    match by_blocks(alloc, b, rows) {
         Ok(values) => Ok(values),
         Err(VortexError::OutOfMemory) => Err(VortexError::OutOfMemory),
-        Err(_) => together(alloc, rows, b),
+        Err(_) => together(alloc, b, rows),
     }
 }
 
 // The tree's value in each row, or the first fault, with all rows at once.
-fn together(alloc: Global, rows: &[Value], b: &BoundExpression) -> VortexResult<Vec<Value>>
+fn together(alloc: Global, b: &BoundExpression, rows: &[Value]) -> VortexResult<Vec<Value>>
     requires { WellTyped (bound_of b.now) }
     ensures { Answers (λ values. values_of values.items) result (tree_answer (bound_of b.now) (values_of rows.now)) }
 {
-    evaluate(alloc, rows, b)?.into_values(alloc)
+    evaluate(alloc, b, rows)?.into_values(alloc)
 }
 
-// The tree's value in each row where no block faults, each block let go before the next.
-fn by_blocks(alloc: Global, rows: &[Value], b: &BoundExpression) -> VortexResult<Vec<Value>>
+// The tree's value in each row where no block faults, each block let go before the next. Asks for
+// rows, since a node may fault over none.
+fn by_blocks(alloc: Global, b: &BoundExpression, rows: &[Value]) -> VortexResult<Vec<Value>>
     requires typed { WellTyped (bound_of b.now) }
+    requires some { 0 < length rows.now }
     requires apart { looks_across (bound_of b.now) ≡ false }
     ensures { IfOk result (λ values. tree_answer (bound_of b.now) (values_of rows.now) ≡ Ok (values_of values.items)) }
 {
@@ -75,7 +77,7 @@ fn by_blocks(alloc: Global, rows: &[Value], b: &BoundExpression) -> VortexResult
     let mut from = 0;
     while from < rows.len() {
         let to = from + BLOCK.min(rows.len() - from);
-        values = evaluate(alloc, &rows[from..to], b)?.put_behind(values)?;
+        values = evaluate(alloc, b, &rows[from..to])?.put_behind(values)?;
         from = to;
     }
     Ok(values)

@@ -48,7 +48,7 @@ impl<'a> Rows<'a> {
         ensures { value_of result.now ≡ get_or (rows_view self.now) i null }
     {
         match self {
-            Rows::Lent(values) => &values[i],
+            Rows::Lent(values) => value_at(*values, i),
             Rows::Shared(values) => &values.as_slice()[i],
             Rows::Item(values, place, constants) => item_row(constants.null(), *values, *place, i),
             Rows::Owned(values) => &values[i],
@@ -251,6 +251,15 @@ impl<'a> Rows<'a> {
             Rows::Compared(tests) => tests.len(),
         }
     }
+}
+
+// The value of that row.
+#[inline(always)]
+fn value_at(values: &[Value], i: usize) -> &Value
+    requires { i < length values.now }
+    ensures { value_of result.now ≡ get_or (values_of values.now) i null }
+{
+    &values[i]
 }
 
 // The values, with those of the other list moved behind them.

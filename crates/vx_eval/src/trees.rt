@@ -23,13 +23,13 @@ use vx_types::{Value, VortexError, VortexResult};
 /// The tree's value in each row of a batch, or the first fault. Refuses with `OutOfMemory` (1) too.
 pub fn evaluate<'a>(
     alloc: Global,
-    batch: &'a [Value],
     b: &'a BoundExpression,
+    batch: &'a [Value],
 ) -> VortexResult<Rows<'a>>
     requires { WellTyped (bound_of b.now) }
     ensures { Answers rows_view result (tree_answer (bound_of b.now) (values_of batch.now)) }
 {
-    let columns = evaluate_each(alloc, batch, slice::from_ref(b))?;
+    let columns = evaluate_each(alloc, slice::from_ref(b), batch)?;
     Ok(one(columns))
 }
 
@@ -39,15 +39,15 @@ pub fn evaluate<'a>(
 #[cycle(evaluate)]
 fn evaluate_each<'a>(
     alloc: Global,
-    batch: &'a [Value],
     children: &'a [BoundExpression],
+    batch: &'a [Value],
 ) -> VortexResult<Vec<Rows<'a>>>
     requires { EachWellTyped (bounds_of children.now) }
     ensures { Answers (λ v. rows_views v.items) result (each_answer (bounds_of children.now) (values_of batch.now)) }
 {
     let mut columns = Vec::with_capacity(alloc, children.len())?;
     for child in children {
-        if let Err(fault) = push_evaluated(alloc, batch, child, &mut columns) {
+        if let Err(fault) = push_evaluated(alloc, child, batch, &mut columns) {
             return refused(columns, fault);
         }
     }
@@ -58,8 +58,8 @@ fn evaluate_each<'a>(
 #[cycle(evaluate)]
 fn push_evaluated<'a>(
     alloc: Global,
-    batch: &'a [Value],
     b: &'a BoundExpression,
+    batch: &'a [Value],
     columns: &mut Vec<Rows<'a>>,
 ) -> VortexResult<()>
     requires { WellTyped (bound_of b.now) }
@@ -74,9 +74,9 @@ fn push_evaluated<'a>(
         } => {
             let children = children.as_slice();
             match item_place(scalar_fn, children) {
-                Some(place) => push_item(alloc, batch, &children[0], place, columns),
+                Some(place) => push_item(alloc, &children[0], place, batch, columns),
                 None => {
-                    let below = evaluate_each(alloc, batch, children)?;
+                    let below = evaluate_each(alloc, children, batch)?;
                     push_applied(alloc, batch.len(), scalar_fn, children, below, columns)
                 }
             }
@@ -88,9 +88,9 @@ fn push_evaluated<'a>(
 #[cycle(evaluate)]
 fn push_item<'a>(
     alloc: Global,
-    batch: &'a [Value],
     pack: &'a BoundExpression,
     place: usize,
+    batch: &'a [Value],
     columns: &mut Vec<Rows<'a>>,
 ) -> VortexResult<()>
     requires typed { WellTyped (bound_of pack.now) }
@@ -99,7 +99,7 @@ fn push_item<'a>(
 {
     match pack {
         BoundExpression::Scalar { children, .. } => {
-            let below = evaluate_each(alloc, batch, children.as_slice())?;
+            let below = evaluate_each(alloc, children.as_slice(), batch)?;
             push_picked(below, place, columns)
         }
         BoundExpression::Root { .. } => unreachable!(),

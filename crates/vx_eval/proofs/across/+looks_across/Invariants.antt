@@ -5,4 +5,4 @@ use Rattle.vx_eval.proofs.across.+looks_across.Given as goal
 
 -- neither the node nor a tree so far looks across rows
 abbrev pub invariant-loop-child : goal.invariant-loop-child
-invariant-loop-child l = looks_across (bound_of l.fn.b) ≡ some_across (bounds_of (drop l.child-index l.child-items))
+invariant-loop-child l = looks_across (bound_of l.fn.b) ≡ some_across (bounds_of (drop l.child-index l.children))

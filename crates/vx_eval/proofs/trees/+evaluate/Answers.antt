@@ -1,9 +1,9 @@
-use Rattle.std.proofs.Common.{arith, ap, subst, sym, ◌∙◌}
+use Rattle.std.proofs.Common.{arith, ap, refl, subst, sym, ◌∙◌}
 use Rattle.vx_tree.specs.Pushed.{Pushes}
 use Rattle.vx_tree.specs.Views.{bounds_of}
 use Rattle.vx_eval.specs.Columns.{values_of, rows_view}
 use Rattle.vx_eval.proofs.PackedItems.{item_given, place_within, picked_is}
-use Rattle.vx_eval.proofs.Transposed.{column_put, typed_on, as_many, as_long_as, as_counted, root_given, node_given}
+use Rattle.vx_eval.proofs.Transposed.{column_put, typed_on, as_many, as_long_as, root_given, node_given}
 use Rattle.vx_eval.proofs.trees.+evaluate.Goals as goal
 
 pub evaluate_each-loop-child-preserved : goal.evaluate_each-loop-child-preserved
@@ -31,13 +31,13 @@ push_evaluated-push_applied-requires-clause-number t c = as_many (bounds_of c.as
 
 pub push_evaluated-push_applied-requires-clause-long : goal.push_evaluated-push_applied-requires-clause-long
 push_evaluated-push_applied-requires-clause-long t c =
-    as_long_as c.args.batch.now _ (bounds_of c.as_slice-children.result.now) _ (as_counted _ _ _ c.len.ensures c.deref-in-None.ensures) c.in_ok-below-in-None.ensures
+    as_long_as c.args.batch.now _ (bounds_of c.as_slice-children.result.now) _ refl c.in_ok-below-in-None.ensures
 
 pub push_evaluated-returns-in_ok-below-in-None : goal.push_evaluated-returns-in_ok-below-in-None
 push_evaluated-returns-in_ok-below-in-None t c =
     subst (λ said. Pushes rows_view c.args.columns.now.items c.push_applied.result said c.push_applied.new.columns.items)
     (node_given _ _ _ _ c.as_slice-children.result.now c.args.batch.now _ _ c.in-Scalar.is (c.as_slice-children.ensures.value ∙ ap (λ v. v.items) c.deref.ensures)
-    (as_counted _ _ _ c.len.ensures c.deref-in-None.ensures) c.in_ok-below-in-None.ensures) c.push_applied.ensures
+    refl c.in_ok-below-in-None.ensures) c.push_applied.ensures
 
 pub push_item-push_picked-requires : goal.push_item-push_picked-requires
 push_item-push_picked-requires t c =
