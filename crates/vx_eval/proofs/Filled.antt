@@ -1,5 +1,5 @@
 -- Columns that are filled row by row.
-use Rattle.std.proofs.Common.{◌≡◌, ℕ, ◌+◌, ◌<◌, List, [], ◌∷◌, ◌++◌, map, length, get_or, refl, sym, ap, subst, ◌∙◌, arith, Some, None, Result, Ok, Err, IfOk, IfErr, inl, inr, zero, suc, IsTrue, Bool, true, false}
+use Rattle.std.proofs.Common.{◌≡◌, ℕ, ◌+◌, ◌<◌, List, [], ◌∷◌, ◌++◌, append_assoc, map, length, get_or, refl, sym, ap, subst, ◌∙◌, arith, Some, None, Result, Ok, Err, IfOk, IfErr, inl, inr, zero, suc, IsTrue, Bool, true, false}
 use Rattle.std.specs.Prelude.{position}
 use Rattle.std.specs.List.{position_or_len}
 use Rattle.std.proofs.lemmas.List.Sums.{position_or_len_is}
@@ -12,7 +12,6 @@ use Rattle.std.specs.declared.alloc.Global.{Global}
 use Rattle.std.specs.declared.vec.Vec.{Vec}
 use Rattle.vx_dtype.specs.declared.error.VortexError.{VortexError}
 use Rattle.vx_dtype.specs.declared.error.VortexError.TheVariants.{OutOfMemory}
-use Rattle.vx_dtype.specs.Answers.{Answers}
 use Rattle.vx_value.specs.declared.value.Value.{Value}
 use Rattle.vx_value.specs.Types.{LogicalType, Datum, null}
 use Rattle.vx_value.specs.Views.{value_of}
@@ -28,6 +27,12 @@ use Rattle.vx_eval.specs.Items.{compared_items, is_comparison, item_at}
 pub row_pushed : {A : Type 0} (f : A → Datum) (h : ℕ → Datum) (out new : List A) (i : ℕ) (v : A) → map f out ≡ each_row i h → new ≡ out ++ v ∷ [] → f v ≡ h i → map f new ≡ each_row (i + 1) h
 row_pushed f h out new i v so_far pushed here =
     ap (map f) pushed ∙ map-append f out (v ∷ []) ∙ ap (λ ds. ds ++ f v ∷ []) so_far ∙ ap (λ d. each_row i h ++ d ∷ []) here ∙ sym (map-range_with_len_more h 0 i i (omega arith))
+
+-- and behind values that were there
+pub row_put_behind : (h : ℕ → Datum) (old out new : List Value) (i : ℕ) (v : Value) → values_of out ≡ values_of old ++ each_row i h → new ≡ out ++ v ∷ [] → value_of v ≡ h i → values_of new ≡ values_of old ++ each_row (i + 1) h
+row_put_behind h old out new i v so_far pushed here =
+    ap values_of pushed ∙ map-append value_of out (v ∷ []) ∙ ap (λ ds. ds ++ value_of v ∷ []) so_far ∙ append_assoc (values_of old) (each_row i h) (value_of v ∷ [])
+    ∙ ap (λ d. values_of old ++ (each_row i h ++ d ∷ [])) here ∙ ap (λ l. values_of old ++ l) (sym (map-range_with_len_more h 0 i i (omega arith)))
 
 pub map_map : {A B C : Type 0} (f : B → C) (g : A → B) (xs : List A) → map f (map g xs) ≡ map (λ x. f (g x)) xs
 map_map f g [] = refl
@@ -117,10 +122,10 @@ same_rows v n = go 0 n
 pub literal_rows : (v : Datum) (n : ℕ) → map (λ _. v) (rows_of n []) ≡ replicate n v
 literal_rows v n = map_map (λ _. v) (row_at []) (range_with_len 0 n) ∙ same_rows v n
 
--- values that a loop has collected
-pub collected_are : (ds es : List Datum) (r : Result (Vec Value Global) VortexError) → ds ≡ es → IfOk r (λ out. values_of out.items ≡ ds) → IfErr r (λ e. e ≡ OutOfMemory) → Answers (λ out. values_of out.items) r (Ok es)
-collected_are ds es (Ok out) same is memory = ap Ok (sym same ∙ sym is)
-collected_are ds es (Err e) same is memory = inl memory
+-- rows that were made behind values
+pub put_behind : {E : Type 0} (old ds es : List Datum) (r : Result (Vec Value Global) E) → ds ≡ es → IfOk r (λ all. values_of all.items ≡ old ++ ds) → IfOk r (λ all. values_of all.items ≡ old ++ es)
+put_behind old ds es (Ok all) same is = is ∙ ap (λ l. old ++ l) same
+put_behind old ds es (Err e) same is = tt
 
 -- ---- one value in all rows of a column
 

@@ -1,7 +1,6 @@
 -- What a well-typed tree gives over a batch of the scope's type fits its type.
-use Rattle.std.proofs.Common.{◌≡◌, List, [], ◌∷◌, map, refl, subst, Option, Some, None, Result, Ok, Err, IfOk, inl, inr}
+use Rattle.std.proofs.Common.{◌≡◌, List, [], ◌∷◌, map, refl, subst, Option, Some, None, Result, Ok, Err, inl, inr}
 use Rattle.vx_dtype.specs.declared.error.VortexError.{VortexError}
-use Rattle.vx_dtype.specs.Answers.{Answers}
 use Rattle.vx_value.specs.Columns.{first_misfit}
 use Rattle.vx_value.specs.Fits.{Fits, IsBatch}
 use Rattle.vx_value.specs.Types.{LogicalType, Datum}
@@ -11,8 +10,7 @@ use Rattle.vx_tree.specs.Faults.{first_fault}
 use Rattle.vx_tree.specs.Meaning.{value}
 use Rattle.vx_tree.specs.Trees.{BoundTree, WellTyped, Over, node_type}
 use Rattle.vx_tree.proofs.Trees.{value-fits, each_passes}
-use Rattle.vx_eval.specs.declared.rows.Rows.{Rows}
-use Rattle.vx_eval.specs.Columns.{unless_fault, rows_view}
+use Rattle.vx_eval.specs.Columns.{unless_fault}
 use Rattle.vx_eval.specs.Evaluation.{tree_answer}
 
 all_fit : (t : LogicalType) (f : Datum → Datum) (batch : List Datum) → ((v : Datum) → IsIn v batch → Fits (f v) t) → IsBatch t (map f batch)
@@ -28,12 +26,12 @@ values_fit b s batch out typed over is e = go (first_fault b batch) refl e
         subst (IsBatch (node_type b)) same (all_fit (node_type b) (value b) batch (λ v i. value-fits b s batch v typed over q i (each_passes _ batch v is i)))
     go (Some fault) q e = cc
 
+-- and so does what it gives over a column's rows
+pub answer_fits : (b : BoundTree) (s : LogicalType) (batch out : List Datum) → WellTyped b → Over b s → first_misfit s batch ≡ None → tree_answer b batch ≡ Ok out → IsBatch (node_type b) out
+answer_fits b s batch out typed over is gives = values_fit b s batch out typed over ((no_misfit s batch).0 is) gives
+
 abbrev ok : List Datum → Result (List Datum) VortexError
 ok rows = Ok rows
-
-pub answer_fits : (b : BoundTree) (s : LogicalType) (batch : List Datum) (r : Result Rows VortexError) → WellTyped b → Over b s → first_misfit s batch ≡ None → Answers rows_view r (tree_answer b batch) → IfOk r (λ out. IsBatch (node_type b) (rows_view out))
-answer_fits b s batch (Ok out) typed over is gives = values_fit b s batch (rows_view out) typed over ((no_misfit s batch).0 is) gives
-answer_fits b s batch (Err e) typed over is gives = tt
 
 -- rows of the type that were made the rows of a column
 pub made_fits : (t u : LogicalType) (rows made : List Datum) → u ≡ t → ok rows ≡ Ok made → IsBatch t rows → first_misfit u made ≡ None

@@ -14,3 +14,4 @@ mod Trues
 mod Conjoined
 mod Masked
 mod Branches
+mod Cuts

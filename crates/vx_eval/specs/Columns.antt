@@ -11,7 +11,7 @@ use Rattle.vx_fn.specs.Faults.{node_fault}
 pub use Rattle.vx_eval_merge.specs.Merges.{values_of, each_row, row_at}
 pub use Rattle.vx_eval.specs.Items.{datum_at, item_at, truth_datum, AllLong, HaveRow}
 use Rattle.vx_eval.specs.declared.rows.Rows.{Rows}
-use Rattle.vx_eval.specs.declared.rows.Rows.TheVariants.{Lent, Item, Owned, Same, Truths, Compared}
+use Rattle.vx_eval.specs.declared.rows.Rows.TheVariants.{Lent, Shared, Item, Owned, Same, Truths, Compared}
 
 -- the truth value that a value is, if it is one
 abbrev pub truth_of : Datum → Option Bool
@@ -20,8 +20,9 @@ truth_of _ = None
 
 -- the values of a column at work, row by row
 abbrev pub rows_view : Rows → List Datum
-rows_view (Lent values) = values_of values.now.value.items
-rows_view (Item values k c) = map (item_at k) (values_of values.now.value.items)
+rows_view (Lent values) = values_of values.now
+rows_view (Shared values) = values_of values.now.value.items
+rows_view (Item values k c) = map (item_at k) (values_of values.now)
 rows_view (Owned values) = values_of values.items
 rows_view (Same v n) = replicate n (value_of v.now)
 rows_view (Truths truths c) = map truth_datum truths.items

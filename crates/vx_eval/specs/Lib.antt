@@ -5,3 +5,4 @@ pub mod PackedItem
 pub mod Choices
 pub mod FirstMerged
 pub mod Items
+pub mod Across

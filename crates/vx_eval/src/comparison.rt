@@ -57,7 +57,7 @@ fn compare_with<'a>(
 {
     match lhs {
         Rows::Item(rows, place, _) => {
-            let item = ComparedItem::new(operator, rows.as_slice(), *place, value);
+            let item = ComparedItem::new(operator, *rows, *place, value);
             Ok(Rows::Compared(Conjunction::new(alloc, item)?))
         }
         _ => told(alloc, count, |i| compared(operator, lhs.row(i), value)),

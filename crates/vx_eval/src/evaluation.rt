@@ -6,7 +6,7 @@ ghost use Rattle.vx_tree.specs.Trees.{WellTyped, Over};
 ghost use Rattle.vx_tree.specs.Views.{bound_of};
 ghost use Rattle.vx_eval.specs.Evaluation.{evaluation};
 
-use crate::trees;
+use crate::blocks::evaluate_over;
 use std::alloc::Global;
 use vx_tree::BoundExpression;
 use vx_types::{Column, VortexError, VortexResult};
@@ -30,7 +30,7 @@ pub fn apply_bound(alloc: Global, batch: &Column, b: &BoundExpression) -> Vortex
     if !b.is_root_bound_to(batch.dtype()) {
         return Err(VortexError::ScopeMismatch);
     }
-    let rows = trees::evaluate_over(alloc, batch, b)?.into_shared(alloc)?;
+    let rows = evaluate_over(alloc, batch, b)?;
     let dtype = b.dtype().clone()?;
     Ok(Column::from_shared(dtype, rows))
 }

@@ -1,5 +1,5 @@
 // Columns that are filled row by row.
-ghost use Rattle.std.specs.Prelude.{◌≡◌, ◌<◌, ℕ, IfOk, IfErr, length, get_or, Ok};
+ghost use Rattle.std.specs.Prelude.{◌++◌, ◌≡◌, ◌<◌, ℕ, IfOk, IfErr, length, get_or, Ok};
 ghost use Rattle.vx_value.specs.Types.{Datum, null};
 ghost use Rattle.vx_dtype.specs.declared.error.VortexError.TheVariants.{OutOfMemory};
 ghost use Rattle.vx_eval.specs.Columns.{values_of, rows_view, each_row};
@@ -19,20 +19,20 @@ pub fn tabulated<'a, F: Fn(usize) -> Result<Value, AllocError>>(
     ensures rows { (g : ℕ → Datum) → AnswersRows (λ i r. F.post f i r) count g → IfOk result (λ out. rows_view out ≡ each_row count g) }
     ensures memory { IfErr result (λ e. e ≡ OutOfMemory) }
 {
-    Ok(Rows::Owned(collected(alloc, count, f)?))
+    Ok(Rows::Owned(made_behind(Vec::with_capacity(alloc, count)?, count, f)?))
 }
 
-/// What the function gives at each row. Refuses with `OutOfMemory` (1) alone.
-pub fn collected<F: Fn(usize) -> Result<Value, AllocError>>(
-    alloc: Global,
+/// Other values, with what the function gives at each row behind them. They are taken and given
+/// back, since pushing to a list that is lent costs more.
+#[inline]
+pub fn made_behind<F: Fn(usize) -> Result<Value, AllocError>>(
+    mut values: Vec<Value>,
     count: usize,
     f: F,
-) -> VortexResult<Vec<Value>>
+) -> Result<Vec<Value>, AllocError>
     requires { (i : ℕ) → i < count → F.pre f i }
-    ensures rows { (g : ℕ → Datum) → AnswersRows (λ i r. F.post f i r) count g → IfOk result (λ out. values_of out.items ≡ each_row count g) }
-    ensures memory { IfErr result (λ e. e ≡ OutOfMemory) }
+    ensures { (g : ℕ → Datum) → AnswersRows (λ i r. F.post f i r) count g → IfOk result (λ all. values_of all.items ≡ values_of values.items ++ each_row count g) }
 {
-    let mut values = Vec::with_capacity(alloc, count)?;
     for i in 0..count {
         values.push(f(i)?)?;
     }

@@ -1,7 +1,9 @@
 // Evaluation over columns.
 #![tactic(auto)]
 
+mod across;
 mod arithmetic;
+mod blocks;
 mod casting;
 mod choice;
 mod compared;

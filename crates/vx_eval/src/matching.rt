@@ -52,11 +52,11 @@ fn in_turn<'a>(
 {
     let mut columns = Vec::new(alloc);
     for i in 0..conditions.len() {
-        columns.push(Rows::Lent(conditions[i].shared_rows()))?;
-        columns.push(Rows::Lent(values[i].shared_rows()))?;
+        columns.push(Rows::Shared(conditions[i].shared_rows()))?;
+        columns.push(Rows::Shared(values[i].shared_rows()))?;
     }
     if let Some(column) = otherwise {
-        columns.push(Rows::Lent(column.shared_rows()))?;
+        columns.push(Rows::Shared(column.shared_rows()))?;
     }
     Ok(columns)
 }

@@ -1,5 +1,5 @@
 // The values of a column while it is worked on.
-ghost use Rattle.std.specs.Prelude.{◌≡◌, ◌≢◌, ◌<◌, ℕ, IfOk, true, false, length, get_or, map, Ok};
+ghost use Rattle.std.specs.Prelude.{◌++◌, ◌≡◌, ◌≢◌, ◌<◌, ℕ, IfOk, true, false, length, get_or, map, Ok};
 ghost use Rattle.vx_dtype.specs.Answers.{Answers};
 ghost use Rattle.vx_value.specs.Types.{Datum, null};
 ghost use Rattle.vx_value.specs.Views.{value_of};
@@ -11,7 +11,7 @@ ghost use Rattle.vx_eval.specs.Columns.{each_row, values_of, rows_view, rows_vie
 use crate::conjunction::Conjunction;
 use crate::constants::Constants;
 use crate::fields::item_row;
-use crate::filling::collected;
+use crate::filling::made_behind;
 use crate::truths::{truth_at, truth_of, truth_value};
 use std::alloc::{AllocError, Global};
 use std::rc::Rc;
@@ -24,10 +24,12 @@ use vx_types::{Value, VortexResult};
 /// The values of a column, row by row: lent, or its own to move.
 #[derive(Drop)]
 pub enum Rows<'a> {
-    /// The values of a column that is lent.
-    Lent(&'a Rc<Vec<Value>>),
+    /// Values that are lent.
+    Lent(&'a [Value]),
+    /// The values of a whole column that is lent, which others may share.
+    Shared(&'a Rc<Vec<Value>>),
     /// The items at one place of structs that are lent.
-    Item(&'a Rc<Vec<Value>>, usize, Constants),
+    Item(&'a [Value], usize, Constants),
     /// Values that nobody shares.
     Owned(Vec<Value>),
     /// One lent value, in so many rows.
@@ -46,10 +48,9 @@ impl<'a> Rows<'a> {
         ensures { value_of result.now ≡ get_or (rows_view self.now) i null }
     {
         match self {
-            Rows::Lent(values) => &values.as_slice()[i],
-            Rows::Item(values, place, constants) => {
-                item_row(constants.null(), values.as_slice(), *place, i)
-            }
+            Rows::Lent(values) => value_at(*values, i),
+            Rows::Shared(values) => &values.as_slice()[i],
+            Rows::Item(values, place, constants) => item_row(constants.null(), *values, *place, i),
             Rows::Owned(values) => &values[i],
             Rows::Same(value, _) => value,
             Rows::Truths(truths, constants) => constants.truth(truths[i]),
@@ -173,40 +174,66 @@ impl<'a> Rows<'a> {
     {
         // Columns are let go of by `drop`: in place that takes the proof far longer.
         match self {
-            Rows::Lent(values) => {
+            Rows::Shared(values) => {
                 drop(self);
                 Ok(values.clone()?)
             }
-            Rows::Owned(values) => Ok(Rc::new(alloc, values)?),
             rows => {
-                let copies = rows.shared_copies(alloc);
+                let values = rows.into_values(alloc)?;
+                Ok(Rc::new(alloc, values)?)
+            }
+        }
+    }
+
+    /// The values: those that are owned as they are, copies of the others. Refuses with `OutOfMemory`
+    /// (1) alone.
+    pub fn into_values(self, alloc: Global) -> VortexResult<Vec<Value>>
+        ensures { Answers (λ values. values_of values.items) result (Ok (rows_view self.entry)) }
+    {
+        match self {
+            Rows::Owned(values) => Ok(values),
+            rows => {
+                let copies = rows.copies(alloc);
                 drop(rows);
                 copies
             }
         }
     }
 
-    // A copy of each value, in a `Vec` that others may share.
-    fn shared_copies(&self, alloc: Global) -> VortexResult<Rc<Vec<Value>>>
-        ensures { Answers (λ values. values_of values.value.items) result (Ok (rows_view self.now)) }
+    /// Other values, with these behind them: those that are owned are moved, the others copied.
+    pub fn put_behind(self, values: Vec<Value>) -> Result<Vec<Value>, AllocError>
+        ensures { IfOk result (λ all. values_of all.items ≡ values_of values.items ++ rows_view self.entry) }
     {
-        let values = self.copies(alloc)?;
-        Ok(Rc::new(alloc, values)?)
+        match self {
+            Rows::Owned(own) => joined(values, own),
+            rows => {
+                let all = rows.copied_behind(values);
+                drop(rows);
+                all
+            }
+        }
     }
 
     // A copy of each value.
     fn copies(&self, alloc: Global) -> VortexResult<Vec<Value>>
         ensures { Answers (λ values. values_of values.items) result (Ok (rows_view self.now)) }
     {
+        Ok(self.copied_behind(Vec::with_capacity(alloc, self.len())?)?)
+    }
+
+    // Other values, with a copy of each of these behind them.
+    fn copied_behind(&self, values: Vec<Value>) -> Result<Vec<Value>, AllocError>
+        ensures { IfOk result (λ all. values_of all.items ≡ values_of values.items ++ rows_view self.now) }
+    {
         let count = self.len();
         match self {
-            Rows::Truths(truths, _) => collected(
-                alloc,
+            Rows::Truths(truths, _) => made_behind(
+                values,
                 count,
                 |i| Ok(truth_at(truths.as_slice(), i)),
             ),
-            Rows::Compared(tests) => collected(alloc, count, |i| Ok(truth_value(tests.truth(i)))),
-            rows => collected(alloc, count, |i| copied(rows.row(i))),
+            Rows::Compared(tests) => made_behind(values, count, |i| Ok(truth_value(tests.truth(i)))),
+            rows => made_behind(values, count, |i| copied(rows.row(i))),
         }
     }
 
@@ -216,6 +243,7 @@ impl<'a> Rows<'a> {
     {
         match self {
             Rows::Lent(values) => values.len(),
+            Rows::Shared(values) => values.len(),
             Rows::Item(values, _, _) => values.len(),
             Rows::Owned(values) => values.len(),
             Rows::Same(_, count) => *count,
@@ -223,6 +251,23 @@ impl<'a> Rows<'a> {
             Rows::Compared(tests) => tests.len(),
         }
     }
+}
+
+// The value of that row.
+#[inline(always)]
+fn value_at(values: &[Value], i: usize) -> &Value
+    requires { i < length values.now }
+    ensures { value_of result.now ≡ get_or (values_of values.now) i null }
+{
+    &values[i]
+}
+
+// The values, with those of the other list moved behind them.
+fn joined(mut values: Vec<Value>, mut others: Vec<Value>) -> Result<Vec<Value>, AllocError>
+    ensures { IfOk result (λ all. all.items ≡ values.items ++ others.items) }
+{
+    values.append(&mut others)?;
+    Ok(values)
 }
 
 /// The same value; what takes no memory is copied here, and the rest by its `clone`.

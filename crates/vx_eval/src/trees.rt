@@ -15,37 +15,21 @@ use crate::nodes::{apply, one};
 use crate::packed::item_place;
 use crate::rows::Rows;
 use std::alloc::Global;
-use std::rc::Rc;
 use std::slice;
 use vx_fn::ScalarFnRef;
 use vx_tree::BoundExpression;
-use vx_types::{Column, Value, VortexError, VortexResult};
+use vx_types::{Value, VortexError, VortexResult};
 
-/// The tree's value in each row of a batch of its scope's type, or the first fault.
-/// Refuses with `OutOfMemory` (1) too.
-pub fn evaluate_over<'a>(
+/// The tree's value in each row of a batch, or the first fault. Refuses with `OutOfMemory` (1) too.
+pub fn evaluate<'a>(
     alloc: Global,
-    batch: &'a Column,
     b: &'a BoundExpression,
-) -> VortexResult<Rows<'a>>
-    requires typed { WellTyped (bound_of b.now) }
-    requires over { Over (bound_of b.now) batch.now.type }
-    ensures answer { Answers rows_view result (tree_answer (bound_of b.now) batch.now.rows) }
-    ensures fit { IfOk result (λ rows. IsBatch (node_type (bound_of b.now)) (rows_view rows)) }
-{
-    evaluate(alloc, batch.shared_rows(), b)
-}
-
-// The tree's value in each row of a batch, or the first fault.
-fn evaluate<'a>(
-    alloc: Global,
-    batch: &'a Rc<Vec<Value>>,
-    b: &'a BoundExpression,
+    batch: &'a [Value],
 ) -> VortexResult<Rows<'a>>
     requires { WellTyped (bound_of b.now) }
-    ensures { Answers rows_view result (tree_answer (bound_of b.now) (values_of batch.now.value.items)) }
+    ensures { Answers rows_view result (tree_answer (bound_of b.now) (values_of batch.now)) }
 {
-    let columns = evaluate_each(alloc, batch, slice::from_ref(b))?;
+    let columns = evaluate_each(alloc, slice::from_ref(b), batch)?;
     Ok(one(columns))
 }
 
@@ -55,15 +39,15 @@ fn evaluate<'a>(
 #[cycle(evaluate)]
 fn evaluate_each<'a>(
     alloc: Global,
-    batch: &'a Rc<Vec<Value>>,
     children: &'a [BoundExpression],
+    batch: &'a [Value],
 ) -> VortexResult<Vec<Rows<'a>>>
     requires { EachWellTyped (bounds_of children.now) }
-    ensures { Answers (λ v. rows_views v.items) result (each_answer (bounds_of children.now) (values_of batch.now.value.items)) }
+    ensures { Answers (λ v. rows_views v.items) result (each_answer (bounds_of children.now) (values_of batch.now)) }
 {
     let mut columns = Vec::with_capacity(alloc, children.len())?;
     for child in children {
-        if let Err(fault) = push_evaluated(alloc, batch, child, &mut columns) {
+        if let Err(fault) = push_evaluated(alloc, child, batch, &mut columns) {
             return refused(columns, fault);
         }
     }
@@ -74,12 +58,12 @@ fn evaluate_each<'a>(
 #[cycle(evaluate)]
 fn push_evaluated<'a>(
     alloc: Global,
-    batch: &'a Rc<Vec<Value>>,
     b: &'a BoundExpression,
+    batch: &'a [Value],
     columns: &mut Vec<Rows<'a>>,
 ) -> VortexResult<()>
     requires { WellTyped (bound_of b.now) }
-    ensures { Pushes rows_view columns.old.items result (tree_answer (bound_of b.now) (values_of batch.now.value.items)) columns.new.items }
+    ensures { Pushes rows_view columns.old.items result (tree_answer (bound_of b.now) (values_of batch.now)) columns.new.items }
 {
     match b {
         BoundExpression::Root { .. } => push_batch(batch, columns),
@@ -90,9 +74,9 @@ fn push_evaluated<'a>(
         } => {
             let children = children.as_slice();
             match item_place(scalar_fn, children) {
-                Some(place) => push_item(alloc, batch, &children[0], place, columns),
+                Some(place) => push_item(alloc, &children[0], place, batch, columns),
                 None => {
-                    let below = evaluate_each(alloc, batch, children)?;
+                    let below = evaluate_each(alloc, children, batch)?;
                     push_applied(alloc, batch.len(), scalar_fn, children, below, columns)
                 }
             }
@@ -104,18 +88,18 @@ fn push_evaluated<'a>(
 #[cycle(evaluate)]
 fn push_item<'a>(
     alloc: Global,
-    batch: &'a Rc<Vec<Value>>,
     pack: &'a BoundExpression,
     place: usize,
+    batch: &'a [Value],
     columns: &mut Vec<Rows<'a>>,
 ) -> VortexResult<()>
     requires typed { WellTyped (bound_of pack.now) }
     requires packs { PacksAt (bound_of pack.now) place }
-    ensures { Pushes rows_view columns.old.items result (item_answer (bound_of pack.now) place (values_of batch.now.value.items)) columns.new.items }
+    ensures { Pushes rows_view columns.old.items result (item_answer (bound_of pack.now) place (values_of batch.now)) columns.new.items }
 {
     match pack {
         BoundExpression::Scalar { children, .. } => {
-            let below = evaluate_each(alloc, batch, children.as_slice())?;
+            let below = evaluate_each(alloc, children.as_slice(), batch)?;
             push_picked(below, place, columns)
         }
         BoundExpression::Root { .. } => unreachable!(),
@@ -124,8 +108,8 @@ fn push_item<'a>(
 
 // Adds the rows of the batch, lent.
 #[inline(never)]
-fn push_batch<'a>(batch: &'a Rc<Vec<Value>>, columns: &mut Vec<Rows<'a>>) -> VortexResult<()>
-    ensures { Pushes rows_view columns.old.items result (Ok (values_of batch.now.value.items)) columns.new.items }
+fn push_batch<'a>(batch: &'a [Value], columns: &mut Vec<Rows<'a>>) -> VortexResult<()>
+    ensures { Pushes rows_view columns.old.items result (Ok (values_of batch.now)) columns.new.items }
 {
     columns.push(Rows::Lent(batch))?;
     Ok(())

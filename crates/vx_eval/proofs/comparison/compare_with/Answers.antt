@@ -6,7 +6,7 @@ use Rattle.vx_fn.specs.Functions.{binary}
 use Rattle.vx_fn.specs.Values.{binary_value}
 use Rattle.vx_fn.specs.Views.{operation_of}
 use Rattle.vx_eval.specs.Columns.{values_of, rows_view, item_at, truth_datum}
-use Rattle.vx_eval.specs.Items.{compared_items, conjoined}
+use Rattle.vx_eval.specs.Items.{conjoined}
 use Rattle.vx_eval.proofs.Conjoined.{conjoined_alone}
 use Rattle.vx_eval.proofs.Filled.{evaluated, comparison_quiet, repeated_at, compared_with, map_map}
 use Rattle.vx_eval.proofs.comparison.compare_with.Goals as goal
@@ -16,12 +16,10 @@ returns-in_ok-new-in-Item c = λ ts.
     let op = operation_of c.args.operator in
     let d = value_of c.args.value.now in
     let place = c.in-Item.place in
-    let rows = values_of c.in-Item.rows.now.value.items in
+    let rows = values_of c.in-Item.rows.now in
     let told = λ (v : Datum). binary_value op v d in
-    let lying = ap values_of (c.as_slice.ensures.value ∙ ap (λ v. v.items) c.deref.ensures) in
-    let item : c.new-item.result ≡ compared_items op place d rows = c.new-item.ensures ∙ ap (compared_items op place d) lying in
     let alone : c.in_ok-new-in-Item.field-0 ≡ map told (rows_view c.args.lhs.now) =
-    c.in_ok-new-in-Item.ensures ∙ ap (λ i. conjoined (length i) (i ∷ [])) item ∙ conjoined_alone op place d rows c.requires.comparison
+    c.in_ok-new-in-Item.ensures ∙ ap (λ i. conjoined (length i) (i ∷ [])) c.new-item.ensures ∙ conjoined_alone op place d rows c.requires.comparison
     ∙ sym (map_map told (item_at place) rows) ∙ ap (λ r. map told (rows_view r)) (sym c.in-Item.is) in
     compared_with op ts c.args.count (rows_view c.args.lhs.now) d c.requires.comparison c.requires.left ∙ ap Ok (sym alone)
 

@@ -7,8 +7,8 @@ use Rattle.vx_eval.proofs.trees.evaluate.Goals as goal
 
 pub one-requires : goal.one-requires
 one-requires c =
-    let many = as_many (bounds_of c.from_ref.result.now) (values_of c.args.batch.now.value.items) c.in_ok-columns.columns.items c.in_ok-columns.ensures in
+    let many = as_many (bounds_of c.from_ref.result.now) (values_of c.args.batch.now) c.in_ok-columns.columns.items c.in_ok-columns.ensures in
     omega (arith, many, ap (λ bs. length (node_types (bounds_of bs))) c.from_ref.ensures.value)
 
 pub returns : goal.returns
-returns c = alone_given c.args.b.now c.from_ref.result.now (values_of c.args.batch.now.value.items) c.in_ok-columns.columns.items c.one.result c.from_ref.ensures.value c.in_ok-columns.ensures c.one.ensures
+returns c = alone_given c.args.b.now c.from_ref.result.now (values_of c.args.batch.now) c.in_ok-columns.columns.items c.one.result c.from_ref.ensures.value c.in_ok-columns.ensures c.one.ensures

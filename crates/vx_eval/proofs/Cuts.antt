@@ -1,0 +1,210 @@
+-- Batches that are cut in two, under trees in which no node looks across rows.
+use Rattle.std.proofs.Common.{◌≡◌, ◌∙◌, ◌≤◌, ◌<◌, ℕ, zero, suc, ◌+◌, List, [], ◌∷◌, ◌++◌, append_assoc, map, length, refl, sym, ap, subst, arith, Option, Some, None, Result, Ok, Err, Bool, true, false, take, drop}
+use Rattle.std.specs.Prelude.{not, cond, position, nat_lt, ◌||◌}
+use Rattle.std.specs.List.{between, list_any, position_or_len, prefix_len}
+use Rattle.std.specs.Option.{option_or, option_map}
+use Rattle.std.proofs.lemmas.Bool.{or_parts, or_from, ltb-false, le-ltb}
+use Rattle.std.proofs.lemmas.List.{map-append, take_all, take-append-drop, append_cancel_right}
+use Rattle.std.proofs.lemmas.List.Edits.{split_between}
+use Rattle.std.proofs.lemmas.List.Folds.{list_any-append}
+use Rattle.std.proofs.lemmas.Cmp.{int_cmp_total, nat_list_cmp_total}
+use Rattle.std.specs.declared.cmp.Ordering.{Ordering}
+use Rattle.std.specs.declared.cmp.Ordering.TheVariants.{Less, Equal, Greater}
+use Rattle.std.specs.Ordering.{is_eq, ordering_reverse}
+use Rattle.vx_dtype.specs.declared.error.VortexError.{VortexError}
+use Rattle.vx_dtype.specs.declared.error.VortexError.TheVariants.{AddOverflow, CastNull, BadFill}
+use Rattle.vx_value.specs.Types.{LogicalType, Datum, null, bool, int, utf8, bytes, list_of, struct_of, is_null_datum}
+use Rattle.vx_fn.specs.Faults.{node_fault, overflows, misfits, fill_of, is_bad_fill, is_fillable, some_differ, differs, when}
+use Rattle.vx_fn.specs.Functions.{Function, Operation, binary, adds, cast, fill_null, literal}
+use Rattle.vx_tree.specs.declared.bound.BoundExpression.{BoundExpression}
+use Rattle.vx_tree.specs.Views.{bounds_of}
+use Rattle.vx_tree.specs.Faults.{first_fault, each_fault}
+use Rattle.vx_tree.specs.Meaning.{value, values}
+use Rattle.vx_tree.specs.Trees.{BoundTree, scope, node, BoundTrees, no_bound, bound, node_types}
+use Rattle.vx_tree.proofs.Trees.{or_none}
+use Rattle.vx_eval.specs.Across.{is_literal, is_across, looks_across, some_across}
+use Rattle.vx_value.specs.declared.value.Value.{Value}
+use Rattle.vx_value.specs.Views.{value_of}
+use Rattle.vx_eval.specs.Columns.{values_of, unless_fault}
+use Rattle.vx_eval.specs.Evaluation.{tree_answer}
+
+-- ---- fills
+
+pub not_two : (f : Function) (bs : List BoundExpression) → f ≡ fill_null → (length bs ≡ 2 → ⊥) → true ≡ is_across f (bounds_of bs)
+not_two f [] is apart = rw is refl
+not_two f (a ∷ []) is apart = rw is refl
+not_two f (a ∷ b ∷ []) is apart = absurd (apart refl)
+not_two f (a ∷ b ∷ d ∷ bs) is apart = rw is refl
+
+-- ---- tests that no row passes
+
+cond_none : {A : Type 0} (b : Bool) (x : A) → cond b (Some x) None ≡ None → b ≡ false
+cond_none true x e = cc
+cond_none false x e = refl
+
+passed_over : {A : Type 0} (p : A → Bool) (xs ys : List A) → length xs ≤ position_or_len p xs → length ys ≤ position_or_len p ys → length (xs ++ ys) ≤ position_or_len p (xs ++ ys)
+passed_over p [] ys h k = k
+passed_over p (x ∷ xs) ys h k = go (p x) (λ shorter. passed_over p xs ys shorter k) h
+  where
+    go : (b : Bool) → (length xs ≤ position_or_len p xs → length (xs ++ ys) ≤ position_or_len p (xs ++ ys)) → length (x ∷ xs) ≤ cond (not b) (1 + prefix_len (λ y. not (p y)) xs) 0 →
+        length (x ∷ (xs ++ ys)) ≤ cond (not b) (1 + prefix_len (λ y. not (p y)) (xs ++ ys)) 0
+    go true rest h = absurd (omega arith)
+    go false rest h =
+        let shorter : length xs ≤ position_or_len p xs = omega arith in
+        let longer : length (xs ++ ys) ≤ position_or_len p (xs ++ ys) = rest shorter in
+        omega arith
+
+no_position : {A : Type 0} (p : A → Bool) (xs ys : List A) → position p xs ≡ None → position p ys ≡ None → position p (xs ++ ys) ≡ None
+no_position p xs ys e f =
+    let first : length xs ≤ position_or_len p xs = ltb-false _ _ (cond_none _ _ e) in
+    let second : length ys ≤ position_or_len p ys = ltb-false _ _ (cond_none _ _ f) in
+    rw (le-ltb _ _ (passed_over p xs ys first second)) refl
+
+-- ---- the faults of one node
+
+none_mapped : {A B : Type 0} (g : A → B) (o : Option A) → option_map g o ≡ None → o ≡ None
+none_mapped g None e = refl
+none_mapped g (Some a) e = cc
+
+no_row_faults : {A : Type 0} (p : A → Bool) (fault : ℕ → VortexError) (xs ys : List A) → option_map fault (position p xs) ≡ None → option_map fault (position p ys) ≡ None → option_map fault (position p (xs ++ ys)) ≡ None
+no_row_faults p fault xs ys e f = ap (option_map fault) (no_position p xs ys (none_mapped fault _ e) (none_mapped fault _ f))
+
+-- ---- a fill by a literal
+
+turned_equal : (o : Ordering) → o ≡ ordering_reverse o → not (is_eq o) ≡ false
+turned_equal Less e = cc
+turned_equal Equal e = refl
+turned_equal Greater e = cc
+
+order_equal : (v : Datum) → differs v v ≡ false
+order_equal null = refl
+order_equal (bool true) = refl
+order_equal (bool false) = refl
+order_equal (int i) = turned_equal _ (int_cmp_total.antisymm i i)
+order_equal (utf8 t) = turned_equal _ (nat_list_cmp_total.antisymm t t)
+order_equal (bytes t) = turned_equal _ (nat_list_cmp_total.antisymm t t)
+order_equal (list_of vs) = refl
+order_equal (struct_of vs) = refl
+
+none_differ_from : (c : Datum) (batch : List Datum) → list_any (differs c) (map (λ (v : Datum). c) batch) ≡ false
+none_differ_from c [] = refl
+none_differ_from c (v ∷ batch) = or_from _ _ (order_equal c) (none_differ_from c batch)
+
+none_differ : (c : Datum) (batch : List Datum) → some_differ (map (λ (v : Datum). c) batch) ≡ false
+none_differ c [] = refl
+none_differ c (v ∷ batch) = none_differ_from c batch
+
+when_none : (b : Bool) (fault : VortexError) → when b fault ≡ None → b ≡ false
+when_none true fault e = cc
+when_none false fault e = refl
+
+-- the fills of rows of an input and a literal
+filled_by : (a : BoundTree) (u w : LogicalType) (v : Datum) (cs : BoundTrees) (batch : List Datum) →
+    map fill_of (map (values (bound a (bound (node u (literal w v) cs) no_bound))) batch) ≡ map (λ (x : Datum). v) batch
+filled_by a u w v cs [] = refl
+filled_by a u w v cs (x ∷ batch) = ap (λ l. v ∷ l) (filled_by a u w v cs batch)
+
+no_bad_fill : (ts : List LogicalType) (v : Datum) (xs ys : List Datum) → is_bad_fill ts (map (λ (x : Datum). v) xs) ≡ false → is_bad_fill ts (map (λ (x : Datum). v) ys) ≡ false → is_bad_fill ts (map (λ (x : Datum). v) (xs ++ ys)) ≡ false
+no_bad_fill ts v xs ys e f =
+    let before = or_parts _ _ e in
+    let filled_before = or_parts _ _ before.0 in
+    let null_behind = or_parts _ _ (or_parts _ _ f).0 in
+    let no_null : list_any is_null_datum (map (λ (x : Datum). v) (xs ++ ys)) ≡ false =
+    ap (list_any is_null_datum) (map-append (λ (x : Datum). v) xs ys) ∙ list_any-append is_null_datum (map (λ (x : Datum). v) xs) (map (λ (x : Datum). v) ys) ∙ or_from _ _ filled_before.1 null_behind.1 in
+    or_from _ _ (or_from _ _ filled_before.0 no_null) (none_differ v (xs ++ ys))
+
+-- ---- the faults of a tree
+
+never : {P : Type 0} → true ≡ false → P
+never e = cc
+
+node_cut : (f : Function) (bs : BoundTrees) (ts : List LogicalType) (xs ys : List Datum) → is_across f bs ≡ false →
+    node_fault f ts (map (values bs) xs) ≡ None → node_fault f ts (map (values bs) ys) ≡ None → node_fault f ts (map (values bs) (xs ++ ys)) ≡ None
+node_cut (binary adds) bs ts xs ys apart e f = ap (node_fault (binary adds) ts) (map-append (values bs) xs ys) ∙ no_row_faults (overflows ts) AddOverflow (map (values bs) xs) (map (values bs) ys) e f
+node_cut (cast t) bs ts xs ys apart e f = ap (node_fault (cast t) ts) (map-append (values bs) xs ys) ∙ no_row_faults (misfits t) CastNull (map (values bs) xs) (map (values bs) ys) e f
+node_cut fill_null (bound a (bound (node u (literal w v) cs) no_bound)) ts xs ys apart e f =
+    let filled = filled_by a u w v cs in
+    let quiet = λ (batch : List Datum) (h : when (is_bad_fill ts (map fill_of (map (values (bound a (bound (node u (literal w v) cs) no_bound))) batch))) BadFill ≡ None). ap (is_bad_fill ts) (sym (filled batch)) ∙ when_none _ BadFill h in
+    ap (λ b. when b BadFill) (ap (is_bad_fill ts) (filled (xs ++ ys)) ∙ no_bad_fill ts v xs ys (quiet xs e) (quiet ys f))
+node_cut fill_null (bound a (bound (node u _ cs) no_bound)) ts xs ys apart e f = never apart
+node_cut fill_null (bound a (bound (scope u) no_bound)) ts xs ys apart e f = never apart
+node_cut fill_null (bound a (bound b (bound d bs))) ts xs ys apart e f = never apart
+node_cut fill_null (bound a no_bound) ts xs ys apart e f = never apart
+node_cut fill_null no_bound ts xs ys apart e f = never apart
+node_cut _ bs ts xs ys apart e f = refl
+
+none_or : {A : Type 0} (o p : Option A) → o ≡ None → p ≡ None → option_or o p ≡ None
+none_or o p e f = rw (e, f) refl
+
+mutual
+  fault_cut : (b : BoundTree) (xs ys : List Datum) → looks_across b ≡ false → first_fault b xs ≡ None → first_fault b ys ≡ None → first_fault b (xs ++ ys) ≡ None
+  fault_cut (scope t) xs ys apart e f = refl
+  fault_cut (node t f bs) xs ys apart e g =
+      let alone = or_parts _ _ apart in
+      let before = or_none _ _ e in
+      let behind = or_none _ _ g in
+      none_or _ _ (each_cut bs xs ys alone.1 before.0 behind.0) (node_cut f bs (node_types bs) xs ys alone.0 before.1 behind.1)
+
+  each_cut : (bs : BoundTrees) (xs ys : List Datum) → some_across bs ≡ false → each_fault bs xs ≡ None → each_fault bs ys ≡ None → each_fault bs (xs ++ ys) ≡ None
+  each_cut no_bound xs ys apart e f = refl
+  each_cut (bound b bs) xs ys apart e f =
+      let alone = or_parts _ _ apart in
+      let before = or_none _ _ e in
+      let behind = or_none _ _ f in
+      none_or _ _ (fault_cut b xs ys alone.0 before.0 behind.0) (each_cut bs xs ys alone.1 before.1 behind.1)
+
+-- ---- the answers of a tree
+
+-- what an answer with rows says
+record Answered (b : BoundTree) (batch out : List Datum) : Type 0 where
+  quiet : first_fault b batch ≡ None
+  are : map (value b) batch ≡ out
+
+answered : (b : BoundTree) (batch out : List Datum) → tree_answer b batch ≡ Ok out → Answered b batch out
+answered b batch out e = go (first_fault b batch) refl e
+  where
+    go : (o : Option VortexError) → first_fault b batch ≡ o → unless_fault o (map (value b) batch) ≡ Ok out → Answered b batch out
+    go None q e = record { quiet = q; are = cc }
+    go (Some fault) q e = cc
+
+pub answer_cut : (b : BoundTree) (xs ys before behind : List Datum) → looks_across b ≡ false → tree_answer b xs ≡ Ok before → tree_answer b ys ≡ Ok behind → tree_answer b (xs ++ ys) ≡ Ok (before ++ behind)
+answer_cut b xs ys before behind apart e f =
+    let x = answered b xs before e in
+    let y = answered b ys behind f in
+    ap (λ o. unless_fault o (map (value b) (xs ++ ys))) (fault_cut b xs ys apart x.quiet y.quiet)
+    ∙ ap Ok (map-append (value b) xs ys ∙ ap (λ l. l ++ map (value b) ys) x.are ∙ ap (λ l. before ++ l) y.are)
+
+-- ---- blocks, one after another
+
+-- what a tree gives over the first n rows, if there are any
+pub record Told (b : BoundTree) (rows : List Value) (n : ℕ) (made : List Value) : Type 0 where
+  pub within : n ≤ length rows
+  pub none : n ≡ 0 → made ≡ []
+  pub answer : 0 < n → tree_answer b (values_of (take n rows)) ≡ Ok (values_of made)
+
+pub told_none : (b : BoundTree) (rows made : List Value) → made ≡ [] → Told b rows 0 made
+told_none b rows made is = record { within = omega arith; none = λ e. is; answer = λ lt. absurd (omega arith) }
+
+-- the rows before a place, and those from there on before another one
+cut_at : (rows : List Value) (from to : ℕ) → from ≤ to → take to rows ≡ take from rows ++ between from to rows
+cut_at rows from to in_order =
+    append_cancel_right (take to rows) (take from rows ++ between from to rows) (drop to rows)
+    (take-append-drop to rows ∙ split_between rows from to in_order ∙ sym (append_assoc (take from rows) (between from to rows) (drop to rows)))
+
+pub told_more : (b : BoundTree) (rows made new : List Value) (out : List Datum) (from to : ℕ) → looks_across b ≡ false → from < to → to ≤ length rows →
+    Told b rows from made → tree_answer b (values_of (between from to rows)) ≡ Ok out → values_of new ≡ values_of made ++ out → Told b rows to new
+told_more b rows made new out from to apart further within so_far here behind = record {
+  within = within;
+  none = λ e. absurd (omega arith);
+  answer = λ lt. ap (λ l. tree_answer b (values_of l)) (cut_at rows from to (omega arith)) ∙ go from refl ∙ ap Ok (sym behind);
+}
+  where
+    go : (n : ℕ) → from ≡ n → tree_answer b (values_of (take from rows ++ (between from to rows))) ≡ Ok (values_of made ++ out)
+    go zero e =
+        ap (λ k. tree_answer b (values_of (take k rows ++ (between from to rows)))) e ∙ here ∙ ap (λ l. Ok (values_of l ++ out)) (sym (so_far.none e))
+    go (suc n) e =
+        ap (tree_answer b) (map-append value_of (take from rows) (between from to rows)) ∙ answer_cut b (values_of (take from rows)) (values_of (between from to rows)) (values_of made) out apart (so_far.answer (omega arith)) here
+
+pub told_all : (b : BoundTree) (rows made : List Value) (n : ℕ) → 0 < length rows → length rows ≤ n → Told b rows n made → tree_answer b (values_of rows) ≡ Ok (values_of made)
+told_all b rows made n some ended so_far =
+    ap (λ l. tree_answer b (values_of l)) (sym (take_all n rows ended)) ∙ so_far.answer (omega arith)

@@ -1,7 +1,0 @@
-use Rattle.std.proofs.Common.{arith}
-use Rattle.vx_value.specs.Views.{value_of}
-use Rattle.vx_eval.proofs.Filled.{row_pushed}
-use Rattle.vx_eval.proofs.filling.collected.Goals as goal
-
-pub loop-i-preserved : goal.loop-i-preserved
-loop-i-preserved g c = λ h by. row_pushed value_of h _ _ _ _ (c.loop-i.invariant h by) c.in_ok-push.ensures.items (by _ _ (omega arith) c.in_ok-f.ensures)

@@ -1,0 +1,84 @@
+// Trees over a whole batch, a block of its rows after another where no node looks across rows.
+ghost use Rattle.std.specs.Prelude.{◌≡◌, ◌<◌, false, length, IfOk};
+ghost use Rattle.vx_dtype.specs.Answers.{Answers};
+ghost use Rattle.vx_value.specs.Fits.{IsBatch};
+ghost use Rattle.vx_tree.specs.Trees.{node_type, WellTyped, Over};
+ghost use Rattle.vx_tree.specs.Views.{bound_of};
+ghost use Rattle.vx_eval.specs.Across.{looks_across};
+ghost use Rattle.vx_eval.specs.Columns.{values_of};
+ghost use Rattle.vx_eval.specs.Evaluation.{tree_answer};
+
+use crate::across::looks_across;
+use crate::trees::evaluate;
+use std::alloc::Global;
+use std::rc::Rc;
+use vx_tree::BoundExpression;
+use vx_types::{Column, Value, VortexError, VortexResult};
+
+// How many rows go through the whole tree before the next ones: so few that what the nodes make of
+// them stays in the processor's cache.
+const BLOCK: usize = 1_024;
+
+/// The tree's value in each row of a batch of its scope's type, or the first fault. The scope's rows
+/// are shared. Refuses with `OutOfMemory` (1) too.
+pub fn evaluate_over(
+    alloc: Global,
+    batch: &Column,
+    b: &BoundExpression,
+) -> VortexResult<Rc<Vec<Value>>>
+    requires typed { WellTyped (bound_of b.now) }
+    requires over { Over (bound_of b.now) batch.now.type }
+    ensures answer { Answers (λ values. values_of values.value.items) result (tree_answer (bound_of b.now) batch.now.rows) }
+    ensures fit { IfOk result (λ values. IsBatch (node_type (bound_of b.now)) (values_of values.value.items)) }
+{
+    let rows = batch.shared_rows();
+    match b {
+        BoundExpression::Root { .. } => Ok(rows.clone()?),
+        BoundExpression::Scalar { .. } => {
+            let values = values_over(alloc, b, rows.as_slice())?;
+            Ok(Rc::new(alloc, values)?)
+        }
+    }
+}
+
+// The tree's value in each row, or the first fault. Of several blocks one may fault in a node, and a
+// later one in a node whose fault comes first: so where a block faults all rows are asked together.
+fn values_over(alloc: Global, b: &BoundExpression, rows: &[Value]) -> VortexResult<Vec<Value>>
+    requires { WellTyped (bound_of b.now) }
+    ensures { Answers (λ values. values_of values.items) result (tree_answer (bound_of b.now) (values_of rows.now)) }
+{
+    if rows.len() <= BLOCK || looks_across(b) {
+        return together(alloc, b, rows);
+    }
+    match by_blocks(alloc, b, rows) {
+        Ok(values) => Ok(values),
+        Err(VortexError::OutOfMemory) => Err(VortexError::OutOfMemory),
+        Err(_) => together(alloc, b, rows),
+    }
+}
+
+// The tree's value in each row, or the first fault, with all rows at once.
+fn together(alloc: Global, b: &BoundExpression, rows: &[Value]) -> VortexResult<Vec<Value>>
+    requires { WellTyped (bound_of b.now) }
+    ensures { Answers (λ values. values_of values.items) result (tree_answer (bound_of b.now) (values_of rows.now)) }
+{
+    evaluate(alloc, b, rows)?.into_values(alloc)
+}
+
+// The tree's value in each row where no block faults, each block let go before the next. Asks for
+// rows, since a node may fault over none.
+fn by_blocks(alloc: Global, b: &BoundExpression, rows: &[Value]) -> VortexResult<Vec<Value>>
+    requires typed { WellTyped (bound_of b.now) }
+    requires some { 0 < length rows.now }
+    requires apart { looks_across (bound_of b.now) ≡ false }
+    ensures { IfOk result (λ values. tree_answer (bound_of b.now) (values_of rows.now) ≡ Ok (values_of values.items)) }
+{
+    let mut values = Vec::with_capacity(alloc, rows.len())?;
+    let mut from = 0;
+    while from < rows.len() {
+        let to = from + BLOCK.min(rows.len() - from);
+        values = evaluate(alloc, b, &rows[from..to])?.put_behind(values)?;
+        from = to;
+    }
+    Ok(values)
+}
