@@ -7,7 +7,7 @@ use Rattle.vx_fn.specs.Functions.{Function, arity_of}
 use Rattle.vx_fn.specs.Texts.{node_sql, own_sql, call_sql, named_texts, pairs_sql}
 use Rattle.vx_tree.specs.Nodes.{function_at, children_of}
 use Rattle.vx_tree.specs.Texts.{sql, sqls, texts, pair_sql}
-use Rattle.vx_tree.specs.Trees.{Tree, call}
+use Rattle.vx_tree.specs.Trees.{Tree}
 use Rattle.vx_tree.specs.Views.{trees_from}
 use Rattle.vx_tree.proofs.Seen.{function_node}
 

@@ -6,7 +6,7 @@ use Rattle.vx_fn.specs.Functions.{Function}
 use Rattle.vx_fn.specs.Texts.{function_text}
 use Rattle.vx_tree.specs.Nodes.{function_at, children_of, count_of}
 use Rattle.vx_tree.specs.TreeTexts.{branch, bar, called, is_last, lines_below, child_lines, on_new_lines, text_behind}
-use Rattle.vx_tree.specs.Trees.{Tree, root, call, Trees, tree}
+use Rattle.vx_tree.specs.Trees.{Tree, call, Trees, tree}
 use Rattle.vx_tree.specs.Views.{trees_from}
 use Rattle.vx_tree.proofs.Seen.{function_node}
 
