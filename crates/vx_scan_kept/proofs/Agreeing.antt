@@ -5,24 +5,18 @@ use Rattle.std.specs.List.{list_any, filter_map, AllZip}
 use Rattle.std.specs.Option.{IsSomeAnd}
 use Rattle.std.specs.Str.{bytes_eq}
 use Rattle.std.proofs.lemmas.Bool.{and_parts, or_right}
-use Rattle.std.proofs.lemmas.Slice.Eq.{bytes_eq-Decides}
 use Rattle.vx_value.proofs.Fitting.{field_value-fits}
 use Rattle.vx_value.specs.Fields.{field_type, field_value}
 use Rattle.vx_value.specs.Fits.{Fits, fields_fit, IsBatch}
 use Rattle.vx_value.specs.Paths.{Path, is_member, equal_path}
 use Rattle.vx_value.specs.Types.{Name, LogicalType, ty, struct, Fields, no_field, field, Datum, null, struct_of, Data, no_datum, datum}
-use Rattle.vx_fn.specs.Faults.{IsIn}
+use Rattle.vx_dtype.specs.Lists.{IsIn}
+use Rattle.vx_dtype.proofs.NameTests.{same_name, own_name}
 use Rattle.vx_rewrite_paths.specs.Agreement.{Agree, AgreeAlong, RowsAgree}
 use Rattle.vx_rewrite_paths.specs.Leading.{Leads, EachLeads}
 use Rattle.vx_rewrite_paths.proofs.Leading.{agree-refl}
 use Rattle.vx_scan_kept.specs.Defaults.{default_of}
 use Rattle.vx_scan_kept.specs.Kept.{rest_behind, rests, others, at_paths, kept, fields_kept}
-
-same_name : (a b : Name) → bytes_eq a b ≡ true → a ≡ b
-same_name a b e = (bytes_eq-Decides a b).0 e
-
-own_name : (a : Name) → bytes_eq a a ≡ true
-own_name a = (bytes_eq-Decides a a).1 refl
 
 -- ---- paths behind a name
 

@@ -1,6 +1,7 @@
 -- Paths that aren't lost lead to a place.
 use Rattle.std.proofs.Common.{◌≡◌, List, [], ◌∷◌, Option, Some, None, Ok, refl}
-use Rattle.std.specs.Option.{IsSomeAnd, option_or}
+use Rattle.std.specs.Option.{IsSomeAnd}
+use Rattle.vx_tree.proofs.Trees.{or_none}
 use Rattle.vx_dtype.specs.declared.error.VortexError.{VortexError}
 use Rattle.vx_value.specs.Fields.{field_type}
 use Rattle.vx_value.specs.Paths.{Path}
@@ -17,13 +18,9 @@ found-leads (a ∷ path) (ty (struct fs) n) e = go (field_type a fs) e (λ t. fo
     go (Some t) e k = k t e
 found-leads (a ∷ path) _ e = cc
 
-both_none : {A : Type 0} (o p : Option A) → option_or o p ≡ None → (o ≡ None) × (p ≡ None)
-both_none None p e = (refl, e)
-both_none (Some x) p e = cc
-
 pub all_found-lead : (paths : List Path) (t : LogicalType) → first_lost paths t ≡ None → EachLeads paths t
 all_found-lead [] t e = tt
-all_found-lead (path ∷ paths) t e = let h = both_none (lost path t) (first_lost paths t) e in (found-leads path t h.0, all_found-lead paths t h.1)
+all_found-lead (path ∷ paths) t e = let h = or_none (lost path t) (first_lost paths t) e in (found-leads path t h.0, all_found-lead paths t h.1)
 
 -- what isn't refused isn't lost
 pub unrefused : {A : Type 0} (o : Option VortexError) (answer x : A) → unless_lost o answer ≡ Ok x → o ≡ None

@@ -4,6 +4,7 @@ use Rattle.std.specs.Borrow.{Bor}
 use Rattle.std.proofs.lemmas.Bool.{cases_lt, eqb-true}
 use Rattle.std.proofs.lemmas.List.{append-nil}
 use Rattle.vx_dtype.specs.declared.dtype.DType.{DType}
+use Rattle.vx_dtype.proofs.Lists.{in_front, in_front-push, in_front-all}
 use Rattle.vx_dtype.proofs.Pairs.{fields_next, fields_step, fields_end}
 use Rattle.vx_value.specs.Fields.{field_count}
 use Rattle.vx_value.specs.Paths.{Path, path_of, is_member, equal_path}
@@ -18,31 +19,31 @@ use Rattle.vx_scan_kept.specs.declared.wanted.Wanted.{Wanted}
 
 -- ---- values in front of others
 
+abbrev put_value : Value → Data → Data
+put_value v rest = datum (value_of v) rest
+
 abbrev pub behind : List Value → Data → Data
-behind [] rest = rest
-behind (v ∷ vs) rest = datum (value_of v) (behind vs rest)
+behind = in_front put_value
 
 behind_push : (made : List Value) (v : Value) (rest : Data) → behind (made ++ v ∷ []) rest ≡ behind made (datum (value_of v) rest)
-behind_push [] v rest = refl
-behind_push (x ∷ made) v rest = ap (datum (value_of x)) (behind_push made v rest)
+behind_push made v rest = in_front-push put_value made v rest
 
 behind_nothing : (made : List Value) → behind made no_datum ≡ data_view made
-behind_nothing [] = refl
-behind_nothing (x ∷ made) = ap (datum (value_of x)) (behind_nothing made)
+behind_nothing made = in_front-all put_value no_datum data_view refl (λ x xs. refl) made
 
 -- ---- and wants
 
+abbrev put_want : Wanted → Wants → Wants
+put_want w rest = want (wanted_of w) rest
+
 abbrev pub behind_wants : List Wanted → Wants → Wants
-behind_wants [] rest = rest
-behind_wants (w ∷ ws) rest = want (wanted_of w) (behind_wants ws rest)
+behind_wants = in_front put_want
 
 wants_push : (made : List Wanted) (w : Wanted) (rest : Wants) → behind_wants (made ++ w ∷ []) rest ≡ behind_wants made (want (wanted_of w) rest)
-wants_push [] w rest = refl
-wants_push (x ∷ made) w rest = ap (want (wanted_of x)) (wants_push made w rest)
+wants_push made w rest = in_front-push put_want made w rest
 
 wants_nothing : (made : List Wanted) → behind_wants made no_want ≡ wanted_view made
-wants_nothing [] = refl
-wants_nothing (x ∷ made) = ap (want (wanted_of x)) (wants_nothing made)
+wants_nothing made = in_front-all put_want no_want wanted_view refl (λ x xs. refl) made
 
 -- ---- defaults of fields
 

@@ -1,7 +1,7 @@
 -- Which paths a reader allows.
 use Rattle.std.specs.Prelude.{List}
 use Rattle.vx_value.specs.Paths.{Path}
-use Rattle.vx_fn.specs.Faults.{IsIn}
+use Rattle.vx_dtype.specs.Lists.{IsIn}
 
 -- each of the first paths is one of the second
 abbrev pub AreAmong : List Path → List Path → Type 0
