@@ -37,7 +37,7 @@ module _ {X : Type 0} (ns : List NumberedNode) (i : ℕ) (n : NumberedNode) (wit
       (λ j x has. here (suc j) x has, λ x is. here 0 x is)
 
   -- a node that has something has an entry
-  pub entered-some : {S : Type 0} (k : ExactBoundExpr) (x : X) (old new : HashMap ExactBoundExpr X S) (all : Bool)
+  entered-some : {S : Type 0} (k : ExactBoundExpr) (x : X) (old new : HashMap ExactBoundExpr X S) (all : Bool)
       → entry_at (key_of k) new ≡ cond (equal_bound (node_tree (get_or ns i n)) (key_of k)) (Some x) (entry_at (key_of k) old)
       → (has_some (key_of k) (drop i ns) (Some x ∷ rest) || is_some (entry_at (key_of k) old)) ≡ all → (has_some (key_of k) (drop (i + 1) ns) rest || is_some (entry_at (key_of k) new)) ≡ all
   entered-some k x old new all put so_far =
@@ -54,7 +54,7 @@ module _ {X : Type 0} (ns : List NumberedNode) (i : ℕ) (n : NumberedNode) (wit
       turn false others o = refl
 
   -- a node that has nothing has none
-  pub entered-none : {S : Type 0} (k : ExactBoundExpr) (map : HashMap ExactBoundExpr X S) (all : Bool)
+  entered-none : {S : Type 0} (k : ExactBoundExpr) (map : HashMap ExactBoundExpr X S) (all : Bool)
       → (has_some (key_of k) (drop i ns) (None ∷ rest) || is_some (entry_at (key_of k) map)) ≡ all → (has_some (key_of k) (drop (i + 1) ns) rest || is_some (entry_at (key_of k) map)) ≡ all
   entered-none k map all so_far =
       let same = equal_bound (key_of k) (node_tree (get_or ns i n)) in
@@ -64,3 +64,10 @@ module _ {X : Type 0} (ns : List NumberedNode) (i : ℕ) (n : NumberedNode) (wit
       nothing : (same others : Bool) → others ≡ ((same && false) || others)
       nothing true others = refl
       nothing false others = refl
+
+  -- so a node has an entry if it has something
+  pub entered-if : {S : Type 0} (k : ExactBoundExpr) (o : Option X) (old new : HashMap ExactBoundExpr X S) (all : Bool)
+      → entry_at (key_of k) new ≡ cond (is_some o && equal_bound (node_tree (get_or ns i n)) (key_of k)) o (entry_at (key_of k) old)
+      → (has_some (key_of k) (drop i ns) (o ∷ rest) || is_some (entry_at (key_of k) old)) ≡ all → (has_some (key_of k) (drop (i + 1) ns) rest || is_some (entry_at (key_of k) new)) ≡ all
+  entered-if k (Some x) old new all put so_far = entered-some k x old new all put so_far
+  entered-if k None old new all put so_far = ap (λ o. has_some (key_of k) (drop (i + 1) ns) rest || is_some o) put ∙ entered-none k old all so_far

@@ -1,6 +1,7 @@
 pub mod Subtrees
 pub mod Numbering
 pub mod OneNumber
+pub mod Digesting
 pub mod ByNumber
 pub mod Looking
 pub mod Uniting

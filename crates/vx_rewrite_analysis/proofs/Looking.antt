@@ -1,5 +1,5 @@
 -- A walk that keeps the numbers that it still has to look at, the next one first.
-use Rattle.std.proofs.Common.{◌≡◌, ℕ, zero, suc, ◌<◌, ◌≤◌, ◌+◌, get_or, arith, List, [], ◌∷◌, ◌++◌, length, reverse, Bool, true, false, ◌||◌, refl, sym, ap, subst, inl, inr, ◌∙◌, true≢false}
+use Rattle.std.proofs.Common.{◌≡◌, ℕ, suc, ◌<◌, ◌+◌, get_or, arith, List, [], ◌∷◌, ◌++◌, length, reverse, Bool, true, false, ◌||◌, refl, sym, ap, subst, inl, inr, ◌∙◌, true≢false}
 use Rattle.std.specs.Prelude.{◌⊎◌, All, Option, None, Some, is_some, not, ◌&&◌, Result, IsOkAnd, if◌then◌else◌}
 use Rattle.std.specs.Cmp.{IsEquivalence}
 use Rattle.std.specs.Option.{option_or}

@@ -1,5 +1,5 @@
 -- Nodes that are numbered by their place in a list.
-use Rattle.std.proofs.Common.{◌≡◌, ℕ, zero, suc, ◌+◌, ◌<◌, ◌≤◌, get_or, drop, arith, List, [], ◌∷◌, ◌++◌, length, map, Bool, true, false, ◌&&◌, ◌||◌, refl, sym, ap, subst, inl, inr, ◌∙◌, length-append}
+use Rattle.std.proofs.Common.{◌≡◌, ℕ, zero, suc, ◌+◌, ◌<◌, ◌≤◌, get_or, drop, arith, List, [], ◌∷◌, ◌++◌, length, map, Bool, true, false, ◌||◌, refl, sym, ap, subst, inl, inr, ◌∙◌, length-append}
 use Rattle.std.specs.Prelude.{◌⊎◌, All, Some, if◌then◌else◌, nat_eq, slice_get}
 use Rattle.std.specs.Cmp.{first_so, second_so}
 use Rattle.std.specs.Cmp.Lexicographic.{pointwise, same_text}
@@ -8,7 +8,6 @@ use Rattle.std.proofs.lemmas.List.{at_drop_more, at_drop_all, append_assoc, map-
 use Rattle.std.proofs.lemmas.List.Elements.{All-append}
 use Rattle.std.proofs.lemmas.Option.{slice_get_within, slice_get_read}
 use Rattle.indexmap.specs.IndexSet.{insert_key}
-use Rattle.vx_tree.specs.Digests.{digest_of}
 use Rattle.vx_tree.specs.Equality.{equal_bound, equal_bound-Decides}
 use Rattle.vx_tree.specs.Nodes.{bound_children_of}
 use Rattle.vx_tree.specs.Trees.{BoundTree, scope, node, no_bound, bound}
@@ -123,10 +122,10 @@ pub number-insert : (ns : List NumberedNode) (m k : NumberedNode) (r : ℕ) → 
 number-insert ns m k r was below children within got same =
     let all = insert_key equal_numbered ns m in
     let stored = children-insert ns m was below children r k got in
-    let others : Bool = equal_bound (head_of (node_tree m)) (head_of (node_tree k)) && pointwise nat_eq m.children.items k.children.items in
-    let rest : others ≡ true = second_so (nat_eq (digest_of (node_tree m)) (digest_of (node_tree k))) others same in
-    let like : equal_bound (head_of (node_tree m)) (head_of (node_tree k)) ≡ true = first_so _ (pointwise nat_eq m.children.items k.children.items) rest in
-    let numbers : m.children.items ≡ k.children.items = same_text m.children.items k.children.items (sym (second_so (equal_bound (head_of (node_tree m)) (head_of (node_tree k))) _ rest)) in
+    let lists : Bool = pointwise nat_eq m.children.items k.children.items in
+    let heads : Bool = equal_bound (head_of (node_tree m)) (head_of (node_tree k)) in
+    let like : heads ≡ true = second_so lists heads same in
+    let numbers : m.children.items ≡ k.children.items = same_text m.children.items k.children.items (sym (first_so lists heads same)) in
     let kept : trees_at all m.children.items ≡ trees_at ns m.children.items = trees-kept ns all (keeps-insert ns m) m.children.items below in
     let tree : node_tree m ≡ node_tree k = like-tree (node_tree m) (node_tree k) like (sym children ∙ sym kept ∙ ap (trees_at all) numbers ∙ stored.0) in
     (within, tree-got all r k got ∙ sym tree)

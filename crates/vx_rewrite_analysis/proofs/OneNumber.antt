@@ -1,12 +1,10 @@
 -- No tree has two numbers.
 use Rattle.std.proofs.Common.{◌≡◌, ℕ, zero, suc, ◌+◌, ◌<◌, get_or, arith, List, [], ◌∷◌, ◌++◌, length, Bool, true, false, refl, sym, ap, inl, inr, ◌∙◌, true≢false, length-append}
 use Rattle.std.specs.Prelude.{◌⊎◌, All, Some, if◌then◌else◌, nat_eq, slice_get}
-use Rattle.std.specs.Cmp.{nat_eq_equiv}
 use Rattle.std.specs.Cmp.Lexicographic.{pointwise, nat_list_eq_equiv}
 use Rattle.std.specs.List.{list_any}
 use Rattle.std.proofs.lemmas.Option.{slice_get-get_or}
 use Rattle.indexmap.specs.IndexSet.{insert_key}
-use Rattle.vx_tree.specs.Digests.{digest_of}
 use Rattle.vx_tree.specs.Equality.{equal_bound, equal_bound_equiv}
 use Rattle.vx_tree.specs.Nodes.{bound_children_of}
 use Rattle.vx_tree.specs.Trees.{BoundTree, BoundTrees, bound}
@@ -55,13 +53,11 @@ found ns m j was below children within same =
     let stored = was.0 j n got in
     let numbers : m.children.items ≡ n.children.items =
     same-numbers ns was.1 m.children.items n.children.items below (λ i d h. omega (arith, stored.1 i d h, within)) (children ∙ ap bound_children_of (sym tree) ∙ sym stored.0) in
-    let digests : nat_eq (digest_of (node_tree m)) (digest_of (node_tree n)) ≡ true =
-    ap (λ t. nat_eq (digest_of (node_tree m)) (digest_of t)) tree ∙ nat_eq_equiv.refl (digest_of (node_tree m)) in
     let heads : equal_bound (head_of (node_tree m)) (head_of (node_tree n)) ≡ true =
     ap (λ t. equal_bound (head_of (node_tree m)) (head_of t)) tree ∙ equal_bound_equiv.refl (head_of (node_tree m)) in
     let lists : pointwise nat_eq m.children.items n.children.items ≡ true =
     ap (pointwise nat_eq m.children.items) (sym numbers) ∙ nat_list_eq_equiv.refl m.children.items in
-    any-at (equal_numbered m) ns j n got (and_true _ _ digests (and_true _ _ heads lists))
+    any-at (equal_numbered m) ns j n got (and_true _ _ lists heads)
 
 last-append : (ns : List NumberedNode) (m : NumberedNode) (i : ℕ) → i ≡ length ns → tree_at (ns ++ m ∷ []) i ≡ node_tree m
 last-append [] m zero e = refl
@@ -69,7 +65,7 @@ last-append [] m (suc i) e = absurd (omega (arith, e))
 last-append (n ∷ ns) m zero e = absurd (omega (arith, e))
 last-append (n ∷ ns) m (suc i) e = last-append ns m i (omega (arith, e))
 
-before-or-last : (n i : ℕ) → i < n + 1 → (i < n) ⊎ (i ≡ n)
+pub before-or-last : (n i : ℕ) → i < n + 1 → (i < n) ⊎ (i ≡ n)
 before-or-last zero zero h = inr refl
 before-or-last zero (suc i) h = absurd (omega (arith, h))
 before-or-last (suc n) zero h = inl (omega arith)

@@ -186,6 +186,13 @@ module _ {X S : Type 0} (P : BoundTree → X → Type 0) where
       cases true e = subst (λ n. P n x) ((equal_bound-Decides b (key_of k)).0 e) here
       cases false e = was k
 
+  -- and of one more, if it is one
+  pub entries-if : (b : BoundTree) (o : Option X) (old new : HashMap ExactBoundExpr X S) → ((x : X) → o ≡ Some x → P b x)
+      → ((k : ExactBoundExpr) → entry_at (key_of k) new ≡ cond (is_some o && equal_bound b (key_of k)) o (entry_at (key_of k) old))
+      → ((k : ExactBoundExpr) → IfSome (entry_at (key_of k) old) (P (key_of k))) → (k : ExactBoundExpr) → IfSome (entry_at (key_of k) new) (P (key_of k))
+  entries-if b (Some x) old new here put was = entries-with b x old new (here x refl) put was
+  entries-if b None old new here put was = λ k. subst (λ e. IfSome e (P (key_of k))) (sym (put k)) (was k)
+
   -- what is said of each entry is said of one that is found
   pub entry-found : (j : ExactBoundExpr) (m : HashMap ExactBoundExpr X S) (r : Option (Bor X)) (x : Bor X) → option_copied r ≡ entry_at (key_of j) m → r ≡ Some x
       → ((k : ExactBoundExpr) → IfSome (entry_at (key_of k) m) (P (key_of k))) → P (key_of j) x.now

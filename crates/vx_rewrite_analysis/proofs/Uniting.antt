@@ -1,6 +1,6 @@
 -- The sets of annotations by number, from the lowest up.
 use Rattle.std.proofs.Common.{◌≡◌, ℕ, zero, suc, ◌+◌, ◌<◌, ◌≤◌, drop, get_or, arith, List, [], ◌∷◌, ◌++◌, length, Bool, true, false, ◌||◌, refl, sym, ap, subst, inl, inr, ◌∙◌, length-append}
-use Rattle.std.specs.Prelude.{◌⊎◌, All, Option, None, Some, is_some, if◌then◌else◌, not, ◌&&◌, Vec}
+use Rattle.std.specs.Prelude.{◌⊎◌, All, Option, None, Some, is_some, if◌then◌else◌, not, ◌&&◌}
 use Rattle.std.specs.Cmp.{IsEquivalence}
 use Rattle.std.specs.HashSet.{HashSet, contains}
 use Rattle.std.specs.List.{list_any}
@@ -8,7 +8,7 @@ use Rattle.std.proofs.lemmas.List.{at_drop_more, at_drop_all}
 use Rattle.vx_tree.specs.Nodes.{bound_children_of}
 use Rattle.vx_tree.specs.Trees.{BoundTree}
 use Rattle.vx_rewrite_analysis.specs.Annotations.{is_some_item, answered, SameAnnotations, is_annotation, is_annotation_in, IsAnnotationsOf}
-use Rattle.vx_rewrite_analysis.specs.ByNumber.{has_some, has_annotation, HasEach, HasReached}
+use Rattle.vx_rewrite_analysis.specs.ByNumber.{has_annotation, HasEach, HasReached}
 use Rattle.vx_rewrite_analysis.specs.Numbers.{tree_at, trees_at, HasOneNumberEach}
 use Rattle.vx_rewrite_analysis.specs.Reached.{is_reached, is_reached_in}
 use Rattle.vx_rewrite_analysis.specs.declared.numbers.NumberedNode.{NumberedNode}

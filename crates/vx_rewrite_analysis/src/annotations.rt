@@ -13,7 +13,8 @@ ghost use Rattle.vx_rewrite_analysis.specs.Reached.{is_reached};
 ghost use Rattle.vx_rewrite_analysis.specs.Refusals.{SaysBy, first_refusal};
 
 use crate::Annotation;
-use crate::entries::put_at;
+use crate::entries::put_some;
+use crate::keys::next_key;
 use crate::numbers::{NumberedNode, number_of};
 use crate::reached::{OwnAnswers, own_answers};
 use indexmap::IndexSet;
@@ -58,7 +59,7 @@ type AnnotationSets<A> = Vec<Option<HashSet<A>>>;
 // children are there before its own.
 fn sets_of<A: Annotation + Drop>(
     alloc: Global,
-    nodes: &[NumberedNode],
+    nodes: &[NumberedNode<'_>],
     own: OwnAnswers<A>,
 ) -> VortexResult<AnnotationSets<A>>
     requires numbered { IsNumbered nodes.now }
@@ -85,7 +86,7 @@ fn sets_of<A: Annotation + Drop>(
 // The node's answers, or, where there are none, its children's annotations together.
 fn set_at<A: Annotation + Drop>(
     alloc: Global,
-    node: &NumberedNode,
+    node: &NumberedNode<'_>,
     answers: Vec<A>,
     sets: &[Option<HashSet<A>>],
 ) -> VortexResult<HashSet<A>>
@@ -110,20 +111,19 @@ fn set_at<A: Annotation + Drop>(
 // The annotations by the keys of their nodes.
 fn sets_by_key<A: Annotation + Drop>(
     alloc: Global,
-    nodes: &[NumberedNode],
+    nodes: &[NumberedNode<'_>],
     sets: AnnotationSets<A>,
 ) -> Result<BoundAnnotations<A>, AllocError>
-    requires { length sets.items ≡ length nodes.now }
+    requires numbered { IsNumbered nodes.now }
+    requires count { length sets.items ≡ length nodes.now }
     ensures nodes { IfOk result (λ m. (k : _) → is_some (entry_at (key_of k) m) ≡ has_some (key_of k) nodes.now sets.items) }
     ensures annotations { IfOk result (λ m. (answers : BoundTree → List A) → HasEach (IsAnnotationsOf A.eq answers) nodes.now sets.items → IsAnnotated A.eq answers m) }
 {
     let mut by_key = HashMap::with_capacity(alloc, nodes.len())?;
-    let mut number = 0;
+    let mut digests = Vec::with_capacity(alloc, nodes.len())?;
     for set in sets {
-        if let Some(set) = set {
-            put_at(&mut by_key, &nodes[number].key, set)?;
-        }
-        number += 1;
+        let key = next_key(alloc, nodes, &mut digests)?;
+        put_some(&mut by_key, key, set)?;
     }
     Ok(by_key)
 }

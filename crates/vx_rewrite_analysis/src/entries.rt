@@ -1,5 +1,5 @@
 // Entries of maps whose keys are bound trees, by the tree.
-ghost use Rattle.std.specs.Prelude.{◌≡◌, cond, Some, IfOk, OnOk};
+ghost use Rattle.std.specs.Prelude.{◌≡◌, ◌&&◌, cond, is_some, Some, IfOk, OnOk};
 ghost use Rattle.std.specs.Option.{option_copied};
 ghost use Rattle.vx_tree.specs.Equality.{equal_bound};
 ghost use Rattle.vx_tree.specs.Views.{bound_of};
@@ -36,11 +36,25 @@ pub(crate) fn put<X: Drop>(
 // Gives the map that entry at the key.
 pub(crate) fn put_at<X: Drop>(
     map: &mut HashMap<ExactBoundExpr, X>,
-    key: &ExactBoundExpr,
+    key: ExactBoundExpr,
     value: X,
 ) -> Result<(), AllocError>
-    ensures { OnOk result ((k : _) → entry_at (key_of k) map.new ≡ cond (equal_bound (key_of key.now) (key_of k)) (Some value) (entry_at (key_of k) map.old)) }
+    ensures { OnOk result ((k : _) → entry_at (key_of k) map.new ≡ cond (equal_bound (key_of key) (key_of k)) (Some value) (entry_at (key_of k) map.old)) }
 {
-    map.insert(key.clone()?, value)?;
+    map.insert(key, value)?;
     Ok(())
+}
+
+// Gives the map that entry at the key, if it is one.
+pub(crate) fn put_some<X: Drop>(
+    map: &mut HashMap<ExactBoundExpr, X>,
+    key: ExactBoundExpr,
+    value: Option<X>,
+) -> Result<(), AllocError>
+    ensures { OnOk result ((k : _) → entry_at (key_of k) map.new ≡ cond (is_some value && equal_bound (key_of key) (key_of k)) value (entry_at (key_of k) map.old)) }
+{
+    match value {
+        Some(value) => put_at(map, key, value),
+        None => Ok(()),
+    }
 }

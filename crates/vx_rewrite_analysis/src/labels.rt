@@ -10,6 +10,7 @@ ghost use Rattle.vx_rewrite_analysis.specs.NumberedLabels.{HasLabels};
 ghost use Rattle.vx_rewrite_analysis.specs.Labels.{label, AnswersBy, MergesBy, IsLabelled};
 
 use crate::entries::put_at;
+use crate::keys::next_key;
 use crate::numbers::{NumberedNode, number_of};
 use indexmap::IndexSet;
 use std::alloc::{AllocError, Global};
@@ -46,7 +47,7 @@ pub fn label_bound_tree<L: Drop, F: Fn(&BoundExpression) -> L + Drop, G: Fn(L, &
 // The labels of the nodes, in the order of their numbers.
 fn labels_of<L: Drop, F: Fn(&BoundExpression) -> L, G: Fn(L, &L) -> L>(
     alloc: Global,
-    nodes: &[NumberedNode],
+    nodes: &[NumberedNode<'_>],
     self_label: &F,
     merge_child: &G,
 ) -> Result<Vec<L>, AllocError>
@@ -67,7 +68,7 @@ fn labels_of<L: Drop, F: Fn(&BoundExpression) -> L, G: Fn(L, &L) -> L>(
 
 // The label of the node; those of its children, whose numbers are lower, are there.
 fn label_of<L, F: Fn(&BoundExpression) -> L, G: Fn(L, &L) -> L>(
-    nodes: &[NumberedNode],
+    nodes: &[NumberedNode<'_>],
     number: usize,
     labels: &[L],
     self_label: &F,
@@ -82,7 +83,7 @@ fn label_of<L, F: Fn(&BoundExpression) -> L, G: Fn(L, &L) -> L>(
         → result ≡ label own merge (tree_at nodes.now number) }
 {
     let node = &nodes[number];
-    let mut label = self_label(node.key.expr());
+    let mut label = self_label(node.tree);
     for child in node.children.as_slice() {
         label = merge_child(label, &labels[*child]);
     }
@@ -92,18 +93,19 @@ fn label_of<L, F: Fn(&BoundExpression) -> L, G: Fn(L, &L) -> L>(
 // The labels by the keys of their nodes.
 fn labels_by_key<L: Drop>(
     alloc: Global,
-    nodes: &[NumberedNode],
+    nodes: &[NumberedNode<'_>],
     labels: Vec<L>,
 ) -> Result<BoundLabels<L>, AllocError>
-    requires { length labels.items ≡ length nodes.now }
+    requires numbered { IsNumbered nodes.now }
+    requires count { length labels.items ≡ length nodes.now }
     ensures nodes { IfOk result (λ m. (k : _) → is_some (entry_at (key_of k) m) ≡ has_node (key_of k) nodes.now) }
     ensures labels { IfOk result (λ m. (own : BoundTree → L) (merge : L → L → L) → HasLabels own merge nodes.now labels.items → IsLabelled own merge m) }
 {
     let mut by_key = HashMap::with_capacity(alloc, nodes.len())?;
-    let mut number = 0;
+    let mut digests = Vec::with_capacity(alloc, nodes.len())?;
     for label in labels {
-        put_at(&mut by_key, &nodes[number].key, label)?;
-        number += 1;
+        let key = next_key(alloc, nodes, &mut digests)?;
+        put_at(&mut by_key, key, label)?;
     }
     Ok(by_key)
 }

@@ -7,6 +7,7 @@ mod covered;
 mod direct;
 mod entries;
 mod fields;
+mod keys;
 mod labels;
 mod numbers;
 mod reached;

@@ -21,7 +21,7 @@ pub(crate) type OwnAnswers<A> = Vec<Option<Vec<A>>>;
 // stack.
 pub(crate) fn own_answers<A: Annotation + Drop, F: Fn(&BoundExpression) -> VortexResult<Vec<A>>>(
     alloc: Global,
-    nodes: &[NumberedNode],
+    nodes: &[NumberedNode<'_>],
     root: usize,
     annotate: &F,
 ) -> VortexResult<OwnAnswers<A>>
@@ -71,7 +71,7 @@ fn put_answers<A: Drop>(own: &mut OwnAnswers<A>, number: usize, answers: Vec<A>)
 
 // The closure's answers at the node. Where there are none its children are looked at next.
 fn answers_at<A: Drop, F: Fn(&BoundExpression) -> VortexResult<Vec<A>>>(
-    node: &NumberedNode,
+    node: &NumberedNode<'_>,
     annotate: &F,
     waiting: &mut Vec<usize>,
 ) -> VortexResult<Vec<A>>
@@ -80,7 +80,7 @@ fn answers_at<A: Drop, F: Fn(&BoundExpression) -> VortexResult<Vec<A>>>(
     ensures waiting { IfOk result (λ v. reverse waiting.new.items ≡ looked_at_next v.items node.now ++ reverse waiting.old.items) }
     ensures refusal { IfErr result (λ y. (y ≡ OutOfMemory) ⊎ ((x : _) × (bound_of x.now ≡ node_tree node.now) × F.post annotate.now x (Err y))) }
 {
-    let answers = annotate(node.key.expr())?;
+    let answers = annotate(node.tree)?;
     if !answers.is_empty() {
         return Ok(answers);
     }

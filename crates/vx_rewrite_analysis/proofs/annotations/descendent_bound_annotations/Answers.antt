@@ -1,4 +1,4 @@
-use Rattle.std.proofs.Common.{◌≡◌, length, sym, ap, subst, ◌∙◌}
+use Rattle.std.proofs.Common.{sym, ap, subst, ◌∙◌}
 use Rattle.vx_tree.specs.Views.{bound_of}
 use Rattle.vx_rewrite_analysis.specs.Annotations.{answered}
 use Rattle.vx_rewrite_analysis.specs.Keys.{key_of}
@@ -11,6 +11,9 @@ own_answers-requires-clause-numbered g c = subst IsNumbered (sym c.as_slice-node
 
 pub sets_of-requires-clause-numbered : goal.sets_of-requires-clause-numbered
 sets_of-requires-clause-numbered g c = subst IsNumbered (sym c.as_slice-nodes.ensures.keys) c.in_ok-root.ensures.numbered
+
+pub sets_by_key-requires-clause-numbered : goal.sets_by_key-requires-clause-numbered
+sets_by_key-requires-clause-numbered g c = subst IsNumbered (sym c.as_slice-nodes.ensures.keys) c.in_ok-root.ensures.numbered
 
 pub returns-clause-nodes : goal.returns-clause-nodes
 returns-clause-nodes g c =

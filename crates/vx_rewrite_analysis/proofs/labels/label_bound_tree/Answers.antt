@@ -9,6 +9,9 @@ use Rattle.vx_rewrite_analysis.proofs.labels.label_bound_tree.Goals as goal
 pub labels_of-requires-clause-numbered : goal.labels_of-requires-clause-numbered
 labels_of-requires-clause-numbered g c = subst IsNumbered (sym c.as_slice-nodes.ensures.keys) c.in_ok-_root.ensures.numbered
 
+pub labels_by_key-requires-clause-numbered : goal.labels_by_key-requires-clause-numbered
+labels_by_key-requires-clause-numbered g c = subst IsNumbered (sym c.as_slice-nodes.ensures.keys) c.in_ok-_root.ensures.numbered
+
 pub returns-clause-nodes : goal.returns-clause-nodes
 returns-clause-nodes g c =
     λ k.

@@ -13,18 +13,18 @@ use Rattle.vx_rewrite_analysis.proofs.numbers.number_over.Goals as goal
 pub returns-clause-kept : goal.returns-clause-kept
 returns-clause-kept c =
     subst (KeepsNumbers c.args.nodes.now.keys) (sym c.in_ok-number.ensures.keys)
-    (keeps-insert c.args.nodes.now.keys (record { key = c.over-key.result; children = c.args.children }))
+    (keeps-insert c.args.nodes.now.keys (record { tree = c.args.e; children = c.args.children }))
 
 pub returns-clause-numbered : goal.returns-clause-numbered
 returns-clause-numbered c =
-    let added : NumberedNode = record { key = c.over-key.result; children = c.args.children } in
+    let added : NumberedNode = record { tree = c.args.e; children = c.args.children } in
     let tree : node_tree added ≡ bound_of c.args.e.now = search rules in
     subst IsNumbered (sym c.in_ok-number.ensures.keys)
     (numbered-insert c.args.nodes.now.keys added c.requires.numbered c.requires.within (c.requires.children ∙ ap bound_children_of (sym tree)))
 
 pub returns-clause-number : goal.returns-clause-number
 returns-clause-number c =
-    let added : NumberedNode = record { key = c.over-key.result; children = c.args.children } in
+    let added : NumberedNode = record { tree = c.args.e; children = c.args.children } in
     let tree : node_tree added ≡ bound_of c.args.e.now = search rules in
     let number = c.in_ok-number.number in
     let keys = c.in_ok-number.ensures.keys in
@@ -39,7 +39,7 @@ returns-clause-number c =
 pub returns-clause-nodes : goal.returns-clause-nodes
 returns-clause-nodes c =
     λ n.
-    let added : NumberedNode = record { key = c.over-key.result; children = c.args.children } in
+    let added : NumberedNode = record { tree = c.args.e; children = c.args.children } in
     let tree : node_tree added ≡ bound_of c.args.e.now = search rules in
     let number = c.in_ok-number.number in
     let keys = c.in_ok-number.ensures.keys in

@@ -1,21 +1,17 @@
-use Rattle.std.proofs.Common.{◌≡◌, ◌<◌, ◌++◌, length, reverse, rules, sym, ap, inr, ◌∙◌}
-use Rattle.std.specs.Prelude.{if◌then◌else◌, [], List}
+use Rattle.std.proofs.Common.{◌≡◌, ◌<◌, ◌++◌, length, reverse, rules, refl, sym, ap, inr, ◌∙◌}
+use Rattle.std.specs.Prelude.{if◌then◌else◌, []}
 use Rattle.std.proofs.lemmas.Result.{err_from_is_err_and}
-use Rattle.vx_tree.specs.Views.{bound_of}
-use Rattle.vx_rewrite_analysis.specs.Numbers.{node_tree}
 use Rattle.vx_rewrite_analysis.proofs.Annotating.{some_item, no_item}
 use Rattle.vx_rewrite_analysis.proofs.reached.answers_at.Goals as goal
 
 pub returns-in_err-answers-clause-refusal : goal.returns-in_err-answers-clause-refusal
 returns-in_err-answers-clause-refusal g c =
     let p = err_from_is_err_and c.from_residual.result c.from_residual.ensures.1 in
-    let lent : bound_of c.expr.result.now ≡ node_tree c.args.node.now = search rules in
-    rw (p.1, p.2) (inr (c.expr.result, lent, c.in_err-answers.ensures))
+    rw (p.1, p.2) (inr (c.args.node.now.tree, refl, c.in_err-answers.ensures))
 
 pub returns-then-not-is_empty-clause-answers : goal.returns-then-not-is_empty-clause-answers
 returns-then-not-is_empty-clause-answers g c =
-    let lent : bound_of c.expr.result.now ≡ node_tree c.args.node.now = search rules in
-    (c.expr.result, lent, c.in_ok-answers.ensures)
+    (c.args.node.now.tree, refl, c.in_ok-answers.ensures)
 
 pub returns-then-not-is_empty-clause-waiting : goal.returns-then-not-is_empty-clause-waiting
 returns-then-not-is_empty-clause-waiting g c =
@@ -24,8 +20,7 @@ returns-then-not-is_empty-clause-waiting g c =
 
 pub returns-clause-answers : goal.returns-clause-answers
 returns-clause-answers g c =
-    let lent : bound_of c.expr.result.now ≡ node_tree c.args.node.now = search rules in
-    (c.expr.result, lent, c.in_ok-answers.ensures)
+    (c.args.node.now.tree, refl, c.in_ok-answers.ensures)
 
 pub returns-clause-waiting : goal.returns-clause-waiting
 returns-clause-waiting g c =

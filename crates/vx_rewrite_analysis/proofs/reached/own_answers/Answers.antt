@@ -1,15 +1,12 @@
 use Rattle.std.proofs.Common.{◌≡◌, ◌<◌, ◌++◌, ◌∷◌, [], true, arith, length, reverse, slice_set, get_or, rules, refl, sym, ap, subst, inl, inr, ◌∙◌}
-use Rattle.std.specs.Prelude.{◌⊎◌, All, IsOkAnd, None, Some, is_some, if◌then◌else◌}
+use Rattle.std.specs.Prelude.{All, IsOkAnd, None, Some, is_some}
 use Rattle.std.proofs.lemmas.List.{get_or_default, length-set}
 use Rattle.std.proofs.lemmas.List.Elements.{All-push}
 use Rattle.std.proofs.lemmas.Option.{none-some}
 use Rattle.std.proofs.lemmas.Result.{err_from_is_err_and}
-use Rattle.vx_dtype.specs.declared.error.VortexError.TheVariants.{OutOfMemory}
-use Rattle.vx_tree.specs.Nodes.{bound_children_of}
 use Rattle.vx_rewrite_analysis.specs.Annotations.{is_some_item, answered, SameAnnotations}
 use Rattle.vx_rewrite_analysis.specs.ByNumber.{looked_at_next, HasEach}
-use Rattle.vx_rewrite_analysis.specs.Numbers.{node_tree, tree_at, trees_at}
-use Rattle.vx_rewrite_analysis.specs.Refusals.{first_refusal}
+use Rattle.vx_rewrite_analysis.specs.Numbers.{tree_at}
 use Rattle.vx_rewrite_analysis.proofs.Annotating.{items-alike}
 use Rattle.vx_rewrite_analysis.proofs.ByNumber.{each-set}
 use Rattle.vx_rewrite_analysis.proofs.Looking.{IsReaching, IsRefusing, waiting_size, size-again, size-next, all-none, popped, popped-within, next-low, next-within, reaching-first, reaching-again, reaching-next, reaching-last, reached-split, refusing-first, refusing-again, refusing-next, refusing-here, refusing-last, refuses-split}
