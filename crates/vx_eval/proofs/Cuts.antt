@@ -1,6 +1,6 @@
 -- Batches that are cut in two, under trees in which no node looks across rows.
-use Rattle.std.proofs.Common.{◌≡◌, ◌∙◌, ◌≤◌, ◌<◌, ℕ, zero, suc, ◌+◌, List, [], ◌∷◌, ◌++◌, append_assoc, map, length, refl, sym, ap, subst, arith, Option, Some, None, Result, Ok, Err, Bool, true, false, take, drop}
-use Rattle.std.specs.Prelude.{not, cond, position, nat_lt, ◌||◌}
+use Rattle.std.proofs.Common.{◌≡◌, ◌∙◌, ◌≤◌, ◌<◌, ℕ, zero, suc, ◌+◌, List, [], ◌∷◌, ◌++◌, append_assoc, map, length, refl, sym, ap, arith, Option, Some, None, Ok, Bool, true, false, take, drop}
+use Rattle.std.specs.Prelude.{not, cond, position}
 use Rattle.std.specs.List.{between, list_any, position_or_len, prefix_len}
 use Rattle.std.specs.Option.{option_or, option_map}
 use Rattle.std.proofs.lemmas.Bool.{or_parts, or_from, ltb-false, le-ltb}
@@ -14,15 +14,15 @@ use Rattle.std.specs.Ordering.{is_eq, ordering_reverse}
 use Rattle.vx_dtype.specs.declared.error.VortexError.{VortexError}
 use Rattle.vx_dtype.specs.declared.error.VortexError.TheVariants.{AddOverflow, CastNull, BadFill}
 use Rattle.vx_value.specs.Types.{LogicalType, Datum, null, bool, int, utf8, bytes, list_of, struct_of, is_null_datum}
-use Rattle.vx_fn.specs.Faults.{node_fault, overflows, misfits, fill_of, is_bad_fill, is_fillable, some_differ, differs, when}
-use Rattle.vx_fn.specs.Functions.{Function, Operation, binary, adds, cast, fill_null, literal}
+use Rattle.vx_fn.specs.Faults.{node_fault, overflows, misfits, fill_of, is_bad_fill, some_differ, differs, when}
+use Rattle.vx_fn.specs.Functions.{Function, binary, adds, cast, fill_null, literal}
 use Rattle.vx_tree.specs.declared.bound.BoundExpression.{BoundExpression}
 use Rattle.vx_tree.specs.Views.{bounds_of}
 use Rattle.vx_tree.specs.Faults.{first_fault, each_fault}
 use Rattle.vx_tree.specs.Meaning.{value, values}
 use Rattle.vx_tree.specs.Trees.{BoundTree, scope, node, BoundTrees, no_bound, bound, node_types}
 use Rattle.vx_tree.proofs.Trees.{or_none}
-use Rattle.vx_eval.specs.Across.{is_literal, is_across, looks_across, some_across}
+use Rattle.vx_eval.specs.Across.{is_across, looks_across, some_across}
 use Rattle.vx_value.specs.declared.value.Value.{Value}
 use Rattle.vx_value.specs.Views.{value_of}
 use Rattle.vx_eval.specs.Columns.{values_of, unless_fault}
@@ -181,9 +181,6 @@ pub record Told (b : BoundTree) (rows : List Value) (n : ℕ) (made : List Value
   pub within : n ≤ length rows
   pub none : n ≡ 0 → made ≡ []
   pub answer : 0 < n → tree_answer b (values_of (take n rows)) ≡ Ok (values_of made)
-
-pub told_none : (b : BoundTree) (rows made : List Value) → made ≡ [] → Told b rows 0 made
-told_none b rows made is = record { within = omega arith; none = λ e. is; answer = λ lt. absurd (omega arith) }
 
 -- the rows before a place, and those from there on before another one
 cut_at : (rows : List Value) (from to : ℕ) → from ≤ to → take to rows ≡ take from rows ++ between from to rows

@@ -1,5 +1,5 @@
 -- Columns of trees' values, and the rows of their children's values.
-use Rattle.std.proofs.Common.{◌≡◌, ℕ, ◌+◌, ◌<◌, List, [], ◌∷◌, ◌++◌, append_assoc, drop, map, length, get_or, refl, sym, ap, subst, ◌∙◌, arith, Option, Some, None, Result, Ok, Err, suc, IsOk, rules, Vec, vec_len}
+use Rattle.std.proofs.Common.{◌≡◌, ℕ, ◌+◌, ◌<◌, List, [], ◌∷◌, ◌++◌, append_assoc, drop, map, length, get_or, refl, sym, ap, subst, ◌∙◌, arith, Option, Some, None, Result, Ok, Err, suc, IsOk, rules, Vec}
 use Rattle.std.specs.Option.{option_or}
 use Rattle.std.proofs.lemmas.List.{drop_more, map-append, length-map, get_or-map, ext_get_or, map-id}
 use Rattle.std.proofs.lemmas.List.FromFn.{length-map-range_with_len, get_or-map-range_with_len}
@@ -140,9 +140,6 @@ pub as_long_as : (batch : List Value) (n : ℕ) (bs : BoundTrees) (rs : List Row
 as_long_as batch n bs rs counted e =
     let long : length (values_of batch) ≡ length batch = length-map batch value_of in
     subst (λ k. AllLong k (rows_views rs)) (long ∙ sym counted) (as_long bs (values_of batch) rs e)
-
-pub as_counted : (n : ℕ) (v w : Vec Value Global) → n ≡ vec_len v → v ≡ w → n ≡ length w.items
-as_counted n v w counted is = counted ∙ v.ok.0 ∙ ap (λ u. length u.items) is
 
 -- ---- columns, one child after another
 

@@ -12,6 +12,7 @@ use crate::across::looks_across;
 use crate::trees::evaluate;
 use std::alloc::Global;
 use std::rc::Rc;
+use vx_fn::ScalarFnRef;
 use vx_tree::BoundExpression;
 use vx_types::{Column, Value, VortexError, VortexResult};
 
@@ -47,13 +48,43 @@ fn values_over(alloc: Global, b: &BoundExpression, rows: &[Value]) -> VortexResu
     requires { WellTyped (bound_of b.now) }
     ensures { Answers (λ values. values_of values.items) result (tree_answer (bound_of b.now) (values_of rows.now)) }
 {
-    if rows.len() <= BLOCK || looks_across(b) {
+    if rows.len() <= BLOCK || reads_leaves_alone(b) || looks_across(b) {
         return together(alloc, b, rows);
     }
     match by_blocks(alloc, b, rows) {
         Ok(values) => Ok(values),
         Err(VortexError::OutOfMemory) => Err(VortexError::OutOfMemory),
         Err(_) => together(alloc, b, rows),
+    }
+}
+
+// Whether the first node reads nothing but leaves, which are lent: it walks the rows once then, and by
+// blocks its values would be moved once more.
+fn reads_leaves_alone(b: &BoundExpression) -> bool {
+    for child in b.children() {
+        if !is_leaf(child) {
+            return false;
+        }
+    }
+    true
+}
+
+// Whether the tree is the scope, a field of it or a literal.
+fn is_leaf(b: &BoundExpression) -> bool {
+    match b {
+        BoundExpression::Root { .. } => true,
+        BoundExpression::Scalar {
+            scalar_fn,
+            children,
+            ..
+        } => match scalar_fn {
+            ScalarFnRef::Literal(_) => true,
+            ScalarFnRef::GetItem(_) => matches!(
+                children.as_slice(),
+                [BoundExpression::Root { .. }]
+            ),
+            _ => false,
+        },
     }
 }
 

@@ -232,7 +232,11 @@ impl<'a> Rows<'a> {
                 count,
                 |i| Ok(truth_at(truths.as_slice(), i)),
             ),
-            Rows::Compared(tests) => made_behind(values, count, |i| Ok(truth_value(tests.truth(i)))),
+            Rows::Compared(tests) => made_behind(
+                values,
+                count,
+                |i| Ok(truth_value(tests.truth(i))),
+            ),
             rows => made_behind(values, count, |i| copied(rows.row(i))),
         }
     }

@@ -7,7 +7,9 @@ use vx_tree::Nullability::Nullable;
 use vx_tree::{Column, Value, VortexError, VortexResult};
 
 const ROWS: usize = 2_500;
+
 const LATE: usize = 1_500;
+
 const LARGEST: i128 = 2_147_483_647;
 
 /// Ones, with other numbers in an early row and in a late one.

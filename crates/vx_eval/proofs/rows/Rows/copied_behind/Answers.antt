@@ -1,5 +1,5 @@
-use Rattle.std.proofs.Common.{◌++◌, rules, sym, ap}
-use Rattle.vx_eval.specs.Columns.{rows_view, values_of}
+use Rattle.std.proofs.Common.{rules, sym}
+use Rattle.vx_eval.specs.Columns.{rows_view}
 use Rattle.vx_eval.proofs.Filled.{put_behind, all_rows}
 use Rattle.vx_eval.proofs.rows.Rows.copied_behind.Goals as goal
 
