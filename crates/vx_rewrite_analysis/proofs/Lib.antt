@@ -12,3 +12,4 @@ pub mod Covering
 pub mod Answering
 pub mod Refusing
 pub mod Reading
+pub mod Given
