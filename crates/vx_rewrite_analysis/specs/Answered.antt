@@ -1,5 +1,5 @@
 -- What a closure answered at the nodes that are reached, by the nodes' trees.
-use Rattle.std.specs.Prelude.{ℕ, List, [], ◌∷◌, Option, None, Some, Vec, cond, length}
+use Rattle.std.specs.Prelude.{◌≡◌, ◌<◌, ℕ, List, [], ◌∷◌, Option, None, Some, Vec, cond, length}
 use Rattle.std.specs.declared.hash.BuildHasherDefault.{BuildHasherDefault}
 use Rattle.std.specs.declared.hash.FoldHasher.{FoldHasher}
 use Rattle.std.specs.HashMap.{HashMap}
@@ -9,7 +9,7 @@ use Rattle.vx_tree.specs.Equality.{equal_bound}
 use Rattle.vx_tree.specs.Exact.{key_for}
 use Rattle.vx_tree.specs.Trees.{BoundTree, BoundTrees}
 use Rattle.vx_tree.specs.declared.exact.ExactBoundExpr.{ExactBoundExpr}
-use Rattle.vx_rewrite_analysis.specs.Numbers.{node_tree, tree_at, trees_at}
+use Rattle.vx_rewrite_analysis.specs.Numbers.{node_tree, tree_at, trees_at, IsNumbered}
 use Rattle.vx_rewrite_analysis.specs.declared.answered.AnsweredNodes.{AnsweredNodes}
 use Rattle.vx_rewrite_analysis.specs.declared.numbers.NumberedNode.{NumberedNode}
 
@@ -31,6 +31,10 @@ module _ {A : Type 0} where
   -- how many numbers there are
   abbrev pub count_of : AnsweredNodes A → ℕ
   count_of a = length a.nodes.keys
+
+  -- the nodes are numbered, and each has a place for its answers
+  abbrev pub AreAnswered : AnsweredNodes A → Type 0
+  AreAnswered a = IsNumbered a.nodes.keys × (length a.answers.items ≡ length a.nodes.keys) × (a.root < length a.nodes.keys)
 
   -- the number of the whole tree
   abbrev pub root_of : AnsweredNodes A → ℕ

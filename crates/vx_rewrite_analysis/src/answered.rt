@@ -1,13 +1,12 @@
 // The answers of an annotating closure, as those who go by the numbers of nodes read them.
-ghost use Rattle.std.specs.Prelude.{◌≡◌, ◌<◌, ◌⊎◌, All, None, Some, List, Err, IfErr, IfOk, OnOk, is_some, length};
+ghost use Rattle.std.specs.Prelude.{◌≡◌, ◌<◌, ◌⊎◌, All, None, Some, List, Err, IfErr, IfOk, OnOk, is_some};
 ghost use Rattle.std.specs.Option.{option_map};
 ghost use Rattle.vx_dtype.specs.declared.error.VortexError.TheVariants.{OutOfMemory};
 ghost use Rattle.vx_tree.specs.Nodes.{bound_children_of};
 ghost use Rattle.vx_tree.specs.Trees.{BoundTree};
-ghost use Rattle.vx_tree.specs.Views.{bound_of, bounds_from};
+ghost use Rattle.vx_tree.specs.Views.{bound_of};
 ghost use Rattle.vx_rewrite_analysis.specs.Annotations.{answered, AnswersAlike, SameAnnotations};
-ghost use Rattle.vx_rewrite_analysis.specs.Answered.{count_of, root_of, tree_of, trees_of, given_by};
-ghost use Rattle.vx_rewrite_analysis.specs.Numbers.{IsNumbered};
+ghost use Rattle.vx_rewrite_analysis.specs.Answered.{count_of, root_of, tree_of, trees_of, given_by, AreAnswered};
 ghost use Rattle.vx_rewrite_analysis.specs.Reached.{is_reached};
 ghost use Rattle.vx_rewrite_analysis.specs.Refusals.{SaysBy, first_refusal};
 
@@ -25,9 +24,6 @@ pub struct AnsweredNodes<'a, A> {
     nodes: NumberedNodes<'a>,
     answers: OwnAnswers<A>,
     root: usize,
-    pub ghost numbered: { IsNumbered nodes.keys },
-    pub ghost count: { length answers.items ≡ length nodes.keys },
-    pub ghost within: { root < length nodes.keys },
 }
 
 impl<'a, A: Annotation + Drop> AnsweredNodes<'a, A> {
@@ -42,6 +38,7 @@ impl<'a, A: Annotation + Drop> AnsweredNodes<'a, A> {
         annotate: &F,
     ) -> VortexResult<AnsweredNodes<'a, A>>
         requires { F.IsAlwaysCallable annotate.now }
+        ensures numbered { IfOk result AreAnswered }
         ensures root { IfOk result (λ a. tree_of a (root_of a) ≡ bound_of e.now) }
         ensures nodes { IfOk result (λ a. (answers : BoundTree → List A) → AnswersAlike A.eq (F.post annotate.now) answers
             → (b : BoundTree) → is_some (given_by a b) ≡ is_reached (answered answers) b (bound_of e.now)) }
@@ -70,6 +67,7 @@ impl<'a, A: Annotation + Drop> AnsweredNodes<'a, A> {
 
     /// The number of the tree.
     pub fn root(&self) -> usize
+        requires { AreAnswered self.now }
         ensures number { result ≡ root_of self.now }
         ensures within { result < count_of self.now }
     {
@@ -78,7 +76,8 @@ impl<'a, A: Annotation + Drop> AnsweredNodes<'a, A> {
 
     /// The numbers of the node's children.
     pub fn children(&self, number: usize) -> &[usize]
-        requires { number < count_of self.now }
+        requires numbered { AreAnswered self.now }
+        requires within { number < count_of self.now }
         ensures trees { trees_of self.now result.now ≡ bound_children_of (tree_of self.now number) }
         ensures below { All (λ k. k < number) result.now }
     {
@@ -87,7 +86,8 @@ impl<'a, A: Annotation + Drop> AnsweredNodes<'a, A> {
 
     /// The closure's answers at the node, if it is reached.
     pub fn answers(&self, number: usize) -> Option<&[A]>
-        requires { number < count_of self.now }
+        requires numbered { AreAnswered self.now }
+        requires within { number < count_of self.now }
         ensures { option_map (λ own. own.now) result ≡ given_by self.now (tree_of self.now number) }
     {
         match &self.answers[number] {

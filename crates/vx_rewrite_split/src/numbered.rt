@@ -2,7 +2,7 @@
 // tree is looked up.
 ghost use Rattle.std.specs.Prelude.{◌≡◌, ◌<◌, ◌≤◌, ◌++◌, IfOk, OnOk, Option, length, map};
 ghost use Rattle.std.specs.Option.{option_copied};
-ghost use Rattle.vx_rewrite_analysis.specs.Answered.{count_of, tree_of, given_by};
+ghost use Rattle.vx_rewrite_analysis.specs.Answered.{count_of, tree_of, given_by, AreAnswered};
 ghost use Rattle.vx_rewrite_split.specs.Found.{found_copied, found_of};
 ghost use Rattle.vx_rewrite_split.specs.Gathered.{gathered_in, found_at, AreFound, IsOnly};
 ghost use Rattle.vx_rewrite_split.specs.Only.{annotations_met};
@@ -18,6 +18,7 @@ pub(crate) fn found_each<'a, A: Annotation + Drop>(
     alloc: Global,
     nodes: &'a AnsweredNodes<'_, A>,
 ) -> Result<Vec<Found<&'a A>>, AllocError>
+    requires { AreAnswered nodes.now }
     ensures count { IfOk result (λ found. length found.items ≡ count_of nodes.now) }
     ensures found { IfOk result (λ found. AreFound A.eq nodes.now found.items) }
 {
@@ -36,6 +37,7 @@ fn found_at<'a, A: Annotation + Drop>(
     number: usize,
     below: &[Found<&'a A>],
 ) -> Found<&'a A>
+    requires numbered { AreAnswered nodes.now }
     requires within { number < count_of nodes.now }
     requires count { number ≤ length below.now }
     requires below { AreFound A.eq nodes.now below.now }
@@ -56,6 +58,7 @@ fn found_below<'a, A: Annotation + Drop>(
     number: usize,
     below: &[Found<&'a A>],
 ) -> Found<&'a A>
+    requires numbered { AreAnswered nodes.now }
     requires within { number < count_of nodes.now }
     requires count { number ≤ length below.now }
     requires below { AreFound A.eq nodes.now below.now }
@@ -76,6 +79,7 @@ pub(crate) fn meet_numbered<'a, A: Annotation + Drop>(
     found: &[Found<&'a A>],
     met: &mut Vec<Option<&'a A>>,
 ) -> Result<(), AllocError>
+    requires numbered { AreAnswered nodes.now }
     requires within { number < count_of nodes.now }
     requires count { length found.now ≡ count_of nodes.now }
     ensures { OnOk result ((only : BoundTree → Option A) → IsOnly nodes.now only found.now → map option_copied met.new.items ≡ map option_copied met.old.items ++ annotations_met only (tree_of nodes.now number)) }

@@ -4,7 +4,7 @@ ghost use Rattle.std.specs.Cmp.Lexicographic.{pointwise};
 ghost use Rattle.std.specs.Option.{option_copied};
 ghost use Rattle.vx_dtype.specs.declared.error.VortexError.TheVariants.{OutOfMemory};
 ghost use Rattle.vx_value.specs.Answers.{Answers};
-ghost use Rattle.vx_rewrite_analysis.specs.Answered.{root_of, tree_of};
+ghost use Rattle.vx_rewrite_analysis.specs.Answered.{root_of, tree_of, AreAnswered};
 ghost use Rattle.vx_rewrite_analysis.specs.Covers.{has_single, Covered};
 ghost use Rattle.vx_rewrite_analysis.specs.Refusals.{SaysBy, first_refusal};
 ghost use Rattle.vx_rewrite_split.specs.Collecting.{groups_in, SameGroups, marks_of};
@@ -79,6 +79,7 @@ fn split_by_numbers<A: PartitionKey + Drop>(
     nodes: &AnsweredNodes<'_, A>,
 ) -> VortexResult<BoundPartitionedExpr<A>>
     requires well_typed { WellTyped (bound_of e.now) }
+    requires numbered { AreAnswered nodes.now }
     requires root { tree_of nodes.now (root_of nodes.now) ≡ bound_of e.now }
     ensures names { Answers (λ p. p.partition_names) result (free_names (partition_names A.name (groups A.eq (only_annotation (gathered_map A.eq nodes.now)) (bound_of e.now)))) }
     ensures counts { IfOk result (λ p. EquallyMany p.partition_names p.partition_annotations.items p.partitions.items) }
