@@ -34,8 +34,8 @@ unit-keys [] = refl
 unit-keys (k ∷ ks) = ap (λ l. k ∷ l) (unit-keys ks)
 
 module _ {A : Type 0} (eq : A → A → Bool) where
-  pub set-keys : {S : Type 0} (s : S) (as : List A) → (set_of eq s as).keys ≡ distinct eq as
-  set-keys s as = unit-keys (distinct eq as)
+  pub set-keys : {S : Type 0} (s : S) (xs : List A) → (set_of eq s xs).keys ≡ distinct eq xs
+  set-keys s xs = unit-keys (distinct eq xs)
 
   not-all : (a : A) (xs : List A) → list_any (λ b. not (eq a b)) xs ≡ not (list_all (eq a) xs)
   not-all a [] = refl
@@ -53,13 +53,13 @@ module _ {A : Type 0} (eq : A → A → Bool) where
     -- two lists have together what both have
     pub found-append : (xs ys : List A) → found_of eq (xs ++ ys) ≡ joined eq (found_of eq xs) (found_of eq ys)
     found-append [] ys = refl
-    found-append (a ∷ as) [] = ap (λ l. if list_all (eq a) l then One a else Several) (append-nil as) ∙ stays (list_all (eq a) as)
+    found-append (a ∷ xs) [] = ap (λ l. if list_all (eq a) l then One a else Several) (append-nil xs) ∙ stays (list_all (eq a) xs)
       where
         stays : (t : Bool) → (if t then One a else Several) ≡ joined eq (if t then One a else Several) Nothing
         stays true = refl
         stays false = refl
-    found-append (a ∷ as) (b ∷ bs) =
-        ap one (list_all-append (eq a) as (b ∷ bs)) ∙ cases (list_all (eq a) as) (eq a b) (list_all (eq a) bs) (list_all (eq b) bs) refl (λ same. all-alike a b same bs)
+    found-append (a ∷ xs) (b ∷ bs) =
+        ap one (list_all-append (eq a) xs (b ∷ bs)) ∙ cases (list_all (eq a) xs) (eq a b) (list_all (eq a) bs) (list_all (eq b) bs) refl (λ same. all-alike a b same bs)
       where
         one : Bool → Found A
         one t = if t then One a else Several
@@ -92,11 +92,11 @@ module _ {A : Type 0} (eq : A → A → Bool) where
     right-alike c k l s = q.symm c k ∙ q.congr k l c s ∙ q.symm l c
 
     -- the set has what the list has
-    pub set-has : {S : Type 0} (s : S) (as : List A) (c : A) → list_any (eq c) (set_of eq s as).keys ≡ list_any (eq c) as
-    set-has s as c = ap (list_any (eq c)) (set-keys s as) ∙ any-distinct (eq c) (right-alike c) as
+    pub set-has : {S : Type 0} (s : S) (xs : List A) (c : A) → list_any (eq c) (set_of eq s xs).keys ≡ list_any (eq c) xs
+    set-has s xs c = ap (list_any (eq c)) (set-keys s xs) ∙ any-distinct (eq c) (right-alike c) xs
 
     -- and one alone where the list has
-    alone-distinct : (as : List A) → only_item (distinct eq as) ≡ alone (found_of eq as)
+    alone-distinct : (xs : List A) → only_item (distinct eq xs) ≡ alone (found_of eq xs)
     alone-distinct [] = refl
     alone-distinct (a ∷ rest) = cases (list_all (eq a) rest) refl
       where
@@ -110,5 +110,5 @@ module _ {A : Type 0} (eq : A → A → Bool) where
         cases true e = ap (λ l. only_item (a ∷ l)) (left-none p (distinct eq rest) (differ ∙ ap not e))
         cases false e = left-some a p (distinct eq rest) (differ ∙ ap not e)
 
-    pub set-alone : {S : Type 0} (s : S) (as : List A) → only_item (set_of eq s as).keys ≡ alone (found_of eq as)
-    set-alone s as = ap only_item (set-keys s as) ∙ alone-distinct as
+    pub set-alone : {S : Type 0} (s : S) (xs : List A) → only_item (set_of eq s xs).keys ≡ alone (found_of eq xs)
+    set-alone s xs = ap only_item (set-keys s xs) ∙ alone-distinct xs

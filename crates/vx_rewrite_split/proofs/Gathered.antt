@@ -118,9 +118,9 @@ module _ {A : Type 0} (eq : A → A → Bool) (q : IsEquivalence eq) (nodes : An
       → ((answers : BoundTree → List A) → AnswersAlike eq post answers → (b : BoundTree) (own : List A) → given_by nodes b ≡ Some own → SameAnnotations eq own (answers b))
       → IsAnnotatedBy eq post root (gathered_map eq nodes)
   gathered-annotated post root reached same answers alike = (
-      λ k. ap is_some (entry-of-given value nodes (key_of k)) ∙ mapped (key_of k) (given_by nodes (key_of k)) ∙ reached answers alike (key_of k),
-      λ k. subst (λ o. IfSome o (IsAnnotationsOf eq answers (key_of k))) (sym (entry-of-given value nodes (key_of k))) (has (key_of k) (given_by nodes (key_of k)) refl),
-    )
+    λ k. ap is_some (entry-of-given value nodes (key_of k)) ∙ mapped (key_of k) (given_by nodes (key_of k)) ∙ reached answers alike (key_of k),
+    λ k. subst (λ o. IfSome o (IsAnnotationsOf eq answers (key_of k))) (sym (entry-of-given value nodes (key_of k))) (has (key_of k) (given_by nodes (key_of k)) refl),
+  )
     where
       value : BoundTree → HashSet A (BuildHasherDefault FoldHasher)
       value c = set_of eq (hasher_in nodes) (gathered (given_by nodes) c)

@@ -1,5 +1,5 @@
 -- What numbers have, one more at a time, and what a walk by numbers meets.
-use Rattle.std.proofs.Common.{◌≡◌, ℕ, ◌+◌, ◌<◌, ◌≤◌, Bor, Bool, true, List, [], ◌∷◌, ◌++◌, length, map, get_or, drop, take, refl, sym, ap, ◌∙◌, append_assoc, append-nil, length-append, inl, inr, arith}
+use Rattle.std.proofs.Common.{◌≡◌, ℕ, zero, suc, ◌+◌, ◌<◌, ◌≤◌, Bor, Bool, true, List, [], ◌∷◌, ◌++◌, length, map, get_or, drop, take, refl, sym, ap, ◌∙◌, append_assoc, append-nil, length-append, inl, inr, arith}
 use Rattle.std.specs.Prelude.{None, Option, Some, is_some}
 use Rattle.std.specs.Cmp.{IsEquivalence}
 use Rattle.std.specs.Option.{option_copied}
@@ -20,6 +20,12 @@ use Rattle.vx_rewrite_split.proofs.Found.{found-append}
 use Rattle.vx_rewrite_split.proofs.Gathered.{gathered-children}
 use Rattle.vx_rewrite_split.proofs.Meeting.{copied_put}
 
+take-all : {X : Type 0} (xs : List X) (i : ℕ) → length xs ≤ i → take i xs ≡ xs
+take-all [] zero h = refl
+take-all [] (suc i) h = refl
+take-all (x ∷ xs) zero h = absurd (omega (arith, h))
+take-all (x ∷ xs) (suc i) h = ap (λ l. x ∷ l) (take-all xs i (omega (arith, h)))
+
 module _ {A : Type 0} (nodes : AnsweredNodes A) where
   below : List ℕ → List A
   below ks = gathered_in (given_by nodes) (trees_of nodes ks)
@@ -38,6 +44,11 @@ module _ {A : Type 0} (nodes : AnsweredNodes A) where
     together-next q ks i before here after h so_far is put =
         put ∙ ap (λ x. joined eq x here) so_far ∙ ap (joined eq (found_of eq (below (take i ks)))) is
         ∙ sym (ap (found_of eq) (below-more ks i h) ∙ found-append eq q (below (take i ks)) (gathered (given_by nodes) (tree_of nodes (get_or ks i 0))))
+
+    -- all children
+    pub together-ends : (ks : List ℕ) (i : ℕ) (found : Found A) (bs : BoundTrees) → length ks ≤ i → trees_of nodes ks ≡ bs → found ≡ found_of eq (gathered_in (given_by nodes) (trees_of nodes (take i ks)))
+        → found ≡ found_of eq (gathered_in (given_by nodes) bs)
+    together-ends ks i found bs h trees so_far = so_far ∙ ap (λ l. found_of eq (below l)) (take-all ks i h) ∙ ap (λ cs. found_of eq (gathered_in (given_by nodes) cs)) trees
 
     -- ---- a node
 

@@ -22,13 +22,7 @@ pub(crate) fn joined<'a, A: Eq>(left: Found<&'a A>, right: Found<&'a A>) -> Foun
         Found::Nothing => right,
         Found::One(a) => match right {
             Found::Nothing => left,
-            Found::One(b) => {
-                if *a == *b {
-                    left
-                } else {
-                    Found::Several
-                }
-            }
+            Found::One(b) => { if *a == *b { left } else { Found::Several } }
             Found::Several => Found::Several,
         },
         Found::Several => Found::Several,

@@ -11,7 +11,7 @@ ghost use Rattle.vx_tree.specs.Trees.{BoundTree};
 
 use crate::found::{Found, alone, found_in, joined};
 use std::alloc::{AllocError, Global};
-use vx_rewrite_analysis::{AnsweredNodes, Annotation};
+use vx_rewrite_analysis::{Annotation, AnsweredNodes};
 
 // What each node has, from the lowest number up: what a node's children have is there before.
 pub(crate) fn found_each<'a, A: Annotation + Drop>(
