@@ -1,6 +1,7 @@
 // The law of passes, as a function without a body, and the laws of all rewriting, which are handed on.
 ghost use Rattle.vx_rewrite.specs.Laws.{PassesKeep};
 
+pub use vx_rewrite_analysis::nodes_are_well_typed;
 pub use vx_rewrite_branch_rules::{
     branch_normal_form_is_one, branch_normal_is_normal, branch_rules_are_functional,
     branch_rules_are_modest, branch_rules_keep, branch_rules_lighten, branch_rules_stay_normal,

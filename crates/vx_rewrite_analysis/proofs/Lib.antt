@@ -1,4 +1,5 @@
 pub mod Subtrees
+pub mod Typing
 pub mod Numbering
 pub mod OneNumber
 pub mod Digesting

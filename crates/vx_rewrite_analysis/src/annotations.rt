@@ -1,5 +1,5 @@
 // Annotations of the nodes of a bound tree.
-ghost use Rattle.std.specs.Prelude.{◌≡◌, ◌<◌, ◌||◌, ◌⊎◌, All, is_some, None, Some, List, Err, IfErr, IfOk, OnOk, get_or, length, if◌then◌else◌};
+ghost use Rattle.std.specs.Prelude.{◌≡◌, ◌<◌, ◌||◌, ◌⊎◌, All, is_some, None, Some, List, Err, IfErr, IfOk, OnOk, IsTrue, get_or, length, if◌then◌else◌};
 ghost use Rattle.std.specs.HashSet.{contains};
 ghost use Rattle.std.specs.List.{list_any};
 ghost use Rattle.vx_dtype.specs.declared.error.VortexError.TheVariants.{OutOfMemory};
@@ -9,7 +9,7 @@ ghost use Rattle.vx_rewrite_analysis.specs.Annotations.{answered, is_some_item, 
 ghost use Rattle.vx_rewrite_analysis.specs.ByNumber.{has_some, has_annotation, HasEach, HasReached};
 ghost use Rattle.vx_rewrite_analysis.specs.Keys.{key_of, entry_at};
 ghost use Rattle.vx_rewrite_analysis.specs.Numbers.{IsNumbered};
-ghost use Rattle.vx_rewrite_analysis.specs.Reached.{is_reached};
+ghost use Rattle.vx_rewrite_analysis.specs.Reached.{is_reached, occurs};
 ghost use Rattle.vx_rewrite_analysis.specs.Refusals.{SaysBy, first_refusal};
 
 use crate::Annotation;
@@ -36,11 +36,11 @@ pub fn descendent_bound_annotations<
     A: Annotation + Drop,
     F: Fn(&BoundExpression) -> VortexResult<Vec<A>> + Drop,
 >(alloc: Global, e: &BoundExpression, annotate: F) -> VortexResult<BoundAnnotations<A>>
-    requires { F.IsAlwaysCallable annotate }
+    requires { (x : _) → IsTrue (occurs (bound_of x.now) (bound_of e.now)) → F.pre annotate x }
     ensures nodes { IfOk result (λ m. (answers : BoundTree → List A) → AnswersAlike A.eq (F.post annotate) answers
         → (k : _) → is_some (entry_at (key_of k) m) ≡ is_reached (answered answers) (key_of k) (bound_of e.now)) }
     ensures annotations { IfOk result (λ m. (answers : BoundTree → List A) → AnswersAlike A.eq (F.post annotate) answers → IsAnnotated A.eq answers m) }
-    ensures refusal { IfErr result (λ y. (y ≡ OutOfMemory) ⊎ ((x : _) × F.post annotate x (Err y))) }
+    ensures refusal { IfErr result (λ y. (y ≡ OutOfMemory) ⊎ ((x : _) × IsTrue (occurs (bound_of x.now) (bound_of e.now)) × F.post annotate x (Err y))) }
     ensures first { IfErr result (λ y. (said : _) → SaysBy A.eq (F.post annotate) said → (y ≡ OutOfMemory) ⊎ (first_refusal said (bound_of e.now) ≡ Some y)) }
     ensures unrefused { OnOk result ((said : _) → SaysBy A.eq (F.post annotate) said → first_refusal said (bound_of e.now) ≡ None) }
 {

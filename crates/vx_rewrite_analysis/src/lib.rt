@@ -9,6 +9,7 @@ mod entries;
 mod fields;
 mod keys;
 mod labels;
+mod laws;
 mod numbers;
 mod reached;
 
@@ -18,3 +19,4 @@ pub use covered::covers;
 pub use direct::direct_bound_annotations;
 pub use fields::free_fields;
 pub use labels::{BoundLabels, label_bound_tree};
+pub use laws::nodes_are_well_typed;
