@@ -1,5 +1,5 @@
 -- Columns out of which one value is taken.
-use Rattle.std.proofs.Common.{◌≡◌, ◌≢◌, ℕ, ◌<◌, ◌≤◌, List, [], ◌∷◌, map, length, get_or, take, refl, sym, ap, ◌∙◌, arith, zero, suc, get_or-set_other}
+use Rattle.std.proofs.Common.{◌≡◌, ◌≢◌, ℕ, ◌<◌, List, [], ◌∷◌, map, length, get_or, refl, sym, ap, ◌∙◌, arith, zero, suc, get_or-set_other}
 use Rattle.std.proofs.Math.ListN.{set}
 use Rattle.std.proofs.lemmas.List.{map-set}
 use Rattle.vx_value.specs.Types.{Datum, null}
@@ -70,11 +70,3 @@ lengths_kept (x ∷ xs) (suc m) r s lt is same = ap (λ ns. length (rows_view x)
 pub row_long : (rs : List Rows) (i : ℕ) → length (row_at (rows_views rs) i) ≡ length rs
 row_long [] i = refl
 row_long (x ∷ xs) i = ap suc (row_long xs i)
-
--- ---- rows of structs
-
-pub whole : {A : Type 0} (xs : List A) (n : ℕ) → length xs ≤ n → take n xs ≡ xs
-whole [] zero h = refl
-whole [] (suc n) h = refl
-whole (x ∷ xs) zero h = absurd (omega arith)
-whole (x ∷ xs) (suc n) h = ap (λ l. x ∷ l) (whole xs n (omega arith))

@@ -1,20 +1,12 @@
 -- Normal forms made one after another.
-use Rattle.std.proofs.Common.{◌≡◌, ℕ, ◌+◌, ◌<◌, ◌≤◌, List, [], ◌∷◌, ◌++◌, length, get_or, drop, drop_of_length-le, refl, sym, ap, subst, ◌∙◌}
+use Rattle.std.proofs.Common.{◌≡◌, ℕ, ◌+◌, ◌<◌, ◌≤◌, List, [], ◌∷◌, ◌++◌, length, get_or, drop, drop_of_length-le, sym, ap, subst, ◌∙◌}
 use Rattle.vx_tree.specs.declared.bound.BoundExpression.{BoundExpression}
 use Rattle.vx_tree.specs.Trees.{BoundTree, BoundTrees, no_bound, bound}
 use Rattle.vx_tree.specs.Views.{bound_of, bounds_of}
 use Rattle.vx_rewrite_keep.specs.Keeps.{KeepsEach, keeps_none, keeps_more}
 use Rattle.vx_rewrite_optimizer.specs.NormalForms.{NormalForm, NormalForms, no_form, form}
-use Rattle.vx_tree.proofs.Bindings.{before}
+use Rattle.vx_tree.proofs.Bindings.{before, before_push, before_nothing}
 use Rattle.vx_query_split.proofs.Lists.{split_at}
-
-before_push : (made : List BoundExpression) (b : BoundExpression) (bs : BoundTrees) → before (made ++ b ∷ []) bs ≡ before made (bound (bound_of b) bs)
-before_push [] b bs = refl
-before_push (x ∷ made) b bs = ap (bound (bound_of x)) (before_push made b bs)
-
-before_nothing : (made : List BoundExpression) → before made no_bound ≡ bounds_of made
-before_nothing [] = refl
-before_nothing (x ∷ made) = ap (bound (bound_of x)) (before_nothing made)
 
 module _ (R : BoundTree → BoundTree → Type 0) where
   -- normal forms of those that are left make, behind those that were made, normal forms of all

@@ -1,5 +1,4 @@
 pub mod Lists
-pub mod Counting
 pub mod Answered
 pub mod Joined
 pub mod Meant

@@ -4,10 +4,11 @@ use Rattle.std.specs.Prelude.{◌==◌, if◌then◌else◌}
 use Rattle.std.specs.Cmp.{IsEquivalence}
 use Rattle.std.specs.List.{list_any}
 use Rattle.std.specs.HashSet.{HashSet, contains}
+use Rattle.std.proofs.lemmas.Bool.{or_left}
+use Rattle.std.proofs.Math.Bool.{or_assoc, or-false}
 use Rattle.vx_tree.specs.Nodes.{bound_children_of}
 use Rattle.vx_tree.specs.Trees.{BoundTree, scope, node, BoundTrees, no_bound, bound}
 use Rattle.vx_rewrite_analysis.specs.Annotations.{is_some_item, answered, SameAnnotations, is_annotation, is_annotation_in, IsAnnotationsOf}
-use Rattle.vx_rewrite_analysis.proofs.Subtrees.{or_first, or_false, or_assoc}
 
 pub some_item : {A : Type 0} (xs : List A) → 0 < length xs → is_some_item xs ≡ true
 some_item [] h = absurd (omega arith)
@@ -25,8 +26,8 @@ module _ {A : Type 0} (eq : A → A → Bool) where
   -- lists with the same annotations both have some or both none
   pub items-alike : IsEquivalence eq → (xs ys : List A) → SameAnnotations eq xs ys → is_some_item xs ≡ is_some_item ys
   items-alike q [] [] same = refl
-  items-alike q [] (y ∷ ys) same = absurd (true≢false (sym (or_first (eq y y) (list_any (eq y) ys) (q.refl y)) ∙ sym (same y)))
-  items-alike q (x ∷ xs) [] same = absurd (true≢false (sym (or_first (eq x x) (list_any (eq x) xs) (q.refl x)) ∙ same x))
+  items-alike q [] (y ∷ ys) same = absurd (true≢false (sym (or_left (eq y y) (list_any (eq y) ys) (q.refl y)) ∙ sym (same y)))
+  items-alike q (x ∷ xs) [] same = absurd (true≢false (sym (or_left (eq x x) (list_any (eq x) xs) (q.refl x)) ∙ same x))
   items-alike q (x ∷ xs) (y ∷ ys) same = refl
 
   module _ (answers : BoundTree → List A) where
@@ -59,4 +60,4 @@ module _ {A : Type 0} (eq : A → A → Bool) where
 
     -- all children's are
     pub union-end : (left : BoundTrees) (a : A) (last all : Bool) → left ≡ no_bound → (last || is_annotation_in eq answers a left) ≡ all → last ≡ all
-    union-end left a last all none so_far = sym (ap (λ bs. last || is_annotation_in eq answers a bs) none ∙ or_false last) ∙ so_far
+    union-end left a last all none so_far = sym (ap (λ bs. last || is_annotation_in eq answers a bs) none ∙ or-false last) ∙ so_far

@@ -2,6 +2,7 @@
 use Rattle.std.proofs.Common.{◌≡◌, Bool, true, false, ◌||◌, refl, sym, ap, ◌∙◌}
 use Rattle.std.specs.Prelude.{Some, is_some, not, cond, ◌&&◌}
 use Rattle.std.specs.HashMap.{HashMap}
+use Rattle.std.proofs.Math.Bool.{and-false}
 use Rattle.vx_tree.specs.Equality.{equal_bound, equal_bound-Decides, equal_bound_equiv}
 use Rattle.vx_tree.specs.Nodes.{bound_children_of}
 use Rattle.vx_tree.specs.Trees.{BoundTree, BoundTrees, no_bound, bound}
@@ -16,10 +17,6 @@ both_turn true false true b = refl
 both_turn false q s b = refl
 both_turn true true false b = refl
 both_turn true false false b = refl
-
-and_false : (b : Bool) → (b && false) ≡ false
-and_false true = refl
-and_false false = refl
 
 module _ (stops : BoundTree → Bool) where
   -- one more child's nodes that stop have entries
@@ -63,5 +60,5 @@ module _ (stops : BoundTree → Bool) where
       cases : (same : Bool) → equal_bound n b ≡ same → ((w && stops n) || old) ≡ (((same || (not (stops b) && w)) && stops n) || old)
       cases true e =
           let here : stops n ≡ false = ap stops ((equal_bound-Decides n b).0 e) ∙ none in
-          ap (λ s. (w && s) || old) here ∙ ap (λ s. s || old) (and_false w) ∙ ap (λ s. s || old) (sym here)
+          ap (λ s. (w && s) || old) here ∙ ap (λ s. s || old) (and-false w) ∙ ap (λ s. s || old) (sym here)
       cases false e = ap (λ s. ((not s && w) && stops n) || old) (sym none)

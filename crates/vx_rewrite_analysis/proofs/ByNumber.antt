@@ -7,7 +7,7 @@ use Rattle.vx_tree.specs.Trees.{BoundTree}
 use Rattle.vx_rewrite_analysis.specs.ByNumber.{has_some, HasEach}
 use Rattle.vx_rewrite_analysis.specs.Numbers.{node_tree, tree_at, HasOneNumberEach}
 use Rattle.vx_rewrite_analysis.specs.declared.numbers.NumberedNode.{NumberedNode}
-use Rattle.vx_rewrite_analysis.proofs.Subtrees.{or_first, or_second, or_either, and_true, both}
+use Rattle.std.proofs.lemmas.Bool.{or_left, or_right, or_cases, and_from, and_parts}
 
 -- ---- which trees have something
 
@@ -74,8 +74,8 @@ module _ {X : Type 0} where
   has-found : (k : BoundTree) (ns : List NumberedNode) (xs : List (Option X)) → has_some k ns xs ≡ true → (j : ℕ) × (j < length ns) × (equal_bound k (tree_at ns j) ≡ true) × (is_some (get_or xs j None) ≡ true)
   has-found k [] xs h = cc
   has-found k (n ∷ ns) [] h = cc
-  has-found k (n ∷ ns) (x ∷ xs) h = elim (or_either (equal_bound k (node_tree n) && is_some x) (has_some k ns xs) h) [
-    | inl here ↦ let p = both (equal_bound k (node_tree n)) (is_some x) here in (0, omega arith, p.0, p.1)
+  has-found k (n ∷ ns) (x ∷ xs) h = elim (or_cases (equal_bound k (node_tree n) && is_some x) (has_some k ns xs) h) [
+    | inl here ↦ let p = and_parts (equal_bound k (node_tree n)) (is_some x) here in (0, omega arith, p.0, p.1)
     | inr there ↦ let f = has-found k ns xs there in (suc f.0, omega (arith, f.1), f.2, f.3)
   ]
 
@@ -90,8 +90,8 @@ module _ {X : Type 0} where
   pub has-read : (ns : List NumberedNode) (xs : List (Option X)) (i : ℕ) → i < length ns → is_some (get_or xs i None) ≡ true → has_some (tree_at ns i) ns xs ≡ true
   has-read [] xs i h there = absurd (omega (arith, h))
   has-read (n ∷ ns) [] i h there = cc
-  has-read (n ∷ ns) (x ∷ xs) zero h there = or_first _ (has_some (node_tree n) ns xs) (and_true _ _ (equal_bound_equiv.refl (node_tree n)) there)
-  has-read (n ∷ ns) (x ∷ xs) (suc i) h there = or_second (equal_bound (tree_at ns i) (node_tree n) && is_some x) _ (has-read ns xs i (omega (arith, h)) there)
+  has-read (n ∷ ns) (x ∷ xs) zero h there = or_left _ (has_some (node_tree n) ns xs) (and_from _ _ (equal_bound_equiv.refl (node_tree n)) there)
+  has-read (n ∷ ns) (x ∷ xs) (suc i) h there = or_right (equal_bound (tree_at ns i) (node_tree n) && is_some x) _ (has-read ns xs i (omega (arith, h)) there)
 
 -- where the same numbers have something, the same trees have
 pub has-same : {X Y : Type 0} (k : BoundTree) (ns : List NumberedNode) (xs : List (Option X)) (ys : List (Option Y)) → length xs ≡ length ys

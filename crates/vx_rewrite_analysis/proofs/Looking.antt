@@ -3,6 +3,7 @@ use Rattle.std.proofs.Common.{◌≡◌, ℕ, zero, suc, ◌<◌, ◌≤◌, ◌
 use Rattle.std.specs.Prelude.{◌⊎◌, All, Option, None, Some, is_some, not, ◌&&◌, Result, IsOkAnd, if◌then◌else◌}
 use Rattle.std.specs.Cmp.{IsEquivalence}
 use Rattle.std.specs.Option.{option_or}
+use Rattle.std.proofs.Math.Bool.{or-false}
 use Rattle.std.proofs.Math.ListN.{set}
 use Rattle.std.proofs.lemmas.List.{append_assoc, reverse-append}
 use Rattle.std.proofs.lemmas.List.Elements.{All-append}
@@ -19,7 +20,7 @@ use Rattle.vx_rewrite_analysis.specs.Refusals.{first_refusal, first_refusal_in}
 use Rattle.vx_rewrite_analysis.specs.declared.numbers.NumberedNode.{NumberedNode}
 use Rattle.vx_rewrite_analysis.proofs.ByNumber.{has-none, has-set, some-set}
 use Rattle.vx_rewrite_analysis.proofs.Refusing.{refusal-split}
-use Rattle.vx_rewrite_analysis.proofs.Subtrees.{reached-children, or_false, sizes-below}
+use Rattle.vx_rewrite_analysis.proofs.Subtrees.{reached-children, sizes-below}
 
 -- ---- what is left of the nodes below one that was looked at
 
@@ -99,19 +100,19 @@ module _ (stops : BoundTree → Bool) (ns : List NumberedNode) where
     -- at first the tree alone waits
     pub reaching-first : (n : ℕ) → tree_at ns n ≡ root → ((i : ℕ) → get_or xs i None ≡ None) → IsReaching stops ns root xs (n ∷ [])
     reaching-first n is none = (
-      λ k. ap (λ h. h || (is_reached stops k (tree_at ns n) || false)) (has-none k ns xs none) ∙ or_false (is_reached stops k (tree_at ns n)) ∙ ap (is_reached stops k) is,
+      λ k. ap (λ h. h || (is_reached stops k (tree_at ns n) || false)) (has-none k ns xs none) ∙ or-false (is_reached stops k (tree_at ns n)) ∙ ap (is_reached stops k) is,
       λ i there. absurd (true≢false (sym there ∙ ap is_some (none i))),
     )
 
     -- at last none waits
     pub reaching-last : (waiting : List ℕ) → waiting ≡ [] → IsReaching stops ns root xs waiting → (k : BoundTree) → has_some k ns xs ≡ is_reached stops k root
-    reaching-last waiting none is k = sym (or_false (has_some k ns xs)) ∙ sym (ap (λ w. has_some k ns xs || is_reached_in stops k (trees_at ns w)) none) ∙ is.0 k
+    reaching-last waiting none is k = sym (or-false (has_some k ns xs)) ∙ sym (ap (λ w. has_some k ns xs || is_reached_in stops k (trees_at ns w)) none) ∙ is.0 k
 
     -- a number that is met again
     pub reaching-again : (n : ℕ) (rest : List ℕ) → is_some (get_or xs n None) ≡ true → IsReaching stops ns root xs (n ∷ rest) → IsReaching stops ns root xs rest
     reaching-again n rest there is =
         let again : HasOrLeaves stops ns xs (tree_at ns n) [] = left-again (HasOrLeaves stops ns xs) ns xs n rest is.1 there in
-        let had : (k : BoundTree) → is_reached stops k (tree_at ns n) ≡ true → has_some k ns xs ≡ true = λ k r. sym (or_false (has_some k ns xs)) ∙ again k r in (
+        let had : (k : BoundTree) → is_reached stops k (tree_at ns n) ≡ true → has_some k ns xs ≡ true = λ k r. sym (or-false (has_some k ns xs)) ∙ again k r in (
           λ k. sym (skip (has_some k ns xs) (is_reached stops k (tree_at ns n)) (is_reached_in stops k (trees_at ns rest)) (had k)) ∙ is.0 k,
           left-next (HasOrLeaves stops ns xs) (HasOrLeaves stops ns xs) ns xs xs n [] rest
               (λ b left said k r. sym (skip (has_some k ns xs) (is_reached stops k (tree_at ns n)) (is_reached_in stops k (trees_at ns left)) (had k)) ∙ said k r)

@@ -7,6 +7,8 @@ use Rattle.std.specs.List.{list_any}
 use Rattle.std.proofs.lemmas.List.{at_drop_more, at_drop_all, append_assoc, map-append}
 use Rattle.std.proofs.lemmas.List.Elements.{All-append}
 use Rattle.std.proofs.lemmas.Option.{slice_get_within, slice_get_read}
+use Rattle.std.proofs.lemmas.Bool.{or_left, or_right}
+use Rattle.std.proofs.Math.Bool.{or_assoc}
 use Rattle.indexmap.specs.IndexSet.{insert_key}
 use Rattle.vx_tree.specs.Digests.{digest_of}
 use Rattle.vx_tree.specs.Equality.{equal_bound, equal_bound-Decides}
@@ -17,7 +19,7 @@ use Rattle.vx_tree.specs.declared.bound.BoundExpression.{BoundExpression}
 use Rattle.vx_rewrite_analysis.specs.Numbers.{head_of, node_tree, equal_numbered, tree_at, trees_at, has_node, IsNumberOf, HasChildrenBelow, IsNumbered, KeepsNumbers}
 use Rattle.vx_rewrite_analysis.specs.Reached.{nowhere, occurs, occurs_in}
 use Rattle.vx_rewrite_analysis.specs.declared.numbers.NumberedNode.{NumberedNode}
-use Rattle.vx_rewrite_analysis.proofs.Subtrees.{or_first, or_second, or_assoc, reached-children}
+use Rattle.vx_rewrite_analysis.proofs.Subtrees.{reached-children}
 
 -- ---- the trees of numbers
 
@@ -136,8 +138,8 @@ number-insert ns m k r was below children within got same =
 -- the tree of a number is that of a node
 has-at : (ns : List NumberedNode) (i : ℕ) (b n : BoundTree) → IsNumberOf ns i b → equal_bound n b ≡ true → has_node n ns ≡ true
 has-at [] i b n is same = absurd (omega (arith, is.0))
-has-at (m ∷ ns) zero b n is same = or_first _ (has_node n ns) (ap (equal_bound n) is.1 ∙ same)
-has-at (m ∷ ns) (suc i) b n is same = or_second (equal_bound n (node_tree m)) _ (has-at ns i b n (omega (arith, is.0), is.1) same)
+has-at (m ∷ ns) zero b n is same = or_left _ (has_node n ns) (ap (equal_bound n) is.1 ∙ same)
+has-at (m ∷ ns) (suc i) b n is same = or_right (equal_bound n (node_tree m)) _ (has-at ns i b n (omega (arith, is.0), is.1) same)
 
 has-append : (ns : List NumberedNode) (m : NumberedNode) (n : BoundTree) → has_node n (ns ++ m ∷ []) ≡ (equal_bound n (node_tree m) || has_node n ns)
 has-append [] m n = refl

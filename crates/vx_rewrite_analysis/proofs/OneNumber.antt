@@ -5,6 +5,7 @@ use Rattle.std.specs.Cmp.{nat_eq_equiv}
 use Rattle.std.specs.Cmp.Lexicographic.{pointwise, nat_list_eq_equiv}
 use Rattle.std.specs.List.{list_any}
 use Rattle.std.proofs.lemmas.Option.{slice_get-get_or}
+use Rattle.std.proofs.lemmas.Bool.{or_left, or_right, and_from}
 use Rattle.indexmap.specs.IndexSet.{insert_key}
 use Rattle.vx_tree.specs.Digests.{digest_of}
 use Rattle.vx_tree.specs.Equality.{equal_bound, equal_bound_equiv}
@@ -13,7 +14,6 @@ use Rattle.vx_tree.specs.Trees.{BoundTree, BoundTrees, bound}
 use Rattle.vx_rewrite_analysis.specs.Numbers.{head_of, node_tree, equal_numbered, tree_at, trees_at, HasOneNumberEach, IsNumbered}
 use Rattle.vx_rewrite_analysis.specs.declared.numbers.NumberedNode.{NumberedNode}
 use Rattle.vx_rewrite_analysis.proofs.Numbering.{tree-append, tree-got, children-insert}
-use Rattle.vx_rewrite_analysis.proofs.Subtrees.{or_first, or_second, and_true}
 
 -- no nodes are numbered
 pub numbered-none : (ns : List NumberedNode) → ns ≡ [] → IsNumbered ns
@@ -39,11 +39,11 @@ same-numbers ns one (k ∷ ks) (l ∷ ls) below within same =
 
 any-at : {A : Type 0} (p : A → Bool) (xs : List A) (i : ℕ) (x : A) → slice_get xs i ≡ Some x → p x ≡ true → list_any p xs ≡ true
 any-at p [] i x got h = cc
-any-at p (y ∷ ys) zero x got h = or_first (p y) (list_any p ys) (ap p (same got) ∙ h)
+any-at p (y ∷ ys) zero x got h = or_left (p y) (list_any p ys) (ap p (same got) ∙ h)
   where
     same : {A : Type 0} {a b : A} → Some a ≡ Some b → a ≡ b
     same e = cc
-any-at p (y ∷ ys) (suc i) x got h = or_second (p y) (list_any p ys) (any-at p ys i x got h)
+any-at p (y ∷ ys) (suc i) x got h = or_right (p y) (list_any p ys) (any-at p ys i x got h)
 
 -- a node of a tree that has a number is found
 found : (ns : List NumberedNode) (m : NumberedNode) (j : ℕ) → IsNumbered ns → All (λ k. k < length ns) m.children.items → trees_at ns m.children.items ≡ bound_children_of (node_tree m)
@@ -61,7 +61,7 @@ found ns m j was below children within same =
     ap (λ t. equal_bound (head_of (node_tree m)) (head_of t)) tree ∙ equal_bound_equiv.refl (head_of (node_tree m)) in
     let lists : pointwise nat_eq m.children.items n.children.items ≡ true =
     ap (pointwise nat_eq m.children.items) (sym numbers) ∙ nat_list_eq_equiv.refl m.children.items in
-    any-at (equal_numbered m) ns j n got (and_true _ _ digests (and_true _ _ heads lists))
+    any-at (equal_numbered m) ns j n got (and_from _ _ digests (and_from _ _ heads lists))
 
 last-append : (ns : List NumberedNode) (m : NumberedNode) (i : ℕ) → i ≡ length ns → tree_at (ns ++ m ∷ []) i ≡ node_tree m
 last-append [] m zero e = refl

@@ -1,11 +1,13 @@
 -- The nodes of a tree, and maps that have an entry for each node below one that has one.
 use Rattle.std.proofs.Common.{true≢false, ◌≡◌, ℕ, zero, suc, ◌+◌, ◌<◌, ◌≤◌, get_or, drop, arith, List, [], ◌∷◌, length, Bool, true, false, ◌||◌, refl, sym, ap, subst, inl, inr, ◌∙◌}
-use Rattle.std.specs.Prelude.{Option, Some, None, is_some, IfSome, not, cond, ◌&&◌, ◌⊎◌}
+use Rattle.std.specs.Prelude.{Option, Some, None, is_some, IfSome, not, cond, ◌&&◌}
 use Rattle.std.specs.Borrow.{Bor}
 use Rattle.std.specs.Option.{option_copied}
 use Rattle.std.specs.HashMap.{HashMap}
 use Rattle.std.specs.Map.{lookup}
 use Rattle.std.proofs.lemmas.List.{at_drop_more, at_drop_all}
+use Rattle.std.proofs.lemmas.Bool.{or_left, or_right, or_cases, and_from, and_parts}
+use Rattle.std.proofs.Math.Bool.{or-false}
 use Rattle.vx_tree.specs.Equality.{equal_bound, equal_bound-Decides, equal_bound_equiv}
 use Rattle.vx_tree.specs.Nodes.{size_of, sizes_of, bound_children_of}
 use Rattle.vx_tree.specs.Trees.{BoundTree, scope, node, BoundTrees, no_bound, bound, unbound, unbound_each}
@@ -17,38 +19,10 @@ use Rattle.vx_rewrite_analysis.specs.Reached.{is_reached, is_reached_in, IsClose
 
 -- ---- truth values
 
-pub or_first : (a b : Bool) → a ≡ true → (a || b) ≡ true
-or_first true b h = refl
-or_first false b h = cc
-
-pub or_second : (a b : Bool) → b ≡ true → (a || b) ≡ true
-or_second true b h = refl
-or_second false b h = h
-
-pub or_either : (a b : Bool) → (a || b) ≡ true → (a ≡ true) ⊎ (b ≡ true)
-or_either true b h = inl refl
-or_either false b h = inr h
-
-pub or_assoc : (a b c : Bool) → ((a || b) || c) ≡ (a || (b || c))
-or_assoc true b c = refl
-or_assoc false b c = refl
-
 pub or_turn : (a b s : Bool) → ((a || b) || s) ≡ (b || (a || s))
 or_turn true true s = refl
 or_turn true false s = refl
 or_turn false b s = refl
-
-pub and_true : (a b : Bool) → a ≡ true → b ≡ true → (a && b) ≡ true
-and_true true b h k = k
-and_true false b h k = cc
-
-pub both : (a b : Bool) → (a && b) ≡ true → (a ≡ true) × (b ≡ true)
-both true b h = (refl, h)
-both false b h = cc
-
-pub or_false : (a : Bool) → (a || false) ≡ a
-or_false true = refl
-or_false false = refl
 
 -- ---- the children of a node
 
@@ -89,23 +63,23 @@ module _ (stops : BoundTree → Bool) where
   reached-children n (node t f bs) = refl
 
   pub reached-itself : (b : BoundTree) → is_reached stops b b ≡ true
-  reached-itself b = reached-children b b ∙ or_first _ (not (stops b) && is_reached_in stops b (bound_children_of b)) ((equal_bound-Decides b b).1 refl)
+  reached-itself b = reached-children b b ∙ or_left _ (not (stops b) && is_reached_in stops b (bound_children_of b)) ((equal_bound-Decides b b).1 refl)
 
   -- what is reached from a node that is reached is reached
   mutual
     pub reached-further : (m n b : BoundTree) → is_reached stops n b ≡ true → is_reached stops m n ≡ true → is_reached stops m b ≡ true
     reached-further m n (scope t) h k = subst (λ x. is_reached stops m x ≡ true) ((equal_bound-Decides n (scope t)).0 h) k
-    reached-further m n (node t f bs) h k = elim (or_either (equal_bound n (node t f bs)) (not (stops (node t f bs)) && is_reached_in stops n bs) h) [
+    reached-further m n (node t f bs) h k = elim (or_cases (equal_bound n (node t f bs)) (not (stops (node t f bs)) && is_reached_in stops n bs) h) [
       | inl e ↦ subst (λ x. is_reached stops m x ≡ true) ((equal_bound-Decides n (node t f bs)).0 e) k
-      | inr i ↦ let p = both (not (stops (node t f bs))) (is_reached_in stops n bs) i in
-          or_second (equal_bound m (node t f bs)) _ (and_true _ _ p.0 (reached_in-further m n bs p.1 k))
+      | inr i ↦ let p = and_parts (not (stops (node t f bs))) (is_reached_in stops n bs) i in
+          or_right (equal_bound m (node t f bs)) _ (and_from _ _ p.0 (reached_in-further m n bs p.1 k))
     ]
 
     pub reached_in-further : (m n : BoundTree) (bs : BoundTrees) → is_reached_in stops n bs ≡ true → is_reached stops m n ≡ true → is_reached_in stops m bs ≡ true
     reached_in-further m n no_bound h k = cc
-    reached_in-further m n (bound b bs) h k = elim (or_either (is_reached stops n b) (is_reached_in stops n bs) h) [
-      | inl e ↦ or_first _ (is_reached_in stops m bs) (reached-further m n b e k)
-      | inr i ↦ or_second (is_reached stops m b) _ (reached_in-further m n bs i k)
+    reached_in-further m n (bound b bs) h k = elim (or_cases (is_reached stops n b) (is_reached_in stops n bs) h) [
+      | inl e ↦ or_left _ (is_reached_in stops m bs) (reached-further m n b e k)
+      | inr i ↦ or_right (is_reached stops m b) _ (reached_in-further m n bs i k)
     ]
 
   -- one more child is reached
@@ -123,9 +97,9 @@ module _ (stops : BoundTree → Bool) where
     -- a map that has entries for what is reached from one more tree is closed as it was
     pub closed-with : (b : BoundTree) (old new : HashMap ExactBoundExpr X S) → IsClosed stops old
         → ((k : ExactBoundExpr) → is_some (entry_at (key_of k) new) ≡ (is_reached stops (key_of k) b || is_some (entry_at (key_of k) old))) → IsClosed stops new
-    closed-with b old new closed nodes j k here below = elim (or_either (is_reached stops (key_of j) b) (is_some (entry_at (key_of j) old)) (sym (nodes j) ∙ here)) [
-      | inl o ↦ nodes k ∙ or_first _ (is_some (entry_at (key_of k) old)) (reached-further (key_of k) (key_of j) b o below)
-      | inr was ↦ nodes k ∙ or_second (is_reached stops (key_of k) b) _ (closed j k was below)
+    closed-with b old new closed nodes j k here below = elim (or_cases (is_reached stops (key_of j) b) (is_some (entry_at (key_of j) old)) (sym (nodes j) ∙ here)) [
+      | inl o ↦ nodes k ∙ or_left _ (is_some (entry_at (key_of k) old)) (reached-further (key_of k) (key_of j) b o below)
+      | inr was ↦ nodes k ∙ or_right (is_reached stops (key_of k) b) _ (closed j k was below)
     ]
 
     -- where a key has an entry, those reached from its tree have one
@@ -171,7 +145,7 @@ entries-of-none P m empty k = subst (λ o. IfSome o (P (key_of k))) (sym (entry-
 
 -- what is reached has entries beside none
 pub nodes-of-none : {X S : Type 0} (here : Bool) (k : ExactBoundExpr) (m : HashMap ExactBoundExpr X S) → m.entries ≡ [] → (here || is_some (entry_at (key_of k) m)) ≡ here
-nodes-of-none here k m empty = ap (λ o. here || is_some o) (entry-of-none (key_of k) m empty) ∙ or_false here
+nodes-of-none here k m empty = ap (λ o. here || is_some o) (entry-of-none (key_of k) m empty) ∙ or-false here
 
 -- ---- what is said of each entry
 

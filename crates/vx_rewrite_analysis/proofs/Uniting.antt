@@ -4,7 +4,9 @@ use Rattle.std.specs.Prelude.{◌⊎◌, All, Option, None, Some, is_some, if◌
 use Rattle.std.specs.Cmp.{IsEquivalence}
 use Rattle.std.specs.HashSet.{HashSet, contains}
 use Rattle.std.specs.List.{list_any}
+use Rattle.std.proofs.lemmas.Bool.{or_left, or_right, and_from}
 use Rattle.std.proofs.lemmas.List.{at_drop_more, at_drop_all}
+use Rattle.std.proofs.Math.Bool.{or_assoc, or-false}
 use Rattle.vx_tree.specs.Nodes.{bound_children_of}
 use Rattle.vx_tree.specs.Trees.{BoundTree}
 use Rattle.vx_rewrite_analysis.specs.Annotations.{is_some_item, answered, SameAnnotations, is_annotation, is_annotation_in, IsAnnotationsOf}
@@ -14,7 +16,7 @@ use Rattle.vx_rewrite_analysis.specs.Reached.{is_reached, is_reached_in}
 use Rattle.vx_rewrite_analysis.specs.declared.numbers.NumberedNode.{NumberedNode}
 use Rattle.vx_rewrite_analysis.proofs.Annotating.{items-alike, answered-set, unanswered-set}
 use Rattle.vx_rewrite_analysis.proofs.ByNumber.{has-at, has-read}
-use Rattle.vx_rewrite_analysis.proofs.Subtrees.{or_first, or_second, or_assoc, or_false, and_true, reached-children, reached-itself, reached-further}
+use Rattle.vx_rewrite_analysis.proofs.Subtrees.{reached-children, reached-itself, reached-further}
 
 -- ---- one more number
 
@@ -74,11 +76,11 @@ any-next f ks i before after all h e so_far =
 
 -- a child's that is not there adds nothing
 pub any-none : (f : ℕ → Bool) (ks : List ℕ) (i : ℕ) (before all : Bool) → i < length ks → f (get_or ks i 0) ≡ false → (before || list_any f (drop i ks)) ≡ all → (before || list_any f (drop (i + 1) ks)) ≡ all
-any-none f ks i before all h none so_far = any-next f ks i before before all h (sym (ap (λ x. before || x) none ∙ or_false before)) so_far
+any-none f ks i before all h none so_far = any-next f ks i before before all h (sym (ap (λ x. before || x) none ∙ or-false before)) so_far
 
 -- all children's are added
 pub any-end : (f : ℕ → Bool) (ks : List ℕ) (i : ℕ) (last all : Bool) → length ks ≤ i → (last || list_any f (drop i ks)) ≡ all → last ≡ all
-any-end f ks i last all h so_far = sym (ap (λ r. last || r) (at_drop_all (list_any f) ks i h) ∙ or_false last) ∙ so_far
+any-end f ks i last all h so_far = sym (ap (λ r. last || r) (at_drop_all (list_any f) ks i h) ∙ or-false last) ∙ so_far
 
 module _ {A S : Type 0} (eq : A → A → Bool) (answers : BoundTree → List A) (ns : List NumberedNode) (sets : List (Option (HashSet A S))) where
   -- the sets of numbers that have some are together the annotations of their trees
@@ -115,8 +117,8 @@ module _ {A S : Type 0} (eq : A → A → Bool) (answers : BoundTree → List A)
 module _ {X : Type 0} (stops : BoundTree → Bool) (root : BoundTree) (ns : List NumberedNode) (one : HasOneNumberEach ns) (xs : List (Option X)) (reached : HasReached stops root ns xs) where
   reached-child : (ks : List ℕ) (j d : ℕ) → j < length ks → is_reached_in stops (tree_at ns (get_or ks j d)) (trees_at ns ks) ≡ true
   reached-child [] j d h = absurd (omega (arith, h))
-  reached-child (k ∷ ks) zero d h = or_first _ (is_reached_in stops (tree_at ns k) (trees_at ns ks)) (reached-itself stops (tree_at ns k))
-  reached-child (k ∷ ks) (suc j) d h = or_second (is_reached stops (tree_at ns (get_or ks j d)) (tree_at ns k)) _ (reached-child ks j d (omega (arith, h)))
+  reached-child (k ∷ ks) zero d h = or_left _ (is_reached_in stops (tree_at ns k) (trees_at ns ks)) (reached-itself stops (tree_at ns k))
+  reached-child (k ∷ ks) (suc j) d h = or_right (is_reached stops (tree_at ns (get_or ks j d)) (tree_at ns k)) _ (reached-child ks j d (omega (arith, h)))
 
   -- the children of one that doesn't stop and has something have something
   pub children-have : (i : ℕ) (ks : List ℕ) → i < length ns → is_some (get_or xs i None) ≡ true → stops (tree_at ns i) ≡ false → trees_at ns ks ≡ bound_children_of (tree_at ns i) → All (λ k. k < i) ks
@@ -127,5 +129,5 @@ module _ {X : Type 0} (stops : BoundTree → Bool) (root : BoundTree) (ns : List
       let here : is_reached stops (tree_at ns i) root ≡ true = sym (reached (tree_at ns i)) ∙ has-read ns xs i h there in
       let next : is_reached_in stops child (bound_children_of (tree_at ns i)) ≡ true = subst (λ bs. is_reached_in stops child bs ≡ true) children (reached-child ks j d lt) in
       let below : is_reached stops child (tree_at ns i) ≡ true =
-      reached-children stops child (tree_at ns i) ∙ or_second _ (not (stops (tree_at ns i)) && is_reached_in stops child (bound_children_of (tree_at ns i))) (and_true _ _ (ap not goes) next) in
+      reached-children stops child (tree_at ns i) ∙ or_right _ (not (stops (tree_at ns i)) && is_reached_in stops child (bound_children_of (tree_at ns i))) (and_from _ _ (ap not goes) next) in
       has-at ns one xs (get_or ks j d) (omega (arith, lower, h)) (reached child ∙ reached-further stops child (tree_at ns i) root here below)

@@ -1,6 +1,7 @@
 -- A conjunct that is merged with the first one before it that bounds its item from the other side.
 use Rattle.std.proofs.Common.{◌≡◌, ◌≢◌, inl, inr, ℕ, zero, suc, ◌<◌, ◌≤◌, List, [], ◌∷◌, ◌++◌, length, get_or, set, refl, sym, subst, ap, ◌∙◌, arith, append_assoc, length-append}
 use Rattle.std.specs.Prelude.{Option, Some, None, slice_get}
+use Rattle.std.proofs.lemmas.Bool.{cases_lt}
 use Rattle.std.specs.declared.alloc.Global.{Global}
 use Rattle.std.specs.declared.boxed.Box.{Box}
 use Rattle.vx_tree.specs.Trees.{BoundTree}
@@ -15,7 +16,7 @@ use Rattle.vx_rewrite_fusing.specs.declared.ranges.Side.TheVariants.{Below, Abov
 use Rattle.vx_rewrite_fusing.specs.Conjuncts.{range_of, MergeTo}
 use Rattle.vx_rewrite_fusing.specs.Finding.{range_seen, tree_in, LeftMerged}
 use Rattle.vx_rewrite_fusing.specs.Places.{opposite, turned, Bounded, bounded_by, bounded_at, head_of, BecomesBy, Has, Holds, IsCut, IsLast, IsLinked, IsWithin, MergedAt, at_stays, SetsHead}
-use Rattle.vx_rewrite_fusing.proofs.Linking.{below_or, bounded_inside, first_is, none_is, place_read, removed_linked}
+use Rattle.vx_rewrite_fusing.proofs.Linking.{bounded_inside, first_is, none_is, place_read, removed_linked}
 use Rattle.vx_rewrite_fusing.proofs.Holding.{has_first, has_second, has_either, has_at, place_of, holds_merged, IsSplit, split_at}
 use Rattle.vx_rewrite_fusing.proofs.Merges.{either}
 
@@ -171,8 +172,8 @@ module _ (places : Places) (right : RangeComparison) (after : Option ℕ) {back 
           go None h = absurd (h at (bounded_inside middle.list.items at mine here) here)
           go (Some h) w = either
               (λ (l : h < at). absurd (w.2 at l (bounded_inside middle.list.items at mine here) here))
-              (λ (l : at ≤ h). either (λ (m : at < h). absurd (not_later h m w.1)) (λ (m : h ≤ at). let same : h ≡ at = omega arith in ap Some same) (below_or at h))
-              (below_or h at)
+              (λ (l : at ≤ h). either (λ (m : at < h). absurd (not_later h m w.1)) (λ (m : h ≤ at). let same : h ≡ at = omega arith in ap Some same) (cases_lt at h))
+              (cases_lt h at)
 
       pub linked_after : (middle new : Places) → middle.list.items ≡ set places.list.items first (Merged b) → SetsHead places.heads middle.heads (opposite right.side) right.item next
           → new.list.items ≡ set middle.list.items at Gone → (head_of middle.heads right.side right.item ≢ None → SetsHead middle.heads new.heads right.side right.item after) → IsLinked new

@@ -6,7 +6,8 @@ use Rattle.std.specs.declared.boxed.Box.{Box}
 use Rattle.vx_value.specs.Types.{LogicalType, is_nullable}
 use Rattle.vx_fn.specs.Functions.{and_also, truth_type}
 use Rattle.vx_fn.specs.Views.{is_strict}
-use Rattle.vx_fn.specs.Faults.{IsIn}
+use Rattle.vx_dtype.specs.Lists.{IsIn}
+use Rattle.vx_dtype.proofs.Lists.{in_left, in_right}
 use Rattle.vx_tree.specs.Trees.{BoundTree, node_type}
 use Rattle.vx_tree.specs.Views.{bound_of}
 use Rattle.vx_tree.specs.declared.bound.BoundExpression.{BoundExpression}
@@ -18,7 +19,7 @@ use Rattle.vx_rewrite_fusing.specs.declared.ranges.Side.TheVariants.{Below, Abov
 use Rattle.vx_rewrite_fusing.specs.Conjuncts.{and_node, and_of, is_and, conjuncts, range_of, MergeTo, below_and_above, above_and_below, Mergeable, NoneMergeable, Fused}
 use Rattle.vx_rewrite_fusing.specs.Finding.{range_from, range_seen, tree_in, conjuncts_left, joined, IsBinary, LeftMerged}
 use Rattle.vx_rewrite_fusing.specs.Places.{opposite, turned, Bounded, bounded_at, became_place, has_merged, Has, NoPair, Holds, no_range, open_range, merged_range, gone_range, both, IsPlaceOf, IsNoted}
-use Rattle.vx_rewrite_fusing.proofs.Merges.{alone, either, in_own, in_first, in_second, no_left, none_of_fused}
+use Rattle.vx_rewrite_fusing.proofs.Merges.{alone, either, in_own, no_left, none_of_fused}
 use Rattle.vx_rewrite_fusing.proofs.Pairs.{opposite_pair}
 use Rattle.vx_rewrite_fusing.proofs.Pairing.{conjuncts_left-joined}
 use Rattle.vx_rewrite_fusing.proofs.Found.{left_alone, left_none_alone, left_in_first, left_in_second, none_append_left}
@@ -159,8 +160,8 @@ abbrev pub RangeIn : Bounded → Option BoundTree → Type 0
 RangeIn k o = (c : BoundTree) × (r : RangeComparison) × IsIn c (conjuncts_left o) × (range_of c ≡ Some (range_seen r)) × ((r.side, bound_of r.item.now) ≡ k)
 
 range_joined : (k : Bounded) (l r : Option BoundTree) → RangeIn k l ⊎ RangeIn k r → RangeIn k (joined l r)
-range_joined k l r (inl h) = (h.0, h.1, subst (IsIn h.0) (sym (conjuncts_left-joined l r)) (in_first h.0 (conjuncts_left l) (conjuncts_left r) h.2), h.3, h.4)
-range_joined k l r (inr h) = (h.0, h.1, subst (IsIn h.0) (sym (conjuncts_left-joined l r)) (in_second h.0 (conjuncts_left l) (conjuncts_left r) h.2), h.3, h.4)
+range_joined k l r (inl h) = (h.0, h.1, subst (IsIn h.0) (sym (conjuncts_left-joined l r)) (in_left h.0 (conjuncts_left l) (conjuncts_left r) h.2), h.3, h.4)
+range_joined k l r (inr h) = (h.0, h.1, subst (IsIn h.0) (sym (conjuncts_left-joined l r)) (in_right h.0 (conjuncts_left l) (conjuncts_left r) h.2), h.3, h.4)
 
 pub range_held : {l : BoundTree} {o : Option BoundTree} {ps : List Place} (k : Bounded) → Holds l ps o → Has ps k → RangeIn k o
 range_held k (no_range a n) (inl e) = cc

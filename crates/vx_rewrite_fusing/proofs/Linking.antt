@@ -1,6 +1,7 @@
 -- Where the ranges of an item stand, after a conjunct is put in front or merged.
 use Rattle.std.proofs.Common.{◌≡◌, ◌⊎◌, inl, inr, ℕ, zero, suc, ◌<◌, ◌≤◌, List, [], ◌∷◌, ◌++◌, length, get_or, set, refl, sym, subst, ap, ◌∙◌, Bool, true, false, arith, length-append, length-set}
 use Rattle.std.specs.Prelude.{Option, Some, None, slice_get}
+use Rattle.std.proofs.lemmas.Bool.{cases_lt}
 use denote.Ref.{Bor}
 use Rattle.vx_tree.specs.Equality.{equal_bound, equal_bound-Decides}
 use Rattle.vx_tree.specs.Trees.{BoundTree}
@@ -82,18 +83,13 @@ place_read (q ∷ ps) (suc i) p l e = place_read ps i p (omega arith) e
 
 -- ---- the last place of an item
 
-pub below_or : (i n : ℕ) → (i < n) ⊎ (n ≤ i)
-below_or i zero = inr (omega arith)
-below_or zero (suc n) = inl (omega arith)
-below_or (suc i) (suc n) = either (λ (l : i < n). inl (omega arith)) (λ (l : n ≤ i). inr (omega arith)) (below_or i n)
-
 last_agrees : (ps qs : List Place) (k : Bounded) (n : ℕ) (o : Option ℕ) → ((i : ℕ) → i < n → bounded_at ps i ≡ Some k → bounded_at qs i ≡ Some k) → ((i : ℕ) → i < n → bounded_at qs i ≡ Some k → bounded_at ps i ≡ Some k) → IsLast ps k n o → IsLast qs k n o
 last_agrees ps qs k n None f g h = λ i l e. h i l (g i l e)
 last_agrees ps qs k n (Some j) f g h = (h.0, f j h.0 h.1, λ i a b e. h.2 i a b (g i b e))
 
 last_up : (ps : List Place) (k : Bounded) (n m : ℕ) (o : Option ℕ) → n ≤ m → ((i : ℕ) → n ≤ i → i < m → bounded_at ps i ≡ Some k → ⊥) → IsLast ps k n o → IsLast ps k m o
-last_up ps k n m None l f h = λ i b e. either (λ p. h i p e) (λ p. f i p b e) (below_or i n)
-last_up ps k n m (Some j) l f h = (let a : j < n = h.0 in omega arith, h.1, λ i a b e. either (λ p. h.2 i a p e) (λ p. f i p b e) (below_or i n))
+last_up ps k n m None l f h = λ i b e. either (λ p. h i p e) (λ p. f i p b e) (cases_lt i n)
+last_up ps k n m (Some j) l f h = (let a : j < n = h.0 in omega arith, h.1, λ i a b e. either (λ p. h.2 i a p e) (λ p. f i p b e) (cases_lt i n))
 
 last_front : (ps qs : List Place) (k : Bounded) (n : ℕ) (o : Option ℕ) → n ≤ length ps → IsLast ps k n o → IsLast (ps ++ qs) k n o
 last_front ps qs k n o l h = last_agrees ps (ps ++ qs) k n o
@@ -120,7 +116,7 @@ abbrev NextsRight : List Place → Type 0
 NextsRight ps = (i : ℕ) (k : Bounded) → bounded_at ps i ≡ Some k → IsLast ps k i (next_at ps i)
 
 nexts_pushed : (ps : List Place) (p : Place) → NextsRight ps → ((k : Bounded) → bounded_by p ≡ Some k → IsLast ps k (length ps) (next_of p)) → NextsRight (ps ++ p ∷ [])
-nexts_pushed ps p f g i k e = either inside at_end (below_or i (length ps))
+nexts_pushed ps p f g i k e = either inside at_end (cases_lt i (length ps))
   where
     inside : i < length ps → IsLast (ps ++ p ∷ []) k i (next_at (ps ++ p ∷ []) i)
     inside l = subst (IsLast (ps ++ p ∷ []) k i) (sym (next_front ps (p ∷ []) i l)) (last_front ps (p ∷ []) k i (next_at ps i) (omega arith) (f i k (sym (bounded_front ps (p ∷ []) i l) ∙ e)))
@@ -217,10 +213,10 @@ module _ (ps : List Place) (i : ℕ) (q : Place) (k : Bounded) (gone : bounded_b
       (last_below k i o (omega arith) last)
     where
       apart_above : (a b : ℕ) → a ≤ b → (b ≡ a → ⊥) → a < b
-      apart_above a b l n = either (λ m. m) (λ m. absurd (n (omega arith))) (below_or a b)
+      apart_above a b l n = either (λ m. m) (λ m. absurd (n (omega arith))) (cases_lt a b)
 
   nexts_set : NextsRight ps → NextsRight (set ps i q)
-  nexts_set f j h e = subst (IsLast (set ps i q) h j) (sym (next_apart ps i j q n)) (either past front (below_or i j))
+  nexts_set f j h e = subst (IsLast (set ps i q) h j) (sym (next_apart ps i j q n)) (either past front (cases_lt i j))
     where
       n : j ≡ i → ⊥
       n = open_apart j h e

@@ -3,6 +3,7 @@ use Rattle.std.proofs.Common.{◌≡◌, ℕ, suc, List, ◌++◌, refl, sym, su
 use Rattle.std.specs.Prelude.{Option, Some, None, Result, Ok, Err, IfOk, option_map}
 use Rattle.std.proofs.lemmas.List.{append-nil}
 use Rattle.vx_dtype.specs.declared.error.VortexError.{VortexError}
+use Rattle.vx_dtype.proofs.Lists.{in_left, in_right}
 use Rattle.vx_value.specs.Types.{LogicalType}
 use Rattle.vx_fn.specs.Functions.{and_also}
 use Rattle.vx_tree.specs.Trees.{BoundTree, node_type}
@@ -12,7 +13,7 @@ use Rattle.vx_rewrite_fusing.specs.Conjuncts.{and_node, and_of, is_and, conjunct
 use Rattle.vx_rewrite_fusing.specs.Merging.{IsFirstPair, Replaced, MergeAt, right_stays, right_goes, Merges, IsFusedOf}
 use Rattle.vx_rewrite_fusing.specs.declared.merge.Merged.{Merged}
 use Rattle.vx_rewrite_fusing.specs.Finding.{IsBinary, Gone, whole, part, PairMerged, Pairs, last_pair, and_pairs, conjuncts_left, joined, tree_in, PairsMerged, MergesSecond, with_pairs, without_pairs}
-use Rattle.vx_rewrite_fusing.proofs.Merges.{either, in_first, in_second, no_left, merged_plain, replaced_within, replaced_fused, removed_fused, conjunct_fused, gone_fused, fused_and}
+use Rattle.vx_rewrite_fusing.proofs.Merges.{either, no_left, merged_plain, replaced_within, replaced_fused, removed_fused, conjunct_fused, gone_fused, fused_and}
 use Rattle.vx_rewrite_fusing.proofs.Found.{none_append_right, none_to_none, right_is_some, right_in_first, right_in_second}
 
 -- ---- what isn't mergeable with the left conjuncts isn't after merges
@@ -147,7 +148,7 @@ pub none_across : {b l r : BoundTree} → IsBinary and_also l r b → Fused b �
 none_across {l = l} {r = r} b f = go (subst Fused b.1 f)
   where
     go : Fused (and_node b.0 l r) → NoneMergeable (conjuncts l) (conjuncts r)
-    go g c d i j k = g.0 c d (in_first c (conjuncts l) (conjuncts r) i) (in_second d (conjuncts l) (conjuncts r) j) k
+    go g c d i j k = g.0 c d (in_left c (conjuncts l) (conjuncts r) i) (in_right d (conjuncts l) (conjuncts r) j) k
 
 -- where pairs are merged the tree wasn't fused
 pub root_unfused : {b l r u : BoundTree} {rest : Option BoundTree} → IsBinary and_also l r b → PairsMerged l r u rest → Fused b → ⊥

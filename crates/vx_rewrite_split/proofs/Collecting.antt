@@ -1,6 +1,7 @@
 -- Marks and pieces of one more child, and of a node.
 use Rattle.std.proofs.Common.{◌≡◌, ℕ, ◌+◌, ◌<◌, ◌≤◌, Bool, true, false, List, [], ◌∷◌, ◌++◌, length, take, get_or, drop, drop-cons, drop_of_length-le, add-one, Option, Some, None, refl, sym, ap, subst, ◌∙◌, append_assoc, append-nil}
 use Rattle.std.specs.Prelude.{◌||◌}
+use Rattle.std.proofs.Math.Seq.{take-append_seam}
 use Rattle.vx_fn.specs.Functions.{Function}
 use Rattle.vx_value.specs.Types.{LogicalType}
 use Rattle.vx_tree.specs.declared.bound.BoundExpression.{BoundExpression}
@@ -20,10 +21,6 @@ bounds_next es i e h is = rw (add-one, drop-cons es i e h, ← is) refl
 
 pub bounds_end : (es : List BoundExpression) (i : ℕ) → length es ≤ i → bounds_of (drop i es) ≡ no_bound
 bounds_end es i h = rw (drop_of_length-le es h) refl
-
-take-front : {X : Type 0} (xs ys : List X) → take (length xs) (xs ++ ys) ≡ xs
-take-front [] ys = refl
-take-front (x ∷ xs) ys = ap (λ l. x ∷ l) (take-front xs ys)
 
 module _ {A : Type 0} (eq : A → A → Bool) where
   above_some : (before xs : List (Piece A)) (ms : List Mark) → has_some xs ≡ true → marked eq None before xs ms ≡ Above ∷ ms
@@ -96,7 +93,7 @@ module _ {A : Type 0} (eq : A → A → Bool) where
         → IsWalked eq before (each_pieces only all) (marked eq None before (each_pieces only all) (marks_of_each eq only before all)) some old new gs
     none_below before all es i some old marks cut new gs h w e short put =
         let r = ended before all es i some old marks gs h w in
-        let back : cut ≡ old = short ∙ ap (take (length old)) r.1 ∙ take-front old (Above ∷ marks_of_each eq only before all) in
+        let back : cut ≡ old = short ∙ ap (take (length old)) r.1 ∙ take-append_seam old (Above ∷ marks_of_each eq only before all) in
         record {
           told = r.0;
           noted = put ∙ ap (λ ms. ms ++ Kept ∷ []) back ∙ ap (λ ms. old ++ ms) (sym (kept_none before (each_pieces only all) (marks_of_each eq only before all) (sym r.0 ∙ e)));

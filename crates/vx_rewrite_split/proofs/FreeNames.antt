@@ -7,13 +7,13 @@ use Rattle.std.specs.List.{list_any}
 use Rattle.std.specs.Str.{bytes_eq}
 use Rattle.std.proofs.lemmas.Bool.{or_parts}
 use Rattle.std.proofs.lemmas.List.Folds.{list_any-append}
+use Rattle.vx_dtype.proofs.NameTests.{own_name, other_name}
 use Rattle.vx_value.specs.Types.{Name}
 use Rattle.vx_rewrite_recombine.specs.Partitions.{Distinct, partition_names}
 use Rattle.vx_rewrite_recombine.specs.Pieces.{Piece, pieces, annotations_of, grouped}
 use Rattle.vx_rewrite_split.specs.Keys.{same_bytes}
 use Rattle.vx_rewrite_split.specs.Partitioned.{first_taken, unless_taken, NamesAreFree}
 use Rattle.vx_rewrite_split.proofs.Growing.{Apart, annotations-apart}
-use Rattle.vx_rewrite_split.proofs.Tables.{same_name, other_name}
 
 -- a name isn't among those before it
 apart_from : (before names : List Name) (b : Name) → list_any (bytes_eq b) before ≡ true → first_taken before names ≡ None → list_any (bytes_eq b) names ≡ false
@@ -37,7 +37,7 @@ free_differ before [] e = tt
 free_differ before (a ∷ names) e = go (list_any (bytes_eq a) before) e (free_differ (before ++ a ∷ []) names)
   where
     last : (xs : List Name) → list_any (bytes_eq a) (xs ++ a ∷ []) ≡ true
-    last xs = list_any-append (bytes_eq a) xs (a ∷ []) ∙ ap (λ t. list_any (bytes_eq a) xs || (t || false)) (same_name a) ∙ or_true (list_any (bytes_eq a) xs)
+    last xs = list_any-append (bytes_eq a) xs (a ∷ []) ∙ ap (λ t. list_any (bytes_eq a) xs || (t || false)) (own_name a) ∙ or_true (list_any (bytes_eq a) xs)
       where
         or_true : (t : Bool) → (t || true) ≡ true
         or_true true = refl
@@ -84,9 +84,9 @@ has_names-next s t names new a copy has same put is b =
     or_false false = refl
 
     go : (t : Bool) → bytes_eq a b ≡ t → cond t true (contains bytes_eq s b) ≡ (list_any (bytes_eq b) names || (bytes_eq b a || false))
-    go true q = or_true (list_any (bytes_eq b) names) ∙ sym (ap (λ t. list_any (bytes_eq b) names || (t || false)) (ap (λ n. bytes_eq b n) (same_bytes a b q) ∙ same_name b))
+    go true q = or_true (list_any (bytes_eq b) names) ∙ sym (ap (λ t. list_any (bytes_eq b) names || (t || false)) (ap (λ n. bytes_eq b n) (same_bytes a b q) ∙ own_name b))
     go false q = has b ∙ or_false (list_any (bytes_eq b) names)
-        ∙ sym (ap (λ t. list_any (bytes_eq b) names || (t || false)) (other_name b a (λ e. true≢false (sym (same_name a) ∙ ap (bytes_eq a) (sym e) ∙ q))))
+        ∙ sym (ap (λ t. list_any (bytes_eq b) names || (t || false)) (other_name b a (λ e. true≢false (sym (own_name a) ∙ ap (bytes_eq a) (sym e) ∙ q))))
 
 -- ---- names that are their own annotations
 
@@ -107,7 +107,7 @@ apart_free before (a ∷ names) h k = go (list_any (bytes_eq a) before) refl (ap
     still b e = joined b (list_any (bytes_eq b) before) (bytes_eq b a) refl refl (sym (list_any-append (bytes_eq b) before (a ∷ [])) ∙ e)
 
     go : (t : Bool) → list_any (bytes_eq a) before ≡ t → first_taken (before ++ a ∷ []) names ≡ None → (if t then Some a else first_taken (before ++ a ∷ []) names) ≡ None
-    go true q r = absurd (true≢false (sym (same_name a) ∙ (or_parts (bytes_eq a a) (list_any (bytes_eq a) names) (k a q)).0))
+    go true q r = absurd (true≢false (sym (own_name a) ∙ (or_parts (bytes_eq a a) (list_any (bytes_eq a) names) (k a q)).0))
     go false q r = r
 
 own_names : (xs : List (Piece Name)) (cs : List Name) → partition_names (λ a. a) (grouped bytes_eq xs cs) ≡ cs

@@ -7,9 +7,10 @@ use Rattle.vx_fn.specs.Functions.{pack}
 use Rattle.vx_fn.specs.Rows.{of_pack}
 use Rattle.vx_fn.proofs.Rows.{fn_type-only}
 use Rattle.vx_tree.specs.Binding.{node_over}
-use Rattle.vx_tree.specs.Trees.{BoundTree, node, node_types, on_ok}
+use Rattle.vx_tree.specs.Trees.{BoundTree, node, on_ok}
 use Rattle.vx_tree.specs.Views.{bound_of, bounds_of}
 use Rattle.vx_tree.specs.declared.bound.BoundExpression.{BoundExpression}
+use Rattle.vx_tree.proofs.Nodes.{length-node_types}
 use Rattle.vx_rewrite_recombine.specs.Items.{packed}
 use Rattle.vx_rewrite_recombine.specs.Partitions.{piece_name, piece_names, partition_names}
 use Rattle.vx_rewrite_split.proofs.Grouping.{seen}
@@ -28,15 +29,11 @@ name_next text ps i made new n all h is put so_far =
     ap (λ k. new ++ piece_names text (i + 1) (map bound_of (drop k ps))) (add-one i) ∙ ap (λ l. l ++ rest) put ∙ append_assoc made (n ∷ []) rest ∙ ap (λ m. made ++ (m ∷ rest)) is
     ∙ ap (λ l. made ++ l) (sym (names_from text i ps i h)) ∙ so_far
 
-types_count : (ps : List BoundExpression) → length (node_types (bounds_of ps)) ≡ length ps
-types_count [] = refl
-types_count (p ∷ ps) = ap suc (types_count ps)
-
 -- typing gives the struct of the pieces
 pub pack_over : (names : List Name) (ps : List BoundExpression) → length names ≡ length ps → node_over (pack names false) (bounds_of ps) ≡ Ok (packed names (bounds_of ps))
 pack_over names ps h =
     ap (on_ok (λ t. Ok (node t (pack names false) (bounds_of ps))))
-    (fn_type-only (of_pack {names = names} {n = false} (eq-eqb _ _ (types_count ps ∙ sym h))))
+    (fn_type-only (of_pack {names = names} {n = false} (eq-eqb _ _ (length-node_types ps ∙ sym h))))
 
 -- the field names of the groups, by their keys
 pub names_seen : {A Z : Type 0} (name : A → Name) (es : List (A × Vec BoundExpression Z)) → map name (keys_of es) ≡ partition_names name (seen es)

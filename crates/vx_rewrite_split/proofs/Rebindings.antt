@@ -1,27 +1,15 @@
 -- The nodes that were bound again so far, and then the rest.
-use Rattle.std.proofs.Common.{◌≡◌, ℕ, ◌+◌, ◌<◌, ◌≤◌, List, [], ◌∷◌, ◌++◌, length, get_or, drop, drop-cons, drop_of_length-le, add-one, Result, Ok, Err, refl, sym, ap, ◌∙◌}
+use Rattle.std.proofs.Common.{◌≡◌, ℕ, ◌+◌, ◌<◌, ◌≤◌, List, [], ◌∷◌, ◌++◌, length, get_or, drop, drop-cons, drop_of_length-le, add-one, Result, Ok, Err, sym, ap, ◌∙◌}
 use Rattle.vx_dtype.specs.declared.error.VortexError.{VortexError}
 use Rattle.vx_value.specs.Types.{LogicalType}
 use Rattle.vx_tree.specs.declared.bound.BoundExpression.{BoundExpression}
-use Rattle.vx_tree.specs.Trees.{BoundTrees, no_bound, bound, on_ok, unbound, unbound_each}
+use Rattle.vx_tree.specs.Trees.{BoundTrees, on_ok, unbound, unbound_each}
 use Rattle.vx_tree.specs.Binding.{binding, each_binding}
 use Rattle.vx_tree.specs.Views.{bound_of, bounds_of}
-use Rattle.vx_tree.proofs.Bindings.{put, before, after}
+use Rattle.vx_tree.proofs.Bindings.{put, after, before_nothing, after_push}
 
 abbrev ok_bounds : BoundTrees → Result BoundTrees VortexError
 ok_bounds bs = Ok bs
-
-before_push : (made : List BoundExpression) (b : BoundExpression) (bs : BoundTrees) → before (made ++ b ∷ []) bs ≡ before made (bound (bound_of b) bs)
-before_push [] b bs = refl
-before_push (x ∷ made) b bs = ap (bound (bound_of x)) (before_push made b bs)
-
-before_nothing : (made : List BoundExpression) → before made no_bound ≡ bounds_of made
-before_nothing [] = refl
-before_nothing (x ∷ made) = ap (bound (bound_of x)) (before_nothing made)
-
-after_push : (made : List BoundExpression) (b : BoundExpression) (rest : Result BoundTrees VortexError) → after (made ++ b ∷ []) rest ≡ after made (put (bound_of b) rest)
-after_push made b (Ok bs) = ap ok_bounds (before_push made b bs)
-after_push made b (Err e) = refl
 
 -- the trees from that index on, bound again
 abbrev rest_of : List BoundExpression → LogicalType → ℕ → Result BoundTrees VortexError

@@ -2,12 +2,14 @@
 use Rattle.std.proofs.Common.{◌≡◌, ℕ, zero, suc, ◌+◌, Bool, true, false, List, [], ◌∷◌, ◌++◌, length, map, Option, Some, slice_get, refl, sym, ap, subst, ◌∙◌, true≢false, arith, inl, inr}
 use Rattle.std.specs.Prelude.{if◌then◌else◌, ◌||◌, not, cond}
 use Rattle.std.specs.Cmp.{IsEquivalence}
-use Rattle.std.specs.List.{list_any, filter, position_or_len}
+use Rattle.std.specs.List.{list_any, position_or_len}
 use Rattle.std.specs.Str.{bytes_eq}
 use Rattle.std.proofs.lemmas.Bool.{or_parts}
-use Rattle.std.proofs.lemmas.Slice.Eq.{bytes_eq-Decides}
-use Rattle.vx_value.specs.Types.{Name, LogicalType}
-use Rattle.vx_fn.specs.Faults.{IsIn}
+use Rattle.std.proofs.lemmas.List.Elements.{filter-append}
+use Rattle.vx_value.specs.Types.{LogicalType}
+use Rattle.vx_dtype.specs.Lists.{IsIn}
+use Rattle.vx_dtype.proofs.NameTests.{own_name, other_name}
+use Rattle.vx_dtype.proofs.Lists.{in_the_middle}
 use Rattle.vx_tree.specs.Trees.{BoundTree, scope, node_type}
 use Rattle.vx_tree.specs.Views.{bounds_from}
 use Rattle.vx_rewrite_recombine.specs.Items.{item_of, tree_named}
@@ -20,16 +22,6 @@ use Rattle.vx_rewrite_split.specs.Packing.{typed_item, holes_of, all_holes, all_
 use Rattle.vx_rewrite_split.proofs.Growing.{any-left}
 use Rattle.vx_rewrite_split.proofs.Holed.{IsTable}
 
-pub same_name : (n : Name) → bytes_eq n n ≡ true
-same_name n = (bytes_eq-Decides n n).1 refl
-
-pub other_name : (m n : Name) → (m ≡ n → ⊥) → bytes_eq m n ≡ false
-other_name m n h = by (bytes_eq m n) (λ e. h ((bytes_eq-Decides m n).0 e))
-  where
-    by : (b : Bool) → (b ≡ true → ⊥) → b ≡ false
-    by true k = absurd (k refl)
-    by false k = refl
-
 -- ---- the place of an annotation among those of its tree's pieces
 
 module _ {A : Type 0} (eq : A → A → Bool) (laws : IsEquivalence eq) where
@@ -37,14 +29,6 @@ module _ {A : Type 0} (eq : A → A → Bool) (laws : IsEquivalence eq) where
   abbrev Begins : A → List A → Type 0
   Begins a [] = ⊥
   Begins a (k ∷ ks) = eq a k ≡ true
-
-  filter_append : (p : A → Bool) (xs ys : List A) → filter p (xs ++ ys) ≡ filter p xs ++ filter p ys
-  filter_append p [] ys = refl
-  filter_append p (x ∷ xs) ys = go (p x) (filter_append p xs ys)
-    where
-      go : (t : Bool) → filter p (xs ++ ys) ≡ filter p xs ++ filter p ys → cond t (x ∷ filter p (xs ++ ys)) (filter p (xs ++ ys)) ≡ cond t (x ∷ filter p xs) (filter p xs) ++ filter p ys
-      go true e = ap (λ l. x ∷ l) e
-      go false e = e
 
   begins_still : (a x : A) (ks : List A) → eq a x ≡ false → Begins a ks → Begins a (others eq x ks)
   begins_still a x [] e b = b
@@ -71,7 +55,7 @@ module _ {A : Type 0} (eq : A → A → Bool) (laws : IsEquivalence eq) where
       let ks = annotations_of eq before in
       record {
         tail = others eq x.0 r.tail;
-        whole = ap (λ l. x.0 ∷ others eq x.0 l) r.whole ∙ ap (λ l. x.0 ∷ l) (filter_append (λ c. not (eq x.0 c)) ks r.tail);
+        whole = ap (λ l. x.0 ∷ others eq x.0 l) r.whole ∙ ap (λ l. x.0 ∷ l) (filter-append (λ c. not (eq x.0 c)) ks r.tail);
         next = λ e. let q = or_parts (eq a x.0) (list_any (eq a) (others eq x.0 ks)) e in
             begins_still a x.0 r.tail q.0 (r.next (sym (any-left eq laws a x.0 ks q.0) ∙ q.1));
       }
@@ -100,10 +84,6 @@ module _ {A : Type 0} (eq : A → A → Bool) (laws : IsEquivalence eq) where
       go : (t : Bool) (some more : List BoundTree) → slice_get more (length some) ≡ Some b → slice_get (if t then x.1 ∷ more else more) (length (if t then x.1 ∷ some else some)) ≡ Some b
       go true some more e = e
       go false some more e = e
-
-in_the_middle : {X : Type 0} (before : List X) (x : X) (after : List X) → IsIn x (before ++ (x ∷ after))
-in_the_middle [] x after = inl refl
-in_the_middle (y ∷ before) x after = inr (in_the_middle before x after)
 
 -- ---- the hole at a place
 
@@ -138,7 +118,7 @@ module _ {A : Type 0} (eq : A → A → Bool) (laws : IsEquivalence eq) (text na
 
   name_among : (of : A → List BoundTree) (c : A) (cs : List A) → IsIn c cs → list_any (bytes_eq (name c)) (partition_names name (map (λ c. (c, of c)) cs)) ≡ true
   name_among of c [] i = absurd i
-  name_among of c (d ∷ cs) (inl s) = rw (ap (λ z. bytes_eq (name z) (name d)) s ∙ same_name (name d)) refl
+  name_among of c (d ∷ cs) (inl s) = rw (ap (λ z. bytes_eq (name z) (name d)) s ∙ own_name (name d)) refl
   name_among of c (d ∷ cs) (inr i) = rw (name_among of c cs i) (or_right (bytes_eq (name c) (name d)))
     where
       or_right : (t : Bool) → (t || true) ≡ true
@@ -150,7 +130,7 @@ module _ {A : Type 0} (eq : A → A → Bool) (laws : IsEquivalence eq) (text na
     key = h;
     alike = q;
     holes_are = λ i. ap (λ t. hole_at (group_holes text name s (map (λ c. (c, of c)) (h ∷ cs))) (cond (not t) (1 + position_or_len (eq a) cs) 0) i) q;
-    found = ap (λ t. if t then Some (partition text (h, of h)) else tree_named (name a) (partition_names name (map (λ c. (c, of c)) cs)) (partitions text (map (λ c. (c, of c)) cs))) (ap (λ n. bytes_eq n (name h)) (same_names a h q) ∙ same_name (name h));
+    found = ap (λ t. if t then Some (partition text (h, of h)) else tree_named (name a) (partition_names name (map (λ c. (c, of c)) cs)) (partitions text (map (λ c. (c, of c)) cs))) (ap (λ n. bytes_eq n (name h)) (same_names a h q) ∙ own_name (name h));
   }
 
   placed_later : (s : LogicalType) (of : A → List BoundTree) (h : A) (cs : List A) (a : A) → eq a h ≡ false → bytes_eq (name a) (name h) ≡ false → Placed s of cs a → Placed s of (h ∷ cs) a

@@ -1,9 +1,9 @@
 use Rattle.std.proofs.Common.{◌||◌, sym, ap, subst, ◌∙◌}
+use Rattle.std.proofs.Math.Bool.{or-false}
 use Rattle.vx_tree.specs.Views.{bound_of}
 use Rattle.vx_rewrite_analysis.specs.Keys.{key_of}
 use Rattle.vx_rewrite_analysis.specs.Numbers.{has_node, IsNumbered}
 use Rattle.vx_rewrite_analysis.specs.Reached.{occurs}
-use Rattle.vx_rewrite_analysis.proofs.Subtrees.{or_false}
 use Rattle.vx_rewrite_analysis.proofs.labels.label_bound_tree.Goals as goal
 
 pub labels_of-requires-clause-numbered : goal.labels_of-requires-clause-numbered
@@ -14,7 +14,7 @@ returns-clause-nodes g c =
     λ k.
     let b = bound_of c.args.e.now in
     c.in_ok-labels_by_key.ensures.nodes k ∙ ap (has_node (key_of k)) c.as_slice-nodes.ensures.keys ∙ c.in_ok-_root.ensures.nodes (key_of k)
-    ∙ ap (λ ns. occurs (key_of k) b || has_node (key_of k) ns) c.new-nodes.ensures.empty ∙ or_false (occurs (key_of k) b)
+    ∙ ap (λ ns. occurs (key_of k) b || has_node (key_of k) ns) c.new-nodes.ensures.empty ∙ or-false (occurs (key_of k) b)
 
 pub returns-clause-labels : goal.returns-clause-labels
 returns-clause-labels g c =
