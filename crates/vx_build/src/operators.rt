@@ -1,6 +1,6 @@
 // Constructors of comparisons, logic and sums.
 ghost use Rattle.std.specs.Prelude.{[], ◌∷◌};
-ghost use Rattle.vx_fn.specs.Functions.{binary, negation, between, compares, equal, different, above, at_least, below, at_most, and_also, or_else, adds};
+ghost use Rattle.vx_fn.specs.Functions.{binary, logical_not, between, compares, equal, not_equal, greater, greater_or_equal, less, less_or_equal, and_also, or_else, adds};
 ghost use Rattle.vx_fn.specs.Views.{operation_of, is_strict};
 ghost use Rattle.vx_tree.specs.Views.{trees_of};
 ghost use Rattle.vx_build.specs.Built.{GivesNode};
@@ -30,35 +30,35 @@ pub fn eq(alloc: Global, lhs: Expression, rhs: Expression) -> VortexResult<Expre
 
 /// Whether the operands differ. Refuses with `OutOfMemory` (1) alone.
 pub fn not_eq(alloc: Global, lhs: Expression, rhs: Expression) -> VortexResult<Expression>
-    ensures { GivesNode (binary (compares different)) (trees_of (lhs ∷ rhs ∷ [])) result }
+    ensures { GivesNode (binary (compares not_equal)) (trees_of (lhs ∷ rhs ∷ [])) result }
 {
     binary(alloc, Operator::NotEq, lhs, rhs)
 }
 
 /// Whether the left operand is greater or equal. Refuses with `OutOfMemory` (1) alone.
 pub fn gt_eq(alloc: Global, lhs: Expression, rhs: Expression) -> VortexResult<Expression>
-    ensures { GivesNode (binary (compares at_least)) (trees_of (lhs ∷ rhs ∷ [])) result }
+    ensures { GivesNode (binary (compares greater_or_equal)) (trees_of (lhs ∷ rhs ∷ [])) result }
 {
     binary(alloc, Operator::Gte, lhs, rhs)
 }
 
 /// Whether the left operand is greater. Refuses with `OutOfMemory` (1) alone.
 pub fn gt(alloc: Global, lhs: Expression, rhs: Expression) -> VortexResult<Expression>
-    ensures { GivesNode (binary (compares above)) (trees_of (lhs ∷ rhs ∷ [])) result }
+    ensures { GivesNode (binary (compares greater)) (trees_of (lhs ∷ rhs ∷ [])) result }
 {
     binary(alloc, Operator::Gt, lhs, rhs)
 }
 
 /// Whether the left operand is less or equal. Refuses with `OutOfMemory` (1) alone.
 pub fn lt_eq(alloc: Global, lhs: Expression, rhs: Expression) -> VortexResult<Expression>
-    ensures { GivesNode (binary (compares at_most)) (trees_of (lhs ∷ rhs ∷ [])) result }
+    ensures { GivesNode (binary (compares less_or_equal)) (trees_of (lhs ∷ rhs ∷ [])) result }
 {
     binary(alloc, Operator::Lte, lhs, rhs)
 }
 
 /// Whether the left operand is less. Refuses with `OutOfMemory` (1) alone.
 pub fn lt(alloc: Global, lhs: Expression, rhs: Expression) -> VortexResult<Expression>
-    ensures { GivesNode (binary (compares below)) (trees_of (lhs ∷ rhs ∷ [])) result }
+    ensures { GivesNode (binary (compares less)) (trees_of (lhs ∷ rhs ∷ [])) result }
 {
     binary(alloc, Operator::Lt, lhs, rhs)
 }
@@ -87,7 +87,7 @@ pub fn checked_add(alloc: Global, lhs: Expression, rhs: Expression) -> VortexRes
 
 /// The other truth value, null for null. Refuses with `OutOfMemory` (1) alone.
 pub fn not(alloc: Global, child: Expression) -> VortexResult<Expression>
-    ensures { GivesNode negation (trees_of (child ∷ [])) result }
+    ensures { GivesNode logical_not (trees_of (child ∷ [])) result }
 {
     node(alloc, ScalarFnRef::Not(EmptyOptions), [child])
 }

@@ -1,6 +1,6 @@
 // Constructors of comparisons, logic and sums, over bound children.
 ghost use Rattle.std.specs.Prelude.{[], ◌∷◌};
-ghost use Rattle.vx_fn.specs.Functions.{binary, negation, between, compares, equal, different, above, at_least, below, at_most, and_also, or_else, adds};
+ghost use Rattle.vx_fn.specs.Functions.{binary, logical_not, between, compares, equal, not_equal, greater, greater_or_equal, less, less_or_equal, and_also, or_else, adds};
 ghost use Rattle.vx_fn.specs.Views.{operation_of, is_strict};
 ghost use Rattle.vx_tree.specs.Views.{bounds_of};
 ghost use Rattle.vx_build.specs.Built.{GivesBoundNode};
@@ -40,7 +40,7 @@ pub fn not_eq(
     lhs: BoundExpression,
     rhs: BoundExpression,
 ) -> VortexResult<BoundExpression>
-    ensures { GivesBoundNode (binary (compares different)) (bounds_of (lhs ∷ rhs ∷ [])) result }
+    ensures { GivesBoundNode (binary (compares not_equal)) (bounds_of (lhs ∷ rhs ∷ [])) result }
 {
     binary(alloc, Operator::NotEq, lhs, rhs)
 }
@@ -52,7 +52,7 @@ pub fn gt_eq(
     lhs: BoundExpression,
     rhs: BoundExpression,
 ) -> VortexResult<BoundExpression>
-    ensures { GivesBoundNode (binary (compares at_least)) (bounds_of (lhs ∷ rhs ∷ [])) result }
+    ensures { GivesBoundNode (binary (compares greater_or_equal)) (bounds_of (lhs ∷ rhs ∷ [])) result }
 {
     binary(alloc, Operator::Gte, lhs, rhs)
 }
@@ -64,7 +64,7 @@ pub fn gt(
     lhs: BoundExpression,
     rhs: BoundExpression,
 ) -> VortexResult<BoundExpression>
-    ensures { GivesBoundNode (binary (compares above)) (bounds_of (lhs ∷ rhs ∷ [])) result }
+    ensures { GivesBoundNode (binary (compares greater)) (bounds_of (lhs ∷ rhs ∷ [])) result }
 {
     binary(alloc, Operator::Gt, lhs, rhs)
 }
@@ -76,7 +76,7 @@ pub fn lt_eq(
     lhs: BoundExpression,
     rhs: BoundExpression,
 ) -> VortexResult<BoundExpression>
-    ensures { GivesBoundNode (binary (compares at_most)) (bounds_of (lhs ∷ rhs ∷ [])) result }
+    ensures { GivesBoundNode (binary (compares less_or_equal)) (bounds_of (lhs ∷ rhs ∷ [])) result }
 {
     binary(alloc, Operator::Lte, lhs, rhs)
 }
@@ -88,7 +88,7 @@ pub fn lt(
     lhs: BoundExpression,
     rhs: BoundExpression,
 ) -> VortexResult<BoundExpression>
-    ensures { GivesBoundNode (binary (compares below)) (bounds_of (lhs ∷ rhs ∷ [])) result }
+    ensures { GivesBoundNode (binary (compares less)) (bounds_of (lhs ∷ rhs ∷ [])) result }
 {
     binary(alloc, Operator::Lt, lhs, rhs)
 }
@@ -129,7 +129,7 @@ pub fn checked_add(
 
 /// The other truth value, null for null. Refuses as the node does: `NotBool` (7).
 pub fn not(alloc: Global, child: BoundExpression) -> VortexResult<BoundExpression>
-    ensures { GivesBoundNode negation (bounds_of (child ∷ [])) result }
+    ensures { GivesBoundNode logical_not (bounds_of (child ∷ [])) result }
 {
     node(alloc, ScalarFnRef::Not(EmptyOptions), [child])
 }
