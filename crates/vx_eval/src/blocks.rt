@@ -9,6 +9,7 @@ ghost use Rattle.vx_eval.specs.Columns.{values_of};
 ghost use Rattle.vx_eval.specs.Evaluation.{tree_answer};
 
 use crate::across::looks_across;
+use crate::rows::Rows;
 use crate::trees::evaluate;
 use std::alloc::Global;
 use std::rc::Rc;
@@ -21,7 +22,7 @@ use vx_types::{Column, Value, VortexError, VortexResult};
 const BLOCK: usize = 1_024;
 
 /// The tree's value in each row of a batch of its scope's type, or the first fault. The scope's rows
-/// are shared. Refuses with `OutOfMemory` (1) too.
+/// are shared where the batch shares them, and else copied where they are all that is asked. Refuses with `OutOfMemory` (1) too.
 pub fn evaluate_over(
     alloc: Global,
     batch: &Column,
@@ -32,11 +33,11 @@ pub fn evaluate_over(
     ensures answer { Answers (λ values. values_of values.value.items) result (tree_answer (bound_of b.now) batch.now.rows) }
     ensures fit { IfOk result (λ values. IsBatch (node_type (bound_of b.now)) (values_of values.value.items)) }
 {
-    let rows = batch.shared_rows();
+    let rows = batch.rows();
     match b {
-        BoundExpression::Root { .. } => Ok(rows.clone()?),
+        BoundExpression::Root { .. } => Rows::of(batch).into_shared(alloc),
         BoundExpression::Scalar { .. } => {
-            let values = values_over(alloc, b, rows.as_slice())?;
+            let values = values_over(alloc, b, rows)?;
             Ok(Rc::new(alloc, values)?)
         }
     }

@@ -52,11 +52,11 @@ fn in_turn<'a>(
 {
     let mut columns = Vec::new(alloc);
     for i in 0..conditions.len() {
-        columns.push(Rows::Shared(conditions[i].shared_rows()))?;
-        columns.push(Rows::Shared(values[i].shared_rows()))?;
+        columns.push(Rows::of(&conditions[i]))?;
+        columns.push(Rows::of(&values[i]))?;
     }
     if let Some(column) = otherwise {
-        columns.push(Rows::Shared(column.shared_rows()))?;
+        columns.push(Rows::of(column))?;
     }
     Ok(columns)
 }

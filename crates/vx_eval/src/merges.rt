@@ -123,8 +123,8 @@ fn lent<'a>(
 {
     let mut columns = Vec::new(alloc);
     for branch in branches {
-        columns.push(Rows::Shared(branch.1.shared_rows()))?;
+        columns.push(Rows::of(&branch.1))?;
     }
-    columns.push(Rows::Shared(otherwise.shared_rows()))?;
+    columns.push(Rows::of(otherwise))?;
     Ok(columns)
 }

@@ -19,7 +19,7 @@ use vx_eval_mask::RowMask;
 use vx_eval_merge::{
     Merging, push_moved, push_repeated, push_with, write_moved, write_repeated, write_with,
 };
-use vx_types::{Value, VortexResult};
+use vx_types::{Column, Value, VortexResult};
 
 /// The values of a column, row by row: lent, or its own to move.
 #[derive(Drop)]
@@ -41,6 +41,16 @@ pub enum Rows<'a> {
 }
 
 impl<'a> Rows<'a> {
+    /// The rows of a column that is lent.
+    pub fn of(column: &'a Column) -> Rows<'a>
+        ensures { rows_view result ≡ column.now.rows }
+    {
+        match column.shared_rows() {
+            Some(values) => Rows::Shared(values),
+            None => Rows::Lent(column.rows()),
+        }
+    }
+
     /// The value of that row. Asks an index below the number of rows.
     #[inline]
     pub fn row(&self, i: usize) -> &Value

@@ -87,7 +87,7 @@ fn types_in(alloc: Global, columns: &[Column]) -> Result<Vec<DType>, AllocError>
     let mut types = Vec::with_capacity(alloc, columns.len())?;
     for column in columns {
         // (what it promises is that the rows fit)
-        let _rows = column.shared_rows();
+        let _rows = column.rows();
         types.push(column.dtype().clone()?)?;
     }
     Ok(types)

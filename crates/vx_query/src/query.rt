@@ -53,7 +53,7 @@ fn run_to_end(
     ensures { Promised (tree_of source.now) batch.now passes.now split result }
 {
     // (what it promises is that the rows fit)
-    let _rows = batch.shared_rows();
+    let _rows = batch.rows();
     let bound = source.bind(alloc, batch.dtype())?;
     let tree = run_passes(alloc, bound, passes)?;
     let answer = run_tree(alloc, &tree, batch, split);

@@ -20,7 +20,7 @@ pub fn read_referenced(alloc: Global, batch: &Column, paths: &FieldPathSet) -> V
     ensures { Answers (λ c. c) result (Ok (kept_batch (minimal_paths paths.now) batch.now)) }
 {
     // (what it promises is that the rows fit)
-    let _rows = batch.shared_rows();
+    let _rows = batch.rows();
     let dtype = batch.dtype();
     let along = lent(alloc, paths)?;
     let wanted = wanted_along(alloc, dtype, along)?;
@@ -44,7 +44,7 @@ fn lent<'a>(alloc: Global, paths: &'a FieldPathSet) -> Result<Vec<&'a [Field]>, 
 fn taken_rows(alloc: Global, wanted: &Wanted, batch: &Column) -> Result<Vec<Value>, AllocError>
     ensures { IfOk result (λ vs. map value_of vs.items ≡ map (taken (wanted_of wanted.now)) batch.now.rows) }
 {
-    let rows = batch.shared_rows().as_slice();
+    let rows = batch.rows();
     let mut made = Vec::with_capacity(alloc, rows.len())?;
     for i in 0..rows.len() {
         made.push(wanted.of(alloc, &rows[i])?)?;

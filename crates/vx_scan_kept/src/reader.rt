@@ -79,7 +79,7 @@ impl PathReader for ColumnReader {
 
     fn dtype(&self) -> &DType {
         // (what it promises is that the rows fit)
-        let _rows = self.column.shared_rows();
+        let _rows = self.column.rows();
         self.column.dtype()
     }
 

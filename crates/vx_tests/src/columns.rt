@@ -19,9 +19,13 @@ fn a_column_is_its_type_and_its_rows(rt: HostRuntime) {
     assert!(rt; matches!(column.row(0), Value::Int(7)));
     assert!(rt; column.row(1).is_null());
     let dtype = column.dtype().clone().expect(&rt, "memory");
-    let rows = column.shared_rows().clone().expect(&rt, "memory");
-    same(&rt, Column::from_shared(dtype, rows), &column);
-    same(&rt, column.clone().expect(&rt, "memory"), &column);
+    assert!(rt; column.shared_rows().is_none());
+    let copy = column.clone().expect(&rt, "memory");
+    let shared = copy.into_shared(alloc).expect(&rt, "memory");
+    let rows = shared.shared_rows().expect(&rt, "shared rows").clone();
+    let lent = Column::from_shared(dtype, rows.expect(&rt, "memory"));
+    same(&rt, lent, &column);
+    same(&rt, shared, &column);
     let one = values(alloc, "7").expect(&rt, "values");
     let other = Column::try_new(i32_type(Nullable), one).expect(&rt, "a column");
     differs(&rt, other, &column);

@@ -144,7 +144,7 @@ fn is_branch(mask: &RowMask, column: &Column, count: usize, dtype: &DType) -> bo
 fn is_of(column: &Column, dtype: &DType) -> bool
     ensures { IsTrue result → IsBatch (type_of dtype.now) column.now.rows }
 {
-    let _rows = column.shared_rows();
+    let _rows = column.rows();
     types_are_equal_exactly(column.dtype(), dtype)
 }
 

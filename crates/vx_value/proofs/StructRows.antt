@@ -1,6 +1,6 @@
 -- Columns out of whose rows structs are made.
 use Rattle.std.proofs.Common.{◌≡◌, ℕ, ◌+◌, ◌<◌, List, [], ◌∷◌, ◌++◌, map, length, get_or, refl, sym, ap, ◌∙◌, arith, zero, suc, true, Bool, rules, vec_len}
-use Rattle.std.specs.Prelude.{◌==◌, ◌⊎◌, None, Result, Ok, Err, IfOk}
+use Rattle.std.specs.Prelude.{◌==◌, ◌⊎◌, None, Result, Ok, Err, IfOk, MatchResult}
 use Rattle.std.specs.declared.alloc.AllocError.{AllocError}
 use Rattle.std.specs.List.{AllZip, range_with_len}
 use Rattle.std.proofs.Common.{inl, inr}
@@ -31,6 +31,11 @@ clones_alike [] [] h = refl
 clones_alike (v ∷ vs) (w ∷ ws) h = let rest = clones_alike vs ws h.1 in let first : value_of w ≡ value_of v = h.0 in cc
 clones_alike [] (w ∷ ws) h = absurd h
 clones_alike (v ∷ vs) [] h = absurd h
+
+-- a clone of rows, whatever is said where there is none
+pub cloned_rows : (rows : Vec Value) (r : Result (Vec Value) AllocError) (E : AllocError → Type 0) → MatchResult r (λ values. AllZip (λ v w. value_of w ≡ value_of v) rows.items values.items × (vec_len values ≡ vec_len rows)) E → IfOk r (λ values. map value_of values.items ≡ map value_of rows.items)
+cloned_rows rows (Ok values) E h = clones_alike rows.items values.items h.0
+cloned_rows rows (Err e) E h = tt
 
 -- what is owned is the rows, or a clone of them
 pub owned_rows : (rows : Vec Value) (r : Result (Vec Value) AllocError) → IfOk r (λ values. (values ≡ rows) ⊎ (AllZip (λ v w. value_of w ≡ value_of v) rows.items values.items × (vec_len values ≡ vec_len rows))) → IfOk r (λ values. map value_of values.items ≡ map value_of rows.items)

@@ -2,6 +2,8 @@
 use Rattle.std.specs.Prelude.{List, map, string_bytes}
 use Rattle.vx_value.specs.declared.value.Value.{Value, fold-Value}
 use Rattle.vx_value.specs.declared.value.Value.TheOpen.{Value-F}
+use Rattle.vx_value.specs.declared.column_rows.ColumnRows.{ColumnRows}
+use Rattle.vx_value.specs.declared.column_rows.ColumnRows.TheVariants.{Own, Shared}
 use Rattle.vx_value.specs.Fields.{data_of}
 use Rattle.vx_value.specs.Values.{Datum, null, bool, int, utf8, bytes, list_of, struct_of, Data}
 pub use Rattle.vx_dtype.specs.Views.{admits_null, type_step, fields_step, type_of, fields_view, fields_of, names_of, SameFields}
@@ -23,3 +25,8 @@ value_of = fold-Value Datum value_step
 -- the values that these stand for, one after another
 abbrev pub data_view : List Value → Data
 data_view vs = data_of (map value_of vs)
+
+-- the values that a column holds or shares
+abbrev pub rows_held : ColumnRows → List Datum
+rows_held (Own values) = map value_of values.items
+rows_held (Shared values) = map value_of values.value.items

@@ -2,6 +2,7 @@
 #![tactic(auto)]
 
 mod column;
+mod column_rows;
 mod field_path;
 mod field_path_set;
 mod fits;

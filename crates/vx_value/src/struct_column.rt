@@ -56,16 +56,9 @@ fn parted(alloc: Global, columns: Vec<Column>) -> Result<(Vec<DType>, Vec<Vec<Va
     for column in columns {
         let (dtype, rows) = column.into_parts();
         types.push(dtype)?;
-        values.push(owned(rows)?)?;
+        values.push(rows.into_values()?)?;
     }
     Ok((types, values))
-}
-
-// The values themselves, copied where they are shared.
-fn owned(rows: Rc<Vec<Value>>) -> Result<Vec<Value>, AllocError>
-    ensures { IfOk result (λ values. map value_of values.items ≡ map value_of rows.value.items) }
-{
-    Rc::unwrap_or_clone(rows)
 }
 
 // The structs of the first so many rows of the columns, moved out of them.

@@ -91,7 +91,7 @@ fn agrees(alloc: Global, source: &Expression, batch: &Column) -> VortexResult<Op
 // any rows or a fault.
 fn is_allowed(plain: &VortexResult<Column>, answer: &VortexResult<Column>) -> bool {
     match (plain, answer) {
-        (Ok(rows), Ok(answer)) => rows.shared_rows().as_slice() == answer.shared_rows().as_slice(),
+        (Ok(rows), Ok(answer)) => rows.rows() == answer.rows(),
         (Ok(_), Err(_)) => false,
         (Err(_), Ok(_)) => true,
         (Err(_), Err(refusal)) => is_fault(refusal),

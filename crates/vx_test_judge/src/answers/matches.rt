@@ -140,6 +140,6 @@ fn column_of(alloc: Global, kind: &DType, rows: &str) -> Result<Column, Unread>
 fn is_of(column: &Column, kind: &DType) -> bool
     ensures { IsTrue result → IsBatch (type_of kind.now) column.now.rows }
 {
-    let _rows = column.shared_rows();
+    let _rows = column.rows();
     types_are_equal_exactly(column.dtype(), kind)
 }

@@ -8,11 +8,12 @@ use vx_tree::{
 };
 
 #[test]
-fn try_new_of_a_column(rt: HostRuntime) -> Result<(), Fail> {
+fn into_shared_of_a_column(rt: HostRuntime) -> Result<(), Fail> {
     let alloc = rt.alloc();
     let rows = vec![in alloc; Value::Int(7), Value::Null]?;
-    rt.println("called")?;
     let column = Column::try_new(i32_type(Nullable), rows)?;
+    rt.println("called")?;
+    let column = column.into_shared(alloc)?;
     assert!(rt; reads(&column, "[7i32, null]") && reads(column.dtype(), "i32?"));
     answered(&rt)
 }

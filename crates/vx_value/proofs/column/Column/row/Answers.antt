@@ -1,4 +1,4 @@
-use Rattle.std.proofs.Common.{◌≡◌, get_or, map, length, ◌<◌, arith}
+use Rattle.std.proofs.Common.{◌≡◌, get_or, length, ◌<◌, arith}
 use Rattle.std.proofs.lemmas.Grind.{common_steps}
 use Rattle.vx_value.specs.Types.{null}
 use Rattle.vx_value.specs.Views.{value_of}
@@ -7,6 +7,6 @@ use Rattle.vx_value.proofs.column.Column.row.Goals as goal
 
 pub returns-clause-fits : goal.returns-clause-fits
 returns-clause-fits c =
-    let at : value_of c.index.result.now ≡ get_or (map value_of c.self.inside.rows.value.items) c.args.i null = grind (arith, common_steps) in
-    let below : c.args.i < length (map value_of c.self.inside.rows.value.items) = grind (arith, common_steps) in
-    rw at (rw (← c.self.view_is) (fits_at _ _ _ null c.self.invariant below))
+    let at : value_of c.index-rows-i.result ≡ get_or c.args.self.now.rows c.args.i null = grind (arith, common_steps) in
+    let below : c.args.i < length c.args.self.now.rows = grind (arith, common_steps) in
+    rw at (fits_at _ _ _ null c.rows.ensures.fit below)
