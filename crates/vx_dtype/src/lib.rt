@@ -15,5 +15,5 @@ mod shown;
 
 pub use dtype::{DType, Nullability, PType, StructFields};
 pub use error::{VortexError, VortexResult};
-pub use names::{FieldName, FieldNames};
+pub use names::{FieldName, FieldNames, names_without};
 pub use shown::separator;

@@ -191,8 +191,8 @@ impl FieldNames {
     }
 }
 
-// The names but the given ones.
-pub(crate) fn names_without(
+/// Copies of the names but those that are left out, in their order. Fails for want of memory alone.
+pub fn names_without(
     alloc: Global,
     names: &[FieldName],
     left_out: &FieldNames,

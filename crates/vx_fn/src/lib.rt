@@ -9,6 +9,7 @@ mod markers;
 mod options;
 mod selection;
 mod texts;
+mod typed;
 mod typing;
 
 pub use child_names::ChildName;
@@ -25,3 +26,5 @@ pub use options::{
     PackOptions, StrictComparison,
 };
 pub use texts::write_names;
+pub use typed::Typed;
+pub use typing::dtypes_of;

@@ -1,12 +1,12 @@
 // Which of the available names a selection keeps.
-ghost use Rattle.std.specs.Prelude.{◌≡◌, option_map};
+ghost use Rattle.std.specs.Prelude.{◌≡◌, Ok, option_map};
 ghost use Rattle.vx_value.specs.Answers.{Answers};
 ghost use Rattle.vx_value.specs.Fields.{first_missing};
-ghost use Rattle.vx_fn.specs.Selections.{normalized};
+ghost use Rattle.vx_fn.specs.Selections.{kept_names, normalized};
 
 use crate::FieldSelection;
 use std::alloc::Global;
-use vx_types::{FieldName, FieldNames, VortexError, VortexResult};
+use vx_types::{FieldName, FieldNames, VortexError, VortexResult, names_without};
 
 impl FieldSelection {
     /// The names of the fields that are kept: those of an inclusion as they are given, or the
@@ -22,9 +22,19 @@ impl FieldSelection {
         if let Some(missing) = first_missing(available, self.field_names()) {
             return Err(VortexError::NoSuchField(missing.clone()?));
         }
+        self.kept(alloc, available.as_slice())
+    }
+
+    /// The same of names that are known to be available: what isn't is passed over. Refuses with
+    /// `OutOfMemory` (1) alone.
+    pub fn kept(&self, alloc: Global, available: &[FieldName]) -> VortexResult<FieldNames>
+        ensures { Answers (λ names. names) result (Ok (kept_names self.now available.now)) }
+    {
         match self {
             FieldSelection::Include(names) => Ok(names.clone()?),
-            FieldSelection::Exclude(names) => available.without(alloc, names),
+            FieldSelection::Exclude(names) => {
+                FieldNames::new(alloc, names_without(alloc, available, names)?)
+            }
         }
     }
 }

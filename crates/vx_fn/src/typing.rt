@@ -11,8 +11,9 @@ mod case;
 mod fields;
 mod rows;
 
-use crate::ScalarFnRef;
+use crate::{ScalarFnRef, Typed};
 use case::case_dtype;
+pub use fields::dtypes_of;
 use fields::{item_dtype, pack_dtype, select_dtype};
 pub(crate) use rows::is_atomic;
 use rows::{
@@ -71,30 +72,57 @@ impl ScalarFnRef {
         ensures in_place { IsTrue (is_typed_in_place (function_of self.now)) → Exactly type_of result (fn_type (function_of self.now) (map type_of types.now)) }
         ensures early { RefusesEarly (function_of self.now) type_of result (fn_type (function_of self.now) (map type_of types.now)) }
     {
+        self.dtype_over(alloc, types)
+    }
+
+    /// The type of a node over these children, or its first refusal, as [`ScalarFnRef::return_dtype`]
+    /// gives and refuses it over their types.
+    pub fn dtype_over<T: Typed>(&self, alloc: Global, children: &[T]) -> VortexResult<DType>
+        ensures typed { Answers type_of result (fn_type (function_of self.now) (map T.dtype_of children.now)) }
+        ensures literal { IfOk result (λ _. HasFittingLiteral (function_of self.now)) }
+        ensures arity { length children.now ≢ arity_of (function_of self.now) → IsErrOf result (ArityMismatch (arity_of (function_of self.now)) (length children.now)) }
+        ensures in_place { IsTrue (is_typed_in_place (function_of self.now)) → Exactly type_of result (fn_type (function_of self.now) (map T.dtype_of children.now)) }
+        ensures early { RefusesEarly (function_of self.now) type_of result (fn_type (function_of self.now) (map T.dtype_of children.now)) }
+    {
         let arity = self.arity();
-        if types.len() != arity {
+        if children.len() != arity {
             return Err(VortexError::ArityMismatch {
                 expected: arity,
-                got: types.len(),
+                got: children.len(),
             });
         }
-        match (self, types) {
-            (ScalarFnRef::CaseWhen(options), _) => case_dtype(alloc, *options, types),
-            (ScalarFnRef::GetItem(name), [input]) => item_dtype(name, input),
+        match (self, children) {
+            (ScalarFnRef::CaseWhen(options), _) => case_dtype(alloc, *options, children),
+            (ScalarFnRef::GetItem(name), [input]) => item_dtype(name, input.as_dtype()),
             (ScalarFnRef::Literal(scalar), []) => literal_dtype(scalar),
-            (ScalarFnRef::Pack(options), _) => pack_dtype(alloc, options, types),
-            (ScalarFnRef::Select(selection), [child]) => select_dtype(alloc, selection, child),
-            (ScalarFnRef::FillNull(_), [input, fill_value]) => fill_dtype(input, fill_value),
+            (ScalarFnRef::Pack(options), _) => pack_dtype(alloc, options, children),
+            (ScalarFnRef::Select(selection), [child]) => {
+                select_dtype(alloc, selection, child.as_dtype())
+            },
+            (ScalarFnRef::FillNull(_), [input, fill_value]) => {
+                fill_dtype(input.as_dtype(), fill_value.as_dtype())
+            },
             (ScalarFnRef::Zip(_), [if_true, if_false, mask]) => {
-                zip_dtype(alloc, if_true, if_false, mask)
+                zip_dtype(
+                    alloc,
+                    if_true.as_dtype(),
+                    if_false.as_dtype(),
+                    mask.as_dtype(),
+                )
             }
-            (ScalarFnRef::Binary(operator), [lhs, rhs]) => binary_dtype(*operator, lhs, rhs),
-            (ScalarFnRef::Not(_), [input]) => not_dtype(input),
-            (ScalarFnRef::Between(_), [array, lower, upper]) => between_dtype(array, lower, upper),
-            (ScalarFnRef::Like(_), [child, pattern]) => like_dtype(child, pattern),
+            (ScalarFnRef::Binary(operator), [lhs, rhs]) => {
+                binary_dtype(*operator, lhs.as_dtype(), rhs.as_dtype())
+            },
+            (ScalarFnRef::Not(_), [input]) => not_dtype(input.as_dtype()),
+            (ScalarFnRef::Between(_), [array, lower, upper]) => {
+                between_dtype(array.as_dtype(), lower.as_dtype(), upper.as_dtype())
+            },
+            (ScalarFnRef::Like(_), [child, pattern]) => {
+                like_dtype(child.as_dtype(), pattern.as_dtype())
+            },
             (ScalarFnRef::IsNull(_) | ScalarFnRef::IsNotNull(_), [_]) => Ok(truth_dtype(false)),
-            (ScalarFnRef::Mask(_), [input, mask]) => mask_dtype(input, mask),
-            (ScalarFnRef::Cast(target), [input]) => cast_dtype(target, input),
+            (ScalarFnRef::Mask(_), [input, mask]) => mask_dtype(input.as_dtype(), mask.as_dtype()),
+            (ScalarFnRef::Cast(target), [input]) => cast_dtype(target, input.as_dtype()),
             _ => unreachable!(),
         }
     }

@@ -8,46 +8,46 @@ ghost use Rattle.vx_fn.specs.Functions.{case_when, is_truth, case_type, case_uni
 ghost use Rattle.vx_fn.specs.Memory.{RefusesEarly};
 
 use super::rows::is_truth;
-use crate::CaseWhenOptions;
+use crate::{CaseWhenOptions, Typed};
 use std::alloc::Global;
 use vx_types::{DType, Nullability, VortexError, VortexResult};
 
-pub(super) fn case_dtype(
+pub(super) fn case_dtype<T: Typed>(
     alloc: Global,
     options: CaseWhenOptions,
-    types: &[DType],
+    children: &[T],
 ) -> VortexResult<DType>
-    ensures typed { Answers type_of result (case_type options.num_when_then_pairs options.has_else (map type_of types.now)) }
-    ensures early { RefusesEarly (case_when options.num_when_then_pairs options.has_else) type_of result (case_type options.num_when_then_pairs options.has_else (map type_of types.now)) }
+    ensures typed { Answers type_of result (case_type options.num_when_then_pairs options.has_else (map T.dtype_of children.now)) }
+    ensures early { RefusesEarly (case_when options.num_when_then_pairs options.has_else) type_of result (case_type options.num_when_then_pairs options.has_else (map T.dtype_of children.now)) }
 {
     if options.num_when_then_pairs == 0 {
         return Err(VortexError::NoPairs);
     }
-    if !are_truths(types) {
+    if !are_truths(children) {
         return Err(VortexError::NotBool);
     }
-    branches_dtype(alloc, options.has_else, types)
+    branches_dtype(alloc, options.has_else, children)
 }
 
 // Whether the conditions, every second of the children, are of a truth type.
-fn are_truths(types: &[DType]) -> bool
-    ensures { result ≡ list_all is_truth (conditions (map type_of types.now)) }
+fn are_truths<T: Typed>(children: &[T]) -> bool
+    ensures { result ≡ list_all is_truth (conditions (map T.dtype_of children.now)) }
 {
-    match types {
-        [condition, _, rest @ ..] => is_truth(condition) && are_truths(rest),
+    match children {
+        [condition, _, rest @ ..] => is_truth(condition.as_dtype()) && are_truths(rest),
         _ => true,
     }
 }
 
 // The union of the branches, nullable where there is no ELSE.
-fn branches_dtype(alloc: Global, has_else: bool, types: &[DType]) -> VortexResult<DType>
-    ensures typed { Answers type_of result (case_union has_else (branches (map type_of types.now))) }
-    ensures early { RefusesEarly (case_when 0 has_else) type_of result (case_union has_else (branches (map type_of types.now))) }
+fn branches_dtype<T: Typed>(alloc: Global, has_else: bool, children: &[T]) -> VortexResult<DType>
+    ensures typed { Answers type_of result (case_union has_else (branches (map T.dtype_of children.now))) }
+    ensures early { RefusesEarly (case_when 0 has_else) type_of result (case_union has_else (branches (map T.dtype_of children.now))) }
 {
-    let joined = match types {
+    let joined = match children {
         [] => None,
-        [value] => Some(value.clone()?),
-        [_, value, rest @ ..] => joined_branches(alloc, value.clone()?, rest)?,
+        [value] => Some(value.as_dtype().clone()?),
+        [_, value, rest @ ..] => joined_branches(alloc, value.as_dtype().clone()?, rest)?,
     };
     match joined {
         Some(t) => Ok(if has_else {
@@ -60,13 +60,13 @@ fn branches_dtype(alloc: Global, has_else: bool, types: &[DType]) -> VortexResul
 }
 
 // The union of a type and the branches of what is left of the children.
-fn joined_branches(alloc: Global, t: DType, types: &[DType]) -> VortexResult<Option<DType>>
-    ensures { Answers (option_map type_of) result (Ok (union_all (type_of t) (branches (map type_of types.now)))) }
+fn joined_branches<T: Typed>(alloc: Global, t: DType, children: &[T]) -> VortexResult<Option<DType>>
+    ensures { Answers (option_map type_of) result (Ok (union_all (type_of t) (branches (map T.dtype_of children.now)))) }
 {
-    match types {
+    match children {
         [] => Ok(Some(t)),
-        [value] => t.union(alloc, value),
-        [_, value, rest @ ..] => match t.union(alloc, value)? {
+        [value] => t.union(alloc, value.as_dtype()),
+        [_, value, rest @ ..] => match t.union(alloc, value.as_dtype())? {
             Some(joined) => joined_branches(alloc, joined, rest),
             None => Ok(None),
         },

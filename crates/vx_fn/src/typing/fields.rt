@@ -5,7 +5,7 @@ ghost use Rattle.vx_value.specs.Views.{type_of, fields_of, admits_null};
 ghost use Rattle.vx_fn.specs.Functions.{get_item, select, item_type, pack_type, select_type, selected};
 ghost use Rattle.vx_fn.specs.Memory.{RefusesEarly};
 
-use crate::{FieldSelection, PackOptions};
+use crate::{FieldSelection, PackOptions, Typed};
 use std::alloc::{AllocError, Global};
 use vx_types::{DType, FieldName, Nullability, StructFields, VortexError, VortexResult};
 
@@ -25,28 +25,29 @@ pub(super) fn item_dtype(name: &FieldName, t: &DType) -> VortexResult<DType>
     }
 }
 
-pub(super) fn pack_dtype(
+pub(super) fn pack_dtype<T: Typed>(
     alloc: Global,
     options: &PackOptions,
-    types: &[DType],
+    children: &[T],
 ) -> VortexResult<DType>
-    requires { length types.now ≡ length options.now.names }
-    ensures { Answers type_of result (pack_type options.now.names (admits_null options.now.nullability) (map type_of types.now)) }
+    requires { length children.now ≡ length options.now.names }
+    ensures { Answers type_of result (pack_type options.now.names (admits_null options.now.nullability) (map T.dtype_of children.now)) }
 {
-    let copies = copied(alloc, types)?;
+    let copies = dtypes_of(alloc, children)?;
     let fields = StructFields::new(alloc, options.names.clone()?, copies)?;
     Ok(DType::Struct(fields, options.nullability))
 }
 
-fn copied(alloc: Global, types: &[DType]) -> Result<Vec<DType>, AllocError>
-    ensures same { IfOk result (λ copies. map type_of copies.items ≡ map type_of types.now) }
-    ensures count { IfOk result (λ copies. length copies.items ≡ length types.now) }
+/// Copies of the types, from left to right. Fails for want of memory alone.
+pub fn dtypes_of<T: Typed>(alloc: Global, children: &[T]) -> Result<Vec<DType>, AllocError>
+    ensures types { IfOk result (λ types. map type_of types.items ≡ map T.dtype_of children.now) }
+    ensures count { IfOk result (λ types. length types.items ≡ length children.now) }
 {
-    let mut copies = Vec::with_capacity(alloc, types.len())?;
-    for t in types {
-        copies.push(t.clone()?)?;
+    let mut types = Vec::with_capacity(alloc, children.len())?;
+    for child in children {
+        types.push(child.as_dtype().clone()?)?;
     }
-    Ok(copies)
+    Ok(types)
 }
 
 pub(super) fn select_dtype(

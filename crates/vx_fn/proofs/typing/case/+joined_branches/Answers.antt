@@ -11,15 +11,15 @@ answered : {A : Type 0} (x y : A) (r s : Result A VortexError) → r ≡ Ok x �
 answered x y r s p q e = cc
 
 pub returns-in-Some : goal.returns-in-Some
-returns-in-Some t c =
-    let step = branches_step c.args.types.now c.value-item-2.result c.in-len2-up.len_at_least c.value-item-2.is in
-    let joined : Some (type_of c.in-Some.joined) ≡ union (type_of c.args.t) (type_of c.value-item-2.result) =
-    sym (ap (option_map type_of) c.in-Some.is) ∙ sym (answered _ _ _ _ refl refl c.in_ok-joined-in-len2-up.ensures.union) in
-    rw (step, ← union_all_some _ _ _ (branches (map type_of (later c.args.types.now))) joined) c.joined_branches.ensures
+returns-in-Some g t c =
+    let step = branches_step g.T.Typed.dtype_of c.args.children.now c.value-item-2.result c.in-len2-up.len_at_least c.value-item-2.is in
+    let joined : Some (type_of c.in-Some.joined) ≡ union (type_of c.args.t) (g.T.Typed.dtype_of c.value-item-2.result) =
+    sym (ap (option_map type_of) c.in-Some.is) ∙ sym (answered _ _ _ _ refl refl c.in_ok-joined-in-len2-up.ensures.union) ∙ ap (union (type_of c.args.t)) c.as_dtype-in-len2-up.ensures in
+    rw (step, ← union_all_some _ _ _ (branches (map g.T.Typed.dtype_of (later c.args.children.now))) joined) c.joined_branches.ensures
 
 pub returns : goal.returns
-returns t c =
-    let step = branches_step c.args.types.now c.value-item-2.result c.in-len2-up.len_at_least c.value-item-2.is in
-    let none : None ≡ union (type_of c.args.t) (type_of c.value-item-2.result) =
-    sym (ap (option_map type_of) c.in-None.is) ∙ sym (answered _ _ _ _ refl refl c.in_ok-joined-in-len2-up.ensures.union) in
-    sym (ap Ok (union_all_none (type_of c.args.t) (type_of c.value-item-2.result) (branches (map type_of (later c.args.types.now))) none ∙ ap (union_all (type_of c.args.t)) (sym step)))
+returns g t c =
+    let step = branches_step g.T.Typed.dtype_of c.args.children.now c.value-item-2.result c.in-len2-up.len_at_least c.value-item-2.is in
+    let none : None ≡ union (type_of c.args.t) (g.T.Typed.dtype_of c.value-item-2.result) =
+    sym (ap (option_map type_of) c.in-None.is) ∙ sym (answered _ _ _ _ refl refl c.in_ok-joined-in-len2-up.ensures.union) ∙ ap (union (type_of c.args.t)) c.as_dtype-in-len2-up.ensures in
+    sym (ap Ok (union_all_none (type_of c.args.t) (g.T.Typed.dtype_of c.value-item-2.result) (branches (map g.T.Typed.dtype_of (later c.args.children.now))) none ∙ ap (union_all (type_of c.args.t)) (sym step)))
