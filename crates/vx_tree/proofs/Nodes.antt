@@ -11,7 +11,7 @@ use Rattle.vx_tree.specs.declared.bound.BoundExpression.{BoundExpression}
 use Rattle.vx_tree.specs.Binding.{node_over}
 use Rattle.vx_tree.specs.Equality.{equal_tree, equal_trees, equal_bound, equal_bounds}
 use Rattle.vx_tree.specs.Nodes.{children_of, count_of, tree_at, call_over, tree_over, bound_children_of, bound_count_of, bound_at, bound_over, number_refusal}
-use Rattle.vx_tree.specs.Trees.{Tree, root, call, tree, BoundTree, scope, node, BoundTrees, no_bound, bound, unbound, unbound_each, node_types, on_ok}
+use Rattle.vx_tree.specs.Trees.{Tree, root, call, tree, BoundTree, scope, node, BoundTrees, no_bound, bound, unbound, unbound_each, node_type, node_types, on_ok}
 use Rattle.vx_tree.specs.Views.{trees_from, tree_of, trees_of, bound_of, bounds_of}
 
 -- ---- lists of expressions
@@ -116,8 +116,10 @@ node_over-length f bs h =
     let n = length-node_types bs in
     ap (on_ok (λ t. Ok (node t f (bounds_of bs)))) (fn_type-other f (node_types (bounds_of bs)) (subst (λ k. k ≢ arity_of f) (sym n) h)) ∙ ap (λ k. Err (ArityMismatch (arity_of f) k)) n
 
-pub node_over-other : (f : Function) (bs : List BoundExpression) (n k : ℕ) → n ≡ arity_of f → k ≡ length bs → k ≢ n → node_over f (bounds_of bs) ≡ Err (ArityMismatch n k)
-node_over-other f bs n k p q h = let r = node_over-length f bs (λ e. h (q ∙ e ∙ sym p)) in cc
+-- the types of nodes, seen one by one
+pub types_seen : (bs : List BoundExpression) → map (λ b. node_type (bound_of b)) bs ≡ node_types (bounds_of bs)
+types_seen [] = refl
+types_seen (b ∷ bs) = ap (λ ts. node_type (bound_of b) ∷ ts) (types_seen bs)
 
 -- ---- other children
 

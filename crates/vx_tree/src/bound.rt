@@ -12,8 +12,7 @@ ghost use Rattle.vx_tree.specs.Views.{bound_of, bounds_of};
 
 use std::alloc::{AllocError, Global};
 use std::rc::Rc;
-use std::slice;
-use vx_fn::ScalarFnRef;
+use vx_fn::{ScalarFnRef, Typed};
 use vx_types::{DType, VortexError, VortexResult};
 
 /// A tree of functions over the row of a scope whose type is known, with the type of each node;
@@ -87,11 +86,6 @@ impl BoundExpression {
             IsErrOf result (ArityMismatch (arity_of (function_of scalar_fn)) (length children.items)) }
         ensures well_typed { EachWellTyped (bounds_of children.items) → IfOk result (λ b. WellTyped (bound_of b)) }
     {
-        let expected = scalar_fn.arity();
-        let got = children.len();
-        if got != expected {
-            return Err(VortexError::ArityMismatch { expected, got });
-        }
         let dtype = dtype_over(alloc, &scalar_fn, children.as_slice())?;
         BoundExpression::new_typed(alloc, dtype, scalar_fn, children)
     }
@@ -151,38 +145,35 @@ impl BoundExpression {
     }
 }
 
-// The type of a node of the function over the children. That of an only child is read in place, and
-// those of two are copied into no list.
+impl Typed for BoundExpression {
+    ghost dtype_of = { λ b. node_type (bound_of b) };
+
+    fn as_dtype(&self) -> &DType {
+        self.dtype()
+    }
+}
+
+// The type of a node of the function over the children.
 #[inline(never)]
-fn dtype_over(
+#[tactic(auto, using(crate::proofs::Nodes::types_seen))]
+pub(crate) fn dtype_over(
     alloc: Global,
     scalar_fn: &ScalarFnRef,
     children: &[BoundExpression],
 ) -> VortexResult<DType>
     ensures typed { Answers type_of result (fn_type (function_of scalar_fn.now) (node_types (bounds_of children.now))) }
     ensures literal { IfOk result (λ _. HasFittingLiteral (function_of scalar_fn.now)) }
+    ensures arity { length children.now ≢ arity_of (function_of scalar_fn.now) →
+        IsErrOf result (ArityMismatch (arity_of (function_of scalar_fn.now)) (length children.now)) }
 {
-    match children {
-        [child] => scalar_fn.return_dtype(alloc, slice::from_ref(child.dtype())),
-        [left, right] => {
-            let types = [left.dtype().clone()?, right.dtype().clone()?];
-            scalar_fn.return_dtype(alloc, &types)
-        }
-        _ => {
-            let types = dtypes_of(alloc, children)?;
-            scalar_fn.return_dtype(alloc, types.as_slice())
-        }
-    }
+    scalar_fn.dtype_over(alloc, children)
 }
 
 /// Copies of the types of the nodes, from left to right. Fails for want of memory alone.
+#[tactic(auto, using(crate::proofs::Nodes::types_seen))]
 pub fn dtypes_of(alloc: Global, nodes: &[BoundExpression]) -> Result<Vec<DType>, AllocError>
     ensures types { IfOk result (λ types. map type_of types.items ≡ node_types (bounds_of nodes.now)) }
     ensures count { IfOk result (λ types. length types.items ≡ length nodes.now) }
 {
-    let mut types = Vec::with_capacity(alloc, nodes.len())?;
-    for node in nodes {
-        types.push(node.dtype().clone()?)?;
-    }
-    Ok(types)
+    vx_fn::dtypes_of(alloc, nodes)
 }

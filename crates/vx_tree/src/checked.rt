@@ -10,7 +10,7 @@ ghost use Rattle.vx_tree.specs.Trees.{WellTyped, node_types};
 ghost use Rattle.vx_tree.specs.Views.{bound_of, bounds_of};
 
 use crate::BoundExpression;
-use crate::bound::dtypes_of;
+use crate::bound::dtype_over;
 use std::alloc::Global;
 use vx_fn::ScalarFnRef;
 use vx_types::{DType, VortexError, VortexResult};
@@ -69,8 +69,7 @@ fn is_given(
     ensures given { Answers (λ told. told) result (Ok (is_given (fn_type (function_of scalar_fn.now) (node_types (bounds_of children.now))) (type_of dtype.now))) }
     ensures literal { IfOk result (λ told. IsTrue told → IsTrue (has_fitting_literal (function_of scalar_fn.now))) }
 {
-    let types = dtypes_of(alloc, children)?;
-    match scalar_fn.return_dtype(alloc, types.as_slice()) {
+    match dtype_over(alloc, scalar_fn, children) {
         Ok(given) => Ok(given == *dtype),
         Err(VortexError::OutOfMemory) => Err(VortexError::OutOfMemory),
         Err(_) => Ok(false),
