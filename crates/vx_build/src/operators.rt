@@ -1,6 +1,6 @@
 // Constructors of comparisons, logic and sums.
 ghost use Rattle.std.specs.Prelude.{[], ◌∷◌};
-ghost use Rattle.vx_fn.specs.Functions.{binary, negation, between, compares, equal, different, above, at_least, below, at_most, and_also, or_else, adds};
+ghost use Rattle.vx_fn.specs.Functions.{binary, logical_not, between, compares, equal, not_equal, greater, greater_or_equal, less, less_or_equal, and_also, or_else, adds};
 ghost use Rattle.vx_fn.specs.Views.{operation_of, is_strict};
 
 use crate::node::{node_of_one, node_of_three, node_of_two};
@@ -26,7 +26,7 @@ pub fn eq<T: TreeNode>(alloc: Global, lhs: T, rhs: T) -> VortexResult<T>
 /// Whether the operands differ. Over sources it refuses with `OutOfMemory` (1) alone, over bound
 /// trees as the node does: `NotComparable` (8), `BaseTypesDiffer` (6).
 pub fn not_eq<T: TreeNode>(alloc: Global, lhs: T, rhs: T) -> VortexResult<T>
-    ensures { T.gives (binary (compares different)) (lhs ∷ rhs ∷ []) result }
+    ensures { T.gives (binary (compares not_equal)) (lhs ∷ rhs ∷ []) result }
 {
     binary(alloc, Operator::NotEq, lhs, rhs)
 }
@@ -34,7 +34,7 @@ pub fn not_eq<T: TreeNode>(alloc: Global, lhs: T, rhs: T) -> VortexResult<T>
 /// Whether the left operand is greater or equal. Over sources it refuses with `OutOfMemory` (1)
 /// alone, over bound trees as the node does: `NotComparable` (8), `BaseTypesDiffer` (6).
 pub fn gt_eq<T: TreeNode>(alloc: Global, lhs: T, rhs: T) -> VortexResult<T>
-    ensures { T.gives (binary (compares at_least)) (lhs ∷ rhs ∷ []) result }
+    ensures { T.gives (binary (compares greater_or_equal)) (lhs ∷ rhs ∷ []) result }
 {
     binary(alloc, Operator::Gte, lhs, rhs)
 }
@@ -42,7 +42,7 @@ pub fn gt_eq<T: TreeNode>(alloc: Global, lhs: T, rhs: T) -> VortexResult<T>
 /// Whether the left operand is greater. Over sources it refuses with `OutOfMemory` (1) alone, over
 /// bound trees as the node does: `NotComparable` (8), `BaseTypesDiffer` (6).
 pub fn gt<T: TreeNode>(alloc: Global, lhs: T, rhs: T) -> VortexResult<T>
-    ensures { T.gives (binary (compares above)) (lhs ∷ rhs ∷ []) result }
+    ensures { T.gives (binary (compares greater)) (lhs ∷ rhs ∷ []) result }
 {
     binary(alloc, Operator::Gt, lhs, rhs)
 }
@@ -50,7 +50,7 @@ pub fn gt<T: TreeNode>(alloc: Global, lhs: T, rhs: T) -> VortexResult<T>
 /// Whether the left operand is less or equal. Over sources it refuses with `OutOfMemory` (1) alone,
 /// over bound trees as the node does: `NotComparable` (8), `BaseTypesDiffer` (6).
 pub fn lt_eq<T: TreeNode>(alloc: Global, lhs: T, rhs: T) -> VortexResult<T>
-    ensures { T.gives (binary (compares at_most)) (lhs ∷ rhs ∷ []) result }
+    ensures { T.gives (binary (compares less_or_equal)) (lhs ∷ rhs ∷ []) result }
 {
     binary(alloc, Operator::Lte, lhs, rhs)
 }
@@ -58,7 +58,7 @@ pub fn lt_eq<T: TreeNode>(alloc: Global, lhs: T, rhs: T) -> VortexResult<T>
 /// Whether the left operand is less. Over sources it refuses with `OutOfMemory` (1) alone, over
 /// bound trees as the node does: `NotComparable` (8), `BaseTypesDiffer` (6).
 pub fn lt<T: TreeNode>(alloc: Global, lhs: T, rhs: T) -> VortexResult<T>
-    ensures { T.gives (binary (compares below)) (lhs ∷ rhs ∷ []) result }
+    ensures { T.gives (binary (compares less)) (lhs ∷ rhs ∷ []) result }
 {
     binary(alloc, Operator::Lt, lhs, rhs)
 }
@@ -90,7 +90,7 @@ pub fn checked_add<T: TreeNode>(alloc: Global, lhs: T, rhs: T) -> VortexResult<T
 /// The other truth value, null for null. Over sources it refuses with `OutOfMemory` (1) alone, over
 /// bound trees as the node does: `NotBool` (7).
 pub fn not<T: TreeNode>(alloc: Global, child: T) -> VortexResult<T>
-    ensures { T.gives negation (child ∷ []) result }
+    ensures { T.gives logical_not (child ∷ []) result }
 {
     node_of_one(alloc, ScalarFnRef::Not(EmptyOptions), child)
 }

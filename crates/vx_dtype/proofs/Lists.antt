@@ -1,5 +1,6 @@
 -- Lemmas on lists of any elements.
-use Rattle.std.proofs.Common.{◌≡◌, List, [], ◌∷◌, ◌++◌, map, refl, sym, ap, inl, inr}
+use Rattle.std.proofs.Common.{◌≡◌, ℕ, ◌+◌, ◌<◌, List, [], ◌∷◌, ◌++◌, length, get_or, drop, map, refl, sym, ap, ◌∙◌, inl, inr}
+use Rattle.std.proofs.lemmas.List.{drop_more}
 use Rattle.vx_dtype.specs.Lists.{IsIn}
 
 -- ---- elements
@@ -20,6 +21,12 @@ in_the_middle before x after = in_right x before (x ∷ after) (inl refl)
 pub map_same : {A B : Type 0} (f g : A → B) (xs : List A) → ((x : A) → IsIn x xs → f x ≡ g x) → map f xs ≡ map g xs
 map_same f g [] h = refl
 map_same f g (x ∷ xs) h = rw (h x (inl refl), map_same f g xs (λ y i. h y (inr i))) refl
+
+-- ---- what is left from a place on
+
+-- it begins with the element there
+pub drop_next : {A : Type 0} (xs : List A) (i : ℕ) (x : A) → i < length xs → x ≡ get_or xs i x → drop i xs ≡ x ∷ drop (i + 1) xs
+drop_next xs i x h is = drop_more xs i x h ∙ ap (λ y. y ∷ drop (i + 1) xs) (sym is)
 
 -- ---- what was made so far stands in front of what is left
 

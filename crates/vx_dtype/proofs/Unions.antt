@@ -15,7 +15,7 @@ same_atomic-eq p q = (same_atomic-Decides p q).0
 -- ---- the join is above both
 
 mutual
-  above-left : (t u : LogicalType) → same_base t u ≡ true → Narrower t (join t u)
+  pub above-left : (t u : LogicalType) → same_base t u ≡ true → Narrower t (join t u)
   above-left (ty s n) (ty r m) e = narrower (above-shape-left s r e) (or_left n m)
 
   above-shape-left : (s r : Shape) → same_base_shape s r ≡ true → NarrowerShape s (join_shape s r)
@@ -34,7 +34,7 @@ mutual
   above-fields-left _ _ e = cc
 
 mutual
-  above-right : (t u : LogicalType) → same_base t u ≡ true → Narrower u (join t u)
+  pub above-right : (t u : LogicalType) → same_base t u ≡ true → Narrower u (join t u)
   above-right (ty s n) (ty r m) e = narrower (above-shape-right s r e) (or_right n m)
 
   above-shape-right : (s r : Shape) → same_base_shape s r ≡ true → NarrowerShape r (join_shape s r)

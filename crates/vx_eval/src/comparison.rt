@@ -6,7 +6,7 @@ ghost use Rattle.vx_value.specs.Types.{LogicalType};
 ghost use Rattle.vx_value.specs.Views.{value_of};
 ghost use Rattle.vx_fn.specs.Functions.{binary, compares};
 ghost use Rattle.vx_fn.specs.Functions as functions;
-ghost use Rattle.vx_fn.specs.Values.{binary_value, below_or, kleene_and, compared};
+ghost use Rattle.vx_fn.specs.Values.{binary_value, bound_comparison, kleene_and, compared};
 ghost use Rattle.vx_fn.specs.Values as values;
 ghost use Rattle.vx_fn.specs.Views.{operation_of, is_strict};
 ghost use Rattle.vx_eval.specs.Columns.{rows_view, truth_datum, Evaluates};
@@ -89,8 +89,8 @@ pub fn between<'a>(
 // Whether the value lies above the lower bound and below the upper one, by Kleene's And.
 fn lies_between(options: &BetweenOptions, v: &Value, lower: &Value, upper: &Value) -> Option<bool>
     ensures { truth_datum result ≡ kleene_and
-        (compared (below_or (is_strict options.now.lower_strict)) (value_of lower.now) (value_of v.now))
-        (compared (below_or (is_strict options.now.upper_strict)) (value_of v.now) (value_of upper.now)) }
+        (compared (bound_comparison (is_strict options.now.lower_strict)) (value_of lower.now) (value_of v.now))
+        (compared (bound_comparison (is_strict options.now.upper_strict)) (value_of v.now) (value_of upper.now)) }
 {
     let above = compared(below(options.lower_strict), lower, v);
     let below = compared(below(options.upper_strict), v, upper);
@@ -99,7 +99,7 @@ fn lies_between(options: &BetweenOptions, v: &Value, lower: &Value, upper: &Valu
 
 // The comparison of a bound.
 fn below(strict: StrictComparison) -> Operator
-    ensures { operation_of result ≡ compares (below_or (is_strict strict)) }
+    ensures { operation_of result ≡ compares (bound_comparison (is_strict strict)) }
 {
     match strict {
         StrictComparison::Strict => Operator::Lt,

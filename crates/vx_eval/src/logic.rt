@@ -1,7 +1,7 @@
 // Truth values and null, by Kleene's tables.
 ghost use Rattle.std.specs.Prelude.{◌≡◌, length, List, [], ◌∷◌};
 ghost use Rattle.vx_value.specs.Types.{LogicalType};
-ghost use Rattle.vx_fn.specs.Functions.{binary, and_also, or_else, negation};
+ghost use Rattle.vx_fn.specs.Functions.{binary, and_also, or_else, logical_not};
 ghost use Rattle.vx_fn.specs.Values as values;
 ghost use Rattle.vx_eval.specs.Columns.{rows_view, truth_datum, Evaluates};
 
@@ -40,7 +40,7 @@ pub fn or<'a>(alloc: Global, count: usize, lhs: &Rows, rhs: &Rows) -> VortexResu
 /// The negation of a column. Refuses with `OutOfMemory` (1) alone.
 pub fn not<'a>(alloc: Global, count: usize, input: &Rows) -> VortexResult<Rows<'a>>
     requires { length (rows_view input.now) ≡ count }
-    ensures { (ts : List LogicalType) → Evaluates negation ts count (rows_view input.now ∷ []) result }
+    ensures { (ts : List LogicalType) → Evaluates logical_not ts count (rows_view input.now ∷ []) result }
 {
     told(alloc, count, |i| kleene_not(input.truth(i)))
 }

@@ -4,7 +4,7 @@ use Rattle.std.specs.Prelude.{Option, Some, None, option_and_then}
 use Rattle.vx_value.specs.Fits.{Fits}
 use Rattle.vx_value.specs.Types.{LogicalType, ty, atomic, truth, Datum, null, bool}
 use Rattle.vx_dtype.specs.Joins.{Narrower}
-use Rattle.vx_fn.specs.Functions.{negation}
+use Rattle.vx_fn.specs.Functions.{logical_not}
 use Rattle.vx_fn.specs.Rows.{FnType, of_not}
 use Rattle.vx_fn.specs.Values.{kleene_not}
 use Rattle.vx_tree.specs.Meaning.{value}
@@ -16,11 +16,11 @@ use Rattle.vx_rewrite_rule_sets.proofs.Prelude.{narrower_refl, fn_type-found, va
 -- what is given at a node
 pub data DoubleNegationAt : BoundTree → BoundTree → Type 0 where
   -- a negation of a negation is what is negated
-  negated_twice : {t u : LogicalType} {x : BoundTree} → DoubleNegationAt (node t negation (one_bound (node u negation (one_bound x)))) x
+  negated_twice : {t u : LogicalType} {x : BoundTree} → DoubleNegationAt (node t logical_not (one_bound (node u logical_not (one_bound x)))) x
 
 -- what is negated
 abbrev pub negated : BoundTree → Option BoundTree
-negated (node t negation xs) = only_one xs
+negated (node t logical_not xs) = only_one xs
 negated _ = None
 
 -- the rule as a function
@@ -29,16 +29,16 @@ given b = option_and_then negated (negated b)
 
 -- ---- the rule as a function gives what the rule gives
 
-inner_given : (t : LogicalType) (y u : BoundTree) → negated y ≡ Some u → DoubleNegationAt (node t negation (one_bound y)) u
-inner_given t (node p negation (bound x no_bound)) u e = let q : x ≡ u = cc in subst (DoubleNegationAt (node t negation (one_bound (node p negation (one_bound x))))) q negated_twice
-inner_given t (node p negation no_bound) u e = cc
-inner_given t (node p negation (bound x (bound y ys))) u e = cc
+inner_given : (t : LogicalType) (y u : BoundTree) → negated y ≡ Some u → DoubleNegationAt (node t logical_not (one_bound y)) u
+inner_given t (node p logical_not (bound x no_bound)) u e = let q : x ≡ u = cc in subst (DoubleNegationAt (node t logical_not (one_bound (node p logical_not (one_bound x))))) q negated_twice
+inner_given t (node p logical_not no_bound) u e = cc
+inner_given t (node p logical_not (bound x (bound y ys))) u e = cc
 inner_given t _ u e = cc
 
 is_given : (b u : BoundTree) → given b ≡ Some u → DoubleNegationAt b u
-is_given (node t negation (bound y no_bound)) u e = inner_given t y u e
-is_given (node t negation no_bound) u e = cc
-is_given (node t negation (bound y (bound z zs))) u e = cc
+is_given (node t logical_not (bound y no_bound)) u e = inner_given t y u e
+is_given (node t logical_not no_bound) u e = cc
+is_given (node t logical_not (bound y (bound z zs))) u e = cc
 is_given _ u e = cc
 
 gives : (b u : BoundTree) → DoubleNegationAt b u → given b ≡ Some u
@@ -50,7 +50,7 @@ double_negation_decided b u w = (gives b u, is_given b u)
 -- ---- it keeps the tree
 
 -- a negation is of truth values, and of its operand's type
-truths : {a t : LogicalType} → FnType negation (a ∷ []) t → (n : Bool) × (a ≡ ty (atomic truth) n) × (t ≡ ty (atomic truth) n)
+truths : {a t : LogicalType} → FnType logical_not (a ∷ []) t → (n : Bool) × (a ≡ ty (atomic truth) n) × (t ≡ ty (atomic truth) n)
 truths (of_not {n = n}) = (n, refl, refl)
 
 twice : (v : Datum) (n : Bool) → Fits v (ty (atomic truth) n) → kleene_not (kleene_not v) ≡ v
@@ -61,17 +61,17 @@ twice _ n e = cc
 
 keeps : (b u : BoundTree) → WellTyped b → DoubleNegationAt b u → Keeps b u
 keeps b x w (negated_twice {t = t} {u = u}) =
-    let outer = truths (fn_type-found negation (u ∷ []) t w.0) in
-    let inner = truths (fn_type-found negation (node_type x ∷ []) u w.2.0.0) in
+    let outer = truths (fn_type-found logical_not (u ∷ []) t w.0) in
+    let inner = truths (fn_type-found logical_not (node_type x ∷ []) u w.2.0.0) in
     let is : node_type x ≡ t = cc in
     record {
       typed_before = w;
       typed_after = w.2.0.2.0;
       scopes = λ s o. o.0.0;
       type = subst (Narrower (node_type x)) is (narrower_refl (node_type x));
-      no_fault = λ s batch o i n. only_quiet u negation x batch (only_quiet t negation (node u negation (one_bound x)) batch n);
+      no_fault = λ s batch o i n. only_quiet u logical_not x batch (only_quiet t logical_not (node u logical_not (one_bound x)) batch n);
       meaning = λ s batch o i n v j.
-          let quiet = only_quiet u negation x batch (only_quiet t negation (node u negation (one_bound x)) batch n) in
+          let quiet = only_quiet u logical_not x batch (only_quiet t logical_not (node u logical_not (one_bound x)) batch n) in
           let fits = value-fits x s batch v w.2.0.2.0 o.0.0 quiet j (each_passes _ batch v i j) in
           sym (twice (value x v) inner.0 (subst (Fits (value x v)) inner.1 fits));
     }

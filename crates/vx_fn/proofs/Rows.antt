@@ -9,7 +9,7 @@ use Rattle.vx_value.specs.Joins.{same_base, join, union, union_all}
 use Rattle.vx_value.specs.Fields.{field_type, project, first_unknown, fields_named}
 use Rattle.vx_dtype.specs.declared.dtype.PType.{PType}
 use Rattle.vx_value.specs.Answers.{known_or}
-use Rattle.vx_fn.specs.Functions.{Function, case_when, get_item, literal, pack, select, fill_null, zip, binary, negation, between, like, is_null, is_not_null, mask, cast, Operation, compares, and_also, or_else, adds, Comparison, selection_names, included, case_children, conditions, branches, is_truth, is_text, is_number, is_atomic, Typing, of_none, of_one, of_two, of_three, of_many, needs, fn_type, case_union, case_type, item_type, found, with_else, select_type, binary_type, truth_type}
+use Rattle.vx_fn.specs.Functions.{Function, case_when, get_item, literal, pack, select, fill_null, zip, binary, logical_not, between, like, is_null, is_not_null, mask, cast, Operation, compares, and_also, or_else, adds, Comparison, selection_names, included, case_children, conditions, branches, is_truth, is_text, is_number, is_atomic, Typing, of_none, of_one, of_two, of_three, of_many, needs, fn_type, case_union, case_type, item_type, found, with_else, select_type, binary_type, truth_type}
 use Rattle.vx_fn.specs.declared.options.FieldSelection.{FieldSelection}
 use Rattle.vx_dtype.specs.declared.error.VortexError.{VortexError}
 use Rattle.vx_dtype.specs.declared.error.VortexError.TheVariants.{ArityMismatch, NotBool, NotText, NotComparable, BaseTypesDiffer}
@@ -65,8 +65,8 @@ number_ok : (P : LogicalType → Type 0) → ((p : PType) (n : Bool) → P (ty (
 number_ok P k (ty (atomic (number p)) n) e = k p n
 number_ok P k _ e = cc
 
-row_not : (t : LogicalType) (a : LogicalType) → needs (is_truth a) NotBool (Ok a) ≡ Ok t → FnType negation (a ∷ []) t
-row_not t (ty (atomic truth) n) e = ok_at negation _ of_not e
+row_not : (t : LogicalType) (a : LogicalType) → needs (is_truth a) NotBool (Ok a) ≡ Ok t → FnType logical_not (a ∷ []) t
+row_not t (ty (atomic truth) n) e = ok_at logical_not _ of_not e
 row_not t _ e = cc
 
 row_case : (k : ℕ) (h : Bool) (ts : List LogicalType) (t : LogicalType) → (length ts == case_children k h) ≡ true → case_type k h ts ≡ Ok t → FnType (case_when k h) ts t
@@ -194,7 +194,7 @@ fn_type-found (select sel) ts t e = one_ok (select_type sel) (λ ts. FnType (sel
 fn_type-found fill_null ts t e = two_ok _ (λ ts. FnType fill_null ts t) (row_fill t) ts e
 fn_type-found zip ts t e = three_ok _ (λ ts. FnType zip ts t) (row_zip t) ts e
 fn_type-found (binary op) ts t e = two_ok (binary_type op) (λ ts. FnType (binary op) ts t) (row_binary op t) ts e
-fn_type-found negation ts t e = one_ok _ (λ ts. FnType negation ts t) (row_not t) ts e
+fn_type-found logical_not ts t e = one_ok _ (λ ts. FnType logical_not ts t) (row_not t) ts e
 fn_type-found (between ls us) ts t e = three_ok _ (λ ts. FnType (between ls us) ts t) (row_between ls us t) ts e
 fn_type-found (like neg ci) ts t e = two_ok _ (λ ts. FnType (like neg ci) ts t) (row_like neg ci t) ts e
 fn_type-found is_null ts t e = one_ok _ (λ ts. FnType is_null ts t) (λ a q. ok_at is_null _ (of_is_null {t = a}) q) ts e

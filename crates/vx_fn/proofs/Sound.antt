@@ -15,7 +15,7 @@ use Rattle.vx_fn.specs.Functions.{Function, get_item, select, fill_null, binary,
 use Rattle.vx_fn.specs.declared.options.FieldSelection.{FieldSelection}
 use Rattle.vx_fn.specs.declared.options.FieldSelection.TheVariants.{Include, Exclude}
 use Rattle.vx_fn.specs.Rows.{FnType, of_case_else, of_case, of_get_item, of_literal, of_pack, of_select, of_fill_null, of_zip, of_comparison, of_and, of_or, of_add, of_not, of_between, of_like, of_is_null, of_is_not_null, of_mask, of_cast}
-use Rattle.vx_fn.specs.Values.{is_true, kleene_and, kleene_or, kleene_not, compared, agrees, order, below_or, sum_of, liked, first_true, fn_value}
+use Rattle.vx_fn.specs.Values.{is_true, kleene_and, kleene_or, kleene_not, compared, agrees, order, bound_comparison, sum_of, liked, first_true, fn_value}
 use Rattle.vx_fn.specs.Faults.{overflows, misfits, is_fillable, fill_of}
 
 -- the row doesn't make the node fault
@@ -124,10 +124,10 @@ or_three true m k e = refl
 or_three false true k e = refl
 or_three false false k e = e
 
-between-fits : (ls us : Bool) (v l u : Datum) (p q r : Atomic) (n m k : Bool) → Fits v (ty (atomic p) n) → Fits l (ty (atomic q) m) → Fits u (ty (atomic r) k) → Fits (kleene_and (compared (below_or ls) l v) (compared (below_or us) v u)) (ty (atomic truth) (n || m || k))
+between-fits : (ls us : Bool) (v l u : Datum) (p q r : Atomic) (n m k : Bool) → Fits v (ty (atomic p) n) → Fits l (ty (atomic q) m) → Fits u (ty (atomic r) k) → Fits (kleene_and (compared (bound_comparison ls) l v) (compared (bound_comparison us) v u)) (ty (atomic truth) (n || m || k))
 between-fits ls us v l u p q r n m k e h d =
     fits-wider _ (atomic truth) ((m || n) || (n || k)) (n || m || k) (or_three n m k)
-    (and-fits _ _ (m || n) (n || k) (compared-fits (below_or ls) l v _ _ m n h e) (compared-fits (below_or us) v u _ _ n k e d))
+    (and-fits _ _ (m || n) (n || k) (compared-fits (bound_comparison ls) l v _ _ m n h e) (compared-fits (bound_comparison us) v u _ _ n k e d))
 
 -- ---- one node
 

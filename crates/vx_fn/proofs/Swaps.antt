@@ -8,7 +8,7 @@ use Rattle.std.proofs.lemmas.Cmp.{int_cmp_total, nat_list_cmp_total}
 use Rattle.std.proofs.Math.Bool.{or_comm, and_comm}
 use Rattle.std.proofs.Math.IntN.{+ℤ_comm}
 use Rattle.vx_value.specs.Types.{Datum, null, bool, int, utf8, bytes, list_of, struct_of, is_null_datum}
-use Rattle.vx_fn.specs.Functions.{Comparison, equal, different, above, at_least, below, at_most, mirrored, compares, and_also, or_else, adds}
+use Rattle.vx_fn.specs.Functions.{Comparison, equal, not_equal, greater, greater_or_equal, less, less_or_equal, mirrored, compares, and_also, or_else, adds}
 use Rattle.vx_fn.specs.Laws.{SwappedOverExchangedOperands}
 use Rattle.vx_fn.specs.Values.{is_true, is_false, kleene_and, kleene_or, order, agrees, compared, sum_of}
 
@@ -26,21 +26,21 @@ agrees-turned : (c : Comparison) (o : Ordering) → agrees (mirrored c) (orderin
 agrees-turned equal Less = refl
 agrees-turned equal Equal = refl
 agrees-turned equal Greater = refl
-agrees-turned different Less = refl
-agrees-turned different Equal = refl
-agrees-turned different Greater = refl
-agrees-turned above Less = refl
-agrees-turned above Equal = refl
-agrees-turned above Greater = refl
-agrees-turned at_least Less = refl
-agrees-turned at_least Equal = refl
-agrees-turned at_least Greater = refl
-agrees-turned below Less = refl
-agrees-turned below Equal = refl
-agrees-turned below Greater = refl
-agrees-turned at_most Less = refl
-agrees-turned at_most Equal = refl
-agrees-turned at_most Greater = refl
+agrees-turned not_equal Less = refl
+agrees-turned not_equal Equal = refl
+agrees-turned not_equal Greater = refl
+agrees-turned greater Less = refl
+agrees-turned greater Equal = refl
+agrees-turned greater Greater = refl
+agrees-turned greater_or_equal Less = refl
+agrees-turned greater_or_equal Equal = refl
+agrees-turned greater_or_equal Greater = refl
+agrees-turned less Less = refl
+agrees-turned less Equal = refl
+agrees-turned less Greater = refl
+agrees-turned less_or_equal Less = refl
+agrees-turned less_or_equal Equal = refl
+agrees-turned less_or_equal Greater = refl
 
 compared-turned : (c : Comparison) (v w : Datum) → compared (mirrored c) v w ≡ compared c w v
 compared-turned c v w =

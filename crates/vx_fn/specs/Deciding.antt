@@ -11,16 +11,16 @@ use Rattle.vx_value.specs.Types.{Name}
 use Rattle.vx_fn.specs.declared.options.FieldSelection.{FieldSelection}
 use Rattle.vx_fn.specs.declared.options.FieldSelection.TheVariants.{Include, Exclude}
 use Rattle.vx_fn.specs.Equality.{operation_index, equal_names, equal_selection, equal_function, function_fed}
-use Rattle.vx_fn.specs.Functions.{Comparison, equal, different, above, at_least, below, at_most, Operation, compares, and_also, or_else, adds, Function, case_when, get_item, literal, pack, select, fill_null, zip, binary, negation, between, like, is_null, is_not_null, mask, cast}
+use Rattle.vx_fn.specs.Functions.{Comparison, equal, not_equal, greater, greater_or_equal, less, less_or_equal, Operation, compares, and_also, or_else, adds, Function, case_when, get_item, literal, pack, select, fill_null, zip, binary, logical_not, between, like, is_null, is_not_null, mask, cast}
 
 -- comparisons of one place are one
 comparison_inj : (c d : Comparison) → operation_index (compares c) ≡ operation_index (compares d) → c ≡ d
 comparison_inj equal equal e = refl
-comparison_inj different different e = refl
-comparison_inj above above e = refl
-comparison_inj at_least at_least e = refl
-comparison_inj below below e = refl
-comparison_inj at_most at_most e = refl
+comparison_inj not_equal not_equal e = refl
+comparison_inj greater greater e = refl
+comparison_inj greater_or_equal greater_or_equal e = refl
+comparison_inj less less e = refl
+comparison_inj less_or_equal less_or_equal e = refl
 comparison_inj _ _ e = cc
 
 -- operations of one place are one
@@ -30,17 +30,17 @@ operation_inj and_also and_also e = refl
 operation_inj or_else or_else e = refl
 operation_inj adds adds e = refl
 operation_inj (compares equal) _ e = cc
-operation_inj (compares different) _ e = cc
-operation_inj (compares above) _ e = cc
-operation_inj (compares at_least) _ e = cc
-operation_inj (compares below) _ e = cc
-operation_inj (compares at_most) _ e = cc
+operation_inj (compares not_equal) _ e = cc
+operation_inj (compares greater) _ e = cc
+operation_inj (compares greater_or_equal) _ e = cc
+operation_inj (compares less) _ e = cc
+operation_inj (compares less_or_equal) _ e = cc
 operation_inj _ (compares equal) e = cc
-operation_inj _ (compares different) e = cc
-operation_inj _ (compares above) e = cc
-operation_inj _ (compares at_least) e = cc
-operation_inj _ (compares below) e = cc
-operation_inj _ (compares at_most) e = cc
+operation_inj _ (compares not_equal) e = cc
+operation_inj _ (compares greater) e = cc
+operation_inj _ (compares greater_or_equal) e = cc
+operation_inj _ (compares less) e = cc
+operation_inj _ (compares less_or_equal) e = cc
 operation_inj _ _ e = cc
 
 -- the test of places decides `≡` of operations
@@ -67,7 +67,7 @@ equal_function-Decides (select s) (select r) = Decides-like _ (λ p. ap select p
 equal_function-Decides fill_null fill_null = itself
 equal_function-Decides zip zip = itself
 equal_function-Decides (binary c) (binary d) = Decides-like _ (λ p. ap binary p) (λ p. cc) (operation-Decides c d)
-equal_function-Decides negation negation = itself
+equal_function-Decides logical_not logical_not = itself
 equal_function-Decides (between k l) (between m n) = Decides-like _ (λ p. cc) (λ p. (cc, cc)) (Decides-and _ _ (booleans_Decides k m) (booleans_Decides l n))
 equal_function-Decides (like k l) (like m n) = Decides-like _ (λ p. cc) (λ p. (cc, cc)) (Decides-and _ _ (booleans_Decides k m) (booleans_Decides l n))
 equal_function-Decides is_null is_null = itself

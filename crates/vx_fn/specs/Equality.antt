@@ -10,16 +10,16 @@ use Rattle.vx_value.specs.Equality.{equal_type, equal_datum}
 use Rattle.vx_value.specs.Hashes.{type_fed, datum_fed}
 use Rattle.vx_fn.specs.declared.options.FieldSelection.{FieldSelection}
 use Rattle.vx_fn.specs.declared.options.FieldSelection.TheVariants.{Include, Exclude}
-use Rattle.vx_fn.specs.Functions.{equal, different, above, at_least, below, at_most, Operation, compares, and_also, or_else, adds, Function, case_when, get_item, literal, pack, select, fill_null, zip, binary, negation, between, like, is_null, is_not_null, mask, cast}
+use Rattle.vx_fn.specs.Functions.{equal, not_equal, greater, greater_or_equal, less, less_or_equal, Operation, compares, and_also, or_else, adds, Function, case_when, get_item, literal, pack, select, fill_null, zip, binary, logical_not, between, like, is_null, is_not_null, mask, cast}
 
 -- the operation's place among the nine
 abbrev pub operation_index : Operation → ℕ
 operation_index (compares equal) = 0
-operation_index (compares different) = 1
-operation_index (compares above) = 2
-operation_index (compares at_least) = 3
-operation_index (compares below) = 4
-operation_index (compares at_most) = 5
+operation_index (compares not_equal) = 1
+operation_index (compares greater) = 2
+operation_index (compares greater_or_equal) = 3
+operation_index (compares less) = 4
+operation_index (compares less_or_equal) = 5
 operation_index and_also = 6
 operation_index or_else = 7
 operation_index adds = 8
@@ -44,7 +44,7 @@ equal_function (select s) (select r) = equal_selection s r
 equal_function fill_null fill_null = true
 equal_function zip zip = true
 equal_function (binary c) (binary d) = operation_index c == operation_index d
-equal_function negation negation = true
+equal_function logical_not logical_not = true
 equal_function (between k l) (between m n) = beq k m && beq l n
 equal_function (like k l) (like m n) = beq k m && beq l n
 equal_function is_null is_null = true
@@ -68,7 +68,7 @@ function_index (select s) = 4
 function_index fill_null = 5
 function_index zip = 6
 function_index (binary c) = 7
-function_index negation = 8
+function_index logical_not = 8
 function_index (between k l) = 9
 function_index (like k l) = 10
 function_index is_null = 11

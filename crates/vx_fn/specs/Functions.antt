@@ -16,11 +16,11 @@ use Rattle.vx_value.specs.Fields.{field_names, field_type, project, first_unknow
 -- how two operands are compared
 pub data Comparison : Type 0 where
   equal : Comparison
-  different : Comparison
-  above : Comparison
-  at_least : Comparison
-  below : Comparison
-  at_most : Comparison
+  not_equal : Comparison
+  greater : Comparison
+  greater_or_equal : Comparison
+  less : Comparison
+  less_or_equal : Comparison
 
 -- what a binary function does with its operands
 pub data Operation : Type 0 where
@@ -39,7 +39,7 @@ pub data Function : Type 0 where
   fill_null : Function
   zip : Function
   binary : Operation → Function
-  negation : Function
+  logical_not : Function
   between : (lower_strict upper_strict : Bool) → Function
   like : (negated case_insensitive : Bool) → Function
   is_null : Function
@@ -49,12 +49,12 @@ pub data Function : Type 0 where
 
 -- the comparison for exchanged operands
 abbrev pub mirrored : Comparison → Comparison
-mirrored above = below
-mirrored at_least = at_most
-mirrored below = above
-mirrored at_most = at_least
+mirrored greater = less
+mirrored greater_or_equal = less_or_equal
+mirrored less = greater
+mirrored less_or_equal = greater_or_equal
 mirrored equal = equal
-mirrored different = different
+mirrored not_equal = not_equal
 
 -- the operation for exchanged operands
 abbrev pub swapped : Operation → Operation
@@ -261,7 +261,7 @@ fn_type (select selection) = of_one (select_type selection)
 fn_type fill_null = of_two fill_type
 fn_type zip = of_three zip_type
 fn_type (binary op) = of_two (binary_type op)
-fn_type negation = of_one not_type
+fn_type logical_not = of_one not_type
 fn_type (between lower_strict upper_strict) = of_three between_type
 fn_type (like negated case_insensitive) = of_two like_type
 fn_type is_null = of_one (λ t. Ok (truth_type false))
@@ -279,7 +279,7 @@ id_of (select selection) = codes "vortex.select"
 id_of fill_null = codes "vortex.fill_null"
 id_of zip = codes "vortex.zip"
 id_of (binary op) = codes "vortex.binary"
-id_of negation = codes "vortex.not"
+id_of logical_not = codes "vortex.not"
 id_of (between lower_strict upper_strict) = codes "vortex.between"
 id_of (like negated case_insensitive) = codes "vortex.like"
 id_of is_null = codes "vortex.is_null"

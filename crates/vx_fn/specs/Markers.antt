@@ -13,7 +13,7 @@ use Rattle.vx_fn.specs.declared.options.BetweenOptions.{BetweenOptions}
 use Rattle.vx_fn.specs.declared.options.LikeOptions.{LikeOptions}
 use Rattle.vx_fn.specs.declared.function.ScalarFnRef.{ScalarFnRef}
 use Rattle.vx_fn.specs.declared.function.ScalarFnRef.TheVariants.{CaseWhen, GetItem, Literal, Pack, Select, FillNull, Zip, Binary, Not, Between, Like, IsNull, IsNotNull, Mask, Cast}
-use Rattle.vx_fn.specs.Functions.{Function, case_when, get_item, literal, pack, select, fill_null, zip, binary, negation, between, like, is_null, is_not_null, mask, cast}
+use Rattle.vx_fn.specs.Functions.{Function, case_when, get_item, literal, pack, select, fill_null, zip, binary, logical_not, between, like, is_null, is_not_null, mask, cast}
 use Rattle.vx_fn.specs.Views.{function_of}
 
 -- the options of a CASE
@@ -183,7 +183,7 @@ not_options _ = None
 
 -- whether the function is a negation
 abbrev pub is_not : Function → Bool
-is_not negation = true
+is_not logical_not = true
 is_not _ = false
 
 -- the options are `o` exactly where it is a negation with them

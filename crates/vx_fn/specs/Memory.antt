@@ -4,12 +4,12 @@ use Rattle.vx_dtype.specs.declared.error.VortexError.{VortexError}
 use Rattle.vx_dtype.specs.declared.error.VortexError.TheVariants.{NoSuchField, BaseTypesDiffer}
 use Rattle.vx_value.specs.Answers.{Exactly}
 use Rattle.vx_value.specs.Types.{LogicalType}
-use Rattle.vx_fn.specs.Functions.{Function, case_when, binary, negation, between, like, is_null, is_not_null, Typing}
+use Rattle.vx_fn.specs.Functions.{Function, case_when, binary, logical_not, between, like, is_null, is_not_null, Typing}
 
 -- whether a node's type is a truth type or a number type, which is made without a copy
 abbrev pub is_typed_in_place : Function → Bool
 is_typed_in_place (binary op) = true
-is_typed_in_place negation = true
+is_typed_in_place logical_not = true
 is_typed_in_place (between lower_strict upper_strict) = true
 is_typed_in_place (like negated case_insensitive) = true
 is_typed_in_place is_null = true

@@ -7,18 +7,18 @@ pub use Rattle.vx_value.specs.Texts.{with_commas}
 use Rattle.vx_value.specs.ValueTexts.{value_text}
 use Rattle.vx_fn.specs.declared.options.FieldSelection.{FieldSelection}
 use Rattle.vx_fn.specs.declared.options.FieldSelection.TheVariants.{Include, Exclude}
-use Rattle.vx_fn.specs.Functions.{equal, different, above, at_least, below, at_most, Operation, compares, and_also, or_else, adds, Function, case_when, get_item, literal, pack, select, zip, binary, between, like, cast, arity_of, id_of}
+use Rattle.vx_fn.specs.Functions.{equal, not_equal, greater, greater_or_equal, less, less_or_equal, Operation, compares, and_also, or_else, adds, Function, case_when, get_item, literal, pack, select, zip, binary, between, like, cast, arity_of, id_of}
 
 -- ---- options
 
 -- the sign of an operator
 abbrev pub operation_text : Operation → List ℕ
 operation_text (compares equal) = codes "="
-operation_text (compares different) = codes "!="
-operation_text (compares above) = codes ">"
-operation_text (compares at_least) = codes ">="
-operation_text (compares below) = codes "<"
-operation_text (compares at_most) = codes "<="
+operation_text (compares not_equal) = codes "!="
+operation_text (compares greater) = codes ">"
+operation_text (compares greater_or_equal) = codes ">="
+operation_text (compares less) = codes "<"
+operation_text (compares less_or_equal) = codes "<="
 operation_text and_also = codes "and"
 operation_text or_else = codes "or"
 operation_text adds = codes "+"

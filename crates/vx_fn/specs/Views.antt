@@ -7,16 +7,16 @@ use Rattle.vx_fn.specs.declared.options.StrictComparison.{StrictComparison}
 use Rattle.vx_fn.specs.declared.options.StrictComparison.TheVariants.{Strict, NonStrict}
 use Rattle.vx_fn.specs.declared.function.ScalarFnRef.{ScalarFnRef}
 use Rattle.vx_fn.specs.declared.function.ScalarFnRef.TheVariants.{CaseWhen, GetItem, Literal, Pack, Select, FillNull, Zip, Binary, Not, Between, Like, IsNull, IsNotNull, Mask, Cast}
-use Rattle.vx_fn.specs.Functions.{Function, case_when, get_item, literal, pack, select, fill_null, zip, binary, negation, between, like, is_null, is_not_null, mask, cast, Operation, compares, and_also, or_else, adds, equal, different, above, at_least, below, at_most}
+use Rattle.vx_fn.specs.Functions.{Function, case_when, get_item, literal, pack, select, fill_null, zip, binary, logical_not, between, like, is_null, is_not_null, mask, cast, Operation, compares, and_also, or_else, adds, equal, not_equal, greater, greater_or_equal, less, less_or_equal}
 
 -- the operation of an operator
 abbrev pub operation_of : Operator → Operation
 operation_of Eq = compares equal
-operation_of NotEq = compares different
-operation_of Gt = compares above
-operation_of Gte = compares at_least
-operation_of Lt = compares below
-operation_of Lte = compares at_most
+operation_of NotEq = compares not_equal
+operation_of Gt = compares greater
+operation_of Gte = compares greater_or_equal
+operation_of Lt = compares less
+operation_of Lte = compares less_or_equal
 operation_of And = and_also
 operation_of Or = or_else
 operation_of Add = adds
@@ -36,7 +36,7 @@ function_of (Select selection) = select selection
 function_of (FillNull o) = fill_null
 function_of (Zip o) = zip
 function_of (Binary operator) = binary (operation_of operator)
-function_of (Not o) = negation
+function_of (Not o) = logical_not
 function_of (Between o) = between (is_strict o.lower_strict) (is_strict o.upper_strict)
 function_of (Like o) = like o.negated o.case_insensitive
 function_of (IsNull o) = is_null

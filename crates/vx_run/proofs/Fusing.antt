@@ -5,7 +5,7 @@ use Rattle.vx_dtype.specs.Answers.{Answers}
 use Rattle.vx_dtype.specs.declared.error.VortexError.{VortexError}
 use Rattle.vx_dtype.specs.declared.error.VortexError.TheVariants.{OutOfMemory}
 use Rattle.vx_value.specs.Types.{null}
-use Rattle.vx_fn.specs.Functions.{get_item, literal, binary, compares, at_least, at_most, truth_type}
+use Rattle.vx_fn.specs.Functions.{get_item, literal, binary, compares, greater_or_equal, less_or_equal, truth_type}
 use Rattle.vx_tree.specs.Binding.{binding}
 use Rattle.vx_tree.specs.Examples.{i32, i32_or_null, bool_or_null, with_x, number_of}
 use Rattle.vx_tree.specs.Trees.{BoundTree, scope, node, no_bound, bound, WellTyped, Over}
@@ -30,10 +30,10 @@ abbrev high : BoundTree
 high = node i32 (literal i32 (number_of 5)) no_bound
 
 abbrev from_low : BoundTree
-from_low = node bool_or_null (binary (compares at_least)) (two_bounds item low)
+from_low = node bool_or_null (binary (compares greater_or_equal)) (two_bounds item low)
 
 abbrev to_high : BoundTree
-to_high = node (truth_type false) (binary (compares at_most)) (two_bounds item high)
+to_high = node (truth_type false) (binary (compares less_or_equal)) (two_bounds item high)
 
 -- the tree of `kleene`, and of `fused`
 abbrev pub unfused : BoundTree

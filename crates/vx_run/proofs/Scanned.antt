@@ -5,7 +5,7 @@ use Rattle.vx_dtype.specs.Answers.{Answers}
 use Rattle.vx_dtype.specs.declared.error.VortexError.{VortexError}
 use Rattle.vx_value.specs.Columns.{Batch, batch}
 use Rattle.vx_value.specs.Types.{Name, LogicalType, Datum}
-use Rattle.vx_fn.specs.Functions.{Operation, get_item, binary, and_also, compares, at_least, below, truth_type}
+use Rattle.vx_fn.specs.Functions.{Operation, get_item, binary, and_also, compares, greater_or_equal, less, truth_type}
 use Rattle.vx_tree.specs.Binding.{binding}
 use Rattle.vx_tree.specs.Examples.{i32, i32_or_null, bool_or_null, number_of}
 use Rattle.vx_tree.specs.Faults.{HasNoFault}
@@ -46,10 +46,10 @@ abbrev small : ℕ → BoundTree
 small n = literal_node i32 (number_of n)
 
 abbrev from_one : BoundTree
-from_one = node bool_or_null (binary (compares at_least)) (two_bounds x_of_a (small 1))
+from_one = node bool_or_null (binary (compares greater_or_equal)) (two_bounds x_of_a (small 1))
 
 abbrev below_five : BoundTree
-below_five = node (truth_type false) (binary (compares below)) (two_bounds b (small 5))
+below_five = node (truth_type false) (binary (compares less)) (two_bounds b (small 5))
 
 -- the tree of `scan`
 abbrev pub both : BoundTree

@@ -3,7 +3,7 @@ ghost use Rattle.std.specs.Prelude.{◌≡◌, Ok, IfOk, IfErr};
 ghost use Rattle.vx_dtype.specs.declared.error.VortexError.TheVariants.{OutOfMemory};
 ghost use Rattle.vx_dtype.specs.Answers.{Answers};
 ghost use Rattle.vx_value.specs.Types.{int};
-ghost use Rattle.vx_fn.specs.Functions.{compares, above};
+ghost use Rattle.vx_fn.specs.Functions.{compares, greater};
 ghost use Rattle.vx_tree.specs.Examples.{i32, x, lit, operated};
 ghost use Rattle.vx_tree.specs.Views.{tree_of};
 ghost use Rattle.vx_run.specs.Cases.{cases};
@@ -27,12 +27,12 @@ pub fn source(alloc: Global) -> VortexResult<Expression>
 
 // The condition that x is above the bound, and the value beside it.
 fn case(alloc: Global, bound: i32, value: i32) -> VortexResult<(Expression, Expression)>
-    ensures condition { IfOk result (λ c. tree_of c.0 ≡ operated (compares above) x (lit i32 (int bound))) }
+    ensures condition { IfOk result (λ c. tree_of c.0 ≡ operated (compares greater) x (lit i32 (int bound))) }
     ensures value { IfOk result (λ c. tree_of c.1 ≡ lit i32 (int value)) }
     ensures memory { IfErr result (λ e. e ≡ OutOfMemory) }
 {
-    let above = x_compared(alloc, Operator::Gt, number(alloc, bound)?)?;
-    let condition = Box::new(alloc, above)?;
+    let greater = x_compared(alloc, Operator::Gt, number(alloc, bound)?)?;
+    let condition = Box::new(alloc, greater)?;
     let value = number(alloc, value)?;
     Ok((Box::into_inner(condition), value))
 }

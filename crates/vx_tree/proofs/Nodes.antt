@@ -5,7 +5,7 @@ use Rattle.std.proofs.lemmas.Bool.Decides.{nat_tests}
 use Rattle.vx_dtype.specs.declared.error.VortexError.{VortexError}
 use Rattle.vx_dtype.specs.declared.error.VortexError.TheVariants.{ArityMismatch, RootChildren}
 use Rattle.vx_value.specs.Types.{LogicalType}
-use Rattle.vx_fn.specs.Functions.{Function, case_when, get_item, literal, pack, select, fill_null, zip, binary, negation, between, like, is_null, is_not_null, mask, cast, Typing, fn_type, arity_of, of_one, of_two, of_three, of_many, case_children, case_type, pack_type}
+use Rattle.vx_fn.specs.Functions.{Function, case_when, get_item, literal, pack, select, fill_null, zip, binary, logical_not, between, like, is_null, is_not_null, mask, cast, Typing, fn_type, arity_of, of_one, of_two, of_three, of_many, case_children, case_type, pack_type}
 use Rattle.vx_tree.specs.declared.expression.Expression.{Expression}
 use Rattle.vx_tree.specs.declared.bound.BoundExpression.{BoundExpression}
 use Rattle.vx_tree.specs.Binding.{node_over}
@@ -103,7 +103,7 @@ fn_type-other (select selection) ts h = of_one-other _ ts h
 fn_type-other fill_null ts h = of_two-other _ ts h
 fn_type-other zip ts h = of_three-other _ ts h
 fn_type-other (binary op) ts h = of_two-other _ ts h
-fn_type-other negation ts h = of_one-other _ ts h
+fn_type-other logical_not ts h = of_one-other _ ts h
 fn_type-other (between l u) ts h = of_three-other _ ts h
 fn_type-other (like n c) ts h = of_two-other _ ts h
 fn_type-other is_null ts h = of_one-other _ ts h

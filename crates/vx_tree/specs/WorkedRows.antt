@@ -6,7 +6,7 @@ use Rattle.vx_dtype.specs.declared.error.VortexError.TheVariants.{ArityMismatch,
 use Rattle.vx_value.specs.Types.{truth, number, LogicalType, ty, atomic, struct, no_field, field, Datum, null, bool, utf8, struct_of, no_datum}
 use Rattle.vx_value.specs.Columns.{first_misfit}
 use Rattle.vx_fn.specs.declared.options.FieldSelection.TheVariants.{Include, Exclude}
-use Rattle.vx_fn.specs.Functions.{case_when, get_item, pack, select, fill_null, zip, between, like, is_null, compares, and_also, adds, equal, above, at_least, at_most}
+use Rattle.vx_fn.specs.Functions.{case_when, get_item, pack, select, fill_null, zip, between, like, is_null, compares, and_also, adds, equal, greater, greater_or_equal, less_or_equal}
 use Rattle.vx_tree.specs.Examples.{i8, i32, i32_or_null, bool_or_null, utf8_type, struct_type, with_x, row_of, row_of_two, number_of, one, two, three, col, x, lit, lit_i32, lit_text, operated}
 use Rattle.vx_tree.specs.Harness.{harness_type}
 use Rattle.vx_tree.specs.Binding.{binding}
@@ -36,7 +36,7 @@ Faults e s rows fault = fault_when_bound (binding e s) rows ≡ fault
 -- ---- 1: null is neither above nor below, and false wins over null
 
 abbrev pub range_of_x : Tree
-range_of_x = operated and_also (operated (compares at_least) x (lit i32_or_null null)) (operated (compares at_most) x (lit_i32 5))
+range_of_x = operated and_also (operated (compares greater_or_equal) x (lit i32_or_null null)) (operated (compares less_or_equal) x (lit_i32 5))
 
 abbrev pub Row1 : Type 0
 Row1 = Evaluates range_of_x (with_x i32) bool_or_null (row_of (number_of 10) ∷ row_of (number_of 1) ∷ []) (bool false ∷ null ∷ [])
@@ -80,7 +80,7 @@ Row7 = Evaluates zero_for_null (with_x i32_or_null) i32_or_null (row_of null ∷
 -- ---- 8: the first true condition wins, and null is not true
 
 abbrev pub x_above : ℕ → Tree
-x_above n = operated (compares above) x (lit_i32 n)
+x_above n = operated (compares greater) x (lit_i32 n)
 
 abbrev pub two_cases : Tree
 two_cases = call (case_when 2 true) (tree (x_above 0) (tree (lit_i32 10) (three (x_above 3) (lit_i32 20) (lit_i32 30))))

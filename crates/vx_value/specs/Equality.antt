@@ -5,7 +5,6 @@ use Rattle.std.specs.Ordering.{int_eq}
 use Rattle.std.specs.Str.{bytes_eq}
 use Rattle.vx_value.specs.Values.{Datum, null, bool, int, utf8, bytes, list_of, struct_of, Data, no_datum, datum}
 pub use Rattle.vx_dtype.specs.Equality.{equal_type, equal_shape, equal_fields}
-pub use Rattle.vx_dtype.specs.Deciding.{equal_type-Decides}
 
 -- whether two values are the same
 abbrev mutual
