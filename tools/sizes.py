@@ -54,10 +54,13 @@ def conjuncts(n):
         ("depth", f"depth | {tree} | {rounds + 3}"),
         ("type", f"type | {tree} | bool"),
         ("optimized or none", f"optimized or none | {tree} | none"),
+        ("fused as", f"fused as | {tree} | {tree} | equal"),
         ("rows", f"rows | {tree} | [true, false]"),
         ("paths", f"paths | {tree} | $.a"),
         ("size", f"size | {tree} | {5 * n - 1}"),
         ("covers", f"covers | {tree} | true"),
+        ("split rows", f"split rows | {tree} | [true, false]"),
+        ("query", f"query | all fuse split | {tree} | [true, false]"),
         ("scan", f"scan | {tree} | [true, false] : bool"),
     ]
 

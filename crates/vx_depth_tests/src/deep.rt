@@ -22,6 +22,7 @@ fused as | " | " | equal
 paths | " | $.m
 size | " | 10002
 annotations | " | [m]
+own annotations | " | [m] (1)
 covers | " | true
 split rows | " | [true, null]
 replaced rows | " | [true, null]
@@ -47,6 +48,7 @@ fused as | " | " | equal
 paths | " | $.m
 size | " | 30002
 annotations | " | [m]
+own annotations | " | [m] (1)
 covers | " | true
 split rows | " | [true, false]
 replaced rows | " | [true, false]
@@ -68,6 +70,7 @@ fused as | " | " | equal
 paths | " | $.m
 size | " | 30002
 annotations | " | [m]
+own annotations | " | [m] (1)
 covers | " | true
 split rows | " | [true, false]
 replaced rows | " | [true, false]
@@ -92,6 +95,7 @@ fused as | " | " | equal
 paths | " | $.x
 size | " | 10002
 annotations | " | [x]
+own annotations | " | [x] (1)
 covers | " | true
 split rows | " | [10i32, null]
 replaced | " | root: $.x.x_0 {x: pack(x_0: $.x)} : i32?
@@ -116,6 +120,7 @@ fused as | " | " | equal
 paths | " | $.m
 size | " | 30002
 annotations | " | [m]
+own annotations | " | [m] (1)
 covers | " | true
 split rows | " | [true, false]
 replaced rows | " | [true, false]
@@ -135,7 +140,7 @@ fn ten_thousand_levels_go_through_each_call(rt: HostRuntime) -> Result<(), Fail>
         &mut tally,
         &mut rt.stdout(),
     )?;
-    assert_eq!(rt; tally.rows, 94);
+    assert_eq!(rt; tally.rows, 99);
     assert_eq!(rt; tally.failed, 0);
     Ok(())
 }

@@ -47,6 +47,7 @@ pub fn answer(
         | BoundKind::Heights => analyses::answer(alloc, kind, scene, &source, &bound),
         BoundKind::Fields
         | BoundKind::OwnFields
+        | BoundKind::OwnAnnotations
         | BoundKind::Annotations
         | BoundKind::Covers
         | BoundKind::Split

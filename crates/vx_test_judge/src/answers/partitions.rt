@@ -3,7 +3,7 @@ ghost use Rattle.vx_tree.specs.Trees.{WellTyped};
 ghost use Rattle.vx_tree.specs.Views.{bound_of};
 
 use crate::answers::distinct::distinct_nodes;
-use crate::answers::split::{divided, joined_rows, replaced_by_optimized, shown};
+use crate::answers::split::{Divided, divided, joined_rows, replaced_by_optimized, shown};
 use crate::kind::BoundKind;
 use crate::scene::Scene;
 use crate::told::agreed;
@@ -45,6 +45,12 @@ pub fn answer(
             })?;
             all_sets(alloc, &own, &*scene.bind(alloc, source)?)
         }
+        BoundKind::OwnAnnotations => {
+            let own = direct_bound_annotations(alloc, bound, |node: &BoundExpression| {
+                free_fields(alloc, node, fields)
+            })?;
+            fields_in(alloc, &own)
+        }
         BoundKind::Fields => {
             let read = fields_read(alloc, bound, fields)?;
             all_sets(alloc, &read, &*scene.bind(alloc, source)?)
@@ -79,15 +85,14 @@ fn split(
     let mut whole = divided(alloc, bound, fields_read(alloc, bound, fields)?)?;
     match kind {
         BoundKind::Split => {
-            let by_closure = Box::new(
-                alloc,
-                partition_bound(alloc, bound.clone()?, |node: &BoundExpression| {
-                    free_fields(alloc, node, fields)
-                })?,
-            )?;
+            let by_closure = split_by_closure(alloc, fields, bound)?;
             agreed(alloc, shown(alloc, &whole)?, shown(alloc, &by_closure)?)
         }
-        BoundKind::SplitRows => joined_rows(alloc, scene, &whole),
+        BoundKind::SplitRows => {
+            let by_closure = split_by_closure(alloc, fields, bound)?;
+            let rows = joined_rows(alloc, scene, &whole)?;
+            agreed(alloc, rows, joined_rows(alloc, scene, &by_closure)?)
+        }
         _ => {
             replaced_by_optimized(alloc, &mut whole)?;
             match kind {
@@ -96,6 +101,20 @@ fn split(
             }
         }
     }
+}
+
+// The tree split by a closure that tells the fields of the scope that a node reads.
+fn split_by_closure(
+    alloc: Global,
+    fields: &StructFields,
+    bound: &BoundExpression,
+) -> VortexResult<Box<Divided>>
+    requires { WellTyped (bound_of bound.now) }
+{
+    let split = partition_bound(alloc, bound.clone()?, |node: &BoundExpression| {
+        free_fields(alloc, node, fields)
+    })?;
+    Ok(Box::new(alloc, split)?)
 }
 
 // The set at the node, its names in their order: `[a, b]`; `-` where it has none.
@@ -111,7 +130,27 @@ fn set_at(
     for name in set.iter() {
         names.push(name.as_str())?;
     }
+    listed(alloc, names)
+}
+
+// The names of all sets, and how many sets there are: `[a, b] (2)`.
+fn fields_in(alloc: Global, found: &BoundAnnotations<FieldName>) -> VortexResult<String> {
+    let mut names: Vec<&str> = Vec::new(alloc);
+    for set in found.values() {
+        for name in set.iter() {
+            names.push(name.as_str())?;
+        }
+    }
+    let all = listed(alloc, names)?;
+    let count = found.len();
+    Ok(format!(in alloc; "{all} ({count})")?)
+}
+
+// The names in their order, each once: `[a, b]`.
+fn listed(alloc: Global, names: Vec<&str>) -> VortexResult<String> {
+    let mut names = names;
     names.sort()?;
+    names.dedup();
     let mut text = String::from_str(alloc, "[")?;
     for (i, name) in names.iter().enumerate() {
         if i > 0 {
