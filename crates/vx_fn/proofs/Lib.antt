@@ -4,3 +4,5 @@ pub mod Sound
 pub mod Cases
 pub mod Patterns
 pub mod Swaps
+pub mod Kleene
+pub mod Fills

@@ -12,7 +12,7 @@ use Rattle.vx_fn.specs.Functions.{Comparison, equal, not_equal, greater, greater
 use Rattle.vx_fn.specs.Laws.{SwappedOverExchangedOperands}
 use Rattle.vx_fn.specs.Values.{is_true, is_false, kleene_and, kleene_or, order, agrees, compared, sum_of}
 
-order-turned : (v w : Datum) → order v w ≡ ordering_reverse (order w v)
+pub order-turned : (v w : Datum) → order v w ≡ ordering_reverse (order w v)
 order-turned (bool a) (bool b) = bool_cmp_total.antisymm a b
 order-turned (int i) (int j) = int_cmp_total.antisymm i j
 order-turned (utf8 s) (utf8 t) = nat_list_cmp_total.antisymm s t

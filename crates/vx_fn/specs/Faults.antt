@@ -9,7 +9,6 @@ use Rattle.vx_value.specs.Types.{LogicalType, ty, atomic, number, Datum, int, nu
 use Rattle.vx_value.specs.Fits.{fits, fits_ptype}
 use Rattle.vx_fn.specs.Functions.{Function, binary, adds, cast, fill_null, is_atomic}
 use Rattle.vx_fn.specs.Values.{order, sum_of, at_two}
-pub use Rattle.vx_dtype.specs.Lists.{IsIn}
 
 -- whether a sum lies outside the number type of the first operand
 abbrev pub is_outside : List LogicalType → Datum → Bool

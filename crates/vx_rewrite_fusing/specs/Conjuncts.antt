@@ -2,7 +2,7 @@
 use Rattle.std.specs.Prelude.{◌≡◌, Bool, true, false, ◌&&◌, ◌||◌, List, [], ◌∷◌, ◌++◌, Option, Some, None, if◌then◌else◌}
 use Rattle.vx_value.specs.Types.{LogicalType, is_nullable}
 use Rattle.vx_fn.specs.Functions.{binary, and_also, compares, Comparison, greater, greater_or_equal, less, less_or_equal, mirrored, between, truth_type}
-use Rattle.vx_fn.specs.Faults.{IsIn}
+use Rattle.vx_dtype.specs.Lists.{IsIn}
 use Rattle.vx_fn.specs.Markers.{is_get_item, is_literal}
 use Rattle.vx_tree.specs.Trees.{BoundTree, scope, node, BoundTrees, no_bound, bound, unbound, node_type}
 use Rattle.vx_tree.specs.Nodes.{is_call_of}

@@ -7,7 +7,7 @@ use Rattle.std.specs.Str.{bytes_eq}
 use Rattle.std.proofs.lemmas.Bool.{or_parts}
 use Rattle.std.proofs.lemmas.Slice.Eq.{bytes_eq-Decides}
 use Rattle.vx_value.specs.Types.{Name, LogicalType}
-use Rattle.vx_fn.specs.Faults.{IsIn}
+use Rattle.vx_dtype.specs.Lists.{IsIn}
 use Rattle.vx_tree.specs.Trees.{BoundTree, scope, node_type}
 use Rattle.vx_tree.specs.Views.{bounds_from}
 use Rattle.vx_rewrite_recombine.specs.Items.{item_of, tree_named}

@@ -1,6 +1,7 @@
 -- The nodes bound so far, and then the rest.
 use Rattle.std.proofs.Common.{◌≡◌, ℕ, ◌+◌, ◌<◌, ◌≤◌, List, [], ◌∷◌, ◌++◌, length, get_or, drop, drop-cons, drop_of_length-le, map, add-one, Result, Ok, Err, refl, sym, ap, ◌∙◌}
 use Rattle.vx_dtype.specs.declared.error.VortexError.{VortexError}
+use Rattle.vx_dtype.proofs.Lists.{in_front, in_front-push, in_front-all}
 use Rattle.vx_value.specs.Types.{LogicalType}
 use Rattle.vx_tree.specs.declared.bound.BoundExpression.{BoundExpression}
 use Rattle.vx_tree.specs.Trees.{Tree, BoundTree, BoundTrees, no_bound, bound, on_ok, WellTyped, EachWellTyped}
@@ -13,22 +14,22 @@ ok_bounds bs = Ok bs
 abbrev pub put : BoundTree → Result BoundTrees VortexError → Result BoundTrees VortexError
 put b rest = on_ok (λ bs. Ok (bound b bs)) rest
 
+abbrev put_bound : BoundExpression → BoundTrees → BoundTrees
+put_bound b bs = bound (bound_of b) bs
+
 abbrev pub before : List BoundExpression → BoundTrees → BoundTrees
-before [] bs = bs
-before (b ∷ made) bs = bound (bound_of b) (before made bs)
+before = in_front put_bound
 
 abbrev pub after : List BoundExpression → Result BoundTrees VortexError → Result BoundTrees VortexError
 after made rest = on_ok (λ bs. Ok (before made bs)) rest
 
-before_push : (made : List BoundExpression) (b : BoundExpression) (bs : BoundTrees) → before (made ++ b ∷ []) bs ≡ before made (bound (bound_of b) bs)
-before_push [] b bs = refl
-before_push (x ∷ made) b bs = ap (bound (bound_of x)) (before_push made b bs)
+pub before_push : (made : List BoundExpression) (b : BoundExpression) (bs : BoundTrees) → before (made ++ b ∷ []) bs ≡ before made (bound (bound_of b) bs)
+before_push made b bs = in_front-push put_bound made b bs
 
-before_nothing : (made : List BoundExpression) → before made no_bound ≡ bounds_of made
-before_nothing [] = refl
-before_nothing (x ∷ made) = ap (bound (bound_of x)) (before_nothing made)
+pub before_nothing : (made : List BoundExpression) → before made no_bound ≡ bounds_of made
+before_nothing made = in_front-all put_bound no_bound bounds_of refl (λ x xs. refl) made
 
-after_push : (made : List BoundExpression) (b : BoundExpression) (rest : Result BoundTrees VortexError) → after (made ++ b ∷ []) rest ≡ after made (put (bound_of b) rest)
+pub after_push : (made : List BoundExpression) (b : BoundExpression) (rest : Result BoundTrees VortexError) → after (made ++ b ∷ []) rest ≡ after made (put (bound_of b) rest)
 after_push made b (Ok bs) = ap ok_bounds (before_push made b bs)
 after_push made b (Err e) = refl
 

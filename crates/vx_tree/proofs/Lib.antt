@@ -1,4 +1,5 @@
 pub mod Trees
+pub mod Children
 pub mod Meant
 pub mod Bindings
 pub mod Binds

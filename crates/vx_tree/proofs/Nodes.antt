@@ -2,6 +2,7 @@
 use Rattle.std.proofs.Common.{◌≡◌, ◌≢◌, ℕ, zero, suc, ◌<◌, Bool, true, false, ◌&&◌, List, [], ◌∷◌, length, get_or, map, Some, Result, Ok, Err, refl, sym, ap, subst, ◌∙◌, arith}
 use Rattle.std.specs.Prelude.{Option, None, option_map, IsErr, IfSome, ◌==◌, if◌then◌else◌}
 use Rattle.std.proofs.lemmas.Bool.Decides.{nat_tests}
+use Rattle.std.proofs.Math.Bool.{and-false}
 use Rattle.vx_dtype.specs.declared.error.VortexError.{VortexError}
 use Rattle.vx_dtype.specs.declared.error.VortexError.TheVariants.{ArityMismatch, RootChildren}
 use Rattle.vx_value.specs.Types.{LogicalType}
@@ -25,16 +26,12 @@ tree_at-trees_of [] i d h = absurd (omega arith)
 tree_at-trees_of (e ∷ es) zero d h = refl
 tree_at-trees_of (e ∷ es) (suc i) d h = tree_at-trees_of es i d (omega arith)
 
-and_false : (b : Bool) → (b && false) ≡ false
-and_false true = refl
-and_false false = refl
-
 pub equal_trees-lengths : (ds es : List Expression) → length ds ≢ length es → equal_trees (trees_of ds) (trees_of es) ≡ false
 equal_trees-lengths [] [] h = absurd (h refl)
 equal_trees-lengths [] (e ∷ es) h = refl
 equal_trees-lengths (d ∷ ds) [] h = refl
 equal_trees-lengths (d ∷ ds) (e ∷ es) h =
-    ap (λ b. equal_tree (tree_of d) (tree_of e) && b) (equal_trees-lengths ds es (λ p. h (ap suc p))) ∙ and_false (equal_tree (tree_of d) (tree_of e))
+    ap (λ b. equal_tree (tree_of d) (tree_of e) && b) (equal_trees-lengths ds es (λ p. h (ap suc p))) ∙ and-false (equal_tree (tree_of d) (tree_of e))
 
 pub bound_count_of-bounds_of : (bs : List BoundExpression) → bound_count_of (bounds_of bs) ≡ length bs
 bound_count_of-bounds_of [] = refl
@@ -54,7 +51,7 @@ equal_bounds-lengths [] [] h = absurd (h refl)
 equal_bounds-lengths [] (c ∷ cs) h = refl
 equal_bounds-lengths (b ∷ bs) [] h = refl
 equal_bounds-lengths (b ∷ bs) (c ∷ cs) h =
-    ap (λ x. equal_bound (bound_of b) (bound_of c) && x) (equal_bounds-lengths bs cs (λ p. h (ap suc p))) ∙ and_false (equal_bound (bound_of b) (bound_of c))
+    ap (λ x. equal_bound (bound_of b) (bound_of c) && x) (equal_bounds-lengths bs cs (λ p. h (ap suc p))) ∙ and-false (equal_bound (bound_of b) (bound_of c))
 
 pub length-node_types : (bs : List BoundExpression) → length (node_types (bounds_of bs)) ≡ length bs
 length-node_types [] = refl

@@ -3,7 +3,7 @@ use Rattle.std.proofs.Common.{◌≡◌, ◌≢◌, length, IfOk, Result, List, 
 use Rattle.std.specs.Prelude.{Ok, Err, not, if◌then◌else◌}
 use Rattle.vx_value.specs.Types.{LogicalType, Datum, bool, is_null_datum}
 use Rattle.vx_fn.specs.Functions.{literal, pack, fill_null}
-use Rattle.vx_fn.specs.Faults.{IsIn}
+use Rattle.vx_dtype.specs.Lists.{IsIn}
 use Rattle.vx_tree.specs.Faults.{HasNoFault, first_fault, each_fault}
 use Rattle.vx_tree.specs.Meaning.{value, values}
 use Rattle.vx_tree.specs.Trees.{BoundTree, node, no_bound, bound, node_types, WellTyped}

@@ -19,7 +19,7 @@ use Rattle.vx_tree.specs.Trees.{BoundTree, scope, node, BoundTrees, no_bound, bo
 
 -- ---- lists
 
-cond_none : {A : Type 0} (b : Bool) (x : A) → cond b (Some x) None ≡ None → b ≡ false
+pub cond_none : {A : Type 0} (b : Bool) (x : A) → cond b (Some x) None ≡ None → b ≡ false
 cond_none true x e = cc
 cond_none false x e = refl
 
@@ -57,11 +57,11 @@ pub or_none : {A : Type 0} (o p : Option A) → option_or o p ≡ None → (o �
 or_none None p e = (refl, e)
 or_none (Some x) p e = cc
 
-map_none : {A B : Type 0} (f : A → B) (o : Option A) → option_map f o ≡ None → o ≡ None
+pub map_none : {A B : Type 0} (f : A → B) (o : Option A) → option_map f o ≡ None → o ≡ None
 map_none f None e = refl
 map_none f (Some x) e = cc
 
-when_none : (b : Bool) (x : VortexError) → when b x ≡ None → b ≡ false
+pub when_none : (b : Bool) (x : VortexError) → when b x ≡ None → b ≡ false
 when_none true x e = cc
 when_none false x e = refl
 

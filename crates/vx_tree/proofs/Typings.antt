@@ -2,6 +2,7 @@
 use Rattle.std.proofs.Common.{◌≡◌, ℕ, ◌+◌, ◌<◌, ◌≤◌, List, [], ◌∷◌, ◌++◌, length, get_or, drop, drop-cons, drop_of_length-le, map, add-one, Result, Ok, Err, refl, sym, ap, ◌∙◌}
 use Rattle.vx_dtype.specs.declared.dtype.DType.{DType}
 use Rattle.vx_dtype.specs.declared.error.VortexError.{VortexError}
+use Rattle.vx_dtype.proofs.Lists.{in_front, in_front-push, in_front-all}
 use Rattle.vx_value.specs.Types.{LogicalType}
 use Rattle.vx_value.specs.Views.{type_of}
 use Rattle.vx_tree.specs.declared.expression.Expression.{Expression}
@@ -14,20 +15,20 @@ ok_types ts = Ok ts
 abbrev put : LogicalType → Result (List LogicalType) VortexError → Result (List LogicalType) VortexError
 put t rest = on_ok (λ ts. Ok (t ∷ ts)) rest
 
+abbrev put_type : DType → List LogicalType → List LogicalType
+put_type d ts = type_of d ∷ ts
+
 abbrev pub before : List DType → List LogicalType → List LogicalType
-before [] ts = ts
-before (d ∷ made) ts = type_of d ∷ before made ts
+before = in_front put_type
 
 abbrev pub after : List DType → Result (List LogicalType) VortexError → Result (List LogicalType) VortexError
 after made rest = on_ok (λ ts. Ok (before made ts)) rest
 
 before_push : (made : List DType) (d : DType) (ts : List LogicalType) → before (made ++ d ∷ []) ts ≡ before made (type_of d ∷ ts)
-before_push [] d ts = refl
-before_push (x ∷ made) d ts = ap (λ rest. type_of x ∷ rest) (before_push made d ts)
+before_push made d ts = in_front-push put_type made d ts
 
 before_nothing : (made : List DType) → before made [] ≡ map type_of made
-before_nothing [] = refl
-before_nothing (x ∷ made) = ap (λ rest. type_of x ∷ rest) (before_nothing made)
+before_nothing made = in_front-all put_type [] (map type_of) refl (λ x xs. refl) made
 
 after_push : (made : List DType) (d : DType) (rest : Result (List LogicalType) VortexError) → after (made ++ d ∷ []) rest ≡ after made (put (type_of d) rest)
 after_push made d (Ok ts) = ap ok_types (before_push made d ts)

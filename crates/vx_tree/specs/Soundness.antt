@@ -5,7 +5,7 @@ use Rattle.vx_value.specs.Fits.{Fits}
 use Rattle.vx_tree.specs.Trees.{BoundTree, node_type, WellTyped, Over}
 use Rattle.vx_tree.specs.Meaning.{value}
 use Rattle.vx_tree.specs.Faults.{HasNoFault}
-use Rattle.vx_fn.specs.Faults.{IsIn}
+use Rattle.vx_dtype.specs.Lists.{IsIn}
 use Rattle.vx_value.specs.Fits.{IsBatch}
 
 -- at each row of a batch on which a well-typed tree doesn't fault its value fits its type

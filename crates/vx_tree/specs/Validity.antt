@@ -2,7 +2,7 @@
 use Rattle.std.specs.Prelude.{◌≡◌, Bool, true, false, not, List}
 use Rattle.vx_value.specs.Types.{LogicalType, Datum, bool, is_null_datum}
 use Rattle.vx_fn.specs.Functions.{literal, pack, fill_null, is_not_null, truth_type}
-use Rattle.vx_fn.specs.Faults.{IsIn}
+use Rattle.vx_dtype.specs.Lists.{IsIn}
 use Rattle.vx_tree.specs.Faults.{HasNoFault}
 use Rattle.vx_tree.specs.Meaning.{value}
 use Rattle.vx_tree.specs.Trees.{BoundTree, node, BoundTrees, no_bound, bound, node_type, WellTyped, Over}
