@@ -1,9 +1,8 @@
 // What a selection of fields asks its child for.
 ghost use Rattle.std.specs.Prelude.{◌≡◌, Ok, filter};
 ghost use Rattle.vx_value.specs.Answers.{Answers};
-ghost use Rattle.vx_value.specs.Fields.{field_names, is_among, names_without};
+ghost use Rattle.vx_value.specs.Fields.{field_names, is_among};
 ghost use Rattle.vx_value.specs.Views.{type_of, fields_of};
-ghost use Rattle.vx_fn.specs.Functions.{included};
 ghost use Rattle.vx_rewrite_paths.specs.Asked.{select_paths};
 ghost use Rattle.vx_rewrite_paths.specs.Requests.{requested, selected_of};
 
@@ -57,7 +56,7 @@ pub(crate) fn asked_by(
     let DType::Struct(fields, nullability) = dtype else {
         return Ok(Selected::Whole);
     };
-    let names = included(alloc, selection, fields)?;
+    let names = selection.kept(alloc, own_names(fields))?;
     if names.is_empty() {
         if nullability.admits_null() {
             return Ok(Selected::Whole);
@@ -78,38 +77,11 @@ pub(crate) fn asked_by(
     }
 }
 
-// The names of the fields that the selection keeps.
-fn included(
-    alloc: Global,
-    selection: &FieldSelection,
-    fields: &StructFields,
-) -> VortexResult<FieldNames>
-    ensures { Answers (λ names. names) result (Ok (included selection.now (fields_of fields.now))) }
-{
-    match selection {
-        FieldSelection::Include(names) => Ok(names.clone()?),
-        FieldSelection::Exclude(left_out) => without(alloc, left_out, own_names(fields)),
-    }
-}
-
 // The names of the fields.
 fn own_names(fields: &StructFields) -> &[FieldName]
     ensures { result.now ≡ field_names (fields_of fields.now) }
 {
     &fields.names().as_slice()[..fields.nfields()]
-}
-
-// The names but those that are left out.
-fn without(alloc: Global, left_out: &FieldNames, names: &[FieldName]) -> VortexResult<FieldNames>
-    ensures { Answers (λ kept. kept) result (Ok (names_without left_out.now names.now)) }
-{
-    let mut kept = Vec::new(alloc);
-    for name in names {
-        if !left_out.contains(name) {
-            kept.push(name.clone()?)?;
-        }
-    }
-    FieldNames::new(alloc, kept)
 }
 
 // Those of the names that are among the included ones.

@@ -10,15 +10,12 @@ ghost use Rattle.vx_tree.specs.Trees.{node};
 ghost use Rattle.vx_tree.specs.Views.{bound_of, bounds_of};
 
 use std::alloc::{AllocError, Global};
-use std::rc::Rc;
 use vx_fn::ScalarFnRef;
 use vx_tree::{BoundExpression, VortexResult};
 use vx_types::{DType, Scalar};
 
-/// The node of that type and function over the children, as they are: what it is typed is for its
-/// caller to know.
-///
-/// Refuses with `OutOfMemory` (1) alone.
+/// The node of that type and function over the children, as [`BoundExpression::new_typed`] makes it:
+/// what it is typed is for its caller to know. Refuses with `OutOfMemory` (1) alone.
 pub fn node(
     alloc: Global,
     dtype: DType,
@@ -27,11 +24,7 @@ pub fn node(
 ) -> VortexResult<BoundExpression>
     ensures { Answers bound_of result (Ok (node (type_of dtype) (function_of scalar_fn) (bounds_of children.items))) }
 {
-    Ok(BoundExpression::Scalar {
-        dtype,
-        scalar_fn,
-        children: Rc::new(alloc, children)?,
-    })
+    BoundExpression::new_typed(alloc, dtype, scalar_fn, children)
 }
 
 /// The value of a literal, with its type; None for any other tree.

@@ -3,7 +3,6 @@ ghost use Rattle.std.specs.Prelude.{◌≡◌, Ok, IfOk, IsTrue};
 ghost use Rattle.std.specs.List.{list_all};
 ghost use Rattle.std.specs.Option.{option_map};
 ghost use Rattle.vx_dtype.specs.Views.{fields_of};
-ghost use Rattle.vx_fn.specs.Selections.{kept_names};
 ghost use Rattle.vx_value.specs.Answers.{Answers};
 ghost use Rattle.vx_value.specs.Types.{is_nullable};
 ghost use Rattle.vx_value.specs.Views.{type_of};
@@ -129,7 +128,7 @@ fn some_of(
     if options.nullability.admits_null() && !are_nullable(fields) {
         return Ok(None);
     }
-    let names = kept_names(alloc, selection, &options.names)?;
+    let names = selection.kept(alloc, options.names.as_slice())?;
     let kept = children_named(alloc, names.as_slice(), &options.names, children.as_slice())?;
     let options = PackOptions {
         names,
@@ -149,20 +148,6 @@ fn each_nullable(types: &[DType]) -> bool
     ensures { result ≡ list_all (λ t. is_nullable (type_of t)) types.now }
 {
     types.iter().all(|t| t.is_nullable())
-}
-
-// The names that are kept of a struct that has each name of the selection.
-fn kept_names(
-    alloc: Global,
-    selection: &FieldSelection,
-    names: &FieldNames,
-) -> VortexResult<FieldNames>
-    ensures { Answers (λ kept. kept) result (Ok (kept_names selection.now names.now)) }
-{
-    match selection {
-        FieldSelection::Include(kept) => Ok(kept.clone()?),
-        FieldSelection::Exclude(left_out) => names.without(alloc, left_out),
-    }
 }
 
 // For each of the wanted names the first child of that name.
