@@ -9,7 +9,9 @@ pub use vx_rewrite_branch_rules::{
 pub use vx_rewrite_fusing::{
     fused_stays, fusing_is_unique, merge_shortens, merge_stays_fused, merges_end, merges_keep,
 };
-pub use vx_rewrite_keep::{keeps_is_reflexive, keeps_is_transitive, keeps_under_nodes};
+pub use vx_rewrite_keep::{
+    keeps_is_reflexive, keeps_is_transitive, keeps_the_meaning, keeps_under_nodes,
+};
 pub use vx_rewrite_optimizer::{normal_is_final, steps_keep};
 pub use vx_rewrite_recombine::{replaced_are_typed, replaced_recombine, splits_recombine};
 pub use vx_rewrite_rule_sets::{normal_form_is_one, normal_under_both, two_sets_are_lawful};

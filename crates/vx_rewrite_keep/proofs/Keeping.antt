@@ -1,5 +1,5 @@
 -- A tree whose children are replaced by trees that keep them is kept.
-use Rattle.std.proofs.Common.{◌≡◌, List, [], ◌∷◌, refl, ap, map, ◌∙◌}
+use Rattle.std.proofs.Common.{◌≡◌, List, [], ◌∷◌, refl, sym, ap, map, ◌∙◌}
 use Rattle.std.specs.Prelude.{None, if◌then◌else◌, Ok, not, ◌||◌, position}
 use Rattle.std.specs.List.{list_any}
 use Rattle.std.specs.Option.{option_map}
@@ -14,11 +14,13 @@ use Rattle.vx_dtype.specs.Joins.{Narrower, narrower, NarrowerShape, same_atomic_
 use Rattle.vx_dtype.specs.Lists.{none_beside, more_beside, IsIn}
 use Rattle.vx_fn.specs.Functions.{Function, get_item, select, fill_null, binary, adds, included, fn_type}
 use Rattle.vx_fn.specs.Values.{fn_value, at_one, item_value, select_value, sum_of, at_two}
-use Rattle.vx_tree.specs.Meaning.{values}
+use Rattle.vx_tree.proofs.Meant.{mean-unbound}
+use Rattle.vx_tree.specs.Meaning.{mean, values}
 use Rattle.vx_fn.specs.Faults.{overflows, is_outside, is_fillable, fill_of, some_differ, when, node_fault}
 use Rattle.vx_tree.specs.Faults.{each_fault}
-use Rattle.vx_tree.specs.Trees.{BoundTree, node, BoundTrees, node_type, node_types, WellTyped, EachWellTyped, EachOver}
+use Rattle.vx_tree.specs.Trees.{BoundTree, node, BoundTrees, node_type, node_types, WellTyped, EachWellTyped, Over, EachOver, unbound}
 use Rattle.vx_rewrite_keep.specs.Keeps.{Keeps, KeepsEach, keeps_none, keeps_more, KeepsUnderNodes}
+use Rattle.vx_tree.specs.Faults.{HasNoFault}
 use Rattle.vx_value.specs.Fits.{IsBatch}
 use Rattle.vx_fn.specs.declared.options.FieldSelection.{FieldSelection}
 use Rattle.vx_dtype.specs.declared.error.VortexError.TheVariants.{AddOverflow, BadFill}
@@ -156,6 +158,11 @@ keeps_trans b u w k l = record {
   no_fault = λ s batch o i n. l.no_fault s batch (k.scopes s o) i (k.no_fault s batch o i n);
   meaning = λ s batch o i n v j. l.meaning s batch (k.scopes s o) i (k.no_fault s batch o i n) v j ∙ k.meaning s batch o i n v j;
 }
+
+pub keeps_meaning : (b u : BoundTree) → Keeps b u → (s : LogicalType) (batch : List Datum) → Over b s → IsBatch s batch → HasNoFault b batch → (v : Datum) → IsIn v batch
+    → mean (unbound u) s v ≡ mean (unbound b) s v
+keeps_meaning b u k s batch o i n v j =
+    mean-unbound u s v k.typed_after (k.scopes s o) ∙ k.meaning s batch o i n v j ∙ sym (mean-unbound b s v k.typed_before o)
 
 pub keeps_refl : (b : BoundTree) → WellTyped b → Keeps b b
 keeps_refl b w = record {

@@ -5,8 +5,8 @@ use Rattle.vx_value.specs.Joins.{Narrower}
 use Rattle.vx_value.specs.Fits.{IsBatch}
 use Rattle.vx_fn.specs.Functions.{Function, fn_type}
 use Rattle.vx_dtype.specs.Lists.{IsIn}
-use Rattle.vx_tree.specs.Trees.{BoundTree, node, BoundTrees, no_bound, bound, node_type, node_types, WellTyped, Over}
-use Rattle.vx_tree.specs.Meaning.{value}
+use Rattle.vx_tree.specs.Trees.{BoundTree, node, BoundTrees, no_bound, bound, node_type, node_types, WellTyped, Over, unbound}
+use Rattle.vx_tree.specs.Meaning.{mean, value}
 use Rattle.vx_tree.specs.Faults.{HasNoFault}
 
 -- the second tree keeps the first: both are well typed, it is over what the first is over, its type is no wider,
@@ -31,6 +31,11 @@ KeepsIsReflexive = (b : BoundTree) → WellTyped b → Keeps b b
 -- what keeps a tree that keeps another keeps the other
 abbrev pub KeepsIsTransitive : Type 0
 KeepsIsTransitive = (b u w : BoundTree) → Keeps b u → Keeps u w → Keeps b w
+
+-- what keeps a tree means what the tree's source does, in every row of each batch on which the tree doesn't fault
+abbrev pub KeepsTheMeaning : Type 0
+KeepsTheMeaning = (b u : BoundTree) → Keeps b u → (s : LogicalType) (batch : List Datum) → Over b s → IsBatch s batch → HasNoFault b batch →
+    (v : Datum) → IsIn v batch → mean (unbound u) s v ≡ mean (unbound b) s v
 
 -- a node whose children are replaced is typed anew, and keeps what it was
 abbrev pub KeepsUnderNodes : Type 0

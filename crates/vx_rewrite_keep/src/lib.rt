@@ -4,5 +4,5 @@
 mod laws;
 mod rule;
 
-pub use laws::{keeps_is_reflexive, keeps_is_transitive, keeps_under_nodes};
+pub use laws::{keeps_is_reflexive, keeps_is_transitive, keeps_the_meaning, keeps_under_nodes};
 pub use rule::Rule;
