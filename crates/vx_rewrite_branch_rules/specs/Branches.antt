@@ -17,7 +17,11 @@ pub data BranchAt : BoundTree → BoundTree → Type 0 where
   -- where it is true: the first value, as one of the CASE's type
   first_branch : {t m : LogicalType} {pairs : ℕ} {has_else : Bool} {x u : BoundTree} {rest : BoundTrees} → AsType t x u → BranchAt (node t (case_when pairs has_else) (bound (literal_node m (bool true)) (bound x rest))) u
   -- where it is false or null and there are other pairs: the CASE of these, typed anew, so that its type may be narrower
-  other_pairs : {t u m : LogicalType} {c : Datum} {pairs : ℕ} {has_else : Bool} {x : BoundTree} {rest : BoundTrees} → NeverHolds c → 2 ≤ pairs → fn_type (case_when (pairs - 1) has_else) (node_types rest) ≡ Ok u → BranchAt (node t (case_when pairs has_else) (bound (literal_node m c) (bound x rest))) (node u (case_when (pairs - 1) has_else) rest)
+  other_pairs : {t u m : LogicalType} {c : Datum} {pairs : ℕ} {has_else : Bool} {x : BoundTree} {rest : BoundTrees} →
+      NeverHolds c →
+      2 ≤ pairs →
+      fn_type (case_when (pairs - 1) has_else) (node_types rest) ≡ Ok u →
+      BranchAt (node t (case_when pairs has_else) (bound (literal_node m c) (bound x rest))) (node u (case_when (pairs - 1) has_else) rest)
   -- where it is false or null, of the only pair: ELSE, as one of the CASE's type
   else_branch : {t m : LogicalType} {c : Datum} {x y u : BoundTree} → NeverHolds c → AsType t y u → BranchAt (node t (case_when 1 true) (three_bounds (literal_node m c) x y)) u
   -- the same without ELSE: the null of the CASE's type

@@ -19,6 +19,13 @@ mask_node x = node (with_nullability true (node_type x)) mask (two_bounds x (lit
 abbrev pub empty_pack : Bool → BoundTree
 empty_pack n = node (ty (struct no_field) n) (pack [] n) no_bound
 
+-- the pack of the fields under these names, and a selection of fields of a tree
+abbrev pub pack_node : Fields → Bool → List Name → BoundTrees → BoundTree
+pack_node fs n names xs = node (ty (struct fs) n) (pack names n) xs
+
+abbrev pub select_node : LogicalType → FieldSelection → BoundTree → BoundTree
+select_node t selection x = node t (select selection) (one_bound x)
+
 -- the first child of that name, each child beside its name
 abbrev pub child_named : Name → List Name → BoundTrees → Option BoundTree
 child_named a (b ∷ names) (bound x xs) = if bytes_eq a b then Some x else child_named a names xs
@@ -59,7 +66,15 @@ pub data RuleAt : BoundTree → BoundTree → Type 0 where
   zip_chosen : {t m : LogicalType} {c : Bool} {x y : BoundTree} → node_type (if c then x else y) ≡ t → RuleAt (node t zip (three_bounds x y (literal_node m (bool c)))) (if c then x else y)
   zip_cast : {t m : LogicalType} {c : Bool} {x y : BoundTree} → node_type (if c then x else y) ≢ t → RuleAt (node t zip (three_bounds x y (literal_node m (bool c)))) (cast_node t (if c then x else y))
   -- no field of what is never null, or of a pack, is an empty pack as nullable as that
-  select_none : {t : LogicalType} {selection : FieldSelection} {x : BoundTree} {fs : Fields} → node_type x ≡ ty (struct fs) false → included selection fs ≡ [] → RuleAt (node t (select selection) (one_bound x)) (empty_pack false)
-  select_none_of_pack : {t : LogicalType} {selection : FieldSelection} {fs : Fields} {n : Bool} {names : List Name} {xs : BoundTrees} → included selection fs ≡ [] → RuleAt (node t (select selection) (one_bound (node (ty (struct fs) n) (pack names n) xs))) (empty_pack n)
+  select_none : {t : LogicalType} {selection : FieldSelection} {x : BoundTree} {fs : Fields} →
+      node_type x ≡ ty (struct fs) false →
+      included selection fs ≡ [] →
+      RuleAt (select_node t selection x) (empty_pack false)
+  select_none_of_pack : {t : LogicalType} {selection : FieldSelection} {fs : Fields} {n : Bool} {names : List Name} {xs : BoundTrees} →
+      included selection fs ≡ [] →
+      RuleAt (select_node t selection (pack_node fs n names xs)) (empty_pack n)
   -- some fields of a pack are the pack of the first children of their names, if the pack isn't nullable or the type of each is
-  select_of_pack : {gs : Fields} {selection : FieldSelection} {fs : Fields} {n : Bool} {names : List Name} {xs : BoundTrees} → included selection fs ≢ [] → IsTrue (not n || are_nullable gs) → RuleAt (node (ty (struct gs) n) (select selection) (one_bound (node (ty (struct fs) n) (pack names n) xs))) (node (ty (struct gs) n) (pack (included selection fs) n) (children_named (included selection fs) names xs))
+  select_of_pack : {gs : Fields} {selection : FieldSelection} {fs : Fields} {n : Bool} {names : List Name} {xs : BoundTrees} →
+      included selection fs ≢ [] →
+      IsTrue (not n || are_nullable gs) →
+      RuleAt (select_node (ty (struct gs) n) selection (pack_node fs n names xs)) (pack_node gs n (included selection fs) (children_named (included selection fs) names xs))
