@@ -1,6 +1,6 @@
 -- Columns beside masks: which value is meant at a row, and rows that are put together.
 use Rattle.std.specs.Prelude.{◌≡◌, ℕ, ◌<◌, ◌≤◌, List, [], ◌∷◌, map, length, get_or, Bool, true, false, if◌then◌else◌, Result, Ok}
-use Rattle.std.specs.List.{range_with_len}
+use Rattle.std.specs.List.{AllByRecursion, range_with_len}
 use Rattle.vx_value.specs.declared.value.Value.{Value}
 use Rattle.vx_value.specs.Types.{Datum, null, bool}
 use Rattle.vx_value.specs.Views.{value_of}
@@ -34,8 +34,7 @@ merged_at ms cs otherwise k = first_match (mask_row ms k) (row_at cs k) otherwis
 
 -- each mask has n rows
 abbrev pub EachMask : ℕ → List (List Bool) → Type 0
-EachMask n [] = Unit {0}
-EachMask n (m ∷ ms) = (length m ≡ n) × EachMask n ms
+EachMask n ms = AllByRecursion (λ m. length m ≡ n) ms
 
 -- no row is in two of the masks
 abbrev pub AreApart : List (List Bool) → Type 0

@@ -20,8 +20,8 @@ use vx_tree::{BoundExpression, VortexResult};
 /// children from left to right, and where one of them changed at the root again; None exactly where
 /// no rule fits at any node. It keeps the tree, so its type is no wider. Asks a well-typed tree.
 ///
-/// Takes no memory but what the rules take where none fits; else a node is made anew only where a
-/// child of it changed. Refuses with `OutOfMemory` (1) alone, however many steps there are.
+/// A node is made anew only where a child of it changed. Refuses with `OutOfMemory` (1) alone, however
+/// many steps there are.
 pub fn optimize_with<R: Rule>(
     alloc: Global,
     rules: &R,

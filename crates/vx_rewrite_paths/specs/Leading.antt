@@ -1,5 +1,6 @@
 -- Paths that lead to a place in a type.
 use Rattle.std.specs.Prelude.{List, [], ◌∷◌}
+use Rattle.std.specs.List.{AllByRecursion}
 use Rattle.std.specs.Option.{IsSomeAnd}
 use Rattle.vx_value.specs.Fields.{field_type}
 use Rattle.vx_value.specs.Paths.{Path}
@@ -13,5 +14,4 @@ Leads (a ∷ path) _ = ⊥
 
 -- each path leads to a place in the type
 abbrev pub EachLeads : List Path → LogicalType → Type 0
-EachLeads [] t = Unit {0}
-EachLeads (path ∷ paths) t = Leads path t × EachLeads paths t
+EachLeads paths t = AllByRecursion (λ path. Leads path t) paths

@@ -1,7 +1,7 @@
 -- The partitions that pack the pieces of a tree, one for each annotation.
 -- `text` gives an annotation's text, and `name` the field name that its partition goes by.
 use Rattle.std.specs.Prelude.{◌≡◌, ℕ, ◌+◌, ◌<◌, ◌^◌, Bool, true, List, [], ◌∷◌, ◌++◌, length, IsFalse, codes}
-use Rattle.std.specs.List.{list_any}
+use Rattle.std.specs.List.{AllByRecursion, list_any}
 use Rattle.std.specs.Str.{bytes_eq}
 use Rattle.std.specs.Fmt.{decimal}
 use Rattle.vx_value.specs.Types.{Name, LogicalType}
@@ -31,8 +31,7 @@ module _ {A : Type 0} where
 
   -- each annotation has fewer than 2^64 pieces, so that their indices print apart
   abbrev pub AllShort : List (Group A) → Type 0
-  AllShort [] = Unit {0}
-  AllShort (g ∷ gs) = (length g.1 < 2 ^ 64) × AllShort gs
+  AllShort gs = AllByRecursion (λ g. length g.1 < 2 ^ 64) gs
 
   module _ (text : A → List ℕ) where
     -- the pieces of an annotation, packed in their order

@@ -27,8 +27,7 @@ use vx_tree::{BoundExpression, VortexResult};
 /// | `Select` | nothing is included, and the child isn't nullable or is a `Pack` | an empty `Pack` of the child's nullability |
 /// | `Select` of a `Pack` | something is included, and the pack isn't nullable or the type of every included field is | the `Pack` of the included names, each with its first child, of the same nullability |
 ///
-/// Where `x` stands twice, both are equal trees, types included. Nothing is allocated where no rule
-/// fits.
+/// Where `x` stands twice, both are equal trees, types included.
 pub struct StandardRules;
 
 impl Rule for StandardRules {

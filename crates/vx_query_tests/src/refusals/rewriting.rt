@@ -107,7 +107,6 @@ fn leaves_of(
     leaves(rt, alloc, &bound, before.as_str(), text)
 }
 
-// The first of them makes no request: each of its steps takes a child, which is shared.
 #[test]
 fn optimize_recursive_of_items_and_cases(rt: HostRuntime) -> Result<(), Fail> {
     let alloc = rt.alloc();
