@@ -1,6 +1,7 @@
 -- A loop that hands parts over and back, one after another.
 use Rattle.std.proofs.Common.{◌≡◌, ℕ, List, [], ◌∷◌, ◌++◌, length, refl, ap, sym, subst, arith, Ok, Err, Bool, true, false, ◌||◌, ◌⊎◌, inl, inr}
 use Rattle.vx_dtype.specs.declared.error.VortexError.{VortexError}
+use Rattle.vx_dtype.proofs.Lists.{in_front, in_front-push, in_front-all}
 use Rattle.vx_walk.specs.declared.order.TraversalOrder.{TraversalOrder}
 use Rattle.vx_walk.specs.declared.order.TraversalOrder.TheVariants.{Stop, Continue}
 use Rattle.vx_walk.specs.declared.transformed.Transformed.{Transformed}
@@ -10,18 +11,18 @@ use Rattle.vx_walk.specs.Shapes.{Shape, row, Row, no_part, part, parts}
 use Rattle.vx_walk.specs.Containers.{part_front, Mapped, along, MappedRow, none, keep, next, fail}
 
 module _ {C E : Type 0} (shape : C → Shape E) where
+  abbrev put_part : C → Row E → Row E
+  put_part x r = part (shape x) r
+
   -- the parts of xs before the parts r
   abbrev pub parts_before : List C → Row E → Row E
-  parts_before [] r = r
-  parts_before (x ∷ xs) r = part (shape x) (parts_before xs r)
+  parts_before = in_front put_part
 
   parts_before-last : (xs : List C) (x : C) (r : Row E) → parts_before (xs ++ x ∷ []) r ≡ parts_before xs (part (shape x) r)
-  parts_before-last [] x r = refl
-  parts_before-last (y ∷ xs) x r = ap (λ q. part (shape y) q) (parts_before-last xs x r)
+  parts_before-last xs x r = in_front-push put_part xs x r
 
   parts_before-none : (xs : List C) → parts_before xs no_part ≡ parts shape xs
-  parts_before-none [] = refl
-  parts_before-none (x ∷ xs) = ap (λ q. part (shape x) q) (parts_before-none xs)
+  parts_before-none xs = in_front-all put_part no_part (parts shape) refl (λ y ys. refl) xs
 
   -- the parts of xs, one of them changed where c, before what is handed back for the later ones
   abbrev pub before : List C → Bool → Back (Row E) → Back (Row E)

@@ -1,5 +1,6 @@
 -- A sibling whose children are rewritten while it waits behind the others.
-use Rattle.std.proofs.Common.{◌≡◌, ℕ, ◌≤◌, List, [], ◌∷◌, ◌++◌, refl, sym, subst, ◌∙◌, Result, Ok, Err, Bool, true, false, ◌||◌}
+use Rattle.std.proofs.Common.{◌≡◌, ℕ, ◌≤◌, List, [], ◌∷◌, ◌++◌, sym, ap, subst, ◌∙◌, Result, Ok, Err, Bool, ◌||◌}
+use Rattle.std.proofs.Math.Bool.{or_assoc, or_comm}
 use Rattle.std.proofs.lemmas.List.{same_from_push}
 use Rattle.vx_dtype.specs.declared.error.VortexError.{VortexError}
 use Rattle.vx_walk.specs.declared.order.TraversalOrder.TheVariants.{Continue}
@@ -34,11 +35,7 @@ module _ {V N M : Type 0} (mirror : N → M) (height : M → ℕ) (ready : V →
 -- ---- the siblings and the one that waits behind them
 
 or-swap : (b c d : Bool) → (b || c) || d ≡ b || (d || c)
-or-swap true c d = refl
-or-swap false true true = refl
-or-swap false true false = refl
-or-swap false false true = refl
-or-swap false false false = refl
+or-swap b c d = or_assoc b c d ∙ ap (λ x. b || x) (or_comm c d)
 
 module _ {V N M : Type 0} (f : N → M) (kids : M → List M) (B : M → List M → Result M VortexError → Type 0) (D U : V → M → Back M → V → Type 0) where
   -- the one that waits is the last
