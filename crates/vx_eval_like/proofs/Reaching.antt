@@ -1,8 +1,9 @@
 -- How a run along parts keeps what they match.
 use Rattle.std.proofs.Common.{◌≡◌, ℕ, List, [], ◌∷◌, length, refl, sym, ap, ◌∙◌, Bool, true, false, inl, inr, ◌==◌, arith}
-use Rattle.std.proofs.lemmas.Bool.{and_parts, or_cases, or_left, or_right}
+use Rattle.std.proofs.lemmas.Bool.{and_parts, or_cases, or_right}
 use Rattle.std.specs.Str.{IsUtf8}
 use Rattle.vx_fn.specs.Values.{Part, any_text, any_one, just, matches, some_rest}
+use Rattle.vx_fn.proofs.Patterns.{some_rest-all}
 use Rattle.vx_eval_like.specs.declared.parts.Part as program
 use Rattle.vx_eval_like.specs.Patterns.{characters, is_any_text, parts_view, takes}
 use Rattle.vx_eval_like.specs.Walks.{Reaches}
@@ -13,11 +14,6 @@ same : (a b : Bool) → (a ≡ true → b ≡ true) → (b ≡ true → a ≡ tr
 same true b f g = sym (f refl)
 same false true f g = g refl
 same false false f g = refl
-
--- what is matched here is matched after some front
-pub some_rest-here : (ps : List Part) (cs : List ℕ) → matches ps cs ≡ true → some_rest (matches ps) cs ≡ true
-some_rest-here ps [] e = e
-some_rest-here ps (c ∷ cs) e = or_left _ _ e
 
 -- any text twice is any text once
 some_rest-twice : (ps : List Part) (cs : List ℕ) → some_rest (matches (any_text ∷ ps)) cs ≡ true → some_rest (matches ps) cs ≡ true
@@ -45,7 +41,7 @@ matches-tail (just d) ps c cs i e = (and_parts _ _ e).1
 -- and so do they after some front of each
 some_rest-tail : (p : Part) (ps : List Part) (c : ℕ) (cs : List ℕ) → is_any_text p ≡ false → some_rest (matches (p ∷ ps)) (c ∷ cs) ≡ true → some_rest (matches ps) cs ≡ true
 some_rest-tail p ps c [] i e = elim (or_cases _ _ e) [ inl h ↦ matches-tail p ps c [] i h | inr h ↦ let ended = matches-ended p ps i in cc ]
-some_rest-tail p ps c (d ∷ ds) i e = elim (or_cases _ _ e) [ inl h ↦ some_rest-here ps (d ∷ ds) (matches-tail p ps c (d ∷ ds) i h) | inr h ↦ or_right _ _ (some_rest-tail p ps d ds i h) ]
+some_rest-tail p ps c (d ∷ ds) i e = elim (or_cases _ _ e) [ inl h ↦ some_rest-all ps (d ∷ ds) (matches-tail p ps c (d ∷ ds) i h) | inr h ↦ or_right _ _ (some_rest-tail p ps d ds i h) ]
 
 -- a part that takes a character stands for one
 takes-one : (p : Part) (c : ℕ) → takes p c ≡ true → is_any_text p ≡ false
@@ -65,7 +61,7 @@ reaches-more ps ts ahead left p qs c cs first second e r =
 
 -- at the next part for any text, what lies before it is settled
 pub settled : (ps : List Part) (ts : List ℕ) (rest : List Part) (cs : List ℕ) → Reaches ps ts (any_text ∷ rest) cs → some_rest (matches ps) ts ≡ some_rest (matches rest) cs
-settled ps ts rest cs r = same _ _ (λ h. some_rest-twice rest cs (r.later h)) (λ h. some_rest-here ps ts (r.here ∙ h))
+settled ps ts rest cs r = same _ _ (λ h. some_rest-twice rest cs (r.later h)) (λ h. some_rest-all ps ts (r.here ∙ h))
 
 -- past all parts, no text may be left
 pub reaches-end : (ci : Bool) (ps : List Part) (ts : List ℕ) (ahead : List program.Part) (left : List ℕ) → IsUtf8 left → length ahead ≡ 0 → Reaches ps ts (parts_view ahead) (characters ci left) → matches ps ts ≡ (length left == 0)

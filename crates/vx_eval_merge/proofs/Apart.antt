@@ -1,19 +1,18 @@
 -- Masks that are apart, and the first of some that is true.
-use Rattle.std.proofs.Common.{◌≡◌, ℕ, ◌<◌, ◌≤◌, List, [], ◌∷◌, ◌++◌, length, get_or, refl, sym, ap, subst, ◌∙◌, arith, zero, suc, Bool, true, false, ◌&&◌, not, inl, inr, ◌⊎◌}
+use Rattle.std.proofs.Common.{◌≡◌, ℕ, ◌<◌, List, [], ◌∷◌, ◌++◌, length, get_or, refl, sym, ap, subst, ◌∙◌, arith, zero, suc, Bool, true, false, ◌&&◌, not, inl, inr}
 use Rattle.std.specs.Prelude.{if◌then◌else◌}
 use Rattle.std.proofs.Math.ListN.{replicate}
 use Rattle.std.proofs.lemmas.List.{get_or_past}
+use Rattle.std.proofs.Math.Bool.{and-true}
+use Rattle.std.proofs.lemmas.Bool.{cases_lt}
 use Rattle.vx_value.specs.Types.{Datum, null}
 use Rattle.vx_eval_mask.specs.Masks.{both, but}
 use Rattle.vx_eval_mask.proofs.Pairs.{get_or-both, get_or-but, length-both, length-but}
 use Rattle.vx_eval_merge.specs.Merges.{merged_at, EachMask, AreApart, NoneAt, claimed, unclaimed}
 
-below_or_not : (a b : ℕ) → (a < b) ⊎ (b ≤ a)
-below_or_not a b = grind arith
-
 -- no mask stands behind the last one
 pub none_at : (ms : List (List Bool)) (k : ℕ) → ((j : ℕ) → j < length ms → get_or (get_or ms j []) k false ≡ false) → NoneAt ms k
-none_at ms k h = λ j. elim (below_or_not j (length ms)) as (λ _. get_or (get_or ms j []) k false ≡ false) [
+none_at ms k h = λ j. elim (cases_lt j (length ms)) as (λ _. get_or (get_or ms j []) k false ≡ false) [
   | inl lt ↦ h j lt
   | inr ge ↦ ap (λ (m : List Bool). get_or m k false) (get_or_past ms j [] ge)
 ]
@@ -92,10 +91,6 @@ pub length-claimed : (open_rows : List Bool) (ms : List (List Bool)) → length 
 length-claimed open_rows [] = refl
 length-claimed open_rows (m ∷ ms) = ap suc (length-claimed (but open_rows m) ms)
 
-and_true : (b : Bool) → (b && true) ≡ b
-and_true true = refl
-and_true false = refl
-
 -- at an open row the first mask that is true is the first that has it
 pub merged-claimed : (open_rows : List Bool) (ms : List (List Bool)) (cs : List (List Datum)) (d : Datum) (k : ℕ) → EachMask (length open_rows) ms → get_or open_rows k false ≡ true → merged_at (claimed open_rows ms) cs d k ≡ merged_at ms cs d k
 merged-claimed open_rows [] cs d k each on = refl
@@ -106,7 +101,7 @@ merged-claimed open_rows (m ∷ ms) (c ∷ cs) d k each on =
     go (get_or m k false) refl (λ left. merged-claimed (but open_rows m) ms cs d k inside left)
   where
     here : get_or (both m open_rows) k false ≡ get_or m k false
-    here = get_or-both m open_rows k ∙ ap (λ b. get_or m k false && b) on ∙ and_true (get_or m k false)
+    here = get_or-both m open_rows k ∙ ap (λ b. get_or m k false && b) on ∙ and-true (get_or m k false)
 
     go : (b : Bool) → get_or m k false ≡ b → (get_or (but open_rows m) k false ≡ true → merged_at (claimed (but open_rows m) ms) cs d k ≡ merged_at ms cs d k) →
         merged_at (claimed open_rows (m ∷ ms)) (c ∷ cs) d k ≡ merged_at (m ∷ ms) (c ∷ cs) d k
