@@ -1,9 +1,9 @@
 -- Children from left to right: what is made of those before, and what is left.
-use Rattle.std.proofs.Common.{◌≡◌, ◌↔◌, ℕ, ◌+◌, ◌<◌, ◌≤◌, List, [], ◌∷◌, ◌++◌, length, get_or, take, drop, map, arith, refl, ap, subst, sym, ◌∙◌}
-use Rattle.std.proofs.lemmas.List.{append_assoc, append-nil, drop_more, take_more, map-append}
+use Rattle.std.proofs.Common.{◌≡◌, ◌↔◌, ℕ, ◌+◌, ◌<◌, ◌≤◌, List, [], ◌∷◌, ◌++◌, length, get_or, take, map, arith, refl, ap, subst, sym, ◌∙◌}
+use Rattle.std.proofs.lemmas.List.{append_assoc, append-nil, take_more, map-append}
 use Rattle.vx_tree.specs.declared.bound.BoundExpression.{BoundExpression}
 use Rattle.vx_tree.specs.Trees.{BoundTree, BoundTrees, no_bound, bound, EachWellTyped}
-use Rattle.vx_tree.specs.Views.{bound_of, bounds_of, bounds_from}
+use Rattle.vx_tree.specs.Views.{bound_of, bounds_from}
 use Rattle.vx_rewrite_keep.specs.Steps.{EachNormal, Normal}
 use Rattle.vx_rewrite_keep.specs.Weights.{weights}
 use Rattle.vx_rewrite_optimizer.proofs.Forms.{itself}
@@ -46,9 +46,6 @@ module _ {R : BoundTree → BoundTree → Type 0} where
   -- none is left
   pub last_form : {so_far : List BoundTree} {all : BoundTrees} → Left R so_far no_bound all → NormalForms R all (bounds_from so_far)
   last_form {so_far = so_far} {all = all} h = subst (λ us. NormalForms R all (bounds_from us)) (append-nil so_far) (h.forms [] no_form)
-
-pub bounds_of-drop : (xs : List BoundExpression) (i : ℕ) (x : BoundExpression) → i < length xs → x ≡ get_or xs i x → bounds_of (drop i xs) ≡ bound (bound_of x) (bounds_of (drop (i + 1) xs))
-bounds_of-drop xs i x h e = ap bounds_of (drop_more xs i x h) ∙ ap (λ y. bound (bound_of y) (bounds_of (drop (i + 1) xs))) (sym e)
 
 pub map-pushed : (xs : List BoundExpression) (x : BoundExpression) → map bound_of (xs ++ x ∷ []) ≡ map bound_of xs ++ bound_of x ∷ []
 map-pushed xs x = map-append bound_of xs (x ∷ [])

@@ -56,10 +56,6 @@ pub weights-children : (b : BoundTree) → WellTyped b → weights (bound_childr
 weights-children (scope t) w = omega arith
 weights-children (node t f bs) w = weights-below f t bs w.0
 
-pub typed-children : (b : BoundTree) → WellTyped b → EachWellTyped (bound_children_of b)
-typed-children (scope t) w = tt
-typed-children (node t f bs) w = w.2
-
 module _ (R : BoundTree → BoundTree → Type 0) (law : Lawful R) where
   mutual
     pub step_lighter : {b u : BoundTree} → Step R b u → WellTyped b → weight u < weight b

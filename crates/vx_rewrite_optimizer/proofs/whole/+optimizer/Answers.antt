@@ -5,11 +5,12 @@ use Rattle.std.proofs.lemmas.List.{append_assoc, take_rest}
 use Rattle.vx_tree.specs.Nodes.{bound_children_of}
 use Rattle.vx_tree.specs.Trees.{EachWellTyped}
 use Rattle.vx_tree.specs.Views.{bound_of, bounds_of}
+use Rattle.vx_tree.proofs.Children.{bounds_next, children_typed}
 use Rattle.vx_rewrite_keep.specs.Weights.{weight, weights}
-use Rattle.vx_rewrite_optimizer.proofs.Children.{next_form, next_normal, first_form, last_form, bounds_of-drop, map-take_more}
+use Rattle.vx_rewrite_optimizer.proofs.Children.{next_form, next_normal, first_form, last_form, map-take_more}
 use Rattle.vx_rewrite_optimizer.proofs.Forms.{boxed, boxed-unwrap_or, form_below, form_again, form_or_itself}
 use Rattle.vx_rewrite_optimizer.proofs.Rebuilding.{node_again}
-use Rattle.vx_rewrite_optimizer.proofs.Weighing.{weights-children, typed-children}
+use Rattle.vx_rewrite_optimizer.proofs.Weighing.{weights-children}
 use Rattle.vx_rewrite_optimizer.proofs.whole.+optimizer.Goals as goal
 
 pub normal_form-returns-clause-form : goal.normal_form-returns-clause-form
@@ -28,7 +29,7 @@ optimize_below-optimize_children-requires g t c κs within =
     let b = bound_of c.args.tree.now in
     let lt : weights (bound_children_of b) < weight b = weights-children b c.requires.typed in
     let less : 5 * weights (bounds_of c.children.result.now) + 5 < 5 * weight b + 1 = rw c.children.ensures.trees (omega arith) in
-    let typed : EachWellTyped (bounds_of c.children.result.now) = rw c.children.ensures.trees (typed-children b c.requires.typed) in
+    let typed : EachWellTyped (bounds_of c.children.result.now) = rw c.children.ensures.trees (children_typed b c.requires.typed) in
     (omega arith, (within, typed))
 
 pub optimize_below-rebuilt-requires : goal.optimize_below-rebuilt-requires
@@ -48,7 +49,7 @@ optimize_below-returns-clause-form g t c =
 pub optimize_children-normal_form-requires : goal.optimize_children-normal_form-requires
 optimize_children-normal_form-requires g t c κs within =
     let x = c.index-children-i.result in
-    let left = rw (bounds_of-drop c.args.children.now c.loop-i.i x (omega arith) c.index-children-i.is) at c.loop-i.invariant.is in
+    let left = rw (bounds_next c.args.children.now c.loop-i.i x (omega arith) c.index-children-i.is) at c.loop-i.invariant.is in
     (omega (arith, left.light), (within, left.typed.0))
 
 pub optimize_children-optimize_rest-requires : goal.optimize_children-optimize_rest-requires
@@ -56,7 +57,7 @@ optimize_children-optimize_rest-requires g t c κs within =
     let xs = c.args.children.now in
     let i = c.loop-i.i in
     let rest = take_rest xs (i + 1) in
-    let left = rw (bounds_of-drop xs i c.index-children-i.result (omega arith) c.index-children-i.is) at c.loop-i.invariant.is in
+    let left = rw (bounds_next xs i c.index-children-i.result (omega arith) c.index-children-i.is) at c.loop-i.invariant.is in
     let light : weights (bounds_of (take (length xs - (i + 1)) (drop (i + 1) xs))) ≤ weights (bounds_of xs) = rw rest (omega (arith, left.light)) in
     (omega arith, (within, rw rest left.typed.1))
 
@@ -64,7 +65,7 @@ pub optimize_children-returns-in-Some-clause-forms : goal.optimize_children-retu
 optimize_children-returns-in-Some-clause-forms g t c =
     let xs = c.args.children.now in
     let i = c.loop-i.i in
-    let left = rw (bounds_of-drop xs i c.index-children-i.result (omega arith) c.index-children-i.is) at c.loop-i.invariant in
+    let left = rw (bounds_next xs i c.index-children-i.result (omega arith) c.index-children-i.is) at c.loop-i.invariant in
     let none = rw c.in-Some.is at c.in_ok-form.ensures.none in
     first_form left (rw c.in-Some.is at c.in_ok-form.ensures.form) (λ n. let q = none.1 n in cc) (rw (c.in_ok-forms.ensures, take_rest xs (i + 1)) at c.in_ok-optimize_rest.ensures.forms)
 
@@ -73,19 +74,19 @@ optimize_children-loop-i-preserved g t c =
     let x = c.index-children-i.result in
     let none = rw c.in_default.is at c.in_ok-form.ensures.none in
     rw (map-take_more c.args.children.now c.loop-i.i x (omega arith) c.index-children-i.is)
-    (next_normal (rw (bounds_of-drop c.args.children.now c.loop-i.i x (omega arith) c.index-children-i.is) at c.loop-i.invariant) (none.0 refl))
+    (next_normal (rw (bounds_next c.args.children.now c.loop-i.i x (omega arith) c.index-children-i.is) at c.loop-i.invariant) (none.0 refl))
 
 pub optimize_rest-normal_form-requires : goal.optimize_rest-normal_form-requires
 optimize_rest-normal_form-requires g t c κs within =
     let x = c.child-item.result in
-    let left = rw (bounds_of-drop c.args.rest.now c.loop-child.child-index x (omega arith) c.child-item.is) at c.loop-child.invariant.left in
+    let left = rw (bounds_next c.args.rest.now c.loop-child.child-index x (omega arith) c.child-item.is) at c.loop-child.invariant.left in
     (omega (arith, left.light), (within, left.typed.0))
 
 pub optimize_rest-loop-child-preserved : goal.optimize_rest-loop-child-preserved
 optimize_rest-loop-child-preserved g t c =
     let x = c.child-item.result in
     let before = c.loop-child.invariant in
-    let left = rw (bounds_of-drop c.args.rest.now c.loop-child.child-index x (omega arith) c.child-item.is) at before.left in
+    let left = rw (bounds_next c.args.rest.now c.loop-child.child-index x (omega arith) c.child-item.is) at before.left in
     let form = c.in_ok-form.form in
     let u = unwrap_or (option_map boxed form) (bound_of x) in
     record {
