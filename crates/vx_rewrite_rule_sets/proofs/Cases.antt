@@ -11,7 +11,7 @@ use Rattle.vx_fn.specs.Functions.{case_when, case_children, with_else, condition
 use Rattle.vx_fn.specs.Rows.{FnType, of_case_else, of_case}
 use Rattle.vx_fn.proofs.Monotone.{narrower_refl, shape_refl, nullable-mono, join-mono, same_at}
 use Rattle.vx_rewrite_keep.proofs.Keeping.{narrower_trans}
-use Rattle.vx_rewrite_rule_sets.proofs.Joins.{above-left, above-right}
+use Rattle.vx_dtype.proofs.Unions.{above-left, above-right}
 
 -- ---- unions
 

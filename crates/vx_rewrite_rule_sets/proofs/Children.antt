@@ -1,6 +1,7 @@
 -- Children of a node: that they don't fault where it doesn't, and what holds of each of them.
 use Rattle.std.proofs.Common.{◌≡◌, inl, inr, List, sym, subst, ◌⊎◌}
 use Rattle.std.specs.Prelude.{None}
+use Rattle.vx_tree.proofs.Children.{first_quiet, rest_quiet, children_quiet}
 use Rattle.vx_tree.proofs.Trees.{or_none}
 use Rattle.vx_value.specs.Types.{LogicalType, Datum}
 use Rattle.vx_fn.specs.Functions.{Function}
@@ -9,15 +10,6 @@ use Rattle.vx_tree.specs.Trees.{BoundTree, node, BoundTrees, no_bound, bound, We
 use Rattle.vx_rewrite_rule_sets.specs.Nodes.{one_bound, two_bounds, three_bounds}
 
 -- ---- the children of a node that doesn't fault don't
-
-pub first_quiet : (x : BoundTree) (xs : BoundTrees) (batch : List Datum) → each_fault (bound x xs) batch ≡ None → HasNoFault x batch
-first_quiet x xs batch n = (or_none _ _ n).0
-
-pub rest_quiet : (x : BoundTree) (xs : BoundTrees) (batch : List Datum) → each_fault (bound x xs) batch ≡ None → each_fault xs batch ≡ None
-rest_quiet x xs batch n = (or_none _ _ n).1
-
-pub children_quiet : (t : LogicalType) (f : Function) (xs : BoundTrees) (batch : List Datum) → HasNoFault (node t f xs) batch → each_fault xs batch ≡ None
-children_quiet t f xs batch n = (or_none _ _ n).0
 
 pub only_quiet : (t : LogicalType) (f : Function) (x : BoundTree) (batch : List Datum) → HasNoFault (node t f (one_bound x)) batch → HasNoFault x batch
 only_quiet t f x batch n = first_quiet x no_bound batch (children_quiet t f (one_bound x) batch n)

@@ -2,7 +2,8 @@
 pub use Rattle.vx_fn.proofs.Monotone.{narrower_refl}
 pub use Rattle.vx_fn.proofs.Rows.{fn_type-found, fn_type-only}
 pub use Rattle.vx_tree.proofs.Trees.{value-fits, each_passes}
-pub use Rattle.vx_rewrite_rule_sets.proofs.Children.{first_quiet, rest_quiet, children_quiet, only_quiet, second_quiet, third_quiet, IsChild, child-well_typed, child-over, child-quiet}
+pub use Rattle.vx_tree.proofs.Children.{first_quiet, rest_quiet, children_quiet}
+pub use Rattle.vx_rewrite_rule_sets.proofs.Children.{only_quiet, second_quiet, third_quiet, IsChild, child-well_typed, child-over, child-quiet}
 pub use Rattle.vx_rewrite_rule_sets.proofs.Inside.{each_inside, below_inside, child-inside}
 pub use Rattle.vx_rewrite_rule_sets.proofs.Sets.{modest_stays_normal, modest_lawful, decided_functional, one_normal_form, either_normal, either_functional, either_modest, either_lawful}
 pub use Rattle.vx_rewrite_rule_sets.proofs.Casts.{keeps_as_type, as_type-weight, as_type-from, as_type-is, is-as_type}
