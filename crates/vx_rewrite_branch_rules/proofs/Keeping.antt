@@ -11,7 +11,8 @@ use Rattle.vx_tree.specs.Meaning.{value, values}
 use Rattle.vx_tree.specs.Faults.{each_fault}
 use Rattle.vx_tree.specs.Trees.{BoundTree, node, BoundTrees, no_bound, bound, node_type, node_types, WellTyped}
 use Rattle.vx_rewrite_keep.specs.Keeps.{Keeps}
-use Rattle.vx_rewrite_rule_sets.proofs.Children.{second_quiet, third_quiet, rest_quiet, children_quiet}
+use Rattle.vx_tree.proofs.Children.{rest_quiet, children_quiet}
+use Rattle.vx_rewrite_rule_sets.proofs.Children.{second_quiet, third_quiet}
 use Rattle.vx_rewrite_rule_sets.specs.Nodes.{one_bound, two_bounds, three_bounds, literal_node}
 use Rattle.vx_rewrite_rule_sets.proofs.Cases.{CaseTyped, case_typed, first_narrower, OthersTyped, others_typed, else_narrower, null_fits}
 use Rattle.vx_rewrite_branch_rules.specs.Branches.{NeverHolds, is_false, is_null, BranchAt, first_branch, other_pairs, else_branch, no_branch}

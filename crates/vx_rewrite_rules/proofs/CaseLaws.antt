@@ -2,25 +2,21 @@
 use Rattle.std.proofs.Common.{◌≡◌, ◌∙◌, List, [], ◌∷◌, refl, sym, subst, Bool, true, false, map}
 use Rattle.std.specs.Prelude.{Some, None, if◌then◌else◌, not}
 use Rattle.std.specs.List.{list_any}
-use Rattle.std.specs.declared.cmp.Ordering.{Ordering}
-use Rattle.std.specs.declared.cmp.Ordering.TheVariants.{Less, Equal, Greater}
-use Rattle.std.specs.Ordering.{is_eq, ordering_reverse, nat_cmp, int_cmp}
-use Rattle.std.specs.Cmp.Lexicographic.{slice_cmp}
-use Rattle.std.proofs.lemmas.Cmp.{int_cmp_total, nat_list_cmp_total}
 use Rattle.std.proofs.lemmas.Bool.{or_left, or_right, or_from}
+use Rattle.vx_fn.proofs.Fills.{none_differ}
 use Rattle.vx_fn.proofs.Rows.{fn_type-found, fn_type-only}
 use Rattle.vx_fn.proofs.Monotone.{same_at}
-use Rattle.vx_dtype.proofs.Unions.{same_atomic-eq}
+use Rattle.vx_dtype.proofs.Unions.{same_atomic-eq, above-left, above-right}
 use Rattle.vx_rewrite_rule_sets.proofs.Cases.{case_typed}
 use Rattle.vx_rewrite_rule_sets.proofs.Children.{second_quiet, third_quiet}
-use Rattle.vx_rewrite_rule_sets.proofs.Joins.{above-left, above-right, same_atomic-refl}
-use Rattle.vx_value.specs.Types.{Atomic, LogicalType, ty, atomic, Datum, null, bool, int, utf8, bytes, list_of, struct_of, is_nullable, with_nullability, is_null_datum}
+use Rattle.vx_rewrite_rule_sets.proofs.Joins.{same_atomic-refl}
+use Rattle.vx_value.specs.Types.{Atomic, LogicalType, ty, atomic, Datum, null, is_nullable, with_nullability, is_null_datum}
 use Rattle.vx_dtype.specs.Joins.{same_base, join, Narrower, narrower, same_atomic_shape}
 use Rattle.vx_fn.specs.Functions.{case_when, is_null, is_not_null, is_atomic}
 use Rattle.vx_fn.specs.Rows.{FnType, of_fill_null}
 use Rattle.vx_tree.specs.Meaning.{value, values}
 use Rattle.vx_tree.specs.Faults.{first_fault}
-use Rattle.vx_fn.specs.Faults.{fill_of, differs, some_differ}
+use Rattle.vx_fn.specs.Faults.{fill_of}
 use Rattle.vx_tree.specs.Trees.{BoundTree, node, node_type, WellTyped}
 use Rattle.vx_rewrite_keep.specs.Keeps.{Keeps}
 use Rattle.vx_rewrite_rule_sets.specs.Nodes.{one_bound, two_bounds, literal_node}
@@ -67,31 +63,6 @@ keeps_coalesce_to_null x t (null_last {u = u} {p = p}) w = record {
 
 -- ---- a fill by a literal
 
-order_equal : (v : Datum) → differs v v ≡ false
-order_equal null = refl
-order_equal (bool true) = refl
-order_equal (bool false) = refl
-order_equal (int i) = go (int_cmp i i) (int_cmp_total.antisymm i i)
-  where
-    go : (o : Ordering) → o ≡ ordering_reverse o → not (is_eq o) ≡ false
-    go Less e = cc
-    go Equal e = refl
-    go Greater e = cc
-order_equal (utf8 t) = go (slice_cmp nat_cmp t t) (nat_list_cmp_total.antisymm t t)
-  where
-    go : (o : Ordering) → o ≡ ordering_reverse o → not (is_eq o) ≡ false
-    go Less e = cc
-    go Equal e = refl
-    go Greater e = cc
-order_equal (bytes t) = go (slice_cmp nat_cmp t t) (nat_list_cmp_total.antisymm t t)
-  where
-    go : (o : Ordering) → o ≡ ordering_reverse o → not (is_eq o) ≡ false
-    go Less e = cc
-    go Equal e = refl
-    go Greater e = cc
-order_equal (list_of vs) = refl
-order_equal (struct_of vs) = refl
-
 all_filled : (f : Datum → List Datum) (c : Datum) (batch : List Datum) → ((v : Datum) → fill_of (f v) ≡ c) → map fill_of (map f batch) ≡ map (λ v. c) batch
 all_filled f c [] e = refl
 all_filled f c (v ∷ batch) e = rw (e v, all_filled f c batch e) refl
@@ -99,14 +70,6 @@ all_filled f c (v ∷ batch) e = rw (e v, all_filled f c batch e) refl
 none_null : (c : Datum) (batch : List Datum) → is_null_datum c ≡ false → list_any is_null_datum (map (λ (v : Datum). c) batch) ≡ false
 none_null c [] e = refl
 none_null c (v ∷ batch) e = or_from _ _ e (none_null c batch e)
-
-none_differ_from : (c : Datum) (batch : List Datum) → list_any (differs c) (map (λ (v : Datum). c) batch) ≡ false
-none_differ_from c [] = refl
-none_differ_from c (v ∷ batch) = or_from _ _ (order_equal c) (none_differ_from c batch)
-
-none_differ : (c : Datum) (batch : List Datum) → some_differ (map (λ (v : Datum). c) batch) ≡ false
-none_differ c [] = refl
-none_differ c (v ∷ batch) = none_differ_from c batch
 
 good_fill : (x : BoundTree) (t : LogicalType) (c : Datum) (batch : List Datum) → is_atomic (node_type x) ≡ true → is_null_datum c ≡ false → first_fault x batch ≡ None → first_fault (fill_node x (literal_node t c)) batch ≡ None
 good_fill x t c batch p z n =

@@ -2,7 +2,7 @@
 use Rattle.std.proofs.Common.{◌≡◌, ◌≢◌, ◌↔◌, ℕ, ◌+◌, add-one, List, [], refl, sym, ap, subst, Bool, true, false, ◌&&◌, ◌||◌, ◌==◌, ◌∙◌, not}
 use Rattle.std.specs.Prelude.{Option, Some, None, option_and_then, if◌then◌else◌, IsTrue}
 use Rattle.std.specs.Option.{option_map}
-use Rattle.std.proofs.Math.Bool.{or-true}
+use Rattle.std.proofs.Math.Bool.{or-true, or-false}
 use Rattle.std.proofs.Math.Dec.{eqb-suc-zero}
 use Rattle.std.proofs.lemmas.Bool.{eqb-true, not-true}
 use Rattle.vx_value.specs.Fields.{project, field_count}
@@ -151,10 +151,6 @@ zip_rule t x y _ u w e = cc
 
 -- ---- a selection
 
-or_false : (b : Bool) → (b || false) ≡ true → b ≡ true
-or_false true e = refl
-or_false false e = cc
-
 -- nothing is included
 none_rule : (n : Bool) (selection : FieldSelection) (x u : BoundTree) → WellTyped (node (ty (struct no_field) n) (select selection) (one_bound x)) → only_if (not (is_nullable (node_type x)) || is_pack x) (empty_pack n) ≡ Some u → RuleAt (node (ty (struct no_field) n) (select selection) (one_bound x)) u
 none_rule n selection x u w e = under_test (RuleAt (node (ty (struct no_field) n) (select selection) (one_bound x))) (not (is_nullable (node_type x)) || is_pack x) (empty_pack n) u (λ h. go x (selected selection (ty (struct no_field) n) x w) w h) e
@@ -174,7 +170,7 @@ none_rule n selection x u w e = under_test (RuleAt (node (ty (struct no_field) n
         let q : k ≡ n = pack_nullable p s.fields s.nullable names k xs w.2.0 s.from ∙ m in
         let r : p ≡ ty (struct s.fields) k = s.from ∙ ap (ty (struct s.fields)) (m ∙ sym q) in
         rw (r, ← q) (select_none_of_pack (none_included s n refl))
-    go x s w h = never x s (or_false (not (is_nullable (node_type x))) h)
+    go x s w h = never x s (sym (or-false (not (is_nullable (node_type x)))) ∙ h)
 
 -- something is
 packed_rule : (gs fs : Fields) (n k : Bool) (selection : FieldSelection) (p : LogicalType) (names : List Name) (xs : BoundTrees) → p ≡ ty (struct fs) n → k ≡ n → kept_names selection names ≡ included selection fs → included selection fs ≢ [] → IsTrue (not k || are_nullable gs) → RuleAt (node (ty (struct gs) n) (select selection) (one_bound (node p (pack names k) xs))) (node (ty (struct gs) n) (pack (kept_names selection names) k) (children_named (kept_names selection names) names xs))

@@ -4,7 +4,8 @@ use Rattle.std.specs.Prelude.{Some, None}
 use Rattle.std.proofs.lemmas.Bool.{or_left, or_right}
 use Rattle.vx_fn.proofs.Rows.{fn_type-found}
 use Rattle.vx_fn.proofs.Monotone.{shape_refl}
-use Rattle.vx_rewrite_rule_sets.proofs.Children.{first_quiet, children_quiet, child-well_typed, child-over, child-quiet}
+use Rattle.vx_tree.proofs.Children.{first_quiet, children_quiet}
+use Rattle.vx_rewrite_rule_sets.proofs.Children.{child-well_typed, child-over, child-quiet}
 use Rattle.vx_rewrite_rules.proofs.Named.{named-child, named-type, named-value}
 use Rattle.vx_value.specs.Types.{Name, LogicalType, ty, Shape, struct, Fields, Datum, with_nullability}
 use Rattle.vx_value.specs.Fields.{field_type, fields_named}

@@ -6,7 +6,8 @@ use Rattle.vx_fn.proofs.Rows.{fn_type-found, fn_type-only}
 use Rattle.vx_fn.proofs.Monotone.{narrower_refl}
 use Rattle.vx_dtype.proofs.Known.{known_first}
 use Rattle.vx_fn.proofs.Sound.{included-known}
-use Rattle.vx_rewrite_rule_sets.proofs.Children.{first_quiet, children_quiet, child-well_typed, child-over, child-quiet}
+use Rattle.vx_tree.proofs.Children.{first_quiet, children_quiet}
+use Rattle.vx_rewrite_rule_sets.proofs.Children.{child-well_typed, child-over, child-quiet}
 use Rattle.vx_rewrite_rules.proofs.Named.{named-child, named-type, named-value}
 use Rattle.vx_rewrite_rules.proofs.PackLaws.{pack_type}
 use Rattle.vx_tree.proofs.Trees.{value-fits, each_passes}

@@ -2,8 +2,9 @@
 use Rattle.std.proofs.Common.{◌≡◌, List, [], ◌∷◌, refl, sym, subst, Bool, true, false, ◌≢◌}
 use Rattle.std.specs.Prelude.{if◌then◌else◌}
 use Rattle.vx_fn.proofs.Rows.{fn_type-found}
-use Rattle.vx_rewrite_rule_sets.proofs.Children.{first_quiet, second_quiet, children_quiet}
-use Rattle.vx_rewrite_rule_sets.proofs.Joins.{above-left, above-right}
+use Rattle.vx_dtype.proofs.Unions.{above-left, above-right}
+use Rattle.vx_tree.proofs.Children.{first_quiet, children_quiet}
+use Rattle.vx_rewrite_rule_sets.proofs.Children.{second_quiet}
 use Rattle.vx_value.specs.Types.{LogicalType, Datum, bool}
 use Rattle.vx_dtype.specs.Joins.{same_base, join, Narrower}
 use Rattle.vx_fn.specs.Functions.{zip}
