@@ -1,5 +1,5 @@
 -- Children and fields by name, as the code looks at them.
-use Rattle.std.proofs.Common.{◌≡◌, ℕ, ◌+◌, ◌<◌, ◌≤◌, List, [], ◌∷◌, ◌++◌, length, drop, take, map, refl, sym, ap, ◌∙◌, zero, suc, inl, inr, get_or, add-one, drop-cons, drop_of_length-le, Bor, true, false, arith}
+use Rattle.std.proofs.Common.{◌≡◌, ℕ, ◌+◌, ◌<◌, ◌≤◌, List, [], ◌∷◌, ◌++◌, length, drop, take, map, refl, sym, ap, ◌∙◌, zero, suc, inl, inr, get_or, add-one, drop_of_length-le, Bor, true, false, arith}
 use Rattle.std.specs.Prelude.{Option, Some, None, slice_get, position, is_some, nat_lt, IfSome}
 use Rattle.std.proofs.lemmas.List.{map-append}
 use Rattle.std.proofs.lemmas.Bool.{ltb-true, ltb-false}
@@ -7,7 +7,8 @@ use Rattle.std.specs.List.{list_all}
 use Rattle.std.specs.Option.{option_map}
 use Rattle.std.specs.Str.{bytes_eq}
 use Rattle.std.proofs.lemmas.List.Quantifiers.{position-Some}
-use Rattle.vx_fn.specs.Faults.{IsIn}
+use Rattle.vx_dtype.specs.Lists.{IsIn}
+use Rattle.vx_dtype.proofs.Lists.{drop_next, in_front, in_front-push, in_front-all}
 use Rattle.vx_tree.proofs.Trees.{none_passes}
 use Rattle.vx_dtype.specs.Fields.{field_count}
 use Rattle.vx_dtype.specs.Views.{type_of, fields_view}
@@ -65,44 +66,29 @@ fields-nullable fs names types n e k = rw (k, ← e) (sym (are_nullable-each nam
 -- ---- the children of the wanted names, one name further
 
 -- the trees in front of others
-pub before : List BoundTree → BoundTrees → BoundTrees
-before [] xs = xs
-before (b ∷ bs) xs = bound b (before bs xs)
-
-before-append : (bs : List BoundTree) (b : BoundTree) (xs : BoundTrees) → before (bs ++ b ∷ []) xs ≡ before bs (bound b xs)
-unfolding before
-before-append [] b xs = refl
-before-append (c ∷ bs) b xs = ap (bound c) (before-append bs b xs)
-
-before-none : (bs : List BoundTree) → before bs no_bound ≡ bounds_from bs
-unfolding before
-before-none [] = refl
-before-none (b ∷ bs) = ap (bound b) (before-none bs)
+abbrev pub before : List BoundTree → BoundTrees → BoundTrees
+before = in_front bound
 
 -- before the first name
 pub start : (wanted names : List Name) (xs : BoundTrees) (kept : List BoundExpression) → kept ≡ [] → children_named wanted names xs ≡ before (map bound_of kept) (children_named (drop 0 wanted) names xs)
-unfolding before
 start wanted names xs kept e = rw e refl
 
 -- behind the last
 pub end : (wanted names : List Name) (xs : BoundTrees) (kept : List BoundExpression) (i : ℕ) → length wanted ≤ i → children_named wanted names xs ≡ before (map bound_of kept) (children_named (drop i wanted) names xs) → bounds_of kept ≡ children_named wanted names xs
-end wanted names xs kept i h k = sym (k ∙ (ap (λ ws. before (map bound_of kept) (children_named ws names xs)) (drop_of_length-le wanted h) ∙ before-none (map bound_of kept)))
-
-step : (wanted : List Name) (i : ℕ) (a : Name) → i < length wanted → a ≡ get_or wanted i a → drop i wanted ≡ a ∷ drop (i + 1) wanted
-step wanted i a h p = rw (add-one, drop-cons wanted i a h, ← p) refl
+end wanted names xs kept i h k = sym (k ∙ (ap (λ ws. before (map bound_of kept) (children_named ws names xs)) (drop_of_length-le wanted h) ∙ in_front-all bound no_bound bounds_from refl (λ x xs. refl) (map bound_of kept)))
 
 -- the child of one name more
 more : (wanted names : List Name) (xs : BoundTrees) (kept : List BoundTree) (i : ℕ) (a : Name) (o : Option BoundTree) (all : BoundTrees) → i < length wanted → a ≡ get_or wanted i a → child_named a names xs ≡ o
     → all ≡ before kept (children_named (drop i wanted) names xs) → all ≡ before kept (put_child o (children_named (drop (i + 1) wanted) names xs))
 more wanted names xs kept i a o all h p q k =
-    k ∙ (ap (λ ws. before kept (children_named ws names xs)) (step wanted i a h p) ∙ ap (λ o. before kept (put_child o (children_named (drop (i + 1) wanted) names xs))) q)
+    k ∙ (ap (λ ws. before kept (children_named ws names xs)) (drop_next wanted i a h p) ∙ ap (λ o. before kept (put_child o (children_named (drop (i + 1) wanted) names xs))) q)
 
 pub further : (wanted names : List Name) (xs : BoundTrees) (kept new : List BoundExpression) (i : ℕ) (a : Name) (x : BoundExpression) (all : BoundTrees) → i < length wanted → a ≡ get_or wanted i a → child_named a names xs ≡ Some (bound_of x) → new ≡ kept ++ x ∷ []
     → all ≡ before (map bound_of kept) (children_named (drop i wanted) names xs) → all ≡ before (map bound_of new) (children_named (drop (i + 1) wanted) names xs)
 further wanted names xs kept new i a x all h p q n k =
     let rest = children_named (drop (i + 1) wanted) names xs in
     let pushed : map bound_of new ≡ map bound_of kept ++ bound_of x ∷ [] = ap (map bound_of) n ∙ map-append bound_of kept (x ∷ []) in
-    more wanted names xs (map bound_of kept) i a (Some (bound_of x)) all h p q k ∙ (sym (before-append (map bound_of kept) (bound_of x) rest) ∙ ap (λ bs. before bs rest) (sym pushed))
+    more wanted names xs (map bound_of kept) i a (Some (bound_of x)) all h p q k ∙ (sym (in_front-push bound (map bound_of kept) (bound_of x) rest) ∙ ap (λ bs. before bs rest) (sym pushed))
 
 pub no_further : (wanted names : List Name) (xs : BoundTrees) (kept : List BoundTree) (i : ℕ) (a : Name) (all : BoundTrees) → i < length wanted → a ≡ get_or wanted i a → child_named a names xs ≡ None
     → all ≡ before kept (children_named (drop i wanted) names xs) → all ≡ before kept (children_named (drop (i + 1) wanted) names xs)
