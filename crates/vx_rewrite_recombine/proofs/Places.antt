@@ -1,10 +1,11 @@
 -- Where a piece stands among those of its annotation, and that it is found there by name.
 use Rattle.std.proofs.Common.{◌≡◌, ℕ, zero, suc, ◌+◌, ◌<◌, ◌^◌, Bool, true, false, List, [], ◌∷◌, ◌++◌, length, map, Option, Some, None, refl, sym, ap, subst, ◌∙◌, arith, true≢false, inl, inr}
-use Rattle.std.specs.Prelude.{codes, if◌then◌else◌, ◌||◌, not}
+use Rattle.std.specs.Prelude.{codes, if◌then◌else◌, not}
 use Rattle.std.specs.Fmt.{decimal}
 use Rattle.std.specs.Cmp.{IsEquivalence}
 use Rattle.std.specs.List.{list_any}
 use Rattle.std.specs.Str.{bytes_eq}
+use Rattle.std.proofs.Math.Bool.{or-true}
 use Rattle.std.proofs.lemmas.List.{append_cancel_left}
 use Rattle.std.proofs.lemmas.Fmt.{decimal_injective}
 use Rattle.vx_value.specs.Types.{Name}
@@ -103,11 +104,7 @@ module _ {A : Type 0} (eq : A → A → Bool) (laws : IsEquivalence eq) where
     name-among : (c : A) (cs : List A) → IsIn c cs → list_any (bytes_eq (name c)) (partition_names name (groups_of cs)) ≡ true
     name-among c [] i = absurd i
     name-among c (d ∷ cs) (inl s) = rw (ap (λ z. bytes_eq (name z) (name d)) s ∙ own_name (name d)) refl
-    name-among c (d ∷ cs) (inr i) = rw (name-among c cs i) (or-right (bytes_eq (name c) (name d)))
-      where
-        or-right : (t : Bool) → (t || true) ≡ true
-        or-right true = refl
-        or-right false = refl
+    name-among c (d ∷ cs) (inr i) = rw (name-among c cs i) (or-true (bytes_eq (name c) (name d)))
 
     -- where a name stands among those behind h, an annotation of that name isn't called as h is
     called-otherwise : (h a c : A) (cs : List A) → eq a c ≡ true → IsIn c cs → list_any (bytes_eq (name h)) (partition_names name (groups_of cs)) ≡ false → bytes_eq (name a) (name h) ≡ false

@@ -9,6 +9,7 @@ use Rattle.vx_tree.specs.Meaning.{value, values}
 use Rattle.vx_tree.specs.Faults.{HasNoFault, each_fault}
 use Rattle.vx_tree.specs.Trees.{BoundTree, scope, node, BoundTrees, no_bound, bound, node_type, node_types, WellTyped, EachWellTyped, Over, EachOver}
 use Rattle.vx_tree.specs.Views.{bounds_from}
+use Rattle.vx_tree.proofs.Children.{first_quiet, rest_quiet, children_quiet}
 use Rattle.vx_tree.proofs.Trees.{or_none}
 use Rattle.vx_rewrite_recombine.specs.Items.{item_of, struct_type, joined}
 use Rattle.vx_rewrite_recombine.specs.Pieces.{Piece, Group, piece_or, CoveredBy, pieces, each_pieces, Covered, EachCovered, pieces_of, annotations_of, grouped, groups}
@@ -19,15 +20,6 @@ use Rattle.vx_rewrite_recombine.proofs.Taken.{item-type, item-typed, item-value}
 use Rattle.vx_rewrite_recombine.proofs.Places.{piece-found}
 use Rattle.vx_rewrite_recombine.proofs.EachPiece.{EachPiece, each_first, each_second, grouped_each, ungrouped_each, pieces_have}
 use Rattle.vx_rewrite_recombine.proofs.Packing.{all_typed, all_over, all_quiet, quiet_all}
-
-first_quiet : (x : BoundTree) (xs : BoundTrees) (batch : List Datum) → each_fault (bound x xs) batch ≡ None → HasNoFault x batch
-first_quiet x xs batch n = (or_none _ _ n).0
-
-rest_quiet : (x : BoundTree) (xs : BoundTrees) (batch : List Datum) → each_fault (bound x xs) batch ≡ None → each_fault xs batch ≡ None
-rest_quiet x xs batch n = (or_none _ _ n).1
-
-children_quiet : (t : LogicalType) (f : Function) (xs : BoundTrees) (batch : List Datum) → HasNoFault (node t f xs) batch → each_fault xs batch ≡ None
-children_quiet t f xs batch n = (or_none _ _ n).0
 
 map_through : {A B C : Type 0} (f : B → C) (h : A → B) (g : A → C) (xs : List A) → ((x : A) → f (h x) ≡ g x) → map f (map h xs) ≡ map g xs
 map_through f h g [] e = refl
