@@ -11,7 +11,7 @@ use Rattle.vx_tree.specs.Views.{bound_of, bounds_of}
 use Rattle.vx_eval.specs.Columns.{unless_fault}
 use Rattle.vx_eval.specs.Evaluation.{evaluation}
 use Rattle.vx_query_split.specs.Splits.{part_columns, part_answers}
-use Rattle.vx_query_split.proofs.Lists.{split_at}
+use Rattle.vx_tree.proofs.Children.{bounds_next}
 
 abbrev ok_columns : List Batch → Result (List Batch) VortexError
 ok_columns cs = Ok cs
@@ -41,7 +41,7 @@ pub next_column : (es : List BoundExpression) (c : Batch) (made new : List Batch
     → all ≡ behind made (part_answers (bounds_of (drop i es)) c) → all ≡ behind new (part_answers (bounds_of (drop (i + 1) es)) c)
 next_column es c made new i e x all h is pushed has so_far =
     let rest = part_answers (bounds_of (drop (i + 1) es)) c in
-    so_far ∙ ap (behind made) (ap (λ bs. part_answers bs c) (split_at es i e h is) ∙ unfolded (bound_of e) (bounds_of (drop (i + 1) es)) c ∙ ap (on_ok (λ y. put y rest)) has)
+    so_far ∙ ap (behind made) (ap (λ bs. part_answers bs c) (bounds_next es i e h is) ∙ unfolded (bound_of e) (bounds_of (drop (i + 1) es)) c ∙ ap (on_ok (λ y. put y rest)) has)
     ∙ sym (behind_push made x rest) ∙ ap (λ cs. behind cs rest) (sym pushed)
 
 -- one faults
@@ -50,7 +50,7 @@ pub faults_at : (es : List BoundExpression) (c : Batch) (made : List Batch) (i :
     → all ≡ behind made (part_answers (bounds_of (drop i es)) c) → all ≡ Err r
 faults_at es c made i e r all h is faults so_far =
     let rest = part_answers (bounds_of (drop (i + 1) es)) c in
-    so_far ∙ ap (behind made) (ap (λ bs. part_answers bs c) (split_at es i e h is) ∙ unfolded (bound_of e) (bounds_of (drop (i + 1) es)) c ∙ ap (on_ok (λ y. put y rest)) faults)
+    so_far ∙ ap (behind made) (ap (λ bs. part_answers bs c) (bounds_next es i e h is) ∙ unfolded (bound_of e) (bounds_of (drop (i + 1) es)) c ∙ ap (on_ok (λ y. put y rest)) faults)
 
 -- each has its column
 pub all_columns : (es : List BoundExpression) (c : Batch) (made : List Batch) (i : ℕ) (all : Result (List Batch) VortexError) → length es ≤ i

@@ -13,10 +13,10 @@ use Rattle.vx_tree.specs.Meaning.{mean, value, values}
 use Rattle.vx_tree.specs.Trees.{BoundTree, BoundTrees, no_bound, bound, unbound, node_type, node_types, EachWellTyped, EachOver}
 use Rattle.vx_tree.specs.Views.{bounds_of}
 use Rattle.vx_tree.proofs.Meant.{mean-unbound}
+use Rattle.vx_tree.proofs.Nodes.{length-node_types}
 use Rattle.vx_eval.specs.Columns.{unless_fault}
 use Rattle.vx_eval.specs.Evaluation.{evaluation}
 use Rattle.vx_rewrite_recombine.specs.Items.{joined}
-use Rattle.vx_query_split.proofs.Counting.{counted}
 use Rattle.vx_query_split.specs.Splits.{part_columns, part_answers, joined_column, split_evaluation}
 
 types-columns : (bs : BoundTrees) (c : Batch) → types_in (part_columns bs c) ≡ node_types bs
@@ -67,7 +67,7 @@ length-columns no_bound c = refl
 length-columns (bound b bs) c = ap suc (length-columns bs c)
 
 pub as_many : (es : List BoundExpression) (c : Batch) (cs : List Batch) → part_answers (bounds_of es) c ≡ Ok cs → length cs ≡ length es
-as_many es c cs e = ap length (have_columns (bounds_of es) c cs e).are ∙ length-columns (bounds_of es) c ∙ counted es
+as_many es c cs e = ap length (have_columns (bounds_of es) c cs e).are ∙ length-columns (bounds_of es) c ∙ length-node_types es
 
 -- ---- the columns that were made, joined
 

@@ -1,5 +1,3 @@
-pub mod Lists
-pub mod Counting
 pub mod Answered
 pub mod Joined
 pub mod Meant

@@ -1,13 +1,15 @@
 -- What is evaluated of a tree that keeps another has the other's meaning.
-use Rattle.std.proofs.Common.{◌≡◌, List, [], ◌∷◌, map, None, Result, Ok, Err, refl, sym, ap, ◌∙◌, inl, inr}
+use Rattle.std.proofs.Common.{◌≡◌, List, map, None, Result, Ok, Err, sym, ap, ◌∙◌, inl, inr}
 use Rattle.std.specs.Prelude.{MatchResult}
+use Rattle.std.proofs.lemmas.Simd.{map-map}
 use Rattle.vx_dtype.specs.declared.error.VortexError.{VortexError}
 use Rattle.vx_dtype.specs.declared.error.VortexError.TheVariants.{OutOfMemory}
 use Rattle.vx_dtype.specs.Answers.{Answers}
 use Rattle.vx_value.specs.Columns.{Batch, batch}
 use Rattle.vx_value.specs.Types.{Name, Datum}
 use Rattle.vx_value.specs.Fits.{IsBatch}
-use Rattle.vx_fn.specs.Faults.{IsIn}
+use Rattle.vx_dtype.specs.Lists.{IsIn}
+use Rattle.vx_dtype.proofs.Lists.{map_same}
 use Rattle.vx_tree.specs.Faults.{HasNoFault, each_fault}
 use Rattle.vx_tree.specs.Meaning.{mean, value}
 use Rattle.vx_tree.specs.Trees.{BoundTree, BoundTrees, WellTyped, Over, unbound, node_type}
@@ -18,15 +20,6 @@ use Rattle.vx_rewrite_recombine.specs.Items.{struct_type, joined}
 use Rattle.vx_rewrite_recombine.specs.Recombining.{Recombines}
 use Rattle.vx_query_split.specs.Sources.{IsMeantBy}
 use Rattle.vx_query_split.specs.Splits.{split_evaluation}
-
--- functions that agree on the rows give the same column
-same_map : (f g : Datum → Datum) (rows : List Datum) → ((v : Datum) → IsIn v rows → f v ≡ g v) → map f rows ≡ map g rows
-same_map f g [] same = refl
-same_map f g (v ∷ rows) same = rw (same v (inl refl), same_map f g rows (λ w i. same w (inr i))) refl
-
-map_twice : (f g : Datum → Datum) (rows : List Datum) → map f (map g rows) ≡ map (λ v. f (g v)) rows
-map_twice f g [] = refl
-map_twice f g (v ∷ rows) = ap (λ ws. f (g v) ∷ ws) (map_twice f g rows)
 
 -- what is answered where nothing faults
 quiet_answer : (e : List Datum) (c : Batch) (r : Result Batch VortexError) → Answers (λ x. x) r (Ok c) → c.rows ≡ e → MatchResult r (λ x. x.rows ≡ e) (λ y. y ≡ OutOfMemory)
@@ -44,7 +37,7 @@ module _ (b u : BoundTree) (c : Batch) (k : Keeps b u) (o : Over b c.type) (fit 
       let still : HasNoFault u c.rows = k.no_fault c.type c.rows o fit quiet in
       let over = k.scopes c.type o in
       quiet_answer (map (mean (unbound b) c.type) c.rows) (batch (node_type u) (map (mean (unbound u) c.type) c.rows)) r (rw still at a)
-      (same_map (mean (unbound u) c.type) (mean (unbound b) c.type) c.rows (λ v i. mean-unbound u c.type v k.typed_after over ∙ meaning_kept v i))
+      (map_same (mean (unbound u) c.type) (mean (unbound b) c.type) c.rows (λ v i. mean-unbound u c.type v k.typed_after over ∙ meaning_kept v i))
 
   -- the tree split
   pub split_means : (names : List Name) (parts : BoundTrees) (root : BoundTree) (r : Result Batch VortexError) → WellTyped root → Over root (struct_type names parts) → Recombines parts root u
@@ -56,5 +49,5 @@ module _ (b u : BoundTree) (c : Batch) (k : Keeps b u) (o : Over b c.type) (fit 
       let no_root : HasNoFault root (map (joined parts) c.rows) = re.no_fault c.type c.rows over fit still in
       let s = struct_type names parts in
       quiet_answer (map (mean (unbound b) c.type) c.rows) (batch (node_type root) (map (mean (unbound root) s) (map (joined parts) c.rows))) r (rw (no_part, no_root) at a)
-      (map_twice (mean (unbound root) s) (joined parts) c.rows
-      ∙ same_map (λ v. mean (unbound root) s (joined parts v)) (mean (unbound b) c.type) c.rows (λ v i. mean-unbound root s (joined parts v) w ro ∙ re.meaning c.type c.rows over fit still v i ∙ meaning_kept v i))
+      (map-map (mean (unbound root) s) (joined parts) c.rows
+      ∙ map_same (λ v. mean (unbound root) s (joined parts v)) (mean (unbound b) c.type) c.rows (λ v i. mean-unbound root s (joined parts v) w ro ∙ re.meaning c.type c.rows over fit still v i ∙ meaning_kept v i))

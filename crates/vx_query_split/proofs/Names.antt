@@ -3,16 +3,11 @@ use Rattle.std.proofs.Common.{◌≡◌, ◌≢◌, Bool, true, false, List, [],
 use Rattle.std.specs.Prelude.{◌&&◌, if◌then◌else◌}
 use Rattle.std.specs.List.{list_all}
 use Rattle.std.specs.Str.{bytes_eq}
-use Rattle.std.specs.Cmp.Lexicographic.{bytes_decides}
 use Rattle.std.proofs.lemmas.List.Folds.{list_all-append}
+use Rattle.std.proofs.Math.Bool.{and-false}
+use Rattle.vx_dtype.proofs.NameTests.{same_name, own_name}
 use Rattle.vx_value.specs.Types.{Name}
 use Rattle.vx_query_split.specs.Reading.{only_name}
-
-same_name : (a b : Name) → bytes_eq a b ≡ true → a ≡ b
-same_name a b = (bytes_decides a b).0
-
-equal_itself : (a : Name) → bytes_eq a a ≡ true
-equal_itself a = (bytes_decides a a).1 refl
 
 so_far : (t : Bool) (x a : Name) → (if t then Some x else None) ≡ Some a → (t ≡ true) × (x ≡ a)
 so_far true x a e = (refl, cc)
@@ -21,10 +16,6 @@ so_far false x a e = absurd cc
 no_more : (t : Bool) (x : Name) → (if t then Some x else None) ≡ None → t ≡ false
 no_more true x e = absurd cc
 no_more false x e = refl
-
-and_false : (t : Bool) → (t && false) ≡ false
-and_false true = refl
-and_false false = refl
 
 pub not_empty : (xs ys : List Name) → xs ≢ [] → (xs ++ ys) ≢ []
 not_empty [] ys h = λ e. h refl
@@ -45,7 +36,7 @@ one_twice (x ∷ xs) (y ∷ ys) a b e f h =
     let q = so_far (list_all (bytes_eq y) ys) y b f in
     let is : y ≡ x = q.1 ∙ sym (same_name a b h) ∙ sym p.1 in
     let rest : list_all (bytes_eq x) ys ≡ true = ap (λ n. list_all (bytes_eq n) ys) (sym is) ∙ q.0 in
-    let here : bytes_eq x y ≡ true = ap (bytes_eq x) is ∙ equal_itself x in
+    let here : bytes_eq x y ≡ true = ap (bytes_eq x) is ∙ own_name x in
     rw (list_all-append (bytes_eq x) xs (y ∷ ys), p.0, here, rest, p.1) refl
 
 pub two_names : (xs ys : List Name) (a b : Name) → only_name xs ≡ Some a → only_name ys ≡ Some b → bytes_eq a b ≡ false → only_name (xs ++ ys) ≡ None
@@ -64,7 +55,7 @@ several_first (x ∷ xs) ys e h = rw (list_all-append (bytes_eq x) xs ys, no_mor
 pub several_second : (xs ys : List Name) (a : Name) → only_name xs ≡ Some a → only_name ys ≡ None → ys ≢ [] → only_name (xs ++ ys) ≡ None
 several_second [] ys a e f h = absurd cc
 several_second (x ∷ xs) [] a e f h = absurd (h refl)
-several_second (x ∷ xs) (y ∷ ys) a e f h = rw (list_all-append (bytes_eq x) xs (y ∷ ys), go (bytes_eq x y) refl, and_false (list_all (bytes_eq x) xs)) refl
+several_second (x ∷ xs) (y ∷ ys) a e f h = rw (list_all-append (bytes_eq x) xs (y ∷ ys), go (bytes_eq x y) refl, and-false (list_all (bytes_eq x) xs)) refl
   where
     go : (t : Bool) → bytes_eq x y ≡ t → (bytes_eq x y && list_all (bytes_eq x) ys) ≡ false
     go true q = rw q (ap (λ n. list_all (bytes_eq n) ys) (same_name x y q) ∙ no_more (list_all (bytes_eq y) ys) y f)

@@ -1,8 +1,10 @@
 -- What is read at one more child, and at a node.
-use Rattle.std.proofs.Common.{◌≡◌, ℕ, ◌+◌, ◌<◌, ◌≤◌, Bor, Bool, true, false, List, [], ◌∷◌, ◌++◌, length, map, take, get_or, drop, Option, Some, None, refl, sym, ap, subst, ◌∙◌, append_assoc, append-nil}
+use Rattle.std.proofs.Common.{◌≡◌, ℕ, ◌+◌, ◌<◌, ◌≤◌, Bor, Bool, true, List, [], ◌∷◌, ◌++◌, length, map, take, get_or, drop, Option, Some, None, refl, sym, ap, subst, ◌∙◌, append_assoc, append-nil}
 use Rattle.std.specs.Prelude.{◌&&◌, ◌||◌, is_some}
 use Rattle.std.specs.Option.{option_copied}
 use Rattle.std.proofs.lemmas.List.{length-map, take-map}
+use Rattle.std.proofs.Math.Bool.{and-true, and_assoc}
+use Rattle.std.proofs.Math.Seq.{take-append_seam}
 use Rattle.vx_fn.specs.Functions.{Function}
 use Rattle.vx_value.specs.Types.{Name, LogicalType}
 use Rattle.vx_tree.specs.declared.bound.BoundExpression.{BoundExpression}
@@ -11,19 +13,11 @@ use Rattle.vx_tree.specs.Views.{bound_of, bounds_of}
 use Rattle.vx_rewrite_analysis.specs.Covers.{are_covered}
 use Rattle.vx_rewrite_analysis.specs.Fields.{free_fields}
 use Rattle.vx_rewrite_split.specs.Only.{met_at, annotations_met, annotations_met_in}
-use Rattle.vx_rewrite_split.proofs.Collecting.{bounds_next, bounds_end}
+use Rattle.vx_tree.proofs.Children.{bounds_next, bounds_end}
 use Rattle.vx_query_split.specs.Reading.{only_name, own_or, fields_at, fields_in, only_field, reads_one}
 use Rattle.vx_query_split.specs.Reads.{IsReadBy, IsReadAt, IsReadBelow}
 use Rattle.vx_query_split.specs.declared.reading.Reads.{Reads}
 use Rattle.vx_query_split.specs.declared.reading.Reads.TheVariants.{Nothing, One, Several}
-
-and_assoc : (a b c : Bool) → ((a && b) && c) ≡ (a && (b && c))
-and_assoc true b c = refl
-and_assoc false b c = refl
-
-and_all : (a : Bool) → (a && true) ≡ a
-and_all true = refl
-and_all false = refl
 
 not_one : (reads : Reads) (xs : List Name) → ((a : Bor Name) → reads ≡ One a → ⊥) → IsReadBy reads xs → only_name xs ≡ None
 not_one Nothing xs other told = ap only_name told
@@ -72,7 +66,7 @@ module _ (names : List Name) where
     all_told = subst (IsReadBy reads) whole s.told
 
     all_covers : covered ≡ are_covered (reads_one names) all
-    all_covers = sym (and_all covered) ∙ ap (λ bs. covered && are_covered (reads_one names) bs) (sym (bounds_end es i h)) ∙ s.covers
+    all_covers = sym (and-true covered) ∙ ap (λ bs. covered && are_covered (reads_one names) bs) (sym (bounds_end es i h)) ∙ s.covers
 
     pub all_met : so_far ≡ old ++ (None ∷ annotations_met_in (only_field names) all)
     all_met = sym (append-nil so_far) ∙ ap (λ bs. so_far ++ annotations_met_in (only_field names) bs) (sym (bounds_end es i h)) ∙ s.met
@@ -124,12 +118,8 @@ pub copied_some : {A : Type 0} (o : Option (Bor A)) → is_some o ≡ is_some (o
 copied_some None = refl
 copied_some (Some a) = refl
 
-take_front : {A : Type 0} (xs ys : List A) → take (length xs) (xs ++ ys) ≡ xs
-take_front [] ys = refl
-take_front (x ∷ xs) ys = ap (λ l. x ∷ l) (take_front xs ys)
-
 -- what was met behind others, cut off again
 pub cut_back : {A : Type 0} (old so_far cut : List (Option (Bor A))) (n : ℕ) (more : List (Option A)) → map option_copied so_far ≡ map option_copied old ++ more → n ≡ length old → cut ≡ take n so_far → map option_copied cut ≡ map option_copied old
 cut_back old so_far cut n more met is short =
     let copied = option_copied in
-    ap (map copied) short ∙ sym (take-map copied n so_far) ∙ ap (take n) met ∙ ap (λ k. take k (map copied old ++ more)) (is ∙ sym (length-map old copied)) ∙ take_front (map copied old) more
+    ap (map copied) short ∙ sym (take-map copied n so_far) ∙ ap (take n) met ∙ ap (λ k. take k (map copied old ++ more)) (is ∙ sym (length-map old copied)) ∙ take-append_seam (map copied old) more

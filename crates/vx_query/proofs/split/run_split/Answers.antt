@@ -1,8 +1,8 @@
 use Rattle.std.proofs.Common.{◌≡◌, ◌∙◌, ap, subst, rules, Some, None}
 use Rattle.vx_value.specs.Views.{type_of}
 use Rattle.vx_tree.specs.Views.{bound_of, bounds_of}
+use Rattle.vx_tree.proofs.Nodes.{length-node_types}
 use Rattle.vx_query_split.specs.Division.{IsSplitOf, parts_of}
-use Rattle.vx_query_split.proofs.Counting.{counted}
 use Rattle.vx_query_split.proofs.Divided.{sound}
 use Rattle.vx_query.proofs.Optimized.{unsplit, split_runs, forms_typed, forms_over}
 use Rattle.vx_query.proofs.split.run_split.Goals as goal
@@ -11,7 +11,7 @@ pub optimized-requires-clause-count : goal.optimized-requires-clause-count
 optimized-requires-clause-count c =
     let is : c.in_ok-split.field-0 ≡ Some c.in-Some.split = search rules in
     let split = subst (λ o. IsSplitOf (type_of c.dtype.result.now) (bound_of c.args.tree.now) (parts_of o)) is c.in_ok-split.ensures.split in
-    (sound split).counted ∙ counted c.in-Some.split.partitions.items
+    (sound split).counted ∙ length-node_types c.in-Some.split.partitions.items
 
 pub evaluate_split-answer-requires-clause-partitions : goal.evaluate_split-answer-requires-clause-partitions
 evaluate_split-answer-requires-clause-partitions c = forms_typed c.in_ok-split-in-Some.ensures.forms

@@ -5,11 +5,11 @@ use Rattle.vx_value.specs.Fields.{field_names}
 use Rattle.vx_value.specs.Types.{struct_fields}
 use Rattle.vx_value.specs.Views.{fields_of, type_of}
 use Rattle.vx_tree.specs.Views.{bound_of}
+use Rattle.vx_tree.proofs.Nodes.{length-node_types}
 use Rattle.vx_rewrite_split.specs.Only.{annotations_met}
 use Rattle.vx_query_split.specs.Division.{no_fields, not_covered}
 use Rattle.vx_query_split.specs.Reading.{only_field}
 use Rattle.vx_query_split.specs.Reads.{IsReadBy}
-use Rattle.vx_query_split.proofs.Counting.{counted}
 use Rattle.vx_query_split.proofs.Divided.{covered_so, divided_by_pieces, memory_alone, uncovered}
 use Rattle.vx_query_split.proofs.division.split_by_fields.Goals as goal
 
@@ -48,4 +48,4 @@ returns-clause-split c =
     let p = c.in_ok-partition_bound_met.field-0 in
     let split = c.in_ok-partition_bound_met.ensures.split (only_field names) met in
     let count = c.in_ok-partition_bound_met.ensures.counts.0 in
-    divided_by_pieces (type_of c.args.scope.now) u _ (ap (option_map field_names) fields) (covered_so names u c.in_ok-reading.reading.is_covered (c.in_ok-reading.ensures names told).covers covered) (count ∙ sym (counted p.partitions.items)) split
+    divided_by_pieces (type_of c.args.scope.now) u _ (ap (option_map field_names) fields) (covered_so names u c.in_ok-reading.reading.is_covered (c.in_ok-reading.ensures names told).covers covered) (count ∙ sym (length-node_types p.partitions.items)) split
