@@ -1,15 +1,16 @@
 -- What a planned tree gives over what was read is what its source means on the batch.
-use Rattle.std.proofs.Common.{◌≡◌, ◌≢◌, ◌⊎◌, inl, inr, Bool, true, false, List, [], ◌∷◌, map, Option, Some, None, Result, Ok, Err, refl, sym, ap, ◌∙◌, subst}
+use Rattle.std.proofs.Common.{◌≡◌, ◌≢◌, ◌⊎◌, inl, inr, Bool, true, false, List, map, Option, Some, None, Result, Ok, Err, refl, sym, ap, ◌∙◌, subst}
 use Rattle.std.specs.Prelude.{MatchResult, not}
 use Rattle.vx_dtype.specs.Answers.{Answers}
 use Rattle.vx_dtype.specs.declared.error.VortexError.{VortexError}
 use Rattle.vx_dtype.specs.declared.error.VortexError.TheVariants.{OutOfMemory, ScopeMismatch}
 use Rattle.vx_value.specs.Columns.{Batch, batch}
-use Rattle.vx_value.specs.Equality.{equal_type, equal_type-Decides}
+use Rattle.vx_value.specs.Equality.{equal_type}
+use Rattle.vx_value.specs.Deciding.{equal_type-Decides}
 use Rattle.vx_value.specs.Fits.{IsBatch}
 use Rattle.vx_value.specs.Paths.{Path, minimal_paths}
 use Rattle.vx_value.specs.Types.{LogicalType, Datum}
-use Rattle.vx_fn.specs.Faults.{IsIn}
+use Rattle.vx_dtype.proofs.Lists.{map_same}
 use Rattle.vx_tree.proofs.Meant.{mean-unbound}
 use Rattle.vx_tree.specs.Faults.{HasNoFault, first_fault, each_fault}
 use Rattle.vx_tree.specs.Meaning.{mean}
@@ -37,10 +38,6 @@ use Rattle.vx_scan.proofs.Opened.{sound_of, root_type_of}
 use Rattle.vx_scan.proofs.Reading.{read-agrees}
 
 -- ---- answers
-
-same_map : (f g : Datum → Datum) (rows : List Datum) → ((v : Datum) → IsIn v rows → f v ≡ g v) → map f rows ≡ map g rows
-same_map f g [] same = refl
-same_map f g (v ∷ rows) same = rw (same v (inl refl), same_map f g rows (λ w i. same w (inr i))) refl
 
 -- an answer of these rows is one of equal rows
 moved : (e f : List Datum) (r : Result Batch VortexError) → e ≡ f → MatchResult r (λ x. x.rows ≡ e) (λ y. y ≡ OutOfMemory) → MatchResult r (λ x. x.rows ≡ f) (λ y. y ≡ OutOfMemory)
@@ -129,7 +126,7 @@ source_means : (u : BoundTree) (c : Batch) (r : Result Batch VortexError) → We
 source_means u c r w o fit means = λ e b n is steps quiet.
     let k : Keeps b u = steps_keep BranchRuleAt branch_rules_lawful.keeps steps is.well_typed in
     let rows : map (mean (unbound u) c.type) c.rows ≡ map (mean (unbound b) c.type) c.rows =
-    same_map (mean (unbound u) c.type) (mean (unbound b) c.type) c.rows (λ v i. mean-unbound u c.type v w o ∙ k.meaning c.type c.rows is.over fit quiet v i ∙ sym (mean-unbound b c.type v is.well_typed is.over)) in
+    map_same (mean (unbound u) c.type) (mean (unbound b) c.type) c.rows (λ v i. mean-unbound u c.type v w o ∙ k.meaning c.type c.rows is.over fit quiet v i ∙ sym (mean-unbound b c.type v is.well_typed is.over)) in
     subst (λ d. IsMeantBy d c r) is.source (moved _ _ r rows (means (k.no_fault c.type c.rows is.over fit quiet)))
 
 -- a scan that read the plan's paths and evaluated the tree over them

@@ -8,7 +8,8 @@ use Rattle.vx_value.specs.Fits.{Fits, IsBatch}
 use Rattle.vx_value.specs.Paths.{Path, minimal_paths}
 use Rattle.vx_value.specs.Types.{LogicalType, Datum}
 use Rattle.vx_fn.proofs.Rows.{fn_type-found}
-use Rattle.vx_fn.specs.Faults.{IsIn, node_fault}
+use Rattle.vx_fn.specs.Faults.{node_fault}
+use Rattle.vx_dtype.specs.Lists.{IsIn}
 use Rattle.vx_fn.specs.Functions.{Function, binary, adds, cast, fill_null}
 use Rattle.vx_tree.proofs.Trees.{each_passes, or_none}
 use Rattle.vx_tree.specs.Faults.{first_fault, each_fault}

@@ -5,12 +5,12 @@ use Rattle.vx_value.specs.Paths.{minimal_paths}
 use Rattle.vx_value.specs.Views.{type_of}
 use Rattle.vx_tree.specs.Trees.{Over}
 use Rattle.vx_tree.specs.Views.{bound_of, bounds_of}
+use Rattle.vx_tree.proofs.Nodes.{length-node_types}
 use Rattle.vx_eval.specs.Evaluation.{evaluation}
 use Rattle.vx_query_split.specs.Splits.{split_evaluation}
 use Rattle.vx_scan_kept.specs.Kept.{kept_batch}
 use Rattle.vx_scan_kept.specs.Readers.{AreAmong}
 use Rattle.vx_query_split.specs.Division.{parts_of}
-use Rattle.vx_query_split.proofs.Counting.{counted}
 use Rattle.vx_scan.proofs.Opened.{sound_of}
 use Rattle.vx_scan.specs.Scans.{Scanned, planned_evaluation}
 use Rattle.vx_scan.proofs.Scanning.{differs, agrees, only_memory, read_so, over_read, scanned, unread, mismatched}
@@ -53,7 +53,7 @@ evaluate_split-requires-clause-names g c =
     let u = bound_of plan.tree in
     let held : plan.split ≡ Some c.in-Some.split.now = sym c.in-Some.ensures in
     let good = sound_of plan.is_plan.divided _ (ap parts_of held) in
-    good.counted ∙ counted c.in-Some.split.now.partitions.items
+    good.counted ∙ length-node_types c.in-Some.split.now.partitions.items
 
 pub evaluate_split-requires-clause-partitions : goal.evaluate_split-requires-clause-partitions
 evaluate_split-requires-clause-partitions g c =
