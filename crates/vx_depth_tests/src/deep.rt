@@ -1,6 +1,5 @@
-// Trees of ten thousand levels through each call that goes down a tree, as lines of a table. The text of
-// `display_tree` grows with the square of the depth, so it isn't asked for; walks and rewrites have
-// tests of their own.
+// Trees of ten thousand levels through each call that goes down a tree, as lines of a table. Tree texts,
+// walks and rewrites have tests of their own.
 use std::test::Fail;
 use vx_test_judge::{Aim, Tally, judge_table};
 

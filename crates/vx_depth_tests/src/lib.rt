@@ -3,3 +3,5 @@
 
 #[cfg(test)]
 mod deep;
+#[cfg(test)]
+mod drawn;

@@ -36,5 +36,5 @@ returns c =
     let column = c.args.batch.now in
     let over : Over (bound_of c.in_ok-bound.bound) column.type = rw (← c.dtype.ensures) c.in_ok-bound.ensures.over.0 in
     let is : IsBound e column.type (bound_of c.in_ok-bound.bound) = record { source = c.in_ok-bound.ensures.over.1; well_typed = c.in_ok-bound.ensures.well_typed; over = over } in
-    let fit : IsBatch column.type column.rows = (no_misfit column.type column.rows).0 c.shared_rows-rows.ensures.fit in
+    let fit : IsBatch column.type column.rows = (no_misfit column.type column.rows).0 c.rows-rows.ensures.fit in
     evaluation_ends e column c.args.passes.now c.args.split (bound_of c.in_ok-bound.bound) c.run_tree-answer.result is fit (passed c.in_ok-tree.ensures.passed c.run_tree-answer.ensures)

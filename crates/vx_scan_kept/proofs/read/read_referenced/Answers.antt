@@ -13,7 +13,7 @@ from_shared-requires c =
     let type : type_of c.in_ok-dtype.dtype ≡ batch.type = c.in_ok-dtype.ensures.cases ∙ c.dtype-dtype.ensures in
     let want : wanted_of c.in_ok-wanted.wanted ≡ wanted paths batch.type = cc (c.in_ok-wanted.ensures, c.in_ok-along.ensures, c.dtype-dtype.ensures) in
     let took : map value_of made.items ≡ map (taken (wanted_of c.in_ok-wanted.wanted)) batch.rows = ap (λ v. map value_of v.items) c.in_ok-new.ensures.ok ∙ c.in_ok-rows.ensures in
-    made-fit paths batch.type (type_of c.in_ok-dtype.dtype) batch.rows (map value_of made.items) (wanted_of c.in_ok-wanted.wanted) type want c.shared_rows-rows.ensures.fit took
+    made-fit paths batch.type (type_of c.in_ok-dtype.dtype) batch.rows (map value_of made.items) (wanted_of c.in_ok-wanted.wanted) type want c.rows-rows.ensures.fit took
 
 pub returns : goal.returns
 returns c =
@@ -23,5 +23,5 @@ returns c =
     let type : type_of c.in_ok-dtype.dtype ≡ batch.type = c.in_ok-dtype.ensures.cases ∙ c.dtype-dtype.ensures in
     let want : wanted_of c.in_ok-wanted.wanted ≡ wanted paths batch.type = cc (c.in_ok-wanted.ensures, c.in_ok-along.ensures, c.dtype-dtype.ensures) in
     let took : map value_of made.items ≡ map (taken (wanted_of c.in_ok-wanted.wanted)) batch.rows = ap (λ v. map value_of v.items) c.in_ok-new.ensures.ok ∙ c.in_ok-rows.ensures in
-    let kept = made-kept paths batch.type (type_of c.in_ok-dtype.dtype) batch.rows (map value_of made.items) (wanted_of c.in_ok-wanted.wanted) type want c.shared_rows-rows.ensures.fit took in
+    let kept = made-kept paths batch.type (type_of c.in_ok-dtype.dtype) batch.rows (map value_of made.items) (wanted_of c.in_ok-wanted.wanted) type want c.rows-rows.ensures.fit took in
     cc (kept, c.from_shared.ensures)

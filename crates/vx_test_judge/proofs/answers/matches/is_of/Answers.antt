@@ -7,4 +7,4 @@ pub returns : goal.returns
 returns c = λ equal.
     let column = c.args.column.now in
     let same = sym (c.dtype.ensures) ∙ c.types_are_equal_exactly.ensures.0 equal in
-    rw same at ((no_misfit column.type column.rows).0 c.shared_rows-rows.ensures.fit)
+    rw same at ((no_misfit column.type column.rows).0 c.rows-rows.ensures.fit)
