@@ -6,3 +6,4 @@ pub mod Choices
 pub mod FirstMerged
 pub mod Items
 pub mod Across
+pub mod Numbers
