@@ -7,3 +7,4 @@ pub mod FirstMerged
 pub mod Items
 pub mod Across
 pub mod Numbers
+pub mod Leaves
