@@ -5,7 +5,7 @@ use Rattle.std.proofs.lemmas.List.{drop_more, drop_all, map-append, length-map, 
 use Rattle.std.proofs.lemmas.List.FromFn.{length-map-range_with_len, get_or-map-range_with_len}
 use Rattle.vx_value.specs.Types.{Datum, null, bool, is_null_datum}
 use Rattle.vx_fn.specs.Functions.{Operation, compares}
-use Rattle.vx_fn.specs.Values.{kleene_and, is_false, binary_value, agrees, order}
+use Rattle.vx_fn.specs.Values.{kleene_and, binary_value, agrees, order}
 use Rattle.vx_eval.specs.Columns.{each_row, row_at, truth_datum, truth_of}
 use Rattle.vx_eval.specs.Items.{AllLong, HaveRow, all_of, conjoined, compared_items, is_comparison, item_at}
 use Rattle.vx_eval.proofs.Filled.{each_same, all_rows, told_at}
@@ -78,7 +78,7 @@ here_at i m [] c lt is = absurd (omega arith)
 here_at i zero (x ∷ cs) c lt is = ap (λ y. get_or y i null) is
 here_at i (suc m) (x ∷ cs) c lt is = here_at i m cs c (omega arith) is
 
-pub all_start : (ds : List Datum) → kleene_and (truth_datum (Some true)) (all_of (drop 0 ds)) ≡ all_of ds
+pub all_start : (ds : List Datum) → kleene_and (bool true) (all_of (drop 0 ds)) ≡ all_of ds
 all_start ds = true_all ds
 
 -- one more comparison is told
@@ -90,21 +90,37 @@ all_more i m cs c x y t lt is so_far here told =
     let within : m < length row = omega (arith, length-map cs (λ d. get_or d i null)) in
     ap (λ z. kleene_and z rest) (told ∙ ap (kleene_and x) (here ∙ here_at i m cs c lt is)) ∙ and_assoc x (get_or row m null) rest ∙ sym (ap (λ l. kleene_and x (all_of l)) (drop_more row m null within)) ∙ so_far
 
-false_is : (y : Datum) → true ≡ is_false y → y ≡ bool false
-false_is (bool false) h = refl
-false_is (bool true) h = cc
-false_is _ h = cc
+-- what is told so far, as long as nothing is false
+abbrev pub none_false : Bool → Datum
+none_false all_true = if all_true then bool true else null
+
+pub still_true : (all_true : Bool) → none_false all_true ≡ kleene_and (none_false all_true) (bool true)
+still_true true = refl
+still_true false = refl
+
+pub then_null : (all_true : Bool) → none_false false ≡ kleene_and (none_false all_true) null
+then_null true = refl
+then_null false = refl
+
+then_false : (all_true : Bool) → bool false ≡ kleene_and (none_false all_true) (bool false)
+then_false true = refl
+then_false false = refl
 
 -- one is false
-pub all_false : (i m : ℕ) (cs : List (List Datum)) (y : Datum) → kleene_and y (all_of (drop m (row_at cs i))) ≡ all_of (row_at cs i) → true ≡ is_false y → y ≡ all_of (row_at cs i)
-all_false i m cs y so_far found = let is : y ≡ bool false = false_is y found in is ∙ ap (λ z. kleene_and z (all_of (drop m (row_at cs i)))) (sym is) ∙ so_far
+pub all_false : (i m : ℕ) (cs : List (List Datum)) (c : List Datum) (all_true : Bool) → m < length cs → c ≡ get_or cs m c → kleene_and (none_false all_true) (all_of (drop m (row_at cs i))) ≡ all_of (row_at cs i) →
+    bool false ≡ get_or c i null → bool false ≡ all_of (row_at cs i)
+all_false i m cs c all_true lt is before here = all_more i m cs c (none_false all_true) (bool false) (bool false) lt is before here (then_false all_true)
+
+ended : (all_true : Bool) → kleene_and (none_false all_true) (bool true) ≡ none_false all_true
+ended true = refl
+ended false = refl
 
 -- all are told
-pub all_told : (i m : ℕ) (cs : List (List Datum)) (t : Option Bool) → length cs ≤ m → kleene_and (truth_datum t) (all_of (drop m (row_at cs i))) ≡ all_of (row_at cs i) → truth_datum t ≡ all_of (row_at cs i)
-all_told i m cs t end so_far =
+pub all_told : (i m : ℕ) (cs : List (List Datum)) (all_true : Bool) → length cs ≤ m → kleene_and (none_false all_true) (all_of (drop m (row_at cs i))) ≡ all_of (row_at cs i) → none_false all_true ≡ all_of (row_at cs i)
+all_told i m cs all_true end before =
     let row = row_at cs i in
     let all : length row ≤ m = omega (arith, length-map cs (λ d. get_or d i null)) in
-    sym (and_true t) ∙ sym (ap (λ l. kleene_and (truth_datum t) (all_of l)) (drop_all m row all)) ∙ so_far
+    sym (ended all_true) ∙ sym (ap (λ l. kleene_and (none_false all_true) (all_of l)) (drop_all m row all)) ∙ before
 
 -- ---- a comparison alone, and two of them
 

@@ -15,3 +15,4 @@ mod Conjoined
 mod Masked
 mod Branches
 mod Cuts
+mod Leaves

@@ -8,7 +8,7 @@ use Rattle.vx_value.specs.Views.{value_of}
 use Rattle.std.specs.declared.cmp.Ordering.{Ordering}
 use Rattle.vx_fn.specs.Functions.{Operation, compares}
 use Rattle.vx_fn.specs.Faults.{is_outside}
-use Rattle.vx_fn.specs.Values.{agrees, flipped}
+use Rattle.vx_fn.specs.Values.{agrees, flipped, is_true}
 use Rattle.vx_eval_like.specs.Patterns.{Compiled, accepts}
 use Rattle.vx_eval.specs.Columns.{truth_datum, datum_at}
 pub use Rattle.vx_eval.specs.Items.{is_comparison}
@@ -20,6 +20,10 @@ AnswersRows post n g = (i : ℕ) (v : Value) → i < n → post i (Ok v) → val
 -- what a call tells at each of the first n rows is what g gives there
 abbrev pub TellsRows : (ℕ → Option Bool → Type 0) → ℕ → (ℕ → Datum) → Type 0
 TellsRows post n g = (i : ℕ) (t : Option Bool) → i < n → post i t → truth_datum t ≡ g i
+
+-- what a call tests at each of the first n rows is whether g gives true there
+abbrev pub TestsRows : (ℕ → Bool → Type 0) → ℕ → (ℕ → Datum) → Type 0
+TestsRows post n g = (i : ℕ) (b : Bool) → i < n → post i b → b ≡ is_true (g i)
 
 -- where a call answers at one of the first n rows and its value, it is what g makes of them
 abbrev pub MakesRows : {E : Type 0} → (ℕ → Value → Result Value E → Type 0) → ℕ → (ℕ → Datum → Datum) → Type 0

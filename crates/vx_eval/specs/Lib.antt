@@ -6,3 +6,5 @@ pub mod Choices
 pub mod FirstMerged
 pub mod Items
 pub mod Across
+pub mod Numbers
+pub mod Leaves

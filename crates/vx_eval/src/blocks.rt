@@ -2,11 +2,13 @@
 ghost use Rattle.std.specs.Prelude.{◌≡◌, ◌<◌, false, length, IfOk};
 ghost use Rattle.vx_dtype.specs.Answers.{Answers};
 ghost use Rattle.vx_value.specs.Fits.{IsBatch};
+ghost use Rattle.vx_tree.specs.Nodes.{bound_children_of};
 ghost use Rattle.vx_tree.specs.Trees.{node_type, WellTyped, Over};
-ghost use Rattle.vx_tree.specs.Views.{bound_of};
+ghost use Rattle.vx_tree.specs.Views.{bound_of, bounds_of};
 ghost use Rattle.vx_eval.specs.Across.{looks_across};
 ghost use Rattle.vx_eval.specs.Columns.{values_of};
 ghost use Rattle.vx_eval.specs.Evaluation.{tree_answer};
+ghost use Rattle.vx_eval.specs.Leaves.{are_leaves, is_leaf, is_scope};
 
 use crate::across::looks_across;
 use crate::rows::Rows;
@@ -61,8 +63,11 @@ fn values_over(alloc: Global, b: &BoundExpression, rows: &[Value]) -> VortexResu
 
 // Whether the first node reads nothing but leaves, which are lent: it walks the rows once then, and by
 // blocks its values would be moved once more.
-fn reads_leaves_alone(b: &BoundExpression) -> bool {
-    for child in b.children() {
+fn reads_leaves_alone(b: &BoundExpression) -> bool
+    ensures { result ≡ are_leaves (bound_children_of (bound_of b.now)) }
+{
+    let children = b.children();
+    for child in children {
         if !is_leaf(child) {
             return false;
         }
@@ -71,7 +76,9 @@ fn reads_leaves_alone(b: &BoundExpression) -> bool {
 }
 
 // Whether the tree is the scope, a field of it or a literal.
-fn is_leaf(b: &BoundExpression) -> bool {
+fn is_leaf(b: &BoundExpression) -> bool
+    ensures { result ≡ is_leaf (bound_of b.now) }
+{
     match b {
         BoundExpression::Root { .. } => true,
         BoundExpression::Scalar {
@@ -80,12 +87,19 @@ fn is_leaf(b: &BoundExpression) -> bool {
             ..
         } => match scalar_fn {
             ScalarFnRef::Literal(_) => true,
-            ScalarFnRef::GetItem(_) => matches!(
-                children.as_slice(),
-                [BoundExpression::Root { .. }]
-            ),
+            ScalarFnRef::GetItem(_) => is_scope(children.as_slice()),
             _ => false,
         },
+    }
+}
+
+// Whether the trees are one alone, the scope.
+fn is_scope(trees: &[BoundExpression]) -> bool
+    ensures { result ≡ is_scope (bounds_of trees.now) }
+{
+    match trees {
+        [tree] => matches!(tree, BoundExpression::Root { .. }),
+        _ => false,
     }
 }
 

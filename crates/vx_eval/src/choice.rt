@@ -130,7 +130,7 @@ fn own_rows(alloc: Global, condition: Rows, rest: &mut RowMask) -> Result<RowMas
     ensures own { IfOk result (λ mask. mask ≡ both (map values.is_true (rows_view condition.entry)) rest.old) }
     ensures left { IfOk result (λ _. rest.new ≡ but rest.old (map values.is_true (rows_view condition.entry))) }
 {
-    let mask = condition.true_rows(alloc, rest.len());
+    let mask = condition.true_rows(alloc, rest);
     drop(condition);
     let mut mask = mask?;
     mask.claim(rest);

@@ -6,8 +6,8 @@ ghost use Rattle.vx_fn.specs.Views.{operation_of};
 ghost use Rattle.vx_eval_merge.specs.Merges.{values_of};
 ghost use Rattle.vx_eval.specs.Items.{compared_items, is_comparison, truth_datum};
 
-use crate::comparison::compared;
 use crate::fields::item_row;
+use crate::numbers::{NumberTest, compared_by};
 use std::marker::Model;
 use vx_fn::Operator;
 use vx_types::Value;
@@ -19,10 +19,11 @@ pub struct ComparedItem<'a> {
     rows: &'a [Value],
     place: usize,
     value: &'a Value,
+    test: Option<NumberTest>,
 }
 
 impl<'a> Model for ComparedItem<'a> {
-    ghost use Rattle.std.specs.Prelude.{List, IsTrue};
+    ghost use Rattle.std.specs.Prelude.{List, IsTrue, IfSome};
     ghost use Rattle.std.specs.Coded.{coded_list};
     ghost use Rattle.vx_value.specs.Codes.{datum_code};
     ghost use Rattle.vx_value.specs.Types.{Datum};
@@ -30,6 +31,7 @@ impl<'a> Model for ComparedItem<'a> {
     ghost use Rattle.vx_fn.specs.Views.{operation_of};
     ghost use Rattle.vx_eval_merge.specs.Merges.{values_of};
     ghost use Rattle.vx_eval.specs.Items.{compared_items, is_comparison};
+    ghost use Rattle.vx_eval.specs.Numbers.{Tests};
 
     ghost Value = { List Datum };
 
@@ -37,7 +39,7 @@ impl<'a> Model for ComparedItem<'a> {
 
     ghost view = { λ c. compared_items (operation_of c.operator) c.place (value_of c.value.now) (values_of c.rows.now) };
 
-    ghost invariant = { λ c. IsTrue (is_comparison (operation_of c.operator)) };
+    ghost invariant = { λ c. IsTrue (is_comparison (operation_of c.operator)) × IfSome c.test (Tests (operation_of c.operator) (value_of c.value.now)) };
 }
 
 impl<'a> ComparedItem<'a> {
@@ -56,6 +58,7 @@ impl<'a> ComparedItem<'a> {
             rows,
             place,
             value,
+            test: NumberTest::new(operator, value),
         }
     }
 
@@ -68,6 +71,7 @@ impl<'a> ComparedItem<'a> {
             rows: self.rows,
             place: self.place,
             value: self.value,
+            test: self.test,
         }
     }
 
@@ -87,6 +91,6 @@ impl<'a> ComparedItem<'a> {
         ensures { truth_datum result ≡ get_or self.now i null }
     {
         let item = item_row(otherwise, self.rows, self.place, i);
-        compared(self.operator, item, self.value)
+        compared_by(self.test, self.operator, item, self.value)
     }
 }

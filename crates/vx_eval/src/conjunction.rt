@@ -8,7 +8,6 @@ ghost use Rattle.vx_eval.specs.Items.{all_of, conjoined, truth_datum, HaveRow};
 
 use crate::compared::ComparedItem;
 use crate::constants::Constants;
-use crate::logic::kleene_and;
 use std::alloc::{AllocError, Global};
 use std::marker::Model;
 use vx_types::Value;
@@ -69,7 +68,17 @@ impl<'a> Conjunction<'a> {
         }
     }
 
-    /// The same as a value. Asks an index below the number of rows.
+    /// Whether true is told of that row. Asks an index below the number of rows.
+    #[inline(always)]
+    pub fn is_true(&self, i: usize) -> bool
+        requires { i < length self.now }
+        ensures { result ≡ values.is_true (get_or self.now i null) }
+    {
+        matches!(self.truth(i), Some(true))
+    }
+
+    /// What is told of that row, as a value. Asks an index below the number of rows.
+    #[inline(never)]
     pub fn row(&self, i: usize) -> &Value
         requires { i < length self.now }
         ensures { value_of result.now ≡ get_or self.now i null }
@@ -109,24 +118,19 @@ impl<'a> Conjunction<'a> {
 }
 
 // What is told of that row by all of the comparisons, up to the first that is false.
+#[inline(always)]
 fn all_told(items: &[ComparedItem], otherwise: &Value, i: usize) -> Option<bool>
     requires null { value_of otherwise.now ≡ null }
     requires within { HaveRow i items.now }
     ensures { truth_datum result ≡ all_of (row_at items.now i) }
 {
-    let mut all = Some(true);
+    let mut all_true = true;
     for k in 0..items.len() {
-        all = kleene_and(all, items[k].truth(otherwise, i));
-        if is_false(all) {
-            return all;
+        match items[k].truth(otherwise, i) {
+            Some(true) => {}
+            Some(false) => return Some(false),
+            None => all_true = false,
         }
     }
-    all
-}
-
-// Whether it is false.
-fn is_false(truth: Option<bool>) -> bool
-    ensures { result ≡ values.is_false (truth_datum truth) }
-{
-    matches!(truth, Some(false))
+    if all_true { Some(true) } else { None }
 }

@@ -19,6 +19,7 @@ mod merges;
 mod merging;
 mod nodes;
 mod nulls;
+mod numbers;
 mod packed;
 mod rows;
 mod text;

@@ -9,6 +9,7 @@ ghost use Rattle.vx_eval.specs.Columns.{rows_view, truth_datum, Evaluates};
 
 use crate::choice::first_true;
 use crate::comparison::order;
+use crate::fields::item_row;
 use crate::filling::{overwritten, tabulated};
 use crate::rows::{Rows, copied};
 use crate::truths::told;
@@ -21,7 +22,17 @@ pub fn is_null<'a>(alloc: Global, count: usize, input: &Rows) -> VortexResult<Ro
     requires { length (rows_view input.now) ≡ count }
     ensures { (ts : List LogicalType) → Evaluates functions.is_null ts count (rows_view input.now ∷ []) result }
 {
-    told(alloc, count, |i| null_test(input.row(i)))
+    match input {
+        Rows::Item(structs, place, constants) => {
+            let (structs, place, otherwise) = (*structs, *place, constants.null());
+            told(
+                alloc,
+                count,
+                |i| null_test(item_row(otherwise, structs, place, i)),
+            )
+        }
+        _ => told(alloc, count, |i| null_test(input.row(i))),
+    }
 }
 
 /// Whether each value is another one than null. Refuses with `OutOfMemory` (1) alone.
@@ -29,7 +40,17 @@ pub fn is_not_null<'a>(alloc: Global, count: usize, input: &Rows) -> VortexResul
     requires { length (rows_view input.now) ≡ count }
     ensures { (ts : List LogicalType) → Evaluates functions.is_not_null ts count (rows_view input.now ∷ []) result }
 {
-    told(alloc, count, |i| value_test(input.row(i)))
+    match input {
+        Rows::Item(structs, place, constants) => {
+            let (structs, place, otherwise) = (*structs, *place, constants.null());
+            told(
+                alloc,
+                count,
+                |i| value_test(item_row(otherwise, structs, place, i)),
+            )
+        }
+        _ => told(alloc, count, |i| value_test(input.row(i))),
+    }
 }
 
 // Whether the value is null.

@@ -4,7 +4,7 @@ ghost use Rattle.vx_dtype.specs.Answers.{Answers};
 ghost use Rattle.vx_value.specs.Types.{Datum, null};
 ghost use Rattle.vx_value.specs.Views.{value_of};
 ghost use Rattle.vx_fn.specs.Values as values;
-ghost use Rattle.vx_eval_mask.specs.Masks.{IsRunFrom};
+ghost use Rattle.vx_eval_mask.specs.Masks.{both, IsRunFrom};
 ghost use Rattle.vx_eval_merge.specs.Merges.{HoldsIn, StaysFrom, IsWritten};
 ghost use Rattle.vx_eval.specs.Columns.{each_row, values_of, rows_view, rows_views, row_at, truth_of, HaveRow};
 
@@ -12,7 +12,7 @@ use crate::conjunction::Conjunction;
 use crate::constants::Constants;
 use crate::fields::item_row;
 use crate::filling::made_behind;
-use crate::truths::{truth_at, truth_of, truth_value};
+use crate::truths::{mask_of, truth_at, truth_of, truth_value};
 use std::alloc::{AllocError, Global};
 use std::rc::Rc;
 use vx_eval_mask::RowMask;
@@ -104,16 +104,17 @@ impl<'a> Rows<'a> {
         }
     }
 
-    /// The mask of the rows whose value is true, of which there are so many.
-    pub fn true_rows(&self, alloc: Global, count: usize) -> Result<RowMask, AllocError>
-        requires { length (rows_view self.now) ≡ count }
-        ensures { IfOk result (λ mask. mask ≡ map values.is_true (rows_view self.now)) }
+    /// The mask of those rows of another one whose value is true; the others are passed over. Asks a
+    /// mask of as many rows.
+    pub fn true_rows(&self, alloc: Global, among: &RowMask) -> Result<RowMask, AllocError>
+        requires { length (rows_view self.now) ≡ length among.now }
+        ensures { IfOk result (λ mask. mask ≡ both (map values.is_true (rows_view self.now)) among.now) }
     {
-        let mut bits = Vec::with_capacity(alloc, count)?;
-        for i in 0..count {
-            bits.push(self.is_true(i))?;
+        let among = among.as_slice();
+        match self {
+            Rows::Compared(tests) => mask_of(alloc, among.len(), |i| among[i] && tests.is_true(i)),
+            column => mask_of(alloc, among.len(), |i| among[i] && column.is_true(i)),
         }
-        Ok(RowMask::new(bits))
     }
 
     /// Puts the values from that row on, as far as the mask is true, behind others, and gives the
@@ -156,6 +157,16 @@ impl<'a> Rows<'a> {
     {
         match self {
             Rows::Same(value, _) => push_repeated(merging, rows, mask, from, value),
+            Rows::Item(structs, place, constants) => {
+                let (structs, place, otherwise) = (*structs, *place, constants.null());
+                push_with(
+                    merging,
+                    rows,
+                    mask,
+                    from,
+                    |i| copied(item_row(otherwise, structs, place, i)),
+                )
+            }
             column => push_with(merging, rows, mask, from, |i| copied(column.row(i))),
         }
     }
@@ -173,6 +184,14 @@ impl<'a> Rows<'a> {
                 Ok(())
             }
             Rows::Same(value, _) => write_repeated(rows, mask.as_slice(), value),
+            Rows::Item(structs, place, constants) => {
+                let otherwise = constants.null();
+                write_with(
+                    rows,
+                    mask.as_slice(),
+                    |i| copied(item_row(otherwise, structs, place, i)),
+                )
+            }
             column => write_with(rows, mask.as_slice(), |i| copied(column.row(i))),
         }
     }
@@ -247,6 +266,14 @@ impl<'a> Rows<'a> {
                 count,
                 |i| Ok(truth_value(tests.truth(i))),
             ),
+            Rows::Item(structs, place, constants) => {
+                let (structs, place, otherwise) = (*structs, *place, constants.null());
+                made_behind(
+                    values,
+                    count,
+                    |i| copied(item_row(otherwise, structs, place, i)),
+                )
+            }
             rows => made_behind(values, count, |i| copied(rows.row(i))),
         }
     }

@@ -4,11 +4,13 @@ ghost use Rattle.vx_dtype.specs.declared.error.VortexError.TheVariants.{OutOfMem
 ghost use Rattle.vx_value.specs.Types.{Datum, null};
 ghost use Rattle.vx_value.specs.Views.{value_of};
 ghost use Rattle.vx_eval.specs.Columns.{rows_view, truth_datum, truth_of, each_row};
-ghost use Rattle.vx_eval.specs.Kernels.{TellsRows};
+ghost use Rattle.vx_fn.specs.Values.{is_true};
+ghost use Rattle.vx_eval.specs.Kernels.{TellsRows, TestsRows};
 
 use crate::constants::Constants;
 use crate::rows::Rows;
-use std::alloc::Global;
+use std::alloc::{AllocError, Global};
+use vx_eval_mask::RowMask;
 use vx_types::{Value, VortexResult};
 
 /// What the function tells of each row. Refuses with `OutOfMemory` (1) alone.
@@ -26,6 +28,22 @@ pub fn told<'a, F: Fn(usize) -> Option<bool>>(
         truths.push(f(i))?;
     }
     Ok(Rows::Truths(truths, Constants::new()))
+}
+
+/// The mask of the rows of which the function is true.
+pub fn mask_of<F: Fn(usize) -> bool>(
+    alloc: Global,
+    count: usize,
+    f: F,
+) -> Result<RowMask, AllocError>
+    requires { (i : ℕ) → i < count → F.pre f i }
+    ensures { (g : ℕ → Datum) → TestsRows (λ i b. F.post f i b) count g → IfOk result (λ mask. mask ≡ map is_true (each_row count g)) }
+{
+    let mut bits = Vec::with_capacity(alloc, count)?;
+    for i in 0..count {
+        bits.push(f(i))?;
+    }
+    Ok(RowMask::new(bits))
 }
 
 /// The truth value that a value is, if it is one.

@@ -12,7 +12,7 @@ returns c =
     let op = operation_of c.self.inside.operator in
     let d = value_of c.self.inside.value.now in
     let rows = values_of c.self.inside.rows.now in
-    c.compared.ensures
+    c.compared_by.ensures
     ∙ ap (λ x. binary_value op x d) c.item_row-item.ensures
     ∙ sym (told_at op c.self.inside.place d rows c.args.i (subst (λ ds. c.args.i < length ds) (sym c.self.view_is) c.requires.within))
     ∙ ap (λ ds. get_or ds c.args.i null) c.self.view_is

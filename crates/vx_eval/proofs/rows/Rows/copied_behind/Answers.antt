@@ -14,3 +14,7 @@ returns-in-Compared c =
 pub returns-in_default : goal.returns-in_default
 returns-in_default c =
     put_behind _ _ _ _ (all_rows (rows_view c.args.self.now) _ (sym c.len-count.ensures)) (c.made_behind-in_default.ensures _ (λ i v lt p. search rules))
+
+pub returns-in-Item : goal.returns-in-Item
+returns-in-Item c =
+    put_behind _ _ _ _ (all_rows (rows_view c.args.self.now) _ (sym c.len-count.ensures)) (c.made_behind-in-Item.ensures _ (λ i v lt p. search rules))

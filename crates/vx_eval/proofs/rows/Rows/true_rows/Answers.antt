@@ -1,7 +1,10 @@
-use Rattle.std.proofs.Common.{arith}
+use Rattle.std.proofs.Common.{rules}
 use Rattle.vx_eval.specs.Columns.{rows_view}
-use Rattle.vx_eval.proofs.Trues.{true_pushed}
+use Rattle.vx_eval.proofs.Trues.{true_among}
 use Rattle.vx_eval.proofs.rows.Rows.true_rows.Goals as goal
 
-pub loop-i-preserved : goal.loop-i-preserved
-loop-i-preserved c = true_pushed (rows_view c.args.self.now) c.loop-i.bits.items _ c.loop-i.i _ c.loop-i.invariant (omega (arith, c.requires)) c.is_true.ensures c.in_ok-push.ensures.items
+pub returns-in-Compared : goal.returns-in-Compared
+returns-in-Compared c = true_among (rows_view c.args.self.now) _ _ _ c.requires (search rules) (c.mask_of.ensures _ (λ i b lt p. search rules))
+
+pub returns-in_default : goal.returns-in_default
+returns-in_default c = true_among (rows_view c.args.self.now) _ _ _ c.requires (search rules) (c.mask_of-in_default.ensures _ (λ i b lt p. search rules))
