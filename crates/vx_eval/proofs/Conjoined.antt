@@ -65,13 +65,15 @@ pub conjoined_at : (n i : ℕ) (cs : List (List Datum)) → i < n → get_or (co
 conjoined_at n i cs lt = get_or-map-range_with_len (λ k. all_of (row_at cs k)) 0 n i i null lt (omega arith)
 
 pub have_there : (i m : ℕ) (cs : List (List Datum)) (c : List Datum) → HaveRow i cs → m < length cs → c ≡ get_or cs m c → i < length c
-have_there i m [] c have lt is = absurd (omega arith)
-have_there i zero (x ∷ cs) c have lt is = let same : length c ≡ length x = ap length is in omega (arith, same, have.0)
-have_there i (suc m) (x ∷ cs) c have lt is = have_there i m cs c have.1 (omega arith) is
+have_there i m cs c have lt is = let same : length c ≡ length (get_or cs m c) = ap length is in omega (arith, same, have m c lt)
+
+long_at : (n : ℕ) (cs : List (List Datum)) (j : ℕ) (d : List Datum) → AllLong n cs → j < length cs → length (get_or cs j d) ≡ n
+long_at n [] j d all h = absurd (omega arith)
+long_at n (c ∷ cs) zero d all h = all.0
+long_at n (c ∷ cs) (suc j) d all h = long_at n cs j d all.1 (omega arith)
 
 pub have_row : (n i : ℕ) (cs : List (List Datum)) → AllLong n cs → i < n → HaveRow i cs
-have_row n i [] all lt = tt
-have_row n i (c ∷ cs) all lt = (omega (arith, all.0, lt), have_row n i cs all.1 lt)
+have_row n i cs all lt = λ j d h. omega (arith, long_at n cs j d all h, lt)
 
 here_at : (i m : ℕ) (cs : List (List Datum)) (c : List Datum) → m < length cs → c ≡ get_or cs m c → get_or c i null ≡ get_or (row_at cs i) m null
 here_at i m [] c lt is = absurd (omega arith)

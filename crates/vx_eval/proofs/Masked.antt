@@ -17,7 +17,7 @@ use Rattle.vx_eval.specs.declared.rows.Rows.TheVariants.{Same}
 use Rattle.vx_eval.specs.Choices.{else_at, conditions_in, values_in, alone, truths, SameRows}
 use Rattle.vx_eval.specs.Columns.{values_of, rows_view, rows_views, row_at, each_row, AllLong}
 use Rattle.vx_eval.proofs.Filled.{each_same}
-use Rattle.vx_eval.proofs.Taking.{at_place, row_kept}
+use Rattle.vx_value.proofs.TakenRows.{at_place, row_kept}
 
 -- ---- rows that are given one by one
 
@@ -171,7 +171,7 @@ pub holds_in : (ms : List (List Bool)) (rs : List Rows) (cs : List (List Datum))
     r ≡ get_or rs j r → m ≡ get_or ms j m → HoldsIn m next (rows_view r) (merged_at ms cs null)
 holds_in ms rs cs next j r m apart pairs long same lt is beside = λ k from within on.
     let mask : get_or ms j [] ≡ m = at_any ms j m lt beside in
-    sym (at_place rs k j r (omega arith) is) ∙ ap (λ row. get_or row j null) (same k from) ∙ row_of cs j k (omega arith)
+    sym (at_place rows_view rs k j r (omega arith) is) ∙ ap (λ row. get_or row j null) (same k from) ∙ row_of cs j k (omega arith)
     ∙ sym (merged-at ms cs null j k apart long lt (ap (λ b. get_or b k false) mask ∙ on))
   where
     at_any : (l : List (List Bool)) (i : ℕ) (x : List Bool) → i < length l → x ≡ get_or l i x → get_or l i [] ≡ x
@@ -190,7 +190,7 @@ if_ok (Ok a) P Q f h = f a h
 if_ok (Err e) P Q f h = tt
 
 pub stretch_left : (rs : List Rows) (end j : ℕ) (r s : Rows) → j < length rs → r ≡ get_or rs j r → ((k : ℕ) → end ≤ k → get_or (rows_view s) k null ≡ get_or (rows_view r) k null) → SameRows end (rows_views rs) (rows_views (set rs j s))
-stretch_left rs end j r s lt is left = λ k h. row_kept rs k j r s lt is (left k h)
+stretch_left rs end j r s lt is left = λ k h. row_kept rows_view rs k j r s lt is (left k h)
 
 -- ---- over rows that are there
 

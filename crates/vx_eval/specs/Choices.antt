@@ -1,5 +1,6 @@
 -- Choices between columns.
 use Rattle.std.specs.Prelude.{◌≡◌, ℕ, ◌≤◌, List, [], ◌∷◌, map, length, get_or, Bool, Option, Some, None}
+use Rattle.std.specs.List.{AllByRecursion}
 use Rattle.vx_value.specs.Columns.{Batch}
 use Rattle.vx_value.specs.Fits.{IsBatch}
 use Rattle.vx_value.specs.Types.{LogicalType, Datum, null}
@@ -18,8 +19,7 @@ height (c ∷ cs) = length c.rows
 
 -- every row of each column is one of the type
 abbrev pub EachBatch : LogicalType → List (List Datum) → Type 0
-EachBatch t [] = Unit {0}
-EachBatch t (c ∷ cs) = IsBatch t c × EachBatch t cs
+EachBatch t cs = AllByRecursion (IsBatch t) cs
 
 -- the column's value at that row, null without a column
 abbrev pub else_at : Option (List Datum) → ℕ → Datum

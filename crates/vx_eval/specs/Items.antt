@@ -1,5 +1,7 @@
 -- Items of structs, and truth values told of them.
-use Rattle.std.specs.Prelude.{◌≡◌, ℕ, ◌<◌, List, [], ◌∷◌, map, length, Option, Some, None, zero, suc, Bool, true, false}
+use Rattle.std.specs.Prelude.{◌≡◌, ℕ, List, [], ◌∷◌, map, length, Option, Some, None, zero, suc, Bool, true, false}
+use Rattle.std.specs.List.{AllByRecursion}
+pub use Rattle.vx_value.specs.StructColumns.{HaveRow}
 use Rattle.vx_value.specs.Types.{Datum, null, bool, struct_of, Data, no_datum, datum}
 use Rattle.vx_fn.specs.Functions.{Operation, compares}
 use Rattle.vx_fn.specs.Values.{binary_value, kleene_and}
@@ -32,13 +34,7 @@ compared_items op k d vs = map (λ v. binary_value op (item_at k v) d) vs
 
 -- each column has n values
 abbrev pub AllLong : ℕ → List (List Datum) → Type 0
-AllLong n [] = Unit {0}
-AllLong n (c ∷ cs) = (length c ≡ n) × AllLong n cs
-
--- each column has a row of that index
-abbrev pub HaveRow : ℕ → List (List Datum) → Type 0
-HaveRow i [] = Unit {0}
-HaveRow i (c ∷ cs) = (i < length c) × HaveRow i cs
+AllLong n cs = AllByRecursion (λ c. length c ≡ n) cs
 
 -- the And of all of them, and true of none
 abbrev pub all_of : List Datum → Datum

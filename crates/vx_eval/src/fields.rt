@@ -1,5 +1,5 @@
 // Structs: their fields, and structs of columns.
-ghost use Rattle.std.specs.Prelude.{◌≡◌, ◌≢◌, ◌<◌, ℕ, Bool, true, is_some, length, get_or, map, List, [], ◌∷◌, IsOk, IfOk, IfErr, Ok, None};
+ghost use Rattle.std.specs.Prelude.{◌≡◌, ◌<◌, Bool, true, is_some, length, get_or, map, List, [], ◌∷◌, IsOk, IfOk, IfErr, Ok, None};
 ghost use Rattle.vx_dtype.specs.Answers.{Answers};
 ghost use Rattle.vx_value.specs.Fields.{data_of, field_type, field_value, first_unknown, project_values};
 ghost use Rattle.vx_value.specs.Types.{Name, LogicalType, Datum, Data, null, struct_of};
@@ -8,15 +8,16 @@ ghost use Rattle.vx_dtype.specs.declared.error.VortexError.TheVariants.{OutOfMem
 ghost use Rattle.vx_fn.specs.Functions.{item_type, select_type, selection_names, included};
 ghost use Rattle.vx_fn.specs.Functions as functions;
 ghost use Rattle.vx_fn.specs.Values.{item_value, select_value};
-ghost use Rattle.vx_eval.specs.Columns.{values_of, rows_view, rows_views, row_at, AllLong, HaveRow, Evaluates, datum_at, item_at};
+ghost use Rattle.vx_eval.specs.Columns.{values_of, rows_view, rows_views, row_at, AllLong, Evaluates, datum_at, item_at};
 ghost use Rattle.vx_eval.specs.Kernels.{items_at};
 
 use crate::constants::Constants;
 use crate::filling::{overwritten, tabulated};
-use crate::rows::{Rows, copied, take_at};
+use crate::rows::{Rows, copied};
 use std::alloc::{AllocError, Global};
 use vx_fn::FieldSelection;
 use vx_types::{DType, FieldName, FieldNames, StructFields, Value, VortexResult};
+use vx_value::take_row;
 
 /// The first field of that name of each struct: lent by structs that are lent, moved out of those
 /// that are owned, and copied out of items that are lent. Refuses with `OutOfMemory` (1) alone.
@@ -163,16 +164,10 @@ fn included(
     selection: &FieldSelection,
     fields: &StructFields,
 ) -> VortexResult<FieldNames>
-    requires { first_unknown (selection_names selection.now) (fields_of fields.now) ≡ None }
     ensures { Answers (λ names. names) result (Ok (included selection.now (fields_of fields.now))) }
 {
-    match selection {
-        FieldSelection::Include(names) => Ok(names.clone()?),
-        FieldSelection::Exclude(names) => {
-            let kept = fields.without(alloc, names)?;
-            Ok(kept.names().clone()?)
-        }
-    }
+    let names = &fields.names().as_slice()[..fields.nfields()];
+    selection.kept(alloc, names)
 }
 
 // Where the first field of each of the names stands. Asks for such fields.
@@ -220,18 +215,4 @@ pub fn pack<'a>(alloc: Global, count: usize, mut columns: Vec<Rows<'a>>) -> Vort
         structs.push(take_row(alloc, &mut columns, i)?)?;
     }
     Ok(Rows::Owned(structs))
-}
-
-// The struct of the columns' values in that row.
-fn take_row(alloc: Global, columns: &mut Vec<Rows>, i: usize) -> Result<Value, AllocError>
-    requires { HaveRow i (rows_views columns.old.items) }
-    ensures value { IfOk result (λ v. value_of v ≡ struct_of (data_of (row_at (rows_views columns.old.items) i))) }
-    ensures others { (k : ℕ) → k ≢ i → row_at (rows_views columns.new.items) k ≡ row_at (rows_views columns.old.items) k }
-    ensures long { map length (rows_views columns.new.items) ≡ map length (rows_views columns.old.items) }
-{
-    let mut items = Vec::with_capacity(alloc, columns.len())?;
-    for place in 0..columns.len() {
-        items.push(take_at(columns, place, i)?)?;
-    }
-    Ok(Value::Struct(items))
 }

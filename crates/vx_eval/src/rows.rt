@@ -20,6 +20,7 @@ use vx_eval_merge::{
     Merging, push_moved, push_repeated, push_with, write_moved, write_repeated, write_with,
 };
 use vx_types::{Column, Value, VortexResult};
+use vx_value::TakeRow;
 
 /// The values of a column, row by row: lent, or its own to move.
 #[derive(Drop)]
@@ -88,20 +89,6 @@ impl<'a> Rows<'a> {
         ensures { result ≡ values.is_true (get_or (rows_view self.now) i null) }
     {
         matches!(self.truth(i), Some(true))
-    }
-
-    /// The value of that row, moved out where it is owned and copied where it is lent; the other
-    /// rows stay. Asks an index below the number of rows.
-    pub fn take(&mut self, i: usize) -> Result<Value, AllocError>
-        requires { i < length (rows_view self.old) }
-        ensures value { IfOk result (λ v. value_of v ≡ get_or (rows_view self.old) i null) }
-        ensures others { (k : ℕ) → k ≢ i → get_or (rows_view self.new) k null ≡ get_or (rows_view self.old) k null }
-        ensures long { length (rows_view self.new) ≡ length (rows_view self.old) }
-    {
-        match self {
-            Rows::Owned(values) => Ok(std::mem::replace(&mut values[i], Value::Null)),
-            _ => copied(self.row(i)),
-        }
     }
 
     /// The mask of those rows of another one whose value is true; the others are passed over. Asks a
@@ -294,6 +281,18 @@ impl<'a> Rows<'a> {
     }
 }
 
+/// Values that are owned are moved out, others copied.
+impl TakeRow for Rows<'_> {
+    ghost rows = { rows_view };
+
+    fn take(&mut self, i: usize) -> Result<Value, AllocError> {
+        match self {
+            Rows::Owned(values) => Ok(std::mem::replace(&mut values[i], Value::Null)),
+            _ => copied(self.row(i)),
+        }
+    }
+}
+
 // The value of that row.
 #[inline(always)]
 fn value_at(values: &[Value], i: usize) -> &Value
@@ -322,17 +321,4 @@ pub fn copied(value: &Value) -> Result<Value, AllocError>
         Value::Int(z) => Ok(Value::Int(*z)),
         _ => value.clone(),
     }
-}
-
-/// The value of that row of that column, moved out of it where it is owned; what stands elsewhere
-/// stays. Asks a column that is there, and a row that each column has.
-pub fn take_at(columns: &mut Vec<Rows>, place: usize, i: usize) -> Result<Value, AllocError>
-    requires within { place < length columns.old.items }
-    requires row { HaveRow i (rows_views columns.old.items) }
-    ensures value { IfOk result (λ v. value_of v ≡ get_or (row_at (rows_views columns.old.items) i) place null) }
-    ensures rest { (m : ℕ) → m ≢ place → get_or (row_at (rows_views columns.new.items) i) m null ≡ get_or (row_at (rows_views columns.old.items) i) m null }
-    ensures others { (k : ℕ) → k ≢ i → row_at (rows_views columns.new.items) k ≡ row_at (rows_views columns.old.items) k }
-    ensures long { map length (rows_views columns.new.items) ≡ map length (rows_views columns.old.items) }
-{
-    columns[place].take(i)
 }

@@ -5,7 +5,7 @@ use Rattle.vx_value.specs.Types.{Name}
 use Rattle.vx_value.specs.Views.{fields_of}
 use Rattle.vx_eval.specs.Columns.{datum_at}
 use Rattle.vx_eval.proofs.Structs.{known_at, projected_at, mapped_more}
-use Rattle.vx_eval.proofs.Taking.{whole}
+use Rattle.std.proofs.lemmas.List.{take_all}
 use Rattle.vx_eval.proofs.fields.field_places.Goals as goal
 
 pub field_place-requires : goal.field_place-requires
@@ -24,4 +24,4 @@ pub returns-clause-places : goal.returns-clause-places
 returns-clause-places c = λ vs.
     let f = λ (a : Name). field_value a (fields_of c.args.fields.now) vs in
     projected_at c.args.names.now (fields_of c.args.fields.now) vs
-    ∙ ap data_of (sym (c.loop-i.invariant vs ∙ ap (map f) (whole c.as_slice-names.result.now c.loop-i.i (omega arith) ∙ c.as_slice-names.ensures)))
+    ∙ ap data_of (sym (c.loop-i.invariant vs ∙ ap (map f) (take_all c.loop-i.i c.as_slice-names.result.now (omega arith) ∙ c.as_slice-names.ensures)))

@@ -5,11 +5,12 @@ use Rattle.vx_value.specs.Types.{struct_of}
 use Rattle.vx_fn.specs.Functions.{pack}
 use Rattle.vx_eval.specs.Columns.{rows_views, row_at, each_row}
 use Rattle.vx_eval.proofs.Filled.{row_pushed, given}
-use Rattle.vx_eval.proofs.Taking.{row_still, row_within}
+use Rattle.vx_value.proofs.TakenRows.{row_still}
+use Rattle.vx_eval.proofs.Conjoined.{have_row}
 use Rattle.vx_eval.proofs.fields.pack.Goals as goal
 
 pub take_row-requires : goal.take_row-requires
-take_row-requires c = row_still _ _ _ c.loop-i.invariant.long (row_within c.args.count _ _ c.requires (omega arith))
+take_row-requires c = row_still _ _ _ c.loop-i.invariant.long (have_row c.args.count _ _ c.requires (omega arith))
 
 pub loop-i-preserved : goal.loop-i-preserved
 loop-i-preserved c = record {

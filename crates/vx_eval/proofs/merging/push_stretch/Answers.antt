@@ -6,7 +6,8 @@ use Rattle.vx_eval_merge.specs.Merges.{merged_at}
 use Rattle.vx_eval_merge.proofs.Apart.{merged-none}
 use Rattle.vx_eval.proofs.Filled.{row_pushed}
 use Rattle.vx_eval.proofs.Structs.{value_of-Null}
-use Rattle.vx_eval.proofs.Taking.{lengths_kept}
+use Rattle.vx_value.proofs.TakenRows.{lengths_kept}
+use Rattle.vx_eval.specs.Columns.{rows_view}
 use Rattle.vx_eval.proofs.Masked.{columns_at, mask_long, mask_beside, holds_in, if_ok, stretch_left}
 use Rattle.vx_eval.proofs.merging.push_stretch.Goals as goal
 
@@ -46,7 +47,7 @@ pub returns-in-Some-clause-long : goal.returns-in-Some-clause-long
 returns-in-Some-clause-long c =
     let within : c.in-Some.place < length c.args.masks.now = c.in-Some.ensures.0 in
     let pairs : length c.args.values.now.items ≡ length c.args.masks.now = c.requires.pairs in
-    if_ok c.push_rows.result _ _ (λ end long. lengths_kept _ c.in-Some.place _ _ (omega arith) c.index_mut.ensures.value long) c.push_rows.ensures.long
+    if_ok c.push_rows.result _ _ (λ end long. lengths_kept rows_view _ c.in-Some.place _ _ (omega arith) c.index_mut.ensures.value long) c.push_rows.ensures.long
 
 pub returns-in_ok-push-in-None-clause-rows : goal.returns-in_ok-push-in-None-clause-rows
 returns-in_ok-push-in-None-clause-rows c = λ cs long same so_far.

@@ -1,5 +1,5 @@
-use Rattle.vx_eval.proofs.Taking.{others_stay}
-use Rattle.vx_eval.proofs.rows.Rows.take.Goals as goal
+use Rattle.vx_value.proofs.TakenRows.{others_stay}
+use Rattle.vx_eval.proofs.rows.RowsTakeRow.take.Goals as goal
 
 pub returns-in-Owned-clause-others : goal.returns-in-Owned-clause-others
 returns-in-Owned-clause-others c = λ k apart. rw c.in-Owned.is (others_stay _ _ k _ apart)
