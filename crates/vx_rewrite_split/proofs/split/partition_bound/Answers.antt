@@ -1,12 +1,26 @@
+use Rattle.std.proofs.lemmas.Result.{IfOk-weaker}
 use Rattle.vx_tree.specs.Views.{bound_of}
+use Rattle.vx_rewrite_split.specs.Gathered.{gathered_map}
+use Rattle.vx_rewrite_split.specs.Splitting.{IsAnnotatedBy}
+use Rattle.vx_rewrite_split.proofs.Gathered.{gathered-annotated}
 use Rattle.vx_rewrite_split.proofs.Mapped.{taken_after, earlier}
 use Rattle.vx_rewrite_split.proofs.split.partition_bound.Goals as goal
 
 pub returns-in-Err-clause-refusal : goal.returns-in-Err-clause-refusal
 returns-in-Err-clause-refusal g c = earlier c.in-Err.ensures.refusal
 
+pub returns-in-Ok-clause-split : goal.returns-in-Ok-clause-split
+returns-in-Ok-clause-split g c =
+    let eq = g.A.PartialEq.eq in
+    let nodes = c.in-Ok.nodes in
+    let m = gathered_map eq nodes in
+    let given : IsAnnotatedBy eq (λ x r. goal.F-post g c.args.annotate x r) (bound_of c.args.e) m = gathered-annotated eq g.A.Eq.laws nodes _ (bound_of c.args.e) c.in-Ok.ensures.nodes c.in-Ok.ensures.answers in
+    IfOk-weaker c.split_by_numbers.result _ _ (λ p split. (m, given, split)) c.split_by_numbers.ensures.split
+
 pub returns-in-Ok-clause-first : goal.returns-in-Ok-clause-first
 returns-in-Ok-clause-first g c =
-    let m = c.in-Ok.annotations in
-    taken_after g.A.PartialEq.eq g.A.PartitionKey.name _ (bound_of c.args.e) c.partition_bound_annotations.result (λ p. p.partition_names) m _ _
-    (λ answers alike. (c.in-Ok.ensures.nodes answers alike, c.in-Ok.ensures.annotations answers alike)) c.in-Ok.ensures.unrefused c.partition_bound_annotations.ensures.names
+    let eq = g.A.PartialEq.eq in
+    let nodes = c.in-Ok.nodes in
+    let m = gathered_map eq nodes in
+    let given : IsAnnotatedBy eq (λ x r. goal.F-post g c.args.annotate x r) (bound_of c.args.e) m = gathered-annotated eq g.A.Eq.laws nodes _ (bound_of c.args.e) c.in-Ok.ensures.nodes c.in-Ok.ensures.answers in
+    taken_after eq g.A.PartitionKey.name _ (bound_of c.args.e) c.split_by_numbers.result (λ p. p.partition_names) m _ _ given c.in-Ok.ensures.unrefused c.split_by_numbers.ensures.names
