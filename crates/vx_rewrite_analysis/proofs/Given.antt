@@ -5,13 +5,36 @@ use Rattle.std.specs.Option.{option_map}
 use Rattle.indexmap.specs.Layout.{hash_map}
 use Rattle.vx_tree.specs.Equality.{equal_bound, equal_bound-Decides, equal_bound_equiv}
 use Rattle.vx_tree.specs.Trees.{BoundTree, no_bound, bound}
-use Rattle.vx_rewrite_analysis.specs.Answered.{own_given, own_entries, tree_of, trees_of, given_by, map_of_given}
+use Rattle.vx_rewrite_analysis.specs.Answered.{own_given, own_entries, tree_of, trees_of, given_by, hasher_in, map_of_given}
 use Rattle.vx_rewrite_analysis.specs.ByNumber.{has_some, HasEach}
 use Rattle.vx_rewrite_analysis.specs.Keys.{entry_at}
 use Rattle.vx_rewrite_analysis.specs.Numbers.{node_tree, tree_at, HasOneNumberEach}
 use Rattle.vx_rewrite_analysis.specs.declared.answered.AnsweredNodes.{AnsweredNodes}
 use Rattle.vx_rewrite_analysis.specs.declared.numbers.NumberedNode.{NumberedNode}
 use Rattle.vx_rewrite_analysis.proofs.Numbering.{trees-next, trees-end}
+
+-- ---- numbers
+
+-- trees of two numbers differ
+apart : (ns : List NumberedNode) → HasOneNumberEach ns → (i j : ℕ) → i < length ns → j < length ns → i ≢ j → equal_bound (tree_at ns i) (tree_at ns j) ≡ false
+apart ns one i j h k differ = cases (equal_bound (tree_at ns i) (tree_at ns j)) refl
+  where
+    cases : (same : Bool) → equal_bound (tree_at ns i) (tree_at ns j) ≡ same → same ≡ false
+    cases true e = absurd (differ (one i j h k ((equal_bound-Decides (tree_at ns i) (tree_at ns j)).0 e)))
+    cases false e = refl
+
+one-fewer : (n : NumberedNode) (ns : List NumberedNode) → HasOneNumberEach (n ∷ ns) → HasOneNumberEach ns
+one-fewer n ns one i j h k same =
+    let e : suc i ≡ suc j = one (suc i) (suc j) (omega (arith, h)) (omega (arith, k)) same in
+    omega (arith, e)
+
+no-suc : (i : ℕ) → suc i ≢ 0
+no-suc i e = absurd (omega (arith, e))
+
+no-zero : (i : ℕ) → 0 ≢ suc i
+no-zero i e = absurd (omega (arith, e))
+
+-- ---- what is given
 
 module _ {A Z : Type 0} where
   -- something is given where a number of the tree has something
@@ -23,11 +46,11 @@ module _ {A Z : Type 0} where
       nothing : (same rest : Bool) → rest ≡ ((same && false) || rest)
       nothing true rest = refl
       nothing false rest = refl
-  given-some b (n ∷ ns) (Some own ∷ xs) = chosen (equal_bound b (node_tree n))
+  given-some b (n ∷ ns) (Some own ∷ xs) = chosen (given-some b ns xs) (equal_bound b (node_tree n))
     where
-      chosen : (same : Bool) → is_some (cond same (Some own.items) (own_given b ns xs)) ≡ ((same && true) || has_some b ns xs)
-      chosen true = refl
-      chosen false = given-some b ns xs
+      chosen : is_some (own_given b ns xs) ≡ has_some b ns xs → (same : Bool) → is_some (cond same (Some own.items) (own_given b ns xs)) ≡ ((same && true) || has_some b ns xs)
+      chosen rest true = refl
+      chosen rest false = rest
 
   -- what is given at a tree is as P says of what the tree's number has
   pub given-each : (P : BoundTree → Vec A Z → Type 0) (ns : List NumberedNode) (xs : List (Option (Vec A Z))) → HasEach P ns xs → (b : BoundTree) (own : List A) → own_given b ns xs ≡ Some own
@@ -35,32 +58,12 @@ module _ {A Z : Type 0} where
   given-each P [] xs each b own is = cc
   given-each P (n ∷ ns) [] each b own is = cc
   given-each P (n ∷ ns) (None ∷ xs) each b own is = given-each P ns xs (λ i v has. each (suc i) v has) b own is
-  given-each P (n ∷ ns) (Some v ∷ xs) each b own is = cases (equal_bound b (node_tree n)) refl is
+  given-each P (n ∷ ns) (Some v ∷ xs) each b own is = cases (given-each P ns xs (λ i w there. each (suc i) w there) b own) (equal_bound b (node_tree n)) refl is
     where
-      cases : (same : Bool) → equal_bound b (node_tree n) ≡ same → cond same (Some v.items) (own_given b ns xs) ≡ Some own → (v : Vec A Z) × (v.items ≡ own) × P b v
-      cases true e has = (v, cc, subst (λ t. P t v) (sym ((equal_bound-Decides b (node_tree n)).0 e)) (each 0 v refl))
-      cases false e has = given-each P ns xs (λ i w there. each (suc i) w there) b own has
-
-  -- ---- by number
-
-  -- trees of two numbers differ
-  apart : (ns : List NumberedNode) → HasOneNumberEach ns → (i j : ℕ) → i < length ns → j < length ns → i ≢ j → equal_bound (tree_at ns i) (tree_at ns j) ≡ false
-  apart ns one i j h k differ = cases (equal_bound (tree_at ns i) (tree_at ns j)) refl
-    where
-      cases : (same : Bool) → equal_bound (tree_at ns i) (tree_at ns j) ≡ same → same ≡ false
-      cases true e = absurd (differ (one i j h k ((equal_bound-Decides (tree_at ns i) (tree_at ns j)).0 e)))
-      cases false e = refl
-
-  one-fewer : (n : NumberedNode) (ns : List NumberedNode) → HasOneNumberEach (n ∷ ns) → HasOneNumberEach ns
-  one-fewer n ns one i j h k same =
-      let e : suc i ≡ suc j = one (suc i) (suc j) (omega (arith, h)) (omega (arith, k)) same in
-      omega (arith, e)
-
-  no-suc : (i : ℕ) → suc i ≢ 0
-  no-suc i e = absurd (omega (arith, e))
-
-  no-zero : (i : ℕ) → 0 ≢ suc i
-  no-zero i e = absurd (omega (arith, e))
+      cases : (own_given b ns xs ≡ Some own → (w : Vec A Z) × (w.items ≡ own) × P b w) → (same : Bool) → equal_bound b (node_tree n) ≡ same → cond same (Some v.items) (own_given b ns xs) ≡ Some own
+          → (w : Vec A Z) × (w.items ≡ own) × P b w
+      cases rest true e has = (v, cc, subst (λ t. P t v) (sym ((equal_bound-Decides b (node_tree n)).0 e)) (each 0 v refl))
+      cases rest false e has = rest has
 
   absent : (b : BoundTree) (ns : List NumberedNode) (xs : List (Option (Vec A Z))) → ((j : ℕ) → j < length ns → equal_bound b (tree_at ns j) ≡ false) → own_given b ns xs ≡ None
   absent b [] xs h = refl
@@ -87,16 +90,16 @@ module _ {A Z : Type 0} where
   entry-given value s b [] xs = refl
   entry-given value s b (n ∷ ns) [] = refl
   entry-given value s b (n ∷ ns) (None ∷ xs) = entry-given value s b ns xs
-  entry-given value s b (n ∷ ns) (Some own ∷ xs) = cases (equal_bound b (node_tree n)) refl
+  entry-given value s b (n ∷ ns) (Some own ∷ xs) = cases (entry-given value s b ns xs) (equal_bound b (node_tree n)) refl
     where
-      cases : (same : Bool) → equal_bound b (node_tree n) ≡ same
+      cases : entry_at b (hash_map (own_entries value ns xs) s 0) ≡ option_map (λ own. value b) (own_given b ns xs) → (same : Bool) → equal_bound b (node_tree n) ≡ same
           → cond same (Some (value (node_tree n))) (entry_at b (hash_map (own_entries value ns xs) s 0)) ≡ option_map (λ own. value b) (cond same (Some own.items) (own_given b ns xs))
-      cases true e = ap (λ t. Some (value t)) (sym ((equal_bound-Decides b (node_tree n)).0 e))
-      cases false e = entry-given value s b ns xs
+      cases rest true e = ap (λ t. Some (value t)) (sym ((equal_bound-Decides b (node_tree n)).0 e))
+      cases rest false e = rest
 
 -- the map has an entry where something is given
 pub entry-of-given : {A X : Type 0} (value : BoundTree → X) (a : AnsweredNodes A) (b : BoundTree) → entry_at b (map_of_given value a) ≡ option_map (λ own. value b) (given_by a b)
-entry-of-given value a b = entry-given value _ b a.nodes.keys a.answers.items
+entry-of-given value a b = entry-given value (hasher_in a) b a.nodes.keys a.answers.items
 
 -- ---- the trees of numbers
 

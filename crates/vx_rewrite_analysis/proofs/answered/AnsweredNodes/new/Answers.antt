@@ -15,7 +15,7 @@ own_answers-requires-clause-numbered g c = subst IsNumbered (sym c.as_slice.ensu
 
 pub own_answers-requires-clause-callable : goal.own_answers-requires-clause-callable
 own_answers-requires-clause-callable g c =
-    λ x there. c.requires x (node-numbered (bound_of c.args.e.now) (bound_of x.now) _ _ _ c.as_slice.ensures.keys c.new.ensures.empty (c.in_ok-root.ensures.nodes (bound_of x.now)) there)
+    λ x there. c.requires x (node-numbered (bound_of c.args.e.now) (bound_of x.now) _ _ _ c.as_slice.ensures.keys c.new-nodes.ensures.empty (c.in_ok-root.ensures.nodes (bound_of x.now)) there)
 
 pub returns-in_err-answers-clause-refusal : goal.returns-in_err-answers-clause-refusal
 returns-in_err-answers-clause-refusal g c =
@@ -24,7 +24,7 @@ returns-in_err-answers-clause-refusal g c =
       | inl spent ↦ inl spent
       | inr asked ↦
           let at = bound_of asked.0.now in
-          inr (asked.0, node-numbered (bound_of c.args.e.now) at _ _ _ c.as_slice.ensures.keys c.new.ensures.empty (c.in_ok-root.ensures.nodes at) asked.1, asked.2)
+          inr (asked.0, node-numbered (bound_of c.args.e.now) at _ _ _ c.as_slice.ensures.keys c.new-nodes.ensures.empty (c.in_ok-root.ensures.nodes at) asked.1, asked.2)
     ])
 
 pub returns-clause-numbered : goal.returns-clause-numbered
