@@ -28,7 +28,7 @@ use Rattle.vx_rewrite_split.specs.Gathered.{answers_or, gathered, gathered_in, f
 use Rattle.vx_rewrite_split.specs.Only.{only_annotation, only_key}
 use Rattle.vx_rewrite_split.specs.Splitting.{IsAnnotatedBy}
 use Rattle.vx_rewrite_split.specs.declared.found.Found.{Found}
-use Rattle.vx_rewrite_split.proofs.Found.{set-has, set-alone, set-once}
+use Rattle.vx_rewrite_split.proofs.Alone.{set-has, set-alone, set-once}
 
 pub gathered-children : {A : Type 0} (given : BoundTree → Option (List A)) (b : BoundTree) → gathered given b ≡ answers_or (given b) (gathered_in given (bound_children_of b))
 gathered-children given (scope t) = refl
@@ -38,7 +38,7 @@ gathered-children given (node t f bs) = refl
 
 module _ {A : Type 0} (eq : A → A → Bool) (q : IsEquivalence eq) (given : BoundTree → Option (List A)) (answers : BoundTree → List A) (root : BoundTree)
     (reached : (b : BoundTree) → is_some (given b) ≡ is_reached (answered answers) b root) (same : (b : BoundTree) (own : List A) → given b ≡ Some own → SameAnnotations eq own (answers b)) where
-  stops : BoundTree → Bool
+  abbrev stops : BoundTree → Bool
   stops b = answered answers b
 
   -- a node with answers
@@ -80,12 +80,13 @@ module _ {A : Type 0} (eq : A → A → Bool) (q : IsEquivalence eq) (given : Bo
         cases None e h = cc
         cases (Some []) e h = none-gathered (scope t) a e refl
         cases (Some (x ∷ own)) e h = some-gathered (scope t) a x own e
-    gathered-is (node t f bs) there a = cases (given (node t f bs)) refl there
+    gathered-is (node t f bs) there a = cases (λ e. gathered-in-is bs (given-below t f bs e) a) (given (node t f bs)) refl there
       where
-        cases : (o : Option (List A)) → given (node t f bs) ≡ o → is_some o ≡ true → list_any (eq a) (gathered given (node t f bs)) ≡ is_annotation eq answers a (node t f bs)
-        cases None e h = cc
-        cases (Some []) e h = none-gathered (node t f bs) a e (gathered-in-is bs (given-below t f bs e) a)
-        cases (Some (x ∷ own)) e h = some-gathered (node t f bs) a x own e
+        cases : (given (node t f bs) ≡ Some [] → list_any (eq a) (gathered_in given bs) ≡ is_annotation_in eq answers a bs) → (o : Option (List A)) → given (node t f bs) ≡ o → is_some o ≡ true
+            → list_any (eq a) (gathered given (node t f bs)) ≡ is_annotation eq answers a (node t f bs)
+        cases below None e h = cc
+        cases below (Some []) e h = none-gathered (node t f bs) a e (below e)
+        cases below (Some (x ∷ own)) e h = some-gathered (node t f bs) a x own e
 
     gathered-in-is : (bs : BoundTrees) → ((c : BoundTree) → is_reached_in stops c bs ≡ true → is_some (given c) ≡ true) → (a : A) → list_any (eq a) (gathered_in given bs) ≡ is_annotation_in eq answers a bs
     gathered-in-is no_bound all a = refl
@@ -97,13 +98,14 @@ module _ {A : Type 0} (eq : A → A → Bool) (q : IsEquivalence eq) (given : Bo
 -- ---- the map
 
 module _ {A : Type 0} (eq : A → A → Bool) (q : IsEquivalence eq) (nodes : AnsweredNodes A) where
+  -- what the map has at a node that is reached
+  abbrev value : BoundTree → HashSet A (BuildHasherDefault FoldHasher)
+  value c = set_of eq (hasher_in nodes) (gathered (given_by nodes) c)
+
   -- the map has a node's annotation alone where the node has
   only-gathered : (b : BoundTree) → only_annotation (gathered_map eq nodes) b ≡ alone (found_at eq nodes b)
   only-gathered b = ap only_key (entry-of-given value nodes b) ∙ cases (given_by nodes b) refl
     where
-      value : BoundTree → HashSet A (BuildHasherDefault FoldHasher)
-      value c = set_of eq (hasher_in nodes) (gathered (given_by nodes) c)
-
       cases : (o : Option (List A)) → given_by nodes b ≡ o → only_key (option_map (λ own. value b) o) ≡ alone (found_at eq nodes b)
       cases None e = sym (ap (λ l. alone (found_of eq l)) (gathered-children (given_by nodes) b ∙ ap (λ o. answers_or o (gathered_in (given_by nodes) (bound_children_of b))) e))
       cases (Some own) e = set-alone eq q (hasher_in nodes) (gathered (given_by nodes) b)
@@ -125,9 +127,6 @@ module _ {A : Type 0} (eq : A → A → Bool) (q : IsEquivalence eq) (nodes : An
     ),
   )
     where
-      value : BoundTree → HashSet A (BuildHasherDefault FoldHasher)
-      value c = set_of eq (hasher_in nodes) (gathered (given_by nodes) c)
-
       mapped : (b : BoundTree) (o : Option (List A)) → is_some (option_map (λ own. value b) o) ≡ is_some o
       mapped b None = refl
       mapped b (Some own) = refl

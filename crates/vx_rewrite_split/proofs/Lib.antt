@@ -1,7 +1,7 @@
+pub mod Alone
 pub mod Collecting
 pub mod Filling
 pub mod Finding
-pub mod Found
 pub mod FreeNames
 pub mod Gathered
 pub mod Grouping

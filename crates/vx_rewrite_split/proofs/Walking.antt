@@ -16,7 +16,7 @@ use Rattle.vx_rewrite_split.specs.Gathered.{answers_or, gathered, gathered_in, f
 use Rattle.vx_rewrite_split.specs.Only.{annotations_met, annotations_met_in}
 use Rattle.vx_rewrite_split.specs.declared.found.Found.{Found}
 use Rattle.vx_rewrite_split.specs.declared.found.Found.TheVariants.{Nothing}
-use Rattle.vx_rewrite_split.proofs.Found.{found-append}
+use Rattle.vx_rewrite_split.proofs.Alone.{found-append}
 use Rattle.vx_rewrite_split.proofs.Gathered.{gathered-children}
 use Rattle.vx_rewrite_split.proofs.Meeting.{copied_put}
 
@@ -27,7 +27,7 @@ take-all (x ∷ xs) zero h = absurd (omega (arith, h))
 take-all (x ∷ xs) (suc i) h = ap (λ l. x ∷ l) (take-all xs i (omega (arith, h)))
 
 module _ {A : Type 0} (nodes : AnsweredNodes A) where
-  below : List ℕ → List A
+  abbrev below : List ℕ → List A
   below ks = gathered_in (given_by nodes) (trees_of nodes ks)
 
   below-append : (xs ys : List ℕ) → below (xs ++ ys) ≡ below xs ++ below ys

@@ -41,4 +41,4 @@ module _ {A : Type 0} where
 
     -- the set of a list
     abbrev pub set_of : {S : Type 0} → S → List A → HashSet A S
-    set_of s xs = key_set (hash_map (map (λ a. (a, tt)) (distinct xs)) s 0)
+    set_of s xs = key_set (hash_map (map (λ a. (a, tt {0})) (distinct xs)) s 0)

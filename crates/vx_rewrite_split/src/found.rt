@@ -16,16 +16,13 @@ pub(crate) enum Found<T> {
 
 // What the two have together.
 pub(crate) fn joined<'a, A: Eq>(left: Found<&'a A>, right: Found<&'a A>) -> Found<&'a A>
-    ensures { found_copied result ≡ joined A.eq (found_copied left) (found_copied right) }
+    ensures { found_copied result ≡ joined A.eq (found_copied left.entry) (found_copied right.entry) }
 {
-    match left {
-        Found::Nothing => right,
-        Found::One(a) => match right {
-            Found::Nothing => left,
-            Found::One(b) => { if *a == *b { left } else { Found::Several } }
-            Found::Several => Found::Several,
-        },
-        Found::Several => Found::Several,
+    match (left, right) {
+        (Found::Nothing, other) => other,
+        (one, Found::Nothing) => one,
+        (Found::One(a), Found::One(b)) if *a == *b => left,
+        _ => Found::Several,
     }
 }
 
@@ -42,7 +39,7 @@ pub(crate) fn found_in<A: Eq>(annotations: &[A]) -> Found<&A>
 
 // The annotation, if it is alone.
 pub(crate) fn alone<'a, A>(found: Found<&'a A>) -> Option<&'a A>
-    ensures { option_copied result ≡ alone (found_copied found) }
+    ensures { option_copied result ≡ alone (found_copied found.entry) }
 {
     match found {
         Found::One(annotation) => Some(annotation),

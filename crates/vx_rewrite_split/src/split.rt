@@ -58,18 +58,35 @@ pub fn partition_bound<
         ⊎ ((first_refusal said (bound_of e) ≡ None) × IsTakenBySome A.eq A.name (F.post annotate) (bound_of e) y)) }
     ensures unrefused { OnOk result ((said : _) → SaysBy A.eq (F.post annotate) said → first_refusal said (bound_of e) ≡ None) }
 {
-    // Trees are let go of by `drop`: in place that takes the proof far longer.
-    match AnsweredNodes::new(alloc, &e, &annotate) {
+    // By `drop`: to let go of a tree in place takes the proof far longer.
+    let split = split_by_closure(alloc, &e, &annotate);
+    drop(e);
+    split
+}
+
+// The tree split by what the closure annotates its nodes with.
+fn split_by_closure<A: PartitionKey + Drop, F: Fn(&BoundExpression) -> VortexResult<Vec<A>>>(
+    alloc: Global,
+    e: &BoundExpression,
+    annotate: &F,
+) -> VortexResult<BoundPartitionedExpr<A>>
+    requires callable { (x : _) → IsNodeOf (bound_of x.now) (bound_of e.now) → F.pre annotate.now x }
+    requires well_typed { WellTyped (bound_of e.now) }
+    ensures split { IfOk result (λ p. (m : AnnotationMap A) × IsAnnotatedBy A.eq (F.post annotate.now) (bound_of e.now) m
+        × IsSplitBy A.eq A.text A.name m (bound_of e.now) p.partition_names (bounds_of p.partitions.items) p.partition_annotations.items (bound_of p.root)) }
+    ensures counts { IfOk result (λ p. EquallyMany p.partition_names p.partition_annotations.items p.partitions.items) }
+    ensures refusal { IfErr result (λ y. (y ≡ OutOfMemory) ⊎ ((x : _) × IsNodeOf (bound_of x.now) (bound_of e.now) × F.post annotate.now x (Err y)) ⊎ IsTakenBySome A.eq A.name (F.post annotate.now) (bound_of e.now) y) }
+    ensures first { IfErr result (λ y. (said : _) → SaysBy A.eq (F.post annotate.now) said → (y ≡ OutOfMemory) ⊎ (first_refusal said (bound_of e.now) ≡ Some y)
+        ⊎ ((first_refusal said (bound_of e.now) ≡ None) × IsTakenBySome A.eq A.name (F.post annotate.now) (bound_of e.now) y)) }
+    ensures unrefused { OnOk result ((said : _) → SaysBy A.eq (F.post annotate.now) said → first_refusal said (bound_of e.now) ≡ None) }
+{
+    match AnsweredNodes::new(alloc, e, annotate) {
         Ok(nodes) => {
-            let split = split_by_numbers(alloc, &e, &nodes);
+            let split = split_by_numbers(alloc, e, &nodes);
             drop(nodes);
-            drop(e);
             split
         }
-        Err(refusal) => {
-            drop(e);
-            Err(refusal)
-        }
+        Err(refusal) => Err(refusal),
     }
 }
 

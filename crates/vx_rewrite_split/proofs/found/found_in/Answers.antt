@@ -1,7 +1,7 @@
 use Rattle.std.proofs.Common.{◌≡◌, length, take, arith, ap, ◌∙◌}
 use Rattle.vx_rewrite_split.specs.Found.{found_copied, found_of, joined}
 use Rattle.vx_rewrite_split.specs.declared.found.Found.TheVariants.{One}
-use Rattle.vx_rewrite_split.proofs.Found.{found-next}
+use Rattle.vx_rewrite_split.proofs.Alone.{found-next}
 use Rattle.vx_rewrite_split.proofs.found.found_in.Goals as goal
 
 pub loop-annotation-preserved : goal.loop-annotation-preserved
@@ -9,4 +9,4 @@ loop-annotation-preserved g c =
     let eq = g.A.PartialEq.eq in
     let xs = c.args.annotations.now in
     let a = c.annotation-item.result in
-    c.joined.ensures ∙ ap (λ x. joined eq x (One a)) c.loop-annotation.invariant ∙ found-next eq g.A.Eq.laws xs c.loop-annotation.annotation-index a (omega arith) c.annotation-item.is
+    c.joined-found.ensures ∙ ap (λ x. joined eq x (One a)) c.loop-annotation.invariant ∙ found-next eq g.met.A.Eq.laws xs c.loop-annotation.annotation-index a (omega arith) c.annotation-item.is

@@ -13,7 +13,7 @@ returns-clause-names g c =
     let eq = g.A.PartialEq.eq in
     let nodes = c.args.nodes.now in
     let only = only_annotation (gathered_map eq nodes) in
-    let is : IsOnly nodes only c.as_slice.result.now = subst (IsOnly nodes only) (sym c.as_slice.ensures.value) (found-only eq g.A.Eq.laws nodes c.in_ok-found.found.items c.in_ok-found.ensures.found) in
+    let is : IsOnly nodes only c.as_slice.result.now = subst (IsOnly nodes only) (sym c.as_slice.ensures.value) (found-only eq g.met.A.Eq.laws nodes c.in_ok-found.found.items c.in_ok-found.ensures.found) in
     let met : map option_copied c.as_slice-2.result.now ≡ annotations_met only (bound_of c.args.e.now) = search rules in
     c.partition_bound_met.ensures.names only met
 
@@ -23,7 +23,7 @@ returns-clause-split g c =
     let nodes = c.args.nodes.now in
     let m = gathered_map eq nodes in
     let only = only_annotation m in
-    let is : IsOnly nodes only c.as_slice.result.now = subst (IsOnly nodes only) (sym c.as_slice.ensures.value) (found-only eq g.A.Eq.laws nodes c.in_ok-found.found.items c.in_ok-found.ensures.found) in
+    let is : IsOnly nodes only c.as_slice.result.now = subst (IsOnly nodes only) (sym c.as_slice.ensures.value) (found-only eq g.met.A.Eq.laws nodes c.in_ok-found.found.items c.in_ok-found.ensures.found) in
     let met : map option_copied c.as_slice-2.result.now ≡ annotations_met only (bound_of c.args.e.now) = search rules in
     IfOk-weaker c.partition_bound_met.result _ _ (λ p split.
     split_by_map eq g.A.PartitionKey.text g.A.PartitionKey.name m (bound_of c.args.e.now) p.partition_names (bounds_of p.partitions.items) p.partition_annotations.items (bound_of p.root) split)

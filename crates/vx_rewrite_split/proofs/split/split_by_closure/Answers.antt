@@ -4,7 +4,7 @@ use Rattle.vx_rewrite_split.specs.Gathered.{gathered_map}
 use Rattle.vx_rewrite_split.specs.Splitting.{IsAnnotatedBy}
 use Rattle.vx_rewrite_split.proofs.Gathered.{gathered-annotated}
 use Rattle.vx_rewrite_split.proofs.Mapped.{taken_after, earlier}
-use Rattle.vx_rewrite_split.proofs.split.partition_bound.Goals as goal
+use Rattle.vx_rewrite_split.proofs.split.split_by_closure.Goals as goal
 
 pub returns-in-Err-clause-refusal : goal.returns-in-Err-clause-refusal
 returns-in-Err-clause-refusal g c = earlier c.in-Err.ensures.refusal
@@ -14,7 +14,7 @@ returns-in-Ok-clause-split g c =
     let eq = g.A.PartialEq.eq in
     let nodes = c.in-Ok.nodes in
     let m = gathered_map eq nodes in
-    let given : IsAnnotatedBy eq (λ x r. goal.F-post g c.args.annotate x r) (bound_of c.args.e) m = gathered-annotated eq g.A.Eq.laws nodes _ (bound_of c.args.e) c.in-Ok.ensures.nodes c.in-Ok.ensures.answers in
+    let given : IsAnnotatedBy eq (λ x r. goal.F-post g c.args.annotate.now x r) (bound_of c.args.e.now) m = gathered-annotated eq g.met.A.Eq.laws nodes _ (bound_of c.args.e.now) c.in-Ok.ensures.nodes c.in-Ok.ensures.answers in
     IfOk-weaker c.split_by_numbers.result _ _ (λ p split. (m, given, split)) c.split_by_numbers.ensures.split
 
 pub returns-in-Ok-clause-first : goal.returns-in-Ok-clause-first
@@ -22,5 +22,5 @@ returns-in-Ok-clause-first g c =
     let eq = g.A.PartialEq.eq in
     let nodes = c.in-Ok.nodes in
     let m = gathered_map eq nodes in
-    let given : IsAnnotatedBy eq (λ x r. goal.F-post g c.args.annotate x r) (bound_of c.args.e) m = gathered-annotated eq g.A.Eq.laws nodes _ (bound_of c.args.e) c.in-Ok.ensures.nodes c.in-Ok.ensures.answers in
-    taken_after eq g.A.PartitionKey.name _ (bound_of c.args.e) c.split_by_numbers.result (λ p. p.partition_names) m _ _ given c.in-Ok.ensures.unrefused c.split_by_numbers.ensures.names
+    let given : IsAnnotatedBy eq (λ x r. goal.F-post g c.args.annotate.now x r) (bound_of c.args.e.now) m = gathered-annotated eq g.met.A.Eq.laws nodes _ (bound_of c.args.e.now) c.in-Ok.ensures.nodes c.in-Ok.ensures.answers in
+    taken_after eq g.A.PartitionKey.name _ (bound_of c.args.e.now) c.split_by_numbers.result (λ p. p.partition_names) m _ _ given c.in-Ok.ensures.unrefused c.split_by_numbers.ensures.names

@@ -17,52 +17,56 @@ use Rattle.vx_rewrite_split.specs.declared.found.Found.TheVariants.{Nothing, One
 -- what a filter leaves
 left-none : {A : Type 0} (p : A → Bool) (ks : List A) → list_any p ks ≡ false → filter p ks ≡ []
 left-none p [] h = refl
-left-none p (k ∷ ks) h = go (p k) h
+left-none p (k ∷ ks) h = go (left-none p ks) (p k) h
   where
-    go : (t : Bool) → (t || list_any p ks) ≡ false → cond t (k ∷ filter p ks) (filter p ks) ≡ []
-    go true g = absurd (true≢false g)
-    go false g = left-none p ks g
+    go : (list_any p ks ≡ false → filter p ks ≡ []) → (t : Bool) → (t || list_any p ks) ≡ false → cond t (k ∷ filter p ks) (filter p ks) ≡ []
+    go rest true g = absurd (true≢false g)
+    go rest false g = rest g
 
 left-some : {A : Type 0} (a : A) (p : A → Bool) (ks : List A) → list_any p ks ≡ true → only_item (a ∷ filter p ks) ≡ None
 left-some a p [] h = absurd (true≢false (sym h))
-left-some a p (k ∷ ks) h = go (p k) h
+left-some a p (k ∷ ks) h = go (left-some a p ks) (p k) h
   where
-    go : (t : Bool) → (t || list_any p ks) ≡ true → only_item (a ∷ cond t (k ∷ filter p ks) (filter p ks)) ≡ None
-    go true g = refl
-    go false g = left-some a p ks g
+    go : (list_any p ks ≡ true → only_item (a ∷ filter p ks) ≡ None) → (t : Bool) → (t || list_any p ks) ≡ true → only_item (a ∷ cond t (k ∷ filter p ks) (filter p ks)) ≡ None
+    go rest true g = refl
+    go rest false g = rest g
 
 left-all : {A : Type 0} (P : A → Type 0) (p : A → Bool) (ks : List A) → AllByRecursion P ks → AllByRecursion P (filter p ks)
 left-all P p [] h = tt
-left-all P p (k ∷ ks) h = go (p k)
+left-all P p (k ∷ ks) h = go (left-all P p ks h.1) (p k)
   where
-    go : (t : Bool) → AllByRecursion P (cond t (k ∷ filter p ks) (filter p ks))
-    go true = (h.0, left-all P p ks h.1)
-    go false = left-all P p ks h.1
+    go : AllByRecursion P (filter p ks) → (t : Bool) → AllByRecursion P (cond t (k ∷ filter p ks) (filter p ks))
+    go rest true = (h.0, rest)
+    go rest false = rest
 
 left-apart : {A : Type 0} (eq : A → A → Bool) (p : A → Bool) (ks : List A) → IsDistinct eq ks → IsDistinct eq (filter p ks)
 left-apart eq p [] d = d
-left-apart eq p (k ∷ ks) d = go (p k)
+left-apart eq p (k ∷ ks) d = go (left-apart eq p ks (IsDistinct-tail eq k ks d)) (p k)
   where
-    go : (t : Bool) → IsDistinct eq (cond t (k ∷ filter p ks) (filter p ks))
-    go true = IsDistinct-cons eq k (filter p ks) (left-all (λ y. eq k y ≡ false) p ks (IsDistinct-head eq k ks d)) (left-apart eq p ks (IsDistinct-tail eq k ks d))
-    go false = left-apart eq p ks (IsDistinct-tail eq k ks d)
+    go : IsDistinct eq (filter p ks) → (t : Bool) → IsDistinct eq (cond t (k ∷ filter p ks) (filter p ks))
+    go rest true = IsDistinct-cons eq k (filter p ks) (left-all (λ y. eq k y ≡ false) p ks (IsDistinct-head eq k ks d)) rest
+    go rest false = rest
 
 unit-keys : {A : Type 0} (ks : List A) → keys_of (map (λ a. (a, tt {0})) ks) ≡ ks
 unit-keys [] = refl
 unit-keys (k ∷ ks) = ap (λ l. k ∷ l) (unit-keys ks)
 
 module _ {A : Type 0} (eq : A → A → Bool) where
+  abbrev one_if : A → Bool → Found A
+  one_if a t = if t then One a else Several
+
   pub set-keys : {S : Type 0} (s : S) (xs : List A) → (set_of eq s xs).keys ≡ distinct eq xs
   set-keys s xs = unit-keys (distinct eq xs)
 
   -- those that differ from a do
   left-differ : (a : A) (ks : List A) → AllByRecursion (λ y. eq a y ≡ false) (filter (λ b. not (eq a b)) ks)
   left-differ a [] = tt
-  left-differ a (k ∷ ks) = go (eq a k) refl
+  left-differ a (k ∷ ks) = go (left-differ a ks) (eq a k) refl
     where
-      go : (t : Bool) → eq a k ≡ t → AllByRecursion (λ y. eq a y ≡ false) (cond (not t) (k ∷ filter (λ b. not (eq a b)) ks) (filter (λ b. not (eq a b)) ks))
-      go true e = left-differ a ks
-      go false e = (e, left-differ a ks)
+      go : AllByRecursion (λ y. eq a y ≡ false) (filter (λ b. not (eq a b)) ks) → (t : Bool) → eq a k ≡ t
+          → AllByRecursion (λ y. eq a y ≡ false) (cond (not t) (k ∷ filter (λ b. not (eq a b)) ks) (filter (λ b. not (eq a b)) ks))
+      go rest true e = rest
+      go rest false e = (e, rest)
 
   distinct-apart : (xs : List A) → IsDistinct eq (distinct eq xs)
   unfolding IsDistinct
@@ -75,11 +79,11 @@ module _ {A : Type 0} (eq : A → A → Bool) where
 
   not-all : (a : A) (xs : List A) → list_any (λ b. not (eq a b)) xs ≡ not (list_all (eq a) xs)
   not-all a [] = refl
-  not-all a (x ∷ xs) = go (eq a x)
+  not-all a (x ∷ xs) = go (not-all a xs) (eq a x)
     where
-      go : (t : Bool) → (not t || list_any (λ b. not (eq a b)) xs) ≡ not (t && list_all (eq a) xs)
-      go true = not-all a xs
-      go false = refl
+      go : list_any (λ b. not (eq a b)) xs ≡ not (list_all (eq a) xs) → (t : Bool) → (not t || list_any (λ b. not (eq a b)) xs) ≡ not (t && list_all (eq a) xs)
+      go rest true = rest
+      go rest false = refl
 
   module _ (q : IsEquivalence eq) where
     all-alike : (a b : A) → eq a b ≡ true → (xs : List A) → list_all (eq a) xs ≡ list_all (eq b) xs
@@ -89,23 +93,20 @@ module _ {A : Type 0} (eq : A → A → Bool) where
     -- two lists have together what both have
     pub found-append : (xs ys : List A) → found_of eq (xs ++ ys) ≡ joined eq (found_of eq xs) (found_of eq ys)
     found-append [] ys = refl
-    found-append (a ∷ xs) [] = ap (λ l. if list_all (eq a) l then One a else Several) (append-nil xs) ∙ stays (list_all (eq a) xs)
+    found-append (a ∷ xs) [] = ap (λ l. one_if a (list_all (eq a) l)) (append-nil xs) ∙ stays (list_all (eq a) xs)
       where
-        stays : (t : Bool) → (if t then One a else Several) ≡ joined eq (if t then One a else Several) Nothing
+        stays : (t : Bool) → one_if a t ≡ joined eq (one_if a t) Nothing
         stays true = refl
         stays false = refl
     found-append (a ∷ xs) (b ∷ bs) =
-        ap one (list_all-append (eq a) xs (b ∷ bs)) ∙ cases (list_all (eq a) xs) (eq a b) (list_all (eq a) bs) (list_all (eq b) bs) refl (λ same. all-alike a b same bs)
+        ap (one_if a) (list_all-append (eq a) xs (b ∷ bs)) ∙ cases (list_all (eq a) xs) (eq a b) (list_all (eq a) bs) (list_all (eq b) bs) refl (λ same. all-alike a b same bs)
       where
-        one : Bool → Found A
-        one t = if t then One a else Several
-
-        cases : (s t u v : Bool) → eq a b ≡ t → (eq a b ≡ true → u ≡ v) → one (s && (t && u)) ≡ joined eq (one s) (if v then One b else Several)
+        cases : (s t u v : Bool) → eq a b ≡ t → (eq a b ≡ true → u ≡ v) → one_if a (s && (t && u)) ≡ joined eq (one_if a s) (one_if b v)
         cases false t u v e same = refl
-        cases true false u true e same = sym (ap one e)
+        cases true false u true e same = sym (ap (one_if a) e)
         cases true false u false e same = refl
-        cases true true u true e same = ap one (same e) ∙ sym (ap one e)
-        cases true true u false e same = ap one (same e)
+        cases true true u true e same = ap (one_if a) (same e) ∙ sym (ap (one_if a) e)
+        cases true true u false e same = ap (one_if a) (same e)
 
     -- what one more has
     pub found-next : (xs : List A) (i : ℕ) (a : A) → i < length xs → a ≡ get_or xs i a → joined eq (found_of eq (take i xs)) (One a) ≡ found_of eq (take (i + 1) xs)
@@ -114,15 +115,15 @@ module _ {A : Type 0} (eq : A → A → Bool) where
     -- a test that equal ones pass alike
     any-distinct : (p : A → Bool) → ((k l : A) → eq k l ≡ true → p k ≡ p l) → (xs : List A) → list_any p (distinct eq xs) ≡ list_any p xs
     any-distinct p alike [] = refl
-    any-distinct p alike (a ∷ rest) = cases (p a) refl
+    any-distinct p alike (a ∷ rest) = cases (any-distinct p alike rest) (p a) refl
       where
-        cases : (t : Bool) → p a ≡ t → (t || list_any p (filter (λ b. not (eq a b)) (distinct eq rest))) ≡ (t || list_any p rest)
-        cases true e = refl
-        cases false e = any-filter_same p (λ b. not (eq a b)) true (λ k h. kept k h (eq a k) refl) (distinct eq rest) ∙ any-distinct p alike rest
-          where
-            kept : (k : A) → p k ≡ true → (t : Bool) → eq a k ≡ t → not t ≡ true
-            kept k h true s = absurd (true≢false (sym h ∙ sym (alike a k s) ∙ e))
-            kept k h false s = refl
+        kept : p a ≡ false → (k : A) → p k ≡ true → (t : Bool) → eq a k ≡ t → not t ≡ true
+        kept e k h true s = absurd (true≢false (sym h ∙ sym (alike a k s) ∙ e))
+        kept e k h false s = refl
+
+        cases : list_any p (distinct eq rest) ≡ list_any p rest → (t : Bool) → p a ≡ t → (t || list_any p (filter (λ b. not (eq a b)) (distinct eq rest))) ≡ (t || list_any p rest)
+        cases below true e = refl
+        cases below false e = any-filter_same p (λ b. not (eq a b)) true (λ k h. kept e k h (eq a k) refl) (distinct eq rest) ∙ below
 
     right-alike : (c k l : A) → eq k l ≡ true → eq c k ≡ eq c l
     right-alike c k l s = q.symm c k ∙ q.congr k l c s ∙ q.symm l c
@@ -134,17 +135,12 @@ module _ {A : Type 0} (eq : A → A → Bool) where
     -- and one alone where the list has
     alone-distinct : (xs : List A) → only_item (distinct eq xs) ≡ alone (found_of eq xs)
     alone-distinct [] = refl
-    alone-distinct (a ∷ rest) = cases (list_all (eq a) rest) refl
+    alone-distinct (a ∷ rest) = cases (any-distinct (λ b. not (eq a b)) (λ k l s. ap not (right-alike a k l s)) rest ∙ not-all a rest) (list_all (eq a) rest) refl
       where
-        p : A → Bool
-        p b = not (eq a b)
-
-        differ : list_any p (distinct eq rest) ≡ not (list_all (eq a) rest)
-        differ = any-distinct p (λ k l s. ap not (right-alike a k l s)) rest ∙ not-all a rest
-
-        cases : (t : Bool) → list_all (eq a) rest ≡ t → only_item (a ∷ filter p (distinct eq rest)) ≡ alone (if t then One a else Several)
-        cases true e = ap (λ l. only_item (a ∷ l)) (left-none p (distinct eq rest) (differ ∙ ap not e))
-        cases false e = left-some a p (distinct eq rest) (differ ∙ ap not e)
+        cases : list_any (λ b. not (eq a b)) (distinct eq rest) ≡ not (list_all (eq a) rest) → (t : Bool) → list_all (eq a) rest ≡ t
+            → only_item (a ∷ filter (λ b. not (eq a b)) (distinct eq rest)) ≡ alone (one_if a t)
+        cases differ true e = ap (λ l. only_item (a ∷ l)) (left-none (λ b. not (eq a b)) (distinct eq rest) (differ ∙ ap not e))
+        cases differ false e = left-some a (λ b. not (eq a b)) (distinct eq rest) (differ ∙ ap not e)
 
     pub set-alone : {S : Type 0} (s : S) (xs : List A) → only_item (set_of eq s xs).keys ≡ alone (found_of eq xs)
     set-alone s xs = ap only_item (set-keys s xs) ∙ alone-distinct xs
