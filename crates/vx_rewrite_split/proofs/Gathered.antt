@@ -1,8 +1,8 @@
 -- The annotations that are gathered from a closure's answers are those of the nodes.
-use Rattle.std.proofs.Common.{◌≡◌, ℕ, ◌+◌, ◌<◌, Bor, Bool, true, false, ◌||◌, List, [], ◌∷◌, ◌++◌, length, get_or, refl, sym, ap, subst, ◌∙◌, inl, inr}
+use Rattle.std.proofs.Common.{◌≡◌, Bor, Bool, true, false, ◌||◌, List, [], ◌∷◌, refl, sym, ap, subst, ◌∙◌}
 use Rattle.std.specs.Prelude.{◌&&◌, if◌then◌else◌, IfSome, None, not, Option, Result, Some, Vec, is_some}
 use Rattle.std.specs.Cmp.{IsEquivalence}
-use Rattle.std.specs.HashSet.{HashSet, contains, IsUnique}
+use Rattle.std.specs.HashSet.{HashSet, IsUnique}
 use Rattle.std.specs.declared.hash.BuildHasherDefault.{BuildHasherDefault}
 use Rattle.std.specs.declared.hash.FoldHasher.{FoldHasher}
 use Rattle.std.specs.List.{list_any}
@@ -14,16 +14,15 @@ use Rattle.vx_fn.specs.Functions.{Function}
 use Rattle.vx_tree.specs.Nodes.{bound_children_of}
 use Rattle.vx_tree.specs.Trees.{BoundTree, scope, node, BoundTrees, no_bound, bound}
 use Rattle.vx_tree.specs.declared.bound.BoundExpression.{BoundExpression}
-use Rattle.vx_tree.specs.declared.exact.ExactBoundExpr.{ExactBoundExpr}
-use Rattle.vx_rewrite_analysis.specs.Annotations.{is_some_item, answered, AnswersAlike, SameAnnotations, is_annotation, is_annotation_in, IsAnnotationsOf, IsAnnotated}
+use Rattle.vx_rewrite_analysis.specs.Annotations.{is_some_item, answered, AnswersAlike, SameAnnotations, is_annotation, is_annotation_in, IsAnnotationsOf}
 use Rattle.vx_rewrite_analysis.specs.Answered.{tree_of, given_by, hasher_in}
-use Rattle.vx_rewrite_analysis.specs.Keys.{key_of, entry_at}
+use Rattle.vx_rewrite_analysis.specs.Keys.{key_of}
 use Rattle.vx_rewrite_analysis.specs.Reached.{is_reached, is_reached_in}
 use Rattle.vx_rewrite_analysis.specs.declared.answered.AnsweredNodes.{AnsweredNodes}
-use Rattle.vx_rewrite_analysis.proofs.Annotating.{items-alike, answered-set, annotation-children}
+use Rattle.vx_rewrite_analysis.proofs.Annotating.{items-alike, annotation-children}
 use Rattle.vx_rewrite_analysis.proofs.Given.{entry-of-given}
 use Rattle.vx_rewrite_analysis.proofs.Subtrees.{or_first, or_second, and_true, reached-itself, reached-further}
-use Rattle.vx_rewrite_split.specs.Found.{found_copied, alone, found_of, set_of}
+use Rattle.vx_rewrite_split.specs.Found.{alone, found_of, set_of}
 use Rattle.vx_rewrite_split.specs.Gathered.{answers_or, gathered, gathered_in, found_at, AreFound, gathered_map, IsOnly}
 use Rattle.vx_rewrite_split.specs.Only.{only_annotation, only_key}
 use Rattle.vx_rewrite_split.specs.Splitting.{IsAnnotatedBy}

@@ -1,5 +1,5 @@
-use Rattle.std.proofs.Common.{◌≡◌, length, take, arith, ap, ◌∙◌}
-use Rattle.vx_rewrite_split.specs.Found.{found_copied, found_of, joined}
+use Rattle.std.proofs.Common.{arith, ap, ◌∙◌}
+use Rattle.vx_rewrite_split.specs.Found.{joined}
 use Rattle.vx_rewrite_split.specs.declared.found.Found.TheVariants.{One}
 use Rattle.vx_rewrite_split.proofs.Alone.{found-next}
 use Rattle.vx_rewrite_split.proofs.found.found_in.Goals as goal

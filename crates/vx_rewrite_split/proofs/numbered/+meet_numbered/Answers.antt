@@ -1,8 +1,7 @@
-use Rattle.std.proofs.Common.{◌≡◌, ◌<◌, Bor, [], ◌∷◌, ◌++◌, length, map, get_or, arith, rules, sym, ap, ◌∙◌, true, false, None}
-use Rattle.std.specs.Prelude.{Option, is_some}
+use Rattle.std.proofs.Common.{◌≡◌, ◌<◌, ◌++◌, length, map, arith, rules, sym, ap, ◌∙◌, true, false}
+use Rattle.std.specs.Prelude.{is_some}
 use Rattle.std.specs.Option.{option_copied}
 use Rattle.std.proofs.lemmas.List.{get_or_default}
-use Rattle.vx_tree.specs.Trees.{BoundTree}
 use Rattle.vx_rewrite_analysis.specs.Answered.{tree_of}
 use Rattle.vx_rewrite_split.specs.Found.{found_copied, alone}
 use Rattle.vx_rewrite_split.specs.declared.found.Found.TheVariants.{Nothing}

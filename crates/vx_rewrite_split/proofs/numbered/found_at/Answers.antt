@@ -1,4 +1,4 @@
-use Rattle.std.proofs.Common.{◌≡◌, ◌<◌, length, arith, rules, sym, ap, ◌∙◌}
+use Rattle.std.proofs.Common.{◌≡◌, ◌<◌, length, rules, ◌∙◌}
 use Rattle.std.specs.Prelude.{None, Some}
 use Rattle.vx_rewrite_analysis.specs.Answered.{tree_of, given_by}
 use Rattle.vx_rewrite_split.proofs.Walking.{found-unreached, found-own, found-below}

@@ -1,4 +1,4 @@
-use Rattle.std.proofs.Common.{◌≡◌, ◌+◌, [], ◌∷◌, ◌++◌, length, arith, sym, ap, subst, ◌∙◌, length-append}
+use Rattle.std.proofs.Common.{◌+◌, [], ◌∷◌, length, sym, ap, subst, ◌∙◌, length-append}
 use Rattle.vx_rewrite_analysis.specs.Answered.{tree_of}
 use Rattle.vx_rewrite_split.specs.Gathered.{found_at, AreFound}
 use Rattle.vx_rewrite_split.proofs.Walking.{found-push}
