@@ -1,5 +1,6 @@
 pub mod Subtrees
 pub mod Numbering
+pub mod Typing
 pub mod OneNumber
 pub mod Digesting
 pub mod ByNumber
@@ -12,3 +13,4 @@ pub mod Covering
 pub mod Answering
 pub mod Refusing
 pub mod Reading
+pub mod Given

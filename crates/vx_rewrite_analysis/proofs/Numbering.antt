@@ -16,7 +16,7 @@ use Rattle.vx_tree.specs.declared.bound.BoundExpression.{BoundExpression}
 use Rattle.vx_rewrite_analysis.specs.Numbers.{head_of, node_tree, equal_numbered, tree_at, trees_at, has_node, IsNumberOf, HasChildrenBelow, IsNumbered, KeepsNumbers}
 use Rattle.vx_rewrite_analysis.specs.Reached.{nowhere, occurs, occurs_in}
 use Rattle.vx_rewrite_analysis.specs.declared.numbers.NumberedNode.{NumberedNode}
-use Rattle.vx_rewrite_analysis.proofs.Subtrees.{or_first, or_second, or_assoc, reached-children}
+use Rattle.vx_rewrite_analysis.proofs.Subtrees.{or_first, or_second, or_assoc, or_false, reached-children}
 
 -- ---- the trees of numbers
 
@@ -138,6 +138,10 @@ has-at [] i b n is same = absurd (omega (arith, is.0))
 has-at (m ∷ ns) zero b n is same = or_first _ (has_node n ns) (ap (equal_bound n) is.1 ∙ same)
 has-at (m ∷ ns) (suc i) b n is same = or_second (equal_bound n (node_tree m)) _ (has-at ns i b n (omega (arith, is.0), is.1) same)
 
+-- the node at a number has one
+pub has-read : (ns : List NumberedNode) (i : ℕ) (n : NumberedNode) → i < length ns → n ≡ get_or ns i n → has_node (node_tree n) ns ≡ true
+has-read ns i n within is = has-at ns i (node_tree n) (node_tree n) (within, tree-read ns i n within is) ((equal_bound-Decides (node_tree n) (node_tree n)).1 refl)
+
 has-append : (ns : List NumberedNode) (m : NumberedNode) (n : BoundTree) → has_node n (ns ++ m ∷ []) ≡ (equal_bound n (node_tree m) || has_node n ns)
 has-append [] m n = refl
 has-append (x ∷ ns) m n = ap (λ r. equal_bound n (node_tree x) || r) (has-append ns m n) ∙ turn (equal_bound n (node_tree x)) (equal_bound n (node_tree m)) (has_node n ns)
@@ -165,6 +169,11 @@ pub has-below : (b n : BoundTree) (old mid new : Bool) → new ≡ (equal_bound 
 has-below b n old mid new here below =
     here ∙ ap (λ r. equal_bound n b || r) below ∙ sym (or_assoc (equal_bound n b) (occurs_in n (bound_children_of b)) old)
     ∙ ap (λ r. r || old) (sym (reached-children nowhere n b))
+
+-- where at first none had one, the trees that do are nodes of the tree
+pub occurs-numbered : (b n : BoundTree) (ns old new : List NumberedNode) → ns ≡ new → old ≡ [] → has_node n new ≡ (occurs n b || has_node n old) → has_node n ns ≡ true → occurs n b ≡ true
+occurs-numbered b n ns old new same none nodes there =
+    sym (nodes ∙ ap (λ ms. occurs n b || has_node n ms) none ∙ or_false (occurs n b)) ∙ sym (ap (has_node n) same) ∙ there
 
 -- ---- the numbers of children
 

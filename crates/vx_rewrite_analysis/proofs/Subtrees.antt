@@ -13,7 +13,7 @@ use Rattle.vx_tree.specs.Views.{bound_of, bounds_of}
 use Rattle.vx_tree.specs.declared.bound.BoundExpression.{BoundExpression}
 use Rattle.vx_tree.specs.declared.exact.ExactBoundExpr.{ExactBoundExpr}
 use Rattle.vx_rewrite_analysis.specs.Keys.{key_of, entry_at}
-use Rattle.vx_rewrite_analysis.specs.Reached.{is_reached, is_reached_in, IsClosed}
+use Rattle.vx_rewrite_analysis.specs.Reached.{is_reached, is_reached_in, IsClosed, nowhere, occurs, occurs_in}
 
 -- ---- truth values
 
@@ -151,6 +151,19 @@ module _ (stops : BoundTree → Bool) where
         cases : (same w was : Bool) (m : Option X) → is_some m ≡ (w || was) → is_some (cond same (Some l) m) ≡ ((same || w) || was)
         cases true w was m h = refl
         cases false w was m h = h
+
+-- a node of one of the trees is one of them all
+occurs-at : (ts : List BoundExpression) (i : ℕ) (d : BoundExpression) → i < length ts → (n : BoundTree) → occurs n (bound_of (get_or ts i d)) ≡ true → occurs_in n (bounds_of ts) ≡ true
+occurs-at [] i d h n there = absurd (omega arith)
+occurs-at (t ∷ ts) zero d h n there = or_first _ (occurs_in n (bounds_of ts)) there
+occurs-at (t ∷ ts) (suc i) d h n there = or_second (occurs n (bound_of t)) _ (occurs-at ts i d (omega arith) n there)
+
+-- a node of a child is one of the tree
+pub occurs-child : (b : BoundTree) (ts : List BoundExpression) (i : ℕ) (t : BoundExpression) → bounds_of ts ≡ bound_children_of b → i < length ts → t ≡ get_or ts i t
+    → (n : BoundTree) → occurs n (bound_of t) ≡ true → occurs n b ≡ true
+occurs-child b ts i t e h is n there =
+    let below : occurs_in n (bounds_of ts) ≡ true = occurs-at ts i t h n (subst (λ x. occurs n (bound_of x) ≡ true) is there) in
+    reached-children nowhere n b ∙ or_second (equal_bound n b) _ (sym (ap (occurs_in n) e) ∙ below)
 
 -- an entry at one of two equal trees is one at the other
 pub put-as : {X S : Type 0} (b c : BoundTree) (x : X) (old new : HashMap ExactBoundExpr X S) → b ≡ c

@@ -8,3 +8,4 @@ pub mod ByNumber
 pub mod Refusals
 pub mod Covers
 pub mod Fields
+pub mod Answered

@@ -2,7 +2,7 @@
 use Rattle.std.specs.Prelude.{Bool, false, not, ◌||◌, ◌&&◌, is_some, IsTrue}
 use Rattle.std.specs.HashMap.{HashMap}
 use Rattle.vx_tree.specs.Equality.{equal_bound}
-use Rattle.vx_tree.specs.Trees.{BoundTree, scope, node, BoundTrees, no_bound, bound}
+use Rattle.vx_tree.specs.Trees.{BoundTree, scope, node, BoundTrees, no_bound, bound, WellTyped}
 use Rattle.vx_tree.specs.declared.exact.ExactBoundExpr.{ExactBoundExpr}
 use Rattle.vx_rewrite_analysis.specs.Keys.{key_of, entry_at}
 
@@ -33,3 +33,7 @@ occurs n b = is_reached nowhere n b
 -- whether n is a node of one of the trees
 abbrev pub occurs_in : BoundTree → BoundTrees → Bool
 occurs_in n bs = is_reached_in nowhere n bs
+
+-- n is a node of the tree, and well typed where the tree is
+abbrev pub IsNodeOf : BoundTree → BoundTree → Type 0
+IsNodeOf n b = IsTrue (occurs n b) × (WellTyped b → WellTyped n)

@@ -9,7 +9,7 @@ ghost use Rattle.vx_rewrite_analysis.specs.Annotations.{answered, is_some_item, 
 ghost use Rattle.vx_rewrite_analysis.specs.ByNumber.{has_some, has_annotation, HasEach, HasReached};
 ghost use Rattle.vx_rewrite_analysis.specs.Keys.{key_of, entry_at};
 ghost use Rattle.vx_rewrite_analysis.specs.Numbers.{IsNumbered};
-ghost use Rattle.vx_rewrite_analysis.specs.Reached.{is_reached};
+ghost use Rattle.vx_rewrite_analysis.specs.Reached.{is_reached, IsNodeOf};
 ghost use Rattle.vx_rewrite_analysis.specs.Refusals.{SaysBy, first_refusal};
 
 use crate::Annotation;
@@ -36,11 +36,11 @@ pub fn descendent_bound_annotations<
     A: Annotation + Drop,
     F: Fn(&BoundExpression) -> VortexResult<Vec<A>> + Drop,
 >(alloc: Global, e: &BoundExpression, annotate: F) -> VortexResult<BoundAnnotations<A>>
-    requires { F.IsAlwaysCallable annotate }
+    requires { (x : _) → IsNodeOf (bound_of x.now) (bound_of e.now) → F.pre annotate x }
     ensures nodes { IfOk result (λ m. (answers : BoundTree → List A) → AnswersAlike A.eq (F.post annotate) answers
         → (k : _) → is_some (entry_at (key_of k) m) ≡ is_reached (answered answers) (key_of k) (bound_of e.now)) }
     ensures annotations { IfOk result (λ m. (answers : BoundTree → List A) → AnswersAlike A.eq (F.post annotate) answers → IsAnnotated A.eq answers m) }
-    ensures refusal { IfErr result (λ y. (y ≡ OutOfMemory) ⊎ ((x : _) × F.post annotate x (Err y))) }
+    ensures refusal { IfErr result (λ y. (y ≡ OutOfMemory) ⊎ ((x : _) × IsNodeOf (bound_of x.now) (bound_of e.now) × F.post annotate x (Err y))) }
     ensures first { IfErr result (λ y. (said : _) → SaysBy A.eq (F.post annotate) said → (y ≡ OutOfMemory) ⊎ (first_refusal said (bound_of e.now) ≡ Some y)) }
     ensures unrefused { OnOk result ((said : _) → SaysBy A.eq (F.post annotate) said → first_refusal said (bound_of e.now) ≡ None) }
 {

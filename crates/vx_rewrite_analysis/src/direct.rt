@@ -1,11 +1,11 @@
 // The nodes of a bound tree that are annotated themselves.
-ghost use Rattle.std.specs.Prelude.{◌≡◌, ◌||◌, ◌&&◌, ◌⊎◌, is_some, None, Some, List, Err, IfErr, IfOk, OnOk};
+ghost use Rattle.std.specs.Prelude.{◌≡◌, ◌||◌, ◌&&◌, ◌⊎◌, is_some, None, Some, List, Err, IfErr, IfOk, OnOk, IsTrue};
 ghost use Rattle.vx_dtype.specs.declared.error.VortexError.TheVariants.{OutOfMemory};
 ghost use Rattle.vx_tree.specs.Trees.{BoundTree};
 ghost use Rattle.vx_tree.specs.Views.{bound_of};
 ghost use Rattle.vx_rewrite_analysis.specs.Annotations.{answered, AnswersAlike, IsAnnotated};
 ghost use Rattle.vx_rewrite_analysis.specs.Keys.{key_of, entry_at};
-ghost use Rattle.vx_rewrite_analysis.specs.Reached.{is_reached};
+ghost use Rattle.vx_rewrite_analysis.specs.Reached.{is_reached, occurs, IsNodeOf};
 ghost use Rattle.vx_rewrite_analysis.specs.Refusals.{SaysBy, first_refusal};
 
 use crate::annotations::set_of;
@@ -25,11 +25,11 @@ pub fn direct_bound_annotations<
     A: Annotation + Drop,
     F: Fn(&BoundExpression) -> VortexResult<Vec<A>> + Drop,
 >(alloc: Global, e: &BoundExpression, annotate: F) -> VortexResult<BoundAnnotations<A>>
-    requires { F.IsAlwaysCallable annotate }
+    requires { (x : _) → IsNodeOf (bound_of x.now) (bound_of e.now) → F.pre annotate x }
     ensures nodes { IfOk result (λ m. (answers : BoundTree → List A) → AnswersAlike A.eq (F.post annotate) answers
         → (k : _) → is_some (entry_at (key_of k) m) ≡ (is_reached (answered answers) (key_of k) (bound_of e.now) && answered answers (key_of k))) }
     ensures annotations { IfOk result (λ m. (answers : BoundTree → List A) → AnswersAlike A.eq (F.post annotate) answers → IsAnnotated A.eq answers m) }
-    ensures refusal { IfErr result (λ y. (y ≡ OutOfMemory) ⊎ ((x : _) × F.post annotate x (Err y))) }
+    ensures refusal { IfErr result (λ y. (y ≡ OutOfMemory) ⊎ ((x : _) × IsNodeOf (bound_of x.now) (bound_of e.now) × F.post annotate x (Err y))) }
     ensures first { IfErr result (λ y. (said : _) → SaysBy A.eq (F.post annotate) said → (y ≡ OutOfMemory) ⊎ (first_refusal said (bound_of e.now) ≡ Some y)) }
     ensures unrefused { OnOk result ((said : _) → SaysBy A.eq (F.post annotate) said → first_refusal said (bound_of e.now) ≡ None) }
 {
@@ -45,11 +45,11 @@ fn annotate_into<A: Annotation + Drop, F: Fn(&BoundExpression) -> VortexResult<V
     annotate: &F,
     annotations: &mut BoundAnnotations<A>,
 ) -> VortexResult<()>
-    requires { F.IsAlwaysCallable annotate.now }
+    requires { (x : _) → IsTrue (occurs (bound_of x.now) (bound_of e.now)) → F.pre annotate.now x }
     ensures annotated { OnOk result ((answers : BoundTree → List A) → AnswersAlike A.eq (F.post annotate.now) answers → IsAnnotated A.eq answers annotations.old
         → ((k : _) → is_some (entry_at (key_of k) annotations.new) ≡ ((is_reached (answered answers) (key_of k) (bound_of e.now) && answered answers (key_of k)) || is_some (entry_at (key_of k) annotations.old)))
         × IsAnnotated A.eq answers annotations.new) }
-    ensures refusal { IfErr result (λ y. (y ≡ OutOfMemory) ⊎ ((x : _) × F.post annotate.now x (Err y))) }
+    ensures refusal { IfErr result (λ y. (y ≡ OutOfMemory) ⊎ ((x : _) × IsTrue (occurs (bound_of x.now) (bound_of e.now)) × F.post annotate.now x (Err y))) }
     ensures first { IfErr result (λ y. (said : _) → SaysBy A.eq (F.post annotate.now) said → (y ≡ OutOfMemory) ⊎ (first_refusal said (bound_of e.now) ≡ Some y)) }
     ensures unrefused { OnOk result ((said : _) → SaysBy A.eq (F.post annotate.now) said → first_refusal said (bound_of e.now) ≡ None) }
 {

@@ -1,10 +1,10 @@
 // Labels of the nodes of a bound tree, from the leaves up.
-ghost use Rattle.std.specs.Prelude.{◌≡◌, ◌<◌, IfErr, IfOk, is_some, length};
+ghost use Rattle.std.specs.Prelude.{◌≡◌, ◌<◌, IfErr, IfOk, IsTrue, is_some, length};
 ghost use Rattle.vx_dtype.specs.declared.error.VortexError.TheVariants.{OutOfMemory};
 ghost use Rattle.vx_tree.specs.Trees.{BoundTree};
 ghost use Rattle.vx_tree.specs.Views.{bound_of};
 ghost use Rattle.vx_rewrite_analysis.specs.Keys.{key_of, entry_at};
-ghost use Rattle.vx_rewrite_analysis.specs.Reached.{occurs};
+ghost use Rattle.vx_rewrite_analysis.specs.Reached.{occurs, IsNodeOf};
 ghost use Rattle.vx_rewrite_analysis.specs.Numbers.{tree_at, has_node, IsNumbered};
 ghost use Rattle.vx_rewrite_analysis.specs.NumberedLabels.{HasLabels};
 ghost use Rattle.vx_rewrite_analysis.specs.Labels.{label, AnswersBy, MergesBy, IsLabelled};
@@ -31,7 +31,7 @@ pub fn label_bound_tree<L: Drop, F: Fn(&BoundExpression) -> L + Drop, G: Fn(L, &
     self_label: F,
     merge_child: G,
 ) -> VortexResult<BoundLabels<L>>
-    requires labels { F.IsAlwaysCallable self_label }
+    requires labels { (x : _) → IsNodeOf (bound_of x.now) (bound_of e.now) → F.pre self_label x }
     requires merges { G.IsAlwaysCallable merge_child }
     ensures nodes { IfOk result (λ m. (k : _) → is_some (entry_at (key_of k) m) ≡ occurs (key_of k) (bound_of e.now)) }
     ensures labels { IfOk result (λ m. (own : BoundTree → L) (merge : L → L → L) → AnswersBy (F.post self_label) own → MergesBy (G.post merge_child) merge → IsLabelled own merge m) }
@@ -52,7 +52,7 @@ fn labels_of<L: Drop, F: Fn(&BoundExpression) -> L, G: Fn(L, &L) -> L>(
     merge_child: &G,
 ) -> Result<Vec<L>, AllocError>
     requires numbered { IsNumbered nodes.now }
-    requires labels { F.IsAlwaysCallable self_label.now }
+    requires labels { (x : _) → IsTrue (has_node (bound_of x.now) nodes.now) → F.pre self_label.now x }
     requires merges { G.IsAlwaysCallable merge_child.now }
     ensures count { IfOk result (λ labels. length labels.items ≡ length nodes.now) }
     ensures labels { IfOk result (λ labels. (own : BoundTree → L) (merge : L → L → L) → AnswersBy (F.post self_label.now) own → MergesBy (G.post merge_child.now) merge
@@ -77,7 +77,7 @@ fn label_of<L, F: Fn(&BoundExpression) -> L, G: Fn(L, &L) -> L>(
     requires numbered { IsNumbered nodes.now }
     requires within { number < length nodes.now }
     requires count { length labels.now ≡ number }
-    requires labels { F.IsAlwaysCallable self_label.now }
+    requires labels { (x : _) → IsTrue (has_node (bound_of x.now) nodes.now) → F.pre self_label.now x }
     requires merges { G.IsAlwaysCallable merge_child.now }
     ensures { (own : BoundTree → L) (merge : L → L → L) → AnswersBy (F.post self_label.now) own → MergesBy (G.post merge_child.now) merge → HasLabels own merge nodes.now labels.now
         → result ≡ label own merge (tree_at nodes.now number) }

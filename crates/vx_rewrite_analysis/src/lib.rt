@@ -3,6 +3,7 @@
 
 mod annotation;
 mod annotations;
+mod answered;
 mod covered;
 mod direct;
 mod entries;
@@ -14,6 +15,7 @@ mod reached;
 
 pub use annotation::Annotation;
 pub use annotations::{BoundAnnotations, descendent_bound_annotations};
+pub use answered::AnsweredNodes;
 pub use covered::covers;
 pub use direct::direct_bound_annotations;
 pub use fields::free_fields;

@@ -1,11 +1,11 @@
 // The answers of an annotating closure at the nodes that are reached, by number.
-ghost use Rattle.std.specs.Prelude.{◌≡◌, ◌<◌, ◌⊎◌, ◌++◌, ℕ, None, Some, List, Ok, Err, IfErr, IfOk, OnOk, length, get_or, reverse, slice_set};
+ghost use Rattle.std.specs.Prelude.{◌≡◌, ◌<◌, ◌⊎◌, ◌++◌, ℕ, None, Some, List, Ok, Err, IfErr, IfOk, OnOk, IsTrue, length, get_or, reverse, slice_set};
 ghost use Rattle.vx_dtype.specs.declared.error.VortexError.TheVariants.{OutOfMemory};
 ghost use Rattle.vx_tree.specs.Trees.{BoundTree};
 ghost use Rattle.vx_tree.specs.Views.{bound_of};
 ghost use Rattle.vx_rewrite_analysis.specs.Annotations.{answered, AnswersAlike, SameAnnotations};
 ghost use Rattle.vx_rewrite_analysis.specs.ByNumber.{HasEach, HasReached, looked_at_next};
-ghost use Rattle.vx_rewrite_analysis.specs.Numbers.{node_tree, tree_at, IsNumbered};
+ghost use Rattle.vx_rewrite_analysis.specs.Numbers.{node_tree, tree_at, has_node, IsNumbered};
 ghost use Rattle.vx_rewrite_analysis.specs.Refusals.{SaysBy, first_refusal};
 
 use crate::Annotation;
@@ -27,11 +27,11 @@ pub(crate) fn own_answers<A: Annotation + Drop, F: Fn(&BoundExpression) -> Vorte
 ) -> VortexResult<OwnAnswers<A>>
     requires numbered { IsNumbered nodes.now }
     requires within { root < length nodes.now }
-    requires callable { F.IsAlwaysCallable annotate.now }
+    requires callable { (x : _) → IsTrue (has_node (bound_of x.now) nodes.now) → F.pre annotate.now x }
     ensures count { IfOk result (λ own. length own.items ≡ length nodes.now) }
     ensures answers { IfOk result (λ own. (answers : BoundTree → List A) → AnswersAlike A.eq (F.post annotate.now) answers
         → HasEach (λ b v. SameAnnotations A.eq v.items (answers b)) nodes.now own.items × HasReached (answered answers) (tree_at nodes.now root) nodes.now own.items) }
-    ensures refusal { IfErr result (λ y. (y ≡ OutOfMemory) ⊎ ((x : _) × F.post annotate.now x (Err y))) }
+    ensures refusal { IfErr result (λ y. (y ≡ OutOfMemory) ⊎ ((x : _) × IsTrue (has_node (bound_of x.now) nodes.now) × F.post annotate.now x (Err y))) }
     ensures first { IfErr result (λ y. (said : _) → SaysBy A.eq (F.post annotate.now) said → (y ≡ OutOfMemory) ⊎ (first_refusal said (tree_at nodes.now root) ≡ Some y)) }
     ensures unrefused { OnOk result ((said : _) → SaysBy A.eq (F.post annotate.now) said → first_refusal said (tree_at nodes.now root) ≡ None) }
 {
@@ -75,7 +75,7 @@ fn answers_at<A: Drop, F: Fn(&BoundExpression) -> VortexResult<Vec<A>>>(
     annotate: &F,
     waiting: &mut Vec<usize>,
 ) -> VortexResult<Vec<A>>
-    requires { F.IsAlwaysCallable annotate.now }
+    requires { F.pre annotate.now node.now.tree }
     ensures answers { IfOk result (λ v. (x : _) × (bound_of x.now ≡ node_tree node.now) × F.post annotate.now x (Ok v)) }
     ensures waiting { IfOk result (λ v. reverse waiting.new.items ≡ looked_at_next v.items node.now ++ reverse waiting.old.items) }
     ensures refusal { IfErr result (λ y. (y ≡ OutOfMemory) ⊎ ((x : _) × (bound_of x.now ≡ node_tree node.now) × F.post annotate.now x (Err y))) }

@@ -1,9 +1,11 @@
+pub mod Alone
 pub mod Collecting
 pub mod Filling
-pub mod FreeNames
 pub mod Finding
-pub mod Growing
+pub mod FreeNames
+pub mod Gathered
 pub mod Grouping
+pub mod Growing
 pub mod Holed
 pub mod Mapped
 pub mod Meeting
@@ -14,3 +16,4 @@ pub mod Showing
 pub mod Splits
 pub mod Tables
 pub mod Taking
+pub mod Walking

@@ -17,6 +17,16 @@ module _ {A : Type 0} (eq : A → A → Bool) (name : A → Name) (Facts : Annot
   abbrev TakenBySome : VortexError → Type 0
   TakenBySome y = (m : AnnotationMap A) × Facts m × IsTakenBy eq name m b y
 
+  -- a refusal by such a map, beside those that came earlier
+  pub taken_or : {P : Type 0} (r : Result P VortexError) (names_of : P → List Name) (m : AnnotationMap A) (Asked : VortexError → Type 0) → Facts m
+      → Answers names_of r (free_names (partition_names name (groups eq (only_annotation m) b)))
+      → IfErr r (λ y. (y ≡ OutOfMemory) ⊎ Asked y ⊎ TakenBySome y)
+  taken_or (Ok p) names_of m Asked facts n = tt
+  taken_or (Err y) names_of m Asked facts n = elim n [
+    | inl memory ↦ inl memory
+    | inr taken ↦ inr (inr (m, facts, taken))
+  ]
+
   -- a refusal by such a map, where what the closure says is none
   pub taken_after : {P Said : Type 0} (r : Result P VortexError) (names_of : P → List Name) (m : AnnotationMap A) (Says : Said → Type 0) (met : Said → Option VortexError) → Facts m → ((said : Said) → Says said → met said ≡ None)
       → Answers names_of r (free_names (partition_names name (groups eq (only_annotation m) b)))

@@ -5,3 +5,5 @@ pub mod Collecting
 pub mod Packing
 pub mod Filling
 pub mod Splitting
+pub mod Found
+pub mod Gathered

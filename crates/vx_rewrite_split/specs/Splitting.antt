@@ -1,11 +1,11 @@
 -- What a tree that was split promises.
-use Rattle.std.specs.Prelude.{◌≡◌, ℕ, Bool, List, IsTrue, Option, is_some, Result, Ok, Err, Vec}
+use Rattle.std.specs.Prelude.{◌≡◌, ℕ, Bool, List, IfSome, IsTrue, Option, is_some, Result, Ok, Err, Vec}
 use Rattle.std.specs.declared.hash.BuildHasherDefault.{BuildHasherDefault}
 use Rattle.std.specs.declared.hash.FoldHasher.{FoldHasher}
 use Rattle.std.specs.Borrow.{Bor}
 use Rattle.std.specs.Cmp.Lexicographic.{pointwise}
 use Rattle.std.specs.HashMap.{HashMap}
-use Rattle.std.specs.HashSet.{HashSet}
+use Rattle.std.specs.HashSet.{HashSet, IsUnique}
 use Rattle.vx_dtype.specs.declared.error.VortexError.{VortexError}
 use Rattle.vx_value.specs.Types.{Name}
 use Rattle.vx_tree.specs.Trees.{BoundTree, BoundTrees, node_type, WellTyped, EachWellTyped, Over}
@@ -56,9 +56,14 @@ IsSplitBy eq text name m b = IsSplit eq text name (only_annotation m) (Covered (
 abbrev pub AnnotationMap : Type 0 → Type 0
 AnnotationMap A = HashMap ExactBoundExpr (HashSet A (BuildHasherDefault FoldHasher)) (BuildHasherDefault FoldHasher)
 
+-- no set of the map has an annotation twice: so a node has one in the map where by the answers it has one
+abbrev pub AreSets : {A : Type 0} → (A → A → Bool) → AnnotationMap A → Type 0
+AreSets eq m = (k : ExactBoundExpr) → IfSome (entry_at (key_of k) m) (IsUnique eq)
+
 -- the map has the nodes that are reached, each with its annotations, by whatever the closure answers alike
 abbrev pub IsAnnotatedBy : {A Z : Type 0} → (A → A → Bool) → (Bor BoundExpression → Result (Vec A Z) VortexError → Type 0) → BoundTree → AnnotationMap A → Type 0
-IsAnnotatedBy {A} eq post b m = (answers : BoundTree → List A) → AnswersAlike eq post answers → ((k : ExactBoundExpr) → is_some (entry_at (key_of k) m) ≡ is_reached (answered answers) (key_of k) b) × IsAnnotated eq answers m
+IsAnnotatedBy {A} eq post b m = AreSets eq m
+    × ((answers : BoundTree → List A) → AnswersAlike eq post answers → ((k : ExactBoundExpr) → is_some (entry_at (key_of k) m) ≡ is_reached (answered answers) (key_of k) b) × IsAnnotated eq answers m)
 
 -- the refusal of the first name that two annotations of the tree's pieces have, by the map
 abbrev pub IsTakenBy : {A S Z : Type 0} → (A → A → Bool) → (A → Name) → HashMap ExactBoundExpr (HashSet A S) Z → BoundTree → VortexError → Type 0

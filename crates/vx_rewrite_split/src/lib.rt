@@ -3,6 +3,7 @@
 
 mod collect;
 mod fill;
+mod found;
 mod groups;
 mod holes;
 mod joined;
@@ -11,6 +12,7 @@ mod laws;
 mod mark;
 mod met;
 mod names;
+mod numbered;
 mod pack;
 mod partitioned;
 mod shown;

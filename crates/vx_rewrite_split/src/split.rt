@@ -4,10 +4,13 @@ ghost use Rattle.std.specs.Cmp.Lexicographic.{pointwise};
 ghost use Rattle.std.specs.Option.{option_copied};
 ghost use Rattle.vx_dtype.specs.declared.error.VortexError.TheVariants.{OutOfMemory};
 ghost use Rattle.vx_value.specs.Answers.{Answers};
+ghost use Rattle.vx_rewrite_analysis.specs.Answered.{root_of, tree_of, AreAnswered};
 ghost use Rattle.vx_rewrite_analysis.specs.Covers.{has_single, Covered};
+ghost use Rattle.vx_rewrite_analysis.specs.Reached.{IsNodeOf};
 ghost use Rattle.vx_rewrite_analysis.specs.Refusals.{SaysBy, first_refusal};
 ghost use Rattle.vx_rewrite_split.specs.Collecting.{groups_in, SameGroups, marks_of};
 ghost use Rattle.vx_rewrite_split.specs.Filling.{filled};
+ghost use Rattle.vx_rewrite_split.specs.Gathered.{gathered_map};
 ghost use Rattle.vx_rewrite_split.specs.Only.{annotations_met, only_annotation};
 ghost use Rattle.vx_rewrite_split.specs.Packing.{all_holes, all_names};
 ghost use Rattle.vx_rewrite_split.specs.Partitioned.{free_names, EquallyMany};
@@ -26,16 +29,18 @@ use crate::joined::joined_holes;
 use crate::mark::Mark;
 use crate::met::meet;
 use crate::names::free_names;
+use crate::numbered::{found_each, meet_numbered};
 use crate::pack::pack_groups;
 use crate::{BoundPartitionedExpr, PartitionKey};
 use indexmap::IndexMap;
 use std::alloc::Global;
-use vx_rewrite_analysis::{BoundAnnotations, descendent_bound_annotations};
+use vx_rewrite_analysis::{AnsweredNodes, BoundAnnotations};
 use vx_tree::{BoundExpression, FieldNames, VortexResult};
 
 /// The tree split by what the closure annotates its nodes with: as
 /// [`partition_bound_annotations`] splits it by the map of
-/// [`descendent_bound_annotations`].
+/// [`vx_rewrite_analysis::descendent_bound_annotations`], which isn't made. Takes time linear in the nodes, in
+/// expectation, beside that of the closure.
 ///
 /// Refuses with what the closure refuses, the first that is met, else with `PartitionNameTaken` (17)
 /// exactly where two annotations of the pieces have one field name, and with `OutOfMemory` (1).
@@ -43,24 +48,65 @@ pub fn partition_bound<
     A: PartitionKey + Drop,
     F: Fn(&BoundExpression) -> VortexResult<Vec<A>> + Drop,
 >(alloc: Global, e: BoundExpression, annotate: F) -> VortexResult<BoundPartitionedExpr<A>>
-    requires callable { F.IsAlwaysCallable annotate }
+    requires callable { (x : _) → IsNodeOf (bound_of x.now) (bound_of e) → F.pre annotate x }
     requires well_typed { WellTyped (bound_of e) }
     ensures split { IfOk result (λ p. (m : AnnotationMap A) × IsAnnotatedBy A.eq (F.post annotate) (bound_of e) m
         × IsSplitBy A.eq A.text A.name m (bound_of e) p.partition_names (bounds_of p.partitions.items) p.partition_annotations.items (bound_of p.root)) }
     ensures counts { IfOk result (λ p. EquallyMany p.partition_names p.partition_annotations.items p.partitions.items) }
-    ensures refusal { IfErr result (λ y. (y ≡ OutOfMemory) ⊎ ((x : _) × F.post annotate x (Err y)) ⊎ IsTakenBySome A.eq A.name (F.post annotate) (bound_of e) y) }
+    ensures refusal { IfErr result (λ y. (y ≡ OutOfMemory) ⊎ ((x : _) × IsNodeOf (bound_of x.now) (bound_of e) × F.post annotate x (Err y)) ⊎ IsTakenBySome A.eq A.name (F.post annotate) (bound_of e) y) }
     ensures first { IfErr result (λ y. (said : _) → SaysBy A.eq (F.post annotate) said → (y ≡ OutOfMemory) ⊎ (first_refusal said (bound_of e) ≡ Some y)
         ⊎ ((first_refusal said (bound_of e) ≡ None) × IsTakenBySome A.eq A.name (F.post annotate) (bound_of e) y)) }
     ensures unrefused { OnOk result ((said : _) → SaysBy A.eq (F.post annotate) said → first_refusal said (bound_of e) ≡ None) }
 {
-    // Trees are let go of by `drop`: in place that takes the proof far longer.
-    match descendent_bound_annotations(alloc, &e, annotate) {
-        Ok(annotations) => partition_bound_annotations(alloc, e, annotations),
-        Err(refusal) => {
-            drop(e);
-            Err(refusal)
+    // By `drop`: to let go of a tree in place takes the proof far longer.
+    let split = split_by_closure(alloc, &e, &annotate);
+    drop(e);
+    split
+}
+
+// The tree split by what the closure annotates its nodes with.
+fn split_by_closure<A: PartitionKey + Drop, F: Fn(&BoundExpression) -> VortexResult<Vec<A>>>(
+    alloc: Global,
+    e: &BoundExpression,
+    annotate: &F,
+) -> VortexResult<BoundPartitionedExpr<A>>
+    requires callable { (x : _) → IsNodeOf (bound_of x.now) (bound_of e.now) → F.pre annotate.now x }
+    requires well_typed { WellTyped (bound_of e.now) }
+    ensures split { IfOk result (λ p. (m : AnnotationMap A) × IsAnnotatedBy A.eq (F.post annotate.now) (bound_of e.now) m
+        × IsSplitBy A.eq A.text A.name m (bound_of e.now) p.partition_names (bounds_of p.partitions.items) p.partition_annotations.items (bound_of p.root)) }
+    ensures counts { IfOk result (λ p. EquallyMany p.partition_names p.partition_annotations.items p.partitions.items) }
+    ensures refusal { IfErr result (λ y. (y ≡ OutOfMemory) ⊎ ((x : _) × IsNodeOf (bound_of x.now) (bound_of e.now) × F.post annotate.now x (Err y)) ⊎ IsTakenBySome A.eq A.name (F.post annotate.now) (bound_of e.now) y) }
+    ensures first { IfErr result (λ y. (said : _) → SaysBy A.eq (F.post annotate.now) said → (y ≡ OutOfMemory) ⊎ (first_refusal said (bound_of e.now) ≡ Some y)
+        ⊎ ((first_refusal said (bound_of e.now) ≡ None) × IsTakenBySome A.eq A.name (F.post annotate.now) (bound_of e.now) y)) }
+    ensures unrefused { OnOk result ((said : _) → SaysBy A.eq (F.post annotate.now) said → first_refusal said (bound_of e.now) ≡ None) }
+{
+    match AnsweredNodes::new(alloc, e, annotate) {
+        Ok(nodes) => {
+            let split = split_by_numbers(alloc, e, &nodes);
+            drop(nodes);
+            split
         }
+        Err(refusal) => Err(refusal),
     }
+}
+
+// The tree split by what a closure answered at its nodes, by their numbers.
+fn split_by_numbers<A: PartitionKey + Drop>(
+    alloc: Global,
+    e: &BoundExpression,
+    nodes: &AnsweredNodes<'_, A>,
+) -> VortexResult<BoundPartitionedExpr<A>>
+    requires well_typed { WellTyped (bound_of e.now) }
+    requires numbered { AreAnswered nodes.now }
+    requires root { tree_of nodes.now (root_of nodes.now) ≡ bound_of e.now }
+    ensures names { Answers (λ p. p.partition_names) result (free_names (partition_names A.name (groups A.eq (only_annotation (gathered_map A.eq nodes.now)) (bound_of e.now)))) }
+    ensures counts { IfOk result (λ p. EquallyMany p.partition_names p.partition_annotations.items p.partitions.items) }
+    ensures split { IfOk result (λ p. IsSplitBy A.eq A.text A.name (gathered_map A.eq nodes.now) (bound_of e.now) p.partition_names (bounds_of p.partitions.items) p.partition_annotations.items (bound_of p.root)) }
+{
+    let found = found_each(alloc, nodes)?;
+    let mut met = Vec::new(alloc);
+    meet_numbered(nodes, nodes.root(), found.as_slice(), &mut met)?;
+    partition_bound_met(alloc, e, met.as_slice())
 }
 
 /// The tree split by the annotations of its nodes: the pieces of each annotation packed, and the

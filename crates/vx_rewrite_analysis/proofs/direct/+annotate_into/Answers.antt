@@ -1,22 +1,35 @@
-use Rattle.std.proofs.Common.{◌≡◌, ◌<◌, ◌||◌, true, false, length, arith, rules, sym, ap, inr, ◌∙◌}
-use Rattle.std.specs.Prelude.{is_some, ◌&&◌}
+use Rattle.std.proofs.Common.{Bor, ◌≡◌, ◌<◌, ◌||◌, true, false, length, arith, rules, sym, ap, inl, inr, ◌∙◌}
+use Rattle.std.specs.Prelude.{is_some, IsTrue, ◌&&◌}
 use Rattle.std.proofs.lemmas.Result.{err_from_is_err_and}
 use Rattle.vx_tree.specs.Nodes.{size_of}
 use Rattle.vx_tree.specs.Trees.{unbound}
 use Rattle.vx_tree.specs.Views.{bound_of}
+use Rattle.vx_tree.specs.declared.bound.BoundExpression.{BoundExpression}
 use Rattle.vx_rewrite_analysis.specs.Annotations.{answered, IsAnnotationsOf}
 use Rattle.vx_rewrite_analysis.specs.Keys.{key_of, entry_at}
-use Rattle.vx_rewrite_analysis.specs.Reached.{is_reached_in}
+use Rattle.vx_rewrite_analysis.specs.Reached.{is_reached_in, nowhere, occurs}
 use Rattle.vx_rewrite_analysis.proofs.Annotating.{some_item, no_item, items-alike, answered-set}
 use Rattle.vx_rewrite_analysis.proofs.Answering.{stopped-next, stopped-end, stopped-here, stopped-below}
 use Rattle.vx_rewrite_analysis.proofs.Refusing.{refused-here, refused-below, unrefused-here, unrefused-below, refusal-next}
-use Rattle.vx_rewrite_analysis.proofs.Subtrees.{bounds-next, bounds-end, child-smaller, entries-with}
+use Rattle.vx_rewrite_analysis.proofs.Subtrees.{bounds-next, bounds-end, child-smaller, entries-with, occurs-child, reached-itself}
 use Rattle.vx_rewrite_analysis.proofs.direct.+annotate_into.Goals as goal
+
+pub annotate-requires : goal.annotate-requires
+annotate-requires g t c = c.requires c.args.e (reached-itself nowhere (bound_of c.args.e.now))
 
 pub returns-in_err-answers-clause-refusal : goal.returns-in_err-answers-clause-refusal
 returns-in_err-answers-clause-refusal g t c =
     let p = err_from_is_err_and c.from_residual.result c.from_residual.ensures.1 in
-    rw (p.1, p.2) (inr (c.args.e, c.in_err-answers.ensures))
+    rw (p.1, p.2) (inr (c.args.e, reached-itself nowhere (bound_of c.args.e.now), c.in_err-answers.ensures))
+
+pub returns-in_err-annotate_into-clause-refusal : goal.returns-in_err-annotate_into-clause-refusal
+returns-in_err-annotate_into-clause-refusal g t c =
+    let p = err_from_is_err_and c.from_residual-in_err-annotate_into.result c.from_residual-in_err-annotate_into.ensures.1 in
+    let kept = occurs-child (bound_of c.args.e.now) c.children-child-items.result.now c.loop-child.child-index c.child-item.result c.children-child-items.ensures.trees (omega arith) c.child-item.is in
+    rw (p.1, p.2) (elim c.in_err-annotate_into.ensures.refusal [
+      | inl spent ↦ inl spent
+      | inr asked ↦ inr (asked.0, kept (bound_of asked.0.now) asked.1, asked.2)
+    ])
 
 pub returns-then-not-is_empty-clause-annotated : goal.returns-then-not-is_empty-clause-annotated
 returns-then-not-is_empty-clause-annotated g t c =
@@ -36,6 +49,8 @@ pub annotate_into-requires : goal.annotate_into-requires
 annotate_into-requires g t c =
     let fewer : size_of (unbound (bound_of c.child-item.result)) < size_of (unbound (bound_of c.args.e.now)) =
     child-smaller _ c.children-child-items.result.now c.loop-child.child-index _ c.children-child-items.ensures.trees (omega arith) c.child-item.is in
+    let kept = occurs-child (bound_of c.args.e.now) c.children-child-items.result.now c.loop-child.child-index c.child-item.result c.children-child-items.ensures.trees (omega arith) c.child-item.is in
+    let callable : (x : Bor BoundExpression) → IsTrue (occurs (bound_of x.now) (bound_of c.child-item.result)) → goal.F-pre g c.args.annotate.now x = λ x there. c.requires x (kept (bound_of x.now) there) in
     search rules
 
 pub loop-child-preserved : goal.loop-child-preserved

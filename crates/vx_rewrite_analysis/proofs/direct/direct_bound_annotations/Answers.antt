@@ -1,11 +1,24 @@
-use Rattle.std.proofs.Common.{◌∙◌}
+use Rattle.std.proofs.Common.{inl, inr, ◌∙◌}
+use Rattle.std.proofs.lemmas.Result.{err_from_is_err_and}
 use Rattle.std.specs.Prelude.{◌&&◌}
 use Rattle.vx_tree.specs.Views.{bound_of}
 use Rattle.vx_rewrite_analysis.specs.Annotations.{answered, IsAnnotationsOf}
 use Rattle.vx_rewrite_analysis.specs.Keys.{key_of}
 use Rattle.vx_rewrite_analysis.specs.Reached.{is_reached}
 use Rattle.vx_rewrite_analysis.proofs.Subtrees.{nodes-of-none, entries-of-none}
+use Rattle.vx_rewrite_analysis.proofs.Typing.{node-of}
 use Rattle.vx_rewrite_analysis.proofs.direct.direct_bound_annotations.Goals as goal
+
+pub annotate_into-requires : goal.annotate_into-requires
+annotate_into-requires g c = λ x there. c.requires x (node-of (bound_of x.now) (bound_of c.args.e.now) there)
+
+pub returns-in_err-annotate_into-clause-refusal : goal.returns-in_err-annotate_into-clause-refusal
+returns-in_err-annotate_into-clause-refusal g c =
+    let p = err_from_is_err_and c.from_residual.result c.from_residual.ensures.1 in
+    rw (p.1, p.2) (elim c.in_err-annotate_into.ensures.refusal [
+      | inl spent ↦ inl spent
+      | inr asked ↦ inr (asked.0, node-of (bound_of asked.0.now) (bound_of c.args.e.now) asked.1, asked.2)
+    ])
 
 pub returns-clause-nodes : goal.returns-clause-nodes
 returns-clause-nodes g c =

@@ -3,11 +3,16 @@ use Rattle.vx_tree.specs.Views.{bound_of}
 use Rattle.vx_rewrite_analysis.specs.Keys.{key_of}
 use Rattle.vx_rewrite_analysis.specs.Numbers.{has_node, IsNumbered}
 use Rattle.vx_rewrite_analysis.specs.Reached.{occurs}
+use Rattle.vx_rewrite_analysis.proofs.Typing.{node-numbered}
 use Rattle.vx_rewrite_analysis.proofs.Subtrees.{or_false}
 use Rattle.vx_rewrite_analysis.proofs.labels.label_bound_tree.Goals as goal
 
 pub labels_of-requires-clause-numbered : goal.labels_of-requires-clause-numbered
 labels_of-requires-clause-numbered g c = subst IsNumbered (sym c.as_slice-nodes.ensures.keys) c.in_ok-_root.ensures.numbered
+
+pub labels_of-requires-clause-labels : goal.labels_of-requires-clause-labels
+labels_of-requires-clause-labels g c =
+    λ x there. c.requires.labels x (node-numbered (bound_of c.args.e.now) (bound_of x.now) _ _ _ c.as_slice-nodes.ensures.keys c.new-nodes.ensures.empty (c.in_ok-_root.ensures.nodes (bound_of x.now)) there)
 
 pub labels_by_key-requires-clause-numbered : goal.labels_by_key-requires-clause-numbered
 labels_by_key-requires-clause-numbered g c = subst IsNumbered (sym c.as_slice-nodes.ensures.keys) c.in_ok-_root.ensures.numbered

@@ -3,8 +3,12 @@ use Rattle.std.specs.Prelude.{All}
 use Rattle.std.proofs.lemmas.Option.{slice_get_read}
 use Rattle.vx_rewrite_analysis.specs.Numbers.{tree_at, trees_at}
 use Rattle.vx_rewrite_analysis.proofs.Labelling.{merged-next}
-use Rattle.vx_rewrite_analysis.proofs.Numbering.{node-children, trees-next}
+use Rattle.vx_rewrite_analysis.proofs.Numbering.{has-read, node-children, trees-next}
 use Rattle.vx_rewrite_analysis.proofs.labels.label_of.Goals as goal
+
+pub self_label-label-requires : goal.self_label-label-requires
+self_label-label-requires g c =
+    c.requires.labels c.index-nodes-number.result.tree (has-read c.args.nodes.now c.args.number c.index-nodes-number.result c.requires.within c.index-nodes-number.is)
 
 pub offset_bounds-labels-child : goal.offset_bounds-labels-child
 offset_bounds-labels-child g c =

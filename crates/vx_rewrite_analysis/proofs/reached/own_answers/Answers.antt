@@ -6,11 +6,11 @@ use Rattle.std.proofs.lemmas.Option.{none-some}
 use Rattle.std.proofs.lemmas.Result.{err_from_is_err_and}
 use Rattle.vx_rewrite_analysis.specs.Annotations.{is_some_item, answered, SameAnnotations}
 use Rattle.vx_rewrite_analysis.specs.ByNumber.{looked_at_next, HasEach}
-use Rattle.vx_rewrite_analysis.specs.Numbers.{tree_at}
+use Rattle.vx_rewrite_analysis.specs.Numbers.{has_node, tree_at}
 use Rattle.vx_rewrite_analysis.proofs.Annotating.{items-alike}
 use Rattle.vx_rewrite_analysis.proofs.ByNumber.{each-set}
 use Rattle.vx_rewrite_analysis.proofs.Looking.{IsReaching, IsRefusing, waiting_size, size-again, size-next, all-none, popped, popped-within, next-low, next-within, reaching-first, reaching-again, reaching-next, reaching-last, reached-split, refusing-first, refusing-again, refusing-next, refusing-here, refusing-last, refuses-split}
-use Rattle.vx_rewrite_analysis.proofs.Numbering.{node-children, tree-read}
+use Rattle.vx_rewrite_analysis.proofs.Numbering.{has-read, node-children, tree-read}
 use Rattle.vx_rewrite_analysis.proofs.Refusing.{refused-as}
 use Rattle.vx_rewrite_analysis.proofs.reached.own_answers.Goals as goal
 
@@ -34,6 +34,11 @@ index-requires g c =
     let within = (popped-within (length c.args.nodes.now) c.loop-number.waiting.items c.pop.new.self.items c.in-Some.number c.in-Some.ensures.items c.loop-number.invariant.within).0 in
     let has : c.in-Some.number < length c.loop-number.own.items = omega (arith, within, c.loop-number.invariant.count) in
     search rules
+
+pub answers_at-requires : goal.answers_at-requires
+answers_at-requires g c =
+    let left = popped-within (length c.args.nodes.now) c.loop-number.waiting.items c.pop.new.self.items c.in-Some.number c.in-Some.ensures.items c.loop-number.invariant.within in
+    c.requires.callable c.index-nodes-number.result.tree (has-read c.args.nodes.now c.in-Some.number c.index-nodes-number.result left.0 c.index-nodes-number.is)
 
 pub put_answers-requires : goal.put_answers-requires
 put_answers-requires g c =
@@ -147,9 +152,10 @@ returns-in_err-answers-clause-first g c =
 pub returns-in_err-answers-clause-refusal : goal.returns-in_err-answers-clause-refusal
 returns-in_err-answers-clause-refusal g c =
     let p = err_from_is_err_and c.from_residual-in_err-answers.result c.from_residual-in_err-answers.ensures.1 in
+    let left = popped-within (length c.args.nodes.now) c.loop-number.waiting.items c.pop.new.self.items c.in-Some.number c.in-Some.ensures.items c.loop-number.invariant.within in
     rw (p.1, p.2) (elim c.in_err-answers.ensures.refusal [
       | inl spent ↦ inl spent
-      | inr asked ↦ inr (asked.0, asked.2)
+      | inr asked ↦ inr (asked.0, subst (λ b. has_node b c.args.nodes.now ≡ true) (sym asked.1) (has-read c.args.nodes.now c.in-Some.number c.index-nodes-number.result left.0 c.index-nodes-number.is), asked.2)
     ])
 
 pub returns-clause-answers : goal.returns-clause-answers
