@@ -47,14 +47,14 @@ true_among ds o n (Ok mask) long many is = is ∙ among_are ds o n long many
 true_among ds o n (Err e) long many is = tt
 
 -- what is claimed of rows that are open is open
-pub both_again : (m o : List Bool) → both (both m o) o ≡ both m o
+both_again : (m o : List Bool) → both (both m o) o ≡ both m o
 both_again [] o = refl
 both_again (a ∷ m) [] = refl
 both_again (true ∷ m) (true ∷ o) = ap (λ l. true ∷ l) (both_again m o)
 both_again (true ∷ m) (false ∷ o) = ap (λ l. false ∷ l) (both_again m o)
 both_again (false ∷ m) (b ∷ o) = ap (λ l. false ∷ l) (both_again m o)
 
-pub but_both : (m o : List Bool) → but o (both m o) ≡ but o m
+but_both : (m o : List Bool) → but o (both m o) ≡ but o m
 but_both [] [] = refl
 but_both [] (b ∷ o) = refl
 but_both (a ∷ m) [] = refl
@@ -62,5 +62,11 @@ but_both (true ∷ m) (true ∷ o) = ap (λ l. false ∷ l) (but_both m o)
 but_both (true ∷ m) (false ∷ o) = ap (λ l. false ∷ l) (but_both m o)
 but_both (false ∷ m) (b ∷ o) = ap (λ l. (b && true) ∷ l) (but_both m o)
 
-pub both_long : (ds : List Datum) (o mask : List Bool) → length ds ≡ length o → mask ≡ both (map is_true ds) o → length o ≡ length mask
-both_long ds o mask long is = sym (ap length is ∙ length-both (map is_true ds) o (sym long ∙ sym (length-map ds is_true)) ∙ length-map ds is_true ∙ long)
+pub claim_long : (ds : List Datum) (o mask : List Bool) → length ds ≡ length o → mask ≡ both (map is_true ds) o → length o ≡ length mask
+claim_long ds o mask long is = sym (ap length is ∙ length-both (map is_true ds) o (sym long ∙ sym (length-map ds is_true)) ∙ length-map ds is_true ∙ long)
+
+pub claim_own : (m o mask now : List Bool) → mask ≡ both m o → now ≡ both mask o → now ≡ both m o
+claim_own m o mask now is claims = claims ∙ ap (λ l. both l o) is ∙ both_again m o
+
+pub claim_left : (m o mask left : List Bool) → mask ≡ both m o → left ≡ but o mask → left ≡ but o m
+claim_left m o mask left is leaves = leaves ∙ ap (but o) is ∙ but_both m o

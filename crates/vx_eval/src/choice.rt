@@ -125,6 +125,7 @@ fn split<'a>(
 }
 
 // Of the rows that are left those at which the condition is true; they are taken out of the rest.
+#[tactic(auto, using(crate::proofs::Trues::claim_long, crate::proofs::Trues::claim_own, crate::proofs::Trues::claim_left))]
 fn own_rows(alloc: Global, condition: Rows, rest: &mut RowMask) -> Result<RowMask, AllocError>
     requires { length (rows_view condition) ≡ length rest.old }
     ensures own { IfOk result (λ mask. mask ≡ both (map values.is_true (rows_view condition.entry)) rest.old) }
