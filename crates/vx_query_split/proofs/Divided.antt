@@ -14,7 +14,7 @@ use Rattle.vx_rewrite_split.specs.Splitting.{IsSplitByPieces}
 use Rattle.vx_rewrite_split.proofs.FreeNames.{names_are_free}
 use Rattle.vx_rewrite_recombine.specs.Items.{struct_type}
 use Rattle.vx_rewrite_recombine.specs.Partitions.{partition_names}
-use Rattle.vx_rewrite_recombine.specs.Pieces.{CoveredBy, EachCovered, groups}
+use Rattle.vx_rewrite_recombine.specs.Pieces.{groups}
 use Rattle.vx_rewrite_recombine.specs.Pieces as by_pieces
 use Rattle.vx_rewrite_recombine.specs.Recombining.{Recombines, NoOtherFault}
 use Rattle.vx_query_split.specs.Division.{split_names, FieldsCover, Parts, IsSplitOf, divided}
@@ -39,49 +39,10 @@ sound (divided h cov count split) =
     let q = split.partitioned in
     record { counted = count; partitions_typed = q.partitions_typed; root_typed = q.root_typed; root_over = q.over_partitions cov; recombines = q.recombines cov; no_other_fault = q.no_other_fault cov }
 
--- ---- trees that are covered
-
-covered_by : (o : Option Name) (P : Type 0) → IsTrue (is_some o) → CoveredBy o P
-covered_by None P h = absurd cc
-covered_by (Some a) P h = tt
-
-covered_below : (o : Option Name) (P : Type 0) → P → CoveredBy o P
-covered_below None P p = p
-covered_below (Some a) P p = tt
-
-module _ (only : BoundTree → Option Name) where
-  mutual
-    covered_pieces : (b : BoundTree) → Covered (λ n. is_some (only n)) b → by_pieces.Covered only b
-    covered_pieces (scope t) h = covered_by (only (scope t)) ⊥ h
-    covered_pieces (node t f bs) h = elim h [
-      | inl piece ↦ covered_by (only (node t f bs)) (EachCovered only bs) piece
-      | inr each ↦ covered_below (only (node t f bs)) (EachCovered only bs) (each_covered bs each)
-    ]
-
-    each_covered : (bs : BoundTrees) → AreCovered (λ n. is_some (only n)) bs → EachCovered only bs
-    each_covered no_bound h = tt
-    each_covered (bound b bs) h = (covered_pieces b h.0, each_covered bs h.1)
-
 -- a split by the pieces is one by the fields
 pub divided_by_pieces : (s : LogicalType) (u : BoundTree) {fields : List Name} (p : Parts) → split_names true s ≡ Some fields → FieldsCover fields u → length p.names ≡ length (node_types p.partitions)
     → IsSplitByPieces bytes_eq (λ a. a) (λ a. a) (only_field fields) u p.names p.partitions p.annotations p.root → IsSplitOf s u (Some p)
-divided_by_pieces s u {fields = fields} p h cov count split =
-    let q = split.partitioned in
-    let by = covered_pieces (only_field fields) u in
-    divided h cov count record {
-      named = split.named;
-      packed = split.packed;
-      annotated = split.annotated;
-      holed = split.holed;
-      partitioned = record {
-        partitions_typed = q.partitions_typed;
-        root_typed = q.root_typed;
-        same_type = q.same_type;
-        over_partitions = λ c. q.over_partitions (by c);
-        recombines = λ c. q.recombines (by c);
-        no_other_fault = λ c. q.no_other_fault (by c);
-      };
-    }
+divided_by_pieces s u {fields = fields} p h cov count split = divided h cov count split
 
 -- the test of it
 pub uncovered : (fields : List Name) (u : BoundTree) (t : Bool) → t ≡ is_covered (reads_one fields) u → t ≡ false → FieldsCover fields u → ⊥

@@ -1,5 +1,6 @@
 -- The tree with holes has, over its partitions, the type, the meaning and the faults of the tree that was split.
-use Rattle.std.proofs.Common.{◌≡◌, ℕ, Bool, List, [], ◌∷◌, ◌++◌, length, sym, Option, Some, None, refl, ap, ◌∙◌, map}
+use Rattle.std.proofs.Common.{◌≡◌, ℕ, Bool, List, [], ◌∷◌, ◌++◌, length, sym, Option, Some, None, refl, ap, ◌∙◌, map, inl, inr, true, false}
+use Rattle.std.specs.Prelude.{◌⊎◌, IsTrue, is_some}
 use Rattle.std.specs.Cmp.{IsEquivalence}
 use Rattle.std.proofs.lemmas.List.{append_assoc, append-nil}
 use Rattle.vx_value.specs.Types.{LogicalType, Datum}
@@ -12,7 +13,7 @@ use Rattle.vx_tree.specs.Views.{bounds_from}
 use Rattle.vx_tree.proofs.Children.{first_quiet, rest_quiet, children_quiet}
 use Rattle.vx_tree.proofs.Trees.{or_none}
 use Rattle.vx_rewrite_recombine.specs.Items.{item_of, struct_type, joined}
-use Rattle.vx_rewrite_recombine.specs.Pieces.{Piece, Group, piece_or, CoveredBy, pieces, each_pieces, Covered, EachCovered, pieces_of, annotations_of, grouped, groups}
+use Rattle.vx_rewrite_recombine.specs.Pieces.{Piece, Group, piece_or, pieces, each_pieces, Covered, EachCovered, pieces_of, annotations_of, grouped, groups}
 use Rattle.vx_rewrite_recombine.specs.Partitions.{piece_name, piece_names, Distinct, IsShared, AllShort, partition, partitions, partition_names, partitioned_type}
 use Rattle.vx_rewrite_recombine.specs.Holes.{hole, hole_or, with_holes, each_with_holes}
 use Rattle.vx_rewrite_recombine.specs.Recombining.{SplitsRecombine}
@@ -74,10 +75,21 @@ module _ {A : Type 0} (eq : A → A → Bool) (laws : IsEquivalence eq) (text na
         loud = λ c batch p n. p.0;
       }
 
+  -- where one cover gives another
+  stand_so : (C D : Type 0) {ps : List (Piece A)} {b u : BoundTree} → (D → C) → Stands C ps b u → Stands D ps b u
+  stand_so C D so k = record {
+    type = k.type;
+    typed = k.typed;
+    over = λ d. k.over (so d);
+    value_is = λ d. k.value_is (so d);
+    quiet = λ d. k.quiet (so d);
+    loud = λ d. k.loud (so d);
+  }
+
   stand_at : (o : Option A) (P : Type 0) (before after : List (Piece A)) (b u : BoundTree) (below : List (Piece A)) → before ++ (piece_or o b below ++ after) ≡ xs
-      → (before ++ (below ++ after) ≡ xs → Stands P below b u) → Stands (CoveredBy o P) (piece_or o b below) b (hole_or eq text name only over_all o before u)
-  stand_at None P before after b u below is k = k is
-  stand_at (Some a) P before after b u below is k = hole_stands (Unit {0}) before after a b is
+      → (before ++ (below ++ after) ≡ xs → Stands P below b u) → Stands (IsTrue (is_some o) ⊎ P) (piece_or o b below) b (hole_or eq text name only over_all o before u)
+  stand_at None P before after b u below is k = stand_so P (IsTrue false ⊎ P) (λ c. elim c [ inl none ↦ absurd cc | inr p ↦ p ]) (k is)
+  stand_at (Some a) P before after b u below is k = hole_stands (IsTrue true ⊎ P) before after a b is
 
   scope_stands : (t : LogicalType) → Stands ⊥ [] (scope t) (scope t)
   scope_stands t = record {
@@ -108,7 +120,9 @@ module _ {A : Type 0} (eq : A → A → Bool) (laws : IsEquivalence eq) (text na
 
   mutual
     stands : (before after : List (Piece A)) (b : BoundTree) → before ++ (pieces only b ++ after) ≡ xs → Stands (Covered only b) (pieces only b) b (with_holes eq text name only over_all before b)
-    stands before after (scope t) is = stand_at (only (scope t)) ⊥ before after (scope t) (scope t) [] is (λ e. scope_stands t)
+    stands before after (scope t) is =
+        stand_so (IsTrue (is_some (only (scope t))) ⊎ ⊥) (IsTrue (is_some (only (scope t)))) (λ c. inl c)
+        (stand_at (only (scope t)) ⊥ before after (scope t) (scope t) [] is (λ e. scope_stands t))
     stands before after (node t f bs) is =
         stand_at (only (node t f bs)) (EachCovered only bs) before after (node t f bs) (node t f (each_with_holes eq text name only over_all before bs)) (each_pieces only bs) is
         (λ e. node_stands (EachCovered only bs) (each_pieces only bs) t f bs (each_with_holes eq text name only over_all before bs) (stand_each before after bs e))

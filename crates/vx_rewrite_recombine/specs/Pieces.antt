@@ -1,8 +1,9 @@
 -- The pieces of a tree, which are its outermost nodes with exactly one annotation, and their groups.
 -- `only` gives the annotation of a node that has exactly one, and None of any other node.
-use Rattle.std.specs.Prelude.{Bool, not, List, [], ◌∷◌, ◌++◌, map, Option, Some, None, if◌then◌else◌}
+use Rattle.std.specs.Prelude.{Bool, not, List, [], ◌∷◌, ◌++◌, map, Option, Some, None, if◌then◌else◌, is_some}
 use Rattle.std.specs.List.{filter}
 use Rattle.vx_tree.specs.Trees.{BoundTree, scope, node, BoundTrees, no_bound, bound}
+use Rattle.vx_rewrite_analysis.specs.Covers as covers
 
 -- a node with its annotation
 abbrev pub Piece : Type 0 → Type 0
@@ -18,11 +19,6 @@ module _ {A : Type 0} where
   piece_or None b below = below
   piece_or (Some a) b below = (a, b) ∷ []
 
-  -- what is at or below a piece is covered
-  abbrev pub CoveredBy : Option A → Type 0 → Type 0
-  CoveredBy None below = below
-  CoveredBy (Some a) below = Unit {0}
-
   module _ (only : BoundTree → Option A) where
     -- the pieces, from left to right
     abbrev mutual
@@ -35,14 +31,11 @@ module _ {A : Type 0} where
       each_pieces (bound b bs) = pieces b ++ each_pieces bs
 
     -- each scope root lies at or below a piece
-    abbrev mutual
-      pub Covered : BoundTree → Type 0
-      Covered (scope t) = CoveredBy (only (scope t)) ⊥
-      Covered (node t f bs) = CoveredBy (only (node t f bs)) (EachCovered bs)
+    abbrev pub Covered : BoundTree → Type 0
+    Covered b = covers.Covered (λ c. is_some (only c)) b
 
-      pub EachCovered : BoundTrees → Type 0
-      EachCovered no_bound = Unit {0}
-      EachCovered (bound b bs) = Covered b × EachCovered bs
+    abbrev pub EachCovered : BoundTrees → Type 0
+    EachCovered bs = covers.AreCovered (λ c. is_some (only c)) bs
 
   module _ (eq : A → A → Bool) where
     -- the nodes that have the annotation, in order

@@ -1,6 +1,6 @@
 -- What is put together from the groups of a tree's pieces is the tree's split.
 use Rattle.std.proofs.Common.{◌≡◌, ℕ, suc, ◌<◌, ◌^◌, Bool, true, List, [], ◌∷◌, length, map, Option, Some, None, Ok, Err, refl, sym, ap, subst, ◌∙◌, true≢false, append-nil, inl, inr, arith, Vec}
-use Rattle.std.specs.Prelude.{IsTrue, Result, IfOk, IfErr}
+use Rattle.std.specs.Prelude.{IsTrue, is_some, Result, IfOk, IfErr}
 use Rattle.std.specs.Cmp.{IsEquivalence}
 use Rattle.std.specs.Cmp.Lexicographic.{pointwise}
 use Rattle.std.specs.HashMap.{HashMap}
@@ -20,8 +20,9 @@ use Rattle.vx_rewrite_analysis.specs.Keys.{entry_at}
 use Rattle.vx_rewrite_recombine.specs.Holes.{recombination}
 use Rattle.vx_rewrite_recombine.specs.Items.{struct_type}
 use Rattle.vx_rewrite_recombine.specs.Partitions.{Distinct, IsShared, AllShort, partition, partitions, partition_names, partitioned_type}
-use Rattle.vx_rewrite_recombine.specs.Pieces.{Piece, Group, CoveredBy, Covered, EachCovered, pieces, annotations_of, grouped, groups}
+use Rattle.vx_rewrite_recombine.specs.Pieces.{Piece, Group, Covered, pieces, annotations_of, grouped, groups}
 use Rattle.vx_rewrite_recombine.specs.Recombining.{SplitsRecombine}
+use Rattle.vx_rewrite_recombine.proofs.Covering.{covered_by_more}
 use Rattle.vx_rewrite_split.specs.declared.mark.Mark.{Mark}
 use Rattle.vx_rewrite_split.specs.Collecting.{SameGroups, marks_of}
 use Rattle.vx_rewrite_split.specs.Filling.{filled}
@@ -82,31 +83,18 @@ all_short (e ∷ es) = (let n = count_seen e.1.items in omega (arith, n, e.1.ok.
 -- ---- the test of covered trees
 
 module _ {A S Z : Type 0} (m : HashMap ExactBoundExpr (HashSet A S) Z) where
-  covered_by : (o : Option (HashSet A S)) (P : Type 0) → IsTrue (test.is_single o) → CoveredBy (only_key o) P
-  covered_by None P h = absurd (true≢false (sym h))
-  covered_by (Some s) P h = one s.keys (eqb-true (length s.keys) 1 h)
+  single_has : (o : Option (HashSet A S)) → IsTrue (test.is_single o) → IsTrue (is_some (only_key o))
+  single_has None h = absurd (true≢false (sym h))
+  single_has (Some s) h = one s.keys (eqb-true (length s.keys) 1 h)
     where
-      one : (ks : List A) → length ks ≡ 1 → CoveredBy (only_item ks) P
+      one : (ks : List A) → length ks ≡ 1 → IsTrue (is_some (only_item ks))
       one [] e = absurd (omega arith)
-      one (a ∷ []) e = tt
+      one (a ∷ []) e = refl
       one (a ∷ b ∷ ks) e = absurd (omega arith)
 
-  covered_below : (o : Option A) (P : Type 0) → P → CoveredBy o P
-  covered_below None P p = p
-  covered_below (Some a) P p = tt
-
-  mutual
-    -- what the test of the map covers is covered by pieces
-    pub covered_pieces : (b : BoundTree) → test.Covered (test.has_single m) b → Covered (only_annotation m) b
-    covered_pieces (scope t) h = covered_by (entry_at (scope t) m) ⊥ h
-    covered_pieces (node t f bs) h = elim h [
-      | inl piece ↦ covered_by (entry_at (node t f bs) m) (EachCovered (only_annotation m) bs) piece
-      | inr each ↦ covered_below (only_annotation m (node t f bs)) (EachCovered (only_annotation m) bs) (each_covered bs each)
-    ]
-
-    each_covered : (bs : BoundTrees) → test.AreCovered (test.has_single m) bs → EachCovered (only_annotation m) bs
-    each_covered no_bound h = tt
-    each_covered (bound b bs) h = (covered_pieces b h.0, each_covered bs h.1)
+  -- what the test of the map covers is covered by pieces
+  pub covered_pieces : (b : BoundTree) → test.Covered (test.has_single m) b → Covered (only_annotation m) b
+  covered_pieces b h = covered_by_more (test.has_single m) (λ c. is_some (only_annotation m c)) (λ c. single_has (entry_at c m)) b h
 
 -- ---- the split
 
