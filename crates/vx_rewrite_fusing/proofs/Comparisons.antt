@@ -2,10 +2,10 @@
 use Rattle.std.proofs.Common.{◌≡◌, List, [], ◌∷◌, refl, sym, subst, ap, ◌∙◌, Bool, true, false, ◌||◌, ◌&&◌, ◌+◌, ◌≤◌, arith}
 use Rattle.std.specs.Prelude.{Some, None, Ok, if◌then◌else◌}
 use Rattle.vx_value.specs.Types.{Atomic, LogicalType, ty, atomic, Datum, is_nullable}
-use Rattle.vx_fn.specs.Functions.{binary, compares, between, Comparison, above, at_least, below, at_most, truth_type, fn_type, mirrored}
+use Rattle.vx_fn.specs.Functions.{binary, compares, between, Comparison, greater, greater_or_equal, less, less_or_equal, truth_type, fn_type, mirrored}
 use Rattle.vx_fn.specs.Rows.{FnType, of_comparison, of_between}
 use Rattle.vx_tree.specs.Meaning.{value}
-use Rattle.vx_fn.specs.Values.{compared, below_or}
+use Rattle.vx_fn.specs.Values.{compared, bound_comparison}
 use Rattle.vx_tree.specs.Faults.{HasNoFault}
 use Rattle.vx_tree.specs.Trees.{BoundTree, node, bound, no_bound, node_type, WellTyped, Over}
 use Rattle.vx_rewrite_fusing.specs.Conjuncts.{two_bounds, and_of, is_item, is_constant, Range, from_below, from_above, range, range_of, between_node, MergeTo, below_and_above, above_and_below, Fused}
@@ -26,21 +26,21 @@ data IsCompare (k : Comparison) (x y : BoundTree) : BoundTree → Type 0 where
   turned : {t : LogicalType} {j : Comparison} → mirrored j ≡ k → IsCompare k x y (node t (binary (compares j)) (two_bounds y x))
 
 abbrev Says : BoundTree → Range → Type 0
-Says c (from_below strict x y) = IsCompare (if strict then above else at_least) x y c
-Says c (from_above strict x y) = IsCompare (below_or strict) x y c
+Says c (from_below strict x y) = IsCompare (if strict then greater else greater_or_equal) x y c
+Says c (from_above strict x y) = IsCompare (bound_comparison strict) x y c
 
 range-as_is : (c : Comparison) (t : LogicalType) (x y : BoundTree) (r : Range) → range c x y ≡ Some r → Says (node t (binary (compares c)) (two_bounds x y)) r
-range-as_is above t x y r e = let q : from_below true x y ≡ r = cc in subst (Says (node t (binary (compares above)) (two_bounds x y))) q as_is
-range-as_is at_least t x y r e = let q : from_below false x y ≡ r = cc in subst (Says (node t (binary (compares at_least)) (two_bounds x y))) q as_is
-range-as_is below t x y r e = let q : from_above true x y ≡ r = cc in subst (Says (node t (binary (compares below)) (two_bounds x y))) q as_is
-range-as_is at_most t x y r e = let q : from_above false x y ≡ r = cc in subst (Says (node t (binary (compares at_most)) (two_bounds x y))) q as_is
+range-as_is greater t x y r e = let q : from_below true x y ≡ r = cc in subst (Says (node t (binary (compares greater)) (two_bounds x y))) q as_is
+range-as_is greater_or_equal t x y r e = let q : from_below false x y ≡ r = cc in subst (Says (node t (binary (compares greater_or_equal)) (two_bounds x y))) q as_is
+range-as_is less t x y r e = let q : from_above true x y ≡ r = cc in subst (Says (node t (binary (compares less)) (two_bounds x y))) q as_is
+range-as_is less_or_equal t x y r e = let q : from_above false x y ≡ r = cc in subst (Says (node t (binary (compares less_or_equal)) (two_bounds x y))) q as_is
 range-as_is _ t x y r e = cc
 
 range-turned : (c : Comparison) (t : LogicalType) (x y : BoundTree) (r : Range) → range (mirrored c) x y ≡ Some r → Says (node t (binary (compares c)) (two_bounds y x)) r
-range-turned below t x y r e = let q : from_below true x y ≡ r = cc in subst (Says (node t (binary (compares below)) (two_bounds y x))) q (turned refl)
-range-turned at_most t x y r e = let q : from_below false x y ≡ r = cc in subst (Says (node t (binary (compares at_most)) (two_bounds y x))) q (turned refl)
-range-turned above t x y r e = let q : from_above true x y ≡ r = cc in subst (Says (node t (binary (compares above)) (two_bounds y x))) q (turned refl)
-range-turned at_least t x y r e = let q : from_above false x y ≡ r = cc in subst (Says (node t (binary (compares at_least)) (two_bounds y x))) q (turned refl)
+range-turned less t x y r e = let q : from_below true x y ≡ r = cc in subst (Says (node t (binary (compares less)) (two_bounds y x))) q (turned refl)
+range-turned less_or_equal t x y r e = let q : from_below false x y ≡ r = cc in subst (Says (node t (binary (compares less_or_equal)) (two_bounds y x))) q (turned refl)
+range-turned greater t x y r e = let q : from_above true x y ≡ r = cc in subst (Says (node t (binary (compares greater)) (two_bounds y x))) q (turned refl)
+range-turned greater_or_equal t x y r e = let q : from_above false x y ≡ r = cc in subst (Says (node t (binary (compares greater_or_equal)) (two_bounds y x))) q (turned refl)
 range-turned _ t x y r e = cc
 
 range-says : (c : BoundTree) (r : Range) → range_of c ≡ Some r → Says c r
@@ -96,9 +96,9 @@ compare_value as_is v = refl
 compare_value {x = x} {y = y} (turned {j = j} e) v = compared-turned j (value y v) (value x v) ∙ ap (λ k. compared k (value x v) (value y v)) e
 
 -- that x is above y says that y is below x
-above_value : (strict : Bool) (v w : Datum) → compared (if strict then above else at_least) v w ≡ compared (below_or strict) w v
-above_value true v w = compared-turned above v w
-above_value false v w = compared-turned at_least v w
+above_value : (strict : Bool) (v w : Datum) → compared (if strict then greater else greater_or_equal) v w ≡ compared (bound_comparison strict) w v
+above_value true v w = compared-turned greater v w
+above_value false v w = compared-turned greater_or_equal v w
 
 -- ---- the Between
 
@@ -125,7 +125,7 @@ or_three_turned false y z = or_comm y z
 quiet_three : (t : LogicalType) (ls us : Bool) (x y z : BoundTree) (batch : List Datum) → HasNoFault x batch → HasNoFault y batch → HasNoFault z batch → HasNoFault (between_node ls us x y z) batch
 quiet_three t ls us x y z batch n m k = rw (n, m, k) refl
 
-module _ (c d x y z : BoundTree) (ls us : Bool) (low : IsCompare (if ls then above else at_least) x y c) (high : IsCompare (below_or us) x z d) where
+module _ (c d x y z : BoundTree) (ls us : Bool) (low : IsCompare (if ls then greater else greater_or_equal) x y c) (high : IsCompare (bound_comparison us) x z d) where
   low_first : WellTyped (and_of c d) → KeepsAlike (and_of c d) (between_node ls us x y z)
   low_first w =
       let parts = and_parts_of (node_type (and_of c d)) c d w in
@@ -143,7 +143,7 @@ module _ (c d x y z : BoundTree) (ls us : Bool) (low : IsCompare (if ls then abo
       quiet_three (node_type c) ls us x y z batch k.0 k.1 l.1)
       (λ v. rw (compare_value low v, above_value ls (value x v) (value y v), compare_value high v) refl)
 
-module _ (c d x y z : BoundTree) (ls us : Bool) (high : IsCompare (below_or us) x z c) (low : IsCompare (if ls then above else at_least) x y d) where
+module _ (c d x y z : BoundTree) (ls us : Bool) (high : IsCompare (bound_comparison us) x z c) (low : IsCompare (if ls then greater else greater_or_equal) x y d) where
   high_first : WellTyped (and_of c d) → KeepsAlike (and_of c d) (between_node ls us x y z)
   high_first w =
       let parts = and_parts_of (node_type (and_of c d)) c d w in
@@ -159,7 +159,7 @@ module _ (c d x y z : BoundTree) (ls us : Bool) (high : IsCompare (below_or us) 
       let k = compare_quiet low batch a.1 in
       let l = compare_quiet high batch a.0 in
       quiet_three (node_type c) ls us x y z batch k.0 k.1 l.1)
-      (λ v. rw (compare_value low v, above_value ls (value x v) (value y v), compare_value high v) (and_comm (compared (below_or ls) (value y v) (value x v)) (compared (below_or us) (value x v) (value z v))))
+      (λ v. rw (compare_value low v, above_value ls (value x v) (value y v), compare_value high v) (and_comm (compared (bound_comparison ls) (value y v) (value x v)) (compared (bound_comparison us) (value x v) (value z v))))
 
 pub merged_alike : {c d m : BoundTree} → MergeTo c d m → WellTyped (and_of c d) → KeepsAlike (and_of c d) m
 merged_alike (below_and_above {c = c} {d = d} {x = x} {y = y} {z = z} {ls = ls} {us = us} e f) w = low_first c d x y z ls us (range-says c (from_below ls x y) e) (range-says d (from_above us x z) f) w

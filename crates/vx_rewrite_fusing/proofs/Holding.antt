@@ -6,7 +6,7 @@ use Rattle.std.specs.declared.boxed.Box.{Box}
 use Rattle.vx_value.specs.Types.{LogicalType}
 use Rattle.vx_fn.specs.Functions.{and_also}
 use Rattle.vx_fn.specs.Views.{is_strict}
-use Rattle.vx_fn.specs.Faults.{IsIn}
+use Rattle.vx_dtype.specs.Lists.{IsIn}
 use Rattle.vx_tree.specs.Trees.{BoundTree}
 use Rattle.vx_tree.specs.Views.{bound_of}
 use Rattle.vx_tree.specs.declared.bound.BoundExpression.{BoundExpression}

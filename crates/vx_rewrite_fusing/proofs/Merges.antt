@@ -4,7 +4,7 @@ use Rattle.std.specs.Prelude.{None, Ok, if◌then◌else◌}
 use Rattle.std.proofs.lemmas.List.{length-append}
 use Rattle.vx_value.specs.Types.{LogicalType}
 use Rattle.vx_fn.specs.Functions.{Function, binary, and_also, fn_type}
-use Rattle.vx_fn.specs.Faults.{IsIn}
+use Rattle.vx_dtype.specs.Lists.{IsIn}
 use Rattle.vx_tree.specs.Trees.{BoundTree, scope, node, BoundTrees, no_bound, bound, node_type, node_types, WellTyped, EachWellTyped}
 use Rattle.vx_rewrite_keep.specs.Keeps.{Keeps}
 use Rattle.vx_rewrite_keep.specs.Steps.{Step, here, below, OneStep, this_one, later_one, Steps, no_step, one_more}

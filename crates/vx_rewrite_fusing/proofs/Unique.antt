@@ -3,7 +3,7 @@ use Rattle.std.proofs.Common.{◌≡◌, ◌⊎◌, inl, inr, ℕ, suc, List, []
 use Rattle.std.specs.Prelude.{Ok, Some}
 use Rattle.vx_value.specs.Types.{LogicalType}
 use Rattle.vx_fn.specs.Functions.{Function, fn_type}
-use Rattle.vx_fn.specs.Faults.{IsIn}
+use Rattle.vx_dtype.specs.Lists.{IsIn}
 use Rattle.vx_tree.specs.Trees.{BoundTree, node, BoundTrees, bound, node_types, WellTyped, EachWellTyped}
 use Rattle.vx_rewrite_keep.specs.Steps.{Step, here, below, OneStep, this_one, later_one, no_step, one_more}
 use Rattle.vx_rewrite_keep.proofs.Stepping.{step_keeps, one_step_keeps}

@@ -1,8 +1,8 @@
 -- The conjuncts of a tree, range comparisons, and when two of them are one Between.
 use Rattle.std.specs.Prelude.{◌≡◌, Bool, true, false, ◌&&◌, ◌||◌, List, [], ◌∷◌, ◌++◌, Option, Some, None, if◌then◌else◌}
 use Rattle.vx_value.specs.Types.{LogicalType, is_nullable}
-use Rattle.vx_fn.specs.Functions.{binary, and_also, compares, Comparison, above, at_least, below, at_most, mirrored, between, truth_type}
-use Rattle.vx_fn.specs.Faults.{IsIn}
+use Rattle.vx_fn.specs.Functions.{binary, and_also, compares, Comparison, greater, greater_or_equal, less, less_or_equal, mirrored, between, truth_type}
+use Rattle.vx_dtype.specs.Lists.{IsIn}
 use Rattle.vx_fn.specs.Markers.{is_get_item, is_literal}
 use Rattle.vx_tree.specs.Trees.{BoundTree, scope, node, BoundTrees, no_bound, bound, unbound, node_type}
 use Rattle.vx_tree.specs.Nodes.{is_call_of}
@@ -48,10 +48,10 @@ is_constant b = is_call_of is_literal (unbound b)
 
 -- what the comparison of x with y says of x, for an item x and a literal y
 abbrev pub range : Comparison → BoundTree → BoundTree → Option Range
-range above x y = Some (from_below true x y)
-range at_least x y = Some (from_below false x y)
-range below x y = Some (from_above true x y)
-range at_most x y = Some (from_above false x y)
+range greater x y = Some (from_below true x y)
+range greater_or_equal x y = Some (from_below false x y)
+range less x y = Some (from_above true x y)
+range less_or_equal x y = Some (from_above false x y)
 range c x y = None
 
 -- the range of a comparison between an item and a literal, which is turned round where the literal is on the left
