@@ -153,3 +153,7 @@ and_group t u a b c w =
     let y = and_quiet u b c batch x.1 in
     quiet_of (and_of a b) c batch (quiet_of a b batch x.0 y.0) y.1)
     (λ v. and_assoc (value a v) (value b v) (value c v))
+
+-- an And of a well-typed tree has the type that its children give
+pub typed_and : (t : LogicalType) (l r : BoundTree) → WellTyped (and_node t l r) → and_node t l r ≡ and_of l r
+typed_and t l r w = ap (λ z. and_node z l r) (and_parts_of t l r w).type

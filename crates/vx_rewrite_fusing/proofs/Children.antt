@@ -5,7 +5,7 @@ use Rattle.std.specs.declared.alloc.Global.{Global}
 use Rattle.std.specs.declared.boxed.Box.{Box}
 use Rattle.std.proofs.lemmas.List.{take_more}
 use Rattle.vx_value.specs.Types.{LogicalType}
-use Rattle.vx_fn.specs.Functions.{Function, fn_type}
+use Rattle.vx_fn.specs.Functions.{Function, and_also, binary, fn_type}
 use Rattle.vx_tree.specs.Trees.{BoundTree, scope, node, BoundTrees, no_bound, bound, unbound, unbound_each, node_types, WellTyped, EachWellTyped}
 use Rattle.vx_tree.specs.Nodes.{bound_children_of, size_of, sizes_of}
 use Rattle.vx_tree.specs.Views.{bound_of, bounds_of}
@@ -13,12 +13,12 @@ use Rattle.vx_tree.specs.declared.bound.BoundExpression.{BoundExpression}
 use Rattle.vx_rewrite_keep.specs.Steps.{below, OneStep, this_one, later_one, no_step, one_more}
 use Rattle.vx_rewrite_keep.proofs.Stepping.{one_step_keeps}
 use Rattle.vx_rewrite_keep.proofs.Keeping.{each_typed_after}
-use Rattle.vx_rewrite_fusing.specs.Conjuncts.{Fused, EachFused, FusedBelow}
+use Rattle.vx_rewrite_fusing.specs.Conjuncts.{and_node, Fused, EachFused, FusedBelow}
 use Rattle.vx_rewrite_fusing.specs.Merging.{MergeAt, Merges, IsFusedOf}
 use Rattle.vx_rewrite_fusing.specs.Finding.{EachFusedOf, none_fused, more_fused, over_children, Finds, FirstChanged}
 use Rattle.vx_rewrite_fusing.proofs.Merges.{merge_keeps, one_step_types}
 
-merges_append : {b u w : BoundTree} {n k : ℕ} → Merges b n u → Merges u k w → (m : ℕ) × Merges b m w
+pub merges_append : {b u w : BoundTree} {n k : ℕ} → Merges b n u → Merges u k w → (m : ℕ) × Merges b m w
 merges_append {k = k} no_step q = (k, q)
 merges_append (one_more s r) q = let p = merges_append r q in (suc p.0, one_more s p.1)
 
@@ -53,6 +53,12 @@ node_steps t f no_list_step e w = no_step
 node_steps t f (one_list_step {cs = cs} s r) e w =
     let again : fn_type f (node_types cs) ≡ Ok t = ap (fn_type f) (one_step_types s w) ∙ e in
     one_more (below s again) (node_steps t f r again (each_typed_after (one_step_keeps MergeAt merge_keeps s w)))
+
+-- merges of the two children of an And are merges of the And
+pub both_steps : {l l' r r' : BoundTree} {n k : ℕ} (t : LogicalType) → WellTyped (and_node t l r) → Merges l n l' → Merges r k r' → (m : ℕ) × Merges (and_node t l r) m (and_node t l' r')
+both_steps {l' = l'} {r = r} t w p q =
+    let steps = list_append (first_steps (bound r no_bound) p) (later_steps l' (first_steps no_bound q)) in
+    (steps.0, node_steps t (binary and_also) steps.1 w.0 w.2)
 
 -- ---- a node over fused children
 

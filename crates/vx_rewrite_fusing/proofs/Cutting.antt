@@ -1,27 +1,27 @@
--- A conjunct that is merged with the first one before it that bounds its item from the other side.
-use Rattle.std.proofs.Common.{◌≡◌, ◌≢◌, inl, inr, ℕ, zero, suc, ◌<◌, ◌≤◌, List, [], ◌∷◌, ◌++◌, length, get_or, set, refl, sym, subst, ap, ◌∙◌, arith, append_assoc, length-append}
+-- A conjunct merged with its first partner, by the places of both.
+use Rattle.std.proofs.Common.{◌≡◌, inl, inr, ℕ, zero, suc, ◌<◌, ◌≤◌, ◌+◌, ◌-◌, List, [], ◌∷◌, ◌++◌, length, set, refl, sym, subst, ap, ◌∙◌, arith, append_assoc, length-append, false}
 use Rattle.std.specs.Prelude.{Option, Some, None, slice_get}
 use Rattle.std.specs.declared.alloc.Global.{Global}
 use Rattle.std.specs.declared.boxed.Box.{Box}
 use Rattle.vx_tree.specs.Trees.{BoundTree}
-use Rattle.vx_tree.specs.Views.{bound_of}
 use Rattle.vx_tree.specs.declared.bound.BoundExpression.{BoundExpression}
+use Rattle.vx_rewrite_fusing.specs.declared.places.Link.{Link}
 use Rattle.vx_rewrite_fusing.specs.declared.places.Place.{Place}
-use Rattle.vx_rewrite_fusing.specs.declared.places.Place.TheVariants.{Open, Merged, Gone}
-use Rattle.vx_rewrite_fusing.specs.declared.places.Places.{Places}
+use Rattle.vx_rewrite_fusing.specs.declared.places.Place.TheVariants.{Other, Open, Merged, Gone}
 use Rattle.vx_rewrite_fusing.specs.declared.ranges.RangeComparison.{RangeComparison}
-use Rattle.vx_rewrite_fusing.specs.declared.ranges.Side.{Side}
-use Rattle.vx_rewrite_fusing.specs.declared.ranges.Side.TheVariants.{Below, Above}
-use Rattle.vx_rewrite_fusing.specs.Conjuncts.{range_of, MergeTo}
-use Rattle.vx_rewrite_fusing.specs.Finding.{range_seen, tree_in, LeftMerged}
-use Rattle.vx_rewrite_fusing.specs.Places.{opposite, turned, Bounded, bounded_by, bounded_at, head_of, BecomesBy, Has, Holds, IsCut, IsLast, IsLinked, IsWithin, MergedAt, at_stays, SetsHead}
-use Rattle.vx_rewrite_fusing.proofs.Linking.{below_or, bounded_inside, first_is, none_is, place_read, removed_linked}
-use Rattle.vx_rewrite_fusing.proofs.Holding.{has_first, has_second, has_either, has_at, place_of, holds_merged, IsSplit, split_at}
+use Rattle.vx_rewrite_fusing.specs.Conjuncts.{is_and, range_of}
+use Rattle.vx_rewrite_fusing.specs.Finding.{range_seen, tree_in}
+use Rattle.vx_rewrite_fusing.specs.Places.{turned, Bounded, bounded_at, bounded_by, Has, Holds, no_range, open_range, merged_range, gone_range, both, IsFirstOf, IsLast, IsPair, IsWithin, NoneFrom, PairIsMerged}
+use Rattle.vx_rewrite_fusing.specs.Sides.{after_single, both_merged, HoldBoth, IsLeft, IsRight, MergedLeft, MergedRight}
+use Rattle.vx_rewrite_fusing.proofs.Holding.{Apart, Parts, has_at, has_either, has_first, has_second, holds_gone, holds_merged, in_ls, in_rs, none_held, parts_of, place_of, turned_back, whole_held, whole_single, with_merged_in}
+use Rattle.vx_rewrite_fusing.proofs.Keyed.{keyed, single_keyed, single_merged}
+use Rattle.vx_rewrite_fusing.proofs.Linking.{IsOpen, bounded_inside, open_at}
 use Rattle.vx_rewrite_fusing.proofs.Merges.{either}
+use Rattle.vx_rewrite_fusing.proofs.Standing.{single_list}
 
 -- ---- lists
 
-place_past : (xs ys : List Place) (k : Bounded) → Has ys k → (i : ℕ) × (length xs ≤ i) × (bounded_at (xs ++ ys) i ≡ Some k)
+pub place_past : (xs ys : List Place) (k : Bounded) → Has ys k → (i : ℕ) × (length xs ≤ i) × (bounded_at (xs ++ ys) i ≡ Some k)
 place_past [] ys k h = let r = place_of ys k h in (r.0, omega arith, r.1)
 place_past (x ∷ xs) ys k h = let r = place_past xs ys k h in (suc r.0, (let l : length xs ≤ r.0 = r.1 in omega arith), r.2)
 
@@ -32,22 +32,20 @@ has_behind (x ∷ xs) ys (suc i) k l e = has_behind xs ys i k (omega arith) e
 
 -- a place of the second of two lists
 pub record IsBehind (xs ys : List Place) (i : ℕ) (q : Place) : Type 0 where
-  pub place : ℕ
-  pub there : slice_get ys place ≡ Some q
-  pub written : (z : Place) → set (xs ++ ys) i z ≡ xs ++ set ys place z
-  pub later : (k : Bounded) (m : ℕ) → place < m → bounded_at ys m ≡ Some k → (n : ℕ) × (i < n) × (bounded_at (xs ++ ys) n ≡ Some k)
+  pub back : List Place
+  pub front : List Place
+  pub parts : ys ≡ back ++ q ∷ front
+  pub at : i ≡ length (xs ++ back)
+
+within : (ys : List Place) (i : ℕ) (q : Place) → slice_get ys i ≡ Some q → IsBehind [] ys i q
+within [] i q e = cc
+within (y ∷ ys) zero q e = record { back = []; front = ys; parts = (let h : y ≡ q = cc in ap (λ z. z ∷ ys) h); at = refl }
+within (y ∷ ys) (suc i) q e = let r = within ys i q e in record { back = y ∷ r.back; front = r.front; parts = ap (λ z. y ∷ z) r.parts; at = ap suc r.at }
 
 pub behind : (xs ys : List Place) (i : ℕ) (q : Place) → length xs ≤ i → slice_get (xs ++ ys) i ≡ Some q → IsBehind xs ys i q
-behind [] ys i q l e = record { place = i; there = e; written = λ z. refl; later = λ k m h f. (m, h, f) }
+behind [] ys i q l e = within ys i q e
 behind (x ∷ xs) ys zero q l e = absurd (omega arith)
-behind (x ∷ xs) ys (suc i) q l e =
-    let r = behind xs ys i q (omega arith) e in
-    record {
-      place = r.place;
-      there = r.there;
-      written = λ z. ap (λ v. x ∷ v) (r.written z);
-      later = λ k m h f. let n = r.later k m h f in (suc n.0, (let a : i < n.0 = n.1 in omega arith), n.2);
-    }
+behind (x ∷ xs) ys (suc i) q l e = let r = behind xs ys i q (omega arith) e in record { back = r.back; front = r.front; parts = r.parts; at = ap suc r.at }
 
 slice_cut : (xs : List Place) (p : Place) (ys : List Place) → slice_get (xs ++ p ∷ ys) (length xs) ≡ Some p
 slice_cut [] p ys = refl
@@ -61,123 +59,352 @@ set_cut : (xs : List Place) (p q : Place) (ys : List Place) → set (xs ++ p ∷
 set_cut [] p q ys = refl
 set_cut (x ∷ xs) p q ys = ap (λ v. x ∷ v) (set_cut xs p q ys)
 
-opposite_twice : (s : Side) → opposite (opposite s) ≡ s
-opposite_twice Below = refl
-opposite_twice Above = refl
+-- what another place in a list, which bounds nothing, leaves
+replaced_within : (back front : List Place) (p q : Place) → bounded_by q ≡ None → IsWithin (back ++ q ∷ front) (back ++ p ∷ front)
+replaced_within back front p q none k h = either (has_first back (p ∷ front) k) behind_it (has_either back (q ∷ front) k h)
+  where
+    behind_it : Has (q ∷ front) k → Has (back ++ p ∷ front) k
+    behind_it (inl e) = cc
+    behind_it (inr i) = has_second back (p ∷ front) k (inr i)
 
--- ---- at a cut
+-- ---- a single conjunct
 
--- the place that is read there is the conjunct
-pub read_there : {all back : List Place} {p : Place} {mid ls : List Place} {at start : ℕ} (q : Place) → IsCut all back p mid ls at start → q ≡ get_or all at q → p ≡ q
-read_there {all = all} {back = back} {p = p} {mid = mid} {ls = ls} {at = at} q cut e =
-    let l : at < length all = omega (arith, cut.at_back, ap length cut.parts, length-append back (p ∷ (mid ++ ls))) in
-    let f : slice_get all at ≡ Some q = place_read all at q l e in
-    let g : slice_get all at ≡ Some p = subst (λ z. slice_get z at ≡ Some p) (sym cut.parts) (subst (λ i. slice_get (back ++ p ∷ (mid ++ ls)) i ≡ Some p) (sym cut.at_back) (slice_cut back p (mid ++ ls))) in
-    cc
+-- the range of a conjunct that is still to be merged
+record IsOwn (c : BoundTree) (p : Place) (o : Option BoundTree) : Type 0 where
+  range : RangeComparison
+  next : Link
+  place : p ≡ Open range next
+  whole : o ≡ Some c
+  seen : range_of c ≡ Some (range_seen range)
 
-module _ (places : Places) (right : RangeComparison) (after : Option ℕ) {back : List Place} {p : Place} {mid ls : List Place} {at start : ℕ} (linked : IsLinked places) (cut : IsCut places.list.items back p mid ls at start) (own : p ≡ Open right after) where
-  abbrev pub key : Bounded
-  key = (opposite right.side, bound_of right.item.now)
+own_range : {c : BoundTree} {p : Place} {o : Option BoundTree} (k : Bounded) → is_and c ≡ false → bounded_by p ≡ Some k → Holds c (p ∷ []) o → IsOwn c p o
+own_range {p = p} k a own held = go held refl a
+  where
+    go : {c : BoundTree} {ps : List Place} {o : Option BoundTree} → Holds c ps o → ps ≡ p ∷ [] → is_and c ≡ false → IsOwn c p o
+    go (no_range x n) e f = let same : Other ≡ p = cc in let g : bounded_by p ≡ None = ap bounded_by (sym same) in cc
+    go (open_range {r = r} {next = next} x n) e f = record { range = r; next = next; place = cc; whole = refl; seen = n }
+    go (merged_range {b = b} x m n) e f = let same : Merged b ≡ p = cc in let g : bounded_by p ≡ None = ap bounded_by (sym same) in cc
+    go (gone_range x) e f = let same : Gone ≡ p = cc in let g : bounded_by p ≡ None = ap bounded_by (sym same) in cc
+    go (both same h g) e f = cc
 
-  pub parts : places.list.items ≡ (back ++ p ∷ mid) ++ ls
-  parts = cut.parts ∙ sym (append_assoc back (p ∷ mid) ls)
+-- ---- a right conjunct
 
-  pub stays : (Has ls key → ⊥) → MergedAt places.list.items back p mid ls
-  stays none = at_stays cut.parts (λ k e h.
-      let f : Some (right.side, bound_of right.item.now) ≡ Some k = subst (λ z. bounded_by z ≡ Some k) own e in
-      let g : (right.side, bound_of right.item.now) ≡ k = cc in
-      none (subst (λ z. Has ls (turned z)) (sym g) h))
+none_merged : {c : BoundTree} {p : Place} {o : Option BoundTree} {l : BoundTree} {u : Option BoundTree} {ls : List Place} → Holds c (p ∷ []) o → Holds l ls u → ((k : Bounded) → bounded_by p ≡ Some k → Has ls (turned k) → ⊥) → both_merged u o ≡ (u, o)
+none_merged {o = o} {u = None} h g none = refl
+none_merged {o = None} {u = Some u} h g none = refl
+none_merged {o = Some v} {u = Some u} h g none =
+    let key = single_keyed h in
+    whole_single u v key.no_and (none_held v g (λ k e i. none k (sym key.key ∙ e) i))
 
-  pub none_of_none : head_of places.heads (opposite right.side) right.item ≡ None → Has ls key → ⊥
-  none_of_none e h =
-      let r = place_past (back ++ p ∷ mid) ls key h in
-      none_is places (opposite right.side) right.item linked e r.0 (subst (λ z. bounded_at z r.0 ≡ Some key) (sym parts) r.2)
+some_merged : (d tree : BoundTree) (u : Option BoundTree) → is_and d ≡ false → with_merged_in d u ≡ Some tree → both_merged u (Some d) ≡ (Some tree, None)
+some_merged d tree None a e = cc
+some_merged d tree (Some u) a e = ap (λ z. (Some z.0, z.1)) (single_merged u d a ∙ ap (after_single u d) e)
 
-  pub none_before : (first : ℕ) → head_of places.heads (opposite right.side) right.item ≡ Some first → first < start → Has ls key → ⊥
-  none_before first e less h =
-      let r = place_past (back ++ p ∷ mid) ls key h in
-      let there = subst (λ z. bounded_at z r.0 ≡ Some key) (sym parts) r.2 in
-      let last = first_is places (opposite right.side) right.item first linked e in
-      let l : length (back ++ p ∷ mid) ≤ r.0 = r.1 in
-      last.2 r.0 (omega (arith, cut.at_left)) (bounded_inside places.list.items r.0 key there) there
+module _ {all back : List Place} {p : Place} {mid ls : List Place} {r : BoundTree} {at start : ℕ} (a : is_and r ≡ false) (s : IsRight all back (p ∷ []) mid ls r at start) where
+  split : all ≡ (back ++ p ∷ mid) ++ ls
+  split = s.parts ∙ sym (append_assoc back (p ∷ mid) ls)
 
-  module _ (first : ℕ) (left : RangeComparison) (next : Option ℕ) (head : head_of places.heads (opposite right.side) right.item ≡ Some first) (late : start ≤ first) (there : slice_get places.list.items first ≡ Some (Open left next)) where
-    pub last : (first < length places.list.items) × (bounded_at places.list.items first ≡ Some key) × ((j : ℕ) → first < j → j < length places.list.items → bounded_at places.list.items j ≡ Some key → ⊥)
-    last = first_is places (opposite right.side) right.item first linked head
+  here : at - 1 ≡ length back
+  here = omega (arith, s.at_back, length-append back (p ∷ []))
 
-    pub begins : length (back ++ p ∷ mid) ≤ first
-    begins = omega (arith, cut.at_left)
+  pub right_alone : NoneFrom all start p → MergedRight all back (p ∷ []) mid ls r
+  right_alone none = record {
+    rights = p ∷ [];
+    lefts = ls;
+    parts = s.parts;
+    long = refl;
+    stays = λ f. (refl, refl);
+    rights_within = λ k h. h;
+    lefts_within = λ k h. h;
+    apart = λ k h i. either (λ f. apart (turned k) f (subst (Has ls) (sym (turned_back k)) h)) (λ j. s.apart k h j) i;
+    trees = λ l u o on_right on_left.
+        let same = none_merged on_right on_left apart in
+        subst (HoldBoth (p ∷ []) ls r l) (sym same) (on_right, on_left);
+  }
+    where
+      apart : (k : Bounded) → bounded_by p ≡ Some k → Has ls (turned k) → ⊥
+      apart k e h =
+          let place = place_past (back ++ p ∷ mid) ls (turned k) h in
+          none place.0 k e (let l : length (back ++ p ∷ mid) ≤ place.0 = place.1 in omega (arith, s.at_left)) (subst (λ z. bounded_at z place.0 ≡ Some (turned k)) (sym split) place.2)
 
-    pub has_it : Has ls key
-    has_it = has_behind (back ++ p ∷ mid) ls first key begins (subst (λ z. bounded_at z first ≡ Some key) parts last.1)
+  module _ (first : ℕ) (late : start ≤ first) (f : IsFirstOf all first p) where
+    abbrev key : Bounded
+    key = f.0
 
-    pub in_left : IsBehind (back ++ p ∷ mid) ls first (Open left next)
-    in_left = behind (back ++ p ∷ mid) ls first (Open left next) begins (subst (λ z. slice_get z first ≡ Some (Open left next)) parts there)
+    begins : length (back ++ p ∷ mid) ≤ first
+    begins = omega (arith, s.at_left)
 
-    pub split : IsSplit ls in_left.place (Open left next)
-    split = split_at ls in_left.place (Open left next) in_left.there
+    has_it : Has ls (turned key)
+    has_it = has_behind (back ++ p ∷ mid) ls first (turned key) begins (subst (λ z. bounded_at z first ≡ Some (turned key)) split f.2.1)
 
-    none_in_front : Has split.front key → ⊥
-    none_in_front h =
-        let a = place_of split.front key h in
-        let b = split.later key a.0 a.1 in
-        let d = in_left.later key b.0 b.1 b.2 in
-        let e = subst (λ z. bounded_at z d.0 ≡ Some key) (sym parts) d.2 in
-        last.2 d.0 d.1 (bounded_inside places.list.items d.0 key e) e
+    at_place : bounded_at all (length back) ≡ Some key
+    at_place = subst (λ z. bounded_at z (length back) ≡ Some key) (sym s.parts) (bounded_cut back p (mid ++ ls) ∙ f.1)
 
-    module _ (b : Box BoundExpression Global) where
-      abbrev pub lefts : List Place
-      lefts = split.back ++ Merged b ∷ split.front
+    pub right_pair : IsPair all first (at - 1)
+    right_pair = (key, f.2, (subst (λ i. i < length all) (sym here) (bounded_inside all (length back) key at_place), subst (λ i. bounded_at all i ≡ Some key) (sym here) at_place, not_later))
+      where
+        not_later : (j : ℕ) → at - 1 < j → j < length all → bounded_at all j ≡ Some key → ⊥
+        not_later j l m e =
+            let parts : all ≡ (back ++ p ∷ []) ++ (mid ++ ls) = s.parts ∙ sym (append_assoc back (p ∷ []) (mid ++ ls)) in
+            let has = has_behind (back ++ p ∷ []) (mid ++ ls) j key (omega (arith, here, length-append back (p ∷ []))) (subst (λ z. bounded_at z j ≡ Some key) parts e) in
+            s.apart (turned key) has_it (subst (Has (mid ++ ls)) (sym (turned_back key)) has)
 
-      pub lefts_within : IsWithin lefts ls
-      lefts_within k h = subst (λ z. Has z k) (sym split.parts) (either (has_first split.back (Open left next ∷ split.front) k) behind_it (has_either split.back (Merged b ∷ split.front) k h))
-        where
-          behind_it : Has (Merged b ∷ split.front) k → Has (split.back ++ Open left next ∷ split.front) k
-          behind_it (inl e) = let f : None ≡ Some k = e in cc
-          behind_it (inr i) = has_second split.back (Open left next ∷ split.front) k (inr i)
+    pub right_merged : {new : List Place} → PairIsMerged all first (at - 1) new → MergedRight new back (p ∷ []) mid ls r
+    right_merged {new = new} merged = record {
+      rights = Gone ∷ [];
+      lefts = lefts;
+      parts = written;
+      long = refl;
+      stays = λ g. absurd (g (turned key) has_it (inl (f.1 ∙ ap Some (sym (turned_back key)))));
+      rights_within = λ k h. elim h [ inl g ↦ (let x : ◌≡◌ {A = Option Bounded} None (Some k) = g in cc) | inr i ↦ elim i [ ] ];
+      lefts_within = within_left;
+      apart = λ k h i. elim i [
+        | inl g ↦ (let x : ◌≡◌ {A = Option Bounded} None (Some (turned k)) = g in cc)
+        | inr j ↦ s.apart k (within_left k h) (either (has_first mid ls (turned k)) (λ m. has_second mid ls (turned k) (within_left (turned k) m)) (has_either mid lefts (turned k) j))
+      ];
+      trees = trees;
+    }
+      where
+        met : IsOpen all first (turned key)
+        met = open_at all first (turned key) f.2.1
 
-      pub becomes : ((c d : BoundTree) → range_of c ≡ Some (range_seen left) → range_of d ≡ Some (range_seen right) → MergeTo c d (tree_in b)) → (l u d : BoundTree) → Holds l ls (Some u) → range_of d ≡ Some (range_seen right) → BecomesBy d lefts l u
-      becomes merges l u d h e =
-          let w = holds_merged d right left next b h e (λ c f. merges c d f e) split.back split.front split.parts none_in_front in
-          let same : u ≡ w.was = (let f : Some u ≡ Some w.was = w.is_was in cc) in
-          record { tree = w.tree; merged = subst (λ z. LeftMerged d z w.tree) (sym same) w.merged; holds = w.holds }
+        cut : IsBehind (back ++ p ∷ mid) ls first (Open met.range met.next)
+        cut = behind (back ++ p ∷ mid) ls first (Open met.range met.next) begins (subst (λ z. slice_get z first ≡ Some (Open met.range met.next)) split met.there)
 
-      pub written : set places.list.items first (Merged b) ≡ back ++ p ∷ (mid ++ lefts)
-      written = ap (λ z. set z first (Merged b)) parts ∙ (in_left.written (Merged b) ∙ (ap (λ z. (back ++ p ∷ mid) ++ z) (split.written (Merged b)) ∙ append_assoc back (p ∷ mid) lefts))
+        b : Box BoundExpression Global
+        b = merged.0
 
-      pub written_twice : set (set places.list.items first (Merged b)) at Gone ≡ back ++ Gone ∷ (mid ++ lefts)
-      written_twice = ap (λ z. set z at Gone) written ∙ (ap (λ i. set (back ++ p ∷ (mid ++ lefts)) i Gone) cut.at_back ∙ set_cut back p Gone (mid ++ lefts))
+        lefts : List Place
+        lefts = cut.back ++ Merged b ∷ cut.front
 
-      -- the conjunct itself is the first one of its side
-      own_first : (middle : Places) → IsLinked middle → middle.list.items ≡ back ++ p ∷ (mid ++ lefts) → head_of middle.heads right.side right.item ≡ Some at
-      own_first middle good e = go (head_of middle.heads right.side right.item) (good.heads right.side right.item)
-        where
-          mine : Bounded
-          mine = (right.side, bound_of right.item.now)
+        within_left : IsWithin lefts ls
+        within_left k h = subst (λ z. Has z k) (sym cut.parts) (replaced_within cut.back cut.front (Open met.range met.next) (Merged b) refl k h)
 
-          here : bounded_at middle.list.items at ≡ Some mine
-          here = subst (λ z. bounded_at z at ≡ Some mine) (sym e) (subst (λ i. bounded_at (back ++ p ∷ (mid ++ lefts)) i ≡ Some mine) (sym cut.at_back) (bounded_cut back p (mid ++ lefts) ∙ ap bounded_by own))
+        in_two : all ≡ ((back ++ p ∷ mid) ++ cut.back) ++ Open met.range met.next ∷ cut.front
+        in_two = split ∙ (ap (λ z. (back ++ p ∷ mid) ++ z) cut.parts ∙ sym (append_assoc (back ++ p ∷ mid) cut.back (Open met.range met.next ∷ cut.front)))
 
-          not_later : (h : ℕ) → at < h → bounded_at middle.list.items h ≡ Some mine → ⊥
-          not_later h l f =
-              let split_there : back ++ p ∷ (mid ++ lefts) ≡ (back ++ p ∷ []) ++ (mid ++ lefts) = sym (append_assoc back (p ∷ []) (mid ++ lefts)) in
-              let g : bounded_at ((back ++ p ∷ []) ++ (mid ++ lefts)) h ≡ Some mine = subst (λ z. bounded_at z h ≡ Some mine) (e ∙ split_there) f in
-              let has = has_behind (back ++ p ∷ []) (mid ++ lefts) h mine (omega (arith, cut.at_back, length-append back (p ∷ []))) g in
-              let was : Has (mid ++ ls) mine = either (has_first mid ls mine) (λ i. has_second mid ls mine (lefts_within mine i)) (has_either mid lefts mine has) in
-              let turned_key : mine ≡ turned key = ap (λ s. (s, bound_of right.item.now)) (sym (opposite_twice right.side)) in
-              cut.apart key has_it (subst (Has (mid ++ ls)) turned_key was)
+        once : set all first (Merged b) ≡ back ++ p ∷ (mid ++ lefts)
+        once = ap (λ z. set z first (Merged b)) in_two ∙ (ap (λ i. set (((back ++ p ∷ mid) ++ cut.back) ++ Open met.range met.next ∷ cut.front) i (Merged b)) cut.at
+            ∙ (set_cut ((back ++ p ∷ mid) ++ cut.back) (Open met.range met.next) (Merged b) cut.front
+            ∙ (append_assoc (back ++ p ∷ mid) cut.back (Merged b ∷ cut.front) ∙ append_assoc back (p ∷ mid) lefts)))
 
-          go : (o : Option ℕ) → IsLast middle.list.items mine (length middle.list.items) o → o ≡ Some at
-          go None h = absurd (h at (bounded_inside middle.list.items at mine here) here)
-          go (Some h) w = either
-              (λ (l : h < at). absurd (w.2 at l (bounded_inside middle.list.items at mine here) here))
-              (λ (l : at ≤ h). either (λ (m : at < h). absurd (not_later h m w.1)) (λ (m : h ≤ at). let same : h ≡ at = omega arith in ap Some same) (below_or at h))
-              (below_or h at)
+        written : new ≡ back ++ (Gone ∷ [] ++ (mid ++ lefts))
+        written = merged.1 ∙ (ap (λ z. set z (at - 1) Gone) once ∙ (ap (λ i. set (back ++ p ∷ (mid ++ lefts)) i Gone) here ∙ set_cut back p Gone (mid ++ lefts)))
 
-      pub linked_after : (middle new : Places) → middle.list.items ≡ set places.list.items first (Merged b) → SetsHead places.heads middle.heads (opposite right.side) right.item next
-          → new.list.items ≡ set middle.list.items at Gone → (head_of middle.heads right.side right.item ≢ None → SetsHead middle.heads new.heads right.side right.item after) → IsLinked new
-      linked_after middle new e sets f sets_own =
-          let good = removed_linked places middle (opposite right.side) right.item first left next (Merged b) refl linked head there sets e in
-          let head_own = own_first middle good (e ∙ written) in
-          let there_own : slice_get middle.list.items at ≡ Some (Open right after) = subst (λ z. slice_get z at ≡ Some (Open right after)) (sym (e ∙ written)) (subst (λ i. slice_get (back ++ p ∷ (mid ++ lefts)) i ≡ Some (Open right after)) (sym cut.at_back) (slice_cut back p (mid ++ lefts) ∙ ap Some own)) in
-          removed_linked middle new right.side right.item at right after Gone refl good head_own there_own (sets_own (λ n. let x : Some at ≡ None = sym head_own ∙ n in cc)) f
+        none_in_front : Has cut.front (turned key) → ⊥
+        none_in_front h =
+            let parts : all ≡ (((back ++ p ∷ mid) ++ cut.back) ++ Open met.range met.next ∷ []) ++ cut.front = in_two ∙ sym (append_assoc ((back ++ p ∷ mid) ++ cut.back) (Open met.range met.next ∷ []) cut.front) in
+            let place = place_past (((back ++ p ∷ mid) ++ cut.back) ++ Open met.range met.next ∷ []) cut.front (turned key) h in
+            let there = subst (λ z. bounded_at z place.0 ≡ Some (turned key)) (sym parts) place.2 in
+            f.2.2 place.0 (let l : length (((back ++ p ∷ mid) ++ cut.back) ++ Open met.range met.next ∷ []) ≤ place.0 = place.1 in omega (arith, cut.at, length-append ((back ++ p ∷ mid) ++ cut.back) (Open met.range met.next ∷ []))) (bounded_inside all place.0 (turned key) there) there
+
+        trees : (l : BoundTree) (u o : Option BoundTree) → Holds r (p ∷ []) o → Holds l ls u → HoldBoth (Gone ∷ []) lefts r l (both_merged u o)
+        trees l u o on_right on_left =
+            let own = own_range key a f.1 on_right in
+            let there : slice_get all (at - 1) ≡ Some (Open own.range own.next) = subst (λ z. slice_get z (at - 1) ≡ Some (Open own.range own.next)) (sym s.parts) (subst (λ i. slice_get (back ++ p ∷ (mid ++ ls)) i ≡ Some (Open own.range own.next)) (sym here) (slice_cut back p (mid ++ ls) ∙ ap Some own.place)) in
+            let key_of_r : keyed (range_of r) ≡ Some key = (single_keyed (subst (Holds r (p ∷ [])) own.whole on_right)).key ∙ f.1 in
+            let apart : Apart r cut.front = (λ k e h. none_in_front (subst (λ z. Has cut.front (turned z)) (let same : key ≡ k = cc in sym same) h)) in
+            let w = holds_merged r met.range met.next b on_left (λ c e. merged.2 met.range own.range met.next own.next c r met.there there e own.seen) cut.back cut.front cut.parts apart in
+            let same : both_merged u o ≡ (Some w.tree, None) = ap (both_merged u) own.whole ∙ some_merged r w.tree u a w.merged in
+            subst (HoldBoth (Gone ∷ []) lefts r l) (sym same) (gone_range a, w.holds)
+
+-- ---- a left conjunct
+
+module _ {all back rs mid : List Place} {p : Place} {front : List Place} {l : BoundTree} {at begin : ℕ} (a : is_and l ≡ false) (s : IsLeft all back rs mid (p ∷ []) front l at begin) where
+  abbrev rest : List Place
+  rest = mid ++ p ∷ front
+
+  left_split : all ≡ (back ++ (rs ++ mid)) ++ p ∷ front
+  left_split = s.parts ∙ (ap (λ z. back ++ z) (sym (append_assoc rs mid (p ∷ front))) ∙ sym (append_assoc back (rs ++ mid) (p ∷ front)))
+
+  left_here : at - 1 ≡ length (back ++ (rs ++ mid))
+  left_here = omega (arith, s.at_back, length-append back (rs ++ (mid ++ p ∷ [])), length-append rs (mid ++ p ∷ []), length-append mid (p ∷ []), length-append back (rs ++ mid), length-append rs mid)
+
+  pub left_alone : NoneFrom all begin p → MergedLeft all back rs mid (p ∷ []) front l
+  left_alone none = record {
+    rights = rs;
+    lefts = p ∷ [];
+    parts = s.parts;
+    long_right = refl;
+    long_left = refl;
+    stays = λ f. (refl, refl);
+    rights_within = λ k h. h;
+    lefts_within = λ k h. h;
+    apart = λ k h i. elim i [ inl f ↦ apart (turned k) f (subst (Has rs) (sym (turned_back k)) h) | inr j ↦ elim j [ ] ];
+    trees = λ r u o on_right on_left. trees r u o on_right on_left;
+  }
+    where
+      apart : (k : Bounded) → bounded_by p ≡ Some k → Has rs (turned k) → ⊥
+      apart k e h =
+          let place = place_past back (rs ++ rest) (turned k) (has_first rs rest (turned k) h) in
+          none place.0 k e (let m : length back ≤ place.0 = place.1 in omega (arith, s.at_right)) (subst (λ z. bounded_at z place.0 ≡ Some (turned k)) (sym s.parts) place.2)
+
+      trees : (r : BoundTree) (u o : Option BoundTree) → Holds r rs o → Holds l (p ∷ []) u → HoldBoth rs (p ∷ []) r l (both_merged u o)
+      trees r None o on_right on_left = (on_right, on_left)
+      trees r (Some u) o on_right on_left =
+          let key = single_keyed on_left in
+          let same : both_merged (Some u) o ≡ (Some u, o) = whole_held u key.no_and on_right (λ k e i. apart k (sym key.key ∙ e) i) in
+          subst (HoldBoth rs (p ∷ []) r l) (sym same) (on_right, on_left)
+
+  module _ (first : ℕ) (late : begin ≤ first) (f : IsFirstOf all first p) where
+    abbrev left_key : Bounded
+    left_key = f.0
+
+    left_begins : length back ≤ first
+    left_begins = omega (arith, s.at_right)
+
+    left_open : IsOpen all first (turned left_key)
+    left_open = open_at all first (turned left_key) f.2.1
+
+    abbrev partner : Place
+    partner = Open left_open.range left_open.next
+
+    -- the partner is one of the right conjuncts
+    record IsAmong : Type 0 where
+      before : List Place
+      after : List Place
+      parts : rs ≡ before ++ partner ∷ after
+      place : first ≡ length (back ++ before)
+
+    among : IsAmong
+    among =
+        let cut = behind back (rs ++ rest) first partner left_begins (subst (λ z. slice_get z first ≡ Some partner) s.parts left_open.there) in
+        go cut (parts_of rs rest cut.back partner cut.front cut.parts)
+      where
+        own : Has rest left_key
+        own = has_second mid (p ∷ front) left_key (inl f.1)
+
+        go : (cut : IsBehind back (rs ++ rest) first partner) → Parts rs rest cut.back partner cut.front → IsAmong
+        go cut (in_rs after e g) = record { before = cut.back; after = after; parts = e; place = cut.at }
+        go cut (in_ls before e g) =
+            let there : Has rest (turned left_key) = subst (λ z. Has z (turned left_key)) (sym g) (has_second before (partner ∷ cut.front) (turned left_key) (inl (ap Some left_open.key))) in
+            absurd (s.alone left_key own there)
+
+    left_has_it : Has rs (turned left_key)
+    left_has_it = subst (λ z. Has z (turned left_key)) (sym among.parts) (has_second among.before (partner ∷ among.after) (turned left_key) (inl (ap Some left_open.key)))
+
+    left_at : bounded_at all (length (back ++ (rs ++ mid))) ≡ Some left_key
+    left_at = subst (λ z. bounded_at z (length (back ++ (rs ++ mid))) ≡ Some left_key) (sym left_split) (bounded_cut (back ++ (rs ++ mid)) p front ∙ f.1)
+
+    pub left_pair : IsPair all (at - 1) first
+    left_pair = (turned left_key, own_last, f.2)
+      where
+        not_later : (j : ℕ) → at - 1 < j → j < length all → bounded_at all j ≡ Some left_key → ⊥
+        not_later j m n e =
+            let parts : all ≡ ((back ++ (rs ++ mid)) ++ p ∷ []) ++ front = left_split ∙ sym (append_assoc (back ++ (rs ++ mid)) (p ∷ []) front) in
+            let has = has_behind ((back ++ (rs ++ mid)) ++ p ∷ []) front j left_key (omega (arith, left_here, length-append (back ++ (rs ++ mid)) (p ∷ []))) (subst (λ z. bounded_at z j ≡ Some left_key) parts e) in
+            s.apart (turned left_key) left_has_it (subst (Has front) (sym (turned_back left_key)) has)
+
+        own_last : IsLast all (turned (turned left_key)) (length all) (Some (at - 1))
+        own_last = subst (λ k. IsLast all k (length all) (Some (at - 1))) (sym (turned_back left_key)) (subst (λ i. i < length all) (sym left_here) (bounded_inside all (length (back ++ (rs ++ mid))) left_key left_at), subst (λ i. bounded_at all i ≡ Some left_key) (sym left_here) left_at, not_later)
+
+    pub left_merged : {new : List Place} → PairIsMerged all (at - 1) first new → MergedLeft new back rs mid (p ∷ []) front l
+    left_merged {new = new} merged = record {
+      rights = rights;
+      lefts = Merged b ∷ [];
+      parts = written;
+      long_right = length-append among.before (Gone ∷ among.after) ∙ sym (ap length among.parts ∙ length-append among.before (partner ∷ among.after));
+      long_left = refl;
+      stays = λ g. absurd (g left_key (inl f.1) left_has_it);
+      rights_within = λ k h. subst (λ z. Has z k) (sym among.parts) (replaced_within among.before among.after partner Gone refl k h);
+      lefts_within = λ k h. elim h [ inl g ↦ (let x : ◌≡◌ {A = Option Bounded} None (Some k) = g in cc) | inr i ↦ elim i [ ] ];
+      apart = λ k h i. elim i [ inl g ↦ (let x : ◌≡◌ {A = Option Bounded} None (Some (turned k)) = g in cc) | inr j ↦ elim j [ ] ];
+      trees = trees;
+    }
+      where
+        b : Box BoundExpression Global
+        b = merged.0
+
+        rights : List Place
+        rights = among.before ++ Gone ∷ among.after
+
+        tail : List Place
+        tail = mid ++ Merged b ∷ front
+
+        once : set all (at - 1) (Merged b) ≡ back ++ (rs ++ tail)
+        once = ap (λ z. set z (at - 1) (Merged b)) left_split ∙ (ap (λ i. set ((back ++ (rs ++ mid)) ++ p ∷ front) i (Merged b)) left_here
+            ∙ (set_cut (back ++ (rs ++ mid)) p (Merged b) front
+            ∙ (append_assoc back (rs ++ mid) (Merged b ∷ front) ∙ ap (λ z. back ++ z) (append_assoc rs mid (Merged b ∷ front)))))
+
+        regroup : (q : Place) → back ++ ((among.before ++ q ∷ among.after) ++ tail) ≡ (back ++ among.before) ++ q ∷ (among.after ++ tail)
+        regroup q = ap (λ z. back ++ z) (append_assoc among.before (q ∷ among.after) tail) ∙ sym (append_assoc back among.before (q ∷ (among.after ++ tail)))
+
+        twice : set (back ++ (rs ++ tail)) first Gone ≡ back ++ (rights ++ tail)
+        twice = ap (λ z. set (back ++ (z ++ tail)) first Gone) among.parts ∙ (ap (λ z. set z first Gone) (regroup partner) ∙ (ap (λ i. set ((back ++ among.before) ++ partner ∷ (among.after ++ tail)) i Gone) among.place
+            ∙ (set_cut (back ++ among.before) partner Gone (among.after ++ tail) ∙ sym (regroup Gone))))
+
+        written : new ≡ back ++ (rights ++ (mid ++ ((Merged b ∷ []) ++ front)))
+        written = merged.1 ∙ (ap (λ z. set z first Gone) once ∙ twice)
+
+        none_after : Has among.after (turned left_key) → ⊥
+        none_after h =
+            let parts : all ≡ (back ++ among.before) ++ partner ∷ (among.after ++ rest) = s.parts ∙ (ap (λ z. back ++ (z ++ rest)) among.parts ∙ (ap (λ z. back ++ z) (append_assoc among.before (partner ∷ among.after) rest) ∙ sym (append_assoc back among.before (partner ∷ (among.after ++ rest))))) in
+            let more : all ≡ ((back ++ among.before) ++ partner ∷ []) ++ (among.after ++ rest) = parts ∙ sym (append_assoc (back ++ among.before) (partner ∷ []) (among.after ++ rest)) in
+            let place = place_past ((back ++ among.before) ++ partner ∷ []) (among.after ++ rest) (turned left_key) (has_first among.after rest (turned left_key) h) in
+            let there = subst (λ z. bounded_at z place.0 ≡ Some (turned left_key)) (sym more) place.2 in
+            f.2.2 place.0 (let m : length ((back ++ among.before) ++ partner ∷ []) ≤ place.0 = place.1 in omega (arith, among.place, length-append (back ++ among.before) (partner ∷ []))) (bounded_inside all place.0 (turned left_key) there) there
+
+        trees : (r : BoundTree) (u o : Option BoundTree) → Holds r rs o → Holds l (p ∷ []) u → HoldBoth rights (Merged b ∷ []) r l (both_merged u o)
+        trees r u o on_right on_left =
+            let own = own_range left_key a f.1 on_left in
+            let there : slice_get all (at - 1) ≡ Some (Open own.range own.next) = subst (λ z. slice_get z (at - 1) ≡ Some (Open own.range own.next)) (sym left_split) (subst (λ i. slice_get ((back ++ (rs ++ mid)) ++ p ∷ front) i ≡ Some (Open own.range own.next)) (sym left_here) (slice_cut (back ++ (rs ++ mid)) p front ∙ ap Some own.place)) in
+            let key_of_l : keyed (range_of l) ≡ Some left_key = (single_keyed (subst (Holds l (p ∷ [])) own.whole on_left)).key ∙ f.1 in
+            let apart : Apart l among.after = (λ k e h. none_after (subst (λ z. Has among.after (turned z)) (let same : left_key ≡ k = cc in sym same) h)) in
+            let w = holds_gone l (tree_in b) left_open.range left_open.next a on_right (λ d e. merged.2 own.range left_open.range own.next left_open.next l d there left_open.there own.seen e) among.before among.after among.parts apart in
+            let same : both_merged u o ≡ (Some (tree_in b), w.rest) = ap (λ z. both_merged z o) own.whole ∙ w.merged in
+            subst (HoldBoth rights (Merged b ∷ []) r l) (sym same) (w.holds, merged_range a w.plain.0 w.plain.1)
+
+-- ---- a side that is a single conjunct
+
+module _ {all back rs mid ls : List Place} {r : BoundTree} {at start : ℕ} (a : is_and r ≡ false) (s : IsRight all back rs mid ls r at start) where
+  right_one : (p : Place) × (rs ≡ p ∷ [])
+  right_one = single_list rs r a s.count
+
+  right_stands_alone : IsRight all back (right_one.0 ∷ []) mid ls r at start
+  right_stands_alone = subst (λ z. IsRight all back z mid ls r at start) right_one.1 s
+
+  right_there : slice_get all (at - 1) ≡ Some right_one.0
+  right_there = subst (λ z. slice_get z (at - 1) ≡ Some right_one.0) (sym right_stands_alone.parts) (subst (λ i. slice_get (back ++ right_one.0 ∷ (mid ++ ls)) i ≡ Some right_one.0) (sym (here a right_stands_alone)) (slice_cut back right_one.0 (mid ++ ls)))
+
+  pub right_inside : (1 ≤ at) × (at - 1 < length all)
+  right_inside =
+      let count : at ≡ length back + 1 = (let e : at ≡ length (back ++ right_one.0 ∷ []) = right_stands_alone.at_back in omega (arith, length-append back (right_one.0 ∷ []))) in
+      let whole : length all ≡ length (back ++ right_one.0 ∷ (mid ++ ls)) = ap length right_stands_alone.parts in
+      (omega arith, omega (arith, length-append back (right_one.0 ∷ (mid ++ ls))))
+
+  pub right_kept : ((p : Place) → slice_get all (at - 1) ≡ Some p → NoneFrom all start p) → MergedRight all back rs mid ls r
+  right_kept none = subst (λ z. MergedRight all back z mid ls r) (sym right_one.1) (right_alone a right_stands_alone (none right_one.0 right_there))
+
+  module _ (first : ℕ) (found : (p : Place) → slice_get all (at - 1) ≡ Some p → (start ≤ first) × IsFirstOf all first p) where
+    pub right_pairs : IsPair all first (at - 1)
+    right_pairs = let f = found right_one.0 right_there in right_pair a right_stands_alone first f.0 f.1
+
+    pub right_taken : {new : List Place} → PairIsMerged all first (at - 1) new → MergedRight new back rs mid ls r
+    right_taken {new = new} merged = let f = found right_one.0 right_there in subst (λ z. MergedRight new back z mid ls r) (sym right_one.1) (right_merged a right_stands_alone first f.0 f.1 merged)
+
+module _ {all back rs mid ls front : List Place} {l : BoundTree} {at begin : ℕ} (a : is_and l ≡ false) (s : IsLeft all back rs mid ls front l at begin) where
+  left_one : (p : Place) × (ls ≡ p ∷ [])
+  left_one = single_list ls l a s.count
+
+  left_stands_alone : IsLeft all back rs mid (left_one.0 ∷ []) front l at begin
+  left_stands_alone = subst (λ z. IsLeft all back rs mid z front l at begin) left_one.1 s
+
+  left_there : slice_get all (at - 1) ≡ Some left_one.0
+  left_there = subst (λ z. slice_get z (at - 1) ≡ Some left_one.0) (sym (left_split a left_stands_alone)) (subst (λ i. slice_get ((back ++ (rs ++ mid)) ++ left_one.0 ∷ front) i ≡ Some left_one.0) (sym (left_here a left_stands_alone)) (slice_cut (back ++ (rs ++ mid)) left_one.0 front))
+
+  pub left_inside : (1 ≤ at) × (at - 1 < length all)
+  left_inside =
+      let e : at ≡ length (back ++ (rs ++ (mid ++ left_one.0 ∷ []))) = left_stands_alone.at_back in
+      let begun : at - 1 ≡ length (back ++ (rs ++ mid)) = left_here a left_stands_alone in
+      let whole : length all ≡ length ((back ++ (rs ++ mid)) ++ left_one.0 ∷ front) = ap length (left_split a left_stands_alone) in
+      (omega (arith, length-append back (rs ++ (mid ++ left_one.0 ∷ [])), length-append rs (mid ++ left_one.0 ∷ []), length-append mid (left_one.0 ∷ [])), omega (arith, length-append (back ++ (rs ++ mid)) (left_one.0 ∷ front)))
+
+  pub left_kept : ((p : Place) → slice_get all (at - 1) ≡ Some p → NoneFrom all begin p) → MergedLeft all back rs mid ls front l
+  left_kept none = subst (λ z. MergedLeft all back rs mid z front l) (sym left_one.1) (left_alone a left_stands_alone (none left_one.0 left_there))
+
+  module _ (first : ℕ) (found : (p : Place) → slice_get all (at - 1) ≡ Some p → (begin ≤ first) × IsFirstOf all first p) where
+    pub left_pairs : IsPair all (at - 1) first
+    left_pairs = let f = found left_one.0 left_there in left_pair a left_stands_alone first f.0 f.1
+
+    pub left_taken : {new : List Place} → PairIsMerged all (at - 1) first new → MergedLeft new back rs mid ls front l
+    left_taken {new = new} merged = let f = found left_one.0 left_there in subst (λ z. MergedLeft new back rs mid z front l) (sym left_one.1) (left_merged a left_stands_alone first f.0 f.1 merged)

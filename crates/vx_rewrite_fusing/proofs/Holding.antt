@@ -1,59 +1,35 @@
 -- What is left of a tree whose conjuncts are merged in their places.
-use Rattle.std.proofs.Common.{◌≡◌, ◌⊎◌, inl, inr, ℕ, zero, suc, ◌<◌, List, [], ◌∷◌, ◌++◌, length, set, refl, sym, subst, ap, ◌∙◌, Bool, true, false, ◌||◌, arith, append_assoc, length-append}
-use Rattle.std.specs.Prelude.{Option, Some, None, IsFalse, slice_get, option_map, option_to_list}
+use Rattle.std.proofs.Common.{◌≡◌, ◌⊎◌, inl, inr, ℕ, zero, suc, List, [], ◌∷◌, ◌++◌, length, refl, sym, subst, ap, ◌∙◌, true, false, ◌||◌, arith, append_assoc, length-append}
+use Rattle.std.specs.Prelude.{Option, Some, None, IsFalse, option_map, option_to_list}
 use Rattle.std.specs.declared.alloc.Global.{Global}
 use Rattle.std.specs.declared.boxed.Box.{Box}
-use Rattle.vx_value.specs.Types.{LogicalType, is_nullable}
-use Rattle.vx_fn.specs.Functions.{and_also, truth_type}
+use Rattle.vx_value.specs.Types.{LogicalType}
+use Rattle.vx_fn.specs.Functions.{and_also}
 use Rattle.vx_fn.specs.Views.{is_strict}
 use Rattle.vx_dtype.specs.Lists.{IsIn}
-use Rattle.vx_tree.specs.Trees.{BoundTree, node_type}
+use Rattle.vx_tree.specs.Trees.{BoundTree}
 use Rattle.vx_tree.specs.Views.{bound_of}
 use Rattle.vx_tree.specs.declared.bound.BoundExpression.{BoundExpression}
+use Rattle.vx_rewrite_fusing.specs.declared.places.Link.{Link}
 use Rattle.vx_rewrite_fusing.specs.declared.places.Place.{Place}
 use Rattle.vx_rewrite_fusing.specs.declared.places.Place.TheVariants.{Other, Open, Merged, Gone}
 use Rattle.vx_rewrite_fusing.specs.declared.ranges.RangeComparison.{RangeComparison}
 use Rattle.vx_rewrite_fusing.specs.declared.ranges.Side.{Side}
 use Rattle.vx_rewrite_fusing.specs.declared.ranges.Side.TheVariants.{Below, Above}
-use Rattle.vx_rewrite_fusing.specs.Conjuncts.{and_node, and_of, is_and, conjuncts, range_of, MergeTo, below_and_above, above_and_below, Mergeable, NoneMergeable, Fused}
-use Rattle.vx_rewrite_fusing.specs.Finding.{range_from, range_seen, tree_in, conjuncts_left, joined, IsBinary, LeftMerged}
+use Rattle.vx_rewrite_fusing.specs.Conjuncts.{and_node, and_of, is_and, conjuncts, range_of, MergeTo, Fused}
+use Rattle.vx_rewrite_fusing.specs.Finding.{range_seen, tree_in, conjuncts_left, joined, IsBinary}
+use Rattle.vx_rewrite_fusing.specs.Sides.{after_single, both_merged, with_merged}
 use Rattle.vx_rewrite_fusing.specs.Places.{opposite, turned, Bounded, bounded_at, became_place, has_merged, Has, NoPair, Holds, no_range, open_range, merged_range, gone_range, both, IsPlaceOf, IsNoted}
-use Rattle.vx_rewrite_fusing.proofs.Merges.{alone, either, in_own, in_first, in_second, no_left, none_of_fused}
+use Rattle.vx_rewrite_fusing.proofs.Keyed.{between_plain, keyed, merge_between, no_between, seen_key, single_merged, with_single}
+use Rattle.vx_rewrite_fusing.proofs.Merges.{alone, either, in_own, in_first, in_second, none_of_fused}
+use Rattle.vx_rewrite_fusing.proofs.Ordered.{Both, rights_after, rights_in_order}
 use Rattle.vx_rewrite_fusing.proofs.Pairs.{opposite_pair}
 use Rattle.vx_rewrite_fusing.proofs.Pairing.{conjuncts_left-joined}
-use Rattle.vx_rewrite_fusing.proofs.Found.{left_alone, left_none_alone, left_in_first, left_in_second, none_append_left}
 
 -- ---- a list at a place
 
--- the places before and after one
-pub record IsSplit (ps : List Place) (i : ℕ) (p : Place) : Type 0 where
-  pub back : List Place
-  pub front : List Place
-  pub parts : ps ≡ back ++ p ∷ front
-  pub written : (q : Place) → set ps i q ≡ back ++ q ∷ front
-  pub later : (k : Bounded) (j : ℕ) → bounded_at front j ≡ Some k → (m : ℕ) × (i < m) × (bounded_at ps m ≡ Some k)
-
-pub split_at : (ps : List Place) (i : ℕ) (p : Place) → slice_get ps i ≡ Some p → IsSplit ps i p
-split_at [] i p e = cc
-split_at (x ∷ ps) zero p e = record {
-  back = [];
-  front = ps;
-  parts = let h : x ≡ p = cc in ap (λ z. z ∷ ps) h;
-  written = λ q. refl;
-  later = λ k j h. (suc j, omega arith, h);
-}
-split_at (x ∷ ps) (suc i) p e =
-    let s = split_at ps i p e in
-    record {
-      back = x ∷ s.back;
-      front = s.front;
-      parts = ap (λ z. x ∷ z) s.parts;
-      written = λ q. ap (λ z. x ∷ z) (s.written q);
-      later = λ k j h. let b = s.later k j h in (suc b.0, let l : i < b.0 = b.1 in omega arith, b.2);
-    }
-
 -- the place stands in the one list or in the other
-data Parts (rs ls back : List Place) (p : Place) (front : List Place) : Type 0 where
+pub data Parts (rs ls back : List Place) (p : Place) (front : List Place) : Type 0 where
   in_rs : (rest : List Place) → rs ≡ back ++ p ∷ rest → front ≡ rest ++ ls → Parts rs ls back p front
   in_ls : (rest : List Place) → back ≡ rs ++ rest → ls ≡ rest ++ p ∷ front → Parts rs ls back p front
 
@@ -61,7 +37,7 @@ more_parts : (x y : Place) (rs ls back : List Place) (p : Place) (front : List P
 more_parts x y rs ls back p front e (in_rs rest f g) = in_rs rest (rw (e, f) refl) g
 more_parts x y rs ls back p front e (in_ls rest f g) = in_ls rest (rw (e, f) refl) g
 
-parts_of : (rs ls back : List Place) (p : Place) (front : List Place) → rs ++ ls ≡ back ++ p ∷ front → Parts rs ls back p front
+pub parts_of : (rs ls back : List Place) (p : Place) (front : List Place) → rs ++ ls ≡ back ++ p ∷ front → Parts rs ls back p front
 parts_of [] ls back p front e = in_ls back refl e
 parts_of (x ∷ rs) ls [] p front e = in_rs rs (cc) (cc)
 parts_of (x ∷ rs) ls (y ∷ back) p front e = more_parts x y rs ls back p front (cc) (parts_of rs ls back p front (cc))
@@ -105,6 +81,10 @@ turned_back (Above, b) = refl
 pub no_pair_joined : (rs ls : List Place) → NoPair rs rs → NoPair ls (rs ++ ls) → NoPair (rs ++ ls) (rs ++ ls)
 no_pair_joined rs ls f g k h i = either (λ r. either (λ s. f k r s) (λ s. g (turned k) s (has_first rs ls (turned (turned k)) (subst (Has rs) (sym (turned_back k)) r))) (has_either rs ls (turned k) i)) (λ s. g k s i) (has_either rs ls k h)
 
+-- no pair between two lists, and none in the second
+pub no_pair_across : (rs ls : List Place) → NoPair rs ls → NoPair ls ls → NoPair ls (rs ++ ls)
+no_pair_across rs ls f g k h i = either (λ r. f (turned k) r (subst (Has ls) (sym (turned_back k)) h)) (λ s. g k h s) (has_either rs ls (turned k) i)
+
 -- ---- whether something is merged
 
 pub merged_append : (ys xs : List Place) → has_merged (ys ++ xs) ≡ (has_merged ys || has_merged xs)
@@ -114,44 +94,44 @@ merged_append (Gone ∷ ys) xs = refl
 merged_append (Other ∷ ys) xs = merged_append ys xs
 merged_append (Open r next ∷ ys) xs = merged_append ys xs
 
--- ---- an And
+-- ---- nothing is merged
 
-and_binary : (x y : BoundTree) → IsBinary and_also x y (and_of x y)
-and_binary x y = (truth_type (is_nullable (node_type x) || is_nullable (node_type y)), refl)
+-- the tree with its first conjunct that is mergeable with d merged with it, if there is a tree
+abbrev pub with_merged_in : BoundTree → Option BoundTree → Option BoundTree
+with_merged_in d None = None
+with_merged_in d (Some l) = with_merged d l
 
--- ---- what is mergeable by its side and item
-
-same_key : (c d : BoundTree) (a b : Bool) (i k j l : BoundTree) (s t : Side) → range_of c ≡ Some (range_from s a i k) → range_of d ≡ Some (range_from t b j l) → Mergeable c d → (s ≡ opposite t) × (i ≡ j)
-same_key c d a b i k j l Below Above e f (m, below_and_above g h) = (refl, cc)
-same_key c d a b i k j l Below Above e f (m, above_and_below g h) = cc
-same_key c d a b i k j l Above Below e f (m, below_and_above g h) = cc
-same_key c d a b i k j l Above Below e f (m, above_and_below g h) = (refl, cc)
-same_key c d a b i k j l Below Below e f (m, below_and_above g h) = cc
-same_key c d a b i k j l Below Below e f (m, above_and_below g h) = cc
-same_key c d a b i k j l Above Above e f (m, below_and_above g h) = cc
-same_key c d a b i k j l Above Above e f (m, above_and_below g h) = cc
-
-pub mergeable_key : (c d : BoundTree) (r q : RangeComparison) → range_of c ≡ Some (range_seen r) → range_of d ≡ Some (range_seen q) → Mergeable c d → ◌≡◌ {A = Option Bounded} (Some (r.side, bound_of r.item.now)) (Some (opposite q.side, bound_of q.item.now))
-mergeable_key c d r q e f k = let h = same_key c d _ _ _ _ _ _ r.side q.side e f k in rw (h.0, h.1) refl
-
-merged_single : {c d m : BoundTree} → MergeTo c d m → IsFalse (is_and m)
-merged_single (below_and_above e f) = refl
-merged_single (above_and_below e f) = refl
-
-merged_unranged : {c d m : BoundTree} → MergeTo c d m → range_of m ≡ None
-merged_unranged (below_and_above e f) = refl
-merged_unranged (above_and_below e f) = refl
+none_in_both : (d : BoundTree) (l r : Option BoundTree) → with_merged_in d l ≡ None → with_merged_in d r ≡ None → with_merged_in d (joined l r) ≡ None
+none_in_both d None r e f = f
+none_in_both d (Some l) None e f = e
+none_in_both d (Some l) (Some r) e f = rw (e, f) refl
 
 -- no place is one of the item, and no conjunct is mergeable
-pub holds_none : {l : BoundTree} {o : Option BoundTree} {ps : List Place} (d : BoundTree) (q : RangeComparison) → Holds l ps o → range_of d ≡ Some (range_seen q) → (Has ps (opposite q.side, bound_of q.item.now) → ⊥) → NoneMergeable (conjuncts_left o) (d ∷ [])
-holds_none d q (no_range {c = c} a n) e f = left_none_alone a (λ k. no_left k.1 n)
-holds_none d q (open_range {c = c} {r = r} {next = next} a n) e f = left_none_alone a (λ k. f (inl (mergeable_key c d r q n e k)))
-holds_none d q (merged_range {c = c} {b = b} a m n) e f = left_none_alone m (λ k. no_left k.1 n)
-holds_none d q (gone_range a) e f = λ c z i j k. i
-holds_none d q (both {l' = l'} {r' = r'} {ls = ls} {rs = rs} same h g) e f =
-    subst (λ cs. NoneMergeable cs (d ∷ [])) (sym (conjuncts_left-joined l' r')) (none_append_left (conjuncts_left l') (conjuncts_left r') (d ∷ [])
-    (holds_none d q h e (λ x. f (has_second rs ls (opposite q.side, bound_of q.item.now) x)))
-    (holds_none d q g e (λ x. f (has_first rs ls (opposite q.side, bound_of q.item.now) x))))
+pub none_held : {l : BoundTree} {o : Option BoundTree} {ps : List Place} (d : BoundTree) → Holds l ps o → ((k : Bounded) → keyed (range_of d) ≡ Some k → Has ps (turned k) → ⊥) → with_merged_in d o ≡ None
+none_held d (no_range {c = c} a n) f = with_single d c a ∙ no_between (range_of c) (range_of d) (λ k e g. let h = ap keyed n in cc)
+none_held d (open_range {c = c} {r = r} a n) f =
+    let own : keyed (range_of c) ≡ Some (r.side, bound_of r.item.now) = ap keyed n ∙ ap Some (seen_key r.side _ _ _) in
+    with_single d c a ∙ no_between (range_of c) (range_of d) (λ k e g. f k g (inl (sym own ∙ e)))
+none_held d (merged_range {b = b} a m n) f = with_single d (tree_in b) m ∙ no_between (range_of (tree_in b)) (range_of d) (λ k e g. let h = ap keyed n in cc)
+none_held d (gone_range a) f = refl
+none_held d (both {l' = l'} {r' = r'} {ls = ls} {rs = rs} same h g) f =
+    none_in_both d l' r' (none_held d h (λ k e i. f k e (has_second rs ls (turned k) i))) (none_held d g (λ k e i. f k e (has_first rs ls (turned k) i)))
+
+pub whole_single : (c d : BoundTree) → is_and d ≡ false → with_merged d c ≡ None → both_merged (Some c) (Some d) ≡ (Some c, Some d)
+whole_single c d e f = ap (λ z. (Some z.0, z.1)) (single_merged c d e ∙ ap (after_single c d) f)
+
+-- the same of a left conjunct and a right tree
+pub whole_held : {r : BoundTree} {o : Option BoundTree} {ps : List Place} (c : BoundTree) → is_and c ≡ false → Holds r ps o → ((k : Bounded) → keyed (range_of c) ≡ Some k → Has ps (turned k) → ⊥) → both_merged (Some c) o ≡ (Some c, o)
+whole_held c x (no_range {c = d} a n) f = whole_single c d a (with_single d c x ∙ no_between (range_of c) (range_of d) (λ k e g. let h = ap keyed n in cc))
+whole_held c x (open_range {c = d} {r = r} a n) f =
+    let own : keyed (range_of d) ≡ Some (r.side, bound_of r.item.now) = ap keyed n ∙ ap Some (seen_key r.side _ _ _) in
+    whole_single c d a (with_single d c x ∙ no_between (range_of c) (range_of d) (λ k e g. f (turned k) e (inl (sym own ∙ (g ∙ ap Some (sym (turned_back k)))))))
+whole_held c x (merged_range {b = b} a m n) f = whole_single c (tree_in b) m (with_single (tree_in b) c x ∙ no_between (range_of c) (range_of (tree_in b)) (λ k e g. let h = ap keyed n in cc))
+whole_held c x (gone_range a) f = refl
+whole_held c x (both {l' = l'} {r' = r'} {ls = ls} {rs = rs} same h g) f =
+    let one = whole_held c x h (λ k e i. f k e (has_second rs ls (turned k) i)) in
+    let two = whole_held c x g (λ k e i. f k e (has_first rs ls (turned k) i)) in
+    rights_in_order (Some c) l' r' ∙ (ap (λ z. rights_after z r') one ∙ ap (λ (z : Both). (z.0, joined l' z.1)) two)
 
 -- ---- a range at a place is a conjunct
 
@@ -173,13 +153,6 @@ range_held k (gone_range a) (inl e) = cc
 range_held k (gone_range a) (inr h) = absurd h
 range_held k (both {l' = l'} {r' = r'} {ls = ls} {rs = rs} same h g) i = range_joined k l' r' (either (λ x. inr (range_held k g x)) (λ x. inl (range_held k h x)) (has_either rs ls k i))
 
--- a range at a place, and one that is bounded from the other side, are mergeable
-pub held_mergeable : {l u : BoundTree} {ps : List Place} (d : BoundTree) (q : RangeComparison) → Holds l ps (Some u) → range_of d ≡ Some (range_seen q) → Has ps (opposite q.side, bound_of q.item.now) → NoneMergeable (conjuncts u) (d ∷ []) → ⊥
-held_mergeable d q h e i none =
-    let k : Bounded = (opposite q.side, bound_of q.item.now) in
-    let c = range_held k h i in
-    none c.0 d c.2 (inl refl) (opposite_pair c.0 d (is_strict c.1.strict) (is_strict q.strict) (bound_of c.1.item.now) (bound_of c.1.bound.now) (bound_of q.item.now) (bound_of q.bound.now) c.1.side q.side (ap (λ (z : Bounded). z.0) c.4) (ap (λ (z : Bounded). z.1) c.4) c.3 e)
-
 -- a fused tree bounds nothing from opposite sides
 pub fused_no_pair : {l : BoundTree} {ps : List Place} → Holds l ps (Some l) → Fused l → NoPair ps ps
 fused_no_pair {l = l} h f k i j =
@@ -195,81 +168,127 @@ fused_no_pair {l = l} h f k i j =
     opposite_twice Below = refl
     opposite_twice Above = refl
 
--- ---- a range is merged
+-- ---- a left range is merged
 
 -- the first conjunct that is mergeable with d is merged with it, and the tree with it is held
 pub record Becomes (d l : BoundTree) (o : Option BoundTree) (ps : List Place) : Type 0 where
-  pub was : BoundTree
-  pub is_was : o ≡ Some was
   pub tree : BoundTree
-  pub merged : LeftMerged d was tree
+  pub merged : with_merged_in d o ≡ Some tree
   pub holds : Holds l ps (Some tree)
 
 becomes_alone : (d c : BoundTree) (b : Box BoundExpression Global) (back front : List Place) → IsFalse (is_and c) → MergeTo c d (tree_in b) → back ≡ [] → front ≡ [] → Becomes d c (Some c) (back ++ Merged b ∷ front)
-becomes_alone d c b back front a k e f = rw (e, f) (record { was = c; is_was = refl; tree = tree_in b; merged = left_alone a k; holds = merged_range a (merged_single k) (merged_unranged k) })
+becomes_alone d c b back front a k e f = let plain = between_plain k in rw (e, f) (record { tree = tree_in b; merged = with_single d c a ∙ merge_between k; holds = merged_range a plain.0 plain.1 })
 
 -- in the second of two trees
-becomes_second : (d x : BoundTree) (l' r' : Option BoundTree) (ys ps : List Place) {z : BoundTree} → Becomes d z r' ys → NoneMergeable (conjuncts_left l') (d ∷ []) → ((w : BoundTree) → Holds z ys (Some w) → Holds x ps (joined l' (Some w))) → Becomes d x (joined l' r') ps
-becomes_second d x None r' ys ps w none h = record { was = w.was; is_was = w.is_was; tree = w.tree; merged = w.merged; holds = h w.tree w.holds }
-becomes_second d x (Some l') r' ys ps w none h = record {
-  was = and_of l' w.was;
-  is_was = rw w.is_was refl;
-  tree = and_of l' w.tree;
-  merged = left_in_second (and_binary l' w.was) none w.merged refl;
-  holds = h w.tree w.holds;
-}
+becomes_second : (d x : BoundTree) (l' r' : Option BoundTree) (ys ps : List Place) {z : BoundTree} → Becomes d z r' ys → with_merged_in d l' ≡ None → ((w : BoundTree) → Holds z ys (Some w) → Holds x ps (joined l' (Some w))) → Becomes d x (joined l' r') ps
+becomes_second d x None r' ys ps w none h = record { tree = w.tree; merged = w.merged; holds = h w.tree w.holds }
+becomes_second d x (Some l') None ys ps w none h = let e : ◌≡◌ {A = Option BoundTree} None (Some w.tree) = w.merged in cc
+becomes_second d x (Some l') (Some r') ys ps w none h = record { tree = and_of l' w.tree; merged = rw (none, w.merged) refl; holds = h w.tree w.holds }
 
 -- in the first
 becomes_first : (d x : BoundTree) (l' r' : Option BoundTree) (xs ps : List Place) {z : BoundTree} → Becomes d z l' xs → ((w : BoundTree) → Holds z xs (Some w) → Holds x ps (joined (Some w) r')) → Becomes d x (joined l' r') ps
-becomes_first d x l' None xs ps w h = record { was = w.was; is_was = rw w.is_was refl; tree = w.tree; merged = w.merged; holds = h w.tree w.holds }
-becomes_first d x l' (Some r') xs ps w h = record {
-  was = and_of w.was r';
-  is_was = rw w.is_was refl;
-  tree = and_of w.tree r';
-  merged = left_in_first (and_binary w.was r') w.merged refl;
-  holds = h w.tree w.holds;
-}
+becomes_first d x None r' xs ps w h = let e : ◌≡◌ {A = Option BoundTree} None (Some w.tree) = w.merged in cc
+becomes_first d x (Some l') None xs ps w h = record { tree = w.tree; merged = w.merged; holds = h w.tree w.holds }
+becomes_first d x (Some l') (Some r') xs ps w h = record { tree = and_of w.tree r'; merged = rw w.merged refl; holds = h w.tree w.holds }
 
-becomes_both : (d : BoundTree) (q r : RangeComparison) (next : Option ℕ) (b : Box BoundExpression Global) (t : LogicalType) (l z : BoundTree) (l' z' : Option BoundTree) (ls rs back front : List Place) → and_node t l z ≡ and_of l z
-    → Holds l ls l' → Holds z rs z' → range_of d ≡ Some (range_seen q) → (Has front (opposite q.side, bound_of q.item.now) → ⊥)
-    → ((back front : List Place) → ls ≡ back ++ Open r next ∷ front → (Has front (opposite q.side, bound_of q.item.now) → ⊥) → Becomes d l l' (back ++ Merged b ∷ front))
-    → ((back front : List Place) → rs ≡ back ++ Open r next ∷ front → (Has front (opposite q.side, bound_of q.item.now) → ⊥) → Becomes d z z' (back ++ Merged b ∷ front))
+-- no place of the list is one of the other side of d's item
+abbrev pub Apart : BoundTree → List Place → Type 0
+Apart d ps = (k : Bounded) → keyed (range_of d) ≡ Some k → Has ps (turned k) → ⊥
+
+becomes_both : (d : BoundTree) (r : RangeComparison) (next : Link) (b : Box BoundExpression Global) (t : LogicalType) (l z : BoundTree) (l' z' : Option BoundTree) (ls rs back front : List Place) → and_node t l z ≡ and_of l z
+    → Holds l ls l' → Holds z rs z' → Apart d front
+    → ((back front : List Place) → ls ≡ back ++ Open r next ∷ front → Apart d front → Becomes d l l' (back ++ Merged b ∷ front))
+    → ((back front : List Place) → rs ≡ back ++ Open r next ∷ front → Apart d front → Becomes d z z' (back ++ Merged b ∷ front))
     → Parts rs ls back (Open r next) front → Becomes d (and_node t l z) (joined l' z') (back ++ Merged b ∷ front)
-becomes_both d q r next b t l z l' z' ls rs back front same h g e free on_left on_right (in_rs rest x y) =
-    let k : Bounded = (opposite q.side, bound_of q.item.now) in
-    let none : Has (rest ++ ls) k → ⊥ = subst (λ w. Has w k → ⊥) y free in
-    let w = on_right back rest x (λ i. none (has_first rest ls k i)) in
+becomes_both d r next b t l z l' z' ls rs back front same h g free on_left on_right (in_rs rest x y) =
+    let none : Apart d (rest ++ ls) = subst (Apart d) y free in
+    let w = on_right back rest x (λ k e i. none k e (has_first rest ls (turned k) i)) in
     let parts : (back ++ Merged b ∷ rest) ++ ls ≡ back ++ Merged b ∷ front = append_assoc back (Merged b ∷ rest) ls ∙ ap (λ v. back ++ Merged b ∷ v) (sym y) in
-    becomes_second d (and_node t l z) l' z' (back ++ Merged b ∷ rest) (back ++ Merged b ∷ front) w (holds_none d q h e (λ i. none (has_second rest ls k i)))
+    becomes_second d (and_node t l z) l' z' (back ++ Merged b ∷ rest) (back ++ Merged b ∷ front) w (none_held d h (λ k e i. none k e (has_second rest ls (turned k) i)))
     (λ u held. subst (λ ps. Holds (and_node t l z) ps (joined l' (Some u))) parts (both {t = t} same h held))
-becomes_both d q r next b t l z l' z' ls rs back front same h g e free on_left on_right (in_ls rest x y) =
+becomes_both d r next b t l z l' z' ls rs back front same h g free on_left on_right (in_ls rest x y) =
     let w = on_left rest front y free in
     let parts : rs ++ (rest ++ Merged b ∷ front) ≡ back ++ Merged b ∷ front = sym (append_assoc rs rest (Merged b ∷ front)) ∙ ap (λ v. v ++ Merged b ∷ front) (sym x) in
     becomes_first d (and_node t l z) l' z' (rest ++ Merged b ∷ front) (back ++ Merged b ∷ front) w
     (λ u held. subst (λ ps. Holds (and_node t l z) ps (joined (Some u) z')) parts (both {t = t} same held g))
 
-pub holds_merged : {l : BoundTree} {o : Option BoundTree} {ps : List Place} (d : BoundTree) (q r : RangeComparison) (next : Option ℕ) (b : Box BoundExpression Global) → Holds l ps o → range_of d ≡ Some (range_seen q)
+pub holds_merged : {l : BoundTree} {o : Option BoundTree} {ps : List Place} (d : BoundTree) (r : RangeComparison) (next : Link) (b : Box BoundExpression Global) → Holds l ps o
     → ((c : BoundTree) → range_of c ≡ Some (range_seen r) → MergeTo c d (tree_in b))
-    → (back front : List Place) → ps ≡ back ++ Open r next ∷ front → (Has front (opposite q.side, bound_of q.item.now) → ⊥) → Becomes d l o (back ++ Merged b ∷ front)
-holds_merged d q r next b (no_range {c = c} a n) e merges back front f free = let h = only Other (Open r next) back front f in let g : Other ≡ Open r next = h.0 in cc
-holds_merged d q r next b (open_range {c = c} {r = p} {next = o} a n) e merges back front f free =
+    → (back front : List Place) → ps ≡ back ++ Open r next ∷ front → Apart d front → Becomes d l o (back ++ Merged b ∷ front)
+holds_merged d r next b (no_range {c = c} a n) merges back front f free = let h = only Other (Open r next) back front f in let g : Other ≡ Open r next = h.0 in cc
+holds_merged d r next b (open_range {c = c} {r = p} {next = o} a n) merges back front f free =
     let h = only (Open p o) (Open r next) back front f in
     let g : Open p o ≡ Open r next = h.0 in
     let s : p ≡ r = cc in
     becomes_alone d c b back front a (merges c (n ∙ ap (λ z. Some (range_seen z)) s)) h.1 h.2
-holds_merged d q r next b (merged_range {c = c} {b = w} a m n) e merges back front f free = let h = only (Merged w) (Open r next) back front f in let g : Merged w ≡ Open r next = h.0 in cc
-holds_merged d q r next b (gone_range a) e merges back front f free = let h = only Gone (Open r next) back front f in let g : Gone ≡ Open r next = h.0 in cc
-holds_merged d q r next b (both {t = t} {l = l} {r = z} {l' = l'} {r' = z'} {ls = ls} {rs = rs} same h g) e merges back front f free =
-    becomes_both d q r next b t l z l' z' ls rs back front same h g e free (holds_merged d q r next b h e merges) (holds_merged d q r next b g e merges) (parts_of rs ls back (Open r next) front f)
+holds_merged d r next b (merged_range {c = c} {b = w} a m n) merges back front f free = let h = only (Merged w) (Open r next) back front f in let g : Merged w ≡ Open r next = h.0 in cc
+holds_merged d r next b (gone_range a) merges back front f free = let h = only Gone (Open r next) back front f in let g : Gone ≡ Open r next = h.0 in cc
+holds_merged d r next b (both {t = t} {l = l} {r = z} {l' = l'} {r' = z'} {ls = ls} {rs = rs} same h g) merges back front f free =
+    becomes_both d r next b t l z l' z' ls rs back front same h g free (holds_merged d r next b h merges) (holds_merged d r next b g merges) (parts_of rs ls back (Open r next) front f)
+
+-- ---- a right range is gone
+
+-- the left conjunct c is m, which it is with its first partner, and the tree without that one is held
+pub record Goes (c m r : BoundTree) (o : Option BoundTree) (ps : List Place) : Type 0 where
+  pub rest : Option BoundTree
+  pub merged : both_merged (Some c) o ≡ (Some m, rest)
+  pub holds : Holds r ps rest
+  pub plain : (is_and m ≡ false) × (range_of m ≡ None)
+
+goes_alone : (c m d : BoundTree) (back front : List Place) → is_and c ≡ false → IsFalse (is_and d) → MergeTo c d m → back ≡ [] → front ≡ [] → Goes c m d (Some d) (back ++ Gone ∷ front)
+goes_alone c m d back front x a k e f = rw (e, f) (record {
+  rest = None;
+  merged = ap (λ z. (Some z.0, z.1)) (single_merged c d a ∙ ap (after_single c d) (with_single d c x ∙ merge_between k));
+  holds = gone_range a;
+  plain = between_plain k;
+})
+
+goes_both : (c m : BoundTree) (r : RangeComparison) (next : Link) (t : LogicalType) (l z : BoundTree) (l' z' : Option BoundTree) (ls rs back front : List Place) → is_and c ≡ false → and_node t l z ≡ and_of l z
+    → Holds l ls l' → Holds z rs z' → Apart c front
+    → ((back front : List Place) → ls ≡ back ++ Open r next ∷ front → Apart c front → Goes c m l l' (back ++ Gone ∷ front))
+    → ((back front : List Place) → rs ≡ back ++ Open r next ∷ front → Apart c front → Goes c m z z' (back ++ Gone ∷ front))
+    → Parts rs ls back (Open r next) front → Goes c m (and_node t l z) (joined l' z') (back ++ Gone ∷ front)
+goes_both c m r next t l z l' z' ls rs back front p same h g free on_left on_right (in_rs rest x y) =
+    let none : Apart c (rest ++ ls) = subst (Apart c) y free in
+    let w = on_right back rest x (λ k e i. none k e (has_first rest ls (turned k) i)) in
+    let one = whole_held c p h (λ k e i. none k e (has_second rest ls (turned k) i)) in
+    let parts : (back ++ Gone ∷ rest) ++ ls ≡ back ++ Gone ∷ front = append_assoc back (Gone ∷ rest) ls ∙ ap (λ v. back ++ Gone ∷ v) (sym y) in
+    record {
+      rest = joined l' w.rest;
+      merged = rights_in_order (Some c) l' z' ∙ (ap (λ v. rights_after v z') one ∙ ap (λ (v : Both). (v.0, joined l' v.1)) w.merged);
+      holds = subst (λ ps. Holds (and_node t l z) ps (joined l' w.rest)) parts (both {t = t} same h w.holds);
+      plain = w.plain;
+    }
+goes_both c m r next t l z l' z' ls rs back front p same h g free on_left on_right (in_ls rest x y) =
+    let w = on_left rest front y free in
+    let two = whole_held m w.plain.0 g (λ k e i. let v = ap keyed w.plain.1 in cc) in
+    let parts : rs ++ (rest ++ Gone ∷ front) ≡ back ++ Gone ∷ front = sym (append_assoc rs rest (Gone ∷ front)) ∙ ap (λ v. v ++ Gone ∷ front) (sym x) in
+    record {
+      rest = joined w.rest z';
+      merged = rights_in_order (Some c) l' z' ∙ (ap (λ v. rights_after v z') w.merged ∙ ap (λ (v : Both). (v.0, joined w.rest v.1)) two);
+      holds = subst (λ ps. Holds (and_node t l z) ps (joined w.rest z')) parts (both {t = t} same w.holds g);
+      plain = w.plain;
+    }
+
+pub holds_gone : {z : BoundTree} {o : Option BoundTree} {ps : List Place} (c m : BoundTree) (r : RangeComparison) (next : Link) → is_and c ≡ false → Holds z ps o
+    → ((d : BoundTree) → range_of d ≡ Some (range_seen r) → MergeTo c d m)
+    → (back front : List Place) → ps ≡ back ++ Open r next ∷ front → Apart c front → Goes c m z o (back ++ Gone ∷ front)
+holds_gone c m r next p (no_range a n) merges back front f free = let h = only Other (Open r next) back front f in let g : Other ≡ Open r next = h.0 in cc
+holds_gone c m r next p (open_range {c = d} {r = v} {next = o} a n) merges back front f free =
+    let h = only (Open v o) (Open r next) back front f in
+    let g : Open v o ≡ Open r next = h.0 in
+    let s : v ≡ r = cc in
+    goes_alone c m d back front p a (merges d (n ∙ ap (λ z. Some (range_seen z)) s)) h.1 h.2
+holds_gone c m r next p (merged_range {b = w} a x n) merges back front f free = let h = only (Merged w) (Open r next) back front f in let g : Merged w ≡ Open r next = h.0 in cc
+holds_gone c m r next p (gone_range a) merges back front f free = let h = only Gone (Open r next) back front f in let g : Gone ≡ Open r next = h.0 in cc
+holds_gone c m r next p (both {t = t} {l = l} {r = z} {l' = l'} {r' = z'} {ls = ls} {rs = rs} same h g) merges back front f free =
+    goes_both c m r next t l z l' z' ls rs back front p same h g free (holds_gone c m r next p h merges) (holds_gone c m r next p g merges) (parts_of rs ls back (Open r next) front f)
 
 -- ---- nothing is merged yet
 
 pub noted_single : (l : BoundTree) (o : Option RangeComparison) (p : Place) → IsFalse (is_and l) → option_map range_seen o ≡ range_of l → IsPlaceOf o p → IsNoted l (p ∷ [])
 noted_single l None p a e f = subst (λ z. IsNoted l (z ∷ [])) (sym f) (no_range a (sym e), refl)
 noted_single l (Some r) p a e f = subst (λ z. IsNoted l (z ∷ [])) (sym f.1) (open_range {r = r} {next = f.0} a (sym e), refl)
-
-pub noted_and : (t : LogicalType) (x y : BoundTree) (xs ys : List Place) → and_node t x y ≡ and_of x y → IsNoted x xs → IsNoted y ys → IsNoted (and_node t x y) (ys ++ xs)
-noted_and t x y xs ys same h g = (subst (λ z. Holds (and_node t x y) (ys ++ xs) (Some z)) (sym same) (both {t = t} same h.0 g.0), merged_append ys xs ∙ rw (h.1, g.1) refl)
 
 -- a single conjunct has one place
 pub record OnePlace (l : BoundTree) (ps : List Place) (o : Option BoundTree) : Type 0 where

@@ -12,9 +12,11 @@ pub mod Unique
 pub mod Linking
 pub mod Holding
 pub mod Heading
-pub mod Chains
 pub mod Cutting
 pub mod Standing
-pub mod Along
 pub mod Telling
-pub mod Wide
+pub mod Keyed
+pub mod Ordered
+pub mod Growing
+pub mod Apart
+pub mod Searching

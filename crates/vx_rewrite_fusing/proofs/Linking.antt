@@ -1,18 +1,23 @@
 -- Where the ranges of an item stand, after a conjunct is put in front or merged.
 use Rattle.std.proofs.Common.{◌≡◌, ◌⊎◌, inl, inr, ℕ, zero, suc, ◌<◌, ◌≤◌, List, [], ◌∷◌, ◌++◌, length, get_or, set, refl, sym, subst, ap, ◌∙◌, Bool, true, false, arith, length-append, length-set}
 use Rattle.std.specs.Prelude.{Option, Some, None, slice_get}
+use Rattle.std.specs.declared.alloc.Global.{Global}
+use Rattle.std.specs.declared.boxed.Box.{Box}
 use denote.Ref.{Bor}
 use Rattle.vx_tree.specs.Equality.{equal_bound, equal_bound-Decides}
 use Rattle.vx_tree.specs.Trees.{BoundTree}
 use Rattle.vx_tree.specs.Views.{bound_of}
 use Rattle.vx_tree.specs.declared.bound.BoundExpression.{BoundExpression}
 use Rattle.vx_rewrite_fusing.specs.declared.places.Places.{Places}
+use Rattle.vx_rewrite_fusing.specs.declared.places.Link.{Link}
 use Rattle.vx_rewrite_fusing.specs.declared.places.Place.{Place}
 use Rattle.vx_rewrite_fusing.specs.declared.places.Place.TheVariants.{Other, Open, Merged, Gone}
 use Rattle.vx_rewrite_fusing.specs.declared.ranges.RangeComparison.{RangeComparison}
 use Rattle.vx_rewrite_fusing.specs.declared.ranges.Side.{Side}
 use Rattle.vx_rewrite_fusing.specs.declared.ranges.Side.TheVariants.{Below, Above}
-use Rattle.vx_rewrite_fusing.specs.Places.{Bounded, bounded_by, bounded_at, next_of, next_at, IsLast, head_of, SetsHead, IsLinked}
+use Rattle.vx_rewrite_fusing.specs.Places.{opposite, turned, Bounded, bounded_by, bounded_at, first_at, first_by, next_of, next_at, number_at, place_at, IsFirstOf, IsLast, head_of, IsNumbered, IsPair, KeepsNumbers, NoneFrom, SetsFirst, SetsHead, IsLinked}
+use Rattle.vx_rewrite_fusing.specs.declared.heads.Heads.{Heads}
+use Rattle.vx_rewrite_fusing.proofs.Heading.{sets_head, sets_numbered}
 use Rattle.vx_rewrite_fusing.proofs.Merges.{either}
 
 -- ---- what stands at a place
@@ -158,17 +163,35 @@ parts_same {s = s} {t = t} {b = b} {c = c} e = (ap side e, ap tree e)
     tree None = b
     tree (Some k) = k.1
 
-pub pushed_open : (old new : Places) (r : RangeComparison) (next : Option ℕ) → IsLinked old → new.list.items ≡ old.list.items ++ Open r next ∷ [] → next ≡ head_of old.heads r.side r.item → SetsHead old.heads new.heads r.side r.item (Some (length old.list.items)) → IsLinked new
-pushed_open old new r next linked e before sets = record {
+slice_inside : (ps : List Place) (i : ℕ) (p : Place) → slice_get ps i ≡ Some p → i < length ps
+slice_inside [] i p e = cc
+slice_inside (q ∷ ps) zero p e = omega arith
+slice_inside (q ∷ ps) (suc i) p e = let h = slice_inside ps i p e in omega arith
+
+-- a place of a list with one more at its end
+slice_pushed : (ps : List Place) (p q : Place) (i : ℕ) → slice_get (ps ++ p ∷ []) i ≡ Some q → (slice_get ps i ≡ Some q) ⊎ (p ≡ q)
+slice_pushed [] p q zero e = inr (cc)
+slice_pushed [] p q (suc i) e = cc
+slice_pushed (x ∷ ps) p q zero e = inl e
+slice_pushed (x ∷ ps) p q (suc i) e = slice_pushed ps p q i e
+
+pub pushed_open : (old new : Places) (r : RangeComparison) (link : Link) → IsLinked old → new.list.items ≡ old.list.items ++ Open r link ∷ [] → link.next ≡ head_of old.heads r.side r.item → SetsHead old.heads new.heads r.side r.item (Some (length old.list.items))
+    → IsNumbered new.heads → ((x : Bor BoundExpression) (n : ℕ) → number_at old.heads x ≡ Some n → number_at new.heads x ≡ Some n) → number_at new.heads r.item ≡ Some link.number → IsLinked new
+pushed_open old new r link linked e before sets numbered keeps mine = record {
   heads = λ s x. subst (λ qs. IsLast qs (s, bound_of x.now) (length qs) (head_of new.heads s x)) (sym e) (either (here s x) (elsewhere s x) (same_or s r.side (bound_of x.now) (bound_of r.item.now)));
-  nexts = subst NextsRight (sym e) (nexts_pushed ps p linked.nexts (λ k f. subst (λ j. IsLast ps j (length ps) next) (own k f) (subst (IsLast ps (r.side, bound_of r.item.now) (length ps)) (sym before) (linked.heads r.side r.item))));
+  nexts = subst NextsRight (sym e) (nexts_pushed ps p linked.nexts (λ k f. subst (λ j. IsLast ps j (length ps) link.next) (own k f) (subst (IsLast ps (r.side, bound_of r.item.now) (length ps)) (sym before) (linked.heads r.side r.item))));
+  numbered = numbered;
+  own = λ i q l f. either
+      (λ g. keeps q.item l.number (linked.own i q l g))
+      (λ (g : p ≡ Open q l). let range : r ≡ q = cc in let same : link ≡ l = cc in subst (λ z. number_at new.heads z.item ≡ Some l.number) range (subst (λ z. number_at new.heads r.item ≡ Some z.number) same mine))
+      (slice_pushed ps p (Open q l) i (subst (λ z. slice_get z i ≡ Some (Open q l)) e f));
 }
   where
     ps : List Place
     ps = old.list.items
 
     p : Place
-    p = Open r next
+    p = Open r link
 
     own : (k : Bounded) → Some (r.side, bound_of r.item.now) ≡ Some k → (r.side, bound_of r.item.now) ≡ k
     own k f = cc
@@ -179,16 +202,35 @@ pushed_open old new r next linked e before sets = record {
     elsewhere : (s : Side) (x : Bor BoundExpression) → ((s ≡ r.side) × (bound_of x.now ≡ bound_of r.item.now) → ⊥) → IsLast (ps ++ p ∷ []) (s, bound_of x.now) (length (ps ++ p ∷ [])) (head_of new.heads s x)
     elsewhere s x apart = subst (IsLast (ps ++ p ∷ []) (s, bound_of x.now) (length (ps ++ p ∷ []))) (sym ((sets s x).1 apart)) (last_past ps p (s, bound_of x.now) (head_of old.heads s x) (λ f. let q = parts_same f in apart (sym q.0, sym q.1)) (linked.heads s x))
 
+-- the same from what is kept once the item has its number
+pub pushed_numbered : (old new : Places) (middle : Heads) (r : RangeComparison) (link : Link) → IsLinked old → new.list.items ≡ old.list.items ++ Open r link ∷ [] → IsNumbered middle → KeepsNumbers old.heads middle → number_at middle r.item ≡ Some link.number
+    → link.next ≡ first_at middle.firsts.items r.side link.number → new.heads.numbers ≡ middle.numbers → SetsFirst middle.firsts.items new.heads.firsts.items r.side link.number (Some (length old.list.items)) → IsLinked new
+pushed_numbered old new middle r link linked e numbered keeps mine first same sets =
+    let there : head_of middle r.side r.item ≡ first_at middle.firsts.items r.side link.number = ap (first_by middle.firsts.items r.side) mine in
+    let at = sets_head middle new.heads r.side r.item link.number (Some (length old.list.items)) numbered mine same sets in
+    let whole : SetsHead old.heads new.heads r.side r.item (Some (length old.list.items)) = (λ t y. ((at t y).0, λ n. (at t y).1 n ∙ keeps.0 t y)) in
+    pushed_open old new r link linked e (first ∙ (sym there ∙ keeps.0 r.side r.item)) whole (sets_numbered middle new.heads r.side link.number (Some (length old.list.items)) numbered same sets)
+    (λ x n f. ap (λ z. place_at z (bound_of x.now)) same ∙ keeps.1 x n f) (ap (λ z. place_at z (bound_of r.item.now)) same ∙ mine)
+
 pub pushed_other : (old new : Places) → IsLinked old → new.list.items ≡ old.list.items ++ Other ∷ [] → new.heads ≡ old.heads → IsLinked new
 pushed_other old new linked e same = record {
   heads = λ s x. subst (λ qs. IsLast qs (s, bound_of x.now) (length qs) (head_of new.heads s x)) (sym e) (subst (λ h. IsLast (ps ++ Other ∷ []) (s, bound_of x.now) (length (ps ++ Other ∷ [])) (head_of h s x)) (sym same) (last_past ps Other (s, bound_of x.now) (head_of old.heads s x) (λ f. cc) (linked.heads s x)));
   nexts = subst NextsRight (sym e) (nexts_pushed ps Other linked.nexts (λ k f. cc));
+  numbered = subst IsNumbered (sym same) linked.numbered;
+  own = λ i q l f. subst (λ h. number_at h q.item ≡ Some l.number) (sym same) (either (linked.own i q l) (λ (g : Other ≡ Open q l). cc) (slice_pushed ps Other (Open q l) i (subst (λ z. slice_get z i ≡ Some (Open q l)) e f)));
 }
   where
     ps : List Place
     ps = old.list.items
 
 -- ---- a range that is merged
+
+slice_apart : (ps : List Place) (i j : ℕ) (q : Place) → (j ≡ i → ⊥) → slice_get (set ps i q) j ≡ slice_get ps j
+slice_apart [] i j q n = refl
+slice_apart (p ∷ ps) zero zero q n = absurd (n refl)
+slice_apart (p ∷ ps) zero (suc j) q n = refl
+slice_apart (p ∷ ps) (suc i) zero q n = refl
+slice_apart (p ∷ ps) (suc i) (suc j) q n = slice_apart ps i j q (λ e. n (ap suc e))
 
 -- a range is taken out
 module _ (ps : List Place) (i : ℕ) (q : Place) (k : Bounded) (gone : bounded_by q ≡ None) (inside : i < length ps) (here : bounded_at ps i ≡ Some k) (behind : (j : ℕ) → i < j → j < length ps → bounded_at ps j ≡ Some k → ⊥) where
@@ -244,17 +286,13 @@ none_is places s x linked e j f = go (subst (IsLast places.list.items (s, bound_
     go : IsLast places.list.items (s, bound_of x.now) (length places.list.items) None → ⊥
     go h = h j (bounded_inside places.list.items j (s, bound_of x.now) f) f
 
--- the first range bounds the item from that side
-pub first_bounds : (places : Places) (s : Side) (x : Bor BoundExpression) (i : ℕ) (r : RangeComparison) (next : Option ℕ) → IsLinked places → head_of places.heads s x ≡ Some i → slice_get places.list.items i ≡ Some (Open r next) → (r.side ≡ s) × (bound_of r.item.now ≡ bound_of x.now)
-first_bounds places s x i r next linked head there =
-    let last = first_is places s x i linked head in
-    parts_same (sym (bounded_here places.list.items i (Open r next) there) ∙ last.1)
-
 -- the first range of an item is taken out
-pub removed_linked : (old new : Places) (s : Side) (x : Bor BoundExpression) (i : ℕ) (r : RangeComparison) (after : Option ℕ) (q : Place) → bounded_by q ≡ None → IsLinked old → head_of old.heads s x ≡ Some i → slice_get old.list.items i ≡ Some (Open r after) → SetsHead old.heads new.heads s x after → new.list.items ≡ set old.list.items i q → IsLinked new
-removed_linked old new s x i r after q gone linked head there sets e = record {
+pub removed_linked : (old new : Places) (s : Side) (x : Bor BoundExpression) (i : ℕ) (r : RangeComparison) (after : Link) (q : Place) → bounded_by q ≡ None → IsLinked old → head_of old.heads s x ≡ Some i → slice_get old.list.items i ≡ Some (Open r after) → SetsHead old.heads new.heads s x after.next → new.heads.numbers ≡ old.heads.numbers → IsNumbered new.heads → new.list.items ≡ set old.list.items i q → IsLinked new
+removed_linked old new s x i r after q gone linked head there sets same numbered e = record {
   heads = λ t y. subst (λ qs. IsLast qs (t, bound_of y.now) (length qs) (head_of new.heads t y)) (sym e) (either (here t y) (elsewhere t y) (same_or t s (bound_of y.now) (bound_of x.now)));
   nexts = subst NextsRight (sym e) (nexts_set ps i q (s, bound_of x.now) gone last.0 last.1 last.2 linked.nexts);
+  numbered = numbered;
+  own = own;
 }
   where
     ps : List Place
@@ -266,12 +304,107 @@ removed_linked old new s x i r after q gone linked head there sets e = record {
     last : (i < length ps) × (bounded_at ps i ≡ Some (s, bound_of x.now)) × ((j : ℕ) → i < j → j < length ps → bounded_at ps j ≡ Some (s, bound_of x.now) → ⊥)
     last = first_is old s x i linked head
 
-    next : IsLast ps (s, bound_of x.now) i after
+    own : (j : ℕ) (p : RangeComparison) (link : Link) → slice_get new.list.items j ≡ Some (Open p link) → number_at new.heads p.item ≡ Some link.number
+    own j p link f = ap (λ z. place_at z (bound_of p.item.now)) same ∙ linked.own j p link (sym (slice_apart ps i j q apart) ∙ there_now)
+      where
+        there_now : slice_get (set ps i q) j ≡ Some (Open p link)
+        there_now = subst (λ z. slice_get z j ≡ Some (Open p link)) e f
+
+        apart : j ≡ i → ⊥
+        apart h =
+            let read : bounded_at (set ps i q) i ≡ None = bounded_set ps i q last.0 ∙ gone in
+            let held : bounded_at (set ps i q) j ≡ Some (p.side, bound_of p.item.now) = bounded_here (set ps i q) j (Open p link) there_now in
+            let at : bounded_at (set ps i q) i ≡ Some (p.side, bound_of p.item.now) = subst (λ m. bounded_at (set ps i q) m ≡ Some (p.side, bound_of p.item.now)) h held in
+            cc
+
+    next : IsLast ps (s, bound_of x.now) i after.next
     next = subst (IsLast ps (s, bound_of x.now) i) (next_here ps i (Open r after) there) (linked.nexts i (s, bound_of x.now) last.1)
 
     here : (t : Side) (y : Bor BoundExpression) → (t ≡ s) × (bound_of y.now ≡ bound_of x.now) → IsLast qs (t, bound_of y.now) (length qs) (head_of new.heads t y)
-    here t y h = subst (IsLast qs (t, bound_of y.now) (length qs)) (sym ((sets t y).0 h)) (rw (h.0, h.1) (last_of_it ps i q (s, bound_of x.now) gone last.0 last.1 last.2 after next))
+    here t y h = subst (IsLast qs (t, bound_of y.now) (length qs)) (sym ((sets t y).0 h)) (rw (h.0, h.1) (last_of_it ps i q (s, bound_of x.now) gone last.0 last.1 last.2 after.next next))
 
     elsewhere : (t : Side) (y : Bor BoundExpression) → ((t ≡ s) × (bound_of y.now ≡ bound_of x.now) → ⊥) → IsLast qs (t, bound_of y.now) (length qs) (head_of new.heads t y)
     elsewhere t y n = subst (IsLast qs (t, bound_of y.now) (length qs)) (sym ((sets t y).1 n)) (last_of_other ps i q (s, bound_of x.now) gone last.0 last.1 last.2 (t, bound_of y.now) (length qs) (head_of old.heads t y) (λ h. n (ap (λ (z : Bounded). z.0) h, ap (λ (z : Bounded). z.1) h))
         (rw (length-set ps i q) (linked.heads t y)))
+
+-- ---- partners
+
+pub turned_apart : (k : Bounded) → k ≡ turned k → ⊥
+turned_apart (Below, x) e = let s : Below ≡ Above = ap (λ (z : Bounded). z.0) e in cc
+turned_apart (Above, x) e = let s : Above ≡ Below = ap (λ (z : Bounded). z.0) e in cc
+
+last_unique : (ps : List Place) (k : Bounded) (n : ℕ) (o p : Option ℕ) → IsLast ps k n o → IsLast ps k n p → o ≡ p
+last_unique ps k n None None h g = refl
+last_unique ps k n None (Some j) h g = absurd (h j g.0 g.1)
+last_unique ps k n (Some i) None h g = absurd (g i h.0 h.1)
+last_unique ps k n (Some i) (Some j) h g = either
+    (λ (l : i < j). absurd (h.2 j l g.0 g.1))
+    (λ (l : j ≤ i). either (λ (m : j < i). absurd (g.2 i m h.0 h.1)) (λ (m : i ≤ j). let same : i ≡ j = omega arith in ap Some same) (below_or j i))
+    (below_or i j)
+
+-- a place that bounds an item has a range
+pub record IsOpen (ps : List Place) (i : ℕ) (k : Bounded) : Type 0 where
+  pub range : RangeComparison
+  pub next : Link
+  pub there : slice_get ps i ≡ Some (Open range next)
+  pub key : (range.side, bound_of range.item.now) ≡ k
+
+pub open_at : (ps : List Place) (i : ℕ) (k : Bounded) → bounded_at ps i ≡ Some k → IsOpen ps i k
+open_at [] i k e = cc
+open_at (Other ∷ ps) zero k e = cc
+open_at (Open r next ∷ ps) zero k e = record { range = r; next = next; there = refl; key = cc }
+open_at (Merged b ∷ ps) zero k e = cc
+open_at (Gone ∷ ps) zero k e = cc
+open_at (p ∷ ps) (suc i) k e = let h = open_at ps i k e in record { range = h.range; next = h.next; there = h.there; key = h.key }
+
+module _ (places : Places) (r : RangeComparison) (next : Link) (from : ℕ) (linked : IsLinked places) where
+  turned_key : (i : ℕ) (k : Bounded) → bounded_by (Open r next) ≡ Some k → bounded_at places.list.items i ≡ Some (turned k) → bounded_at places.list.items i ≡ Some (opposite r.side, bound_of r.item.now)
+  turned_key i k e f = let own : (r.side, bound_of r.item.now) ≡ k = cc in f ∙ ap (λ z. Some (turned z)) (sym own)
+
+  pub none_first : head_of places.heads (opposite r.side) r.item ≡ None → NoneFrom places.list.items from (Open r next)
+  none_first h i k e l f = none_is places (opposite r.side) r.item linked h i (turned_key i k e f)
+
+  pub early_first : (first : ℕ) → head_of places.heads (opposite r.side) r.item ≡ Some first → first < from → NoneFrom places.list.items from (Open r next)
+  early_first first h less i k e l f =
+      let last = first_is places (opposite r.side) r.item first linked h in
+      let there = turned_key i k e f in
+      last.2 i (omega arith) (bounded_inside places.list.items i (opposite r.side, bound_of r.item.now) there) there
+
+  pub partner_first : (first : ℕ) → head_of places.heads (opposite r.side) r.item ≡ Some first → IsFirstOf places.list.items first (Open r next)
+  partner_first first h = ((r.side, bound_of r.item.now), refl, first_is places (opposite r.side) r.item first linked h)
+
+-- a range is the first of its side and item where the place of one of these is
+pub key_there : (ps : List Place) (i : ℕ) (k : Bounded) (r : RangeComparison) (next : Link) → bounded_at ps i ≡ Some k → slice_get ps i ≡ Some (Open r next) → (r.side, bound_of r.item.now) ≡ k
+key_there ps i k r next e f = let g : bounded_at ps i ≡ Some (r.side, bound_of r.item.now) = bounded_here ps i (Open r next) f in cc
+
+pub first_there : (places : Places) (i : ℕ) (k : Bounded) (r : RangeComparison) (next : Link) → IsLinked places → IsLast places.list.items k (length places.list.items) (Some i) → slice_get places.list.items i ≡ Some (Open r next) → head_of places.heads r.side r.item ≡ Some i
+first_there places i k r next linked last there =
+    let same = key_there places.list.items i k r next last.1 there in
+    last_unique places.list.items (r.side, bound_of r.item.now) (length places.list.items) (head_of places.heads r.side r.item) (Some i) (linked.heads r.side r.item)
+    (subst (λ z. IsLast places.list.items z (length places.list.items) (Some i)) (sym same) last)
+
+-- two ranges are taken out
+pub pair_linked : (old middle new : Places) (left right : ℕ) (c d : RangeComparison) (after next : Link) (b : Box BoundExpression Global) → IsLinked old → IsPair old.list.items left right
+    → slice_get old.list.items left ≡ Some (Open c after) → slice_get old.list.items right ≡ Some (Open d next)
+    → middle.list.items ≡ set old.list.items left (Merged b) → middle.heads.numbers ≡ old.heads.numbers → SetsFirst old.heads.firsts.items middle.heads.firsts.items c.side after.number after.next
+    → new.list.items ≡ set middle.list.items right Gone → new.heads.numbers ≡ middle.heads.numbers → SetsFirst middle.heads.firsts.items new.heads.firsts.items d.side next.number next.next → IsLinked new
+pair_linked old middle new left right c d after next b linked pair on_left on_right e same sets f same_right sets_right =
+    let k = pair.0 in
+    let left_key = key_there old.list.items left (turned k) c after pair.1.1 on_left in
+    let right_key = key_there old.list.items right k d next pair.2.1 on_right in
+    let left_head = first_there old left (turned k) c after linked pair.1 on_left in
+    let right_head = first_there old right k d next linked pair.2 on_right in
+    let set_left = sets_head old.heads middle.heads c.side c.item after.number after.next linked.numbered (linked.own left c after on_left) same sets in
+    let numbered = sets_numbered old.heads middle.heads c.side after.number after.next linked.numbered same sets in
+    let good = removed_linked old middle c.side c.item left c after (Merged b) refl linked left_head on_left set_left same numbered e in
+    let other : (d.side ≡ c.side) × (bound_of d.item.now ≡ bound_of c.item.now) → ⊥ = (λ h.
+    let key : (d.side, bound_of d.item.now) ≡ (c.side, bound_of c.item.now) = rw (h.0, h.1) refl in
+    turned_apart k (sym right_key ∙ (key ∙ left_key))) in
+    let apart : right ≡ left → ⊥ = (λ h.
+    let there : bounded_at old.list.items left ≡ Some k = subst (λ i. bounded_at old.list.items i ≡ Some k) h pair.2.1 in
+    let keys : Some k ≡ Some (turned k) = sym there ∙ pair.1.1 in
+    turned_apart k (cc)) in
+    let head : head_of middle.heads d.side d.item ≡ Some right = (set_left d.side d.item).1 other ∙ right_head in
+    let there : slice_get middle.list.items right ≡ Some (Open d next) = ap (λ z. slice_get z right) e ∙ (slice_apart old.list.items left right (Merged b) apart ∙ on_right) in
+    let set_right = sets_head middle.heads new.heads d.side d.item next.number next.next numbered (good.own right d next there) same_right sets_right in
+    removed_linked middle new d.side d.item right d next Gone refl good head there set_right same_right (sets_numbered middle.heads new.heads d.side next.number next.next numbered same_right sets_right) f

@@ -1,5 +1,5 @@
 -- What the steps of `find_between` answer.
-use Rattle.std.specs.Prelude.{◌≡◌, ℕ, zero, suc, List, [], ◌∷◌, Option, Some, None, Result, Ok, Err, Bool, IsFalse}
+use Rattle.std.specs.Prelude.{◌≡◌, ℕ, zero, suc, List, [], ◌∷◌, Option, Some, None, Result, Ok, Err, Bool, IsFalse, option_map}
 use Rattle.std.specs.declared.alloc.Global.{Global}
 use Rattle.std.specs.declared.boxed.Box.{Box}
 use Rattle.vx_dtype.specs.declared.error.VortexError.{VortexError}
@@ -7,6 +7,7 @@ use Rattle.vx_dtype.specs.declared.error.VortexError.TheVariants.{OutOfMemory}
 use Rattle.vx_value.specs.Types.{LogicalType}
 use Rattle.vx_fn.specs.Functions.{Operation, compares, binary}
 use Rattle.vx_fn.specs.Views.{is_strict}
+use Rattle.vx_dtype.specs.Lists.{IsIn}
 use Rattle.vx_tree.specs.Trees.{BoundTree, scope, node, BoundTrees, no_bound, bound}
 use Rattle.vx_tree.specs.Views.{bound_of}
 use Rattle.vx_tree.specs.declared.bound.BoundExpression.{BoundExpression}
@@ -14,7 +15,7 @@ use Rattle.vx_rewrite_fusing.specs.declared.ranges.RangeComparison.{RangeCompari
 use Rattle.vx_rewrite_fusing.specs.declared.ranges.Side.{Side}
 use Rattle.vx_rewrite_fusing.specs.declared.ranges.Side.TheVariants.{Below, Above}
 use Rattle.vx_rewrite_fusing.specs.Conjuncts.{two_bounds, and_of, is_and, conjuncts, Range, from_below, from_above, range, range_of, MergeTo, NoneMergeable, Fused}
-use Rattle.vx_rewrite_fusing.specs.Merging.{Replaced, Removed, IsFirstPair, IsFusedOf}
+use Rattle.vx_rewrite_fusing.specs.Merging.{Replaced, Removed, IsFirstPair, IsFusedOf, Merges}
 
 -- the tree in a box
 abbrev pub tree_in : Box BoundExpression Global → BoundTree
@@ -100,6 +101,32 @@ pub record PairsMerged (l r u : BoundTree) (rest : Option BoundTree) : Type 0 wh
 pub data MergesSecond (l : BoundTree) (right : Option BoundTree) (y u : BoundTree) : Option BoundTree → Type 0 where
   with_pairs : {rest : Option BoundTree} → PairsMerged l y u rest → MergesSecond l right y u (joined right rest)
   without_pairs : u ≡ l → NoneMergeable (conjuncts l) (conjuncts y) → MergesSecond l right y u (joined right (Some y))
+
+-- ---- what is fused of conjuncts
+
+-- each conjunct is fused
+abbrev pub ConjunctsFused : BoundTree → Type 0
+ConjunctsFused b = (c : BoundTree) → IsIn c (conjuncts b) → Fused c
+
+-- reached by merge after merge, and each conjunct is fused
+pub record IsFusedApart (b u : BoundTree) : Type 0 where
+  pub count : ℕ
+  pub merges : Merges b count u
+  pub fused : ConjunctsFused u
+
+-- the side from which a range bounds its item
+abbrev pub side_of : Range → Side
+side_of (from_below strict x y) = Below
+side_of (from_above strict x y) = Above
+
+-- no conjunct bounds an item from that side
+abbrev pub Unbounded : Side → BoundTree → Type 0
+Unbounded s b = (c : BoundTree) → IsIn c (conjuncts b) → option_map side_of (range_of c) ≡ Some s → ⊥
+
+-- a tree as it has become
+abbrev pub tree_or : BoundTree → Option (Box BoundExpression Global) → BoundTree
+tree_or b None = b
+tree_or b (Some u) = tree_in u
 
 -- ---- what is fused of children
 

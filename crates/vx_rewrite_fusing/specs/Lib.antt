@@ -3,3 +3,4 @@ pub mod Merging
 pub mod Laws
 pub mod Finding
 pub mod Places
+pub mod Sides

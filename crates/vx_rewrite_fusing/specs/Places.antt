@@ -1,5 +1,5 @@
 -- The conjuncts of a tree while pairs are merged, and where the ranges of an item stand.
-use Rattle.std.specs.Prelude.{◌≡◌, ◌⊎◌, ℕ, zero, suc, ◌<◌, List, [], ◌∷◌, ◌++◌, Option, Some, None, Result, Ok, Err, Bool, true, false, IsFalse, IsTrue, option_map, length}
+use Rattle.std.specs.Prelude.{◌≡◌, ◌⊎◌, ℕ, zero, suc, ◌<◌, ◌≤◌, List, [], ◌∷◌, ◌++◌, Option, Some, None, Result, Ok, Err, Bool, true, false, IsFalse, IsTrue, option_map, length, set, slice_get}
 use Rattle.std.specs.HashMap.{HashMap, get_by}
 use Rattle.std.specs.declared.alloc.Global.{Global}
 use Rattle.std.specs.declared.boxed.Box.{Box}
@@ -8,21 +8,20 @@ use Rattle.vx_dtype.specs.declared.error.VortexError.{VortexError}
 use Rattle.vx_dtype.specs.declared.error.VortexError.TheVariants.{OutOfMemory}
 use Rattle.vx_value.specs.Types.{LogicalType}
 use Rattle.vx_tree.specs.Equality.{equal_bound}
-use Rattle.vx_tree.specs.Trees.{BoundTree, WellTyped}
+use Rattle.vx_tree.specs.Trees.{BoundTree}
 use Rattle.vx_tree.specs.Views.{bound_of}
 use Rattle.vx_tree.specs.declared.bound.BoundExpression.{BoundExpression}
+use Rattle.vx_rewrite_fusing.specs.declared.heads.Firsts.{Firsts}
 use Rattle.vx_rewrite_fusing.specs.declared.heads.Heads.{Heads}
+use Rattle.vx_rewrite_fusing.specs.declared.places.Link.{Link}
 use Rattle.vx_rewrite_fusing.specs.declared.places.Places.{Places}
 use Rattle.vx_rewrite_fusing.specs.declared.places.Place.{Place}
 use Rattle.vx_rewrite_fusing.specs.declared.places.Place.TheVariants.{Other, Open, Merged, Gone}
 use Rattle.vx_rewrite_fusing.specs.declared.ranges.RangeComparison.{RangeComparison}
 use Rattle.vx_rewrite_fusing.specs.declared.ranges.Side.{Side}
 use Rattle.vx_rewrite_fusing.specs.declared.ranges.Side.TheVariants.{Below, Above}
-use Rattle.vx_fn.specs.Functions.{binary, and_also}
-use Rattle.vx_tree.specs.Trees.{node, bound, no_bound}
-use Rattle.vx_rewrite_fusing.specs.Conjuncts.{and_node, and_of, is_and, conjuncts, range_of, Fused, NoneMergeable}
-use Rattle.vx_rewrite_fusing.specs.Finding.{range_seen, tree_in, joined, Finds, LeftMerged, PairsMerged}
-use Rattle.vx_rewrite_fusing.specs.Merging.{IsFusedOf}
+use Rattle.vx_rewrite_fusing.specs.Conjuncts.{and_node, and_of, is_and, range_of, MergeTo}
+use Rattle.vx_rewrite_fusing.specs.Finding.{range_seen, tree_in, joined}
 
 -- ---- the ranges of an item
 
@@ -41,7 +40,7 @@ turned k = (opposite k.0, k.1)
 
 -- what the range at a place bounds, if it is still to be merged
 abbrev pub bounded_by : Place → Option Bounded
-bounded_by (Open r next) = Some (r.side, bound_of r.item.now)
+bounded_by (Open r link) = Some (r.side, bound_of r.item.now)
 bounded_by p = None
 
 abbrev pub bounded_at : List Place → ℕ → Option Bounded
@@ -51,7 +50,7 @@ bounded_at (p ∷ ps) (suc i) = bounded_at ps i
 
 -- the place that is kept as the next one
 abbrev pub next_of : Place → Option ℕ
-next_of (Open r next) = next
+next_of (Open r link) = link.next
 next_of p = None
 
 abbrev pub next_at : List Place → ℕ → Option ℕ
@@ -64,19 +63,47 @@ abbrev pub IsLast : List Place → Bounded → ℕ → Option ℕ → Type 0
 IsLast ps k n None = (i : ℕ) → i < n → bounded_at ps i ≡ Some k → ⊥
 IsLast ps k n (Some j) = (j < n) × (bounded_at ps j ≡ Some k) × ((i : ℕ) → j < i → i < n → bounded_at ps i ≡ Some k → ⊥)
 
--- what is kept for an item, if something is
-abbrev pub kept : Option (Option ℕ) → Option ℕ
-kept None = None
-kept (Some o) = o
-
 -- what a map has at an item
 abbrev pub place_at : {X S : Type 0} → HashMap (Bor BoundExpression) X S → BoundTree → Option X
 place_at m b = get_by (λ q. equal_bound b (bound_of q.now)) m
 
--- the place that is kept as the first one of that side and item
+-- the number of an item
+abbrev pub number_at : Heads → Bor BoundExpression → Option ℕ
+number_at h x = place_at h.numbers (bound_of x.now)
+
+-- the place that is kept as the first one of that side
+abbrev pub first_of : Firsts → Side → Option ℕ
+first_of f Below = f.below
+first_of f Above = f.above
+
+-- the same of a number, if there is one
+abbrev pub first_at : List Firsts → Side → ℕ → Option ℕ
+first_at [] s n = None
+first_at (f ∷ fs) s zero = first_of f s
+first_at (f ∷ fs) s (suc n) = first_at fs s n
+
+abbrev pub first_by : List Firsts → Side → Option ℕ → Option ℕ
+first_by fs s None = None
+first_by fs s (Some n) = first_at fs s n
+
+-- the same of an item
 abbrev pub head_of : Heads → Side → Bor BoundExpression → Option ℕ
-head_of h Below x = kept (place_at h.below (bound_of x.now))
-head_of h Above x = kept (place_at h.above (bound_of x.now))
+head_of h s x = first_by h.firsts.items s (number_at h x)
+
+-- an item's number is a place in the list, and no other item's
+pub record IsNumbered (h : Heads) : Type 0 where
+  pub inside : (x : Bor BoundExpression) (n : ℕ) → number_at h x ≡ Some n → n < length h.firsts.items
+  pub apart : (x y : Bor BoundExpression) (n : ℕ) → number_at h x ≡ Some n → number_at h y ≡ Some n → bound_of x.now ≡ bound_of y.now
+
+-- nothing that is kept changes, and items that have numbers keep them
+abbrev pub KeepsNumbers : Heads → Heads → Type 0
+KeepsNumbers h g = ((s : Side) (x : Bor BoundExpression) → head_of g s x ≡ head_of h s x) × ((x : Bor BoundExpression) (n : ℕ) → number_at h x ≡ Some n → number_at g x ≡ Some n)
+
+-- one place is kept anew by its number
+abbrev pub SetsFirst : List Firsts → List Firsts → Side → ℕ → Option ℕ → Type 0
+SetsFirst fs gs s n o = (length gs ≡ length fs) × ((t : Side) (m : ℕ) →
+    let same : Type 0 = (t ≡ s) × (m ≡ n) in
+    (same → m < length fs → first_at gs t m ≡ o) × ((same → ⊥) → first_at gs t m ≡ first_at fs t m))
 
 -- one place is kept anew
 abbrev pub SetsHead : Heads → Heads → Side → Bor BoundExpression → Option ℕ → Type 0
@@ -88,6 +115,8 @@ SetsHead h g s x o = (t : Side) (y : Bor BoundExpression) →
 pub record IsLinked (places : Places) : Type 0 where
   pub heads : (s : Side) (x : Bor BoundExpression) → IsLast places.list.items (s, bound_of x.now) (length places.list.items) (head_of places.heads s x)
   pub nexts : (i : ℕ) (k : Bounded) → bounded_at places.list.items i ≡ Some k → IsLast places.list.items k i (next_at places.list.items i)
+  pub numbered : IsNumbered places.heads
+  pub own : (i : ℕ) (r : RangeComparison) (link : Link) → slice_get places.list.items i ≡ Some (Open r link) → number_at places.heads r.item ≡ Some link.number
 
 -- some place is one of the item
 abbrev pub Has : List Place → Bounded → Type 0
@@ -114,7 +143,7 @@ has_merged (p ∷ ps) = has_merged ps
 -- o is what is left of the tree: its conjuncts with what is merged of them, each And typed anew
 pub data Holds : BoundTree → List Place → Option BoundTree → Type 0 where
   no_range : {c : BoundTree} → IsFalse (is_and c) → range_of c ≡ None → Holds c (Other ∷ []) (Some c)
-  open_range : {c : BoundTree} {r : RangeComparison} {next : Option ℕ} → IsFalse (is_and c) → range_of c ≡ Some (range_seen r) → Holds c (Open r next ∷ []) (Some c)
+  open_range : {c : BoundTree} {r : RangeComparison} {next : Link} → IsFalse (is_and c) → range_of c ≡ Some (range_seen r) → Holds c (Open r next ∷ []) (Some c)
   merged_range : {c : BoundTree} {b : Box BoundExpression Global} → IsFalse (is_and c) → IsFalse (is_and (tree_in b)) → range_of (tree_in b) ≡ None → Holds c (Merged b ∷ []) (Some (tree_in b))
   gone_range : {c : BoundTree} → IsFalse (is_and c) → Holds c (Gone ∷ []) None
   both : {t : LogicalType} {l r : BoundTree} {l' r' : Option BoundTree} {ls rs : List Place} → and_node t l r ≡ and_of l r → Holds l ls l' → Holds r rs r' → Holds (and_node t l r) (rs ++ ls) (joined l' r')
@@ -122,7 +151,7 @@ pub data Holds : BoundTree → List Place → Option BoundTree → Type 0 where
 -- what is kept of a conjunct with that range
 abbrev pub IsPlaceOf : Option RangeComparison → Place → Type 0
 IsPlaceOf None p = p ≡ Other
-IsPlaceOf (Some r) p = (next : Option ℕ) × (p ≡ Open r next)
+IsPlaceOf (Some r) p = (next : Link) × (p ≡ Open r next)
 
 -- nothing is merged yet
 abbrev pub IsNoted : BoundTree → List Place → Type 0
@@ -155,124 +184,21 @@ abbrev pub became_place : Option (Box BoundExpression Global) → Place
 became_place (Some b) = Merged b
 became_place None = Gone
 
--- ---- pairs of a left and a right tree
+-- ---- one pair
 
--- the conjunct at `at` stands behind others that stand behind the left tree's, which begin at `start`
-pub record IsCut (all back : List Place) (p : Place) (mid ls : List Place) (at start : ℕ) : Type 0 where
-  pub parts : all ≡ back ++ p ∷ (mid ++ ls)
-  pub at_back : at ≡ length back
-  pub at_left : start ≡ length (back ++ p ∷ mid)
-  pub apart : NoPair ls (mid ++ ls)
+-- no place from there on bounds the item of that conjunct from the other side
+abbrev pub NoneFrom : List Place → ℕ → Place → Type 0
+NoneFrom ps from p = (i : ℕ) (k : Bounded) → bounded_by p ≡ Some k → from ≤ i → bounded_at ps i ≡ Some (turned k) → ⊥
 
--- the left tree l, which is u now, with its first conjunct that is mergeable with d merged with it
-pub record BecomesBy (d : BoundTree) (lefts : List Place) (l u : BoundTree) : Type 0 where
-  pub tree : BoundTree
-  pub merged : LeftMerged d u tree
-  pub holds : Holds l lefts (Some tree)
+-- that place is the first one that does
+abbrev pub IsFirstOf : List Place → ℕ → Place → Type 0
+IsFirstOf ps i p = (k : Bounded) × (bounded_by p ≡ Some k) × IsLast ps (turned k) (length ps) (Some i)
 
--- the conjunct p stays, since none of the left tree's bounds its item from the other side, or the first that does is merged with it
-pub data MergedAt (all back : List Place) (p : Place) (mid ls : List Place) : Type 0 where
-  at_stays : all ≡ back ++ p ∷ (mid ++ ls) → ((k : Bounded) → bounded_by p ≡ Some k → Has ls (turned k) → ⊥) → MergedAt all back p mid ls
-  at_merged : {r : RangeComparison} {next : Option ℕ} {lefts : List Place} → p ≡ Open r next → all ≡ back ++ Gone ∷ (mid ++ lefts) → IsWithin lefts ls → ((l u d : BoundTree) → Holds l ls (Some u) → range_of d ≡ Some (range_seen r) → BecomesBy d lefts l u) → MergedAt all back p mid ls
+-- the first ranges of an item from opposite sides
+abbrev pub IsPair : List Place → ℕ → ℕ → Type 0
+IsPair ps left right = (k : Bounded) × IsLast ps (turned k) (length ps) (Some left) × IsLast ps k (length ps) (Some right)
 
--- memory runs out where one is merged alone
-abbrev pub MergesAt : List Place → List Place → Place → List Place → List Place → Result (Unit {0}) VortexError → Type 0
-MergesAt all back p mid ls (Ok done) = MergedAt all back p mid ls
-MergesAt all back p mid ls (Err e) = (r : RangeComparison) × (next : Option ℕ) × (p ≡ Open r next) × ((l u d : BoundTree) → Holds l ls (Some u) → range_of d ≡ Some (range_seen r) → NoneMergeable (conjuncts u) (d ∷ []) → ⊥) × (e ≡ OutOfMemory)
-
--- some conjunct stands there
-abbrev pub CanMerge : List Place → ℕ → ℕ → Type 0
-CanMerge all at start = (back : List Place) × (p : Place) × (mid : List Place) × (ls : List Place) × IsCut all back p mid ls at start
-
--- the conjuncts of a right tree stand behind others that stand behind the left tree's
-pub record IsStanding (all back rs mid ls : List Place) (r : BoundTree) (at start : ℕ) : Type 0 where
-  pub parts : all ≡ back ++ (rs ++ (mid ++ ls))
-  pub at_back : at ≡ length (back ++ rs)
-  pub at_left : start ≡ length (back ++ (rs ++ mid))
-  pub count : length rs ≡ length (conjuncts r)
-  pub apart : NoPair ls (mid ++ ls)
-
--- some places are those of the tree's conjuncts
-abbrev pub CanStand : List Place → BoundTree → ℕ → ℕ → Type 0
-CanStand all r at start = (back : List Place) × (rs : List Place) × (mid : List Place) × (ls : List Place) × IsStanding all back rs mid ls r at start
-
--- what pairs of the left tree u and the right tree r leave, if there are any: w of the left one
-pub data Takes (u r : BoundTree) : Bool → BoundTree → Option BoundTree → Type 0 where
-  takes_none : NoneMergeable (conjuncts u) (conjuncts r) → Takes u r false u (Some r)
-  takes_some : {w : BoundTree} {rest : Option BoundTree} → PairsMerged u r w rest → Takes u r true w rest
-
--- the two trees after that
-pub record TreesMerged (rights lefts : List Place) (r l u : BoundTree) : Type 0 where
-  pub rest : Option BoundTree
-  pub tree : BoundTree
-  pub on_right : Holds r rights rest
-  pub on_left : Holds l lefts (Some tree)
-  pub takes : Takes u r (has_merged rights) tree rest
-
--- the pairs with a right tree are merged
-pub record RightMerged (all back rs mid ls : List Place) (r : BoundTree) : Type 0 where
-  pub rights : List Place
-  pub lefts : List Place
-  pub parts : all ≡ back ++ (rights ++ (mid ++ lefts))
-  pub long : length rights ≡ length rs
-  pub stays : has_merged rights ≡ false → lefts ≡ ls
-  pub rights_within : IsWithin rights rs
-  pub lefts_within : IsWithin lefts ls
-  pub apart : NoPair lefts (rights ++ (mid ++ lefts))
-  pub trees : (l u : BoundTree) → WellTyped r → IsNoted r rs → Holds l ls (Some u) → TreesMerged rights lefts r l u
-
-abbrev pub RightMerges : List Place → List Place → List Place → List Place → List Place → BoundTree → Result ℕ VortexError → Type 0
-RightMerges all back rs mid ls r (Ok begin) = RightMerged all back rs mid ls r
-RightMerges all back rs mid ls r (Err e) = ((l u : BoundTree) → WellTyped r → IsNoted r rs → Holds l ls (Some u) → NoneMergeable (conjuncts u) (conjuncts r) → ⊥) × (e ≡ OutOfMemory)
-
--- ---- chains
-
--- the trees between the Ands of a chain, from the last one to the first
-abbrev pub chain_trees : BoundTree → List BoundTree
-chain_trees (node t (binary and_also) (bound l (bound r no_bound))) = r ∷ chain_trees l
-chain_trees b = b ∷ []
-
--- each is found to be fused, or what is fused of it is
-abbrev pub EachFound : List BoundTree → List (Option (Box BoundExpression Global)) → Type 0
-EachFound [] [] = Unit {0}
-EachFound (b ∷ bs) (c ∷ cs) = Finds (Fused b) (λ u. IsFusedOf b (tree_in u)) (Ok c) × EachFound bs cs
-EachFound bs cs = ⊥
-
--- what is found of the trees of a chain
-abbrev pub IsChain : BoundTree → List (Option (Box BoundExpression Global)) → Type 0
-IsChain b found = EachFound (chain_trees b) found
-
--- a tree as it is fused
-abbrev pub tree_or : BoundTree → Option (Box BoundExpression Global) → BoundTree
-tree_or b None = b
-tree_or b (Some u) = tree_in u
-
--- a chain over its fused trees
-abbrev pub chained : BoundTree → List (Option (Box BoundExpression Global)) → BoundTree
-chained (node t (binary and_also) (bound l (bound r no_bound))) (c ∷ cs) = and_node t (chained l cs) (tree_or r c)
-chained b (c ∷ cs) = tree_or b c
-chained b [] = b
-
--- whether something is found
-abbrev pub some_found : List (Option (Box BoundExpression Global)) → Bool
-some_found [] = false
-some_found (None ∷ cs) = some_found cs
-some_found (Some u ∷ cs) = true
-
--- the last places are those of the tree, with nothing merged
-abbrev pub EndsNoted : List Place → BoundTree → Type 0
-EndsNoted all over = (back : List Place) × (ps : List Place) × (all ≡ back ++ ps) × IsNoted over ps
-
--- the pairs of each And of a chain are merged
-pub record ChainMerged (all back : List Place) (b over : BoundTree) : Type 0 where
-  pub left : List Place
-  pub tree : BoundTree
-  pub parts : all ≡ back ++ left
-  pub holds : Holds over left (Some tree)
-  pub fused : IsFusedOf b tree
-  pub stays : Fused b → has_merged left ≡ false
-  pub apart : NoPair left left
-
-abbrev pub ChainMerges : List Place → List Place → BoundTree → BoundTree → Result ℕ VortexError → Type 0
-ChainMerges all back b over (Ok begin) = ChainMerged all back b over
-ChainMerges all back b over (Err e) = (Fused b → ⊥) × (e ≡ OutOfMemory)
+-- they are merged: the one is the Between, and the other is gone
+abbrev pub PairIsMerged : List Place → ℕ → ℕ → List Place → Type 0
+PairIsMerged ps left right qs = (b : Box BoundExpression Global) × (qs ≡ set (set ps left (Merged b)) right Gone) × ((c d : RangeComparison) (after next : Link) (x y : BoundTree) →
+    slice_get ps left ≡ Some (Open c after) → slice_get ps right ≡ Some (Open d next) → range_of x ≡ Some (range_seen c) → range_of y ≡ Some (range_seen d) → MergeTo x y (tree_in b))

@@ -1,19 +1,20 @@
 // The whole of range fusing: children first, then the pairs at the root.
-ghost use Rattle.std.specs.Prelude.{◌≡◌, ◌≤◌, ℕ, All, IsTrue, List, ◌∷◌, ◌++◌, [], Ok, IfErr, IfOk, MatchOption, MatchResult, length, map, vec_capacity, vec_len};
+ghost use Rattle.std.specs.Prelude.{◌≡◌, ℕ, IsSome, List, ◌∷◌, ◌++◌, [], None, Ok, Some, IfErr, IfOk, MatchOption, option_map};
 ghost use Rattle.vx_dtype.specs.declared.error.VortexError.TheVariants.{OutOfMemory};
 ghost use Rattle.vx_rewrite_keep.specs.Keeps.{Keeps};
 ghost use Rattle.vx_tree.specs.Nodes.{bound_children_of};
 ghost use Rattle.vx_tree.specs.Trees.{node_type, BoundTree, EachWellTyped, WellTyped};
 ghost use Rattle.vx_tree.specs.Views.{bound_of, bounds_of};
 ghost use Rattle.vx_tree.specs.declared.bound.BoundExpression.{BoundExpression};
-ghost use Rattle.vx_rewrite_fusing.specs.Conjuncts.{is_and, two_bounds, Fused, FusedBelow};
-ghost use Rattle.vx_rewrite_fusing.specs.Finding.{over_children, tree_in, EachFusedOf, Finds, FirstChanged};
+ghost use Rattle.vx_rewrite_fusing.specs.Conjuncts.{Fused, FusedBelow};
+ghost use Rattle.vx_rewrite_fusing.specs.Conjuncts as spec;
+ghost use Rattle.vx_rewrite_fusing.specs.Finding.{over_children, tree_in, tree_or, ConjunctsFused, EachFusedOf, Finds, FirstChanged, IsFusedApart};
 ghost use Rattle.vx_rewrite_fusing.specs.Merging.{IsFusedOf, Merges};
-ghost use Rattle.vx_rewrite_fusing.specs.Places.{EachFound, IsChain};
 
-use crate::chain::{fused_tree, is_wide, merge_places, places_of, trees_of};
+use crate::conjunction::{is_bounded, is_wide, merge_conjuncts};
 use crate::merge::merge_root;
-use crate::nodes::{as_and, boxed};
+use crate::nodes::{and_of, as_and, with_left, with_right};
+use crate::ranges::Side;
 use std::alloc::{AllocError, Global};
 use std::rc::Rc;
 use vx_tree::{BoundExpression, VortexError, VortexResult};
@@ -30,18 +31,19 @@ use vx_tree::{BoundExpression, VortexError, VortexResult};
 /// Asks a well-typed tree. Refuses with `OutOfMemory` (1) alone. A tree without a pair is answered
 /// as it is, however little memory there is; so is what a first call answered.
 ///
-/// A chain of Ands, `((a and b) and c) and d`, is fused at once where the left child of the last one
-/// has eight conjuncts or more: the ranges of all its conjuncts are put into an index by their sides
-/// and items, which is let go of afterwards, so that each range costs one look-up, which visits the
-/// nodes of its item, and the Ands above what is merged are made anew once. So the time grows with the
-/// number of conjuncts; one that stands below right children of such chains is looked up once for
-/// each, as in a balanced tree of Ands once for every level at most.
+/// A conjunction of twelve conjuncts or more is fused at once, however its Ands are nested: each
+/// range's item is looked up once, which visits the nodes of the item, and has a number from then on,
+/// by which the first range of an item on either side is found. At each And the conjuncts of the side
+/// that has fewer are gone through, by these numbers, and the Ands above what is merged are made anew
+/// once. So the look-ups grow with the number of ranges, whatever the shape; the steps between them
+/// grow with the number of conjuncts in a chain to either side, and at most with that times its
+/// logarithm, as in a balanced tree. Where no two ranges bound from opposite sides that is found
+/// first, and takes no memory.
 ///
-/// At any other And, and where there is no memory for an index, every right conjunct is compared
-/// with the left ones until one fits: their sides first, then their names, then their trees; and
-/// each merge makes the Ands above its two conjuncts anew. That takes no memory before there is a
-/// pair. In a chain to the right, `a and (b and (c and d))`, the time grows with the square of the
-/// ranges. Everything else is shared.
+/// In a conjunction with fewer conjuncts, and where there is no memory for an index, every right
+/// conjunct is compared with the left ones until one fits: their sides first, then their names, then
+/// their trees; and each merge makes the Ands above its two conjuncts anew. That takes no memory
+/// before there is a pair. Everything else is shared.
 pub fn find_between(alloc: Global, tree: BoundExpression) -> VortexResult<BoundExpression>
     requires { WellTyped (bound_of tree) }
     ensures merges { IfOk result (λ u. (n : ℕ) × Merges (bound_of tree) n (bound_of u)) }
@@ -76,116 +78,117 @@ fn fused(alloc: Global, b: &BoundExpression) -> VortexResult<Option<Box<BoundExp
     ensures { Finds (Fused (bound_of b.now)) (λ u. IsFusedOf (bound_of b.now) (bound_of u.value)) result }
 {
     if is_wide(b) {
-        fused_chain(alloc, b)
+        fused_wide(alloc, b)
     } else {
         fused_node(alloc, b)
     }
 }
 
-// The same for a chain of Ands, by the items of its ranges. Where there is no memory for a list of its
-// trees nothing is lost: the Ands are gone through one by one.
+// The same for a conjunction: its conjuncts first, then the pairs of all its Ands.
 #[cycle(fusing)]
 #[inline(never)]
-fn fused_chain(alloc: Global, b: &BoundExpression) -> VortexResult<Option<Box<BoundExpression>>>
-    requires typed { WellTyped (bound_of b.now) }
-    requires chain { IsTrue (is_and (bound_of b.now)) }
+fn fused_wide(alloc: Global, b: &BoundExpression) -> VortexResult<Option<Box<BoundExpression>>>
+    requires { WellTyped (bound_of b.now) }
     ensures { Finds (Fused (bound_of b.now)) (λ u. IsFusedOf (bound_of b.now) (bound_of u.value)) result }
 {
-    let Ok(trees) = trees_of(alloc, b) else {
-        return fused_node(alloc, b);
-    };
-    let Ok(room) = Vec::with_capacity(alloc, trees.len()) else {
-        return fused_node(alloc, b);
-    };
-    let found = fused_each(alloc, trees.as_slice(), room)?;
-    merged_chain(alloc, b, found.as_slice())
-}
-
-// What is fused of each of the trees, in a list that has room for all.
-#[cycle(fusing)]
-#[inline(never)]
-fn fused_each(
-    alloc: Global,
-    trees: &[&BoundExpression],
-    mut found: Vec<Option<Box<BoundExpression>>>,
-) -> VortexResult<Vec<Option<Box<BoundExpression>>>>
-    requires typed { All WellTyped (map (λ x. bound_of x.now) trees.now) }
-    requires empty { vec_len found ≡ 0 }
-    requires room { length trees.now ≤ vec_capacity found }
-    ensures found { IfOk result (λ v. EachFound (map (λ x. bound_of x.now) trees.now) v.items) }
-    ensures err { IfErr result (λ e. (All Fused (map (λ x. bound_of x.now) trees.now) → ⊥) × (e ≡ OutOfMemory)) }
-{
-    for tree in trees {
-        found.push_reserved(fused(alloc, tree)?);
+    match conjuncts_fused(alloc, b)? {
+        Some(over) => Ok(Some(merged_over(alloc, over)?)),
+        None => merged_conjuncts(alloc, b),
     }
-    Ok(found)
 }
 
-// The chain over its fused trees, with the pairs of its Ands merged: by their items, or by a search
-// where there is no memory for an index, so that a tree without a pair is never refused.
+// The tree with each of its conjuncts fused, None where each is. The pairs of its Ands stay.
+#[cycle(fusing)]
+fn conjuncts_fused(alloc: Global, b: &BoundExpression) -> VortexResult<Option<Box<BoundExpression>>>
+    requires { WellTyped (bound_of b.now) }
+    ensures { Finds (ConjunctsFused (bound_of b.now)) (λ u. IsFusedApart (bound_of b.now) (bound_of u.value)) result }
+{
+    let Some((l, r)) = as_and(b) else {
+        return fused_node(alloc, b);
+    };
+    let left = conjuncts_fused(alloc, l)?;
+    let right = conjuncts_fused(alloc, r)?;
+    and_over(alloc, l, left, r, right)
+}
+
+// The tree, whose conjuncts are fused, with the pairs of its Ands merged, if there are any.
+fn merged_over(alloc: Global, tree: Box<BoundExpression>) -> VortexResult<Box<BoundExpression>>
+    requires typed { WellTyped (bound_of tree.value) }
+    requires apart { ConjunctsFused (bound_of tree.value) }
+    ensures fused { IfOk result (λ u. IsFusedOf (bound_of tree.value) (bound_of u.value)) }
+    ensures memory { IfErr result (λ e. e ≡ OutOfMemory) }
+{
+    match merged_conjuncts(alloc, &tree) {
+        Ok(Some(merged)) => {
+            drop(tree);
+            Ok(merged)
+        }
+        Ok(None) => Ok(tree),
+        Err(e) => {
+            drop(tree);
+            Err(e)
+        }
+    }
+}
+
+// The same, None where nothing is merged: by the items of ranges if there are some from both sides,
+// and by a search where there is no memory for that, so that a tree without a pair is never refused.
 #[inline(never)]
-fn merged_chain(
+fn merged_conjuncts(
     alloc: Global,
     b: &BoundExpression,
-    found: &[Option<Box<BoundExpression>>],
 ) -> VortexResult<Option<Box<BoundExpression>>>
     requires typed { WellTyped (bound_of b.now) }
-    requires chain { IsChain (bound_of b.now) found.now }
+    requires apart { ConjunctsFused (bound_of b.now) }
     ensures { Finds (Fused (bound_of b.now)) (λ u. IsFusedOf (bound_of b.now) (bound_of u.value)) result }
 {
-    match places_of(alloc, b, found) {
-        Ok(places) => merge_places(alloc, places, b, found),
-        Err(AllocError) => search_chain(alloc, b, found),
+    if !is_bounded(b, Side::Below) || !is_bounded(b, Side::Above) {
+        return Ok(None);
+    }
+    match merge_conjuncts(alloc, b) {
+        Ok(merged) => Ok(merged),
+        Err(_) => searched(alloc, b),
     }
 }
 
 // The same by a search at each of the Ands.
-fn search_chain(
-    alloc: Global,
-    b: &BoundExpression,
-    found: &[Option<Box<BoundExpression>>],
-) -> VortexResult<Option<Box<BoundExpression>>>
+fn searched(alloc: Global, b: &BoundExpression) -> VortexResult<Option<Box<BoundExpression>>>
     requires typed { WellTyped (bound_of b.now) }
-    requires chain { IsChain (bound_of b.now) found.now }
+    requires apart { ConjunctsFused (bound_of b.now) }
     ensures { Finds (Fused (bound_of b.now)) (λ u. IsFusedOf (bound_of b.now) (bound_of u.value)) result }
 {
-    let (last, earlier) = found.split_first().unwrap();
     let Some((l, r)) = as_and(b) else {
-        return Ok(copy_of(alloc, last)?);
+        return Ok(None);
     };
-    let left = search_chain(alloc, l, earlier)?;
-    if left.is_none() && last.is_none() {
-        return merge_root(alloc, b);
+    let left = searched(alloc, l)?;
+    let right = searched(alloc, r)?;
+    match and_over(alloc, l, left, r, right)? {
+        Some(over) => Ok(Some(root_fused(alloc, Box::into_inner(over))?)),
+        None => merge_root(alloc, b),
     }
-    let children = two(alloc, fused_tree(l, &left), fused_tree(r, last))?;
-    Ok(Some(fused_over(alloc, b, children)?))
 }
 
-// The two trees in a list.
-#[inline(never)]
-fn two(
+// The And over what its children became, None where both stay.
+fn and_over(
     alloc: Global,
     l: &BoundExpression,
+    left: Option<Box<BoundExpression>>,
     r: &BoundExpression,
-) -> Result<Vec<BoundExpression>, AllocError>
-    ensures { IfOk result (λ v. bounds_of v.items ≡ two_bounds (bound_of l.now) (bound_of r.now)) }
+    right: Option<Box<BoundExpression>>,
+) -> VortexResult<Option<Box<BoundExpression>>>
+    ensures over { IfOk result (λ o. IsSome o → option_map tree_in o ≡ Some (spec.and_of (tree_or (bound_of l.now) left) (tree_or (bound_of r.now) right))) }
+    ensures stays { result ≡ Ok None → (left ≡ None) × (right ≡ None) }
+    ensures whole { left ≡ None → right ≡ None → result ≡ Ok None }
+    ensures memory { IfErr result (λ e. e ≡ OutOfMemory) }
 {
-    let mut trees = Vec::with_capacity(alloc, 2)?;
-    trees.push(l.clone()?)?;
-    trees.push(r.clone()?)?;
-    Ok(trees)
-}
-
-// A copy of the tree, if there is one.
-fn copy_of(
-    alloc: Global,
-    found: &Option<Box<BoundExpression>>,
-) -> Result<Option<Box<BoundExpression>>, AllocError>
-    ensures { (b : BoundTree) → Finds (Fused b) (λ u. IsFusedOf b (tree_in u)) (Ok found.now) → MatchResult result (λ o. Finds (Fused b) (λ u. IsFusedOf b (tree_in u)) (Ok o)) (λ e. Fused b → ⊥) }
-{
-    match found {
-        Some(tree) => Ok(Some(boxed(alloc, tree)?)),
-        None => Ok(None),
+    match (left, right) {
+        (Some(left), Some(right)) => {
+            let over = and_of(alloc, Box::into_inner(left), Box::into_inner(right))?;
+            Ok(Some(over))
+        }
+        (Some(left), None) => Ok(Some(with_left(alloc, left, r)?)),
+        (None, Some(right)) => Ok(Some(with_right(alloc, l, right)?)),
+        (None, None) => Ok(None),
     }
 }
 

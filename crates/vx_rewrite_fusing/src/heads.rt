@@ -1,91 +1,83 @@
-// The first ranges of items, by their side.
-ghost use Rattle.std.specs.Prelude.{◌≡◌, ◌≢◌, None, Some, IfOk, IsSome, OnOk, cond};
-ghost use Rattle.vx_tree.specs.Equality.{equal_bound};
+// The items of ranges by numbers, and the first ranges of each.
+ghost use Rattle.std.specs.Prelude.{◌≡◌, IfOk, OnOk, Some, cond};
 ghost use denote.Ref.{Bor};
+ghost use Rattle.vx_tree.specs.Equality.{equal_bound};
 ghost use Rattle.vx_tree.specs.Views.{bound_of};
 ghost use Rattle.vx_tree.specs.declared.bound.BoundExpression.{BoundExpression};
-ghost use Rattle.vx_rewrite_fusing.specs.Places.{head_of, kept, place_at, SetsHead};
+ghost use Rattle.vx_rewrite_fusing.specs.Places.{first_at, number_at, place_at, IsNumbered, KeepsNumbers, SetsFirst};
 
 use crate::ranges::Side;
 use std::alloc::AllocError;
 use std::collections::HashMap;
 use vx_tree::BoundExpression;
 
-// The place of the first range of each item that is still to be merged, None where all are merged.
-type Firsts<'a> = HashMap<&'a BoundExpression, Option<usize>>;
+// The places of an item's first ranges that are still to be merged, from either side.
+#[derive(Drop)]
+pub(crate) struct Firsts {
+    pub below: Option<usize>,
+    pub above: Option<usize>,
+}
 
-// The first ranges that bound items from below, and those from above.
+// The number of each item that has one, and the first ranges of the item of each number.
 #[derive(Drop)]
 pub(crate) struct Heads<'a> {
-    pub below: Firsts<'a>,
-    pub above: Firsts<'a>,
+    pub numbers: HashMap<&'a BoundExpression, usize>,
+    pub firsts: Vec<Firsts>,
 }
 
 impl<'a> Heads<'a> {
-    // The first place of a range of that side and item.
-    pub(crate) fn first(&self, side: Side, item: &'a BoundExpression) -> Option<usize>
-        ensures { result ≡ head_of self.now side item.entry }
+    // The number of the item, a new one where it has none. Here alone an item is looked up.
+    pub(crate) fn number(&mut self, item: &'a BoundExpression) -> Result<usize, AllocError>
+        requires { IsNumbered self.old }
+        ensures numbered { OnOk result (IsNumbered self.new) }
+        ensures number { IfOk result (λ n. number_at self.new item.entry ≡ Some n) }
+        ensures keeps { OnOk result (KeepsNumbers self.old self.new) }
     {
+        if let Some(number) = self.numbers.get(&item) {
+            return Ok(*number);
+        }
+        let number = self.firsts.len();
+        self.firsts.push(Firsts {
+            below: None,
+            above: None,
+        })?;
+        note(&mut self.numbers, item, number)?;
+        Ok(number)
+    }
+
+    // The first place of a range of that side and of the item of that number.
+    pub(crate) fn first(&self, side: Side, number: usize) -> Option<usize>
+        ensures { result ≡ first_at self.now.firsts.items side number }
+    {
+        let firsts = self.firsts.get(number)?;
         match side {
-            Side::Below => first(&self.below, item),
-            Side::Above => first(&self.above, item),
+            Side::Below => firsts.below,
+            Side::Above => firsts.above,
         }
     }
 
-    // Makes that place the first one of its side and item, and answers which was.
-    pub(crate) fn put(
-        &mut self,
-        side: Side,
-        item: &'a BoundExpression,
-        place: usize,
-    ) -> Result<Option<usize>, AllocError>
-        ensures before { IfOk result (λ next. next ≡ head_of self.old side item.entry) }
-        ensures sets { OnOk result (SetsHead self.old self.new side item.entry (Some place)) }
+    // Makes another place the first one of that side and of the item of that number.
+    pub(crate) fn set(&mut self, side: Side, number: usize, place: Option<usize>)
+        ensures numbers { self.new.numbers ≡ self.old.numbers }
+        ensures sets { SetsFirst self.old.firsts.items self.new.firsts.items side number place }
     {
-        match side {
-            Side::Below => put(&mut self.below, item, place),
-            Side::Above => put(&mut self.above, item, place),
-        }
-    }
-
-    // Makes another place the first one of a side and item that has one.
-    pub(crate) fn set(&mut self, side: Side, item: &'a BoundExpression, place: Option<usize>)
-        ensures { head_of self.old side item.entry ≢ None → SetsHead self.old self.new side item.entry place }
-    {
-        match side {
-            Side::Below => set(&mut self.below, item, place),
-            Side::Above => set(&mut self.above, item, place),
+        if let Some(firsts) = self.firsts.get_mut(number) {
+            match side {
+                Side::Below => firsts.below = place,
+                Side::Above => firsts.above = place,
+            }
         }
     }
 }
 
-// The first place of a range of that item.
-fn first<'a>(firsts: &Firsts<'a>, item: &'a BoundExpression) -> Option<usize>
-    ensures { result ≡ kept (place_at firsts.now (bound_of item.now)) }
-{
-    *firsts.get(&item)?
-}
-
-// Makes that place the first one of its item, and answers which was.
-fn put<'a>(
-    firsts: &mut Firsts<'a>,
+// Gives the item that number.
+fn note<'a>(
+    numbers: &mut HashMap<&'a BoundExpression, usize>,
     item: &'a BoundExpression,
-    place: usize,
-) -> Result<Option<usize>, AllocError>
-    ensures before { IfOk result (λ next. next ≡ kept (place_at firsts.old (bound_of item.now))) }
-    ensures sets { OnOk result ((y : Bor BoundExpression) → place_at firsts.new (bound_of y.now) ≡ cond (equal_bound (bound_of item.now) (bound_of y.now)) (Some (Some place)) (place_at firsts.old (bound_of y.now))) }
+    number: usize,
+) -> Result<(), AllocError>
+    ensures { OnOk result ((y : Bor BoundExpression) → place_at numbers.new (bound_of y.now) ≡ cond (equal_bound (bound_of item.now) (bound_of y.now)) (Some number) (place_at numbers.old (bound_of y.now))) }
 {
-    match firsts.insert(item, Some(place))? {
-        Some(before) => Ok(before),
-        None => Ok(None),
-    }
-}
-
-// Makes another place the first one of an item that has one.
-fn set<'a>(firsts: &mut Firsts<'a>, item: &'a BoundExpression, place: Option<usize>)
-    ensures { IsSome (place_at firsts.old (bound_of item.now)) → (y : Bor BoundExpression) → place_at firsts.new (bound_of y.now) ≡ cond (equal_bound (bound_of item.now) (bound_of y.now)) (Some place) (place_at firsts.old (bound_of y.now)) }
-{
-    if let Some(first) = firsts.get_mut(&item) {
-        *first = place;
-    }
+    numbers.insert(item, number)?;
+    Ok(())
 }

@@ -1,7 +1,7 @@
 // Range fusing: two comparisons of one item in a conjunction as one Between.
 #![tactic(auto)]
 
-mod chain;
+mod conjunction;
 mod finding;
 mod heads;
 mod laws;
@@ -9,6 +9,7 @@ mod merge;
 mod nodes;
 mod places;
 mod ranges;
+mod rest;
 
 pub use finding::find_between;
 pub use laws::{

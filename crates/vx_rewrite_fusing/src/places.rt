@@ -1,27 +1,32 @@
 // The conjuncts of a tree while pairs are merged, and where the ranges of an item stand.
-ghost use Rattle.std.specs.Prelude.{◌≡◌, ◌∷◌, ◌++◌, [], List, None, MatchOption, OnOk};
-ghost use Rattle.vx_tree.specs.Trees.{WellTyped};
-ghost use Rattle.vx_tree.specs.Views.{bound_of};
-ghost use Rattle.vx_rewrite_fusing.specs.Places.{bounded_by, CanMerge, IsCut, IsLinked, IsNoted, IsPlaceOf, MergesAt};
+ghost use Rattle.std.specs.Prelude.{◌≡◌, ◌<◌, ◌≤◌, ◌∷◌, ◌++◌, [], None, Some, MatchOption, OnOk, length, slice_get};
+ghost use Rattle.vx_rewrite_fusing.specs.Places.{bounded_by, IsFirstOf, IsLinked, IsPair, IsPlaceOf, NoneFrom, PairIsMerged};
 ghost use Rattle.vx_rewrite_fusing.specs.declared.places.Place.{Place};
 ghost use Rattle.vx_rewrite_fusing.specs.declared.places.Place.TheVariants.{Open};
 
 use crate::heads::Heads;
-use crate::nodes::as_and;
-use crate::ranges::{RangeComparison, between_of, range_of};
+use crate::ranges::{RangeComparison, between_of};
 use std::alloc::{AllocError, Global};
 use std::collections::HashMap;
 use vx_tree::{BoundExpression, VortexResult};
+
+// Where the other ranges of a range's item are: by the item's number, and the place of the next one
+// of its side.
+#[derive(Clone, Copy)]
+pub(crate) struct Link {
+    pub number: usize,
+    pub next: Option<usize>,
+}
 
 // What became of a conjunct.
 #[derive(Drop)]
 pub(crate) enum Place<'a> {
     // It is no range comparison.
     Other,
-    // It is still to be merged; `next` is the place of the next range of its side and item.
+    // It is still to be merged.
     Open {
         range: RangeComparison<'a>,
-        next: Option<usize>,
+        link: Link,
     },
     // A later one is merged with it.
     Merged(Box<BoundExpression>),
@@ -43,8 +48,8 @@ impl<'a> Places<'a> {
         ensures linked { IsLinked result }
     {
         let heads = Heads {
-            below: HashMap::new(alloc),
-            above: HashMap::new(alloc),
+            numbers: HashMap::new(alloc),
+            firsts: Vec::new(alloc),
         };
         Places {
             list: Vec::new(alloc),
@@ -52,72 +57,70 @@ impl<'a> Places<'a> {
         }
     }
 
-    // Puts the conjuncts of the tree in front of those that are there.
-    pub(crate) fn note(&mut self, tree: &'a BoundExpression) -> Result<(), AllocError>
-        requires { IsLinked self.old }
-        ensures linked { OnOk result (IsLinked self.new) }
-        ensures noted { OnOk result ((ps : List Place) × (self.new.list.items ≡ self.old.list.items ++ ps) × (WellTyped (bound_of tree.now) → IsNoted (bound_of tree.now) ps)) }
-    {
-        let Some((first, second)) = as_and(tree) else {
-            return self.push(range_of(tree));
-        };
-        self.note(second)?;
-        self.note(first)
-    }
-
     // Puts a conjunct of that range in front of those that are there.
-    fn push(&mut self, range: Option<RangeComparison<'a>>) -> Result<(), AllocError>
+    pub(crate) fn push(&mut self, range: Option<RangeComparison<'a>>) -> Result<(), AllocError>
         requires { IsLinked self.old }
         ensures linked { OnOk result (IsLinked self.new) }
         ensures pushed { OnOk result ((p : Place) × (self.new.list.items ≡ self.old.list.items ++ p ∷ []) × IsPlaceOf range.entry p) }
     {
-        let place = match range {
-            Some(range) => {
-                let next = self.heads.put(range.side, range.item, self.list.len())?;
-                Place::Open { range, next }
-            }
-            None => Place::Other,
+        let Some(range) = range else {
+            self.list.push(Place::Other)?;
+            return Ok(());
         };
-        self.list.push(place)?;
+        let number = self.heads.number(range.item)?;
+        let next = self.heads.first(range.side, number);
+        self.heads.set(range.side, number, Some(self.list.len()));
+        let link = Link { number, next };
+        self.list.push(Place::Open { range, link })?;
         Ok(())
     }
 
-    // Merges the range at that place with the first one from `start` on that bounds its item from
-    // the other side, if there is one: it is gone then.
-    pub(crate) fn merge_at(&mut self, alloc: Global, at: usize, start: usize) -> VortexResult<()>
-        requires linked { IsLinked self.old }
-        requires cut { CanMerge self.old.list.items at start }
-        ensures linked { OnOk result (IsLinked self.new) }
-        ensures merged { (back : List Place) (p : Place) (mid ls : List Place) → IsCut self.old.list.items back p mid ls at start → MergesAt self.new.list.items back p mid ls result }
+    // The place of the first range from `from` on that bounds the item of the one at `at` from the
+    // other side.
+    pub(crate) fn partner(&self, at: usize, from: usize) -> Option<usize>
+        requires linked { IsLinked self.now }
+        requires inside { at < length self.now.list.items }
+        ensures { MatchOption result
+            ((p : Place) → slice_get self.now.list.items at ≡ Some p → NoneFrom self.now.list.items from p)
+            (λ first. (p : Place) → slice_get self.now.list.items at ≡ Some p → (from ≤ first) × IsFirstOf self.now.list.items first p) }
     {
-        let Some((right, after)) = range_at(&self.list[at]) else {
-            return Ok(());
-        };
-        let side = right.side.opposite();
-        let Some(first) = self.heads.first(side, right.item) else {
-            return Ok(());
-        };
-        if first < start {
-            return Ok(());
+        let (range, link) = range_at(&self.list[at])?;
+        let first = self.heads.first(range.side.opposite(), link.number)?;
+        if first < from {
+            return None;
         }
-        let Some((left, next)) = range_at(&self.list[first]) else {
+        Some(first)
+    }
+
+    // Merges the ranges at two places, which bound one item from opposite sides and are the first
+    // that do: the right one is gone then.
+    pub(crate) fn merge(&mut self, alloc: Global, left: usize, right: usize) -> VortexResult<()>
+        requires linked { IsLinked self.old }
+        requires pair { IsPair self.old.list.items left right }
+        ensures linked { OnOk result (IsLinked self.new) }
+        ensures merged { OnOk result (PairIsMerged self.old.list.items left right self.new.list.items) }
+    {
+        let Some((c, c_link)) = range_at(&self.list[left]) else {
             return Ok(());
         };
-        let merged = between_of(alloc, left, right)?;
-        self.heads.set(side, right.item, next);
-        self.heads.set(right.side, right.item, after);
-        self.list[first] = Place::Merged(merged);
-        self.list[at] = Place::Gone;
+        let Some((d, d_link)) = range_at(&self.list[right]) else {
+            return Ok(());
+        };
+        let merged = between_of(alloc, c, d)?;
+        self.heads.set(c.side, c_link.number, c_link.next);
+        self.heads.set(d.side, d_link.number, d_link.next);
+        self.list[left] = Place::Merged(merged);
+        self.list[right] = Place::Gone;
         Ok(())
     }
 }
 
-// The range at a place that is still to be merged, and the place of the next one.
-fn range_at<'a>(place: &Place<'a>) -> Option<(RangeComparison<'a>, Option<usize>)>
+// The range at a place that is still to be merged, and where the others of its item are.
+fn range_at<'a>(place: &Place<'a>) -> Option<(RangeComparison<'a>, Link)>
     ensures { MatchOption result (bounded_by place.now ≡ None) (λ o. place.now ≡ Open o.0 o.1) }
 {
     match place {
-        Place::Open { range, next } => Some((*range, *next)),
+        Place::Open { range, link } => Some((*range, *link)),
         Place::Other | Place::Merged(_) | Place::Gone => None,
     }
 }

@@ -17,7 +17,7 @@ use vx_tree::{
 };
 
 // The side from which a literal bounds an item.
-#[derive(Clone, Copy)]
+#[derive(Clone, Copy, PartialEq)]
 pub(crate) enum Side {
     Below,
     Above,

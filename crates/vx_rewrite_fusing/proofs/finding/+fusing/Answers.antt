@@ -1,4 +1,4 @@
-use Rattle.std.proofs.Common.{rules, ◌≡◌, map, subst, ap, ◌∙◌, suc, ◌<◌, ◌+◌, ◌-◌, ◌*◌, arith, length, take, drop, [], ◌∷◌, ◌++◌, Err, refl, sym}
+use Rattle.std.proofs.Common.{rules, ◌≡◌, suc, ◌<◌, ◌+◌, ◌-◌, ◌*◌, arith, length, take, drop, [], ◌∷◌, ◌++◌, Err, refl, sym}
 use Rattle.std.proofs.lemmas.List.{append-nil, append_assoc, length-take-le, take_rest, take_all}
 use Rattle.vx_dtype.specs.declared.error.VortexError.TheVariants.{OutOfMemory}
 use Rattle.vx_tree.specs.Nodes.{bound_children_of, size_of, sizes_of}
@@ -8,10 +8,9 @@ use Rattle.vx_rewrite_fusing.specs.Conjuncts.{EachFused}
 use Rattle.vx_rewrite_fusing.specs.Finding.{EachFusedOf, none_fused, FirstChanged}
 use Rattle.vx_rewrite_fusing.proofs.Children.{children_typed, children_fused, fused_children, children_smaller, bounds_of-append, bounds_of-take_more, all_fused, each_joined, item_fused, item_typed, item_smaller, first_changed, changed_inside, changed_unfused, drop_typed, drop_smaller, each_from, with_more, put_fused}
 use Rattle.vx_rewrite_fusing.proofs.Refusals.{failed, spent}
-use Rattle.std.specs.Prelude.{All}
-use Rattle.vx_rewrite_fusing.specs.Conjuncts.{Fused}
-use Rattle.vx_rewrite_fusing.specs.Places.{chain_trees}
-use Rattle.vx_rewrite_fusing.proofs.Wide.{chain_fused, chain_smaller, chain_typed, found_there, size_there, sizes, there}
+use Rattle.vx_rewrite_fusing.proofs.Apart.{apart_then, apart_typed, conjuncts_apart, found_both, found_single, fused_apart}
+use Rattle.vx_rewrite_fusing.proofs.Binaries.{left_smaller, right_smaller}
+use Rattle.vx_rewrite_fusing.proofs.Growing.{typed_sides}
 use Rattle.vx_rewrite_fusing.proofs.finding.+fusing.Goals as goal
 
 pub fused_node-fused-requires : goal.fused_node-fused-requires
@@ -23,7 +22,7 @@ fused_node-fused-requires t c =
     let typed : WellTyped (bound_of x) = item_typed xs c.loop-i.i x (omega arith) c.index-children-i.is each in
     let less = item_smaller xs c.loop-i.i x (omega arith) c.index-children-i.is in
     let below : sizes_of (unbound_each (bounds_of xs)) < size_of (unbound b) = rw c.children-children.ensures.trees (children_smaller b) in
-    let smaller : 8 * size_of (unbound (bound_of x)) + 3 < 8 * size_of (unbound b) + 1 = omega arith in
+    let smaller : 8 * size_of (unbound (bound_of x)) + 4 < 8 * size_of (unbound b) + 1 = omega arith in
     search rules
 
 pub fused_node-returns-in_err-changed : goal.fused_node-returns-in_err-changed
@@ -89,7 +88,7 @@ fused_from-fused_rest-requires t c =
     let typed : EachWellTyped (bounds_of (take (length xs - n) (drop n xs))) = rw rest (drop_typed n xs each) in
     let less = drop_smaller n xs in
     let below : sizes_of (unbound_each (bounds_of xs)) < size_of (unbound b) = rw c.children-children.ensures.trees (children_smaller b) in
-    let smaller : 8 * sizes_of (unbound_each (bounds_of (take (length xs - n) (drop n xs)))) + 4 < 8 * size_of (unbound b) = rw rest (omega arith) in
+    let smaller : 8 * sizes_of (unbound_each (bounds_of (take (length xs - n) (drop n xs)))) + 5 < 8 * size_of (unbound b) = rw rest (omega arith) in
     search rules
 
 pub fused_from-returns-in_err-front : goal.fused_from-returns-in_err-front
@@ -131,7 +130,7 @@ fused_rest-fused-requires t c =
     let x = c.child-item.result in
     let typed : WellTyped (bound_of x) = item_typed xs c.loop-child.child-index x (omega arith) c.child-item.is c.requires in
     let less = item_smaller xs c.loop-child.child-index x (omega arith) c.child-item.is in
-    let smaller : 8 * size_of (unbound (bound_of x)) + 3 < 8 * sizes_of (unbound_each (bounds_of xs)) + 4 = omega arith in
+    let smaller : 8 * size_of (unbound (bound_of x)) + 4 < 8 * sizes_of (unbound_each (bounds_of xs)) + 5 = omega arith in
     search rules
 
 pub fused_rest-loop-child-preserved : goal.fused_rest-loop-child-preserved
@@ -148,40 +147,56 @@ fused_rest-returns-clause-fused t c =
     let done = c.loop-child.invariant in
     (done.0, done.1, rw (take_all c.loop-child.child-index c.args.rest.now (omega arith)) at done.2)
 
-pub fused_chain-fused_each-requires : goal.fused_chain-fused_each-requires
-fused_chain-fused_each-requires t c =
-    let b = bound_of c.args.b.now in
-    let same : map (λ x. bound_of x.now) c.as_slice.result.now ≡ chain_trees b = ap (map (λ x. bound_of x.now)) c.as_slice.ensures.value ∙ c.in-Ok.ensures in
-    let typed : All WellTyped (map (λ x. bound_of x.now) c.as_slice.result.now) = subst (All WellTyped) (sym same) (chain_typed b c.requires.typed) in
-    let below : sizes (map (λ x. bound_of x.now) c.as_slice.result.now) < size_of (unbound b) = rw same (chain_smaller b c.requires.chain) in
-    let smaller : 8 * sizes (map (λ x. bound_of x.now) c.as_slice.result.now) + 4 < 8 * size_of (unbound b) + 2 = omega arith in
+pub conjuncts_fused-returns-in_default : goal.conjuncts_fused-returns-in_default
+conjuncts_fused-returns-in_default t c = found_single (bound_of c.args.b.now) c.fused_node.result c.in_default.ensures c.fused_node.ensures
+
+pub conjuncts_fused-conjuncts_fused-requires : goal.conjuncts_fused-conjuncts_fused-requires
+conjuncts_fused-conjuncts_fused-requires t c =
+    let typed : WellTyped (bound_of c.in-Some.l.now) = (typed_sides c.in-Some.ensures c.requires).0 in
+    let less : size_of (unbound (bound_of c.in-Some.l.now)) < size_of (unbound (bound_of c.args.b.now)) = left_smaller c.in-Some.ensures in
+    let smaller : 8 * size_of (unbound (bound_of c.in-Some.l.now)) + 2 < 8 * size_of (unbound (bound_of c.args.b.now)) + 2 = omega arith in
     search rules
 
-pub fused_chain-returns-in_err-found : goal.fused_chain-returns-in_err-found
-fused_chain-returns-in_err-found t c =
-    let b = bound_of c.args.b.now in
-    let same : map (λ x. bound_of x.now) c.as_slice.result.now ≡ chain_trees b = ap (map (λ x. bound_of x.now)) c.as_slice.ensures.value ∙ c.in-Ok.ensures in
-    let err = c.in_err-found.ensures.err in
-    let is : c.from_residual.result ≡ Err c.in_err-found.field-0.0 = search rules in
-    failed _ _ is err.1 (λ f. err.0 (subst (All Fused) (sym same) (chain_fused b f)))
+pub conjuncts_fused-returns-in_err-left : goal.conjuncts_fused-returns-in_err-left
+conjuncts_fused-returns-in_err-left t c =
+    let p = c.in_err-left.ensures in
+    let same : c.from_residual.result ≡ Err c.in_err-left.field-0.0 = search rules in
+    failed _ _ same p.1 (λ f. p.0 (conjuncts_apart c.in-Some.ensures f).0)
 
-pub fused_each-fused-requires : goal.fused_each-fused-requires
-fused_each-fused-requires t c =
-    let x = c.tree-item.result in
-    let typed : WellTyped (bound_of x.now) = there WellTyped c.args.trees.now c.loop-tree.tree-index x (omega arith) c.tree-item.is c.requires.typed in
-    let less = size_there c.args.trees.now c.loop-tree.tree-index x (omega arith) c.tree-item.is in
-    let smaller : 8 * size_of (unbound (bound_of x.now)) + 3 < 8 * sizes (map (λ z. bound_of z.now) c.args.trees.now) + 4 = omega arith in
+pub conjuncts_fused-conjuncts_fused-requires-2 : goal.conjuncts_fused-conjuncts_fused-requires-2
+conjuncts_fused-conjuncts_fused-requires-2 t c =
+    let typed : WellTyped (bound_of c.in-Some.r.now) = (typed_sides c.in-Some.ensures c.requires).1 in
+    let less : size_of (unbound (bound_of c.in-Some.r.now)) < size_of (unbound (bound_of c.args.b.now)) = right_smaller c.in-Some.ensures in
+    let smaller : 8 * size_of (unbound (bound_of c.in-Some.r.now)) + 2 < 8 * size_of (unbound (bound_of c.args.b.now)) + 2 = omega arith in
     search rules
 
-pub fused_each-returns-in_err-fused-clause-err : goal.fused_each-returns-in_err-fused-clause-err
-fused_each-returns-in_err-fused-clause-err t c =
-    let x = c.tree-item.result in
-    let err = c.in_err-fused.ensures in
-    let is : c.from_residual.result ≡ Err c.in_err-fused.field-0.0 = search rules in
-    rw is (λ f. err.0 (there Fused c.args.trees.now c.loop-tree.tree-index x (omega arith) c.tree-item.is f), err.1)
+pub conjuncts_fused-returns-in_err-right : goal.conjuncts_fused-returns-in_err-right
+conjuncts_fused-returns-in_err-right t c =
+    let p = c.in_err-right.ensures in
+    let same : c.from_residual-in_err-right.result ≡ Err c.in_err-right.field-0.0 = search rules in
+    failed _ _ same p.1 (λ f. p.0 (conjuncts_apart c.in-Some.ensures f).1)
 
-pub fused_each-loop-tree-preserved : goal.fused_each-loop-tree-preserved
-fused_each-loop-tree-preserved t c =
-    let x = c.tree-item.result in
-    let more = found_there c.args.trees.now c.loop-tree.tree-index x c.loop-tree.found.items c.in_ok-fused.field-0 (omega arith) c.tree-item.is c.loop-tree.invariant.0 c.in_ok-fused.ensures in
-    (rw c.push_reserved.ensures.items more, search rules, search rules)
+pub conjuncts_fused-returns : goal.conjuncts_fused-returns
+conjuncts_fused-returns t c = found_both c.in_ok-left.left c.in_ok-right.right c.and_over.result c.in-Some.ensures c.requires c.in_ok-left.ensures c.in_ok-right.ensures c.and_over.ensures.over c.and_over.ensures.stays c.and_over.ensures.whole c.and_over.ensures.memory
+
+pub fused_wide-returns-in_err-over : goal.fused_wide-returns-in_err-over
+fused_wide-returns-in_err-over t c =
+    let p = c.in_err-over.ensures in
+    let same : c.from_residual.result ≡ Err c.in_err-over.field-0.0 = search rules in
+    failed _ _ same p.1 (λ f. p.0 (fused_apart (bound_of c.args.b.now) f))
+
+pub fused_wide-merged_over-requires-clause-typed : goal.fused_wide-merged_over-requires-clause-typed
+fused_wide-merged_over-requires-clause-typed t c =
+    let p = rw c.in-Some.is at c.in_ok-over.ensures in
+    apart_typed c.requires p.1
+
+pub fused_wide-returns-in_err-merged_over-in-Some : goal.fused_wide-returns-in_err-merged_over-in-Some
+fused_wide-returns-in_err-merged_over-in-Some t c =
+    let p = rw c.in-Some.is at c.in_ok-over.ensures in
+    let same : c.from_residual-in_err-merged_over-in-Some.result ≡ Err OutOfMemory = search rules in
+    spent _ _ same (λ f. p.0 (fused_apart (bound_of c.args.b.now) f))
+
+pub fused_wide-returns-in_ok-merged_over-in-Some : goal.fused_wide-returns-in_ok-merged_over-in-Some
+fused_wide-returns-in_ok-merged_over-in-Some t c =
+    let p = rw c.in-Some.is at c.in_ok-over.ensures in
+    (λ f. p.0 (fused_apart (bound_of c.args.b.now) f), apart_then p.1 c.in_ok-merged_over-in-Some.ensures.fused)

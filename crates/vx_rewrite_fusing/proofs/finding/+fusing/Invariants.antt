@@ -1,13 +1,10 @@
-use Rattle.std.proofs.Common.{◌≡◌, ◌+◌, ◌*◌, ◌++◌, List, map, take}
-use Rattle.std.specs.Prelude.{vec_capacity, vec_len}
+use Rattle.std.proofs.Common.{◌≡◌, ◌+◌, ◌*◌, ◌++◌, List, take}
 use Rattle.vx_tree.specs.Nodes.{size_of, sizes_of}
 use Rattle.vx_tree.specs.Trees.{unbound, unbound_each}
 use Rattle.vx_tree.specs.Views.{bound_of, bounds_of}
 use Rattle.vx_tree.specs.declared.bound.BoundExpression.{BoundExpression}
 use Rattle.vx_rewrite_fusing.specs.Conjuncts.{EachFused}
 use Rattle.vx_rewrite_fusing.specs.Finding.{EachFusedOf}
-use Rattle.vx_rewrite_fusing.specs.Places.{EachFound}
-use Rattle.vx_rewrite_fusing.proofs.Wide.{sizes}
 use Rattle.vx_rewrite_fusing.proofs.finding.+fusing.Given as goal
 
 -- none of the children so far changes
@@ -19,16 +16,14 @@ abbrev pub invariant-fused_rest-loop-child : goal.invariant-fused_rest-loop-chil
 invariant-fused_rest-loop-child l =
     (us : List BoundExpression) × (l.list.items ≡ l.fn.list.items ++ us) × EachFusedOf (bounds_of (take l.child-index l.rest)) (bounds_of us)
 
--- what is found of the trees so far, in a list with room for the rest
-abbrev pub invariant-fused_each-loop-tree : goal.invariant-fused_each-loop-tree
-invariant-fused_each-loop-tree l =
-    EachFound (take l.tree-index (map (λ x. bound_of x.now) l.trees)) l.found.items × (vec_len l.found ≡ l.tree-index) × (vec_capacity l.found ≡ vec_capacity l.fn.found)
-
 abbrev pub decreases-fused : goal.decreases-fused
-decreases-fused l = 8 * size_of (unbound (bound_of l.b.now)) + 3
+decreases-fused l = 8 * size_of (unbound (bound_of l.b.now)) + 4
 
-abbrev pub decreases-fused_chain : goal.decreases-fused_chain
-decreases-fused_chain l = 8 * size_of (unbound (bound_of l.b.now)) + 2
+abbrev pub decreases-fused_wide : goal.decreases-fused_wide
+decreases-fused_wide l = 8 * size_of (unbound (bound_of l.b.now)) + 3
+
+abbrev pub decreases-conjuncts_fused : goal.decreases-conjuncts_fused
+decreases-conjuncts_fused l = 8 * size_of (unbound (bound_of l.b.now)) + 2
 
 abbrev pub decreases-fused_node : goal.decreases-fused_node
 decreases-fused_node l = 8 * size_of (unbound (bound_of l.b.now)) + 1
@@ -37,7 +32,4 @@ abbrev pub decreases-fused_from : goal.decreases-fused_from
 decreases-fused_from l = 8 * size_of (unbound (bound_of l.b.now))
 
 abbrev pub decreases-fused_rest : goal.decreases-fused_rest
-decreases-fused_rest l = 8 * sizes_of (unbound_each (bounds_of l.rest.now)) + 4
-
-abbrev pub decreases-fused_each : goal.decreases-fused_each
-decreases-fused_each l = 8 * sizes (map (λ x. bound_of x.now) l.trees.now) + 4
+decreases-fused_rest l = 8 * sizes_of (unbound_each (bounds_of l.rest.now)) + 5

@@ -1,14 +1,24 @@
-use Rattle.std.proofs.Common.{◌≡◌, None, refl, subst}
-use Rattle.vx_rewrite_fusing.specs.Places.{head_of}
-use Rattle.vx_rewrite_fusing.proofs.Heading.{is_kept, sets_below, sets_above}
+use Rattle.std.proofs.Common.{◌<◌, refl, arith}
+use Rattle.std.specs.Prelude.{vec_len}
+use Rattle.vx_rewrite_fusing.specs.declared.heads.Firsts.{Firsts}
+use Rattle.vx_rewrite_fusing.specs.declared.ranges.Side.TheVariants.{Below, Above}
+use Rattle.vx_rewrite_fusing.proofs.Heading.{above_stays, below_stays, first_read, sets_at}
 use Rattle.vx_rewrite_fusing.proofs.heads.Heads.set.Goals as goal
 
-pub returns-in-Below : goal.returns-in-Below
-returns-in-Below c = λ some.
-    let there = subst (λ s. head_of c.args.self.now s c.args.item ≡ None → ⊥) c.in-Below.is some in
-    rw c.in-Below.is (sets_below c.args.self.now (record { below = c.set.new.firsts; above = c.args.self.now.above }) c.args.item c.args.place refl (c.set.ensures (is_kept _ there)))
+pub returns-in-Below-clause-sets : goal.returns-in-Below-clause-sets
+returns-in-Below-clause-sets c =
+    let fs = c.args.self.now.firsts.items in
+    let old = c.in-Some.firsts.now in
+    let inside : c.args.number < vec_len c.args.self.now.firsts = c.in-Some.ensures.variant.0 refl in
+    let there = first_read fs c.args.number old (omega (arith, inside, c.args.self.now.firsts.ok.0)) c.in-Some.ensures.value in
+    let new : Firsts = record { below = c.args.place; above = c.in-Some.firsts.now.above } in
+    rw c.in-Below.is (sets_at fs Below c.args.number c.args.place old new there refl (above_stays old new refl))
 
-pub returns-in-Above : goal.returns-in-Above
-returns-in-Above c = λ some.
-    let there = subst (λ s. head_of c.args.self.now s c.args.item ≡ None → ⊥) c.in-Above.is some in
-    rw c.in-Above.is (sets_above c.args.self.now (record { below = c.args.self.now.below; above = c.set-in-Above.new.firsts }) c.args.item c.args.place refl (c.set-in-Above.ensures (is_kept _ there)))
+pub returns-in-Above-clause-sets : goal.returns-in-Above-clause-sets
+returns-in-Above-clause-sets c =
+    let fs = c.args.self.now.firsts.items in
+    let old = c.in-Some.firsts.now in
+    let inside : c.args.number < vec_len c.args.self.now.firsts = c.in-Some.ensures.variant.0 refl in
+    let there = first_read fs c.args.number old (omega (arith, inside, c.args.self.now.firsts.ok.0)) c.in-Some.ensures.value in
+    let new : Firsts = record { below = c.in-Some.firsts.now.below; above = c.args.place } in
+    rw c.in-Above.is (sets_at fs Above c.args.number c.args.place old new there refl (below_stays old new refl))
