@@ -15,7 +15,7 @@ use Rattle.vx_fn.proofs.Monotone.{narrower_refl}
 use Rattle.vx_rewrite_keep.proofs.Keeping.{keeps_node, keeps_trans, keeps_refl}
 use Rattle.vx_tree.proofs.Trees.{or_none}
 use Rattle.vx_rewrite_fusing.specs.Merging.{KeepsAlike}
-use Rattle.vx_rewrite_fusing.proofs.Kleene.{and_comm, and_assoc}
+use Rattle.vx_fn.proofs.Kleene.{and_comm, and_assoc}
 
 -- ---- keeping with the same type
 

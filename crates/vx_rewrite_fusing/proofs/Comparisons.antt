@@ -15,7 +15,7 @@ use Rattle.vx_dtype.specs.Deciding.{same_atomic-Decides}
 use Rattle.vx_tree.proofs.Trees.{or_none}
 use Rattle.vx_rewrite_fusing.specs.Merging.{KeepsAlike}
 use Rattle.vx_rewrite_fusing.specs.Laws.{and_count}
-use Rattle.vx_rewrite_fusing.proofs.Kleene.{and_comm, compared-turned}
+use Rattle.vx_fn.proofs.Kleene.{and_comm, compared-turned}
 use Rattle.vx_rewrite_fusing.proofs.Ands.{and_parts_of, and_quiet, alike}
 
 -- ---- what a range comparison is

@@ -1,4 +1,3 @@
-pub mod Kleene
 pub mod Ands
 pub mod Comparisons
 pub mod Merges
