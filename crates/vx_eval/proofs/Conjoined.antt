@@ -9,34 +9,10 @@ use Rattle.vx_fn.specs.Values.{kleene_and, binary_value, agrees, order}
 use Rattle.vx_eval.specs.Columns.{each_row, row_at, truth_datum, truth_of}
 use Rattle.vx_eval.specs.Items.{AllLong, HaveRow, all_of, conjoined, compared_items, is_comparison, item_at}
 use Rattle.vx_eval.proofs.Filled.{each_same, all_rows, told_at}
-use Rattle.vx_eval.proofs.Kleene.{seen, left_seen, right_seen}
+use Rattle.vx_fn.proofs.Kleene.{and_assoc}
+use Rattle.vx_eval.proofs.Kleene.{seen, left_seen}
 
 -- ---- And
-
-told_thrice : (a b c : Option Bool) → kleene_and (kleene_and (truth_datum a) (truth_datum b)) (truth_datum c) ≡ kleene_and (truth_datum a) (kleene_and (truth_datum b) (truth_datum c))
-told_thrice (Some false) b c = refl
-told_thrice (Some true) (Some false) c = refl
-told_thrice (Some true) (Some true) (Some true) = refl
-told_thrice (Some true) (Some true) (Some false) = refl
-told_thrice (Some true) (Some true) None = refl
-told_thrice (Some true) None (Some true) = refl
-told_thrice (Some true) None (Some false) = refl
-told_thrice (Some true) None None = refl
-told_thrice None (Some false) c = refl
-told_thrice None (Some true) (Some true) = refl
-told_thrice None (Some true) (Some false) = refl
-told_thrice None (Some true) None = refl
-told_thrice None None (Some true) = refl
-told_thrice None None (Some false) = refl
-told_thrice None None None = refl
-
-and_assoc : (u v w : Datum) → kleene_and (kleene_and u v) w ≡ kleene_and u (kleene_and v w)
-and_assoc u v w =
-    ap (λ x. kleene_and x w) (left_seen u v ∙ right_seen (seen u) v)
-    ∙ right_seen (kleene_and (seen u) (seen v)) w
-    ∙ told_thrice (truth_of u) (truth_of v) (truth_of w)
-    ∙ sym (ap (kleene_and (seen u)) (left_seen v w ∙ right_seen (seen v) w))
-    ∙ sym (left_seen u (kleene_and v w))
 
 true_and : (v : Datum) → kleene_and (bool true) v ≡ seen v
 true_and (bool true) = refl
