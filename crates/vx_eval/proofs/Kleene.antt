@@ -19,9 +19,6 @@ false_seen _ = refl
 pub left_seen : (v w : Datum) → kleene_and v w ≡ kleene_and (seen v) w
 left_seen v w = rw (true_seen v, false_seen v) refl
 
-pub right_seen : (v w : Datum) → kleene_and v w ≡ kleene_and v (seen w)
-right_seen v w = rw (true_seen w, false_seen w) refl
-
 pub and_told : (v w : Datum) (t : Option Bool) → truth_datum t ≡ kleene_and (seen v) (seen w) → truth_datum t ≡ kleene_and v w
 and_told v w t e = e ∙ rw (true_seen v, true_seen w, false_seen v, false_seen w) refl
 
