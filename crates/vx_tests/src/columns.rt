@@ -22,9 +22,9 @@ fn a_column_is_its_type_and_its_rows(rt: HostRuntime) {
     assert!(rt; column.shared_rows().is_none());
     let copy = column.clone().expect(&rt, "memory");
     let shared = copy.into_shared(alloc).expect(&rt, "memory");
-    let rows = shared.shared_rows().expect(&rt, "shared rows").clone();
-    let lent = Column::from_shared(dtype, rows.expect(&rt, "memory"));
-    same(&rt, lent, &column);
+    let lent = shared.shared_rows().expect(&rt, "shared rows");
+    let rows = lent.clone().expect(&rt, "memory");
+    same(&rt, Column::from_shared(dtype, rows), &column);
     same(&rt, shared, &column);
     let one = values(alloc, "7").expect(&rt, "values");
     let other = Column::try_new(i32_type(Nullable), one).expect(&rt, "a column");
