@@ -12,7 +12,7 @@ const DEEPEST_TEXT: usize = 14_336;
 
 /// What goes down a tree beside the passes that are timed, in the order of its numbers in the library,
 /// which follow theirs.
-const OTHERS: [&str; 16] = [
+const OTHERS: [&str; 22] = [
     "return_dtype",
     "==",
     "text of the source",
@@ -29,6 +29,12 @@ const OTHERS: [&str; 16] = [
     "apply_bound",
     "run_query (all passes, split)",
     "scan",
+    "rebind",
+    "hash",
+    "Debug",
+    "run_passes",
+    "covers, partition_bound_annotations",
+    "replace_partitions",
 ];
 
 /// Prints for each pass the levels of the deepest tree of each family from which it returned.

@@ -15,6 +15,7 @@ mod passes;
 mod query;
 mod query_trees;
 mod scans;
+mod splits;
 mod subject;
 mod trees;
 mod walks;

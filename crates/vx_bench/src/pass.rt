@@ -2,19 +2,22 @@
 ghost use Rattle.vx_tree.specs.Trees.{WellTyped};
 ghost use Rattle.vx_tree.specs.Views.{bound_of};
 
-use crate::over_a_row;
 use crate::subject::Subject;
 use crate::walks::{fold, rewrite, walk};
+use crate::{over_a_row, splits};
 use std::alloc::Global;
 use std::fmt::Display;
+use std::hash::{DefaultHasher, Hash, Hasher};
 use vx_query_split::split_by_fields;
-use vx_rewrite::{BranchRules, Optimize, find_between, partition_bound, referenced_field_paths};
+use vx_rewrite::{
+    BranchRules, Optimize, find_between, partition_bound, referenced_field_paths, run_passes,
+};
 use vx_rewrite_analysis::{
     descendent_bound_annotations, direct_bound_annotations, free_fields, label_bound_tree,
 };
 use vx_rewrite_optimizer::optimize_with;
 use vx_scan::plan;
-use vx_tree::{BoundExpression, ExactBoundExpr, Mask};
+use vx_tree::{BoundExpression, ExactBoundExpr, Expression, Mask};
 use vx_types::{DType, StructFields, VortexError, VortexResult};
 
 /// A pass over a tree.
@@ -72,10 +75,22 @@ pub enum Pass {
     Query,
     /// The source planned and scanned over one row.
     Scan,
+    /// The bound tree bound again.
+    Rebind,
+    /// The tree and the bound tree hashed.
+    Hash,
+    /// The bound tree as `Debug` shows it.
+    DebugText,
+    /// All passes in turn.
+    Passes,
+    /// Whether a map of annotations covers the tree, and the tree split by it.
+    PartitionByMap,
+    /// The tree split, and its partitions put in anew.
+    Replace,
 }
 
 /// The passes in the order of their numbers.
-const PASSES: [Pass; 26] = [
+const PASSES: [Pass; 32] = [
     Pass::Bind,
     Pass::Display,
     Pass::Optimize,
@@ -102,6 +117,12 @@ const PASSES: [Pass; 26] = [
     Pass::Evaluate,
     Pass::Query,
     Pass::Scan,
+    Pass::Rebind,
+    Pass::Hash,
+    Pass::DebugText,
+    Pass::Passes,
+    Pass::PartitionByMap,
+    Pass::Replace,
 ];
 
 impl Pass {
@@ -142,6 +163,12 @@ impl Pass {
             Pass::Evaluate => over_a_row::evaluate(alloc, subject),
             Pass::Query => over_a_row::query(alloc, subject),
             Pass::Scan => over_a_row::scan(alloc, subject),
+            Pass::Rebind => gone(bound.rebind(alloc, &*subject.scope)),
+            Pass::Hash => hash(source, bound),
+            Pass::DebugText => debugged(alloc, bound),
+            Pass::Passes => passed(alloc, bound),
+            Pass::PartitionByMap => splits::by_map(alloc, bound, fields),
+            Pass::Replace => splits::replaced(alloc, bound, fields),
         }
     }
 }
@@ -163,6 +190,31 @@ fn told(holds: bool) -> VortexResult<()> {
 fn written<T: Display>(alloc: Global, text: &T) -> VortexResult<()> {
     let _ = format!(in alloc; "{text}")?;
     Ok(())
+}
+
+fn debugged(alloc: Global, bound: &BoundExpression) -> VortexResult<()> {
+    let _ = format!(in alloc; "{bound:?}")?;
+    Ok(())
+}
+
+fn hash(source: &Expression, bound: &BoundExpression) -> VortexResult<()> {
+    let mut hasher = DefaultHasher::new();
+    source.hash(&mut hasher);
+    bound.hash(&mut hasher);
+    let _ = hasher.finish();
+    Ok(())
+}
+
+fn passed(alloc: Global, bound: &BoundExpression) -> VortexResult<()>
+    requires { WellTyped (bound_of bound.now) }
+{
+    let passes = [
+        vx_rewrite::Pass::Optimize,
+        vx_rewrite::Pass::OptimizeRecursive,
+        vx_rewrite::Pass::FindBetween,
+        vx_rewrite::Pass::Branches,
+    ];
+    gone(run_passes(alloc, bound.clone()?, &passes))
 }
 
 fn check(alloc: Global, bound: &BoundExpression, scope: &DType) -> VortexResult<()> {
