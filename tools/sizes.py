@@ -65,15 +65,21 @@ def conjuncts(n):
     ]
 
 
-def ranges(n):
-    """n fields, each between two bounds: the lower bounds all before the upper ones."""
-    tree = f"times({n}) c# 0 >= end all({n}) times({n}) c# 9 < end all({n}) and"
+def ranges(n, joined=None):
+    """n fields, each between two bounds: the lower bounds all before the upper ones, joined in rounds or
+    in a chain to the right."""
+    tree = joined or f"times({n}) c# 0 >= end all({n}) times({n}) c# 9 < end all({n}) and"
     return [f"scope | {{{n}*c#=i32}}", f"batch | {{{n}*7}}"], None, [
         ("type", f"type | {tree} | bool"),
         ("fused rows", f"fused rows | {tree} | [true]"),
         ("query", f"query | fuse split | {tree} | [true]"),
         ("scan", f"scan | {tree} | [true] : bool"),
     ]
+
+
+def chained(n):
+    """The same in a chain to the right."""
+    return ranges(n, f"times({n}) c# 0 >= end times({n}) c# 9 < end times({2 * n - 1}) and end")
 
 
 def name(n):
@@ -135,6 +141,7 @@ def main():
         (f"{n} fields, chosen", chosen(n)),
         (f"{n} conjuncts", conjuncts(n)),
         (f"{n // 100} ranges", ranges(n // 100)),
+        (f"{n // 100} ranges in a chain", chained(n // 100)),
         (f"a name of {10 * n} bytes", name(n)),
         *[(f"shared {k} times over", shared(k)) for k in (10, 15, 20)],
         *[(f"kept twice {k} times over", twice(k)) for k in (5, 10, 15)],
