@@ -60,20 +60,12 @@ fn fuses(
     answered(rt)
 }
 
+// Of sixteen no refused request is answered: where the index is refused, a search gives the same.
 #[test]
-fn find_between_of_six_comparisons(rt: HostRuntime) -> Result<(), Fail> {
-    fuses(&rt, rt.alloc(), THREE_RANGES, COMPARISONS, RANGES)
-}
-
-#[test]
-fn find_between_of_sixteen_comparisons(rt: HostRuntime) -> Result<(), Fail> {
-    fuses(
-        &rt,
-        rt.alloc(),
-        SEVEN_RANGES,
-        SIXTEEN_COMPARISONS,
-        SEVEN_FUSED,
-    )
+fn find_between_of_six_and_of_sixteen_comparisons(rt: HostRuntime) -> Result<(), Fail> {
+    let alloc = rt.alloc();
+    fuses(&rt, alloc, THREE_RANGES, COMPARISONS, RANGES)?;
+    fuses(&rt, alloc, SEVEN_RANGES, SIXTEEN_COMPARISONS, SEVEN_FUSED)
 }
 
 /// Asserts what is left of the tree, and that the tree stays as it was.
