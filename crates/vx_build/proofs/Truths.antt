@@ -8,8 +8,8 @@ use Rattle.vx_value.specs.Types.{LogicalType, is_nullable}
 use Rattle.vx_fn.specs.Functions.{Operation, binary, binary_type, logic_type, needs, is_truth, truth_type}
 use Rattle.vx_tree.specs.Trees.{BoundTree, node, node_type, on_ok}
 use Rattle.vx_tree.specs.Views.{bounds_from}
-use Rattle.vx_build.specs.Rounds.{Joining, round, rounds, collected, Joins, only, joined, IsCollected}
-use Rattle.vx_build.specs.Collects.{joined_bound, CollectsTruthsAlone}
+use Rattle.vx_build.specs.Rounds.{Pairing, round, rounds, collected, Pairs, only, paired, IsCollected}
+use Rattle.vx_build.specs.Collects.{paired_bounds, CollectsTruthsAlone}
 use Rattle.vx_build.proofs.Rounding.{found, one_is_left}
 use Rattle.vx_build.proofs.Depths.{collects_in_order}
 
@@ -19,22 +19,22 @@ truth_at b = is_truth (node_type b)
 abbrev truths : List BoundTree → Bool
 truths bs = list_all (λ b. is_truth (node_type b)) bs
 
--- ---- a join answers a truth type where both are such, and else refuses
+-- ---- a pair answers a truth type where both are such, and else refuses
 
-abbrev JoinTold : BoundTree → BoundTree → Result BoundTree VortexError → Type 0
-JoinTold x y r = MatchResult r (λ z. (truth_at z ≡ true) × ((truth_at x && truth_at y) ≡ true)) (λ e. (e ≡ NotBool) × ((truth_at x && truth_at y) ≡ false))
+abbrev PairTold : BoundTree → BoundTree → Result BoundTree VortexError → Type 0
+PairTold x y r = MatchResult r (λ z. (truth_at z ≡ true) × ((truth_at x && truth_at y) ≡ true)) (λ e. (e ≡ NotBool) × ((truth_at x && truth_at y) ≡ false))
 
 abbrev made : Operation → BoundTree → BoundTree → LogicalType → Result BoundTree VortexError
 made op x y t = Ok (node t (binary op) (bounds_from (x ∷ y ∷ [])))
 
-needs_told : (op : Operation) (x y : BoundTree) (b n : Bool) → (truth_at x && truth_at y) ≡ b → JoinTold x y (on_ok (made op x y) (needs b NotBool (Ok (truth_type n))))
+needs_told : (op : Operation) (x y : BoundTree) (b n : Bool) → (truth_at x && truth_at y) ≡ b → PairTold x y (on_ok (made op x y) (needs b NotBool (Ok (truth_type n))))
 needs_told op x y true n h = (refl, h)
 needs_told op x y false n h = (refl, h)
 
-join_told : (op : Operation) → binary_type op ≡ logic_type → (x y : BoundTree) → JoinTold x y (joined_bound op x y)
-join_told op logic x y =
+pair_told : (op : Operation) → binary_type op ≡ logic_type → (x y : BoundTree) → PairTold x y (paired_bounds op x y)
+pair_told op logic x y =
     let told = needs_told op x y (truth_at x && truth_at y) (is_nullable (node_type x) || is_nullable (node_type y)) refl in
-    subst (λ row. JoinTold x y (on_ok (made op x y) (row (node_type x) (node_type y)))) (sym logic) told
+    subst (λ row. PairTold x y (on_ok (made op x y) (row (node_type x) (node_type y)))) (sym logic) told
 
 -- ---- a round keeps whether all are truth types, and refuses only where not all are
 
@@ -56,38 +56,38 @@ not_rest true true e q = q
 not_rest true false e q = refl
 not_rest false c e q = refl
 
-pair_told : (x y : BoundTree) (rest : List BoundTree) (r : Result BoundTree VortexError) → JoinTold x y r → (q : Result (List BoundTree) VortexError) → RoundTold rest q
+pair_told : (x y : BoundTree) (rest : List BoundTree) (r : Result BoundTree VortexError) → PairTold x y r → (q : Result (List BoundTree) VortexError) → RoundTold rest q
     → RoundTold (x ∷ y ∷ rest) (on_ok (λ z. on_ok (λ zs. Ok (z ∷ zs)) q) r)
 pair_told x y rest (Ok z) j (Ok zs) k = all_of (truth_at z) (truth_at x) (truth_at y) (truths zs) (truths rest) j.0 j.1 k
 pair_told x y rest (Ok z) j (Err e) k = (k.0, not_rest (truth_at x) (truth_at y) (truths rest) k.1)
 pair_told x y rest (Err e) j q k = (j.0, not_first (truth_at x) (truth_at y) (truths rest) j.1)
 
-round_told : (op : Operation) → binary_type op ≡ logic_type → (xs : List BoundTree) → RoundTold xs (round (joined_bound op) xs)
+round_told : (op : Operation) → binary_type op ≡ logic_type → (xs : List BoundTree) → RoundTold xs (round (paired_bounds op) xs)
 round_told op logic [] = refl
 round_told op logic (x ∷ []) = refl
-round_told op logic (x ∷ y ∷ rest) = pair_told x y rest (joined_bound op x y) (join_told op logic x y) (round (joined_bound op) rest) (round_told op logic rest)
+round_told op logic (x ∷ y ∷ rest) = pair_told x y rest (paired_bounds op x y) (pair_told op logic x y) (round (paired_bounds op) rest) (round_told op logic rest)
 
 rounds_after : (xs : List BoundTree) (f : List BoundTree → Result (List BoundTree) VortexError) (r : Result (List BoundTree) VortexError) → ((ys : List BoundTree) → RoundTold ys (f ys)) → RoundTold xs r → RoundTold xs (on_ok f r)
 rounds_after xs f (Ok ys) h k = subst (λ b. MatchResult (f ys) (λ zs. truths zs ≡ b) (λ e. (e ≡ NotBool) × (b ≡ false))) k (h ys)
 rounds_after xs f (Err e) h k = k
 
-rounds_told : (op : Operation) → binary_type op ≡ logic_type → (n : ℕ) (xs : List BoundTree) → RoundTold xs (rounds (joined_bound op) n xs)
+rounds_told : (op : Operation) → binary_type op ≡ logic_type → (n : ℕ) (xs : List BoundTree) → RoundTold xs (rounds (paired_bounds op) n xs)
 rounds_told op logic zero xs = refl
-rounds_told op logic (suc n) xs = rounds_after xs (rounds (joined_bound op) n) (round (joined_bound op) xs) (rounds_told op logic n) (round_told op logic xs)
+rounds_told op logic (suc n) xs = rounds_after xs (rounds (paired_bounds op) n) (round (paired_bounds op) xs) (rounds_told op logic n) (round_told op logic xs)
 
--- ---- what joins at least two items is a truth type
+-- ---- what pairs at least two items is a truth type
 
-joined_truth : (op : Operation) → binary_type op ≡ logic_type → (k : ℕ) (items : List BoundTree) (e : BoundTree) → 2 ≤ length items → Joins (joined_bound op) k items e → truth_at e ≡ true
-joined_truth op logic k items e some only = absurd (omega arith)
-joined_truth op logic k items e some (joined {x = x} {y = y} a b j) = (subst (JoinTold x y) j (join_told op logic x y)).0
+paired_truth : (op : Operation) → binary_type op ≡ logic_type → (k : ℕ) (items : List BoundTree) (e : BoundTree) → 2 ≤ length items → Pairs (paired_bounds op) k items e → truth_at e ≡ true
+paired_truth op logic k items e some only = absurd (omega arith)
+paired_truth op logic k items e some (paired {x = x} {y = y} a b j) = (subst (PairTold x y) j (pair_told op logic x y)).0
 
 few : (n : ℕ) → suc n ≤ 2 ^ n
 few zero = omega arith
 few (suc n) = omega (arith, few n)
 
-left_truths : (op : Operation) → binary_type op ≡ logic_type → (items left : List BoundTree) → 2 ≤ length items → length left ≡ 1 → IsCollected (joined_bound op) items (slice_get left 0) → truths left ≡ true
+left_truths : (op : Operation) → binary_type op ≡ logic_type → (items left : List BoundTree) → 2 ≤ length items → length left ≡ 1 → IsCollected (paired_bounds op) items (slice_get left 0) → truths left ≡ true
 left_truths op logic items [] some one c = absurd (omega arith)
-left_truths op logic items (e ∷ []) some one c = ap (λ b. b && true) (joined_truth op logic (length items) items e some (c (length items) (omega (arith, few (length items)))))
+left_truths op logic items (e ∷ []) some one c = ap (λ b. b && true) (paired_truth op logic (length items) items e some (c (length items) (omega (arith, few (length items)))))
 left_truths op logic items (e ∷ d ∷ left) some one c = absurd (omega arith)
 
 abbrev first_bound : List BoundTree → Result (Option BoundTree) VortexError
@@ -96,14 +96,14 @@ first_bound xs = Ok (slice_get xs 0)
 abbrev Told : List BoundTree → Result (Option BoundTree) VortexError → Type 0
 Told items r = MatchBool (truths items) (IsOk r) (r ≡ Err NotBool)
 
-told : (op : Operation) → binary_type op ≡ logic_type → (items : List BoundTree) → 2 ≤ length items → (r : Result (List BoundTree) VortexError) → rounds (joined_bound op) (length items) items ≡ r
+told : (op : Operation) → binary_type op ≡ logic_type → (items : List BoundTree) → 2 ≤ length items → (r : Result (List BoundTree) VortexError) → rounds (paired_bounds op) (length items) items ≡ r
     → RoundTold items r → Told items (on_ok first_bound r)
 told op logic items some (Ok left) is k =
-    let join : Joining BoundTree = joined_bound op in
+    let join : Pairing BoundTree = paired_bounds op in
     let one = found (λ xs. length xs ≡ 1) (rounds join (length items) items) left is (one_is_left join (length items) items (omega arith) (omega arith)) in
     let answer = found (IsCollected join items) (collected join items) (slice_get left 0) (ap (on_ok first_bound) is) (collects_in_order join items) in
     subst (λ b. MatchBool b (IsOk (first_bound left)) (first_bound left ≡ Err NotBool)) (sym (left_truths op logic items left some one answer) ∙ k) refl
 told op logic items some (Err e) is k = subst (λ b. MatchBool b (IsOk (on_ok first_bound (Err e))) (on_ok first_bound (Err e) ≡ Err NotBool)) (sym k.1) (ap (λ x. Err x) k.0)
 
 pub collects_truths_alone : (op : Operation) → binary_type op ≡ logic_type → CollectsTruthsAlone op
-collects_truths_alone op logic bs some = told op logic bs some (rounds (joined_bound op) (length bs) bs) refl (rounds_told op logic (length bs) bs)
+collects_truths_alone op logic bs some = told op logic bs some (rounds (paired_bounds op) (length bs) bs) refl (rounds_told op logic (length bs) bs)

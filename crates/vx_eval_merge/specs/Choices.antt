@@ -14,11 +14,11 @@ runs_together ms = sum_by (λ m. length (runs m)) ms
 
 -- how many runs there may be: as many as branches, or a 256th of the rows
 abbrev pub run_limit : ℕ → ℕ → ℕ
-run_limit branches rows = max branches (rows / 256)
+run_limit branches row_count = max branches (row_count / 256)
 
 -- whether there are no more
 abbrev pub prefers_runs : List (List Bool) → ℕ → Bool
-prefers_runs ms rows = nat_le (runs_together ms) (run_limit (length ms) rows)
+prefers_runs ms row_count = nat_le (runs_together ms) (run_limit (length ms) row_count)
 
 -- what is left of a limit beside n, if n is no more
 abbrev pub left_of : ℕ → ℕ → Option ℕ

@@ -17,10 +17,10 @@ pub enum Merging {
 
 /// Whether all masks together have at most as many runs as there are branches, or as a 256th of
 /// the rows. Takes no memory.
-pub fn prefer_runs(branches: &[(RowMask, Column)], rows: usize) -> VortexResult<bool>
-    ensures { result ≡ Ok (prefers_runs (masks_in branches.now) rows) }
+pub fn prefer_runs(branches: &[(RowMask, Column)], row_count: usize) -> VortexResult<bool>
+    ensures { result ≡ Ok (prefers_runs (masks_in branches.now) row_count) }
 {
-    let mut left = run_limit(branches.len(), rows);
+    let mut left = run_limit(branches.len(), row_count);
     for branch in branches {
         match spend(&branch.0, left) {
             Some(rest) => left = rest,
@@ -32,10 +32,10 @@ pub fn prefer_runs(branches: &[(RowMask, Column)], rows: usize) -> VortexResult<
 
 /// `Runs` where `prefer_runs` would be true of branches with these masks, else `Compact`. Takes no
 /// memory.
-pub fn preferred(masks: &[RowMask], rows: usize) -> Merging
-    ensures { result ≡ (if prefers_runs masks.now rows then Runs else Compact) }
+pub fn preferred(masks: &[RowMask], row_count: usize) -> Merging
+    ensures { result ≡ (if prefers_runs masks.now row_count then Runs else Compact) }
 {
-    let mut left = run_limit(masks.len(), rows);
+    let mut left = run_limit(masks.len(), row_count);
     for mask in masks {
         match spend(mask, left) {
             Some(rest) => left = rest,
@@ -46,10 +46,10 @@ pub fn preferred(masks: &[RowMask], rows: usize) -> Merging
 }
 
 // How many runs there may be.
-fn run_limit(branches: usize, rows: usize) -> usize
-    ensures { result ≡ run_limit branches rows }
+fn run_limit(branches: usize, row_count: usize) -> usize
+    ensures { result ≡ run_limit branches row_count }
 {
-    branches.max(rows / 256)
+    branches.max(row_count / 256)
 }
 
 // What is left of so many runs beside those of the mask, if it has no more.

@@ -13,8 +13,8 @@ abbrev pub changed_to : {A : Type 0} → A → Transformed A
 changed_to x = record { value = x; order = Continue; changed = true }
 
 -- x unchanged, and the walk goes on
-abbrev pub kept : {A : Type 0} → A → Transformed A
-kept x = record { value = x; order = Continue; changed = false }
+abbrev pub unchanged : {A : Type 0} → A → Transformed A
+unchanged x = record { value = x; order = Continue; changed = false }
 
 -- the same, its value seen by f
 abbrev pub looking : {A B : Type 0} → (A → B) → Transformed A → Transformed B

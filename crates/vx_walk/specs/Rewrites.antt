@@ -6,7 +6,7 @@ use Rattle.vx_dtype.specs.declared.error.VortexError.TheVariants.{OutOfMemory}
 use Rattle.vx_walk.specs.declared.order.TraversalOrder.{TraversalOrder}
 use Rattle.vx_walk.specs.declared.order.TraversalOrder.TheVariants.{Skip, Stop, Continue}
 use Rattle.vx_walk.specs.declared.transformed.Transformed.{Transformed}
-use Rattle.vx_walk.specs.Handed.{Back, kept, seen, marked, in_front}
+use Rattle.vx_walk.specs.Handed.{Back, unchanged, seen, marked, in_front}
 use Rattle.vx_walk.specs.Mapping.{RebuiltAs}
 use Rattle.vx_walk.specs.Orders.{GoesOn}
 use Rattle.vx_walk.specs.Walks.{Event, down, up, Step}
@@ -56,7 +56,7 @@ RewritesTo kids B D U v n a w = Rewritten kids B D U n v w a
 
 -- on the way up a node is handed back as it is
 abbrev pub GoesUpUnchanged : {V M : Type 0} → V → M → Back M → V → Type 0
-GoesUpUnchanged v m a w = (a ≡ Ok (kept m)) × (w ≡ v)
+GoesUpUnchanged v m a w = (a ≡ Ok (unchanged m)) × (w ≡ v)
 
 -- a rewrite from the state v whose steps on the way down are D, and in which a node is handed back as it is on the way up
 abbrev pub TransformedDown : {V M : Type 0} → (M → List M) → (M → List M → Result M VortexError → Type 0) → (V → M → Back M → V → Type 0) → M → V → Back M → Type 0
@@ -64,4 +64,4 @@ TransformedDown {V} kids B D n v a = (w : V) × Rewritten kids B D GoesUpUnchang
 
 -- each step hands its node back equal, unchanged, with Continue
 abbrev pub HandsBack : {V N M : Type 0} → (N → M) → (V → N → Back N → V → Type 0) → Type 0
-HandsBack {V} {N} mirror R = (v : V) (n : N) (a : Back N) (w : V) → R v n a w → seen mirror a ≡ Ok (kept (mirror n))
+HandsBack {V} {N} mirror R = (v : V) (n : N) (a : Back N) (w : V) → R v n a w → seen mirror a ≡ Ok (unchanged (mirror n))

@@ -1,7 +1,7 @@
 // Closures as visitors and rewriters that have a way down alone.
 ghost use Rattle.std.specs.Prelude.{◌≡◌, ◌≤◌, Ok};
 ghost use Rattle.std.specs.Fn.{CalledAt};
-ghost use Rattle.vx_walk.specs.Handed.{kept};
+ghost use Rattle.vx_walk.specs.Handed.{unchanged};
 ghost use Rattle.vx_walk.specs.declared.order.TraversalOrder.TheVariants.{Continue};
 ghost use Rattle.vx_walk.specs.declared.transformed.Transformed.{Transformed};
 
@@ -48,7 +48,7 @@ impl<T: Node, F: FnMut(T) -> VortexResult<Transformed<T>>> NodeRewriter for FnRe
 
     ghost down_gives = { λ s n a t. F.step s.f n a t.f };
 
-    ghost up_gives = { λ s n a t. (a ≡ Ok (kept n)) × (t ≡ s) };
+    ghost up_gives = { λ s n a t. (a ≡ Ok (unchanged n)) × (t ≡ s) };
 
     ghost no_higher = { λ v w n t ready d e. ready.1 v.f w.f n t d e };
 

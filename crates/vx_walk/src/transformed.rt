@@ -1,6 +1,6 @@
 // What is handed back for something that was handed over.
 ghost use Rattle.std.specs.Prelude.{◌≡◌, ◌||◌};
-ghost use Rattle.vx_walk.specs.Handed.{changed_to, kept};
+ghost use Rattle.vx_walk.specs.Handed.{changed_to, unchanged};
 
 use crate::TraversalOrder;
 
@@ -27,7 +27,7 @@ impl<T> Transformed<T> {
 
     /// Not changed; the walk goes on.
     pub fn no(value: T) -> Transformed<T>
-        ensures { result ≡ kept value }
+        ensures { result ≡ unchanged value }
     {
         Transformed {
             value,

@@ -1,5 +1,5 @@
 use Rattle.std.proofs.Common.{◌∙◌, ap, sym, Ok}
-use Rattle.vx_walk.specs.Handed.{kept, seen}
+use Rattle.vx_walk.specs.Handed.{unchanged, seen}
 use Rattle.vx_walk.specs.declared.closures.FnRewriter.{FnRewriter}
 use Rattle.vx_walk.proofs.Rewriting.{Rewritten-through}
 use Rattle.vx_walk.proofs.Unchanged.{Rewritten-unchanged}
@@ -11,7 +11,7 @@ returns-clause-transformed g c = (
   Rewritten-through _ _ (λ (s : FnRewriter g.row.Self.Denot g.row.F.Denot). s.f) _ _ _ _
       (λ v m a w k. record { node = k.node; looks = k.looks; answer = k.answer; sees = k.sees; step = k.step })
       (λ v m a w k. (
-        sym k.sees ∙ (ap (seen g.Self.Node.mirror) k.step.0 ∙ ap (λ x. Ok (kept x)) k.looks),
+        sym k.sees ∙ (ap (seen g.Self.Node.mirror) k.step.0 ∙ ap (λ x. Ok (unchanged x)) k.looks),
         ap (λ (s : FnRewriter g.row.Self.Denot g.row.F.Denot). s.f) k.step.1,
       ))
       c.rewrite_node.ensures.rewritten,
