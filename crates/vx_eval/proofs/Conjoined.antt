@@ -37,6 +37,10 @@ and_true None = refl
 pub conjoined_long : (n : ℕ) (cs : List (List Datum)) → length (conjoined n cs) ≡ n
 conjoined_long n cs = length-map-range_with_len (λ k. all_of (row_at cs k)) 0 n
 
+-- a row of what is joined is one of the columns
+pub row_within : (n i : ℕ) (cs : List (List Datum)) (ds : List Datum) → conjoined n cs ≡ ds → i < length ds → i < n
+row_within n i cs ds is lt = omega (arith, conjoined_long n cs, ap length is, lt)
+
 pub conjoined_at : (n i : ℕ) (cs : List (List Datum)) → i < n → get_or (conjoined n cs) i null ≡ all_of (row_at cs i)
 conjoined_at n i cs lt = get_or-map-range_with_len (λ k. all_of (row_at cs k)) 0 n i i null lt (omega arith)
 

@@ -17,6 +17,7 @@ use Rattle.vx_eval.specs.declared.rows.Rows.TheVariants.{Same}
 use Rattle.vx_eval.specs.Choices.{else_at, conditions_in, values_in, alone, truths, SameRows}
 use Rattle.vx_eval.specs.Columns.{values_of, rows_view, rows_views, row_at, each_row, AllLong}
 use Rattle.vx_eval.proofs.Filled.{each_same}
+use Rattle.vx_eval.proofs.Trues.{true_at}
 use Rattle.vx_value.proofs.TakenRows.{at_place, row_kept}
 
 -- ---- rows that are given one by one
@@ -27,17 +28,12 @@ as_rows n f ds long h =
 
 -- ---- columns in turn
 
-at_true : (c : List Datum) (k : ℕ) → get_or (map is_true c) k false ≡ is_true (get_or c k null)
-at_true [] k = refl
-at_true (v ∷ c) zero = refl
-at_true (v ∷ c) (suc k) = at_true c k
-
 -- the first true condition is the first true mask
 pub first_true-masks : (cs : List (List Datum)) (k : ℕ) → merged_at (truths (conditions_in cs)) (values_in cs) (else_at (alone cs) k) k ≡ first_true (row_at cs k)
 first_true-masks [] k = refl
 first_true-masks (c ∷ []) k = refl
 first_true-masks (c ∷ v ∷ cs) k =
-    ap (λ b. if b then get_or v k null else merged_at (truths (conditions_in cs)) (values_in cs) (else_at (alone cs) k) k) (at_true c k)
+    ap (λ b. if b then get_or v k null else merged_at (truths (conditions_in cs)) (values_in cs) (else_at (alone cs) k) k) (true_at c k)
     ∙ ap (λ d. if is_true (get_or c k null) then get_or v k null else d) (first_true-masks cs k)
 
 pub truths_long : (n : ℕ) (cs : List (List Datum)) → AllLong n cs → EachMask n (truths (conditions_in cs))
@@ -95,6 +91,10 @@ pub record IsSplit (n : ℕ) (cs : List (List Datum)) (masks : List (List Bool))
   pub rest_is : rest ≡ unclaimed (replicate n true) (truths (conditions_in cs))
   pub values_are : rows_views values ≡ values_in cs
   pub last_is : option_map rows_view last ≡ alone cs
+
+pub split : (n : ℕ) (cs : List (List Datum)) (masks : List (List Bool)) (rest : List Bool) (values : List Rows) (given last : Option Rows) → masks ≡ claimed (replicate n true) (truths (conditions_in cs)) → rest ≡ unclaimed (replicate n true) (truths (conditions_in cs)) →
+    rows_views values ≡ values_in cs → option_map rows_view given ≡ alone cs → given ≡ last → IsSplit n cs masks rest values last
+split n cs masks rest values given last own left beside behind is = record { masks_are = own; rest_is = left; values_are = beside; last_is = ap (option_map rows_view) (sym is) ∙ behind }
 
 -- ---- all rows
 

@@ -18,7 +18,7 @@ true_pushed h bits new i b so_far pushed here =
 
 -- ---- among the rows of another mask
 
-true_at : (ds : List Datum) (k : ℕ) → get_or (map is_true ds) k false ≡ is_true (get_or ds k null)
+pub true_at : (ds : List Datum) (k : ℕ) → get_or (map is_true ds) k false ≡ is_true (get_or ds k null)
 true_at [] k = refl
 true_at (d ∷ ds) zero = refl
 true_at (d ∷ ds) (suc k) = true_at ds k

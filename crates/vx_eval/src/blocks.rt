@@ -23,8 +23,11 @@ use vx_types::{Column, Value, VortexError, VortexResult};
 // them stays in the processor's cache.
 const BLOCK: usize = 1_024;
 
-/// The tree's value in each row of a batch of its scope's type, or the first fault. The scope's rows
-/// are shared where the batch shares them, and else copied where they are all that is asked. Refuses with `OutOfMemory` (1) too.
+/// The tree's value in each row of a batch of its scope's type, or the first fault. Refuses with
+/// `OutOfMemory` (1) too.
+///
+/// The scope's rows are shared where the batch shares them, and else copied where they are all that
+/// is asked.
 pub fn evaluate_over(
     alloc: Global,
     batch: &Column,
