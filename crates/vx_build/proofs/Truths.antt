@@ -31,8 +31,8 @@ needs_told : (op : Operation) (x y : BoundTree) (b n : Bool) → (truth_at x && 
 needs_told op x y true n h = (refl, h)
 needs_told op x y false n h = (refl, h)
 
-pair_told : (op : Operation) → binary_type op ≡ logic_type → (x y : BoundTree) → PairTold x y (paired_bounds op x y)
-pair_told op logic x y =
+paired_told : (op : Operation) → binary_type op ≡ logic_type → (x y : BoundTree) → PairTold x y (paired_bounds op x y)
+paired_told op logic x y =
     let told = needs_told op x y (truth_at x && truth_at y) (is_nullable (node_type x) || is_nullable (node_type y)) refl in
     subst (λ row. PairTold x y (on_ok (made op x y) (row (node_type x) (node_type y)))) (sym logic) told
 
@@ -65,7 +65,7 @@ pair_told x y rest (Err e) j q k = (j.0, not_first (truth_at x) (truth_at y) (tr
 round_told : (op : Operation) → binary_type op ≡ logic_type → (xs : List BoundTree) → RoundTold xs (round (paired_bounds op) xs)
 round_told op logic [] = refl
 round_told op logic (x ∷ []) = refl
-round_told op logic (x ∷ y ∷ rest) = pair_told x y rest (paired_bounds op x y) (pair_told op logic x y) (round (paired_bounds op) rest) (round_told op logic rest)
+round_told op logic (x ∷ y ∷ rest) = pair_told x y rest (paired_bounds op x y) (paired_told op logic x y) (round (paired_bounds op) rest) (round_told op logic rest)
 
 rounds_after : (xs : List BoundTree) (f : List BoundTree → Result (List BoundTree) VortexError) (r : Result (List BoundTree) VortexError) → ((ys : List BoundTree) → RoundTold ys (f ys)) → RoundTold xs r → RoundTold xs (on_ok f r)
 rounds_after xs f (Ok ys) h k = subst (λ b. MatchResult (f ys) (λ zs. truths zs ≡ b) (λ e. (e ≡ NotBool) × (b ≡ false))) k (h ys)
@@ -79,7 +79,7 @@ rounds_told op logic (suc n) xs = rounds_after xs (rounds (paired_bounds op) n) 
 
 paired_truth : (op : Operation) → binary_type op ≡ logic_type → (k : ℕ) (items : List BoundTree) (e : BoundTree) → 2 ≤ length items → Pairs (paired_bounds op) k items e → truth_at e ≡ true
 paired_truth op logic k items e some only = absurd (omega arith)
-paired_truth op logic k items e some (paired {x = x} {y = y} a b j) = (subst (PairTold x y) j (pair_told op logic x y)).0
+paired_truth op logic k items e some (paired {x = x} {y = y} a b j) = (subst (PairTold x y) j (paired_told op logic x y)).0
 
 few : (n : ℕ) → suc n ≤ 2 ^ n
 few zero = omega arith

@@ -70,10 +70,10 @@ in_front-unchanged m n ns c r p q s = rw (p, q, s) refl
 module _ {M : Type 0} (kids : M → List M) (B : M → List M → Result M VortexError → Type 0) where
   -- of children that stay the node itself is made
   same_node : (n m : M) (r : Transformed (List M)) (ms : List M) → r ≡ unchanged ms → RebuiltAs B n r.value r.changed (Ok m) → m ≡ n
-  same_node n m r ms e b = node-value (subst (λ c. RebuiltAs B n r.value c (Ok m)) (unchanged e) b)
+  same_node n m r ms e b = node-value (subst (λ c. RebuiltAs B n r.value c (Ok m)) (marks_unchanged e) b)
 
   no_refusal : (n : M) (d : VortexError) (r : Transformed (List M)) (ms : List M) → r ≡ unchanged ms → RebuiltAs B n r.value r.changed (Err d) → ⊥
-  no_refusal n d r ms e b = let q = subst (λ c. RebuiltAs B n r.value c (Err d)) (unchanged e) b in cc
+  no_refusal n d r ms e b = let q = subst (λ c. RebuiltAs B n r.value c (Err d)) (marks_unchanged e) b in cc
 
   mutual
     -- a node whose events hand every node back as it is stays
@@ -87,7 +87,7 @@ module _ {M : Type 0} (kids : M → List M) (B : M → List M → Result M Vorte
     Rewrite-stays (whole {n = n} m {t = t} {es = es} {r = r} a o rs b p) k =
         let here : t ≡ unchanged n = ok-value k.0 in
         let below : r ≡ unchanged (kids t.value) = Stays-answered (RewriteAll-stays refl rs (AllKeep-front es (up m a ∷ []) k.1)) in
-        inl (marked-unchanged m n a r.changed t.changed (AllKeep-rest es (up m a ∷ []) k.1).0 (same_node t.value m r _ below b ∙ same_value here) (unchanged below) (marks_unchanged here))
+        inl (marked-unchanged m n a r.changed t.changed (AllKeep-rest es (up m a ∷ []) k.1).0 (same_node t.value m r _ below b ∙ same_value here) (marks_unchanged below) (marks_unchanged here))
 
     -- and so do siblings
     pub RewriteAll-stays : {o : TraversalOrder} {ns : List M} {es : List (Event M (Back M))} {r : Back (List M)} → o ≡ Continue → RewriteAll kids B o ns es r → AllKeep es → Stays ns r

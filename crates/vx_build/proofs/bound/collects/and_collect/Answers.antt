@@ -5,4 +5,4 @@ use Rattle.vx_build.proofs.Collecting.{collects_bound}
 use Rattle.vx_build.proofs.bound.collects.and_collect.Goals as goal
 
 pub returns-clause-collected : goal.returns-clause-collected
-returns-clause-collected c = collects_bound and_also (map bound_of c.args.items.items) c.collect.result c.collect.ensures.paired
+returns-clause-collected c = collects_bound and_also (map bound_of c.args.items.items) c.collect.result c.collect.ensures.left
