@@ -1,6 +1,7 @@
 -- A range comparison compares, and two of one item are one Between.
 use Rattle.std.proofs.Common.{◌≡◌, List, [], ◌∷◌, refl, sym, subst, ap, ◌∙◌, Bool, true, false, ◌||◌, ◌&&◌, ◌+◌, ◌≤◌, arith}
 use Rattle.std.specs.Prelude.{Some, None, Ok, if◌then◌else◌}
+use Rattle.std.proofs.Math.Bool.{or_comm}
 use Rattle.vx_value.specs.Types.{Atomic, LogicalType, ty, atomic, Datum, is_nullable}
 use Rattle.vx_fn.specs.Functions.{binary, compares, between, Comparison, greater, greater_or_equal, less, less_or_equal, truth_type, fn_type, mirrored}
 use Rattle.vx_fn.specs.Rows.{FnType, of_comparison, of_between}
@@ -64,12 +65,6 @@ record Compared (x y c : BoundTree) : Type 0 where
   item_type : node_type x ≡ ty (atomic kind) (is_nullable (node_type x))
   literal_type : node_type y ≡ ty (atomic kind) (is_nullable (node_type y))
   nullable : is_nullable (node_type c) ≡ (is_nullable (node_type x) || is_nullable (node_type y))
-
-or_comm : (a b : Bool) → (a || b) ≡ (b || a)
-or_comm true true = refl
-or_comm true false = refl
-or_comm false true = refl
-or_comm false false = refl
 
 compare_types : {k : Comparison} {x y c : BoundTree} → IsCompare k x y c → WellTyped c → Compared x y c
 compare_types {k = k} {x = x} {y = y} (as_is {t = t}) w =

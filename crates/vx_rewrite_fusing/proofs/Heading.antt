@@ -58,11 +58,6 @@ first_missing fs gs s n e h = first_out fs s n (ap (λ z. slice_get z n) (sym e)
 pub first_found : (fs gs : List Firsts) (s : Side) (n : ℕ) (x : Bor Firsts) → gs ≡ fs → IsItemAt gs n (Some x) → first_at fs s n ≡ first_of x.now s
 first_found fs gs s n x e h = first_in fs s n x.now (ap (λ z. slice_get z n) (sym e) ∙ slice_get_read gs (length gs) n x.now refl (ltb-true n (length gs) (sym h.0)) h.1)
 
-pub first_read : (fs : List Firsts) (n : ℕ) (f : Firsts) → n < length fs → f ≡ get_or fs n f → slice_get fs n ≡ Some f
-first_read [] n f l e = absurd (omega arith)
-first_read (g ∷ fs) zero f l e = ap Some (sym e)
-first_read (g ∷ fs) (suc n) f l e = first_read fs n f (omega arith) e
-
 first_set : (fs : List Firsts) (t : Side) (n m : ℕ) (f g : Firsts) → slice_get fs n ≡ Some f → (m ≡ n → first_at (set fs n g) t m ≡ first_of g t) × ((m ≡ n → ⊥) → first_at (set fs n g) t m ≡ first_at fs t m)
 first_set [] t n m f g e = cc
 first_set (h ∷ fs) t zero zero f g e = (λ q. refl, λ q. absurd (q refl))

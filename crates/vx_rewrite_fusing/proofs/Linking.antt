@@ -1,6 +1,7 @@
 -- Where the ranges of an item stand, after a conjunct is put in front or merged.
 use Rattle.std.proofs.Common.{◌≡◌, ◌⊎◌, inl, inr, ℕ, zero, suc, ◌<◌, ◌≤◌, List, [], ◌∷◌, ◌++◌, length, get_or, set, refl, sym, subst, ap, ◌∙◌, Bool, true, false, arith, length-append, length-set}
 use Rattle.std.specs.Prelude.{Option, Some, None, slice_get}
+use Rattle.std.proofs.lemmas.Option.{slice_get_read}
 use Rattle.std.specs.declared.alloc.Global.{Global}
 use Rattle.std.specs.declared.boxed.Box.{Box}
 use denote.Ref.{Bor}
@@ -75,15 +76,11 @@ next_apart (p ∷ ps) (suc i) zero q n = refl
 next_apart (p ∷ ps) (suc i) (suc j) q n = next_apart ps i j q (λ e. n (ap suc e))
 
 -- the place that is read
-pub bounded_read : (ps : List Place) (i : ℕ) (p : Place) → i < length ps → p ≡ get_or ps i p → bounded_at ps i ≡ bounded_by p
-bounded_read [] i p l e = absurd (omega arith)
-bounded_read (q ∷ ps) zero p l e = ap bounded_by (sym e)
-bounded_read (q ∷ ps) (suc i) p l e = bounded_read ps i p (omega arith) e
-
 pub place_read : (ps : List Place) (i : ℕ) (p : Place) → i < length ps → p ≡ get_or ps i p → slice_get ps i ≡ Some p
-place_read [] i p l e = absurd (omega arith)
-place_read (q ∷ ps) zero p l e = ap Some (sym e)
-place_read (q ∷ ps) (suc i) p l e = place_read ps i p (omega arith) e
+place_read ps i p l e = slice_get_read ps (length ps) i p refl l e
+
+pub bounded_read : (ps : List Place) (i : ℕ) (p : Place) → i < length ps → p ≡ get_or ps i p → bounded_at ps i ≡ bounded_by p
+bounded_read ps i p l e = bounded_here ps i p (place_read ps i p l e)
 
 -- ---- the last place of an item
 
@@ -162,11 +159,6 @@ parts_same {s = s} {t = t} {b = b} {c = c} e = (ap side e, ap tree e)
     tree : Option Bounded → BoundTree
     tree None = b
     tree (Some k) = k.1
-
-slice_inside : (ps : List Place) (i : ℕ) (p : Place) → slice_get ps i ≡ Some p → i < length ps
-slice_inside [] i p e = cc
-slice_inside (q ∷ ps) zero p e = omega arith
-slice_inside (q ∷ ps) (suc i) p e = let h = slice_inside ps i p e in omega arith
 
 -- a place of a list with one more at its end
 slice_pushed : (ps : List Place) (p q : Place) (i : ℕ) → slice_get (ps ++ p ∷ []) i ≡ Some q → (slice_get ps i ≡ Some q) ⊎ (p ≡ q)

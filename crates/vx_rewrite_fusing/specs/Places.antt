@@ -21,7 +21,7 @@ use Rattle.vx_rewrite_fusing.specs.declared.ranges.RangeComparison.{RangeCompari
 use Rattle.vx_rewrite_fusing.specs.declared.ranges.Side.{Side}
 use Rattle.vx_rewrite_fusing.specs.declared.ranges.Side.TheVariants.{Below, Above}
 use Rattle.vx_rewrite_fusing.specs.Conjuncts.{and_node, and_of, is_and, range_of, MergeTo}
-use Rattle.vx_rewrite_fusing.specs.Finding.{range_seen, tree_in, joined}
+use Rattle.vx_rewrite_fusing.specs.Finding.{range_seen, tree_in, conjoined}
 
 -- ---- the ranges of an item
 
@@ -146,7 +146,7 @@ pub data Holds : BoundTree → List Place → Option BoundTree → Type 0 where
   open_range : {c : BoundTree} {r : RangeComparison} {next : Link} → IsFalse (is_and c) → range_of c ≡ Some (range_seen r) → Holds c (Open r next ∷ []) (Some c)
   merged_range : {c : BoundTree} {b : Box BoundExpression Global} → IsFalse (is_and c) → IsFalse (is_and (tree_in b)) → range_of (tree_in b) ≡ None → Holds c (Merged b ∷ []) (Some (tree_in b))
   gone_range : {c : BoundTree} → IsFalse (is_and c) → Holds c (Gone ∷ []) None
-  both : {t : LogicalType} {l r : BoundTree} {l' r' : Option BoundTree} {ls rs : List Place} → and_node t l r ≡ and_of l r → Holds l ls l' → Holds r rs r' → Holds (and_node t l r) (rs ++ ls) (joined l' r')
+  both : {t : LogicalType} {l r : BoundTree} {l' r' : Option BoundTree} {ls rs : List Place} → and_node t l r ≡ and_of l r → Holds l ls l' → Holds r rs r' → Holds (and_node t l r) (rs ++ ls) (conjoined l' r')
 
 -- what is kept of a conjunct with that range
 abbrev pub IsPlaceOf : Option RangeComparison → Place → Type 0
@@ -164,9 +164,9 @@ rests (Some o) = Some (option_map tree_in o)
 
 -- what is left of an And, by what is left of its children
 abbrev pub rest_of : BoundTree → Option (Option BoundTree) → BoundTree → Option (Option BoundTree) → Option (Option BoundTree)
-rest_of x (Some l) y (Some r) = Some (joined l r)
-rest_of x (Some l) y None = Some (joined l (Some y))
-rest_of x None y (Some r) = Some (joined (Some x) r)
+rest_of x (Some l) y (Some r) = Some (conjoined l r)
+rest_of x (Some l) y None = Some (conjoined l (Some y))
+rest_of x None y (Some r) = Some (conjoined (Some x) r)
 rest_of x None y None = None
 
 -- what is left of a tree is told: None where it is the tree, and something changed where it isn't None

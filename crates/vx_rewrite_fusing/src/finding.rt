@@ -1,4 +1,4 @@
-// The whole of range fusing: children first, then the pairs at the root.
+// Range fusing at every node: children first, since what they become decides which pairs the node has.
 ghost use Rattle.std.specs.Prelude.{◌≡◌, ℕ, IsSome, List, ◌∷◌, ◌++◌, [], None, Ok, Some, IfErr, IfOk, MatchOption, option_map};
 ghost use Rattle.vx_dtype.specs.declared.error.VortexError.TheVariants.{OutOfMemory};
 ghost use Rattle.vx_rewrite_keep.specs.Keeps.{Keeps};

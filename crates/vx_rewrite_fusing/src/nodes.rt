@@ -6,7 +6,7 @@ ghost use Rattle.vx_fn.specs.Views.{function_of, operation_of};
 ghost use Rattle.vx_tree.specs.Trees.{node};
 ghost use Rattle.vx_tree.specs.Views.{bound_of, bounds_of};
 ghost use Rattle.vx_rewrite_fusing.specs.Conjuncts.{and_of, is_and};
-ghost use Rattle.vx_rewrite_fusing.specs.Finding.{joined, tree_in, IsBinary, IsOther};
+ghost use Rattle.vx_rewrite_fusing.specs.Finding.{conjoined, tree_in, IsBinary, IsOther};
 
 use std::alloc::{AllocError, Global};
 use std::rc::Rc;
@@ -134,12 +134,12 @@ pub(crate) fn with_right(
 }
 
 // The And of what is left of two trees, or the one of which something is.
-pub(crate) fn joined(
+pub(crate) fn conjoined(
     alloc: Global,
     l: Option<Box<BoundExpression>>,
     r: Option<Box<BoundExpression>>,
 ) -> VortexResult<Option<Box<BoundExpression>>>
-    ensures joined { IfOk result (λ o. option_map tree_in o ≡ joined (option_map tree_in l) (option_map tree_in r)) }
+    ensures conjoined { IfOk result (λ o. option_map tree_in o ≡ conjoined (option_map tree_in l) (option_map tree_in r)) }
     ensures memory { IfErr result (λ e. e ≡ OutOfMemory) }
 {
     match (l, r) {
