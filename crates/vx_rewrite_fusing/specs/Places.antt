@@ -25,6 +25,12 @@ use Rattle.vx_rewrite_fusing.specs.Finding.{range_seen, tree_in, conjoined}
 
 -- ---- the ranges of an item
 
+-- what is read of the element at an index, if there is one
+abbrev pub read_at : {A B : Type 0} → (A → Option B) → List A → ℕ → Option B
+read_at f [] i = None
+read_at f (x ∷ xs) zero = f x
+read_at f (x ∷ xs) (suc i) = read_at f xs i
+
 -- the other side
 abbrev pub opposite : Side → Side
 opposite Below = Above
@@ -44,9 +50,7 @@ bounded_by (Open r link) = Some (r.side, bound_of r.item.now)
 bounded_by p = None
 
 abbrev pub bounded_at : List Place → ℕ → Option Bounded
-bounded_at [] i = None
-bounded_at (p ∷ ps) zero = bounded_by p
-bounded_at (p ∷ ps) (suc i) = bounded_at ps i
+bounded_at = read_at bounded_by
 
 -- the place that is kept as the next one
 abbrev pub next_of : Place → Option ℕ
@@ -54,9 +58,7 @@ next_of (Open r link) = link.next
 next_of p = None
 
 abbrev pub next_at : List Place → ℕ → Option ℕ
-next_at [] i = None
-next_at (p ∷ ps) zero = next_of p
-next_at (p ∷ ps) (suc i) = next_at ps i
+next_at = read_at next_of
 
 -- the last place below n at which k is bounded, if there is one
 abbrev pub IsLast : List Place → Bounded → ℕ → Option ℕ → Type 0
@@ -78,9 +80,7 @@ first_of f Above = f.above
 
 -- the same of a number, if there is one
 abbrev pub first_at : List Firsts → Side → ℕ → Option ℕ
-first_at [] s n = None
-first_at (f ∷ fs) s zero = first_of f s
-first_at (f ∷ fs) s (suc n) = first_at fs s n
+first_at fs s = read_at (λ f. first_of f s) fs
 
 abbrev pub first_by : List Firsts → Side → Option ℕ → Option ℕ
 first_by fs s None = None
