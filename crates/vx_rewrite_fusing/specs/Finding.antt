@@ -1,4 +1,4 @@
--- What the steps of `find_between` answer.
+-- What the steps of `find_between` answer. No public contract names this file: it is for the contracts of the steps within the crate.
 use Rattle.std.specs.Prelude.{◌≡◌, ℕ, zero, suc, List, [], ◌∷◌, Option, Some, None, Result, Ok, Err, Bool, IsFalse, option_map}
 use Rattle.std.specs.declared.alloc.Global.{Global}
 use Rattle.std.specs.declared.boxed.Box.{Box}

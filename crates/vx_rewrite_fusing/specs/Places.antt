@@ -1,4 +1,4 @@
--- The conjuncts of a tree while pairs are merged, and where the ranges of an item stand.
+-- The conjuncts of a tree while pairs are merged, and where the ranges of an item stand. No public contract names this file.
 use Rattle.std.specs.Prelude.{◌≡◌, ◌⊎◌, ℕ, zero, suc, ◌<◌, ◌≤◌, List, [], ◌∷◌, ◌++◌, Option, Some, None, Result, Ok, Err, Bool, true, false, IsFalse, IsTrue, option_map, length, set, slice_get}
 use Rattle.std.specs.HashMap.{HashMap, get_by}
 use Rattle.std.specs.declared.alloc.Global.{Global}

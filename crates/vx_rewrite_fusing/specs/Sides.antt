@@ -1,4 +1,4 @@
--- The pairs of the two sides of an And merged, by functions of trees and by the places of conjuncts.
+-- The pairs of the two sides of an And merged, by functions of trees and by the places of conjuncts. No public contract names this file.
 use Rattle.std.specs.Prelude.{◌≡◌, ℕ, List, ◌++◌, Option, Some, None, false, length, if◌then◌else◌}
 use Rattle.vx_tree.specs.Equality.{equal_bound}
 use Rattle.vx_fn.specs.Functions.{binary, and_also}
