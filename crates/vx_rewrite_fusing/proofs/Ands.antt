@@ -1,6 +1,7 @@
 -- Ands of the same conjuncts keep each other, with the same type.
 use Rattle.std.proofs.Common.{◌≡◌, List, [], ◌∷◌, refl, sym, subst, ap, ◌∙◌, Bool, true, false, ◌||◌}
 use Rattle.std.specs.Prelude.{Ok}
+use Rattle.std.proofs.Math.Bool.{or_assoc, or_comm}
 use Rattle.vx_value.specs.Types.{LogicalType, Datum, is_nullable}
 use Rattle.vx_dtype.specs.Joins.{Narrower}
 use Rattle.vx_fn.specs.Functions.{binary, and_also, truth_type, fn_type}
@@ -98,16 +99,6 @@ and_alike t l l' r r' w k h =
 -- the same And, typed anew
 pub and_again : (t : LogicalType) (l r : BoundTree) → WellTyped (and_node t l r) → KeepsAlike (and_node t l r) (and_of l r)
 and_again t l r w = let p = and_parts_of t l r w in and_alike t l l r r w (alike_refl l p.left) (alike_refl r p.right)
-
-or_comm : (a b : Bool) → (a || b) ≡ (b || a)
-or_comm true true = refl
-or_comm true false = refl
-or_comm false true = refl
-or_comm false false = refl
-
-or_assoc : (a b c : Bool) → ((a || b) || c) ≡ (a || (b || c))
-or_assoc true b c = refl
-or_assoc false b c = refl
 
 pub and_exchange : (t : LogicalType) (l r : BoundTree) → WellTyped (and_node t l r) → KeepsAlike (and_node t l r) (and_of r l)
 and_exchange t l r w =

@@ -8,6 +8,7 @@ use Rattle.vx_dtype.specs.declared.error.VortexError.TheVariants.{OutOfMemory}
 use Rattle.vx_value.specs.Types.{LogicalType}
 use Rattle.vx_fn.specs.Functions.{Function, binary, and_also}
 use Rattle.vx_dtype.specs.Lists.{IsIn}
+use Rattle.vx_dtype.proofs.Lists.{in_left, in_right}
 use Rattle.vx_tree.specs.Trees.{BoundTree, node, BoundTrees, no_bound, bound, WellTyped}
 use Rattle.vx_tree.specs.declared.bound.BoundExpression.{BoundExpression}
 use Rattle.vx_rewrite_keep.specs.Steps.{Step, OneStep, here, below, this_one, later_one, no_step, one_more}
@@ -18,7 +19,7 @@ use Rattle.vx_rewrite_fusing.specs.Finding.{side_of, tree_in, tree_or, Conjuncts
 use Rattle.vx_rewrite_fusing.specs.Merging.{IsFusedOf, MergeAt, right_stays, right_goes, Merges}
 use Rattle.vx_rewrite_fusing.proofs.Ands.{and_parts_of}
 use Rattle.vx_rewrite_fusing.proofs.Children.{both_steps, merges_append}
-use Rattle.vx_rewrite_fusing.proofs.Merges.{alone, fused_and, in_append, in_first, in_own, in_second, merges_alike}
+use Rattle.vx_rewrite_fusing.proofs.Merges.{alone, fused_and, in_append, in_own, merges_alike}
 
 -- ---- a tree that is no And stays none
 
@@ -67,7 +68,7 @@ pub conjuncts_apart : {l r b : BoundTree} → IsBinary and_also l r b → Conjun
 conjuncts_apart {l = l} {r = r} p f = go (subst ConjunctsFused p.1 f)
   where
     go : ConjunctsFused (and_node p.0 l r) → ConjunctsFused l × ConjunctsFused r
-    go g = (λ c i. g c (in_first c (conjuncts l) (conjuncts r) i), λ c i. g c (in_second c (conjuncts l) (conjuncts r) i))
+    go g = (λ c i. g c (in_left c (conjuncts l) (conjuncts r) i), λ c i. g c (in_right c (conjuncts l) (conjuncts r) i))
 
 both_apart : (l r : BoundTree) (t : LogicalType) → ConjunctsFused l → ConjunctsFused r → ConjunctsFused (and_node t l r)
 both_apart l r t f g c i = by (in_append c (conjuncts l) (conjuncts r) i)
@@ -138,8 +139,8 @@ one_side c d Above (m, above_and_below e f) = inl (ap (option_map side_of) e)
 pub unbounded_fused : (s : Side) (b : BoundTree) → Unbounded s b → ConjunctsFused b → Fused b
 unbounded_fused s (node t (binary and_also) (bound l (bound r no_bound))) n f =
     let parts = conjuncts_apart {l = l} {r = r} (t, refl) f in
-    let on_left : Unbounded s l = (λ c i. n c (in_first c (conjuncts l) (conjuncts r) i)) in
-    let on_right : Unbounded s r = (λ c i. n c (in_second c (conjuncts l) (conjuncts r) i)) in
+    let on_left : Unbounded s l = (λ c i. n c (in_left c (conjuncts l) (conjuncts r) i)) in
+    let on_right : Unbounded s r = (λ c i. n c (in_right c (conjuncts l) (conjuncts r) i)) in
     fused_and t l r (unbounded_fused s l on_left parts.0) (unbounded_fused s r on_right parts.1)
     (λ c d i j k. by c d i j on_left on_right (one_side c d s k))
   where

@@ -78,10 +78,6 @@ then_fused p q = let m = merges_append p.merges q.merges in record { count = m.0
 pub already_fused : {b u : BoundTree} → IsFusedBelow b u → Fused u → IsFusedOf b u
 already_fused p f = record { count = p.count; merges = p.merges; fused = f }
 
-pub children_typed : (b : BoundTree) → WellTyped b → EachWellTyped (bound_children_of b)
-children_typed (scope t) w = tt
-children_typed (node t f bs) w = w.2
-
 pub children_fused : (b : BoundTree) → EachFused (bound_children_of b) → FusedBelow b
 children_fused (scope t) f = tt
 children_fused (node t g bs) f = f
@@ -89,10 +85,6 @@ children_fused (node t g bs) f = f
 pub fused_children : (b : BoundTree) → Fused b → EachFused (bound_children_of b)
 fused_children (scope t) f = tt
 fused_children (node t g bs) f = f.1
-
-pub children_smaller : (b : BoundTree) → sizes_of (unbound_each (bound_children_of b)) < size_of (unbound b)
-children_smaller (scope t) = omega arith
-children_smaller (node t f bs) = omega arith
 
 -- ---- children one after another
 

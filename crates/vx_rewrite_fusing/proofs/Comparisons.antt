@@ -1,6 +1,7 @@
 -- A range comparison compares, and two of one item are one Between.
 use Rattle.std.proofs.Common.{◌≡◌, List, [], ◌∷◌, refl, sym, subst, ap, ◌∙◌, Bool, true, false, ◌||◌, ◌&&◌, ◌+◌, ◌≤◌, arith}
 use Rattle.std.specs.Prelude.{Some, None, Ok, if◌then◌else◌}
+use Rattle.std.proofs.Math.Bool.{or_comm}
 use Rattle.vx_value.specs.Types.{Atomic, LogicalType, ty, atomic, Datum, is_nullable}
 use Rattle.vx_fn.specs.Functions.{binary, compares, between, Comparison, greater, greater_or_equal, less, less_or_equal, truth_type, fn_type, mirrored}
 use Rattle.vx_fn.specs.Rows.{FnType, of_comparison, of_between}
@@ -15,8 +16,8 @@ use Rattle.vx_dtype.specs.Deciding.{same_atomic-Decides}
 use Rattle.vx_tree.proofs.Trees.{or_none}
 use Rattle.vx_rewrite_fusing.specs.Merging.{KeepsAlike}
 use Rattle.vx_rewrite_fusing.specs.Laws.{and_count}
-use Rattle.vx_fn.proofs.Kleene.{and_comm, compared-turned}
-use Rattle.vx_rewrite_fusing.proofs.Ands.{and_parts_of, and_quiet, alike}
+use Rattle.vx_fn.proofs.Kleene.{compared-turned}
+use Rattle.vx_rewrite_fusing.proofs.Ands.{and_exchange, and_parts_of, and_quiet, alike, alike_trans}
 
 -- ---- what a range comparison is
 
@@ -65,12 +66,6 @@ record Compared (x y c : BoundTree) : Type 0 where
   literal_type : node_type y ≡ ty (atomic kind) (is_nullable (node_type y))
   nullable : is_nullable (node_type c) ≡ (is_nullable (node_type x) || is_nullable (node_type y))
 
-or_comm : (a b : Bool) → (a || b) ≡ (b || a)
-or_comm true true = refl
-or_comm true false = refl
-or_comm false true = refl
-or_comm false false = refl
-
 compare_types : {k : Comparison} {x y c : BoundTree} → IsCompare k x y c → WellTyped c → Compared x y c
 compare_types {k = k} {x = x} {y = y} (as_is {t = t}) w =
     let f = comparison_types (fn_type-found (binary (compares k)) (node_type x ∷ node_type y ∷ []) t w.0) in
@@ -118,10 +113,6 @@ or_three : (x y z : Bool) → (x || y || z) ≡ ((x || y) || (x || z))
 or_three true y z = refl
 or_three false y z = refl
 
-or_three_turned : (x y z : Bool) → (x || y || z) ≡ ((x || z) || (x || y))
-or_three_turned true y z = refl
-or_three_turned false y z = or_comm y z
-
 quiet_three : (t : LogicalType) (ls us : Bool) (x y z : BoundTree) (batch : List Datum) → HasNoFault x batch → HasNoFault y batch → HasNoFault z batch → HasNoFault (between_node ls us x y z) batch
 quiet_three t ls us x y z batch n m k = rw (n, m, k) refl
 
@@ -143,27 +134,11 @@ module _ (c d x y z : BoundTree) (ls us : Bool) (low : IsCompare (if ls then gre
       quiet_three (node_type c) ls us x y z batch k.0 k.1 l.1)
       (λ v. rw (compare_value low v, above_value ls (value x v) (value y v), compare_value high v) refl)
 
-module _ (c d x y z : BoundTree) (ls us : Bool) (high : IsCompare (bound_comparison us) x z c) (low : IsCompare (if ls then greater else greater_or_equal) x y d) where
-  high_first : WellTyped (and_of c d) → KeepsAlike (and_of c d) (between_node ls us x y z)
-  high_first w =
-      let parts = and_parts_of (node_type (and_of c d)) c d w in
-      let p = compare_types low parts.right in
-      let q = compare_types high parts.left in
-      let same : q.kind ≡ p.kind = same_kind (node_type x) p.kind q.kind (is_nullable (node_type x)) (is_nullable (node_type x)) p.item_type q.item_type in
-      alike (and_of c d) (between_node ls us x y z) w
-      (between_typed ls us x y z p.kind p.item p.literal q.literal p.item_type p.literal_type (subst (λ k. node_type z ≡ ty (atomic k) (is_nullable (node_type z))) same q.literal_type))
-      (ap truth_type (rw (p.nullable, q.nullable) (or_three_turned (is_nullable (node_type x)) (is_nullable (node_type y)) (is_nullable (node_type z)))))
-      (λ s o. let a = compare_scopes low s o.1.0 in let b = compare_scopes high s o.0 in (a.0, (a.1, (b.1, tt))))
-      (λ batch n.
-      let a = and_quiet (node_type (and_of c d)) c d batch n in
-      let k = compare_quiet low batch a.1 in
-      let l = compare_quiet high batch a.0 in
-      quiet_three (node_type c) ls us x y z batch k.0 k.1 l.1)
-      (λ v. rw (compare_value low v, above_value ls (value x v) (value y v), compare_value high v) (and_comm (compared (bound_comparison ls) (value y v) (value x v)) (compared (bound_comparison us) (value x v) (value z v))))
-
 pub merged_alike : {c d m : BoundTree} → MergeTo c d m → WellTyped (and_of c d) → KeepsAlike (and_of c d) m
 merged_alike (below_and_above {c = c} {d = d} {x = x} {y = y} {z = z} {ls = ls} {us = us} e f) w = low_first c d x y z ls us (range-says c (from_below ls x y) e) (range-says d (from_above us x z) f) w
-merged_alike (above_and_below {c = c} {d = d} {x = x} {y = y} {z = z} {ls = ls} {us = us} e f) w = high_first c d x y z ls us (range-says c (from_above us x z) e) (range-says d (from_below ls x y) f) w
+merged_alike (above_and_below {c = c} {d = d} {x = x} {y = y} {z = z} {ls = ls} {us = us} e f) w =
+    let exchanged = and_exchange _ c d w in
+    alike_trans exchanged (low_first d c x y z ls us (range-says d (from_below ls x y) f) (range-says c (from_above us x z) e) exchanged.0.typed_after)
 
 -- the parts of the Between are those of the two
 pub merged_parts : {c d m : BoundTree} → MergeTo c d m → Fused c → Fused d → (x y z : BoundTree) × (ls us : Bool) × (m ≡ between_node ls us x y z) × Fused x × Fused y × Fused z

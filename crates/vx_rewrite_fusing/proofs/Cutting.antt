@@ -15,7 +15,8 @@ use Rattle.vx_rewrite_fusing.specs.Places.{turned, Bounded, bounded_at, bounded_
 use Rattle.vx_rewrite_fusing.specs.Sides.{after_single, both_merged, HoldBoth, IsLeft, IsRight, MergedLeft, MergedRight}
 use Rattle.vx_rewrite_fusing.proofs.Holding.{Apart, Parts, has_at, has_either, has_first, has_second, holds_gone, holds_merged, in_ls, in_rs, none_held, parts_of, place_of, turned_back, whole_held, whole_single, with_merged_in}
 use Rattle.vx_rewrite_fusing.proofs.Keyed.{keyed, single_keyed, single_merged}
-use Rattle.vx_rewrite_fusing.proofs.Linking.{IsOpen, bounded_inside, open_at}
+use Rattle.vx_rewrite_fusing.proofs.Linking.{IsOpen, open_at}
+use Rattle.vx_rewrite_fusing.proofs.Reading.{read_behind, read_inside}
 use Rattle.vx_rewrite_fusing.proofs.Merges.{either}
 use Rattle.vx_rewrite_fusing.proofs.Standing.{single_list}
 
@@ -50,10 +51,6 @@ behind (x ∷ xs) ys (suc i) q l e = let r = behind xs ys i q (omega arith) e in
 slice_cut : (xs : List Place) (p : Place) (ys : List Place) → slice_get (xs ++ p ∷ ys) (length xs) ≡ Some p
 slice_cut [] p ys = refl
 slice_cut (x ∷ xs) p ys = slice_cut xs p ys
-
-bounded_cut : (xs : List Place) (p : Place) (ys : List Place) → bounded_at (xs ++ p ∷ ys) (length xs) ≡ bounded_by p
-bounded_cut [] p ys = refl
-bounded_cut (x ∷ xs) p ys = bounded_cut xs p ys
 
 set_cut : (xs : List Place) (p q : Place) (ys : List Place) → set (xs ++ p ∷ ys) (length xs) q ≡ xs ++ q ∷ ys
 set_cut [] p q ys = refl
@@ -138,10 +135,10 @@ module _ {all back : List Place} {p : Place} {mid ls : List Place} {r : BoundTre
     has_it = has_behind (back ++ p ∷ mid) ls first (turned key) begins (subst (λ z. bounded_at z first ≡ Some (turned key)) split f.2.1)
 
     at_place : bounded_at all (length back) ≡ Some key
-    at_place = subst (λ z. bounded_at z (length back) ≡ Some key) (sym s.parts) (bounded_cut back p (mid ++ ls) ∙ f.1)
+    at_place = subst (λ z. bounded_at z (length back) ≡ Some key) (sym s.parts) (read_behind bounded_by back p (mid ++ ls) ∙ f.1)
 
     pub right_pair : IsPair all first (at - 1)
-    right_pair = (key, f.2, (subst (λ i. i < length all) (sym here) (bounded_inside all (length back) key at_place), subst (λ i. bounded_at all i ≡ Some key) (sym here) at_place, not_later))
+    right_pair = (key, f.2, (subst (λ i. i < length all) (sym here) (read_inside bounded_by all (length back) key at_place), subst (λ i. bounded_at all i ≡ Some key) (sym here) at_place, not_later))
       where
         not_later : (j : ℕ) → at - 1 < j → j < length all → bounded_at all j ≡ Some key → ⊥
         not_later j l m e =
@@ -196,7 +193,7 @@ module _ {all back : List Place} {p : Place} {mid ls : List Place} {r : BoundTre
             let parts : all ≡ (((back ++ p ∷ mid) ++ cut.back) ++ Open met.range met.next ∷ []) ++ cut.front = in_two ∙ sym (append_assoc ((back ++ p ∷ mid) ++ cut.back) (Open met.range met.next ∷ []) cut.front) in
             let place = place_past (((back ++ p ∷ mid) ++ cut.back) ++ Open met.range met.next ∷ []) cut.front (turned key) h in
             let there = subst (λ z. bounded_at z place.0 ≡ Some (turned key)) (sym parts) place.2 in
-            f.2.2 place.0 (let l : length (((back ++ p ∷ mid) ++ cut.back) ++ Open met.range met.next ∷ []) ≤ place.0 = place.1 in omega (arith, cut.at, length-append ((back ++ p ∷ mid) ++ cut.back) (Open met.range met.next ∷ []))) (bounded_inside all place.0 (turned key) there) there
+            f.2.2 place.0 (let l : length (((back ++ p ∷ mid) ++ cut.back) ++ Open met.range met.next ∷ []) ≤ place.0 = place.1 in omega (arith, cut.at, length-append ((back ++ p ∷ mid) ++ cut.back) (Open met.range met.next ∷ []))) (read_inside bounded_by all place.0 (turned key) there) there
 
         trees : (l : BoundTree) (u o : Option BoundTree) → Holds r (p ∷ []) o → Holds l ls u → HoldBoth (Gone ∷ []) lefts r l (both_merged u o)
         trees l u o on_right on_left =
@@ -284,7 +281,7 @@ module _ {all back rs mid : List Place} {p : Place} {front : List Place} {l : Bo
     left_has_it = subst (λ z. Has z (turned left_key)) (sym among.parts) (has_second among.before (partner ∷ among.after) (turned left_key) (inl (ap Some left_open.key)))
 
     left_at : bounded_at all (length (back ++ (rs ++ mid))) ≡ Some left_key
-    left_at = subst (λ z. bounded_at z (length (back ++ (rs ++ mid))) ≡ Some left_key) (sym left_split) (bounded_cut (back ++ (rs ++ mid)) p front ∙ f.1)
+    left_at = subst (λ z. bounded_at z (length (back ++ (rs ++ mid))) ≡ Some left_key) (sym left_split) (read_behind bounded_by (back ++ (rs ++ mid)) p front ∙ f.1)
 
     pub left_pair : IsPair all (at - 1) first
     left_pair = (turned left_key, own_last, f.2)
@@ -296,7 +293,7 @@ module _ {all back rs mid : List Place} {p : Place} {front : List Place} {l : Bo
             s.apart (turned left_key) left_has_it (subst (Has front) (sym (turned_back left_key)) has)
 
         own_last : IsLast all (turned (turned left_key)) (length all) (Some (at - 1))
-        own_last = subst (λ k. IsLast all k (length all) (Some (at - 1))) (sym (turned_back left_key)) (subst (λ i. i < length all) (sym left_here) (bounded_inside all (length (back ++ (rs ++ mid))) left_key left_at), subst (λ i. bounded_at all i ≡ Some left_key) (sym left_here) left_at, not_later)
+        own_last = subst (λ k. IsLast all k (length all) (Some (at - 1))) (sym (turned_back left_key)) (subst (λ i. i < length all) (sym left_here) (read_inside bounded_by all (length (back ++ (rs ++ mid))) left_key left_at), subst (λ i. bounded_at all i ≡ Some left_key) (sym left_here) left_at, not_later)
 
     pub left_merged : {new : List Place} → PairIsMerged all (at - 1) first new → MergedLeft new back rs mid (p ∷ []) front l
     left_merged {new = new} merged = record {
@@ -342,7 +339,7 @@ module _ {all back rs mid : List Place} {p : Place} {front : List Place} {l : Bo
             let more : all ≡ ((back ++ among.before) ++ partner ∷ []) ++ (among.after ++ rest) = parts ∙ sym (append_assoc (back ++ among.before) (partner ∷ []) (among.after ++ rest)) in
             let place = place_past ((back ++ among.before) ++ partner ∷ []) (among.after ++ rest) (turned left_key) (has_first among.after rest (turned left_key) h) in
             let there = subst (λ z. bounded_at z place.0 ≡ Some (turned left_key)) (sym more) place.2 in
-            f.2.2 place.0 (let m : length ((back ++ among.before) ++ partner ∷ []) ≤ place.0 = place.1 in omega (arith, among.place, length-append (back ++ among.before) (partner ∷ []))) (bounded_inside all place.0 (turned left_key) there) there
+            f.2.2 place.0 (let m : length ((back ++ among.before) ++ partner ∷ []) ≤ place.0 = place.1 in omega (arith, among.place, length-append (back ++ among.before) (partner ∷ []))) (read_inside bounded_by all place.0 (turned left_key) there) there
 
         trees : (r : BoundTree) (u o : Option BoundTree) → Holds r rs o → Holds l (p ∷ []) u → HoldBoth rights (Merged b ∷ []) r l (both_merged u o)
         trees r u o on_right on_left =

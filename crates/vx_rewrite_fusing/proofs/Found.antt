@@ -8,13 +8,14 @@ use Rattle.vx_dtype.specs.declared.error.VortexError.{VortexError}
 use Rattle.vx_value.specs.Types.{LogicalType}
 use Rattle.vx_fn.specs.Functions.{and_also}
 use Rattle.vx_dtype.specs.Lists.{IsIn}
+use Rattle.vx_dtype.proofs.Lists.{in_left, in_right}
 use Rattle.vx_tree.specs.Trees.{BoundTree}
 use Rattle.vx_tree.specs.Views.{bound_of}
 use Rattle.vx_tree.specs.declared.bound.BoundExpression.{BoundExpression}
 use Rattle.vx_rewrite_fusing.specs.Conjuncts.{and_node, and_of, is_and, conjuncts, range_of, MergeTo, Mergeable, NoneMergeable}
 use Rattle.vx_rewrite_fusing.specs.Merging.{itself, on_left, on_right, Removed, left_gone, right_gone, from_left, from_right}
-use Rattle.vx_rewrite_fusing.specs.Finding.{Finds, IsBinary, LeftMerged, Gone, whole, part, PairMerged, joined}
-use Rattle.vx_rewrite_fusing.proofs.Merges.{alone, in_append, in_first, in_second, either, replaced_from, removed_from, in_own, no_right}
+use Rattle.vx_rewrite_fusing.specs.Finding.{Finds, IsBinary, LeftMerged, Gone, whole, part, PairMerged, conjoined}
+use Rattle.vx_rewrite_fusing.proofs.Merges.{alone, in_append, either, replaced_from, removed_from, in_own, no_right}
 use Rattle.vx_rewrite_fusing.proofs.Refusals.{found_as}
 
 -- ---- none is mergeable
@@ -37,16 +38,16 @@ one_pair l d nil c e (inl p) (inr j) k = j
 one_pair l d nil c e (inr i) j k = i
 
 pub none_on_left : {x y l : BoundTree} (ds : List BoundTree) → IsBinary and_also x y l → NoneMergeable (conjuncts l) ds → NoneMergeable (conjuncts x) ds
-none_on_left {x = x} {y = y} ds b n c d i j k = subst (λ z. NoneMergeable (conjuncts z) ds) b.1 n c d (in_first c (conjuncts x) (conjuncts y) i) j k
+none_on_left {x = x} {y = y} ds b n c d i j k = subst (λ z. NoneMergeable (conjuncts z) ds) b.1 n c d (in_left c (conjuncts x) (conjuncts y) i) j k
 
 pub none_on_right : {x y l : BoundTree} (ds : List BoundTree) → IsBinary and_also x y l → NoneMergeable (conjuncts l) ds → NoneMergeable (conjuncts y) ds
-none_on_right {x = x} {y = y} ds b n c d i j k = subst (λ z. NoneMergeable (conjuncts z) ds) b.1 n c d (in_second c (conjuncts x) (conjuncts y) i) j k
+none_on_right {x = x} {y = y} ds b n c d i j k = subst (λ z. NoneMergeable (conjuncts z) ds) b.1 n c d (in_right c (conjuncts x) (conjuncts y) i) j k
 
 pub none_with_left : {x y r : BoundTree} (cs : List BoundTree) → IsBinary and_also x y r → NoneMergeable cs (conjuncts r) → NoneMergeable cs (conjuncts x)
-none_with_left {x = x} {y = y} cs b n c d i j k = subst (λ z. NoneMergeable cs (conjuncts z)) b.1 n c d i (in_first d (conjuncts x) (conjuncts y) j) k
+none_with_left {x = x} {y = y} cs b n c d i j k = subst (λ z. NoneMergeable cs (conjuncts z)) b.1 n c d i (in_left d (conjuncts x) (conjuncts y) j) k
 
 pub none_with_right : {x y r : BoundTree} (cs : List BoundTree) → IsBinary and_also x y r → NoneMergeable cs (conjuncts r) → NoneMergeable cs (conjuncts y)
-none_with_right {x = x} {y = y} cs b n c d i j k = subst (λ z. NoneMergeable cs (conjuncts z)) b.1 n c d i (in_second d (conjuncts x) (conjuncts y) j) k
+none_with_right {x = x} {y = y} cs b n c d i j k = subst (λ z. NoneMergeable cs (conjuncts z)) b.1 n c d i (in_right d (conjuncts x) (conjuncts y) j) k
 
 -- ---- in the left tree
 
@@ -107,15 +108,15 @@ no_range_none l r e n = right_none_single l r e (λ c d i j k. go c d j k)
     go c d (inl q) k = no_right k.1 (subst (λ x. range_of x ≡ None) (sym q) n)
     go c d (inr j) k = j
 
-gone_first : {d x : BoundTree} {back : List BoundTree} {rest : Option BoundTree} (t : LogicalType) (y : BoundTree) → Gone d back x rest → Gone d back (and_node t x y) (joined rest (Some y))
+gone_first : {d x : BoundTree} {back : List BoundTree} {rest : Option BoundTree} (t : LogicalType) (y : BoundTree) → Gone d back x rest → Gone d back (and_node t x y) (conjoined rest (Some y))
 gone_first t y (whole e) = part (left_gone e)
 gone_first t y (part p) = part (from_left p)
 
-gone_second : {d y : BoundTree} {back : List BoundTree} {rest : Option BoundTree} (t : LogicalType) (x : BoundTree) → Gone d back y rest → Gone d (conjuncts x ++ back) (and_node t x y) (joined (Some x) rest)
+gone_second : {d y : BoundTree} {back : List BoundTree} {rest : Option BoundTree} (t : LogicalType) (x : BoundTree) → Gone d back y rest → Gone d (conjuncts x ++ back) (and_node t x y) (conjoined (Some x) rest)
 gone_second {d = d} t x (whole e) = part (subst (λ f. Removed d f (and_node t x d) x) (sym (append-nil (conjuncts x))) (right_gone e))
 gone_second t x (part p) = part (from_right p)
 
-pub right_in_first : {l x u : BoundTree} {rest : Option BoundTree} (t : LogicalType) (y : BoundTree) → PairMerged l x u rest → PairMerged l (and_node t x y) u (joined rest (Some y))
+pub right_in_first : {l x u : BoundTree} {rest : Option BoundTree} (t : LogicalType) (y : BoundTree) → PairMerged l x u rest → PairMerged l (and_node t x y) u (conjoined rest (Some y))
 right_in_first t y k = record {
   left = k.left;
   right = k.right;
@@ -127,7 +128,7 @@ right_in_first t y k = record {
   gone = gone_first t y k.gone;
 }
 
-pub right_in_second : {l y u : BoundTree} {rest : Option BoundTree} (t : LogicalType) (x : BoundTree) → NoneMergeable (conjuncts l) (conjuncts x) → PairMerged l y u rest → PairMerged l (and_node t x y) u (joined (Some x) rest)
+pub right_in_second : {l y u : BoundTree} {rest : Option BoundTree} (t : LogicalType) (x : BoundTree) → NoneMergeable (conjuncts l) (conjuncts x) → PairMerged l y u rest → PairMerged l (and_node t x y) u (conjoined (Some x) rest)
 right_in_second {l = l} t x nil k = record {
   left = k.left;
   right = k.right;

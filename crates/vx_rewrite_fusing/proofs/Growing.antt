@@ -8,7 +8,7 @@ use Rattle.vx_value.specs.Types.{LogicalType}
 use Rattle.vx_rewrite_fusing.specs.declared.places.Place.{Place}
 use Rattle.vx_rewrite_fusing.specs.declared.ranges.RangeComparison.{RangeComparison}
 use Rattle.vx_rewrite_fusing.specs.Conjuncts.{and_node, and_of, is_and, range_of, Fused}
-use Rattle.vx_rewrite_fusing.specs.Finding.{range_seen, joined, more_fused, none_fused, ConjunctsFused, IsBinary}
+use Rattle.vx_rewrite_fusing.specs.Finding.{range_seen, conjoined, more_fused, none_fused, ConjunctsFused, IsBinary}
 use Rattle.vx_rewrite_fusing.specs.Merging.{IsFusedOf}
 use Rattle.vx_rewrite_fusing.specs.Places.{turned, has_merged, Holds, both, IsPlaceOf, IsWithin, NoPair}
 use Rattle.vx_rewrite_fusing.specs.Sides.{both_merged, merged_with, HoldBoth, IsLeft, IsRight, MergedLeft, MergedRight, TreeMerged}
@@ -107,7 +107,7 @@ module _ {all middle back : List Place} {l r b : BoundTree} (p : IsBinary and_al
     apart : NoPair lefts (rights ++ lefts)
     trees : HoldBoth rights lefts r l (both_merged (Some n.tree) (Some m.tree))
 
-  whole_joined : (w : BoundTree) (rest : Option BoundTree) → joined (Some w) rest ≡ Some (whole_or w rest)
+  whole_joined : (w : BoundTree) (rest : Option BoundTree) → conjoined (Some w) rest ≡ Some (whole_or w rest)
   whole_joined w None = refl
   whole_joined w (Some r) = refl
 

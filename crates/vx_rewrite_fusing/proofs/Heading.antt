@@ -4,7 +4,7 @@ use Rattle.std.specs.Prelude.{Option, Some, None, Result, Ok, Err, OnOk, slice_g
 use Rattle.std.specs.Slice.{IsItemAt}
 use Rattle.std.proofs.Common.{get_or}
 use Rattle.std.proofs.lemmas.Bool.{ltb-false, ltb-true}
-use Rattle.std.proofs.lemmas.Option.{slice_get_past, slice_get_read}
+use Rattle.std.proofs.lemmas.Option.{slice_get_past, slice_get_read, slice_get_within}
 use denote.Ref.{Bor}
 use Rattle.vx_tree.specs.Equality.{equal_bound, equal_bound-Decides}
 use Rattle.vx_tree.specs.Views.{bound_of}
@@ -14,6 +14,7 @@ use Rattle.vx_rewrite_fusing.specs.declared.heads.Heads.{Heads}
 use Rattle.vx_rewrite_fusing.specs.declared.ranges.Side.{Side}
 use Rattle.vx_rewrite_fusing.specs.declared.ranges.Side.TheVariants.{Below, Above}
 use Rattle.vx_rewrite_fusing.specs.Places.{first_at, first_by, first_of, head_of, number_at, place_at, IsNumbered, KeepsNumbers, SetsFirst, SetsHead}
+use Rattle.vx_rewrite_fusing.proofs.Reading.{read_apart, read_behind, read_front, read_here, read_past, read_set}
 
 -- ---- another place is kept
 
@@ -42,33 +43,11 @@ sets_numbered h g s n o numbered same sets = record {
 
 -- ---- the firsts of a number
 
-first_in : (fs : List Firsts) (s : Side) (n : ℕ) (f : Firsts) → slice_get fs n ≡ Some f → first_at fs s n ≡ first_of f s
-first_in [] s n f e = cc
-first_in (g ∷ fs) s zero f e = let same : g ≡ f = cc in ap (λ z. first_of z s) same
-first_in (g ∷ fs) s (suc n) f e = first_in fs s n f e
-
-first_out : (fs : List Firsts) (s : Side) (n : ℕ) → slice_get fs n ≡ None → first_at fs s n ≡ None
-first_out [] s n e = refl
-first_out (g ∷ fs) s zero e = cc
-first_out (g ∷ fs) s (suc n) e = first_out fs s n e
-
 pub first_missing : (fs gs : List Firsts) (s : Side) (n : ℕ) → gs ≡ fs → IsItemAt gs n None → first_at fs s n ≡ None
-first_missing fs gs s n e h = first_out fs s n (ap (λ z. slice_get z n) (sym e) ∙ slice_get_past gs n (ltb-false n (length gs) (sym h.0)))
+first_missing fs gs s n e h = read_past (λ f. first_of f s) fs n (ap (λ z. slice_get z n) (sym e) ∙ slice_get_past gs n (ltb-false n (length gs) (sym h.0)))
 
 pub first_found : (fs gs : List Firsts) (s : Side) (n : ℕ) (x : Bor Firsts) → gs ≡ fs → IsItemAt gs n (Some x) → first_at fs s n ≡ first_of x.now s
-first_found fs gs s n x e h = first_in fs s n x.now (ap (λ z. slice_get z n) (sym e) ∙ slice_get_read gs (length gs) n x.now refl (ltb-true n (length gs) (sym h.0)) h.1)
-
-pub first_read : (fs : List Firsts) (n : ℕ) (f : Firsts) → n < length fs → f ≡ get_or fs n f → slice_get fs n ≡ Some f
-first_read [] n f l e = absurd (omega arith)
-first_read (g ∷ fs) zero f l e = ap Some (sym e)
-first_read (g ∷ fs) (suc n) f l e = first_read fs n f (omega arith) e
-
-first_set : (fs : List Firsts) (t : Side) (n m : ℕ) (f g : Firsts) → slice_get fs n ≡ Some f → (m ≡ n → first_at (set fs n g) t m ≡ first_of g t) × ((m ≡ n → ⊥) → first_at (set fs n g) t m ≡ first_at fs t m)
-first_set [] t n m f g e = cc
-first_set (h ∷ fs) t zero zero f g e = (λ q. refl, λ q. absurd (q refl))
-first_set (h ∷ fs) t zero (suc m) f g e = (λ q. absurd (omega (arith, q)), λ q. refl)
-first_set (h ∷ fs) t (suc n) zero f g e = (λ q. absurd (omega (arith, q)), λ q. refl)
-first_set (h ∷ fs) t (suc n) (suc m) f g e = let r = first_set fs t n m f g e in (λ q. r.0 (omega (arith, q)), λ q. r.1 (λ w. q (ap suc w)))
+first_found fs gs s n x e h = read_here (λ f. first_of f s) fs n x.now (ap (λ z. slice_get z n) (sym e) ∙ slice_get_read gs (length gs) n x.now refl (ltb-true n (length gs) (sym h.0)) h.1)
 
 same_number : (m n : ℕ) → (m ≡ n) ⊎ (m ≡ n → ⊥)
 same_number zero zero = inl refl
@@ -81,14 +60,17 @@ same_number (suc m) (suc n) = go (same_number m n)
     go (inr f) = inr (λ q. f (omega (arith, q)))
 
 pub sets_at : (fs : List Firsts) (s : Side) (n : ℕ) (o : Option ℕ) (f g : Firsts) → slice_get fs n ≡ Some f → first_of g s ≡ o → ((t : Side) → (t ≡ s → ⊥) → first_of g t ≡ first_of f t) → SetsFirst fs (set fs n g) s n o
-sets_at fs s n o f g e is other = (length-set fs n g, λ t m. (λ p l. (first_set fs t n m f g e).0 p.1 ∙ (ap (first_of g) p.0 ∙ is), elsewhere t m))
+sets_at fs s n o f g e is other = (length-set fs n g, λ t m. (λ p l. at_it t m p.1 ∙ (ap (first_of g) p.0 ∙ is), elsewhere t m))
   where
+    at_it : (t : Side) (m : ℕ) → m ≡ n → first_at (set fs n g) t m ≡ first_of g t
+    at_it t m q = ap (first_at (set fs n g) t) q ∙ read_set (λ f. first_of f t) fs n g (slice_get_within fs n f e)
+
     elsewhere : (t : Side) (m : ℕ) → ((t ≡ s) × (m ≡ n) → ⊥) → first_at (set fs n g) t m ≡ first_at fs t m
     elsewhere t m apart = go (same_number m n)
       where
         go : (m ≡ n) ⊎ (m ≡ n → ⊥) → first_at (set fs n g) t m ≡ first_at fs t m
-        go (inl q) = (first_set fs t n m f g e).0 q ∙ (other t (λ p. apart (p, q)) ∙ (sym (first_in fs t n f e) ∙ ap (first_at fs t) (sym q)))
-        go (inr q) = (first_set fs t n m f g e).1 q
+        go (inl q) = at_it t m q ∙ (other t (λ p. apart (p, q)) ∙ (sym (read_here (λ f. first_of f t) fs n f e) ∙ ap (first_at fs t) (sym q)))
+        go (inr q) = read_apart (λ f. first_of f t) fs n m g q
 
 -- where one side is set the other stays
 pub above_stays : (old new : Firsts) → new.above ≡ old.above → (t : Side) → (t ≡ Below → ⊥) → first_of new t ≡ first_of old t
@@ -100,15 +82,6 @@ below_stays old new e Below n = e
 below_stays old new e Above n = absurd (n refl)
 
 -- ---- a new number
-
-new_first : (fs : List Firsts) (f : Firsts) (s : Side) → first_at (fs ++ f ∷ []) s (length fs) ≡ first_of f s
-new_first [] f s = refl
-new_first (g ∷ fs) f s = new_first fs f s
-
-old_first : (fs gs : List Firsts) (s : Side) (n : ℕ) → n < length fs → first_at (fs ++ gs) s n ≡ first_at fs s n
-old_first [] gs s n l = absurd (omega arith)
-old_first (f ∷ fs) gs s zero l = refl
-old_first (f ∷ fs) gs s (suc n) l = old_first fs gs s n (omega arith)
 
 none_first : (f : Firsts) (s : Side) → f.below ≡ None → f.above ≡ None → first_of f s ≡ None
 none_first f Below e g = e
@@ -159,11 +132,11 @@ module _ (old new : Heads) (x : Bor BoundExpression) (f : Firsts) (numbered : Is
     where
       by : (s : Side) (m : Option ℕ) (y : Bor BoundExpression) → number_at old y ≡ m → first_by new.firsts.items s m ≡ first_by old.firsts.items s m
       by s None y e = refl
-      by s (Some m) y e = ap (λ z. first_at z s m) more ∙ old_first old.firsts.items (f ∷ []) s m (numbered.inside y m e)
+      by s (Some m) y e = ap (λ z. first_at z s m) more ∙ read_front (λ f. first_of f s) old.firsts.items (f ∷ []) m (numbered.inside y m e)
 
       heads : (s : Side) (y : Bor BoundExpression) → IsKnown y → head_of new s y ≡ head_of old s y
       heads s y (is_new same e) =
-          ap (first_by new.firsts.items s) e ∙ (ap (λ z. first_at z s size) more ∙ (new_first old.firsts.items f s ∙ (none_first f s below above
+          ap (first_by new.firsts.items s) e ∙ (ap (λ z. first_at z s size) more ∙ (read_behind (λ f. first_of f s) old.firsts.items f [] ∙ (none_first f s below above
           ∙ sym (ap (first_by old.firsts.items s) (ap (place_at old.numbers) same ∙ fresh)))))
       heads s y (is_old apart e) = ap (first_by new.firsts.items s) e ∙ by s (number_at old y) y refl
 

@@ -7,6 +7,7 @@ use Rattle.vx_value.specs.Types.{LogicalType}
 use Rattle.vx_fn.specs.Functions.{and_also}
 use Rattle.vx_fn.specs.Views.{is_strict}
 use Rattle.vx_dtype.specs.Lists.{IsIn}
+use Rattle.vx_dtype.proofs.Lists.{in_left, in_right}
 use Rattle.vx_tree.specs.Trees.{BoundTree}
 use Rattle.vx_tree.specs.Views.{bound_of}
 use Rattle.vx_tree.specs.declared.bound.BoundExpression.{BoundExpression}
@@ -17,14 +18,14 @@ use Rattle.vx_rewrite_fusing.specs.declared.ranges.RangeComparison.{RangeCompari
 use Rattle.vx_rewrite_fusing.specs.declared.ranges.Side.{Side}
 use Rattle.vx_rewrite_fusing.specs.declared.ranges.Side.TheVariants.{Below, Above}
 use Rattle.vx_rewrite_fusing.specs.Conjuncts.{and_node, and_of, is_and, conjuncts, range_of, MergeTo, Fused}
-use Rattle.vx_rewrite_fusing.specs.Finding.{range_seen, tree_in, conjuncts_left, joined, IsBinary}
+use Rattle.vx_rewrite_fusing.specs.Finding.{range_seen, tree_in, conjuncts_left, conjoined, IsBinary}
 use Rattle.vx_rewrite_fusing.specs.Sides.{after_single, both_merged, with_merged}
 use Rattle.vx_rewrite_fusing.specs.Places.{opposite, turned, Bounded, bounded_at, became_place, has_merged, Has, NoPair, Holds, no_range, open_range, merged_range, gone_range, both, IsPlaceOf, IsNoted}
 use Rattle.vx_rewrite_fusing.proofs.Keyed.{between_plain, keyed, merge_between, no_between, seen_key, single_merged, with_single}
-use Rattle.vx_rewrite_fusing.proofs.Merges.{alone, either, in_own, in_first, in_second, none_of_fused}
+use Rattle.vx_rewrite_fusing.proofs.Merges.{alone, either, in_own, none_of_fused}
 use Rattle.vx_rewrite_fusing.proofs.Ordered.{Both, rights_after, rights_in_order}
 use Rattle.vx_rewrite_fusing.proofs.Pairs.{opposite_pair}
-use Rattle.vx_rewrite_fusing.proofs.Pairing.{conjuncts_left-joined}
+use Rattle.vx_rewrite_fusing.proofs.Pairing.{conjuncts_left-conjoined}
 
 -- ---- a list at a place
 
@@ -101,7 +102,7 @@ abbrev pub with_merged_in : BoundTree → Option BoundTree → Option BoundTree
 with_merged_in d None = None
 with_merged_in d (Some l) = with_merged d l
 
-none_in_both : (d : BoundTree) (l r : Option BoundTree) → with_merged_in d l ≡ None → with_merged_in d r ≡ None → with_merged_in d (joined l r) ≡ None
+none_in_both : (d : BoundTree) (l r : Option BoundTree) → with_merged_in d l ≡ None → with_merged_in d r ≡ None → with_merged_in d (conjoined l r) ≡ None
 none_in_both d None r e f = f
 none_in_both d (Some l) None e f = e
 none_in_both d (Some l) (Some r) e f = rw (e, f) refl
@@ -131,16 +132,16 @@ whole_held c x (gone_range a) f = refl
 whole_held c x (both {l' = l'} {r' = r'} {ls = ls} {rs = rs} same h g) f =
     let one = whole_held c x h (λ k e i. f k e (has_second rs ls (turned k) i)) in
     let two = whole_held c x g (λ k e i. f k e (has_first rs ls (turned k) i)) in
-    rights_in_order (Some c) l' r' ∙ (ap (λ z. rights_after z r') one ∙ ap (λ (z : Both). (z.0, joined l' z.1)) two)
+    rights_in_order (Some c) l' r' ∙ (ap (λ z. rights_after z r') one ∙ ap (λ (z : Both). (z.0, conjoined l' z.1)) two)
 
 -- ---- a range at a place is a conjunct
 
 abbrev pub RangeIn : Bounded → Option BoundTree → Type 0
 RangeIn k o = (c : BoundTree) × (r : RangeComparison) × IsIn c (conjuncts_left o) × (range_of c ≡ Some (range_seen r)) × ((r.side, bound_of r.item.now) ≡ k)
 
-range_joined : (k : Bounded) (l r : Option BoundTree) → RangeIn k l ⊎ RangeIn k r → RangeIn k (joined l r)
-range_joined k l r (inl h) = (h.0, h.1, subst (IsIn h.0) (sym (conjuncts_left-joined l r)) (in_first h.0 (conjuncts_left l) (conjuncts_left r) h.2), h.3, h.4)
-range_joined k l r (inr h) = (h.0, h.1, subst (IsIn h.0) (sym (conjuncts_left-joined l r)) (in_second h.0 (conjuncts_left l) (conjuncts_left r) h.2), h.3, h.4)
+range_joined : (k : Bounded) (l r : Option BoundTree) → RangeIn k l ⊎ RangeIn k r → RangeIn k (conjoined l r)
+range_joined k l r (inl h) = (h.0, h.1, subst (IsIn h.0) (sym (conjuncts_left-conjoined l r)) (in_left h.0 (conjuncts_left l) (conjuncts_left r) h.2), h.3, h.4)
+range_joined k l r (inr h) = (h.0, h.1, subst (IsIn h.0) (sym (conjuncts_left-conjoined l r)) (in_right h.0 (conjuncts_left l) (conjuncts_left r) h.2), h.3, h.4)
 
 pub range_held : {l : BoundTree} {o : Option BoundTree} {ps : List Place} (k : Bounded) → Holds l ps o → Has ps k → RangeIn k o
 range_held k (no_range a n) (inl e) = cc
@@ -180,13 +181,13 @@ becomes_alone : (d c : BoundTree) (b : Box BoundExpression Global) (back front :
 becomes_alone d c b back front a k e f = let plain = between_plain k in rw (e, f) (record { tree = tree_in b; merged = with_single d c a ∙ merge_between k; holds = merged_range a plain.0 plain.1 })
 
 -- in the second of two trees
-becomes_second : (d x : BoundTree) (l' r' : Option BoundTree) (ys ps : List Place) {z : BoundTree} → Becomes d z r' ys → with_merged_in d l' ≡ None → ((w : BoundTree) → Holds z ys (Some w) → Holds x ps (joined l' (Some w))) → Becomes d x (joined l' r') ps
+becomes_second : (d x : BoundTree) (l' r' : Option BoundTree) (ys ps : List Place) {z : BoundTree} → Becomes d z r' ys → with_merged_in d l' ≡ None → ((w : BoundTree) → Holds z ys (Some w) → Holds x ps (conjoined l' (Some w))) → Becomes d x (conjoined l' r') ps
 becomes_second d x None r' ys ps w none h = record { tree = w.tree; merged = w.merged; holds = h w.tree w.holds }
 becomes_second d x (Some l') None ys ps w none h = let e : ◌≡◌ {A = Option BoundTree} None (Some w.tree) = w.merged in cc
 becomes_second d x (Some l') (Some r') ys ps w none h = record { tree = and_of l' w.tree; merged = rw (none, w.merged) refl; holds = h w.tree w.holds }
 
 -- in the first
-becomes_first : (d x : BoundTree) (l' r' : Option BoundTree) (xs ps : List Place) {z : BoundTree} → Becomes d z l' xs → ((w : BoundTree) → Holds z xs (Some w) → Holds x ps (joined (Some w) r')) → Becomes d x (joined l' r') ps
+becomes_first : (d x : BoundTree) (l' r' : Option BoundTree) (xs ps : List Place) {z : BoundTree} → Becomes d z l' xs → ((w : BoundTree) → Holds z xs (Some w) → Holds x ps (conjoined (Some w) r')) → Becomes d x (conjoined l' r') ps
 becomes_first d x None r' xs ps w h = let e : ◌≡◌ {A = Option BoundTree} None (Some w.tree) = w.merged in cc
 becomes_first d x (Some l') None xs ps w h = record { tree = w.tree; merged = w.merged; holds = h w.tree w.holds }
 becomes_first d x (Some l') (Some r') xs ps w h = record { tree = and_of w.tree r'; merged = rw w.merged refl; holds = h w.tree w.holds }
@@ -199,18 +200,18 @@ becomes_both : (d : BoundTree) (r : RangeComparison) (next : Link) (b : Box Boun
     → Holds l ls l' → Holds z rs z' → Apart d front
     → ((back front : List Place) → ls ≡ back ++ Open r next ∷ front → Apart d front → Becomes d l l' (back ++ Merged b ∷ front))
     → ((back front : List Place) → rs ≡ back ++ Open r next ∷ front → Apart d front → Becomes d z z' (back ++ Merged b ∷ front))
-    → Parts rs ls back (Open r next) front → Becomes d (and_node t l z) (joined l' z') (back ++ Merged b ∷ front)
+    → Parts rs ls back (Open r next) front → Becomes d (and_node t l z) (conjoined l' z') (back ++ Merged b ∷ front)
 becomes_both d r next b t l z l' z' ls rs back front same h g free on_left on_right (in_rs rest x y) =
     let none : Apart d (rest ++ ls) = subst (Apart d) y free in
     let w = on_right back rest x (λ k e i. none k e (has_first rest ls (turned k) i)) in
     let parts : (back ++ Merged b ∷ rest) ++ ls ≡ back ++ Merged b ∷ front = append_assoc back (Merged b ∷ rest) ls ∙ ap (λ v. back ++ Merged b ∷ v) (sym y) in
     becomes_second d (and_node t l z) l' z' (back ++ Merged b ∷ rest) (back ++ Merged b ∷ front) w (none_held d h (λ k e i. none k e (has_second rest ls (turned k) i)))
-    (λ u held. subst (λ ps. Holds (and_node t l z) ps (joined l' (Some u))) parts (both {t = t} same h held))
+    (λ u held. subst (λ ps. Holds (and_node t l z) ps (conjoined l' (Some u))) parts (both {t = t} same h held))
 becomes_both d r next b t l z l' z' ls rs back front same h g free on_left on_right (in_ls rest x y) =
     let w = on_left rest front y free in
     let parts : rs ++ (rest ++ Merged b ∷ front) ≡ back ++ Merged b ∷ front = sym (append_assoc rs rest (Merged b ∷ front)) ∙ ap (λ v. v ++ Merged b ∷ front) (sym x) in
     becomes_first d (and_node t l z) l' z' (rest ++ Merged b ∷ front) (back ++ Merged b ∷ front) w
-    (λ u held. subst (λ ps. Holds (and_node t l z) ps (joined (Some u) z')) parts (both {t = t} same held g))
+    (λ u held. subst (λ ps. Holds (and_node t l z) ps (conjoined (Some u) z')) parts (both {t = t} same held g))
 
 pub holds_merged : {l : BoundTree} {o : Option BoundTree} {ps : List Place} (d : BoundTree) (r : RangeComparison) (next : Link) (b : Box BoundExpression Global) → Holds l ps o
     → ((c : BoundTree) → range_of c ≡ Some (range_seen r) → MergeTo c d (tree_in b))
@@ -247,16 +248,16 @@ goes_both : (c m : BoundTree) (r : RangeComparison) (next : Link) (t : LogicalTy
     → Holds l ls l' → Holds z rs z' → Apart c front
     → ((back front : List Place) → ls ≡ back ++ Open r next ∷ front → Apart c front → Goes c m l l' (back ++ Gone ∷ front))
     → ((back front : List Place) → rs ≡ back ++ Open r next ∷ front → Apart c front → Goes c m z z' (back ++ Gone ∷ front))
-    → Parts rs ls back (Open r next) front → Goes c m (and_node t l z) (joined l' z') (back ++ Gone ∷ front)
+    → Parts rs ls back (Open r next) front → Goes c m (and_node t l z) (conjoined l' z') (back ++ Gone ∷ front)
 goes_both c m r next t l z l' z' ls rs back front p same h g free on_left on_right (in_rs rest x y) =
     let none : Apart c (rest ++ ls) = subst (Apart c) y free in
     let w = on_right back rest x (λ k e i. none k e (has_first rest ls (turned k) i)) in
     let one = whole_held c p h (λ k e i. none k e (has_second rest ls (turned k) i)) in
     let parts : (back ++ Gone ∷ rest) ++ ls ≡ back ++ Gone ∷ front = append_assoc back (Gone ∷ rest) ls ∙ ap (λ v. back ++ Gone ∷ v) (sym y) in
     record {
-      rest = joined l' w.rest;
-      merged = rights_in_order (Some c) l' z' ∙ (ap (λ v. rights_after v z') one ∙ ap (λ (v : Both). (v.0, joined l' v.1)) w.merged);
-      holds = subst (λ ps. Holds (and_node t l z) ps (joined l' w.rest)) parts (both {t = t} same h w.holds);
+      rest = conjoined l' w.rest;
+      merged = rights_in_order (Some c) l' z' ∙ (ap (λ v. rights_after v z') one ∙ ap (λ (v : Both). (v.0, conjoined l' v.1)) w.merged);
+      holds = subst (λ ps. Holds (and_node t l z) ps (conjoined l' w.rest)) parts (both {t = t} same h w.holds);
       plain = w.plain;
     }
 goes_both c m r next t l z l' z' ls rs back front p same h g free on_left on_right (in_ls rest x y) =
@@ -264,9 +265,9 @@ goes_both c m r next t l z l' z' ls rs back front p same h g free on_left on_rig
     let two = whole_held m w.plain.0 g (λ k e i. let v = ap keyed w.plain.1 in cc) in
     let parts : rs ++ (rest ++ Gone ∷ front) ≡ back ++ Gone ∷ front = sym (append_assoc rs rest (Gone ∷ front)) ∙ ap (λ v. v ++ Gone ∷ front) (sym x) in
     record {
-      rest = joined w.rest z';
-      merged = rights_in_order (Some c) l' z' ∙ (ap (λ v. rights_after v z') w.merged ∙ ap (λ (v : Both). (v.0, joined w.rest v.1)) two);
-      holds = subst (λ ps. Holds (and_node t l z) ps (joined w.rest z')) parts (both {t = t} same w.holds g);
+      rest = conjoined w.rest z';
+      merged = rights_in_order (Some c) l' z' ∙ (ap (λ v. rights_after v z') w.merged ∙ ap (λ (v : Both). (v.0, conjoined w.rest v.1)) two);
+      holds = subst (λ ps. Holds (and_node t l z) ps (conjoined w.rest z')) parts (both {t = t} same w.holds g);
       plain = w.plain;
     }
 
@@ -330,7 +331,7 @@ pub record BothPlaces (x y l : BoundTree) (ps : List Place) (o : Option BoundTre
   pub on_left : Holds x lefts left
   pub on_right : Holds y rights right
   pub whole : l ≡ and_of x y
-  pub tree : o ≡ joined left right
+  pub tree : o ≡ conjoined left right
 
 pub both_places : {x y l : BoundTree} {o : Option BoundTree} {ps : List Place} → IsBinary and_also x y l → Holds l ps o → BothPlaces x y l ps o
 both_places b (no_range {c = c} a n) = let e : is_and c ≡ true = rw b.1 refl in cc

@@ -8,6 +8,7 @@ pub mod Found
 pub mod Pairing
 pub mod Children
 pub mod Unique
+pub mod Reading
 pub mod Linking
 pub mod Holding
 pub mod Heading

@@ -1,6 +1,7 @@
 -- Where the ranges of an item stand, after a conjunct is put in front or merged.
 use Rattle.std.proofs.Common.{◌≡◌, ◌⊎◌, inl, inr, ℕ, zero, suc, ◌<◌, ◌≤◌, List, [], ◌∷◌, ◌++◌, length, get_or, set, refl, sym, subst, ap, ◌∙◌, Bool, true, false, arith, length-append, length-set}
 use Rattle.std.specs.Prelude.{Option, Some, None, slice_get}
+use Rattle.std.proofs.lemmas.Option.{slice_get_read}
 use Rattle.std.specs.declared.alloc.Global.{Global}
 use Rattle.std.specs.declared.boxed.Box.{Box}
 use denote.Ref.{Bor}
@@ -18,72 +19,15 @@ use Rattle.vx_rewrite_fusing.specs.declared.ranges.Side.TheVariants.{Below, Abov
 use Rattle.vx_rewrite_fusing.specs.Places.{opposite, turned, Bounded, bounded_by, bounded_at, first_at, first_by, next_of, next_at, number_at, place_at, IsFirstOf, IsLast, head_of, IsNumbered, IsPair, KeepsNumbers, NoneFrom, SetsFirst, SetsHead, IsLinked}
 use Rattle.vx_rewrite_fusing.specs.declared.heads.Heads.{Heads}
 use Rattle.vx_rewrite_fusing.proofs.Heading.{sets_head, sets_numbered}
+use Rattle.vx_rewrite_fusing.proofs.Reading.{read_apart, read_behind, read_front, read_here, read_inside, read_set}
 use Rattle.vx_rewrite_fusing.proofs.Merges.{either}
 
--- ---- what stands at a place
-
-pub bounded_inside : (ps : List Place) (i : ℕ) (k : Bounded) → bounded_at ps i ≡ Some k → i < length ps
-bounded_inside [] i k e = cc
-bounded_inside (p ∷ ps) zero k e = omega arith
-bounded_inside (p ∷ ps) (suc i) k e = let h = bounded_inside ps i k e in omega arith
-
-bounded_front : (ps qs : List Place) (i : ℕ) → i < length ps → bounded_at (ps ++ qs) i ≡ bounded_at ps i
-bounded_front [] qs i l = absurd (omega arith)
-bounded_front (p ∷ ps) qs zero l = refl
-bounded_front (p ∷ ps) qs (suc i) l = bounded_front ps qs i (omega arith)
-
-next_front : (ps qs : List Place) (i : ℕ) → i < length ps → next_at (ps ++ qs) i ≡ next_at ps i
-next_front [] qs i l = absurd (omega arith)
-next_front (p ∷ ps) qs zero l = refl
-next_front (p ∷ ps) qs (suc i) l = next_front ps qs i (omega arith)
-
-bounded_end : (ps : List Place) (p : Place) → bounded_at (ps ++ p ∷ []) (length ps) ≡ bounded_by p
-bounded_end [] p = refl
-bounded_end (q ∷ ps) p = bounded_end ps p
-
-next_end : (ps : List Place) (p : Place) → next_at (ps ++ p ∷ []) (length ps) ≡ next_of p
-next_end [] p = refl
-next_end (q ∷ ps) p = next_end ps p
-
-bounded_here : (ps : List Place) (i : ℕ) (p : Place) → slice_get ps i ≡ Some p → bounded_at ps i ≡ bounded_by p
-bounded_here [] i p e = cc
-bounded_here (q ∷ ps) zero p e = let h : q ≡ p = cc in ap bounded_by h
-bounded_here (q ∷ ps) (suc i) p e = bounded_here ps i p e
-
-next_here : (ps : List Place) (i : ℕ) (p : Place) → slice_get ps i ≡ Some p → next_at ps i ≡ next_of p
-next_here [] i p e = cc
-next_here (q ∷ ps) zero p e = let h : q ≡ p = cc in ap next_of h
-next_here (q ∷ ps) (suc i) p e = next_here ps i p e
-
-bounded_set : (ps : List Place) (i : ℕ) (q : Place) → i < length ps → bounded_at (set ps i q) i ≡ bounded_by q
-bounded_set [] i q l = absurd (omega arith)
-bounded_set (p ∷ ps) zero q l = refl
-bounded_set (p ∷ ps) (suc i) q l = bounded_set ps i q (omega arith)
-
-bounded_apart : (ps : List Place) (i j : ℕ) (q : Place) → (j ≡ i → ⊥) → bounded_at (set ps i q) j ≡ bounded_at ps j
-bounded_apart [] i j q n = refl
-bounded_apart (p ∷ ps) zero zero q n = absurd (n refl)
-bounded_apart (p ∷ ps) zero (suc j) q n = refl
-bounded_apart (p ∷ ps) (suc i) zero q n = refl
-bounded_apart (p ∷ ps) (suc i) (suc j) q n = bounded_apart ps i j q (λ e. n (ap suc e))
-
-next_apart : (ps : List Place) (i j : ℕ) (q : Place) → (j ≡ i → ⊥) → next_at (set ps i q) j ≡ next_at ps j
-next_apart [] i j q n = refl
-next_apart (p ∷ ps) zero zero q n = absurd (n refl)
-next_apart (p ∷ ps) zero (suc j) q n = refl
-next_apart (p ∷ ps) (suc i) zero q n = refl
-next_apart (p ∷ ps) (suc i) (suc j) q n = next_apart ps i j q (λ e. n (ap suc e))
-
 -- the place that is read
-pub bounded_read : (ps : List Place) (i : ℕ) (p : Place) → i < length ps → p ≡ get_or ps i p → bounded_at ps i ≡ bounded_by p
-bounded_read [] i p l e = absurd (omega arith)
-bounded_read (q ∷ ps) zero p l e = ap bounded_by (sym e)
-bounded_read (q ∷ ps) (suc i) p l e = bounded_read ps i p (omega arith) e
-
 pub place_read : (ps : List Place) (i : ℕ) (p : Place) → i < length ps → p ≡ get_or ps i p → slice_get ps i ≡ Some p
-place_read [] i p l e = absurd (omega arith)
-place_read (q ∷ ps) zero p l e = ap Some (sym e)
-place_read (q ∷ ps) (suc i) p l e = place_read ps i p (omega arith) e
+place_read ps i p l e = slice_get_read ps (length ps) i p refl l e
+
+pub bounded_read : (ps : List Place) (i : ℕ) (p : Place) → i < length ps → p ≡ get_or ps i p → bounded_at ps i ≡ bounded_by p
+bounded_read ps i p l e = read_here bounded_by ps i p (place_read ps i p l e)
 
 -- ---- the last place of an item
 
@@ -102,8 +46,8 @@ last_up ps k n m (Some j) l f h = (let a : j < n = h.0 in omega arith, h.1, λ i
 
 last_front : (ps qs : List Place) (k : Bounded) (n : ℕ) (o : Option ℕ) → n ≤ length ps → IsLast ps k n o → IsLast (ps ++ qs) k n o
 last_front ps qs k n o l h = last_agrees ps (ps ++ qs) k n o
-    (λ i b e. bounded_front ps qs i (omega arith) ∙ e)
-    (λ i b e. sym (bounded_front ps qs i (omega arith)) ∙ e)
+    (λ i b e. read_front bounded_by ps qs i (omega arith) ∙ e)
+    (λ i b e. sym (read_front bounded_by ps qs i (omega arith)) ∙ e)
     h
 
 -- a place of another item behind the last one
@@ -111,12 +55,12 @@ last_past : (ps : List Place) (p : Place) (k : Bounded) (o : Option ℕ) → (bo
 last_past ps p k o n h = last_up (ps ++ p ∷ []) k (length ps) (length (ps ++ p ∷ [])) o (omega (arith, length-append ps (p ∷ [])))
     (λ i a b e.
     let same : i ≡ length ps = omega (arith, length-append ps (p ∷ [])) in
-    n (sym (bounded_end ps p) ∙ (ap (bounded_at (ps ++ p ∷ [])) (sym same) ∙ e)))
+    n (sym (read_behind bounded_by ps p []) ∙ (ap (bounded_at (ps ++ p ∷ [])) (sym same) ∙ e)))
     (last_front ps (p ∷ []) k (length ps) o (omega arith) h)
 
 -- a place of the item behind the last one
 last_there : (ps : List Place) (p : Place) (k : Bounded) → bounded_by p ≡ Some k → IsLast (ps ++ p ∷ []) k (length (ps ++ p ∷ [])) (Some (length ps))
-last_there ps p k e = (omega (arith, length-append ps (p ∷ [])), bounded_end ps p ∙ e, λ i a b f. omega (arith, length-append ps (p ∷ [])))
+last_there ps p k e = (omega (arith, length-append ps (p ∷ [])), read_behind bounded_by ps p [] ∙ e, λ i a b f. omega (arith, length-append ps (p ∷ [])))
 
 -- ---- a conjunct in front
 
@@ -128,15 +72,15 @@ nexts_pushed : (ps : List Place) (p : Place) → NextsRight ps → ((k : Bounded
 nexts_pushed ps p f g i k e = either inside at_end (below_or i (length ps))
   where
     inside : i < length ps → IsLast (ps ++ p ∷ []) k i (next_at (ps ++ p ∷ []) i)
-    inside l = subst (IsLast (ps ++ p ∷ []) k i) (sym (next_front ps (p ∷ []) i l)) (last_front ps (p ∷ []) k i (next_at ps i) (omega arith) (f i k (sym (bounded_front ps (p ∷ []) i l) ∙ e)))
+    inside l = subst (IsLast (ps ++ p ∷ []) k i) (sym (read_front next_of ps (p ∷ []) i l)) (last_front ps (p ∷ []) k i (next_at ps i) (omega arith) (f i k (sym (read_front bounded_by ps (p ∷ []) i l) ∙ e)))
 
     at_end : length ps ≤ i → IsLast (ps ++ p ∷ []) k i (next_at (ps ++ p ∷ []) i)
     at_end l =
-        let b = bounded_inside (ps ++ p ∷ []) i k e in
+        let b = read_inside bounded_by (ps ++ p ∷ []) i k e in
         let same : length ps ≡ i = omega (arith, length-append ps (p ∷ [])) in
-        let here : bounded_by p ≡ Some k = sym (bounded_end ps p) ∙ (ap (bounded_at (ps ++ p ∷ [])) same ∙ e) in
+        let here : bounded_by p ≡ Some k = sym (read_behind bounded_by ps p []) ∙ (ap (bounded_at (ps ++ p ∷ [])) same ∙ e) in
         subst (λ j. IsLast (ps ++ p ∷ []) k j (next_at (ps ++ p ∷ []) j)) same
-        (subst (IsLast (ps ++ p ∷ []) k (length ps)) (sym (next_end ps p)) (last_front ps (p ∷ []) k (length ps) (next_of p) (omega arith) (g k here)))
+        (subst (IsLast (ps ++ p ∷ []) k (length ps)) (sym (read_behind next_of ps p [])) (last_front ps (p ∷ []) k (length ps) (next_of p) (omega arith) (g k here)))
 
 tree_or : (b c : BoundTree) → (b ≡ c) ⊎ (b ≡ c → ⊥)
 tree_or b c = go (equal_bound b c) refl
@@ -162,11 +106,6 @@ parts_same {s = s} {t = t} {b = b} {c = c} e = (ap side e, ap tree e)
     tree : Option Bounded → BoundTree
     tree None = b
     tree (Some k) = k.1
-
-slice_inside : (ps : List Place) (i : ℕ) (p : Place) → slice_get ps i ≡ Some p → i < length ps
-slice_inside [] i p e = cc
-slice_inside (q ∷ ps) zero p e = omega arith
-slice_inside (q ∷ ps) (suc i) p e = let h = slice_inside ps i p e in omega arith
 
 -- a place of a list with one more at its end
 slice_pushed : (ps : List Place) (p q : Place) (i : ℕ) → slice_get (ps ++ p ∷ []) i ≡ Some q → (slice_get ps i ≡ Some q) ⊎ (p ≡ q)
@@ -235,18 +174,18 @@ slice_apart (p ∷ ps) (suc i) (suc j) q n = slice_apart ps i j q (λ e. n (ap s
 -- a range is taken out
 module _ (ps : List Place) (i : ℕ) (q : Place) (k : Bounded) (gone : bounded_by q ≡ None) (inside : i < length ps) (here : bounded_at ps i ≡ Some k) (behind : (j : ℕ) → i < j → j < length ps → bounded_at ps j ≡ Some k → ⊥) where
   open_apart : (j : ℕ) (h : Bounded) → bounded_at (set ps i q) j ≡ Some h → j ≡ i → ⊥
-  open_apart j h e s = let f : bounded_at (set ps i q) i ≡ None = bounded_set ps i q inside ∙ gone in let g : bounded_at (set ps i q) i ≡ Some h = subst (λ m. bounded_at (set ps i q) m ≡ Some h) s e in cc
+  open_apart j h e s = let f : bounded_at (set ps i q) i ≡ None = read_set bounded_by ps i q inside ∙ gone in let g : bounded_at (set ps i q) i ≡ Some h = subst (λ m. bounded_at (set ps i q) m ≡ Some h) s e in cc
 
   last_of_other : (h : Bounded) (n : ℕ) (o : Option ℕ) → (h ≡ k → ⊥) → IsLast ps h n o → IsLast (set ps i q) h n o
   last_of_other h n o apart last = last_agrees ps (set ps i q) h n o
-      (λ j l e. bounded_apart ps i j q (λ s. let f : bounded_at ps i ≡ Some h = subst (λ m. bounded_at ps m ≡ Some h) s e in apart (cc)) ∙ e)
-      (λ j l e. sym (bounded_apart ps i j q (open_apart j h e)) ∙ e)
+      (λ j l e. read_apart bounded_by ps i j q (λ s. let f : bounded_at ps i ≡ Some h = subst (λ m. bounded_at ps m ≡ Some h) s e in apart (cc)) ∙ e)
+      (λ j l e. sym (read_apart bounded_by ps i j q (open_apart j h e)) ∙ e)
       last
 
   last_below : (h : Bounded) (n : ℕ) (o : Option ℕ) → n ≤ i → IsLast ps h n o → IsLast (set ps i q) h n o
   last_below h n o l last = last_agrees ps (set ps i q) h n o
-      (λ j b e. bounded_apart ps i j q (λ s. omega arith) ∙ e)
-      (λ j b e. sym (bounded_apart ps i j q (λ s. omega arith)) ∙ e)
+      (λ j b e. read_apart bounded_by ps i j q (λ s. omega arith) ∙ e)
+      (λ j b e. sym (read_apart bounded_by ps i j q (λ s. omega arith)) ∙ e)
       last
 
   last_of_it : (o : Option ℕ) → IsLast ps k i o → IsLast (set ps i q) k (length (set ps i q)) o
@@ -255,23 +194,23 @@ module _ (ps : List Place) (i : ℕ) (q : Place) (k : Bounded) (gone : bounded_b
       let n : j ≡ i → ⊥ = open_apart j k e in
       let less : j < length ps = omega (arith, length-set ps i q) in
       let above : i < j = apart_above i j a n in
-      behind j above less (sym (bounded_apart ps i j q n) ∙ e))
+      behind j above less (sym (read_apart bounded_by ps i j q n) ∙ e))
       (last_below k i o (omega arith) last)
     where
       apart_above : (a b : ℕ) → a ≤ b → (b ≡ a → ⊥) → a < b
       apart_above a b l n = either (λ m. m) (λ m. absurd (n (omega arith))) (below_or a b)
 
   nexts_set : NextsRight ps → NextsRight (set ps i q)
-  nexts_set f j h e = subst (IsLast (set ps i q) h j) (sym (next_apart ps i j q n)) (either past front (below_or i j))
+  nexts_set f j h e = subst (IsLast (set ps i q) h j) (sym (read_apart next_of ps i j q n)) (either past front (below_or i j))
     where
       n : j ≡ i → ⊥
       n = open_apart j h e
 
       was : bounded_at ps j ≡ Some h
-      was = sym (bounded_apart ps i j q n) ∙ e
+      was = sym (read_apart bounded_by ps i j q n) ∙ e
 
       past : i < j → IsLast (set ps i q) h j (next_at ps j)
-      past l = last_of_other h j (next_at ps j) (λ s. behind j l (bounded_inside ps j h was) (was ∙ ap Some s)) (f j h was)
+      past l = last_of_other h j (next_at ps j) (λ s. behind j l (read_inside bounded_by ps j h was) (was ∙ ap Some s)) (f j h was)
 
       front : j ≤ i → IsLast (set ps i q) h j (next_at ps j)
       front l = last_below h j (next_at ps j) l (f j h was)
@@ -284,7 +223,7 @@ pub none_is : (places : Places) (s : Side) (x : Bor BoundExpression) → IsLinke
 none_is places s x linked e j f = go (subst (IsLast places.list.items (s, bound_of x.now) (length places.list.items)) e (linked.heads s x))
   where
     go : IsLast places.list.items (s, bound_of x.now) (length places.list.items) None → ⊥
-    go h = h j (bounded_inside places.list.items j (s, bound_of x.now) f) f
+    go h = h j (read_inside bounded_by places.list.items j (s, bound_of x.now) f) f
 
 -- the first range of an item is taken out
 pub removed_linked : (old new : Places) (s : Side) (x : Bor BoundExpression) (i : ℕ) (r : RangeComparison) (after : Link) (q : Place) → bounded_by q ≡ None → IsLinked old → head_of old.heads s x ≡ Some i → slice_get old.list.items i ≡ Some (Open r after) → SetsHead old.heads new.heads s x after.next → new.heads.numbers ≡ old.heads.numbers → IsNumbered new.heads → new.list.items ≡ set old.list.items i q → IsLinked new
@@ -312,13 +251,13 @@ removed_linked old new s x i r after q gone linked head there sets same numbered
 
         apart : j ≡ i → ⊥
         apart h =
-            let read : bounded_at (set ps i q) i ≡ None = bounded_set ps i q last.0 ∙ gone in
-            let held : bounded_at (set ps i q) j ≡ Some (p.side, bound_of p.item.now) = bounded_here (set ps i q) j (Open p link) there_now in
+            let read : bounded_at (set ps i q) i ≡ None = read_set bounded_by ps i q last.0 ∙ gone in
+            let held : bounded_at (set ps i q) j ≡ Some (p.side, bound_of p.item.now) = read_here bounded_by (set ps i q) j (Open p link) there_now in
             let at : bounded_at (set ps i q) i ≡ Some (p.side, bound_of p.item.now) = subst (λ m. bounded_at (set ps i q) m ≡ Some (p.side, bound_of p.item.now)) h held in
             cc
 
     next : IsLast ps (s, bound_of x.now) i after.next
-    next = subst (IsLast ps (s, bound_of x.now) i) (next_here ps i (Open r after) there) (linked.nexts i (s, bound_of x.now) last.1)
+    next = subst (IsLast ps (s, bound_of x.now) i) (read_here next_of ps i (Open r after) there) (linked.nexts i (s, bound_of x.now) last.1)
 
     here : (t : Side) (y : Bor BoundExpression) → (t ≡ s) × (bound_of y.now ≡ bound_of x.now) → IsLast qs (t, bound_of y.now) (length qs) (head_of new.heads t y)
     here t y h = subst (IsLast qs (t, bound_of y.now) (length qs)) (sym ((sets t y).0 h)) (rw (h.0, h.1) (last_of_it ps i q (s, bound_of x.now) gone last.0 last.1 last.2 after.next next))
@@ -368,14 +307,14 @@ module _ (places : Places) (r : RangeComparison) (next : Link) (from : ℕ) (lin
   early_first first h less i k e l f =
       let last = first_is places (opposite r.side) r.item first linked h in
       let there = turned_key i k e f in
-      last.2 i (omega arith) (bounded_inside places.list.items i (opposite r.side, bound_of r.item.now) there) there
+      last.2 i (omega arith) (read_inside bounded_by places.list.items i (opposite r.side, bound_of r.item.now) there) there
 
   pub partner_first : (first : ℕ) → head_of places.heads (opposite r.side) r.item ≡ Some first → IsFirstOf places.list.items first (Open r next)
   partner_first first h = ((r.side, bound_of r.item.now), refl, first_is places (opposite r.side) r.item first linked h)
 
 -- a range is the first of its side and item where the place of one of these is
 pub key_there : (ps : List Place) (i : ℕ) (k : Bounded) (r : RangeComparison) (next : Link) → bounded_at ps i ≡ Some k → slice_get ps i ≡ Some (Open r next) → (r.side, bound_of r.item.now) ≡ k
-key_there ps i k r next e f = let g : bounded_at ps i ≡ Some (r.side, bound_of r.item.now) = bounded_here ps i (Open r next) f in cc
+key_there ps i k r next e f = let g : bounded_at ps i ≡ Some (r.side, bound_of r.item.now) = read_here bounded_by ps i (Open r next) f in cc
 
 pub first_there : (places : Places) (i : ℕ) (k : Bounded) (r : RangeComparison) (next : Link) → IsLinked places → IsLast places.list.items k (length places.list.items) (Some i) → slice_get places.list.items i ≡ Some (Open r next) → head_of places.heads r.side r.item ≡ Some i
 first_there places i k r next linked last there =

@@ -5,6 +5,7 @@ use Rattle.std.proofs.lemmas.List.{length-append}
 use Rattle.vx_value.specs.Types.{LogicalType}
 use Rattle.vx_fn.specs.Functions.{Function, binary, and_also, fn_type}
 use Rattle.vx_dtype.specs.Lists.{IsIn}
+use Rattle.vx_dtype.proofs.Lists.{in_left, in_right}
 use Rattle.vx_tree.specs.Trees.{BoundTree, scope, node, BoundTrees, no_bound, bound, node_type, node_types, WellTyped, EachWellTyped}
 use Rattle.vx_rewrite_keep.specs.Keeps.{Keeps}
 use Rattle.vx_rewrite_keep.specs.Steps.{Step, here, below, OneStep, this_one, later_one, Steps, no_step, one_more}
@@ -107,15 +108,6 @@ in_append x (y ∷ xs) ys (inr i) = go (in_append x xs ys i)
     go (inl j) = inl (inr j)
     go (inr j) = inr j
 
-pub in_first : {A : Type 0} (x : A) (xs ys : List A) → IsIn x xs → IsIn x (xs ++ ys)
-in_first x [] ys i = elim i [ ]
-in_first x (y ∷ xs) ys (inl e) = inl e
-in_first x (y ∷ xs) ys (inr i) = inr (in_first x xs ys i)
-
-pub in_second : {A : Type 0} (x : A) (xs ys : List A) → IsIn x ys → IsIn x (xs ++ ys)
-in_second x [] ys i = i
-in_second x (y ∷ xs) ys i = inr (in_second x xs ys i)
-
 pub alone : (b : BoundTree) → is_and b ≡ false → conjuncts b ≡ b ∷ []
 alone (node t (binary and_also) (bound l (bound r no_bound))) e = cc
 alone _ e = refl
@@ -140,8 +132,8 @@ within_itself m xs x i = inl i
 
 within_append : (m : BoundTree) (xs xs' ys ys' : List BoundTree) → Within m xs' xs → Within m ys' ys → Within m (xs' ++ ys') (xs ++ ys)
 within_append m xs xs' ys ys' f g x i = either
-    (λ j. either (λ k. inl (in_first x xs ys k)) (λ q. inr q) (f x j))
-    (λ j. either (λ k. inl (in_second x xs ys k)) (λ q. inr q) (g x j))
+    (λ j. either (λ k. inl (in_left x xs ys k)) (λ q. inr q) (f x j))
+    (λ j. either (λ k. inl (in_right x xs ys k)) (λ q. inr q) (g x j))
     (in_append x xs' ys' i)
 
 pub replaced_within : {c m l u : BoundTree} {front : List BoundTree} → Replaced c m front l u → is_and m ≡ false → Within m (conjuncts u) (conjuncts l)
@@ -153,11 +145,11 @@ abbrev AllIn : List BoundTree → List BoundTree → Type 0
 AllIn xs ys = (x : BoundTree) → IsIn x xs → IsIn x ys
 
 all_append : (xs xs' ys ys' : List BoundTree) → AllIn xs' xs → AllIn ys' ys → AllIn (xs' ++ ys') (xs ++ ys)
-all_append xs xs' ys ys' f g x i = either (λ j. in_first x xs ys (f x j)) (λ j. in_second x xs ys (g x j)) (in_append x xs' ys' i)
+all_append xs xs' ys ys' f g x i = either (λ j. in_left x xs ys (f x j)) (λ j. in_right x xs ys (g x j)) (in_append x xs' ys' i)
 
 removed_within : {d r u : BoundTree} {front : List BoundTree} → Removed d front r u → AllIn (conjuncts u) (conjuncts r)
-removed_within {d = d} (left_gone {r = r} q) = λ x i. in_second x (conjuncts d) (conjuncts r) i
-removed_within {d = d} (right_gone {l = l} q) = λ x i. in_first x (conjuncts l) (conjuncts d) i
+removed_within {d = d} (left_gone {r = r} q) = λ x i. in_right x (conjuncts d) (conjuncts r) i
+removed_within {d = d} (right_gone {l = l} q) = λ x i. in_left x (conjuncts l) (conjuncts d) i
 removed_within (from_left {l = l} {l' = l'} {r = r} p) = all_append (conjuncts l) (conjuncts l') (conjuncts r) (conjuncts r) (removed_within p) (λ x i. i)
 removed_within (from_right {l = l} {r = r} {r' = r'} p) = all_append (conjuncts l) (conjuncts l) (conjuncts r) (conjuncts r') (λ x i. i) (removed_within p)
 
@@ -166,14 +158,14 @@ in_own b e = subst (IsIn b) (sym (alone b e)) (inl refl)
 
 pub replaced_from : {c m l u : BoundTree} {front : List BoundTree} → Replaced c m front l u → IsIn c (conjuncts l)
 replaced_from {c = c} (itself q) = in_own c q
-replaced_from {c = c} (on_left {l = l} {r = r} p) = in_first c (conjuncts l) (conjuncts r) (replaced_from p)
-replaced_from {c = c} (on_right {l = l} {r = r} p) = in_second c (conjuncts l) (conjuncts r) (replaced_from p)
+replaced_from {c = c} (on_left {l = l} {r = r} p) = in_left c (conjuncts l) (conjuncts r) (replaced_from p)
+replaced_from {c = c} (on_right {l = l} {r = r} p) = in_right c (conjuncts l) (conjuncts r) (replaced_from p)
 
 pub removed_from : {d r u : BoundTree} {front : List BoundTree} → Removed d front r u → IsIn d (conjuncts r)
-removed_from {d = d} (left_gone {r = r} q) = in_first d (conjuncts d) (conjuncts r) (in_own d q)
-removed_from {d = d} (right_gone {l = l} q) = in_second d (conjuncts l) (conjuncts d) (in_own d q)
-removed_from {d = d} (from_left {l = l} {r = r} p) = in_first d (conjuncts l) (conjuncts r) (removed_from p)
-removed_from {d = d} (from_right {l = l} {r = r} p) = in_second d (conjuncts l) (conjuncts r) (removed_from p)
+removed_from {d = d} (left_gone {r = r} q) = in_left d (conjuncts d) (conjuncts r) (in_own d q)
+removed_from {d = d} (right_gone {l = l} q) = in_right d (conjuncts l) (conjuncts d) (in_own d q)
+removed_from {d = d} (from_left {l = l} {r = r} p) = in_left d (conjuncts l) (conjuncts r) (removed_from p)
+removed_from {d = d} (from_right {l = l} {r = r} p) = in_right d (conjuncts l) (conjuncts r) (removed_from p)
 
 -- ---- what is merged stays fused
 
@@ -257,9 +249,9 @@ merge_stays_fused b u (right_goes {l' = l'} fl fd q first p) =
 
 fused_no_merge : (b u : BoundTree) → Fused b → MergeAt b u → ⊥
 fused_no_merge b u f (right_stays {l = l} {r = r} {c = c} {d = d} {m = m} fl fr first p q) =
-    f.0 c d (in_first c (conjuncts l) (conjuncts r) (replaced_from p)) (in_second d (conjuncts l) (conjuncts r) (removed_from q)) (m, first.mergeable)
+    f.0 c d (in_left c (conjuncts l) (conjuncts r) (replaced_from p)) (in_right d (conjuncts l) (conjuncts r) (removed_from q)) (m, first.mergeable)
 fused_no_merge b u f (right_goes {l = l} {c = c} {d = d} {m = m} fl fd q first p) =
-    f.0 c d (in_first c (conjuncts l) (conjuncts d) (replaced_from p)) (in_second d (conjuncts l) (conjuncts d) (in_own d q)) (m, first.mergeable)
+    f.0 c d (in_left c (conjuncts l) (conjuncts d) (replaced_from p)) (in_right d (conjuncts l) (conjuncts d) (in_own d q)) (m, first.mergeable)
 
 mutual
   pub fused_no_step : {b u : BoundTree} → Step MergeAt b u → Fused b → ⊥

@@ -4,7 +4,7 @@ use Rattle.std.specs.Prelude.{Option, Some, None}
 use Rattle.vx_fn.specs.Functions.{and_also, binary}
 use Rattle.vx_tree.specs.Trees.{BoundTree, node, bound, no_bound, WellTyped}
 use Rattle.vx_rewrite_fusing.specs.Conjuncts.{and_node, and_of, is_and, conjuncts, NoneMergeable}
-use Rattle.vx_rewrite_fusing.specs.Finding.{joined, IsBinary, LeftMerged, PairsMerged, with_pairs, without_pairs}
+use Rattle.vx_rewrite_fusing.specs.Finding.{conjoined, IsBinary, LeftMerged, PairsMerged, with_pairs, without_pairs}
 use Rattle.vx_rewrite_fusing.specs.Sides.{after_single, both_merged, changed_of, merged_with, with_merged}
 use Rattle.vx_rewrite_fusing.proofs.Ands.{and_parts_of, typed_and}
 use Rattle.vx_rewrite_fusing.proofs.Found.{left_alone, left_in_first, left_in_second, left_none, left_none_alone, right_none, right_none_single, right_single}
@@ -15,16 +15,16 @@ use Rattle.vx_rewrite_fusing.proofs.Pairing.{first_and_second, pairs_single, sec
 abbrev pub Both : Type 0
 Both = Option BoundTree × Option BoundTree
 
-joined_none : (o : Option BoundTree) → joined o None ≡ o
+joined_none : (o : Option BoundTree) → conjoined o None ≡ o
 joined_none None = refl
 joined_none (Some r) = refl
 
 -- ---- the right conjuncts one after another
 
 abbrev pub rights_after : Both → Option BoundTree → Both
-rights_after p y = ((both_merged p.0 y).0, joined p.1 (both_merged p.0 y).1)
+rights_after p y = ((both_merged p.0 y).0, conjoined p.1 (both_merged p.0 y).1)
 
-pub rights_in_order : (l x y : Option BoundTree) → both_merged l (joined x y) ≡ rights_after (both_merged l x) y
+pub rights_in_order : (l x y : Option BoundTree) → both_merged l (conjoined x y) ≡ rights_after (both_merged l x) y
 rights_in_order None x y = refl
 rights_in_order (Some l) None y = refl
 rights_in_order (Some l) (Some x) None = ap (λ z. (Some (merged_with l x).0, z)) (sym (joined_none (merged_with l x).1))
@@ -33,7 +33,7 @@ rights_in_order (Some l) (Some x) (Some y) = refl
 -- ---- the left conjuncts one after another
 
 abbrev pub lefts_after : Both → Option BoundTree → Both
-lefts_after p y = (joined p.0 (both_merged y p.1).0, (both_merged y p.1).1)
+lefts_after p y = (conjoined p.0 (both_merged y p.1).0, (both_merged y p.1).1)
 
 single_both : (l d : BoundTree) → is_and d ≡ false → both_merged (Some l) (Some d) ≡ (Some (after_single l d (with_merged d l)).0, (after_single l d (with_merged d l)).1)
 single_both l d e = ap (λ z. (Some z.0, z.1)) (single_merged l d e)
@@ -44,8 +44,8 @@ lefts_single x y d e = single_both (and_of x y) d e ∙ (go (with_merged d x) (w
     go : (u v : Option BoundTree) → both_merged (Some y) (Some d) ≡ (Some (after_single y d v).0, (after_single y d v).1)
         → (Some (after_single (and_of x y) d (changed_of x y u v)).0, (after_single (and_of x y) d (changed_of x y u v)).1) ≡ lefts_after (Some (after_single x d u).0, (after_single x d u).1) (Some y)
     go (Some u) v q = refl
-    go None (Some v) q = sym (ap (λ (z : Both). (joined (Some x) z.0, z.1)) q)
-    go None None q = sym (ap (λ (z : Both). (joined (Some x) z.0, z.1)) q)
+    go None (Some v) q = sym (ap (λ (z : Both). (conjoined (Some x) z.0, z.1)) q)
+    go None None q = sym (ap (λ (z : Both). (conjoined (Some x) z.0, z.1)) q)
 
 -- what is left of a left tree is a tree
 some_left : (l : BoundTree) (o : Option BoundTree) → (u : BoundTree) × ((both_merged (Some l) o).0 ≡ Some u)
@@ -60,16 +60,16 @@ lefts_of_tree x y (node t (binary and_also) (bound a (bound b no_bound))) =
     let y1 = some_left y o1 in
     let second = lefts_of_tree x1 y1.0 b in
     let whole : both_merged (Some (and_of x y)) (Some (and_of a b)) ≡ rights_after (both_merged (Some (and_of x y)) (Some a)) (Some b) = rights_in_order (Some (and_of x y)) (Some a) (Some b) in
-    let begun : both_merged (Some (and_of x y)) (Some a) ≡ (Some (and_of x1 y1.0), (both_merged (Some y) o1).1) = first ∙ ap (λ z. (joined (Some x1) z, (both_merged (Some y) o1).1)) y1.1 in
+    let begun : both_merged (Some (and_of x y)) (Some a) ≡ (Some (and_of x1 y1.0), (both_merged (Some y) o1).1) = first ∙ ap (λ z. (conjoined (Some x1) z, (both_merged (Some y) o1).1)) y1.1 in
     let later = rights_in_order (Some y) o1 (merged_with x1 b).1 in
     let same : both_merged (Some y) o1 ≡ (Some y1.0, (both_merged (Some y) o1).1) = ap (λ z. (z, (both_merged (Some y) o1).1)) y1.1 in
-    whole ∙ (ap (λ z. rights_after z (Some b)) begun ∙ (ap (λ (z : Both). (z.0, joined (both_merged (Some y) o1).1 z.1)) second
-    ∙ sym (ap (λ (z : Both). (joined (Some (merged_with x1 b).0) z.0, z.1)) (later ∙ ap (λ z. rights_after z (merged_with x1 b).1) same))))
+    whole ∙ (ap (λ z. rights_after z (Some b)) begun ∙ (ap (λ (z : Both). (z.0, conjoined (both_merged (Some y) o1).1 z.1)) second
+    ∙ sym (ap (λ (z : Both). (conjoined (Some (merged_with x1 b).0) z.0, z.1)) (later ∙ ap (λ z. rights_after z (merged_with x1 b).1) same))))
 lefts_of_tree x y r = lefts_single x y r refl
 
-pub lefts_in_order : (x y o : Option BoundTree) → both_merged (joined x y) o ≡ lefts_after (both_merged x o) y
+pub lefts_in_order : (x y o : Option BoundTree) → both_merged (conjoined x y) o ≡ lefts_after (both_merged x o) y
 lefts_in_order None y o = refl
-lefts_in_order (Some x) None o = let p = some_left x o in ap (λ z. (z, (both_merged (Some x) o).1)) (p.1 ∙ sym (ap (λ z. joined z None) p.1))
+lefts_in_order (Some x) None o = let p = some_left x o in ap (λ z. (z, (both_merged (Some x) o).1)) (p.1 ∙ sym (ap (λ z. conjoined z None) p.1))
 lefts_in_order (Some x) (Some y) None = refl
 lefts_in_order (Some x) (Some y) (Some r) = lefts_of_tree x y r
 
@@ -100,7 +100,7 @@ pub data Takes (l r : BoundTree) : BoundTree → Option BoundTree → Type 0 whe
   takes_none : NoneMergeable (conjuncts l) (conjuncts r) → Takes l r l (Some r)
   takes_some : {u : BoundTree} {rest : Option BoundTree} → PairsMerged l r u rest → Takes l r u rest
 
-takes_both : {l x y r u w : BoundTree} {rx ry : Option BoundTree} → IsBinary and_also x y r → r ≡ and_of x y → Takes l x u rx → Takes u y w ry → Takes l r w (joined rx ry)
+takes_both : {l x y r u w : BoundTree} {rx ry : Option BoundTree} → IsBinary and_also x y r → r ≡ and_of x y → Takes l x u rx → Takes u y w ry → Takes l r w (conjoined rx ry)
 takes_both {l = l} {r = r} b e (takes_none f) (takes_none g) = subst (λ z. Takes l r l (Some z)) e (takes_none (right_none l b f g))
 takes_both b e (takes_none f) (takes_some p) = takes_some (second_alone b f p)
 takes_both b e (takes_some p) (takes_none g) = takes_some (first_and_second b p (without_pairs refl g))

@@ -5,14 +5,16 @@ use Rattle.std.proofs.lemmas.List.{append-nil}
 use Rattle.vx_dtype.specs.declared.error.VortexError.{VortexError}
 use Rattle.vx_value.specs.Types.{LogicalType}
 use Rattle.vx_fn.specs.Functions.{and_also}
+use Rattle.vx_dtype.proofs.Lists.{in_left, in_right}
 use Rattle.vx_tree.specs.Trees.{BoundTree, node_type}
 use Rattle.vx_tree.specs.Views.{bound_of}
 use Rattle.vx_rewrite_keep.specs.Steps.{here, no_step, one_more}
 use Rattle.vx_rewrite_fusing.specs.Conjuncts.{and_node, and_of, is_and, conjuncts, range_of, MergeTo, below_and_above, above_and_below, NoneMergeable, Fused, FusedBelow}
 use Rattle.vx_rewrite_fusing.specs.Merging.{IsFirstPair, Replaced, MergeAt, right_stays, right_goes, Merges, IsFusedOf}
 use Rattle.vx_rewrite_fusing.specs.declared.merge.Merged.{Merged}
-use Rattle.vx_rewrite_fusing.specs.Finding.{IsBinary, Gone, whole, part, PairMerged, Pairs, last_pair, and_pairs, conjuncts_left, joined, tree_in, PairsMerged, MergesSecond, with_pairs, without_pairs}
-use Rattle.vx_rewrite_fusing.proofs.Merges.{either, in_first, in_second, no_left, merged_plain, replaced_within, replaced_fused, removed_fused, conjunct_fused, gone_fused, fused_and}
+use Rattle.vx_rewrite_fusing.specs.Finding.{IsBinary, Gone, whole, part, PairMerged, Pairs, last_pair, and_pairs, conjuncts_left, conjoined, tree_in, PairsMerged, MergesSecond, with_pairs, without_pairs}
+use Rattle.vx_rewrite_fusing.proofs.Keyed.{between_plain}
+use Rattle.vx_rewrite_fusing.proofs.Merges.{either, no_left, merged_plain, replaced_within, replaced_fused, removed_fused, conjunct_fused, gone_fused, fused_and}
 use Rattle.vx_rewrite_fusing.proofs.Found.{none_append_right, none_to_none, right_is_some, right_in_first, right_in_second}
 
 -- ---- what isn't mergeable with the left conjuncts isn't after merges
@@ -20,16 +22,8 @@ use Rattle.vx_rewrite_fusing.proofs.Found.{none_append_right, none_to_none, righ
 pair_none : {l r u : BoundTree} {rest : Option BoundTree} (ds : List BoundTree) → PairMerged l r u rest → NoneMergeable (conjuncts l) ds → NoneMergeable (conjuncts u) ds
 pair_none ds k none c d i j m = either
     (λ p. none c d p j m)
-    (λ p. no_left m.1 (subst (λ x. range_of x ≡ None) (sym p) (no_range k.first.mergeable)))
-    (replaced_within k.replaced (no_and k.first.mergeable) c i)
-  where
-    no_range : {c d m : BoundTree} → MergeTo c d m → range_of m ≡ None
-    no_range (below_and_above e f) = refl
-    no_range (above_and_below e f) = refl
-
-    no_and : {c d m : BoundTree} → MergeTo c d m → is_and m ≡ false
-    no_and (below_and_above e f) = refl
-    no_and (above_and_below e f) = refl
+    (λ p. no_left m.1 (subst (λ x. range_of x ≡ None) (sym p) (between_plain k.first.mergeable).1))
+    (replaced_within k.replaced (between_plain k.first.mergeable).0 c i)
 
 pairs_none : {l r u : BoundTree} {rest : Option BoundTree} (ds : List BoundTree) → Pairs l r u rest → NoneMergeable (conjuncts l) ds → NoneMergeable (conjuncts u) ds
 pairs_none ds (last_pair k) none = pair_none ds k none
@@ -41,11 +35,11 @@ pairs_are_some (and_pairs k p) none = right_is_some k none
 
 -- ---- pairs of a child of the right tree
 
-pairs_in_first : {l x u : BoundTree} {rest : Option BoundTree} (t : LogicalType) (y : BoundTree) → Pairs l x u rest → Pairs l (and_node t x y) u (joined rest (Some y))
+pairs_in_first : {l x u : BoundTree} {rest : Option BoundTree} (t : LogicalType) (y : BoundTree) → Pairs l x u rest → Pairs l (and_node t x y) u (conjoined rest (Some y))
 pairs_in_first t y (last_pair k) = last_pair (right_in_first t y k)
 pairs_in_first t y (and_pairs {s = s} k p) = and_pairs (right_in_first t y k) (pairs_in_first (node_type (and_of s y)) y p)
 
-pairs_in_second : {l y u : BoundTree} {rest : Option BoundTree} (t : LogicalType) (x : BoundTree) → NoneMergeable (conjuncts l) (conjuncts x) → Pairs l y u rest → Pairs l (and_node t x y) u (joined (Some x) rest)
+pairs_in_second : {l y u : BoundTree} {rest : Option BoundTree} (t : LogicalType) (x : BoundTree) → NoneMergeable (conjuncts l) (conjuncts x) → Pairs l y u rest → Pairs l (and_node t x y) u (conjoined (Some x) rest)
 pairs_in_second t x none (last_pair k) = last_pair (right_in_second t x none k)
 pairs_in_second t x none (and_pairs {s = s} k p) = and_pairs (right_in_second t x none k) (pairs_in_second (node_type (and_of x s)) x (pair_none (conjuncts x) k none) p)
 
@@ -53,25 +47,25 @@ pairs_then : {l r u s w : BoundTree} {rest : Option BoundTree} → Pairs l r u (
 pairs_then (last_pair k) q = and_pairs k q
 pairs_then (and_pairs k p) q = and_pairs k (pairs_then p q)
 
-pairs_in_both : {l x y u w : BoundTree} (t : LogicalType) (left rest : Option BoundTree) → Pairs l x u left → NoneMergeable (conjuncts u) (conjuncts_left left) → Pairs u y w rest → Pairs l (and_node t x y) w (joined left rest)
+pairs_in_both : {l x y u w : BoundTree} (t : LogicalType) (left rest : Option BoundTree) → Pairs l x u left → NoneMergeable (conjuncts u) (conjuncts_left left) → Pairs u y w rest → Pairs l (and_node t x y) w (conjoined left rest)
 pairs_in_both {y = y} t None rest p none q = pairs_then (pairs_in_first t y p) q
 pairs_in_both {y = y} t (Some s) rest p none q = pairs_then (pairs_in_first t y p) (pairs_in_second (node_type (and_of s y)) s none q)
 
-pub conjuncts_left-joined : (l r : Option BoundTree) → conjuncts_left (joined l r) ≡ conjuncts_left l ++ conjuncts_left r
-conjuncts_left-joined None r = refl
-conjuncts_left-joined (Some l) None = sym (append-nil (conjuncts l))
-conjuncts_left-joined (Some l) (Some r) = refl
+pub conjuncts_left-conjoined : (l r : Option BoundTree) → conjuncts_left (conjoined l r) ≡ conjuncts_left l ++ conjuncts_left r
+conjuncts_left-conjoined None r = refl
+conjuncts_left-conjoined (Some l) None = sym (append-nil (conjuncts l))
+conjuncts_left-conjoined (Some l) (Some r) = refl
 
-none_joined : (cs : List BoundTree) (l r : Option BoundTree) → NoneMergeable cs (conjuncts_left l) → NoneMergeable cs (conjuncts_left r) → NoneMergeable cs (conjuncts_left (joined l r))
-none_joined cs l r f g = subst (NoneMergeable cs) (sym (conjuncts_left-joined l r)) (none_append_right cs (conjuncts_left l) (conjuncts_left r) f g)
+none_joined : (cs : List BoundTree) (l r : Option BoundTree) → NoneMergeable cs (conjuncts_left l) → NoneMergeable cs (conjuncts_left r) → NoneMergeable cs (conjuncts_left (conjoined l r))
+none_joined cs l r f g = subst (NoneMergeable cs) (sym (conjuncts_left-conjoined l r)) (none_append_right cs (conjuncts_left l) (conjuncts_left r) f g)
 
 -- what is merged with the first child of a right tree, and then with its second
 pub first_and_second : {l x y r u w : BoundTree} {left rest : Option BoundTree} → IsBinary and_also x y r → PairsMerged l x u left → MergesSecond u left y w rest → PairsMerged l r w rest
-first_and_second {l = l} {x = x} {y = y} {u = u} {w = w} {left = left} b p (with_pairs {rest = rest} q) = subst (λ z. PairsMerged l z w (joined left rest)) (sym b.1) (record {
+first_and_second {l = l} {x = x} {y = y} {u = u} {w = w} {left = left} b p (with_pairs {rest = rest} q) = subst (λ z. PairsMerged l z w (conjoined left rest)) (sym b.1) (record {
   pairs = pairs_in_both b.0 left rest p.pairs p.none_left q.pairs;
   none_left = none_joined (conjuncts w) left rest (pairs_none (conjuncts_left left) q.pairs p.none_left) q.none_left;
 })
-first_and_second {l = l} {x = x} {y = y} {u = u} {w = w} {left = left} b p (without_pairs e none) = subst (λ z. PairsMerged l z w (joined left (Some y))) (sym b.1) (subst (λ z. PairsMerged l (and_node b.0 x y) z (joined left (Some y))) (sym e) (record {
+first_and_second {l = l} {x = x} {y = y} {u = u} {w = w} {left = left} b p (without_pairs e none) = subst (λ z. PairsMerged l z w (conjoined left (Some y))) (sym b.1) (subst (λ z. PairsMerged l (and_node b.0 x y) z (conjoined left (Some y))) (sym e) (record {
   pairs = pairs_in_first b.0 y p.pairs;
   none_left = none_joined (conjuncts u) left (Some y) p.none_left none;
 }))
@@ -82,8 +76,8 @@ second_answered (Ok m) p q s = rw (p, q) s
 second_answered (Err e) p q s = p
 
 -- what is merged with the second child alone
-pub second_alone : {l x y r u : BoundTree} {rest : Option BoundTree} → IsBinary and_also x y r → NoneMergeable (conjuncts l) (conjuncts x) → PairsMerged l y u rest → PairsMerged l r u (joined (Some x) rest)
-second_alone {l = l} {x = x} {u = u} {rest = rest} b none p = subst (λ z. PairsMerged l z u (joined (Some x) rest)) (sym b.1) (record {
+pub second_alone : {l x y r u : BoundTree} {rest : Option BoundTree} → IsBinary and_also x y r → NoneMergeable (conjuncts l) (conjuncts x) → PairsMerged l y u rest → PairsMerged l r u (conjoined (Some x) rest)
+second_alone {l = l} {x = x} {u = u} {rest = rest} b none p = subst (λ z. PairsMerged l z u (conjoined (Some x) rest)) (sym b.1) (record {
   pairs = pairs_in_second b.0 x none p.pairs;
   none_left = none_joined (conjuncts u) (Some x) rest (pairs_none (conjuncts x) p.pairs none) p.none_left;
 })
@@ -147,7 +141,7 @@ pub none_across : {b l r : BoundTree} → IsBinary and_also l r b → Fused b �
 none_across {l = l} {r = r} b f = go (subst Fused b.1 f)
   where
     go : Fused (and_node b.0 l r) → NoneMergeable (conjuncts l) (conjuncts r)
-    go g c d i j k = g.0 c d (in_first c (conjuncts l) (conjuncts r) i) (in_second d (conjuncts l) (conjuncts r) j) k
+    go g c d i j k = g.0 c d (in_left c (conjuncts l) (conjuncts r) i) (in_right d (conjuncts l) (conjuncts r) j) k
 
 -- where pairs are merged the tree wasn't fused
 pub root_unfused : {b l r u : BoundTree} {rest : Option BoundTree} → IsBinary and_also l r b → PairsMerged l r u rest → Fused b → ⊥

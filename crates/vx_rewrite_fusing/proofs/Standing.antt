@@ -1,11 +1,12 @@
 -- The conjuncts of one side of an And merged with those of the other, one after another.
 use Rattle.std.proofs.Common.{◌≡◌, ℕ, zero, suc, ◌≤◌, ◌+◌, List, [], ◌∷◌, ◌++◌, length, take, drop, refl, sym, subst, ap, ◌∙◌, arith, append_assoc, length-append}
 use Rattle.std.specs.Prelude.{Option, IsFalse}
+use Rattle.std.proofs.lemmas.List.{length-take-le, take-append-drop}
 use Rattle.vx_fn.specs.Functions.{and_also}
 use Rattle.vx_tree.specs.Trees.{BoundTree}
 use Rattle.vx_rewrite_fusing.specs.declared.places.Place.{Place}
 use Rattle.vx_rewrite_fusing.specs.Conjuncts.{and_node, and_of, is_and, conjuncts}
-use Rattle.vx_rewrite_fusing.specs.Finding.{joined, IsBinary}
+use Rattle.vx_rewrite_fusing.specs.Finding.{conjoined, IsBinary}
 use Rattle.vx_rewrite_fusing.specs.Places.{turned, Has, Holds, both, IsWithin, NoPair}
 use Rattle.vx_rewrite_fusing.specs.Sides.{both_merged, HoldBoth, IsLeft, IsRight, MergedLeft, MergedRight}
 use Rattle.vx_rewrite_fusing.proofs.Holding.{both_places, has_first, has_second, has_either, holds_count}
@@ -23,11 +24,6 @@ single_list rs r a e = go rs (e ∙ ap length (alone r a))
     go (p ∷ q ∷ rs) e = absurd (omega arith)
 
 -- ---- those of two trees
-
-split_list : (n : ℕ) (rs : List Place) → n ≤ length rs → (rs ≡ take n rs ++ drop n rs) × (length (take n rs) ≡ n)
-split_list zero rs l = (refl, refl)
-split_list (suc n) [] l = absurd (omega arith)
-split_list (suc n) (r ∷ rs) l = let h = split_list n rs (omega arith) in (ap (λ z. r ∷ z) h.0, (let e : length (take n rs) ≡ n = h.1 in omega arith))
 
 same_split : (xs us ys vs : List Place) → xs ++ ys ≡ us ++ vs → length xs ≡ length us → (xs ≡ us) × (ys ≡ vs)
 same_split [] [] ys vs e l = (refl, e)
@@ -50,7 +46,7 @@ module _ (ps : List Place) {x y r : BoundTree} (b : IsBinary and_also x y r) (co
   firsts = drop (length (conjuncts y)) ps
 
   pub split : (ps ≡ seconds ++ firsts) × (length seconds ≡ length (conjuncts y))
-  split = split_list (length (conjuncts y)) ps (omega (arith, count, counted))
+  split = (sym (take-append-drop (length (conjuncts y)) ps), length-take-le (length (conjuncts y)) ps (omega (arith, count, counted)))
 
   pub firsts_count : length firsts ≡ length (conjuncts x)
   firsts_count = omega (arith, count, counted, ap length split.0, length-append seconds firsts, split.1)
@@ -61,7 +57,7 @@ module _ (ps : List Place) {x y r : BoundTree} (b : IsBinary and_also x y r) (co
     pub second : Option BoundTree
     pub on_first : Holds x firsts first
     pub on_second : Holds y seconds second
-    pub whole : o ≡ joined first second
+    pub whole : o ≡ conjoined first second
     pub typed : and_node b.0 x y ≡ and_of x y
 
   pub children_hold : {o : Option BoundTree} → Holds r ps o → ChildrenHold o
@@ -77,8 +73,8 @@ module _ (ps : List Place) {x y r : BoundTree} (b : IsBinary and_also x y r) (co
         typed = sym b.1 ∙ p.whole;
       }
 
-  pub hold_children : (xs ys : List Place) (u v : Option BoundTree) → and_node b.0 x y ≡ and_of x y → Holds x xs u → Holds y ys v → Holds r (ys ++ xs) (joined u v)
-  hold_children xs ys u v typed f g = subst (λ z. Holds z (ys ++ xs) (joined u v)) (sym b.1) (both {t = b.0} typed f g)
+  pub hold_children : (xs ys : List Place) (u v : Option BoundTree) → and_node b.0 x y ≡ and_of x y → Holds x xs u → Holds y ys v → Holds r (ys ++ xs) (conjoined u v)
+  hold_children xs ys u v typed f g = subst (λ z. Holds z (ys ++ xs) (conjoined u v)) (sym b.1) (both {t = b.0} typed f g)
 
 -- ---- the children of a right tree
 

@@ -4,6 +4,7 @@ use Rattle.std.specs.Prelude.{Ok, Some}
 use Rattle.vx_value.specs.Types.{LogicalType}
 use Rattle.vx_fn.specs.Functions.{Function, fn_type}
 use Rattle.vx_dtype.specs.Lists.{IsIn}
+use Rattle.vx_dtype.proofs.Lists.{in_left, in_right}
 use Rattle.vx_tree.specs.Trees.{BoundTree, node, BoundTrees, bound, node_types, WellTyped, EachWellTyped}
 use Rattle.vx_rewrite_keep.specs.Steps.{Step, here, below, OneStep, this_one, later_one, no_step, one_more}
 use Rattle.vx_rewrite_keep.proofs.Stepping.{step_keeps, one_step_keeps}
@@ -11,7 +12,7 @@ use Rattle.vx_rewrite_keep.proofs.Keeping.{each_typed_after}
 use Rattle.vx_rewrite_fusing.specs.Conjuncts.{and_of, is_and, conjuncts, from_below, from_above, between_node, MergeTo, below_and_above, above_and_below, Mergeable, NoneMergeable, Fused, FusedBelow}
 use Rattle.vx_rewrite_fusing.specs.Merging.{Replaced, itself, on_left, on_right, Removed, left_gone, right_gone, from_left, from_right, MergeAt, right_stays, right_goes, Merges}
 use Rattle.vx_rewrite_fusing.specs.Laws.{FusingIsUnique}
-use Rattle.vx_rewrite_fusing.proofs.Merges.{in_first, in_second, in_own, replaced_from, removed_from, merge_keeps, same_ok, one_step_types, fused_no_step, fused_no_steps, fused_steps}
+use Rattle.vx_rewrite_fusing.proofs.Merges.{in_own, replaced_from, removed_from, merge_keeps, same_ok, one_step_types, fused_no_step, fused_no_steps, fused_steps}
 
 -- ---- a merge at an And is fixed
 
@@ -38,10 +39,10 @@ not_among : {d : BoundTree} (cs back : List BoundTree) → NoneMergeable cs back
 not_among {d = d} cs back none p i = none p.0 d p.1 i p.2
 
 none_behind : (cs xs ys : List BoundTree) → NoneMergeable cs (xs ++ ys) → NoneMergeable cs ys
-none_behind cs xs ys none c d i j k = none c d i (in_second d xs ys j) k
+none_behind cs xs ys none c d i j k = none c d i (in_right d xs ys j) k
 
 none_of_rest : (xs ys ds : List BoundTree) → NoneMergeable (xs ++ ys) ds → NoneMergeable ys ds
-none_of_rest xs ys ds none c d i j k = none c d (in_second c xs ys i) j k
+none_of_rest xs ys ds none c d i j k = none c d (in_right c xs ys i) j k
 
 removed_is_and : {d r u : BoundTree} {back : List BoundTree} → Removed d back r u → is_and r ≡ true
 removed_is_and (left_gone e) = refl
@@ -56,7 +57,7 @@ removed_unique : {d d' r u u' : BoundTree} {back back' : List BoundTree} (cs : L
 removed_unique cs (left_gone e) (left_gone f) n n' p p' = (refl, refl)
 removed_unique {d = d} cs (left_gone e) (right_gone f) n n' p p' = absurd (not_among cs (conjuncts d) n' p (in_own d e))
 removed_unique cs (left_gone e) (from_left q) n n' p p' = not_removed q e
-removed_unique {d = d} cs (left_gone e) (from_right {front = front} q) n n' p p' = absurd (not_among cs (conjuncts d ++ front) n' p (in_first d (conjuncts d) front (in_own d e)))
+removed_unique {d = d} cs (left_gone e) (from_right {front = front} q) n n' p p' = absurd (not_among cs (conjuncts d ++ front) n' p (in_left d (conjuncts d) front (in_own d e)))
 removed_unique {d' = d'} cs (right_gone e) (left_gone f) n n' p p' = absurd (not_among cs (conjuncts d') n p' (in_own d' f))
 removed_unique cs (right_gone e) (right_gone f) n n' p p' = (refl, refl)
 removed_unique cs (right_gone {l = l} e) (from_left q) n n' p p' = absurd (not_among cs (conjuncts l) n p' (removed_from q))
@@ -64,10 +65,10 @@ removed_unique cs (right_gone e) (from_right q) n n' p p' = not_removed q e
 removed_unique cs (from_left o) (left_gone f) n n' p p' = not_removed o f
 removed_unique cs (from_left o) (right_gone {l = l} f) n n' p p' = absurd (not_among cs (conjuncts l) n' p (removed_from o))
 removed_unique cs (from_left {r = r} o) (from_left q) n n' p p' = let s = removed_unique cs o q n n' p p' in (s.0, ap (λ x. and_of x r) s.1)
-removed_unique {d = d} cs (from_left {l = l} o) (from_right {front = front} q) n n' p p' = absurd (not_among cs (conjuncts l ++ front) n' p (in_first d (conjuncts l) front (removed_from o)))
-removed_unique {d' = d'} cs (from_right {front = front} o) (left_gone f) n n' p p' = absurd (not_among cs (conjuncts d' ++ front) n p' (in_first d' (conjuncts d') front (in_own d' f)))
+removed_unique {d = d} cs (from_left {l = l} o) (from_right {front = front} q) n n' p p' = absurd (not_among cs (conjuncts l ++ front) n' p (in_left d (conjuncts l) front (removed_from o)))
+removed_unique {d' = d'} cs (from_right {front = front} o) (left_gone f) n n' p p' = absurd (not_among cs (conjuncts d' ++ front) n p' (in_left d' (conjuncts d') front (in_own d' f)))
 removed_unique cs (from_right o) (right_gone f) n n' p p' = not_removed o f
-removed_unique {d' = d'} cs (from_right {l = l} {front = front} o) (from_left q) n n' p p' = absurd (not_among cs (conjuncts l ++ front) n p' (in_first d' (conjuncts l) front (removed_from q)))
+removed_unique {d' = d'} cs (from_right {l = l} {front = front} o) (from_left q) n n' p p' = absurd (not_among cs (conjuncts l ++ front) n p' (in_left d' (conjuncts l) front (removed_from q)))
 removed_unique cs (from_right {l = l} {front = front} o) (from_right {front = front'} q) n n' p p' =
     let s = removed_unique cs o q (none_behind cs (conjuncts l) front n) (none_behind cs (conjuncts l) front' n') p p' in
     (s.0, ap (λ x. and_of l x) s.1)
@@ -82,8 +83,8 @@ replaced_unique d (itself e) (on_right q) k k' n n' = cc
 replaced_unique d (on_left o) (itself f) k k' n n' = cc
 replaced_unique d (on_right o) (itself f) k k' n n' = cc
 replaced_unique d (on_left {r = r} o) (on_left q) k k' n n' = ap (λ x. and_of x r) (replaced_unique d o q k k' n n')
-replaced_unique {c = c} d (on_left {l = l} o) (on_right {front = front} q) k k' n n' = absurd (met (conjuncts l ++ front) k n' (in_first c (conjuncts l) front (replaced_from o)))
-replaced_unique {c' = c'} d (on_right {l = l} {front = front} o) (on_left q) k k' n n' = absurd (met (conjuncts l ++ front) k' n (in_first c' (conjuncts l) front (replaced_from q)))
+replaced_unique {c = c} d (on_left {l = l} o) (on_right {front = front} q) k k' n n' = absurd (met (conjuncts l ++ front) k n' (in_left c (conjuncts l) front (replaced_from o)))
+replaced_unique {c' = c'} d (on_right {l = l} {front = front} o) (on_left q) k k' n n' = absurd (met (conjuncts l ++ front) k' n (in_left c' (conjuncts l) front (replaced_from q)))
 replaced_unique d (on_right {l = l} {front = front} o) (on_right {front = front'} q) k k' n n' =
     ap (λ x. and_of l x) (replaced_unique d o q k k' (none_of_rest (conjuncts l) front (d ∷ []) n) (none_of_rest (conjuncts l) front' (d ∷ []) n'))
 

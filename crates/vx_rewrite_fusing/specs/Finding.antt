@@ -1,4 +1,4 @@
--- What the steps of `find_between` answer.
+-- What the steps of `find_between` answer. No public contract names this file: it is for the contracts of the steps within the crate.
 use Rattle.std.specs.Prelude.{◌≡◌, ℕ, zero, suc, List, [], ◌∷◌, Option, Some, None, Result, Ok, Err, Bool, IsFalse, option_map}
 use Rattle.std.specs.declared.alloc.Global.{Global}
 use Rattle.std.specs.declared.boxed.Box.{Box}
@@ -87,10 +87,10 @@ conjuncts_left None = []
 conjuncts_left (Some r) = conjuncts r
 
 -- the And of what is left of two trees, or the one of which something is
-abbrev pub joined : Option BoundTree → Option BoundTree → Option BoundTree
-joined None r = r
-joined (Some l) None = Some l
-joined (Some l) (Some r) = Some (and_of l r)
+abbrev pub conjoined : Option BoundTree → Option BoundTree → Option BoundTree
+conjoined None r = r
+conjoined (Some l) None = Some l
+conjoined (Some l) (Some r) = Some (and_of l r)
 
 -- and no pair is left
 pub record PairsMerged (l r u : BoundTree) (rest : Option BoundTree) : Type 0 where
@@ -99,8 +99,8 @@ pub record PairsMerged (l r u : BoundTree) (rest : Option BoundTree) : Type 0 wh
 
 -- the pairs of l and y are merged, or there are none, and what is left of y stands behind `right`
 pub data MergesSecond (l : BoundTree) (right : Option BoundTree) (y u : BoundTree) : Option BoundTree → Type 0 where
-  with_pairs : {rest : Option BoundTree} → PairsMerged l y u rest → MergesSecond l right y u (joined right rest)
-  without_pairs : u ≡ l → NoneMergeable (conjuncts l) (conjuncts y) → MergesSecond l right y u (joined right (Some y))
+  with_pairs : {rest : Option BoundTree} → PairsMerged l y u rest → MergesSecond l right y u (conjoined right rest)
+  without_pairs : u ≡ l → NoneMergeable (conjuncts l) (conjuncts y) → MergesSecond l right y u (conjoined right (Some y))
 
 -- ---- what is fused of conjuncts
 

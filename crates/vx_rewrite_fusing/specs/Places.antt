@@ -1,4 +1,4 @@
--- The conjuncts of a tree while pairs are merged, and where the ranges of an item stand.
+-- The conjuncts of a tree while pairs are merged, and where the ranges of an item stand. No public contract names this file.
 use Rattle.std.specs.Prelude.{◌≡◌, ◌⊎◌, ℕ, zero, suc, ◌<◌, ◌≤◌, List, [], ◌∷◌, ◌++◌, Option, Some, None, Result, Ok, Err, Bool, true, false, IsFalse, IsTrue, option_map, length, set, slice_get}
 use Rattle.std.specs.HashMap.{HashMap, get_by}
 use Rattle.std.specs.declared.alloc.Global.{Global}
@@ -21,9 +21,15 @@ use Rattle.vx_rewrite_fusing.specs.declared.ranges.RangeComparison.{RangeCompari
 use Rattle.vx_rewrite_fusing.specs.declared.ranges.Side.{Side}
 use Rattle.vx_rewrite_fusing.specs.declared.ranges.Side.TheVariants.{Below, Above}
 use Rattle.vx_rewrite_fusing.specs.Conjuncts.{and_node, and_of, is_and, range_of, MergeTo}
-use Rattle.vx_rewrite_fusing.specs.Finding.{range_seen, tree_in, joined}
+use Rattle.vx_rewrite_fusing.specs.Finding.{range_seen, tree_in, conjoined}
 
 -- ---- the ranges of an item
+
+-- what is read of the element at an index, if there is one
+abbrev pub read_at : {A B : Type 0} → (A → Option B) → List A → ℕ → Option B
+read_at f [] i = None
+read_at f (x ∷ xs) zero = f x
+read_at f (x ∷ xs) (suc i) = read_at f xs i
 
 -- the other side
 abbrev pub opposite : Side → Side
@@ -44,9 +50,7 @@ bounded_by (Open r link) = Some (r.side, bound_of r.item.now)
 bounded_by p = None
 
 abbrev pub bounded_at : List Place → ℕ → Option Bounded
-bounded_at [] i = None
-bounded_at (p ∷ ps) zero = bounded_by p
-bounded_at (p ∷ ps) (suc i) = bounded_at ps i
+bounded_at = read_at bounded_by
 
 -- the place that is kept as the next one
 abbrev pub next_of : Place → Option ℕ
@@ -54,9 +58,7 @@ next_of (Open r link) = link.next
 next_of p = None
 
 abbrev pub next_at : List Place → ℕ → Option ℕ
-next_at [] i = None
-next_at (p ∷ ps) zero = next_of p
-next_at (p ∷ ps) (suc i) = next_at ps i
+next_at = read_at next_of
 
 -- the last place below n at which k is bounded, if there is one
 abbrev pub IsLast : List Place → Bounded → ℕ → Option ℕ → Type 0
@@ -78,9 +80,7 @@ first_of f Above = f.above
 
 -- the same of a number, if there is one
 abbrev pub first_at : List Firsts → Side → ℕ → Option ℕ
-first_at [] s n = None
-first_at (f ∷ fs) s zero = first_of f s
-first_at (f ∷ fs) s (suc n) = first_at fs s n
+first_at fs s = read_at (λ f. first_of f s) fs
 
 abbrev pub first_by : List Firsts → Side → Option ℕ → Option ℕ
 first_by fs s None = None
@@ -146,7 +146,7 @@ pub data Holds : BoundTree → List Place → Option BoundTree → Type 0 where
   open_range : {c : BoundTree} {r : RangeComparison} {next : Link} → IsFalse (is_and c) → range_of c ≡ Some (range_seen r) → Holds c (Open r next ∷ []) (Some c)
   merged_range : {c : BoundTree} {b : Box BoundExpression Global} → IsFalse (is_and c) → IsFalse (is_and (tree_in b)) → range_of (tree_in b) ≡ None → Holds c (Merged b ∷ []) (Some (tree_in b))
   gone_range : {c : BoundTree} → IsFalse (is_and c) → Holds c (Gone ∷ []) None
-  both : {t : LogicalType} {l r : BoundTree} {l' r' : Option BoundTree} {ls rs : List Place} → and_node t l r ≡ and_of l r → Holds l ls l' → Holds r rs r' → Holds (and_node t l r) (rs ++ ls) (joined l' r')
+  both : {t : LogicalType} {l r : BoundTree} {l' r' : Option BoundTree} {ls rs : List Place} → and_node t l r ≡ and_of l r → Holds l ls l' → Holds r rs r' → Holds (and_node t l r) (rs ++ ls) (conjoined l' r')
 
 -- what is kept of a conjunct with that range
 abbrev pub IsPlaceOf : Option RangeComparison → Place → Type 0
@@ -164,9 +164,9 @@ rests (Some o) = Some (option_map tree_in o)
 
 -- what is left of an And, by what is left of its children
 abbrev pub rest_of : BoundTree → Option (Option BoundTree) → BoundTree → Option (Option BoundTree) → Option (Option BoundTree)
-rest_of x (Some l) y (Some r) = Some (joined l r)
-rest_of x (Some l) y None = Some (joined l (Some y))
-rest_of x None y (Some r) = Some (joined (Some x) r)
+rest_of x (Some l) y (Some r) = Some (conjoined l r)
+rest_of x (Some l) y None = Some (conjoined l (Some y))
+rest_of x None y (Some r) = Some (conjoined (Some x) r)
 rest_of x None y None = None
 
 -- what is left of a tree is told: None where it is the tree, and something changed where it isn't None

@@ -1,11 +1,11 @@
--- The pairs of the two sides of an And merged, by functions of trees and by the places of conjuncts.
+-- The pairs of the two sides of an And merged, by functions of trees and by the places of conjuncts. No public contract names this file.
 use Rattle.std.specs.Prelude.{◌≡◌, ℕ, List, ◌++◌, Option, Some, None, false, length, if◌then◌else◌}
 use Rattle.vx_tree.specs.Equality.{equal_bound}
 use Rattle.vx_fn.specs.Functions.{binary, and_also}
 use Rattle.vx_tree.specs.Trees.{BoundTree, node, bound, no_bound}
 use Rattle.vx_rewrite_fusing.specs.declared.places.Place.{Place}
 use Rattle.vx_rewrite_fusing.specs.Conjuncts.{and_of, between_node, conjuncts, Range, from_below, from_above, range_of, Fused}
-use Rattle.vx_rewrite_fusing.specs.Finding.{joined}
+use Rattle.vx_rewrite_fusing.specs.Finding.{conjoined}
 use Rattle.vx_rewrite_fusing.specs.Merging.{IsFusedOf}
 use Rattle.vx_rewrite_fusing.specs.Places.{has_merged, Holds, IsWithin, NoPair}
 
@@ -38,7 +38,7 @@ abbrev pub merged_with : BoundTree → BoundTree → BoundTree × Option BoundTr
 merged_with l (node t (binary and_also) (bound x (bound y no_bound))) =
     let first = merged_with l x in
     let second = merged_with first.0 y in
-    (second.0, joined first.1 second.1)
+    (second.0, conjoined first.1 second.1)
 merged_with l d = after_single l d (with_merged d l)
 
 -- the same where nothing may be left of one of them

@@ -53,10 +53,8 @@ pub(crate) fn merge_conjuncts(
 {
     let mut places = Places::new(alloc);
     merge_tree(alloc, &mut places, b)?;
-    match left_over(alloc, b, &mut places.list)? {
-        Some(left) => Ok(left),
-        None => Ok(None),
-    }
+    let left = left_over(alloc, b, &mut places.list)?;
+    Ok(left.flatten())
 }
 
 // Notes the conjuncts of the tree, in front of those that are there, and merges the pairs of each of

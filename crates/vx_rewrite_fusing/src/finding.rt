@@ -1,4 +1,4 @@
-// The whole of range fusing: children first, then the pairs at the root.
+// Range fusing at every node: children first, since what they become decides which pairs the node has.
 ghost use Rattle.std.specs.Prelude.{◌≡◌, ℕ, IsSome, List, ◌∷◌, ◌++◌, [], None, Ok, Some, IfErr, IfOk, MatchOption, option_map};
 ghost use Rattle.vx_dtype.specs.declared.error.VortexError.TheVariants.{OutOfMemory};
 ghost use Rattle.vx_rewrite_keep.specs.Keeps.{Keeps};
@@ -16,7 +16,6 @@ use crate::merge::merge_root;
 use crate::nodes::{and_of, as_and, with_left, with_right};
 use crate::ranges::Side;
 use std::alloc::{AllocError, Global};
-use std::rc::Rc;
 use vx_tree::{BoundExpression, VortexError, VortexResult};
 
 /// The tree with each two range comparisons of one item in a conjunction as one `Between`.
@@ -311,14 +310,9 @@ fn with_fused(
             scalar_fn,
             ..
         } => {
-            let children = Rc::new(alloc, children)?;
             let dtype = dtype.clone()?;
             let scalar_fn = scalar_fn.clone()?;
-            Ok(BoundExpression::Scalar {
-                dtype,
-                scalar_fn,
-                children,
-            })
+            BoundExpression::new_typed(alloc, dtype, scalar_fn, children)
         }
         BoundExpression::Root { dtype } => Ok(BoundExpression::Root {
             dtype: dtype.clone()?,

@@ -7,10 +7,10 @@ ghost use Rattle.vx_fn.specs.Functions.{and_also};
 ghost use Rattle.vx_tree.specs.Trees.{BoundTree};
 ghost use Rattle.vx_tree.specs.Views.{bound_of};
 ghost use Rattle.vx_rewrite_fusing.specs.Conjuncts.{conjuncts, is_and, range_of, Fused, FusedBelow, Mergeable, MergeTo, NoneMergeable};
-ghost use Rattle.vx_rewrite_fusing.specs.Finding.{Finds, joined, range_seen, tree_in, IsBinary, LeftMerged, MergesSecond, PairsMerged};
+ghost use Rattle.vx_rewrite_fusing.specs.Finding.{Finds, conjoined, range_seen, tree_in, IsBinary, LeftMerged, MergesSecond, PairsMerged};
 ghost use Rattle.vx_rewrite_fusing.specs.Merging.{IsFusedOf};
 
-use crate::nodes::{and_of, as_and, boxed, joined, with_left, with_right};
+use crate::nodes::{and_of, as_and, boxed, conjoined, with_left, with_right};
 use crate::ranges::{RangeComparison, merged, range_of};
 use std::alloc::Global;
 use vx_tree::{BoundExpression, VortexResult};
@@ -125,7 +125,7 @@ fn merge_second(alloc: Global, before: Merged, second: &BoundExpression) -> Vort
 // what is left of the first stands in front of the second.
 fn in_front(alloc: Global, merged: Merged, second: &BoundExpression) -> VortexResult<Merged>
     ensures left { IfOk result (λ m. bound_of m.left.value ≡ bound_of merged.left.value) }
-    ensures right { IfOk result (λ m. option_map tree_in m.right ≡ joined (option_map tree_in merged.right) (Some (bound_of second.now))) }
+    ensures right { IfOk result (λ m. option_map tree_in m.right ≡ conjoined (option_map tree_in merged.right) (Some (bound_of second.now))) }
     ensures memory { IfErr result (λ e. e ≡ OutOfMemory) }
 {
     let (merged, second) = boxed(alloc, second).map(|second| (merged, second))?;
@@ -136,7 +136,7 @@ fn in_front(alloc: Global, merged: Merged, second: &BoundExpression) -> VortexRe
 // what is left of the second stands behind the first.
 fn behind(alloc: Global, first: &BoundExpression, merged: Merged) -> VortexResult<Merged>
     ensures left { IfOk result (λ m. bound_of m.left.value ≡ bound_of merged.left.value) }
-    ensures right { IfOk result (λ m. option_map tree_in m.right ≡ joined (Some (bound_of first.now)) (option_map tree_in merged.right)) }
+    ensures right { IfOk result (λ m. option_map tree_in m.right ≡ conjoined (Some (bound_of first.now)) (option_map tree_in merged.right)) }
     ensures memory { IfErr result (λ e. e ≡ OutOfMemory) }
 {
     let (first, merged) = boxed(alloc, first).map(|first| (first, merged))?;
@@ -151,10 +151,10 @@ fn rejoined(
     second: Option<Box<BoundExpression>>,
 ) -> VortexResult<Merged>
     ensures left { IfOk result (λ m. bound_of m.left.value ≡ bound_of left.value) }
-    ensures right { IfOk result (λ m. option_map tree_in m.right ≡ joined (option_map tree_in first) (option_map tree_in second)) }
+    ensures right { IfOk result (λ m. option_map tree_in m.right ≡ conjoined (option_map tree_in first) (option_map tree_in second)) }
     ensures memory { IfErr result (λ e. e ≡ OutOfMemory) }
 {
-    joined(alloc, first, second).map(|right| Merged { left, right })
+    conjoined(alloc, first, second).map(|right| Merged { left, right })
 }
 
 // The tree with the pairs at its root merged, which are the only ones.

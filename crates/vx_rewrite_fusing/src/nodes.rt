@@ -6,10 +6,9 @@ ghost use Rattle.vx_fn.specs.Views.{function_of, operation_of};
 ghost use Rattle.vx_tree.specs.Trees.{node};
 ghost use Rattle.vx_tree.specs.Views.{bound_of, bounds_of};
 ghost use Rattle.vx_rewrite_fusing.specs.Conjuncts.{and_of, is_and};
-ghost use Rattle.vx_rewrite_fusing.specs.Finding.{joined, tree_in, IsBinary, IsOther};
+ghost use Rattle.vx_rewrite_fusing.specs.Finding.{conjoined, tree_in, IsBinary, IsOther};
 
 use std::alloc::{AllocError, Global};
-use std::rc::Rc;
 use vx_tree::{BoundExpression, DType, Nullability, Operator, ScalarFnRef, VortexResult};
 
 // The operator and the operands of a binary node, if it has two.
@@ -76,17 +75,17 @@ pub(crate) fn conjuncts_in(b: &BoundExpression, limit: usize) -> usize
 
 // A node of a function that gives truth values, which the caller knows to be of that type.
 pub(crate) fn truth_node(
+    alloc: Global,
     scalar_fn: ScalarFnRef,
     nullable: bool,
-    children: Rc<Vec<BoundExpression>>,
-) -> BoundExpression
-    ensures { bound_of result ≡ node (truth_type nullable) (function_of scalar_fn) (bounds_of children.value.items) }
+    children: Vec<BoundExpression>,
+) -> VortexResult<Box<BoundExpression>>
+    ensures node { IfOk result (λ b. bound_of b.value ≡ node (truth_type nullable) (function_of scalar_fn) (bounds_of children.items)) }
+    ensures memory { IfErr result (λ e. e ≡ OutOfMemory) }
 {
-    BoundExpression::Scalar {
-        dtype: DType::Bool(Nullability::of(nullable)),
-        scalar_fn,
-        children,
-    }
+    let dtype = DType::Bool(Nullability::of(nullable));
+    let made = BoundExpression::new_typed(alloc, dtype, scalar_fn, children)?;
+    Ok(Box::new(alloc, made)?)
 }
 
 // The And of the two.
@@ -100,9 +99,8 @@ pub(crate) fn and_of(
     ensures memory { IfErr result (λ e. e ≡ OutOfMemory) }
 {
     let nullable = l.dtype().is_nullable() || r.dtype().is_nullable();
-    let children = Rc::new(alloc, vec![in alloc; l, r]?)?;
     let and = ScalarFnRef::Binary(Operator::And);
-    Ok(Box::new(alloc, truth_node(and, nullable, children))?)
+    truth_node(alloc, and, nullable, vec![in alloc; l, r]?)
 }
 
 // The And of a new left child and the old right one.
@@ -134,12 +132,12 @@ pub(crate) fn with_right(
 }
 
 // The And of what is left of two trees, or the one of which something is.
-pub(crate) fn joined(
+pub(crate) fn conjoined(
     alloc: Global,
     l: Option<Box<BoundExpression>>,
     r: Option<Box<BoundExpression>>,
 ) -> VortexResult<Option<Box<BoundExpression>>>
-    ensures joined { IfOk result (λ o. option_map tree_in o ≡ joined (option_map tree_in l) (option_map tree_in r)) }
+    ensures conjoined { IfOk result (λ o. option_map tree_in o ≡ conjoined (option_map tree_in l) (option_map tree_in r)) }
     ensures memory { IfErr result (λ e. e ≡ OutOfMemory) }
 {
     match (l, r) {

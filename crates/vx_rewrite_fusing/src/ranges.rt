@@ -10,7 +10,6 @@ ghost use Rattle.vx_rewrite_fusing.specs.Places.{opposite};
 
 use crate::nodes::{as_binary, truth_node};
 use std::alloc::Global;
-use std::rc::Rc;
 use vx_tree::{
     BetweenOptions, BoundExpression, GetItem, Literal, Operator, ScalarFnRef, StrictComparison,
     VortexResult,
@@ -105,9 +104,7 @@ fn between(
     children.push(item.clone()?)?;
     children.push(lower.bound.clone()?)?;
     children.push(upper.bound.clone()?)?;
-    let children = Rc::new(alloc, children)?;
-    let between = ScalarFnRef::Between(options);
-    Ok(Box::new(alloc, truth_node(between, nullable, children))?)
+    truth_node(alloc, ScalarFnRef::Between(options), nullable, children)
 }
 
 // The same, if the items are equal; to find out takes no memory. Items are compared by their names

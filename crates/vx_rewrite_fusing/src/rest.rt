@@ -7,7 +7,7 @@ ghost use Rattle.vx_rewrite_fusing.specs.Finding as spec;
 ghost use Rattle.vx_rewrite_fusing.specs.Places.{became_place, has_merged, rest_of, rests, Holds, IsLeftOver};
 ghost use Rattle.vx_rewrite_fusing.specs.declared.places.Place.{Place};
 
-use crate::nodes::{as_and, boxed, joined};
+use crate::nodes::{as_and, boxed, conjoined};
 use crate::places::Place;
 use std::alloc::Global;
 use vx_tree::{BoundExpression, VortexResult};
@@ -53,7 +53,7 @@ fn rest_after(
     ensures memory { IfErr result (λ e. e ≡ OutOfMemory) }
 {
     match (before, after) {
-        (Some(before), Some(after)) => Ok(Some(joined(alloc, before, after)?)),
+        (Some(before), Some(after)) => Ok(Some(conjoined(alloc, before, after)?)),
         (Some(before), None) => Ok(Some(in_front(alloc, before, second)?)),
         (None, Some(after)) => Ok(Some(behind(alloc, first, after)?)),
         (None, None) => Ok(None),
@@ -66,11 +66,11 @@ fn in_front(
     before: Option<Box<BoundExpression>>,
     second: &BoundExpression,
 ) -> VortexResult<Option<Box<BoundExpression>>>
-    ensures rest { IfOk result (λ o. option_map tree_in o ≡ spec.joined (option_map tree_in before) (Some (bound_of second.now))) }
+    ensures rest { IfOk result (λ o. option_map tree_in o ≡ spec.conjoined (option_map tree_in before) (Some (bound_of second.now))) }
     ensures memory { IfErr result (λ e. e ≡ OutOfMemory) }
 {
     let (before, second) = boxed(alloc, second).map(|second| (before, second))?;
-    joined(alloc, before, Some(second))
+    conjoined(alloc, before, Some(second))
 }
 
 // The whole first child, and what is left of the second one.
@@ -79,9 +79,9 @@ fn behind(
     first: &BoundExpression,
     after: Option<Box<BoundExpression>>,
 ) -> VortexResult<Option<Box<BoundExpression>>>
-    ensures rest { IfOk result (λ o. option_map tree_in o ≡ spec.joined (Some (bound_of first.now)) (option_map tree_in after)) }
+    ensures rest { IfOk result (λ o. option_map tree_in o ≡ spec.conjoined (Some (bound_of first.now)) (option_map tree_in after)) }
     ensures memory { IfErr result (λ e. e ≡ OutOfMemory) }
 {
     let (first, after) = boxed(alloc, first).map(|first| (first, after))?;
-    joined(alloc, Some(first), after)
+    conjoined(alloc, Some(first), after)
 }

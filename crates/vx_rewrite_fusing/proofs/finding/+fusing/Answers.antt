@@ -4,9 +4,10 @@ use Rattle.vx_dtype.specs.declared.error.VortexError.TheVariants.{OutOfMemory}
 use Rattle.vx_tree.specs.Nodes.{bound_children_of, size_of, sizes_of}
 use Rattle.vx_tree.specs.Trees.{bound, no_bound, unbound, unbound_each, WellTyped, EachWellTyped}
 use Rattle.vx_tree.specs.Views.{bound_of, bounds_of}
+use Rattle.vx_tree.proofs.Children.{children_typed, children_smaller}
 use Rattle.vx_rewrite_fusing.specs.Conjuncts.{EachFused}
 use Rattle.vx_rewrite_fusing.specs.Finding.{EachFusedOf, none_fused, FirstChanged}
-use Rattle.vx_rewrite_fusing.proofs.Children.{children_typed, children_fused, fused_children, children_smaller, bounds_of-append, bounds_of-take_more, all_fused, each_joined, item_fused, item_typed, item_smaller, first_changed, changed_inside, changed_unfused, drop_typed, drop_smaller, each_from, with_more, put_fused}
+use Rattle.vx_rewrite_fusing.proofs.Children.{children_fused, fused_children, bounds_of-append, bounds_of-take_more, all_fused, each_joined, item_fused, item_typed, item_smaller, first_changed, changed_inside, changed_unfused, drop_typed, drop_smaller, each_from, with_more, put_fused}
 use Rattle.vx_rewrite_fusing.proofs.Refusals.{failed, spent}
 use Rattle.vx_rewrite_fusing.proofs.Apart.{apart_then, apart_typed, conjuncts_apart, found_both, found_single, fused_apart}
 use Rattle.vx_rewrite_fusing.proofs.Binaries.{left_smaller, right_smaller}
