@@ -1,4 +1,4 @@
--- The first refusal of a closure that annotates nodes.
+-- The refusals of a closure that annotates nodes, and the first of them.
 use Rattle.std.specs.Prelude.{◌≡◌, ◌⊎◌, Bool, List, [], ◌∷◌, Option, None, Some, IfSome, Result, Ok, Err, IsOkAnd, MatchResult, Vec}
 use Rattle.std.specs.Borrow.{Bor}
 use Rattle.std.specs.HashMap.{HashMap}
@@ -16,6 +16,10 @@ use Rattle.vx_rewrite_analysis.specs.Keys.{key_of, entry_at}
 abbrev pub SaysBy : {A Z : Type 0} → (A → A → Bool) → (Bor BoundExpression → Result (Vec A Z) VortexError → Type 0) → (BoundTree → Result (List A) VortexError) → Type 0
 SaysBy {A} {Z} eq post said = (x : Bor BoundExpression) (r : Result (Vec A Z) VortexError) → post x r
     → MatchResult r (λ v. IsOkAnd (said (bound_of x.now)) (SameAnnotations eq v.items)) (λ y. (y ≡ OutOfMemory) ⊎ (said (bound_of x.now) ≡ Err y))
+
+-- memory ran out, or the closure refuses so at one of these nodes
+abbrev pub IsRefusalOf : {A Z : Type 0} → (Bor BoundExpression → Result (Vec A Z) VortexError → Type 0) → (BoundTree → Type 0) → VortexError → Type 0
+IsRefusalOf post Here y = (y ≡ OutOfMemory) ⊎ ((x : Bor BoundExpression) × Here (bound_of x.now) × post x (Err y))
 
 module _ {A : Type 0} where
   -- the refusal that is met: a node's own; none where it has answers; else that below it
@@ -38,3 +42,12 @@ module _ {A : Type 0} where
     -- at and below the node of each entry no refusal is met
     abbrev pub IsUnrefused : {X S : Type 0} → HashMap ExactBoundExpr X S → Type 0
     IsUnrefused m = (k : ExactBoundExpr) → IfSome (entry_at (key_of k) m) (λ x. first_refusal (key_of k) ≡ None)
+
+module _ {A Z : Type 0} (eq : A → A → Bool) (post : Bor BoundExpression → Result (Vec A Z) VortexError → Type 0) (b : BoundTree) where
+  -- memory ran out, or it is the first refusal that is met, by whatever the closure says
+  abbrev pub IsFirstRefusal : VortexError → Type 0
+  IsFirstRefusal y = (said : BoundTree → Result (List A) VortexError) → SaysBy eq post said → (y ≡ OutOfMemory) ⊎ (first_refusal said b ≡ Some y)
+
+  -- no refusal is met, by whatever the closure says
+  abbrev pub MeetsNoRefusal : Type 0
+  MeetsNoRefusal = (said : BoundTree → Result (List A) VortexError) → SaysBy eq post said → first_refusal said b ≡ None
