@@ -1,13 +1,12 @@
 -- What a tree's split by the fields of its scope may be asked for.
-use Rattle.std.proofs.Common.{◌≡◌, ◌⊎◌, ◌∙◌, inl, inr, Bool, true, false, List, length, Option, None, Some, Err, rules, sym, true≢false}
-use Rattle.std.specs.Prelude.{is_some, IsTrue}
+use Rattle.std.proofs.Common.{◌≡◌, ◌⊎◌, ◌∙◌, inl, inr, Bool, true, false, List, length, Option, Some, Err, rules, sym, true≢false}
 use Rattle.std.specs.Cmp.Rules.{comparing}
 use Rattle.std.specs.Str.{bytes_eq}
 use Rattle.vx_dtype.specs.declared.error.VortexError.{VortexError}
 use Rattle.vx_dtype.specs.declared.error.VortexError.TheVariants.{OutOfMemory}
 use Rattle.vx_value.specs.Types.{Name, LogicalType}
-use Rattle.vx_tree.specs.Trees.{BoundTree, scope, node, BoundTrees, no_bound, bound, node_types, WellTyped, EachWellTyped, Over}
-use Rattle.vx_rewrite_analysis.specs.Covers.{Covered, AreCovered, is_covered}
+use Rattle.vx_tree.specs.Trees.{BoundTree, scope, node_types, WellTyped, EachWellTyped, Over}
+use Rattle.vx_rewrite_analysis.specs.Covers.{is_covered}
 use Rattle.vx_rewrite_analysis.proofs.Covering.{covered-decides}
 use Rattle.vx_rewrite_split.specs.Partitioned.{free_names}
 use Rattle.vx_rewrite_split.specs.Splitting.{IsSplitByPieces}
@@ -15,7 +14,6 @@ use Rattle.vx_rewrite_split.proofs.FreeNames.{names_are_free}
 use Rattle.vx_rewrite_recombine.specs.Items.{struct_type}
 use Rattle.vx_rewrite_recombine.specs.Partitions.{partition_names}
 use Rattle.vx_rewrite_recombine.specs.Pieces.{groups}
-use Rattle.vx_rewrite_recombine.specs.Pieces as by_pieces
 use Rattle.vx_rewrite_recombine.specs.Recombining.{Recombines, NoOtherFault}
 use Rattle.vx_query_split.specs.Division.{split_names, FieldsCover, Parts, IsSplitOf, divided}
 use Rattle.vx_query_split.specs.Reading.{only_field, reads_one}

@@ -1,21 +1,17 @@
 -- A map of annotations, child by child.
-use Rattle.std.proofs.Common.{◌≡◌, ◌<◌, arith, List, [], ◌∷◌, length, Bool, true, false, ◌||◌, refl, sym, ap, ◌∙◌, true≢false}
-use Rattle.std.specs.Prelude.{◌==◌, if◌then◌else◌}
+use Rattle.std.proofs.Common.{◌≡◌, ◌<◌, arith, List, [], ◌∷◌, length, Bool, true, false, refl, sym, ap, ◌∙◌, true≢false}
+use Rattle.std.specs.Prelude.{if◌then◌else◌}
 use Rattle.std.specs.Cmp.{IsEquivalence}
 use Rattle.std.specs.List.{list_any}
 use Rattle.std.specs.HashSet.{HashSet, contains}
 use Rattle.vx_tree.specs.Nodes.{bound_children_of}
-use Rattle.vx_tree.specs.Trees.{BoundTree, scope, node, BoundTrees, no_bound, bound}
+use Rattle.vx_tree.specs.Trees.{BoundTree, scope, node}
 use Rattle.vx_rewrite_analysis.specs.Annotations.{is_some_item, answered, SameAnnotations, is_annotation, is_annotation_in, IsAnnotationsOf}
-use Rattle.vx_rewrite_analysis.proofs.Subtrees.{or_first, or_false, or_assoc}
+use Rattle.vx_rewrite_analysis.proofs.Subtrees.{or_first}
 
 pub some_item : {A : Type 0} (xs : List A) → 0 < length xs → is_some_item xs ≡ true
 some_item [] h = absurd (omega arith)
 some_item (x ∷ xs) h = refl
-
-pub some-items : {A : Type 0} (xs : List A) (empty : Bool) → empty ≡ (length xs == 0) → empty ≡ false → 0 < length xs
-some-items [] empty is told = absurd (true≢false (sym is ∙ told))
-some-items (x ∷ xs) empty is told = omega arith
 
 pub no_item : {A : Type 0} (xs : List A) → length xs ≡ 0 → is_some_item xs ≡ false
 no_item [] h = refl
@@ -49,14 +45,3 @@ module _ {A : Type 0} (eq : A → A → Bool) where
         → ((a : A) → contains eq s a ≡ is_annotation_in eq answers a (bound_children_of b)) → IsAnnotationsOf eq answers b s
     unanswered-set b s none has a =
         has a ∙ ap (λ x. if x then list_any (eq a) (answers b) else is_annotation_in eq answers a (bound_children_of b)) (sym none) ∙ sym (annotation-children a b)
-
-    -- one more child's annotations are in the set
-    pub union-next : (left rest : BoundTrees) (b : BoundTree) (a : A) (before after all : Bool) → left ≡ bound b rest → after ≡ (before || is_annotation eq answers a b)
-        → (before || is_annotation_in eq answers a left) ≡ all → (after || is_annotation_in eq answers a rest) ≡ all
-    union-next left rest b a before after all next e so_far =
-        ap (λ x. x || is_annotation_in eq answers a rest) e ∙ or_assoc before (is_annotation eq answers a b) (is_annotation_in eq answers a rest)
-        ∙ sym (ap (λ bs. before || is_annotation_in eq answers a bs) next) ∙ so_far
-
-    -- all children's are
-    pub union-end : (left : BoundTrees) (a : A) (last all : Bool) → left ≡ no_bound → (last || is_annotation_in eq answers a left) ≡ all → last ≡ all
-    union-end left a last all none so_far = sym (ap (λ bs. last || is_annotation_in eq answers a bs) none ∙ or_false last) ∙ so_far

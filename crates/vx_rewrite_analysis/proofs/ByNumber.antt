@@ -7,7 +7,7 @@ use Rattle.vx_tree.specs.Trees.{BoundTree}
 use Rattle.vx_rewrite_analysis.specs.ByNumber.{has_some, HasEach}
 use Rattle.vx_rewrite_analysis.specs.Numbers.{node_tree, tree_at, HasOneNumberEach}
 use Rattle.vx_rewrite_analysis.specs.declared.numbers.NumberedNode.{NumberedNode}
-use Rattle.vx_rewrite_analysis.proofs.Subtrees.{or_first, or_second, or_either, and_true, both}
+use Rattle.vx_rewrite_analysis.proofs.Subtrees.{or_first, or_second, or_swap, or_either, and_true, both}
 
 -- ---- which trees have something
 
@@ -35,12 +35,7 @@ module _ {X : Type 0} where
       here false b c = refl
   has-set k (n ∷ ns) (o ∷ xs) (suc i) x h count =
       ap (λ r. (equal_bound k (node_tree n) && is_some o) || r) (has-set k ns xs i x (omega (arith, h)) (omega (arith, count)))
-      ∙ turn (equal_bound k (node_tree n) && is_some o) (equal_bound k (tree_at ns i)) (has_some k ns xs)
-    where
-      turn : (a b c : Bool) → (a || (b || c)) ≡ (b || (a || c))
-      turn true true c = refl
-      turn true false c = refl
-      turn false b c = refl
+      ∙ or_swap (equal_bound k (node_tree n) && is_some o) (equal_bound k (tree_at ns i)) (has_some k ns xs)
 
   -- a number that has something, once one more has, had it before or is that one
   pub some-set : (xs : List (Option X)) (i j : ℕ) (o : Option X) → is_some (get_or (set xs i o) j None) ≡ true → (is_some (get_or xs j None) ≡ true) ⊎ (j ≡ i)

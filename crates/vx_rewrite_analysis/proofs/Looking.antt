@@ -19,7 +19,7 @@ use Rattle.vx_rewrite_analysis.specs.Refusals.{first_refusal, first_refusal_in}
 use Rattle.vx_rewrite_analysis.specs.declared.numbers.NumberedNode.{NumberedNode}
 use Rattle.vx_rewrite_analysis.proofs.ByNumber.{has-none, has-set, some-set}
 use Rattle.vx_rewrite_analysis.proofs.Refusing.{refusal-split}
-use Rattle.vx_rewrite_analysis.proofs.Subtrees.{reached-children, or_false, sizes-below}
+use Rattle.vx_rewrite_analysis.proofs.Subtrees.{reached-children, or_assoc, or_false, sizes-below}
 
 -- ---- what is left of the nodes below one that was looked at
 
@@ -89,11 +89,7 @@ IsReaching stops ns b xs waiting = ((k : BoundTree) → (has_some k ns xs || is_
 module _ (stops : BoundTree → Bool) (ns : List NumberedNode) where
   reached-append : (k : BoundTree) (is js : List ℕ) → is_reached_in stops k (trees_at ns (is ++ js)) ≡ (is_reached_in stops k (trees_at ns is) || is_reached_in stops k (trees_at ns js))
   reached-append k [] js = refl
-  reached-append k (i ∷ is) js = ap (λ r. is_reached stops k (tree_at ns i) || r) (reached-append k is js) ∙ assoc (is_reached stops k (tree_at ns i)) _ _
-    where
-      assoc : (a b c : Bool) → (a || (b || c)) ≡ ((a || b) || c)
-      assoc true b c = refl
-      assoc false b c = refl
+  reached-append k (i ∷ is) js = ap (λ r. is_reached stops k (tree_at ns i) || r) (reached-append k is js) ∙ sym (or_assoc (is_reached stops k (tree_at ns i)) _ _)
 
   module _ {X : Type 0} (root : BoundTree) (xs : List (Option X)) where
     -- at first the tree alone waits

@@ -16,7 +16,7 @@ use Rattle.vx_tree.specs.declared.bound.BoundExpression.{BoundExpression}
 use Rattle.vx_rewrite_analysis.specs.Numbers.{head_of, node_tree, equal_numbered, tree_at, trees_at, has_node, IsNumberOf, HasChildrenBelow, IsNumbered, KeepsNumbers}
 use Rattle.vx_rewrite_analysis.specs.Reached.{nowhere, occurs, occurs_in}
 use Rattle.vx_rewrite_analysis.specs.declared.numbers.NumberedNode.{NumberedNode}
-use Rattle.vx_rewrite_analysis.proofs.Subtrees.{or_first, or_second, or_assoc, or_false, reached-children}
+use Rattle.vx_rewrite_analysis.proofs.Subtrees.{or_first, or_second, or_assoc, or_swap, or_false, reached-children}
 
 -- ---- the trees of numbers
 
@@ -144,12 +144,7 @@ has-read ns i n within is = has-at ns i (node_tree n) (node_tree n) (within, tre
 
 has-append : (ns : List NumberedNode) (m : NumberedNode) (n : BoundTree) → has_node n (ns ++ m ∷ []) ≡ (equal_bound n (node_tree m) || has_node n ns)
 has-append [] m n = refl
-has-append (x ∷ ns) m n = ap (λ r. equal_bound n (node_tree x) || r) (has-append ns m n) ∙ turn (equal_bound n (node_tree x)) (equal_bound n (node_tree m)) (has_node n ns)
-  where
-    turn : (a b c : Bool) → (a || (b || c)) ≡ (b || (a || c))
-    turn true true c = refl
-    turn true false c = refl
-    turn false b c = refl
+has-append (x ∷ ns) m n = ap (λ r. equal_bound n (node_tree x) || r) (has-append ns m n) ∙ or_swap (equal_bound n (node_tree x)) (equal_bound n (node_tree m)) (has_node n ns)
 
 -- one more tree has one
 pub has-insert : (ns : List NumberedNode) (m : NumberedNode) (r : ℕ) → IsNumberOf (insert_key equal_numbered ns m) r (node_tree m) → (n : BoundTree)

@@ -1,19 +1,17 @@
--- The nodes of a tree, and maps that have an entry for each node below one that has one.
-use Rattle.std.proofs.Common.{true≢false, ◌≡◌, ℕ, zero, suc, ◌+◌, ◌<◌, ◌≤◌, get_or, drop, arith, List, [], ◌∷◌, length, Bool, true, false, ◌||◌, refl, sym, ap, subst, inl, inr, ◌∙◌}
+-- The nodes of a tree, and maps of what they have.
+use Rattle.std.proofs.Common.{◌≡◌, ℕ, zero, suc, ◌+◌, ◌<◌, ◌≤◌, get_or, drop, arith, List, [], ◌∷◌, length, Bool, true, false, ◌||◌, refl, sym, ap, subst, inl, inr, ◌∙◌}
 use Rattle.std.specs.Prelude.{Option, Some, None, is_some, IfSome, not, cond, ◌&&◌, ◌⊎◌}
-use Rattle.std.specs.Borrow.{Bor}
-use Rattle.std.specs.Option.{option_copied}
 use Rattle.std.specs.HashMap.{HashMap}
 use Rattle.std.specs.Map.{lookup}
 use Rattle.std.proofs.lemmas.List.{at_drop_more, at_drop_all}
-use Rattle.vx_tree.specs.Equality.{equal_bound, equal_bound-Decides, equal_bound_equiv}
+use Rattle.vx_tree.specs.Equality.{equal_bound, equal_bound-Decides}
 use Rattle.vx_tree.specs.Nodes.{size_of, sizes_of, bound_children_of}
 use Rattle.vx_tree.specs.Trees.{BoundTree, scope, node, BoundTrees, no_bound, bound, unbound, unbound_each}
 use Rattle.vx_tree.specs.Views.{bound_of, bounds_of}
 use Rattle.vx_tree.specs.declared.bound.BoundExpression.{BoundExpression}
 use Rattle.vx_tree.specs.declared.exact.ExactBoundExpr.{ExactBoundExpr}
 use Rattle.vx_rewrite_analysis.specs.Keys.{key_of, entry_at}
-use Rattle.vx_rewrite_analysis.specs.Reached.{is_reached, is_reached_in, IsClosed, nowhere, occurs, occurs_in}
+use Rattle.vx_rewrite_analysis.specs.Reached.{is_reached, is_reached_in, nowhere, occurs, occurs_in}
 
 -- ---- truth values
 
@@ -32,6 +30,11 @@ or_either false b h = inr h
 pub or_assoc : (a b c : Bool) → ((a || b) || c) ≡ (a || (b || c))
 or_assoc true b c = refl
 or_assoc false b c = refl
+
+pub or_swap : (a b c : Bool) → (a || (b || c)) ≡ (b || (a || c))
+or_swap true true c = refl
+or_swap true false c = refl
+or_swap false b c = refl
 
 pub or_turn : (a b s : Bool) → ((a || b) || s) ≡ (b || (a || s))
 or_turn true true s = refl
@@ -119,39 +122,6 @@ module _ (stops : BoundTree → Bool) where
   pub reached-end : (n : BoundTree) (left : BoundTrees) (last all : Bool) → left ≡ no_bound → (is_reached_in stops n left || last) ≡ all → last ≡ all
   reached-end n left last all none so_far = ap (λ bs. is_reached_in stops n bs || last) (sym none) ∙ so_far
 
-  module _ {X S : Type 0} where
-    -- a map that has entries for what is reached from one more tree is closed as it was
-    pub closed-with : (b : BoundTree) (old new : HashMap ExactBoundExpr X S) → IsClosed stops old
-        → ((k : ExactBoundExpr) → is_some (entry_at (key_of k) new) ≡ (is_reached stops (key_of k) b || is_some (entry_at (key_of k) old))) → IsClosed stops new
-    closed-with b old new closed nodes j k here below = elim (or_either (is_reached stops (key_of j) b) (is_some (entry_at (key_of j) old)) (sym (nodes j) ∙ here)) [
-      | inl o ↦ nodes k ∙ or_first _ (is_some (entry_at (key_of k) old)) (reached-further (key_of k) (key_of j) b o below)
-      | inr was ↦ nodes k ∙ or_second (is_reached stops (key_of k) b) _ (closed j k was below)
-    ]
-
-    -- where a key has an entry, those reached from its tree have one
-    pub closed-at : (j : ExactBoundExpr) (m : HashMap ExactBoundExpr X S) → IsClosed stops m → is_some (entry_at (key_of j) m) ≡ true → (k : ExactBoundExpr)
-        → is_some (entry_at (key_of k) m) ≡ (is_reached stops (key_of k) (key_of j) || is_some (entry_at (key_of k) m))
-    closed-at j m closed here k = absorbed (is_reached stops (key_of k) (key_of j)) _ (closed j k here)
-      where
-        absorbed : (r s : Bool) → (r ≡ true → s ≡ true) → s ≡ (r || s)
-        absorbed true s h = h refl
-        absorbed false s h = refl
-
-    -- one more entry, over a map that has those reached from its children
-    pub nodes-with : (b : BoundTree) (l : X) (old mid new : HashMap ExactBoundExpr X S) (k : ExactBoundExpr)
-        → is_some (entry_at (key_of k) mid) ≡ ((not (stops b) && is_reached_in stops (key_of k) (bound_children_of b)) || is_some (entry_at (key_of k) old))
-        → entry_at (key_of k) new ≡ cond (equal_bound b (key_of k)) (Some l) (entry_at (key_of k) mid)
-        → is_some (entry_at (key_of k) new) ≡ (is_reached stops (key_of k) b || is_some (entry_at (key_of k) old))
-    nodes-with b l old mid new k below put =
-        let w = not (stops b) && is_reached_in stops (key_of k) (bound_children_of b) in
-        ap is_some put ∙ ap (λ t. is_some (cond t (Some l) (entry_at (key_of k) mid))) (equal_bound_equiv.symm b (key_of k))
-        ∙ cases (equal_bound (key_of k) b) w (is_some (entry_at (key_of k) old)) (entry_at (key_of k) mid) below
-        ∙ ap (λ r. r || is_some (entry_at (key_of k) old)) (sym (reached-children (key_of k) b))
-      where
-        cases : (same w was : Bool) (m : Option X) → is_some m ≡ (w || was) → is_some (cond same (Some l) m) ≡ ((same || w) || was)
-        cases true w was m h = refl
-        cases false w was m h = h
-
 -- a node of one of the trees is one of them all
 occurs-at : (ts : List BoundExpression) (i : ℕ) (d : BoundExpression) → i < length ts → (n : BoundTree) → occurs n (bound_of (get_or ts i d)) ≡ true → occurs_in n (bounds_of ts) ≡ true
 occurs-at [] i d h n there = absurd (omega arith)
@@ -165,19 +135,10 @@ occurs-child b ts i t e h is n there =
     let below : occurs_in n (bounds_of ts) ≡ true = occurs-at ts i t h n (subst (λ x. occurs n (bound_of x) ≡ true) is there) in
     reached-children nowhere n b ∙ or_second (equal_bound n b) _ (sym (ap (occurs_in n) e) ∙ below)
 
--- an entry at one of two equal trees is one at the other
-pub put-as : {X S : Type 0} (b c : BoundTree) (x : X) (old new : HashMap ExactBoundExpr X S) → b ≡ c
-    → ((k : ExactBoundExpr) → entry_at (key_of k) new ≡ cond (equal_bound b (key_of k)) (Some x) (entry_at (key_of k) old))
-    → (k : ExactBoundExpr) → entry_at (key_of k) new ≡ cond (equal_bound c (key_of k)) (Some x) (entry_at (key_of k) old)
-put-as b c x old new same put k = put k ∙ ap (λ t. cond (equal_bound t (key_of k)) (Some x) (entry_at (key_of k) old)) same
-
 -- ---- a map without entries
 
 pub entry-of-none : {X S : Type 0} (b : BoundTree) (m : HashMap ExactBoundExpr X S) → m.entries ≡ [] → entry_at b m ≡ None
 entry-of-none b m empty = ap (lookup (λ k. equal_bound b (key_of k))) empty
-
-pub closed-of-none : {X S : Type 0} (stops : BoundTree → Bool) (m : HashMap ExactBoundExpr X S) → m.entries ≡ [] → IsClosed stops m
-closed-of-none stops m empty j k here below = absurd (true≢false (sym here ∙ ap is_some (entry-of-none (key_of j) m empty)))
 
 pub entries-of-none : {X S : Type 0} (P : BoundTree → X → Type 0) (m : HashMap ExactBoundExpr X S) → m.entries ≡ [] → (k : ExactBoundExpr) → IfSome (entry_at (key_of k) m) (P (key_of k))
 entries-of-none P m empty k = subst (λ o. IfSome o (P (key_of k))) (sym (entry-of-none (key_of k) m empty)) tt
@@ -205,12 +166,3 @@ module _ {X S : Type 0} (P : BoundTree → X → Type 0) where
       → ((k : ExactBoundExpr) → IfSome (entry_at (key_of k) old) (P (key_of k))) → (k : ExactBoundExpr) → IfSome (entry_at (key_of k) new) (P (key_of k))
   entries-if b (Some x) old new here put was = entries-with b x old new (here x refl) put was
   entries-if b None old new here put was = λ k. subst (λ e. IfSome e (P (key_of k))) (sym (put k)) (was k)
-
-  -- what is said of each entry is said of one that is found
-  pub entry-found : (j : ExactBoundExpr) (m : HashMap ExactBoundExpr X S) (r : Option (Bor X)) (x : Bor X) → option_copied r ≡ entry_at (key_of j) m → r ≡ Some x
-      → ((k : ExactBoundExpr) → IfSome (entry_at (key_of k) m) (P (key_of k))) → P (key_of j) x.now
-  entry-found j m r x is found all = subst (λ o. IfSome o (P (key_of j))) (sym is ∙ ap option_copied found) (all j)
-
--- there is an entry where one is found
-pub is_some-found : {X : Type 0} (o : Option X) (r : Option (Bor X)) (x : Bor X) → option_copied r ≡ o → r ≡ Some x → is_some o ≡ true
-is_some-found o r x is found = ap is_some (sym is ∙ ap option_copied found)

@@ -4,6 +4,8 @@ use Rattle.std.specs.Prelude.{◌⊎◌, All, Option, None, Some, is_some, if◌
 use Rattle.std.specs.Cmp.{IsEquivalence}
 use Rattle.std.specs.HashSet.{HashSet, contains}
 use Rattle.std.specs.List.{list_any}
+use Rattle.std.proofs.Math.ListN.{get_or-append}
+use Rattle.std.proofs.Math.Seq.{get_or-append_seam}
 use Rattle.std.proofs.lemmas.List.{at_drop_more, at_drop_all}
 use Rattle.vx_tree.specs.Nodes.{bound_children_of}
 use Rattle.vx_tree.specs.Trees.{BoundTree}
@@ -14,20 +16,12 @@ use Rattle.vx_rewrite_analysis.specs.Reached.{is_reached, is_reached_in}
 use Rattle.vx_rewrite_analysis.specs.declared.numbers.NumberedNode.{NumberedNode}
 use Rattle.vx_rewrite_analysis.proofs.Annotating.{items-alike, answered-set, unanswered-set}
 use Rattle.vx_rewrite_analysis.proofs.ByNumber.{has-at, has-read}
+use Rattle.vx_rewrite_analysis.proofs.OneNumber.{before-or-last}
 use Rattle.vx_rewrite_analysis.proofs.Subtrees.{or_first, or_second, or_assoc, or_false, and_true, reached-children, reached-itself, reached-further}
 
 -- ---- one more number
 
 module _ {X : Type 0} where
-  get-push : (xs : List (Option X)) (o : Option X) (i : ℕ) → i < length xs → get_or (xs ++ o ∷ []) i None ≡ get_or xs i None
-  get-push [] o i h = absurd (omega (arith, h))
-  get-push (x ∷ xs) o zero h = refl
-  get-push (x ∷ xs) o (suc i) h = get-push xs o i (omega (arith, h))
-
-  get-pushed : (xs : List (Option X)) (o : Option X) → get_or (xs ++ o ∷ []) (length xs) None ≡ o
-  get-pushed [] o = refl
-  get-pushed (x ∷ xs) o = get-pushed xs o
-
   -- a number that has something has what it had, or is the last one
   some-push : (xs : List (Option X)) (o : Option X) (i : ℕ) (x : X) → get_or (xs ++ o ∷ []) i None ≡ Some x → (get_or xs i None ≡ Some x) ⊎ ((i ≡ length xs) × (o ≡ Some x))
   some-push [] o zero x has = inr (refl, has)
@@ -50,19 +44,10 @@ abbrev pub HasSameSoFar : {X Y : Type 0} → List (Option X) → List (Option Y)
 HasSameSoFar xs ys = (i : ℕ) → i < length xs → is_some (get_or xs i None) ≡ is_some (get_or ys i None)
 
 pub same-push : {X Y : Type 0} (xs : List (Option X)) (ys : List (Option Y)) (o : Option X) → is_some o ≡ is_some (get_or ys (length xs) None) → HasSameSoFar xs ys → HasSameSoFar (xs ++ o ∷ []) ys
-same-push xs ys o here same i h = elim (below-or-last (length xs) i (omega (arith, h, length-append xs (o ∷ [])))) [
-  | inl below ↦ ap is_some (get-push xs o i below) ∙ same i below
-  | inr last ↦ ap (λ k. is_some (get_or (xs ++ o ∷ []) k None)) last ∙ ap is_some (get-pushed xs o) ∙ here ∙ ap (λ k. is_some (get_or ys k None)) (sym last)
+same-push xs ys o here same i h = elim (before-or-last (length xs) i (omega (arith, h, length-append xs (o ∷ [])))) [
+  | inl below ↦ ap is_some (get_or-append xs (o ∷ []) None i below) ∙ same i below
+  | inr last ↦ ap (λ k. is_some (get_or (xs ++ o ∷ []) k None)) last ∙ ap is_some (get_or-append_seam xs o [] None) ∙ here ∙ ap (λ k. is_some (get_or ys k None)) (sym last)
 ]
-  where
-    below-or-last : (n i : ℕ) → i < suc n → (i < n) ⊎ (i ≡ n)
-    below-or-last zero zero h = inr refl
-    below-or-last zero (suc i) h = absurd (omega (arith, h))
-    below-or-last (suc n) zero h = inl (omega arith)
-    below-or-last (suc n) (suc i) h = elim (below-or-last n i (omega (arith, h))) [
-      | inl l ↦ inl (omega (arith, l))
-      | inr e ↦ inr (ap suc e)
-    ]
 
 -- ---- the children's sets
 

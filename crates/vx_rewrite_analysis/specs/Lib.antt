@@ -4,6 +4,7 @@ pub mod Reached
 pub mod Labels
 pub mod NumberedLabels
 pub mod Annotations
+pub mod Annotated
 pub mod ByNumber
 pub mod Refusals
 pub mod Covers

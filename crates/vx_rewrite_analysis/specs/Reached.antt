@@ -1,10 +1,7 @@
--- The nodes that are reached from a tree's first one, and maps that have an entry for each.
-use Rattle.std.specs.Prelude.{Bool, false, not, ◌||◌, ◌&&◌, is_some, IsTrue}
-use Rattle.std.specs.HashMap.{HashMap}
+-- The nodes that are reached from a tree's first one.
+use Rattle.std.specs.Prelude.{Bool, false, not, ◌||◌, ◌&&◌, IsTrue}
 use Rattle.vx_tree.specs.Equality.{equal_bound}
 use Rattle.vx_tree.specs.Trees.{BoundTree, scope, node, BoundTrees, no_bound, bound, WellTyped}
-use Rattle.vx_tree.specs.declared.exact.ExactBoundExpr.{ExactBoundExpr}
-use Rattle.vx_rewrite_analysis.specs.Keys.{key_of, entry_at}
 
 module _ (stops : BoundTree → Bool) where
   -- whether n is reached: it is the tree itself, or, where that doesn't stop, is reached from a child
@@ -17,10 +14,6 @@ module _ (stops : BoundTree → Bool) where
     pub is_reached_in : BoundTree → BoundTrees → Bool
     is_reached_in n no_bound = false
     is_reached_in n (bound b bs) = is_reached n b || is_reached_in n bs
-
-  -- with each node that has an entry, those reached from it have one
-  abbrev pub IsClosed : {X S : Type 0} → HashMap ExactBoundExpr X S → Type 0
-  IsClosed m = (j k : ExactBoundExpr) → IsTrue (is_some (entry_at (key_of j) m)) → IsTrue (is_reached (key_of k) (key_of j)) → IsTrue (is_some (entry_at (key_of k) m))
 
 -- no node stops
 abbrev pub nowhere : BoundTree → Bool

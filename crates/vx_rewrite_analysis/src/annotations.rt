@@ -1,16 +1,17 @@
 // Annotations of the nodes of a bound tree.
-ghost use Rattle.std.specs.Prelude.{◌≡◌, ◌<◌, ◌||◌, ◌⊎◌, All, is_some, None, Some, List, Err, IfErr, IfOk, OnOk, get_or, length, if◌then◌else◌};
+ghost use Rattle.std.specs.Prelude.{◌≡◌, ◌<◌, ◌||◌, All, is_some, None, Some, List, IfErr, IfOk, OnOk, get_or, length, if◌then◌else◌};
 ghost use Rattle.std.specs.HashSet.{contains};
 ghost use Rattle.std.specs.List.{list_any};
 ghost use Rattle.vx_dtype.specs.declared.error.VortexError.TheVariants.{OutOfMemory};
 ghost use Rattle.vx_tree.specs.Trees.{BoundTree};
 ghost use Rattle.vx_tree.specs.Views.{bound_of};
-ghost use Rattle.vx_rewrite_analysis.specs.Annotations.{answered, is_some_item, AnswersAlike, SameAnnotations, IsAnnotationsOf, IsAnnotated};
+ghost use Rattle.vx_rewrite_analysis.specs.Annotated.{reached_from, IsAnnotatedBy};
+ghost use Rattle.vx_rewrite_analysis.specs.Annotations.{answered, is_some_item, SameAnnotations, IsAnnotationsOf, IsAnnotated};
 ghost use Rattle.vx_rewrite_analysis.specs.ByNumber.{has_some, has_annotation, HasEach, HasReached};
 ghost use Rattle.vx_rewrite_analysis.specs.Keys.{key_of, entry_at};
 ghost use Rattle.vx_rewrite_analysis.specs.Numbers.{IsNumbered};
-ghost use Rattle.vx_rewrite_analysis.specs.Reached.{is_reached, IsNodeOf};
-ghost use Rattle.vx_rewrite_analysis.specs.Refusals.{SaysBy, first_refusal};
+ghost use Rattle.vx_rewrite_analysis.specs.Reached.{IsNodeOf};
+ghost use Rattle.vx_rewrite_analysis.specs.Refusals.{IsRefusalOf, IsFirstRefusal, MeetsNoRefusal};
 
 use crate::Annotation;
 use crate::entries::put_some;
@@ -37,12 +38,10 @@ pub fn descendent_bound_annotations<
     F: Fn(&BoundExpression) -> VortexResult<Vec<A>> + Drop,
 >(alloc: Global, e: &BoundExpression, annotate: F) -> VortexResult<BoundAnnotations<A>>
     requires { (x : _) → IsNodeOf (bound_of x.now) (bound_of e.now) → F.pre annotate x }
-    ensures nodes { IfOk result (λ m. (answers : BoundTree → List A) → AnswersAlike A.eq (F.post annotate) answers
-        → (k : _) → is_some (entry_at (key_of k) m) ≡ is_reached (answered answers) (key_of k) (bound_of e.now)) }
-    ensures annotations { IfOk result (λ m. (answers : BoundTree → List A) → AnswersAlike A.eq (F.post annotate) answers → IsAnnotated A.eq answers m) }
-    ensures refusal { IfErr result (λ y. (y ≡ OutOfMemory) ⊎ ((x : _) × IsNodeOf (bound_of x.now) (bound_of e.now) × F.post annotate x (Err y))) }
-    ensures first { IfErr result (λ y. (said : _) → SaysBy A.eq (F.post annotate) said → (y ≡ OutOfMemory) ⊎ (first_refusal said (bound_of e.now) ≡ Some y)) }
-    ensures unrefused { OnOk result ((said : _) → SaysBy A.eq (F.post annotate) said → first_refusal said (bound_of e.now) ≡ None) }
+    ensures annotated { IfOk result (IsAnnotatedBy A.eq (F.post annotate) (reached_from (bound_of e.now))) }
+    ensures refusal { IfErr result (IsRefusalOf (F.post annotate) (λ n. IsNodeOf n (bound_of e.now))) }
+    ensures first { IfErr result (IsFirstRefusal A.eq (F.post annotate) (bound_of e.now)) }
+    ensures unrefused { OnOk result (MeetsNoRefusal A.eq (F.post annotate) (bound_of e.now)) }
 {
     let mut nodes = IndexSet::new(alloc);
     let root = number_of(alloc, e, &mut nodes)?;

@@ -1,5 +1,5 @@
 // The answers of an annotating closure, as those who go by the numbers of nodes read them.
-ghost use Rattle.std.specs.Prelude.{◌≡◌, ◌<◌, ◌⊎◌, All, None, Some, List, Err, IfErr, IfOk, OnOk, is_some};
+ghost use Rattle.std.specs.Prelude.{◌≡◌, ◌<◌, All, None, Some, List, IfErr, IfOk, OnOk, is_some};
 ghost use Rattle.std.specs.Option.{option_map};
 ghost use Rattle.vx_dtype.specs.declared.error.VortexError.TheVariants.{OutOfMemory};
 ghost use Rattle.vx_tree.specs.Nodes.{bound_children_of};
@@ -8,7 +8,7 @@ ghost use Rattle.vx_tree.specs.Views.{bound_of};
 ghost use Rattle.vx_rewrite_analysis.specs.Annotations.{answered, AnswersAlike, SameAnnotations};
 ghost use Rattle.vx_rewrite_analysis.specs.Answered.{count_of, root_of, tree_of, trees_of, given_by, AreAnswered};
 ghost use Rattle.vx_rewrite_analysis.specs.Reached.{is_reached, IsNodeOf};
-ghost use Rattle.vx_rewrite_analysis.specs.Refusals.{SaysBy, first_refusal};
+ghost use Rattle.vx_rewrite_analysis.specs.Refusals.{IsRefusalOf, IsFirstRefusal, MeetsNoRefusal};
 
 use crate::Annotation;
 use crate::numbers::{NumberedNodes, number_of};
@@ -44,9 +44,9 @@ impl<'a, A: Annotation + Drop> AnsweredNodes<'a, A> {
             → (b : BoundTree) → is_some (given_by a b) ≡ is_reached (answered answers) b (bound_of e.now)) }
         ensures answers { IfOk result (λ a. (answers : BoundTree → List A) → AnswersAlike A.eq (F.post annotate.now) answers
             → (b : BoundTree) (own : List A) → given_by a b ≡ Some own → SameAnnotations A.eq own (answers b)) }
-        ensures refusal { IfErr result (λ y. (y ≡ OutOfMemory) ⊎ ((x : _) × IsNodeOf (bound_of x.now) (bound_of e.now) × F.post annotate.now x (Err y))) }
-        ensures first { IfErr result (λ y. (said : _) → SaysBy A.eq (F.post annotate.now) said → (y ≡ OutOfMemory) ⊎ (first_refusal said (bound_of e.now) ≡ Some y)) }
-        ensures unrefused { OnOk result ((said : _) → SaysBy A.eq (F.post annotate.now) said → first_refusal said (bound_of e.now) ≡ None) }
+        ensures refusal { IfErr result (IsRefusalOf (F.post annotate.now) (λ n. IsNodeOf n (bound_of e.now))) }
+        ensures first { IfErr result (IsFirstRefusal A.eq (F.post annotate.now) (bound_of e.now)) }
+        ensures unrefused { OnOk result (MeetsNoRefusal A.eq (F.post annotate.now) (bound_of e.now)) }
     {
         let mut nodes = IndexSet::new(alloc);
         let root = number_of(alloc, e, &mut nodes)?;

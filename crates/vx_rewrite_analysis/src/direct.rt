@@ -1,12 +1,13 @@
 // The nodes of a bound tree that are annotated themselves.
-ghost use Rattle.std.specs.Prelude.{◌≡◌, ◌||◌, ◌&&◌, ◌⊎◌, is_some, None, Some, List, Err, IfErr, IfOk, OnOk, IsTrue};
+ghost use Rattle.std.specs.Prelude.{◌≡◌, ◌||◌, is_some, List, IfErr, IfOk, OnOk, IsTrue};
 ghost use Rattle.vx_dtype.specs.declared.error.VortexError.TheVariants.{OutOfMemory};
 ghost use Rattle.vx_tree.specs.Trees.{BoundTree};
 ghost use Rattle.vx_tree.specs.Views.{bound_of};
+ghost use Rattle.vx_rewrite_analysis.specs.Annotated.{answered_from, IsAnnotatedBy};
 ghost use Rattle.vx_rewrite_analysis.specs.Annotations.{answered, AnswersAlike, IsAnnotated};
 ghost use Rattle.vx_rewrite_analysis.specs.Keys.{key_of, entry_at};
-ghost use Rattle.vx_rewrite_analysis.specs.Reached.{is_reached, occurs, IsNodeOf};
-ghost use Rattle.vx_rewrite_analysis.specs.Refusals.{SaysBy, first_refusal};
+ghost use Rattle.vx_rewrite_analysis.specs.Reached.{occurs, IsNodeOf};
+ghost use Rattle.vx_rewrite_analysis.specs.Refusals.{IsRefusalOf, IsFirstRefusal, MeetsNoRefusal};
 
 use crate::annotations::set_of;
 use crate::entries::put;
@@ -26,12 +27,10 @@ pub fn direct_bound_annotations<
     F: Fn(&BoundExpression) -> VortexResult<Vec<A>> + Drop,
 >(alloc: Global, e: &BoundExpression, annotate: F) -> VortexResult<BoundAnnotations<A>>
     requires { (x : _) → IsNodeOf (bound_of x.now) (bound_of e.now) → F.pre annotate x }
-    ensures nodes { IfOk result (λ m. (answers : BoundTree → List A) → AnswersAlike A.eq (F.post annotate) answers
-        → (k : _) → is_some (entry_at (key_of k) m) ≡ (is_reached (answered answers) (key_of k) (bound_of e.now) && answered answers (key_of k))) }
-    ensures annotations { IfOk result (λ m. (answers : BoundTree → List A) → AnswersAlike A.eq (F.post annotate) answers → IsAnnotated A.eq answers m) }
-    ensures refusal { IfErr result (λ y. (y ≡ OutOfMemory) ⊎ ((x : _) × IsNodeOf (bound_of x.now) (bound_of e.now) × F.post annotate x (Err y))) }
-    ensures first { IfErr result (λ y. (said : _) → SaysBy A.eq (F.post annotate) said → (y ≡ OutOfMemory) ⊎ (first_refusal said (bound_of e.now) ≡ Some y)) }
-    ensures unrefused { OnOk result ((said : _) → SaysBy A.eq (F.post annotate) said → first_refusal said (bound_of e.now) ≡ None) }
+    ensures annotated { IfOk result (IsAnnotatedBy A.eq (F.post annotate) (answered_from (bound_of e.now))) }
+    ensures refusal { IfErr result (IsRefusalOf (F.post annotate) (λ n. IsNodeOf n (bound_of e.now))) }
+    ensures first { IfErr result (IsFirstRefusal A.eq (F.post annotate) (bound_of e.now)) }
+    ensures unrefused { OnOk result (MeetsNoRefusal A.eq (F.post annotate) (bound_of e.now)) }
 {
     let mut annotations = HashMap::new(alloc);
     annotate_into(alloc, e, &annotate, &mut annotations)?;
@@ -47,11 +46,11 @@ fn annotate_into<A: Annotation + Drop, F: Fn(&BoundExpression) -> VortexResult<V
 ) -> VortexResult<()>
     requires { (x : _) → IsTrue (occurs (bound_of x.now) (bound_of e.now)) → F.pre annotate.now x }
     ensures annotated { OnOk result ((answers : BoundTree → List A) → AnswersAlike A.eq (F.post annotate.now) answers → IsAnnotated A.eq answers annotations.old
-        → ((k : _) → is_some (entry_at (key_of k) annotations.new) ≡ ((is_reached (answered answers) (key_of k) (bound_of e.now) && answered answers (key_of k)) || is_some (entry_at (key_of k) annotations.old)))
+        → ((k : _) → is_some (entry_at (key_of k) annotations.new) ≡ (answered_from (bound_of e.now) (answered answers) (key_of k) || is_some (entry_at (key_of k) annotations.old)))
         × IsAnnotated A.eq answers annotations.new) }
-    ensures refusal { IfErr result (λ y. (y ≡ OutOfMemory) ⊎ ((x : _) × IsTrue (occurs (bound_of x.now) (bound_of e.now)) × F.post annotate.now x (Err y))) }
-    ensures first { IfErr result (λ y. (said : _) → SaysBy A.eq (F.post annotate.now) said → (y ≡ OutOfMemory) ⊎ (first_refusal said (bound_of e.now) ≡ Some y)) }
-    ensures unrefused { OnOk result ((said : _) → SaysBy A.eq (F.post annotate.now) said → first_refusal said (bound_of e.now) ≡ None) }
+    ensures refusal { IfErr result (IsRefusalOf (F.post annotate.now) (λ n. IsTrue (occurs n (bound_of e.now)))) }
+    ensures first { IfErr result (IsFirstRefusal A.eq (F.post annotate.now) (bound_of e.now)) }
+    ensures unrefused { OnOk result (MeetsNoRefusal A.eq (F.post annotate.now) (bound_of e.now)) }
 {
     let answers = annotate(e)?;
     if !answers.is_empty() {

@@ -1,12 +1,11 @@
 // The answers of an annotating closure at the nodes that are reached, by number.
-ghost use Rattle.std.specs.Prelude.{◌≡◌, ◌<◌, ◌⊎◌, ◌++◌, ℕ, None, Some, List, Ok, Err, IfErr, IfOk, OnOk, IsTrue, length, get_or, reverse, slice_set};
-ghost use Rattle.vx_dtype.specs.declared.error.VortexError.TheVariants.{OutOfMemory};
+ghost use Rattle.std.specs.Prelude.{◌≡◌, ◌<◌, ◌++◌, ℕ, None, Some, List, Ok, IfErr, IfOk, OnOk, IsTrue, length, get_or, reverse, slice_set};
 ghost use Rattle.vx_tree.specs.Trees.{BoundTree};
 ghost use Rattle.vx_tree.specs.Views.{bound_of};
 ghost use Rattle.vx_rewrite_analysis.specs.Annotations.{answered, AnswersAlike, SameAnnotations};
 ghost use Rattle.vx_rewrite_analysis.specs.ByNumber.{HasEach, HasReached, looked_at_next};
 ghost use Rattle.vx_rewrite_analysis.specs.Numbers.{node_tree, tree_at, has_node, IsNumbered};
-ghost use Rattle.vx_rewrite_analysis.specs.Refusals.{SaysBy, first_refusal};
+ghost use Rattle.vx_rewrite_analysis.specs.Refusals.{IsRefusalOf, IsFirstRefusal, MeetsNoRefusal};
 
 use crate::Annotation;
 use crate::numbers::NumberedNode;
@@ -31,9 +30,9 @@ pub(crate) fn own_answers<A: Annotation + Drop, F: Fn(&BoundExpression) -> Vorte
     ensures count { IfOk result (λ own. length own.items ≡ length nodes.now) }
     ensures answers { IfOk result (λ own. (answers : BoundTree → List A) → AnswersAlike A.eq (F.post annotate.now) answers
         → HasEach (λ b v. SameAnnotations A.eq v.items (answers b)) nodes.now own.items × HasReached (answered answers) (tree_at nodes.now root) nodes.now own.items) }
-    ensures refusal { IfErr result (λ y. (y ≡ OutOfMemory) ⊎ ((x : _) × IsTrue (has_node (bound_of x.now) nodes.now) × F.post annotate.now x (Err y))) }
-    ensures first { IfErr result (λ y. (said : _) → SaysBy A.eq (F.post annotate.now) said → (y ≡ OutOfMemory) ⊎ (first_refusal said (tree_at nodes.now root) ≡ Some y)) }
-    ensures unrefused { OnOk result ((said : _) → SaysBy A.eq (F.post annotate.now) said → first_refusal said (tree_at nodes.now root) ≡ None) }
+    ensures refusal { IfErr result (IsRefusalOf (F.post annotate.now) (λ n. IsTrue (has_node n nodes.now))) }
+    ensures first { IfErr result (IsFirstRefusal A.eq (F.post annotate.now) (tree_at nodes.now root)) }
+    ensures unrefused { OnOk result (MeetsNoRefusal A.eq (F.post annotate.now) (tree_at nodes.now root)) }
 {
     let mut own = no_answers(alloc, nodes.len())?;
     let mut waiting = Vec::new(alloc);
@@ -78,7 +77,7 @@ fn answers_at<A: Drop, F: Fn(&BoundExpression) -> VortexResult<Vec<A>>>(
     requires { F.pre annotate.now node.now.tree }
     ensures answers { IfOk result (λ v. (x : _) × (bound_of x.now ≡ node_tree node.now) × F.post annotate.now x (Ok v)) }
     ensures waiting { IfOk result (λ v. reverse waiting.new.items ≡ looked_at_next v.items node.now ++ reverse waiting.old.items) }
-    ensures refusal { IfErr result (λ y. (y ≡ OutOfMemory) ⊎ ((x : _) × (bound_of x.now ≡ node_tree node.now) × F.post annotate.now x (Err y))) }
+    ensures refusal { IfErr result (IsRefusalOf (F.post annotate.now) (λ n. n ≡ node_tree node.now)) }
 {
     let answers = annotate(node.tree)?;
     if !answers.is_empty() {

@@ -9,7 +9,7 @@ use Rattle.std.proofs.lemmas.List.{take_more}
 use Rattle.std.proofs.lemmas.List.Folds.{list_all-append}
 use Rattle.std.proofs.lemmas.Map.Keys.{IsDistinct-head, IsDistinct-tail, IsDistinct-cons}
 use Rattle.std.proofs.lemmas.Map.Views.{any-filter_same}
-use Rattle.vx_rewrite_split.specs.Found.{alone, found_of, joined, distinct, set_of}
+use Rattle.vx_rewrite_split.specs.Found.{alone, found_of, combined, distinct, set_of}
 use Rattle.vx_rewrite_split.specs.Only.{only_item}
 use Rattle.vx_rewrite_split.specs.declared.found.Found.{Found}
 use Rattle.vx_rewrite_split.specs.declared.found.Found.TheVariants.{Nothing, One, Several}
@@ -91,17 +91,17 @@ module _ {A : Type 0} (eq : A → A → Bool) where
     all-alike a b same (x ∷ xs) = ap (λ t. t && list_all (eq a) xs) (q.congr a b x same) ∙ ap (λ t. eq b x && t) (all-alike a b same xs)
 
     -- two lists have together what both have
-    pub found-append : (xs ys : List A) → found_of eq (xs ++ ys) ≡ joined eq (found_of eq xs) (found_of eq ys)
+    pub found-append : (xs ys : List A) → found_of eq (xs ++ ys) ≡ combined eq (found_of eq xs) (found_of eq ys)
     found-append [] ys = refl
     found-append (a ∷ xs) [] = ap (λ l. one_if a (list_all (eq a) l)) (append-nil xs) ∙ stays (list_all (eq a) xs)
       where
-        stays : (t : Bool) → one_if a t ≡ joined eq (one_if a t) Nothing
+        stays : (t : Bool) → one_if a t ≡ combined eq (one_if a t) Nothing
         stays true = refl
         stays false = refl
     found-append (a ∷ xs) (b ∷ bs) =
         ap (one_if a) (list_all-append (eq a) xs (b ∷ bs)) ∙ cases (list_all (eq a) xs) (eq a b) (list_all (eq a) bs) (list_all (eq b) bs) refl (λ same. all-alike a b same bs)
       where
-        cases : (s t u v : Bool) → eq a b ≡ t → (eq a b ≡ true → u ≡ v) → one_if a (s && (t && u)) ≡ joined eq (one_if a s) (one_if b v)
+        cases : (s t u v : Bool) → eq a b ≡ t → (eq a b ≡ true → u ≡ v) → one_if a (s && (t && u)) ≡ combined eq (one_if a s) (one_if b v)
         cases false t u v e same = refl
         cases true false u true e same = sym (ap (one_if a) e)
         cases true false u false e same = refl
@@ -109,7 +109,7 @@ module _ {A : Type 0} (eq : A → A → Bool) where
         cases true true u false e same = ap (one_if a) (same e)
 
     -- what one more has
-    pub found-next : (xs : List A) (i : ℕ) (a : A) → i < length xs → a ≡ get_or xs i a → joined eq (found_of eq (take i xs)) (One a) ≡ found_of eq (take (i + 1) xs)
+    pub found-next : (xs : List A) (i : ℕ) (a : A) → i < length xs → a ≡ get_or xs i a → combined eq (found_of eq (take i xs)) (One a) ≡ found_of eq (take (i + 1) xs)
     found-next xs i a h is = sym (ap (found_of eq) (take_more xs i a h ∙ ap (λ x. take i xs ++ x ∷ []) (sym is)) ∙ found-append (take i xs) (a ∷ []))
 
     -- a test that equal ones pass alike

@@ -25,7 +25,7 @@ use Rattle.vx_rewrite_analysis.proofs.Subtrees.{or_first, or_second, and_true, r
 use Rattle.vx_rewrite_split.specs.Found.{alone, found_of, set_of}
 use Rattle.vx_rewrite_split.specs.Gathered.{answers_or, gathered, gathered_in, found_at, AreFound, gathered_map, IsOnly}
 use Rattle.vx_rewrite_split.specs.Only.{only_annotation, only_key}
-use Rattle.vx_rewrite_split.specs.Splitting.{IsAnnotatedBy}
+use Rattle.vx_rewrite_split.specs.Splitting.{IsMapOf}
 use Rattle.vx_rewrite_split.specs.declared.found.Found.{Found}
 use Rattle.vx_rewrite_split.proofs.Alone.{set-has, set-alone, set-once}
 
@@ -117,7 +117,7 @@ module _ {A : Type 0} (eq : A → A → Bool) (q : IsEquivalence eq) (nodes : An
   pub gathered-annotated : {Z : Type 0} (post : Bor BoundExpression → Result (Vec A Z) VortexError → Type 0) (root : BoundTree)
       → ((answers : BoundTree → List A) → AnswersAlike eq post answers → (b : BoundTree) → is_some (given_by nodes b) ≡ is_reached (answered answers) b root)
       → ((answers : BoundTree → List A) → AnswersAlike eq post answers → (b : BoundTree) (own : List A) → given_by nodes b ≡ Some own → SameAnnotations eq own (answers b))
-      → IsAnnotatedBy eq post root (gathered_map eq nodes)
+      → IsMapOf eq post root (gathered_map eq nodes)
   gathered-annotated post root reached same = (
     λ k. subst (λ o. IfSome o (IsUnique eq)) (sym (entry-of-given value nodes (key_of k))) (once (key_of k) (given_by nodes (key_of k))),
     λ answers alike. (

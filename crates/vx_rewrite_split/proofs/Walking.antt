@@ -11,7 +11,7 @@ use Rattle.vx_rewrite_analysis.specs.Answered.{tree_of, trees_of, given_by}
 use Rattle.vx_rewrite_analysis.specs.declared.answered.AnsweredNodes.{AnsweredNodes}
 use Rattle.vx_rewrite_analysis.proofs.Given.{trees-of-next, trees-of-end}
 use Rattle.vx_rewrite_analysis.proofs.OneNumber.{before-or-last}
-use Rattle.vx_rewrite_split.specs.Found.{found_copied, found_of, joined}
+use Rattle.vx_rewrite_split.specs.Found.{found_copied, found_of, combined}
 use Rattle.vx_rewrite_split.specs.Gathered.{answers_or, gathered, gathered_in, found_at, AreFound}
 use Rattle.vx_rewrite_split.specs.Only.{annotations_met, annotations_met_in}
 use Rattle.vx_rewrite_split.specs.declared.found.Found.{Found}
@@ -40,9 +40,9 @@ module _ {A : Type 0} (nodes : AnsweredNodes A) where
   module _ (eq : A → A → Bool) where
     -- one more child
     pub together-next : IsEquivalence eq → (ks : List ℕ) (i : ℕ) (before here after : Found A) → i < length ks → before ≡ found_of eq (gathered_in (given_by nodes) (trees_of nodes (take i ks)))
-        → here ≡ found_at eq nodes (tree_of nodes (get_or ks i 0)) → after ≡ joined eq before here → after ≡ found_of eq (gathered_in (given_by nodes) (trees_of nodes (take (i + 1) ks)))
+        → here ≡ found_at eq nodes (tree_of nodes (get_or ks i 0)) → after ≡ combined eq before here → after ≡ found_of eq (gathered_in (given_by nodes) (trees_of nodes (take (i + 1) ks)))
     together-next q ks i before here after h so_far is put =
-        put ∙ ap (λ x. joined eq x here) so_far ∙ ap (joined eq (found_of eq (below (take i ks)))) is
+        put ∙ ap (λ x. combined eq x here) so_far ∙ ap (combined eq (found_of eq (below (take i ks)))) is
         ∙ sym (ap (found_of eq) (below-more ks i h) ∙ found-append eq q (below (take i ks)) (gathered (given_by nodes) (tree_of nodes (get_or ks i 0))))
 
     -- all children

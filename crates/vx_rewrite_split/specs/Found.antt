@@ -27,12 +27,12 @@ module _ {A : Type 0} where
     found_of (a ∷ rest) = if list_all (eq a) rest then One a else Several
 
     -- what two have together
-    abbrev pub joined : Found A → Found A → Found A
-    joined Nothing y = y
-    joined (One a) Nothing = One a
-    joined (One a) (One b) = if eq a b then One a else Several
-    joined (One a) Several = Several
-    joined Several y = Several
+    abbrev pub combined : Found A → Found A → Found A
+    combined Nothing y = y
+    combined (One a) Nothing = One a
+    combined (One a) (One b) = if eq a b then One a else Several
+    combined (One a) Several = Several
+    combined Several y = Several
 
     -- the first of each that are equal
     abbrev pub distinct : List A → List A

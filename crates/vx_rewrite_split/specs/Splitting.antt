@@ -1,5 +1,5 @@
 -- What a tree that was split promises.
-use Rattle.std.specs.Prelude.{◌≡◌, ℕ, Bool, List, IfSome, IsTrue, Option, is_some, Result, Ok, Err, Vec}
+use Rattle.std.specs.Prelude.{◌≡◌, ℕ, Bool, List, IfSome, IsTrue, Option, Result, Ok, Err, Vec}
 use Rattle.std.specs.declared.hash.BuildHasherDefault.{BuildHasherDefault}
 use Rattle.std.specs.declared.hash.FoldHasher.{FoldHasher}
 use Rattle.std.specs.Borrow.{Bor}
@@ -11,10 +11,9 @@ use Rattle.vx_value.specs.Types.{Name}
 use Rattle.vx_tree.specs.Trees.{BoundTree, BoundTrees, node_type, WellTyped, EachWellTyped, Over}
 use Rattle.vx_tree.specs.declared.bound.BoundExpression.{BoundExpression}
 use Rattle.vx_tree.specs.declared.exact.ExactBoundExpr.{ExactBoundExpr}
-use Rattle.vx_rewrite_analysis.specs.Annotations.{answered, AnswersAlike, IsAnnotated}
+use Rattle.vx_rewrite_analysis.specs.Annotated.{reached_from, IsAnnotatedBy}
 use Rattle.vx_rewrite_analysis.specs.Covers.{has_single, Covered}
 use Rattle.vx_rewrite_analysis.specs.Keys.{key_of, entry_at}
-use Rattle.vx_rewrite_analysis.specs.Reached.{is_reached}
 use Rattle.vx_rewrite_recombine.specs.Holes.{recombination}
 use Rattle.vx_rewrite_recombine.specs.Items.{struct_type}
 use Rattle.vx_rewrite_recombine.specs.Partitions.{partitions, partition_names}
@@ -60,10 +59,9 @@ AnnotationMap A = HashMap ExactBoundExpr (HashSet A (BuildHasherDefault FoldHash
 abbrev pub AreSets : {A : Type 0} → (A → A → Bool) → AnnotationMap A → Type 0
 AreSets eq m = (k : ExactBoundExpr) → IfSome (entry_at (key_of k) m) (IsUnique eq)
 
--- the map has the nodes that are reached, each with its annotations, by whatever the closure answers alike
-abbrev pub IsAnnotatedBy : {A Z : Type 0} → (A → A → Bool) → (Bor BoundExpression → Result (Vec A Z) VortexError → Type 0) → BoundTree → AnnotationMap A → Type 0
-IsAnnotatedBy {A} eq post b m = AreSets eq m
-    × ((answers : BoundTree → List A) → AnswersAlike eq post answers → ((k : ExactBoundExpr) → is_some (entry_at (key_of k) m) ≡ is_reached (answered answers) (key_of k) b) × IsAnnotated eq answers m)
+-- a map of sets that has the nodes that are reached, each with its annotations
+abbrev pub IsMapOf : {A Z : Type 0} → (A → A → Bool) → (Bor BoundExpression → Result (Vec A Z) VortexError → Type 0) → BoundTree → AnnotationMap A → Type 0
+IsMapOf eq post b m = AreSets eq m × IsAnnotatedBy eq post (reached_from b) m
 
 -- the refusal of the first name that two annotations of the tree's pieces have, by the map
 abbrev pub IsTakenBy : {A S Z : Type 0} → (A → A → Bool) → (A → Name) → HashMap ExactBoundExpr (HashSet A S) Z → BoundTree → VortexError → Type 0
@@ -71,4 +69,4 @@ IsTakenBy eq name m b y = free_names (partition_names name (groups eq (only_anno
 
 -- the same by some map that has the closure's answers
 abbrev pub IsTakenBySome : {A Z : Type 0} → (A → A → Bool) → (A → Name) → (Bor BoundExpression → Result (Vec A Z) VortexError → Type 0) → BoundTree → VortexError → Type 0
-IsTakenBySome {A} eq name post b y = (m : AnnotationMap A) × IsAnnotatedBy eq post b m × IsTakenBy eq name m b y
+IsTakenBySome {A} eq name post b y = (m : AnnotationMap A) × IsMapOf eq post b m × IsTakenBy eq name m b y

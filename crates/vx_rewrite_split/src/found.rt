@@ -1,7 +1,7 @@
 // Whether a node has no annotation, exactly one, or several.
 ghost use Rattle.std.specs.Prelude.{◌≡◌};
 ghost use Rattle.std.specs.Option.{option_copied};
-ghost use Rattle.vx_rewrite_split.specs.Found.{found_copied, alone, found_of, joined};
+ghost use Rattle.vx_rewrite_split.specs.Found.{found_copied, alone, found_of, combined};
 
 /// What a list of annotations has.
 #[derive(Clone, Copy)]
@@ -15,8 +15,8 @@ pub(crate) enum Found<T> {
 }
 
 // What the two have together.
-pub(crate) fn joined<'a, A: Eq>(left: Found<&'a A>, right: Found<&'a A>) -> Found<&'a A>
-    ensures { found_copied result ≡ joined A.eq (found_copied left.entry) (found_copied right.entry) }
+pub(crate) fn combined<'a, A: Eq>(left: Found<&'a A>, right: Found<&'a A>) -> Found<&'a A>
+    ensures { found_copied result ≡ combined A.eq (found_copied left.entry) (found_copied right.entry) }
 {
     match (left, right) {
         (Found::Nothing, other) => other,
@@ -32,7 +32,7 @@ pub(crate) fn found_in<A: Eq>(annotations: &[A]) -> Found<&A>
 {
     let mut found = Found::Nothing;
     for annotation in annotations {
-        found = joined(found, Found::One(annotation));
+        found = combined(found, Found::One(annotation));
     }
     found
 }

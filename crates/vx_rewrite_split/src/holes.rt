@@ -9,7 +9,6 @@ ghost use Rattle.vx_tree.specs.Trees.{node_type};
 ghost use Rattle.vx_tree.specs.Views.{bound_of, bounds_of};
 
 use std::alloc::Global;
-use std::rc::Rc;
 use vx_tree::{BoundExpression, DType, FieldName, FieldNames, ScalarFnRef, VortexResult};
 
 // The item of that name, of which the type is known.
@@ -23,14 +22,8 @@ fn typed_item(
 {
     let mut children = Vec::with_capacity(alloc, 1)?;
     children.push(from.clone()?)?;
-    let children = Rc::new(alloc, children)?;
-    let dtype = dtype.clone()?;
-    let name = name.clone()?;
-    Ok(BoundExpression::Scalar {
-        dtype,
-        scalar_fn: ScalarFnRef::GetItem(name),
-        children,
-    })
+    let get_item = ScalarFnRef::GetItem(name.clone()?);
+    BoundExpression::new_typed(alloc, dtype.clone()?, get_item, children)
 }
 
 // The pieces as they are taken out of a partition under their names, as many as both give.

@@ -9,7 +9,7 @@ ghost use Rattle.vx_rewrite_split.specs.Only.{annotations_met};
 ghost use Rattle.vx_tree.specs.Nodes.{bound_children_of};
 ghost use Rattle.vx_tree.specs.Trees.{BoundTree};
 
-use crate::found::{Found, alone, found_in, joined};
+use crate::found::{Found, alone, combined, found_in};
 use std::alloc::{AllocError, Global};
 use vx_rewrite_analysis::{Annotation, AnsweredNodes};
 
@@ -66,7 +66,7 @@ fn found_below<'a, A: Annotation + Drop>(
 {
     let mut found = Found::Nothing;
     for child in nodes.children(number) {
-        found = joined(found, below[*child]);
+        found = combined(found, below[*child]);
     }
     found
 }

@@ -7,14 +7,14 @@ ghost use Rattle.vx_value.specs.Answers.{Answers};
 ghost use Rattle.vx_rewrite_analysis.specs.Answered.{root_of, tree_of, AreAnswered};
 ghost use Rattle.vx_rewrite_analysis.specs.Covers.{has_single, Covered};
 ghost use Rattle.vx_rewrite_analysis.specs.Reached.{IsNodeOf};
-ghost use Rattle.vx_rewrite_analysis.specs.Refusals.{SaysBy, first_refusal};
+ghost use Rattle.vx_rewrite_analysis.specs.Refusals.{SaysBy, first_refusal, MeetsNoRefusal};
 ghost use Rattle.vx_rewrite_split.specs.Collecting.{groups_in, SameGroups, marks_of};
 ghost use Rattle.vx_rewrite_split.specs.Filling.{filled};
 ghost use Rattle.vx_rewrite_split.specs.Gathered.{gathered_map};
 ghost use Rattle.vx_rewrite_split.specs.Only.{annotations_met, only_annotation};
 ghost use Rattle.vx_rewrite_split.specs.Packing.{all_holes, all_names};
 ghost use Rattle.vx_rewrite_split.specs.Partitioned.{free_names, EquallyMany};
-ghost use Rattle.vx_rewrite_split.specs.Splitting.{AnnotationMap, IsAnnotatedBy, IsPartitioned, IsSplitBy, IsSplitByPieces, IsTakenBySome};
+ghost use Rattle.vx_rewrite_split.specs.Splitting.{AnnotationMap, IsMapOf, IsPartitioned, IsSplitBy, IsSplitByPieces, IsTakenBySome};
 ghost use Rattle.vx_rewrite_recombine.specs.Holes.{recombination};
 ghost use Rattle.vx_rewrite_recombine.specs.Items.{struct_type};
 ghost use Rattle.vx_rewrite_recombine.specs.Partitions.{partitions, partition_names};
@@ -50,13 +50,13 @@ pub fn partition_bound<
 >(alloc: Global, e: BoundExpression, annotate: F) -> VortexResult<BoundPartitionedExpr<A>>
     requires callable { (x : _) → IsNodeOf (bound_of x.now) (bound_of e) → F.pre annotate x }
     requires well_typed { WellTyped (bound_of e) }
-    ensures split { IfOk result (λ p. (m : AnnotationMap A) × IsAnnotatedBy A.eq (F.post annotate) (bound_of e) m
+    ensures split { IfOk result (λ p. (m : AnnotationMap A) × IsMapOf A.eq (F.post annotate) (bound_of e) m
         × IsSplitBy A.eq A.text A.name m (bound_of e) p.partition_names (bounds_of p.partitions.items) p.partition_annotations.items (bound_of p.root)) }
     ensures counts { IfOk result (λ p. EquallyMany p.partition_names p.partition_annotations.items p.partitions.items) }
     ensures refusal { IfErr result (λ y. (y ≡ OutOfMemory) ⊎ ((x : _) × IsNodeOf (bound_of x.now) (bound_of e) × F.post annotate x (Err y)) ⊎ IsTakenBySome A.eq A.name (F.post annotate) (bound_of e) y) }
     ensures first { IfErr result (λ y. (said : _) → SaysBy A.eq (F.post annotate) said → (y ≡ OutOfMemory) ⊎ (first_refusal said (bound_of e) ≡ Some y)
         ⊎ ((first_refusal said (bound_of e) ≡ None) × IsTakenBySome A.eq A.name (F.post annotate) (bound_of e) y)) }
-    ensures unrefused { OnOk result ((said : _) → SaysBy A.eq (F.post annotate) said → first_refusal said (bound_of e) ≡ None) }
+    ensures unrefused { OnOk result (MeetsNoRefusal A.eq (F.post annotate) (bound_of e)) }
 {
     // By `drop`: to let go of a tree in place takes the proof far longer.
     let split = split_by_closure(alloc, &e, &annotate);
@@ -72,13 +72,13 @@ fn split_by_closure<A: PartitionKey + Drop, F: Fn(&BoundExpression) -> VortexRes
 ) -> VortexResult<BoundPartitionedExpr<A>>
     requires callable { (x : _) → IsNodeOf (bound_of x.now) (bound_of e.now) → F.pre annotate.now x }
     requires well_typed { WellTyped (bound_of e.now) }
-    ensures split { IfOk result (λ p. (m : AnnotationMap A) × IsAnnotatedBy A.eq (F.post annotate.now) (bound_of e.now) m
+    ensures split { IfOk result (λ p. (m : AnnotationMap A) × IsMapOf A.eq (F.post annotate.now) (bound_of e.now) m
         × IsSplitBy A.eq A.text A.name m (bound_of e.now) p.partition_names (bounds_of p.partitions.items) p.partition_annotations.items (bound_of p.root)) }
     ensures counts { IfOk result (λ p. EquallyMany p.partition_names p.partition_annotations.items p.partitions.items) }
     ensures refusal { IfErr result (λ y. (y ≡ OutOfMemory) ⊎ ((x : _) × IsNodeOf (bound_of x.now) (bound_of e.now) × F.post annotate.now x (Err y)) ⊎ IsTakenBySome A.eq A.name (F.post annotate.now) (bound_of e.now) y) }
     ensures first { IfErr result (λ y. (said : _) → SaysBy A.eq (F.post annotate.now) said → (y ≡ OutOfMemory) ⊎ (first_refusal said (bound_of e.now) ≡ Some y)
         ⊎ ((first_refusal said (bound_of e.now) ≡ None) × IsTakenBySome A.eq A.name (F.post annotate.now) (bound_of e.now) y)) }
-    ensures unrefused { OnOk result ((said : _) → SaysBy A.eq (F.post annotate.now) said → first_refusal said (bound_of e.now) ≡ None) }
+    ensures unrefused { OnOk result (MeetsNoRefusal A.eq (F.post annotate.now) (bound_of e.now)) }
 {
     match AnsweredNodes::new(alloc, e, annotate) {
         Ok(nodes) => {

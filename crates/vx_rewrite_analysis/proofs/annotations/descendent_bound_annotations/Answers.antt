@@ -31,20 +31,14 @@ returns-in_err-own-clause-refusal g c =
           inr (asked.0, node-numbered (bound_of c.args.e.now) at _ _ _ c.as_slice-nodes.ensures.keys c.new-nodes.ensures.empty (c.in_ok-root.ensures.nodes at) asked.1, asked.2)
     ])
 
-pub returns-clause-nodes : goal.returns-clause-nodes
-returns-clause-nodes g c =
-    λ answers alike k.
+pub returns-clause-annotated : goal.returns-clause-annotated
+returns-clause-annotated g c =
+    λ answers alike.
     let ns = c.as_slice-nodes.result.now in
     let root = c.in_ok-root.root in
     let is : IsNumberOf ns root (bound_of c.args.e.now) = subst (λ x. IsNumberOf x root (bound_of c.args.e.now)) (sym c.as_slice-nodes.ensures.keys) c.in_ok-root.ensures.number in
     let own = c.in_ok-own.ensures.answers answers alike in
-    let sets = c.in_ok-sets.ensures.annotations answers (tree_at ns root) own.0 own.1 in
-    c.in_ok-sets_by_key.ensures.nodes k ∙ sets.1 (key_of k) ∙ ap (is_reached (answered answers) (key_of k)) is.1
-
-pub returns-clause-annotations : goal.returns-clause-annotations
-returns-clause-annotations g c =
-    λ answers alike.
-    let ns = c.as_slice-nodes.result.now in
-    let own = c.in_ok-own.ensures.answers answers alike in
-    let sets = c.in_ok-sets.ensures.annotations answers (tree_at ns c.in_ok-root.root) own.0 own.1 in
-    c.in_ok-sets_by_key.ensures.annotations answers sets.0
+    let sets = c.in_ok-sets.ensures.annotations answers (tree_at ns root) own.0 own.1 in (
+      λ k. c.in_ok-sets_by_key.ensures.nodes k ∙ sets.1 (key_of k) ∙ ap (is_reached (answered answers) (key_of k)) is.1,
+      c.in_ok-sets_by_key.ensures.annotations answers sets.0,
+    )

@@ -1,10 +1,9 @@
 use Rattle.std.proofs.Common.{inl, inr, ◌∙◌}
 use Rattle.std.proofs.lemmas.Result.{err_from_is_err_and}
-use Rattle.std.specs.Prelude.{◌&&◌}
 use Rattle.vx_tree.specs.Views.{bound_of}
+use Rattle.vx_rewrite_analysis.specs.Annotated.{answered_from}
 use Rattle.vx_rewrite_analysis.specs.Annotations.{answered, IsAnnotationsOf}
 use Rattle.vx_rewrite_analysis.specs.Keys.{key_of}
-use Rattle.vx_rewrite_analysis.specs.Reached.{is_reached}
 use Rattle.vx_rewrite_analysis.proofs.Subtrees.{nodes-of-none, entries-of-none}
 use Rattle.vx_rewrite_analysis.proofs.Typing.{node-of}
 use Rattle.vx_rewrite_analysis.proofs.direct.direct_bound_annotations.Goals as goal
@@ -20,17 +19,10 @@ returns-in_err-annotate_into-clause-refusal g c =
       | inr asked ↦ inr (asked.0, node-of (bound_of asked.0.now) (bound_of c.args.e.now) asked.1, asked.2)
     ])
 
-pub returns-clause-nodes : goal.returns-clause-nodes
-returns-clause-nodes g c =
-    λ answers alike k.
+pub returns-clause-annotated : goal.returns-clause-annotated
+returns-clause-annotated g c =
+    λ answers alike.
     let none = c.new-annotations.result in
     let empty = c.new-annotations.ensures.empty in
     let all = c.in_ok-annotate_into.ensures.annotated answers alike (entries-of-none (λ n s. IsAnnotationsOf g.A.PartialEq.eq answers n s) none empty) in
-    all.0 k ∙ nodes-of-none (is_reached (answered answers) (key_of k) (bound_of c.args.e.now) && answered answers (key_of k)) k none empty
-
-pub returns-clause-annotations : goal.returns-clause-annotations
-returns-clause-annotations g c =
-    λ answers alike.
-    let none = c.new-annotations.result in
-    let all = c.in_ok-annotate_into.ensures.annotated answers alike (entries-of-none (λ n s. IsAnnotationsOf g.A.PartialEq.eq answers n s) none c.new-annotations.ensures.empty) in
-    all.1
+    (λ k. all.0 k ∙ nodes-of-none (answered_from (bound_of c.args.e.now) (answered answers) (key_of k)) k none empty, all.1)

@@ -1,5 +1,5 @@
 use Rattle.std.proofs.Common.{arith, ap, ◌∙◌}
-use Rattle.vx_rewrite_split.specs.Found.{joined}
+use Rattle.vx_rewrite_split.specs.Found.{combined}
 use Rattle.vx_rewrite_split.specs.declared.found.Found.TheVariants.{One}
 use Rattle.vx_rewrite_split.proofs.Alone.{found-next}
 use Rattle.vx_rewrite_split.proofs.found.found_in.Goals as goal
@@ -9,4 +9,4 @@ loop-annotation-preserved g c =
     let eq = g.A.PartialEq.eq in
     let xs = c.args.annotations.now in
     let a = c.annotation-item.result in
-    c.joined-found.ensures ∙ ap (λ x. joined eq x (One a)) c.loop-annotation.invariant ∙ found-next eq g.met.A.Eq.laws xs c.loop-annotation.annotation-index a (omega arith) c.annotation-item.is
+    c.combined-found.ensures ∙ ap (λ x. combined eq x (One a)) c.loop-annotation.invariant ∙ found-next eq g.met.A.Eq.laws xs c.loop-annotation.annotation-index a (omega arith) c.annotation-item.is

@@ -29,7 +29,7 @@ loop-child-preserved g c =
     let one = c.index-below-child.result in
     let read : get_or below k Nothing ≡ one = get_or_default below k Nothing one within ∙ sym c.index-below-child.is in
     let here : found_copied one ≡ found_at eq nodes (tree_of nodes k) = sym (ap found_copied read) ∙ c.requires.below k within in
-    together-next nodes eq g.met.A.Eq.laws ks i (found_copied c.loop-child.found) (found_copied one) (found_copied c.joined-found.result) (omega arith) c.loop-child.invariant here c.joined-found.ensures
+    together-next nodes eq g.met.A.Eq.laws ks i (found_copied c.loop-child.found) (found_copied one) (found_copied c.combined-found.result) (omega arith) c.loop-child.invariant here c.combined-found.ensures
 
 pub returns : goal.returns
 returns g c = together-ends c.args.nodes.now g.A.PartialEq.eq c.children-child-items.result.now c.loop-child.child-index _ _ (omega arith) c.children-child-items.ensures.trees c.loop-child.invariant
