@@ -1,4 +1,4 @@
--- Items of structs, and truth values told of them.
+-- Items of structs, and truth values told of them. No public contract names this file.
 use Rattle.std.specs.Prelude.{◌≡◌, ℕ, List, [], ◌∷◌, map, length, Option, Some, None, zero, suc, Bool, true, false}
 use Rattle.std.specs.List.{AllByRecursion}
 pub use Rattle.vx_value.specs.StructColumns.{HaveRow}

@@ -1,4 +1,4 @@
--- What the kernels of single functions are told.
+-- What the kernels of single functions are told. No public contract names this file.
 use Rattle.std.specs.Prelude.{◌≡◌, ℕ, ◌<◌, ℤ, List, [], ◌∷◌, map, Option, Some, None, Result, Ok, Bool, false, not, ◌&&◌}
 use Rattle.std.specs.Int.Signed.{le_z}
 use Rattle.vx_value.specs.declared.value.Value.{Value}

@@ -1,4 +1,4 @@
--- Trees whose first node reads nothing but leaves.
+-- Trees whose first node reads nothing but leaves. No public contract names this file.
 use Rattle.std.specs.Prelude.{Bool, true, false, ◌&&◌}
 use Rattle.vx_fn.specs.Functions.{literal, get_item}
 use Rattle.vx_tree.specs.Trees.{BoundTree, scope, node, BoundTrees, no_bound, bound}

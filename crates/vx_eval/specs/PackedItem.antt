@@ -1,4 +1,4 @@
--- An item of what is packed.
+-- An item of what is packed. No public contract names this file.
 use Rattle.std.specs.Prelude.{◌≡◌, ◌<◌, ⊤, ℕ, List, [], length, get_or, Option, None, Result, Ok, Err, position}
 use Rattle.std.specs.Str.{bytes_eq}
 use Rattle.vx_dtype.specs.declared.error.VortexError.{VortexError}

@@ -1,4 +1,4 @@
--- What numbered nodes have, by number.
+-- What numbered nodes have, by number. No public contract names this file.
 use Rattle.std.specs.Prelude.{◌≡◌, ℕ, Bool, false, ◌||◌, ◌&&◌, List, [], ◌∷◌, Option, None, Some, is_some, get_or, if◌then◌else◌}
 use Rattle.std.specs.HashSet.{HashSet, contains}
 use Rattle.vx_tree.specs.Equality.{equal_bound}

@@ -1,4 +1,4 @@
--- Labels of numbered nodes.
+-- Labels of numbered nodes. No public contract names this file.
 use Rattle.std.specs.Prelude.{◌≡◌, ◌+◌, ℕ, List, Some, slice_get}
 use Rattle.vx_tree.specs.Trees.{BoundTree}
 use Rattle.vx_rewrite_analysis.specs.Labels.{label}

@@ -1,4 +1,4 @@
--- Nodes that are numbered by their place in a list.
+-- Nodes that are numbered by their place in a list. No public contract names this file.
 use Rattle.std.specs.Prelude.{◌≡◌, ◌<◌, ◌++◌, ℕ, Bool, false, List, [], map, get_or, length, Some, All, nat_eq, slice_get}
 use Rattle.std.specs.Ordering.{eq_of_both}
 use Rattle.std.specs.Cmp.{IsEquivalence, on_equiv, and_equiv, first_so, second_so}
