@@ -1,0 +1,4 @@
+pub mod Characters
+pub mod Tokens
+pub mod Views
+pub mod Spellings
