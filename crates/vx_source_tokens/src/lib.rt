@@ -16,6 +16,3 @@ pub use expected::Expected;
 pub use first::{Found, first_token};
 pub use token::{Sign, Token};
 pub use words::is_plain;
-
-#[cfg(test)]
-mod tests;

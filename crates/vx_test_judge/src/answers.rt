@@ -11,6 +11,7 @@ mod partitions;
 mod paths;
 mod queries;
 mod scans;
+mod source_texts;
 mod sources;
 mod split;
 mod values;
