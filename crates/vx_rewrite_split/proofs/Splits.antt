@@ -12,7 +12,7 @@ use Rattle.vx_dtype.specs.declared.error.VortexError.TheVariants.{OutOfMemory}
 use Rattle.vx_value.specs.Answers.{Answers}
 use Rattle.vx_value.specs.Types.{Name}
 use Rattle.vx_tree.specs.Trees.{BoundTree, scope, BoundTrees, WellTyped}
-use Rattle.vx_tree.specs.Views.{bounds_of}
+use Rattle.vx_tree.specs.Views.{bound_of, bounds_of}
 use Rattle.vx_tree.specs.declared.bound.BoundExpression.{BoundExpression}
 use Rattle.vx_tree.specs.declared.exact.ExactBoundExpr.{ExactBoundExpr}
 use Rattle.vx_rewrite_analysis.specs.Covers as test
