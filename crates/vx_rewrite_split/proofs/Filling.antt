@@ -1,11 +1,12 @@
 -- One more child is filled; and what is filled by a tree's own marks is the tree with holes.
-use Rattle.std.proofs.Common.{◌≡◌, ℕ, zero, suc, Option, Some, None, Vec, slice_get, map, ◌+◌, ◌<◌, ◌≤◌, List, [], ◌∷◌, ◌++◌, length, get_or, drop, drop-cons, drop_of_length-le, add-one, refl, sym, ap, ◌∙◌}
+use Rattle.std.proofs.Common.{◌≡◌, ℕ, zero, suc, Option, Some, None, Vec, slice_get, map, ◌+◌, ◌<◌, ◌≤◌, List, [], ◌∷◌, ◌++◌, length, get_or, drop, drop_of_length-le, refl, sym, ap, ◌∙◌}
 use Rattle.vx_tree.specs.declared.bound.BoundExpression.{BoundExpression}
 use Rattle.vx_tree.specs.Trees.{BoundTree, BoundTrees, no_bound, bound}
 use Rattle.vx_tree.specs.Views.{bound_of, bounds_of}
 use Rattle.vx_rewrite_split.specs.declared.mark.Mark.{Mark}
 use Rattle.vx_rewrite_split.specs.Filling.{filled, filled_each, holes_seen}
 use Rattle.vx_rewrite_split.specs.Packing.{hole_at}
+use Rattle.vx_rewrite_split.proofs.Collecting.{bounds_next}
 use Rattle.vx_rewrite_split.proofs.Finding.{copied_seen, copied_at}
 use Rattle.std.specs.Option.{option_map}
 use Rattle.std.specs.Borrow.{Bor}
@@ -30,9 +31,6 @@ module _ (holes : List (List BoundTree)) where
   abbrev pub FilledSo : List BoundExpression → List BoundExpression → ℕ → List Mark → List Mark → Type 0
   FilledSo made es i old marks =
       filled_each holes (bounds_of es) old ≡ (joined_with made (filled_each holes (bounds_of (drop i es)) marks).0, (filled_each holes (bounds_of (drop i es)) marks).1)
-
-  bounds_next : (es : List BoundExpression) (i : ℕ) (e : BoundExpression) → i < length es → e ≡ get_or es i e → bounds_of (drop i es) ≡ bound (bound_of e) (bounds_of (drop (i + 1) es))
-  bounds_next es i e h is = rw (add-one, drop-cons es i e h, ← is) refl
 
   pub fills_on : (made new es : List BoundExpression) (i : ℕ) (e u : BoundExpression) (old marks left : List Mark) → i < length es → e ≡ get_or es i e → new ≡ made ++ u ∷ []
       → filled holes (bound_of e) marks ≡ (bound_of u, left) → FilledSo made es i old marks → FilledSo new es (i + 1) old left

@@ -1,12 +1,14 @@
 -- One more piece in the map of the groups.
-use Rattle.std.proofs.Common.{◌≡◌, ℕ, suc, Bool, true, false, cond, List, [], ◌∷◌, ◌++◌, length, map, Option, Some, None, slice_get, position, Vec, refl, sym, ap, ◌∙◌, arith}
+use Rattle.std.proofs.Common.{◌≡◌, ℕ, Bool, true, false, cond, List, [], ◌∷◌, ◌++◌, length, map, Option, Some, None, slice_get, position, Vec, refl, sym, ap, ◌∙◌, arith}
 use Rattle.std.specs.Prelude.{is_some, not, nat_lt, if◌then◌else◌}
 use Rattle.std.specs.Cmp.{IsEquivalence}
+use Rattle.std.specs.HashMap.Eq.{lookup_congr}
 use Rattle.std.specs.List.{position_or_len}
 use Rattle.std.specs.Map.{lookup, keys_of, values_of}
 use Rattle.std.proofs.lemmas.Bool.{ltb-false}
-use Rattle.std.proofs.lemmas.List.{map-append}
+use Rattle.std.proofs.lemmas.List.{length-map, map-append}
 use Rattle.std.proofs.lemmas.List.Sums.{prefix_len-le-length}
+use Rattle.std.proofs.lemmas.Map.Entries.{length-keys_of}
 use Rattle.indexmap.specs.IndexMap.{insert_entry}
 use Rattle.indexmap.specs.Layout.{set_value_at}
 use Rattle.indexmap.proofs.MapLemmas.{Found-position, insert_entry-first}
@@ -26,10 +28,6 @@ seen es = map (λ e. (e.0, map bound_of e.1.items)) es
 abbrev items_of : {Z : Type 0} → Option (Vec BoundExpression Z) → List BoundExpression
 items_of None = []
 items_of (Some v) = v.items
-
-pub count_seen : (bs : List BoundExpression) → length (map bound_of bs) ≡ length bs
-count_seen [] = refl
-count_seen (b ∷ bs) = ap suc (count_seen bs)
 
 place_found : (i k : ℕ) (b : Bool) → Some i ≡ cond b (Some k) None → i ≡ k
 place_found i k true e = cc
@@ -65,7 +63,7 @@ module _ {A Z : Type 0} (eq : A → A → Bool) where
   len-lookup (e ∷ es) a = go (eq a e.0) (len-lookup es a)
     where
       go : (t : Bool) → group_len eq (seen es) a ≡ length (items_of (lookup (eq a) es)) → (if t then length (map bound_of e.1.items) else group_len eq (seen es) a) ≡ length (items_of (cond t (Some e.1) (lookup (eq a) es)))
-      go true r = count_seen e.1.items
+      go true r = length-map e.1.items bound_of
       go false r = r
 
   keys-seen : (es : List (A × Vec BoundExpression Z)) → map (λ g. g.0) (seen es) ≡ keys_of es
@@ -73,14 +71,6 @@ module _ {A Z : Type 0} (eq : A → A → Bool) where
   keys-seen (e ∷ es) = ap (λ l. e.0 ∷ l) (keys-seen es)
 
   module _ (laws : IsEquivalence eq) where
-    keys_count : (es : List (A × Vec BoundExpression Z)) → length (keys_of es) ≡ length es
-    keys_count [] = refl
-    keys_count (e ∷ es) = ap suc (keys_count es)
-
-    lookup-equal : (es : List (A × Vec BoundExpression Z)) (a c : A) → eq a c ≡ true → lookup (eq a) es ≡ lookup (eq c) es
-    lookup-equal [] a c e = refl
-    lookup-equal (x ∷ es) a c e = rw (laws.congr a c x.0 e, lookup-equal es a c e) refl
-
     -- what the map and the mark are after one more piece
     abbrev pub IsAdded : List (A × Vec BoundExpression Z) → List (A × Vec BoundExpression Z) → A → BoundTree → Mark → Type 0
     IsAdded es new a b mark =
@@ -109,8 +99,8 @@ module _ {A Z : Type 0} (eq : A → A → Bool) where
     pub begun : (es : List (A × Vec BoundExpression Z)) (a c : A) (p : BoundExpression) (n : ℕ) (w : Vec BoundExpression Z) → None ≡ position (eq a) (keys_of es) → lookup (eq a) es ≡ None → eq a c ≡ true → n ≡ length es → w.items ≡ p ∷ []
         → IsAdded es (insert_entry eq es c w) a (bound_of p) (Hole n 0)
     begun es a c p n w at none copied count is before s =
-        let empty : lookup (eq c) es ≡ None = sym (lookup-equal es a c copied) ∙ none in
+        let empty : lookup (eq c) es ≡ None = sym (lookup_congr eq laws.congr es a c copied) ∙ none in
         let put = seen-insert es c p w (is ∙ ap (λ o. items_of o ++ p ∷ []) (sym empty)) in (
-          marked es a n 0 before s (count ∙ sym (place_new eq a (keys_of es) at ∙ keys_count es)) (ap (λ o. length (items_of o)) (sym none)),
+          marked es a n 0 before s (count ∙ sym (place_new eq a (keys_of es) at ∙ length-keys_of es)) (ap (λ o. length (items_of o)) (sym none)),
           grows eq laws before (seen es) _ a c (bound_of p) s copied put,
         )

@@ -5,6 +5,7 @@ use Rattle.std.specs.Cmp.{IsEquivalence}
 use Rattle.std.specs.List.{list_any, filter, position_or_len}
 use Rattle.std.proofs.lemmas.Bool.{or_parts}
 use Rattle.std.proofs.lemmas.List.{append-nil}
+use Rattle.std.proofs.lemmas.Map.Steps.{list_any_congr}
 use Rattle.vx_tree.specs.Trees.{BoundTree}
 use Rattle.vx_rewrite_recombine.specs.Pieces.{Piece, Group, pieces_of, others, annotations_of, grouped}
 use Rattle.vx_rewrite_recombine.proofs.Places.{pieces_of-equal}
@@ -35,10 +36,6 @@ module _ {A : Type 0} (eq : A → A → Bool) where
 
     turned : (a b : A) (t : Bool) → eq a b ≡ t → eq b a ≡ t
     turned a b t e = laws.symm b a ∙ e
-
-    any-equal : (a k : A) (ks : List A) → eq a k ≡ true → list_any (eq a) ks ≡ list_any (eq k) ks
-    any-equal a k [] e = refl
-    any-equal a k (c ∷ ks) e = rw (laws.congr a k c e, any-equal a k ks e) refl
 
     any-filter : (p : A → Bool) (k : A) (ks : List A) → list_any (eq k) ks ≡ false → list_any (eq k) (filter p ks) ≡ false
     any-filter p k [] e = refl
@@ -140,7 +137,7 @@ module _ {A : Type 0} (eq : A → A → Bool) where
     put-grouped xs a b (k ∷ ks) h none = go (eq a k) refl (λ e. put-grouped xs a b ks h.1 (λ n. none (rw (e, n) refl)))
       where
         go : (t : Bool) → eq a k ≡ t → (eq a k ≡ false → add_piece (grouped eq xs ks) a b ≡ grouped eq (xs ++ (a, b) ∷ []) (put ks a)) → (if t then (k, pieces_of eq xs k ++ b ∷ []) ∷ grouped eq xs ks else (k, pieces_of eq xs k) ∷ add_piece (grouped eq xs ks) a b) ≡ grouped eq (xs ++ (a, b) ∷ []) (if t then k ∷ ks else k ∷ put ks a)
-        go true e r = rw (pieces-own xs a k b (turned a k true e), grouped-other xs a b ks (any-equal a k ks e ∙ h.0)) refl
+        go true e r = rw (pieces-own xs a k b (turned a k true e), grouped-other xs a b ks (list_any_congr laws a k ks e ∙ h.0)) refl
         go false e r = rw (pieces-other xs a k b (turned a k false e), r e) refl
 
     -- the groups of one more piece

@@ -12,7 +12,7 @@ use Rattle.vx_dtype.specs.declared.error.VortexError.TheVariants.{OutOfMemory}
 use Rattle.vx_value.specs.Answers.{Answers}
 use Rattle.vx_value.specs.Types.{Name}
 use Rattle.vx_tree.specs.Trees.{BoundTree, scope, BoundTrees, WellTyped}
-use Rattle.vx_tree.specs.Views.{bounds_of}
+use Rattle.vx_tree.specs.Views.{bound_of, bounds_of}
 use Rattle.vx_tree.specs.declared.bound.BoundExpression.{BoundExpression}
 use Rattle.vx_tree.specs.declared.exact.ExactBoundExpr.{ExactBoundExpr}
 use Rattle.vx_rewrite_analysis.specs.Covers as test
@@ -31,7 +31,7 @@ use Rattle.vx_rewrite_split.specs.Packing.{all_holes, all_names}
 use Rattle.vx_rewrite_split.specs.Partitioned.{first_taken, free_names, EquallyMany}
 use Rattle.vx_rewrite_split.specs.Splitting.{IsSplitBy, IsSplitByPieces}
 use Rattle.vx_rewrite_split.proofs.FreeNames.{free_differ, unless_none}
-use Rattle.vx_rewrite_split.proofs.Grouping.{seen, count_seen}
+use Rattle.vx_rewrite_split.proofs.Grouping.{seen}
 use Rattle.vx_rewrite_split.proofs.Holed.{tree_filled}
 use Rattle.vx_rewrite_split.proofs.Tables.{group_holes, holes_are_table}
 
@@ -78,7 +78,7 @@ module _ {A : Type 0} (eq : A → A → Bool) where
 -- indices of pieces fit, since they stand in a Vec
 pub all_short : {A Z : Type 0} (es : List (A × Vec BoundExpression Z)) → AllShort (seen es)
 all_short [] = tt
-all_short (e ∷ es) = (let n = count_seen e.1.items in omega (arith, n, e.1.ok.0, e.1.small), all_short es)
+all_short (e ∷ es) = (let n = length-map e.1.items bound_of in omega (arith, n, e.1.ok.0, e.1.small), all_short es)
 
 -- ---- the test of covered trees
 

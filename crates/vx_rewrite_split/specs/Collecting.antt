@@ -1,4 +1,4 @@
--- What a walk collects: the pieces in groups, and a mark for each node that it visits.
+-- What a walk collects: the pieces in groups, and a mark for each node that it visits. No public contract names this file: it is for the contracts of the steps within the crate.
 use Rattle.std.specs.Prelude.{◌≡◌, Bool, true, false, List, [], ◌∷◌, ◌++◌, length, map, Option, Some, None, Vec}
 use Rattle.std.specs.List.{position_or_len}
 use Rattle.indexmap.specs.IndexMap.{IndexMap}

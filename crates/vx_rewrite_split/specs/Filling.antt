@@ -1,4 +1,4 @@
--- A tree over its marks: holes where they say so, and the rest as it is.
+-- A tree over its marks: holes where they say so, and the rest as it is. No public contract names this file: it is for the contracts of the steps within the crate.
 use Rattle.std.specs.Prelude.{List, [], ◌∷◌, map, Option, Some, None, Vec}
 use Rattle.vx_tree.specs.declared.bound.BoundExpression.{BoundExpression}
 use Rattle.vx_tree.specs.Trees.{BoundTree, scope, node, BoundTrees, no_bound, bound}

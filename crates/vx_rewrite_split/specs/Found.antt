@@ -1,4 +1,4 @@
--- Whether a list of annotations has none, one, or several.
+-- Whether a list of annotations has none, one, or several. No public contract names this file: it is for the contracts of the steps within the crate.
 use Rattle.std.specs.Prelude.{Bool, not, List, [], ◌∷◌, filter, map, Option, None, Some, if◌then◌else◌}
 use Rattle.std.specs.Borrow.{Bor}
 use Rattle.std.specs.HashSet.{HashSet}

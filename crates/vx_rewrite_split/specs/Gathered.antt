@@ -1,4 +1,4 @@
--- The annotations of nodes by what a closure answered at them, and the map of these.
+-- The annotations of nodes by what a closure answered at them, and the map of these. No public contract names this file: it is for the contracts of the steps within the crate.
 use Rattle.std.specs.Prelude.{◌≡◌, ◌<◌, ◌++◌, ℕ, Bool, List, [], ◌∷◌, Option, None, Some, get_or, length}
 use Rattle.std.specs.Borrow.{Bor}
 use Rattle.vx_tree.specs.Trees.{BoundTree, scope, node, BoundTrees, no_bound, bound}

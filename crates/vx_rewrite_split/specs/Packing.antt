@@ -1,4 +1,4 @@
--- What is made of the groups: their partitions, and the holes that take the pieces out of them.
+-- What is made of the groups: their partitions, and the holes that take the pieces out of them. No public contract names this file: it is for the contracts of the steps within the crate.
 use Rattle.std.specs.Prelude.{ℕ, zero, suc, List, [], ◌∷◌, Option, None, slice_get}
 use Rattle.vx_value.specs.Types.{Name, LogicalType}
 use Rattle.vx_fn.specs.Functions.{get_item}

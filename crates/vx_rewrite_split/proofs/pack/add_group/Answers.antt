@@ -1,7 +1,7 @@
 use Rattle.std.proofs.Common.{◌≡◌, ◌∷◌, ◌++◌, [], length, map, rules, ap, ◌∙◌}
+use Rattle.std.proofs.lemmas.List.{length-map}
 use Rattle.vx_tree.specs.Views.{bound_of}
 use Rattle.vx_rewrite_recombine.specs.Partitions.{piece_names, partition}
-use Rattle.vx_rewrite_split.proofs.Grouping.{count_seen}
 use Rattle.vx_rewrite_split.proofs.Naming.{names_count}
 use Rattle.vx_rewrite_split.proofs.pack.add_group.Goals as goal
 
@@ -10,7 +10,7 @@ pack-requires g c =
     let text = g.A.PartitionKey.text c.args.annotation in
     let ps = c.as_slice.result.now in
     let own : c.in_ok-own.own ≡ piece_names text 0 (map bound_of ps) = search rules in
-    ap length own ∙ names_count text 0 (map bound_of ps) ∙ count_seen ps ∙ ap length c.as_slice.ensures.value
+    ap length own ∙ names_count text 0 (map bound_of ps) ∙ length-map ps bound_of ∙ ap length c.as_slice.ensures.value
 
 pub returns-clause-names : goal.returns-clause-names
 returns-clause-names g c =
