@@ -62,7 +62,7 @@ pub enum Expected {
     #[error("expected the end of the text")]
     End,
     /// A null isn't given its type.
-    #[error("expected a type behind the null, as in null::i32?; to test for null write `is null`")]
+    #[error("expected a type behind the null, as in null::i32?; `is null` tests for a null")]
     NullType,
     /// A number is out of its type's range, or its suffix names no type.
     #[error("expected a number in its type's range: i32, or one with a suffix of i8, i16, i32, i64, u8, u16, u32, u64")]
