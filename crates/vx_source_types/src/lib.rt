@@ -17,6 +17,3 @@ pub use vx_source_dtype::{
     write_name, write_names, write_quoted, write_type,
 };
 pub use vx_source_tokens::{Expected, Found, ParseError, Sign, Token, first_token};
-
-#[cfg(test)]
-mod tests;
