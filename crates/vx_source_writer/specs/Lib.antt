@@ -1,0 +1,3 @@
+pub mod SourceTexts
+pub mod Options
+pub mod Plain
