@@ -1,0 +1,80 @@
+-- Scalars of what was read.
+use Rattle.std.specs.Prelude.{Bool, true, false, List, [], ◌∷◌, ◌++◌, Option, Some, None, Result, Ok, Err, option_and_then, if◌then◌else◌}
+use Rattle.std.specs.Str.{bytes_eq}
+use Rattle.std.specs.Prelude.{ℕ}
+use Rattle.vx_dtype.specs.declared.dtype.PType.{PType}
+use Rattle.vx_dtype.specs.declared.dtype.PType.TheVariants.{I32}
+use Rattle.vx_value.specs.Columns.{Constant, constant}
+use Rattle.vx_value.specs.Fits.{fits}
+use Rattle.vx_value.specs.Types.{Name, truth, number, text, octets, LogicalType, ty, atomic, list, fixed, struct, Fields, no_field, field, Datum, null, bool, int, utf8, bytes, list_of, struct_of, Data, no_datum, datum}
+use Rattle.vx_source_tokens.specs.declared.expected.Expected.{Expected}
+use Rattle.vx_source_tokens.specs.declared.expected.Expected.TheVariants.{NullType, ValueType, Number}
+use Rattle.vx_source_dtype.specs.TypeReading.{ptype_word}
+use Rattle.vx_source_types.specs.ValueReading.{Drafted, signed}
+
+-- the value as a scalar of that type, if it is one of it
+abbrev pub fitting : LogicalType → Datum → Option Constant
+fitting t v = if fits v t then Some (constant t v) else None
+
+-- the number, if it is in the range of the type that is named behind it
+abbrev pub ranged : Bool → Option ℕ → Option PType → Option Constant
+ranged negative (Some n) (Some p) = fitting (ty (atomic (number p)) false) (int (signed negative n))
+ranged negative _ _ = None
+
+abbrev pub number_literal : Bool → Option ℕ → List ℕ → Option Constant
+number_literal negative magnitude suffix = ranged negative magnitude (ptype_word suffix)
+
+-- the type of a value that no type follows: a number alone is an i32, and a null needs its type
+abbrev pub plain_type : Datum → Result LogicalType Expected
+plain_type null = Err NullType
+plain_type (bool b) = Ok (ty (atomic truth) false)
+plain_type (int i) = Ok (ty (atomic (number I32)) false)
+plain_type (utf8 s) = Ok (ty (atomic text) false)
+plain_type (bytes bs) = Ok (ty (atomic octets) false)
+plain_type (list_of vs) = Err ValueType
+plain_type (struct_of vs) = Err ValueType
+
+-- the scalar, or that a number of another range would have stood right
+abbrev pub in_range : Option Constant → Result Constant Expected
+in_range (Some c) = Ok c
+in_range None = Err Number
+
+abbrev pub plain_of : Datum → Result LogicalType Expected → Result Constant Expected
+plain_of v (Ok t) = in_range (fitting t v)
+plain_of v (Err e) = Err e
+
+abbrev pub plain_literal : Datum → Result Constant Expected
+plain_literal v = plain_of v (plain_type v)
+
+-- what is left of the names behind that one, if it is the first
+abbrev pub behind_name : Name → List Name → Option (List Name)
+behind_name a [] = None
+behind_name a (b ∷ names) = if bytes_eq b a then Some names else None
+
+-- what is left of the names behind those of the value's structs, if these are the type's, outer ones first
+abbrev mutual
+  pub names_left : Datum → LogicalType → List Name → Option (List Name)
+  names_left (list_of vs) (ty (list t) n) names = items_left vs t names
+  names_left (list_of vs) (ty (fixed t k) n) names = items_left vs t names
+  names_left (list_of vs) _ names = None
+  names_left (struct_of vs) (ty (struct fs) n) names = row_left vs fs names
+  names_left (struct_of vs) _ names = None
+  names_left _ t names = Some names
+
+  pub items_left : Data → LogicalType → List Name → Option (List Name)
+  items_left no_datum t names = Some names
+  items_left (datum v vs) t names = option_and_then (items_left vs t) (names_left v t names)
+
+  pub row_left : Data → Fields → List Name → Option (List Name)
+  row_left no_datum no_field names = Some names
+  row_left (datum v vs) (field a t fs) names = option_and_then (row_left vs fs) (option_and_then (names_left v t) (behind_name a names))
+  row_left _ _ names = None
+
+-- the scalar where no name is left
+abbrev pub typed_of : LogicalType → Datum → Option (List Name) → Option Constant
+typed_of t v (Some []) = fitting t v
+typed_of t v _ = None
+
+-- the value as a scalar of the type that follows it, if its structs have the type's names and it is one of the type
+abbrev pub typed_literal : Drafted → LogicalType → Option Constant
+typed_literal d t = typed_of t d.value (names_left d.value t d.names)

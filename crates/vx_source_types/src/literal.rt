@@ -1,0 +1,137 @@
+// Scalars of what was read.
+ghost use Rattle.std.specs.Prelude.{◌≡◌, option_map, MatchResult, Some, Ok, Err};
+ghost use Rattle.vx_value.specs.Views.{type_of, fields_of, value_of, data_view};
+ghost use Rattle.vx_source_types.specs.Literals.{number_literal, ranged, plain_literal, plain_type, typed_literal, fitting, names_left, items_left, row_left, behind_name};
+ghost use Rattle.vx_source_types.specs.ValueViews.{draft_of};
+
+use crate::value_reader::signed;
+use crate::value_state::Draft;
+use vx_dtype::{DType, FieldName, Nullability, PType, StructFields};
+use vx_source_dtype::ptype_word;
+use vx_source_tokens::Expected;
+use vx_value::{Scalar, Value};
+
+/// The number with a type's name behind it, if it is in the type's range.
+pub fn number_literal(negative: bool, magnitude: Option<u64>, suffix: &FieldName) -> Option<Scalar>
+    ensures { result ≡ number_literal negative magnitude suffix.now }
+{
+    ranged(negative, magnitude?, ptype_word(suffix)?)
+}
+
+// The number as one of the type, if it is in its range.
+fn ranged(negative: bool, magnitude: u64, p: PType) -> Option<Scalar>
+    ensures { result ≡ ranged negative (Some magnitude) (Some p) }
+{
+    let dtype = DType::Primitive(p, Nullability::NonNullable);
+    fitting(dtype, Value::Int(signed(negative, magnitude)))
+}
+
+// The value as a scalar of the type, if it is one of it.
+fn fitting(dtype: DType, value: Value) -> Option<Scalar>
+    ensures { result ≡ fitting (type_of dtype) (value_of value) }
+{
+    Scalar::try_new(dtype, value).ok()
+}
+
+/// The scalar of a value that no type follows, or what would have stood right.
+pub fn plain_literal(draft: Draft) -> Result<Scalar, Expected>
+    ensures { result ≡ plain_literal (value_of draft.value) }
+{
+    let Draft { value, names: _ } = draft;
+    let dtype = plain_type(&value)?;
+    match fitting(dtype, value) {
+        Some(scalar) => Ok(scalar),
+        None => Err(Expected::Number),
+    }
+}
+
+// The type of a value that no type follows, or what would have stood right.
+fn plain_type(value: &Value) -> Result<DType, Expected>
+    ensures { MatchResult result (λ t. plain_type (value_of value.now) ≡ Ok (type_of t)) (λ e. plain_type (value_of value.now) ≡ Err e) }
+{
+    match value {
+        Value::Null => Err(Expected::NullType),
+        Value::Bool(_) => Ok(DType::Bool(Nullability::NonNullable)),
+        Value::Int(_) => Ok(DType::Primitive(PType::I32, Nullability::NonNullable)),
+        Value::Utf8(_) => Ok(DType::Utf8(Nullability::NonNullable)),
+        Value::Binary(_) => Ok(DType::Binary(Nullability::NonNullable)),
+        Value::List(_) => Err(Expected::ValueType),
+        Value::Struct(_) => Err(Expected::ValueType),
+    }
+}
+
+/// The scalar of a value and the type behind it, if the value is one of the type and its structs
+/// have the type's names.
+pub fn typed_literal(draft: Draft, dtype: DType) -> Option<Scalar>
+    ensures { result ≡ typed_literal (draft_of draft) (type_of dtype) }
+{
+    let Draft { value, names } = draft;
+    if !names_left(&value, &dtype, names.as_slice())?.is_empty() {
+        return None;
+    }
+    fitting(dtype, value)
+}
+
+// What is left of the names behind those of the value's structs, if these are the type's.
+#[cycle(names)]
+fn names_left<'a>(value: &Value, t: &DType, names: &'a [FieldName]) -> Option<&'a [FieldName]>
+    ensures { option_map (λ ns. ns.now) result ≡ names_left (value_of value.now) (type_of t.now) names.now }
+{
+    match value {
+        Value::List(items) => match t {
+            DType::List(element, _) => items_left(items.as_slice(), element.as_ref(), names),
+            DType::FixedSizeList(element, _, _) => {
+                items_left(items.as_slice(), element.as_ref(), names)
+            }
+            _ => None,
+        },
+        Value::Struct(items) => match t {
+            DType::Struct(fields, _) => row_left(items.as_slice(), fields, names),
+            _ => None,
+        },
+        _ => Some(names),
+    }
+}
+
+// The same of the items of a list.
+#[cycle(names)]
+fn items_left<'a>(items: &[Value], t: &DType, names: &'a [FieldName]) -> Option<&'a [FieldName]>
+    ensures { option_map (λ ns. ns.now) result ≡ items_left (data_view items.now) (type_of t.now) names.now }
+{
+    let mut left = names;
+    for i in 0..items.len() {
+        left = names_left(&items[i], t, left)?;
+    }
+    Some(left)
+}
+
+// The same of the values of a struct, as many as its fields, each behind its field's name.
+#[cycle(names)]
+fn row_left<'a>(
+    items: &[Value],
+    fields: &StructFields,
+    names: &'a [FieldName],
+) -> Option<&'a [FieldName]>
+    ensures { option_map (λ ns. ns.now) result ≡ row_left (data_view items.now) (fields_of fields.now) names.now }
+{
+    if items.len() != fields.nfields() {
+        return None;
+    }
+    let known = fields.names().as_slice();
+    let types = fields.types();
+    let mut left = names;
+    for i in 0..items.len() {
+        left = names_left(&items[i], &types[i], behind_name(&known[i], left)?)?;
+    }
+    Some(left)
+}
+
+// What is left of the names behind that one, if it is the first.
+fn behind_name<'a>(name: &FieldName, names: &'a [FieldName]) -> Option<&'a [FieldName]>
+    ensures { option_map (λ ns. ns.now) result ≡ behind_name name.now names.now }
+{
+    let [first, rest @ ..] = names else {
+        return None;
+    };
+    if *first == *name { Some(rest) } else { None }
+}

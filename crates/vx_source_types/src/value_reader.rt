@@ -1,0 +1,339 @@
+// Values, read token by token. What is open lies on a list in the heap, so that no text makes the stack grow.
+ghost use Rattle.std.specs.Prelude.{◌≡◌, ◌∷◌, Ok, IfOk, option_map};
+ghost use Rattle.vx_value.specs.Views.{value_of};
+ghost use Rattle.vx_source_tokens.specs.Views.{lexeme_of};
+ghost use Rattle.vx_source_dtype.specs.Names.{name_at};
+ghost use Rattle.vx_source_dtype.specs.Reading.{ReadsAt, more};
+ghost use Rattle.vx_source_types.specs.ValueReading as reading;
+ghost use Rattle.vx_source_types.specs.ValueViews.{frames_of, items_read, mode_of, reader_of, step_of};
+
+use crate::value_state::{Draft, ItemsSoFar, ValueFrame, ValueMode, ValueReader, ValueStep};
+use std::alloc::{AllocError, Global};
+use vx_source_dtype::{field_name, inside, is_word, refusal};
+use vx_source_tokens::{Expected, Found, ParseError, Sign, Token};
+use vx_types::{FieldName, Value};
+
+impl ValueReader {
+    /// A value of which nothing is read yet, with that many brackets allowed inside one another.
+    pub fn new(alloc: Global, room: usize) -> ValueReader
+        ensures { reader_of result ≡ reading.value_start room }
+    {
+        ValueReader {
+            frames: Vec::new(alloc),
+            mode: ValueMode::Value,
+            names: Vec::new(alloc),
+            room,
+        }
+    }
+
+    /// Reads a token.
+    pub fn step(self, alloc: Global, found: &Found) -> Result<ValueStep, ParseError>
+        ensures { ReadsAt found.now.at step_of result (reading.value_step (reader_of self) (lexeme_of found.now.token)) }
+    {
+        let ValueReader {
+            frames,
+            mode,
+            names,
+            room,
+        } = self;
+        match mode {
+            ValueMode::Value => begin(alloc, frames, names, room, found),
+            ValueMode::FirstItem(items) => first_item(alloc, frames, items, names, room, found),
+            ValueMode::FirstField(items) => first_field(frames, items, names, room, found),
+            ValueMode::NextField(items) => next_field(frames, items, names, room, found),
+            ValueMode::FieldValue(items) => field_value(frames, items, names, room, found),
+            ValueMode::Whole(value) => close(frames, value, names, room, found),
+        }
+    }
+}
+
+fn more(frames: Vec<ValueFrame>, mode: ValueMode, names: Vec<FieldName>, room: usize) -> ValueStep
+    ensures { step_of result ≡ more (record { frames = frames_of frames.items; mode = mode_of mode; names = names.items; room = room }) }
+{
+    ValueStep::More(ValueReader {
+        frames,
+        mode,
+        names,
+        room,
+    })
+}
+
+// The beginning of a value.
+fn begin(
+    alloc: Global,
+    frames: Vec<ValueFrame>,
+    names: Vec<FieldName>,
+    room: usize,
+    found: &Found,
+) -> Result<ValueStep, ParseError>
+    ensures { ReadsAt found.now.at step_of result (reading.value_begins (frames_of frames.items) names.items room (lexeme_of found.now.token)) }
+{
+    match &found.token {
+        Token::Sign(Sign::OpenBracket) => {
+            let less = inside(room, found)?;
+            Ok(more(
+                frames,
+                ValueMode::FirstItem(no_items(alloc, room)),
+                names,
+                less,
+            ))
+        }
+        Token::Sign(Sign::OpenBrace) => {
+            let less = inside(room, found)?;
+            Ok(more(
+                frames,
+                ValueMode::FirstField(no_items(alloc, room)),
+                names,
+                less,
+            ))
+        }
+        _ => begin_simple(alloc, frames, names, room, found),
+    }
+}
+
+// No item yet.
+fn no_items(alloc: Global, room: usize) -> ItemsSoFar
+    ensures { items_read result ≡ reading.no_items room }
+{
+    ItemsSoFar {
+        items: Vec::new(alloc),
+        room,
+    }
+}
+
+// A value of one token.
+fn begin_simple(
+    alloc: Global,
+    frames: Vec<ValueFrame>,
+    names: Vec<FieldName>,
+    room: usize,
+    found: &Found,
+) -> Result<ValueStep, ParseError>
+    ensures { ReadsAt found.now.at step_of result (reading.simple_begins (frames_of frames.items) names.items room (lexeme_of found.now.token) (reading.simple_value (lexeme_of found.now.token))) }
+{
+    match simple_value(alloc, &found.token)? {
+        Some(value) => Ok(more(frames, ValueMode::Whole(value), names, room)),
+        None => Err(refusal(found, Expected::Value)),
+    }
+}
+
+// The value that the token is.
+fn simple_value(alloc: Global, token: &Token) -> Result<Option<Value>, AllocError>
+    ensures { IfOk result (λ v. option_map value_of v ≡ reading.simple_value (lexeme_of token.now)) }
+{
+    match token {
+        Token::Word(name) => Ok(word_value(name)),
+        Token::Number {
+            negative,
+            magnitude,
+            suffix,
+        } => Ok(number_value(*negative, *magnitude, suffix)),
+        Token::Text(text) => Ok(Some(Value::Utf8(text.clone()?))),
+        Token::Octets(bytes) => Ok(Some(Value::Binary(bytes.to_vec(alloc)?))),
+        _ => Ok(None),
+    }
+}
+
+// The value of a number without a suffix.
+fn number_value(negative: bool, magnitude: Option<u64>, suffix: &FieldName) -> Option<Value>
+    ensures { option_map value_of result ≡ reading.number_value negative magnitude suffix.now }
+{
+    if !suffix.as_str().is_empty() {
+        return None;
+    }
+    Some(Value::Int(signed(negative, magnitude?)))
+}
+
+// The number, below zero or not.
+pub(crate) fn signed(negative: bool, magnitude: u64) -> i128
+    ensures { result ≡ reading.signed negative magnitude }
+{
+    let n = i128::from(magnitude);
+    if negative { -n } else { n }
+}
+
+// The value that the word is.
+fn word_value(name: &FieldName) -> Option<Value>
+    ensures { option_map value_of result ≡ reading.word_value name.now }
+{
+    if is_word(name, "null") {
+        Some(Value::Null)
+    } else if is_word(name, "true") {
+        Some(Value::Bool(true))
+    } else if is_word(name, "false") {
+        Some(Value::Bool(false))
+    } else {
+        None
+    }
+}
+
+// The first item of a list, or the end of an empty one.
+fn first_item(
+    alloc: Global,
+    frames: Vec<ValueFrame>,
+    items: ItemsSoFar,
+    names: Vec<FieldName>,
+    room: usize,
+    found: &Found,
+) -> Result<ValueStep, ParseError>
+    ensures { ReadsAt found.now.at step_of result (reading.first_item_at (frames_of frames.items) names.items room (items_read items) (lexeme_of found.now.token)) }
+{
+    match &found.token {
+        Token::Sign(Sign::CloseBracket) => Ok(end_list(frames, items, names)),
+        _ => begin_item(alloc, frames, items, names, room, found),
+    }
+}
+
+// The beginning of an item.
+fn begin_item(
+    alloc: Global,
+    mut frames: Vec<ValueFrame>,
+    items: ItemsSoFar,
+    names: Vec<FieldName>,
+    room: usize,
+    found: &Found,
+) -> Result<ValueStep, ParseError>
+    ensures { ReadsAt found.now.at step_of result (reading.value_begins (reading.in_items (items_read items) ∷ frames_of frames.items) names.items room (lexeme_of found.now.token)) }
+{
+    frames.push(ValueFrame::List(items))?;
+    begin(alloc, frames, names, room, found)
+}
+
+// The list of the items.
+fn end_list(frames: Vec<ValueFrame>, items: ItemsSoFar, names: Vec<FieldName>) -> ValueStep
+    ensures { Ok (step_of result) ≡ reading.list_ends (frames_of frames.items) names.items (items_read items) }
+{
+    let ItemsSoFar { items, room } = items;
+    more(frames, ValueMode::Whole(Value::List(items)), names, room)
+}
+
+// The struct of the values.
+fn end_struct(frames: Vec<ValueFrame>, items: ItemsSoFar, names: Vec<FieldName>) -> ValueStep
+    ensures { Ok (step_of result) ≡ reading.row_ends (frames_of frames.items) names.items (items_read items) }
+{
+    let ItemsSoFar { items, room } = items;
+    more(frames, ValueMode::Whole(Value::Struct(items)), names, room)
+}
+
+// The first field of a struct, or the end of an empty one.
+fn first_field(
+    frames: Vec<ValueFrame>,
+    items: ItemsSoFar,
+    names: Vec<FieldName>,
+    room: usize,
+    found: &Found,
+) -> Result<ValueStep, ParseError>
+    ensures { ReadsAt found.now.at step_of result (reading.first_named_at (frames_of frames.items) names.items room (items_read items) (lexeme_of found.now.token)) }
+{
+    match &found.token {
+        Token::Sign(Sign::CloseBrace) => Ok(end_struct(frames, items, names)),
+        _ => next_field(frames, items, names, room, found),
+    }
+}
+
+// The name of a field.
+fn next_field(
+    frames: Vec<ValueFrame>,
+    items: ItemsSoFar,
+    mut names: Vec<FieldName>,
+    room: usize,
+    found: &Found,
+) -> Result<ValueStep, ParseError>
+    ensures { ReadsAt found.now.at step_of result (reading.value_named (frames_of frames.items) names.items room (items_read items) (lexeme_of found.now.token) (name_at (lexeme_of found.now.token))) }
+{
+    match field_name(&found.token) {
+        Some(name) => {
+            names.push(name.clone()?)?;
+            Ok(more(frames, ValueMode::FieldValue(items), names, room))
+        }
+        None => Err(refusal(found, Expected::Name)),
+    }
+}
+
+// The sign before the value of a field.
+fn field_value(
+    mut frames: Vec<ValueFrame>,
+    items: ItemsSoFar,
+    names: Vec<FieldName>,
+    room: usize,
+    found: &Found,
+) -> Result<ValueStep, ParseError>
+    ensures { ReadsAt found.now.at step_of result (reading.named_value_at (frames_of frames.items) names.items room (items_read items) (lexeme_of found.now.token)) }
+{
+    match &found.token {
+        Token::Sign(Sign::Colon) => {
+            frames.push(ValueFrame::Struct(items))?;
+            Ok(more(frames, ValueMode::Value, names, room))
+        }
+        _ => Err(refusal(found, Expected::FieldValue)),
+    }
+}
+
+// What follows a whole value.
+fn close(
+    mut frames: Vec<ValueFrame>,
+    value: Value,
+    names: Vec<FieldName>,
+    room: usize,
+    found: &Found,
+) -> Result<ValueStep, ParseError>
+    ensures { ReadsAt found.now.at step_of result (reading.value_ends (frames_of frames.items) names.items room (value_of value) (lexeme_of found.now.token)) }
+{
+    match frames.pop() {
+        None => Ok(ValueStep::Done(Draft { value, names })),
+        Some(ValueFrame::List(items)) => {
+            let items = with_item(items, value)?;
+            close_item(frames, items, names, room, found)
+        }
+        Some(ValueFrame::Struct(items)) => {
+            let items = with_item(items, value)?;
+            close_field(frames, items, names, room, found)
+        }
+    }
+}
+
+// The items with another.
+fn with_item(items: ItemsSoFar, value: Value) -> Result<ItemsSoFar, AllocError>
+    ensures { IfOk result (λ d. items_read d ≡ reading.with_item (items_read items) (value_of value)) }
+{
+    let ItemsSoFar { mut items, room } = items;
+    items.push(value)?;
+    Ok(ItemsSoFar { items, room })
+}
+
+// What follows an item of a list.
+fn close_item(
+    mut frames: Vec<ValueFrame>,
+    items: ItemsSoFar,
+    names: Vec<FieldName>,
+    room: usize,
+    found: &Found,
+) -> Result<ValueStep, ParseError>
+    ensures { ReadsAt found.now.at step_of result (reading.item_ends (frames_of frames.items) names.items room (items_read items) (lexeme_of found.now.token)) }
+{
+    match &found.token {
+        Token::Sign(Sign::Comma) => {
+            frames.push(ValueFrame::List(items))?;
+            Ok(more(frames, ValueMode::Value, names, room))
+        }
+        Token::Sign(Sign::CloseBracket) => Ok(end_list(frames, items, names)),
+        _ => Err(refusal(found, Expected::CommaOrCloseBracket)),
+    }
+}
+
+// What follows the value of a field.
+fn close_field(
+    frames: Vec<ValueFrame>,
+    items: ItemsSoFar,
+    names: Vec<FieldName>,
+    room: usize,
+    found: &Found,
+) -> Result<ValueStep, ParseError>
+    ensures { ReadsAt found.now.at step_of result (reading.named_ends (frames_of frames.items) names.items room (items_read items) (lexeme_of found.now.token)) }
+{
+    match &found.token {
+        Token::Sign(Sign::Comma) => Ok(more(frames, ValueMode::NextField(items), names, room)),
+        Token::Sign(Sign::CloseBrace) => Ok(end_struct(frames, items, names)),
+        _ => Err(refusal(found, Expected::CommaOrCloseBrace)),
+    }
+}
