@@ -1,0 +1,4 @@
+pub mod Keywords
+pub mod Operands
+pub mod Stops
+pub mod Views
