@@ -1,3 +1,3 @@
-mod Writing
+pub mod Writing
 mod Limits
 pub mod Apart
