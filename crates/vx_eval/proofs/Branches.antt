@@ -1,9 +1,10 @@
 -- Columns merged by masks that are given.
-use Rattle.std.proofs.Common.{◌≡◌, ℕ, ◌+◌, ◌<◌, ◌≤◌, List, [], ◌∷◌, ◌++◌, length, get_or, drop, refl, sym, ap, ◌∙◌, arith, zero, suc, Bool, true, false, ◌||◌, append_assoc}
+use Rattle.std.proofs.Common.{◌≡◌, ℕ, ◌+◌, ◌<◌, ◌≤◌, List, [], ◌∷◌, ◌++◌, length, get_or, drop, refl, sym, ap, ◌∙◌, arith, suc, Bool, true, false, ◌||◌, append_assoc}
 use Rattle.std.specs.Prelude.{if◌then◌else◌}
 use Rattle.std.specs.List.{list_any}
 use Rattle.std.proofs.Math.ListN.{replicate}
-use Rattle.std.proofs.lemmas.List.{drop_more, drop_all, append-nil, map-append, length-map, length-append}
+use Rattle.std.proofs.lemmas.List.{drop_all, append-nil, map-append, length-map, length-append}
+use Rattle.vx_dtype.proofs.Lists.{drop_next}
 use Rattle.vx_value.specs.Columns.{Batch}
 use Rattle.vx_value.specs.Fits.{Fits, IsBatch}
 use Rattle.vx_value.specs.Types.{LogicalType, Datum, null}
@@ -15,19 +16,12 @@ use Rattle.vx_eval.specs.Choices.{EachBatch}
 use Rattle.vx_eval.specs.Columns.{rows_view, rows_views, each_row, AllLong}
 use Rattle.vx_eval.specs.FirstMerged.{masks_in, columns_in, InSomeMask, first_merged}
 use Rattle.vx_eval.proofs.Filled.{each_same}
-use Rattle.vx_eval.proofs.Masked.{each-snoc, own_pair, own_long, own_apart, own_at, long-snoc}
+use Rattle.vx_eval.proofs.Lengths.{long-snoc}
+use Rattle.vx_eval.proofs.Masked.{own_pair, own_long, own_apart, own_at}
 use Rattle.vx_eval.proofs.Matched.{batch_at, rows_fit}
 
 abbrev Branch : Type 0
 Branch = List Bool × Batch
-
-pub branch_long : (n : ℕ) (bs : List Branch) (j : ℕ) (b : Branch) → EachMask n (masks_in bs) → j < length bs → b ≡ get_or bs j b → length b.0 ≡ n
-branch_long n [] j b each lt is = absurd (omega arith)
-branch_long n (x ∷ bs) zero b each lt is = ap (λ (y : Branch). length y.0) is ∙ each.0
-branch_long n (x ∷ bs) (suc j) b each lt is = branch_long n bs j b each.1 (omega arith) is
-
-on : (bs : List Branch) (j : ℕ) (b : Branch) → j < length bs → b ≡ get_or bs j b → drop j bs ≡ b ∷ drop (j + 1) bs
-on bs j b lt is = drop_more bs j b lt ∙ ap (λ x. x ∷ drop (j + 1) bs) (sym is)
 
 -- ---- masks, one after another
 
@@ -36,10 +30,10 @@ pub own_more : (bs : List Branch) (j : ℕ) (b : Branch) (masks new want : List 
 own_more bs j b masks new want copy left after lt is so_far own leaves pushed =
     let ms = masks_in (drop (j + 1) bs) in
     ap (λ l. l ++ claimed after ms) pushed ∙ append_assoc masks (copy ∷ []) (claimed after ms) ∙ ap (λ o. masks ++ copy ∷ claimed o ms) leaves ∙ ap (λ m. masks ++ m ∷ claimed (but left b.0) ms) own
-    ∙ sym (ap (λ l. masks ++ claimed left (masks_in l)) (on bs j b lt is)) ∙ so_far
+    ∙ sym (ap (λ l. masks ++ claimed left (masks_in l)) (drop_next bs j b lt is)) ∙ so_far
 
 pub left_more : (bs : List Branch) (j : ℕ) (b : Branch) (left after want : List Bool) → j < length bs → b ≡ get_or bs j b → unclaimed left (masks_in (drop j bs)) ≡ want → after ≡ but left b.0 → unclaimed after (masks_in (drop (j + 1) bs)) ≡ want
-left_more bs j b left after want lt is so_far leaves = ap (λ o. unclaimed o (masks_in (drop (j + 1) bs))) leaves ∙ sym (ap (λ l. unclaimed left (masks_in l)) (on bs j b lt is)) ∙ so_far
+left_more bs j b left after want lt is so_far leaves = ap (λ o. unclaimed o (masks_in (drop (j + 1) bs))) leaves ∙ sym (ap (λ l. unclaimed left (masks_in l)) (drop_next bs j b lt is)) ∙ so_far
 
 pub own_done : (bs : List Branch) (j : ℕ) (rest copy left start : List Bool) (masks new : List (List Bool)) → length bs ≤ j → masks ++ claimed left (masks_in (drop j bs)) ≡ claimed start (masks_in bs) → unclaimed left (masks_in (drop j bs)) ≡ unclaimed start (masks_in bs) →
     copy ≡ both rest left → new ≡ masks ++ copy ∷ [] → new ≡ claimed start (masks_in bs ++ rest ∷ [])
@@ -56,7 +50,7 @@ pub column_more : (bs : List Branch) (j : ℕ) (b : Branch) (columns new : List 
 column_more bs j b columns new r want lt is so_far lends pushed =
     let cs = columns_in (drop (j + 1) bs) in
     ap (λ l. rows_views l ++ cs) pushed ∙ ap (λ l. l ++ cs) (map-append rows_view columns (r ∷ [])) ∙ append_assoc (rows_views columns) (rows_view r ∷ []) cs ∙ ap (λ c. rows_views columns ++ c ∷ cs) lends
-    ∙ sym (ap (λ l. rows_views columns ++ columns_in l) (on bs j b lt is)) ∙ so_far
+    ∙ sym (ap (λ l. rows_views columns ++ columns_in l) (drop_next bs j b lt is)) ∙ so_far
 
 pub columns_done : (bs : List Branch) (j : ℕ) (columns new : List Rows) (r : Rows) (last : List Datum) → length bs ≤ j → rows_views columns ++ columns_in (drop j bs) ≡ columns_in bs → rows_view r ≡ last → new ≡ columns ++ r ∷ [] → rows_views new ≡ columns_in bs ++ last ∷ []
 columns_done bs j columns new r last all so_far lends pushed =
@@ -93,7 +87,7 @@ pub ready : (bs : List Branch) (rest : List Bool) (otherwise : List Datum) (mask
 ready bs rest otherwise masks columns each long last some own are =
     let n = length rest in
     let ms : List (List Bool) = masks_in bs ++ rest ∷ [] in
-    let all : EachMask n ms = each-snoc n (masks_in bs) rest each refl in
+    let all : EachMask n ms = long-snoc n (masks_in bs) rest each refl in
     let a : length columns ≡ length (columns_in bs) + 1 = sym (length-map columns rows_view) ∙ ap length are ∙ length-append (columns_in bs) (otherwise ∷ []) in
     let b : length masks ≡ length (masks_in bs) + 1 = own_pair n ms masks own ∙ length-append (masks_in bs) (rest ∷ []) in
     let same : length (columns_in bs) ≡ length (masks_in bs) = length-in bs in

@@ -1,7 +1,7 @@
 -- Comparisons joined by And.
 use Rattle.std.proofs.Common.{◌≡◌, ℕ, ◌+◌, ◌<◌, ◌≤◌, List, [], ◌∷◌, ◌++◌, map, length, get_or, drop, refl, sym, ap, ◌∙◌, arith, zero, suc, IsTrue, Option, Some, None, Bool, true, false}
 use Rattle.std.specs.Prelude.{if◌then◌else◌, ◌||◌}
-use Rattle.std.proofs.lemmas.List.{drop_more, drop_all, map-append, length-map, append-nil}
+use Rattle.std.proofs.lemmas.List.{drop_more, drop_all, get_or-map, map-append, length-map, append-nil}
 use Rattle.std.proofs.lemmas.List.FromFn.{length-map-range_with_len, get_or-map-range_with_len}
 use Rattle.vx_value.specs.Types.{Datum, null, bool, is_null_datum}
 use Rattle.vx_fn.specs.Functions.{Operation, compares}
@@ -10,6 +10,7 @@ use Rattle.vx_eval.specs.Columns.{each_row, row_at, truth_datum, truth_of}
 use Rattle.vx_eval.specs.Items.{AllLong, HaveRow, all_of, conjoined, compared_items, is_comparison, item_at}
 use Rattle.vx_eval.proofs.Filled.{each_same, all_rows, told_at}
 use Rattle.vx_fn.proofs.Kleene.{and_assoc}
+use Rattle.vx_eval.proofs.Lengths.{long_at}
 use Rattle.vx_eval.proofs.Kleene.{seen, left_seen}
 
 -- ---- And
@@ -47,18 +48,11 @@ conjoined_at n i cs lt = get_or-map-range_with_len (λ k. all_of (row_at cs k)) 
 pub have_there : (i m : ℕ) (cs : List (List Datum)) (c : List Datum) → HaveRow i cs → m < length cs → c ≡ get_or cs m c → i < length c
 have_there i m cs c have lt is = let same : length c ≡ length (get_or cs m c) = ap length is in omega (arith, same, have m c lt)
 
-long_at : (n : ℕ) (cs : List (List Datum)) (j : ℕ) (d : List Datum) → AllLong n cs → j < length cs → length (get_or cs j d) ≡ n
-long_at n [] j d all h = absurd (omega arith)
-long_at n (c ∷ cs) zero d all h = all.0
-long_at n (c ∷ cs) (suc j) d all h = long_at n cs j d all.1 (omega arith)
-
 pub have_row : (n i : ℕ) (cs : List (List Datum)) → AllLong n cs → i < n → HaveRow i cs
 have_row n i cs all lt = λ j d h. omega (arith, long_at n cs j d all h, lt)
 
 here_at : (i m : ℕ) (cs : List (List Datum)) (c : List Datum) → m < length cs → c ≡ get_or cs m c → get_or c i null ≡ get_or (row_at cs i) m null
-here_at i m [] c lt is = absurd (omega arith)
-here_at i zero (x ∷ cs) c lt is = ap (λ y. get_or y i null) is
-here_at i (suc m) (x ∷ cs) c lt is = here_at i m cs c (omega arith) is
+here_at i m cs c lt is = ap (λ d. get_or d i null) is ∙ sym (get_or-map (λ d. get_or d i null) cs m c null lt)
 
 pub all_start : (ds : List Datum) → kleene_and (bool true) (all_of (drop 0 ds)) ≡ all_of ds
 all_start ds = true_all ds

@@ -7,15 +7,12 @@ use Rattle.std.proofs.lemmas.Bool.{or_parts, or_from, ltb-false, le-ltb}
 use Rattle.std.proofs.lemmas.List.{map-append, take_all, take-append-drop, append_cancel_right}
 use Rattle.std.proofs.lemmas.List.Edits.{split_between}
 use Rattle.std.proofs.lemmas.List.Folds.{list_any-append}
-use Rattle.std.proofs.lemmas.Cmp.{int_cmp_total, nat_list_cmp_total}
-use Rattle.std.specs.declared.cmp.Ordering.{Ordering}
-use Rattle.std.specs.declared.cmp.Ordering.TheVariants.{Less, Equal, Greater}
-use Rattle.std.specs.Ordering.{is_eq, ordering_reverse}
 use Rattle.vx_dtype.specs.declared.error.VortexError.{VortexError}
 use Rattle.vx_dtype.specs.declared.error.VortexError.TheVariants.{AddOverflow, CastNull, BadFill}
-use Rattle.vx_value.specs.Types.{LogicalType, Datum, null, bool, int, utf8, bytes, list_of, struct_of, is_null_datum}
-use Rattle.vx_fn.specs.Faults.{node_fault, overflows, misfits, fill_of, is_bad_fill, some_differ, differs, when}
+use Rattle.vx_value.specs.Types.{LogicalType, Datum, is_null_datum}
+use Rattle.vx_fn.specs.Faults.{node_fault, overflows, misfits, fill_of, is_bad_fill, when}
 use Rattle.vx_fn.specs.Functions.{Function, binary, adds, cast, fill_null, literal}
+use Rattle.vx_fn.proofs.Fills.{none_differ}
 use Rattle.vx_tree.specs.declared.bound.BoundExpression.{BoundExpression}
 use Rattle.vx_tree.specs.Views.{bounds_of}
 use Rattle.vx_tree.specs.Faults.{first_fault, each_fault}
@@ -70,29 +67,6 @@ no_row_faults : {A : Type 0} (p : A → Bool) (fault : ℕ → VortexError) (xs 
 no_row_faults p fault xs ys e f = ap (option_map fault) (no_position p xs ys (none_mapped fault _ e) (none_mapped fault _ f))
 
 -- ---- a fill by a literal
-
-turned_equal : (o : Ordering) → o ≡ ordering_reverse o → not (is_eq o) ≡ false
-turned_equal Less e = cc
-turned_equal Equal e = refl
-turned_equal Greater e = cc
-
-order_equal : (v : Datum) → differs v v ≡ false
-order_equal null = refl
-order_equal (bool true) = refl
-order_equal (bool false) = refl
-order_equal (int i) = turned_equal _ (int_cmp_total.antisymm i i)
-order_equal (utf8 t) = turned_equal _ (nat_list_cmp_total.antisymm t t)
-order_equal (bytes t) = turned_equal _ (nat_list_cmp_total.antisymm t t)
-order_equal (list_of vs) = refl
-order_equal (struct_of vs) = refl
-
-none_differ_from : (c : Datum) (batch : List Datum) → list_any (differs c) (map (λ (v : Datum). c) batch) ≡ false
-none_differ_from c [] = refl
-none_differ_from c (v ∷ batch) = or_from _ _ (order_equal c) (none_differ_from c batch)
-
-none_differ : (c : Datum) (batch : List Datum) → some_differ (map (λ (v : Datum). c) batch) ≡ false
-none_differ c [] = refl
-none_differ c (v ∷ batch) = none_differ_from c batch
 
 when_none : (b : Bool) (fault : VortexError) → when b fault ≡ None → b ≡ false
 when_none true fault e = cc

@@ -1,13 +1,13 @@
 -- Columns that are filled row by row.
-use Rattle.std.proofs.Common.{◌≡◌, ℕ, ◌+◌, ◌<◌, List, [], ◌∷◌, ◌++◌, append_assoc, map, length, get_or, refl, sym, ap, subst, ◌∙◌, arith, Some, None, Result, Ok, Err, IfOk, IfErr, inl, inr, zero, suc, IsTrue, Bool, true, false}
+use Rattle.std.proofs.Common.{◌≡◌, ℕ, ◌+◌, ◌<◌, ◌≤◌, List, [], ◌∷◌, ◌++◌, map, length, get_or, refl, sym, ap, subst, ◌∙◌, arith, Some, None, Result, Ok, Err, IfOk, IfErr, inl, inr, zero, suc, IsTrue, Bool, true, false, set-set}
 use Rattle.std.specs.Prelude.{position}
 use Rattle.std.specs.List.{position_or_len}
 use Rattle.std.proofs.lemmas.List.Sums.{position_or_len_is}
 use Rattle.std.proofs.lemmas.Bool.Decides.{nat_tests}
 use Rattle.std.specs.List.{range_with_len}
-use Rattle.std.proofs.lemmas.List.{map-append, length-map, length-replicate, ext_get_or}
-use Rattle.std.proofs.lemmas.List.FromFn.{map-range_with_len_more, length-map-range_with_len, get_or-map-range_with_len}
-use Rattle.std.proofs.Math.ListN.{replicate}
+use Rattle.std.proofs.lemmas.List.{length-map, length-replicate, ext_get_or, get_or-replicate}
+use Rattle.std.proofs.lemmas.List.FromFn.{length-map-range_with_len, get_or-map-range_with_len}
+use Rattle.std.proofs.Math.ListN.{replicate, set}
 use Rattle.std.specs.declared.alloc.Global.{Global}
 use Rattle.std.specs.declared.vec.Vec.{Vec}
 use Rattle.vx_dtype.specs.declared.error.VortexError.{VortexError}
@@ -18,29 +18,20 @@ use Rattle.vx_value.specs.Views.{value_of}
 use Rattle.vx_fn.specs.Functions.{Function, Operation, compares, binary}
 use Rattle.vx_fn.specs.Values.{fn_value, binary_value}
 use Rattle.vx_fn.specs.Faults.{node_fault}
+use Rattle.vx_eval_merge.proofs.Writing.{Written, written_more, taken_is}
 use Rattle.vx_eval.specs.declared.rows.Rows.{Rows}
 use Rattle.vx_eval.specs.declared.rows.Rows.TheVariants.{Owned}
 use Rattle.vx_eval.specs.Columns.{values_of, each_row, row_at, rows_of, rows_view, unless_fault, node_answer, Evaluates}
 use Rattle.vx_eval.specs.Items.{compared_items, is_comparison, item_at}
 
--- one more row, at the loop's index
-pub row_pushed : {A : Type 0} (f : A → Datum) (h : ℕ → Datum) (out new : List A) (i : ℕ) (v : A) → map f out ≡ each_row i h → new ≡ out ++ v ∷ [] → f v ≡ h i → map f new ≡ each_row (i + 1) h
-row_pushed f h out new i v so_far pushed here =
-    ap (map f) pushed ∙ map-append f out (v ∷ []) ∙ ap (λ ds. ds ++ f v ∷ []) so_far ∙ ap (λ d. each_row i h ++ d ∷ []) here ∙ sym (map-range_with_len_more h 0 i i (omega arith))
-
--- and behind values that were there
-pub row_put_behind : (h : ℕ → Datum) (old out new : List Value) (i : ℕ) (v : Value) → values_of out ≡ values_of old ++ each_row i h → new ≡ out ++ v ∷ [] → value_of v ≡ h i → values_of new ≡ values_of old ++ each_row (i + 1) h
-row_put_behind h old out new i v so_far pushed here =
-    ap values_of pushed ∙ map-append value_of out (v ∷ []) ∙ ap (λ ds. ds ++ value_of v ∷ []) so_far ∙ append_assoc (values_of old) (each_row i h) (value_of v ∷ [])
-    ∙ ap (λ d. values_of old ++ (each_row i h ++ d ∷ [])) here ∙ ap (λ l. values_of old ++ l) (sym (map-range_with_len_more h 0 i i (omega arith)))
+-- rows that are given one by one
+pub as_rows : (n : ℕ) (f : ℕ → Datum) (ds : List Datum) → length ds ≡ n → ((k : ℕ) → k < n → get_or ds k null ≡ f k) → ds ≡ each_row n f
+as_rows n f ds long h =
+    ext_get_or null ds (each_row n f) (long ∙ sym (length-map-range_with_len f 0 n)) (λ k lt. let within : k < n = omega arith in h k within ∙ sym (get_or-map-range_with_len f 0 n k k null within (omega arith)))
 
 pub map_map : {A B C : Type 0} (f : B → C) (g : A → B) (xs : List A) → map f (map g xs) ≡ map (λ x. f (g x)) xs
 map_map f g [] = refl
 map_map f g (x ∷ xs) = ap (λ l. f (g x) ∷ l) (map_map f g xs)
-
-pub map_same : {A B : Type 0} (f g : A → B) → ((a : A) → f a ≡ g a) → (xs : List A) → map f xs ≡ map g xs
-map_same f g h [] = refl
-map_same f g h (x ∷ xs) = ap (λ y. y ∷ map f xs) (h x) ∙ ap (λ l. g x ∷ l) (map_same f g h xs)
 
 -- a node that doesn't fault, filled with its function's value at each row
 pub evaluated : (f : Function) (ts : List LogicalType) (n : ℕ) (cs : List (List Datum)) (r : Result Rows VortexError) → node_fault f ts (rows_of n cs) ≡ None →
@@ -72,17 +63,11 @@ evaluated_in_place f ts n cs input v g (Err e) quiet is long same made memory = 
 
 -- rows that are the same one by one
 pub each_same : (n : ℕ) (f g : ℕ → Datum) → ((k : ℕ) → k < n → f k ≡ g k) → each_row n f ≡ each_row n g
-each_same n f g h =
-    let size : length (each_row n f) ≡ n = length-map-range_with_len f 0 n in
-    ext_get_or null (each_row n f) (each_row n g) (size ∙ sym (length-map-range_with_len g 0 n))
-    (λ k lt. let within : k < n = omega arith in get_or-map-range_with_len f 0 n k k null within (omega arith) ∙ h k within ∙ sym (get_or-map-range_with_len g 0 n k k null within (omega arith)))
+each_same n f g h = as_rows n g (each_row n f) (length-map-range_with_len f 0 n) (λ k lt. get_or-map-range_with_len f 0 n k k null lt (omega arith) ∙ h k lt)
 
 -- rows that are all taken are the column
 pub all_rows : (ds : List Datum) (n : ℕ) → length ds ≡ n → each_row n (λ k. get_or ds k null) ≡ ds
-all_rows ds n long =
-    let f = λ (k : ℕ). get_or ds k null in
-    let size : length (each_row n f) ≡ n = length-map-range_with_len f 0 n in
-    ext_get_or null _ _ (size ∙ sym long) (λ k h. get_or-map-range_with_len f 0 n k k null (omega (arith, size)) (omega arith))
+all_rows ds n long = sym (as_rows n (λ k. get_or ds k null) ds long (λ k lt. refl))
 
 -- and so are the rows of what is made of each
 pub each_of : (g : Datum → Datum) (ds : List Datum) (n : ℕ) → length ds ≡ n → each_row n (λ k. g (get_or ds k null)) ≡ map g ds
@@ -129,11 +114,6 @@ put_behind old ds es (Err e) same is = tt
 
 -- ---- one value in all rows of a column
 
-pub repeated_at : (n i : ℕ) (d : Datum) → i < n → get_or (replicate n d) i null ≡ d
-repeated_at zero i d lt = absurd (omega arith)
-repeated_at (suc n) zero d lt = refl
-repeated_at (suc n) (suc i) d lt = repeated_at n i d (omega arith)
-
 pub repeated_still : (f : Function) (ts : List LogicalType) (n m : ℕ) (c x : List Datum) (d : Datum) (r : Result Rows VortexError) → x ≡ replicate m d → length x ≡ n →
     Evaluates f ts n (c ∷ replicate n d ∷ []) r → Evaluates f ts n (c ∷ x ∷ []) r
 repeated_still f ts n m c x d r is long h =
@@ -146,7 +126,7 @@ pub compared_with : (op : Operation) (ts : List LogicalType) (n : ℕ) (c : List
     node_answer (binary op) ts (rows_of n (c ∷ replicate n d ∷ [])) ≡ Ok (map (λ v. binary_value op v d) c)
 compared_with op ts n c d is long =
     let told = λ (v : Datum). binary_value op v d in
-    let each = each_same n (λ k. fn_value (binary op) ts (row_at (c ∷ replicate n d ∷ []) k)) (λ k. told (get_or c k null)) (λ k lt. ap (binary_value op (get_or c k null)) (repeated_at n k d lt)) in
+    let each = each_same n (λ k. fn_value (binary op) ts (row_at (c ∷ replicate n d ∷ []) k)) (λ k. told (get_or c k null)) (λ k lt. ap (binary_value op (get_or c k null)) (get_or-replicate n k d null lt)) in
     given (binary op) ts n (c ∷ replicate n d ∷ []) (map told c) (comparison_quiet op ts _ is) (sym (each ∙ each_of told c n long))
 
 -- what is told of one row
@@ -154,3 +134,14 @@ pub told_at : (op : Operation) (k : ℕ) (d : Datum) (vs : List Datum) (i : ℕ)
 told_at op k d [] i lt = absurd (omega arith)
 told_at op k d (v ∷ vs) zero lt = refl
 told_at op k d (v ∷ vs) (suc i) lt = told_at op k d vs i (omega arith)
+
+-- ---- rows that are written over in place
+
+-- a row is taken out, and another put in
+pub overwritten_more : (g : ℕ → Datum → Datum) (xs vs : List Value) (i : ℕ) (row empty v : Value) → Written g (values_of xs) i (values_of vs) → i < length vs → row ≡ get_or vs i row →
+    value_of v ≡ g i (value_of row) → Written g (values_of xs) (i + 1) (values_of (set (set vs i empty) i v))
+overwritten_more g xs vs i row empty v w within here made =
+    subst (λ l. Written g (values_of xs) (i + 1) (values_of l)) (sym (set-set vs i empty v)) (written_more g (values_of xs) vs i v w within (made ∙ ap (g i) (taken_is (values_of xs) vs i row w.rest within here)))
+
+pub overwritten_all : (g : ℕ → Datum → Datum) (xs vs : List Value) (i : ℕ) → Written g (values_of xs) i (values_of vs) → length xs ≤ i → values_of vs ≡ each_row (length xs) (λ k. g k (get_or (values_of xs) k null))
+overwritten_all g xs vs i w all = as_rows (length xs) (λ k. g k (get_or (values_of xs) k null)) (values_of vs) (w.long ∙ length-map xs value_of) (λ k lt. w.done k (omega arith))

@@ -5,8 +5,7 @@ mod Transposed
 mod Fitting
 mod Meanings
 mod Structs
-mod Overwriting
-mod Taking
+mod Lengths
 mod FirstRows
 mod Likes
 mod Matched

@@ -1,12 +1,12 @@
 -- Texts against patterns that were read.
 use Rattle.std.proofs.Common.{◌≡◌, ℕ, ◌<◌, List, get_or, refl, sym, ap, ◌∙◌, Some, None, Result, Ok, Bool}
 use Rattle.std.proofs.Math.ListN.{replicate}
+use Rattle.std.proofs.lemmas.List.{get_or-replicate}
 use Rattle.vx_dtype.specs.declared.error.VortexError.{VortexError}
 use Rattle.vx_value.specs.Types.{Datum, null, utf8}
 use Rattle.vx_fn.specs.Values.{liked}
 use Rattle.vx_eval_like.specs.Patterns.{Compiled, compiled}
 use Rattle.vx_eval.specs.Kernels.{text_of, accepted}
-use Rattle.vx_eval.proofs.Filled.{repeated_at}
 
 abbrev ok : Datum → Result Datum VortexError
 ok v = Ok v
@@ -25,7 +25,7 @@ is_text _ t e = cc
 pub accepted_at : (negated ci : Bool) (n i : ℕ) (v w u : Datum) (t : List ℕ) (p : Compiled) → i < n → text_of w ≡ Some t → read (compiled ci t) ≡ Ok p → u ≡ accepted negated p v → u ≡ liked negated ci v (get_or (replicate n w) i null)
 accepted_at negated ci n i v w u t p lt is made here =
     let same : compiled ci t ≡ p = cc in
-    here ∙ ap (λ q. accepted negated q v) (sym same) ∙ go v ∙ ap (liked negated ci v) (sym (repeated_at n i w lt ∙ is_text w t is))
+    here ∙ ap (λ q. accepted negated q v) (sym same) ∙ go v ∙ ap (liked negated ci v) (sym (get_or-replicate n i w null lt ∙ is_text w t is))
   where
     go : (v : Datum) → accepted negated (compiled ci t) v ≡ liked negated ci v (utf8 t)
     go (utf8 s) = refl
@@ -33,7 +33,7 @@ accepted_at negated ci n i v w u t p lt is made here =
 
 -- what is no text is no pattern
 pub unliked_at : (negated ci : Bool) (n i : ℕ) (v w u : Datum) → i < n → text_of w ≡ None → u ≡ null → u ≡ liked negated ci v (get_or (replicate n w) i null)
-unliked_at negated ci n i v w u lt none is = is ∙ go v w none ∙ ap (liked negated ci v) (sym (repeated_at n i w lt))
+unliked_at negated ci n i v w u lt none is = is ∙ go v w none ∙ ap (liked negated ci v) (sym (get_or-replicate n i w null lt))
   where
     go : (v w : Datum) → text_of w ≡ None → null ≡ liked negated ci v w
     go (utf8 s) (utf8 t) e = cc

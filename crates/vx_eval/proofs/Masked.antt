@@ -2,8 +2,7 @@
 use Rattle.std.proofs.Common.{◌≡◌, ℕ, ◌+◌, ◌<◌, ◌≤◌, List, [], ◌∷◌, ◌++◌, map, length, get_or, refl, sym, ap, subst, ◌∙◌, arith, zero, suc, Bool, true, false, Option, Some, None, Result, Ok, Err, IfOk, Bor, append_assoc}
 use Rattle.std.specs.Prelude.{if◌then◌else◌, MatchOption, option_map}
 use Rattle.std.proofs.Math.ListN.{replicate, set}
-use Rattle.std.proofs.lemmas.List.{length-map, map-append, ext_get_or, get_or-replicate, length-append, length-replicate}
-use Rattle.std.proofs.lemmas.List.FromFn.{length-map-range_with_len, get_or-map-range_with_len}
+use Rattle.std.proofs.lemmas.List.{length-map, map-append, get_or-map, get_or_default, get_or-replicate, length-append, length-replicate}
 use Rattle.vx_value.specs.Types.{Datum, null}
 use Rattle.vx_value.specs.declared.value.Value.{Value}
 use Rattle.vx_value.specs.Views.{value_of}
@@ -16,15 +15,10 @@ use Rattle.vx_eval.specs.declared.rows.Rows.{Rows}
 use Rattle.vx_eval.specs.declared.rows.Rows.TheVariants.{Same}
 use Rattle.vx_eval.specs.Choices.{else_at, conditions_in, values_in, alone, truths, SameRows}
 use Rattle.vx_eval.specs.Columns.{values_of, rows_view, rows_views, row_at, each_row, AllLong}
-use Rattle.vx_eval.proofs.Filled.{each_same}
+use Rattle.vx_eval.proofs.Filled.{as_rows, each_same}
+use Rattle.vx_eval.proofs.Lengths.{long_at, long-snoc, long_front, long_of}
 use Rattle.vx_eval.proofs.Trues.{true_at}
 use Rattle.vx_value.proofs.TakenRows.{at_place, row_kept}
-
--- ---- rows that are given one by one
-
-pub as_rows : (n : ℕ) (f : ℕ → Datum) (ds : List Datum) → length ds ≡ n → ((k : ℕ) → k < n → get_or ds k null ≡ f k) → ds ≡ each_row n f
-as_rows n f ds long h =
-    ext_get_or null ds (each_row n f) (long ∙ sym (length-map-range_with_len f 0 n)) (λ k lt. let within : k < n = omega arith in h k within ∙ sym (get_or-map-range_with_len f 0 n k k null within (omega arith)))
 
 -- ---- columns in turn
 
@@ -104,14 +98,6 @@ every_row n k lt = get_or-replicate n k true false lt
 masks_of_all : (n : ℕ) (ms : List (List Bool)) → EachMask n ms → EachMask (length (replicate n true)) ms
 masks_of_all n ms each = subst (λ m. EachMask m ms) (sym (length-replicate n true)) each
 
-pub each-snoc : (n : ℕ) (ms : List (List Bool)) (m : List Bool) → EachMask n ms → length m ≡ n → EachMask n (ms ++ m ∷ [])
-each-snoc n [] m each e = (e, tt)
-each-snoc n (x ∷ ms) m each e = (each.0, each-snoc n ms m each.1 e)
-
-pub long-snoc : (n : ℕ) (cs : List (List Datum)) (c : List Datum) → AllLong n cs → length c ≡ n → AllLong n (cs ++ c ∷ [])
-long-snoc n [] c all e = (e, tt)
-long-snoc n (x ∷ cs) c all e = (all.0, long-snoc n cs c all.1 e)
-
 -- masks of which each takes what those before it leave
 pub own_long : (n : ℕ) (ms masks : List (List Bool)) → masks ≡ claimed (replicate n true) ms → EachMask n ms → EachMask n masks
 own_long n ms masks are each = subst (EachMask n) (sym are) (subst (λ m. EachMask m (claimed (replicate n true) ms)) (length-replicate n true) (claimed_long (replicate n true) ms (masks_of_all n ms each)))
@@ -133,7 +119,7 @@ rest_own n ms masks rest are is each =
     ap (λ l. l ++ rest ∷ []) are ∙ ap (λ m. claimed (replicate n true) ms ++ m ∷ []) (is ∙ sym (both-all n _ size)) ∙ sym (claimed-snoc (replicate n true) ms (replicate n true))
 
 pub all_long : (n : ℕ) (ms : List (List Bool)) → EachMask n ms → EachMask n (ms ++ replicate n true ∷ [])
-all_long n ms each = each-snoc n ms (replicate n true) each (length-replicate n true)
+all_long n ms each = long-snoc n ms (replicate n true) each (length-replicate n true)
 
 -- beside the mask of all rows the last column is what is given
 pub last_given : (n k : ℕ) (ms : List (List Bool)) (cs : List (List Datum)) (c : List Datum) → length cs ≡ length ms → k < n → merged_at (ms ++ replicate n true ∷ []) (cs ++ c ∷ []) null k ≡ merged_at ms cs (get_or c k null) k
@@ -141,48 +127,23 @@ last_given n k ms cs c e lt = merged-snoc ms cs (replicate n true) c null k e �
 
 -- ---- a column that has every row
 
-pub columns_at : (n : ℕ) (rs : List Rows) (m : ℕ) (r : Rows) → AllLong n (rows_views rs) → m < length rs → r ≡ get_or rs m r → (length (rows_view r) ≡ n) × (get_or (rows_views rs) m [] ≡ rows_view r)
-columns_at n [] m r all lt is = absurd (omega arith)
-columns_at n (x ∷ rs) zero r all lt is = (ap (λ y. length (rows_view y)) is ∙ all.0, ap rows_view (sym is))
-columns_at n (x ∷ rs) (suc m) r all lt is = columns_at n rs m r all.1 (omega arith) is
-
-pub mask_long : (n : ℕ) (ms : List (List Bool)) (j : ℕ) → EachMask n ms → j < length ms → length (get_or ms j []) ≡ n
-mask_long n [] j each lt = absurd (omega arith)
-mask_long n (m ∷ ms) zero each lt = each.0
-mask_long n (m ∷ ms) (suc j) each lt = mask_long n ms j each.1 (omega arith)
-
 pub whole_is : (n : ℕ) (ms : List (List Bool)) (rs : List Rows) (d : ℕ → Datum) (j : ℕ) (r : Rows) → length rs ≡ length ms → EachMask n ms → AllLong n (rows_views rs) → AreApart ms → j < length ms → IsAll (get_or ms j []) → r ≡ get_or rs j r →
     rows_view r ≡ each_row n (λ k. merged_at ms (rows_views rs) (d k) k)
 whole_is n ms rs d j r pairs each all apart lt every is =
-    let here = columns_at n rs j r all (omega arith) is in
-    let size : length (get_or ms j []) ≡ n = mask_long n ms j each lt in
-    as_rows n (λ k. merged_at ms (rows_views rs) (d k) k) (rows_view r) here.0
-    (λ k h. ap (λ c. get_or c k null) (sym here.1) ∙ sym (merged-at ms (rows_views rs) (d k) j k apart (length-map rs rows_view ∙ pairs) lt (every k (omega arith))))
+    let within : j < length rs = omega arith in
+    let size : length (get_or ms j []) ≡ n = long_at n ms j [] each lt in
+    as_rows n (λ k. merged_at ms (rows_views rs) (d k) k) (rows_view r) (long_of n rows_view rs j r all within is)
+    (λ k h. ap (λ c. get_or c k null) (ap rows_view is ∙ sym (get_or-map rows_view rs j r [] within)) ∙ sym (merged-at ms (rows_views rs) (d k) j k apart (length-map rs rows_view ∙ pairs) lt (every k (omega arith))))
 
 -- ---- in the order of the rows
-
-row_of : (cs : List (List Datum)) (m k : ℕ) → m < length cs → get_or (row_at cs k) m null ≡ get_or (get_or cs m []) k null
-row_of [] m k lt = absurd (omega arith)
-row_of (c ∷ cs) zero k lt = refl
-row_of (c ∷ cs) (suc m) k lt = row_of cs m k (omega arith)
 
 -- the column beside a mask has what is meant in its rows
 pub holds_in : (ms : List (List Bool)) (rs : List Rows) (cs : List (List Datum)) (next j : ℕ) (r : Rows) (m : List Bool) → AreApart ms → length rs ≡ length ms → length cs ≡ length ms → SameRows next cs (rows_views rs) → j < length ms →
     r ≡ get_or rs j r → m ≡ get_or ms j m → HoldsIn m next (rows_view r) (merged_at ms cs null)
 holds_in ms rs cs next j r m apart pairs long same lt is beside = λ k from within on.
-    let mask : get_or ms j [] ≡ m = at_any ms j m lt beside in
-    sym (at_place rows_view rs k j r (omega arith) is) ∙ ap (λ row. get_or row j null) (same k from) ∙ row_of cs j k (omega arith)
+    let mask : get_or ms j [] ≡ m = get_or_default ms j [] m lt ∙ sym beside in
+    sym (at_place rows_view rs k j r (omega arith) is) ∙ ap (λ row. get_or row j null) (same k from) ∙ get_or-map (λ c. get_or c k null) cs j [] null (omega arith)
     ∙ sym (merged-at ms cs null j k apart long lt (ap (λ b. get_or b k false) mask ∙ on))
-  where
-    at_any : (l : List (List Bool)) (i : ℕ) (x : List Bool) → i < length l → x ≡ get_or l i x → get_or l i [] ≡ x
-    at_any [] i x h e = absurd (omega arith)
-    at_any (y ∷ l) zero x h e = sym e
-    at_any (y ∷ l) (suc i) x h e = at_any l i x (omega arith) e
-
-pub mask_beside : (n : ℕ) (ms : List (List Bool)) (j : ℕ) (m : List Bool) → EachMask n ms → j < length ms → m ≡ get_or ms j m → length m ≡ n
-mask_beside n [] j m each lt is = absurd (omega arith)
-mask_beside n (x ∷ ms) zero m each lt is = ap length is ∙ each.0
-mask_beside n (x ∷ ms) (suc j) m each lt is = mask_beside n ms j m each.1 (omega arith) is
 
 -- what follows from an answer
 pub if_ok : {A E : Type 0} (r : Result A E) (P Q : A → Type 0) → ((a : A) → P a → Q a) → IfOk r P → IfOk r Q
@@ -193,14 +154,6 @@ pub stretch_left : (rs : List Rows) (end j : ℕ) (r s : Rows) → j < length rs
 stretch_left rs end j r s lt is left = λ k h. row_kept rows_view rs k j r s lt is (left k h)
 
 -- ---- over rows that are there
-
-pub mask_front : (n : ℕ) (ms : List (List Bool)) (m : List Bool) → EachMask n (ms ++ m ∷ []) → EachMask n ms × (length m ≡ n)
-mask_front n [] m h = (tt, h.0)
-mask_front n (x ∷ ms) m h = let ih = mask_front n ms m h.1 in ((h.0, ih.0), ih.1)
-
-pub columns_front : (n : ℕ) (cs : List (List Datum)) (c : List Datum) → AllLong n (cs ++ c ∷ []) → AllLong n cs × (length c ≡ n)
-columns_front n [] c h = (tt, h.0)
-columns_front n (x ∷ cs) c h = let ih = columns_front n cs c h.1 in ((h.0, ih.0), ih.1)
 
 -- masks and columns that are left, over rows that are written
 pub record Over (n : ℕ) (all : List (List Bool)) (columns : List (List Datum)) (before : List Datum) (ms : List (List Bool)) (rs : List Rows) (now : List Value) : Type 0 where
@@ -216,8 +169,8 @@ popped rs new r e = ap rows_views e ∙ map-append rows_view new (r ∷ [])
 pub over_front : (n : ℕ) (all : List (List Bool)) (columns : List (List Datum)) (before : List Datum) (ms new : List (List Bool)) (rs left : List Rows) (now : List Value) (m : List Bool) (r : Rows) → Over n all columns before ms rs now → ms ≡ new ++ m ∷ [] → rs ≡ left ++ r ∷ [] →
     (length left ≡ length new) × EachMask n new × (length m ≡ n) × AllLong n (rows_views left) × (length (rows_view r) ≡ n)
 over_front n all columns before ms new rs left now m r o e f =
-    let masks = mask_front n new m (subst (EachMask n) e o.masks) in
-    let front = columns_front n (rows_views left) (rows_view r) (subst (AllLong n) (popped rs left r f) o.long) in
+    let masks = long_front n new m (subst (EachMask n) e o.masks) in
+    let front = long_front n (rows_views left) (rows_view r) (subst (AllLong n) (popped rs left r f) o.long) in
     let a : length ms ≡ length new + 1 = ap length e ∙ length-append new (m ∷ []) in
     let b : length rs ≡ length left + 1 = ap length f ∙ length-append left (r ∷ []) in
     let pairs : length rs ≡ length ms = o.pairs in

@@ -3,6 +3,7 @@ use Rattle.std.proofs.Common.{◌≡◌, ℕ, ◌+◌, ◌<◌, List, [], ◌∷
 use Rattle.std.specs.Prelude.{if◌then◌else◌, MatchOption, option_map}
 use Rattle.std.specs.List.{range_with_len, list_all}
 use Rattle.std.proofs.lemmas.Bool.{and_parts}
+use Rattle.std.proofs.lemmas.List.{length-map}
 use Rattle.vx_dtype.specs.declared.error.VortexError.{VortexError}
 use Rattle.vx_value.specs.Columns.{Batch, batch}
 use Rattle.vx_value.specs.Fits.{fits, Fits, IsBatch}
@@ -10,7 +11,7 @@ use Rattle.vx_value.specs.Types.{LogicalType, ty, Datum, null, is_nullable}
 use Rattle.vx_fn.specs.Values.{is_true, first_true}
 use Rattle.vx_eval.specs.Choices.{rows_in, height, EachBatch, matched_at, in_turn}
 use Rattle.vx_eval.specs.Columns.{row_at, each_row, AllLong}
-use Rattle.vx_eval.proofs.Filled.{map_same}
+use Rattle.vx_eval.proofs.Filled.{each_same}
 
 -- the columns in turn have the same length
 pub in_turn_long : (n : ℕ) (cs vs : List (List Datum)) (o : Option (List Datum)) → AllLong n cs → AllLong n vs → MatchOption o Unit (λ c. length c ≡ n) → AllLong n (in_turn cs vs o)
@@ -36,17 +37,17 @@ batch_at t (v ∷ rows) (suc k) is lt = batch_at t rows k (and_parts (fits v t) 
 null_fits : (t : LogicalType) → IsTrue (is_nullable t) → Fits null t
 null_fits (ty s n) e = e
 
-pub matched_fits : (t : LogicalType) (n k : ℕ) (cs vs : List (List Datum)) (o : Option (List Datum)) → k < n → AllLong n vs → EachBatch t vs →
-    MatchOption o (IsTrue (is_nullable t)) (λ c. (length c ≡ n) × IsBatch t c) → Fits (matched_at cs vs o k) t
-matched_fits t n k (c ∷ cs) (v ∷ vs) o lt long is e = go (is_true (get_or c k null)) (batch_at t v k is.0 (omega (arith, long.0))) (matched_fits t n k cs vs o lt long.1 is.1 e)
+pub matched_fits : {A : Type 0} (t : LogicalType) (n k : ℕ) (cs vs : List (List Datum)) (o : Option A) (f : A → List Datum) → k < n → AllLong n vs → EachBatch t vs →
+    MatchOption o (IsTrue (is_nullable t)) (λ a. (length (f a) ≡ n) × IsBatch t (f a)) → Fits (matched_at cs vs (option_map f o) k) t
+matched_fits t n k (c ∷ cs) (v ∷ vs) o f lt long is e = go (is_true (get_or c k null)) (batch_at t v k is.0 (omega (arith, long.0))) (matched_fits t n k cs vs o f lt long.1 is.1 e)
   where
-    go : (b : Bool) → Fits (get_or v k null) t → Fits (matched_at cs vs o k) t → Fits (if b then get_or v k null else matched_at cs vs o k) t
+    go : (b : Bool) → Fits (get_or v k null) t → Fits (matched_at cs vs (option_map f o) k) t → Fits (if b then get_or v k null else matched_at cs vs (option_map f o) k) t
     go true a b = a
     go false a b = b
-matched_fits t n k [] vs None lt long is e = null_fits t e
-matched_fits t n k [] vs (Some c) lt long is e = batch_at t c k e.1 (omega (arith, e.0))
-matched_fits t n k (c ∷ cs) [] None lt long is e = null_fits t e
-matched_fits t n k (c ∷ cs) [] (Some d) lt long is e = batch_at t d k e.1 (omega (arith, e.0))
+matched_fits t n k [] vs None f lt long is e = null_fits t e
+matched_fits t n k [] vs (Some a) f lt long is e = batch_at t (f a) k e.1 (omega (arith, e.0))
+matched_fits t n k (c ∷ cs) [] None f lt long is e = null_fits t e
+matched_fits t n k (c ∷ cs) [] (Some a) f lt long is e = batch_at t (f a) k e.1 (omega (arith, e.0))
 
 each_fits : (t : LogicalType) (g : ℕ → Datum) (a n : ℕ) → ((k : ℕ) → k < a + n → Fits (g k) t) → IsTrue (list_all (λ v. fits v t) (map g (range_with_len a n)))
 each_fits t g a zero h = refl
@@ -67,38 +68,27 @@ pub count_is : (cs : List Batch) (b : Batch) (n : ℕ) → 0 < length cs → b �
 count_is [] b n some is counted = absurd (omega arith)
 count_is (x ∷ cs) b n some is counted = counted ∙ ap (λ (y : Batch). length y.rows) is
 
-pub as_many : (cs vs : List Batch) → length vs ≡ length cs → length (rows_in vs) ≡ length (rows_in cs)
-as_many [] [] e = refl
-as_many (c ∷ cs) (v ∷ vs) e = ap suc (as_many cs vs (omega arith))
-as_many [] (v ∷ vs) e = absurd (omega arith)
-as_many (c ∷ cs) [] e = absurd (omega arith)
+last_long : {A : Type 0} (o : Option A) (f : A → List Datum) (P : Type 0) (n : ℕ) (t : LogicalType) → MatchOption o P (λ a. (length (f a) ≡ n) × IsBatch t (f a)) → MatchOption (option_map f o) Unit (λ c. length c ≡ n)
+last_long None f P n t h = tt
+last_long (Some a) f P n t h = h.0
 
--- what holds of an ELSE column holds of its rows
-pub last_rows : {A : Type 0} (o : Option A) (f : A → List Datum) (P : Type 0) (Q : List Datum → Type 0) → MatchOption o P (λ a. Q (f a)) → MatchOption (option_map f o) P Q
-last_rows None f P Q h = h
-last_rows (Some a) f P Q h = h
-
-last_long : (o : Option (List Datum)) (P : Type 0) (n : ℕ) (t : LogicalType) → MatchOption o P (λ c. (length c ≡ n) × IsBatch t c) → MatchOption o Unit (λ c. length c ≡ n)
-last_long None P n t h = tt
-last_long (Some c) P n t h = h.0
-
-pub turned_long : (n m : ℕ) (cs vs ds : List (List Datum)) (o : Option (List Datum)) (t : LogicalType) → turned (in_turn cs vs o) ≡ Ok ds → n ≡ m → AllLong m cs → AllLong m vs →
-    MatchOption o (IsTrue (is_nullable t)) (λ c. (length c ≡ m) × IsBatch t c) → AllLong n ds
-turned_long n m cs vs ds o t are counted a b e =
-    let same : in_turn cs vs o ≡ ds = cc in
-    subst (λ k. AllLong k ds) (sym counted) (subst (AllLong m) same (in_turn_long m cs vs o a b (last_long o _ m t e)))
+pub turned_long : {A : Type 0} (n m : ℕ) (cs vs ds : List (List Datum)) (o : Option A) (f : A → List Datum) (t : LogicalType) → turned (in_turn cs vs (option_map f o)) ≡ Ok ds → n ≡ m → AllLong m cs → AllLong m vs →
+    MatchOption o (IsTrue (is_nullable t)) (λ a. (length (f a) ≡ m) × IsBatch t (f a)) → AllLong n ds
+turned_long n m cs vs ds o f t are counted a b e =
+    let same : in_turn cs vs (option_map f o) ≡ ds = cc in
+    subst (λ k. AllLong k ds) (sym counted) (subst (AllLong m) same (in_turn_long m cs vs (option_map f o) a b (last_long o f _ m t e)))
 
 -- the rows that were chosen
-pub chosen_rows : (n m : ℕ) (cs vs ds : List (List Datum)) (o : Option (List Datum)) (rows : List Datum) → turned (in_turn cs vs o) ≡ Ok ds → n ≡ m → length vs ≡ length cs →
-    rows ≡ each_row n (λ k. first_true (row_at ds k)) → rows ≡ each_row m (matched_at cs vs o)
-chosen_rows n m cs vs ds o rows are counted pairs is =
-    let same : ds ≡ in_turn cs vs o = cc in
-    is ∙ ap (λ k. each_row k (λ k. first_true (row_at ds k))) counted ∙ ap (λ es. each_row m (λ k. first_true (row_at es k))) same
-    ∙ map_same (λ k. first_true (row_at (in_turn cs vs o) k)) (matched_at cs vs o) (λ k. in_turn_at cs vs o k pairs) (range_with_len 0 m)
+pub chosen_rows : (n : ℕ) (cs vs : List Batch) (ds : List (List Datum)) (o : Option (List Datum)) (rows : List Datum) → turned (in_turn (rows_in cs) (rows_in vs) o) ≡ Ok ds → n ≡ height cs → length vs ≡ length cs →
+    rows ≡ each_row n (λ k. first_true (row_at ds k)) → rows ≡ each_row (height cs) (matched_at (rows_in cs) (rows_in vs) o)
+chosen_rows n cs vs ds o rows are counted pairs is =
+    let same : ds ≡ in_turn (rows_in cs) (rows_in vs) o = cc in
+    let many : length (rows_in vs) ≡ length (rows_in cs) = length-map vs _ ∙ pairs ∙ sym (length-map cs _) in
+    is ∙ ap (λ k. each_row k (λ k. first_true (row_at ds k))) counted ∙ each_same (height cs) _ _ (λ k lt. ap (λ es. first_true (row_at es k)) same ∙ in_turn_at (rows_in cs) (rows_in vs) o k many)
 
-pub chosen_fit : (t : LogicalType) (m : ℕ) (cs vs : List (List Datum)) (o : Option (List Datum)) (rows : List Datum) → rows ≡ each_row m (matched_at cs vs o) → AllLong m vs → EachBatch t vs →
-    MatchOption o (IsTrue (is_nullable t)) (λ c. (length c ≡ m) × IsBatch t c) → IsBatch t rows
-chosen_fit t m cs vs o rows is long fit e = subst (IsBatch t) (sym is) (rows_fit t (matched_at cs vs o) m (λ k lt. matched_fits t m k cs vs o lt long fit e))
+pub chosen_fit : {A : Type 0} (t : LogicalType) (m : ℕ) (cs vs : List (List Datum)) (o : Option A) (f : A → List Datum) (rows : List Datum) → rows ≡ each_row m (matched_at cs vs (option_map f o)) → AllLong m vs → EachBatch t vs →
+    MatchOption o (IsTrue (is_nullable t)) (λ a. (length (f a) ≡ m) × IsBatch t (f a)) → IsBatch t rows
+chosen_fit t m cs vs o f rows is long fit e = subst (IsBatch t) (sym is) (rows_fit t (matched_at cs vs (option_map f o)) m (λ k lt. matched_fits t m k cs vs o f lt long fit e))
 
 pub column_of : (t u : LogicalType) (rows made said : List Datum) (out : Batch) → rows ≡ said → ok rows ≡ Ok made → u ≡ t → out ≡ batch u made → batch t said ≡ out
 column_of t u rows made said out is are same made_is =

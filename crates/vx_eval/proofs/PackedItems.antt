@@ -8,6 +8,7 @@ use Rattle.std.proofs.lemmas.Bool.Decides.{nat_tests}
 use Rattle.vx_dtype.specs.declared.error.VortexError.{VortexError}
 use Rattle.vx_dtype.specs.declared.error.VortexError.TheVariants.{ArityMismatch}
 use Rattle.vx_dtype.specs.declared.dtype.DType.{DType}
+use Rattle.vx_dtype.proofs.Lists.{map_same}
 use Rattle.vx_value.specs.Fields.{field_value, fields_named, data_of}
 use Rattle.vx_value.specs.Types.{Name, LogicalType, ty, struct, Datum, null, struct_of}
 use Rattle.vx_value.specs.Views.{type_of}
@@ -23,7 +24,6 @@ use Rattle.vx_tree.specs.Trees.{node, BoundTrees, no_bound, bound, node_types, E
 use Rattle.vx_tree.specs.Views.{bound_of, bounds_of}
 use Rattle.vx_eval.specs.Evaluation.{columns, tree_answer, each_answer}
 use Rattle.vx_eval.specs.PackedItem.{item_answer, PacksAt, place_in_node, place_taken, TakesOut}
-use Rattle.vx_eval.proofs.Filled.{map_same}
 use Rattle.vx_eval.proofs.Transposed.{bound_of-Scalar}
 
 -- the first field of a name is the value at the first place of the name
@@ -73,7 +73,7 @@ takes_item a names n bs u k e at =
         let b = node t (get_item a) (bound (node u (pack names n) bs) no_bound) in
         let each : (v : Datum) → value b v ≡ get_or (values bs v) k null =
         λ v. ap (λ w. item_value a (w ∷ []) (struct_of (data_of (values bs v)))) p.typed ∙ named_at a names (node_types bs) (values bs v) k p.many (values_long bs v ∙ p.many) first.0 first.1 first.2 in
-        rw q (ap Ok (map_same (value b) (λ v. get_or (values bs v) k null) each rows ∙ column_at bs rows k within))
+        rw q (ap Ok (map_same (value b) (λ v. get_or (values bs v) k null) rows (λ v _. each v) ∙ column_at bs rows k within))
     answers t rows p within first (Some fault) q = rw q refl
 
 -- a node that is asked for such an item of a pack takes it out

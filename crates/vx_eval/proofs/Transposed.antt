@@ -1,12 +1,13 @@
 -- Columns of trees' values, and the rows of their children's values.
 use Rattle.std.proofs.Common.{◌≡◌, ℕ, ◌+◌, ◌<◌, List, [], ◌∷◌, ◌++◌, append_assoc, drop, map, length, get_or, refl, sym, ap, subst, ◌∙◌, arith, Option, Some, None, Result, Ok, Err, suc, IsOk, rules, Vec}
 use Rattle.std.specs.Option.{option_or}
-use Rattle.std.proofs.lemmas.List.{drop_more, map-append, length-map, get_or-map, ext_get_or, map-id}
+use Rattle.std.proofs.lemmas.List.{map-append, length-map, get_or-map, ext_get_or, map-id}
 use Rattle.std.proofs.lemmas.List.FromFn.{length-map-range_with_len, get_or-map-range_with_len}
 use Rattle.std.specs.declared.alloc.Global.{Global}
 use Rattle.std.specs.declared.rc.Rc.{Rc}
 use Rattle.vx_dtype.specs.declared.dtype.DType.{DType}
 use Rattle.vx_dtype.specs.declared.error.VortexError.{VortexError}
+use Rattle.vx_dtype.proofs.Lists.{drop_next}
 use Rattle.vx_value.specs.declared.value.Value.{Value}
 use Rattle.vx_value.specs.Types.{Name, LogicalType, Datum, null}
 use Rattle.vx_value.specs.Views.{type_of, value_of}
@@ -160,18 +161,15 @@ prepended_twice : (xs : List (List Datum)) (c : List Datum) (r : Result (List (L
 prepended_twice xs c (Ok ds) = ap Ok (sym (append_assoc xs (c ∷ []) ds))
 prepended_twice xs c (Err fault) = refl
 
-child_on : (bs : List BoundExpression) (i : ℕ) (b : BoundExpression) → i < length bs → b ≡ get_or bs i b → drop i bs ≡ b ∷ drop (i + 1) bs
-child_on bs i b lt is = drop_more bs i b lt ∙ ap (λ x. x ∷ drop (i + 1) bs) (sym is)
-
 pub column_put : (bs : List BoundExpression) (rows : List Datum) (i : ℕ) (b : BoundExpression) (rs new : List Rows) (r : Rows) (want : Result (List (List Datum)) VortexError) → i < length bs → b ≡ get_or bs i b →
     want ≡ prepended (rows_views rs) (each_answer (bounds_of (drop i bs)) rows) → tree_answer (bound_of b) rows ≡ Ok (rows_view r) → new ≡ rs ++ r ∷ [] → want ≡ prepended (rows_views new) (each_answer (bounds_of (drop (i + 1) bs)) rows)
 column_put bs rows i b rs new r want lt is so_far given pushed =
     let rest = each_answer (bounds_of (drop (i + 1) bs)) rows in
-    so_far ∙ ap (λ l. prepended (rows_views rs) (each_answer (bounds_of l) rows)) (child_on bs i b lt is) ∙ ap (prepended (rows_views rs)) (first_given (bound_of b) (bounds_of (drop (i + 1) bs)) rows (rows_view r) given)
+    so_far ∙ ap (λ l. prepended (rows_views rs) (each_answer (bounds_of l) rows)) (drop_next bs i b lt is) ∙ ap (prepended (rows_views rs)) (first_given (bound_of b) (bounds_of (drop (i + 1) bs)) rows (rows_view r) given)
     ∙ prepended_twice (rows_views rs) (rows_view r) rest ∙ sym (ap (λ l. prepended l rest) (ap rows_views pushed ∙ map-append rows_view rs (r ∷ [])))
 
 pub typed_on : (bs : List BoundExpression) (i : ℕ) (b : BoundExpression) → i < length bs → b ≡ get_or bs i b → EachWellTyped (bounds_of (drop i bs)) → EachWellTyped (bounds_of (drop (i + 1) bs))
-typed_on bs i b lt is typed = let all : EachWellTyped (bounds_of (b ∷ drop (i + 1) bs)) = subst (λ l. EachWellTyped (bounds_of l)) (child_on bs i b lt is) typed in all.1
+typed_on bs i b lt is typed = let all : EachWellTyped (bounds_of (b ∷ drop (i + 1) bs)) = subst (λ l. EachWellTyped (bounds_of l)) (drop_next bs i b lt is) typed in all.1
 
 -- ---- a tree alone
 

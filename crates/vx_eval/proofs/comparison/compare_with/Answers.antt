@@ -8,7 +8,7 @@ use Rattle.vx_fn.specs.Views.{operation_of}
 use Rattle.vx_eval.specs.Columns.{values_of, rows_view, item_at, truth_datum}
 use Rattle.vx_eval.specs.Items.{conjoined}
 use Rattle.vx_eval.proofs.Conjoined.{conjoined_alone}
-use Rattle.vx_eval.proofs.Filled.{evaluated, comparison_quiet, repeated_at, compared_with, map_map}
+use Rattle.vx_eval.proofs.Filled.{evaluated, comparison_quiet, compared_with, map_map}
 use Rattle.vx_eval.proofs.comparison.compare_with.Goals as goal
 
 pub returns-in_ok-new-in-Item : goal.returns-in_ok-new-in-Item
@@ -30,5 +30,5 @@ returns-in_default c = λ ts.
     evaluated (binary op) ts c.args.count (rows_view c.args.lhs.now ∷ replicate c.args.count d ∷ []) _ (comparison_quiet _ ts _ c.requires.comparison)
     (c.told.ensures.rows _ (λ i t lt p.
     let here : truth_datum t ≡ binary_value op (get_or (rows_view c.args.lhs.now) i null) d = search rules in
-    here ∙ ap (binary_value op (get_or (rows_view c.args.lhs.now) i null)) (sym (repeated_at c.args.count i d lt))))
+    here ∙ ap (binary_value op (get_or (rows_view c.args.lhs.now) i null)) (sym (get_or-replicate c.args.count i d null lt))))
     c.told.ensures.memory

@@ -5,7 +5,8 @@ use Rattle.vx_fn.specs.Functions.{get_item}
 use Rattle.vx_fn.specs.Values.{item_value}
 use Rattle.vx_eval.specs.declared.rows.Rows.TheVariants.{Item}
 use Rattle.vx_eval.specs.Columns.{rows_view, item_at, each_row}
-use Rattle.vx_eval.proofs.Filled.{evaluated, evaluated_in_place, map_same, each_of}
+use Rattle.vx_dtype.proofs.Lists.{map_same}
+use Rattle.vx_eval.proofs.Filled.{evaluated, evaluated_in_place, each_of}
 use Rattle.vx_eval.proofs.fields.get_item.Goals as goal
 
 pub returns-in-Owned : goal.returns-in-Owned
@@ -21,7 +22,7 @@ pub returns-in-Lent : goal.returns-in-Lent
 returns-in-Lent c =
     let ts = type_of c.args.dtype.now ∷ [] in
     let items : map (item_at c.place_of-place.result) (rows_view c.args.input) ≡ each_row c.args.count (λ k. item_value c.args.name.now ts (get_or (rows_view c.args.input) k null)) =
-    map_same _ _ (λ d. sym (c.place_of-place.ensures d)) (rows_view c.args.input) ∙ sym (each_of (item_value c.args.name.now ts) (rows_view c.args.input) c.args.count c.requires.long) in
+    map_same _ _ (rows_view c.args.input) (λ d _. sym (c.place_of-place.ensures d)) ∙ sym (each_of (item_value c.args.name.now ts) (rows_view c.args.input) c.args.count c.requires.long) in
     evaluated (get_item c.args.name.now) ts c.args.count (rows_view c.args.input ∷ []) (Ok (Item c.in-Lent.rows c.place_of-place.result c.new.result)) refl (ap (λ r. map (item_at c.place_of-place.result) (rows_view r)) (sym c.in-Lent.is) ∙ items) tt
 
 pub returns-in_default : goal.returns-in_default

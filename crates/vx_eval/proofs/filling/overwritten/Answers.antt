@@ -1,6 +1,6 @@
 use Rattle.std.proofs.Common.{arith}
 use Rattle.std.proofs.lemmas.Grind.{common_steps}
-use Rattle.vx_eval.proofs.Overwriting.{overwritten_more, overwritten_all}
+use Rattle.vx_eval.proofs.Filled.{overwritten_more, overwritten_all}
 use Rattle.vx_eval.proofs.filling.overwritten.Goals as goal
 
 pub loop-i-preserved : goal.loop-i-preserved

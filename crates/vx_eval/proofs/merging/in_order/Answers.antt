@@ -1,4 +1,4 @@
-use Rattle.vx_eval.proofs.Taking.{long_still}
+use Rattle.vx_eval.proofs.Lengths.{long_still}
 use Rattle.vx_eval.proofs.merging.in_order.Goals as goal
 
 pub push_stretch-requires-clause-columns : goal.push_stretch-requires-clause-columns
