@@ -1,5 +1,6 @@
 use Rattle.std.proofs.Common.{◌≡◌, rules, ap, sym, ◌∙◌, ◌∷◌, [], map, length, get_or, Ok}
 use Rattle.std.proofs.Math.ListN.{replicate}
+use Rattle.std.proofs.lemmas.List.{get_or-replicate}
 use Rattle.vx_value.specs.Types.{Datum, null}
 use Rattle.vx_value.specs.Views.{value_of}
 use Rattle.vx_fn.specs.Functions.{binary}
