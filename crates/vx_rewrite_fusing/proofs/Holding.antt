@@ -24,7 +24,7 @@ use Rattle.vx_rewrite_fusing.specs.Places.{opposite, turned, Bounded, bounded_at
 use Rattle.vx_rewrite_fusing.proofs.Keyed.{between_plain, keyed, merge_between, no_between, seen_key, single_merged, with_single}
 use Rattle.vx_rewrite_fusing.proofs.Merges.{alone, either, in_own, none_of_fused}
 use Rattle.vx_rewrite_fusing.proofs.Ordered.{Both, rights_after, rights_in_order}
-use Rattle.vx_rewrite_fusing.proofs.Pairs.{opposite_pair}
+use Rattle.vx_rewrite_fusing.proofs.Pairs.{opposite_pair, opposite_twice}
 use Rattle.vx_rewrite_fusing.proofs.Pairing.{conjuncts_left-conjoined}
 
 -- ---- a list at a place
@@ -162,12 +162,41 @@ fused_no_pair {l = l} h f k i j =
     let one = ap (λ (z : Bounded). z.0) c.4 in
     let two = ap (λ (z : Bounded). z.0) d.4 in
     let item = ap (λ (z : Bounded). z.1) c.4 ∙ sym (ap (λ (z : Bounded). z.1) d.4) in
-    none_of_fused l f c.0 d.0 c.2 d.2 (opposite_pair c.0 d.0 (is_strict c.1.strict) (is_strict d.1.strict) (bound_of c.1.item.now) (bound_of c.1.bound.now) (bound_of d.1.item.now) (bound_of d.1.bound.now) c.1.side d.1.side
-    (one ∙ (sym (opposite_twice k.0) ∙ ap opposite (sym two))) item c.3 d.3)
-  where
-    opposite_twice : (s : Side) → opposite (opposite s) ≡ s
-    opposite_twice Below = refl
-    opposite_twice Above = refl
+    none_of_fused l f c.0 d.0 c.2 d.2 (opposite_pair c.1 d.1 c.0 d.0 c.3 d.3 (one ∙ (sym (opposite_twice k.0) ∙ ap opposite (sym two))) item)
+
+-- ---- another place where a range stands
+
+-- no place of the list is one of the other side of d's item
+abbrev pub Apart : BoundTree → List Place → Type 0
+Apart d ps = (k : Bounded) → keyed (range_of d) ≡ Some k → Has ps (turned k) → ⊥
+
+-- what holds of the conjunct with that range, and of an And where it holds of one child, holds of the tree with q in the range's place
+module _ (d : BoundTree) (r : RangeComparison) (next : Link) (q : Place) (P : BoundTree → Option BoundTree → List Place → Type 0)
+    (single : (c : BoundTree) → IsFalse (is_and c) → range_of c ≡ Some (range_seen r) → P c (Some c) (q ∷ []))
+    (second : (t : LogicalType) (x y : BoundTree) (u v : Option BoundTree) (xs ys : List Place) → and_node t x y ≡ and_of x y → Holds x xs u → Apart d xs → P y v ys → P (and_node t x y) (conjoined u v) (ys ++ xs))
+    (first : (t : LogicalType) (x y : BoundTree) (u v : Option BoundTree) (xs ys : List Place) → and_node t x y ≡ and_of x y → Holds y ys v → P x u xs → P (and_node t x y) (conjoined u v) (ys ++ xs)) where
+  in_both : (t : LogicalType) (x y : BoundTree) (u v : Option BoundTree) (xs ys back front : List Place) → and_node t x y ≡ and_of x y → Holds x xs u → Holds y ys v → Apart d front
+      → ((back front : List Place) → xs ≡ back ++ Open r next ∷ front → Apart d front → P x u (back ++ q ∷ front))
+      → ((back front : List Place) → ys ≡ back ++ Open r next ∷ front → Apart d front → P y v (back ++ q ∷ front))
+      → Parts ys xs back (Open r next) front → P (and_node t x y) (conjoined u v) (back ++ q ∷ front)
+  in_both t x y u v xs ys back front same h g free on_first on_second (in_rs rest e f) =
+      let none : Apart d (rest ++ xs) = subst (Apart d) f free in
+      let w = on_second back rest e (λ k n i. none k n (has_first rest xs (turned k) i)) in
+      subst (P (and_node t x y) (conjoined u v)) (append_assoc back (q ∷ rest) xs ∙ ap (λ z. back ++ q ∷ z) (sym f)) (second t x y u v xs (back ++ q ∷ rest) same h (λ k n i. none k n (has_second rest xs (turned k) i)) w)
+  in_both t x y u v xs ys back front same h g free on_first on_second (in_ls rest e f) =
+      subst (P (and_node t x y) (conjoined u v)) (sym (append_assoc ys rest (q ∷ front)) ∙ ap (λ z. z ++ q ∷ front) (sym e)) (first t x y u v (rest ++ q ∷ front) ys same g (on_first rest front f free))
+
+  with_place : {l : BoundTree} {o : Option BoundTree} {ps : List Place} → Holds l ps o → (back front : List Place) → ps ≡ back ++ Open r next ∷ front → Apart d front → P l o (back ++ q ∷ front)
+  with_place (no_range a n) back front e free = let h = only Other (Open r next) back front e in let g : Other ≡ Open r next = h.0 in cc
+  with_place (open_range {c = c} {r = p} {next = o} a n) back front e free =
+      let h = only (Open p o) (Open r next) back front e in
+      let g : Open p o ≡ Open r next = h.0 in
+      let s : p ≡ r = cc in
+      rw (h.1, h.2) (single c a (n ∙ ap (λ z. Some (range_seen z)) s))
+  with_place (merged_range {b = w} a m n) back front e free = let h = only (Merged w) (Open r next) back front e in let g : Merged w ≡ Open r next = h.0 in cc
+  with_place (gone_range a) back front e free = let h = only Gone (Open r next) back front e in let g : Gone ≡ Open r next = h.0 in cc
+  with_place (both {t = t} {l = x} {r = y} {l' = u} {r' = v} {ls = xs} {rs = ys} same h g) back front e free =
+      in_both t x y u v xs ys back front same h g free (with_place h) (with_place g) (parts_of ys xs back (Open r next) front e)
 
 -- ---- a left range is merged
 
@@ -177,55 +206,25 @@ pub record Becomes (d l : BoundTree) (o : Option BoundTree) (ps : List Place) : 
   pub merged : with_merged_in d o ≡ Some tree
   pub holds : Holds l ps (Some tree)
 
-becomes_alone : (d c : BoundTree) (b : Box BoundExpression Global) (back front : List Place) → IsFalse (is_and c) → MergeTo c d (tree_in b) → back ≡ [] → front ≡ [] → Becomes d c (Some c) (back ++ Merged b ∷ front)
-becomes_alone d c b back front a k e f = let plain = between_plain k in rw (e, f) (record { tree = tree_in b; merged = with_single d c a ∙ merge_between k; holds = merged_range a plain.0 plain.1 })
+becomes_alone : (d c : BoundTree) (b : Box BoundExpression Global) → IsFalse (is_and c) → MergeTo c d (tree_in b) → Becomes d c (Some c) (Merged b ∷ [])
+becomes_alone d c b a k = let plain = between_plain k in record { tree = tree_in b; merged = with_single d c a ∙ merge_between k; holds = merged_range a plain.0 plain.1 }
 
 -- in the second of two trees
-becomes_second : (d x : BoundTree) (l' r' : Option BoundTree) (ys ps : List Place) {z : BoundTree} → Becomes d z r' ys → with_merged_in d l' ≡ None → ((w : BoundTree) → Holds z ys (Some w) → Holds x ps (conjoined l' (Some w))) → Becomes d x (conjoined l' r') ps
-becomes_second d x None r' ys ps w none h = record { tree = w.tree; merged = w.merged; holds = h w.tree w.holds }
-becomes_second d x (Some l') None ys ps w none h = let e : ◌≡◌ {A = Option BoundTree} None (Some w.tree) = w.merged in cc
-becomes_second d x (Some l') (Some r') ys ps w none h = record { tree = and_of l' w.tree; merged = rw (none, w.merged) refl; holds = h w.tree w.holds }
+becomes_second : (d : BoundTree) (t : LogicalType) (x y : BoundTree) (u v : Option BoundTree) (xs ys : List Place) → and_node t x y ≡ and_of x y → Holds x xs u → Apart d xs → Becomes d y v ys → Becomes d (and_node t x y) (conjoined u v) (ys ++ xs)
+becomes_second d t x y None v xs ys same h free w = record { tree = w.tree; merged = w.merged; holds = both {t = t} same h w.holds }
+becomes_second d t x y (Some u) None xs ys same h free w = let e : ◌≡◌ {A = Option BoundTree} None (Some w.tree) = w.merged in cc
+becomes_second d t x y (Some u) (Some v) xs ys same h free w = record { tree = and_of u w.tree; merged = rw (none_held d h free, w.merged) refl; holds = both {t = t} same h w.holds }
 
 -- in the first
-becomes_first : (d x : BoundTree) (l' r' : Option BoundTree) (xs ps : List Place) {z : BoundTree} → Becomes d z l' xs → ((w : BoundTree) → Holds z xs (Some w) → Holds x ps (conjoined (Some w) r')) → Becomes d x (conjoined l' r') ps
-becomes_first d x None r' xs ps w h = let e : ◌≡◌ {A = Option BoundTree} None (Some w.tree) = w.merged in cc
-becomes_first d x (Some l') None xs ps w h = record { tree = w.tree; merged = w.merged; holds = h w.tree w.holds }
-becomes_first d x (Some l') (Some r') xs ps w h = record { tree = and_of w.tree r'; merged = rw w.merged refl; holds = h w.tree w.holds }
-
--- no place of the list is one of the other side of d's item
-abbrev pub Apart : BoundTree → List Place → Type 0
-Apart d ps = (k : Bounded) → keyed (range_of d) ≡ Some k → Has ps (turned k) → ⊥
-
-becomes_both : (d : BoundTree) (r : RangeComparison) (next : Link) (b : Box BoundExpression Global) (t : LogicalType) (l z : BoundTree) (l' z' : Option BoundTree) (ls rs back front : List Place) → and_node t l z ≡ and_of l z
-    → Holds l ls l' → Holds z rs z' → Apart d front
-    → ((back front : List Place) → ls ≡ back ++ Open r next ∷ front → Apart d front → Becomes d l l' (back ++ Merged b ∷ front))
-    → ((back front : List Place) → rs ≡ back ++ Open r next ∷ front → Apart d front → Becomes d z z' (back ++ Merged b ∷ front))
-    → Parts rs ls back (Open r next) front → Becomes d (and_node t l z) (conjoined l' z') (back ++ Merged b ∷ front)
-becomes_both d r next b t l z l' z' ls rs back front same h g free on_left on_right (in_rs rest x y) =
-    let none : Apart d (rest ++ ls) = subst (Apart d) y free in
-    let w = on_right back rest x (λ k e i. none k e (has_first rest ls (turned k) i)) in
-    let parts : (back ++ Merged b ∷ rest) ++ ls ≡ back ++ Merged b ∷ front = append_assoc back (Merged b ∷ rest) ls ∙ ap (λ v. back ++ Merged b ∷ v) (sym y) in
-    becomes_second d (and_node t l z) l' z' (back ++ Merged b ∷ rest) (back ++ Merged b ∷ front) w (none_held d h (λ k e i. none k e (has_second rest ls (turned k) i)))
-    (λ u held. subst (λ ps. Holds (and_node t l z) ps (conjoined l' (Some u))) parts (both {t = t} same h held))
-becomes_both d r next b t l z l' z' ls rs back front same h g free on_left on_right (in_ls rest x y) =
-    let w = on_left rest front y free in
-    let parts : rs ++ (rest ++ Merged b ∷ front) ≡ back ++ Merged b ∷ front = sym (append_assoc rs rest (Merged b ∷ front)) ∙ ap (λ v. v ++ Merged b ∷ front) (sym x) in
-    becomes_first d (and_node t l z) l' z' (rest ++ Merged b ∷ front) (back ++ Merged b ∷ front) w
-    (λ u held. subst (λ ps. Holds (and_node t l z) ps (conjoined (Some u) z')) parts (both {t = t} same held g))
+becomes_first : (d : BoundTree) (t : LogicalType) (x y : BoundTree) (u v : Option BoundTree) (xs ys : List Place) → and_node t x y ≡ and_of x y → Holds y ys v → Becomes d x u xs → Becomes d (and_node t x y) (conjoined u v) (ys ++ xs)
+becomes_first d t x y None v xs ys same g w = let e : ◌≡◌ {A = Option BoundTree} None (Some w.tree) = w.merged in cc
+becomes_first d t x y (Some u) None xs ys same g w = record { tree = w.tree; merged = w.merged; holds = both {t = t} same w.holds g }
+becomes_first d t x y (Some u) (Some v) xs ys same g w = record { tree = and_of w.tree v; merged = rw w.merged refl; holds = both {t = t} same w.holds g }
 
 pub holds_merged : {l : BoundTree} {o : Option BoundTree} {ps : List Place} (d : BoundTree) (r : RangeComparison) (next : Link) (b : Box BoundExpression Global) → Holds l ps o
     → ((c : BoundTree) → range_of c ≡ Some (range_seen r) → MergeTo c d (tree_in b))
     → (back front : List Place) → ps ≡ back ++ Open r next ∷ front → Apart d front → Becomes d l o (back ++ Merged b ∷ front)
-holds_merged d r next b (no_range {c = c} a n) merges back front f free = let h = only Other (Open r next) back front f in let g : Other ≡ Open r next = h.0 in cc
-holds_merged d r next b (open_range {c = c} {r = p} {next = o} a n) merges back front f free =
-    let h = only (Open p o) (Open r next) back front f in
-    let g : Open p o ≡ Open r next = h.0 in
-    let s : p ≡ r = cc in
-    becomes_alone d c b back front a (merges c (n ∙ ap (λ z. Some (range_seen z)) s)) h.1 h.2
-holds_merged d r next b (merged_range {c = c} {b = w} a m n) merges back front f free = let h = only (Merged w) (Open r next) back front f in let g : Merged w ≡ Open r next = h.0 in cc
-holds_merged d r next b (gone_range a) merges back front f free = let h = only Gone (Open r next) back front f in let g : Gone ≡ Open r next = h.0 in cc
-holds_merged d r next b (both {t = t} {l = l} {r = z} {l' = l'} {r' = z'} {ls = ls} {rs = rs} same h g) merges back front f free =
-    becomes_both d r next b t l z l' z' ls rs back front same h g free (holds_merged d r next b h merges) (holds_merged d r next b g merges) (parts_of rs ls back (Open r next) front f)
+holds_merged d r next b h merges = with_place d r next (Merged b) (Becomes d) (λ c a n. becomes_alone d c b a (merges c n)) (becomes_second d) (becomes_first d) h
 
 -- ---- a right range is gone
 
@@ -236,54 +235,36 @@ pub record Goes (c m r : BoundTree) (o : Option BoundTree) (ps : List Place) : T
   pub holds : Holds r ps rest
   pub plain : (is_and m ≡ false) × (range_of m ≡ None)
 
-goes_alone : (c m d : BoundTree) (back front : List Place) → is_and c ≡ false → IsFalse (is_and d) → MergeTo c d m → back ≡ [] → front ≡ [] → Goes c m d (Some d) (back ++ Gone ∷ front)
-goes_alone c m d back front x a k e f = rw (e, f) (record {
+goes_alone : (c m d : BoundTree) → is_and c ≡ false → IsFalse (is_and d) → MergeTo c d m → Goes c m d (Some d) (Gone ∷ [])
+goes_alone c m d x a k = record {
   rest = None;
   merged = ap (λ z. (Some z.0, z.1)) (single_merged c d a ∙ ap (after_single c d) (with_single d c x ∙ merge_between k));
   holds = gone_range a;
   plain = between_plain k;
-})
+}
 
-goes_both : (c m : BoundTree) (r : RangeComparison) (next : Link) (t : LogicalType) (l z : BoundTree) (l' z' : Option BoundTree) (ls rs back front : List Place) → is_and c ≡ false → and_node t l z ≡ and_of l z
-    → Holds l ls l' → Holds z rs z' → Apart c front
-    → ((back front : List Place) → ls ≡ back ++ Open r next ∷ front → Apart c front → Goes c m l l' (back ++ Gone ∷ front))
-    → ((back front : List Place) → rs ≡ back ++ Open r next ∷ front → Apart c front → Goes c m z z' (back ++ Gone ∷ front))
-    → Parts rs ls back (Open r next) front → Goes c m (and_node t l z) (conjoined l' z') (back ++ Gone ∷ front)
-goes_both c m r next t l z l' z' ls rs back front p same h g free on_left on_right (in_rs rest x y) =
-    let none : Apart c (rest ++ ls) = subst (Apart c) y free in
-    let w = on_right back rest x (λ k e i. none k e (has_first rest ls (turned k) i)) in
-    let one = whole_held c p h (λ k e i. none k e (has_second rest ls (turned k) i)) in
-    let parts : (back ++ Gone ∷ rest) ++ ls ≡ back ++ Gone ∷ front = append_assoc back (Gone ∷ rest) ls ∙ ap (λ v. back ++ Gone ∷ v) (sym y) in
-    record {
-      rest = conjoined l' w.rest;
-      merged = rights_in_order (Some c) l' z' ∙ (ap (λ v. rights_after v z') one ∙ ap (λ (v : Both). (v.0, conjoined l' v.1)) w.merged);
-      holds = subst (λ ps. Holds (and_node t l z) ps (conjoined l' w.rest)) parts (both {t = t} same h w.holds);
-      plain = w.plain;
-    }
-goes_both c m r next t l z l' z' ls rs back front p same h g free on_left on_right (in_ls rest x y) =
-    let w = on_left rest front y free in
-    let two = whole_held m w.plain.0 g (λ k e i. let v = ap keyed w.plain.1 in cc) in
-    let parts : rs ++ (rest ++ Gone ∷ front) ≡ back ++ Gone ∷ front = sym (append_assoc rs rest (Gone ∷ front)) ∙ ap (λ v. v ++ Gone ∷ front) (sym x) in
-    record {
-      rest = conjoined w.rest z';
-      merged = rights_in_order (Some c) l' z' ∙ (ap (λ v. rights_after v z') w.merged ∙ ap (λ (v : Both). (v.0, conjoined w.rest v.1)) two);
-      holds = subst (λ ps. Holds (and_node t l z) ps (conjoined w.rest z')) parts (both {t = t} same w.holds g);
-      plain = w.plain;
-    }
+-- in the second of two trees
+goes_second : (c m : BoundTree) → is_and c ≡ false → (t : LogicalType) (x y : BoundTree) (u v : Option BoundTree) (xs ys : List Place) → and_node t x y ≡ and_of x y → Holds x xs u → Apart c xs → Goes c m y v ys → Goes c m (and_node t x y) (conjoined u v) (ys ++ xs)
+goes_second c m p t x y u v xs ys same h free w = record {
+  rest = conjoined u w.rest;
+  merged = rights_in_order (Some c) u v ∙ (ap (λ z. rights_after z v) (whole_held c p h free) ∙ ap (λ (z : Both). (z.0, conjoined u z.1)) w.merged);
+  holds = both {t = t} same h w.holds;
+  plain = w.plain;
+}
+
+-- in the first
+goes_first : (c m : BoundTree) (t : LogicalType) (x y : BoundTree) (u v : Option BoundTree) (xs ys : List Place) → and_node t x y ≡ and_of x y → Holds y ys v → Goes c m x u xs → Goes c m (and_node t x y) (conjoined u v) (ys ++ xs)
+goes_first c m t x y u v xs ys same g w = record {
+  rest = conjoined w.rest v;
+  merged = rights_in_order (Some c) u v ∙ (ap (λ z. rights_after z v) w.merged ∙ ap (λ (z : Both). (z.0, conjoined w.rest z.1)) (whole_held m w.plain.0 g (λ k e i. let n = ap keyed w.plain.1 in cc)));
+  holds = both {t = t} same w.holds g;
+  plain = w.plain;
+}
 
 pub holds_gone : {z : BoundTree} {o : Option BoundTree} {ps : List Place} (c m : BoundTree) (r : RangeComparison) (next : Link) → is_and c ≡ false → Holds z ps o
     → ((d : BoundTree) → range_of d ≡ Some (range_seen r) → MergeTo c d m)
     → (back front : List Place) → ps ≡ back ++ Open r next ∷ front → Apart c front → Goes c m z o (back ++ Gone ∷ front)
-holds_gone c m r next p (no_range a n) merges back front f free = let h = only Other (Open r next) back front f in let g : Other ≡ Open r next = h.0 in cc
-holds_gone c m r next p (open_range {c = d} {r = v} {next = o} a n) merges back front f free =
-    let h = only (Open v o) (Open r next) back front f in
-    let g : Open v o ≡ Open r next = h.0 in
-    let s : v ≡ r = cc in
-    goes_alone c m d back front p a (merges d (n ∙ ap (λ z. Some (range_seen z)) s)) h.1 h.2
-holds_gone c m r next p (merged_range {b = w} a x n) merges back front f free = let h = only (Merged w) (Open r next) back front f in let g : Merged w ≡ Open r next = h.0 in cc
-holds_gone c m r next p (gone_range a) merges back front f free = let h = only Gone (Open r next) back front f in let g : Gone ≡ Open r next = h.0 in cc
-holds_gone c m r next p (both {t = t} {l = l} {r = z} {l' = l'} {r' = z'} {ls = ls} {rs = rs} same h g) merges back front f free =
-    goes_both c m r next t l z l' z' ls rs back front p same h g free (holds_gone c m r next p h merges) (holds_gone c m r next p g merges) (parts_of rs ls back (Open r next) front f)
+holds_gone c m r next p h merges = with_place c r next Gone (Goes c m) (λ d a n. goes_alone c m d p a (merges d n)) (goes_second c m p) (goes_first c m) h
 
 -- ---- nothing is merged yet
 

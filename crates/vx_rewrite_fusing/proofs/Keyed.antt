@@ -1,6 +1,6 @@
 -- What is mergeable, by the sides and items of ranges.
 use Rattle.std.proofs.Common.{◌≡◌, List, [], ◌∷◌, ◌++◌, length, refl, sym, ap, ◌∙◌, Bool, true, false, arith, length-append, ◌≤◌}
-use Rattle.std.specs.Prelude.{Option, Some, None}
+use Rattle.std.specs.Prelude.{Option, Some, None, if◌then◌else◌}
 use Rattle.vx_fn.specs.Functions.{binary, and_also}
 use Rattle.vx_tree.specs.Equality.{equal_bound, equal_bound-Decides}
 use Rattle.vx_tree.specs.Trees.{BoundTree, node, bound, no_bound}
@@ -28,22 +28,28 @@ seen_key Above strict x y = refl
 
 -- ---- the Between of two ranges
 
+other_items : (x w n : BoundTree) → (x ≡ w → ⊥) → (if equal_bound x w then Some n else None) ≡ None
+other_items x w n apart = go (equal_bound x w) refl
+  where
+    go : (r : Bool) → equal_bound x w ≡ r → (if equal_bound x w then Some n else None) ≡ None
+    go true e = absurd (apart ((equal_bound-Decides x w).0 e))
+    go false e = rw e refl
+
+one_item : (x w n m : BoundTree) → (if equal_bound x w then Some n else None) ≡ Some m → (x ≡ w) × (n ≡ m)
+one_item x w n m = go (equal_bound x w) refl
+  where
+    go : (r : Bool) → equal_bound x w ≡ r → (if equal_bound x w then Some n else None) ≡ Some m → (x ≡ w) × (n ≡ m)
+    go true e h = ((equal_bound-Decides x w).0 e, let g : Some n ≡ Some m = rw e at h in cc)
+    go false e h = let g : ◌≡◌ {A = Option BoundTree} None (Some m) = rw e at h in cc
+
 pub no_between : (c d : Option Range) → ((k : Bounded) → keyed c ≡ Some (turned k) → keyed d ≡ Some k → ⊥) → between_of c d ≡ None
 no_between None d f = refl
 no_between (Some (from_below ls x y)) None f = refl
 no_between (Some (from_above us x z)) None f = refl
 no_between (Some (from_below ls x y)) (Some (from_below us w z)) f = refl
 no_between (Some (from_above ls x y)) (Some (from_above us w z)) f = refl
-no_between (Some (from_below ls x y)) (Some (from_above us w z)) f = go (equal_bound x w) refl
-  where
-    go : (r : Bool) → equal_bound x w ≡ r → between_of (Some (from_below ls x y)) (Some (from_above us w z)) ≡ None
-    go true e = let same : x ≡ w = (equal_bound-Decides x w).0 e in absurd (f (Above, w) (ap (λ v. Some (Below, v)) same) refl)
-    go false e = rw e refl
-no_between (Some (from_above us x z)) (Some (from_below ls w y)) f = go (equal_bound x w) refl
-  where
-    go : (r : Bool) → equal_bound x w ≡ r → between_of (Some (from_above us x z)) (Some (from_below ls w y)) ≡ None
-    go true e = let same : x ≡ w = (equal_bound-Decides x w).0 e in absurd (f (Below, w) (ap (λ v. Some (Above, v)) same) refl)
-    go false e = rw e refl
+no_between (Some (from_below ls x y)) (Some (from_above us w z)) f = other_items x w _ (λ same. f (Above, w) (ap (λ v. Some (Below, v)) same) refl)
+no_between (Some (from_above us x z)) (Some (from_below ls w y)) f = other_items x w _ (λ same. f (Below, w) (ap (λ v. Some (Above, v)) same) refl)
 
 equal_itself : (x : BoundTree) → equal_bound x x ≡ true
 equal_itself x = (equal_bound-Decides x x).1 refl
@@ -55,28 +61,14 @@ merge_between (above_and_below {x = x} e f) = rw (e, f, equal_itself x) refl
 pub between_merge : (c d m : BoundTree) → between_of (range_of c) (range_of d) ≡ Some m → MergeTo c d m
 between_merge c d m = go (range_of c) (range_of d) refl refl
   where
-    one : (ls us : Bool) (x y w z : BoundTree) (r : Bool) → equal_bound x w ≡ r → range_of c ≡ Some (from_below ls x y) → range_of d ≡ Some (from_above us w z) → between_of (Some (from_below ls x y)) (Some (from_above us w z)) ≡ Some m → MergeTo c d m
-    one ls us x y w z true q e f h =
-        let same : x ≡ w = (equal_bound-Decides x w).0 q in
-        let is : between_node ls us x y z ≡ m = (let g : Some (between_node ls us x y z) ≡ Some m = rw q at h in cc) in
-        rw (← is) (below_and_above e (f ∙ ap (λ v. Some (from_above us v z)) (sym same)))
-    one ls us x y w z false q e f h = let g : ◌≡◌ {A = Option BoundTree} None (Some m) = rw q at h in cc
-
-    two : (ls us : Bool) (x y w z : BoundTree) (r : Bool) → equal_bound x w ≡ r → range_of c ≡ Some (from_above us x z) → range_of d ≡ Some (from_below ls w y) → between_of (Some (from_above us x z)) (Some (from_below ls w y)) ≡ Some m → MergeTo c d m
-    two ls us x y w z true q e f h =
-        let same : x ≡ w = (equal_bound-Decides x w).0 q in
-        let is : between_node ls us x y z ≡ m = (let g : Some (between_node ls us x y z) ≡ Some m = rw q at h in cc) in
-        rw (← is) (above_and_below e (f ∙ ap (λ v. Some (from_below ls v y)) (sym same)))
-    two ls us x y w z false q e f h = let g : ◌≡◌ {A = Option BoundTree} None (Some m) = rw q at h in cc
-
     go : (a b : Option Range) → range_of c ≡ a → range_of d ≡ b → between_of a b ≡ Some m → MergeTo c d m
     go None b e f h = cc
     go (Some (from_below ls x y)) None e f h = cc
     go (Some (from_above us x z)) None e f h = cc
     go (Some (from_below ls x y)) (Some (from_below us w z)) e f h = cc
     go (Some (from_above ls x y)) (Some (from_above us w z)) e f h = cc
-    go (Some (from_below ls x y)) (Some (from_above us w z)) e f h = one ls us x y w z (equal_bound x w) refl e f h
-    go (Some (from_above us x z)) (Some (from_below ls w y)) e f h = two ls us x y w z (equal_bound x w) refl e f h
+    go (Some (from_below ls x y)) (Some (from_above us w z)) e f h = let s = one_item x w _ m h in rw (← s.1) (below_and_above e (f ∙ ap (λ v. Some (from_above us v z)) (sym s.0)))
+    go (Some (from_above us x z)) (Some (from_below ls w y)) e f h = let s = one_item x w _ m h in rw (← s.1) (above_and_below e (f ∙ ap (λ v. Some (from_below ls v y)) (sym s.0)))
 
 pub between_none : (c d : BoundTree) → between_of (range_of c) (range_of d) ≡ None → Mergeable c d → ⊥
 between_none c d e k = let f : ◌≡◌ {A = Option BoundTree} None (Some k.0) = sym e ∙ merge_between k.1 in cc

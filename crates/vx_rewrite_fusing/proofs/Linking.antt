@@ -296,21 +296,37 @@ open_at (Merged b ∷ ps) zero k e = cc
 open_at (Gone ∷ ps) zero k e = cc
 open_at (p ∷ ps) (suc i) k e = let h = open_at ps i k e in record { range = h.range; next = h.next; there = h.there; key = h.key }
 
-module _ (places : Places) (r : RangeComparison) (next : Link) (from : ℕ) (linked : IsLinked places) where
-  turned_key : (i : ℕ) (k : Bounded) → bounded_by (Open r next) ≡ Some k → bounded_at places.list.items i ≡ Some (turned k) → bounded_at places.list.items i ≡ Some (opposite r.side, bound_of r.item.now)
-  turned_key i k e f = let own : (r.side, bound_of r.item.now) ≡ k = cc in f ∙ ap (λ z. Some (turned z)) (sym own)
+-- what is kept of the range that is read at a place, of the other side of its item
+module _ (places : Places) (at from : ℕ) (p : Place) (r : RangeComparison) (next : Link) (linked : IsLinked places) (inside : at < length places.list.items) (read : p ≡ get_or places.list.items at p) (open_there : p ≡ Open r next) where
+  abbrev pub kept : Option ℕ
+  kept = first_at places.heads.firsts.items (opposite r.side) next.number
 
-  pub none_first : head_of places.heads (opposite r.side) r.item ≡ None → NoneFrom places.list.items from (Open r next)
-  none_first h i k e l f = none_is places (opposite r.side) r.item linked h i (turned_key i k e f)
+  there : slice_get places.list.items at ≡ Some (Open r next)
+  there = place_read places.list.items at p inside read ∙ ap Some open_there
 
-  pub early_first : (first : ℕ) → head_of places.heads (opposite r.side) r.item ≡ Some first → first < from → NoneFrom places.list.items from (Open r next)
-  early_first first h less i k e l f =
-      let last = first_is places (opposite r.side) r.item first linked h in
-      let there = turned_key i k e f in
-      last.2 i (omega arith) (read_inside bounded_by places.list.items i (opposite r.side, bound_of r.item.now) there) there
+  same_place : (q : Place) → slice_get places.list.items at ≡ Some q → Open r next ≡ q
+  same_place q e = let f : Some (Open r next) ≡ Some q = sym there ∙ e in cc
 
-  pub partner_first : (first : ℕ) → head_of places.heads (opposite r.side) r.item ≡ Some first → IsFirstOf places.list.items first (Open r next)
-  partner_first first h = ((r.side, bound_of r.item.now), refl, first_is places (opposite r.side) r.item first linked h)
+  head_is : head_of places.heads (opposite r.side) r.item ≡ kept
+  head_is = ap (first_by places.heads.firsts.items (opposite r.side)) (linked.own at r next there)
+
+  turned_key : (q : Place) (i : ℕ) (k : Bounded) → slice_get places.list.items at ≡ Some q → bounded_by q ≡ Some k → bounded_at places.list.items i ≡ Some (turned k) → bounded_at places.list.items i ≡ Some (opposite r.side, bound_of r.item.now)
+  turned_key q i k e f g =
+      let same : Some (r.side, bound_of r.item.now) ≡ Some k = ap bounded_by (same_place q e) ∙ f in
+      let key : (r.side, bound_of r.item.now) ≡ k = cc in
+      g ∙ ap (λ z. Some (turned z)) (sym key)
+
+  pub none_first : kept ≡ None → (q : Place) → slice_get places.list.items at ≡ Some q → NoneFrom places.list.items from q
+  none_first none q e i k f l g = none_is places (opposite r.side) r.item linked (head_is ∙ none) i (turned_key q i k e f g)
+
+  pub early_first : (first : ℕ) → kept ≡ Some first → first < from → (q : Place) → slice_get places.list.items at ≡ Some q → NoneFrom places.list.items from q
+  early_first first some less q e i k f l g =
+      let last = first_is places (opposite r.side) r.item first linked (head_is ∙ some) in
+      let here = turned_key q i k e f g in
+      last.2 i (omega arith) (read_inside bounded_by places.list.items i (opposite r.side, bound_of r.item.now) here) here
+
+  pub partner_first : (first : ℕ) → kept ≡ Some first → (q : Place) → slice_get places.list.items at ≡ Some q → IsFirstOf places.list.items first q
+  partner_first first some q e = subst (IsFirstOf places.list.items first) (same_place q e) ((r.side, bound_of r.item.now), refl, first_is places (opposite r.side) r.item first linked (head_is ∙ some))
 
 -- a range is the first of its side and item where the place of one of these is
 pub key_there : (ps : List Place) (i : ℕ) (k : Bounded) (r : RangeComparison) (next : Link) → bounded_at ps i ≡ Some k → slice_get ps i ≡ Some (Open r next) → (r.side, bound_of r.item.now) ≡ k
@@ -321,6 +337,26 @@ first_there places i k r next linked last there =
     let same = key_there places.list.items i k r next last.1 there in
     last_unique places.list.items (r.side, bound_of r.item.now) (length places.list.items) (head_of places.heads r.side r.item) (Some i) (linked.heads r.side r.item)
     (subst (λ z. IsLast places.list.items z (length places.list.items) (Some i)) (sym same) last)
+
+-- what is read at the places of a pair
+pub record PairRead (ps : List Place) (left right : ℕ) (c d : RangeComparison) (after next : Link) : Type 0 where
+  pub on_left : slice_get ps left ≡ Some (Open c after)
+  pub on_right : slice_get ps right ≡ Some (Open d next)
+  pub sides : c.side ≡ opposite d.side
+  pub item : bound_of c.item.now ≡ bound_of d.item.now
+
+pub pair_read : (ps : List Place) (left right : ℕ) (p q : Place) (c d : RangeComparison) (after next : Link) → p ≡ get_or ps left p → q ≡ get_or ps right q → p ≡ Open c after → q ≡ Open d next → IsPair ps left right → PairRead ps left right c d after next
+pair_read ps left right p q c d after next l r e f pair =
+    let on_left = place_read ps left p pair.1.0 l ∙ ap Some e in
+    let on_right = place_read ps right q pair.2.0 r ∙ ap Some f in
+    let left_key = key_there ps left (turned pair.0) c after pair.1.1 on_left in
+    let right_key = key_there ps right pair.0 d next pair.2.1 on_right in
+    record {
+      on_left = on_left;
+      on_right = on_right;
+      sides = ap (λ (z : Bounded). z.0) left_key ∙ sym (ap (λ (z : Bounded). opposite z.0) right_key);
+      item = ap (λ (z : Bounded). z.1) left_key ∙ sym (ap (λ (z : Bounded). z.1) right_key);
+    }
 
 -- two ranges are taken out
 pub pair_linked : (old middle new : Places) (left right : ℕ) (c d : RangeComparison) (after next : Link) (b : Box BoundExpression Global) → IsLinked old → IsPair old.list.items left right

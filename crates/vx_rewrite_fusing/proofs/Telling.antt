@@ -54,26 +54,30 @@ abbrev Answers : Bool → BoundTree → Option BoundTree → Result Left VortexE
 Answers k l o (Ok left) = IsTold k l o left
 Answers k l o (Err e) = IsTrue k × (e ≡ OutOfMemory)
 
+-- the tree that is left
+abbrev left_tree : BoundTree → Left → Option BoundTree
+left_tree x None = Some x
+left_tree x (Some rest) = option_map tree_in rest
+
+left_is : (k : Bool) (x : BoundTree) (o : Option BoundTree) (left : Left) → IsTold k x o left → o ≡ left_tree x left
+left_is k x o None h = h
+left_is k x o (Some rest) h = sym h.1
+
+-- something changed
+told_changed : (k : Bool) (l : BoundTree) (o v w : Option BoundTree) (res : Result Left VortexError) → IsTrue k → o ≡ conjoined v w → IfOk res (λ left. rests left ≡ Some (conjoined v w)) → IfErr res (λ e. e ≡ OutOfMemory) → Answers k l o res
+told_changed k l o v w (Ok None) changed is a c = cc
+told_changed k l o v w (Ok (Some left)) changed is a c = let z : option_map tree_in left ≡ conjoined v w = cc in (changed, z ∙ sym is)
+told_changed k l o v w (Err e) changed is a c = (changed, c)
+
 pub told_both : (k m n : Bool) (x y l : BoundTree) (ox oy o : Option BoundTree) (before after : Left) (res : Result Left VortexError) → (IsTrue m → IsTrue k) → (IsTrue n → IsTrue k) → l ≡ and_of x y → o ≡ conjoined ox oy → IsTold m x ox before → IsTold n y oy after
     → IfOk res (λ left. rests left ≡ rest_of x (rests before) y (rests after)) → (before ≡ None → after ≡ None → res ≡ Ok None) → IfErr res (λ e. e ≡ OutOfMemory) → Answers k l o res
-told_both k m n x y l ox oy o None None (Ok None) f g whole is h i a b c = is ∙ (rw (h, i) (ap Some (sym whole)))
-told_both k m n x y l ox oy o None None (Ok (Some left)) f g whole is h i a b c = let z : ◌≡◌ {A = Result Left VortexError} (Ok (Some left)) (Ok None) = b refl refl in cc
-told_both k m n x y l ox oy o None None (Err e) f g whole is h i a b c = let z : ◌≡◌ {A = Result Left VortexError} (Err e) (Ok None) = b refl refl in cc
-told_both k m n x y l ox oy o None (Some r) (Ok None) f g whole is h i a b c = cc
-told_both k m n x y l ox oy o None (Some r) (Ok (Some left)) f g whole is h i a b c =
-    let z : option_map tree_in left ≡ conjoined (Some x) (option_map tree_in r) = cc in
-    (g i.0, z ∙ (ap (conjoined (Some x)) i.1 ∙ (ap (λ v. conjoined v oy) (sym h) ∙ sym is)))
-told_both k m n x y l ox oy o None (Some r) (Err e) f g whole is h i a b c = (g i.0, c)
-told_both k m n x y l ox oy o (Some q) None (Ok None) f g whole is h i a b c = cc
-told_both k m n x y l ox oy o (Some q) None (Ok (Some left)) f g whole is h i a b c =
-    let z : option_map tree_in left ≡ conjoined (option_map tree_in q) (Some y) = cc in
-    (f h.0, z ∙ (ap (λ v. conjoined v (Some y)) h.1 ∙ (ap (conjoined ox) (sym i) ∙ sym is)))
-told_both k m n x y l ox oy o (Some q) None (Err e) f g whole is h i a b c = (f h.0, c)
-told_both k m n x y l ox oy o (Some q) (Some r) (Ok None) f g whole is h i a b c = cc
-told_both k m n x y l ox oy o (Some q) (Some r) (Ok (Some left)) f g whole is h i a b c =
-    let z : option_map tree_in left ≡ conjoined (option_map tree_in q) (option_map tree_in r) = cc in
-    (f h.0, z ∙ (ap (λ v. conjoined v (option_map tree_in r)) h.1 ∙ (ap (conjoined ox) i.1 ∙ sym is)))
-told_both k m n x y l ox oy o (Some q) (Some r) (Err e) f g whole is h i a b c = (f h.0, c)
+told_both k m n x y l ox oy o before after res f g whole is h i a b c = go before after h i a b (is ∙ (ap (λ v. conjoined v oy) (left_is m x ox before h) ∙ ap (conjoined (left_tree x before)) (left_is n y oy after i)))
+  where
+    go : (before after : Left) → IsTold m x ox before → IsTold n y oy after → IfOk res (λ left. rests left ≡ rest_of x (rests before) y (rests after)) → (before ≡ None → after ≡ None → res ≡ Ok None) → o ≡ conjoined (left_tree x before) (left_tree y after) → Answers k l o res
+    go None None h i a b is = subst (Answers k l o) (sym (b refl refl)) (is ∙ ap Some (sym whole))
+    go None (Some r) h i a b is = told_changed k l o (Some x) (option_map tree_in r) res (g i.0) is a c
+    go (Some q) None h i a b is = told_changed k l o (option_map tree_in q) (Some y) res (f h.0) is a c
+    go (Some q) (Some r) h i a b is = told_changed k l o (option_map tree_in q) (option_map tree_in r) res (f h.0) is a c
 
 -- with the places that are left in front
 pub left_both : (k m n : Bool) {now front : List Place} (x y l : BoundTree) (ox oy o : Option BoundTree) (before after : Left) (res : Result Left VortexError) → (IsTrue m → IsTrue k) → (IsTrue n → IsTrue k) → l ≡ and_of x y → o ≡ conjoined ox oy
