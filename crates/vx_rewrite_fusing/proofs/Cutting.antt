@@ -127,8 +127,8 @@ own_range {p = p} k a own held = go held refl a
     go (gone_range x) e f = let same : Gone ≡ p = cc in let g : bounded_by p ≡ None = ap bounded_by (sym same) in cc
     go (both same h g) e f = cc
 
-apart_of : {c : BoundTree} {k : Bounded} (ps : List Place) → keyed (range_of c) ≡ Some k → (Has ps (turned k) → ⊥) → Apart c ps
-apart_of {k = k} ps key none j e h = none (subst (λ z. Has ps (turned z)) (let same : k ≡ j = cc in sym same) h)
+apart_of : (c : BoundTree) {k : Bounded} (ps : List Place) → keyed (range_of c) ≡ Some k → (Has ps (turned k) → ⊥) → Apart c ps
+apart_of c {k = k} ps key none j e h = none (subst (λ z. Has ps (turned z)) (let same : k ≡ j = cc in sym same) h)
 
 -- ---- a right conjunct
 
@@ -225,7 +225,7 @@ module _ {all back : List Place} {p : Place} {mid ls : List Place} {r : BoundTre
         trees l u o on_right on_left =
             let own = own_range key a f.1 on_right in
             let there : slice_get all (at - 1) ≡ Some (Open own.range own.next) = right_there ∙ ap Some own.place in
-            let apart = apart_of cut.front own.key (none_behind ((back ++ p ∷ mid) ++ cut.back) cut.front (Open met.range met.next) first in_two cut.at (turned key) f.2) in
+            let apart = apart_of r cut.front own.key (none_behind ((back ++ p ∷ mid) ++ cut.back) cut.front (Open met.range met.next) first in_two cut.at (turned key) f.2) in
             let w = holds_merged r met.range met.next b on_left (λ c e. merged.2 met.range own.range met.next own.next c r met.there there e own.seen) cut.back cut.front cut.parts apart in
             let same : both_merged u o ≡ (Some w.tree, None) = ap (both_merged u) own.whole ∙ some_merged r w.tree u a w.merged in
             subst (HoldBoth (Gone ∷ []) lefts r l) (sym same) (gone_range a, w.holds)
@@ -356,7 +356,7 @@ module _ {all back rs mid : List Place} {p : Place} {front : List Place} {l : Bo
         trees r u o on_right on_left =
             let own = own_range left_key a f.1 on_left in
             let there : slice_get all (at - 1) ≡ Some (Open own.range own.next) = left_there ∙ ap Some own.place in
-            let apart = apart_of among.after own.key none_after in
+            let apart = apart_of l among.after own.key none_after in
             let w = holds_gone l (tree_in b) left_open.range left_open.next a on_right (λ d e. merged.2 own.range left_open.range own.next left_open.next l d there left_open.there own.seen e) among.before among.after among.parts apart in
             let same : both_merged u o ≡ (Some (tree_in b), w.rest) = ap (λ z. both_merged z o) own.whole ∙ w.merged in
             subst (HoldBoth rights (Merged b ∷ []) r l) (sym same) (w.holds, merged_range a w.plain.0 w.plain.1)
