@@ -105,7 +105,7 @@ fn taken_apart(
     let mut trees = Vec::with_capacity(alloc, operands.len())?;
     let mut places = Vec::with_capacity(alloc, operands.len())?;
     for operand in operands {
-        trees.push(*operand.tree)?;
+        trees.push(Box::into_inner(operand.tree))?;
         places.push(operand.places)?;
     }
     Ok((trees, places))
