@@ -1,5 +1,5 @@
 -- What begins an operand: the scope root, a field, a value, a function, a CASE, or a bracket.
-use Rattle.std.specs.Prelude.{ℕ, zero, suc, ◌+◌, Bool, true, false, List, [], ◌∷◌, ◌++◌, Option, Some, None, Result, Ok, Err, codes}
+use Rattle.std.specs.Prelude.{ℕ, zero, suc, ◌+◌, true, false, List, [], ◌∷◌, ◌++◌, Option, Some, None, Result, Ok, Err, codes}
 use Rattle.std.specs.Str.{bytes_eq}
 use Rattle.vx_value.specs.Columns.{Constant}
 use Rattle.vx_value.specs.Types.{Name, LogicalType}
@@ -10,8 +10,8 @@ use Rattle.vx_source_tokens.specs.declared.expected.Expected.TheVariants.{Operan
 use Rattle.vx_source_tokens.specs.declared.token.Sign.TheVariants.{OpenParen, CloseParen, OpenBracket, CloseBracket, OpenBrace, Colon, DoubleColon, Dot, Question, Dollar}
 use Rattle.vx_source_tokens.specs.Tokens.{Lexeme, word, quoted, number as numeral, text, octets, sign, end, invalid}
 use Rattle.vx_source_dtype.specs.Names.{name_at, same_word}
-use Rattle.vx_source_dtype.specs.Reading.{Goes, more, done, Step, refused}
-use Rattle.vx_source_dtype.specs.TypeReading.{TypeState, type_start, type_step, within}
+use Rattle.vx_source_dtype.specs.Reading.{Goes, more, done, refused}
+use Rattle.vx_source_dtype.specs.TypeReading.{TypeState, type_start, within}
 use Rattle.vx_source_types.specs.Literals.{plain_literal, typed_literal}
 use Rattle.vx_source_types.specs.ScalarReading.{suffixed}
 use Rattle.vx_source_types.specs.ValueReading.{Drafted, ValueState, value_start, value_step}
@@ -19,10 +19,10 @@ use Rattle.vx_source_grammar.specs.declared.words.Keyword.{Keyword}
 use Rattle.vx_source_grammar.specs.declared.words.Keyword.TheVariants.{Not, Null, True, False, Case, When}
 use Rattle.vx_source_grammar.specs.Keywords.{beside, keyword_of}
 use Rattle.vx_source_grammar.specs.OptionReading.{plain_functions, function_read}
-use Rattle.vx_source_grammar.specs.Closing.{called, keyword_at, node_stands}
-use Rattle.vx_source_grammar.specs.Following.{follows, follows_loosely, not_goes, is_goes, is_not_goes, field_goes, excluded_at, selection_at, named_goes, selection_goes}
+use Rattle.vx_source_grammar.specs.Closing.{called, node_stands}
+use Rattle.vx_source_grammar.specs.Following.{follows, field_goes}
 use Rattle.vx_source_grammar.specs.Joining.{over}
-use Rattle.vx_source_grammar.specs.States.{Callee, own_of, any_of, if_of, condition_part, Frame, in_not, in_binary, in_like, in_lower, in_upper, in_paren, in_call, in_pack, in_cast, in_case, TypeFor, for_literal, for_cast, for_cast_call, Mode, operand_due, first_child, tight, loose, at_word, at_vortex, at_id, in_options, children_due, at_dot, at_selection, at_exclusion, selected_name, selected_next, first_packed, packed_due, packed_value, pack_end, at_not, at_is, at_is_not, case_due, in_value, in_type, ExpressionState, ExpressionAnswer, goes, when_read, stands}
+use Rattle.vx_source_grammar.specs.States.{Callee, own_of, any_of, if_of, condition_part, Frame, in_not, in_binary, in_like, in_lower, in_upper, in_paren, in_call, in_pack, in_cast, in_case, TypeFor, for_literal, for_cast, for_cast_call, operand_due, first_child, at_word, at_vortex, at_id, in_options, children_due, first_packed, packed_value, pack_end, case_due, in_value, in_type, ExpressionAnswer, goes, when_read, stands}
 
 -- a node stands there, before the token
 abbrev pub node_before : List Frame → ℕ → Function → List Tree → Lexeme → ExpressionAnswer

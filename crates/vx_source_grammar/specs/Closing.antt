@@ -1,5 +1,5 @@
 -- What closes a bracket, or goes on in it.
-use Rattle.std.specs.Prelude.{ℕ, ◌/◌, ◌%◌, ◌^◌, ◌==◌, true, false, List, [], ◌∷◌, ◌++◌, length, Option, Some, None, Result, Ok, Err, nat_lt}
+use Rattle.std.specs.Prelude.{ℕ, ◌/◌, ◌%◌, ◌^◌, ◌==◌, true, false, List, [], ◌∷◌, ◌++◌, length, Option, Some, None, Ok, Err, nat_lt}
 use Rattle.vx_value.specs.Types.{Name}
 use Rattle.vx_fn.specs.Functions.{Function, case_when, arity_of}
 use Rattle.vx_tree.specs.Trees.{Tree}

@@ -1,11 +1,10 @@
 -- What follows an operand: a postfix, an operator, or what closes a bracket.
-use Rattle.std.specs.Prelude.{ℕ, Bool, true, false, List, [], ◌∷◌, ◌++◌, Option, Some, None, Result, Ok, Err}
+use Rattle.std.specs.Prelude.{ℕ, Bool, true, false, List, [], ◌∷◌, ◌++◌, Option, Some, None, Err}
 use Rattle.vx_value.specs.Types.{Name}
 use Rattle.vx_fn.specs.declared.options.FieldSelection.{FieldSelection}
 use Rattle.vx_fn.specs.declared.options.FieldSelection.TheVariants.{Include, Exclude}
 use Rattle.vx_fn.specs.Functions.{Comparison, equal, not_equal, greater, greater_or_equal, less, less_or_equal, Operation, compares, and_also, or_else, adds, get_item, select, is_null, is_not_null}
 use Rattle.vx_tree.specs.Trees.{Tree}
-use Rattle.vx_source_tokens.specs.declared.expected.Expected.{Expected}
 use Rattle.vx_source_tokens.specs.declared.expected.Expected.TheVariants.{Name as AName, Parens, Like as LikeWord, Null as NullWord, CommaOrCloseBrace}
 use Rattle.vx_source_tokens.specs.declared.token.Sign.{Sign}
 use Rattle.vx_source_tokens.specs.declared.token.Sign.TheVariants.{OpenBrace, CloseBrace, Comma, DoubleColon, Dot, Tilde, Equal, NotEqual, Less, LessEqual, Greater, GreaterEqual, Plus}
@@ -16,7 +15,7 @@ use Rattle.vx_source_dtype.specs.TypeReading.{type_start}
 use Rattle.vx_source_grammar.specs.declared.words.Keyword.{Keyword}
 use Rattle.vx_source_grammar.specs.declared.words.Keyword.TheVariants.{And, Or, Not, Like, Ilike, Between, Is, Null}
 use Rattle.vx_source_grammar.specs.Keywords.{keyword_of}
-use Rattle.vx_source_grammar.specs.Closing.{closes, keyword_at, node_stands}
+use Rattle.vx_source_grammar.specs.Closing.{closes, node_stands}
 use Rattle.vx_source_grammar.specs.Joining.{over, reduced}
 use Rattle.vx_source_grammar.specs.States.{Frame, in_chain, in_binary, in_like, in_lower, in_upper, for_cast, operand_due, loose, at_dot, at_selection, at_exclusion, selected_name, selected_next, at_not, at_is, at_is_not, in_type, ExpressionAnswer, goes, when_read}
 

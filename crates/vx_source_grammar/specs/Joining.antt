@@ -1,7 +1,7 @@
 -- Operators that have their last operand.
 use Rattle.std.specs.Prelude.{ℕ, zero, suc, true, false, List, [], ◌∷◌, ◌++◌, length, Result, Ok, Err, nat_le}
 use Rattle.vx_fn.specs.Functions.{Function, Operation, or_else, adds, logical_not, binary, like, between}
-use Rattle.vx_tree.specs.Trees.{Tree, Trees}
+use Rattle.vx_tree.specs.Trees.{Tree}
 use Rattle.vx_tree.specs.Views.{trees_from}
 use Rattle.vx_source_tokens.specs.declared.expected.Expected.{Expected}
 use Rattle.vx_source_tokens.specs.declared.expected.Expected.TheVariants.{Operand}

@@ -1,7 +1,6 @@
 -- What the options of a function say, between the square brackets behind its name.
 use Rattle.std.specs.Prelude.{ℕ, Bool, true, false, ◌&&◌, List, [], ◌∷◌, Option, Some, None, Result, Ok, Err, codes, option_map, option_and_then}
-use Rattle.vx_value.specs.Columns.{Constant}
-use Rattle.vx_value.specs.Types.{Name, LogicalType}
+use Rattle.vx_value.specs.Types.{Name}
 use Rattle.vx_fn.specs.declared.options.FieldSelection.{FieldSelection}
 use Rattle.vx_fn.specs.declared.options.FieldSelection.TheVariants.{Include, Exclude}
 use Rattle.vx_fn.specs.Functions.{equal, not_equal, greater, greater_or_equal, less, less_or_equal, Operation, compares, and_also, or_else, adds, Function, case_when, get_item, literal, pack, select, fill_null, zip, binary, logical_not, between, like, is_null, is_not_null, mask, cast}
@@ -10,7 +9,7 @@ use Rattle.vx_source_tokens.specs.declared.expected.Expected.TheVariants.{CloseB
 use Rattle.vx_source_tokens.specs.declared.token.Sign.TheVariants.{OpenParen, CloseParen, OpenBracket, CloseBracket, OpenBrace, CloseBrace, Comma, Colon, Tilde, Equal, NotEqual, Less, LessEqual, Greater, GreaterEqual, Plus}
 use Rattle.vx_source_tokens.specs.Tokens.{Lexeme, word, quoted, sign}
 use Rattle.vx_source_dtype.specs.Names.{name_at, same_word}
-use Rattle.vx_source_dtype.specs.Reading.{Goes, more, done, Step, refused}
+use Rattle.vx_source_dtype.specs.Reading.{more, done, Step, refused}
 use Rattle.vx_source_dtype.specs.TypeReading.{type_start, type_step, length_at}
 use Rattle.vx_source_types.specs.ScalarReading.{scalar_due, scalar_step}
 use Rattle.vx_source_grammar.specs.Keywords.{beside}
@@ -81,6 +80,10 @@ case_read (a ∷ sign OpenParen ∷ b ∷ sign Equal ∷ pairs ∷ sign Comma �
     ]
 case_read xs = None
 
+-- a name in front of others
+abbrev pub name_then : Name → List Name × List Lexeme → List Name × List Lexeme
+name_then a (names, rest) = (a ∷ names, rest)
+
 -- the names with commas between them, and what is left behind them
 abbrev mutual
   pub names_read : List Lexeme → List Name × List Lexeme
@@ -92,9 +95,6 @@ abbrev mutual
   pub more_read : List Lexeme → List Name × List Lexeme
   more_read (sign Comma ∷ xs) = names_read xs
   more_read xs = ([], xs)
-
-  pub name_then : Name → List Name × List Lexeme → List Name × List Lexeme
-  name_then a (names, rest) = (a ∷ names, rest)
 
 abbrev pub braced : (List Name → FieldSelection) → List Name × List Lexeme → Option Function
 braced selection (names, sign CloseBrace ∷ []) = Some (select (selection names))
