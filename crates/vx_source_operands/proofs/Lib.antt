@@ -1,2 +1,2 @@
+pub mod Chains
 pub mod Heights
-pub mod Stopping

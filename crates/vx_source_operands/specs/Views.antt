@@ -1,9 +1,9 @@
 -- What operands and readers of expressions stand for.
 use Rattle.std.specs.Prelude.{List, map, reverse, Vec}
+use Rattle.std.specs.declared.alloc.Global.{Global}
 use Rattle.vx_fn.specs.Views.{function_of, operation_of, is_strict}
-use Rattle.vx_tree.specs.declared.expression.Expression.{Expression}
-use Rattle.vx_tree.specs.Trees.{Tree, Trees}
-use Rattle.vx_tree.specs.Views.{tree_of, trees_of}
+use Rattle.vx_tree.specs.Trees.{Tree}
+use Rattle.vx_tree.specs.Views.{tree_of}
 use Rattle.vx_source_tokens.specs.declared.first.Found.{Found}
 use Rattle.vx_source_tokens.specs.Tokens.{Lexeme}
 use Rattle.vx_source_tokens.specs.Views.{lexeme_of}
@@ -26,18 +26,12 @@ use Rattle.vx_source_operands.specs.declared.state.ExpressionReader.{ExpressionR
 use Rattle.vx_source_operands.specs.declared.state.ExpressionStep.{ExpressionStep}
 use Rattle.vx_source_operands.specs.declared.state.ExpressionStep.TheVariants.{More, Done}
 
-abbrev pub expression_in : Operand → Expression
-expression_in o = o.tree.value
-
 -- the tree of an operand, and those of several
 abbrev pub operand_of : Operand → Tree
 operand_of o = tree_of o.tree.value
 
 abbrev pub operands_of : List Operand → List Tree
 operands_of os = map operand_of os
-
-abbrev pub trees_in : List Operand → Trees
-trees_in os = trees_of (map expression_in os)
 
 -- the tokens of what was found
 abbrev pub lexeme_in : Found → Lexeme
@@ -87,7 +81,7 @@ mode_of (modes.Word a start end) = reading.at_word a
 mode_of (modes.Vortex a start end) = reading.at_vortex a
 mode_of (modes.Id a b start end) = reading.at_id a b
 mode_of (modes.Options b xs opened room start) = reading.in_options b (lexemes_of xs.items) opened room
-mode_of (modes.Children f start) = reading.children_due (function_of f)
+mode_of (modes.Children f start) = reading.children_due (function_of f.value)
 mode_of (modes.Dot o) = reading.at_dot (operand_of o)
 mode_of (modes.Selection o) = reading.at_selection (operand_of o)
 mode_of (modes.Exclusion o) = reading.at_exclusion (operand_of o)
@@ -113,8 +107,8 @@ step_of (More s) = more (reader_of s)
 step_of (Done o) = done (operand_of o)
 
 -- the operands of a list, and what is open with the operand
-abbrev pub operands_in : Vec Operand → List Tree
+abbrev pub operands_in : Vec Operand Global → List Tree
 operands_in os = operands_of os.items
 
-abbrev pub reduced_of : Vec Frame × Operand → List reading.Frame × Tree
+abbrev pub reduced_of : Vec Frame Global × Operand → List reading.Frame × Tree
 reduced_of p = (frames_of p.0.items, operand_of p.1)

@@ -2,10 +2,11 @@
 ghost use Rattle.std.specs.Prelude.{◌≡◌, ℕ, [], ◌∷◌, map, IfOk};
 ghost use Rattle.vx_fn.specs.Views.{function_of};
 ghost use Rattle.vx_tree.specs.Trees.{root};
+ghost use Rattle.vx_tree.specs.Views.{tree_of, trees_from};
 ghost use Rattle.vx_source_grammar.specs.Joining.{over};
 ghost use Rattle.vx_source_grammar.specs.Nodes.{heights_of};
 ghost use Rattle.vx_source_operands.specs.Places.{ReadsUpTo};
-ghost use Rattle.vx_source_operands.specs.Views.{expression_in, operand_of, operands_of, trees_in};
+ghost use Rattle.vx_source_operands.specs.Views.{operand_of, operands_of};
 
 use crate::{Operand, Places};
 use std::alloc::{AllocError, Global};
@@ -86,7 +87,7 @@ pub fn node(
 // The height of the highest of them, 0 of none.
 #[tactic(auto, using(crate::proofs::Heights::heights_next))]
 fn highest(operands: &[Operand]) -> usize
-    ensures { result ≡ heights_of (trees_in operands.now) }
+    ensures { result ≡ heights_of (trees_from (operands_of operands.now)) }
 {
     let mut highest = 0;
     for operand in operands {
@@ -100,7 +101,7 @@ fn taken_apart(
     alloc: Global,
     operands: Vec<Operand>,
 ) -> Result<(Vec<Expression>, Vec<Places>), AllocError>
-    ensures { IfOk result (λ apart. apart.0.items ≡ map expression_in operands.items) }
+    ensures { IfOk result (λ apart. map tree_of apart.0.items ≡ operands_of operands.items) }
 {
     let mut trees = Vec::with_capacity(alloc, operands.len())?;
     let mut places = Vec::with_capacity(alloc, operands.len())?;
