@@ -11,3 +11,10 @@ mod Calls
 mod Packs
 mod Cases
 mod Literals
+mod TypesBehind
+mod TypesRead
+mod Casts
+mod TypedLiterals
+mod Collecting
+mod TypeBrackets
+mod ValueBrackets

@@ -100,25 +100,25 @@ no_bracket : (fs : List Frame) (r : ℕ) (x : Lexeme) (s : ValueState) → value
 no_bracket fs r (sign CloseParen) s q = cc
 no_bracket fs r x s q = refl
 
-value_in : {s u : ValueState} {bs ds : List ℕ} (fs : List Frame) (r : ℕ) → Leads value_step s bs u ds → Goes (at fs (in_value s) r) bs (at fs (in_value u) r) ds
+pub value_in : {s u : ValueState} {bs ds : List ℕ} (fs : List Frame) (r : ℕ) → Leads value_step s bs u ds → Goes (at fs (in_value s) r) bs (at fs (in_value u) r) ds
 value_in fs r stays = stays
 value_in fs r (leads {x = x} p q h) = leads p (ap (value_goes fs r x) q) (value_in fs r h)
 
 -- a value that is read, and the names of its structs
-abbrev read_value : Datum → LogicalType → ℕ → ValueState
+abbrev pub read_value : Datum → LogicalType → ℕ → ValueState
 read_value v t r = record { frames = []; mode = whole_value v; names = names_after [] v t; room = r }
 
 -- ---- nodes
 
 -- the literal's node, before the token that follows
-literal_is : (fs : List Frame) (r : ℕ) (t : LogicalType) (v : Datum) (x : Lexeme) → 0 < r → literal_before fs r x (Ok (constant t v)) ≡ follows fs r (call (literal t v) no_tree) x
+pub literal_is : (fs : List Frame) (r : ℕ) (t : LogicalType) (v : Datum) (x : Lexeme) → 0 < r → literal_before fs r x (Ok (constant t v)) ≡ follows fs r (call (literal t v) no_tree) x
 literal_is fs r t v x h = ap (when_read (λ e. follows fs r e x)) (over_is (literal t v) no_tree r h)
 
-fitted : (t : LogicalType) (v : Datum) → Fits v t → fitting t v ≡ Some (constant t v)
+pub fitted : (t : LogicalType) (v : Datum) → Fits v t → fitting t v ≡ Some (constant t v)
 fitted t v f = ap (λ b. if b then Some (constant t v) else None) f
 
 -- a value, and what is read behind it
-literal_of : (v : Datum) (t : LogicalType) (fs : List Frame) (r : ℕ) (behind rest : List ℕ) (last : ExpressionState) → Fits v t → IsSpelledValue v → IsSpelled t → value_nesting v ≤ r → Follows behind
+pub literal_of : (v : Datum) (t : LogicalType) (fs : List Frame) (r : ℕ) (behind rest : List ℕ) (last : ExpressionState) → Fits v t → IsSpelledValue v → IsSpelled t → value_nesting v ≤ r → Follows behind
     → Goes (at fs (in_value (read_value v t r)) r) behind last rest → IsBehind fs r (call (literal t v) no_tree) last
     → Reads fs r (call (literal t v) no_tree) (value_source v t ++ behind) rest
 literal_of v t fs r behind rest last f u w h e g b =
@@ -144,7 +144,7 @@ no_type fs r d x p = refl
 value_alone : (v : Datum) (t : LogicalType) (fs : List Frame) (r : ℕ) → plain_literal v ≡ Ok (constant t v) → 0 < r → IsBehind fs r (call (literal t v) no_tree) (at fs (in_value (read_value v t r)) r)
 value_alone v t fs r q h x p = no_type fs r (record { value = v; names = names_after [] v t }) x p ∙ (ap (literal_before fs r x) q ∙ literal_is fs r t v x h)
 
-alone_again : (v : Datum) (t : LogicalType) (fs : List Frame) (r : ℕ) (rest : List ℕ) → Fits v t → IsSpelledValue v → IsSpelled t → value_nesting v ≤ r → 0 < r → plain_literal v ≡ Ok (constant t v) → Ends rest
+pub alone_again : (v : Datum) (t : LogicalType) (fs : List Frame) (r : ℕ) (rest : List ℕ) → Fits v t → IsSpelledValue v → IsSpelled t → value_nesting v ≤ r → 0 < r → plain_literal v ≡ Ok (constant t v) → Ends rest
     → Reads fs r (call (literal t v) no_tree) (value_source v t ++ rest) rest
 alone_again v t fs r rest f u w h l q m = literal_of v t fs r rest rest _ f u w h (ends_word rest m, ends_text rest m) stays (value_alone v t fs r q l)
 
@@ -189,7 +189,7 @@ number_read p i fs r bs rest negative n e g f h =
       is_behind = λ x p. refl;
     }
 
-number_again : (p : PType) (i : ℤ) (fs : List Frame) (r : ℕ) (rest : List ℕ) → Fits (int i) (ty (atomic (number p)) false) → 0 < r → Ends rest
+pub number_again : (p : PType) (i : ℤ) (fs : List Frame) (r : ℕ) (rest : List ℕ) → Fits (int i) (ty (atomic (number p)) false) → 0 < r → Ends rest
     → Reads fs r (call (literal (ty (atomic (number p)) false) (int i)) no_tree) (signed_decimal i ++ (ptype_text p ++ rest)) rest
 number_again p (pos n) fs r rest f h m =
     let apart = suffix_apart p rest in
