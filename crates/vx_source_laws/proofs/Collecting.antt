@@ -1,9 +1,11 @@
 -- The tokens of a function's options, up to the bracket that closes them.
-use Rattle.std.proofs.Common.{◌≡◌, ℕ, zero, suc, ◌+◌, List, [], ◌∷◌, ◌++◌, Ok, refl, sym, ap, ◌∙◌, subst, append_assoc, append-nil, arith}
+use Rattle.std.proofs.Common.{◌≡◌, ℕ, zero, suc, ◌+◌, List, [], ◌∷◌, ◌++◌, Result, Ok, Err, refl, sym, ap, ◌∙◌, subst, append_assoc, append-nil, arith}
 use Rattle.vx_value.specs.Types.{Name}
+use Rattle.vx_source_tokens.specs.declared.expected.Expected.{Expected}
+use Rattle.vx_source_tokens.specs.declared.expected.Expected.TheVariants.{CloseBracket as TheBracket}
 use Rattle.vx_source_tokens.specs.declared.token.Sign.TheVariants.{OpenBracket, CloseBracket}
 use Rattle.vx_source_tokens.specs.Tokens.{Lexeme, sign, end, invalid, first}
-use Rattle.vx_source_dtype.specs.Reading.{Step, more, done, Leads, stays, leads}
+use Rattle.vx_source_dtype.specs.Reading.{Goes as Answer, Step, refused, more, done, Leads, stays, leads}
 use Rattle.vx_source_grammar.specs.Beginning.{options_at}
 use Rattle.vx_source_grammar.specs.ExpressionReading.{expression_step}
 use Rattle.vx_source_grammar.specs.OptionReading.{read_all}
@@ -61,11 +63,15 @@ pub collected_of : {S A : Type 0} (step : Step S A) {n k : ℕ} {s u : S} {bs ds
 collected_of step none_taken = no_token
 collected_of step (one_taken p q b g) = one_token p b (collected_of step g)
 
+-- one token of what is read as a whole
+one_read : {S A : Type 0} (step : Step S A) (s t : S) (x : Lexeme) (xs : List Lexeme) → step s x ≡ Ok (more t) → read_all step s (x ∷ xs) ≡ read_all step t xs
+one_read {S} {A} step s t x xs q = ap after q where
+  after : Result (Answer S A) Expected → Result A Expected
+  after o = elim o [ Ok g ↦ elim g [ more v ↦ read_all step v xs | done a ↦ refused x TheBracket ] | Err e ↦ Err e ]
+
 pub read_of : {S A : Type 0} (step : Step S A) {n k : ℕ} {s u : S} {bs ds : List ℕ} {xs : List Lexeme} → Taken step n s bs xs k u ds → read_all step s xs ≡ read_all step u []
 read_of step none_taken = refl
-read_of step (one_taken {x = x} {xs = xs} p q b g) = read_on step q ∙ read_of step g where
-  read_on : {S A : Type 0} (step : Step S A) {s t : S} → step s x ≡ Ok (more t) → read_all step s (x ∷ xs) ≡ read_all step t xs
-  read_on step q = rw q refl
+read_of step (one_taken {s = s} {t = t} {x = x} {xs = xs} p q b g) = one_read step s t x xs q ∙ read_of step g
 
 -- where what is read is part of something else
 pub embedded : {S A T B : Type 0} (step : Step S A) (outer : Step T B) (embed : S → T) (count : S → ℕ) {s u : S} {bs ds : List ℕ}
