@@ -18,3 +18,6 @@ mod TypedLiterals
 mod Collecting
 mod TypeBrackets
 mod ValueBrackets
+mod OptionNames
+mod PlainOptions
+mod ScalarOptions

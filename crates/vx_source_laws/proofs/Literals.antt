@@ -150,7 +150,7 @@ alone_again v t fs r rest f u w h l q m = literal_of v t fs r rest rest _ f u w 
 
 -- ---- a number with its type's name behind it
 
-suffix_is : (p : PType) (negative : Bool) (n : ℕ) → suffixed (numeral negative (Some n) (ptype_text p)) ≡ Some (ranged negative (Some n) (Some p))
+pub suffix_is : (p : PType) (negative : Bool) (n : ℕ) → suffixed (numeral negative (Some n) (ptype_text p)) ≡ Some (ranged negative (Some n) (Some p))
 suffix_is U8 negative n = refl
 suffix_is U16 negative n = refl
 suffix_is U32 negative n = refl
@@ -161,7 +161,7 @@ suffix_is I32 negative n = refl
 suffix_is I64 negative n = refl
 
 -- a suffix begins with a letter that no number has, and is a word
-suffix_apart : (p : PType) (rest : List ℕ) → (is_digit (next (ptype_text p ++ rest)) ≡ false) × ((next (ptype_text p ++ rest) == 120) ≡ false) × (list_all is_word (ptype_text p) ≡ true)
+pub suffix_apart : (p : PType) (rest : List ℕ) → (is_digit (next (ptype_text p ++ rest)) ≡ false) × ((next (ptype_text p ++ rest) == 120) ≡ false) × (list_all is_word (ptype_text p) ≡ true)
 suffix_apart U8 rest = (refl, refl, refl)
 suffix_apart U16 rest = (refl, refl, refl)
 suffix_apart U32 rest = (refl, refl, refl)

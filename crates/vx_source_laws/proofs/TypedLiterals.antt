@@ -30,7 +30,7 @@ use Rattle.vx_source_laws.proofs.TypesRead.{read_type, type_ended, whole_type, t
 -- ---- the value is one of the type, since the scalar alone is read as it
 
 -- the value as it was read
-abbrev draft : Datum → LogicalType → Drafted
+abbrev pub draft : Datum → LogicalType → Drafted
 draft v t = record { value = v; names = names_after [] v t }
 
 value_in : {s u : ValueState} {bs ds : List ℕ} (room : ℕ) → Leads value_step s bs u ds → Leads (scalar_step room) (in_scalar_value s) bs (in_scalar_value u) ds
@@ -49,7 +49,7 @@ scalar_read v t room f u w h k =
     leads it.found (ap (scalar_begins room it.token) it.bare ∙ ap (value_begun it.token) it.taken)
     ((then) (scalar_step room) (value_in room it.goes) (leads {t = in_scalar_type (draft v t) (type_start room)} refl refl (type_in room (draft v t) behind)))
 
-typed_is : (v : Datum) (t : LogicalType) (room : ℕ) → Fits v t → IsSpelledValue v → IsSpelled t → value_nesting v ≤ room → type_nesting t ≤ room → type_behind t ≡ codes "::" ++ type_source t
+pub typed_is : (v : Datum) (t : LogicalType) (room : ℕ) → Fits v t → IsSpelledValue v → IsSpelled t → value_nesting v ≤ room → type_nesting t ≤ room → type_behind t ≡ codes "::" ++ type_source t
     → typed_literal (draft v t) t ≡ Some (constant t v)
 typed_is v t room f u w h k q = by_literal (typed_literal (draft v t) t) refl where
   whole : IsRead (scalar_step room) scalar_due (value_source v t ++ 58 ∷ 58 ∷ type_source t) (constant t v)
