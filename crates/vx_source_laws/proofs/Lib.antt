@@ -21,3 +21,5 @@ mod ValueBrackets
 mod OptionNames
 mod PlainOptions
 mod ScalarOptions
+mod Fulls
+mod Again

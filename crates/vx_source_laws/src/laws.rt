@@ -1,7 +1,13 @@
 // Laws of source text, as functions without a body.
-ghost use Rattle.vx_source_laws.specs.Laws.{EndStops};
+ghost use Rattle.vx_source_laws.specs.Laws.{EndStops, SourceIsReadAgain};
 
 /// Where a text ends, nothing more of an expression is read.
 pub fn end_stops()
     ensures { EndStops }
+{}
+
+/// The source text of an expression is read as that expression, where as much nesting is allowed
+/// as the text has.
+pub fn source_is_read_again()
+    ensures { SourceIsReadAgain }
 {}

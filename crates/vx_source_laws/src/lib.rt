@@ -3,4 +3,4 @@
 
 mod laws;
 
-pub use laws::end_stops;
+pub use laws::{end_stops, source_is_read_again};
