@@ -1,5 +1,5 @@
 -- The source text of a tree is read as that tree.
-use Rattle.std.proofs.Common.{◌≡◌, ℕ, zero, suc, ◌+◌, ◌<◌, ◌≤◌, Bool, true, false, List, [], ◌∷◌, ◌++◌, length, refl, sym, ap, ◌∙◌, subst, append-nil, arith}
+use Rattle.std.proofs.Common.{◌≡◌, ℕ, zero, suc, ◌≤◌, Bool, true, false, List, [], ◌++◌, length, refl, ap, ◌∙◌, subst, append-nil, arith}
 use Rattle.std.specs.Prelude.{◌==◌, ◌&&◌, if◌then◌else◌}
 use Rattle.std.proofs.lemmas.Bool.{and_parts, eqb-true}
 use Rattle.vx_fn.specs.Functions.{Function, case_when, get_item, literal, pack, select, fill_null, zip, binary, logical_not, between, like, is_null, is_not_null, mask, cast, arity_of}
@@ -11,7 +11,7 @@ use Rattle.vx_source_dtype.specs.Reading.{Leads, stays, IsRead, is_read}
 use Rattle.vx_source_writer.specs.SourceTexts.{source, sources, own_source, full_source, is_shown}
 use Rattle.vx_source_grammar.specs.ExpressionReading.{expression_step}
 use Rattle.vx_source_grammar.specs.Nodes.{heights_of}
-use Rattle.vx_source_grammar.specs.States.{expression_start, Frame, tight}
+use Rattle.vx_source_grammar.specs.States.{expression_start, tight}
 use Rattle.vx_source_laws.specs.Nesting.{shown_nesting, call_nesting, nesting, nestings}
 use Rattle.vx_source_laws.specs.SpelledTrees.{IsSpelledFunction, IsSpelledTree, AreSpelledTrees}
 use Rattle.vx_source_laws.proofs.Calls.{fill_null_again, logical_not_again, is_null_again, is_not_null_again, mask_again, zip_again}
@@ -23,7 +23,7 @@ use Rattle.vx_source_laws.proofs.Owns.{IsOwnAgain}
 use Rattle.vx_source_laws.proofs.Packs.{pack_again}
 use Rattle.vx_source_laws.proofs.Postfixes.{get_item_again, select_again}
 use Rattle.vx_source_laws.proofs.Signs.{first_dollar}
-use Rattle.vx_source_laws.proofs.TreesRead.{at, Ends, Reads, due, of_grouped, IsAgain, AreAgain}
+use Rattle.vx_source_laws.proofs.TreesRead.{at, Reads, due, of_grouped, IsAgain, AreAgain}
 use Rattle.vx_source_laws.proofs.TypedLiterals.{literal_again}
 
 -- the scope root

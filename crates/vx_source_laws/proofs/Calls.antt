@@ -1,5 +1,5 @@
 -- Functions that are written by their names, with their children between parentheses.
-use Rattle.std.proofs.Common.{◌≡◌, ℕ, zero, suc, ◌+◌, ◌<◌, ◌≤◌, max, Bool, true, List, [], ◌∷◌, ◌++◌, length, Option, Some, Ok, refl, sym, ap, ◌∙◌, append_assoc, arith}
+use Rattle.std.proofs.Common.{◌≡◌, ℕ, zero, suc, ◌<◌, ◌≤◌, true, List, [], ◌∷◌, ◌++◌, length, Some, Ok, refl, sym, ap, ◌∙◌, append_assoc, arith}
 use Rattle.std.specs.Prelude.{codes, ◌==◌}
 use Rattle.std.proofs.lemmas.Bool.{eq-eqb}
 use Rattle.vx_dtype.specs.Texts.{with_commas}
@@ -12,11 +12,10 @@ use Rattle.vx_source_tokens.proofs.FirstSigns.{first_open_paren}
 use Rattle.vx_source_tokens.proofs.FirstTokens.{first_word}
 use Rattle.vx_source_tokens.specs.Tokens.{word}
 use Rattle.vx_source_dtype.specs.Names.{is_plain}
-use Rattle.vx_source_dtype.specs.Reading.{more, stays, leads}
+use Rattle.vx_source_dtype.specs.Reading.{more, leads}
 use Rattle.vx_source_writer.specs.SourceTexts.{sources}
 use Rattle.vx_source_grammar.specs.Beginning.{id_called}
-use Rattle.vx_source_grammar.specs.Closing.{called, node_stands}
-use Rattle.vx_source_grammar.specs.ExpressionReading.{expression_step}
+use Rattle.vx_source_grammar.specs.Closing.{called}
 use Rattle.vx_source_grammar.specs.Keywords.{beside}
 use Rattle.vx_source_grammar.specs.OptionReading.{plain_functions}
 use Rattle.vx_source_grammar.specs.States.{own_of, Frame, in_call, first_child, tight, at_word, at_vortex, at_id}
@@ -25,7 +24,7 @@ use Rattle.vx_source_laws.proofs.Children.{children_again}
 use Rattle.vx_source_laws.proofs.Heights.{heights_below}
 use Rattle.vx_source_laws.proofs.Owns.{IsOwnAgain}
 use Rattle.vx_source_laws.proofs.Signs.{first_dot}
-use Rattle.vx_source_laws.proofs.TreesRead.{at, Goes, Ends, Reads, of_grouped, AreAgain, listed, node_is}
+use Rattle.vx_source_laws.proofs.TreesRead.{at, Goes, Reads, of_grouped, AreAgain, listed, node_is}
 
 pub length-listed : (es : Trees) → length (listed es) ≡ count_of es
 length-listed no_tree = refl
@@ -58,9 +57,9 @@ plain_again f b es fs (suc r) rest p q k n h =
       taken = refl;
       opens = refl;
       more_of =
-        leads {t = at fs (at_vortex (codes "vortex")) (suc r)} (first_dot (b ++ 40 ∷ children)) refl
-        (leads {t = at fs (at_id (codes "vortex") b) (suc r)} (first_word b (40 ∷ children) p refl) refl
-        (leads {t = at (in_call (own_of f) [] (suc r) ∷ fs) first_child r} (first_open_paren children) (ap (id_called fs (suc r)) q) (own_children f es fs r rest k n (omega arith))));
+          leads {t = at fs (at_vortex (codes "vortex")) (suc r)} (first_dot (b ++ 40 ∷ children)) refl
+          (leads {t = at fs (at_id (codes "vortex") b) (suc r)} (first_word b (40 ∷ children) p refl) refl
+          (leads {t = at (in_call (own_of f) [] (suc r) ∷ fs) first_child r} (first_open_paren children) (ap (id_called fs (suc r)) q) (own_children f es fs r rest k n (omega arith))));
       is_behind = λ x p. refl;
     })
 

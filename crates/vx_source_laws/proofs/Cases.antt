@@ -1,5 +1,5 @@
 -- A CASE, with its conditions and values in turn.
-use Rattle.std.proofs.Common.{◌≡◌, ℕ, zero, suc, ◌+◌, ◌*◌, ◌/◌, ◌%◌, ◌^◌, ◌<◌, ◌≤◌, Bool, true, false, List, [], ◌∷◌, ◌++◌, length, Ok, Err, refl, sym, ap, ◌∙◌, append_assoc, append-nil, arith}
+use Rattle.std.proofs.Common.{◌≡◌, ℕ, zero, suc, ◌/◌, ◌%◌, ◌^◌, ◌<◌, ◌≤◌, Bool, true, false, List, [], ◌∷◌, ◌++◌, length, Ok, Err, refl, sym, ap, ◌∙◌, append_assoc, append-nil, arith}
 use Rattle.std.specs.Prelude.{codes, ◌==◌, nat_lt}
 use Rattle.std.proofs.lemmas.Bool.{eq-eqb}
 use Rattle.std.proofs.lemmas.Bool.Decides.{nat_tests}
@@ -21,7 +21,7 @@ use Rattle.vx_source_laws.specs.Nesting.{nestings}
 use Rattle.vx_source_laws.proofs.Calls.{length-listed}
 use Rattle.vx_source_laws.proofs.Heights.{heights_below}
 use Rattle.vx_source_laws.proofs.Owns.{IsOwnAgain}
-use Rattle.vx_source_laws.proofs.TreesRead.{at, Goes, Ends, ends_word, IsBehind, Reads, due_behind_blank, of_grouped, AreAgain, listed, node_is}
+use Rattle.vx_source_laws.proofs.TreesRead.{at, Goes, Ends, ends_word, IsBehind, due_behind_blank, of_grouped, AreAgain, listed, node_is}
 
 -- what stands behind a value ends its text
 value_ends : (es : Trees) (rest : List ℕ) → Ends (pairs_sql (sources es) ++ (codes " END" ++ rest))
@@ -103,9 +103,9 @@ case_again pairs has_else (tree c (tree v es)) l k o n fs (suc r) rest h m =
       taken = refl;
       opens = refl;
       more_of =
-        leads {t = at (in_case condition_part [] (suc r) ∷ fs) operand_due r} refl refl
-        (then expression_step (due_behind_blank condition)
-        (leads {t = at (in_case value_part (c ∷ []) (suc r) ∷ fs) operand_due r} refl (condition.is_behind (word (codes "THEN")) refl)
-        (then expression_step (due_behind_blank value) (more_pairs es v (c ∷ []) (c ∷ v ∷ listed es) fs r value.last _ rest k.1.1 (omega arith) m refl value.is_behind ended))));
+          leads {t = at (in_case condition_part [] (suc r) ∷ fs) operand_due r} refl refl
+          (then expression_step (due_behind_blank condition)
+          (leads {t = at (in_case value_part (c ∷ []) (suc r) ∷ fs) operand_due r} refl (condition.is_behind (word (codes "THEN")) refl)
+          (then expression_step (due_behind_blank value) (more_pairs es v (c ∷ []) (c ∷ v ∷ listed es) fs r value.last _ rest k.1.1 (omega arith) m refl value.is_behind ended))));
       is_behind = λ x p. refl;
     })

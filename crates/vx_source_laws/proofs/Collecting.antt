@@ -7,7 +7,6 @@ use Rattle.vx_source_tokens.specs.declared.token.Sign.TheVariants.{OpenBracket, 
 use Rattle.vx_source_tokens.specs.Tokens.{Lexeme, sign, end, invalid, first}
 use Rattle.vx_source_dtype.specs.Reading.{Goes as Answer, Step, refused, more, done, Leads, stays, leads}
 use Rattle.vx_source_grammar.specs.Beginning.{options_at}
-use Rattle.vx_source_grammar.specs.ExpressionReading.{expression_step}
 use Rattle.vx_source_grammar.specs.OptionReading.{read_all}
 use Rattle.vx_source_grammar.specs.States.{Frame, in_options}
 use Rattle.vx_source_laws.proofs.TreesRead.{at, Goes}

@@ -1,5 +1,5 @@
 -- Functions that are written in full: the name, the options between square brackets, and the children between parentheses.
-use Rattle.std.proofs.Common.{◌≡◌, ℕ, zero, suc, ◌≤◌, true, List, [], ◌∷◌, ◌++◌, Ok, refl, sym, ap, ◌∙◌, append_assoc, arith}
+use Rattle.std.proofs.Common.{◌≡◌, ℕ, zero, suc, ◌≤◌, true, List, [], ◌∷◌, ◌++◌, refl, ap, ◌∙◌, append_assoc, arith}
 use Rattle.std.specs.Prelude.{codes}
 use Rattle.vx_dtype.specs.Texts.{with_commas}
 use Rattle.vx_value.specs.Types.{Name}
@@ -9,8 +9,8 @@ use Rattle.vx_source_tokens.proofs.FirstSigns.{first_open_paren, first_open_brac
 use Rattle.vx_source_tokens.proofs.FirstTokens.{first_word}
 use Rattle.vx_source_tokens.specs.Tokens.{word}
 use Rattle.vx_source_dtype.specs.Names.{is_plain}
-use Rattle.vx_source_dtype.specs.Reading.{stays, leads}
-use Rattle.vx_source_dtype.proofs.Reading.{then, of_text}
+use Rattle.vx_source_dtype.specs.Reading.{leads}
+use Rattle.vx_source_dtype.proofs.Reading.{then}
 use Rattle.vx_source_writer.specs.Options.{options_source}
 use Rattle.vx_source_writer.specs.SourceTexts.{sources, full_source}
 use Rattle.vx_source_grammar.specs.ExpressionReading.{expression_step}
@@ -23,7 +23,7 @@ use Rattle.vx_source_laws.proofs.Heights.{heights_below}
 use Rattle.vx_source_laws.proofs.PlainOptions.{AreOptions, get_item_options, binary_options, like_options, between_options, case_options, pack_options, select_options}
 use Rattle.vx_source_laws.proofs.ScalarOptions.{cast_options, literal_options}
 use Rattle.vx_source_laws.proofs.Signs.{first_dot}
-use Rattle.vx_source_laws.proofs.TreesRead.{at, Goes, Ends, Reads, of_grouped, AreAgain, node_is}
+use Rattle.vx_source_laws.proofs.TreesRead.{at, Reads, of_grouped, AreAgain, node_is}
 
 -- ---- names behind `vortex.`
 
@@ -105,12 +105,12 @@ full_again f es fs (suc r) rest u k h =
       taken = refl;
       opens = refl;
       more_of =
-        leads {t = at fs (at_vortex (codes "vortex")) (suc r)} (first_dot (b ++ 91 ∷ bracketed)) refl
-        (leads {t = at fs (at_id (codes "vortex") b) (suc r)} (first_word b (91 ∷ bracketed) so.1 refl) refl
-        (leads {t = at fs (in_options b [] 0 r) (suc r)} (first_open_bracket bracketed) refl
-        (then expression_step (options_collected fs (suc r) b [] r options.collected)
-        (leads {t = at fs (children_due f) (suc r)} (first_close_bracket (40 ∷ children)) (ap (when_read (λ g. goes fs (children_due g) (suc r))) options.read)
-        (leads {t = at (in_call (any_of f) [] (suc r) ∷ fs) first_child r} (first_open_paren children) refl
-        (children_again es (any_of f) fs r _ rest k (omega arith) (node_is fs f es (suc r) (omega arith))))))));
+          leads {t = at fs (at_vortex (codes "vortex")) (suc r)} (first_dot (b ++ 91 ∷ bracketed)) refl
+          (leads {t = at fs (at_id (codes "vortex") b) (suc r)} (first_word b (91 ∷ bracketed) so.1 refl) refl
+          (leads {t = at fs (in_options b [] 0 r) (suc r)} (first_open_bracket bracketed) refl
+          (then expression_step (options_collected fs (suc r) b [] r options.collected)
+          (leads {t = at fs (children_due f) (suc r)} (first_close_bracket (40 ∷ children)) (ap (when_read (λ g. goes fs (children_due g) (suc r))) options.read)
+          (leads {t = at (in_call (any_of f) [] (suc r) ∷ fs) first_child r} (first_open_paren children) refl
+          (children_again es (any_of f) fs r _ rest k (omega arith) (node_is fs f es (suc r) (omega arith))))))));
       is_behind = λ x p. refl;
     })

@@ -1,17 +1,17 @@
 -- Literals: a number with its type's name behind it, a value, or a value and its type.
-use Rattle.std.proofs.Common.{◌≡◌, ℕ, zero, suc, ◌<◌, ◌≤◌, ◌⊎◌, ⊎_elim, Bool, true, false, List, [], ◌∷◌, ◌++◌, map, Option, Some, None, Result, Ok, Err, refl, sym, ap, ◌∙◌, subst, append_assoc, append-nil, arith}
+use Rattle.std.proofs.Common.{◌≡◌, ℕ, suc, ◌<◌, ◌≤◌, Bool, true, false, List, [], ◌∷◌, ◌++◌, map, Option, Some, None, Ok, Err, refl, ap, ◌∙◌}
 use Rattle.std.specs.Prelude.{codes, ◌==◌, if◌then◌else◌, ℤ, pos, negsuc}
 use Rattle.std.specs.Char.{to_ascii_lowercase}
-use Rattle.std.specs.Fmt.{decimal, signed_decimal}
+use Rattle.std.specs.Fmt.{signed_decimal}
 use Rattle.std.specs.List.{list_all}
 use Rattle.std.specs.Str.{bytes_eq}
 use Rattle.std.proofs.lemmas.Slice.Eq.{bytes_eq-Decides}
 use Rattle.vx_dtype.specs.declared.dtype.PType.{PType}
 use Rattle.vx_dtype.specs.declared.dtype.PType.TheVariants.{U8, U16, U32, U64, I8, I16, I32, I64}
-use Rattle.vx_value.specs.Columns.{Constant, constant}
-use Rattle.vx_value.specs.Fits.{fits, Fits}
+use Rattle.vx_value.specs.Columns.{constant}
+use Rattle.vx_value.specs.Fits.{Fits}
 use Rattle.vx_value.specs.Texts.{ptype_text}
-use Rattle.vx_value.specs.Types.{Name, truth, number, text, octets, LogicalType, ty, atomic, list, fixed, struct, Datum, null, bool, int, utf8, bytes}
+use Rattle.vx_value.specs.Types.{number, LogicalType, ty, atomic, Datum, int}
 use Rattle.vx_fn.specs.Functions.{literal}
 use Rattle.vx_tree.specs.Trees.{call, no_tree}
 use Rattle.vx_source_tokens.specs.Characters.{is_word, is_digit}
@@ -21,26 +21,23 @@ use Rattle.vx_source_tokens.proofs.Choice.{no}
 use Rattle.vx_source_tokens.specs.declared.expected.Expected.TheVariants.{Value}
 use Rattle.vx_source_tokens.proofs.FirstNumbers.{first_number, first_below_zero}
 use Rattle.vx_source_dtype.specs.Names.{same_word}
-use Rattle.vx_source_dtype.specs.Reading.{more, done, Leads, stays, leads}
-use Rattle.vx_source_dtype.specs.Spelled.{IsSpelled, type_nesting}
-use Rattle.vx_source_dtype.specs.TypeTexts.{type_source}
-use Rattle.vx_source_dtype.proofs.Reading.{then, of_text}
-use Rattle.vx_source_types.specs.Literals.{fitting, ranged, plain_literal, typed_literal}
+use Rattle.vx_source_dtype.specs.Reading.{more, Leads, stays, leads}
+use Rattle.vx_source_dtype.specs.Spelled.{IsSpelled}
+use Rattle.vx_source_dtype.proofs.Reading.{then}
+use Rattle.vx_source_types.specs.Literals.{fitting, ranged, plain_literal}
 use Rattle.vx_source_types.specs.ScalarReading.{suffixed}
-use Rattle.vx_source_types.specs.ScalarTexts.{value_source, scalar_source}
+use Rattle.vx_source_types.specs.ScalarTexts.{value_source}
 use Rattle.vx_source_types.specs.Spelled.{value_nesting, IsSpelledValue}
 use Rattle.vx_source_types.specs.ValueReading.{Drafted, ValueState, whole_value, simple_begins, value_start, value_step, word_value}
 use Rattle.vx_source_types.proofs.ValuesAgain.{Follows, names_after, value_again, fits_small, fits_below_zero}
 use Rattle.vx_source_grammar.specs.Beginning.{begins, word_begins, value_begun, number_begins, first_child_at, literal_before, value_ends, value_goes}
 use Rattle.vx_source_grammar.specs.Following.{follows}
 use Rattle.vx_source_grammar.specs.ExpressionReading.{expression_step}
-use Rattle.vx_source_grammar.specs.Joining.{over}
 use Rattle.vx_source_grammar.specs.Keywords.{operator_words, value_words, case_words, either, keyword_of}
 use Rattle.vx_source_grammar.specs.declared.words.Keyword.{Keyword}
 use Rattle.vx_source_grammar.specs.declared.words.Keyword.TheVariants.{Null, True, False}
-use Rattle.vx_source_grammar.specs.States.{Frame, in_value, in_type, for_literal, tight, ExpressionState, when_read}
-use Rattle.vx_source_laws.proofs.Owns.{IsOwnAgain}
-use Rattle.vx_source_laws.proofs.TreesRead.{at, Goes, Ends, ends_word, ends_text, is_suffix, IsBehind, Reads, of_grouped, over_is, node_is}
+use Rattle.vx_source_grammar.specs.States.{Frame, in_value, tight, ExpressionState, when_read}
+use Rattle.vx_source_laws.proofs.TreesRead.{at, Goes, Ends, ends_word, ends_text, is_suffix, IsBehind, Reads, over_is, node_is}
 
 -- ---- a value begins
 

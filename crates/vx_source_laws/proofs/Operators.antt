@@ -1,15 +1,15 @@
 -- Operators between parentheses.
-use Rattle.std.proofs.Common.{◌≡◌, ℕ, zero, suc, ◌<◌, ◌≤◌, Bool, true, false, List, [], ◌∷◌, ◌++◌, Ok, Result, refl, sym, ap, ◌∙◌, append_assoc, arith}
+use Rattle.std.proofs.Common.{◌≡◌, ℕ, zero, suc, ◌<◌, Bool, true, false, List, [], ◌∷◌, ◌++◌, Ok, Result, refl, ap, ◌∙◌, append_assoc, arith}
 use Rattle.std.specs.Prelude.{codes}
 use Rattle.vx_fn.specs.Functions.{Comparison, equal, not_equal, greater, greater_or_equal, less, less_or_equal, Operation, compares, and_also, or_else, adds, binary, between, like}
 use Rattle.vx_fn.specs.Texts.{operation_text, bound_text, like_text}
-use Rattle.vx_tree.specs.Trees.{Tree, call, Trees, no_tree, tree}
+use Rattle.vx_tree.specs.Trees.{Tree, call, no_tree, tree}
 use Rattle.vx_source_tokens.specs.declared.expected.Expected.{Expected}
 use Rattle.vx_source_tokens.specs.declared.token.Sign.TheVariants.{OpenParen, CloseParen, Equal, NotEqual, Less, LessEqual, Greater, GreaterEqual, Plus}
 use Rattle.vx_source_tokens.specs.Tokens.{word, sign}
 use Rattle.vx_source_tokens.proofs.FirstSigns.{first_open_paren, first_close_paren}
 use Rattle.vx_source_dtype.specs.Reading.{more, stays, leads}
-use Rattle.vx_source_dtype.proofs.Reading.{then, of_text}
+use Rattle.vx_source_dtype.proofs.Reading.{then}
 use Rattle.vx_source_writer.specs.SourceTexts.{source}
 use Rattle.vx_source_grammar.specs.Closing.{bracket_goes, closes}
 use Rattle.vx_source_grammar.specs.ExpressionReading.{expression_step}
@@ -17,7 +17,7 @@ use Rattle.vx_source_grammar.specs.Joining.{over, paired, rounds, only_left, red
 use Rattle.vx_source_grammar.specs.Nodes.{heights_of}
 use Rattle.vx_source_grammar.specs.States.{Frame, in_chain, in_binary, in_like, in_upper, in_paren, operand_due, tight, ExpressionState, ExpressionAnswer, when_read}
 use Rattle.vx_source_laws.proofs.Owns.{IsOwnAgain}
-use Rattle.vx_source_laws.proofs.TreesRead.{at, Goes, Ends, IsBehind, Reads, due, due_behind_blank, of_grouped, IsAgain, over_is}
+use Rattle.vx_source_laws.proofs.TreesRead.{at, Goes, IsBehind, Reads, due, due_behind_blank, of_grouped, IsAgain, over_is}
 
 -- an open parenthesis, with what is read between it and the closing one
 in_parens : {fs : List Frame} {r : ℕ} {e : Tree} {bs rest : List ℕ} → Goes (at (in_paren (suc r) ∷ fs) operand_due r) bs (at fs (tight e) (suc r)) rest → Reads fs (suc r) e (40 ∷ bs) rest
@@ -135,7 +135,7 @@ between_again lower_strict upper_strict array lower upper j k l fs (suc r) rest 
     let third : List ℕ = source upper ++ 41 ∷ rest in
     let second : List ℕ = source array ++ 32 ∷ (bound_text upper_strict ++ 32 ∷ third) in
     let grouped : (codes "(" ++ (source lower ++ (codes " " ++ (bound_text lower_strict ++ (codes " " ++ (source array ++ (codes " " ++ (bound_text upper_strict ++ (codes " " ++ (source upper ++ codes ")")))))))))) ++ rest
-        ≡ 40 ∷ (source lower ++ 32 ∷ (bound_text lower_strict ++ 32 ∷ second)) = simp append_assoc in
+    ≡ 40 ∷ (source lower ++ 32 ∷ (bound_text lower_strict ++ 32 ∷ second)) = simp append_assoc in
     let first = k (in_paren (suc r) ∷ fs) r (32 ∷ (bound_text lower_strict ++ 32 ∷ second)) (omega arith) refl in
     let middle = j (in_binary (compares (bound lower_strict)) lower ∷ in_paren (suc r) ∷ fs) r (32 ∷ (bound_text upper_strict ++ 32 ∷ third)) (omega arith) refl in
     let last = l (in_upper lower_strict upper_strict array lower ∷ in_paren (suc r) ∷ fs) r (41 ∷ rest) (omega arith) refl in

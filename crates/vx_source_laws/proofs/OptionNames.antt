@@ -11,7 +11,7 @@ use Rattle.vx_source_dtype.specs.Names.{name_source, names_source}
 use Rattle.vx_source_grammar.specs.OptionReading.{names_read, more_read, name_then}
 use Rattle.vx_source_laws.specs.SpelledTrees.{AreTexts}
 use Rattle.vx_source_laws.proofs.Collecting.{Brackets, Collected, no_token, one_token, of_collected_text}
-use Rattle.vx_source_laws.proofs.NamesRead.{IsNameOf, as_word, as_quoted, Named, name_again}
+use Rattle.vx_source_laws.proofs.NamesRead.{IsNameOf, as_word, as_quoted, name_again, name_ends}
 
 -- a token with which names end
 abbrev pub Closes : Lexeme → Type 0
@@ -30,12 +30,6 @@ name_counted n as_quoted = refl
 name_read : {a : Name} {x : Lexeme} → IsNameOf a x → (xs : List Lexeme) → names_read (x ∷ xs) ≡ name_then a (more_read xs)
 name_read as_word xs = refl
 name_read as_quoted xs = refl
-
--- a name ends before a comma, and where the names end
-name_ends : (names : List Name) (rest : List ℕ) → is_word (next rest) ≡ false → (next rest == 96) ≡ false
-    → (is_word (next (after_commas (map name_source names) ++ rest)) ≡ false) × ((next (after_commas (map name_source names) ++ rest) == 96) ≡ false)
-name_ends [] rest e q = (e, q)
-name_ends (a ∷ names) rest e q = (refl, refl)
 
 more_names : (names : List Name) (rest : List ℕ) → AreTexts names → is_word (next rest) ≡ false → (next rest == 96) ≡ false → NamesIn more_read names (after_commas (map name_source names) ++ rest) rest
 more_names [] rest u e q = record { tokens = []; collected = λ n. no_token; read_back = λ y ys c. (c ys).1 }

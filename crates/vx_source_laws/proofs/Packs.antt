@@ -1,6 +1,6 @@
 -- Structs, with a name before each child.
-use Rattle.std.proofs.Common.{◌≡◌, ℕ, zero, suc, ◌<◌, ◌≤◌, Bool, true, false, List, [], ◌∷◌, ◌++◌, length, map, Some, Ok, refl, sym, ap, ◌∙◌, append_assoc, append-nil, arith}
-use Rattle.std.specs.Prelude.{codes, ◌==◌}
+use Rattle.std.proofs.Common.{◌≡◌, ℕ, zero, suc, ◌<◌, ◌≤◌, Bool, true, false, List, [], ◌∷◌, ◌++◌, length, map, Ok, refl, sym, ap, ◌∙◌, append_assoc, append-nil, arith}
+use Rattle.std.specs.Prelude.{codes}
 use Rattle.vx_dtype.specs.Texts.{with_commas}
 use Rattle.vx_dtype.proofs.Commas.{after_commas}
 use Rattle.vx_value.specs.Types.{Name}
@@ -11,7 +11,7 @@ use Rattle.vx_tree.specs.Trees.{Tree, call, Trees, no_tree, tree}
 use Rattle.vx_source_tokens.proofs.FirstSigns.{first_open_paren, first_close_paren, first_comma, first_question}
 use Rattle.vx_source_tokens.specs.declared.token.Sign.TheVariants.{CloseParen, Comma, Question}
 use Rattle.vx_source_tokens.specs.Tokens.{Lexeme, word, sign}
-use Rattle.vx_source_dtype.specs.Names.{name_source, name_at}
+use Rattle.vx_source_dtype.specs.Names.{name_source}
 use Rattle.vx_source_dtype.specs.Reading.{more, stays, leads}
 use Rattle.vx_source_dtype.proofs.Reading.{then, of_text}
 use Rattle.vx_source_writer.specs.SourceTexts.{source, sources}
@@ -19,11 +19,11 @@ use Rattle.vx_source_grammar.specs.Beginning.{packed_at, first_packed_at, pack_e
 use Rattle.vx_source_grammar.specs.ExpressionReading.{expression_step}
 use Rattle.vx_source_grammar.specs.Following.{follows}
 use Rattle.vx_source_grammar.specs.Joining.{over}
-use Rattle.vx_source_grammar.specs.States.{Frame, in_pack, operand_due, first_packed, packed_due, packed_value, pack_end, tight, at_word, ExpressionState, ExpressionAnswer, goes, when_read}
+use Rattle.vx_source_grammar.specs.States.{Frame, in_pack, operand_due, first_packed, packed_due, packed_value, pack_end, tight, at_word, ExpressionState, goes, when_read}
 use Rattle.vx_source_laws.specs.Nesting.{nestings}
 use Rattle.vx_source_laws.specs.SpelledTrees.{AreTexts}
 use Rattle.vx_source_laws.proofs.Heights.{heights_below}
-use Rattle.vx_source_laws.proofs.NamesRead.{IsNameOf, as_word, as_quoted, named, Named, name_again}
+use Rattle.vx_source_laws.proofs.NamesRead.{IsNameOf, as_word, as_quoted, named, name_again}
 use Rattle.vx_source_laws.proofs.Owns.{IsOwnAgain}
 use Rattle.vx_source_laws.proofs.TreesRead.{at, Goes, Ends, IsBehind, Reads, due_behind_blank, of_grouped, AreAgain, listed, over_is, node_is}
 
@@ -108,7 +108,7 @@ pack_of names n es fs r behind rest last u k m h g b =
       taken = refl;
       opens = refl;
       more_of =
-        leads {t = at (in_pack [] [] (suc r) ∷ fs) first_packed r} (first_open_paren (with_commas (packed_sources names es) ++ 41 ∷ behind)) refl (then expression_step (packed_again names es fs r behind u k m h) g);
+          leads {t = at (in_pack [] [] (suc r) ∷ fs) first_packed r} (first_open_paren (with_commas (packed_sources names es) ++ 41 ∷ behind)) refl (then expression_step (packed_again names es fs r behind u k m h) g);
       is_behind = b;
     }
 

@@ -1,5 +1,5 @@
 -- The options of functions that are neither a type nor a scalar.
-use Rattle.std.proofs.Common.{◌≡◌, ℕ, ◌<◌, ◌≤◌, ◌^◌, Bool, true, false, List, [], ◌∷◌, ◌++◌, length, Option, Some, None, Ok, refl, sym, ap, ◌∙◌, append_assoc, arith}
+use Rattle.std.proofs.Common.{◌≡◌, ℕ, ◌<◌, ◌^◌, Bool, true, false, List, [], ◌∷◌, ◌++◌, length, Option, Some, Ok, refl, ap, ◌∙◌, append_assoc, arith}
 use Rattle.std.specs.Prelude.{codes, ◌==◌, nat_lt, option_map, option_and_then}
 use Rattle.std.specs.Fmt.{decimal}
 use Rattle.std.specs.List.{list_all}
@@ -10,21 +10,21 @@ use Rattle.vx_value.specs.Types.{Name}
 use Rattle.vx_fn.specs.declared.options.FieldSelection.{FieldSelection}
 use Rattle.vx_fn.specs.declared.options.FieldSelection.TheVariants.{Include, Exclude}
 use Rattle.vx_fn.specs.Functions.{equal, not_equal, greater, greater_or_equal, less, less_or_equal, Operation, compares, and_also, or_else, adds, Function, case_when, get_item, pack, select, binary, between, like, selection_names}
-use Rattle.vx_fn.specs.Texts.{truth_text, nullability_text}
+use Rattle.vx_fn.specs.Texts.{bound_text, truth_text, nullability_text}
 use Rattle.vx_source_tokens.proofs.Choice.{yes}
 use Rattle.vx_source_tokens.proofs.FirstNumbers.{spelled, first_number}
-use Rattle.vx_source_tokens.proofs.FirstSigns.{first_open_bracket, first_close_bracket, first_open_brace, first_close_brace, first_equal}
+use Rattle.vx_source_tokens.proofs.FirstSigns.{first_comma, first_open_bracket, first_open_brace, first_close_brace, first_equal}
 use Rattle.vx_source_tokens.specs.Characters.{is_digit}
 use Rattle.vx_source_tokens.specs.declared.token.Sign.TheVariants.{OpenParen, CloseParen, OpenBracket, CloseBracket, OpenBrace, CloseBrace, Comma, Colon, Tilde, Equal, NotEqual, Less, LessEqual, Greater, GreaterEqual, Plus}
-use Rattle.vx_source_tokens.specs.Tokens.{Lexeme, word, number as numeral, sign, next}
+use Rattle.vx_source_tokens.specs.Tokens.{Lexeme, word, number as numeral, sign, next, first}
 use Rattle.vx_source_dtype.specs.Names.{names_source}
 use Rattle.vx_source_dtype.specs.TypeReading.{narrow_length}
 use Rattle.vx_source_writer.specs.Options.{options_source}
 use Rattle.vx_source_grammar.specs.OptionReading.{truth_at, packed, braced, or_options, function_read}
 use Rattle.vx_source_laws.specs.SpelledTrees.{AreTexts}
-use Rattle.vx_source_laws.proofs.Collecting.{Collected, no_token, one_token, collected_then, of_collected_text}
-use Rattle.vx_source_laws.proofs.NamesRead.{IsNameOf, as_word, as_quoted, Named, name_again}
-use Rattle.vx_source_laws.proofs.OptionNames.{name_counted, NamesIn, all_names}
+use Rattle.vx_source_laws.proofs.Collecting.{Brackets, Collected, no_token, one_token, collected_then, of_collected_text}
+use Rattle.vx_source_laws.proofs.NamesRead.{IsNameOf, as_word, as_quoted, name_again}
+use Rattle.vx_source_laws.proofs.OptionNames.{name_counted, all_names}
 
 -- the options at the front of a text, of which the function of that name is made again, where so much nesting is allowed
 pub record AreOptions (f : Function) (b : Name) (room : ℕ) (rest : List ℕ) : Type 0 where
@@ -32,68 +32,67 @@ pub record AreOptions (f : Function) (b : Name) (room : ℕ) (rest : List ℕ) :
   pub collected : Collected 0 (options_source f ++ 93 ∷ rest) tokens 0 (93 ∷ rest)
   pub read : function_read b tokens room ≡ Ok f
 
--- ---- a name
+-- ---- one token
 
-item_read_back : {a : Name} {x : Lexeme} (room : ℕ) → IsNameOf a x → function_read (codes "get_item") (x ∷ []) room ≡ Ok (get_item a)
-item_read_back room as_word = refl
-item_read_back room as_quoted = refl
+one_option : {f : Function} {b : Name} {room : ℕ} {rest : List ℕ} (x : Lexeme) → first (options_source f ++ 93 ∷ rest) ≡ (x, 93 ∷ rest) → Brackets 0 x 0 → function_read b (x ∷ []) room ≡ Ok f → AreOptions f b room rest
+one_option x p q e = record { tokens = x ∷ []; collected = one_token {m = 0} p q no_token; read = e }
+
+item_back : {a : Name} {x : Lexeme} (room : ℕ) → IsNameOf a x → function_read (codes "get_item") (x ∷ []) room ≡ Ok (get_item a)
+item_back room as_word = refl
+item_back room as_quoted = refl
 
 pub get_item_options : (a : Name) (room : ℕ) (rest : List ℕ) → IsUtf8 a → AreOptions (get_item a) (codes "get_item") room rest
-get_item_options a room rest u =
-    let name = name_again a (93 ∷ rest) u refl refl in
-    record { tokens = name.token ∷ []; collected = one_token {m = 0} name.found (name_counted 0 name.is_name) no_token; read = item_read_back room name.is_name }
-
--- ---- operators
+get_item_options a room rest u = let name = name_again a (93 ∷ rest) u refl refl in one_option name.token name.found (name_counted 0 name.is_name) (item_back room name.is_name)
 
 pub binary_options : (op : Operation) (room : ℕ) (rest : List ℕ) → AreOptions (binary op) (codes "binary") room rest
-binary_options (compares equal) room rest = record { tokens = sign Equal ∷ []; collected = one_token {m = 0} refl refl no_token; read = refl }
-binary_options (compares not_equal) room rest = record { tokens = sign NotEqual ∷ []; collected = one_token {m = 0} refl refl no_token; read = refl }
-binary_options (compares greater) room rest = record { tokens = sign Greater ∷ []; collected = one_token {m = 0} refl refl no_token; read = refl }
-binary_options (compares greater_or_equal) room rest = record { tokens = sign GreaterEqual ∷ []; collected = one_token {m = 0} refl refl no_token; read = refl }
-binary_options (compares less) room rest = record { tokens = sign Less ∷ []; collected = one_token {m = 0} refl refl no_token; read = refl }
-binary_options (compares less_or_equal) room rest = record { tokens = sign LessEqual ∷ []; collected = one_token {m = 0} refl refl no_token; read = refl }
-binary_options and_also room rest = record { tokens = word (codes "and") ∷ []; collected = one_token {m = 0} refl refl no_token; read = refl }
-binary_options or_else room rest = record { tokens = word (codes "or") ∷ []; collected = one_token {m = 0} refl refl no_token; read = refl }
-binary_options adds room rest = record { tokens = sign Plus ∷ []; collected = one_token {m = 0} refl refl no_token; read = refl }
+binary_options (compares equal) room rest = one_option (sign Equal) refl refl refl
+binary_options (compares not_equal) room rest = one_option (sign NotEqual) refl refl refl
+binary_options (compares greater) room rest = one_option (sign Greater) refl refl refl
+binary_options (compares greater_or_equal) room rest = one_option (sign GreaterEqual) refl refl refl
+binary_options (compares less) room rest = one_option (sign Less) refl refl refl
+binary_options (compares less_or_equal) room rest = one_option (sign LessEqual) refl refl refl
+binary_options and_also room rest = one_option (word (codes "and")) refl refl refl
+binary_options or_else room rest = one_option (word (codes "or")) refl refl refl
+binary_options adds room rest = one_option (sign Plus) refl refl refl
+
+-- ---- more tokens
 
 pub like_options : (negated case_insensitive : Bool) (room : ℕ) (rest : List ℕ) → AreOptions (like negated case_insensitive) (codes "like") room rest
-like_options false false room rest = record { tokens = word (codes "like") ∷ []; collected = one_token {m = 0} refl refl no_token; read = refl }
-like_options false true room rest = record { tokens = word (codes "ilike") ∷ []; collected = one_token {m = 0} refl refl no_token; read = refl }
+like_options false false room rest = one_option (word (codes "like")) refl refl refl
+like_options false true room rest = one_option (word (codes "ilike")) refl refl refl
 like_options true false room rest = record { tokens = word (codes "not") ∷ word (codes "like") ∷ []; collected = one_token {m = 0} refl refl (one_token {m = 0} refl refl no_token); read = refl }
 like_options true true room rest = record { tokens = word (codes "not") ∷ word (codes "ilike") ∷ []; collected = one_token {m = 0} refl refl (one_token {m = 0} refl refl no_token); read = refl }
 
--- the sign of a bound
+-- the sign of a bound, behind its name
 abbrev bound_sign : Bool → Lexeme
 bound_sign true = sign Less
 bound_sign false = sign LessEqual
 
+lower_collected : (strict : Bool) (rest : List ℕ) → Collected 0 (codes "lower_strict: " ++ (bound_text strict ++ 44 ∷ rest)) (word (codes "lower_strict") ∷ sign Colon ∷ bound_sign strict ∷ sign Comma ∷ []) 0 rest
+lower_collected true rest = one_token {m = 0} refl refl (one_token {m = 0} refl refl (one_token {m = 0} refl refl (one_token {m = 0} (first_comma rest) refl no_token)))
+lower_collected false rest = one_token {m = 0} refl refl (one_token {m = 0} refl refl (one_token {m = 0} refl refl (one_token {m = 0} (first_comma rest) refl no_token)))
+
+upper_collected : (strict : Bool) (rest : List ℕ) → Collected 0 (codes " upper_strict: " ++ (bound_text strict ++ 93 ∷ rest)) (word (codes "upper_strict") ∷ sign Colon ∷ bound_sign strict ∷ []) 0 (93 ∷ rest)
+upper_collected true rest = one_token {m = 0} refl refl (one_token {m = 0} refl refl (one_token {m = 0} refl refl no_token))
+upper_collected false rest = one_token {m = 0} refl refl (one_token {m = 0} refl refl (one_token {m = 0} refl refl no_token))
+
 abbrev bound_tokens : Bool → Bool → List Lexeme
 bound_tokens lower_strict upper_strict = word (codes "lower_strict") ∷ sign Colon ∷ bound_sign lower_strict ∷ sign Comma ∷ word (codes "upper_strict") ∷ sign Colon ∷ bound_sign upper_strict ∷ []
 
+between_back : (lower_strict upper_strict : Bool) (room : ℕ) → function_read (codes "between") (bound_tokens lower_strict upper_strict) room ≡ Ok (between lower_strict upper_strict)
+between_back true true room = refl
+between_back true false room = refl
+between_back false true room = refl
+between_back false false room = refl
+
 pub between_options : (lower_strict upper_strict : Bool) (room : ℕ) (rest : List ℕ) → AreOptions (between lower_strict upper_strict) (codes "between") room rest
-between_options true true room rest =
+between_options lower_strict upper_strict room rest =
+    let behind : List ℕ = codes " upper_strict: " ++ (bound_text upper_strict ++ 93 ∷ rest) in
+    let grouped : (codes "lower_strict: " ++ (bound_text lower_strict ++ (codes ", upper_strict: " ++ bound_text upper_strict))) ++ 93 ∷ rest ≡ codes "lower_strict: " ++ (bound_text lower_strict ++ 44 ∷ behind) = simp append_assoc in
     record {
-      tokens = bound_tokens true true;
-      collected = one_token {m = 0} refl refl (one_token {m = 0} refl refl (one_token {m = 0} refl refl (one_token {m = 0} refl refl (one_token {m = 0} refl refl (one_token {m = 0} refl refl (one_token {m = 0} refl refl no_token))))));
-      read = refl;
-    }
-between_options true false room rest =
-    record {
-      tokens = bound_tokens true false;
-      collected = one_token {m = 0} refl refl (one_token {m = 0} refl refl (one_token {m = 0} refl refl (one_token {m = 0} refl refl (one_token {m = 0} refl refl (one_token {m = 0} refl refl (one_token {m = 0} refl refl no_token))))));
-      read = refl;
-    }
-between_options false true room rest =
-    record {
-      tokens = bound_tokens false true;
-      collected = one_token {m = 0} refl refl (one_token {m = 0} refl refl (one_token {m = 0} refl refl (one_token {m = 0} refl refl (one_token {m = 0} refl refl (one_token {m = 0} refl refl (one_token {m = 0} refl refl no_token))))));
-      read = refl;
-    }
-between_options false false room rest =
-    record {
-      tokens = bound_tokens false false;
-      collected = one_token {m = 0} refl refl (one_token {m = 0} refl refl (one_token {m = 0} refl refl (one_token {m = 0} refl refl (one_token {m = 0} refl refl (one_token {m = 0} refl refl (one_token {m = 0} refl refl no_token))))));
-      read = refl;
+      tokens = bound_tokens lower_strict upper_strict;
+      collected = of_collected_text grouped (collected_then (lower_collected lower_strict behind) (upper_collected upper_strict rest));
+      read = between_back lower_strict upper_strict room;
     }
 
 -- ---- the pairs of a CASE
@@ -133,10 +132,10 @@ case_options pairs has_else room rest h =
     record {
       tokens = word (codes "case_when") ∷ sign OpenParen ∷ word (codes "pairs") ∷ sign Equal ∷ numeral false (Some pairs) [] ∷ sign Comma ∷ word (codes "else") ∷ sign Equal ∷ truth_token has_else ∷ sign CloseParen ∷ [];
       collected =
-        of_collected_text grouped
-        (one_token {m = 0} refl refl (one_token {m = 0} refl refl (one_token {m = 0} refl refl
-        (one_token {m = 0} (first_equal (decimal pairs ++ behind) (no_equal (decimal pairs) behind digits.1 digits.2)) refl
-        (one_token {m = 0} (first_number pairs [] behind (omega arith) refl refl refl refl) refl (else_collected has_else rest))))));
+          of_collected_text grouped
+          (one_token {m = 0} refl refl (one_token {m = 0} refl refl (one_token {m = 0} refl refl
+          (one_token {m = 0} (first_equal (decimal pairs ++ behind) (no_equal (decimal pairs) behind digits.1 digits.2)) refl
+          (one_token {m = 0} (first_number pairs [] behind (omega arith) refl refl refl refl) refl (else_collected has_else rest))))));
       read = case_read_back pairs has_else room h;
     }
 
@@ -164,8 +163,8 @@ pack_options names n room rest u =
     record {
       tokens = word (codes "names") ∷ sign Colon ∷ sign OpenBracket ∷ (known.tokens ++ sign CloseBracket ∷ closing);
       collected =
-        of_collected_text grouped
-        (one_token {m = 0} refl refl (one_token {m = 0} refl refl (one_token {m = 1} (first_open_bracket (names_source names ++ behind)) refl (collected_then (known.collected 1) (nullability_collected n rest)))));
+          of_collected_text grouped
+          (one_token {m = 0} refl refl (one_token {m = 0} refl refl (one_token {m = 1} (first_open_bracket (names_source names ++ behind)) refl (collected_then (known.collected 1) (nullability_collected n rest)))));
       read = ap (λ p. or_options (packed p)) (known.read_back (sign CloseBracket) closing (λ ys. (refl, refl))) ∙ packed_back names n;
     }
 
@@ -175,8 +174,8 @@ select_options (Include names) room rest u =
     record {
       tokens = sign OpenBrace ∷ (known.tokens ++ sign CloseBrace ∷ []);
       collected =
-        of_collected_text (ap (λ xs. 123 ∷ xs) (append_assoc (names_source names) (codes "}") (93 ∷ rest)))
-        (one_token {m = 0} (first_open_brace (names_source names ++ 125 ∷ 93 ∷ rest)) refl (collected_then (known.collected 0) (one_token {m = 0} (first_close_brace (93 ∷ rest)) refl no_token)));
+          of_collected_text (ap (λ xs. 123 ∷ xs) (append_assoc (names_source names) (codes "}") (93 ∷ rest)))
+          (one_token {m = 0} (first_open_brace (names_source names ++ 125 ∷ 93 ∷ rest)) refl (collected_then (known.collected 0) (one_token {m = 0} (first_close_brace (93 ∷ rest)) refl no_token)));
       read = ap (λ p. or_options (braced Include p)) (known.read_back (sign CloseBrace) [] (λ ys. (refl, refl)));
     }
 select_options (Exclude names) room rest u =
@@ -184,7 +183,7 @@ select_options (Exclude names) room rest u =
     record {
       tokens = sign Tilde ∷ sign OpenBrace ∷ (known.tokens ++ sign CloseBrace ∷ []);
       collected =
-        of_collected_text (ap (λ xs. 126 ∷ 123 ∷ xs) (append_assoc (names_source names) (codes "}") (93 ∷ rest)))
-        (one_token {m = 0} refl refl (one_token {m = 0} (first_open_brace (names_source names ++ 125 ∷ 93 ∷ rest)) refl (collected_then (known.collected 0) (one_token {m = 0} (first_close_brace (93 ∷ rest)) refl no_token))));
+          of_collected_text (ap (λ xs. 126 ∷ 123 ∷ xs) (append_assoc (names_source names) (codes "}") (93 ∷ rest)))
+          (one_token {m = 0} refl refl (one_token {m = 0} (first_open_brace (names_source names ++ 125 ∷ 93 ∷ rest)) refl (collected_then (known.collected 0) (one_token {m = 0} (first_close_brace (93 ∷ rest)) refl no_token))));
       read = ap (λ p. or_options (braced Exclude p)) (known.read_back (sign CloseBrace) [] (λ ys. (refl, refl)));
     }

@@ -1,19 +1,17 @@
 -- Fields and selections behind an operand.
-use Rattle.std.proofs.Common.{◌≡◌, ℕ, ◌<◌, ◌≤◌, Bool, true, false, List, [], ◌∷◌, ◌++◌, Some, Ok, map, refl, sym, ap, ◌∙◌, append_assoc, append-nil, arith}
-use Rattle.std.specs.Prelude.{codes, ◌==◌}
+use Rattle.std.proofs.Common.{◌≡◌, ℕ, ◌<◌, Bool, true, false, List, [], ◌∷◌, ◌++◌, Ok, map, refl, sym, ap, ◌∙◌, append_assoc, append-nil, arith}
+use Rattle.std.specs.Prelude.{codes}
 use Rattle.std.specs.Str.{IsUtf8}
-use Rattle.vx_dtype.specs.Texts.{with_commas}
 use Rattle.vx_dtype.proofs.Commas.{after_commas}
 use Rattle.vx_value.specs.Types.{Name}
 use Rattle.vx_fn.specs.declared.options.FieldSelection.{FieldSelection}
 use Rattle.vx_fn.specs.declared.options.FieldSelection.TheVariants.{Include, Exclude}
 use Rattle.vx_fn.specs.Functions.{get_item, select, selection_names}
-use Rattle.vx_tree.specs.Trees.{Tree, call, Trees, no_tree, tree}
+use Rattle.vx_tree.specs.Trees.{Tree, call, no_tree, tree}
 use Rattle.vx_source_tokens.proofs.FirstSigns.{first_comma, first_open_brace, first_close_brace}
 use Rattle.vx_source_tokens.specs.declared.token.Sign.TheVariants.{Dot, OpenBrace}
-use Rattle.vx_source_tokens.specs.Characters.{is_word}
-use Rattle.vx_source_tokens.specs.Tokens.{Lexeme, sign, next}
-use Rattle.vx_source_dtype.specs.Names.{name_at, name_source, names_source}
+use Rattle.vx_source_tokens.specs.Tokens.{Lexeme, sign}
+use Rattle.vx_source_dtype.specs.Names.{name_source, names_source}
 use Rattle.vx_source_dtype.specs.Reading.{more, stays, leads}
 use Rattle.vx_source_dtype.proofs.Reading.{then, of_text}
 use Rattle.vx_source_writer.specs.SourceTexts.{source, select_source}
@@ -22,8 +20,8 @@ use Rattle.vx_source_grammar.specs.Following.{field_goes, selection_of, selected
 use Rattle.vx_source_grammar.specs.Nodes.{heights_of}
 use Rattle.vx_source_grammar.specs.States.{Frame, tight, at_dot, at_selection, at_exclusion, selected_name, selected_next}
 use Rattle.vx_source_laws.specs.SpelledTrees.{AreTexts}
-use Rattle.vx_source_laws.proofs.NamesRead.{IsNameOf, as_word, as_quoted, named, Named, name_again}
-use Rattle.vx_source_laws.proofs.TreesRead.{at, Goes, Ends, ends_word, ends_name, Reads, of_grouped, IsAgain, node_is}
+use Rattle.vx_source_laws.proofs.NamesRead.{IsNameOf, as_word, as_quoted, named, name_again, name_ends}
+use Rattle.vx_source_laws.proofs.TreesRead.{at, Goes, ends_word, ends_name, of_grouped, IsAgain, node_is}
 use Rattle.vx_source_laws.proofs.Owns.{IsOwnAgain}
 use Rattle.vx_source_laws.proofs.Signs.{first_dot}
 
@@ -43,9 +41,9 @@ get_item_again a e u k fs r rest h m =
       taken = it.taken;
       opens = it.opens;
       more_of =
-        then expression_step it.more_of
-        (leads {t = at fs (at_dot e) r} (first_dot (name_source a ++ rest)) (it.is_behind (sign Dot) refl)
-        (leads name.found (ap (field_goes fs r e name.token) (named name.is_name) ∙ node_is fs (get_item a) (tree e no_tree) r (omega arith)) stays));
+          then expression_step it.more_of
+          (leads {t = at fs (at_dot e) r} (first_dot (name_source a ++ rest)) (it.is_behind (sign Dot) refl)
+          (leads name.found (ap (field_goes fs r e name.token) (named name.is_name) ∙ node_is fs (get_item a) (tree e no_tree) r (omega arith)) stays));
       is_behind = λ x p. refl;
     })
 
@@ -61,11 +59,6 @@ selected_is : (fs : List Frame) (e : Tree) (r : ℕ) (excludes : Bool) (names : 
     → selected fs r e excludes names ≡ Ok (more (at fs (tight (call (select (selection_of excludes names)) (tree e no_tree))) r))
 selected_is fs e r excludes names h = node_is fs (select (selection_of excludes names)) (tree e no_tree) r h
 
--- what stands behind a name ends it
-pub names_end : (names : List Name) (rest : List ℕ) → (is_word (next (after_commas (map name_source names) ++ 125 ∷ rest)) ≡ false) × ((next (after_commas (map name_source names) ++ 125 ∷ rest) == 96) ≡ false)
-names_end [] rest = (refl, refl)
-names_end (a ∷ names) rest = (refl, refl)
-
 -- the names behind some, up to the brace
 more_names : (names before all : List Name) (fs : List Frame) (e : Tree) (r : ℕ) (excludes : Bool) (rest : List ℕ) → AreTexts names → before ++ names ≡ all → heights_of (tree e no_tree) < r
     → Goes (at fs (selected_next e excludes before) r) (after_commas (map name_source names) ++ 125 ∷ rest) (at fs (tight (call (select (selection_of excludes all)) (tree e no_tree))) r) rest
@@ -73,7 +66,7 @@ more_names [] before all fs e r excludes rest u q h = leads (first_close_brace r
 more_names (a ∷ names) before all fs e r excludes rest u q h =
     let behind : List ℕ = after_commas (map name_source names) ++ 125 ∷ rest in
     let grouped : ((codes ", " ++ name_source a) ++ after_commas (map name_source names)) ++ 125 ∷ rest ≡ 44 ∷ 32 ∷ (name_source a ++ behind) = simp append_assoc in
-    let ends = names_end names rest in
+    let ends = name_ends names (125 ∷ rest) refl refl in
     let name = name_again a behind u.0 ends.0 ends.1 in
     of_text expression_step grouped
     (leads {t = at fs (selected_name e excludes before) r} (first_comma (32 ∷ (name_source a ++ behind))) refl
@@ -94,7 +87,7 @@ included_names : (names : List Name) (fs : List Frame) (e : Tree) (r : ℕ) (res
 included_names [] fs e r rest u h = leads (first_close_brace rest) (selected_is fs e r false [] h) stays
 included_names (a ∷ names) fs e r rest u h =
     let behind : List ℕ = after_commas (map name_source names) ++ 125 ∷ rest in
-    let ends = names_end names rest in
+    let ends = name_ends names (125 ∷ rest) refl refl in
     let name = name_again a behind u.0 ends.0 ends.1 in
     of_text expression_step (append_assoc (name_source a) (after_commas (map name_source names)) (125 ∷ rest))
     (leads name.found (included_first fs r e name.is_name) (more_names names (a ∷ []) (a ∷ names) fs e r false rest u.1 refl h))
@@ -104,7 +97,7 @@ excluded_names : (names : List Name) (fs : List Frame) (e : Tree) (r : ℕ) (res
 excluded_names [] fs e r rest u h = leads (first_close_brace rest) (selected_is fs e r true [] h) stays
 excluded_names (a ∷ names) fs e r rest u h =
     let behind : List ℕ = after_commas (map name_source names) ++ 125 ∷ rest in
-    let ends = names_end names rest in
+    let ends = name_ends names (125 ∷ rest) refl refl in
     let name = name_again a behind u.0 ends.0 ends.1 in
     of_text expression_step (ap (λ xs. 32 ∷ xs) (append_assoc (name_source a) (after_commas (map name_source names)) (125 ∷ rest)))
     (leads name.found (excluded_first fs r e name.is_name) (more_names names (a ∷ []) (a ∷ names) fs e r true rest u.1 refl h))
@@ -134,7 +127,7 @@ select_again selection e u k fs r rest h m =
       taken = it.taken;
       opens = it.opens;
       more_of =
-        then expression_step it.more_of
-        (leads {t = at fs (at_selection e) r} (first_open_brace (selection_behind selection ++ rest)) (it.is_behind (sign OpenBrace) refl) (selection_again selection fs e r rest u (omega arith)));
+          then expression_step it.more_of
+          (leads {t = at fs (at_selection e) r} (first_open_brace (selection_behind selection ++ rest)) (it.is_behind (sign OpenBrace) refl) (selection_again selection fs e r rest u (omega arith)));
       is_behind = λ x p. refl;
     })

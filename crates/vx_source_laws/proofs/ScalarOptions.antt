@@ -1,6 +1,6 @@
 -- The options of functions that are a type or a scalar.
-use Rattle.std.proofs.Common.{◌≡◌, ℕ, suc, ◌≤◌, Bool, true, false, List, [], ◌∷◌, ◌++◌, Option, Some, None, Result, Ok, Err, refl, sym, ap, ◌∙◌, subst, append_assoc, append-nil, arith}
-use Rattle.std.specs.Prelude.{codes, ◌==◌, ℤ, pos, negsuc}
+use Rattle.std.proofs.Common.{◌≡◌, ℕ, suc, ◌≤◌, Bool, true, false, List, [], ◌∷◌, ◌++◌, Some, Result, Ok, Err, refl, sym, ap, ◌∙◌, subst, append_assoc, append-nil}
+use Rattle.std.specs.Prelude.{codes, ℤ, pos, negsuc}
 use Rattle.std.specs.Fmt.{signed_decimal}
 use Rattle.vx_dtype.specs.declared.dtype.PType.{PType}
 use Rattle.vx_value.specs.Columns.{Constant, constant}
@@ -14,19 +14,18 @@ use Rattle.vx_source_tokens.specs.declared.token.Sign.TheVariants.{CloseBracket}
 use Rattle.vx_source_tokens.specs.Characters.{is_word}
 use Rattle.vx_source_tokens.specs.Tokens.{Lexeme, number as numeral, sign, next, first}
 use Rattle.vx_source_tokens.proofs.FirstNumbers.{first_number, first_below_zero}
-use Rattle.vx_source_dtype.specs.Reading.{Goes, Step, refused, more, done, Leads}
+use Rattle.vx_source_dtype.specs.Reading.{Goes, Step, more, done}
 use Rattle.vx_source_dtype.specs.Spelled.{IsSpelled, type_nesting}
 use Rattle.vx_source_dtype.specs.TypeReading.{TypeState, type_start, type_step}
 use Rattle.vx_source_dtype.specs.TypeTexts.{type_source}
-use Rattle.vx_source_types.specs.Literals.{ranged, plain_literal, typed_literal, fitting}
+use Rattle.vx_source_types.specs.Literals.{ranged, plain_literal, fitting}
 use Rattle.vx_source_types.specs.ScalarReading.{ScalarState, scalar_due, in_value, in_type, whole_scalar, value_begun, scalar_begins, value_after, type_after, ended, type_ended as scalar_ended, scalar_step}
 use Rattle.vx_source_types.specs.ScalarTexts.{value_source, type_behind}
 use Rattle.vx_source_types.specs.Spelled.{value_nesting, IsSpelledValue}
 use Rattle.vx_source_types.specs.ValueReading.{value_start, value_step}
 use Rattle.vx_source_types.proofs.ValuesAgain.{Follows, value_again, fits_small, fits_below_zero}
-use Rattle.vx_source_writer.specs.Options.{options_source}
 use Rattle.vx_source_grammar.specs.OptionReading.{read_all, function_read}
-use Rattle.vx_source_laws.proofs.Collecting.{Collected, no_token, one_token, of_collected_text, Taken, none_taken, one_taken, taken_then, collected_of, read_of, embedded}
+use Rattle.vx_source_laws.proofs.Collecting.{Taken, none_taken, one_taken, taken_then, collected_of, read_of, embedded}
 use Rattle.vx_source_laws.proofs.Literals.{read_value, fitted, suffix_is, suffix_apart}
 use Rattle.vx_source_laws.proofs.PlainOptions.{AreOptions}
 use Rattle.vx_source_laws.proofs.TypeBrackets.{type_brackets, type_counted}

@@ -1,5 +1,5 @@
 -- What is read of a tree at the front of a text.
-use Rattle.std.proofs.Common.{◌≡◌, ℕ, ◌+◌, ◌<◌, ◌≤◌, max, zero, suc, Bool, true, false, List, [], ◌∷◌, ◌++◌, Ok, refl, sym, ap, ◌∙◌, subst, append_assoc, append-nil, arith}
+use Rattle.std.proofs.Common.{◌≡◌, ℕ, ◌<◌, ◌≤◌, Bool, true, false, List, [], ◌∷◌, ◌++◌, Ok, refl, sym, ap, ◌∙◌, subst, arith}
 use Rattle.std.specs.Prelude.{◌==◌, ◌||◌, nat_lt}
 use Rattle.std.proofs.lemmas.Bool.Decides.{nat_tests}
 use Rattle.vx_fn.specs.Functions.{Function}
@@ -7,17 +7,17 @@ use Rattle.vx_tree.specs.Trees.{Tree, call, Trees, no_tree, tree}
 use Rattle.vx_tree.specs.Views.{trees_from}
 use Rattle.vx_source_tokens.proofs.Choice.{yes}
 use Rattle.vx_source_tokens.specs.Characters.{is_word}
-use Rattle.vx_source_tokens.specs.declared.token.Sign.TheVariants.{CloseParen, DoubleColon, Question}
+use Rattle.vx_source_tokens.specs.declared.token.Sign.TheVariants.{DoubleColon, Question}
 use Rattle.vx_source_tokens.specs.Tokens.{Lexeme, sign, next, first}
-use Rattle.vx_source_dtype.specs.Reading.{more, Leads, stays, leads}
+use Rattle.vx_source_dtype.specs.Reading.{more, Leads, leads}
 use Rattle.vx_source_writer.specs.SourceTexts.{source}
 use Rattle.vx_source_grammar.specs.Beginning.{begins, first_child_at}
 use Rattle.vx_source_grammar.specs.Closing.{node_stands}
 use Rattle.vx_source_grammar.specs.ExpressionReading.{expression_step}
 use Rattle.vx_source_grammar.specs.Following.{follows}
 use Rattle.vx_source_grammar.specs.Joining.{over}
-use Rattle.vx_source_grammar.specs.Nodes.{height_of, heights_of}
-use Rattle.vx_source_grammar.specs.States.{Frame, Mode, operand_due, first_child, tight, ExpressionState, ExpressionAnswer, goes, when_read, stands}
+use Rattle.vx_source_grammar.specs.Nodes.{heights_of}
+use Rattle.vx_source_grammar.specs.States.{Frame, Mode, operand_due, first_child, tight, ExpressionState, when_read, stands}
 use Rattle.vx_source_laws.specs.Nesting.{nesting}
 
 -- a state

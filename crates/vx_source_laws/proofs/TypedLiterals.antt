@@ -1,29 +1,29 @@
 -- Literals with their types.
-use Rattle.std.proofs.Common.{◌≡◌, ℕ, ◌<◌, ◌≤◌, Bool, true, false, List, [], ◌∷◌, ◌++◌, Option, Some, None, Result, Ok, Err, refl, sym, ap, ◌∙◌, subst, append_assoc, append-nil, arith}
+use Rattle.std.proofs.Common.{◌≡◌, ℕ, ◌<◌, ◌≤◌, true, false, List, [], ◌∷◌, ◌++◌, Option, Some, None, refl, sym, ap, ◌∙◌, subst, append_assoc, append-nil, arith}
 use Rattle.std.specs.Prelude.{codes}
 use Rattle.vx_value.specs.Columns.{Constant, constant}
 use Rattle.vx_value.specs.Fits.{Fits}
 use Rattle.vx_value.specs.Types.{truth, number, text, octets, LogicalType, ty, atomic, list, fixed, struct, Datum, bool, int, utf8, bytes}
 use Rattle.vx_fn.specs.Functions.{literal}
 use Rattle.vx_tree.specs.Trees.{call, no_tree}
-use Rattle.vx_source_tokens.specs.Tokens.{Lexeme, end}
-use Rattle.vx_source_dtype.specs.Reading.{more, done, Leads, stays, leads, IsRead, is_read, Stops, stops_at}
+use Rattle.vx_source_tokens.specs.Tokens.{end}
+use Rattle.vx_source_dtype.specs.Reading.{Leads, stays, leads, IsRead, is_read, stops_at}
 use Rattle.vx_source_dtype.specs.Spelled.{IsSpelled, type_nesting}
 use Rattle.vx_source_dtype.specs.TypeReading.{TypeState, type_start, type_step}
 use Rattle.vx_source_dtype.specs.TypeTexts.{type_source}
 use Rattle.vx_source_dtype.proofs.Reading.{then, of_text, read_once, read_or_stopped}
 use Rattle.vx_source_types.specs.Literals.{typed_literal}
 use Rattle.vx_source_types.specs.ScalarReading.{scalar_due, in_value as in_scalar_value, in_type as in_scalar_type, value_begun, scalar_begins, value_after, type_after, type_ended as scalar_ended, scalar_step}
-use Rattle.vx_source_types.specs.ScalarTexts.{value_source, type_behind, scalar_source}
+use Rattle.vx_source_types.specs.ScalarTexts.{value_source, type_behind}
 use Rattle.vx_source_types.specs.Spelled.{value_nesting, IsSpelledValue}
 use Rattle.vx_source_types.specs.ValueReading.{Drafted, ValueState, value_step}
 use Rattle.vx_source_types.proofs.ScalarsAgain.{scalar_again}
 use Rattle.vx_source_types.proofs.ValuesAgain.{names_after, value_again}
 use Rattle.vx_source_grammar.specs.Beginning.{fitting, literal_before}
 use Rattle.vx_source_grammar.specs.States.{Frame, in_type, for_literal}
-use Rattle.vx_source_laws.proofs.Literals.{read_value, literal_is, literal_of, alone_again, number_again}
+use Rattle.vx_source_laws.proofs.Literals.{literal_is, literal_of, alone_again, number_again}
 use Rattle.vx_source_laws.proofs.Owns.{IsOwnAgain}
-use Rattle.vx_source_laws.proofs.TreesRead.{at, Ends, ends_word, IsBehind, Reads, of_grouped}
+use Rattle.vx_source_laws.proofs.TreesRead.{at, ends_word, IsBehind, Reads, of_grouped}
 use Rattle.vx_source_laws.proofs.TypesBehind.{type_again}
 use Rattle.vx_source_laws.proofs.TypesRead.{read_type, type_ended, whole_type, type_read}
 

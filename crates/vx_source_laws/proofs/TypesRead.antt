@@ -1,10 +1,10 @@
 -- A type at the front of a text, inside an expression.
-use Rattle.std.proofs.Common.{◌≡◌, ℕ, ◌≤◌, Bool, true, false, List, [], ◌∷◌, ◌++◌, Result, Ok, Err, refl, ap}
+use Rattle.std.proofs.Common.{◌≡◌, ℕ, ◌≤◌, true, false, List, [], ◌∷◌, ◌++◌, Ok, refl, ap}
 use Rattle.vx_dtype.specs.Types.{LogicalType, ty}
 use Rattle.vx_source_tokens.specs.Characters.{is_word}
 use Rattle.vx_source_tokens.specs.declared.token.Sign.TheVariants.{Question}
 use Rattle.vx_source_tokens.specs.Tokens.{Lexeme, sign, next}
-use Rattle.vx_source_dtype.specs.Reading.{Step, more, done, Leads, stays, leads}
+use Rattle.vx_source_dtype.specs.Reading.{Step, done, Leads, stays, leads}
 use Rattle.vx_source_dtype.specs.Spelled.{IsSpelled, type_nesting}
 use Rattle.vx_source_dtype.specs.TypeReading.{type_due, unmarked, whole, TypeState, type_start, type_step}
 use Rattle.vx_source_dtype.specs.TypeTexts.{type_source}
