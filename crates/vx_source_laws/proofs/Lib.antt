@@ -3,7 +3,7 @@ mod Signs
 mod NamesRead
 mod TreesRead
 mod Owns
-mod Heights
+pub mod Heights
 mod Children
 mod Postfixes
 mod Operators
@@ -22,4 +22,4 @@ mod OptionNames
 mod PlainOptions
 mod ScalarOptions
 mod Fulls
-mod Again
+pub mod Again

@@ -38,3 +38,13 @@ abbrev mutual
   pub nestings : Trees → ℕ
   nestings no_tree = 0
   nestings (tree e es) = max (nesting e) (nestings es)
+
+-- the brackets that values and types alone have at most
+abbrev mutual
+  pub own_brackets : Tree → ℕ
+  own_brackets root = 0
+  own_brackets (call f es) = max (options_nesting f) (most_brackets es)
+
+  pub most_brackets : Trees → ℕ
+  most_brackets no_tree = 0
+  most_brackets (tree e es) = max (own_brackets e) (most_brackets es)

@@ -3,4 +3,4 @@
 
 mod laws;
 
-pub use laws::{end_stops, source_is_read_again};
+pub use laws::{end_stops, nesting_is_height, source_is_read_again};
