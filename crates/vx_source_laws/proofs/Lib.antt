@@ -11,7 +11,6 @@ mod Calls
 mod Packs
 mod Cases
 mod Literals
-mod TypesBehind
 mod TypesRead
 mod Casts
 mod TypedLiterals

@@ -30,7 +30,7 @@ use Rattle.vx_source_laws.proofs.Literals.{read_value, fitted, suffix_is, suffix
 use Rattle.vx_source_laws.proofs.PlainOptions.{AreOptions}
 use Rattle.vx_source_laws.proofs.TypeBrackets.{type_brackets, type_counted}
 use Rattle.vx_source_laws.proofs.TypedLiterals.{draft, typed_is}
-use Rattle.vx_source_laws.proofs.TypesBehind.{type_again}
+use Rattle.vx_source_dtype.proofs.TypesAgain.{type_again}
 use Rattle.vx_source_laws.proofs.TypesRead.{read_type, type_ended}
 use Rattle.vx_source_laws.proofs.ValueBrackets.{value_brackets, value_counted}
 

@@ -24,7 +24,7 @@ use Rattle.vx_source_grammar.specs.States.{Frame, in_type, for_literal}
 use Rattle.vx_source_laws.proofs.Literals.{literal_is, literal_of, alone_again, number_again}
 use Rattle.vx_source_laws.proofs.Owns.{IsOwnAgain}
 use Rattle.vx_source_laws.proofs.TreesRead.{at, ends_word, IsBehind, Reads, of_grouped}
-use Rattle.vx_source_laws.proofs.TypesBehind.{type_again}
+use Rattle.vx_source_dtype.proofs.TypesAgain.{type_again}
 use Rattle.vx_source_laws.proofs.TypesRead.{read_type, type_ended, whole_type, type_read}
 
 -- ---- the value is one of the type, since the scalar alone is read as it

@@ -11,7 +11,7 @@ use Rattle.vx_source_dtype.specs.TypeTexts.{type_source}
 use Rattle.vx_source_grammar.specs.Beginning.{type_goes, type_ends}
 use Rattle.vx_source_grammar.specs.States.{Frame, TypeFor, in_type}
 use Rattle.vx_source_laws.proofs.TreesRead.{at, Goes, is_suffix}
-use Rattle.vx_source_laws.proofs.TypesBehind.{type_again, read_mode}
+use Rattle.vx_source_dtype.proofs.TypesAgain.{type_again, read_mode}
 
 -- a type that is read
 abbrev pub read_type : LogicalType → ℕ → TypeState
