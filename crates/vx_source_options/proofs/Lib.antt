@@ -1,0 +1,5 @@
+pub mod Betweens
+pub mod Cases
+pub mod Keywords
+pub mod Packs
+pub mod ReadAll
