@@ -22,7 +22,7 @@ begins None = None
 
 both : (lower upper : Bool) (l u : Lexeme)
     → (elim (lower && upper) as (λ _. Option Function) [ true ↦ ends l (Some u) | false ↦ None ])
-        ≡ where_true lower (ends l (elim upper as (λ _. Option Lexeme) [ true ↦ Some u | false ↦ None ]))
+    ≡ where_true lower (ends l (elim upper as (λ _. Option Lexeme) [ true ↦ Some u | false ↦ None ]))
 both true true l u = refl
 both true false l u = refl
 both false upper l u = refl

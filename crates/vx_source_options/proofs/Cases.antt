@@ -28,7 +28,7 @@ begins None = None
 -- the three keywords
 all_three : (a b c : Bool) (pairs x : Lexeme)
     → (elim (a && (b && c)) as (λ _. Option Function) [ true ↦ ends pairs (Some x) | false ↦ None ])
-        ≡ where_true (a && b) (ends pairs (elim c as (λ _. Option Lexeme) [ true ↦ Some x | false ↦ None ]))
+    ≡ where_true (a && b) (ends pairs (elim c as (λ _. Option Lexeme) [ true ↦ Some x | false ↦ None ]))
 all_three true true true pairs x = refl
 all_three true true false pairs x = refl
 all_three true false c pairs x = refl
@@ -36,14 +36,14 @@ all_three false b c pairs x = refl
 
 ends_is : (a b pairs : Lexeme) (xs : List Lexeme)
     → case_read (a ∷ sign OpenParen ∷ b ∷ sign Equal ∷ pairs ∷ sign Comma ∷ xs)
-        ≡ where_true (is_keyword (codes "case_when") a && is_keyword (codes "pairs") b) (ends pairs (case_else xs))
+    ≡ where_true (is_keyword (codes "case_when") a && is_keyword (codes "pairs") b) (ends pairs (case_else xs))
 ends_is a b pairs (c ∷ sign Equal ∷ x ∷ sign CloseParen ∷ []) =
     all_three (is_keyword (codes "case_when") a) (is_keyword (codes "pairs") b) (is_keyword (codes "else") c) pairs x
 ends_is a b pairs xs = nothing (is_keyword (codes "case_when") a && is_keyword (codes "pairs") b)
 
 middle_is : (a b pairs : Lexeme) (xs : List Lexeme)
     → case_read (a ∷ sign OpenParen ∷ b ∷ sign Equal ∷ pairs ∷ xs)
-        ≡ where_true (is_keyword (codes "case_when") a && is_keyword (codes "pairs") b) (middle pairs (behind_comma xs))
+    ≡ where_true (is_keyword (codes "case_when") a && is_keyword (codes "pairs") b) (middle pairs (behind_comma xs))
 middle_is a b pairs (sign Comma ∷ xs) = ends_is a b pairs xs
 middle_is a b pairs xs = nothing (is_keyword (codes "case_when") a && is_keyword (codes "pairs") b)
 

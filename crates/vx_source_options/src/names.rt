@@ -6,6 +6,7 @@ ghost use Rattle.vx_value.specs.Views.{admits_null};
 ghost use Rattle.vx_source_dtype.specs.Reading.{Gives};
 ghost use Rattle.vx_source_grammar.specs.OptionReading.{braced, item_read, names_read, nullability_at, pack_read, packed, select_read};
 ghost use Rattle.vx_source_operands.specs.Views.{lexeme_in, lexemes_of};
+ghost use Rattle.vx_source_options.specs.NameParts.{behind_bracket, is_closed, selected};
 ghost use Rattle.vx_source_options.specs.Parts.{first_name};
 ghost use Rattle.vx_source_options.specs.Views.{pack_of, selecting};
 ghost use Rattle.vx_source_tokens.specs.declared.error.ParseError.TheVariants.{OutOfMemory};
@@ -28,8 +29,19 @@ pub(crate) fn item(options: &[Found]) -> Option<&FieldName>
 }
 
 /// The names between braces, which are kept, or left out behind a tilde.
+#[tactic(auto, using(crate::proofs::Selections::select_is))]
 pub(crate) fn select(alloc: Global, options: &[Found]) -> Result<Option<FieldSelection>, ParseError>
     ensures { Gives (option_map select) result (select_read (lexemes_of options.now)) }
+{
+    match selected(options) {
+        Some((excludes, list)) => selection(alloc, list, excludes),
+        None => Ok(None),
+    }
+}
+
+// Whether a tilde leaves the names out, and what stands behind the opening brace.
+fn selected(options: &[Found]) -> Option<(bool, &[Found])>
+    ensures { option_map (λ p. (p.0, lexemes_of p.1.now)) result ≡ selected (lexemes_of options.now) }
 {
     match options {
         [
@@ -42,19 +54,20 @@ pub(crate) fn select(alloc: Global, options: &[Found]) -> Result<Option<FieldSel
                 ..
             },
             list @ ..,
-        ] => selection(alloc, list, true),
+        ] => Some((true, list)),
         [
             Found {
                 token: Token::Sign(Sign::OpenBrace),
                 ..
             },
             list @ ..,
-        ] => selection(alloc, list, false),
-        _ => Ok(None),
+        ] => Some((false, list)),
+        _ => None,
     }
 }
 
 // The names before the closing brace, which are left out or kept.
+#[tactic(auto, using(crate::proofs::Selections::braced_is))]
 fn selection(
     alloc: Global,
     list: &[Found],
@@ -63,15 +76,9 @@ fn selection(
     ensures { Gives (option_map select) result (braced (selecting excludes) (names_read (lexemes_of list.now))) }
 {
     let (names, rest) = names(alloc, list)?;
-    let [
-        Found {
-            token: Token::Sign(Sign::CloseBrace),
-            ..
-        },
-    ] = rest
-    else {
+    if !is_closed(rest) {
         return Ok(None);
-    };
+    }
     let names = field_names(alloc, names)?;
     Ok(Some(if excludes {
         FieldSelection::Exclude(names)
@@ -80,8 +87,20 @@ fn selection(
     }))
 }
 
+// Whether the closing brace is all that is left.
+fn is_closed(tokens: &[Found]) -> bool
+    ensures { result ≡ is_closed (lexemes_of tokens.now) }
+{
+    matches!(
+        tokens,
+        [Found {
+            token: Token::Sign(Sign::CloseBrace),
+            ..
+        },]
+    )
+}
+
 /// The names of the fields of a struct, and whether it is nullable.
-#[tactic(auto, using(crate::proofs::Packs::pack_is))]
 pub(crate) fn pack(alloc: Global, options: &[Found]) -> Result<Option<PackOptions>, ParseError>
     ensures { Gives (option_map pack_of) result (pack_read (lexemes_of options.now)) }
 {
@@ -116,6 +135,14 @@ pub(crate) fn pack(alloc: Global, options: &[Found]) -> Result<Option<PackOption
 fn nullability(tokens: &[Found]) -> Option<Nullability>
     ensures { (names : List Name) → option_map (λ n. pack names (admits_null n)) result ≡ packed (names, lexemes_of tokens.now) }
 {
+    let rest = behind_comma(behind_bracket(tokens)?)?;
+    nullability_at(labelled_last(rest, "nullability")?)
+}
+
+// What is left behind a closing bracket.
+fn behind_bracket(tokens: &[Found]) -> Option<&[Found]>
+    ensures { option_map (λ rest. lexemes_of rest.now) result ≡ behind_bracket (lexemes_of tokens.now) }
+{
     let [
         Found {
             token: Token::Sign(Sign::CloseBracket),
@@ -126,7 +153,7 @@ fn nullability(tokens: &[Found]) -> Option<Nullability>
     else {
         return None;
     };
-    nullability_at(labelled_last(behind_comma(rest)?, "nullability")?)
+    Some(rest)
 }
 
 fn nullability_at(found: &Found) -> Option<Nullability>

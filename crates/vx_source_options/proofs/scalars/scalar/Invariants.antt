@@ -8,4 +8,4 @@ use Rattle.vx_source_options.proofs.scalars.scalar.Given as goal
 abbrev pub invariant-loop-found : goal.invariant-loop-found
 invariant-loop-found l =
     read_all (scalar_step l.room) scalar_due (lexemes_of l.tokens)
-        ≡ read_all (scalar_step l.room) (mode_of l.mode) (lexemes_of (drop l.found-index l.tokens))
+    ≡ read_all (scalar_step l.room) (mode_of l.mode) (lexemes_of (drop l.found-index l.tokens))
