@@ -1,5 +1,5 @@
 -- What is read only where a keyword stands.
-use Rattle.std.proofs.Common.{◌≡◌, Bool, true, false, Option, Some, None, refl}
+use Rattle.std.proofs.Common.{◌≡◌, Bool, true, false, Option, None, refl}
 
 abbrev pub where_true : {A : Type 0} → Bool → Option A → Option A
 where_true true o = o
