@@ -18,7 +18,7 @@ use vx_source_tokens::{Found, ParseError, Sign, Token};
 use vx_source_types::{field_name, is_word};
 use vx_types::{FieldName, FieldNames, Nullability};
 
-/// The name that the options are.
+// The name that the options are.
 pub(crate) fn item(options: &[Found]) -> Option<&FieldName>
     ensures { option_map (λ name. get_item name.now) result ≡ item_read (lexemes_of options.now) }
 {
@@ -28,7 +28,7 @@ pub(crate) fn item(options: &[Found]) -> Option<&FieldName>
     field_name(&only.token)
 }
 
-/// The names between braces, which are kept, or left out behind a tilde.
+// The names between braces, which are kept, or left out behind a tilde.
 #[tactic(auto, using(crate::proofs::Selections::select_is))]
 pub(crate) fn select(alloc: Global, options: &[Found]) -> Result<Option<FieldSelection>, ParseError>
     ensures { Gives (option_map select) result (select_read (lexemes_of options.now)) }
@@ -100,7 +100,7 @@ fn is_closed(tokens: &[Found]) -> bool
     )
 }
 
-/// The names of the fields of a struct, and whether it is nullable.
+// The names of the fields of a struct, and whether it is nullable.
 pub(crate) fn pack(alloc: Global, options: &[Found]) -> Result<Option<PackOptions>, ParseError>
     ensures { Gives (option_map pack_of) result (pack_read (lexemes_of options.now)) }
 {

@@ -11,7 +11,7 @@ use vx_fn::{BetweenOptions, CaseWhenOptions, LikeOptions, Operator, StrictCompar
 use vx_source_tokens::{Found, Sign, Token};
 use vx_source_types::{is_word, length_of};
 
-/// The operator that the options are.
+// The operator that the options are.
 pub(crate) fn operator(options: &[Found]) -> Option<Operator>
     ensures { option_map binary_of result ≡ operator_read (lexemes_of options.now) }
 {
@@ -45,7 +45,7 @@ fn operator_at(found: &Found) -> Option<Operator>
     }
 }
 
-/// `like` or `ilike`, behind `not` or alone.
+// `like` or `ilike`, behind `not` or alone.
 pub(crate) fn like(options: &[Found]) -> Option<LikeOptions>
     ensures { option_map like_of result ≡ like_read (lexemes_of options.now) }
 {
@@ -83,7 +83,7 @@ fn like_at(negated: bool, found: &Found) -> Option<LikeOptions>
     }
 }
 
-/// The signs of the lower and of the upper bound.
+// The signs of the lower and of the upper bound.
 #[tactic(auto, using(crate::proofs::Betweens::between_is))]
 pub(crate) fn between(options: &[Found]) -> Option<BetweenOptions>
     ensures { option_map between_of result ≡ between_read (lexemes_of options.now) }
@@ -106,7 +106,7 @@ fn strict(found: &Found) -> Option<StrictComparison>
     }
 }
 
-/// The number of pairs of a CASE, and whether it has an ELSE value.
+// The number of pairs of a CASE, and whether it has an ELSE value.
 #[tactic(auto, using(crate::proofs::Cases::case_is))]
 pub(crate) fn case_when(options: &[Found]) -> Option<CaseWhenOptions>
     ensures { option_map case_of result ≡ case_read (lexemes_of options.now) }

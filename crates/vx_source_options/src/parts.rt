@@ -7,7 +7,7 @@ ghost use Rattle.vx_source_options.specs.Parts.{labelled, labelled_last, behind_
 use vx_source_tokens::{Found, Sign, Token};
 use vx_source_types::is_word;
 
-/// Whether the token is that word, in either case.
+// Whether the token is that word, in either case.
 pub(crate) fn is_keyword(found: &Found, word: &str) -> bool
     ensures { result ≡ is_keyword word.now (lexeme_in found.now) }
 {
@@ -17,7 +17,7 @@ pub(crate) fn is_keyword(found: &Found, word: &str) -> bool
     }
 }
 
-/// The token behind that word and a colon, and what is left behind it.
+// The token behind that word and a colon, and what is left behind it.
 pub(crate) fn labelled<'a>(tokens: &'a [Found], word: &str) -> Option<(&'a Found, &'a [Found])>
     ensures { option_map (λ p. (lexeme_in p.0.now, lexemes_of p.1.now)) result ≡ labelled word.now (lexemes_of tokens.now) }
 {
@@ -40,7 +40,7 @@ pub(crate) fn labelled<'a>(tokens: &'a [Found], word: &str) -> Option<(&'a Found
     }
 }
 
-/// The same, where nothing is left.
+// The same, where nothing is left.
 pub(crate) fn labelled_last<'a>(tokens: &'a [Found], word: &str) -> Option<&'a Found>
     ensures { option_map (λ value. lexeme_in value.now) result ≡ labelled_last word.now (lexemes_of tokens.now) }
 {
@@ -62,7 +62,7 @@ pub(crate) fn labelled_last<'a>(tokens: &'a [Found], word: &str) -> Option<&'a F
     }
 }
 
-/// What is left behind a comma.
+// What is left behind a comma.
 pub(crate) fn behind_comma(tokens: &[Found]) -> Option<&[Found]>
     ensures { option_map (λ rest. lexemes_of rest.now) result ≡ behind_comma (lexemes_of tokens.now) }
 {

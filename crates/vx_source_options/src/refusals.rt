@@ -10,7 +10,7 @@ ghost use Rattle.vx_source_options.specs.Parts.{IsNoLater};
 use vx_source_operands::begun_at;
 use vx_source_tokens::{Expected, Found, ParseError, Sign, Token};
 
-/// The refusal of a token of the options, none of which lies behind the bracket that ends them.
+// The refusal of a token of the options, none of which lies behind the bracket that ends them.
 pub(crate) fn refusal_in(found: &Found, end: &Found, wanted: Expected) -> ParseError
     ensures { (place : ℕ) × (place ≤ end.now.at) × (result ≡ Unexpected place (wanted_at (lexeme_in found.now) wanted)) }
 {
@@ -20,7 +20,7 @@ pub(crate) fn refusal_in(found: &Found, end: &Found, wanted: Expected) -> ParseE
     }
 }
 
-/// The same refusal, no later than the bracket.
+// The same refusal, no later than the bracket.
 pub(crate) fn no_later(error: ParseError, end: &Found) -> ParseError
     ensures { IsNoLater end.now.at error result }
 {
@@ -30,7 +30,7 @@ pub(crate) fn no_later(error: ParseError, end: &Found) -> ParseError
     }
 }
 
-/// The closing bracket where the options end.
+// The closing bracket where the options end.
 pub(crate) fn bracket(end: &Found) -> Found
     ensures token { lexeme_in result ≡ sign Closing }
     ensures place { result.at ≡ end.now.at }

@@ -42,7 +42,7 @@ enum ScalarStep {
     Done(Scalar),
 }
 
-/// The scalar that the tokens say, of which `end` is the bracket behind the last.
+// The scalar that the tokens say, of which `end` is the bracket behind the last.
 pub(crate) fn scalar(
     alloc: Global,
     tokens: &[Found],

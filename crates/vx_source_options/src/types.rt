@@ -13,7 +13,7 @@ use vx_source_tokens::{Expected, Found, ParseError};
 use vx_source_types::{TypeReader, TypeStep, expected};
 use vx_types::DType;
 
-/// The type that the tokens say, of which `end` is the bracket behind the last.
+// The type that the tokens say, of which `end` is the bracket behind the last.
 pub(crate) fn dtype(
     alloc: Global,
     tokens: &[Found],
