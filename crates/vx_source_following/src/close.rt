@@ -1,202 +1,70 @@
-// What closes a bracket, or goes on in it.
-ghost use Rattle.std.specs.Prelude.{◌≡◌, ℕ, Bool, true};
-ghost use Rattle.vx_source_reader.specs.Begun.{GoesAt};
+// All operators have their last operand: the bracket that is open outside goes on, or closes.
+ghost use Rattle.vx_source_tokens.specs.Views.{lexeme_of};
+ghost use Rattle.vx_source_grammar.specs.Closing.{bracket_goes, closes, whole_ends};
+ghost use Rattle.vx_source_operands.specs.Places.{ReadsUpTo};
+ghost use Rattle.vx_source_operands.specs.Views.{frames_of, operand_of, step_of};
 
-use crate::calls::called;
-use crate::frame::{Bracket, Callee, CasePart, Frame, Level, Open};
-use crate::postfix::tight;
-use crate::reduce::reduce;
-use crate::state::{Mode, State, TypeFor, goes};
+use crate::brackets::{after_cast, after_child, after_enclosed, after_packed, after_part};
+use crate::steps::with_operand;
 use std::alloc::Global;
-use vx_fn::{CaseWhenOptions, ScalarFnRef};
-use vx_source_operands::{Keyword, Operand, as_keyword, enclosed, node};
-use vx_source_tokens::{Expected, Found, ParseError, Sign, Token};
-use vx_source_types::{TypeReader, expected, refusal};
+use vx_source_operands::{ExpressionStep, Frame, Level, Operand, reduce};
+use vx_source_tokens::{Expected, Found, ParseError, Token};
+use vx_source_types::refusal;
 
-// The bracket that is open outside, with what stands in it.
+/// What a token that is no operator makes of the operand, and of all that waits for it.
 pub(crate) fn close(
     alloc: Global,
-    open: Open,
+    frames: Vec<Frame>,
+    room: usize,
     operand: Operand,
     found: &Found,
-) -> Result<State, ParseError>
-    ensures { (places : ℕ → Bool) → places found.now.at ≡ true → GoesAt places result }
+) -> Result<ExpressionStep, ParseError>
+    ensures { ReadsUpTo found.now.at step_of result (closes (frames_of frames.items) room (operand_of operand) (lexeme_of found.now.token)) }
 {
-    let (open, operand) = reduce(alloc, open, operand, Level::Or, found)?;
-    let Open { mut frames, room } = open;
-    match frames.pop() {
-        None => match &found.token {
-            Token::End => Ok(tight(Open { frames, room }, operand)),
-            _ => Err(refusal(found, Expected::Operator)),
-        },
-        Some(Frame::Paren(bracket)) => match &found.token {
-            Token::Sign(Sign::CloseParen) => {
-                let operand = enclosed(operand, bracket.start, found.end);
-                Ok(tight(outside(frames, bracket), operand))
-            }
-            _ => Err(refusal(found, Expected::OperatorOrCloseParen)),
-        },
-        Some(Frame::Call(callee, children, bracket)) => {
-            let mut children = children;
-            children.push(operand)?;
-            close_child(
-                alloc,
-                Open { frames, room },
-                callee,
-                children,
-                bracket,
-                found,
-            )
-        }
-        Some(Frame::Pack(names, children, bracket)) => {
-            let mut children = children;
-            children.push(operand)?;
-            match &found.token {
-                Token::Sign(Sign::Comma) => {
-                    frames.push(Frame::Pack(names, children, bracket))?;
-                    Ok(goes(Open { frames, room }, Mode::Packed))
-                }
-                Token::Sign(Sign::CloseParen) => Ok(goes(
-                    outside(frames, bracket),
-                    Mode::PackEnd(names, children, bracket.start, found.end),
-                )),
-                _ => Err(refusal(found, Expected::CommaOrCloseParen)),
-            }
-        }
-        Some(Frame::Cast(bracket)) => cast_type(
-            alloc,
-            Open { frames, room },
-            operand,
-            bracket,
-            found,
-        ),
-        Some(Frame::Case(part, children, bracket)) => {
-            let mut children = children;
-            children.push(operand)?;
-            close_part(alloc, Open { frames, room }, part, children, bracket, found)
-        }
-        Some(Frame::Lower(_)) => Err(refusal(found, Expected::And)),
-        Some(_) => Err(refusal(found, Expected::Operator)),
-    }
+    let (frames, operand) = reduce(alloc, frames, room, operand, Level::Or, found)?;
+    after_bracketed(alloc, frames, room, operand, found)
 }
 
-// What is open outside the bracket.
-pub(crate) fn outside(frames: Vec<Frame>, bracket: Bracket) -> Open {
-    Open {
-        frames,
-        room: bracket.room,
-    }
-}
-
-// Behind a child of a call.
-fn close_child(
+// What a token makes of the bracket that is open outside.
+fn after_bracketed(
     alloc: Global,
-    open: Open,
-    callee: Callee,
-    children: Vec<Operand>,
-    bracket: Bracket,
+    mut frames: Vec<Frame>,
+    room: usize,
+    operand: Operand,
     found: &Found,
-) -> Result<State, ParseError>
-    ensures { (places : ℕ → Bool) → places found.now.at ≡ true → GoesAt places result }
+) -> Result<ExpressionStep, ParseError>
+    ensures { ReadsUpTo found.now.at step_of result (bracket_goes room (lexeme_of found.now.token) (frames_of frames.items) (operand_of operand)) }
 {
-    let Open { mut frames, room } = open;
+    let Some(frame) = frames.pop() else {
+        return after_whole(operand, found);
+    };
+    match frame {
+        Frame::Paren(bracket) => after_enclosed(frames, operand, bracket, found),
+        Frame::Call(callee, children, bracket) => {
+            let children = with_operand(children, operand)?;
+            after_child(alloc, frames, room, callee, children, bracket, found)
+        }
+        Frame::Pack(names, children, bracket) => {
+            let children = with_operand(children, operand)?;
+            after_packed(frames, room, names, children, bracket, found)
+        }
+        Frame::Cast(bracket) => after_cast(alloc, frames, room, operand, bracket, found),
+        Frame::Case(part, children, bracket) => {
+            let children = with_operand(children, operand)?;
+            after_part(alloc, frames, room, part, children, bracket, found)
+        }
+        Frame::Lower(_) => Err(refusal(found, Expected::And)),
+        // No operator waits for its last operand here.
+        _ => Err(refusal(found, Expected::Operator)),
+    }
+}
+
+// What follows the whole expression.
+fn after_whole(operand: Operand, found: &Found) -> Result<ExpressionStep, ParseError>
+    ensures { ReadsUpTo found.now.at step_of result (whole_ends (operand_of operand) (lexeme_of found.now.token)) }
+{
     match &found.token {
-        Token::Sign(Sign::Comma) => {
-            frames.push(Frame::Call(callee, children, bracket))?;
-            Ok(goes(Open { frames, room }, Mode::Operand))
-        }
-        Token::Sign(Sign::CloseParen) => {
-            called(
-                alloc,
-                outside(frames, bracket),
-                callee,
-                children,
-                bracket.start,
-                found,
-            )
-        }
-        _ => Err(refusal(found, Expected::CommaOrCloseParen)),
+        Token::End => Ok(ExpressionStep::Done(operand)),
+        _ => Err(refusal(found, Expected::Operator)),
     }
-}
-
-// Behind what is cast: its type.
-fn cast_type(
-    alloc: Global,
-    open: Open,
-    operand: Operand,
-    bracket: Bracket,
-    found: &Found,
-) -> Result<State, ParseError>
-    ensures { (places : ℕ → Bool) → places found.now.at ≡ true → GoesAt places result }
-{
-    if let Token::Word(name) = &found.token {
-        if let Some(Keyword::As) = as_keyword(name) {
-            let reader = TypeReader::new(alloc, open.room);
-            let wanted = TypeFor::CastCall(operand, bracket.start, bracket.room);
-            return Ok(goes(open, Mode::Type(wanted, reader, found.end)));
-        }
-    }
-    Err(refusal(found, Expected::As))
-}
-
-// Behind a condition, a value or the ELSE value of a CASE.
-fn close_part(
-    alloc: Global,
-    open: Open,
-    part: CasePart,
-    children: Vec<Operand>,
-    bracket: Bracket,
-    found: &Found,
-) -> Result<State, ParseError>
-    ensures { (places : ℕ → Bool) → places found.now.at ≡ true → GoesAt places result }
-{
-    let word = match &found.token {
-        Token::Word(name) => as_keyword(name),
-        _ => None,
-    };
-    let next = match (part, word) {
-        (CasePart::Condition, Some(Keyword::Then)) => CasePart::Value,
-        (CasePart::Value, Some(Keyword::When)) => CasePart::Condition,
-        (CasePart::Value, Some(Keyword::Else)) => CasePart::Else,
-        (CasePart::Value, Some(Keyword::End)) | (CasePart::Else, Some(Keyword::End)) => {
-            return end_case(alloc, open, children, bracket, found);
-        }
-        (CasePart::Condition, _) => return Err(refusal(found, Expected::Then)),
-        (CasePart::Value, _) => return Err(refusal(found, Expected::WhenElseEnd)),
-        (CasePart::Else, _) => return Err(refusal(found, Expected::EndWord)),
-    };
-    let Open { mut frames, room } = open;
-    frames.push(Frame::Case(next, children, bracket))?;
-    Ok(goes(Open { frames, room }, Mode::Operand))
-}
-
-// The CASE of conditions and values in turn, and what is left over as the ELSE value.
-fn end_case(
-    alloc: Global,
-    open: Open,
-    children: Vec<Operand>,
-    bracket: Bracket,
-    found: &Found,
-) -> Result<State, ParseError>
-    ensures { (places : ℕ → Bool) → places found.now.at ≡ true → GoesAt places result }
-{
-    let Ok(pairs) = u32::try_from(children.len() / 2) else {
-        return Err(expected(found, Expected::FewerPairs));
-    };
-    let options = CaseWhenOptions {
-        num_when_then_pairs: pairs,
-        has_else: children.len() % 2 == 1,
-    };
-    let Open { frames, room: _ } = open;
-    let open = outside(frames, bracket);
-    let bytes = (bracket.start, found.end);
-    let made = node(
-        alloc,
-        ScalarFnRef::CaseWhen(options),
-        children,
-        bytes,
-        open.room,
-        found,
-    )?;
-    Ok(tight(open, made))
 }

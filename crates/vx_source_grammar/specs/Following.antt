@@ -69,7 +69,7 @@ abbrev pub between_goes : List Frame → ℕ → Tree → ExpressionAnswer
 between_goes fs r e = summed fs r e (λ gs d. compared gs (goes (in_lower d ∷ gs) operand_due r))
 
 -- another item of a chain, or the first of one
-abbrev same_chain : Operation → Operation → Bool
+abbrev pub same_chain : Operation → Operation → Bool
 same_chain and_also and_also = true
 same_chain or_else or_else = true
 same_chain op other = false
