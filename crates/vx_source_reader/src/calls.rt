@@ -133,7 +133,8 @@ pub(crate) fn first_child(
 {
     match &found.token {
         Token::Sign(Sign::CloseParen) => match frames.pop() {
-            Some(Frame::Call(callee, children, Bracket { start, room })) => {
+            Some(Frame::Call(callee, children, bracket)) => {
+                let Bracket { start, room } = bracket;
                 called(alloc, frames, room, Box::into_inner(callee), children, start, found)
             }
             _ => Err(expected(found, Expected::Operand)),
