@@ -1,9 +1,9 @@
 -- No expression goes on behind the end of its text.
-use Rattle.std.proofs.Common.{◌≡◌, ℕ, List, [], ◌∷◌, Option, Some, None, Result, Ok, Err, refl, ap}
+use Rattle.std.proofs.Common.{◌≡◌, ℕ, false, List, [], ◌∷◌, Result, Ok, Err, refl, ap}
 use Rattle.vx_dtype.specs.Types.{LogicalType}
 use Rattle.vx_value.specs.Columns.{Constant}
-use Rattle.vx_fn.specs.Functions.{Function}
-use Rattle.vx_tree.specs.Trees.{Tree}
+use Rattle.vx_fn.specs.Functions.{Function, get_item, literal, pack, cast}
+use Rattle.vx_tree.specs.Trees.{Tree, root}
 use Rattle.vx_source_tokens.specs.declared.expected.Expected.{Expected}
 use Rattle.vx_source_tokens.specs.Tokens.{end}
 use Rattle.vx_source_dtype.specs.Reading.{Goes, more, done}
@@ -54,7 +54,7 @@ node_ends fs r f es = read_ends _ (over f es r) (λ e. closed_ends fs r e)
 -- ---- values and types
 
 literal_ends : (fs : List Frame) (r : ℕ) (a : Result Constant Expected) → Ends (literal_before fs r end a)
-literal_ends fs r (Ok c) = node_ends fs r _ []
+literal_ends fs r (Ok c) = node_ends fs r (literal c.type c.value) []
 literal_ends fs r (Err e) = λ u q. (cc)
 
 value_stops : (s t : ValueState) → ¬ (value_step s end ≡ Ok (more t))
@@ -68,7 +68,7 @@ value_ended fs r (Err e) h = λ u q. (cc)
 type_ended : (fs : List Frame) (r : ℕ) (wanted : TypeFor) (a : Result (Goes TypeState LogicalType) Expected) → ((t : TypeState) → ¬ (a ≡ Ok (more t))) → Ends (type_goes fs r wanted end a)
 type_ended fs r wanted (Ok (more s)) h = absurd (h s refl)
 type_ended fs r (for_literal d) (Ok (done t)) h = literal_ends fs r (fitting (typed_literal d t))
-type_ended fs r (for_cast e) (Ok (done t)) h = node_ends fs r _ _
+type_ended fs r (for_cast e) (Ok (done t)) h = node_ends fs r (cast t) (e ∷ [])
 type_ended fs r (for_cast_call e outside) (Ok (done t)) h = λ u q. (cc)
 type_ended fs r wanted (Err e) h = λ u q. (cc)
 
@@ -79,9 +79,9 @@ next_ends fs operand_due r = λ u q. (cc)
 next_ends fs first_child r = λ u q. (cc)
 next_ends fs (tight e) r = closed_ends fs r e
 next_ends fs (loose e) r = closed_ends fs r e
-next_ends fs (at_word a) r = node_ends fs r _ _
+next_ends fs (at_word a) r = node_ends fs r (get_item a) (root ∷ [])
 next_ends fs (at_vortex a) r = read_ends _ (field_read a r) (λ e u q. (cc))
-next_ends fs (at_id a b) r = read_ends _ (field_read a r) (λ e. node_ends fs r _ _)
+next_ends fs (at_id a b) r = read_ends _ (field_read a r) (λ e. node_ends fs r (get_item b) (e ∷ []))
 next_ends fs (in_options b xs opened less) r = λ u q. (cc)
 next_ends fs (children_due f) r = λ u q. (cc)
 next_ends fs (at_dot e) r = λ u q. (cc)
@@ -92,7 +92,7 @@ next_ends fs (selected_next e excludes names) r = λ u q. (cc)
 next_ends fs first_packed r = λ u q. (cc)
 next_ends fs packed_due r = λ u q. (cc)
 next_ends fs packed_value r = λ u q. (cc)
-next_ends fs (pack_end names es) r = node_ends fs r _ es
+next_ends fs (pack_end names es) r = node_ends fs r (pack names false) es
 next_ends fs (at_not e) r = λ u q. (cc)
 next_ends fs (at_is e) r = λ u q. (cc)
 next_ends fs (at_is_not e) r = λ u q. (cc)

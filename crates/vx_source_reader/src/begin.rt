@@ -1,13 +1,12 @@
 // The beginning of an operand.
-ghost use Rattle.std.specs.Prelude.{[], ◌∷◌, ◌≡◌};
-ghost use Rattle.std.specs.Option.{option_copied};
+ghost use Rattle.std.specs.Prelude.{[], ◌∷◌};
 ghost use Rattle.vx_source_tokens.specs.Views.{lexeme_of};
 ghost use Rattle.vx_source_dtype.specs.TypeReading.{within};
 ghost use Rattle.vx_source_types.specs.ScalarReading as scalars;
 ghost use Rattle.vx_source_grammar.specs.Beginning.{begins, field_read, not_begins, number_begins, value_begins};
 ghost use Rattle.vx_source_grammar.specs.States.{condition_part, in_case, in_paren, operand_due, case_due, goes};
 ghost use Rattle.vx_source_operands.specs.Places.{ReadsUpTo};
-ghost use Rattle.vx_source_operands.specs.Views.{frames_of, operand_of, step_of};
+ghost use Rattle.vx_source_operands.specs.Views.{frame_of, frames_of, operand_of, step_of};
 
 use crate::below::field;
 use crate::values::literal;
@@ -96,12 +95,30 @@ fn begin_not(
 ) -> Result<ExpressionStep, ParseError>
     ensures reads { ReadsUpTo found.now.at step_of result (not_begins (frames_of frames.items) room) }
 {
-    match frames.as_slice().last() {
-        Some(Frame::Binary(_, _))
-        | Some(Frame::Like(_, _))
-        | Some(Frame::Lower(_))
-        | Some(Frame::Upper { .. }) => Err(expected(found, Expected::OperandOrParens)),
+    match frames.pop() {
+        Some(frame) => begin_not_in(frames, frame, room, found),
+        None => {
+            frames.push(Frame::Not(found.at))?;
+            Ok(more(frames, Mode::Operand, room))
+        }
+    }
+}
+
+// The same, where that frame is the innermost.
+fn begin_not_in(
+    mut frames: Vec<Frame>,
+    frame: Frame,
+    room: usize,
+    found: &Found,
+) -> Result<ExpressionStep, ParseError>
+    ensures reads { ReadsUpTo found.now.at step_of result (not_begins (frame_of frame ∷ frames_of frames.items) room) }
+{
+    match &frame {
+        Frame::Binary(_, _) | Frame::Like(_, _) | Frame::Lower(_) | Frame::Upper { .. } => {
+            Err(expected(found, Expected::OperandOrParens))
+        }
         _ => {
+            frames.push(frame)?;
             frames.push(Frame::Not(found.at))?;
             Ok(more(frames, Mode::Operand, room))
         }
@@ -118,11 +135,7 @@ fn begin_value(
     ensures reads { ReadsUpTo found.now.at step_of result (value_begins (frames_of frames.items) room (lexeme_of found.now.token)) }
 {
     match ValueReader::new(alloc, room).step(alloc, found)? {
-        ValueStep::More(reader) => Ok(more(
-            frames,
-            Mode::Value(reader, found.at, found.end),
-            room,
-        )),
+        ValueStep::More(reader) => Ok(more(frames, Mode::Value(reader, found.at, found.end), room)),
         ValueStep::Done(_) => Err(refusal(found, Expected::Value)),
     }
 }

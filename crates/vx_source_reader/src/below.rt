@@ -14,8 +14,9 @@ ghost use Rattle.vx_source_operands.specs.Views.{callee_of, frames_of, lexemes_o
 
 use std::alloc::Global;
 use vx_fn::{EmptyOptions, ScalarFnRef};
+use vx_source_grammar::{Keyword, as_keyword};
 use vx_source_operands::{Callee, ExpressionStep, Frame, Operand};
-use vx_source_tokens::{Found, ParseError};
+use vx_source_tokens::{Found, ParseError, Token};
 use vx_source_types::is_word;
 use vx_types::FieldName;
 
@@ -200,4 +201,13 @@ pub(crate) fn selection_next(
     ensures reads { ReadsUpTo found.now.at step_of result (selection_goes (frames_of frames.items) room (operand_of operand) excludes names.items (lexeme_of found.now.token)) }
 {
     Err(ParseError::OutOfMemory)
+}
+
+pub(crate) fn keyword(token: &Token) -> Option<Keyword>
+    ensures { result ≡ keyword_at (lexeme_of token.now) }
+{
+    match token {
+        Token::Word(name) => as_keyword(name),
+        _ => None,
+    }
 }

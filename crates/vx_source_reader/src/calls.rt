@@ -135,7 +135,15 @@ pub(crate) fn first_child(
         Token::Sign(Sign::CloseParen) => match frames.pop() {
             Some(Frame::Call(callee, children, bracket)) => {
                 let Bracket { start, room } = bracket;
-                called(alloc, frames, room, Box::into_inner(callee), children, start, found)
+                called(
+                    alloc,
+                    frames,
+                    room,
+                    Box::into_inner(callee),
+                    children,
+                    start,
+                    found,
+                )
             }
             _ => Err(expected(found, Expected::Operand)),
         },

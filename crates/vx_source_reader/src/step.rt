@@ -40,7 +40,9 @@ pub(crate) fn step(
             after_id(alloc, frames, room, (word, name), (start, end), found)
         }
         Mode::Options(name, options, opened, inner, start) => {
-            options_next(alloc, frames, room, name, options, opened, inner, start, token)
+            options_next(
+                alloc, frames, room, name, options, opened, inner, start, token,
+            )
         }
         Mode::Children(function, start) => children(alloc, frames, room, function, start, found),
         Mode::Dot(e) => dot(alloc, frames, room, e, found),
@@ -63,6 +65,8 @@ pub(crate) fn step(
         Mode::IsNot(e) => after_is_not(alloc, frames, room, e, found),
         Mode::Case => case(frames, room, found),
         Mode::Value(reader, start, end) => value(alloc, frames, room, reader, (start, end), found),
-        Mode::Type(wanted, reader, end) => read_type(alloc, frames, room, wanted, reader, end, found),
+        Mode::Type(wanted, reader, end) => read_type(
+            alloc, frames, room, wanted, reader, end, found,
+        ),
     }
 }

@@ -14,11 +14,11 @@ ghost use Rattle.vx_source_operands.specs.Places.{ReadsUpTo};
 ghost use Rattle.vx_source_operands.specs.Views.{frames_of, lexemes_of, step_of};
 
 use crate::begin::field_of_root;
-use crate::below::{after_tight, dot, field, function_of, plain_function};
+use crate::below::{after_tight, dot, field, function_of, keyword, plain_function};
 use crate::calls::{call, open_children};
 use std::alloc::Global;
 use vx_fn::ScalarFnRef;
-use vx_source_grammar::{Keyword, as_keyword};
+use vx_source_grammar::Keyword;
 use vx_source_operands::{Callee, ExpressionStep, Frame, Mode, more};
 use vx_source_tokens::{Expected, Found, ParseError, Sign, Token};
 use vx_source_types::{expected, inside, refusal};
@@ -147,15 +147,11 @@ pub(crate) fn options_next(
 {
     match &found.token {
         Token::Sign(Sign::OpenBracket) => match opened.checked_add(1) {
-            Some(opened) => {
-                collect(frames, room, name, options, opened, inner, start, found)
-            }
+            Some(opened) => { collect(frames, room, name, options, opened, inner, start, found) }
             None => Err(ParseError::OutOfMemory),
         },
         Token::Sign(Sign::CloseBracket) => match opened.checked_sub(1) {
-            Some(opened) => {
-                collect(frames, room, name, options, opened, inner, start, found)
-            }
+            Some(opened) => { collect(frames, room, name, options, opened, inner, start, found) }
             None => end_options(alloc, frames, room, name, options, inner, start, &found),
         },
         Token::End => Err(expected(&found, Expected::CloseBracket)),
@@ -178,7 +174,11 @@ fn collect(
     ensures reads { ReadsUpTo found.at step_of result (goes (frames_of frames.items) (in_options name (lexemes_of options.items ++ lexeme_of found.token ∷ []) opened inner) room) }
 {
     options.push(found)?;
-    Ok(more(frames, Mode::Options(name, options, opened, inner, start), room))
+    Ok(more(
+        frames,
+        Mode::Options(name, options, opened, inner, start),
+        room,
+    ))
 }
 
 // The options have ended.
@@ -212,7 +212,14 @@ pub(crate) fn children(
 {
     match &found.token {
         Token::Sign(Sign::OpenParen) => {
-            open_children(alloc, frames, room, Callee::Any(Box::into_inner(function)), start, found)
+            open_children(
+                alloc,
+                frames,
+                room,
+                Callee::Any(Box::into_inner(function)),
+                start,
+                found,
+            )
         }
         _ => Err(refusal(found, Expected::OpenParen)),
     }
@@ -226,18 +233,8 @@ pub(crate) fn case(
 ) -> Result<ExpressionStep, ParseError>
     ensures reads { ReadsUpTo found.now.at step_of result (case_at (frames_of frames.items) room (lexeme_of found.now.token) (keyword_at (lexeme_of found.now.token))) }
 {
-    match keyword(found) {
+    match keyword(&found.token) {
         Some(Keyword::When) => Ok(more(frames, Mode::Operand, room)),
         _ => Err(refusal(found, Expected::When)),
-    }
-}
-
-// The keyword that the token is.
-fn keyword(found: &Found) -> Option<Keyword>
-    ensures { result ≡ keyword_at (lexeme_of found.now.token) }
-{
-    match &found.token {
-        Token::Word(name) => as_keyword(name),
-        _ => None,
     }
 }
