@@ -8,9 +8,9 @@ ghost use Rattle.vx_source_grammar.specs.States.{condition_part, in_case, in_par
 ghost use Rattle.vx_source_operands.specs.Places.{ReadsUpTo};
 ghost use Rattle.vx_source_operands.specs.Views.{frame_of, frames_of, operand_of, step_of};
 
-use crate::below::field;
 use crate::values::literal;
 use std::alloc::Global;
+use vx_source_following::field;
 use vx_source_grammar::{Keyword, as_keyword};
 use vx_source_operands::{
     Bracket, CasePart, ExpressionStep, Frame, Mode, Operand, more, root, tight,

@@ -12,9 +12,9 @@ ghost use Rattle.vx_source_operands.specs.Places.{ReadsUpTo};
 ghost use Rattle.vx_source_operands.specs.Views.{callee_of, frames_of, operand_of, operands_of, step_of};
 
 use crate::begin::begin;
-use crate::below::{after_tight, called};
 use std::alloc::Global;
 use vx_fn::{EmptyOptions, PackOptions, ScalarFnRef};
+use vx_source_following::{after_tight, called};
 use vx_source_operands::{
     Bracket, Callee, ExpressionStep, Frame, Mode, Operand, begun_at, more, node, tight,
 };

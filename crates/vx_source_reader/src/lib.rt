@@ -2,7 +2,6 @@
 #![tactic(auto)]
 
 mod begin;
-mod below;
 mod calls;
 mod step;
 mod values;

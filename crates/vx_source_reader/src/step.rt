@@ -6,14 +6,14 @@ ghost use Rattle.vx_source_operands.specs.Places.{ReadsUpTo};
 ghost use Rattle.vx_source_operands.specs.Views.{reader_of, step_of};
 
 use crate::begin::begin;
-use crate::below::{
-    after_is, after_is_not, after_loose, after_not, after_tight, dot, exclusion, selection,
-    selection_name, selection_next,
-};
 use crate::calls::{first_child, first_packed, pack_end, packed, packed_value};
 use crate::values::{read_type, value};
 use crate::words::{after_id, after_vortex, after_word, case, children, options_next};
 use std::alloc::Global;
+use vx_source_following::{
+    after_is, after_is_not, after_loose, after_not, after_tight, dot, exclusion, selection,
+    selection_name, selection_next,
+};
 use vx_source_operands::{ExpressionReader, ExpressionStep, Mode};
 use vx_source_tokens::{Found, ParseError};
 

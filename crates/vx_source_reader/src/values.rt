@@ -13,9 +13,9 @@ ghost use Rattle.vx_source_grammar.specs.Joining.{over};
 ghost use Rattle.vx_source_operands.specs.Places.{ReadsUpTo};
 ghost use Rattle.vx_source_operands.specs.Views.{frames_of, operand_of, step_of, type_for};
 
-use crate::below::after_tight;
 use std::alloc::Global;
 use vx_fn::ScalarFnRef;
+use vx_source_following::after_tight;
 use vx_source_operands::{
     Bracket, ExpressionStep, Frame, Mode, Operand, TypeFor, begun_at, more, node, node_over, tight,
 };

@@ -14,12 +14,13 @@ ghost use Rattle.vx_source_operands.specs.Places.{ReadsUpTo};
 ghost use Rattle.vx_source_operands.specs.Views.{frames_of, lexemes_of, step_of};
 
 use crate::begin::field_of_root;
-use crate::below::{after_tight, dot, field, function_of, keyword, plain_function};
 use crate::calls::{call, open_children};
 use std::alloc::Global;
 use vx_fn::ScalarFnRef;
+use vx_source_following::{after_tight, dot, field, keyword};
 use vx_source_grammar::Keyword;
 use vx_source_operands::{Callee, ExpressionStep, Frame, Mode, more};
+use vx_source_options::{function_of, plain_function};
 use vx_source_tokens::{Expected, Found, ParseError, Sign, Token};
 use vx_source_types::{expected, inside, refusal};
 use vx_types::FieldName;
