@@ -1,5 +1,5 @@
 // Functions that are called by their names.
-ghost use Rattle.std.specs.Prelude.{[], ◌∷◌, ◌≡◌, option_map};
+ghost use Rattle.std.specs.Prelude.{◌≡◌, option_map};
 ghost use Rattle.vx_fn.specs.Functions as functions;
 ghost use Rattle.vx_value.specs.Views.{admits_null};
 ghost use Rattle.vx_source_tokens.specs.Views.{lexeme_of};

@@ -1,5 +1,4 @@
 // A token of an expression.
-ghost use Rattle.std.specs.Prelude.{◌≡◌};
 ghost use Rattle.vx_source_tokens.specs.Views.{lexeme_of};
 ghost use Rattle.vx_source_grammar.specs.ExpressionReading.{expression_step};
 ghost use Rattle.vx_source_operands.specs.Places.{ReadsUpTo};

@@ -1,6 +1,5 @@
 // What follows a word, and a function's name with its options.
-ghost use Rattle.std.specs.Prelude.{[], ◌∷◌, ◌++◌, ◌≡◌, codes};
-ghost use Rattle.std.specs.Str.{bytes_eq};
+ghost use Rattle.std.specs.Prelude.{[], ◌∷◌, ◌++◌};
 ghost use Rattle.vx_fn.specs.Functions.{get_item};
 ghost use Rattle.vx_fn.specs.Views as functions;
 ghost use Rattle.vx_tree.specs.Trees.{root};
