@@ -1,60 +1,95 @@
 // Functions that are called by their names.
-ghost use Rattle.std.specs.Prelude.{◌≡◌, ℕ, Bool, true};
-ghost use Rattle.vx_source_reader.specs.Begun.{GoesAt};
+ghost use Rattle.std.specs.Prelude.{◌≡◌, option_map};
+ghost use Rattle.vx_fn.specs.Functions as functions;
+ghost use Rattle.vx_value.specs.Views.{admits_null};
+ghost use Rattle.vx_source_tokens.specs.Views.{lexeme_of};
+ghost use Rattle.vx_source_dtype.specs.Names.{name_at};
+ghost use Rattle.vx_source_dtype.specs.TypeReading.{within};
+ghost use Rattle.vx_source_grammar.specs.Keywords.{beside};
+ghost use Rattle.vx_source_grammar.specs.Beginning.{call_begins, callees, children_begin, first_child_at, first_packed_at, pack_end_at, packed_at, packed_value_at, word_called};
+ghost use Rattle.vx_source_grammar.specs.Joining.{over};
+ghost use Rattle.vx_source_operands.specs.Places.{ReadsUpTo};
+ghost use Rattle.vx_source_operands.specs.Views.{callee_of, frames_of, operand_of, operands_of, step_of};
 
-use crate::begin::{begin, opened};
-use crate::close::outside;
-use crate::frame::{Bracket, Callee, Frame, Open};
-use crate::postfix::tight;
-use crate::state::{Mode, State, goes};
+use crate::begin::begin;
 use std::alloc::Global;
-use vx_fn::{CaseWhenOptions, EmptyOptions, PackOptions, ScalarFnRef};
-use vx_source_operands::{Operand, node};
-use vx_source_options::plain_function;
+use vx_fn::{EmptyOptions, PackOptions, ScalarFnRef};
+use vx_source_following::{after_tight, called};
+use vx_source_operands::{
+    Bracket, Callee, ExpressionStep, Frame, Mode, Operand, begun_at, more, node, tight,
+};
 use vx_source_tokens::{Expected, Found, ParseError, Sign, Token};
-use vx_source_types::{expected, field_name, is_word, refusal};
+use vx_source_types::{expected, field_name, inside, is_word, refusal};
 use vx_types::{FieldName, FieldNames, Nullability};
 
 // The bracket behind a word: the word is a function's name.
 pub(crate) fn call(
     alloc: Global,
-    open: Open,
+    frames: Vec<Frame>,
+    room: usize,
     name: FieldName,
     start: usize,
     found: &Found,
-) -> Result<State, ParseError>
-    ensures { (places : ℕ → Bool) → places found.now.at ≡ true → places start ≡ true → GoesAt places result }
+) -> Result<ExpressionStep, ParseError>
+    ensures reads { ReadsUpTo found.now.at step_of result (within room (word_called (frames_of frames.items) room name)) }
 {
-    let (open, bracket) = opened(open, found)?;
-    let bracket = Bracket {
-        start,
-        room: bracket.room,
-    };
-    let mut open = open;
-    if is_word(&name, "pack") {
-        open.frames
-            .push(Frame::Pack(Vec::new(alloc), Vec::new(alloc), bracket))?;
-        return Ok(goes(open, Mode::FirstPacked(start)));
-    }
-    if is_word(&name, "cast") {
-        open.frames.push(Frame::Cast(bracket))?;
-        return Ok(goes(open, Mode::Operand));
-    }
-    let Some(callee) = callee(&name) else {
-        return Err(ParseError::Unexpected {
-            at: start,
-            expected: Expected::Function,
-        });
-    };
-    open.frames
-        .push(Frame::Call(callee, Vec::new(alloc), bracket))?;
-    Ok(goes(open, Mode::FirstChild))
+    let less = inside(room, found)?;
+    let bracket = Bracket { start, room };
+    begin_call(alloc, frames, less, name, bracket, found)
 }
 
-fn callee(name: &FieldName) -> Option<Callee> {
+// Inside the bracket.
+fn begin_call(
+    alloc: Global,
+    mut frames: Vec<Frame>,
+    less: usize,
+    name: FieldName,
+    bracket: Bracket,
+    found: &Found,
+) -> Result<ExpressionStep, ParseError>
+    ensures reads { ReadsUpTo found.now.at step_of result (word_called (frames_of frames.items) bracket.room name less) }
+{
+    if is_word(&name, "pack") {
+        frames.push(Frame::Pack(Vec::new(alloc), Vec::new(alloc), bracket))?;
+        Ok(more(frames, Mode::FirstPacked(bracket.start), less))
+    } else if is_word(&name, "cast") {
+        frames.push(Frame::Cast(bracket))?;
+        Ok(more(frames, Mode::Operand, less))
+    } else {
+        begin_children(alloc, frames, less, callee(&name), bracket, found)
+    }
+}
+
+// The children of what is called by a name of its own, if there is such.
+fn begin_children(
+    alloc: Global,
+    mut frames: Vec<Frame>,
+    less: usize,
+    callee: Option<Callee>,
+    bracket: Bracket,
+    found: &Found,
+) -> Result<ExpressionStep, ParseError>
+    ensures reads { ReadsUpTo found.now.at step_of result (call_begins (frames_of frames.items) bracket.room (option_map callee_of callee) less) }
+{
+    match callee {
+        Some(callee) => {
+            let callee = Box::new(alloc, callee)?;
+            frames.push(Frame::Call(callee, Vec::new(alloc), bracket))?;
+            Ok(more(frames, Mode::FirstChild, less))
+        }
+        None => Err(begun_at(bracket.start, found, Expected::Function)),
+    }
+}
+
+// What is called by that name.
+fn callee(name: &FieldName) -> Option<Callee>
+    ensures { option_map callee_of result ≡ beside callees name.now }
+{
     if is_word(name, "zip") {
         Some(Callee::Own(ScalarFnRef::Zip(EmptyOptions)))
-    } else if is_word(name, "coalesce") || is_word(name, "fill_null") {
+    } else if is_word(name, "coalesce") {
+        Some(Callee::Own(ScalarFnRef::FillNull(EmptyOptions)))
+    } else if is_word(name, "fill_null") {
         Some(Callee::Own(ScalarFnRef::FillNull(EmptyOptions)))
     } else if is_word(name, "mask") {
         Some(Callee::Own(ScalarFnRef::Mask(EmptyOptions)))
@@ -69,180 +104,151 @@ fn callee(name: &FieldName) -> Option<Callee> {
     }
 }
 
-// The bracket behind `vortex.` and a name.
-pub(crate) fn call_by_id(
-    alloc: Global,
-    open: Open,
-    name: FieldName,
-    start: usize,
-    found: &Found,
-) -> Result<State, ParseError>
-    ensures { (places : ℕ → Bool) → places found.now.at ≡ true → GoesAt places result }
-{
-    let Some(scalar_fn) = plain_function(&name) else {
-        return Err(expected(found, Expected::Options));
-    };
-    children(alloc, open, Callee::Own(scalar_fn), start, found)
-}
-
 // The bracket before the children of a function.
-pub(crate) fn children(
+pub(crate) fn open_children(
     alloc: Global,
-    open: Open,
+    mut frames: Vec<Frame>,
+    room: usize,
     callee: Callee,
     start: usize,
     found: &Found,
-) -> Result<State, ParseError>
-    ensures { (places : ℕ → Bool) → places found.now.at ≡ true → GoesAt places result }
+) -> Result<ExpressionStep, ParseError>
+    ensures reads { ReadsUpTo found.now.at step_of result (children_begin (frames_of frames.items) room (callee_of callee)) }
 {
-    let (open, bracket) = opened(open, found)?;
-    let bracket = Bracket {
-        start,
-        room: bracket.room,
-    };
-    let mut open = open;
-    open.frames
-        .push(Frame::Call(callee, Vec::new(alloc), bracket))?;
-    Ok(goes(open, Mode::FirstChild))
+    let callee = Box::new(alloc, callee)?;
+    let less = inside(room, found)?;
+    let bracket = Bracket { start, room };
+    frames.push(Frame::Call(callee, Vec::new(alloc), bracket))?;
+    Ok(more(frames, Mode::FirstChild, less))
 }
 
 // The first child of a call, or its end.
-pub(crate) fn first_child(alloc: Global, open: Open, found: &Found) -> Result<State, ParseError>
-    ensures { (places : ℕ → Bool) → places found.now.at ≡ true → GoesAt places result }
-{
-    let Token::Sign(Sign::CloseParen) = found.token else {
-        return begin(alloc, open, found);
-    };
-    let Open {
-        mut frames,
-        room: _,
-    } = open;
-    match frames.pop() {
-        Some(Frame::Call(callee, children, bracket)) => {
-            called(
-                alloc,
-                outside(frames, bracket),
-                callee,
-                children,
-                bracket.start,
-                found,
-            )
-        }
-        _ => Err(refusal(found, Expected::Operand)),
-    }
-}
-
-// The node of the call.
-pub(crate) fn called(
+pub(crate) fn first_child(
     alloc: Global,
-    open: Open,
-    callee: Callee,
-    children: Vec<Operand>,
-    start: usize,
+    mut frames: Vec<Frame>,
+    room: usize,
     found: &Found,
-) -> Result<State, ParseError>
-    ensures { (places : ℕ → Bool) → places found.now.at ≡ true → GoesAt places result }
+) -> Result<ExpressionStep, ParseError>
+    ensures reads { ReadsUpTo found.now.at step_of result (first_child_at (frames_of frames.items) room (lexeme_of found.now.token)) }
 {
-    let bytes = (start, found.end);
-    let scalar_fn = match callee {
-        Callee::Any(scalar_fn) => scalar_fn,
-        Callee::Own(scalar_fn) => {
-            if scalar_fn.arity() != children.len() {
-                return Err(expected(found, Expected::Arity));
+    match &found.token {
+        Token::Sign(Sign::CloseParen) => match frames.pop() {
+            Some(Frame::Call(callee, children, bracket)) => {
+                let Bracket { start, room } = bracket;
+                called(
+                    alloc,
+                    frames,
+                    room,
+                    Box::into_inner(callee),
+                    children,
+                    start,
+                    found,
+                )
             }
-            scalar_fn
-        }
-        Callee::If => {
-            if children.len() != 3 {
-                return Err(expected(found, Expected::Arity));
-            }
-            ScalarFnRef::CaseWhen(CaseWhenOptions {
-                num_when_then_pairs: 1,
-                has_else: true,
-            })
-        }
-    };
-    let made = node(alloc, scalar_fn, children, bytes, open.room, found)?;
-    Ok(tight(open, made))
+            _ => Err(expected(found, Expected::Operand)),
+        },
+        _ => begin(alloc, frames, room, found),
+    }
 }
 
 // The first name of a struct that is packed, or its end.
 pub(crate) fn first_packed(
-    alloc: Global,
-    open: Open,
+    mut frames: Vec<Frame>,
+    room: usize,
     start: usize,
     found: &Found,
-) -> Result<State, ParseError>
-    ensures { (places : ℕ → Bool) → places found.now.at ≡ true → GoesAt places result }
+) -> Result<ExpressionStep, ParseError>
+    ensures reads { ReadsUpTo found.now.at step_of result (first_packed_at (frames_of frames.items) room (lexeme_of found.now.token)) }
 {
-    let Token::Sign(Sign::CloseParen) = found.token else {
-        return packed(open, found);
-    };
-    let Open { mut frames, room } = open;
-    let outside_room = match frames.pop() {
-        Some(Frame::Pack(_, _, bracket)) => bracket.room,
-        _ => room,
-    };
-    let open = Open {
-        frames,
-        room: outside_room,
-    };
-    let mode = Mode::PackEnd(Vec::new(alloc), Vec::new(alloc), start, found.end);
-    Ok(goes(open, mode))
+    match &found.token {
+        Token::Sign(Sign::CloseParen) => match frames.pop() {
+            Some(Frame::Pack(names, children, bracket)) => {
+                let mode = Mode::PackEnd(names, children, start, found.end);
+                Ok(more(frames, mode, bracket.room))
+            }
+            _ => Err(expected(found, Expected::Operand)),
+        },
+        _ => packed(frames, room, found),
+    }
 }
 
 // The name of a child of a struct that is packed.
-pub(crate) fn packed(open: Open, found: &Found) -> Result<State, ParseError>
-    ensures { (places : ℕ → Bool) → places found.now.at ≡ true → GoesAt places result }
+pub(crate) fn packed(
+    mut frames: Vec<Frame>,
+    room: usize,
+    found: &Found,
+) -> Result<ExpressionStep, ParseError>
+    ensures reads { ReadsUpTo found.now.at step_of result (packed_at (frames_of frames.items) room (lexeme_of found.now.token) (name_at (lexeme_of found.now.token))) }
 {
-    let Some(name) = field_name(&found.token) else {
-        return Err(refusal(found, Expected::Name));
-    };
-    let Open { mut frames, room } = open;
-    match frames.pop() {
-        Some(Frame::Pack(names, children, bracket)) => {
-            let mut names = names;
-            names.push(name.clone()?)?;
-            frames.push(Frame::Pack(names, children, bracket))?;
-            Ok(goes(Open { frames, room }, Mode::PackedValue))
-        }
-        _ => Err(refusal(found, Expected::Operand)),
+    match field_name(&found.token) {
+        Some(name) => match frames.pop() {
+            Some(Frame::Pack(mut names, children, bracket)) => {
+                names.push(name.clone()?)?;
+                frames.push(Frame::Pack(names, children, bracket))?;
+                Ok(more(frames, Mode::PackedValue, room))
+            }
+            _ => Err(expected(found, Expected::Operand)),
+        },
+        None => Err(refusal(found, Expected::Name)),
     }
 }
 
 // The colon behind the name.
-pub(crate) fn packed_value(open: Open, found: &Found) -> Result<State, ParseError>
-    ensures { (places : ℕ → Bool) → places found.now.at ≡ true → GoesAt places result }
+pub(crate) fn packed_value(
+    frames: Vec<Frame>,
+    room: usize,
+    found: &Found,
+) -> Result<ExpressionStep, ParseError>
+    ensures reads { ReadsUpTo found.now.at step_of result (packed_value_at (frames_of frames.items) room (lexeme_of found.now.token)) }
 {
     match &found.token {
-        Token::Sign(Sign::Colon) => Ok(goes(open, Mode::Operand)),
+        Token::Sign(Sign::Colon) => Ok(more(frames, Mode::Operand, room)),
         _ => Err(refusal(found, Expected::FieldValue)),
     }
 }
 
-// The struct of the children, whose text ends at that byte.
-pub(crate) fn pack(
+// A question mark behind a struct makes it nullable.
+pub(crate) fn pack_end(
     alloc: Global,
-    open: Open,
+    frames: Vec<Frame>,
+    room: usize,
     names: Vec<FieldName>,
     children: Vec<Operand>,
-    nullability: Nullability,
     bytes: (usize, usize),
     found: &Found,
-) -> Result<State, ParseError>
-    ensures { (places : ℕ → Bool) → places found.now.at ≡ true → GoesAt places result }
+) -> Result<ExpressionStep, ParseError>
+    ensures reads { ReadsUpTo found.now.at step_of result (pack_end_at (frames_of frames.items) room names.items (operands_of children.items) (lexeme_of found.now.token)) }
+{
+    match &found.token {
+        Token::Sign(Sign::Question) => {
+            let bytes = (bytes.0, found.end);
+            let nullability = Nullability::Nullable;
+            let operand = pack(alloc, names, nullability, children, bytes, room, found)?;
+            Ok(tight(frames, room, operand))
+        }
+        _ => {
+            let nullability = Nullability::NonNullable;
+            let operand = pack(alloc, names, nullability, children, bytes, room, found)?;
+            after_tight(alloc, frames, room, operand, found)
+        }
+    }
+}
+
+// The struct of the children, which stands in these bytes.
+fn pack(
+    alloc: Global,
+    names: Vec<FieldName>,
+    nullability: Nullability,
+    children: Vec<Operand>,
+    bytes: (usize, usize),
+    room: usize,
+    found: &Found,
+) -> Result<Operand, ParseError>
+    ensures reads { ReadsUpTo found.now.at operand_of result (over (functions.pack names.items (admits_null nullability)) (operands_of children.items) room) }
 {
     let Ok(names) = FieldNames::new(alloc, names) else {
         return Err(ParseError::OutOfMemory);
     };
-    let options = PackOptions { names, nullability };
-    let made = node(
-        alloc,
-        ScalarFnRef::Pack(options),
-        children,
-        bytes,
-        open.room,
-        found,
-    )?;
-    Ok(tight(open, made))
+    let function = ScalarFnRef::Pack(PackOptions { names, nullability });
+    node(alloc, function, children, bytes, room, found)
 }
