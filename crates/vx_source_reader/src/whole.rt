@@ -1,5 +1,5 @@
 // Whole texts of expressions.
-ghost use Rattle.std.specs.Prelude.{◌≡◌, Err, MatchOption};
+ghost use Rattle.std.specs.Prelude.{◌≡◌, ◌≤◌, Err, MatchOption};
 ghost use Rattle.vx_tree.specs.Trees.{Tree};
 ghost use Rattle.vx_tree.specs.Views.{tree_of};
 ghost use Rattle.vx_source_tokens.specs.Tokens.{end};
@@ -9,6 +9,9 @@ ghost use Rattle.vx_source_types.specs.ScalarReading.{ParsesWithin};
 ghost use Rattle.vx_source_grammar.specs.ExpressionReading.{expression_step};
 ghost use Rattle.vx_source_grammar.specs.States.{expression_start};
 ghost use Rattle.vx_source_operands.specs.Views.{operand_of};
+ghost use Rattle.vx_source_writer.specs.SourceTexts.{source};
+ghost use Rattle.vx_source_laws.specs.Nesting.{nesting};
+ghost use Rattle.vx_source_laws.specs.SpelledTrees.{IsSpelledTree};
 ghost use Rattle.vx_source_reader.specs.Placed.{tree_in};
 
 use crate::step::step;
@@ -33,26 +36,29 @@ pub struct Placed {
 pub fn parse(alloc: Global, text: &str) -> Result<Expression, ParseError>
     ensures parses { ParsesWithin expression_step (expression_start 200) text.now (λ e. tree_of e) result }
     ensures complete { (e : Tree) → IsRead expression_step (expression_start 200) text.now e → Gives tree_of result e }
+    ensures again { (e : Tree) → IsSpelledTree e → nesting e ≤ 200 → text.now ≡ source e → Gives tree_of result e }
 {
     parse_with(alloc, text, DEFAULT_NESTING)
 }
 
 /// The same, nested at most as deep as said: so many brackets may be open, and so deep may the tree be below its
 /// first node, both together.
-pub fn parse_with(alloc: Global, text: &str, nesting: usize) -> Result<Expression, ParseError>
-    ensures parses { ParsesWithin expression_step (expression_start nesting) text.now (λ e. tree_of e) result }
-    ensures complete { (e : Tree) → IsRead expression_step (expression_start nesting) text.now e → Gives tree_of result e }
+pub fn parse_with(alloc: Global, text: &str, limit: usize) -> Result<Expression, ParseError>
+    ensures parses { ParsesWithin expression_step (expression_start limit) text.now (λ e. tree_of e) result }
+    ensures complete { (e : Tree) → IsRead expression_step (expression_start limit) text.now e → Gives tree_of result e }
+    ensures again { (e : Tree) → IsSpelledTree e → nesting e ≤ limit → text.now ≡ source e → Gives tree_of result e }
 {
-    let Operand { tree, .. } = read(alloc, text, nesting)?;
+    let Operand { tree, .. } = read(alloc, text, limit)?;
     Ok(Box::into_inner(tree))
 }
 
 /// The same, and beside it the bytes that each node was read from.
-pub fn parse_with_places(alloc: Global, text: &str, nesting: usize) -> Result<Placed, ParseError>
-    ensures parses { ParsesWithin expression_step (expression_start nesting) text.now tree_in result }
-    ensures complete { (e : Tree) → IsRead expression_step (expression_start nesting) text.now e → Gives tree_in result e }
+pub fn parse_with_places(alloc: Global, text: &str, limit: usize) -> Result<Placed, ParseError>
+    ensures parses { ParsesWithin expression_step (expression_start limit) text.now tree_in result }
+    ensures complete { (e : Tree) → IsRead expression_step (expression_start limit) text.now e → Gives tree_in result e }
+    ensures again { (e : Tree) → IsSpelledTree e → nesting e ≤ limit → text.now ≡ source e → Gives tree_in result e }
 {
-    let Operand { tree, places, .. } = read(alloc, text, nesting)?;
+    let Operand { tree, places, .. } = read(alloc, text, limit)?;
     Ok(Placed {
         expression: Box::into_inner(tree),
         places,
@@ -60,10 +66,10 @@ pub fn parse_with_places(alloc: Global, text: &str, nesting: usize) -> Result<Pl
 }
 
 // Reads the text token by token.
-fn read(alloc: Global, text: &str, nesting: usize) -> Result<Operand, ParseError>
-    ensures { ParsesWithin expression_step (expression_start nesting) text.now operand_of result }
+fn read(alloc: Global, text: &str, limit: usize) -> Result<Operand, ParseError>
+    ensures { ParsesWithin expression_step (expression_start limit) text.now operand_of result }
 {
-    let mut reader = ExpressionReader::new(alloc, nesting);
+    let mut reader = ExpressionReader::new(alloc, limit);
     let mut from = 0;
     loop {
         let found = first_token(alloc, text, from)?;

@@ -5,6 +5,7 @@ use Rattle.vx_source_types.proofs.Parsing.{parses_as}
 use Rattle.vx_source_grammar.specs.ExpressionReading.{expression_step}
 use Rattle.vx_source_operands.specs.Views.{operand_of}
 use Rattle.vx_source_reader.specs.Placed.{tree_in}
+use Rattle.vx_source_reader.proofs.Parsing.{written_is_read}
 use Rattle.vx_source_reader.proofs.whole.parse_with_places.Goals as goal
 
 pub returns-in_err-tree-clause-complete : goal.returns-in_err-tree-clause-complete
@@ -17,3 +18,9 @@ pub returns-clause-complete : goal.returns-clause-complete
 returns-clause-complete c = λ e h.
     let read : tree_of c.in_ok-tree.field-0.tree.value ≡ e = parses_as expression_step operand_of (Ok c.in_ok-tree.field-0) e c.in_ok-tree.ensures h in
     cc
+
+pub returns-in_err-tree-clause-again : goal.returns-in_err-tree-clause-again
+returns-in_err-tree-clause-again c = λ e w h is. returns-in_err-tree-clause-complete c e (written_is_read e c.args.limit c.args.text.now w h is)
+
+pub returns-clause-again : goal.returns-clause-again
+returns-clause-again c = λ e w h is. returns-clause-complete c e (written_is_read e c.args.limit c.args.text.now w h is)

@@ -27,7 +27,7 @@ ends said st o p q = p ∙ ap answer q
 pub loop-reader-init : goal.loop-reader-init
 loop-reader-init c =
     let bs = c.args.text.now in
-    (omega arith, subst (λ u. Leads expression_step (expression_start c.args.nesting) bs u bs) (sym c.new-reader.ensures) stays)
+    (omega arith, subst (λ u. Leads expression_step (expression_start c.args.limit) bs u bs) (sym c.new-reader.ensures) stays)
 
 pub returns-in-Err : goal.returns-in-Err
 returns-in-Err c =
@@ -38,7 +38,7 @@ pub returns-in-None : goal.returns-in-None
 returns-in-None c =
     let t = c.in_ok-found.ensures in
     let o = c.in-Ok-Done.operand in
-    within_of expression_step (expression_start c.args.nesting) c.args.text.now operand_of (Ok o)
+    within_of expression_step (expression_start c.args.limit) c.args.text.now operand_of (Ok o)
     (finished expression_step operand_of (Ok o) (lexeme_of c.in_ok-found.found.token) (operand_of o) c.loop-reader.from c.in_ok-found.found.at c.loop-reader.invariant.1 t.token
     (ends _ c.in-Ok-Done.field-0 o c.in-Ok-Done.ensures.reads c.in-Ok-Done.field-0-is) (subst (λ x. whole_text (operand_of o) x ≡ Ok (operand_of o)) (sym c.in-None.ensures) refl) (omega arith) t.place)
 
@@ -46,7 +46,7 @@ pub returns-in-Some : goal.returns-in-Some
 returns-in-Some c =
     let t = c.in_ok-found.ensures in
     let o = c.in-Ok-Done.operand in
-    within_of expression_step (expression_start c.args.nesting) c.args.text.now operand_of (Err c.in-Some.error)
+    within_of expression_step (expression_start c.args.limit) c.args.text.now operand_of (Err c.in-Some.error)
     (finished expression_step operand_of (Err c.in-Some.error) (lexeme_of c.in_ok-found.found.token) (operand_of o) c.loop-reader.from c.in_ok-found.found.at c.loop-reader.invariant.1 t.token
     (ends _ c.in-Ok-Done.field-0 o c.in-Ok-Done.ensures.reads c.in-Ok-Done.field-0-is) (c.in-Some.ensures (operand_of o)) (omega arith) t.place)
 

@@ -7,7 +7,7 @@ use Rattle.vx_source_reader.proofs.whole.read.Given as goal
 
 abbrev pub invariant-loop-reader : goal.invariant-loop-reader
 invariant-loop-reader l =
-    (l.from ≤ length l.text) × Leads expression_step (expression_start l.nesting) l.text (reader_of l.reader) (drop l.from l.text)
+    (l.from ≤ length l.text) × Leads expression_step (expression_start l.limit) l.text (reader_of l.reader) (drop l.from l.text)
 
 abbrev pub decreases-loop-reader : goal.decreases-loop-reader
 decreases-loop-reader l = length l.text - l.from
