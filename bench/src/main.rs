@@ -11,6 +11,7 @@ mod passes;
 mod queries;
 mod readings;
 mod scans;
+mod texts;
 
 fn main() {
     let mut words = std::env::args().skip(1);
@@ -29,9 +30,10 @@ fn main() {
         Some("passes") => passes::tables(),
         Some("growth") => growth::table(),
         Some("depths") => depths::table(),
+        Some("texts") => texts::table(),
         Some(rows) => queries_and_scan(
             rows.parse()
-                .expect("a number of rows, passes, growth or depths"),
+                .expect("a number of rows, passes, growth, depths or texts"),
         ),
     }
 }

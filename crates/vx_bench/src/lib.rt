@@ -17,6 +17,7 @@ mod query_trees;
 mod scans;
 mod splits;
 mod subject;
+mod texts;
 mod trees;
 mod walks;
 

@@ -31,7 +31,7 @@ abbrev Goes : TypeState → List ℕ → TypeState → List ℕ → Type 0
 Goes s bs u ds = Leads type_step s bs u ds
 
 -- a type that was read, behind which a question mark may still follow where it isn't nullable
-abbrev read_mode : LogicalType → TypeMode
+abbrev pub read_mode : LogicalType → TypeMode
 read_mode (ty s true) = whole (ty s true)
 read_mode (ty s false) = unmarked (ty s false)
 
@@ -175,7 +175,7 @@ word_ends (field a t gs) rest = refl
 -- ---- types
 
 mutual
-  type_again : (t : LogicalType) (fs : List TypeFrame) (r : ℕ) (rest : List ℕ) → IsSpelled t → type_nesting t ≤ r → is_word (next rest) ≡ false
+  pub type_again : (t : LogicalType) (fs : List TypeFrame) (r : ℕ) (rest : List ℕ) → IsSpelled t → type_nesting t ≤ r → is_word (next rest) ≡ false
       → Goes (at fs type_due r) (type_source t ++ rest) (at fs (read_mode t) r) rest
   type_again (ty s false) fs r rest u h e = of_text type_step (append_assoc (shape_source s) [] rest) (shape_again s fs r rest u h e)
   type_again (ty s true) fs r rest u h e =

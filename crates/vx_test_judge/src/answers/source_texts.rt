@@ -1,8 +1,24 @@
 // Answers of source text.
 use std::alloc::Global;
-use vx_source_types::{ParseError, ScalarText, TypeText, parse_scalar, parse_type};
+use vx_source::{ParseError, ScalarText, SourceText, TypeText, parse, parse_scalar, parse_type};
 use vx_test_samples::Unread;
 use vx_tree::VortexError;
+
+/// The source text of the expression that is read of the text, or where reading stops and what would
+/// have stood right there. The source text reads back to an equal expression, or else that is told.
+pub fn parsed(alloc: Global, text: &str) -> Result<String, Unread> {
+    match parse(alloc, text) {
+        Ok(expression) => {
+            let source = format!(in alloc; "{}", SourceText(&expression))?;
+            match parse(alloc, source.as_str()) {
+                Ok(again) if again == expression => Ok(source),
+                Ok(_) => Ok(format!(in alloc; "{source} reads back otherwise")?),
+                Err(refusal) => refused(alloc, refusal),
+            }
+        }
+        Err(refusal) => refused(alloc, refusal),
+    }
+}
 
 /// The source text of the type that is read of the text, or where reading stops and what would have
 /// stood right there.

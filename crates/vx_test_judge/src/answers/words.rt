@@ -4,7 +4,7 @@ use crate::answers::functions::{child_names, kept, node_type, shown_function, sw
 use crate::answers::matches::{like, matched};
 use crate::answers::paths::path_set;
 use crate::answers::scans::{read, read_through};
-use crate::answers::source_texts::{parsed_scalar, parsed_type};
+use crate::answers::source_texts::{parsed, parsed_scalar, parsed_type};
 use crate::answers::sources::peeled_text;
 use crate::answers::values::{column, joined, scalar_text, type_text, union};
 use crate::kind::WordsKind;
@@ -32,6 +32,7 @@ pub fn answer(
         (WordsKind::Kept, [selection, names]) => kept(alloc, selection, names),
         (WordsKind::Swapped, [sign]) => swapped(alloc, sign),
         (WordsKind::TypeText, [text]) => type_text(alloc, text),
+        (WordsKind::Parse, [text]) => parsed(alloc, text),
         (WordsKind::ParsedType, [text]) => parsed_type(alloc, text),
         (WordsKind::ParsedScalar, [text]) => parsed_scalar(alloc, text),
         (WordsKind::Union, [first, second]) => union(alloc, first, second),

@@ -1,0 +1,217 @@
+-- What begins an operand: the scope root, a field, a value, a function, a CASE, or a bracket.
+use Rattle.std.specs.Prelude.{ℕ, zero, suc, ◌+◌, true, false, List, [], ◌∷◌, ◌++◌, Option, Some, None, Result, Ok, Err, codes}
+use Rattle.std.specs.Str.{bytes_eq}
+use Rattle.vx_value.specs.Columns.{Constant}
+use Rattle.vx_value.specs.Types.{Name, LogicalType}
+use Rattle.vx_fn.specs.Functions.{Function, literal, get_item, pack, cast, fill_null, zip, is_null, is_not_null, mask}
+use Rattle.vx_tree.specs.Trees.{Tree, root}
+use Rattle.vx_source_tokens.specs.declared.expected.Expected.{Expected}
+use Rattle.vx_source_tokens.specs.declared.expected.Expected.TheVariants.{Operand, OperandOrParens, Name as AName, Value, Number, FieldValue, FittingType, Function as AFunction, Options, OpenParen as AParen, CloseParen as TheParen, CloseBracket as TheBracket, When as WhenWord}
+use Rattle.vx_source_tokens.specs.declared.token.Sign.TheVariants.{OpenParen, CloseParen, OpenBracket, CloseBracket, OpenBrace, Colon, DoubleColon, Dot, Question, Dollar}
+use Rattle.vx_source_tokens.specs.Tokens.{Lexeme, word, quoted, number as numeral, text, octets, sign, end, invalid}
+use Rattle.vx_source_dtype.specs.Names.{name_at, same_word}
+use Rattle.vx_source_dtype.specs.Reading.{Goes, more, done, refused}
+use Rattle.vx_source_dtype.specs.TypeReading.{TypeState, type_start, within}
+use Rattle.vx_source_types.specs.Literals.{plain_literal, typed_literal}
+use Rattle.vx_source_types.specs.ScalarReading.{suffixed}
+use Rattle.vx_source_types.specs.ValueReading.{Drafted, ValueState, value_start, value_step}
+use Rattle.vx_source_grammar.specs.declared.words.Keyword.{Keyword}
+use Rattle.vx_source_grammar.specs.declared.words.Keyword.TheVariants.{Not, Null, True, False, Case, When}
+use Rattle.vx_source_grammar.specs.Keywords.{beside, keyword_of}
+use Rattle.vx_source_grammar.specs.OptionReading.{plain_functions, function_read}
+use Rattle.vx_source_grammar.specs.Closing.{called, node_stands}
+use Rattle.vx_source_grammar.specs.Following.{follows, field_goes}
+use Rattle.vx_source_grammar.specs.Joining.{over}
+use Rattle.vx_source_grammar.specs.States.{Callee, own_of, any_of, if_of, condition_part, Frame, in_not, in_binary, in_like, in_lower, in_upper, in_paren, in_call, in_pack, in_cast, in_case, TypeFor, for_literal, for_cast, for_cast_call, operand_due, first_child, at_word, at_vortex, at_id, in_options, children_due, first_packed, packed_value, pack_end, case_due, in_value, in_type, ExpressionAnswer, goes, when_read, stands}
+
+-- a node stands there, before the token
+abbrev pub node_before : List Frame → ℕ → Function → List Tree → Lexeme → ExpressionAnswer
+node_before fs r f es x = when_read (λ e. follows fs r e x) (over f es r)
+
+-- ---- values and types
+
+abbrev pub literal_before : List Frame → ℕ → Lexeme → Result Constant Expected → ExpressionAnswer
+literal_before fs r x (Ok c) = node_before fs r (literal c.type c.value) [] x
+literal_before fs r x (Err e) = Err e
+
+abbrev pub value_ends : List Frame → ℕ → Drafted → Lexeme → ExpressionAnswer
+value_ends fs r d (sign DoubleColon) = goes fs (in_type (for_literal d) (type_start r)) r
+value_ends fs r d x = literal_before fs r x (plain_literal d.value)
+
+abbrev pub value_goes : List Frame → ℕ → Lexeme → Result (Goes ValueState Drafted) Expected → ExpressionAnswer
+value_goes fs r x (Ok (more s)) = goes fs (in_value s) r
+value_goes fs r x (Ok (done d)) = value_ends fs r d x
+value_goes fs r x (Err e) = Err e
+
+abbrev pub fitting : Option Constant → Result Constant Expected
+fitting (Some c) = Ok c
+fitting None = Err FittingType
+
+abbrev pub cast_ends : List Frame → Tree → ℕ → LogicalType → Lexeme → ExpressionAnswer
+cast_ends fs e outside t (sign CloseParen) = node_stands fs outside (cast t) (e ∷ [])
+cast_ends fs e outside t x = refused x TheParen
+
+abbrev pub type_ends : List Frame → ℕ → TypeFor → LogicalType → Lexeme → ExpressionAnswer
+type_ends fs r (for_literal d) t x = literal_before fs r x (fitting (typed_literal d t))
+type_ends fs r (for_cast e) t x = node_before fs r (cast t) (e ∷ []) x
+type_ends fs r (for_cast_call e outside) t x = cast_ends fs e outside t x
+
+abbrev pub type_goes : List Frame → ℕ → TypeFor → Lexeme → Result (Goes TypeState LogicalType) Expected → ExpressionAnswer
+type_goes fs r wanted x (Ok (more s)) = goes fs (in_type wanted s) r
+type_goes fs r wanted x (Ok (done t)) = type_ends fs r wanted t x
+type_goes fs r wanted x (Err e) = Err e
+
+-- a value begins
+abbrev pub value_begun : List Frame → ℕ → Lexeme → Result (Goes ValueState Drafted) Expected → ExpressionAnswer
+value_begun fs r x (Ok (more s)) = goes fs (in_value s) r
+value_begun fs r x (Ok (done d)) = refused x Value
+value_begun fs r x (Err e) = Err e
+
+abbrev pub value_begins : List Frame → ℕ → Lexeme → ExpressionAnswer
+value_begins fs r x = value_begun fs r x (value_step (value_start r) x)
+
+-- a number with the type behind it, or without
+abbrev pub number_begins : List Frame → ℕ → Lexeme → Option (Option Constant) → ExpressionAnswer
+number_begins fs r x (Some (Some c)) = node_stands fs r (literal c.type c.value) []
+number_begins fs r x (Some None) = Err Number
+number_begins fs r x None = value_begins fs r x
+
+-- ---- operands
+
+-- `not`, which is no operand of a comparison or a sum
+abbrev pub not_begins : List Frame → ℕ → ExpressionAnswer
+not_begins (in_binary op e ∷ fs) r = Err OperandOrParens
+not_begins (in_like negated case_insensitive e ∷ fs) r = Err OperandOrParens
+not_begins (in_lower e ∷ fs) r = Err OperandOrParens
+not_begins (in_upper lower_strict upper_strict array lower ∷ fs) r = Err OperandOrParens
+not_begins fs r = goes (in_not ∷ fs) operand_due r
+
+abbrev pub word_begins : List Frame → ℕ → Name → Option Keyword → ExpressionAnswer
+word_begins fs r a None = goes fs (at_word a) r
+word_begins fs r a (Some Null) = value_begins fs r (word a)
+word_begins fs r a (Some True) = value_begins fs r (word a)
+word_begins fs r a (Some False) = value_begins fs r (word a)
+word_begins fs r a (Some Not) = not_begins fs r
+word_begins fs r a (Some Case) = within r (λ less. goes (in_case condition_part [] r ∷ fs) case_due less)
+word_begins fs r a (Some k) = Err Operand
+
+-- what begins with a token, where an operand is due
+abbrev pub begins : List Frame → ℕ → Lexeme → ExpressionAnswer
+begins fs r (word a) = word_begins fs r a (keyword_of a)
+begins fs r (quoted a) = node_stands fs r (get_item a) (root ∷ [])
+begins fs r (sign Dollar) = stands fs r root
+begins fs r (sign OpenParen) = within r (λ less. goes (in_paren r ∷ fs) operand_due less)
+begins fs r (sign OpenBracket) = value_begins fs r (sign OpenBracket)
+begins fs r (sign OpenBrace) = value_begins fs r (sign OpenBrace)
+begins fs r (numeral negative magnitude suffix) = number_begins fs r (numeral negative magnitude suffix) (suffixed (numeral negative magnitude suffix))
+begins fs r (text s) = value_begins fs r (text s)
+begins fs r (octets bs) = value_begins fs r (octets bs)
+begins fs r x = refused x Operand
+
+-- ---- functions by name
+
+-- what is called by a name of its own
+abbrev pub callees : List (List ℕ × Callee)
+callees = (codes "zip", own_of zip) ∷ (codes "coalesce", own_of fill_null) ∷ (codes "fill_null", own_of fill_null) ∷ (codes "mask", own_of mask) ∷ (codes "is_null", own_of is_null) ∷ (codes "is_not_null", own_of is_not_null) ∷ (codes "if", if_of) ∷ []
+
+-- inside the bracket behind a name
+abbrev pub call_begins : List Frame → ℕ → Option Callee → ℕ → ExpressionAnswer
+call_begins fs r (Some callee) less = goes (in_call callee [] r ∷ fs) first_child less
+call_begins fs r None less = Err AFunction
+
+-- the bracket behind a word: the word is the name of a function
+abbrev pub word_called : List Frame → ℕ → Name → ℕ → ExpressionAnswer
+word_called fs r a less =
+    elim (same_word a (codes "pack")) [
+      | true ↦ goes (in_pack [] [] r ∷ fs) first_packed less
+      | false ↦
+          elim (same_word a (codes "cast")) [ true ↦ goes (in_cast r ∷ fs) operand_due less | false ↦ call_begins fs r (beside callees a) less ]
+    ]
+
+-- the field of the scope root
+abbrev pub field_read : Name → ℕ → Result Tree Expected
+field_read a r = over (get_item a) (root ∷ []) r
+
+-- what follows a word: a bracket makes it the name of a function, and a dot behind `vortex` may begin such a name; else it
+-- is a field
+abbrev pub word_dotted : List Frame → ℕ → Name → ExpressionAnswer
+word_dotted fs r a = elim (bytes_eq a (codes "vortex")) [ true ↦ goes fs (at_vortex a) r | false ↦ node_before fs r (get_item a) (root ∷ []) (sign Dot) ]
+
+abbrev pub word_at : List Frame → ℕ → Name → Lexeme → ExpressionAnswer
+word_at fs r a (sign OpenParen) = within r (word_called fs r a)
+word_at fs r a (sign Dot) = word_dotted fs r a
+word_at fs r a x = node_before fs r (get_item a) (root ∷ []) x
+
+-- a name behind `vortex.`, or a field of the field of that name
+abbrev pub vortex_at : List Frame → ℕ → Name → Lexeme → ExpressionAnswer
+vortex_at fs r a (word b) = goes fs (at_id a b) r
+vortex_at fs r a x = when_read (λ e. field_goes fs r e x (name_at x)) (field_read a r)
+
+-- inside the bracket before the children of a function
+abbrev pub children_begin : List Frame → ℕ → Callee → ExpressionAnswer
+children_begin fs r callee = within r (λ less. goes (in_call callee [] r ∷ fs) first_child less)
+
+abbrev pub id_called : List Frame → ℕ → Option Function → ExpressionAnswer
+id_called fs r (Some f) = children_begin fs r (own_of f)
+id_called fs r None = Err Options
+
+-- what follows `vortex.` and a name
+abbrev pub id_at : List Frame → ℕ → Name → Name → Lexeme → ExpressionAnswer
+id_at fs r a b (sign OpenParen) = id_called fs r (beside plain_functions b)
+id_at fs r a b (sign OpenBracket) = within r (λ less. goes fs (in_options b [] 0 less) r)
+id_at fs r a b x = when_read (λ e. node_before fs r (get_item b) (e ∷ []) x) (field_read a r)
+
+-- more options, or the bracket behind them; brackets in them count
+abbrev pub options_end : List Frame → ℕ → Name → List Lexeme → ℕ → ℕ → ExpressionAnswer
+options_end fs r b xs zero less = when_read (λ f. goes fs (children_due f) r) (function_read b xs less)
+options_end fs r b xs (suc opened) less = goes fs (in_options b (xs ++ sign CloseBracket ∷ []) opened less) r
+
+abbrev pub options_at : List Frame → ℕ → Name → List Lexeme → ℕ → ℕ → Lexeme → ExpressionAnswer
+options_at fs r b xs opened less (sign OpenBracket) = goes fs (in_options b (xs ++ sign OpenBracket ∷ []) (opened + 1) less) r
+options_at fs r b xs opened less (sign CloseBracket) = options_end fs r b xs opened less
+options_at fs r b xs opened less end = Err TheBracket
+options_at fs r b xs opened less (invalid e) = Err e
+options_at fs r b xs opened less x = goes fs (in_options b (xs ++ x ∷ []) opened less) r
+
+abbrev pub children_at : List Frame → ℕ → Function → Lexeme → ExpressionAnswer
+children_at fs r f (sign OpenParen) = children_begin fs r (any_of f)
+children_at fs r f x = refused x AParen
+
+-- the first child of a call, or its end
+abbrev pub first_ends : List Frame → ExpressionAnswer
+first_ends (in_call callee es outside ∷ fs) = called fs outside callee es
+first_ends fs = Err Operand
+
+abbrev pub first_child_at : List Frame → ℕ → Lexeme → ExpressionAnswer
+first_child_at fs r (sign CloseParen) = first_ends fs
+first_child_at fs r x = begins fs r x
+
+-- the name of a child of a struct
+abbrev pub packed_named : List Frame → ℕ → Name → ExpressionAnswer
+packed_named (in_pack names es outside ∷ fs) r a = goes (in_pack (names ++ a ∷ []) es outside ∷ fs) packed_value r
+packed_named fs r a = Err Operand
+
+abbrev pub packed_at : List Frame → ℕ → Lexeme → Option Name → ExpressionAnswer
+packed_at fs r x (Some a) = packed_named fs r a
+packed_at fs r x None = refused x AName
+
+abbrev pub first_packed_ends : List Frame → ExpressionAnswer
+first_packed_ends (in_pack names es outside ∷ fs) = goes fs (pack_end names es) outside
+first_packed_ends fs = Err Operand
+
+abbrev pub first_packed_at : List Frame → ℕ → Lexeme → ExpressionAnswer
+first_packed_at fs r (sign CloseParen) = first_packed_ends fs
+first_packed_at fs r x = packed_at fs r x (name_at x)
+
+abbrev pub packed_value_at : List Frame → ℕ → Lexeme → ExpressionAnswer
+packed_value_at fs r (sign Colon) = goes fs operand_due r
+packed_value_at fs r x = refused x FieldValue
+
+-- a question mark behind a struct makes it nullable
+abbrev pub pack_end_at : List Frame → ℕ → List Name → List Tree → Lexeme → ExpressionAnswer
+pack_end_at fs r names es (sign Question) = node_stands fs r (pack names true) es
+pack_end_at fs r names es x = node_before fs r (pack names false) es x
+
+abbrev pub case_at : List Frame → ℕ → Lexeme → Option Keyword → ExpressionAnswer
+case_at fs r x (Some When) = goes fs operand_due r
+case_at fs r x k = refused x WhenWord

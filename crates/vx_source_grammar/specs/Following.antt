@@ -1,0 +1,192 @@
+-- What follows an operand: a postfix, an operator, or what closes a bracket.
+use Rattle.std.specs.Prelude.{ℕ, Bool, true, false, List, [], ◌∷◌, ◌++◌, Option, Some, None, Err}
+use Rattle.vx_value.specs.Types.{Name}
+use Rattle.vx_fn.specs.declared.options.FieldSelection.{FieldSelection}
+use Rattle.vx_fn.specs.declared.options.FieldSelection.TheVariants.{Include, Exclude}
+use Rattle.vx_fn.specs.Functions.{Comparison, equal, not_equal, greater, greater_or_equal, less, less_or_equal, Operation, compares, and_also, or_else, adds, get_item, select, is_null, is_not_null}
+use Rattle.vx_tree.specs.Trees.{Tree}
+use Rattle.vx_source_tokens.specs.declared.expected.Expected.TheVariants.{Name as AName, Parens, Like as LikeWord, Null as NullWord, CommaOrCloseBrace}
+use Rattle.vx_source_tokens.specs.declared.token.Sign.{Sign}
+use Rattle.vx_source_tokens.specs.declared.token.Sign.TheVariants.{OpenBrace, CloseBrace, Comma, DoubleColon, Dot, Tilde, Equal, NotEqual, Less, LessEqual, Greater, GreaterEqual, Plus}
+use Rattle.vx_source_tokens.specs.Tokens.{Lexeme, word, sign}
+use Rattle.vx_source_dtype.specs.Names.{name_at}
+use Rattle.vx_source_dtype.specs.Reading.{refused}
+use Rattle.vx_source_dtype.specs.TypeReading.{type_start}
+use Rattle.vx_source_grammar.specs.declared.words.Keyword.{Keyword}
+use Rattle.vx_source_grammar.specs.declared.words.Keyword.TheVariants.{And, Or, Not, Like, Ilike, Between, Is, Null}
+use Rattle.vx_source_grammar.specs.Keywords.{keyword_of}
+use Rattle.vx_source_grammar.specs.Closing.{closes, node_stands}
+use Rattle.vx_source_grammar.specs.Joining.{over, reduced}
+use Rattle.vx_source_grammar.specs.States.{Frame, in_chain, in_binary, in_like, in_lower, in_upper, for_cast, operand_due, loose, at_dot, at_selection, at_exclusion, selected_name, selected_next, at_not, at_is, at_is_not, in_type, ExpressionAnswer, goes, when_read}
+
+-- the comparison of a sign
+abbrev pub comparison_of : Sign → Option Comparison
+comparison_of Equal = Some equal
+comparison_of NotEqual = Some not_equal
+comparison_of Less = Some less
+comparison_of LessEqual = Some less_or_equal
+comparison_of Greater = Some greater
+comparison_of GreaterEqual = Some greater_or_equal
+comparison_of s = None
+
+-- whether the bound of that comparison is strict, of `<` and `<=`
+abbrev pub bound_of : Operation → Option Bool
+bound_of (compares less) = Some true
+bound_of (compares less_or_equal) = Some false
+bound_of op = None
+
+-- the operand with what binds more tightly than a comparison, and what is open around it
+abbrev pub summed : List Frame → ℕ → Tree → (List Frame → Tree → ExpressionAnswer) → ExpressionAnswer
+summed fs r e f = when_read (λ p. f p.0 p.1) (reduced 5 r fs e)
+
+-- two comparisons one after another: a range, of `<` and `<=`
+abbrev pub range_goes : List Frame → ℕ → Tree → Tree → Option Bool → Option Bool → ExpressionAnswer
+range_goes fs r lower array (Some lower_strict) (Some upper_strict) = goes (in_upper lower_strict upper_strict array lower ∷ fs) operand_due r
+range_goes fs r lower array first second = Err Parens
+
+-- a comparison behind an operand: comparisons don't chain
+abbrev pub comparison_goes : ℕ → Comparison → List Frame → Tree → ExpressionAnswer
+comparison_goes r c (in_binary op lower ∷ fs) e = range_goes fs r lower e (bound_of op) (bound_of (compares c))
+comparison_goes r c (in_like negated case_insensitive lhs ∷ fs) e = Err Parens
+comparison_goes r c (in_upper lower_strict upper_strict array lower ∷ fs) e = Err Parens
+comparison_goes r c (in_lower array ∷ fs) e = Err Parens
+comparison_goes r c fs e = goes (in_binary (compares c) e ∷ fs) operand_due r
+
+-- what is written with words in the place of a comparison's sign
+abbrev pub compared : List Frame → ExpressionAnswer → ExpressionAnswer
+compared (in_binary op lhs ∷ fs) made = Err Parens
+compared (in_like negated case_insensitive lhs ∷ fs) made = Err Parens
+compared (in_upper lower_strict upper_strict array lower ∷ fs) made = Err Parens
+compared (in_lower array ∷ fs) made = Err Parens
+compared fs made = made
+
+-- `like` or `ilike`, negated or not
+abbrev pub like_goes : List Frame → ℕ → Tree → Bool → Bool → ExpressionAnswer
+like_goes fs r e negated case_insensitive = summed fs r e (λ gs d. compared gs (goes (in_like negated case_insensitive d ∷ gs) operand_due r))
+
+-- `between`
+abbrev pub between_goes : List Frame → ℕ → Tree → ExpressionAnswer
+between_goes fs r e = summed fs r e (λ gs d. compared gs (goes (in_lower d ∷ gs) operand_due r))
+
+-- another item of a chain, or the first of one
+abbrev pub same_chain : Operation → Operation → Bool
+same_chain and_also and_also = true
+same_chain or_else or_else = true
+same_chain op other = false
+
+abbrev pub item_goes : ℕ → Operation → List Frame → Tree → ExpressionAnswer
+item_goes r op (in_chain other es ∷ fs) e = elim (same_chain op other) [ true ↦ goes (in_chain op (es ++ e ∷ []) ∷ fs) operand_due r | false ↦ goes (in_chain op (e ∷ []) ∷ in_chain other es ∷ fs) operand_due r ]
+item_goes r op fs e = goes (in_chain op (e ∷ []) ∷ fs) operand_due r
+
+-- `or` or `and` between two items
+abbrev pub or_goes : List Frame → ℕ → Tree → ExpressionAnswer
+or_goes fs r e = when_read (λ p. item_goes r or_else p.0 p.1) (reduced 2 r fs e)
+
+abbrev pub and_goes : List Frame → ℕ → Tree → ExpressionAnswer
+and_goes fs r e = when_read (λ p. item_goes r and_also p.0 p.1) (reduced 3 r fs e)
+
+-- `and` behind an operand: between the bounds of a `between`, or between two items
+abbrev pub bounds_or_items : ℕ → List Frame → Tree → ExpressionAnswer
+bounds_or_items r (in_lower array ∷ fs) e = goes (in_upper false false array e ∷ fs) operand_due r
+bounds_or_items r fs e = and_goes fs r e
+
+-- a keyword behind an operand
+abbrev pub word_goes : List Frame → ℕ → Tree → Lexeme → Option Keyword → ExpressionAnswer
+word_goes fs r e x (Some And) = summed fs r e (bounds_or_items r)
+word_goes fs r e x (Some Or) = or_goes fs r e
+word_goes fs r e x (Some Like) = like_goes fs r e false false
+word_goes fs r e x (Some Ilike) = like_goes fs r e false true
+word_goes fs r e x (Some Not) = goes fs (at_not e) r
+word_goes fs r e x (Some Between) = between_goes fs r e
+word_goes fs r e x (Some Is) = goes fs (at_is e) r
+word_goes fs r e x k = closes fs r e x
+
+-- a comparison's sign, or another, behind an operand
+abbrev pub sign_goes : List Frame → ℕ → Tree → Lexeme → Option Comparison → ExpressionAnswer
+sign_goes fs r e x (Some c) = summed fs r e (comparison_goes r c)
+sign_goes fs r e x None = closes fs r e x
+
+-- what follows an operand
+abbrev pub follows : List Frame → ℕ → Tree → Lexeme → ExpressionAnswer
+follows fs r e (sign Dot) = goes fs (at_dot e) r
+follows fs r e (sign OpenBrace) = goes fs (at_selection e) r
+follows fs r e (sign DoubleColon) = goes fs (in_type (for_cast e) (type_start r)) r
+follows fs r e (sign Plus) = summed fs r e (λ gs d. goes (in_binary adds d ∷ gs) operand_due r)
+follows fs r e (sign s) = sign_goes fs r e (sign s) (comparison_of s)
+follows fs r e (word w) = word_goes fs r e (word w) (keyword_of w)
+follows fs r e x = closes fs r e x
+
+-- what follows a whole comparison
+abbrev pub loose_word_goes : List Frame → ℕ → Tree → Lexeme → Option Keyword → ExpressionAnswer
+loose_word_goes fs r e x (Some And) = and_goes fs r e
+loose_word_goes fs r e x (Some Or) = or_goes fs r e
+loose_word_goes fs r e x (Some Like) = Err Parens
+loose_word_goes fs r e x (Some Ilike) = Err Parens
+loose_word_goes fs r e x (Some Not) = Err Parens
+loose_word_goes fs r e x (Some Between) = Err Parens
+loose_word_goes fs r e x (Some Is) = Err Parens
+loose_word_goes fs r e x k = closes fs r e x
+
+abbrev pub loose_sign_goes : List Frame → ℕ → Tree → Lexeme → Option Comparison → ExpressionAnswer
+loose_sign_goes fs r e x (Some c) = Err Parens
+loose_sign_goes fs r e x None = closes fs r e x
+
+abbrev pub follows_loosely : List Frame → ℕ → Tree → Lexeme → ExpressionAnswer
+follows_loosely fs r e (sign Dot) = Err Parens
+follows_loosely fs r e (sign OpenBrace) = Err Parens
+follows_loosely fs r e (sign DoubleColon) = Err Parens
+follows_loosely fs r e (sign Plus) = Err Parens
+follows_loosely fs r e (sign s) = loose_sign_goes fs r e (sign s) (comparison_of s)
+follows_loosely fs r e (word w) = loose_word_goes fs r e (word w) (keyword_of w)
+follows_loosely fs r e x = closes fs r e x
+
+-- what follows `not`, `is` and `is not` behind an operand
+abbrev pub not_goes : List Frame → ℕ → Tree → Lexeme → Option Keyword → ExpressionAnswer
+not_goes fs r e x (Some Like) = like_goes fs r e true false
+not_goes fs r e x (Some Ilike) = like_goes fs r e true true
+not_goes fs r e x k = refused x LikeWord
+
+abbrev pub null_goes : List Frame → ℕ → Tree → Bool → ExpressionAnswer
+null_goes fs r e true = summed fs r e (λ gs d. compared gs (when_read (λ t. goes gs (loose t) r) (over is_not_null (d ∷ []) r)))
+null_goes fs r e false = summed fs r e (λ gs d. compared gs (when_read (λ t. goes gs (loose t) r) (over is_null (d ∷ []) r)))
+
+abbrev pub is_goes : List Frame → ℕ → Tree → Lexeme → Option Keyword → ExpressionAnswer
+is_goes fs r e x (Some Not) = goes fs (at_is_not e) r
+is_goes fs r e x (Some Null) = null_goes fs r e false
+is_goes fs r e x k = refused x NullWord
+
+abbrev pub is_not_goes : List Frame → ℕ → Tree → Lexeme → Option Keyword → ExpressionAnswer
+is_not_goes fs r e x (Some Null) = null_goes fs r e true
+is_not_goes fs r e x k = refused x NullWord
+
+-- ---- postfixes
+
+-- the field of the operand, if it is a name
+abbrev pub field_goes : List Frame → ℕ → Tree → Lexeme → Option Name → ExpressionAnswer
+field_goes fs r e x (Some a) = node_stands fs r (get_item a) (e ∷ [])
+field_goes fs r e x None = refused x AName
+
+-- a selection of names
+abbrev pub selection_of : Bool → List Name → FieldSelection
+selection_of true names = Exclude names
+selection_of false names = Include names
+
+abbrev pub selected : List Frame → ℕ → Tree → Bool → List Name → ExpressionAnswer
+selected fs r e excludes names = node_stands fs r (select (selection_of excludes names)) (e ∷ [])
+
+abbrev pub named_goes : List Frame → ℕ → Tree → Bool → List Name → Lexeme → Option Name → ExpressionAnswer
+named_goes fs r e excludes names x (Some a) = goes fs (selected_next e excludes (names ++ a ∷ [])) r
+named_goes fs r e excludes names x None = refused x AName
+
+abbrev pub excluded_at : List Frame → ℕ → Tree → Bool → Lexeme → ExpressionAnswer
+excluded_at fs r e excludes (sign CloseBrace) = selected fs r e excludes []
+excluded_at fs r e excludes x = named_goes fs r e excludes [] x (name_at x)
+
+abbrev pub selection_at : List Frame → ℕ → Tree → Lexeme → ExpressionAnswer
+selection_at fs r e (sign Tilde) = goes fs (at_exclusion e) r
+selection_at fs r e x = excluded_at fs r e false x
+
+abbrev pub selection_goes : List Frame → ℕ → Tree → Bool → List Name → Lexeme → ExpressionAnswer
+selection_goes fs r e excludes names (sign Comma) = goes fs (selected_name e excludes names) r
+selection_goes fs r e excludes names (sign CloseBrace) = selected fs r e excludes names
+selection_goes fs r e excludes names x = refused x CommaOrCloseBrace

@@ -1,0 +1,58 @@
+-- Operators that have their last operand.
+use Rattle.std.specs.Prelude.{ℕ, zero, suc, true, false, List, [], ◌∷◌, ◌++◌, length, Result, Ok, Err, nat_le}
+use Rattle.vx_fn.specs.Functions.{Function, Operation, or_else, adds, logical_not, binary, like, between}
+use Rattle.vx_tree.specs.Trees.{Tree}
+use Rattle.vx_tree.specs.Views.{trees_from}
+use Rattle.vx_source_tokens.specs.declared.expected.Expected.{Expected}
+use Rattle.vx_source_tokens.specs.declared.expected.Expected.TheVariants.{Operand}
+use Rattle.vx_source_grammar.specs.Nodes.{node_read}
+use Rattle.vx_source_grammar.specs.States.{Frame, in_chain, in_not, in_binary, in_like, in_upper, when_read}
+
+-- how tightly what waits for its last operand binds, the loosest first: or, and, not, comparisons, `+`; 0 of a bracket, and of
+-- what waits for more
+abbrev pub level_of : Frame → ℕ
+level_of (in_chain or_else es) = 1
+level_of (in_chain op es) = 2
+level_of in_not = 3
+level_of (in_binary adds e) = 5
+level_of (in_binary op e) = 4
+level_of (in_like negated case_insensitive e) = 4
+level_of (in_upper lower_strict upper_strict array lower) = 4
+level_of f = 0
+
+-- the node over some trees
+abbrev pub over : Function → List Tree → ℕ → Result Tree Expected
+over f es r = node_read f (trees_from es) r
+
+-- one round: neighbours joined in pairs from left to right, and an odd last one carried on
+abbrev pub paired : Operation → ℕ → List Tree → Result (List Tree) Expected
+paired op r [] = Ok []
+paired op r (e ∷ []) = Ok (e ∷ [])
+paired op r (d ∷ e ∷ es) = when_read (λ z. when_read (λ zs. Ok (z ∷ zs)) (paired op r es)) (over (binary op) (d ∷ e ∷ []) r)
+
+-- that many rounds
+abbrev pub rounds : ℕ → Operation → ℕ → List Tree → Result (List Tree) Expected
+rounds zero op r es = Ok es
+rounds (suc n) op r es = when_read (rounds n op r) (paired op r es)
+
+-- what is left of the items, of which there is one at least: as many rounds as items are enough
+abbrev pub only_left : List Tree → Result Tree Expected
+only_left [] = Err Operand
+only_left (e ∷ es) = Ok e
+
+abbrev pub chained : Operation → ℕ → List Tree → Result Tree Expected
+chained op r es = when_read only_left (rounds (length es) op r es)
+
+-- what waits for the operand, with it
+abbrev pub joined : ℕ → Frame → Tree → Result Tree Expected
+joined r (in_chain op es) e = chained op r (es ++ e ∷ [])
+joined r in_not e = over logical_not (e ∷ []) r
+joined r (in_binary op lhs) e = over (binary op) (lhs ∷ e ∷ []) r
+joined r (in_like negated case_insensitive lhs) e = over (like negated case_insensitive) (lhs ∷ e ∷ []) r
+joined r (in_upper lower_strict upper_strict array lower) e = over (between lower_strict upper_strict) (array ∷ lower ∷ e ∷ []) r
+joined r f e = Ok e
+
+-- the operand, joined to all that waits for it and binds at least as tightly, and what is left open
+abbrev pub reduced : ℕ → ℕ → List Frame → Tree → Result (List Frame × Tree) Expected
+reduced level r [] e = Ok ([], e)
+reduced level r (f ∷ fs) e = elim (nat_le level (level_of f)) [ true ↦ when_read (reduced level r fs) (joined r f e) | false ↦ Ok (f ∷ fs, e) ]

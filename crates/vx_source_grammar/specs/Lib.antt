@@ -1,0 +1,9 @@
+pub mod Keywords
+pub mod Nodes
+pub mod OptionReading
+pub mod States
+pub mod Joining
+pub mod Closing
+pub mod Following
+pub mod Beginning
+pub mod ExpressionReading

@@ -1,0 +1,12 @@
+-- How tightly operators bind.
+use Rattle.std.specs.Prelude.{ℕ}
+use Rattle.vx_source_operands.specs.declared.frame.Level.{Level}
+use Rattle.vx_source_operands.specs.declared.frame.Level.TheVariants.{Or, And, Not, Comparison, Sum}
+
+-- the loosest first
+abbrev pub rank_of : Level → ℕ
+rank_of Or = 1
+rank_of And = 2
+rank_of Not = 3
+rank_of Comparison = 4
+rank_of Sum = 5

@@ -1,0 +1,135 @@
+// What is open around the operand that is being read.
+ghost use Rattle.std.specs.Prelude.{◌≡◌, nat_le, MatchOption};
+ghost use Rattle.vx_source_grammar.specs.Joining.{level_of};
+ghost use Rattle.vx_source_operands.specs.Levels.{rank_of};
+ghost use Rattle.vx_source_operands.specs.Views.{frame_of};
+
+use crate::Operand;
+use vx_fn::{LikeOptions, Operator, ScalarFnRef, StrictComparison};
+use vx_types::FieldName;
+
+/// A bracket that is open: where it begins, and how much nesting is allowed outside it.
+#[derive(Clone, Copy)]
+pub struct Bracket {
+    /// The first byte of what the bracket belongs to.
+    pub start: usize,
+    /// The nesting that is allowed outside.
+    pub room: usize,
+}
+
+/// What a call is of.
+#[derive(Drop)]
+pub enum Callee {
+    /// A function with its options, over as many children as it takes.
+    Own(ScalarFnRef),
+    /// A function with its options, over any number of children.
+    Any(ScalarFnRef),
+    /// A CASE of one condition, its value and the ELSE value.
+    If,
+}
+
+/// What a CASE waits for behind its operand.
+#[derive(Clone, Copy)]
+pub enum CasePart {
+    /// A condition.
+    Condition,
+    /// The value of a condition.
+    Value,
+    /// The ELSE value.
+    Else,
+}
+
+/// What is open: an operator that waits for its last operand, or a bracket.
+#[derive(Drop)]
+pub enum Frame {
+    /// `or` or `and` between the items.
+    Chain(Operator, Vec<Operand>),
+    /// `not`, which begins at that byte.
+    Not(usize),
+    /// A comparison or `+` behind the left operand.
+    Binary(Operator, Operand),
+    /// `like` behind its text.
+    Like(LikeOptions, Operand),
+    /// `between` behind its operand: the lower bound is due.
+    Lower(Operand),
+    /// A value and its lower bound: the upper bound is due.
+    Upper {
+        /// The value.
+        array: Operand,
+        /// Its lower bound.
+        lower: Operand,
+        /// Whether the lower bound itself is left out.
+        lower_strict: StrictComparison,
+        /// Whether the upper bound itself is left out.
+        upper_strict: StrictComparison,
+        /// The first byte of both.
+        start: usize,
+    },
+    /// `(`
+    Paren(Bracket),
+    /// A call's children.
+    Call(Box<Callee>, Vec<Operand>, Bracket),
+    /// `pack(`, with the names and the operands so far.
+    Pack(Vec<FieldName>, Vec<Operand>, Bracket),
+    /// `cast(`
+    Cast(Bracket),
+    /// `case`, with the conditions and values so far.
+    Case(CasePart, Vec<Operand>, Bracket),
+}
+
+/// How tightly operators bind, the loosest first.
+#[derive(Clone, Copy, PartialEq, Eq)]
+pub enum Level {
+    /// `or`
+    Or,
+    /// `and`
+    And,
+    /// `not`
+    Not,
+    /// Comparisons, LIKE and ranges.
+    Comparison,
+    /// `+`
+    Sum,
+}
+
+impl Level {
+    fn rank(self) -> u8
+        ensures { result ≡ rank_of self }
+    {
+        match self {
+            Level::Or => 1,
+            Level::And => 2,
+            Level::Not => 3,
+            Level::Comparison => 4,
+            Level::Sum => 5,
+        }
+    }
+}
+
+impl Frame {
+    /// Whether this waits for its last operand, and binds at least as tightly as the level.
+    pub fn binds_at(&self, level: Level) -> bool
+        ensures { result ≡ nat_le (rank_of level) (level_of (frame_of self.now)) }
+    {
+        match self.level() {
+            Some(own) => own.rank() >= level.rank(),
+            None => false,
+        }
+    }
+
+    // How tightly what waits for its last operand binds; None of a bracket, and of what waits for more.
+    fn level(&self) -> Option<Level>
+        ensures { MatchOption result (level_of (frame_of self.now) ≡ 0) (λ own. level_of (frame_of self.now) ≡ rank_of own) }
+    {
+        match self {
+            Frame::Chain(Operator::Or, _) => Some(Level::Or),
+            Frame::Chain(_, _) => Some(Level::And),
+            Frame::Not(_) => Some(Level::Not),
+            Frame::Binary(Operator::Add, _) => Some(Level::Sum),
+            Frame::Binary(_, _) | Frame::Like(_, _) | Frame::Upper { .. } => Some(
+                Level::Comparison,
+            ),
+            _ => None,
+        }
+    }
+}

@@ -1,0 +1,144 @@
+// Nodes over operands that were read.
+ghost use Rattle.std.specs.Prelude.{◌≡◌, ℕ, [], ◌∷◌, map, IfOk};
+ghost use Rattle.vx_fn.specs.Views.{function_of};
+ghost use Rattle.vx_tree.specs.Trees.{root};
+ghost use Rattle.vx_tree.specs.Views.{tree_of, trees_from};
+ghost use Rattle.vx_source_grammar.specs.Joining.{over};
+ghost use Rattle.vx_source_grammar.specs.Nodes.{heights_of};
+ghost use Rattle.vx_source_operands.specs.Places.{ReadsUpTo};
+ghost use Rattle.vx_source_operands.specs.Views.{operand_of, operands_of};
+
+use crate::{Operand, Places};
+use std::alloc::{AllocError, Global};
+use std::rc::Rc;
+use vx_fn::ScalarFnRef;
+use vx_source_tokens::{Expected, Found, ParseError};
+use vx_source_types::expected;
+use vx_tree::Expression;
+
+/// The scope root, read from these bytes.
+pub fn root(alloc: Global, start: usize, end: usize) -> Result<Operand, AllocError>
+    ensures tree { IfOk result (λ made. operand_of made ≡ root) }
+{
+    Ok(Operand {
+        tree: Box::new(alloc, Expression::Root)?,
+        height: 0,
+        places: Places {
+            start,
+            end,
+            children: Vec::new(alloc),
+        },
+    })
+}
+
+/// The operand between parentheses, which stand in these bytes.
+pub fn enclosed(operand: Operand, start: usize, end: usize) -> Operand
+    ensures tree { operand_of result ≡ operand_of operand }
+{
+    let Operand {
+        tree,
+        height,
+        places,
+    } = operand;
+    Operand {
+        tree,
+        height,
+        places: Places {
+            start,
+            end,
+            children: places.children,
+        },
+    }
+}
+
+/// The node of the function over the operands, read from these bytes. Refuses with `LessNesting`, at what was found, one
+/// that is higher than the room.
+pub fn node(
+    alloc: Global,
+    scalar_fn: ScalarFnRef,
+    operands: Vec<Operand>,
+    bytes: (usize, usize),
+    room: usize,
+    found: &Found,
+) -> Result<Operand, ParseError>
+    ensures reads { ReadsUpTo found.now.at operand_of result (over (function_of scalar_fn) (operands_of operands.items) room) }
+{
+    let highest = highest(operands.as_slice());
+    if highest >= room {
+        return Err(expected(found, Expected::LessNesting));
+    }
+    let (trees, children) = taken_apart(alloc, operands)?;
+    let (start, end) = bytes;
+    let tree = Expression::Scalar {
+        scalar_fn,
+        children: Rc::new(alloc, trees)?,
+    };
+    Ok(Operand {
+        tree: Box::new(alloc, tree)?,
+        height: highest + 1,
+        places: Places {
+            start,
+            end,
+            children,
+        },
+    })
+}
+
+// The height of the highest of them, 0 of none.
+#[tactic(auto, using(crate::proofs::Heights::heights_next))]
+fn highest(operands: &[Operand]) -> usize
+    ensures { result ≡ heights_of (trees_from (operands_of operands.now)) }
+{
+    let mut highest = 0;
+    for operand in operands {
+        highest = operand.height.max(highest);
+    }
+    highest
+}
+
+// The trees and the places of the operands.
+fn taken_apart(
+    alloc: Global,
+    operands: Vec<Operand>,
+) -> Result<(Vec<Expression>, Vec<Places>), AllocError>
+    ensures { IfOk result (λ apart. map tree_of apart.0.items ≡ operands_of operands.items) }
+{
+    let mut trees = Vec::with_capacity(alloc, operands.len())?;
+    let mut places = Vec::with_capacity(alloc, operands.len())?;
+    for operand in operands {
+        trees.push(Box::into_inner(operand.tree))?;
+        places.push(operand.places)?;
+    }
+    Ok((trees, places))
+}
+
+/// The node of the function over one operand, read from these bytes. Refuses as `node` does.
+pub fn node_over(
+    alloc: Global,
+    scalar_fn: ScalarFnRef,
+    operand: Operand,
+    bytes: (usize, usize),
+    room: usize,
+    found: &Found,
+) -> Result<Operand, ParseError>
+    ensures reads { ReadsUpTo found.now.at operand_of result (over (function_of scalar_fn) (operand_of operand ∷ []) room) }
+{
+    let operands = Vec::from_array(alloc, [operand])?;
+    node(alloc, scalar_fn, operands, bytes, room, found)
+}
+
+/// The node of the function over two operands, read from the first to the second. Refuses as `node` does.
+pub fn node_between(
+    alloc: Global,
+    scalar_fn: ScalarFnRef,
+    lhs: Operand,
+    rhs: Operand,
+    room: usize,
+    found: &Found,
+) -> Result<Operand, ParseError>
+    ensures reads { ReadsUpTo found.now.at operand_of result (over (function_of scalar_fn) (operand_of lhs ∷ operand_of rhs ∷ []) room) }
+{
+    let bytes = (lhs.places.start, rhs.places.end);
+    let operands = Vec::from_array(alloc, [lhs, rhs])?;
+    node(alloc, scalar_fn, operands, bytes, room, found)
+}

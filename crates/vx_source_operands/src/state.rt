@@ -1,0 +1,135 @@
+// How far an expression is read.
+ghost use Rattle.std.specs.Prelude.{◌≡◌, ◌≤◌, ℕ};
+ghost use Rattle.vx_source_tokens.specs.declared.error.ParseError.TheVariants.{Unexpected};
+ghost use Rattle.vx_source_dtype.specs.Reading.{more};
+ghost use Rattle.vx_source_grammar.specs.States.{expression_start, tight};
+ghost use Rattle.vx_source_operands.specs.Views.{frames_of, mode_of, operand_of, reader_of, step_of};
+
+use crate::{Bracket, Frame, Operand};
+use std::alloc::Global;
+use vx_fn::ScalarFnRef;
+use vx_source_tokens::{Expected, Found, ParseError};
+use vx_source_types::{Draft, TypeReader, ValueReader};
+use vx_types::FieldName;
+
+/// What a type is read for.
+#[derive(Drop)]
+pub enum TypeFor {
+    /// A value that begins at that byte.
+    Literal(Draft, usize),
+    /// A cast of what stands before `::`.
+    Cast(Operand),
+    /// A cast between parentheses.
+    CastCall(Operand, Bracket),
+}
+
+/// What is due next.
+#[derive(Drop)]
+pub enum Mode {
+    /// An operand.
+    Operand,
+    /// The first child of a call, or its end.
+    FirstChild,
+    /// An operand is there; a postfix may follow.
+    Tight(Operand),
+    /// An operand is there that no postfix and no comparison may follow.
+    Loose(Operand),
+    /// A word is there that begins and ends at these bytes: a field, or the name of a function.
+    Word(FieldName, usize, usize),
+    /// `vortex.` is there, from the first byte to the other.
+    Vortex(FieldName, usize, usize),
+    /// `vortex.` and a name, from the first byte to the other.
+    Id(FieldName, FieldName, usize, usize),
+    /// The options of that function, read so far, with so many square brackets open inside, the nesting that is allowed in
+    /// them, and the byte where the function begins.
+    Options(FieldName, Vec<Found>, usize, usize, usize),
+    /// The bracket before the children of the function, which begins at that byte.
+    Children(Box<ScalarFnRef>, usize),
+    /// A dot is there.
+    Dot(Operand),
+    /// A brace is there, behind an operand.
+    Selection(Operand),
+    /// The names of an exclusion, or the closing brace.
+    Exclusion(Operand),
+    /// The names of a selection so far, left out or kept: another name is due.
+    SelectionName(Operand, bool, Vec<FieldName>),
+    /// The names of a selection so far, left out or kept: a comma or the closing brace is due.
+    SelectionNext(Operand, bool, Vec<FieldName>),
+    /// The first name of a struct that is packed, or its end. The struct begins at that byte.
+    FirstPacked(usize),
+    /// The name of a child of a struct that is packed.
+    Packed,
+    /// The colon behind the name.
+    PackedValue,
+    /// A struct that is packed, but for a question mark, from the first byte to the other.
+    PackEnd(Vec<FieldName>, Vec<Operand>, usize, usize),
+    /// `not` behind an operand.
+    NotLike(Operand),
+    /// `is` behind an operand.
+    Is(Operand),
+    /// `is not` behind an operand.
+    IsNot(Operand),
+    /// `case`: the first `when` is due.
+    Case,
+    /// A value that begins at that byte and has ended at the other so far.
+    Value(ValueReader, usize, usize),
+    /// A type, the last token of which ended at that byte.
+    Type(TypeFor, TypeReader, usize),
+}
+
+/// An expression that is being read.
+#[derive(Drop)]
+pub struct ExpressionReader {
+    /// What is open, the innermost last.
+    pub frames: Vec<Frame>,
+    /// What is due.
+    pub mode: Mode,
+    /// How much more nesting is allowed inside.
+    pub room: usize,
+}
+
+/// What a token makes of an expression that is being read.
+#[derive(Drop)]
+pub enum ExpressionStep {
+    /// The token is a part of it.
+    More(ExpressionReader),
+    /// The expression has ended before the token.
+    Done(Operand),
+}
+
+impl ExpressionReader {
+    /// An expression of which nothing is read yet, with that much nesting allowed.
+    pub fn new(alloc: Global, room: usize) -> ExpressionReader
+        ensures { reader_of result ≡ expression_start room }
+    {
+        ExpressionReader {
+            frames: Vec::new(alloc),
+            mode: Mode::Operand,
+            room,
+        }
+    }
+}
+
+/// The expression goes on.
+pub fn more(frames: Vec<Frame>, mode: Mode, room: usize) -> ExpressionStep
+    ensures { step_of result ≡ more (record { frames = frames_of frames.items; mode = mode_of mode; room = room }) }
+{
+    ExpressionStep::More(ExpressionReader { frames, mode, room })
+}
+
+/// An operand is there, and a postfix may follow.
+pub fn tight(frames: Vec<Frame>, room: usize, operand: Operand) -> ExpressionStep
+    ensures { step_of result ≡ more (record { frames = frames_of frames.items; mode = tight (operand_of operand); room = room }) }
+{
+    more(frames, Mode::Tight(operand), room)
+}
+
+/// What began at that byte, which lies before the token, isn't what would have stood right.
+pub fn begun_at(start: usize, found: &Found, expected: Expected) -> ParseError
+    ensures { (place : ℕ) × (place ≤ found.now.at) × (result ≡ Unexpected place expected) }
+{
+    ParseError::Unexpected {
+        at: start.min(found.at),
+        expected,
+    }
+}

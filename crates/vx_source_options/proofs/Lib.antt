@@ -1,0 +1,7 @@
+pub mod Betweens
+pub mod Cases
+pub mod Keywords
+pub mod NameLists
+pub mod Packs
+pub mod ReadAll
+pub mod Selections

@@ -1,0 +1,4 @@
+pub mod NameParts
+pub mod Parts
+pub mod ScalarViews
+pub mod Views
