@@ -93,7 +93,11 @@ pub enum WordsKind {
     Read,
     Reader,
     FirstMatch,
+    Collected,
+    CollectedBound,
+    CollectedDepth,
     ByChance,
+    TextsByChance,
     PeeledText,
 }
 
@@ -117,7 +121,10 @@ impl Kind {
                 | WordsKind::NodeType
                 | WordsKind::Kept
                 | WordsKind::Union
-                | WordsKind::Column => 2,
+                | WordsKind::Column
+                | WordsKind::Collected
+                | WordsKind::CollectedBound
+                | WordsKind::CollectedDepth => 2,
                 WordsKind::Joined => 3,
                 WordsKind::FirstMatch | WordsKind::PeeledText => 4,
                 _ => 1,
@@ -212,7 +219,11 @@ fn of_words(name: &str) -> Option<WordsKind> {
         "read" => WordsKind::Read,
         "reader" => WordsKind::Reader,
         "first match" => WordsKind::FirstMatch,
+        "collected" => WordsKind::Collected,
+        "collected bound" => WordsKind::CollectedBound,
+        "collected depth" => WordsKind::CollectedDepth,
         "by chance" => WordsKind::ByChance,
+        "texts by chance" => WordsKind::TextsByChance,
         "peeled text" => WordsKind::PeeledText,
         _ => return None,
     })
