@@ -4,6 +4,7 @@ use std::alloc::Global;
 use std::process::Abort;
 use std::test::Fail;
 use vx_build::{bound, root};
+use vx_source::{parse, parse_type};
 use vx_test_samples::{boxed, dtype, i32_type, reads};
 use vx_tree::Nullability::{NonNullable, Nullable};
 use vx_tree::test_harness::struct_dtype;
@@ -20,8 +21,8 @@ pub const RANGE_OF_X: &str = "x >= null::i32? and x <= 5";
 fn a_range_has_its_text_and_type(rt: HostRuntime) -> Result<(), Fail> {
     let alloc = rt.alloc();
     let text = "(($.x >= null) and ($.x <= 5i32))";
-    let scope = dtype(alloc, "{x=i32}")?;
-    let source = boxed(alloc, RANGE_OF_X)?;
+    let scope = parse_type(alloc, "{x=i32}")?;
+    let source = Box::new(alloc, parse(alloc, RANGE_OF_X)?)?;
     let bound = source.bind(alloc, &scope)?;
     assert!(rt; *bound.dtype() == DType::Bool(Nullable));
     assert!(rt; bound.is_root_bound_to(&scope));
