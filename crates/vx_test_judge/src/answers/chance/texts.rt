@@ -117,7 +117,7 @@ fn with_another_character(
     seeds: &mut Seeds,
     text: &str,
 ) -> Result<String, AllocError> {
-    let place = seeds.next() % text.len().max(1);
+    let place = seeds.below(text.len());
     let turn = Turn::by_chance(seeds);
     let mut other = String::new(alloc);
     for (i, character) in text.chars().enumerate() {
@@ -135,7 +135,7 @@ fn with_another_character(
 const MARKS: [char; 10] = [' ', '(', ')', '[', ']', '{', '}', ',', '.', ':'];
 
 fn with_another_piece(alloc: Global, seeds: &mut Seeds, text: &str) -> Result<String, AllocError> {
-    let place = seeds.next() % text.split_inclusive(MARKS).count().max(1);
+    let place = seeds.below(text.split_inclusive(MARKS).count());
     let turn = Turn::by_chance(seeds);
     let mut other = String::new(alloc);
     for (i, piece) in text.split_inclusive(MARKS).enumerate() {
