@@ -16,11 +16,11 @@ fn leave(
     rt: &(impl Abort + Print),
     alloc: Global,
     passes: &[Pass],
-    text: &str,
+    tree: &str,
     text: &str,
 ) -> Result<(), Fail> {
     let scope = dtype(alloc, "{x=i32?}")?;
-    let bound = bound(alloc, text, &scope)?;
+    let bound = bound(alloc, tree, &scope)?;
     let before = format!(in alloc; "{bound}")?;
     let shared = Box::new(alloc, (*bound).clone()?)?;
     rt.println("called")?;

@@ -117,12 +117,12 @@ fn optimize_recursive_of_items_and_cases(rt: HostRuntime) -> Result<(), Fail> {
 fn decides(
     rt: &(impl Abort + Print),
     alloc: Global,
-    text: &str,
+    tree: &str,
     before: &str,
     text: &str,
 ) -> Result<(), Fail> {
     let scope = dtype(alloc, "{x=i32?,y=i32}")?;
-    let bound = bound(alloc, text, &scope)?;
+    let bound = bound(alloc, tree, &scope)?;
     rt.println("called")?;
     let answer = optimize_with(alloc, &BranchRules, &*bound);
     assert!(rt; reads(&*bound, before));

@@ -97,11 +97,11 @@ const DECIDED: Planned<'static> = Planned {
 fn plans(
     rt: &(impl Abort + Print),
     alloc: Global,
-    text: &str,
+    tree: &str,
     text: &str,
     planned: Planned,
 ) -> Result<(), Fail> {
-    let source = boxed(alloc, text)?;
+    let source = boxed(alloc, tree)?;
     let scope = dtype(alloc, SCOPE)?;
     rt.println("called")?;
     let answer = plan(alloc, &*source, &scope);

@@ -130,7 +130,7 @@ fn is_handed_back<N: Node + PartialEq>(rt: &impl Abort, alloc: Global, tree: Box
 
 /// `($.col1 = $.col2)`, bound
 fn bound_equality(alloc: Global) -> Result<Box<BoundExpression>, Fail> {
-    over_harness(alloc, "col1 col2 =")
+    over_harness(alloc, "col1 = col2")
 }
 
 #[test]
