@@ -93,12 +93,18 @@ pub enum WordsKind {
     Read,
     Reader,
     FirstMatch,
-    Collected,
-    CollectedBound,
-    CollectedDepth,
+    Collected(CollectKind),
     ByChance,
     TextsByChance,
     PeeledText,
+}
+
+/// What a line asks of trees that are joined.
+#[derive(Clone, Copy)]
+pub enum CollectKind {
+    Text,
+    Bound,
+    Depth,
 }
 
 impl Kind {
@@ -122,9 +128,7 @@ impl Kind {
                 | WordsKind::Kept
                 | WordsKind::Union
                 | WordsKind::Column
-                | WordsKind::Collected
-                | WordsKind::CollectedBound
-                | WordsKind::CollectedDepth => 2,
+                | WordsKind::Collected(_) => 2,
                 WordsKind::Joined => 3,
                 WordsKind::FirstMatch | WordsKind::PeeledText => 4,
                 _ => 1,
@@ -219,9 +223,9 @@ fn of_words(name: &str) -> Option<WordsKind> {
         "read" => WordsKind::Read,
         "reader" => WordsKind::Reader,
         "first match" => WordsKind::FirstMatch,
-        "collected" => WordsKind::Collected,
-        "collected bound" => WordsKind::CollectedBound,
-        "collected depth" => WordsKind::CollectedDepth,
+        "collected" => WordsKind::Collected(CollectKind::Text),
+        "collected bound" => WordsKind::Collected(CollectKind::Bound),
+        "collected depth" => WordsKind::Collected(CollectKind::Depth),
         "by chance" => WordsKind::ByChance,
         "texts by chance" => WordsKind::TextsByChance,
         "peeled text" => WordsKind::PeeledText,

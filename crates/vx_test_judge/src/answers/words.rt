@@ -23,10 +23,7 @@ pub fn answer(
 ) -> Result<String, Unread> {
     match (kind, columns) {
         (WordsKind::Like, [pattern, text]) => like(alloc, pattern, text),
-        (WordsKind::Error, [name]) => {
-            let refusal = refusal(alloc, name)?;
-            Ok(format!(in alloc; "{refusal}")?)
-        }
+        (WordsKind::Error, [name]) => error_text(alloc, name),
         (WordsKind::Function, [tree]) => shown_function(alloc, tree),
         (WordsKind::ChildNames, [tree]) => child_names(alloc, tree),
         (WordsKind::NodeType, [tree, types]) => node_type(alloc, tree, types),
@@ -49,12 +46,17 @@ pub fn answer(
         (WordsKind::PeeledText, [times, open, close, tree]) => {
             peeled_text(alloc, times, open, close, scene.text(tree))
         }
-        (
-            WordsKind::Collected | WordsKind::CollectedBound | WordsKind::CollectedDepth,
-            [sign, items],
-        ) => collected(alloc, kind, scene, sign, items),
+        (WordsKind::Collected(kind), [sign, items]) => {
+            collected(alloc, kind, scene, sign, items)
+        }
         (WordsKind::ByChance, [seed]) => by_chance(alloc, seed),
         (WordsKind::TextsByChance, [seed]) => texts_by_chance(alloc, seed),
         _ => Err(Unread::Word("another number of columns")),
     }
+}
+
+// The text of the refusal of that name.
+fn error_text(alloc: Global, name: &str) -> Result<String, Unread> {
+    let refusal = refusal(alloc, name)?;
+    Ok(format!(in alloc; "{refusal}")?)
 }

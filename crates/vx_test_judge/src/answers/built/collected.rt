@@ -4,7 +4,7 @@ use super::compared;
 use super::constructors::Constructors;
 use super::plain::OfSources;
 use super::walk::built_by;
-use crate::kind::WordsKind;
+use crate::kind::CollectKind;
 use crate::scene::Scene;
 use crate::told::{refused, typed};
 use std::alloc::Global;
@@ -15,7 +15,7 @@ use vx_tree::Expression;
 /// to be that of a chain of them; its depth; or text and type of the bound tree, or its refusal.
 pub fn collected(
     alloc: Global,
-    kind: WordsKind,
+    kind: CollectKind,
     scene: &Scene,
     sign: &str,
     items: &str,
@@ -28,12 +28,12 @@ pub fn collected(
     let items = repeated(alloc, items)?;
     let items = items.as_str();
     match kind {
-        WordsKind::CollectedBound => collected_bound(alloc, scene, by_and, items),
-        WordsKind::CollectedDepth => {
+        CollectKind::Bound => collected_bound(alloc, scene, by_and, items),
+        CollectKind::Depth => {
             let tree = collected_by(alloc, &OfSources, by_and, items)?;
             Ok(format!(in alloc; "{}", tree.depth(alloc)?)?)
         }
-        _ => {
+        CollectKind::Text => {
             let tree = collected_by(alloc, &OfSources, by_and, items)?;
             Ok(compared(alloc, &tree, &*chain(alloc, sign, items)?)?)
         }
