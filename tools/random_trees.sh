@@ -2,8 +2,9 @@
 # Makes trees by chance and evaluates each plainly, through each pass, through all passes and split,
 # and by a scan: `tools/random_trees.sh [SEED [COUNT]]`, from seed 1 on and 1,000,000 of them unless
 # told otherwise. Prints a line for each 10,000 trees, and ends with status 1 at the first of these
-# in which some tree is answered otherwise than plainly, with the one of the shortest words. The gate
-# runs the same over 2,000 trees; `rt ci` or `rt run vx_rows` has built the program.
+# in which some tree is answered otherwise than plainly, with the one of the shortest text, or is
+# written as a text that reads back as another. The gate runs the same over 2,000 trees; `rt ci` or
+# `rt run vx_rows` has built the program.
 set -eu
 cd "$(dirname "$0")/.."
 seed=${1:-1}

@@ -33,20 +33,20 @@ def wide(n):
 def chosen(n):
     """A scope of n fields, of which a selection keeps half or leaves half out; a pack of all of them."""
     names = [f"c{i}" for i in range(n)]
-    half, last = ",".join(names[: n // 2]), names[-1]
+    half, last = ", ".join(names[: n // 2]), names[-1]
     scope = [f"scope | {{{n}*c#=i32?}}", f"batch | {{{n}*7}}"]
     return scope, None, [
-        ("type of half of them", f"type | $ {{{half}}} .c0 | i32?"),
-        ("type of the others", f"type | $ {{~{half}}} .{last} | i32?"),
-        ("rows of the others", f"rows | $ {{~{half}}} .{last} | [7i32]"),
-        ("paths of the others", f"paths | $ {{~{half}}} .{last} | $.{last}"),
-        ("optimized item of a pack", f"optimized | {' '.join(names)} pack({','.join(names)}) .{last} | $.{last} : i32?"),
+        ("type of half of them", f"type | ${{{half}}}.c0 | i32?"),
+        ("type of the others", f"type | ${{~ {half}}}.{last} | i32?"),
+        ("rows of the others", f"rows | ${{~ {half}}}.{last} | [7i32]"),
+        ("paths of the others", f"paths | ${{~ {half}}}.{last} | $.{last}"),
+        ("optimized item of a pack", f"optimized | pack({', '.join(f'{it}: {it}' for it in names)}).{last} | $.{last} : i32?"),
     ]
 
 
 def conjuncts(n):
-    """n conjuncts over one field, collected in rounds."""
-    tree = f"times({n}) a # >= end all({n})"
+    """n conjuncts over one field, in a chain, which is joined in rounds."""
+    tree = f"times({n - 1}) a >= # and end a >= {n - 1}"
     rounds, left = 0, n
     while left > 1:
         rounds, left = rounds + 1, (left + 1) // 2
@@ -68,7 +68,9 @@ def conjuncts(n):
 def ranges(n, joined=None):
     """n fields, each between two bounds: the lower bounds all before the upper ones, joined in rounds or
     in a chain to the right."""
-    tree = joined or f"times({n}) c# 0 >= end all({n}) times({n}) c# 9 < end all({n}) and"
+    last = f"c{n - 1}"
+    lower, upper = (f"times({n - 1}) c# {sign} and end {last} {sign}" for sign in (">= 0", "< 9"))
+    tree = joined or f"({lower}) and ({upper})"
     return [f"scope | {{{n}*c#=i32}}", f"batch | {{{n}*7}}"], None, [
         ("type", f"type | {tree} | bool"),
         ("fused rows", f"fused rows | {tree} | [true]"),
@@ -79,7 +81,8 @@ def ranges(n, joined=None):
 
 def chained(n):
     """The same in a chain to the right."""
-    return ranges(n, f"times({n}) c# 0 >= end times({n}) c# 9 < end times({2 * n - 1}) and end")
+    lower, upper = f"times({n}) c# >= 0 and ( end", f"times({n - 1}) c# < 9 and ( end c{n - 1} < 9"
+    return ranges(n, f"{lower} {upper} times({2 * n - 1}) ) end")
 
 
 def name(n):
@@ -94,20 +97,9 @@ def name(n):
     ]
 
 
-def shared(n):
-    """A tree in which one node is shared, n times over: 2^n ways lead down."""
-    tree = f"true times({n}) dup and end"
-    return ["scope | {a=i32}", "batch | {7}"], None, [
-        ("type", f"type | {tree} | bool"),
-        ("optimized or none", f"optimized or none | {tree} | none"),
-        ("rows", f"rows | {tree} | [true]"),
-        ("size", f"size | {tree} | {2 ** (n + 1) - 1}"),
-    ]
-
-
 def twice(n):
     """A field that is kept twice, n times over: its type has 2^n fields at the bottom."""
-    tree = f"x times({n}) pack(x) {{x,x}} end"
+    tree = f"times({n}) pack(x: end x times({n}) ){{x, x}} end"
     item = f"{tree} times({n}) .x end"
     return ["scope | {x=i32}", "batch | {7}"], None, [
         ("size", f"size | {tree} | {2 * n + 2}"),
@@ -143,7 +135,6 @@ def main():
         (f"{n // 100} ranges", ranges(n // 100)),
         (f"{n // 100} ranges in a chain", chained(n // 100)),
         (f"a name of {10 * n} bytes", name(n)),
-        *[(f"shared {k} times over", shared(k)) for k in (10, 15, 20)],
         *[(f"kept twice {k} times over", twice(k)) for k in (5, 10, 15)],
     ]
     print("| Shape | Line | Time |\n|---|---|---:|")

@@ -7,7 +7,7 @@ const DEEP: &str = r#"
 ## A truth turned ten thousand times
 scope | {m=bool?}
 batch | {true} {null}
-tree | m times(10000) not end
+tree | times(10000) not end m
 type | " | bool?
 depth | " | 10002
 text length | " | 120003
@@ -29,12 +29,12 @@ any query | " | [true, null]
 planned paths | " | $.m
 scan | " | [true, null] : bool?
 # turned once less
-equal | " | m times(9999) not end | different
+equal | " | times(9999) not end m | different
 
 ## Ten thousand Ands one after another, as they are written without parentheses
 scope | {m=bool}
 batch | {true} {false}
-tree | m times(10000) m and end
+tree | times(10000) ( end m times(10000) and m) end
 type | " | bool
 depth | " | 10002
 text length | " | 100003
@@ -56,7 +56,7 @@ planned paths | " | $.m
 scan | " | [true, false] : bool
 
 ## The same from right to left
-tree | times(10001) m end times(10000) and end
+tree | times(10000) m and ( end m times(10000) ) end
 type | " | bool
 depth | " | 10002
 text length | " | 100003
@@ -80,7 +80,7 @@ scan | " | [true, false] : bool
 ## Of an item of a pack, five thousand times over, the field is left
 scope | {x=i32?}
 batch | {10} {null}
-tree | x times(5000) pack(a) .a end
+tree | times(5000) pack(a: end x times(5000) ).a end
 type | " | i32?
 depth | " | 10002
 equal | " | " | equal
@@ -107,7 +107,7 @@ scan | " | [10i32, null] : i32?
 ## A condition of a condition of a condition
 scope | {m=bool}
 batch | {true} {false}
-tree | m times(10000) true false case end
+tree | times(10000) if( end m times(10000) , true, false) end
 type | " | bool
 depth | " | 10002
 equal | " | " | equal

@@ -25,7 +25,7 @@ const BYTES: usize = 12 + 10_001 * 18 + 4 * (10_000 * 10_001 / 2) + 9_999 * 12 +
 
 #[test]
 fn a_tree_of_ten_thousand_levels_is_drawn(rt: HostRuntime) -> Result<(), Fail> {
-    let source = boxed(rt.alloc(), "m times(10000) not end")?;
+    let source = boxed(rt.alloc(), "times(10000) not end m")?;
     let mut drawn = Counted { bytes: 0 };
     assert!(rt; write!(drawn, "{}", source.display_tree()).is_ok());
     assert_eq!(rt; drawn.bytes, BYTES);

@@ -21,8 +21,8 @@ fn folded(alloc: Global, e: &BoundExpression) -> VortexResult<BoundLabels<u64>> 
 #[test]
 fn labels_are_merged_from_the_left(rt: HostRuntime) -> Result<(), Fail> {
     let alloc = rt.alloc();
-    let e = tree(alloc, "a.x 1 >=")?;
-    let apart = tree(alloc, "a.x 1 >=")?;
+    let e = tree(alloc, "a.x >= 1")?;
+    let apart = tree(alloc, "a.x >= 1")?;
     let labels = folded(alloc, &*e).expect(&rt, "memory");
     // $ 1, $.a 3, $.a.x 5, the literal 1, and (1 * 2 + 5) * 2 + 1.
     assert_eq!(rt; labels.len(), 5);

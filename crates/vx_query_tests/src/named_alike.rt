@@ -63,7 +63,7 @@ fn key_of(alloc: Global, e: &BoundExpression) -> VortexResult<Vec<Key>> {
 #[test]
 fn equal_pieces_are_two(rt: HostRuntime) -> Result<(), Fail> {
     let alloc = rt.alloc();
-    let e = tree(alloc, "b 5 < b 5 < and")?;
+    let e = tree(alloc, "b < 5 and b < 5")?;
     let keys = |node: &BoundExpression| key_of(alloc, node);
     let annotations = direct_bound_annotations(alloc, &*e, keys).expect(&rt, "memory");
     let split = partition_bound_annotations(alloc, Box::into_inner(e), annotations);
@@ -76,7 +76,7 @@ fn equal_pieces_are_two(rt: HostRuntime) -> Result<(), Fail> {
 #[test]
 fn a_name_is_taken_once(rt: HostRuntime) -> Result<(), Fail> {
     let alloc = rt.alloc();
-    let e = tree(alloc, "b 5 < c 5 < and")?;
+    let e = tree(alloc, "b < 5 and c < 5")?;
     let keys = |node: &BoundExpression| key_of(alloc, node);
     let split = partition_bound(alloc, Box::into_inner(e), keys);
     assert!(rt; matches!(&split, Err(VortexError::PartitionNameTaken(p)) if p.as_str() == "p"));

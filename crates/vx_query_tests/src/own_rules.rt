@@ -33,10 +33,10 @@ impl Rule for Refused {
 #[test]
 fn a_rule_of_our_own_is_applied(rt: HostRuntime) -> Result<(), Fail> {
     let alloc = rt.alloc();
-    let e = bound(alloc, "b 5 < not not not", &scope(alloc)?)?;
+    let e = bound(alloc, "not not not b < 5", &scope(alloc)?)?;
     let left = optimize_with(alloc, &DoubleNegation, &*e)?;
     assert!(rt; matches!(&left, Some(left) if reads(left, "vortex.not(($.b < 5i32))")));
-    let e = bound(alloc, "b 5 < not", &scope(alloc)?)?;
+    let e = bound(alloc, "not b < 5", &scope(alloc)?)?;
     assert!(rt; optimize_with(alloc, &DoubleNegation, &*e)?.is_none());
     Ok(())
 }
@@ -45,7 +45,7 @@ fn a_rule_of_our_own_is_applied(rt: HostRuntime) -> Result<(), Fail> {
 #[test]
 fn a_refusal_of_a_rule_is_passed_on(rt: HostRuntime) -> Result<(), Fail> {
     let alloc = rt.alloc();
-    let e = bound(alloc, "b pack(p) .p 5 <", &scope(alloc)?)?;
+    let e = bound(alloc, "pack(p: b).p < 5", &scope(alloc)?)?;
     let left = optimize_with(alloc, &Refused, &*e);
     assert!(rt; matches!(left, Err(VortexError::OutOfMemory)));
     assert!(rt; reads(&*e, "(pack(p: $.b).p < 5i32)"));

@@ -9,7 +9,7 @@ use vx_test_samples::{Unread, bound, dtype};
 use vx_tree::{BoundExpression, DType};
 
 /// Two conditions, of a field each.
-pub const CONDITIONS: &str = "a.x 1 >= b 5 < and";
+pub const CONDITIONS: &str = "a.x >= 1 and b < 5";
 
 pub const SCOPE: &str = "{a={x=i32,y=i32},b=i32,c=i32}";
 
@@ -17,9 +17,9 @@ pub fn scope(alloc: Global) -> Result<DType, Unread> {
     dtype(alloc, SCOPE)
 }
 
-/// The words over that scope.
-pub fn tree(alloc: Global, words: &str) -> Result<Box<BoundExpression>, Fail>
+/// The tree of the text over that scope.
+pub fn tree(alloc: Global, text: &str) -> Result<Box<BoundExpression>, Fail>
     ensures { IfOk result (λ b. WellTyped (bound_of b.value)) }
 {
-    Ok(bound(alloc, words, &scope(alloc)?)?)
+    Ok(bound(alloc, text, &scope(alloc)?)?)
 }

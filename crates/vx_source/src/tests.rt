@@ -1,20 +1,16 @@
-// Expressions, read and written again.
-use crate::{SourceText, parse};
+// What no line of a table says of source text: line breaks, nesting, sizes, and the bytes of nodes.
+use crate::parse_with;
 use std::alloc::Global;
 use std::test::Fail;
 
-mod chance;
-mod forms;
+mod lines;
+mod nesting;
 mod places;
-mod refused;
 mod sizes;
 
-// The source text of what is read, or the refusal.
-fn again(alloc: Global, text: &str) -> Result<String, Fail> {
-    match parse(alloc, text) {
-        Ok(expression) => Ok(format!(in alloc; "{}", SourceText(&expression))?),
-        Err(error) => Ok(format!(in alloc; "{error}")?),
-    }
+// Whether an expression is read of the text where so much nesting is allowed.
+fn is_read(alloc: Global, text: &str, nesting: usize) -> bool {
+    parse_with(alloc, text, nesting).is_ok()
 }
 
 // The text so many times.

@@ -30,9 +30,9 @@ pub fn answer(
     columns: &[&str],
 ) -> Result<String, Unread> {
     match (kind, columns) {
-        (Kind::OfSource(kind), [words]) => sources::answer(alloc, kind, scene, words),
-        (Kind::OfBound(kind), [words]) => bound::answer(alloc, kind, scene, words),
-        (Kind::OfTwo(kind), [by, words]) => pairs::answer(alloc, kind, scene, by, words),
+        (Kind::OfSource(kind), [tree]) => sources::answer(alloc, kind, scene, tree),
+        (Kind::OfBound(kind), [tree]) => bound::answer(alloc, kind, scene, tree),
+        (Kind::OfTwo(kind), [by, tree]) => pairs::answer(alloc, kind, scene, by, tree),
         (Kind::OfWords(kind), _) => words::answer(alloc, kind, scene, columns),
         _ => Err(Unread::Word("another number of columns")),
     }

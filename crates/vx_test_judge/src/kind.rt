@@ -93,8 +93,18 @@ pub enum WordsKind {
     Read,
     Reader,
     FirstMatch,
+    Collected(CollectKind),
     ByChance,
+    TextsByChance,
     PeeledText,
+}
+
+/// What a line asks of trees that are joined.
+#[derive(Clone, Copy)]
+pub enum CollectKind {
+    Text,
+    Bound,
+    Depth,
 }
 
 impl Kind {
@@ -117,7 +127,8 @@ impl Kind {
                 | WordsKind::NodeType
                 | WordsKind::Kept
                 | WordsKind::Union
-                | WordsKind::Column => 2,
+                | WordsKind::Column
+                | WordsKind::Collected(_) => 2,
                 WordsKind::Joined => 3,
                 WordsKind::FirstMatch | WordsKind::PeeledText => 4,
                 _ => 1,
@@ -212,7 +223,11 @@ fn of_words(name: &str) -> Option<WordsKind> {
         "read" => WordsKind::Read,
         "reader" => WordsKind::Reader,
         "first match" => WordsKind::FirstMatch,
+        "collected" => WordsKind::Collected(CollectKind::Text),
+        "collected bound" => WordsKind::Collected(CollectKind::Bound),
+        "collected depth" => WordsKind::Collected(CollectKind::Depth),
         "by chance" => WordsKind::ByChance,
+        "texts by chance" => WordsKind::TextsByChance,
         "peeled text" => WordsKind::PeeledText,
         _ => return None,
     })

@@ -48,17 +48,17 @@ impl Scene {
         Ok(Column::try_new(dtype, values(alloc, rows)?)?)
     }
 
-    /// The words, or those of the tree in place of a ditto mark.
-    pub fn words<'a>(&'a self, words: &'a str) -> &'a str {
-        if words == "\"" {
+    /// The text, or that of the tree in place of a ditto mark.
+    pub fn text<'a>(&'a self, text: &'a str) -> &'a str {
+        if text == "\"" {
             return self.tree.as_str();
         }
-        words
+        text
     }
 
-    /// The tree of the words.
-    pub fn source(&self, alloc: Global, words: &str) -> Result<Box<Expression>, Unread> {
-        boxed(alloc, self.words(words))
+    /// The source of the text.
+    pub fn source(&self, alloc: Global, text: &str) -> Result<Box<Expression>, Unread> {
+        boxed(alloc, self.text(text))
     }
 
     /// The source, bound to the scope.

@@ -1,14 +1,19 @@
-// What tables and tests are made of: trees, types and values as words, and texts compared as they are
-// written.
+// What tables and tests are made of: trees as source text, types and values as words, and texts
+// compared as they are written.
 #![tactic(auto)]
 
+mod literals;
+mod pieces;
 mod texts;
+mod times;
+mod trees;
+mod types;
 mod unread;
-mod words;
 
+pub use literals::{typed, value, values};
+pub use pieces::parted;
 pub use texts::reads;
+pub use times::repeated;
+pub use trees::{bound, boxed, column};
+pub use types::{dtype, i32_type, names};
 pub use unread::Unread;
-pub use words::{
-    ByParts, Maker, any_function, bound, boxed, column, dtype, i32_type, names, operator,
-    read_tree, selected, selection, typed, value, values,
-};

@@ -1,12 +1,15 @@
-// Why words aren't read.
+// Why words and trees aren't read.
 use std::alloc::{AllocError, AllocFailed};
 use std::fmt;
+use vx_source::ParseError;
 use vx_tree::VortexError;
 
-/// Why words aren't read: what is wrong with one of them, or what refuses a call that they stand for.
+/// Why words aren't read: what is wrong with one of them, where the source text of a tree isn't read,
+/// or what refuses a call that they stand for.
 #[derive(Drop)]
 pub enum Unread {
     Word(&'static str),
+    Text(ParseError),
     Refused(VortexError),
 }
 
@@ -14,6 +17,7 @@ impl fmt::Display for Unread {
     fn fmt<W: fmt::Write>(&self, f: &mut fmt::Formatter<W>) -> fmt::Result {
         match self {
             Unread::Word(why) => f.write_str(why),
+            Unread::Text(refusal) => write!(f, "{refusal}"),
             Unread::Refused(refusal) => write!(f, "{refusal}"),
         }
     }
@@ -24,6 +28,7 @@ impl fmt::Debug for Unread {
     fn fmt<W: fmt::Write>(&self, f: &mut fmt::Formatter<W>) -> fmt::Result {
         match self {
             Unread::Word(why) => f.write_str(why),
+            Unread::Text(refusal) => write!(f, "{refusal}"),
             Unread::Refused(refusal) => write!(f, "{refusal:?}"),
         }
     }
@@ -38,6 +43,15 @@ impl From<&'static str> for Unread {
 impl From<VortexError> for Unread {
     fn from(refusal: VortexError) -> Unread {
         Unread::Refused(refusal)
+    }
+}
+
+impl From<ParseError> for Unread {
+    fn from(refusal: ParseError) -> Unread {
+        match refusal {
+            ParseError::OutOfMemory => Unread::Refused(VortexError::OutOfMemory),
+            ParseError::Unexpected { .. } => Unread::Text(refusal),
+        }
     }
 }
 

@@ -25,21 +25,21 @@ fn numbers(alloc: Global, early: i128, late: i128) -> VortexResult<Column> {
     Column::try_new(i32_type(Nullable), rows)
 }
 
-/// What the tree of the words answers over these rows.
+/// What the tree of the text answers over these rows.
 fn answer(
     alloc: Global,
-    words: &str,
+    text: &str,
     early: i128,
     late: i128,
 ) -> Result<VortexResult<Column>, Fail> {
-    let bound = bound(alloc, words, &i32_type(Nullable))?;
+    let bound = bound(alloc, text, &i32_type(Nullable))?;
     let rows = numbers(alloc, early, late)?;
     Ok(apply_bound(alloc, &rows, &bound))
 }
 
 #[test]
 fn each_row_stands_in_its_place(rt: HostRuntime) -> Result<(), Fail> {
-    let sums = answer(rt.alloc(), "$ 1 +", 20, 30)?.expect(&rt, "a column");
+    let sums = answer(rt.alloc(), "$ + 1", 20, 30)?.expect(&rt, "a column");
     assert_eq!(rt; sums.len(), ROWS);
     for i in 0..ROWS {
         let sum = match i {
@@ -54,21 +54,21 @@ fn each_row_stands_in_its_place(rt: HostRuntime) -> Result<(), Fail> {
 
 #[test]
 fn a_fault_has_its_row_in_the_batch(rt: HostRuntime) -> Result<(), Fail> {
-    let fault = answer(rt.alloc(), "$ 1 +", 1, LARGEST)?;
+    let fault = answer(rt.alloc(), "$ + 1", 1, LARGEST)?;
     assert!(rt; matches!(fault, Err(VortexError::AddOverflow { row: LATE })));
     Ok(())
 }
 
 #[test]
 fn a_late_fault_of_an_earlier_node_comes_first(rt: HostRuntime) -> Result<(), Fail> {
-    let fault = answer(rt.alloc(), "$ 1 + $ $ + +", LARGEST - 1, LARGEST)?;
+    let fault = answer(rt.alloc(), "($ + 1) + ($ + $)", LARGEST - 1, LARGEST)?;
     assert!(rt; matches!(fault, Err(VortexError::AddOverflow { row: LATE })));
     Ok(())
 }
 
 #[test]
 fn fills_that_differ_late_fault(rt: HostRuntime) -> Result<(), Fail> {
-    let fault = answer(rt.alloc(), "$ $ fill_null", 1, 2)?;
+    let fault = answer(rt.alloc(), "fill_null($, $)", 1, 2)?;
     assert!(rt; matches!(fault, Err(VortexError::BadFill)));
     Ok(())
 }

@@ -46,9 +46,9 @@ fn values_fit_or_not(rt: HostRuntime) {
     assert!(rt; Value::Null.is_null() && !Value::Bool(false).is_null());
 }
 
-/// What the tree of the words, over `i32?`, answers on one row of `i32`.
-fn over_narrower(alloc: Global, words: &str) -> Result<VortexResult<Column>, Fail> {
-    let bound = bound(alloc, words, &i32_type(Nullable))?;
+/// What the tree of the text, over `i32?`, answers on one row of `i32`.
+fn over_narrower(alloc: Global, text: &str) -> Result<VortexResult<Column>, Fail> {
+    let bound = bound(alloc, text, &i32_type(Nullable))?;
     let rows = column(alloc, "i32", "1")?;
     Ok(apply_bound(alloc, &rows, &bound))
 }

@@ -34,11 +34,11 @@ fn bind_is_refused(rt: HostRuntime) -> Result<(), Fail> {
 fn refuses_to_evaluate(
     rt: &impl Abort,
     alloc: Global,
-    words: &str,
+    text: &str,
     batch: &Column,
     tree: &str,
 ) -> Result<(), Fail> {
-    let bound = bound(alloc, words, batch.dtype())?;
+    let bound = bound(alloc, text, batch.dtype())?;
     drop(apply_bound(alloc, batch, &bound)?);
     let shortage = Shortage::new(alloc)?;
     let answer = apply_bound(alloc, batch, &bound);

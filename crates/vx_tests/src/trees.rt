@@ -4,6 +4,7 @@ use std::alloc::Global;
 use std::process::Abort;
 use std::test::Fail;
 use vx_build::{bound, root};
+use vx_source::{parse, parse_type};
 use vx_test_samples::{boxed, dtype, i32_type, reads};
 use vx_tree::Nullability::{NonNullable, Nullable};
 use vx_tree::test_harness::struct_dtype;
@@ -14,14 +15,14 @@ use vx_tree::{
 };
 
 /// `(($.x >= null) and ($.x <= 5i32))`
-pub const RANGE_OF_X: &str = "x null >= x 5 <= and";
+pub const RANGE_OF_X: &str = "x >= null::i32? and x <= 5";
 
 #[test]
 fn a_range_has_its_text_and_type(rt: HostRuntime) -> Result<(), Fail> {
     let alloc = rt.alloc();
     let text = "(($.x >= null) and ($.x <= 5i32))";
-    let scope = dtype(alloc, "{x=i32}")?;
-    let source = boxed(alloc, RANGE_OF_X)?;
+    let scope = parse_type(alloc, "{x=i32}")?;
+    let source = Box::new(alloc, parse(alloc, RANGE_OF_X)?)?;
     let bound = source.bind(alloc, &scope)?;
     assert!(rt; *bound.dtype() == DType::Bool(Nullable));
     assert!(rt; bound.is_root_bound_to(&scope));
@@ -33,7 +34,7 @@ fn a_range_has_its_text_and_type(rt: HostRuntime) -> Result<(), Fail> {
 fn a_number_is_no_text(rt: HostRuntime) -> Result<(), Fail> {
     let alloc = rt.alloc();
     let scope = struct_dtype(alloc)?;
-    let compared = boxed(alloc, "a 'nope =")?;
+    let compared = boxed(alloc, r#"a = "nope""#)?;
     let answer = compared.bind(alloc, &scope);
     assert!(rt; matches!(answer, Err(VortexError::BaseTypesDiffer)));
     let dtype = compared.return_dtype(alloc, &scope);
@@ -139,7 +140,7 @@ fn a_node_takes_as_many_other_children(rt: HostRuntime) -> Result<(), Fail> {
     let alloc = rt.alloc();
     let second = boxed(alloc, "bool2")?;
     let first = boxed(alloc, "bool1")?;
-    let either = boxed(alloc, "bool1 bool2 or")?;
+    let either = boxed(alloc, "bool1 or bool2")?;
     let item = boxed(alloc, "x")?;
     let answer = Box::into_inner(item).with_children(alloc, Vec::new(alloc));
     is_mismatch(&rt, answer, 1, 0);
@@ -184,7 +185,7 @@ fn a_root_has_no_children_and_one_line(rt: HostRuntime) {
 #[test]
 fn a_bound_node_takes_other_children(rt: HostRuntime) -> Result<(), Fail> {
     let alloc = rt.alloc();
-    let bound = vx_test_samples::bound(alloc, "bool1 bool2 or", &struct_dtype(alloc)?)?;
+    let bound = vx_test_samples::bound(alloc, "bool1 or bool2", &struct_dtype(alloc)?)?;
     let mut children = Vec::new(alloc);
     for child in bound.children() {
         let child = child.clone().expect(&rt, "memory");

@@ -93,7 +93,7 @@ fn names_are_collected_over_both_trees(rt: HostRuntime) -> Result<(), Fail> {
     let alloc = rt.alloc();
     let source = boxed(alloc, COMPARISONS)?;
     finds(&rt, alloc, &*source, "col1 col2 col3 col4")?;
-    let bound = over_harness(alloc, "col1 col2 =")?;
+    let bound = over_harness(alloc, "col1 = col2")?;
     finds(&rt, alloc, &*bound, "col1 col2")
 }
 
@@ -162,7 +162,7 @@ fn a_pre_order_walk_skips_and_stops(rt: HostRuntime) -> Result<(), Fail> {
 }
 
 /// `CASE WHEN $.bool1 THEN 1i32 ELSE 2i32 END`
-const CHOICE: &str = "bool1 1 2 case";
+const CHOICE: &str = "case when bool1 then 1 else 2 end";
 
 #[test]
 fn children_are_counted_and_visited(rt: HostRuntime) -> Result<(), Fail> {

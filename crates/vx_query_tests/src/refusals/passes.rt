@@ -6,21 +6,21 @@ use std::test::Fail;
 use vx_rewrite::{Pass, run_passes};
 use vx_test_samples::{bound, dtype, reads};
 
-const ITEM: &str = "x 0 >= x 10 < and pack(r) .r";
+const ITEM: &str = "pack(r: x >= 0 and x < 10).r";
 
-const CASE: &str = "true x 0 >= x 10 < and pack(r) .r false case";
+const CASE: &str = "case when true then pack(r: x >= 0 and x < 10).r else false end";
 
-/// Asserts what the passes leave of the words over `{x=i32?}`, and that what shares the tree stays as
+/// Asserts what the passes leave of the tree over `{x=i32?}`, and that what shares the tree stays as
 /// it was.
 fn leave(
     rt: &(impl Abort + Print),
     alloc: Global,
     passes: &[Pass],
-    words: &str,
+    tree: &str,
     text: &str,
 ) -> Result<(), Fail> {
     let scope = dtype(alloc, "{x=i32?}")?;
-    let bound = bound(alloc, words, &scope)?;
+    let bound = bound(alloc, tree, &scope)?;
     let before = format!(in alloc; "{bound}")?;
     let shared = Box::new(alloc, (*bound).clone()?)?;
     rt.println("called")?;

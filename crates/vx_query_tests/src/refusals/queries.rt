@@ -84,8 +84,8 @@ fn split(alloc: Global) -> Result<Box<BoundPartitionedExpr<FieldName>>, Fail> {
 /// Two other partitions, of the same type.
 fn others(alloc: Global) -> Result<Vec<BoundExpression>, Fail> {
     let mut others = Vec::new(alloc);
-    for words in ["true pack(a_0)", "false pack(b_0)"] {
-        others.push(Box::into_inner(tree(alloc, words)?))?;
+    for text in ["pack(a_0: true)", "pack(b_0: false)"] {
+        others.push(Box::into_inner(tree(alloc, text)?))?;
     }
     Ok(others)
 }

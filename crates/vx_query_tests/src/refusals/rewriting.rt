@@ -14,7 +14,7 @@ use vx_tree::test_harness::struct_dtype;
 use vx_tree::{BoundExpression, ExactBoundExpr, Expression, VortexResult};
 
 /// Whether x, y and z are at least 0 and below 10.
-const THREE_RANGES: &str = "x 0 >= y 0 >= and z 0 >= and z 10 < y 10 < and x 10 < and and";
+const THREE_RANGES: &str = "(x >= 0 and y >= 0 and z >= 0) and (z < 10 and y < 10 and x < 10)";
 
 const COMPARISONS: &str = "(((($.x >= 0i32) and ($.y >= 0i32)) and ($.z >= 0i32)) and \
                            ((($.z < 10i32) and ($.y < 10i32)) and ($.x < 10i32)))";
@@ -24,8 +24,10 @@ const RANGES: &str =
 
 /// Eight comparisons of x and y from below and eight from above, the last one of z, so that an
 /// index finds the pairs.
-const SEVEN_RANGES: &str = "x 0 >= y 0 >= x 1 >= y 1 >= x 2 >= y 2 >= x 3 >= y 3 >= all(8) \
-                            x 10 < y 10 < x 11 < y 11 < x 12 < y 12 < x 13 < z 13 < all(8) and";
+const SEVEN_RANGES: &str = "x >= 0 and y >= 0 and x >= 1 and y >= 1 \
+                            and x >= 2 and y >= 2 and x >= 3 and y >= 3 \
+                            and x < 10 and y < 10 and x < 11 and y < 11 \
+                            and x < 12 and y < 12 and x < 13 and z < 13";
 
 const SIXTEEN_COMPARISONS: &str = "((((($.x >= 0i32) and ($.y >= 0i32)) \
                                    and (($.x >= 1i32) and ($.y >= 1i32))) \
@@ -41,16 +43,16 @@ const SEVEN_FUSED: &str = "(((((0i32 <= $.x < 10i32) and (0i32 <= $.y < 10i32)) 
                            and (((2i32 <= $.x < 12i32) and (2i32 <= $.y < 12i32)) \
                            and ((3i32 <= $.x < 13i32) and ($.y >= 3i32)))) and ($.z < 13i32))";
 
-/// Asserts what the tree of those words is fused to, and that its copies stay as it was.
+/// Asserts what the tree of that text is fused to, and that its copies stay as it was.
 fn fuses(
     rt: &(impl Abort + Print),
     alloc: Global,
-    words: &str,
+    text: &str,
     before: &str,
     after: &str,
 ) -> Result<(), Fail> {
     let scope = dtype(alloc, "{x=i32?,y=i32?,z=i32?}")?;
-    let bound = bound(alloc, words, &scope)?;
+    let bound = bound(alloc, text, &scope)?;
     let shared = Box::new(alloc, (*bound).clone()?)?;
     rt.println("called")?;
     let answer = find_between(alloc, Box::into_inner(bound));
@@ -102,25 +104,25 @@ fn leaves_of(
 #[test]
 fn optimize_recursive_of_items_and_cases(rt: HostRuntime) -> Result<(), Fail> {
     let alloc = rt.alloc();
-    let items = boxed(alloc, "x times(101) pack(a) .a end")?;
+    let items = boxed(alloc, "times(101) pack(a: end x times(101) ).a end")?;
     leaves_of(&rt, alloc, &*items, "$.x")?;
-    let item = boxed(alloc, "x pack(a)? .a")?;
+    let item = boxed(alloc, "pack(a: x)?.a")?;
     leaves_of(&rt, alloc, &*item, "vortex.mask($.x, true)")?;
-    let case = boxed(alloc, "x is_null 0 x case")?;
+    let case = boxed(alloc, "case when x is null then 0 else x end")?;
     leaves_of(&rt, alloc, &*case, "vortex.fill_null($.x, 0i32)")
 }
 
-/// Asserts what the branch rules leave of the words over `{x=i32?,y=i32}`, and that the tree stays as
+/// Asserts what the branch rules leave of the tree over `{x=i32?,y=i32}`, and that the tree stays as
 /// it was.
 fn decides(
     rt: &(impl Abort + Print),
     alloc: Global,
-    words: &str,
+    tree: &str,
     before: &str,
     text: &str,
 ) -> Result<(), Fail> {
     let scope = dtype(alloc, "{x=i32?,y=i32}")?;
-    let bound = bound(alloc, words, &scope)?;
+    let bound = bound(alloc, tree, &scope)?;
     rt.println("called")?;
     let answer = optimize_with(alloc, &BranchRules, &*bound);
     assert!(rt; reads(&*bound, before));
@@ -134,28 +136,46 @@ fn decides(
 fn optimize_with_branch_rules(rt: HostRuntime) -> Result<(), Fail> {
     let alloc = rt.alloc();
     let then = "CASE WHEN true THEN 1i32 ELSE $.x END";
-    decides(&rt, alloc, "true 1 x case", then, "cast(1i32 as i32?)")?;
+    decides(
+        &rt,
+        alloc,
+        "case when true then 1 else x end",
+        then,
+        "cast(1i32 as i32?)",
+    )?;
     let others = "CASE WHEN false THEN $.x WHEN ($.y > 0i32) THEN 1i32 ELSE 2i32 END";
     let left = "CASE WHEN ($.y > 0i32) THEN 1i32 ELSE 2i32 END";
-    decides(&rt, alloc, "false x y 0 > 1 2 case2", others, left)?;
+    decides(
+        &rt,
+        alloc,
+        "case when false then x when y > 0 then 1 else 2 end",
+        others,
+        left,
+    )?;
     let otherwise = "CASE WHEN null THEN $.x ELSE 2i32 END";
     decides(
         &rt,
         alloc,
-        "null:bool? x 2 case",
+        "case when null::bool? then x else 2 end",
         otherwise,
         "cast(2i32 as i32?)",
     )?;
     let none = "CASE WHEN false THEN 1i32 END";
-    decides(&rt, alloc, "false 1 when", none, "null")?;
+    decides(&rt, alloc, "case when false then 1 end", none, "null")?;
     let case = "CASE WHEN false THEN $.x WHEN vortex.is_null($.x) THEN 0i32 ELSE $.x END";
     let fill = "vortex.fill_null($.x, 0i32)";
-    decides(&rt, alloc, "false x x is_null 0 x case2", case, fill)
+    decides(
+        &rt,
+        alloc,
+        "case when false then x when x is null then 0 else x end",
+        case,
+        fill,
+    )
 }
 
 /// `($.col1 = 5u16)`
 fn equal(alloc: Global) -> Result<Box<BoundExpression>, Fail> {
-    Ok(bound(alloc, "col1 5u16 =", &struct_dtype(alloc)?)?)
+    Ok(bound(alloc, "col1 = 5u16", &struct_dtype(alloc)?)?)
 }
 
 /// One more than the highest child's.

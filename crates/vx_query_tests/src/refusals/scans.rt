@@ -93,15 +93,15 @@ const DECIDED: Planned<'static> = Planned {
     split: Some("root: $.b.b_0 {b: pack(b_0: cast(($.b < 5i32) as bool?))}"),
 };
 
-/// Asserts the plan of the words, and that what is lent stays as it was.
+/// Asserts the plan of the text, and that what is lent stays as it was.
 fn plans(
     rt: &(impl Abort + Print),
     alloc: Global,
-    words: &str,
+    tree: &str,
     text: &str,
     planned: Planned,
 ) -> Result<(), Fail> {
-    let source = boxed(alloc, words)?;
+    let source = boxed(alloc, tree)?;
     let scope = dtype(alloc, SCOPE)?;
     rt.println("called")?;
     let answer = plan(alloc, &*source, &scope);
@@ -118,11 +118,17 @@ fn plan_of_three_sources(rt: HostRuntime) -> Result<(), Fail> {
     plans(
         &rt,
         alloc,
-        "$ is_null b 5 < and",
+        "$ is null and b < 5",
         ROWS_AND_CONDITION,
         OF_ROWS,
     )?;
-    plans(&rt, alloc, "true b 5 < a.x 1 >= case", CASE, DECIDED)
+    plans(
+        &rt,
+        alloc,
+        "case when true then b < 5 else a.x >= 1 end",
+        CASE,
+        DECIDED,
+    )
 }
 
 /// Asserts what a scan gives, and that what is lent stays as it was.
@@ -143,9 +149,9 @@ fn scans(
     answered(rt)
 }
 
-/// The plan of the words.
-fn plan_of(alloc: Global, words: &str) -> Result<Box<ScanPlan>, Fail> {
-    let source = boxed(alloc, words)?;
+/// The plan of the text.
+fn plan_of(alloc: Global, text: &str) -> Result<Box<ScanPlan>, Fail> {
+    let source = boxed(alloc, text)?;
     let scope = dtype(alloc, SCOPE)?;
     Ok(Box::new(alloc, plan(alloc, &*source, &scope)?)?)
 }
@@ -160,7 +166,7 @@ fn scan_by_partitions(rt: HostRuntime) -> Result<(), Fail> {
 #[test]
 fn scan_of_the_tree_whole(rt: HostRuntime) -> Result<(), Fail> {
     let alloc = rt.alloc();
-    let plan = plan_of(alloc, "$ is_null b 5 < and")?;
+    let plan = plan_of(alloc, "$ is null and b < 5")?;
     scans(&rt, alloc, &plan, OF_ROWS, "[false, false]")
 }
 

@@ -14,14 +14,9 @@ use vx_rewrite::{
 use vx_test_samples::Unread;
 use vx_tree::{BoundExpression, Column, Expression, VortexError, VortexResult};
 
-/// The answer to a line that asks of the tree of the words, bound to the scope.
-pub fn answer(
-    alloc: Global,
-    kind: BoundKind,
-    scene: &Scene,
-    words: &str,
-) -> Result<String, Unread> {
-    let source = scene.source(alloc, words)?;
+/// The answer to a line that asks of the source of that text, bound to the scope.
+pub fn answer(alloc: Global, kind: BoundKind, scene: &Scene, tree: &str) -> Result<String, Unread> {
+    let source = scene.source(alloc, tree)?;
     let bound = match scene.bind(alloc, &source) {
         Ok(bound) => bound,
         Err(refusal) => return Ok(refused(alloc, &refusal)?),

@@ -1,23 +1,23 @@
 // Trees put together by their constructors.
 mod bound;
 mod children;
+mod collected;
 mod constructors;
 mod plain;
+mod walk;
 
 use crate::scene::Scene;
 use crate::told::{refused, typed};
 use bound::OfBound;
-use constructors::ByConstructors;
+pub use collected::collected;
 use plain::OfSources;
 use std::alloc::Global;
-use vx_test_samples::{Unread, read_tree};
-use vx_tree::{BoundExpression, DType, Expression, VortexResult};
+use vx_tree::{Expression, VortexResult};
+use walk::built_by;
 
-/// The text of the tree of the words by its constructors, which has to be the source.
-pub fn built(alloc: Global, words: &str, source: &Expression) -> Result<String, Unread> {
-    let maker = ByConstructors(OfSources);
-    let tree = Box::new(alloc, read_tree(alloc, &maker, words)?)?;
-    Ok(compared(alloc, &tree, source)?)
+/// The text of the source's tree by its constructors, which has to be the source.
+pub fn built(alloc: Global, source: &Expression) -> VortexResult<String> {
+    compared(alloc, &*built_by(alloc, &OfSources, source)?, source)
 }
 
 fn compared(alloc: Global, built: &Expression, source: &Expression) -> VortexResult<String> {
@@ -28,15 +28,12 @@ fn compared(alloc: Global, built: &Expression, source: &Expression) -> VortexRes
 }
 
 /// The text and the type of the tree by the constructors over bound children, or what they refuse.
-pub fn built_bound(alloc: Global, scene: &Scene, words: &str) -> Result<String, Unread> {
-    match boxed(alloc, &scene.scope, scene.words(words)) {
-        Ok(tree) => Ok(typed(alloc, &tree)?),
-        Err(Unread::Refused(refusal)) => Ok(refused(alloc, &refusal)?),
-        Err(unread) => Err(unread),
+pub fn built_bound(alloc: Global, scene: &Scene, source: &Expression) -> VortexResult<String> {
+    let by = OfBound {
+        scope: &scene.scope,
+    };
+    match built_by(alloc, &by, source) {
+        Ok(tree) => typed(alloc, &tree),
+        Err(refusal) => refused(alloc, &refusal),
     }
-}
-
-fn boxed(alloc: Global, scope: &DType, words: &str) -> Result<Box<BoundExpression>, Unread> {
-    let maker = ByConstructors(OfBound { scope });
-    Ok(Box::new(alloc, read_tree(alloc, &maker, words)?)?)
 }

@@ -1,11 +1,16 @@
-// Trees made by chance, evaluated as they are, as queries and by scans: the rows stay.
+// Trees made by chance, written and read, evaluated as they are, as queries and by scans: the rows
+// stay. And texts made by chance.
 mod grammar;
 mod maker;
+mod parts;
 mod seeds;
+mod texts;
 
 use crate::answers::scans::scan_column;
+use crate::answers::source_texts::read_otherwise;
 use maker::Maker;
 use std::alloc::Global;
+pub use texts::texts_by_chance;
 use vx_eval::apply_bound;
 use vx_query::run_query;
 use vx_rewrite::Pass;
@@ -19,28 +24,29 @@ const SCOPE: &str = "{a={x=i32?,y=i32}?,b=i32?,m=bool?,s=utf8}";
 const ROWS: &str = "{null,1,true,'ab} {{null,2},null,false,'} {{3,-1},3,null,'abab}";
 
 /// What the queries and scans of so many trees answer beside their evaluation, from a seed on:
-/// `SEED COUNT`. Of the trees that are answered otherwise the one of the shortest words is told. More
-/// than a quarter of the trees have to fault nowhere.
+/// `SEED COUNT`. Of the trees that are answered otherwise the one of the shortest text is told, and
+/// before it one whose source text reads back as another. More than a quarter of the trees have to
+/// fault nowhere.
 pub fn by_chance(alloc: Global, words: &str) -> Result<String, Unread> {
-    let (seed, count) = words.split_once(' ').ok_or("no count")?;
-    let seed = seed.parse().map_err(|_| Unread::Word("no seed"))?;
-    let count: usize = count.parse().map_err(|_| Unread::Word("no count"))?;
+    let (seed, count) = seed_and_count(words)?;
     let batch = Box::new(alloc, column(alloc, SCOPE, ROWS)?)?;
     let mut maker = Maker::new(alloc, seed);
     let mut without_fault: usize = 0;
     let mut shortest = None;
     for _ in 0..count {
-        let words = maker.tree()?;
-        let tree = boxed(alloc, words.as_str())?;
+        let text = maker.tree()?;
+        let tree = boxed(alloc, text.as_str())?;
+        if let Some(other) = read_otherwise(alloc, &tree)? {
+            return Ok(other);
+        }
         match agrees(alloc, &tree, &batch)? {
             Some(true) => without_fault = without_fault.saturating_add(1),
             Some(false) => {}
-            None => shortest = Some(shorter(shortest, words)),
+            None => shortest = Some(shorter(shortest, text)),
         }
     }
-    if let Some(words) = shortest {
-        let tree = boxed(alloc, words.as_str())?;
-        return Ok(format!(in alloc; "another answer to {tree}")?);
+    if let Some(text) = shortest {
+        return Ok(format!(in alloc; "another answer to {text}")?);
     }
     if without_fault <= count / 4 {
         return Ok(format!(in alloc; "only {without_fault} are without a fault")?);
@@ -48,11 +54,19 @@ pub fn by_chance(alloc: Global, words: &str) -> Result<String, Unread> {
     Ok(String::from_str(alloc, "all agree")?)
 }
 
-// The shorter of the words, the earlier of equally long ones.
-fn shorter(earlier: Option<String>, words: String) -> String {
+// A seed, and how many are made from it on.
+fn seed_and_count(words: &str) -> Result<(u64, usize), Unread> {
+    let (seed, count) = words.split_once(' ').ok_or("no count")?;
+    let seed = seed.parse().map_err(|_| Unread::Word("no seed"))?;
+    let count = count.parse().map_err(|_| Unread::Word("no count"))?;
+    Ok((seed, count))
+}
+
+// The shorter of the texts, the earlier of equally long ones.
+fn shorter(earlier: Option<String>, text: String) -> String {
     match earlier {
-        Some(earlier) if earlier.len() <= words.len() => earlier,
-        _ => words,
+        Some(earlier) if earlier.len() <= text.len() => earlier,
+        _ => text,
     }
 }
 

@@ -1,16 +1,20 @@
 // Answers of functions: their texts, children and types.
 use crate::told::told;
 use std::alloc::Global;
-use vx_test_samples::{Unread, any_function, dtype, operator, selected};
-use vx_tree::{ScalarFnRef, VortexResult};
+use vx_test_samples::{Unread, boxed, dtype};
+use vx_tree::{Expression, ScalarFnRef, VortexResult};
 
-fn function_of(alloc: Global, word: &str) -> Result<Box<ScalarFnRef>, Unread> {
-    Ok(any_function(alloc, word)?.ok_or("no function")?)
+// The function at the top of the tree.
+fn function_of(alloc: Global, tree: &str) -> Result<Box<ScalarFnRef>, Unread> {
+    match &*boxed(alloc, tree)? {
+        Expression::Scalar { scalar_fn, .. } => Ok(Box::new(alloc, scalar_fn.clone()?)?),
+        Expression::Root => Err(Unread::Word("no function")),
+    }
 }
 
 /// The function's text, which its id begins, and how many children it takes; its clone is equal.
-pub fn shown_function(alloc: Global, word: &str) -> Result<String, Unread> {
-    let scalar_fn = function_of(alloc, word)?;
+pub fn shown_function(alloc: Global, tree: &str) -> Result<String, Unread> {
+    let scalar_fn = function_of(alloc, tree)?;
     Ok(shown(alloc, &scalar_fn)?)
 }
 
@@ -31,8 +35,8 @@ fn shown(alloc: Global, scalar_fn: &ScalarFnRef) -> VortexResult<String> {
 }
 
 /// What the function's children are called.
-pub fn child_names(alloc: Global, word: &str) -> Result<String, Unread> {
-    let scalar_fn = function_of(alloc, word)?;
+pub fn child_names(alloc: Global, tree: &str) -> Result<String, Unread> {
+    let scalar_fn = function_of(alloc, tree)?;
     Ok(names_of(alloc, &scalar_fn)?)
 }
 
@@ -53,8 +57,8 @@ fn push_word(text: &mut String, word: &str) -> VortexResult<()> {
 }
 
 /// The type of a node of the function over children of these types.
-pub fn node_type(alloc: Global, word: &str, types: &str) -> Result<String, Unread> {
-    let scalar_fn = function_of(alloc, word)?;
+pub fn node_type(alloc: Global, tree: &str, types: &str) -> Result<String, Unread> {
+    let scalar_fn = function_of(alloc, tree)?;
     let mut given = Vec::new(alloc);
     for text in types.split_whitespace() {
         given.push(dtype(alloc, text)?)?;
@@ -62,10 +66,12 @@ pub fn node_type(alloc: Global, word: &str, types: &str) -> Result<String, Unrea
     Ok(told(alloc, scalar_fn.return_dtype(alloc, given.as_slice()))?)
 }
 
-/// The names that the selection keeps of those that are there.
-pub fn kept(alloc: Global, selection: &str, names: &str) -> Result<String, Unread> {
-    let list = selected(selection).ok_or("no selection")?;
-    let selection = vx_test_samples::selection(alloc, list)?;
+/// The names that the selection at the top of the tree keeps of those that are there.
+pub fn kept(alloc: Global, tree: &str, names: &str) -> Result<String, Unread> {
+    let scalar_fn = function_of(alloc, tree)?;
+    let ScalarFnRef::Select(selection) = &*scalar_fn else {
+        return Err(Unread::Word("no selection"));
+    };
     let there = vx_test_samples::names(alloc, names, ' ')?;
     match selection.normalize_to_included_fields(alloc, &there) {
         Ok(kept) => {
@@ -81,7 +87,12 @@ pub fn kept(alloc: Global, selection: &str, names: &str) -> Result<String, Unrea
 
 /// The operator for exchanged operands.
 pub fn swapped(alloc: Global, sign: &str) -> Result<String, Unread> {
-    match operator(sign).ok_or("no operator")?.swap() {
+    let compared = format!(in alloc; "$ {sign} $")?;
+    let scalar_fn = function_of(alloc, compared.as_str())?;
+    let ScalarFnRef::Binary(operator) = &*scalar_fn else {
+        return Err(Unread::Word("no operator"));
+    };
+    match operator.swap() {
         Some(swapped) => Ok(format!(in alloc; "{swapped}")?),
         None => Ok(String::from_str(alloc, "none")?),
     }

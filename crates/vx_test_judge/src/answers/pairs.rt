@@ -14,15 +14,15 @@ use vx_rewrite::{find_between, run_passes};
 use vx_test_samples::Unread;
 use vx_tree::{BoundExpression, Expression, FieldName, VortexError, VortexResult};
 
-/// The answer to a line that asks of the tree of the words by what stands in the column before.
+/// The answer to a line that asks of the source of that text by what stands in the column before.
 pub fn answer(
     alloc: Global,
     kind: PairKind,
     scene: &Scene,
     by: &str,
-    words: &str,
+    tree: &str,
 ) -> Result<String, Unread> {
-    let source = scene.source(alloc, words)?;
+    let source = scene.source(alloc, tree)?;
     match kind {
         PairKind::Passes => text_of(alloc, passed(alloc, scene, &source, &read_plan(alloc, by)?)),
         PairKind::Query => text_of(
@@ -144,11 +144,11 @@ fn replaced_by(
     alloc: Global,
     scene: &Scene,
     source: &Expression,
-    words: &str,
+    trees: &str,
 ) -> Result<String, Unread> {
     let mut partitions = Vec::new(alloc);
-    for words in words.split(';') {
-        let bound = scene.bind(alloc, &*scene.source(alloc, words.trim())?)?;
+    for tree in trees.split(';') {
+        let bound = scene.bind(alloc, &*scene.source(alloc, tree.trim())?)?;
         partitions.push(Box::into_inner(bound))?;
     }
     text_of(alloc, replaced(alloc, scene, source, partitions))

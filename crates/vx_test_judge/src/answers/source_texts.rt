@@ -1,23 +1,30 @@
 // Answers of source text.
 use std::alloc::Global;
 use vx_source::{ParseError, ScalarText, SourceText, TypeText, parse, parse_scalar, parse_type};
-use vx_test_samples::Unread;
-use vx_tree::VortexError;
+use vx_test_samples::{Unread, boxed, reads};
+use vx_tree::{Expression, VortexError};
 
 /// The source text of the expression that is read of the text, or where reading stops and what would
 /// have stood right there. The source text reads back to an equal expression, or else that is told.
 pub fn parsed(alloc: Global, text: &str) -> Result<String, Unread> {
     match parse(alloc, text) {
-        Ok(expression) => {
-            let source = format!(in alloc; "{}", SourceText(&expression))?;
-            match parse(alloc, source.as_str()) {
-                Ok(again) if again == expression => Ok(source),
-                Ok(_) => Ok(format!(in alloc; "{source} reads back otherwise")?),
-                Err(refusal) => refused(alloc, refusal),
-            }
-        }
+        Ok(expression) => match read_otherwise(alloc, &expression)? {
+            Some(other) => Ok(other),
+            None => Ok(format!(in alloc; "{}", SourceText(&expression))?),
+        },
         Err(refusal) => refused(alloc, refusal),
     }
+}
+
+/// What is wrong where the expression's source text doesn't read back to an equal one, of the same
+/// text; none where it does.
+pub fn read_otherwise(alloc: Global, expression: &Expression) -> Result<Option<String>, Unread> {
+    let source = format!(in alloc; "{}", SourceText(expression))?;
+    let again = boxed(alloc, source.as_str())?;
+    if *again != *expression || !reads(&SourceText(&again), source.as_str()) {
+        return Ok(Some(format!(in alloc; "{source} reads back otherwise")?));
+    }
+    Ok(None)
 }
 
 /// The source text of the type that is read of the text, or where reading stops and what would have

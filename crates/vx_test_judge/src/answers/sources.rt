@@ -10,21 +10,21 @@ use std::fmt;
 use vx_test_samples::{Unread, boxed};
 use vx_tree::{DType, Expression, Scope, VortexResult};
 
-/// The answer to a line that asks of the tree of the words.
+/// The answer to a line that asks of the source of that text.
 pub fn answer(
     alloc: Global,
     kind: SourceKind,
     scene: &Scene,
-    words: &str,
+    tree: &str,
 ) -> Result<String, Unread> {
-    let source = scene.source(alloc, words)?;
+    let source = scene.source(alloc, tree)?;
     Ok(match kind {
         SourceKind::Text => text(alloc, &source)?,
         SourceKind::TextLength => text_length(alloc, scene, &source)?,
         SourceKind::TreeText => tree_text(alloc, &source)?,
         SourceKind::Type => agreed_type(alloc, scene, &source)?,
-        SourceKind::Built => built(alloc, scene.words(words), &source)?,
-        SourceKind::BuiltBound => built_bound(alloc, scene, words)?,
+        SourceKind::Built => built(alloc, &source)?,
+        SourceKind::BuiltBound => built_bound(alloc, scene, &source)?,
         SourceKind::Depth => depth(alloc, scene, &source)?,
         SourceKind::AnyQuery => any_query(alloc, scene, &source)?,
         SourceKind::Planned
@@ -67,18 +67,18 @@ fn text_length(alloc: Global, scene: &Scene, source: &Expression) -> VortexResul
     }
 }
 
-/// The text of the tree of the words, less what opens it and what closes it so many times.
+/// The text of the source of that text, less what opens it and what closes it so many times.
 pub fn peeled_text(
     alloc: Global,
     times: &str,
     open: &str,
     close: &str,
-    words: &str,
+    tree: &str,
 ) -> Result<String, Unread> {
     let times: usize = times
         .parse()
         .map_err(|_| Unread::Word("no number of times"))?;
-    let source = boxed(alloc, words)?;
+    let source = boxed(alloc, tree)?;
     let text = format!(in alloc; "{source}")?;
     let mut peeled = text.as_str();
     for _ in 0..times {

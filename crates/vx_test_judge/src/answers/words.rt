@@ -1,5 +1,6 @@
 // Answers that are of no tree.
-use crate::answers::chance::by_chance;
+use crate::answers::built::collected;
+use crate::answers::chance::{by_chance, texts_by_chance};
 use crate::answers::functions::{child_names, kept, node_type, shown_function, swapped};
 use crate::answers::matches::{like, matched};
 use crate::answers::paths::path_set;
@@ -22,13 +23,10 @@ pub fn answer(
 ) -> Result<String, Unread> {
     match (kind, columns) {
         (WordsKind::Like, [pattern, text]) => like(alloc, pattern, text),
-        (WordsKind::Error, [name]) => {
-            let refusal = refusal(alloc, name)?;
-            Ok(format!(in alloc; "{refusal}")?)
-        }
-        (WordsKind::Function, [word]) => shown_function(alloc, word),
-        (WordsKind::ChildNames, [word]) => child_names(alloc, word),
-        (WordsKind::NodeType, [word, types]) => node_type(alloc, word, types),
+        (WordsKind::Error, [name]) => error_text(alloc, name),
+        (WordsKind::Function, [tree]) => shown_function(alloc, tree),
+        (WordsKind::ChildNames, [tree]) => child_names(alloc, tree),
+        (WordsKind::NodeType, [tree, types]) => node_type(alloc, tree, types),
         (WordsKind::Kept, [selection, names]) => kept(alloc, selection, names),
         (WordsKind::Swapped, [sign]) => swapped(alloc, sign),
         (WordsKind::TypeText, [text]) => type_text(alloc, text),
@@ -45,10 +43,20 @@ pub fn answer(
         (WordsKind::FirstMatch, [kind, conditions, chosen, otherwise]) => {
             matched(alloc, kind, conditions, chosen, otherwise)
         }
-        (WordsKind::PeeledText, [times, open, close, words]) => {
-            peeled_text(alloc, times, open, close, scene.words(words))
+        (WordsKind::PeeledText, [times, open, close, tree]) => {
+            peeled_text(alloc, times, open, close, scene.text(tree))
+        }
+        (WordsKind::Collected(kind), [sign, items]) => {
+            collected(alloc, kind, scene, sign, items)
         }
         (WordsKind::ByChance, [seed]) => by_chance(alloc, seed),
+        (WordsKind::TextsByChance, [seed]) => texts_by_chance(alloc, seed),
         _ => Err(Unread::Word("another number of columns")),
     }
+}
+
+// The text of the refusal of that name.
+fn error_text(alloc: Global, name: &str) -> Result<String, Unread> {
+    let refusal = refusal(alloc, name)?;
+    Ok(format!(in alloc; "{refusal}")?)
 }

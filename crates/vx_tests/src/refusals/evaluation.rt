@@ -24,16 +24,16 @@ fn is_answer(answer: VortexResult<Column>, text: &str) -> VortexResult<bool> {
     }
 }
 
-/// Asserts what evaluation of the tree of the words answers, and that it leaves the tree and the batch
+/// Asserts what evaluation of the tree of the text answers, and that it leaves the tree and the batch
 /// as they were.
 fn answers(
     rt: &(impl Abort + Print),
     alloc: Global,
-    words: &str,
+    text: &str,
     batch: &Column,
     texts: Texts<'_>,
 ) -> Result<(), Fail> {
-    let bound = bound(alloc, words, batch.dtype())?;
+    let bound = bound(alloc, text, batch.dtype())?;
     rt.println("called")?;
     let answer = apply_bound(alloc, batch, &bound);
     assert!(rt; reads(&*bound, texts.tree) && reads(batch, texts.batch));
@@ -42,7 +42,7 @@ fn answers(
 }
 
 /// 10 where x is above 0, 20 where it is above 3, else 30.
-pub const TWO_CASES: &str = "x 0 > 10 x 3 > 20 30 cases(2,else)";
+pub const TWO_CASES: &str = "case when x > 0 then 10 when x > 3 then 20 else 30 end";
 
 pub const TWO_CASES_WRITTEN: &str =
     "CASE WHEN ($.x > 0i32) THEN 10i32 WHEN ($.x > 3i32) THEN 20i32 ELSE 30i32 END";
@@ -86,7 +86,7 @@ fn apply_bound_of_fills(rt: HostRuntime) -> Result<(), Fail> {
         answers(
             &rt,
             alloc,
-            "x y fill_null",
+            "fill_null(x, y)",
             &column(alloc, "{x=i32?,y=i32}", given)?,
             texts,
         )?;
@@ -98,19 +98,19 @@ fn apply_bound_of_fills(rt: HostRuntime) -> Result<(), Fail> {
 fn apply_bound_of_likes(rt: HostRuntime) -> Result<(), Fail> {
     let alloc = rt.alloc();
     let one = column(alloc, "{x=i32?}", "{null}")?;
-    for (words, tree, answer) in [
-        (r"'a%b 'a\%b like", r#"("a%b" like "a\%b")"#, "[true]"),
-        (r"'axb 'a\%b like", r#"("axb" like "a\%b")"#, "[false]"),
-        ("'axb 'a_b like", r#"("axb" like "a_b")"#, "[true]"),
-        (r"'x\ 'x\ like", r#"("x\" like "x\")"#, "[true]"),
-        ("'ABC 'a% ilike", r#"("ABC" ilike "a%")"#, "[true]"),
+    for (text, tree, answer) in [
+        (r#""a%b" like "a\%b""#, r#"("a%b" like "a\%b")"#, "[true]"),
+        (r#""axb" like "a\%b""#, r#"("axb" like "a\%b")"#, "[false]"),
+        (r#""axb" like "a_b""#, r#"("axb" like "a_b")"#, "[true]"),
+        (r#""x\" like "x\""#, r#"("x\" like "x\")"#, "[true]"),
+        (r#""ABC" ilike "a%""#, r#"("ABC" ilike "a%")"#, "[true]"),
     ] {
         let texts = Texts {
             tree,
             batch: "[{x: null}]",
             answer,
         };
-        answers(&rt, alloc, words, &one, texts)?;
+        answers(&rt, alloc, text, &one, texts)?;
     }
     Ok(())
 }

@@ -14,7 +14,7 @@ fn is_numbered(rewritten: Transformed<Expression>) -> bool {
 #[test]
 fn transform_down_of_fields(rt: HostRuntime) -> Result<(), Fail> {
     let alloc = rt.alloc();
-    let tree = boxed(alloc, "col1 col2 = 2 and")?;
+    let tree = boxed(alloc, "col1 = col2 and 2")?;
     rt.println("called")?;
     let rewritten = numbered(alloc, Box::into_inner(tree))?;
     assert!(rt; is_numbered(rewritten));

@@ -10,11 +10,11 @@ use vx_tree::{Expression, Scalar, VortexError, VortexResult};
 use vx_walk::TraversalOrder::{Continue, Skip, Stop};
 use vx_walk::{NodeContainer, Transformed, apply_ref_elements};
 
-/// The trees of those words.
+/// The trees of those texts.
 fn items(alloc: Global, texts: &[&str]) -> Result<Vec<Expression>, Fail> {
     let mut items = Vec::new(alloc);
-    for words in texts {
-        items.push(Box::into_inner(boxed(alloc, words)?))?;
+    for text in texts {
+        items.push(Box::into_inner(boxed(alloc, text)?))?;
     }
     Ok(items)
 }

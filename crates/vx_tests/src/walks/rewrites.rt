@@ -37,7 +37,7 @@ pub fn numbered(alloc: Global, tree: Expression) -> VortexResult<Transformed<Exp
 #[test]
 fn fields_are_numbered(rt: HostRuntime) -> Result<(), Fail> {
     let alloc = rt.alloc();
-    let tree = boxed(alloc, "col1 col2 = 2 and")?;
+    let tree = boxed(alloc, "col1 = col2 and 2")?;
     let rewritten = numbered(alloc, Box::into_inner(tree)).expect(&rt, "a tree");
     assert!(rt; rewritten.changed);
     assert!(rt; rewritten.order == Continue);
@@ -130,7 +130,7 @@ fn is_handed_back<N: Node + PartialEq>(rt: &impl Abort, alloc: Global, tree: Box
 
 /// `($.col1 = $.col2)`, bound
 fn bound_equality(alloc: Global) -> Result<Box<BoundExpression>, Fail> {
-    over_harness(alloc, "col1 col2 =")
+    over_harness(alloc, "col1 = col2")
 }
 
 #[test]

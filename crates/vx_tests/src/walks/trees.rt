@@ -23,21 +23,17 @@ impl HasField for BoundExpression {
 }
 
 /// `($.a and $.b)`
-pub const BOTH: &str = "a b and";
+pub const BOTH: &str = "a and b";
 
 /// `(($.col1 = $.col2) and ($.col3 != $.col4))`
-pub const COMPARISONS: &str = "col1 col2 = col3 col4 != and";
+pub const COMPARISONS: &str = "col1 = col2 and col3 != col4";
 
 /// `$.bool1`, turned ten thousand times.
 pub fn deep(alloc: Global) -> Result<Box<Expression>, Fail> {
-    let mut words = String::from_str(alloc, "bool1")?;
-    for _ in 0..10_000 {
-        words.push_str(" not")?;
-    }
-    Ok(boxed(alloc, words.as_str())?)
+    Ok(boxed(alloc, "times(10000) not end bool1")?)
 }
 
-/// The tree of the words, bound to the type of the harness.
-pub fn over_harness(alloc: Global, words: &str) -> Result<Box<BoundExpression>, Fail> {
-    Ok(bound(alloc, words, &struct_dtype(alloc)?)?)
+/// The tree of the text, bound to the type of the harness.
+pub fn over_harness(alloc: Global, text: &str) -> Result<Box<BoundExpression>, Fail> {
+    Ok(bound(alloc, text, &struct_dtype(alloc)?)?)
 }

@@ -4,7 +4,6 @@ ghost use Rattle.std.specs.Prelude.{◌<◌, ◌^◌, length};
 
 use super::children::{cases, named, one, three, two};
 use std::alloc::Global;
-use vx_test_samples::{Maker, Unread};
 use vx_tree::{
     BetweenOptions, DType, FieldName, FieldNames, FieldSelection, LikeOptions, Nullability,
     Operator, Scalar, ScalarFnRef, VortexError, VortexResult,
@@ -120,6 +119,7 @@ pub trait Constructors {
         requires some { 0 < length pairs.items }
         requires countable { length pairs.items < 2 ^ 32 };
 
+    /// By `and_collect`, or by `or_collect`.
     fn joined(
         &self,
         alloc: Global,
@@ -130,50 +130,8 @@ pub trait Constructors {
     fn again(&self, tree: &Self::Tree) -> VortexResult<Self::Tree>;
 }
 
-/// Trees by these constructors.
-#[derive(Clone, Copy)]
-pub struct ByConstructors<C>(pub C);
-
-impl<C: Constructors> Maker for ByConstructors<C> {
-    type Tree = C::Tree;
-
-    fn root(&self, _alloc: Global) -> VortexResult<C::Tree> {
-        self.0.root()
-    }
-
-    fn node(
-        &self,
-        alloc: Global,
-        scalar_fn: Box<ScalarFnRef>,
-        children: Vec<C::Tree>,
-    ) -> VortexResult<C::Tree> {
-        node(alloc, &self.0, &scalar_fn, children)
-    }
-
-    fn raw_node(
-        &self,
-        _alloc: Global,
-        _scalar_fn: Box<ScalarFnRef>,
-        _children: Vec<C::Tree>,
-    ) -> Result<C::Tree, Unread> {
-        Err(Unread::Word("no constructor for any number of children"))
-    }
-
-    fn joined(
-        &self,
-        alloc: Global,
-        by_and: bool,
-        items: Vec<C::Tree>,
-    ) -> VortexResult<Option<C::Tree>> {
-        self.0.joined(alloc, by_and, items)
-    }
-
-    fn again(&self, tree: &C::Tree) -> VortexResult<C::Tree> {
-        self.0.again(tree)
-    }
-}
-
-fn node<C: Constructors>(
+/// The node of the function by its constructor.
+pub fn node<C: Constructors>(
     alloc: Global,
     by: &C,
     scalar_fn: &ScalarFnRef,

@@ -1,4 +1,5 @@
-// The grammar of generated trees: by what a tree gives, the words of its node over its children.
+// The grammar of generated trees: by what a tree gives, the source text of its node over its children,
+// so that it may stand wherever an operand does.
 //
 // `T1` stands for a tree that gives a truth value, `N1`, `S1`, `P1` for a number, a text, a pair of
 // numbers, and `X1` for what the node gives; the same of them in one row is the same tree. `#t`,
@@ -29,10 +30,10 @@ impl Kind {
     /// Literals that give it, null among them; of a pair, a pack of them.
     pub fn literals(self) -> &'static [&'static str] {
         match self {
-            Kind::Truth => &["true", "false", "null:bool"],
-            Kind::Number => &["0", "1", "3", "2147483647", "null"],
-            Kind::Text => &["'ab", "'a%", "'_b%", "null:utf8"],
-            Kind::Pair => &["1 2 pack(x,y)", "null 2 pack(x,y)?"],
+            Kind::Truth => &["true", "false", "null::bool?"],
+            Kind::Number => &["0", "1", "3", "2147483647", "null::i32?"],
+            Kind::Text => &["\"ab\"", "\"a%\"", "\"_b%\"", "null::utf8?"],
+            Kind::Pair => &["pack(x: 1, y: 2)", "pack(x: null::i32?, y: 2)?"],
         }
     }
 
@@ -48,68 +49,68 @@ impl Kind {
 }
 
 const TRUTHS: [&str; 24] = [
-    "T1 T2 and",
-    "T1 T2 or",
-    "T1 not",
-    "N1 N2 #n between(<=,<)",
-    "N1 #n N2 between(<,<=)",
-    "S1 #s like",
-    "S1 #s not_like",
-    "S1 #s ilike",
-    "S1 #s not_ilike",
-    "T1 is_null",
-    "N1 is_not_null",
-    "P1 is_null",
-    "P1 {} is_null",
-    "$ is_null",
+    "(T1 and T2)",
+    "(T1 or T2)",
+    "(not T1)",
+    "(N2 <= N1 < #n)",
+    "(#n < N1 <= N2)",
+    "(S1 like #s)",
+    "(S1 not like #s)",
+    "(S1 ilike #s)",
+    "(S1 not ilike #s)",
+    "(T1 is null)",
+    "(N1 is not null)",
+    "(P1 is null)",
+    "(P1{} is null)",
+    "($ is null)",
     // two bounds of one field, which may be fused
-    "a.x #n >= #n a.x > and",
-    "b #n > b #n <= and",
-    "N1 #n =",
-    "N1 N2 !=",
-    "N1 #n <",
-    "N1 #n >=",
-    "S1 #s =",
-    "T1 #t >",
-    "T1 #t fill_null",
-    "T1 cast(bool?)",
+    "(a.x >= #n and #n > a.x)",
+    "(b > #n and b <= #n)",
+    "(N1 = #n)",
+    "(N1 != N2)",
+    "(N1 < #n)",
+    "(N1 >= #n)",
+    "(S1 = #s)",
+    "(T1 > #t)",
+    "fill_null(T1, #t)",
+    "cast(T1 as bool?)",
 ];
 
 const NUMBERS: [&str; 6] = [
-    "N1 #n +",
-    "P1 .x",
-    "P1 .y",
-    "N1 #n fill_null",
-    "N1 cast(i32)",
-    "N1 cast(i32?)",
+    "(N1 + #n)",
+    "P1.x",
+    "P1.y",
+    "fill_null(N1, #n)",
+    "cast(N1 as i32)",
+    "cast(N1 as i32?)",
 ];
 
-const TEXTS: [&str; 2] = ["S1 #s fill_null", "S1 cast(utf8?)"];
+const TEXTS: [&str; 2] = ["fill_null(S1, #s)", "cast(S1 as utf8?)"];
 
 const PAIRS: [&str; 4] = [
-    "N1 N2 pack(x,y)",
-    "N1 N2 pack(x,y)?",
-    "S1 N2 N3 pack(z,y,x) {x,y}",
-    "P1 {~}",
+    "pack(x: N1, y: N2)",
+    "pack(x: N1, y: N2)?",
+    "pack(z: S1, y: N2, x: N3){x, y}",
+    "P1{~}",
 ];
 
 /// Nodes that give what their children give.
 pub const OF_ANY_KIND: [&str; 15] = [
-    "N1 X2 pack(q,p) .p",
-    "N1 X2 pack(q,p)? .p",
-    "X1 X2 T3 zip",
-    "X1 X2 #t zip",
-    "X1 N2 is_null mask",
-    "X1 S2 is_not_null mask",
-    "T1 X2 X3 case",
-    "T1 X2 #x case",
-    "T1 X2 T3 #x X2 case2",
-    "T1 X2 when",
+    "pack(q: N1, p: X2).p",
+    "pack(q: N1, p: X2)?.p",
+    "zip(X1, X2, T3)",
+    "zip(X1, X2, #t)",
+    "mask(X1, N2 is null)",
+    "mask(X1, S2 is not null)",
+    "case when T1 then X2 else X3 end",
+    "case when T1 then X2 else #x end",
+    "case when T1 then X2 when T3 then #x else X2 end",
+    "case when T1 then X2 end",
     // null is replaced, or stays
-    "X1 is_null #x X1 case",
-    "X1 is_not_null X1 #x case",
+    "case when X1 is null then #x else X1 end",
+    "case when X1 is not null then X1 else #x end",
     // the first condition decides
-    "#t X1 X2 case",
-    "#t X1 T2 X3 #x case2",
-    "#t X1 when",
+    "case when #t then X1 else X2 end",
+    "case when #t then X1 when T2 then X3 else #x end",
+    "case when #t then X1 end",
 ];

@@ -1,7 +1,8 @@
-// Trees made by chance, as words, from the trees below them.
+// Trees made by chance, as source texts, from the trees below them.
 use super::grammar::{KINDS, Kind, OF_ANY_KIND};
 use super::seeds::Seeds;
 use std::alloc::{AllocError, Global};
+use vx_test_samples::parted;
 
 /// Trees of each kind.
 #[derive(Drop)]
@@ -58,6 +59,9 @@ fn fields(alloc: Global) -> Result<Layer, AllocError> {
     Ok(layer)
 }
 
+// What ends a word of a row.
+const MARKS: [char; 6] = [' ', '(', ')', '{', ',', '.'];
+
 // How many nodes stand above one another.
 const LAYERS: usize = 4;
 
@@ -76,7 +80,7 @@ impl Maker {
         }
     }
 
-    /// The words of a tree.
+    /// The source text of a tree.
     pub fn tree(&mut self) -> Result<String, AllocError> {
         let mut below = fields(self.alloc)?;
         for _ in 1..LAYERS {
@@ -111,14 +115,15 @@ impl Maker {
             _ => self.seeds.pick(kind.nodes()),
         };
         let chosen = [self.seeds.next(), self.seeds.next(), self.seeds.next()];
-        let mut words = String::new(self.alloc);
-        for word in row.split(' ') {
-            if !words.is_empty() {
-                words.push_str(" ")?;
+        let mut text = String::new(self.alloc);
+        for piece in row.split_inclusive(MARKS) {
+            let (word, mark) = parted(piece, &MARKS);
+            text.push_str(self.word(word, kind, below, chosen))?;
+            if let Some(mark) = mark {
+                text.push(mark)?;
             }
-            words.push_str(self.word(word, kind, below, chosen))?;
         }
-        Ok(words)
+        Ok(text)
     }
 
     // What the word of a row stands for.

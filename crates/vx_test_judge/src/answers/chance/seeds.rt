@@ -19,6 +19,15 @@ impl Seeds {
         (self.0 >> 33) as usize
     }
 
+    /// The next number below the count; 0 where that is 0.
+    pub fn below(&mut self, count: usize) -> usize {
+        let next = self.next();
+        match count {
+            0 => 0,
+            count => next % count,
+        }
+    }
+
     /// One of the texts; none where there is none.
     pub fn pick<'a>(&mut self, texts: &[&'a str]) -> &'a str {
         let next = self.next();

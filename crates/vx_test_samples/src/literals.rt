@@ -1,5 +1,5 @@
 // Values by their words.
-use super::pieces::{parted, within};
+use crate::pieces::{parted, within};
 use crate::unread::Unread;
 use std::alloc::Global;
 use vx_tree::Value;
@@ -16,6 +16,11 @@ pub fn value(alloc: Global, word: &str) -> Result<Value, Unread> {
         return Err(Unread::Word("not one value"));
     }
     values.pop().ok_or(Unread::Word("no value"))
+}
+
+/// The value and the type of `VALUE:TYPE`.
+pub fn typed(word: &str) -> Option<(&str, &str)> {
+    word.rsplit_once(':')
 }
 
 /// The values of the words, which stand one space apart.

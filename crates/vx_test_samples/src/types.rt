@@ -3,12 +3,12 @@ ghost use Rattle.std.specs.Prelude.{◌≡◌};
 ghost use Rattle.vx_value.specs.Types.{is_nullable};
 ghost use Rattle.vx_value.specs.Views.{admits_null, type_of};
 
-use super::pieces::{numbered, parted};
+use crate::pieces::{numbered, parted};
 use crate::unread::Unread;
 use std::alloc::Global;
 use std::rc::Rc;
 use vx_tree::Nullability::{NonNullable, Nullable};
-use vx_tree::{DType, FieldName, FieldNames, Nullability, PType, StructFields};
+use vx_tree::{DType, FieldName, FieldNames, Nullability, PType, StructFields, VortexResult};
 
 const MARKS: [char; 10] = ['(', ')', '[', ']', '{', '}', ',', '=', '*', '?'];
 
@@ -186,14 +186,26 @@ fn numbered_name(alloc: Global, name: &str, number: usize) -> Result<FieldName, 
     Ok(FieldName::new(alloc, numbered(alloc, name, number)?.as_str())?)
 }
 
+/// The names of the list, with such a mark between them; none of an empty list.
+pub fn names(alloc: Global, list: &str, mark: char) -> VortexResult<FieldNames> {
+    if list.is_empty() {
+        return FieldNames::empty(alloc);
+    }
+    let mut names = Vec::new(alloc);
+    for name in list.split(mark) {
+        names.push(FieldName::new(alloc, name)?)?;
+    }
+    FieldNames::new(alloc, names)
+}
+
 pub fn i32_type(nullability: Nullability) -> DType
     ensures { is_nullable (type_of result) ≡ admits_null nullability }
 {
     DType::Primitive(PType::I32, nullability)
 }
 
-/// A type that is no struct and no list, as it prints.
-pub fn flat(word: &str) -> Option<DType> {
+// A type that is no struct and no list, as it prints.
+fn flat(word: &str) -> Option<DType> {
     let (kind, nullability) = match word.strip_suffix('?') {
         Some(kind) => (kind, Nullable),
         None => (word, NonNullable),
@@ -206,7 +218,7 @@ pub fn flat(word: &str) -> Option<DType> {
     })
 }
 
-pub fn ptype(word: &str) -> Option<PType> {
+fn ptype(word: &str) -> Option<PType> {
     Some(match word {
         "u8" => PType::U8,
         "u16" => PType::U16,
