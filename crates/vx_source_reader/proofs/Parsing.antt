@@ -1,5 +1,5 @@
 -- What a whole text comes to, where a place up to the token is all that is said of a refusal.
-use Rattle.std.proofs.Common.{◌≡◌, ◌≤◌, ◌<◌, ℕ, false, List, length, drop, Ok, Err, subst, arith}
+use Rattle.std.proofs.Common.{◌≡◌, ◌≤◌, ◌<◌, ℕ, false, List, length, drop, Ok, Err, sym, subst, arith}
 use Rattle.vx_source_tokens.specs.declared.error.ParseError.{ParseError}
 use Rattle.vx_source_tokens.specs.declared.error.ParseError.TheVariants.{OutOfMemory, Unexpected}
 use Rattle.vx_source_tokens.specs.Tokens.{Lexeme, skip, first}
