@@ -35,13 +35,7 @@ impl Work {
 /// each result let go before the next, and writes how many bytes the source text has. Answers the number
 /// of a [`Status`]; where that isn't 0, `bytes` stays.
 #[unsafe(no_mangle)]
-pub extern "C" fn vx_text(
-    alloc: Global,
-    size: usize,
-    work: u8,
-    repeats: u32,
-    bytes: &mut u64,
-) -> u8
+pub extern "C" fn vx_text(alloc: Global, size: usize, work: u8, repeats: u32, bytes: &mut u64) -> u8
     ensures status { result < 4 }
     ensures kept { result ≢ 0 → bytes.new ≡ bytes.old }
 {
