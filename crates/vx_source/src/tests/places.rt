@@ -3,22 +3,27 @@ use crate::{DEFAULT_NESTING, Places, parse_with_places};
 use std::alloc::Global;
 use std::test::Fail;
 
-// The bytes of the nodes, a node before its children, each where it begins and ends.
+// The bytes of the nodes, a node before its children, each where it begins and ends; of the first hundred.
 fn written(alloc: Global, text: &str) -> Result<String, Fail> {
     let placed = parse_with_places(alloc, text, DEFAULT_NESTING)?;
     let mut all = String::new(alloc);
     let mut left: Vec<Places> = Vec::from_array(alloc, [placed.places])?;
-    while let Some(
-        Places {
-            start,
-            end,
-            mut children,
-        },
-    ) = left.pop()
-    {
+    for _ in 0..100 {
+        let Some(
+            Places {
+                start,
+                end,
+                mut children,
+            },
+        ) = left.pop()
+        else {
+            break;
+        };
         all.push_str(format!(in alloc; "{start}-{end} ")?.as_str())?;
-        while let Some(child) = children.pop() {
-            left.push(child)?;
+        for _ in 0..children.len() {
+            if let Some(child) = children.pop() {
+                left.push(child)?;
+            }
         }
     }
     Ok(all)
