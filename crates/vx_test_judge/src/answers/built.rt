@@ -1,7 +1,7 @@
 // Trees put together by their constructors.
 mod bound;
+mod chains;
 mod children;
-mod collected;
 mod constructors;
 mod plain;
 mod walk;
@@ -9,7 +9,7 @@ mod walk;
 use crate::scene::Scene;
 use crate::told::{refused, typed};
 use bound::OfBound;
-pub use collected::collected;
+pub use chains::collected;
 use plain::OfSources;
 use std::alloc::Global;
 use vx_tree::{Expression, VortexResult};
