@@ -108,6 +108,31 @@ def twice(n):
     ]
 
 
+def joined(items):
+    """The text of a chain of the items: neighbours are joined in pairs, round after round."""
+    while len(items) > 1:
+        pairs = [f"({lhs} and {rhs})" for lhs, rhs in zip(items[::2], items[1::2])]
+        items = pairs + items[len(items) & ~1 :]
+    return items[0]
+
+
+def texts(n):
+    """Great texts: of 100 n bytes, of 10 n brackets, of a thousand digits, of n conjuncts and n items."""
+    most = 100 * n
+    number = "expected a number in its type's range: i32, or one with a suffix of i8, i16, i32, i64, u8, u16, u32, u64"
+    items = ", ".join(["1"] * n)
+    return [], None, [
+        ("blanks", f"parse | x{' ' * most}+ 1 | ($.x + 1i32)"),
+        ("a text", f'parse | "{"a" * most}" | "{"a" * most}"'),
+        ("a field", f"parse | {'a' * most} | $.{'a' * most}"),
+        ("brackets", f"parse | {'(' * (10 * n)} | at byte 200: expected less nesting"),
+        ("`case when`", f"parse | {'case when ' * (10 * n)} | at byte 2000: expected less nesting"),
+        ("digits", f"parse | {'9' * 1000} | at byte 0: {number}"),
+        ("conjuncts", f"parse | {' and '.join(f'a >= {i}' for i in range(n))} | {joined([f'($.a >= {i}i32)' for i in range(n)])}"),
+        ("items", f"parse | [{items}]::list(u8) | [{items}]::list(u8)"),
+    ]
+
+
 def measured(scope, line):
     """The seconds and the bytes at the peak that the line takes, and whether it was answered."""
     with tempfile.TemporaryDirectory() as room:
@@ -135,6 +160,7 @@ def main():
         (f"{n // 100} ranges", ranges(n // 100)),
         (f"{n // 100} ranges in a chain", chained(n // 100)),
         (f"a name of {10 * n} bytes", name(n)),
+        (f"texts of {100 * n} bytes", texts(n)),
         *[(f"kept twice {k} times over", twice(k)) for k in (5, 10, 15)],
     ]
     print("| Shape | Line | Time |\n|---|---|---:|")
