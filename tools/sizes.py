@@ -127,7 +127,7 @@ def texts(n):
         ("a field", f"parse | {'a' * most} | $.{'a' * most}"),
         ("brackets", f"parse | {'(' * (10 * n)} | at byte 200: expected less nesting"),
         ("`case when`", f"parse | {'case when ' * (10 * n)} | at byte 2000: expected less nesting"),
-        ("digits", f"parse | {'9' * 1000} | at byte 0: {number}"),
+        ("digits", f"parse | {'9' * 1000}u64 | at byte 0: {number}"),
         ("conjuncts", f"parse | {' and '.join(f'a >= {i}' for i in range(n))} | {joined([f'($.a >= {i}i32)' for i in range(n)])}"),
         ("items", f"parse | [{items}]::list(u8) | [{items}]::list(u8)"),
     ]
