@@ -1,7 +1,7 @@
 // Types of columns.
-ghost use Rattle.std.specs.Prelude.{◌≡◌, IfOk, Ok, length, option_map, true};
+ghost use Rattle.std.specs.Prelude.{◌≡◌, IfOk, Ok, false, length, option_map, true};
 ghost use Rattle.vx_dtype.specs.Answers.{Answers};
-ghost use Rattle.vx_dtype.specs.Types.{is_nullable, with_nullability, struct_fields};
+ghost use Rattle.vx_dtype.specs.Types.{atomic, is_nullable, number, struct_fields, ty, with_nullability};
 ghost use Rattle.vx_dtype.specs.Views.{admits_null, type_of, fields_of, fields_view, names_of};
 
 use crate::{FieldNames, VortexResult};
@@ -142,6 +142,15 @@ impl DType {
             DType::Struct(fields, _) => Some(fields),
             _ => None,
         }
+    }
+}
+
+impl From<PType> for DType {
+    /// The whole numbers in that range, without null.
+    ghost from_gives = { λ ptype dtype. type_of dtype ≡ ty (atomic (number ptype)) false };
+
+    fn from(ptype: PType) -> DType {
+        DType::Primitive(ptype, Nullability::NonNullable)
     }
 }
 

@@ -14,10 +14,11 @@ pub trait NodeVisitor {
     ghost ready: { Self → Type 0 } = { λ _. Unit {0} };
 
     /// Its step on the way down: at a node it may give this answer, and becomes that.
-    ghost down_gives: { Self → Self.NodeTy → Answer → Self → Type 0 };
+    /// A visitor that says nothing of it promises nothing.
+    ghost down_gives: { Self → Self.NodeTy → Answer → Self → Type 0 } = { λ _ _ _ _. Unit {0} };
 
-    /// Its step on the way up.
-    ghost up_gives: { Self → Self.NodeTy → Answer → Self → Type 0 };
+    /// Its step on the way up, in the same words.
+    ghost up_gives: { Self → Self.NodeTy → Answer → Self → Type 0 } = { λ _ _ _ _. Unit {0} };
 
     /// Called at a node before its children. Skip leaves them out, and Stop ends the walk.
     fn visit_down(&mut self, node: &Self::NodeTy) -> VortexResult<TraversalOrder>
