@@ -84,17 +84,16 @@ case_read xs = None
 abbrev pub name_then : Name → List Name × List Lexeme → List Name × List Lexeme
 name_then a (names, rest) = (a ∷ names, rest)
 
--- the names with commas between them, and what is left behind them
-abbrev mutual
-  pub names_read : List Lexeme → List Name × List Lexeme
-  names_read [] = ([], [])
-  names_read (word a ∷ xs) = name_then a (more_read xs)
-  names_read (quoted a ∷ xs) = name_then a (more_read xs)
-  names_read (x ∷ xs) = ([], x ∷ xs)
+-- the names with commas between them, behind a name and from the first on, and what is left behind them
+abbrev pub more_read : List Lexeme → List Name × List Lexeme
+more_read (sign Comma ∷ word a ∷ xs) = name_then a (more_read xs)
+more_read (sign Comma ∷ quoted a ∷ xs) = name_then a (more_read xs)
+more_read xs = ([], xs)
 
-  pub more_read : List Lexeme → List Name × List Lexeme
-  more_read (sign Comma ∷ xs) = names_read xs
-  more_read xs = ([], xs)
+abbrev pub names_read : List Lexeme → List Name × List Lexeme
+names_read (word a ∷ xs) = name_then a (more_read xs)
+names_read (quoted a ∷ xs) = name_then a (more_read xs)
+names_read xs = ([], xs)
 
 abbrev pub braced : (List Name → FieldSelection) → List Name × List Lexeme → Option Function
 braced selection (names, sign CloseBrace ∷ []) = Some (select (selection names))

@@ -31,6 +31,10 @@ name_read : {a : Name} {x : Lexeme} → IsNameOf a x → (xs : List Lexeme) → 
 name_read as_word xs = refl
 name_read as_quoted xs = refl
 
+next_read : {a : Name} {x : Lexeme} → IsNameOf a x → (xs : List Lexeme) → more_read (sign Comma ∷ x ∷ xs) ≡ name_then a (more_read xs)
+next_read as_word xs = refl
+next_read as_quoted xs = refl
+
 more_names : (names : List Name) (rest : List ℕ) → AreTexts names → is_word (next rest) ≡ false → (next rest == 96) ≡ false → NamesIn more_read names (after_commas (map name_source names) ++ rest) rest
 more_names [] rest u e q = record { tokens = []; collected = λ n. no_token; read_back = λ y ys c. (c ys).1 }
 more_names (a ∷ names) rest u e q =
@@ -42,7 +46,7 @@ more_names (a ∷ names) rest u e q =
     record {
       tokens = sign Comma ∷ name.token ∷ more.tokens;
       collected = λ n. of_collected_text grouped (one_token {m = n} (first_comma (32 ∷ (name_source a ++ behind))) refl (one_token {m = n} name.found (name_counted n name.is_name) (more.collected n)));
-      read_back = λ y ys c. name_read name.is_name (more.tokens ++ y ∷ ys) ∙ ap (name_then a) (more.read_back y ys c);
+      read_back = λ y ys c. next_read name.is_name (more.tokens ++ y ∷ ys) ∙ ap (name_then a) (more.read_back y ys c);
     }
 
 pub all_names : (names : List Name) (rest : List ℕ) → AreTexts names → is_word (next rest) ≡ false → (next rest == 96) ≡ false → NamesIn names_read names (names_source names ++ rest) rest

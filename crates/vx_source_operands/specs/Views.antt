@@ -20,6 +20,7 @@ use Rattle.vx_source_operands.specs.declared.frame.Frame.{Frame}
 use Rattle.vx_source_operands.specs.declared.frame.Frame.TheVariants.{Chain, Not, Binary, Like, Lower, Upper, Paren, Call, Pack, Cast, Case}
 use Rattle.vx_source_operands.specs.declared.state.TypeFor.{TypeFor}
 use Rattle.vx_source_operands.specs.declared.state.TypeFor.TheVariants.{Literal as ForLiteral, Cast as ForCast, CastCall as ForCastCall}
+use Rattle.vx_source_operands.specs.declared.state.OptionsSoFar.{OptionsSoFar}
 use Rattle.vx_source_operands.specs.declared.state.Mode.{Mode}
 use Rattle.vx_source_operands.specs.declared.state.Mode.TheVariants as modes
 use Rattle.vx_source_operands.specs.declared.state.ExpressionReader.{ExpressionReader}
@@ -72,6 +73,9 @@ type_for (ForLiteral d start) = reading.for_literal (values.draft_of d)
 type_for (ForCast o) = reading.for_cast (operand_of o)
 type_for (ForCastCall o b) = reading.for_cast_call (operand_of o) b.room
 
+abbrev pub options_of : OptionsSoFar → reading.Mode
+options_of o = reading.in_options o.name (lexemes_of o.tokens.items) o.opened o.room
+
 abbrev pub mode_of : Mode → reading.Mode
 mode_of modes.Operand = reading.operand_due
 mode_of modes.FirstChild = reading.first_child
@@ -80,7 +84,7 @@ mode_of (modes.Loose o) = reading.loose (operand_of o)
 mode_of (modes.Word a start end) = reading.at_word a
 mode_of (modes.Vortex a start end) = reading.at_vortex a
 mode_of (modes.Id a b start end) = reading.at_id a b
-mode_of (modes.Options b xs opened room start) = reading.in_options b (lexemes_of xs.items) opened room
+mode_of (modes.Options o) = options_of o
 mode_of (modes.Children f start) = reading.children_due (function_of f.value)
 mode_of (modes.Dot o) = reading.at_dot (operand_of o)
 mode_of (modes.Selection o) = reading.at_selection (operand_of o)

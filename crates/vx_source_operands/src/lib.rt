@@ -12,4 +12,6 @@ pub use frame::{Bracket, Callee, CasePart, Frame, Level};
 pub use joining::reduce;
 pub use nodes::{enclosed, node, node_between, node_over, root};
 pub use operand::{Operand, Places};
-pub use state::{ExpressionReader, ExpressionStep, Mode, TypeFor, begun_at, more, tight};
+pub use state::{
+    ExpressionReader, ExpressionStep, Mode, OptionsSoFar, TypeFor, begun_at, more, tight,
+};

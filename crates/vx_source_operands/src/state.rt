@@ -23,6 +23,21 @@ pub enum TypeFor {
     CastCall(Operand, Bracket),
 }
 
+/// The options of a function, read so far.
+#[derive(Drop)]
+pub struct OptionsSoFar {
+    /// The function's name, without `vortex.`.
+    pub name: FieldName,
+    /// The tokens of the options.
+    pub tokens: Vec<Found>,
+    /// How many square brackets are open in them.
+    pub opened: usize,
+    /// The nesting that is allowed in them.
+    pub room: usize,
+    /// The byte where the function begins.
+    pub start: usize,
+}
+
 /// What is due next.
 #[derive(Drop)]
 pub enum Mode {
@@ -40,9 +55,8 @@ pub enum Mode {
     Vortex(FieldName, usize, usize),
     /// `vortex.` and a name, from the first byte to the other.
     Id(FieldName, FieldName, usize, usize),
-    /// The options of that function, read so far, with so many square brackets open inside, the nesting that is allowed in
-    /// them, and the byte where the function begins.
-    Options(FieldName, Vec<Found>, usize, usize, usize),
+    /// More options of a function, or the bracket behind them.
+    Options(OptionsSoFar),
     /// The bracket before the children of the function, which begins at that byte.
     Children(Box<ScalarFnRef>, usize),
     /// A dot is there.

@@ -47,6 +47,11 @@ first_name (word a ∷ xs) = Some (a, xs)
 first_name (quoted a ∷ xs) = Some (a, xs)
 first_name xs = None
 
+-- the name that stands behind a comma, and what is left behind it
+abbrev pub next_name : List Lexeme → Option (Name × List Lexeme)
+next_name (sign Comma ∷ xs) = first_name xs
+next_name xs = None
+
 -- the functions whose options are signs, keywords and numbers
 abbrev pub sign_readers : List (List ℕ × (List Lexeme → Option Function))
 sign_readers = (codes "binary", operator_read) ∷ (codes "like", like_read) ∷ (codes "between", between_read) ∷ (codes "case_when", case_read) ∷ []

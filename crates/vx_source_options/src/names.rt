@@ -7,7 +7,7 @@ ghost use Rattle.vx_source_dtype.specs.Reading.{Gives};
 ghost use Rattle.vx_source_grammar.specs.OptionReading.{braced, item_read, names_read, nullability_at, pack_read, packed, select_read};
 ghost use Rattle.vx_source_operands.specs.Views.{lexeme_in, lexemes_of};
 ghost use Rattle.vx_source_options.specs.NameParts.{behind_bracket, is_closed, selected};
-ghost use Rattle.vx_source_options.specs.Parts.{first_name};
+ghost use Rattle.vx_source_options.specs.Parts.{first_name, next_name};
 ghost use Rattle.vx_source_options.specs.Views.{pack_of, selecting};
 ghost use Rattle.vx_source_tokens.specs.declared.error.ParseError.TheVariants.{OutOfMemory};
 
@@ -176,15 +176,22 @@ fn names(alloc: Global, tokens: &[Found]) -> Result<(Vec<FieldName>, &[Found]), 
     ensures { Gives (λ read. (read.0.items, lexemes_of read.1.now)) result (names_read (lexemes_of tokens.now)) }
 {
     let mut names = Vec::new(alloc);
-    let mut left = tokens;
-    while let Some((name, rest)) = first_name(left) {
+    let Some((first, mut left)) = first_name(tokens) else {
+        return Ok((names, tokens));
+    };
+    names.push(first.clone()?)?;
+    while let Some((name, rest)) = next_name(left) {
         names.push(name.clone()?)?;
-        match behind_comma(rest) {
-            Some(rest) => left = rest,
-            None => return Ok((names, rest)),
-        }
+        left = rest;
     }
     Ok((names, left))
+}
+
+// The name that stands behind a comma, and what is left behind it.
+fn next_name(tokens: &[Found]) -> Option<(&FieldName, &[Found])>
+    ensures { option_map (λ p. (p.0.now, lexemes_of p.1.now)) result ≡ next_name (lexemes_of tokens.now) }
+{
+    first_name(behind_comma(tokens)?)
 }
 
 // The name that stands first, and what is left behind it.

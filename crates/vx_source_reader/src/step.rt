@@ -38,11 +38,7 @@ pub(crate) fn step(
         Mode::Id(word, name, start, end) => {
             after_id(alloc, frames, room, (word, name), (start, end), found)
         }
-        Mode::Options(name, options, opened, inner, start) => {
-            options_next(
-                alloc, frames, room, name, options, opened, inner, start, token,
-            )
-        }
+        Mode::Options(options) => options_next(alloc, frames, room, options, token),
         Mode::Children(function, start) => children(alloc, frames, room, function, start, found),
         Mode::Dot(e) => dot(alloc, frames, room, e, found),
         Mode::Selection(e) => selection(alloc, frames, room, e, found),

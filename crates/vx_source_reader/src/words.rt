@@ -18,7 +18,7 @@ use std::alloc::Global;
 use vx_fn::ScalarFnRef;
 use vx_source_following::{after_tight, dot, field, keyword};
 use vx_source_grammar::Keyword;
-use vx_source_operands::{Callee, ExpressionStep, Frame, Mode, more};
+use vx_source_operands::{Callee, ExpressionStep, Frame, Mode, OptionsSoFar, more};
 use vx_source_options::{function_of, plain_function};
 use vx_source_tokens::{Expected, Found, ParseError, Sign, Token};
 use vx_source_types::{expected, inside, refusal};
@@ -103,8 +103,14 @@ pub(crate) fn after_id(
         Token::Sign(Sign::OpenParen) => call_by_id(alloc, frames, room, name, bytes.0, found),
         Token::Sign(Sign::OpenBracket) => {
             let less = inside(room, found)?;
-            let mode = Mode::Options(name, Vec::new(alloc), 0, less, bytes.0);
-            Ok(more(frames, mode, room))
+            let options = OptionsSoFar {
+                name,
+                tokens: Vec::new(alloc),
+                opened: 0,
+                room: less,
+                start: bytes.0,
+            };
+            Ok(more(frames, Mode::Options(options), room))
         }
         _ => {
             let inner = field_of_root(alloc, word, bytes, room, found)?;
@@ -136,49 +142,42 @@ pub(crate) fn options_next(
     alloc: Global,
     frames: Vec<Frame>,
     room: usize,
-    name: FieldName,
-    options: Vec<Found>,
-    opened: usize,
-    inner: usize,
-    start: usize,
+    options: OptionsSoFar,
     found: Found,
 ) -> Result<ExpressionStep, ParseError>
-    ensures reads { ReadsUpTo found.at step_of result (options_at (frames_of frames.items) room name (lexemes_of options.items) opened inner (lexeme_of found.token)) }
+    ensures reads { ReadsUpTo found.at step_of result (options_at (frames_of frames.items) room options.name (lexemes_of options.tokens.items) options.opened options.room (lexeme_of found.token)) }
 {
     match &found.token {
-        Token::Sign(Sign::OpenBracket) => match opened.checked_add(1) {
-            Some(opened) => { collect(frames, room, name, options, opened, inner, start, found) }
+        Token::Sign(Sign::OpenBracket) => match options.opened.checked_add(1) {
+            Some(opened) => collect(frames, room, options, opened, found),
             None => Err(ParseError::OutOfMemory),
         },
-        Token::Sign(Sign::CloseBracket) => match opened.checked_sub(1) {
-            Some(opened) => { collect(frames, room, name, options, opened, inner, start, found) }
-            None => end_options(alloc, frames, room, name, options, inner, start, &found),
+        Token::Sign(Sign::CloseBracket) => match options.opened.checked_sub(1) {
+            Some(opened) => collect(frames, room, options, opened, found),
+            None => end_options(alloc, frames, room, options, &found),
         },
         Token::End => Err(expected(&found, Expected::CloseBracket)),
         Token::Invalid(wanted) => Err(expected(&found, *wanted)),
-        _ => collect(frames, room, name, options, opened, inner, start, found),
+        _ => {
+            let opened = options.opened;
+            collect(frames, room, options, opened, found)
+        }
     }
 }
 
-// The options go on behind the token.
+// The options go on behind the token, with so many brackets open.
 fn collect(
     frames: Vec<Frame>,
     room: usize,
-    name: FieldName,
-    mut options: Vec<Found>,
+    mut options: OptionsSoFar,
     opened: usize,
-    inner: usize,
-    start: usize,
     found: Found,
 ) -> Result<ExpressionStep, ParseError>
-    ensures reads { ReadsUpTo found.at step_of result (goes (frames_of frames.items) (in_options name (lexemes_of options.items ++ lexeme_of found.token ∷ []) opened inner) room) }
+    ensures reads { ReadsUpTo found.at step_of result (goes (frames_of frames.items) (in_options options.name (lexemes_of options.tokens.items ++ lexeme_of found.token ∷ []) opened options.room) room) }
 {
-    options.push(found)?;
-    Ok(more(
-        frames,
-        Mode::Options(name, options, opened, inner, start),
-        room,
-    ))
+    options.tokens.push(found)?;
+    options.opened = opened;
+    Ok(more(frames, Mode::Options(options), room))
 }
 
 // The options have ended.
@@ -186,17 +185,15 @@ fn end_options(
     alloc: Global,
     frames: Vec<Frame>,
     room: usize,
-    name: FieldName,
-    options: Vec<Found>,
-    inner: usize,
-    start: usize,
+    options: OptionsSoFar,
     found: &Found,
 ) -> Result<ExpressionStep, ParseError>
-    ensures reads { ReadsUpTo found.now.at step_of result (when_read (λ f. goes (frames_of frames.items) (children_due f) room) (function_read name (lexemes_of options.items) inner)) }
+    ensures reads { ReadsUpTo found.now.at step_of result (when_read (λ f. goes (frames_of frames.items) (children_due f) room) (function_read options.name (lexemes_of options.tokens.items) options.room)) }
 {
-    let function = function_of(alloc, &name, options.as_slice(), inner, found)?;
+    let tokens = options.tokens.as_slice();
+    let function = function_of(alloc, &options.name, tokens, options.room, found)?;
     let function = Box::new(alloc, function)?;
-    Ok(more(frames, Mode::Children(function, start), room))
+    Ok(more(frames, Mode::Children(function, options.start), room))
 }
 
 // The children of a function with its options.

@@ -1,6 +1,6 @@
 -- A number that is spelled at the front is the first token.
-use Rattle.std.proofs.Common.{◌≡◌, ℕ, ◌+◌, ◌-◌, ◌*◌, ◌/◌, ◌%◌, ◌^◌, ◌<◌, ◌≤◌, Bool, true, false, List, [], ◌∷◌, ◌++◌, Option, Some, length, take, drop, refl, sym, ap, ◌∙◌, arith}
-use Rattle.std.specs.Prelude.{◌==◌, ◌&&◌, nat_lt}
+use Rattle.std.proofs.Common.{◌≡◌, ℕ, ◌+◌, ◌-◌, ◌*◌, ◌/◌, ◌%◌, ◌^◌, ◌<◌, ◌≤◌, Bool, true, false, List, [], ◌∷◌, ◌++◌, Option, Some, length, take, drop, refl, ap, ◌∙◌, arith}
+use Rattle.std.specs.Prelude.{◌==◌, nat_lt}
 use Rattle.std.specs.Fmt.{decimal}
 use Rattle.std.specs.List.{list_all}
 use Rattle.std.proofs.Math.Seq.{take-append_seam, drop-append_seam}
@@ -8,7 +8,7 @@ use Rattle.std.proofs.lemmas.Bool.{and_parts, and_from}
 use Rattle.std.proofs.lemmas.Bool.Decides.{nat_tests}
 use Rattle.std.proofs.lemmas.Fmt.{decimal_by_steps}
 use Rattle.vx_source_tokens.specs.Characters.{is_letter, is_digit, is_word, is_blank}
-use Rattle.vx_source_tokens.specs.Tokens.{Lexeme, number, Taken, next, begins_comment, is_hex, word_len, magnitude, more_digits, narrow, number_of, number_taken, token_at, first}
+use Rattle.vx_source_tokens.specs.Tokens.{number, Taken, next, begins_comment, is_hex, word_len, magnitude, more_digits, narrow, number_of, number_taken, token_at, first}
 use Rattle.vx_source_tokens.proofs.Choice.{yes, no}
 use Rattle.vx_source_tokens.proofs.FirstTokens.{no_blank, prefix_of_all}
 

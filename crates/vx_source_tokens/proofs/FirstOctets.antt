@@ -1,5 +1,5 @@
 -- Bytes that are spelled at the front are the first token.
-use Rattle.std.proofs.Common.{◌≡◌, ℕ, ◌/◌, ◌%◌, ◌<◌, ◌≤◌, zero, suc, Bool, true, false, ◌⊎◌, ⊎_elim, List, [], ◌∷◌, ◌++◌, Result, Ok, length, take, drop, refl, sym, ap, ◌∙◌, subst, arith}
+use Rattle.std.proofs.Common.{◌≡◌, ℕ, ◌/◌, ◌%◌, ◌<◌, ◌≤◌, zero, suc, Bool, true, false, ⊎_elim, List, [], ◌∷◌, ◌++◌, Result, length, take, drop, refl, ap, ◌∙◌, subst, arith}
 use Rattle.std.specs.Prelude.{◌&&◌, slice_index}
 use Rattle.std.specs.List.{list_all}
 use Rattle.std.proofs.Math.Seq.{take-append_seam, drop-append_seam}
@@ -8,7 +8,7 @@ use Rattle.hex.specs.Hex.{IsBytes, decode_of, encode_with, encode_lower, lower_d
 use Rattle.hex.specs.declared.error.FromHexError.{FromHexError}
 use Rattle.hex.proofs.HexLemmas.{decode_of-encode_lower}
 use Rattle.vx_source_tokens.specs.Characters.{is_word}
-use Rattle.vx_source_tokens.specs.Tokens.{Lexeme, octets, octets_lexeme, Taken, next, word_len, octets_taken, first}
+use Rattle.vx_source_tokens.specs.Tokens.{octets, octets_lexeme, Taken, next, word_len, first}
 use Rattle.vx_source_tokens.proofs.FirstTokens.{prefix_of_all}
 
 -- ---- hexadecimal digits are parts of words

@@ -5,8 +5,8 @@ use Rattle.std.specs.List.{list_all, prefix_len}
 use Rattle.std.specs.Str.{IsUtf8}
 use Rattle.std.proofs.lemmas.Bool.Decides.{nat_tests}
 use Rattle.vx_source_tokens.specs.Characters.{is_letter, is_digit, is_word, is_blank}
-use Rattle.vx_source_tokens.specs.Spellings.{is_plain, doubled, between_quotes, name_source}
-use Rattle.vx_source_tokens.specs.Tokens.{Lexeme, word, quoted, text, Taken, next, skip, begins_comment, is_hex, word_len, unquoted, other_taken, token_from, token_at, first, quoted_taken, text_taken, quoted_lexeme, text_lexeme}
+use Rattle.vx_source_tokens.specs.Spellings.{is_plain, doubled, between_quotes}
+use Rattle.vx_source_tokens.specs.Tokens.{Lexeme, word, quoted, text, Taken, next, skip, begins_comment, is_hex, word_len, other_taken, token_at, first, quoted_taken, text_taken}
 use Rattle.vx_source_tokens.proofs.Choice.{yes, no}
 use Rattle.vx_source_tokens.proofs.Quoting.{text_of_utf8, quoted_of_utf8}
 use Rattle.vx_source_tokens.proofs.Unquoting.{unquoted_doubled}

@@ -6,7 +6,7 @@ use Rattle.std.specs.Str.{IsUtf8, is_utf8}
 use Rattle.std.proofs.lemmas.Str.{IsUtf8-from_is_utf8, is_utf8-from_IsUtf8}
 use Rattle.vx_source_tokens.proofs.Choice.{yes, no}
 use Rattle.vx_source_tokens.specs.declared.expected.Expected.TheVariants.{ClosingQuote, ClosingBackquote}
-use Rattle.vx_source_tokens.specs.Tokens.{Lexeme, text, quoted, invalid, text_lexeme, quoted_lexeme, unquoted, with_byte, after_bytes}
+use Rattle.vx_source_tokens.specs.Tokens.{text, quoted, invalid, text_lexeme, quoted_lexeme, unquoted, with_byte, after_bytes}
 
 -- what a text that isn't UTF-8 is by the test
 not_utf8 : (b : Bool) (bs : List ℕ) → is_utf8 bs ≡ b → ¬ (IsUtf8 bs) → b ≡ false

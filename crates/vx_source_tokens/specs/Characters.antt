@@ -1,5 +1,5 @@
 -- What the characters of a source text are for.
-use Rattle.std.specs.Prelude.{ℕ, Bool, true, false, ◌||◌, ◌&&◌, ◌==◌, nat_le}
+use Rattle.std.specs.Prelude.{ℕ, Bool, ◌||◌, ◌&&◌, ◌==◌, nat_le}
 
 -- whether the byte is a letter or an underscore, with which a word begins
 abbrev pub is_letter : ℕ → Bool

@@ -1,5 +1,5 @@
 -- The first token of a text.
-use Rattle.std.specs.Prelude.{◌≡◌, ℕ, ◌^◌, ◌+◌, ◌*◌, ◌-◌, Bool, true, false, not, List, [], ◌∷◌, ◌++◌, Option, Some, None, Result, Ok, Err, take, drop, ◌==◌, nat_lt}
+use Rattle.std.specs.Prelude.{ℕ, ◌^◌, ◌+◌, ◌*◌, ◌-◌, Bool, true, false, not, List, [], ◌∷◌, ◌++◌, Option, Some, None, Result, Ok, Err, take, drop, ◌==◌, nat_lt}
 use Rattle.std.specs.List.{prefix_len}
 use Rattle.std.specs.Str.{is_utf8}
 use Rattle.hex.specs.Hex.{decode_of}

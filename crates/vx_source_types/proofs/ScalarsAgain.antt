@@ -1,5 +1,5 @@
 -- The text of a scalar is read as that scalar.
-use Rattle.std.proofs.Common.{◌≡◌, ℕ, ◌≤◌, suc, Bool, true, false, List, [], ◌∷◌, ◌++◌, Option, Some, None, Ok, refl, sym, ap, ◌∙◌, subst, append_assoc, append-nil, arith}
+use Rattle.std.proofs.Common.{◌≡◌, ℕ, ◌≤◌, suc, Bool, true, false, List, [], ◌∷◌, ◌++◌, Option, Some, None, Ok, refl, sym, ap, ◌∙◌, subst, append_assoc, append-nil}
 use Rattle.std.specs.Prelude.{◌==◌, option_and_then, if◌then◌else◌, ℤ, pos, negsuc}
 use Rattle.std.specs.Fmt.{decimal, signed_decimal}
 use Rattle.std.specs.List.{list_all}
@@ -7,25 +7,24 @@ use Rattle.std.proofs.lemmas.Bool.{and_parts}
 use Rattle.std.proofs.lemmas.Slice.Eq.{bytes_eq-Decides}
 use Rattle.vx_dtype.specs.declared.dtype.PType.{PType}
 use Rattle.vx_dtype.specs.declared.dtype.PType.TheVariants.{U8, U16, U32, U64, I8, I16, I32, I64}
-use Rattle.vx_value.specs.Columns.{Constant, constant}
-use Rattle.vx_value.specs.Fits.{fits, each_fits, fields_fit, fits_ptype, Fits}
+use Rattle.vx_value.specs.Columns.{constant}
+use Rattle.vx_value.specs.Fits.{fits, each_fits, fields_fit, Fits}
 use Rattle.vx_value.specs.Texts.{ptype_text}
-use Rattle.vx_value.specs.Types.{Name, truth, number, text, octets, LogicalType, ty, Shape, atomic, list, fixed, struct, Fields, no_field, field, Datum, null, bool, int, utf8, bytes, list_of, struct_of, Data, no_datum, datum}
+use Rattle.vx_value.specs.Types.{Name, truth, number, text, octets, LogicalType, ty, atomic, list, fixed, struct, Fields, no_field, field, Datum, null, bool, int, utf8, bytes, list_of, struct_of, Data, no_datum, datum}
 use Rattle.vx_source_tokens.specs.Characters.{is_word, is_digit}
-use Rattle.vx_source_tokens.specs.declared.token.Sign.TheVariants.{DoubleColon}
-use Rattle.vx_source_tokens.specs.Tokens.{Lexeme, number as numeral, sign, end, next, first}
+use Rattle.vx_source_tokens.specs.Tokens.{number as numeral, end, next, first}
 use Rattle.vx_source_tokens.proofs.FirstNumbers.{first_number, first_below_zero}
-use Rattle.vx_source_dtype.specs.Reading.{Goes, more, done, Leads, stays, leads, IsRead, is_read}
+use Rattle.vx_source_dtype.specs.Reading.{done, Leads, stays, leads, IsRead, is_read}
 use Rattle.vx_source_dtype.specs.Spelled.{IsSpelled, type_nesting}
 use Rattle.vx_source_dtype.specs.TypeReading.{TypeState, type_start, type_step}
 use Rattle.vx_source_dtype.specs.TypeTexts.{type_source}
-use Rattle.vx_source_dtype.proofs.Reading.{then, of_text}
+use Rattle.vx_source_dtype.proofs.Reading.{then}
 use Rattle.vx_source_dtype.proofs.TypesAgain.{text_again}
 use Rattle.vx_source_types.specs.Literals.{fitting, ranged, names_left, items_left, row_left, behind_name, typed_literal, typed_of}
-use Rattle.vx_source_types.specs.ScalarReading.{ScalarState, scalar_due, in_value, in_type, whole_scalar, suffixed, value_begun, scalar_begins, value_after, type_after, type_ended, scalar_step}
-use Rattle.vx_source_types.specs.ScalarTexts.{value_source, scalar_source, type_behind}
+use Rattle.vx_source_types.specs.ScalarReading.{scalar_due, in_value, in_type, suffixed, value_begun, scalar_begins, value_after, type_after, type_ended, scalar_step}
+use Rattle.vx_source_types.specs.ScalarTexts.{value_source, scalar_source}
 use Rattle.vx_source_types.specs.Spelled.{value_nesting, IsSpelledValue}
-use Rattle.vx_source_types.specs.ValueReading.{Drafted, ValueState, ValueMode, whole_value, value_start, value_step}
+use Rattle.vx_source_types.specs.ValueReading.{Drafted, ValueState, whole_value, value_start, value_step}
 use Rattle.vx_source_types.proofs.ValuesAgain.{Begins, names_after, items_after, row_after, value_again, fits_small, fits_below_zero}
 
 -- ---- the names that a value's structs have by its type

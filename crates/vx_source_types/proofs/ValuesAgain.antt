@@ -1,20 +1,17 @@
 -- The text of a value is read as that value.
-use Rattle.std.proofs.Common.{◌≡◌, ℕ, ◌+◌, ◌≤◌, ◌<◌, ◌^◌, max, zero, suc, Bool, true, false, List, [], ◌∷◌, ◌++◌, Option, Some, None, Ok, refl, sym, ap, ◌∙◌, subst, append_assoc, append-nil, arith}
-use Rattle.std.specs.Prelude.{codes, ◌==◌, ◌&&◌, nat_lt, ℤ, pos, negsuc, option_and_then}
+use Rattle.std.proofs.Common.{◌≡◌, ℕ, ◌≤◌, ◌<◌, ◌^◌, zero, suc, Bool, true, false, List, [], ◌∷◌, ◌++◌, Some, None, Ok, refl, sym, ap, subst, append_assoc, append-nil, arith}
+use Rattle.std.specs.Prelude.{codes, ◌==◌, ◌&&◌, nat_lt, ℤ, pos, negsuc}
 use Rattle.std.specs.Fmt.{decimal, signed_decimal}
-use Rattle.std.specs.List.{flat_map}
 use Rattle.std.specs.Str.{IsUtf8}
 use Rattle.std.proofs.lemmas.Bool.{and_parts, ltb-true}
 use Rattle.std.proofs.lemmas.Bool.Decides.{nat_tests}
-use Rattle.hex.specs.Hex.{IsBytes}
 use Rattle.vx_dtype.specs.declared.dtype.PType.{PType}
 use Rattle.vx_dtype.specs.declared.dtype.PType.TheVariants.{U8, U16, U32, U64, I8, I16, I32, I64}
 use Rattle.vx_value.specs.Fields.{data_of}
 use Rattle.vx_value.specs.Fits.{fits, each_fits, fields_fit, fits_ptype, Fits}
-use Rattle.vx_value.specs.Types.{Name, bits, is_signed, truth, number, text, octets, LogicalType, ty, Shape, atomic, list, fixed, struct, Fields, no_field, field, Datum, null, bool, int, utf8, bytes, list_of, struct_of, Data, no_datum, datum}
+use Rattle.vx_value.specs.Types.{Name, bits, is_signed, number, LogicalType, ty, atomic, list, fixed, struct, Fields, no_field, field, Datum, null, bool, int, utf8, bytes, list_of, struct_of, Data, no_datum, datum}
 use Rattle.vx_dtype.specs.Texts.{with_commas}
 use Rattle.vx_dtype.proofs.Commas.{after_commas}
-use Rattle.vx_value.specs.ValueTexts.{hex_byte}
 use Rattle.vx_source_tokens.specs.Characters.{is_word, is_digit}
 use Rattle.vx_source_tokens.specs.declared.token.Sign.TheVariants.{OpenBracket, CloseBracket, OpenBrace}
 use Rattle.vx_source_tokens.specs.Tokens.{Lexeme, word, number as numeral, text as text_lexeme, octets as octets_lexeme, sign, next, first}
@@ -29,7 +26,7 @@ use Rattle.vx_source_dtype.proofs.Reading.{then, of_text}
 use Rattle.vx_source_types.specs.ScalarReading.{suffixed}
 use Rattle.vx_source_types.specs.ScalarTexts.{value_source, item_sources, row_sources}
 use Rattle.vx_source_types.specs.Spelled.{value_nesting, data_nesting, IsSpelledValue, AreSpelledValues}
-use Rattle.vx_source_types.specs.ValueReading.{ItemsRead, no_items, with_item, ValueFrame, in_items, in_row, ValueMode, value_due, first_item, first_named, next_named, named_value, whole_value, ValueState, value_step}
+use Rattle.vx_source_types.specs.ValueReading.{ItemsRead, no_items, with_item, ValueFrame, in_items, in_row, ValueMode, value_due, first_item, first_named, next_named, whole_value, ValueState, value_step}
 use Rattle.vx_source_types.proofs.ByteTexts.{byte_texts}
 
 -- a state

@@ -1,5 +1,5 @@
 -- How a scalar is read, token by token: a number with its type, or a value, and its type where it isn't plain.
-use Rattle.std.specs.Prelude.{◌≡◌, ◌⊎◌, ◌≤◌, ℕ, List, [], ◌∷◌, length, Option, Some, None, Result, Ok, Err}
+use Rattle.std.specs.Prelude.{◌≡◌, ◌⊎◌, ◌≤◌, ℕ, List, ◌∷◌, length, Option, Some, None, Result, Ok, Err}
 use Rattle.vx_value.specs.Columns.{Constant}
 use Rattle.vx_value.specs.Types.{LogicalType}
 use Rattle.vx_source_tokens.specs.declared.error.ParseError.{ParseError}

@@ -1,10 +1,10 @@
 -- How a value is read, token by token: what is open around it lies on a stack, and the last token says what is due next.
 -- Its type isn't known yet, so the names of its structs are kept in the order in which they stand.
-use Rattle.std.specs.Prelude.{ℕ, Bool, true, false, List, [], ◌∷◌, ◌++◌, Option, Some, None, Result, Ok, Err, codes, option_map, ℤ, pos, neg_ℤ}
+use Rattle.std.specs.Prelude.{ℕ, Bool, true, false, List, [], ◌∷◌, ◌++◌, Option, Some, None, Result, Ok, codes, option_map, ℤ, pos, neg_ℤ}
 use Rattle.vx_value.specs.Types.{Name, Datum, null, bool, int, utf8, bytes, list_of, struct_of}
 use Rattle.vx_value.specs.Fields.{data_of}
 use Rattle.vx_source_tokens.specs.declared.expected.Expected.{Expected}
-use Rattle.vx_source_tokens.specs.declared.expected.Expected.TheVariants.{Value, Name as AName, FieldValue, CommaOrCloseBracket, CommaOrCloseBrace}
+use Rattle.vx_source_tokens.specs.declared.expected.Expected.TheVariants.{Value, Number, Name as AName, FieldValue, CommaOrCloseBracket, CommaOrCloseBrace}
 use Rattle.vx_source_tokens.specs.declared.token.Sign.TheVariants.{OpenBracket as BracketOpens, CloseBracket as BracketCloses, OpenBrace as BraceOpens, CloseBrace as BraceCloses, Comma as CommaSign, Colon}
 use Rattle.vx_source_tokens.specs.Tokens.{Lexeme, word, number as numeral, text, octets, sign}
 use Rattle.vx_source_dtype.specs.Names.{name_at, same_word}
@@ -80,8 +80,13 @@ simple_value (text s) = Some (utf8 s)
 simple_value (octets bs) = Some (bytes bs)
 simple_value _ = None
 
+-- what a token that is no value lacks: a number without a suffix its range, any other a value
+abbrev pub value_lacking : Lexeme → Expected
+value_lacking (numeral negative None []) = Number
+value_lacking x = Value
+
 abbrev pub simple_begins : List ValueFrame → List Name → ℕ → Lexeme → Option Datum → ValueAnswer
-simple_begins fs ns r x None = refused x Value
+simple_begins fs ns r x None = refused x (value_lacking x)
 simple_begins fs ns r x (Some v) = value_goes fs (whole_value v) ns r
 
 -- no item yet

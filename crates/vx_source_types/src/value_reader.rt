@@ -113,7 +113,21 @@ fn begin_simple(
 {
     match simple_value(alloc, &found.token)? {
         Some(value) => Ok(more(frames, ValueMode::Whole(value), names, room)),
-        None => Err(refusal(found, Expected::Value)),
+        None => Err(refusal(found, lacking(&found.token))),
+    }
+}
+
+// What a token that is no value lacks: a number without a suffix is 2^64 or more.
+fn lacking(token: &Token) -> Expected
+    ensures { result ≡ reading.value_lacking (lexeme_of token.now) }
+{
+    match token {
+        Token::Number {
+            magnitude: None,
+            suffix,
+            ..
+        } if suffix.as_str().is_empty() => Expected::Number,
+        _ => Expected::Value,
     }
 }
 

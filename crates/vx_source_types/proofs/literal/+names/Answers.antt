@@ -1,6 +1,6 @@
-use Rattle.std.proofs.Common.{length, sym, ap, ◌∙◌, arith}
+use Rattle.std.proofs.Common.{sym, ap, ◌∙◌, arith}
 use Rattle.vx_value.specs.Fields.{field_count}
-use Rattle.vx_value.specs.Views.{type_of, fields_view, fields_of, data_view}
+use Rattle.vx_value.specs.Views.{fields_view, fields_of, data_view}
 use Rattle.vx_value.proofs.Lists.{count_view}
 use Rattle.vx_source_types.proofs.NamesLeft.{row_left_count, row_left_end}
 use Rattle.vx_source_types.proofs.literal.+names.Goals as goal

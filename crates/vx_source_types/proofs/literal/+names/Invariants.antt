@@ -1,5 +1,5 @@
 use Rattle.std.proofs.Common.{◌≡◌, drop}
-use Rattle.vx_value.specs.Views.{type_of, fields_view, fields_of, names_of, data_view}
+use Rattle.vx_value.specs.Views.{type_of, fields_view, fields_of, data_view}
 use Rattle.vx_source_types.specs.Literals.{items_left, row_left}
 use Rattle.vx_source_types.proofs.literal.+names.Given as goal
 
