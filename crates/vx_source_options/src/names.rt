@@ -172,6 +172,7 @@ fn nullability_at(found: &Found) -> Option<Nullability>
 }
 
 // The names with commas between them, and what is left behind them.
+#[tactic(auto, using(crate::proofs::NameLists::next_onto))]
 fn names(alloc: Global, tokens: &[Found]) -> Result<(Vec<FieldName>, &[Found]), ParseError>
     ensures { Gives (λ read. (read.0.items, lexemes_of read.1.now)) result (names_read (lexemes_of tokens.now)) }
 {
