@@ -22,3 +22,4 @@ mod PlainOptions
 mod ScalarOptions
 mod Fulls
 pub mod Again
+mod SpelledNext
