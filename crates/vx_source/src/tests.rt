@@ -1,8 +1,9 @@
-// What no line of a table says of source text: line breaks, nesting, sizes, and the bytes of nodes.
+// What no line of a table says of source text: line breaks, nesting, sizes, the bytes of nodes, and expressions read again.
 use crate::parse_with;
 use std::alloc::Global;
 use std::test::Fail;
 
+mod again;
 mod lines;
 mod nesting;
 mod places;

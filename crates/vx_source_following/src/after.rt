@@ -1,10 +1,9 @@
 // What follows an operand: a postfix, an operator, or what closes a bracket.
 ghost use Rattle.std.specs.Prelude.{◌≡◌, Ok};
 ghost use Rattle.vx_source_tokens.specs.Views.{lexeme_of};
-ghost use Rattle.vx_source_dtype.specs.TypeReading.{type_start};
 ghost use Rattle.vx_source_grammar.specs.Closing.{keyword_at};
 ghost use Rattle.vx_source_grammar.specs.Following.{follows, follows_loosely, is_goes, is_not_goes, loose_word_goes, not_goes, word_goes};
-ghost use Rattle.vx_source_grammar.specs.States.{for_cast, goes, in_type};
+ghost use Rattle.vx_source_grammar.specs.States.{goes};
 ghost use Rattle.vx_source_operands.specs.Places.{ReadsUpTo};
 ghost use Rattle.vx_source_operands.specs.Views.{frames_of, operand_of, step_of};
 
@@ -14,9 +13,9 @@ use crate::comparisons::{after_comparison, between, comparison, like, null_test,
 use crate::steps::keyword;
 use std::alloc::Global;
 use vx_source_grammar::Keyword;
-use vx_source_operands::{ExpressionStep, Frame, Mode, Operand, TypeFor, more};
+use vx_source_operands::{ExpressionStep, Frame, Mode, Operand, TypeFor, more, type_due};
 use vx_source_tokens::{Expected, Found, ParseError, Sign, Token};
-use vx_source_types::{TypeReader, expected, refusal};
+use vx_source_types::{expected, refusal};
 
 /// The token behind an operand that a postfix may follow.
 pub fn after_tight(
@@ -31,7 +30,9 @@ pub fn after_tight(
     match &found.token {
         Token::Sign(Sign::Dot) => Ok(more(frames, Mode::Dot(operand), room)),
         Token::Sign(Sign::OpenBrace) => Ok(more(frames, Mode::Selection(operand), room)),
-        Token::Sign(Sign::DoubleColon) => Ok(cast(alloc, frames, room, operand, found.end)),
+        Token::Sign(Sign::DoubleColon) => {
+            Ok(type_due(alloc, frames, room, TypeFor::Cast(operand), found.end)?)
+        }
         Token::Sign(Sign::Plus) => sum(alloc, frames, room, operand, found),
         Token::Sign(sign) => match comparison(*sign) {
             Some(operator) => after_comparison(alloc, frames, room, operand, operator, found),
@@ -39,24 +40,6 @@ pub fn after_tight(
         },
         _ => after_word(alloc, frames, room, operand, found),
     }
-}
-
-// A type is due, to which the operand is cast. The token before it ends at that byte.
-fn cast(
-    alloc: Global,
-    frames: Vec<Frame>,
-    room: usize,
-    operand: Operand,
-    end: usize,
-) -> ExpressionStep
-    ensures { goes (frames_of frames.items) (in_type (for_cast (operand_of operand)) (type_start room)) room ≡ Ok (step_of result) }
-{
-    let reader = TypeReader::new(alloc, room);
-    more(
-        frames,
-        Mode::Type(TypeFor::Cast(operand), reader, end),
-        room,
-    )
 }
 
 // The keyword behind an operand, or what is none.

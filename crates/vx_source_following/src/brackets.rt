@@ -12,10 +12,11 @@ use std::alloc::Global;
 use vx_fn::{CaseWhenOptions, ScalarFnRef};
 use vx_source_grammar::Keyword;
 use vx_source_operands::{
-    Bracket, Callee, CasePart, ExpressionStep, Frame, Mode, Operand, TypeFor, enclosed, more, tight,
+    Bracket, Callee, CasePart, ExpressionStep, Frame, Mode, Operand, TypeFor, enclosed, more,
+    tight, type_due,
 };
 use vx_source_tokens::{Expected, Found, ParseError, Sign, Token};
-use vx_source_types::{TypeReader, expected, refusal};
+use vx_source_types::{expected, refusal};
 use vx_types::FieldName;
 
 /// The call of the children, which begins at that byte, where so much nesting is allowed.
@@ -140,8 +141,7 @@ pub(crate) fn after_cast(
     match keyword(&found.token) {
         Some(Keyword::As) => {
             let wanted = TypeFor::CastCall(operand, bracket);
-            let reader = TypeReader::new(alloc, room);
-            Ok(more(frames, Mode::Type(wanted, reader, found.end), room))
+            Ok(type_due(alloc, frames, room, wanted, found.end)?)
         }
         _ => Err(refusal(found, Expected::As)),
     }

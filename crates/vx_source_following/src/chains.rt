@@ -8,7 +8,7 @@ ghost use Rattle.vx_source_operands.specs.Views.{frames_of, operand_of, step_of}
 use crate::steps::{pending, with_operand};
 use std::alloc::{AllocError, Global};
 use vx_fn::{Operator, StrictComparison};
-use vx_source_operands::{ExpressionStep, Frame, Level, Operand, reduce};
+use vx_source_operands::{ExpressionStep, Frame, Level, OpenRange, Operand, reduce};
 use vx_source_tokens::{Found, ParseError};
 
 /// `and` behind an operand: between the bounds of a `between`, or between two items.
@@ -38,13 +38,14 @@ fn bound_or_item(
     match frames.pop() {
         Some(Frame::Lower(array)) => {
             let start = array.places.start;
-            let frame = Frame::Upper {
+            let range = OpenRange {
                 array,
                 lower: operand,
                 lower_strict: StrictComparison::NonStrict,
                 upper_strict: StrictComparison::NonStrict,
                 start,
             };
+            let frame = Frame::Upper(Box::new(alloc, range)?);
             Ok(pending(frames, frame, room)?)
         }
         Some(frame) => {

@@ -11,7 +11,9 @@ ghost use Rattle.vx_source_operands.specs.Views.{frame_of, frames_of, operand_of
 use crate::steps::pending;
 use std::alloc::Global;
 use vx_fn::{EmptyOptions, LikeOptions, Operator, ScalarFnRef, StrictComparison};
-use vx_source_operands::{ExpressionStep, Frame, Level, Mode, Operand, more, node_over, reduce};
+use vx_source_operands::{
+    ExpressionStep, Frame, Level, Mode, OpenRange, Operand, more, node_over, reduce,
+};
 use vx_source_tokens::{Expected, Found, ParseError, Sign};
 use vx_source_types::expected;
 
@@ -68,11 +70,12 @@ pub(crate) fn after_comparison(
         → ReadsUpTo found.now.at step_of result (grammar.summed (frames_of frames.items) room (operand_of operand) (grammar.comparison_goes room c)) }
 {
     let (frames, operand) = reduce(alloc, frames, room, operand, Level::Sum, found)?;
-    compare(frames, room, operand, operator, found)
+    compare(alloc, frames, room, operand, operator, found)
 }
 
 // The comparison behind what binds more tightly: comparisons don't chain, but `lo < x <= hi`.
 fn compare(
+    alloc: Global,
     mut frames: Vec<Frame>,
     room: usize,
     operand: Operand,
@@ -85,6 +88,7 @@ fn compare(
     match frames.pop() {
         Some(Frame::Binary(first, lower)) => {
             range(
+                alloc,
                 frames,
                 room,
                 lower,
@@ -94,7 +98,7 @@ fn compare(
                 found,
             )
         }
-        Some(Frame::Like(_, _)) | Some(Frame::Upper { .. }) | Some(Frame::Lower(_)) => {
+        Some(Frame::Like(_, _)) | Some(Frame::Upper(_)) | Some(Frame::Lower(_)) => {
             Err(expected(found, Expected::Parens))
         }
         Some(frame) => {
@@ -107,6 +111,7 @@ fn compare(
 
 // Two comparisons one after another: a range, of `<` and `<=`.
 fn range(
+    alloc: Global,
     frames: Vec<Frame>,
     room: usize,
     lower: Operand,
@@ -121,13 +126,14 @@ fn range(
         return Err(expected(found, Expected::Parens));
     };
     let start = lower.places.start;
-    let frame = Frame::Upper {
+    let range = OpenRange {
         array,
         lower,
         lower_strict,
         upper_strict,
         start,
     };
+    let frame = Frame::Upper(Box::new(alloc, range)?);
     Ok(pending(frames, frame, room)?)
 }
 
@@ -146,7 +152,7 @@ fn is_comparison(frame: &Frame) -> bool
     ensures { (outer : List OpenFrame) (made : ExpressionAnswer) → grammar.compared (frame_of frame.now ∷ outer) made ≡ (if result then Err Parens else made) }
 {
     match frame {
-        Frame::Binary(_, _) | Frame::Like(_, _) | Frame::Upper { .. } | Frame::Lower(_) => true,
+        Frame::Binary(_, _) | Frame::Like(_, _) | Frame::Upper(_) | Frame::Lower(_) => true,
         _ => false,
     }
 }

@@ -16,6 +16,7 @@ use Rattle.vx_source_operands.specs.declared.frame.Callee.{Callee}
 use Rattle.vx_source_operands.specs.declared.frame.Callee.TheVariants.{Own, Any, If}
 use Rattle.vx_source_operands.specs.declared.frame.CasePart.{CasePart}
 use Rattle.vx_source_operands.specs.declared.frame.CasePart.TheVariants.{Condition, Value as ItsValue, Else}
+use Rattle.vx_source_operands.specs.declared.frame.OpenRange.{OpenRange}
 use Rattle.vx_source_operands.specs.declared.frame.Frame.{Frame}
 use Rattle.vx_source_operands.specs.declared.frame.Frame.TheVariants.{Chain, Not, Binary, Like, Lower, Upper, Paren, Call, Pack, Cast, Case}
 use Rattle.vx_source_operands.specs.declared.state.TypeFor.{TypeFor}
@@ -51,13 +52,16 @@ part_of Condition = reading.condition_part
 part_of ItsValue = reading.value_part
 part_of Else = reading.else_part
 
+abbrev pub range_of : OpenRange → reading.Frame
+range_of r = reading.in_upper (is_strict r.lower_strict) (is_strict r.upper_strict) (operand_of r.array) (operand_of r.lower)
+
 abbrev pub frame_of : Frame → reading.Frame
 frame_of (Chain op os) = reading.in_chain (operation_of op) (operands_of os.items)
 frame_of (Not start) = reading.in_not
 frame_of (Binary op o) = reading.in_binary (operation_of op) (operand_of o)
 frame_of (Like options o) = reading.in_like options.negated options.case_insensitive (operand_of o)
 frame_of (Lower o) = reading.in_lower (operand_of o)
-frame_of (Upper array lower lower_strict upper_strict start) = reading.in_upper (is_strict lower_strict) (is_strict upper_strict) (operand_of array) (operand_of lower)
+frame_of (Upper r) = range_of r.value
 frame_of (Paren b) = reading.in_paren b.room
 frame_of (Call callee os b) = reading.in_call (callee_of callee.value) (operands_of os.items) b.room
 frame_of (Pack names os b) = reading.in_pack names.items (operands_of os.items) b.room
@@ -99,8 +103,8 @@ mode_of (modes.NotLike o) = reading.at_not (operand_of o)
 mode_of (modes.Is o) = reading.at_is (operand_of o)
 mode_of (modes.IsNot o) = reading.at_is_not (operand_of o)
 mode_of modes.Case = reading.case_due
-mode_of (modes.Value r start end) = reading.in_value (values.reader_of r)
-mode_of (modes.Type wanted r end) = reading.in_type (type_for wanted) (types.reader_of r)
+mode_of (modes.Value r start end) = reading.in_value (values.reader_of r.value)
+mode_of (modes.Type wanted r end) = reading.in_type (type_for wanted.value) (types.reader_of r.value)
 
 abbrev pub reader_of : ExpressionReader → reading.ExpressionState
 reader_of s = record { frames = frames_of s.frames.items; mode = mode_of s.mode; room = s.room }

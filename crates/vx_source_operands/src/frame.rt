@@ -39,6 +39,21 @@ pub enum CasePart {
     Else,
 }
 
+/// A value and its lower bound, where the upper one is due.
+#[derive(Drop)]
+pub struct OpenRange {
+    /// The value.
+    pub array: Operand,
+    /// Its lower bound.
+    pub lower: Operand,
+    /// Whether the lower bound itself is left out.
+    pub lower_strict: StrictComparison,
+    /// Whether the upper bound itself is left out.
+    pub upper_strict: StrictComparison,
+    /// The first byte of both.
+    pub start: usize,
+}
+
 /// What is open: an operator that waits for its last operand, or a bracket.
 #[derive(Drop)]
 pub enum Frame {
@@ -52,19 +67,9 @@ pub enum Frame {
     Like(LikeOptions, Operand),
     /// `between` behind its operand: the lower bound is due.
     Lower(Operand),
-    /// A value and its lower bound: the upper bound is due.
-    Upper {
-        /// The value.
-        array: Operand,
-        /// Its lower bound.
-        lower: Operand,
-        /// Whether the lower bound itself is left out.
-        lower_strict: StrictComparison,
-        /// Whether the upper bound itself is left out.
-        upper_strict: StrictComparison,
-        /// The first byte of both.
-        start: usize,
-    },
+    /// A value and its lower bound: the upper bound is due. Behind a pointer, so that frames, which move at each token, stay
+    /// small.
+    Upper(Box<OpenRange>),
     /// `(`
     Paren(Bracket),
     /// A call's children.
@@ -126,9 +131,7 @@ impl Frame {
             Frame::Chain(_, _) => Some(Level::And),
             Frame::Not(_) => Some(Level::Not),
             Frame::Binary(Operator::Add, _) => Some(Level::Sum),
-            Frame::Binary(_, _) | Frame::Like(_, _) | Frame::Upper { .. } => Some(
-                Level::Comparison,
-            ),
+            Frame::Binary(_, _) | Frame::Like(_, _) | Frame::Upper(_) => Some(Level::Comparison),
             _ => None,
         }
     }

@@ -4,10 +4,10 @@ ghost use Rattle.vx_fn.specs.Views.{operation_of};
 ghost use Rattle.vx_source_grammar.specs.Joining.{chained, joined, paired, reduced};
 ghost use Rattle.vx_source_operands.specs.Levels.{rank_of};
 ghost use Rattle.vx_source_operands.specs.Places.{ReadsUpTo};
-ghost use Rattle.vx_source_operands.specs.Views.{frame_of, frames_of, operand_of, operands_in, operands_of, reduced_of};
+ghost use Rattle.vx_source_operands.specs.Views.{frame_of, frames_of, operand_of, operands_in, operands_of, range_of, reduced_of};
 
 use crate::nodes::{node, node_between, node_over};
-use crate::{Frame, Level, Operand};
+use crate::{Frame, Level, OpenRange, Operand};
 use std::alloc::Global;
 use vx_fn::{BetweenOptions, EmptyOptions, Operator, ScalarFnRef};
 use vx_source_tokens::{Expected, Found, ParseError};
@@ -64,25 +64,37 @@ fn join(
         Frame::Like(options, lhs) => {
             node_between(alloc, ScalarFnRef::Like(options), lhs, operand, room, found)
         }
-        Frame::Upper {
-            array,
-            lower,
-            lower_strict,
-            upper_strict,
-            start,
-        } => {
-            let options = BetweenOptions {
-                lower_strict,
-                upper_strict,
-            };
-            let bytes = (start, operand.places.end);
-            let operands = Vec::from_array(alloc, [array, lower, operand])?;
-            let function = ScalarFnRef::Between(options);
-            node(alloc, function, operands, bytes, room, found)
-        }
+        Frame::Upper(range) => between(alloc, Box::into_inner(range), operand, room, found),
         // Nothing else waits for an operand alone.
         _ => Ok(operand),
     }
+}
+
+// The range with its upper bound.
+fn between(
+    alloc: Global,
+    range: OpenRange,
+    upper: Operand,
+    room: usize,
+    found: &Found,
+) -> Result<Operand, ParseError>
+    ensures reads { ReadsUpTo found.now.at operand_of result (joined room (range_of range) (operand_of upper)) }
+{
+    let OpenRange {
+        array,
+        lower,
+        lower_strict,
+        upper_strict,
+        start,
+    } = range;
+    let options = BetweenOptions {
+        lower_strict,
+        upper_strict,
+    };
+    let bytes = (start, upper.places.end);
+    let operands = Vec::from_array(alloc, [array, lower, upper])?;
+    let function = ScalarFnRef::Between(options);
+    node(alloc, function, operands, bytes, room, found)
 }
 
 // The items joined in pairs, round after round.

@@ -8,10 +8,10 @@ mod nodes;
 mod operand;
 mod state;
 
-pub use frame::{Bracket, Callee, CasePart, Frame, Level};
+pub use frame::{Bracket, Callee, CasePart, Frame, Level, OpenRange};
 pub use joining::reduce;
 pub use nodes::{enclosed, node, node_between, node_over, root};
 pub use operand::{Operand, Places};
 pub use state::{
-    ExpressionReader, ExpressionStep, Mode, OptionsSoFar, TypeFor, begun_at, more, tight,
+    ExpressionReader, ExpressionStep, Mode, OptionsSoFar, TypeFor, begun_at, more, tight, type_due,
 };

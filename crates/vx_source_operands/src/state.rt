@@ -1,12 +1,13 @@
 // How far an expression is read.
-ghost use Rattle.std.specs.Prelude.{◌≡◌, ◌≤◌, ℕ};
+ghost use Rattle.std.specs.Prelude.{◌≡◌, ◌≤◌, ℕ, IfOk};
 ghost use Rattle.vx_source_tokens.specs.declared.error.ParseError.TheVariants.{Unexpected};
 ghost use Rattle.vx_source_dtype.specs.Reading.{more};
-ghost use Rattle.vx_source_grammar.specs.States.{expression_start, tight};
-ghost use Rattle.vx_source_operands.specs.Views.{frames_of, mode_of, operand_of, reader_of, step_of};
+ghost use Rattle.vx_source_dtype.specs.TypeReading.{type_start};
+ghost use Rattle.vx_source_grammar.specs.States.{expression_start, in_type, tight};
+ghost use Rattle.vx_source_operands.specs.Views.{frames_of, mode_of, operand_of, reader_of, step_of, type_for};
 
 use crate::{Bracket, Frame, Operand};
-use std::alloc::Global;
+use std::alloc::{AllocError, Global};
 use vx_fn::ScalarFnRef;
 use vx_source_tokens::{Expected, Found, ParseError};
 use vx_source_types::{Draft, TypeReader, ValueReader};
@@ -38,7 +39,7 @@ pub struct OptionsSoFar {
     pub start: usize,
 }
 
-/// What is due next.
+/// What is due next. What is large and rare lies behind a pointer, since this moves at each token.
 #[derive(Drop)]
 pub enum Mode {
     /// An operand.
@@ -86,9 +87,9 @@ pub enum Mode {
     /// `case`: the first `when` is due.
     Case,
     /// A value that begins at that byte and has ended at the other so far.
-    Value(ValueReader, usize, usize),
+    Value(Box<ValueReader>, usize, usize),
     /// A type, the last token of which ended at that byte.
-    Type(TypeFor, TypeReader, usize),
+    Type(Box<TypeFor>, Box<TypeReader>, usize),
 }
 
 /// An expression that is being read.
@@ -136,6 +137,21 @@ pub fn tight(frames: Vec<Frame>, room: usize, operand: Operand) -> ExpressionSte
     ensures { step_of result ≡ more (record { frames = frames_of frames.items; mode = tight (operand_of operand); room = room }) }
 {
     more(frames, Mode::Tight(operand), room)
+}
+
+/// A type is due, of which nothing is read yet. The token before it ends at that byte.
+pub fn type_due(
+    alloc: Global,
+    frames: Vec<Frame>,
+    room: usize,
+    wanted: TypeFor,
+    end: usize,
+) -> Result<ExpressionStep, AllocError>
+    ensures { IfOk result (λ step. step_of step ≡ more (record { frames = frames_of frames.items; mode = in_type (type_for wanted) (type_start room); room = room })) }
+{
+    let wanted = Box::new(alloc, wanted)?;
+    let reader = Box::new(alloc, TypeReader::new(alloc, room))?;
+    Ok(more(frames, Mode::Type(wanted, reader, end), room))
 }
 
 /// What began at that byte, which lies before the token, isn't what would have stood right.

@@ -114,7 +114,7 @@ fn begin_not_in(
     ensures reads { ReadsUpTo found.now.at step_of result (not_begins (frame_of frame ∷ frames_of frames.items) room) }
 {
     match &frame {
-        Frame::Binary(_, _) | Frame::Like(_, _) | Frame::Lower(_) | Frame::Upper { .. } => {
+        Frame::Binary(_, _) | Frame::Like(_, _) | Frame::Lower(_) | Frame::Upper(_) => {
             Err(expected(found, Expected::OperandOrParens))
         }
         _ => {
@@ -135,7 +135,10 @@ fn begin_value(
     ensures reads { ReadsUpTo found.now.at step_of result (value_begins (frames_of frames.items) room (lexeme_of found.now.token)) }
 {
     match ValueReader::new(alloc, room).step(alloc, found)? {
-        ValueStep::More(reader) => Ok(more(frames, Mode::Value(reader, found.at, found.end), room)),
+        ValueStep::More(reader) => {
+            let reader = Box::new(alloc, reader)?;
+            Ok(more(frames, Mode::Value(reader, found.at, found.end), room))
+        }
         ValueStep::Done(_) => Err(refusal(found, Expected::Value)),
     }
 }

@@ -18,6 +18,7 @@ use vx_fn::ScalarFnRef;
 use vx_source_following::after_tight;
 use vx_source_operands::{
     Bracket, ExpressionStep, Frame, Mode, Operand, TypeFor, begun_at, more, node, node_over, tight,
+    type_due,
 };
 use vx_source_tokens::{Expected, Found, ParseError, Sign, Token};
 use vx_source_types::{
@@ -30,14 +31,17 @@ pub(crate) fn value(
     alloc: Global,
     frames: Vec<Frame>,
     room: usize,
-    reader: ValueReader,
+    reader: Box<ValueReader>,
     bytes: (usize, usize),
     found: &Found,
 ) -> Result<ExpressionStep, ParseError>
-    ensures reads { ReadsUpTo found.now.at step_of result (value_goes (frames_of frames.items) room (lexeme_of found.now.token) (value_step (values.reader_of reader) (lexeme_of found.now.token))) }
+    ensures reads { ReadsUpTo found.now.at step_of result (value_goes (frames_of frames.items) room (lexeme_of found.now.token) (value_step (values.reader_of reader.value) (lexeme_of found.now.token))) }
 {
-    match reader.step(alloc, found)? {
-        ValueStep::More(next) => Ok(more(frames, Mode::Value(next, bytes.0, found.end), room)),
+    match Box::into_inner(reader).step(alloc, found)? {
+        ValueStep::More(next) => {
+            let next = Box::new(alloc, next)?;
+            Ok(more(frames, Mode::Value(next, bytes.0, found.end), room))
+        }
         ValueStep::Done(draft) => end_value(alloc, frames, room, draft, bytes, found),
     }
 }
@@ -56,8 +60,7 @@ fn end_value(
     match &found.token {
         Token::Sign(Sign::DoubleColon) => {
             let wanted = TypeFor::Literal(draft, bytes.0);
-            let reader = TypeReader::new(alloc, room);
-            Ok(more(frames, Mode::Type(wanted, reader, found.end), room))
+            Ok(type_due(alloc, frames, room, wanted, found.end)?)
         }
         _ => end_literal(alloc, frames, room, plain_literal(draft), bytes, found),
     }
@@ -108,16 +111,29 @@ pub(crate) fn read_type(
     alloc: Global,
     frames: Vec<Frame>,
     room: usize,
-    wanted: TypeFor,
-    reader: TypeReader,
+    wanted: Box<TypeFor>,
+    reader: Box<TypeReader>,
     end: usize,
     found: &Found,
 ) -> Result<ExpressionStep, ParseError>
-    ensures reads { ReadsUpTo found.now.at step_of result (type_goes (frames_of frames.items) room (type_for wanted) (lexeme_of found.now.token) (type_step (types.reader_of reader) (lexeme_of found.now.token))) }
+    ensures reads { ReadsUpTo found.now.at step_of result (type_goes (frames_of frames.items) room (type_for wanted.value) (lexeme_of found.now.token) (type_step (types.reader_of reader.value) (lexeme_of found.now.token))) }
 {
-    match reader.step(alloc, found)? {
-        TypeStep::More(next) => Ok(more(frames, Mode::Type(wanted, next, found.end), room)),
-        TypeStep::Done(dtype) => end_type(alloc, frames, room, wanted, dtype, end, found),
+    match Box::into_inner(reader).step(alloc, found)? {
+        TypeStep::More(next) => {
+            let next = Box::new(alloc, next)?;
+            Ok(more(frames, Mode::Type(wanted, next, found.end), room))
+        }
+        TypeStep::Done(dtype) => {
+            end_type(
+                alloc,
+                frames,
+                room,
+                Box::into_inner(wanted),
+                dtype,
+                end,
+                found,
+            )
+        }
     }
 }
 
