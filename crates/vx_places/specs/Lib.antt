@@ -1,0 +1,5 @@
+pub mod Nodes
+pub mod Refusals
+pub mod Faults
+pub mod Walked
+pub mod Holes

@@ -1,0 +1,29 @@
+// The place of a refusal.
+ghost use Rattle.std.specs.Prelude.{◌≡◌};
+ghost use Rattle.vx_places.specs.Nodes.{row_of};
+
+use vx_types::VortexError;
+
+/// What a node of a tree refused with, and where in the tree it stands.
+#[derive(Debug, Drop)]
+pub struct Place {
+    /// The child indices from the first node down to that node, none where it is the first.
+    pub path: Vec<usize>,
+    /// What the node refused with.
+    pub refusal: VortexError,
+}
+
+impl Place {
+    /// The row that the refusal names: of a fault the lowest in which the node faults. None of a
+    /// `BadFill` (15), which is of all rows, and of a refusal of binding.
+    pub fn row(&self) -> Option<usize>
+        ensures { result ≡ row_of self.now.refusal }
+    {
+        match &self.refusal {
+            VortexError::AddOverflow { row }
+            | VortexError::CastNull { row }
+            | VortexError::RowMisfit { row } => Some(*row),
+            _ => None,
+        }
+    }
+}
