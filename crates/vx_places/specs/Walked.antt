@@ -1,5 +1,5 @@
 -- What the steps of a walk answer that looks for a place. No public contract names this file.
-use Rattle.std.specs.Prelude.{◌≡◌, ◌⊎◌, ℕ, List, [], ◌∷◌, ◌++◌, Bool, true, false, Option, Some, None, Result, MatchResult, IfSome, Ok, map}
+use Rattle.std.specs.Prelude.{◌≡◌, ◌⊎◌, ℕ, List, [], ◌∷◌, ◌++◌, Bool, true, false, Option, Some, None, Result, MatchResult, MatchOption, IfSome, Ok, map}
 use Rattle.vx_dtype.specs.declared.error.VortexError.{VortexError}
 use Rattle.vx_dtype.specs.declared.error.VortexError.TheVariants.{OutOfMemory}
 use Rattle.vx_value.specs.Columns.{Batch, batch}
@@ -8,6 +8,7 @@ use Rattle.vx_fn.specs.Faults.{node_fault}
 use Rattle.vx_fn.specs.Functions.{Function, binary, adds, cast, fill_null}
 use Rattle.vx_tree.specs.Faults.{HasNoFault}
 use Rattle.vx_tree.specs.Meaning.{value, values}
+use Rattle.vx_places.specs.declared.place.Place.{Place}
 use Rattle.vx_tree.specs.Trees.{BoundTree, scope, node, BoundTrees, no_bound, bound, node_type, node_types}
 
 -- a value, seen by view, is put behind the old ones, and it is what is said
@@ -60,3 +61,7 @@ AddsSeen rows b old new = (column : Option Batch) × (new ≡ old ++ column ∷ 
 -- what the call says of the tree, or its first node's fault, unless memory ran out
 abbrev pub SaysOrFaults : {A : Type 0} → (A → Type 0) → List Datum → BoundTree → Result A VortexError → Type 0
 SaysOrFaults Says rows b result = MatchResult result Says (λ e. (e ≡ OutOfMemory) ⊎ (own_fault b rows ≡ Some e))
+
+-- the answer is the place with this path and refusal, which isn't want of memory; or memory ran out
+abbrev pub IsPlaced : List ℕ → VortexError → Result (Option Place) VortexError → Type 0
+IsPlaced path refusal result = MatchResult result (λ found. MatchOption found ⊥ (λ p. (p.path.items ≡ path) × (p.refusal ≡ refusal) × (refusal ≡ OutOfMemory → ⊥))) (λ e. e ≡ OutOfMemory)

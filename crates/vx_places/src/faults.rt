@@ -9,7 +9,7 @@ ghost use Rattle.vx_places.specs.Nodes.{node_at};
 ghost use Rattle.vx_places.specs.Faults.{IsFirstFault, IsFirstFaultIn};
 ghost use Rattle.vx_places.specs.Walked.{AreSeen, AddsSeen, Leads, LeadsBelow};
 
-use crate::Place;
+use crate::place::{Place, placed};
 use crate::values::{push_none, push_value};
 use std::alloc::Global;
 use vx_tree::BoundExpression;
@@ -49,8 +49,7 @@ pub fn first_fault_at(
     let mut columns = Vec::new(alloc);
     match push_seen(alloc, b, batch, &mut path, &mut columns) {
         Ok(()) => Ok(None),
-        Err(VortexError::OutOfMemory) => Err(VortexError::OutOfMemory),
-        Err(refusal) => Ok(Some(Place { path, refusal })),
+        Err(refusal) => placed(path, refusal),
     }
 }
 

@@ -1,5 +1,5 @@
 // A node over structs of its children's values: each child is a hole, which takes its value out.
-ghost use Rattle.std.specs.Prelude.{◌≡◌, length, Ok, MatchResult};
+ghost use Rattle.std.specs.Prelude.{◌≡◌, ◌<◌, ◌^◌, length, Ok, Some, MatchResult};
 ghost use Rattle.std.specs.Fmt.{decimal};
 ghost use Rattle.vx_dtype.specs.Answers.{Answers};
 ghost use Rattle.vx_dtype.specs.declared.error.VortexError.TheVariants.{OutOfMemory};
@@ -30,7 +30,7 @@ pub fn value_over_holes(
     requires over { Over (bound_of b.now) batch.now.type }
     requires seen { AreSeen batch.now.rows (bound_children_of (bound_of b.now)) below.items }
     requires function { bound_of b.now ≡ node (node_type (bound_of b.now)) (function_of scalar_fn.now) (bound_children_of (bound_of b.now)) }
-    ensures { SaysOrFaults (λ column. column ≡ column_of (bound_of b.now) batch.now.rows) batch.now.rows (bound_of b.now) result }
+    ensures { SaysOrFaults (λ column. IsSeen batch.now.rows (bound_of b.now) (Some column)) batch.now.rows (bound_of b.now) result }
 {
     let names = indices(alloc, b.children().len())?;
     let structs = structs(alloc, b.children(), &names, batch, below)?;
@@ -74,7 +74,8 @@ fn columns_of(
 {
     let mut columns = Vec::with_capacity(alloc, children.len())?;
     for column in below {
-        let child = &children[columns.len()];
+        let number = columns.len();
+        let child = &children[number];
         columns.push(column_or_values(alloc, child, batch, column)?)?;
     }
     Ok(columns)
@@ -100,7 +101,8 @@ fn column_or_values(
 
 // So many indices as names.
 fn indices(alloc: Global, count: usize) -> VortexResult<FieldNames>
-    ensures { Answers (λ names. names) result (Ok (names_from 0 count)) }
+    ensures names { Answers (λ names. names) result (Ok (names_from 0 count)) }
+    ensures few { count < 2 ^ 64 }
 {
     let mut names = Vec::with_capacity(alloc, count)?;
     for i in 0..count {

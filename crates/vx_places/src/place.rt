@@ -1,8 +1,9 @@
 // The place of a refusal.
 ghost use Rattle.std.specs.Prelude.{◌≡◌};
 ghost use Rattle.vx_places.specs.Nodes.{row_of};
+ghost use Rattle.vx_places.specs.Walked.{IsPlaced};
 
-use vx_types::VortexError;
+use vx_types::{VortexError, VortexResult};
 
 /// What a node of a tree refused with, and where in the tree it stands.
 #[derive(Debug, Drop)]
@@ -25,5 +26,15 @@ impl Place {
             | VortexError::RowMisfit { row } => Some(*row),
             _ => None,
         }
+    }
+}
+
+/// The place of the refusal, unless it is want of memory, which is no node's.
+pub(crate) fn placed(path: Vec<usize>, refusal: VortexError) -> VortexResult<Option<Place>>
+    ensures { IsPlaced path.items refusal result }
+{
+    match refusal {
+        VortexError::OutOfMemory => Err(VortexError::OutOfMemory),
+        refusal => Ok(Some(Place { path, refusal })),
     }
 }

@@ -11,11 +11,11 @@ ghost use Rattle.vx_places.specs.Nodes.{node_at};
 ghost use Rattle.vx_places.specs.Refusals.{IsFirstRefusal, IsFirstRefusalIn};
 ghost use Rattle.vx_places.specs.Walked.{Adds, Leads, LeadsBelow};
 
-use crate::Place;
+use crate::place::{Place, placed};
 use std::alloc::Global;
 use vx_fn::ScalarFnRef;
 use vx_tree::Expression;
-use vx_types::{DType, VortexError, VortexResult};
+use vx_types::{DType, VortexResult};
 
 /// The place of the first refusal of binding the tree to that type, None exactly where
 /// [`Expression::bind`] gives a bound tree. Its cost is linear in the nodes, and no bound tree is
@@ -35,8 +35,7 @@ pub fn first_refusal_at(alloc: Global, e: &Expression, scope: &DType) -> VortexR
     let mut types = Vec::new(alloc);
     match push_type(alloc, e, scope, &mut path, &mut types) {
         Ok(()) => Ok(None),
-        Err(VortexError::OutOfMemory) => Err(VortexError::OutOfMemory),
-        Err(refusal) => Ok(Some(Place { path, refusal })),
+        Err(refusal) => placed(path, refusal),
     }
 }
 

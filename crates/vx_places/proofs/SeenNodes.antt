@@ -1,0 +1,58 @@
+-- Nodes of trees of the program, and what they stand for.
+use Rattle.std.proofs.Common.{◌≡◌, ℕ, zero, suc, ◌+◌, ◌<◌, ◌≤◌, List, [], ◌∷◌, length, get_or, drop, map, Option, Some, None, refl, sym, ap, ◌∙◌, arith, rules, Vec}
+use Rattle.std.specs.declared.alloc.Global.{Global}
+use Rattle.std.specs.declared.rc.Rc.{Rc}
+use Rattle.vx_dtype.specs.declared.dtype.DType.{DType}
+use Rattle.vx_fn.specs.declared.function.ScalarFnRef.{ScalarFnRef}
+use Rattle.vx_fn.specs.Views.{function_of}
+use Rattle.vx_tree.specs.declared.bound.BoundExpression as Bound
+use Rattle.vx_tree.specs.declared.bound.BoundExpression.{BoundExpression}
+use Rattle.vx_tree.specs.declared.expression.Expression as Unbound
+use Rattle.vx_tree.specs.declared.expression.Expression.{Expression}
+use Rattle.std.proofs.lemmas.List.{drop_more}
+use Rattle.std.specs.Prelude.{option_and_then}
+use Rattle.vx_tree.specs.Nodes.{tree_at, children_of, bound_children_of}
+use Rattle.vx_tree.specs.Trees.{Tree, call, node}
+use Rattle.vx_value.specs.Views.{type_of}
+use Rattle.vx_tree.specs.Views.{tree_of, trees_of, trees_from, bound_of, bounds_of}
+use Rattle.vx_places.specs.Nodes.{node_at}
+
+bound_of-Scalar : (t : DType) (f : ScalarFnRef) (all : Rc (Vec BoundExpression Global) Global) → bound_of (Bound.Scalar t f all) ≡ node (type_of t) (function_of f) (bounds_of all.value.items)
+bound_of-Scalar t f all = search (rules, Bound.the_lemmas)
+
+tree_of-Scalar : (f : ScalarFnRef) (all : Rc (Vec Expression Global) Global) → tree_of (Unbound.Scalar f all) ≡ call (function_of f) (trees_of all.value.items)
+tree_of-Scalar f all = search (rules, Unbound.the_lemmas)
+
+-- a function node over the children that it holds
+pub seen_call : (e : Expression) (f : ScalarFnRef) (all : Rc (Vec Expression Global) Global) (children : List Expression) → e ≡ Unbound.Scalar f all → children ≡ all.value.items → tree_of e ≡ call (function_of f) (trees_of children)
+seen_call e f all children is those = rw (is, tree_of-Scalar f all, ← those) refl
+
+-- the children of a bound node are those that it holds
+pub seen_children : (e : BoundExpression) (t : DType) (f : ScalarFnRef) (all : Rc (Vec BoundExpression Global) Global) (children : List BoundExpression) → e ≡ Bound.Scalar t f all → children ≡ all.value.items → bound_children_of (bound_of e) ≡ bounds_of children
+seen_children e t f all children is those = rw (is, bound_of-Scalar t f all, ← those) refl
+
+-- ---- children by their index
+
+child_at : {A : Type 0} (view : A → Tree) (xs : List A) (i : ℕ) (x : A) → i < length xs → x ≡ get_or xs i x → tree_at (trees_from (map view xs)) i ≡ Some (view x)
+child_at view [] i x lt is = absurd (omega arith)
+child_at view (y ∷ xs) zero x lt is = ap (λ z. Some (view z)) (sym is)
+child_at view (y ∷ xs) (suc i) x lt is = child_at view xs i x (omega arith) is
+
+no_child_at : {A : Type 0} (view : A → Tree) (xs : List A) (i : ℕ) → length xs ≤ i → tree_at (trees_from (map view xs)) i ≡ None
+no_child_at view [] i h = refl
+no_child_at view (y ∷ xs) zero h = absurd (omega arith)
+no_child_at view (y ∷ xs) (suc i) h = no_child_at view xs i (omega arith)
+
+-- ---- a path, one index after another
+
+module _ {A : Type 0} (view : A → Tree) (path : List ℕ) (k : ℕ) (n : Tree) (xs : List A) (left : k < length path) (those : trees_from (map view xs) ≡ children_of n) where
+  step : node_at (drop k path) n ≡ option_and_then (node_at (drop (k + 1) path)) (tree_at (trees_from (map view xs)) (get_or path k 0))
+  step = ap (λ p. node_at p n) (drop_more path k 0 left) ∙ ap (λ es. option_and_then (node_at (drop (k + 1) path)) (tree_at es (get_or path k 0))) (sym those)
+
+  -- the next node is the child of the next index
+  pub node_next : (x : A) → get_or path k 0 < length xs → x ≡ get_or xs (get_or path k 0) x → node_at (drop k path) n ≡ node_at (drop (k + 1) path) (view x)
+  node_next x lt is = step ∙ ap (option_and_then (node_at (drop (k + 1) path))) (child_at view xs (get_or path k 0) x lt is)
+
+  -- where there is no such child there is no node
+  pub node_none : length xs ≤ get_or path k 0 → node_at (drop k path) n ≡ None
+  node_none past = step ∙ ap (option_and_then (node_at (drop (k + 1) path))) (no_child_at view xs (get_or path k 0) past)

@@ -1,0 +1,14 @@
+use Rattle.std.proofs.Common.{◌≡◌, drop}
+use Rattle.vx_value.specs.Views.{type_of}
+use Rattle.vx_tree.specs.Trees.{each_typed}
+use Rattle.vx_tree.specs.Views.{trees_of}
+use Rattle.vx_tree.proofs.Typings.{after}
+use Rattle.vx_places.proofs.Refused.{Passed}
+use Rattle.vx_places.proofs.refusals.+refusal.Given as goal
+
+abbrev pub invariant-type_all-loop-i : goal.invariant-type_all-loop-i
+invariant-type_all-loop-i l = record {
+  types : each_typed (trees_of l.es) (type_of l.scope) ≡ after l.types.items (each_typed (trees_of (drop l.i l.es)) (type_of l.scope));
+  path : l.path.items ≡ l.initial.path.items;
+  left : Passed l.es (type_of l.scope) l.i;
+}
