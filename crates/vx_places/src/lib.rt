@@ -6,8 +6,6 @@ mod holes;
 mod nodes;
 mod place;
 mod refusals;
-#[cfg(test)]
-mod tests;
 mod values;
 
 pub use faults::first_fault_at;
