@@ -24,12 +24,10 @@ pub fn infer_csv_type<R: Read + Drop>(alloc: Global, reader: R) -> Result<DType,
     if !records.read_record()? {
         return Err(Fault::new(alloc, Expected::Header).on_line(alloc, 1));
     }
-    let branches = match branches_of(alloc, records.cells()) {
-        Ok(branches) => branches,
+    let (branches, mut guesses) = match fields_of(alloc, records.cells()) {
+        Ok(fields) => fields,
         Err(fault) => return Err(fault.on_line(alloc, records.line())),
     };
-    let mut guesses = Vec::new(alloc);
-    guesses.resize(records.cells().len(), CellGuess::new())?;
     for _ in 0..RECORDS {
         if !records.read_record()? {
             break;
@@ -44,15 +42,34 @@ pub fn infer_csv_type<R: Read + Drop>(alloc: Global, reader: R) -> Result<DType,
     }
 }
 
+/// A cell of a record, by its name in the header, and what its texts have in common.
+#[derive(Debug, Drop)]
+struct NamedGuess {
+    name: FieldName,
+    guess: CellGuess,
+}
+
+// The fields of that header, and its cells, of which no text was seen.
+fn fields_of(alloc: Global, header: &ByteRecord) -> Result<(Vec<Branch>, Vec<NamedGuess>), Fault> {
+    let names = cell_names(alloc, header)?;
+    let branches = branches_of(alloc, names.as_slice())?;
+    let mut guesses = Vec::with_capacity(alloc, names.len())?;
+    for name in names {
+        let guess = CellGuess::new();
+        guesses.push(NamedGuess { name, guess })?;
+    }
+    Ok((branches, guesses))
+}
+
 fn see_record(
     alloc: Global,
     record: &ByteRecord,
-    guesses: &mut Vec<CellGuess>,
+    guesses: &mut Vec<NamedGuess>,
 ) -> Result<(), Fault> {
-    for (guess, cell) in guesses.iter_mut().zip(record.iter()) {
-        match str::from_utf8(cell) {
-            Ok(text) => *guess = guess.and(text),
-            Err(_) => return Err(Fault::new(alloc, Expected::Utf8)),
+    for (cell, text) in guesses.iter_mut().zip(record.iter()) {
+        match str::from_utf8(text) {
+            Ok(text) => cell.guess = cell.guess.and(text),
+            Err(_) => return Err(fault_at(alloc, Expected::Utf8, cell.name.as_str())),
         }
     }
     Ok(())
@@ -74,8 +91,7 @@ enum BranchKind {
 }
 
 // The fields whose dotted names are those of the header.
-fn branches_of(alloc: Global, header: &ByteRecord) -> Result<Vec<Branch>, Fault> {
-    let names = cell_names(alloc, header)?;
+fn branches_of(alloc: Global, names: &[FieldName]) -> Result<Vec<Branch>, Fault> {
     let mut branches = Vec::new(alloc);
     for (place, name) in names.iter().enumerate() {
         let parts: Vec<&str> = name.as_str().split('.').collect(alloc)?;
@@ -137,7 +153,7 @@ fn new_branch(alloc: Global, name: &str, is_cell: bool, place: usize) -> Result<
 fn struct_of(
     branches: &Vec<Branch>,
     alloc: Global,
-    guesses: &[CellGuess],
+    guesses: &[NamedGuess],
 ) -> VortexResult<DType> {
     let mut names = Vec::new(alloc);
     let mut types = Vec::new(alloc);
@@ -149,10 +165,10 @@ fn struct_of(
 }
 
 #[cycle(typed)]
-fn field_type(kind: &BranchKind, alloc: Global, guesses: &[CellGuess]) -> VortexResult<DType> {
+fn field_type(kind: &BranchKind, alloc: Global, guesses: &[NamedGuess]) -> VortexResult<DType> {
     match kind {
         BranchKind::Cell(place) => Ok(match guesses.get(*place) {
-            Some(guess) => guess.dtype(),
+            Some(cell) => cell.guess.dtype(),
             None => CellGuess::new().dtype(),
         }),
         BranchKind::Struct(fields) => struct_of(fields, alloc, guesses),

@@ -17,6 +17,3 @@ pub use parser::CsvParser;
 pub use records::CsvRecords;
 pub use rows::rows_from_csv;
 pub use write::{CsvWriter, write_csv};
-
-#[cfg(test)]
-mod tests;

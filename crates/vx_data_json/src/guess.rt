@@ -1,4 +1,6 @@
 // What is known of a type by some values.
+ghost use Rattle.std.specs.Prelude.{◌≡◌, length};
+
 use crate::draft::named;
 use std::alloc::{AllocError, Global};
 use std::rc::Rc;
@@ -203,7 +205,9 @@ fn fields_of(
     alloc: Global,
     names: Vec<FieldName>,
     types: Vec<DType>,
-) -> VortexResult<StructFields> {
+) -> VortexResult<StructFields>
+    requires { length names.items ≡ length types.items }
+{
     let names = FieldNames::new(alloc, names)?;
     StructFields::new(alloc, names, types)
 }

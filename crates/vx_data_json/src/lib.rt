@@ -16,5 +16,3 @@ pub use lines::JsonLines;
 pub use parser::JsonParser;
 pub use rows::rows_from_json_lines;
 pub use write::write_json_lines;
-#[cfg(test)]
-mod tests;

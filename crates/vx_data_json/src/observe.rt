@@ -1,4 +1,6 @@
 // Values seen one after another.
+ghost use Rattle.std.specs.Prelude.{◌<◌, ◌≤◌, OnOk, length};
+
 use crate::guess::{FieldGuesses, Guess};
 use crate::tokens::{end, next_name, no_json, reader_of};
 use json::{Reader, Scratch, Token};
@@ -27,7 +29,9 @@ fn see_value(
     room: usize,
     reader: &mut Reader<'_>,
     guess: &mut Guess,
-) -> Result<(), Fault> {
+) -> Result<(), Fault>
+    ensures { OnOk result (length reader.new < length reader.old) }
+{
     match reader.next() {
         Some(Token::Null) => {
             guess.nullable = true;
@@ -49,7 +53,9 @@ fn see_items(
     room: usize,
     reader: &mut Reader<'_>,
     items: &mut Guess,
-) -> Result<(), Fault> {
+) -> Result<(), Fault>
+    ensures { OnOk result (length reader.new ≤ length reader.old) }
+{
     if room == 0 {
         return Err(Fault::new(alloc, Expected::LessNesting(NESTING)));
     }
@@ -66,7 +72,9 @@ fn see_fields(
     room: usize,
     reader: &mut Reader<'_>,
     fields: &mut FieldGuesses,
-) -> Result<(), Fault> {
+) -> Result<(), Fault>
+    ensures { OnOk result (length reader.new ≤ length reader.old) }
+{
     if room == 0 {
         return Err(Fault::new(alloc, Expected::LessNesting(NESTING)));
     }
@@ -87,7 +95,9 @@ fn see_field(
     reader: &mut Reader<'_>,
     fields: &mut FieldGuesses,
     i: usize,
-) -> Result<(), Fault> {
+) -> Result<(), Fault>
+    ensures { OnOk result (length reader.new ≤ length reader.old) }
+{
     if i >= fields.fields.len() {
         return Err(no_json(alloc, reader));
     }

@@ -1,4 +1,6 @@
 // Records read as values of a type.
+ghost use Rattle.std.specs.Prelude.{◌<◌, ◌≤◌, OnOk, length};
+
 use crate::draft::{Draft, place_of};
 use crate::tokens::{end, next_name, no_json, reader_of};
 use json::{Reader, Scratch, Token};
@@ -48,7 +50,9 @@ fn record_value(
 
 // The next value, of that type.
 #[cycle(read)]
-fn read_value(alloc: Global, dtype: &DType, reader: &mut Reader<'_>) -> Result<Value, Fault> {
+fn read_value(alloc: Global, dtype: &DType, reader: &mut Reader<'_>) -> Result<Value, Fault>
+    ensures { OnOk result (length reader.new < length reader.old) }
+{
     match reader.next() {
         Some(Token::BeginArray) => read_array(alloc, dtype, reader),
         Some(Token::BeginObject) => read_object(alloc, dtype, reader),
@@ -98,7 +102,9 @@ fn mismatch(alloc: Global, dtype: &DType) -> Fault {
 
 // The rest of an array, of that type.
 #[cycle(read)]
-fn read_array(alloc: Global, dtype: &DType, reader: &mut Reader<'_>) -> Result<Value, Fault> {
+fn read_array(alloc: Global, dtype: &DType, reader: &mut Reader<'_>) -> Result<Value, Fault>
+    ensures { OnOk result (length reader.new ≤ length reader.old) }
+{
     match dtype {
         DType::List(element, _) => read_items(alloc, element.as_ref(), reader),
         DType::FixedSizeList(element, size, _) => {
@@ -122,7 +128,9 @@ fn has_items(list: &Value, size: u32) -> bool {
 
 // The rest of an array, of items of that type.
 #[cycle(read)]
-fn read_items(alloc: Global, element: &DType, reader: &mut Reader<'_>) -> Result<Value, Fault> {
+fn read_items(alloc: Global, element: &DType, reader: &mut Reader<'_>) -> Result<Value, Fault>
+    ensures { OnOk result (length reader.new ≤ length reader.old) }
+{
     let mut items = Vec::new(alloc);
     while !reader.take_end_array() {
         items.push(read_value(alloc, element, reader)?)?;
@@ -132,7 +140,9 @@ fn read_items(alloc: Global, element: &DType, reader: &mut Reader<'_>) -> Result
 
 // The rest of an object, of that type.
 #[cycle(read)]
-fn read_object(alloc: Global, dtype: &DType, reader: &mut Reader<'_>) -> Result<Value, Fault> {
+fn read_object(alloc: Global, dtype: &DType, reader: &mut Reader<'_>) -> Result<Value, Fault>
+    ensures { OnOk result (length reader.new ≤ length reader.old) }
+{
     match dtype {
         DType::Struct(fields, _) => Ok(Value::Struct(read_fields(alloc, fields, reader)?)),
         _ => Err(mismatch(alloc, dtype)),
@@ -145,7 +155,9 @@ fn read_fields(
     alloc: Global,
     fields: &StructFields,
     reader: &mut Reader<'_>,
-) -> Result<Vec<Value>, Fault> {
+) -> Result<Vec<Value>, Fault>
+    ensures { OnOk result (length reader.new ≤ length reader.old) }
+{
     let mut draft = Draft::new(alloc, fields.nfields())?;
     let mut next = 0;
     while let Some(name) = next_name(alloc, reader)? {
@@ -163,7 +175,9 @@ fn read_field(
     guess: usize,
     draft: &mut Draft,
     reader: &mut Reader<'_>,
-) -> Result<usize, Fault> {
+) -> Result<usize, Fault>
+    ensures { OnOk result (length reader.new ≤ length reader.old) }
+{
     let i = place_of(alloc, fields.names(), name, guess)?;
     let types = fields.types();
     let names = fields.names().as_slice();

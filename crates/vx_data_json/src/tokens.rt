@@ -1,4 +1,6 @@
 // The tokens of a record.
+ghost use Rattle.std.specs.Prelude.{◌<◌, ◌≤◌, IfOk, IfSome, length};
+
 use json::{Reader, Scratch, Token};
 use std::alloc::Global;
 use std::str;
@@ -29,7 +31,10 @@ pub(crate) fn end(alloc: Global, reader: &mut Reader<'_>) -> Result<(), Fault> {
 pub(crate) fn next_name<'a>(
     alloc: Global,
     reader: &mut Reader<'a>,
-) -> Result<Option<&'a str>, Fault> {
+) -> Result<Option<&'a str>, Fault>
+    ensures more { IfOk result (λ name. IfSome name (λ _. length reader.new < length reader.old)) }
+    ensures no_longer { length reader.new ≤ length reader.old }
+{
     match reader.next() {
         Some(Token::Key(name)) => Ok(Some(name)),
         Some(Token::EndObject) => Ok(None),
