@@ -1,4 +1,6 @@
 // Types guessed from CSV files.
+ghost use Rattle.std.specs.Prelude.{◌≡◌, length};
+
 use crate::CsvRecords;
 use crate::guess::CellGuess;
 use crate::header::{cell_names, fault_at, named};
@@ -176,7 +178,9 @@ fn field_type(kind: &BranchKind, alloc: Global, guesses: &[NamedGuess]) -> Vorte
 }
 
 // The struct of those names, each with the type beside it.
-fn struct_type(alloc: Global, names: Vec<FieldName>, types: Vec<DType>) -> VortexResult<DType> {
+fn struct_type(alloc: Global, names: Vec<FieldName>, types: Vec<DType>) -> VortexResult<DType>
+    requires { length names.items ≡ length types.items }
+{
     let names = FieldNames::new(alloc, names)?;
     let fields = StructFields::new(alloc, names, types)?;
     Ok(DType::Struct(fields, Nullability::NonNullable))

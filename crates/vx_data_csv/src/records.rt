@@ -84,7 +84,7 @@ fn record_in(text: &[u8]) -> &[u8] {
     let start = blanks_of(text).len();
     let text = text.get(start..).unwrap_or(text);
     let mut record = text.strip_prefix(MARK).unwrap_or(text);
-    while let [rest @ .., b'\n' | b'\r'] = record {
+    'ends: while let [rest @ .., b'\n' | b'\r'] = record {
         record = rest;
     }
     record

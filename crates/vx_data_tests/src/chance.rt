@@ -36,7 +36,15 @@ const FLAT: &[&str] = &[
     "bool", "u8", "u16", "u32", "u64", "i8", "i16", "i32", "i64", "utf8", "binary",
 ];
 
-const NAMES: &[&str] = &["a", "b", "Name_1", "`two words`", "`say \"it\"`", "`x,y`", "`é`"];
+const NAMES: &[&str] = &[
+    "a",
+    "b",
+    "Name_1",
+    "`two words`",
+    "`say \"it\"`",
+    "`x,y`",
+    "`é`",
+];
 
 /// The source text of a type, with at most so many types inside one another; lists only where they are asked for.
 pub(crate) fn push_type(
@@ -83,7 +91,22 @@ pub(crate) fn push_struct(
 }
 
 const TEXTS: &[&str] = &[
-    "", "a", "x,y", "say \"it\"", "\"", "two\nlines", "\r", "\r\n", " ", "é", "null", "true", "0x", "\u{0}", "\\", "\u{1f600}",
+    "",
+    "a",
+    "x,y",
+    "say \"it\"",
+    "\"",
+    "two\nlines",
+    "\r",
+    "\r\n",
+    " ",
+    "é",
+    "null",
+    "true",
+    "0x",
+    "\u{0}",
+    "\\",
+    "\u{1f600}",
 ];
 
 /// A value of the type, which has at most so many types inside one another.

@@ -24,7 +24,7 @@ fn column(alloc: Global, dtype: DType, chance: &mut Chance) -> Result<Column, &'
 fn columns_are_read_back_from_json(rt: HostRuntime) -> Result<(), Fail> {
     let alloc = rt.alloc();
     let mut chance = Chance::new(1);
-    for _ in 0..2_000 {
+    for _ in 0..500 {
         let mut text = String::new(alloc);
         push_type(3, true, &mut chance, &mut text)?;
         let column = column(alloc, parse_type(alloc, text.as_str())?, &mut chance)?;
@@ -41,7 +41,7 @@ fn columns_are_read_back_from_csv(rt: HostRuntime) -> Result<(), Fail> {
     let alloc = rt.alloc();
     let mut chance = Chance::new(2);
     let mut refused = 0u32;
-    for _ in 0..4_000 {
+    for _ in 0..500 {
         let mut text = String::new(alloc);
         push_struct(2, false, &mut chance, &mut text)?;
         let column = column(alloc, parse_type(alloc, text.as_str())?, &mut chance)?;
@@ -55,20 +55,44 @@ fn columns_are_read_back_from_csv(rt: HostRuntime) -> Result<(), Fail> {
             Err(refusal) => assert!(rt; false, "{refusal}"),
         }
     }
-    assert!(rt; refused < 2_000, "{refused} were refused");
+    assert!(rt; refused < 250, "{refused} were refused");
     Ok(())
 }
 
 /// A type, rows as JSON lines, and what writing them as CSV gives or refuses.
 const WRITTEN: &[(&str, &str, &str)] = &[
-    ("{a=i32?, b={c=utf8}}", "{\"b\": {\"c\": \"x,y\"}}", "a,b.c\n,\"x,y\"\n"),
+    (
+        "{a=i32?, b={c=utf8}}",
+        "{\"b\": {\"c\": \"x,y\"}}",
+        "a,b.c\n,\"x,y\"\n",
+    ),
     ("{a=i32?}", "{}\n{\"a\": 1}", "a\n\"\"\n1\n"),
     ("i32?", "1\nnull", "value\n1\n\"\"\n"),
-    ("{a=binary, b=bool}", "{\"a\": \"0x0AFF\", \"b\": true}", "a,b\n0x0aff,true\n"),
-    ("{a=utf8?}", "{\"a\": \"x\"}\n{\"a\": \"\"}", "row 1, at a: expected a text that isn't empty, since an empty cell is null"),
-    ("{a={b=i8?}?}", "{\"a\": {}}", "row 0, at a: expected a cell that isn't empty, since a struct of empty cells is null"),
-    ("{a=list(i8)}", "", "row 0, at a: expected a type that a cell can hold, which list(i8) is not"),
-    ("list(i8)", "", "row 0: expected a type that a cell can hold, which list(i8) is not"),
+    (
+        "{a=binary, b=bool}",
+        "{\"a\": \"0x0AFF\", \"b\": true}",
+        "a,b\n0x0aff,true\n",
+    ),
+    (
+        "{a=utf8?}",
+        "{\"a\": \"x\"}\n{\"a\": \"\"}",
+        "row 1, at a: expected a text that isn't empty, since an empty cell is null",
+    ),
+    (
+        "{a={b=i8?}?}",
+        "{\"a\": {}}",
+        "row 0, at a: expected a cell that isn't empty, since a struct of empty cells is null",
+    ),
+    (
+        "{a=list(i8)}",
+        "",
+        "row 0, at a: expected a type that a cell can hold, which list(i8) is not",
+    ),
+    (
+        "list(i8)",
+        "",
+        "row 0: expected a type that a cell can hold, which list(i8) is not",
+    ),
 ];
 
 fn written(alloc: Global, dtype: &str, lines: &str) -> Result<String, Fail> {
@@ -103,7 +127,8 @@ fn lines_are_written(rt: HostRuntime) -> Result<(), Fail> {
     let mut file = Vec::new(alloc);
     write_json_lines(alloc, &column, &mut file)?;
     let found = std::str::from_utf8(file.as_slice())?;
-    let wanted = "{\"a\":null,\"b\":[{\"c\":\"x\\n\"}],\"d\":\"0x0a\",\"e\":18446744073709551615}\n";
+    let wanted =
+        "{\"a\":null,\"b\":[{\"c\":\"x\\n\"}],\"d\":\"0x0a\",\"e\":18446744073709551615}\n";
     assert!(rt; found == wanted, "{found}");
     Ok(())
 }

@@ -6,11 +6,7 @@ use vx_source_types::parse_type;
 const LINES: &[u8] = b"\xef\xbb\xbf{\"a\": 1}\r\n\n {\"a\":2} \n{\"a\":3}";
 
 /// The line of each record, and the record.
-const LINES_WANTED: &[(u64, &[u8])] = &[
-    (1, b"{\"a\": 1}"),
-    (3, b" {\"a\":2} "),
-    (4, b"{\"a\":3}"),
-];
+const LINES_WANTED: &[(u64, &[u8])] = &[(1, b"{\"a\": 1}"), (3, b" {\"a\":2} "), (4, b"{\"a\":3}")];
 
 #[test]
 fn lines_stay_as_they_stood(rt: HostRuntime) -> Result<(), Fail> {
@@ -21,13 +17,19 @@ fn lines_stay_as_they_stood(rt: HostRuntime) -> Result<(), Fail> {
     let mut rows = ColumnBuilder::new(alloc, dtype.clone()?);
     for (line, record) in LINES_WANTED {
         assert!(rt; lines.read_record()?);
-        assert!(rt; lines.line() == *line && lines.record() == *record, "line {line}");
+        assert!(rt;
+            lines.line() == *line && lines.record() == *record,
+            "line {line}"
+        );
         let row = parser.parse(&dtype, lines.line(), lines.record())?;
         assert!(rt; rows.push(alloc, row).is_ok());
     }
     assert!(rt; !lines.read_record()?);
     let text = format!(in alloc; "{}", rows.finish())?;
-    assert!(rt; text.as_str() == "[{a: 1i32}, {a: 2i32}, {a: 3i32}]", "{text}");
+    assert!(rt;
+        text.as_str() == "[{a: 1i32}, {a: 2i32}, {a: 3i32}]",
+        "{text}"
+    );
     Ok(())
 }
 
@@ -47,7 +49,10 @@ fn records_stay_as_they_stood(rt: HostRuntime) -> Result<(), Fail> {
     let mut records = CsvRecords::new(alloc, RECORDS);
     for (line, record) in RECORDS_WANTED {
         assert!(rt; records.read_record()?);
-        assert!(rt; records.line() == *line && records.record() == *record, "line {line}");
+        assert!(rt;
+            records.line() == *line && records.record() == *record,
+            "line {line}"
+        );
     }
     assert!(rt; !records.read_record()?);
     Ok(())
