@@ -117,7 +117,10 @@ fn grow(
     let Some((first, rest)) = names.split_first() else {
         return Ok(());
     };
-    let i = match branches.iter().position(|branch| branch.name.as_str() == *first) {
+    let i = match branches
+        .iter()
+        .position(|branch| branch.name.as_str() == *first)
+    {
         Some(i) => i,
         None => {
             let branch = new_branch(alloc, first, rest.is_empty(), place).map_err(|_| None)?;
@@ -152,11 +155,7 @@ fn new_branch(alloc: Global, name: &str, is_cell: bool, place: usize) -> Result<
 
 // The struct of those fields.
 #[cycle(typed)]
-fn struct_of(
-    branches: &Vec<Branch>,
-    alloc: Global,
-    guesses: &[NamedGuess],
-) -> VortexResult<DType> {
+fn struct_of(branches: &Vec<Branch>, alloc: Global, guesses: &[NamedGuess]) -> VortexResult<DType> {
     let mut names = Vec::new(alloc);
     let mut types = Vec::new(alloc);
     for branch in branches {

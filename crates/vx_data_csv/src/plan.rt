@@ -9,7 +9,10 @@ use vx_types::{DType, FieldName, FieldNames, StructFields};
 #[derive(Debug, Drop)]
 pub(crate) enum Plan {
     /// The cell of that number, whose text is a value of the type.
-    Cell { dtype: DType, cell: usize },
+    Cell {
+        dtype: DType,
+        cell: usize,
+    },
     /// A struct of the cells from one number up to another.
     Struct {
         fields: Vec<FieldPlan>,

@@ -201,11 +201,7 @@ fn guessed_fields(alloc: Global, guesses: &FieldGuesses) -> VortexResult<StructF
 }
 
 // Each name with the type beside it.
-fn fields_of(
-    alloc: Global,
-    names: Vec<FieldName>,
-    types: Vec<DType>,
-) -> VortexResult<StructFields>
+fn fields_of(alloc: Global, names: Vec<FieldName>, types: Vec<DType>) -> VortexResult<StructFields>
     requires { length names.items ≡ length types.items }
 {
     let names = FieldNames::new(alloc, names)?;

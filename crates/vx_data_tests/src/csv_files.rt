@@ -2,7 +2,7 @@
 use std::alloc::{AllocError, Global};
 use std::test::Fail;
 use vx_data::{infer_csv_type, rows_from_csv};
-use vx_source_types::parse_type;
+use vx_source_dtype::parse_type;
 
 /// A type, a file, and the column's text or the refusal.
 const ROWS: &[(&str, &str, &str)] = &[

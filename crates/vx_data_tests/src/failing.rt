@@ -3,7 +3,7 @@ use std::io;
 use std::io::{BufRead, Read};
 use std::test::Fail;
 use vx_data::{DataError, infer_json_type, rows_from_csv, rows_from_json_lines};
-use vx_source_types::parse_type;
+use vx_source_dtype::parse_type;
 
 /// A reader that always fails.
 #[derive(Drop)]

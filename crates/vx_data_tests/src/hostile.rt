@@ -2,7 +2,7 @@
 use std::alloc::{AllocError, Global};
 use std::test::Fail;
 use vx_data::{infer_csv_type, infer_json_type, rows_from_csv, rows_from_json_lines};
-use vx_source_types::parse_type;
+use vx_source_dtype::parse_type;
 
 // A million brackets or so, none of them closed: what begins one, doubled so often.
 fn brackets(alloc: Global, begin: &[u8]) -> Result<Vec<u8>, AllocError> {

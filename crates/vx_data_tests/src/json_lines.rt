@@ -2,7 +2,7 @@
 use std::alloc::{AllocError, Global};
 use std::test::Fail;
 use vx_data::{infer_json_type, rows_from_json_lines};
-use vx_source_types::parse_type;
+use vx_source_dtype::parse_type;
 
 /// A type, a file, and the column's text or the refusal.
 const ROWS: &[(&str, &str, &str)] = &[

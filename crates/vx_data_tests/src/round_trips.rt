@@ -4,7 +4,7 @@ use std::alloc::Global;
 use std::fmt::Display;
 use std::test::Fail;
 use vx_data::{WriteError, rows_from_csv, rows_from_json_lines, write_csv, write_json_lines};
-use vx_source_types::parse_type;
+use vx_source_dtype::parse_type;
 use vx_types::{Column, DType};
 
 // More than a type by chance has inside one another.

@@ -1,7 +1,7 @@
 // Records read one after another, as they stood.
 use std::test::Fail;
 use vx_data::{ColumnBuilder, CsvParser, CsvRecords, JsonLines, JsonParser};
-use vx_source_types::parse_type;
+use vx_source_dtype::parse_type;
 
 const LINES: &[u8] = b"\xef\xbb\xbf{\"a\": 1}\r\n\n {\"a\":2} \n{\"a\":3}";
 
