@@ -1,4 +1,7 @@
 // Columns of CSV files.
+ghost use Rattle.std.specs.Prelude.{◌≡◌, IfOk};
+ghost use Rattle.vx_value.specs.Views.{type_of};
+
 use crate::{CsvParser, CsvRecords};
 use std::alloc::Global;
 use std::io::Read;
@@ -13,14 +16,16 @@ pub fn rows_from_csv<R: Read + Drop>(
     alloc: Global,
     dtype: &DType,
     reader: R,
-) -> Result<Column, DataError> {
+) -> Result<Column, DataError>
+    ensures { IfOk result (λ c. c.type ≡ type_of dtype.now) }
+{
     let mut records = CsvRecords::new(alloc, reader);
     if !records.read_record()? {
         return Err(Fault::new(alloc, Expected::Header).on_line(alloc, 1));
     }
     let parser = CsvParser::new(alloc, dtype, records.line(), records.cells())?;
     let mut rows = ColumnBuilder::new(alloc, dtype.clone()?);
-    for _ in 0..u64::MAX {
+    'records: for _ in 0..u64::MAX {
         if !records.read_record()? {
             break;
         }

@@ -1,4 +1,7 @@
 // Columns of JSON lines.
+ghost use Rattle.std.specs.Prelude.{◌≡◌, IfOk};
+ghost use Rattle.vx_value.specs.Views.{type_of};
+
 use crate::{JsonLines, JsonParser};
 use std::alloc::Global;
 use std::io::BufRead;
@@ -12,11 +15,13 @@ pub fn rows_from_json_lines<R: BufRead + Drop>(
     alloc: Global,
     dtype: &DType,
     reader: R,
-) -> Result<Column, DataError> {
+) -> Result<Column, DataError>
+    ensures { IfOk result (λ c. c.type ≡ type_of dtype.now) }
+{
     let mut lines = JsonLines::new(alloc, reader);
     let mut parser = JsonParser::new(alloc);
     let mut rows = ColumnBuilder::new(alloc, dtype.clone()?);
-    for _ in 0..u64::MAX {
+    'records: for _ in 0..u64::MAX {
         if !lines.read_record()? {
             break;
         }

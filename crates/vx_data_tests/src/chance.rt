@@ -47,31 +47,28 @@ const NAMES: &[&str] = &[
 ];
 
 /// The source text of a type, with at most so many types inside one another; lists only where they are asked for.
+#[cycle(push_type)]
 pub(crate) fn push_type(
     room: usize,
     lists: bool,
     chance: &mut Chance,
     text: &mut String,
 ) -> Result<(), AllocError> {
-    let kinds = if room == 0 { 3 } else { 6 };
-    match chance.below(kinds) {
-        3 => push_struct(room - 1, lists, chance, text)?,
-        4 if lists => {
-            text.push_str("list(")?;
-            push_type(room - 1, lists, chance, text)?;
-            text.push_str(")")?;
-        }
-        5 if lists => {
-            text.push_str("fixed_size_list(")?;
-            push_type(room - 1, lists, chance, text)?;
-            text.push_str(")[2]")?;
-        }
-        _ => text.push_str(chance.pick(FLAT))?,
+    let kind = if room == 0 { 0 } else { chance.below(6) };
+    if room == 0 || kind < 3 || (kind > 3 && !lists) {
+        text.push_str(chance.pick(FLAT))?;
+    } else if kind == 3 {
+        push_struct(room - 1, lists, chance, text)?;
+    } else {
+        text.push_str(if kind == 4 { "list(" } else { "fixed_size_list(" })?;
+        push_type(room - 1, lists, chance, text)?;
+        text.push_str(if kind == 4 { ")" } else { ")[2]" })?;
     }
     text.push_str(chance.pick(&["", "?"]))
 }
 
 /// The source text of a struct of one to four fields.
+#[cycle(push_type)]
 pub(crate) fn push_struct(
     room: usize,
     lists: bool,
@@ -110,6 +107,7 @@ const TEXTS: &[&str] = &[
 ];
 
 /// A value of the type, which has at most so many types inside one another.
+#[cycle(value)]
 pub(crate) fn value(
     room: usize,
     alloc: Global,
@@ -135,6 +133,7 @@ pub(crate) fn value(
     }
 }
 
+#[cycle(value)]
 fn items(
     room: usize,
     alloc: Global,
@@ -149,6 +148,7 @@ fn items(
     Ok(Value::List(items))
 }
 
+#[cycle(value)]
 fn values(
     room: usize,
     alloc: Global,
