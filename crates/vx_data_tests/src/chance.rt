@@ -60,7 +60,11 @@ pub(crate) fn push_type(
     } else if kind == 3 {
         push_struct(room - 1, lists, chance, text)?;
     } else {
-        text.push_str(if kind == 4 { "list(" } else { "fixed_size_list(" })?;
+        text.push_str(if kind == 4 {
+            "list("
+        } else {
+            "fixed_size_list("
+        })?;
         push_type(room - 1, lists, chance, text)?;
         text.push_str(if kind == 4 { ")" } else { ")[2]" })?;
     }
