@@ -9,8 +9,8 @@ use vx_types::{Column, DType, StructFields, Value};
 const BLOCK: usize = 65_536;
 
 /// Writes each row as a line of JSON, which is read back as that row by the column's type: each field of a struct under
-/// its name, also where it is null. Refuses with the writer's error, with `OutOfMemory`, and where the fields of a struct
-/// have one name. Time is linear in the column.
+/// its name, also where it is null. Refuses with the writer's error and with `OutOfMemory`. A struct with two fields of one
+/// name is written, and not read back. Time is linear in the column.
 pub fn write_json_lines<W: Write>(
     alloc: Global,
     column: &Column,
