@@ -1,14 +1,14 @@
 // Choices between values, over operands.
-ghost use Rattle.std.specs.Prelude.{◌≡◌, ◌<◌, ◌^◌, is_some, map, length, true, false, [], ◌∷◌};
-ghost use Rattle.vx_dtype.specs.Answers.{Answers};
+ghost use Rattle.std.specs.Prelude.{◌≡◌, ◌<◌, ◌^◌, is_some, map, IfOk, length, true, false, [], ◌∷◌};
 ghost use Rattle.vx_build.specs.Operands.{case_operands, pair_operands};
 ghost use Rattle.vx_fn.specs.Functions as function;
 ghost use Rattle.vx_fn.specs.Functions.{case_when};
-ghost use Rattle.vx_forms.specs.Given.{GivesOver, all_seen, zip_over};
+ghost use Rattle.vx_forms.specs.Given.{GivesOver, zip_over};
 
 use crate::Operand;
-use std::alloc::Global;
-use vx_tree::{TreeNode, VortexResult};
+use crate::operands::trees_given;
+use std::alloc::{AllocError, Global};
+use vx_tree::{CaseWhenOptions, ScalarFnRef, TreeNode, VortexResult};
 
 /// The first value where the condition is true, and else the second. Refuses as the first operand
 /// that was refused, else over sources with `OutOfMemory` (1) alone, over bound trees as the node
@@ -84,25 +84,38 @@ pub fn nested_case_when<T: TreeNode, O: Operand<T>, const N: usize>(
     requires countable { N < 2 ^ 32 }
     ensures { GivesOver T.seen (T.over (case_when N (is_some else_value))) (map O.given (case_operands when_then_pairs else_value)) result }
 {
-    let pairs = pairs_given(alloc, Vec::from_array(alloc, when_then_pairs)?)?;
-    let else_value = match else_value {
-        Some(operand) => Some(operand.into_tree()?),
-        None => None,
+    let options = CaseWhenOptions {
+        num_when_then_pairs: N as u32,
+        has_else: else_value.is_some(),
     };
-    vx_build::nested_case_when(alloc, pairs, else_value)
+    let pairs = Vec::from_array(alloc, when_then_pairs)?;
+    let children = trees_given(alloc, case_operands(alloc, pairs, else_value)?)?;
+    T::of_function(alloc, ScalarFnRef::CaseWhen(options), children)
 }
 
-// The trees that the operands of each pair stand for, or the first refusal among them.
-fn pairs_given<T: TreeNode, O: Operand<T>>(
+// Each condition and the value beside it, then the ELSE value, if there is one.
+fn case_operands<O: Drop>(
     alloc: Global,
     pairs: Vec<(O, O)>,
-) -> VortexResult<Vec<(T, T)>>
-    ensures { Answers (λ trees. map T.seen (pair_operands trees.items)) result (all_seen T.seen (map O.given (pair_operands pairs.items))) }
+    else_value: Option<O>,
+) -> Result<Vec<O>, AllocError>
+    ensures { IfOk result (λ operands. operands.items ≡ case_operands pairs.items else_value) }
 {
-    let mut trees = Vec::with_capacity(alloc, pairs.len())?;
-    for (condition, value) in pairs {
-        let condition = condition.into_tree()?;
-        trees.push((condition, value.into_tree()?))?;
+    let mut operands = pair_operands(alloc, pairs)?;
+    if let Some(value) = else_value {
+        operands.push(value)?;
     }
-    Ok(trees)
+    Ok(operands)
+}
+
+// Both of each pair.
+fn pair_operands<O: Drop>(alloc: Global, pairs: Vec<(O, O)>) -> Result<Vec<O>, AllocError>
+    ensures { IfOk result (λ operands. operands.items ≡ pair_operands pairs.items) }
+{
+    let mut operands = Vec::new(alloc);
+    for (condition, value) in pairs {
+        operands.push(condition)?;
+        operands.push(value)?;
+    }
+    Ok(operands)
 }

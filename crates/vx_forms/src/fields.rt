@@ -1,19 +1,20 @@
 // Fields and structs over operands.
-ghost use Rattle.std.specs.Prelude.{◌≡◌, Ok, Result, IfOk, IfErr, [], ◌∷◌, map};
-ghost use Rattle.vx_dtype.specs.Answers.{Answers};
-ghost use Rattle.vx_dtype.specs.declared.error.VortexError.{VortexError};
+ghost use Rattle.std.specs.Prelude.{[], ◌∷◌, map};
 ghost use Rattle.vx_value.specs.Views.{admits_null};
 ghost use Rattle.vx_fn.specs.Functions.{get_item, pack, select};
 ghost use Rattle.vx_fn.specs.declared.options.FieldSelection.TheVariants.{Include, Exclude};
 ghost use Rattle.vx_tree.specs.Built.{GivesNode};
 ghost use Rattle.vx_tree.specs.Trees.{root, tree, no_tree};
 ghost use Rattle.vx_forms_values.specs.Named.{beside, named};
-ghost use Rattle.vx_forms.specs.Given.{GivesOver, all_seen};
+ghost use Rattle.vx_forms.specs.Given.{GivesOver};
 
 use crate::Operand;
+use crate::operands::trees_given;
 use std::alloc::Global;
-use vx_forms_values::{IntoFieldName, IntoFieldNames};
-use vx_tree::{Expression, FieldName, Nullability, TreeNode, VortexResult};
+use vx_forms_values::{IntoFieldName, IntoFieldNames, unzip_named};
+use vx_tree::{
+    Expression, FieldNames, Nullability, PackOptions, ScalarFnRef, TreeNode, VortexResult,
+};
 
 /// The scope's first field of that name, as `col(alloc, "x")`. Refuses with `OutOfMemory` (1) alone.
 pub fn col<N: IntoFieldName>(alloc: Global, name: N) -> VortexResult<Expression>
@@ -73,22 +74,9 @@ pub fn pack<T: TreeNode, N: IntoFieldName, O: Operand<T>, const K: usize>(
 ) -> VortexResult<T>
     ensures { GivesOver T.seen (T.over (pack (named N.name elements) (admits_null nullability))) (map O.given (beside elements)) result }
 {
-    let elements = with_trees(alloc, Vec::from_array(alloc, elements)?)?;
-    vx_build::pack(alloc, elements, nullability)
-}
-
-// The names, and the trees that the operands stand for beside them.
-fn with_trees<T: TreeNode, N: IntoFieldName, O: Operand<T>>(
-    alloc: Global,
-    elements: Vec<(N, O)>,
-) -> VortexResult<Vec<(FieldName, T)>>
-    ensures names { IfOk result (λ trees. named (λ a. a) trees.items ≡ named N.name elements.items) }
-    ensures trees { Answers (λ trees. map T.seen (beside trees.items)) result (all_seen T.seen (map O.given (beside elements.items))) }
-{
-    let mut trees = Vec::with_capacity(alloc, elements.len())?;
-    for (name, operand) in elements {
-        let tree = operand.into_tree()?;
-        trees.push((name.into_field_name(alloc)?, tree))?;
-    }
-    Ok(trees)
+    let (names, operands) = unzip_named(alloc, Vec::from_array(alloc, elements)?)?;
+    let names = FieldNames::new(alloc, names)?;
+    let children = trees_given(alloc, operands)?;
+    let options = PackOptions { names, nullability };
+    T::of_function(alloc, ScalarFnRef::Pack(options), children)
 }

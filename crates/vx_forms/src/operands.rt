@@ -1,5 +1,5 @@
 // What a child may be given as.
-ghost use Rattle.std.specs.Prelude.{Ok, Result, map};
+ghost use Rattle.std.specs.Prelude.{◌≡◌, IfOk, Ok, Result, length, map};
 ghost use Rattle.vx_dtype.specs.declared.error.VortexError.{VortexError};
 ghost use Rattle.vx_dtype.specs.Answers.{Answers};
 ghost use Rattle.vx_forms.specs.Given.{all_seen, seen_as};
@@ -71,7 +71,8 @@ pub(crate) fn trees_given<T: TreeNode, O: Operand<T>>(
     alloc: Global,
     operands: Vec<O>,
 ) -> VortexResult<Vec<T>>
-    ensures { Answers (λ trees. map T.seen trees.items) result (all_seen T.seen (map O.given operands.items)) }
+    ensures count { IfOk result (λ trees. length trees.items ≡ length operands.items) }
+    ensures trees { Answers (λ trees. map T.seen trees.items) result (all_seen T.seen (map O.given operands.items)) }
 {
     let mut trees = Vec::with_capacity(alloc, operands.len())?;
     for operand in operands {
