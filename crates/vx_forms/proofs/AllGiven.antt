@@ -18,7 +18,7 @@ one_more view [] [] g y h k = rw k refl
 one_more view [] (z ∷ zs) g y h k = cc
 one_more view (Ok a ∷ gs) ys g y h k =
     let i = cons_ok (view a) (all_seen view gs) ys h in
-    rw (one_more view gs i.0 g y i.1 k, i.2) refl
+    ap (on_ok (λ zs. Ok (view a ∷ zs))) (one_more view gs i.0 g y i.1 k) ∙ ap (λ zs. Ok (zs ++ y ∷ [])) (sym i.2)
 one_more view (Err e ∷ gs) ys g y h k = cc
 
 -- the first one that is refused
@@ -27,7 +27,7 @@ pub refused : {A B : Type 0} (view : A → B) (gs : List (Result A VortexError))
 refused view [] ys g rest e h k = rw k refl
 refused view (Ok a ∷ gs) ys g rest e h k =
     let i = cons_ok (view a) (all_seen view gs) ys h in
-    rw (refused view gs i.0 g rest e i.1 k) refl
+    ap (on_ok (λ zs. Ok (view a ∷ zs))) (refused view gs i.0 g rest e i.1 k)
 refused view (Err r ∷ gs) ys g rest e h k = cc
 
 -- one more tree of one more operand

@@ -1,2 +1,2 @@
 pub mod AllGiven
-pub mod Applied
+pub mod Application

@@ -12,7 +12,6 @@ use vx_tree::{Column, Expression, VortexResult};
 ///
 /// Refuses as binding does (2 and 4 to 11), and else with the first fault (13 to 15), as `apply_bound`
 /// does, or with `OutOfMemory` (1).
-#[tactic(auto, using(crate::proofs::Applied::application_refused, crate::proofs::Applied::application_evaluated))]
 pub fn apply(alloc: Global, batch: &Column, expr: &Expression) -> VortexResult<Column>
     ensures { Answers (λ c. c) result (application (tree_of expr.now) batch.now) }
 {

@@ -89,7 +89,8 @@ pub fn nested_case_when<T: TreeNode, O: Operand<T>, const N: usize>(
         has_else: else_value.is_some(),
     };
     let pairs = Vec::from_array(alloc, when_then_pairs)?;
-    let children = trees_given(alloc, case_operands(alloc, pairs, else_value)?)?;
+    let operands = case_operands(alloc, pairs, else_value)?;
+    let children = trees_given(alloc, operands)?;
     T::of_function(alloc, ScalarFnRef::CaseWhen(options), children)
 }
 
