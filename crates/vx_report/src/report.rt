@@ -15,7 +15,7 @@ pub struct Span {
 }
 
 /// What is wrong in a text, and where. Prints the message, the place as name, line and column, the
-/// line, and carets below the span:
+/// line, carets below the span, and what would do:
 ///
 /// ```text
 /// error: expected an operand
@@ -23,6 +23,7 @@ pub struct Span {
 ///   |
 /// 1 | x <
 ///   |    ^
+///   = help: write a number
 /// ```
 ///
 /// A span over several lines is underlined up to the end of its first. Tabs stand below tabs, so that
@@ -38,6 +39,8 @@ pub struct Report<'a, M: Display> {
     pub text: &'a str,
     /// Where in the text.
     pub span: Span,
+    /// What would do, in a line of its own.
+    pub help: Option<&'a str>,
 }
 
 impl<M: Display> Display for Report<'_, M> {
@@ -55,7 +58,11 @@ impl<M: Display> Display for Report<'_, M> {
         write!(f, "{} | ", place.line)?;
         excerpt.write_line(f)?;
         write!(f, "\n{gutter} | ")?;
-        excerpt.write_carets(f)
+        excerpt.write_carets(f)?;
+        match self.help {
+            Some(help) => write!(f, "\n{gutter} = help: {help}"),
+            None => Ok(()),
+        }
     }
 }
 

@@ -61,9 +61,19 @@ fn messages_show_where_they_belong(rt: HostRuntime) -> Result<(), Fail> {
             name: "here",
             text,
             span: Span { start, end },
+            help: None,
         };
         assert_eq!(rt; format!(in rt.alloc(); "{report}")?.as_str(), wanted);
     }
+    let report = Report {
+        message: "no",
+        name: "here",
+        text: "x <",
+        span: Span { start: 3, end: 3 },
+        help: Some("write 1"),
+    };
+    let wanted = "error: no\n --> here:1:4\n  |\n1 | x <\n  |    ^\n  = help: write 1";
+    assert_eq!(rt; format!(in rt.alloc(); "{report}")?.as_str(), wanted);
     Ok(())
 }
 
@@ -87,6 +97,7 @@ fn long_lines_are_cut_around_the_span(rt: HostRuntime) -> Result<(), Fail> {
             name: "here",
             text: text.as_str(),
             span: Span { start, end },
+            help: None,
         };
         let mut wanted = format!(in rt.alloc();
             "error: no\n --> here:1:{}\n  |\n1 | {before}",
