@@ -9,18 +9,32 @@ pub fn command_line<'a>(alloc: Global) -> Result<Command<'a>, AllocError> {
         .action(ArgAction::SetTrue)
         .help("Print JSON, which is the only form so far");
     Command::new(alloc, "vx")
-        .about("Says what an expression over rows is, what becomes of it, and what is wrong with it.")
+        .bin_name("vx")?
+        .about(
+            "Says what an expression over rows is, what becomes of it, and what is wrong with it.",
+        )
         .after_help(TEXTS)
         .subcommand_required(true)
         .arg_required_else_help(true)
         .subcommand(query(alloc, "check", "Prints the type of the expression", CHECK)?)?
-        .subcommand(query(alloc, "explain", "Prints what becomes of the expression", EXPLAIN)?)?
+        .subcommand(query(
+            alloc,
+            "explain",
+            "Prints what becomes of the expression",
+            EXPLAIN,
+        )?)?
         .subcommand(expression_alone(alloc)?)?
         .subcommand(query(alloc, "plan", "Prints the plan of a scan as JSON", PLAN)?.arg(json)?)?
-        .subcommand(query(alloc, "dot", "Prints the typed tree in Graphviz's language", DOT)?)
+        .subcommand(query(
+            alloc,
+            "dot",
+            "Prints the typed tree in Graphviz's language",
+            DOT,
+        )?)
 }
 
-const TEXTS: &str = "EXPR and TYPE are texts, or @FILE for the text of a file, or - for standard input.
+const TEXTS: &str =
+    "EXPR and TYPE are texts, or @FILE for the text of a file, or - for standard input.
 
 The status is 0; 1 where a file or memory fails; 2 where what was given is wrong.
 

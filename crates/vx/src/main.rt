@@ -59,12 +59,7 @@ fn asked(rt: &HostRuntime, matches: &ArgMatches<'_>) -> Result<Status> {
         "dot" => Command::Graph(query),
         _ => Command::Format(query.expression),
     };
-    Ok(run_command(
-        rt.alloc(),
-        &command,
-        &mut rt.stdout(),
-        &mut rt.stderr(),
-    ))
+    Ok(run_command(rt.alloc(), &command, &mut rt.stdout(), &mut rt.stderr()))
 }
 
 // The text that the argument says, an empty one where the command takes no such argument.

@@ -3,7 +3,6 @@ use anyhow::{Context, Result};
 use std::rt::Files;
 use std::{fs, io};
 
-
 /// A text, and what messages call it.
 #[derive(Drop)]
 pub struct Text {
@@ -23,7 +22,11 @@ impl Text {
 
 /// The text that the word says: standard input for `-`, the file of that name for `@NAME`, else the
 /// word itself, which messages call by the argument's name.
-pub fn read_text<R: Files + Input + AllocGlobal>(rt: &R, argument: &str, word: &str) -> Result<Text> {
+pub fn read_text<R: Files + Input + AllocGlobal>(
+    rt: &R,
+    argument: &str,
+    word: &str,
+) -> Result<Text> {
     let alloc = rt.alloc();
     let (name, text) = match (word, word.strip_prefix('@')) {
         ("-", _) => (

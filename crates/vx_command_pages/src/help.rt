@@ -6,8 +6,12 @@ pub(crate) fn help_for(refusal: &VortexError) -> Option<&'static str> {
     match refusal {
         VortexError::NotAStruct => Some("only a struct has fields; `$` has those of the schema"),
         VortexError::NoSuchField(_) => Some("name one of the fields that the schema has there"),
-        VortexError::BaseTypesDiffer => Some("cast one side to the type of the other, as in x::i64"),
-        VortexError::NotBool => Some("write a comparison, as in x > 0, or a test, as in x is not null"),
+        VortexError::BaseTypesDiffer => Some(
+            "cast one side to the type of the other, as in x::i64",
+        ),
+        VortexError::NotBool => Some(
+            "write a comparison, as in x > 0, or a test, as in x is not null",
+        ),
         VortexError::NotComparable => Some("compare the fields one by one"),
         VortexError::NotNumeric => Some("add numbers of one type, as in x + 1"),
         VortexError::NotText => Some("match a utf8 with a utf8, as in s like \"a%\""),

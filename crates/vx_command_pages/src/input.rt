@@ -63,12 +63,7 @@ pub fn bind(
 /// The complaint of that refusal, with the bytes that the first refused node was read from; those of
 /// the whole expression where the node can't be told for want of memory. Asks the first refusal of
 /// binding, or want of memory.
-pub fn refused(
-    alloc: Global,
-    placed: &Placed,
-    scope: &DType,
-    refusal: VortexError,
-) -> Complaint
+pub fn refused(alloc: Global, placed: &Placed, scope: &DType, refusal: VortexError) -> Complaint
     requires { IsRefusedWith (tree_of placed.now.expression) (type_of scope.now) refusal }
     ensures { IsRefusal (tree_of placed.now.expression) (type_of scope.now) result }
 {

@@ -16,11 +16,7 @@ use vx_tree::{BoundExpression, Expression, FieldName};
 /// What becomes of the expression over rows of the schema's type: its source text, type and tree; what
 /// each pass makes of it, where that changes it; and of its plan the tree, the paths that are read,
 /// the root and the partitions. Complains as [`plan_page`](crate::plan_page) does.
-pub fn explanation_page(
-    alloc: Global,
-    expression: &str,
-    schema: &str,
-) -> Result<String, Complaint>
+pub fn explanation_page(alloc: Global, expression: &str, schema: &str) -> Result<String, Complaint>
     ensures { IfErr result (λ c. IsComplaint expression.now schema.now c) }
 {
     let placed = read_expression(alloc, expression)?;

@@ -48,10 +48,7 @@ fn unbound(alloc: Global, tree: &BoundExpression) -> Result<Expression, AllocErr
 }
 
 #[cycle(unbound)]
-fn unbound_all(
-    alloc: Global,
-    trees: &[BoundExpression],
-) -> Result<Vec<Expression>, AllocError>
+fn unbound_all(alloc: Global, trees: &[BoundExpression]) -> Result<Vec<Expression>, AllocError>
     ensures { IfOk result (λ es. trees_of es.items ≡ unbound_each (bounds_of trees.now)) }
 {
     let mut all = Vec::with_capacity(alloc, trees.len())?;
