@@ -1,11 +1,11 @@
 // Plans as JSON.
-ghost use Rattle.std.specs.Prelude.{◌≡◌, IfOk, length, map};
-ghost use Rattle.serde_json.specs.View.{view, items_view};
-ghost use Rattle.vx_value.specs.Paths.{minimal_paths, path_of};
+ghost use Rattle.std.specs.Prelude.{◌≡◌, IfOk};
+ghost use Rattle.serde_json.specs.View.{view};
+ghost use Rattle.vx_value.specs.Paths.{minimal_paths};
 ghost use Rattle.vx_value.specs.Views.{type_of};
-ghost use Rattle.vx_tree.specs.Views.{bound_of, bounds_of};
+ghost use Rattle.vx_tree.specs.Views.{bound_of};
 ghost use Rattle.vx_query_split.specs.Division.{parts_of};
-ghost use Rattle.vx_command_plans.specs.PlanData.{partition_data, partitions_data, path_data, names_data, paths_data, plan_data, root_data, split_data};
+ghost use Rattle.vx_command_plans.specs.PlanData.{partition_data, path_data, paths_data, plan_data};
 
 use crate::sources::{source_text, type_text};
 use serde_json::{Value, json};
