@@ -1,0 +1,64 @@
+// What stops a command.
+ghost use Rattle.std.specs.Prelude.{◌≡◌};
+ghost use Rattle.vx_command_pages.specs.declared.complaint.Complaint.TheVariants.{OutOfMemory};
+
+use std::alloc::{AllocError, AllocFailed};
+use vx_report::Span;
+use vx_source::Expected;
+use vx_tree::VortexError;
+
+/// Why a command prints no page.
+#[derive(Debug, Drop)]
+pub enum Complaint {
+    /// Memory ran out.
+    OutOfMemory,
+    /// Reading the expression stopped at that byte.
+    UnreadExpression { at: usize, expected: Expected },
+    /// Reading the schema stopped at that byte.
+    UnreadSchema { at: usize, expected: Expected },
+    /// The node that was read from those bytes of the expression has no type over the schema's.
+    Refused { span: Span, refusal: VortexError },
+}
+
+impl Complaint {
+    ghost use Rattle.vx_command_pages.specs.Inputs.{status_of};
+
+    /// How a command ends that stops with it.
+    pub fn status(&self) -> Status
+        ensures { result ≡ status_of self.now }
+    {
+        match self {
+            Complaint::OutOfMemory => Status::Failed,
+            Complaint::UnreadExpression { .. }
+            | Complaint::UnreadSchema { .. }
+            | Complaint::Refused { .. } => Status::Wrong,
+        }
+    }
+}
+
+impl From<AllocError> for Complaint {
+    ghost from_gives = { λ _ c. c ≡ OutOfMemory };
+
+    fn from(_e: AllocError) -> Complaint {
+        Complaint::OutOfMemory
+    }
+}
+
+impl<T: Drop> From<AllocFailed<T>> for Complaint {
+    ghost from_gives = { λ _ c. c ≡ OutOfMemory };
+
+    fn from(_e: AllocFailed<T>) -> Complaint {
+        Complaint::OutOfMemory
+    }
+}
+
+/// How a command ended; the number is the program's exit status.
+#[derive(Clone, Copy, Debug, PartialEq, Eq)]
+pub enum Status {
+    /// It printed its page.
+    Done = 0,
+    /// The program failed, for want of memory or of a writer.
+    Failed = 1,
+    /// What it was given is wrong.
+    Wrong = 2,
+}

@@ -1,0 +1,102 @@
+// The page of `dot`.
+ghost use Rattle.std.specs.Prelude.{IfErr};
+ghost use Rattle.vx_command_pages.specs.Inputs.{IsComplaint};
+
+use crate::{Complaint, bind, read_expression, read_schema};
+use std::alloc::{AllocError, Global};
+use vx_source::TypeText;
+use vx_tree::{BoundExpression, ChildName, ScalarFnRef};
+
+/// The typed tree as a graph in Graphviz's language: a line for each node, which shows its function
+/// and its type, and one for each edge, with the name of the child. Complains as
+/// [`type_page`](crate::type_page) does.
+pub fn graph_page(alloc: Global, expression: &str, schema: &str) -> Result<String, Complaint>
+    ensures { IfErr result (λ c. IsComplaint expression.now schema.now c) }
+{
+    let placed = read_expression(alloc, expression)?;
+    let scope = read_schema(alloc, schema)?;
+    let bound = bind(alloc, &placed, &scope)?;
+    Ok(graph(alloc, &bound)?)
+}
+
+// The graph of the tree.
+fn graph(alloc: Global, tree: &BoundExpression) -> Result<String, AllocError> {
+    let mut page = String::from_str(alloc, "digraph expression {\n  node [shape=box];\n")?;
+    let mut next = 1;
+    push_nodes(alloc, tree, 0, &mut next, &mut page)?;
+    page.push_str("}\n")?;
+    Ok(page)
+}
+
+// Adds the node of that number, and those below it, which are numbered from the next number on.
+fn push_nodes(
+    alloc: Global,
+    node: &BoundExpression,
+    number: u64,
+    next: &mut u64,
+    page: &mut String,
+) -> Result<(), AllocError> {
+    push_node(alloc, node, number, page)?;
+    let BoundExpression::Scalar {
+        scalar_fn,
+        children,
+        ..
+    } = node
+    else {
+        return Ok(());
+    };
+    for (index, child) in children.iter().enumerate() {
+        let below = *next;
+        *next = below.saturating_add(1);
+        push_nodes(alloc, child, below, next, page)?;
+        push_edge(alloc, scalar_fn, index, number, below, page)?;
+    }
+    Ok(())
+}
+
+// Adds the line of a node.
+fn push_node(
+    alloc: Global,
+    node: &BoundExpression,
+    number: u64,
+    page: &mut String,
+) -> Result<(), AllocError> {
+    let function = match node.as_scalar() {
+        Some(scalar_fn) => scalar_fn.to_string(alloc)?,
+        None => String::from_str(alloc, "vortex.root()")?,
+    };
+    let dtype = TypeText(node.dtype()).to_string(alloc)?;
+    page.push_str(format!(in alloc; "  n{number} [label=\"")?.as_str())?;
+    push_quoted(function.as_str(), page)?;
+    page.push_str("\\n")?;
+    push_quoted(dtype.as_str(), page)?;
+    page.push_str("\"];\n")
+}
+
+// Adds the line of an edge.
+fn push_edge(
+    alloc: Global,
+    scalar_fn: &ScalarFnRef,
+    index: usize,
+    above: u64,
+    below: u64,
+    page: &mut String,
+) -> Result<(), AllocError> {
+    let name = ChildName { scalar_fn, index }.to_string(alloc)?;
+    page.push_str(format!(in alloc; "  n{above} -> n{below} [label=\"")?.as_str())?;
+    push_quoted(name.as_str(), page)?;
+    page.push_str("\"];\n")
+}
+
+// Adds what is to stand between double quotes.
+fn push_quoted(text: &str, page: &mut String) -> Result<(), AllocError> {
+    for c in text.chars() {
+        match c {
+            '"' => page.push_str("\\\"")?,
+            '\\' => page.push_str("\\\\")?,
+            '\n' => page.push_str("\\n")?,
+            _ => page.push(c)?,
+        }
+    }
+    Ok(())
+}

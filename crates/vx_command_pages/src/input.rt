@@ -1,0 +1,85 @@
+// The texts that a command is given, read.
+ghost use Rattle.std.specs.Prelude.{◌≡◌, IfOk, IfErr, Ok};
+ghost use Rattle.vx_value.specs.Views.{type_of};
+ghost use Rattle.vx_tree.specs.Views.{tree_of, bound_of};
+ghost use Rattle.vx_tree.specs.Trees.{Over, WellTyped, node_type, typed, unbound};
+ghost use Rattle.vx_command_pages.specs.Inputs.{Reads, ReadsType, IsUnread, IsUnreadSchema, IsRefusal, IsRefusedWith};
+
+use crate::Complaint;
+use crate::spans::span_at;
+use std::alloc::Global;
+use vx_places::first_refusal_at;
+use vx_report::Span;
+use vx_source::{DEFAULT_NESTING, ParseError, Placed, parse_type, parse_with_places};
+use vx_tree::{BoundExpression, DType, VortexError};
+
+/// The expression that the text says, with the bytes that its nodes were read from. Complains of the
+/// place where reading stopped, and of want of memory.
+pub fn read_expression(alloc: Global, text: &str) -> Result<Box<Placed>, Complaint>
+    ensures read { IfOk result (λ placed. Reads text.now (tree_of placed.value.expression)) }
+    ensures complaint { IfErr result (λ c. IsUnread text.now c) }
+{
+    match parse_with_places(alloc, text, DEFAULT_NESTING) {
+        Ok(placed) => Ok(Box::new(alloc, placed)?),
+        Err(ParseError::OutOfMemory) => Err(Complaint::OutOfMemory),
+        Err(ParseError::Unexpected { at, expected }) => {
+            Err(Complaint::UnreadExpression { at, expected })
+        }
+    }
+}
+
+/// The type that the schema says. Complains of the place where reading stopped, and of want of memory.
+pub fn read_schema(alloc: Global, schema: &str) -> Result<Box<DType>, Complaint>
+    ensures read { IfOk result (λ scope. ReadsType schema.now (type_of scope.value)) }
+    ensures complaint { IfErr result (λ c. IsUnreadSchema schema.now c) }
+{
+    match parse_type(alloc, schema) {
+        Ok(scope) => Ok(Box::new(alloc, scope)?),
+        Err(ParseError::OutOfMemory) => Err(Complaint::OutOfMemory),
+        Err(ParseError::Unexpected { at, expected }) => {
+            Err(Complaint::UnreadSchema { at, expected })
+        }
+    }
+}
+
+/// The expression bound to the scope's type. Complains of its first refusal, with the bytes that the
+/// refused node was read from, and of want of memory.
+pub fn bind(
+    alloc: Global,
+    placed: &Placed,
+    scope: &DType,
+) -> Result<Box<BoundExpression>, Complaint>
+    ensures typed { IfOk result (λ b. typed (tree_of placed.now.expression) (type_of scope.now) ≡ Ok (node_type (bound_of b.value))) }
+    ensures well_typed { IfOk result (λ b. WellTyped (bound_of b.value)) }
+    ensures over { IfOk result (λ b. Over (bound_of b.value) (type_of scope.now) × (unbound (bound_of b.value) ≡ tree_of placed.now.expression)) }
+    ensures complaint { IfErr result (λ c. IsRefusal (tree_of placed.now.expression) (type_of scope.now) c) }
+{
+    match placed.expression.bind(alloc, scope) {
+        Ok(bound) => Ok(Box::new(alloc, bound)?),
+        Err(refusal) => Err(refused(alloc, placed, scope, refusal)),
+    }
+}
+
+/// The complaint of that refusal, with the bytes that the first refused node was read from; those of
+/// the whole expression where the node can't be told for want of memory. Asks the first refusal of
+/// binding, or want of memory.
+pub fn refused(alloc: Global, placed: &Placed, scope: &DType, refusal: VortexError) -> Complaint
+    requires { IsRefusedWith (tree_of placed.now.expression) (type_of scope.now) refusal }
+    ensures { IsRefusal (tree_of placed.now.expression) (type_of scope.now) result }
+{
+    match refusal {
+        VortexError::OutOfMemory => Complaint::OutOfMemory,
+        refusal => Complaint::Refused {
+            span: refused_span(alloc, placed, scope),
+            refusal,
+        },
+    }
+}
+
+// The bytes that the first refused node was read from.
+fn refused_span(alloc: Global, placed: &Placed, scope: &DType) -> Span {
+    match first_refusal_at(alloc, &placed.expression, scope) {
+        Ok(Some(place)) => span_at(&placed.places, place.path.as_slice()),
+        _ => span_at(&placed.places, &[]),
+    }
+}

@@ -1,0 +1,2 @@
+pub mod PlanData
+pub mod PlanPages

@@ -1,0 +1,49 @@
+// The page of `plan`.
+ghost use Rattle.std.specs.Prelude.{IfOk, IfErr, string_bytes};
+ghost use Rattle.vx_value.specs.Views.{type_of};
+ghost use Rattle.vx_tree.specs.Views.{bound_of, tree_of};
+ghost use Rattle.vx_scan.specs.Plans.{IsPlanFor};
+ghost use Rattle.vx_command_pages.specs.Inputs.{IsComplaint, IsRefusal};
+ghost use Rattle.vx_command_plans.specs.PlanPages.{IsPlanPage};
+
+use crate::json::plan_value;
+use std::alloc::{AllocError, Global};
+use vx_command_pages::{Complaint, read_expression, read_schema, refused};
+use vx_scan::{ScanPlan, plan};
+use vx_source::Placed;
+use vx_tree::DType;
+
+/// The plan of the expression over rows of the schema's type, as JSON on one line. Complains of what
+/// can't be read, of the expression first; else of the first refusal, with its place; and of want of
+/// memory.
+pub fn plan_page(alloc: Global, expression: &str, schema: &str) -> Result<String, Complaint>
+    ensures prints { IfOk result (λ page. IsPlanPage expression.now schema.now (string_bytes page)) }
+    ensures complaint { IfErr result (λ c. IsComplaint expression.now schema.now c) }
+{
+    let placed = read_expression(alloc, expression)?;
+    let scope = read_schema(alloc, schema)?;
+    let plan = planned(alloc, &placed, &scope)?;
+    Ok(plan_line(alloc, &plan)?)
+}
+
+// The plan of what was read.
+pub(crate) fn planned(
+    alloc: Global,
+    placed: &Placed,
+    scope: &DType,
+) -> Result<Box<ScanPlan>, Complaint>
+    ensures planned { IfOk result (λ p. IsPlanFor (tree_of placed.now.expression) (type_of scope.now) (type_of p.value.scope) (bound_of p.value.tree)) }
+    ensures complaint { IfErr result (λ c. IsRefusal (tree_of placed.now.expression) (type_of scope.now) c) }
+{
+    match plan(alloc, &placed.expression, scope) {
+        Ok(plan) => Ok(Box::new(alloc, plan)?),
+        Err(refusal) => Err(refused(alloc, placed, scope, refusal)),
+    }
+}
+
+// The plan as JSON, on one line.
+fn plan_line(alloc: Global, plan: &ScanPlan) -> Result<String, AllocError> {
+    let mut page = plan_value(alloc, plan)?.to_string(alloc)?;
+    page.push_str("\n")?;
+    Ok(page)
+}

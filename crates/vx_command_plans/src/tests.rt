@@ -1,0 +1,54 @@
+// Pages of plans, by a table.
+use crate::{explanation_page, plan_page};
+use std::process::Abort;
+use std::test::Fail;
+use vx_command_pages::Complaint;
+
+const ROWS: &str = "{a={x=i32, y=i32}?, b=i32, c=utf8}";
+
+// The page; a complaint ends the test.
+fn shown(rt: &impl Abort, page: Result<String, Complaint>) -> String {
+    match page {
+        Ok(page) => page,
+        Err(_) => rt.abort(),
+    }
+}
+
+#[test]
+fn plans_are_objects_on_a_line(rt: HostRuntime) -> Result<(), Fail> {
+    for (expression, schema, wanted) in [
+        (
+            "a.x >= 1 and b < 5",
+            ROWS,
+            "{\"partitions\":[{\"name\":\"a\",\"tree\":\"pack(a_0: ($.a.x >= 1i32))\",\"type\":\"{a_0=bool?}\"},{\"name\":\"b\",\"tree\":\"pack(b_0: ($.b < 5i32))\",\"type\":\"{b_0=bool}\"}],\"paths\":[[\"a\",\"x\"],[\"b\"]],\"root\":\"($.a.a_0 and $.b.b_0)\",\"scope\":\"{a={x=i32, y=i32}?, b=i32, c=utf8}\",\"tree\":\"(($.a.x >= 1i32) and ($.b < 5i32))\",\"type\":\"bool?\"}\n",
+        ),
+        (
+            "is_null($)",
+            "utf8?",
+            "{\"partitions\":[],\"paths\":[[]],\"root\":null,\"scope\":\"utf8?\",\"tree\":\"vortex.is_null($)\",\"type\":\"bool\"}\n",
+        ),
+    ] {
+        let page = shown(&rt, plan_page(rt.alloc(), expression, schema));
+        assert_eq!(rt; page.as_str(), wanted);
+    }
+    Ok(())
+}
+
+#[test]
+fn explanations_tell_what_changes(rt: HostRuntime) -> Result<(), Fail> {
+    let page = shown(
+        &rt,
+        explanation_page(rt.alloc(), "b >= 1 and b < 5", "{b=i32}"),
+    );
+    for line in [
+        "text: (($.b >= 1i32) and ($.b < 5i32))\n",
+        "type: bool\n",
+        "fused ranges: (1i32 <= $.b < 5i32)\n",
+        "plan: (($.b >= 1i32) and ($.b < 5i32))\n",
+        "reads: $.b\n",
+    ] {
+        assert!(rt; page.as_str().contains(line), "{line}");
+    }
+    assert!(rt; !page.as_str().contains("rules:"));
+    Ok(())
+}

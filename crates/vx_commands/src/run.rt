@@ -1,0 +1,55 @@
+// A run of the program.
+ghost use Rattle.vx_commands.specs.Commands.{Ends, EndsAtPage, EndsAtComplaint};
+
+use crate::{Command, page_of};
+use std::alloc::Global;
+use std::io::Write;
+use vx_command_pages::{Complaint, Status};
+use vx_run::tell;
+
+/// Runs the command: its page is written on `out`, or what is complained of as a message on `err`, and
+/// the other writer is left as it was. All of a page is made before the first of it is written. The
+/// status is `Done` for a page, `Wrong` for a text that can't be read or an expression that is refused,
+/// and `Failed` where memory or a writer fails.
+pub fn run_command<W: Write, E: Write>(
+    alloc: Global,
+    command: &Command<'_>,
+    out: &mut W,
+    err: &mut E,
+) -> Status
+    ensures { Ends command.now (W.contents out.old) (W.contents out.new) (E.contents err.old) (E.contents err.new) result }
+{
+    match page_of(alloc, command) {
+        Ok(page) => print(page.as_str(), out),
+        Err(complaint) => complain(alloc, command, &complaint, err),
+    }
+}
+
+// Writes the page.
+fn print<W: Write>(page: &str, out: &mut W) -> Status
+    ensures { EndsAtPage page.now (W.contents out.old) (W.contents out.new) result }
+{
+    match tell(out, page, 0) {
+        0 => Status::Done,
+        _ => Status::Failed,
+    }
+}
+
+// Writes the complaint as a message.
+fn complain<E: Write>(
+    alloc: Global,
+    command: &Command<'_>,
+    complaint: &Complaint,
+    err: &mut E,
+) -> Status
+    ensures { EndsAtComplaint complaint.now result }
+{
+    let told = match format!(in alloc; "{}\n", command.message(complaint)) {
+        Ok(message) => tell(err, message.as_str(), 0),
+        Err(_) => tell(err, "error: out of memory\n", 1),
+    };
+    match told {
+        0 => complaint.status(),
+        _ => Status::Failed,
+    }
+}

@@ -1,0 +1,134 @@
+// Rows written as JSON lines.
+use json::Writer;
+use std::alloc::Global;
+use std::io::Write;
+use vx_data_record::{Expected, Fault, WriteError, hex_text};
+use vx_types::{Column, DType, StructFields, Value};
+
+// Lines are handed to the writer so many bytes at a time.
+const BLOCK: usize = 65_536;
+
+/// Writes each row as a line of JSON, which is read back as that row by the column's type: each field of a struct under
+/// its name, also where it is null. Refuses with the writer's error and with `OutOfMemory`. A struct with two fields of one
+/// name is written, and not read back. Time is linear in the column.
+pub fn write_json_lines<W: Write>(
+    alloc: Global,
+    column: &Column,
+    writer: &mut W,
+) -> Result<(), WriteError> {
+    let mut lines = Vec::new(alloc);
+    for (row, value) in column.rows().iter().enumerate() {
+        lines = match with_line(alloc, lines, column.dtype(), value) {
+            Ok(lines) => lines,
+            Err(fault) => return Err(fault.in_row(alloc, row)),
+        };
+        if lines.len() >= BLOCK {
+            writer.write_all(lines.as_slice())?;
+            lines.clear();
+        }
+    }
+    writer.write_all(lines.as_slice())?;
+    Ok(())
+}
+
+// The lines, and behind them one of that value.
+fn with_line(
+    alloc: Global,
+    lines: Vec<u8>,
+    dtype: &DType,
+    value: &Value,
+) -> Result<Vec<u8>, Fault> {
+    let mut writer = Writer::new(lines);
+    write_value(value, dtype, alloc, &mut writer)?;
+    let mut lines = writer.into_inner();
+    lines.push(b'\n')?;
+    Ok(lines)
+}
+
+#[cycle(write)]
+fn write_value(
+    value: &Value,
+    dtype: &DType,
+    alloc: Global,
+    writer: &mut Writer,
+) -> Result<(), Fault> {
+    match value {
+        Value::Null => Ok(writer.null()?),
+        Value::Bool(truth) => Ok(writer.boolean(*truth)?),
+        Value::Int(number) => write_number(alloc, *number, writer),
+        Value::Utf8(text) => Ok(writer.string(text.as_str())?),
+        Value::Binary(bytes) => Ok(writer.string(hex_text(alloc, bytes.as_slice())?.as_str())?),
+        Value::List(items) => write_list(items.as_slice(), dtype, alloc, writer),
+        Value::Struct(values) => write_struct(values.as_slice(), dtype, alloc, writer),
+    }
+}
+
+fn write_number(alloc: Global, number: i128, writer: &mut Writer) -> Result<(), Fault> {
+    if let Ok(number) = i64::try_from(number) {
+        return Ok(writer.i64(number)?);
+    }
+    match u64::try_from(number) {
+        Ok(number) => Ok(writer.u64(number)?),
+        Err(_) => Err(Fault::new(alloc, Expected::WholeOfAnyType)),
+    }
+}
+
+#[cycle(write)]
+fn write_list(
+    items: &[Value],
+    dtype: &DType,
+    alloc: Global,
+    writer: &mut Writer,
+) -> Result<(), Fault> {
+    match dtype {
+        DType::List(element, _) => write_items(items, element.as_ref(), alloc, writer),
+        DType::FixedSizeList(element, _, _) => write_items(items, element.as_ref(), alloc, writer),
+        _ => Err(Fault::new(alloc, Expected::List)),
+    }
+}
+
+#[cycle(write)]
+fn write_items(
+    items: &[Value],
+    element: &DType,
+    alloc: Global,
+    writer: &mut Writer,
+) -> Result<(), Fault> {
+    writer.begin_array()?;
+    for i in 0..items.len() {
+        write_value(&items[i], element, alloc, writer)?;
+    }
+    Ok(writer.end_array()?)
+}
+
+#[cycle(write)]
+fn write_struct(
+    values: &[Value],
+    dtype: &DType,
+    alloc: Global,
+    writer: &mut Writer,
+) -> Result<(), Fault> {
+    match dtype {
+        DType::Struct(fields, _) => write_fields(values, fields, alloc, writer),
+        _ => Err(Fault::new(alloc, Expected::Struct)),
+    }
+}
+
+#[cycle(write)]
+fn write_fields(
+    values: &[Value],
+    fields: &StructFields,
+    alloc: Global,
+    writer: &mut Writer,
+) -> Result<(), Fault> {
+    let names = fields.names().as_slice();
+    let types = fields.types();
+    writer.begin_object()?;
+    for i in 0..values.len().min(fields.nfields()) {
+        writer.key(names[i].as_str())?;
+        if let Err(fault) = write_value(&values[i], &types[i], alloc, writer) {
+            return Err(fault.within(&names[i]));
+        }
+    }
+    Ok(writer.end_object()?)
+}

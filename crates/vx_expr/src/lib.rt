@@ -1,0 +1,20 @@
+// The expression layer under one name, for who uses it: what the crates below have, by subject.
+#![tactic(auto)]
+
+pub mod analysis;
+pub mod bound;
+pub mod display;
+pub mod dtype;
+pub mod eval;
+pub mod expr;
+pub mod functions;
+pub mod optimize;
+pub mod prelude;
+pub mod query;
+pub mod scan;
+pub mod source;
+#[cfg(test)]
+mod tests;
+pub mod transform;
+pub mod traversal;
+pub mod value;
