@@ -5,4 +5,5 @@ pub use vx_forms::{
     lt_eq, mask, nested_case_when, not, not_eq, not_ilike, not_like, or, or_collect, pack, root,
     select, select_exclude, zip_expr,
 };
+pub use vx_forms_paths::field;
 pub use vx_tree::{Expression, Scope, TreeNode};

@@ -13,8 +13,6 @@ pub mod prelude;
 pub mod query;
 pub mod scan;
 pub mod source;
-#[cfg(test)]
-mod tests;
 pub mod transform;
 pub mod traversal;
 pub mod value;

@@ -10,14 +10,14 @@ pub use crate::dtype::{
 pub use crate::eval::{apply, apply_bound};
 pub use crate::expr::{
     Expression, Operand, Scope, and, and_collect, between, binary, case_when, case_when_no_else,
-    cast, checked_add, col, eq, fill_null, get_item, gt, gt_eq, ilike, is_not_null, is_null,
+    cast, checked_add, col, eq, field, fill_null, get_item, gt, gt_eq, ilike, is_not_null, is_null,
     is_root, like, lit, lt, lt_eq, mask, nested_case_when, not, not_eq, not_ilike, not_like, or,
     or_collect, pack, root, select, select_exclude, zip_expr,
 };
 pub use crate::functions::{BetweenOptions, Operator, StrictComparison};
 pub use crate::optimize::{BranchRules, Optimize};
 pub use crate::query::run_query;
-pub use crate::scan::{PathReader, ScanPlan, plan};
+pub use crate::scan::{PathReader, ScanPlan, plan, scan};
 pub use crate::source::{SourceText, parse, parse_type};
 pub use crate::transform::{
     BoundPartitionedExpr, Pass, find_between, partition_bound, replace_nodes, run_passes,

@@ -1,9 +1,9 @@
 // Trees, types, columns and partitions through the prelude.
-use crate::dtype::Nullability::{NonNullable, Nullable};
-use crate::dtype::PType::{I32, U32};
-use crate::prelude::*;
 use std::alloc::Global;
 use std::test::Fail;
+use vx_expr::dtype::Nullability::{NonNullable, Nullable};
+use vx_expr::dtype::PType::{I32, U32};
+use vx_expr::prelude::*;
 
 #[test]
 fn bound_constructors_preserve_order_and_types(rt: HostRuntime) -> Result<(), Fail> {
