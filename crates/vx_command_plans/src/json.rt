@@ -1,11 +1,11 @@
 // Plans as JSON.
-ghost use Rattle.std.specs.Prelude.{◌≡◌, IfOk};
-ghost use Rattle.serde_json.specs.View.{view};
+ghost use Rattle.std.specs.Prelude.{◌≡◌, IfOk, option_map};
+ghost use Rattle.serde_json.specs.View.{items_view, view};
 ghost use Rattle.vx_value.specs.Paths.{minimal_paths};
 ghost use Rattle.vx_value.specs.Views.{type_of};
-ghost use Rattle.vx_tree.specs.Views.{bound_of};
+ghost use Rattle.vx_tree.specs.Views.{bound_of, bounds_of};
 ghost use Rattle.vx_query_split.specs.Division.{parts_of};
-ghost use Rattle.vx_command_plans.specs.PlanData.{partition_data, path_data, paths_data, plan_data};
+ghost use Rattle.vx_command_plans.specs.PlanData.{partition_data, partition_items, partitions_data, path_data, paths_data, plan_data, root_data};
 
 use crate::sources::{source_text, type_text};
 use serde_json::{Value, json};
@@ -50,8 +50,10 @@ fn paths_value(alloc: Global, paths: &FieldPathSet) -> Result<Value, AllocError>
 fn path_value(alloc: Global, path: &FieldPath) -> Result<Value, AllocError>
     ensures { IfOk result (λ v. view v ≡ path_data path.now) }
 {
-    let mut names = Vec::with_capacity(alloc, path.parts().len())?;
-    for Field::Name(name) in path.parts() {
+    let parts = path.parts();
+    let mut names = Vec::with_capacity(alloc, parts.len())?;
+    for part in parts {
+        let Field::Name(name) = part;
         names.push(Value::String(String::from_str(alloc, name.as_str())?))?;
     }
     Ok(Value::Array(names))
@@ -61,26 +63,45 @@ fn path_value(alloc: Global, path: &FieldPath) -> Result<Value, AllocError>
 fn root_value(
     alloc: Global,
     split: Option<&BoundPartitionedExpr<FieldName>>,
-) -> Result<Value, AllocError> {
+) -> Result<Value, AllocError>
+    ensures { IfOk result (λ v. view v ≡ root_data (parts_of (option_map (λ p. p.now) split.entry))) }
+{
     match split {
         Some(split) => Ok(Value::String(source_text(alloc, &split.root)?)),
         None => Ok(Value::Null),
     }
 }
 
-// The partitions.
+// The partitions, none where the tree isn't split.
 fn partitions_value(
     alloc: Global,
     split: Option<&BoundPartitionedExpr<FieldName>>,
-) -> Result<Value, AllocError> {
-    let mut values = Vec::new(alloc);
-    if let Some(split) = split {
-        let names = split.partition_names.as_slice();
-        for (name, tree) in names.iter().zip(split.partitions.as_slice()) {
-            values.push(partition_value(alloc, name, tree)?)?;
+) -> Result<Value, AllocError>
+    ensures { IfOk result (λ v. view v ≡ partitions_data (parts_of (option_map (λ p. p.now) split.entry))) }
+{
+    match split {
+        Some(split) => {
+            let names = split.partition_names.as_slice();
+            let values = partition_values(alloc, names, split.partitions.as_slice())?;
+            Ok(Value::Array(values))
         }
+        None => Ok(Value::Array(Vec::new(alloc))),
     }
-    Ok(Value::Array(values))
+}
+
+// A partition for each name and its tree.
+fn partition_values(
+    alloc: Global,
+    names: &[FieldName],
+    trees: &[BoundExpression],
+) -> Result<Vec<Value>, AllocError>
+    ensures { IfOk result (λ values. items_view values.items ≡ partition_items names.now (bounds_of trees.now)) }
+{
+    let mut values = Vec::new(alloc);
+    for (name, tree) in names.iter().zip(trees) {
+        values.push(partition_value(alloc, name, tree)?)?;
+    }
+    Ok(values)
 }
 
 fn partition_value(

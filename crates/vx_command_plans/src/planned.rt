@@ -1,9 +1,14 @@
 // The page of `plan`.
-ghost use Rattle.std.specs.Prelude.{IfOk, IfErr, string_bytes};
+ghost use Rattle.std.specs.Prelude.{◌≡◌, IfOk, IfErr, string_bytes};
+ghost use Rattle.serde_json.specs.Written.{compact_text};
+ghost use Rattle.vx_value.specs.Paths.{minimal_paths};
 ghost use Rattle.vx_value.specs.Views.{type_of};
 ghost use Rattle.vx_tree.specs.Views.{bound_of, tree_of};
+ghost use Rattle.vx_query_split.specs.Division.{parts_of};
 ghost use Rattle.vx_scan.specs.Plans.{IsPlanFor};
 ghost use Rattle.vx_command_pages.specs.Inputs.{IsComplaint, IsRefusal};
+ghost use Rattle.vx_command_pages.specs.Pages.{line};
+ghost use Rattle.vx_command_plans.specs.PlanData.{plan_data};
 ghost use Rattle.vx_command_plans.specs.PlanPages.{IsPlanPage};
 
 use crate::json::plan_value;
@@ -42,7 +47,9 @@ pub(crate) fn planned(
 }
 
 // The plan as JSON, on one line.
-fn plan_line(alloc: Global, plan: &ScanPlan) -> Result<String, AllocError> {
+fn plan_line(alloc: Global, plan: &ScanPlan) -> Result<String, AllocError>
+    ensures { IfOk result (λ page. string_bytes page ≡ line (compact_text (plan_data (type_of plan.now.scope) (bound_of plan.now.tree) (minimal_paths plan.now.paths) (parts_of plan.now.split)))) }
+{
     let mut page = plan_value(alloc, plan)?.to_string(alloc)?;
     page.push_str("\n")?;
     Ok(page)

@@ -1,0 +1,3 @@
+mod Floats
+mod Unbinding
+mod Partitions
