@@ -5,6 +5,7 @@ use std::alloc::{AllocError, Global};
 use std::fmt::Display;
 use std::test::Fail;
 use vx_source_dtype::parse_type;
+use vx_types::DType;
 
 /// What lines are answered by.
 #[derive(Clone, Copy)]
@@ -49,18 +50,21 @@ fn answer(alloc: Global, call: Call, dtype: &str, file: &str) -> Result<String, 
     let dtype = parse_type(alloc, dtype)?;
     match call {
         Call::Read(format) => Ok(shown(alloc, read(alloc, format, &dtype, file.as_bytes()))?),
-        Call::Write(format) => {
-            let column = read(alloc, Format::Json, &dtype, file.as_bytes())?;
-            match written(alloc, format, &column) {
-                Ok(file) => Ok(String::from_utf8(file)?),
-                Err(refusal) => Ok(format!(in alloc; "{refusal}")?),
-            }
-        }
+        Call::Write(format) => rewritten(alloc, format, &dtype, file),
     }
 }
 
-// The text of what is given, or of the refusal.
-fn shown<T: Display + Drop, E: Display + Drop>(
+// The text of the file of the rows that the lines of JSON are, or of the refusal.
+fn rewritten(alloc: Global, format: Format, dtype: &DType, lines: &str) -> Result<String, Fail> {
+    let column = read(alloc, Format::Json, dtype, lines.as_bytes())?;
+    match written(alloc, format, &column) {
+        Ok(file) => Ok(String::from_utf8(file)?),
+        Err(refusal) => Ok(format!(in alloc; "{refusal}")?),
+    }
+}
+
+/// The text of what is given, or of the refusal.
+pub(crate) fn shown<T: Display + Drop, E: Display + Drop>(
     alloc: Global,
     answer: Result<T, E>,
 ) -> Result<String, AllocError> {
