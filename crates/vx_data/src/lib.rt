@@ -5,4 +5,4 @@ pub use vx_data_csv::{CsvParser, CsvRecords, CsvWriter, infer_csv_type, rows_fro
 pub use vx_data_json::{
     JsonLines, JsonParser, infer_json_type, rows_from_json_lines, write_json_lines,
 };
-pub use vx_data_record::{ColumnBuilder, DataError, Expected, WriteError};
+pub use vx_data_record::{ColumnBuilder, DataError, Expected, Fault, WriteError};

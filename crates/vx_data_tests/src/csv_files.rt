@@ -1,11 +1,7 @@
-// Tests of CSV files, line by line.
-use std::alloc::{AllocError, Global};
-use std::test::Fail;
-use vx_data::{infer_csv_type, rows_from_csv};
-use vx_source_dtype::parse_type;
+// Tables of CSV files.
 
 /// A type, a file, and the column's text or the refusal.
-const ROWS: &[(&str, &str, &str)] = &[
+pub(crate) const ROWS: &[(&str, &str, &str)] = &[
     (
         "{a=i32, b=utf8}",
         "a,b\n1,x\n-2,\n",
@@ -125,7 +121,7 @@ const ROWS: &[(&str, &str, &str)] = &[
 ];
 
 /// A file, and the text of its type or the refusal.
-const TYPES: &[(&str, &str)] = &[
+pub(crate) const TYPES: &[(&str, &str)] = &[
     (
         "a,b,c,d\n1,true,x,\n-2,false,1,\n",
         "{a=i64, b=bool, c=utf8, d=utf8?}",
@@ -150,38 +146,38 @@ const TYPES: &[(&str, &str)] = &[
     ("a,b\n1\n", "line 2: expected 2 cells, as in the header"),
 ];
 
-fn read(alloc: Global, dtype: &str, file: &str) -> Result<String, AllocError> {
-    let dtype = match parse_type(alloc, dtype) {
-        Ok(dtype) => dtype,
-        Err(e) => return format!(in alloc; "{e}"),
-    };
-    match rows_from_csv(alloc, &dtype, file.as_bytes()) {
-        Ok(column) => format!(in alloc; "{column}"),
-        Err(e) => format!(in alloc; "{e}"),
-    }
-}
-
-fn guessed(alloc: Global, file: &str) -> Result<String, AllocError> {
-    match infer_csv_type(alloc, file.as_bytes()) {
-        Ok(dtype) => format!(in alloc; "{dtype}"),
-        Err(e) => format!(in alloc; "{e}"),
-    }
-}
-
-#[test]
-fn files_are_read_or_refused(rt: HostRuntime) -> Result<(), Fail> {
-    for (dtype, file, wanted) in ROWS {
-        let found = read(rt.alloc(), dtype, file)?;
-        assert!(rt; found.as_str() == *wanted, "{dtype}, {file:?}: {found}");
-    }
-    Ok(())
-}
-
-#[test]
-fn types_are_guessed_or_refused(rt: HostRuntime) -> Result<(), Fail> {
-    for (file, wanted) in TYPES {
-        let found = guessed(rt.alloc(), file)?;
-        assert!(rt; found.as_str() == *wanted, "{file:?}: {found}");
-    }
-    Ok(())
-}
+/// A type, rows as JSON lines, and what writing them as CSV gives or refuses.
+pub(crate) const WRITTEN: &[(&str, &str, &str)] = &[
+    (
+        "{a=i32?, b={c=utf8}}",
+        "{\"b\": {\"c\": \"x,y\"}}",
+        "a,b.c\n,\"x,y\"\n",
+    ),
+    ("{a=i32?}", "{}\n{\"a\": 1}", "a\n\"\"\n1\n"),
+    ("i32?", "1\nnull", "value\n1\n\"\"\n"),
+    (
+        "{a=binary, b=bool}",
+        "{\"a\": \"0x0AFF\", \"b\": true}",
+        "a,b\n0x0aff,true\n",
+    ),
+    (
+        "{a=utf8?}",
+        "{\"a\": \"x\"}\n{\"a\": \"\"}",
+        "row 1, at a: expected a text that isn't empty, since an empty cell is null",
+    ),
+    (
+        "{a={b=i8?}?}",
+        "{\"a\": {}}",
+        "row 0, at a: expected a cell that isn't empty, since a struct of empty cells is null",
+    ),
+    (
+        "{a=list(i8)}",
+        "",
+        "row 0, at a: expected a type that a cell can hold, which list(i8) is not",
+    ),
+    (
+        "list(i8)",
+        "",
+        "row 0: expected a type that a cell can hold, which list(i8) is not",
+    ),
+];

@@ -1,11 +1,7 @@
-// Tests of JSON lines, line by line.
-use std::alloc::{AllocError, Global};
-use std::test::Fail;
-use vx_data::{infer_json_type, rows_from_json_lines};
-use vx_source_dtype::parse_type;
+// Tables of JSON lines.
 
 /// A type, a file, and the column's text or the refusal.
-const ROWS: &[(&str, &str, &str)] = &[
+pub(crate) const ROWS: &[(&str, &str, &str)] = &[
     ("bool?", "true\nfalse\nnull\n", "[true, false, null]"),
     ("i32", "", "[]"),
     ("i32", "\n  \n7\n\n", "[7i32]"),
@@ -131,7 +127,7 @@ const ROWS: &[(&str, &str, &str)] = &[
 ];
 
 /// A file, and the text of its type or the refusal.
-const TYPES: &[(&str, &str)] = &[
+pub(crate) const TYPES: &[(&str, &str)] = &[
     ("1\n-2", "i64"),
     ("1\n9223372036854775808", "u64"),
     ("true\nnull", "bool?"),
@@ -180,38 +176,9 @@ const TYPES: &[(&str, &str)] = &[
     ),
 ];
 
-fn read(alloc: Global, dtype: &str, file: &str) -> Result<String, AllocError> {
-    let dtype = match parse_type(alloc, dtype) {
-        Ok(dtype) => dtype,
-        Err(e) => return format!(in alloc; "{e}"),
-    };
-    match rows_from_json_lines(alloc, &dtype, file.as_bytes()) {
-        Ok(column) => format!(in alloc; "{column}"),
-        Err(e) => format!(in alloc; "{e}"),
-    }
-}
-
-fn guessed(alloc: Global, file: &str) -> Result<String, AllocError> {
-    match infer_json_type(alloc, file.as_bytes()) {
-        Ok(dtype) => format!(in alloc; "{dtype}"),
-        Err(e) => format!(in alloc; "{e}"),
-    }
-}
-
-#[test]
-fn lines_are_read_or_refused(rt: HostRuntime) -> Result<(), Fail> {
-    for (dtype, file, wanted) in ROWS {
-        let found = read(rt.alloc(), dtype, file)?;
-        assert!(rt; found.as_str() == *wanted, "{dtype}, {file:?}: {found}");
-    }
-    Ok(())
-}
-
-#[test]
-fn types_are_guessed_or_refused(rt: HostRuntime) -> Result<(), Fail> {
-    for (file, wanted) in TYPES {
-        let found = guessed(rt.alloc(), file)?;
-        assert!(rt; found.as_str() == *wanted, "{file:?}: {found}");
-    }
-    Ok(())
-}
+/// A type, rows as JSON lines, and what writing them as such gives.
+pub(crate) const WRITTEN: &[(&str, &str, &str)] = &[(
+    "{a=i32?, b=list({c=utf8}), d=binary, e=u64}",
+    "{\"e\":18446744073709551615,\"b\":[{\"c\":\"x\\n\"}],\"d\":\"0x0A\"}",
+    "{\"a\":null,\"b\":[{\"c\":\"x\\n\"}],\"d\":\"0x0a\",\"e\":18446744073709551615}\n",
+)];

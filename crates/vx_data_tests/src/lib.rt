@@ -8,6 +8,8 @@ mod csv_files;
 #[cfg(test)]
 mod failing;
 #[cfg(test)]
+mod format;
+#[cfg(test)]
 mod hostile;
 #[cfg(test)]
 mod json_lines;
@@ -15,3 +17,5 @@ mod json_lines;
 mod round_trips;
 #[cfg(test)]
 mod streams;
+#[cfg(test)]
+mod tables;
