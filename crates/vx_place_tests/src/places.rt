@@ -1,4 +1,8 @@
 // Which node refuses or faults first, and in which row.
+ghost use Rattle.std.specs.Prelude.{IfOk};
+ghost use Rattle.vx_tree.specs.Trees.{WellTyped};
+ghost use Rattle.vx_tree.specs.Views.{bound_of};
+
 use std::alloc::Global;
 use std::test::Fail;
 use vx_places::{Place, first_fault_at, first_refusal_at, node_at};
@@ -85,7 +89,9 @@ fn source(alloc: Global, text: &str) -> Result<Box<Expression>, Fail> {
     Ok(Box::new(alloc, parse(alloc, text)?)?)
 }
 
-fn bound(alloc: Global, text: &str) -> Result<Box<BoundExpression>, Fail> {
+fn bound(alloc: Global, text: &str) -> Result<Box<BoundExpression>, Fail>
+    ensures { IfOk result (λ b. WellTyped (bound_of b.value)) }
+{
     let source = source(alloc, text)?;
     let scope = Box::new(alloc, parse_type(alloc, SCOPE)?)?;
     Ok(Box::new(alloc, source.bind(alloc, &scope)?)?)
