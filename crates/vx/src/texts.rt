@@ -1,0 +1,46 @@
+// Texts of the command line: as they stand, of a file, or of standard input.
+use anyhow::{Context, Result};
+use std::rt::Files;
+use std::{fs, io};
+
+/// A text, and what messages call it.
+#[derive(Drop)]
+pub struct Text {
+    name: String,
+    text: String,
+}
+
+impl Text {
+    /// The text as a command takes it.
+    pub fn input(&self) -> vx_commands::Input<'_> {
+        vx_commands::Input {
+            name: self.name.as_str(),
+            text: self.text.as_str(),
+        }
+    }
+}
+
+/// The text that the word says: standard input for `-`, the file of that name for `@NAME`, else the
+/// word itself, which messages call by the argument's name.
+pub fn read_text<R: Files + Input + AllocGlobal>(
+    rt: &R,
+    argument: &str,
+    word: &str,
+) -> Result<Text> {
+    let alloc = rt.alloc();
+    let (name, text) = match (word, word.strip_prefix('@')) {
+        ("-", _) => (
+            "standard input",
+            io::read_to_string(alloc, rt.reader()).context("reading standard input")?,
+        ),
+        (_, Some(path)) => (
+            path,
+            fs::read_to_string(rt, path).context(format_args!("reading {path}"))?,
+        ),
+        _ => (argument, String::from_str(alloc, word)?),
+    };
+    Ok(Text {
+        name: String::from_str(alloc, name)?,
+        text,
+    })
+}
