@@ -1,5 +1,5 @@
 // The command line.
-use clap::{Arg, ArgAction, Command};
+use clap::{Arg, ArgAction, Command, value_parser};
 use std::alloc::{AllocError, Global};
 
 /// The words that the program takes.
@@ -11,7 +11,7 @@ pub fn command_line<'a>(alloc: Global) -> Result<Command<'a>, AllocError> {
     Command::new(alloc, "vx")
         .bin_name("vx")?
         .about(
-            "Says what an expression over rows is, what becomes of it, and what is wrong with it.",
+            "Says what an expression over rows is, what it means at the records of a file, and what is wrong with it.",
         )
         .after_help(TEXTS)
         .subcommand_required(true)
@@ -23,6 +23,8 @@ pub fn command_line<'a>(alloc: Global) -> Result<Command<'a>, AllocError> {
             "Prints what becomes of the expression",
             EXPLAIN,
         )?)?
+        .subcommand(evaluate(alloc)?)?
+        .subcommand(filter(alloc)?)?
         .subcommand(expression_alone(alloc)?)?
         .subcommand(query(alloc, "plan", "Prints the plan of a scan as JSON", PLAN)?.arg(json)?)?
         .subcommand(query(
@@ -38,8 +40,11 @@ const TEXTS: &str =
 
 The status is 0; 1 where a file or memory fails; 2 where what was given is wrong.
 
-Example:
-  vx check 'x >= 1 and x <= 5' --schema '{x=i32}'";
+Without --schema the type of the records is that of the first 1,000 of them.
+
+Examples:
+  vx check 'x >= 1 and x <= 5' --schema '{x=i32}'
+  vx filter 'price > 100 and city = \"Oslo\"' --data orders.csv";
 
 const CHECK: &str = "Example:
   vx check 'x >= 1 and x <= 5' --schema '{x=i32}'
@@ -62,6 +67,70 @@ prints an object of the plan's tree, its type and scope, the paths that are read
 const DOT: &str = "Example:
   vx dot 'x >= 1' --schema '{x=i32}' | dot -Tsvg > tree.svg";
 
+const EVALUATE: &str = "Example:
+  vx eval 'price + 1' --data orders.csv --limit 10
+prints a line of JSON for each of the first 10 records";
+
+const FILTER: &str = "Example:
+  vx filter 'price > 100' --data orders.csv > dear.csv
+writes the header, and each record with a price above 100 as it stands";
+
+// The command that prints what an expression means.
+fn evaluate<'a>(alloc: Global) -> Result<Command<'a>, AllocError> {
+    let output = Arg::new(alloc, "output")
+        .long("output")
+        .value_name("FORM")
+        .action(ArgAction::Set)
+        .value_parser(OUTPUTS)
+        .default_value("json")
+        .help("In what form the rows are printed");
+    let command = Command::new(alloc, "eval")
+        .about("Prints what the expression means at each record")
+        .after_help(EVALUATE);
+    over_records(alloc, command)?.arg(output)
+}
+
+// The command that keeps records.
+fn filter<'a>(alloc: Global) -> Result<Command<'a>, AllocError> {
+    let command = Command::new(alloc, "filter")
+        .about("Prints the records of which the expression is true, as they stand")
+        .after_help(FILTER);
+    over_records(alloc, command)
+}
+
+// The forms of records and of rows.
+const FORMATS: &[&str] = &["json", "csv"];
+
+const OUTPUTS: &[&str] = &["json", "csv", "table"];
+
+// The command with the words that say which records it goes over.
+fn over_records<'a>(alloc: Global, command: Command<'a>) -> Result<Command<'a>, AllocError> {
+    let data = Arg::new(alloc, "data")
+        .long("data")
+        .value_name("FILE")
+        .required(true)
+        .action(ArgAction::Set)
+        .help("The file of the records, or - for standard input");
+    let format = Arg::new(alloc, "format")
+        .long("format")
+        .value_name("FORM")
+        .action(ArgAction::Set)
+        .value_parser(FORMATS)
+        .help("The form of the records; without it csv where the file's name ends so, else json");
+    let limit = Arg::new(alloc, "limit")
+        .long("limit")
+        .value_name("COUNT")
+        .action(ArgAction::Set)
+        .value_parser(value_parser!(u64))
+        .help("How many records are gone over at most");
+    command
+        .arg(expression(alloc))?
+        .arg(data)?
+        .arg(schema(alloc).required(false))?
+        .arg(format)?
+        .arg(limit)
+}
+
 // A command of an expression and a schema.
 fn query<'a>(
     alloc: Global,
@@ -69,17 +138,20 @@ fn query<'a>(
     about: &'a str,
     example: &'a str,
 ) -> Result<Command<'a>, AllocError> {
-    let schema = Arg::new(alloc, "schema")
-        .long("schema")
-        .value_name("TYPE")
-        .required(true)
-        .action(ArgAction::Set)
-        .help("The type of the rows, as in {x=i32, s=utf8?}");
     Command::new(alloc, name)
         .about(about)
         .after_help(example)
         .arg(expression(alloc))?
-        .arg(schema)
+        .arg(schema(alloc))
+}
+
+fn schema<'a>(alloc: Global) -> Arg<'a> {
+    Arg::new(alloc, "schema")
+        .long("schema")
+        .value_name("TYPE")
+        .required(true)
+        .action(ArgAction::Set)
+        .help("The type of the rows, as in {x=i32, s=utf8?}")
 }
 
 // The command of an expression alone.
