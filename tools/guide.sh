@@ -1,17 +1,18 @@
 #!/bin/sh
-# Whether README.md and docs/GUIDE.md show what is proved: each block of Rattle has to stand in a file
-# of crates/*/src, line by line, but for indentation and empty lines; where its first line names a
-# file, in that one. Its `use` lines may stand apart from the rest there, and name less than the file
-# does; `crate` in a file is the name of its crate. Prints where each block is that doesn't stand so,
-# and its first line; then the status is 1.
+# Whether README.md, docs/GUIDE.md and docs/PROGRAM.md show what is proved and run. Each block of Rattle
+# has to stand in a file of crates/*/src, line by line, but for indentation and empty lines; where its
+# first line names a file, in that one. Its `use` lines may stand apart from the rest there, and name
+# less than the file does; `crate` in a file is the name of its crate. Each screen, a block of
+# `console`, has to be a stored run of runs/*/*.txt, byte for byte. Prints where each block is that
+# doesn't stand so, and its first line; then the status is 1.
 set -eu
 cd "$(dirname "$0")/.."
-exec python3 - README.md docs/GUIDE.md <<'PYTHON'
+exec python3 - README.md docs/GUIDE.md docs/PROGRAM.md <<'PYTHON'
 import pathlib, re, sys
 
 USE = re.compile(r"^[ \t]*(?:pub )?use ([^;]+);\n?", re.MULTILINE)
 NAMED = re.compile(r"^// (crates/\S+\.rt)\b.*\n")
-BLOCK = re.compile(r"^```rust\n(.*?)^```$", re.MULTILINE | re.DOTALL)
+BLOCK = re.compile(r"^```(rust|console)\n(.*?)^```$", re.MULTILINE | re.DOTALL)
 
 
 def names(tree):
@@ -47,6 +48,15 @@ def stands(block, file):
     return used <= all_used and any(all_lines[i : i + count] == lines for i in starts)
 
 
+def is_passage(block):
+    """Whether the block of Rattle stands in the file that it names, or in one of all."""
+    named = NAMED.match(block)
+    block = read(NAMED.sub("", block))
+    among = [files[named[1]]] if named and named[1] in files else [] if named else files.values()
+    return any(stands(block, file) for file in among)
+
+
+screens = {path.read_text() for path in pathlib.Path("runs").glob("*/*.txt")}
 files = {}
 for path in pathlib.Path("crates").glob("*/src/**/*.rt"):
     crate = path.parts[1]
@@ -56,14 +66,13 @@ failed = count = 0
 for document in sys.argv[1:]:
     text = pathlib.Path(document).read_text()
     for match in BLOCK.finditer(text):
-        block, count = match[1], count + 1
-        named = NAMED.match(block)
-        block = read(NAMED.sub("", block))
-        among = [files[named[1]]] if named and named[1] in files else [] if named else files.values()
-        if not any(stands(block, file) for file in among):
+        kind, block = match.groups()
+        count += 1
+        if block not in screens if kind == "console" else not is_passage(block):
             failed += 1
             line = text.count("\n", 0, match.start()) + 1
-            print(f"{document}:{line}: in no file: {match[1].splitlines()[0]}")
+            place = "no stored run" if kind == "console" else "in no file"
+            print(f"{document}:{line}: {place}: {block.splitlines()[0]}")
 print(f"guide: {count} blocks, {failed} failed")
 sys.exit(failed > 0)
 PYTHON

@@ -88,12 +88,14 @@ fn push_edge(
     page.push_str("\"];\n")
 }
 
-// Adds what is to stand between double quotes.
+// Adds what is to stand between double quotes in a label, where an ampersand begins the name of a
+// character, as in HTML.
 fn push_quoted(text: &str, page: &mut String) -> Result<(), AllocError> {
     for c in text.chars() {
         match c {
             '"' => page.push_str("\\\"")?,
             '\\' => page.push_str("\\\\")?,
+            '&' => page.push_str("&amp;")?,
             '\n' => page.push_str("\\n")?,
             _ => page.push(c)?,
         }

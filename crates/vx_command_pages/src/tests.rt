@@ -49,7 +49,7 @@ fn pages_are_what_they_say(rt: HostRuntime) -> Result<(), Fail> {
         (
             "x = s",
             xy,
-            "error: types differ in more than nullability\n --> expression:1:1\n  |\n1 | x = s\n  | ^^^^^\n  = help: cast one side to the type of the other, as in x::i64",
+            "error: types differ in more than nullability\n --> expression:1:1\n  |\n1 | x = s\n  | ^^^^^\n  = help: use values of one type, as in x > 5i64 where x is an i64; a cast changes nullability alone",
         ),
         (
             "x > 1 and x + s = 2",
@@ -65,9 +65,9 @@ fn pages_are_what_they_say(rt: HostRuntime) -> Result<(), Fail> {
         shown(alloc, page, "", "")?.as_str(),
         "(1i32 <= $.x <= 3i32)\n"
     );
-    let page = graph_page(alloc, "s = \"a\"", xy);
+    let page = graph_page(alloc, "s = \"a&lt\"", xy);
     let wanted =
-        "digraph expression {\n  node [shape=box];\n  n0 [label=\"vortex.binary(=)\\nbool\"];\n  n1 [label=\"vortex.get_item(s)\\nutf8\"];\n  n2 [label=\"vortex.root()\\n{x=i32?, s=utf8}\"];\n  n1 -> n2 [label=\"input\"];\n  n0 -> n1 [label=\"lhs\"];\n  n3 [label=\"vortex.literal(\\\"a\\\")\\nutf8\"];\n  n0 -> n3 [label=\"rhs\"];\n}\n";
+        "digraph expression {\n  node [shape=box];\n  n0 [label=\"vortex.binary(=)\\nbool\"];\n  n1 [label=\"vortex.get_item(s)\\nutf8\"];\n  n2 [label=\"vortex.root()\\n{x=i32?, s=utf8}\"];\n  n1 -> n2 [label=\"input\"];\n  n0 -> n1 [label=\"lhs\"];\n  n3 [label=\"vortex.literal(\\\"a&amp;lt\\\")\\nutf8\"];\n  n0 -> n3 [label=\"rhs\"];\n}\n";
     assert_eq!(rt; shown(alloc, page, "", "")?.as_str(), wanted);
     Ok(())
 }
