@@ -4,6 +4,7 @@ use Rattle.std.specs.Io.KnownBytes.{Appends, Keeps}
 use Rattle.vx_value.specs.Types.{LogicalType, Datum, ty, atomic, truth}
 use Rattle.vx_value.specs.Views.{type_of}
 use Rattle.vx_tree.specs.Trees.{Tree, BoundTree, typed, unbound}
+use Rattle.vx_command_pages.specs.declared.complaint.Complaint.TheVariants.{OutOfMemory}
 use Rattle.vx_command_pages.specs.declared.complaint.Status.{Status}
 use Rattle.vx_command_pages.specs.declared.complaint.Status.TheVariants.{Failed, Wrong}
 use Rattle.vx_command_pages.specs.Inputs.{IsRefusal, status_of as page_status}
@@ -18,6 +19,12 @@ use Rattle.vx_command_rows.specs.declared.complaint.RowsComplaint.TheVariants.{Q
 -- the expression is of type bool over the scope's type s
 abbrev pub IsCondition : Tree → LogicalType → Type 0
 IsCondition e s = (n : Bool) × (typed e s ≡ Ok (ty (atomic truth) n))
+
+-- the complaint is that the expression is of that type, or want of memory
+abbrev pub IsNotBool : LogicalType → RowsComplaint → Type 0
+IsNotBool t (NotBool u) = type_of u ≡ t
+IsNotBool t (Query c) = c ≡ OutOfMemory
+IsNotBool t (Records error span) = ⊥
 
 -- of the first n records, or of all where there are fewer, those of which the expression is true were written behind the heading, in order
 abbrev pub IsKept : {R : Type 0} → (R → List Record → Type 0) → LogicalType → List ℕ → Tree → ℕ → R → R → Option (List ℕ) → Option (List ℕ) → Type 0

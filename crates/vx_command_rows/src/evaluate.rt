@@ -25,7 +25,10 @@ pub fn evaluate<R: RecordReader, W: RowWriter>(
     ensures meant { OnOk result (IsMeant R.leaves (R.scope records.old) (tree_of placed.now.expression) limit records.old records.new (W.written out.old) (W.written out.new)) }
     ensures complaint { IfErr result (λ c. IsMeantUntil R.leaves (R.scope records.old) (tree_of placed.now.expression) c records.old (W.written out.old) (W.written out.new)) }
 {
-    let tree = bind(alloc, placed, records.dtype())?;
+    let tree = match bind(alloc, placed, records.dtype()) {
+        Ok(tree) => tree,
+        Err(complaint) => return Err(RowsComplaint::Query(complaint)),
+    };
     match evaluate_records(alloc, &tree, limit, records, out) {
         Ok(()) => Ok(()),
         Err(error) => Err(stopped(placed, error)),

@@ -1,8 +1,8 @@
 // What `filter` writes.
 ghost use Rattle.std.specs.Prelude.{◌≡◌, IfErr, OnOk};
-ghost use Rattle.vx_tree.specs.Trees.{typed};
+ghost use Rattle.vx_value.specs.Views.{type_of};
 ghost use Rattle.vx_tree.specs.Views.{tree_of};
-ghost use Rattle.vx_command_rows.specs.Rows.{IsKept, IsKeptUntil};
+ghost use Rattle.vx_command_rows.specs.Rows.{IsKept, IsKeptUntil, IsNotBool};
 
 use crate::RowsComplaint;
 use crate::evaluate::stopped;
@@ -28,7 +28,10 @@ pub fn filter<R: RecordReader, W: Write>(
     ensures kept { OnOk result (IsKept R.leaves (R.scope records.old) (R.head records.old) (tree_of placed.now.expression) limit records.old records.new (W.contents out.old) (W.contents out.new)) }
     ensures complaint { IfErr result (λ c. IsKeptUntil R.leaves (R.scope records.old) (R.head records.old) (tree_of placed.now.expression) c records.old (W.contents out.old) (W.contents out.new)) }
 {
-    let tree = bind(alloc, placed, records.dtype())?;
+    let tree = match bind(alloc, placed, records.dtype()) {
+        Ok(tree) => tree,
+        Err(complaint) => return Err(RowsComplaint::Query(complaint)),
+    };
     let DType::Bool(_) = tree.dtype() else {
         return Err(not_bool(tree.dtype()));
     };
@@ -39,7 +42,9 @@ pub fn filter<R: RecordReader, W: Write>(
 }
 
 // The complaint that the expression is of that type, or of want of memory.
-fn not_bool(dtype: &DType) -> RowsComplaint {
+fn not_bool(dtype: &DType) -> RowsComplaint
+    ensures { IsNotBool (type_of dtype.now) result }
+{
     match dtype.clone() {
         Ok(dtype) => RowsComplaint::NotBool(dtype),
         Err(_) => RowsComplaint::Query(Complaint::OutOfMemory),

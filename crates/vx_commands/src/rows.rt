@@ -3,8 +3,8 @@ use std::alloc::Global;
 use std::io::{BufRead, Write};
 use vx_command_pages::{Input, Status, read_expression, read_schema};
 use vx_command_rows::{
-    DataFormat, Output, OutputFormat, RowsComplaint, RowsMessage, evaluate, filter, opened, schema_of,
-    unwritten,
+    DataFormat, Output, OutputFormat, RowsComplaint, RowsMessage, evaluate, filter, opened,
+    schema_of, unwritten,
 };
 use vx_records::{CsvRows, JsonRecords, RecordReader};
 use vx_run::tell;

@@ -36,12 +36,12 @@ kept_upto e s rs (suc i) h =
     let value : get_or (meanings e s rs) i null ≡ mean e s r.row = get_or-map (λ (r : Record). mean e s r.row) rs i none null below in
     let text : get_or (texts rs) i [] ≡ r.text = get_or-map (λ (r : Record). r.text) rs i none [] below in
     let line : line_if_true (get_or (meanings e s rs) i null) (get_or (texts rs) i []) ≡ kept_lines e s (r ∷ []) =
-        ap (λ v. line_if_true v (get_or (texts rs) i [])) value ∙ ap (line_if_true (mean e s r.row)) text ∙ sym (kept_one e s r) in
+    ap (λ v. line_if_true v (get_or (texts rs) i [])) value ∙ ap (line_if_true (mean e s r.row)) text ∙ sym (kept_one e s r) in
     let before = kept_upto e s rs i (search (arith, h)) in
     ap (λ ls. ls ++ line_if_true (get_or (meanings e s rs) i null) (get_or (texts rs) i [])) before
-      ∙ ap (λ l. kept_lines e s (take i rs) ++ l) line
-      ∙ sym (kept-append e s (take i rs) (r ∷ []))
-      ∙ ap (kept_lines e s) (sym (take-suc rs i none below))
+    ∙ ap (λ l. kept_lines e s (take i rs) ++ l) line
+    ∙ sym (kept-append e s (take i rs) (r ∷ []))
+    ∙ ap (kept_lines e s) (sym (take-suc rs i none below))
 
 -- made one after another
 pub kept_all : (e : Tree) (s : LogicalType) (rs : List Record) → true_lines (texts rs) (meanings e s rs) (length rs) ≡ kept_lines e s rs

@@ -18,10 +18,10 @@ returns-in-Ok-true-clause-meant g c =
     let held = g.W.RowWriter.written in
     let e = unbound (bound_of c.args.tree.now) in
     ends_all g.R.RecordReader.leaves c.args.limit c.loop-left.left c.min-count.result c.args.records.now c.loop-left.records _ _ xs
-      (λ ys. Gains (held c.loop-left.out) (held c.evaluate_some.new.out) (meanings e (g.R.RecordReader.scope c.loop-left.records) ys))
-      (λ zs. Gains (held c.args.out.now) (held c.evaluate_some.new.out) (meanings e (g.R.RecordReader.scope c.args.records.now) zs))
-      count (search (arith, c.min-count.ensures)) before
-      (λ ys w. gains_on e _ (held c.args.out.now) (held c.loop-left.out) _ xs ys wrote (subst (λ t. Gains (held c.loop-left.out) (held c.evaluate_some.new.out) (meanings e t ys)) scope w)) c.in-Ok-true.field-0-test c.in-Ok-true.ensures.step
+    (λ ys. Gains (held c.loop-left.out) (held c.evaluate_some.new.out) (meanings e (g.R.RecordReader.scope c.loop-left.records) ys))
+    (λ zs. Gains (held c.args.out.now) (held c.evaluate_some.new.out) (meanings e (g.R.RecordReader.scope c.args.records.now) zs))
+    count (search (arith, c.min-count.ensures)) before
+    (λ ys w. gains_on e _ (held c.args.out.now) (held c.loop-left.out) _ xs ys wrote (subst (λ t. Gains (held c.loop-left.out) (held c.evaluate_some.new.out) (meanings e t ys)) scope w)) c.in-Ok-true.field-0-test c.in-Ok-true.ensures.step
 
 pub loop-left-preserved : goal.loop-left-preserved
 loop-left-preserved g c =
@@ -29,10 +29,10 @@ loop-left-preserved g c =
     let held = g.W.RowWriter.written in
     let e = unbound (bound_of c.args.tree.now) in
     let (zs, sum, reads, meant) = goes_on g.R.RecordReader.leaves c.args.limit c.loop-left.left c.min-count.result c.args.records.now c.loop-left.records _ _ xs
-      (λ ys. Gains (held c.loop-left.out) (held c.evaluate_some.new.out) (meanings e (g.R.RecordReader.scope c.loop-left.records) ys))
-      (λ zs. Gains (held c.args.out.now) (held c.evaluate_some.new.out) (meanings e (g.R.RecordReader.scope c.args.records.now) zs))
-      count (search (arith, c.min-count.ensures)) before
-      (λ ys w. gains_on e _ (held c.args.out.now) (held c.loop-left.out) _ xs ys wrote (subst (λ t. Gains (held c.loop-left.out) (held c.evaluate_some.new.out) (meanings e t ys)) scope w)) c.in-Ok-false.field-0-test c.in-Ok-false.ensures.step in
+    (λ ys. Gains (held c.loop-left.out) (held c.evaluate_some.new.out) (meanings e (g.R.RecordReader.scope c.loop-left.records) ys))
+    (λ zs. Gains (held c.args.out.now) (held c.evaluate_some.new.out) (meanings e (g.R.RecordReader.scope c.args.records.now) zs))
+    count (search (arith, c.min-count.ensures)) before
+    (λ ys w. gains_on e _ (held c.args.out.now) (held c.loop-left.out) _ xs ys wrote (subst (λ t. Gains (held c.loop-left.out) (held c.evaluate_some.new.out) (meanings e t ys)) scope w)) c.in-Ok-false.field-0-test c.in-Ok-false.ensures.step in
     (zs, sum, reads, meant, c.evaluate_some.ensures.scope ∙ scope)
 
 pub returns-in-Err-evaluate_some-clause-stopped : goal.returns-in-Err-evaluate_some-clause-stopped
@@ -41,7 +41,7 @@ returns-in-Err-evaluate_some-clause-stopped g c =
     let held = g.W.RowWriter.written in
     let e = unbound (bound_of c.args.tree.now) in
     stops_on g.R.RecordReader.leaves (bound_of c.args.tree.now) c.args.records.now c.loop-left.records c.in-Err-evaluate_some.e xs
-      (λ ys. Gains (held c.loop-left.out) (held c.evaluate_some.new.out) (meanings e (g.R.RecordReader.scope c.loop-left.records) ys)) (λ ys. Unit {0})
-      (λ zs. Gains (held c.args.out.now) (held c.evaluate_some.new.out) (meanings e (g.R.RecordReader.scope c.args.records.now) zs)) (λ zs. Unit {0})
-      before
-      (λ ys w. gains_on e _ (held c.args.out.now) (held c.loop-left.out) _ xs ys wrote (subst (λ t. Gains (held c.loop-left.out) (held c.evaluate_some.new.out) (meanings e t ys)) scope w)) (λ ys w. tt) c.in-Err-evaluate_some.ensures.stopped
+    (λ ys. Gains (held c.loop-left.out) (held c.evaluate_some.new.out) (meanings e (g.R.RecordReader.scope c.loop-left.records) ys)) (λ ys. Unit {0})
+    (λ zs. Gains (held c.args.out.now) (held c.evaluate_some.new.out) (meanings e (g.R.RecordReader.scope c.args.records.now) zs)) (λ zs. Unit {0})
+    before
+    (λ ys w. gains_on e _ (held c.args.out.now) (held c.loop-left.out) _ xs ys wrote (subst (λ t. Gains (held c.loop-left.out) (held c.evaluate_some.new.out) (meanings e t ys)) scope w)) (λ ys w. tt) c.in-Err-evaluate_some.ensures.stopped

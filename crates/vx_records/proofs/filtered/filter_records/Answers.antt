@@ -23,10 +23,10 @@ returns-in-Ok-true-clause-kept g c =
     let e = unbound (bound_of c.args.tree.now) in
     let head = g.R.RecordReader.head c.args.records.now in
     ends_all g.R.RecordReader.leaves c.args.limit c.loop-left.left c.min-count.result c.args.records.now c.loop-left.records _ _ xs
-      (λ ys. Appends (held c.loop-left.out) (held c.filter_some.new.out) (kept_lines e (g.R.RecordReader.scope c.loop-left.records) ys))
-      (λ zs. Appends (held c.args.out.now) (held c.filter_some.new.out) (head ++ kept_lines e (g.R.RecordReader.scope c.args.records.now) zs))
-      count (search (arith, c.min-count.ensures)) before
-      (λ ys w. appends_on head e _ (held c.args.out.now) (held c.loop-left.out) _ xs ys wrote (subst (λ t. Appends (held c.loop-left.out) (held c.filter_some.new.out) (kept_lines e t ys)) scope w)) c.in-Ok-true.field-0-test c.in-Ok-true.ensures.step
+    (λ ys. Appends (held c.loop-left.out) (held c.filter_some.new.out) (kept_lines e (g.R.RecordReader.scope c.loop-left.records) ys))
+    (λ zs. Appends (held c.args.out.now) (held c.filter_some.new.out) (head ++ kept_lines e (g.R.RecordReader.scope c.args.records.now) zs))
+    count (search (arith, c.min-count.ensures)) before
+    (λ ys w. appends_on head e _ (held c.args.out.now) (held c.loop-left.out) _ xs ys wrote (subst (λ t. Appends (held c.loop-left.out) (held c.filter_some.new.out) (kept_lines e t ys)) scope w)) c.in-Ok-true.field-0-test c.in-Ok-true.ensures.step
 
 pub loop-left-preserved : goal.loop-left-preserved
 loop-left-preserved g c =
@@ -35,10 +35,10 @@ loop-left-preserved g c =
     let e = unbound (bound_of c.args.tree.now) in
     let head = g.R.RecordReader.head c.args.records.now in
     let (zs, sum, reads, kept) = goes_on g.R.RecordReader.leaves c.args.limit c.loop-left.left c.min-count.result c.args.records.now c.loop-left.records _ _ xs
-      (λ ys. Appends (held c.loop-left.out) (held c.filter_some.new.out) (kept_lines e (g.R.RecordReader.scope c.loop-left.records) ys))
-      (λ zs. Appends (held c.args.out.now) (held c.filter_some.new.out) (head ++ kept_lines e (g.R.RecordReader.scope c.args.records.now) zs))
-      count (search (arith, c.min-count.ensures)) before
-      (λ ys w. appends_on head e _ (held c.args.out.now) (held c.loop-left.out) _ xs ys wrote (subst (λ t. Appends (held c.loop-left.out) (held c.filter_some.new.out) (kept_lines e t ys)) scope w)) c.in-Ok-false.field-0-test c.in-Ok-false.ensures.step in
+    (λ ys. Appends (held c.loop-left.out) (held c.filter_some.new.out) (kept_lines e (g.R.RecordReader.scope c.loop-left.records) ys))
+    (λ zs. Appends (held c.args.out.now) (held c.filter_some.new.out) (head ++ kept_lines e (g.R.RecordReader.scope c.args.records.now) zs))
+    count (search (arith, c.min-count.ensures)) before
+    (λ ys w. appends_on head e _ (held c.args.out.now) (held c.loop-left.out) _ xs ys wrote (subst (λ t. Appends (held c.loop-left.out) (held c.filter_some.new.out) (kept_lines e t ys)) scope w)) c.in-Ok-false.field-0-test c.in-Ok-false.ensures.step in
     (zs, sum, reads, kept, c.filter_some.ensures.scope ∙ scope)
 
 pub returns-in-Err-filter_some-clause-stopped : goal.returns-in-Err-filter_some-clause-stopped
@@ -48,10 +48,10 @@ returns-in-Err-filter_some-clause-stopped g c =
     let e = unbound (bound_of c.args.tree.now) in
     let head = g.R.RecordReader.head c.args.records.now in
     stops_on g.R.RecordReader.leaves (bound_of c.args.tree.now) c.args.records.now c.loop-left.records c.in-Err-filter_some.e xs
-      (λ ys. Appends (held c.loop-left.out) (held c.filter_some.new.out) (kept_lines e (g.R.RecordReader.scope c.loop-left.records) ys))
-      (λ ys. Breaks (held c.loop-left.out) (held c.filter_some.new.out) (kept_lines e (g.R.RecordReader.scope c.loop-left.records) ys))
-      (λ zs. Appends (held c.args.out.now) (held c.filter_some.new.out) (head ++ kept_lines e (g.R.RecordReader.scope c.args.records.now) zs))
-      (λ zs. Breaks (held c.args.out.now) (held c.filter_some.new.out) (head ++ kept_lines e (g.R.RecordReader.scope c.args.records.now) zs))
-      before
-      (λ ys w. appends_on head e _ (held c.args.out.now) (held c.loop-left.out) _ xs ys wrote (subst (λ t. Appends (held c.loop-left.out) (held c.filter_some.new.out) (kept_lines e t ys)) scope w))
-      (λ ys w. breaks_on head e _ (held c.args.out.now) (held c.loop-left.out) _ xs ys wrote (subst (λ t. Breaks (held c.loop-left.out) (held c.filter_some.new.out) (kept_lines e t ys)) scope w)) c.in-Err-filter_some.ensures.stopped
+    (λ ys. Appends (held c.loop-left.out) (held c.filter_some.new.out) (kept_lines e (g.R.RecordReader.scope c.loop-left.records) ys))
+    (λ ys. Breaks (held c.loop-left.out) (held c.filter_some.new.out) (kept_lines e (g.R.RecordReader.scope c.loop-left.records) ys))
+    (λ zs. Appends (held c.args.out.now) (held c.filter_some.new.out) (head ++ kept_lines e (g.R.RecordReader.scope c.args.records.now) zs))
+    (λ zs. Breaks (held c.args.out.now) (held c.filter_some.new.out) (head ++ kept_lines e (g.R.RecordReader.scope c.args.records.now) zs))
+    before
+    (λ ys w. appends_on head e _ (held c.args.out.now) (held c.loop-left.out) _ xs ys wrote (subst (λ t. Appends (held c.loop-left.out) (held c.filter_some.new.out) (kept_lines e t ys)) scope w))
+    (λ ys w. breaks_on head e _ (held c.args.out.now) (held c.loop-left.out) _ xs ys wrote (subst (λ t. Breaks (held c.loop-left.out) (held c.filter_some.new.out) (kept_lines e t ys)) scope w)) c.in-Err-filter_some.ensures.stopped
