@@ -17,12 +17,7 @@ pub fn command_line<'a>(alloc: Global) -> Result<Command<'a>, AllocError> {
         .subcommand_required(true)
         .arg_required_else_help(true)
         .subcommand(query(alloc, "check", "Prints the type of the expression", CHECK)?)?
-        .subcommand(query(
-            alloc,
-            "explain",
-            "Prints what becomes of the expression",
-            EXPLAIN,
-        )?)?
+        .subcommand(explain(alloc)?)?
         .subcommand(evaluate(alloc)?)?
         .subcommand(filter(alloc)?)?
         .subcommand(expression_alone(alloc)?)?
@@ -53,7 +48,8 @@ prints
 
 const EXPLAIN: &str = "Example:
   vx explain 'a.x >= 1 and b < 5' --schema '{a={x=i32, y=i32}?, b=i32, c=utf8}'
-prints its text, type and tree, what each pass makes of it, and what a scan reads";
+prints its text, type and tree, what each pass makes of it, and what a scan reads; with --data also
+the type of the records, and what the expression means at the first 10 of them";
 
 const FORMAT: &str = "Example:
   vx fmt 'x between 1 and 3'
@@ -66,6 +62,16 @@ prints an object of the plan's tree, its type and scope, the paths that are read
 
 const DOT: &str = "Example:
   vx dot 'x >= 1' --schema '{x=i32}' | dot -Tsvg > tree.svg";
+
+// The command that says what becomes of an expression.
+fn explain<'a>(alloc: Global) -> Result<Command<'a>, AllocError> {
+    let command = Command::new(alloc, "explain")
+        .about("Prints what becomes of the expression")
+        .after_help(EXPLAIN)
+        .arg(expression(alloc))?
+        .arg(schema(alloc).required_unless_present("data")?)?;
+    over_records(alloc, command, data(alloc))
+}
 
 const EVALUATE: &str = "Example:
   vx eval 'price + 1' --data orders.csv --limit 10
@@ -87,15 +93,20 @@ fn evaluate<'a>(alloc: Global) -> Result<Command<'a>, AllocError> {
     let command = Command::new(alloc, "eval")
         .about("Prints what the expression means at each record")
         .after_help(EVALUATE);
-    over_records(alloc, command)?.arg(output)
+    let command = command
+        .arg(expression(alloc))?
+        .arg(schema(alloc).required(false))?;
+    over_records(alloc, command, data(alloc).required(true))?.arg(output)
 }
 
 // The command that keeps records.
 fn filter<'a>(alloc: Global) -> Result<Command<'a>, AllocError> {
     let command = Command::new(alloc, "filter")
         .about("Prints the records of which the expression is true, as they stand")
-        .after_help(FILTER);
-    over_records(alloc, command)
+        .after_help(FILTER)
+        .arg(expression(alloc))?
+        .arg(schema(alloc).required(false))?;
+    over_records(alloc, command, data(alloc).required(true))
 }
 
 // The forms of records and of rows.
@@ -104,13 +115,11 @@ const FORMATS: &[&str] = &["json", "csv"];
 const OUTPUTS: &[&str] = &["json", "csv", "table"];
 
 // The command with the words that say which records it goes over.
-fn over_records<'a>(alloc: Global, command: Command<'a>) -> Result<Command<'a>, AllocError> {
-    let data = Arg::new(alloc, "data")
-        .long("data")
-        .value_name("FILE")
-        .required(true)
-        .action(ArgAction::Set)
-        .help("The file of the records, or - for standard input");
+fn over_records<'a>(
+    alloc: Global,
+    command: Command<'a>,
+    data: Arg<'a>,
+) -> Result<Command<'a>, AllocError> {
     let format = Arg::new(alloc, "format")
         .long("format")
         .value_name("FORM")
@@ -123,12 +132,15 @@ fn over_records<'a>(alloc: Global, command: Command<'a>) -> Result<Command<'a>, 
         .action(ArgAction::Set)
         .value_parser(value_parser!(u64))
         .help("How many records are gone over at most");
-    command
-        .arg(expression(alloc))?
-        .arg(data)?
-        .arg(schema(alloc).required(false))?
-        .arg(format)?
-        .arg(limit)
+    command.arg(data)?.arg(format)?.arg(limit)
+}
+
+fn data<'a>(alloc: Global) -> Arg<'a> {
+    Arg::new(alloc, "data")
+        .long("data")
+        .value_name("FILE")
+        .action(ArgAction::Set)
+        .help("The file of the records, or - for standard input")
 }
 
 // A command of an expression and a schema.

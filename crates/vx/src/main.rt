@@ -47,9 +47,13 @@ fn answer(rt: &HostRuntime) -> Result<ExitCode> {
 fn asked(rt: &HostRuntime, matches: &ArgMatches<'_>) -> Result<Status> {
     match matches.subcommand() {
         Some(("eval", matches)) => {
-            over_records(rt, RowsWork::Evaluate(output_of(matches)), matches)
+            let work = RowsWork::Evaluate(output_of(matches));
+            over_records(rt, work, u64::MAX, matches)
         }
-        Some(("filter", matches)) => over_records(rt, RowsWork::Filter, matches),
+        Some(("filter", matches)) => over_records(rt, RowsWork::Filter, u64::MAX, matches),
+        Some(("explain", matches)) if matches.contains_id("data") => {
+            over_records(rt, RowsWork::Explain, 10, matches)
+        }
         Some((name, matches)) => over_texts(rt, name, matches),
         None => Ok(Status::Wrong),
     }

@@ -17,8 +17,14 @@ pub fn output_of(matches: &ArgMatches<'_>) -> OutputFormat {
     }
 }
 
-/// Does that work on the records of the file that the words name.
-pub fn over_records(rt: &HostRuntime, work: RowsWork, matches: &ArgMatches<'_>) -> Result<Status> {
+/// Does that work on the records of the file that the words name, on so many of them where they don't
+/// say on how many.
+pub fn over_records(
+    rt: &HostRuntime,
+    work: RowsWork,
+    limit: u64,
+    matches: &ArgMatches<'_>,
+) -> Result<Status> {
     let data = matches.get_str("data").unwrap_or("-");
     let format = format_of(matches, data);
     let expression = text_at(rt, matches, "expression")?;
@@ -32,7 +38,7 @@ pub fn over_records(rt: &HostRuntime, work: RowsWork, matches: &ArgMatches<'_>) 
         schema: schema.input(),
         data: if data == "-" { "standard input" } else { data },
         format,
-        limit: matches.get_one("limit").unwrap_or(u64::MAX),
+        limit: matches.get_one("limit").unwrap_or(limit),
     };
     run_over(rt, &command, data)
 }

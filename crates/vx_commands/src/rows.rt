@@ -1,14 +1,17 @@
 // A run of the program over the records of a file.
 use std::alloc::Global;
 use std::io::{BufRead, Write};
-use vx_command_pages::{Input, Status, read_expression, read_schema};
+use vx_command_pages::{Complaint, Input, Status, read_expression, read_schema};
+use vx_command_plans::explanation_page;
 use vx_command_rows::{
     DataFormat, Output, OutputFormat, RowsComplaint, RowsMessage, evaluate, filter, opened,
     schema_of, unwritten,
 };
+use vx_data::WriteError;
 use vx_records::{CsvRows, JsonRecords, RecordReader};
 use vx_run::tell;
-use vx_source::Placed;
+use vx_source::{Placed, TypeText};
+use vx_types::DType;
 
 /// What is done with records.
 #[derive(Clone, Copy, Debug, PartialEq, Eq)]
@@ -17,6 +20,9 @@ pub enum RowsWork {
     Filter,
     /// What the expression means at each is written in that form.
     Evaluate(OutputFormat),
+    /// The type of the records is written, what becomes of the expression, and what it means at each as
+    /// JSON lines.
+    Explain,
 }
 
 /// A command that goes over the records of a file.
@@ -128,12 +134,52 @@ fn worked<R: RecordReader, W: Write>(
 ) -> Result<(), RowsComplaint> {
     match command.work {
         RowsWork::Filter => filter(alloc, placed, command.limit, records, out),
-        RowsWork::Evaluate(format) => {
-            let mut output = Output::new(alloc, format, out);
-            let meant = evaluate(alloc, placed, command.limit, records, &mut output);
-            let written = unwritten(output.finish(alloc));
-            meant?;
-            written
+        RowsWork::Evaluate(format) => evaluated(alloc, command, format, placed, records, out),
+        RowsWork::Explain => {
+            let page = explanation(alloc, command, records.dtype())?;
+            unwritten(written(out, page.as_str()))?;
+            evaluated(
+                alloc,
+                command,
+                OutputFormat::JsonLines,
+                placed,
+                records,
+                out,
+            )
         }
     }
+}
+
+// Writes what the expression means at the records.
+fn evaluated<R: RecordReader, W: Write>(
+    alloc: Global,
+    command: &RowsCommand<'_>,
+    format: OutputFormat,
+    placed: &Placed,
+    records: &mut R,
+    out: &mut W,
+) -> Result<(), RowsComplaint> {
+    let mut output = Output::new(alloc, format, out);
+    let meant = evaluate(alloc, placed, command.limit, records, &mut output);
+    let finished = unwritten(output.finish(alloc));
+    meant?;
+    finished
+}
+
+// The type of the records, what becomes of the expression, and the line above the rows.
+fn explanation(
+    alloc: Global,
+    command: &RowsCommand<'_>,
+    dtype: &DType,
+) -> Result<String, RowsComplaint> {
+    let page = explanation_page(alloc, command.expression.text, command.schema.text)?;
+    match format!(in alloc; "schema: {}\n{page}rows:\n", TypeText(dtype)) {
+        Ok(explanation) => Ok(explanation),
+        Err(_) => Err(RowsComplaint::Query(Complaint::OutOfMemory)),
+    }
+}
+
+fn written<W: Write>(out: &mut W, text: &str) -> Result<(), WriteError> {
+    out.write_all(text.as_bytes())?;
+    Ok(())
 }
