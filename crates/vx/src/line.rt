@@ -39,7 +39,7 @@ Without --schema the type of the records is that of the first 1,000 of them.
 
 Examples:
   vx check 'x >= 1 and x <= 5' --schema '{x=i32}'
-  vx filter 'price > 100 and city = \"Oslo\"' --data orders.csv";
+  vx filter 'price > 100i64 and city = \"Oslo\"' --data orders.csv";
 
 const CHECK: &str = "Example:
   vx check 'x >= 1 and x <= 5' --schema '{x=i32}'
@@ -74,11 +74,11 @@ fn explain<'a>(alloc: Global) -> Result<Command<'a>, AllocError> {
 }
 
 const EVALUATE: &str = "Example:
-  vx eval 'price + 1' --data orders.csv --limit 10
+  vx eval 'price + 1i64' --data orders.csv --limit 10
 prints a line of JSON for each of the first 10 records";
 
 const FILTER: &str = "Example:
-  vx filter 'price > 100' --data orders.csv > dear.csv
+  vx filter 'price > 100i64' --data orders.csv > dear.csv
 writes the header, and each record with a price above 100 as it stands";
 
 // The command that prints what an expression means.

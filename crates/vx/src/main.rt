@@ -2,6 +2,7 @@
 #![tactic(auto)]
 
 mod line;
+mod progress;
 mod records;
 mod texts;
 

@@ -1,4 +1,5 @@
 // Commands that go over the records of a file.
+use crate::progress::Progress;
 use crate::texts::{Text, text_at};
 use anyhow::{Context, Result};
 use clap::ArgMatches;
@@ -88,8 +89,8 @@ fn format_of(matches: &ArgMatches<'_>, data: &str) -> DataFormat {
     }
 }
 
-// The file, to be read.
-fn opened(rt: &HostRuntime, path: &str) -> Result<BufReader<File>> {
+// The file, to be read, which tells how far it is.
+fn opened<'a>(rt: &'a HostRuntime, path: &str) -> Result<BufReader<Progress<'a, File>>> {
     let file = File::open(rt, path).context(format_args!("reading {path}"))?;
-    Ok(BufReader::new(rt.alloc(), file)?)
+    Ok(BufReader::new(rt.alloc(), Progress::new(rt, file))?)
 }

@@ -16,6 +16,6 @@ use Rattle.vx_command_rows.specs.declared.complaint.RowsComplaint.TheVariants.{Q
 
 -- an expression of another type
 pub not_bool : {R : Type 0} (leaves : R → List Record → Type 0) (s t : LogicalType) (head : List ℕ) (e : Tree) (r : RowsComplaint) (before : R) (out : Option (List ℕ)) → typed e s ≡ Ok t → IsNotBool t r → IsKeptUntil leaves s head e r before out out
-not_bool leaves s t head e (NotBool u) before out is no = (is ∙ ap (λ t. Ok t) (sym no), Keeps-refl out)
-not_bool leaves s t head e (Query c) before out is no = (subst (IsRefusal e s) (sym no) tt, Keeps-refl out)
-not_bool leaves s t head e (Records error span) before out is no = absurd no
+not_bool leaves s t head e (NotBool u) before out is told = (is ∙ ap (λ t. Ok t) (sym told), Keeps-refl out)
+not_bool leaves s t head e (Query c) before out is told = (subst (IsRefusal e s) (sym told) tt, Keeps-refl out)
+not_bool leaves s t head e (Records error span) before out is told = absurd told

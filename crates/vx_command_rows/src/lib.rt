@@ -3,15 +3,15 @@
 
 mod complaint;
 mod data;
-mod evaluate;
-mod filter;
+mod evaluated;
+mod filtered;
 mod message;
 mod outputs;
 mod table;
 
 pub use complaint::RowsComplaint;
 pub use data::{DataFormat, opened, schema_of, unwritten};
-pub use evaluate::evaluate;
-pub use filter::filter;
+pub use evaluated::evaluate;
+pub use filtered::filter;
 pub use message::RowsMessage;
 pub use outputs::{Output, OutputFormat};

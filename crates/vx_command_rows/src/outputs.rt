@@ -22,10 +22,44 @@ pub enum OutputFormat {
 pub enum Output<'a, W: Write> {
     /// As JSON lines.
     JsonLines(&'a mut W),
-    /// As a CSV file, which is begun once the type of its rows is known.
-    Csv(Option<&'a mut W>, Option<CsvWriter<&'a mut W>>),
+    /// As a CSV file.
+    Csv(CsvOutput<'a, W>),
     /// As a table.
     Table(&'a mut W, Table),
+}
+
+/// A CSV file that is begun once the type of its rows is known.
+#[derive(Drop)]
+pub struct CsvOutput<'a, W: Write> {
+    // Where it is written, until it is begun.
+    out: Option<&'a mut W>,
+    file: Option<CsvWriter<&'a mut W>>,
+}
+
+impl<'a, W: Write> CsvOutput<'a, W> {
+    fn begin(&mut self, alloc: Global, dtype: &DType) -> Result<(), WriteError> {
+        if let Some(out) = self.out.take() {
+            // (nothing that holds a `&mut` is dropped in place)
+            let before = self.file.replace(CsvWriter::new(alloc, dtype, out)?);
+            drop(before);
+        }
+        Ok(())
+    }
+
+    fn write(&mut self, rows: &Column) -> Result<(), WriteError> {
+        match &mut self.file {
+            Some(file) => file.write(rows),
+            None => Ok(()),
+        }
+    }
+
+    fn finish(self) -> Result<(), WriteError> {
+        let file = self.file;
+        match file {
+            Some(file) => file.finish(),
+            None => Ok(()),
+        }
+    }
 }
 
 impl<'a, W: Write> Output<'a, W> {
@@ -33,7 +67,10 @@ impl<'a, W: Write> Output<'a, W> {
     pub fn new(alloc: Global, format: OutputFormat, out: &'a mut W) -> Output<'a, W> {
         match format {
             OutputFormat::JsonLines => Output::JsonLines(out),
-            OutputFormat::Csv => Output::Csv(Some(out), None),
+            OutputFormat::Csv => Output::Csv(CsvOutput {
+                out: Some(out),
+                file: None,
+            }),
             OutputFormat::Table => Output::Table(out, Table::new(alloc)),
         }
     }
@@ -42,8 +79,8 @@ impl<'a, W: Write> Output<'a, W> {
     /// `OutOfMemory`.
     pub fn finish(self, alloc: Global) -> Result<(), WriteError> {
         match self {
-            Output::JsonLines(_) | Output::Csv(_, None) => Ok(()),
-            Output::Csv(_, Some(file)) => file.finish(),
+            Output::JsonLines(_) => Ok(()),
+            Output::Csv(file) => file.finish(),
             Output::Table(out, table) => table.write(alloc, out),
         }
     }
@@ -53,12 +90,7 @@ impl<'a, W: Write> RowWriter for Output<'a, W> {
     fn begin(&mut self, alloc: Global, dtype: &DType) -> Result<(), WriteError> {
         match self {
             Output::JsonLines(_) => Ok(()),
-            Output::Csv(out, file) => {
-                if let Some(out) = out.take() {
-                    *file = Some(CsvWriter::new(alloc, dtype, out)?);
-                }
-                Ok(())
-            }
+            Output::Csv(file) => file.begin(alloc, dtype),
             Output::Table(_, table) => table.begin(alloc, dtype),
         }
     }
@@ -66,8 +98,7 @@ impl<'a, W: Write> RowWriter for Output<'a, W> {
     fn write(&mut self, alloc: Global, rows: &Column) -> Result<(), WriteError> {
         match self {
             Output::JsonLines(out) => write_json_lines(alloc, rows, out),
-            Output::Csv(_, Some(file)) => file.write(rows),
-            Output::Csv(_, None) => Ok(()),
+            Output::Csv(file) => file.write(rows),
             Output::Table(_, table) => table.push(alloc, rows),
         }
     }

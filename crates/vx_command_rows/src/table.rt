@@ -92,7 +92,8 @@ fn push_line(cells: &[String], widths: &[usize], text: &mut String) -> Result<()
             text.push_str(" ")?;
         }
         text.push_str(cell.as_str())?;
-        blanks = 2 + width.saturating_sub(cell.as_str().chars().count());
+        let filled = cell.as_str().chars().count();
+        blanks = width.saturating_sub(filled).saturating_add(2);
     }
     text.push_str("\n")
 }
@@ -135,11 +136,11 @@ fn write_cells<W: fmt::Write>(
     f: &mut Formatter<W>,
 ) -> fmt::Result {
     f.write_str(open)?;
-    let mut before = "";
-    for value in values {
-        f.write_str(before)?;
+    for (i, value) in values.iter().enumerate() {
+        if i > 0 {
+            f.write_str(", ")?;
+        }
         write_cell(value, f)?;
-        before = ", ";
     }
     f.write_str(close)
 }

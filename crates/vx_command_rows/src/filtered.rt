@@ -5,7 +5,7 @@ ghost use Rattle.vx_tree.specs.Views.{tree_of};
 ghost use Rattle.vx_command_rows.specs.Rows.{IsKept, IsKeptUntil, IsNotBool};
 
 use crate::RowsComplaint;
-use crate::evaluate::stopped;
+use crate::evaluated::stopped;
 use std::alloc::Global;
 use std::io::Write;
 use vx_command_pages::{Complaint, bind};
