@@ -122,7 +122,7 @@ impl Display for FaultText<'_> {
 fn help_for(refusal: &VortexError) -> Option<&'static str> {
     match refusal {
         VortexError::AddOverflow { .. } => Some(
-            "add numbers of a wider type, as in x::i64 + y::i64",
+            "read the fields as a wider type, as in --schema '{x=i64}'",
         ),
         VortexError::CastNull { .. } => Some("fill the nulls before, as in coalesce(x, 0)"),
         _ => None,
