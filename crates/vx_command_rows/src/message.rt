@@ -122,7 +122,7 @@ impl Display for FaultText<'_> {
 fn help_for(refusal: &VortexError) -> Option<&'static str> {
     match refusal {
         VortexError::AddOverflow { .. } => Some(
-            "read the fields as a wider type, as in --schema '{x=i64}'",
+            "say a wider type in the schema, as i64, and write numbers of it, as 5i64",
         ),
         VortexError::CastNull { .. } => Some("fill the nulls before, as in coalesce(x, 0)"),
         _ => None,

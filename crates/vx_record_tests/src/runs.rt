@@ -131,7 +131,7 @@ const RUNS: [Run; 15] = [
         format: DataFormat::JsonLines,
         data: "\n{\"x\":5}\n{\"x\":2147483647}\n",
         limit: 9,
-        shown: "? Wrong\nerror: the sum is out of range\n --> expression:1:9\n  |\n1 | is_null(x + 1)\n  |         ^^^^^\n  = help: read the fields as a wider type, as in --schema '{x=i64}'\n  = record: orders, line 3\n",
+        shown: "? Wrong\nerror: the sum is out of range\n --> expression:1:9\n  |\n1 | is_null(x + 1)\n  |         ^^^^^\n  = help: say a wider type in the schema, as i64, and write numbers of it, as 5i64\n  = record: orders, line 3\n",
     },
     Run {
         work: RowsWork::Evaluate(OutputFormat::JsonLines),
