@@ -4,10 +4,6 @@ use std::alloc::{AllocError, Global};
 
 /// The words that the program takes.
 pub fn command_line<'a>(alloc: Global) -> Result<Command<'a>, AllocError> {
-    let json = Arg::new(alloc, "json")
-        .long("json")
-        .action(ArgAction::SetTrue)
-        .help("Print JSON, which is the only form so far");
     Command::new(alloc, "vx")
         .bin_name("vx")?
         .about(
@@ -21,7 +17,7 @@ pub fn command_line<'a>(alloc: Global) -> Result<Command<'a>, AllocError> {
         .subcommand(evaluate(alloc)?)?
         .subcommand(filter(alloc)?)?
         .subcommand(expression_alone(alloc)?)?
-        .subcommand(query(alloc, "plan", "Prints the plan of a scan as JSON", PLAN)?.arg(json)?)?
+        .subcommand(plan(alloc)?)?
         .subcommand(query(
             alloc,
             "dot",
@@ -60,17 +56,28 @@ const PLAN: &str = "Example:
   vx plan 'x >= 1' --schema '{x=i32}' --json
 prints an object of the plan's tree, its type and scope, the paths that are read, the root and the partitions";
 
+// The command that prints a plan.
+fn plan<'a>(alloc: Global) -> Result<Command<'a>, AllocError> {
+    query(alloc, "plan", "Prints the plan of a scan as JSON", PLAN)?.arg(json(alloc))
+}
+
+fn json<'a>(alloc: Global) -> Arg<'a> {
+    Arg::new(alloc, "json")
+        .long("json")
+        .action(ArgAction::SetTrue)
+        .help("Print JSON, which is the only form so far")
+}
+
 const DOT: &str = "Example:
   vx dot 'x >= 1' --schema '{x=i32}' | dot -Tsvg > tree.svg";
 
 // The command that says what becomes of an expression.
 fn explain<'a>(alloc: Global) -> Result<Command<'a>, AllocError> {
+    let schema = schema(alloc).required_unless_present("data")?;
     let command = Command::new(alloc, "explain")
         .about("Prints what becomes of the expression")
-        .after_help(EXPLAIN)
-        .arg(expression(alloc))?
-        .arg(schema(alloc).required_unless_present("data")?)?;
-    over_records(alloc, command, data(alloc))
+        .after_help(EXPLAIN);
+    over_records(alloc, command, schema, data(alloc))
 }
 
 const EVALUATE: &str = "Example:
@@ -83,56 +90,39 @@ writes the header, and each record with a price above 100 as it stands";
 
 // The command that prints what an expression means.
 fn evaluate<'a>(alloc: Global) -> Result<Command<'a>, AllocError> {
-    let output = Arg::new(alloc, "output")
-        .long("output")
-        .value_name("FORM")
-        .action(ArgAction::Set)
-        .value_parser(OUTPUTS)
-        .default_value("json")
-        .help("In what form the rows are printed");
     let command = Command::new(alloc, "eval")
         .about("Prints what the expression means at each record")
         .after_help(EVALUATE);
-    let command = command
-        .arg(expression(alloc))?
-        .arg(schema(alloc).required(false))?;
-    over_records(alloc, command, data(alloc).required(true))?.arg(output)
+    over_given_records(alloc, command)?.arg(output(alloc))
 }
 
 // The command that keeps records.
 fn filter<'a>(alloc: Global) -> Result<Command<'a>, AllocError> {
     let command = Command::new(alloc, "filter")
         .about("Prints the records of which the expression is true, as they stand")
-        .after_help(FILTER)
-        .arg(expression(alloc))?
-        .arg(schema(alloc).required(false))?;
-    over_records(alloc, command, data(alloc).required(true))
+        .after_help(FILTER);
+    over_given_records(alloc, command)
 }
 
-// The forms of records and of rows.
-const FORMATS: &[&str] = &["json", "csv"];
+// The command with an expression, and with the words that say which records it goes over.
+fn over_given_records<'a>(alloc: Global, command: Command<'a>) -> Result<Command<'a>, AllocError> {
+    let schema = schema(alloc).required(false);
+    over_records(alloc, command, schema, data(alloc).required(true))
+}
 
-const OUTPUTS: &[&str] = &["json", "csv", "table"];
-
-// The command with the words that say which records it goes over.
+// The same, with these words for the type and the file. (An argument is made where it is taken, so that
+// few are there where another can't be taken.)
 fn over_records<'a>(
     alloc: Global,
     command: Command<'a>,
+    schema: Arg<'a>,
     data: Arg<'a>,
 ) -> Result<Command<'a>, AllocError> {
-    let format = Arg::new(alloc, "format")
-        .long("format")
-        .value_name("FORM")
-        .action(ArgAction::Set)
-        .value_parser(FORMATS)
-        .help("The form of the records; without it csv where the file's name ends so, else json");
-    let limit = Arg::new(alloc, "limit")
-        .long("limit")
-        .value_name("COUNT")
-        .action(ArgAction::Set)
-        .value_parser(value_parser!(u64))
-        .help("How many records are gone over at most");
-    command.arg(data)?.arg(format)?.arg(limit)
+    let command = command.arg(schema)?.arg(data)?;
+    command
+        .arg(expression(alloc))?
+        .arg(format(alloc))?
+        .arg(limit(alloc))
 }
 
 fn data<'a>(alloc: Global) -> Arg<'a> {
@@ -142,6 +132,39 @@ fn data<'a>(alloc: Global) -> Arg<'a> {
         .action(ArgAction::Set)
         .help("The file of the records, or - for standard input")
 }
+
+fn format<'a>(alloc: Global) -> Arg<'a> {
+    Arg::new(alloc, "format")
+        .long("format")
+        .value_name("FORM")
+        .action(ArgAction::Set)
+        .value_parser(FORMATS)
+        .help("The form of the records; without it csv where the file's name ends so, else json")
+}
+
+fn limit<'a>(alloc: Global) -> Arg<'a> {
+    Arg::new(alloc, "limit")
+        .long("limit")
+        .value_name("COUNT")
+        .action(ArgAction::Set)
+        .value_parser(value_parser!(u64))
+        .help("How many records are gone over at most")
+}
+
+fn output<'a>(alloc: Global) -> Arg<'a> {
+    Arg::new(alloc, "output")
+        .long("output")
+        .value_name("FORM")
+        .action(ArgAction::Set)
+        .value_parser(OUTPUTS)
+        .default_value("json")
+        .help("In what form the rows are printed")
+}
+
+// The forms of records, and those of rows.
+const FORMATS: &[&str] = &["json", "csv"];
+
+const OUTPUTS: &[&str] = &["json", "csv", "table"];
 
 // A command of an expression and a schema.
 fn query<'a>(
