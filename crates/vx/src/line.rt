@@ -1,5 +1,5 @@
 // The command line.
-use clap::{Arg, ArgAction, Command};
+use clap::{Arg, ArgAction, Command, value_parser};
 use std::alloc::{AllocError, Global};
 
 /// The words that the program takes.
@@ -11,18 +11,15 @@ pub fn command_line<'a>(alloc: Global) -> Result<Command<'a>, AllocError> {
     Command::new(alloc, "vx")
         .bin_name("vx")?
         .about(
-            "Says what an expression over rows is, what becomes of it, and what is wrong with it.",
+            "Says what an expression over rows is, what it means at the records of a file, and what is wrong with it.",
         )
         .after_help(TEXTS)
         .subcommand_required(true)
         .arg_required_else_help(true)
         .subcommand(query(alloc, "check", "Prints the type of the expression", CHECK)?)?
-        .subcommand(query(
-            alloc,
-            "explain",
-            "Prints what becomes of the expression",
-            EXPLAIN,
-        )?)?
+        .subcommand(explain(alloc)?)?
+        .subcommand(evaluate(alloc)?)?
+        .subcommand(filter(alloc)?)?
         .subcommand(expression_alone(alloc)?)?
         .subcommand(query(alloc, "plan", "Prints the plan of a scan as JSON", PLAN)?.arg(json)?)?
         .subcommand(query(
@@ -38,8 +35,11 @@ const TEXTS: &str =
 
 The status is 0; 1 where a file or memory fails; 2 where what was given is wrong.
 
-Example:
-  vx check 'x >= 1 and x <= 5' --schema '{x=i32}'";
+Without --schema the type of the records is that of the first 1,000 of them.
+
+Examples:
+  vx check 'x >= 1 and x <= 5' --schema '{x=i32}'
+  vx filter 'price > 100i64 and city = \"Oslo\"' --data orders.csv";
 
 const CHECK: &str = "Example:
   vx check 'x >= 1 and x <= 5' --schema '{x=i32}'
@@ -48,7 +48,8 @@ prints
 
 const EXPLAIN: &str = "Example:
   vx explain 'a.x >= 1 and b < 5' --schema '{a={x=i32, y=i32}?, b=i32, c=utf8}'
-prints its text, type and tree, what each pass makes of it, and what a scan reads";
+prints its text, type and tree, what each pass makes of it, and what a scan reads; with --data also
+the type of the records, and what the expression means at the first 10 of them";
 
 const FORMAT: &str = "Example:
   vx fmt 'x between 1 and 3'
@@ -62,6 +63,86 @@ prints an object of the plan's tree, its type and scope, the paths that are read
 const DOT: &str = "Example:
   vx dot 'x >= 1' --schema '{x=i32}' | dot -Tsvg > tree.svg";
 
+// The command that says what becomes of an expression.
+fn explain<'a>(alloc: Global) -> Result<Command<'a>, AllocError> {
+    let command = Command::new(alloc, "explain")
+        .about("Prints what becomes of the expression")
+        .after_help(EXPLAIN)
+        .arg(expression(alloc))?
+        .arg(schema(alloc).required_unless_present("data")?)?;
+    over_records(alloc, command, data(alloc))
+}
+
+const EVALUATE: &str = "Example:
+  vx eval 'price + 1i64' --data orders.csv --limit 10
+prints a line of JSON for each of the first 10 records";
+
+const FILTER: &str = "Example:
+  vx filter 'price > 100i64' --data orders.csv > dear.csv
+writes the header, and each record with a price above 100 as it stands";
+
+// The command that prints what an expression means.
+fn evaluate<'a>(alloc: Global) -> Result<Command<'a>, AllocError> {
+    let output = Arg::new(alloc, "output")
+        .long("output")
+        .value_name("FORM")
+        .action(ArgAction::Set)
+        .value_parser(OUTPUTS)
+        .default_value("json")
+        .help("In what form the rows are printed");
+    let command = Command::new(alloc, "eval")
+        .about("Prints what the expression means at each record")
+        .after_help(EVALUATE);
+    let command = command
+        .arg(expression(alloc))?
+        .arg(schema(alloc).required(false))?;
+    over_records(alloc, command, data(alloc).required(true))?.arg(output)
+}
+
+// The command that keeps records.
+fn filter<'a>(alloc: Global) -> Result<Command<'a>, AllocError> {
+    let command = Command::new(alloc, "filter")
+        .about("Prints the records of which the expression is true, as they stand")
+        .after_help(FILTER)
+        .arg(expression(alloc))?
+        .arg(schema(alloc).required(false))?;
+    over_records(alloc, command, data(alloc).required(true))
+}
+
+// The forms of records and of rows.
+const FORMATS: &[&str] = &["json", "csv"];
+
+const OUTPUTS: &[&str] = &["json", "csv", "table"];
+
+// The command with the words that say which records it goes over.
+fn over_records<'a>(
+    alloc: Global,
+    command: Command<'a>,
+    data: Arg<'a>,
+) -> Result<Command<'a>, AllocError> {
+    let format = Arg::new(alloc, "format")
+        .long("format")
+        .value_name("FORM")
+        .action(ArgAction::Set)
+        .value_parser(FORMATS)
+        .help("The form of the records; without it csv where the file's name ends so, else json");
+    let limit = Arg::new(alloc, "limit")
+        .long("limit")
+        .value_name("COUNT")
+        .action(ArgAction::Set)
+        .value_parser(value_parser!(u64))
+        .help("How many records are gone over at most");
+    command.arg(data)?.arg(format)?.arg(limit)
+}
+
+fn data<'a>(alloc: Global) -> Arg<'a> {
+    Arg::new(alloc, "data")
+        .long("data")
+        .value_name("FILE")
+        .action(ArgAction::Set)
+        .help("The file of the records, or - for standard input")
+}
+
 // A command of an expression and a schema.
 fn query<'a>(
     alloc: Global,
@@ -69,17 +150,20 @@ fn query<'a>(
     about: &'a str,
     example: &'a str,
 ) -> Result<Command<'a>, AllocError> {
-    let schema = Arg::new(alloc, "schema")
-        .long("schema")
-        .value_name("TYPE")
-        .required(true)
-        .action(ArgAction::Set)
-        .help("The type of the rows, as in {x=i32, s=utf8?}");
     Command::new(alloc, name)
         .about(about)
         .after_help(example)
         .arg(expression(alloc))?
-        .arg(schema)
+        .arg(schema(alloc))
+}
+
+fn schema<'a>(alloc: Global) -> Arg<'a> {
+    Arg::new(alloc, "schema")
+        .long("schema")
+        .value_name("TYPE")
+        .required(true)
+        .action(ArgAction::Set)
+        .help("The type of the rows, as in {x=i32, s=utf8?}")
 }
 
 // The command of an expression alone.

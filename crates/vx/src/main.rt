@@ -2,16 +2,19 @@
 #![tactic(auto)]
 
 mod line;
+mod progress;
+mod records;
 mod texts;
 
 use anyhow::Result;
 use clap::ArgMatches;
 use clap::error::ErrorKind;
 use line::command_line;
+use records::{output_of, over_records};
 use std::env;
 use std::process::ExitCode;
-use texts::{Text, read_text};
-use vx_commands::{Command, Query, Status, run_command};
+use texts::text_at;
+use vx_commands::{Command, Query, RowsWork, Status, run_command};
 
 fn main(rt: HostRuntime) -> ExitCode {
     match answer(&rt) {
@@ -43,9 +46,22 @@ fn answer(rt: &HostRuntime) -> Result<ExitCode> {
 
 // Runs the command of the words.
 fn asked(rt: &HostRuntime, matches: &ArgMatches<'_>) -> Result<Status> {
-    let Some((name, matches)) = matches.subcommand() else {
-        return Ok(Status::Wrong);
-    };
+    match matches.subcommand() {
+        Some(("eval", matches)) => {
+            let work = RowsWork::Evaluate(output_of(matches));
+            over_records(rt, work, u64::MAX, matches)
+        }
+        Some(("filter", matches)) => over_records(rt, RowsWork::Filter, u64::MAX, matches),
+        Some(("explain", matches)) if matches.contains_id("data") => {
+            over_records(rt, RowsWork::Explain, 10, matches)
+        }
+        Some((name, matches)) => over_texts(rt, name, matches),
+        None => Ok(Status::Wrong),
+    }
+}
+
+// Runs the command of that name, which reads no records.
+fn over_texts(rt: &HostRuntime, name: &str, matches: &ArgMatches<'_>) -> Result<Status> {
     let expression = text_at(rt, matches, "expression")?;
     let schema = text_at(rt, matches, "schema")?;
     let query = Query {
@@ -60,9 +76,4 @@ fn asked(rt: &HostRuntime, matches: &ArgMatches<'_>) -> Result<Status> {
         _ => Command::Format(query.expression),
     };
     Ok(run_command(rt.alloc(), &command, &mut rt.stdout(), &mut rt.stderr()))
-}
-
-// The text that the argument says, an empty one where the command takes no such argument.
-fn text_at(rt: &HostRuntime, matches: &ArgMatches<'_>, id: &str) -> Result<Text> {
-    read_text(rt, id, matches.get_str(id).unwrap_or(""))
 }

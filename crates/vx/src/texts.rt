@@ -1,5 +1,7 @@
 // Texts of the command line: as they stand, of a file, or of standard input.
 use anyhow::{Context, Result};
+use clap::ArgMatches;
+use std::alloc::Global;
 use std::rt::Files;
 use std::{fs, io};
 
@@ -11,6 +13,14 @@ pub struct Text {
 }
 
 impl Text {
+    /// That text under that name.
+    pub fn new(alloc: Global, name: &str, text: String) -> Result<Text> {
+        Ok(Text {
+            name: String::from_str(alloc, name)?,
+            text,
+        })
+    }
+
     /// The text as a command takes it.
     pub fn input(&self) -> vx_commands::Input<'_> {
         vx_commands::Input {
@@ -18,6 +28,11 @@ impl Text {
             text: self.text.as_str(),
         }
     }
+}
+
+/// The text that the argument says, an empty one where it isn't given.
+pub fn text_at(rt: &HostRuntime, matches: &ArgMatches<'_>, id: &str) -> Result<Text> {
+    read_text(rt, id, matches.get_str(id).unwrap_or(""))
 }
 
 /// The text that the word says: standard input for `-`, the file of that name for `@NAME`, else the
@@ -39,8 +54,5 @@ pub fn read_text<R: Files + Input + AllocGlobal>(
         ),
         _ => (argument, String::from_str(alloc, word)?),
     };
-    Ok(Text {
-        name: String::from_str(alloc, name)?,
-        text,
-    })
+    Text::new(alloc, name, text)
 }

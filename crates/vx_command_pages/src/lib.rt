@@ -15,6 +15,7 @@ pub use graph::graph_page;
 pub use input::{bind, read_expression, read_schema, refused};
 pub use message::{Input, Message};
 pub use source::source_page;
+pub use spans::span_at;
 pub use types::type_page;
 
 #[cfg(test)]

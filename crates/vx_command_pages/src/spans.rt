@@ -4,7 +4,7 @@ use vx_source::Places;
 
 /// The bytes that the node at the path was read from, or, where it was read from none of its own, its
 /// nearest node above that was.
-pub(crate) fn span_at(places: &Places, path: &[usize]) -> Span {
+pub fn span_at(places: &Places, path: &[usize]) -> Span {
     let mut place = places;
     for index in path {
         match place.children.get(*index) {

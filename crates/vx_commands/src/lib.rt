@@ -2,8 +2,11 @@
 #![tactic(auto)]
 
 mod command;
+mod rows;
 mod run;
 
 pub use command::{Command, Query, page_of};
+pub use rows::{RowsCommand, RowsWork, infer_schema, run_rows};
 pub use run::run_command;
 pub use vx_command_pages::{Complaint, Input, Status};
+pub use vx_command_rows::{DataFormat, OutputFormat};

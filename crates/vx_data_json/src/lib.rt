@@ -1,6 +1,7 @@
 // Rows from lines of JSON, their types guessed from such lines, and rows written as such lines.
 #![tactic(auto)]
 
+mod distinct;
 mod draft;
 mod guess;
 mod infer;

@@ -1,4 +1,5 @@
 // Rows written as JSON lines.
+use crate::distinct::check_names;
 use json::Writer;
 use std::alloc::Global;
 use std::io::Write;
@@ -9,13 +10,16 @@ use vx_types::{Column, DType, StructFields, Value};
 const BLOCK: usize = 65_536;
 
 /// Writes each row as a line of JSON, which is read back as that row by the column's type: each field of a struct under
-/// its name, also where it is null. Refuses with the writer's error and with `OutOfMemory`. A struct with two fields of one
-/// name is written, and not read back. Time is linear in the column.
+/// its name, also where it is null. Refuses a type with a struct of which two fields have one name, as row 0 and with the
+/// path, before anything is written; and with the writer's error and with `OutOfMemory`. Time is linear in the column.
 pub fn write_json_lines<W: Write>(
     alloc: Global,
     column: &Column,
     writer: &mut W,
 ) -> Result<(), WriteError> {
+    if let Err(fault) = check_names(alloc, column.dtype()) {
+        return Err(fault.in_row(alloc, 0));
+    }
     let mut lines = Vec::new(alloc);
     for (row, value) in column.rows().iter().enumerate() {
         lines = match with_line(alloc, lines, column.dtype(), value) {

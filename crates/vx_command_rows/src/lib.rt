@@ -1,0 +1,17 @@
+// The commands that go over the records of a file.
+#![tactic(auto)]
+
+mod complaint;
+mod data;
+mod evaluated;
+mod filtered;
+mod message;
+mod outputs;
+mod table;
+
+pub use complaint::RowsComplaint;
+pub use data::{DataFormat, opened, schema_of, unwritten};
+pub use evaluated::evaluate;
+pub use filtered::filter;
+pub use message::RowsMessage;
+pub use outputs::{Output, OutputFormat};

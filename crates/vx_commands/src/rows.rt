@@ -1,0 +1,185 @@
+// A run of the program over the records of a file.
+use std::alloc::Global;
+use std::io::{BufRead, Write};
+use vx_command_pages::{Complaint, Input, Status, read_expression, read_schema};
+use vx_command_plans::explanation_page;
+use vx_command_rows::{
+    DataFormat, Output, OutputFormat, RowsComplaint, RowsMessage, evaluate, filter, opened,
+    schema_of, unwritten,
+};
+use vx_data::WriteError;
+use vx_records::{CsvRows, JsonRecords, RecordReader};
+use vx_run::tell;
+use vx_source::{Placed, TypeText};
+use vx_types::DType;
+
+/// What is done with records.
+#[derive(Clone, Copy, Debug, PartialEq, Eq)]
+pub enum RowsWork {
+    /// Those of which the expression is true are written as they stand.
+    Filter,
+    /// What the expression means at each is written in that form.
+    Evaluate(OutputFormat),
+    /// The type of the records is written, what becomes of the expression, and what it means at each as
+    /// JSON lines.
+    Explain,
+}
+
+/// A command that goes over the records of a file.
+#[derive(Clone, Copy, Debug)]
+pub struct RowsCommand<'a> {
+    /// What is done with them.
+    pub work: RowsWork,
+    /// The expression.
+    pub expression: Input<'a>,
+    /// The type of the records.
+    pub schema: Input<'a>,
+    /// What the file is called.
+    pub data: &'a str,
+    /// In what form the records stand in it.
+    pub format: DataFormat,
+    /// How many records are gone over at most.
+    pub limit: u64,
+}
+
+/// Runs the command over the records that the reader gives. What it prints is written on `out` as it
+/// comes, and what is complained of as a message on `err`. The status is `Done`; or `Wrong` for a text
+/// that can't be read, an expression that is refused or faults, or a record that isn't of the schema's
+/// type; or `Failed` where memory, the reader or a writer fails.
+pub fn run_rows<D: BufRead + Drop, W: Write, E: Write>(
+    alloc: Global,
+    command: &RowsCommand<'_>,
+    data: D,
+    out: &mut W,
+    err: &mut E,
+) -> Status {
+    match gone_over(alloc, command, data, out) {
+        Ok(()) => Status::Done,
+        Err(complaint) => {
+            let message = RowsMessage {
+                complaint: &complaint,
+                expression: command.expression,
+                schema: command.schema,
+                data: command.data,
+            };
+            complain(alloc, message, err)
+        }
+    }
+}
+
+/// The narrowest type of the first 1,000 records that the reader gives, as source text. What is
+/// complained of is written on `err`, with `data` as the name of the file, and the status is given.
+pub fn infer_schema<D: BufRead + Drop, E: Write>(
+    alloc: Global,
+    data: &str,
+    format: DataFormat,
+    reader: D,
+    err: &mut E,
+) -> Result<String, Status> {
+    match schema_of(alloc, format, reader) {
+        Ok(schema) => Ok(schema),
+        Err(complaint) => {
+            let nothing = Input { name: "", text: "" };
+            let message = RowsMessage {
+                complaint: &complaint,
+                expression: nothing,
+                schema: nothing,
+                data,
+            };
+            Err(complain(alloc, message, err))
+        }
+    }
+}
+
+// Writes the complaint as a message.
+fn complain<E: Write>(alloc: Global, message: RowsMessage<'_>, err: &mut E) -> Status {
+    let told = match format!(in alloc; "{message}\n") {
+        Ok(message) => tell(err, message.as_str(), 0),
+        Err(_) => tell(err, "error: out of memory\n", 1),
+    };
+    match told {
+        0 => message.complaint.status(),
+        _ => Status::Failed,
+    }
+}
+
+// Goes over the records.
+fn gone_over<D: BufRead + Drop, W: Write>(
+    alloc: Global,
+    command: &RowsCommand<'_>,
+    data: D,
+    out: &mut W,
+) -> Result<(), RowsComplaint> {
+    let placed = read_expression(alloc, command.expression.text)?;
+    let scope = Box::into_inner(read_schema(alloc, command.schema.text)?);
+    match command.format {
+        DataFormat::JsonLines => {
+            let mut records = JsonRecords::new(alloc, scope, data);
+            worked(alloc, command, &placed, &mut records, out)
+        }
+        DataFormat::Csv => {
+            let mut records = opened(CsvRows::open(alloc, scope, data))?;
+            worked(alloc, command, &placed, &mut records, out)
+        }
+    }
+}
+
+// Does with the records what the command says.
+fn worked<R: RecordReader, W: Write>(
+    alloc: Global,
+    command: &RowsCommand<'_>,
+    placed: &Placed,
+    records: &mut R,
+    out: &mut W,
+) -> Result<(), RowsComplaint> {
+    match command.work {
+        RowsWork::Filter => filter(alloc, placed, command.limit, records, out),
+        RowsWork::Evaluate(format) => evaluated(alloc, command, format, placed, records, out),
+        RowsWork::Explain => {
+            let page = explanation(alloc, command, records.dtype())?;
+            unwritten(written(out, page.as_str()))?;
+            evaluated(
+                alloc,
+                command,
+                OutputFormat::JsonLines,
+                placed,
+                records,
+                out,
+            )
+        }
+    }
+}
+
+// Writes what the expression means at the records.
+fn evaluated<R: RecordReader, W: Write>(
+    alloc: Global,
+    command: &RowsCommand<'_>,
+    format: OutputFormat,
+    placed: &Placed,
+    records: &mut R,
+    out: &mut W,
+) -> Result<(), RowsComplaint> {
+    let mut output = Output::new(alloc, format, out);
+    let meant = evaluate(alloc, placed, command.limit, records, &mut output);
+    let finished = unwritten(output.finish(alloc));
+    meant?;
+    finished
+}
+
+// The type of the records, what becomes of the expression, and the line above the rows.
+fn explanation(
+    alloc: Global,
+    command: &RowsCommand<'_>,
+    dtype: &DType,
+) -> Result<String, RowsComplaint> {
+    let page = explanation_page(alloc, command.expression.text, command.schema.text)?;
+    match format!(in alloc; "schema: {}\n{page}rows:\n", TypeText(dtype)) {
+        Ok(explanation) => Ok(explanation),
+        Err(_) => Err(RowsComplaint::Query(Complaint::OutOfMemory)),
+    }
+}
+
+fn written<W: Write>(out: &mut W, text: &str) -> Result<(), WriteError> {
+    out.write_all(text.as_bytes())?;
+    Ok(())
+}

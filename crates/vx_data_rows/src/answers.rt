@@ -1,0 +1,196 @@
+// What calls answer, as texts.
+use crate::chance::written_by_chance;
+use crate::cut::Cut;
+use crate::format::{Again, Format};
+use crate::line::unescaped;
+use crate::records::{csv_records, json_records};
+use crate::unread::Unread;
+use std::alloc::{AllocError, Global};
+use std::fmt::Display;
+use std::io::Read;
+use vx_data::{CsvWriter, WriteError, write_json_lines};
+use vx_source_dtype::parse_type;
+use vx_types::{Column, DType};
+
+/// What is called.
+#[derive(Clone, Copy)]
+pub enum Call {
+    /// `rows | TYPE | FILE`: the rows, which have to be the same where they are written and read again.
+    Rows,
+    /// `cut rows | TYPE | FILE`: the rows of a reader that fails behind the file.
+    CutRows,
+    /// `type | FILE`: the type that is guessed, by which the file has to be read.
+    Type,
+    /// `cut type | FILE`: the type that is guessed of a reader that fails behind the file.
+    CutType,
+    /// `records | FILE`: each record as it stood, behind its line.
+    Records,
+    /// `written | TYPE | LINES`: the file of the rows that the lines of JSON are.
+    Written,
+    /// `twice | TYPE | LINES`: the file of these rows, written twice to one writer.
+    Twice,
+    /// `by chance | SEED COUNT`: what becomes of so many columns that are written and read again.
+    ByChance,
+}
+
+impl Call {
+    /// The call of that name.
+    pub fn named(name: &str) -> Option<Call> {
+        match name {
+            "rows" => Some(Call::Rows),
+            "cut rows" => Some(Call::CutRows),
+            "type" => Some(Call::Type),
+            "cut type" => Some(Call::CutType),
+            "records" => Some(Call::Records),
+            "written" => Some(Call::Written),
+            "twice" => Some(Call::Twice),
+            "by chance" => Some(Call::ByChance),
+            _ => None,
+        }
+    }
+
+    /// How many columns it takes.
+    pub fn columns(self) -> usize {
+        match self {
+            Call::Rows | Call::CutRows | Call::Written | Call::Twice => 2,
+            Call::Type | Call::CutType | Call::Records | Call::ByChance => 1,
+        }
+    }
+}
+
+/// What the call answers to these columns, or what it refuses with.
+pub fn answer(
+    alloc: Global,
+    format: Format,
+    call: Call,
+    columns: &[&str],
+) -> Result<String, Unread> {
+    match (call, columns) {
+        (Call::ByChance, [words]) => written_by_chance(alloc, format, words),
+        (_, [file]) => {
+            let file = unescaped(alloc, file)?;
+            Ok(untyped_answer(alloc, format, call, file.as_slice())?)
+        }
+        (_, [dtype, file]) => {
+            let dtype = Box::new(alloc, parse_type(alloc, dtype)?)?;
+            let file = unescaped(alloc, file)?;
+            Ok(typed_answer(alloc, format, call, &dtype, file.as_slice())?)
+        }
+        _ => Err(Unread::Word("another number of columns")),
+    }
+}
+
+fn untyped_answer(
+    alloc: Global,
+    format: Format,
+    call: Call,
+    file: &[u8],
+) -> Result<String, AllocError> {
+    match (call, format) {
+        (Call::Type, _) => guessed(alloc, format, file),
+        (Call::CutType, _) => shown(alloc, format.guess(alloc, file.chain(Cut))),
+        (_, Format::Json) => shown(alloc, json_records(alloc, file)),
+        (_, Format::Csv) => shown(alloc, csv_records(alloc, file)),
+    }
+}
+
+fn typed_answer(
+    alloc: Global,
+    format: Format,
+    call: Call,
+    dtype: &DType,
+    file: &[u8],
+) -> Result<String, AllocError> {
+    match call {
+        Call::CutRows => shown(alloc, format.read(alloc, dtype, file.chain(Cut))),
+        Call::Written => written(alloc, format, dtype, file),
+        Call::Twice => twice(alloc, format, dtype, file),
+        _ => rows(alloc, format, dtype, file),
+    }
+}
+
+// The text of what is given, or of the refusal.
+fn shown<T: Display + Drop, E: Display + Drop>(
+    alloc: Global,
+    answer: Result<T, E>,
+) -> Result<String, AllocError> {
+    match answer {
+        Ok(value) => format!(in alloc; "{value}"),
+        Err(refusal) => format!(in alloc; "{refusal}"),
+    }
+}
+
+fn rows(alloc: Global, format: Format, dtype: &DType, file: &[u8]) -> Result<String, AllocError> {
+    let column = match format.read(alloc, dtype, file) {
+        Ok(column) => Box::new(alloc, column)?,
+        Err(refusal) => return format!(in alloc; "{refusal}"),
+    };
+    match format.write_and_read(alloc, &column) {
+        Again::Same => format!(in alloc; "{column}"),
+        _ => format!(in alloc; "{column}, which becomes another"),
+    }
+}
+
+fn guessed(alloc: Global, format: Format, file: &[u8]) -> Result<String, AllocError> {
+    let dtype = match format.guess(alloc, file) {
+        Ok(dtype) => Box::new(alloc, dtype)?,
+        Err(refusal) => return format!(in alloc; "{refusal}"),
+    };
+    match format.read(alloc, &dtype, file) {
+        Ok(_) => format!(in alloc; "{dtype}"),
+        Err(refusal) => format!(in alloc; "{dtype}, and then {refusal}"),
+    }
+}
+
+fn written(
+    alloc: Global,
+    format: Format,
+    dtype: &DType,
+    lines: &[u8],
+) -> Result<String, AllocError> {
+    let column = match Format::Json.read(alloc, dtype, lines) {
+        Ok(column) => Box::new(alloc, column)?,
+        Err(refusal) => return format!(in alloc; "no rows: {refusal}"),
+    };
+    file_text(alloc, format.write(alloc, &column))
+}
+
+fn twice(alloc: Global, format: Format, dtype: &DType, lines: &[u8]) -> Result<String, AllocError> {
+    let column = match Format::Json.read(alloc, dtype, lines) {
+        Ok(column) => Box::new(alloc, column)?,
+        Err(refusal) => return format!(in alloc; "no rows: {refusal}"),
+    };
+    file_text(
+        alloc,
+        match format {
+            Format::Json => json_twice(alloc, &column),
+            Format::Csv => csv_twice(alloc, &column),
+        },
+    )
+}
+
+fn json_twice(alloc: Global, column: &Column) -> Result<Vec<u8>, WriteError> {
+    let mut file = Vec::new(alloc);
+    write_json_lines(alloc, column, &mut file)?;
+    write_json_lines(alloc, column, &mut file)?;
+    Ok(file)
+}
+
+fn csv_twice(alloc: Global, column: &Column) -> Result<Vec<u8>, WriteError> {
+    let mut file = Vec::new(alloc);
+    let mut writer = CsvWriter::new(alloc, column.dtype(), &mut file)?;
+    writer.write(column)?;
+    writer.write(column)?;
+    writer.finish()?;
+    Ok(file)
+}
+
+fn file_text(alloc: Global, file: Result<Vec<u8>, WriteError>) -> Result<String, AllocError> {
+    match file {
+        Ok(file) => match String::from_utf8(file) {
+            Ok(text) => Ok(text),
+            Err(_) => String::from_str(alloc, "no text"),
+        },
+        Err(refusal) => format!(in alloc; "{refusal}"),
+    }
+}

@@ -1,0 +1,117 @@
+// Values by chance.
+use crate::numbers::Numbers;
+use std::alloc::{AllocError, Global};
+use vx_types::{DType, PType, StructFields, Value};
+
+const TEXTS: [&str; 16] = [
+    "",
+    "a",
+    "x,y",
+    "say \"it\"",
+    "\"",
+    "two\nlines",
+    "\r",
+    "\r\n",
+    " ",
+    "é",
+    "null",
+    "true",
+    "0x",
+    "\u{0}",
+    "\\",
+    "\u{1f600}",
+];
+
+/// A value of the type, which has at most so many types inside one another.
+#[cycle(value)]
+pub fn value(
+    room: usize,
+    alloc: Global,
+    dtype: &DType,
+    numbers: &mut Numbers,
+) -> Result<Value, AllocError> {
+    if room == 0 || (dtype.is_nullable() && numbers.below(4) == 0) {
+        return Ok(Value::Null);
+    }
+    match dtype {
+        DType::List(element, _) => {
+            let count = numbers.below(4);
+            items(room - 1, alloc, element.as_ref(), count, numbers)
+        }
+        DType::FixedSizeList(element, size, _) => {
+            items(room - 1, alloc, element.as_ref(), u64::from(*size), numbers)
+        }
+        DType::Struct(fields, _) => values(room - 1, alloc, fields, numbers),
+        _ => flat_value(alloc, dtype, numbers),
+    }
+}
+
+#[cycle(value)]
+fn items(
+    room: usize,
+    alloc: Global,
+    element: &DType,
+    count: u64,
+    numbers: &mut Numbers,
+) -> Result<Value, AllocError> {
+    let mut items = Vec::new(alloc);
+    for _ in 0..count {
+        items.push(value(room, alloc, element, numbers)?)?;
+    }
+    Ok(Value::List(items))
+}
+
+#[cycle(value)]
+fn values(
+    room: usize,
+    alloc: Global,
+    fields: &StructFields,
+    numbers: &mut Numbers,
+) -> Result<Value, AllocError> {
+    let mut values = Vec::new(alloc);
+    for dtype in fields.types() {
+        values.push(value(room, alloc, dtype, numbers)?)?;
+    }
+    Ok(Value::Struct(values))
+}
+
+fn flat_value(alloc: Global, dtype: &DType, numbers: &mut Numbers) -> Result<Value, AllocError> {
+    match dtype {
+        DType::Bool(_) => Ok(Value::Bool(numbers.below(2) == 0)),
+        DType::Primitive(ptype, _) => Ok(Value::Int(number(*ptype, numbers))),
+        DType::Utf8(_) => Ok(Value::Utf8(String::from_str(alloc, numbers.pick(&TEXTS))?)),
+        _ => Ok(Value::Binary(numbers.pick(&TEXTS).as_bytes().to_vec(alloc)?)),
+    }
+}
+
+// The least or the greatest number of the type, or a small one.
+fn number(ptype: PType, numbers: &mut Numbers) -> i128 {
+    match numbers.below(4) {
+        0 => least(ptype),
+        1 => greatest(ptype),
+        _ => i128::from(numbers.below(128)),
+    }
+}
+
+fn least(ptype: PType) -> i128 {
+    match ptype {
+        PType::U8 | PType::U16 | PType::U32 | PType::U64 => 0,
+        PType::I8 => i128::from(i8::MIN),
+        PType::I16 => i128::from(i16::MIN),
+        PType::I32 => i128::from(i32::MIN),
+        PType::I64 => i128::from(i64::MIN),
+    }
+}
+
+fn greatest(ptype: PType) -> i128 {
+    match ptype {
+        PType::U8 => i128::from(u8::MAX),
+        PType::U16 => i128::from(u16::MAX),
+        PType::U32 => i128::from(u32::MAX),
+        PType::U64 => i128::from(u64::MAX),
+        PType::I8 => i128::from(i8::MAX),
+        PType::I16 => i128::from(i16::MAX),
+        PType::I32 => i128::from(i32::MAX),
+        PType::I64 => i128::from(i64::MAX),
+    }
+}

@@ -1,0 +1,5 @@
+mod Keeping
+mod Meaning
+mod Going
+mod Stopping
+mod Written

@@ -1,0 +1,11 @@
+-- The records read so far lead from the start to here.
+use Rattle.std.proofs.Common.{◌≡◌, ◌-◌, ◌≤◌, length, map}
+use Rattle.vx_records.specs.Reading.{Reads}
+use Rattle.vx_records.specs.Records.{record_of}
+use Rattle.vx_records.proofs.read.read_chunk.Given as goal
+
+abbrev pub invariant-loop-alloc : goal.invariant-loop-alloc
+invariant-loop-alloc g l = (length l.read.items ≤ l.count) × Reads (g.R.RecordReader.leaves l.fn.records) (g.R.RecordReader.leaves l.records) (map record_of l.read.items) × (g.R.RecordReader.scope l.records ≡ g.R.RecordReader.scope l.fn.records)
+
+abbrev pub decreases-loop-alloc : goal.decreases-loop-alloc
+decreases-loop-alloc g l = l.count - length l.read.items

@@ -1,0 +1,11 @@
+-- The bytes before `written` were appended.
+use Rattle.std.proofs.Common.{◌-◌, ◌≤◌, length, take}
+use Rattle.std.specs.Io.KnownBytes.{Appends}
+use Rattle.vx_records.proofs.writing.write_bytes.Given as goal
+
+abbrev pub invariant-loop-written : goal.invariant-loop-written
+invariant-loop-written g l =
+    (l.written ≤ length l.fn.bytes) × Appends (g.W.Write.contents l.fn.out) (g.W.Write.contents l.out) (take l.written l.fn.bytes)
+
+abbrev pub decreases-loop-written : goal.decreases-loop-written
+decreases-loop-written g l = length l.fn.bytes - l.written

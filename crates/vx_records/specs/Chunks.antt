@@ -1,0 +1,74 @@
+-- Records that were read together. No public contract names this file.
+use Rattle.std.specs.Prelude.{◌≡◌, ◌<◌, ◌++◌, ℕ, List, [], zero, suc, ◌∷◌, map, length, Bool, nat_lt, Option, Some, None, MatchOption, get_or, if◌then◌else◌}
+use Rattle.std.specs.Global.{Vec}
+use Rattle.vx_value.specs.Types.{LogicalType, Datum, null}
+use Rattle.vx_value.specs.Views.{value_of}
+use Rattle.vx_value.specs.declared.value.Value.{Value}
+use Rattle.vx_fn.specs.Values.{is_true}
+use Rattle.vx_tree.specs.Trees.{Tree}
+use Rattle.vx_records.specs.Reading.{Reads, ReadsUpTo}
+use Rattle.vx_records.specs.Records.{Record, record_of, texts, meanings}
+use Rattle.vx_records.specs.declared.read.Chunk.{Chunk}
+use Rattle.vx_records.specs.declared.answers.Answers.{Answers}
+use Rattle.vx_data_record.specs.declared.error.DataError.{DataError}
+use Rattle.vx_places.specs.Faults.{IsFirstFault}
+use Rattle.vx_tree.specs.Trees.{BoundTree}
+use Rattle.vx_records.specs.Outcomes.{IsFaultOn}
+use Rattle.vx_records.specs.declared.error.RecordsError.{RecordsError}
+use Rattle.vx_records.specs.declared.error.RecordsError.TheVariants.{Fault, Write}
+
+-- the texts in vectors
+abbrev pub texts_in : List (Vec ℕ) → List (List ℕ)
+texts_in ts = map (λ t. t.items) ts
+
+-- these are the next records: n of them, or fewer up to the end or to what stopped reading
+abbrev pub AreNext : {R : Type 0} → (R → List Record → Type 0) → ℕ → R → R → Option DataError → List Record → Type 0
+AreNext {R = R} leaves n before after stop rs = MatchOption stop (ReadsUpTo n (leaves before) (leaves after) rs) (λ _. (mid : R) × Reads (leaves before) (leaves mid) rs)
+
+-- the chunk is of the next records
+abbrev pub IsChunk : {R : Type 0} → (R → List Record → Type 0) → ℕ → R → R → Chunk → Type 0
+IsChunk leaves n before after c = AreNext leaves n before after c.stop (map record_of c.records.items)
+
+-- the answers are the texts of the next records, and what the expression means at them
+abbrev pub AreAnswers : {R : Type 0} → (R → List Record → Type 0) → ℕ → Tree → LogicalType → R → R → Answers → Type 0
+AreAnswers leaves n e s before after a = (rs : List Record) × AreNext leaves n before after a.stop rs × (texts_in a.texts.items ≡ texts rs) × (a.values.rows ≡ meanings e s rs)
+
+-- the values in a slice
+abbrev pub values_in : List Value → List Datum
+values_in vs = map value_of vs
+
+-- m records were read, fewer than the n that were asked for only if they are the last; nothing stopped reading
+abbrev pub IsLast : Option DataError → ℕ → ℕ → Bool → Type 0
+IsLast None m n last = last ≡ nat_lt m n
+IsLast (Some stop) m n last = ⊥
+
+-- up to n records were read, the last of all where there were fewer, and what is said of them was written
+abbrev pub IsStep : {R : Type 0} → (R → List Record → Type 0) → ℕ → R → R → Bool → (List Record → Type 0) → Type 0
+IsStep leaves n before after last Wrote = (rs : List Record) × ReadsUpTo n (leaves before) (leaves after) rs × (last ≡ nat_lt (length rs) n) × Wrote rs
+
+-- the text on a line, where the value is true
+abbrev pub line_if_true : Datum → List ℕ → List ℕ
+line_if_true v s = if is_true v then s ++ 10 ∷ [] else []
+
+-- of the first n texts those beside which stands true, each on a line
+abbrev pub true_lines : List (List ℕ) → List Datum → ℕ → List ℕ
+true_lines ts vs zero = []
+true_lines ts vs (suc n) = true_lines ts vs n ++ line_if_true (get_or vs n null) (get_or ts n [])
+
+-- the error is neither a fault of the tree's nor of writing
+abbrev pub IsNoFault : RecordsError → Type 0
+IsNoFault (Fault f) = ⊥
+IsNoFault (Write e) = ⊥
+IsNoFault _ = Unit {0}
+
+-- the error is none of writing, and where it is the tree's, its first fault on the rows
+abbrev pub IsFaultOver : BoundTree → List Datum → RecordsError → Type 0
+IsFaultOver b vs (Fault f) = IsFirstFault vs b f.path.items f.refusal
+IsFaultOver b vs (Write e) = ⊥
+IsFaultOver b vs _ = Unit {0}
+
+-- the error is no fault of writing, and where it is the tree's, it is the first on the next records
+abbrev pub IsFaultThere : {R : Type 0} → (R → List Record → Type 0) → BoundTree → R → RecordsError → Type 0
+IsFaultThere {R = R} leaves b before (Fault f) = (mid : R) × (rs : List Record) × Reads (leaves before) (leaves mid) rs × IsFaultOn b rs f
+IsFaultThere leaves b before (Write e) = ⊥
+IsFaultThere leaves b before _ = Unit {0}

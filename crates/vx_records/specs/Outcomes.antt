@@ -1,0 +1,35 @@
+-- How going over records ends.
+use Rattle.std.specs.Prelude.{◌≡◌, ◌<◌, ◌++◌, ℕ, List, length, take, Option, Some, None, ⊤}
+use Rattle.std.specs.Io.KnownBytes.{Appends}
+use Rattle.vx_value.specs.Types.{Datum}
+use Rattle.vx_tree.specs.Trees.{BoundTree}
+use Rattle.vx_places.specs.Faults.{IsFirstFault}
+use Rattle.vx_records.specs.Reading.{Reads, ReadsUpTo}
+use Rattle.vx_records.specs.Records.{Record, rows}
+use Rattle.vx_records.specs.declared.error.RecordFault.{RecordFault}
+use Rattle.vx_records.specs.declared.error.RecordsError.{RecordsError}
+use Rattle.vx_records.specs.declared.error.RecordsError.TheVariants.{OutOfMemory, Data, Fault, Write}
+
+-- known rows grow by these
+abbrev pub Gains : Option (List Datum) → Option (List Datum) → List Datum → Type 0
+Gains None new vs = ⊤
+Gains (Some us) None vs = ⊥
+Gains (Some us) (Some ws) vs = ws ≡ us ++ vs
+
+-- a beginning of the bytes, and not the whole of them, was written
+abbrev pub Breaks : Option (List ℕ) → Option (List ℕ) → List ℕ → Type 0
+Breaks old new bytes = (n : ℕ) × (n < length bytes) × Appends old new (take n bytes)
+
+-- the first n records were read, or all where there are fewer, and what is said of them was written
+abbrev pub Ends : {R : Type 0} → (R → List Record → Type 0) → ℕ → R → R → (List Record → Type 0) → Type 0
+Ends leaves n before after Wrote = (rs : List Record) × ReadsUpTo n (leaves before) (leaves after) rs × Wrote rs
+
+-- the fault is the first of the tree on the records
+abbrev pub IsFaultOn : BoundTree → List Record → RecordFault → Type 0
+IsFaultOn b rs f = IsFirstFault (rows rs) b f.path.items f.refusal
+
+-- where the writer failed, writing broke off; where the tree faults, it does on the records read together behind those that were written; else reading stopped behind them, or memory ran out
+abbrev pub Stops : {R : Type 0} → (R → List Record → Type 0) → BoundTree → R → RecordsError → (List Record → Type 0) → (List Record → Type 0) → Type 0
+Stops {R = R} leaves b before (Fault f) Wrote Broke = (mid : R) × (done rs : List Record) × Reads (leaves before) (leaves mid) (done ++ rs) × Wrote done × IsFaultOn b rs f
+Stops {R = R} leaves b before (Write e) Wrote Broke = (mid : R) × (rs : List Record) × Reads (leaves before) (leaves mid) rs × Broke rs
+Stops {R = R} leaves b before _ Wrote Broke = (mid : R) × (rs : List Record) × Reads (leaves before) (leaves mid) rs × Wrote rs

@@ -1,0 +1,128 @@
+// What an expression means at records that are read together.
+ghost use Rattle.std.specs.Prelude.{◌≡◌, IfOk, IfErr, length, map};
+ghost use Rattle.vx_tree.specs.Trees.{WellTyped, Over, unbound};
+ghost use Rattle.vx_tree.specs.Meaning.{mean};
+ghost use Rattle.vx_tree.specs.Views.{bound_of};
+ghost use Rattle.vx_value.specs.Columns.{batch};
+ghost use Rattle.vx_value.specs.Views.{type_of, value_of};
+ghost use Rattle.vx_records.specs.Chunks.{AreAnswers, IsFaultThere, IsFaultOver, IsLast, IsNoFault};
+
+use crate::read::{Chunk, Parts, parts_of, read_chunk};
+use crate::{RecordFault, RecordReader, RecordsError};
+use std::alloc::Global;
+use vx_data::{DataError, Expected, Fault};
+use vx_eval::apply_bound;
+use vx_places::first_fault_at;
+use vx_tree::BoundExpression;
+use vx_types::{Column, DType, Value, VortexError};
+
+/// Records that were read together, what an expression means at them, and what stopped reading, if
+/// something did.
+#[derive(Drop)]
+pub(crate) struct Answers {
+    pub(crate) texts: Vec<Vec<u8>>,
+    pub(crate) values: Column,
+    pub(crate) stop: Option<DataError>,
+}
+
+/// Reads up to so many records, and says what the tree means at them.
+pub(crate) fn next_answers<R: RecordReader>(
+    alloc: Global,
+    tree: &BoundExpression,
+    count: usize,
+    records: &mut R,
+) -> Result<Box<Answers>, RecordsError>
+    requires typed { WellTyped (bound_of tree.now) }
+    requires over { Over (bound_of tree.now) (R.scope records.old) }
+    ensures read { IfOk result (λ a. AreAnswers R.leaves count (unbound (bound_of tree.now)) (R.scope records.old) records.old records.new a.value) }
+    ensures scope { R.scope records.new ≡ R.scope records.old }
+    ensures fault { IfErr result (λ e. IsFaultThere R.leaves (bound_of tree.now) records.old e) }
+{
+    let Chunk {
+        records: read,
+        stop,
+    } = read_chunk(alloc, count, records)?;
+    let Parts { texts, rows, lines } = parts_of(alloc, read)?;
+    let batch = batch_of(alloc, records.dtype(), rows, lines.as_slice())?;
+    match values_of(alloc, tree, &batch, lines.as_slice()) {
+        Ok(values) => {
+            let answers = Answers {
+                texts,
+                values,
+                stop,
+            };
+            Ok(Box::new(alloc, answers)?)
+        }
+        Err(e) => Err(e),
+    }
+}
+
+// The rows as a column. Refuses the first that isn't of the type, with its line.
+fn batch_of(
+    alloc: Global,
+    dtype: &DType,
+    rows: Vec<Value>,
+    lines: &[u64],
+) -> Result<Box<Column>, RecordsError>
+    ensures ok { IfOk result (λ c. c.value ≡ batch (type_of dtype.now) (map value_of rows.items)) }
+    ensures err { IfErr result (λ e. IsNoFault e) }
+{
+    match Column::try_new(dtype.clone()?, rows) {
+        Ok(batch) => Ok(Box::new(alloc, batch)?),
+        Err(VortexError::RowMisfit { row }) => {
+            let fault = Fault::new(alloc, Expected::Value(dtype.clone()?));
+            let line = lines.get(row).copied().unwrap_or(0);
+            Err(RecordsError::from(fault.on_line(alloc, line)))
+        }
+        Err(_) => Err(RecordsError::OutOfMemory),
+    }
+}
+
+// What the tree means at each row of the batch. Refuses its first fault, with the line of the row.
+fn values_of(
+    alloc: Global,
+    tree: &BoundExpression,
+    batch: &Column,
+    lines: &[u64],
+) -> Result<Column, RecordsError>
+    requires typed { WellTyped (bound_of tree.now) }
+    requires over { Over (bound_of tree.now) batch.now.type }
+    ensures ok { IfOk result (λ c. c.rows ≡ map (mean (unbound (bound_of tree.now)) batch.now.type) batch.now.rows) }
+    ensures err { IfErr result (λ e. IsFaultOver (bound_of tree.now) batch.now.rows e) }
+{
+    match apply_bound(alloc, batch, tree) {
+        Ok(values) => Ok(values),
+        Err(_) => Err(first_fault(alloc, tree, batch, lines)),
+    }
+}
+
+// The first fault of the tree on the batch, unless memory runs out.
+fn first_fault(alloc: Global, tree: &BoundExpression, batch: &Column, lines: &[u64]) -> RecordsError
+    requires typed { WellTyped (bound_of tree.now) }
+    ensures { IsFaultOver (bound_of tree.now) batch.now.rows result }
+{
+    match first_fault_at(alloc, tree, batch) {
+        Ok(Some(place)) => {
+            let line = place.row().and_then(|row| lines.get(row).copied());
+            RecordsError::Fault(RecordFault {
+                line,
+                path: place.path,
+                refusal: place.refusal,
+            })
+        }
+        _ => RecordsError::OutOfMemory,
+    }
+}
+
+/// Whether the records that were read are the last, where so many were asked for. Refuses with what
+/// stopped reading, if something did.
+pub(crate) fn ended(answers: Box<Answers>, count: usize) -> Result<bool, RecordsError>
+    ensures ok { IfOk result (λ last. IsLast answers.value.stop (length answers.value.texts.items) count last) }
+    ensures err { IfErr result (λ e. IsNoFault e) }
+{
+    let Answers { texts, stop, .. } = Box::into_inner(answers);
+    match stop {
+        Some(stop) => Err(RecordsError::from(stop)),
+        None => Ok(texts.len() < count),
+    }
+}

@@ -1,0 +1,111 @@
+// The records of which an expression is true.
+ghost use Rattle.std.specs.Prelude.{◌≡◌, ◌++◌, ◌≤◌, IfOk, IfErr, OnOk, OnErr, [], length};
+ghost use Rattle.std.specs.Io.KnownBytes.{Appends};
+ghost use Rattle.vx_tree.specs.Trees.{WellTyped, Over, unbound};
+ghost use Rattle.vx_tree.specs.Views.{bound_of};
+ghost use Rattle.vx_records.specs.Chunks.{IsStep, line_if_true, true_lines, texts_in, values_in};
+ghost use Rattle.vx_value.specs.Views.{value_of};
+ghost use Rattle.vx_records.specs.Outcomes.{Breaks, Ends, Stops};
+ghost use Rattle.vx_records.specs.Records.{kept_lines};
+
+use crate::answers::{ended, next_answers};
+use crate::writing::write_bytes;
+use crate::{CHUNK, RecordReader, RecordsError};
+use std::alloc::{AllocError, Global};
+use std::io::Write;
+use vx_data::WriteError;
+use vx_tree::BoundExpression;
+use vx_types::Value;
+
+/// Reads the first `limit` records, or all where there are fewer, and writes the heading and the
+/// records of which the tree is true, each as it stands and on a line of its own. A record at which
+/// the tree means null or false, or no truth value, isn't written. Asks a well-typed tree over the
+/// type of the rows.
+///
+/// Records are read and written so many at a time, so that the cost is linear in what is read, and
+/// in memory are at most 4,096 of them. Stops with `Data` at the first record that isn't read, with
+/// `Fault` at the first of the tree's faults on records that are read together, with `Write` where
+/// the writer fails, and with `OutOfMemory`; what stands before those records is written.
+pub fn filter_records<R: RecordReader, W: Write>(
+    alloc: Global,
+    tree: &BoundExpression,
+    limit: u64,
+    records: &mut R,
+    out: &mut W,
+) -> Result<(), RecordsError>
+    requires typed { WellTyped (bound_of tree.now) }
+    requires over { Over (bound_of tree.now) (R.scope records.old) }
+    ensures kept { OnOk result (Ends R.leaves limit records.old records.new
+        (λ rs. Appends (W.contents out.old) (W.contents out.new) (R.head records.old ++ kept_lines (unbound (bound_of tree.now)) (R.scope records.old) rs))) }
+    ensures stopped { IfErr result (λ e. Stops R.leaves (bound_of tree.now) records.old e
+        (λ rs. Appends (W.contents out.old) (W.contents out.new) (R.head records.old ++ kept_lines (unbound (bound_of tree.now)) (R.scope records.old) rs))
+        (λ rs. Breaks (W.contents out.old) (W.contents out.new) (R.head records.old ++ kept_lines (unbound (bound_of tree.now)) (R.scope records.old) rs))) }
+{
+    if let Err(e) = write_bytes(out, records.heading()) {
+        return Err(RecordsError::Write(WriteError::Write(e)));
+    }
+    let mut left = limit;
+    while left > 0 {
+        let count = left.min(CHUNK);
+        match filter_some(alloc, tree, count as usize, records, out) {
+            Ok(true) => return Ok(()),
+            Ok(false) => left -= count,
+            Err(e) => return Err(e),
+        }
+    }
+    Ok(())
+}
+
+// The same of so many records and without a heading. Tells whether they were the last.
+fn filter_some<R: RecordReader, W: Write>(
+    alloc: Global,
+    tree: &BoundExpression,
+    count: usize,
+    records: &mut R,
+    out: &mut W,
+) -> Result<bool, RecordsError>
+    requires typed { WellTyped (bound_of tree.now) }
+    requires over { Over (bound_of tree.now) (R.scope records.old) }
+    ensures step { IfOk result (λ last. IsStep R.leaves count records.old records.new last
+        (λ rs. Appends (W.contents out.old) (W.contents out.new) (kept_lines (unbound (bound_of tree.now)) (R.scope records.old) rs))) }
+    ensures stopped { IfErr result (λ e. Stops R.leaves (bound_of tree.now) records.old e
+        (λ rs. Appends (W.contents out.old) (W.contents out.new) (kept_lines (unbound (bound_of tree.now)) (R.scope records.old) rs))
+        (λ rs. Breaks (W.contents out.old) (W.contents out.new) (kept_lines (unbound (bound_of tree.now)) (R.scope records.old) rs))) }
+    ensures scope { R.scope records.new ≡ R.scope records.old }
+{
+    let answers = match next_answers(alloc, tree, count, records) {
+        Ok(answers) => answers,
+        Err(e) => return Err(e),
+    };
+    let lines = match lines_of(alloc, answers.texts.as_slice(), answers.values.rows()) {
+        Ok(lines) => lines,
+        Err(_) => return Err(RecordsError::OutOfMemory),
+    };
+    if let Err(e) = write_bytes(out, lines.as_slice()) {
+        return Err(RecordsError::Write(WriteError::Write(e)));
+    }
+    ended(answers, count)
+}
+
+// The texts beside which stands true, each on a line.
+fn lines_of(alloc: Global, texts: &[Vec<u8>], values: &[Value]) -> Result<Vec<u8>, AllocError>
+    requires { length texts.now ≤ length values.now }
+    ensures { IfOk result (λ lines. lines.items ≡ true_lines (texts_in texts.now) (values_in values.now) (length texts.now)) }
+{
+    let mut lines = Vec::new(alloc);
+    for i in 0..texts.len() {
+        push_if_true(texts[i].as_slice(), &values[i], &mut lines)?;
+    }
+    Ok(lines)
+}
+
+// Adds the text on a line, where the value is true.
+fn push_if_true(text: &[u8], value: &Value, lines: &mut Vec<u8>) -> Result<(), AllocError>
+    ensures { OnOk result (lines.new.items ≡ lines.old.items ++ line_if_true (value_of value.now) text.now) }
+{
+    if let Value::Bool(true) = value {
+        lines.extend_from_slice(text)?;
+        lines.push(b'\n')?;
+    }
+    Ok(())
+}

@@ -1,0 +1,22 @@
+// Files of records, what an expression means at each of them, and the records of which it is true.
+#![tactic(auto)]
+
+mod answers;
+mod csv_records;
+mod error;
+mod evaluated;
+mod filtered;
+mod json_records;
+mod read;
+mod record;
+mod writing;
+
+pub use csv_records::CsvRows;
+pub use error::{RecordFault, RecordsError};
+pub use evaluated::{RowWriter, evaluate_records};
+pub use filtered::filter_records;
+pub use json_records::JsonRecords;
+pub use record::{Record, RecordReader};
+
+// So many records are read together at most.
+const CHUNK: u64 = 4_096;
