@@ -122,7 +122,7 @@ impl Display for FaultText<'_> {
 fn help_for(refusal: &VortexError) -> Option<&'static str> {
     match refusal {
         VortexError::AddOverflow { .. } => Some(
-            "add numbers of a wider type, as in x::i64 + y::i64",
+            "say a wider type in the schema, as i64, and write numbers of it, as 5i64",
         ),
         VortexError::CastNull { .. } => Some("fill the nulls before, as in coalesce(x, 0)"),
         _ => None,
