@@ -47,6 +47,12 @@ fn answer(rt: &HostRuntime) -> Result<ExitCode> {
 // Runs the command of the words.
 fn asked(rt: &HostRuntime, matches: &ArgMatches<'_>) -> Result<Status> {
     match matches.subcommand() {
+        Some((_, matches)) if asks_input_twice(matches) => {
+            rt.eprintln(format_args!(
+                "error: standard input is read once, and two words ask for it: name a file instead"
+            ))?;
+            Ok(Status::Wrong)
+        }
         Some(("eval", matches)) => {
             let work = RowsWork::Evaluate(output_of(matches));
             over_records(rt, work, u64::MAX, matches)
@@ -58,6 +64,13 @@ fn asked(rt: &HostRuntime, matches: &ArgMatches<'_>) -> Result<Status> {
         Some((name, matches)) => over_texts(rt, name, matches),
         None => Ok(Status::Wrong),
     }
+}
+
+// Whether more than one word asks for standard input.
+fn asks_input_twice(matches: &ArgMatches<'_>) -> bool {
+    let words = ["expression", "schema", "data"];
+    let inputs = words.iter().filter(|id| matches.get_str(id) == Some("-"));
+    inputs.count() > 1
 }
 
 // Runs the command of that name, which reads no records.

@@ -1,0 +1,5 @@
+// Tests of the commands that go over records, on records in memory.
+#![tactic(auto)]
+
+#[cfg(test)]
+mod runs;
