@@ -69,7 +69,11 @@ fn explain<'a>(alloc: Global) -> Result<Command<'a>, AllocError> {
         .about("Prints what becomes of the expression")
         .after_help(EXPLAIN)
         .arg(expression(alloc))?
-        .arg(schema(alloc).required_unless_present("data")?)?;
+        .arg(
+            schema(alloc)
+                .required(false)
+                .required_unless_present("data")?,
+        )?;
     over_records(alloc, command, data(alloc))
 }
 
