@@ -4,9 +4,10 @@
 #
 # A stored run is what a terminal shows of it: `$ ` and the command, as the shell takes it, and then
 # what it writes on standard output. Where its status isn't 0 or something is on standard error, the
-# line `? STATUS` follows, and what is on standard error. It runs in a copy of runs/data, and its
-# standard input is empty where the command says nothing else. Prints how a run differs, and at the
-# end a count; the status is 1 where one differs.
+# line `? STATUS` follows, and what is on standard error. It runs in a copy of runs/data, beside
+# 100,000 records of the same kind in many.csv and many.jsonl, and its standard input is empty where
+# the command says nothing else. Prints how a run differs, and at the end a count; the status is 1
+# where one differs.
 set -eu
 cd "$(dirname "$0")/.."
 program=$(realpath "${1:-crates/vx/out/vx}")
@@ -15,6 +16,8 @@ trap 'rm -r "$room"' EXIT
 mkdir "$room/bin"
 ln -s "$program" "$room/bin/vx"
 cp -R runs/data "$room/data"
+tools/records.sh 100000 csv >"$room/data/many.csv"
+tools/records.sh 100000 jsonl >"$room/data/many.jsonl"
 runs=0
 failed=0
 

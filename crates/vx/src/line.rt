@@ -73,7 +73,9 @@ const DOT: &str = "Example:
 
 // The command that says what becomes of an expression.
 fn explain<'a>(alloc: Global) -> Result<Command<'a>, AllocError> {
-    let schema = schema(alloc).required_unless_present("data")?;
+    let schema = schema(alloc)
+        .required(false)
+        .required_unless_present("data")?;
     let command = Command::new(alloc, "explain")
         .about("Prints what becomes of the expression")
         .after_help(EXPLAIN);
