@@ -2,7 +2,7 @@
 use crate::blocks::{DTYPE, HEADER, RECORDS, csv_file, json_file};
 use crate::repeated::Repeated;
 use std::alloc::Global;
-use std::io::{Chain, Read};
+use std::io::{BufRead, Chain, Read};
 use std::test::Fail;
 use vx_data::{CsvParser, CsvRecords, DataError, JsonLines, JsonParser};
 use vx_source_dtype::parse_type;
@@ -93,7 +93,7 @@ fn records_take_no_more_memory(rt: HostRuntime) -> Result<(), Fail> {
 }
 
 // Reads so many lines, or as many as there are, and tells how many.
-fn count_lines(lines: &mut JsonLines<Repeated>, most: u64) -> Result<u64, DataError> {
+fn count_lines<R: BufRead + Drop>(lines: &mut JsonLines<R>, most: u64) -> Result<u64, DataError> {
     for i in 0..most {
         if !lines.read_record()? {
             return Ok(i);

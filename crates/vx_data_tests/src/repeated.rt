@@ -1,6 +1,6 @@
 // Readers of more bytes than there are in memory.
 use std::io;
-use std::io::{BufRead, Read};
+use std::io::Read;
 
 /// A block of bytes that is read so many times.
 #[derive(Drop)]
@@ -23,24 +23,13 @@ impl Repeated {
 
 impl Read for Repeated {
     fn read(&mut self, buf: &mut [u8]) -> io::Result<usize> {
-        let mut bytes = self.fill_buf()?;
-        let count = bytes.read(buf)?;
-        self.consume(count);
-        Ok(count)
-    }
-}
-
-impl BufRead for Repeated {
-    fn fill_buf(&mut self) -> io::Result<&[u8]> {
         if self.at >= self.block.len() && self.left > 0 {
             self.left -= 1;
             self.at = 0;
         }
-        let at = self.at.min(self.block.len());
-        Ok(&self.block[at..])
-    }
-
-    fn consume(&mut self, amount: usize) {
-        self.at = self.at.saturating_add(amount);
+        let mut bytes = self.block.get(self.at..).unwrap_or(&[]);
+        let count = bytes.read(buf)?;
+        self.at = self.at.saturating_add(count);
+        Ok(count)
     }
 }
