@@ -33,15 +33,31 @@ pub fn over_records(
         Ok(schema) => schema,
         Err(status) => return Ok(status),
     };
-    let command = RowsCommand {
-        work,
-        expression: expression.input(),
-        schema: schema.input(),
-        data: if data == "-" { "standard input" } else { data },
-        format,
-        limit: matches.get_one("limit").unwrap_or(limit),
-    };
+    let name = if data == "-" { "standard input" } else { data };
+    let limit = matches.get_one("limit").unwrap_or(limit);
+    let command = command_over(work, &expression, &schema, name, format, limit);
     run_over(rt, &command, data)
+}
+
+// The command that does that work on the first records of the file of that name.
+fn command_over<'a>(
+    work: RowsWork,
+    expression: &'a Text,
+    schema: &'a Text,
+    data: &'a str,
+    format: DataFormat,
+    limit: u64,
+) -> RowsCommand<'a> {
+    let expression = expression.input();
+    let schema = schema.input();
+    RowsCommand {
+        work,
+        expression,
+        schema,
+        data,
+        format,
+        limit,
+    }
 }
 
 // Runs the command over that file.
