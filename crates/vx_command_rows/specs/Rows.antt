@@ -1,9 +1,9 @@
 -- What the commands that go over records write, and what stops them.
-use Rattle.std.specs.Prelude.{◌≡◌, ◌++◌, ℕ, List, Bool, Option, Ok, Err}
+use Rattle.std.specs.Prelude.{◌≡◌, ◌++◌, ℕ, List, Bool, Option, Ok}
 use Rattle.std.specs.Io.KnownBytes.{Appends, Keeps}
 use Rattle.vx_value.specs.Types.{LogicalType, Datum, ty, atomic, truth}
 use Rattle.vx_value.specs.Views.{type_of}
-use Rattle.vx_tree.specs.Trees.{Tree, BoundTree, typed, unbound}
+use Rattle.vx_tree.specs.Trees.{Tree, BoundTree, Over, WellTyped, typed, unbound}
 use Rattle.vx_command_pages.specs.declared.complaint.Complaint.TheVariants.{OutOfMemory}
 use Rattle.vx_command_pages.specs.declared.complaint.Status.{Status}
 use Rattle.vx_command_pages.specs.declared.complaint.Status.TheVariants.{Failed, Wrong}
@@ -20,6 +20,10 @@ use Rattle.vx_command_rows.specs.declared.complaint.RowsComplaint.TheVariants.{Q
 abbrev pub IsCondition : Tree → LogicalType → Type 0
 IsCondition e s = (n : Bool) × (typed e s ≡ Ok (ty (atomic truth) n))
 
+-- the bound tree is the expression, well typed over the scope's type s
+abbrev pub IsBoundTo : Tree → LogicalType → BoundTree → Type 0
+IsBoundTo e s b = (unbound b ≡ e) × WellTyped b × Over b s
+
 -- the complaint is that the expression is of that type, or want of memory
 abbrev pub IsNotBool : LogicalType → RowsComplaint → Type 0
 IsNotBool t (NotBool u) = type_of u ≡ t
@@ -34,7 +38,7 @@ IsKept leaves s head e n before after out out' = IsCondition e s × Ends leaves 
 abbrev pub IsKeptUntil : {R : Type 0} → (R → List Record → Type 0) → LogicalType → List ℕ → Tree → RowsComplaint → R → Option (List ℕ) → Option (List ℕ) → Type 0
 IsKeptUntil leaves s head e (Query c) before out out' = IsRefusal e s c × Keeps out out'
 IsKeptUntil leaves s head e (NotBool t) before out out' = (typed e s ≡ Ok (type_of t)) × Keeps out out'
-IsKeptUntil leaves s head e (Records error span) before out out' = (b : BoundTree) × (unbound b ≡ e) × Stops leaves b before error
+IsKeptUntil leaves s head e (Records error span) before out out' = (b : BoundTree) × IsBoundTo e s b × IsCondition e s × Stops leaves b before error
     (λ rs. Appends out out' (head ++ kept_lines e s rs)) (λ rs. Breaks out out' (head ++ kept_lines e s rs))
 
 -- what the expression means at the first n records, or at all where there are fewer, was written in order
@@ -45,7 +49,7 @@ IsMeant leaves s e n before after out out' = Ends leaves n before after (λ rs. 
 abbrev pub IsMeantUntil : {R : Type 0} → (R → List Record → Type 0) → LogicalType → Tree → RowsComplaint → R → Option (List Datum) → Option (List Datum) → Type 0
 IsMeantUntil leaves s e (Query c) before out out' = IsRefusal e s c × (out' ≡ out)
 IsMeantUntil leaves s e (NotBool t) before out out' = ⊥
-IsMeantUntil leaves s e (Records error span) before out out' = (b : BoundTree) × (unbound b ≡ e) × Stops leaves b before error
+IsMeantUntil leaves s e (Records error span) before out out' = (b : BoundTree) × IsBoundTo e s b × Stops leaves b before error
     (λ rs. Gains out out' (meanings e s rs)) (λ rs. Unit {0})
 
 -- how a command ends that stops with the complaint

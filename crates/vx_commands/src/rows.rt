@@ -1,4 +1,5 @@
 // A run of the program over the records of a file.
+use crate::run::tell_message;
 use std::alloc::Global;
 use std::io::{BufRead, Write};
 use vx_command_pages::{Complaint, Input, Status, read_expression, read_schema};
@@ -9,7 +10,6 @@ use vx_command_rows::{
 };
 use vx_data::WriteError;
 use vx_records::{CsvRows, JsonRecords, RecordReader};
-use vx_run::tell;
 use vx_source::{Placed, TypeText};
 use vx_types::DType;
 
@@ -62,7 +62,7 @@ pub fn run_rows<D: BufRead + Drop, W: Write, E: Write>(
                 schema: command.schema,
                 data: command.data,
             };
-            complain(alloc, message, err)
+            tell_message(alloc, &message, complaint.status(), err)
         }
     }
 }
@@ -86,20 +86,8 @@ pub fn infer_schema<D: BufRead + Drop, E: Write>(
                 schema: nothing,
                 data,
             };
-            Err(complain(alloc, message, err))
+            Err(tell_message(alloc, &message, complaint.status(), err))
         }
-    }
-}
-
-// Writes the complaint as a message.
-fn complain<E: Write>(alloc: Global, message: RowsMessage<'_>, err: &mut E) -> Status {
-    let told = match format!(in alloc; "{message}\n") {
-        Ok(message) => tell(err, message.as_str(), 0),
-        Err(_) => tell(err, "error: out of memory\n", 1),
-    };
-    match told {
-        0 => message.complaint.status(),
-        _ => Status::Failed,
     }
 }
 

@@ -1,8 +1,11 @@
 // A run of the program.
+ghost use Rattle.std.specs.Prelude.{◌≡◌, ◌⊎◌};
+ghost use Rattle.vx_command_pages.specs.declared.complaint.Status.TheVariants.{Failed};
 ghost use Rattle.vx_commands.specs.Commands.{Ends, EndsAtPage, EndsAtComplaint};
 
 use crate::{Command, page_of};
 use std::alloc::Global;
+use std::fmt::Display;
 use std::io::Write;
 use vx_command_pages::{Complaint, Status};
 use vx_run::tell;
@@ -44,12 +47,25 @@ fn complain<E: Write>(
 ) -> Status
     ensures { EndsAtComplaint complaint.now result }
 {
-    let told = match format!(in alloc; "{}\n", command.message(complaint)) {
-        Ok(message) => tell(err, message.as_str(), 0),
+    tell_message(alloc, &command.message(complaint), complaint.status(), err)
+}
+
+/// Writes the message, and the end of its line. The status is the one that is wanted, or `Failed` where
+/// the writer or memory fails.
+pub(crate) fn tell_message<M: Display, E: Write>(
+    alloc: Global,
+    message: &M,
+    wanted: Status,
+    err: &mut E,
+) -> Status
+    ensures { (result ≡ wanted) ⊎ (result ≡ Failed) }
+{
+    let told = match format!(in alloc; "{message}\n") {
+        Ok(text) => tell(err, text.as_str(), 0),
         Err(_) => tell(err, "error: out of memory\n", 1),
     };
     match told {
-        0 => complaint.status(),
+        0 => wanted,
         _ => Status::Failed,
     }
 }
