@@ -1,0 +1,53 @@
+-- Bounds of what functions give of values within bounds.
+use Rattle.std.specs.Prelude.{Bool, true, false, ◌&&◌, ◌||◌, not, List, [], ◌∷◌, Option, Some, None, ◌+ℤ◌, if◌then◌else◌}
+use Rattle.vx_value.specs.Fits.{fits}
+use Rattle.vx_value.specs.Types.{LogicalType, Datum, null, int}
+use Rattle.vx_prune_bounds.specs.Bounds.{Bounds, bounds, nothing, exactly, of_both, join}
+use Rattle.vx_prune_bounds.specs.Truths.{Truths, truths, truths_in, may_fail}
+
+-- the value, if it is one of the type
+abbrev pub of_type : LogicalType → Datum → Option Datum
+of_type t v = if fits v t then Some v else None
+
+-- the sum, if it is a number of the type
+abbrev pub sum_end : LogicalType → Datum → Datum → Option Datum
+sum_end t (int i) (int j) = of_type t (int (i +ℤ j))
+sum_end t _ _ = None
+
+-- bounds of the sum of two numbers, of that type: an end that the type doesn't have says nothing
+abbrev pub sum_bounds : LogicalType → Bounds → Bounds → Bounds
+sum_bounds t x y = bounds (x.null || y.null) (x.value && y.value) (of_both (sum_end t) x.least y.least) (of_both (sum_end t) x.greatest y.greatest)
+
+-- these bounds where that may be, else what no value is within
+abbrev pub only_if : Bool → Bounds → Bounds
+only_if b x = if b then x else nothing
+
+-- the same bounds, without null
+abbrev pub not_null : Bounds → Bounds
+not_null x = bounds false x.value x.least x.greatest
+
+-- bounds of a value, or of its fill where it is null
+abbrev pub fill_bounds : Bounds → Bounds → Bounds
+fill_bounds x fill = join (not_null x) (only_if x.null fill)
+
+-- bounds of the first where the mask is true, and else of the second
+abbrev pub choice_bounds : Truths → Bounds → Bounds → Bounds
+choice_bounds mask x y = join (only_if mask.yes x) (only_if (may_fail mask) y)
+
+-- bounds of the value where the mask is true, and else of null
+abbrev pub mask_bounds : Bounds → Truths → Bounds
+mask_bounds x mask = choice_bounds mask x (exactly null)
+
+-- bounds of a CASE of conditions and values in turn: of the value beside the first condition that is true, where one may be, else of ELSE, else null
+abbrev pub case_bounds : List Bounds → Bounds
+case_bounds [] = exactly null
+case_bounds (e ∷ []) = e
+case_bounds (c ∷ v ∷ rest) = choice_bounds (truths_in c) v (case_bounds rest)
+
+-- whether it is null
+abbrev pub null_truths : Bounds → Truths
+null_truths x = truths false x.value x.null
+
+-- bounds of a struct that is null where its only child is
+abbrev pub shaped_as : Bounds → Bounds
+shaped_as x = bounds x.null x.value None None

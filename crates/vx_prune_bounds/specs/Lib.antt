@@ -1,0 +1,5 @@
+pub mod Order
+pub mod Bounds
+pub mod Truths
+pub mod Comparing
+pub mod Kernels

@@ -1,0 +1,2 @@
+// Pruning.
+#![tactic(auto)]
