@@ -35,7 +35,7 @@ Without --schema the type of the records is that of the first 1,000 of them.
 
 Examples:
   vx check 'x >= 1 and x <= 5' --schema '{x=i32}'
-  vx filter 'price > 100i64 and city = \"Oslo\"' --data orders.csv";
+  vx filter 'cents > 5000i64 and ship.country = \"GB\"' --data orders.csv";
 
 const CHECK: &str = "Example:
   vx check 'x >= 1 and x <= 5' --schema '{x=i32}'
@@ -83,12 +83,12 @@ fn explain<'a>(alloc: Global) -> Result<Command<'a>, AllocError> {
 }
 
 const EVALUATE: &str = "Example:
-  vx eval 'price + 1i64' --data orders.csv --limit 10
+  vx eval 'cents + 100i64' --data orders.csv --limit 10
 prints a line of JSON for each of the first 10 records";
 
 const FILTER: &str = "Example:
-  vx filter 'price > 100i64' --data orders.csv > dear.csv
-writes the header, and each record with a price above 100 as it stands";
+  vx filter 'cents > 5000i64' --data orders.csv > dear.csv
+writes the header, and each record with more than 5000 cents as it stands";
 
 // The command that prints what an expression means.
 fn evaluate<'a>(alloc: Global) -> Result<Command<'a>, AllocError> {

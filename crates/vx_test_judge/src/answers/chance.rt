@@ -1,20 +1,17 @@
 // Trees made by chance, written and read, evaluated as they are, as queries and by scans: the rows
 // stay. And texts made by chance.
-mod grammar;
-mod maker;
 mod parts;
-mod seeds;
 mod texts;
 
 use crate::answers::scans::scan_column;
 use crate::answers::source_texts::read_otherwise;
-use maker::Maker;
 use std::alloc::Global;
 pub use texts::texts_by_chance;
 use vx_eval::apply_bound;
 use vx_query::run_query;
 use vx_rewrite::Pass;
 use vx_scan::plan;
+use vx_test_chance::Maker;
 use vx_test_samples::{Unread, boxed, column};
 use vx_tree::{Column, Expression, VortexError, VortexResult};
 

@@ -1,11 +1,10 @@
 // Texts made by chance: each gets an answer, and what is read is written and read again as the same.
-use super::maker::Maker;
 use super::parts::{PARTS, TEXTS};
 use super::seed_and_count;
-use super::seeds::Seeds;
 use crate::answers::source_texts::read_otherwise;
 use std::alloc::{AllocError, Global};
 use vx_source::{ParseError, parse};
+use vx_test_chance::{Maker, Seeds};
 use vx_test_samples::Unread;
 use vx_tree::VortexError;
 

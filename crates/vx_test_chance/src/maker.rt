@@ -1,6 +1,6 @@
 // Trees made by chance, as source texts, from the trees below them.
-use super::grammar::{KINDS, Kind, OF_ANY_KIND};
-use super::seeds::Seeds;
+use crate::grammar::{KINDS, Kind, OF_ANY_KIND};
+use crate::seeds::Seeds;
 use std::alloc::{AllocError, Global};
 use vx_test_samples::parted;
 
