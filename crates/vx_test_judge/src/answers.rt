@@ -9,6 +9,7 @@ mod matches;
 mod pairs;
 mod partitions;
 mod paths;
+pub mod pruned;
 mod queries;
 mod scans;
 mod source_texts;

@@ -24,6 +24,7 @@ pub enum SourceKind {
     PlannedPaths,
     PlannedSplit,
     Scan,
+    Selected,
 }
 
 /// Kinds of lines that ask of a source that is bound to the scope.
@@ -56,6 +57,7 @@ pub enum BoundKind {
     SplitRows,
     Replaced,
     ReplacedRows,
+    Pruned,
 }
 
 /// Kinds of lines that ask of a tree by something else.
@@ -92,6 +94,7 @@ pub enum WordsKind {
     PathSet,
     Read,
     Reader,
+    StatisticsOf,
     FirstMatch,
     Collected(CollectKind),
     ByChance,
@@ -151,6 +154,7 @@ fn of_source(name: &str) -> Option<SourceKind> {
         "planned paths" => SourceKind::PlannedPaths,
         "planned split" => SourceKind::PlannedSplit,
         "scan" => SourceKind::Scan,
+        "selected" => SourceKind::Selected,
         _ => return None,
     })
 }
@@ -184,6 +188,7 @@ fn of_bound(name: &str) -> Option<BoundKind> {
         "split rows" => BoundKind::SplitRows,
         "replaced" => BoundKind::Replaced,
         "replaced rows" => BoundKind::ReplacedRows,
+        "pruned" => BoundKind::Pruned,
         _ => return None,
     })
 }
@@ -222,6 +227,7 @@ fn of_words(name: &str) -> Option<WordsKind> {
         "path set" => WordsKind::PathSet,
         "read" => WordsKind::Read,
         "reader" => WordsKind::Reader,
+        "statistics of" => WordsKind::StatisticsOf,
         "first match" => WordsKind::FirstMatch,
         "collected" => WordsKind::Collected(CollectKind::Text),
         "collected bound" => WordsKind::Collected(CollectKind::Bound),

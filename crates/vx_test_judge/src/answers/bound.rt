@@ -2,6 +2,7 @@
 ghost use Rattle.vx_tree.specs.Trees.{WellTyped};
 ghost use Rattle.vx_tree.specs.Views.{bound_of};
 
+use crate::answers::pruned::pruned;
 use crate::answers::{analyses, partitions};
 use crate::kind::BoundKind;
 use crate::scene::Scene;
@@ -49,6 +50,7 @@ pub fn answer(alloc: Global, kind: BoundKind, scene: &Scene, tree: &str) -> Resu
         | BoundKind::SplitRows
         | BoundKind::Replaced
         | BoundKind::ReplacedRows => partitions::answer(alloc, kind, scene, &source, &bound),
+        BoundKind::Pruned => pruned(alloc, scene, &bound),
     };
     told_text(alloc, answer)
 }

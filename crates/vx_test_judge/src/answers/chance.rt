@@ -1,17 +1,20 @@
 // Trees made by chance, written and read, evaluated as they are, as queries and by scans: the rows
-// stay. And texts made by chance.
+// stay, and are what statistics tell of them. And texts made by chance.
+mod loosened;
 mod parts;
 mod texts;
 
+use crate::answers::pruned::is_told_true;
 use crate::answers::scans::scan_column;
 use crate::answers::source_texts::read_otherwise;
+use loosened::loosened;
 use std::alloc::Global;
 pub use texts::texts_by_chance;
 use vx_eval::apply_bound;
 use vx_query::run_query;
 use vx_rewrite::Pass;
 use vx_scan::plan;
-use vx_test_chance::Maker;
+use vx_test_chance::{Maker, Seeds};
 use vx_test_samples::{Unread, boxed, column};
 use vx_tree::{Column, Expression, VortexError, VortexResult};
 
@@ -28,6 +31,7 @@ pub fn by_chance(alloc: Global, words: &str) -> Result<String, Unread> {
     let (seed, count) = seed_and_count(words)?;
     let batch = Box::new(alloc, column(alloc, SCOPE, ROWS)?)?;
     let mut maker = Maker::new(alloc, seed);
+    let mut seeds = Seeds::new(seed);
     let mut without_fault: usize = 0;
     let mut shortest = None;
     for _ in 0..count {
@@ -36,7 +40,7 @@ pub fn by_chance(alloc: Global, words: &str) -> Result<String, Unread> {
         if let Some(other) = read_otherwise(alloc, &tree)? {
             return Ok(other);
         }
-        match agrees(alloc, &tree, &batch)? {
+        match agrees(alloc, &tree, &batch, &mut seeds)? {
             Some(true) => without_fault = without_fault.saturating_add(1),
             Some(false) => {}
             None => shortest = Some(shorter(shortest, text)),
@@ -67,8 +71,14 @@ fn shorter(earlier: Option<String>, text: String) -> String {
     }
 }
 
-// Whether the source faults nowhere on the batch; None where a query or a scan answers otherwise.
-fn agrees(alloc: Global, source: &Expression, batch: &Column) -> VortexResult<Option<bool>> {
+// Whether the source faults nowhere on the batch; None where a query or a scan answers otherwise, or
+// statistics of the batch, loosened by chance, tell of a row what isn't so.
+fn agrees(
+    alloc: Global,
+    source: &Expression,
+    batch: &Column,
+    seeds: &mut Seeds,
+) -> VortexResult<Option<bool>> {
     let bound = Box::new(alloc, source.bind(alloc, batch.dtype())?)?;
     let plain = apply_bound(alloc, batch, &bound);
     let all = [
@@ -95,7 +105,11 @@ fn agrees(alloc: Global, source: &Expression, batch: &Column) -> VortexResult<Op
     if !is_allowed(&plain, &scan_column(alloc, &plan, batch)) {
         return Ok(None);
     }
-    Ok(Some(plain.is_ok()))
+    let stats = loosened(alloc, batch, seeds)?;
+    Ok(match &plain {
+        Ok(values) if !is_told_true(&bound, &stats, values.rows()) => None,
+        _ => Some(plain.is_ok()),
+    })
 }
 
 // Whether the answer may stand beside that of plain evaluation: the same rows, or where that faults,

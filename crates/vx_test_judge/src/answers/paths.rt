@@ -8,15 +8,16 @@ use vx_types::{Field, FieldPath, FieldPathSet};
 pub fn shown_paths(alloc: Global, set: &FieldPathSet) -> VortexResult<String> {
     let mut text = String::new(alloc);
     for path in set.iter() {
+        if !text.is_empty() {
+            text.push(' ')?;
+        }
         push_path(&mut text, path)?;
     }
     Ok(text)
 }
 
-fn push_path(text: &mut String, path: &FieldPath) -> VortexResult<()> {
-    if !text.is_empty() {
-        text.push(' ')?;
-    }
+/// Adds the path: `$.a.x`, the root path as `$`.
+pub fn push_path(text: &mut String, path: &FieldPath) -> VortexResult<()> {
     text.push('$')?;
     for Field::Name(name) in path.parts() {
         text.push('.')?;
@@ -43,8 +44,8 @@ pub fn paths_of(alloc: Global, words: &str) -> VortexResult<Vec<FieldPath>> {
     Ok(paths)
 }
 
-// `a.x`, or `$`.
-fn path(alloc: Global, text: &str) -> VortexResult<FieldPath> {
+/// The path of the word: `a.x`, or `$`.
+pub fn path(alloc: Global, text: &str) -> VortexResult<FieldPath> {
     let mut path = FieldPath::root(alloc)?;
     if text == "$" {
         return Ok(path);

@@ -100,8 +100,8 @@ pub fn scan_column(alloc: Global, plan: &ScanPlan, column: &Column) -> VortexRes
     scan(alloc, &reader, plan)
 }
 
-// A reader of the column that allows the plan's paths, and none where it is of another type.
-fn reader(alloc: Global, plan: &ScanPlan, column: &Column) -> VortexResult<ColumnReader>
+/// A reader of the column that allows the plan's paths, and none where it is of another type.
+pub fn reader(alloc: Global, plan: &ScanPlan, column: &Column) -> VortexResult<ColumnReader>
     ensures { IfOk result (λ r. r.column.type ≡ type_of plan.now.scope → r.allowed ≡ plan.now.paths) }
 {
     let column = column.clone()?;
@@ -136,8 +136,8 @@ fn through_reader(alloc: Global, batch: &Column, paths: &Vec<FieldPath>) -> Vort
     reader.read(alloc, &set_of(alloc, paths)?)
 }
 
-// The paths as a set.
-fn set_of(alloc: Global, paths: &Vec<FieldPath>) -> VortexResult<FieldPathSet>
+/// The paths as a set.
+pub fn set_of(alloc: Global, paths: &Vec<FieldPath>) -> VortexResult<FieldPathSet>
     ensures { IfOk result (λ set. set ≡ add_paths [] paths.now.items) }
 {
     let mut set = FieldPathSet::new(alloc);

@@ -1,5 +1,6 @@
 // Answers that are of a source: its texts, its type, and how it is built.
 use crate::answers::built::{built, built_bound};
+use crate::answers::pruned::selected;
 use crate::answers::queries::any_query;
 use crate::answers::scans::planned;
 use crate::kind::SourceKind;
@@ -31,6 +32,7 @@ pub fn answer(
         | SourceKind::PlannedPaths
         | SourceKind::PlannedSplit
         | SourceKind::Scan => planned(alloc, kind, scene, &source)?,
+        SourceKind::Selected => told(alloc, selected(alloc, scene, &source))?,
     })
 }
 

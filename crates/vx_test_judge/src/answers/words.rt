@@ -4,6 +4,7 @@ use crate::answers::chance::{by_chance, texts_by_chance};
 use crate::answers::functions::{child_names, kept, node_type, shown_function, swapped};
 use crate::answers::matches::{like, matched};
 use crate::answers::paths::path_set;
+use crate::answers::pruned::statistics_of;
 use crate::answers::scans::{read, read_through};
 use crate::answers::source_texts::{parsed, parsed_scalar, parsed_type};
 use crate::answers::sources::peeled_text;
@@ -40,6 +41,7 @@ pub fn answer(
         (WordsKind::PathSet, [groups]) => path_set(alloc, groups),
         (WordsKind::Read, [paths]) => Ok(read(alloc, scene, paths)?),
         (WordsKind::Reader, [paths]) => Ok(read_through(alloc, scene, paths)?),
+        (WordsKind::StatisticsOf, [paths]) => Ok(statistics_of(alloc, scene, paths)?),
         (WordsKind::FirstMatch, [kind, conditions, chosen, otherwise]) => {
             matched(alloc, kind, conditions, chosen, otherwise)
         }
