@@ -17,7 +17,10 @@ pub fn record_type(alloc: Global, places: &[Place<'_>]) -> VortexResult<DType> {
     }
     let fields = struct_type(alloc, names, types, Nullability::Nullable)?;
     let names = names_of(alloc, &["rows", "fields"])?;
-    let types = vec![in alloc; DType::Primitive(PType::U64, Nullability::NonNullable), fields]?;
+    let types = vec![in alloc;
+        DType::Primitive(PType::U64, Nullability::NonNullable),
+        fields,
+    ]?;
     struct_type(alloc, names, types, Nullability::NonNullable)
 }
 

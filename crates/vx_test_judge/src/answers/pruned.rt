@@ -127,7 +127,11 @@ pub fn selected(alloc: Global, scene: &Scene, source: &Expression) -> VortexResu
     let plan = Box::new(alloc, plan(alloc, source, &scene.scope)?)?;
     let mut rows = String::new(alloc);
     for batch in scene.batches.iter() {
-        push_rows(alloc, &mut rows, selection(alloc, &plan, batch, &scene.statistics))?;
+        push_rows(
+            alloc,
+            &mut rows,
+            selection(alloc, &plan, batch, &scene.statistics),
+        )?;
     }
     Ok(rows)
 }

@@ -31,7 +31,11 @@ fn loosened_field(known: &FieldStats, seeds: &mut Seeds) -> VortexResult<FieldSt
 }
 
 // A number may be moved outwards; another end stays, or is left out.
-fn loosened_end(end: &Option<Value>, seeds: &mut Seeds, outwards: i128) -> VortexResult<Option<Value>> {
+fn loosened_end(
+    end: &Option<Value>,
+    seeds: &mut Seeds,
+    outwards: i128,
+) -> VortexResult<Option<Value>> {
     let moved = seeds.below(4) as i128;
     Ok(match end {
         _ if moved == 3 => None,
