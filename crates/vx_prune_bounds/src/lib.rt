@@ -1,10 +1,16 @@
-// What is known of a value, for pruning.
+// What is known of a value, for pruning: its order, bounds, and what functions give of values
+// within bounds.
 #![tactic(auto)]
 
 mod bounds;
+mod comparing;
 mod endpoint;
+mod joins;
+mod kernels;
 mod truths;
 
 pub use bounds::Bounds;
+pub use comparing::{between_truths, comparison_truths};
 pub use endpoint::Endpoint;
+pub use kernels::{choice_bounds, fill_bounds, mask_bounds, sum_bounds};
 pub use truths::Truths;
