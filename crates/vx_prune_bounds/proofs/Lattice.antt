@@ -162,6 +162,12 @@ within-join-right a b c e =
       ends = λ h. ends-joined-right b.value c.value a.greatest b.greatest c.greatest (w.value h) (w.ends h);
     })
 
+pub join-around-left : (a b : Bounds) → IsProper a → IsWithin a (join a b)
+join-around-left a b p = within-join-left a a b (within-refl a p)
+
+pub join-around-right : (a b : Bounds) → IsProper b → IsWithin b (join a b)
+join-around-right a b p = within-join-right b a b (within-refl b p)
+
 pub join-within : (a b c : Bounds) → IsWithin a c → IsWithin b c → IsWithin (join a b) c
 join-within a b c e f =
     let w = within a c e in
