@@ -1,20 +1,20 @@
 -- Bounds of operands that say more give bounds that say more.
-use Rattle.std.proofs.Common.{◌≡◌, refl, sym, ap, ◌∙◌, Bool, true, false, ◌&&◌, ◌||◌, not, List, [], ◌∷◌, arith}
+use Rattle.std.proofs.Common.{◌≡◌, refl, Bool, true, false, ◌&&◌, ◌||◌, not, List, arith}
 use Rattle.std.specs.Prelude.{ℤ, ◌+ℤ◌, ◌≤ℤ◌, Option, Some, None, if◌then◌else◌}
 use Rattle.std.specs.Int.{saturate_to_bits}
 use Rattle.std.proofs.lemmas.Bool.{and_parts, and_from, or_left, or_right}
 use Rattle.std.proofs.lemmas.Int.{ints}
 use Rattle.vx_dtype.specs.Lists.{Beside, none_beside, more_beside}
-use Rattle.vx_value.specs.Types.{Datum, null, bool, int, utf8, bytes, list_of, struct_of}
+use Rattle.vx_value.specs.Types.{Datum, null, bool, int}
 use Rattle.vx_fn.specs.Functions.{Operation, compares, and_also, or_else, adds, Comparison, equal, not_equal, greater, greater_or_equal, less, less_or_equal}
 use Rattle.vx_fn.specs.Values.{bound_comparison}
 use Rattle.vx_prune_bounds.specs.Order.{at_most, below}
-use Rattle.vx_prune_bounds.specs.Bounds.{Bounds, bounds, nothing, exactly, Contains, starts_within, ends_within, IsWithin, of_both, join, is_interval, IsProper}
-use Rattle.vx_prune_bounds.specs.Truths.{Truths, truths, may_be, MayBe, AreWithin, truths_in, truth_bounds, not_truths, and_truths, or_truths, may_fail}
+use Rattle.vx_prune_bounds.specs.Bounds.{Bounds, exactly, starts_within, ends_within, IsWithin, of_both, is_interval, IsProper}
+use Rattle.vx_prune_bounds.specs.Truths.{Truths, MayBe, AreWithin, truths_in, truth_bounds, not_truths, and_truths, or_truths, may_fail}
 use Rattle.vx_prune_bounds.specs.Comparing.{both_known, all_at_most, all_below, surely, opposite, comparison_truths, operation_truths, between_truths}
 use Rattle.vx_prune_bounds.specs.Kernels.{sum_end, sum_bounds, only_if, not_null, fill_bounds, choice_bounds, mask_bounds, case_bounds, null_truths, shaped_as}
 use Rattle.vx_prune_bounds.proofs.Ordered.{at_most-trans, below-wider}
-use Rattle.vx_prune_bounds.proofs.Contained.{at_either, implied, implies, Within, within, from_within, contains-wider, within-refl, nothing-within, nothing-proper, exactly-proper}
+use Rattle.vx_prune_bounds.proofs.Contained.{at_either, implied, implies, within, from_within, contains-wider, within-refl, nothing-within, nothing-proper, exactly-proper}
 use Rattle.vx_prune_bounds.proofs.Lattice.{join-mono, join-proper}
 use Rattle.vx_prune_bounds.proofs.Sounds.{May, may_null, may_no, may_yes, may}
 use Rattle.vx_prune_bounds.proofs.Sums.{le_from, from_le, saturated-mono}
@@ -107,8 +107,8 @@ and-mono s s' t t' e d =
     let g = fewer t t' d in
     from_fewer (and_truths s t) (and_truths s' t') (record {
       null = λ h. at_either (s.null && (t.null || t.yes)) (t.null && s.yes) h
-        (λ k. let p = and_parts _ _ k in or_left _ _ (and_from _ _ (f.null p.0) (at_either t.null t.yes p.1 (λ n. or_left _ _ (g.null n)) (λ y. or_right _ _ (g.yes y)))))
-        (λ k. let p = and_parts _ _ k in or_right _ _ (and_from _ _ (g.null p.0) (f.yes p.1)));
+          (λ k. let p = and_parts _ _ k in or_left _ _ (and_from _ _ (f.null p.0) (at_either t.null t.yes p.1 (λ n. or_left _ _ (g.null n)) (λ y. or_right _ _ (g.yes y)))))
+          (λ k. let p = and_parts _ _ k in or_right _ _ (and_from _ _ (g.null p.0) (f.yes p.1)));
       no = λ h. at_either s.no t.no h (λ k. or_left _ _ (f.no k)) (λ k. or_right _ _ (g.no k));
       yes = λ h. let p = and_parts _ _ h in and_from _ _ (f.yes p.0) (g.yes p.1);
     })

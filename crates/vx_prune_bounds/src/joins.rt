@@ -106,10 +106,7 @@ fn may_meet(x: &Bounds, y: &Bounds) -> bool
     ensures { let a = bounds_view x.now in let b = bounds_view y.now in
         result ≡ (a.value && (b.value && (are_comparable a.least b.least && are_comparable a.greatest b.greatest))) }
 {
-    x.value
-        && y.value
-        && are_comparable(x.least, y.least)
-        && are_comparable(x.greatest, y.greatest)
+    x.value && y.value && are_comparable(x.least, y.least) && are_comparable(x.greatest, y.greatest)
 }
 
 // Whether the two can be compared, where they are known.
