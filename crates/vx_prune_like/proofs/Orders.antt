@@ -6,7 +6,7 @@ use Rattle.std.specs.Ordering.{ordering_then}
 use Rattle.std.proofs.lemmas.Bool.{and_from, eq-eqb}
 use Rattle.std.proofs.lemmas.Bool.Decides.{nat_tests}
 use Rattle.std.proofs.lemmas.Cmp.{ranked, by_ranked, tied_itself, nat_cmp_total}
-use Rattle.vx_prune_text.specs.Beginnings.{beginning_cmp}
+use Rattle.vx_prune_like.specs.Beginnings.{beginning_cmp}
 
 -- of two lists of which the one is at most the other, their first numbers, and what is left of them
 heads : (x y : ℕ) (xs ys : List ℕ) → is_le (slice_cmp nat_cmp (x ∷ xs) (y ∷ ys)) ≡ true → (x < y) ⊎ ((x ≡ y) × (is_le (slice_cmp nat_cmp xs ys) ≡ true))

@@ -9,9 +9,9 @@ use Rattle.vx_fn.specs.Values.{parts, is_like, flipped, liked}
 use Rattle.vx_prune_bounds.specs.Bounds.{Bounds, Contains}
 use Rattle.vx_prune_bounds.specs.Truths.{truths, MayBe}
 use Rattle.vx_prune_bounds.proofs.Contained.{Inside, inside}
-use Rattle.vx_prune_text.specs.Beginnings.{fixed_characters, beginning, none_like, only_text, surely_unlike, flipped_truths, like_truths}
-use Rattle.vx_prune_text.proofs.Fixed.{matches-begins}
-use Rattle.vx_prune_text.proofs.Texts.{BeginsOtherwise, rest-begins, before-otherwise, past-otherwise, only-value}
+use Rattle.vx_prune_like.specs.Beginnings.{fixed_characters, beginning, none_like, only_text, surely_unlike, flipped_truths, like_truths}
+use Rattle.vx_prune_like.proofs.Fixed.{matches-begins}
+use Rattle.vx_prune_like.proofs.Texts.{BeginsOtherwise, rest-begins, before-otherwise, past-otherwise, only-value}
 
 -- ---- texts that are like the pattern
 

@@ -1,7 +1,7 @@
 use Rattle.std.proofs.Common.{◌≡◌, false, length}
 use Rattle.vx_fn.specs.Values.{parts}
-use Rattle.vx_prune_text.specs.Beginnings.{fixed_characters, beginning, beginning_cmp}
-use Rattle.vx_prune_text.proofs.beginning.compare_beginning.Given as goal
+use Rattle.vx_prune_like.specs.Beginnings.{fixed_characters, beginning, beginning_cmp}
+use Rattle.vx_prune_like.proofs.beginning.compare_beginning.Given as goal
 
 abbrev pub invariant-loop-byte : goal.invariant-loop-byte
 invariant-loop-byte l = beginning_cmp (fixed_characters (parts false l.wanted)) l.found ≡ beginning_cmp (beginning false l.fn.pattern) l.fn.text

@@ -12,9 +12,9 @@ use Rattle.vx_value.specs.Types.{Datum, null, bool, int, utf8, bytes, list_of, s
 use Rattle.vx_prune_bounds.specs.Order.{at_most, below}
 use Rattle.vx_prune_bounds.specs.Bounds.{is_from, is_up_to, starts_within, ends_within, is_interval}
 use Rattle.vx_prune_bounds.proofs.Ordered.{at_most-left, at_most-right, at_most-trans, at_most-antisym, above_one, below-wider}
-use Rattle.vx_prune_text.specs.Beginnings.{beginning, beginning_cmp, begins, is_past, is_before, text_between}
-use Rattle.vx_prune_text.proofs.Bytes.{beginning-IsUtf8}
-use Rattle.vx_prune_text.proofs.Orders.{between_begins, le-append, beginning_cmp-gt, beginning_cmp-lt}
+use Rattle.vx_prune_like.specs.Beginnings.{beginning, beginning_cmp, begins, is_past, is_before, text_between}
+use Rattle.vx_prune_like.proofs.Bytes.{beginning-IsUtf8}
+use Rattle.vx_prune_like.proofs.Orders.{between_begins, le-append, beginning_cmp-gt, beginning_cmp-lt}
 
 -- a text that begins with these bytes is those and more
 pub begins-rest : (q t : List ℕ) → starts_with nat_eq t q ≡ true → t ≡ q ++ drop (length q) t

@@ -2,7 +2,7 @@
 use Rattle.std.proofs.Common.{◌≡◌, ℕ, true, List, [], ◌∷◌, ◌++◌, ◌∙◌, refl, ap, eqb-true}
 use Rattle.std.proofs.lemmas.Bool.{and_parts}
 use Rattle.vx_fn.specs.Values.{Part, any_text, any_one, just, matches}
-use Rattle.vx_prune_text.specs.Beginnings.{fixed_characters}
+use Rattle.vx_prune_like.specs.Beginnings.{fixed_characters}
 
 -- what is fixed of the parts, and more
 abbrev pub Begins : List Part → List ℕ → Type 0

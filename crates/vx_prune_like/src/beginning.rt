@@ -2,7 +2,7 @@
 ghost use Rattle.std.specs.Prelude.{◌≡◌, ◌∷◌, ◌<◌, [], false, length, Some, IfSome, MatchOption};
 ghost use Rattle.vx_value.specs.Types.{utf8};
 ghost use Rattle.vx_fn.specs.Values.{parts};
-ghost use Rattle.vx_prune_text.specs.Beginnings.{fixed_characters, beginning, beginning_cmp, is_before, is_past};
+ghost use Rattle.vx_prune_like.specs.Beginnings.{fixed_characters, beginning, beginning_cmp, is_before, is_past};
 
 use std::cmp::Ordering;
 

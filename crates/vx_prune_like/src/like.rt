@@ -1,7 +1,7 @@
 // What LIKE may give of texts between a least and a greatest one.
 ghost use Rattle.std.specs.Prelude.{◌≡◌, false, option_map};
 ghost use Rattle.vx_prune_bounds.specs.Views.{endpoint_value, bounds_view};
-ghost use Rattle.vx_prune_text.specs.Beginnings.{beginning, is_before, is_past, none_like, only_text, surely_unlike, like_truths};
+ghost use Rattle.vx_prune_like.specs.Beginnings.{beginning, is_before, is_past, none_like, only_text, surely_unlike, like_truths};
 
 use crate::beginning::{is_before_beginning, is_past_beginning};
 use vx_prune_bounds::{Bounds, Endpoint, Truths};

@@ -5,7 +5,7 @@ use Rattle.std.proofs.lemmas.Str.{encode_ascii, inside_one, encodes-chars, scala
 use Rattle.std.specs.Str.{all_scalars}
 use Rattle.std.proofs.lemmas.Grind.{common_steps}
 use Rattle.vx_fn.specs.Values.{parts}
-use Rattle.vx_prune_text.specs.Beginnings.{fixed_characters, beginning}
+use Rattle.vx_prune_like.specs.Beginnings.{fixed_characters, beginning}
 
 -- no byte is ASCII
 abbrev Highs : List ℕ → Type 0

@@ -1,8 +1,8 @@
 -- The bytes of the pattern tell its beginning.
 use Rattle.std.proofs.Common.{ap}
-use Rattle.vx_prune_text.specs.Beginnings.{beginning_cmp}
-use Rattle.vx_prune_text.proofs.Bytes.{beginning-bytes}
-use Rattle.vx_prune_text.proofs.beginning.compare_beginning.Goals as goal
+use Rattle.vx_prune_like.specs.Beginnings.{beginning_cmp}
+use Rattle.vx_prune_like.proofs.Bytes.{beginning-bytes}
+use Rattle.vx_prune_like.proofs.beginning.compare_beginning.Goals as goal
 
 pub loop-byte-init : goal.loop-byte-init
 loop-byte-init c =
