@@ -7,6 +7,7 @@ mod comparing;
 mod endpoint;
 mod joins;
 mod kernels;
+mod shown;
 mod laws;
 mod truths;
 
