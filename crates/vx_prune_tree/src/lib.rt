@@ -1,0 +1,2 @@
+// Bounds of trees.
+#![tactic(auto)]
