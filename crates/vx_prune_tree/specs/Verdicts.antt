@@ -1,19 +1,19 @@
 -- Whether a predicate is true in no row of a chunk, in every row, or that isn't known.
-use Rattle.std.specs.Prelude.{◌≡◌, ◌≢◌, ◌==◌, Bool, true, false, not, List, if◌then◌else◌}
+use Rattle.std.specs.Prelude.{◌≡◌, ◌≢◌, ◌==◌, true, false, not, List, if◌then◌else◌}
 use Rattle.vx_value.specs.Fits.{IsBatch}
-use Rattle.vx_value.specs.Types.{LogicalType, Datum, bool}
-use Rattle.vx_fn.specs.Functions.{truth_type}
+use Rattle.vx_value.specs.Types.{LogicalType, Datum}
 use Rattle.vx_fn.specs.Values.{is_true}
 use Rattle.vx_tree.specs.Faults.{HasNoFault}
 use Rattle.vx_tree.specs.Meaning.{mean}
-use Rattle.vx_tree.specs.Trees.{BoundTree, unbound, node_type, WellTyped, Over}
+use Rattle.vx_tree.specs.Trees.{BoundTree, unbound, Over}
 use Rattle.vx_dtype.specs.Lists.{IsIn}
 use Rattle.vx_prune_bounds.specs.Bounds.{Contains, IsWithin}
 use Rattle.vx_prune_bounds.specs.Truths.{Truths, truths_in, may_fail}
-use Rattle.vx_prune_stats.specs.Stats.{Facts, Describes, KnowsMore}
+use Rattle.vx_prune_stats.specs.Knowing.{KnowsMore}
+use Rattle.vx_prune_stats.specs.Stats.{Facts, Describes}
 use Rattle.vx_prune_tree.specs.Bounding.{bounds_in}
-use Rattle.vx_prune_tree.specs.declared.verdict.Verdict.{Verdict}
-use Rattle.vx_prune_tree.specs.declared.verdict.Verdict.TheVariants.{NoRow, EveryRow, Unknown}
+use Rattle.vx_prune_tree.specs.declared.verdicts.Verdict.{Verdict}
+use Rattle.vx_prune_tree.specs.declared.verdicts.Verdict.TheVariants.{NoRow, EveryRow, Unknown}
 
 -- no row where it can't be true, else every row where it can't be anything else
 abbrev pub verdict_of : Truths → Verdict
@@ -39,7 +39,7 @@ IsTrueVerdict b s rows Unknown = Unit {0}
 
 -- a verdict is so of each batch that the statistics describe
 abbrev pub VerdictHolds : Facts → BoundTree → Verdict → Type 0
-VerdictHolds facts b v = OnDescribed facts b (λ s rows. IsTrueVerdict b s rows v)
+VerdictHolds facts b verdict = OnDescribed facts b (λ s rows. IsTrueVerdict b s rows verdict)
 
 -- the second verdict is as sure as the first: where the first knows something so does the second, and no row stays no row
 abbrev pub IsAsSure : Verdict → Verdict → Type 0

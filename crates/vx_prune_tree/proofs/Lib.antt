@@ -1,0 +1,6 @@
+pub mod Paths
+pub mod Functions
+pub mod Holding
+pub mod Deciding
+pub mod Narrowing
+pub mod Found
