@@ -92,7 +92,9 @@ join a b = bounds (a.null || b.null) (a.value || b.value) (joined_end lower a.va
 -- whether both can be the ends of one interval, where they are known
 abbrev pub is_interval : Option Datum → Option Datum → Bool
 is_interval (Some l) (Some g) = at_most l g
-is_interval _ _ = true
+is_interval (Some l) None = at_most l l
+is_interval None (Some g) = at_most g g
+is_interval None None = true
 
 -- whether the two can be compared, where they are known
 abbrev pub are_comparable : Option Datum → Option Datum → Bool
