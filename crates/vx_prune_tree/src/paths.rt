@@ -6,7 +6,8 @@ ghost use Rattle.vx_tree.specs.Views.{bound_of, bounds_of};
 ghost use Rattle.vx_prune_bounds.specs.Views.{bounds_view};
 ghost use Rattle.vx_prune_stats.specs.Stats.{facts_at, field_bounds};
 ghost use Rattle.vx_prune_stats.specs.Views.{stats_facts};
-ghost use Rattle.vx_prune_tree.specs.Bounding.{path_to, path_to_only, is_that_path, unknown};
+ghost use Rattle.vx_prune_tree.specs.Bounding.{path_to, path_to_only, unknown};
+ghost use Rattle.vx_prune_tree.specs.Finding.{is_that_path};
 
 use std::option::Option;
 use vx_fn::ScalarFnRef;
