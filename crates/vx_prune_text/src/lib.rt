@@ -1,2 +1,4 @@
-// Pruning.
+// What LIKE may give of texts between a least and a greatest one.
 #![tactic(auto)]
+
+mod beginning;
