@@ -12,7 +12,8 @@ use Rattle.vx_tree.proofs.Trees.{each_passes, value-fits}
 use Rattle.vx_tree.specs.Meaning.{mean, value}
 use Rattle.vx_tree.specs.Trees.{BoundTree, unbound, node_type, WellTyped}
 use Rattle.vx_prune_bounds.specs.Bounds.{Bounds, contains, Contains}
-use Rattle.vx_prune_bounds.specs.Truths.{Truths, truths_in, may_fail}
+use Rattle.vx_prune_bounds.specs.declared.truths.Truths.{Truths}
+use Rattle.vx_prune_bounds.specs.Truths.{truths_in, may_fail}
 use Rattle.vx_prune_stats.specs.Stats.{Facts}
 use Rattle.vx_prune_tree.proofs.Holding.{bounds-hold}
 use Rattle.vx_prune_tree.specs.Bounding.{bounds_in}

@@ -2,5 +2,4 @@ pub mod Paths
 pub mod Functions
 pub mod Holding
 pub mod Deciding
-pub mod Narrowing
 pub mod Found

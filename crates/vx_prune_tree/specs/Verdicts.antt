@@ -8,7 +8,8 @@ use Rattle.vx_tree.specs.Meaning.{mean}
 use Rattle.vx_tree.specs.Trees.{BoundTree, unbound, Over}
 use Rattle.vx_dtype.specs.Lists.{IsIn}
 use Rattle.vx_prune_bounds.specs.Bounds.{Contains, IsWithin}
-use Rattle.vx_prune_bounds.specs.Truths.{Truths, truths_in, may_fail}
+use Rattle.vx_prune_bounds.specs.declared.truths.Truths.{Truths}
+use Rattle.vx_prune_bounds.specs.Truths.{truths_in, may_fail}
 use Rattle.vx_prune_stats.specs.Knowing.{KnowsMore}
 use Rattle.vx_prune_stats.specs.Stats.{Facts, Describes}
 use Rattle.vx_prune_tree.specs.Bounding.{bounds_in}
