@@ -36,9 +36,13 @@ abbrev pub is_up_to : Option Datum → Datum → Bool
 is_up_to None v = true
 is_up_to (Some g) v = at_most v g
 
+-- whether there may be another value than null, and it may be this one
+abbrev pub admits : Bounds → Datum → Bool
+admits b v = b.value && (is_from b.least v && is_up_to b.greatest v)
+
 -- whether the value is within the bounds
 abbrev pub contains : Bounds → Datum → Bool
-contains b v = if is_null_datum v then b.null else b.value && (is_from b.least v && is_up_to b.greatest v)
+contains b v = if is_null_datum v then b.null else admits b v
 
 -- the value is within the bounds
 abbrev pub Contains : Bounds → Datum → Type 0

@@ -22,7 +22,8 @@ pub struct Bounds<'a> {
 }
 
 impl<'a> Bounds<'a> {
-    ghost use Rattle.vx_prune_bounds.specs.Bounds.{nothing, any_of, exactly, contains, is_within};
+    ghost use Rattle.std.specs.Prelude.{◌&&◌, is_none};
+    ghost use Rattle.vx_prune_bounds.specs.Bounds.{nothing, any_of, exactly, admits, contains, is_within};
     ghost use Rattle.vx_prune_bounds.specs.Views.{bounds_view};
 
     /// What no value is within. Takes no memory.
@@ -70,9 +71,23 @@ impl<'a> Bounds<'a> {
             return self.null;
         }
         match Endpoint::of(value) {
-            Some(end) => self.value && starts_at(self.least, &end) && ends_at(self.greatest, &end),
-            None => self.value && self.least.is_none() && self.greatest.is_none(),
+            Some(end) => self.admits(&end),
+            None => self.is_open(),
         }
+    }
+
+    // Whether it may be the value that the end is.
+    pub(crate) fn admits(&self, end: &Endpoint) -> bool
+        ensures { result ≡ admits (bounds_view self.now) (endpoint_value end.now) }
+    {
+        self.value && starts_at(self.least, end) && ends_at(self.greatest, end)
+    }
+
+    // Whether it may be a value that can't be compared.
+    fn is_open(&self) -> bool
+        ensures { result ≡ (self.now.value && (is_none self.now.least && is_none self.now.greatest)) }
+    {
+        self.value && self.least.is_none() && self.greatest.is_none()
     }
 
     /// Whether these bounds say all that the others say: each value within these is within those.
