@@ -29,8 +29,8 @@ never_true b _ h e = refl
 -- a truth value that can be neither null nor false is true
 always_true : (b : Bounds) (t : LogicalType) (w : Datum) → is_truth t ≡ true → Fits w t → Contains b w → may_fail (truths_in b) ≡ false → is_true w ≡ true
 always_true b t (bool true) k f h e = refl
-always_true b t (bool false) k f h e = let q = or_parts _ _ e in absurd (let x : true ≡ false = sym h ∙ q.1 in cc)
-always_true b t null k f h e = let q = or_parts _ _ e in absurd (let x : true ≡ false = sym h ∙ q.0 in cc)
+always_true b t (bool false) k f h e = let q = or_parts (contains b null) (contains b (bool false)) e in absurd (let x : true ≡ false = sym h ∙ q.1 in cc)
+always_true b t null k f h e = let q = or_parts (contains b null) (contains b (bool false)) e in absurd (let x : true ≡ false = sym h ∙ q.0 in cc)
 always_true b (ty (atomic truth) n) _ k f h e = cc
 always_true b t _ k f h e = cc
 

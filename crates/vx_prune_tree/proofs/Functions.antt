@@ -1,5 +1,5 @@
 -- What a function gives of values within bounds is within the function's bounds.
-use Rattle.std.proofs.Common.{◌≡◌, List, [], ◌∷◌, refl, sym, ap, subst, ◌∙◌, Bool, true, false}
+use Rattle.std.proofs.Common.{◌≡◌, List, [], ◌∷◌, refl, sym, ap, subst, ◌∙◌, Bool, true, false, ◌&&◌, Some, None}
 use Rattle.std.specs.List.{list_all}
 use Rattle.std.specs.Prelude.{if◌then◌else◌, not}
 use Rattle.std.proofs.lemmas.Bool.{and_from, and_parts}
@@ -9,9 +9,11 @@ use Rattle.vx_value.specs.Types.{Name, truth, LogicalType, ty, atomic, struct, F
 use Rattle.vx_dtype.specs.Lists.{Beside, none_beside, more_beside}
 use Rattle.vx_fn.specs.Functions.{Function, conditions, is_truth}
 use Rattle.vx_fn.specs.Rows.{FnType, of_case_else, of_case, of_get_item, of_literal, of_pack, of_select, of_fill_null, of_zip, of_comparison, of_and, of_or, of_add, of_not, of_between, of_like, of_is_null, of_is_not_null, of_mask, of_cast}
-use Rattle.vx_fn.specs.Values.{is_true, first_true, item_value, fn_value}
+use Rattle.vx_fn.specs.Values.{is_true, first_true, item_value, select_value, fn_value}
+use Rattle.vx_fn.specs.declared.options.FieldSelection.{FieldSelection}
+use Rattle.vx_prune_bounds.proofs.Contained.{contains-exactly}
 use Rattle.vx_prune_bounds.specs.Bounds.{Bounds, bounds, Contains}
-use Rattle.vx_prune_bounds.specs.Kernels.{choice_bounds, case_bounds}
+use Rattle.vx_prune_bounds.specs.Kernels.{choice_bounds, case_bounds, shaped_as}
 use Rattle.vx_prune_bounds.specs.Truths.{truths_in}
 use Rattle.vx_prune_tree.specs.Bounding.{unknown, item_bounds, fn_bounds}
 
@@ -43,7 +45,7 @@ case-within : {xs : List Bounds} {vs : List Datum} {ts : List LogicalType} → E
 case-within none_beside c none_beside = refl
 case-within (more_beside e none_beside) c (more_beside h none_beside) = h
 case-within {vs = m ∷ v ∷ vs} {ts = t ∷ u ∷ ts} (more_beside f (more_beside e a)) c (more_beside {x = y} g (more_beside {x = x} h b)) =
-    let k = and_parts _ _ c in
+    let k = and_parts (is_truth t) (list_all is_truth (conditions ts)) c in
     ?
 
 pub fn_bounds-hold : {f : Function} {ts : List LogicalType} {t : LogicalType} {vs : List Datum} {xs : List Bounds} →

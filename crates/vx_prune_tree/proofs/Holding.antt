@@ -11,9 +11,11 @@ use Rattle.vx_tree.proofs.Trees.{each_passes, or_none, value-fits, values-fit}
 use Rattle.vx_tree.specs.Faults.{each_fault, HasNoFault}
 use Rattle.vx_tree.specs.Meaning.{value, values}
 use Rattle.vx_tree.specs.Trees.{BoundTree, scope, node, BoundTrees, no_bound, bound, node_types, WellTyped, EachWellTyped, Over, EachOver}
+use Rattle.vx_prune_bounds.proofs.Contained.{fits-any_of}
+use Rattle.vx_prune_bounds.proofs.Lattice.{contains-meet}
 use Rattle.vx_prune_bounds.specs.Bounds.{Bounds, Contains}
 use Rattle.vx_prune_stats.specs.Stats.{Facts, Describes, at_path}
-use Rattle.vx_prune_tree.proofs.Functions.{fn_bounds-hold}
+use Rattle.vx_prune_tree.proofs.Functions.{in-unknown, fn_bounds-hold}
 use Rattle.vx_prune_tree.proofs.Paths.{path_to-value}
 use Rattle.vx_prune_tree.specs.Bounding.{item_path, path_to_only, unknown, fn_bounds, at_path_or, bounds_in, each_bounds_in}
 use Rattle.vx_prune_tree.specs.Verdicts.{BoundsHold}
@@ -22,18 +24,18 @@ use Rattle.vx_prune_tree.specs.Verdicts.{BoundsHold}
 at_path_or-holds : (facts : Facts) (s : LogicalType) (rows : List Datum) (v w : Datum) (o : Option Path) (otherwise : Bounds) →
     Describes facts s rows → IsIn v rows → ((path : Path) → o ≡ Some path → at_path s path v ≡ w) → Contains otherwise w → Contains (at_path_or facts o otherwise) w
 at_path_or-holds facts s rows v w None otherwise d i along h = h
-at_path_or-holds facts s rows v w (Some path) otherwise d i along h = subst (Contains (at_path_or facts (Some path) otherwise)) (along path refl) (field_bounds-hold facts s rows d v i path)
+at_path_or-holds facts s rows v w (Some path) otherwise d i along h = subst (Contains (at_path_or facts (Some path) otherwise)) (along path refl) (?)
 
 mutual
   pub bounds_in-hold : (facts : Facts) (b : BoundTree) (s : LogicalType) (rows : List Datum) (v : Datum) →
       Describes facts s rows → WellTyped b → Over b s → HasNoFault b rows → IsIn v rows → Fits v s → Contains (bounds_in facts b) (value b v)
   bounds_in-hold facts (scope t) s rows v d w o n i e =
-      meet-holds _ _ v (any_of-holds t v (value-fits (scope t) s rows v w o n i e))
-      (at_path_or-holds facts s rows v v (Some []) unknown d i (λ path q. path_to-value (scope t) s v path w o q) (unknown-holds v))
+      contains-meet _ _ v (fits-any_of v t (value-fits (scope t) s rows v w o n i e))
+      (at_path_or-holds facts s rows v v (Some []) unknown d i (λ path q. path_to-value (scope t) s v path w o q) (in-unknown v))
   bounds_in-hold facts (node t f bs) s rows v d w o n i e =
       let q = or_none _ _ n in
       let fit = value-fits (node t f bs) s rows v w o n i e in
-      meet-holds _ _ _ (any_of-holds t _ fit)
+      contains-meet _ _ _ (fits-any_of _ t fit)
       (at_path_or-holds facts s rows v _ (item_path f (path_to_only bs)) _ d i (λ path p. path_to-value (node t f bs) s v path w o p)
       (fn_bounds-hold (fn_type-found f (node_types bs) t w.0) (values-fit bs s rows v w.2 o q.0 i e) (each_bounds_in-hold facts bs s rows v d w.2 o q.0 i e) fit))
 
