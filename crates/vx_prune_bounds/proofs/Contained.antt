@@ -18,7 +18,7 @@ pub implies : (x y : Bool) → (not x || y) ≡ true → x ≡ true → y ≡ tr
 implies true y e h = e
 implies false y e h = cc
 
-at_either : {P : Type 0} (x y : Bool) → (x || y) ≡ true → (x ≡ true → P) → (y ≡ true → P) → P
+pub at_either : {P : Type 0} (x y : Bool) → (x || y) ≡ true → (x ≡ true → P) → (y ≡ true → P) → P
 at_either true y e f g = f refl
 at_either false y e f g = g e
 
@@ -103,12 +103,12 @@ ends-trans g None (Some i) e f = cc
 ends-trans None (Some h) (Some i) e f = cc
 ends-trans (Some g) (Some h) (Some i) e f = at_most-trans g h i e f
 
-starts-own : (l g : Option Datum) → is_interval l g ≡ true → starts_within l l ≡ true
+pub starts-own : (l g : Option Datum) → is_interval l g ≡ true → starts_within l l ≡ true
 starts-own None g e = refl
 starts-own (Some l) None e = e
 starts-own (Some l) (Some g) e = at_most-left l g e
 
-ends-own : (l g : Option Datum) → is_interval l g ≡ true → ends_within g g ≡ true
+pub ends-own : (l g : Option Datum) → is_interval l g ≡ true → ends_within g g ≡ true
 ends-own l None e = refl
 ends-own None (Some g) e = e
 ends-own (Some l) (Some g) e = at_most-right l g e

@@ -1,3 +1,4 @@
 pub mod Ordered
 pub mod Contained
 pub mod Ends
+pub mod Lattice
