@@ -23,8 +23,9 @@ quoted_highs (h ∷ hs) bs all l = ap (λ x. h ∷ x) (fixed_highs hs bs (λ k l
 
 highs : (c : ℕ) → 128 ≤ c → Highs (encode_utf8 c)
 highs c le k l = elim (cases_lt (get_or (encode_utf8 c) k 0) 128) [
-    inl low ↦ let e = inside_one c [] (encode_utf8 c) k (sym (append-nil (encode_utf8 c))) l low in absurd (omega arith)
-    | inr high ↦ high ]
+  | inl low ↦ let e = inside_one c [] (encode_utf8 c) k (sym (append-nil (encode_utf8 c))) l low in absurd (omega arith)
+  | inr high ↦ high
+]
 
 some_byte : (c : ℕ) → 0 < length (encode_utf8 c)
 some_byte c = omega (arith, length-encode c, (len_utf8_bounds c).0)
@@ -38,12 +39,15 @@ quoted_low c bs cs lt later = ap (λ x. c ∷ x) (later false) ∙ ap (λ x. x +
 
 plain_low : (c : ℕ) (bs cs : List ℕ) → c < 128 → Agrees bs cs → fixed_characters (parts false (c ∷ bs)) ≡ encode_utf8_all (fixed_characters (parts false (c ∷ cs)))
 plain_low c bs cs lt later = elim (cases_Bool (eqb c 92)) [
-    inl backslash ↦ rw backslash (later true)
-    | inr other ↦ rw other (elim (cases_Bool (eqb c 37)) [
-    inl percent ↦ rw percent refl
+  | inl backslash ↦ rw backslash (later true)
+  | inr other ↦ rw other (elim (cases_Bool (eqb c 37)) [
+    | inl percent ↦ rw percent refl
     | inr more ↦ rw more (elim (cases_Bool (eqb c 95)) [
-    inl line ↦ rw line refl
-    | inr plain ↦ rw plain (quoted_low c bs cs lt later) ]) ]) ]
+      | inl line ↦ rw line refl
+      | inr plain ↦ rw plain (quoted_low c bs cs lt later)
+    ])
+  ])
+]
 
 agrees_low : (c : ℕ) (bs cs : List ℕ) → c < 128 → Agrees bs cs → Agrees (c ∷ bs) (c ∷ cs)
 agrees_low c bs cs lt later true = quoted_low c bs cs lt later
@@ -57,8 +61,9 @@ agrees_encoded : (cs : List ℕ) → Agrees (encode_utf8_all cs) cs
 agrees_encoded [] false = refl
 agrees_encoded [] true = ap (λ x. x ++ []) (sym (encode_ascii 92 (omega arith)))
 agrees_encoded (c ∷ cs) q = elim (cases_lt c 128) [
-    inl low ↦ rw (encode_ascii c low) (agrees_low c (encode_utf8_all cs) cs low (agrees_encoded cs) q)
-    | inr high ↦ agrees_high c (encode_utf8_all cs) cs high (agrees_encoded cs) q ]
+  | inl low ↦ rw (encode_ascii c low) (agrees_low c (encode_utf8_all cs) cs low (agrees_encoded cs) q)
+  | inr high ↦ agrees_high c (encode_utf8_all cs) cs high (agrees_encoded cs) q
+]
 
 -- the bytes of a pattern tell its beginning
 pub beginning-bytes : (p : List ℕ) → IsUtf8 p → fixed_characters (parts false p) ≡ beginning false p

@@ -1,3 +1,6 @@
 pub mod Bytes
 pub mod Fixed
 pub mod Orders
+pub mod Texts
+pub mod Likeness
+pub mod Narrowing

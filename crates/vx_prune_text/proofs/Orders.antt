@@ -20,8 +20,9 @@ between_begins [] t rest a b = refl
 between_begins (x ∷ q) [] rest a b = cc
 between_begins (x ∷ q) (y ∷ t) rest a b =
     elim (heads x y q t a) [
-    inl l ↦ elim (heads y x t (q ++ rest) b) [ inl m ↦ absurd (omega arith) | inr m ↦ absurd (omega arith) ]
-    | inr l ↦ elim (heads y x t (q ++ rest) b) [ inl m ↦ absurd (omega arith) | inr m ↦ and_from _ _ (eq-eqb x y l.0) (between_begins q t rest l.1 m.1) ] ]
+      | inl l ↦ elim (heads y x t (q ++ rest) b) [ inl m ↦ absurd (omega arith) | inr m ↦ absurd (omega arith) ]
+      | inr l ↦ elim (heads y x t (q ++ rest) b) [ inl m ↦ absurd (omega arith) | inr m ↦ and_from _ _ (eq-eqb x y l.0) (between_begins q t rest l.1 m.1) ]
+    ]
 
 pub le-append : (q rest : List ℕ) → is_le (slice_cmp nat_cmp q (q ++ rest)) ≡ true
 le-append [] [] = refl

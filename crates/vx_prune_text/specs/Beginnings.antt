@@ -8,7 +8,8 @@ use Rattle.vx_value.specs.Types.{Datum, utf8}
 use Rattle.vx_fn.specs.Values.{Part, just, parts}
 use Rattle.vx_prune_bounds.specs.Order.{at_most, below}
 use Rattle.vx_prune_bounds.specs.Bounds.{Bounds}
-use Rattle.vx_prune_bounds.specs.Truths.{Truths, truths, not_truths}
+use Rattle.vx_prune_bounds.specs.declared.truths.Truths.{Truths}
+use Rattle.vx_prune_bounds.specs.Truths.{truths, not_truths}
 
 -- the characters that each text which the parts spell begins with
 abbrev pub fixed_characters : List Part → List ℕ

@@ -5,8 +5,30 @@ ghost use Rattle.vx_prune_text.specs.Beginnings.{fixed_characters, beginning, be
 
 use std::cmp::Ordering;
 
-// The first byte that each text like the pattern begins with, and what is left of the pattern.
-fn split_first(pattern: &[u8]) -> Option<(u8, &[u8])>
+// How the bytes that each text like the pattern begins with compare with as many of the text:
+// less where each such text comes before it, and greater where each comes behind it.
+pub(crate) fn compare_beginning(pattern: &str, text: &str) -> Ordering
+    ensures { result ≡ beginning_cmp (beginning false pattern.now) text.now }
+{
+    // No byte of a longer character is a backslash, `%` or `_`, so bytes tell what characters do.
+    let mut wanted = pattern.as_bytes();
+    let mut found = text.as_bytes();
+    while let Some((byte, after)) = split_first_fixed(wanted) {
+        let Some((other, rest)) = found.split_first() else {
+            return Ordering::Greater;
+        };
+        let order = byte.cmp(other);
+        if order.is_ne() {
+            return order;
+        }
+        wanted = after;
+        found = rest;
+    }
+    Ordering::Equal
+}
+
+// The first byte that each text like the pattern begins with, and the pattern after it.
+fn split_first_fixed(pattern: &[u8]) -> Option<(u8, &[u8])>
     ensures first { MatchOption result (fixed_characters (parts false pattern.now) ≡ [])
         (λ p. fixed_characters (parts false pattern.now) ≡ p.0 ∷ fixed_characters (parts false p.1.now)) }
     ensures shorter { IfSome result (λ p. length p.1.now < length pattern.now) }
@@ -14,27 +36,7 @@ fn split_first(pattern: &[u8]) -> Option<(u8, &[u8])>
     match pattern {
         [] | [b'%', ..] | [b'_', ..] => None,
         [b'\\', quoted, rest @ ..] => Some((*quoted, rest)),
-        [first, rest @ ..] => Some((*first, rest)),
+        // A backslash at the end stands for itself.
+        [byte, rest @ ..] => Some((*byte, rest)),
     }
-}
-
-// How the bytes that each text like the pattern begins with compare with as many of the text.
-pub fn compare_beginning(pattern: &str, text: &str) -> Ordering
-    ensures { result ≡ beginning_cmp (beginning false pattern.now) text.now }
-{
-    let mut wanted = pattern.as_bytes();
-    let mut found = text.as_bytes();
-    while let Some((first, rest)) = split_first(wanted) {
-        let Some((byte, later)) = found.split_first() else {
-            return Ordering::Greater;
-        };
-        match first.cmp(byte) {
-            Ordering::Equal => {
-                wanted = rest;
-                found = later;
-            }
-            unequal => return unequal,
-        }
-    }
-    Ordering::Equal
 }

@@ -2,3 +2,6 @@
 #![tactic(auto)]
 
 mod beginning;
+mod like;
+
+pub use like::like_truths;

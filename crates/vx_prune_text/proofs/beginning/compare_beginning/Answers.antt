@@ -5,6 +5,6 @@ use Rattle.vx_prune_text.specs.Beginnings.{fixed_characters, beginning, beginnin
 use Rattle.vx_prune_text.proofs.Bytes.{beginning-bytes}
 use Rattle.vx_prune_text.proofs.beginning.compare_beginning.Goals as goal
 
-pub loop-first-init : goal.loop-first-init
-loop-first-init c =
+pub loop-byte-init : goal.loop-byte-init
+loop-byte-init c =
     rw (c.as_bytes-wanted.ensures.value, c.as_bytes-found.ensures.value) (ap (λ q. beginning_cmp q c.args.text.now) (beginning-bytes c.args.pattern.now c.utf8.pattern))
