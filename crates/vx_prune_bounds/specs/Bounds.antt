@@ -36,9 +36,13 @@ abbrev pub is_up_to : Option Datum → Datum → Bool
 is_up_to None v = true
 is_up_to (Some g) v = at_most v g
 
+-- whether there may be another value than null, and it may be this one
+abbrev pub admits : Bounds → Datum → Bool
+admits b v = b.value && (is_from b.least v && is_up_to b.greatest v)
+
 -- whether the value is within the bounds
 abbrev pub contains : Bounds → Datum → Bool
-contains b v = if is_null_datum v then b.null else b.value && (is_from b.least v && is_up_to b.greatest v)
+contains b v = if is_null_datum v then b.null else admits b v
 
 -- the value is within the bounds
 abbrev pub Contains : Bounds → Datum → Type 0
@@ -92,7 +96,9 @@ join a b = bounds (a.null || b.null) (a.value || b.value) (joined_end lower a.va
 -- whether both can be the ends of one interval, where they are known
 abbrev pub is_interval : Option Datum → Option Datum → Bool
 is_interval (Some l) (Some g) = at_most l g
-is_interval _ _ = true
+is_interval (Some l) None = at_most l l
+is_interval None (Some g) = at_most g g
+is_interval None None = true
 
 -- whether the two can be compared, where they are known
 abbrev pub are_comparable : Option Datum → Option Datum → Bool

@@ -1,7 +1,7 @@
 -- What comparisons of values within bounds may give.
-use Rattle.std.specs.Prelude.{Bool, false, ◌&&◌, ◌||◌, not, Option, Some, None}
+use Rattle.std.specs.Prelude.{Bool, true, false, ◌&&◌, ◌||◌, not, Option, Some, None}
 use Rattle.vx_value.specs.Types.{Datum}
-use Rattle.vx_fn.specs.Functions.{Comparison, equal, not_equal, greater, greater_or_equal, less, less_or_equal}
+use Rattle.vx_fn.specs.Functions.{Operation, compares, Comparison, equal, not_equal, greater, greater_or_equal, less, less_or_equal}
 use Rattle.vx_fn.specs.Values.{bound_comparison}
 use Rattle.vx_prune_bounds.specs.Order.{at_most, below}
 use Rattle.vx_prune_bounds.specs.Bounds.{Bounds}
@@ -44,6 +44,11 @@ comparison_truths c x y =
     truths (x.null || y.null)
         ((x.value && y.value) && not (surely c x y))
         ((x.value && y.value) && not (surely (opposite c) x y))
+
+-- what a comparison may give, and of another operation anything
+abbrev pub operation_truths : Operation → Bounds → Bounds → Truths
+operation_truths (compares c) x y = comparison_truths c x y
+operation_truths _ x y = truths true true true
 
 -- what `Between` may give
 abbrev pub between_truths : (lower_strict upper_strict : Bool) → Bounds → Bounds → Bounds → Truths

@@ -1,22 +1,18 @@
 -- Bounds of what functions give of values within bounds.
 use Rattle.std.specs.Prelude.{Bool, true, false, ◌&&◌, ◌||◌, not, List, [], ◌∷◌, Option, Some, None, ◌+ℤ◌, if◌then◌else◌}
-use Rattle.vx_value.specs.Fits.{fits}
-use Rattle.vx_value.specs.Types.{LogicalType, Datum, null, int}
+use Rattle.std.specs.Int.{saturate_signed, w128}
+use Rattle.vx_value.specs.Types.{Datum, null, int}
 use Rattle.vx_prune_bounds.specs.Bounds.{Bounds, bounds, nothing, exactly, of_both, join}
 use Rattle.vx_prune_bounds.specs.Truths.{Truths, truths, truths_in, may_fail}
 
--- the value, if it is one of the type
-abbrev pub of_type : LogicalType → Datum → Option Datum
-of_type t v = if fits v t then Some v else None
+-- the sum of two numbers, or the number of 128 bits that is nearest to it
+abbrev pub sum_end : Datum → Datum → Option Datum
+sum_end (int i) (int j) = Some (int (saturate_signed w128 (i +ℤ j)))
+sum_end _ _ = None
 
--- the sum, if it is a number of the type
-abbrev pub sum_end : LogicalType → Datum → Datum → Option Datum
-sum_end t (int i) (int j) = of_type t (int (i +ℤ j))
-sum_end t _ _ = None
-
--- bounds of the sum of two numbers, of that type: an end that the type doesn't have says nothing
-abbrev pub sum_bounds : LogicalType → Bounds → Bounds → Bounds
-sum_bounds t x y = bounds (x.null || y.null) (x.value && y.value) (of_both (sum_end t) x.least y.least) (of_both (sum_end t) x.greatest y.greatest)
+-- bounds of the sum of two numbers, each of 64 bits
+abbrev pub sum_bounds : Bounds → Bounds → Bounds
+sum_bounds x y = bounds (x.null || y.null) (x.value && y.value) (of_both sum_end x.least y.least) (of_both sum_end x.greatest y.greatest)
 
 -- these bounds where that may be, else what no value is within
 abbrev pub only_if : Bool → Bounds → Bounds

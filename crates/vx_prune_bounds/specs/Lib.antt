@@ -3,3 +3,4 @@ pub mod Bounds
 pub mod Truths
 pub mod Comparing
 pub mod Kernels
+pub mod Views

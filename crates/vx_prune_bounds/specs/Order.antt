@@ -1,5 +1,5 @@
 -- The order of values that can be compared.
-use Rattle.std.specs.Prelude.{Bool, false, ◌&&◌, not, List, Option, Some, None, if◌then◌else◌}
+use Rattle.std.specs.Prelude.{Bool, false, ◌&&◌, not, Option, Some, None, if◌then◌else◌}
 use Rattle.std.specs.Ordering.{is_le, nat_cmp, int_cmp, bool_cmp}
 use Rattle.std.specs.Str.{is_utf8}
 use Rattle.std.specs.Cmp.Lexicographic.{slice_cmp}

@@ -2,12 +2,7 @@
 use Rattle.std.specs.Prelude.{Bool, true, false, ◌&&◌, ◌||◌, Some, if◌then◌else◌}
 use Rattle.vx_value.specs.Types.{Datum, null, bool}
 use Rattle.vx_prune_bounds.specs.Bounds.{Bounds, bounds, contains}
-
--- whether it may be null, whether false, and whether true
-pub record Truths : Type 0 where
-  pub null : Bool
-  pub no : Bool
-  pub yes : Bool
+pub use Rattle.vx_prune_bounds.specs.declared.truths.Truths.{Truths}
 
 -- these together
 abbrev pub truths : Bool → Bool → Bool → Truths

@@ -1,0 +1,3 @@
+pub mod Ordered
+pub mod Contained
+pub mod Ends
