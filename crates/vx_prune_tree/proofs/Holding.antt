@@ -1,5 +1,5 @@
 -- A tree's values are within its bounds in a chunk, where what is known of the chunk is true of its rows.
-use Rattle.std.proofs.Common.{◌≡◌, List, refl, sym, subst, Option, Some, None, map}
+use Rattle.std.proofs.Common.{◌≡◌, List, [], refl, sym, subst, Option, Some, None, map}
 use Rattle.vx_value.specs.Fits.{Fits}
 use Rattle.vx_value.specs.Paths.{Path}
 use Rattle.vx_value.specs.Types.{LogicalType, Datum}
@@ -15,8 +15,8 @@ use Rattle.vx_prune_bounds.proofs.Contained.{fits-any_of}
 use Rattle.vx_prune_bounds.proofs.Lattice.{contains-meet}
 use Rattle.vx_prune_bounds.specs.Bounds.{Bounds, Contains}
 use Rattle.vx_prune_stats.specs.Stats.{Facts, Describes, at_path}
-use Rattle.vx_prune_tree.proofs.Functions.{in-unknown, fn_bounds-hold}
-use Rattle.vx_prune_tree.proofs.Paths.{path_to-value}
+use Rattle.vx_prune_tree.proofs.Giving.{in-unknown, fn_bounds-hold}
+use Rattle.vx_prune_tree.proofs.Along.{path_to-value}
 use Rattle.vx_prune_tree.specs.Bounding.{item_path, path_to_only, unknown, fn_bounds, at_path_or, bounds_in, each_bounds_in}
 use Rattle.vx_prune_tree.specs.Verdicts.{BoundsHold}
 

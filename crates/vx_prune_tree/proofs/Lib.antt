@@ -1,5 +1,5 @@
-pub mod Paths
-pub mod Functions
+pub mod Along
+pub mod Giving
 pub mod Holding
 pub mod Deciding
 pub mod Found
