@@ -1,9 +1,10 @@
 -- A pattern's bytes spell the bytes of what its characters spell.
-use Rattle.std.proofs.Common.{◌≡◌, ℕ, suc, ◌+◌, ◌<◌, ◌≤◌, Bool, true, false, List, [], ◌∷◌, ◌++◌, refl, sym, ap, ◌∙◌, subst, length, get_or, arith, eqb, encode_utf8, encode_utf8_all, chars, IsUtf8, inl, inr, append-nil}
-use Rattle.std.proofs.lemmas.Bool.{cases_lt, cases_Bool}
-use Rattle.std.proofs.lemmas.Str.{encode_ascii, inside_one, encodes-chars, length-encode, len_utf8_bounds}
+use Rattle.std.proofs.Common.{◌≡◌, ℕ, suc, ◌<◌, ◌≤◌, Bool, true, false, List, [], ◌∷◌, ◌++◌, refl, sym, ap, ◌∙◌, length, get_or, arith, eqb, encode_utf8, encode_utf8_all, chars, IsUtf8, inl, inr, append-nil}
+use Rattle.std.proofs.lemmas.Bool.{cases_lt, cases_Bool, and_parts, and_from}
+use Rattle.std.proofs.lemmas.Str.{encode_ascii, inside_one, encodes-chars, scalars-chars, length-encode, len_utf8_bounds, IsUtf8-nil}
+use Rattle.std.specs.Str.{all_scalars}
 use Rattle.std.proofs.lemmas.Grind.{common_steps}
-use Rattle.vx_fn.specs.Values.{parts, part_of}
+use Rattle.vx_fn.specs.Values.{parts}
 use Rattle.vx_prune_text.specs.Beginnings.{fixed_characters, beginning}
 
 -- no byte is ASCII
@@ -68,3 +69,22 @@ agrees_encoded (c ∷ cs) q = elim (cases_lt c 128) [
 -- the bytes of a pattern tell its beginning
 pub beginning-bytes : (p : List ℕ) → IsUtf8 p → fixed_characters (parts false p) ≡ beginning false p
 beginning-bytes p u = ap (λ x. fixed_characters (parts false x)) (sym (encodes-chars p u)) ∙ agrees_encoded (chars p) false
+
+-- what is fixed of characters is characters
+scalars_fixed : (q : Bool) (cs : List ℕ) → all_scalars cs ≡ true → all_scalars (fixed_characters (parts q cs)) ≡ true
+scalars_fixed false [] e = refl
+scalars_fixed true [] e = refl
+scalars_fixed true (c ∷ cs) e = let x = and_parts _ _ e in and_from _ _ x.0 (scalars_fixed false cs x.1)
+scalars_fixed false (c ∷ cs) e =
+    let x = and_parts _ _ e in
+    elim (cases_Bool (eqb c 92)) [
+      | inl backslash ↦ rw backslash (scalars_fixed true cs x.1)
+      | inr other ↦ rw other (elim (cases_Bool (eqb c 37)) [
+        | inl percent ↦ rw percent refl
+        | inr more ↦ rw more (elim (cases_Bool (eqb c 95)) [ inl line ↦ rw line refl | inr plain ↦ rw plain (and_from _ _ x.0 (scalars_fixed false cs x.1)) ])
+      ])
+    ]
+
+pub beginning-IsUtf8 : (ci : Bool) (p : List ℕ) → IsUtf8 p → IsUtf8 (beginning ci p)
+beginning-IsUtf8 true p u = IsUtf8-nil
+beginning-IsUtf8 false p u = (fixed_characters (parts false (chars p)), (scalars_fixed false (chars p) (scalars-chars p u), refl))

@@ -1,18 +1,17 @@
 -- What LIKE may give of texts within bounds.
-use Rattle.std.proofs.Common.{◌≡◌, ℕ, Bool, true, false, ◌&&◌, ◌||◌, not, List, ◌++◌, ◌∙◌, refl, sym, ap, subst, chars, encode_utf8_all, nat_eq, IsUtf8, Option, Some, None, if◌then◌else◌, inl, inr}
+use Rattle.std.proofs.Common.{◌≡◌, ℕ, Bool, true, false, ◌&&◌, not, List, ◌∙◌, refl, sym, ap, subst, chars, encode_utf8_all, nat_eq, IsUtf8, Option, Some, None, if◌then◌else◌, inl, inr}
 use Rattle.std.specs.List.{starts_with}
-use Rattle.std.proofs.lemmas.Bool.{and_parts, and_from, or_cases, or_left, or_right, both_ways, not-true, not_from_false, false_from_ne_true}
+use Rattle.std.proofs.lemmas.Bool.{and_from, or_cases, or_left, or_right, both_ways, false_from_ne_true}
 use Rattle.std.proofs.lemmas.Str.{encodes-chars, encodes-append, IsUtf8-from_is_utf8}
 use Rattle.vx_value.specs.Fits.{Fits}
 use Rattle.vx_value.specs.Types.{ty, atomic, text, Datum, null, bool, int, utf8, bytes, list_of, struct_of}
 use Rattle.vx_fn.specs.Values.{parts, is_like, flipped, liked}
-use Rattle.vx_prune_bounds.specs.Bounds.{Bounds, Contains, IsWithin, IsProper, is_from, is_up_to}
-use Rattle.vx_prune_bounds.specs.declared.truths.Truths.{Truths}
+use Rattle.vx_prune_bounds.specs.Bounds.{Bounds, Contains}
 use Rattle.vx_prune_bounds.specs.Truths.{truths, truth_bounds}
-use Rattle.vx_prune_bounds.proofs.Contained.{Inside, inside, Within, within, from_within, implies}
-use Rattle.vx_prune_text.specs.Beginnings.{fixed_characters, beginning, is_before, is_past, none_like, only_text, surely_unlike, flipped_truths, like_truths}
+use Rattle.vx_prune_bounds.proofs.Contained.{Inside, inside}
+use Rattle.vx_prune_text.specs.Beginnings.{fixed_characters, beginning, none_like, only_text, surely_unlike, flipped_truths, like_truths}
 use Rattle.vx_prune_text.proofs.Fixed.{matches-begins}
-use Rattle.vx_prune_text.proofs.Texts.{BeginsOtherwise, rest-begins, before-otherwise, past-otherwise, before-within, past-within, only-value, only-within}
+use Rattle.vx_prune_text.proofs.Texts.{BeginsOtherwise, rest-begins, before-otherwise, past-otherwise, only-value}
 
 -- ---- texts that are like the pattern
 

@@ -1,9 +1,8 @@
 -- Bounds that say more of texts and patterns say more of what LIKE may give.
-use Rattle.std.proofs.Common.{◌≡◌, ℕ, Bool, true, false, ◌&&◌, ◌||◌, not, List, refl, sym, ap, subst, Option, Some, None, if◌then◌else◌, inl, inr}
+use Rattle.std.proofs.Common.{◌≡◌, ℕ, Bool, true, false, ◌||◌, List, refl, sym, subst, Option, Some, None, if◌then◌else◌, inl, inr}
 use Rattle.std.proofs.lemmas.Bool.{and_parts, and_from, or_cases, or_left, or_right, both_ways, not-true, not_from_false, false_from_ne_true}
 use Rattle.vx_prune_bounds.specs.Bounds.{Bounds, IsWithin, IsProper, starts_within, ends_within}
 use Rattle.vx_value.specs.Types.{bool}
-use Rattle.vx_prune_bounds.specs.declared.truths.Truths.{Truths}
 use Rattle.vx_prune_bounds.specs.Truths.{truths, truth_bounds}
 use Rattle.vx_prune_bounds.proofs.Contained.{Within, within, from_within, implies}
 use Rattle.vx_prune_text.specs.Beginnings.{beginning, none_like, only_text, surely_unlike, flipped_truths, like_truths}

@@ -1,5 +1,5 @@
 -- Bytes in their order, and those that begin with others.
-use Rattle.std.proofs.Common.{◌≡◌, ℕ, ◌<◌, true, List, [], ◌∷◌, ◌++◌, refl, ap, ◌∙◌, length, take, arith, nat_eq, nat_cmp, is_le, is_lt, is_gt, not, ◌&&◌, Ordering, ◌⊎◌, inl, inr, Less, Equal, Greater}
+use Rattle.std.proofs.Common.{◌≡◌, ℕ, ◌<◌, true, List, [], ◌∷◌, ◌++◌, refl, arith, nat_eq, nat_cmp, is_le, is_lt, is_gt, not, ◌&&◌, Ordering, ◌⊎◌, inl, inr, Less, Equal, Greater}
 use Rattle.std.specs.Cmp.Lexicographic.{slice_cmp}
 use Rattle.std.specs.List.{starts_with}
 use Rattle.std.specs.Ordering.{ordering_then}

@@ -1,13 +1,27 @@
 // The bytes that each text like a pattern begins with.
-ghost use Rattle.std.specs.Prelude.{◌≡◌, ◌∷◌, ◌<◌, [], false, length, IfSome, MatchOption};
+ghost use Rattle.std.specs.Prelude.{◌≡◌, ◌∷◌, ◌<◌, [], false, length, Some, IfSome, MatchOption};
+ghost use Rattle.vx_value.specs.Types.{utf8};
 ghost use Rattle.vx_fn.specs.Values.{parts};
-ghost use Rattle.vx_prune_text.specs.Beginnings.{fixed_characters, beginning, beginning_cmp};
+ghost use Rattle.vx_prune_text.specs.Beginnings.{fixed_characters, beginning, beginning_cmp, is_before, is_past};
 
 use std::cmp::Ordering;
 
-// How the bytes that each text like the pattern begins with compare with as many of the text:
-// less where each such text comes before it, and greater where each comes behind it.
-pub(crate) fn compare_beginning(pattern: &str, text: &str) -> Ordering
+// Whether the text comes before all those that begin as the pattern does.
+pub(crate) fn is_before_beginning(text: &str, pattern: &str) -> bool
+    ensures { result ≡ is_before (beginning false pattern.now) (Some (utf8 text.now)) }
+{
+    compare_beginning(pattern, text).is_gt()
+}
+
+// Whether the text comes behind all those that begin as the pattern does.
+pub(crate) fn is_past_beginning(text: &str, pattern: &str) -> bool
+    ensures { result ≡ is_past (beginning false pattern.now) (Some (utf8 text.now)) }
+{
+    compare_beginning(pattern, text).is_lt()
+}
+
+// How the bytes that each text like the pattern begins with compare with as many of the text.
+fn compare_beginning(pattern: &str, text: &str) -> Ordering
     ensures { result ≡ beginning_cmp (beginning false pattern.now) text.now }
 {
     // No byte of a longer character is a backslash, `%` or `_`, so bytes tell what characters do.

@@ -1,4 +1,4 @@
-// What LIKE may give of texts between a least and a greatest one.
+// Pruning by patterns of LIKE.
 #![tactic(auto)]
 
 mod beginning;

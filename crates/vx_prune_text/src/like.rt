@@ -3,13 +3,13 @@ ghost use Rattle.std.specs.Prelude.{◌≡◌, false, option_map};
 ghost use Rattle.vx_prune_bounds.specs.Views.{endpoint_value, bounds_view};
 ghost use Rattle.vx_prune_text.specs.Beginnings.{beginning, is_before, is_past, none_like, only_text, surely_unlike, like_truths};
 
-use crate::beginning::compare_beginning;
+use crate::beginning::{is_before_beginning, is_past_beginning};
 use vx_prune_bounds::{Bounds, Endpoint, Truths};
 
 /// What `LIKE` may give of a text and a pattern within these bounds: never true where there is but
-/// one pattern, and each text comes before all those that begin as it does, or behind them. Nothing
-/// is known so where the ASCII case is ignored. If it is negated, true and false are turned round.
-/// Takes no memory, and at most the pattern's length in time.
+/// one pattern, and no text within the bounds begins as it does. Nothing is known of how texts
+/// begin where the ASCII case is ignored. Where it is negated, true and false are turned round.
+/// Takes no memory, and time by the pattern's length.
 pub fn like_truths(negated: bool, ignore_case: bool, text: &Bounds, pattern: &Bounds) -> Truths
     ensures { result ≡ like_truths negated ignore_case (bounds_view text.now) (bounds_view pattern.now) }
 {
@@ -57,20 +57,20 @@ fn is_none_like(ignore_case: bool, text: &Bounds, pattern: &str) -> bool
 
 // Whether the greatest text, and so each, comes before all those that begin as the pattern does.
 fn is_before(pattern: &str, greatest: Option<Endpoint>) -> bool
-    ensures { result ≡ is_before (beginning false pattern.now) (option_map endpoint_value greatest) }
+    ensures { result ≡ is_before (beginning false pattern.now) (option_map endpoint_value greatest.entry) }
 {
     match greatest {
-        Some(Endpoint::Text(text)) => compare_beginning(pattern, text).is_gt(),
+        Some(Endpoint::Text(text)) => is_before_beginning(text, pattern),
         _ => false,
     }
 }
 
 // Whether the least text, and so each, comes behind all those that begin as the pattern does.
 fn is_past(pattern: &str, least: Option<Endpoint>) -> bool
-    ensures { result ≡ is_past (beginning false pattern.now) (option_map endpoint_value least) }
+    ensures { result ≡ is_past (beginning false pattern.now) (option_map endpoint_value least.entry) }
 {
     match least {
-        Some(Endpoint::Text(text)) => compare_beginning(pattern, text).is_lt(),
+        Some(Endpoint::Text(text)) => is_past_beginning(text, pattern),
         _ => false,
     }
 }

@@ -1,7 +1,6 @@
 -- The bytes of the pattern tell its beginning.
-use Rattle.std.proofs.Common.{◌≡◌, false, ap}
-use Rattle.vx_fn.specs.Values.{parts}
-use Rattle.vx_prune_text.specs.Beginnings.{fixed_characters, beginning, beginning_cmp}
+use Rattle.std.proofs.Common.{ap}
+use Rattle.vx_prune_text.specs.Beginnings.{beginning_cmp}
 use Rattle.vx_prune_text.proofs.Bytes.{beginning-bytes}
 use Rattle.vx_prune_text.proofs.beginning.compare_beginning.Goals as goal
 
