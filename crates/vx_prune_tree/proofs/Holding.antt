@@ -13,9 +13,9 @@ use Rattle.vx_tree.specs.Meaning.{value, values}
 use Rattle.vx_tree.specs.Trees.{BoundTree, scope, node, BoundTrees, no_bound, bound, node_types, WellTyped, EachWellTyped, Over, EachOver}
 use Rattle.vx_prune_bounds.proofs.Contained.{fits-any_of}
 use Rattle.vx_prune_bounds.proofs.Lattice.{contains-meet}
-use Rattle.vx_prune_bounds.specs.Bounds.{Bounds, Contains}
+use Rattle.vx_prune_bounds.specs.Bounds.{Bounds, Contains, any_of}
 use Rattle.vx_prune_stats.specs.Stats.{Facts, Describes, at_path}
-use Rattle.vx_prune_tree.proofs.Giving.{in-unknown, fn_bounds-hold}
+use Rattle.vx_prune_tree.proofs.Giving.{in-unknown, fn_bounds-sound}
 use Rattle.vx_prune_tree.proofs.Along.{path_to-value}
 use Rattle.vx_prune_tree.specs.Bounding.{item_path, path_to_only, unknown, fn_bounds, at_path_or, bounds_in, each_bounds_in}
 use Rattle.vx_prune_tree.specs.Verdicts.{BoundsHold}
@@ -30,14 +30,15 @@ mutual
   pub bounds_in-hold : (facts : Facts) (b : BoundTree) (s : LogicalType) (rows : List Datum) (v : Datum) →
       Describes facts s rows → WellTyped b → Over b s → HasNoFault b rows → IsIn v rows → Fits v s → Contains (bounds_in facts b) (value b v)
   bounds_in-hold facts (scope t) s rows v d w o n i e =
-      contains-meet _ _ v (fits-any_of v t (value-fits (scope t) s rows v w o n i e))
+      contains-meet (any_of t) (at_path_or facts (Some []) unknown) v (fits-any_of v t (value-fits (scope t) s rows v w o n i e))
       (at_path_or-holds facts s rows v v (Some []) unknown d i (λ path q. path_to-value (scope t) s v path w o q) (in-unknown v))
   bounds_in-hold facts (node t f bs) s rows v d w o n i e =
       let q = or_none _ _ n in
       let fit = value-fits (node t f bs) s rows v w o n i e in
-      contains-meet _ _ _ (fits-any_of _ t fit)
-      (at_path_or-holds facts s rows v _ (item_path f (path_to_only bs)) _ d i (λ path p. path_to-value (node t f bs) s v path w o p)
-      (fn_bounds-hold (fn_type-found f (node_types bs) t w.0) (values-fit bs s rows v w.2 o q.0 i e) (each_bounds_in-hold facts bs s rows v d w.2 o q.0 i e) fit))
+      let given = fn_bounds f (each_bounds_in facts bs) in
+      contains-meet (any_of t) (at_path_or facts (item_path f (path_to_only bs)) given) (value (node t f bs) v) (fits-any_of (value (node t f bs) v) t fit)
+      (at_path_or-holds facts s rows v (value (node t f bs) v) (item_path f (path_to_only bs)) given d i (λ path p. path_to-value (node t f bs) s v path w o p)
+      (fn_bounds-sound (fn_type-found f (node_types bs) t w.0) (values-fit bs s rows v w.2 o q.0 i e) (each_bounds_in-hold facts bs s rows v d w.2 o q.0 i e)))
 
   each_bounds_in-hold : (facts : Facts) (bs : BoundTrees) (s : LogicalType) (rows : List Datum) (v : Datum) →
       Describes facts s rows → EachWellTyped bs → EachOver bs s → each_fault bs rows ≡ None → IsIn v rows → Fits v s → Beside Contains (each_bounds_in facts bs) (values bs v)

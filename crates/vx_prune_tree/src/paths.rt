@@ -47,7 +47,8 @@ fn is_only_path(children: &[BoundExpression]) -> bool
 fn entry_of<'a>(e: &BoundExpression, stats: &'a ChunkStats) -> Option<&'a FieldStats>
     ensures { option_map (λ s. stats_facts s.now) result ≡ lookup (is_that_path (path_to (bound_of e.now))) stats.now.fields }
 {
-    for entry in stats.entries() {
+    let entries = stats.entries();
+    for entry in entries {
         if is_at(e, entry.0.parts()) {
             return Some(&entry.1);
         }
