@@ -7,7 +7,7 @@ use Rattle.vx_value.specs.Fields.{field_type, field_value}
 use Rattle.vx_value.specs.Paths.{Path, equal_path}
 use Rattle.vx_value.specs.Types.{LogicalType, ty, struct, Datum, null, struct_of, is_null_datum}
 use Rattle.vx_prune_bounds.specs.Order.{at_most, comparable}
-use Rattle.vx_prune_bounds.specs.Bounds.{Bounds, bounds}
+use Rattle.vx_prune_bounds.specs.Bounds.{Bounds, bounds, proper}
 
 -- what is known of the values along a path: how many are null, and a value that each of the others is at least, or at most
 pub record FieldFacts : Type 0 where
@@ -98,6 +98,6 @@ known_end None = None
 known_end (Some v) = comparable v
 
 -- bounds of the values of which that is known, in a chunk of so many rows: null may be there unless no value is known to be null, another
--- value unless all are known to be null
+-- value unless all are known to be null, or the least isn't at most the greatest
 abbrev pub field_bounds : ℕ → FieldFacts → Bounds
-field_bounds rows f = bounds (not (is_known_as 0 f.nulls)) (not (is_known_as rows f.nulls)) (known_end f.least) (known_end f.greatest)
+field_bounds rows f = proper (bounds (not (is_known_as 0 f.nulls)) (not (is_known_as rows f.nulls)) (known_end f.least) (known_end f.greatest))

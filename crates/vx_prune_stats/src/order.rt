@@ -5,30 +5,19 @@ ghost use Rattle.vx_prune_bounds.specs.Order as order;
 ghost use Rattle.vx_prune_stats.specs.Reading.{next_end};
 ghost use Rattle.vx_prune_stats.specs.Lent.{lent_value};
 
+use vx_prune_bounds::Endpoint;
 use vx_types::Value;
 
 // Whether the two can be compared, and the first comes before the second or is equal to it.
 fn at_most(v: &Value, w: &Value) -> bool
     ensures { result ≡ order.at_most (value_of v.now) (value_of w.now) }
 {
-    match v {
-        Value::Bool(a) => match w {
-            Value::Bool(b) => a <= b,
-            _ => false,
+    match Endpoint::of(v) {
+        Some(end) => match Endpoint::of(w) {
+            Some(other) => end.at_most(&other),
+            None => false,
         },
-        Value::Int(a) => match w {
-            Value::Int(b) => a <= b,
-            _ => false,
-        },
-        Value::Utf8(a) => match w {
-            Value::Utf8(b) => a.as_str() <= b.as_str(),
-            _ => false,
-        },
-        Value::Binary(a) => match w {
-            Value::Binary(b) => a.as_slice() <= b.as_slice(),
-            _ => false,
-        },
-        _ => false,
+        None => false,
     }
 }
 

@@ -1,8 +1,8 @@
 // Where the values along a path stand in rows: a place in each struct on the way.
-ghost use Rattle.std.specs.Prelude.{◌≡◌, ◌⊎◌, IfErr, IfOk, MatchOption, OnOk};
+ghost use Rattle.std.specs.Prelude.{◌≡◌, ◌⊎◌, ◌∷◌, [], IfErr, IfOk, MatchOption, OnOk, unwrap_or};
 ghost use Rattle.vx_value.specs.Fields.{field_type, field_value};
-ghost use Rattle.vx_value.specs.Paths.{path_of};
-ghost use Rattle.vx_value.specs.Types.{Data, Datum};
+ghost use Rattle.vx_value.specs.Paths.{part_name, path_of};
+ghost use Rattle.vx_value.specs.Types.{Data, Datum, null};
 ghost use Rattle.vx_value.specs.Views.{fields_of, type_of, value_of};
 ghost use Rattle.vx_dtype.specs.declared.error.VortexError.TheVariants.{OutOfMemory};
 ghost use Rattle.vx_prune_stats.specs.Lost.{lost};
@@ -22,7 +22,7 @@ pub(crate) fn places_along(alloc: Global, dtype: &DType, path: &[Field]) -> Vort
     let mut places = Vec::with_capacity(alloc, path.len())?;
     let mut inside = dtype;
     for part in path {
-        let Field::Name(name) = part;
+        let name = part_name(part);
         let Some(fields) = inside.as_struct_fields_opt() else {
             return Err(VortexError::NotAStruct);
         };
@@ -35,6 +35,15 @@ pub(crate) fn places_along(alloc: Global, dtype: &DType, path: &[Field]) -> Vort
         }
     }
     Ok(places)
+}
+
+// The name that a part of a path is.
+fn part_name(part: &Field) -> &FieldName
+    ensures { result.now ≡ part_name part.now }
+{
+    match part {
+        Field::Name(name) => name,
+    }
 }
 
 // Where the first field of that name stands, and its type.
@@ -54,10 +63,20 @@ pub(crate) fn value_at<'a>(row: &'a Value, places: &[usize]) -> Option<&'a Value
 {
     let mut value = row;
     for place in places {
-        let Value::Struct(items) = value else {
-            return None;
-        };
-        value = items.get(*place)?;
+        match item_at(value, *place) {
+            Some(item) => value = item,
+            None => return None,
+        }
     }
     if value.is_null() { None } else { Some(value) }
+}
+
+// The item at that place of a struct.
+fn item_at(value: &Value, place: usize) -> Option<&Value>
+    ensures { unwrap_or (lent_value result) null ≡ at_places (place ∷ []) (value_of value.now) }
+{
+    match value {
+        Value::Struct(items) => items.get(place),
+        _ => None,
+    }
 }
