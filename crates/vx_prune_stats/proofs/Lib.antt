@@ -1,0 +1,4 @@
+pub mod Paths
+pub mod Compared
+pub mod Read
+pub mod Bounding

@@ -1,0 +1,5 @@
+pub mod Along
+pub mod Giving
+pub mod Holding
+pub mod Deciding
+pub mod Found

@@ -1,0 +1,3 @@
+pub mod Bounding
+pub mod Finding
+pub mod Verdicts

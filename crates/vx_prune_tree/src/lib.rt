@@ -1,0 +1,7 @@
+// Pruning.
+#![tactic(auto)]
+
+mod paths;
+mod verdicts;
+
+pub use verdicts::Verdict;
