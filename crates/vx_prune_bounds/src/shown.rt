@@ -23,8 +23,8 @@ fn write_bytes<W: Write>(bytes: &[u8], f: &mut Formatter<W>) -> fmt::Result {
     Ok(())
 }
 
-/// What is known: `5`, `from 1 to 5`, `from 1 on`, `up to 5`, `any value`, each also with `or null`
-/// behind it; `null`; and `nothing` where no value is within.
+/// What is known: `5`, `from 1 to 5`, `from 1 on`, `up to 5`, `false or true`, `any value`, each also
+/// with `or null` behind it; `null`; and `nothing` where no value is within.
 impl Display for Bounds<'_> {
     fn fmt<W: Write>(&self, f: &mut Formatter<W>) -> fmt::Result {
         if !self.value {
@@ -38,6 +38,7 @@ impl Display for Bounds<'_> {
 fn write_values<W: Write>(bounds: &Bounds, f: &mut Formatter<W>) -> fmt::Result {
     match (bounds.least, bounds.greatest) {
         (Some(least), Some(greatest)) if greatest.at_most(&least) => write!(f, "{least}"),
+        (Some(Endpoint::Bool(_)), Some(_)) => f.write_str("false or true"),
         (Some(least), Some(greatest)) => write!(f, "from {least} to {greatest}"),
         (Some(least), None) => write!(f, "from {least} on"),
         (None, Some(greatest)) => write!(f, "up to {greatest}"),
