@@ -1,12 +1,12 @@
 -- The join of bounds is what says most of what both say, and the meet what says least of what says all that both say.
-use Rattle.std.proofs.Common.{◌≡◌, refl, sym, ap, ◌∙◌, inl, inr, Bool, true, false, ◌&&◌, ◌||◌, not}
+use Rattle.std.proofs.Common.{◌≡◌, refl, Bool, true, false, ◌&&◌, ◌||◌}
 use Rattle.std.specs.Prelude.{Option, Some, None}
-use Rattle.std.proofs.lemmas.Bool.{and_parts, and_from, or_left, or_right, or_cases}
+use Rattle.std.proofs.lemmas.Bool.{and_parts, and_from, or_left, or_right}
 use Rattle.vx_value.specs.Types.{Datum}
 use Rattle.vx_prune_bounds.specs.Order.{at_most, lower, higher}
 use Rattle.vx_prune_bounds.specs.Bounds.{Bounds, bounds, exactly, Contains, starts_within, ends_within, IsWithin, known_or_both, of_both, joined_end, join, is_interval, are_comparable, proper, meet, IsProper}
 use Rattle.vx_prune_bounds.proofs.Ordered.{at_most-left, at_most-right, at_most-trans, above_one, below_one, by_lower, by_higher}
-use Rattle.vx_prune_bounds.proofs.Contained.{at_either, implied, implies, Within, within, from_within, within-refl, within-trans, starts-own, ends-own, exactly-within, exactly-in, exactly-proper}
+use Rattle.vx_prune_bounds.proofs.Contained.{at_either, implied, implies, within, from_within, within-refl, within-trans, starts-own, ends-own, exactly-within, exactly-in, exactly-proper}
 
 -- two values in neither order can't be compared
 apart : {P : Type 0} (v w : Datum) → (at_most v w || at_most w v) ≡ true → at_most v w ≡ false → at_most w v ≡ false → P
@@ -162,6 +162,12 @@ within-join-right a b c e =
       ends = λ h. ends-joined-right b.value c.value a.greatest b.greatest c.greatest (w.value h) (w.ends h);
     })
 
+pub join-around-left : (a b : Bounds) → IsProper a → IsWithin a (join a b)
+join-around-left a b p = within-join-left a a b (within-refl a p)
+
+pub join-around-right : (a b : Bounds) → IsProper b → IsWithin b (join a b)
+join-around-right a b p = within-join-right b a b (within-refl b p)
+
 pub join-within : (a b c : Bounds) → IsWithin a c → IsWithin b c → IsWithin (join a b) c
 join-within a b c e f =
     let w = within a c e in
@@ -237,8 +243,8 @@ within-meet a b c p e f =
     from_within a (meet b c) (record {
       null = λ h. and_from _ _ (w.null h) (x.null h);
       value = λ h. and_from _ _
-        (and_from _ _ (w.value h) (and_from _ _ (x.value h) (and_from _ _ (least_comparable a.least b.least c.least (w.starts h) (x.starts h)) (greatest_comparable a.greatest b.greatest c.greatest (w.ends h) (x.ends h)))))
-        (interval-wider a.least a.greatest _ _ (implies _ _ p h) (starts-met a.least b.least c.least (w.starts h) (x.starts h)) (ends-met a.greatest b.greatest c.greatest (w.ends h) (x.ends h)));
+          (and_from _ _ (w.value h) (and_from _ _ (x.value h) (and_from _ _ (least_comparable a.least b.least c.least (w.starts h) (x.starts h)) (greatest_comparable a.greatest b.greatest c.greatest (w.ends h) (x.ends h)))))
+          (interval-wider a.least a.greatest _ _ (implies _ _ p h) (starts-met a.least b.least c.least (w.starts h) (x.starts h)) (ends-met a.greatest b.greatest c.greatest (w.ends h) (x.ends h)));
       starts = λ h. starts-met a.least b.least c.least (w.starts h) (x.starts h);
       ends = λ h. ends-met a.greatest b.greatest c.greatest (w.ends h) (x.ends h);
     })

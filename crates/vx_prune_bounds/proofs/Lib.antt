@@ -4,3 +4,4 @@ pub mod Ends
 pub mod Lattice
 pub mod Sounds
 pub mod Sums
+pub mod Monotone

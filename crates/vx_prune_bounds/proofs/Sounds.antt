@@ -1,23 +1,23 @@
 -- What functions give of values within bounds is within the bounds of what they give.
-use Rattle.std.proofs.Common.{◌≡◌, ℕ, ◌<◌, ◌+◌, ◌^◌, refl, sym, ap, ◌∙◌, subst, Bool, true, false, ◌&&◌, ◌||◌, not, List, [], ◌∷◌, arith}
-use Rattle.std.specs.Prelude.{ℤ, pos, negsuc, ◌+ℤ◌, ◌≤ℤ◌, nat_lt, Option, Some, None, if◌then◌else◌, IsTrue}
+use Rattle.std.proofs.Common.{◌≡◌, refl, ap, ◌∙◌, Bool, true, false, ◌||◌, not, List}
+use Rattle.std.specs.Prelude.{Option, Some, None, if◌then◌else◌}
 use Rattle.std.specs.declared.cmp.Ordering.{Ordering}
 use Rattle.std.specs.declared.cmp.Ordering.TheVariants.{Less, Equal, Greater}
 use Rattle.std.specs.List.{list_all}
-use Rattle.std.specs.Ordering.{is_le, is_lt, is_gt, is_ge, is_eq, is_ne, int_cmp, ordering_reverse}
-use Rattle.std.proofs.lemmas.Bool.{and_parts, and_from, or_left, or_right, or_cases}
+use Rattle.std.specs.Ordering.{is_le, is_lt, is_gt, is_ge, is_ne, ordering_reverse}
+use Rattle.std.proofs.lemmas.Bool.{and_parts, and_from, or_left, or_right}
 use Rattle.vx_dtype.specs.Lists.{Beside, none_beside, more_beside}
-use Rattle.vx_value.specs.Fits.{Fits, EachFits, fits_ptype}
-use Rattle.vx_value.specs.Types.{truth, number, LogicalType, ty, atomic, Datum, null, bool, int, utf8, bytes, list_of, struct_of, is_null_datum}
+use Rattle.vx_value.specs.Fits.{Fits, EachFits}
+use Rattle.vx_value.specs.Types.{truth, LogicalType, ty, atomic, Datum, null, bool, int, utf8, bytes, list_of, struct_of, is_null_datum}
 use Rattle.vx_fn.specs.Functions.{Comparison, equal, not_equal, greater, greater_or_equal, less, less_or_equal, conditions, is_truth}
-use Rattle.vx_fn.specs.Values.{is_true, is_false, kleene_and, kleene_or, kleene_not, order, agrees, compared, bound_comparison, sum_of, first_true}
+use Rattle.vx_fn.specs.Values.{is_true, kleene_and, kleene_or, kleene_not, order, agrees, compared, bound_comparison, first_true}
 use Rattle.vx_fn.proofs.Swaps.{order-turned}
 use Rattle.vx_prune_bounds.specs.Order.{at_most, below}
-use Rattle.vx_prune_bounds.specs.Bounds.{Bounds, bounds, nothing, exactly, is_from, is_up_to, contains, Contains, of_both, join}
-use Rattle.vx_prune_bounds.specs.Truths.{Truths, truths, may_be, MayBe, truths_in, truth_bounds, not_truths, and_truths, or_truths, may_fail}
-use Rattle.vx_prune_bounds.specs.Comparing.{both_known, all_at_most, all_below, surely, opposite, comparison_truths, between_truths}
+use Rattle.vx_prune_bounds.specs.Bounds.{Bounds, exactly, is_from, is_up_to, Contains}
+use Rattle.vx_prune_bounds.specs.Truths.{Truths, truths, MayBe, truths_in, truth_bounds, not_truths, and_truths, or_truths, may_fail}
+use Rattle.vx_prune_bounds.specs.Comparing.{both_known, all_below, surely, opposite, comparison_truths, between_truths}
 use Rattle.vx_prune_bounds.specs.Kernels.{only_if, not_null, fill_bounds, choice_bounds, mask_bounds, case_bounds, null_truths, shaped_as}
-use Rattle.vx_prune_bounds.proofs.Ordered.{at_most-trans, at_most-right, at_most-antisym, below-wider, at_most-order, below-order, own_order}
+use Rattle.vx_prune_bounds.proofs.Ordered.{at_most-trans, at_most-antisym, below-wider, at_most-order, below-order, own_order}
 use Rattle.vx_prune_bounds.proofs.Contained.{by_null, Inside, inside, from_inside, null_in, in_null, contains-exactly}
 use Rattle.vx_prune_bounds.proofs.Lattice.{contains-join-left, contains-join-right}
 
@@ -226,8 +226,8 @@ comparison-sound c x y v w h k = by_null v _ (λ n. at_null (or_left _ _ n) (or_
 
     at_values : is_null_datum v ≡ false → is_null_datum w ≡ false → Inside x v → Inside y w → MayBe (comparison_truths c x y) (compared c v w)
     at_values n m i j = rw (n, m) (answer (comparison_truths c x y) (agrees c (order v w))
-      (λ e. and_from _ _ (and_from _ _ i.value j.value) (unless (surely (opposite c) x y) (agrees (opposite c) (order v w)) (surely-sound (opposite c) x y v w i j) (agrees-opposite c (order v w) ∙ rw e refl)))
-      (λ e. and_from _ _ (and_from _ _ i.value j.value) (unless (surely c x y) (agrees c (order v w)) (surely-sound c x y v w i j) e)))
+        (λ e. and_from _ _ (and_from _ _ i.value j.value) (unless (surely (opposite c) x y) (agrees (opposite c) (order v w)) (surely-sound (opposite c) x y v w i j) (agrees-opposite c (order v w) ∙ rw e refl)))
+        (λ e. and_from _ _ (and_from _ _ i.value j.value) (unless (surely c x y) (agrees c (order v w)) (surely-sound c x y v w i j) e)))
 
 pub between-sound : (ls us : Bool) (x l u : Bounds) (v lv uv : Datum) → Contains x v → Contains l lv → Contains u uv →
     MayBe (between_truths ls us x l u) (kleene_and (compared (bound_comparison ls) lv v) (compared (bound_comparison us) v uv))

@@ -1,5 +1,5 @@
 -- Sums of numbers within bounds.
-use Rattle.std.proofs.Common.{◌≡◌, ℕ, ◌<◌, ◌≤◌, ◌+◌, ◌-◌, ◌^◌, min, refl, sym, ap, ◌∙◌, Bool, true, false, ◌&&◌, ◌||◌, arith, lit≤}
+use Rattle.std.proofs.Common.{◌≡◌, ◌<◌, ◌≤◌, ◌^◌, refl, Bool, true, arith, lit≤}
 use Rattle.std.specs.Prelude.{ℤ, pos, negsuc, nat_lt, ◌+ℤ◌, ◌≤ℤ◌, ◌<ℤ◌, Option, Some, None}
 use Rattle.std.specs.declared.cmp.Ordering.{Ordering}
 use Rattle.std.specs.declared.cmp.Ordering.TheVariants.{Less, Equal, Greater}
@@ -11,9 +11,8 @@ use Rattle.std.proofs.lemmas.Int.{ints}
 use Rattle.vx_dtype.specs.declared.dtype.PType.{PType}
 use Rattle.vx_dtype.specs.declared.dtype.PType.TheVariants.{U8, U16, U32, U64, I8, I16, I32, I64}
 use Rattle.vx_value.specs.Fits.{Fits, fits_ptype}
-use Rattle.vx_value.specs.Types.{bits, is_signed, number, ty, atomic, Datum, null, bool, int, utf8, bytes, list_of, struct_of, is_null_datum}
+use Rattle.vx_value.specs.Types.{bits, is_signed, number, ty, atomic, Datum, null, bool, int, utf8, bytes, list_of, struct_of}
 use Rattle.vx_fn.specs.Values.{sum_of}
-use Rattle.vx_prune_bounds.specs.Order.{at_most}
 use Rattle.vx_prune_bounds.specs.Bounds.{Bounds, is_from, is_up_to, Contains, of_both}
 use Rattle.vx_prune_bounds.specs.Kernels.{sum_end, sum_bounds}
 use Rattle.vx_prune_bounds.proofs.Contained.{inside, from_inside}
