@@ -3,4 +3,4 @@ pub mod Fixed
 pub mod Orders
 pub mod Texts
 pub mod Likeness
-pub mod Narrowing
+pub mod Monotone

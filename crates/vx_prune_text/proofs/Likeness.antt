@@ -7,7 +7,7 @@ use Rattle.vx_value.specs.Fits.{Fits}
 use Rattle.vx_value.specs.Types.{ty, atomic, text, Datum, null, bool, int, utf8, bytes, list_of, struct_of}
 use Rattle.vx_fn.specs.Values.{parts, is_like, flipped, liked}
 use Rattle.vx_prune_bounds.specs.Bounds.{Bounds, Contains}
-use Rattle.vx_prune_bounds.specs.Truths.{truths, truth_bounds}
+use Rattle.vx_prune_bounds.specs.Truths.{truths, MayBe}
 use Rattle.vx_prune_bounds.proofs.Contained.{Inside, inside}
 use Rattle.vx_prune_text.specs.Beginnings.{fixed_characters, beginning, none_like, only_text, surely_unlike, flipped_truths, like_truths}
 use Rattle.vx_prune_text.proofs.Fixed.{matches-begins}
@@ -43,49 +43,38 @@ surely-unlike ci x p t q e i j = go (only_text p) refl e
         let text : q ≡ r = cc in
         subst (λ z. is_like ci t z ≡ false) (sym text) (none-like ci x t r h i)
 
--- ---- what LIKE gives is within what it may give
+-- ---- what LIKE gives is what it may give
 
-holds : (n f t b : Bool) → (if b then t else f) ≡ true → Contains (truth_bounds (truths n f t)) (bool b)
-holds n true true true e = refl
-holds n true true false e = refl
-holds n true false true e = cc
-holds n true false false e = refl
-holds n false true true e = refl
-holds n false true false e = cc
-holds n false false true e = cc
-holds n false false false e = cc
+answer : (negated n f t b : Bool) → (if b then t else f) ≡ true → MayBe (flipped_truths negated (truths n f t)) (bool (flipped negated b))
+answer false n f t b e = e
+answer true n f t true e = e
+answer true n f t false e = e
 
-flipped_holds : (negated n f t b : Bool) → (if b then t else f) ≡ true → Contains (truth_bounds (flipped_truths negated (truths n f t))) (bool (flipped negated b))
-flipped_holds false n f t b e = holds n f t b e
-flipped_holds true n f t true e = holds n t f false e
-flipped_holds true n f t false e = holds n t f true e
-
-null_holds : (negated n f t : Bool) → n ≡ true → Contains (truth_bounds (flipped_truths negated (truths n f t))) null
-null_holds false n f t e = e
-null_holds true n f t e = e
+null_answer : (negated n f t : Bool) → n ≡ true → MayBe (flipped_truths negated (truths n f t)) null
+null_answer false n f t e = e
+null_answer true n f t e = e
 
 some_answer : (both unlike b : Bool) → both ≡ true → (unlike ≡ true → b ≡ false) → (if b then both && not unlike else both) ≡ true
 some_answer both unlike false e f = e
 some_answer both false true e f = and_from _ _ e refl
 some_answer both true true e f = let h = f refl in cc
 
--- what LIKE gives of texts within the bounds is what it may give
-pub like-contained : (negated ci : Bool) (x p : Bounds) (v w : Datum) (m n : Bool) → Fits v (ty (atomic text) m) → Fits w (ty (atomic text) n) → Contains x v → Contains p w →
-    Contains (truth_bounds (like_truths negated ci x p)) (liked negated ci v w)
-like-contained negated ci x p null w m n f g i j = null_holds negated _ _ _ (or_left _ _ i)
-like-contained negated ci x p (utf8 t) null m n f g i j = null_holds negated _ _ _ (or_right _ _ j)
-like-contained negated ci x p (utf8 t) (utf8 q) m n f g i j =
+pub like-sound : (negated ci : Bool) (x p : Bounds) (v w : Datum) (m n : Bool) → Fits v (ty (atomic text) m) → Fits w (ty (atomic text) n) → Contains x v → Contains p w →
+    MayBe (like_truths negated ci x p) (liked negated ci v w)
+like-sound negated ci x p null w m n f g i j = null_answer negated _ _ _ (or_left _ _ i)
+like-sound negated ci x p (utf8 t) null m n f g i j = null_answer negated _ _ _ (or_right _ _ j)
+like-sound negated ci x p (utf8 t) (utf8 q) m n f g i j =
     let at = inside x (utf8 t) refl i in
     let by = inside p (utf8 q) refl j in
-    flipped_holds negated _ _ _ (is_like ci t q)
+    answer negated _ _ _ (is_like ci t q)
     (some_answer (x.value && p.value) (surely_unlike ci x (only_text p)) (is_like ci t q) (and_from _ _ at.value by.value) (λ e. surely-unlike ci x p t q e at by))
-like-contained negated ci x p (utf8 t) (bool z) m n f g i j = cc
-like-contained negated ci x p (utf8 t) (int z) m n f g i j = cc
-like-contained negated ci x p (utf8 t) (bytes z) m n f g i j = cc
-like-contained negated ci x p (utf8 t) (list_of z) m n f g i j = cc
-like-contained negated ci x p (utf8 t) (struct_of z) m n f g i j = cc
-like-contained negated ci x p (bool z) w m n f g i j = cc
-like-contained negated ci x p (int z) w m n f g i j = cc
-like-contained negated ci x p (bytes z) w m n f g i j = cc
-like-contained negated ci x p (list_of z) w m n f g i j = cc
-like-contained negated ci x p (struct_of z) w m n f g i j = cc
+like-sound negated ci x p (utf8 t) (bool z) m n f g i j = cc
+like-sound negated ci x p (utf8 t) (int z) m n f g i j = cc
+like-sound negated ci x p (utf8 t) (bytes z) m n f g i j = cc
+like-sound negated ci x p (utf8 t) (list_of z) m n f g i j = cc
+like-sound negated ci x p (utf8 t) (struct_of z) m n f g i j = cc
+like-sound negated ci x p (bool z) w m n f g i j = cc
+like-sound negated ci x p (int z) w m n f g i j = cc
+like-sound negated ci x p (bytes z) w m n f g i j = cc
+like-sound negated ci x p (list_of z) w m n f g i j = cc
+like-sound negated ci x p (struct_of z) w m n f g i j = cc
