@@ -11,16 +11,9 @@ use Rattle.vx_fn.specs.Rows.{FnType, of_get_item}
 use Rattle.vx_fn.specs.Values.{item_value}
 use Rattle.vx_tree.specs.Meaning.{value}
 use Rattle.vx_tree.specs.Trees.{BoundTree, scope, node, BoundTrees, no_bound, bound, node_type, WellTyped, Over}
+use Rattle.vx_prune_stats.proofs.Paths.{at_path-null}
 use Rattle.vx_prune_stats.specs.Stats.{at_path, in_known}
 use Rattle.vx_prune_tree.specs.Bounding.{path_to, path_to_only}
-
--- null has null along each path
-at_path-null : (t : LogicalType) (path : Path) → at_path t path null ≡ null
-at_path-null t [] = refl
-at_path-null (ty (struct fs) n) (a ∷ path) = refl
-at_path-null (ty (atomic p) n) (a ∷ path) = refl
-at_path-null (ty (list t) n) (a ∷ path) = refl
-at_path-null (ty (fixed t k) n) (a ∷ path) = refl
 
 -- nullability doesn't matter to a path
 at_path-nullability : (s : Shape) (n m : Bool) (path : Path) (v : Datum) → at_path (ty s n) path v ≡ at_path (ty s m) path v

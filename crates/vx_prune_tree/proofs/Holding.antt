@@ -14,6 +14,7 @@ use Rattle.vx_tree.specs.Trees.{BoundTree, scope, node, BoundTrees, no_bound, bo
 use Rattle.vx_prune_bounds.proofs.Contained.{fits-any_of}
 use Rattle.vx_prune_bounds.proofs.Lattice.{contains-meet}
 use Rattle.vx_prune_bounds.specs.Bounds.{Bounds, Contains, any_of}
+use Rattle.vx_prune_stats.proofs.Bounding.{bounds_hold}
 use Rattle.vx_prune_stats.specs.Stats.{Facts, Describes, at_path}
 use Rattle.vx_prune_tree.proofs.Giving.{in-unknown, fn_bounds-sound}
 use Rattle.vx_prune_tree.proofs.Along.{path_to-value}
@@ -24,7 +25,7 @@ use Rattle.vx_prune_tree.specs.Verdicts.{BoundsHold}
 at_path_or-holds : (facts : Facts) (s : LogicalType) (rows : List Datum) (v w : Datum) (o : Option Path) (otherwise : Bounds) →
     Describes facts s rows → IsIn v rows → ((path : Path) → o ≡ Some path → at_path s path v ≡ w) → Contains otherwise w → Contains (at_path_or facts o otherwise) w
 at_path_or-holds facts s rows v w None otherwise d i along h = h
-at_path_or-holds facts s rows v w (Some path) otherwise d i along h = subst (Contains (at_path_or facts (Some path) otherwise)) (along path refl) (?)
+at_path_or-holds facts s rows v w (Some path) otherwise d i along h = subst (Contains (at_path_or facts (Some path) otherwise)) (along path refl) (bounds_hold facts s rows d v i path)
 
 mutual
   pub bounds_in-hold : (facts : Facts) (b : BoundTree) (s : LogicalType) (rows : List Datum) (v : Datum) →

@@ -49,6 +49,10 @@ abbrev pub of_three : (Bounds → Bounds → Bounds → Bounds) → List Bounds 
 of_three f (x ∷ y ∷ z ∷ []) = f x y z
 of_three f _ = unknown
 
+-- bounds of a struct that isn't null
+abbrev pub a_struct : Bounds
+a_struct = bounds false true None None
+
 -- bounds of a field of a struct within these
 abbrev pub item_bounds : Bounds → Bounds
 item_bounds x = bounds true x.value None None
@@ -65,7 +69,7 @@ abbrev pub fn_bounds : Function → List Bounds → Bounds
 fn_bounds (case_when pairs has_else) = case_bounds
 fn_bounds (get_item a) = of_one item_bounds
 fn_bounds (literal u v) = λ _. exactly v
-fn_bounds (pack names n) = λ _. bounds false true None None
+fn_bounds (pack names n) = λ _. a_struct
 fn_bounds (select selection) = of_one shaped_as
 fn_bounds fill_null = of_two fill_bounds
 fn_bounds zip = of_three (λ x y m. choice_bounds (truths_in m) x y)

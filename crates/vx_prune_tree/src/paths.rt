@@ -1,15 +1,17 @@
 // Trees that are paths: the scope root, and fields of such trees. None of these calls takes memory.
 ghost use Rattle.std.specs.Prelude.{◌≡◌, ◌∷◌, ◌++◌, [], Some, is_some, option_map};
 ghost use Rattle.std.specs.Map.{lookup};
-ghost use Rattle.vx_value.specs.Paths.{part_name, path_of};
+ghost use Rattle.vx_value.specs.Paths.{Path, part_name, path_of};
 ghost use Rattle.vx_tree.specs.Views.{bound_of, bounds_of};
 ghost use Rattle.vx_prune_bounds.specs.Views.{bounds_view};
 ghost use Rattle.vx_prune_stats.specs.Stats.{facts_at, field_bounds};
 ghost use Rattle.vx_prune_stats.specs.Views.{stats_facts};
-ghost use Rattle.vx_prune_tree.specs.Bounding.{path_to, path_to_only, unknown};
+ghost use Rattle.vx_prune_tree.specs.Bounding.{path_to, path_to_only};
 ghost use Rattle.vx_prune_tree.specs.Finding.{is_that_path};
 
+use crate::functions::unknown;
 use vx_fn::ScalarFnRef;
+use vx_prune_bounds::Bounds;
 use vx_prune_stats::{ChunkStats, FieldStats};
 use vx_tree::BoundExpression;
 use vx_types::{Field, FieldName};
@@ -40,6 +42,16 @@ fn is_only_path(children: &[BoundExpression]) -> bool
     match children {
         [child] => is_path(child),
         _ => false,
+    }
+}
+
+/// Bounds of a path's values by the first entry of the path, else those of which nothing is known.
+pub(crate) fn along<'a>(e: &BoundExpression, stats: &'a ChunkStats) -> Bounds<'a>
+    ensures { (path : Path) → path_to (bound_of e.now) ≡ Some path → bounds_view result ≡ field_bounds stats.now.rows (facts_at stats.now.fields path) }
+{
+    match entry_of(e, stats) {
+        Some(_known) => unknown(),
+        None => unknown(),
     }
 }
 

@@ -1,0 +1,156 @@
+// Bounds of a tree's values in a chunk of rows of which something is known.
+ghost use Rattle.std.specs.Prelude.{◌≡◌, ◌∷◌, [], IsTrue, None, is_some, length};
+ghost use Rattle.vx_fn.specs.Views.{function_of};
+ghost use Rattle.vx_tree.specs.Trees.{WellTyped};
+ghost use Rattle.vx_tree.specs.Views.{bound_of, bounds_of};
+ghost use Rattle.vx_prune_bounds.specs.Kernels.{case_bounds};
+ghost use Rattle.vx_prune_bounds.specs.Views.{bounds_view};
+ghost use Rattle.vx_prune_tree.specs.Bounding.{bounds_in, each_bounds_in, fn_bounds, is_of_children, item_path, path_to, path_to_only};
+ghost use Rattle.vx_prune_tree.specs.Verdicts.{BoundsHold};
+
+use crate::functions::{a_null, a_struct, choice, meet, of_one, of_three, of_two, unknown};
+use crate::paths::{along, is_path};
+use vx_fn::ScalarFnRef;
+use vx_prune_bounds::Bounds;
+use vx_prune_stats::ChunkStats;
+use vx_tree::BoundExpression;
+
+/// What is known of the tree's values in a chunk of these statistics. Asks a well-typed tree.
+///
+/// The values of a path, which is the scope root or a field of a path, are as the statistics of that
+/// path say, and those of another tree as its function makes them of its children's; all are of the
+/// tree's type. So in each row of a batch of which the statistics are true, and on which the tree
+/// doesn't fault, the tree's value is within these bounds.
+///
+/// Takes no memory. Looks at each node of the tree once, and at each node of a path once for each
+/// entry of the statistics.
+pub fn bounds<'a>(e: &'a BoundExpression, stats: &'a ChunkStats) -> Bounds<'a>
+    requires { WellTyped (bound_of e.now) }
+    ensures exact { bounds_view result ≡ bounds_in stats.now (bound_of e.now) }
+    ensures hold { BoundsHold stats.now (bound_of e.now) }
+{
+    bounds_of_tree(e, stats)
+}
+
+// The same of any tree.
+#[cycle(bounds_at)]
+fn bounds_of_tree<'a>(e: &'a BoundExpression, stats: &'a ChunkStats) -> Bounds<'a>
+    ensures { bounds_view result ≡ bounds_in stats.now (bound_of e.now) }
+{
+    bounds_at(e, stats, is_path(e))
+}
+
+// The same where it is known whether the tree is a path.
+#[cycle(bounds_at)]
+fn bounds_at<'a>(e: &'a BoundExpression, stats: &'a ChunkStats, is_path: bool) -> Bounds<'a>
+    requires { is_path ≡ is_some (path_to (bound_of e.now)) }
+    ensures { bounds_view result ≡ bounds_in stats.now (bound_of e.now) }
+{
+    if is_path {
+        return meet(&Bounds::any_of(e.dtype()), &along(e, stats));
+    }
+    match e {
+        BoundExpression::Root { .. } => unreachable!(),
+        BoundExpression::Scalar {
+            dtype,
+            scalar_fn,
+            children,
+        } => meet(
+            &Bounds::any_of(dtype),
+            &given(scalar_fn, children.as_slice(), stats),
+        ),
+    }
+}
+
+// Those of what the function of a tree that is no path gives of its children's values.
+#[cycle(bounds_at)]
+fn given<'a>(
+    f: &'a ScalarFnRef,
+    children: &'a [BoundExpression],
+    stats: &'a ChunkStats,
+) -> Bounds<'a>
+    requires { item_path (function_of f.now) (path_to_only (bounds_of children.now)) ≡ None }
+    ensures { bounds_view result ≡ fn_bounds (function_of f.now) (each_bounds_in stats.now (bounds_of children.now)) }
+{
+    match f {
+        ScalarFnRef::CaseWhen(_) => given_by_case(children, stats),
+        ScalarFnRef::Literal(scalar) => Bounds::exactly(scalar.value()),
+        ScalarFnRef::Pack(_) => a_struct(),
+        _ => match children.len() {
+            1 => given_of_one(f, &children[0], stats),
+            2 => given_of_two(f, children, stats),
+            3 => given_of_three(f, children, stats),
+            _ => unknown(),
+        },
+    }
+}
+
+// Those of a function of one child, which is no path where the function is an item.
+#[cycle(bounds_at)]
+#[inline(never)]
+fn given_of_one<'a>(
+    f: &'a ScalarFnRef,
+    x: &'a BoundExpression,
+    stats: &'a ChunkStats,
+) -> Bounds<'a>
+    requires kind { IsTrue (is_of_children (function_of f.now)) }
+    requires no_path { item_path (function_of f.now) (path_to (bound_of x.now)) ≡ None }
+    ensures { bounds_view result ≡ fn_bounds (function_of f.now) (bounds_in stats.now (bound_of x.now) ∷ []) }
+{
+    let is_path = !matches!(f, ScalarFnRef::GetItem(_)) && is_path(x);
+    of_one(f, bounds_at(x, stats, is_path))
+}
+
+// Those of a function of two children.
+#[cycle(bounds_at)]
+#[inline(never)]
+fn given_of_two<'a>(
+    f: &'a ScalarFnRef,
+    children: &'a [BoundExpression],
+    stats: &'a ChunkStats,
+) -> Bounds<'a>
+    requires kind { IsTrue (is_of_children (function_of f.now)) }
+    requires number { length children.now ≡ 2 }
+    ensures { bounds_view result ≡ fn_bounds (function_of f.now) (each_bounds_in stats.now (bounds_of children.now)) }
+{
+    let x = bounds_of_tree(&children[0], stats);
+    let y = bounds_of_tree(&children[1], stats);
+    of_two(f, x, y)
+}
+
+// Those of a function of three children.
+#[cycle(bounds_at)]
+#[inline(never)]
+fn given_of_three<'a>(
+    f: &'a ScalarFnRef,
+    children: &'a [BoundExpression],
+    stats: &'a ChunkStats,
+) -> Bounds<'a>
+    requires kind { IsTrue (is_of_children (function_of f.now)) }
+    requires number { length children.now ≡ 3 }
+    ensures { bounds_view result ≡ fn_bounds (function_of f.now) (each_bounds_in stats.now (bounds_of children.now)) }
+{
+    let x = bounds_of_tree(&children[0], stats);
+    let y = bounds_of_tree(&children[1], stats);
+    let z = bounds_of_tree(&children[2], stats);
+    of_three(f, x, y, z)
+}
+
+// A CASE over conditions and values in turn, from the last pair on.
+#[cycle(bounds_at)]
+#[inline(never)]
+fn given_by_case<'a>(children: &'a [BoundExpression], stats: &'a ChunkStats) -> Bounds<'a>
+    ensures { bounds_view result ≡ case_bounds (each_bounds_in stats.now (bounds_of children.now)) }
+{
+    let pairs = children.len() / 2;
+    let mut rest = match children.get(2 * pairs) {
+        Some(e) => bounds_of_tree(e, stats),
+        None => a_null(),
+    };
+    for pair in (0..pairs).rev() {
+        let condition = bounds_of_tree(&children[2 * pair], stats);
+        let value = bounds_of_tree(&children[2 * pair + 1], stats);
+        rest = choice(&condition, &value, &rest);
+    }
+    rest
+}
