@@ -7,8 +7,8 @@ mod comparing;
 mod endpoint;
 mod joins;
 mod kernels;
-mod shown;
 mod laws;
+mod shown;
 mod truths;
 
 pub use bounds::Bounds;
