@@ -81,7 +81,7 @@ impl ChunkStats {
         ensures unchanged { OnErr result (self.new ≡ self.old) }
         ensures memory { IfErr result (λ e. e ≡ OutOfMemory) }
     {
-        match self.place_of(&path) {
+        match place_of(self.fields.as_slice(), &path) {
             Some(place) => self.fields[place].1 = stats,
             None => self.fields.push((path, stats))?,
         }
@@ -99,7 +99,7 @@ impl ChunkStats {
     pub fn field(&self, path: &FieldPath) -> Option<&FieldStats>
         ensures { option_map (λ stats. stats_facts stats.now) result ≡ entry_at self.now.fields path.now }
     {
-        let place = self.place_of(path)?;
+        let place = place_of(self.fields.as_slice(), path)?;
         Some(&self.fields[place].1)
     }
 
@@ -109,11 +109,11 @@ impl ChunkStats {
     {
         self.fields.as_slice()
     }
+}
 
-    // Where the path stands among the entries.
-    fn place_of(&self, path: &FieldPath) -> Option<usize>
-        ensures { result ≡ position (λ entry. equal_path path.now entry.0) self.now.fields }
-    {
-        self.fields.iter().position(|entry| *path == entry.0)
-    }
+// Where the path stands among the entries.
+fn place_of(entries: &[(FieldPath, FieldStats)], path: &FieldPath) -> Option<usize>
+    ensures { result ≡ position (λ entry. equal_path path.now entry.0) entries.now }
+{
+    entries.iter().position(|entry| *path == entry.0)
 }
