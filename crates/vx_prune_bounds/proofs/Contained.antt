@@ -1,12 +1,12 @@
 -- Which values lie within bounds, and which bounds say more than others.
-use Rattle.std.proofs.Common.{◌≡◌, refl, sym, ap, ◌∙◌, subst, inl, inr, Bool, true, false, ◌&&◌, ◌||◌, not}
-use Rattle.std.specs.Prelude.{Option, Some, None, if◌then◌else◌, IsTrue}
-use Rattle.std.proofs.lemmas.Bool.{and_parts, and_from, or_left, or_right, or_cases}
+use Rattle.std.proofs.Common.{◌≡◌, refl, sym, ◌∙◌, Bool, true, false, ◌&&◌, ◌||◌, not}
+use Rattle.std.specs.Prelude.{Option, Some, None, if◌then◌else◌}
+use Rattle.std.proofs.lemmas.Bool.{and_parts, and_from}
 use Rattle.vx_value.specs.Fits.{Fits}
 use Rattle.vx_value.specs.Types.{LogicalType, ty, Datum, null, is_null_datum, is_nullable}
-use Rattle.vx_prune_bounds.specs.Order.{at_most, comparable, lower, higher}
-use Rattle.vx_prune_bounds.specs.Bounds.{Bounds, bounds, nothing, any_of, exactly, is_from, is_up_to, contains, Contains, starts_within, ends_within, is_within, IsWithin, known_or_both, of_both, joined_end, join, is_interval, are_comparable, proper, meet, IsProper}
-use Rattle.vx_prune_bounds.proofs.Ordered.{at_most-left, at_most-right, at_most-trans, above_one, below_one, not_null_end, by_lower, by_higher, comparable-own}
+use Rattle.vx_prune_bounds.specs.Order.{at_most, comparable}
+use Rattle.vx_prune_bounds.specs.Bounds.{Bounds, nothing, any_of, exactly, is_from, is_up_to, contains, Contains, starts_within, ends_within, IsWithin, is_interval, IsProper}
+use Rattle.vx_prune_bounds.proofs.Ordered.{at_most-left, at_most-right, at_most-trans, comparable-own}
 
 -- ---- tests
 
@@ -18,7 +18,7 @@ pub implies : (x y : Bool) → (not x || y) ≡ true → x ≡ true → y ≡ tr
 implies true y e h = e
 implies false y e h = cc
 
-at_either : {P : Type 0} (x y : Bool) → (x || y) ≡ true → (x ≡ true → P) → (y ≡ true → P) → P
+pub at_either : {P : Type 0} (x y : Bool) → (x || y) ≡ true → (x ≡ true → P) → (y ≡ true → P) → P
 at_either true y e f g = f refl
 at_either false y e f g = g e
 
@@ -103,12 +103,12 @@ ends-trans g None (Some i) e f = cc
 ends-trans None (Some h) (Some i) e f = cc
 ends-trans (Some g) (Some h) (Some i) e f = at_most-trans g h i e f
 
-starts-own : (l g : Option Datum) → is_interval l g ≡ true → starts_within l l ≡ true
+pub starts-own : (l g : Option Datum) → is_interval l g ≡ true → starts_within l l ≡ true
 starts-own None g e = refl
 starts-own (Some l) None e = e
 starts-own (Some l) (Some g) e = at_most-left l g e
 
-ends-own : (l g : Option Datum) → is_interval l g ≡ true → ends_within g g ≡ true
+pub ends-own : (l g : Option Datum) → is_interval l g ≡ true → ends_within g g ≡ true
 ends-own l None e = refl
 ends-own None (Some g) e = e
 ends-own (Some l) (Some g) e = at_most-right l g e

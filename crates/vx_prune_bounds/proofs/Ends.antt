@@ -2,7 +2,6 @@
 use Rattle.std.proofs.Common.{◌≡◌, List, ℕ, refl, sym, ap, ◌∙◌, rules, Vec, Global, Bool, true, false, ◌&&◌}
 use Rattle.std.specs.Prelude.{Option, Some, None, is_none, option_map, string_bytes, if◌then◌else◌}
 use Rattle.std.specs.declared.string.String.{String}
-use Rattle.std.proofs.lemmas.Bool.{and_right}
 use Rattle.vx_value.specs.declared.value.Value.{Value, Utf8, Binary, the_lemmas}
 use Rattle.vx_value.specs.Types.{Datum, is_null_datum, utf8, bytes}
 use Rattle.vx_value.specs.Views.{value_of}

@@ -1,5 +1,5 @@
 -- What comparisons of values within bounds may give.
-use Rattle.std.specs.Prelude.{Bool, true, false, ◌&&◌, ◌||◌, not, Option, Some, None}
+use Rattle.std.specs.Prelude.{Bool, true, false, ◌&&◌, ◌||◌, not, Option, Some}
 use Rattle.vx_value.specs.Types.{Datum}
 use Rattle.vx_fn.specs.Functions.{Operation, compares, Comparison, equal, not_equal, greater, greater_or_equal, less, less_or_equal}
 use Rattle.vx_fn.specs.Values.{bound_comparison}
@@ -42,8 +42,8 @@ opposite less_or_equal = greater
 abbrev pub comparison_truths : Comparison → Bounds → Bounds → Truths
 comparison_truths c x y =
     truths (x.null || y.null)
-        ((x.value && y.value) && not (surely c x y))
-        ((x.value && y.value) && not (surely (opposite c) x y))
+    ((x.value && y.value) && not (surely c x y))
+    ((x.value && y.value) && not (surely (opposite c) x y))
 
 -- what a comparison may give, and of another operation anything
 abbrev pub operation_truths : Operation → Bounds → Bounds → Truths

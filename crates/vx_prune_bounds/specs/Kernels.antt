@@ -1,5 +1,5 @@
 -- Bounds of what functions give of values within bounds.
-use Rattle.std.specs.Prelude.{Bool, true, false, ◌&&◌, ◌||◌, not, List, [], ◌∷◌, Option, Some, None, ◌+ℤ◌, if◌then◌else◌}
+use Rattle.std.specs.Prelude.{Bool, false, ◌&&◌, ◌||◌, List, [], ◌∷◌, Option, Some, None, ◌+ℤ◌, if◌then◌else◌}
 use Rattle.std.specs.Int.{saturate_signed, w128}
 use Rattle.vx_value.specs.Types.{Datum, null, int}
 use Rattle.vx_prune_bounds.specs.Bounds.{Bounds, bounds, nothing, exactly, of_both, join}

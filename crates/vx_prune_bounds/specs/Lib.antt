@@ -4,3 +4,4 @@ pub mod Truths
 pub mod Comparing
 pub mod Kernels
 pub mod Views
+pub mod Laws

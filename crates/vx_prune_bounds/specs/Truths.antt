@@ -1,5 +1,5 @@
 -- Which of null, false and true a truth value may be.
-use Rattle.std.specs.Prelude.{Bool, true, false, ◌&&◌, ◌||◌, Some, if◌then◌else◌}
+use Rattle.std.specs.Prelude.{Bool, true, false, ◌&&◌, ◌||◌, not, Some, if◌then◌else◌, IsTrue}
 use Rattle.vx_value.specs.Types.{Datum, null, bool}
 use Rattle.vx_prune_bounds.specs.Bounds.{Bounds, bounds, contains}
 pub use Rattle.vx_prune_bounds.specs.declared.truths.Truths.{Truths}
@@ -7,6 +7,24 @@ pub use Rattle.vx_prune_bounds.specs.declared.truths.Truths.{Truths}
 -- these together
 abbrev pub truths : Bool → Bool → Bool → Truths
 truths n f t = record { null = n; no = f; yes = t }
+
+-- whether the value is one of these
+abbrev pub may_be : Truths → Datum → Bool
+may_be t null = t.null
+may_be t (bool b) = if b then t.yes else t.no
+may_be t _ = false
+
+-- the value is one of these
+abbrev pub MayBe : Truths → Datum → Type 0
+MayBe t v = IsTrue (may_be t v)
+
+-- whether the second may be all that the first may be
+abbrev pub are_within : Truths → Truths → Bool
+are_within s t = (not s.null || t.null) && ((not s.no || t.no) && (not s.yes || t.yes))
+
+-- the second may be all that the first may be
+abbrev pub AreWithin : Truths → Truths → Type 0
+AreWithin s t = IsTrue (are_within s t)
 
 -- what a value within the bounds may be
 abbrev pub truths_in : Bounds → Truths

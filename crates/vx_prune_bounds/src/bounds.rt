@@ -7,8 +7,9 @@ ghost use Rattle.vx_prune_bounds.specs.Views.{endpoint_value};
 use crate::endpoint::Endpoint;
 use vx_types::{DType, Value};
 
-/// What is known of a value. It may be null or another one, and lies then between these ends, each
-/// of which is no more than known. Ends that can't be compared with the value leave it no room.
+/// What is known of a value: whether it may be null, whether it may be another one, and between
+/// which ends it lies then. An end that isn't there says nothing, and one of another kind leaves a
+/// value out.
 #[derive(Clone, Copy, Debug)]
 pub struct Bounds<'a> {
     /// Whether it may be null.

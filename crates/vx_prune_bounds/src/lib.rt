@@ -1,10 +1,21 @@
-// What is known of a value, for pruning.
+// What is known of a value, for pruning: its order, bounds, and what functions give of values
+// within bounds.
 #![tactic(auto)]
 
 mod bounds;
+mod comparing;
 mod endpoint;
+mod joins;
+mod kernels;
+mod laws;
 mod truths;
 
 pub use bounds::Bounds;
+pub use comparing::{between_truths, comparison_truths};
 pub use endpoint::Endpoint;
+pub use kernels::{choice_bounds, fill_bounds, mask_bounds, sum_bounds};
+pub use laws::{
+    bounds_are_ordered, join_is_the_narrowest_around_both, meet_is_the_widest_within_both,
+    values_are_bounds, wider_bounds_contain_more,
+};
 pub use truths::Truths;

@@ -1,7 +1,6 @@
-use Rattle.std.proofs.Common.{rules, ap, sym, ◌∙◌}
+use Rattle.std.proofs.Common.{ap, ◌∙◌}
 use Rattle.std.specs.Ordering.{is_le}
 use Rattle.std.proofs.lemmas.Str.{is_utf8-from_IsUtf8}
-use Rattle.vx_prune_bounds.proofs.Contained.{within-trans}
 use Rattle.vx_prune_bounds.proofs.endpoint.is_text_at_most.Goals as goal
 
 pub returns : goal.returns

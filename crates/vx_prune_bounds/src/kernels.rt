@@ -1,0 +1,146 @@
+// Bounds of what functions give of values within bounds.
+ghost use Rattle.std.specs.Prelude.{◌≡◌, option_map};
+ghost use Rattle.vx_value.specs.Types.{null};
+ghost use Rattle.vx_prune_bounds.specs.Bounds.{exactly, of_both};
+ghost use Rattle.vx_prune_bounds.specs.Kernels.{sum_end, sum_bounds, only_if, not_null, fill_bounds, choice_bounds, mask_bounds, null_truths, shaped_as};
+ghost use Rattle.vx_prune_bounds.specs.Truths.{truths_in, truth_bounds};
+ghost use Rattle.vx_prune_bounds.specs.Views.{endpoint_value, bounds_view};
+
+use crate::bounds::Bounds;
+use crate::endpoint::Endpoint;
+use crate::truths::Truths;
+
+impl<'a> Bounds<'a> {
+    /// What null alone is within. Takes no memory.
+    pub fn only_null() -> Bounds<'a>
+        ensures { bounds_view result ≡ exactly null }
+    {
+        Bounds {
+            null: true,
+            value: false,
+            least: None,
+            greatest: None,
+        }
+    }
+
+    /// The bounds of a truth value that may be these. Takes no memory.
+    pub fn of_truths(truths: Truths) -> Bounds<'a>
+        ensures { bounds_view result ≡ truth_bounds truths }
+    {
+        Bounds {
+            null: truths.null,
+            value: truths.no || truths.yes,
+            least: Some(Endpoint::Bool(!truths.no)),
+            greatest: Some(Endpoint::Bool(truths.yes)),
+        }
+    }
+
+    /// Which of null, false and true are within these bounds. Takes no memory.
+    pub fn truths(&self) -> Truths
+        ensures { result ≡ truths_in (bounds_view self.now) }
+    {
+        Truths {
+            null: self.null,
+            no: self.admits(&Endpoint::Bool(false)),
+            yes: self.admits(&Endpoint::Bool(true)),
+        }
+    }
+
+    /// Whether a value within these bounds is null. Takes no memory.
+    pub fn null_truths(&self) -> Truths
+        ensures { result ≡ null_truths (bounds_view self.now) }
+    {
+        Truths {
+            null: false,
+            no: self.value,
+            yes: self.null,
+        }
+    }
+
+    /// The same bounds, without null. Takes no memory.
+    pub fn not_null(&self) -> Bounds<'a>
+        ensures { bounds_view result ≡ not_null (bounds_view self.now) }
+    {
+        Bounds {
+            null: false,
+            value: self.value,
+            least: self.least,
+            greatest: self.greatest,
+        }
+    }
+
+    /// The same bounds where that may be, else what no value is within. Takes no memory.
+    pub fn only_if(&self, may_be: bool) -> Bounds<'a>
+        ensures { bounds_view result ≡ only_if may_be (bounds_view self.now) }
+    {
+        if may_be {
+            Bounds {
+                null: self.null,
+                value: self.value,
+                least: self.least,
+                greatest: self.greatest,
+            }
+        } else {
+            Bounds::nothing()
+        }
+    }
+
+    /// The bounds of a value that is null where a value within these is, with no ends. Takes no
+    /// memory.
+    pub fn shaped_as(&self) -> Bounds<'a>
+        ensures { bounds_view result ≡ shaped_as (bounds_view self.now) }
+    {
+        Bounds {
+            null: self.null,
+            value: self.value,
+            least: None,
+            greatest: None,
+        }
+    }
+}
+
+/// Bounds of the sum of two numbers, of which each is one of a number type. Takes no memory.
+pub fn sum_bounds<'a>(x: &Bounds, y: &Bounds) -> Bounds<'a>
+    ensures { bounds_view result ≡ sum_bounds (bounds_view x.now) (bounds_view y.now) }
+{
+    Bounds {
+        null: x.null || y.null,
+        value: x.value && y.value,
+        least: sum_end(x.least, y.least),
+        greatest: sum_end(x.greatest, y.greatest),
+    }
+}
+
+// The sum of two ends, or the number nearest to it, if both are known numbers.
+fn sum_end<'a>(x: Option<Endpoint>, y: Option<Endpoint>) -> Option<Endpoint<'a>>
+    ensures { option_map endpoint_value result ≡ of_both sum_end (option_map endpoint_value x.entry) (option_map endpoint_value y.entry) }
+{
+    match x {
+        Some(Endpoint::Int(i)) => match y {
+            Some(Endpoint::Int(j)) => Some(Endpoint::Int(i.saturating_add(j))),
+            _ => None,
+        },
+        _ => None,
+    }
+}
+
+/// Bounds of a value, or of its fill where it is null. Takes no memory.
+pub fn fill_bounds<'a>(x: &Bounds<'a>, fill: &Bounds<'a>) -> Bounds<'a>
+    ensures { bounds_view result ≡ fill_bounds (bounds_view x.now) (bounds_view fill.now) }
+{
+    x.not_null().join(&fill.only_if(x.null))
+}
+
+/// Bounds of the first value where the mask is true, and else of the second. Takes no memory.
+pub fn choice_bounds<'a>(mask: Truths, x: &Bounds<'a>, y: &Bounds<'a>) -> Bounds<'a>
+    ensures { bounds_view result ≡ choice_bounds mask (bounds_view x.now) (bounds_view y.now) }
+{
+    x.only_if(mask.yes).join(&y.only_if(mask.may_fail()))
+}
+
+/// Bounds of the value where the mask is true, and else of null. Takes no memory.
+pub fn mask_bounds<'a>(x: &Bounds<'a>, mask: Truths) -> Bounds<'a>
+    ensures { bounds_view result ≡ mask_bounds (bounds_view x.now) mask }
+{
+    choice_bounds(mask, x, &Bounds::only_null())
+}
