@@ -14,7 +14,7 @@ use Rattle.vx_prune_bounds.specs.Order.{at_most}
 use Rattle.vx_prune_bounds.specs.Bounds.{Contains, is_from, is_up_to, is_interval, IsProper}
 use Rattle.vx_prune_bounds.proofs.Ordered.{at_most-left, at_most-right, at_most-trans}
 use Rattle.vx_prune_bounds.proofs.Contained.{by_null, in_null, from_inside}
-use Rattle.vx_prune_stats.specs.Stats.{FieldFacts, no_facts, Facts, at_path, along, is_null_or, EachNullOr, AreTrueOf, Describes, facts_at, is_known_as, known_end, field_bounds}
+use Rattle.vx_prune_stats.specs.Stats.{FieldFacts, no_facts, Facts, facts, put_facts, at_path, along, is_null_or, EachNullOr, AreTrueOf, Describes, facts_at, is_known_as, known_end, field_bounds}
 use Rattle.vx_prune_stats.specs.Laws.{BoundsHold}
 
 -- paths that are equal by the test are the same
@@ -147,3 +147,19 @@ field_bounds-proper n f = go (not (is_known_as n f.nulls)) (is_interval (known_e
     go true false = refl
     go false true = refl
     go false false = refl
+
+-- ---- what is put
+
+put-true : (t : LogicalType) (rows : List Datum) (fields : List (Path × FieldFacts)) (path : Path) (g : FieldFacts) → AllByRecursion (λ (entry : Path × FieldFacts). AreTrueOf entry.1 (along t entry.0 rows)) fields →
+    AreTrueOf g (along t path rows) → AllByRecursion (λ (entry : Path × FieldFacts). AreTrueOf entry.1 (along t entry.0 rows)) (put_facts fields path g)
+put-true t rows [] path g h new = (new, tt)
+put-true t rows (entry ∷ fields) path g h new = go (equal_path path entry.0) refl (put-true t rows fields path g h.1 new)
+  where
+    go : (b : Bool) → equal_path path entry.0 ≡ b → AllByRecursion (λ (e : Path × FieldFacts). AreTrueOf e.1 (along t e.0 rows)) (put_facts fields path g) →
+        AllByRecursion (λ (e : Path × FieldFacts). AreTrueOf e.1 (along t e.0 rows)) (put_facts (entry ∷ fields) path g)
+    go true e rest = rw e (subst (λ (p : Path). AreTrueOf g (along t p rows)) (path-same path entry.0 e) new, h.1)
+    go false e rest = rw e (h.0, rest)
+
+-- what is true stays true with what is true beside it
+pub put-describes : (f : Facts) (path : Path) (g : FieldFacts) (t : LogicalType) (rows : List Datum) → Describes f t rows → AreTrueOf g (along t path rows) → Describes (facts f.rows (put_facts f.fields path g)) t rows
+put-describes f path g t rows h new = record { count = h.count; fields = put-true t rows f.fields path g h.fields new }

@@ -1,9 +1,10 @@
-use Rattle.std.proofs.Common.{◌≡◌, ap, ◌∙◌, ℕ, List, Option, Some, None}
+use Rattle.std.proofs.Common.{◌≡◌, sym, subst, ap, ◌∙◌, ℕ, List, Option, Some, None}
 use Rattle.std.specs.Prelude.{position}
 use Rattle.vx_value.specs.Paths.{Path, equal_path}
 use Rattle.vx_prune_stats.specs.declared.field_stats.FieldStats.{FieldStats}
-use Rattle.vx_prune_stats.specs.Stats.{Facts, facts_at}
+use Rattle.vx_prune_stats.specs.Stats.{Facts, Describes, facts_at}
 use Rattle.vx_prune_stats.specs.Views.{stats_facts}
+use Rattle.vx_prune_stats.proofs.Bounding.{put-describes}
 use Rattle.vx_prune_stats.proofs.Entries.{pushed, set_at, facts_at-put}
 use Rattle.vx_prune_stats.proofs.chunk_stats.ChunkStats.insert.Goals as goal
 use Rattle.vx_prune_stats.proofs.chunk_stats.ChunkStats.insert.Goals.{in-Some, in-None+in_ok-push-in-None}
@@ -25,3 +26,7 @@ returns-clause-inserted c =
 pub returns-clause-known : goal.returns-clause-known
 returns-clause-known c =
     ap (λ (f : Facts). facts_at f.fields c.args.path) (returns-clause-inserted c) ∙ facts_at-put c.args.self.now.fields c.args.path (stats_facts c.args.stats)
+
+pub returns-clause-describes : goal.returns-clause-describes
+returns-clause-describes c = λ t rows h new.
+    subst (λ (f : Facts). Describes f t rows) (sym (returns-clause-inserted c)) (put-describes c.args.self.now c.args.path (stats_facts c.args.stats) t rows h new)
