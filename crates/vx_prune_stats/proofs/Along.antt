@@ -7,7 +7,7 @@ use Rattle.vx_dtype.specs.declared.error.VortexError.TheVariants.{OutOfMemory}
 use Rattle.vx_value.specs.Paths.{Path}
 use Rattle.vx_value.specs.Types.{LogicalType, Datum}
 use Rattle.vx_prune_stats.specs.declared.field_stats.FieldStats.{FieldStats}
-use Rattle.vx_prune_stats.specs.Lost.{lost, first_lost, unless_lost}
+use Rattle.vx_scan_kept.specs.Lost.{lost, first_lost, unless_lost}
 use Rattle.vx_prune_stats.specs.Reading.{entry_along, facts_along}
 use Rattle.vx_prune_stats.specs.Stats.{FieldFacts, Facts, facts, Describes}
 use Rattle.vx_prune_stats.specs.Views.{entry_facts}

@@ -16,7 +16,7 @@ use Rattle.vx_value.specs.Views.{value_of}
 use Rattle.vx_value.specs.Fields.{field_value, field_type, field_names, field_count, data_of}
 use Rattle.vx_value.specs.Paths.{Path, path_of, part_name}
 use Rattle.vx_value.specs.Types.{Name, LogicalType, ty, atomic, list, fixed, struct, struct_fields, Fields, no_field, field, Datum, null, bool, int, utf8, bytes, list_of, struct_of, Data, no_datum, datum}
-use Rattle.vx_prune_stats.specs.Lost.{lost}
+use Rattle.vx_scan_kept.specs.Lost.{lost}
 use Rattle.vx_prune_stats.specs.Stats.{at_path, in_known}
 use Rattle.vx_prune_stats.specs.Lent.{datum_at, at_places, lent_value}
 

@@ -5,7 +5,7 @@ ghost use Rattle.vx_value.specs.Paths.{equal_path, minimal_paths};
 ghost use Rattle.vx_value.specs.Types.{Datum, LogicalType};
 ghost use Rattle.vx_prune_bounds.specs.Views.{bounds_view};
 ghost use Rattle.vx_dtype.specs.declared.error.VortexError.TheVariants.{OutOfMemory};
-ghost use Rattle.vx_prune_stats.specs.Lost.{first_lost, unless_lost};
+ghost use Rattle.vx_scan_kept.specs.Lost.{first_lost, unless_lost};
 ghost use Rattle.vx_prune_stats.specs.Reading.{facts_along};
 ghost use Rattle.vx_prune_stats.specs.Stats.{along, AreTrueOf, Describes, entry_at, facts, facts_at, field_bounds, no_facts, put_facts};
 ghost use Rattle.vx_prune_stats.specs.Views.{entry_facts, stats_facts};
