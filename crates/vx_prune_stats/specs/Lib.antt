@@ -1,4 +1,3 @@
-pub mod Lost
 pub mod Stats
 pub mod Codes
 pub mod Reading

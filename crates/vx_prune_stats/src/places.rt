@@ -5,7 +5,7 @@ ghost use Rattle.vx_value.specs.Paths.{part_name, path_of};
 ghost use Rattle.vx_value.specs.Types.{Data, Datum, null};
 ghost use Rattle.vx_value.specs.Views.{fields_of, type_of, value_of};
 ghost use Rattle.vx_dtype.specs.declared.error.VortexError.TheVariants.{OutOfMemory};
-ghost use Rattle.vx_prune_stats.specs.Lost.{lost};
+ghost use Rattle.vx_scan_kept.specs.Lost.{lost};
 ghost use Rattle.vx_prune_stats.specs.Reading.{unless_null};
 ghost use Rattle.vx_prune_stats.specs.Stats.{at_path};
 ghost use Rattle.vx_prune_stats.specs.Lent.{at_places, datum_at, lent_value};

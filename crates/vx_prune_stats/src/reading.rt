@@ -5,7 +5,7 @@ ghost use Rattle.vx_value.specs.Types.{is_null_datum};
 ghost use Rattle.vx_value.specs.Views.{value_of, type_of};
 ghost use Rattle.vx_prune_stats.specs.Ends.{AreEnds};
 ghost use Rattle.vx_prune_stats.specs.Lent.{at_places, lent_value};
-ghost use Rattle.vx_prune_stats.specs.Lost.{lost, unless_lost};
+ghost use Rattle.vx_scan_kept.specs.Lost.{lost, unless_lost};
 ghost use Rattle.vx_prune_stats.specs.Reading.{entry_along, facts_of, not_nulls};
 ghost use Rattle.vx_prune_stats.specs.Views.{entry_facts, stats_facts};
 

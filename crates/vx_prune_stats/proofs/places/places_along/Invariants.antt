@@ -2,7 +2,7 @@ use Rattle.std.proofs.Common.{◌≡◌, drop}
 use Rattle.vx_value.specs.Paths.{path_of}
 use Rattle.vx_value.specs.Types.{Datum}
 use Rattle.vx_value.specs.Views.{type_of}
-use Rattle.vx_prune_stats.specs.Lost.{lost}
+use Rattle.vx_scan_kept.specs.Lost.{lost}
 use Rattle.vx_prune_stats.specs.Stats.{at_path}
 use Rattle.vx_prune_stats.specs.Lent.{at_places}
 use Rattle.vx_prune_stats.proofs.places.places_along.Given as goal
