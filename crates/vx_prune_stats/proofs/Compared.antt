@@ -1,5 +1,5 @@
 -- Values that can be compared, and others.
-use Rattle.std.proofs.Common.{◌≡◌, Bool, true, false, Option, Some, None, refl, sym, ap, ◌∙◌}
+use Rattle.std.proofs.Common.{◌≡◌, Bool, true, false, Some, None, refl}
 use Rattle.vx_value.specs.Types.{Datum}
 use Rattle.vx_prune_bounds.specs.Order.{at_most, comparable}
 use Rattle.vx_prune_bounds.proofs.Ordered.{at_most-left, at_most-right, comparable-own}

@@ -1,6 +1,7 @@
 -- Values along paths, by the places of fields in structs.
-use Rattle.std.proofs.Common.{◌≡◌, ℕ, ◌+◌, ◌<◌, ◌≤◌, List, [], ◌∷◌, ◌++◌, length, get_or, take, drop, map, refl, sym, ap, ◌∙◌, arith, rules, zero, suc, Vec, Global, Bor, unwrap_or, Option, Some, None, Bool, true, false, add-one}
+use Rattle.std.proofs.Common.{◌≡◌, ℕ, ◌+◌, ◌<◌, ◌≤◌, List, [], ◌∷◌, ◌++◌, length, get_or, take, drop, map, refl, sym, ap, ◌∙◌, arith, rules, zero, suc, Vec, Global, Bor, unwrap_or, Option, Some, None, true, false, add-one}
 use Rattle.std.specs.Prelude.{position, is_some}
+use Rattle.std.specs.Option.{option_and_then}
 use Rattle.std.specs.Str.{bytes_eq}
 use Rattle.std.proofs.lemmas.List.{drop_more}
 use Rattle.std.proofs.lemmas.List.Quantifiers.{position-Some}
@@ -16,8 +17,14 @@ use Rattle.vx_value.specs.Fields.{field_value, field_type, field_names, field_co
 use Rattle.vx_value.specs.Paths.{Path, path_of, part_name}
 use Rattle.vx_value.specs.Types.{Name, LogicalType, ty, atomic, list, fixed, struct, struct_fields, Fields, no_field, field, Datum, null, bool, int, utf8, bytes, list_of, struct_of, Data, no_datum, datum}
 use Rattle.vx_prune_stats.specs.Lost.{lost}
-use Rattle.vx_prune_stats.specs.Stats.{at_path}
+use Rattle.vx_prune_stats.specs.Stats.{at_path, in_known}
 use Rattle.vx_prune_stats.specs.Lent.{datum_at, at_places, lent_value}
+
+-- the type to which the path leads
+abbrev pub type_at : LogicalType → Path → Option LogicalType
+type_at t [] = Some t
+type_at (ty (struct fs) n) (a ∷ path) = option_and_then (λ t. type_at t path) (field_type a fs)
+type_at _ _ = None
 
 -- null has nothing but null along a path, and at places
 pub at_path-null : (t : LogicalType) (path : Path) → at_path t path null ≡ null
@@ -30,6 +37,25 @@ at_path-null (ty (fixed x k) n) (a ∷ path) = refl
 pub at_places-null : (places : List ℕ) → at_places places null ≡ null
 at_places-null [] = refl
 at_places-null (k ∷ places) = refl
+
+-- along one path after another, where the first leads to a place of that type
+pub at_path-append : (t u : LogicalType) (path rest : Path) (v : Datum) → type_at t path ≡ Some u → at_path t (path ++ rest) v ≡ at_path u rest (at_path t path v)
+at_path-append t u [] rest v e = let same : t ≡ u = cc in ap (λ (x : LogicalType). at_path x rest v) same
+at_path-append (ty (struct fs) n) u (a ∷ path) rest (struct_of vs) e = go (field_type a fs) e (λ x. at_path-append x u path rest (field_value a fs vs))
+  where
+    go : (o : Option LogicalType) → option_and_then (λ x. type_at x path) o ≡ Some u → ((x : LogicalType) → type_at x path ≡ Some u → at_path x (path ++ rest) (field_value a fs vs) ≡ at_path u rest (at_path x path (field_value a fs vs))) →
+        in_known o (λ x. at_path x (path ++ rest) (field_value a fs vs)) ≡ at_path u rest (in_known o (λ x. at_path x path (field_value a fs vs)))
+    go None e more = cc
+    go (Some x) e more = more x e
+at_path-append (ty (struct fs) n) u (a ∷ path) rest null e = sym (at_path-null u rest)
+at_path-append (ty (struct fs) n) u (a ∷ path) rest (bool x) e = sym (at_path-null u rest)
+at_path-append (ty (struct fs) n) u (a ∷ path) rest (int x) e = sym (at_path-null u rest)
+at_path-append (ty (struct fs) n) u (a ∷ path) rest (utf8 x) e = sym (at_path-null u rest)
+at_path-append (ty (struct fs) n) u (a ∷ path) rest (bytes x) e = sym (at_path-null u rest)
+at_path-append (ty (struct fs) n) u (a ∷ path) rest (list_of x) e = sym (at_path-null u rest)
+at_path-append (ty (atomic x) n) u (a ∷ path) rest v e = cc
+at_path-append (ty (list x) n) u (a ∷ path) rest v e = cc
+at_path-append (ty (fixed x k) n) u (a ∷ path) rest v e = cc
 
 -- places are gone to one after another
 pub at_places-append : (places : List ℕ) (k : ℕ) (v : Datum) → at_places (places ++ k ∷ []) v ≡ at_places (k ∷ []) (at_places places v)

@@ -1,8 +1,8 @@
 -- What is read off rows.
-use Rattle.std.proofs.Common.{◌≡◌, ℕ, ◌+◌, ◌<◌, Bool, true, false, List, [], ◌∷◌, ◌++◌, length, get_or, take, map, filter, fold, Option, Some, None, refl, sym, ap, ◌∙◌, subst, add-zero, zero-add, arith}
-use Rattle.std.specs.Prelude.{not, count_by, sum_by}
-use Rattle.std.proofs.lemmas.List.{take_more, map-append, append-nil}
-use Rattle.std.proofs.lemmas.List.Sums.{fold-append, sum_by-append}
+use Rattle.std.proofs.Common.{◌≡◌, ℕ, ◌+◌, ◌<◌, ◌≤◌, Bool, true, false, List, [], ◌∷◌, ◌++◌, length, get_or, take, map, Option, Some, None, refl, sym, ap, ◌∙◌, subst, add-zero, arith}
+use Rattle.std.specs.Prelude.{count_by}
+use Rattle.std.proofs.lemmas.List.{take_more, map-append, append-nil, length-map, length-take, take_all}
+use Rattle.std.proofs.lemmas.List.Sums.{fold-append, sum_by-append, count_by-le-length}
 use Rattle.std.proofs.lemmas.List.Elements.{filter-append}
 use Rattle.vx_value.specs.Types.{Datum, is_null_datum}
 use Rattle.vx_value.specs.Views.{value_of}
@@ -96,3 +96,16 @@ scanned-value n e next vs v w s h more =
       nulls = s.nulls ∙ sym (nulls-same vs v known.0);
       ends = subst (AreEnds (Some next)) (ap (λ (x : Datum). not_nulls vs ++ x ∷ []) known.1 ∙ sym (not_nulls-more vs v known.0)) (more (not_nulls vs) s.ends);
     }
+
+pub scanned-none : Scanned 0 None []
+scanned-none = record { nulls = refl; ends = refl }
+
+-- nulls are no more than rows
+pub nulls-le : (places : List ℕ) (rows : List Value) (i : ℕ) (n : ℕ) (e : Option Ends) → Scanned n e (values_at places (take i rows)) → n ≤ i
+nulls-le places rows i n e s =
+    let few = count_by-le-length is_null_datum (values_at places (take i rows)) in
+    let long : length (values_at places (take i rows)) ≡ length (take i rows) = length-map (map value_of (take i rows)) (at_places places) ∙ length-map (take i rows) value_of in
+    omega (arith, s.nulls, length-take i rows)
+
+pub scanned-all : (places : List ℕ) (rows : List Value) (i : ℕ) (n : ℕ) (e : Option Ends) → length rows ≤ i → Scanned n e (values_at places (take i rows)) → Scanned n e (map (at_places places) (map value_of rows))
+scanned-all places rows i n e h s = subst (λ (rs : List Value). Scanned n e (values_at places rs)) (take_all i rows h) s

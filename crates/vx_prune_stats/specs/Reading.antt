@@ -1,7 +1,7 @@
 -- What is read off a batch.
 use Rattle.std.specs.Prelude.{not, List, [], ◌∷◌, Option, Some, None, map, filter, fold, length, count_by, if◌then◌else◌}
 use Rattle.vx_value.specs.Paths.{Path}
-use Rattle.vx_value.specs.Types.{LogicalType, Datum, null, struct_of, Data, no_datum, datum, is_null_datum}
+use Rattle.vx_value.specs.Types.{LogicalType, Datum, is_null_datum}
 use Rattle.vx_prune_bounds.specs.Order.{comparable, lower, higher}
 use Rattle.vx_prune_bounds.specs.Bounds.{of_both}
 use Rattle.vx_prune_stats.specs.Stats.{FieldFacts, field_facts, Facts, facts, along}

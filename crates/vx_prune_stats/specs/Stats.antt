@@ -2,7 +2,6 @@
 use Rattle.std.specs.Prelude.{◌≡◌, ℕ, Bool, false, ◌||◌, ◌==◌, not, List, [], ◌∷◌, Option, Some, None, IfSome, IsTrue, map, length, count_by, unwrap_or, if◌then◌else◌}
 use Rattle.std.specs.List.{list_all, AllByRecursion}
 use Rattle.std.specs.Map.{lookup}
-use Rattle.std.specs.Option.{option_and_then}
 use Rattle.vx_value.specs.Fields.{field_type, field_value}
 use Rattle.vx_value.specs.Paths.{Path, equal_path}
 use Rattle.vx_value.specs.Types.{LogicalType, ty, struct, Datum, null, struct_of, is_null_datum}

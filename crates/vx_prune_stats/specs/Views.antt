@@ -1,5 +1,4 @@
 -- What the program's statistics stand for.
-use Rattle.std.specs.Prelude.{Option}
 use Rattle.std.specs.Option.{option_map}
 use Rattle.vx_value.specs.Paths.{Path}
 use Rattle.vx_value.specs.Views.{value_of}

@@ -1,17 +1,20 @@
 // Statistics of a chunk of rows.
-ghost use Rattle.std.specs.Prelude.{◌≡◌, [], IfErr, IfOk, OnErr, OnOk, map, option_map, position};
+ghost use Rattle.std.specs.Prelude.{◌≡◌, [], List, IfErr, IfOk, OnErr, OnOk, map, option_map, position, unwrap_or};
 ghost use Rattle.vx_value.specs.Answers.{Answers};
 ghost use Rattle.vx_value.specs.Paths.{equal_path, minimal_paths};
+ghost use Rattle.vx_value.specs.Types.{Datum, LogicalType};
+ghost use Rattle.vx_prune_bounds.specs.Views.{bounds_view};
 ghost use Rattle.vx_dtype.specs.declared.error.VortexError.TheVariants.{OutOfMemory};
 ghost use Rattle.vx_prune_stats.specs.Lost.{first_lost, unless_lost};
 ghost use Rattle.vx_prune_stats.specs.Reading.{facts_along};
-ghost use Rattle.vx_prune_stats.specs.Stats.{Describes, entry_at, facts, facts_at, put_facts};
+ghost use Rattle.vx_prune_stats.specs.Stats.{along, AreTrueOf, Describes, entry_at, facts, facts_at, field_bounds, no_facts, put_facts};
 ghost use Rattle.vx_prune_stats.specs.Views.{entry_facts, stats_facts};
 
 use crate::FieldStats;
 use crate::reading::entry_along;
 use std::alloc::Global;
 use std::marker::Model;
+use vx_prune_bounds::Bounds;
 use vx_types::{Column, FieldPath, FieldPathSet, VortexResult};
 
 /// What is known of a chunk of rows: how many there are, and of some paths what is known of the
@@ -78,10 +81,11 @@ impl ChunkStats {
     pub fn insert(&mut self, path: FieldPath, stats: FieldStats) -> VortexResult<()>
         ensures inserted { OnOk result (self.new ≡ facts self.old.rows (put_facts self.old.fields path (stats_facts stats))) }
         ensures known { OnOk result (facts_at self.new.fields path ≡ stats_facts stats) }
+        ensures describes { OnOk result ((t : LogicalType) (rows : List Datum) → Describes self.old t rows → AreTrueOf (stats_facts stats) (along t path rows) → Describes self.new t rows) }
         ensures unchanged { OnErr result (self.new ≡ self.old) }
         ensures memory { IfErr result (λ e. e ≡ OutOfMemory) }
     {
-        match self.place_of(&path) {
+        match place_of(self.fields.as_slice(), &path) {
             Some(place) => self.fields[place].1 = stats,
             None => self.fields.push((path, stats))?,
         }
@@ -99,8 +103,31 @@ impl ChunkStats {
     pub fn field(&self, path: &FieldPath) -> Option<&FieldStats>
         ensures { option_map (λ stats. stats_facts stats.now) result ≡ entry_at self.now.fields path.now }
     {
-        let place = self.place_of(path)?;
+        let place = place_of(self.fields.as_slice(), path)?;
         Some(&self.fields[place].1)
+    }
+
+    /// Bounds of the values along the path: each of them is within these, where what is known is true.
+    /// Looks through the paths.
+    pub fn bounds(&self, path: &FieldPath) -> Bounds<'_>
+        ensures { bounds_view result ≡ field_bounds self.now.rows (facts_at self.now.fields path.now) }
+    {
+        self.bounds_of(self.field(path))
+    }
+
+    /// The same of a path that was looked up already, among [`ChunkStats::entries`]. Takes no memory.
+    pub fn bounds_of<'a>(&'a self, known: Option<&'a FieldStats>) -> Bounds<'a>
+        ensures { bounds_view result ≡ field_bounds self.now.rows (unwrap_or (option_map (λ stats. stats_facts stats.now) known.entry) no_facts) }
+    {
+        match known {
+            Some(stats) => stats.bounds(self.rows),
+            None => Bounds {
+                null: true,
+                value: true,
+                least: None,
+                greatest: None,
+            },
+        }
     }
 
     /// The paths, each beside what is known of the values along it.
@@ -109,11 +136,11 @@ impl ChunkStats {
     {
         self.fields.as_slice()
     }
+}
 
-    // Where the path stands among the entries.
-    fn place_of(&self, path: &FieldPath) -> Option<usize>
-        ensures { result ≡ position (λ entry. equal_path path.now entry.0) self.now.fields }
-    {
-        self.fields.iter().position(|entry| *path == entry.0)
-    }
+// Where the path stands among the entries.
+fn place_of(entries: &[(FieldPath, FieldStats)], path: &FieldPath) -> Option<usize>
+    ensures { result ≡ position (λ entry. equal_path path.now entry.0) entries.now }
+{
+    entries.iter().position(|entry| *path == entry.0)
 }

@@ -1,4 +1,4 @@
-use Rattle.std.proofs.Common.{◌≡◌, sym, ap, ◌∙◌}
+use Rattle.std.proofs.Common.{sym, ap, ◌∙◌}
 use Rattle.vx_value.specs.Views.{value_of}
 use Rattle.vx_prune_bounds.specs.Order.{at_most}
 use Rattle.vx_prune_bounds.specs.Views.{endpoint_value}

@@ -1,4 +1,4 @@
-use Rattle.std.proofs.Common.{◌≡◌, true, refl, sym, ap, ◌∙◌}
+use Rattle.std.proofs.Common.{◌≡◌, true, sym, ap}
 use Rattle.std.specs.Prelude.{is_some}
 use Rattle.vx_value.specs.Fields.{field_type}
 use Rattle.vx_value.specs.Views.{fields_of}

@@ -1,8 +1,8 @@
-use Rattle.std.proofs.Common.{◌≡◌, ◌+◌, ◌∷◌, [], ◌++◌, List, ℕ, Some, None, drop, sym, ap, ◌∙◌, inr}
+use Rattle.std.proofs.Common.{◌≡◌, ◌+◌, List, ℕ, Some, None, drop, sym, ap, ◌∙◌, inr}
 use Rattle.vx_dtype.specs.declared.error.VortexError.TheVariants.{NoSuchField}
 use Rattle.vx_value.specs.Fields.{field_type, field_value}
 use Rattle.vx_value.specs.Paths.{Path, path_of, part_name}
-use Rattle.vx_value.specs.Types.{Name, Data, Datum}
+use Rattle.vx_value.specs.Types.{Name, Data}
 use Rattle.vx_value.specs.Views.{type_of, fields_of}
 use Rattle.vx_prune_stats.specs.Lent.{datum_at, at_places}
 use Rattle.vx_prune_stats.specs.Lost.{lost}

@@ -1,4 +1,4 @@
-use Rattle.std.proofs.Common.{◌≡◌, ◌+◌, drop, sym, ap, ◌∙◌}
+use Rattle.std.proofs.Common.{◌+◌, drop, sym, ap, ◌∙◌}
 use Rattle.vx_value.specs.Views.{value_of}
 use Rattle.vx_prune_stats.specs.Lent.{at_places}
 use Rattle.vx_prune_stats.specs.Reading.{unless_null}
