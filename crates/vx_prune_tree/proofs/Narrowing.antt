@@ -1,6 +1,6 @@
 -- Of a chunk of which more is known bounds are no wider, and verdicts no less sure.
-use Rattle.std.proofs.Common.{◌≡◌, List, [], ◌∷◌, refl, sym, ap, subst, ◌∙◌, Bool, true, false, Option, Some, None}
-use Rattle.std.specs.Prelude.{◌==◌, ◌≢◌, if◌then◌else◌, not}
+use Rattle.std.proofs.Common.{◌≡◌, ℕ, List, [], refl, sym, subst, Bool, true, false, Option, Some, None}
+use Rattle.std.specs.Prelude.{◌==◌, if◌then◌else◌, not}
 use Rattle.vx_value.specs.Paths.{Path}
 use Rattle.vx_value.specs.Types.{LogicalType, is_nullable}
 use Rattle.vx_dtype.specs.Lists.{Beside, none_beside, more_beside}
@@ -9,7 +9,7 @@ use Rattle.vx_tree.specs.Trees.{BoundTree, scope, node, BoundTrees, no_bound, bo
 use Rattle.vx_prune_bounds.proofs.Contained.{any_of-proper, exactly-proper, from_within, within, within-refl}
 use Rattle.vx_prune_bounds.proofs.Lattice.{meet-mono, meet-proper}
 use Rattle.vx_prune_bounds.proofs.Monotone.{and-mono, between-mono, case-mono, choice-mono, comparison-mono, fewer, fill-mono, mask-mono, may_fail-mono, not-mono, null-mono, or-mono, shaped_as-mono, sum-mono, truth_bounds-mono, truths_in-mono}
-use Rattle.vx_prune_bounds.specs.Bounds.{Bounds, any_of, exactly, IsProper, IsWithin}
+use Rattle.vx_prune_bounds.specs.Bounds.{Bounds, any_of, exactly, meet, IsProper, IsWithin}
 use Rattle.vx_prune_bounds.specs.Comparing.{between_truths, comparison_truths}
 use Rattle.vx_prune_bounds.specs.Kernels.{null_truths}
 use Rattle.vx_prune_bounds.specs.Truths.{and_truths, may_fail, not_truths, or_truths, truths_in, AreWithin}
@@ -54,9 +54,6 @@ three-mono f m (more_beside n (more_beside k (more_beside l (more_beside i a))))
 
 item-mono : (x y : Bounds) → IsWithin x y → IsWithin (item_bounds x) (item_bounds y)
 item-mono x y e = let p = within x y e in from_within (item_bounds x) (item_bounds y) (record { null = λ h. h; value = p.value; starts = λ _. refl; ends = λ _. refl })
-
-truths-mono : (s t : Bounds → Truths) → ((x y : Bounds) → IsWithin x y → AreWithin (s x) (t y)) → (x y : Bounds) → IsWithin x y → AreWithin (s x) (t y)
-truths-mono s t m x y e = m x y e
 
 binary-mono : (op : Operation) (x y : Bounds) → Narrows x y → (v w : Bounds) → Narrows v w → IsWithin (binary_bounds op x v) (binary_bounds op y w)
 binary-mono (compares c) x y n v w k = truth_bounds-mono (comparison_truths c x v) (comparison_truths c y w) (comparison-mono c x y v w n.0 k.0)
@@ -112,14 +109,6 @@ pub more-narrows : MoreNarrows
 more-narrows = λ less more b k. (bounds_in-narrow less more b k).0
 
 -- ---- verdicts
-
--- what isn't true of fewer isn't true of more
-kept-false : (x y : Bool) → (x ≡ true → y ≡ true) → y ≡ false → x ≡ false
-kept-false true y f e = let h : true ≡ false = sym (f refl) ∙ e in cc
-kept-false false y f e = refl
-
-choice : Bool → Bool → Verdict
-choice yes fail = if not yes then NoRow else if not fail then EveryRow else Unknown
 
 verdict_of-sure : (s t : Truths) → AreWithin s t → IsAsSure (verdict_of t) (verdict_of s)
 verdict_of-sure s t e = go t.yes s.yes (may_fail t) (may_fail s) (fewer s t e).yes (may_fail-mono s t e)

@@ -24,7 +24,7 @@ bounds_at-returns t c =
 pub given-returns-in_default-children : goal.given-returns-in_default-children
 given-returns-in_default-children t c =
     let fixed : is_of_children (function_of c.args.f.now) ≡ true = search rules in
-    c.unknown.ensures ∙ sym ?
+    c.unknown-in_default-children.ensures ∙ sym (many-unknown c.args.stats.now (function_of c.args.f.now) c.args.children.now fixed c.in_default-children.len_at_least)
 
 pub given_by_case-loop-pair-preserved : goal.given_by_case-loop-pair-preserved
 given_by_case-loop-pair-preserved t c =
