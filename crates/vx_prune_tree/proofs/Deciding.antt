@@ -1,5 +1,5 @@
 -- Verdicts are so of the rows that what is known of a chunk is true of.
-use Rattle.std.proofs.Common.{◌≡◌, ℕ, ◌==◌, List, [], ◌∷◌, length, refl, sym, subst, ◌∙◌, Bool, true, false, arith}
+use Rattle.std.proofs.Common.{◌≡◌, ℕ, ◌==◌, List, [], ◌∷◌, length, refl, sym, ap, subst, ◌∙◌, Bool, true, false, arith}
 use Rattle.std.specs.Prelude.{not, if◌then◌else◌}
 use Rattle.std.proofs.lemmas.Bool.{eqb-true, or_left, or_right, or_parts}
 use Rattle.vx_value.specs.Fits.{Fits}
@@ -18,6 +18,7 @@ use Rattle.vx_prune_stats.specs.Stats.{Facts}
 use Rattle.vx_prune_tree.proofs.Holding.{bounds-hold}
 use Rattle.vx_prune_tree.specs.Bounding.{bounds_in}
 use Rattle.vx_prune_tree.specs.Verdicts.{verdict_of, verdict_in, IsTrueVerdict, VerdictHolds}
+use Rattle.vx_prune_tree.specs.declared.verdicts.Verdict.{Verdict}
 use Rattle.vx_prune_tree.specs.declared.verdicts.Verdict.TheVariants.{NoRow, EveryRow, Unknown}
 
 -- what can't be true isn't
@@ -62,3 +63,12 @@ verdict_in-holds facts b w k = λ s rows o batch d n.
         → (c : Bool) → (facts.rows == 0) ≡ c → IsTrueVerdict b s rows (if c then NoRow else verdict_of t)
     chunk s rows t count never always true q = λ v i. absurd (none_in rows v (count ∙ eqb-true _ _ q) i)
     chunk s rows t count never always false q = decided s rows t never always t.yes (may_fail t) refl refl
+
+-- what is answered of a chunk with rows
+pub verdict_of-holds : (facts : Facts) (b : BoundTree) (n : ℕ) (x : Bounds) (t : Truths) (r : Verdict) → WellTyped b → is_truth (node_type b) ≡ true → n ≡ facts.rows → (n == 0) ≡ false →
+    x ≡ bounds_in facts b → t ≡ truths_in x → r ≡ verdict_of t → VerdictHolds facts b r
+verdict_of-holds facts b n x t r w k e some given may said =
+    let truths : t ≡ truths_in (bounds_in facts b) = may ∙ ap truths_in given in
+    let rows : (facts.rows == 0) ≡ false = ap (λ m. m == 0) (sym e) ∙ some in
+    let exact : r ≡ verdict_in facts b = said ∙ ap verdict_of truths ∙ sym (ap (λ c. if c then NoRow else verdict_of (truths_in (bounds_in facts b))) rows) in
+    subst (VerdictHolds facts b) (sym exact) (verdict_in-holds facts b w k)

@@ -8,7 +8,7 @@ use Rattle.vx_value.specs.Types.{Name, LogicalType, ty, struct, Fields, Datum, n
 use Rattle.vx_dtype.specs.Lists.{Beside, none_beside, more_beside}
 use Rattle.vx_fn.specs.Functions.{Function}
 use Rattle.vx_fn.specs.Rows.{FnType, of_case_else, of_case, of_get_item, of_literal, of_pack, of_select, of_fill_null, of_zip, of_comparison, of_and, of_or, of_add, of_not, of_between, of_like, of_is_null, of_is_not_null, of_mask, of_cast}
-use Rattle.vx_fn.specs.Values.{bound_comparison, compared, fn_value, item_value, kleene_and, kleene_not, kleene_or, select_value}
+use Rattle.vx_fn.specs.Values.{bound_comparison, compared, fn_value, item_value, kleene_and, kleene_not, kleene_or, liked, select_value}
 use Rattle.vx_fn.specs.declared.options.FieldSelection.{FieldSelection}
 use Rattle.vx_prune_bounds.proofs.Contained.{contains-exactly}
 use Rattle.vx_prune_bounds.proofs.Sounds.{truths_in-sound, truth_bounds-sound, not-sound, and-sound, or-sound, comparison-sound, between-sound, fill-sound, choice-sound, mask-sound, case-sound, is_null-sound, is_not_null-sound, shaped_as-sound}
@@ -17,6 +17,8 @@ use Rattle.vx_prune_bounds.specs.Bounds.{Bounds, bounds, Contains}
 use Rattle.vx_prune_bounds.specs.Comparing.{between_truths, comparison_truths}
 use Rattle.vx_prune_bounds.specs.Kernels.{null_truths, shaped_as}
 use Rattle.vx_prune_bounds.specs.Truths.{and_truths, not_truths, or_truths, truths_in}
+use Rattle.vx_prune_text.proofs.Likeness.{like-sound}
+use Rattle.vx_prune_text.specs.Beginnings.{like_truths}
 use Rattle.vx_prune_tree.specs.Bounding.{unknown, item_bounds, fn_bounds}
 
 -- each value is within what leaves room for all
@@ -62,7 +64,7 @@ fn_bounds-sound (of_not {n = n}) (more_beside {x = v} e none_beside) (more_besid
 fn_bounds-sound (of_between {ls = ls} {us = us} s q) (more_beside {x = v} e (more_beside {x = l} f (more_beside {x = u} d none_beside))) (more_beside {x = x} h (more_beside {x = y} g (more_beside {x = z} k none_beside))) =
     truth_bounds-sound (between_truths ls us x y z) (kleene_and (compared (bound_comparison ls) l v) (compared (bound_comparison us) v u)) (between-sound ls us x y z v l u h g k)
 fn_bounds-sound (of_like {neg = neg} {ci = ci} {n = n} {m = m}) (more_beside {x = v} e (more_beside {x = w} f none_beside)) (more_beside {x = x} h (more_beside {x = y} g none_beside)) =
-    ?
+    truth_bounds-sound (like_truths neg ci x y) (liked neg ci v w) (like-sound neg ci x y v w n m e f h g)
 fn_bounds-sound of_is_null (more_beside {x = v} e none_beside) (more_beside {x = x} h none_beside) = truth_bounds-sound (null_truths x) (bool (is_null_datum v)) (is_null-sound x v h)
 fn_bounds-sound of_is_not_null (more_beside {x = v} e none_beside) (more_beside {x = x} h none_beside) = truth_bounds-sound (not_truths (null_truths x)) (bool (not (is_null_datum v))) (is_not_null-sound x v h)
 fn_bounds-sound of_mask (more_beside {x = v} e (more_beside {x = m} f none_beside)) (more_beside {x = x} h (more_beside {x = y} g none_beside)) = mask-sound x (truths_in y) v m h (truths_in-sound y m false f g)

@@ -3,3 +3,5 @@ pub mod Giving
 pub mod Holding
 pub mod Deciding
 pub mod Found
+pub mod Steps
+pub mod Narrowing

@@ -8,10 +8,10 @@ ghost use Rattle.vx_prune_bounds.specs.Views.{bounds_view};
 ghost use Rattle.vx_prune_tree.specs.Bounding.{bounds_in, each_bounds_in, fn_bounds, is_of_children, item_path, path_to, path_to_only};
 ghost use Rattle.vx_prune_tree.specs.Verdicts.{BoundsHold};
 
-use crate::functions::{a_null, a_struct, choice, meet, of_one, of_three, of_two, unknown};
+use crate::functions::{a_struct, of_one, of_three, of_two, unknown};
 use crate::paths::{along, is_path};
 use vx_fn::ScalarFnRef;
-use vx_prune_bounds::Bounds;
+use vx_prune_bounds::{Bounds, choice_bounds};
 use vx_prune_stats::ChunkStats;
 use vx_tree::BoundExpression;
 
@@ -47,7 +47,7 @@ fn bounds_at<'a>(e: &'a BoundExpression, stats: &'a ChunkStats, is_path: bool) -
     ensures { bounds_view result ≡ bounds_in stats.now (bound_of e.now) }
 {
     if is_path {
-        return meet(&Bounds::any_of(e.dtype()), &along(e, stats));
+        return Bounds::any_of(e.dtype()).meet(&along(e, stats));
     }
     match e {
         BoundExpression::Root { .. } => unreachable!(),
@@ -55,10 +55,7 @@ fn bounds_at<'a>(e: &'a BoundExpression, stats: &'a ChunkStats, is_path: bool) -
             dtype,
             scalar_fn,
             children,
-        } => meet(
-            &Bounds::any_of(dtype),
-            &given(scalar_fn, children.as_slice(), stats),
-        ),
+        } => Bounds::any_of(dtype).meet(&given(scalar_fn, children.as_slice(), stats)),
     }
 }
 
@@ -76,10 +73,11 @@ fn given<'a>(
         ScalarFnRef::CaseWhen(_) => given_by_case(children, stats),
         ScalarFnRef::Literal(scalar) => Bounds::exactly(scalar.value()),
         ScalarFnRef::Pack(_) => a_struct(),
-        _ => match children.len() {
-            1 => given_of_one(f, &children[0], stats),
-            2 => given_of_two(f, children, stats),
-            3 => given_of_three(f, children, stats),
+        _ => match children {
+            [] => unknown(),
+            [x] => given_of_one(f, x, stats),
+            [_, _] => given_of_two(f, children, stats),
+            [_, _, _] => given_of_three(f, children, stats),
             _ => unknown(),
         },
     }
@@ -98,7 +96,7 @@ fn given_of_one<'a>(
     ensures { bounds_view result ≡ fn_bounds (function_of f.now) (bounds_in stats.now (bound_of x.now) ∷ []) }
 {
     let is_path = !matches!(f, ScalarFnRef::GetItem(_)) && is_path(x);
-    of_one(f, bounds_at(x, stats, is_path))
+    of_one(f, &bounds_at(x, stats, is_path))
 }
 
 // Those of a function of two children.
@@ -115,7 +113,7 @@ fn given_of_two<'a>(
 {
     let x = bounds_of_tree(&children[0], stats);
     let y = bounds_of_tree(&children[1], stats);
-    of_two(f, x, y)
+    of_two(f, &x, &y)
 }
 
 // Those of a function of three children.
@@ -133,7 +131,7 @@ fn given_of_three<'a>(
     let x = bounds_of_tree(&children[0], stats);
     let y = bounds_of_tree(&children[1], stats);
     let z = bounds_of_tree(&children[2], stats);
-    of_three(f, x, y, z)
+    of_three(f, &x, &y, &z)
 }
 
 // A CASE over conditions and values in turn, from the last pair on.
@@ -145,12 +143,12 @@ fn given_by_case<'a>(children: &'a [BoundExpression], stats: &'a ChunkStats) -> 
     let pairs = children.len() / 2;
     let mut rest = match children.get(2 * pairs) {
         Some(e) => bounds_of_tree(e, stats),
-        None => a_null(),
+        None => Bounds::only_null(),
     };
     for pair in (0..pairs).rev() {
         let condition = bounds_of_tree(&children[2 * pair], stats);
         let value = bounds_of_tree(&children[2 * pair + 1], stats);
-        rest = choice(&condition, &value, &rest);
+        rest = choice_bounds(condition.truths(), &value, &rest);
     }
     rest
 }

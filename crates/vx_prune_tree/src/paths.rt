@@ -9,7 +9,6 @@ ghost use Rattle.vx_prune_stats.specs.Views.{stats_facts};
 ghost use Rattle.vx_prune_tree.specs.Bounding.{path_to, path_to_only};
 ghost use Rattle.vx_prune_tree.specs.Finding.{is_that_path};
 
-use crate::functions::unknown;
 use vx_fn::ScalarFnRef;
 use vx_prune_bounds::Bounds;
 use vx_prune_stats::{ChunkStats, FieldStats};
@@ -49,10 +48,7 @@ fn is_only_path(children: &[BoundExpression]) -> bool
 pub(crate) fn along<'a>(e: &BoundExpression, stats: &'a ChunkStats) -> Bounds<'a>
     ensures { (path : Path) → path_to (bound_of e.now) ≡ Some path → bounds_view result ≡ field_bounds stats.now.rows (facts_at stats.now.fields path) }
 {
-    match entry_of(e, stats) {
-        Some(_known) => unknown(),
-        None => unknown(),
-    }
+    stats.bounds_of(entry_of(e, stats))
 }
 
 // The first entry of the tree's path.

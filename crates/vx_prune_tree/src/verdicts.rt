@@ -1,4 +1,5 @@
-// Verdicts.
+// What is known of the rows in which a predicate is true.
+
 /// In which rows of a chunk a predicate is true.
 #[derive(Clone, Copy, Debug, PartialEq, Eq)]
 pub enum Verdict {
@@ -9,4 +10,3 @@ pub enum Verdict {
     /// In none, some or all: that isn't known.
     Unknown,
 }
-
