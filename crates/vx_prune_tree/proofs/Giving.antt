@@ -17,8 +17,8 @@ use Rattle.vx_prune_bounds.specs.Bounds.{Bounds, bounds, Contains}
 use Rattle.vx_prune_bounds.specs.Comparing.{between_truths, comparison_truths}
 use Rattle.vx_prune_bounds.specs.Kernels.{null_truths, shaped_as}
 use Rattle.vx_prune_bounds.specs.Truths.{and_truths, not_truths, or_truths, truths_in}
-use Rattle.vx_prune_text.proofs.Likeness.{like-sound}
-use Rattle.vx_prune_text.specs.Beginnings.{like_truths}
+use Rattle.vx_prune_like.proofs.Likeness.{like-sound}
+use Rattle.vx_prune_like.specs.Beginnings.{like_truths}
 use Rattle.vx_prune_tree.specs.Bounding.{unknown, item_bounds, fn_bounds}
 
 -- each value is within what leaves room for all

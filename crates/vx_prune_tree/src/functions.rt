@@ -8,7 +8,7 @@ use vx_fn::{Operator, ScalarFnRef};
 use vx_prune_bounds::{
     Bounds, between_truths, choice_bounds, comparison_truths, fill_bounds, mask_bounds, sum_bounds,
 };
-use vx_prune_text::like_truths;
+use vx_prune_like::like_truths;
 
 /// Those of a function of one child, which lie within these.
 #[inline(never)]
