@@ -7,7 +7,7 @@ ghost use Rattle.vx_scan_kept.specs.Readers.{AreJust};
 ghost use Rattle.vx_tree.specs.Trees.{node_type};
 ghost use Rattle.vx_tree.specs.Views.{bound_of};
 ghost use Rattle.vx_value.specs.Paths.{minimal_paths};
-ghost use Rattle.vx_value.specs.Views.{type_of};
+ghost use Rattle.vx_value.specs.Views.{type_of, value_of};
 ghost use Rattle.vx_prune_stats.specs.Stats.{Describes};
 ghost use Rattle.vx_prune.specs.Selected.{IsRefusedWhereUnsure, IsSureWithout, Selected, SelectsRows};
 
@@ -60,11 +60,7 @@ fn all_rows(alloc: Global, rows: usize, meant: bool) -> VortexResult<RowMask>
     ensures mask { IfOk result (λ m. m ≡ replicate rows meant) }
     ensures memory { IfErr result (λ e. e ≡ OutOfMemory) }
 {
-    let mut bits = Vec::with_capacity(alloc, rows)?;
-    for _ in 0..rows {
-        bits.push(meant)?;
-    }
-    Ok(RowMask::new(bits))
+    Ok(RowMask::new(Vec::from_elem(alloc, meant, rows)?))
 }
 
 // The rows at which the column is true.
@@ -74,8 +70,17 @@ fn true_rows(alloc: Global, column: &Column) -> VortexResult<RowMask>
 {
     let rows = column.rows();
     let mut bits = Vec::with_capacity(alloc, rows.len())?;
-    for i in 0..rows.len() {
-        bits.push(matches!(rows[i], Value::Bool(true)))?;
+    for row in rows {
+        bits.push(is_true(row))?;
     }
     Ok(RowMask::new(bits))
+}
+
+fn is_true(value: &Value) -> bool
+    ensures { result ≡ is_true (value_of value.now) }
+{
+    match value {
+        Value::Bool(truth) => *truth,
+        _ => false,
+    }
 }
