@@ -1,16 +1,17 @@
 -- The more is known, the narrower are the bounds.
-use Rattle.std.proofs.Common.{◌≡◌, ℕ, Bool, true, false, Option, Some, None, refl, sym, inl, inr, subst}
-use Rattle.std.specs.Prelude.{not, IfSome}
+use Rattle.std.proofs.Common.{◌≡◌, ℕ, Bool, true, false, Option, Some, None, refl, sym, inl, inr, subst, List, [], ◌∷◌}
+use Rattle.std.specs.Prelude.{not, IfSome, count_by}
 use Rattle.std.specs.Option.{IsSomeAnd}
 use Rattle.std.proofs.lemmas.Bool.{and_parts, and_from}
-use Rattle.vx_value.specs.Types.{Datum}
+use Rattle.vx_value.specs.Types.{Datum, is_null_datum}
 use Rattle.vx_prune_bounds.specs.Order.{at_most, comparable}
 use Rattle.vx_prune_bounds.specs.Bounds.{IsWithin, starts_within, ends_within, is_interval}
 use Rattle.vx_prune_bounds.proofs.Ordered.{at_most-left, at_most-right, at_most-trans, comparable-own}
 use Rattle.vx_prune_bounds.proofs.Contained.{from_within}
-use Rattle.vx_prune_stats.specs.Stats.{FieldFacts, facts_at, is_known_as, known_end, field_bounds}
-use Rattle.vx_prune_stats.specs.Knowing.{IsSameOrAtMost, FieldKnowsMore}
-use Rattle.vx_prune_stats.specs.Laws.{BoundsNarrow}
+use Rattle.vx_prune_stats.specs.Stats.{FieldFacts, facts_at, is_known_as, known_end, field_bounds, Facts, along, AreTrueOf, EachNullOr, is_null_or}
+use Rattle.vx_prune_stats.specs.Knowing.{IsSameOrAtMost, FieldKnowsMore, KnowsMore}
+use Rattle.vx_prune_stats.specs.Laws.{BoundsNarrow, LessIsTrue}
+use Rattle.vx_prune_stats.proofs.Bounding.{facts-true}
 
 -- a number that is known stays known
 known_again : (r : ℕ) (m n : Option ℕ) → IfSome m (λ k. n ≡ Some k) → not (is_known_as r n) ≡ true → not (is_known_as r m) ≡ true
@@ -74,3 +75,68 @@ field_bounds-narrow n a b k =
 pub bounds_narrow : BoundsNarrow
 bounds_narrow a b k path =
     subst (λ (n : ℕ). IsWithin (field_bounds n (facts_at b.fields path)) (field_bounds a.rows (facts_at a.fields path))) (sym k.rows) (field_bounds-narrow a.rows (facts_at a.fields path) (facts_at b.fields path) (k.fields path))
+
+-- ---- what is less is true where what is more is
+
+mono : (test other : Datum → Bool) → ((v : Datum) → test v ≡ true → other v ≡ true) → (v : Datum) → is_null_or test v ≡ true → is_null_or other v ≡ true
+mono test other more v e = go (is_null_datum v) refl
+  where
+    go : (b : Bool) → is_null_datum v ≡ b → is_null_or other v ≡ true
+    go true h = rw h refl
+    go false h = let q = rw h at e in rw h (more v q)
+
+each-more : (test other : Datum → Bool) → ((v : Datum) → test v ≡ true → other v ≡ true) → (vs : List Datum) → EachNullOr test vs → EachNullOr other vs
+each-more test other more [] e = refl
+each-more test other more (v ∷ vs) e = let p = and_parts _ _ e in and_from _ _ (mono test other more v p.0) (each-more test other more vs p.1)
+
+below_too : (l m v : Datum) → IsSameOrAtMost l m → at_most m v ≡ true → at_most l v ≡ true
+below_too l m v (inl e) h = rw e h
+below_too l m v (inr e) h = at_most-trans l m v e h
+
+above_too : (g h v : Datum) → IsSameOrAtMost h g → at_most v h ≡ true → at_most v g ≡ true
+above_too g h v (inl e) k = rw (← e) k
+above_too g h v (inr e) k = at_most-trans v h g k e
+
+less_nulls : (m n : Option ℕ) (k : ℕ) → IfSome m (λ i. n ≡ Some i) → IfSome n (λ i. k ≡ i) → IfSome m (λ i. k ≡ i)
+less_nulls None n k h e = tt
+less_nulls (Some i) n k h e = let q = rw h at e in q
+
+less_least : (l m : Option Datum) (vs : List Datum) → IfSome l (λ x. IsSomeAnd m (λ y. IsSameOrAtMost x y)) → IfSome m (λ y. EachNullOr (λ v. at_most y v) vs) → IfSome l (λ x. EachNullOr (λ v. at_most x v) vs)
+less_least None m vs h e = tt
+less_least (Some l) None vs h e = elim h [ ]
+less_least (Some l) (Some m) vs h e = each-more (λ v. at_most m v) (λ v. at_most l v) (λ v. below_too l m v h) vs e
+
+less_greatest : (g k : Option Datum) (vs : List Datum) → IfSome g (λ x. IsSomeAnd k (λ y. IsSameOrAtMost y x)) → IfSome k (λ y. EachNullOr (λ v. at_most v y) vs) → IfSome g (λ x. EachNullOr (λ v. at_most v x) vs)
+less_greatest None k vs h e = tt
+less_greatest (Some g) None vs h e = elim h [ ]
+less_greatest (Some g) (Some k) vs h e = each-more (λ v. at_most v k) (λ v. at_most v g) (λ v. above_too g k v h) vs e
+
+pub less-true : (a b : FieldFacts) (vs : List Datum) → FieldKnowsMore a b → AreTrueOf b vs → AreTrueOf a vs
+less-true a b vs k h = record {
+  nulls = less_nulls a.nulls b.nulls (count_by is_null_datum vs) k.nulls h.nulls;
+  least = less_least a.least b.least vs k.least h.least;
+  greatest = less_greatest a.greatest b.greatest vs k.greatest h.greatest;
+}
+
+pub less_is_true : LessIsTrue
+less_is_true a b k t rows h path = less-true (facts_at a.fields path) (facts_at b.fields path) (along t path rows) (k.fields path) (facts-true b t rows h path)
+
+-- ---- what is known says itself
+
+known_itself : {A : Type 0} (o : Option A) (P : A → A → Type 0) → ((x : A) → P x x) → IfSome o (λ x. IsSomeAnd o (λ y. P x y))
+known_itself None P h = tt
+known_itself (Some x) P h = h x
+
+same_nulls : (o : Option ℕ) → IfSome o (λ i. o ≡ Some i)
+same_nulls None = tt
+same_nulls (Some i) = refl
+
+pub knows-itself : (a : Facts) → KnowsMore a a
+knows-itself a = record {
+  rows = refl;
+  fields = λ path. let f = facts_at a.fields path in record {
+    nulls = same_nulls f.nulls;
+    least = known_itself f.least (λ l m. IsSameOrAtMost l m) (λ x. inl refl);
+    greatest = known_itself f.greatest (λ g h. IsSameOrAtMost h g) (λ x. inl refl);
+  };
+}

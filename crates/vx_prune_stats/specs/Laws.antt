@@ -4,7 +4,7 @@ use Rattle.vx_value.specs.Paths.{Path}
 use Rattle.vx_value.specs.Types.{LogicalType, Datum}
 use Rattle.vx_dtype.specs.Lists.{IsIn}
 use Rattle.vx_prune_bounds.specs.Bounds.{Contains, IsWithin}
-use Rattle.vx_prune_stats.specs.Stats.{Facts, Describes, at_path, facts_at, field_bounds}
+use Rattle.vx_prune_stats.specs.Stats.{Facts, Describes, AreTrueOf, along, at_path, facts_at, field_bounds}
 use Rattle.vx_prune_stats.specs.Knowing.{KnowsMore}
 use Rattle.vx_prune_stats.specs.Reading.{facts_along}
 
@@ -17,6 +17,10 @@ BoundsHold = (f : Facts) (t : LogicalType) (rows : List Datum) → Describes f t
 abbrev pub BoundsNarrow : Type 0
 BoundsNarrow = (a b : Facts) → KnowsMore a b → (path : Path) →
     IsWithin (field_bounds b.rows (facts_at b.fields path)) (field_bounds a.rows (facts_at a.fields path))
+
+-- where more is known that is true, so is what is known less
+abbrev pub LessIsTrue : Type 0
+LessIsTrue = (a b : Facts) → KnowsMore a b → (t : LogicalType) (rows : List Datum) → Describes b t rows → (path : Path) → AreTrueOf (facts_at a.fields path) (along t path rows)
 
 -- what is read off rows along paths is true of them
 abbrev pub ReadIsTrue : Type 0

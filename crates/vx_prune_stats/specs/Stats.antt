@@ -96,7 +96,7 @@ abbrev pub known_end : Option Datum → Option Datum
 known_end None = None
 known_end (Some v) = comparable v
 
--- bounds of the values of which that is known, in a chunk of so many rows: null may be there unless no value is known to be null, another
--- value unless all are known to be null, or the least isn't at most the greatest
+-- bounds of the values of which that is known, in a chunk of so many rows: one may be null unless it is known that none is, and another
+-- value unless it is known that all are null, or the least isn't at most the greatest
 abbrev pub field_bounds : ℕ → FieldFacts → Bounds
 field_bounds rows f = proper (bounds (not (is_known_as 0 f.nulls)) (not (is_known_as rows f.nulls)) (known_end f.least) (known_end f.greatest))

@@ -33,10 +33,10 @@ impl FieldStats {
         }
     }
 
-    /// Bounds of the values along the path, in a chunk of so many rows: null may be there unless no
-    /// value is known to be null, another value unless all are known to be null or the least isn't at
-    /// most the greatest, and their ends are the least and the greatest that can be compared. Where
-    /// what is known is true, each of the values is within them. Takes no memory.
+    /// Bounds of the values along the path, in a chunk of so many rows. One may be null unless it is
+    /// known that none is, and another value unless it is known that all are null or the least isn't at
+    /// most the greatest; the ends are the least and the greatest, where they can be compared. Where
+    /// what is known is true, each of the values is within these bounds. Takes no memory.
     pub fn bounds(&self, rows: usize) -> Bounds<'_>
         ensures { bounds_view result ≡ field_bounds rows (stats_facts self.now) }
     {
