@@ -56,9 +56,10 @@ given (Err e) bits ok err = err
 source_means : (u b : BoundTree) (n : ℕ) (e : Tree) (c : Batch) → WellTyped u → Over u c.type → IsBatch c.type c.rows → IsBound e c.type b → Steps BranchRuleAt b n u → HasNoFault b c.rows
     → HasNoFault u c.rows × ((v : Datum) → IsIn v c.rows → mean (unbound u) c.type v ≡ mean e c.type v)
 source_means u b n e c w o fit is steps quiet =
-    let k : Keeps b u = steps_keep BranchRuleAt branch_rules_lawful.keeps steps is.well_typed in
-    (k.no_fault c.type c.rows is.over fit quiet,
-      λ v i. mean-unbound u c.type v w o ∙ k.meaning c.type c.rows is.over fit quiet v i ∙ sym (mean-unbound b c.type v is.well_typed is.over) ∙ ap (λ d. mean d c.type v) is.source)
+    let k : Keeps b u = steps_keep BranchRuleAt branch_rules_lawful.keeps steps is.well_typed in (
+      k.no_fault c.type c.rows is.over fit quiet,
+      λ v i. mean-unbound u c.type v w o ∙ k.meaning c.type c.rows is.over fit quiet v i ∙ sym (mean-unbound b c.type v is.well_typed is.over) ∙ ap (λ d. mean d c.type v) is.source,
+    )
 
 module _ (s : LogicalType) (u : BoundTree) (facts : Facts) (c : Batch) where
   -- ---- refusals
@@ -84,7 +85,7 @@ module _ (s : LogicalType) (u : BoundTree) (facts : Facts) (c : Batch) where
   -- ---- a verdict that is sure
 
   -- the tree is alike in each row
-  IsAlike : Bool → Type 0
+  abbrev IsAlike : Bool → Type 0
   IsAlike b = Describes facts c.type c.rows → HasNoFault u c.rows → (v : Datum) → IsIn v c.rows → is_true (mean (unbound u) c.type v) ≡ b
 
   alike_selects : (b : Bool) (r : Result (List Bool) VortexError) → WellTyped u → Over u c.type → IsBatch c.type c.rows → IsAlike b → IfOk r (λ m. m ≡ replicate facts.rows b) → IfErr r (λ e. e ≡ OutOfMemory)

@@ -36,15 +36,34 @@ pub fn select_rows<R: PathReader>(
     stats: &ChunkStats,
 ) -> VortexResult<RowMask>
     requires allowed { (R.batch reader.now).type ≡ type_of plan.now.scope → AreJust (R.allowed reader.now) (minimal_paths plan.now.paths) }
+    ensures mismatch { (R.batch reader.now).type ≢ type_of plan.now.scope → IsErrOf result ScopeMismatch }
+    ensures not_bool { (R.batch reader.now).type ≡ type_of plan.now.scope → is_truth (node_type (bound_of plan.now.tree)) ≡ false → IsErrOf result NotBool }
+    ensures rows { (R.batch reader.now).type ≡ type_of plan.now.scope → is_truth (node_type (bound_of plan.now.tree)) ≡ true →
+        Describes stats.now (R.batch reader.now).type (R.batch reader.now).rows → SelectsRows (bound_of plan.now.tree) (R.batch reader.now) result }
+    ensures faults { (R.batch reader.now).type ≡ type_of plan.now.scope → is_truth (node_type (bound_of plan.now.tree)) ≡ true →
+        IsRefusedWhereUnsure stats.now (bound_of plan.now.tree) (R.batch reader.now) result }
+    ensures sure { (R.batch reader.now).type ≡ type_of plan.now.scope → is_truth (node_type (bound_of plan.now.tree)) ≡ true → IsSureWithout stats.now (bound_of plan.now.tree) result }
+{
+    select_to_end(alloc, reader, plan, stats)
+}
+
+// The same, whose promises are one fact: there are six ways to end, and each keeps all.
+fn select_to_end<R: PathReader>(
+    alloc: Global,
+    reader: &R,
+    plan: &ScanPlan,
+    stats: &ChunkStats,
+) -> VortexResult<RowMask>
+    requires allowed { (R.batch reader.now).type ≡ type_of plan.now.scope → AreJust (R.allowed reader.now) (minimal_paths plan.now.paths) }
     ensures { Selected (type_of plan.now.scope) (bound_of plan.now.tree) stats.now (R.batch reader.now) result }
 {
     let dtype = reader.dtype();
     if *dtype != *plan.scope() {
         return Err(VortexError::ScopeMismatch);
     }
-    let DType::Bool(_) = plan.tree().dtype() else {
+    if !is_bool(plan.tree().dtype()) {
         return Err(VortexError::NotBool);
-    };
+    }
     match verdict(plan.tree(), stats) {
         Verdict::NoRow => all_rows(alloc, stats.rows(), false),
         Verdict::EveryRow => all_rows(alloc, stats.rows(), true),
@@ -53,6 +72,12 @@ pub fn select_rows<R: PathReader>(
             Err(e) => Err(e),
         },
     }
+}
+
+fn is_bool(dtype: &DType) -> bool
+    ensures { result ≡ is_truth (type_of dtype.now) }
+{
+    matches!(dtype, DType::Bool(_))
 }
 
 // The mask that is alike at so many rows.
