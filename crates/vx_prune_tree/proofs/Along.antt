@@ -1,19 +1,19 @@
 -- The values of a tree that is a path are the rows' values along it.
-use Rattle.std.proofs.Common.{◌≡◌, List, [], ◌∷◌, ◌++◌, refl, sym, ap, subst, ◌∙◌, Bool, Option, Some, None, ◌||◌, append_assoc}
+use Rattle.std.proofs.Common.{◌≡◌, [], ◌∷◌, ◌++◌, refl, sym, ap, subst, ◌∙◌, Bool, Option, Some, None, ◌||◌, append_assoc}
 use Rattle.std.proofs.lemmas.List.{append-nil}
 use Rattle.std.specs.Prelude.{option_map}
 use Rattle.vx_value.specs.Fields.{field_type, field_value}
 use Rattle.vx_value.specs.Paths.{Path}
-use Rattle.vx_value.specs.Types.{Name, LogicalType, ty, Shape, atomic, list, fixed, struct, Fields, Datum, null, struct_of}
+use Rattle.vx_value.specs.Types.{Name, LogicalType, ty, Shape, atomic, list, fixed, struct, Fields, Datum, struct_of}
 use Rattle.vx_fn.proofs.Rows.{fn_type-found}
 use Rattle.vx_fn.specs.Functions.{get_item}
 use Rattle.vx_fn.specs.Rows.{FnType, of_get_item}
 use Rattle.vx_fn.specs.Values.{item_value}
 use Rattle.vx_tree.specs.Meaning.{value}
-use Rattle.vx_tree.specs.Trees.{BoundTree, scope, node, BoundTrees, no_bound, bound, node_type, WellTyped, Over}
+use Rattle.vx_tree.specs.Trees.{BoundTree, scope, node, no_bound, bound, node_type, WellTyped, Over}
 use Rattle.vx_prune_stats.proofs.Paths.{at_path-null}
 use Rattle.vx_prune_stats.specs.Stats.{at_path, in_known}
-use Rattle.vx_prune_tree.specs.Bounding.{path_to, path_to_only}
+use Rattle.vx_prune_tree.specs.Bounding.{path_to}
 
 -- nullability doesn't matter to a path
 at_path-nullability : (s : Shape) (n m : Bool) (path : Path) (v : Datum) → at_path (ty s n) path v ≡ at_path (ty s m) path v

@@ -1,7 +1,7 @@
 -- Verdicts are so of the rows that what is known of a chunk is true of.
 use Rattle.std.proofs.Common.{◌≡◌, ℕ, ◌==◌, List, [], ◌∷◌, length, refl, sym, ap, subst, ◌∙◌, Bool, true, false, arith}
 use Rattle.std.specs.Prelude.{not, if◌then◌else◌}
-use Rattle.std.proofs.lemmas.Bool.{eqb-true, or_left, or_right, or_parts}
+use Rattle.std.proofs.lemmas.Bool.{eqb-true, or_parts}
 use Rattle.vx_value.specs.Fits.{Fits}
 use Rattle.vx_value.specs.Types.{truth, LogicalType, ty, atomic, Datum, null, bool}
 use Rattle.vx_dtype.specs.Lists.{IsIn}
@@ -9,7 +9,7 @@ use Rattle.vx_fn.specs.Functions.{is_truth}
 use Rattle.vx_fn.specs.Values.{is_true}
 use Rattle.vx_tree.proofs.Meant.{mean-unbound}
 use Rattle.vx_tree.proofs.Trees.{each_passes, value-fits}
-use Rattle.vx_tree.specs.Meaning.{mean, value}
+use Rattle.vx_tree.specs.Meaning.{mean}
 use Rattle.vx_tree.specs.Trees.{BoundTree, unbound, node_type, WellTyped}
 use Rattle.vx_prune_bounds.specs.Bounds.{Bounds, contains, Contains}
 use Rattle.vx_prune_bounds.specs.declared.truths.Truths.{Truths}

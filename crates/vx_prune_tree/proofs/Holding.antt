@@ -1,11 +1,10 @@
 -- A tree's values are within its bounds in a chunk, where what is known of the chunk is true of its rows.
-use Rattle.std.proofs.Common.{◌≡◌, List, [], refl, sym, subst, Option, Some, None, map}
+use Rattle.std.proofs.Common.{◌≡◌, List, [], refl, sym, subst, Option, Some, None}
 use Rattle.vx_value.specs.Fits.{Fits}
 use Rattle.vx_value.specs.Paths.{Path}
 use Rattle.vx_value.specs.Types.{LogicalType, Datum}
 use Rattle.vx_dtype.specs.Lists.{Beside, none_beside, more_beside, IsIn}
 use Rattle.vx_fn.proofs.Rows.{fn_type-found}
-use Rattle.vx_fn.specs.Values.{fn_value}
 use Rattle.vx_tree.proofs.Meant.{mean-unbound}
 use Rattle.vx_tree.proofs.Trees.{each_passes, or_none, value-fits, values-fit}
 use Rattle.vx_tree.specs.Faults.{each_fault, HasNoFault}

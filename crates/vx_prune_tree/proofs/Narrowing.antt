@@ -2,7 +2,7 @@
 use Rattle.std.proofs.Common.{◌≡◌, ℕ, List, [], refl, sym, subst, Bool, true, false, Option, Some, None}
 use Rattle.std.specs.Prelude.{◌==◌, if◌then◌else◌, not}
 use Rattle.vx_value.specs.Paths.{Path}
-use Rattle.vx_value.specs.Types.{LogicalType, is_nullable}
+use Rattle.vx_value.specs.Types.{LogicalType}
 use Rattle.vx_dtype.specs.Lists.{Beside, none_beside, more_beside}
 use Rattle.vx_fn.specs.Functions.{Function, case_when, get_item, literal, pack, select, fill_null, zip, binary, logical_not, between, like, is_null, is_not_null, mask, cast, Operation, compares, and_also, or_else, adds}
 use Rattle.vx_tree.specs.Trees.{BoundTree, scope, node, BoundTrees, no_bound, bound}
@@ -17,10 +17,17 @@ use Rattle.vx_prune_bounds.specs.declared.truths.Truths.{Truths}
 use Rattle.vx_prune_stats.proofs.Narrowing.{bounds_narrow}
 use Rattle.vx_prune_stats.specs.Knowing.{KnowsMore}
 use Rattle.vx_prune_stats.specs.Stats.{Facts}
+<<<<<<< HEAD
 use Rattle.vx_prune_like.proofs.Monotone.{like-mono}
 use Rattle.vx_prune_like.specs.Beginnings.{like_truths}
 use Rattle.vx_prune_tree.specs.Bounding.{a_struct, at_path_or, binary_bounds, bounds_in, each_bounds_in, fn_bounds, item_bounds, item_path, of_one, of_three, of_two, path_to_only, unknown}
 use Rattle.vx_prune_tree.specs.Verdicts.{verdict_in, verdict_of, IsAsSure, MoreIsAsSure, MoreNarrows}
+=======
+use Rattle.vx_prune_like.proofs.Monotone.{like-mono}
+use Rattle.vx_prune_like.specs.Beginnings.{like_truths}
+use Rattle.vx_prune_tree.specs.Bounding.{at_path_or, binary_bounds, bounds_in, each_bounds_in, fn_bounds, item_bounds, item_path, of_one, of_three, of_two, path_to_only, unknown}
+use Rattle.vx_prune_tree.specs.Verdicts.{verdict_of, IsAsSure, MoreIsAsSure, MoreNarrows}
+>>>>>>> 4b2a466eda2f8f918df15e4bdd927396012f6b90
 use Rattle.vx_prune_tree.specs.declared.verdicts.Verdict.TheVariants.{EveryRow, NoRow, Unknown}
 
 -- the first bounds say all that the second say, and are proper

@@ -1,5 +1,5 @@
 -- Steps of the code that finds bounds.
-use Rattle.std.proofs.Common.{◌≡◌, ◌≢◌, ℕ, ◌+◌, ◌*◌, ◌-◌, ◌<◌, ◌≤◌, List, [], ◌∷◌, length, get_or, drop, refl, sym, ap, subst, ◌∙◌, Bool, true, false, Option, Some, None, arith, rules, Vec}
+use Rattle.std.proofs.Common.{◌≡◌, ℕ, ◌+◌, ◌*◌, ◌<◌, ◌≤◌, List, [], ◌∷◌, length, get_or, drop, refl, sym, ap, ◌∙◌, true, false, Option, Some, None, arith, rules, Vec}
 use Rattle.std.specs.Prelude.{is_some}
 use Rattle.std.specs.declared.alloc.Global.{Global}
 use Rattle.std.specs.declared.rc.Rc.{Rc}
@@ -7,7 +7,7 @@ use Rattle.std.proofs.lemmas.List.{drop_more}
 use Rattle.vx_value.specs.Paths.{Path}
 use Rattle.vx_value.specs.Types.{LogicalType}
 use Rattle.vx_fn.specs.Functions.{Function, case_when, get_item, literal, pack, select, fill_null, zip, binary, logical_not, between, like, is_null, is_not_null, mask, cast}
-use Rattle.vx_tree.specs.Trees.{BoundTree, scope, node, BoundTrees, no_bound, bound, node_type}
+use Rattle.vx_tree.specs.Trees.{BoundTree, scope, node, node_type}
 use Rattle.vx_tree.specs.Views.{bound_of, bounds_of}
 use Rattle.vx_tree.specs.declared.bound.BoundExpression.{BoundExpression, Scalar, the_lemmas}
 use Rattle.vx_value.specs.Views.{type_of}
@@ -31,12 +31,12 @@ along_path facts (scope t) path e = sym (ap (λ o. meet (any_of t) (at_path_or f
 along_path facts (node t f bs) path e = sym (ap (λ o. meet (any_of t) (at_path_or facts o (fn_bounds f (each_bounds_in facts bs)))) e)
 
 -- the bounds of a tree that is a path, by those along it
-pub path-given : (facts : Facts) (b : BoundTree) (t : LogicalType) (r x y : Bounds) → is_some (path_to b) ≡ true → t ≡ node_type b → x ≡ any_of t →
-    ((path : Path) → path_to b ≡ Some path → y ≡ field_bounds facts.rows (facts_at facts.fields path)) → r ≡ meet x y → r ≡ bounds_in facts b
-path-given facts b t r x y s e any along m =
+pub path-given : (facts : Facts) (b : BoundTree) (t : LogicalType) (r y : Bounds) → is_some (path_to b) ≡ true → t ≡ node_type b →
+    ((path : Path) → path_to b ≡ Some path → y ≡ field_bounds facts.rows (facts_at facts.fields path)) → r ≡ meet (any_of t) y → r ≡ bounds_in facts b
+path-given facts b t r y s e along m =
     let p = some_path (path_to b) s in
     let known : y ≡ field_bounds facts.rows (facts_at facts.fields p.0) = along p.0 p.1 in
-    m ∙ ap (λ z. meet z y) (any ∙ ap any_of e) ∙ ap (meet (any_of (node_type b))) known ∙ along_path facts b p.0 p.1
+    m ∙ ap (λ u. meet (any_of u) y) e ∙ ap (meet (any_of (node_type b))) known ∙ along_path facts b p.0 p.1
 
 no_path : (o : Option Path) → is_some o ≡ false → o ≡ None
 no_path None e = refl
@@ -46,14 +46,14 @@ bound_of-Scalar : (t : DType) (f : ScalarFnRef) (all : Rc (Vec BoundExpression G
 bound_of-Scalar t f all = search (rules, the_lemmas)
 
 -- and of one that is none, by those that its function gives
-pub node-given : (facts : Facts) (e : BoundExpression) (t : DType) (f : ScalarFnRef) (all : Rc (Vec BoundExpression Global) Global) (children : List BoundExpression) (r x y : Bounds) →
-    e ≡ Scalar t f all → children ≡ all.value.items → is_some (path_to (bound_of e)) ≡ false → x ≡ any_of (type_of t) → y ≡ fn_bounds (function_of f) (each_bounds_in facts (bounds_of children)) →
-    r ≡ meet x y → r ≡ bounds_in facts (bound_of e)
-node-given facts e t f all children r x y is those s any given m =
+pub node-given : (facts : Facts) (e : BoundExpression) (t : DType) (f : ScalarFnRef) (all : Rc (Vec BoundExpression Global) Global) (children : List BoundExpression) (r y : Bounds) →
+    e ≡ Scalar t f all → children ≡ all.value.items → is_some (path_to (bound_of e)) ≡ false → y ≡ fn_bounds (function_of f) (each_bounds_in facts (bounds_of children)) →
+    r ≡ meet (any_of (type_of t)) y → r ≡ bounds_in facts (bound_of e)
+node-given facts e t f all children r y is those s given m =
     let bs = bounds_of children in
     let seen : bound_of e ≡ node (type_of t) (function_of f) bs = ap bound_of is ∙ bound_of-Scalar t f all ∙ ap (λ ds. node (type_of t) (function_of f) (bounds_of ds)) (sym those) in
     let none : item_path (function_of f) (path_to_only bs) ≡ None = ap path_to (sym seen) ∙ no_path (path_to (bound_of e)) s in
-    m ∙ ap (λ z. meet z y) any ∙ ap (meet (any_of (type_of t))) given
+    m ∙ ap (meet (any_of (type_of t))) given
     ∙ sym (ap (λ o. meet (any_of (type_of t)) (at_path_or facts o (fn_bounds (function_of f) (each_bounds_in facts bs)))) none) ∙ sym (ap (bounds_in facts) seen)
 
 -- ---- children

@@ -1,8 +1,10 @@
 // Bounds of a tree's values in a chunk of rows of which something is known.
 ghost use Rattle.std.specs.Prelude.{◌≡◌, ◌∷◌, [], IsTrue, None, is_some, length};
 ghost use Rattle.vx_fn.specs.Views.{function_of};
+ghost use Rattle.vx_value.specs.Views.{type_of};
 ghost use Rattle.vx_tree.specs.Trees.{WellTyped};
 ghost use Rattle.vx_tree.specs.Views.{bound_of, bounds_of};
+ghost use Rattle.vx_prune_bounds.specs.Bounds.{any_of, meet};
 ghost use Rattle.vx_prune_bounds.specs.Kernels.{case_bounds};
 ghost use Rattle.vx_prune_bounds.specs.Views.{bounds_view};
 ghost use Rattle.vx_prune_tree.specs.Bounding.{bounds_in, each_bounds_in, fn_bounds, is_of_children, item_path, path_to, path_to_only};
@@ -14,6 +16,7 @@ use vx_fn::ScalarFnRef;
 use vx_prune_bounds::{Bounds, choice_bounds};
 use vx_prune_stats::ChunkStats;
 use vx_tree::BoundExpression;
+use vx_types::DType;
 
 /// What is known of the tree's values in a chunk of these statistics. Asks a well-typed tree.
 ///
@@ -40,14 +43,16 @@ fn bounds_of_tree<'a>(e: &'a BoundExpression, stats: &'a ChunkStats) -> Bounds<'
     bounds_at(e, stats, is_path(e))
 }
 
-// The same where it is known whether the tree is a path.
+// The same where it is known whether the tree is a path. It calls itself at each level, so what makes
+// bounds of bounds stands in functions that aren't inlined.
 #[cycle(bounds_at)]
+#[inline(never)]
 fn bounds_at<'a>(e: &'a BoundExpression, stats: &'a ChunkStats, is_path: bool) -> Bounds<'a>
     requires { is_path ≡ is_some (path_to (bound_of e.now)) }
     ensures { bounds_view result ≡ bounds_in stats.now (bound_of e.now) }
 {
     if is_path {
-        return Bounds::any_of(e.dtype()).meet(&along(e, stats));
+        return of_type(e.dtype(), &along(e, stats));
     }
     match e {
         BoundExpression::Root { .. } => unreachable!(),
@@ -55,8 +60,16 @@ fn bounds_at<'a>(e: &'a BoundExpression, stats: &'a ChunkStats, is_path: bool) -
             dtype,
             scalar_fn,
             children,
-        } => Bounds::any_of(dtype).meet(&given(scalar_fn, children.as_slice(), stats)),
+        } => of_type(dtype, &given(scalar_fn, children.as_slice(), stats)),
     }
+}
+
+// What of these bounds is of that type.
+#[inline(never)]
+fn of_type<'a>(dtype: &DType, x: &Bounds<'a>) -> Bounds<'a>
+    ensures { bounds_view result ≡ meet (any_of (type_of dtype.now)) (bounds_view x.now) }
+{
+    Bounds::any_of(dtype).meet(x)
 }
 
 // Those of what the function of a tree that is no path gives of its children's values.
@@ -86,11 +99,7 @@ fn given<'a>(
 // Those of a function of one child, which is no path where the function is an item.
 #[cycle(bounds_at)]
 #[inline(never)]
-fn given_of_one<'a>(
-    f: &'a ScalarFnRef,
-    x: &'a BoundExpression,
-    stats: &'a ChunkStats,
-) -> Bounds<'a>
+fn given_of_one<'a>(f: &'a ScalarFnRef, x: &'a BoundExpression, stats: &'a ChunkStats) -> Bounds<'a>
     requires kind { IsTrue (is_of_children (function_of f.now)) }
     requires no_path { item_path (function_of f.now) (path_to (bound_of x.now)) ≡ None }
     ensures { bounds_view result ≡ fn_bounds (function_of f.now) (bounds_in stats.now (bound_of x.now) ∷ []) }

@@ -104,4 +104,3 @@ fn name_of(part: &Field) -> &FieldName
         Field::Name(name) => name,
     }
 }
-

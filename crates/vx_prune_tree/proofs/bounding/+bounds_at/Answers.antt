@@ -1,7 +1,6 @@
-use Rattle.std.proofs.Common.{◌≡◌, ◌∙◌, ◌-◌, ◌*◌, true, false, rules, arith, sym, ap}
-use Rattle.std.specs.Prelude.{is_some}
+use Rattle.std.proofs.Common.{◌≡◌, ◌∙◌, ◌-◌, ◌*◌, true, rules, arith, sym, ap}
 use Rattle.vx_fn.specs.Views.{function_of}
-use Rattle.vx_tree.specs.Views.{bound_of, bounds_of}
+use Rattle.vx_tree.specs.Views.{bound_of}
 use Rattle.vx_value.specs.Views.{type_of}
 use Rattle.vx_prune_bounds.specs.Kernels.{choice_bounds}
 use Rattle.vx_prune_bounds.specs.Views.{bounds_view}
@@ -11,15 +10,15 @@ use Rattle.vx_prune_tree.proofs.bounding.+bounds_at.Goals as goal
 
 pub bounds_at-returns-then-is_path : goal.bounds_at-returns-then-is_path
 bounds_at-returns-then-is_path t c =
-    path-given c.args.stats.now (bound_of c.args.e.now) (type_of c.dtype.result.now) (bounds_view c.meet.result) (bounds_view c.any_of.result) (bounds_view c.along.result)
-    (sym c.requires ∙ c.if-is_path.true) c.dtype.ensures c.any_of.ensures c.along.ensures c.meet.ensures
+    path-given c.args.stats.now (bound_of c.args.e.now) (type_of c.dtype.result.now) (bounds_view c.of_type.result) (bounds_view c.along.result)
+    (sym c.requires ∙ c.if-is_path.true) c.dtype.ensures c.along.ensures c.of_type.ensures
 
 pub bounds_at-returns : goal.bounds_at-returns
 bounds_at-returns t c =
     node-given c.args.stats.now c.args.e.now c.in-Scalar.dtype c.in-Scalar.scalar_fn c.in-Scalar.children c.as_slice.result.now
-    (bounds_view c.meet-in-Scalar.result) (bounds_view c.any_of-in-Scalar.result) (bounds_view c.given.result)
+    (bounds_view c.of_type-in-Scalar.result) (bounds_view c.given.result)
     c.in-Scalar.is (c.as_slice.ensures.value ∙ ap (λ v. v.items) c.deref.ensures) (sym c.requires ∙ c.if-is_path.false)
-    c.any_of-in-Scalar.ensures c.given.ensures c.meet-in-Scalar.ensures
+    c.given.ensures c.of_type-in-Scalar.ensures
 
 pub given-returns-in_default-children : goal.given-returns-in_default-children
 given-returns-in_default-children t c =
