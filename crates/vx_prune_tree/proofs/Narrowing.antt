@@ -17,17 +17,10 @@ use Rattle.vx_prune_bounds.specs.declared.truths.Truths.{Truths}
 use Rattle.vx_prune_stats.proofs.Narrowing.{bounds_narrow}
 use Rattle.vx_prune_stats.specs.Knowing.{KnowsMore}
 use Rattle.vx_prune_stats.specs.Stats.{Facts}
-<<<<<<< HEAD
-use Rattle.vx_prune_like.proofs.Monotone.{like-mono}
-use Rattle.vx_prune_like.specs.Beginnings.{like_truths}
-use Rattle.vx_prune_tree.specs.Bounding.{a_struct, at_path_or, binary_bounds, bounds_in, each_bounds_in, fn_bounds, item_bounds, item_path, of_one, of_three, of_two, path_to_only, unknown}
-use Rattle.vx_prune_tree.specs.Verdicts.{verdict_in, verdict_of, IsAsSure, MoreIsAsSure, MoreNarrows}
-=======
 use Rattle.vx_prune_like.proofs.Monotone.{like-mono}
 use Rattle.vx_prune_like.specs.Beginnings.{like_truths}
 use Rattle.vx_prune_tree.specs.Bounding.{at_path_or, binary_bounds, bounds_in, each_bounds_in, fn_bounds, item_bounds, item_path, of_one, of_three, of_two, path_to_only, unknown}
 use Rattle.vx_prune_tree.specs.Verdicts.{verdict_of, IsAsSure, MoreIsAsSure, MoreNarrows}
->>>>>>> 4b2a466eda2f8f918df15e4bdd927396012f6b90
 use Rattle.vx_prune_tree.specs.declared.verdicts.Verdict.TheVariants.{EveryRow, NoRow, Unknown}
 
 -- the first bounds say all that the second say, and are proper
