@@ -10,7 +10,7 @@ use Rattle.vx_value.specs.declared.field_path.Field.{Field}
 use Rattle.vx_tree.specs.Views.{bound_of, bounds_of}
 use Rattle.vx_tree.specs.declared.bound.BoundExpression.{BoundExpression}
 use Rattle.vx_prune_tree.specs.Bounding.{path_to, path_to_only}
-use Rattle.vx_prune_tree.specs.Finding.{is_that_path}
+use Rattle.vx_prune_tree.specs.Cases.{is_that_path}
 
 and-false : (a : Bool) → (a && false) ≡ false
 and-false true = refl

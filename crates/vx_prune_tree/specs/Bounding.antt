@@ -1,5 +1,5 @@
 -- Bounds of a tree's values in a chunk of which something is known.
-use Rattle.std.specs.Prelude.{Bool, true, false, List, [], ◌∷◌, ◌++◌, Option, Some, None, option_map}
+use Rattle.std.specs.Prelude.{true, false, List, [], ◌∷◌, ◌++◌, Option, Some, None, option_map}
 use Rattle.vx_value.specs.Paths.{Path}
 use Rattle.vx_fn.specs.Functions.{Function, case_when, get_item, literal, pack, select, fill_null, zip, binary, logical_not, between, like, is_null, is_not_null, mask, cast, Operation, compares, and_also, or_else, adds}
 use Rattle.vx_tree.specs.Trees.{BoundTree, scope, node, BoundTrees, no_bound, bound}
@@ -81,13 +81,6 @@ fn_bounds is_null = of_one (λ x. truth_bounds (null_truths x))
 fn_bounds is_not_null = of_one (λ x. truth_bounds (not_truths (null_truths x)))
 fn_bounds mask = of_two (λ x m. mask_bounds x (truths_in m))
 fn_bounds (cast u) = of_one (λ x. x)
-
--- whether the bounds are those of the function of a fixed number of children, made of theirs
-abbrev pub is_of_children : Function → Bool
-is_of_children (case_when pairs has_else) = false
-is_of_children (literal u v) = false
-is_of_children (pack names n) = false
-is_of_children _ = true
 
 -- ---- trees
 

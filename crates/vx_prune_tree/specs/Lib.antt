@@ -1,3 +1,3 @@
 pub mod Bounding
-pub mod Finding
+pub mod Cases
 pub mod Verdicts

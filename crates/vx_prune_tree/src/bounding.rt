@@ -7,7 +7,8 @@ ghost use Rattle.vx_tree.specs.Views.{bound_of, bounds_of};
 ghost use Rattle.vx_prune_bounds.specs.Bounds.{any_of, meet};
 ghost use Rattle.vx_prune_bounds.specs.Kernels.{case_bounds};
 ghost use Rattle.vx_prune_bounds.specs.Views.{bounds_view};
-ghost use Rattle.vx_prune_tree.specs.Bounding.{bounds_in, each_bounds_in, fn_bounds, is_of_children, item_path, path_to, path_to_only};
+ghost use Rattle.vx_prune_tree.specs.Bounding.{bounds_in, each_bounds_in, fn_bounds, item_path, path_to, path_to_only};
+ghost use Rattle.vx_prune_tree.specs.Cases.{is_of_children};
 ghost use Rattle.vx_prune_tree.specs.Verdicts.{BoundsHold};
 
 use crate::functions::{a_struct, of_one, of_three, of_two, unknown};
@@ -18,15 +19,15 @@ use vx_prune_stats::ChunkStats;
 use vx_tree::BoundExpression;
 use vx_types::DType;
 
-/// What is known of the tree's values in a chunk of these statistics. Asks a well-typed tree.
+/// Bounds of the tree's values in a chunk of these statistics. Asks a well-typed tree.
 ///
-/// The values of a path, which is the scope root or a field of a path, are as the statistics of that
-/// path say, and those of another tree as its function makes them of its children's; all are of the
-/// tree's type. So in each row of a batch of which the statistics are true, and on which the tree
-/// doesn't fault, the tree's value is within these bounds.
+/// Those of a path, which is the scope root or a field of a path, are what the statistics say of that
+/// path; those of another tree are made of its children's bounds, by its function; and null is within
+/// them only if it is of the tree's type. In each row of a batch of which the statistics are true, and
+/// on which the tree doesn't fault, the tree's value is within them.
 ///
-/// Takes no memory. Looks at each node of the tree once, and at each node of a path once for each
-/// entry of the statistics.
+/// Takes no memory. Looks at each node of the tree no more than twice, and besides at each node of a
+/// path once for each entry of the statistics.
 pub fn bounds<'a>(e: &'a BoundExpression, stats: &'a ChunkStats) -> Bounds<'a>
     requires { WellTyped (bound_of e.now) }
     ensures exact { bounds_view result ≡ bounds_in stats.now (bound_of e.now) }

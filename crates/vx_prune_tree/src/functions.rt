@@ -1,8 +1,10 @@
-// Bounds of what functions give, by their children's. None of these calls takes memory.
+// Bounds of what functions give, by their children's. None of these calls takes memory. The recursion
+// over a tree calls those of one, two and three children, which aren't inlined into its frames.
 ghost use Rattle.std.specs.Prelude.{◌≡◌, ◌∷◌, [], IsTrue};
 ghost use Rattle.vx_fn.specs.Views.{function_of, operation_of};
 ghost use Rattle.vx_prune_bounds.specs.Views.{bounds_view};
-ghost use Rattle.vx_prune_tree.specs.Bounding.{a_struct, binary_bounds, fn_bounds, is_of_children, item_bounds, unknown};
+ghost use Rattle.vx_prune_tree.specs.Bounding.{a_struct, binary_bounds, fn_bounds, item_bounds, unknown};
+ghost use Rattle.vx_prune_tree.specs.Cases.{is_of_children};
 
 use vx_fn::{Operator, ScalarFnRef};
 use vx_prune_bounds::{
@@ -10,7 +12,7 @@ use vx_prune_bounds::{
 };
 use vx_prune_like::like_truths;
 
-/// Those of a function of one child, which lie within these.
+// Those of a function of one child.
 #[inline(never)]
 pub(crate) fn of_one<'a>(f: &ScalarFnRef, x: &Bounds<'a>) -> Bounds<'a>
     requires { IsTrue (is_of_children (function_of f.now)) }
@@ -27,7 +29,7 @@ pub(crate) fn of_one<'a>(f: &ScalarFnRef, x: &Bounds<'a>) -> Bounds<'a>
     }
 }
 
-/// Those of a function of two children.
+// Those of a function of two children.
 #[inline(never)]
 pub(crate) fn of_two<'a>(f: &ScalarFnRef, x: &Bounds<'a>, y: &Bounds<'a>) -> Bounds<'a>
     requires { IsTrue (is_of_children (function_of f.now)) }
@@ -44,7 +46,7 @@ pub(crate) fn of_two<'a>(f: &ScalarFnRef, x: &Bounds<'a>, y: &Bounds<'a>) -> Bou
     }
 }
 
-/// Those of a function of three children.
+// Those of a function of three children.
 #[inline(never)]
 pub(crate) fn of_three<'a>(
     f: &ScalarFnRef,
@@ -86,7 +88,7 @@ fn item_bounds<'a>(x: &Bounds) -> Bounds<'a>
     }
 }
 
-/// Those of a struct that isn't null.
+// Those of a struct that isn't null.
 pub(crate) fn a_struct<'a>() -> Bounds<'a>
     ensures { bounds_view result ≡ a_struct }
 {
@@ -98,7 +100,7 @@ pub(crate) fn a_struct<'a>() -> Bounds<'a>
     }
 }
 
-/// Those of a value of which nothing is known.
+// Those of a value of which nothing is known.
 pub(crate) fn unknown<'a>() -> Bounds<'a>
     ensures { bounds_view result ≡ unknown }
 {

@@ -1,13 +1,13 @@
 // Laws of bounds and verdicts, as functions without a body.
 ghost use Rattle.vx_prune_tree.specs.Verdicts.{MoreIsAsSure, MoreNarrows};
 
-/// Of a chunk of which more is known a tree's bounds are no wider: within those of less.
+/// Where more is known of a chunk, the bounds of each tree are within those of where less is known.
 pub fn more_narrows()
     ensures { MoreNarrows }
 {}
 
-/// Of a chunk of which more is known a verdict is no less sure: no row stays no row, and every row
-/// stays so or turns out to be no row, as it may where the chunk has no row that doesn't fault.
+/// Where more is known of a chunk, no verdict is less sure: `NoRow` stays, and `EveryRow` stays or
+/// becomes `NoRow`, which it may where what is known leaves no value at all.
 pub fn more_is_as_sure()
     ensures { MoreIsAsSure }
 {}

@@ -7,7 +7,7 @@ ghost use Rattle.vx_prune_bounds.specs.Views.{bounds_view};
 ghost use Rattle.vx_prune_stats.specs.Stats.{facts_at, field_bounds};
 ghost use Rattle.vx_prune_stats.specs.Views.{stats_facts};
 ghost use Rattle.vx_prune_tree.specs.Bounding.{path_to, path_to_only};
-ghost use Rattle.vx_prune_tree.specs.Finding.{is_that_path};
+ghost use Rattle.vx_prune_tree.specs.Cases.{is_that_path};
 
 use vx_fn::ScalarFnRef;
 use vx_prune_bounds::Bounds;
@@ -15,7 +15,7 @@ use vx_prune_stats::{ChunkStats, FieldStats};
 use vx_tree::BoundExpression;
 use vx_types::{Field, FieldName};
 
-/// Whether the tree's values are the rows' along a path.
+// Whether the tree's values are the rows' along a path.
 #[cycle(is_path)]
 pub(crate) fn is_path(e: &BoundExpression) -> bool
     ensures { result ≡ is_some (path_to (bound_of e.now)) }
@@ -44,7 +44,7 @@ fn is_only_path(children: &[BoundExpression]) -> bool
     }
 }
 
-/// Bounds of a path's values by the first entry of the path, else those of which nothing is known.
+// Bounds of a path's values: those that its first entry tells, if there is one.
 pub(crate) fn along<'a>(e: &BoundExpression, stats: &'a ChunkStats) -> Bounds<'a>
     ensures { (path : Path) → path_to (bound_of e.now) ≡ Some path → bounds_view result ≡ field_bounds stats.now.rows (facts_at stats.now.fields path) }
 {

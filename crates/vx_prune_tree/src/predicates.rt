@@ -13,12 +13,12 @@ use vx_tree::BoundExpression;
 /// In which rows of a chunk of these statistics the tree is true. Asks a well-typed tree of type
 /// `bool`.
 ///
-/// A chunk without rows has no row; one of another number of rows has none where the tree's bounds
-/// leave no room for `true`, and has every row where they leave room for nothing else. The answer is
-/// so of every batch of which the statistics are true, and on which the tree doesn't fault.
+/// In a chunk without rows it is true in no row. Else it is true in no row where `true` isn't within
+/// its bounds, and in every row where neither `false` nor null is. That is so of each batch of which
+/// the statistics are true, and on which the tree doesn't fault.
 ///
-/// Takes no memory. Looks at each node of the tree once, and at each node of a path once for each
-/// entry of the statistics.
+/// Takes no memory. Looks at each node of the tree no more than twice, and besides at each node of a
+/// path once for each entry of the statistics.
 pub fn verdict(e: &BoundExpression, stats: &ChunkStats) -> Verdict
     requires typed { WellTyped (bound_of e.now) }
     requires truth { IsTrue (is_truth (node_type (bound_of e.now))) }

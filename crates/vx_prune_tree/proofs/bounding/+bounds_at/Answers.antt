@@ -4,7 +4,7 @@ use Rattle.vx_tree.specs.Views.{bound_of}
 use Rattle.vx_value.specs.Views.{type_of}
 use Rattle.vx_prune_bounds.specs.Kernels.{choice_bounds}
 use Rattle.vx_prune_bounds.specs.Views.{bounds_view}
-use Rattle.vx_prune_tree.specs.Bounding.{is_of_children}
+use Rattle.vx_prune_tree.specs.Cases.{is_of_children}
 use Rattle.vx_prune_tree.proofs.Steps.{path-given, node-given, many-unknown, case-more, case-all}
 use Rattle.vx_prune_tree.proofs.bounding.+bounds_at.Goals as goal
 

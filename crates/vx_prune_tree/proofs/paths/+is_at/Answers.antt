@@ -3,7 +3,7 @@ use Rattle.std.specs.Prelude.{option_map}
 use Rattle.vx_value.specs.Paths.{path_of}
 use Rattle.vx_tree.specs.Views.{bound_of}
 use Rattle.vx_prune_tree.specs.Bounding.{path_to}
-use Rattle.vx_prune_tree.specs.Finding.{is_that_path}
+use Rattle.vx_prune_tree.specs.Cases.{is_that_path}
 use Rattle.vx_prune_tree.proofs.Found.{path_to-many, is_that_path-only}
 use Rattle.vx_prune_tree.proofs.paths.+is_at.Goals as goal
 
