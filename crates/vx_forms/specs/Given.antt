@@ -1,5 +1,5 @@
 -- What is given for a child, which may be the refusal of the call that was to make it.
-use Rattle.std.specs.Prelude.{List, [], ◌∷◌, Result, Ok, Err}
+use Rattle.std.specs.Prelude.{List, [], ◌∷◌, Result, Ok}
 use Rattle.vx_dtype.specs.declared.error.VortexError.{VortexError}
 use Rattle.vx_dtype.specs.Answers.{Answers}
 use Rattle.vx_tree.specs.Trees.{on_ok}

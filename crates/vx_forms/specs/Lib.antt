@@ -1,3 +1,4 @@
 pub mod Given
 pub mod Applied
 pub mod Collected
+pub mod Replaced
