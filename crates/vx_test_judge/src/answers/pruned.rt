@@ -147,12 +147,7 @@ fn selection(
 }
 
 /// Whether what statistics of the batch tell of the tree is true of the values that it has there.
-pub fn is_told_true(
-    alloc: Global,
-    tree: &BoundExpression,
-    stats: &ChunkStats,
-    values: &[Value],
-) -> bool
+pub fn is_told_true(tree: &BoundExpression, stats: &ChunkStats, values: &[Value]) -> bool
     requires { WellTyped (bound_of tree.now) }
 {
     let within = bounds(tree, stats);
