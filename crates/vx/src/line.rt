@@ -45,7 +45,9 @@ prints
 const EXPLAIN: &str = "Example:
   vx explain 'a.x >= 1 and b < 5' --schema '{a={x=i32, y=i32}?, b=i32, c=utf8}'
 prints its text, type and tree, what each pass makes of it, and what a scan reads; with --data also
-the type of the records, and what the expression means at the first 10 of them";
+the type of the records, and what the expression means at the first 10 of them; with --stats what is
+known of it in each chunk, whose statistics are a line of JSON, as in
+  {\"rows\": 3, \"fields\": {\"a.x\": {\"nulls\": 1, \"least\": 1, \"greatest\": 5}}}";
 
 const FORMAT: &str = "Example:
   vx fmt 'x between 1 and 3'
@@ -79,7 +81,17 @@ fn explain<'a>(alloc: Global) -> Result<Command<'a>, AllocError> {
     let command = Command::new(alloc, "explain")
         .about("Prints what becomes of the expression")
         .after_help(EXPLAIN);
-    over_records(alloc, command, schema, data(alloc))
+    over_records(alloc, command, schema, data(alloc).conflicts_with("stats")?)?.arg(statistics(
+        alloc,
+    ))
+}
+
+fn statistics<'a>(alloc: Global) -> Arg<'a> {
+    Arg::new(alloc, "stats")
+        .long("stats")
+        .value_name("FILE")
+        .action(ArgAction::Set)
+        .help("A file of statistics of chunks, or - for standard input")
 }
 
 const EVALUATE: &str = "Example:

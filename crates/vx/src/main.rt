@@ -61,6 +61,9 @@ fn asked(rt: &HostRuntime, matches: &ArgMatches<'_>) -> Result<Status> {
         Some(("explain", matches)) if matches.contains_id("data") => {
             over_records(rt, RowsWork::Explain, 10, matches)
         }
+        Some(("explain", matches)) if matches.contains_id("stats") => {
+            over_records(rt, RowsWork::ExplainChunks, u64::MAX, matches)
+        }
         Some((name, matches)) => over_texts(rt, name, matches),
         None => Ok(Status::Wrong),
     }
@@ -68,7 +71,7 @@ fn asked(rt: &HostRuntime, matches: &ArgMatches<'_>) -> Result<Status> {
 
 // Whether more than one word asks for standard input.
 fn asks_input_twice(matches: &ArgMatches<'_>) -> bool {
-    let words = ["expression", "schema", "data"];
+    let words = ["expression", "schema", "data", "stats"];
     let inputs = words.iter().filter(|id| matches.get_str(id) == Some("-"));
     inputs.count() > 1
 }

@@ -26,7 +26,10 @@ pub fn over_records(
     limit: u64,
     matches: &ArgMatches<'_>,
 ) -> Result<Status> {
-    let data = matches.get_str("data").unwrap_or("-");
+    let data = matches
+        .get_str("data")
+        .or_else(|| matches.get_str("stats"))
+        .unwrap_or("-");
     let format = format_of(matches, data);
     let expression = text_at(rt, matches, "expression")?;
     let schema = match schema_at(rt, matches, data, format)? {

@@ -2,6 +2,7 @@
 use crate::run::tell_message;
 use std::alloc::Global;
 use std::io::{BufRead, Write};
+use vx_command_chunks::explain_chunks;
 use vx_command_pages::{Complaint, Input, Status, read_expression, read_schema};
 use vx_command_plans::explanation_page;
 use vx_command_rows::{
@@ -9,6 +10,7 @@ use vx_command_rows::{
     schema_of, unwritten,
 };
 use vx_data::WriteError;
+use vx_prune_data::ChunkRecords;
 use vx_records::{CsvRows, JsonRecords, RecordReader};
 use vx_source::{Placed, TypeText};
 use vx_types::DType;
@@ -23,6 +25,9 @@ pub enum RowsWork {
     /// The type of the records is written, what becomes of the expression, and what it means at each as
     /// JSON lines.
     Explain,
+    /// What becomes of the expression is written, and what is known of it in each chunk: the records are
+    /// statistics of chunks of rows of the schema's type, as JSON lines.
+    ExplainChunks,
 }
 
 /// A command that goes over the records of a file.
@@ -99,7 +104,11 @@ fn gone_over<D: BufRead + Drop, W: Write>(
     out: &mut W,
 ) -> Result<(), RowsComplaint> {
     let placed = read_expression(alloc, command.expression.text)?;
-    let scope = Box::into_inner(read_schema(alloc, command.schema.text)?);
+    let scope = read_schema(alloc, command.schema.text)?;
+    if let RowsWork::ExplainChunks = command.work {
+        return chunks_explained(alloc, command, &placed, &scope, data, out);
+    }
+    let scope = Box::into_inner(scope);
     match command.format {
         DataFormat::JsonLines => {
             let mut records = JsonRecords::new(alloc, scope, data);
@@ -110,6 +119,35 @@ fn gone_over<D: BufRead + Drop, W: Write>(
             worked(alloc, command, &placed, &mut records, out)
         }
     }
+}
+
+// Writes what becomes of the expression, and what the records tell of it in each chunk.
+fn chunks_explained<D: BufRead + Drop, W: Write>(
+    alloc: Global,
+    command: &RowsCommand<'_>,
+    placed: &Placed,
+    scope: &DType,
+    data: D,
+    out: &mut W,
+) -> Result<(), RowsComplaint> {
+    let page = explanation_page(alloc, command.expression.text, command.schema.text)?;
+    let Ok(chunks) = ChunkRecords::new(alloc, scope) else {
+        return Err(RowsComplaint::Query(Complaint::OutOfMemory));
+    };
+    let Ok(dtype) = chunks.record_type(alloc) else {
+        return Err(RowsComplaint::Query(Complaint::OutOfMemory));
+    };
+    unwritten(written(out, page.as_str()))?;
+    let mut records = JsonRecords::new(alloc, dtype, data);
+    explain_chunks(
+        alloc,
+        placed,
+        scope,
+        command.limit,
+        &chunks,
+        &mut records,
+        out,
+    )
 }
 
 // Does with the records what the command says.
@@ -123,7 +161,7 @@ fn worked<R: RecordReader, W: Write>(
     match command.work {
         RowsWork::Filter => filter(alloc, placed, command.limit, records, out),
         RowsWork::Evaluate(format) => evaluated(alloc, command, format, placed, records, out),
-        RowsWork::Explain => {
+        RowsWork::Explain | RowsWork::ExplainChunks => {
             let page = explanation(alloc, command, records.dtype())?;
             unwritten(written(out, page.as_str()))?;
             evaluated(
