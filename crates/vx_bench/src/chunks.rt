@@ -80,7 +80,7 @@ impl Layout {
 }
 
 // What the range `$ >= 500000 and $ < 510000` finds in the chunks, so often.
-fn found(alloc: Global, layout: Layout, repeats: u32) -> VortexResult<Found> {
+fn search(alloc: Global, layout: Layout, repeats: u32) -> VortexResult<Found> {
     let dtype = Box::new(
         alloc,
         DType::Primitive(PType::I64, Nullability::NonNullable),
@@ -90,12 +90,12 @@ fn found(alloc: Global, layout: Layout, repeats: u32) -> VortexResult<Found> {
     let plan = Box::new(alloc, plan(alloc, &source, &dtype)?)?;
     let mut found = Found::default();
     for _ in 0..repeats {
-        found = found_once(alloc, &plan, chunks.as_slice())?;
+        found = search_once(alloc, &plan, chunks.as_slice())?;
     }
     Ok(found)
 }
 
-fn found_once(alloc: Global, plan: &ScanPlan, chunks: &[Chunk]) -> VortexResult<Found> {
+fn search_once(alloc: Global, plan: &ScanPlan, chunks: &[Chunk]) -> VortexResult<Found> {
     let mut found = Found::default();
     for chunk in chunks {
         let rows = found_in(alloc, plan, chunk)?;
@@ -221,7 +221,7 @@ pub extern "C" fn vx_found(
         is_scattered: scattered != 0,
         has_statistics: statistics != 0,
     };
-    match found(alloc, layout, repeats) {
+    match search(alloc, layout, repeats) {
         Ok(found) => {
             *last = found;
             Status::Answered as u8

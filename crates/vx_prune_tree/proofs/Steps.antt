@@ -17,6 +17,7 @@ use Rattle.vx_dtype.specs.declared.dtype.DType.{DType}
 use Rattle.vx_prune_bounds.specs.Bounds.{Bounds, any_of, meet}
 use Rattle.vx_prune_bounds.specs.Kernels.{case_bounds, choice_bounds}
 use Rattle.vx_prune_bounds.specs.Truths.{truths_in}
+use Rattle.vx_prune_bounds.specs.declared.truths.Truths.{Truths}
 use Rattle.vx_prune_stats.specs.Stats.{Facts, facts_at, field_bounds}
 use Rattle.vx_prune_tree.specs.Bounding.{at_path_or, bounds_in, each_bounds_in, fn_bounds, item_path, path_to, path_to_only, unknown}
 use Rattle.vx_prune_tree.specs.Cases.{is_of_children}
@@ -82,14 +83,14 @@ many-unknown facts mask (a ∷ b ∷ c ∷ d ∷ bs) k h = refl
 many-unknown facts (cast u) (a ∷ b ∷ c ∷ d ∷ bs) k h = refl
 
 -- one pair more, in front of those that a CASE was gone through
-pub case-more : (facts : Facts) (bs : List BoundExpression) (i j : ℕ) (c v : BoundExpression) (r x y z : Bounds) → i + 1 < length bs → j ≡ i + 1 + 1 → c ≡ get_or bs i c → v ≡ get_or bs (i + 1) v →
-    x ≡ bounds_in facts (bound_of c) → y ≡ bounds_in facts (bound_of v) → z ≡ case_bounds (each_bounds_in facts (bounds_of (drop j bs))) →
-    r ≡ choice_bounds (truths_in x) y z → r ≡ case_bounds (each_bounds_in facts (bounds_of (drop i bs)))
-case-more facts bs i j c v r x y z h n p q e f g m =
+pub case-more : (facts : Facts) (bs : List BoundExpression) (i j : ℕ) (c v : BoundExpression) (m : Truths) (r y z : Bounds) → i + 1 < length bs → j ≡ i + 1 + 1 → c ≡ get_or bs i c → v ≡ get_or bs (i + 1) v →
+    m ≡ truths_in (bounds_in facts (bound_of c)) → y ≡ bounds_in facts (bound_of v) → z ≡ case_bounds (each_bounds_in facts (bounds_of (drop j bs))) →
+    r ≡ choice_bounds m y z → r ≡ case_bounds (each_bounds_in facts (bounds_of (drop i bs)))
+case-more facts bs i j c v m r y z h n p q e f g k =
     let rest = drop (i + 1 + 1) bs in
     let first : drop i bs ≡ c ∷ drop (i + 1) bs = drop_more bs i c (omega arith) ∙ ap (λ d. d ∷ drop (i + 1) bs) (sym p) in
     let second : drop (i + 1) bs ≡ v ∷ rest = drop_more bs (i + 1) v (omega arith) ∙ ap (λ d. d ∷ rest) (sym q) in
-    m ∙ ap (λ w. choice_bounds (truths_in w) y z) e ∙ ap (λ w. choice_bounds (truths_in (bounds_in facts (bound_of c))) w z) f
+    k ∙ ap (λ w. choice_bounds w y z) e ∙ ap (λ w. choice_bounds (truths_in (bounds_in facts (bound_of c))) w z) f
     ∙ ap (choice_bounds (truths_in (bounds_in facts (bound_of c))) (bounds_in facts (bound_of v))) (g ∙ ap (λ k. case_bounds (each_bounds_in facts (bounds_of (drop k bs)))) n)
     ∙ sym (ap (λ ds. case_bounds (each_bounds_in facts (bounds_of ds))) (first ∙ ap (λ ds. c ∷ ds) second))
 

@@ -1,23 +1,24 @@
 // Bounds of a tree's values in a chunk of rows of which something is known.
 ghost use Rattle.std.specs.Prelude.{◌≡◌, ◌∷◌, [], IsTrue, None, is_some, length};
 ghost use Rattle.vx_fn.specs.Views.{function_of};
-ghost use Rattle.vx_value.specs.Views.{type_of};
 ghost use Rattle.vx_tree.specs.Trees.{WellTyped};
 ghost use Rattle.vx_tree.specs.Views.{bound_of, bounds_of};
-ghost use Rattle.vx_prune_bounds.specs.Bounds.{any_of, meet};
 ghost use Rattle.vx_prune_bounds.specs.Kernels.{case_bounds};
+ghost use Rattle.vx_prune_bounds.specs.Truths.{truths_in};
 ghost use Rattle.vx_prune_bounds.specs.Views.{bounds_view};
 ghost use Rattle.vx_prune_tree.specs.Bounding.{bounds_in, each_bounds_in, fn_bounds, item_path, path_to, path_to_only};
 ghost use Rattle.vx_prune_tree.specs.Cases.{is_of_children};
 ghost use Rattle.vx_prune_tree.specs.Verdicts.{BoundsHold};
 
-use crate::functions::{a_struct, of_one, of_three, of_two, unknown};
-use crate::paths::{along, is_path};
+use crate::functions::{
+    put_literal, put_null, put_of_one, put_of_pair, put_of_three, put_of_two, put_of_type,
+    put_struct, put_unknown, unknown,
+};
+use crate::paths::{is_path, put_along};
 use vx_fn::ScalarFnRef;
-use vx_prune_bounds::{Bounds, choice_bounds};
+use vx_prune_bounds::{Bounds, Truths};
 use vx_prune_stats::ChunkStats;
 use vx_tree::BoundExpression;
-use vx_types::DType;
 
 /// Bounds of the tree's values in a chunk of these statistics. Asks a well-typed tree.
 ///
@@ -33,27 +34,36 @@ pub fn bounds<'a>(e: &'a BoundExpression, stats: &'a ChunkStats) -> Bounds<'a>
     ensures exact { bounds_view result ≡ bounds_in stats.now (bound_of e.now) }
     ensures hold { BoundsHold stats.now (bound_of e.now) }
 {
-    bounds_of_tree(e, stats)
+    let mut known = unknown();
+    put_bounds(e, stats, &mut known);
+    known
 }
 
-// The same of any tree.
-#[cycle(bounds_at)]
-fn bounds_of_tree<'a>(e: &'a BoundExpression, stats: &'a ChunkStats) -> Bounds<'a>
-    ensures { bounds_view result ≡ bounds_in stats.now (bound_of e.now) }
+// Puts the bounds of any tree there, whatever was there before.
+#[cycle(put_bounds)]
+fn put_bounds<'a>(e: &'a BoundExpression, stats: &'a ChunkStats, known: &mut Bounds<'a>)
+    ensures { bounds_view known.new ≡ bounds_in stats.now (bound_of e.now) }
 {
-    bounds_at(e, stats, is_path(e))
+    put_bounds_of(e, stats, is_path(e), known);
 }
 
-// The same where it is known whether the tree is a path. It calls itself at each level, so what makes
-// bounds of bounds stands in functions that aren't inlined.
-#[cycle(bounds_at)]
+// The same where it is known whether the tree is a path. It calls itself at each level, so it hands on
+// the place for its bounds, and what it calls isn't inlined.
+#[cycle(put_bounds)]
 #[inline(never)]
-fn bounds_at<'a>(e: &'a BoundExpression, stats: &'a ChunkStats, is_path: bool) -> Bounds<'a>
+fn put_bounds_of<'a>(
+    e: &'a BoundExpression,
+    stats: &'a ChunkStats,
+    is_path: bool,
+    known: &mut Bounds<'a>,
+)
     requires { is_path ≡ is_some (path_to (bound_of e.now)) }
-    ensures { bounds_view result ≡ bounds_in stats.now (bound_of e.now) }
+    ensures { bounds_view known.new ≡ bounds_in stats.now (bound_of e.now) }
 {
     if is_path {
-        return of_type(e.dtype(), &along(e, stats));
+        put_along(e, stats, known);
+        put_of_type(e.dtype(), known);
+        return;
     }
     match e {
         BoundExpression::Root { .. } => unreachable!(),
@@ -61,104 +71,121 @@ fn bounds_at<'a>(e: &'a BoundExpression, stats: &'a ChunkStats, is_path: bool) -
             dtype,
             scalar_fn,
             children,
-        } => of_type(dtype, &given(scalar_fn, children.as_slice(), stats)),
+        } => {
+            put_given(scalar_fn, children.as_slice(), stats, known);
+            put_of_type(dtype, known);
+        }
     }
 }
 
-// What of these bounds is of that type.
-#[inline(never)]
-fn of_type<'a>(dtype: &DType, x: &Bounds<'a>) -> Bounds<'a>
-    ensures { bounds_view result ≡ meet (any_of (type_of dtype.now)) (bounds_view x.now) }
-{
-    Bounds::any_of(dtype).meet(x)
-}
-
-// Those of what the function of a tree that is no path gives of its children's values.
-#[cycle(bounds_at)]
-fn given<'a>(
+// Puts those that the function gives of its children's there, where the tree is no path.
+#[cycle(put_bounds)]
+fn put_given<'a>(
     f: &'a ScalarFnRef,
     children: &'a [BoundExpression],
     stats: &'a ChunkStats,
-) -> Bounds<'a>
+    known: &mut Bounds<'a>,
+)
     requires { item_path (function_of f.now) (path_to_only (bounds_of children.now)) ≡ None }
-    ensures { bounds_view result ≡ fn_bounds (function_of f.now) (each_bounds_in stats.now (bounds_of children.now)) }
+    ensures { bounds_view known.new ≡ fn_bounds (function_of f.now) (each_bounds_in stats.now (bounds_of children.now)) }
 {
     match f {
-        ScalarFnRef::CaseWhen(_) => given_by_case(children, stats),
-        ScalarFnRef::Literal(scalar) => Bounds::exactly(scalar.value()),
-        ScalarFnRef::Pack(_) => a_struct(),
+        ScalarFnRef::CaseWhen(_) => put_case(children, stats, known),
+        ScalarFnRef::Literal(scalar) => put_literal(scalar, known),
+        ScalarFnRef::Pack(_) => put_struct(known),
         _ => match children {
-            [] => unknown(),
-            [x] => given_of_one(f, x, stats),
-            [_, _] => given_of_two(f, children, stats),
-            [_, _, _] => given_of_three(f, children, stats),
-            _ => unknown(),
+            [] => put_unknown(known),
+            [x] => put_of_one_child(f, x, stats, known),
+            [_, _] => put_of_two_children(f, children, stats, known),
+            [_, _, _] => put_of_three_children(f, children, stats, known),
+            _ => put_unknown(known),
         },
     }
 }
 
-// Those of a function of one child, which is no path where the function is an item.
-#[cycle(bounds_at)]
+// Puts those of a function of one child there. The child is no path where the function is an item.
+#[cycle(put_bounds)]
 #[inline(never)]
-fn given_of_one<'a>(f: &'a ScalarFnRef, x: &'a BoundExpression, stats: &'a ChunkStats) -> Bounds<'a>
+fn put_of_one_child<'a>(
+    f: &'a ScalarFnRef,
+    x: &'a BoundExpression,
+    stats: &'a ChunkStats,
+    known: &mut Bounds<'a>,
+)
     requires kind { IsTrue (is_of_children (function_of f.now)) }
     requires no_path { item_path (function_of f.now) (path_to (bound_of x.now)) ≡ None }
-    ensures { bounds_view result ≡ fn_bounds (function_of f.now) (bounds_in stats.now (bound_of x.now) ∷ []) }
+    ensures { bounds_view known.new ≡ fn_bounds (function_of f.now) (bounds_in stats.now (bound_of x.now) ∷ []) }
 {
     let is_path = !matches!(f, ScalarFnRef::GetItem(_)) && is_path(x);
-    of_one(f, &bounds_at(x, stats, is_path))
+    put_bounds_of(x, stats, is_path, known);
+    put_of_one(f, known);
 }
 
-// Those of a function of two children.
-#[cycle(bounds_at)]
+// Puts those of a function of two children there.
+#[cycle(put_bounds)]
 #[inline(never)]
-fn given_of_two<'a>(
+fn put_of_two_children<'a>(
     f: &'a ScalarFnRef,
     children: &'a [BoundExpression],
     stats: &'a ChunkStats,
-) -> Bounds<'a>
+    known: &mut Bounds<'a>,
+)
     requires kind { IsTrue (is_of_children (function_of f.now)) }
     requires number { length children.now ≡ 2 }
-    ensures { bounds_view result ≡ fn_bounds (function_of f.now) (each_bounds_in stats.now (bounds_of children.now)) }
+    ensures { bounds_view known.new ≡ fn_bounds (function_of f.now) (each_bounds_in stats.now (bounds_of children.now)) }
 {
-    let x = bounds_of_tree(&children[0], stats);
-    let y = bounds_of_tree(&children[1], stats);
-    of_two(f, &x, &y)
+    put_bounds(&children[0], stats, known);
+    let mut second = *known;
+    put_bounds(&children[1], stats, &mut second);
+    put_of_two(f, known, &second);
 }
 
-// Those of a function of three children.
-#[cycle(bounds_at)]
+// Puts those of a function of three children there.
+#[cycle(put_bounds)]
 #[inline(never)]
-fn given_of_three<'a>(
+fn put_of_three_children<'a>(
     f: &'a ScalarFnRef,
     children: &'a [BoundExpression],
     stats: &'a ChunkStats,
-) -> Bounds<'a>
+    known: &mut Bounds<'a>,
+)
     requires kind { IsTrue (is_of_children (function_of f.now)) }
     requires number { length children.now ≡ 3 }
-    ensures { bounds_view result ≡ fn_bounds (function_of f.now) (each_bounds_in stats.now (bounds_of children.now)) }
+    ensures { bounds_view known.new ≡ fn_bounds (function_of f.now) (each_bounds_in stats.now (bounds_of children.now)) }
 {
-    let x = bounds_of_tree(&children[0], stats);
-    let y = bounds_of_tree(&children[1], stats);
-    let z = bounds_of_tree(&children[2], stats);
-    of_three(f, &x, &y, &z)
+    put_bounds(&children[0], stats, known);
+    let (mut second, mut third) = (*known, *known);
+    put_bounds(&children[1], stats, &mut second);
+    put_bounds(&children[2], stats, &mut third);
+    put_of_three(f, known, &second, &third);
 }
 
-// A CASE over conditions and values in turn, from the last pair on.
-#[cycle(bounds_at)]
+// Puts those of a CASE over conditions and values in turn there, from the last pair on.
+#[cycle(put_bounds)]
 #[inline(never)]
-fn given_by_case<'a>(children: &'a [BoundExpression], stats: &'a ChunkStats) -> Bounds<'a>
-    ensures { bounds_view result ≡ case_bounds (each_bounds_in stats.now (bounds_of children.now)) }
+fn put_case<'a>(children: &'a [BoundExpression], stats: &'a ChunkStats, known: &mut Bounds<'a>)
+    ensures { bounds_view known.new ≡ case_bounds (each_bounds_in stats.now (bounds_of children.now)) }
 {
     let pairs = children.len() / 2;
-    let mut rest = match children.get(2 * pairs) {
-        Some(e) => bounds_of_tree(e, stats),
-        None => Bounds::only_null(),
-    };
-    for pair in (0..pairs).rev() {
-        let condition = bounds_of_tree(&children[2 * pair], stats);
-        let value = bounds_of_tree(&children[2 * pair + 1], stats);
-        rest = choice_bounds(condition.truths(), &value, &rest);
+    match children.get(2 * pairs) {
+        Some(e) => put_bounds(e, stats, known),
+        None => put_null(known),
     }
-    rest
+    for pair in (0..pairs).rev() {
+        let condition = truths_of(&children[2 * pair], stats);
+        let mut value = *known;
+        put_bounds(&children[2 * pair + 1], stats, &mut value);
+        put_of_pair(condition, &value, known);
+    }
+}
+
+// What the value of a condition may be.
+#[cycle(put_bounds)]
+#[inline(never)]
+fn truths_of(e: &BoundExpression, stats: &ChunkStats) -> Truths
+    ensures { result ≡ truths_in (bounds_in stats.now (bound_of e.now)) }
+{
+    let mut known = unknown();
+    put_bounds(e, stats, &mut known);
+    known.truths()
 }

@@ -1,20 +1,119 @@
-// Bounds of what functions give, by their children's. None of these calls takes memory. The recursion
-// over a tree calls those of one, two and three children, which aren't inlined into its frames.
+// Bounds of what functions give, by their children's. None of these calls takes memory.
+//
+// The recursion over a tree calls what puts bounds into a place. That isn't inlined, since a frame has a
+// place of its own for the answer of each call that is made in it.
 ghost use Rattle.std.specs.Prelude.{◌≡◌, ◌∷◌, [], IsTrue};
+ghost use Rattle.vx_value.specs.Types.{null};
+ghost use Rattle.vx_value.specs.Views.{type_of};
 ghost use Rattle.vx_fn.specs.Views.{function_of, operation_of};
+ghost use Rattle.vx_prune_bounds.specs.Bounds.{any_of, exactly, meet};
+ghost use Rattle.vx_prune_bounds.specs.Kernels.{choice_bounds};
 ghost use Rattle.vx_prune_bounds.specs.Views.{bounds_view};
 ghost use Rattle.vx_prune_tree.specs.Bounding.{a_struct, binary_bounds, fn_bounds, item_bounds, unknown};
 ghost use Rattle.vx_prune_tree.specs.Cases.{is_of_children};
 
 use vx_fn::{Operator, ScalarFnRef};
 use vx_prune_bounds::{
-    Bounds, between_truths, choice_bounds, comparison_truths, fill_bounds, mask_bounds, sum_bounds,
+    Bounds, Truths, between_truths, choice_bounds, comparison_truths, fill_bounds, mask_bounds,
+    sum_bounds,
 };
 use vx_prune_like::like_truths;
+use vx_types::{DType, Scalar};
+
+// Those of a value of which nothing is known.
+pub(crate) fn unknown<'a>() -> Bounds<'a>
+    ensures { bounds_view result ≡ unknown }
+{
+    Bounds {
+        null: true,
+        value: true,
+        least: None,
+        greatest: None,
+    }
+}
+
+// Puts the same there.
+#[inline(never)]
+pub(crate) fn put_unknown(known: &mut Bounds)
+    ensures { bounds_view known.new ≡ unknown }
+{
+    *known = unknown();
+}
+
+// Puts those of null there.
+#[inline(never)]
+pub(crate) fn put_null(known: &mut Bounds)
+    ensures { bounds_view known.new ≡ exactly null }
+{
+    *known = Bounds::only_null();
+}
+
+// Puts those of a literal there.
+#[inline(never)]
+pub(crate) fn put_literal<'a>(scalar: &'a Scalar, known: &mut Bounds<'a>)
+    ensures { bounds_view known.new ≡ exactly scalar.now.value }
+{
+    *known = Bounds::exactly(scalar.value());
+}
+
+// Puts those of a struct that isn't null there.
+#[inline(never)]
+pub(crate) fn put_struct(known: &mut Bounds)
+    ensures { bounds_view known.new ≡ a_struct }
+{
+    *known = Bounds {
+        null: false,
+        value: true,
+        least: None,
+        greatest: None,
+    };
+}
+
+// Puts those of a function of one child in the place of the child's.
+#[inline(never)]
+pub(crate) fn put_of_one(f: &ScalarFnRef, x: &mut Bounds)
+    requires { IsTrue (is_of_children (function_of f.now)) }
+    ensures { bounds_view x.new ≡ fn_bounds (function_of f.now) (bounds_view x.old ∷ []) }
+{
+    *x = of_one(f, x);
+}
+
+// Puts those of a function of two children in the place of the first child's.
+#[inline(never)]
+pub(crate) fn put_of_two<'a>(f: &ScalarFnRef, x: &mut Bounds<'a>, y: &Bounds<'a>)
+    requires { IsTrue (is_of_children (function_of f.now)) }
+    ensures { bounds_view x.new ≡ fn_bounds (function_of f.now) (bounds_view x.old ∷ bounds_view y.now ∷ []) }
+{
+    *x = of_two(f, x, y);
+}
+
+// Puts those of a function of three children in the place of the first child's.
+#[inline(never)]
+pub(crate) fn put_of_three<'a>(f: &ScalarFnRef, x: &mut Bounds<'a>, y: &Bounds<'a>, z: &Bounds<'a>)
+    requires { IsTrue (is_of_children (function_of f.now)) }
+    ensures { bounds_view x.new ≡ fn_bounds (function_of f.now) (bounds_view x.old ∷ bounds_view y.now ∷ bounds_view z.now ∷ []) }
+{
+    *x = of_three(f, x, y, z);
+}
+
+// Puts those of a CASE with one pair more in the place of those without it.
+#[inline(never)]
+pub(crate) fn put_of_pair<'a>(condition: Truths, value: &Bounds<'a>, rest: &mut Bounds<'a>)
+    ensures { bounds_view rest.new ≡ choice_bounds condition (bounds_view value.now) (bounds_view rest.old) }
+{
+    *rest = choice_bounds(condition, value, rest);
+}
+
+// Puts what of these is of the type in their place.
+#[inline(never)]
+pub(crate) fn put_of_type(dtype: &DType, x: &mut Bounds)
+    ensures { bounds_view x.new ≡ meet (any_of (type_of dtype.now)) (bounds_view x.old) }
+{
+    *x = Bounds::any_of(dtype).meet(x);
+}
 
 // Those of a function of one child.
-#[inline(never)]
-pub(crate) fn of_one<'a>(f: &ScalarFnRef, x: &Bounds<'a>) -> Bounds<'a>
+fn of_one<'a>(f: &ScalarFnRef, x: &Bounds<'a>) -> Bounds<'a>
     requires { IsTrue (is_of_children (function_of f.now)) }
     ensures { bounds_view result ≡ fn_bounds (function_of f.now) (bounds_view x.now ∷ []) }
 {
@@ -30,8 +129,7 @@ pub(crate) fn of_one<'a>(f: &ScalarFnRef, x: &Bounds<'a>) -> Bounds<'a>
 }
 
 // Those of a function of two children.
-#[inline(never)]
-pub(crate) fn of_two<'a>(f: &ScalarFnRef, x: &Bounds<'a>, y: &Bounds<'a>) -> Bounds<'a>
+fn of_two<'a>(f: &ScalarFnRef, x: &Bounds<'a>, y: &Bounds<'a>) -> Bounds<'a>
     requires { IsTrue (is_of_children (function_of f.now)) }
     ensures { bounds_view result ≡ fn_bounds (function_of f.now) (bounds_view x.now ∷ bounds_view y.now ∷ []) }
 {
@@ -47,13 +145,7 @@ pub(crate) fn of_two<'a>(f: &ScalarFnRef, x: &Bounds<'a>, y: &Bounds<'a>) -> Bou
 }
 
 // Those of a function of three children.
-#[inline(never)]
-pub(crate) fn of_three<'a>(
-    f: &ScalarFnRef,
-    x: &Bounds<'a>,
-    y: &Bounds<'a>,
-    z: &Bounds<'a>,
-) -> Bounds<'a>
+fn of_three<'a>(f: &ScalarFnRef, x: &Bounds<'a>, y: &Bounds<'a>, z: &Bounds<'a>) -> Bounds<'a>
     requires { IsTrue (is_of_children (function_of f.now)) }
     ensures { bounds_view result ≡ fn_bounds (function_of f.now) (bounds_view x.now ∷ bounds_view y.now ∷ bounds_view z.now ∷ []) }
 {
@@ -83,30 +175,6 @@ fn item_bounds<'a>(x: &Bounds) -> Bounds<'a>
     Bounds {
         null: true,
         value: x.value,
-        least: None,
-        greatest: None,
-    }
-}
-
-// Those of a struct that isn't null.
-pub(crate) fn a_struct<'a>() -> Bounds<'a>
-    ensures { bounds_view result ≡ a_struct }
-{
-    Bounds {
-        null: false,
-        value: true,
-        least: None,
-        greatest: None,
-    }
-}
-
-// Those of a value of which nothing is known.
-pub(crate) fn unknown<'a>() -> Bounds<'a>
-    ensures { bounds_view result ≡ unknown }
-{
-    Bounds {
-        null: true,
-        value: true,
         least: None,
         greatest: None,
     }

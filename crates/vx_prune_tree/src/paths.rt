@@ -44,11 +44,12 @@ fn is_only_path(children: &[BoundExpression]) -> bool
     }
 }
 
-// Bounds of a path's values: those that its first entry tells, if there is one.
-pub(crate) fn along<'a>(e: &BoundExpression, stats: &'a ChunkStats) -> Bounds<'a>
-    ensures { (path : Path) → path_to (bound_of e.now) ≡ Some path → bounds_view result ≡ field_bounds stats.now.rows (facts_at stats.now.fields path) }
+// Puts bounds of a path's values there: those that its first entry tells, if there is one.
+#[inline(never)]
+pub(crate) fn put_along<'a>(e: &BoundExpression, stats: &'a ChunkStats, known: &mut Bounds<'a>)
+    ensures { (path : Path) → path_to (bound_of e.now) ≡ Some path → bounds_view known.new ≡ field_bounds stats.now.rows (facts_at stats.now.fields path) }
 {
-    stats.bounds_of(entry_of(e, stats))
+    *known = stats.bounds_of(entry_of(e, stats));
 }
 
 // The first entry of the tree's path.

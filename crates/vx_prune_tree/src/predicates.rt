@@ -11,7 +11,7 @@ use vx_prune_stats::ChunkStats;
 use vx_tree::BoundExpression;
 
 /// In which rows of a chunk of these statistics the tree is true. Asks a well-typed tree of type
-/// `bool`.
+/// `bool` or `bool?`.
 ///
 /// In a chunk without rows it is true in no row. Else it is true in no row where `true` isn't within
 /// its bounds, and in every row where neither `false` nor null is. That is so of each batch of which
