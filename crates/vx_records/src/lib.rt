@@ -2,15 +2,19 @@
 #![tactic(auto)]
 
 mod answers;
+mod batches;
+mod chunked;
 mod csv_records;
 mod error;
 mod evaluated;
 mod filtered;
 mod json_records;
+mod lines;
 mod read;
 mod record;
 mod writing;
 
+pub use chunked::{ChunkTally, filter_chunks};
 pub use csv_records::CsvRows;
 pub use error::{RecordFault, RecordsError};
 pub use evaluated::{RowWriter, evaluate_records};
