@@ -2,7 +2,7 @@
 use Rattle.std.proofs.Common.{◌≡◌, ℕ, List, ◌++◌, [], length, subst, sym, ap, ◌∙◌, append_assoc, Bool, nat_lt, Option, None, Some, Result, Ok, Err, IfOk, IfErr, true, false, ◌+◌, ◌-◌, ◌<◌, ◌≤◌, inl, inr, ◌⊎◌, arith, length-append}
 use Rattle.vx_value.specs.Types.{Datum}
 use Rattle.vx_data_record.specs.declared.error.DataError.{DataError}
-use Rattle.vx_records.specs.Chunks.{AreNext, IsFaultOver, IsFaultThere, IsLast, IsNoFault, IsStep}
+use Rattle.vx_records.specs.Chunks.{AreNext, IsFaultOver, IsFaultThere, IsLast, IsNoFault, IsOfWriting, IsStep}
 use Rattle.vx_tree.specs.Trees.{BoundTree}
 use Rattle.vx_records.specs.Outcomes.{Ends, Stops}
 use Rattle.vx_records.specs.Reading.{Reads, ReadsUpTo}
@@ -46,6 +46,13 @@ fault_there leaves b n before after stop (Data d) vs rs next same over = tt
 fault_there leaves b n before after stop (Write w) vs rs next same over = absurd over
 fault_there leaves b n before after stop (Fault f) vs rs next same over = let (mid, reads) = next_reads leaves n before after stop rs next in (mid, rs, reads, subst (λ us. IsFaultOver b us (Fault f)) same over)
 
+-- what is no fault
+pub no_fault_there : {R : Type 0} (leaves : R → List Record → Type 0) (b : BoundTree) (before : R) (e : RecordsError) → IsNoFault e → IsFaultThere leaves b before e
+no_fault_there leaves b before OutOfMemory fine = tt
+no_fault_there leaves b before (Data d) fine = tt
+no_fault_there leaves b before (Write w) fine = absurd fine
+no_fault_there leaves b before (Fault f) fine = absurd fine
+
 -- the next records are a step, where nothing stopped reading
 pub step_next : {R : Type 0} (leaves : R → List Record → Type 0) (n : ℕ) (before after : R) (stop : Option DataError) (last : Bool) (m : ℕ) (rs : List Record) (Wrote : List Record → Type 0) → AreNext leaves n before after stop rs → IsLast stop m n last → m ≡ length rs → Wrote rs → IsStep leaves n before after last Wrote
 step_next leaves n before after None last m rs Wrote next is same wrote = (rs, next, is ∙ ap (λ m. nat_lt m n) same, wrote)
@@ -59,6 +66,10 @@ ok_map (Err e) P Q f h = tt
 pub err_map : {A E : Type 0} (r : Result A E) (P Q : E → Type 0) → ((e : E) → P e → Q e) → IfErr r P → IfErr r Q
 err_map (Ok a) P Q f h = tt
 err_map (Err e) P Q f h = f e h
+
+-- what a `?` hands on
+pub on_failed : {A E : Type 0} (r : Result A E) (e : E) (P : E → Type 0) → r ≡ Err e → P e → IfErr r P
+on_failed r e P is h = subst (λ r. IfErr r P) (sym is) h
 
 are_last : (n : ℕ) (a b : List Record → Type 0) (ys : List Record) → ReadsUpTo n a b ys → nat_lt (length ys) n ≡ true → (length ys < n) × a ys
 are_last n a b ys (reads, inl full) short = absurd (search (arith, full, short))
@@ -84,3 +95,10 @@ goes_on leaves limit left n start cur new last xs Wrote Wrote' count most before
     let full = are_full n (leaves cur) (leaves new) ys next (sym long ∙ is) in
     let sum : length (xs ++ ys) + (left - n) ≡ limit = ap (λ l. l + (left - n)) (length-append xs ys) ∙ search (arith, count, most, full) in
     (xs ++ ys, sum, reads_on (leaves start) (leaves cur) (leaves new) xs ys before next.0, wrote ys w)
+
+-- what stops where the writer fails, seen from before the records
+pub stops_broken : {R : Type 0} (leaves : R → List Record → Type 0) (b : BoundTree) (before mid : R) (e : RecordsError) (rs : List Record) (Wrote Broke : List Record → Type 0) → Reads (leaves before) (leaves mid) rs → Broke rs → IsOfWriting e → Stops leaves b before e Wrote Broke
+stops_broken leaves b before mid (Write w) rs Wrote Broke reads broke is = (mid, rs, reads, broke)
+stops_broken leaves b before mid OutOfMemory rs Wrote Broke reads broke is = absurd is
+stops_broken leaves b before mid (Data d) rs Wrote Broke reads broke is = absurd is
+stops_broken leaves b before mid (Fault f) rs Wrote Broke reads broke is = absurd is

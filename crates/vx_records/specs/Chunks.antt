@@ -3,6 +3,7 @@ use Rattle.std.specs.Prelude.{◌≡◌, ◌<◌, ◌≤◌, ◌++◌, ℕ, List
 use Rattle.std.specs.Global.{Vec}
 use Rattle.std.specs.List.{flat_map}
 use Rattle.vx_value.specs.Columns.{batch}
+use Rattle.vx_value.specs.Fits.{IsBatch}
 use Rattle.vx_value.specs.Types.{LogicalType, Datum, null}
 use Rattle.vx_value.specs.Views.{value_of}
 use Rattle.vx_value.specs.declared.value.Value.{Value}
@@ -36,9 +37,9 @@ IsChunk leaves n before after c = AreNext leaves n before after c.stop (map reco
 abbrev pub HasRecords : RecordBatch → LogicalType → List Record → Type 0
 HasRecords b s rs = (texts_in b.texts.items ≡ texts rs) × (b.rows.value ≡ batch s (rows rs))
 
--- the batch has the next records, n of them at most
+-- the batch has the next records, n of them at most, each of them of the type s
 abbrev pub IsNextBatch : {R : Type 0} → (R → List Record → Type 0) → ℕ → LogicalType → R → R → RecordBatch → Type 0
-IsNextBatch leaves n s before after b = (rs : List Record) × AreNext leaves n before after b.stop rs × HasRecords b s rs × (length rs ≤ n)
+IsNextBatch leaves n s before after b = (rs : List Record) × AreNext leaves n before after b.stop rs × HasRecords b s rs × IsBatch s (rows rs) × (length rs ≤ n)
 
 -- the answers are the texts of the next records, and what the expression means at them
 abbrev pub AreAnswers : {R : Type 0} → (R → List Record → Type 0) → ℕ → Tree → LogicalType → R → R → Answers → Type 0

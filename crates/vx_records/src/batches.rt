@@ -1,6 +1,7 @@
 // Records that are read together, and their rows as a column.
 ghost use Rattle.std.specs.Prelude.{◌≡◌, IfOk, IfErr, map};
 ghost use Rattle.vx_value.specs.Columns.{batch};
+ghost use Rattle.vx_value.specs.Fits.{IsBatch};
 ghost use Rattle.vx_value.specs.Views.{type_of, value_of};
 ghost use Rattle.vx_records.specs.Chunks.{IsNextBatch, IsNoFault};
 
@@ -52,6 +53,7 @@ fn batch_of(
     lines: &[u64],
 ) -> Result<Box<Column>, RecordsError>
     ensures ok { IfOk result (λ c. c.value ≡ batch (type_of dtype.now) (map value_of rows.items)) }
+    ensures fit { IfOk result (λ c. IsBatch c.value.type c.value.rows) }
     ensures err { IfErr result (λ e. IsNoFault e) }
 {
     match Column::try_new(dtype.clone()?, rows) {

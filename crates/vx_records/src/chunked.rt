@@ -1,8 +1,9 @@
 // The records of which an expression is true, chunk by chunk, and evaluated only where the chunk's
 // statistics leave that open.
-ghost use Rattle.std.specs.Prelude.{◌≡◌, ◌++◌, ◌≤◌, IfOk, IfErr, IsTrue, List, OnOk};
+ghost use Rattle.std.specs.Prelude.{◌≡◌, ◌++◌, ◌≤◌, IfOk, IfErr, IsTrue, List, OnOk, length};
 ghost use Rattle.std.specs.Io.KnownBytes.{Appends};
 ghost use Rattle.std.specs.NonZero.{non_zero_usize_get};
+ghost use Rattle.vx_value.specs.Fits.{IsBatch};
 ghost use Rattle.vx_fn.specs.Functions.{is_truth};
 ghost use Rattle.vx_tree.specs.Faults.{HasNoFault};
 ghost use Rattle.vx_tree.specs.Trees.{WellTyped, Over, node_type, unbound};
@@ -135,6 +136,7 @@ fn verdict_on(
     requires typed { WellTyped (bound_of tree.now) }
     requires truth { IsTrue (is_truth (node_type (bound_of tree.now))) }
     requires over { Over (bound_of tree.now) batch.now.type }
+    requires fit { IsBatch batch.now.type batch.now.rows }
     ensures ok { IfOk result (λ verdict. HasNoFault (bound_of tree.now) batch.now.rows → IsTrueVerdict (bound_of tree.now) batch.now.type batch.now.rows verdict) }
     ensures err { IfErr result (λ e. e ≡ OutOfMemory) }
 {
@@ -154,6 +156,7 @@ fn kept_of(
 ) -> Result<Vec<u8>, RecordsError>
     requires typed { WellTyped (bound_of tree.now) }
     requires over { Over (bound_of tree.now) batch.now.rows.value.type }
+    requires as_many { length batch.now.texts.items ≡ length batch.now.rows.value.rows }
     ensures kept { (rs : List Record) → HasRecords batch.now batch.now.rows.value.type rs → IsTrueVerdict (bound_of tree.now) batch.now.rows.value.type (rows rs) verdict →
         IfOk result (λ lines. lines.items ≡ kept_lines (unbound (bound_of tree.now)) batch.now.rows.value.type rs) }
     ensures fault { IfErr result (λ e. IsFaultOver (bound_of tree.now) batch.now.rows.value.rows e) }

@@ -48,5 +48,6 @@ fn push_line(text: &[u8], lines: &mut Vec<u8>) -> Result<(), AllocError>
     ensures { OnOk result (lines.new.items ≡ lines.old.items ++ (text.now ++ 10 ∷ [])) }
 {
     lines.extend_from_slice(text)?;
-    lines.push(b'\n')
+    lines.push(b'\n')?;
+    Ok(())
 }
