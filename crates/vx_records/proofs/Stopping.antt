@@ -1,5 +1,5 @@
 -- What stops behind some records, seen from before them.
-use Rattle.std.proofs.Common.{◌≡◌, ℕ, List, ◌++◌, [], length, subst, sym, ap, ◌∙◌, append_assoc, Bool, nat_lt, Option, None, Some, Result, Ok, Err, IfOk, IfErr, true, false, ◌+◌, ◌-◌, ◌<◌, ◌≤◌, inl, inr, ◌⊎◌, arith, length-append}
+use Rattle.std.proofs.Common.{◌≡◌, ℕ, List, ◌++◌, [], length, subst, sym, ap, ◌∙◌, append_assoc, Bool, nat_lt, Option, None, Some, Result, Ok, Err, IfOk, IfErr, true, false, ◌+◌, ◌-◌, ◌<◌, ◌≤◌, inl, inr, arith, length-append}
 use Rattle.vx_value.specs.Types.{Datum}
 use Rattle.vx_data_record.specs.declared.error.DataError.{DataError}
 use Rattle.vx_records.specs.Chunks.{AreNext, IsFaultOver, IsFaultThere, IsLast, IsNoFault, IsOfWriting, IsStep}

@@ -38,8 +38,8 @@ pub chunk_kept : (b : BoundTree) (s : LogicalType) (n : ℕ) (chunk : RecordBatc
     → NeverFaults n b rs → lines ≡ kept_lines (unbound b) s rs
 chunk_kept b s n chunk rs verdict lines (same, over) few judged made never =
     subst (λ (c : Batch). (HasNoFault b c.rows → IsTrueVerdict b c.type c.rows verdict)
-        → ((rs : List Record) → (texts_in chunk.texts.items ≡ texts rs) × (c ≡ batch c.type (rows rs)) → IsTrueVerdict b c.type (rows rs) verdict → lines ≡ kept_lines (unbound b) c.type rs)
-        → lines ≡ kept_lines (unbound b) s rs)
+    → ((rs : List Record) → (texts_in chunk.texts.items ≡ texts rs) × (c ≡ batch c.type (rows rs)) → IsTrueVerdict b c.type (rows rs) verdict → lines ≡ kept_lines (unbound b) c.type rs)
+    → lines ≡ kept_lines (unbound b) s rs)
     (sym over) (λ judged made. made rs (same, refl) (judged (never_together n b rs few never))) judged made
 
 -- its texts are as many as its rows

@@ -1,5 +1,5 @@
 -- Records that were read together. No public contract names this file.
-use Rattle.std.specs.Prelude.{◌≡◌, ◌<◌, ◌≤◌, ◌++◌, ℕ, List, [], zero, suc, ◌∷◌, map, length, Bool, nat_lt, Option, Some, None, MatchOption, get_or, if◌then◌else◌}
+use Rattle.std.specs.Prelude.{◌≡◌, ◌≤◌, ◌++◌, ℕ, List, [], zero, suc, ◌∷◌, map, length, Bool, nat_lt, Option, Some, None, MatchOption, get_or, if◌then◌else◌}
 use Rattle.std.specs.Global.{Vec}
 use Rattle.std.specs.List.{flat_map}
 use Rattle.vx_value.specs.Columns.{batch}

@@ -9,7 +9,7 @@ use Rattle.vx_records.specs.Reading.{Reads, ReadsUpTo}
 use Rattle.vx_records.specs.Records.{Record, rows}
 use Rattle.vx_records.specs.declared.error.RecordFault.{RecordFault}
 use Rattle.vx_records.specs.declared.error.RecordsError.{RecordsError}
-use Rattle.vx_records.specs.declared.error.RecordsError.TheVariants.{OutOfMemory, Data, Fault, Write}
+use Rattle.vx_records.specs.declared.error.RecordsError.TheVariants.{Fault, Write}
 
 -- known rows grow by these
 abbrev pub Gains : Option (List Datum) → Option (List Datum) → List Datum → Type 0

@@ -59,9 +59,9 @@ pub fn filter_chunks<R: RecordReader, W: Write>(
         (λ rs. Appends (W.contents out.old) (W.contents out.new) (R.head records.old ++ kept_lines (unbound (bound_of tree.now)) (R.scope records.old) rs)))) }
     ensures stopped { IfErr result (λ e. Stops R.leaves (bound_of tree.now) records.old e
         (UnlessFaulting (non_zero_usize_get size) (bound_of tree.now)
-            (λ rs. Appends (W.contents out.old) (W.contents out.new) (R.head records.old ++ kept_lines (unbound (bound_of tree.now)) (R.scope records.old) rs)))
+        (λ rs. Appends (W.contents out.old) (W.contents out.new) (R.head records.old ++ kept_lines (unbound (bound_of tree.now)) (R.scope records.old) rs)))
         (UnlessFaulting (non_zero_usize_get size) (bound_of tree.now)
-            (λ rs. Breaks (W.contents out.old) (W.contents out.new) (R.head records.old ++ kept_lines (unbound (bound_of tree.now)) (R.scope records.old) rs)))) }
+        (λ rs. Breaks (W.contents out.old) (W.contents out.new) (R.head records.old ++ kept_lines (unbound (bound_of tree.now)) (R.scope records.old) rs)))) }
     ensures tally { IfOk result (λ tally. tally.evaluated ≤ tally.chunks) }
 {
     write_text(out, records.heading())?;
@@ -109,9 +109,9 @@ fn filter_chunk<R: RecordReader, W: Write>(
         (λ rs. Appends (W.contents out.old) (W.contents out.new) (kept_lines (unbound (bound_of tree.now)) (R.scope records.old) rs)))) }
     ensures stopped { IfErr result (λ e. Stops R.leaves (bound_of tree.now) records.old e
         (UnlessFaulting count (bound_of tree.now)
-            (λ rs. Appends (W.contents out.old) (W.contents out.new) (kept_lines (unbound (bound_of tree.now)) (R.scope records.old) rs)))
+        (λ rs. Appends (W.contents out.old) (W.contents out.new) (kept_lines (unbound (bound_of tree.now)) (R.scope records.old) rs)))
         (UnlessFaulting count (bound_of tree.now)
-            (λ rs. Breaks (W.contents out.old) (W.contents out.new) (kept_lines (unbound (bound_of tree.now)) (R.scope records.old) rs)))) }
+        (λ rs. Breaks (W.contents out.old) (W.contents out.new) (kept_lines (unbound (bound_of tree.now)) (R.scope records.old) rs)))) }
     ensures scope { R.scope records.new ≡ R.scope records.old }
     ensures one { IfOk result (λ done. done.tally.chunks ≤ 1) }
     ensures tally { IfOk result (λ done. done.tally.evaluated ≤ done.tally.chunks) }
@@ -178,6 +178,10 @@ fn tally_of(records: usize, verdict: Verdict) -> ChunkTally
     ensures within { result.evaluated ≤ result.chunks }
 {
     let chunks = u64::from(records > 0);
-    let evaluated = if verdict == Verdict::Unknown { chunks } else { 0 };
+    let evaluated = if verdict == Verdict::Unknown {
+        chunks
+    } else {
+        0
+    };
     ChunkTally { chunks, evaluated }
 }

@@ -1,5 +1,5 @@
 -- The column's rows are values of its type.
-use Rattle.std.proofs.Common.{◌≡◌, map, sym, subst}
+use Rattle.std.proofs.Common.{map, sym, subst}
 use Rattle.vx_value.specs.Columns.{Batch}
 use Rattle.vx_value.specs.Fits.{IsBatch}
 use Rattle.vx_value.specs.Views.{type_of, value_of}

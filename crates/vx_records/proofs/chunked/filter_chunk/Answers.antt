@@ -1,5 +1,5 @@
 -- The next records are read, and those of them that are kept are written, unless the tree faults on them.
-use Rattle.std.proofs.Common.{◌≡◌, subst, ap, sym, ◌∙◌, rules}
+use Rattle.std.proofs.Common.{◌≡◌, Err, subst, ap, sym, ◌∙◌, length, rules}
 use Rattle.std.proofs.KnownBytes.{Appends-nil}
 use Rattle.std.specs.Io.KnownBytes.{Appends}
 use Rattle.vx_value.specs.Columns.{Batch}
@@ -16,16 +16,65 @@ use Rattle.vx_records.proofs.chunked.filter_chunk.Goals as goal
 pub returns-in_err-batch-clause-stopped : goal.returns-in_err-batch-clause-stopped
 returns-in_err-batch-clause-stopped g c =
     let e = c.in_err-batch.field-0.0 in
-    on_failed _ e _ (search rules) (stops_first g.R.RecordReader.leaves _ _ e _ _ (λ never. Appends-nil (g.W.Write.contents c.args.out.now)) (no_fault_there g.R.RecordReader.leaves _ _ e c.in_err-batch.ensures.err))
+    let failed : c.from_residual.result ≡ Err e = search rules in
+    on_failed _ e _ failed (stops_first g.R.RecordReader.leaves _ _ e _ _ (λ never. Appends-nil (g.W.Write.contents c.args.out.now)) (no_fault_there g.R.RecordReader.leaves _ _ e c.in_err-batch.ensures.err))
 
 pub returns-in_err-verdict-clause-stopped : goal.returns-in_err-verdict-clause-stopped
 returns-in_err-verdict-clause-stopped g c =
     let e = c.in_err-verdict.field-0.0 in
-    on_failed _ e _ (search rules) (stops_first g.R.RecordReader.leaves _ _ e _ _ (λ never. Appends-nil (g.W.Write.contents c.args.out.now)) (no_fault_there g.R.RecordReader.leaves _ _ e (subst IsNoFault (sym c.in_err-verdict.ensures.err) tt)))
+    let failed : c.from_residual-in_err-verdict.result ≡ Err e = search rules in
+    on_failed _ e _ failed (stops_first g.R.RecordReader.leaves _ _ e _ _ (λ never. Appends-nil (g.W.Write.contents c.args.out.now)) (no_fault_there g.R.RecordReader.leaves _ _ e (subst IsNoFault (sym c.in_err-verdict.ensures.err) tt)))
 
 pub returns-in_err-lines-clause-stopped : goal.returns-in_err-lines-clause-stopped
 returns-in_err-lines-clause-stopped g c =
     let e = c.in_err-lines.field-0.0 in
     let (rs, next, (texts, over), fit, few) = c.in_ok-batch.ensures.read in
     let there = fault_there g.R.RecordReader.leaves (bound_of c.args.tree.now) c.args.count c.args.records.now _ c.in_ok-batch.batch.stop e _ rs next (ap (λ (b : Batch). b.rows) over) c.in_err-lines.ensures.fault in
-    on_failed _ e _ (search rules) (stops_first g.R.RecordReader.leaves _ _ e _ _ (λ never. Appends-nil (g.W.Write.contents c.args.out.now)) there)
+    let failed : c.from_residual-in_err-lines.result ≡ Err e = search rules in
+    on_failed _ e _ failed (stops_first g.R.RecordReader.leaves _ _ e _ _ (λ never. Appends-nil (g.W.Write.contents c.args.out.now)) there)
+
+pub kept_of-requires-clause-as_many : goal.kept_of-requires-clause-as_many
+kept_of-requires-clause-as_many g c =
+    let (rs, next, has, fit, few) = c.in_ok-batch.ensures.read in
+    as_many _ c.in_ok-batch.batch rs has
+
+pub returns-in_err-write_text-clause-stopped : goal.returns-in_err-write_text-clause-stopped
+returns-in_err-write_text-clause-stopped g c =
+    let e = c.in_err-write_text.field-0.0 in
+    let held = g.W.Write.contents in
+    let (rs, next, has, fit, few) = c.in_ok-batch.ensures.read in
+    let (mid, reads) = next_reads g.R.RecordReader.leaves c.args.count c.args.records.now _ _ rs next in
+    let (is, broke) = c.in_err-write_text.ensures.part in
+    let b = bound_of c.args.tree.now in
+    let verdict = c.in_ok-verdict.verdict in
+    let judged = subst (λ (c : Batch). HasNoFault b c.rows → IsTrueVerdict b c.type c.rows verdict) c.deref.ensures c.in_ok-verdict.ensures.ok in
+    let kept = chunk_kept b (g.R.RecordReader.scope c.args.records.now) c.args.count c.in_ok-batch.batch rs verdict c.in_ok-lines.lines.items has few judged c.in_ok-lines.ensures.kept in
+    let failed : c.from_residual-in_err-write_text.result ≡ Err e = search rules in
+    on_failed _ e _ failed (stops_broken g.R.RecordReader.leaves _ c.args.records.now mid e rs _ _ reads
+    (λ never. subst (Breaks (held c.args.out.now) (held c.write_text.new.out)) (c.as_slice.ensures.value ∙ kept never) broke) is)
+
+pub returns-in_err-last-clause-stopped : goal.returns-in_err-last-clause-stopped
+returns-in_err-last-clause-stopped g c =
+    let e = c.in_err-last.field-0.0 in
+    let held = g.W.Write.contents in
+    let (rs, next, has, fit, few) = c.in_ok-batch.ensures.read in
+    let b = bound_of c.args.tree.now in
+    let verdict = c.in_ok-verdict.verdict in
+    let judged = subst (λ (c : Batch). HasNoFault b c.rows → IsTrueVerdict b c.type c.rows verdict) c.deref.ensures c.in_ok-verdict.ensures.ok in
+    let kept = chunk_kept b (g.R.RecordReader.scope c.args.records.now) c.args.count c.in_ok-batch.batch rs verdict c.in_ok-lines.lines.items has few judged c.in_ok-lines.ensures.kept in
+    let failed : c.from_residual-in_err-last.result ≡ Err e = search rules in
+    on_failed _ e _ failed (stops_next g.R.RecordReader.leaves _ c.args.count c.args.records.now _ _ e rs _ _ next
+    (λ never. subst (Appends (held c.args.out.now) (held c.write_text.new.out)) (c.as_slice.ensures.value ∙ kept never) c.in_ok-write_text.ensures.whole) c.in_err-last.ensures.err)
+
+pub returns-clause-step : goal.returns-clause-step
+returns-clause-step g c =
+    let held = g.W.Write.contents in
+    let (rs, next, has, fit, few) = c.in_ok-batch.ensures.read in
+    let b = bound_of c.args.tree.now in
+    let verdict = c.in_ok-verdict.verdict in
+    let judged = subst (λ (c : Batch). HasNoFault b c.rows → IsTrueVerdict b c.type c.rows verdict) c.deref.ensures c.in_ok-verdict.ensures.ok in
+    let kept = chunk_kept b (g.R.RecordReader.scope c.args.records.now) c.args.count c.in_ok-batch.batch rs verdict c.in_ok-lines.lines.items has few judged c.in_ok-lines.ensures.kept in
+    let texts : length c.in_ok-batch.batch.texts.items ≡ length rs = count_of rs c.in_ok-batch.batch.texts.items has.0 in
+    let many : c.len-2.result ≡ length rs = search (rules, c.len-2.ensures, c.in_ok-batch.batch.texts.ok, texts) in
+    step_next g.R.RecordReader.leaves c.args.count c.args.records.now _ _ c.in_ok-last.last _ rs _ next c.in_ok-last.ensures.ok many
+    (λ never. subst (Appends (held c.args.out.now) (held c.write_text.new.out)) (c.as_slice.ensures.value ∙ kept never) c.in_ok-write_text.ensures.whole)

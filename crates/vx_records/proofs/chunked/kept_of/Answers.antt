@@ -1,5 +1,5 @@
 -- The verdict says which lines are made.
-use Rattle.std.proofs.Common.{◌≡◌, ◌≤◌, length, map, refl, ap, subst, sym, ◌∙◌, arith}
+use Rattle.std.proofs.Common.{◌≡◌, length, refl, ap, subst, sym, ◌∙◌, arith}
 use Rattle.std.proofs.lemmas.List.{length-map}
 use Rattle.vx_value.specs.Columns.{Batch}
 use Rattle.vx_value.specs.Views.{value_of}

@@ -1,11 +1,11 @@
 -- Each step goes on where the one before it ended.
-use Rattle.std.proofs.Common.{◌≡◌, ◌++◌, List, [], subst, sym, ◌∙◌, arith, rules}
+use Rattle.std.proofs.Common.{◌≡◌, Err, ◌++◌, [], subst, sym, ◌∙◌, arith, rules}
 use Rattle.std.proofs.lemmas.List.{append-nil}
 use Rattle.std.specs.Io.KnownBytes.{Appends}
 use Rattle.vx_tree.specs.Trees.{unbound}
 use Rattle.vx_tree.specs.Views.{bound_of}
 use Rattle.vx_records.specs.Outcomes.{Breaks}
-use Rattle.vx_records.specs.Records.{Record, kept_lines}
+use Rattle.vx_records.specs.Records.{kept_lines}
 use Rattle.vx_records.proofs.Going.{reads_none}
 use Rattle.vx_records.proofs.Stopping.{ends_all, goes_on, on_failed, stops_broken, stops_on}
 use Rattle.vx_records.proofs.Written.{appends_on, breaks_on}
@@ -15,7 +15,8 @@ pub returns-in_err-write_text-clause-stopped : goal.returns-in_err-write_text-cl
 returns-in_err-write_text-clause-stopped g c =
     let held = g.W.Write.contents in
     let (is, broke) = c.in_err-write_text.ensures.part in
-    on_failed _ c.in_err-write_text.field-0.0 _ (search rules) (stops_broken g.R.RecordReader.leaves _ c.args.records.now c.args.records.now _ [] _ _ (reads_none (g.R.RecordReader.leaves c.args.records.now))
+    let failed : c.from_residual.result ≡ Err c.in_err-write_text.field-0.0 = search rules in
+    on_failed _ c.in_err-write_text.field-0.0 _ failed (stops_broken g.R.RecordReader.leaves _ c.args.records.now c.args.records.now _ [] _ _ (reads_none (g.R.RecordReader.leaves c.args.records.now))
     (subst (Breaks (held c.args.out.now) (held c.write_text.new.out)) (c.heading.ensures ∙ sym (append-nil (g.R.RecordReader.head c.args.records.now))) broke) is)
 
 pub returns-in-Ok-true-clause-kept : goal.returns-in-Ok-true-clause-kept

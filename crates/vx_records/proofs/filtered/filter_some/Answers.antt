@@ -1,7 +1,6 @@
 -- The next records are read, and those of them that are kept are written.
-use Rattle.std.proofs.Common.{◌≡◌, List, [], refl, subst, ap, sym, ◌∙◌, length, rules}
+use Rattle.std.proofs.Common.{◌≡◌, Err, [], subst, ap, ◌∙◌, rules}
 use Rattle.std.proofs.KnownBytes.{Appends-nil}
-use Rattle.std.proofs.lemmas.List.{length-map}
 use Rattle.std.specs.Io.KnownBytes.{Appends}
 use Rattle.vx_tree.specs.Trees.{unbound}
 use Rattle.vx_tree.specs.Views.{bound_of}
@@ -27,7 +26,8 @@ returns-in_err-write_text-clause-stopped g c =
     let values = c.rows.ensures.rows ∙ ap (λ (a : Answers). a.values.rows) c.deref-2.ensures ∙ meant in
     let kept = kept_read (unbound (bound_of c.args.tree.now)) (g.R.RecordReader.scope c.args.records.now) rs _ _ _ _ (c.as_slice-2.ensures.value ∙ c.in-Ok-lines_of.ensures) read values (count_of rs _ read) in
     let (is, broke) = c.in_err-write_text.ensures.part in
-    on_failed _ c.in_err-write_text.field-0.0 _ (search rules) (stops_broken g.R.RecordReader.leaves _ c.args.records.now mid _ rs _ _ reads (subst (Breaks (g.W.Write.contents c.args.out.now) (g.W.Write.contents c.write_text.new.out)) kept broke) is)
+    let failed : c.from_residual.result ≡ Err c.in_err-write_text.field-0.0 = search rules in
+    on_failed _ c.in_err-write_text.field-0.0 _ failed (stops_broken g.R.RecordReader.leaves _ c.args.records.now mid _ rs _ _ reads (subst (Breaks (g.W.Write.contents c.args.out.now) (g.W.Write.contents c.write_text.new.out)) kept broke) is)
 
 pub returns-clause-step : goal.returns-clause-step
 returns-clause-step g c =
