@@ -1,5 +1,5 @@
 -- The rows of a chunk of which a plan's source is true.
-use Rattle.std.specs.Prelude.{◌≡◌, ◌≢◌, ℕ, Bool, List, map, Result, MatchResult, IsErrOf}
+use Rattle.std.specs.Prelude.{◌≡◌, ◌≢◌, ℕ, Bool, true, false, List, map, Result, MatchResult, IsErrOf}
 use Rattle.vx_dtype.specs.declared.error.VortexError.{VortexError}
 use Rattle.vx_dtype.specs.declared.error.VortexError.TheVariants.{OutOfMemory, ScopeMismatch, NotBool}
 use Rattle.vx_value.specs.Columns.{Batch}
@@ -14,8 +14,8 @@ use Rattle.vx_rewrite_branch_rules.specs.Branches.{BranchRuleAt}
 use Rattle.vx_query_split.specs.Sources.{IsBound}
 use Rattle.vx_prune_stats.specs.Stats.{Facts, Describes}
 use Rattle.vx_prune_tree.specs.Verdicts.{verdict_in}
-use Rattle.vx_prune_tree.specs.declared.verdict.Verdict.{Verdict}
-use Rattle.vx_prune_tree.specs.declared.verdict.Verdict.TheVariants.{Unknown}
+use Rattle.vx_prune_tree.specs.declared.verdicts.Verdict.{Verdict}
+use Rattle.vx_prune_tree.specs.declared.verdicts.Verdict.TheVariants.{Unknown}
 
 -- for each row whether the source is true there
 abbrev pub true_of : Tree → Batch → List Bool

@@ -7,7 +7,7 @@ ghost use Rattle.vx_scan_kept.specs.Readers.{AreJust};
 ghost use Rattle.vx_tree.specs.Trees.{node_type};
 ghost use Rattle.vx_tree.specs.Views.{bound_of};
 ghost use Rattle.vx_value.specs.Paths.{minimal_paths};
-ghost use Rattle.vx_value.specs.Views.{type_of};
+ghost use Rattle.vx_value.specs.Views.{type_of, value_of};
 ghost use Rattle.vx_prune_stats.specs.Stats.{Describes};
 ghost use Rattle.vx_prune.specs.Selected.{IsRefusedWhereUnsure, IsSureWithout, Selected, SelectsRows};
 
@@ -36,15 +36,34 @@ pub fn select_rows<R: PathReader>(
     stats: &ChunkStats,
 ) -> VortexResult<RowMask>
     requires allowed { (R.batch reader.now).type ≡ type_of plan.now.scope → AreJust (R.allowed reader.now) (minimal_paths plan.now.paths) }
+    ensures mismatch { (R.batch reader.now).type ≢ type_of plan.now.scope → IsErrOf result ScopeMismatch }
+    ensures not_bool { (R.batch reader.now).type ≡ type_of plan.now.scope → is_truth (node_type (bound_of plan.now.tree)) ≡ false → IsErrOf result NotBool }
+    ensures rows { (R.batch reader.now).type ≡ type_of plan.now.scope → is_truth (node_type (bound_of plan.now.tree)) ≡ true →
+        Describes stats.now (R.batch reader.now).type (R.batch reader.now).rows → SelectsRows (bound_of plan.now.tree) (R.batch reader.now) result }
+    ensures faults { (R.batch reader.now).type ≡ type_of plan.now.scope → is_truth (node_type (bound_of plan.now.tree)) ≡ true →
+        IsRefusedWhereUnsure stats.now (bound_of plan.now.tree) (R.batch reader.now) result }
+    ensures sure { (R.batch reader.now).type ≡ type_of plan.now.scope → is_truth (node_type (bound_of plan.now.tree)) ≡ true → IsSureWithout stats.now (bound_of plan.now.tree) result }
+{
+    select_to_end(alloc, reader, plan, stats)
+}
+
+// The same, whose promises are one fact: there are six ways to end, and each keeps all.
+fn select_to_end<R: PathReader>(
+    alloc: Global,
+    reader: &R,
+    plan: &ScanPlan,
+    stats: &ChunkStats,
+) -> VortexResult<RowMask>
+    requires allowed { (R.batch reader.now).type ≡ type_of plan.now.scope → AreJust (R.allowed reader.now) (minimal_paths plan.now.paths) }
     ensures { Selected (type_of plan.now.scope) (bound_of plan.now.tree) stats.now (R.batch reader.now) result }
 {
     let dtype = reader.dtype();
     if *dtype != *plan.scope() {
         return Err(VortexError::ScopeMismatch);
     }
-    let DType::Bool(_) = plan.tree().dtype() else {
+    if !is_bool(plan.tree().dtype()) {
         return Err(VortexError::NotBool);
-    };
+    }
     match verdict(plan.tree(), stats) {
         Verdict::NoRow => all_rows(alloc, stats.rows(), false),
         Verdict::EveryRow => all_rows(alloc, stats.rows(), true),
@@ -55,16 +74,18 @@ pub fn select_rows<R: PathReader>(
     }
 }
 
+fn is_bool(dtype: &DType) -> bool
+    ensures { result ≡ is_truth (type_of dtype.now) }
+{
+    matches!(dtype, DType::Bool(_))
+}
+
 // The mask that is alike at so many rows.
 fn all_rows(alloc: Global, rows: usize, meant: bool) -> VortexResult<RowMask>
     ensures mask { IfOk result (λ m. m ≡ replicate rows meant) }
     ensures memory { IfErr result (λ e. e ≡ OutOfMemory) }
 {
-    let mut bits = Vec::with_capacity(alloc, rows)?;
-    for _ in 0..rows {
-        bits.push(meant)?;
-    }
-    Ok(RowMask::new(bits))
+    Ok(RowMask::new(Vec::from_elem(alloc, meant, rows)?))
 }
 
 // The rows at which the column is true.
@@ -74,8 +95,17 @@ fn true_rows(alloc: Global, column: &Column) -> VortexResult<RowMask>
 {
     let rows = column.rows();
     let mut bits = Vec::with_capacity(alloc, rows.len())?;
-    for i in 0..rows.len() {
-        bits.push(matches!(rows[i], Value::Bool(true)))?;
+    for row in rows {
+        bits.push(is_true(row))?;
     }
     Ok(RowMask::new(bits))
+}
+
+fn is_true(value: &Value) -> bool
+    ensures { result ≡ is_true (value_of value.now) }
+{
+    match value {
+        Value::Bool(truth) => *truth,
+        _ => false,
+    }
 }

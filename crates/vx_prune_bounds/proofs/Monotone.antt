@@ -1,5 +1,5 @@
 -- Bounds of operands that say more give bounds that say more.
-use Rattle.std.proofs.Common.{◌≡◌, refl, Bool, true, false, ◌&&◌, ◌||◌, not, List, arith}
+use Rattle.std.proofs.Common.{◌≡◌, refl, Bool, true, false, ◌&&◌, ◌||◌, not, List, [], ◌∷◌, arith}
 use Rattle.std.specs.Prelude.{ℤ, ◌+ℤ◌, ◌≤ℤ◌, Option, Some, None, if◌then◌else◌}
 use Rattle.std.specs.Int.{saturate_to_bits}
 use Rattle.std.proofs.lemmas.Bool.{and_parts, and_from, or_left, or_right}
@@ -307,6 +307,16 @@ choice-proper s x y p q = join-proper (only_if s.yes x) (only_if (may_fail s) y)
 
 pub mask-proper : (x : Bounds) (s : Truths) → IsProper x → IsProper (mask_bounds x s)
 mask-proper x s p = choice-proper s x (exactly null) p (exactly-proper null)
+
+-- each of the bounds is proper
+abbrev pub EachProper : List Bounds → Type 0
+EachProper [] = Unit {0}
+EachProper (b ∷ bs) = IsProper b × EachProper bs
+
+pub case-proper : (bs : List Bounds) → EachProper bs → IsProper (case_bounds bs)
+case-proper [] p = exactly-proper null
+case-proper (e ∷ []) p = p.0
+case-proper (c ∷ v ∷ rest) p = choice-proper (truths_in c) v (case_bounds rest) p.1.0 (case-proper rest p.1.1)
 
 pub shaped_as-proper : (x : Bounds) → IsProper (shaped_as x)
 shaped_as-proper x = implied x.value true (λ _. refl)

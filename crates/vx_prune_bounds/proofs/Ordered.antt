@@ -226,13 +226,6 @@ module _ (P : Option Datum → Type 0) (v w : Datum) where
       go true e = f e
       go false e = rest (at_most w v) refl e
 
-  pub by_comparable : P (Some v) → P None → P (comparable v)
-  by_comparable s n = go (at_most v v)
-    where
-      go : (b : Bool) → P (if b then Some v else None)
-      go true = s
-      go false = n
-
 pub comparable-own : (v : Datum) → at_most v v ≡ true → comparable v ≡ Some v
 comparable-own v e = rw e refl
 

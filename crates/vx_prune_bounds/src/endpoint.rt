@@ -6,7 +6,7 @@ ghost use Rattle.vx_prune_bounds.specs.Order.{at_most, below, comparable};
 
 use vx_types::Value;
 
-/// A value that can be compared: a least or a greatest one.
+/// A value that can be compared, lent: an end of bounds.
 #[derive(Clone, Copy, Debug)]
 pub enum Endpoint<'a> {
     /// A truth value.

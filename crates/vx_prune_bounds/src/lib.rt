@@ -8,6 +8,7 @@ mod endpoint;
 mod joins;
 mod kernels;
 mod laws;
+mod shown;
 mod truths;
 
 pub use bounds::Bounds;

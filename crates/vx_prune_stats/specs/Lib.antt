@@ -1,1 +1,8 @@
 pub mod Stats
+pub mod Codes
+pub mod Reading
+pub mod Knowing
+pub mod Laws
+pub mod Lent
+pub mod Views
+pub mod Ends

@@ -1,0 +1,52 @@
+-- A tree's values are within its bounds in a chunk, where what is known of the chunk is true of its rows.
+use Rattle.std.proofs.Common.{◌≡◌, List, [], refl, sym, subst, Option, Some, None}
+use Rattle.vx_value.specs.Fits.{Fits}
+use Rattle.vx_value.specs.Paths.{Path}
+use Rattle.vx_value.specs.Types.{LogicalType, Datum}
+use Rattle.vx_dtype.specs.Lists.{Beside, none_beside, more_beside, IsIn}
+use Rattle.vx_fn.proofs.Rows.{fn_type-found}
+use Rattle.vx_tree.proofs.Meant.{mean-unbound}
+use Rattle.vx_tree.proofs.Trees.{each_passes, or_none, value-fits, values-fit}
+use Rattle.vx_tree.specs.Faults.{each_fault, HasNoFault}
+use Rattle.vx_tree.specs.Meaning.{value, values}
+use Rattle.vx_tree.specs.Trees.{BoundTree, scope, node, BoundTrees, no_bound, bound, node_types, WellTyped, EachWellTyped, Over, EachOver}
+use Rattle.vx_prune_bounds.proofs.Contained.{fits-any_of}
+use Rattle.vx_prune_bounds.proofs.Lattice.{contains-meet}
+use Rattle.vx_prune_bounds.specs.Bounds.{Bounds, Contains, any_of}
+use Rattle.vx_prune_stats.proofs.Bounding.{bounds_hold}
+use Rattle.vx_prune_stats.specs.Stats.{Facts, Describes, at_path}
+use Rattle.vx_prune_tree.proofs.Giving.{in-unknown, fn_bounds-sound}
+use Rattle.vx_prune_tree.proofs.Along.{path_to-value}
+use Rattle.vx_prune_tree.specs.Bounding.{item_path, path_to_only, unknown, fn_bounds, at_path_or, bounds_in, each_bounds_in}
+use Rattle.vx_prune_tree.specs.Verdicts.{BoundsHold}
+
+-- the row's value along the path, if there is one, or else what is within the other bounds
+at_path_or-holds : (facts : Facts) (s : LogicalType) (rows : List Datum) (v w : Datum) (o : Option Path) (otherwise : Bounds) →
+    Describes facts s rows → IsIn v rows → ((path : Path) → o ≡ Some path → at_path s path v ≡ w) → Contains otherwise w → Contains (at_path_or facts o otherwise) w
+at_path_or-holds facts s rows v w None otherwise d i along h = h
+at_path_or-holds facts s rows v w (Some path) otherwise d i along h = subst (Contains (at_path_or facts (Some path) otherwise)) (along path refl) (bounds_hold facts s rows d v i path)
+
+mutual
+  pub bounds_in-hold : (facts : Facts) (b : BoundTree) (s : LogicalType) (rows : List Datum) (v : Datum) →
+      Describes facts s rows → WellTyped b → Over b s → HasNoFault b rows → IsIn v rows → Fits v s → Contains (bounds_in facts b) (value b v)
+  bounds_in-hold facts (scope t) s rows v d w o n i e =
+      contains-meet (any_of t) (at_path_or facts (Some []) unknown) v (fits-any_of v t (value-fits (scope t) s rows v w o n i e))
+      (at_path_or-holds facts s rows v v (Some []) unknown d i (λ path q. path_to-value (scope t) s v path w o q) (in-unknown v))
+  bounds_in-hold facts (node t f bs) s rows v d w o n i e =
+      let q = or_none _ _ n in
+      let fit = value-fits (node t f bs) s rows v w o n i e in
+      let given = fn_bounds f (each_bounds_in facts bs) in
+      contains-meet (any_of t) (at_path_or facts (item_path f (path_to_only bs)) given) (value (node t f bs) v) (fits-any_of (value (node t f bs) v) t fit)
+      (at_path_or-holds facts s rows v (value (node t f bs) v) (item_path f (path_to_only bs)) given d i (λ path p. path_to-value (node t f bs) s v path w o p)
+      (fn_bounds-sound (fn_type-found f (node_types bs) t w.0) (values-fit bs s rows v w.2 o q.0 i e) (each_bounds_in-hold facts bs s rows v d w.2 o q.0 i e)))
+
+  each_bounds_in-hold : (facts : Facts) (bs : BoundTrees) (s : LogicalType) (rows : List Datum) (v : Datum) →
+      Describes facts s rows → EachWellTyped bs → EachOver bs s → each_fault bs rows ≡ None → IsIn v rows → Fits v s → Beside Contains (each_bounds_in facts bs) (values bs v)
+  each_bounds_in-hold facts no_bound s rows v d w o n i e = none_beside
+  each_bounds_in-hold facts (bound b bs) s rows v d w o n i e =
+      let q = or_none _ _ n in
+      more_beside (bounds_in-hold facts b s rows v d w.0 o.0 q.0 i e) (each_bounds_in-hold facts bs s rows v d w.1 o.1 q.1 i e)
+
+pub bounds-hold : (facts : Facts) (b : BoundTree) → WellTyped b → BoundsHold facts b
+bounds-hold facts b w = λ s rows o batch d n v i.
+    subst (Contains (bounds_in facts b)) (sym (mean-unbound b s v w o)) (bounds_in-hold facts b s rows v d w o n i (each_passes _ rows v batch i))

@@ -1,0 +1,16 @@
+-- What the code tells apart on its way.
+use Rattle.std.specs.Prelude.{Bool, true, false, Option, Some, None}
+use Rattle.vx_value.specs.Paths.{Path, equal_path}
+use Rattle.vx_fn.specs.Functions.{Function, case_when, literal, pack}
+
+-- whether there is a path, and it is that one
+abbrev pub is_that_path : Option Path → Path → Bool
+is_that_path None = λ _. false
+is_that_path (Some path) = equal_path path
+
+-- whether the function takes one, two or three children, and its bounds are made of theirs
+abbrev pub is_of_children : Function → Bool
+is_of_children (case_when pairs has_else) = false
+is_of_children (literal u v) = false
+is_of_children (pack names n) = false
+is_of_children _ = true

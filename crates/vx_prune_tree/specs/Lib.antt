@@ -1,0 +1,3 @@
+pub mod Bounding
+pub mod Cases
+pub mod Verdicts
