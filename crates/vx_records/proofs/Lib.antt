@@ -1,4 +1,5 @@
 mod Faulting
+mod Fewer
 mod Keeping
 mod Verdicts
 mod Meaning

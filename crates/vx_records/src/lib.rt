@@ -9,6 +9,7 @@ mod error;
 mod evaluated;
 mod filtered;
 mod json_records;
+mod laws;
 mod lines;
 mod read;
 mod record;
@@ -20,6 +21,7 @@ pub use error::{RecordFault, RecordsError};
 pub use evaluated::{RowWriter, evaluate_records};
 pub use filtered::filter_records;
 pub use json_records::JsonRecords;
+pub use laws::fewer_never_fault;
 pub use record::{Record, RecordReader};
 
 // So many records are read together at most.
