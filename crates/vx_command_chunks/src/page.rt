@@ -59,27 +59,16 @@ fn push_conjuncts(
     else {
         return push_known(alloc, "  ", tree, stats, page);
     };
-    if let ScalarFnRef::Binary(Operator::And) = scalar_fn {
-        return push_each(alloc, children.as_slice(), stats, page);
+    match (scalar_fn, children.as_slice()) {
+        (ScalarFnRef::Binary(Operator::And), [left, right]) => {
+            push_conjuncts(alloc, left, stats, page)?;
+            push_conjuncts(alloc, right, stats, page)
+        }
+        (_, children) => {
+            push_known(alloc, "  ", tree, stats, page)?;
+            push_operands(alloc, children, stats, page)
+        }
     }
-    push_known(alloc, "  ", tree, stats, page)?;
-    push_operands(alloc, children.as_slice(), stats, page)
-}
-
-#[cycle(conjuncts)]
-fn push_each(
-    alloc: Global,
-    trees: &[BoundExpression],
-    stats: &ChunkStats,
-    page: &mut String,
-) -> Result<(), AllocError>
-    requires { EachWellTyped (bounds_of trees.now) }
-{
-    let [first, rest @ ..] = trees else {
-        return Ok(());
-    };
-    push_conjuncts(alloc, first, stats, page)?;
-    push_each(alloc, rest, stats, page)
 }
 
 // Adds a line for each of the trees that is no literal.
@@ -91,13 +80,12 @@ fn push_operands(
 ) -> Result<(), AllocError>
     requires { EachWellTyped (bounds_of trees.now) }
 {
-    let [first, rest @ ..] = trees else {
-        return Ok(());
-    };
-    if !is_literal(first) {
-        push_known(alloc, "    ", first, stats, page)?;
+    for tree in trees {
+        if !is_literal(tree) {
+            push_known(alloc, "    ", tree, stats, page)?;
+        }
     }
-    push_operands(alloc, rest, stats, page)
+    Ok(())
 }
 
 fn is_literal(tree: &BoundExpression) -> bool {
