@@ -77,16 +77,15 @@ fn shown_statistics(alloc: Global, batch: &Column, paths: &str) -> VortexResult<
 fn push_statistics(alloc: Global, text: &mut String, known: &FieldStats) -> Result<(), AllocError> {
     let mut before = ": ";
     if let Some(count) = known.null_count {
-        let shown = format!(in alloc; "{before}{count} null")?;
-        text.push_str(shown.as_str())?;
+        text.push_str(format!(in alloc; "{before}{count} null")?.as_str())?;
         before = ", ";
     }
-    for (word, end) in [("least", &known.least), ("greatest", &known.greatest)] {
-        if let Some(end) = end.as_ref().and_then(Endpoint::of) {
-            let shown = format!(in alloc; "{before}{word} {end}")?;
-            text.push_str(shown.as_str())?;
-            before = ", ";
-        }
+    if let Some(least) = known.least.as_ref().and_then(Endpoint::of) {
+        text.push_str(format!(in alloc; "{before}least {least}")?.as_str())?;
+        before = ", ";
+    }
+    if let Some(greatest) = known.greatest.as_ref().and_then(Endpoint::of) {
+        text.push_str(format!(in alloc; "{before}greatest {greatest}")?.as_str())?;
     }
     Ok(())
 }

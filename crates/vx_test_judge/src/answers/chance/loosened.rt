@@ -39,7 +39,9 @@ fn loosened_end(
     let moved = seeds.below(4) as i128;
     Ok(match end {
         _ if moved == 3 => None,
-        Some(Value::Int(number)) => Some(Value::Int(number.saturating_add(moved * outwards))),
+        Some(Value::Int(number)) => Some(Value::Int(number.saturating_add(outwards.saturating_mul(
+            moved,
+        )))),
         Some(value) => Some(value.clone()?),
         None => None,
     })
