@@ -74,8 +74,8 @@ abbrev UnionBelow : LogicalType → List LogicalType → LogicalType → Type 0
 UnionBelow a ts w = (u : LogicalType) × (union_all a ts ≡ Some u) × Narrower u w
 
 -- what has a union behind a join has one with both
-behind_join : {a' a : LogicalType} (u : LogicalType) (ts : List LogicalType) (w : LogicalType) → (same_base a' u ≡ true) → UnionBelow (join a' u) ts w → UnionBelow a' (u ∷ ts) w
-behind_join u ts w s r = (r.0, rw s r.1, r.2)
+behind_join : (a' u : LogicalType) (ts : List LogicalType) (w : LogicalType) → (same_base a' u ≡ true) → UnionBelow (join a' u) ts w → UnionBelow a' (u ∷ ts) w
+behind_join a' u ts w s r = (r.0, rw s r.1, r.2)
 
 kept_union : {rest kept : BoundTrees} {n : ℕ} → Without rest kept n → (a' a w : LogicalType) → Narrower a' a → union_all a (branches (node_types rest)) ≡ Some w → UnionBelow a' (branches (node_types kept)) w
 kept_union no_pair a' a w p e = let q : a ≡ w = cc in (a', refl, subst (Narrower a') q p)
@@ -84,14 +84,14 @@ kept_union (else_alone {x = x}) a' a w p e =
     let k = join-mono p (narrower_refl (node_type x)) s.0 in
     let h : union_all (join a (node_type x)) [] ≡ Some w = s.1 in
     let q : join a (node_type x) ≡ w = cc in
-    behind_join (node_type x) [] w k.0 (join a' (node_type x), refl, subst (Narrower (join a' (node_type x))) q k.1)
+    behind_join a' (node_type x) [] w k.0 (join a' (node_type x), refl, subst (Narrower (join a' (node_type x))) q k.1)
 kept_union (left_out {x = x} {rest = rest} i k) a' a w p e =
     let s = same_at a (node_type x) (branches (node_types rest)) w e in
     kept_union k a' (join a (node_type x)) w (narrower_trans p (above-left a (node_type x) s.0)) s.1
 kept_union (stays {x = x} {rest = rest} {kept = kept} k) a' a w p e =
     let s = same_at a (node_type x) (branches (node_types rest)) w e in
     let j = join-mono p (narrower_refl (node_type x)) s.0 in
-    behind_join (node_type x) (branches (node_types kept)) w j.0 (kept_union k (join a' (node_type x)) (join a (node_type x)) w j.1 s.1)
+    behind_join a' (node_type x) (branches (node_types kept)) w j.0 (kept_union k (join a' (node_type x)) (join a (node_type x)) w j.1 s.1)
 
 -- the first condition is of truth values
 first_truth : {pairs : ℕ} {has_else : Bool} {c a t : LogicalType} {ts : List LogicalType} → FnType (case_when pairs has_else) (c ∷ a ∷ ts) t → is_truth c ≡ true
@@ -131,7 +131,7 @@ keeps_fewer_pairs {rest = rest} {kept = kept} {n = n} k t u pairs has_else c x w
       type = subst (λ v. Narrower v t) q f.2;
       no_fault = λ s batch o i m.
           let a = children_quiet t (case_when pairs has_else) (bound c (bound x rest)) batch m in
-          let h : each_fault (bound c (bound x kept)) batch ≡ None = kept_quiet (stays k) batch a in
+          let h : each_fault (bound c (bound x kept)) batch ≡ None = kept_quiet (stays {c = c} {x = x} k) batch a in
           rw h refl;
       meaning = λ s batch o i m v j. kept_value (stays {c = c} {x = x} k) v;
     }

@@ -28,13 +28,13 @@ pub data Folds : BoundTree → BoundTree → Type 0 where
   -- a node over literals is its value
   constant : {t : LogicalType} {f : Function} {xs : BoundTrees} → is_computed f ≡ true → are_literals xs ≡ true → HasNoFault (node t f xs) one_row → Folds (node t f xs) (literal_node t (value (node t f xs) null))
   -- And and Or are one side where the other is the truth value that leaves it as it is
-  neutral_left : {t : LogicalType} {neutral : Bool} {x y : BoundTree} → literal_value x ≡ Some (bool neutral) → Folds (node t (binary (joins neutral)) (two_bounds x y)) y
-  neutral_right : {t : LogicalType} {neutral : Bool} {x y : BoundTree} → literal_value y ≡ Some (bool neutral) → Folds (node t (binary (joins neutral)) (two_bounds x y)) x
+  neutral_left : {t : LogicalType} {x y : BoundTree} (neutral : Bool) → literal_value x ≡ Some (bool neutral) → Folds (node t (binary (joins neutral)) (two_bounds x y)) y
+  neutral_right : {t : LogicalType} {x y : BoundTree} (neutral : Bool) → literal_value y ≡ Some (bool neutral) → Folds (node t (binary (joins neutral)) (two_bounds x y)) x
   -- the truth value that decides where it stands on one side
-  decided_left : {t : LogicalType} {neutral : Bool} {x y : BoundTree} → literal_value x ≡ Some (bool (not neutral)) → Folds (node t (binary (joins neutral)) (two_bounds x y)) (truth_literal (not neutral))
-  decided_right : {t : LogicalType} {neutral : Bool} {x y : BoundTree} → literal_value y ≡ Some (bool (not neutral)) → Folds (node t (binary (joins neutral)) (two_bounds x y)) (truth_literal (not neutral))
+  decided_left : {t : LogicalType} {x y : BoundTree} (neutral : Bool) → literal_value x ≡ Some (bool (not neutral)) → Folds (node t (binary (joins neutral)) (two_bounds x y)) (truth_literal (not neutral))
+  decided_right : {t : LogicalType} {x y : BoundTree} (neutral : Bool) → literal_value y ≡ Some (bool (not neutral)) → Folds (node t (binary (joins neutral)) (two_bounds x y)) (truth_literal (not neutral))
   -- and one of two equal sides
-  equal_sides : {t : LogicalType} {neutral : Bool} {x : BoundTree} → Folds (node t (binary (joins neutral)) (two_bounds x x)) x
+  equal_sides : {t : LogicalType} {x : BoundTree} (neutral : Bool) → Folds (node t (binary (joins neutral)) (two_bounds x x)) x
   -- a comparison with a null is null
   null_left : {t : LogicalType} {c : Comparison} {x y : BoundTree} → is_literal_of is_null_datum x ≡ true → Folds (node t (binary (compares c)) (two_bounds x y)) (literal_node t null)
   null_right : {t : LogicalType} {c : Comparison} {x y : BoundTree} → is_literal_of is_null_datum y ≡ true → Folds (node t (binary (compares c)) (two_bounds x y)) (literal_node t null)
@@ -104,15 +104,15 @@ logic_folds : (t : LogicalType) (neutral : Bool) (x y u : BoundTree) → logic_g
 logic_folds t neutral x y u e = first (one_of _ _ u e)
   where
     left : Beside neutral x y u → Folds (node t (binary (joins neutral)) (two_bounds x y)) u
-    left (inl p) = subst (Folds (node t (binary (joins neutral)) (two_bounds x y))) p.1 (neutral_left p.0)
-    left (inr p) = subst (Folds (node t (binary (joins neutral)) (two_bounds x y))) p.1 (decided_left p.0)
+    left (inl p) = subst (Folds (node t (binary (joins neutral)) (two_bounds x y))) p.1 (neutral_left neutral p.0)
+    left (inr p) = subst (Folds (node t (binary (joins neutral)) (two_bounds x y))) p.1 (decided_left neutral p.0)
 
     right : Beside neutral y x u → Folds (node t (binary (joins neutral)) (two_bounds x y)) u
-    right (inl p) = subst (Folds (node t (binary (joins neutral)) (two_bounds x y))) p.1 (neutral_right p.0)
-    right (inr p) = subst (Folds (node t (binary (joins neutral)) (two_bounds x y))) p.1 (decided_right p.0)
+    right (inl p) = subst (Folds (node t (binary (joins neutral)) (two_bounds x y))) p.1 (neutral_right neutral p.0)
+    right (inr p) = subst (Folds (node t (binary (joins neutral)) (two_bounds x y))) p.1 (decided_right neutral p.0)
 
     equal : equal_bound x y ≡ true → Folds (node t (binary (joins neutral)) (two_bounds x y)) x
-    equal h = subst (λ y. Folds (node t (binary (joins neutral)) (two_bounds x y)) x) ((equal_bound-Decides x y).0 h) equal_sides
+    equal h = subst (λ y. Folds (node t (binary (joins neutral)) (two_bounds x y)) x) ((equal_bound-Decides x y).0 h) (equal_sides neutral)
 
     second : (option_and_then (beside neutral x) (literal_value y) ≡ Some u) ⊎ (only_if (equal_bound x y) x ≡ Some u) → Folds (node t (binary (joins neutral)) (two_bounds x y)) u
     second (inl h) = right (beside_literal neutral y x u h)

@@ -12,11 +12,11 @@ use Rattle.vx_rewrite_folding_rules.specs.Folding.{FoldAt}
 
 each_keeps : (b u : BoundTree) → WellTyped b → Folds b u → Keeps b u
 each_keeps b u w (constant {t = t} {f = f} {xs = xs} i e n) = keeps_constant t f xs w e n
-each_keeps b u w (neutral_left {t = t} {neutral = k} {x = x} {y = y} e) = keeps_neutral_left t k x y w e
-each_keeps b u w (neutral_right {t = t} {neutral = k} {x = x} {y = y} e) = keeps_neutral_right t k x y w e
-each_keeps b u w (decided_left {t = t} {neutral = k} {x = x} {y = y} e) = keeps_decided_left t k x y w e
-each_keeps b u w (decided_right {t = t} {neutral = k} {x = x} {y = y} e) = keeps_decided_right t k x y w e
-each_keeps b u w (equal_sides {t = t} {neutral = k} {x = x}) = keeps_equal_sides t k x w
+each_keeps b u w (neutral_left {t = t} {x = x} {y = y} k e) = keeps_neutral_left t k x y w e
+each_keeps b u w (neutral_right {t = t} {x = x} {y = y} k e) = keeps_neutral_right t k x y w e
+each_keeps b u w (decided_left {t = t} {x = x} {y = y} k e) = keeps_decided_left t k x y w e
+each_keeps b u w (decided_right {t = t} {x = x} {y = y} k e) = keeps_decided_right t k x y w e
+each_keeps b u w (equal_sides {t = t} {x = x} k) = keeps_equal_sides t k x w
 each_keeps b u w (null_left {t = t} {c = c} {x = x} {y = y} e) = keeps_null_left t c x y w e
 each_keeps b u w (null_right {t = t} {c = c} {x = x} {y = y} e) = keeps_null_right t c x y w e
 each_keeps b u w (null_within {t = t} {ls = ls} {us = us} {x = x} {l = l} {u = h} e) = keeps_null_within t ls us x l h w e

@@ -14,37 +14,16 @@ use Rattle.vx_rewrite_folding_rules.specs.Folding.{is_computed, FoldAt}
 some_weight : (b : BoundTree) → 0 < weight b
 some_weight (scope t) = omega arith
 some_weight (node t (literal u c) xs) = omega arith
-some_weight (node t (get_item a) xs) = omega arith
-some_weight (node t (pack names n) xs) = omega arith
-some_weight (node t zip xs) = omega arith
-some_weight (node t (case_when pairs has_else) xs) = omega arith
-some_weight (node t (select selection) xs) = omega arith
 some_weight (node t _ xs) = omega arith
 
--- a node that is computed has children
+-- a node that is computed has children, and so more weight than a literal
 over_some : (t : LogicalType) (f : Function) (x : BoundTree) (xs : BoundTrees) → is_computed f ≡ true → 1 < weight (node t f (bound x xs))
-over_some t fill_null x xs e = let h = some_weight x in omega (arith, h)
-over_some t (binary op) x xs e = let h = some_weight x in omega (arith, h)
-over_some t logical_not x xs e = let h = some_weight x in omega (arith, h)
-over_some t (between ls us) x xs e = let h = some_weight x in omega (arith, h)
-over_some t (like negated case_insensitive) x xs e = let h = some_weight x in omega (arith, h)
-over_some t is_null x xs e = let h = some_weight x in omega (arith, h)
-over_some t is_not_null x xs e = let h = some_weight x in omega (arith, h)
-over_some t mask x xs e = let h = some_weight x in omega (arith, h)
-over_some t (cast v) x xs e = let h = some_weight x in omega (arith, h)
-over_some t _ x xs e = cc
+over_some t (literal u c) x xs e = cc
+over_some t _ x xs e = let h = some_weight x in omega (arith, h)
 
 computed-weight : (t : LogicalType) (f : Function) (xs : BoundTrees) → fn_type f (node_types xs) ≡ Ok t → is_computed f ≡ true → 1 < weight (node t f xs)
 computed-weight t f (bound x xs) w e = over_some t f x xs e
 computed-weight t fill_null no_bound w e = cc
-computed-weight t (binary op) no_bound w e = cc
-computed-weight t logical_not no_bound w e = cc
-computed-weight t (between ls us) no_bound w e = cc
-computed-weight t (like negated case_insensitive) no_bound w e = cc
-computed-weight t is_null no_bound w e = cc
-computed-weight t is_not_null no_bound w e = cc
-computed-weight t mask no_bound w e = cc
-computed-weight t (cast v) no_bound w e = cc
 computed-weight t _ no_bound w e = cc
 
 -- the pairs that are left out have some weight
@@ -56,11 +35,11 @@ kept-weight (stays k) = let h = kept-weight k in omega (arith, h)
 
 each_lightens : (b u : BoundTree) → WellTyped b → Folds b u → weight u < weight b
 each_lightens b u w (constant {t = t} {f = f} {xs = xs} i e n) = computed-weight t f xs w.0 i
-each_lightens b u w (neutral_left e) = omega arith
-each_lightens b u w (neutral_right e) = omega arith
-each_lightens b u w (decided_left {x = x} e) = let h = some_weight x in omega (arith, h)
-each_lightens b u w (decided_right {x = x} e) = let h = some_weight x in omega (arith, h)
-each_lightens b u w equal_sides = omega arith
+each_lightens b u w (neutral_left k e) = omega arith
+each_lightens b u w (neutral_right k e) = omega arith
+each_lightens b u w (decided_left {x = x} k e) = let h = some_weight x in omega (arith, h)
+each_lightens b u w (decided_right {x = x} k e) = let h = some_weight x in omega (arith, h)
+each_lightens b u w (equal_sides k) = omega arith
 each_lightens b u w (null_left {x = x} e) = let h = some_weight x in omega (arith, h)
 each_lightens b u w (null_right {x = x} e) = let h = some_weight x in omega (arith, h)
 each_lightens b u w (null_within {x = x} e) = let h = some_weight x in omega (arith, h)

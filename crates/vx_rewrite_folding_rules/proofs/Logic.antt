@@ -70,7 +70,7 @@ right_narrower : {a b t : LogicalType} → LogicTyped a b t → Narrower b t
 right_narrower l = rw (l.second, l.type) (narrower same_atomic_shape (or_right l.left l.right))
 
 truth_narrower : {a b t : LogicalType} → LogicTyped a b t → Narrower (truth_type false) t
-truth_narrower l = rw l.type (narrower same_atomic_shape (λ e. cc))
+truth_narrower l = rw l.type (narrower {n = false} {m = l.left || l.right} same_atomic_shape (λ e. cc))
 
 -- ---- laws
 

@@ -17,11 +17,11 @@ kept_from (stays l) xs k = from_inside (k _ at_first) (from_inside (k _ (in_rest
 
 each_from : (b u : BoundTree) → Folds b u → EachFrom (bound_children_of b) (bound_children_of u)
 each_from b u (constant i e n) = from_none
-each_from b u (neutral_left {y = y} e) = below_inside y _ (in_rest at_first)
-each_from b u (neutral_right {x = x} e) = below_inside x _ at_first
-each_from b u (decided_left e) = from_none
-each_from b u (decided_right e) = from_none
-each_from b u (equal_sides {x = x}) = below_inside x _ at_first
+each_from b u (neutral_left {y = y} k e) = below_inside y _ (in_rest at_first)
+each_from b u (neutral_right {x = x} k e) = below_inside x _ at_first
+each_from b u (decided_left k e) = from_none
+each_from b u (decided_right k e) = from_none
+each_from b u (equal_sides {x = x} k) = below_inside x _ at_first
 each_from b u (null_left e) = from_none
 each_from b u (null_right e) = from_none
 each_from b u (null_within e) = from_none

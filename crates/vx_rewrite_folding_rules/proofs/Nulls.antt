@@ -1,5 +1,5 @@
 -- A comparison with a null, a test by null bounds, and a test for null of what is never null are kept by literals.
-use Rattle.std.proofs.Common.{◌≡◌, [], ◌∷◌, refl, sym, subst, Bool, true, false, not}
+use Rattle.std.proofs.Common.{◌≡◌, [], ◌∷◌, refl, sym, subst, Bool, true, false, not, ◌||◌}
 use Rattle.std.proofs.Math.Bool.{or-true}
 use Rattle.std.proofs.lemmas.Bool.{or_left, or_right}
 use Rattle.vx_value.specs.Fits.{Fits}
