@@ -1,8 +1,7 @@
 -- A CASE without pairs whose condition never holds keeps it: its type is no wider, and its value is the same.
-use Rattle.std.proofs.Common.{◌≡◌, ℕ, zero, suc, ◌+◌, ◌-◌, ◌*◌, ◌<◌, ◌≤◌, ◌==◌, List, [], ◌∷◌, length, refl, sym, ap, subst, Bool, true, false, not, arith}
+use Rattle.std.proofs.Common.{◌≡◌, ℕ, zero, suc, ◌+◌, ◌-◌, ◌*◌, ◌≤◌, ◌==◌, List, [], ◌∷◌, length, refl, sym, ap, subst, Bool, true, false, not, arith}
 use Rattle.std.specs.Prelude.{Some, None, Ok, if◌then◌else◌}
 use Rattle.std.specs.List.{list_all}
-use Rattle.std.specs.Option.{option_or}
 use Rattle.std.proofs.Math.Dec.{eqb-suc-zero}
 use Rattle.std.proofs.lemmas.Bool.{and_parts, and_from, eq-eqb, not-true}
 use Rattle.vx_value.specs.Types.{LogicalType, Datum, with_nullability}
@@ -12,10 +11,9 @@ use Rattle.vx_fn.proofs.Monotone.{nullable-mono, join-mono, same_at}
 use Rattle.vx_fn.specs.Functions.{case_when, literal, conditions, branches, is_truth, fn_type}
 use Rattle.vx_fn.specs.Rows.{FnType, of_case_else, of_case}
 use Rattle.vx_fn.specs.Values.{is_true, first_true}
-use Rattle.vx_tree.proofs.Trees.{or_none}
 use Rattle.vx_tree.specs.Faults.{each_fault}
 use Rattle.vx_tree.specs.Meaning.{value, values}
-use Rattle.vx_tree.specs.Trees.{BoundTree, node, BoundTrees, no_bound, bound, node_type, node_types, WellTyped, EachWellTyped, Over, EachOver}
+use Rattle.vx_tree.specs.Trees.{BoundTree, node, BoundTrees, bound, node_type, node_types, WellTyped, EachWellTyped, EachOver}
 use Rattle.vx_rewrite_keep.proofs.Keeping.{narrower_trans}
 use Rattle.vx_rewrite_keep.specs.Keeps.{Keeps}
 use Rattle.vx_rewrite_rule_sets.proofs.Prelude.{narrower_refl, fn_type-found, fn_type-only, first_quiet, rest_quiet, children_quiet, CaseTyped, case_typed}

@@ -8,7 +8,7 @@ use Rattle.vx_dtype.specs.declared.error.VortexError.{VortexError}
 use Rattle.vx_value.specs.Deciding.{equal_type-Decides}
 use Rattle.vx_value.specs.Equality.{equal_type}
 use Rattle.vx_value.specs.Types.{LogicalType, Datum, null, bool, is_nullable, is_null_datum}
-use Rattle.vx_fn.specs.Functions.{Function, case_when, literal, binary, logical_not, between, is_null, is_not_null, mask, cast, Operation, Comparison, compares, and_also, or_else, fn_type}
+use Rattle.vx_fn.specs.Functions.{Function, case_when, binary, logical_not, between, is_null, is_not_null, mask, cast, Operation, Comparison, compares, and_also, or_else, fn_type}
 use Rattle.vx_fn.specs.Values.{is_true}
 use Rattle.vx_tree.specs.Binding.{node_over}
 use Rattle.vx_tree.specs.Equality.{equal_bound, equal_bound-Decides}
@@ -75,9 +75,9 @@ constant_folds (scope t) u e = cc
 constant_folds (node t f xs) u e =
     under_test (Folds (node t f xs)) (is_computed f && are_literals xs && is_none (first_fault (node t f xs) one_row)) (literal_node t (value (node t f xs) null)) u
     (λ h.
-        let p = and_parts _ _ h in
-        let q = and_parts _ _ p.0 in
-        constant q.0 q.1 (not_there _ p.1))
+    let p = and_parts _ _ h in
+    let q = and_parts _ _ p.0 in
+    constant q.0 q.1 (not_there _ p.1))
     e
 
 -- ---- And and Or

@@ -1,5 +1,4 @@
 -- Folding is a lawful set behind the branch rules, and gives at most one tree.
-use Rattle.std.proofs.Common.{◌≡◌}
 use Rattle.vx_tree.specs.Trees.{BoundTree}
 use Rattle.vx_rewrite_keep.specs.Lawful.{Lawful}
 use Rattle.vx_rewrite_keep.specs.Steps.{Normal}

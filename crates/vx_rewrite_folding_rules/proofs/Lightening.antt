@@ -1,8 +1,8 @@
 -- What folding gives is lighter.
-use Rattle.std.proofs.Common.{◌≡◌, ℕ, ◌+◌, ◌*◌, ◌<◌, ◌≤◌, [], ◌∷◌, true, arith}
+use Rattle.std.proofs.Common.{◌≡◌, ℕ, ◌+◌, ◌<◌, ◌≤◌, true, arith}
 use Rattle.std.specs.Prelude.{Ok}
 use Rattle.vx_value.specs.Types.{LogicalType}
-use Rattle.vx_fn.specs.Functions.{Function, case_when, get_item, literal, pack, select, fill_null, zip, binary, logical_not, between, like, is_null, is_not_null, mask, cast, fn_type}
+use Rattle.vx_fn.specs.Functions.{Function, literal, fill_null, fn_type}
 use Rattle.vx_tree.specs.Trees.{BoundTree, scope, node, BoundTrees, no_bound, bound, node_types, WellTyped}
 use Rattle.vx_rewrite_keep.specs.Weights.{weight, weights}
 use Rattle.vx_rewrite_rule_sets.specs.Sets.{Lightening}

@@ -10,7 +10,7 @@ use Rattle.vx_fn.specs.Functions.{literal, binary, and_also, or_else, truth_type
 use Rattle.vx_fn.specs.Rows.{FnType, of_and, of_or}
 use Rattle.vx_fn.specs.Values.{binary_value}
 use Rattle.vx_tree.specs.Meaning.{value}
-use Rattle.vx_tree.specs.Trees.{BoundTree, node, no_bound, bound, node_type, WellTyped}
+use Rattle.vx_tree.specs.Trees.{BoundTree, node, no_bound, node_type, WellTyped}
 use Rattle.vx_rewrite_keep.specs.Keeps.{Keeps}
 use Rattle.vx_rewrite_rule_sets.proofs.Prelude.{fn_type-found, value-fits, each_passes, first_quiet, children_quiet, second_quiet, IsChild, child-well_typed, child-over, child-quiet}
 use Rattle.vx_rewrite_rule_sets.specs.Nodes.{one_bound, two_bounds, literal_value}

@@ -1,5 +1,5 @@
 -- Folding is modest: its new children come from below the root, or are literals, at which it gives nothing.
-use Rattle.std.proofs.Common.{◌≡◌, ℕ}
+use Rattle.std.proofs.Common.{ℕ}
 use Rattle.vx_tree.specs.Trees.{BoundTree, BoundTrees}
 use Rattle.vx_tree.specs.Nodes.{bound_children_of}
 use Rattle.vx_rewrite_rule_sets.proofs.Prelude.{below_inside}

@@ -1,18 +1,18 @@
 -- A comparison with a null, a test by null bounds, and a test for null of what is never null are kept by literals.
-use Rattle.std.proofs.Common.{◌≡◌, [], ◌∷◌, refl, sym, subst, Bool, true, false, not, ◌||◌}
+use Rattle.std.proofs.Common.{◌≡◌, [], ◌∷◌, refl, sym, subst, Bool, true, false, ◌||◌}
 use Rattle.std.proofs.Math.Bool.{or-true}
 use Rattle.std.proofs.lemmas.Bool.{or_left, or_right}
 use Rattle.vx_value.specs.Fits.{Fits}
 use Rattle.vx_value.specs.Types.{LogicalType, ty, Datum, null, bool, is_nullable, is_null_datum}
 use Rattle.vx_fn.specs.Functions.{Function, binary, between, is_null, is_not_null, Comparison, compares, truth_type}
 use Rattle.vx_fn.specs.Rows.{FnType, of_comparison, of_between}
-use Rattle.vx_fn.specs.Values.{kleene_and, compared, bound_comparison, fn_value}
+use Rattle.vx_fn.specs.Values.{compared, bound_comparison, fn_value}
 use Rattle.vx_tree.specs.Meaning.{value, values}
 use Rattle.vx_tree.specs.Trees.{BoundTree, node, BoundTrees, node_type, node_types, WellTyped}
 use Rattle.vx_rewrite_keep.specs.Keeps.{Keeps}
 use Rattle.vx_rewrite_rule_sets.proofs.Prelude.{narrower_refl, fn_type-found, value-fits, each_passes, only_quiet}
 use Rattle.vx_rewrite_rule_sets.specs.Nodes.{one_bound, two_bounds, three_bounds, literal_node}
-use Rattle.vx_rewrite_folding_rules.proofs.Constants.{LiteralOf, literal_of, constant_value, constant_fits}
+use Rattle.vx_rewrite_folding_rules.proofs.Constants.{literal_of, constant_value, constant_fits}
 use Rattle.vx_rewrite_folding_rules.specs.Folding.{is_literal_of, truth_literal}
 
 -- ---- null operands
