@@ -4,7 +4,6 @@ use Rattle.std.specs.Prelude.{Option, Some, None, Result, Ok, Err, option_and_th
 use Rattle.std.specs.Option.{option_or, is_none}
 use Rattle.std.specs.Result.{result_ok}
 use Rattle.std.proofs.lemmas.Option.{option_and_then_some}
-use Rattle.vx_value.proofs.PathSets.{none_from_is_some}
 use Rattle.std.proofs.lemmas.Bool.{and_parts, or_cases, not-true, ltb-true}
 use Rattle.vx_dtype.specs.declared.error.VortexError.{VortexError}
 use Rattle.vx_value.specs.Deciding.{equal_type-Decides}
@@ -68,6 +67,10 @@ one_of : (o p : Option BoundTree) (u : BoundTree) → option_or o p ≡ Some u �
 one_of None p u e = inr e
 one_of (Some x) p u e = inl e
 
+not_there : {A : Type 0} (o : Option A) → is_none o ≡ true → o ≡ None
+not_there None e = refl
+not_there (Some x) e = cc
+
 constant_folds : (b u : BoundTree) → constant_given b ≡ Some u → Folds b u
 constant_folds (scope t) u e = cc
 constant_folds (node t f xs) u e =
@@ -75,7 +78,7 @@ constant_folds (node t f xs) u e =
     (λ h.
     let p = and_parts _ _ h in
     let q = and_parts _ _ p.0 in
-    constant q.0 q.1 (none_from_is_some _ (not-true _ p.1)))
+    constant q.0 q.1 (not_there _ p.1))
     e
 
 -- ---- And and Or
