@@ -15,9 +15,10 @@ pub use crate::expr::{
     or_collect, pack, root, select, select_exclude, zip_expr,
 };
 pub use crate::functions::{BetweenOptions, Operator, StrictComparison};
-pub use crate::optimize::{BranchRules, Optimize};
+pub use crate::optimize::{BranchRules, FoldingRules, Optimize};
+pub use crate::prune::{ChunkStats, Verdict, select_rows, verdict};
 pub use crate::query::run_query;
-pub use crate::scan::{PathReader, ScanPlan, plan, scan};
+pub use crate::scan::{PathReader, ScanPlan, plan, plan_with, scan};
 pub use crate::source::{SourceText, parse, parse_type};
 pub use crate::transform::{
     BoundPartitionedExpr, Pass, find_between, partition_bound, replace_nodes, run_passes,
