@@ -9,7 +9,5 @@ mod logic;
 mod nulls;
 mod rules;
 mod single;
-#[cfg(test)]
-mod trials;
 
 pub use rules::FoldingRules;

@@ -4,13 +4,13 @@ use Rattle.std.specs.Option.{option_or, is_none}
 use Rattle.std.specs.Result.{result_ok}
 use Rattle.vx_value.specs.Equality.{equal_type}
 use Rattle.vx_value.specs.Types.{LogicalType, Datum, null, bool, is_nullable, is_null_datum}
-use Rattle.vx_fn.specs.Functions.{Function, case_when, get_item, literal, pack, select, fill_null, zip, binary, logical_not, between, like, is_null, is_not_null, mask, cast, Operation, compares, and_also, or_else, adds, truth_type}
+use Rattle.vx_fn.specs.Functions.{Function, case_when, literal, fill_null, binary, logical_not, between, like, is_null, is_not_null, mask, cast, compares, and_also, or_else, truth_type}
 use Rattle.vx_fn.specs.Values.{is_true}
 use Rattle.vx_tree.specs.Binding.{node_over}
 use Rattle.vx_tree.specs.Equality.{equal_bound}
 use Rattle.vx_tree.specs.Faults.{first_fault}
 use Rattle.vx_tree.specs.Meaning.{value}
-use Rattle.vx_tree.specs.Trees.{BoundTree, scope, node, BoundTrees, no_bound, bound, node_type}
+use Rattle.vx_tree.specs.Trees.{BoundTree, node, BoundTrees, no_bound, bound, node_type}
 use Rattle.vx_rewrite_branch_rules.specs.Branches.{BranchRuleAt}
 use Rattle.vx_rewrite_keep.specs.Steps.{GivesNothing}
 use Rattle.vx_rewrite_rule_sets.specs.Nodes.{only_one, two_of, three_of, first_two, only_if, literal_node, literal_value}
