@@ -2,7 +2,6 @@
 use Rattle.std.proofs.Common.{◌≡◌, ◌≢◌, Bool, true, false, List, [], ◌∷◌, length, map, replicate, Result, Ok, Err, IfOk, IfErr, refl, sym, ap, ◌∙◌, subst, inl, inr}
 use Rattle.std.specs.Prelude.{MatchResult}
 use Rattle.vx_dtype.specs.Lists.{IsIn}
-use Rattle.vx_dtype.proofs.Lists.{map_same}
 use Rattle.vx_dtype.specs.declared.error.VortexError.{VortexError}
 use Rattle.vx_dtype.specs.declared.error.VortexError.TheVariants.{OutOfMemory, ScopeMismatch, NotBool}
 use Rattle.vx_value.specs.Columns.{Batch}
@@ -21,7 +20,7 @@ use Rattle.vx_prune_stats.specs.Stats.{Facts, Describes}
 use Rattle.vx_prune_tree.specs.Verdicts.{IsTrueVerdict, VerdictHolds, verdict_in}
 use Rattle.vx_prune_tree.specs.declared.verdicts.Verdict.{Verdict}
 use Rattle.vx_prune_tree.specs.declared.verdicts.Verdict.TheVariants.{NoRow, EveryRow, Unknown}
-use Rattle.vx_prune.specs.Selected.{true_of, HasRowsOf, Selected, SelectsRows}
+use Rattle.vx_prune.specs.Selected.{true_of, Selected, SelectsRows}
 
 both_ways : (b : Bool) → b ≡ true → b ≡ false → ⊥
 both_ways true t f = cc

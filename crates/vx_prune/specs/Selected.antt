@@ -3,7 +3,7 @@ use Rattle.std.specs.Prelude.{◌≡◌, ◌≢◌, Bool, true, false, List, map
 use Rattle.vx_dtype.specs.declared.error.VortexError.{VortexError}
 use Rattle.vx_dtype.specs.declared.error.VortexError.TheVariants.{OutOfMemory, ScopeMismatch, NotBool}
 use Rattle.vx_value.specs.Columns.{Batch}
-use Rattle.vx_value.specs.Types.{LogicalType, Datum}
+use Rattle.vx_value.specs.Types.{LogicalType}
 use Rattle.vx_fn.specs.Functions.{is_truth}
 use Rattle.vx_fn.specs.Values.{is_true}
 use Rattle.vx_tree.specs.Faults.{HasNoFault}
@@ -13,7 +13,6 @@ use Rattle.vx_rewrite_keep.specs.Keeps.{Keeps}
 use Rattle.vx_query_split.specs.Sources.{IsBound}
 use Rattle.vx_prune_stats.specs.Stats.{Facts, Describes}
 use Rattle.vx_prune_tree.specs.Verdicts.{verdict_in}
-use Rattle.vx_prune_tree.specs.declared.verdicts.Verdict.{Verdict}
 use Rattle.vx_prune_tree.specs.declared.verdicts.Verdict.TheVariants.{Unknown}
 
 -- for each row whether the source is true there

@@ -1,10 +1,13 @@
 // A CASE without the pairs that never choose.
-ghost use Rattle.std.specs.Prelude.{◌≡◌, ◌++◌, IfOk, Ok, map};
+ghost use Rattle.std.specs.Prelude.{◌≡◌, ◌≤◌, ◌-◌, IfOk, IsOk, Ok, Some, map};
 ghost use Rattle.std.specs.Option.{option_map};
+ghost use Rattle.std.specs.Result.{result_ok};
 ghost use Rattle.vx_value.specs.Answers.{Answers};
-ghost use Rattle.vx_value.specs.Views.{type_of};
+ghost use Rattle.vx_value.specs.Types.{LogicalType};
 ghost use Rattle.vx_fn.specs.Functions.{case_when};
+ghost use Rattle.vx_rewrite_folding.specs.Behind.{behind_all};
 ghost use Rattle.vx_rewrite_folding_rules.specs.Folding.{case_given, idle_pairs, is_idle, without_idle};
+ghost use Rattle.vx_tree.specs.Binding.{node_over};
 ghost use Rattle.vx_tree.specs.Trees.{bound, node, WellTyped};
 ghost use Rattle.vx_tree.specs.Views.{bound_of, bounds_of};
 
@@ -23,34 +26,47 @@ pub(crate) fn case_given(
     then: &BoundExpression,
     rest: &[BoundExpression],
 ) -> VortexResult<Option<BoundExpression>>
+    requires { (t : LogicalType) × WellTyped (node t (case_when options.num_when_then_pairs options.has_else) (bound (bound_of condition.now) (bound (bound_of then.now) (bounds_of rest.now)))) }
     ensures { Answers (option_map bound_of) result (Ok (case_given options.num_when_then_pairs options.has_else (bound_of condition.now) (bound_of then.now) (bounds_of rest.now))) }
 {
-    let idle = idle_pairs(rest);
-    if idle == 0 {
+    let left = pairs_left(options.num_when_then_pairs, rest);
+    if left == options.num_when_then_pairs {
         return Ok(None);
     }
     let options = CaseWhenOptions {
-        num_when_then_pairs: options.num_when_then_pairs - idle as u32,
+        num_when_then_pairs: left,
         has_else: options.has_else,
     };
     let children = without_idle(vec![in alloc; condition.clone()?, then.clone()?]?, rest)?;
-    let case = BoundExpression::try_new(alloc, ScalarFnRef::CaseWhen(options), children)?;
-    Ok(Some(case))
+    Ok(Some(case_over(alloc, options, children)?))
 }
 
-// How many pairs have a condition that never holds.
-fn idle_pairs(trees: &[BoundExpression]) -> usize
-    ensures { result ≡ idle_pairs (bounds_of trees.now) }
+// The CASE over the children. Asks children over which it has a type.
+fn case_over(
+    alloc: Global,
+    options: CaseWhenOptions,
+    children: Vec<BoundExpression>,
+) -> VortexResult<BoundExpression>
+    requires { IsOk (node_over (case_when options.num_when_then_pairs options.has_else) (bounds_of children.items)) }
+    ensures { Answers (λ b. Some (bound_of b)) result (Ok (result_ok (node_over (case_when options.num_when_then_pairs options.has_else) (bounds_of children.items)))) }
 {
-    let mut idle = 0;
+    BoundExpression::try_new(alloc, ScalarFnRef::CaseWhen(options), children)
+}
+
+// How many of so many pairs are left without those of the trees whose condition never holds.
+fn pairs_left(pairs: u32, trees: &[BoundExpression]) -> u32
+    requires { idle_pairs (bounds_of trees.now) ≤ pairs }
+    ensures { result ≡ pairs - idle_pairs (bounds_of trees.now) }
+{
+    let mut left = pairs;
     let mut rest = trees;
     while let [condition, _, behind @ ..] = rest {
         if is_idle(condition) {
-            idle += 1;
+            left -= 1;
         }
         rest = behind;
     }
-    idle
+    left
 }
 
 // The first trees, and behind them the pairs whose condition may hold, and ELSE.
@@ -58,7 +74,7 @@ fn without_idle(
     first: Vec<BoundExpression>,
     trees: &[BoundExpression],
 ) -> Result<Vec<BoundExpression>, AllocError>
-    ensures { IfOk result (λ v. bounds_of v.items ≡ without_idle (bounds_of trees.now)) }
+    ensures { IfOk result (λ v. bounds_of v.items ≡ behind_all (map bound_of first.items) (without_idle (bounds_of trees.now))) }
 {
     let mut kept = first;
     let mut rest = trees;
@@ -69,7 +85,7 @@ fn without_idle(
         }
         rest = behind;
     }
-    for otherwise in rest {
+    if let [otherwise, ..] = rest {
         kept.push(otherwise.clone()?)?;
     }
     Ok(kept)

@@ -1,14 +1,16 @@
 // Literals, and nodes over them.
-ghost use Rattle.std.specs.Prelude.{◌≡◌, ◌<◌, Ok, get_or, length};
+ghost use Rattle.std.specs.Prelude.{◌≡◌, ◌⊎◌, ◌<◌, None, Ok, Option, get_or, length, true};
 ghost use Rattle.std.specs.Option.{option_map};
+ghost use Rattle.vx_dtype.specs.declared.error.VortexError.TheVariants.{OutOfMemory};
 ghost use Rattle.vx_value.specs.Answers.{Answers};
 ghost use Rattle.vx_value.specs.Columns.{batch};
 ghost use Rattle.vx_value.specs.Types.{null};
 ghost use Rattle.vx_fn.specs.Functions.{truth_type};
 ghost use Rattle.vx_fn.specs.Views.{function_of};
+ghost use Rattle.vx_rewrite_folding.specs.Constants.{is_constant};
 ghost use Rattle.vx_rewrite_folding_rules.specs.Folding.{are_literals, constant_given, is_computed, one_row, truth_literal};
 ghost use Rattle.vx_rewrite_rule_sets.specs.Nodes.{literal_node};
-ghost use Rattle.vx_tree.specs.Trees.{WellTyped};
+ghost use Rattle.vx_tree.specs.Trees.{BoundTree, WellTyped};
 ghost use Rattle.vx_tree.specs.Views.{bound_of, bounds_of};
 
 use std::alloc::Global;
@@ -44,29 +46,49 @@ pub(crate) fn constant_given(
     requires { WellTyped (bound_of node.now) }
     ensures { Answers (option_map bound_of) result (Ok (constant_given (bound_of node.now))) }
 {
-    let BoundExpression::Scalar {
-        scalar_fn,
-        children,
-        ..
-    } = node
-    else {
-        return Ok(None);
-    };
-    if !is_computed(scalar_fn) || !are_literals(children.as_slice()) {
+    if !is_constant(node) {
         return Ok(None);
     }
-    match apply_bound(alloc, &one_row(alloc)?, node) {
+    let row = one_row(alloc)?;
+    match apply_bound(alloc, &row, node) {
         Ok(column) => Ok(Some(first_row(alloc, &column)?)),
-        Err(VortexError::OutOfMemory) => Err(VortexError::OutOfMemory),
-        Err(_) => Ok(None),
+        Err(fault) => unless_memory(&fault),
     }
 }
 
-// Whether each of the trees is a literal.
+// Nothing, where a node faults; but want of memory is handed on.
+fn unless_memory(fault: &VortexError) -> VortexResult<Option<BoundExpression>>
+    ensures { (said : Option BoundTree) → (fault.now ≡ OutOfMemory) ⊎ (said ≡ None) → Answers (option_map bound_of) result (Ok said) }
+{
+    match fault {
+        VortexError::OutOfMemory => Err(VortexError::OutOfMemory),
+        _ => Ok(None),
+    }
+}
+
+// Whether the node's function is computed, and all children are literals.
+fn is_constant(node: &BoundExpression) -> bool
+    ensures { result ≡ is_constant (bound_of node.now) }
+{
+    match node {
+        BoundExpression::Scalar {
+            scalar_fn,
+            children,
+            ..
+        } => is_computed(scalar_fn) && are_literals(children.as_slice()),
+        BoundExpression::Root { .. } => false,
+    }
+}
+
+// Whether each of the trees is a literal: of the children of a function that is computed, which are
+// three at most.
 fn are_literals(trees: &[BoundExpression]) -> bool
     ensures { result ≡ are_literals (bounds_of trees.now) }
 {
-    trees.iter().all(|tree| literal_value(tree).is_some())
+    match trees {
+        [] => true,
+        [first, rest @ ..] => literal_value(first).is_some() && are_literals(rest),
+    }
 }
 
 // A batch of one row: a node over literals gives the same in each.

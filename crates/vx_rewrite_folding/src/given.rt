@@ -3,7 +3,7 @@ ghost use Rattle.std.specs.Prelude.{◌≡◌, IsFalse, None, Ok};
 ghost use Rattle.std.specs.Option.{option_map};
 ghost use Rattle.vx_value.specs.Answers.{Answers};
 ghost use Rattle.vx_value.specs.Views.{type_of};
-ghost use Rattle.vx_fn.specs.Functions.{binary};
+ghost use Rattle.vx_fn.specs.Functions.{binary, case_when};
 ghost use Rattle.vx_fn.specs.Views.{operation_of};
 ghost use Rattle.vx_rewrite_folding_rules.specs.Folding.{fold_given, known_given};
 ghost use Rattle.vx_tree.specs.Trees.{node, WellTyped};
@@ -15,8 +15,8 @@ use crate::logic::logic_given;
 use crate::nulls::{between_given, comparison_given};
 use crate::single::{cast_given, mask_given, not_given, test_given};
 use std::alloc::Global;
-use vx_fn::{Operator, ScalarFnRef};
-use vx_rewrite_rule_sets::{first_two, only, pair, triple};
+use vx_fn::{CaseWhenOptions, Operator, ScalarFnRef};
+use vx_rewrite_rule_sets::{first_two, pair};
 use vx_tree::{BoundExpression, VortexResult};
 use vx_types::DType;
 
@@ -61,61 +61,51 @@ fn known_given(alloc: Global, node: &BoundExpression) -> VortexResult<Option<Bou
     };
     let children = children.as_slice();
     match scalar_fn {
-        ScalarFnRef::CaseWhen(options) => match first_two(children) {
-            Some((condition, then, rest)) => case_given(alloc, *options, condition, then, rest),
-            None => Ok(None),
-        },
-        ScalarFnRef::Binary(operator) => match pair(children) {
-            Some((left, right)) => binary_given(alloc, dtype, *operator, left, right),
-            None => Ok(None),
-        },
-        ScalarFnRef::Between(_) => match triple(children) {
-            Some((tested, lower, upper)) => between_given(alloc, dtype, tested, lower, upper),
-            None => Ok(None),
-        },
-        ScalarFnRef::Mask(_) => match pair(children) {
-            Some((input, mask)) => mask_given(input, mask),
-            None => Ok(None),
-        },
-        _ => match only(children) {
-            Some(child) => single_given(alloc, dtype, scalar_fn, child),
-            None => Ok(None),
-        },
+        ScalarFnRef::CaseWhen(options) => of_case(alloc, dtype, *options, children),
+        ScalarFnRef::Binary(operator) => of_binary(alloc, dtype, *operator, children),
+        ScalarFnRef::Between(_) => between_given(alloc, dtype, children),
+        ScalarFnRef::Not(_) => not_given(children),
+        ScalarFnRef::Cast(_) => cast_given(dtype, children),
+        ScalarFnRef::Mask(_) => mask_given(children),
+        ScalarFnRef::IsNull(_) => test_given(alloc, false, children),
+        ScalarFnRef::IsNotNull(_) => test_given(alloc, true, children),
+        _ => Ok(None),
+    }
+}
+
+// What is given at a CASE of the type.
+fn of_case(
+    alloc: Global,
+    dtype: &DType,
+    options: CaseWhenOptions,
+    children: &[BoundExpression],
+) -> VortexResult<Option<BoundExpression>>
+    requires { WellTyped (node (type_of dtype.now) (case_when options.num_when_then_pairs options.has_else) (bounds_of children.now)) }
+    ensures { Answers (option_map bound_of) result (Ok (known_given (node (type_of dtype.now) (case_when options.num_when_then_pairs options.has_else) (bounds_of children.now)))) }
+{
+    match first_two(children) {
+        Some((condition, then, rest)) => case_given(alloc, options, condition, then, rest),
+        None => Ok(None),
     }
 }
 
 // What is given at a binary function of the type.
-fn binary_given(
+fn of_binary(
     alloc: Global,
     dtype: &DType,
     operator: Operator,
-    left: &BoundExpression,
-    right: &BoundExpression,
+    children: &[BoundExpression],
 ) -> VortexResult<Option<BoundExpression>>
-    ensures { Answers (option_map bound_of) result (Ok (known_given (node (type_of dtype.now) (binary (operation_of operator)) (two_bounds (bound_of left.now) (bound_of right.now))))) }
+    requires { WellTyped (node (type_of dtype.now) (binary (operation_of operator)) (bounds_of children.now)) }
+    ensures { Answers (option_map bound_of) result (Ok (known_given (node (type_of dtype.now) (binary (operation_of operator)) (bounds_of children.now)))) }
 {
+    let Some((left, right)) = pair(children) else {
+        return Ok(None);
+    };
     match operator {
         Operator::And => logic_given(alloc, true, left, right),
         Operator::Or => logic_given(alloc, false, left, right),
         Operator::Add => Ok(None),
         _ => comparison_given(alloc, dtype, left, right),
-    }
-}
-
-// What is given at a function of one child.
-fn single_given(
-    alloc: Global,
-    dtype: &DType,
-    scalar_fn: &ScalarFnRef,
-    child: &BoundExpression,
-) -> VortexResult<Option<BoundExpression>>
-    ensures { Answers (option_map bound_of) result (Ok (known_given (node (type_of dtype.now) (function_of scalar_fn.now) (one_bound (bound_of child.now))))) }
-{
-    match scalar_fn {
-        ScalarFnRef::Not(_) => not_given(child),
-        ScalarFnRef::Cast(_) => cast_given(dtype, child),
-        ScalarFnRef::IsNull(_) => test_given(alloc, false, child),
-        ScalarFnRef::IsNotNull(_) => test_given(alloc, true, child),
-        _ => Ok(None),
     }
 }

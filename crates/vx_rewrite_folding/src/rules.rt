@@ -5,7 +5,8 @@ use vx_rewrite_branches::BranchRules;
 use vx_rewrite_keep::Rule;
 use vx_tree::{BoundExpression, VortexResult};
 
-/// The [`BranchRules`], and where none of them fits a node, folding:
+/// The [`BranchRules`], and where none of them fits a node, folding: what is known of the node before
+/// any row is read.
 ///
 /// | At | Where | Gives |
 /// |---|---|---|
@@ -33,11 +34,11 @@ pub struct FoldingRules;
 
 impl Rule for FoldingRules {
     ghost use Rattle.vx_rewrite_folding_rules.specs.Folding.{FoldingRuleAt};
-    ghost use Rattle.vx_rewrite_folding_rules.proofs.Lawfulness.{folding_rules_lawful};
+    ghost use Rattle.vx_rewrite_folding_rules.proofs.Lawfulness.{folding_lawful};
 
     ghost gives = { λ _. FoldingRuleAt };
 
-    ghost lawful = { λ _. folding_rules_lawful };
+    ghost lawful = { λ _. folding_lawful };
 
     fn may_fit(&self, node: &BoundExpression) -> bool {
         BranchRules.may_fit(node) || may_give(node)

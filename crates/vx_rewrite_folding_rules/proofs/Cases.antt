@@ -92,7 +92,7 @@ kept_union (stays {x = x} {rest = rest} {kept = kept} k) a' a w p e =
     behind_join a' (node_type x) (branches (node_types kept)) w j.0 (kept_union k (join a' (node_type x)) (join a (node_type x)) w j.1 s.1)
 
 -- the first condition is of truth values
-first_truth : {pairs : ℕ} {has_else : Bool} {c a t : LogicalType} {ts : List LogicalType} → FnType (case_when pairs has_else) (c ∷ a ∷ ts) t → is_truth c ≡ true
+pub first_truth : {pairs : ℕ} {has_else : Bool} {c a t : LogicalType} {ts : List LogicalType} → FnType (case_when pairs has_else) (c ∷ a ∷ ts) t → is_truth c ≡ true
 first_truth (of_case_else l z d e f) = (and_parts _ _ d).0
 first_truth (of_case l z d e f) = (and_parts _ _ d).0
 
@@ -101,7 +101,7 @@ not_zero zero h = absurd (omega arith)
 not_zero (suc n) h = rw (eqb-suc-zero n) refl
 
 -- it has a type, which is no wider
-fewer_typed : {rest kept : BoundTrees} {n : ℕ} → Without rest kept n → (pairs : ℕ) (has_else : Bool) (c a t : LogicalType) → is_truth c ≡ true → CaseTyped pairs has_else c a (node_types rest) t → (u : LogicalType) × FnType (case_when (pairs - n) has_else) (c ∷ a ∷ node_types kept) u × Narrower u t
+pub fewer_typed : {rest kept : BoundTrees} {n : ℕ} → Without rest kept n → (pairs : ℕ) (has_else : Bool) (c a t : LogicalType) → is_truth c ≡ true → CaseTyped pairs has_else c a (node_types rest) t → (u : LogicalType) × FnType (case_when (pairs - n) has_else) (c ∷ a ∷ node_types kept) u × Narrower u t
 fewer_typed k pairs true c a t i d =
     let l = d.count in
     let m = kept_count k in

@@ -38,7 +38,7 @@ constant_over l s = subst (λ b. Over b s) (sym l.is) tt
 
 -- ---- a node over literals
 
-literals_over : (xs : BoundTrees) (s : LogicalType) → EachWellTyped xs → are_literals xs ≡ true → EachOver xs s
+pub literals_over : (xs : BoundTrees) (s : LogicalType) → EachWellTyped xs → are_literals xs ≡ true → EachOver xs s
 literals_over no_bound s w e = tt
 literals_over (bound x xs) s w e =
     let p = and_parts _ _ e in

@@ -3,6 +3,7 @@ use Rattle.std.proofs.Common.{◌≡◌, inl, inr, ℕ, ◌-◌, ◌<◌, refl, 
 use Rattle.std.specs.Prelude.{Option, Some, None, Result, Ok, Err, option_and_then, if◌then◌else◌, nat_lt}
 use Rattle.std.specs.Option.{option_or, is_none}
 use Rattle.std.specs.Result.{result_ok}
+use Rattle.std.proofs.lemmas.Option.{option_and_then_some}
 use Rattle.std.proofs.lemmas.Bool.{and_parts, or_cases, not-true, ltb-true}
 use Rattle.vx_dtype.specs.declared.error.VortexError.{VortexError}
 use Rattle.vx_value.specs.Deciding.{equal_type-Decides}
@@ -93,34 +94,31 @@ beside_value false x y u (bool true) h e = inr (h, cc)
 beside_value false x y u (bool false) h e = inl (h, cc)
 beside_value neutral x y u _ h e = cc
 
-beside_literal : (neutral : Bool) (x y u : BoundTree) → option_and_then (beside neutral y) (literal_value x) ≡ Some u → Beside neutral x y u
-beside_literal neutral x y u e = go (literal_value x) refl e
-  where
-    go : (o : Option Datum) → literal_value x ≡ o → option_and_then (beside neutral y) o ≡ Some u → Beside neutral x y u
-    go None h e = cc
-    go (Some c) h e = beside_value neutral x y u c h e
+module _ (t : LogicalType) (neutral : Bool) (x y : BoundTree) where
+  abbrev GivenBy : BoundTree → Type 0
+  GivenBy u = Folds (node t (binary (joins neutral)) (two_bounds x y)) u
 
-logic_folds : (t : LogicalType) (neutral : Bool) (x y u : BoundTree) → logic_given neutral x y ≡ Some u → Folds (node t (binary (joins neutral)) (two_bounds x y)) u
-logic_folds t neutral x y u e = first (one_of _ _ u e)
-  where
-    left : Beside neutral x y u → Folds (node t (binary (joins neutral)) (two_bounds x y)) u
-    left (inl p) = subst (Folds (node t (binary (joins neutral)) (two_bounds x y))) p.1 (neutral_left neutral p.0)
-    left (inr p) = subst (Folds (node t (binary (joins neutral)) (two_bounds x y))) p.1 (decided_left neutral p.0)
+  by_left : (u : BoundTree) → Beside neutral x y u → GivenBy u
+  by_left u (inl p) = subst GivenBy p.1 (neutral_left neutral p.0)
+  by_left u (inr p) = subst GivenBy p.1 (decided_left neutral p.0)
 
-    right : Beside neutral y x u → Folds (node t (binary (joins neutral)) (two_bounds x y)) u
-    right (inl p) = subst (Folds (node t (binary (joins neutral)) (two_bounds x y))) p.1 (neutral_right neutral p.0)
-    right (inr p) = subst (Folds (node t (binary (joins neutral)) (two_bounds x y))) p.1 (decided_right neutral p.0)
+  by_right : (u : BoundTree) → Beside neutral y x u → GivenBy u
+  by_right u (inl p) = subst GivenBy p.1 (neutral_right neutral p.0)
+  by_right u (inr p) = subst GivenBy p.1 (decided_right neutral p.0)
 
-    equal : equal_bound x y ≡ true → Folds (node t (binary (joins neutral)) (two_bounds x y)) x
-    equal h = subst (λ y. Folds (node t (binary (joins neutral)) (two_bounds x y)) x) ((equal_bound-Decides x y).0 h) (equal_sides neutral)
+  by_equal : equal_bound x y ≡ true → GivenBy x
+  by_equal h = subst (λ y. Folds (node t (binary (joins neutral)) (two_bounds x y)) x) ((equal_bound-Decides x y).0 h) (equal_sides neutral)
 
-    second : (option_and_then (beside neutral x) (literal_value y) ≡ Some u) ⊎ (only_if (equal_bound x y) x ≡ Some u) → Folds (node t (binary (joins neutral)) (two_bounds x y)) u
-    second (inl h) = right (beside_literal neutral y x u h)
-    second (inr h) = under_test (Folds (node t (binary (joins neutral)) (two_bounds x y))) (equal_bound x y) x u equal h
+  logic_folds : (u : BoundTree) → logic_given neutral x y ≡ Some u → GivenBy u
+  logic_folds u e = first (one_of _ _ u e)
+    where
+      second : (option_and_then (beside neutral x) (literal_value y) ≡ Some u) ⊎ (only_if (equal_bound x y) x ≡ Some u) → GivenBy u
+      second (inl h) = option_and_then_some (beside neutral x) (literal_value y) u h (λ c q r. by_right u (beside_value neutral y x u c q r))
+      second (inr h) = under_test GivenBy (equal_bound x y) x u by_equal h
 
-    first : (option_and_then (beside neutral y) (literal_value x) ≡ Some u) ⊎ (option_or (option_and_then (beside neutral x) (literal_value y)) (only_if (equal_bound x y) x) ≡ Some u) → Folds (node t (binary (joins neutral)) (two_bounds x y)) u
-    first (inl h) = left (beside_literal neutral x y u h)
-    first (inr h) = second (one_of _ _ u h)
+      first : (option_and_then (beside neutral y) (literal_value x) ≡ Some u) ⊎ (option_or (option_and_then (beside neutral x) (literal_value y)) (only_if (equal_bound x y) x) ≡ Some u) → GivenBy u
+      first (inl h) = option_and_then_some (beside neutral y) (literal_value x) u h (λ c q r. by_left u (beside_value neutral x y u c q r))
+      first (inr h) = second (one_of _ _ u h)
 
 -- ---- null operands
 

@@ -16,7 +16,6 @@ use Rattle.vx_tree.specs.Faults.{HasNoFault, first_fault, each_fault}
 use Rattle.vx_tree.specs.Meaning.{mean}
 use Rattle.vx_tree.specs.Trees.{BoundTree, node_type, unbound, WellTyped, Over}
 use Rattle.vx_rewrite_keep.proofs.Keeping.{keeps_refl}
-use Rattle.vx_rewrite_keep.specs.Keeps.{Keeps}
 use Rattle.vx_rewrite_paths.proofs.Fixing.{minimal_paths-fix}
 use Rattle.vx_rewrite_recombine.specs.Items.{struct_type, joined}
 use Rattle.vx_eval.specs.Columns.{unless_fault}
