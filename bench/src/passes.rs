@@ -19,17 +19,18 @@ const TOO_LONG: f64 = 10_000.0;
 const STEP: f64 = 16.0;
 
 /// The families but the shared trees, and their numbers in the library.
-const FAMILIES: [(&str, u8); 5] = [
+const FAMILIES: [(&str, u8); 6] = [
     ("conj", 0),
     ("deep", 1),
     ("getpack", 2),
     ("wide", 3),
     ("case", 5),
+    ("consts", 6),
 ];
 const SHARED: u8 = 4;
 
 /// The passes, in the order of their numbers in the library.
-pub const PASSES: [&str; 10] = [
+pub const PASSES: [&str; 11] = [
     "bind",
     "display",
     "optimize_recursive",
@@ -40,6 +41,7 @@ pub const PASSES: [&str; 10] = [
     "referenced_field_paths",
     "split_by_fields",
     "plan",
+    "fold",
 ];
 
 unsafe extern "C" {
