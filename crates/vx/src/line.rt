@@ -172,7 +172,9 @@ fn chunk<'a>(alloc: Global) -> Arg<'a> {
         .value_name("COUNT")
         .action(ArgAction::Set)
         .value_parser(value_parser!(usize).range(1..))
-        .help("Go by chunks of so many records, and evaluate only those that their statistics leave open")
+        .help(
+            "Go by chunks of so many records, and evaluate only those that their statistics leave open",
+        )
 }
 
 fn output<'a>(alloc: Global) -> Arg<'a> {

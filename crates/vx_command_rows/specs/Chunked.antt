@@ -1,5 +1,5 @@
 -- What `filter --chunk` writes, and what stops it.
-use Rattle.std.specs.Prelude.{◌≡◌, ◌⊎◌, ◌++◌, ◌-◌, ℕ, List, Option, Ok, codes}
+use Rattle.std.specs.Prelude.{◌⊎◌, ◌++◌, ◌-◌, ℕ, List, Option, codes}
 use Rattle.std.specs.Fmt.{decimal}
 use Rattle.std.specs.Io.KnownBytes.{Appends, Keeps}
 use Rattle.vx_value.specs.Types.{LogicalType}
@@ -12,7 +12,7 @@ use Rattle.vx_records.specs.declared.error.RecordsError.{RecordsError}
 use Rattle.vx_records.specs.declared.error.RecordsError.TheVariants.{Write as Writing}
 use Rattle.vx_command_rows.specs.Rows.{IsBoundCondition, IsNoCondition}
 use Rattle.vx_command_rows.specs.declared.complaint.RowsComplaint.{RowsComplaint}
-use Rattle.vx_command_rows.specs.declared.complaint.RowsComplaint.TheVariants.{Query, NotBool, Records}
+use Rattle.vx_command_rows.specs.declared.complaint.RowsComplaint.TheVariants.{Records}
 
 -- how many of the chunks were evaluated, and how many not
 abbrev pub tally_line : ChunkTally → List ℕ

@@ -56,5 +56,8 @@ fn tell<E: Write>(tally: ChunkTally, err: &mut E) -> io::Result<()>
 {
     let ChunkTally { chunks, evaluated } = tally;
     let passed_over = chunks - evaluated;
-    writeln!(err, "{evaluated} of {chunks} chunks evaluated, {passed_over} not evaluated")
+    writeln!(
+        err,
+        "{evaluated} of {chunks} chunks evaluated, {passed_over} not evaluated"
+    )
 }

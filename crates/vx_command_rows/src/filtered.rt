@@ -1,6 +1,8 @@
 // What `filter` writes.
-ghost use Rattle.std.specs.Prelude.{◌≡◌, IfErr, IfOk, OnOk};
+ghost use Rattle.std.specs.Prelude.{◌≡◌, IfErr, IfOk, IsTrue, OnOk};
 ghost use Rattle.vx_value.specs.Views.{type_of};
+ghost use Rattle.vx_fn.specs.Functions.{is_truth};
+ghost use Rattle.vx_tree.specs.Trees.{node_type};
 ghost use Rattle.vx_tree.specs.Views.{bound_of, tree_of};
 ghost use Rattle.vx_command_rows.specs.Rows.{IsBoundCondition, IsKept, IsKeptUntil, IsNoCondition, IsNotBool};
 
@@ -47,6 +49,7 @@ pub(crate) fn condition(
     scope: &DType,
 ) -> Result<Box<BoundExpression>, RowsComplaint>
     ensures bound { IfOk result (λ tree. IsBoundCondition (tree_of placed.now.expression) (type_of scope.now) (bound_of tree.value)) }
+    ensures truth { IfOk result (λ tree. IsTrue (is_truth (node_type (bound_of tree.value)))) }
     ensures complaint { IfErr result (λ c. IsNoCondition (tree_of placed.now.expression) (type_of scope.now) c) }
 {
     let tree = match bind(alloc, placed, scope) {
