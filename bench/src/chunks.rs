@@ -1,5 +1,5 @@
 //! A range that is looked for in chunks of numbers, with statistics of each and without; and verdicts.
-use crate::clock::milliseconds;
+use crate::clock::best;
 
 /// How many chunks there are, of how many rows.
 const CHUNKS: usize = 1_000;
@@ -11,12 +11,6 @@ const ORDERS: [&str; 2] = ["sorted", "scattered"];
 /// What is known of each chunk, by its number in the library.
 const LENGTH: u8 = 0;
 const BOUNDS: u8 = 1;
-
-/// How many readings the best is taken of, the milliseconds that the searches of one take at least,
-/// and how many verdicts there are in one.
-const SAMPLES: usize = 5;
-const READING: f64 = 20.0;
-const VERDICTS: u32 = 1_000_000;
 
 /// What is found, as the library writes it.
 #[repr(C)]
@@ -55,7 +49,7 @@ pub fn tables() {
         let (found, found_in_all) = (pruned.through_library(1), all.through_library(1));
         assert_eq!(found.rows, found_in_all.rows, "{name}");
         assert_eq!(found_in_all.read, CHUNKS as u64, "{name}");
-        let (with, without) = (pruned.best(), all.best());
+        let [with, without] = [pruned, all].map(Search::best);
         println!(
             "| {name} | {} | {} of {CHUNKS} | {with:.2} | {without:.1} | {:.4} |",
             found.rows,
@@ -78,42 +72,17 @@ impl Search {
 
     /// The milliseconds of one search.
     fn best(self) -> f64 {
-        let repeats = self.repeats();
-        best(|searches| self.read(searches), repeats)
-    }
-
-    /// So many searches that they take as long as a reading does, and as making the chunks.
-    fn repeats(self) -> u32 {
-        let none = self.read(0);
-        let mut repeats = 1;
-        while self.read(repeats) < none + none.max(READING) {
-            repeats *= 2;
-        }
-        repeats
-    }
-
-    fn read(self, repeats: u32) -> f64 {
-        milliseconds(|| self.through_library(repeats))
+        best(|searches| self.through_library(searches))
     }
 }
 
 /// The nanoseconds of a verdict.
 fn verdict() -> f64 {
-    best(|verdicts| milliseconds(|| verdicts_of(verdicts)), VERDICTS) * 1e6
+    best(verdicts_of) * 1e6
 }
 
 fn verdicts_of(repeats: u32) {
     let mut unknown = 0;
     let status = unsafe { vx_verdicts(repeats, &mut unknown) };
     assert_eq!((status, unknown), (0, u64::from(repeats)), "verdicts");
-}
-
-/// The milliseconds of the work done once: the best run with so much less the best one with none.
-fn best(read: impl Fn(u32) -> f64, repeats: u32) -> f64 {
-    let (mut some, mut none) = (f64::INFINITY, f64::INFINITY);
-    for _ in 0..SAMPLES {
-        none = none.min(read(0));
-        some = some.min(read(repeats));
-    }
-    (some - none) / f64::from(repeats)
 }
