@@ -5,6 +5,7 @@ use vx_commands::{DataFormat, Input, OutputFormat, RowsCommand, RowsWork, Status
 
 // A command over records: what is done, over what, and what is shown: what is written, the status and
 // the message.
+#[derive(Clone, Copy)]
 pub(crate) struct Run {
     pub(crate) work: RowsWork,
     pub(crate) expression: &'static str,
