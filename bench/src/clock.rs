@@ -19,6 +19,26 @@ pub fn milliseconds<T>(call: impl FnOnce() -> T) -> f64 {
     now() - begin
 }
 
+/// The milliseconds of the work done once, where the call begins with something and then does the work
+/// so often: the best of five runs with so many that they take 20 ms and as long as what it begins
+/// with, less the best of five with none.
+pub fn best<T>(call: impl Fn(u32) -> T) -> f64 {
+    const RUNS: usize = 5;
+    const READING: f64 = 20.0;
+    let read = |repeats| milliseconds(|| call(repeats));
+    let nothing = read(0);
+    let mut repeats = 1;
+    while read(repeats) < nothing + nothing.max(READING) {
+        repeats *= 2;
+    }
+    let (mut some, mut none) = (f64::INFINITY, f64::INFINITY);
+    for _ in 0..RUNS {
+        none = none.min(read(0));
+        some = some.min(read(repeats));
+    }
+    (some - none) / f64::from(repeats)
+}
+
 fn now() -> f64 {
     const THREAD_PROCESSOR_TIME: i32 = 3;
     let mut time = Time::default();

@@ -12,7 +12,7 @@ const DEEPEST_TEXT: usize = 14_336;
 
 /// What goes down a tree beside the passes that are timed, in the order of its numbers in the library,
 /// which follow theirs.
-const OTHERS: [&str; 22] = [
+const OTHERS: [&str; 23] = [
     "return_dtype",
     "==",
     "text of the source",
@@ -35,6 +35,7 @@ const OTHERS: [&str; 22] = [
     "run_passes",
     "covers, partition_bound_annotations",
     "replace_partitions",
+    "bounds, verdict",
 ];
 
 /// Prints for each pass the levels of the deepest tree of each family from which it returned.

@@ -1,6 +1,8 @@
-//! Times the library: queries beside the same ones written by hand, and passes over growing trees.
+//! Times the library: queries beside the same ones written by hand, passes over growing trees, source
+//! text, and chunks that statistics prune.
 mod batch;
 mod by_hand;
+mod chunks;
 mod clock;
 mod comparison;
 mod depths;
@@ -31,9 +33,10 @@ fn main() {
         Some("growth") => growth::table(),
         Some("depths") => depths::table(),
         Some("texts") => texts::table(),
+        Some("chunks") => chunks::tables(),
         Some(rows) => queries_and_scan(
             rows.parse()
-                .expect("a number of rows, passes, growth, depths or texts"),
+                .expect("a number of rows, passes, growth, depths, texts or chunks"),
         ),
     }
 }

@@ -1,14 +1,10 @@
 //! Passes over trees of growing size: the time and the memory that each takes a node.
-use crate::clock::milliseconds;
+use crate::clock::{best, milliseconds};
 use crate::memory;
 
 /// The sizes of a family's trees, and that of the shared trees.
 const SIZES: [usize; 3] = [64, 1_024, 16_384];
 const SHARED_SIZE: usize = 10;
-
-/// How many readings the best is taken of, and the milliseconds that the passes of one take at least.
-const SAMPLES: usize = 5;
-const READING: f64 = 20.0;
 
 /// A pass that takes more milliseconds than this is run once.
 const LONG: f64 = 2_000.0;
@@ -19,17 +15,18 @@ const TOO_LONG: f64 = 10_000.0;
 const STEP: f64 = 16.0;
 
 /// The families but the shared trees, and their numbers in the library.
-const FAMILIES: [(&str, u8); 5] = [
+const FAMILIES: [(&str, u8); 6] = [
     ("conj", 0),
     ("deep", 1),
     ("getpack", 2),
     ("wide", 3),
     ("case", 5),
+    ("consts", 6),
 ];
 const SHARED: u8 = 4;
 
 /// The passes, in the order of their numbers in the library.
-pub const PASSES: [&str; 10] = [
+pub const PASSES: [&str; 11] = [
     "bind",
     "display",
     "optimize_recursive",
@@ -40,6 +37,7 @@ pub const PASSES: [&str; 10] = [
     "referenced_field_paths",
     "split_by_fields",
     "plan",
+    "fold",
 ];
 
 unsafe extern "C" {
@@ -167,25 +165,9 @@ impl Run {
         }
     }
 
-    /// The milliseconds of one pass: the best run with some less the best one with none.
+    /// The milliseconds of one pass.
     fn best(self) -> f64 {
-        let repeats = self.repeats();
-        let (mut some, mut none) = (f64::INFINITY, f64::INFINITY);
-        for _ in 0..SAMPLES {
-            none = none.min(self.read(0));
-            some = some.min(self.read(repeats));
-        }
-        (some - none) / f64::from(repeats)
-    }
-
-    /// So many passes that they take as long as a reading does, and as building and binding the tree.
-    fn repeats(self) -> u32 {
-        let none = self.read(0);
-        let mut repeats = 1;
-        while self.read(repeats) < none + none.max(READING) {
-            repeats *= 2;
-        }
-        repeats
+        best(|repeats| self.through_library(repeats))
     }
 
     /// The milliseconds of a run with so many passes.

@@ -1,12 +1,8 @@
 //! Source text of conjunctions: how fast it is read and written, beside `Display`.
-use crate::clock::milliseconds;
+use crate::clock::best;
 
 /// How many comparisons the conjunctions join.
 const SIZES: [usize; 4] = [10, 1_000, 10_000, 100_000];
-
-/// How many readings the best is taken of, and the milliseconds that the work of one takes at least.
-const SAMPLES: usize = 5;
-const READING: f64 = 20.0;
 
 /// The works, in the order of their numbers in the library.
 const WORKS: [&str; 3] = ["read", "written", "`Display`"];
@@ -23,26 +19,11 @@ pub fn table() {
         let bytes = through_library(size, 0, 0);
         let cells: Vec<String> = (0..)
             .zip(WORKS)
-            .map(|(work, _)| format!("{:.1}", bytes as f64 / 1e3 / best(size, work)))
+            .map(|(work, _)| best(|repeats| through_library(size, work, repeats)))
+            .map(|once| format!("{:.1}", bytes as f64 / 1e3 / once))
             .collect();
         println!("| {size} | {bytes} | {} |", cells.join(" | "));
     }
-}
-
-/// The milliseconds of the work done once: the best run with some less the best one with none.
-fn best(size: usize, work: u8) -> f64 {
-    let read = |repeats| milliseconds(|| through_library(size, work, repeats));
-    let nothing = read(0);
-    let mut repeats = 1;
-    while read(repeats) < nothing + nothing.max(READING) {
-        repeats *= 2;
-    }
-    let (mut some, mut none) = (f64::INFINITY, f64::INFINITY);
-    for _ in 0..SAMPLES {
-        none = none.min(read(0));
-        some = some.min(read(repeats));
-    }
-    (some - none) / f64::from(repeats)
 }
 
 /// Makes the conjunction and its text, and does the work so often, for the bytes of the text.

@@ -100,7 +100,8 @@ prints a line of JSON for each of the first 10 records";
 
 const FILTER: &str = "Example:
   vx filter 'cents > 5000i64' --data orders.csv > dear.csv
-writes the header, and each record with more than 5000 cents as it stands";
+writes the header, and each record with more than 5000 cents as it stands; with --chunk also says, on
+standard error, how many chunks weren't evaluated";
 
 // The command that prints what an expression means.
 fn evaluate<'a>(alloc: Global) -> Result<Command<'a>, AllocError> {
@@ -115,7 +116,7 @@ fn filter<'a>(alloc: Global) -> Result<Command<'a>, AllocError> {
     let command = Command::new(alloc, "filter")
         .about("Prints the records of which the expression is true, as they stand")
         .after_help(FILTER);
-    over_given_records(alloc, command)
+    over_given_records(alloc, command)?.arg(chunk(alloc))
 }
 
 // The command with an expression, and with the words that say which records it goes over.
@@ -163,6 +164,17 @@ fn limit<'a>(alloc: Global) -> Arg<'a> {
         .action(ArgAction::Set)
         .value_parser(value_parser!(u64))
         .help("How many records are gone over at most")
+}
+
+fn chunk<'a>(alloc: Global) -> Arg<'a> {
+    Arg::new(alloc, "chunk")
+        .long("chunk")
+        .value_name("COUNT")
+        .action(ArgAction::Set)
+        .value_parser(value_parser!(usize).range(1..))
+        .help(
+            "Go by chunks of so many records, and evaluate only those that their statistics leave open",
+        )
 }
 
 fn output<'a>(alloc: Global) -> Arg<'a> {

@@ -10,7 +10,7 @@ use anyhow::Result;
 use clap::ArgMatches;
 use clap::error::ErrorKind;
 use line::command_line;
-use records::{output_of, over_records};
+use records::{filter_of, output_of, over_records};
 use std::env;
 use std::process::ExitCode;
 use texts::text_at;
@@ -57,7 +57,7 @@ fn asked(rt: &HostRuntime, matches: &ArgMatches<'_>) -> Result<Status> {
             let work = RowsWork::Evaluate(output_of(matches));
             over_records(rt, work, u64::MAX, matches)
         }
-        Some(("filter", matches)) => over_records(rt, RowsWork::Filter, u64::MAX, matches),
+        Some(("filter", matches)) => over_records(rt, filter_of(matches), u64::MAX, matches),
         Some(("explain", matches)) if matches.contains_id("data") => {
             over_records(rt, RowsWork::Explain, 10, matches)
         }

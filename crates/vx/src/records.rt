@@ -5,6 +5,7 @@ use anyhow::{Context, Result};
 use clap::ArgMatches;
 use std::fs::File;
 use std::io::BufReader;
+use std::num::NonZeroUsize;
 use vx_commands::{
     DataFormat, Input, OutputFormat, RowsCommand, RowsWork, Status, infer_schema, run_rows,
 };
@@ -15,6 +16,14 @@ pub fn output_of(matches: &ArgMatches<'_>) -> OutputFormat {
         Some("csv") => OutputFormat::Csv,
         Some("table") => OutputFormat::Table,
         _ => OutputFormat::JsonLines,
+    }
+}
+
+/// What a filter does with records: it goes by chunks where the words say how many records one has.
+pub fn filter_of(matches: &ArgMatches<'_>) -> RowsWork {
+    match matches.get_one::<NonZeroUsize>("chunk") {
+        Some(size) => RowsWork::FilterByChunks(size),
+        None => RowsWork::Filter,
     }
 }
 

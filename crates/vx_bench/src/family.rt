@@ -23,6 +23,8 @@ pub enum Family {
     Shared,
     /// `n` times a CASE with the last tree as its ELSE.
     Cases,
+    /// `n` comparisons of literals, joined by And one after another: the `i`th is `i < n`.
+    Constants,
 }
 
 impl Family {
@@ -35,6 +37,7 @@ impl Family {
             3 => Some(Family::Wide),
             4 => Some(Family::Shared),
             5 => Some(Family::Cases),
+            6 => Some(Family::Constants),
             _ => None,
         }
     }
@@ -67,6 +70,7 @@ impl Family {
             Family::Wide => wide(alloc, size, trees),
             Family::Shared => shared(alloc, size, trees),
             Family::Cases => cases(alloc, size, trees),
+            Family::Constants => constants(alloc, size, trees),
         }
     }
 }
@@ -137,6 +141,17 @@ fn cases(alloc: Global, size: usize, trees: &mut Trees) -> VortexResult<()> {
     trees.number(alloc, small(size))?;
     for _ in 0..size {
         trees.case(alloc, 1)?;
+    }
+    Ok(())
+}
+
+fn constants(alloc: Global, size: usize, trees: &mut Trees) -> VortexResult<()> {
+    for i in 0..size {
+        trees.number(alloc, small(i))?;
+        trees.with_number(alloc, Operator::Lt, small(size))?;
+        if i > 0 {
+            trees.binary(alloc, Operator::And)?;
+        }
     }
     Ok(())
 }

@@ -6,6 +6,7 @@ ghost use Rattle.vx_tree.specs.Trees.{WellTyped};
 ghost use Rattle.vx_tree.specs.Views.{bound_of};
 
 mod batch;
+mod chunks;
 mod digest;
 mod family;
 mod fields;
@@ -19,6 +20,7 @@ mod splits;
 mod subject;
 mod texts;
 mod trees;
+mod verdicts;
 mod walks;
 
 use digest::Digest;

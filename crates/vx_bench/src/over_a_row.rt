@@ -22,7 +22,12 @@ pub fn evaluate(alloc: Global, subject: &Subject) -> VortexResult<()>
 /// The source as a query, passed by all passes and split.
 pub fn query(alloc: Global, subject: &Subject) -> VortexResult<()> {
     let row = row(alloc, &*subject.scope)?;
-    let passes = [Pass::OptimizeRecursive, Pass::FindBetween, Pass::Branches];
+    let passes = [
+        Pass::OptimizeRecursive,
+        Pass::FindBetween,
+        Pass::Branches,
+        Pass::Fold,
+    ];
     drop(run_query(alloc, &*subject.tree, &*row, &passes, true)?);
     Ok(())
 }

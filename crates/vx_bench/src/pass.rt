@@ -8,9 +8,11 @@ use crate::{over_a_row, splits};
 use std::alloc::Global;
 use std::fmt::Display;
 use std::hash::{DefaultHasher, Hash, Hasher};
+use vx_prune::{ChunkStats, bounds};
 use vx_query_split::split_by_fields;
 use vx_rewrite::{
-    BranchRules, Optimize, find_between, partition_bound, referenced_field_paths, run_passes,
+    BranchRules, FoldingRules, Optimize, find_between, partition_bound, referenced_field_paths,
+    run_passes,
 };
 use vx_rewrite_analysis::{
     descendent_bound_annotations, direct_bound_annotations, free_fields, label_bound_tree,
@@ -43,6 +45,8 @@ pub enum Pass {
     Split,
     /// The tree planned: bound, optimized, its paths and its split.
     Plan,
+    /// The folding rules at every node.
+    Folding,
     /// The tree's type, with no bound tree built.
     ReturnDtype,
     /// The tree and the bound tree, each equal to itself.
@@ -87,10 +91,12 @@ pub enum Pass {
     PartitionByMap,
     /// The tree split, and its partitions put in anew.
     Replace,
+    /// Between which values the tree's are in a chunk of which nothing is known.
+    Bounds,
 }
 
 /// The passes in the order of their numbers.
-const PASSES: [Pass; 32] = [
+const PASSES: [Pass; 34] = [
     Pass::Bind,
     Pass::Display,
     Pass::Optimize,
@@ -101,6 +107,7 @@ const PASSES: [Pass; 32] = [
     Pass::Paths,
     Pass::Split,
     Pass::Plan,
+    Pass::Folding,
     Pass::ReturnDtype,
     Pass::Equality,
     Pass::SourceText,
@@ -123,6 +130,7 @@ const PASSES: [Pass; 32] = [
     Pass::Passes,
     Pass::PartitionByMap,
     Pass::Replace,
+    Pass::Bounds,
 ];
 
 impl Pass {
@@ -147,6 +155,7 @@ impl Pass {
             Pass::Paths => gone(referenced_field_paths(alloc, bound)),
             Pass::Split => gone(split_by_fields(alloc, bound, &*subject.scope)),
             Pass::Plan => gone(plan(alloc, source, &*subject.scope)),
+            Pass::Folding => gone(optimize_with(alloc, &FoldingRules, bound)),
             Pass::ReturnDtype => gone(source.return_dtype(alloc, &*subject.scope)),
             Pass::Equality => told(*source == *source && *bound == *bound),
             Pass::SourceText => written(alloc, source),
@@ -169,6 +178,7 @@ impl Pass {
             Pass::Passes => passed(alloc, bound),
             Pass::PartitionByMap => splits::by_map(alloc, bound, fields),
             Pass::Replace => splits::replaced(alloc, bound, fields),
+            Pass::Bounds => bounded(alloc, bound),
         }
     }
 }
@@ -213,6 +223,7 @@ fn passed(alloc: Global, bound: &BoundExpression) -> VortexResult<()>
         vx_rewrite::Pass::OptimizeRecursive,
         vx_rewrite::Pass::FindBetween,
         vx_rewrite::Pass::Branches,
+        vx_rewrite::Pass::Fold,
     ];
     gone(run_passes(alloc, bound.clone()?, &passes))
 }
@@ -224,6 +235,14 @@ fn check(alloc: Global, bound: &BoundExpression, scope: &DType) -> VortexResult<
 fn key(bound: &BoundExpression) -> VortexResult<()> {
     drop(ExactBoundExpr::new(bound.clone()?));
     Ok(())
+}
+
+fn bounded(alloc: Global, bound: &BoundExpression) -> VortexResult<()>
+    requires { WellTyped (bound_of bound.now) }
+{
+    let stats = ChunkStats::new(alloc, 1);
+    let within = bounds(bound, &stats);
+    told(within.null || within.value)
 }
 
 fn fuse(alloc: Global, bound: &BoundExpression) -> VortexResult<()>

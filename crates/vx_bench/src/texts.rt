@@ -1,4 +1,4 @@
-// The call that source text is timed through.
+// Source text that is read, and the call that it is timed through.
 ghost use Rattle.std.specs.Prelude.{◌≡◌, ◌≢◌, ◌<◌};
 
 use crate::family::Family;
@@ -57,7 +57,7 @@ fn worked(alloc: Global, size: usize, work: Work, repeats: u32) -> VortexResult<
     let text = format!(in alloc; "{}", SourceText(&*tree))?;
     for _ in 0..repeats {
         match work {
-            Work::Read => read(alloc, text.as_str())?,
+            Work::Read => drop(parsed(alloc, text.as_str())?),
             Work::Write => written(alloc, &SourceText(&*tree))?,
             Work::Display => written::<Expression>(alloc, &*tree)?,
         }
@@ -65,9 +65,10 @@ fn worked(alloc: Global, size: usize, work: Work, repeats: u32) -> VortexResult<
     Ok(text.len() as u64)
 }
 
-fn read(alloc: Global, text: &str) -> VortexResult<()> {
+/// The tree of the source text, and `NotText` where it isn't one.
+pub fn parsed(alloc: Global, text: &str) -> VortexResult<Expression> {
     match parse(alloc, text) {
-        Ok(_) => Ok(()),
+        Ok(tree) => Ok(tree),
         Err(ParseError::OutOfMemory) => Err(VortexError::OutOfMemory),
         Err(ParseError::Unexpected { .. }) => Err(VortexError::NotText),
     }

@@ -8,7 +8,7 @@ use Rattle.vx_value.specs.Types.{Name, LogicalType}
 use Rattle.vx_tree.specs.Trees.{BoundTree, BoundTrees, no_bound, bound}
 use Rattle.vx_query_split.specs.Division.{Parts}
 use Rattle.vx_command_pages.specs.Pages.{line}
-use Rattle.vx_command_plans.specs.PlanData.{path_data, paths_data, partition_items, partitions_data, root_data, plan_data}
+use Rattle.vx_command_plans.specs.PlanData.{path_data, partition_items, plan_data}
 
 names : (path : Path) → items_have_float (items_of (map string path)) ≡ false
 names [] = refl

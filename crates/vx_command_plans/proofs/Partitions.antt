@@ -4,12 +4,12 @@ use Rattle.std.specs.Prelude.{min}
 use Rattle.std.proofs.Math.Nat.{min-eq_left, min_comm}
 use Rattle.std.proofs.lemmas.Bool.{cases_lt}
 use Rattle.std.proofs.lemmas.List.{length-append}
-use Rattle.serde_json.specs.Data.{Data, Items, no_items, item}
+use Rattle.serde_json.specs.Data.{Items, no_items, item}
 use Rattle.serde_json.specs.View.{view, items_view}
 use Rattle.serde_json.specs.declared.value.Value.{Value}
 use Rattle.vx_dtype.proofs.Lists.{drop_next, in_front, in_front-push, in_front-all}
 use Rattle.vx_value.specs.Types.{Name}
-use Rattle.vx_tree.specs.Trees.{BoundTrees, no_bound}
+use Rattle.vx_tree.specs.Trees.{no_bound}
 use Rattle.vx_tree.specs.Views.{bound_of, bounds_of}
 use Rattle.vx_tree.specs.declared.bound.BoundExpression.{BoundExpression}
 use Rattle.vx_tree.proofs.Children.{bounds_next, bounds_end}

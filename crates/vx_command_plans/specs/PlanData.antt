@@ -1,10 +1,10 @@
 -- A plan as JSON data.
-use Rattle.std.specs.Prelude.{ℕ, List, [], ◌∷◌, map, codes, Option, Some, None}
+use Rattle.std.specs.Prelude.{List, ◌∷◌, map, codes, Option, Some, None}
 use Rattle.serde_json.specs.Data.{Data, null, string, array, object, Items, no_items, item, member, no_members}
 use Rattle.serde_json.specs.View.{items_of}
 use Rattle.vx_value.specs.Paths.{Path}
 use Rattle.vx_value.specs.Types.{Name, LogicalType}
-use Rattle.vx_tree.specs.Trees.{BoundTree, BoundTrees, no_bound, bound, unbound, node_type}
+use Rattle.vx_tree.specs.Trees.{BoundTree, BoundTrees, bound, unbound, node_type}
 use Rattle.vx_source_dtype.specs.TypeTexts.{type_source}
 use Rattle.vx_source_writer.specs.SourceTexts.{source}
 use Rattle.vx_query_split.specs.Division.{Parts}

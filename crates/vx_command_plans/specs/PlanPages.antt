@@ -4,16 +4,17 @@ use Rattle.serde_json.specs.Written.{compact_text}
 use Rattle.vx_value.specs.Paths.{Path, minimal_paths}
 use Rattle.vx_value.specs.Types.{LogicalType}
 use Rattle.vx_tree.specs.Trees.{Tree, BoundTree}
+use Rattle.vx_rewrite_folding_rules.specs.Folding.{FoldingRuleAt}
 use Rattle.vx_query_split.specs.Division.{Parts}
 use Rattle.vx_scan.specs.Plans.{IsPlan, IsPlanFor}
 use Rattle.vx_command_pages.specs.Inputs.{Reads, ReadsType}
 use Rattle.vx_command_pages.specs.Pages.{line}
 use Rattle.vx_command_plans.specs.PlanData.{plan_data}
 
--- the page is a plan of the expression over that type
+-- the page is a plan of the expression over that type, by the folding rules
 abbrev pub IsPagePlanned : Tree → LogicalType → List ℕ → Type 0
 IsPagePlanned e s page = (u : BoundTree) × (paths : List Path) × (split : Option Parts)
-    × IsPlanFor e s s u × IsPlan s u paths split × (page ≡ line (compact_text (plan_data s u (minimal_paths paths) split)))
+    × IsPlanFor FoldingRuleAt e s s u × IsPlan s u paths split × (page ≡ line (compact_text (plan_data s u (minimal_paths paths) split)))
 
 -- the page is a plan of the expression that the text is read as, over the scope's type that the schema is read as: its tree,
 -- the paths that this references, and its split, as JSON on one line

@@ -22,7 +22,8 @@ pub(crate) fn push_passes(
 {
     let standard = pushed(alloc, tree, Pass::OptimizeRecursive, "standard rules", page)?;
     let branches = pushed(alloc, &standard, Pass::Branches, "branch rules", page)?;
-    let _fused = pushed(alloc, &branches, Pass::FindBetween, "fused ranges", page)?;
+    let folded = pushed(alloc, &branches, Pass::Fold, "folding", page)?;
+    let _fused = pushed(alloc, &folded, Pass::FindBetween, "fused ranges", page)?;
     Ok(())
 }
 

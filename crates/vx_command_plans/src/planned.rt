@@ -5,6 +5,7 @@ ghost use Rattle.vx_value.specs.Paths.{minimal_paths};
 ghost use Rattle.vx_value.specs.Views.{type_of};
 ghost use Rattle.vx_tree.specs.Views.{bound_of, tree_of};
 ghost use Rattle.vx_query_split.specs.Division.{parts_of};
+ghost use Rattle.vx_rewrite_folding_rules.specs.Folding.{FoldingRuleAt};
 ghost use Rattle.vx_scan.specs.Plans.{IsPlanFor};
 ghost use Rattle.vx_command_pages.specs.Inputs.{IsComplaint, IsRefusal};
 ghost use Rattle.vx_command_pages.specs.Pages.{line};
@@ -14,11 +15,12 @@ ghost use Rattle.vx_command_plans.specs.PlanPages.{IsPlanPage};
 use crate::json::plan_value;
 use std::alloc::{AllocError, Global};
 use vx_command_pages::{Complaint, read_expression, read_schema, refused};
-use vx_scan::{ScanPlan, plan};
+use vx_rewrite::FoldingRules;
+use vx_scan::{ScanPlan, plan_with};
 use vx_source::Placed;
 use vx_tree::DType;
 
-/// The plan of the expression over rows of the schema's type, as JSON on one line. Complains of what
+/// The plan of the expression over rows of the schema's type, by the folding rules, as JSON on one line. Complains of what
 /// can't be read, of the expression first; else of the first refusal, with its place; and of want of
 /// memory.
 pub fn plan_page(alloc: Global, expression: &str, schema: &str) -> Result<String, Complaint>
@@ -37,10 +39,10 @@ pub(crate) fn planned(
     placed: &Placed,
     scope: &DType,
 ) -> Result<Box<ScanPlan>, Complaint>
-    ensures planned { IfOk result (λ p. IsPlanFor (tree_of placed.now.expression) (type_of scope.now) (type_of p.value.scope) (bound_of p.value.tree)) }
+    ensures planned { IfOk result (λ p. IsPlanFor FoldingRuleAt (tree_of placed.now.expression) (type_of scope.now) (type_of p.value.scope) (bound_of p.value.tree)) }
     ensures complaint { IfErr result (λ c. IsRefusal (tree_of placed.now.expression) (type_of scope.now) c) }
 {
-    match plan(alloc, &placed.expression, scope) {
+    match plan_with(alloc, &FoldingRules, &placed.expression, scope) {
         Ok(plan) => Ok(Box::new(alloc, plan)?),
         Err(refusal) => Err(refused(alloc, placed, scope, refusal)),
     }

@@ -24,6 +24,16 @@ IsCondition e s = (n : Bool) × (typed e s ≡ Ok (ty (atomic truth) n))
 abbrev pub IsBoundTo : Tree → LogicalType → BoundTree → Type 0
 IsBoundTo e s b = (unbound b ≡ e) × WellTyped b × Over b s
 
+-- the bound tree is the expression, well typed over the scope's type s, and of type bool
+abbrev pub IsBoundCondition : Tree → LogicalType → BoundTree → Type 0
+IsBoundCondition e s b = IsBoundTo e s b × IsCondition e s
+
+-- the expression is refused over the scope's type s, or isn't of type bool, or memory ran out
+abbrev pub IsNoCondition : Tree → LogicalType → RowsComplaint → Type 0
+IsNoCondition e s (Query c) = IsRefusal e s c
+IsNoCondition e s (NotBool t) = typed e s ≡ Ok (type_of t)
+IsNoCondition e s (Records error span) = ⊥
+
 -- the complaint is that the expression is of that type, or want of memory
 abbrev pub IsNotBool : LogicalType → RowsComplaint → Type 0
 IsNotBool t (NotBool u) = type_of u ≡ t

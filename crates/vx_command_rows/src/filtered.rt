@@ -1,8 +1,10 @@
 // What `filter` writes.
-ghost use Rattle.std.specs.Prelude.{◌≡◌, IfErr, OnOk};
+ghost use Rattle.std.specs.Prelude.{◌≡◌, IfErr, IfOk, IsTrue, OnOk};
 ghost use Rattle.vx_value.specs.Views.{type_of};
-ghost use Rattle.vx_tree.specs.Views.{tree_of};
-ghost use Rattle.vx_command_rows.specs.Rows.{IsKept, IsKeptUntil, IsNotBool};
+ghost use Rattle.vx_fn.specs.Functions.{is_truth};
+ghost use Rattle.vx_tree.specs.Trees.{node_type};
+ghost use Rattle.vx_tree.specs.Views.{bound_of, tree_of};
+ghost use Rattle.vx_command_rows.specs.Rows.{IsBoundCondition, IsKept, IsKeptUntil, IsNoCondition, IsNotBool};
 
 use crate::RowsComplaint;
 use crate::evaluated::stopped;
@@ -11,6 +13,7 @@ use std::io::Write;
 use vx_command_pages::{Complaint, bind};
 use vx_records::{RecordReader, filter_records};
 use vx_source::Placed;
+use vx_tree::BoundExpression;
 use vx_types::DType;
 
 /// Writes, of the first `limit` records, or of all where there are fewer, those of which the
@@ -28,16 +31,34 @@ pub fn filter<R: RecordReader, W: Write>(
     ensures kept { OnOk result (IsKept R.leaves (R.scope records.old) (R.head records.old) (tree_of placed.now.expression) limit records.old records.new (W.contents out.old) (W.contents out.new)) }
     ensures complaint { IfErr result (λ c. IsKeptUntil R.leaves (R.scope records.old) (R.head records.old) (tree_of placed.now.expression) c records.old (W.contents out.old) (W.contents out.new)) }
 {
-    let tree = match bind(alloc, placed, records.dtype()) {
+    let tree = match condition(alloc, placed, records.dtype()) {
         Ok(tree) => tree,
-        Err(complaint) => return Err(RowsComplaint::Query(complaint)),
-    };
-    let DType::Bool(_) = tree.dtype() else {
-        return Err(not_bool(tree.dtype()));
+        Err(complaint) => return Err(complaint),
     };
     match filter_records(alloc, &tree, limit, records, out) {
         Ok(()) => Ok(()),
         Err(error) => Err(stopped(placed, error)),
+    }
+}
+
+/// The expression bound to the type of the records. Complains of its first refusal over that type, of
+/// one of another type than bool, and of want of memory.
+pub(crate) fn condition(
+    alloc: Global,
+    placed: &Placed,
+    scope: &DType,
+) -> Result<Box<BoundExpression>, RowsComplaint>
+    ensures bound { IfOk result (λ tree. IsBoundCondition (tree_of placed.now.expression) (type_of scope.now) (bound_of tree.value)) }
+    ensures truth { IfOk result (λ tree. IsTrue (is_truth (node_type (bound_of tree.value)))) }
+    ensures complaint { IfErr result (λ c. IsNoCondition (tree_of placed.now.expression) (type_of scope.now) c) }
+{
+    let tree = match bind(alloc, placed, scope) {
+        Ok(tree) => tree,
+        Err(complaint) => return Err(RowsComplaint::Query(complaint)),
+    };
+    match tree.dtype() {
+        DType::Bool(_) => Ok(tree),
+        dtype => Err(not_bool(dtype)),
     }
 }
 

@@ -1,6 +1,7 @@
 // The commands that go over the records of a file.
 #![tactic(auto)]
 
+mod chunked;
 mod complaint;
 mod data;
 mod evaluated;
@@ -9,6 +10,7 @@ mod message;
 mod outputs;
 mod table;
 
+pub use chunked::filter_by_chunks;
 pub use complaint::RowsComplaint;
 pub use data::{DataFormat, opened, schema_of, unwritten};
 pub use evaluated::evaluate;

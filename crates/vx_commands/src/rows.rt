@@ -2,12 +2,13 @@
 use crate::run::tell_message;
 use std::alloc::Global;
 use std::io::{BufRead, Write};
+use std::num::NonZeroUsize;
 use vx_command_chunks::explain_chunks;
 use vx_command_pages::{Complaint, Input, Status, read_expression, read_schema};
 use vx_command_plans::explanation_page;
 use vx_command_rows::{
-    DataFormat, Output, OutputFormat, RowsComplaint, RowsMessage, evaluate, filter, opened,
-    schema_of, unwritten,
+    DataFormat, Output, OutputFormat, RowsComplaint, RowsMessage, evaluate, filter,
+    filter_by_chunks, opened, schema_of, unwritten,
 };
 use vx_data::WriteError;
 use vx_prune_data::ChunkRecords;
@@ -20,6 +21,8 @@ use vx_types::DType;
 pub enum RowsWork {
     /// Those of which the expression is true are written as they stand.
     Filter,
+    /// The same, in chunks of so many records, and how many of these weren't evaluated is told.
+    FilterByChunks(NonZeroUsize),
     /// What the expression means at each is written in that form.
     Evaluate(OutputFormat),
     /// The type of the records is written, what becomes of the expression, and what it means at each as
@@ -48,7 +51,8 @@ pub struct RowsCommand<'a> {
 }
 
 /// Runs the command over the records that the reader gives. What it prints is written on `out` as it
-/// comes, and what is complained of as a message on `err`. The status is `Done`; or `Wrong` for a text
+/// comes, and what is complained of as a message on `err`, where a filter by chunks also tells how many
+/// of them weren't evaluated. The status is `Done`; or `Wrong` for a text
 /// that can't be read, an expression that is refused or faults, or a record that isn't of the schema's
 /// type; or `Failed` where memory, the reader or a writer fails.
 pub fn run_rows<D: BufRead + Drop, W: Write, E: Write>(
@@ -58,7 +62,7 @@ pub fn run_rows<D: BufRead + Drop, W: Write, E: Write>(
     out: &mut W,
     err: &mut E,
 ) -> Status {
-    match gone_over(alloc, command, data, out) {
+    match gone_over(alloc, command, data, out, err) {
         Ok(()) => Status::Done,
         Err(complaint) => {
             let message = RowsMessage {
@@ -97,11 +101,12 @@ pub fn infer_schema<D: BufRead + Drop, E: Write>(
 }
 
 // Goes over the records.
-fn gone_over<D: BufRead + Drop, W: Write>(
+fn gone_over<D: BufRead + Drop, W: Write, E: Write>(
     alloc: Global,
     command: &RowsCommand<'_>,
     data: D,
     out: &mut W,
+    err: &mut E,
 ) -> Result<(), RowsComplaint> {
     let placed = read_expression(alloc, command.expression.text)?;
     let scope = read_schema(alloc, command.schema.text)?;
@@ -112,11 +117,11 @@ fn gone_over<D: BufRead + Drop, W: Write>(
     match command.format {
         DataFormat::JsonLines => {
             let mut records = JsonRecords::new(alloc, scope, data);
-            worked(alloc, command, &placed, &mut records, out)
+            worked(alloc, command, &placed, &mut records, out, err)
         }
         DataFormat::Csv => {
             let mut records = opened(CsvRows::open(alloc, scope, data))?;
-            worked(alloc, command, &placed, &mut records, out)
+            worked(alloc, command, &placed, &mut records, out, err)
         }
     }
 }
@@ -151,15 +156,19 @@ fn chunks_explained<D: BufRead + Drop, W: Write>(
 }
 
 // Does with the records what the command says.
-fn worked<R: RecordReader, W: Write>(
+fn worked<R: RecordReader, W: Write, E: Write>(
     alloc: Global,
     command: &RowsCommand<'_>,
     placed: &Placed,
     records: &mut R,
     out: &mut W,
+    err: &mut E,
 ) -> Result<(), RowsComplaint> {
     match command.work {
         RowsWork::Filter => filter(alloc, placed, command.limit, records, out),
+        RowsWork::FilterByChunks(size) => {
+            filter_by_chunks(alloc, placed, size, command.limit, records, out, err)
+        }
         RowsWork::Evaluate(format) => evaluated(alloc, command, format, placed, records, out),
         RowsWork::Explain | RowsWork::ExplainChunks => {
             let page = explanation(alloc, command, records.dtype())?;

@@ -10,6 +10,7 @@ pub mod expr;
 pub mod functions;
 pub mod optimize;
 pub mod prelude;
+pub mod prune;
 pub mod query;
 pub mod scan;
 pub mod source;

@@ -1,32 +1,104 @@
 //! What most callers name: `use vx_expr::prelude::*;`. Who writes trees with `expr!` lists `vx_forms`,
 //! which defines it, beside this crate.
-pub use crate::analysis::{covers, free_fields, referenced_field_paths};
+pub use crate::analysis::covers;
+pub use crate::analysis::free_fields;
+pub use crate::analysis::referenced_field_paths;
 pub use crate::bound;
 pub use crate::bound::BoundExpression;
-pub use crate::dtype::{
-    DType, FieldName, FieldNames, IntoFieldName, IntoFieldNames, Nullability, PType, StructFields,
-    VortexError, VortexResult, struct_type,
-};
-pub use crate::eval::{apply, apply_bound};
-pub use crate::expr::{
-    Expression, Operand, Scope, and, and_collect, between, binary, case_when, case_when_no_else,
-    cast, checked_add, col, eq, field, fill_null, get_item, gt, gt_eq, ilike, is_not_null, is_null,
-    is_root, like, lit, lt, lt_eq, mask, nested_case_when, not, not_eq, not_ilike, not_like, or,
-    or_collect, pack, root, select, select_exclude, zip_expr,
-};
-pub use crate::functions::{BetweenOptions, Operator, StrictComparison};
-pub use crate::optimize::{BranchRules, Optimize};
+pub use crate::dtype::DType;
+pub use crate::dtype::FieldName;
+pub use crate::dtype::FieldNames;
+pub use crate::dtype::IntoFieldName;
+pub use crate::dtype::IntoFieldNames;
+pub use crate::dtype::Nullability;
+pub use crate::dtype::PType;
+pub use crate::dtype::StructFields;
+pub use crate::dtype::VortexError;
+pub use crate::dtype::VortexResult;
+pub use crate::dtype::struct_type;
+pub use crate::eval::apply;
+pub use crate::eval::apply_bound;
+pub use crate::expr::Expression;
+pub use crate::expr::Operand;
+pub use crate::expr::Scope;
+pub use crate::expr::and;
+pub use crate::expr::and_collect;
+pub use crate::expr::between;
+pub use crate::expr::binary;
+pub use crate::expr::case_when;
+pub use crate::expr::case_when_no_else;
+pub use crate::expr::cast;
+pub use crate::expr::checked_add;
+pub use crate::expr::col;
+pub use crate::expr::eq;
+pub use crate::expr::field;
+pub use crate::expr::fill_null;
+pub use crate::expr::get_item;
+pub use crate::expr::gt;
+pub use crate::expr::gt_eq;
+pub use crate::expr::ilike;
+pub use crate::expr::is_not_null;
+pub use crate::expr::is_null;
+pub use crate::expr::is_root;
+pub use crate::expr::like;
+pub use crate::expr::lit;
+pub use crate::expr::lt;
+pub use crate::expr::lt_eq;
+pub use crate::expr::mask;
+pub use crate::expr::nested_case_when;
+pub use crate::expr::not;
+pub use crate::expr::not_eq;
+pub use crate::expr::not_ilike;
+pub use crate::expr::not_like;
+pub use crate::expr::or;
+pub use crate::expr::or_collect;
+pub use crate::expr::pack;
+pub use crate::expr::root;
+pub use crate::expr::select;
+pub use crate::expr::select_exclude;
+pub use crate::expr::zip_expr;
+pub use crate::functions::BetweenOptions;
+pub use crate::functions::Operator;
+pub use crate::functions::StrictComparison;
+pub use crate::optimize::BranchRules;
+pub use crate::optimize::FoldingRules;
+pub use crate::optimize::Optimize;
+pub use crate::prune::ChunkStats;
+pub use crate::prune::Verdict;
+pub use crate::prune::select_rows;
+pub use crate::prune::verdict;
 pub use crate::query::run_query;
-pub use crate::scan::{PathReader, ScanPlan, plan, scan};
-pub use crate::source::{SourceText, parse, parse_type};
-pub use crate::transform::{
-    BoundPartitionedExpr, Pass, find_between, partition_bound, replace_nodes, run_passes,
-};
-pub use crate::traversal::{
-    NodeExt, NodeRewriter, NodeVisitor, Transformed, TraversalOrder, pre_order_visit_down,
-};
-pub use crate::value::{
-    Column, Field, FieldPath, FieldPathSet, IntoScalar, Native, Scalar, Value, column, column_of,
-    scalar, struct_column, struct_row,
-};
+pub use crate::scan::PathReader;
+pub use crate::scan::ScanPlan;
+pub use crate::scan::plan;
+pub use crate::scan::plan_with;
+pub use crate::scan::scan;
+pub use crate::source::SourceText;
+pub use crate::source::parse;
+pub use crate::source::parse_type;
+pub use crate::transform::BoundPartitionedExpr;
+pub use crate::transform::Pass;
+pub use crate::transform::find_between;
+pub use crate::transform::partition_bound;
+pub use crate::transform::replace_nodes;
+pub use crate::transform::run_passes;
+pub use crate::traversal::NodeExt;
+pub use crate::traversal::NodeRewriter;
+pub use crate::traversal::NodeVisitor;
+pub use crate::traversal::Transformed;
+pub use crate::traversal::TraversalOrder;
+pub use crate::traversal::pre_order_visit_down;
+pub use crate::value::Column;
+pub use crate::value::Field;
+pub use crate::value::FieldPath;
+pub use crate::value::FieldPathSet;
+pub use crate::value::IntoScalar;
+pub use crate::value::Native;
+pub use crate::value::Scalar;
+pub use crate::value::Value;
+pub use crate::value::column;
+pub use crate::value::column_of;
+pub use crate::value::scalar;
+pub use crate::value::struct_column;
+pub use crate::value::struct_row;
 pub use vx_forms::expr;

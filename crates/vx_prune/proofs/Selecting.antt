@@ -1,8 +1,7 @@
 -- What a selection of rows gives is what it promises, whichever way it ends.
-use Rattle.std.proofs.Common.{◌≡◌, ◌≢◌, ℕ, zero, suc, Bool, true, false, List, [], ◌∷◌, length, map, replicate, Result, Ok, Err, IfOk, IfErr, refl, sym, ap, ◌∙◌, subst, inl, inr}
+use Rattle.std.proofs.Common.{◌≡◌, ◌≢◌, Bool, true, false, List, [], ◌∷◌, length, map, replicate, Result, Ok, Err, IfOk, IfErr, refl, sym, ap, ◌∙◌, subst, inl, inr}
 use Rattle.std.specs.Prelude.{MatchResult}
 use Rattle.vx_dtype.specs.Lists.{IsIn}
-use Rattle.vx_dtype.proofs.Lists.{map_same}
 use Rattle.vx_dtype.specs.declared.error.VortexError.{VortexError}
 use Rattle.vx_dtype.specs.declared.error.VortexError.TheVariants.{OutOfMemory, ScopeMismatch, NotBool}
 use Rattle.vx_value.specs.Columns.{Batch}
@@ -14,18 +13,14 @@ use Rattle.vx_tree.proofs.Meant.{mean-unbound}
 use Rattle.vx_tree.specs.Faults.{HasNoFault}
 use Rattle.vx_tree.specs.Meaning.{mean}
 use Rattle.vx_tree.specs.Trees.{Tree, BoundTree, node_type, unbound, WellTyped, Over}
-use Rattle.vx_rewrite_keep.proofs.Stepping.{steps_keep}
 use Rattle.vx_rewrite_keep.specs.Keeps.{Keeps}
-use Rattle.vx_rewrite_keep.specs.Steps.{Steps}
-use Rattle.vx_rewrite_branch_rules.proofs.Lawfulness.{branch_rules_lawful}
-use Rattle.vx_rewrite_branch_rules.specs.Branches.{BranchRuleAt}
 use Rattle.vx_query_split.specs.Sources.{IsBound}
 use Rattle.vx_scan.specs.Scans.{IsRefusedWhere, KeepsMeaning}
 use Rattle.vx_prune_stats.specs.Stats.{Facts, Describes}
 use Rattle.vx_prune_tree.specs.Verdicts.{IsTrueVerdict, VerdictHolds, verdict_in}
 use Rattle.vx_prune_tree.specs.declared.verdicts.Verdict.{Verdict}
 use Rattle.vx_prune_tree.specs.declared.verdicts.Verdict.TheVariants.{NoRow, EveryRow, Unknown}
-use Rattle.vx_prune.specs.Selected.{true_of, HasRowsOf, Selected, SelectsRows}
+use Rattle.vx_prune.specs.Selected.{true_of, Selected, SelectsRows}
 
 both_ways : (b : Bool) → b ≡ true → b ≡ false → ⊥
 both_ways true t f = cc
@@ -52,14 +47,13 @@ given (Err e) bits ok err = err
 
 -- ---- sources
 
--- in each row of a batch on which the source doesn't fault the tree that steps lead to means what the source does
-source_means : (u b : BoundTree) (n : ℕ) (e : Tree) (c : Batch) → WellTyped u → Over u c.type → IsBatch c.type c.rows → IsBound e c.type b → Steps BranchRuleAt b n u → HasNoFault b c.rows
+-- in each row of a batch on which the source doesn't fault the tree that keeps it means what the source does
+source_means : (u b : BoundTree) (e : Tree) (c : Batch) → WellTyped u → Over u c.type → IsBatch c.type c.rows → IsBound e c.type b → Keeps b u → HasNoFault b c.rows
     → HasNoFault u c.rows × ((v : Datum) → IsIn v c.rows → mean (unbound u) c.type v ≡ mean e c.type v)
-source_means u b n e c w o fit is steps quiet =
-    let k : Keeps b u = steps_keep BranchRuleAt branch_rules_lawful.keeps steps is.well_typed in (
-      k.no_fault c.type c.rows is.over fit quiet,
-      λ v i. mean-unbound u c.type v w o ∙ k.meaning c.type c.rows is.over fit quiet v i ∙ sym (mean-unbound b c.type v is.well_typed is.over) ∙ ap (λ d. mean d c.type v) is.source,
-    )
+source_means u b e c w o fit is k quiet = (
+  k.no_fault c.type c.rows is.over fit quiet,
+  λ v i. mean-unbound u c.type v w o ∙ k.meaning c.type c.rows is.over fit quiet v i ∙ sym (mean-unbound b c.type v is.well_typed is.over) ∙ ap (λ d. mean d c.type v) is.source,
+)
 
 module _ (s : LogicalType) (u : BoundTree) (facts : Facts) (c : Batch) where
   -- ---- refusals
@@ -90,8 +84,8 @@ module _ (s : LogicalType) (u : BoundTree) (facts : Facts) (c : Batch) where
 
   alike_selects : (b : Bool) (r : Result (List Bool) VortexError) → WellTyped u → Over u c.type → IsBatch c.type c.rows → IsAlike b → IfOk r (λ m. m ≡ replicate facts.rows b) → IfErr r (λ e. e ≡ OutOfMemory)
       → Describes facts c.type c.rows → SelectsRows u c r
-  alike_selects b r w o fit alike ok err d = λ e source n is steps quiet.
-      let (still, means) = source_means u source n e c w o fit is steps quiet in
+  alike_selects b r w o fit alike ok err d = λ e source is k quiet.
+      let (still, means) = source_means u source e c w o fit is k quiet in
       let bits : replicate facts.rows b ≡ true_of e c =
       ap (λ k. replicate k b) (sym d.count) ∙ sym (all_alike (λ v. is_true (mean e c.type v)) b c.rows (λ v i. ap is_true (sym (means v i)) ∙ alike d still v i)) in
       subst (λ bs. MatchResult r (λ m. m ≡ bs) (λ y. y ≡ OutOfMemory)) bits (given r (replicate facts.rows b) ok err)
@@ -123,8 +117,8 @@ module _ (s : LogicalType) (u : BoundTree) (facts : Facts) (c : Batch) where
   -- ---- one that isn't
 
   selects_read : (x : Batch) (r : Result (List Bool) VortexError) → KeepsMeaning u c (Ok x) → IfOk r (λ m. m ≡ map is_true x.rows) → IfErr r (λ e. e ≡ OutOfMemory) → SelectsRows u c r
-  selects_read x r means ok err = λ e b n is steps quiet.
-      let rows : x.rows ≡ map (mean e c.type) c.rows = means e b n is steps quiet in
+  selects_read x r means ok err = λ e b is k quiet.
+      let rows : x.rows ≡ map (mean e c.type) c.rows = means e b is k quiet in
       let bits : map is_true x.rows ≡ true_of e c = ap (map is_true) rows ∙ map_twice (mean e c.type) is_true c.rows in
       subst (λ bs. MatchResult r (λ m. m ≡ bs) (λ y. y ≡ OutOfMemory)) bits (given r (map is_true x.rows) ok err)
 
@@ -146,7 +140,7 @@ module _ (s : LogicalType) (u : BoundTree) (facts : Facts) (c : Batch) where
   unread_selected v y same t is exact means refused = record {
     mismatch = λ other. absurd (other same);
     not_bool = λ e f. absurd (both_ways (is_truth (node_type u)) t f);
-    rows = λ e t d source b n is steps quiet. means source b n is steps quiet;
+    rows = λ e t d source b is k quiet. means source b is k quiet;
     faults = λ e t. (λ quiet. refused.0 quiet, λ unknown. tt);
     sure = λ e t k. absurd (k (sym exact ∙ is));
   }

@@ -1,20 +1,18 @@
 -- The rows of a chunk of which a plan's source is true.
-use Rattle.std.specs.Prelude.{◌≡◌, ◌≢◌, ℕ, Bool, true, false, List, map, Result, MatchResult, IsErrOf}
+use Rattle.std.specs.Prelude.{◌≡◌, ◌≢◌, Bool, true, false, List, map, Result, MatchResult, IsErrOf}
 use Rattle.vx_dtype.specs.declared.error.VortexError.{VortexError}
 use Rattle.vx_dtype.specs.declared.error.VortexError.TheVariants.{OutOfMemory, ScopeMismatch, NotBool}
 use Rattle.vx_value.specs.Columns.{Batch}
-use Rattle.vx_value.specs.Types.{LogicalType, Datum}
+use Rattle.vx_value.specs.Types.{LogicalType}
 use Rattle.vx_fn.specs.Functions.{is_truth}
 use Rattle.vx_fn.specs.Values.{is_true}
 use Rattle.vx_tree.specs.Faults.{HasNoFault}
 use Rattle.vx_tree.specs.Meaning.{mean}
 use Rattle.vx_tree.specs.Trees.{Tree, BoundTree, node_type}
-use Rattle.vx_rewrite_keep.specs.Steps.{Steps}
-use Rattle.vx_rewrite_branch_rules.specs.Branches.{BranchRuleAt}
+use Rattle.vx_rewrite_keep.specs.Keeps.{Keeps}
 use Rattle.vx_query_split.specs.Sources.{IsBound}
 use Rattle.vx_prune_stats.specs.Stats.{Facts, Describes}
 use Rattle.vx_prune_tree.specs.Verdicts.{verdict_in}
-use Rattle.vx_prune_tree.specs.declared.verdicts.Verdict.{Verdict}
 use Rattle.vx_prune_tree.specs.declared.verdicts.Verdict.TheVariants.{Unknown}
 
 -- for each row whether the source is true there
@@ -25,9 +23,9 @@ true_of e c = map (λ v. is_true (mean e c.type v)) c.rows
 abbrev pub HasRowsOf : Tree → Batch → Result (List Bool) VortexError → Type 0
 HasRowsOf e c result = MatchResult result (λ m. m ≡ true_of e c) (λ y. y ≡ OutOfMemory)
 
--- for each source that steps of the rules lead to the tree u, and that doesn't fault on the batch, the rows at which it is true
+-- for each source that the tree u keeps, bound, and that doesn't fault on the batch, the rows at which it is true
 abbrev pub SelectsRows : BoundTree → Batch → Result (List Bool) VortexError → Type 0
-SelectsRows u c result = (e : Tree) (b : BoundTree) (n : ℕ) → IsBound e c.type b → Steps BranchRuleAt b n u → HasNoFault b c.rows → HasRowsOf e c result
+SelectsRows u c result = (e : Tree) (b : BoundTree) → IsBound e c.type b → Keeps b u → HasNoFault b c.rows → HasRowsOf e c result
 
 -- a mask where the tree doesn't fault on the batch, unless memory ran out, and, where the verdict isn't sure, none where it does
 abbrev pub IsRefusedWhereUnsure : Facts → BoundTree → Batch → Result (List Bool) VortexError → Type 0

@@ -2,4 +2,6 @@
 #![tactic(auto)]
 
 #[cfg(test)]
+mod chunks;
+#[cfg(test)]
 mod runs;

@@ -5,14 +5,15 @@ use vx_commands::{DataFormat, Input, OutputFormat, RowsCommand, RowsWork, Status
 
 // A command over records: what is done, over what, and what is shown: what is written, the status and
 // the message.
-struct Run {
-    work: RowsWork,
-    expression: &'static str,
-    schema: &'static str,
-    format: DataFormat,
-    data: &'static str,
-    limit: u64,
-    shown: &'static str,
+#[derive(Clone, Copy)]
+pub(crate) struct Run {
+    pub(crate) work: RowsWork,
+    pub(crate) expression: &'static str,
+    pub(crate) schema: &'static str,
+    pub(crate) format: DataFormat,
+    pub(crate) data: &'static str,
+    pub(crate) limit: u64,
+    pub(crate) shown: &'static str,
 }
 
 const RUNS: [Run; 15] = [
@@ -178,7 +179,7 @@ fn a_writer_that_is_full_fails_the_run(rt: HostRuntime) -> Result<(), Fail> {
 }
 
 // What the command of the run shows.
-fn shown(alloc: Global, run: &Run) -> Result<String, Fail> {
+pub(crate) fn shown(alloc: Global, run: &Run) -> Result<String, Fail> {
     let mut shown = Vec::new(alloc);
     let mut message = Vec::new(alloc);
     let data = run.data.as_bytes();
@@ -189,7 +190,7 @@ fn shown(alloc: Global, run: &Run) -> Result<String, Fail> {
 }
 
 // The command of the run.
-fn command_of(run: &Run) -> RowsCommand<'_> {
+pub(crate) fn command_of(run: &Run) -> RowsCommand<'_> {
     RowsCommand {
         work: run.work,
         expression: Input {

@@ -1,5 +1,5 @@
 -- Reading some records, and then some more.
-use Rattle.std.proofs.Common.{◌≡◌, ℕ, List, ◌++◌, ◌∷◌, [], subst, sym, append_assoc}
+use Rattle.std.proofs.Common.{List, ◌++◌, [], subst, sym, append_assoc}
 use Rattle.vx_records.specs.Reading.{Reads}
 use Rattle.vx_records.specs.Records.{Record}
 

@@ -1,5 +1,10 @@
+mod Faulting
+mod Fewer
 mod Keeping
+mod Verdicts
 mod Meaning
+mod Fitting
 mod Going
 mod Stopping
 mod Written
+mod Tallying

@@ -1,8 +1,8 @@
 -- What stops behind some records, seen from before them.
-use Rattle.std.proofs.Common.{◌≡◌, ℕ, List, ◌++◌, [], length, subst, sym, ap, ◌∙◌, append_assoc, Bool, nat_lt, Option, None, Some, Result, Ok, Err, IfOk, IfErr, true, false, ◌+◌, ◌-◌, ◌<◌, ◌≤◌, inl, inr, ◌⊎◌, arith, length-append}
+use Rattle.std.proofs.Common.{◌≡◌, ℕ, List, ◌++◌, [], length, subst, sym, ap, ◌∙◌, append_assoc, Bool, nat_lt, Option, None, Some, Result, Ok, Err, IfOk, IfErr, true, false, ◌+◌, ◌-◌, ◌<◌, ◌≤◌, inl, inr, arith, length-append}
 use Rattle.vx_value.specs.Types.{Datum}
 use Rattle.vx_data_record.specs.declared.error.DataError.{DataError}
-use Rattle.vx_records.specs.Chunks.{AreNext, IsFaultOver, IsFaultThere, IsLast, IsNoFault, IsStep}
+use Rattle.vx_records.specs.Chunks.{AreNext, IsFaultOver, IsFaultThere, IsLast, IsNoFault, IsOfWriting, IsStep}
 use Rattle.vx_tree.specs.Trees.{BoundTree}
 use Rattle.vx_records.specs.Outcomes.{Ends, Stops}
 use Rattle.vx_records.specs.Reading.{Reads, ReadsUpTo}
@@ -46,6 +46,13 @@ fault_there leaves b n before after stop (Data d) vs rs next same over = tt
 fault_there leaves b n before after stop (Write w) vs rs next same over = absurd over
 fault_there leaves b n before after stop (Fault f) vs rs next same over = let (mid, reads) = next_reads leaves n before after stop rs next in (mid, rs, reads, subst (λ us. IsFaultOver b us (Fault f)) same over)
 
+-- what is no fault
+pub no_fault_there : {R : Type 0} (leaves : R → List Record → Type 0) (b : BoundTree) (before : R) (e : RecordsError) → IsNoFault e → IsFaultThere leaves b before e
+no_fault_there leaves b before OutOfMemory fine = tt
+no_fault_there leaves b before (Data d) fine = tt
+no_fault_there leaves b before (Write w) fine = absurd fine
+no_fault_there leaves b before (Fault f) fine = absurd fine
+
 -- the next records are a step, where nothing stopped reading
 pub step_next : {R : Type 0} (leaves : R → List Record → Type 0) (n : ℕ) (before after : R) (stop : Option DataError) (last : Bool) (m : ℕ) (rs : List Record) (Wrote : List Record → Type 0) → AreNext leaves n before after stop rs → IsLast stop m n last → m ≡ length rs → Wrote rs → IsStep leaves n before after last Wrote
 step_next leaves n before after None last m rs Wrote next is same wrote = (rs, next, is ∙ ap (λ m. nat_lt m n) same, wrote)
@@ -60,6 +67,10 @@ pub err_map : {A E : Type 0} (r : Result A E) (P Q : E → Type 0) → ((e : E) 
 err_map (Ok a) P Q f h = tt
 err_map (Err e) P Q f h = f e h
 
+-- what a `?` hands on
+pub on_failed : {A E : Type 0} (r : Result A E) (e : E) (P : E → Type 0) → r ≡ Err e → P e → IfErr r P
+on_failed r e P is h = subst (λ r. IfErr r P) (sym is) h
+
 are_last : (n : ℕ) (a b : List Record → Type 0) (ys : List Record) → ReadsUpTo n a b ys → nat_lt (length ys) n ≡ true → (length ys < n) × a ys
 are_last n a b ys (reads, inl full) short = absurd (search (arith, full, short))
 are_last n a b ys (reads, inr ends) short = ends
@@ -67,6 +78,14 @@ are_last n a b ys (reads, inr ends) short = ends
 are_full : (n : ℕ) (a b : List Record → Type 0) (ys : List Record) → ReadsUpTo n a b ys → nat_lt (length ys) n ≡ false → length ys ≡ n
 are_full n a b ys (reads, inl full) long = full
 are_full n a b ys (reads, inr (short, ends)) long = absurd (search (arith, short, long))
+
+-- of a step so many records at most are said something, and just so many where they aren't the last
+pub step_few : {R : Type 0} (leaves : R → List Record → Type 0) (n : ℕ) (before after : R) (last : Bool) (Wrote : List Record → Type 0) → IsStep leaves n before after last Wrote → IsStep leaves n before after last (λ rs. (length rs ≤ n) × Wrote rs)
+step_few leaves n before after last Wrote (rs, (reads, inl full), is, w) = (rs, (reads, inl full), is, (omega arith, w))
+step_few leaves n before after last Wrote (rs, (reads, inr (short, ends)), is, w) = (rs, (reads, inr (short, ends)), is, (omega arith, w))
+
+pub step_full : {R : Type 0} (leaves : R → List Record → Type 0) (n : ℕ) (before after : R) (last : Bool) (Wrote : List Record → Type 0) → last ≡ false → IsStep leaves n before after last Wrote → IsStep leaves n before after last (λ rs. (length rs ≡ n) × Wrote rs)
+step_full leaves n before after last Wrote more (rs, next, is, w) = (rs, next, is, (are_full n (leaves before) (leaves after) rs next (sym is ∙ more), w))
 
 -- behind some records, the last ones
 pub ends_all : {R : Type 0} (leaves : R → List Record → Type 0) (limit left n : ℕ) (start cur new : R) (last : Bool) (xs : List Record) (Wrote Wrote' : List Record → Type 0)
@@ -84,3 +103,10 @@ goes_on leaves limit left n start cur new last xs Wrote Wrote' count most before
     let full = are_full n (leaves cur) (leaves new) ys next (sym long ∙ is) in
     let sum : length (xs ++ ys) + (left - n) ≡ limit = ap (λ l. l + (left - n)) (length-append xs ys) ∙ search (arith, count, most, full) in
     (xs ++ ys, sum, reads_on (leaves start) (leaves cur) (leaves new) xs ys before next.0, wrote ys w)
+
+-- what stops where the writer fails, seen from before the records
+pub stops_broken : {R : Type 0} (leaves : R → List Record → Type 0) (b : BoundTree) (before mid : R) (e : RecordsError) (rs : List Record) (Wrote Broke : List Record → Type 0) → Reads (leaves before) (leaves mid) rs → Broke rs → IsOfWriting e → Stops leaves b before e Wrote Broke
+stops_broken leaves b before mid (Write w) rs Wrote Broke reads broke is = (mid, rs, reads, broke)
+stops_broken leaves b before mid OutOfMemory rs Wrote Broke reads broke is = absurd is
+stops_broken leaves b before mid (Data d) rs Wrote Broke reads broke is = absurd is
+stops_broken leaves b before mid (Fault f) rs Wrote Broke reads broke is = absurd is

@@ -1,13 +1,17 @@
 -- Records that were read together. No public contract names this file.
-use Rattle.std.specs.Prelude.{◌≡◌, ◌<◌, ◌++◌, ℕ, List, [], zero, suc, ◌∷◌, map, length, Bool, nat_lt, Option, Some, None, MatchOption, get_or, if◌then◌else◌}
+use Rattle.std.specs.Prelude.{◌≡◌, ◌≤◌, ◌++◌, ℕ, List, [], zero, suc, ◌∷◌, map, length, Bool, nat_lt, Option, Some, None, MatchOption, get_or, if◌then◌else◌}
 use Rattle.std.specs.Global.{Vec}
+use Rattle.std.specs.List.{flat_map}
+use Rattle.vx_value.specs.Columns.{batch}
+use Rattle.vx_value.specs.Fits.{IsBatch}
 use Rattle.vx_value.specs.Types.{LogicalType, Datum, null}
 use Rattle.vx_value.specs.Views.{value_of}
 use Rattle.vx_value.specs.declared.value.Value.{Value}
 use Rattle.vx_fn.specs.Values.{is_true}
 use Rattle.vx_tree.specs.Trees.{Tree}
 use Rattle.vx_records.specs.Reading.{Reads, ReadsUpTo}
-use Rattle.vx_records.specs.Records.{Record, record_of, texts, meanings}
+use Rattle.vx_records.specs.Records.{Record, record_of, texts, rows, meanings}
+use Rattle.vx_records.specs.declared.batches.RecordBatch.{RecordBatch}
 use Rattle.vx_records.specs.declared.read.Chunk.{Chunk}
 use Rattle.vx_records.specs.declared.answers.Answers.{Answers}
 use Rattle.vx_data_record.specs.declared.error.DataError.{DataError}
@@ -28,6 +32,14 @@ AreNext {R = R} leaves n before after stop rs = MatchOption stop (ReadsUpTo n (l
 -- the chunk is of the next records
 abbrev pub IsChunk : {R : Type 0} → (R → List Record → Type 0) → ℕ → R → R → Chunk → Type 0
 IsChunk leaves n before after c = AreNext leaves n before after c.stop (map record_of c.records.items)
+
+-- the batch has these records, each as a row of the type s
+abbrev pub HasRecords : RecordBatch → LogicalType → List Record → Type 0
+HasRecords b s rs = (texts_in b.texts.items ≡ texts rs) × (b.rows.value ≡ batch s (rows rs))
+
+-- the batch has the next records, n of them at most, each of them of the type s
+abbrev pub IsNextBatch : {R : Type 0} → (R → List Record → Type 0) → ℕ → LogicalType → R → R → RecordBatch → Type 0
+IsNextBatch leaves n s before after b = (rs : List Record) × AreNext leaves n before after b.stop rs × HasRecords b s rs × IsBatch s (rows rs) × (length rs ≤ n)
 
 -- the answers are the texts of the next records, and what the expression means at them
 abbrev pub AreAnswers : {R : Type 0} → (R → List Record → Type 0) → ℕ → Tree → LogicalType → R → R → Answers → Type 0
@@ -54,6 +66,15 @@ line_if_true v s = if is_true v then s ++ 10 ∷ [] else []
 abbrev pub true_lines : List (List ℕ) → List Datum → ℕ → List ℕ
 true_lines ts vs zero = []
 true_lines ts vs (suc n) = true_lines ts vs n ++ line_if_true (get_or vs n null) (get_or ts n [])
+
+-- each of the texts on a line
+abbrev pub each_line : List (List ℕ) → List ℕ
+each_line ts = flat_map (λ t. t ++ 10 ∷ []) ts
+
+-- the error is one of writing
+abbrev pub IsOfWriting : RecordsError → Type 0
+IsOfWriting (Write e) = Unit {0}
+IsOfWriting _ = ⊥
 
 -- the error is neither a fault of the tree's nor of writing
 abbrev pub IsNoFault : RecordsError → Type 0

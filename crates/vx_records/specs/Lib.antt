@@ -2,3 +2,5 @@ pub mod Records
 pub mod Reading
 pub mod Outcomes
 pub mod Chunks
+pub mod Laws
+pub mod Tallies

@@ -1,14 +1,15 @@
 -- How going over records ends.
-use Rattle.std.specs.Prelude.{◌≡◌, ◌<◌, ◌++◌, ℕ, List, length, take, Option, Some, None, ⊤}
+use Rattle.std.specs.Prelude.{◌≡◌, ◌<◌, ◌≤◌, ◌++◌, ℕ, List, length, take, Option, Some, None, ⊤}
 use Rattle.std.specs.Io.KnownBytes.{Appends}
 use Rattle.vx_value.specs.Types.{Datum}
+use Rattle.vx_tree.specs.Faults.{HasNoFault}
 use Rattle.vx_tree.specs.Trees.{BoundTree}
 use Rattle.vx_places.specs.Faults.{IsFirstFault}
 use Rattle.vx_records.specs.Reading.{Reads, ReadsUpTo}
 use Rattle.vx_records.specs.Records.{Record, rows}
 use Rattle.vx_records.specs.declared.error.RecordFault.{RecordFault}
 use Rattle.vx_records.specs.declared.error.RecordsError.{RecordsError}
-use Rattle.vx_records.specs.declared.error.RecordsError.TheVariants.{OutOfMemory, Data, Fault, Write}
+use Rattle.vx_records.specs.declared.error.RecordsError.TheVariants.{Fault, Write}
 
 -- known rows grow by these
 abbrev pub Gains : Option (List Datum) → Option (List Datum) → List Datum → Type 0
@@ -33,3 +34,11 @@ abbrev pub Stops : {R : Type 0} → (R → List Record → Type 0) → BoundTree
 Stops {R = R} leaves b before (Fault f) Wrote Broke = (mid : R) × (done rs : List Record) × Reads (leaves before) (leaves mid) (done ++ rs) × Wrote done × IsFaultOn b rs f
 Stops {R = R} leaves b before (Write e) Wrote Broke = (mid : R) × (rs : List Record) × Reads (leaves before) (leaves mid) rs × Broke rs
 Stops {R = R} leaves b before _ Wrote Broke = (mid : R) × (rs : List Record) × Reads (leaves before) (leaves mid) rs × Wrote rs
+
+-- the tree faults on no n of the records, or fewer, that stand one behind the other
+abbrev pub NeverFaults : ℕ → BoundTree → List Record → Type 0
+NeverFaults n b rs = (xs ys zs : List Record) → rs ≡ xs ++ (ys ++ zs) → length ys ≤ n → HasNoFault b (rows ys)
+
+-- that is said of records unless the tree faults on some of them that are taken together, n at most
+abbrev pub UnlessFaulting : ℕ → BoundTree → (List Record → Type 0) → List Record → Type 0
+UnlessFaulting n b Said rs = NeverFaults n b rs → Said rs

@@ -1,5 +1,5 @@
 -- Records, what an expression means at them, and those of which it is true.
-use Rattle.std.specs.Prelude.{◌≡◌, ◌++◌, ℕ, List, [], ◌∷◌, map, Bool, if◌then◌else◌}
+use Rattle.std.specs.Prelude.{◌++◌, ℕ, List, [], ◌∷◌, map, Bool}
 use Rattle.std.specs.List.{filter, flat_map}
 use Rattle.vx_value.specs.Types.{LogicalType, Datum}
 use Rattle.vx_value.specs.Views.{value_of}

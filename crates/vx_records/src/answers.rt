@@ -3,18 +3,16 @@ ghost use Rattle.std.specs.Prelude.{◌≡◌, IfOk, IfErr, length, map};
 ghost use Rattle.vx_tree.specs.Trees.{WellTyped, Over, unbound};
 ghost use Rattle.vx_tree.specs.Meaning.{mean};
 ghost use Rattle.vx_tree.specs.Views.{bound_of};
-ghost use Rattle.vx_value.specs.Columns.{batch};
-ghost use Rattle.vx_value.specs.Views.{type_of, value_of};
 ghost use Rattle.vx_records.specs.Chunks.{AreAnswers, IsFaultThere, IsFaultOver, IsLast, IsNoFault};
 
-use crate::read::{Chunk, Parts, parts_of, read_chunk};
+use crate::batches::{RecordBatch, next_batch};
 use crate::{RecordFault, RecordReader, RecordsError};
 use std::alloc::Global;
-use vx_data::{DataError, Expected, Fault};
+use vx_data::DataError;
 use vx_eval::apply_bound;
 use vx_places::first_fault_at;
 use vx_tree::BoundExpression;
-use vx_types::{Column, DType, Value, VortexError};
+use vx_types::Column;
 
 /// Records that were read together, what an expression means at them, and what stopped reading, if
 /// something did.
@@ -38,13 +36,13 @@ pub(crate) fn next_answers<R: RecordReader>(
     ensures scope { R.scope records.new ≡ R.scope records.old }
     ensures fault { IfErr result (λ e. IsFaultThere R.leaves (bound_of tree.now) records.old e) }
 {
-    let Chunk {
-        records: read,
+    let RecordBatch {
+        texts,
+        rows,
+        lines,
         stop,
-    } = read_chunk(alloc, count, records)?;
-    let Parts { texts, rows, lines } = parts_of(alloc, read)?;
-    let batch = batch_of(alloc, records.dtype(), rows, lines.as_slice())?;
-    match values_of(alloc, tree, &batch, lines.as_slice()) {
+    } = next_batch(alloc, count, records)?;
+    match values_of(alloc, tree, &rows, lines.as_slice()) {
         Ok(values) => {
             let answers = Answers {
                 texts,
@@ -57,29 +55,8 @@ pub(crate) fn next_answers<R: RecordReader>(
     }
 }
 
-// The rows as a column. Refuses the first that isn't of the type, with its line.
-fn batch_of(
-    alloc: Global,
-    dtype: &DType,
-    rows: Vec<Value>,
-    lines: &[u64],
-) -> Result<Box<Column>, RecordsError>
-    ensures ok { IfOk result (λ c. c.value ≡ batch (type_of dtype.now) (map value_of rows.items)) }
-    ensures err { IfErr result (λ e. IsNoFault e) }
-{
-    match Column::try_new(dtype.clone()?, rows) {
-        Ok(batch) => Ok(Box::new(alloc, batch)?),
-        Err(VortexError::RowMisfit { row }) => {
-            let fault = Fault::new(alloc, Expected::Value(dtype.clone()?));
-            let line = lines.get(row).copied().unwrap_or(0);
-            Err(RecordsError::from(fault.on_line(alloc, line)))
-        }
-        Err(_) => Err(RecordsError::OutOfMemory),
-    }
-}
-
-// What the tree means at each row of the batch. Refuses its first fault, with the line of the row.
-fn values_of(
+/// What the tree means at each row of the batch. Refuses its first fault, with the line of the row.
+pub(crate) fn values_of(
     alloc: Global,
     tree: &BoundExpression,
     batch: &Column,
@@ -121,8 +98,20 @@ pub(crate) fn ended(answers: Box<Answers>, count: usize) -> Result<bool, Records
     ensures err { IfErr result (λ e. IsNoFault e) }
 {
     let Answers { texts, stop, .. } = Box::into_inner(answers);
+    are_last(texts.len(), stop, count)
+}
+
+/// The same of so many records that were read.
+pub(crate) fn are_last(
+    read: usize,
+    stop: Option<DataError>,
+    count: usize,
+) -> Result<bool, RecordsError>
+    ensures ok { IfOk result (λ last. IsLast stop read count last) }
+    ensures err { IfErr result (λ e. IsNoFault e) }
+{
     match stop {
         Some(stop) => Err(RecordsError::from(stop)),
-        None => Ok(texts.len() < count),
+        None => Ok(read < count),
     }
 }

@@ -1,21 +1,19 @@
 // The records of which an expression is true.
-ghost use Rattle.std.specs.Prelude.{◌≡◌, ◌++◌, ◌≤◌, IfOk, IfErr, OnOk, OnErr, [], length};
+ghost use Rattle.std.specs.Prelude.{◌≡◌, ◌++◌, IfOk, IfErr, OnOk};
 ghost use Rattle.std.specs.Io.KnownBytes.{Appends};
 ghost use Rattle.vx_tree.specs.Trees.{WellTyped, Over, unbound};
 ghost use Rattle.vx_tree.specs.Views.{bound_of};
-ghost use Rattle.vx_records.specs.Chunks.{IsStep, line_if_true, true_lines, texts_in, values_in};
-ghost use Rattle.vx_value.specs.Views.{value_of};
+ghost use Rattle.vx_records.specs.Chunks.{IsStep};
 ghost use Rattle.vx_records.specs.Outcomes.{Breaks, Ends, Stops};
 ghost use Rattle.vx_records.specs.Records.{kept_lines};
 
 use crate::answers::{ended, next_answers};
-use crate::writing::write_bytes;
+use crate::lines::lines_of;
+use crate::writing::write_text;
 use crate::{CHUNK, RecordReader, RecordsError};
-use std::alloc::{AllocError, Global};
+use std::alloc::Global;
 use std::io::Write;
-use vx_data::WriteError;
 use vx_tree::BoundExpression;
-use vx_types::Value;
 
 /// Reads the first `limit` records, or all where there are fewer, and writes the heading and the
 /// records of which the tree is true, each as it stands and on a line of its own. A record at which
@@ -41,9 +39,7 @@ pub fn filter_records<R: RecordReader, W: Write>(
         (λ rs. Appends (W.contents out.old) (W.contents out.new) (R.head records.old ++ kept_lines (unbound (bound_of tree.now)) (R.scope records.old) rs))
         (λ rs. Breaks (W.contents out.old) (W.contents out.new) (R.head records.old ++ kept_lines (unbound (bound_of tree.now)) (R.scope records.old) rs))) }
 {
-    if let Err(e) = write_bytes(out, records.heading()) {
-        return Err(RecordsError::Write(WriteError::Write(e)));
-    }
+    write_text(out, records.heading())?;
     let mut left = limit;
     while left > 0 {
         let count = left.min(CHUNK);
@@ -81,31 +77,6 @@ fn filter_some<R: RecordReader, W: Write>(
         Ok(lines) => lines,
         Err(_) => return Err(RecordsError::OutOfMemory),
     };
-    if let Err(e) = write_bytes(out, lines.as_slice()) {
-        return Err(RecordsError::Write(WriteError::Write(e)));
-    }
+    write_text(out, lines.as_slice())?;
     ended(answers, count)
-}
-
-// The texts beside which stands true, each on a line.
-fn lines_of(alloc: Global, texts: &[Vec<u8>], values: &[Value]) -> Result<Vec<u8>, AllocError>
-    requires { length texts.now ≤ length values.now }
-    ensures { IfOk result (λ lines. lines.items ≡ true_lines (texts_in texts.now) (values_in values.now) (length texts.now)) }
-{
-    let mut lines = Vec::new(alloc);
-    for i in 0..texts.len() {
-        push_if_true(texts[i].as_slice(), &values[i], &mut lines)?;
-    }
-    Ok(lines)
-}
-
-// Adds the text on a line, where the value is true.
-fn push_if_true(text: &[u8], value: &Value, lines: &mut Vec<u8>) -> Result<(), AllocError>
-    ensures { OnOk result (lines.new.items ≡ lines.old.items ++ line_if_true (value_of value.now) text.now) }
-{
-    if let Value::Bool(true) = value {
-        lines.extend_from_slice(text)?;
-        lines.push(b'\n')?;
-    }
-    Ok(())
 }

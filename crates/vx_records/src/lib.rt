@@ -2,20 +2,26 @@
 #![tactic(auto)]
 
 mod answers;
+mod batches;
+mod chunked;
 mod csv_records;
 mod error;
 mod evaluated;
 mod filtered;
 mod json_records;
+mod laws;
+mod lines;
 mod read;
 mod record;
 mod writing;
 
+pub use chunked::{ChunkTally, filter_chunks};
 pub use csv_records::CsvRows;
 pub use error::{RecordFault, RecordsError};
 pub use evaluated::{RowWriter, evaluate_records};
 pub use filtered::filter_records;
 pub use json_records::JsonRecords;
+pub use laws::fewer_never_fault;
 pub use record::{Record, RecordReader};
 
 // So many records are read together at most.

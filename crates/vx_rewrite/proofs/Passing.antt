@@ -5,7 +5,7 @@ use Rattle.vx_rewrite_keep.specs.Keeps.{Keeps}
 use Rattle.vx_rewrite_keep.proofs.Keeping.{keeps_refl, keeps_trans}
 use Rattle.vx_rewrite_fusing.proofs.Merges.{merges_alike}
 use Rattle.vx_rewrite.specs.declared.passes.Pass.{Pass}
-use Rattle.vx_rewrite.specs.declared.passes.Pass.TheVariants.{Optimize, OptimizeRecursive, FindBetween, Branches}
+use Rattle.vx_rewrite.specs.declared.passes.Pass.TheVariants.{Optimize, OptimizeRecursive, FindBetween, Branches, Fold}
 use Rattle.vx_rewrite.specs.Passes.{Gives, Passed}
 
 -- one pass keeps
@@ -14,6 +14,7 @@ gives_keeps Optimize b u w g = g.keeps
 gives_keeps OptimizeRecursive b u w g = g.keeps
 gives_keeps FindBetween b u w g = (merges_alike b u g.count w g.merges).0
 gives_keeps Branches b u w g = g.keeps
+gives_keeps Fold b u w g = g.keeps
 
 -- and so does a list of them
 pub passed_keeps : (passes : List Pass) (b u : BoundTree) → WellTyped b → Passed passes b u → Keeps b u

@@ -5,15 +5,17 @@ use Rattle.vx_rewrite_fusing.specs.Merging.{IsFusedOf}
 use Rattle.vx_rewrite_optimizer.specs.NormalForms.{NormalForm, RootNormalForm}
 use Rattle.vx_rewrite_rules.specs.Rules.{RuleAt}
 use Rattle.vx_rewrite_branch_rules.specs.Branches.{BranchRuleAt}
+use Rattle.vx_rewrite_folding_rules.specs.Folding.{FoldingRuleAt}
 use Rattle.vx_rewrite.specs.declared.passes.Pass.{Pass}
-use Rattle.vx_rewrite.specs.declared.passes.Pass.TheVariants.{Optimize, OptimizeRecursive, FindBetween, Branches}
+use Rattle.vx_rewrite.specs.declared.passes.Pass.TheVariants.{Optimize, OptimizeRecursive, FindBetween, Branches, Fold}
 
--- u is what the pass may answer for b: a normal form at the root, one of the whole tree by the standard or the branch rules, or the tree fused
+-- u is what the pass may answer for b: a normal form at the root, one of the whole tree by the standard, the branch or the folding rules, or the tree fused
 abbrev pub Gives : Pass → BoundTree → BoundTree → Type 0
 Gives Optimize b u = RootNormalForm RuleAt b u
 Gives OptimizeRecursive b u = NormalForm RuleAt b u
 Gives FindBetween b u = IsFusedOf b u
 Gives Branches b u = NormalForm BranchRuleAt b u
+Gives Fold b u = NormalForm FoldingRuleAt b u
 
 -- u is what the passes may answer for b, one after another
 abbrev pub Passed : List Pass → BoundTree → BoundTree → Type 0

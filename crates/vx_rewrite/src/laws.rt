@@ -6,6 +6,11 @@ pub use vx_rewrite_branch_rules::{
     branch_rules_are_modest, branch_rules_keep, branch_rules_lighten, branch_rules_stay_normal,
     branches_are_decided,
 };
+pub use vx_rewrite_folding_rules::{
+    folding_normal_form_is_one, folding_normal_is_normal, folding_rules_are_functional,
+    folding_rules_are_modest, folding_rules_keep, folding_rules_lighten, folding_rules_stay_normal,
+    folds_keep,
+};
 pub use vx_rewrite_fusing::{
     fused_stays, fusing_is_unique, merge_shortens, merge_stays_fused, merges_end, merges_keep,
 };

@@ -11,6 +11,7 @@ pub use vx_rewrite_analysis::{
     direct_bound_annotations, free_fields, label_bound_tree,
 };
 pub use vx_rewrite_branches::BranchRules;
+pub use vx_rewrite_folding::FoldingRules;
 pub use vx_rewrite_fusing::find_between;
 pub use vx_rewrite_keep::Rule;
 pub use vx_rewrite_optimizer::{optimize_root, optimize_with, optimized, optimized_root};

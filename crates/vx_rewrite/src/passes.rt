@@ -8,6 +8,7 @@ ghost use Rattle.vx_tree.specs.Views.{bound_of};
 
 use std::alloc::Global;
 use vx_rewrite_branches::BranchRules;
+use vx_rewrite_folding::FoldingRules;
 use vx_rewrite_fusing::find_between;
 use vx_rewrite_optimizer::optimized;
 use vx_rewrite_standard::Optimize;
@@ -25,6 +26,9 @@ pub enum Pass {
     /// The branch rules at every node: [`optimize_with`](vx_rewrite_optimizer::optimize_with) of
     /// [`BranchRules`], the tree itself on None.
     Branches,
+    /// The folding rules at every node: [`optimize_with`](vx_rewrite_optimizer::optimize_with) of
+    /// [`FoldingRules`], the tree itself on None.
+    Fold,
 }
 
 /// The tree after these passes, in their order; for an empty list the tree itself. It keeps the
@@ -61,5 +65,6 @@ fn run_pass(alloc: Global, tree: BoundExpression, pass: Pass) -> VortexResult<Bo
         Pass::OptimizeRecursive => tree.optimize_recursive(alloc),
         Pass::FindBetween => find_between(alloc, tree),
         Pass::Branches => optimized(alloc, &BranchRules, &tree),
+        Pass::Fold => optimized(alloc, &FoldingRules, &tree),
     }
 }

@@ -13,6 +13,7 @@ use Rattle.vx_tree.specs.Meaning.{mean}
 use Rattle.vx_value.specs.Views.{type_of}
 use Rattle.vx_tree.specs.Views.{bound_of}
 use Rattle.vx_tree.specs.Trees.{Tree, BoundTree, scope, node, BoundTrees, unbound, node_type, WellTyped, Over}
+use Rattle.vx_rewrite_keep.proofs.Keeping.{keeps_refl}
 use Rattle.vx_rewrite_keep.proofs.Stepping.{no_step_left}
 use Rattle.vx_rewrite_keep.specs.Steps.{Steps, no_step, one_more, GivesNothing, Normal}
 use Rattle.vx_eval.specs.Evaluation.{evaluation}
@@ -107,12 +108,12 @@ planned_both c u n e s =
     ap Ok (stays both u n both_normal (subst (λ t. Steps BranchRuleAt t n u) (sym is) s))
 
 -- so a plan of the source has its tree, bound
-pub planned_tree : (e : Tree) (s : LogicalType) (r : Result ScanPlan VortexError) → scan.source ≡ e → s ≡ scan.batch.type → IfOk r (λ p. IsPlanFor e s (type_of p.scope) (bound_of p.tree)) → IfOk r (λ p. binding scan.source scan.batch.type ≡ Ok (bound_of p.tree))
+pub planned_tree : (e : Tree) (s : LogicalType) (r : Result ScanPlan VortexError) → scan.source ≡ e → s ≡ scan.batch.type → IfOk r (λ p. IsPlanFor BranchRuleAt e s (type_of p.scope) (bound_of p.tree)) → IfOk r (λ p. binding scan.source scan.batch.type ≡ Ok (bound_of p.tree))
 planned_tree e s (Err y) is over h = tt
 planned_tree e s (Ok p) is over h =
     let c = h.1.0 in
-    let bound = h.1.2 in
-    planned_both c (bound_of p.tree) h.1.1 (bound_source scan.source scan.batch.type c e s bound.well_typed bound.over bound.source is over) h.1.3
+    let bound = h.1.1 in
+    planned_both c (bound_of p.tree) h.1.2.count (bound_source scan.source scan.batch.type c e s bound.well_typed bound.over bound.source is over) h.1.2.steps
 
 bound_scan : (u : BoundTree) → binding scan.source scan.batch.type ≡ Ok u → IsBound scan.source scan.batch.type u
 bound_scan u e = subst (IsBound scan.source scan.batch.type) (bound_both u e) (record { source = refl; well_typed = both_typed; over = both_over })
@@ -126,10 +127,10 @@ same_batch x t rows is are = ap (λ s. batch s rows) (sym is) ∙ ap (batch x.ty
 pub scan_gives : (e : Tree) (c : Batch) (u : BoundTree) (r : Result Batch VortexError) → IsQuiet e → IsBound e c.type u → KeepsMeaning u c r → HasTypeOf u r → Answers (λ x. x) r (evaluation u c)
 scan_gives e c u (Ok x) quiet is means typed =
     let none : HasNoFault u c.rows = never_faults u c.rows (subst IsQuiet (sym is.source) quiet) in
-    let rows : x.rows ≡ map (mean (unbound u) c.type) c.rows = means e u 0 is no_step none ∙ ap (λ t. map (mean t c.type) c.rows) (sym is.source) in
+    let rows : x.rows ≡ map (mean (unbound u) c.type) c.rows = means e u is (keeps_refl u is.well_typed) none ∙ ap (λ t. map (mean t c.type) c.rows) (sym is.source) in
     let all : batch (node_type u) (map (mean (unbound u) c.type) c.rows) ≡ x = same_batch x (node_type u) (map (mean (unbound u) c.type) c.rows) typed rows in
     rw none (ap Ok all)
-scan_gives e c u (Err y) quiet is means typed = inl (means e u 0 is no_step (never_faults u c.rows (subst IsQuiet (sym is.source) quiet)))
+scan_gives e c u (Err y) quiet is means typed = inl (means e u is (keeps_refl u is.well_typed) (never_faults u c.rows (subst IsQuiet (sym is.source) quiet)))
 
 -- so of the tree of `scan`
 pub both_scanned : (c read : Batch) (u : BoundTree) (r : Result Batch VortexError) → read ≡ c → c.type ≡ scan.batch.type → binding scan.source scan.batch.type ≡ Ok u → KeepsMeaning u read r → HasTypeOf u r → Answers (λ x. x) r (evaluation u c)

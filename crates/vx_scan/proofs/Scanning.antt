@@ -16,10 +16,6 @@ use Rattle.vx_tree.specs.Faults.{HasNoFault, first_fault, each_fault}
 use Rattle.vx_tree.specs.Meaning.{mean}
 use Rattle.vx_tree.specs.Trees.{BoundTree, node_type, unbound, WellTyped, Over}
 use Rattle.vx_rewrite_keep.proofs.Keeping.{keeps_refl}
-use Rattle.vx_rewrite_keep.proofs.Stepping.{steps_keep}
-use Rattle.vx_rewrite_keep.specs.Keeps.{Keeps}
-use Rattle.vx_rewrite_branch_rules.proofs.Lawfulness.{branch_rules_lawful, branch_normal}
-use Rattle.vx_rewrite_branch_rules.specs.Branches.{BranchRuleAt}
 use Rattle.vx_rewrite_paths.proofs.Fixing.{minimal_paths-fix}
 use Rattle.vx_rewrite_recombine.specs.Items.{struct_type, joined}
 use Rattle.vx_eval.specs.Columns.{unless_fault}
@@ -113,7 +109,7 @@ read_alike : (s : LogicalType) (u : BoundTree) (ps : List Path) (split : Option 
 read_alike s u ps split c plan o fit =
     let fits = kept_rows-fit (minimal_paths ps) c.type c.rows fit in
     let agree = read-agrees u ps c.type c.rows plan.referenced plan.well_typed o fit in
-    let faults = normal_trees-alike u plan.well_typed (branch_normal u plan.normal) c.type c.rows (map (kept (minimal_paths ps) c.type) c.rows) o fit fits agree in
+    let faults = normal_trees-alike u plan.well_typed plan.normal c.type c.rows (map (kept (minimal_paths ps) c.type) c.rows) o fit fits agree in
     record {
       fits = fits;
       faults = faults;
@@ -123,8 +119,7 @@ read_alike s u ps split c plan o fit =
 -- for each source of the tree the answer has its meaning
 source_means : (u : BoundTree) (c : Batch) (r : Result Batch VortexError) → WellTyped u → Over u c.type → IsBatch c.type c.rows
     → (HasNoFault u c.rows → MatchResult r (λ x. x.rows ≡ map (mean (unbound u) c.type) c.rows) (λ y. y ≡ OutOfMemory)) → KeepsMeaning u c r
-source_means u c r w o fit means = λ e b n is steps quiet.
-    let k : Keeps b u = steps_keep BranchRuleAt branch_rules_lawful.keeps steps is.well_typed in
+source_means u c r w o fit means = λ e b is k quiet.
     let rows : map (mean (unbound u) c.type) c.rows ≡ map (mean (unbound b) c.type) c.rows =
     map_same (mean (unbound u) c.type) (mean (unbound b) c.type) c.rows (λ v i. mean-unbound u c.type v w o ∙ k.meaning c.type c.rows is.over fit quiet v i ∙ sym (mean-unbound b c.type v is.well_typed is.over)) in
     subst (λ d. IsMeantBy d c r) is.source (moved _ _ r rows (means (k.no_fault c.type c.rows is.over fit quiet)))

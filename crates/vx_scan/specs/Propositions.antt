@@ -8,7 +8,7 @@ use Rattle.vx_value.specs.Types.{LogicalType}
 use Rattle.vx_fn.specs.Functions.{Function, HasFittingLiteral, literal, Typing}
 use Rattle.vx_tree.specs.Trees.{BoundTree, scope, node, BoundTrees, no_bound, bound, WellTyped, EachWellTyped, Over, EachOver}
 use Rattle.vx_rewrite_keep.specs.Steps.{Normal, EachNormal}
-use Rattle.vx_rewrite_branch_rules.specs.Branches.{BranchRuleAt}
+use Rattle.vx_rewrite_rules.specs.Rules.{RuleAt}
 use Rattle.vx_query_split.specs.Division.{Parts}
 use Rattle.vx_scan.specs.Plans.{IsPlan}
 
@@ -54,4 +54,4 @@ module _ (R : BoundTree → BoundTree → Type 0) where
     each_normal-prop (bound b bs) = ×_prop (normal-prop b) (each_normal-prop bs)
 
 pub plan-prop : (s : LogicalType) (u : BoundTree) (paths : List Path) (split : Option Parts) → IsProp (IsPlan s u paths split)
-plan-prop s u paths split = hlevel (well_typed-prop, over-prop, normal-prop BranchRuleAt, paths-set)
+plan-prop s u paths split = hlevel (well_typed-prop, over-prop, normal-prop RuleAt, paths-set)

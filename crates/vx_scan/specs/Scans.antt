@@ -1,5 +1,5 @@
 -- What a scan answers.
-use Rattle.std.specs.Prelude.{◌≡◌, ◌≢◌, ℕ, List, Option, Some, None, Result, MatchResult, IsErrOf}
+use Rattle.std.specs.Prelude.{◌≡◌, ◌≢◌, List, Option, Some, None, Result, MatchResult, IsErrOf}
 use Rattle.vx_dtype.specs.declared.error.VortexError.{VortexError}
 use Rattle.vx_dtype.specs.declared.error.VortexError.TheVariants.{OutOfMemory, ScopeMismatch}
 use Rattle.vx_dtype.specs.Answers.{Answers}
@@ -8,8 +8,7 @@ use Rattle.vx_value.specs.Paths.{Path, minimal_paths}
 use Rattle.vx_value.specs.Types.{LogicalType}
 use Rattle.vx_tree.specs.Faults.{HasNoFault}
 use Rattle.vx_tree.specs.Trees.{Tree, BoundTree, node_type}
-use Rattle.vx_rewrite_keep.specs.Steps.{Steps}
-use Rattle.vx_rewrite_branch_rules.specs.Branches.{BranchRuleAt}
+use Rattle.vx_rewrite_keep.specs.Keeps.{Keeps}
 use Rattle.vx_eval.specs.Evaluation.{evaluation}
 use Rattle.vx_scan_kept.specs.Kept.{kept_batch}
 use Rattle.vx_query_split.specs.Division.{Parts}
@@ -21,9 +20,9 @@ abbrev pub planned_evaluation : Option Parts → BoundTree → Batch → Result 
 planned_evaluation None u c = evaluation u c
 planned_evaluation (Some p) u c = split_evaluation p.names p.partitions p.root c
 
--- for each source that steps of the rules lead to the tree u, and that doesn't fault on the batch, the source's meaning in each row
+-- for each source that the tree u keeps, bound, and that doesn't fault on the batch, the source's meaning in each row
 abbrev pub KeepsMeaning : BoundTree → Batch → Result Batch VortexError → Type 0
-KeepsMeaning u c result = (e : Tree) (b : BoundTree) (n : ℕ) → IsBound e c.type b → Steps BranchRuleAt b n u → HasNoFault b c.rows → IsMeantBy e c result
+KeepsMeaning u c result = (e : Tree) (b : BoundTree) → IsBound e c.type b → Keeps b u → HasNoFault b c.rows → IsMeantBy e c result
 
 -- a column where the tree doesn't fault on the batch, unless memory ran out, and none where it does
 abbrev pub IsRefusedWhere : BoundTree → Batch → Result Batch VortexError → Type 0

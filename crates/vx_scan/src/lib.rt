@@ -4,5 +4,5 @@
 mod planned;
 mod scanned;
 
-pub use planned::{ScanPlan, plan};
+pub use planned::{ScanPlan, plan, plan_with};
 pub use scanned::scan;

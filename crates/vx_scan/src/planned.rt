@@ -1,7 +1,8 @@
 // A query, planned for scans.
 ghost use Rattle.std.specs.Prelude.{◌≡◌, ◌⊎◌, Err, IfErr, IfOk, option_map};
 ghost use Rattle.vx_dtype.specs.declared.error.VortexError.TheVariants.{OutOfMemory};
-ghost use Rattle.vx_scan.specs.Plans.{IsPlan, IsPlanFor};
+ghost use Rattle.vx_rewrite_branch_rules.specs.Branches.{BranchRuleAt};
+ghost use Rattle.vx_scan.specs.Plans.{IsPlan, IsPlanFor, LeavesNormal};
 ghost use Rattle.vx_scan.specs.Propositions.{plan-prop};
 ghost use Rattle.vx_query_split.specs.Division.{parts_of};
 ghost use Rattle.vx_tree.specs.Trees.{typed};
@@ -11,6 +12,7 @@ ghost use Rattle.vx_value.specs.Views.{type_of};
 use std::alloc::Global;
 use vx_query_split::split_by_fields;
 use vx_rewrite_branches::BranchRules;
+use vx_rewrite_keep::Rule;
 use vx_rewrite_optimizer::optimized;
 use vx_rewrite_paths::referenced_field_paths;
 use vx_rewrite_split::BoundPartitionedExpr;
@@ -18,8 +20,8 @@ use vx_scan_kept::ColumnReader;
 use vx_tree::{BoundExpression, Expression, FieldName};
 use vx_types::{Column, DType, FieldPathSet, VortexResult};
 
-/// A query over batches of one type, made ready to be scanned: its tree, at no node of which a rule
-/// fits, the paths that this references, and its split by the fields that its nodes read.
+/// A query over batches of one type, made ready to be scanned: its tree, at no node of which a
+/// standard rule fits, the paths that this references, and its split by the fields that its nodes read.
 #[derive(Drop)]
 pub struct ScanPlan {
     scope: DType,
@@ -71,18 +73,37 @@ impl ScanPlan {
     }
 }
 
-/// The plan of a source over batches of that type: the source is bound, optimized by the
-/// [`BranchRules`] at every node, and split by the fields of the scope that its nodes read, where
-/// these cover it.
+/// The plan of a source over batches of that type, by the [`BranchRules`]: see [`plan_with`].
 ///
 /// Refuses with the source's first refusal (2 to 11, but 3) exactly where it has no type over the
 /// scope's, and with `OutOfMemory` (1).
 pub fn plan(alloc: Global, source: &Expression, scope: &DType) -> VortexResult<ScanPlan>
-    ensures planned { IfOk result (λ p. IsPlanFor (tree_of source.now) (type_of scope.now) (type_of p.scope) (bound_of p.tree)) }
+    ensures planned { IfOk result (λ p. IsPlanFor BranchRuleAt (tree_of source.now) (type_of scope.now) (type_of p.scope) (bound_of p.tree)) }
+    ensures refusal { IfErr result (λ y. (y ≡ OutOfMemory) ⊎ (typed (tree_of source.now) (type_of scope.now) ≡ Err y)) }
+{
+    plan_with(alloc, &BranchRules, source, scope)
+}
+
+/// The plan of a source over batches of that type: the source is bound, optimized by the rules at
+/// every node, and split by the fields of the scope that its nodes read, where these cover it.
+///
+/// Asks rules beside the standard ones: a tree at no node of which one of them fits is one at no node
+/// of which a standard rule does. So are [`BranchRules`] and the folding rules.
+///
+/// Refuses with the source's first refusal (2 to 11, but 3) exactly where it has no type over the
+/// scope's, and with `OutOfMemory` (1).
+pub fn plan_with<R: Rule>(
+    alloc: Global,
+    rules: &R,
+    source: &Expression,
+    scope: &DType,
+) -> VortexResult<ScanPlan>
+    requires { LeavesNormal (R.gives rules.now) }
+    ensures planned { IfOk result (λ p. IsPlanFor (R.gives rules.now) (tree_of source.now) (type_of scope.now) (type_of p.scope) (bound_of p.tree)) }
     ensures refusal { IfErr result (λ y. (y ≡ OutOfMemory) ⊎ (typed (tree_of source.now) (type_of scope.now) ≡ Err y)) }
 {
     let bound = source.bind(alloc, scope)?;
-    let tree = optimized(alloc, &BranchRules, &bound)?;
+    let tree = optimized(alloc, rules, &bound)?;
     drop(bound);
     let paths = referenced_field_paths(alloc, &tree)?;
     let split = split_by_fields(alloc, &tree, scope)?;

@@ -10,6 +10,8 @@ const ITEM: &str = "pack(r: x >= 0 and x < 10).r";
 
 const CASE: &str = "case when true then pack(r: x >= 0 and x < 10).r else false end";
 
+const KNOWN: &str = "x >= -1 + 1 and not not (x < 10 or false)";
+
 /// Asserts what the passes leave of the tree over `{x=i32?}`, and that what shares the tree stays as
 /// it was.
 fn leave(
@@ -39,7 +41,8 @@ fn run_passes_of_each_pass(rt: HostRuntime) -> Result<(), Fail> {
     leave(&rt, alloc, &[Pass::OptimizeRecursive], ITEM, range)?;
     let fused = "CASE WHEN true THEN pack(r: (0i32 <= $.x < 10i32)).r ELSE false END";
     leave(&rt, alloc, &[Pass::FindBetween], CASE, fused)?;
-    leave(&rt, alloc, &[Pass::Branches], CASE, range)
+    leave(&rt, alloc, &[Pass::Branches], CASE, range)?;
+    leave(&rt, alloc, &[Pass::Fold], KNOWN, range)
 }
 
 #[test]

@@ -10,7 +10,8 @@ use crate::told::{agreed, barred, push_rows, refused, typed};
 use std::alloc::Global;
 use vx_eval::apply_bound;
 use vx_rewrite::{
-    BranchRules, Optimize, Pass, Rule, StandardRules, find_between, optimize_with, run_passes,
+    BranchRules, FoldingRules, Optimize, Pass, Rule, StandardRules, find_between, optimize_with,
+    run_passes,
 };
 use vx_test_samples::Unread;
 use vx_tree::{BoundExpression, Column, Expression, VortexError, VortexResult};
@@ -34,6 +35,9 @@ pub fn answer(alloc: Global, kind: BoundKind, scene: &Scene, tree: &str) -> Resu
         | BoundKind::ByBranches
         | BoundKind::ByBranchesRows
         | BoundKind::ByBranchesOrNone
+        | BoundKind::Folded
+        | BoundKind::FoldedRows
+        | BoundKind::FoldedOrNone
         | BoundKind::Fused
         | BoundKind::FusedRows => rewritten(alloc, kind, scene, &bound),
         BoundKind::Paths
@@ -122,7 +126,11 @@ fn rewritten(
         BoundKind::ByBranches | BoundKind::ByBranchesRows => {
             by_rules(alloc, kind, scene, &BranchRules, bound)
         }
-        BoundKind::ByBranchesOrNone => by_branches_or_none(alloc, bound),
+        BoundKind::ByBranchesOrNone => passed_or_none(alloc, Pass::Branches, &BranchRules, bound),
+        BoundKind::Folded | BoundKind::FoldedRows => {
+            by_rules(alloc, kind, scene, &FoldingRules, bound)
+        }
+        BoundKind::FoldedOrNone => passed_or_none(alloc, Pass::Fold, &FoldingRules, bound),
         BoundKind::Fused | BoundKind::FusedRows => fused(alloc, kind, scene, bound),
         _ => optimized(alloc, kind, scene, bound),
     }
@@ -166,7 +174,9 @@ fn typed_or_rows(
     requires { WellTyped (bound_of left.now) }
 {
     match kind {
-        BoundKind::OptimizedRows | BoundKind::ByBranchesRows => rows(alloc, scene, left),
+        BoundKind::OptimizedRows | BoundKind::ByBranchesRows | BoundKind::FoldedRows => {
+            rows(alloc, scene, left)
+        }
         _ => typed(alloc, left),
     }
 }
@@ -199,11 +209,17 @@ fn optimized_or_none(alloc: Global, bound: &BoundExpression) -> VortexResult<Str
     agreed(alloc, tried, by_rules)
 }
 
-fn by_branches_or_none(alloc: Global, bound: &BoundExpression) -> VortexResult<String>
+// What the rules of a pass give, on which the pass has to agree.
+fn passed_or_none<R: Rule>(
+    alloc: Global,
+    pass: Pass,
+    rules: &R,
+    bound: &BoundExpression,
+) -> VortexResult<String>
     requires { WellTyped (bound_of bound.now) }
 {
-    let passed = run_passes(alloc, bound.clone()?, &[Pass::Branches])?;
-    by_rules_or_none(alloc, &BranchRules, bound, &*Box::new(alloc, passed)?)
+    let passed = run_passes(alloc, bound.clone()?, &[pass])?;
+    by_rules_or_none(alloc, rules, bound, &*Box::new(alloc, passed)?)
 }
 
 // What the rules give, none where no rule fits at any node. What another call leaves has to be the

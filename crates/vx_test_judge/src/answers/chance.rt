@@ -86,13 +86,15 @@ fn agrees(
         Pass::OptimizeRecursive,
         Pass::Branches,
         Pass::Optimize,
+        Pass::Fold,
     ];
-    let queries: [(&[Pass], bool); 7] = [
+    let queries: [(&[Pass], bool); 8] = [
         (&[], false),
         (&[Pass::Optimize], false),
         (&[Pass::OptimizeRecursive], false),
         (&[Pass::FindBetween], false),
         (&[Pass::Branches], false),
+        (&[Pass::Fold], false),
         (&[], true),
         (&all, true),
     ];

@@ -14,8 +14,8 @@ pub struct Plan {
     pub split: bool,
 }
 
-/// The plan of the words: `root`, `all`, `fuse` and `branches` for passes, `none` for none, and at
-/// last `split`.
+/// The plan of the words: `root`, `all`, `fuse`, `branches` and `fold` for passes, `none` for none,
+/// and at last `split`.
 pub fn read_plan(alloc: Global, words: &str) -> Result<Plan, Unread> {
     let mut passes = Vec::new(alloc);
     let mut split = false;
@@ -25,6 +25,7 @@ pub fn read_plan(alloc: Global, words: &str) -> Result<Plan, Unread> {
             "all" => passes.push(Pass::OptimizeRecursive)?,
             "fuse" => passes.push(Pass::FindBetween)?,
             "branches" => passes.push(Pass::Branches)?,
+            "fold" => passes.push(Pass::Fold)?,
             "split" => split = true,
             "none" => {}
             _ => return Err(Unread::Word("no pass")),
@@ -55,6 +56,7 @@ pub fn any_query(alloc: Global, scene: &Scene, source: &Expression) -> VortexRes
         Pass::OptimizeRecursive,
         Pass::FindBetween,
         Pass::Branches,
+        Pass::Fold,
     ];
     let none = split_or_not(alloc, scene, source, Vec::new(alloc))?;
     let mut told = String::from_str(alloc, none.as_str())?;

@@ -1,11 +1,9 @@
-use Rattle.std.proofs.Common.{◌≡◌, ◌≢◌, ◌∙◌, IfOk, replicate, map, sym, ap, subst, true, false, Ok, Err}
+use Rattle.std.proofs.Common.{◌≡◌, ◌≢◌, ◌∙◌, IfOk, replicate, sym, ap, subst, true, false}
 use Rattle.vx_value.specs.Views.{type_of}
 use Rattle.vx_fn.specs.Functions.{is_truth}
-use Rattle.vx_fn.specs.Values.{is_true}
 use Rattle.vx_tree.specs.Trees.{Over, node_type}
 use Rattle.vx_tree.specs.Views.{bound_of}
 use Rattle.vx_scan.proofs.Scanning.{differs, agrees}
-use Rattle.vx_scan.specs.Scans.{IsRefusedWhere, KeepsMeaning}
 use Rattle.vx_prune_tree.specs.Verdicts.{VerdictHolds, verdict_in}
 use Rattle.vx_prune.proofs.Selecting.{mismatched, no_truth, no_row_selected, every_row_selected, read_selected, unread_selected}
 use Rattle.vx_prune.proofs.selected.select_to_end.Goals as goal

@@ -1,10 +1,9 @@
--- The records of the chunk are the next ones.
-use Rattle.std.proofs.Common.{◌≡◌, refl, map, ◌∙◌, sym, ap, subst}
+-- The rows of the batch are those of the next records.
+use Rattle.std.proofs.Common.{refl, ◌∙◌, sym, ap, subst}
 use Rattle.vx_value.specs.Columns.{Batch}
 use Rattle.vx_tree.specs.Trees.{unbound}
 use Rattle.vx_tree.specs.Views.{bound_of}
 use Rattle.vx_records.specs.Chunks.{AreAnswers}
-use Rattle.vx_records.specs.Records.{record_of}
 use Rattle.vx_records.proofs.Meaning.{meanings_of}
 use Rattle.vx_records.proofs.Stopping.{fault_there}
 use Rattle.vx_records.proofs.answers.next_answers.Goals as goal
@@ -12,10 +11,12 @@ use Rattle.vx_records.proofs.answers.next_answers.Goals as goal
 pub returns-in_ok-new-in-Ok-clause-read : goal.returns-in_ok-new-in-Ok-clause-read
 returns-in_ok-new-in-Ok-clause-read g c =
     let e = unbound (bound_of c.args.tree.now) in
-    let rs = map record_of c.in_ok-read.field-0.records.items in
-    let meant = meanings_of e _ _ rs c.deref.result.now _ _ c.in-Ok.ensures.ok (c.deref.ensures ∙ c.in_ok-batch.ensures.ok) (c.dtype.ensures ∙ c.read_chunk.ensures.scope) c.in_ok-texts.ensures.rows in
-    subst (AreAnswers g.R.RecordReader.leaves c.args.count e (g.R.RecordReader.scope c.args.records.now) c.args.records.now c.read_chunk.new.records) (sym c.in_ok-new-in-Ok.ensures.ok) (rs, c.in_ok-read.ensures.read, c.in_ok-texts.ensures.texts, meant)
+    let (rs, next, (texts, over), fit, few) = c.in_ok-texts.ensures.read in
+    let meant = meanings_of e _ _ rs c.deref.result.now _ _ c.in-Ok.ensures.ok (c.deref.ensures ∙ over) refl refl in
+    subst (AreAnswers g.R.RecordReader.leaves c.args.count e (g.R.RecordReader.scope c.args.records.now) c.args.records.now c.next_batch.new.records) (sym c.in_ok-new-in-Ok.ensures.ok) (rs, next, texts, meant)
 
 pub returns-in-Err-clause-fault : goal.returns-in-Err-clause-fault
-returns-in-Err-clause-fault g c = fault_there g.R.RecordReader.leaves (bound_of c.args.tree.now) c.args.count c.args.records.now _ c.in_ok-read.field-0.stop c.in-Err.e _ (map record_of c.in_ok-read.field-0.records.items) c.in_ok-read.ensures.read
-    (ap (λ (b : Batch). b.rows) (c.deref.ensures ∙ c.in_ok-batch.ensures.ok) ∙ c.in_ok-texts.ensures.rows) c.in-Err.ensures.err
+returns-in-Err-clause-fault g c =
+    let (rs, next, (texts, over), fit, few) = c.in_ok-texts.ensures.read in
+    fault_there g.R.RecordReader.leaves (bound_of c.args.tree.now) c.args.count c.args.records.now _ c.in_ok-texts.field-0.stop c.in-Err.e _ rs next
+    (ap (λ (b : Batch). b.rows) (c.deref.ensures ∙ over)) c.in-Err.ensures.err

@@ -1,9 +1,9 @@
 -- Each step goes on where the one before it ended.
-use Rattle.std.proofs.Common.{◌≡◌, List, [], subst, sym, ◌∙◌, arith}
+use Rattle.std.proofs.Common.{[], subst, ◌∙◌, arith}
 use Rattle.vx_tree.specs.Trees.{unbound}
 use Rattle.vx_tree.specs.Views.{bound_of}
 use Rattle.vx_records.specs.Outcomes.{Gains}
-use Rattle.vx_records.specs.Records.{Record, meanings}
+use Rattle.vx_records.specs.Records.{meanings}
 use Rattle.vx_records.proofs.Going.{reads_none}
 use Rattle.vx_records.proofs.Stopping.{ends_all, goes_on, stops_on}
 use Rattle.vx_records.proofs.Written.{gains_on}

@@ -1,5 +1,5 @@
 -- The next records are read, and what the tree means at them is written.
-use Rattle.std.proofs.Common.{◌≡◌, subst, ap, ◌∙◌}
+use Rattle.std.proofs.Common.{subst, ap, ◌∙◌}
 use Rattle.vx_records.specs.declared.answers.Answers.{Answers}
 use Rattle.vx_records.specs.Outcomes.{Gains}
 use Rattle.vx_records.proofs.Stopping.{err_map, next_reads, stops_first, stops_next}

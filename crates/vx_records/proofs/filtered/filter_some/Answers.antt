@@ -1,7 +1,6 @@
 -- The next records are read, and those of them that are kept are written.
-use Rattle.std.proofs.Common.{◌≡◌, List, [], refl, subst, ap, sym, ◌∙◌, length}
+use Rattle.std.proofs.Common.{◌≡◌, Err, [], subst, ap, ◌∙◌, rules}
 use Rattle.std.proofs.KnownBytes.{Appends-nil}
-use Rattle.std.proofs.lemmas.List.{length-map}
 use Rattle.std.specs.Io.KnownBytes.{Appends}
 use Rattle.vx_tree.specs.Trees.{unbound}
 use Rattle.vx_tree.specs.Views.{bound_of}
@@ -10,7 +9,7 @@ use Rattle.vx_records.specs.Outcomes.{Breaks}
 use Rattle.vx_records.specs.declared.answers.Answers.{Answers}
 use Rattle.vx_records.proofs.Going.{reads_none}
 use Rattle.vx_records.proofs.Keeping.{count_of, kept_read}
-use Rattle.vx_records.proofs.Stopping.{err_map, next_reads, ok_map, step_next, stops_first, stops_next}
+use Rattle.vx_records.proofs.Stopping.{err_map, next_reads, ok_map, on_failed, step_next, stops_broken, stops_first, stops_next}
 use Rattle.vx_records.proofs.filtered.filter_some.Goals as goal
 
 pub returns-in-Err-clause-stopped : goal.returns-in-Err-clause-stopped
@@ -19,14 +18,16 @@ returns-in-Err-clause-stopped g c = stops_first g.R.RecordReader.leaves _ _ c.in
 pub returns-in-Err-lines_of-clause-stopped : goal.returns-in-Err-lines_of-clause-stopped
 returns-in-Err-lines_of-clause-stopped g c = (c.args.records.now, [], reads_none (g.R.RecordReader.leaves c.args.records.now), Appends-nil (g.W.Write.contents c.args.out.now))
 
-pub returns-in-Err-write_bytes-clause-stopped : goal.returns-in-Err-write_bytes-clause-stopped
-returns-in-Err-write_bytes-clause-stopped g c =
+pub returns-in_err-write_text-clause-stopped : goal.returns-in_err-write_text-clause-stopped
+returns-in_err-write_text-clause-stopped g c =
     let (rs, next, texts, meant) = c.in-Ok.ensures.read in
     let (mid, reads) = next_reads g.R.RecordReader.leaves c.args.count c.args.records.now _ _ rs next in
     let read = ap texts_in (c.as_slice.ensures.value ∙ ap (λ (a : Answers). a.texts.items) c.deref.ensures) ∙ texts in
     let values = c.rows.ensures.rows ∙ ap (λ (a : Answers). a.values.rows) c.deref-2.ensures ∙ meant in
     let kept = kept_read (unbound (bound_of c.args.tree.now)) (g.R.RecordReader.scope c.args.records.now) rs _ _ _ _ (c.as_slice-2.ensures.value ∙ c.in-Ok-lines_of.ensures) read values (count_of rs _ read) in
-    (mid, rs, reads, subst (Breaks (g.W.Write.contents c.args.out.now) (g.W.Write.contents c.write_bytes.new.out)) kept c.in-Err-write_bytes.ensures.part)
+    let (is, broke) = c.in_err-write_text.ensures.part in
+    let failed : c.from_residual.result ≡ Err c.in_err-write_text.field-0.0 = search rules in
+    on_failed _ c.in_err-write_text.field-0.0 _ failed (stops_broken g.R.RecordReader.leaves _ c.args.records.now mid _ rs _ _ reads (subst (Breaks (g.W.Write.contents c.args.out.now) (g.W.Write.contents c.write_text.new.out)) kept broke) is)
 
 pub returns-clause-step : goal.returns-clause-step
 returns-clause-step g c =
@@ -34,7 +35,7 @@ returns-clause-step g c =
     let read = ap texts_in (c.as_slice.ensures.value ∙ ap (λ (a : Answers). a.texts.items) c.deref.ensures) ∙ texts in
     let values = c.rows.ensures.rows ∙ ap (λ (a : Answers). a.values.rows) c.deref-2.ensures ∙ meant in
     let kept = kept_read (unbound (bound_of c.args.tree.now)) (g.R.RecordReader.scope c.args.records.now) rs _ _ _ _ (c.as_slice-2.ensures.value ∙ c.in-Ok-lines_of.ensures) read values (count_of rs _ read) in
-    ok_map c.ended.result _ _ (λ last is. step_next g.R.RecordReader.leaves c.args.count c.args.records.now _ _ last _ rs _ next is (count_of rs _ texts) (subst (Appends (g.W.Write.contents c.args.out.now) (g.W.Write.contents c.write_bytes.new.out)) kept c.in_default.ensures.whole)) c.ended.ensures.ok
+    ok_map c.ended.result _ _ (λ last is. step_next g.R.RecordReader.leaves c.args.count c.args.records.now _ _ last _ rs _ next is (count_of rs _ texts) (subst (Appends (g.W.Write.contents c.args.out.now) (g.W.Write.contents c.write_text.new.out)) kept c.in_ok-write_text.ensures.whole)) c.ended.ensures.ok
 
 pub returns-clause-stopped : goal.returns-clause-stopped
 returns-clause-stopped g c =
@@ -42,4 +43,4 @@ returns-clause-stopped g c =
     let read = ap texts_in (c.as_slice.ensures.value ∙ ap (λ (a : Answers). a.texts.items) c.deref.ensures) ∙ texts in
     let values = c.rows.ensures.rows ∙ ap (λ (a : Answers). a.values.rows) c.deref-2.ensures ∙ meant in
     let kept = kept_read (unbound (bound_of c.args.tree.now)) (g.R.RecordReader.scope c.args.records.now) rs _ _ _ _ (c.as_slice-2.ensures.value ∙ c.in-Ok-lines_of.ensures) read values (count_of rs _ read) in
-    err_map c.ended.result _ _ (λ e fine. stops_next g.R.RecordReader.leaves _ c.args.count c.args.records.now _ _ e rs _ _ next (subst (Appends (g.W.Write.contents c.args.out.now) (g.W.Write.contents c.write_bytes.new.out)) kept c.in_default.ensures.whole) fine) c.ended.ensures.err
+    err_map c.ended.result _ _ (λ e fine. stops_next g.R.RecordReader.leaves _ c.args.count c.args.records.now _ _ e rs _ _ next (subst (Appends (g.W.Write.contents c.args.out.now) (g.W.Write.contents c.write_text.new.out)) kept c.in_ok-write_text.ensures.whole) fine) c.ended.ensures.err

@@ -1,0 +1,4 @@
+pub mod Nullable
+pub mod Shapes
+pub mod Pairs
+pub mod Evaluated

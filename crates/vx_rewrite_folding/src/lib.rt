@@ -1,0 +1,13 @@
+// Folding behind the branch rules, as code: what stands for a node whose value is known before any
+// row is read.
+#![tactic(auto)]
+
+mod cases;
+mod constants;
+mod given;
+mod logic;
+mod nulls;
+mod rules;
+mod single;
+
+pub use rules::FoldingRules;

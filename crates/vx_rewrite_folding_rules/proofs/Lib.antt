@@ -1,0 +1,11 @@
+pub mod Constants
+pub mod Pairs
+pub mod Folds
+pub mod Logic
+pub mod Nulls
+pub mod Undone
+pub mod Cases
+pub mod Keeping
+pub mod Lightening
+pub mod Modesty
+pub mod Lawfulness
