@@ -1,59 +1,58 @@
 // The program that the guide begins with.
 use std::alloc::Global;
-use std::test::Fail;
 use vx_expr::dtype::Nullability::NonNullable;
 use vx_expr::dtype::PType::I32;
 use vx_expr::prelude::*;
 
 /// What isn't cheap and is nearly sold out, planned for every batch of one schema.
-fn reorders(alloc: Global) -> VortexResult<ScanPlan> {
+fn reorders(alloc: Global) -> VortexResult<Box<ScanPlan>> {
     let fields = [("price", I32.into()), ("stock", I32.into())];
-    let schema = struct_type(alloc, fields, NonNullable)?;
+    let schema = Box::new(alloc, struct_type(alloc, fields, NonNullable)?)?;
     let filter = expr!(in alloc; and(gt_eq(col("price"), lit(10)), lt(col("stock"), lit(5))));
-    plan(alloc, &filter, &schema)
+    let filter = Box::new(alloc, filter)?;
+    Ok(Box::new(alloc, plan(alloc, &filter, &schema)?)?)
 }
 
 #[test]
-fn a_filter_is_planned_and_scanned(rt: HostRuntime) -> Result<(), Fail> {
+fn a_filter_is_planned_and_scanned(rt: HostRuntime) -> VortexResult<()> {
     let alloc = rt.alloc();
-    let planned = Box::new(alloc, reorders(alloc)?)?;
-    let price = FieldPath::from_name(alloc, FieldName::new(alloc, "price")?)?;
-    let stock = FieldPath::from_name(alloc, FieldName::new(alloc, "stock")?)?;
-    assert!(rt; planned.paths().iter().eq([&price, &stock].into_iter()));
-    let split = planned.split().ok_or("no split")?;
-    assert_eq!(rt;
-        split.to_string(alloc)?.as_str(),
-        "root: ($.price.price_0 and $.stock.stock_0) \
-        {price: pack(price_0: ($.price >= 10i32)), stock: pack(stock_0: ($.stock < 5i32))}"
-    );
-
+    let planned = reorders(alloc)?;
     let (price, stock) = (column(alloc, [12, 7, 30])?, column(alloc, [3, 0, 5])?);
     let batch = struct_column(alloc, [("price", price), ("stock", stock)])?;
-    let rows = scan(alloc, &planned.reader_of(alloc, batch)?, &*planned)?;
-    assert_eq!(rt; rows, column(alloc, [true, false, false])?);
+    let reader = Box::new(alloc, planned.reader_of(alloc, batch)?)?;
+    let rows = Box::new(alloc, scan(alloc, &*reader, &planned)?)?;
+    let paths: Vec<&FieldPath> = planned.paths().iter().collect(alloc)?;
+    let split = planned.split().expect(&rt, "a split");
+    let page = format!(in alloc; "{paths:?}\n{split}\n{rows}")?;
+    assert_eq!(rt;
+        page.as_str(),
+        r#"[[Name("price")], [Name("stock")]]
+root: ($.price.price_0 and $.stock.stock_0) {price: pack(price_0: ($.price >= 10i32)), stock: pack(stock_0: ($.stock < 5i32))}
+[true, false, false]"#
+    );
     Ok(())
 }
 
-#[test]
-fn whole(rt: HostRuntime) -> Result<(), Fail> {
-    let alloc = rt.alloc();
-    let fields = [("price", I32.into()), ("stock", I32.into())];
-    let schema = struct_type(alloc, fields, NonNullable)?;
-    let filter = expr!(in alloc; and(gt_eq(col("price"), lit(10)), lt(col("stock"), lit(5))));
-    let planned = plan(alloc, &filter, &schema)?;
-
-    let paths: Vec<&FieldPath> = planned.paths().iter().collect(alloc)?;
-    let split = planned.split().ok_or("no split")?;
-    let text = format!(in alloc; "{paths:?} {split}")?;
-    assert_eq!(rt;
-        text.as_str(),
-        "root: ($.price.price_0 and $.stock.stock_0) \
-        {price: pack(price_0: ($.price >= 10i32)), stock: pack(stock_0: ($.stock < 5i32))}"
-    );
-
+/// Of which rows of a batch that is so.
+fn rows(alloc: Global, planned: &ScanPlan) -> VortexResult<Column> {
     let (price, stock) = (column(alloc, [12, 7, 30])?, column(alloc, [3, 0, 5])?);
     let batch = struct_column(alloc, [("price", price), ("stock", stock)])?;
-    let rows = scan(alloc, &planned.reader_of(alloc, batch)?, &planned)?;
-    assert_eq!(rt; rows, column(alloc, [true, false, false])?);
+    scan(alloc, &planned.reader_of(alloc, batch)?, planned)
+}
+
+#[test]
+fn three(rt: HostRuntime) -> VortexResult<()> {
+    let alloc = rt.alloc();
+    let planned = reorders(alloc)?;
+    let paths: Vec<&FieldPath> = planned.paths().iter().collect(alloc)?;
+    let split = planned.split().expect(&rt, "a split");
+    let rows = Box::new(alloc, rows(alloc, &planned)?)?;
+    let page = format!(in alloc; "{paths:?}\n{split}\n{rows}")?;
+    assert_eq!(rt;
+        page.as_str(),
+        r#"[[Name("price")], [Name("stock")]]
+root: ($.price.price_0 and $.stock.stock_0) {price: pack(price_0: ($.price >= 10i32)), stock: pack(stock_0: ($.stock < 5i32))}
+[true, false, false]"#
+    );
     Ok(())
 }
