@@ -6,6 +6,7 @@
  *     test fuzz N SEED     N random buffers through each call
  *     test time N          the microseconds of vx_plan_json for a filter of ten conjuncts, N times
  */
+#define _DEFAULT_SOURCE
 #define _POSIX_C_SOURCE 200809L
 
 #include "vx.h"
@@ -14,6 +15,7 @@
 #include <stdio.h>
 #include <stdlib.h>
 #include <string.h>
+#include <sys/mman.h>
 #include <time.h>
 
 /* A text and how many bytes it has. */
@@ -231,7 +233,7 @@ static void test_room(void)
             Answered a = answered(call, g);
             size_t needed = a.answer.needed;
             vx_answer answer;
-            EXPECT(called(call, g, NULL, 0, &answer) == (needed ? VX_TOO_SMALL : a.status));
+            EXPECT(needed > 0 && called(call, g, NULL, 0, &answer) == VX_TOO_SMALL);
             EXPECT(answer.needed == needed);
             char *buffer = malloc(needed + 2);
             memset(buffer, '.', needed + 2);
@@ -372,11 +374,10 @@ static const char *const WORDS[] = {
     " then ", " else ", " end", "cast(",    " as i32", "[",   "]",      "{",    "}",       "i32",
     "utf8?",  "x=",   ", ",    "\"x\": ",   "\n",    "{\"rows\": 3", "\"fields\": ", "\xc3\xa4", "\xff"};
 
-/* A text by chance: bytes, words, or a good text with a byte changed, or left out. */
-static Text random_text(const char *good)
+/* A text by chance: bytes, words, or a good text with a byte changed, or cut off. */
+static size_t random_bytes(char *bytes, const char *good)
 {
     size_t kind = below(4), length = 0, most = 1 + below(60);
-    char *bytes = malloc(4096);
     if (kind == 0) {
         for (; length < most; length++)
             bytes[length] = (char)below(256);
@@ -395,36 +396,52 @@ static Text random_text(const char *good)
         else if (below(2))
             length = at;
     }
-    /* exactly as long as it is, so that a sanitizer sees what is read behind it */
-    char *exact = malloc(length ? length : 1);
-    memcpy(exact, bytes, length);
-    free(bytes);
-    return (Text){exact, length};
+    return length;
 }
+
+/* Memory of one size whose last byte stands before a page that no one may touch, so that what is read or
+   written behind a text ends the program, in code without a sanitizer, too. */
+enum { ROOM = 4096 };
+
+static char *guarded(void)
+{
+    char *pages = mmap(NULL, 2 * ROOM, PROT_READ | PROT_WRITE, MAP_PRIVATE | MAP_ANONYMOUS, -1, 0);
+    if (pages == MAP_FAILED || mprotect(pages + ROOM, ROOM, PROT_NONE) != 0)
+        abort();
+    return pages + ROOM;
+}
+
+/* The text by chance, right before the end of guarded memory. */
+static Text guarded_text(char *end, const char *good)
+{
+    char bytes[ROOM];
+    size_t length = random_bytes(bytes, good);
+    memcpy(end - length, bytes, length);
+    return (Text){end - length, length};
+}
+
+static const char *const GOOD_RECORDS[CALLS] = {
+    "x", "x", "x", "x", "{\"x\": 1, \"s\": \"t\"}\n{\"x\": 5, \"s\": \"u\"}",
+    "{\"rows\": 3, \"fields\": {\"x\": {\"nulls\": 1, \"least\": 1, \"greatest\": 5}}}"};
 
 static int fuzz(size_t count, uint64_t seed)
 {
     state = seed;
     size_t ends[VX_BAD_DATA + 1] = {0};
-    static const char *const RECORDS[CALLS] = {"", "", "", "", "{\"x\": 1, \"s\": \"t\"}\n{\"x\": 5, \"s\": \"u\"}",
-        "{\"rows\": 3, \"fields\": {\"x\": {\"nulls\": 1, \"least\": 1, \"greatest\": 5}}}"};
+    char *memory[4] = {guarded(), guarded(), guarded(), guarded()};
     for (Call call = FMT; call < CALLS; call++)
         for (size_t i = 0; i < count; i++) {
-            Given g = {random_text("x + 1 > 5 and s like \"t%\""), random_text("{x=i32?, s=utf8}"),
-                       random_text(RECORDS[call][0] ? RECORDS[call] : "x")};
+            Given g = {guarded_text(memory[0], "x + 1 > 5 and s like \"t%\""),
+                       guarded_text(memory[1], "{x=i32?, s=utf8}"),
+                       guarded_text(memory[2], GOOD_RECORDS[call])};
             size_t room = below(200);
-            char *buffer = malloc(room ? room : 1);
             vx_answer answer = {0};
-            vx_status status = called(call, &g, buffer, room, &answer);
+            vx_status status = called(call, &g, memory[3] - room, room, &answer);
             if (status > VX_BAD_DATA || (status == VX_TOO_SMALL) != (answer.needed > room)) {
                 fprintf(stderr, "%s ends with %u\n", NAMES[call], status);
                 return 1;
             }
             ends[status]++;
-            free(buffer);
-            free((char *)g.expression.bytes);
-            free((char *)g.schema.bytes);
-            free((char *)g.records.bytes);
         }
     printf("fuzz: %zu buffers through each of %d calls:", count, CALLS);
     for (vx_status status = VX_ANSWERED; status <= VX_BAD_DATA; status++)

@@ -1,7 +1,7 @@
 // The call of `eval`.
 ghost use Rattle.std.specs.Prelude.{IfErr};
 ghost use Rattle.vx_call_pages.specs.Endings.{Ends};
-ghost use Rattle.vx_call_rows.specs.RowStops.{StopsRows, IsRowsComplaint};
+ghost use Rattle.vx_call_rows.specs.RowStops.{IsRowsComplaint, RowsStops};
 
 use crate::stop::{Texts, rows_stop};
 use std::alloc::Global;
@@ -21,7 +21,9 @@ pub fn answer_rows(
     records: &[u8],
     buffer: &mut [u8],
     answer: &mut Answer,
-) -> Status {
+) -> Status
+    ensures { Ends (λ _. Unit {0}) (RowsStops (IsRowsComplaint expression.now schema.now) expression.now schema.now) buffer.old result buffer.new answer.new }
+{
     ended(&evaluated(alloc, expression, schema, records), buffer, answer)
 }
 
@@ -30,28 +32,39 @@ fn evaluated(
     expression: &[u8],
     schema: &[u8],
     records: &[u8],
-) -> Result<Vec<u8>, Stop> {
+) -> Result<Vec<u8>, Stop>
+    ensures { IfErr result (RowsStops (IsRowsComplaint expression.now schema.now) expression.now schema.now) }
+{
     let expression = read_text(alloc, Given::Expression, expression)?;
     let schema = read_text(alloc, Given::Schema, schema)?;
-    let texts = Texts {
-        expression,
-        schema,
-        records,
-    };
-    match lines_of(alloc, &texts) {
-        Ok(lines) => Ok(lines),
-        Err(complaint) => Err(rows_stop(alloc, &complaint, &texts)),
+    match rows_of(alloc, expression, schema, records) {
+        Ok(rows) => Ok(rows),
+        Err(complaint) => {
+            let texts = Texts {
+                expression,
+                schema,
+                records,
+            };
+            Err(rows_stop(alloc, &complaint, &texts))
+        }
     }
 }
 
-// The lines of the rows that the expression means.
-fn lines_of(alloc: Global, texts: &Texts<'_>) -> Result<Vec<u8>, RowsComplaint> {
-    let placed = read_expression(alloc, texts.expression)?;
-    let scope = read_schema(alloc, texts.schema)?;
-    let mut records = JsonRecords::new(alloc, Box::into_inner(scope), texts.records);
-    let mut lines = Vec::new(alloc);
-    let mut output = Output::new(alloc, OutputFormat::JsonLines, &mut lines);
+// What the expression means at the records, as lines.
+fn rows_of(
+    alloc: Global,
+    expression: &str,
+    schema: &str,
+    records: &[u8],
+) -> Result<Vec<u8>, RowsComplaint>
+    ensures { IfErr result (IsRowsComplaint expression.now schema.now) }
+{
+    let placed = read_expression(alloc, expression)?;
+    let scope = read_schema(alloc, schema)?;
+    let mut records = JsonRecords::new(alloc, Box::into_inner(scope), records);
+    let mut rows = Vec::new(alloc);
+    let mut output = Output::new(alloc, OutputFormat::JsonLines, &mut rows);
     evaluate(alloc, &placed, u64::MAX, &mut records, &mut output)?;
     unwritten(output.finish(alloc))?;
-    Ok(lines)
+    Ok(rows)
 }

@@ -1,7 +1,8 @@
 // What stops a call that goes over records.
-ghost use Rattle.std.specs.Prelude.{◌⊎◌};
-ghost use Rattle.vx_call_pages.specs.Stops.{IsExhausted};
-ghost use Rattle.vx_call_rows.specs.RowStops.{TellsRows};
+ghost use Rattle.std.specs.Prelude.{◌≡◌, ◌⊎◌};
+ghost use Rattle.vx_call_pages.specs.declared.text.Given.TheVariants.{Records};
+ghost use Rattle.vx_call_pages.specs.Stops.{IsExhausted, text_number};
+ghost use Rattle.vx_call_rows.specs.RowStops.{IsErrorPlace, TellsRows, error_status};
 
 use std::alloc::Global;
 use vx_call_pages::{Given, Place, Status, Stop, place_of, stop_of};
@@ -32,24 +33,43 @@ pub fn rows_stop(alloc: Global, complaint: &RowsComplaint, texts: &Texts<'_>) ->
             let place = place_of(Given::Expression, texts.expression, Span { start: 0, end });
             told(alloc, Status::Refused, place, complaint, texts)
         }
-        RowsComplaint::Records { error, span } => match error {
-            RecordsError::OutOfMemory
-            | RecordsError::Data(DataError::OutOfMemory)
-            | RecordsError::Write(WriteError::OutOfMemory) => Stop::out_of_memory(alloc),
-            RecordsError::Fault(fault) => {
-                let place = Place {
-                    record: fault.line.unwrap_or(0),
-                    ..place_of(Given::Expression, texts.expression, *span)
-                };
-                told(alloc, Status::Faulted, place, complaint, texts)
+        RowsComplaint::Records { error, span } => {
+            let place = place_at(error, *span, texts);
+            match status_of(error) {
+                Status::OutOfMemory => Stop::out_of_memory(alloc),
+                status => told(alloc, status, place, complaint, texts),
             }
-            RecordsError::Data(e) => {
-                told(alloc, Status::BadData, data_place(e, texts.records), complaint, texts)
-            }
-            RecordsError::Write(_) => {
-                told(alloc, Status::BadData, records_place(), complaint, texts)
-            }
-        },
+        }
+    }
+}
+
+// How a call ends that the error stops.
+fn status_of(error: &RecordsError) -> Status
+    ensures { result ≡ error_status error.now }
+{
+    match error {
+        RecordsError::OutOfMemory
+        | RecordsError::Data(DataError::OutOfMemory)
+        | RecordsError::Write(WriteError::OutOfMemory) => Status::OutOfMemory,
+        RecordsError::Fault(_) => Status::Faulted,
+        RecordsError::Data(_) | RecordsError::Write(_) => Status::BadData,
+    }
+}
+
+// What the error is about: of a fault the node in the expression, else a place in the records.
+fn place_at(error: &RecordsError, span: Span, texts: &Texts<'_>) -> Place
+    ensures { IsErrorPlace error.now span texts.now.expression.now result }
+{
+    match error {
+        RecordsError::Fault(fault) => {
+            let mut place = place_of(Given::Expression, texts.expression, span);
+            place.record = fault.line.unwrap_or(0);
+            place
+        }
+        RecordsError::Data(DataError::Unexpected { line, expected, .. }) => {
+            place_on_line(texts.records, *line, byte_of(expected))
+        }
+        _ => in_records(0),
     }
 }
 
@@ -60,7 +80,9 @@ fn told(
     place: Place,
     complaint: &RowsComplaint,
     texts: &Texts<'_>,
-) -> Stop {
+) -> Stop
+    ensures { IsExhausted result ⊎ ((result.status ≡ status) × (result.place ≡ place)) }
+{
     let message = RowsMessage {
         complaint,
         expression: Input {
@@ -76,50 +98,50 @@ fn told(
     Stop::new(alloc, status, place, &message)
 }
 
-// The records, without a place in them.
-fn records_place() -> Place {
-    Place {
-        text: Given::Records.number(),
-        ..Place::nowhere()
-    }
-}
-
-// The place in the records that reading refused.
-fn data_place(error: &DataError, records: &[u8]) -> Place {
-    let DataError::Unexpected { line, expected, .. } = error else {
-        return records_place();
-    };
-    let at = match expected {
+// At which byte of a record something else is expected, where that is known.
+fn byte_of(expected: &Expected) -> usize {
+    match expected {
         Expected::Json { at } | Expected::End { at } => *at,
         _ => 0,
-    };
-    place_on_line(records, *line, at)
+    }
 }
 
 // The place of that byte of a line of the records.
-fn place_on_line(records: &[u8], number: u64, at: usize) -> Place {
-    let mut start = 0;
-    for (index, line) in records.split(|byte| *byte == b'\n').enumerate() {
-        if index as u64 + 1 == number {
+fn place_on_line(records: &[u8], number: u64, at: usize) -> Place
+    ensures { result.text ≡ text_number Records }
+{
+    let mut place = in_records(number);
+    let mut start = 0usize;
+    let mut left = number;
+    for line in records.split(|byte| *byte == b'\n') {
+        left = left.saturating_sub(1);
+        if left == 0 {
             let before = &line[..at.min(line.len())];
-            return Place {
-                text: Given::Records.number(),
-                start: start + before.len(),
-                end: start + line.len(),
-                line: index + 1,
-                column: 1 + before.iter().filter(|byte| begins_character(**byte)).count(),
-                record: number,
-            };
+            place.start = start.saturating_add(before.len());
+            place.end = start.saturating_add(line.len());
+            place.line = usize::try_from(number).unwrap_or(0);
+            place.column = characters(before).saturating_add(1);
+            break;
         }
-        start += line.len() + 1;
+        start = start.saturating_add(line.len()).saturating_add(1);
     }
-    Place {
-        record: number,
-        ..records_place()
-    }
+    place
 }
 
-// Whether a character of UTF-8 begins with the byte.
-fn begins_character(byte: u8) -> bool {
-    byte < 0x80 || byte >= 0xc0
+// The records, at the one that begins on that line, without a place in them.
+fn in_records(number: u64) -> Place
+    ensures { result.text ≡ text_number Records }
+{
+    let mut place = Place::nowhere();
+    place.text = Given::Records.number();
+    place.record = number;
+    place
+}
+
+// How many characters begin in the bytes.
+fn characters(bytes: &[u8]) -> usize {
+    bytes
+        .iter()
+        .filter(|byte| **byte < 0x80 || **byte >= 0xc0)
+        .count()
 }
