@@ -7,8 +7,9 @@ fn main() -> Result<(), Box<dyn Error>> {
     for (index, line) in fs::read_to_string(file)?.lines().enumerate() {
         let line = line.replace('¶', "\n");
         let texts: Vec<&str> = line.split('\t').collect();
-        let [expression, schema, records, statistics] = texts[..] else {
-            return Err("a line hasn't four texts".into());
+        let (expression, schema, records, statistics) = match texts[..] {
+            [expression, schema, records, statistics] => (expression, schema, records, statistics),
+            _ => return Err("a line hasn't four texts".into()),
         };
         let answers = [
             ("fmt", vx::fmt(expression).map(|page| page + "\n")),

@@ -1,2 +1,1 @@
 pub mod RowStops
-pub mod Verdicts

@@ -64,7 +64,9 @@ fn rows_of(
     let mut records = JsonRecords::new(alloc, Box::into_inner(scope), records);
     let mut rows = Vec::new(alloc);
     let mut output = Output::new(alloc, OutputFormat::JsonLines, &mut rows);
-    evaluate(alloc, &placed, u64::MAX, &mut records, &mut output)?;
-    unwritten(output.finish(alloc))?;
+    let meant = evaluate(alloc, &placed, u64::MAX, &mut records, &mut output);
+    let finished = unwritten(output.finish(alloc));
+    meant?;
+    finished?;
     Ok(rows)
 }

@@ -74,12 +74,12 @@ fn place_at(error: &RecordsError, span: Span, texts: &Texts<'_>) -> Place
 }
 
 // The stop with the message of the complaint.
-fn told(
+fn told<'a>(
     alloc: Global,
     status: Status,
     place: Place,
-    complaint: &RowsComplaint,
-    texts: &Texts<'_>,
+    complaint: &'a RowsComplaint,
+    texts: &'a Texts<'a>,
 ) -> Stop
     ensures { IsExhausted result ⊎ ((result.status ≡ status) × (result.place ≡ place)) }
 {
@@ -111,21 +111,28 @@ fn place_on_line(records: &[u8], number: u64, at: usize) -> Place
     ensures { result.text ≡ text_number Records }
 {
     let mut place = in_records(number);
+    if let Some((start, line)) = line_at(records, number) {
+        let before = &line[..at.min(line.len())];
+        place.start = start.saturating_add(before.len());
+        place.end = start.saturating_add(line.len());
+        place.line = usize::try_from(number).unwrap_or(0);
+        place.column = characters(before).saturating_add(1);
+    }
+    place
+}
+
+// The line of that number, from 1 on, behind its first byte.
+fn line_at(records: &[u8], number: u64) -> Option<(usize, &[u8])> {
     let mut start = 0usize;
     let mut left = number;
     for line in records.split(|byte| *byte == b'\n') {
         left = left.saturating_sub(1);
         if left == 0 {
-            let before = &line[..at.min(line.len())];
-            place.start = start.saturating_add(before.len());
-            place.end = start.saturating_add(line.len());
-            place.line = usize::try_from(number).unwrap_or(0);
-            place.column = characters(before).saturating_add(1);
-            break;
+            return Some((start, line));
         }
         start = start.saturating_add(line.len()).saturating_add(1);
     }
-    place
+    None
 }
 
 // The records, at the one that begins on that line, without a place in them.
