@@ -35,10 +35,16 @@ like_part (just c) = like_char c
 abbrev pub is_glob_sign : ℕ → Bool
 is_glob_sign c = c == 42 || (c == 63 || c == 91)
 
--- a character among those that it may be is enclosed: a small letter and its capital where the case is ignored, or a sign alone
+-- a character that is enclosed, alone or with its capital
+abbrev pub enclosed : ℕ → List ℕ
+enclosed c = 91 ∷ c ∷ 93 ∷ []
+
+abbrev pub enclosed_pair : ℕ → List ℕ
+enclosed_pair c = 91 ∷ c ∷ to_ascii_uppercase c ∷ 93 ∷ []
+
+-- a small letter may be a capital, too, where the case is ignored, and a sign is enclosed
 abbrev pub glob_char : Bool → ℕ → List ℕ
-glob_char ignore_case c =
-    if ignore_case && is_ascii_lowercase c then 91 ∷ c ∷ to_ascii_uppercase c ∷ 93 ∷ [] else if is_glob_sign c then 91 ∷ c ∷ 93 ∷ [] else c ∷ []
+glob_char ignore_case c = if ignore_case && is_ascii_lowercase c then enclosed_pair c else if is_glob_sign c then enclosed c else c ∷ []
 
 abbrev pub glob_part : Bool → Part → List ℕ
 glob_part ignore_case any_text = 42 ∷ []

@@ -48,11 +48,17 @@ binary_sql d t is_text adds a b = added_sql d t a b
 abbrev pub below_sql : Bool → List ℕ → List ℕ → List ℕ
 below_sql strict a b = a ++ (codes " " ++ (bound_text strict ++ (codes " " ++ b)))
 
+-- what says that a text before it is from one bound to another, and two texts that both have to hold
+abbrev pub range_sql : List ℕ → List ℕ → List ℕ
+range_sql l u = codes " BETWEEN " ++ (l ++ (codes " AND " ++ u))
+
+abbrev pub both_sql : List ℕ → List ℕ → List ℕ
+both_sql a b = codes "(" ++ (a ++ (codes " AND " ++ (b ++ codes ")")))
+
 -- a text between two bounds: by one word where both are let in, else by two comparisons
 abbrev pub between_sql : Dialect → Bool → Bool → Bool → List ℕ → List ℕ → List ℕ → List ℕ
-between_sql d is_text false false v l u = codes "(" ++ (compared_sql d is_text v ++ (codes " BETWEEN " ++ (l ++ (codes " AND " ++ (u ++ codes ")")))))
-between_sql d is_text ls us v l u =
-    codes "(" ++ (below_sql ls (compared_sql d is_text l) v ++ (codes " AND " ++ (below_sql us (compared_sql d is_text v) u ++ codes ")")))
+between_sql d is_text false false v l u = codes "(" ++ (compared_sql d is_text v ++ (range_sql l u ++ codes ")"))
+between_sql d is_text ls us v l u = both_sql (below_sql ls (compared_sql d is_text l) v) (below_sql us (compared_sql d is_text v) u)
 
 -- ---- tests
 
@@ -118,6 +124,12 @@ abbrev pub match_sql : Dialect → Bool → Bool → List ℕ → List ℕ → L
 match_sql d negated ignore_case c pattern =
     before_matched d ignore_case ++ (c ++ (behind_matched d ignore_case ++ (like_sign d negated ++ (pattern ++ like_end d))))
 
+-- ---- choices
+
+-- the value where the condition is true, and what follows
+abbrev pub choice_sql : List ℕ → List ℕ → List ℕ → List ℕ
+choice_sql condition value rest = codes "CASE WHEN " ++ (condition ++ (codes " THEN " ++ (value ++ rest)))
+
 -- ---- structs
 
 -- a column of the row, or a field of a struct
@@ -148,14 +160,14 @@ own_sql d t (literal u v) bs cs = literal_sql d v u
 own_sql d t (pack names n) bs cs = pack_word d ++ (with_commas (fields_sql d names cs) ++ codes ")")
 own_sql d t (select selection) bs cs = []
 own_sql d t fill_null bs cs = codes "COALESCE(" ++ (get_or cs 0 [] ++ (codes ", " ++ (get_or cs 1 [] ++ codes ")")))
-own_sql d t zip bs cs = codes "CASE WHEN " ++ (get_or cs 2 [] ++ (codes " THEN " ++ (get_or cs 0 [] ++ (codes " ELSE " ++ (get_or cs 1 [] ++ codes " END")))))
+own_sql d t zip bs cs = choice_sql (get_or cs 2 []) (get_or cs 0 []) (codes " ELSE " ++ (get_or cs 1 [] ++ codes " END"))
 own_sql d t (binary op) bs cs = binary_sql d t (has_text_first bs) op (get_or cs 0 []) (get_or cs 1 [])
 own_sql d t logical_not bs cs = codes "(NOT " ++ (get_or cs 0 [] ++ codes ")")
 own_sql d t (between ls us) bs cs = between_sql d (has_text_first bs) ls us (get_or cs 0 []) (get_or cs 1 []) (get_or cs 2 [])
 own_sql d t (like negated ci) bs cs = match_sql d negated ci (get_or cs 0 []) (second_pattern d ci bs)
 own_sql d t is_null bs cs = null_test d (has_struct_first bs) true (get_or cs 0 [])
 own_sql d t is_not_null bs cs = null_test d (has_struct_first bs) false (get_or cs 0 [])
-own_sql d t mask bs cs = codes "CASE WHEN " ++ (get_or cs 1 [] ++ (codes " THEN " ++ (get_or cs 0 [] ++ codes " END")))
+own_sql d t mask bs cs = choice_sql (get_or cs 1 []) (get_or cs 0 []) (codes " END")
 own_sql d t (cast u) bs cs = get_or cs 0 []
 
 -- the text of a node; over another number of children it has none

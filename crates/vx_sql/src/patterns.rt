@@ -1,11 +1,12 @@
 // The patterns of LIKE.
-ghost use Rattle.std.specs.Prelude.{◌≡◌, ◌<◌, ◌∷◌, [], length, encode_utf8_all, MatchOption, IfSome};
+ghost use Rattle.std.specs.Prelude.{◌≡◌, ◌<◌, ◌∷◌, ◌&&◌, [], length, encode_utf8_all, MatchOption, IfSome};
+ghost use Rattle.std.specs.Char.{is_ascii_lowercase};
 ghost use Rattle.std.specs.Fmt.{WritesOnOk};
 ghost use Rattle.std.specs.List.{flat_map};
 ghost use Rattle.vx_fn.specs.Values.{part_of};
 ghost use Rattle.vx_eval_like.specs.Patterns.{characters, spelled_by};
 ghost use Rattle.vx_sql.specs.Quotes.{inside};
-ghost use Rattle.vx_sql.specs.Patterns.{has_globs, is_like_sign, is_glob_sign, like_char, like_part, glob_char, glob_part, part_spelled, parts_spelled, pattern_sql, part_view};
+ghost use Rattle.vx_sql.specs.Patterns.{has_globs, is_like_sign, is_glob_sign, enclosed, enclosed_pair, like_char, like_part, glob_char, glob_part, part_spelled, parts_spelled, pattern_sql, part_view};
 
 use crate::Dialect;
 use crate::characters::split_first;
@@ -104,23 +105,42 @@ impl Spelling {
         }
     }
 
-    // A small letter is enclosed with its capital where the case is ignored, and a sign alone.
+    // A small letter may be a capital, too, where the case is ignored, and a sign is enclosed.
     fn write_glob_char<W: Write>(self, c: char, f: &mut Formatter<W>) -> fmt::Result
         ensures { WritesOnOk W.write_str_gives f.old result (encode_utf8_all (flat_map (inside self.quoting) (glob_char self.ignore_case c))) f.new }
     {
-        if self.ignore_case && c.is_ascii_lowercase() {
-            f.write_str("[")?;
-            self.quoting.write_inside(c, f)?;
-            self.quoting.write_inside(c.to_ascii_uppercase(), f)?;
-            return f.write_str("]");
+        if has_two_cases(c, self.ignore_case) {
+            self.write_enclosed_pair(c, f)
+        } else if is_glob_sign(c) {
+            self.write_enclosed(c, f)
+        } else {
+            self.quoting.write_inside(c, f)
         }
-        if is_glob_sign(c) {
-            f.write_str("[")?;
-            self.quoting.write_inside(c, f)?;
-            return f.write_str("]");
-        }
-        self.quoting.write_inside(c, f)
     }
+
+    fn write_enclosed<W: Write>(self, c: char, f: &mut Formatter<W>) -> fmt::Result
+        ensures { WritesOnOk W.write_str_gives f.old result (encode_utf8_all (flat_map (inside self.quoting) (enclosed c))) f.new }
+    {
+        f.write_str("[")?;
+        self.quoting.write_inside(c, f)?;
+        f.write_str("]")
+    }
+
+    fn write_enclosed_pair<W: Write>(self, c: char, f: &mut Formatter<W>) -> fmt::Result
+        ensures { WritesOnOk W.write_str_gives f.old result (encode_utf8_all (flat_map (inside self.quoting) (enclosed_pair c))) f.new }
+    {
+        f.write_str("[")?;
+        self.quoting.write_inside(c, f)?;
+        self.quoting.write_inside(c.to_ascii_uppercase(), f)?;
+        f.write_str("]")
+    }
+}
+
+// Whether a capital stands for the character, too.
+fn has_two_cases(c: char, ignore_case: bool) -> bool
+    ensures { result ≡ (ignore_case && is_ascii_lowercase c) }
+{
+    ignore_case && c.is_ascii_lowercase()
 }
 
 // Whether the character would stand for others, or make another stand for itself.

@@ -3,7 +3,7 @@ ghost use Rattle.std.specs.Prelude.{◌≡◌, ◌<◌, ◌+◌, ◌++◌, [], l
 ghost use Rattle.std.specs.Fmt.{WritesOnOk};
 ghost use Rattle.vx_fn.specs.Texts.{pairs_sql};
 ghost use Rattle.vx_tree.specs.Texts.{pair_sql};
-ghost use Rattle.vx_sql.specs.SqlTexts.{sqls_of};
+ghost use Rattle.vx_sql.specs.SqlTexts.{sqls_of, choice_sql};
 
 use super::write_child;
 use crate::Dialect;
@@ -70,12 +70,9 @@ pub(super) fn write_zip<W: Write>(
 ) -> fmt::Result
     requires { length children.now ≡ 3 }
     ensures { let cs = sqls_of dialect children.now in WritesOnOk W.write_str_gives f.old result
-        (codes "CASE WHEN " ++ (get_or cs 2 [] ++ (codes " THEN " ++ (get_or cs 0 [] ++ (codes " ELSE " ++ (get_or cs 1 [] ++ codes " END")))))) f.new }
+        (choice_sql (get_or cs 2 []) (get_or cs 0 []) (codes " ELSE " ++ (get_or cs 1 [] ++ codes " END"))) f.new }
 {
-    f.write_str("CASE WHEN ")?;
-    write_child(dialect, children, 2, f)?;
-    f.write_str(" THEN ")?;
-    write_child(dialect, children, 0, f)?;
+    write_choice(dialect, children, 2, f)?;
     f.write_str(" ELSE ")?;
     write_child(dialect, children, 1, f)?;
     f.write_str(" END")
@@ -90,13 +87,28 @@ pub(super) fn write_mask<W: Write>(
 ) -> fmt::Result
     requires { length children.now ≡ 2 }
     ensures { let cs = sqls_of dialect children.now in WritesOnOk W.write_str_gives f.old result
-        (codes "CASE WHEN " ++ (get_or cs 1 [] ++ (codes " THEN " ++ (get_or cs 0 [] ++ codes " END")))) f.new }
+        (choice_sql (get_or cs 1 []) (get_or cs 0 []) (codes " END")) f.new }
+{
+    write_choice(dialect, children, 1, f)?;
+    f.write_str(" END")
+}
+
+// The first child where the one at the index is true.
+#[cycle(text)]
+fn write_choice<W: Write>(
+    dialect: Dialect,
+    children: &[BoundExpression],
+    condition: usize,
+    f: &mut Formatter<W>,
+) -> fmt::Result
+    requires { condition < length children.now }
+    ensures { let cs = sqls_of dialect children.now in WritesOnOk W.write_str_gives f.old result
+        (choice_sql (get_or cs condition []) (get_or cs 0 []) []) f.new }
 {
     f.write_str("CASE WHEN ")?;
-    write_child(dialect, children, 1, f)?;
+    write_child(dialect, children, condition, f)?;
     f.write_str(" THEN ")?;
-    write_child(dialect, children, 0, f)?;
-    f.write_str(" END")
+    write_child(dialect, children, 0, f)
 }
 
 // The input, or the fill.

@@ -2,12 +2,12 @@
 ghost use Rattle.std.specs.Prelude.{◌≡◌, ◌<◌, ◌++◌, [], length, get_or, codes};
 ghost use Rattle.std.specs.Fmt.{WritesOnOk};
 ghost use Rattle.vx_value.specs.Views.{type_of};
-ghost use Rattle.vx_fn.specs.Texts.{operator_sql, bound_text};
+ghost use Rattle.vx_fn.specs.Texts.{operator_sql};
 ghost use Rattle.vx_fn.specs.Views.{is_strict, operation_of};
 ghost use Rattle.vx_tree.specs.Views.{bounds_of};
 ghost use Rattle.vx_sql.specs.Children.{has_text_first};
 ghost use Rattle.vx_sql.specs.Sums.{sum_sql};
-ghost use Rattle.vx_sql.specs.SqlTexts.{sqls_of, compared_sql, binary_sql, between_sql};
+ghost use Rattle.vx_sql.specs.SqlTexts.{sqls_of, compared_sql, binary_sql, between_sql, range_sql, both_sql, below_sql};
 
 use super::write_child;
 use crate::Dialect;
@@ -142,44 +142,83 @@ pub(super) fn write_between<W: Write>(
         (between_sql dialect (has_text_first (bounds_of children.now)) (is_strict options.lower_strict) (is_strict options.upper_strict)
         (get_or cs 0 []) (get_or cs 1 []) (get_or cs 2 [])) f.new }
 {
-    match (options.lower_strict, options.upper_strict) {
-        (StrictComparison::NonStrict, StrictComparison::NonStrict) => {
-            f.write_str("(")?;
-            write_compared(dialect, children, 0, f)?;
-            f.write_str(" BETWEEN ")?;
-            write_child(dialect, children, 1, f)?;
-            f.write_str(" AND ")?;
-            write_child(dialect, children, 2, f)?;
-            f.write_str(")")
-        }
-        (lower, upper) => {
-            f.write_str("(")?;
-            write_below(dialect, children, 1, lower, f)?;
-            write_child(dialect, children, 0, f)?;
-            f.write_str(" AND ")?;
-            write_below(dialect, children, 0, upper, f)?;
-            write_child(dialect, children, 2, f)?;
-            f.write_str(")")
-        }
+    match options.lower_strict {
+        StrictComparison::NonStrict => match options.upper_strict {
+            StrictComparison::NonStrict => write_from_to(dialect, children, f),
+            StrictComparison::Strict => write_both(dialect, options, children, f),
+        },
+        StrictComparison::Strict => write_both(dialect, options, children, f),
     }
 }
 
-// One of the children, and the sign between it and what is above it.
+#[cycle(text)]
+fn write_from_to<W: Write>(
+    dialect: Dialect,
+    children: &[BoundExpression],
+    f: &mut Formatter<W>,
+) -> fmt::Result
+    requires { length children.now ≡ 3 }
+    ensures { let cs = sqls_of dialect children.now in WritesOnOk W.write_str_gives f.old result
+        (codes "(" ++ (compared_sql dialect (has_text_first (bounds_of children.now)) (get_or cs 0 []) ++ (range_sql (get_or cs 1 []) (get_or cs 2 []) ++ codes ")"))) f.new }
+{
+    f.write_str("(")?;
+    write_compared(dialect, children, 0, f)?;
+    write_range(dialect, children, f)?;
+    f.write_str(")")
+}
+
+#[cycle(text)]
+fn write_range<W: Write>(
+    dialect: Dialect,
+    children: &[BoundExpression],
+    f: &mut Formatter<W>,
+) -> fmt::Result
+    requires { length children.now ≡ 3 }
+    ensures { let cs = sqls_of dialect children.now in WritesOnOk W.write_str_gives f.old result (range_sql (get_or cs 1 []) (get_or cs 2 [])) f.new }
+{
+    f.write_str(" BETWEEN ")?;
+    write_child(dialect, children, 1, f)?;
+    f.write_str(" AND ")?;
+    write_child(dialect, children, 2, f)
+}
+
+#[cycle(text)]
+fn write_both<W: Write>(
+    dialect: Dialect,
+    options: BetweenOptions,
+    children: &[BoundExpression],
+    f: &mut Formatter<W>,
+) -> fmt::Result
+    requires { length children.now ≡ 3 }
+    ensures { let cs = sqls_of dialect children.now in let is_text = has_text_first (bounds_of children.now) in WritesOnOk W.write_str_gives f.old result
+        (both_sql (below_sql (is_strict options.lower_strict) (compared_sql dialect is_text (get_or cs 1 [])) (get_or cs 0 []))
+        (below_sql (is_strict options.upper_strict) (compared_sql dialect is_text (get_or cs 0 [])) (get_or cs 2 []))) f.new }
+{
+    f.write_str("(")?;
+    write_below(dialect, children, 1, options.lower_strict, 0, f)?;
+    f.write_str(" AND ")?;
+    write_below(dialect, children, 0, options.upper_strict, 2, f)?;
+    f.write_str(")")
+}
+
+// One of the children below another, or not above it.
 #[cycle(text)]
 fn write_below<W: Write>(
     dialect: Dialect,
     children: &[BoundExpression],
-    index: usize,
+    lower: usize,
     strict: StrictComparison,
+    upper: usize,
     f: &mut Formatter<W>,
 ) -> fmt::Result
-    requires { index < length children.now }
-    ensures { WritesOnOk W.write_str_gives f.old result
-        (compared_sql dialect (has_text_first (bounds_of children.now)) (get_or (sqls_of dialect children.now) index [])
-        ++ (codes " " ++ (bound_text (is_strict strict) ++ codes " "))) f.new }
+    requires lower { lower < length children.now }
+    requires upper { upper < length children.now }
+    ensures { let cs = sqls_of dialect children.now in WritesOnOk W.write_str_gives f.old result
+        (below_sql (is_strict strict) (compared_sql dialect (has_text_first (bounds_of children.now)) (get_or cs lower [])) (get_or cs upper [])) f.new }
 {
-    write_compared(dialect, children, index, f)?;
-    write_sign(strict.sign(), f)
+    write_compared(dialect, children, lower, f)?;
+    write_sign(strict.sign(), f)?;
+    write_child(dialect, children, upper, f)
 }
 
 // One of the children, with the engine's word for comparing bytes where the first is a text.
