@@ -24,7 +24,7 @@ use Rattle.vx_tree.specs.Trees.{node, BoundTrees, no_bound, bound, node_types, E
 use Rattle.vx_tree.specs.Views.{bound_of, bounds_of}
 use Rattle.vx_eval.specs.Evaluation.{columns, tree_answer, each_answer}
 use Rattle.vx_eval.specs.PackedItem.{item_answer, PacksAt, place_in_node, place_taken, TakesOut}
-use Rattle.vx_eval.proofs.Transposed.{bound_of-Scalar}
+use Rattle.vx_tree.proofs.Held.{bound_of-Scalar}
 
 -- the first field of a name is the value at the first place of the name
 named_at : (a : Name) (names : List Name) (ts : List LogicalType) (vs : List Datum) (k : ℕ) → length ts ≡ length names → length vs ≡ length names → k < length names →

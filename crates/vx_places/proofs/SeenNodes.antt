@@ -1,5 +1,5 @@
 -- Nodes of trees of the program, and what they stand for.
-use Rattle.std.proofs.Common.{◌≡◌, ℕ, zero, suc, ◌+◌, ◌<◌, ◌≤◌, List, [], ◌∷◌, length, get_or, drop, map, Option, Some, None, refl, sym, ap, ◌∙◌, arith, rules, Vec}
+use Rattle.std.proofs.Common.{◌≡◌, ℕ, zero, suc, ◌+◌, ◌<◌, ◌≤◌, List, [], ◌∷◌, length, get_or, drop, map, Some, None, refl, sym, ap, ◌∙◌, arith, Vec}
 use Rattle.std.specs.declared.alloc.Global.{Global}
 use Rattle.std.specs.declared.rc.Rc.{Rc}
 use Rattle.vx_dtype.specs.declared.dtype.DType.{DType}
@@ -13,15 +13,9 @@ use Rattle.std.proofs.lemmas.List.{drop_more}
 use Rattle.std.specs.Prelude.{option_and_then}
 use Rattle.vx_tree.specs.Nodes.{tree_at, children_of, bound_children_of}
 use Rattle.vx_tree.specs.Trees.{Tree, call, node}
-use Rattle.vx_value.specs.Views.{type_of}
 use Rattle.vx_tree.specs.Views.{tree_of, trees_of, trees_from, bound_of, bounds_of}
+use Rattle.vx_tree.proofs.Held.{bound_of-Scalar, tree_of-Scalar}
 use Rattle.vx_places.specs.Nodes.{node_at}
-
-bound_of-Scalar : (t : DType) (f : ScalarFnRef) (all : Rc (Vec BoundExpression Global) Global) → bound_of (Bound.Scalar t f all) ≡ node (type_of t) (function_of f) (bounds_of all.value.items)
-bound_of-Scalar t f all = search (rules, Bound.the_lemmas)
-
-tree_of-Scalar : (f : ScalarFnRef) (all : Rc (Vec Expression Global) Global) → tree_of (Unbound.Scalar f all) ≡ call (function_of f) (trees_of all.value.items)
-tree_of-Scalar f all = search (rules, Unbound.the_lemmas)
 
 -- a function node over the children that it holds
 pub seen_call : (e : Expression) (f : ScalarFnRef) (all : Rc (Vec Expression Global) Global) (children : List Expression) → e ≡ Unbound.Scalar f all → children ≡ all.value.items → tree_of e ≡ call (function_of f) (trees_of children)

@@ -1,8 +1,7 @@
 -- A CASE without pairs whose condition never holds keeps it: its type is no wider, and its value is the same.
-use Rattle.std.proofs.Common.{◌≡◌, ℕ, zero, suc, ◌+◌, ◌-◌, ◌*◌, ◌≤◌, ◌==◌, List, [], ◌∷◌, length, refl, sym, ap, subst, Bool, true, false, not, arith}
+use Rattle.std.proofs.Common.{◌≡◌, ℕ, ◌+◌, ◌-◌, ◌*◌, List, [], ◌∷◌, length, refl, sym, ap, subst, Bool, true, false, arith}
 use Rattle.std.specs.Prelude.{Some, None, Ok, if◌then◌else◌}
 use Rattle.std.specs.List.{list_all}
-use Rattle.std.proofs.Math.Dec.{eqb-suc-zero}
 use Rattle.std.proofs.lemmas.Bool.{and_parts, and_from, eq-eqb, not-true}
 use Rattle.vx_value.specs.Types.{LogicalType, Datum, with_nullability}
 use Rattle.vx_dtype.proofs.Unions.{above-left}
@@ -16,6 +15,7 @@ use Rattle.vx_tree.specs.Meaning.{value, values}
 use Rattle.vx_tree.specs.Trees.{BoundTree, node, BoundTrees, bound, node_type, node_types, WellTyped, EachWellTyped, EachOver}
 use Rattle.vx_rewrite_keep.proofs.Keeping.{narrower_trans}
 use Rattle.vx_rewrite_keep.specs.Keeps.{Keeps}
+use Rattle.vx_rewrite_rule_sets.proofs.Cases.{UnionBelow, not_zero}
 use Rattle.vx_rewrite_rule_sets.proofs.Prelude.{narrower_refl, fn_type-found, fn_type-only, first_quiet, rest_quiet, children_quiet, CaseTyped, case_typed}
 use Rattle.vx_rewrite_folding_rules.proofs.Pairs.{Without, no_pair, else_alone, left_out, stays}
 use Rattle.vx_rewrite_folding_rules.specs.Folding.{is_idle}
@@ -67,10 +67,6 @@ kept_truths else_alone e = e
 kept_truths (left_out q k) e = kept_truths k (and_parts _ _ e).1
 kept_truths (stays k) e = let p = and_parts _ _ e in and_from _ _ p.0 (kept_truths k p.1)
 
--- the types have a union, which is no wider than w
-abbrev UnionBelow : LogicalType → List LogicalType → LogicalType → Type 0
-UnionBelow a ts w = (u : LogicalType) × (union_all a ts ≡ Some u) × Narrower u w
-
 -- what has a union behind a join has one with both
 behind_join : (a' u : LogicalType) (ts : List LogicalType) (w : LogicalType) → (same_base a' u ≡ true) → UnionBelow (join a' u) ts w → UnionBelow a' (u ∷ ts) w
 behind_join a' u ts w s r = (r.0, rw s r.1, r.2)
@@ -95,10 +91,6 @@ kept_union (stays {x = x} {rest = rest} {kept = kept} k) a' a w p e =
 pub first_truth : {pairs : ℕ} {has_else : Bool} {c a t : LogicalType} {ts : List LogicalType} → FnType (case_when pairs has_else) (c ∷ a ∷ ts) t → is_truth c ≡ true
 first_truth (of_case_else l z d e f) = (and_parts _ _ d).0
 first_truth (of_case l z d e f) = (and_parts _ _ d).0
-
-not_zero : (n : ℕ) → 1 ≤ n → not (n == 0) ≡ true
-not_zero zero h = absurd (omega arith)
-not_zero (suc n) h = rw (eqb-suc-zero n) refl
 
 -- it has a type, which is no wider
 pub fewer_typed : {rest kept : BoundTrees} {n : ℕ} → Without rest kept n → (pairs : ℕ) (has_else : Bool) (c a t : LogicalType) → is_truth c ≡ true → CaseTyped pairs has_else c a (node_types rest) t → (u : LogicalType) × FnType (case_when (pairs - n) has_else) (c ∷ a ∷ node_types kept) u × Narrower u t

@@ -17,6 +17,7 @@ use Rattle.vx_tree.specs.Faults.{HasNoFault, first_fault}
 use Rattle.vx_tree.specs.Meaning.{value}
 use Rattle.vx_tree.specs.Trees.{BoundTree, scope, node, BoundTrees, no_bound, bound, node_type, node_types, on_ok}
 use Rattle.vx_rewrite_rule_sets.specs.Nodes.{one_bound, two_bounds, three_bounds, only_if, literal_node, literal_value}
+use Rattle.vx_rewrite_rules.proofs.Decisions.{under_test}
 use Rattle.vx_rewrite_folding_rules.proofs.Pairs.{Without, without}
 use Rattle.vx_rewrite_folding_rules.specs.Folding.{is_literal_of, are_literals, truth_literal, is_computed, one_row, constant_given, beside, logic_given, comparison_given, between_given, not_given, cast_given, mask_given, test_given, idle_pairs, without_idle, case_given, known_given, fold_given}
 
@@ -59,9 +60,6 @@ pub data Folds : BoundTree → BoundTree → Type 0 where
 
 -- ---- what is given under a test, or by one of two
 
-under_test : (P : BoundTree → Type 0) (b : Bool) (x u : BoundTree) → (b ≡ true → P x) → only_if b x ≡ Some u → P u
-under_test P true x u k e = let q : x ≡ u = cc in subst P q (k refl)
-under_test P false x u k e = cc
 
 one_of : (o p : Option BoundTree) (u : BoundTree) → option_or o p ≡ Some u → (o ≡ Some u) ⊎ (p ≡ Some u)
 one_of None p u e = inr e

@@ -3,7 +3,7 @@ use Rattle.std.proofs.Common.{◌≡◌, [], ◌∷◌, refl, sym, subst, Bool, 
 use Rattle.std.proofs.Math.Bool.{or-true}
 use Rattle.std.proofs.lemmas.Bool.{or_left, or_right}
 use Rattle.vx_value.specs.Fits.{Fits}
-use Rattle.vx_value.specs.Types.{LogicalType, ty, Datum, null, bool, is_nullable, is_null_datum}
+use Rattle.vx_value.specs.Types.{LogicalType, Datum, null, bool, is_nullable, is_null_datum}
 use Rattle.vx_fn.specs.Functions.{Function, binary, between, is_null, is_not_null, Comparison, compares, truth_type}
 use Rattle.vx_fn.specs.Rows.{FnType, of_comparison, of_between}
 use Rattle.vx_fn.specs.Values.{compared, bound_comparison, fn_value}
@@ -12,6 +12,8 @@ use Rattle.vx_tree.specs.Trees.{BoundTree, node, BoundTrees, node_type, node_typ
 use Rattle.vx_rewrite_keep.specs.Keeps.{Keeps}
 use Rattle.vx_rewrite_rule_sets.proofs.Prelude.{narrower_refl, fn_type-found, value-fits, each_passes, only_quiet}
 use Rattle.vx_rewrite_rule_sets.specs.Nodes.{one_bound, two_bounds, three_bounds, literal_node}
+use Rattle.vx_rewrite_rules.proofs.Decisions.{is_null_value}
+use Rattle.vx_rewrite_rules.proofs.FillLaws.{never_null}
 use Rattle.vx_rewrite_folding_rules.proofs.Constants.{literal_of, constant_value, constant_fits}
 use Rattle.vx_rewrite_folding_rules.specs.Folding.{is_literal_of, truth_literal}
 
@@ -22,14 +24,10 @@ record IsNullLiteral (x : BoundTree) : Type 0 where
   pub fits : Fits null (node_type x)
   pub is : (v : Datum) → value x v ≡ null
 
-null_value : (c : Datum) → is_null_datum c ≡ true → c ≡ null
-null_value null e = refl
-null_value _ e = cc
-
 null_literal : (x : BoundTree) → WellTyped x → is_literal_of is_null_datum x ≡ true → IsNullLiteral x
 null_literal x w e =
     let l = literal_of is_null_datum x w e in
-    let q = null_value l.constant l.passes in
+    let q = is_null_value l.constant l.passes in
     record { fits = subst (λ c. Fits c (node_type x)) q (constant_fits l w); is = λ v. let h = constant_value l v in cc }
 
 -- a node that is null in every row
@@ -97,10 +95,6 @@ keeps_null_bounds t ls us x l u w e h =
 
 -- ---- tests for null
 
-not_null : (v : Datum) (t : LogicalType) → is_nullable t ≡ false → Fits v t → is_null_datum v ≡ false
-not_null null (ty s n) e h = cc
-not_null _ t e h = refl
-
 -- a test whose answer is one for all values but null
 keeps_answer : (t : LogicalType) (f : Function) (x : BoundTree) (answer : Bool) → WellTyped (node t f (one_bound x)) → truth_type false ≡ t → is_nullable (node_type x) ≡ false → ((v : Datum) → is_null_datum v ≡ false → bool answer ≡ fn_value f (node_type x ∷ []) (v ∷ [])) → Keeps (node t f (one_bound x)) (truth_literal answer)
 keeps_answer t f x answer w q e same = record {
@@ -111,7 +105,7 @@ keeps_answer t f x answer w q e same = record {
   no_fault = λ s batch o i n. refl;
   meaning = λ s batch o i n v j.
       let fits = value-fits x s batch v w.2.0 o.0 (only_quiet t f x batch n) j (each_passes _ batch v i j) in
-      same (value x v) (not_null (value x v) (node_type x) e fits);
+      same (value x v) (never_null (value x v) (node_type x) e fits);
 }
 
 pub keeps_never_null : (t : LogicalType) (x : BoundTree) → WellTyped (node t is_null (one_bound x)) → is_nullable (node_type x) ≡ false → Keeps (node t is_null (one_bound x)) (truth_literal false)

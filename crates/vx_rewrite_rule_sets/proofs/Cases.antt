@@ -23,7 +23,7 @@ first_below t (u ∷ us) w e =
     narrower_trans (above-left t u x.0) (first_below (join t u) us w x.1)
 
 -- the types have a union, which is no wider than w
-abbrev UnionBelow : LogicalType → List LogicalType → LogicalType → Type 0
+abbrev pub UnionBelow : LogicalType → List LogicalType → LogicalType → Type 0
 UnionBelow t us w = (v : LogicalType) × (union_all t us ≡ Some v) × Narrower v w
 
 -- so they have after a narrower first one
@@ -102,7 +102,7 @@ some_branch [] h = absurd (omega arith)
 some_branch (e ∷ []) h = (e, [], refl)
 some_branch (c ∷ v ∷ rest) h = (v, branches rest, refl)
 
-not_zero : (n : ℕ) → 1 ≤ n → not (n == 0) ≡ true
+pub not_zero : (n : ℕ) → 1 ≤ n → not (n == 0) ≡ true
 not_zero zero h = absurd (omega arith)
 not_zero (suc n) h = rw (eqb-suc-zero n) refl
 

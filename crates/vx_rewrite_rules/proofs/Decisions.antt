@@ -72,11 +72,11 @@ rule_given b u w (select_of_pack {gs = gs} {selection = s} {fs = fs} {n = n} {na
 -- ---- what is given a rule gives
 
 -- a tree that is given under a test
-under_test : (P : BoundTree → Type 0) (b : Bool) (x u : BoundTree) → (b ≡ true → P x) → only_if b x ≡ Some u → P u
+pub under_test : (P : BoundTree → Type 0) (b : Bool) (x u : BoundTree) → (b ≡ true → P x) → only_if b x ≡ Some u → P u
 under_test P true x u k e = let q : x ≡ u = cc in subst P q (k refl)
 under_test P false x u k e = cc
 
-is_null_value : (c : Datum) → is_null_datum c ≡ true → c ≡ null
+pub is_null_value : (c : Datum) → is_null_datum c ≡ true → c ≡ null
 is_null_value null e = refl
 is_null_value _ e = cc
 

@@ -13,7 +13,7 @@ use Rattle.vx_tree.specs.Trees.{BoundTree, node, node_type, WellTyped}
 use Rattle.vx_rewrite_keep.specs.Keeps.{Keeps}
 use Rattle.vx_rewrite_rule_sets.specs.Nodes.{two_bounds}
 
-never_null : (v : Datum) (t : LogicalType) → is_nullable t ≡ false → Fits v t → is_null_datum v ≡ false
+pub never_null : (v : Datum) (t : LogicalType) → is_nullable t ≡ false → Fits v t → is_null_datum v ≡ false
 never_null null (ty s n) e h = cc
 never_null _ t e h = refl
 

@@ -6,6 +6,7 @@ pub mod Binds
 pub mod Typings
 pub mod Nodes
 pub mod Seen
+pub mod Held
 pub mod Built
 pub mod Unique
 pub mod Texts
