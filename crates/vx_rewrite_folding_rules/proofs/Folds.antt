@@ -60,7 +60,6 @@ pub data Folds : BoundTree → BoundTree → Type 0 where
 
 -- ---- what is given under a test, or by one of two
 
-
 one_of : (o p : Option BoundTree) (u : BoundTree) → option_or o p ≡ Some u → (o ≡ Some u) ⊎ (p ≡ Some u)
 one_of None p u e = inr e
 one_of (Some x) p u e = inl e
