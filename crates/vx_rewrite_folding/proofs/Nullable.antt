@@ -1,28 +1,24 @@
--- The type of a node that a null makes null has one.
-use Rattle.std.proofs.Common.{◌≡◌, ◌||◌, ◌&&◌, Bool, true, false, refl}
-use Rattle.std.specs.Prelude.{IsTrue}
+-- The type of a node that is known to be null has one.
+use Rattle.std.proofs.Common.{◌≡◌, refl}
+use Rattle.std.specs.Prelude.{Some, None, IsTrue}
 use Rattle.vx_value.specs.Fits.{Fits}
-use Rattle.vx_value.specs.Types.{LogicalType, ty, null, is_nullable, is_null_datum}
-use Rattle.vx_fn.specs.Functions.{binary, between, Comparison, compares}
-use Rattle.vx_tree.specs.Trees.{BoundTree, node, WellTyped}
-use Rattle.vx_rewrite_rule_sets.specs.Nodes.{two_bounds, three_bounds}
-use Rattle.vx_rewrite_folding_rules.proofs.Nulls.{keeps_null_left, keeps_null_right, keeps_null_within, keeps_null_bounds}
-use Rattle.vx_rewrite_folding_rules.specs.Folding.{is_literal_of}
+use Rattle.vx_value.specs.Types.{LogicalType, ty, null, is_nullable}
+use Rattle.vx_value.specs.Views.{type_of}
+use Rattle.vx_tree.specs.Trees.{BoundTree, WellTyped}
+use Rattle.vx_rewrite_rule_sets.specs.Nodes.{literal_node}
+use Rattle.vx_rewrite_folding_rules.proofs.Keeping.{folds_keep}
+use Rattle.vx_rewrite_folding_rules.specs.Folding.{constant_given, fold_given, known_given}
+use Rattle.vx_rewrite_folding.specs.Known.{tree_of, HasNull}
+use Rattle.vx_rewrite_folding.specs.declared.known.Known.{Known}
+use Rattle.vx_rewrite_folding.specs.declared.known.Known.TheVariants.{Tree, Truth, Null}
 
 takes_null : (t : LogicalType) → Fits null t → IsTrue (is_nullable t)
 takes_null (ty s n) e = e
 
-pub comparison_nullable : (t : LogicalType) (c : Comparison) (x y : BoundTree) → WellTyped (node t (binary (compares c)) (two_bounds x y)) → (is_literal_of is_null_datum x || is_literal_of is_null_datum y) ≡ true → IsTrue (is_nullable t)
-comparison_nullable t c x y w e = go (is_literal_of is_null_datum x) refl e
-  where
-    go : (b : Bool) → is_literal_of is_null_datum x ≡ b → (b || is_literal_of is_null_datum y) ≡ true → IsTrue (is_nullable t)
-    go true l e = takes_null t (keeps_null_left t c x y w l).typed_after.1
-    go false l e = takes_null t (keeps_null_right t c x y w e).typed_after.1
-
-pub between_nullable : (t : LogicalType) (ls us : Bool) (x l u : BoundTree) → WellTyped (node t (between ls us) (three_bounds x l u)) → (is_literal_of is_null_datum x || (is_literal_of is_null_datum l && is_literal_of is_null_datum u)) ≡ true → IsTrue (is_nullable t)
-between_nullable t ls us x l u w e = go (is_literal_of is_null_datum x) (is_literal_of is_null_datum l) refl refl e
-  where
-    go : (b c : Bool) → is_literal_of is_null_datum x ≡ b → is_literal_of is_null_datum l ≡ c → (b || (c && is_literal_of is_null_datum u)) ≡ true → IsTrue (is_nullable t)
-    go true c p q e = takes_null t (keeps_null_within t ls us x l u w p).typed_after.1
-    go false true p q e = takes_null t (keeps_null_bounds t ls us x l u w q e).typed_after.1
-    go false false p q e = cc
+-- since what stands for a node keeps it, and so is well typed
+pub has_null : (b : BoundTree) (k : Known) → WellTyped b → constant_given b ≡ None → known_given b ≡ Some (tree_of k) → HasNull k
+has_null b (Tree x) w n e = tt
+has_null b (Truth v) w n e = tt
+has_null b (Null t) w n e =
+    let given : fold_given b ≡ Some (literal_node (type_of t.now) null) = rw (n, e) refl in
+    takes_null (type_of t.now) (folds_keep b (literal_node (type_of t.now) null) w given).typed_after.1

@@ -1,6 +1,6 @@
 -- Pairs of a CASE, one after another.
 use Rattle.std.proofs.Common.{◌≡◌, ◌∙◌, ℕ, ◌+◌, ◌-◌, ◌*◌, ◌≤◌, ◌<◌, List, [], ◌∷◌, ◌++◌, length, map, get_or, take, drop, Bool, true, false, refl, sym, ap, subst, arith}
-use Rattle.std.specs.Prelude.{if◌then◌else◌, IsOk}
+use Rattle.std.specs.Prelude.{if◌then◌else◌, IsOk, nat_lt}
 use Rattle.std.proofs.lemmas.List.{take_all}
 use Rattle.vx_value.specs.Types.{LogicalType}
 use Rattle.vx_fn.specs.Functions.{case_when}
@@ -83,3 +83,9 @@ pub none_left : (rest : List BoundExpression) (trees : BoundTrees) (pairs left :
 none_left [] trees pairs left h k e = omega (arith, k, e)
 none_left (x ∷ []) trees pairs left h k e = omega (arith, k, e)
 none_left (x ∷ y ∷ rest) trees pairs left h k e = absurd (omega (arith, h))
+
+-- where no pair is left to go over, and none was idle, none is
+pub none_idle : (rest : List BoundExpression) (trees : BoundTrees) → length rest < 2 → idle_pairs trees ≡ idle_pairs (bounds_of rest) → false ≡ nat_lt 0 (idle_pairs trees)
+none_idle [] trees h e = rw e refl
+none_idle (x ∷ []) trees h e = rw e refl
+none_idle (x ∷ y ∷ rest) trees h e = absurd (omega (arith, h))

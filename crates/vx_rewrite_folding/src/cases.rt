@@ -1,21 +1,45 @@
 // A CASE without the pairs that never choose.
-ghost use Rattle.std.specs.Prelude.{◌≡◌, ◌≤◌, ◌-◌, IfOk, IsOk, Ok, Some, map};
+ghost use Rattle.std.specs.Prelude.{◌≡◌, ◌≤◌, ◌-◌, Bool, IfOk, IsFalse, IsOk, None, Ok, Some, map, nat_lt, ℕ};
 ghost use Rattle.std.specs.Option.{option_map};
 ghost use Rattle.std.specs.Result.{result_ok};
 ghost use Rattle.vx_value.specs.Answers.{Answers};
 ghost use Rattle.vx_value.specs.Types.{LogicalType};
 ghost use Rattle.vx_fn.specs.Functions.{case_when};
 ghost use Rattle.vx_rewrite_folding.specs.Behind.{behind_all};
-ghost use Rattle.vx_rewrite_folding_rules.specs.Folding.{case_given, idle_pairs, is_idle, without_idle};
+ghost use Rattle.vx_rewrite_folding_rules.specs.Folding.{case_given, idle_pairs, is_idle, known_given, without_idle};
 ghost use Rattle.vx_tree.specs.Binding.{node_over};
 ghost use Rattle.vx_tree.specs.Trees.{bound, node, WellTyped};
 ghost use Rattle.vx_tree.specs.Views.{bound_of, bounds_of};
 
 use std::alloc::{AllocError, Global};
 use vx_fn::{CaseWhenOptions, ScalarFnRef};
-use vx_rewrite_rule_sets::literal_value;
+use vx_rewrite_rule_sets::{first_two, literal_value};
 use vx_tree::{BoundExpression, VortexResult};
 use vx_types::Value;
+
+// Whether a CASE over the children has an idle pair behind the first.
+pub(crate) fn has_idle_pair(children: &[BoundExpression]) -> bool
+    ensures { IsFalse result → (t : LogicalType) (pairs : ℕ) (has_else : Bool) → known_given (node t (case_when pairs has_else) (bounds_of children.now)) ≡ None }
+{
+    match first_two(children) {
+        Some((_, _, rest)) => is_one_idle(rest),
+        None => false,
+    }
+}
+
+// Whether one of the pairs is idle.
+fn is_one_idle(trees: &[BoundExpression]) -> bool
+    ensures { result ≡ nat_lt 0 (idle_pairs (bounds_of trees.now)) }
+{
+    let mut rest = trees;
+    while let [condition, _, behind @ ..] = rest {
+        if is_idle(condition) {
+            return true;
+        }
+        rest = behind;
+    }
+    false
+}
 
 // What is given at a CASE of a first pair and the rest: the same without those pairs of the rest whose
 // condition never holds, if there are any. Its type is its own, which may be narrower.

@@ -21,7 +21,7 @@ use vx_tree::{BoundExpression, VortexResult};
 use vx_types::{Column, DType, Nullability, Scalar, Value, VortexError};
 
 // Whether the function is computed where all children are literals.
-pub(crate) fn is_computed(scalar_fn: &ScalarFnRef) -> bool
+fn is_computed(scalar_fn: &ScalarFnRef) -> bool
     ensures { result ≡ is_computed (function_of scalar_fn.now) }
 {
     matches!(
@@ -67,7 +67,7 @@ fn unless_memory(fault: &VortexError) -> VortexResult<Option<BoundExpression>>
 }
 
 // Whether the node's function is computed, and all children are literals.
-fn is_constant(node: &BoundExpression) -> bool
+pub(crate) fn is_constant(node: &BoundExpression) -> bool
     ensures { result ≡ is_constant (bound_of node.now) }
 {
     match node {

@@ -3,32 +3,43 @@ ghost use Rattle.std.specs.Prelude.{◌≡◌, IsFalse, None, Ok};
 ghost use Rattle.std.specs.Option.{option_map};
 ghost use Rattle.vx_value.specs.Answers.{Answers};
 ghost use Rattle.vx_value.specs.Views.{type_of};
-ghost use Rattle.vx_fn.specs.Functions.{binary, case_when};
-ghost use Rattle.vx_fn.specs.Views.{operation_of};
-ghost use Rattle.vx_rewrite_folding_rules.specs.Folding.{fold_given, known_given};
+ghost use Rattle.vx_fn.specs.Functions.{case_when};
+ghost use Rattle.vx_rewrite_folding_rules.specs.Folding.{constant_given, fold_given, known_given};
 ghost use Rattle.vx_tree.specs.Trees.{node, WellTyped};
 ghost use Rattle.vx_tree.specs.Views.{bound_of, bounds_of};
 
-use crate::cases::case_given;
-use crate::constants::{constant_given, is_computed};
-use crate::logic::logic_given;
-use crate::nulls::{between_given, comparison_given};
-use crate::single::{cast_given, mask_given, not_given, test_given};
+use crate::cases::{case_given, has_idle_pair};
+use crate::constants::{constant_given, is_constant};
+use crate::known::{known_of, known_tree};
 use std::alloc::Global;
-use vx_fn::{CaseWhenOptions, Operator, ScalarFnRef};
-use vx_rewrite_rule_sets::{first_two, pair};
+use vx_fn::{CaseWhenOptions, ScalarFnRef};
+use vx_rewrite_rule_sets::first_two;
 use vx_tree::{BoundExpression, VortexResult};
 use vx_types::DType;
 
-// Whether something may be given at the node, by its function alone.
+// Whether something may be given at the node: all but whether a node over literals faults is looked
+// at, without memory, so that where nothing folds little is done.
 pub(crate) fn may_give(node: &BoundExpression) -> bool
     ensures { IsFalse result → fold_given (bound_of node.now) ≡ None }
 {
-    match node {
-        BoundExpression::Scalar { scalar_fn, .. } => {
-            is_computed(scalar_fn) || matches!(scalar_fn, ScalarFnRef::CaseWhen(_))
-        }
-        BoundExpression::Root { .. } => false,
+    is_constant(node) || may_know(node)
+}
+
+// Whether something is known of the node by its function.
+fn may_know(node: &BoundExpression) -> bool
+    ensures { IsFalse result → known_given (bound_of node.now) ≡ None }
+{
+    let BoundExpression::Scalar {
+        dtype,
+        scalar_fn,
+        children,
+    } = node
+    else {
+        return false;
+    };
+    match scalar_fn {
+        ScalarFnRef::CaseWhen(_) => has_idle_pair(children.as_slice()),
+        _ => known_of(dtype, scalar_fn, children.as_slice()).is_some(),
     }
 }
 
@@ -46,9 +57,10 @@ pub(crate) fn fold_given(
     }
 }
 
-// What is given by the function of a node whose children aren't all literals.
+// What is given by the function of a node that is no constant.
 fn known_given(alloc: Global, node: &BoundExpression) -> VortexResult<Option<BoundExpression>>
-    requires { WellTyped (bound_of node.now) }
+    requires typed { WellTyped (bound_of node.now) }
+    requires no_constant { constant_given (bound_of node.now) ≡ None }
     ensures { Answers (option_map bound_of) result (Ok (known_given (bound_of node.now))) }
 {
     let BoundExpression::Scalar {
@@ -60,16 +72,12 @@ fn known_given(alloc: Global, node: &BoundExpression) -> VortexResult<Option<Bou
         return Ok(None);
     };
     let children = children.as_slice();
-    match scalar_fn {
-        ScalarFnRef::CaseWhen(options) => of_case(alloc, dtype, *options, children),
-        ScalarFnRef::Binary(operator) => of_binary(alloc, dtype, *operator, children),
-        ScalarFnRef::Between(_) => between_given(alloc, dtype, children),
-        ScalarFnRef::Not(_) => not_given(children),
-        ScalarFnRef::Cast(_) => cast_given(dtype, children),
-        ScalarFnRef::Mask(_) => mask_given(children),
-        ScalarFnRef::IsNull(_) => test_given(alloc, false, children),
-        ScalarFnRef::IsNotNull(_) => test_given(alloc, true, children),
-        _ => Ok(None),
+    if let ScalarFnRef::CaseWhen(options) = scalar_fn {
+        return of_case(alloc, dtype, *options, children);
+    }
+    match known_of(dtype, scalar_fn, children) {
+        Some(known) => Ok(Some(known_tree(alloc, &known)?)),
+        None => Ok(None),
     }
 }
 
@@ -86,26 +94,5 @@ fn of_case(
     match first_two(children) {
         Some((condition, then, rest)) => case_given(alloc, options, condition, then, rest),
         None => Ok(None),
-    }
-}
-
-// What is given at a binary function of the type.
-fn of_binary(
-    alloc: Global,
-    dtype: &DType,
-    operator: Operator,
-    children: &[BoundExpression],
-) -> VortexResult<Option<BoundExpression>>
-    requires { WellTyped (node (type_of dtype.now) (binary (operation_of operator)) (bounds_of children.now)) }
-    ensures { Answers (option_map bound_of) result (Ok (known_given (node (type_of dtype.now) (binary (operation_of operator)) (bounds_of children.now)))) }
-{
-    let Some((left, right)) = pair(children) else {
-        return Ok(None);
-    };
-    match operator {
-        Operator::And => logic_given(alloc, true, left, right),
-        Operator::Or => logic_given(alloc, false, left, right),
-        Operator::Add => Ok(None),
-        _ => comparison_given(alloc, dtype, left, right),
     }
 }

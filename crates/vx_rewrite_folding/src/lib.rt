@@ -5,6 +5,7 @@
 mod cases;
 mod constants;
 mod given;
+mod known;
 mod logic;
 mod nulls;
 mod rules;

@@ -1,0 +1,27 @@
+-- What is known of a node by its function, as the tree that stands for it.
+use Rattle.std.specs.Prelude.{Bool, true, false, IsTrue}
+use Rattle.vx_value.specs.Types.{null, is_nullable}
+use Rattle.vx_value.specs.Views.{type_of}
+use Rattle.vx_fn.specs.Functions.{Function, case_when}
+use Rattle.vx_tree.specs.Trees.{BoundTree}
+use Rattle.vx_tree.specs.Views.{bound_of}
+use Rattle.vx_rewrite_rule_sets.specs.Nodes.{literal_node}
+use Rattle.vx_rewrite_folding_rules.specs.Folding.{truth_literal}
+use Rattle.vx_rewrite_folding.specs.declared.known.Known.{Known}
+use Rattle.vx_rewrite_folding.specs.declared.known.Known.TheVariants.{Tree, Truth, Null}
+
+-- a tree below the node, the literal of a truth value, or the null literal of a type
+abbrev pub tree_of : Known → BoundTree
+tree_of (Tree b) = bound_of b.now
+tree_of (Truth b) = truth_literal b
+tree_of (Null t) = literal_node (type_of t.now) null
+
+-- where null is known, its type has one
+abbrev pub HasNull : Known → Type 0
+HasNull (Null t) = IsTrue (is_nullable (type_of t.now))
+HasNull _ = Unit {0}
+
+-- whether the function is a CASE
+abbrev pub is_case : Function → Bool
+is_case (case_when pairs has_else) = true
+is_case _ = false
