@@ -3,7 +3,7 @@ ghost use Rattle.std.specs.Prelude.{◌≡◌, ◌≢◌, ◌<◌};
 
 use crate::texts::parsed;
 use crate::{Status, refused};
-use std::alloc::{AllocError, Global};
+use std::alloc::Global;
 use vx_eval_mask::RowMask;
 use vx_prune::{ChunkStats, Verdict, select_rows, verdict};
 use vx_scan::{ScanPlan, plan};

@@ -35,7 +35,9 @@ use vx_types::{Column, FieldPathSet};
 /// How many chunks of records there were, and over how many of them an expression was evaluated.
 #[derive(Clone, Copy, Debug, PartialEq, Eq)]
 pub struct ChunkTally {
+    /// All chunks of which there was a record.
     pub chunks: u64,
+    /// Those whose statistics decided nothing.
     pub evaluated: u64,
 }
 
