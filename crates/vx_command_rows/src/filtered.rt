@@ -43,7 +43,7 @@ pub fn filter<R: RecordReader, W: Write>(
 
 /// The expression bound to the type of the records. Complains of its first refusal over that type, of
 /// one of another type than bool, and of want of memory.
-pub(crate) fn condition(
+pub fn condition(
     alloc: Global,
     placed: &Placed,
     scope: &DType,

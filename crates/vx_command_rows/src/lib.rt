@@ -14,6 +14,6 @@ pub use chunked::filter_by_chunks;
 pub use complaint::RowsComplaint;
 pub use data::{DataFormat, opened, schema_of, unwritten};
 pub use evaluated::evaluate;
-pub use filtered::filter;
+pub use filtered::{condition, filter};
 pub use message::RowsMessage;
 pub use outputs::{Output, OutputFormat};
