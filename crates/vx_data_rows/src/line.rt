@@ -3,31 +3,25 @@ use crate::answers::{Call, answer};
 use crate::format::Format;
 use crate::unread::Unread;
 use std::alloc::{AllocError, Global};
+use vx_test_tables::{Judge, Judged};
 
-/// What a line came to.
-#[derive(Drop)]
-pub enum Judged {
-    /// It is blank, or a comment.
-    NoCall,
-    /// It is answered as it says.
-    Right,
-    /// It is answered so, and not as it says.
-    Differs(String),
-}
+/// Judges calls of a format.
+#[derive(Clone, Copy)]
+pub struct Calls;
 
-/// What the line comes to: a comment behind `#`, or a format, a call, its columns and the answer that is wanted, as
-/// `json rows | i32 | 7 | [7i32]`.
-pub fn judge(alloc: Global, line: &str) -> Result<Judged, Unread> {
-    let line = line.trim();
-    if line.is_empty() || line.starts_with('#') {
-        return Ok(Judged::NoCall);
+impl Judge for Calls {
+    type Unread = Unread;
+
+    /// What the line comes to: a format, a call, its columns and the answer that is wanted, as
+    /// `json rows | i32 | 7 | [7i32]`.
+    fn judge(&mut self, alloc: Global, line: &str) -> Result<Judged, Unread> {
+        let (kind, rest) = line.split_once('|').ok_or("no bar behind the call")?;
+        let (format, call) = kind.trim().split_once(' ').ok_or("no format and call")?;
+        let format = Format::named(format).ok_or("no such format")?;
+        let call = Call::named(call.trim()).ok_or("no such call")?;
+        let columns = columns_of(alloc, rest, call.columns())?;
+        compare(alloc, format, call, columns.as_slice())
     }
-    let (kind, rest) = line.split_once('|').ok_or("no bar behind the call")?;
-    let (format, call) = kind.trim().split_once(' ').ok_or("no format and call")?;
-    let format = Format::named(format).ok_or("no such format")?;
-    let call = Call::named(call.trim()).ok_or("no such call")?;
-    let columns = columns_of(alloc, rest, call.columns())?;
-    compare(alloc, format, call, columns.as_slice())
 }
 
 // So many columns of a line, and the answer that is wanted behind them, which takes the rest of the line.

@@ -10,22 +10,28 @@ mod format;
 mod line;
 mod numbers;
 mod records;
-mod table;
 mod types;
 mod unread;
 mod values;
 
 use anyhow::{Context, Result};
+use line::Calls;
 use std::process::ExitCode;
 use std::{env, fs};
-use table::{Tally, judge_table};
+use vx_test_tables::{Aim, Table, Tally};
 
 fn main(rt: HostRuntime) -> Result<ExitCode> {
-    let mut failed: u64 = 0;
+    let mut failed: usize = 0;
     for name in env::args(&rt)?.skip(1) {
         let name = name.as_str();
         let text = fs::read_to_string(&rt, name).context(format_args!("reading {name}"))?;
-        let tally = judge_table(rt.alloc(), name, text.as_str(), &mut rt.stdout())?;
+        let table = Table {
+            name,
+            text: text.as_str(),
+            aim: Aim::of(name),
+        };
+        let mut tally = Tally::default();
+        table.judge(rt.alloc(), &mut Calls, &mut tally, &mut rt.stdout())?;
         println!(rt; "{name}: {tally}")?;
         failed = failed.saturating_add(tally.failed);
     }

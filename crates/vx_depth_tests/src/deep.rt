@@ -1,7 +1,8 @@
 // Trees of ten thousand levels through each call that goes down a tree, as lines of a table. Tree texts,
 // walks and rewrites have tests of their own.
 use std::test::Fail;
-use vx_test_judge::{Aim, Tally, judge_table};
+use vx_test_judge::judge_table;
+use vx_test_tables::{Aim, Table, Tally};
 
 const DEEP: &str = r#"
 ## A truth turned ten thousand times
@@ -204,16 +205,14 @@ pruned | " | 10127
 
 #[test]
 fn ten_thousand_levels_go_through_each_call(rt: HostRuntime) -> Result<(), Fail> {
+    let table = Table {
+        name: "deep",
+        text: DEEP,
+        aim: Aim::Right,
+    };
     let mut tally = Tally::default();
-    judge_table(
-        rt.alloc(),
-        "deep",
-        DEEP,
-        Aim::Right,
-        &mut tally,
-        &mut rt.stdout(),
-    )?;
-    assert_eq!(rt; tally.rows, 153);
+    judge_table(rt.alloc(), &table, &mut tally, &mut rt.stdout())?;
+    assert_eq!(rt; tally.lines, 153);
     assert_eq!(rt; tally.failed, 0);
     Ok(())
 }

@@ -7,7 +7,8 @@
 use anyhow::{Context, Result};
 use std::process::ExitCode;
 use std::{env, fs};
-use vx_test_judge::{Aim, Tally, judge_table};
+use vx_test_judge::judge_table;
+use vx_test_tables::{Aim, Table, Tally};
 
 fn main(rt: HostRuntime) -> Result<ExitCode> {
     let alloc = rt.alloc();
@@ -15,21 +16,24 @@ fn main(rt: HostRuntime) -> Result<ExitCode> {
     for name in env::args(&rt)?.skip(1) {
         let name = name.as_str();
         let text = fs::read_to_string(&rt, name).context(format_args!("reading {name}"))?;
-        let (aim, tally) = if name.starts_with("wrong-") {
-            (Aim::Wrong, &mut wrong)
-        } else if name.starts_with("unread-") {
-            (Aim::Unread, &mut unread)
-        } else {
-            (Aim::Right, &mut right)
+        let table = Table {
+            name,
+            text: text.as_str(),
+            aim: Aim::of(name),
         };
-        judge_table(alloc, name, text.as_str(), aim, tally, &mut rt.stdout())?;
+        let tally = match table.aim {
+            Aim::Wrong => &mut wrong,
+            Aim::Unread => &mut unread,
+            Aim::Right => &mut right,
+        };
+        judge_table(alloc, &table, tally, &mut rt.stdout())?;
     }
-    println!(rt; "{} wrong lines, {} not told", wrong.rows, wrong.failed)?;
+    println!(rt; "{} wrong lines, {} not told", wrong.lines, wrong.failed)?;
     println!(rt;
         "{} lines that can't be read, {} not refused",
-        unread.rows, unread.failed
+        unread.lines, unread.failed
     )?;
-    println!(rt; "{} rows, {} failed", right.rows, right.failed)?;
+    println!(rt; "{} rows, {} failed", right.lines, right.failed)?;
     let is_right = wrong.failed == 0 && unread.failed == 0 && right.failed == 0;
     Ok(if is_right {
         ExitCode::SUCCESS

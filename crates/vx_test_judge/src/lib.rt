@@ -9,4 +9,4 @@ mod scene;
 mod table;
 mod told;
 
-pub use table::{Aim, Tally, judge_table};
+pub use table::judge_table;
