@@ -5,3 +5,4 @@ pub mod Deciding
 pub mod Found
 pub mod Steps
 pub mod Narrowing
+pub mod Proper

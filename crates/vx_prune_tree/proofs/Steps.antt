@@ -24,7 +24,7 @@ use Rattle.vx_prune_tree.specs.Cases.{is_of_children}
 
 -- ---- a node
 
-some_path : (o : Option Path) → is_some o ≡ true → (path : Path) × (o ≡ Some path)
+pub some_path : (o : Option Path) → is_some o ≡ true → (path : Path) × (o ≡ Some path)
 some_path None e = cc
 some_path (Some path) e = (path, refl)
 

@@ -6,7 +6,7 @@ ghost use Rattle.std.specs.Prelude.{◌≡◌, ◌∷◌, [], IsTrue};
 ghost use Rattle.vx_value.specs.Types.{null};
 ghost use Rattle.vx_value.specs.Views.{type_of};
 ghost use Rattle.vx_fn.specs.Views.{function_of, operation_of};
-ghost use Rattle.vx_prune_bounds.specs.Bounds.{any_of, exactly, meet};
+ghost use Rattle.vx_prune_bounds.specs.Bounds.{any_of, exactly, meet, IsProper};
 ghost use Rattle.vx_prune_bounds.specs.Kernels.{choice_bounds};
 ghost use Rattle.vx_prune_bounds.specs.Views.{bounds_view};
 ghost use Rattle.vx_prune_tree.specs.Bounding.{a_struct, binary_bounds, fn_bounds, item_bounds, unknown};
@@ -75,7 +75,15 @@ pub(crate) fn put_of_one(f: &ScalarFnRef, x: &mut Bounds)
     requires { IsTrue (is_of_children (function_of f.now)) }
     ensures { bounds_view x.new ≡ fn_bounds (function_of f.now) (bounds_view x.old ∷ []) }
 {
-    *x = of_one(f, x);
+    match f {
+        ScalarFnRef::GetItem(_) => *x = item_bounds(x),
+        ScalarFnRef::Select(_) => *x = x.shaped_as(),
+        ScalarFnRef::Not(_) => *x = Bounds::of_truths(x.truths().not()),
+        ScalarFnRef::IsNull(_) => *x = Bounds::of_truths(x.null_truths()),
+        ScalarFnRef::IsNotNull(_) => *x = Bounds::of_truths(x.null_truths().not()),
+        ScalarFnRef::Cast(_) => {}
+        _ => *x = unknown(),
+    }
 }
 
 // Puts those of a function of two children in the place of the first child's.
@@ -84,7 +92,15 @@ pub(crate) fn put_of_two<'a>(f: &ScalarFnRef, x: &mut Bounds<'a>, y: &Bounds<'a>
     requires { IsTrue (is_of_children (function_of f.now)) }
     ensures { bounds_view x.new ≡ fn_bounds (function_of f.now) (bounds_view x.old ∷ bounds_view y.now ∷ []) }
 {
-    *x = of_two(f, x, y);
+    match f {
+        ScalarFnRef::FillNull(_) => *x = fill_bounds(x, y),
+        ScalarFnRef::Binary(operator) => put_of_operator(*operator, x, y),
+        ScalarFnRef::Like(o) => {
+            *x = Bounds::of_truths(like_truths(o.negated, o.case_insensitive, x, y));
+        }
+        ScalarFnRef::Mask(_) => *x = mask_bounds(x, y.truths()),
+        _ => *x = unknown(),
+    }
 }
 
 // Puts those of a function of three children in the place of the first child's.
@@ -93,7 +109,11 @@ pub(crate) fn put_of_three<'a>(f: &ScalarFnRef, x: &mut Bounds<'a>, y: &Bounds<'
     requires { IsTrue (is_of_children (function_of f.now)) }
     ensures { bounds_view x.new ≡ fn_bounds (function_of f.now) (bounds_view x.old ∷ bounds_view y.now ∷ bounds_view z.now ∷ []) }
 {
-    *x = of_three(f, x, y, z);
+    match f {
+        ScalarFnRef::Zip(_) => *x = choice_bounds(z.truths(), x, y),
+        ScalarFnRef::Between(options) => *x = Bounds::of_truths(between_truths(options, x, y, z)),
+        _ => *x = unknown(),
+    }
 }
 
 // Puts those of a CASE with one pair more in the place of those without it.
@@ -104,67 +124,24 @@ pub(crate) fn put_of_pair<'a>(condition: Truths, value: &Bounds<'a>, rest: &mut 
     *rest = choice_bounds(condition, value, rest);
 }
 
-// Puts what of these is of the type in their place.
-#[inline(never)]
+// Puts what of these is of the type in their place: since their least end isn't above their greatest,
+// that is all but null, and null where it is of the type.
 pub(crate) fn put_of_type(dtype: &DType, x: &mut Bounds)
+    requires { IsProper (bounds_view x.old) }
     ensures { bounds_view x.new ≡ meet (any_of (type_of dtype.now)) (bounds_view x.old) }
 {
-    *x = Bounds::any_of(dtype).meet(x);
+    x.null = x.null && dtype.is_nullable();
 }
 
-// Those of a function of one child.
-fn of_one<'a>(f: &ScalarFnRef, x: &Bounds<'a>) -> Bounds<'a>
-    requires { IsTrue (is_of_children (function_of f.now)) }
-    ensures { bounds_view result ≡ fn_bounds (function_of f.now) (bounds_view x.now ∷ []) }
-{
-    match f {
-        ScalarFnRef::GetItem(_) => item_bounds(x),
-        ScalarFnRef::Select(_) => x.shaped_as(),
-        ScalarFnRef::Not(_) => Bounds::of_truths(x.truths().not()),
-        ScalarFnRef::IsNull(_) => Bounds::of_truths(x.null_truths()),
-        ScalarFnRef::IsNotNull(_) => Bounds::of_truths(x.null_truths().not()),
-        ScalarFnRef::Cast(_) => *x,
-        _ => unknown(),
-    }
-}
-
-// Those of a function of two children.
-fn of_two<'a>(f: &ScalarFnRef, x: &Bounds<'a>, y: &Bounds<'a>) -> Bounds<'a>
-    requires { IsTrue (is_of_children (function_of f.now)) }
-    ensures { bounds_view result ≡ fn_bounds (function_of f.now) (bounds_view x.now ∷ bounds_view y.now ∷ []) }
-{
-    match f {
-        ScalarFnRef::FillNull(_) => fill_bounds(x, y),
-        ScalarFnRef::Binary(operator) => binary_bounds(*operator, x, y),
-        ScalarFnRef::Like(o) => {
-            Bounds::of_truths(like_truths(o.negated, o.case_insensitive, x, y))
-        }
-        ScalarFnRef::Mask(_) => mask_bounds(x, y.truths()),
-        _ => unknown(),
-    }
-}
-
-// Those of a function of three children.
-fn of_three<'a>(f: &ScalarFnRef, x: &Bounds<'a>, y: &Bounds<'a>, z: &Bounds<'a>) -> Bounds<'a>
-    requires { IsTrue (is_of_children (function_of f.now)) }
-    ensures { bounds_view result ≡ fn_bounds (function_of f.now) (bounds_view x.now ∷ bounds_view y.now ∷ bounds_view z.now ∷ []) }
-{
-    match f {
-        ScalarFnRef::Zip(_) => choice_bounds(z.truths(), x, y),
-        ScalarFnRef::Between(options) => Bounds::of_truths(between_truths(options, x, y, z)),
-        _ => unknown(),
-    }
-}
-
-// Those of the operator between two operands.
-fn binary_bounds<'a>(operator: Operator, x: &Bounds, y: &Bounds) -> Bounds<'a>
-    ensures { bounds_view result ≡ binary_bounds (operation_of operator) (bounds_view x.now) (bounds_view y.now) }
+// Puts those of the operator between two operands in the place of the first one's.
+fn put_of_operator(operator: Operator, x: &mut Bounds, y: &Bounds)
+    ensures { bounds_view x.new ≡ binary_bounds (operation_of operator) (bounds_view x.old) (bounds_view y.now) }
 {
     match operator {
-        Operator::And => Bounds::of_truths(x.truths().and(y.truths())),
-        Operator::Or => Bounds::of_truths(x.truths().or(y.truths())),
-        Operator::Add => sum_bounds(x, y),
-        _ => Bounds::of_truths(comparison_truths(operator, x, y)),
+        Operator::And => *x = Bounds::of_truths(x.truths().and(y.truths())),
+        Operator::Or => *x = Bounds::of_truths(x.truths().or(y.truths())),
+        Operator::Add => *x = sum_bounds(x, y),
+        _ => *x = Bounds::of_truths(comparison_truths(operator, x, y)),
     }
 }
 

@@ -1,11 +1,20 @@
 use Rattle.std.proofs.Common.{◌≡◌, ◌∙◌, ◌-◌, ◌*◌, true, rules, arith, sym, ap}
 use Rattle.vx_fn.specs.Views.{function_of}
-use Rattle.vx_tree.specs.Views.{bound_of}
+use Rattle.vx_tree.specs.Views.{bound_of, bounds_of}
 use Rattle.vx_value.specs.Views.{type_of}
 use Rattle.vx_prune_bounds.specs.Views.{bounds_view}
 use Rattle.vx_prune_tree.specs.Cases.{is_of_children}
+use Rattle.vx_prune_tree.proofs.Proper.{along-proper, given-proper}
 use Rattle.vx_prune_tree.proofs.Steps.{path-given, node-given, many-unknown, case-more, case-all}
 use Rattle.vx_prune_tree.proofs.bounding.+put_bounds.Goals as goal
+
+pub put_bounds_of-put_of_type-requires : goal.put_bounds_of-put_of_type-requires
+put_bounds_of-put_of_type-requires t c =
+    along-proper c.args.stats.now (bound_of c.args.e.now) (bounds_view c.put_along.new.known) (sym c.requires ∙ c.if-is_path.true) c.put_along.ensures
+
+pub put_bounds_of-put_of_type-requires-in-Scalar : goal.put_bounds_of-put_of_type-requires-in-Scalar
+put_bounds_of-put_of_type-requires-in-Scalar t c =
+    given-proper c.args.stats.now (function_of c.in-Scalar.scalar_fn) (bounds_of c.as_slice.result.now) (bounds_view c.put_given.new.known) c.put_given.ensures
 
 pub put_bounds_of-returns-then-is_path : goal.put_bounds_of-returns-then-is_path
 put_bounds_of-returns-then-is_path t c =
