@@ -1,5 +1,5 @@
 -- Steps of the code that finds bounds.
-use Rattle.std.proofs.Common.{◌≡◌, ℕ, ◌+◌, ◌*◌, ◌<◌, ◌≤◌, List, [], ◌∷◌, length, get_or, drop, refl, sym, ap, ◌∙◌, true, false, Option, Some, None, arith, rules, Vec}
+use Rattle.std.proofs.Common.{◌≡◌, ℕ, ◌+◌, ◌*◌, ◌<◌, ◌≤◌, List, [], ◌∷◌, length, get_or, drop, refl, sym, ap, ◌∙◌, true, false, Option, Some, None, arith, Vec}
 use Rattle.std.specs.Prelude.{is_some}
 use Rattle.std.specs.declared.alloc.Global.{Global}
 use Rattle.std.specs.declared.rc.Rc.{Rc}
@@ -7,9 +7,10 @@ use Rattle.std.proofs.lemmas.List.{drop_more}
 use Rattle.vx_value.specs.Paths.{Path}
 use Rattle.vx_value.specs.Types.{LogicalType}
 use Rattle.vx_fn.specs.Functions.{Function, case_when, get_item, literal, pack, select, fill_null, zip, binary, logical_not, between, like, is_null, is_not_null, mask, cast}
+use Rattle.vx_tree.proofs.Held.{bound_of-Scalar}
 use Rattle.vx_tree.specs.Trees.{BoundTree, scope, node, node_type}
 use Rattle.vx_tree.specs.Views.{bound_of, bounds_of}
-use Rattle.vx_tree.specs.declared.bound.BoundExpression.{BoundExpression, Scalar, the_lemmas}
+use Rattle.vx_tree.specs.declared.bound.BoundExpression.{BoundExpression, Scalar}
 use Rattle.vx_value.specs.Views.{type_of}
 use Rattle.vx_fn.specs.Views.{function_of}
 use Rattle.vx_fn.specs.declared.function.ScalarFnRef.{ScalarFnRef}
@@ -43,9 +44,6 @@ path-given facts b t r y s e along m =
 no_path : (o : Option Path) → is_some o ≡ false → o ≡ None
 no_path None e = refl
 no_path (Some path) e = cc
-
-bound_of-Scalar : (t : DType) (f : ScalarFnRef) (all : Rc (Vec BoundExpression Global) Global) → bound_of (Scalar t f all) ≡ node (type_of t) (function_of f) (bounds_of all.value.items)
-bound_of-Scalar t f all = search (rules, the_lemmas)
 
 -- and of one that is none, by those that its function gives
 pub node-given : (facts : Facts) (e : BoundExpression) (t : DType) (f : ScalarFnRef) (all : Rc (Vec BoundExpression Global) Global) (children : List BoundExpression) (r y : Bounds) →
