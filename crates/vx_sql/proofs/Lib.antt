@@ -1,0 +1,5 @@
+pub mod Seen
+pub mod Texts
+pub mod Spelled
+pub mod NodeReasons
+pub mod Walked

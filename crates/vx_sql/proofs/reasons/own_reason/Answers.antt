@@ -1,0 +1,12 @@
+use Rattle.std.proofs.Common.{sym, ◌∙◌}
+use Rattle.vx_sql.proofs.NodeReasons.{own_reason-count, own_reason-type, own_reason-function}
+use Rattle.vx_sql.proofs.reasons.own_reason.Goals as goal
+
+pub returns-then-children-arity : goal.returns-then-children-arity
+returns-then-children-arity c = own_reason-count _ _ _ c.args.children.now (λ e. c.if-children-arity.true (e ∙ sym c.arity.ensures))
+
+pub returns-then-not-has_type : goal.returns-then-not-has_type
+returns-then-not-has_type c = own_reason-type _ _ _ c.args.children.now (c.if-children-arity.false ∙ c.arity.ensures) (sym c.has_type.ensures ∙ c.if-not-has_type.true)
+
+pub returns : goal.returns
+returns c = own_reason-function _ _ _ c.args.children.now _ (c.if-children-arity.false ∙ c.arity.ensures) (sym c.has_type.ensures ∙ c.if-not-has_type.false) c.function_reason.ensures

@@ -1,0 +1,9 @@
+pub mod Dialects
+pub mod Children
+pub mod Quotes
+pub mod Patterns
+pub mod Literals
+pub mod Sums
+pub mod SqlTexts
+pub mod Reasons
+pub mod Unsupported

@@ -1,0 +1,74 @@
+-- The patterns of LIKE as the engines spell them.
+use Rattle.std.specs.Prelude.{ℕ, Bool, true, false, ◌==◌, ◌||◌, ◌&&◌, List, [], ◌∷◌, if◌then◌else◌}
+use Rattle.std.specs.Char.{is_ascii_lowercase, to_ascii_uppercase}
+use Rattle.std.specs.List.{flat_map}
+use Rattle.vx_fn.specs.Values.{Part, any_text, any_one, just}
+use Rattle.vx_eval_like.specs.Patterns.{spelled_by}
+use Rattle.vx_sql.specs.declared.dialect.Dialect.{Dialect}
+use Rattle.vx_sql.specs.declared.dialect.Dialect.TheVariants.{Postgres, Sqlite, DuckDb, Spark}
+use Rattle.vx_sql.specs.declared.patterns.Part as program
+use Rattle.vx_sql.specs.declared.patterns.Part.TheVariants.{AnyText, AnyOne, Just}
+use Rattle.vx_sql.specs.Quotes.{quoted, quoting_of}
+
+-- whether the engine's patterns are those of GLOB. SQLite's LIKE ignores the case of letters or not, by a setting
+abbrev pub has_globs : Dialect → Bool
+has_globs Sqlite = true
+has_globs _ = false
+
+-- ---- LIKE: 37 is `%`, 95 `_`, and 33 `!`, which makes the character behind it stand for itself
+
+-- whether the character would stand for others, or make another stand for itself
+abbrev pub is_like_sign : ℕ → Bool
+is_like_sign c = c == 37 || (c == 95 || c == 33)
+
+abbrev pub like_char : ℕ → List ℕ
+like_char c = if is_like_sign c then 33 ∷ c ∷ [] else c ∷ []
+
+abbrev pub like_part : Part → List ℕ
+like_part any_text = 37 ∷ []
+like_part any_one = 95 ∷ []
+like_part (just c) = like_char c
+
+-- ---- GLOB: 42 is `*` for any text, 63 `?` for any one character, and 91 and 93 enclose those of which one stands
+
+-- whether the character would stand for others
+abbrev pub is_glob_sign : ℕ → Bool
+is_glob_sign c = c == 42 || (c == 63 || c == 91)
+
+-- a character that is enclosed, alone or with its capital
+abbrev pub enclosed : ℕ → List ℕ
+enclosed c = 91 ∷ c ∷ 93 ∷ []
+
+abbrev pub enclosed_pair : ℕ → List ℕ
+enclosed_pair c = 91 ∷ c ∷ to_ascii_uppercase c ∷ 93 ∷ []
+
+-- a small letter may be a capital, too, where the case is ignored, and a sign is enclosed
+abbrev pub glob_char : Bool → ℕ → List ℕ
+glob_char ignore_case c = if ignore_case && is_ascii_lowercase c then enclosed_pair c else if is_glob_sign c then enclosed c else c ∷ []
+
+abbrev pub glob_part : Bool → Part → List ℕ
+glob_part ignore_case any_text = 42 ∷ []
+glob_part ignore_case any_one = 63 ∷ []
+glob_part ignore_case (just c) = glob_char ignore_case c
+
+-- ---- patterns
+
+-- the engine's spelling of a part
+abbrev pub part_spelled : Dialect → Bool → Part → List ℕ
+part_spelled d ignore_case p = if has_globs d then glob_part ignore_case p else like_part p
+
+-- the engine's spelling of the parts
+abbrev pub parts_spelled : Dialect → Bool → List Part → List ℕ
+parts_spelled d ignore_case ps = flat_map (part_spelled d ignore_case) ps
+
+-- a pattern as a text between quotes
+abbrev pub pattern_sql : Dialect → Bool → List ℕ → List ℕ
+pattern_sql d ignore_case p = quoted (quoting_of d p) (parts_spelled d ignore_case (spelled_by ignore_case p))
+
+-- ---- what the code has
+
+-- what a part of the program stands for
+abbrev pub part_view : program.Part → Part
+part_view AnyText = any_text
+part_view AnyOne = any_one
+part_view (Just c) = just c

@@ -1,0 +1,85 @@
+-- Why a node has no SQL text.
+use Rattle.std.specs.Prelude.{ℕ, Bool, true, false, not, ◌==◌, ◌||◌, ◌&&◌, List, [], ◌∷◌, Option, Some, None, length, if◌then◌else◌, nat_lt, nat_le}
+use Rattle.std.specs.List.{list_any, count_by}
+use Rattle.std.specs.Option.{option_or, is_some}
+use Rattle.std.specs.Str.{bytes_eq}
+use Rattle.vx_source_dtype.specs.Names.{same_word}
+use Rattle.vx_value.specs.Types.{Name, LogicalType, Datum, utf8}
+use Rattle.vx_fn.specs.Functions.{Function, get_item, literal, pack, select, fill_null, like, arity_of, is_atomic}
+use Rattle.vx_tree.specs.Nodes.{bound_at, bound_count_of}
+use Rattle.vx_tree.specs.Trees.{BoundTree, BoundTrees}
+use Rattle.vx_sql.specs.declared.dialect.Dialect.{Dialect}
+use Rattle.vx_sql.specs.declared.dialect.Dialect.TheVariants.{Postgres, Sqlite, DuckDb, Spark}
+use Rattle.vx_sql.specs.declared.unsupported.Reason.{Reason}
+use Rattle.vx_sql.specs.declared.unsupported.Reason.TheVariants.{ChildCount, UnknownType, UnknownFunction, NestedLiteral, PatternNotLiteral, FillNotLiteral, EmptyName, LongName, AmbiguousName, Nul}
+use Rattle.vx_sql.specs.Children.{passes, has_atomic_first, names_first, literal_in, is_value}
+use Rattle.vx_sql.specs.Dialects.{has_type, makes_structs}
+
+-- the reason where the test holds
+abbrev pub because : Bool → Reason → Option Reason
+because b r = if b then Some r else None
+
+-- ---- names
+
+-- whether a NUL stands in the text
+abbrev pub has_nul : List ℕ → Bool
+has_nul s = list_any (λ b. b == 0) s
+
+-- whether the engine cuts the name: PostgreSQL keeps 63 bytes
+abbrev pub is_cut : Dialect → Name → Bool
+is_cut Postgres a = nat_lt 63 (length a)
+is_cut _ a = false
+
+-- whether the engine takes two names for one: all but PostgreSQL ignore the case of ASCII letters, between quotes too
+abbrev pub same_name : Dialect → Name → Name → Bool
+same_name Postgres a b = bytes_eq a b
+same_name _ a b = same_word a b
+
+-- why no such name can be written
+abbrev pub spelling_reason : Dialect → Name → Option Reason
+spelling_reason d a = option_or (because (length a == 0) EmptyName) (option_or (because (has_nul a) Nul) (because (is_cut d a) LongName))
+
+-- why the name isn't that of one of the columns or fields alone
+abbrev pub name_reason : Dialect → List Name → Name → Option Reason
+name_reason d names a = option_or (spelling_reason d a) (because (nat_lt 1 (count_by (same_name d a) names)) AmbiguousName)
+
+-- the first reason of one of these names among all
+abbrev pub names_reason : Dialect → List Name → List Name → Option Reason
+names_reason d all [] = None
+names_reason d all (a ∷ names) = option_or (name_reason d all a) (names_reason d all names)
+
+-- ---- functions
+
+-- a literal is of a type without parts, and no text of it has a NUL
+abbrev pub value_reason : Datum → Option Reason
+value_reason (utf8 s) = because (has_nul s) Nul
+value_reason _ = None
+
+abbrev pub literal_reason : LogicalType → Datum → Option Reason
+literal_reason t v = if is_atomic t then value_reason v else Some NestedLiteral
+
+-- a struct that is made has a field, and no two of one name
+abbrev pub pack_reason : Dialect → List Name → Option Reason
+pack_reason d names = if makes_structs d && not (length names == 0) then names_reason d names names else Some UnknownFunction
+
+-- a fill of other values than one may be none, and so may one of lists and structs
+abbrev pub fill_reason : BoundTrees → Option Reason
+fill_reason bs = because (not (has_atomic_first bs && passes (λ b. is_value (literal_in b)) (bound_at bs 1))) FillNotLiteral
+
+-- the parts of a pattern are known where it is a literal
+abbrev pub pattern_reason : BoundTrees → Option Reason
+pattern_reason bs = because (not (passes (λ b. is_some (literal_in b)) (bound_at bs 1))) PatternNotLiteral
+
+abbrev pub function_reason : Dialect → Function → BoundTrees → Option Reason
+function_reason d (get_item a) bs = name_reason d (names_first bs) a
+function_reason d (literal t v) bs = literal_reason t v
+function_reason d (pack names n) bs = pack_reason d names
+function_reason d (select selection) bs = Some UnknownFunction
+function_reason d fill_null bs = fill_reason bs
+function_reason d (like negated ci) bs = pattern_reason bs
+function_reason d _ bs = None
+
+-- why a node of that type over these children has no text: for their number, for its type, or for its function
+abbrev pub own_reason : Dialect → LogicalType → Function → BoundTrees → Option Reason
+own_reason d t f bs =
+    if bound_count_of bs == arity_of f then option_or (because (not (has_type d t)) UnknownType) (function_reason d f bs) else Some ChildCount

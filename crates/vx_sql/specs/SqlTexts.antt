@@ -1,0 +1,189 @@
+-- The SQL text of a bound tree over the columns of its scope.
+use Rattle.std.specs.Prelude.{ℕ, Bool, true, false, ◌&&◌, ◌==◌, List, [], ◌∷◌, ◌++◌, codes, get_or, if◌then◌else◌, Option, Some, None}
+use Rattle.vx_value.specs.Columns.{Constant}
+use Rattle.vx_value.specs.Types.{Name, number, LogicalType, ty, atomic, Datum, utf8}
+use Rattle.vx_fn.specs.Functions.{equal, not_equal, greater, greater_or_equal, less, less_or_equal, Comparison, Operation, compares, and_also, or_else, adds, Function, case_when, get_item, literal, pack, select, fill_null, zip, binary, logical_not, between, like, is_null, is_not_null, mask, cast, arity_of}
+use Rattle.vx_fn.specs.Texts.{with_commas, pairs_sql, operator_sql, bound_text}
+use Rattle.vx_tree.specs.Nodes.{bound_at, bound_count_of}
+use Rattle.vx_tree.specs.Trees.{BoundTree, scope, node, BoundTrees, no_bound, bound}
+use Rattle.vx_tree.specs.declared.bound.BoundExpression.{BoundExpression}
+use Rattle.vx_tree.specs.Views.{bounds_of}
+use Rattle.vx_sql.specs.declared.dialect.Dialect.{Dialect}
+use Rattle.vx_sql.specs.declared.dialect.Dialect.TheVariants.{Postgres, Sqlite, DuckDb, Spark}
+use Rattle.vx_sql.specs.Children.{is_row, has_text_first, has_struct_first, literal_in}
+use Rattle.vx_sql.specs.Dialects.{collation}
+use Rattle.vx_sql.specs.Quotes.{name_sql, text_sql}
+use Rattle.vx_sql.specs.Patterns.{has_globs, pattern_sql}
+use Rattle.vx_sql.specs.Literals.{literal_sql, null_sql}
+use Rattle.vx_sql.specs.Sums.{sum_sql}
+
+-- ---- operators
+
+-- the sign of a comparison
+abbrev pub comparison_sign : Comparison → List ℕ
+comparison_sign equal = codes "="
+comparison_sign not_equal = codes "<>"
+comparison_sign greater = codes ">"
+comparison_sign greater_or_equal = codes ">="
+comparison_sign less = codes "<"
+comparison_sign less_or_equal = codes "<="
+
+-- an operand, with the engine's word for comparing bytes where it is a text
+abbrev pub compared_sql : Dialect → Bool → List ℕ → List ℕ
+compared_sql d is_text a = if is_text then a ++ collation d else a
+
+-- the sum of numbers; of other types there is none
+abbrev pub added_sql : Dialect → LogicalType → List ℕ → List ℕ → List ℕ
+added_sql d (ty (atomic (number p)) n) a b = sum_sql d p a b
+added_sql d _ a b = []
+
+-- an operator between two texts, where the first may be a text, and the sum has a type
+abbrev pub binary_sql : Dialect → LogicalType → Bool → Operation → List ℕ → List ℕ → List ℕ
+binary_sql d t is_text (compares c) a b = operator_sql (comparison_sign c) (compared_sql d is_text a) b
+binary_sql d t is_text and_also a b = operator_sql (codes "AND") a b
+binary_sql d t is_text or_else a b = operator_sql (codes "OR") a b
+binary_sql d t is_text adds a b = added_sql d t a b
+
+-- one text below another, or not above it
+abbrev pub below_sql : Bool → List ℕ → List ℕ → List ℕ
+below_sql strict a b = a ++ (codes " " ++ (bound_text strict ++ (codes " " ++ b)))
+
+-- what says that a text before it is from one bound to another, and two texts that both have to hold
+abbrev pub range_sql : List ℕ → List ℕ → List ℕ
+range_sql l u = codes " BETWEEN " ++ (l ++ (codes " AND " ++ u))
+
+abbrev pub both_sql : List ℕ → List ℕ → List ℕ
+both_sql a b = codes "(" ++ (a ++ (codes " AND " ++ (b ++ codes ")")))
+
+-- a text between two bounds: by one word where both are let in, else by two comparisons
+abbrev pub between_sql : Dialect → Bool → Bool → Bool → List ℕ → List ℕ → List ℕ → List ℕ
+between_sql d is_text false false v l u = codes "(" ++ (compared_sql d is_text v ++ (range_sql l u ++ codes ")"))
+between_sql d is_text ls us v l u = both_sql (below_sql ls (compared_sql d is_text l) v) (below_sql us (compared_sql d is_text v) u)
+
+-- ---- tests
+
+-- whether a struct of nulls is told from a null struct by other words than `IS NULL`
+abbrev pub tests_rows : Dialect → Bool
+tests_rows Postgres = true
+tests_rows _ = false
+
+abbrev pub null_sign : Bool → Bool → List ℕ
+null_sign true true = codes " IS NOT DISTINCT FROM NULL)"
+null_sign true false = codes " IS DISTINCT FROM NULL)"
+null_sign false true = codes " IS NULL)"
+null_sign false false = codes " IS NOT NULL)"
+
+-- whether a value, a struct or another one, is null, or isn't
+abbrev pub null_test : Dialect → Bool → Bool → List ℕ → List ℕ
+null_test d is_struct for_null c = codes "(" ++ (c ++ null_sign (tests_rows d && is_struct) for_null)
+
+-- what stands before a text whose case is ignored, and behind it
+abbrev pub before_folded : Dialect → List ℕ
+before_folded Postgres = codes "lower("
+before_folded Sqlite = []
+before_folded _ = codes "translate("
+
+abbrev pub behind_folded : Dialect → List ℕ
+behind_folded Postgres = codes ")"
+behind_folded Sqlite = []
+behind_folded _ = codes ", 'ABCDEFGHIJKLMNOPQRSTUVWXYZ', 'abcdefghijklmnopqrstuvwxyz')"
+
+-- what stands before a text that is matched, and behind it: a GLOB compares bytes by itself, and ignores the case by its pattern
+abbrev pub before_matched : Dialect → Bool → List ℕ
+before_matched d ignore_case = codes "(" ++ (if ignore_case then before_folded d else [])
+
+abbrev pub behind_matched : Dialect → Bool → List ℕ
+behind_matched d ignore_case = (if has_globs d then [] else collation d) ++ (if ignore_case then behind_folded d else [])
+
+-- the word of a match
+abbrev pub like_sign : Dialect → Bool → List ℕ
+like_sign d negated = (if negated then codes " NOT" else []) ++ (if has_globs d then codes " GLOB " else codes " LIKE ")
+
+-- what stands behind the pattern
+abbrev pub like_end : Dialect → List ℕ
+like_end d = if has_globs d then codes ")" else codes " ESCAPE '!')"
+
+-- the pattern of a literal, which may be null
+abbrev pub value_pattern : Dialect → Bool → LogicalType → Datum → List ℕ
+value_pattern d ignore_case t (utf8 p) = pattern_sql d ignore_case p
+value_pattern d ignore_case t _ = null_sql d t
+
+abbrev pub literal_pattern : Dialect → Bool → Option Constant → List ℕ
+literal_pattern d ignore_case None = []
+literal_pattern d ignore_case (Some c) = value_pattern d ignore_case c.type c.value
+
+-- the pattern that is the second child
+abbrev pub pattern_of : Dialect → Bool → Option BoundTree → List ℕ
+pattern_of d ignore_case None = []
+pattern_of d ignore_case (Some b) = literal_pattern d ignore_case (literal_in b)
+
+abbrev pub second_pattern : Dialect → Bool → BoundTrees → List ℕ
+second_pattern d ignore_case bs = pattern_of d ignore_case (bound_at bs 1)
+
+abbrev pub match_sql : Dialect → Bool → Bool → List ℕ → List ℕ → List ℕ
+match_sql d negated ignore_case c pattern =
+    before_matched d ignore_case ++ (c ++ (behind_matched d ignore_case ++ (like_sign d negated ++ (pattern ++ like_end d))))
+
+-- ---- choices
+
+-- the value where the condition is true, and what follows
+abbrev pub choice_sql : List ℕ → List ℕ → List ℕ → List ℕ
+choice_sql condition value rest = codes "CASE WHEN " ++ (condition ++ (codes " THEN " ++ (value ++ rest)))
+
+-- ---- structs
+
+-- a column of the row, or a field of a struct
+abbrev pub item_sql : Dialect → Name → Bool → List ℕ → List ℕ
+item_sql d a is_column c = if is_column then name_sql d a else codes "(" ++ (c ++ (codes ")." ++ name_sql d a))
+
+-- a field that is made: its name, and behind it its value
+abbrev pub before_field : Dialect → Name → List ℕ
+before_field DuckDb a = name_sql DuckDb a ++ codes " := "
+before_field d a = text_sql d a ++ codes ", "
+
+abbrev pub fields_sql : Dialect → List Name → List (List ℕ) → List (List ℕ)
+fields_sql d (a ∷ names) (c ∷ cs) = (before_field d a ++ c) ∷ fields_sql d names cs
+fields_sql d _ _ = []
+
+-- the function that makes a struct
+abbrev pub pack_word : Dialect → List ℕ
+pack_word DuckDb = codes "struct_pack("
+pack_word _ = codes "named_struct("
+
+-- ---- trees
+
+-- the text of a node of that type over as many children as it takes, whose texts are there
+abbrev pub own_sql : Dialect → LogicalType → Function → BoundTrees → List (List ℕ) → List ℕ
+own_sql d t (case_when pairs has_else) bs cs = codes "CASE" ++ (pairs_sql cs ++ codes " END")
+own_sql d t (get_item a) bs cs = item_sql d a (is_row bs) (get_or cs 0 [])
+own_sql d t (literal u v) bs cs = literal_sql d v u
+own_sql d t (pack names n) bs cs = pack_word d ++ (with_commas (fields_sql d names cs) ++ codes ")")
+own_sql d t (select selection) bs cs = []
+own_sql d t fill_null bs cs = codes "COALESCE(" ++ (get_or cs 0 [] ++ (codes ", " ++ (get_or cs 1 [] ++ codes ")")))
+own_sql d t zip bs cs = choice_sql (get_or cs 2 []) (get_or cs 0 []) (codes " ELSE " ++ (get_or cs 1 [] ++ codes " END"))
+own_sql d t (binary op) bs cs = binary_sql d t (has_text_first bs) op (get_or cs 0 []) (get_or cs 1 [])
+own_sql d t logical_not bs cs = codes "(NOT " ++ (get_or cs 0 [] ++ codes ")")
+own_sql d t (between ls us) bs cs = between_sql d (has_text_first bs) ls us (get_or cs 0 []) (get_or cs 1 []) (get_or cs 2 [])
+own_sql d t (like negated ci) bs cs = match_sql d negated ci (get_or cs 0 []) (second_pattern d ci bs)
+own_sql d t is_null bs cs = null_test d (has_struct_first bs) true (get_or cs 0 [])
+own_sql d t is_not_null bs cs = null_test d (has_struct_first bs) false (get_or cs 0 [])
+own_sql d t mask bs cs = choice_sql (get_or cs 1 []) (get_or cs 0 []) (codes " END")
+own_sql d t (cast u) bs cs = get_or cs 0 []
+
+-- the text of a node; over another number of children it has none
+abbrev pub node_sql : Dialect → LogicalType → Function → BoundTrees → List (List ℕ) → List ℕ
+node_sql d t f bs cs = if bound_count_of bs == arity_of f then own_sql d t f bs cs else []
+
+-- the text of a tree, and those of trees; the row as a whole has none
+abbrev mutual
+  pub sql : Dialect → BoundTree → List ℕ
+  sql d (scope t) = []
+  sql d (node t f bs) = node_sql d t f bs (sqls d bs)
+
+  pub sqls : Dialect → BoundTrees → List (List ℕ)
+  sqls d no_bound = []
+  sqls d (bound b bs) = sql d b ∷ sqls d bs
+
+-- the texts of bound expressions
+abbrev pub sqls_of : Dialect → List BoundExpression → List (List ℕ)
+sqls_of d bs = sqls d (bounds_of bs)

@@ -1,0 +1,22 @@
+// SQL texts of bound trees, by the engine that they are handed to.
+#![tactic(auto)]
+
+mod characters;
+mod children;
+mod conversion;
+mod dialect;
+mod literals;
+mod names;
+mod patterns;
+mod quotes;
+mod reasons;
+mod sums;
+mod text;
+mod types;
+mod unsupported;
+mod walk;
+
+pub use conversion::to_sql;
+pub use dialect::Dialect;
+pub use unsupported::{Reason, Unsupported};
+pub use walk::first_unsupported;

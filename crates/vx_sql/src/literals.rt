@@ -1,0 +1,177 @@
+// Literals.
+ghost use Rattle.std.specs.Prelude.{◌≡◌, ◌++◌, pos, codes};
+ghost use Rattle.std.specs.Fmt.{WritesOnOk};
+ghost use Rattle.std.specs.List.{flat_map};
+ghost use Rattle.vx_value.specs.Types.{is_signed};
+ghost use Rattle.vx_value.specs.ValueTexts.{hex_byte};
+ghost use Rattle.vx_value.specs.Views.{type_of, value_of};
+ghost use Rattle.vx_sql.specs.Dialects.{cast_text};
+ghost use Rattle.vx_sql.specs.Literals.{literal_sql, null_sql, truth_sql, is_by_itself, natural_sql, number_sql, octets_sql, byte_escape};
+
+use crate::Dialect;
+use crate::quotes::write_text;
+use crate::types::{number_word, type_word};
+use std::fmt;
+use std::fmt::{Display, Formatter, Write};
+use vx_types::{DType, PType, Scalar, Value};
+
+/// Writes the value, none of a list or a struct.
+pub(crate) fn write_literal<W: Write>(
+    dialect: Dialect,
+    scalar: &Scalar,
+    f: &mut Formatter<W>,
+) -> fmt::Result
+    ensures { WritesOnOk W.write_str_gives f.old result (literal_sql dialect scalar.now.value scalar.now.type) f.new }
+{
+    write_value(dialect, scalar.value(), scalar.dtype(), f)
+}
+
+fn write_value<W: Write>(
+    dialect: Dialect,
+    value: &Value,
+    dtype: &DType,
+    f: &mut Formatter<W>,
+) -> fmt::Result
+    ensures { WritesOnOk W.write_str_gives f.old result (literal_sql dialect (value_of value.now) (type_of dtype.now)) f.new }
+{
+    match value {
+        Value::Null => write_null(dialect, dtype, f),
+        Value::Bool(b) => f.write_str(truth_word(dialect, *b)),
+        Value::Int(number) => match dtype {
+            DType::Primitive(p, _) => write_number(dialect, *p, *number, f),
+            _ => Ok(()),
+        },
+        Value::Utf8(text) => write_text(dialect, text.as_str(), f),
+        Value::Binary(bytes) => write_octets(dialect, bytes.as_slice(), f),
+        Value::List(_) | Value::Struct(_) => Ok(()),
+    }
+}
+
+/// Writes a null of that type.
+pub(crate) fn write_null<W: Write>(
+    dialect: Dialect,
+    dtype: &DType,
+    f: &mut Formatter<W>,
+) -> fmt::Result
+    ensures { WritesOnOk W.write_str_gives f.old result (null_sql dialect (type_of dtype.now)) f.new }
+{
+    f.write_str("CAST(NULL AS ")?;
+    f.write_str(type_word(dialect, dtype))?;
+    f.write_str(")")
+}
+
+fn truth_word(dialect: Dialect, b: bool) -> &'static str
+    ensures { result.now ≡ truth_sql dialect b }
+{
+    match dialect {
+        Dialect::Sqlite => {
+            if b {
+                "1"
+            } else {
+                "0"
+            }
+        }
+        Dialect::Postgres | Dialect::DuckDb | Dialect::Spark => {
+            if b {
+                "TRUE"
+            } else {
+                "FALSE"
+            }
+        }
+    }
+}
+
+// Whether the digits alone are a number of that type: all are of SQLite's, and else those of an `i32`.
+fn is_by_itself(dialect: Dialect, p: PType) -> bool
+    ensures { result ≡ is_by_itself dialect p }
+{
+    matches!(dialect, Dialect::Sqlite) || matches!(p, PType::I32)
+}
+
+// Writes the number as one of the engine's type, which a sum relies on. The sign of one below zero
+// would be read with what stands before it.
+fn write_number<W: Write>(
+    dialect: Dialect,
+    p: PType,
+    number: i128,
+    f: &mut Formatter<W>,
+) -> fmt::Result
+    ensures { WritesOnOk W.write_str_gives f.old result (number_sql dialect p number) f.new }
+{
+    if number >= 0 && is_by_itself(dialect, p) {
+        return number.fmt(f);
+    }
+    f.write_str("CAST(")?;
+    number.fmt(f)?;
+    f.write_str(" AS ")?;
+    f.write_str(number_word(dialect, p))?;
+    f.write_str(")")
+}
+
+/// Writes the number as one of the engine's type.
+pub(crate) fn write_natural<W: Write>(
+    dialect: Dialect,
+    p: PType,
+    number: u64,
+    f: &mut Formatter<W>,
+) -> fmt::Result
+    ensures { WritesOnOk W.write_str_gives f.old result (natural_sql dialect p number) f.new }
+{
+    write_number(dialect, p, i128::from(number), f)
+}
+
+// Writes bytes by their digits.
+fn write_octets<W: Write>(dialect: Dialect, bytes: &[u8], f: &mut Formatter<W>) -> fmt::Result
+    ensures { WritesOnOk W.write_str_gives f.old result (octets_sql dialect bytes.now) f.new }
+{
+    match dialect {
+        Dialect::Postgres => {
+            f.write_str("decode('")?;
+            write_digits(bytes, f)?;
+            f.write_str("', 'hex')")
+        }
+        Dialect::DuckDb => {
+            f.write_str("CAST('")?;
+            write_escapes(bytes, f)?;
+            f.write_str("' AS BLOB)")
+        }
+        Dialect::Sqlite | Dialect::Spark => {
+            f.write_str("X'")?;
+            write_digits(bytes, f)?;
+            f.write_str("'")
+        }
+    }
+}
+
+// Writes two digits a byte.
+fn write_digits<W: Write>(bytes: &[u8], f: &mut Formatter<W>) -> fmt::Result
+    ensures { WritesOnOk W.write_str_gives f.old result (flat_map hex_byte bytes.now) f.new }
+{
+    for b in bytes {
+        write_byte(*b, f)?;
+    }
+    Ok(())
+}
+
+// Writes two digits behind `\x` a byte.
+fn write_escapes<W: Write>(bytes: &[u8], f: &mut Formatter<W>) -> fmt::Result
+    ensures { WritesOnOk W.write_str_gives f.old result (flat_map byte_escape bytes.now) f.new }
+{
+    for b in bytes {
+        write_escape(*b, f)?;
+    }
+    Ok(())
+}
+
+fn write_escape<W: Write>(b: u8, f: &mut Formatter<W>) -> fmt::Result
+    ensures { WritesOnOk W.write_str_gives f.old result (byte_escape b) f.new }
+{
+    f.write_str("\\x")?;
+    write_byte(b, f)
+}
+
+fn write_byte<W: Write>(b: u8, f: &mut Formatter<W>) -> fmt::Result
+    ensures { WritesOnOk W.write_str_gives f.old result (hex_byte b) f.new }
+{
+    write!(f, "{b:02x}")
+}

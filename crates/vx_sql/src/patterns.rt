@@ -1,0 +1,197 @@
+// The patterns of LIKE.
+ghost use Rattle.std.specs.Prelude.{◌≡◌, ◌<◌, ◌∷◌, ◌&&◌, [], length, encode_utf8_all, MatchOption, IfSome};
+ghost use Rattle.std.specs.Char.{is_ascii_lowercase};
+ghost use Rattle.std.specs.Fmt.{WritesOnOk};
+ghost use Rattle.std.specs.List.{flat_map};
+ghost use Rattle.vx_fn.specs.Values.{part_of};
+ghost use Rattle.vx_eval_like.specs.Patterns.{characters, spelled_by};
+ghost use Rattle.vx_sql.specs.Quotes.{inside};
+ghost use Rattle.vx_sql.specs.Patterns.{has_globs, is_like_sign, is_glob_sign, enclosed, enclosed_pair, like_char, like_part, glob_char, glob_part, part_spelled, parts_spelled, pattern_sql, part_view};
+
+use crate::Dialect;
+use crate::characters::split_first;
+use crate::quotes::Quoting;
+use std::fmt;
+use std::fmt::{Formatter, Write};
+
+/// Whether the engine's patterns are those of GLOB. SQLite's LIKE ignores the case of letters or not,
+/// by a setting.
+pub(crate) fn has_globs(dialect: Dialect) -> bool
+    ensures { result ≡ has_globs dialect }
+{
+    matches!(dialect, Dialect::Sqlite)
+}
+
+/// Writes the pattern as the engine's, between quotes.
+pub(crate) fn write_pattern<W: Write>(
+    dialect: Dialect,
+    pattern: &str,
+    ignore_case: bool,
+    f: &mut Formatter<W>,
+) -> fmt::Result
+    ensures { WritesOnOk W.write_str_gives f.old result (pattern_sql dialect ignore_case pattern.now) f.new }
+{
+    let quoting = Quoting::of(dialect, pattern);
+    f.write_str(quoting.opening())?;
+    let spelling = Spelling {
+        dialect,
+        quoting,
+        ignore_case,
+    };
+    spelling.write_parts(pattern, f)?;
+    f.write_str("'")
+}
+
+// How the parts of a pattern are spelled, inside a text.
+#[derive(Clone, Copy)]
+struct Spelling {
+    dialect: Dialect,
+    quoting: Quoting,
+    ignore_case: bool,
+}
+
+impl Spelling {
+    // Writes the parts that the pattern spells.
+    fn write_parts<W: Write>(self, pattern: &str, f: &mut Formatter<W>) -> fmt::Result
+        ensures { WritesOnOk W.write_str_gives f.old result
+            (encode_utf8_all (flat_map (inside self.quoting) (parts_spelled self.dialect self.ignore_case (spelled_by self.ignore_case pattern.now)))) f.new }
+    {
+        let mut rest = pattern;
+        while let Some((part, after)) = first_part(rest, self.ignore_case) {
+            self.write_part(part, f)?;
+            rest = after;
+        }
+        Ok(())
+    }
+
+    fn write_part<W: Write>(self, part: Part, f: &mut Formatter<W>) -> fmt::Result
+        ensures { WritesOnOk W.write_str_gives f.old result
+            (encode_utf8_all (flat_map (inside self.quoting) (part_spelled self.dialect self.ignore_case (part_view part)))) f.new }
+    {
+        if has_globs(self.dialect) {
+            self.write_glob(part, f)
+        } else {
+            self.write_like(part, f)
+        }
+    }
+
+    fn write_like<W: Write>(self, part: Part, f: &mut Formatter<W>) -> fmt::Result
+        ensures { WritesOnOk W.write_str_gives f.old result (encode_utf8_all (flat_map (inside self.quoting) (like_part (part_view part)))) f.new }
+    {
+        match part {
+            Part::AnyText => f.write_str("%"),
+            Part::AnyOne => f.write_str("_"),
+            Part::Just(c) => self.write_like_char(c, f),
+        }
+    }
+
+    // A character that would stand for others is written behind the sign that makes it stand for itself.
+    fn write_like_char<W: Write>(self, c: char, f: &mut Formatter<W>) -> fmt::Result
+        ensures { WritesOnOk W.write_str_gives f.old result (encode_utf8_all (flat_map (inside self.quoting) (like_char c))) f.new }
+    {
+        if is_like_sign(c) {
+            f.write_str("!")?;
+        }
+        self.quoting.write_inside(c, f)
+    }
+
+    fn write_glob<W: Write>(self, part: Part, f: &mut Formatter<W>) -> fmt::Result
+        ensures { WritesOnOk W.write_str_gives f.old result (encode_utf8_all (flat_map (inside self.quoting) (glob_part self.ignore_case (part_view part)))) f.new }
+    {
+        match part {
+            Part::AnyText => f.write_str("*"),
+            Part::AnyOne => f.write_str("?"),
+            Part::Just(c) => self.write_glob_char(c, f),
+        }
+    }
+
+    // A small letter may be a capital, too, where the case is ignored, and a sign is enclosed.
+    fn write_glob_char<W: Write>(self, c: char, f: &mut Formatter<W>) -> fmt::Result
+        ensures { WritesOnOk W.write_str_gives f.old result (encode_utf8_all (flat_map (inside self.quoting) (glob_char self.ignore_case c))) f.new }
+    {
+        if has_two_cases(c, self.ignore_case) {
+            self.write_enclosed_pair(c, f)
+        } else if is_glob_sign(c) {
+            self.write_enclosed(c, f)
+        } else {
+            self.quoting.write_inside(c, f)
+        }
+    }
+
+    fn write_enclosed<W: Write>(self, c: char, f: &mut Formatter<W>) -> fmt::Result
+        ensures { WritesOnOk W.write_str_gives f.old result (encode_utf8_all (flat_map (inside self.quoting) (enclosed c))) f.new }
+    {
+        f.write_str("[")?;
+        self.quoting.write_inside(c, f)?;
+        f.write_str("]")
+    }
+
+    fn write_enclosed_pair<W: Write>(self, c: char, f: &mut Formatter<W>) -> fmt::Result
+        ensures { WritesOnOk W.write_str_gives f.old result (encode_utf8_all (flat_map (inside self.quoting) (enclosed_pair c))) f.new }
+    {
+        f.write_str("[")?;
+        self.quoting.write_inside(c, f)?;
+        self.quoting.write_inside(c.to_ascii_uppercase(), f)?;
+        f.write_str("]")
+    }
+}
+
+// Whether a capital stands for the character, too.
+fn has_two_cases(c: char, ignore_case: bool) -> bool
+    ensures { result ≡ (ignore_case && is_ascii_lowercase c) }
+{
+    ignore_case && c.is_ascii_lowercase()
+}
+
+// Whether the character would stand for others, or make another stand for itself.
+fn is_like_sign(c: char) -> bool
+    ensures { result ≡ is_like_sign c }
+{
+    matches!(c, '%' | '_' | '!')
+}
+
+// Whether the character would stand for others.
+fn is_glob_sign(c: char) -> bool
+    ensures { result ≡ is_glob_sign c }
+{
+    matches!(c, '*' | '?' | '[')
+}
+
+// What a place of a pattern stands for.
+#[derive(Clone, Copy)]
+enum Part {
+    AnyText,
+    AnyOne,
+    Just(char),
+}
+
+impl Part {
+    // What the character stands for with no backslash before it.
+    fn of(c: char) -> Part
+        ensures { part_view result ≡ part_of c }
+    {
+        match c {
+            '%' => Part::AnyText,
+            '_' => Part::AnyOne,
+            _ => Part::Just(c),
+        }
+    }
+}
+
+// The first part that the pattern spells, and the pattern after it. A backslash at the end stands for
+// itself.
+fn first_part(pattern: &str, ignore_case: bool) -> Option<(Part, &str)>
+    ensures part { MatchOption result (spelled_by ignore_case pattern.now ≡ [])
+        (λ p. spelled_by ignore_case pattern.now ≡ part_view p.0 ∷ spelled_by ignore_case p.1.now) }
+    ensures shorter { IfSome result
+        (λ p. length (characters ignore_case p.1.now) < length (characters ignore_case pattern.now)) }
+{
+    let (first, rest) = split_first(pattern, ignore_case)?;
+    if first != '\\' {
+        return Some((Part::of(first), rest));
+    }
+    match split_first(rest, ignore_case) {
+        Some((escaped, after)) => Some((Part::Just(escaped), after)),
+        None => Some((Part::Just(first), rest)),
+    }
+}

@@ -1,0 +1,222 @@
+// Why a node has no SQL text.
+ghost use Rattle.std.specs.Prelude.{◌≡◌};
+ghost use Rattle.std.specs.Option.{is_some};
+ghost use Rattle.vx_value.specs.Views.{type_of};
+ghost use Rattle.vx_fn.specs.Views.{function_of};
+ghost use Rattle.vx_tree.specs.Nodes.{bound_at};
+ghost use Rattle.vx_tree.specs.Views.{bounds_of};
+ghost use Rattle.vx_sql.specs.Children.{passes, names_in, names_first, literal_in, is_value};
+ghost use Rattle.vx_sql.specs.Reasons.{has_nul, is_cut, same_name, spelling_reason, name_reason, names_reason, literal_reason, pack_reason, fill_reason, pattern_reason, function_reason, own_reason};
+
+use crate::Dialect;
+use crate::children::{child_at, has_atomic_first, is_atomic, literal_in};
+use crate::types::{has_type, makes_structs};
+use crate::unsupported::Reason;
+use vx_fn::ScalarFnRef;
+use vx_tree::BoundExpression;
+use vx_types::{DType, FieldName, Scalar, Value};
+
+/// Why a node of that type over these children has no text: for their number, for its type, or for its
+/// function.
+pub(crate) fn own_reason(
+    dialect: Dialect,
+    dtype: &DType,
+    scalar_fn: &ScalarFnRef,
+    children: &[BoundExpression],
+) -> Option<Reason>
+    ensures { result ≡ own_reason dialect (type_of dtype.now) (function_of scalar_fn.now) (bounds_of children.now) }
+{
+    if children.len() != scalar_fn.arity() {
+        return Some(Reason::ChildCount);
+    }
+    if !has_type(dialect, dtype) {
+        return Some(Reason::UnknownType);
+    }
+    function_reason(dialect, scalar_fn, children)
+}
+
+fn function_reason(
+    dialect: Dialect,
+    scalar_fn: &ScalarFnRef,
+    children: &[BoundExpression],
+) -> Option<Reason>
+    ensures { result ≡ function_reason dialect (function_of scalar_fn.now) (bounds_of children.now) }
+{
+    match scalar_fn {
+        ScalarFnRef::GetItem(name) => name_reason(dialect, names_first(children), name),
+        ScalarFnRef::Literal(scalar) => literal_reason(scalar),
+        ScalarFnRef::Pack(options) => pack_reason(dialect, options.names.as_slice()),
+        ScalarFnRef::Select(_) => Some(Reason::UnknownFunction),
+        ScalarFnRef::FillNull(_) => fill_reason(children),
+        ScalarFnRef::Like(_) => pattern_reason(children),
+        ScalarFnRef::CaseWhen(_)
+        | ScalarFnRef::Zip(_)
+        | ScalarFnRef::Binary(_)
+        | ScalarFnRef::Not(_)
+        | ScalarFnRef::Between(_)
+        | ScalarFnRef::IsNull(_)
+        | ScalarFnRef::IsNotNull(_)
+        | ScalarFnRef::Mask(_)
+        | ScalarFnRef::Cast(_) => None,
+    }
+}
+
+// Why the name isn't that of one of the columns or fields alone.
+fn name_reason(dialect: Dialect, names: &[FieldName], name: &FieldName) -> Option<Reason>
+    ensures { result ≡ name_reason dialect names.now name.now }
+{
+    if let Some(reason) = spelling_reason(dialect, name.as_str()) {
+        return Some(reason);
+    }
+    let alike = names
+        .iter()
+        .filter(|other| same_name(dialect, name, other))
+        .count();
+    if alike > 1 {
+        return Some(Reason::AmbiguousName);
+    }
+    None
+}
+
+// Why no such name can be written.
+fn spelling_reason(dialect: Dialect, name: &str) -> Option<Reason>
+    ensures { result ≡ spelling_reason dialect name.now }
+{
+    if name.is_empty() {
+        Some(Reason::EmptyName)
+    } else if has_nul(name) {
+        Some(Reason::Nul)
+    } else if is_cut(dialect, name) {
+        Some(Reason::LongName)
+    } else {
+        None
+    }
+}
+
+fn has_nul(text: &str) -> bool
+    ensures { result ≡ has_nul text.now }
+{
+    text.as_bytes().contains(&0)
+}
+
+// Whether the engine cuts the name: PostgreSQL keeps 63 bytes.
+fn is_cut(dialect: Dialect, name: &str) -> bool
+    ensures { result ≡ is_cut dialect name.now }
+{
+    matches!(dialect, Dialect::Postgres) && name.len() > 63
+}
+
+// Whether the engine takes two names for one: all but PostgreSQL ignore the case of ASCII letters,
+// between quotes too.
+fn same_name(dialect: Dialect, a: &FieldName, b: &FieldName) -> bool
+    ensures { result ≡ same_name dialect a.now b.now }
+{
+    match dialect {
+        Dialect::Postgres => a == b,
+        Dialect::Sqlite | Dialect::DuckDb | Dialect::Spark => a
+            .as_str()
+            .as_bytes()
+            .eq_ignore_ascii_case(b.as_str().as_bytes()),
+    }
+}
+
+// The names among which a field of the first child is looked up.
+fn names_first(children: &[BoundExpression]) -> &[FieldName]
+    ensures { result.now ≡ names_first (bounds_of children.now) }
+{
+    match child_at(children, 0) {
+        Some(child) => names_in(child.dtype()),
+        None => &[],
+    }
+}
+
+// The names of the fields of a struct, none of another type.
+fn names_in(dtype: &DType) -> &[FieldName]
+    ensures { result.now ≡ names_in (type_of dtype.now) }
+{
+    match dtype {
+        DType::Struct(fields, _) => &fields.names().as_slice()[..fields.nfields()],
+        _ => &[],
+    }
+}
+
+// A literal is of a type without parts, and no text of it has a NUL.
+fn literal_reason(scalar: &Scalar) -> Option<Reason>
+    ensures { result ≡ literal_reason scalar.now.type scalar.now.value }
+{
+    if !is_atomic(scalar.dtype()) {
+        return Some(Reason::NestedLiteral);
+    }
+    match scalar.value() {
+        Value::Utf8(text) if has_nul(text.as_str()) => Some(Reason::Nul),
+        _ => None,
+    }
+}
+
+// A struct that is made has a field, and no two of one name.
+fn pack_reason(dialect: Dialect, names: &[FieldName]) -> Option<Reason>
+    ensures { result ≡ pack_reason dialect names.now }
+{
+    if makes_structs(dialect) && !names.is_empty() {
+        names_reason(dialect, names, names)
+    } else {
+        Some(Reason::UnknownFunction)
+    }
+}
+
+// The first reason of one of these names among all.
+fn names_reason(dialect: Dialect, all: &[FieldName], names: &[FieldName]) -> Option<Reason>
+    ensures { result ≡ names_reason dialect all.now names.now }
+{
+    for i in 0..names.len() {
+        if let Some(reason) = name_reason(dialect, all, &names[i]) {
+            return Some(reason);
+        }
+    }
+    None
+}
+
+// A fill of other values than one may be none, and so may one of lists and structs.
+fn fill_reason(children: &[BoundExpression]) -> Option<Reason>
+    ensures { result ≡ fill_reason (bounds_of children.now) }
+{
+    if has_atomic_first(children) && is_value_second(children) {
+        None
+    } else {
+        Some(Reason::FillNotLiteral)
+    }
+}
+
+// Whether the second child is a literal that isn't null.
+fn is_value_second(children: &[BoundExpression]) -> bool
+    ensures { result ≡ passes (λ b. is_value (literal_in b)) (bound_at (bounds_of children.now) 1) }
+{
+    match child_at(children, 1) {
+        Some(child) => match literal_in(child) {
+            Some(scalar) => !scalar.value().is_null(),
+            None => false,
+        },
+        None => false,
+    }
+}
+
+// The parts of a pattern are known where it is a literal.
+fn pattern_reason(children: &[BoundExpression]) -> Option<Reason>
+    ensures { result ≡ pattern_reason (bounds_of children.now) }
+{
+    if is_literal_second(children) {
+        None
+    } else {
+        Some(Reason::PatternNotLiteral)
+    }
+}
+
+// Whether the second child is a literal.
+fn is_literal_second(children: &[BoundExpression]) -> bool
+    ensures { result ≡ passes (λ b. is_some (literal_in b)) (bound_at (bounds_of children.now) 1) }
+{
+    match child_at(children, 1) {
+        Some(child) => literal_in(child).is_some(),
+        None => false,
+    }
+}

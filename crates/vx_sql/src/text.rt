@@ -1,0 +1,109 @@
+// The SQL texts of bound trees.
+ghost use Rattle.std.specs.Prelude.{◌≡◌, ◌<◌, Some, length, get_or, []};
+ghost use Rattle.std.specs.Fmt.{WritesOnOk};
+ghost use Rattle.vx_fn.specs.Functions.{arity_of};
+ghost use Rattle.vx_fn.specs.Views.{function_of};
+ghost use Rattle.vx_value.specs.Views.{type_of};
+ghost use Rattle.vx_tree.specs.Views.{bound_of, bounds_of};
+ghost use Rattle.vx_sql.specs.SqlTexts.{sql, sqls_of, own_sql};
+
+mod choices;
+mod operators;
+mod structs;
+mod tests;
+
+use crate::Dialect;
+use crate::literals::write_literal;
+use choices::{write_case, write_fill, write_mask, write_zip};
+use operators::{write_between, write_binary, write_not};
+use std::fmt;
+use std::fmt::{Display, Formatter, Write};
+use structs::{write_item, write_pack};
+use tests::{write_like, write_null_test};
+use vx_fn::ScalarFnRef;
+use vx_tree::BoundExpression;
+use vx_types::DType;
+
+/// The SQL text of a tree in which each node has one.
+#[derive(Clone, Copy)]
+pub(crate) struct SqlText<'a>(pub &'a BoundExpression, pub Dialect);
+
+impl Display for SqlText<'_> {
+    ghost output = { λ t. Some (sql t.1 (bound_of t.0.now)) };
+
+    fn fmt<W: Write>(&self, f: &mut Formatter<W>) -> fmt::Result {
+        write_sql(self.0, self.1, f)
+    }
+}
+
+// The text of a node; none of one with another number of children than its function takes.
+#[cycle(text)]
+fn write_sql<W: Write>(
+    b: &BoundExpression,
+    dialect: Dialect,
+    f: &mut Formatter<W>,
+) -> fmt::Result
+    ensures { WritesOnOk W.write_str_gives f.old result (sql dialect (bound_of b.now)) f.new }
+{
+    match b {
+        BoundExpression::Scalar {
+            dtype,
+            scalar_fn,
+            children,
+        } => {
+            let children = children.as_slice();
+            if children.len() == scalar_fn.arity() {
+                write_own(dialect, dtype, scalar_fn, children, f)
+            } else {
+                Ok(())
+            }
+        }
+        BoundExpression::Root { .. } => Ok(()),
+    }
+}
+
+// The text of a node that has its number of children.
+#[cycle(text)]
+fn write_own<W: Write>(
+    dialect: Dialect,
+    dtype: &DType,
+    scalar_fn: &ScalarFnRef,
+    children: &[BoundExpression],
+    f: &mut Formatter<W>,
+) -> fmt::Result
+    requires { length children.now ≡ arity_of (function_of scalar_fn.now) }
+    ensures { WritesOnOk W.write_str_gives f.old result
+        (own_sql dialect (type_of dtype.now) (function_of scalar_fn.now) (bounds_of children.now) (sqls_of dialect children.now)) f.new }
+{
+    match scalar_fn {
+        ScalarFnRef::CaseWhen(_) => write_case(dialect, children, f),
+        ScalarFnRef::GetItem(name) => write_item(dialect, name, children, f),
+        ScalarFnRef::Literal(scalar) => write_literal(dialect, scalar, f),
+        ScalarFnRef::Pack(options) => write_pack(dialect, options.names.as_slice(), children, f),
+        ScalarFnRef::Select(_) => Ok(()),
+        ScalarFnRef::FillNull(_) => write_fill(dialect, children, f),
+        ScalarFnRef::Zip(_) => write_zip(dialect, children, f),
+        ScalarFnRef::Binary(operator) => write_binary(dialect, dtype, *operator, children, f),
+        ScalarFnRef::Not(_) => write_not(dialect, children, f),
+        ScalarFnRef::Between(options) => write_between(dialect, *options, children, f),
+        ScalarFnRef::Like(options) => write_like(dialect, *options, children, f),
+        ScalarFnRef::IsNull(_) => write_null_test(dialect, true, children, f),
+        ScalarFnRef::IsNotNull(_) => write_null_test(dialect, false, children, f),
+        ScalarFnRef::Mask(_) => write_mask(dialect, children, f),
+        ScalarFnRef::Cast(_) => write_child(dialect, children, 0, f),
+    }
+}
+
+// The text of one of the children.
+#[cycle(text)]
+fn write_child<W: Write>(
+    dialect: Dialect,
+    children: &[BoundExpression],
+    index: usize,
+    f: &mut Formatter<W>,
+) -> fmt::Result
+    requires { index < length children.now }
+    ensures { WritesOnOk W.write_str_gives f.old result (get_or (sqls_of dialect children.now) index []) f.new }
+{
+    write_sql(&children[index], dialect, f)
+}

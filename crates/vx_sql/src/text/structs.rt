@@ -1,0 +1,124 @@
+// The texts of columns, of fields of structs, and of structs that are made.
+ghost use Rattle.std.specs.Prelude.{◌≡◌, ◌<◌, ◌++◌, [], length, get_or, codes};
+ghost use Rattle.std.specs.Fmt.{WritesOnOk};
+ghost use Rattle.vx_fn.specs.Texts.{with_commas};
+ghost use Rattle.vx_tree.specs.Views.{bounds_of};
+ghost use Rattle.vx_sql.specs.Children.{is_row};
+ghost use Rattle.vx_sql.specs.SqlTexts.{sqls_of, item_sql, pack_word, before_field, fields_sql};
+
+use super::write_child;
+use crate::Dialect;
+use crate::children::is_row;
+use crate::names::write_name;
+use crate::quotes::write_text;
+use std::fmt;
+use std::fmt::{Formatter, Write};
+use vx_tree::BoundExpression;
+use vx_types::FieldName;
+
+// A column of the row, or a field of a struct.
+#[cycle(text)]
+pub(super) fn write_item<W: Write>(
+    dialect: Dialect,
+    name: &FieldName,
+    children: &[BoundExpression],
+    f: &mut Formatter<W>,
+) -> fmt::Result
+    requires { length children.now ≡ 1 }
+    ensures { WritesOnOk W.write_str_gives f.old result
+        (item_sql dialect name.now (is_row (bounds_of children.now)) (get_or (sqls_of dialect children.now) 0 [])) f.new }
+{
+    if is_row(children) {
+        return write_name(dialect, name, f);
+    }
+    f.write_str("(")?;
+    write_child(dialect, children, 0, f)?;
+    f.write_str(").")?;
+    write_name(dialect, name, f)
+}
+
+// A struct of named children.
+#[cycle(text)]
+pub(super) fn write_pack<W: Write>(
+    dialect: Dialect,
+    names: &[FieldName],
+    children: &[BoundExpression],
+    f: &mut Formatter<W>,
+) -> fmt::Result
+    requires { length children.now ≡ length names.now }
+    ensures { WritesOnOk W.write_str_gives f.old result
+        (pack_word dialect ++ (with_commas (fields_sql dialect names.now (sqls_of dialect children.now)) ++ codes ")")) f.new }
+{
+    f.write_str(pack_word(dialect))?;
+    write_fields(dialect, names, children, f)?;
+    f.write_str(")")
+}
+
+// The function that makes a struct.
+fn pack_word(dialect: Dialect) -> &'static str
+    ensures { result.now ≡ pack_word dialect }
+{
+    match dialect {
+        Dialect::DuckDb => "struct_pack(",
+        Dialect::Postgres | Dialect::Sqlite | Dialect::Spark => "named_struct(",
+    }
+}
+
+// The fields, with commas between them.
+#[cycle(text)]
+fn write_fields<W: Write>(
+    dialect: Dialect,
+    names: &[FieldName],
+    children: &[BoundExpression],
+    f: &mut Formatter<W>,
+) -> fmt::Result
+    requires { length children.now ≡ length names.now }
+    ensures { WritesOnOk W.write_str_gives f.old result (with_commas (fields_sql dialect names.now (sqls_of dialect children.now))) f.new }
+{
+    if children.is_empty() {
+        return Ok(());
+    }
+    write_field(dialect, names, children, 0, f)?;
+    for index in 1..children.len() {
+        f.write_str(", ")?;
+        write_field(dialect, names, children, index, f)?;
+    }
+    Ok(())
+}
+
+// A field that is made: its name and its value.
+#[cycle(text)]
+fn write_field<W: Write>(
+    dialect: Dialect,
+    names: &[FieldName],
+    children: &[BoundExpression],
+    index: usize,
+    f: &mut Formatter<W>,
+) -> fmt::Result
+    requires named { index < length names.now }
+    requires given { index < length children.now }
+    ensures { WritesOnOk W.write_str_gives f.old result (get_or (fields_sql dialect names.now (sqls_of dialect children.now)) index []) f.new }
+{
+    write_before_field(dialect, &names[index], f)?;
+    write_child(dialect, children, index, f)
+}
+
+// What stands before the value of a field.
+fn write_before_field<W: Write>(
+    dialect: Dialect,
+    name: &FieldName,
+    f: &mut Formatter<W>,
+) -> fmt::Result
+    ensures { WritesOnOk W.write_str_gives f.old result (before_field dialect name.now) f.new }
+{
+    match dialect {
+        Dialect::DuckDb => {
+            write_name(dialect, name, f)?;
+            f.write_str(" := ")
+        }
+        Dialect::Postgres | Dialect::Sqlite | Dialect::Spark => {
+            write_text(dialect, name.as_str(), f)?;
+            f.write_str(", ")
+        }
+    }
+}

@@ -1,0 +1,136 @@
+// What the engines call their types.
+ghost use Rattle.std.specs.Prelude.{◌≡◌};
+ghost use Rattle.vx_value.specs.Views.{type_of};
+ghost use Rattle.vx_sql.specs.Dialects.{postgres_word, duckdb_word, spark_word, number_word, truth_word, text_word, octets_word, type_word, collation, has_type, makes_structs};
+
+use crate::Dialect;
+use vx_types::{DType, PType};
+
+/// The engine's type of such values, none of lists and structs.
+pub(crate) fn type_word(dialect: Dialect, dtype: &DType) -> &'static str
+    ensures { result.now ≡ type_word dialect (type_of dtype.now) }
+{
+    match dtype {
+        DType::Bool(_) => truth_word(dialect),
+        DType::Primitive(p, _) => number_word(dialect, *p),
+        DType::Utf8(_) => text_word(dialect),
+        DType::Binary(_) => octets_word(dialect),
+        _ => "",
+    }
+}
+
+/// The engine's number type, which in SQLite is one for all.
+pub(crate) fn number_word(dialect: Dialect, p: PType) -> &'static str
+    ensures { result.now ≡ number_word dialect p }
+{
+    match dialect {
+        Dialect::Postgres => postgres_word(p),
+        Dialect::Sqlite => "INTEGER",
+        Dialect::DuckDb => duckdb_word(p),
+        Dialect::Spark => spark_word(p),
+    }
+}
+
+// PostgreSQL's narrowest type that has all numbers of that type.
+fn postgres_word(p: PType) -> &'static str
+    ensures { result.now ≡ postgres_word p }
+{
+    match p {
+        PType::U8 | PType::I8 | PType::I16 => "smallint",
+        PType::U16 | PType::I32 => "integer",
+        PType::U32 | PType::I64 => "bigint",
+        PType::U64 => "numeric",
+    }
+}
+
+// DuckDB's type of the same numbers.
+fn duckdb_word(p: PType) -> &'static str
+    ensures { result.now ≡ duckdb_word p }
+{
+    match p {
+        PType::U8 => "UTINYINT",
+        PType::U16 => "USMALLINT",
+        PType::U32 => "UINTEGER",
+        PType::U64 => "UBIGINT",
+        PType::I8 => "TINYINT",
+        PType::I16 => "SMALLINT",
+        PType::I32 => "INTEGER",
+        PType::I64 => "BIGINT",
+    }
+}
+
+// Spark's narrowest type that has all numbers of that type.
+fn spark_word(p: PType) -> &'static str
+    ensures { result.now ≡ spark_word p }
+{
+    match p {
+        PType::I8 => "TINYINT",
+        PType::U8 | PType::I16 => "SMALLINT",
+        PType::U16 | PType::I32 => "INT",
+        PType::U32 | PType::I64 => "BIGINT",
+        PType::U64 => "DECIMAL(20,0)",
+    }
+}
+
+fn truth_word(dialect: Dialect) -> &'static str
+    ensures { result.now ≡ truth_word dialect }
+{
+    match dialect {
+        Dialect::Postgres => "boolean",
+        Dialect::Sqlite => "INTEGER",
+        Dialect::DuckDb | Dialect::Spark => "BOOLEAN",
+    }
+}
+
+fn text_word(dialect: Dialect) -> &'static str
+    ensures { result.now ≡ text_word dialect }
+{
+    match dialect {
+        Dialect::Postgres => "text",
+        Dialect::Sqlite => "TEXT",
+        Dialect::DuckDb => "VARCHAR",
+        Dialect::Spark => "STRING",
+    }
+}
+
+fn octets_word(dialect: Dialect) -> &'static str
+    ensures { result.now ≡ octets_word dialect }
+{
+    match dialect {
+        Dialect::Postgres => "bytea",
+        Dialect::Sqlite | Dialect::DuckDb => "BLOB",
+        Dialect::Spark => "BINARY",
+    }
+}
+
+/// What makes the engine compare texts by their bytes, if it has to be told.
+pub(crate) fn collation(dialect: Dialect) -> &'static str
+    ensures { result.now ≡ collation dialect }
+{
+    match dialect {
+        Dialect::Postgres => " COLLATE \"C\"",
+        Dialect::Sqlite => " COLLATE BINARY",
+        Dialect::DuckDb | Dialect::Spark => "",
+    }
+}
+
+/// Whether the engine has values of the type.
+pub(crate) fn has_type(dialect: Dialect, dtype: &DType) -> bool
+    ensures { result ≡ has_type dialect (type_of dtype.now) }
+{
+    match dialect {
+        Dialect::Sqlite => match dtype {
+            DType::Primitive(p, _) => !matches!(p, PType::U64),
+            DType::Bool(_) | DType::Utf8(_) | DType::Binary(_) => true,
+            DType::List(..) | DType::FixedSizeList(..) | DType::Struct(..) => false,
+        },
+        Dialect::Postgres | Dialect::DuckDb | Dialect::Spark => true,
+    }
+}
+
+/// Whether the engine makes structs of values.
+pub(crate) fn makes_structs(dialect: Dialect) -> bool
+    ensures { result ≡ makes_structs dialect }
+{
+    matches!(dialect, Dialect::DuckDb | Dialect::Spark)
+}

@@ -1,0 +1,76 @@
+// What has no SQL text, and why.
+ghost use Rattle.std.specs.Prelude.{◌≡◌};
+ghost use Rattle.vx_sql.specs.declared.unsupported.Unsupported.TheVariants.{OutOfMemory};
+
+use std::alloc::{AllocError, AllocFailed};
+use thiserror::Error;
+
+/// Why a node has no SQL text.
+#[derive(Clone, Copy, Debug, PartialEq, Eq, Error)]
+pub enum Reason {
+    /// It is the row of the scope as a whole.
+    #[error("the row as a whole has no text, only its columns have")]
+    Row,
+    /// It has another number of children than its function takes.
+    #[error("the function takes another number of children")]
+    ChildCount,
+    /// The engine has no values of its type.
+    #[error("the engine has no such type")]
+    UnknownType,
+    /// The engine has no such function.
+    #[error("the engine has no such function")]
+    UnknownFunction,
+    /// It is a literal of a list or a struct.
+    #[error("a list or a struct isn't written as a literal")]
+    NestedLiteral,
+    /// Its pattern is no literal, so that its parts aren't known.
+    #[error("the pattern isn't a literal")]
+    PatternNotLiteral,
+    /// Its fill is no literal other than null, or is one of a list or a struct.
+    #[error("the fill isn't a value without parts")]
+    FillNotLiteral,
+    /// A name is empty.
+    #[error("a name is empty")]
+    EmptyName,
+    /// A name is longer than the engine keeps.
+    #[error("a name is longer than the engine keeps")]
+    LongName,
+    /// The engine takes the name for that of another column or field as well.
+    #[error("a name stands for several columns or fields")]
+    AmbiguousName,
+    /// A NUL stands in a name or a text.
+    #[error("a NUL stands in a name or a text")]
+    Nul,
+}
+
+/// Why there is no SQL text of a tree.
+#[derive(Debug, Drop, Error)]
+pub enum Unsupported {
+    /// Memory ran out.
+    #[error("out of memory")]
+    OutOfMemory,
+    /// A node has none.
+    #[error("{reason}")]
+    Node {
+        /// The child indices from the first node down to that node, none where it is the first.
+        path: Vec<usize>,
+        /// Why it has none.
+        reason: Reason,
+    },
+}
+
+impl From<AllocError> for Unsupported {
+    ghost from_gives = { λ _ e. e ≡ OutOfMemory };
+
+    fn from(_e: AllocError) -> Unsupported {
+        Unsupported::OutOfMemory
+    }
+}
+
+impl<T: Drop> From<AllocFailed<T>> for Unsupported {
+    ghost from_gives = { λ _ e. e ≡ OutOfMemory };
+
+    fn from(_e: AllocFailed<T>) -> Unsupported {
+        Unsupported::OutOfMemory
+    }
+}

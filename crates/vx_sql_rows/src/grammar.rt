@@ -1,0 +1,114 @@
+// The grammar of expressions by chance: by what an expression gives, the source text of a node.
+//
+// `T`, `N`, `S`, `B` and `P` stand for expressions that give a truth value, a number, a text, bytes and a pair,
+// `X` for what the node gives, and `M` for a mask; the numbers of a row are of one type, which `#n` names. `#N`,
+// `#S`, `#B`, `#T` and `#X` stand for literals, null among them, `!N`, `!S`, `!B` and `!T` for others than null, and
+// `%S` for a pattern.
+use crate::kinds::Kind;
+
+/// Nodes that give truth values.
+const TRUTHS: [&str; 41] = [
+    "(T and T)",
+    "(T or T)",
+    "(not T)",
+    "(N = N)",
+    "(N != #N)",
+    "(N < N)",
+    "(N <= #N)",
+    "(N > N)",
+    "(#N >= N)",
+    "(S = S)",
+    "(S != #S)",
+    "(S < #S)",
+    "(S >= S)",
+    "(B = #B)",
+    "(B < B)",
+    "(B <= #B)",
+    "(T = T)",
+    "(T < T)",
+    "(T >= #T)",
+    "(N between N and N)",
+    "(N < N < N)",
+    "(#N <= N < #N)",
+    "(N < N <= #N)",
+    "(S between #S and S)",
+    "(S < S < S)",
+    "(#S <= S < #S)",
+    "(B <= B < B)",
+    "(S like %S)",
+    "(S not like %S)",
+    "(S ilike %S)",
+    "(S not ilike %S)",
+    "(S like %S)",
+    "(S ilike %S)",
+    "(T is null)",
+    "(N is null)",
+    "(S is not null)",
+    "(B is null)",
+    "fill_null(T, !T)",
+    "cast(T as bool?)",
+    "cast(T as bool)",
+    "(N + #N = N)",
+];
+
+const NUMBERS: [&str; 7] = [
+    "(N + N)",
+    "(N + #N)",
+    "(#N + N)",
+    "(N + !N)",
+    "fill_null(N, !N)",
+    "cast(N as #n?)",
+    "cast(N as #n)",
+];
+
+const TEXTS: [&str; 2] = ["fill_null(S, !S)", "cast(S as utf8?)"];
+
+const OCTETS: [&str; 2] = ["fill_null(B, !B)", "cast(B as binary?)"];
+
+/// Nodes that give what their children give.
+const OF_ANY_KIND: [&str; 7] = [
+    "case when T then X else X end",
+    "case when T then X when T then X end",
+    "case when T then X when T then #X else X end",
+    "case when T then X end",
+    "zip(X, X, T)",
+    "zip(X, #X, T)",
+    "mask(X, M)",
+];
+
+/// Nodes over pairs, in the engine that has them: those that give truth values, numbers and texts.
+const OF_PAIRS: [&str; 4] = ["(P is null)", "(P is not null)", "P.f", "P.g"];
+
+/// Masks, which are never null.
+pub const MASKS: [&str; 5] = ["(N is null)", "(S is not null)", "(T is null)", "`select`", "true"];
+
+impl Kind {
+    /// Nodes that give such values, and where the engine has pairs, nodes over them.
+    pub fn nodes(self) -> &'static [&'static str] {
+        match self {
+            Kind::Truth => &TRUTHS,
+            Kind::Number(_) => &NUMBERS,
+            Kind::Text => &TEXTS,
+            Kind::Octets => &OCTETS,
+            Kind::Pair => &["mask(P, M)"],
+        }
+    }
+
+    /// Nodes that give what their children give: of pairs, no literal stands among those.
+    pub fn of_any_kind(self) -> &'static [&'static str] {
+        match self {
+            Kind::Pair => &["case when T then X else X end", "zip(X, X, T)", "mask(X, M)"],
+            _ => &OF_ANY_KIND,
+        }
+    }
+
+    /// Nodes over pairs that give such values.
+    pub fn of_pairs(self) -> &'static [&'static str] {
+        match self {
+            Kind::Truth => &["(P is null)", "(P is not null)"],
+            Kind::Number(vx_types::PType::I32) => &["P.f"],
+            Kind::Text => &["P.g"],
+            _ => &[],
+        }
+    }
+}

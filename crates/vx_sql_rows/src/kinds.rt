@@ -1,0 +1,148 @@
+// What expressions by chance give, and their leaves.
+use std::alloc::{AllocError, Global};
+use vx_test_chance::Seeds;
+use vx_types::{PType, Value};
+
+/// What an expression gives.
+#[derive(Clone, Copy)]
+pub enum Kind {
+    Truth,
+    Number(PType),
+    Text,
+    Octets,
+    Pair,
+}
+
+/// The number types, of which SQLite has all but the last.
+pub const NUMBERS: [PType; 8] = [
+    PType::U8,
+    PType::U16,
+    PType::U32,
+    PType::I8,
+    PType::I16,
+    PType::I32,
+    PType::I64,
+    PType::U64,
+];
+
+/// Characters of texts and patterns: quotes, signs of patterns, letters in both cases, and others.
+const CHARACTERS: [char; 28] = [
+    'a', 'A', '%', 'b', 'B', 'z', 'Z', 'é', 'É', 'ß', '😀', '_', '_', '\\', '\\', '\'', '"', '`',
+    '*', '?', '[', ']', '!', '^', '-', '\n', '\u{1}', '\u{7f}',
+];
+
+impl Kind {
+    /// The columns of the scope that have such values, the second without null.
+    pub fn columns(self) -> [&'static str; 2] {
+        match self {
+            Kind::Truth => ["b", "`select`"],
+            Kind::Text => ["s", "`it's \"t\"`"],
+            Kind::Octets => ["x", "`X``x\\ \n1`"],
+            Kind::Pair => ["p", "q"],
+            Kind::Number(p) => match p {
+                PType::U8 => ["u8", "u8n"],
+                PType::U16 => ["u16", "u16n"],
+                PType::U32 => ["u32", "u32n"],
+                PType::U64 => ["u64", "u64n"],
+                PType::I8 => ["i8", "i8n"],
+                PType::I16 => ["i16", "i16n"],
+                PType::I32 => ["i32", "i32n"],
+                PType::I64 => ["i64", "i64n"],
+            },
+        }
+    }
+
+    /// The type of such values, without null.
+    pub fn type_text(self) -> &'static str {
+        match self {
+            Kind::Truth => "bool",
+            Kind::Text => "utf8",
+            Kind::Octets => "binary",
+            Kind::Pair => "{f=i32?, g=utf8?}",
+            Kind::Number(p) => match p {
+                PType::U8 => "u8",
+                PType::U16 => "u16",
+                PType::U32 => "u32",
+                PType::U64 => "u64",
+                PType::I8 => "i8",
+                PType::I16 => "i16",
+                PType::I32 => "i32",
+                PType::I64 => "i64",
+            },
+        }
+    }
+
+    /// A value by chance, other than null.
+    pub fn value(self, alloc: Global, chance: &mut Seeds) -> Result<Value, AllocError> {
+        match self {
+            Kind::Truth => Ok(Value::Bool(chance.below(2) == 0)),
+            Kind::Number(p) => Ok(Value::Int(number(p, chance))),
+            Kind::Text => Ok(Value::Utf8(text(alloc, chance)?)),
+            Kind::Octets => Ok(Value::Binary(octets(alloc, chance)?)),
+            Kind::Pair => {
+                let number = Value::Int(number(PType::I32, chance));
+                let text = Value::Utf8(text(alloc, chance)?);
+                let mut fields = Vec::new(alloc);
+                fields.push(maybe_null(chance, number))?;
+                fields.push(maybe_null(chance, text))?;
+                Ok(Value::Struct(fields))
+            }
+        }
+    }
+}
+
+/// The value, or null one time in four.
+pub fn maybe_null(chance: &mut Seeds, value: Value) -> Value {
+    if chance.below(4) == 0 {
+        Value::Null
+    } else {
+        value
+    }
+}
+
+// A small number, or one near an end of the type.
+fn number(p: PType, chance: &mut Seeds) -> i128 {
+    let (least, greatest) = ends(p);
+    let near = chance.below(4) as i128;
+    match chance.below(8) {
+        0 => least + near,
+        1 => greatest - near,
+        2 if least < 0 => 0 - near,
+        _ => chance.below(100) as i128,
+    }
+}
+
+fn ends(p: PType) -> (i128, i128) {
+    match p {
+        PType::U8 => (0, i128::from(u8::MAX)),
+        PType::U16 => (0, i128::from(u16::MAX)),
+        PType::U32 => (0, i128::from(u32::MAX)),
+        PType::U64 => (0, i128::from(u64::MAX)),
+        PType::I8 => (i128::from(i8::MIN), i128::from(i8::MAX)),
+        PType::I16 => (i128::from(i16::MIN), i128::from(i16::MAX)),
+        PType::I32 => (i128::from(i32::MIN), i128::from(i32::MAX)),
+        PType::I64 => (i128::from(i64::MIN), i128::from(i64::MAX)),
+    }
+}
+
+/// A text of up to four characters, half of them of few characters, so that some are like others.
+pub fn text(alloc: Global, chance: &mut Seeds) -> Result<String, AllocError> {
+    let mut text = String::new(alloc);
+    let count = match chance.below(2) {
+        0 => 3,
+        _ => CHARACTERS.len(),
+    };
+    for _ in 0..chance.below(5) {
+        let number = chance.below(count);
+        text.push(CHARACTERS.get(number).copied().unwrap_or('a'))?;
+    }
+    Ok(text)
+}
+
+fn octets(alloc: Global, chance: &mut Seeds) -> Result<Vec<u8>, AllocError> {
+    let mut octets = Vec::new(alloc);
+    for _ in 0..chance.below(4) {
+        octets.push(u8::try_from(chance.below(256)).unwrap_or(0))?;
+    }
+    Ok(octets)
+}

@@ -1,0 +1,72 @@
+// One line of a table.
+use std::alloc::{AllocError, Global};
+use vx_sql::{Dialect, Unsupported, to_sql};
+use vx_source::parse_type;
+use vx_test_samples::{Unread, bound};
+
+/// What a line came to.
+#[derive(Drop)]
+pub enum Judged {
+    /// It is blank, or a comment.
+    NoCall,
+    /// It is answered as it says.
+    Right,
+    /// It is answered so, and not as it says.
+    Differs(String),
+}
+
+/// What the line comes to: a comment behind `#`, or an engine, the type of its rows, an expression, and the
+/// text that is wanted or what is wrong, as `postgres | {x=i32} | x > 5 | ("x" > 5)`.
+pub fn judge(alloc: Global, line: &str) -> Result<Judged, Unread> {
+    let line = line.trim();
+    if line.is_empty() || line.starts_with('#') {
+        return Ok(Judged::NoCall);
+    }
+    let mut columns = Vec::new(alloc);
+    for column in line.splitn(4, '|') {
+        columns.push(column.trim())?;
+    }
+    let [engine, scope, expression, wanted] = columns.as_slice() else {
+        return Err(Unread::Word("another number of columns"));
+    };
+    let dialect = dialect_named(engine).ok_or("no such engine")?;
+    let answer = answer(alloc, dialect, scope, expression)?;
+    if answer.as_str() == *wanted {
+        Ok(Judged::Right)
+    } else {
+        Ok(Judged::Differs(answer))
+    }
+}
+
+/// The engine of that name.
+pub fn dialect_named(name: &str) -> Option<Dialect> {
+    match name {
+        "postgres" => Some(Dialect::Postgres),
+        "sqlite" => Some(Dialect::Sqlite),
+        "duckdb" => Some(Dialect::DuckDb),
+        "spark" => Some(Dialect::Spark),
+        _ => None,
+    }
+}
+
+// The SQL text of the expression, or where it has none and why.
+fn answer(
+    alloc: Global,
+    dialect: Dialect,
+    scope: &str,
+    expression: &str,
+) -> Result<String, Unread> {
+    let scope = Box::new(alloc, parse_type(alloc, scope)?)?;
+    let bound = bound(alloc, expression, &scope)?;
+    match to_sql(alloc, &bound, dialect) {
+        Ok(text) => Ok(text),
+        Err(unsupported) => Ok(told(alloc, &unsupported)?),
+    }
+}
+
+fn told(alloc: Global, unsupported: &Unsupported) -> Result<String, AllocError> {
+    match unsupported {
+        Unsupported::OutOfMemory => String::from_str(alloc, "out of memory"),
+        Unsupported::Node { path, reason } => format!(in alloc; "at {path:?}: {reason}"),
+    }
+}

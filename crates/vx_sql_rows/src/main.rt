@@ -1,0 +1,74 @@
+// Runs the tables of SQL texts that it is given: `vx_sql_rows NAME.table ..`. The lines of a table whose name
+// begins with `wrong-` are wrong on purpose, and have to be told.
+//
+// `vx_sql_rows script ENGINE SEED COUNT` prints so many expressions by chance as a script for an engine, and
+// `answers` in place of `script` what the engine should print (tools/engines.sh).
+#![tactic(auto)]
+
+mod cases;
+mod grammar;
+mod kinds;
+mod line;
+mod maker;
+mod rows;
+mod shown;
+mod table;
+
+use anyhow::{Context, Result, anyhow};
+use cases::{Cases, make_cases};
+use line::dialect_named;
+use std::alloc::Global;
+use std::process::ExitCode;
+use std::{env, fs};
+use table::judge_table;
+
+fn main(rt: HostRuntime) -> Result<ExitCode> {
+    let alloc = rt.alloc();
+    let mut words = Vec::new(alloc);
+    for word in env::args(&rt)?.skip(1) {
+        words.push(word)?;
+    }
+    match words.as_slice() {
+        [what, engine, seed, count] if what.as_str() == "script" => {
+            let told = told(alloc, engine.as_str(), seed.as_str(), count.as_str())?;
+            print!(rt; "{}", told.script)?;
+            Ok(ExitCode::SUCCESS)
+        }
+        [what, engine, seed, count] if what.as_str() == "answers" => {
+            let told = told(alloc, engine.as_str(), seed.as_str(), count.as_str())?;
+            print!(rt; "{}", told.answers)?;
+            println!(rt; "{} statements fail", told.failures)?;
+            Ok(ExitCode::SUCCESS)
+        }
+        tables => judge(&rt, tables),
+    }
+}
+
+fn told(alloc: Global, engine: &str, seed: &str, count: &str) -> Result<Cases> {
+    let Some(dialect) = dialect_named(engine) else {
+        return Err(anyhow!("no such engine: {engine}"));
+    };
+    let seed = seed.parse().context("reading the seed")?;
+    let count = count.parse().context("reading the count")?;
+    match make_cases(alloc, dialect, seed, count) {
+        Ok(told) => Ok(told),
+        Err(why) => Err(anyhow!("{why}")),
+    }
+}
+
+// Runs the tables.
+fn judge(rt: &HostRuntime, tables: &[String]) -> Result<ExitCode> {
+    let mut failed: u64 = 0;
+    for name in tables {
+        let name = name.as_str();
+        let text = fs::read_to_string(rt, name).context(format_args!("reading {name}"))?;
+        let tally = judge_table(rt.alloc(), name, text.as_str(), &mut rt.stdout())?;
+        println!(rt; "{name}: {tally}")?;
+        failed = failed.saturating_add(tally.failed);
+    }
+    Ok(if failed == 0 {
+        ExitCode::SUCCESS
+    } else {
+        ExitCode::FAILURE
+    })
+}

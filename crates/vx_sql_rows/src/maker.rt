@@ -1,0 +1,214 @@
+// Expressions by chance, as source texts.
+use crate::grammar::MASKS;
+use crate::kinds::{Kind, NUMBERS, text};
+use std::alloc::{AllocError, Global};
+use vx_source::ScalarText;
+use vx_sql::Dialect;
+use vx_test_chance::Seeds;
+use vx_test_samples::parted;
+use vx_types::{DType, Nullability, PType, Scalar, Value};
+
+// What ends a word of a row.
+const MARKS: [char; 6] = [' ', '(', ')', ',', '.', '?'];
+
+/// How many nodes stand above one another, at most.
+const LEVELS: usize = 5;
+
+/// Makes expressions by chance for an engine.
+#[derive(Drop)]
+pub struct Maker {
+    alloc: Global,
+    dialect: Dialect,
+    pub seeds: Seeds,
+}
+
+impl Maker {
+    pub fn new(alloc: Global, dialect: Dialect, seed: u64) -> Maker {
+        Maker {
+            alloc,
+            dialect,
+            seeds: Seeds::new(seed),
+        }
+    }
+
+    /// What an expression gives, half of them truth values.
+    pub fn kind(&mut self) -> Kind {
+        match self.seeds.below(8) {
+            0 => Kind::Text,
+            1 => Kind::Octets,
+            2 | 3 => Kind::Number(self.number_type()),
+            _ => Kind::Truth,
+        }
+    }
+
+    // A number type that the engine has.
+    fn number_type(&mut self) -> PType {
+        let count = match self.dialect {
+            Dialect::Sqlite => 7,
+            _ => 8,
+        };
+        let number = self.seeds.below(count);
+        NUMBERS.get(number).copied().unwrap_or(PType::I32)
+    }
+
+    /// The source text of an expression that gives such values.
+    pub fn expression(&mut self, kind: Kind) -> Result<String, AllocError> {
+        let mut text = String::new(self.alloc);
+        self.push_node(LEVELS, kind, &mut text)?;
+        Ok(text)
+    }
+
+    // An expression of at most so many levels.
+    #[cycle(node)]
+    fn push_node(
+        &mut self,
+        levels: usize,
+        kind: Kind,
+        text: &mut String,
+    ) -> Result<(), AllocError> {
+        if levels == 0 || self.seeds.below(6) == 0 {
+            return self.push_column(kind, text);
+        }
+        let row = self.row(kind);
+        let number = match kind {
+            Kind::Number(p) => p,
+            _ => self.number_type(),
+        };
+        for piece in row.split_inclusive(MARKS) {
+            let (word, mark) = parted(piece, &MARKS);
+            self.push_word(levels - 1, word, kind, number, text)?;
+            if let Some(mark) = mark {
+                text.push(mark)?;
+            }
+        }
+        Ok(())
+    }
+
+    // A row of the grammar.
+    fn row(&mut self, kind: Kind) -> &'static str {
+        let has_pairs = matches!(self.dialect, Dialect::Postgres);
+        let over_pairs = kind.of_pairs();
+        if has_pairs && !over_pairs.is_empty() && self.seeds.below(8) == 0 {
+            return self.seeds.pick(over_pairs);
+        }
+        match self.seeds.below(3) {
+            0 => self.seeds.pick(kind.of_any_kind()),
+            _ => self.seeds.pick(kind.nodes()),
+        }
+    }
+
+    fn push_column(&mut self, kind: Kind, text: &mut String) -> Result<(), AllocError> {
+        text.push_str(self.seeds.pick(&kind.columns()))
+    }
+
+    // What the word of a row stands for.
+    #[cycle(node)]
+    fn push_word(
+        &mut self,
+        levels: usize,
+        word: &str,
+        kind: Kind,
+        number: PType,
+        text: &mut String,
+    ) -> Result<(), AllocError> {
+        match word {
+            "T" => self.push_node(levels, Kind::Truth, text),
+            "N" => self.push_node(levels, Kind::Number(number), text),
+            "S" => self.push_node(levels, Kind::Text, text),
+            "B" => self.push_node(levels, Kind::Octets, text),
+            "P" => self.push_node(levels, Kind::Pair, text),
+            "X" => self.push_node(levels, kind, text),
+            "M" => self.push_mask(text),
+            "#n" => text.push_str(Kind::Number(number).type_text()),
+            "%S" => self.push_pattern(text),
+            _ => self.push_leaf(word, kind, number, text),
+        }
+    }
+
+    // A mask over columns.
+    fn push_mask(&mut self, text: &mut String) -> Result<(), AllocError> {
+        let row = self.seeds.pick(&MASKS);
+        let number = self.number_type();
+        for piece in row.split_inclusive(MARKS) {
+            let (word, mark) = parted(piece, &MARKS);
+            match word {
+                "T" => self.push_column(Kind::Truth, text)?,
+                "N" => self.push_column(Kind::Number(number), text)?,
+                "S" => self.push_column(Kind::Text, text)?,
+                _ => text.push_str(word)?,
+            }
+            if let Some(mark) = mark {
+                text.push(mark)?;
+            }
+        }
+        Ok(())
+    }
+
+    // A literal, or a word of the source text.
+    fn push_leaf(
+        &mut self,
+        word: &str,
+        kind: Kind,
+        number: PType,
+        text: &mut String,
+    ) -> Result<(), AllocError> {
+        let number = Kind::Number(number);
+        match word {
+            "#T" => self.push_literal(Kind::Truth, text),
+            "#N" => self.push_literal(number, text),
+            "#S" => self.push_literal(Kind::Text, text),
+            "#B" => self.push_literal(Kind::Octets, text),
+            "#X" => self.push_literal(kind, text),
+            "!T" => self.push_value(Kind::Truth, text),
+            "!N" => self.push_value(number, text),
+            "!S" => self.push_value(Kind::Text, text),
+            "!B" => self.push_value(Kind::Octets, text),
+            _ => text.push_str(word),
+        }
+    }
+
+    // A literal, which is null one time in eight.
+    fn push_literal(&mut self, kind: Kind, text: &mut String) -> Result<(), AllocError> {
+        if self.seeds.below(8) == 0 {
+            text.push_str("null::")?;
+            text.push_str(kind.type_text())?;
+            return text.push_str("?");
+        }
+        self.push_value(kind, text)
+    }
+
+    // A literal other than null.
+    fn push_value(&mut self, kind: Kind, text: &mut String) -> Result<(), AllocError> {
+        let value = kind.value(self.alloc, &mut self.seeds)?;
+        self.push_scalar(kind, value, text)
+    }
+
+    // A text as a pattern, of which some are null.
+    fn push_pattern(&mut self, text: &mut String) -> Result<(), AllocError> {
+        self.push_literal(Kind::Text, text)
+    }
+
+    fn push_scalar(
+        &mut self,
+        kind: Kind,
+        value: Value,
+        text: &mut String,
+    ) -> Result<(), AllocError> {
+        let Ok(scalar) = Scalar::try_new(flat_type(kind), value) else {
+            return text.push_str("null::bool?");
+        };
+        let shown = ScalarText(&scalar);
+        let source = format!(in self.alloc; "{shown}")?;
+        text.push_str(source.as_str())
+    }
+}
+
+// The type of such values, without null; none of pairs.
+fn flat_type(kind: Kind) -> DType {
+    match kind {
+        Kind::Truth | Kind::Pair => DType::Bool(Nullability::NonNullable),
+        Kind::Number(p) => DType::Primitive(p, Nullability::NonNullable),
+        Kind::Text => DType::Utf8(Nullability::NonNullable),
+        Kind::Octets => DType::Binary(Nullability::NonNullable),
+    }
+}

@@ -1,0 +1,210 @@
+// The rows that expressions are evaluated over, and the table that has them.
+use crate::kinds::{Kind, NUMBERS, maybe_null};
+use std::alloc::{AllocError, Global};
+use vx_source::parse_type;
+use vx_sql::Dialect;
+use vx_test_chance::Seeds;
+use vx_test_samples::Unread;
+use vx_types::{DType, FieldName, Nullability, PType, StructFields, Value};
+
+/// How many rows the table has.
+pub const ROWS: usize = 50;
+
+/// The kinds of columns that the engine's table has, each in two columns.
+pub fn kinds(alloc: Global, dialect: Dialect) -> Result<Vec<Kind>, AllocError> {
+    let mut kinds = Vec::new(alloc);
+    kinds.push(Kind::Truth)?;
+    kinds.push(Kind::Text)?;
+    kinds.push(Kind::Octets)?;
+    for p in NUMBERS {
+        if !matches!((dialect, p), (Dialect::Sqlite, PType::U64)) {
+            kinds.push(Kind::Number(p))?;
+        }
+    }
+    if matches!(dialect, Dialect::Postgres) {
+        kinds.push(Kind::Pair)?;
+    }
+    Ok(kinds)
+}
+
+/// The type of the rows: of each kind a column with nulls, and one without.
+pub fn scope(alloc: Global, kinds: &[Kind]) -> Result<Box<DType>, Unread> {
+    let mut text = String::from_str(alloc, "{")?;
+    for (i, kind) in kinds.iter().enumerate() {
+        let [nullable, plain] = kind.columns();
+        let word = kind.type_text();
+        let separator = if i == 0 { "" } else { ", " };
+        let pair = format!(in alloc; "{separator}{nullable}={word}?, {plain}={word}")?;
+        text.push_str(pair.as_str())?;
+    }
+    text.push_str("}")?;
+    Ok(Box::new(alloc, parse_type(alloc, text.as_str())?)?)
+}
+
+/// A row by chance.
+pub fn row(alloc: Global, kinds: &[Kind], seeds: &mut Seeds) -> Result<Vec<Value>, AllocError> {
+    let mut values = Vec::new(alloc);
+    for kind in kinds {
+        let value = kind.value(alloc, seeds)?;
+        values.push(maybe_null(seeds, value))?;
+        values.push(kind.value(alloc, seeds)?)?;
+    }
+    Ok(values)
+}
+
+/// The statements that make the table and fill it, told without the texts of `vx_sql`.
+pub fn push_table(
+    alloc: Global,
+    dialect: Dialect,
+    fields: &StructFields,
+    rows: &[Value],
+    out: &mut String,
+) -> Result<(), AllocError> {
+    if matches!(dialect, Dialect::Postgres) {
+        out.push_str("CREATE TYPE pair AS (f integer, g text);\n")?;
+    }
+    out.push_str("CREATE TABLE t (\"row\" integer")?;
+    for (name, dtype) in fields.names().iter().zip(fields.types().iter()) {
+        out.push_str(", ")?;
+        push_quoted(name, out)?;
+        out.push_str(" ")?;
+        out.push_str(column_type(dialect, dtype))?;
+    }
+    out.push_str(");\n")?;
+    for (i, row) in rows.iter().enumerate() {
+        let insert = format!(in alloc; "INSERT INTO t VALUES ({i}")?;
+        out.push_str(insert.as_str())?;
+        if let Value::Struct(values) = row {
+            for value in values.as_slice() {
+                out.push_str(", ")?;
+                push_flat(alloc, dialect, value, out)?;
+            }
+        }
+        out.push_str(");\n")?;
+    }
+    Ok(())
+}
+
+fn push_quoted(name: &FieldName, out: &mut String) -> Result<(), AllocError> {
+    out.push('"')?;
+    for c in name.as_str().chars() {
+        if c == '"' {
+            out.push('"')?;
+        }
+        out.push(c)?;
+    }
+    out.push('"')
+}
+
+fn column_type(dialect: Dialect, dtype: &DType) -> &'static str {
+    let is_sqlite = matches!(dialect, Dialect::Sqlite);
+    match dtype {
+        DType::Bool(_) => "boolean",
+        DType::Primitive(p, _) => {
+            if is_sqlite {
+                return "integer";
+            }
+            match p {
+                PType::U8 | PType::I8 | PType::I16 => "smallint",
+                PType::U16 | PType::I32 => "integer",
+                PType::U32 | PType::I64 => "bigint",
+                PType::U64 => "numeric(20, 0)",
+            }
+        }
+        DType::Utf8(_) => "text",
+        DType::Binary(_) => {
+            if is_sqlite {
+                "blob"
+            } else {
+                "bytea"
+            }
+        }
+        _ => "pair",
+    }
+}
+
+// A value of a row; of a pair, both of its values.
+fn push_flat(
+    alloc: Global,
+    dialect: Dialect,
+    value: &Value,
+    out: &mut String,
+) -> Result<(), AllocError> {
+    match value {
+        Value::Struct(fields) => {
+            let [f, g] = fields.as_slice() else {
+                return Ok(());
+            };
+            out.push_str("ROW(")?;
+            push_plain(alloc, dialect, f, out)?;
+            out.push_str(", ")?;
+            push_plain(alloc, dialect, g, out)?;
+            out.push_str(")::pair")
+        }
+        _ => push_plain(alloc, dialect, value, out),
+    }
+}
+
+fn push_plain(
+    alloc: Global,
+    dialect: Dialect,
+    value: &Value,
+    out: &mut String,
+) -> Result<(), AllocError> {
+    let is_sqlite = matches!(dialect, Dialect::Sqlite);
+    match value {
+        Value::Bool(b) if is_sqlite => out.push_str(if *b { "1" } else { "0" }),
+        Value::Bool(b) => out.push_str(if *b { "true" } else { "false" }),
+        Value::Int(number) => {
+            let digits = format!(in alloc; "{number}")?;
+            out.push_str(digits.as_str())
+        }
+        Value::Utf8(text) => {
+            let (before, behind) = if is_sqlite {
+                ("CAST(X'", "' AS TEXT)")
+            } else {
+                ("convert_from(decode('", "', 'hex'), 'UTF8')")
+            };
+            push_between(alloc, before, text.as_str().as_bytes(), behind, out)
+        }
+        Value::Binary(bytes) => {
+            let (before, behind) = if is_sqlite {
+                ("X'", "'")
+            } else {
+                ("decode('", "', 'hex')")
+            };
+            push_between(alloc, before, bytes.as_slice(), behind, out)
+        }
+        Value::Null | Value::List(_) | Value::Struct(_) => out.push_str("NULL"),
+    }
+}
+
+fn push_between(
+    alloc: Global,
+    before: &str,
+    bytes: &[u8],
+    behind: &str,
+    out: &mut String,
+) -> Result<(), AllocError> {
+    out.push_str(before)?;
+    push_digits(alloc, bytes, out)?;
+    out.push_str(behind)
+}
+
+/// Two hexadecimal digits a byte.
+pub fn push_digits(alloc: Global, bytes: &[u8], out: &mut String) -> Result<(), AllocError> {
+    for b in bytes {
+        let digits = format!(in alloc; "{b:02x}")?;
+        out.push_str(digits.as_str())?;
+    }
+    Ok(())
+}
+
+/// The rows, as structs.
+pub fn rows(alloc: Global, kinds: &[Kind], seeds: &mut Seeds) -> Result<Vec<Value>, AllocError> {
+    let mut rows = Vec::new(alloc);
+    for _ in 0..ROWS {
+        rows.push(Value::Struct(row(alloc, kinds, seeds)?))?;
+    }
+    Ok(rows)
+}

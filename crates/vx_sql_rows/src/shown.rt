@@ -1,0 +1,53 @@
+// Which faults an engine has to show.
+use vx_fn::{Operator, ScalarFnRef};
+use vx_tree::BoundExpression;
+use vx_types::Value;
+
+/// Whether an engine comes to the node at the path in every row: on the way there is no choice, no `and` and
+/// `or` of which one operand may decide, and beside it nothing that an engine knows to be null beforehand.
+pub fn is_shown(tree: &BoundExpression, path: &[usize]) -> bool {
+    let mut node = tree;
+    for index in path {
+        let children = node.children();
+        if !leads_to(node, *index) {
+            return false;
+        }
+        for (i, child) in children.iter().enumerate() {
+            if i != *index && !is_plain(child) {
+                return false;
+            }
+        }
+        match children.get(*index) {
+            Some(child) => node = child,
+            None => return false,
+        }
+    }
+    node.children().iter().all(|child| is_plain(child))
+}
+
+// Whether the node's value always takes that of the child.
+fn leads_to(node: &BoundExpression, index: usize) -> bool {
+    match node.as_scalar() {
+        Some(ScalarFnRef::Binary(Operator::And | Operator::Or)) => false,
+        Some(
+            ScalarFnRef::Binary(_)
+            | ScalarFnRef::Not(_)
+            | ScalarFnRef::IsNull(_)
+            | ScalarFnRef::IsNotNull(_)
+            | ScalarFnRef::Cast(_),
+        ) => true,
+        Some(ScalarFnRef::Between(_)) => index < 2,
+        Some(ScalarFnRef::FillNull(_) | ScalarFnRef::Like(_)) => index == 0,
+        _ => false,
+    }
+}
+
+// Whether the tree has no null of its own.
+fn is_plain(tree: &BoundExpression) -> bool {
+    let is_plain_node = match tree.as_scalar() {
+        Some(ScalarFnRef::Literal(scalar)) => !matches!(scalar.value(), Value::Null),
+        Some(ScalarFnRef::CaseWhen(_) | ScalarFnRef::Zip(_) | ScalarFnRef::Mask(_)) => false,
+        _ => true,
+    };
+    is_plain_node && tree.children().iter().all(|child| is_plain(child))
+}

@@ -1,0 +1,90 @@
+#!/bin/sh
+# Runs expressions by chance in real engines: `tools/engines.sh [SEED [COUNT]]`, from seed 1 on and 5,000 of
+# them unless told otherwise. Over a table of 50 rows with nulls, SQLite and PostgreSQL have to give the value of
+# the source for each row where it doesn't fault, to fail at sums that have to fail (docs/ENGINES.md), and to keep
+# the rows of which a filter is true. An engine that isn't installed is installed from Debian's packages, and where
+# it can't be, a line says so. Ends with status 1 where an engine answers otherwise, and prints what.
+# `rt ci` or `rt run vx_sql_rows` has built the program.
+set -eu
+cd "$(dirname "$0")/.."
+seed=${1:-1}
+count=${2:-5000}
+program=$PWD/crates/vx_sql_rows/out/vx_sql_rows
+room=$(mktemp -d)
+server=
+as_postgres=
+
+stop() {
+    if [ -n "$server" ]; then
+        $as_postgres "$server/pg_ctl" -D "$room/data" -m immediate stop >"$room/stopped" 2>&1 || cat "$room/stopped"
+        server=
+    fi
+    rm -r "$room"
+}
+trap stop EXIT
+trap 'exit 1' INT TERM
+
+# Installs a package, if that is allowed here.
+install() {
+    [ "$(id -u)" -eq 0 ] && command -v apt-get >/dev/null && apt-get install -y -q "$1" >"$room/installed" 2>&1
+}
+
+# The folder of PostgreSQL's programs, the newest one's.
+postgres_folder() {
+    ls -d /usr/lib/postgresql/*/bin 2>/dev/null | sort -V | tail -n 1
+}
+
+# Compares what an engine printed, and how many statements failed and why, with what it should.
+compare() {
+    engine=$1
+    cause=$2
+    "$program" answers "$engine" "$seed" "$count" >"$room/wanted"
+    failed=$(grep -c "$cause" "$room/errors" || true)
+    echo "$failed statements fail" >>"$room/said"
+    grep -v "$cause" "$room/errors" >"$room/others" || true
+    if ! diff "$room/wanted" "$room/said" >"$room/differ"; then
+        echo "engines: $engine answers otherwise from seed $seed on, as (wanted <, said >):"
+        head -n 20 "$room/differ"
+        head -n 20 "$room/others"
+        exit 1
+    fi
+    if [ -s "$room/others" ]; then
+        echo "engines: $engine says otherwise from seed $seed on:"
+        head -n 20 "$room/others"
+        exit 1
+    fi
+    echo "engines: $engine: $count expressions from seed $seed on, $(wc -l <"$room/wanted") answers, all the source's"
+}
+
+run_sqlite() {
+    command -v sqlite3 >/dev/null || install sqlite3 || {
+        echo "engines: sqlite: isn't installed here, and couldn't be: nothing was compared"
+        return 0
+    }
+    "$program" script sqlite "$seed" "$count" >"$room/script"
+    sqlite3 -batch :memory: <"$room/script" >"$room/said" 2>"$room/errors" || true
+    compare sqlite '^Runtime error near line [0-9]*: malformed JSON$'
+}
+
+run_postgres() {
+    [ -n "$(postgres_folder)" ] || install postgresql || {
+        echo "engines: postgres: isn't installed here, and couldn't be: nothing was compared"
+        return 0
+    }
+    folder=$(postgres_folder)
+    # The server refuses to run as root.
+    if [ "$(id -u)" -eq 0 ]; then
+        chown postgres "$room"
+        as_postgres="setpriv --reuid=postgres --regid=postgres --clear-groups"
+    fi
+    $as_postgres "$folder/initdb" -D "$room/data" -U postgres -A trust -E UTF8 --locale=C.UTF-8 >"$room/made"
+    $as_postgres "$folder/pg_ctl" -D "$room/data" -o "-k $room -c listen_addresses= -c fsync=off" -l "$room/log" -w start >"$room/started"
+    server=$folder
+    "$program" script postgres "$seed" "$count" >"$room/script"
+    PGOPTIONS='-c client_min_messages=warning' psql -X -q -A -t -h "$room" -U postgres -d postgres -v VERBOSITY=terse \
+        -f "$room/script" >"$room/said" 2>"$room/errors" || true
+    compare postgres 'ERROR:  [a-z]* out of range$'
+}
+
+run_sqlite
+run_postgres
