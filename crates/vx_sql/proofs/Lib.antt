@@ -3,3 +3,4 @@ pub mod Texts
 pub mod Spelled
 pub mod NodeReasons
 pub mod Walked
+pub mod ReadBack

@@ -1,12 +1,12 @@
 -- Characters inside texts, one after another.
-use Rattle.std.proofs.Common.{◌≡◌, ℕ, List, [], ◌∷◌, ◌++◌, codes, Bool, true, false, refl, sym, ap, ◌∙◌, append_assoc}
+use Rattle.std.proofs.Common.{◌≡◌, ℕ, List, [], ◌∷◌, ◌++◌, codes, sym, ap, ◌∙◌, append_assoc}
 use Rattle.std.specs.List.{flat_map}
 use Rattle.std.specs.Prelude.{encode_utf8_all}
 use Rattle.std.proofs.lemmas.Grind.{flat_map-append}
 use Rattle.std.proofs.lemmas.Str.{encodes-append}
 use Rattle.vx_sql.specs.declared.quotes.Quoting.{Quoting}
 use Rattle.vx_sql.specs.Quotes.{inside}
-use Rattle.vx_sql.specs.Patterns.{enclosed, enclosed_pair, like_char}
+use Rattle.vx_sql.specs.Patterns.{enclosed}
 
 -- what stands for characters inside a text, as it is written
 abbrev pub written : Quoting → List ℕ → List ℕ

@@ -1,5 +1,5 @@
 -- The first node without a text among children, one after another.
-use Rattle.std.proofs.Common.{◌≡◌, ℕ, ◌+◌, ◌<◌, ◌≤◌, List, [], ◌∷◌, ◌++◌, length, get_or, drop, Option, Some, None, refl, sym, ap, ◌∙◌, append_assoc, append-nil}
+use Rattle.std.proofs.Common.{◌≡◌, ℕ, ◌+◌, ◌<◌, ◌≤◌, List, [], ◌∷◌, ◌++◌, length, get_or, drop, Some, None, sym, ap, ◌∙◌, append_assoc, append-nil}
 use Rattle.std.specs.Prelude.{if◌then◌else◌}
 use Rattle.std.specs.Option.{option_map, option_or}
 use Rattle.vx_value.specs.Types.{LogicalType}
@@ -11,7 +11,7 @@ use Rattle.vx_tree.proofs.Children.{bounds_next, bounds_end}
 use Rattle.vx_sql.specs.declared.dialect.Dialect.{Dialect}
 use Rattle.vx_sql.specs.declared.unsupported.Reason.{Reason}
 use Rattle.vx_sql.specs.Reasons.{own_reason}
-use Rattle.vx_sql.specs.Unsupported.{Refused, below, is_column, first_unsupported, first_unsupported_from, Leads}
+use Rattle.vx_sql.specs.Unsupported.{below, is_column, first_unsupported, first_unsupported_from, Leads}
 
 -- ---- the node itself
 

@@ -1,11 +1,11 @@
 -- What the text of a node depends on beside its children's texts.
-use Rattle.std.specs.Prelude.{ℕ, Bool, true, false, not, List, [], Option, Some, None}
+use Rattle.std.specs.Prelude.{Bool, true, false, not, List, [], Option, Some, None}
 use Rattle.vx_value.specs.Columns.{Constant, constant}
 use Rattle.vx_value.specs.Fields.{field_names}
 use Rattle.vx_value.specs.Types.{Name, LogicalType, ty, struct, is_null_datum}
 use Rattle.vx_fn.specs.Functions.{literal, is_text, is_atomic}
 use Rattle.vx_tree.specs.Nodes.{is_root, bound_at}
-use Rattle.vx_tree.specs.Trees.{BoundTree, scope, node, BoundTrees, node_type, unbound}
+use Rattle.vx_tree.specs.Trees.{BoundTree, node, BoundTrees, node_type, unbound}
 
 -- whether the test passes at the child, if there is one
 abbrev pub passes : (BoundTree → Bool) → Option BoundTree → Bool

@@ -7,3 +7,4 @@ pub mod Sums
 pub mod SqlTexts
 pub mod Reasons
 pub mod Unsupported
+pub mod Laws

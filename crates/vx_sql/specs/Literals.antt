@@ -1,5 +1,5 @@
 -- Literals.
-use Rattle.std.specs.Prelude.{ℕ, zero, suc, Bool, true, false, ◌||◌, ℤ, pos, negsuc, List, [], ◌∷◌, ◌++◌, codes, if◌then◌else◌}
+use Rattle.std.specs.Prelude.{ℕ, Bool, true, false, ℤ, pos, negsuc, List, [], ◌++◌, codes, if◌then◌else◌}
 use Rattle.std.specs.Fmt.{decimal, signed_decimal}
 use Rattle.std.specs.List.{flat_map}
 use Rattle.vx_dtype.specs.declared.dtype.PType.{PType}
@@ -7,7 +7,7 @@ use Rattle.vx_dtype.specs.declared.dtype.PType.TheVariants.{I32}
 use Rattle.vx_value.specs.Types.{number, LogicalType, ty, atomic, Datum, null, bool, int, utf8, bytes}
 use Rattle.vx_value.specs.ValueTexts.{hex_byte}
 use Rattle.vx_sql.specs.declared.dialect.Dialect.{Dialect}
-use Rattle.vx_sql.specs.declared.dialect.Dialect.TheVariants.{Postgres, Sqlite, DuckDb, Spark}
+use Rattle.vx_sql.specs.declared.dialect.Dialect.TheVariants.{Postgres, Sqlite, DuckDb}
 use Rattle.vx_sql.specs.Dialects.{type_word, number_word, cast_text}
 use Rattle.vx_sql.specs.Quotes.{text_sql}
 

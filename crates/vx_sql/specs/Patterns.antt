@@ -5,7 +5,7 @@ use Rattle.std.specs.List.{flat_map}
 use Rattle.vx_fn.specs.Values.{Part, any_text, any_one, just}
 use Rattle.vx_eval_like.specs.Patterns.{spelled_by}
 use Rattle.vx_sql.specs.declared.dialect.Dialect.{Dialect}
-use Rattle.vx_sql.specs.declared.dialect.Dialect.TheVariants.{Postgres, Sqlite, DuckDb, Spark}
+use Rattle.vx_sql.specs.declared.dialect.Dialect.TheVariants.{Sqlite}
 use Rattle.vx_sql.specs.declared.patterns.Part as program
 use Rattle.vx_sql.specs.declared.patterns.Part.TheVariants.{AnyText, AnyOne, Just}
 use Rattle.vx_sql.specs.Quotes.{quoted, quoting_of}

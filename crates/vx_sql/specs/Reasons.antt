@@ -1,5 +1,5 @@
 -- Why a node has no SQL text.
-use Rattle.std.specs.Prelude.{ℕ, Bool, true, false, not, ◌==◌, ◌||◌, ◌&&◌, List, [], ◌∷◌, Option, Some, None, length, if◌then◌else◌, nat_lt, nat_le}
+use Rattle.std.specs.Prelude.{ℕ, Bool, false, not, ◌==◌, ◌&&◌, List, [], ◌∷◌, Option, Some, None, length, if◌then◌else◌, nat_lt}
 use Rattle.std.specs.List.{list_any, count_by}
 use Rattle.std.specs.Option.{option_or, is_some}
 use Rattle.std.specs.Str.{bytes_eq}
@@ -7,9 +7,9 @@ use Rattle.vx_source_dtype.specs.Names.{same_word}
 use Rattle.vx_value.specs.Types.{Name, LogicalType, Datum, utf8}
 use Rattle.vx_fn.specs.Functions.{Function, get_item, literal, pack, select, fill_null, like, arity_of, is_atomic}
 use Rattle.vx_tree.specs.Nodes.{bound_at, bound_count_of}
-use Rattle.vx_tree.specs.Trees.{BoundTree, BoundTrees}
+use Rattle.vx_tree.specs.Trees.{BoundTrees}
 use Rattle.vx_sql.specs.declared.dialect.Dialect.{Dialect}
-use Rattle.vx_sql.specs.declared.dialect.Dialect.TheVariants.{Postgres, Sqlite, DuckDb, Spark}
+use Rattle.vx_sql.specs.declared.dialect.Dialect.TheVariants.{Postgres}
 use Rattle.vx_sql.specs.declared.unsupported.Reason.{Reason}
 use Rattle.vx_sql.specs.declared.unsupported.Reason.TheVariants.{ChildCount, UnknownType, UnknownFunction, NestedLiteral, PatternNotLiteral, FillNotLiteral, EmptyName, LongName, AmbiguousName, Nul}
 use Rattle.vx_sql.specs.Children.{passes, has_atomic_first, names_first, literal_in, is_value}

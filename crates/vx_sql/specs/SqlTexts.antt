@@ -9,7 +9,7 @@ use Rattle.vx_tree.specs.Trees.{BoundTree, scope, node, BoundTrees, no_bound, bo
 use Rattle.vx_tree.specs.declared.bound.BoundExpression.{BoundExpression}
 use Rattle.vx_tree.specs.Views.{bounds_of}
 use Rattle.vx_sql.specs.declared.dialect.Dialect.{Dialect}
-use Rattle.vx_sql.specs.declared.dialect.Dialect.TheVariants.{Postgres, Sqlite, DuckDb, Spark}
+use Rattle.vx_sql.specs.declared.dialect.Dialect.TheVariants.{Postgres, Sqlite, DuckDb}
 use Rattle.vx_sql.specs.Children.{is_row, has_text_first, has_struct_first, literal_in}
 use Rattle.vx_sql.specs.Dialects.{collation}
 use Rattle.vx_sql.specs.Quotes.{name_sql, text_sql}

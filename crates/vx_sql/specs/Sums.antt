@@ -1,6 +1,5 @@
 -- Sums that fail where they leave their type.
-use Rattle.std.specs.Prelude.{ℕ, Bool, true, false, List, [], ◌++◌, codes, if◌then◌else◌}
-use Rattle.std.specs.Fmt.{decimal}
+use Rattle.std.specs.Prelude.{ℕ, List, [], ◌++◌, codes, if◌then◌else◌}
 use Rattle.vx_dtype.specs.declared.dtype.PType.{PType}
 use Rattle.vx_dtype.specs.declared.dtype.PType.TheVariants.{U8, U16, U32, U64, I8, I16, I32, I64}
 use Rattle.vx_value.specs.Types.{is_signed}
@@ -9,7 +8,7 @@ use Rattle.vx_sql.specs.declared.dialect.Dialect.TheVariants.{Postgres, Sqlite, 
 use Rattle.vx_sql.specs.declared.sums.Check.{Check}
 use Rattle.vx_sql.specs.declared.sums.Check.TheVariants.{Own, Moved, Floated, MovedFloated, Narrowed}
 use Rattle.vx_sql.specs.Dialects.{number_word}
-use Rattle.vx_sql.specs.Literals.{number_sql, natural_sql}
+use Rattle.vx_sql.specs.Literals.{natural_sql}
 
 -- in PostgreSQL and Spark, numbers without a sign stand in the next wider type, or in one without an end
 abbrev pub wider_check : PType → Check

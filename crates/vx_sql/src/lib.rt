@@ -5,6 +5,7 @@ mod characters;
 mod children;
 mod conversion;
 mod dialect;
+mod laws;
 mod literals;
 mod names;
 mod patterns;
@@ -18,5 +19,8 @@ mod walk;
 
 pub use conversion::to_sql;
 pub use dialect::Dialect;
+pub use laws::{names_read_back, patterns_read_back, texts_read_back};
+pub use names::SqlName;
+pub use reasons::{column_names, name_reason, spelling_reason};
 pub use unsupported::{Reason, Unsupported};
 pub use walk::first_unsupported;

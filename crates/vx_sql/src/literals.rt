@@ -64,20 +64,8 @@ fn truth_word(dialect: Dialect, b: bool) -> &'static str
     ensures { result.now ≡ truth_sql dialect b }
 {
     match dialect {
-        Dialect::Sqlite => {
-            if b {
-                "1"
-            } else {
-                "0"
-            }
-        }
-        Dialect::Postgres | Dialect::DuckDb | Dialect::Spark => {
-            if b {
-                "TRUE"
-            } else {
-                "FALSE"
-            }
-        }
+        Dialect::Sqlite => { if b { "1" } else { "0" } }
+        Dialect::Postgres | Dialect::DuckDb | Dialect::Spark => { if b { "TRUE" } else { "FALSE" } }
     }
 }
 

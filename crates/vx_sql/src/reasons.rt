@@ -61,8 +61,9 @@ fn function_reason(
     }
 }
 
-// Why the name isn't that of one of the columns or fields alone.
-fn name_reason(dialect: Dialect, names: &[FieldName], name: &FieldName) -> Option<Reason>
+/// Why the name can't be written as that of one of these columns or fields alone: `EmptyName`, `Nul` or
+/// `LongName` by its spelling, `AmbiguousName` where the engine takes several of them for it.
+pub fn name_reason(dialect: Dialect, names: &[FieldName], name: &FieldName) -> Option<Reason>
     ensures { result ≡ name_reason dialect names.now name.now }
 {
     if let Some(reason) = spelling_reason(dialect, name.as_str()) {
@@ -78,8 +79,8 @@ fn name_reason(dialect: Dialect, names: &[FieldName], name: &FieldName) -> Optio
     None
 }
 
-// Why no such name can be written.
-fn spelling_reason(dialect: Dialect, name: &str) -> Option<Reason>
+/// Why no such name can be written: it is empty, has a NUL, or is longer than the engine keeps.
+pub fn spelling_reason(dialect: Dialect, name: &str) -> Option<Reason>
     ensures { result ≡ spelling_reason dialect name.now }
 {
     if name.is_empty() {
@@ -125,13 +126,13 @@ fn names_first(children: &[BoundExpression]) -> &[FieldName]
     ensures { result.now ≡ names_first (bounds_of children.now) }
 {
     match child_at(children, 0) {
-        Some(child) => names_in(child.dtype()),
+        Some(child) => column_names(child.dtype()),
         None => &[],
     }
 }
 
-// The names of the fields of a struct, none of another type.
-fn names_in(dtype: &DType) -> &[FieldName]
+/// The names of the columns that rows of the type have: those of a struct's fields, none of another type.
+pub fn column_names(dtype: &DType) -> &[FieldName]
     ensures { result.now ≡ names_in (type_of dtype.now) }
 {
     match dtype {

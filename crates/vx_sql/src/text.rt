@@ -38,11 +38,7 @@ impl Display for SqlText<'_> {
 
 // The text of a node; none of one with another number of children than its function takes.
 #[cycle(text)]
-fn write_sql<W: Write>(
-    b: &BoundExpression,
-    dialect: Dialect,
-    f: &mut Formatter<W>,
-) -> fmt::Result
+fn write_sql<W: Write>(b: &BoundExpression, dialect: Dialect, f: &mut Formatter<W>) -> fmt::Result
     ensures { WritesOnOk W.write_str_gives f.old result (sql dialect (bound_of b.now)) f.new }
 {
     match b {

@@ -107,7 +107,11 @@ fn write_before_matched<W: Write>(
     ensures { WritesOnOk W.write_str_gives f.old result (before_matched dialect ignore_case) f.new }
 {
     f.write_str("(")?;
-    f.write_str(if ignore_case { before_folded(dialect) } else { "" })
+    f.write_str(if ignore_case {
+        before_folded(dialect)
+    } else {
+        ""
+    })
 }
 
 // What stands behind it: a GLOB compares bytes by itself.
@@ -123,7 +127,11 @@ fn write_behind_matched<W: Write>(
     } else {
         collation(dialect)
     })?;
-    f.write_str(if ignore_case { behind_folded(dialect) } else { "" })
+    f.write_str(if ignore_case {
+        behind_folded(dialect)
+    } else {
+        ""
+    })
 }
 
 // The word of a match.

@@ -1,4 +1,4 @@
-use Rattle.std.proofs.Common.{◌≡◌, ◌≢◌, ◌+◌, ◌*◌, ◌/◌, ◌<◌, [], ◌++◌, codes, length, get_or, drop, refl, sym, ap, append_assoc, ◌∙◌, append-nil, rules, arith}
+use Rattle.std.proofs.Common.{◌≡◌, ◌+◌, ◌*◌, ◌/◌, ◌<◌, [], ◌++◌, codes, length, get_or, drop, refl, sym, ap, ◌∙◌, append-nil, rules, arith}
 use Rattle.std.proofs.lemmas.List.{drop_all}
 use Rattle.std.proofs.Output.{has_written_append, has_written_of_eq}
 use Rattle.vx_dtype.proofs.Commas.{after_commas, after_commas-turn, with_commas-first}

@@ -1,0 +1,143 @@
+-- What stands between quotes is read back, and so are patterns.
+use Rattle.std.proofs.Common.{◌≡◌, ℕ, Bool, true, false, List, [], ◌∷◌, ◌++◌, Some, codes, chars, refl, sym, ap, ◌∙◌, append_assoc, arith}
+use Rattle.std.specs.Prelude.{◌==◌, ◌||◌, ◌&&◌, encode_utf8_all}
+use Rattle.std.specs.List.{flat_map}
+use Rattle.std.proofs.Math.Utf8.{scalars}
+use Rattle.std.proofs.lemmas.Bool.{cond-true, cond-false}
+use Rattle.std.proofs.lemmas.Bool.Decides.{nat_tests}
+use Rattle.std.proofs.lemmas.Str.{chars-encodes, encodes-append, scalars-chars}
+use Rattle.std.proofs.Math.Seq.{drop-append_seam}
+use Rattle.vx_source_tokens.specs.Spellings.{doubled}
+use Rattle.vx_source_tokens.specs.Tokens.{next, unquoted, with_byte}
+use Rattle.vx_source_tokens.proofs.Choice.{no}
+use Rattle.vx_source_tokens.proofs.Unquoting.{unquoted_doubled}
+use Rattle.vx_fn.specs.Values.{Part, any_text, any_one, just}
+use Rattle.vx_sql.specs.declared.quotes.Quoting.{Quoting}
+use Rattle.vx_sql.specs.declared.quotes.Quoting.TheVariants.{Doubled, Escaped, Backslashed}
+use Rattle.vx_sql.specs.Laws.{NamesReadBack, CharactersReadBack, TextsReadBack, like_read, PatternsReadBack}
+use Rattle.vx_sql.specs.Patterns.{is_like_sign, like_char, like_part}
+use Rattle.vx_sql.specs.Quotes.{name_quote, quoting_of, quote_inside, backslash_inside, inside, opening, anywhere, text_read}
+
+same_is : (b q : ℕ) → (b == q) ≡ true → b ≡ q
+same_is b q e = grind (arith, nat_tests)
+
+-- ---- names
+
+pub names_read : NamesReadBack
+names_read d a rest e = ap (unquoted (name_quote d) false) (append_assoc (doubled (name_quote d) a) (name_quote d ∷ []) rest) ∙ unquoted_doubled (name_quote d) a rest e
+
+-- ---- characters
+
+quote_read : (q : Quoting) (xs : List ℕ) → text_read q anywhere (quote_inside q ++ xs) ≡ with_byte 39 (text_read q anywhere xs)
+quote_read Doubled xs = refl
+quote_read Escaped xs = refl
+quote_read Backslashed xs = refl
+
+backslash_read : (q : Quoting) (xs : List ℕ) → text_read q anywhere (backslash_inside q ++ xs) ≡ with_byte 92 (text_read q anywhere xs)
+backslash_read Doubled xs = refl
+backslash_read Escaped xs = refl
+backslash_read Backslashed xs = refl
+
+other_read : (q : Quoting) (c : ℕ) (xs : List ℕ) → (c == 39) ≡ false → (c == 92) ≡ false → text_read q anywhere (c ∷ xs) ≡ with_byte c (text_read q anywhere xs)
+other_read q c xs e h = no (c == 39) _ _ e ∙ no (c == 92) _ _ h
+
+inside-quote : (q : Quoting) (c : ℕ) → (c == 39) ≡ true → inside q c ≡ quote_inside q
+inside-quote q c e = cond-true (c == 39) _ _ e
+
+inside-backslash : (q : Quoting) (c : ℕ) → (c == 39) ≡ false → (c == 92) ≡ true → inside q c ≡ backslash_inside q
+inside-backslash q c e h = cond-false (c == 39) _ _ e ∙ cond-true (c == 92) _ _ h
+
+inside-other : (q : Quoting) (c : ℕ) → (c == 39) ≡ false → (c == 92) ≡ false → inside q c ≡ c ∷ []
+inside-other q c e h = cond-false (c == 39) _ _ e ∙ cond-false (c == 92) _ _ h
+
+one_read : (q : Quoting) (c : ℕ) (xs : List ℕ) → text_read q anywhere (inside q c ++ xs) ≡ with_byte c (text_read q anywhere xs)
+one_read q c xs = by (c == 39) (c == 92) refl refl where
+  by : (s t : Bool) → (c == 39) ≡ s → (c == 92) ≡ t → text_read q anywhere (inside q c ++ xs) ≡ with_byte c (text_read q anywhere xs)
+  by true t e h =
+      ap (λ ys. text_read q anywhere (ys ++ xs)) (inside-quote q c e) ∙ quote_read q xs ∙ ap (λ b. with_byte b (text_read q anywhere xs)) (sym (same_is c 39 e))
+  by false true e h =
+      ap (λ ys. text_read q anywhere (ys ++ xs)) (inside-backslash q c e h) ∙ backslash_read q xs ∙ ap (λ b. with_byte b (text_read q anywhere xs)) (sym (same_is c 92 h))
+  by false false e h = ap (λ ys. text_read q anywhere (ys ++ xs)) (inside-other q c e h) ∙ other_read q c xs e h
+
+closes : (q : Quoting) (rest : List ℕ) → (next rest == 39) ≡ false → text_read q anywhere (39 ∷ rest) ≡ Some ([], rest)
+closes Doubled [] e = refl
+closes Doubled (b ∷ bs) e = no (b == 39) _ _ e
+closes Escaped [] e = refl
+closes Escaped (b ∷ bs) e = no (b == 39) _ _ e
+closes Backslashed rest e = refl
+
+pub characters_read : CharactersReadBack
+characters_read q [] rest e = closes q rest e
+characters_read q (c ∷ cs) rest e =
+    ap (text_read q anywhere) (append_assoc (inside q c) (flat_map (inside q) cs) (39 ∷ rest)) ∙ one_read q c (flat_map (inside q) cs ++ 39 ∷ rest) ∙ ap (with_byte c) (characters_read q cs rest e)
+
+-- ---- whole texts
+
+two : (x y : Bool) → (x && y) ≡ true → (x ≡ true) × (y ≡ true)
+two true y e = (refl, e)
+two false y e = cc
+
+-- what stands for a character inside a text are characters
+inside-scalars : (q : Quoting) (c : ℕ) (cs : List ℕ) → scalars (c ∷ []) ≡ true → scalars cs ≡ true → scalars (inside q c ++ cs) ≡ true
+inside-scalars q c cs s k = by (c == 39) (c == 92) refl refl where
+  quote : (r : Quoting) → scalars (quote_inside r ++ cs) ≡ true
+  quote Doubled = k
+  quote Escaped = k
+  quote Backslashed = k
+
+  backslash : (r : Quoting) → scalars (backslash_inside r ++ cs) ≡ true
+  backslash Doubled = k
+  backslash Escaped = k
+  backslash Backslashed = k
+
+  by : (t u : Bool) → (c == 39) ≡ t → (c == 92) ≡ u → scalars (inside q c ++ cs) ≡ true
+  by true u e h = ap (λ ys. scalars (ys ++ cs)) (inside-quote q c e) ∙ quote q
+  by false true e h = ap (λ ys. scalars (ys ++ cs)) (inside-backslash q c e h) ∙ backslash q
+  by false false e h = ap (λ ys. scalars (ys ++ cs)) (inside-other q c e h) ∙ ap (λ b. b && scalars cs) (two _ true s).0 ∙ k
+
+all-scalars : (q : Quoting) (cs : List ℕ) → scalars cs ≡ true → scalars (flat_map (inside q) cs ++ 39 ∷ []) ≡ true
+all-scalars q [] s = refl
+all-scalars q (c ∷ cs) s =
+    let parts = two _ (scalars cs) s in
+    ap scalars (append_assoc (inside q c) (flat_map (inside q) cs) (39 ∷ [])) ∙ inside-scalars q c (flat_map (inside q) cs ++ 39 ∷ []) (ap (λ b. b && true) parts.0) (all-scalars q cs parts.1)
+
+-- the characters behind what opens a text
+behind_opening : (q : Quoting) (cs : List ℕ) → scalars cs ≡ true → chars (encode_utf8_all (flat_map (inside q) cs) ++ codes "'") ≡ flat_map (inside q) cs ++ 39 ∷ []
+unfolding lib.Utf8.encode
+behind_opening q cs s = ap chars (sym (encodes-append (flat_map (inside q) cs) (39 ∷ []))) ∙ chars-encodes (flat_map (inside q) cs ++ 39 ∷ []) (all-scalars q cs s)
+
+pub texts_read : TextsReadBack
+texts_read d s u =
+    let q = quoting_of d s in
+    let behind = encode_utf8_all (flat_map (inside q) (chars s)) ++ codes "'" in
+    ap (λ xs. text_read q anywhere (chars xs)) (drop-append_seam (opening q) behind)
+    ∙ ap (text_read q anywhere) (behind_opening q (chars s) (scalars-chars s u))
+    ∙ characters_read q (chars s) [] refl
+
+-- ---- patterns
+
+none_of : (a b c : Bool) → (a || (b || c)) ≡ false → (a ≡ false) × (b ≡ false) × (c ≡ false)
+none_of false false false e = (refl, refl, refl)
+none_of true b c e = cc
+none_of false true c e = cc
+none_of false false true e = cc
+
+plain_read : (c : ℕ) (cs : List ℕ) → is_like_sign c ≡ false → like_read (c ∷ cs) ≡ just c ∷ like_read cs
+plain_read c cs e =
+    let (any, one, escape) = none_of (c == 37) (c == 95) (c == 33) e in
+    cond-false (c == 33) _ _ escape ∙ ap (λ p. p ∷ like_read cs) (cond-false (c == 37) _ _ any ∙ cond-false (c == 95) _ _ one)
+
+char_read : (c : ℕ) (cs : List ℕ) → like_read (like_char c ++ cs) ≡ just c ∷ like_read cs
+char_read c cs = by (is_like_sign c) refl where
+  by : (t : Bool) → is_like_sign c ≡ t → like_read (like_char c ++ cs) ≡ just c ∷ like_read cs
+  by true e = ap (λ xs. like_read (xs ++ cs)) (cond-true (is_like_sign c) (33 ∷ c ∷ []) (c ∷ []) e)
+  by false e = ap (λ xs. like_read (xs ++ cs)) (cond-false (is_like_sign c) (33 ∷ c ∷ []) (c ∷ []) e) ∙ plain_read c cs e
+
+part_read : (p : Part) (cs : List ℕ) → like_read (like_part p ++ cs) ≡ p ∷ like_read cs
+part_read any_text cs = refl
+part_read any_one cs = refl
+part_read (just c) cs = char_read c cs
+
+pub patterns_read : PatternsReadBack
+patterns_read [] = refl
+patterns_read (p ∷ ps) = part_read p (flat_map like_part ps) ∙ ap (λ x. p ∷ x) (patterns_read ps)
