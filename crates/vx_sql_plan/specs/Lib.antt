@@ -1,0 +1,3 @@
+pub mod Pushdown
+pub mod Statements
+pub mod Laws

@@ -1,0 +1,76 @@
+// The columns that a tree reads of its rows.
+ghost use Rattle.std.specs.Prelude.{◌≡◌, ◌++◌, ◌∷◌, [], None, IfOk, MatchResult, filter, map, string_bytes};
+ghost use Rattle.std.specs.List.{list_any};
+ghost use Rattle.vx_value.specs.Paths.{minimal_paths, path_of};
+ghost use Rattle.vx_sql.specs.Quotes.{name_sql};
+ghost use Rattle.vx_sql_plan.specs.Statements.{leads_into, column_refusal, IsRefusalOf};
+
+use crate::NoStatement;
+use std::alloc::{AllocError, Global};
+use vx_sql::{Dialect, SqlName, name_reason};
+use vx_types::{Field, FieldName, FieldPathSet};
+
+/// The texts of those names, of all of a row, into whose columns a path leads. Refuses with the first
+/// that can't be written.
+pub(crate) fn column_texts(
+    alloc: Global,
+    dialect: Dialect,
+    names: &[FieldName],
+    paths: &FieldPathSet,
+) -> Result<Vec<String>, NoStatement>
+    ensures { let columns = filter (λ a. list_any (leads_into a) (minimal_paths paths.now)) names.now in
+        MatchResult result (λ texts. (column_refusal dialect names.now columns ≡ None) × (map string_bytes texts.items ≡ map (name_sql dialect) columns))
+        (IsRefusalOf (column_refusal dialect names.now columns)) }
+{
+    let mut texts = Vec::new(alloc);
+    for i in 0..names.len() {
+        push_column(alloc, dialect, names, &names[i], paths, &mut texts)?;
+    }
+    Ok(texts)
+}
+
+// Puts the name's text behind the others, if a path leads into its column.
+fn push_column(
+    alloc: Global,
+    dialect: Dialect,
+    names: &[FieldName],
+    name: &FieldName,
+    paths: &FieldPathSet,
+    texts: &mut Vec<String>,
+) -> Result<(), NoStatement>
+    ensures { let columns = filter (λ a. list_any (leads_into a) (minimal_paths paths.now)) (name.now ∷ []) in
+        MatchResult result (λ _. (column_refusal dialect names.now columns ≡ None) × (map string_bytes texts.new.items ≡ map string_bytes texts.old.items ++ map (name_sql dialect) columns))
+        (IsRefusalOf (column_refusal dialect names.now columns)) }
+{
+    if !is_read(name, paths) {
+        return Ok(());
+    }
+    if let Some(reason) = name_reason(dialect, names, name) {
+        return Err(NoStatement::Column(name.clone()?, reason));
+    }
+    texts.push(name_text(alloc, dialect, name)?)?;
+    Ok(())
+}
+
+fn name_text(alloc: Global, dialect: Dialect, name: &FieldName) -> Result<String, AllocError>
+    ensures { IfOk result (λ text. string_bytes text ≡ name_sql dialect name.now) }
+{
+    let name = SqlName(name.as_str(), dialect);
+    format!(in alloc; "{name}")
+}
+
+// Whether a path leads into the column of that name.
+fn is_read(name: &FieldName, paths: &FieldPathSet) -> bool
+    ensures { result ≡ list_any (leads_into name.now) (minimal_paths paths.now) }
+{
+    paths.iter().any(|path| leads_into(name, path.parts()))
+}
+
+fn leads_into(name: &FieldName, path: &[Field]) -> bool
+    ensures { result ≡ leads_into name.now (path_of path.now) }
+{
+    match path {
+        [Field::Name(first), ..] => *first == *name,
+        [] => true,
+    }
+}
