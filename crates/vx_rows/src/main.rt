@@ -10,9 +10,27 @@ use std::{env, fs};
 use vx_test_judge::judge_table;
 use vx_test_tables::{Aim, Table, Tally};
 
+// The tallies of tables, by what their lines are there for.
+#[derive(Clone, Copy, Default)]
+struct Tallies {
+    right: Tally,
+    wrong: Tally,
+    unread: Tally,
+}
+
+impl Tallies {
+    fn of(&mut self, aim: Aim) -> &mut Tally {
+        match aim {
+            Aim::Right => &mut self.right,
+            Aim::Wrong => &mut self.wrong,
+            Aim::Unread => &mut self.unread,
+        }
+    }
+}
+
 fn main(rt: HostRuntime) -> Result<ExitCode> {
     let alloc = rt.alloc();
-    let (mut wrong, mut unread, mut right) = (Tally::default(), Tally::default(), Tally::default());
+    let mut tallies = Tallies::default();
     for name in env::args(&rt)?.skip(1) {
         let name = name.as_str();
         let text = fs::read_to_string(&rt, name).context(format_args!("reading {name}"))?;
@@ -21,13 +39,14 @@ fn main(rt: HostRuntime) -> Result<ExitCode> {
             text: text.as_str(),
             aim: Aim::of(name),
         };
-        let tally = match table.aim {
-            Aim::Wrong => &mut wrong,
-            Aim::Unread => &mut unread,
-            Aim::Right => &mut right,
-        };
+        let tally = tallies.of(table.aim);
         judge_table(alloc, &table, tally, &mut rt.stdout())?;
     }
+    let Tallies {
+        right,
+        wrong,
+        unread,
+    } = tallies;
     println!(rt; "{} wrong lines, {} not told", wrong.lines, wrong.failed)?;
     println!(rt;
         "{} lines that can't be read, {} not refused",
