@@ -45,8 +45,9 @@ prints
 const EXPLAIN: &str = "Example:
   vx explain 'a.x >= 1 and b < 5' --schema '{a={x=i32, y=i32}?, b=i32, c=utf8}'
 prints its text, type and tree, what each pass makes of it, and what a scan reads; with --data also
-the type of the records, and what the expression means at the first 10 of them; with --stats what is
-known of it in each chunk, whose statistics are a line of JSON, as in
+the type of the records, and what the expression means at the first 10 of them; with --sql a SELECT
+for that engine, and what of the expression it takes; with --stats what is known of it in each chunk,
+whose statistics are a line of JSON, as in
   {\"rows\": 3, \"fields\": {\"a.x\": {\"nulls\": 1, \"least\": 1, \"greatest\": 5}}}";
 
 const FORMAT: &str = "Example:
@@ -54,21 +55,52 @@ const FORMAT: &str = "Example:
 prints
   (1i32 <= $.x <= 3i32)";
 
-const PLAN: &str = "Example:
+const PLAN: &str = "Examples:
   vx plan 'x >= 1' --schema '{x=i32}' --json
-prints an object of the plan's tree, its type and scope, the paths that are read, the root and the partitions";
+prints an object of the plan's tree, its type and scope, the paths that are read, the root and the partitions
+  vx plan 'x >= 1' --schema '{x=i32}' --sql postgres --table t
+prints a SELECT for that engine, and behind it what the engine can't take of the expression";
 
 // The command that prints a plan.
 fn plan<'a>(alloc: Global) -> Result<Command<'a>, AllocError> {
-    query(alloc, "plan", "Prints the plan of a scan as JSON", PLAN)?.arg(json(alloc))
+    let command = query(
+        alloc,
+        "plan",
+        "Prints the plan of a scan, as JSON or SQL",
+        PLAN,
+    )?;
+    let sql = sql(alloc)?.conflicts_with("json")?;
+    command.arg(json(alloc))?.arg(sql)?.arg(table(alloc)?)
 }
 
 fn json<'a>(alloc: Global) -> Arg<'a> {
     Arg::new(alloc, "json")
         .long("json")
         .action(ArgAction::SetTrue)
-        .help("Print JSON, which is the only form so far")
+        .help("Print JSON, as without --sql")
 }
+
+fn sql<'a>(alloc: Global) -> Result<Arg<'a>, AllocError> {
+    Arg::new(alloc, "sql")
+        .long("sql")
+        .value_name("ENGINE")
+        .action(ArgAction::Set)
+        .value_parser(ENGINES)
+        .help("Write the plan as a statement for that engine")
+        .requires_arg("table")
+}
+
+fn table<'a>(alloc: Global) -> Result<Arg<'a>, AllocError> {
+    Arg::new(alloc, "table")
+        .long("table")
+        .value_name("NAME")
+        .action(ArgAction::Set)
+        .help("The name of the engine's table")
+        .requires_arg("sql")
+}
+
+// The engines.
+const ENGINES: &[&str] = &["postgres", "sqlite", "duckdb", "spark"];
 
 const DOT: &str = "Example:
   vx dot 'x >= 1' --schema '{x=i32}' | dot -Tsvg > tree.svg";
@@ -81,9 +113,12 @@ fn explain<'a>(alloc: Global) -> Result<Command<'a>, AllocError> {
     let command = Command::new(alloc, "explain")
         .about("Prints what becomes of the expression")
         .after_help(EXPLAIN);
-    over_records(alloc, command, schema, data(alloc).conflicts_with("stats")?)?.arg(statistics(
-        alloc,
-    ))
+    let data = data(alloc).conflicts_with("stats")?;
+    let sql = sql(alloc)?.conflicts_with_all(&["data", "stats"])?;
+    over_records(alloc, command, schema, data)?
+        .arg(statistics(alloc))?
+        .arg(sql)?
+        .arg(table(alloc)?)
 }
 
 fn statistics<'a>(alloc: Global) -> Arg<'a> {

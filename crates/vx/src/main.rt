@@ -14,7 +14,9 @@ use records::{filter_of, output_of, over_records};
 use std::env;
 use std::process::ExitCode;
 use texts::text_at;
-use vx_commands::{Command, Query, RowsWork, Status, run_command};
+use vx_commands::{
+    Command, Dialect, Query, RowsWork, SqlCommand, SqlWork, Status, run_command, run_sql,
+};
 
 fn main(rt: HostRuntime) -> ExitCode {
     match answer(&rt) {
@@ -58,6 +60,12 @@ fn asked(rt: &HostRuntime, matches: &ArgMatches<'_>) -> Result<Status> {
             over_records(rt, work, u64::MAX, matches)
         }
         Some(("filter", matches)) => over_records(rt, filter_of(matches), u64::MAX, matches),
+        Some(("plan", matches)) if matches.contains_id("sql") => {
+            over_engine(rt, SqlWork::Plan, matches)
+        }
+        Some(("explain", matches)) if matches.contains_id("sql") => {
+            over_engine(rt, SqlWork::Explain, matches)
+        }
         Some(("explain", matches)) if matches.contains_id("data") => {
             over_records(rt, RowsWork::Explain, 10, matches)
         }
@@ -92,4 +100,31 @@ fn over_texts(rt: &HostRuntime, name: &str, matches: &ArgMatches<'_>) -> Result<
         _ => Command::Format(query.expression),
     };
     Ok(run_command(rt.alloc(), &command, &mut rt.stdout(), &mut rt.stderr()))
+}
+
+// Does that work for the engine that the words name.
+fn over_engine(rt: &HostRuntime, work: SqlWork, matches: &ArgMatches<'_>) -> Result<Status> {
+    let expression = text_at(rt, matches, "expression")?;
+    let schema = text_at(rt, matches, "schema")?;
+    let query = Query {
+        expression: expression.input(),
+        schema: schema.input(),
+    };
+    let command = SqlCommand {
+        work,
+        query,
+        dialect: dialect_of(matches),
+        table: matches.get_str("table").unwrap_or(""),
+    };
+    Ok(run_sql(rt.alloc(), &command, &mut rt.stdout(), &mut rt.stderr()))
+}
+
+// The engine that the words name.
+fn dialect_of(matches: &ArgMatches<'_>) -> Dialect {
+    match matches.get_str("sql") {
+        Some("sqlite") => Dialect::Sqlite,
+        Some("duckdb") => Dialect::DuckDb,
+        Some("spark") => Dialect::Spark,
+        _ => Dialect::Postgres,
+    }
 }

@@ -1,3 +1,4 @@
 mod Floats
 mod Unbinding
 mod Partitions
+mod Statements

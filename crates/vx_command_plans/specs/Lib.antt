@@ -1,2 +1,3 @@
 pub mod PlanData
 pub mod PlanPages
+pub mod SqlPages

@@ -7,9 +7,11 @@ mod passes;
 mod paths;
 mod planned;
 mod sources;
+mod sql;
 
 pub use explanation::explanation_page;
 pub use planned::plan_page;
+pub use sql::{SqlComplaint, sql_explanation_page, sql_page};
 
 #[cfg(test)]
 mod tests;

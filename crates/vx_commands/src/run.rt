@@ -28,8 +28,8 @@ pub fn run_command<W: Write, E: Write>(
     }
 }
 
-// Writes the page.
-fn print<W: Write>(page: &str, out: &mut W) -> Status
+/// Writes the page.
+pub(crate) fn print<W: Write>(page: &str, out: &mut W) -> Status
     ensures { EndsAtPage page.now (W.contents out.old) (W.contents out.new) result }
 {
     match tell(out, page, 0) {

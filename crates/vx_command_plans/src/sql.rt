@@ -1,0 +1,158 @@
+// Plans as SQL.
+ghost use Rattle.std.specs.Prelude.{◌≡◌, IfOk, IfErr, option_map, string_bytes};
+ghost use Rattle.vx_sql_plan.specs.Pushdown.{tree_in};
+ghost use Rattle.vx_command_pages.specs.declared.complaint.Complaint.TheVariants.{OutOfMemory};
+ghost use Rattle.vx_command_plans.specs.declared.sql.SqlComplaint.TheVariants.{Query, Statement};
+ghost use Rattle.vx_command_plans.specs.SqlPages.{lines_of, IsSqlPage, IsSqlComplaint};
+
+use crate::explanation::explanation_page;
+use crate::planned::planned;
+use crate::sources::source_text;
+use std::alloc::{AllocError, Global};
+use vx_command_pages::{Complaint, read_expression, read_schema};
+use vx_scan::ScanPlan;
+use vx_sql::{Dialect, first_unsupported};
+use vx_sql_plan::{NoStatement, SqlPlan, sql_plan};
+use vx_tree::{BoundExpression, DType, Operator, ScalarFnRef};
+
+/// Why a command prints no SQL.
+#[derive(Debug, Drop)]
+pub enum SqlComplaint {
+    /// The expression or the schema isn't read, or the expression is refused, or memory ran out.
+    Query(Complaint),
+    /// The plan has no statement.
+    Statement(NoStatement),
+}
+
+impl From<Complaint> for SqlComplaint {
+    ghost from_gives = { λ c e. e ≡ Query c };
+
+    fn from(c: Complaint) -> SqlComplaint {
+        SqlComplaint::Query(c)
+    }
+}
+
+impl From<NoStatement> for SqlComplaint {
+    ghost from_gives = { λ refusal e. e ≡ Statement refusal };
+
+    fn from(refusal: NoStatement) -> SqlComplaint {
+        SqlComplaint::Statement(refusal)
+    }
+}
+
+impl From<AllocError> for SqlComplaint {
+    ghost from_gives = { λ _ e. e ≡ Query OutOfMemory };
+
+    fn from(_e: AllocError) -> SqlComplaint {
+        SqlComplaint::Query(Complaint::OutOfMemory)
+    }
+}
+
+/// The plan of the expression over rows of the schema's type, by the folding rules, as a statement for the
+/// engine over the table of that name, and behind it, on a line of its own, what is left of the plan's
+/// tree as source text, if something is. Complains as [`plan_page`](crate::plan_page) does, and then of
+/// what stands in the way of a statement.
+pub fn sql_page(
+    alloc: Global,
+    expression: &str,
+    schema: &str,
+    dialect: Dialect,
+    table: &str,
+) -> Result<String, SqlComplaint>
+    ensures prints { IfOk result (λ page. IsSqlPage expression.now schema.now dialect table.now (string_bytes page)) }
+    ensures complaint { IfErr result (λ c. IsSqlComplaint expression.now schema.now dialect table.now c) }
+{
+    let placed = read_expression(alloc, expression)?;
+    let scope = read_schema(alloc, schema)?;
+    let plan = planned(alloc, &placed, &scope)?;
+    let sql = sql_plan(alloc, plan.tree(), plan.scope(), table, dialect)?;
+    Ok(lines_of(alloc, &sql)?)
+}
+
+// The statement on a line, and what is left of the tree, if something is, on another.
+fn lines_of(alloc: Global, sql: &SqlPlan) -> Result<String, AllocError>
+    ensures { IfOk result (λ page. string_bytes page ≡ lines_of (string_bytes sql.now.statement) (option_map tree_in sql.now.residual)) }
+{
+    let mut page = format!(in alloc; "{}\n", sql.statement)?;
+    if let Some(residual) = &sql.residual {
+        let residual = source_text(alloc, residual)?;
+        let line = format!(in alloc; "residual: {residual}\n")?;
+        page.push_str(line.as_str())?;
+    }
+    Ok(page)
+}
+
+/// What becomes of the expression, as [`explanation_page`] tells it, and behind it the statement of its
+/// plan, and of each conjunct whether the engine takes it, or why it is left.
+pub fn sql_explanation_page(
+    alloc: Global,
+    expression: &str,
+    schema: &str,
+    dialect: Dialect,
+    table: &str,
+) -> Result<String, SqlComplaint> {
+    let mut page = explanation_page(alloc, expression, schema)?;
+    let placed = read_expression(alloc, expression)?;
+    let scope = read_schema(alloc, schema)?;
+    let plan = planned(alloc, &placed, &scope)?;
+    push_statement(alloc, &plan, dialect, table, &mut page)?;
+    push_conjuncts(alloc, plan.tree(), dialect, &mut page)?;
+    Ok(page)
+}
+
+fn push_statement(
+    alloc: Global,
+    plan: &ScanPlan,
+    dialect: Dialect,
+    table: &str,
+    page: &mut String,
+) -> Result<(), SqlComplaint> {
+    let sql = sql_plan(alloc, plan.tree(), plan.scope(), table, dialect)?;
+    let statement = sql.statement.as_str();
+    page.push_str(format!(in alloc; "sql: {statement}\n")?.as_str())?;
+    Ok(())
+}
+
+// Adds a line for each conjunct, from left to right.
+#[cycle(conjuncts)]
+fn push_conjuncts(
+    alloc: Global,
+    tree: &BoundExpression,
+    dialect: Dialect,
+    page: &mut String,
+) -> Result<(), AllocError> {
+    let BoundExpression::Scalar {
+        scalar_fn,
+        children,
+        ..
+    } = tree
+    else {
+        return push_conjunct(alloc, tree, dialect, page);
+    };
+    match (scalar_fn, children.as_slice()) {
+        (ScalarFnRef::Binary(Operator::And), [left, right]) => {
+            push_conjuncts(alloc, left, dialect, page)?;
+            push_conjuncts(alloc, right, dialect, page)
+        }
+        _ => push_conjunct(alloc, tree, dialect, page),
+    }
+}
+
+fn push_conjunct(
+    alloc: Global,
+    tree: &BoundExpression,
+    dialect: Dialect,
+    page: &mut String,
+) -> Result<(), AllocError> {
+    let text = source_text(alloc, tree)?;
+    let line = match first_unsupported(alloc, tree, dialect)? {
+        Some(why) => format!(in alloc; "residual: {text}: {why}\n")?,
+        None if is_truth(tree.dtype()) => format!(in alloc; "pushed: {text}\n")?,
+        None => format!(in alloc; "residual: {text}: it is no truth value\n")?,
+    };
+    page.push_str(line.as_str())
+}
+
+fn is_truth(dtype: &DType) -> bool {
+    matches!(dtype, DType::Bool(_))
+}

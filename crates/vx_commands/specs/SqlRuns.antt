@@ -1,0 +1,22 @@
+-- What two writers hold after a plan was to be written as SQL, and how that ended.
+use Rattle.std.specs.Prelude.{◌≡◌, ◌⊎◌, ℕ, List, Option}
+use Rattle.std.specs.Io.KnownBytes.{Keeps}
+use Rattle.vx_command_pages.specs.declared.complaint.Status.{Status}
+use Rattle.vx_command_pages.specs.declared.complaint.Status.TheVariants.{Failed, Wrong}
+use Rattle.vx_command_plans.specs.SqlPages.{IsSqlPage}
+use Rattle.vx_commands.specs.Commands.{EndsAtPage}
+use Rattle.vx_commands.specs.declared.sql.SqlCommand.{SqlCommand}
+use Rattle.vx_commands.specs.declared.sql.SqlWork.{SqlWork}
+use Rattle.vx_commands.specs.declared.sql.SqlWork.TheVariants.{Plan, Explain}
+
+-- what is printed; of `explain` nothing is promised
+abbrev pub IsSqlText : SqlWork → SqlCommand → List ℕ → Type 0
+IsSqlText Plan command page = IsSqlPage command.query.expression.text.now command.query.schema.text.now command.dialect command.table.now page
+IsSqlText Explain command page = Unit {0}
+
+-- the page is on the first writer, and nothing on the second; or nothing is on the first, and the status tells that
+-- something is wrong or failed
+abbrev pub EndsAsSql : SqlCommand → Option (List ℕ) → Option (List ℕ) → Option (List ℕ) → Option (List ℕ) → Status → Type 0
+EndsAsSql command out out' err err' status =
+    ((page : List ℕ) × IsSqlText command.work command page × EndsAtPage page out out' status × Keeps err err')
+    ⊎ (Keeps out out' × ((status ≡ Wrong) ⊎ (status ≡ Failed)))
