@@ -3,7 +3,8 @@
 # them unless told otherwise. Over a table of 50 rows with nulls, SQLite and PostgreSQL have to give the value of
 # the source for each row where it doesn't fault, to fail at sums that have to fail (docs/ENGINES.md), and to keep
 # the rows of which a filter is true. An engine that isn't installed is installed from Debian's packages, and where
-# it can't be, a line says so. Ends with status 1 where an engine answers otherwise, and prints what.
+# it can't be, a line says so. PostgreSQL is started on a socket in a temporary folder, and stopped at the end.
+# Ends with status 1 where an engine answers otherwise, and prints what.
 # `rt ci` or `rt run vx_sql_rows` has built the program.
 set -eu
 cd "$(dirname "$0")/.."
@@ -25,8 +26,9 @@ trap stop EXIT
 trap 'exit 1' INT TERM
 
 # Installs a package, if that is allowed here.
-install() {
-    [ "$(id -u)" -eq 0 ] && command -v apt-get >/dev/null && apt-get install -y -q "$1" >"$room/installed" 2>&1
+add_package() {
+    [ "$(id -u)" -eq 0 ] && command -v apt-get >/dev/null || return 1
+    DEBIAN_FRONTEND=noninteractive timeout 300 apt-get install -y -q "$1" >"$room/installed" 2>&1 </dev/null
 }
 
 # The folder of PostgreSQL's programs, the newest one's.
@@ -57,7 +59,7 @@ compare() {
 }
 
 run_sqlite() {
-    command -v sqlite3 >/dev/null || install sqlite3 || {
+    command -v sqlite3 >/dev/null || add_package sqlite3 || {
         echo "engines: sqlite: isn't installed here, and couldn't be: nothing was compared"
         return 0
     }
@@ -66,22 +68,30 @@ run_sqlite() {
     compare sqlite '^Runtime error near line [0-9]*: malformed JSON$'
 }
 
+# Makes a database in UTF-8, with those options.
+make_database() {
+    rm -rf "$room/data"
+    $as_postgres "$folder/initdb" -D "$room/data" -U postgres -A trust -E UTF8 --locale=C.UTF-8 "$@" >"$room/made" 2>&1
+}
+
 run_postgres() {
-    [ -n "$(postgres_folder)" ] || install postgresql || {
+    [ -n "$(postgres_folder)" ] || add_package postgresql || {
         echo "engines: postgres: isn't installed here, and couldn't be: nothing was compared"
         return 0
     }
     folder=$(postgres_folder)
     # The server refuses to run as root.
     if [ "$(id -u)" -eq 0 ]; then
-        chown postgres "$room"
-        as_postgres="setpriv --reuid=postgres --regid=postgres --clear-groups"
+        user=$(id -un postgres 2>/dev/null || echo nobody)
+        chown "$user" "$room"
+        as_postgres="setpriv --reuid=$user --regid=$(id -g "$user") --clear-groups"
     fi
-    $as_postgres "$folder/initdb" -D "$room/data" -U postgres -A trust -E UTF8 --locale=C.UTF-8 >"$room/made"
+    # A database that compares texts by the rules of a language shows where a comparison isn't told to go by bytes.
+    make_database --locale-provider=icu --icu-locale=en-US || make_database
     $as_postgres "$folder/pg_ctl" -D "$room/data" -o "-k $room -c listen_addresses= -c fsync=off" -l "$room/log" -w start >"$room/started"
     server=$folder
     "$program" script postgres "$seed" "$count" >"$room/script"
-    PGOPTIONS='-c client_min_messages=warning' psql -X -q -A -t -h "$room" -U postgres -d postgres -v VERBOSITY=terse \
+    PGOPTIONS='-c client_min_messages=warning' "$folder/psql" -X -q -A -t -h "$room" -U postgres -d postgres -v VERBOSITY=terse \
         -f "$room/script" >"$room/said" 2>"$room/errors" || true
     compare postgres 'ERROR:  [a-z]* out of range$'
 }

@@ -1,4 +1,7 @@
 // Expressions by chance, as a script for an engine, and as what it should print.
+ghost use Rattle.vx_tree.specs.Trees.{WellTyped};
+ghost use Rattle.vx_tree.specs.Views.{bound_of};
+
 use crate::kinds::Kind;
 use crate::maker::Maker;
 use crate::rows::{kinds, push_digits, push_table, rows, scope};
@@ -7,6 +10,7 @@ use std::alloc::{AllocError, Global};
 use vx_eval::apply_bound;
 use vx_places::first_fault_at;
 use vx_sql::{Dialect, to_sql};
+use vx_sql_plan::{NoStatement, SqlPlan, sql_plan};
 use vx_test_chance::Seeds;
 use vx_test_samples::{Unread, bound};
 use vx_tree::BoundExpression;
@@ -22,7 +26,12 @@ pub struct Cases {
 }
 
 /// So many expressions by chance over the rows of a table.
-pub fn make_cases(alloc: Global, dialect: Dialect, seed: u64, count: usize) -> Result<Cases, Unread> {
+pub fn make_cases(
+    alloc: Global,
+    dialect: Dialect,
+    seed: u64,
+    count: usize,
+) -> Result<Cases, Unread> {
     let kinds = kinds(alloc, dialect)?;
     let scope = scope(alloc, kinds.as_slice())?;
     let mut seeds = Seeds::new(seed.wrapping_add(1));
@@ -90,6 +99,7 @@ impl Case {
         }
         if matches!(self.kind, Kind::Truth) && found.values.len() == rows.len() {
             self.push_filter(sql, &found, told)?;
+            self.push_plan(&tree, scope, &found, told)?;
         }
         Ok(())
     }
@@ -100,7 +110,9 @@ impl Case {
         }
         let number = self.number;
         let shown = self.shown();
-        let head = format!(in self.alloc; "SELECT '{number} ' || \"row\" || ' ' || {shown} FROM (SELECT \"row\", ")?;
+        let head = format!(in self.alloc;
+            "SELECT '{number} ' || \"row\" || ' ' || {shown} FROM (SELECT \"row\", "
+        )?;
         told.script.push_str(head.as_str())?;
         told.script.push_str(sql)?;
         told.script.push_str(" AS v FROM t WHERE \"row\" IN (")?;
@@ -156,13 +168,49 @@ impl Case {
     fn push_failure(self, sql: &str, row: usize, told: &mut Cases) -> Result<(), AllocError> {
         let number = self.number;
         let shown = self.shown();
-        let head = format!(in self.alloc; "SELECT '{number} {row} no fault ' || {shown} FROM (SELECT ")?;
+        let head = format!(in self.alloc;
+            "SELECT '{number} {row} no fault ' || {shown} FROM (SELECT "
+        )?;
         told.script.push_str(head.as_str())?;
         told.script.push_str(sql)?;
         let end = format!(in self.alloc; " AS v FROM t WHERE \"row\" = {row}) q;\n")?;
         told.script.push_str(end.as_str())?;
         told.failures = told.failures.saturating_add(1);
         Ok(())
+    }
+
+    // How many rows the statement of the plan gives, where nothing is left of the tree.
+    fn push_plan(
+        self,
+        tree: &BoundExpression,
+        scope: &DType,
+        found: &Found,
+        told: &mut Cases,
+    ) -> Result<(), Unread>
+        requires { WellTyped (bound_of tree.now) }
+    {
+        let plan = match sql_plan(self.alloc, tree, scope, "t", self.dialect) {
+            Ok(plan) => plan,
+            Err(NoStatement::OutOfMemory) => return Err(AllocError.into()),
+            Err(_) => return Err(Unread::Word("no statement")),
+        };
+        let SqlPlan {
+            statement,
+            residual: None,
+        } = plan
+        else {
+            return Ok(());
+        };
+        let number = self.number;
+        let statement = statement.as_str();
+        let line = format!(in self.alloc;
+            "SELECT '{number} planned ' || count(*) FROM ({statement}) q;\n"
+        )?;
+        told.script.push_str(line.as_str())?;
+        let kept = found.values.iter().filter(|(_, value)| is_true(value));
+        let count = kept.count();
+        let line = format!(in self.alloc; "{number} planned {count}\n")?;
+        Ok(told.answers.push_str(line.as_str())?)
     }
 
     // The rows of which the truth value is true.
@@ -173,13 +221,17 @@ impl Case {
         told.script.push_str(sql)?;
         told.script.push_str(" ORDER BY \"row\";\n")?;
         for (row, value) in found.values.as_slice() {
-            if let Value::Bool(true) = value {
+            if is_true(value) {
                 let line = format!(in self.alloc; "{number} kept {row}\n")?;
                 told.answers.push_str(line.as_str())?;
             }
         }
         Ok(())
     }
+}
+
+fn is_true(value: &Value) -> bool {
+    matches!(value, Value::Bool(true))
 }
 
 // What is found of an expression, row by row.
@@ -209,7 +261,9 @@ impl Found {
         scope: &DType,
         number: usize,
         row: &Value,
-    ) -> Result<(), Unread> {
+    ) -> Result<(), Unread>
+        requires { WellTyped (bound_of tree.now) }
+    {
         let mut rows = Vec::new(alloc);
         rows.push(row.clone()?)?;
         let batch = Box::new(alloc, Column::try_new(scope.clone()?, rows)?)?;

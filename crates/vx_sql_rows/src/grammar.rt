@@ -80,7 +80,13 @@ const OF_ANY_KIND: [&str; 7] = [
 const OF_PAIRS: [&str; 4] = ["(P is null)", "(P is not null)", "P.f", "P.g"];
 
 /// Masks, which are never null.
-pub const MASKS: [&str; 5] = ["(N is null)", "(S is not null)", "(T is null)", "`select`", "true"];
+pub const MASKS: [&str; 5] = [
+    "(N is null)",
+    "(S is not null)",
+    "(T is null)",
+    "`select`",
+    "true",
+];
 
 impl Kind {
     /// Nodes that give such values, and where the engine has pairs, nodes over them.
@@ -97,7 +103,11 @@ impl Kind {
     /// Nodes that give what their children give: of pairs, no literal stands among those.
     pub fn of_any_kind(self) -> &'static [&'static str] {
         match self {
-            Kind::Pair => &["case when T then X else X end", "zip(X, X, T)", "mask(X, M)"],
+            Kind::Pair => &[
+                "case when T then X else X end",
+                "zip(X, X, T)",
+                "mask(X, M)",
+            ],
             _ => &OF_ANY_KIND,
         }
     }

@@ -105,9 +105,9 @@ fn number(p: PType, chance: &mut Seeds) -> i128 {
     let (least, greatest) = ends(p);
     let near = chance.below(4) as i128;
     match chance.below(8) {
-        0 => least + near,
-        1 => greatest - near,
-        2 if least < 0 => 0 - near,
+        0 => least.saturating_add(near),
+        1 => greatest.saturating_sub(near),
+        2 if least < 0 => 0i128.saturating_sub(near),
         _ => chance.below(100) as i128,
     }
 }

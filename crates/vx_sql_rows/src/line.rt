@@ -1,7 +1,7 @@
 // One line of a table.
 use std::alloc::{AllocError, Global};
-use vx_sql::{Dialect, Unsupported, to_sql};
 use vx_source::parse_type;
+use vx_sql::{Dialect, Unsupported, to_sql};
 use vx_test_samples::{Unread, bound};
 
 /// What a line came to.
@@ -16,7 +16,8 @@ pub enum Judged {
 }
 
 /// What the line comes to: a comment behind `#`, or an engine, the type of its rows, an expression, and the
-/// text that is wanted or what is wrong, as `postgres | {x=i32} | x > 5 | ("x" > 5)`.
+/// text that is wanted or what is wrong, as `postgres | {x=i32} | x > 5 | ("x" > 5)`. Where the type or the
+/// expression has a `␀` a NUL is meant, which no line should hold.
 pub fn judge(alloc: Global, line: &str) -> Result<Judged, Unread> {
     let line = line.trim();
     if line.is_empty() || line.starts_with('#') {
@@ -30,7 +31,9 @@ pub fn judge(alloc: Global, line: &str) -> Result<Judged, Unread> {
         return Err(Unread::Word("another number of columns"));
     };
     let dialect = dialect_named(engine).ok_or("no such engine")?;
-    let answer = answer(alloc, dialect, scope, expression)?;
+    let scope = scope.replace(alloc, '␀', "\0")?;
+    let expression = expression.replace(alloc, '␀', "\0")?;
+    let answer = answer(alloc, dialect, scope.as_str(), expression.as_str())?;
     if answer.as_str() == *wanted {
         Ok(Judged::Right)
     } else {

@@ -66,7 +66,10 @@ impl Maker {
         kind: Kind,
         text: &mut String,
     ) -> Result<(), AllocError> {
-        if levels == 0 || self.seeds.below(6) == 0 {
+        let Some(below) = levels.checked_sub(1) else {
+            return self.push_column(kind, text);
+        };
+        if self.seeds.below(6) == 0 {
             return self.push_column(kind, text);
         }
         let row = self.row(kind);
@@ -76,7 +79,7 @@ impl Maker {
         };
         for piece in row.split_inclusive(MARKS) {
             let (word, mark) = parted(piece, &MARKS);
-            self.push_word(levels - 1, word, kind, number, text)?;
+            self.push_word(below, word, kind, number, text)?;
             if let Some(mark) = mark {
                 text.push(mark)?;
             }

@@ -112,13 +112,7 @@ fn column_type(dialect: Dialect, dtype: &DType) -> &'static str {
             }
         }
         DType::Utf8(_) => "text",
-        DType::Binary(_) => {
-            if is_sqlite {
-                "blob"
-            } else {
-                "bytea"
-            }
-        }
+        DType::Binary(_) => { if is_sqlite { "blob" } else { "bytea" } }
         _ => "pair",
     }
 }

@@ -13,7 +13,7 @@ pub fn is_shown(tree: &BoundExpression, path: &[usize]) -> bool {
             return false;
         }
         for (i, child) in children.iter().enumerate() {
-            if i != *index && !is_plain(child) {
+            if i != *index && !is_plain(child, LEVELS) {
                 return false;
             }
         }
@@ -22,7 +22,7 @@ pub fn is_shown(tree: &BoundExpression, path: &[usize]) -> bool {
             None => return false,
         }
     }
-    node.children().iter().all(|child| is_plain(child))
+    node.children().iter().all(|child| is_plain(child, LEVELS))
 }
 
 // Whether the node's value always takes that of the child.
@@ -42,12 +42,26 @@ fn leads_to(node: &BoundExpression, index: usize) -> bool {
     }
 }
 
-// Whether the tree has no null of its own.
-fn is_plain(tree: &BoundExpression) -> bool {
+// How many nodes stand above one another, at most; of a deeper tree no fault has to be shown.
+const LEVELS: usize = 64;
+
+// Whether the tree, of at most so many levels, has no null of its own.
+fn is_plain(tree: &BoundExpression, levels: usize) -> bool {
+    let Some(below) = levels.checked_sub(1) else {
+        return false;
+    };
     let is_plain_node = match tree.as_scalar() {
         Some(ScalarFnRef::Literal(scalar)) => !matches!(scalar.value(), Value::Null),
         Some(ScalarFnRef::CaseWhen(_) | ScalarFnRef::Zip(_) | ScalarFnRef::Mask(_)) => false,
         _ => true,
     };
-    is_plain_node && tree.children().iter().all(|child| is_plain(child))
+    if !is_plain_node {
+        return false;
+    }
+    for child in tree.children() {
+        if !is_plain(child, below) {
+            return false;
+        }
+    }
+    true
 }

@@ -1,10 +1,10 @@
 // Whole tables, line by line.
 use crate::line::{Judged, judge};
-use vx_test_samples::Unread;
 use std::alloc::Global;
 use std::fmt::{Display, Formatter};
 use std::io::Write;
 use std::{fmt, io};
+use vx_test_samples::Unread;
 
 /// How many lines of a table were run, and how many came to something else than they are there for.
 #[derive(Clone, Copy, Default)]
