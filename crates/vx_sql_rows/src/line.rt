@@ -3,41 +3,35 @@ use std::alloc::{AllocError, Global};
 use vx_source::parse_type;
 use vx_sql::{Dialect, Unsupported, to_sql};
 use vx_test_samples::{Unread, bound};
+use vx_test_tables::{Judge, Judged};
 
-/// What a line came to.
-#[derive(Drop)]
-pub enum Judged {
-    /// It is blank, or a comment.
-    NoCall,
-    /// It is answered as it says.
-    Right,
-    /// It is answered so, and not as it says.
-    Differs(String),
-}
+/// Judges SQL texts of expressions.
+#[derive(Clone, Copy)]
+pub struct Texts;
 
-/// What the line comes to: a comment behind `#`, or an engine, the type of its rows, an expression, and the
-/// text that is wanted or what is wrong, as `postgres | {x=i32} | x > 5 | ("x" > 5)`. Where the type or the
-/// expression has a `␀` a NUL is meant, which no line should hold.
-pub fn judge(alloc: Global, line: &str) -> Result<Judged, Unread> {
-    let line = line.trim();
-    if line.is_empty() || line.starts_with('#') {
-        return Ok(Judged::NoCall);
-    }
-    let mut columns = Vec::new(alloc);
-    for column in line.splitn(4, '|') {
-        columns.push(column.trim())?;
-    }
-    let [engine, scope, expression, wanted] = columns.as_slice() else {
-        return Err(Unread::Word("another number of columns"));
-    };
-    let dialect = dialect_named(engine).ok_or("no such engine")?;
-    let scope = scope.replace(alloc, '␀', "\0")?;
-    let expression = expression.replace(alloc, '␀', "\0")?;
-    let answer = answer(alloc, dialect, scope.as_str(), expression.as_str())?;
-    if answer.as_str() == *wanted {
-        Ok(Judged::Right)
-    } else {
-        Ok(Judged::Differs(answer))
+impl Judge for Texts {
+    type Unread = Unread;
+
+    /// What the line comes to: an engine, the type of its rows, an expression, and the text that is
+    /// wanted or what is wrong, as `postgres | {x=i32} | x > 5 | ("x" > 5)`. Where the type or the
+    /// expression has a `␀` a NUL is meant, which no line should hold.
+    fn judge(&mut self, alloc: Global, line: &str) -> Result<Judged, Unread> {
+        let mut columns = Vec::new(alloc);
+        for column in line.splitn(4, '|') {
+            columns.push(column.trim())?;
+        }
+        let [engine, scope, expression, wanted] = columns.as_slice() else {
+            return Err(Unread::Word("another number of columns"));
+        };
+        let dialect = dialect_named(engine).ok_or("no such engine")?;
+        let scope = scope.replace(alloc, '␀', "\0")?;
+        let expression = expression.replace(alloc, '␀', "\0")?;
+        let answer = answer(alloc, dialect, scope.as_str(), expression.as_str())?;
+        if answer.as_str() == *wanted {
+            Ok(Judged::Right)
+        } else {
+            Ok(Judged::Differs(answer))
+        }
     }
 }
 

@@ -12,15 +12,14 @@ mod line;
 mod maker;
 mod rows;
 mod shown;
-mod table;
 
 use anyhow::{Context, Result, anyhow};
 use cases::{Cases, make_cases};
-use line::dialect_named;
+use line::{Texts, dialect_named};
 use std::alloc::Global;
 use std::process::ExitCode;
 use std::{env, fs};
-use table::judge_table;
+use vx_test_tables::{Aim, Table, Tally};
 
 fn main(rt: HostRuntime) -> Result<ExitCode> {
     let alloc = rt.alloc();
@@ -58,11 +57,17 @@ fn told(alloc: Global, engine: &str, seed: &str, count: &str) -> Result<Cases> {
 
 // Runs the tables.
 fn judge(rt: &HostRuntime, tables: &[String]) -> Result<ExitCode> {
-    let mut failed: u64 = 0;
+    let mut failed: usize = 0;
     for name in tables {
         let name = name.as_str();
         let text = fs::read_to_string(rt, name).context(format_args!("reading {name}"))?;
-        let tally = judge_table(rt.alloc(), name, text.as_str(), &mut rt.stdout())?;
+        let table = Table {
+            name,
+            text: text.as_str(),
+            aim: Aim::of(name),
+        };
+        let mut tally = Tally::default();
+        table.judge(rt.alloc(), &mut Texts, &mut tally, &mut rt.stdout())?;
         println!(rt; "{name}: {tally}")?;
         failed = failed.saturating_add(tally.failed);
     }
