@@ -3,7 +3,7 @@
 # them unless told otherwise. Over a table of 50 rows with nulls, SQLite and PostgreSQL have to give the value of
 # the source for each row where it doesn't fault, to fail at sums that have to fail (docs/ENGINES.md), and to keep
 # the rows of which a filter is true. An engine that isn't installed is installed from Debian's packages, and where
-# it can't be, a line says so. PostgreSQL is started on a socket in a temporary folder, and stopped at the end.
+# it can't be, or doesn't start, a line says so. PostgreSQL is started on a socket in a temporary folder, and stopped at the end.
 # Ends with status 1 where an engine answers otherwise, and prints what.
 # `rt ci` or `rt run vx_sql_rows` has built the program.
 set -eu
@@ -87,8 +87,12 @@ run_postgres() {
         as_postgres="setpriv --reuid=$user --regid=$(id -g "$user") --clear-groups"
     fi
     # A database that compares texts by the rules of a language shows where a comparison isn't told to go by bytes.
-    make_database --locale-provider=icu --icu-locale=en-US || make_database
-    $as_postgres "$folder/pg_ctl" -D "$room/data" -o "-k $room -c listen_addresses= -c fsync=off" -l "$room/log" -w start >"$room/started"
+    make_database --locale-provider=icu --icu-locale=en-US || make_database || cat "$room/made"
+    $as_postgres "$folder/pg_ctl" -D "$room/data" -o "-k $room -c listen_addresses= -c fsync=off" -l "$room/log" -w start >"$room/started" || {
+        echo "engines: postgres: is installed here, and doesn't start: nothing was compared"
+        tail -n 20 "$room/started" "$room/log" || true
+        return 0
+    }
     server=$folder
     "$program" script postgres "$seed" "$count" >"$room/script"
     PGOPTIONS='-c client_min_messages=warning' "$folder/psql" -X -q -A -t -h "$room" -U postgres -d postgres -v VERBOSITY=terse \
