@@ -114,7 +114,7 @@ fn explain<'a>(alloc: Global) -> Result<Command<'a>, AllocError> {
         .about("Prints what becomes of the expression")
         .after_help(EXPLAIN);
     let data = data(alloc).conflicts_with("stats")?;
-    let sql = sql(alloc)?.conflicts_with_all(&["data", "stats"])?;
+    let sql = sql(alloc)?.conflicts_with("data")?.conflicts_with("stats")?;
     over_records(alloc, command, schema, data)?
         .arg(statistics(alloc))?
         .arg(sql)?

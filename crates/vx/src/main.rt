@@ -13,7 +13,7 @@ use line::command_line;
 use records::{filter_of, output_of, over_records};
 use std::env;
 use std::process::ExitCode;
-use texts::text_at;
+use texts::{Text, text_at};
 use vx_commands::{
     Command, Dialect, Query, RowsWork, SqlCommand, SqlWork, Status, run_command, run_sql,
 };
@@ -106,17 +106,29 @@ fn over_texts(rt: &HostRuntime, name: &str, matches: &ArgMatches<'_>) -> Result<
 fn over_engine(rt: &HostRuntime, work: SqlWork, matches: &ArgMatches<'_>) -> Result<Status> {
     let expression = text_at(rt, matches, "expression")?;
     let schema = text_at(rt, matches, "schema")?;
+    let table = matches.get_str("table").unwrap_or("");
+    let command = command_for(work, &expression, &schema, dialect_of(matches), table);
+    Ok(run_sql(rt.alloc(), &command, &mut rt.stdout(), &mut rt.stderr()))
+}
+
+// The command that does that work for the engine.
+fn command_for<'a>(
+    work: SqlWork,
+    expression: &'a Text,
+    schema: &'a Text,
+    dialect: Dialect,
+    table: &'a str,
+) -> SqlCommand<'a> {
     let query = Query {
         expression: expression.input(),
         schema: schema.input(),
     };
-    let command = SqlCommand {
+    SqlCommand {
         work,
         query,
-        dialect: dialect_of(matches),
-        table: matches.get_str("table").unwrap_or(""),
-    };
-    Ok(run_sql(rt.alloc(), &command, &mut rt.stdout(), &mut rt.stderr()))
+        dialect,
+        table,
+    }
 }
 
 // The engine that the words name.
