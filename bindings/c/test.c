@@ -214,7 +214,7 @@ static void test_bad_input(void)
     STOP(FMT, given("x =\n \"\xc3\xa4\xff\"", NULL, NULL), VX_UNREAD,
          "error: expression:2:4: expected text in UTF-8 at byte 8", VX_EXPRESSION, 8, 8, 2, 4, 0);
     STOP(CHECK, given("x", "{x=i32\xc3", NULL), VX_UNREAD,
-         "error: schema:1:8: expected text in UTF-8 at byte 6", VX_SCHEMA, 6, 6, 1, 7, 0);
+         "error: schema:1:7: expected text in UTF-8 at byte 6", VX_SCHEMA, 6, 6, 1, 7, 0);
     STOP(EVAL, given("x", X, "{\"x\": 1}\n{\"x\": \xff}\n"), VX_BAD_DATA, "error: records: line 2",
          VX_RECORDS, 9, 17, 2, 1, 2);
     Given nul = {{"x\0y", 3}, NOTHING, NOTHING};
