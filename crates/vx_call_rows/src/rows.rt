@@ -24,7 +24,11 @@ pub fn answer_rows(
 ) -> Status
     ensures { Ends (λ _. Unit {0}) (RowsStops (IsRowsComplaint expression.now schema.now) expression.now schema.now) buffer.old result buffer.new answer.new }
 {
-    ended(&evaluated(alloc, expression, schema, records), buffer, answer)
+    ended(
+        &evaluated(alloc, expression, schema, records),
+        buffer,
+        answer,
+    )
 }
 
 fn evaluated(

@@ -32,7 +32,11 @@ pub fn answer_verdicts(
 ) -> Status
     ensures { Ends (IsVerdictPage expression.now schema.now) (RowsStops (IsVerdictComplaint expression.now schema.now) expression.now schema.now) buffer.old result buffer.new answer.new }
 {
-    ended(&judged(alloc, expression, schema, statistics), buffer, answer)
+    ended(
+        &judged(alloc, expression, schema, statistics),
+        buffer,
+        answer,
+    )
 }
 
 fn judged(
