@@ -1,1 +1,2 @@
+mod Complaints
 mod Lines

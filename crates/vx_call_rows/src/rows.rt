@@ -7,7 +7,7 @@ use crate::stop::{Texts, rows_stop};
 use std::alloc::Global;
 use vx_call_pages::{Answer, Given, Status, Stop, ended, read_text};
 use vx_command_pages::{read_expression, read_schema};
-use vx_command_rows::{Output, OutputFormat, RowsComplaint, evaluate, unwritten};
+use vx_command_rows::{Output, OutputFormat, RowsComplaint, evaluate};
 use vx_records::JsonRecords;
 
 /// Answers what the expression means at each record, as a line of JSON each; the records are lines of
@@ -67,10 +67,8 @@ fn rows_of(
     let scope = read_schema(alloc, schema)?;
     let mut records = JsonRecords::new(alloc, Box::into_inner(scope), records);
     let mut rows = Vec::new(alloc);
+    // (a line of JSON is written as it comes: nothing waits for the end)
     let mut output = Output::new(alloc, OutputFormat::JsonLines, &mut rows);
-    let meant = evaluate(alloc, &placed, u64::MAX, &mut records, &mut output);
-    let finished = unwritten(output.finish(alloc));
-    meant?;
-    finished?;
+    evaluate(alloc, &placed, u64::MAX, &mut records, &mut output)?;
     Ok(rows)
 }

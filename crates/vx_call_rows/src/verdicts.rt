@@ -11,10 +11,12 @@ use crate::stop::{Texts, rows_stop};
 use std::alloc::{AllocError, Global};
 use vx_call_pages::{Answer, Given, Status, Stop, ended, read_text};
 use vx_command_pages::{Complaint, read_expression, read_schema};
-use vx_command_rows::{RowsComplaint, condition, opened};
+use vx_command_rows::{RowsComplaint, condition};
+use vx_data::DataError;
 use vx_prune::{ChunkStats, Verdict, verdict};
 use vx_prune_data::ChunkRecords;
-use vx_records::{JsonRecords, Record, RecordReader};
+use vx_records::{JsonRecords, Record, RecordReader, RecordsError};
+use vx_report::Span;
 use vx_tree::BoundExpression;
 use vx_types::{DType, VortexResult};
 
@@ -97,10 +99,11 @@ fn verdict_lines(
     let mut records = opened_statistics(alloc, chunks, statistics)?;
     let mut page = String::new(alloc);
     for _ in 0..u64::MAX {
-        let Some(record) = opened(records.read(alloc))? else {
-            return Ok(page);
-        };
-        push_chunk(alloc, tree, chunks, &record, &mut page)?;
+        match records.read(alloc) {
+            Ok(Some(record)) => push_chunk(alloc, tree, chunks, &record, &mut page)?,
+            Ok(None) => return Ok(page),
+            Err(error) => return Err(unread(error)),
+        }
     }
     Ok(page)
 }
@@ -179,6 +182,16 @@ fn verdict_words(verdict: Verdict) -> &'static str
         Verdict::NoRow => "no row",
         Verdict::EveryRow => "every row",
         Verdict::Unknown => "to be read",
+    }
+}
+
+// The complaint of what stopped reading the statistics.
+fn unread(error: DataError) -> RowsComplaint
+    ensures { IsStatisticsComplaint result }
+{
+    RowsComplaint::Records {
+        error: RecordsError::from(error),
+        span: Span { start: 0, end: 0 },
     }
 }
 
