@@ -1,2 +1,1 @@
-mod Complaints
 mod Lines

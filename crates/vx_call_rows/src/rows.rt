@@ -67,8 +67,10 @@ fn rows_of(
     let scope = read_schema(alloc, schema)?;
     let mut records = JsonRecords::new(alloc, Box::into_inner(scope), records);
     let mut rows = Vec::new(alloc);
-    // (a line of JSON is written as it comes: nothing waits for the end)
     let mut output = Output::new(alloc, OutputFormat::JsonLines, &mut rows);
-    evaluate(alloc, &placed, u64::MAX, &mut records, &mut output)?;
+    let meant = evaluate(alloc, &placed, u64::MAX, &mut records, &mut output);
+    // (a line of JSON is written as it comes: nothing waits for the end)
+    drop(output);
+    meant?;
     Ok(rows)
 }

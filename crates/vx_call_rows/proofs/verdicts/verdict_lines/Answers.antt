@@ -7,10 +7,10 @@ pub loop-init : goal.loop-init
 loop-init c = ([], c.new-page.ensures.bytes)
 
 pub loop-preserved : goal.loop-preserved
-loop-preserved c = one_more (bound_of c.args.tree.now) _ _ c.loop.invariant c.in_ok-push_chunk.ensures.line
+loop-preserved c = one_more (bound_of c.args.tree.now) _ _ c.loop.invariant c.in_ok-push_chunk-in-Ok-Some.ensures.line
 
-pub returns-in_default-clause-lines : goal.returns-in_default-clause-lines
-returns-in_default-clause-lines c = c.loop.invariant
+pub returns-in-Ok-None-clause-lines : goal.returns-in-Ok-None-clause-lines
+returns-in-Ok-None-clause-lines c = c.loop.invariant
 
 pub returns-clause-lines : goal.returns-clause-lines
 returns-clause-lines c = c.loop.invariant

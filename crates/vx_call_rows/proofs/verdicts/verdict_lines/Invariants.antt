@@ -4,4 +4,4 @@ use Rattle.vx_call_rows.specs.VerdictPages.{AreVerdictLines}
 use Rattle.vx_call_rows.proofs.verdicts.verdict_lines.Given as goal
 
 abbrev pub invariant-loop : goal.invariant-loop
-invariant-loop l = AreVerdictLines (bound_of l.tree.now) (string_bytes l.page)
+invariant-loop l = AreVerdictLines (bound_of l.tree) (string_bytes l.page)
