@@ -74,7 +74,7 @@ class Rows(unittest.TestCase):
         with self.assertRaises(vx.FaultError) as caught:
             vx.evaluate("0 + (x + 1)", [{"x": 1}, {"x": 2**31 - 1}], X)
         place = caught.exception.place
-        self.assertEqual((place.text, place.start, place.end, place.record), ("expression", 5, 10, 2))
+        self.assertEqual((place.text, place.start, place.end, place.record), ("expression", 4, 11, 2))
 
     def test_bad_data(self):
         for rows in ([{"x": 1.5}], [{"x": None}], [{}], ["x"], [{"x": 1, "y": 2}], [{"x": 2**31}]):

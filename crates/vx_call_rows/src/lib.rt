@@ -3,5 +3,7 @@
 
 mod rows;
 mod stop;
+mod verdicts;
 
 pub use rows::answer_rows;
+pub use verdicts::answer_verdicts;
