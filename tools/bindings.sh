@@ -1,13 +1,16 @@
 #!/bin/sh
 # Builds the library of include/vx.h, as bindings/out/libvx.a and libvx.so, and runs what tests it: the
-# header against the exports, the tests in C, Python and Rust, 100,000 random buffers through each call
-# under a sanitizer, what docs/FFI.md shows, and the 200 expressions of bindings/tests, which the program
-# and the three languages have to answer alike. Ends with a line `bindings: N passed, M failed`.
+# header against the exports, the tests in C, Python and Rust, random buffers through each call under a
+# sanitizer, what docs/FFI.md shows, and the 200 expressions of bindings/tests, which the program and the
+# three languages have to answer alike. Ends with a line `bindings: N passed, M failed`.
+#
+#     tools/bindings.sh [BUFFERS]     so many random buffers through each call, 2,000 where none is said
 #
 # Run it after the gate, over the crates that this proved. Elsewhere `rt lib` proves what isn't proved
 # yet. Compilers that aren't there are installed of Debian's packages, where that is allowed.
 set -eu
 cd "$(dirname "$0")/.."
+buffers=${1:-2000}
 out=$PWD/bindings/out
 mkdir -p "$out"
 passed=0
@@ -105,7 +108,7 @@ if [ "$failed" -eq 0 ]; then
     try "the C program's build" c_program
     try "C" "$out/test"
     try "C under a sanitizer" "$out/test_sanitized"
-    try "random buffers" "$out/test_sanitized" fuzz 100000 1
+    try "random buffers" "$out/test_sanitized" fuzz "$buffers" 1
     try "Python" python_tests
     try "Rust" rust_tests
     try "docs/FFI.md" env VX_LIBRARY="$out/libvx.so" python3 bindings/tests/guide.py "$out"
