@@ -1,7 +1,7 @@
 // A plan as C keeps it.
 ghost use Rattle.std.specs.Prelude.{◌≡◌, IsSome, Option, Some, None};
 ghost use Rattle.vx_scan.specs.declared.planned.ScanPlan.{ScanPlan};
-ghost use Rattle.vx_plan_handle.specs.Handles.{plan_owns};
+ghost use Rattle.vx_plan_handle.specs.Handles.{plan_coded, plan_owns};
 
 mod parts;
 
@@ -18,7 +18,7 @@ use vx_scan::ScanPlan;
 pub struct PlanHandle {
     at: *mut (),
     alloc: Global,
-    pub ghost plan: { Option ScanPlan },
+    pub ghost plan: { Option ScanPlan } by { plan_coded },
 }
 
 impl Model for PlanHandle {
