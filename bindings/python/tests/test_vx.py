@@ -1,0 +1,165 @@
+"""Tests of the package; `python -m unittest discover -s tests` in the folder above runs them."""
+
+import doctest
+import importlib.util
+import pathlib
+import sys
+import unittest
+
+sys.path.insert(0, str(pathlib.Path(__file__).parents[1]))
+
+import vx  # noqa: E402
+from vx import _calls, _errors, _library, _plans, _statistics, _types  # noqa: E402
+
+X = "{x=i32}"
+HAS_ARROW = importlib.util.find_spec("pyarrow") is not None
+
+
+def load_tests(_loader, tests, _pattern):
+    """Adds the examples of the docstrings."""
+    for module in (vx, _calls, _errors, _library, _plans, _statistics, _types):
+        tests.addTests(doctest.DocTestSuite(module))
+    return tests
+
+
+class Pages(unittest.TestCase):
+    def test_check_and_fmt(self):
+        self.assertEqual(vx.check("x >= 1 and x <= 5", "{x=i32?}"), "bool?")
+        self.assertEqual(vx.fmt("x between 1 and 3"), "(1i32 <= $.x <= 3i32)")
+        self.assertEqual(vx.fmt('s = "ä\U0001f600"'), '($.s = "ä\U0001f600")')
+
+    def test_plan(self):
+        plan = vx.plan("a.x >= 1 and b < 5", "{a={x=i32, y=i32}?, b=i32, c=utf8}")
+        self.assertEqual(plan.type, "bool?")
+        self.assertEqual(plan.paths, [("a", "x"), ("b",)])
+        self.assertEqual([it.name for it in plan.partitions], ["a", "b"])
+        self.assertEqual(plan.partitions[1].tree, "pack(b_0: ($.b < 5i32))")
+        whole = vx.plan("is_null($)", "utf8?")
+        self.assertEqual((whole.paths, whole.root, whole.partitions), ([()], None, []))
+
+    def test_explain(self):
+        self.assertIn("type: bool\n", vx.explain("x > 5 and x < 9", X))
+
+    def test_version(self):
+        self.assertEqual(vx.version(), "0.1.0")
+
+
+class Rows(unittest.TestCase):
+    def test_rows_and_columns(self):
+        self.assertEqual(vx.evaluate("x + 1", [{"x": 1}, {"x": -5}], X), [2, -4])
+        self.assertEqual(vx.evaluate("x + 1", {"x": [1, -5]}, X), [2, -4])
+        self.assertEqual(vx.evaluate("x + 1", [], X), [])
+        self.assertEqual(vx.evaluate("$ + 1", [1, 2], "i32"), [2, 3])
+        with self.assertRaises(ValueError):
+            vx.evaluate("x", {"x": [1], "y": []}, "{x=i32, y=i32}")
+        with self.assertRaises(TypeError):
+            vx.evaluate("x", [{"x": 1}])
+
+    def test_values_of_each_kind(self):
+        schema = "{a=binary?, b=list({c=utf8, d=bool?}), `e f`=u64, g=fixed_size_list(i8)[2]}"
+        row = {
+            "a": b"\x00\xff",
+            "b": [{"c": "x\ny\u2028", "d": None}, {"c": "", "d": True}],
+            "e f": 2**64 - 1,
+            "g": [1, -2],
+        }
+        self.assertEqual(vx.evaluate("$", [row, {**row, "a": None}], schema), [row, {**row, "a": None}])
+        self.assertEqual(vx.evaluate("a", [row], schema), [b"\x00\xff"])
+
+    def test_many_rows(self):
+        rows = [{"x": number} for number in range(20_000)]
+        self.assertEqual(sum(vx.evaluate("x >= 5000", rows, X)), 15_000)
+
+    def test_a_fault(self):
+        with self.assertRaises(vx.FaultError) as caught:
+            vx.evaluate("0 + (x + 1)", [{"x": 1}, {"x": 2**31 - 1}], X)
+        place = caught.exception.place
+        self.assertEqual((place.text, place.start, place.end, place.record), ("expression", 4, 11, 2))
+
+    def test_bad_data(self):
+        for rows in ([{"x": 1.5}], [{"x": None}], [{}], ["x"], [{"x": 1, "y": 2}], [{"x": 2**31}]):
+            with self.assertRaises(vx.DataError) as caught:
+                vx.evaluate("x", rows, X)
+            self.assertEqual((caught.exception.place.text, caught.exception.place.line), ("records", 1))
+        with self.assertRaises(vx.DataError):
+            vx.evaluate("s", [{"s": "\ud800"}], "{s=utf8}")
+
+
+class Pruning(unittest.TestCase):
+    def test_verdicts(self):
+        chunks = [
+            vx.statistics(3, x={"greatest": 5}),
+            vx.statistics(3, x={"nulls": 0, "least": 6}),
+            vx.statistics(4),
+            vx.statistics(0),
+        ]
+        wanted = [vx.Verdict.NO_ROW, vx.Verdict.EVERY_ROW, vx.Verdict.TO_BE_READ, vx.Verdict.NO_ROW]
+        self.assertEqual(vx.prune("x > 5", chunks, X), wanted)
+        self.assertEqual(vx.prune("x > 5", '{"rows": 4}\n{"rows": 0}', X), wanted[2:])
+        self.assertEqual(vx.prune("x > 5", [], X), [])
+
+    def test_fields_of_structs_and_bytes(self):
+        chunks = [vx.statistics(3, **{"a.b": {"greatest": b"\x10"}})]
+        schema = "{a={b=binary}}"
+        self.assertEqual(vx.prune('a.b > 0x20', chunks, schema), [vx.Verdict.NO_ROW])
+
+    def test_what_is_no_truth_value(self):
+        with self.assertRaises(vx.RefusedError):
+            vx.prune("x + 1", [vx.statistics(1)], X)
+
+    def test_no_statistics(self):
+        for chunks in ([{"rows": -1}], [{}], ['x'], '{"rows": 1', [vx.statistics(1, y={})]):
+            with self.assertRaises(vx.DataError):
+                vx.prune("x > 5", chunks, X)
+
+
+class Errors(unittest.TestCase):
+    def test_places(self):
+        with self.assertRaises(vx.UnreadError) as caught:
+            vx.check("x +\n <", X)
+        place = caught.exception.place
+        self.assertEqual((place.text, place.start, place.line, place.column), ("expression", 5, 2, 2))
+        self.assertIn("2 |  <\n", str(caught.exception))
+        with self.assertRaises(vx.UnreadError) as caught:
+            vx.plan("x", "{x=i33}")
+        self.assertEqual(caught.exception.place.text, "schema")
+        with self.assertRaises(vx.RefusedError) as caught:
+            vx.explain("y", X)
+        self.assertEqual(caught.exception.place.end, 1)
+
+    def test_texts_that_are_none(self):
+        for expression in ("", "x\0", "\ud800", "x = \"\udfff\""):
+            with self.assertRaises(vx.UnreadError):
+                vx.fmt(expression)
+
+    def test_long_texts(self):
+        for piece in ("x and ", "(", "1 + "):
+            with self.assertRaises(vx.UnreadError):
+                vx.check(piece * 1_000_000, X)
+
+
+@unittest.skipUnless(HAS_ARROW, "pyarrow isn't installed")
+class Arrow(unittest.TestCase):
+    def test_tables(self):
+        import pyarrow as pa
+
+        table = pa.table({"x": pa.array([1, None, 7], pa.int32()), "s": ["a", "b", None]})
+        answer = vx.evaluate("x + 1", table)
+        self.assertEqual((answer.type, answer.to_pylist()), (pa.int32(), [2, None, 8]))
+        self.assertEqual(vx.evaluate("s", table).to_pylist(), ["a", "b", None])
+        self.assertEqual(vx.prune("x > 7", table), [vx.Verdict.NO_ROW])
+        self.assertEqual(vx.prune("x > 6", [table, table.slice(0, 1)]), [vx.Verdict.TO_BE_READ, vx.Verdict.NO_ROW])
+
+    def test_types(self):
+        import pyarrow as pa
+
+        inner = pa.struct([pa.field("b", pa.binary(), False), pa.field("l", pa.list_(pa.uint8(), 2))])
+        table = pa.table({"a": pa.array([{"b": b"\x01", "l": [1, 2]}, None], inner)})
+        answer = vx.evaluate("a", table)
+        self.assertEqual(answer.to_pylist(), table.column("a").to_pylist())
+        with self.assertRaises(TypeError):
+            vx.evaluate("x", pa.table({"x": [1.5]}))
+
+
+if __name__ == "__main__":
+    unittest.main()

@@ -1,0 +1,46 @@
+"""The expression layer of a columnar engine.
+
+An expression is a text such as ``x >= 1 and s like "t%"``, and the type of the rows that it is over is
+one such as ``{x=i32?, s=utf8}``; docs/SOURCE.md of the repository says how both are written.
+
+>>> import vx
+>>> vx.check("x >= 1 and x <= 5", "{x=i32?}")
+'bool?'
+>>> vx.evaluate("x + 1", [{"x": 1}, {"x": None}], "{x=i32?}")
+[2, None]
+>>> vx.prune("x > 5", [{"rows": 3, "fields": {"x": {"greatest": 5}}}], "{x=i32}")
+[<Verdict.NO_ROW: 'no row'>]
+
+What a call refuses is raised as a :class:`VxError`, whose ``place`` says where:
+
+>>> try:
+...     vx.check("x + s", "{x=i32, s=utf8}")
+... except vx.RefusedError as error:
+...     error.place.start, error.place.end
+(0, 5)
+"""
+
+from ._calls import check, evaluate, explain, fmt, plan, prune, version
+from ._errors import DataError, FaultError, Place, RefusedError, UnreadError, VxError
+from ._plans import Partition, Plan
+from ._statistics import Verdict, statistics
+
+__all__ = [
+    "DataError",
+    "FaultError",
+    "Partition",
+    "Place",
+    "Plan",
+    "RefusedError",
+    "UnreadError",
+    "Verdict",
+    "VxError",
+    "check",
+    "evaluate",
+    "explain",
+    "fmt",
+    "plan",
+    "prune",
+    "statistics",
+    "version",
+]

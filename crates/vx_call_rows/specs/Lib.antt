@@ -1,0 +1,2 @@
+pub mod RowStops
+pub mod VerdictPages

@@ -1,0 +1,9 @@
+// Calls that go over records, or over statistics of chunks of them.
+#![tactic(auto)]
+
+mod rows;
+mod stop;
+mod verdicts;
+
+pub use rows::answer_rows;
+pub use verdicts::answer_verdicts;

@@ -1,0 +1,6 @@
+// What programs in other languages call, as include/vx.h says it to them.
+#![tactic(auto)]
+
+mod pages;
+mod plans;
+mod rows;

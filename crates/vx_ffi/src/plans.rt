@@ -1,0 +1,37 @@
+// Calls that show plans.
+ghost use Rattle.vx_command_pages.specs.Inputs.{IsComplaint};
+ghost use Rattle.vx_command_plans.specs.PlanPages.{IsPlanPage};
+ghost use Rattle.vx_call_pages.specs.Endings.{EndsWith};
+ghost use Rattle.vx_call_pages.specs.Stops.{Stops};
+
+use std::alloc::Global;
+use vx_call_pages::Answer;
+use vx_call_plans::{answer_explanation, answer_plan};
+
+/// Answers what becomes of the expression over rows of the schema's type.
+#[unsafe(no_mangle)]
+pub extern "C" fn vx_explain(
+    alloc: Global,
+    expression: &[u8],
+    schema: &[u8],
+    buffer: &mut [u8],
+    answer: &mut Answer,
+) -> u32
+    ensures { EndsWith (λ _. Unit {0}) (Stops (IsComplaint expression.now schema.now) expression.now schema.now) buffer.old result buffer.new answer.new }
+{
+    answer_explanation(alloc, expression, schema, buffer, answer).number()
+}
+
+/// Answers the plan of the expression over rows of the schema's type, as JSON on one line.
+#[unsafe(no_mangle)]
+pub extern "C" fn vx_plan_json(
+    alloc: Global,
+    expression: &[u8],
+    schema: &[u8],
+    buffer: &mut [u8],
+    answer: &mut Answer,
+) -> u32
+    ensures { EndsWith (IsPlanPage expression.now schema.now) (Stops (IsComplaint expression.now schema.now) expression.now schema.now) buffer.old result buffer.new answer.new }
+{
+    answer_plan(alloc, expression, schema, buffer, answer).number()
+}

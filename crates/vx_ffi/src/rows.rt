@@ -1,0 +1,39 @@
+// Calls that go over records, or over statistics of chunks of them.
+ghost use Rattle.vx_call_pages.specs.Endings.{EndsWith};
+ghost use Rattle.vx_call_rows.specs.RowStops.{IsRowsComplaint, IsVerdictComplaint, RowsStops};
+ghost use Rattle.vx_call_rows.specs.VerdictPages.{IsVerdictPage};
+
+use std::alloc::Global;
+use vx_call_pages::Answer;
+use vx_call_rows::{answer_rows, answer_verdicts};
+
+/// Answers what the expression means at each record, as a line of JSON each: [`answer_rows`].
+#[unsafe(no_mangle)]
+pub extern "C" fn vx_eval_json(
+    alloc: Global,
+    expression: &[u8],
+    schema: &[u8],
+    records: &[u8],
+    buffer: &mut [u8],
+    answer: &mut Answer,
+) -> u32
+    ensures { EndsWith (λ _. Unit {0}) (RowsStops (IsRowsComplaint expression.now schema.now) expression.now schema.now) buffer.old result buffer.new answer.new }
+{
+    answer_rows(alloc, expression, schema, records, buffer, answer).number()
+}
+
+/// Answers for each chunk what its statistics tell of the expression, as a line of JSON each:
+/// [`answer_verdicts`].
+#[unsafe(no_mangle)]
+pub extern "C" fn vx_prune(
+    alloc: Global,
+    expression: &[u8],
+    schema: &[u8],
+    statistics: &[u8],
+    buffer: &mut [u8],
+    answer: &mut Answer,
+) -> u32
+    ensures { EndsWith (IsVerdictPage expression.now schema.now) (RowsStops (IsVerdictComplaint expression.now schema.now) expression.now schema.now) buffer.old result buffer.new answer.new }
+{
+    answer_verdicts(alloc, expression, schema, statistics, buffer, answer).number()
+}

@@ -1,0 +1,118 @@
+#!/bin/sh
+# Builds the library of include/vx.h, as bindings/out/libvx.a and libvx.so, and runs what tests it: the
+# header against the exports, the tests in C, Python and Rust, random buffers through each call under a
+# sanitizer, what docs/FFI.md shows, and the 200 expressions of bindings/tests, which the program and the
+# three languages have to answer alike. Ends with a line `bindings: N passed, M failed`.
+#
+#     tools/bindings.sh [BUFFERS]     so many random buffers through each call, 2,000 where none is said
+#
+# Run it after the gate, over the crates that this proved. Elsewhere `rt lib` proves what isn't proved
+# yet. Compilers that aren't there are installed of Debian's packages, where that is allowed.
+set -eu
+cd "$(dirname "$0")/.."
+buffers=${1:-2000}
+out=$PWD/bindings/out
+mkdir -p "$out"
+passed=0
+failed=0
+
+# Runs the rest of the line, which is what the first word says.
+try() {
+    what=$1
+    shift
+    if "$@"; then
+        passed=$((passed + 1))
+    else
+        failed=$((failed + 1))
+        echo "bindings: $what FAILED"
+    fi
+}
+
+# Installs the package where there is no such command.
+need() {
+    if ! command -v "$1" >/dev/null; then
+        apt-get update -qq && apt-get install -qq --no-install-recommends "$2" >/dev/null
+    fi
+}
+
+# The gate leaves each crate that it proved, as a library without the mark by which `rt lib` would know
+# it; so it is named to the compiler here, which proves the exports over these crates and compiles them.
+compiled() {
+    kit=$(dirname "$(rt doc)")
+    set -- --crate-name vx_ffi src/lib.rt --crate-type staticlib
+    set -- "$@" --extern "std=$kit/rlibs/std.rlib" -L "dependency=$kit/rlibs"
+    for name in $(sed -n 's/^vx_ffi staticlib: //p' crates.txt); do
+        set -- "$@" --extern "$name=../$name/out/rlib/$name.rlib"
+    done
+    for folder in crates/*/out/rlib; do
+        set -- "$@" -L "dependency=../../$folder"
+    done
+    set -- "$@" --antt-project "$kit/rattle/logic/antt-project.json" --logic-built "$kit/logic_built"
+    (cd crates/vx_ffi && mkdir -p out && "$kit/bin/rattle" build "$@" --toolchain "$kit/toolchain" \
+        -o out/libvx_ffi.a)
+}
+
+# The library of the exports, beside the three calls of C's allocator that it makes.
+library() {
+    rlib=crates/vx_call_rows/out/rlib
+    if [ -d "$rlib" ] && [ ! -e "$rlib/stamp" ]; then
+        compiled >"$out/build.log" 2>&1 || { tail -20 "$out/build.log"; return 1; }
+    else
+        (cd crates/vx_ffi && rt lib) >"$out/build.log" 2>&1 || { tail -20 "$out/build.log"; return 1; }
+    fi
+    rm -rf "$out/objects" "$out/libvx.a"
+    mkdir "$out/objects"
+    (cd "$out/objects" && ar x ../../../crates/vx_ffi/out/libvx_ffi.a &&
+        ar x "$(dirname "$(rt doc)")/c/liblibc_c.a" && ar rcs ../libvx.a ./*.o &&
+        gcc -shared -Wl,--version-script=../../c/exports.map -o ../libvx.so ./*.o)
+}
+
+# The C program, in two builds.
+c_program() {
+    flags="-std=c11 -Wall -Wextra -Wpedantic -Werror -Iinclude"
+    gcc $flags -O2 -o "$out/test" bindings/c/test.c "$out/libvx.a" &&
+        gcc $flags -O1 -g -fsanitize=address,undefined -o "$out/test_sanitized" bindings/c/test.c \
+            "$out/libvx.a"
+}
+
+python_tests() {
+    VX_LIBRARY=$out/libvx.so python3 -m unittest discover -q -s bindings/python/tests
+}
+
+rust_tests() {
+    (cd bindings/rust && cargo test -q --offline && cargo build -q --offline --examples)
+}
+
+# What each of them answers of the expressions.
+answers() {
+    expressions=bindings/tests/expressions.tsv
+    python3 bindings/tests/program.py crates/vx/out/vx "$expressions" >"$out/program.txt" &&
+        "$out/test" answers "$expressions" >"$out/c.txt" &&
+        VX_LIBRARY=$out/libvx.so PYTHONPATH=bindings/python \
+            python3 bindings/tests/package.py "$expressions" >"$out/python.txt" &&
+        "$CARGO_TARGET_DIR/debug/examples/answers" "$expressions" >"$out/rust.txt" || return 1
+    for name in c python rust; do
+        diff -u "$out/program.txt" "$out/$name.txt" | head -40
+        cmp -s "$out/program.txt" "$out/$name.txt" || return 1
+    done
+    echo "answers: $(wc -l <"$expressions") expressions, $(grep -c '^# ' "$out/c.txt") answers, alike"
+}
+
+need gcc gcc
+need python3 python3
+need cargo cargo
+export PYTHONDONTWRITEBYTECODE=1 CARGO_TARGET_DIR="$out/rust" VX_LIBRARY_DIR="$out"
+try "the library" library
+if [ "$failed" -eq 0 ]; then
+    try "the header" tools/header.py "$out/libvx.a"
+    try "the C program's build" c_program
+    try "C" "$out/test"
+    try "C under a sanitizer" "$out/test_sanitized"
+    try "random buffers" "$out/test_sanitized" fuzz "$buffers" 1
+    try "Python" python_tests
+    try "Rust" rust_tests
+    try "docs/FFI.md" env VX_LIBRARY="$out/libvx.so" python3 bindings/tests/guide.py "$out"
+    try "the same answers" answers
+fi
+echo "bindings: $passed passed, $failed failed"
+[ "$failed" -eq 0 ]
