@@ -1,9 +1,9 @@
 /*
  * vx.h: the expression layer for programs in C, and for what calls C.
  *
- * Every call takes texts and answers one. A text is UTF-8, a pointer and how many bytes it has; it may
- * be null where it has none, and needs no 0 at its end. The answer is put into a buffer of the caller's,
- * without a 0 at its end, so nothing has to be freed. Beside it a vx_answer says how many bytes it has.
+ * A call takes texts and answers one. A text is UTF-8: a pointer, and how many bytes there are. The pointer
+ * may be null where there are none, and no 0 has to stand behind them. The answer goes into a buffer of the
+ * caller's, with no 0 behind it, and a vx_answer says how many bytes it has.
  *
  *     char page[256];
  *     vx_answer answer;
@@ -11,12 +11,18 @@
  *     if (status == VX_ANSWERED)
  *         fwrite(page, 1, answer.needed, stdout);        (1i32 <= $.x <= 3i32)
  *
- * Where the buffer is too small nothing is put into it, and a second call with answer.needed bytes
- * answers. No text may lie in the buffer, nor in the vx_answer. The calls keep nothing: any of them may
- * run on several threads at once. They take memory by malloc, and none of it is kept behind a call.
- * None may be made in a signal handler.
+ * Where the buffer is too small it stays as it was, and the call answers when it is made again with a buffer
+ * of answer.needed bytes. It does all its work again then.
  *
- * docs/FFI.md has a page on it, and crates/vx_ffi the contract of each call.
+ * Memory. A call keeps nothing of what it is given. It takes memory by malloc and frees it before it returns;
+ * a vx_plan alone is kept, until vx_plan_free. What a call reads may not overlap with what it writes, which
+ * are the buffer, the vx_answer and the vx_plan. These two are never null; the buffer may be null where its
+ * length is 0.
+ *
+ * Threads. Any calls may run at once on several threads, but a vx_plan stays on the thread that made it. No
+ * call may be made in a signal handler, nor in the forked child of a process with several threads.
+ *
+ * docs/FFI.md is the guide, and crates/vx_ffi has the contract of each call.
  */
 #ifndef VX_H
 #define VX_H
@@ -28,28 +34,31 @@
 extern "C" {
 #endif
 
-/* The version that this header is of, as vx_version answers it. */
+/* The version of this header. vx_version answers that of the library. */
 #define VX_VERSION "0.1.0"
 
 /* How a call ended: a number of enum vx_end. */
 typedef uint32_t vx_status;
 
 enum vx_end {
-    /* The buffer begins with the page; what is behind it is as it was. */
+    /* The buffer begins with the page. What is behind the page is as it was. */
     VX_ANSWERED = 0,
     /* The page or the message is longer than the buffer, which is as it was. */
     VX_TOO_SMALL = 1,
     /* Memory ran out. The buffer is as it was, and needed is 0. */
     VX_OUT_OF_MEMORY = 2,
-    /* A text isn't UTF-8, or reading it stopped at the place. The buffer begins with the message, as at
-       each number behind this one. */
+    /* A text isn't UTF-8, or reading it stopped at the place. The buffer begins with the message, as it does
+       for each number below. */
     VX_UNREAD = 3,
     /* The expression has no type over the schema's, or not the type that the call asks for. */
     VX_REFUSED = 4,
-    /* The expression faults at a record. */
+    /* The expression faults at a record, or at a row. */
     VX_FAULTED = 5,
-    /* A record isn't of the schema's type or no JSON, or a line says no statistics. */
-    VX_BAD_DATA = 6
+    /* A record isn't JSON of the schema's type, a line is no statistics, or a buffer isn't laid out as the
+       type asks. */
+    VX_BAD_DATA = 6,
+    /* The vx_plan holds no plan. */
+    VX_NO_PLAN = 7
 };
 
 /* Which text a place is in. */
@@ -57,20 +66,21 @@ enum vx_text {
     VX_NOWHERE = 0,
     VX_EXPRESSION = 1,
     VX_SCHEMA = 2,
+    /* The records, the statistics, or the rows of a batch. */
     VX_RECORDS = 3
 };
 
-/* A place in a text. Each number is 0 where it isn't known, as where there is no message. */
+/* A place in a text. A number is 0 where it isn't known, and all are 0 where the call answers. */
 typedef struct vx_place {
     /* Which text: a number of enum vx_text. */
     size_t text;
     /* The first byte, from 0 on, and the one behind the last. */
     size_t start;
     size_t end;
-    /* The line, and the character within the line, from 1 on. */
+    /* The line, and the character within it, from 1 on. */
     size_t line;
     size_t column;
-    /* The line at which the record begins, from 1 on. */
+    /* The line at which the record begins, or the row of the batch, from 1 on. */
     uint64_t record;
 } vx_place;
 
@@ -81,6 +91,21 @@ typedef struct vx_answer {
     /* What the message is about. */
     vx_place place;
 } vx_answer;
+
+/* A plan that is kept between calls. It is made as vx_plan plan = VX_PLAN_INIT, which holds none. Only the
+   calls below change what is in it, and a copy of it may not be used beside it. */
+typedef struct vx_plan {
+    void *at;
+} vx_plan;
+
+#define VX_PLAN_INIT {NULL}
+
+/* A buffer of a batch: lent bytes, which need not be aligned. */
+typedef struct vx_buffer {
+    /* May be null where there are none. */
+    const void *bytes;
+    size_t length;
+} vx_buffer;
 
 /* The type of the expression over rows of the schema's type, on a line. */
 vx_status vx_check(const char *expression, size_t expression_length, const char *schema,
@@ -100,10 +125,10 @@ vx_status vx_plan_json(const char *expression, size_t expression_length, const c
 vx_status vx_fmt(const char *expression, size_t expression_length, char *buffer,
                  size_t buffer_length, vx_answer *answer);
 
-/* For each chunk an object on a line, with its "rows" and the "verdict" on the expression, of truth
-   values, over rows of the schema's type: "no row" where it is true in none, "every row", or "to be
-   read". The statistics are a line of JSON for each chunk, as
-   {"rows": 3, "fields": {"a.x": {"nulls": 1, "least": 1, "greatest": 5}}}. */
+/* For each chunk an object on a line, with its "rows" and the "verdict" on the expression, which has to be
+   of truth values: "no row" where it is true in none, "every row", or "to be read". The statistics are a
+   line of JSON for each chunk, as {"rows": 3, "fields": {"a.x": {"nulls": 1, "least": 1, "greatest": 5}}}.
+   What they don't say isn't known. */
 vx_status vx_prune(const char *expression, size_t expression_length, const char *schema,
                    size_t schema_length, const char *statistics, size_t statistics_length,
                    char *buffer, size_t buffer_length, vx_answer *answer);
@@ -116,6 +141,38 @@ vx_status vx_eval_json(const char *expression, size_t expression_length, const c
 
 /* The version of the library, on a line. */
 vx_status vx_version(char *buffer, size_t buffer_length, vx_answer *answer);
+
+/* Makes a plan of scans by the expression over batches of the schema's type, and answers the empty text. The
+   plan that *plan held is freed first. At any status but VX_ANSWERED *plan holds none. */
+vx_status vx_plan_new(const char *expression, size_t expression_length, const char *schema,
+                      size_t schema_length, vx_plan *plan, char *buffer, size_t buffer_length,
+                      vx_answer *answer);
+
+/* The paths of the fields that the plan reads: on a line an array of them, each an array of its names, as
+   [["x"],["a","b"]]. The path without a name is the whole row. */
+vx_status vx_plan_paths(vx_plan *plan, char *buffer, size_t buffer_length, vx_answer *answer);
+
+/* What the expression means at each row of a batch, as a line of JSON each.
+
+   The buffers are those of the batch, a column of the schema's type, laid out as the Arrow columnar format
+   has them and in the order of pyarrow.Array.buffers(): depth first, and of each type
+
+       bool                    validity, values
+       i8 to i64, u8 to u64    validity, values
+       utf8, binary            validity, offsets, bytes
+       list                    validity, offsets, then the buffers of the items
+       fixed_size_list         validity, then the buffers of the items
+       struct                  validity, then the buffers of each field
+
+   Validity has a bit for each row, the least significant of a byte first, which is 1 where the row isn't
+   null; where its length is 0 no row is null. Truth values are such bits, too. Numbers are in little-endian
+   order. Offsets are signed numbers of 32 bits, one more than there are rows. A buffer may be longer than
+   it has to be. */
+vx_status vx_plan_scan(vx_plan *plan, size_t rows, const vx_buffer *buffers, size_t buffers_length,
+                       char *buffer, size_t buffer_length, vx_answer *answer);
+
+/* Frees the plan, if there is one, and answers VX_ANSWERED. Then *plan holds none. */
+vx_status vx_plan_free(vx_plan *plan);
 
 #ifdef __cplusplus
 }

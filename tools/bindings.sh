@@ -1,8 +1,9 @@
 #!/bin/sh
 # Builds the library of include/vx.h, as bindings/out/libvx.a and libvx.so, and runs what tests it: the
-# header against the exports, the tests in C, Python and Rust, random buffers through each call under a
-# sanitizer, what docs/FFI.md shows, and the 200 expressions of bindings/tests, which the program and the
-# three languages have to answer alike. Ends with a line `bindings: N passed, M failed`.
+# header against the exports, the tests in C, Python and Rust, texts of ten megabytes and random buffers
+# through each call under a sanitizer, what docs/FFI.md shows, and the 200 expressions of bindings/tests,
+# which the program and the three languages have to answer alike. Ends with a line
+# `bindings: N passed, M failed`, and with status 1 where something failed.
 #
 #     tools/bindings.sh [BUFFERS]     so many random buffers through each call, 2,000 where none is said
 #
@@ -67,12 +68,13 @@ library() {
         gcc -shared -Wl,--version-script=../../c/exports.map -o ../libvx.so ./*.o)
 }
 
-# The C program, in two builds.
+# The C program, in two builds; the header is C++, too.
 c_program() {
     flags="-std=c11 -Wall -Wextra -Wpedantic -Werror -Iinclude"
-    gcc $flags -O2 -o "$out/test" bindings/c/test.c "$out/libvx.a" &&
-        gcc $flags -O1 -g -fsanitize=address,undefined -o "$out/test_sanitized" bindings/c/test.c \
-            "$out/libvx.a"
+    gcc $flags -O2 -o "$out/test" bindings/c/*.c "$out/libvx.a" &&
+        gcc $flags -O1 -g -fsanitize=address,undefined -fno-sanitize-recover=undefined \
+            -o "$out/test_sanitized" bindings/c/*.c "$out/libvx.a" &&
+        g++ -std=c++11 -Wall -Wextra -Wpedantic -Werror -fsyntax-only -x c++ include/vx.h
 }
 
 python_tests() {
@@ -99,6 +101,7 @@ answers() {
 }
 
 need gcc gcc
+need g++ g++
 need python3 python3
 need cargo cargo
 export PYTHONDONTWRITEBYTECODE=1 CARGO_TARGET_DIR="$out/rust" VX_LIBRARY_DIR="$out"
@@ -108,6 +111,7 @@ if [ "$failed" -eq 0 ]; then
     try "the C program's build" c_program
     try "C" "$out/test"
     try "C under a sanitizer" "$out/test_sanitized"
+    try "long texts" "$out/test_sanitized" long
     try "random buffers" "$out/test_sanitized" fuzz "$buffers" 1
     try "Python" python_tests
     try "Rust" rust_tests

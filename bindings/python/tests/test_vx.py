@@ -1,7 +1,6 @@
-"""Tests of the package; `python -m unittest discover -s tests` in the folder above runs them."""
+"""Tests of the calls; `python -m unittest discover -s tests` in the folder above runs all tests."""
 
 import doctest
-import importlib.util
 import pathlib
 import sys
 import unittest
@@ -9,15 +8,14 @@ import unittest
 sys.path.insert(0, str(pathlib.Path(__file__).parents[1]))
 
 import vx  # noqa: E402
-from vx import _calls, _errors, _library, _plans, _statistics, _types  # noqa: E402
+from vx import _batches, _calls, _errors, _kept, _library, _plans, _statistics, _types  # noqa: E402
 
 X = "{x=i32}"
-HAS_ARROW = importlib.util.find_spec("pyarrow") is not None
 
 
 def load_tests(_loader, tests, _pattern):
     """Adds the examples of the docstrings."""
-    for module in (vx, _calls, _errors, _library, _plans, _statistics, _types):
+    for module in (vx, _batches, _calls, _errors, _kept, _library, _plans, _statistics, _types):
         tests.addTests(doctest.DocTestSuite(module))
     return tests
 
@@ -134,31 +132,8 @@ class Errors(unittest.TestCase):
 
     def test_long_texts(self):
         for piece in ("x and ", "(", "1 + "):
-            with self.assertRaises(vx.UnreadError):
+            with self.subTest(piece), self.assertRaises(vx.UnreadError):
                 vx.check(piece * 1_000_000, X)
-
-
-@unittest.skipUnless(HAS_ARROW, "pyarrow isn't installed")
-class Arrow(unittest.TestCase):
-    def test_tables(self):
-        import pyarrow as pa
-
-        table = pa.table({"x": pa.array([1, None, 7], pa.int32()), "s": ["a", "b", None]})
-        answer = vx.evaluate("x + 1", table)
-        self.assertEqual((answer.type, answer.to_pylist()), (pa.int32(), [2, None, 8]))
-        self.assertEqual(vx.evaluate("s", table).to_pylist(), ["a", "b", None])
-        self.assertEqual(vx.prune("x > 7", table), [vx.Verdict.NO_ROW])
-        self.assertEqual(vx.prune("x > 6", [table, table.slice(0, 1)]), [vx.Verdict.TO_BE_READ, vx.Verdict.NO_ROW])
-
-    def test_types(self):
-        import pyarrow as pa
-
-        inner = pa.struct([pa.field("b", pa.binary(), False), pa.field("l", pa.list_(pa.uint8(), 2))])
-        table = pa.table({"a": pa.array([{"b": b"\x01", "l": [1, 2]}, None], inner)})
-        answer = vx.evaluate("a", table)
-        self.assertEqual(answer.to_pylist(), table.column("a").to_pylist())
-        with self.assertRaises(TypeError):
-            vx.evaluate("x", pa.table({"x": [1.5]}))
 
 
 if __name__ == "__main__":

@@ -11,6 +11,12 @@ one such as ``{x=i32?, s=utf8}``; docs/SOURCE.md of the repository says how both
 >>> vx.prune("x > 5", [{"rows": 3, "fields": {"x": {"greatest": 5}}}], "{x=i32}")
 [<Verdict.NO_ROW: 'no row'>]
 
+A plan is made once, and scans many batches:
+
+>>> with vx.Plan("x + 1", "{x=i32?}") as plan:
+...     [plan.scan({"x": [number, None]}) for number in range(3)]
+[[1, None], [2, None], [3, None]]
+
 What a call refuses is raised as a :class:`VxError`, whose ``place`` says where:
 
 >>> try:
@@ -21,16 +27,19 @@ What a call refuses is raised as a :class:`VxError`, whose ``place`` says where:
 """
 
 from ._calls import check, evaluate, explain, fmt, plan, prune, version
-from ._errors import DataError, FaultError, Place, RefusedError, UnreadError, VxError
-from ._plans import Partition, Plan
+from ._errors import DataError, FaultError, NoPlanError, Place, RefusedError, UnreadError, VxError
+from ._kept import Plan
+from ._plans import Partition, PlanDescription
 from ._statistics import Verdict, statistics
 
 __all__ = [
     "DataError",
     "FaultError",
+    "NoPlanError",
     "Partition",
     "Place",
     "Plan",
+    "PlanDescription",
     "RefusedError",
     "UnreadError",
     "Verdict",

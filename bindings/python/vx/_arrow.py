@@ -1,9 +1,11 @@
-"""Arrow tables as rows, where pyarrow is installed."""
+"""Arrow's tables and arrays as rows, where pyarrow is installed."""
 
 from __future__ import annotations
 
-from typing import Any, Dict, List
+from typing import Any, Dict, Iterator, List, Mapping, Tuple
 
+from ._batches import bits_from, number_size
+from ._errors import DataError, Place
 from ._types import Type
 
 try:
@@ -28,6 +30,11 @@ _ATOMS = {"bool": "bool_", "utf8": "string", "binary": "binary"}
 def is_table(rows: Any) -> bool:
     """Whether these are rows of Arrow's."""
     return pyarrow is not None and isinstance(rows, (pyarrow.Table, pyarrow.RecordBatch))
+
+
+def is_batch(rows: Any) -> bool:
+    """Whether these are rows of Arrow's, or an array of them."""
+    return is_table(rows) or (pyarrow is not None and isinstance(rows, (pyarrow.Array, pyarrow.ChunkedArray)))
 
 
 def _type_of(arrow: Any, is_nullable: bool) -> Type:
@@ -67,6 +74,91 @@ def _arrow_type(dtype: Type) -> Any:
         return getattr(pyarrow, _ATOMS[dtype.kind])()
     word = "uint" if dtype.kind[0] == "u" else "int"
     return getattr(pyarrow, word + dtype.kind[1:])()
+
+
+def batch_of(batch: Any, dtype: Type) -> Tuple[int, List[bytes]]:
+    """How many rows there are, and their buffers, depth first: without the offsets of slices, in one chunk,
+    and with the fields in the order of the type's. A field that isn't there is null in each row."""
+    if isinstance(batch, pyarrow.ChunkedArray):
+        batch = _one_chunk(batch)
+    if is_table(batch):
+        columns = dict(zip(batch.schema.names, batch.columns))
+        return batch.num_rows, [b"", *_fields(columns, batch.num_rows, dtype)]
+    return len(batch), list(_buffers(batch, dtype))
+
+
+def _one_chunk(array: Any) -> Any:
+    """The array in one chunk."""
+    if not isinstance(array, pyarrow.ChunkedArray):
+        return array
+    return pyarrow.concat_arrays(array.chunks) if array.num_chunks else pyarrow.array([], array.type)
+
+
+def _fields(columns: Mapping[str, Any], rows: int, dtype: Type) -> Iterator[bytes]:
+    """The buffers of the fields of a struct type, of these columns."""
+    unknown = set(columns).difference(name for name, _ in dtype.fields)
+    if dtype.kind != "struct" or unknown:
+        raise _refused(f"rows of type {dtype}, without {', '.join(sorted(unknown)) or 'fields'}")
+    for name, inner in dtype.fields:
+        column = columns.get(name)
+        yield from _buffers(pyarrow.nulls(rows, _arrow_type(inner)) if column is None else _one_chunk(column), inner)
+
+
+def _buffers(array: Any, dtype: Type) -> Iterator[bytes]:
+    """The buffers of the array, depth first."""
+    array = _plain(array, dtype)
+    rows, start, buffers = len(array), array.offset, array.buffers()
+    yield _bits(buffers[0], start, rows) if array.null_count else b""
+    if dtype.kind == "struct":
+        names = [array.type.field(index).name for index in range(array.type.num_fields)]
+        yield from _fields({name: array.field(index) for index, name in enumerate(names)}, rows, dtype)
+    elif dtype.kind == "list":
+        yield from _items_of_lists(array, dtype.item)
+    elif dtype.item is not None:
+        yield from _buffers(array.values.slice(start * dtype.length, rows * dtype.length), dtype.item)
+    elif dtype.kind == "bool":
+        yield _bits(buffers[1], start, rows)
+    elif dtype.kind in ("utf8", "binary"):
+        yield _bytes(buffers[1], 4 * start, 4 * (rows + 1))
+        yield _bytes(buffers[2], 0, buffers[2].size if buffers[2] else 0)
+    else:
+        size = number_size(dtype.kind)
+        yield _bytes(buffers[1], size * start, size * rows)
+
+
+def _items_of_lists(array: Any, item: Type) -> Iterator[bytes]:
+    """The offsets of lists, from 0 on, and the buffers of the items between them."""
+    if len(array) == 0:
+        yield b""
+        yield from _buffers(array.values.slice(0, 0), item)
+        return
+    offsets = array.offsets
+    first, last = offsets[0].as_py(), offsets[-1].as_py()
+    from_0 = pyarrow.compute.subtract(offsets, offsets[0]).cast(pyarrow.int32())
+    yield _bytes(from_0.buffers()[1], 4 * from_0.offset, 4 * len(from_0))
+    yield from _buffers(array.values.slice(first, last - first), item)
+
+
+def _plain(array: Any, dtype: Type) -> Any:
+    """The array of the type, laid out in the one way in which the library reads it."""
+    if pyarrow.types.is_dictionary(array.type):
+        array = array.dictionary_decode()
+    found = _type_of(array.type, dtype.is_nullable)
+    if (found.kind, found.length) != (dtype.kind, dtype.length):
+        raise _refused(f"values of type {dtype}, and not {found}")
+    return array.cast(_arrow_type(dtype)) if dtype.kind in ("utf8", "binary") else array
+
+
+def _bits(buffer: Any, start: int, length: int) -> bytes:
+    return b"" if buffer is None else bits_from(buffer, start, length)
+
+
+def _bytes(buffer: Any, start: int, length: int) -> bytes:
+    return b"" if buffer is None else bytes(memoryview(buffer)[start : start + length])
+
+
+def _refused(expected: str) -> DataError:
+    return DataError(f"error: records: expected {expected}", Place.of_row(None))
 
 
 def array_of(values: List[Any], dtype: Type) -> Any:

@@ -3,20 +3,20 @@
 from __future__ import annotations
 
 import json
-from typing import Any, Dict, Iterable, List, Mapping, Optional, Sequence, Union
+from typing import Any, Iterable, List, Mapping, Optional, Sequence, Union
 
 from . import _arrow
 from ._library import call
-from ._plans import Plan
+from ._plans import PlanDescription
 from ._statistics import Statistics, Verdict, to_lines, verdicts_of
-from ._types import from_json, to_json, type_of
+from ._types import to_json, type_of, values_of
 
 Rows = Union[Sequence[Any], Mapping[str, Sequence[Any]], Any]
 """Rows: a list of them, a dict of columns, or an Arrow table."""
 
 
-def _bytes(text: str) -> bytes:
-    # (what is no character is refused by the library, with its place)
+def encoded(text: str) -> bytes:
+    """The text in UTF-8. Half of a surrogate pair is handed on, for the library to refuse it at its place."""
     return text.encode("utf-8", "surrogatepass")
 
 
@@ -38,7 +38,7 @@ def check(expression: str, schema: str) -> str:
     Raises :class:`UnreadError` for a text that can't be read, and :class:`RefusedError` for an
     expression that has no type.
     """
-    return call("vx_check", _bytes(expression), _bytes(schema)).rstrip("\n")
+    return call("vx_check", encoded(expression), encoded(schema)).rstrip("\n")
 
 
 def fmt(expression: str) -> str:
@@ -49,7 +49,7 @@ def fmt(expression: str) -> str:
 
     Raises :class:`UnreadError`.
     """
-    return call("vx_fmt", _bytes(expression)).rstrip("\n")
+    return call("vx_fmt", encoded(expression)).rstrip("\n")
 
 
 def explain(expression: str, schema: str) -> str:
@@ -60,18 +60,18 @@ def explain(expression: str, schema: str) -> str:
 
     Raises as :func:`check` does.
     """
-    return call("vx_explain", _bytes(expression), _bytes(schema))
+    return call("vx_explain", encoded(expression), encoded(schema))
 
 
-def plan(expression: str, schema: str) -> Plan:
-    """The plan of a scan by the expression over rows of that type.
+def plan(expression: str, schema: str) -> PlanDescription:
+    """The plan of a scan by the expression over rows of that type, in texts. :class:`Plan` is one that scans.
 
     >>> plan("x >= 1", "{x=i32, y=utf8}").paths
     [('x',)]
 
     Raises as :func:`check` does.
     """
-    return Plan.of_json(call("vx_plan_json", _bytes(expression), _bytes(schema)))
+    return PlanDescription.of_json(call("vx_plan_json", encoded(expression), encoded(schema)))
 
 
 def prune(
@@ -101,7 +101,7 @@ def prune(
         chunks = [_arrow.statistics_of(it) if _arrow.is_table(it) else it for it in chunks]
     if schema is None:
         raise TypeError("the schema is left out, and no table says it")
-    return verdicts_of(call("vx_prune", _bytes(expression), _bytes(schema), to_lines(chunks)))
+    return verdicts_of(call("vx_prune", encoded(expression), encoded(schema), to_lines(chunks)))
 
 
 def evaluate(expression: str, rows: Rows, schema: Optional[str] = None) -> Any:
@@ -121,23 +121,26 @@ def evaluate(expression: str, rows: Rows, schema: Optional[str] = None) -> Any:
     from 1 on.
     """
     is_table = _arrow.is_table(rows)
-    if is_table:
-        schema = str(_arrow.schema_of(rows)) if schema is None else schema
-        rows = rows.to_pylist()
-    elif isinstance(rows, Mapping):
-        rows = _rows_of(rows)
+    if is_table and schema is None:
+        schema = str(_arrow.schema_of(rows))
     if schema is None:
         raise TypeError("the schema is left out, and no table says it")
-    lines = [json.dumps(to_json(row), ensure_ascii=False) + "\n" for row in rows]
-    page = call("vx_eval_json", _bytes(expression), _bytes(schema), _bytes("".join(lines)))
+    found = rows.to_pylist() if is_table else rows_of(rows)
+    lines = [json.dumps(to_json(row), ensure_ascii=False) + "\n" for row in found]
+    page = call("vx_eval_json", encoded(expression), encoded(schema), encoded("".join(lines)))
     dtype = type_of(check(expression, schema))
-    values = [from_json(json.loads(line), dtype) for line in page.split("\n")[:-1]]
+    values = values_of(page, dtype)
     return _arrow.array_of(values, dtype) if is_table else values
 
 
-def _rows_of(columns: Mapping[str, Sequence[Any]]) -> List[Dict[str, Any]]:
-    """The rows of columns, which have to be of one length."""
-    lengths = {len(column) for column in columns.values()}
-    if len(lengths) > 1:
+def rows_of(rows: Rows) -> List[Any]:
+    """The rows, also those of a dict of columns, which have to be of one length.
+
+    >>> rows_of({"x": [1, 5], "s": ["a", "b"]})
+    [{'x': 1, 's': 'a'}, {'x': 5, 's': 'b'}]
+    """
+    if not isinstance(rows, Mapping):
+        return list(rows)
+    if len({len(column) for column in rows.values()}) > 1:
         raise ValueError("the columns are of different lengths")
-    return [dict(zip(columns, values)) for values in zip(*columns.values())]
+    return [dict(zip(rows, values)) for values in zip(*rows.values())]

@@ -10,14 +10,14 @@ _TEXTS = {1: "expression", 2: "schema", 3: "records"}
 
 @dataclasses.dataclass(frozen=True)
 class Place:
-    """A place in one of the texts that a call was given.
+    """A place in what a call was given.
 
     >>> Place(text="expression", start=4, end=5, line=1, column=5)
     Place(text='expression', start=4, end=5, line=1, column=5, record=None)
     """
 
     text: str
-    """Which text: ``expression``, ``schema`` or ``records``."""
+    """Which text: ``expression``, ``schema`` or ``records``, which are also statistics and rows."""
     start: int
     """The first byte of the text in UTF-8, from 0 on."""
     end: int
@@ -27,7 +27,7 @@ class Place:
     column: Optional[int] = None
     """The character within the line, from 1 on."""
     record: Optional[int] = None
-    """The record, from 1 on."""
+    """The record or the row, from 1 on."""
 
     @staticmethod
     def of(text: int, start: int, end: int, line: int, column: int, record: int) -> Optional[Place]:
@@ -35,6 +35,11 @@ class Place:
         if text not in _TEXTS:
             return None
         return Place(_TEXTS[text], start, end, line or None, column or None, record or None)
+
+    @staticmethod
+    def of_row(row: Optional[int]) -> Place:
+        """The place of that row, or of the rows as a whole."""
+        return Place("records", 0, 0, record=row)
 
 
 class VxError(Exception):
@@ -57,14 +62,18 @@ class RefusedError(VxError):
 
 
 class FaultError(VxError):
-    """The expression faults at a record."""
+    """The expression faults at a row."""
 
 
 class DataError(VxError):
-    """A record isn't of the schema's type, or a record of statistics says none."""
+    """A row isn't of the schema's type, or a record of statistics says none."""
 
 
-_ERRORS = {3: UnreadError, 4: RefusedError, 5: FaultError, 6: DataError}
+class NoPlanError(VxError):
+    """The plan is closed."""
+
+
+_ERRORS = {3: UnreadError, 4: RefusedError, 5: FaultError, 6: DataError, 7: NoPlanError}
 
 
 def error_of(status: int, message: str, place: Optional[Place]) -> VxError:

@@ -6,21 +6,12 @@ import ctypes
 import os
 import pathlib
 from ctypes.util import find_library
+from typing import Any, Dict, List, Sequence, Tuple
 
 from ._errors import Place, error_of
 
-ANSWERED, TOO_SMALL, OUT_OF_MEMORY = 0, 1, 2
-
-# What each call is given before the buffer: so many texts.
-TEXTS = {
-    "vx_version": 0,
-    "vx_fmt": 1,
-    "vx_check": 2,
-    "vx_explain": 2,
-    "vx_plan_json": 2,
-    "vx_prune": 3,
-    "vx_eval_json": 3,
-}
+_ANSWERED, _TOO_SMALL, _OUT_OF_MEMORY = 0, 1, 2
+_LEAST_ROOM = 1024
 
 
 class _Place(ctypes.Structure):
@@ -42,8 +33,40 @@ class _Answer(ctypes.Structure):
     _fields_ = [("needed", ctypes.c_size_t), ("place", _Place)]
 
 
+class _Buffer(ctypes.Structure):
+    """A `vx_buffer`."""
+
+    _fields_ = [("bytes", ctypes.c_char_p), ("length", ctypes.c_size_t)]
+
+
+class Handle(ctypes.Structure):
+    """A `vx_plan`, which holds no plan at first."""
+
+    _fields_ = [("at", ctypes.c_void_p)]
+
+
+_TEXT = (ctypes.c_char_p, ctypes.c_size_t)
+_PLAN = ctypes.POINTER(Handle)
+_ROOM = (ctypes.c_char_p, ctypes.c_size_t, ctypes.POINTER(_Answer))
+
+# What each call is given.
+_CALLS: Dict[str, Tuple[Any, ...]] = {
+    "vx_version": _ROOM,
+    "vx_fmt": (*_TEXT, *_ROOM),
+    "vx_check": (*_TEXT, *_TEXT, *_ROOM),
+    "vx_explain": (*_TEXT, *_TEXT, *_ROOM),
+    "vx_plan_json": (*_TEXT, *_TEXT, *_ROOM),
+    "vx_prune": (*_TEXT, *_TEXT, *_TEXT, *_ROOM),
+    "vx_eval_json": (*_TEXT, *_TEXT, *_TEXT, *_ROOM),
+    "vx_plan_new": (*_TEXT, *_TEXT, _PLAN, *_ROOM),
+    "vx_plan_paths": (_PLAN, *_ROOM),
+    "vx_plan_scan": (_PLAN, ctypes.c_size_t, ctypes.POINTER(_Buffer), ctypes.c_size_t, *_ROOM),
+    "vx_plan_free": (_PLAN,),
+}
+
+
 def _path() -> str:
-    """The shared library: of the variable VX_LIBRARY, beside this file, or where the system has it."""
+    """The shared library: that of the variable VX_LIBRARY, one beside this file, or the system's."""
     named = os.environ.get("VX_LIBRARY")
     if named:
         return named
@@ -58,41 +81,67 @@ def _path() -> str:
 
 def _opened() -> ctypes.CDLL:
     library = ctypes.CDLL(_path())
-    for name, texts in TEXTS.items():
+    for name, parameters in _CALLS.items():
         function = getattr(library, name)
         function.restype = ctypes.c_uint32
-        function.argtypes = [
-            *[ctypes.c_char_p, ctypes.c_size_t] * texts,
-            ctypes.c_char_p,
-            ctypes.c_size_t,
-            ctypes.POINTER(_Answer),
-        ]
+        function.argtypes = parameters
     return library
 
 
 _LIBRARY = _opened()
 
 
+def _answered(name: str, given: Sequence[Any], room: int) -> str:
+    """The page that the call answers, or an exception of what stops it. The first buffer has that much room."""
+    function = getattr(_LIBRARY, name)
+    answer = _Answer()
+    while True:
+        buffer = ctypes.create_string_buffer(room)
+        status = function(*given, buffer, room, ctypes.byref(answer))
+        if status != _TOO_SMALL:
+            break
+        room = answer.needed
+    if status == _OUT_OF_MEMORY:
+        raise MemoryError
+    page = buffer[: answer.needed].decode("utf-8", "replace")
+    if status != _ANSWERED:
+        raise error_of(status, page, Place.of(*(getattr(answer.place, field) for field, _ in _Place._fields_)))
+    return page
+
+
+def _counted(texts: Sequence[bytes]) -> List[Any]:
+    """Each text, and how many bytes it has."""
+    return [part for text in texts for part in (text, len(text))]
+
+
 def call(name: str, *texts: bytes) -> str:
-    """The page that the call of that name answers, or an exception of what stops it.
+    """The page that the call of that name answers of the texts, or an exception of what stops it.
 
     >>> call("vx_fmt", b"x between 1 and 3")
     '(1i32 <= $.x <= 3i32)\\n'
     """
-    function = getattr(_LIBRARY, name)
-    given = [part for text in texts for part in (text, len(text))]
-    answer = _Answer()
-    room = 1024
-    while True:
-        buffer = ctypes.create_string_buffer(room)
-        status = function(*given, buffer, room, ctypes.byref(answer))
-        if status != TOO_SMALL:
-            break
-        room = answer.needed
-    if status == OUT_OF_MEMORY:
-        raise MemoryError
-    page = buffer.raw[: answer.needed].decode("utf-8", "replace")
-    if status != ANSWERED:
-        place = Place.of(*(getattr(answer.place, field) for field, _ in _Place._fields_))
-        raise error_of(status, page, place)
-    return page
+    # (most pages are no longer than the texts, so that the call isn't made twice)
+    return _answered(name, _counted(texts), _LEAST_ROOM + sum(map(len, texts)))
+
+
+def make_plan(handle: Handle, expression: bytes, schema: bytes) -> None:
+    """Has the handle hold a plan, in place of the one that it held."""
+    _answered("vx_plan_new", [*_counted([expression, schema]), ctypes.byref(handle)], _LEAST_ROOM)
+
+
+def plan_paths(handle: Handle) -> str:
+    """The paths that the plan reads, as JSON."""
+    return _answered("vx_plan_paths", [ctypes.byref(handle)], _LEAST_ROOM)
+
+
+def scan_plan(handle: Handle, rows: int, buffers: Sequence[bytes]) -> str:
+    """What the plan means at the rows, as lines of JSON."""
+    lent = (_Buffer * len(buffers))(*((buffer, len(buffer)) for buffer in buffers))
+    # (enough for numbers)
+    room = _LEAST_ROOM + 24 * rows
+    return _answered("vx_plan_scan", [ctypes.byref(handle), rows, lent, len(buffers)], room)
+
+
+def free_plan(handle: Handle) -> None:
+    """Frees the plan, if there is one."""
+    _LIBRARY.vx_plan_free(ctypes.byref(handle))

@@ -1,4 +1,4 @@
-"""Plans of scans."""
+"""What a plan of a scan is made of."""
 
 from __future__ import annotations
 
@@ -20,8 +20,8 @@ class Partition:
 
 
 @dataclasses.dataclass(frozen=True)
-class Plan:
-    """A plan of a scan.
+class PlanDescription:
+    """A plan of a scan, in texts.
 
     >>> import vx
     >>> plan = vx.plan("a.x >= 1 and b < 5", "{a={x=i32, y=i32}?, b=i32, c=utf8}")
@@ -45,14 +45,23 @@ class Plan:
     """The parts, each over one field."""
 
     @staticmethod
-    def of_json(text: str) -> Plan:
+    def of_json(text: str) -> PlanDescription:
         """The plan that the line says."""
         data = json.loads(text)
-        return Plan(
+        return PlanDescription(
             scope=data["scope"],
             tree=data["tree"],
             type=data["type"],
-            paths=[tuple(path) for path in data["paths"]],
+            paths=paths_of(data["paths"]),
             root=data["root"],
             partitions=[Partition(**partition) for partition in data["partitions"]],
         )
+
+
+def paths_of(paths: List[List[str]]) -> List[Tuple[str, ...]]:
+    """The paths that JSON has as arrays of names.
+
+    >>> paths_of([["a", "b"], []])
+    [('a', 'b'), ()]
+    """
+    return [tuple(path) for path in paths]

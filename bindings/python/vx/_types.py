@@ -3,6 +3,7 @@
 from __future__ import annotations
 
 import dataclasses
+import json
 import re
 from typing import Any, List, Optional, Tuple
 
@@ -129,3 +130,12 @@ def from_json(value: Any, dtype: Type) -> Any:
     if dtype.kind == "struct":
         return {name: from_json(value[name], inner) for name, inner in dtype.fields}
     return value
+
+
+def values_of(page: str, dtype: Type) -> List[Any]:
+    """The values of that type which the lines of JSON have.
+
+    >>> values_of("1\\nnull\\n", type_of("i32?"))
+    [1, None]
+    """
+    return [from_json(json.loads(line), dtype) for line in page.split("\n")[:-1]]

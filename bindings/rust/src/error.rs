@@ -11,11 +11,11 @@ pub enum Text {
     Expression,
     /// The schema.
     Schema,
-    /// The records, or the statistics.
+    /// The records, the statistics, or the rows of a batch.
     Records,
 }
 
-/// A place in a text that a call was given.
+/// A place in what a call was given.
 #[derive(Clone, Copy, Debug, PartialEq, Eq)]
 pub struct Place {
     /// Which text.
@@ -24,12 +24,12 @@ pub struct Place {
     pub start: usize,
     /// The byte behind the last.
     pub end: usize,
-    /// The line, from 1 on; 0 where it isn't known.
-    pub line: usize,
-    /// The character within the line, from 1 on; 0 where it isn't known.
-    pub column: usize,
-    /// The line at which the record begins, from 1 on; 0 where there is none.
-    pub record: u64,
+    /// The line, from 1 on.
+    pub line: Option<usize>,
+    /// The character within the line, from 1 on.
+    pub column: Option<usize>,
+    /// The line at which the record begins, or the row of the batch, from 1 on.
+    pub record: Option<u64>,
 }
 
 impl Place {
@@ -44,14 +44,15 @@ impl Place {
             text,
             start: place.start,
             end: place.end,
-            line: place.line,
-            column: place.column,
-            record: place.record,
+            line: Some(place.line).filter(|line| *line > 0),
+            column: Some(place.column).filter(|column| *column > 0),
+            record: Some(place.record).filter(|record| *record > 0),
         })
     }
 }
 
 /// How a call ended that answers nothing.
+#[non_exhaustive]
 #[derive(Clone, Copy, Debug, PartialEq, Eq)]
 pub enum Kind {
     /// Memory ran out.
@@ -60,9 +61,10 @@ pub enum Kind {
     Unread,
     /// The expression has no type over the schema's, or not one that the call asks for.
     Refused,
-    /// The expression faults at a record.
+    /// The expression faults at a record, or at a row.
     Faulted,
-    /// A record isn't of the schema's type, or a line says no statistics.
+    /// A record isn't of the schema's type, a line says no statistics, or a buffer isn't laid out as the type
+    /// asks.
     BadData,
 }
 
@@ -75,14 +77,15 @@ pub struct Error {
 }
 
 impl Error {
-    /// The error of that status, which isn't that of an answer.
+    /// The error of that status. That of a handle without a plan never comes: a [`Plan`](crate::Plan) has one.
     pub(crate) fn of(status: u32, message: String, place: &sys::VxPlace) -> Error {
         let kind = match status {
             sys::OUT_OF_MEMORY => Kind::OutOfMemory,
             sys::UNREAD => Kind::Unread,
             sys::REFUSED => Kind::Refused,
             sys::FAULTED => Kind::Faulted,
-            _ => Kind::BadData,
+            sys::BAD_DATA => Kind::BadData,
+            _ => unreachable!("a call ends with {status}"),
         };
         Error {
             kind,

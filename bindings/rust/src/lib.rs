@@ -11,14 +11,21 @@
 //! assert_eq!(refused.place().unwrap().end, 5);
 //! # Ok::<(), vx::Error>(())
 //! ```
+//!
+//! Texts are `&str`, or bytes: what isn't UTF-8 is refused as `Unread`, at its place. The calls may run on
+//! several threads at once; a [`Plan`] stays on the thread that made it.
 
+#![deny(missing_docs)]
+
+mod call;
 mod error;
+mod plan;
 mod sys;
 
 pub use error::{Error, Kind, Place, Text};
+pub use plan::Plan;
 
-use std::os::raw::c_char;
-use sys::{Call1, Call2, Call3, VxAnswer};
+use call::page;
 
 /// The type of the expression over rows of the schema's type.
 ///
@@ -26,8 +33,8 @@ use sys::{Call1, Call2, Call3, VxAnswer};
 ///
 /// `Unread` for a text that can't be read, and `Refused` for an expression that has no type.
 pub fn check(expression: impl AsRef<[u8]>, schema: impl AsRef<[u8]>) -> Result<String, Error> {
-    let page = over_two(sys::vx_check, expression.as_ref(), schema.as_ref())?;
-    Ok(page.trim_end_matches('\n').to_owned())
+    let (expression, schema) = (expression.as_ref(), schema.as_ref());
+    page!(vx_check, expression, schema).map(without_end)
 }
 
 /// What becomes of the expression over rows of the schema's type, as lines for a person to read.
@@ -36,11 +43,12 @@ pub fn check(expression: impl AsRef<[u8]>, schema: impl AsRef<[u8]>) -> Result<S
 ///
 /// As of [`check`].
 pub fn explain(expression: impl AsRef<[u8]>, schema: impl AsRef<[u8]>) -> Result<String, Error> {
-    over_two(sys::vx_explain, expression.as_ref(), schema.as_ref())
+    let (expression, schema) = (expression.as_ref(), schema.as_ref());
+    page!(vx_explain, expression, schema)
 }
 
 /// The plan of a scan by the expression over rows of the schema's type: a line of JSON, an object with its
-/// `scope`, `tree`, `type`, `paths`, `root` and `partitions`.
+/// `scope`, `tree`, `type`, `paths`, `root` and `partitions`. A [`Plan`] is one that scans.
 ///
 /// ```
 /// let plan = vx::plan_json("is_null($)", "utf8?")?;
@@ -52,7 +60,8 @@ pub fn explain(expression: impl AsRef<[u8]>, schema: impl AsRef<[u8]>) -> Result
 ///
 /// As of [`check`].
 pub fn plan_json(expression: impl AsRef<[u8]>, schema: impl AsRef<[u8]>) -> Result<String, Error> {
-    over_two(sys::vx_plan_json, expression.as_ref(), schema.as_ref())
+    let (expression, schema) = (expression.as_ref(), schema.as_ref());
+    page!(vx_plan_json, expression, schema)
 }
 
 /// The source text of the expression, which reads back to it.
@@ -66,13 +75,14 @@ pub fn plan_json(expression: impl AsRef<[u8]>, schema: impl AsRef<[u8]>) -> Resu
 ///
 /// `Unread` for a text that can't be read.
 pub fn fmt(expression: impl AsRef<[u8]>) -> Result<String, Error> {
-    let page = over_one(sys::vx_fmt, expression.as_ref())?;
-    Ok(page.trim_end_matches('\n').to_owned())
+    let expression = expression.as_ref();
+    page!(vx_fmt, expression).map(without_end)
 }
 
-/// What the statistics of chunks of rows of the schema's type decide of the expression: of each chunk a
-/// line of JSON, an object of its `rows` and the `verdict`: `no row` where the expression is true in none,
-/// `every row`, or `to be read`. The statistics are a line of JSON for each chunk, too.
+/// What the statistics of chunks of rows of the schema's type decide of the expression, which has to be of
+/// truth values: of each chunk a line of JSON, an object of its `rows` and the `verdict`. That is `no row`
+/// where the expression is true in none, `every row`, or `to be read`. The statistics are a line of JSON for
+/// each chunk, too.
 ///
 /// ```
 /// let statistics = r#"{"rows": 3, "fields": {"x": {"nulls": 1, "least": 1, "greatest": 5}}}"#;
@@ -89,12 +99,9 @@ pub fn prune(
     schema: impl AsRef<[u8]>,
     statistics: impl AsRef<[u8]>,
 ) -> Result<String, Error> {
-    over_three(
-        sys::vx_prune,
-        expression.as_ref(),
-        schema.as_ref(),
-        statistics.as_ref(),
-    )
+    let (expression, schema) = (expression.as_ref(), schema.as_ref());
+    let statistics = statistics.as_ref();
+    page!(vx_prune, expression, schema, statistics)
 }
 
 /// What the expression means at each record, as a line of JSON each. The records are lines of JSON of the
@@ -109,81 +116,22 @@ pub fn eval_json(
     schema: impl AsRef<[u8]>,
     records: impl AsRef<[u8]>,
 ) -> Result<String, Error> {
-    over_three(
-        sys::vx_eval_json,
-        expression.as_ref(),
-        schema.as_ref(),
-        records.as_ref(),
-    )
+    let (expression, schema) = (expression.as_ref(), schema.as_ref());
+    let records = records.as_ref();
+    page!(vx_eval_json, expression, schema, records)
 }
 
 /// The version of the library.
 ///
 /// # Errors
 ///
-/// None but want of memory.
+/// `OutOfMemory` alone.
 pub fn version() -> Result<String, Error> {
-    // SAFETY: `answered` hands over a buffer and an answer that are written for the call alone.
-    let page = answered(|buffer, room, answer| unsafe { sys::vx_version(buffer, room, answer) })?;
-    Ok(page.trim_end_matches('\n').to_owned())
+    page!(vx_version).map(without_end)
 }
 
-fn over_one(call: Call1, text: &[u8]) -> Result<String, Error> {
-    // SAFETY: the text is read for the call alone, and as for `version`.
-    answered(|buffer, room, answer| unsafe { call(start(text), text.len(), buffer, room, answer) })
-}
-
-fn over_two(call: Call2, first: &[u8], second: &[u8]) -> Result<String, Error> {
-    // SAFETY: as for `over_one`.
-    answered(|buffer, room, answer| unsafe {
-        call(
-            start(first),
-            first.len(),
-            start(second),
-            second.len(),
-            buffer,
-            room,
-            answer,
-        )
-    })
-}
-
-fn over_three(call: Call3, first: &[u8], second: &[u8], third: &[u8]) -> Result<String, Error> {
-    // SAFETY: as for `over_one`.
-    answered(|buffer, room, answer| unsafe {
-        call(
-            start(first),
-            first.len(),
-            start(second),
-            second.len(),
-            start(third),
-            third.len(),
-            buffer,
-            room,
-            answer,
-        )
-    })
-}
-
-fn start(text: &[u8]) -> *const c_char {
-    text.as_ptr().cast()
-}
-
-/// Calls with a buffer, and once more with a longer one where the first is too small.
-fn answered(call: impl Fn(*mut c_char, usize, *mut VxAnswer) -> u32) -> Result<String, Error> {
-    let mut buffer = vec![0u8; 1024];
-    loop {
-        let mut answer = VxAnswer::default();
-        let status = call(buffer.as_mut_ptr().cast(), buffer.len(), &mut answer);
-        if status == sys::TOO_SMALL {
-            buffer.resize(answer.needed, 0);
-            continue;
-        }
-        buffer.truncate(answer.needed);
-        let text = String::from_utf8_lossy(&buffer).into_owned();
-        return match status {
-            sys::ANSWERED => Ok(text),
-            status => Err(Error::of(status, text, &answer.place)),
-        };
-    }
+/// The line without its end.
+fn without_end(mut line: String) -> String {
+    line.truncate(line.trim_end_matches('\n').len());
+    line
 }

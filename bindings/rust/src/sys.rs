@@ -1,6 +1,6 @@
 //! The calls of `include/vx.h`.
 
-use std::os::raw::c_char;
+use std::os::raw::{c_char, c_void};
 
 #[repr(C)]
 #[derive(Clone, Copy, Default)]
@@ -20,36 +20,37 @@ pub struct VxAnswer {
     pub place: VxPlace,
 }
 
+/// A plan, or none where the pointer is null.
+#[repr(C)]
+#[derive(Debug)]
+pub struct VxPlan {
+    pub at: *mut c_void,
+}
+
+/// Bytes that are lent.
+#[repr(C)]
+pub struct VxBuffer {
+    pub bytes: *const c_void,
+    pub length: usize,
+}
+
+impl VxBuffer {
+    /// The bytes, for as long as they are there.
+    pub fn of(bytes: &[u8]) -> VxBuffer {
+        VxBuffer {
+            bytes: bytes.as_ptr().cast(),
+            length: bytes.len(),
+        }
+    }
+}
+
 pub const ANSWERED: u32 = 0;
 pub const TOO_SMALL: u32 = 1;
 pub const OUT_OF_MEMORY: u32 = 2;
 pub const UNREAD: u32 = 3;
 pub const REFUSED: u32 = 4;
 pub const FAULTED: u32 = 5;
-
-/// A call that is given one text, two or three.
-pub type Call1 =
-    unsafe extern "C" fn(*const c_char, usize, *mut c_char, usize, *mut VxAnswer) -> u32;
-pub type Call2 = unsafe extern "C" fn(
-    *const c_char,
-    usize,
-    *const c_char,
-    usize,
-    *mut c_char,
-    usize,
-    *mut VxAnswer,
-) -> u32;
-pub type Call3 = unsafe extern "C" fn(
-    *const c_char,
-    usize,
-    *const c_char,
-    usize,
-    *const c_char,
-    usize,
-    *mut c_char,
-    usize,
-    *mut VxAnswer,
-) -> u32;
+pub const BAD_DATA: u32 = 6;
 
 extern "C" {
     pub fn vx_check(
@@ -109,4 +110,30 @@ extern "C" {
         answer: *mut VxAnswer,
     ) -> u32;
     pub fn vx_version(buffer: *mut c_char, buffer_length: usize, answer: *mut VxAnswer) -> u32;
+    pub fn vx_plan_new(
+        expression: *const c_char,
+        expression_length: usize,
+        schema: *const c_char,
+        schema_length: usize,
+        plan: *mut VxPlan,
+        buffer: *mut c_char,
+        buffer_length: usize,
+        answer: *mut VxAnswer,
+    ) -> u32;
+    pub fn vx_plan_paths(
+        plan: *mut VxPlan,
+        buffer: *mut c_char,
+        buffer_length: usize,
+        answer: *mut VxAnswer,
+    ) -> u32;
+    pub fn vx_plan_scan(
+        plan: *mut VxPlan,
+        rows: usize,
+        buffers: *const VxBuffer,
+        buffers_length: usize,
+        buffer: *mut c_char,
+        buffer_length: usize,
+        answer: *mut VxAnswer,
+    ) -> u32;
+    pub fn vx_plan_free(plan: *mut VxPlan) -> u32;
 }

@@ -33,18 +33,18 @@ fn stops_tell_their_place() {
         text: Text::Expression,
         start: 10,
         end: 15,
-        line: 1,
-        column: 11,
-        record: 0,
+        line: Some(1),
+        column: Some(11),
+        record: None,
     };
     assert_eq!(refused.place(), Some(place));
     assert!(refused.to_string().contains("1 | x > 1 and x + s = 2\n"));
     let faulted = vx::eval_json("x + 1", X, "{\"x\": 2147483647}").unwrap_err();
     assert_eq!(faulted.kind(), Kind::Faulted);
-    assert_eq!(faulted.place().map(|place| place.record), Some(1));
+    assert_eq!(faulted.place().and_then(|place| place.record), Some(1));
     let bad = vx::eval_json("x", X, "{\"x\": 1}\n{\"x\": ").unwrap_err();
     assert_eq!(bad.kind(), Kind::BadData);
-    assert_eq!(bad.place().map(|place| place.line), Some(2));
+    assert_eq!(bad.place().and_then(|place| place.line), Some(2));
 }
 
 #[test]

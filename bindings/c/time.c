@@ -1,0 +1,89 @@
+/* The time of plans. */
+#define _POSIX_C_SOURCE 199309L
+
+#include "test.h"
+
+#include <stdio.h>
+#include <string.h>
+#include <time.h>
+
+#define FILTER                                                                  \
+    "a >= 1 and a < 100 and b = 7 and c like \"t%\" and d is not null and "     \
+    "e.x > 5i64 and e.y <= 9i64 and f != \"no\" and not g and h between 1 and 3"
+#define SCHEMA "{a=i32, b=i32?, c=utf8, d=utf8?, e={x=i64, y=i64}?, f=utf8, g=bool, h=i32}"
+
+enum { ROWS = 1000 };
+
+/* The columns of a batch: numbers from 0 on, bits, and texts of four letters. */
+static int32_t small[ROWS], offsets[ROWS + 1];
+static int64_t large[ROWS];
+static unsigned char bits[(ROWS + 7) / 8];
+static char letters[4 * ROWS];
+
+static void fill_columns(void)
+{
+    for (int i = 0; i < ROWS; i++) {
+        small[i] = i % 20;
+        large[i] = i % 20;
+        offsets[i + 1] = 4 * (i + 1);
+        memcpy(letters + 4 * i, i % 3 ? "text" : "word", 4);
+    }
+    memset(bits, 0x6d, sizeof bits);
+}
+
+static double microseconds(void)
+{
+    struct timespec now;
+    clock_gettime(CLOCK_PROCESS_CPUTIME_ID, &now);
+    return (double)now.tv_sec * 1e6 + (double)now.tv_nsec / 1e3;
+}
+
+static bool is_planned(size_t times, char *page, size_t room)
+{
+    vx_answer answer = {0};
+    double from = microseconds();
+    for (size_t i = 0; i < times; i++)
+        if (vx_plan_json(FILTER, strlen(FILTER), SCHEMA, strlen(SCHEMA), page, room, &answer) != VX_ANSWERED)
+            return false;
+    printf("vx_plan_json of ten conjuncts: %.1f microseconds, %zu bytes\n",
+           (microseconds() - from) / (double)times, answer.needed);
+    return true;
+}
+
+/* Whether the plan is made and scans so often. */
+static bool is_scanned(size_t times, vx_plan *plan, char *page, size_t room)
+{
+#define NO_NULLS {NULL, 0}
+#define ALL(column) {column, sizeof column}
+#define TEXTS ALL(offsets), ALL(letters)
+    const vx_buffer batch[] = {
+        NO_NULLS,                                                   /* the rows */
+        NO_NULLS, ALL(small), ALL(bits), ALL(small),                /* a, b */
+        NO_NULLS, TEXTS, ALL(bits), TEXTS,                          /* c, d */
+        ALL(bits), NO_NULLS, ALL(large), NO_NULLS, ALL(large),      /* e */
+        NO_NULLS, TEXTS, NO_NULLS, ALL(bits), NO_NULLS, ALL(small), /* f, g, h */
+    };
+    vx_answer answer = {0};
+    double from = microseconds();
+    for (size_t i = 0; i < times; i++)
+        if (vx_plan_new(FILTER, strlen(FILTER), SCHEMA, strlen(SCHEMA), plan, page, room, &answer) != VX_ANSWERED)
+            return false;
+    printf("vx_plan_new of the same: %.1f microseconds\n", (microseconds() - from) / (double)times);
+    from = microseconds();
+    for (size_t i = 0; i < times; i++)
+        if (vx_plan_scan(plan, ROWS, batch, sizeof batch / sizeof batch[0], page, room, &answer) != VX_ANSWERED)
+            return false;
+    printf("vx_plan_scan of %d rows by it: %.1f microseconds, %zu bytes\n", ROWS,
+           (microseconds() - from) / (double)times, answer.needed);
+    return true;
+}
+
+int timed(size_t times)
+{
+    static char page[65536];
+    vx_plan plan = VX_PLAN_INIT;
+    fill_columns();
+    bool is_done = is_planned(times, page, sizeof page) && is_scanned(times, &plan, page, sizeof page);
+    vx_plan_free(&plan);
+    return is_done ? 0 : 1;
+}

@@ -1,0 +1,174 @@
+"""Tests of plans that are kept, and of the batches that they are given."""
+
+import gc
+import pathlib
+import sys
+import threading
+import unittest
+
+sys.path.insert(0, str(pathlib.Path(__file__).parents[1]))
+
+import vx  # noqa: E402
+from vx._batches import bits_from, bits_of, buffers_of  # noqa: E402
+from vx._library import call  # noqa: E402
+from vx._types import type_of, values_of  # noqa: E402
+
+X = "{x=i32}"
+EXPRESSIONS = pathlib.Path(__file__).parents[2] / "tests/expressions.tsv"
+
+
+class Buffers(unittest.TestCase):
+    def test_bits(self):
+        flags = [number % 3 == 0 for number in range(29)]
+        for start in range(len(flags)):
+            for end in range(start, len(flags) + 1):
+                self.assertEqual(bits_from(bits_of(flags), start, end - start), bits_of(flags[start:end]))
+
+    def test_layouts(self):
+        for dtype, rows, wanted in [
+            ("bool", [True, False, True], [b"", b"\5"]),
+            ("bool?", [None, True], [b"\2", b"\2"]),
+            ("i16", [-1, 256], [b"", b"\xff\xff\0\1"]),
+            ("u64", [2**64 - 1], [b"", b"\xff" * 8]),
+            ("utf8?", ["a", None, "ä"], [b"\5", b"\0\0\0\0\1\0\0\0\1\0\0\0\3\0\0\0", b"a\xc3\xa4"]),
+            ("binary", [bytearray(b"\1")], [b"", b"\0\0\0\0\1\0\0\0", b"\1"]),
+            ("list(i8?)?", [[1, None], None], [b"\1", b"\0\0\0\0\2\0\0\0\2\0\0\0", b"\1", b"\1\0"]),
+            ("fixed_size_list(i8)[2]?", [None, (1, 2)], [b"\2", b"", b"\0\0\1\2"]),
+            ("{a={b=i8, c=i8?}?, d=bool}", [{"d": True}], [b"", b"\0", b"", b"\0", b"\0", b"\0", b"", b"\1"]),
+            ("{}", [{}, {}], [b""]),
+            ("utf8", [], [b"", b"\0\0\0\0", b""]),
+        ]:
+            with self.subTest(dtype):
+                self.assertEqual(buffers_of(rows, type_of(dtype)), wanted)
+
+    def test_rows_of_another_type(self):
+        for dtype, rows, record in [
+            ("bool", [True, 1], 2),
+            ("i8", [127, 128], 2),
+            ("u8", [-1], 1),
+            ("i32", [True], 1),
+            ("i32", [1.0], 1),
+            ("i32", [None], 1),
+            ("utf8", ["a", b"a"], 2),
+            ("binary", ["a"], 1),
+            ("list(i8)", [[1], [2, 300]], 2),
+            ("list(i8)", ["a"], 1),
+            ("fixed_size_list(i8)[2]", [[1]], 1),
+            ("{x=i32}", [{"x": 1}, {}], 2),
+            ("{x=i32}", [{"x": 1, "y": 2}], 1),
+            ("{x=i32}", ["x"], 1),
+            ("{a={b=list(i8)}?}", [{}, {}, {"a": {"b": [1, None]}}], 3),
+        ]:
+            with self.subTest(dtype, rows=rows), self.assertRaises(vx.DataError) as caught:
+                buffers_of(rows, type_of(dtype))
+            self.assertEqual((caught.exception.place.text, caught.exception.place.record), ("records", record))
+
+
+class Scans(unittest.TestCase):
+    def test_rows_and_columns(self):
+        with vx.Plan("x + 1", "{x=i32?}") as plan:
+            self.assertEqual((plan.paths, plan.type), ([("x",)], "i32?"))
+            self.assertEqual(plan.scan([{"x": 1}, {"x": None}, {}]), [2, None, None])
+            self.assertEqual(plan.scan({"x": [1, -5]}), [2, -4])
+            self.assertEqual(plan.scan([]), [])
+            self.assertEqual(plan.scan({}), [])
+            with self.assertRaises(vx.DataError):
+                plan.scan([{"y": 1}])
+        with vx.Plan("$ + 1", "i32") as plan:
+            self.assertEqual(plan.scan([1, 2]), [2, 3])
+
+    def test_values_of_each_kind(self):
+        schema = "{a=binary?, b=list({c=utf8, d=bool?}), `e f`=u64, g=fixed_size_list(i8)[2]?}"
+        row = {"a": b"\x00\xff", "b": [{"c": "x\ny\u2028", "d": None}, {"c": "", "d": True}], "e f": 2**64 - 1}
+        rows = [{**row, "g": [1, -2]}, {**row, "a": None, "b": [], "g": None}]
+        with vx.Plan("$", schema) as plan:
+            self.assertEqual(plan.scan(rows), rows)
+            self.assertEqual(plan.paths, [()])
+
+    def test_many_batches(self):
+        with vx.Plan("x >= 5000", X) as plan:
+            found = [plan.scan({"x": range(start, start + 1000)}) for start in range(0, 20_000, 1000)]
+        self.assertEqual(sum(map(sum, found)), 15_000)
+
+    def test_stops(self):
+        with vx.Plan("0 + (x + 1)", X) as plan:
+            with self.assertRaises(vx.FaultError) as caught:
+                plan.scan({"x": [1, 2**31 - 1]})
+            place = caught.exception.place
+            self.assertEqual((place.text, place.start, place.end, place.record), ("expression", 4, 11, 2))
+            self.assertEqual(plan.scan({"x": [1]}), [2])
+        with vx.Plan("s", "{s=utf8}") as plan, self.assertRaises(vx.DataError) as caught:
+            plan.scan({"s": ["a", "\ud800"]})
+        self.assertEqual((caught.exception.place.text, caught.exception.place.record), ("records", 2))
+        unread, refused = vx.UnreadError, vx.RefusedError
+        for expression, schema, error in [("x +", X, unread), ("x", "{", unread), ("y", X, refused)]:
+            with self.subTest(expression, schema=schema), self.assertRaises(error):
+                vx.Plan(expression, schema)
+
+    def test_as_expressions_are_evaluated(self):
+        compared = 0
+        for line in EXPRESSIONS.read_text(encoding="utf-8").splitlines():
+            expression, schema, records, _ = line.replace("¶", "\n").split("\t")
+            try:
+                page = call("vx_eval_json", *(text.encode() for text in (expression, schema, records)))
+            except vx.VxError:
+                continue
+            lines = "".join(record + "\n" for record in records.split("\n") if record)
+            with self.subTest(expression, schema=schema), vx.Plan(expression, schema) as plan:
+                rows = values_of(lines, type_of(vx.check("$", schema)))
+                self.assertEqual(plan.scan(rows), values_of(page, type_of(plan.type)))
+                compared += 1
+        self.assertGreater(compared, 50)
+
+
+class Lives(unittest.TestCase):
+    def test_closed(self):
+        plan = vx.Plan("x", X)
+        plan.close()
+        plan.close()
+        with self.assertRaises(vx.NoPlanError) as caught:
+            plan.scan([])
+        self.assertIsNone(caught.exception.place)
+        with plan:
+            pass
+
+    def test_let_go_of(self):
+        for _ in range(100):
+            vx.Plan("x", X)
+        gc.collect()
+
+    def test_other_threads(self):
+        raised = []
+
+        def use(work):
+            try:
+                work()
+            except RuntimeError as error:
+                raised.append(error)
+
+        plan = vx.Plan("x", X)
+        for work in (lambda: plan.scan([]), plan.close):
+            thread = threading.Thread(target=use, args=[work])
+            thread.start()
+            thread.join()
+        self.assertEqual(len(raised), 2)
+        self.assertEqual(plan.scan([{"x": 1}]), [1])
+        plan.close()
+
+    def test_threads_of_their_own(self):
+        found = []
+
+        def work(number):
+            with vx.Plan(f"x + {number}", X) as plan:
+                found.append(all(plan.scan({"x": [turn]}) == [turn + number] for turn in range(200)))
+
+        threads = [threading.Thread(target=work, args=[number]) for number in range(8)]
+        for thread in threads:
+            thread.start()
+        for thread in threads:
+            thread.join()
+        self.assertEqual(found, [True] * 8)
+
+
+if __name__ == "__main__":
+    unittest.main()

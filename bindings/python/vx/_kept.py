@@ -1,0 +1,96 @@
+"""Plans that are kept."""
+
+from __future__ import annotations
+
+import json
+import threading
+import weakref
+from typing import Any, List, Tuple
+
+from . import _arrow
+from ._batches import buffers_of
+from ._calls import Rows, check, encoded, rows_of
+from ._library import Handle, free_plan, make_plan, plan_paths, scan_plan
+from ._plans import paths_of
+from ._types import type_of, values_of
+
+
+class Plan:
+    """A plan of scans by the expression over batches of rows of that type, made once for all of them.
+
+    >>> import vx
+    >>> with vx.Plan("x + 1", "{x=i32?, s=utf8}") as plan:
+    ...     plan.paths
+    ...     plan.scan({"x": [1, None], "s": ["a", "b"]})
+    ...     plan.scan([{"x": 5, "s": "c"}])
+    [('x',)]
+    [2, None]
+    [6]
+
+    Raises as :func:`check` does.
+
+    A plan stays on the thread that made it: what another thread asks of it is a ``RuntimeError``. It is freed
+    by :meth:`close`, by the end of a ``with`` block, or with the last reference to it if its own thread drops
+    that; where another thread does, its memory is lost.
+    """
+
+    paths: List[Tuple[str, ...]]
+    """The paths of the fields that are read; the empty one is the whole row."""
+    type: str
+    """The type of the expression."""
+
+    def __init__(self, expression: str, schema: str) -> None:
+        self._thread = threading.current_thread()
+        self._handle = Handle()
+        self._freed = weakref.finalize(self, _free, self._handle, self._thread)
+        make_plan(self._handle, encoded(expression), encoded(schema))
+        self.paths = paths_of(json.loads(plan_paths(self._handle)))
+        self.type = check(expression, schema)
+        self._scope = type_of(check("$", schema))
+
+    def scan(self, batch: Rows) -> Any:
+        """What the expression means at each row of the batch.
+
+        >>> import vx
+        >>> with vx.Plan("x > 5", "{x=i32}") as plan:
+        ...     plan.scan([{"x": 1}, {"x": 7}])
+        [False, True]
+
+        The batch is a list of rows, a dict of columns, or an Arrow table, record batch or array; of the first
+        two a list is answered, and of Arrow's an array. A column that is left out is null in each row.
+
+        Raises :class:`DataError` for a row that isn't of the plan's type, :class:`FaultError` where the
+        expression faults, and :class:`NoPlanError` for a plan that is closed. The ``record`` of the
+        ``place`` says at which row, from 1 on.
+        """
+        self._check_thread()
+        is_arrow = _arrow.is_batch(batch)
+        if is_arrow:
+            count, buffers = _arrow.batch_of(batch, self._scope)
+        else:
+            rows = rows_of(batch)
+            count, buffers = len(rows), buffers_of(rows, self._scope)
+        dtype = type_of(self.type)
+        values = values_of(scan_plan(self._handle, count, buffers), dtype)
+        return _arrow.array_of(values, dtype) if is_arrow else values
+
+    def close(self) -> None:
+        """Frees the plan. What is closed already stays so."""
+        self._check_thread()
+        self._freed()
+
+    def __enter__(self) -> Plan:
+        return self
+
+    def __exit__(self, *_raised: object) -> None:
+        self.close()
+
+    def _check_thread(self) -> None:
+        if threading.current_thread() is not self._thread:
+            raise RuntimeError("a plan stays on the thread that made it")
+
+
+def _free(handle: Handle, thread: threading.Thread) -> None:
+    """Frees the plan on its own thread; another one mustn't."""
+    if threading.current_thread() is thread:
+        free_plan(handle)

@@ -1,0 +1,87 @@
+//! Plans that are kept.
+
+use vx::{Error, Kind, Plan, Text};
+
+const X: &str = "{x=i32}";
+
+/// The buffers of rows of [`X`].
+fn numbers(values: impl IntoIterator<Item = i32>) -> Vec<u8> {
+    values.into_iter().flat_map(i32::to_le_bytes).collect()
+}
+
+#[test]
+fn a_plan_scans_many_batches() -> Result<(), Error> {
+    let mut plan = Plan::new("x + 1", X)?;
+    assert_eq!(plan.paths()?, "[[\"x\"]]\n");
+    for rows in 0..100 {
+        let wanted: String = (1..=rows).map(|x| format!("{x}\n")).collect();
+        let values = numbers(0..rows);
+        assert_eq!(plan.scan(values.len() / 4, &[&[], &[], &values])?, wanted);
+    }
+    Ok(())
+}
+
+#[test]
+fn long_answers_are_whole() -> Result<(), Error> {
+    let mut plan = Plan::new("\"a text that is longer than a number\"", "i32")?;
+    let page = plan.scan(10_000, &[&[], &numbers(0..10_000)])?;
+    assert_eq!(
+        page,
+        "\"a text that is longer than a number\"\n".repeat(10_000)
+    );
+    Ok(())
+}
+
+#[test]
+fn batches_of_nested_types_are_read() -> Result<(), Error> {
+    let mut plan = Plan::new("$", "{l=list(utf8?)?, b=bool}")?;
+    let texts = [
+        &b"\x05"[..],
+        b"\0\0\0\0\x01\0\0\0\x01\0\0\0\x02\0\0\0",
+        b"ab",
+    ];
+    let lists = [&b"\x01"[..], b"\0\0\0\0\x03\0\0\0\x03\0\0\0"];
+    let bools = [&b""[..], b"\x02"];
+    let batch = [&[&b""[..]][..], &lists, &texts, &bools].concat();
+    let wanted = "{\"l\":[\"a\",null,\"b\"],\"b\":false}\n{\"l\":null,\"b\":true}\n";
+    assert_eq!(plan.scan(2, &batch)?, wanted);
+    Ok(())
+}
+
+#[test]
+fn two_plans_stand_side_by_side() -> Result<(), Error> {
+    let mut more = Plan::new("x + 1", X)?;
+    let mut less = Plan::new("x < 5", X)?;
+    let values = numbers([1, 7]);
+    for _ in 0..10 {
+        assert_eq!(more.scan(2, &[&[], &[], &values])?, "2\n8\n");
+        assert_eq!(less.scan(2, &[&[], &[], &values])?, "true\nfalse\n");
+    }
+    drop(more);
+    assert_eq!(less.scan(1, &[&[], &[], &values])?, "true\n");
+    Ok(())
+}
+
+#[test]
+fn stops_tell_their_place() -> Result<(), Error> {
+    assert_eq!(Plan::new("x +", X).unwrap_err().kind(), Kind::Unread);
+    assert_eq!(Plan::new(b"x\xff", X).unwrap_err().kind(), Kind::Unread);
+    let refused = Plan::new("y", X).unwrap_err();
+    assert_eq!(refused.kind(), Kind::Refused);
+    assert_eq!(refused.place().map(|place| place.end), Some(1));
+    let mut plan = Plan::new("x + 1", X)?;
+    let faulted = plan
+        .scan(2, &[&[], &[], &numbers([1, i32::MAX])])
+        .unwrap_err();
+    assert_eq!(faulted.kind(), Kind::Faulted);
+    assert_eq!(faulted.place().and_then(|place| place.record), Some(2));
+    let null = plan.scan(2, &[&[], &[1], &numbers([1, 2])]).unwrap_err();
+    assert_eq!(null.kind(), Kind::BadData);
+    let place = null.place().expect("a place");
+    assert_eq!((place.text, place.record), (Text::Records, Some(2)));
+    let short = plan.scan(2, &[&[], &[], &numbers([1])]).unwrap_err();
+    assert_eq!(short.kind(), Kind::BadData);
+    assert_eq!(short.place().and_then(|place| place.record), None);
+    assert_eq!(plan.scan(1, &[&[], &[], &numbers([1])])?, "2\n");
+    Ok(())
+}
