@@ -9,7 +9,7 @@ import unittest
 sys.path.insert(0, str(pathlib.Path(__file__).parents[1]))
 
 import vx  # noqa: E402
-from vx._batches import bits_from, bits_of, buffers_of  # noqa: E402
+from vx._batches import batch_of, bits_from, bits_of  # noqa: E402
 from vx._library import call  # noqa: E402
 from vx._types import type_of, values_of  # noqa: E402
 
@@ -39,7 +39,7 @@ class Buffers(unittest.TestCase):
             ("utf8", [], [b"", b"\0\0\0\0", b""]),
         ]:
             with self.subTest(dtype):
-                self.assertEqual(buffers_of(rows, type_of(dtype)), wanted)
+                self.assertEqual(batch_of(rows, type_of(dtype)), (len(rows), wanted))
 
     def test_rows_of_another_type(self):
         for dtype, rows, record in [
@@ -60,7 +60,26 @@ class Buffers(unittest.TestCase):
             ("{a={b=list(i8)}?}", [{}, {}, {"a": {"b": [1, None]}}], 3),
         ]:
             with self.subTest(dtype, rows=rows), self.assertRaises(vx.DataError) as caught:
-                buffers_of(rows, type_of(dtype))
+                batch_of(rows, type_of(dtype))
+            self.assertEqual((caught.exception.place.text, caught.exception.place.record), ("records", record))
+
+    def test_columns(self):
+        dtype = type_of("{x=i8, s=utf8?}")
+        columns = {"s": ["a", None], "x": (1, 2)}
+        rows = [{"s": "a", "x": 1}, {"x": 2}]
+        self.assertEqual(batch_of(columns, dtype), batch_of(rows, dtype))
+        self.assertEqual(batch_of({"x": [1]}, dtype), batch_of([{"x": 1}], dtype))
+        self.assertEqual(batch_of({}, dtype), batch_of([], dtype))
+        with self.assertRaises(ValueError):
+            batch_of({"x": [1], "s": []}, dtype)
+        for columns, schema, record in [
+            ({"x": [1, 300]}, "{x=i8}", 2),
+            ({"x": [1]}, "{x=i8, s=utf8}", 1),
+            ({"x": [1], "y": [1]}, "{x=i8}", None),
+            ({"x": [1]}, "i8", None),
+        ]:
+            with self.subTest(columns, schema=schema), self.assertRaises(vx.DataError) as caught:
+                batch_of(columns, type_of(schema))
             self.assertEqual((caught.exception.place.text, caught.exception.place.record), ("records", record))
 
 

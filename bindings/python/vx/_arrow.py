@@ -6,6 +6,7 @@ from typing import Any, Dict, Iterator, List, Mapping, Tuple
 
 from ._batches import bits_from, number_size
 from ._errors import DataError, Place
+from ._library import Lent
 from ._types import Type
 
 try:
@@ -76,7 +77,7 @@ def _arrow_type(dtype: Type) -> Any:
     return getattr(pyarrow, word + dtype.kind[1:])()
 
 
-def batch_of(batch: Any, dtype: Type) -> Tuple[int, List[bytes]]:
+def batch_of(batch: Any, dtype: Type) -> Tuple[int, List[Lent]]:
     """How many rows there are, and their buffers, depth first: without the offsets of slices, in one chunk,
     and with the fields in the order of the type's. A field that isn't there is null in each row."""
     if isinstance(batch, pyarrow.ChunkedArray):
@@ -94,7 +95,7 @@ def _one_chunk(array: Any) -> Any:
     return pyarrow.concat_arrays(array.chunks) if array.num_chunks else pyarrow.array([], array.type)
 
 
-def _fields(columns: Mapping[str, Any], rows: int, dtype: Type) -> Iterator[bytes]:
+def _fields(columns: Mapping[str, Any], rows: int, dtype: Type) -> Iterator[Lent]:
     """The buffers of the fields of a struct type, of these columns."""
     unknown = set(columns).difference(name for name, _ in dtype.fields)
     if dtype.kind != "struct" or unknown:
@@ -104,7 +105,7 @@ def _fields(columns: Mapping[str, Any], rows: int, dtype: Type) -> Iterator[byte
         yield from _buffers(pyarrow.nulls(rows, _arrow_type(inner)) if column is None else _one_chunk(column), inner)
 
 
-def _buffers(array: Any, dtype: Type) -> Iterator[bytes]:
+def _buffers(array: Any, dtype: Type) -> Iterator[Lent]:
     """The buffers of the array, depth first."""
     array = _plain(array, dtype)
     rows, start, buffers = len(array), array.offset, array.buffers()
@@ -119,14 +120,14 @@ def _buffers(array: Any, dtype: Type) -> Iterator[bytes]:
     elif dtype.kind == "bool":
         yield _bits(buffers[1], start, rows)
     elif dtype.kind in ("utf8", "binary"):
-        yield _bytes(buffers[1], 4 * start, 4 * (rows + 1))
-        yield _bytes(buffers[2], 0, buffers[2].size if buffers[2] else 0)
+        yield _part(buffers[1], 4 * start, 4 * (rows + 1))
+        yield buffers[2] or b""
     else:
         size = number_size(dtype.kind)
-        yield _bytes(buffers[1], size * start, size * rows)
+        yield _part(buffers[1], size * start, size * rows)
 
 
-def _items_of_lists(array: Any, item: Type) -> Iterator[bytes]:
+def _items_of_lists(array: Any, item: Type) -> Iterator[Lent]:
     """The offsets of lists, from 0 on, and the buffers of the items between them."""
     if len(array) == 0:
         yield b""
@@ -135,7 +136,7 @@ def _items_of_lists(array: Any, item: Type) -> Iterator[bytes]:
     offsets = array.offsets
     first, last = offsets[0].as_py(), offsets[-1].as_py()
     from_0 = pyarrow.compute.subtract(offsets, offsets[0]).cast(pyarrow.int32())
-    yield _bytes(from_0.buffers()[1], 4 * from_0.offset, 4 * len(from_0))
+    yield _part(from_0.buffers()[1], 4 * from_0.offset, 4 * len(from_0))
     yield from _buffers(array.values.slice(first, last - first), item)
 
 
@@ -153,8 +154,9 @@ def _bits(buffer: Any, start: int, length: int) -> bytes:
     return b"" if buffer is None else bits_from(buffer, start, length)
 
 
-def _bytes(buffer: Any, start: int, length: int) -> bytes:
-    return b"" if buffer is None else bytes(memoryview(buffer)[start : start + length])
+def _part(buffer: Any, start: int, length: int) -> Lent:
+    """So many bytes of the buffer, which aren't copied."""
+    return b"" if buffer is None else buffer.slice(start, min(length, buffer.size - start))
 
 
 def _refused(expected: str) -> DataError:

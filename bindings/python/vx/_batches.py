@@ -5,7 +5,7 @@ from __future__ import annotations
 import dataclasses
 import itertools
 import struct
-from typing import Any, Iterator, List, Mapping, Sequence, Tuple
+from typing import Any, Callable, Iterator, List, Mapping, Sequence, Tuple
 
 from ._errors import DataError, Place
 from ._types import Type
@@ -62,14 +62,38 @@ def offsets_of(lengths: Sequence[int]) -> bytes:
     return struct.pack(f"<{len(offsets)}i", *offsets)
 
 
-def buffers_of(rows: Sequence[Any], dtype: Type) -> List[bytes]:
-    """The buffers of rows of that type, depth first. Raises :class:`DataError` for a row that isn't of it.
+def count_of(columns: Mapping[str, Sequence[Any]]) -> int:
+    """How many rows the columns have, which have to be of one length.
+
+    >>> count_of({"x": [1, 5], "s": ["a", "b"]})
+    2
+    """
+    lengths = {len(column) for column in columns.values()} or {0}
+    if len(lengths) > 1:
+        raise ValueError("the columns are of different lengths")
+    return lengths.pop()
+
+
+def batch_of(rows: Any, dtype: Type) -> Tuple[int, List[bytes]]:
+    """How many rows there are, of a list of them or a dict of columns, and their buffers, depth first. Raises
+    :class:`DataError` for a row that isn't of the type.
 
     >>> from vx._types import type_of
-    >>> buffers_of([{"x": 1}, {"x": None}], type_of("{x=i16?}"))
-    [b'', b'\\x01', b'\\x01\\x00\\x00\\x00']
+    >>> batch_of([{"x": 1}, {"x": None}], type_of("{x=i16?}"))
+    (2, [b'', b'\\x01', b'\\x01\\x00\\x00\\x00'])
+    >>> batch_of({"x": [1, None]}, type_of("{x=i16?}"))
+    (2, [b'', b'\\x01', b'\\x01\\x00\\x00\\x00'])
     """
-    return list(_Column(dtype, list(rows), range(1, len(rows) + 1)).buffers())
+    if not isinstance(rows, Mapping):
+        values = list(rows)
+        return len(values), list(_Column(dtype, values, range(1, len(values) + 1)).buffers())
+    count = count_of(rows)
+    unknown = sorted(set(rows).difference(name for name, _ in dtype.fields))
+    if dtype.kind != "struct" or unknown:
+        raise DataError(f"error: records: expected columns of the type {dtype}", Place.of_row(None))
+    fields = [(name, inner, rows.get(name, [None] * count)) for name, inner in dtype.fields]
+    columns = [_Column(inner, values, range(1, count + 1), (name,)) for name, inner, values in fields]
+    return count, [b"", *(buffer for column in columns for buffer in column.buffers())]
 
 
 def _filler(dtype: Type) -> Any:
@@ -83,24 +107,21 @@ def _filler(dtype: Type) -> Any:
     return {"bool": False, "utf8": "", "binary": b"", "list": []}.get(dtype.kind, 0)
 
 
-def _is_of(value: Any, dtype: Type) -> bool:
-    """Whether the value is of the kind, whatever is inside it."""
+def _test_of(dtype: Type) -> Callable[[Any], bool]:
+    """Whether a value is of the kind, whatever is inside it."""
     kind = dtype.kind
-    if kind == "bool":
-        return isinstance(value, bool)
     if kind in _NUMBERS:
         bits = 8 * number_size(kind)
-        least = 0 if kind[0] == "u" else -(1 << (bits - 1))
-        return isinstance(value, int) and not isinstance(value, bool) and least <= value < least + (1 << bits)
-    if kind == "utf8":
-        return isinstance(value, str)
-    if kind == "binary":
-        return isinstance(value, (bytes, bytearray, memoryview))
+        least = -(1 << bits - 1) if kind[0] == "i" else 0
+        most = least + (1 << bits) - 1
+        return lambda value: isinstance(value, int) and not isinstance(value, bool) and least <= value <= most
     if kind == "struct":
         names = {name for name, _ in dtype.fields}
-        return isinstance(value, Mapping) and names.issuperset(value)
-    is_list = isinstance(value, (list, tuple))
-    return is_list and (kind == "list" or len(value) == dtype.length)
+        return lambda value: isinstance(value, Mapping) and names.issuperset(value)
+    if kind == "fixed_size_list":
+        return lambda value: isinstance(value, (list, tuple)) and len(value) == dtype.length
+    classes = {"bool": bool, "utf8": str, "binary": (bytes, bytearray, memoryview), "list": (list, tuple)}[kind]
+    return lambda value: isinstance(value, classes)
 
 
 @dataclasses.dataclass
@@ -115,12 +136,14 @@ class _Column:
     def buffers(self) -> Iterator[bytes]:
         """The buffers, depth first."""
         dtype, kind = self.dtype, self.dtype.kind
-        flags = [self._is_there(value, row) for value, row in zip(self.values, self.rows)]
-        yield b"" if all(flags) else bits_of(flags)
+        self._check()
         values = self.values
-        if not all(flags):
+        if any(value is None for value in values):
+            yield bits_of([value is not None for value in values])
             filler = _filler(dataclasses.replace(dtype, is_nullable=False))
-            values = [value if flag else filler for value, flag in zip(values, flags)]
+            values = [filler if value is None else value for value in values]
+        else:
+            yield b""
         if kind == "bool":
             yield bits_of(values)
         elif kind in _NUMBERS:
@@ -140,9 +163,11 @@ class _Column:
             yield offsets_of([len(text) for text in texts])
             yield b"".join(texts)
 
-    def _is_there(self, value: Any, row: int) -> bool:
-        """Whether the value isn't null. Raises where it isn't of the type."""
-        if self.dtype.is_nullable if value is None else _is_of(value, self.dtype):
-            return value is not None
-        at = f", at {'.'.join(self.path)}" if self.path else ""
-        raise DataError(f"error: records: row {row}{at}: expected a value of type {self.dtype}", Place.of_row(row))
+    def _check(self) -> None:
+        """Raises where a value isn't of the type, whatever is inside it."""
+        is_of = _test_of(self.dtype)
+        for value, row in zip(self.values, self.rows):
+            if not (self.dtype.is_nullable if value is None else is_of(value)):
+                at = f", at {'.'.join(self.path)}" if self.path else ""
+                message = f"error: records: row {row}{at}: expected a value of type {self.dtype}"
+                raise DataError(message, Place.of_row(row))

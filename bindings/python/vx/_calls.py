@@ -6,6 +6,7 @@ import json
 from typing import Any, Iterable, List, Mapping, Optional, Sequence, Union
 
 from . import _arrow
+from ._batches import count_of
 from ._library import call
 from ._plans import PlanDescription
 from ._statistics import Statistics, Verdict, to_lines, verdicts_of
@@ -125,7 +126,7 @@ def evaluate(expression: str, rows: Rows, schema: Optional[str] = None) -> Any:
         schema = str(_arrow.schema_of(rows))
     if schema is None:
         raise TypeError("the schema is left out, and no table says it")
-    found = rows.to_pylist() if is_table else rows_of(rows)
+    found = rows.to_pylist() if is_table else _rows_of(rows)
     lines = [json.dumps(to_json(row), ensure_ascii=False) + "\n" for row in found]
     page = call("vx_eval_json", encoded(expression), encoded(schema), encoded("".join(lines)))
     dtype = type_of(check(expression, schema))
@@ -133,14 +134,9 @@ def evaluate(expression: str, rows: Rows, schema: Optional[str] = None) -> Any:
     return _arrow.array_of(values, dtype) if is_table else values
 
 
-def rows_of(rows: Rows) -> List[Any]:
-    """The rows, also those of a dict of columns, which have to be of one length.
-
-    >>> rows_of({"x": [1, 5], "s": ["a", "b"]})
-    [{'x': 1, 's': 'a'}, {'x': 5, 's': 'b'}]
-    """
+def _rows_of(rows: Rows) -> List[Any]:
+    """The rows, also those of a dict of columns."""
     if not isinstance(rows, Mapping):
         return list(rows)
-    if len({len(column) for column in rows.values()}) > 1:
-        raise ValueError("the columns are of different lengths")
+    count_of(rows)
     return [dict(zip(rows, values)) for values in zip(*rows.values())]

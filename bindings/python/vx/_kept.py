@@ -8,8 +8,8 @@ import weakref
 from typing import Any, List, Tuple
 
 from . import _arrow
-from ._batches import buffers_of
-from ._calls import Rows, check, encoded, rows_of
+from ._batches import batch_of
+from ._calls import Rows, check, encoded
 from ._library import Handle, free_plan, make_plan, plan_paths, scan_plan
 from ._plans import paths_of
 from ._types import type_of, values_of
@@ -65,11 +65,7 @@ class Plan:
         """
         self._check_thread()
         is_arrow = _arrow.is_batch(batch)
-        if is_arrow:
-            count, buffers = _arrow.batch_of(batch, self._scope)
-        else:
-            rows = rows_of(batch)
-            count, buffers = len(rows), buffers_of(rows, self._scope)
+        count, buffers = (_arrow.batch_of if is_arrow else batch_of)(batch, self._scope)
         dtype = type_of(self.type)
         values = values_of(scan_plan(self._handle, count, buffers), dtype)
         return _arrow.array_of(values, dtype) if is_arrow else values

@@ -10,6 +10,9 @@ from typing import Any, Dict, List, Sequence, Tuple
 
 from ._errors import Place, error_of
 
+Lent = Any
+"""Bytes that are lent: `bytes`, or a buffer of pyarrow's."""
+
 _ANSWERED, _TOO_SMALL, _OUT_OF_MEMORY = 0, 1, 2
 _LEAST_ROOM = 1024
 
@@ -36,7 +39,7 @@ class _Answer(ctypes.Structure):
 class _Buffer(ctypes.Structure):
     """A `vx_buffer`."""
 
-    _fields_ = [("bytes", ctypes.c_char_p), ("length", ctypes.c_size_t)]
+    _fields_ = [("bytes", ctypes.c_void_p), ("length", ctypes.c_size_t)]
 
 
 class Handle(ctypes.Structure):
@@ -134,12 +137,17 @@ def plan_paths(handle: Handle) -> str:
     return _answered("vx_plan_paths", [ctypes.byref(handle)], _LEAST_ROOM)
 
 
-def scan_plan(handle: Handle, rows: int, buffers: Sequence[bytes]) -> str:
+def scan_plan(handle: Handle, rows: int, buffers: Sequence[Lent]) -> str:
     """What the plan means at the rows, as lines of JSON."""
-    lent = (_Buffer * len(buffers))(*((buffer, len(buffer)) for buffer in buffers))
+    lent = (_Buffer * len(buffers))(*((_address(buffer), len(buffer)) for buffer in buffers))
     # (enough for numbers)
     room = _LEAST_ROOM + 24 * rows
     return _answered("vx_plan_scan", [ctypes.byref(handle), rows, lent, len(buffers)], room)
+
+
+def _address(buffer: Lent) -> Any:
+    """Where the bytes lie, for as long as the buffer is there."""
+    return ctypes.cast(buffer, ctypes.c_void_p) if isinstance(buffer, bytes) else buffer.address
 
 
 def free_plan(handle: Handle) -> None:
