@@ -82,7 +82,7 @@ python_tests() {
 }
 
 rust_tests() {
-    (cd bindings/rust && cargo test -q --offline && cargo build -q --offline --examples)
+    (cd bindings/rust && cargo test -q --offline && cargo build -q --offline --lib --examples)
 }
 
 # What each of them answers of the expressions.
