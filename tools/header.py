@@ -17,7 +17,7 @@ from typing import Iterator
 
 TOP = pathlib.Path(__file__).resolve().parents[1]
 
-EXPORT = re.compile(r'#\[unsafe\(no_mangle\)\]\s+pub (?:unsafe )?extern "C" fn (\w+)\((.*?)\)\s*->\s*(\w+)', re.DOTALL)
+EXPORT = re.compile(r'#\[unsafe\(no_mangle\)\]\s+pub (?:unsafe )?extern "C" fn (\w+)\((.*?)\)(?:\s*->\s*(\w+))?', re.DOTALL)
 STRUCT = re.compile(
     r"#\[repr\(C\)\]\s+(?:#\[.*?\]\s+)*pub struct (\w+)(?:<.*?>)? \{\n(.*?)^\}", re.DOTALL | re.MULTILINE
 )
@@ -47,7 +47,7 @@ FIELDS = {
     "*mut ()": ["void *{}"],
     "&'a [u8]": ["const void *{}", "size_t length"],
 }
-RESULTS = {"u32": "vx_status"}
+RESULTS = {"": "void", "u32": "vx_status"}
 STRUCTS = {"Place": "vx_place", "Answer": "vx_answer", "PlanHandle": "vx_plan", "Buffer": "vx_buffer"}
 
 

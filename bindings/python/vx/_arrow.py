@@ -160,7 +160,7 @@ def _part(buffer: Any, start: int, length: int) -> Lent:
 
 
 def _refused(expected: str) -> DataError:
-    return DataError(f"error: records: expected {expected}", Place.of_row(None))
+    return DataError(f"error: batch: expected {expected}", Place.of_row(None))
 
 
 def array_of(values: List[Any], dtype: Type) -> Any:

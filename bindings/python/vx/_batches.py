@@ -58,7 +58,7 @@ def offsets_of(lengths: Sequence[int]) -> bytes:
     """
     offsets = list(itertools.accumulate(lengths, initial=0))
     if offsets[-1] > _MOST_BYTES:
-        raise DataError("error: records: expected texts and lists that end before 2147483648", Place.of_row(None))
+        raise DataError("error: batch: expected texts and lists that end before 2147483648", Place.of_row(None))
     return struct.pack(f"<{len(offsets)}i", *offsets)
 
 
@@ -90,7 +90,7 @@ def batch_of(rows: Any, dtype: Type) -> Tuple[int, List[bytes]]:
     count = count_of(rows)
     unknown = sorted(set(rows).difference(name for name, _ in dtype.fields))
     if dtype.kind != "struct" or unknown:
-        raise DataError(f"error: records: expected columns of the type {dtype}", Place.of_row(None))
+        raise DataError(f"error: batch: expected columns of the type {dtype}", Place.of_row(None))
     fields = [(name, inner, rows.get(name, [None] * count)) for name, inner in dtype.fields]
     columns = [_Column(inner, values, range(1, count + 1), (name,)) for name, inner, values in fields]
     return count, [b"", *(buffer for column in columns for buffer in column.buffers())]
@@ -169,5 +169,5 @@ class _Column:
         for value, row in zip(self.values, self.rows):
             if not (self.dtype.is_nullable if value is None else is_of(value)):
                 at = f", at {'.'.join(self.path)}" if self.path else ""
-                message = f"error: records: row {row}{at}: expected a value of type {self.dtype}"
+                message = f"error: batch: row {row}{at}: expected a value of type {self.dtype}"
                 raise DataError(message, Place.of_row(row))
