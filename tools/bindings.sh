@@ -70,7 +70,7 @@ library() {
 
 # The C program, in two builds; the header is C++, too.
 c_program() {
-    flags="-std=c11 -Wall -Wextra -Wpedantic -Werror -Iinclude"
+    flags="-std=c11 -Wall -Wextra -Wpedantic -Werror -Iinclude -Wl,--wrap=malloc,--wrap=realloc"
     gcc $flags -O2 -o "$out/test" bindings/c/*.c "$out/libvx.a" &&
         gcc $flags -O1 -g -fsanitize=address,undefined -fno-sanitize-recover=undefined \
             -o "$out/test_sanitized" bindings/c/*.c "$out/libvx.a" &&

@@ -125,6 +125,7 @@ int main(int argc, char **argv)
     if (argc == 1) {
         test_calls();
         test_plans();
+        test_refusals();
         return ended();
     }
     if (strcmp(work, "long") == 0 && argc == 2) {

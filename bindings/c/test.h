@@ -66,6 +66,7 @@ char *guarded_end(void);
 void test_calls(void);
 void test_long_texts(void);
 void test_plans(void);
+void test_refusals(void);
 int answers(const char *path);
 int fuzz(size_t count, uint64_t seed);
 int timed(size_t count);

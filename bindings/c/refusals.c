@@ -1,0 +1,153 @@
+/*
+ * Each request for memory of a call is refused in turn.
+ *
+ * The linker puts the two functions below in the place of malloc and realloc, by --wrap.
+ */
+#include "test.h"
+
+#include <stdlib.h>
+#include <string.h>
+
+/* How many requests there are up to the one that is refused, or 0 where none is. */
+static size_t until = 0;
+
+static bool is_refused(void)
+{
+    return until > 0 && --until == 0;
+}
+
+void *__real_malloc(size_t size);
+void *__real_realloc(void *bytes, size_t size);
+
+void *__wrap_malloc(size_t size)
+{
+    return is_refused() ? NULL : __real_malloc(size);
+}
+
+void *__wrap_realloc(void *bytes, size_t size)
+{
+    return is_refused() ? NULL : __real_realloc(bytes, size);
+}
+
+/* A call, over what it is given. */
+typedef vx_status Work(const void *given, char *buffer, size_t room, vx_answer *answer);
+
+enum { PAGE_ROOM = 16384 };
+
+/* The call ends as it did with memory for all, or with VX_OUT_OF_MEMORY, and takes some. */
+static void expect_refusals(Work *work, const void *given)
+{
+    static char whole[PAGE_ROOM], page[PAGE_ROOM];
+    vx_answer wanted, answer;
+    vx_status end = work(given, whole, sizeof whole, &wanted);
+    if (wanted.needed >= sizeof whole)
+        abort();
+    size_t refused = 0;
+    for (size_t turn = 1;; turn++) {
+        memset(page, '.', sizeof page);
+        until = turn;
+        vx_status status = work(given, page, sizeof page, &answer);
+        bool is_over = until > 0;
+        until = 0;
+        if (status == VX_OUT_OF_MEMORY) {
+            EXPECT(answer.needed == 0 && is_at(&answer, (vx_place){0}) && page[0] == '.');
+            refused++;
+        } else {
+            EXPECT(status == end && answer.needed == wanted.needed && is_at(&answer, wanted.place));
+            EXPECT(memcmp(page, whole, wanted.needed) == 0 && page[wanted.needed] == '.');
+        }
+        if (is_over)
+            break;
+    }
+    EXPECT(refused > 0);
+}
+
+/* --- the calls that are given texts --- */
+
+typedef struct {
+    Call call;
+    Given given;
+} TextCall;
+
+static vx_status call_of_texts(const void *given, char *buffer, size_t room, vx_answer *answer)
+{
+    const TextCall *it = given;
+    return called(it->call, &it->given, buffer, room, answer);
+}
+
+static void test_calls_of_texts(void)
+{
+    static const char *const GIVEN[][4] = {
+        {"x + 1 > 5 and s like \"t%\"", "{x=i32?, s=utf8}", "{\"x\": 1, \"s\": \"t\"}",
+         "{\"rows\": 3, \"fields\": {\"x\": {\"nulls\": 1, \"greatest\": 5}}}"},
+        {"x +", "{x=i32}", "", ""},
+        {"x", "{x=i33}", "", ""},
+        {"y = x", "{x=i32}", "", ""},
+        {"x + 1 > 5", "{x=i32}", "{\"x\": 2147483647}", "{\"rows\": -3}"},
+    };
+    for (size_t i = 0; i < sizeof GIVEN / sizeof GIVEN[0]; i++)
+        for (Call call = FMT; call < CALLS; call++) {
+            TextCall it = {call, given(GIVEN[i][0], GIVEN[i][1], GIVEN[i][call == PRUNE ? 3 : 2])};
+            expect_refusals(call_of_texts, &it);
+        }
+}
+
+/* --- plans --- */
+
+#define SCHEMA "{x=i32, s=utf8?, l=list(bool)}"
+
+static vx_plan plan = VX_PLAN_INIT;
+
+static vx_status make_plan(const void *expression, char *buffer, size_t room, vx_answer *answer)
+{
+    vx_status status = vx_plan_new(expression, strlen(expression), SCHEMA, strlen(SCHEMA), &plan,
+                                   buffer, room, answer);
+    EXPECT((status == VX_ANSWERED) == (plan.at != NULL));
+    return status;
+}
+
+static vx_status tell_paths(const void *given, char *buffer, size_t room, vx_answer *answer)
+{
+    (void)given;
+    return vx_plan_paths(&plan, buffer, room, answer);
+}
+
+/* Two rows, in which the numbers are at the given place. */
+static vx_status scan(const void *numbers, char *buffer, size_t room, vx_answer *answer)
+{
+    const vx_buffer batch[] = {{NULL, 0}, {NULL, 0}, {numbers, 8}, {"\2", 1}, {"\0\0\0\0\0\0\0\0\1\0\0\0", 12},
+                               {"t", 1},  {NULL, 0}, {"\0\0\0\0\1\0\0\0\2\0\0\0", 12}, {NULL, 0}, {"\1", 1}};
+    EXPECT(plan.at != NULL);
+    return vx_plan_scan(&plan, 2, batch, sizeof batch / sizeof batch[0], buffer, room, answer);
+}
+
+static vx_status scan_too_few(const void *given, char *buffer, size_t room, vx_answer *answer)
+{
+    (void)given;
+    return vx_plan_scan(&plan, 2, NULL, 0, buffer, room, answer);
+}
+
+/* A plan that is refused memory while it scans is as it was, and scans the next batch. */
+static void test_calls_of_plans(void)
+{
+    static const char PLANNED[] = "pack(a: x + 1 > 5 or s = \"t\", b: $, c: x + 1)";
+    char buffer[PAGE_ROOM];
+    vx_answer answer;
+    expect_refusals(make_plan, "x +");
+    expect_refusals(make_plan, "y");
+    expect_refusals(make_plan, PLANNED);
+    EXPECT(make_plan(PLANNED, buffer, sizeof buffer, &answer) == VX_ANSWERED);
+    expect_refusals(tell_paths, NULL);
+    expect_refusals(scan, "\1\0\0\0\5\0\0\0");
+    expect_refusals(scan, "\1\0\0\0\377\377\377\177");
+    expect_refusals(scan_too_few, NULL);
+    EXPECT(scan("\1\0\0\0\5\0\0\0", buffer, sizeof buffer, &answer) == VX_ANSWERED);
+    vx_plan_free(&plan);
+    expect_refusals(tell_paths, NULL);
+}
+
+void test_refusals(void)
+{
+    test_calls_of_texts();
+    test_calls_of_plans();
+}
