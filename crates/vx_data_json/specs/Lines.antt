@@ -5,7 +5,6 @@ use Rattle.std.specs.List.{flat_map}
 use Rattle.json.specs.Print.{print}
 use Rattle.json.specs.Token.{Token, begin_object, end_object, begin_array, end_array, key, string, number, boolean}
 use Rattle.json.specs.Token.{null as null_token}
-use Rattle.vx_value.specs.Columns.{Batch}
 use Rattle.vx_value.specs.Types.{LogicalType, ty, list, fixed, struct, Fields, field, Datum, null, bool, int, utf8, bytes, list_of, struct_of, Data, no_datum, datum}
 use Rattle.vx_data_record.specs.Cells.{hex_text}
 

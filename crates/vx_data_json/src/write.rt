@@ -46,12 +46,7 @@ pub fn write_json_lines<W: Write>(
 }
 
 // The lines, and behind them one of that value.
-fn with_line(
-    alloc: Global,
-    lines: Vec<u8>,
-    dtype: &DType,
-    value: &Value,
-) -> Result<Vec<u8>, Fault>
+fn with_line(alloc: Global, lines: Vec<u8>, dtype: &DType, value: &Value) -> Result<Vec<u8>, Fault>
     ensures { IfOk result (λ after. after.items ≡ lines.items ++ json_line (type_of dtype.now) (value_of value.now)) }
 {
     let mut writer = Writer::new(lines);
@@ -82,14 +77,14 @@ fn write_value(
     }
 }
 
-fn write_number(alloc: Global, number: i128, writer: &mut Writer) -> Result<(), Fault>
+fn write_number(alloc: Global, whole: i128, writer: &mut Writer) -> Result<(), Fault>
     ensures before { writer.new.before ≡ writer.old.before }
-    ensures tokens { OnOk result (writer.new.tokens ≡ writer.old.tokens ++ number (signed_decimal number.entry) ∷ []) }
+    ensures tokens { OnOk result (writer.new.tokens ≡ writer.old.tokens ++ number (signed_decimal whole) ∷ []) }
 {
-    if let Ok(number) = i64::try_from(number) {
+    if let Ok(number) = i64::try_from(whole) {
         return Ok(writer.i64(number)?);
     }
-    match u64::try_from(number) {
+    match u64::try_from(whole) {
         Ok(number) => Ok(writer.u64(number)?),
         Err(_) => Err(Fault::new(alloc, Expected::WholeOfAnyType)),
     }
