@@ -2,7 +2,6 @@
 ghost use Rattle.std.specs.Prelude.{◌≡◌, None};
 ghost use Rattle.vx_call_kept.specs.Held.{NewEnds};
 
-use crate::taken::taken;
 use std::alloc::Global;
 use vx_call_pages::{Answer, Status, ended};
 use vx_call_scans::kept_plan;
@@ -35,5 +34,5 @@ pub fn answer_new(
 pub fn free_plan(alloc: Global, plan: &mut PlanHandle)
     ensures { plan.new.plan ≡ None }
 {
-    drop(taken(alloc, plan));
+    *plan = PlanHandle::none(alloc);
 }

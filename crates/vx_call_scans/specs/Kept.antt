@@ -11,6 +11,7 @@ use Rattle.vx_query_split.specs.Division.{Parts, parts_of}
 use Rattle.vx_scan.specs.Plans.{IsPlanFor}
 use Rattle.vx_scan.specs.Scans.{Scanned}
 use Rattle.vx_data_buffers.specs.Layout.{batch_in}
+use Rattle.vx_data_json.specs.Lines.{json_lines}
 use Rattle.vx_command_pages.specs.Inputs.{Reads, ReadsType}
 use Rattle.vx_command_plans.specs.PlanPages.{paths_page}
 use Rattle.vx_call_scans.specs.declared.kept.KeptPlan.{KeptPlan}
@@ -36,6 +37,6 @@ IsPathsPage kept page = page ≡ paths_page (minimal_paths kept.plan.value.paths
 abbrev pub IsScanOf : KeptPlan → Batch → Batch → Type 0
 IsScanOf kept batch values = Scanned (scope_of kept) (planned_tree kept) kept.plan.value.paths (parts_of kept.plan.value.split) batch (Ok values)
 
--- the buffers have a batch of so many rows, and a scan by the plan gives a column of it
-abbrev pub IsScanned : KeptPlan → ℕ → List (List ℕ) → Type 0
-IsScanned kept rows buffers = (batch values : Batch) × (batch_in (scope_of kept) rows buffers ≡ Ok batch) × IsScanOf kept batch values
+-- the buffers have a batch of so many rows, and the page has a line for each value that a scan by the plan gives of it
+abbrev pub IsScanPage : KeptPlan → ℕ → List (List ℕ) → List ℕ → Type 0
+IsScanPage kept rows buffers page = (batch values : Batch) × (batch_in (scope_of kept) rows buffers ≡ Ok batch) × IsScanOf kept batch values × (page ≡ json_lines values.type values.rows)

@@ -2,9 +2,10 @@
 ghost use Rattle.std.specs.Prelude.{◌≡◌, ◌⊎◌, IfErr, IfOk};
 ghost use Rattle.vx_value.specs.Columns.{Batch};
 ghost use Rattle.vx_data_buffers.specs.Layout.{batch_in, bytes_of};
+ghost use Rattle.vx_data_json.specs.Lines.{json_lines};
 ghost use Rattle.vx_call_pages.specs.Endings.{Ends};
 ghost use Rattle.vx_call_pages.specs.Stops.{IsExhausted};
-ghost use Rattle.vx_call_scans.specs.Kept.{IsScanned, scope_of};
+ghost use Rattle.vx_call_scans.specs.Kept.{IsScanPage, scope_of};
 ghost use Rattle.vx_call_scans.specs.ScanStops.{IsBadData, IsNoBatch, ScanStops};
 
 use crate::KeptPlan;
@@ -28,7 +29,7 @@ pub fn answer_scan(
     buffer: &mut [u8],
     answer: &mut Answer,
 ) -> Status
-    ensures { Ends (λ _. IsScanned plan.now rows (bytes_of buffers.now)) (ScanStops plan.now rows (bytes_of buffers.now)) buffer.old result buffer.new answer.new }
+    ensures { Ends (IsScanPage plan.now rows (bytes_of buffers.now)) (ScanStops plan.now rows (bytes_of buffers.now)) buffer.old result buffer.new answer.new }
 {
     ended(&scanned(alloc, plan, rows, buffers), buffer, answer)
 }
@@ -39,7 +40,7 @@ fn scanned(
     rows: usize,
     buffers: &[Buffer<'_>],
 ) -> Result<Vec<u8>, Stop>
-    ensures scanned { IfOk result (λ _. IsScanned plan.now rows (bytes_of buffers.now)) }
+    ensures prints { IfOk result (λ page. IsScanPage plan.now rows (bytes_of buffers.now) page.items) }
     ensures stop { IfErr result (ScanStops plan.now rows (bytes_of buffers.now)) }
 {
     let batch = batch_of(alloc, plan, rows, buffers)?;
@@ -78,7 +79,8 @@ fn boxed(alloc: Global, batch: Column) -> Result<Box<Column>, Stop>
 
 // A line of JSON for each value.
 fn lines_of(alloc: Global, plan: &KeptPlan, values: &Column) -> Result<Vec<u8>, Stop>
-    ensures { IfErr result (λ stop. IsExhausted stop ⊎ IsBadData stop) }
+    ensures lines { IfOk result (λ lines. lines.items ≡ json_lines values.now.type values.now.rows) }
+    ensures stop { IfErr result (λ stop. IsExhausted stop ⊎ IsBadData stop) }
 {
     let mut lines = Vec::new(alloc);
     match write_json_lines(alloc, values, &mut lines) {
