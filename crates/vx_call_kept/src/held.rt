@@ -1,6 +1,6 @@
 // The calls on a plan.
 ghost use Rattle.std.specs.Prelude.{◌≡◌};
-ghost use Rattle.vx_data_buffers.specs.Layout.{bytes_of};
+ghost use Rattle.vx_data_buffers.specs.Bytes.{bytes_in};
 ghost use Rattle.vx_call_pages.specs.Stops.{IsExhausted};
 ghost use Rattle.vx_call_scans.specs.Kept.{IsPathsPage, IsScanPage};
 ghost use Rattle.vx_call_scans.specs.ScanStops.{ScanStops};
@@ -44,7 +44,7 @@ pub fn answer_held_scan(
     buffer: &mut [u8],
     answer: &mut Answer,
 ) -> Status
-    ensures ends { HeldEnds (λ kept. IsScanPage kept rows (bytes_of buffers.now)) (λ kept. ScanStops kept rows (bytes_of buffers.now)) plan.old.plan buffer.old result buffer.new answer.new }
+    ensures ends { HeldEnds (λ kept. IsScanPage kept rows (bytes_in buffers.now)) (λ kept. ScanStops kept rows (bytes_in buffers.now)) plan.old.plan buffer.old result buffer.new answer.new }
     ensures kept { plan.new.plan ≡ plan.old.plan }
 {
     match taken(alloc, plan) {

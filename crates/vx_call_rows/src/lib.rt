@@ -6,5 +6,4 @@ mod stop;
 mod verdicts;
 
 pub use rows::answer_rows;
-pub use stop::{Texts, rows_stop};
 pub use verdicts::answer_verdicts;

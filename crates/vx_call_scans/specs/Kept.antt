@@ -10,7 +10,7 @@ use Rattle.vx_rewrite_folding_rules.specs.Folding.{FoldingRuleAt}
 use Rattle.vx_query_split.specs.Division.{Parts, parts_of}
 use Rattle.vx_scan.specs.Plans.{IsPlanFor}
 use Rattle.vx_scan.specs.Scans.{Scanned}
-use Rattle.vx_data_buffers.specs.Layout.{batch_in}
+use Rattle.vx_data_buffers.specs.Rows.{column_said}
 use Rattle.vx_data_json.specs.Lines.{json_lines}
 use Rattle.vx_command_pages.specs.Inputs.{Reads, ReadsType}
 use Rattle.vx_command_plans.specs.PlanPages.{paths_page}
@@ -39,4 +39,4 @@ IsScanOf kept batch values = Scanned (scope_of kept) (planned_tree kept) kept.pl
 
 -- the buffers have a batch of so many rows, and the page has a line for each value that a scan by the plan gives of it
 abbrev pub IsScanPage : KeptPlan → ℕ → List (List ℕ) → List ℕ → Type 0
-IsScanPage kept rows buffers page = (batch values : Batch) × (batch_in (scope_of kept) rows buffers ≡ Ok batch) × IsScanOf kept batch values × (page ≡ json_lines values.type values.rows)
+IsScanPage kept rows buffers page = (batch values : Batch) × (column_said buffers (scope_of kept) rows ≡ Ok batch) × IsScanOf kept batch values × (page ≡ json_lines values.type values.rows)

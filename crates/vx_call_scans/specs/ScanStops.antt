@@ -6,7 +6,7 @@ use Rattle.vx_tree.specs.Trees.{BoundTree}
 use Rattle.vx_report.specs.declared.report.Span.{Span}
 use Rattle.vx_places.specs.Faults.{IsFirstFault}
 use Rattle.vx_data_buffers.specs.declared.error.BufferError.{BufferError}
-use Rattle.vx_data_buffers.specs.Layout.{batch_in}
+use Rattle.vx_data_buffers.specs.Rows.{column_said}
 use Rattle.vx_command_rows.specs.Rows.{IsBoundTo}
 use Rattle.vx_call_pages.specs.declared.answer.Status.TheVariants.{Faulted, BadData}
 use Rattle.vx_call_pages.specs.declared.stop.Stop.{Stop}
@@ -21,7 +21,7 @@ IsBadData stop = (stop.status ≡ BadData) × (stop.place.text ≡ text_number R
 
 -- the buffers have no batch of so many rows
 abbrev pub IsNoBatch : KeptPlan → ℕ → List (List ℕ) → Stop → Type 0
-IsNoBatch kept rows buffers stop = IsBadData stop × ((error : BufferError) × (batch_in (scope_of kept) rows buffers ≡ Err error))
+IsNoBatch kept rows buffers stop = IsBadData stop × ((error : BufferError) × (column_said buffers (scope_of kept) rows ≡ Err error))
 
 -- the stop is of the expression's first fault on the batch, with the bytes of some node
 abbrev pub IsFaultStop : KeptPlan → Batch → Stop → Type 0
@@ -31,4 +31,4 @@ IsFaultStop kept batch stop = (b : BoundTree) × (path : List ℕ) × (fault : V
 -- memory ran out; or the buffers have no batch; or they have one on which the expression faults, or of which what is answered can't be written
 abbrev pub ScanStops : KeptPlan → ℕ → List (List ℕ) → Stop → Type 0
 ScanStops kept rows buffers stop = IsExhausted stop ⊎ IsNoBatch kept rows buffers stop
-    ⊎ ((batch : Batch) × (batch_in (scope_of kept) rows buffers ≡ Ok batch) × (IsFaultStop kept batch stop ⊎ IsBadData stop))
+    ⊎ ((batch : Batch) × (column_said buffers (scope_of kept) rows ≡ Ok batch) × (IsFaultStop kept batch stop ⊎ IsBadData stop))

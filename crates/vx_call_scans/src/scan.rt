@@ -1,7 +1,8 @@
 // The call that scans a batch by a plan.
 ghost use Rattle.std.specs.Prelude.{◌≡◌, ◌⊎◌, IfErr, IfOk};
 ghost use Rattle.vx_value.specs.Columns.{Batch};
-ghost use Rattle.vx_data_buffers.specs.Layout.{batch_in, bytes_of};
+ghost use Rattle.vx_data_buffers.specs.Bytes.{bytes_in};
+ghost use Rattle.vx_data_buffers.specs.Rows.{column_said};
 ghost use Rattle.vx_data_json.specs.Lines.{json_lines};
 ghost use Rattle.vx_call_pages.specs.Endings.{Ends};
 ghost use Rattle.vx_call_pages.specs.Stops.{IsExhausted};
@@ -29,7 +30,7 @@ pub fn answer_scan(
     buffer: &mut [u8],
     answer: &mut Answer,
 ) -> Status
-    ensures { Ends (IsScanPage plan.now rows (bytes_of buffers.now)) (ScanStops plan.now rows (bytes_of buffers.now)) buffer.old result buffer.new answer.new }
+    ensures { Ends (IsScanPage plan.now rows (bytes_in buffers.now)) (ScanStops plan.now rows (bytes_in buffers.now)) buffer.old result buffer.new answer.new }
 {
     ended(&scanned(alloc, plan, rows, buffers), buffer, answer)
 }
@@ -40,12 +41,12 @@ fn scanned(
     rows: usize,
     buffers: &[Buffer<'_>],
 ) -> Result<Vec<u8>, Stop>
-    ensures prints { IfOk result (λ page. IsScanPage plan.now rows (bytes_of buffers.now) page.items) }
-    ensures stop { IfErr result (ScanStops plan.now rows (bytes_of buffers.now)) }
+    ensures prints { IfOk result (λ page. IsScanPage plan.now rows (bytes_in buffers.now) page.items) }
+    ensures stop { IfErr result (ScanStops plan.now rows (bytes_in buffers.now)) }
 {
     let batch = batch_of(alloc, plan, rows, buffers)?;
     let values = values_of(alloc, plan, Box::into_inner(batch))?;
-    lines_of(alloc, plan, &values)
+    lines_of(alloc, &values)
 }
 
 // The batch in the buffers.
@@ -55,8 +56,8 @@ fn batch_of(
     rows: usize,
     buffers: &[Buffer<'_>],
 ) -> Result<Box<Column>, Stop>
-    ensures batch { IfOk result (λ batch. batch_in (scope_of plan.now) rows (bytes_of buffers.now) ≡ Ok batch.value) }
-    ensures stop { IfErr result (λ stop. IsExhausted stop ⊎ IsNoBatch plan.now rows (bytes_of buffers.now) stop) }
+    ensures batch { IfOk result (λ batch. column_said (bytes_in buffers.now) (scope_of plan.now) rows ≡ Ok batch.value) }
+    ensures stop { IfErr result (λ stop. IsExhausted stop ⊎ IsNoBatch plan.now rows (bytes_in buffers.now) stop) }
 {
     let Ok(scope) = plan.plan.scope().clone() else {
         return Err(Stop::out_of_memory(alloc));
@@ -78,13 +79,13 @@ fn boxed(alloc: Global, batch: Column) -> Result<Box<Column>, Stop>
 }
 
 // A line of JSON for each value.
-fn lines_of(alloc: Global, plan: &KeptPlan, values: &Column) -> Result<Vec<u8>, Stop>
+fn lines_of(alloc: Global, values: &Column) -> Result<Vec<u8>, Stop>
     ensures lines { IfOk result (λ lines. lines.items ≡ json_lines values.now.type values.now.rows) }
     ensures stop { IfErr result (λ stop. IsExhausted stop ⊎ IsBadData stop) }
 {
     let mut lines = Vec::new(alloc);
     match write_json_lines(alloc, values, &mut lines) {
         Ok(()) => Ok(lines),
-        Err(error) => Err(write_stop(alloc, plan, error)),
+        Err(error) => Err(write_stop(alloc, &error)),
     }
 }

@@ -1,6 +1,6 @@
 // Calls on a plan that the caller keeps.
 ghost use Rattle.std.specs.Prelude.{◌≡◌, None};
-ghost use Rattle.vx_data_buffers.specs.Layout.{bytes_of};
+ghost use Rattle.vx_data_buffers.specs.Bytes.{bytes_in};
 ghost use Rattle.vx_call_pages.specs.Stops.{IsExhausted};
 ghost use Rattle.vx_call_scans.specs.Kept.{IsPathsPage, IsScanPage};
 ghost use Rattle.vx_call_scans.specs.ScanStops.{ScanStops};
@@ -52,7 +52,7 @@ pub extern "C" fn vx_plan_scan(
     buffer: &mut [u8],
     answer: &mut Answer,
 ) -> u32
-    ensures ends { HeldEndsWith (λ kept. IsScanPage kept rows (bytes_of buffers.now)) (λ kept. ScanStops kept rows (bytes_of buffers.now)) plan.old.plan buffer.old result buffer.new answer.new }
+    ensures ends { HeldEndsWith (λ kept. IsScanPage kept rows (bytes_in buffers.now)) (λ kept. ScanStops kept rows (bytes_in buffers.now)) plan.old.plan buffer.old result buffer.new answer.new }
     ensures kept { plan.new.plan ≡ plan.old.plan }
 {
     answer_held_scan(alloc, plan, rows, buffers, buffer, answer).number()
