@@ -1,7 +1,6 @@
 -- What a kept plan is a plan of, and what is answered of it.
 use Rattle.std.specs.Prelude.{◌≡◌, ℕ, List, Ok, string_bytes}
 use Rattle.vx_value.specs.Columns.{Batch}
-use Rattle.vx_value.specs.Paths.{minimal_paths}
 use Rattle.vx_value.specs.Types.{LogicalType}
 use Rattle.vx_value.specs.Views.{type_of}
 use Rattle.vx_tree.specs.Trees.{Tree, BoundTree}
@@ -13,7 +12,7 @@ use Rattle.vx_scan.specs.Scans.{Scanned}
 use Rattle.vx_data_buffers.specs.Rows.{column_said}
 use Rattle.vx_data_json.specs.Lines.{json_lines}
 use Rattle.vx_command_pages.specs.Inputs.{Reads, ReadsType}
-use Rattle.vx_command_plans.specs.PlanPages.{paths_page}
+use Rattle.vx_command_plans.specs.PlanPages.{paths_line}
 use Rattle.vx_call_scans.specs.declared.kept.KeptPlan.{KeptPlan}
 
 -- the expression, the type of the batches, and the plan's tree
@@ -31,7 +30,7 @@ IsKept text schema kept = (string_bytes kept.text ≡ text) × Reads text (sourc
 
 -- the page has the paths that the plan reads
 abbrev pub IsPathsPage : KeptPlan → List ℕ → Type 0
-IsPathsPage kept page = page ≡ paths_page (minimal_paths kept.plan.value.paths)
+IsPathsPage kept page = page ≡ paths_line kept.plan.value.paths
 
 -- the column is what a scan by the plan gives of the batch
 abbrev pub IsScanOf : KeptPlan → Batch → Batch → Type 0
