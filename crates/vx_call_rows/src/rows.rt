@@ -1,13 +1,15 @@
 // The call of `eval`.
-ghost use Rattle.std.specs.Prelude.{IfErr};
+ghost use Rattle.std.specs.Prelude.{IfErr, IfOk};
 ghost use Rattle.vx_call_pages.specs.Endings.{Ends};
+ghost use Rattle.vx_call_rows.specs.RowPages.{IsRowsPage};
 ghost use Rattle.vx_call_rows.specs.RowStops.{IsRowsComplaint, RowsStops};
 
+use crate::columns::Columns;
 use crate::stop::{Texts, rows_stop};
 use std::alloc::Global;
 use vx_call_pages::{Answer, Given, Status, Stop, ended, read_text};
 use vx_command_pages::{read_expression, read_schema};
-use vx_command_rows::{Output, OutputFormat, RowsComplaint, evaluate};
+use vx_command_rows::{RowsComplaint, evaluate, unwritten};
 use vx_records::JsonRecords;
 
 /// Answers what the expression means at each record, as a line of JSON each; the records are lines of
@@ -22,7 +24,7 @@ pub fn answer_rows(
     buffer: &mut [u8],
     answer: &mut Answer,
 ) -> Status
-    ensures { Ends (λ _. Unit {0}) (RowsStops (IsRowsComplaint expression.now schema.now) expression.now schema.now) buffer.old result buffer.new answer.new }
+    ensures { Ends (IsRowsPage expression.now schema.now) (RowsStops (IsRowsComplaint expression.now schema.now) expression.now schema.now) buffer.old result buffer.new answer.new }
 {
     ended(
         &evaluated(alloc, expression, schema, records),
@@ -37,7 +39,8 @@ fn evaluated(
     schema: &[u8],
     records: &[u8],
 ) -> Result<Vec<u8>, Stop>
-    ensures { IfErr result (RowsStops (IsRowsComplaint expression.now schema.now) expression.now schema.now) }
+    ensures prints { IfOk result (λ page. IsRowsPage expression.now schema.now page.items) }
+    ensures stop { IfErr result (RowsStops (IsRowsComplaint expression.now schema.now) expression.now schema.now) }
 {
     let expression = read_text(alloc, Given::Expression, expression)?;
     let schema = read_text(alloc, Given::Schema, schema)?;
@@ -61,16 +64,13 @@ fn rows_of(
     schema: &str,
     records: &[u8],
 ) -> Result<Vec<u8>, RowsComplaint>
-    ensures { IfErr result (IsRowsComplaint expression.now schema.now) }
+    ensures prints { IfOk result (λ page. IsRowsPage expression.now schema.now page.items) }
+    ensures complaint { IfErr result (IsRowsComplaint expression.now schema.now) }
 {
     let placed = read_expression(alloc, expression)?;
     let scope = read_schema(alloc, schema)?;
     let mut records = JsonRecords::new(alloc, Box::into_inner(scope), records);
-    let mut rows = Vec::new(alloc);
-    let mut output = Output::new(alloc, OutputFormat::JsonLines, &mut rows);
-    let meant = evaluate(alloc, &placed, u64::MAX, &mut records, &mut output);
-    // (a line of JSON is written as it comes: nothing waits for the end)
-    drop(output);
-    meant?;
-    Ok(rows)
+    let mut columns = Columns::new(alloc);
+    evaluate(alloc, &placed, u64::MAX, &mut records, &mut columns)?;
+    columns.lines(alloc).map_err(|error| unwritten(&placed, error))
 }
