@@ -1,5 +1,8 @@
 // The call of `eval`.
-ghost use Rattle.std.specs.Prelude.{IfErr, IfOk};
+ghost use Rattle.std.specs.Prelude.{◌≡◌, IfErr, IfOk};
+ghost use Rattle.vx_report.specs.declared.report.Span.{Span};
+ghost use Rattle.vx_records.specs.declared.error.RecordsError.TheVariants.{Write};
+ghost use Rattle.vx_command_rows.specs.declared.complaint.RowsComplaint.TheVariants.{Records};
 ghost use Rattle.vx_call_pages.specs.Endings.{Ends};
 ghost use Rattle.vx_call_rows.specs.RowPages.{IsRowsPage};
 ghost use Rattle.vx_call_rows.specs.RowStops.{IsRowsComplaint, RowsStops};
@@ -9,8 +12,10 @@ use crate::stop::{Texts, rows_stop};
 use std::alloc::Global;
 use vx_call_pages::{Answer, Given, Status, Stop, ended, read_text};
 use vx_command_pages::{read_expression, read_schema};
-use vx_command_rows::{RowsComplaint, evaluate, unwritten};
-use vx_records::JsonRecords;
+use vx_command_rows::{RowsComplaint, evaluate};
+use vx_data::WriteError;
+use vx_records::{JsonRecords, RecordsError};
+use vx_report::Span;
 
 /// Answers what the expression means at each record, as a line of JSON each; the records are lines of
 /// JSON of the schema's type. Stops at what can't be read, at the first refusal, at the first record
@@ -72,5 +77,18 @@ fn rows_of(
     let mut records = JsonRecords::new(alloc, Box::into_inner(scope), records);
     let mut columns = Columns::new(alloc);
     evaluate(alloc, &placed, u64::MAX, &mut records, &mut columns)?;
-    columns.lines(alloc).map_err(|error| unwritten(&placed, error))
+    match columns.lines(alloc) {
+        Ok(lines) => Ok(lines),
+        Err(error) => Err(unwritten(error)),
+    }
+}
+
+// The complaint of a row that can't be written.
+fn unwritten(error: WriteError) -> RowsComplaint
+    ensures { (span : Span) × (result ≡ Records (Write error) span) }
+{
+    RowsComplaint::Records {
+        error: RecordsError::Write(error),
+        span: Span { start: 0, end: 0 },
+    }
 }
