@@ -18,8 +18,10 @@ use Rattle.vx_call_scans.specs.declared.kept.KeptPlan.{KeptPlan}
 -- the expression, the type of the batches, and the plan's tree
 abbrev pub source_of : KeptPlan → Tree
 source_of kept = tree_of kept.placed.value.expression
+
 abbrev pub scope_of : KeptPlan → LogicalType
 scope_of kept = type_of kept.plan.value.scope
+
 abbrev pub planned_tree : KeptPlan → BoundTree
 planned_tree kept = bound_of kept.plan.value.tree
 

@@ -14,8 +14,7 @@ use vx_command_pages::{Input, bind, span_at};
 use vx_command_rows::{RowsComplaint, RowsMessage};
 use vx_data::WriteError;
 use vx_data_buffers::BufferError;
-use vx_places::first_fault_at;
-use vx_places::Place as NodePlace;
+use vx_places::{Place as NodePlace, first_fault_at};
 use vx_records::{RecordFault, RecordsError};
 use vx_types::Column;
 

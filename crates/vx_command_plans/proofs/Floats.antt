@@ -7,7 +7,7 @@ use Rattle.vx_value.specs.Paths.{Path}
 use Rattle.vx_value.specs.Types.{Name, LogicalType}
 use Rattle.vx_tree.specs.Trees.{BoundTree, BoundTrees, no_bound, bound}
 use Rattle.vx_query_split.specs.Division.{Parts}
-use Rattle.vx_command_plans.specs.PlanData.{path_data, paths_data, partition_items, plan_data}
+use Rattle.vx_command_plans.specs.PlanData.{paths_data, partition_items, plan_data}
 
 names : (path : Path) → items_have_float (items_of (map string path)) ≡ false
 names [] = refl

@@ -6,6 +6,3 @@ use Rattle.vx_command_plans.proofs.planned.paths_page.Goals as goal
 
 pub value_line-requires : goal.value_line-requires
 value_line-requires c = ap has_float c.in_ok-paths_value.ensures ∙ in_paths (minimal_paths c.args.paths.now)
-
-pub returns : goal.returns
-returns c = rw c.in_ok-paths_value.ensures at c.value_line.ensures

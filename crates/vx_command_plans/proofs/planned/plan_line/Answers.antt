@@ -11,6 +11,3 @@ pub value_line-requires : goal.value_line-requires
 value_line-requires c =
     let plan = c.args.plan.now in
     ap has_float c.in_ok-plan_value.ensures ∙ in_plan (type_of plan.scope) (bound_of plan.tree) (minimal_paths plan.paths) (parts_of plan.split)
-
-pub returns : goal.returns
-returns c = rw c.in_ok-plan_value.ensures at c.value_line.ensures
