@@ -6,7 +6,7 @@ use Rattle.vx_value.specs.Views.{type_of}
 use Rattle.vx_tree.specs.Trees.{Tree, BoundTree}
 use Rattle.vx_tree.specs.Views.{bound_of, tree_of}
 use Rattle.vx_rewrite_folding_rules.specs.Folding.{FoldingRuleAt}
-use Rattle.vx_query_split.specs.Division.{Parts, parts_of}
+use Rattle.vx_query_split.specs.Division.{parts_of}
 use Rattle.vx_scan.specs.Plans.{IsPlanFor}
 use Rattle.vx_scan.specs.Scans.{Scanned}
 use Rattle.vx_data_buffers.specs.Rows.{column_said}

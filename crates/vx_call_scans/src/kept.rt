@@ -1,5 +1,5 @@
 // A plan, with the text that it was made of.
-ghost use Rattle.std.specs.Prelude.{IfErr, IfOk};
+ghost use Rattle.std.specs.Prelude.{◌≡◌, IfErr, IfOk, string_bytes};
 ghost use Rattle.vx_command_pages.specs.Inputs.{IsComplaint};
 ghost use Rattle.vx_call_pages.specs.Stops.{Stops};
 ghost use Rattle.vx_call_scans.specs.Kept.{IsKept};

@@ -1,5 +1,6 @@
 // What stops a scan.
-ghost use Rattle.std.specs.Prelude.{◌≡◌, ◌⊎◌, string_bytes};
+ghost use Rattle.std.specs.Prelude.{◌≡◌, ◌≢◌, ◌⊎◌, string_bytes};
+ghost use Rattle.vx_data_buffers.specs.declared.error.BufferError.TheVariants.{OutOfMemory};
 ghost use Rattle.vx_report.specs.declared.report.Span.{Span};
 ghost use Rattle.vx_call_pages.specs.declared.answer.Status.TheVariants.{Faulted};
 ghost use Rattle.vx_call_pages.specs.declared.text.Given.TheVariants.{Expression, Records};
@@ -20,7 +21,7 @@ use vx_types::Column;
 
 /// What stops a scan whose buffers have no batch, with the row that it is on.
 pub(crate) fn buffer_stop(alloc: Global, error: &BufferError) -> Stop
-    ensures { IsExhausted result ⊎ IsBadData result }
+    ensures { IsExhausted result ⊎ (IsBadData result × (error.now ≢ OutOfMemory)) }
 {
     let record = match error {
         BufferError::OutOfMemory => return Stop::out_of_memory(alloc),

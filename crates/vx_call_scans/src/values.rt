@@ -1,6 +1,9 @@
 // What a plan gives of a batch.
-ghost use Rattle.std.specs.Prelude.{◌≡◌, ◌⊎◌, IfErr, IfOk};
+ghost use Rattle.std.specs.Prelude.{◌≡◌, ◌⊎◌, IfErr, IfOk, Ok};
 ghost use Rattle.vx_value.specs.Views.{type_of};
+ghost use Rattle.vx_tree.specs.Views.{bound_of};
+ghost use Rattle.vx_query_split.specs.Division.{parts_of};
+ghost use Rattle.vx_scan.specs.Scans.{Scanned};
 ghost use Rattle.vx_call_pages.specs.Stops.{IsExhausted};
 ghost use Rattle.vx_call_scans.specs.Kept.{IsScanOf, scope_of};
 ghost use Rattle.vx_call_scans.specs.ScanStops.{IsFaultStop};
@@ -9,7 +12,7 @@ use crate::KeptPlan;
 use crate::stop::fault_stop;
 use std::alloc::Global;
 use vx_call_pages::Stop;
-use vx_scan::scan;
+use vx_scan::{ScanPlan, scan};
 use vx_types::{Column, VortexResult};
 
 /// What the plan gives of the batch, which is of its type, in each row. Stops at the first fault of
@@ -39,6 +42,14 @@ fn scanned(alloc: Global, kept: &KeptPlan, batch: &Column) -> VortexResult<Box<C
     requires { batch.now.type ≡ scope_of kept.now }
     ensures { IfOk result (λ values. IsScanOf kept.now batch.now values.value) }
 {
-    let reader = kept.plan.reader_of(alloc, batch.clone()?)?;
-    Ok(Box::new(alloc, scan(alloc, &reader, &kept.plan)?)?)
+    let values = scan_of(alloc, &kept.plan, batch.clone()?)?;
+    Ok(Box::new(alloc, values)?)
+}
+
+fn scan_of(alloc: Global, plan: &ScanPlan, batch: Column) -> VortexResult<Column>
+    requires { batch.type ≡ type_of plan.now.scope }
+    ensures { IfOk result (λ values. Scanned (type_of plan.now.scope) (bound_of plan.now.tree) plan.now.paths (parts_of plan.now.split) batch (Ok values)) }
+{
+    let reader = plan.reader_of(alloc, batch)?;
+    scan(alloc, &reader, plan)
 }
