@@ -1,5 +1,5 @@
 -- What calls on a plan's handle answer, and what the handle has then.
-use Rattle.std.specs.Prelude.{◌≡◌, ◌≢◌, ◌⊎◌, ℕ, List, [], Option, Some, None, MatchOption}
+use Rattle.std.specs.Prelude.{◌≡◌, ◌≢◌, ◌⊎◌, ℕ, List, [], Option, Some, None}
 use Rattle.vx_command_pages.specs.Inputs.{IsComplaint}
 use Rattle.vx_call_pages.specs.declared.answer.Answer.{Answer}
 use Rattle.vx_call_pages.specs.declared.answer.Status.{Status}
