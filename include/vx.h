@@ -171,8 +171,8 @@ vx_status vx_plan_paths(vx_plan *plan, char *buffer, size_t buffer_length, vx_an
 vx_status vx_plan_scan(vx_plan *plan, size_t rows, const vx_buffer *buffers, size_t buffers_length,
                        char *buffer, size_t buffer_length, vx_answer *answer);
 
-/* Frees the plan, if there is one, and answers VX_ANSWERED. Then *plan holds none. */
-vx_status vx_plan_free(vx_plan *plan);
+/* Frees the plan, if there is one. Then *plan holds none. */
+void vx_plan_free(vx_plan *plan);
 
 #ifdef __cplusplus
 }

@@ -169,5 +169,6 @@ class _Column:
         for value, row in zip(self.values, self.rows):
             if not (self.dtype.is_nullable if value is None else is_of(value)):
                 at = f", at {'.'.join(self.path)}" if self.path else ""
-                message = f"error: batch: row {row}{at}: expected a value of type {self.dtype}"
+                # (messages tell rows by their index, as the library's do, and places by their number)
+                message = f"error: batch: row {row - 1}{at}: expected a value of type {self.dtype}"
                 raise DataError(message, Place.of_row(row))

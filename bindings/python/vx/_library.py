@@ -86,7 +86,7 @@ def _opened() -> ctypes.CDLL:
     library = ctypes.CDLL(_path())
     for name, parameters in _CALLS.items():
         function = getattr(library, name)
-        function.restype = ctypes.c_uint32
+        function.restype = None if name == "vx_plan_free" else ctypes.c_uint32
         function.argtypes = parameters
     return library
 

@@ -135,5 +135,5 @@ extern "C" {
         buffer_length: usize,
         answer: *mut VxAnswer,
     ) -> u32;
-    pub fn vx_plan_free(plan: *mut VxPlan) -> u32;
+    pub fn vx_plan_free(plan: *mut VxPlan);
 }

@@ -4,7 +4,7 @@ use Rattle.std.specs.Global.{Vec}
 use Rattle.vx_call_pages.specs.declared.answer.Answer.{Answer}
 use Rattle.vx_call_pages.specs.declared.answer.Place.{Place}
 use Rattle.vx_call_pages.specs.declared.answer.Status.{Status}
-use Rattle.vx_call_pages.specs.declared.answer.Status.TheVariants.{Answered, TooSmall, OutOfMemory, Unread, Refused, Faulted, BadData}
+use Rattle.vx_call_pages.specs.declared.answer.Status.TheVariants.{Answered, TooSmall, OutOfMemory, Unread, Refused, Faulted, BadData, NoPlan}
 use Rattle.vx_call_pages.specs.declared.stop.Stop.{Stop}
 
 -- the number that a call answers
@@ -16,6 +16,7 @@ number_of Unread = 3
 number_of Refused = 4
 number_of Faulted = 5
 number_of BadData = 6
+number_of NoPlan = 7
 
 -- the version of the library, on a line
 abbrev pub version_line : List ℕ

@@ -16,8 +16,10 @@ pub enum Status {
     Refused,
     /// The expression faults at a record.
     Faulted,
-    /// A record isn't what it should be.
+    /// A record, or a row of a batch, isn't what it should be.
     BadData,
+    /// There is no plan where the call asks for one.
+    NoPlan,
 }
 
 impl Status {
@@ -35,6 +37,7 @@ impl Status {
             Status::Refused => 4,
             Status::Faulted => 5,
             Status::BadData => 6,
+            Status::NoPlan => 7,
         }
     }
 }
@@ -63,7 +66,7 @@ pub struct Place {
     pub line: usize,
     /// The number of the character within the line, from 1 on.
     pub column: usize,
-    /// The line of the records at which the record begins, from 1 on.
+    /// The line of the records at which the record begins, or the number of the batch's row, from 1 on.
     pub record: u64,
 }
 

@@ -1,2 +1,3 @@
+pub mod RowPages
 pub mod RowStops
 pub mod VerdictPages

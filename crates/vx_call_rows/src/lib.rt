@@ -1,6 +1,7 @@
 // Calls that go over records, or over statistics of chunks of them.
 #![tactic(auto)]
 
+mod columns;
 mod rows;
 mod stop;
 mod verdicts;

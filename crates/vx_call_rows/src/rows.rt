@@ -1,14 +1,21 @@
 // The call of `eval`.
-ghost use Rattle.std.specs.Prelude.{IfErr};
+ghost use Rattle.std.specs.Prelude.{◌≡◌, IfErr, IfOk};
+ghost use Rattle.vx_report.specs.declared.report.Span.{Span};
+ghost use Rattle.vx_records.specs.declared.error.RecordsError.TheVariants.{Write};
+ghost use Rattle.vx_command_rows.specs.declared.complaint.RowsComplaint.TheVariants.{Records};
 ghost use Rattle.vx_call_pages.specs.Endings.{Ends};
+ghost use Rattle.vx_call_rows.specs.RowPages.{IsRowsPage};
 ghost use Rattle.vx_call_rows.specs.RowStops.{IsRowsComplaint, RowsStops};
 
+use crate::columns::Columns;
 use crate::stop::{Texts, rows_stop};
 use std::alloc::Global;
 use vx_call_pages::{Answer, Given, Status, Stop, ended, read_text};
 use vx_command_pages::{read_expression, read_schema};
-use vx_command_rows::{Output, OutputFormat, RowsComplaint, evaluate};
-use vx_records::JsonRecords;
+use vx_command_rows::{RowsComplaint, evaluate};
+use vx_data::WriteError;
+use vx_records::{JsonRecords, RecordsError};
+use vx_report::Span;
 
 /// Answers what the expression means at each record, as a line of JSON each; the records are lines of
 /// JSON of the schema's type. Stops at what can't be read, at the first refusal, at the first record
@@ -22,7 +29,7 @@ pub fn answer_rows(
     buffer: &mut [u8],
     answer: &mut Answer,
 ) -> Status
-    ensures { Ends (λ _. Unit {0}) (RowsStops (IsRowsComplaint expression.now schema.now) expression.now schema.now) buffer.old result buffer.new answer.new }
+    ensures { Ends (IsRowsPage expression.now schema.now) (RowsStops (IsRowsComplaint expression.now schema.now) expression.now schema.now) buffer.old result buffer.new answer.new }
 {
     ended(
         &evaluated(alloc, expression, schema, records),
@@ -37,7 +44,8 @@ fn evaluated(
     schema: &[u8],
     records: &[u8],
 ) -> Result<Vec<u8>, Stop>
-    ensures { IfErr result (RowsStops (IsRowsComplaint expression.now schema.now) expression.now schema.now) }
+    ensures prints { IfOk result (λ page. IsRowsPage expression.now schema.now page.items) }
+    ensures stop { IfErr result (RowsStops (IsRowsComplaint expression.now schema.now) expression.now schema.now) }
 {
     let expression = read_text(alloc, Given::Expression, expression)?;
     let schema = read_text(alloc, Given::Schema, schema)?;
@@ -61,16 +69,26 @@ fn rows_of(
     schema: &str,
     records: &[u8],
 ) -> Result<Vec<u8>, RowsComplaint>
-    ensures { IfErr result (IsRowsComplaint expression.now schema.now) }
+    ensures prints { IfOk result (λ page. IsRowsPage expression.now schema.now page.items) }
+    ensures complaint { IfErr result (IsRowsComplaint expression.now schema.now) }
 {
     let placed = read_expression(alloc, expression)?;
     let scope = read_schema(alloc, schema)?;
     let mut records = JsonRecords::new(alloc, Box::into_inner(scope), records);
-    let mut rows = Vec::new(alloc);
-    let mut output = Output::new(alloc, OutputFormat::JsonLines, &mut rows);
-    let meant = evaluate(alloc, &placed, u64::MAX, &mut records, &mut output);
-    // (a line of JSON is written as it comes: nothing waits for the end)
-    drop(output);
-    meant?;
-    Ok(rows)
+    let mut columns = Columns::new(alloc);
+    evaluate(alloc, &placed, u64::MAX, &mut records, &mut columns)?;
+    match columns.lines(alloc) {
+        Ok(lines) => Ok(lines),
+        Err(error) => Err(unwritten(error)),
+    }
+}
+
+// The complaint of a row that can't be written.
+fn unwritten(error: WriteError) -> RowsComplaint
+    ensures { (span : Span) × (result ≡ Records (Write error) span) }
+{
+    RowsComplaint::Records {
+        error: RecordsError::Write(error),
+        span: Span { start: 0, end: 0 },
+    }
 }

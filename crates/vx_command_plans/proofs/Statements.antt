@@ -1,5 +1,5 @@
 -- A plan's statement, and what is left of its tree, are told of the expression and the type that were read.
-use Rattle.std.proofs.Common.{◌≡◌, ◌∙◌, ℕ, List, Option, Result, Ok, Err, refl}
+use Rattle.std.proofs.Common.{◌≡◌, ℕ, List, Option, Result, Ok, Err, refl}
 use Rattle.std.specs.Result.{IfErr, IsErrAnd}
 use Rattle.vx_value.specs.Types.{Name, LogicalType}
 use Rattle.vx_tree.specs.Trees.{Tree, BoundTree}
@@ -17,8 +17,8 @@ use Rattle.vx_command_plans.specs.declared.sql.SqlComplaint.TheVariants.{Stateme
 -- where the code has the plan's type and tree once more, as it hands them on
 module _ (text schema : List ℕ) (e : Tree) (s : LogicalType) (read : Reads text e) (typed : ReadsType schema s) (t : LogicalType) (u : BoundTree) (plan : IsPlanFor FoldingRuleAt e s t u)
     (d : Dialect) (table : Name) (t' : LogicalType) (u' : BoundTree) (type : t' ≡ t) (tree : u' ≡ u) where
-  pub told : (said : List ℕ) (left : Option BoundTree) (page : List ℕ) → said ≡ statement d t' u' table → left ≡ residual d u' → page ≡ lines_of said left → IsSqlPage text schema d table page
-  told said left page a b is = (e, s, read, typed, (u, (refl, plan.1), is ∙ rw (a, b, type, tree, ← plan.0) refl))
+  pub told : (said : List ℕ) (left : Option BoundTree) → said ≡ statement d t' u' table → left ≡ residual d u' → IsSqlPage text schema d table (lines_of said left)
+  told said left a b = (e, s, read, typed, (u, (refl, plan.1), rw (a, b, type, tree, ← plan.0) refl))
 
   pub untold : (refusal : NoStatement) → IsRefusalOf (statement_refusal d t' u' table) refusal → IsUnwritten text schema d table refusal
   untold refusal r = (e, s, read, typed, (u, (refl, plan.1), rw (← plan.0, ← type, ← tree) r))

@@ -1,4 +1,4 @@
--- What the command `plan` prints.
+-- What the command `plan` prints, and the line of a plan's paths.
 use Rattle.std.specs.Prelude.{◌≡◌, ℕ, List, Option}
 use Rattle.serde_json.specs.Written.{compact_text}
 use Rattle.vx_value.specs.Paths.{Path, minimal_paths}
@@ -9,7 +9,11 @@ use Rattle.vx_query_split.specs.Division.{Parts}
 use Rattle.vx_scan.specs.Plans.{IsPlan, IsPlanFor}
 use Rattle.vx_command_pages.specs.Inputs.{Reads, ReadsType}
 use Rattle.vx_command_pages.specs.Pages.{line}
-use Rattle.vx_command_plans.specs.PlanData.{plan_data}
+use Rattle.vx_command_plans.specs.PlanData.{paths_data, plan_data}
+
+-- the paths of which no other is a proper prefix, as JSON on one line
+abbrev pub paths_line : List Path → List ℕ
+paths_line paths = line (compact_text (paths_data (minimal_paths paths)))
 
 -- the page is a plan of the expression over that type, by the folding rules
 abbrev pub IsPagePlanned : Tree → LogicalType → List ℕ → Type 0

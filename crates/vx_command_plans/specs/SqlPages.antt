@@ -1,4 +1,4 @@
--- What the command `plan --sql` prints.
+-- What the command `plan --sql` prints, and what stops it.
 use Rattle.std.specs.Prelude.{◌≡◌, ◌++◌, ℕ, List, Option, Some, None, codes}
 use Rattle.vx_value.specs.Types.{Name, LogicalType}
 use Rattle.vx_tree.specs.Trees.{Tree, BoundTree, unbound}
@@ -7,9 +7,12 @@ use Rattle.vx_rewrite_folding_rules.specs.Folding.{FoldingRuleAt}
 use Rattle.vx_scan.specs.Plans.{IsPlanFor}
 use Rattle.vx_sql.specs.declared.dialect.Dialect.{Dialect}
 use Rattle.vx_sql_plan.specs.declared.refusal.NoStatement.{NoStatement}
+use Rattle.vx_sql_plan.specs.declared.refusal.NoStatement.TheVariants.{OutOfMemory, NoColumns, Table, Column}
 use Rattle.vx_sql_plan.specs.Pushdown.{residual}
 use Rattle.vx_sql_plan.specs.Statements.{statement, statement_refusal, IsRefusalOf}
-use Rattle.vx_command_pages.specs.Inputs.{Reads, ReadsType, IsComplaint}
+use Rattle.vx_command_pages.specs.declared.complaint.Status.{Status}
+use Rattle.vx_command_pages.specs.declared.complaint.Status.TheVariants.{Failed, Wrong}
+use Rattle.vx_command_pages.specs.Inputs.{Reads, ReadsType, IsComplaint, status_of}
 use Rattle.vx_command_pages.specs.Pages.{line}
 use Rattle.vx_command_plans.specs.declared.sql.SqlComplaint.{SqlComplaint}
 use Rattle.vx_command_plans.specs.declared.sql.SqlComplaint.TheVariants.{Query, Statement}
@@ -36,3 +39,11 @@ IsUnwritten text schema d table refusal =
 abbrev pub IsSqlComplaint : List ℕ → List ℕ → Dialect → Name → SqlComplaint → Type 0
 IsSqlComplaint text schema d table (Query c) = IsComplaint text schema c
 IsSqlComplaint text schema d table (Statement refusal) = IsUnwritten text schema d table refusal
+
+-- how a command ends that stops with the complaint
+abbrev pub sql_status_of : SqlComplaint → Status
+sql_status_of (Query c) = status_of c
+sql_status_of (Statement OutOfMemory) = Failed
+sql_status_of (Statement NoColumns) = Wrong
+sql_status_of (Statement (Table reason)) = Wrong
+sql_status_of (Statement (Column name reason)) = Wrong

@@ -1,17 +1,19 @@
 // The page of `explain`.
 ghost use Rattle.std.specs.Prelude.{IfErr};
-ghost use Rattle.vx_command_pages.specs.Inputs.{IsComplaint};
+ghost use Rattle.vx_value.specs.Views.{type_of};
+ghost use Rattle.vx_tree.specs.Views.{tree_of};
+ghost use Rattle.vx_command_pages.specs.Inputs.{IsComplaint, IsRefusal};
 
 use crate::passes::push_passes;
 use crate::paths::ReadPaths;
-use crate::planned::planned;
+use crate::planned::plan_of;
 use crate::sources::source_text;
 use std::alloc::{AllocError, Global};
 use vx_command_pages::{Complaint, bind, read_expression, read_schema};
 use vx_rewrite::BoundPartitionedExpr;
 use vx_scan::ScanPlan;
-use vx_source::{SourceText, TypeText};
-use vx_tree::{BoundExpression, Expression, FieldName};
+use vx_source::{Placed, SourceText, TypeText};
+use vx_tree::{BoundExpression, DType, Expression, FieldName};
 
 /// What becomes of the expression over rows of the schema's type: its source text, type and tree; what
 /// each pass makes of it, where that changes it; and of its plan the tree, the paths that are read,
@@ -21,11 +23,23 @@ pub fn explanation_page(alloc: Global, expression: &str, schema: &str) -> Result
 {
     let placed = read_expression(alloc, expression)?;
     let scope = read_schema(alloc, schema)?;
-    let bound = bind(alloc, &placed, &scope)?;
-    let plan = planned(alloc, &placed, &scope)?;
+    let plan = plan_of(alloc, &placed, &scope)?;
+    explanation(alloc, &placed, &scope, &plan)
+}
+
+/// The same of what was read, and of its plan.
+pub(crate) fn explanation(
+    alloc: Global,
+    placed: &Placed,
+    scope: &DType,
+    plan: &ScanPlan,
+) -> Result<String, Complaint>
+    ensures { IfErr result (λ c. IsRefusal (tree_of placed.now.expression) (type_of scope.now) c) }
+{
+    let bound = bind(alloc, placed, scope)?;
     let mut page = tree_lines(alloc, &placed.expression, &bound)?;
     push_passes(alloc, &bound, &mut page)?;
-    push_plan(alloc, &plan, &mut page)?;
+    push_plan(alloc, plan, &mut page)?;
     Ok(page)
 }
 

@@ -36,8 +36,8 @@ pub(crate) fn plan_value(alloc: Global, plan: &ScanPlan) -> Result<Value, AllocE
     })
 }
 
-// The paths, each as its names.
-fn paths_value(alloc: Global, paths: &FieldPathSet) -> Result<Value, AllocError>
+/// The paths, each as its names.
+pub(crate) fn paths_value(alloc: Global, paths: &FieldPathSet) -> Result<Value, AllocError>
     ensures { IfOk result (λ v. view v ≡ paths_data (minimal_paths paths.now)) }
 {
     let mut values = Vec::new(alloc);

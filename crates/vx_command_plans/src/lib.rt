@@ -10,7 +10,7 @@ mod sources;
 mod sql;
 
 pub use explanation::explanation_page;
-pub use planned::plan_page;
+pub use planned::{paths_page, plan_of, plan_page};
 pub use sql::{SqlComplaint, sql_explanation_page, sql_page};
 
 #[cfg(test)]

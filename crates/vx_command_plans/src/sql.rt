@@ -1,16 +1,20 @@
 // Plans as SQL.
 ghost use Rattle.std.specs.Prelude.{◌≡◌, IfOk, IfErr, option_map, string_bytes};
+ghost use Rattle.vx_value.specs.Views.{type_of};
+ghost use Rattle.vx_tree.specs.Views.{tree_of};
 ghost use Rattle.vx_sql_plan.specs.Pushdown.{tree_in};
 ghost use Rattle.vx_command_pages.specs.declared.complaint.Complaint.TheVariants.{OutOfMemory};
+ghost use Rattle.vx_command_pages.specs.Inputs.{Reads, ReadsType};
 ghost use Rattle.vx_command_plans.specs.declared.sql.SqlComplaint.TheVariants.{Query, Statement};
 ghost use Rattle.vx_command_plans.specs.SqlPages.{lines_of, IsSqlPage, IsSqlComplaint};
 
-use crate::explanation::explanation_page;
-use crate::planned::planned;
+use crate::explanation::explanation;
+use crate::planned::plan_of;
 use crate::sources::source_text;
 use std::alloc::{AllocError, Global};
-use vx_command_pages::{Complaint, read_expression, read_schema};
+use vx_command_pages::{Complaint, Status, read_expression, read_schema};
 use vx_scan::ScanPlan;
+use vx_source::Placed;
 use vx_sql::{Dialect, first_unsupported};
 use vx_sql_plan::{NoStatement, SqlPlan, sql_plan};
 use vx_tree::{BoundExpression, DType, Operator, ScalarFnRef};
@@ -22,6 +26,25 @@ pub enum SqlComplaint {
     Query(Complaint),
     /// The plan has no statement.
     Statement(NoStatement),
+}
+
+impl SqlComplaint {
+    ghost use Rattle.vx_command_plans.specs.SqlPages.{sql_status_of};
+
+    /// How a command ends that stops with it.
+    pub fn status(&self) -> Status
+        ensures { result ≡ sql_status_of self.now }
+    {
+        match self {
+            SqlComplaint::Query(complaint) => complaint.status(),
+            SqlComplaint::Statement(refusal) => match refusal {
+                NoStatement::OutOfMemory => Status::Failed,
+                NoStatement::NoColumns | NoStatement::Table(_) | NoStatement::Column(..) => {
+                    Status::Wrong
+                }
+            },
+        }
+    }
 }
 
 impl From<Complaint> for SqlComplaint {
@@ -48,6 +71,40 @@ impl From<AllocError> for SqlComplaint {
     }
 }
 
+// A query that was read, its plan, and the plan's statement.
+#[derive(Drop)]
+struct Written {
+    placed: Box<Placed>,
+    scope: Box<DType>,
+    plan: Box<ScanPlan>,
+    sql: SqlPlan,
+}
+
+// The query that the texts say, its plan by the folding rules, and the plan's statement.
+fn plan_written(
+    alloc: Global,
+    expression: &str,
+    schema: &str,
+    dialect: Dialect,
+    table: &str,
+) -> Result<Written, SqlComplaint>
+    ensures read { IfOk result (λ w. Reads expression.now (tree_of w.placed.value.expression)) }
+    ensures scope { IfOk result (λ w. ReadsType schema.now (type_of w.scope.value)) }
+    ensures lines { IfOk result (λ w. IsSqlPage expression.now schema.now dialect table.now (lines_of (string_bytes w.sql.statement) (option_map tree_in w.sql.residual))) }
+    ensures complaint { IfErr result (λ c. IsSqlComplaint expression.now schema.now dialect table.now c) }
+{
+    let placed = read_expression(alloc, expression)?;
+    let scope = read_schema(alloc, schema)?;
+    let plan = plan_of(alloc, &placed, &scope)?;
+    let sql = sql_plan(alloc, plan.tree(), plan.scope(), table, dialect)?;
+    Ok(Written {
+        placed,
+        scope,
+        plan,
+        sql,
+    })
+}
+
 /// The plan of the expression over rows of the schema's type, by the folding rules, as a statement for the
 /// engine over the table of that name, and behind it, on a line of its own, what is left of the plan's
 /// tree as source text, if something is. Complains as [`plan_page`](crate::plan_page) does, and then of
@@ -62,11 +119,8 @@ pub fn sql_page(
     ensures prints { IfOk result (λ page. IsSqlPage expression.now schema.now dialect table.now (string_bytes page)) }
     ensures complaint { IfErr result (λ c. IsSqlComplaint expression.now schema.now dialect table.now c) }
 {
-    let placed = read_expression(alloc, expression)?;
-    let scope = read_schema(alloc, schema)?;
-    let plan = planned(alloc, &placed, &scope)?;
-    let sql = sql_plan(alloc, plan.tree(), plan.scope(), table, dialect)?;
-    Ok(lines_of(alloc, &sql)?)
+    let written = plan_written(alloc, expression, schema, dialect, table)?;
+    Ok(lines_of(alloc, &written.sql)?)
 }
 
 // The statement on a line, and what is left of the tree, if something is, on another.
@@ -82,35 +136,29 @@ fn lines_of(alloc: Global, sql: &SqlPlan) -> Result<String, AllocError>
     Ok(page)
 }
 
-/// What becomes of the expression, as [`explanation_page`] tells it, and behind it the statement of its
-/// plan, and of each conjunct whether the engine takes it, or why it is left.
+/// What becomes of the expression, as [`explanation_page`](crate::explanation_page) tells it, and behind it
+/// the statement of its plan, and of each conjunct whether the engine takes it, or why it is left.
+/// Complains as [`sql_page`] does.
 pub fn sql_explanation_page(
     alloc: Global,
     expression: &str,
     schema: &str,
     dialect: Dialect,
     table: &str,
-) -> Result<String, SqlComplaint> {
-    let mut page = explanation_page(alloc, expression, schema)?;
-    let placed = read_expression(alloc, expression)?;
-    let scope = read_schema(alloc, schema)?;
-    let plan = planned(alloc, &placed, &scope)?;
-    push_statement(alloc, &plan, dialect, table, &mut page)?;
-    push_conjuncts(alloc, plan.tree(), dialect, &mut page)?;
+) -> Result<String, SqlComplaint>
+    ensures { IfErr result (λ c. IsSqlComplaint expression.now schema.now dialect table.now c) }
+{
+    let written = plan_written(alloc, expression, schema, dialect, table)?;
+    let mut page = explanation(alloc, &written.placed, &written.scope, &written.plan)?;
+    push_statement(alloc, &written.sql, &mut page)?;
+    push_conjuncts(alloc, written.plan.tree(), dialect, &mut page)?;
     Ok(page)
 }
 
-fn push_statement(
-    alloc: Global,
-    plan: &ScanPlan,
-    dialect: Dialect,
-    table: &str,
-    page: &mut String,
-) -> Result<(), SqlComplaint> {
-    let sql = sql_plan(alloc, plan.tree(), plan.scope(), table, dialect)?;
+// Adds the line of the statement.
+fn push_statement(alloc: Global, sql: &SqlPlan, page: &mut String) -> Result<(), AllocError> {
     let statement = sql.statement.as_str();
-    page.push_str(format!(in alloc; "sql: {statement}\n")?.as_str())?;
-    Ok(())
+    page.push_str(format!(in alloc; "sql: {statement}\n")?.as_str())
 }
 
 // Adds a line for each conjunct, from left to right.

@@ -1,8 +1,9 @@
 // Pages of plans, by a table.
-use crate::{explanation_page, plan_page};
+use crate::{explanation_page, paths_page, plan_of, plan_page};
+use std::alloc::Global;
 use std::process::Abort;
 use std::test::Fail;
-use vx_command_pages::Complaint;
+use vx_command_pages::{Complaint, read_expression, read_schema};
 
 const ROWS: &str = "{a={x=i32, y=i32}?, b=i32, c=utf8}";
 
@@ -29,6 +30,27 @@ fn plans_are_objects_on_a_line(rt: HostRuntime) -> Result<(), Fail> {
         ),
     ] {
         let page = shown(&rt, plan_page(rt.alloc(), expression, schema));
+        assert_eq!(rt; page.as_str(), wanted);
+    }
+    Ok(())
+}
+
+// The page of the paths of the plan.
+fn planned_paths(alloc: Global, expression: &str, schema: &str) -> Result<String, Complaint> {
+    let placed = read_expression(alloc, expression)?;
+    let scope = read_schema(alloc, schema)?;
+    let plan = plan_of(alloc, &placed, &scope)?;
+    Ok(paths_page(alloc, plan.paths())?)
+}
+
+#[test]
+fn paths_are_an_array_on_a_line(rt: HostRuntime) -> Result<(), Fail> {
+    for (expression, schema, wanted) in [
+        ("a.x >= 1 and b < 5", ROWS, "[[\"a\",\"x\"],[\"b\"]]\n"),
+        ("is_null($)", "utf8?", "[[]]\n"),
+        ("1 < 2", ROWS, "[]\n"),
+    ] {
+        let page = shown(&rt, planned_paths(rt.alloc(), expression, schema));
         assert_eq!(rt; page.as_str(), wanted);
     }
     Ok(())

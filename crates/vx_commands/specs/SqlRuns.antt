@@ -2,8 +2,9 @@
 use Rattle.std.specs.Prelude.{◌≡◌, ◌⊎◌, ℕ, List, Option}
 use Rattle.std.specs.Io.KnownBytes.{Keeps}
 use Rattle.vx_command_pages.specs.declared.complaint.Status.{Status}
-use Rattle.vx_command_pages.specs.declared.complaint.Status.TheVariants.{Failed, Wrong}
-use Rattle.vx_command_plans.specs.SqlPages.{IsSqlPage}
+use Rattle.vx_command_pages.specs.declared.complaint.Status.TheVariants.{Failed}
+use Rattle.vx_command_plans.specs.declared.sql.SqlComplaint.{SqlComplaint}
+use Rattle.vx_command_plans.specs.SqlPages.{IsSqlPage, IsSqlComplaint, sql_status_of}
 use Rattle.vx_commands.specs.Commands.{EndsAtPage}
 use Rattle.vx_commands.specs.declared.sql.SqlCommand.{SqlCommand}
 use Rattle.vx_commands.specs.declared.sql.SqlWork.{SqlWork}
@@ -14,9 +15,16 @@ abbrev pub IsSqlText : SqlWork → SqlCommand → List ℕ → Type 0
 IsSqlText Plan command page = IsSqlPage command.query.expression.text.now command.query.schema.text.now command.dialect command.table.now page
 IsSqlText Explain command page = Unit {0}
 
--- the page is on the first writer, and nothing on the second; or nothing is on the first, and the status tells that
--- something is wrong or failed
+-- what is complained of
+abbrev pub IsSqlComplaintAt : SqlCommand → SqlComplaint → Type 0
+IsSqlComplaintAt command c = IsSqlComplaint command.query.expression.text.now command.query.schema.text.now command.dialect command.table.now c
+
+-- the status is the complaint's, or tells that the message couldn't be written
+abbrev pub EndsAtSqlComplaint : SqlComplaint → Status → Type 0
+EndsAtSqlComplaint c status = (status ≡ sql_status_of c) ⊎ (status ≡ Failed)
+
+-- the page is on the first writer, and nothing on the second, or the other way round a complaint
 abbrev pub EndsAsSql : SqlCommand → Option (List ℕ) → Option (List ℕ) → Option (List ℕ) → Option (List ℕ) → Status → Type 0
 EndsAsSql command out out' err err' status =
     ((page : List ℕ) × IsSqlText command.work command page × EndsAtPage page out out' status × Keeps err err')
-    ⊎ (Keeps out out' × ((status ≡ Wrong) ⊎ (status ≡ Failed)))
+    ⊎ (Keeps out out' × ((c : SqlComplaint) × IsSqlComplaintAt command c × EndsAtSqlComplaint c status))

@@ -1,16 +1,14 @@
 // A run of the program that writes a plan as SQL.
-ghost use Rattle.std.specs.Prelude.{◌≡◌, ◌⊎◌, IfOk, string_bytes};
-ghost use Rattle.vx_command_pages.specs.declared.complaint.Status.TheVariants.{Failed, Wrong};
-ghost use Rattle.vx_commands.specs.SqlRuns.{IsSqlText, EndsAsSql};
+ghost use Rattle.std.specs.Prelude.{IfOk, IfErr, string_bytes};
+ghost use Rattle.vx_commands.specs.SqlRuns.{IsSqlText, IsSqlComplaintAt, EndsAtSqlComplaint, EndsAsSql};
 
 use crate::Query;
 use crate::run::{print, tell_message};
 use std::alloc::Global;
 use std::io::Write;
-use vx_command_pages::{Complaint, Message, Status};
+use vx_command_pages::{Message, Status};
 use vx_command_plans::{SqlComplaint, sql_explanation_page, sql_page};
 use vx_sql::Dialect;
-use vx_sql_plan::NoStatement;
 
 /// What is told of a plan that is written as SQL.
 #[derive(Clone, Copy, Debug, PartialEq, Eq)]
@@ -34,7 +32,8 @@ pub struct SqlCommand<'a> {
     pub table: &'a str,
 }
 
-/// Runs the command: its page is written on `out`, or what is complained of as a message on `err`. The
+/// Runs the command: its page is written on `out`, or what is complained of as a message on `err`, and
+/// the other writer is left as it was. All of a page is made before the first of it is written. The
 /// status is `Done` for a page; `Wrong` for a text that can't be read, an expression that is refused, and
 /// a plan that has no statement; and `Failed` where memory or a writer fails.
 pub fn run_sql<W: Write, E: Write>(
@@ -47,13 +46,14 @@ pub fn run_sql<W: Write, E: Write>(
 {
     match page_of(alloc, command) {
         Ok(page) => print(page.as_str(), out),
-        Err(SqlComplaint::Query(complaint)) => complain(alloc, command, &complaint, err),
-        Err(SqlComplaint::Statement(refusal)) => refuse(alloc, &refusal, err),
+        Err(complaint) => complain(alloc, command, &complaint, err),
     }
 }
 
+// What the command prints, or why it prints nothing.
 fn page_of(alloc: Global, command: &SqlCommand<'_>) -> Result<String, SqlComplaint>
-    ensures { IfOk result (λ page. IsSqlText command.now.work command.now (string_bytes page)) }
+    ensures prints { IfOk result (λ page. IsSqlText command.now.work command.now (string_bytes page)) }
+    ensures complaint { IfErr result (λ c. IsSqlComplaintAt command.now c) }
 {
     let expression = command.query.expression.text;
     let schema = command.query.schema.text;
@@ -69,32 +69,23 @@ fn page_of(alloc: Global, command: &SqlCommand<'_>) -> Result<String, SqlComplai
 fn complain<E: Write>(
     alloc: Global,
     command: &SqlCommand<'_>,
-    complaint: &Complaint,
+    complaint: &SqlComplaint,
     err: &mut E,
 ) -> Status
-    ensures { (result ≡ Wrong) ⊎ (result ≡ Failed) }
+    ensures { EndsAtSqlComplaint complaint.now result }
 {
-    let message = Message {
-        complaint,
-        expression: command.query.expression,
-        schema: command.query.schema,
-    };
-    tell_message(alloc, &message, complaint.status(), err)
-}
-
-// Says why there is no statement.
-fn refuse<E: Write>(alloc: Global, refusal: &NoStatement, err: &mut E) -> Status
-    ensures { (result ≡ Wrong) ⊎ (result ≡ Failed) }
-{
-    match refusal {
-        NoStatement::OutOfMemory => {
-            tell_message(
-                alloc,
-                &format_args!("error: {refusal}"),
-                Status::Failed,
-                err,
-            )
+    let wanted = complaint.status();
+    match complaint {
+        SqlComplaint::Query(complaint) => {
+            let message = Message {
+                complaint,
+                expression: command.query.expression,
+                schema: command.query.schema,
+            };
+            tell_message(alloc, &message, wanted, err)
         }
-        _ => tell_message(alloc, &format_args!("error: {refusal}"), Status::Wrong, err),
+        SqlComplaint::Statement(refusal) => {
+            tell_message(alloc, &format_args!("error: {refusal}"), wanted, err)
+        }
     }
 }

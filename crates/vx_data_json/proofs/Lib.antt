@@ -1,0 +1,2 @@
+mod Lined
+mod Spelled

@@ -1,4 +1,7 @@
 // Values of flat types by their texts.
+ghost use Rattle.std.specs.Prelude.{◌≡◌, IfOk, string_bytes};
+ghost use Rattle.vx_data_record.specs.Cells.{hex_text};
+
 use crate::{Expected, Fault};
 use hex::FromHexError;
 use std::alloc::{AllocError, Global};
@@ -38,7 +41,9 @@ pub fn bytes_of(alloc: Global, text: &str) -> Result<Value, Fault> {
 }
 
 /// The bytes as `0x` and two hexadecimal digits each.
-pub fn hex_text(alloc: Global, bytes: &[u8]) -> Result<String, AllocError> {
+pub fn hex_text(alloc: Global, bytes: &[u8]) -> Result<String, AllocError>
+    ensures { IfOk result (λ text. string_bytes text ≡ hex_text bytes.now) }
+{
     let mut text = String::from_str(alloc, "0x")?;
     text.push_str(hex::encode(alloc, bytes)?.as_str())?;
     Ok(text)

@@ -1,5 +1,6 @@
 // Calls that go over records, or over statistics of chunks of them.
 ghost use Rattle.vx_call_pages.specs.Endings.{EndsWith};
+ghost use Rattle.vx_call_rows.specs.RowPages.{IsRowsPage};
 ghost use Rattle.vx_call_rows.specs.RowStops.{IsRowsComplaint, IsVerdictComplaint, RowsStops};
 ghost use Rattle.vx_call_rows.specs.VerdictPages.{IsVerdictPage};
 
@@ -17,7 +18,7 @@ pub extern "C" fn vx_eval_json(
     buffer: &mut [u8],
     answer: &mut Answer,
 ) -> u32
-    ensures { EndsWith (λ _. Unit {0}) (RowsStops (IsRowsComplaint expression.now schema.now) expression.now schema.now) buffer.old result buffer.new answer.new }
+    ensures { EndsWith (IsRowsPage expression.now schema.now) (RowsStops (IsRowsComplaint expression.now schema.now) expression.now schema.now) buffer.old result buffer.new answer.new }
 {
     answer_rows(alloc, expression, schema, records, buffer, answer).number()
 }

@@ -1,0 +1,5 @@
+pub mod Fields
+pub mod Grown
+pub mod Items
+pub mod Runs
+pub mod Texts

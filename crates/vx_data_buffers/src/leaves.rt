@@ -1,0 +1,90 @@
+// Values without others inside them, and which rows are null.
+ghost use Rattle.std.specs.Prelude.{◌≡◌, ◌+◌, ◌<◌, length};
+ghost use Rattle.vx_data_buffers.specs.Answers.{Reads, and_so, and_then};
+ghost use Rattle.vx_data_buffers.specs.Bytes.{bit_of, bytes_at, bytes_in, number_at};
+ghost use Rattle.vx_data_buffers.specs.Layout.{found, is_valid, row_bytes, text_of};
+ghost use Rattle.vx_value.specs.Types.{bool, bytes, int};
+ghost use Rattle.vx_value.specs.Views.{value_of};
+
+use crate::Buffer;
+use crate::buffer::bytes_at;
+use crate::bytes::{bit_of, number_at};
+use crate::fault::Fault;
+use crate::spans::row_bytes;
+use std::alloc::Global;
+use vx_types::{PType, Value};
+
+// Whether row i isn't null, as the validity buffer of that index says.
+pub(crate) fn is_valid(buffers: &[Buffer<'_>], at: usize, i: usize) -> Result<bool, Fault>
+    ensures { result ≡ is_valid (bytes_in buffers.now) at i }
+{
+    let bits = bytes_at(buffers, at);
+    if bits.is_empty() {
+        return Ok(true);
+    }
+    bit_of(bits, i).ok_or(Fault::EndsEarly(at))
+}
+
+// The truth value of row i.
+pub(crate) fn truth_at(buffers: &[Buffer<'_>], at: usize, i: usize) -> Result<Value, Fault>
+    ensures { Reads value_of result (and_so (found at (bit_of (bytes_at (bytes_in buffers.now) at) i)) bool) }
+{
+    match bit_of(bytes_at(buffers, at), i) {
+        Some(truth) => Ok(Value::Bool(truth)),
+        None => Err(Fault::EndsEarly(at)),
+    }
+}
+
+// The number of row i.
+pub(crate) fn whole_at(
+    buffers: &[Buffer<'_>],
+    ptype: PType,
+    at: usize,
+    i: usize,
+) -> Result<Value, Fault>
+    ensures { Reads value_of result (and_so (found at (number_at ptype (bytes_at (bytes_in buffers.now) at) i)) int) }
+{
+    match number_at(bytes_at(buffers, at), ptype, i) {
+        Some(number) => Ok(Value::Int(number)),
+        None => Err(Fault::EndsEarly(at)),
+    }
+}
+
+// The text of row i.
+pub(crate) fn text_at(
+    alloc: Global,
+    buffers: &[Buffer<'_>],
+    at: usize,
+    i: usize,
+) -> Result<Value, Fault>
+    requires buffer { at < length buffers.now }
+    requires row { i < usize.MAX }
+    ensures { Reads value_of result (and_then (row_bytes (bytes_in buffers.now) at i) (text_of (at + 1))) }
+{
+    text_of(alloc, at + 1, row_bytes(buffers, at, i)?)
+}
+
+// The bytes as a text.
+fn text_of(alloc: Global, at: usize, bytes: &[u8]) -> Result<Value, Fault>
+    ensures { Reads value_of result (text_of at bytes.now) }
+{
+    match str::from_utf8(bytes) {
+        Ok(text) => Ok(Value::Utf8(String::from_str(alloc, text)?)),
+        Err(_) => Err(Fault::NotUtf8(at)),
+    }
+}
+
+// The bytes of row i.
+pub(crate) fn octets_at(
+    alloc: Global,
+    buffers: &[Buffer<'_>],
+    at: usize,
+    i: usize,
+) -> Result<Value, Fault>
+    requires buffer { at < length buffers.now }
+    requires row { i < usize.MAX }
+    ensures { Reads value_of result (and_so (row_bytes (bytes_in buffers.now) at i) bytes) }
+{
+    let bytes = row_bytes(buffers, at, i)?;
+    Ok(Value::Binary(Vec::from_slice(alloc, bytes)?))
+}

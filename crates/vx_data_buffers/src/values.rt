@@ -1,0 +1,95 @@
+// Values of any type, with those inside them.
+ghost use Rattle.std.specs.Prelude.{◌≡◌, ◌+◌, ◌-◌, ◌<◌, ◌≤◌, length};
+ghost use Rattle.vx_data_buffers.specs.Answers.{Reads, and_so, each_from};
+ghost use Rattle.vx_data_buffers.specs.Bytes.{bytes_in};
+ghost use Rattle.vx_data_buffers.specs.Layout.{buffer_count, field_buffer_count, fields_at, value_at};
+ghost use Rattle.vx_value.specs.Fields.{data_of};
+ghost use Rattle.vx_value.specs.Types.{list_of, struct_of};
+ghost use Rattle.vx_value.specs.Views.{fields_of, type_of, value_of};
+
+use crate::Buffer;
+use crate::counts::buffer_count;
+use crate::fault::Fault;
+use crate::leaves::{is_valid, octets_at, text_at, truth_at, whole_at};
+use crate::spans::{fixed_span, span};
+use std::alloc::Global;
+use vx_types::{DType, StructFields, Value};
+
+// The value of row i of the type's column, whose first buffer has that index.
+#[cycle(read)]
+pub(crate) fn value_at(
+    alloc: Global,
+    buffers: &[Buffer<'_>],
+    t: &DType,
+    at: usize,
+    i: usize,
+) -> Result<Value, Fault>
+    requires buffers { at + buffer_count (type_of t.now) ≤ length buffers.now }
+    requires row { i < usize.MAX }
+    ensures { Reads value_of result (value_at (bytes_in buffers.now) (type_of t.now) at i) }
+{
+    if !is_valid(buffers, at, i)? {
+        return Ok(Value::Null);
+    }
+    let next = at + 1;
+    match t {
+        DType::Bool(_) => truth_at(buffers, next, i),
+        DType::Primitive(ptype, _) => whole_at(buffers, *ptype, next, i),
+        DType::Utf8(_) => text_at(alloc, buffers, next, i),
+        DType::Binary(_) => octets_at(alloc, buffers, next, i),
+        DType::List(t, _) => {
+            let (from, to) = span(buffers, next, i)?;
+            items(alloc, buffers, t.as_ref(), next + 1, from, to)
+        }
+        DType::FixedSizeList(t, size, _) => {
+            let (from, to) = fixed_span(*size, i)?;
+            items(alloc, buffers, t.as_ref(), next, from, to)
+        }
+        DType::Struct(fields, _) => fields_at(alloc, buffers, fields, next, i),
+    }
+}
+
+// The list of the items' rows from one up to another.
+#[cycle(read)]
+fn items(
+    alloc: Global,
+    buffers: &[Buffer<'_>],
+    t: &DType,
+    at: usize,
+    from: usize,
+    to: usize,
+) -> Result<Value, Fault>
+    requires buffers { at + buffer_count (type_of t.now) ≤ length buffers.now }
+    requires order { from ≤ to }
+    ensures { Reads value_of result (and_so (each_from (value_at (bytes_in buffers.now) (type_of t.now) at) from (to - from)) (λ vs. list_of (data_of vs))) }
+{
+    let mut items = Vec::new(alloc);
+    for i in from..to {
+        items.push(value_at(alloc, buffers, t, at, i)?)?;
+    }
+    Ok(Value::List(items))
+}
+
+// The struct of the fields' values in row i, of whose columns the first buffer has that index.
+#[cycle(read)]
+fn fields_at(
+    alloc: Global,
+    buffers: &[Buffer<'_>],
+    fields: &StructFields,
+    first: usize,
+    i: usize,
+) -> Result<Value, Fault>
+    requires buffers { first + field_buffer_count (fields_of fields.now) ≤ length buffers.now }
+    requires row { i < usize.MAX }
+    ensures { Reads value_of result (and_so (fields_at (bytes_in buffers.now) (fields_of fields.now) first i) (λ vs. struct_of (data_of vs))) }
+{
+    let types = fields.types();
+    let mut values = Vec::with_capacity(alloc, fields.nfields())?;
+    let mut at = first;
+    for field in 0..fields.nfields() {
+        let t = &types[field];
+        values.push(value_at(alloc, buffers, t, at, i)?)?;
+        at += buffer_count(t).ok_or(Fault::OutOfMemory)?;
+    }
+    Ok(Value::Struct(values))
+}

@@ -1,0 +1,67 @@
+// Calls on a plan that the caller keeps.
+ghost use Rattle.std.specs.Prelude.{◌≡◌, None};
+ghost use Rattle.vx_data_buffers.specs.Bytes.{bytes_in};
+ghost use Rattle.vx_call_pages.specs.Stops.{IsExhausted};
+ghost use Rattle.vx_call_scans.specs.Kept.{IsPathsPage, IsScanPage};
+ghost use Rattle.vx_call_scans.specs.ScanStops.{ScanStops};
+ghost use Rattle.vx_call_kept.specs.Held.{HeldEndsWith, NewEndsWith};
+
+use std::alloc::Global;
+use vx_call_kept::{answer_held_paths, answer_held_scan, answer_new, free_plan};
+use vx_call_pages::Answer;
+use vx_data_buffers::Buffer;
+use vx_plan_handle::PlanHandle;
+
+/// Makes the plan of the expression over batches of the schema's type: [`answer_new`].
+#[unsafe(no_mangle)]
+pub extern "C" fn vx_plan_new(
+    alloc: Global,
+    expression: &[u8],
+    schema: &[u8],
+    plan: &mut PlanHandle,
+    buffer: &mut [u8],
+    answer: &mut Answer,
+) -> u32
+    ensures { NewEndsWith expression.now schema.now plan.new.plan buffer.old result buffer.new answer.new }
+{
+    answer_new(alloc, expression, schema, plan, buffer, answer).number()
+}
+
+/// Answers the paths that the plan reads, as JSON on one line: [`answer_held_paths`].
+#[unsafe(no_mangle)]
+pub extern "C" fn vx_plan_paths(
+    alloc: Global,
+    plan: &mut PlanHandle,
+    buffer: &mut [u8],
+    answer: &mut Answer,
+) -> u32
+    ensures ends { HeldEndsWith IsPathsPage (λ _. IsExhausted) plan.old.plan buffer.old result buffer.new answer.new }
+    ensures kept { plan.new.plan ≡ plan.old.plan }
+{
+    answer_held_paths(alloc, plan, buffer, answer).number()
+}
+
+/// Answers what the plan's expression means at each row of the batch in the buffers, as a line of JSON
+/// each: [`answer_held_scan`].
+#[unsafe(no_mangle)]
+pub extern "C" fn vx_plan_scan(
+    alloc: Global,
+    plan: &mut PlanHandle,
+    rows: usize,
+    buffers: &[Buffer<'_>],
+    buffer: &mut [u8],
+    answer: &mut Answer,
+) -> u32
+    ensures ends { HeldEndsWith (λ kept. IsScanPage kept rows (bytes_in buffers.now)) (λ kept. ScanStops kept rows (bytes_in buffers.now)) plan.old.plan buffer.old result buffer.new answer.new }
+    ensures kept { plan.new.plan ≡ plan.old.plan }
+{
+    answer_held_scan(alloc, plan, rows, buffers, buffer, answer).number()
+}
+
+/// Lets go of the plan, if there is one: [`free_plan`].
+#[unsafe(no_mangle)]
+pub extern "C" fn vx_plan_free(alloc: Global, plan: &mut PlanHandle)
+    ensures { plan.new.plan ≡ None }
+{
+    free_plan(alloc, plan);
+}
