@@ -1,8 +1,8 @@
 #!/bin/sh
 # Builds the library of include/vx.h, as bindings/out/libvx.a and libvx.so, and runs what tests it: the
-# header against the exports, the tests in C, Python and Rust, texts of ten megabytes and random buffers
-# through each call under a sanitizer, what docs/FFI.md shows, and the 200 expressions of bindings/tests,
-# which the program and the three languages have to answer alike. Ends with a line
+# header against the exports, the tests in C, Python and Rust, texts of ten megabytes through each call,
+# random buffers through each under a sanitizer, what docs/FFI.md shows, and the 200 expressions of
+# bindings/tests, which the program and the three languages have to answer alike. Ends with a line
 # `bindings: N passed, M failed`, and with status 1 where something failed.
 #
 #     tools/bindings.sh [BUFFERS]     so many random buffers through each call, 2,000 where none is said
@@ -111,7 +111,7 @@ if [ "$failed" -eq 0 ]; then
     try "the C program's build" c_program
     try "C" "$out/test"
     try "C under a sanitizer" "$out/test_sanitized"
-    try "long texts" "$out/test_sanitized" long
+    try "long texts" "$out/test" long
     try "random buffers" "$out/test_sanitized" fuzz "$buffers" 1
     try "Python" python_tests
     try "Rust" rust_tests

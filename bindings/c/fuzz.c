@@ -146,7 +146,7 @@ static size_t random_buffers(vx_buffer *buffers, char *const memory[MOST_BUFFERS
 /* Plans are made, asked for their paths, and scan, mostly over good batches. */
 static void fuzz_plans(size_t times, char *const memory[4])
 {
-    static const char *const GOOD[] = {"x + 1 > 5 and s like \"t%\"", "x + 2147483646", "l", "$", "f"};
+    static const char *const GOOD[] = {"x + 1 > 5 and s like \"t%\"", "x + 2147483647", "l", "$", "f"};
     Tally made = {0}, paths = {0}, scans = {0};
     vx_plan plan = VX_PLAN_INIT;
     char *lent[MOST_BUFFERS];

@@ -117,7 +117,7 @@ static const Scan SCANS[] = {
      BUFFERS(NONE, B("\0\0\0\0\2\0\0\0"), NONE, NONE, B("\0\0\0\0\1\0\0\0\1\0\0\0"), B("a"), B("\1"), B("\0")),
      "[{\"c\":\"a\",\"d\":false},{\"c\":\"\",\"d\":null}]\n"},
     /* Fields that the expression doesn't read. */
-    {"x + 1", "{s=utf8, x=i8, l=list(i8)}", 1,
+    {"x + 1i8", "{s=utf8, x=i8, l=list(i8)}", 1,
      BUFFERS(NONE, NONE, B("\0\0\0\0\1\0\0\0"), B("a"), NONE, B("\6"), NONE, B("\0\0\0\0\0\0\0\0"), NONE, NONE),
      "7\n"},
     /* No row: no buffer needs a byte. */

@@ -81,7 +81,10 @@ fn stops_tell_their_place() -> Result<(), Error> {
     assert_eq!((place.text, place.record), (Text::Records, Some(2)));
     let short = plan.scan(2, &[&[], &[], &numbers([1])]).unwrap_err();
     assert_eq!(short.kind(), Kind::BadData);
-    assert_eq!(short.place().and_then(|place| place.record), None);
+    assert_eq!(short.place().and_then(|place| place.record), Some(2));
+    let too_few = plan.scan(2, &[&[], &[]]).unwrap_err();
+    assert_eq!(too_few.kind(), Kind::BadData);
+    assert_eq!(too_few.place().and_then(|place| place.record), None);
     assert_eq!(plan.scan(1, &[&[], &[], &numbers([1])])?, "2\n");
     Ok(())
 }
