@@ -5,13 +5,13 @@
 # bindings/tests, which the program and the three languages have to answer alike. Ends with a line
 # `bindings: N passed, M failed`, and with status 1 where something failed.
 #
-#     tools/bindings.sh [BUFFERS]     so many random buffers through each call, 2,000 where none is said
+#     tools/bindings.sh [BUFFERS]     so many random buffers through each call, 100,000 where none is said
 #
 # Run it after the gate, over the crates that this proved. Elsewhere `rt lib` proves what isn't proved
 # yet. Compilers that aren't there are installed of Debian's packages, where that is allowed.
 set -eu
 cd "$(dirname "$0")/.."
-buffers=${1:-2000}
+buffers=${1:-100000}
 out=$PWD/bindings/out
 mkdir -p "$out"
 passed=0
