@@ -1,6 +1,7 @@
 #!/bin/sh
-# Runs the program over each stored run, runs/*/*.txt, and compares what comes of it byte for byte.
-# The program is what it is given, else the one that `rt ci` or `rt run` has built.
+# Runs the program `vx`, and in runs/show `vx_show`, over each stored run, runs/*/*.txt, and compares
+# what comes of it byte for byte. `vx` is what is given, else the one that `rt ci` or `rt run` has
+# built; `vx_show` is the one beside it, else the one that was built so.
 #
 # A stored run is what a terminal shows of it: `$ ` and the command, as the shell takes it, and then
 # what it writes on standard output. Where its status isn't 0 or something is on standard error, the
@@ -11,10 +12,13 @@
 set -eu
 cd "$(dirname "$0")/.."
 program=$(realpath "${1:-crates/vx/out/vx}")
+show=$(dirname "$program")/vx_show
+[ -e "$show" ] || show=$PWD/crates/vx_show/out/vx_show
 room=$(mktemp -d)
 trap 'rm -r "$room"' EXIT
 mkdir "$room/bin"
 ln -s "$program" "$room/bin/vx"
+ln -s "$show" "$room/bin/vx_show"
 cp -R runs/data "$room/data"
 tools/records.sh 100000 csv >"$room/data/many.csv"
 tools/records.sh 100000 jsonl >"$room/data/many.jsonl"
