@@ -7,6 +7,3 @@ mod report;
 
 pub use position::Position;
 pub use report::{Report, Span};
-
-#[cfg(test)]
-mod tests;
