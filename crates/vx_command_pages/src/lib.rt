@@ -17,6 +17,3 @@ pub use message::{Input, Message};
 pub use source::source_page;
 pub use spans::span_at;
 pub use types::type_page;
-
-#[cfg(test)]
-mod tests;
