@@ -96,6 +96,17 @@ class Scans(unittest.TestCase):
         with vx.Plan("$ + 1", "i32") as plan:
             self.assertEqual(plan.scan([1, 2]), [2, 3])
 
+    def test_paths(self):
+        rows = "{a={x=i32, y=i32}?, b=i32, c=utf8}"
+        for expression, schema, paths in [
+            ("a.x >= 1 and b < 5", rows, [("a", "x"), ("b",)]),
+            ("is_null($)", "utf8?", [()]),
+            ("1 < 2", rows, []),
+        ]:
+            with self.subTest(expression), vx.Plan(expression, schema) as plan:
+                self.assertEqual(plan.paths, paths)
+                self.assertEqual(vx.plan(expression, schema).paths, paths)
+
     def test_values_of_each_kind(self):
         schema = "{a=binary?, b=list({c=utf8, d=bool?}), `e f`=u64, g=fixed_size_list(i8)[2]?}"
         row = {"a": b"\x00\xff", "b": [{"c": "x\ny\u2028", "d": None}, {"c": "", "d": True}], "e f": 2**64 - 1}

@@ -12,6 +12,3 @@ mod sql;
 pub use explanation::explanation_page;
 pub use planned::{paths_page, plan_of, plan_page};
 pub use sql::{SqlComplaint, sql_explanation_page, sql_page};
-
-#[cfg(test)]
-mod tests;
