@@ -151,6 +151,37 @@ class Scans(unittest.TestCase):
         self.assertGreater(compared, 50)
 
 
+class Blocks(unittest.TestCase):
+    """Batches of more rows than go through a tree at once."""
+
+    @staticmethod
+    def numbers(early, late):
+        """Ones, with other numbers in an early row and in a late one."""
+        rows = [1] * 2500
+        rows[10], rows[1500] = early, late
+        return rows
+
+    def test_each_row_in_its_place(self):
+        with vx.Plan("$ + 1", "i32?") as plan:
+            wanted = [2] * 10 + [21] + [2] * 1489 + [31] + [2] * 999
+            self.assertEqual(plan.scan(self.numbers(20, 30)), wanted)
+
+    def test_late_faults(self):
+        most = 2**31 - 1
+        for expression, early, late, start, end, record in [
+            ("$ + 1", 1, most, 0, 5, 1501),
+            # the later node faults in an earlier row
+            ("($ + 1) + ($ + $)", most - 1, most, 0, 7, 1501),
+            ("fill_null($, $)", 1, 2, 0, 15, None),
+        ]:
+            with self.subTest(expression), vx.Plan(expression, "i32?") as plan:
+                with self.assertRaises(vx.FaultError) as caught:
+                    plan.scan(self.numbers(early, late))
+                place = caught.exception.place
+                self.assertEqual((place.text, place.start, place.end), ("expression", start, end))
+                self.assertEqual(place.record, record)
+
+
 class Lives(unittest.TestCase):
     def test_closed(self):
         plan = vx.Plan("x", X)
