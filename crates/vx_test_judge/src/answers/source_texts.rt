@@ -1,6 +1,9 @@
 // Answers of source text.
 use std::alloc::Global;
-use vx_source::{ParseError, ScalarText, SourceText, TypeText, parse, parse_scalar, parse_type};
+use vx_source::{
+    DEFAULT_NESTING, ParseError, Places, ScalarText, SourceText, TypeText, parse, parse_scalar,
+    parse_type, parse_with_places,
+};
 use vx_test_samples::{Unread, boxed, reads};
 use vx_tree::{Expression, VortexError};
 
@@ -42,6 +45,26 @@ pub fn parsed_scalar(alloc: Global, text: &str) -> Result<String, Unread> {
         Ok(scalar) => Ok(format!(in alloc; "{}", ScalarText(&scalar))?),
         Err(refusal) => refused(alloc, refusal),
     }
+}
+
+/// The bytes that each node was read from, a node before its children: `1-8 1-4 1-2 1-1 7-8`.
+pub fn places(alloc: Global, text: &str) -> Result<String, Unread> {
+    let placed = Box::new(alloc, parse_with_places(alloc, text, DEFAULT_NESTING)?)?;
+    let mut waiting = Vec::new(alloc);
+    waiting.push(&placed.places)?;
+    let mut all = String::new(alloc);
+    for _ in 0..usize::MAX {
+        let Some(node) = waiting.pop() else {
+            break;
+        };
+        let before = if all.is_empty() { "" } else { " " };
+        let told = format!(in alloc; "{before}{}-{}", node.start, node.end)?;
+        all.push_str(told.as_str())?;
+        for child in node.children.iter().rev() {
+            waiting.push(child)?;
+        }
+    }
+    Ok(all)
 }
 
 fn refused(alloc: Global, refusal: ParseError) -> Result<String, Unread> {

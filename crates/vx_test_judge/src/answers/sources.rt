@@ -8,6 +8,7 @@ use crate::scene::Scene;
 use crate::told::{agreed, barred, refused, told};
 use std::alloc::Global;
 use std::fmt;
+use std::fmt::Write;
 use vx_test_samples::{Unread, boxed};
 use vx_tree::{DType, Expression, Scope, VortexResult};
 
@@ -23,6 +24,7 @@ pub fn answer(
         SourceKind::Text => text(alloc, &source)?,
         SourceKind::TextLength => text_length(alloc, scene, &source)?,
         SourceKind::TreeText => tree_text(alloc, &source)?,
+        SourceKind::TreeTextLength => tree_text_length(alloc, &source)?,
         SourceKind::Type => agreed_type(alloc, scene, &source)?,
         SourceKind::Built => built(alloc, &source)?,
         SourceKind::BuiltBound => built_bound(alloc, scene, &source)?,
@@ -97,6 +99,28 @@ fn tree_text(alloc: Global, source: &Expression) -> VortexResult<String> {
     let tree = source.display_tree();
     let text = format!(in alloc; "{tree}")?;
     Ok(barred(alloc, text.as_str())?)
+}
+
+/// Counts the bytes that are written, and keeps none.
+#[derive(Clone, Copy)]
+struct Counted(usize);
+
+impl fmt::Write for Counted {
+    fn write_str(&mut self, piece: &str) -> fmt::Result {
+        self.0 = self.0.saturating_add(piece.len());
+        Ok(())
+    }
+}
+
+// How many bytes the tree text has, which grows with the square of the depth.
+fn tree_text_length(alloc: Global, source: &Expression) -> VortexResult<String> {
+    let mut counted = Counted(0);
+    let is_written = write!(counted, "{}", source.display_tree()).is_ok();
+    let Counted(bytes) = counted;
+    if !is_written {
+        return Ok(format!(in alloc; "cut off behind {bytes}")?);
+    }
+    Ok(format!(in alloc; "{bytes}")?)
 }
 
 // The type by each call that tells one.

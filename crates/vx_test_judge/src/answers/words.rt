@@ -6,7 +6,7 @@ use crate::answers::matches::{like, matched};
 use crate::answers::paths::path_set;
 use crate::answers::pruned::statistics_of;
 use crate::answers::scans::{read, read_through};
-use crate::answers::source_texts::{parsed, parsed_scalar, parsed_type};
+use crate::answers::source_texts::{parsed, parsed_scalar, parsed_type, places};
 use crate::answers::sources::peeled_text;
 use crate::answers::values::{column, joined, scalar_text, type_text, union};
 use crate::kind::WordsKind;
@@ -34,6 +34,7 @@ pub fn answer(
         (WordsKind::Parse, [text]) => parsed(alloc, text),
         (WordsKind::ParsedType, [text]) => parsed_type(alloc, text),
         (WordsKind::ParsedScalar, [text]) => parsed_scalar(alloc, text),
+        (WordsKind::Places, [text]) => places(alloc, text),
         (WordsKind::Union, [first, second]) => union(alloc, first, second),
         (WordsKind::Scalar, [word]) => scalar_text(alloc, word),
         (WordsKind::Column, [dtype, rows]) => column(alloc, dtype, rows),
