@@ -241,14 +241,17 @@ def held(name, times):
 
 
 def grown(name):
-    """What is wrong where ten times the records take other memory than the records, or are others."""
+    """What is wrong where ten times the records take more memory than once, but for a hundredth (blocks
+    may be somewhat larger than they were asked for), or are others."""
     try:
         some, many = held(name, 1), held(name, 10)
     except (Failed, OSError) as failure:
         return f"vx filter of {name}: FAILED with {failure}"
-    if many != (some[0], some[1] * 10) or some[1] == "":
-        return f"vx filter of {name}: FAILED with {some[0]} and {many[0]} bytes held, or other records"
-    print(f"vx filter of {name}, once and ten times over: {some[0]} bytes held at most")
+    print(f"vx filter of {name}: {some[0]} bytes held at most, and of ten times the records {many[0]}")
+    if many[0] > some[0] * 1.01:
+        return f"vx filter of {name}: FAILED with more memory for more records"
+    if many[1] != some[1] * 10 or some[1] == "":
+        return f"vx filter of {name}: FAILED with other records"
     return None
 
 
