@@ -63,14 +63,14 @@ COLUMNS = {
     "collected": 2, "collected bound": 2, "collected depth": 2, "joined": 3, "first match": 4,
     "peeled text": 4, "json rows": 2, "csv rows": 2, "json cut rows": 2, "csv cut rows": 2,
     "json written": 2, "csv written": 2, "json twice": 2, "csv twice": 2,
-}  # fmt: skip
+}
 
 # Kinds whose answers have no refusals, so that the whole line is told as one that can't be read.
 UNREAD = {
     "text", "text length", "tree text", "built", "depth", "peeled text", "collected", "collected depth",
     "like", "error", "function", "child names", "swapped", "type text", "parse", "parsed type",
     "parsed scalar", "union", "path set",
-}  # fmt: skip
+}
 
 SUMS = {
     "vx_rows": "0 wrong lines, 0 not told\n0 lines that can't be read, 0 not refused\n{} rows, {} failed\n",
@@ -126,22 +126,18 @@ class Line:
         return (run.status, run.out, run.err) == (0, self.sum(1, 0), "")
 
     def is_refused(self, run):
-        """Whether the call is refused, and not what stands before it. Fails where the run ends neither
-        with a refusal of a line, nor with one of the program."""
+        """Whether the call is refused, and not what stands before it: without the whole scene the lines
+        behind may be told as anything. Fails where the run ends neither with a refusal of a line, nor
+        with one of the program."""
         if run.status > 0 and run.out == "" and NO_MEMORY.search(run.err):
             return False
-        told, unread = run.out, 0
-        for i, line in enumerate(self.scene):
-            refused = f"line.table:{i + 1}: {line}\n    can't be read: out of memory\n"
-            unread += told.startswith(refused)
-            told = told.removeprefix(refused)
-        sums = (self.sum(1 + unread, unread), self.sum(1 + unread, 1 + unread))
-        if run.status != 1 or run.err != "" or not told.endswith(sums):
+        if run.status != 1 or run.err != "":
             raise run.failed("it ends otherwise than it may")
-        if unread > 0:
-            return False
-        told = told.removeprefix(f"line.table:{1 + len(self.scene)}: {self.text}\n    ")
-        told = told.removesuffix(f"\n{sums[1]}")
+        for i, line in enumerate(self.scene):
+            if run.out.startswith(f"line.table:{i + 1}: {line}\n    can't be read: out of memory\n"):
+                return False
+        told = run.out.removeprefix(f"line.table:{1 + len(self.scene)}: {self.text}\n    ")
+        told = told.removesuffix(f"\n{self.sum(1, 1)}")
         if told == "can't be read: out of memory":
             return self.kind in UNREAD
         answer = self.refusal.fullmatch(told.removeprefix("is answered "))
@@ -174,12 +170,11 @@ def lines_of(crate, table):
         else:
             scene = [*scope, *batches, *known, *tree]
             line = Line(crate, f"{path}:{number}", text, scene, splits.get((*scope, *tree), ""),
-                        note.startswith("# Never refused:"), is_first)  # fmt: skip
+                        note.startswith("# Never refused:"), is_first)
             if kind == "split":
                 splits[(*scope, *tree)] = line.wanted
             is_first = False
             yield line
-        note = ""
 
 
 class Row:
