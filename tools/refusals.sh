@@ -38,7 +38,8 @@ class Run:
         except subprocess.TimeoutExpired:
             raise Failed(f"{self.how}: no end within 60 seconds")
         self.status = done.returncode
-        self.out, self.err = done.stdout.decode(), done.stderr.decode()
+        self.out = done.stdout.decode(errors="replace")
+        self.err = done.stderr.decode(errors="replace")
         counted = COUNTED.search(self.err)
         if not counted or int(counted[1]) < number:
             raise self.failed("it was cut off, or its requests weren't counted")
@@ -101,10 +102,14 @@ class Line:
         return re.compile(f"(?=.*! OutOfMemory){once}(?:, and (?:{also}))*")
 
     def of_files(self):
-        """The refusal, of what is done first or behind the wanted answer."""
-        plain = re.sub("~(..)", lambda it: chr(int(it[1], 16)), self.wanted.replace("¶", "\n"))
-        behind = f"{re.escape(plain)}(?:, which becomes another|, and then out of memory)"
-        return re.compile(f"(?:no rows: )?out of memory|{behind}")
+        """The refusal, alone or of the second step of a call that is followed by another."""
+        wanted = self.wanted.replace("¶", "\n")
+        steps = {
+            "rows": f"{wanted}, which becomes another", "type": f"{wanted}, and then out of memory",
+            "written": "no rows: out of memory", "twice": "no rows: out of memory",
+        }
+        step = steps.get(self.kind.split(" ", 1)[1], "out of memory")
+        return re.compile(f"out of memory|{re.escape(step)}")
 
     def sum(self, lines, failed):
         return SUMS[self.crate].format(lines, failed)
