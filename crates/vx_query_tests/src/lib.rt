@@ -1,5 +1,5 @@
-// Tests of analyses, rewriting, queries and the program that no row of a table says: closures, keys and
-// rules of our own, and writers that fail.
+// Tests of analyses, rewriting and the program that no row of a table says: closures, keys and rules of
+// our own, and writers that fail.
 #![tactic(auto)]
 
 #[cfg(test)]
