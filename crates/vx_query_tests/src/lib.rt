@@ -1,5 +1,5 @@
-// Tests of analyses, rewriting, queries, scans and the program that no row of a table says: closures,
-// keys and rules of our own, writers that fail, and refused memory.
+// Tests of analyses, rewriting and the program that no row of a table says: closures, keys and rules of
+// our own, and writers that fail.
 #![tactic(auto)]
 
 #[cfg(test)]
@@ -10,10 +10,6 @@ mod field_paths;
 mod named_alike;
 #[cfg(test)]
 mod own_rules;
-#[cfg(test)]
-mod pressure;
-#[cfg(test)]
-mod refusals;
 #[cfg(test)]
 mod runs;
 #[cfg(test)]

@@ -1,5 +1,5 @@
 // Tests that cross crates, of what no line of a table says: calls by types and with closures,
-// visitors, rewriters and containers, the parts of values and types, and memory that is refused.
+// visitors, rewriters and containers, and the parts of values and types.
 #![tactic(auto)]
 
 #[cfg(test)]
@@ -12,10 +12,6 @@ mod functions;
 mod looks;
 #[cfg(test)]
 mod masks;
-#[cfg(test)]
-mod pressure;
-#[cfg(test)]
-mod refusals;
 #[cfg(test)]
 mod scalars;
 #[cfg(test)]

@@ -1,7 +1,0 @@
-// Tests of deep trees, which run as LLVM builds them.
-#![tactic(auto)]
-
-#[cfg(test)]
-mod deep;
-#[cfg(test)]
-mod drawn;
