@@ -55,11 +55,11 @@ def steps(lines):
 
 def why_bad(edit, crate):
     """Why the edit of the crate doesn't apply, or None."""
-    bug, *lines = read(edit).split("\n")
-    if not bug.strip() or split(bug)[0] in ("file", "old", "new"):
-        return "its first line doesn't say what is wrong"
     texts = {}
     try:
+        bug, *lines = read(edit).split("\n")
+        if not bug.strip() or split(bug)[0] in ("file", "old", "new"):
+            return "its first line doesn't say what is wrong"
         for path, old, new in steps(lines):
             file = f"crates/{crate}/{path}"
             if not PLACE.fullmatch(path) or ".." in path.split("/") or not os.path.isfile(file):

@@ -41,7 +41,7 @@ def in_planted(crate):
 
 def read(path):
     """What the edit says is wrong, and the files that it changes."""
-    with open(path) as file:
+    with open(path, encoding="utf-8", errors="replace") as file:
         bug, *lines = file.read().splitlines() or [""]
     return bug, list(dict.fromkeys(line.removeprefix("file: ") for line in lines if line.startswith("file: ")))
 
