@@ -15,12 +15,14 @@
 set -eu
 cd "$(dirname "$0")/.."
 exec python3 - "$@" <<'PYTHON'
-import os, pathlib, shutil, signal, subprocess, sys, tempfile, time
+import os, pathlib, re, shutil, signal, subprocess, sys, tempfile, time
 
 # How many lines of a table are run.
 LINES = 40
-# Each of these lines judges many trees made by chance.
-SLOW_TABLES = {"chance.table"}
+# Each line of these judges many trees made by chance.
+SLOW_TABLES = ["chance.table", "wrong-chance.table"]
+# A line that tells how a part ended.
+TOLD = re.compile(r"(edits|guide|runs|test result|unproved): .*|\d+ rows, .*")
 
 PARTS = {
     "edits": "tools/edits.py",
@@ -62,7 +64,8 @@ def main():
     names = sys.argv[1:] or list(PARTS)
     if not set(names) <= set(PARTS):
         sys.exit(f"usage: tools/quick.sh [{' | '.join(PARTS)} ..]")
-    signal.signal(signal.SIGTERM, lambda number, _: sys.exit(128 + number))
+    for told in (signal.SIGTERM, signal.SIGINT):
+        signal.signal(told, lambda number, _: sys.exit(128 + number))
     begin, running, failed = time.monotonic(), {}, 0
     with tempfile.TemporaryDirectory(prefix="quick-") as room:
         slow = copy_runs(pathlib.Path(room, "top"))
@@ -84,13 +87,14 @@ def main():
                         continue
                     del running[name]
                     said.seek(0)
-                    lines = said.read().splitlines() or ["said nothing"]
+                    lines = said.read().splitlines()
+                    told = [line for line in lines if TOLD.fullmatch(line)] or lines or ["it said nothing"]
                     if part.returncode:
                         failed += 1
                         print(*lines, sep="\n")
-                    how = "FAILED" if part.returncode else "passed"
+                    how = f"FAILED (status {part.returncode})" if part.returncode else "passed"
                     minutes = (time.monotonic() - begin) / 60
-                    print(f"{name}: {how} after {minutes:.1f} minutes: {lines[-1]}", flush=True)
+                    print(f"{name}: {how} after {minutes:.1f} minutes: {told[-1]}", flush=True)
         finally:
             for part, _ in running.values():
                 os.killpg(part.pid, signal.SIGTERM)
