@@ -2,12 +2,14 @@
 """Runs the gate from nothing, `rt ci --anew`, or proves named crates and those below them for it, `rt
 ci CRATE ..`, which leaves out what the machine has kept, with so many jobs. Prints what each crate
 took of it: the processor minutes of its proof, of its tests and of its must-fail edits, as read off
-the provers' processes every second, and the minutes of the whole. Nothing else may be proved meanwhile
-on the processors that it may run on. docs/BENCHMARKS.md has what it printed.
+the provers' processes every second; their sums, and the minutes of the whole; and the longest chain of
+crates that stand on one another, by the minutes of their proofs. Nothing else may be proved meanwhile on
+the processors that it may run on. docs/BENCHMARKS.md has what it printed.
 
 usage: [taskset -c PROCESSORS] tools/gate_times.py JOBS [CRATE ..]
 """
 import collections
+import functools
 import os
 import subprocess
 import sys
@@ -41,10 +43,23 @@ def provers():
 
 
 def crates():
-    """The crates of crates.txt, in its order."""
+    """The crates of crates.txt, in its order, each with those that it depends on."""
     with open("crates.txt") as file:
-        names = [line.split(":")[0].split() for line in file if not line.startswith("#")]
-    return [words[0] for words in names if words]
+        lines = [line.partition(":") for line in file if not line.startswith("#") and ":" in line]
+    below = {name.split()[0]: uses.split() for name, _, uses in lines}
+    return {crate: [it for it in uses if it in below] for crate, uses in below.items()}
+
+
+def longest_chain(below, cost):
+    """The chain of crates, each of which depends on the one before, that costs most together."""
+
+    @functools.cache
+    def up_to(crate):
+        """What the costliest chain that ends in the crate costs, and the chain."""
+        before, chain = max(map(up_to, below[crate]), default=(0, ()))
+        return before + cost(crate), (*chain, crate)
+
+    return max(map(up_to, below), default=(0, ()))
 
 
 def main():
@@ -56,16 +71,21 @@ def main():
         for process, of, seconds in provers():
             seen[process] = of, seconds
         time.sleep(1)
+    taken = (time.monotonic() - begin) / 60
     minutes = collections.Counter()
     for of, seconds in seen.values():
         minutes[of] += seconds / 60
     print("| Crate | Proof | Tests | Edits |\n|---|---:|---:|---:|")
-    for crate in crates():
+    below = crates()
+    for crate in below:
         cells = [minutes[crate, task] for task in TASKS]
         if any(cells):
             print(f"| `{crate}` |", " | ".join(f"{it:.1f}" if it else "" for it in cells), "|")
-    taken = (time.monotonic() - begin) / 60
-    print(f"\n{sum(minutes.values()):.0f} processor minutes, {taken:.0f} minutes, status {gate.returncode}")
+    sums = [sum(minutes[crate, task] for crate in below) for task in TASKS]
+    print("| **all** |", " | ".join(f"**{it:.0f}**" for it in sums), "|")
+    length, chain = longest_chain(below, lambda crate: minutes[crate, "proof"])
+    print(f"\nThe longest chain of proofs, {length:.0f} minutes:", ", ".join(f"`{it}`" for it in chain))
+    print(f"\n{sum(sums):.0f} processor minutes, {taken:.0f} minutes, status {gate.returncode}")
     return gate.returncode
 
 
