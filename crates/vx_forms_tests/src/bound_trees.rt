@@ -1,7 +1,6 @@
 // The same forms over bound trees, with their types and refusals.
-use crate::shown::{give, is_nothing, some};
+use crate::shown::{gives, is_nothing, some};
 use std::alloc::Global;
-use std::test::Fail;
 use vx_forms::{bound, struct_type};
 use vx_tree::Nullability::NonNullable;
 use vx_tree::PType::I32;
@@ -18,6 +17,11 @@ fn x(alloc: Global) -> VortexResult<BoundExpression> {
 
 fn m(alloc: Global) -> VortexResult<BoundExpression> {
     bound::col(alloc, "m", scope(alloc)?)
+}
+
+// A refusal: the scope has no such field.
+fn unknown(alloc: Global) -> VortexResult<BoundExpression> {
+    bound::col(alloc, "y", scope(alloc)?)
 }
 
 // A refusal: a number is no truth value.
@@ -38,67 +42,87 @@ fn shown(alloc: Global, tree: VortexResult<BoundExpression>) -> VortexResult<Str
 }
 
 #[test]
-fn bound_forms_have_types(rt: HostRuntime) -> Result<(), Fail> {
+fn bound_forms_have_types(rt: HostRuntime) {
     let alloc = rt.alloc();
-    let exceeds = bound::gt(alloc, x(alloc), bound::lit(alloc, 5));
-    let chosen = bound::case_when_no_else(alloc, m(alloc), x(alloc));
-    let zipped = bound::zip_expr(alloc, m(alloc), x(alloc), bound::lit(alloc, 5));
-    let packed = bound::pack(alloc, [("a", x(alloc)), ("b", m(alloc))], NonNullable);
-    let forms = vec![in alloc;
-        (shown(alloc, exceeds), "($.x > 5i32) of bool"),
-        (shown(alloc, chosen), "CASE WHEN $.m THEN $.x END of i32?"),
-        (shown(alloc, zipped), "zip($.x, 5i32, $.m) of i32"),
-        (
-            shown(alloc, packed),
-            "pack(a: $.x, b: $.m) of {a=i32, b=bool}",
+    gives(
+        &rt,
+        shown(alloc, bound::gt(alloc, x(alloc), bound::lit(alloc, 5))),
+        "($.x > 5i32) of bool",
+    );
+    gives(
+        &rt,
+        shown(alloc, bound::case_when_no_else(alloc, m(alloc), x(alloc))),
+        "CASE WHEN $.m THEN $.x END of i32?",
+    );
+    gives(
+        &rt,
+        shown(
+            alloc,
+            bound::zip_expr(alloc, m(alloc), x(alloc), bound::lit(alloc, 5)),
         ),
-    ]?;
-    give(&rt, alloc, forms)
+        "zip($.x, 5i32, $.m) of i32",
+    );
+    gives(
+        &rt,
+        shown(
+            alloc,
+            bound::pack(alloc, [("a", x(alloc)), ("b", m(alloc))], NonNullable),
+        ),
+        "pack(a: $.x, b: $.m) of {a=i32, b=bool}",
+    );
 }
 
 #[test]
-fn the_first_refusal_is_answered(rt: HostRuntime) -> Result<(), Fail> {
+fn the_first_refusal_is_answered(rt: HostRuntime) {
     let alloc = rt.alloc();
-    let unknown = bound::col(alloc, "y", scope(alloc)?);
-    let forms = vec![in alloc;
-        (negated(alloc), "a truth type is needed"),
-        (nope(alloc), "types differ in more than nullability"),
-        (unknown, "no such field: y"),
-        (
-            bound::or(alloc, negated(alloc), nope(alloc)),
-            "a truth type is needed",
-        ),
-        (
-            bound::or(alloc, nope(alloc), negated(alloc)),
-            "types differ in more than nullability",
-        ),
-        (
-            bound::zip_expr(alloc, negated(alloc), nope(alloc), x(alloc)),
-            "a truth type is needed",
-        ),
-        (
-            bound::pack(alloc, [("a", x(alloc)), ("b", nope(alloc))], NonNullable),
-            "types differ in more than nullability",
-        ),
-    ]?;
-    give(&rt, alloc, forms)
+    gives(&rt, negated(alloc), "a truth type is needed");
+    gives(&rt, nope(alloc), "types differ in more than nullability");
+    gives(&rt, unknown(alloc), "no such field: y");
+    gives(
+        &rt,
+        bound::or(alloc, negated(alloc), nope(alloc)),
+        "a truth type is needed",
+    );
+    gives(
+        &rt,
+        bound::or(alloc, nope(alloc), negated(alloc)),
+        "types differ in more than nullability",
+    );
+    gives(
+        &rt,
+        bound::zip_expr(alloc, negated(alloc), nope(alloc), x(alloc)),
+        "a truth type is needed",
+    );
+    gives(
+        &rt,
+        bound::pack(alloc, [("a", x(alloc)), ("b", nope(alloc))], NonNullable),
+        "types differ in more than nullability",
+    );
 }
 
 #[test]
-fn bound_items_are_collected(rt: HostRuntime) -> Result<(), Fail> {
+fn bound_items_are_collected(rt: HostRuntime) {
     let alloc = rt.alloc();
-    let joined = bound::and_collect(alloc, [m(alloc), m(alloc), m(alloc)]);
-    let either = bound::or_collect(alloc, [m(alloc), m(alloc)]);
-    let refused = bound::and_collect(alloc, [m(alloc), x(alloc)]);
-    let forms = vec![in alloc;
-        (some(&rt, joined), "(($.m and $.m) and $.m)"),
-        (some(&rt, either), "($.m or $.m)"),
-        (some(&rt, refused), "a truth type is needed"),
-    ]?;
-    give(&rt, alloc, forms)?;
+    gives(
+        &rt,
+        some(
+            &rt,
+            bound::and_collect(alloc, [m(alloc), m(alloc), m(alloc)]),
+        ),
+        "(($.m and $.m) and $.m)",
+    );
+    gives(
+        &rt,
+        some(&rt, bound::or_collect(alloc, [m(alloc), m(alloc)])),
+        "($.m or $.m)",
+    );
+    gives(
+        &rt,
+        some(&rt, bound::and_collect(alloc, [m(alloc), x(alloc)])),
+        "a truth type is needed",
+    );
     let none: [BoundExpression; 0] = [];
     assert!(rt; is_nothing(bound::and_collect(alloc, none)));
     let none: [BoundExpression; 0] = [];
     assert!(rt; is_nothing(bound::or_collect(alloc, none)));
-    Ok(())
 }

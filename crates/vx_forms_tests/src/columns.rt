@@ -1,7 +1,6 @@
 // Types and columns of plain values, and trees over them.
-use crate::shown::give;
+use crate::shown::gives;
 use std::alloc::Global;
-use std::test::Fail;
 use vx_forms::*;
 use vx_tree::Nullability::{NonNullable, Nullable};
 use vx_tree::PType::I32;
@@ -20,49 +19,62 @@ fn beside(alloc: Global, x: VortexResult<Column>, y: VortexResult<Column>) -> Vo
 }
 
 #[test]
-fn types(rt: HostRuntime) -> Result<(), Fail> {
+fn types(rt: HostRuntime) {
     let alloc = rt.alloc();
     let fields = [("x", I32.into()), ("y", DType::Bool(Nullable))];
     let nothing: [(&str, DType); 0] = [];
-    let forms = vec![in alloc;
-        (struct_type(alloc, fields, Nullable), "{x=i32, y=bool?}?"),
-        (struct_type(alloc, nothing, NonNullable), "{}"),
-    ]?;
-    give(&rt, alloc, forms)
+    gives(
+        &rt,
+        struct_type(alloc, fields, Nullable),
+        "{x=i32, y=bool?}?",
+    );
+    gives(&rt, struct_type(alloc, nothing, NonNullable), "{}");
 }
 
 #[test]
-fn columns(rt: HostRuntime) -> Result<(), Fail> {
+fn columns(rt: HostRuntime) {
     let alloc = rt.alloc();
-    let numbers = vec![in alloc; 1u8, 2]?;
+    let numbers = vec![in alloc; 1u8, 2].expect(&rt, "memory");
     let none: [bool; 0] = [];
-    let forms = vec![in alloc;
-        (shown(alloc, column(alloc, [1u8, 2])), "[1u8, 2u8] of u8"),
-        (shown(alloc, column_of(alloc, numbers)), "[1u8, 2u8] of u8"),
-        (
-            shown(alloc, column(alloc, [Some("a"), None])),
-            "[\"a\", null] of utf8?",
-        ),
-        (shown(alloc, column(alloc, none)), "[] of bool"),
-    ]?;
-    give(&rt, alloc, forms)
+    gives(
+        &rt,
+        shown(alloc, column(alloc, [1u8, 2])),
+        "[1u8, 2u8] of u8",
+    );
+    gives(
+        &rt,
+        shown(alloc, column_of(alloc, numbers)),
+        "[1u8, 2u8] of u8",
+    );
+    gives(
+        &rt,
+        shown(alloc, column(alloc, [Some("a"), None])),
+        "[\"a\", null] of utf8?",
+    );
+    gives(&rt, shown(alloc, column(alloc, none)), "[] of bool");
 }
 
 #[test]
-fn columns_of_structs(rt: HostRuntime) -> Result<(), Fail> {
+fn columns_of_structs(rt: HostRuntime) {
     let alloc = rt.alloc();
-    let joined = beside(alloc, column(alloc, [1, 2]), column(alloc, ["a", "b"]));
-    let unequal = beside(alloc, column(alloc, [1, 2]), column(alloc, [true]));
     let nothing: [(&str, Column); 0] = [];
-    let forms = vec![in alloc;
-        (
-            shown(alloc, joined),
-            "[{x: 1i32, y: \"a\"}, {x: 2i32, y: \"b\"}] of {x=i32, y=utf8}",
+    gives(
+        &rt,
+        shown(
+            alloc,
+            beside(alloc, column(alloc, [1, 2]), column(alloc, ["a", "b"])),
         ),
-        (shown(alloc, unequal), "columns of unequal length"),
-        (shown(alloc, struct_column(alloc, nothing)), "[] of {}"),
-    ]?;
-    give(&rt, alloc, forms)
+        "[{x: 1i32, y: \"a\"}, {x: 2i32, y: \"b\"}] of {x=i32, y=utf8}",
+    );
+    gives(
+        &rt,
+        shown(
+            alloc,
+            beside(alloc, column(alloc, [1, 2]), column(alloc, [true])),
+        ),
+        "columns of unequal length",
+    );
+    gives(&rt, shown(alloc, struct_column(alloc, nothing)), "[] of {}");
 }
 
 // The value of the tree over two rows.
@@ -74,20 +86,29 @@ fn over_rows(alloc: Global, tree: VortexResult<Expression>) -> VortexResult<Stri
 }
 
 #[test]
-fn trees_are_applied(rt: HostRuntime) -> Result<(), Fail> {
+fn trees_are_applied(rt: HostRuntime) {
     let alloc = rt.alloc();
     let null: Option<i32> = None;
-    let from = gt_eq(alloc, col(alloc, "x"), lit(alloc, null));
-    let to = lt_eq(alloc, col(alloc, "x"), lit(alloc, 5));
-    let refused = not(alloc, col(alloc, "x"));
-    let faulty = checked_add(alloc, col(alloc, "x"), col(alloc, "y"));
-    let forms = vec![in alloc;
-        (
-            over_rows(alloc, and(alloc, from, to)),
-            "[false, null] of bool?",
+    gives(
+        &rt,
+        over_rows(
+            alloc,
+            and(
+                alloc,
+                gt_eq(alloc, col(alloc, "x"), lit(alloc, null)),
+                lt_eq(alloc, col(alloc, "x"), lit(alloc, 5)),
+            ),
         ),
-        (over_rows(alloc, refused), "a truth type is needed"),
-        (over_rows(alloc, faulty), "the sum of row 0 is out of range"),
-    ]?;
-    give(&rt, alloc, forms)
+        "[false, null] of bool?",
+    );
+    gives(
+        &rt,
+        over_rows(alloc, not(alloc, col(alloc, "x"))),
+        "a truth type is needed",
+    );
+    gives(
+        &rt,
+        over_rows(alloc, checked_add(alloc, col(alloc, "x"), col(alloc, "y"))),
+        "the sum of row 0 is out of range",
+    );
 }

@@ -1,7 +1,6 @@
 // Plain values as literals and scalars.
-use crate::shown::give;
+use crate::shown::gives;
 use std::alloc::Global;
-use std::test::Fail;
 use vx_forms::*;
 use vx_tree::Nullability::NonNullable;
 use vx_tree::{DType, Scalar, VortexResult};
@@ -14,55 +13,75 @@ fn literal<S: IntoScalar>(alloc: Global, value: S) -> VortexResult<String> {
 }
 
 #[test]
-fn values(rt: HostRuntime) -> Result<(), Fail> {
+fn values(rt: HostRuntime) {
     let alloc = rt.alloc();
     let octets: &[u8] = &[0, 255];
     let none: Option<i32> = None;
-    let forms = vec![in alloc;
-        (literal(alloc, true), "true of bool"),
-        (literal(alloc, "a"), "\"a\" of utf8"),
-        (literal(alloc, octets), "0x00ff of binary"),
-        (literal(alloc, Some("a")), "\"a\" of utf8?"),
-        (literal(alloc, Some(Some(5))), "5i32 of i32?"),
-        (literal(alloc, none), "null of i32?"),
-    ]?;
-    give(&rt, alloc, forms)
+    gives(&rt, literal(alloc, true), "true of bool");
+    gives(&rt, literal(alloc, "a"), "\"a\" of utf8");
+    gives(&rt, literal(alloc, octets), "0x00ff of binary");
+    gives(&rt, literal(alloc, Some("a")), "\"a\" of utf8?");
+    gives(&rt, literal(alloc, Some(Some(5))), "5i32 of i32?");
+    gives(&rt, literal(alloc, none), "null of i32?");
 }
 
 #[test]
-fn whole_numbers(rt: HostRuntime) -> Result<(), Fail> {
+fn whole_numbers(rt: HostRuntime) {
     let alloc = rt.alloc();
-    let forms = vec![in alloc;
-        (literal(alloc, 255u8), "255u8 of u8"),
-        (literal(alloc, 65535u16), "65535u16 of u16"),
-        (literal(alloc, u32::MAX), "4294967295u32 of u32"),
-        (literal(alloc, u64::MAX), "18446744073709551615u64 of u64"),
-        (literal(alloc, -128i8), "-128i8 of i8"),
-        (literal(alloc, -32768i16), "-32768i16 of i16"),
-        (literal(alloc, i32::MIN), "-2147483648i32 of i32"),
-        (literal(alloc, i64::MIN), "-9223372036854775808i64 of i64"),
-    ]?;
-    give(&rt, alloc, forms)
+    gives(&rt, literal(alloc, 255u8), "255u8 of u8");
+    gives(&rt, literal(alloc, 65535u16), "65535u16 of u16");
+    gives(&rt, literal(alloc, u32::MAX), "4294967295u32 of u32");
+    gives(
+        &rt,
+        literal(alloc, u64::MAX),
+        "18446744073709551615u64 of u64",
+    );
+    gives(&rt, literal(alloc, -128i8), "-128i8 of i8");
+    gives(&rt, literal(alloc, -32768i16), "-32768i16 of i16");
+    gives(&rt, literal(alloc, i32::MIN), "-2147483648i32 of i32");
+    gives(
+        &rt,
+        literal(alloc, i64::MIN),
+        "-9223372036854775808i64 of i64",
+    );
 }
 
-#[test]
-fn scalars(rt: HostRuntime) -> Result<(), Fail> {
-    let alloc = rt.alloc();
-    let dog = scalar(alloc, 32u32)?;
-    let pets = [("dog", dog), ("cat", scalar(alloc, "rufus")?)];
-    let row = struct_row(alloc, pets)?;
+fn pets(alloc: Global) -> VortexResult<Scalar> {
+    let pets = [
+        ("dog", scalar(alloc, 32u32)?),
+        ("cat", scalar(alloc, "rufus")?),
+    ];
+    struct_row(alloc, pets)
+}
+
+fn nobody(alloc: Global) -> VortexResult<Scalar> {
     let nobody: [(&str, Scalar); 0] = [];
-    let empty = struct_row(alloc, nobody)?;
-    let forms = vec![in alloc;
-        (
-            literal(alloc, &row),
-            "{dog: 32u32, cat: \"rufus\"} of {dog=u32, cat=utf8}"
-        ),
-        (
-            literal(alloc, row),
-            "{dog: 32u32, cat: \"rufus\"} of {dog=u32, cat=utf8}"
-        ),
-        (literal(alloc, empty), "{} of {}"),
-    ]?;
-    give(&rt, alloc, forms)
+    struct_row(alloc, nobody)
+}
+
+// The literal of a row, and its type.
+fn row(alloc: Global, row: VortexResult<Scalar>) -> VortexResult<String> {
+    literal(alloc, row?)
+}
+
+// The same of a row that is lent.
+fn lent_row(alloc: Global, row: VortexResult<Scalar>) -> VortexResult<String> {
+    let row = Box::new(alloc, row?)?;
+    literal(alloc, &*row)
+}
+
+#[test]
+fn scalars(rt: HostRuntime) {
+    let alloc = rt.alloc();
+    gives(
+        &rt,
+        lent_row(alloc, pets(alloc)),
+        "{dog: 32u32, cat: \"rufus\"} of {dog=u32, cat=utf8}",
+    );
+    gives(
+        &rt,
+        row(alloc, pets(alloc)),
+        "{dog: 32u32, cat: \"rufus\"} of {dog=u32, cat=utf8}",
+    );
+    gives(&rt, row(alloc, nobody(alloc)), "{} of {}");
 }

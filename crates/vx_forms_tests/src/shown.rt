@@ -1,25 +1,17 @@
 // What forms give, compared as texts. All of it is generic over what is given, since of a type
-// parameter the prover writes nothing out (docs/BENCHMARKS.md, "What a proof costs").
-use std::alloc::Global;
+// parameter the prover writes nothing out: a form that a test keeps itself, over a step that may end
+// it, is written out at each such step (docs/BENCHMARKS.md, "What a proof costs").
 use std::fmt::Display;
 use std::process::Abort;
-use std::test::Fail;
+use vx_test_samples::reads;
 use vx_tree::VortexResult;
 
-/// Asserts that each form gives what has the text beside it, or is refused with that text.
-pub fn give<T: Display + Drop>(
-    rt: &impl Abort,
-    alloc: Global,
-    forms: Vec<(VortexResult<T>, &str)>,
-) -> Result<(), Fail> {
-    for (form, text) in forms {
-        let given = match form {
-            Ok(given) => given.to_string(alloc)?,
-            Err(refusal) => refusal.to_string(alloc)?,
-        };
-        assert_eq!(rt; given.as_str(), text);
+/// Asserts that the form gives what has that text, or is refused with that text.
+pub fn gives<T: Display + Drop>(rt: &impl Abort, form: VortexResult<T>, text: &str) {
+    match form {
+        Ok(given) => assert!(rt; reads(&given, text), "not {text}"),
+        Err(refusal) => assert!(rt; reads(&refusal, text), "not {text}"),
     }
-    Ok(())
 }
 
 /// What is collected. Asserts that something is.

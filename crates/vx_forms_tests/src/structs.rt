@@ -1,7 +1,6 @@
 // Fields, structs, and names as they come.
-use crate::shown::give;
+use crate::shown::gives;
 use std::alloc::Global;
-use std::test::Fail;
 use vx_forms::*;
 use vx_forms_paths::field;
 use vx_tree::Nullability::{NonNullable, Nullable};
@@ -13,39 +12,59 @@ fn s(alloc: Global) -> VortexResult<Expression> {
 }
 
 #[test]
-fn fields(rt: HostRuntime) -> Result<(), Fail> {
+fn fields(rt: HostRuntime) {
     let alloc = rt.alloc();
-    let target = DType::Primitive(I32, Nullable);
-    let forms = vec![in alloc;
-        (get_item(alloc, "x", s(alloc)), "$.s.x"),
-        (field(alloc, "s.x.y"), "$.s.x.y"),
-        (field(alloc, "s."), "$.s."),
-        (
-            cast(alloc, get_item(alloc, "x", s(alloc)), target),
-            "cast($.s.x as i32?)",
+    gives(&rt, get_item(alloc, "x", s(alloc)), "$.s.x");
+    gives(&rt, field(alloc, "s.x.y"), "$.s.x.y");
+    gives(&rt, field(alloc, "s."), "$.s.");
+    gives(
+        &rt,
+        cast(
+            alloc,
+            get_item(alloc, "x", s(alloc)),
+            DType::Primitive(I32, Nullable),
         ),
-        (select(alloc, ["a", "b"], s(alloc)), "$.s{a, b}"),
-        (select_exclude(alloc, ["a", "b"], s(alloc)), "$.s{~ a, b}"),
-        (pack(alloc, [("a", s(alloc))], NonNullable), "pack(a: $.s)"),
-        (
-            pack(alloc, [("a", root()), ("b", root())], Nullable),
-            "pack(a: $, b: $)?",
-        ),
-    ]?;
-    give(&rt, alloc, forms)
+        "cast($.s.x as i32?)",
+    );
+    gives(&rt, select(alloc, ["a", "b"], s(alloc)), "$.s{a, b}");
+    gives(
+        &rt,
+        select_exclude(alloc, ["a", "b"], s(alloc)),
+        "$.s{~ a, b}",
+    );
+    gives(
+        &rt,
+        pack(alloc, [("a", s(alloc))], NonNullable),
+        "pack(a: $.s)",
+    );
+    gives(
+        &rt,
+        pack(alloc, [("a", root()), ("b", root())], Nullable),
+        "pack(a: $, b: $)?",
+    );
+}
+
+fn name(alloc: Global) -> VortexResult<Box<FieldName>> {
+    Ok(Box::new(alloc, FieldName::new(alloc, "a")?)?)
+}
+
+fn names(alloc: Global) -> VortexResult<Box<FieldNames>> {
+    let names = FieldNames::new(alloc, vec![in alloc; FieldName::new(alloc, "a")?]?)?;
+    Ok(Box::new(alloc, names)?)
 }
 
 #[test]
-fn names_as_they_come(rt: HostRuntime) -> Result<(), Fail> {
+fn names_as_they_come(rt: HostRuntime) {
     let alloc = rt.alloc();
-    let name = FieldName::new(alloc, "a")?;
-    let names = FieldNames::new(alloc, vec![in alloc; name.clone()?]?)?;
-    let forms = vec![in alloc;
-        (col(alloc, &name), "$.a"),
-        (select(alloc, [&name, &name], root()), "${a, a}"),
-        (select(alloc, &names, root()), "${a}"),
-        (select_exclude(alloc, names, root()), "${~ a}"),
-        (get_item(alloc, name, root()), "$.a"),
-    ]?;
-    give(&rt, alloc, forms)
+    let name = name(alloc).expect(&rt, "memory");
+    let names = names(alloc).expect(&rt, "memory");
+    gives(&rt, col(alloc, &*name), "$.a");
+    gives(&rt, select(alloc, [&*name, &*name], root()), "${a, a}");
+    gives(&rt, select(alloc, &*names, root()), "${a}");
+    gives(
+        &rt,
+        select_exclude(alloc, Box::into_inner(names), root()),
+        "${~ a}",
+    );
+    gives(&rt, get_item(alloc, Box::into_inner(name), root()), "$.a");
 }

@@ -1,7 +1,6 @@
 // Trees as they are read.
-use crate::shown::give;
+use crate::shown::gives;
 use std::alloc::Global;
-use std::test::Fail;
 use vx_forms::{expr, lit};
 use vx_tree::Nullability::Nullable;
 use vx_tree::PType::I32;
@@ -38,16 +37,14 @@ fn others(alloc: Global) -> VortexResult<Expression> {
 }
 
 #[test]
-fn trees_as_they_are_read(rt: HostRuntime) -> Result<(), Fail> {
+fn trees_as_they_are_read(rt: HostRuntime) {
     let alloc = rt.alloc();
-    let forms = vec![in alloc;
-        (range(alloc), "(($.x >= 2i32) and ($.x < 5i32))"),
-        (between(alloc), "(2i32 <= $.x < 5i32)"),
-        (
-            fields(alloc),
-            "pack(a: (($.x >= 2i32) and ($.x < 5i32)), b: $, c: $.x)?{a, b}",
-        ),
-        (others(alloc), "(cast(5i32 as i32?) + 5i32{~ a})"),
-    ]?;
-    give(&rt, alloc, forms)
+    gives(&rt, range(alloc), "(($.x >= 2i32) and ($.x < 5i32))");
+    gives(&rt, between(alloc), "(2i32 <= $.x < 5i32)");
+    gives(
+        &rt,
+        fields(alloc),
+        "pack(a: (($.x >= 2i32) and ($.x < 5i32)), b: $, c: $.x)?{a, b}",
+    );
+    gives(&rt, others(alloc), "(cast(5i32 as i32?) + 5i32{~ a})");
 }

@@ -7,6 +7,3 @@ pub use vx_source_types::{
     parse_type, parse_type_with,
 };
 pub use vx_source_writer::SourceText;
-
-#[cfg(test)]
-mod tests;

@@ -3,19 +3,24 @@ ghost use Rattle.std.specs.Prelude.{IfOk};
 ghost use Rattle.std.specs.List.{IsDistinct};
 ghost use Rattle.std.specs.Str.{bytes_eq};
 
+use crate::looks::kept;
 use std::alloc::Global;
 use vx_test_samples::names;
 use vx_tree::Nullability::Nullable;
 use vx_tree::{
     Binary, DType, FieldName, FieldNames, FieldSelection, FillNull, GetItem, Literal, Operator,
-    ScalarFnVTable, StrictComparison, VortexResult,
+    ScalarFnRef, ScalarFnVTable, StrictComparison, VortexResult,
 };
+
+/// The function that gives the field of that name.
+fn item(alloc: Global, name: &str) -> VortexResult<ScalarFnRef> {
+    Ok(GetItem::bind(FieldName::new(alloc, name)?))
+}
 
 #[test]
 fn markers_see_their_own_function(rt: HostRuntime) {
     let alloc = rt.alloc();
-    let name = FieldName::new(alloc, "a").expect(&rt, "memory");
-    let item = Box::new(alloc, GetItem::bind(name)).expect(&rt, "memory");
+    let item = kept(&rt, alloc, item(alloc, "a"));
     assert!(rt; item.is::<GetItem>());
     assert!(rt; !item.is::<Literal>());
     assert!(rt;
@@ -23,7 +28,8 @@ fn markers_see_their_own_function(rt: HostRuntime) {
             .is_some_and(|name| name.as_str() == "a")
     );
     assert!(rt; item.as_opt::<Binary>().is_none());
-    let and = Box::new(alloc, Binary::bind(Operator::And)).expect(&rt, "memory");
+    let and: VortexResult<ScalarFnRef> = Ok(Binary::bind(Operator::And));
+    let and = kept(&rt, alloc, and);
     assert!(rt; Binary::options_of(&*and) == Some(&Operator::And));
     assert!(rt; FillNull::supports_dtype(&DType::Utf8(Nullable)));
     assert_eq!(rt; StrictComparison::Strict.sign(), "<");
@@ -36,17 +42,26 @@ fn one_name(alloc: Global, text: &str) -> VortexResult<FieldNames>
     FieldNames::new(alloc, vec![in alloc; FieldName::new(alloc, text)?]?)
 }
 
+fn all_but(alloc: Global, name: &str) -> VortexResult<FieldSelection> {
+    Ok(FieldSelection::exclude(one_name(alloc, name)?))
+}
+
+fn only(alloc: Global, name: &str) -> VortexResult<FieldSelection> {
+    Ok(FieldSelection::include(one_name(alloc, name)?))
+}
+
 #[test]
 fn selections_tell_their_names(rt: HostRuntime) {
     let alloc = rt.alloc();
-    let a = names(alloc, "a", ' ').expect(&rt, "memory");
-    let left_out = FieldSelection::exclude(one_name(alloc, "a").expect(&rt, "memory"));
+    let a = kept(&rt, alloc, names(alloc, "a", ' '));
+    let left_out = kept(&rt, alloc, all_but(alloc, "a"));
     assert!(rt; left_out.is_exclude() && !left_out.is_include());
-    assert!(rt; *left_out.field_names() == a);
-    let kept = FieldSelection::include(one_name(alloc, "a").expect(&rt, "memory"));
-    assert!(rt; kept.is_include() && !kept.is_exclude());
-    assert!(rt; *kept.field_names() == a);
-    let given = FieldSelection::Include(names(alloc, "c b", ' ').expect(&rt, "memory"));
+    assert!(rt; *left_out.field_names() == *a);
+    let chosen = kept(&rt, alloc, only(alloc, "a"));
+    assert!(rt; chosen.is_include() && !chosen.is_exclude());
+    assert!(rt; *chosen.field_names() == *a);
+    let given = names(alloc, "c b", ' ').map(FieldSelection::Include);
+    let given = kept(&rt, alloc, given);
     assert!(rt; given.is_include() && !given.is_exclude());
     assert_eq!(rt; given.field_names().len(), 2);
 }

@@ -1,11 +1,16 @@
 // Tests that cross crates, of what no line of a table says: calls by types and with closures,
-// visitors, rewriters and containers, and the parts of values and types.
+// visitors, rewriters and containers, keys, rules and readers of our own, and the parts of values and
+// types.
 #![tactic(auto)]
 
 #[cfg(test)]
-mod blocks;
+mod closures;
 #[cfg(test)]
 mod columns;
+#[cfg(test)]
+mod field_columns;
+#[cfg(test)]
+mod field_paths;
 #[cfg(test)]
 mod functions;
 #[cfg(test)]
@@ -13,10 +18,18 @@ mod looks;
 #[cfg(test)]
 mod masks;
 #[cfg(test)]
+mod named_alike;
+#[cfg(test)]
+mod own_rules;
+#[cfg(test)]
 mod scalars;
+#[cfg(test)]
+mod struct_columns;
 #[cfg(test)]
 mod trees;
 #[cfg(test)]
 mod types;
 #[cfg(test)]
 mod walks;
+#[cfg(test)]
+mod worked;

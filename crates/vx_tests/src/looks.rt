@@ -1,6 +1,48 @@
-// What tests assert of values that they hand over. They are generic, since of a type parameter the
-// prover writes nothing out (docs/BENCHMARKS.md, "The gate").
+// What tests assert of values that they hand over. All of it is generic, since of a type parameter the
+// prover writes nothing out: a value that a test keeps itself, over a step that may end it, is written
+// out at each such step (docs/BENCHMARKS.md, "What a proof costs").
+use std::alloc::Global;
+use std::fmt::Display;
 use std::process::Abort;
+use vx_test_samples::reads;
+use vx_tree::VortexResult;
+
+/// What is answered, behind a box. A refusal ends the test.
+pub fn kept<T: Drop, E: Drop>(rt: &impl Abort, alloc: Global, answer: Result<T, E>) -> Box<T> {
+    match answer {
+        Ok(value) => Box::new(alloc, value).expect(rt, "memory"),
+        Err(_) => rt.abort(),
+    }
+}
+
+/// Asserts that the value prints as the text.
+pub fn shows<T: Display + Drop>(rt: &impl Abort, value: T, text: &str) {
+    assert!(rt; reads(&value, text), "not {text}");
+}
+
+/// Asserts that what is answered, or what refuses it, prints as the text.
+pub fn answers<T: Display + Drop>(rt: &impl Abort, answer: VortexResult<T>, text: &str) {
+    match answer {
+        Ok(value) => shows(rt, value, text),
+        Err(refusal) => shows(rt, refusal, text),
+    }
+}
+
+/// Asserts that it is refused, and that the refusal prints as the text.
+pub fn refuses<T: Drop>(rt: &impl Abort, answer: VortexResult<T>, text: &str) {
+    match answer {
+        Ok(_) => rt.abort(),
+        Err(refusal) => shows(rt, refusal, text),
+    }
+}
+
+/// Asserts that what is answered equals the other.
+pub fn gives<T: PartialEq + Drop, E: Drop>(rt: &impl Abort, answer: Result<T, E>, other: &T) {
+    match answer {
+        Ok(value) => same(rt, value, other),
+        Err(_) => rt.abort(),
+    }
+}
 
 /// Asserts that the value equals the other.
 pub fn same<T: PartialEq + Drop>(rt: &impl Abort, value: T, other: &T) {

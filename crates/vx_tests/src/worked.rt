@@ -5,21 +5,18 @@ ghost use Rattle.vx_tree.specs.Views.{bound_of};
 
 use std::alloc::Global;
 use std::test::Fail;
-use vx_test_samples::{Unread, bound, dtype};
-use vx_tree::{BoundExpression, DType};
+use vx_test_samples::{bound, dtype};
+use vx_tree::BoundExpression;
 
 /// Two conditions, of a field each.
 pub const CONDITIONS: &str = "a.x >= 1 and b < 5";
 
-pub const SCOPE: &str = "{a={x=i32,y=i32},b=i32,c=i32}";
-
-pub fn scope(alloc: Global) -> Result<DType, Unread> {
-    dtype(alloc, SCOPE)
-}
+const SCOPE: &str = "{a={x=i32,y=i32},b=i32,c=i32}";
 
 /// The tree of the text over that scope.
 pub fn tree(alloc: Global, text: &str) -> Result<Box<BoundExpression>, Fail>
     ensures { IfOk result (λ b. WellTyped (bound_of b.value)) }
 {
-    Ok(bound(alloc, text, &scope(alloc)?)?)
+    let scope = Box::new(alloc, dtype(alloc, SCOPE)?)?;
+    Ok(bound(alloc, text, &scope)?)
 }

@@ -1,10 +1,11 @@
 // The optimizer by rules of a test's own.
-use crate::worked::scope;
+use crate::looks::{kept, refuses};
+use crate::worked::tree;
 use std::alloc::Global;
 use std::test::Fail;
 use vx_example_double_negation::DoubleNegation;
 use vx_rewrite::{Rule, StandardRules, optimize_with};
-use vx_test_samples::{bound, reads};
+use vx_test_samples::reads;
 use vx_tree::{BoundExpression, Literal, VortexError, VortexResult};
 
 /// The standard rules, to which memory is refused at each literal.
@@ -33,11 +34,12 @@ impl Rule for Refused {
 #[test]
 fn a_rule_of_our_own_is_applied(rt: HostRuntime) -> Result<(), Fail> {
     let alloc = rt.alloc();
-    let e = bound(alloc, "not not not b < 5", &scope(alloc)?)?;
-    let left = optimize_with(alloc, &DoubleNegation, &*e)?;
-    assert!(rt; matches!(&left, Some(left) if reads(left, "vortex.not(($.b < 5i32))")));
-    let e = bound(alloc, "not b < 5", &scope(alloc)?)?;
-    assert!(rt; optimize_with(alloc, &DoubleNegation, &*e)?.is_none());
+    let e = tree(alloc, "not not not b < 5")?;
+    let left = kept(&rt, alloc, optimize_with(alloc, &DoubleNegation, &*e));
+    assert!(rt; left.as_ref().is_some_and(|left| reads(left, "vortex.not(($.b < 5i32))")));
+    let e = tree(alloc, "not b < 5")?;
+    let left = kept(&rt, alloc, optimize_with(alloc, &DoubleNegation, &*e));
+    assert!(rt; left.is_none());
     Ok(())
 }
 
@@ -45,9 +47,8 @@ fn a_rule_of_our_own_is_applied(rt: HostRuntime) -> Result<(), Fail> {
 #[test]
 fn a_refusal_of_a_rule_is_passed_on(rt: HostRuntime) -> Result<(), Fail> {
     let alloc = rt.alloc();
-    let e = bound(alloc, "pack(p: b).p < 5", &scope(alloc)?)?;
-    let left = optimize_with(alloc, &Refused, &*e);
-    assert!(rt; matches!(left, Err(VortexError::OutOfMemory)));
+    let e = tree(alloc, "pack(p: b).p < 5")?;
+    refuses(&rt, optimize_with(alloc, &Refused, &*e), "out of memory");
     assert!(rt; reads(&*e, "(pack(p: $.b).p < 5i32)"));
     Ok(())
 }

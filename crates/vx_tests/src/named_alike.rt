@@ -1,18 +1,21 @@
 // Trees split by keys that all have one field name.
 ghost use Rattle.std.specs.Prelude.{◌≡◌, Some, codes, refl};
 ghost use Rattle.vx_rewrite_split.specs.Keys.{same_bytes};
+ghost use Rattle.vx_tree.specs.Trees.{WellTyped};
+ghost use Rattle.vx_tree.specs.Views.{bound_of};
 
+use crate::looks::{answers, refuses};
 use crate::worked::tree;
 use std::alloc::Global;
 use std::fmt;
 use std::fmt::{Display, Formatter, Write};
 use std::test::Fail;
 use vx_rewrite::{
-    Annotation, PartitionKey, direct_bound_annotations, partition_bound,
+    Annotation, BoundPartitionedExpr, PartitionKey, direct_bound_annotations, partition_bound,
     partition_bound_annotations,
 };
 use vx_test_samples::reads;
-use vx_tree::{BoundExpression, FieldName, VortexError, VortexResult};
+use vx_tree::{BoundExpression, FieldName, VortexResult};
 
 /// A key with a text of its own, and the field name that all keys have.
 #[derive(Clone, Debug, PartialEq, Eq, Hash, Drop)]
@@ -60,16 +63,22 @@ fn key_of(alloc: Global, e: &BoundExpression) -> VortexResult<Vec<Key>> {
     Ok(keys)
 }
 
+/// The tree split by its own annotations.
+fn split_by_own(alloc: Global, e: Box<BoundExpression>) -> VortexResult<BoundPartitionedExpr<Key>>
+    requires { WellTyped (bound_of e.value) }
+{
+    let keys = |node: &BoundExpression| key_of(alloc, node);
+    let annotations = direct_bound_annotations(alloc, &*e, keys)?;
+    partition_bound_annotations(alloc, Box::into_inner(e), annotations)
+}
+
 #[test]
 fn equal_pieces_are_two(rt: HostRuntime) -> Result<(), Fail> {
     let alloc = rt.alloc();
     let e = tree(alloc, "b < 5 and b < 5")?;
-    let keys = |node: &BoundExpression| key_of(alloc, node);
-    let annotations = direct_bound_annotations(alloc, &*e, keys).expect(&rt, "memory");
-    let split = partition_bound_annotations(alloc, Box::into_inner(e), annotations);
     let text = "root: ($.p.t1_0 and $.p.t1_1) \
                 {p: pack(t1_0: ($.b < 5i32), t1_1: ($.b < 5i32))}";
-    assert!(rt; matches!(&split, Ok(whole) if reads(whole, text)));
+    answers(&rt, split_by_own(alloc, e), text);
     Ok(())
 }
 
@@ -79,6 +88,6 @@ fn a_name_is_taken_once(rt: HostRuntime) -> Result<(), Fail> {
     let e = tree(alloc, "b < 5 and c < 5")?;
     let keys = |node: &BoundExpression| key_of(alloc, node);
     let split = partition_bound(alloc, Box::into_inner(e), keys);
-    assert!(rt; matches!(&split, Err(VortexError::PartitionNameTaken(p)) if p.as_str() == "p"));
+    refuses(&rt, split, "two annotations with the field name p");
     Ok(())
 }

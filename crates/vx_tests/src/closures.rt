@@ -1,4 +1,5 @@
 // Labels and annotations by closures that no row of a table names.
+use crate::looks::kept;
 use crate::worked::{CONDITIONS, tree};
 use std::alloc::Global;
 use std::process::Abort;
@@ -23,7 +24,7 @@ fn labels_are_merged_from_the_left(rt: HostRuntime) -> Result<(), Fail> {
     let alloc = rt.alloc();
     let e = tree(alloc, "a.x >= 1")?;
     let apart = tree(alloc, "a.x >= 1")?;
-    let labels = folded(alloc, &*e).expect(&rt, "memory");
+    let labels = kept(&rt, alloc, folded(alloc, &*e));
     // $ 1, $.a 3, $.a.x 5, the literal 1, and (1 * 2 + 5) * 2 + 1.
     assert_eq!(rt; labels.len(), 5);
     let found = labels
