@@ -35,7 +35,7 @@ fn sharing(alloc: Global, column: &Column) -> VortexResult<Column> {
 fn columns_share_their_rows(rt: HostRuntime) {
     let alloc = rt.alloc();
     let column = kept(&rt, alloc, column(alloc, "i32?", "7 null"));
-    let copy = kept(&rt, alloc, column.clone());
+    let copy = kept(&rt, alloc, (*column).clone());
     let shared = kept(&rt, alloc, Box::into_inner(copy).into_shared(alloc));
     gives(&rt, sharing(alloc, &shared), &*column);
     same(&rt, Box::into_inner(shared), &*column);
@@ -56,7 +56,7 @@ fn values_fit_or_not(rt: HostRuntime) {
     fits(&rt, alloc, "null", "fixed_size_list(i32)[2]", false);
     fits(&rt, alloc, "null", "fixed_size_list(i32)[2]?", true);
     let two = kept(&rt, alloc, values(alloc, "[1,2] null false"));
-    gives(&rt, two.clone(), &*two);
+    gives(&rt, (*two).clone(), &*two);
     assert!(rt; !two[0].is_null() && two[1].is_null() && !two[2].is_null());
 }
 
@@ -71,6 +71,10 @@ fn over_narrower(alloc: Global, text: &str) -> Result<VortexResult<Column>, Fail
 fn a_batch_of_another_type_is_refused(rt: HostRuntime) -> Result<(), Fail> {
     let alloc = rt.alloc();
     answers(&rt, over_narrower(alloc, "1")?, "[1i32]");
-    refuses(&rt, over_narrower(alloc, "$")?, "the column isn't of the scope's type");
+    refuses(
+        &rt,
+        over_narrower(alloc, "$")?,
+        "the column isn't of the scope's type",
+    );
     Ok(())
 }

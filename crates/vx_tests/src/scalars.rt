@@ -34,6 +34,6 @@ fn scalars_have_a_type_and_a_value(rt: HostRuntime) {
     let five = kept(&rt, alloc, five);
     assert!(rt; !five.is_null());
     assert!(rt; matches!(five.value(), Value::Int(5)));
-    gives(&rt, five.clone(), &*five);
+    gives(&rt, (*five).clone(), &*five);
     differs(&rt, Scalar::from_i64(5), &*five);
 }

@@ -123,7 +123,11 @@ fn a_wrong_number_of_children_is_refused(rt: HostRuntime) {
 }
 
 /// The tree of the text with the trees of the others for its children.
-fn over_others(alloc: Global, text: &str, others: &[&str]) -> Result<VortexResult<Expression>, Fail> {
+fn over_others(
+    alloc: Global,
+    text: &str,
+    others: &[&str],
+) -> Result<VortexResult<Expression>, Fail> {
     let tree = boxed(alloc, text)?;
     let mut children = Vec::new(alloc);
     for other in others {

@@ -11,7 +11,7 @@ fn names_are_found_at_their_first_place(rt: HostRuntime) {
     let all = kept(&rt, alloc, names(alloc, "x y x", ' '));
     assert_eq!(rt; all.len(), 3);
     assert!(rt; !all.is_empty());
-    gives(&rt, all.clone(), &*all);
+    gives(&rt, (*all).clone(), &*all);
     let none = kept(&rt, alloc, FieldNames::empty(alloc));
     assert!(rt; none.is_empty());
     let x = kept(&rt, alloc, FieldName::new(alloc, "x"));
@@ -65,7 +65,11 @@ fn types_differ_in_nullability_or_in_more(rt: HostRuntime) {
     assert!(rt; number.nullability() == NonNullable);
     assert!(rt; !number.is_nullable());
     shows(&rt, i32_type(NonNullable).as_nullable(), "i32?");
-    same(&rt, i32_type(Nullable).with_nullability(NonNullable), &*number);
+    same(
+        &rt,
+        i32_type(Nullable).with_nullability(NonNullable),
+        &*number,
+    );
     assert!(rt; Nullable.admits_null() && !NonNullable.admits_null());
     assert!(rt; Nullability::of(true) == Nullable);
     let wide = kept(&rt, alloc, dtype(alloc, "{x=i32?}"));

@@ -2,13 +2,13 @@
 ghost use Rattle.vx_tree.specs.Trees.{WellTyped};
 ghost use Rattle.vx_tree.specs.Views.{bound_of};
 
-use crate::answers::distinct::distinct_nodes;
+use crate::answers::distinct::{distinct_nodes, key_of};
 use crate::answers::paths::shown_paths;
 use crate::kind::BoundKind;
 use crate::scene::Scene;
 use std::alloc::Global;
 use vx_rewrite::{BoundLabels, Optimize, label_bound_tree, referenced_field_paths};
-use vx_tree::{BoundExpression, ExactBoundExpr, Expression, VortexResult};
+use vx_tree::{BoundExpression, Expression, VortexResult};
 
 /// The answer to a line that asks of the paths or the labels of the source, which is bound.
 pub fn answer(
@@ -32,7 +32,7 @@ pub fn answer(
 fn paths(alloc: Global, bound: &BoundExpression) -> VortexResult<String>
     requires { WellTyped (bound_of bound.now) }
 {
-    let set = referenced_field_paths(alloc, bound)?;
+    let set = Box::new(alloc, referenced_field_paths(alloc, bound)?)?;
     shown_paths(alloc, &set)
 }
 
@@ -44,8 +44,8 @@ fn labels(
     equal: &BoundExpression,
 ) -> VortexResult<String> {
     let labels = match kind {
-        BoundKind::Heights => heights(alloc, bound)?,
-        _ => sizes(alloc, bound)?,
+        BoundKind::Heights => Box::new(alloc, heights(alloc, bound)?)?,
+        _ => Box::new(alloc, sizes(alloc, bound)?)?,
     };
     if let BoundKind::Size = kind {
         let mut text = String::new(alloc);
@@ -89,8 +89,10 @@ fn push_label(
     labels: &BoundLabels<u64>,
     e: &BoundExpression,
 ) -> VortexResult<()> {
-    match labels.get(&ExactBoundExpr::new(e.clone()?)) {
-        Some(label) => Ok(text.push_str(format!(in alloc; "{label}")?.as_str())?),
-        None => Ok(text.push('-')?),
-    }
+    let key = key_of(alloc, e)?;
+    let told = match labels.get(&key) {
+        Some(label) => format!(in alloc; "{label}")?,
+        None => String::from_str(alloc, "-")?,
+    };
+    Ok(text.push_str(told.as_str())?)
 }

@@ -100,11 +100,12 @@ fn fitting(
     tree: &BoundExpression,
     batch: &Column,
 ) -> VortexResult<Column> {
-    let column = answer?;
-    if *column.dtype() != *tree.dtype() || column.len() != batch.len() {
-        return Err(VortexError::RowMisfit { row: column.len() });
+    match &answer {
+        Ok(column) if *column.dtype() != *tree.dtype() || column.len() != batch.len() => {
+            Err(VortexError::RowMisfit { row: column.len() })
+        }
+        _ => answer,
     }
-    Ok(column)
 }
 
 fn rewritten(

@@ -80,7 +80,24 @@ fn agrees(
     seeds: &mut Seeds,
 ) -> VortexResult<Option<bool>> {
     let bound = Box::new(alloc, source.bind(alloc, batch.dtype())?)?;
-    let plain = apply_bound(alloc, batch, &bound);
+    let plain = Box::new(alloc, apply_bound(alloc, batch, &bound))?;
+    if !queries_agree(alloc, source, batch, &plain) || !scan_agrees(alloc, source, batch, &plain)? {
+        return Ok(None);
+    }
+    let stats = Box::new(alloc, loosened(alloc, batch, seeds)?)?;
+    Ok(match &*plain {
+        Ok(values) if !is_told_true(&bound, &stats, values.rows()) => None,
+        _ => Some(plain.is_ok()),
+    })
+}
+
+// Whether the source as a query, by each pass and by all, split and not, agrees with plain evaluation.
+fn queries_agree(
+    alloc: Global,
+    source: &Expression,
+    batch: &Column,
+    plain: &VortexResult<Column>,
+) -> bool {
     let all = [
         Pass::FindBetween,
         Pass::OptimizeRecursive,
@@ -99,25 +116,28 @@ fn agrees(
         (&all, true),
     ];
     for (passes, split) in queries {
-        if !is_allowed(&plain, &run_query(alloc, source, batch, passes, split)) {
-            return Ok(None);
+        if !is_allowed(plain, run_query(alloc, source, batch, passes, split)) {
+            return false;
         }
     }
+    true
+}
+
+// Whether a scan of the source agrees with plain evaluation.
+fn scan_agrees(
+    alloc: Global,
+    source: &Expression,
+    batch: &Column,
+    plain: &VortexResult<Column>,
+) -> VortexResult<bool> {
     let plan = Box::new(alloc, plan(alloc, source, batch.dtype())?)?;
-    if !is_allowed(&plain, &scan_column(alloc, &plan, batch)) {
-        return Ok(None);
-    }
-    let stats = loosened(alloc, batch, seeds)?;
-    Ok(match &plain {
-        Ok(values) if !is_told_true(&bound, &stats, values.rows()) => None,
-        _ => Some(plain.is_ok()),
-    })
+    Ok(is_allowed(plain, scan_column(alloc, &plan, batch)))
 }
 
 // Whether the answer may stand beside that of plain evaluation: the same rows, or where that faults,
 // any rows or a fault.
-fn is_allowed(plain: &VortexResult<Column>, answer: &VortexResult<Column>) -> bool {
-    match (plain, answer) {
+fn is_allowed(plain: &VortexResult<Column>, answer: VortexResult<Column>) -> bool {
+    match (plain, &answer) {
         (Ok(rows), Ok(answer)) => rows.rows() == answer.rows(),
         (Ok(_), Err(_)) => false,
         (Err(_), Ok(_)) => true,

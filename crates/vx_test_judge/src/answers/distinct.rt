@@ -1,4 +1,4 @@
-// The nodes of a tree, each once.
+// The nodes of a tree, each once, and as keys.
 use std::alloc::Global;
 use std::collections::HashSet;
 use vx_tree::{BoundExpression, ExactBoundExpr, VortexResult};
@@ -25,4 +25,9 @@ pub fn distinct_nodes(
         }
     }
     Ok(nodes)
+}
+
+/// The node as a key, behind a box: there the prover doesn't write it out.
+pub fn key_of(alloc: Global, node: &BoundExpression) -> VortexResult<Box<ExactBoundExpr>> {
+    Ok(Box::new(alloc, ExactBoundExpr::new(node.clone()?))?)
 }

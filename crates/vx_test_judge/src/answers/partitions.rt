@@ -2,7 +2,7 @@
 ghost use Rattle.vx_tree.specs.Trees.{WellTyped};
 ghost use Rattle.vx_tree.specs.Views.{bound_of};
 
-use crate::answers::distinct::distinct_nodes;
+use crate::answers::distinct::{distinct_nodes, key_of};
 use crate::answers::split::{Divided, divided, joined_rows, replaced_by_optimized, shown};
 use crate::kind::BoundKind;
 use crate::scene::Scene;
@@ -12,9 +12,7 @@ use vx_rewrite::{
     BoundAnnotations, covers, descendent_bound_annotations, direct_bound_annotations, free_fields,
     partition_bound,
 };
-use vx_tree::{
-    BoundExpression, ExactBoundExpr, Expression, FieldName, StructFields, VortexError, VortexResult,
-};
+use vx_tree::{BoundExpression, Expression, FieldName, StructFields, VortexError, VortexResult};
 
 /// The answer to a line that asks of the annotations or the split of the source, which is bound to
 /// the scope, a struct.
@@ -123,7 +121,8 @@ fn set_at(
     found: &BoundAnnotations<FieldName>,
     node: &BoundExpression,
 ) -> VortexResult<String> {
-    let Some(set) = found.get(&ExactBoundExpr::new(node.clone()?)) else {
+    let key = key_of(alloc, node)?;
+    let Some(set) = found.get(&key) else {
         return Ok(String::from_str(alloc, "-")?);
     };
     let mut names: Vec<&str> = Vec::new(alloc);

@@ -11,10 +11,13 @@ use vx_tree::{Expression, VortexError};
 /// have stood right there. The source text reads back to an equal expression, or else that is told.
 pub fn parsed(alloc: Global, text: &str) -> Result<String, Unread> {
     match parse(alloc, text) {
-        Ok(expression) => match read_otherwise(alloc, &expression)? {
-            Some(other) => Ok(other),
-            None => Ok(format!(in alloc; "{}", SourceText(&expression))?),
-        },
+        Ok(expression) => {
+            let expression = Box::new(alloc, expression)?;
+            match read_otherwise(alloc, &expression)? {
+                Some(other) => Ok(other),
+                None => Ok(format!(in alloc; "{}", SourceText(&*expression))?),
+            }
+        }
         Err(refusal) => refused(alloc, refusal),
     }
 }

@@ -22,38 +22,56 @@ pub fn answer(
     scene: &Scene,
     columns: &[&str],
 ) -> Result<String, Unread> {
-    match (kind, columns) {
-        (WordsKind::Like, [pattern, text]) => like(alloc, pattern, text),
-        (WordsKind::Error, [name]) => error_text(alloc, name),
-        (WordsKind::Function, [tree]) => shown_function(alloc, tree),
-        (WordsKind::ChildNames, [tree]) => child_names(alloc, tree),
-        (WordsKind::NodeType, [tree, types]) => node_type(alloc, tree, types),
-        (WordsKind::Kept, [selection, names]) => kept(alloc, selection, names),
-        (WordsKind::Swapped, [sign]) => swapped(alloc, sign),
-        (WordsKind::TypeText, [text]) => type_text(alloc, text),
-        (WordsKind::Parse, [text]) => parsed(alloc, text),
-        (WordsKind::ParsedType, [text]) => parsed_type(alloc, text),
-        (WordsKind::ParsedScalar, [text]) => parsed_scalar(alloc, text),
-        (WordsKind::Places, [text]) => places(alloc, text),
-        (WordsKind::Union, [first, second]) => union(alloc, first, second),
-        (WordsKind::Scalar, [word]) => scalar_text(alloc, word),
-        (WordsKind::Column, [dtype, rows]) => column(alloc, dtype, rows),
-        (WordsKind::Joined, [names, columns, rows]) => joined(alloc, names, columns, rows),
-        (WordsKind::PathSet, [groups]) => path_set(alloc, groups),
-        (WordsKind::Read, [paths]) => Ok(read(alloc, scene, paths)?),
-        (WordsKind::Reader, [paths]) => Ok(read_through(alloc, scene, paths)?),
-        (WordsKind::StatisticsOf, [paths]) => Ok(statistics_of(alloc, scene, paths)?),
-        (WordsKind::FirstMatch, [kind, conditions, chosen, otherwise]) => {
-            matched(alloc, kind, conditions, chosen, otherwise)
-        }
-        (WordsKind::PeeledText, [times, open, close, tree]) => {
-            peeled_text(alloc, times, open, close, scene.text(tree))
-        }
-        (WordsKind::Collected(kind), [sign, items]) => {
-            collected(alloc, kind, scene, sign, items)
-        }
-        (WordsKind::ByChance, [seed]) => by_chance(alloc, seed),
-        (WordsKind::TextsByChance, [seed]) => texts_by_chance(alloc, seed),
+    match columns {
+        [word] => of_one(alloc, kind, scene, word),
+        [first, second] => of_two(alloc, kind, scene, first, second),
+        [names, columns, rows] => joined(alloc, names, columns, rows),
+        [first, second, third, last] => match kind {
+            WordsKind::FirstMatch => matched(alloc, first, second, third, last),
+            _ => peeled_text(alloc, first, second, third, scene.text(last)),
+        },
+        _ => Err(Unread::Word("another number of columns")),
+    }
+}
+
+// The answer to a line of one column.
+fn of_one(alloc: Global, kind: WordsKind, scene: &Scene, word: &str) -> Result<String, Unread> {
+    match kind {
+        WordsKind::Error => error_text(alloc, word),
+        WordsKind::Function => shown_function(alloc, word),
+        WordsKind::ChildNames => child_names(alloc, word),
+        WordsKind::Swapped => swapped(alloc, word),
+        WordsKind::TypeText => type_text(alloc, word),
+        WordsKind::Parse => parsed(alloc, word),
+        WordsKind::ParsedType => parsed_type(alloc, word),
+        WordsKind::ParsedScalar => parsed_scalar(alloc, word),
+        WordsKind::Places => places(alloc, word),
+        WordsKind::Scalar => scalar_text(alloc, word),
+        WordsKind::PathSet => path_set(alloc, word),
+        WordsKind::Read => Ok(read(alloc, scene, word)?),
+        WordsKind::Reader => Ok(read_through(alloc, scene, word)?),
+        WordsKind::StatisticsOf => Ok(statistics_of(alloc, scene, word)?),
+        WordsKind::ByChance => by_chance(alloc, word),
+        WordsKind::TextsByChance => texts_by_chance(alloc, word),
+        _ => Err(Unread::Word("another number of columns")),
+    }
+}
+
+// The answer to a line of two columns.
+fn of_two(
+    alloc: Global,
+    kind: WordsKind,
+    scene: &Scene,
+    first: &str,
+    second: &str,
+) -> Result<String, Unread> {
+    match kind {
+        WordsKind::Like => like(alloc, first, second),
+        WordsKind::NodeType => node_type(alloc, first, second),
+        WordsKind::Kept => kept(alloc, first, second),
+        WordsKind::Union => union(alloc, first, second),
+        WordsKind::Column => column(alloc, first, second),
+        WordsKind::Collected(kind) => collected(alloc, kind, scene, first, second),
         _ => Err(Unread::Word("another number of columns")),
     }
 }
