@@ -68,9 +68,9 @@ COLUMNS = {
 
 # Kinds whose answers have no refusals, so that the whole line is told as one that can't be read.
 UNREAD = {
-    "text", "text length", "tree text", "built", "depth", "peeled text", "collected", "collected depth",
+    "text", "text length", "tree text", "tree text length", "built", "depth", "peeled text", "collected", "collected depth",
     "like", "error", "function", "child names", "swapped", "type text", "parse", "parsed type",
-    "parsed scalar", "union", "path set",
+    "parsed scalar", "places", "union", "path set",
 }
 
 SUMS = {
