@@ -25,6 +25,8 @@ fn a_column_is_its_type_and_its_rows(rt: HostRuntime) {
 /// A column of the same rows, which both share.
 fn sharing(alloc: Global, column: &Column) -> VortexResult<Column> {
     let dtype = column.dtype().clone()?;
+    // (what it promises is that the rows fit)
+    let _rows = column.rows();
     match column.shared_rows() {
         Some(rows) => Ok(Column::from_shared(dtype, rows.clone()?)),
         None => Err(VortexError::LengthMismatch),

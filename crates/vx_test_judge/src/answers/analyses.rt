@@ -90,7 +90,7 @@ fn push_label(
     e: &BoundExpression,
 ) -> VortexResult<()> {
     let key = key_of(alloc, e)?;
-    let told = match labels.get(&key) {
+    let told = match labels.get(&*key) {
         Some(label) => format!(in alloc; "{label}")?,
         None => String::from_str(alloc, "-")?,
     };

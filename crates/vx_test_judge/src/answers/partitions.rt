@@ -122,7 +122,7 @@ fn set_at(
     node: &BoundExpression,
 ) -> VortexResult<String> {
     let key = key_of(alloc, node)?;
-    let Some(set) = found.get(&key) else {
+    let Some(set) = found.get(&*key) else {
         return Ok(String::from_str(alloc, "-")?);
     };
     let mut names: Vec<&str> = Vec::new(alloc);
