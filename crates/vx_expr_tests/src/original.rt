@@ -23,15 +23,16 @@ fn over(
 #[test]
 fn bound_constructors_preserve_order_and_types(rt: HostRuntime) -> VortexResult<()> {
     let alloc = rt.alloc();
-    let scope = struct_type(alloc, [("value", I32.into())], NonNullable)?;
+    let scope = struct_type(alloc, [("value", I32.into())], NonNullable);
+    let scope = boxed(&rt, alloc, scope);
     let unbound = expr!(in alloc; case_when(gt(col("value"), lit(5)), col("value"), lit(5)));
     let unbound = boxed(&rt, alloc, Box::new(alloc, unbound)?.bind(alloc, &scope));
 
-    let value = bound::get_item(alloc, "value", bound::root(scope));
+    let value = bound::get_item(alloc, "value", bound::root(Box::into_inner(scope)));
     let value = boxed(&rt, alloc, value);
     let literal = boxed(&rt, alloc, bound::lit(alloc, 5));
     let condition = bound::gt(alloc, &*value, &*literal);
-    let truth = DType::Bool(NonNullable);
+    let truth = Box::new(alloc, DType::Bool(NonNullable))?;
     let condition = over(&rt, alloc, condition, &truth, &[&value, &literal]);
 
     let case = bound::case_when(alloc, &*condition, &*value, &*literal);
@@ -39,7 +40,7 @@ fn bound_constructors_preserve_order_and_types(rt: HostRuntime) -> VortexResult<
     let case = over(&rt, alloc, case, &I32.into(), &children);
     assert_eq!(rt; unbound, case);
 
-    let types = [("condition", truth), ("value", I32.into())];
+    let types = [("condition", Box::into_inner(truth)), ("value", I32.into())];
     let types = boxed(&rt, alloc, struct_type(alloc, types, NonNullable));
     let fields = [("condition", &*condition), ("value", &*case)];
     let packed = bound::pack(alloc, fields, NonNullable);
@@ -94,8 +95,8 @@ fn null_literal_bound_is_value_preserving(rt: HostRuntime) -> VortexResult<()> {
     let after = boxed(&rt, alloc, apply_bound(alloc, &data, &rewritten));
 
     assert_eq!(rt; before, after);
-    let expected = column(alloc, [Some(false), None]);
-    assert_eq!(rt; before, boxed(&rt, alloc, expected));
+    let expected = boxed(&rt, alloc, column(alloc, [Some(false), None]));
+    assert_eq!(rt; before, expected);
     Ok(())
 }
 
@@ -115,7 +116,7 @@ fn ancestor_path_subsumes_descendant(rt: HostRuntime) -> VortexResult<()> {
     let bound = boxed(&rt, alloc, expr.bind(alloc, &scope));
 
     let set = boxed(&rt, alloc, referenced_field_paths(alloc, &bound));
-    let a = FieldName::new(alloc, "a").expect(&rt, "memory");
+    let a = FieldName::new(alloc, "a")?;
     let a = boxed(&rt, alloc, FieldPath::from_name(alloc, a));
     assert!(rt; set.iter().eq([&*a].into_iter()));
     Ok(())
@@ -141,17 +142,25 @@ fn test_expr_top_level_ref_get_item_and_split_pack(rt: HostRuntime) -> VortexRes
         ],
         NonNullable
     ));
-    let bound = Box::new(alloc, expr)?
-        .bind(alloc, &dtype)
-        .expect(&rt, "a type");
+    let bound = boxed(&rt, alloc, Box::new(alloc, expr)?.bind(alloc, &dtype));
     let fields = dtype.as_struct_fields_opt().expect(&rt, "a struct");
     let keys = |node: &BoundExpression| free_fields(alloc, node, fields);
-    let partitioned = boxed(&rt, alloc, partition_bound(alloc, bound, keys));
+    let partitioned = partition_bound(alloc, Box::into_inner(bound), keys);
+    let partitioned = boxed(&rt, alloc, partitioned);
 
-    let a = FieldName::new(alloc, "a").expect(&rt, "memory");
+    let a = boxed(&rt, alloc, Ok(FieldName::new(alloc, "a")?));
     let split_a = partitioned.find_partition(alloc, &a).expect(&rt, "memory");
     assert_eq!(rt; split_a, Some(&*expected));
     Ok(())
+}
+
+// A row of pets, as a literal.
+fn pets(alloc: Global) -> VortexResult<Expression> {
+    let pets = [
+        ("dog", scalar(alloc, 32u32)?),
+        ("cat", scalar(alloc, "rufus")?),
+    ];
+    lit(alloc, struct_row(alloc, pets)?)
 }
 
 #[test]
@@ -159,10 +168,7 @@ fn lit_types(rt: HostRuntime) {
     let alloc = rt.alloc();
     let fields = [("dog", U32.into()), ("cat", DType::Utf8(NonNullable))];
     let sdtype = boxed(&rt, alloc, struct_type(alloc, fields, NonNullable));
-    let dog = scalar(alloc, 32u32).expect(&rt, "memory");
-    let cat = scalar(alloc, "rufus").expect(&rt, "memory");
-    let pets = struct_row(alloc, [("dog", dog), ("cat", cat)]).expect(&rt, "memory");
-    let pets = boxed(&rt, alloc, lit(alloc, pets));
+    let pets = boxed(&rt, alloc, pets(alloc));
     let dtype = boxed(&rt, alloc, pets.return_dtype(alloc, &sdtype));
     assert_eq!(rt; dtype, sdtype);
 }
