@@ -19,6 +19,9 @@ use vx_types::{
     VortexError, VortexResult,
 };
 
+#[cfg(test)]
+mod tests;
+
 /// Rows of structs, none of them null, kept as a column for each field, and read by their columns:
 /// a read along paths copies the columns whose names some path begins with, and looks at no value of
 /// the others, unless the root path asks for all.

@@ -59,7 +59,10 @@ fn values_fit_or_not(rt: HostRuntime) {
     fits(&rt, alloc, "null", "fixed_size_list(i32)[2]?", true);
     let two = kept(&rt, alloc, values(alloc, "[1,2] null false"));
     gives(&rt, (*two).clone(), &*two);
-    assert!(rt; !two[0].is_null() && two[1].is_null() && !two[2].is_null());
+    assert!(rt;
+        matches!(two.as_slice(), [list, null, truth]
+            if !list.is_null() && null.is_null() && !truth.is_null())
+    );
 }
 
 /// What the tree of the text, over `i32?`, answers on one row of `i32`.

@@ -1,5 +1,5 @@
 // Tests that cross crates, of what no line of a table says: calls by types and with closures,
-// visitors, rewriters and containers, keys, rules and readers of our own, and the parts of values and
+// visitors, rewriters and containers, keys and rules of our own, and the parts of values and
 // types.
 #![tactic(auto)]
 
@@ -7,8 +7,6 @@
 mod closures;
 #[cfg(test)]
 mod columns;
-#[cfg(test)]
-mod field_columns;
 #[cfg(test)]
 mod field_paths;
 #[cfg(test)]
