@@ -2,7 +2,7 @@
 # Times `vx filter` over a CSV file of orders beside sqlite3, which reads the same file into a table in
 # memory and selects from it, and prints a line of a table for each filter: how many records it keeps,
 # and for both programs the processor seconds, the median of 5 runs in turns, and the megabytes at the
-# peak. Stops where the two don't keep the same records. docs/BENCHMARKS.md has what was measured.
+# peak. Stops where the two don't keep the same records. docs/develop/BENCHMARKS.md has what was measured.
 #
 # usage: bench/filter.sh [PROGRAM [RECORDS]], or bench/filter.sh sqlite3 [RECORDS] for that side alone
 set -eu

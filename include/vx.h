@@ -22,7 +22,7 @@
  * Threads. Any calls may run at once on several threads, but a vx_plan stays on the thread that made it. No
  * call may be made in a signal handler, nor in the forked child of a process with several threads.
  *
- * docs/FFI.md is the guide, and crates/vx_ffi has the contract of each call.
+ * docs/embed/FFI.md is the guide, and crates/vx_ffi has the contract of each call.
  */
 #ifndef VX_H
 #define VX_H

@@ -1,7 +1,7 @@
 #!/bin/sh
 # Builds the library of include/vx.h, as bindings/out/libvx.a and libvx.so, and runs what tests it: the
 # header against the exports, the tests in C, Python and Rust, texts of ten megabytes through each call,
-# random buffers through each under a sanitizer, what docs/FFI.md shows, and the 200 expressions of
+# random buffers through each under a sanitizer, what docs/embed/FFI.md shows, and the 200 expressions of
 # bindings/tests, which the program and the three languages have to answer alike. Ends with a line
 # `bindings: N passed, M failed`, and with status 1 where something failed.
 #
@@ -55,7 +55,7 @@ compiled() {
 
 # The library of the exports, beside the three calls of C's allocator that it makes.
 library() {
-    rlib=crates/vx_call_rows/out/rlib
+    rlib=crates/vx_ffi_calls/out/rlib
     if [ -d "$rlib" ] && [ ! -e "$rlib/stamp" ]; then
         compiled >"$out/build.log" 2>&1 || { tail -20 "$out/build.log"; return 1; }
     else
@@ -115,7 +115,7 @@ if [ "$failed" -eq 0 ]; then
     try "random buffers" "$out/test_sanitized" fuzz "$buffers" 1
     try "Python" python_tests
     try "Rust" rust_tests
-    try "docs/FFI.md" env VX_LIBRARY="$out/libvx.so" python3 bindings/tests/guide.py "$out"
+    try "docs/embed/FFI.md" env VX_LIBRARY="$out/libvx.so" python3 bindings/tests/guide.py "$out"
     try "the same answers" answers
 fi
 echo "bindings: $passed passed, $failed failed"

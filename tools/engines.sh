@@ -1,7 +1,7 @@
 #!/bin/sh
 # Runs expressions by chance in real engines: `tools/engines.sh [SEED [COUNT]]`, from seed 1 on and 5,000 of
 # them unless told otherwise. Over a table of 50 rows with nulls, SQLite and PostgreSQL have to give the value of
-# the source for each row where it doesn't fault, to fail at sums that have to fail (docs/ENGINES.md), and to keep
+# the source for each row where it doesn't fault, to fail at sums that have to fail (docs/embed/ENGINES.md), and to keep
 # the rows of which a filter is true. An engine that isn't installed is installed from Debian's packages, and where
 # it can't be, or doesn't start, a line says so. PostgreSQL is started on a socket in a temporary folder, and stopped at the end.
 # Ends with status 1 where an engine answers otherwise, and prints what.

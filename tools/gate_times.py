@@ -1,12 +1,12 @@
 #!/usr/bin/env python3
 """Runs the gate from nothing, `rt ci --anew`, or proves named crates and those below them for it, `rt
-ci CRATE ..`, which leaves out what the machine has kept, with so many jobs. Prints what each crate
-took of it: the processor minutes of its proof, of its tests and of its must-fail edits, as read off
-the provers' processes every second; their sums, and the minutes of the whole; and the longest chain of
-crates that stand on one another, by the minutes of their proofs. Nothing else may be proved meanwhile on
-the processors that it may run on. docs/BENCHMARKS.md has what it printed.
+ci CRATE ..`, which leaves out what the machine has kept. Prints what each crate took of it: the
+processor minutes of its proof, of its tests and of its must-fail edits, as read off the provers'
+processes every second; their sums, and the minutes of the whole; and the longest chain of crates that
+stand on one another, by the minutes of their proofs. Nothing else may be proved meanwhile on the
+processors that it may run on. docs/develop/BENCHMARKS.md has what it printed.
 
-usage: [taskset -c PROCESSORS] tools/gate_times.py JOBS [CRATE ..]
+usage: [taskset -c PROCESSORS] tools/gate_times.py [CRATE ..]
 """
 import collections
 import functools
@@ -64,9 +64,8 @@ def longest_chain(below, cost):
 
 def main():
     os.chdir(os.path.join(os.path.dirname(os.path.abspath(__file__)), ".."))
-    jobs, *named = sys.argv[1:]
     begin, seen = time.monotonic(), {}
-    gate = subprocess.Popen(["rt", "ci", *(named or ["--anew"])], env={**os.environ, "RT_JOBS": jobs})
+    gate = subprocess.Popen(["rt", "ci", *(sys.argv[1:] or ["--anew"])])
     while gate.poll() is None:
         for process, of, seconds in provers():
             seen[process] = of, seconds

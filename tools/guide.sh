@@ -1,13 +1,16 @@
 #!/bin/sh
-# Whether README.md, docs/GUIDE.md and docs/PROGRAM.md show what is proved and run. Each block of Rattle
+# Whether README.md, docs/embed/GUIDE.md and docs/use/PROGRAM.md show what is proved and run. Each block of Rattle
 # has to stand in a file of crates/*/src, line by line, but for indentation and empty lines; where its
 # first line names a file, in that one. Its `use` lines may stand apart from the rest there, and name
 # less than the file does; `crate` in a file is the name of its crate. Each screen, a block of
 # `console`, has to be a stored run of runs/*/*.txt, byte for byte. Prints where each block is that
-# doesn't stand so, and its first line; then the status is 1.
+# doesn't stand so, and its first line; then the status is 1. So it is where docs/develop/MAP.md has another table of
+# crates than crates.txt gives (tools/map.py).
 set -eu
 cd "$(dirname "$0")/.."
-exec python3 - README.md docs/GUIDE.md docs/PROGRAM.md <<'PYTHON'
+status=0
+tools/map.py --check || status=1
+python3 - README.md docs/embed/GUIDE.md docs/use/PROGRAM.md <<'PYTHON' || status=1
 import pathlib, re, sys
 
 USE = re.compile(r"^[ \t]*(?:pub )?use ([^;]+);\n?", re.MULTILINE)
@@ -76,3 +79,4 @@ for document in sys.argv[1:]:
 print(f"guide: {count} blocks, {failed} failed")
 sys.exit(failed > 0)
 PYTHON
+exit "$status"

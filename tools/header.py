@@ -105,7 +105,7 @@ def shouted(name: str) -> str:
 
 def numbers() -> dict[str, int]:
     """The numbers of statuses and texts, as the header should name them."""
-    arms = ARM.findall(sources("vx_call_pages"))
+    arms = ARM.findall(sources("vx_ffi_calls"))
     return {"NOWHERE": 0, **{shouted(name): int(number) for name, number in arms}}
 
 
@@ -118,7 +118,7 @@ def versions() -> dict[str, str]:
     """The version, by each file that says it."""
     patterns = {
         "include/vx.h": r'#define VX_VERSION "(.*)"',
-        "crates/vx_call_pages/src/version.rt": r'b"(.*)\\n"',
+        "crates/vx_ffi_calls/src/version.rt": r'b"(.*)\\n"',
         "bindings/python/pyproject.toml": r'^version = "(.*)"',
         "bindings/rust/Cargo.toml": r'^version = "(.*)"',
     }

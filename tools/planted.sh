@@ -1,7 +1,7 @@
 #!/bin/sh
 # Tries the wrong bodies of planted/, those of the crates that are named or all of them: the prover
 # has to refuse each. They stand in a copy of the repository in the place of the gate's own edits,
-# and are tried over what `rt check` kept of their crate. docs/PLANTED.md says what they are.
+# and are tried over what `rt check` kept of their crate. docs/audit/PLANTED.md says what they are.
 #
 # With --changed it tries those of the crates whose src/, specs/ or proofs/, or whose edits, differ
 # between a commit and the files as they stand, and of these crates the gate's own, too. It leaves out

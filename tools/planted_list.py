@@ -1,21 +1,10 @@
 #!/usr/bin/env python3
-"""Lists wrong bodies by the first lines of their files, which say what is wrong, and the files of src/ in
-which they are, crate by crate in the order of crates.txt.
+"""Prints all wrong bodies (docs/audit/PLANTED.md), crate by crate in the order of crates.txt: what is wrong, by the
+first lines of their files, the files of src/ in which it is, and which of them the gate tries. Counts follow.
 
-usage: tools/planted_list.py           prints those of planted/
-       tools/planted_list.py --write   writes into docs/PLANTED.md which ones stand in the gate: the list
-                                       between its two comments, and the last column of its table
+usage: tools/planted_list.py
 """
 import os
-import re
-import sys
-
-DOCUMENT = "docs/PLANTED.md"
-# A row of the document's table: what is wrong, the edits that do it, and whether they stand in the gate.
-ROW = re.compile(r"^(\| [^|]+ \| )(`\w+/[^|]+?) \|[^|]*\|$", re.MULTILINE)
-NONE = "no edit"
-EDIT = re.compile(r"`(\w+)/([^`]+)`")
-LIST = re.compile(r"(?<=<!-- the gate's edits -->\n).*(?=<!-- end -->\n)", re.DOTALL)
 
 
 def crates():
@@ -46,65 +35,27 @@ def read(path):
     return bug, list(dict.fromkeys(line.removeprefix("file: ") for line in lines if line.startswith("file: ")))
 
 
-def row_planted(crate, name):
-    """The line of an edit of planted/ in the table of its crate."""
-    bug, files = read(f"{in_planted(crate)}/{name}.edit")
-    places = [it.removeprefix("src/").removesuffix(".rt") for it in files]
-    return f"| {bug} | {', '.join(f'`{place}`' for place in places)} | `{name}` |"
-
-
-def row_gate(crate, name):
-    """The line of an edit of the gate in the document's list."""
-    return f"| {read(f'{in_gate(crate)}/{name}.edit')[0]} | `{crate}/{name}` |"
+def row(place, crate, name):
+    """The line of an edit in the table of its crate."""
+    bug, files = read(f"{place(crate)}/{name}.edit")
+    places = ", ".join(f"`{it.removeprefix('src/').removesuffix('.rt')}`" for it in files)
+    return f"| {bug} | {places} | `{name}` | {'yes' if place is in_gate else ''} |"
 
 
 def count(place):
     """How many edits stand in that place, and of how many crates."""
     counts = [len(edits(place(crate))) for crate in crates()]
-    return sum(counts), sum(map(bool, counts))
-
-
-def home(crate, name):
-    """What the last column says of an edit."""
-    if name in edits(in_gate(crate)):
-        return "yes"
-    return "" if name in edits(in_planted(crate)) else NONE
-
-
-def named(text):
-    """The edits that the document's table names, as crate and name."""
-    return [edit for found in ROW.finditer(text) for edit in EDIT.findall(found[2])]
-
-
-def marked(found):
-    """The row of the document's table with its last column as the edits stand, in their order."""
-    homes = [home(crate, name) for crate, name in EDIT.findall(found[2])]
-    told = homes[0] if len(set(homes)) == 1 else ", ".join(it or "no" for it in homes)
-    return f"{found[1]}{found[2]} | {told} |" if told else f"{found[1]}{found[2]} | |"
-
-
-def document(text):
-    """The text of the document as it has to be by the edits as they stand."""
-    (gate, crates_gate), (planted, crates_planted) = count(in_gate), count(in_planted)
-    said = f"The gate tries {gate} edits, of {crates_gate} crates; `planted/` has {planted}, of {crates_planted} crates."
-    rows = [row_gate(crate, name) for crate in crates() for name in edits(in_gate(crate))]
-    lines = ["", said, "", "| What is wrong | Edit |", "|---|---|", *rows, ""]
-    return LIST.sub(lambda _: "\n".join(lines) + "\n", ROW.sub(marked, text))
+    return f"{sum(counts)} edits, of {sum(map(bool, counts))} crates"
 
 
 def main():
     os.chdir(os.path.join(os.path.dirname(os.path.abspath(__file__)), ".."))
-    if sys.argv[1:] == ["--write"]:
-        with open(DOCUMENT) as file:
-            text = file.read()
-        with open(DOCUMENT, "w") as file:
-            file.write(document(text))
-        return
     for crate in crates():
-        names = edits(in_planted(crate))
-        if names:
-            print(f"### `{crate}`\n\n| What is wrong | In `src/` | Edit |\n|---|---|---|")
-            print(*(row_planted(crate, name) for name in names), sep="\n", end="\n\n")
+        rows = [row(place, crate, name) for place in (in_gate, in_planted) for name in edits(place(crate))]
+        if rows:
+            print(f"### `{crate}`\n\n| What is wrong | In `src/` | Edit | In the gate |\n|---|---|---|---|")
+            print(*rows, sep="\n", end="\n\n")
+    print(f"The gate tries {count(in_gate)}; planted/ has {count(in_planted)}.")
 
 
 if __name__ == "__main__":

@@ -4,8 +4,8 @@
 #   edits   tools/edits.py: each wrong body applies to the code
 #   guide   tools/guide.sh: what the documents show stands in the crates and the stored runs
 #   runs    tools/runs.sh: the program `vx` over its stored runs, but those over 100,000 records
-#   tables  the program `vx_rows` over the first lines of its tables, and over all that have to fail
-#   tests   the tests of `vx_expr_tests`, of all that a caller needs under one name
+#   tables  the program `vx_table_tests` over the first lines of its tables, and over all that have to fail
+#   tests   the tests of `vx_front_tests`, of all that a caller needs under one name
 #
 # The programs are built unproved, with checks of addresses and overflow (tools/unproved.py). Prints
 # how each part ended, and all that a failed one said; at the end a count. The status is 1 where one
@@ -33,9 +33,9 @@ PARTS = {
         wait "$show" && [ "$built" -eq 0 ] && "$ROOM/top/tools/runs.sh" "$ROOM/vx"
     """,
     "tables": """
-        tools/unproved.py vx_rows "$ROOM/vx_rows" && cd "$ROOM/tables" && "$ROOM/vx_rows" *.table
+        tools/unproved.py vx_table_tests "$ROOM/vx_table_tests" && cd "$ROOM/tables" && "$ROOM/vx_table_tests" *.table
     """,
-    "tests": "cd crates/vx_expr_tests && rt try --test",
+    "tests": "cd crates/vx_front_tests && rt try --test",
 }
 
 
@@ -51,10 +51,10 @@ def copy_runs(top):
 
 
 def copy_tables(to):
-    """Copies the tables that `vx_rows` is given in the gate, and of those that have to pass the first lines."""
+    """Copies the tables that `vx_table_tests` is given in the gate, and of those that have to pass the first lines."""
     to.mkdir()
-    for name in pathlib.Path("crates/vx_rows/args").read_text().split():
-        lines = pathlib.Path(f"crates/vx_rows/data/{name}").read_text().splitlines(keepends=True)
+    for name in pathlib.Path("crates/vx_table_tests/args").read_text().split():
+        lines = pathlib.Path(f"crates/vx_table_tests/data/{name}").read_text().splitlines(keepends=True)
         if name not in SLOW_TABLES:
             is_whole = name.startswith(("wrong-", "unread-"))
             (to / name).write_text("".join(lines if is_whole else lines[:LINES]))

@@ -1,9 +1,9 @@
 #!/bin/sh
-# Runs proved programs with requests for memory refused: vx_rows and vx_data_rows over each line of
+# Runs proved programs with requests for memory refused: vx_table_tests and vx_data_rows over each line of
 # their tables `refused`, and vx_show of each row, with the first, second, .. request refused, and with
 # all from the first, second, .. on. Then vx over files of which one is ten times the other, whose
 # records it has to read in the same memory. `rt ci` has built the programs. What it shows, and how, is
-# said in docs/REFUSALS.md. The status is 1 where a run ends otherwise than it may.
+# said in docs/audit/REFUSALS.md. The status is 1 where a run ends otherwise than it may.
 set -eu
 cd "$(dirname "$0")/.."
 room=$(mktemp -d)
@@ -74,7 +74,7 @@ UNREAD = {
 }
 
 SUMS = {
-    "vx_rows": "0 wrong lines, 0 not told\n0 lines that can't be read, 0 not refused\n{} rows, {} failed\n",
+    "vx_table_tests": "0 wrong lines, 0 not told\n0 lines that can't be read, 0 not refused\n{} rows, {} failed\n",
     "vx_data_rows": "line.table: {} lines, {} failed\n",
 }
 
@@ -257,7 +257,7 @@ def grown(name):
 
 SCHEMA = "@" + str(pathlib.Path("runs/data/orders.schema").resolve())
 WORDS = ["kleene", "coalesce", "cases", "fused", "branches", "scan"]
-tables = {crate: list(lines_of(crate, "refused")) for crate in ("vx_rows", "vx_data_rows")}
+tables = {crate: list(lines_of(crate, "refused")) for crate in ("vx_table_tests", "vx_data_rows")}
 tables["vx_show"] = [Row(word) for word in WORDS]
 lines = runs = 0
 failures = []

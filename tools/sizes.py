@@ -1,9 +1,9 @@
 #!/usr/bin/env python3
 """Runs calls over trees and scopes of great width and size, and prints what each takes.
 
-Each is a table of one scope and one line, which the proved program `vx_rows` reads, runs through the
-public calls and judges: so the answers are compared, too. `rt ci` or `rt run vx_rows` has built it.
-docs/SIZES.md has what was measured. A size in place of 100,000 may be given: `tools/sizes.py 10000`.
+Each is a table of one scope and one line, which the proved program `vx_table_tests` reads, runs through the
+public calls and judges: so the answers are compared, too. `rt ci` or `rt run vx_table_tests` has built it.
+docs/develop/SIZES.md has what was measured. A size in place of 100,000 may be given: `tools/sizes.py 10000`.
 """
 import os
 import resource
@@ -11,7 +11,7 @@ import subprocess
 import sys
 import tempfile
 
-PROGRAM = os.path.abspath(os.path.join(os.path.dirname(__file__), "..", "crates/vx_rows/out/vx_rows"))
+PROGRAM = os.path.abspath(os.path.join(os.path.dirname(__file__), "..", "crates/vx_table_tests/out/vx_table_tests"))
 SECONDS = 120
 
 

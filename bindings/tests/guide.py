@@ -1,4 +1,4 @@
-"""Whether the programs of docs/FFI.md print what stands behind them.
+"""Whether the programs of docs/embed/FFI.md print what stands behind them.
 
     guide.py OUT
 
@@ -43,14 +43,14 @@ def printed(language: str, program: str, out: pathlib.Path) -> tuple[bool, str]:
 
 def main(folder: str) -> int:
     out = pathlib.Path(folder).resolve()
-    shown = SHOWN.findall((TOP / "docs/FFI.md").read_text(encoding="utf-8"))
+    shown = SHOWN.findall((TOP / "docs/embed/FFI.md").read_text(encoding="utf-8"))
     failed = 0
     for language, program, wanted in shown:
         is_right, found = printed(language, program, out)
         if not is_right or found != wanted:
             failed += 1
-            print(f"docs/FFI.md: {language} prints\n{found}and not\n{wanted}")
-    print(f"docs/FFI.md: {len(shown)} programs, {failed} failed")
+            print(f"docs/embed/FFI.md: {language} prints\n{found}and not\n{wanted}")
+    print(f"docs/embed/FFI.md: {len(shown)} programs, {failed} failed")
     return 1 if failed or not shown else 0
 
 

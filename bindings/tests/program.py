@@ -3,7 +3,7 @@
     program.py PROGRAM FILE
 
 A line has an expression, the type of the rows, records and statistics, with tabs between them; a
-pilcrow ends a line of the last two. The records are those of crates/vx_rows/data, and so are the
+pilcrow ends a line of the last two. The records are those of crates/vx_table_tests/data, and so are the
 expressions. Of each call a line `# NUMBER CALL answered` and the page are printed, or `# NUMBER CALL
 stopped` and the message.
 """

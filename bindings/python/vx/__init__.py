@@ -1,7 +1,7 @@
 """The expression layer of a columnar engine.
 
 An expression is a text such as ``x >= 1 and s like "t%"``, and the type of the rows that it is over is
-one such as ``{x=i32?, s=utf8}``; docs/SOURCE.md of the repository says how both are written.
+one such as ``{x=i32?, s=utf8}``; docs/use/SOURCE.md of the repository says how both are written.
 
 >>> import vx
 >>> vx.check("x >= 1 and x <= 5", "{x=i32?}")

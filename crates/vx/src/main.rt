@@ -15,7 +15,7 @@ use std::env;
 use std::process::ExitCode;
 use texts::{Text, text_at};
 use vx_commands::{
-    Command, Dialect, Query, RowsWork, SqlCommand, SqlWork, Status, run_command, run_sql,
+    Command, Dialect, Query, RecordsTask, SqlCommand, SqlTask, Status, run_command, run_sql,
 };
 
 fn main(rt: HostRuntime) -> ExitCode {
@@ -56,21 +56,21 @@ fn asked(rt: &HostRuntime, matches: &ArgMatches<'_>) -> Result<Status> {
             Ok(Status::Wrong)
         }
         Some(("eval", matches)) => {
-            let work = RowsWork::Evaluate(output_of(matches));
+            let work = RecordsTask::Evaluate(output_of(matches));
             over_records(rt, work, u64::MAX, matches)
         }
         Some(("filter", matches)) => over_records(rt, filter_of(matches), u64::MAX, matches),
         Some(("plan", matches)) if matches.contains_id("sql") => {
-            over_engine(rt, SqlWork::Plan, matches)
+            over_engine(rt, SqlTask::Plan, matches)
         }
         Some(("explain", matches)) if matches.contains_id("sql") => {
-            over_engine(rt, SqlWork::Explain, matches)
+            over_engine(rt, SqlTask::Explain, matches)
         }
         Some(("explain", matches)) if matches.contains_id("data") => {
-            over_records(rt, RowsWork::Explain, 10, matches)
+            over_records(rt, RecordsTask::Explain, 10, matches)
         }
         Some(("explain", matches)) if matches.contains_id("stats") => {
-            over_records(rt, RowsWork::ExplainChunks, u64::MAX, matches)
+            over_records(rt, RecordsTask::ExplainChunks, u64::MAX, matches)
         }
         Some((name, matches)) => over_texts(rt, name, matches),
         None => Ok(Status::Wrong),
@@ -103,7 +103,7 @@ fn over_texts(rt: &HostRuntime, name: &str, matches: &ArgMatches<'_>) -> Result<
 }
 
 // Does that work for the engine that the words name.
-fn over_engine(rt: &HostRuntime, work: SqlWork, matches: &ArgMatches<'_>) -> Result<Status> {
+fn over_engine(rt: &HostRuntime, work: SqlTask, matches: &ArgMatches<'_>) -> Result<Status> {
     let expression = text_at(rt, matches, "expression")?;
     let schema = text_at(rt, matches, "schema")?;
     let table = matches.get_str("table").unwrap_or("");
@@ -113,7 +113,7 @@ fn over_engine(rt: &HostRuntime, work: SqlWork, matches: &ArgMatches<'_>) -> Res
 
 // The command that does that work for the engine.
 fn command_for<'a>(
-    work: SqlWork,
+    work: SqlTask,
     expression: &'a Text,
     schema: &'a Text,
     dialect: Dialect,

@@ -7,7 +7,7 @@ use std::fs::File;
 use std::io::BufReader;
 use std::num::NonZeroUsize;
 use vx_commands::{
-    DataFormat, Input, OutputFormat, RowsCommand, RowsWork, Status, infer_schema, run_rows,
+    DataFormat, Input, OutputFormat, RecordsTask, RowsCommand, Status, infer_schema, run_rows,
 };
 
 /// The form in which rows are printed, as the words say.
@@ -20,10 +20,10 @@ pub fn output_of(matches: &ArgMatches<'_>) -> OutputFormat {
 }
 
 /// What a filter does with records: it goes by chunks where the words say how many records one has.
-pub fn filter_of(matches: &ArgMatches<'_>) -> RowsWork {
+pub fn filter_of(matches: &ArgMatches<'_>) -> RecordsTask {
     match matches.get_one::<NonZeroUsize>("chunk") {
-        Some(size) => RowsWork::FilterByChunks(size),
-        None => RowsWork::Filter,
+        Some(size) => RecordsTask::FilterByChunks(size),
+        None => RecordsTask::Filter,
     }
 }
 
@@ -31,7 +31,7 @@ pub fn filter_of(matches: &ArgMatches<'_>) -> RowsWork {
 /// say on how many.
 pub fn over_records(
     rt: &HostRuntime,
-    work: RowsWork,
+    work: RecordsTask,
     limit: u64,
     matches: &ArgMatches<'_>,
 ) -> Result<Status> {
@@ -53,7 +53,7 @@ pub fn over_records(
 
 // The command that does that work on the first records of the file of that name.
 fn command_over<'a>(
-    work: RowsWork,
+    work: RecordsTask,
     expression: &'a Text,
     schema: &'a Text,
     data: &'a str,

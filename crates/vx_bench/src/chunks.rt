@@ -4,10 +4,10 @@ ghost use Rattle.std.specs.Prelude.{◌≡◌, ◌≢◌, ◌<◌};
 use crate::texts::parsed;
 use crate::{Status, refused};
 use std::alloc::Global;
-use vx_eval_mask::RowMask;
+use vx_eval_masks::RowMask;
+use vx_projection::ColumnReader;
 use vx_prune::{ChunkStats, Verdict, select_rows, verdict};
 use vx_scan::{ScanPlan, plan};
-use vx_scan_kept::ColumnReader;
 use vx_types::{Column, DType, FieldPath, FieldPathSet, Nullability, PType, Value, VortexResult};
 
 /// What a range of numbers found.

@@ -17,7 +17,7 @@ use vx_rewrite::{
 use vx_rewrite_analysis::{
     descendent_bound_annotations, direct_bound_annotations, free_fields, label_bound_tree,
 };
-use vx_rewrite_optimizer::optimize_with;
+use vx_rewrite_core::optimize_with;
 use vx_scan::plan;
 use vx_tree::{BoundExpression, ExactBoundExpr, Expression, Mask};
 use vx_types::{DType, StructFields, VortexError, VortexResult};

@@ -4,8 +4,8 @@ ghost use Rattle.std.specs.Prelude.{◌≡◌};
 use crate::digest::Digest;
 use crate::query::Query;
 use std::alloc::Global;
+use vx_projection::ColumnReader;
 use vx_scan::{ScanPlan, plan, scan};
-use vx_scan_kept::ColumnReader;
 use vx_types::VortexResult;
 
 /// The digest of the query's column over its batch, by scans.

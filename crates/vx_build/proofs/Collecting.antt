@@ -5,7 +5,7 @@ use Rattle.std.proofs.lemmas.Option.{slice_get-map}
 use Rattle.std.specs.Prelude.{Option, None, IfSome, IfErr, MatchResult, option_map, slice_get}
 use Rattle.vx_dtype.specs.declared.error.VortexError.{VortexError}
 use Rattle.vx_dtype.specs.declared.error.VortexError.TheVariants.{OutOfMemory}
-use Rattle.vx_dtype.specs.Answers.{Answers}
+use Rattle.vx_dtype.specs.Returns.{ReturnsOrOom}
 use Rattle.vx_value.specs.Types.{LogicalType}
 use Rattle.vx_fn.specs.Functions.{Function, Operation, binary, HasFittingLiteral, Typing, fn_type}
 use Rattle.vx_tree.specs.declared.expression.Expression.{Expression}
@@ -120,7 +120,7 @@ source_at_view : (o : Option BoundExpression) → option_map unbound (option_map
 source_at_view None = refl
 source_at_view (Some b) = refl
 
-pub collects_bound : (op : Operation) (bs : List BoundTree) (r : Result (Option BoundExpression) VortexError) → Answers (option_map bound_of) r (collected (paired_bounds op) bs) → CollectsBound op bs r
+pub collects_bound : (op : Operation) (bs : List BoundTree) (r : Result (Option BoundExpression) VortexError) → ReturnsOrOom (option_map bound_of) r (collected (paired_bounds op) bs) → CollectsBound op bs r
 collects_bound op bs (Ok o) h =
     let said = collected (paired_bounds op) bs in
     let a : Option BoundTree = option_map bound_of o in
@@ -149,11 +149,11 @@ rounds_answer op (suc n) xs =
     let s = rounds_answer op n r.0 in
     (s.0, ap (on_ok (rounds (paired_trees op) n)) r.1 ∙ s.1)
 
-no_refusal : {A B : Type 0} (view : A → B) (said : Result B VortexError) (x : B) (r : Result A VortexError) → said ≡ Ok x → Answers view r said → IfErr r (λ e. e ≡ OutOfMemory)
+no_refusal : {A B : Type 0} (view : A → B) (said : Result B VortexError) (x : B) (r : Result A VortexError) → said ≡ Ok x → ReturnsOrOom view r said → IfErr r (λ e. e ≡ OutOfMemory)
 no_refusal view said x (Ok y) is h = tt
 no_refusal {A} {B} view said x (Err e) is h = ⊎_elim (λ m. m) (λ q. subst (λ (s : Result B VortexError). MatchResult s (λ y. Unit {0}) (λ d. e ≡ OutOfMemory)) (sym is ∙ q) tt) h
 
-pub collects_trees : (op : Operation) (es : List Tree) (r : Result (Option Expression) VortexError) → Answers (option_map tree_of) r (collected (paired_trees op) es) → CollectsTrees op es r
+pub collects_trees : (op : Operation) (es : List Tree) (r : Result (Option Expression) VortexError) → ReturnsOrOom (option_map tree_of) r (collected (paired_trees op) es) → CollectsTrees op es r
 collects_trees op es r h =
     let left = rounds_answer op (length es) es in
     record { left = h; memory_alone = no_refusal (option_map tree_of) (collected (paired_trees op) es) (slice_get left.0 0) r (ap (on_ok first_tree) left.1) h }

@@ -3,7 +3,7 @@ use Rattle.std.specs.Prelude.{◌≡◌, ◌≤◌, List, [], ◌∷◌, length,
 use Rattle.std.specs.List.{list_all}
 use Rattle.vx_dtype.specs.declared.error.VortexError.{VortexError}
 use Rattle.vx_dtype.specs.declared.error.VortexError.TheVariants.{OutOfMemory, NotBool}
-use Rattle.vx_dtype.specs.Answers.{Answers}
+use Rattle.vx_dtype.specs.Returns.{ReturnsOrOom}
 use Rattle.vx_value.specs.Types.{LogicalType}
 use Rattle.vx_fn.specs.Functions.{Operation, binary, is_truth}
 use Rattle.vx_tree.specs.declared.expression.Expression.{Expression}
@@ -23,13 +23,13 @@ paired_bounds op l r = node_over (binary op) (bounds_from (l ∷ r ∷ []))
 
 -- the call gave what the rounds leave of the items, and refuses for memory alone
 pub record CollectsTrees (op : Operation) (es : List Tree) (result : Result (Option Expression) VortexError) : Type 0 where
-  pub left : Answers (option_map tree_of) result (collected (paired_trees op) es)
+  pub left : ReturnsOrOom (option_map tree_of) result (collected (paired_trees op) es)
   pub memory_alone : IfErr result (λ e. e ≡ OutOfMemory)
 
 -- the call gave what the rounds leave of the bound items, or the first refusal of a pair, unless memory ran out; what is
 -- left is well typed and over a scope where the items are, and its source is what the rounds leave of theirs
 pub record CollectsBound (op : Operation) (bs : List BoundTree) (result : Result (Option BoundExpression) VortexError) : Type 0 where
-  pub left : Answers (option_map bound_of) result (collected (paired_bounds op) bs)
+  pub left : ReturnsOrOom (option_map bound_of) result (collected (paired_bounds op) bs)
   pub well_typed : EachWellTyped (bounds_from bs) → IfOk result (λ o. IfSome o (λ b. WellTyped (bound_of b)))
   pub over : (s : LogicalType) → EachOver (bounds_from bs) s → IfOk result (λ o. IfSome o (λ b. Over (bound_of b) s))
   pub source : IfOk result (λ o. collected (paired_trees op) (map unbound bs) ≡ Ok (option_map (λ b. unbound (bound_of b)) o))

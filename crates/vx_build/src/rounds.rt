@@ -1,6 +1,6 @@
 // Trees paired with their neighbours, round after round, until one is left.
 ghost use Rattle.std.specs.Prelude.{◌≡◌, ◌≤◌, IsOk, length, map, option_map};
-ghost use Rattle.vx_dtype.specs.Answers.{Answers};
+ghost use Rattle.vx_dtype.specs.Returns.{ReturnsOrOom};
 ghost use Rattle.vx_fn.specs.Views.{operation_of};
 ghost use Rattle.vx_build.specs.Rounds.{paired_by, round, collected};
 
@@ -14,7 +14,7 @@ pub(crate) fn collect<T: TreeNode>(
     operator: Operator,
     items: Vec<T>,
 ) -> VortexResult<Option<T>>
-    ensures left { Answers (option_map T.seen) result (collected (paired_by T.over (operation_of operator)) (map T.seen items.items)) }
+    ensures left { ReturnsOrOom (option_map T.seen) result (collected (paired_by T.over (operation_of operator)) (map T.seen items.items)) }
     ensures alone { length items.items ≤ 1 → IsOk result }
 {
     let mut left = items;
@@ -26,7 +26,7 @@ pub(crate) fn collect<T: TreeNode>(
 
 // One round.
 fn round<T: TreeNode>(alloc: Global, operator: Operator, items: Vec<T>) -> VortexResult<Vec<T>>
-    ensures { Answers (λ left. map T.seen left.items) result (round (paired_by T.over (operation_of operator)) (map T.seen items.items)) }
+    ensures { ReturnsOrOom (λ left. map T.seen left.items) result (round (paired_by T.over (operation_of operator)) (map T.seen items.items)) }
 {
     let mut left = Vec::with_capacity(alloc, items.len() / 2 + 1)?;
     let mut items = items.into_iter();
@@ -41,7 +41,7 @@ fn round<T: TreeNode>(alloc: Global, operator: Operator, items: Vec<T>) -> Vorte
 
 // The two under the operator.
 fn join<T: TreeNode>(alloc: Global, operator: Operator, lhs: T, rhs: T) -> VortexResult<T>
-    ensures { Answers T.seen result (paired_by T.over (operation_of operator) (T.seen lhs) (T.seen rhs)) }
+    ensures { ReturnsOrOom T.seen result (paired_by T.over (operation_of operator) (T.seen lhs) (T.seen rhs)) }
 {
     binary(alloc, operator, lhs, rhs)
 }

@@ -4,18 +4,18 @@ use Rattle.vx_dtype.specs.declared.error.VortexError.{VortexError}
 use Rattle.vx_dtype.specs.declared.error.VortexError.TheVariants.{OutOfMemory as Exhausted}
 use Rattle.vx_value.specs.Types.{LogicalType}
 use Rattle.vx_tree.specs.Trees.{Tree, typed}
-use Rattle.vx_source_tokens.specs.declared.expected.Expected.{Expected}
-use Rattle.vx_source_dtype.specs.Reading.{IsRead, Stops}
-use Rattle.vx_source_dtype.specs.TypeReading.{type_step, type_start}
+use Rattle.vx_source_types.specs.declared.expectation.Expected.{Expected}
+use Rattle.vx_source_types.specs.Reading.{IsRead, Stops}
+use Rattle.vx_source_types.specs.TypeReading.{type_step, type_start}
 use Rattle.vx_source_grammar.specs.ExpressionReading.{expression_step}
 use Rattle.vx_source_grammar.specs.States.{expression_start}
-use Rattle.vx_command_pages.specs.declared.complaint.Complaint.{Complaint}
-use Rattle.vx_command_pages.specs.declared.complaint.Complaint.TheVariants.{OutOfMemory, UnreadExpression, UnreadSchema, Refused}
+use Rattle.vx_command_pages.specs.declared.complaint.CommandError.{CommandError}
+use Rattle.vx_command_pages.specs.declared.complaint.CommandError.TheVariants.{OutOfMemory, UnreadExpression, UnreadSchema, Refused}
 use Rattle.vx_command_pages.specs.declared.complaint.Status.{Status}
 use Rattle.vx_command_pages.specs.declared.complaint.Status.TheVariants.{Failed, Wrong}
 
 -- how a command ends that stops with the complaint
-abbrev pub status_of : Complaint → Status
+abbrev pub status_of : CommandError → Status
 status_of OutOfMemory = Failed
 status_of (UnreadExpression at expected) = Wrong
 status_of (UnreadSchema at expected) = Wrong
@@ -38,13 +38,13 @@ abbrev pub StopsReadingType : List ℕ → ℕ → Expected → Type 0
 StopsReadingType schema at expected = (at ≤ length schema) × Stops type_step (type_start 200) schema (drop at schema) expected
 
 -- the complaint is what stops reading the text, or want of memory
-abbrev pub IsUnread : List ℕ → Complaint → Type 0
+abbrev pub IsUnread : List ℕ → CommandError → Type 0
 IsUnread text OutOfMemory = Unit {0}
 IsUnread text (UnreadExpression at expected) = StopsReading text at expected
 IsUnread text _ = ⊥
 
 -- the complaint is what stops reading the schema, or want of memory
-abbrev pub IsUnreadSchema : List ℕ → Complaint → Type 0
+abbrev pub IsUnreadSchema : List ℕ → CommandError → Type 0
 IsUnreadSchema schema OutOfMemory = Unit {0}
 IsUnreadSchema schema (UnreadSchema at expected) = StopsReadingType schema at expected
 IsUnreadSchema schema _ = ⊥
@@ -54,13 +54,13 @@ abbrev pub IsRefusedWith : Tree → LogicalType → VortexError → Type 0
 IsRefusedWith e s refusal = (refusal ≡ Exhausted) ⊎ (typed e s ≡ Err refusal)
 
 -- the complaint is the first refusal of the expression over the scope's type, or want of memory
-abbrev pub IsRefusal : Tree → LogicalType → Complaint → Type 0
+abbrev pub IsRefusal : Tree → LogicalType → CommandError → Type 0
 IsRefusal e s OutOfMemory = Unit {0}
 IsRefusal e s (Refused span refusal) = typed e s ≡ Err refusal
 IsRefusal e s _ = ⊥
 
 -- the complaint is what stops reading either, or the first refusal of what they are read as, or want of memory
-abbrev pub IsComplaint : List ℕ → List ℕ → Complaint → Type 0
+abbrev pub IsComplaint : List ℕ → List ℕ → CommandError → Type 0
 IsComplaint text schema OutOfMemory = Unit {0}
 IsComplaint text schema (UnreadExpression at expected) = StopsReading text at expected
 IsComplaint text schema (UnreadSchema at expected) = StopsReadingType schema at expected

@@ -1,2 +1,6 @@
+pub mod Positions
 pub mod Inputs
 pub mod Pages
+pub mod PlanData
+pub mod PlanPages
+pub mod SqlPages

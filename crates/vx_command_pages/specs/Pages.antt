@@ -2,7 +2,7 @@
 use Rattle.std.specs.Prelude.{◌≡◌, ◌++◌, ℕ, List, [], ◌∷◌, Ok}
 use Rattle.vx_value.specs.Types.{LogicalType}
 use Rattle.vx_tree.specs.Trees.{Tree, typed}
-use Rattle.vx_source_dtype.specs.TypeTexts.{type_source}
+use Rattle.vx_source_types.specs.TypeTexts.{type_source}
 use Rattle.vx_source_writer.specs.SourceTexts.{source}
 use Rattle.vx_command_pages.specs.Inputs.{Reads, ReadsType}
 

@@ -1,15 +1,15 @@
 // What stops a command.
 ghost use Rattle.std.specs.Prelude.{◌≡◌};
-ghost use Rattle.vx_command_pages.specs.declared.complaint.Complaint.TheVariants.{OutOfMemory};
+ghost use Rattle.vx_command_pages.specs.declared.complaint.CommandError.TheVariants.{OutOfMemory};
 
+use crate::report::Span;
 use std::alloc::{AllocError, AllocFailed};
-use vx_report::Span;
 use vx_source::Expected;
 use vx_tree::VortexError;
 
 /// Why a command prints no page.
 #[derive(Debug, Drop)]
-pub enum Complaint {
+pub enum CommandError {
     /// Memory ran out.
     OutOfMemory,
     /// Reading the expression stopped at that byte.
@@ -20,7 +20,7 @@ pub enum Complaint {
     Refused { span: Span, refusal: VortexError },
 }
 
-impl Complaint {
+impl CommandError {
     ghost use Rattle.vx_command_pages.specs.Inputs.{status_of};
 
     /// How a command ends that stops with it.
@@ -28,27 +28,27 @@ impl Complaint {
         ensures { result ≡ status_of self.now }
     {
         match self {
-            Complaint::OutOfMemory => Status::Failed,
-            Complaint::UnreadExpression { .. }
-            | Complaint::UnreadSchema { .. }
-            | Complaint::Refused { .. } => Status::Wrong,
+            CommandError::OutOfMemory => Status::Failed,
+            CommandError::UnreadExpression { .. }
+            | CommandError::UnreadSchema { .. }
+            | CommandError::Refused { .. } => Status::Wrong,
         }
     }
 }
 
-impl From<AllocError> for Complaint {
+impl From<AllocError> for CommandError {
     ghost from_gives = { λ _ c. c ≡ OutOfMemory };
 
-    fn from(_e: AllocError) -> Complaint {
-        Complaint::OutOfMemory
+    fn from(_e: AllocError) -> CommandError {
+        CommandError::OutOfMemory
     }
 }
 
-impl<T: Drop> From<AllocFailed<T>> for Complaint {
+impl<T: Drop> From<AllocFailed<T>> for CommandError {
     ghost from_gives = { λ _ c. c ≡ OutOfMemory };
 
-    fn from(_e: AllocFailed<T>) -> Complaint {
-        Complaint::OutOfMemory
+    fn from(_e: AllocFailed<T>) -> CommandError {
+        CommandError::OutOfMemory
     }
 }
 

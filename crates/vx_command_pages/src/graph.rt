@@ -2,15 +2,16 @@
 ghost use Rattle.std.specs.Prelude.{IfErr};
 ghost use Rattle.vx_command_pages.specs.Inputs.{IsComplaint};
 
-use crate::{Complaint, bind, read_expression, read_schema};
+use crate::complaint::CommandError;
+use crate::input::{bind, read_expression, read_schema};
 use std::alloc::{AllocError, Global};
 use vx_source::TypeText;
 use vx_tree::{BoundExpression, ChildName, ScalarFnRef};
 
 /// The typed tree as a graph in Graphviz's language: a line for each node, which shows its function
 /// and its type, and one for each edge, with the name of the child. Complains as
-/// [`type_page`](crate::type_page) does.
-pub fn graph_page(alloc: Global, expression: &str, schema: &str) -> Result<String, Complaint>
+/// [`type_page`](crate::types::type_page) does.
+pub fn graph_page(alloc: Global, expression: &str, schema: &str) -> Result<String, CommandError>
     ensures { IfErr result (λ c. IsComplaint expression.now schema.now c) }
 {
     let placed = read_expression(alloc, expression)?;

@@ -5,39 +5,39 @@ ghost use Rattle.vx_tree.specs.Views.{tree_of, bound_of};
 ghost use Rattle.vx_tree.specs.Trees.{Over, WellTyped, node_type, typed, unbound};
 ghost use Rattle.vx_command_pages.specs.Inputs.{Reads, ReadsType, IsUnread, IsUnreadSchema, IsRefusal, IsRefusedWith};
 
-use crate::Complaint;
+use crate::complaint::CommandError;
+use crate::report::Span;
 use crate::spans::span_at;
 use std::alloc::Global;
 use vx_places::first_refusal_at;
-use vx_report::Span;
 use vx_source::{DEFAULT_NESTING, ParseError, Placed, parse_type, parse_with_places};
 use vx_tree::{BoundExpression, DType, VortexError};
 
 /// The expression that the text says, with the bytes that its nodes were read from. Complains of the
 /// place where reading stopped, and of want of memory.
-pub fn read_expression(alloc: Global, text: &str) -> Result<Box<Placed>, Complaint>
+pub fn read_expression(alloc: Global, text: &str) -> Result<Box<Placed>, CommandError>
     ensures read { IfOk result (λ placed. Reads text.now (tree_of placed.value.expression)) }
     ensures complaint { IfErr result (λ c. IsUnread text.now c) }
 {
     match parse_with_places(alloc, text, DEFAULT_NESTING) {
         Ok(placed) => Ok(Box::new(alloc, placed)?),
-        Err(ParseError::OutOfMemory) => Err(Complaint::OutOfMemory),
+        Err(ParseError::OutOfMemory) => Err(CommandError::OutOfMemory),
         Err(ParseError::Unexpected { at, expected }) => {
-            Err(Complaint::UnreadExpression { at, expected })
+            Err(CommandError::UnreadExpression { at, expected })
         }
     }
 }
 
 /// The type that the schema says. Complains of the place where reading stopped, and of want of memory.
-pub fn read_schema(alloc: Global, schema: &str) -> Result<Box<DType>, Complaint>
+pub fn read_schema(alloc: Global, schema: &str) -> Result<Box<DType>, CommandError>
     ensures read { IfOk result (λ scope. ReadsType schema.now (type_of scope.value)) }
     ensures complaint { IfErr result (λ c. IsUnreadSchema schema.now c) }
 {
     match parse_type(alloc, schema) {
         Ok(scope) => Ok(Box::new(alloc, scope)?),
-        Err(ParseError::OutOfMemory) => Err(Complaint::OutOfMemory),
+        Err(ParseError::OutOfMemory) => Err(CommandError::OutOfMemory),
         Err(ParseError::Unexpected { at, expected }) => {
-            Err(Complaint::UnreadSchema { at, expected })
+            Err(CommandError::UnreadSchema { at, expected })
         }
     }
 }
@@ -48,7 +48,7 @@ pub fn bind(
     alloc: Global,
     placed: &Placed,
     scope: &DType,
-) -> Result<Box<BoundExpression>, Complaint>
+) -> Result<Box<BoundExpression>, CommandError>
     ensures typed { IfOk result (λ b. typed (tree_of placed.now.expression) (type_of scope.now) ≡ Ok (node_type (bound_of b.value))) }
     ensures well_typed { IfOk result (λ b. WellTyped (bound_of b.value)) }
     ensures over { IfOk result (λ b. Over (bound_of b.value) (type_of scope.now) × (unbound (bound_of b.value) ≡ tree_of placed.now.expression)) }
@@ -63,13 +63,13 @@ pub fn bind(
 /// The complaint of that refusal, with the bytes that the first refused node was read from; those of
 /// the whole expression where the node can't be told for want of memory. Asks the first refusal of
 /// binding, or want of memory.
-pub fn refused(alloc: Global, placed: &Placed, scope: &DType, refusal: VortexError) -> Complaint
+pub fn refused(alloc: Global, placed: &Placed, scope: &DType, refusal: VortexError) -> CommandError
     requires { IsRefusedWith (tree_of placed.now.expression) (type_of scope.now) refusal }
     ensures { IsRefusal (tree_of placed.now.expression) (type_of scope.now) result }
 {
     match refusal {
-        VortexError::OutOfMemory => Complaint::OutOfMemory,
-        refusal => Complaint::Refused {
+        VortexError::OutOfMemory => CommandError::OutOfMemory,
+        refusal => CommandError::Refused {
             span: refused_span(alloc, placed, scope),
             refusal,
         },

@@ -1,19 +1,34 @@
-// What the commands read and print that need no plan, and what stops them.
+// What commands are given and the pages that they make: messages, types, trees, plans.
 #![tactic(auto)]
 
 mod complaint;
+mod excerpt;
+mod explanation;
 mod graph;
 mod help;
 mod input;
+mod json;
 mod message;
+mod passes;
+mod paths;
+mod planned;
+mod position;
+mod report;
 mod source;
+mod sources;
 mod spans;
+mod sql;
 mod types;
 
-pub use complaint::{Complaint, Status};
+pub use complaint::{CommandError, Status};
+pub use explanation::explanation_page;
 pub use graph::graph_page;
-pub use input::{bind, read_expression, read_schema, refused};
+pub use input::{bind, read_expression, read_schema};
 pub use message::{Input, Message};
+pub use planned::{paths_page, plan_of, plan_page};
+pub use position::Position;
+pub use report::{Report, Span};
 pub use source::source_page;
 pub use spans::span_at;
+pub use sql::{SqlComplaint, sql_explanation_page, sql_page};
 pub use types::type_page;

@@ -1,9 +1,9 @@
 // Complaints as messages.
-use crate::Complaint;
+use crate::complaint::CommandError;
 use crate::help::help_for;
+use crate::report::{Report, Span};
 use std::fmt;
 use std::fmt::{Display, Formatter, Write};
-use vx_report::{Report, Span};
 
 /// A text that a command is given, and what messages call it.
 #[derive(Clone, Copy, Debug)]
@@ -19,7 +19,7 @@ pub struct Input<'a> {
 #[derive(Clone, Copy)]
 pub struct Message<'a> {
     /// What is complained of.
-    pub complaint: &'a Complaint,
+    pub complaint: &'a CommandError,
     /// The expression that the command was given.
     pub expression: Input<'a>,
     /// The schema; that of a command which takes none is never shown.
@@ -29,14 +29,14 @@ pub struct Message<'a> {
 impl Display for Message<'_> {
     fn fmt<W: Write>(&self, f: &mut Formatter<W>) -> fmt::Result {
         match self.complaint {
-            Complaint::OutOfMemory => f.write_str("error: out of memory"),
-            Complaint::UnreadExpression { at, expected } => {
+            CommandError::OutOfMemory => f.write_str("error: out of memory"),
+            CommandError::UnreadExpression { at, expected } => {
                 write_report(expected, self.expression, place(*at), None, f)
             }
-            Complaint::UnreadSchema { at, expected } => {
+            CommandError::UnreadSchema { at, expected } => {
                 write_report(expected, self.schema, place(*at), None, f)
             }
-            Complaint::Refused { span, refusal } => {
+            CommandError::Refused { span, refusal } => {
                 write_report(refusal, self.expression, *span, help_for(refusal), f)
             }
         }

@@ -1,5 +1,5 @@
 // The bytes that a node was read from.
-use vx_report::Span;
+use crate::report::Span;
 use vx_source::Places;
 
 /// The bytes that the node at the path was read from, or, where it was read from none of its own, its

@@ -1,1 +1,2 @@
+mod Untold
 mod Kept

@@ -2,12 +2,12 @@
 use Rattle.std.specs.Prelude.{◌≡◌, ◌⊎◌, ℕ, List, Option}
 use Rattle.std.specs.Io.KnownBytes.{Appends, Keeps}
 use Rattle.vx_run.specs.Writing.{Breaks}
-use Rattle.vx_command_pages.specs.declared.complaint.Complaint.{Complaint}
+use Rattle.vx_command_pages.specs.declared.complaint.CommandError.{CommandError}
 use Rattle.vx_command_pages.specs.declared.complaint.Status.{Status}
 use Rattle.vx_command_pages.specs.declared.complaint.Status.TheVariants.{Done, Failed}
 use Rattle.vx_command_pages.specs.Inputs.{IsComplaint, IsUnread, status_of}
 use Rattle.vx_command_pages.specs.Pages.{IsSourcePage, IsTypePage}
-use Rattle.vx_command_plans.specs.PlanPages.{IsPlanPage}
+use Rattle.vx_command_pages.specs.PlanPages.{IsPlanPage}
 use Rattle.vx_commands.specs.declared.command.Command.{Command}
 use Rattle.vx_commands.specs.declared.command.Command.TheVariants.{Check, Explain, Format, Plan, Graph}
 
@@ -20,7 +20,7 @@ IsPage (Plan q) page = IsPlanPage q.expression.text.now q.schema.text.now page
 IsPage (Graph q) page = Unit {0}
 
 -- what the command complains of
-abbrev pub IsComplaintAt : Command → Complaint → Type 0
+abbrev pub IsComplaintAt : Command → CommandError → Type 0
 IsComplaintAt (Check q) c = IsComplaint q.expression.text.now q.schema.text.now c
 IsComplaintAt (Explain q) c = IsComplaint q.expression.text.now q.schema.text.now c
 IsComplaintAt (Format e) c = IsUnread e.text.now c
@@ -32,11 +32,11 @@ abbrev pub EndsAtPage : List ℕ → Option (List ℕ) → Option (List ℕ) →
 EndsAtPage page out out' status = ((status ≡ Done) × Appends out out' page) ⊎ ((status ≡ Failed) × Breaks out out' page)
 
 -- the status is the complaint's, or tells that the message couldn't be written
-abbrev pub EndsAtComplaint : Complaint → Status → Type 0
+abbrev pub EndsAtComplaint : CommandError → Status → Type 0
 EndsAtComplaint c status = (status ≡ status_of c) ⊎ (status ≡ Failed)
 
 -- the page is on the first writer, and nothing on the second, or the other way round a complaint
-abbrev pub Ends : Command → Option (List ℕ) → Option (List ℕ) → Option (List ℕ) → Option (List ℕ) → Status → Type 0
-Ends command out out' err err' status =
+abbrev pub EndsCommand : Command → Option (List ℕ) → Option (List ℕ) → Option (List ℕ) → Option (List ℕ) → Status → Type 0
+EndsCommand command out out' err err' status =
     ((page : List ℕ) × IsPage command page × EndsAtPage page out out' status × Keeps err err')
-    ⊎ (Keeps out out' × ((c : Complaint) × IsComplaintAt command c × EndsAtComplaint c status))
+    ⊎ (Keeps out out' × ((c : CommandError) × IsComplaintAt command c × EndsAtComplaint c status))

@@ -1,2 +1,4 @@
+pub mod Rows
+pub mod Chunked
 pub mod Commands
 pub mod SqlRuns

@@ -3,15 +3,15 @@ use Rattle.std.specs.Prelude.{◌≡◌, ◌⊎◌, ℕ, List, Option}
 use Rattle.std.specs.Io.KnownBytes.{Keeps}
 use Rattle.vx_command_pages.specs.declared.complaint.Status.{Status}
 use Rattle.vx_command_pages.specs.declared.complaint.Status.TheVariants.{Failed}
-use Rattle.vx_command_plans.specs.declared.sql.SqlComplaint.{SqlComplaint}
-use Rattle.vx_command_plans.specs.SqlPages.{IsSqlPage, IsSqlComplaint, sql_status_of}
+use Rattle.vx_command_pages.specs.declared.sql.SqlComplaint.{SqlComplaint}
+use Rattle.vx_command_pages.specs.SqlPages.{IsSqlPage, IsSqlComplaint, sql_status_of}
 use Rattle.vx_commands.specs.Commands.{EndsAtPage}
 use Rattle.vx_commands.specs.declared.sql.SqlCommand.{SqlCommand}
-use Rattle.vx_commands.specs.declared.sql.SqlWork.{SqlWork}
-use Rattle.vx_commands.specs.declared.sql.SqlWork.TheVariants.{Plan, Explain}
+use Rattle.vx_commands.specs.declared.sql.SqlTask.{SqlTask}
+use Rattle.vx_commands.specs.declared.sql.SqlTask.TheVariants.{Plan, Explain}
 
 -- what is printed; of `explain` nothing is promised
-abbrev pub IsSqlText : SqlWork → SqlCommand → List ℕ → Type 0
+abbrev pub IsSqlText : SqlTask → SqlCommand → List ℕ → Type 0
 IsSqlText Plan command page = IsSqlPage command.query.expression.text.now command.query.schema.text.now command.dialect command.table.now page
 IsSqlText Explain command page = Unit {0}
 

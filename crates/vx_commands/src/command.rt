@@ -3,8 +3,9 @@ ghost use Rattle.std.specs.Prelude.{IfOk, IfErr, string_bytes};
 ghost use Rattle.vx_commands.specs.Commands.{IsPage, IsComplaintAt};
 
 use std::alloc::Global;
-use vx_command_pages::{Complaint, Input, Message, graph_page, source_page, type_page};
-use vx_command_plans::{explanation_page, plan_page};
+use vx_command_pages::{
+    CommandError, Input, Message, explanation_page, graph_page, plan_page, source_page, type_page,
+};
 
 /// An expression, and the type of the rows that it is over.
 #[derive(Clone, Copy, Debug)]
@@ -32,7 +33,7 @@ pub enum Command<'a> {
 
 impl<'a> Command<'a> {
     /// The complaint as a message about the texts of the command.
-    pub fn message<'m>(&self, complaint: &'m Complaint) -> Message<'m>
+    pub fn message<'m>(&self, complaint: &'m CommandError) -> Message<'m>
     where
         'a: 'm,
     {
@@ -52,7 +53,7 @@ impl<'a> Command<'a> {
 }
 
 /// What the command prints, or why it prints nothing.
-pub fn page_of(alloc: Global, command: &Command<'_>) -> Result<String, Complaint>
+pub fn page_of(alloc: Global, command: &Command<'_>) -> Result<String, CommandError>
     ensures prints { IfOk result (λ page. IsPage command.now (string_bytes page)) }
     ensures complaint { IfErr result (λ c. IsComplaintAt command.now c) }
 {

@@ -1,24 +1,28 @@
 // A run of the program over the records of a file.
+use crate::chunked::filter_by_chunks;
+use crate::complaint::RowsComplaint;
+use crate::data::{DataFormat, opened, schema_of, unwritten};
+use crate::evaluated::evaluate;
+use crate::explained::explain_chunks;
+use crate::filtered::filter;
+use crate::message::RowsMessage;
+use crate::outputs::{Output, OutputFormat};
 use crate::run::tell_message;
 use std::alloc::Global;
 use std::io::{BufRead, Write};
 use std::num::NonZeroUsize;
-use vx_command_chunks::explain_chunks;
-use vx_command_pages::{Complaint, Input, Status, read_expression, read_schema};
-use vx_command_plans::explanation_page;
-use vx_command_rows::{
-    DataFormat, Output, OutputFormat, RowsComplaint, RowsMessage, evaluate, filter,
-    filter_by_chunks, opened, schema_of, unwritten,
+use vx_command_pages::{
+    CommandError, Input, Status, explanation_page, read_expression, read_schema,
 };
 use vx_data::WriteError;
-use vx_prune_data::ChunkRecords;
+use vx_prune::ChunkRecords;
 use vx_records::{CsvRows, JsonRecords, RecordReader};
 use vx_source::{Placed, TypeText};
 use vx_types::DType;
 
 /// What is done with records.
 #[derive(Clone, Copy, Debug, PartialEq, Eq)]
-pub enum RowsWork {
+pub enum RecordsTask {
     /// Those of which the expression is true are written as they stand.
     Filter,
     /// The same, in chunks of so many records, and how many of these weren't evaluated is told.
@@ -37,7 +41,7 @@ pub enum RowsWork {
 #[derive(Clone, Copy, Debug)]
 pub struct RowsCommand<'a> {
     /// What is done with them.
-    pub work: RowsWork,
+    pub work: RecordsTask,
     /// The expression.
     pub expression: Input<'a>,
     /// The type of the records.
@@ -110,7 +114,7 @@ fn gone_over<D: BufRead + Drop, W: Write, E: Write>(
 ) -> Result<(), RowsComplaint> {
     let placed = read_expression(alloc, command.expression.text)?;
     let scope = read_schema(alloc, command.schema.text)?;
-    if let RowsWork::ExplainChunks = command.work {
+    if let RecordsTask::ExplainChunks = command.work {
         return chunks_explained(alloc, command, &placed, &scope, data, out);
     }
     let scope = Box::into_inner(scope);
@@ -137,10 +141,10 @@ fn chunks_explained<D: BufRead + Drop, W: Write>(
 ) -> Result<(), RowsComplaint> {
     let page = explanation_page(alloc, command.expression.text, command.schema.text)?;
     let Ok(chunks) = ChunkRecords::new(alloc, scope) else {
-        return Err(RowsComplaint::Query(Complaint::OutOfMemory));
+        return Err(RowsComplaint::Query(CommandError::OutOfMemory));
     };
     let Ok(dtype) = chunks.record_type(alloc) else {
-        return Err(RowsComplaint::Query(Complaint::OutOfMemory));
+        return Err(RowsComplaint::Query(CommandError::OutOfMemory));
     };
     unwritten(written(out, page.as_str()))?;
     let mut records = JsonRecords::new(alloc, dtype, data);
@@ -165,12 +169,12 @@ fn worked<R: RecordReader, W: Write, E: Write>(
     err: &mut E,
 ) -> Result<(), RowsComplaint> {
     match command.work {
-        RowsWork::Filter => filter(alloc, placed, command.limit, records, out),
-        RowsWork::FilterByChunks(size) => {
+        RecordsTask::Filter => filter(alloc, placed, command.limit, records, out),
+        RecordsTask::FilterByChunks(size) => {
             filter_by_chunks(alloc, placed, size, command.limit, records, out, err)
         }
-        RowsWork::Evaluate(format) => evaluated(alloc, command, format, placed, records, out),
-        RowsWork::Explain | RowsWork::ExplainChunks => {
+        RecordsTask::Evaluate(format) => evaluated(alloc, command, format, placed, records, out),
+        RecordsTask::Explain | RecordsTask::ExplainChunks => {
             let page = explanation(alloc, command, records.dtype())?;
             unwritten(written(out, page.as_str()))?;
             evaluated(
@@ -210,7 +214,7 @@ fn explanation(
     let page = explanation_page(alloc, command.expression.text, command.schema.text)?;
     match format!(in alloc; "schema: {}\n{page}rows:\n", TypeText(dtype)) {
         Ok(explanation) => Ok(explanation),
-        Err(_) => Err(RowsComplaint::Query(Complaint::OutOfMemory)),
+        Err(_) => Err(RowsComplaint::Query(CommandError::OutOfMemory)),
     }
 }
 

@@ -1,13 +1,13 @@
 // A run of the program.
 ghost use Rattle.std.specs.Prelude.{◌≡◌, ◌⊎◌};
 ghost use Rattle.vx_command_pages.specs.declared.complaint.Status.TheVariants.{Failed};
-ghost use Rattle.vx_commands.specs.Commands.{Ends, EndsAtPage, EndsAtComplaint};
+ghost use Rattle.vx_commands.specs.Commands.{EndsCommand, EndsAtPage, EndsAtComplaint};
 
-use crate::{Command, page_of};
+use crate::command::{Command, page_of};
 use std::alloc::Global;
 use std::fmt::Display;
 use std::io::Write;
-use vx_command_pages::{Complaint, Status};
+use vx_command_pages::{CommandError, Status};
 use vx_run::tell;
 
 /// Runs the command: its page is written on `out`, or what is complained of as a message on `err`, and
@@ -20,7 +20,7 @@ pub fn run_command<W: Write, E: Write>(
     out: &mut W,
     err: &mut E,
 ) -> Status
-    ensures { Ends command.now (W.contents out.old) (W.contents out.new) (E.contents err.old) (E.contents err.new) result }
+    ensures { EndsCommand command.now (W.contents out.old) (W.contents out.new) (E.contents err.old) (E.contents err.new) result }
 {
     match page_of(alloc, command) {
         Ok(page) => print(page.as_str(), out),
@@ -42,7 +42,7 @@ pub(crate) fn print<W: Write>(page: &str, out: &mut W) -> Status
 fn complain<E: Write>(
     alloc: Global,
     command: &Command<'_>,
-    complaint: &Complaint,
+    complaint: &CommandError,
     err: &mut E,
 ) -> Status
     ensures { EndsAtComplaint complaint.now result }

@@ -2,17 +2,16 @@
 ghost use Rattle.std.specs.Prelude.{IfOk, IfErr, string_bytes};
 ghost use Rattle.vx_commands.specs.SqlRuns.{IsSqlText, IsSqlComplaintAt, EndsAtSqlComplaint, EndsAsSql};
 
-use crate::Query;
+use crate::command::Query;
 use crate::run::{print, tell_message};
 use std::alloc::Global;
 use std::io::Write;
-use vx_command_pages::{Message, Status};
-use vx_command_plans::{SqlComplaint, sql_explanation_page, sql_page};
+use vx_command_pages::{Message, SqlComplaint, Status, sql_explanation_page, sql_page};
 use vx_sql::Dialect;
 
 /// What is told of a plan that is written as SQL.
 #[derive(Clone, Copy, Debug, PartialEq, Eq)]
-pub enum SqlWork {
+pub enum SqlTask {
     /// The statement, and what is left of the plan's tree.
     Plan,
     /// What becomes of the expression, the statement, and of each conjunct whether the engine takes it.
@@ -23,7 +22,7 @@ pub enum SqlWork {
 #[derive(Clone, Copy, Debug)]
 pub struct SqlCommand<'a> {
     /// What is told of it.
-    pub work: SqlWork,
+    pub work: SqlTask,
     /// The expression, and the type of the table's rows.
     pub query: Query<'a>,
     /// The engine.
@@ -58,8 +57,8 @@ fn page_of(alloc: Global, command: &SqlCommand<'_>) -> Result<String, SqlComplai
     let expression = command.query.expression.text;
     let schema = command.query.schema.text;
     match command.work {
-        SqlWork::Plan => sql_page(alloc, expression, schema, command.dialect, command.table),
-        SqlWork::Explain => {
+        SqlTask::Plan => sql_page(alloc, expression, schema, command.dialect, command.table),
+        SqlTask::Explain => {
             sql_explanation_page(alloc, expression, schema, command.dialect, command.table)
         }
     }

@@ -1,8 +1,20 @@
-// Data from files under one name: rows read from JSON lines and CSV files, types guessed, rows written.
+// Data from files: rows read from JSON lines and CSV files, types guessed, rows written.
 #![tactic(auto)]
 
-pub use vx_data_csv::{CsvParser, CsvRecords, CsvWriter, infer_csv_type, rows_from_csv, write_csv};
-pub use vx_data_json::{
+mod builder;
+mod cells;
+mod csv_files;
+mod error;
+mod expected;
+mod fault;
+mod json_lines;
+mod wholes;
+
+pub use builder::ColumnBuilder;
+pub use csv_files::{CsvParser, CsvRecords, CsvWriter, infer_csv_type, rows_from_csv, write_csv};
+pub use error::{DataError, WriteError};
+pub use expected::Expected;
+pub use fault::Fault;
+pub use json_lines::{
     JsonLines, JsonParser, infer_json_type, rows_from_json_lines, write_json_lines,
 };
-pub use vx_data_record::{ColumnBuilder, DataError, Expected, Fault, WriteError};

@@ -8,7 +8,7 @@ use Rattle.vx_value.specs.declared.value.Value.{Value}
 use Rattle.vx_value.specs.Types.{Name, Datum}
 use Rattle.vx_value.specs.Fields.{field_count}
 use Rattle.vx_value.specs.Views.{type_of, fields_view, value_of}
-use Rattle.vx_data_buffers.specs.Answers.{and_then, and_so}
+use Rattle.vx_data_buffers.specs.Results.{and_then, and_so}
 use Rattle.vx_data_buffers.specs.Layout.{buffer_count, field_buffer_count, value_at, fields_at}
 use Rattle.vx_data_buffers.specs.declared.fault.Fault.{Fault}
 

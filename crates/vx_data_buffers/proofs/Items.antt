@@ -3,7 +3,7 @@ use Rattle.std.proofs.Common.{◌≡◌, ℕ, ◌+◌, ◌-◌, ◌*◌, Bool, t
 use Rattle.std.specs.Prelude.{Ok}
 use Rattle.vx_value.specs.Fields.{data_of}
 use Rattle.vx_value.specs.Types.{LogicalType, ty, list, fixed, list_of}
-use Rattle.vx_data_buffers.specs.Answers.{and_so, each_from}
+use Rattle.vx_data_buffers.specs.Results.{and_so, each_from}
 use Rattle.vx_data_buffers.specs.Layout.{is_valid, span, value_at}
 
 pub list_read : (buffers : List (List ℕ)) (whole t : LogicalType) (n : Bool) (at i from to : ℕ) → whole ≡ ty (list t) n → is_valid buffers at i ≡ Ok true → span buffers (at + 1) i ≡ Ok (from, to)

@@ -5,7 +5,7 @@ use Rattle.std.proofs.lemmas.List.{map-append}
 use Rattle.vx_value.specs.declared.value.Value.{Value}
 use Rattle.vx_value.specs.Types.{Datum}
 use Rattle.vx_value.specs.Views.{value_of}
-use Rattle.vx_data_buffers.specs.Answers.{and_so, each_from}
+use Rattle.vx_data_buffers.specs.Results.{and_so, each_from}
 
 -- one more value
 pub one_more : {A E : Type 0} (f : ℕ → Result A E) (first n : ℕ) (xs : List A) (x : A) → each_from f first n ≡ Ok xs → f (first + n) ≡ Ok x → each_from f first (n + 1) ≡ Ok (xs ++ x ∷ [])

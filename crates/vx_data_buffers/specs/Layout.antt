@@ -4,7 +4,7 @@ use Rattle.std.specs.Str.{is_utf8}
 use Rattle.vx_dtype.specs.declared.dtype.PType.TheVariants.{I32}
 use Rattle.vx_value.specs.Types.{truth, number, text, octets, LogicalType, ty, Shape, atomic, list, fixed, struct, Fields, no_field, field, Datum, null, bool, int, utf8, bytes, list_of, struct_of}
 use Rattle.vx_value.specs.Fields.{data_of}
-use Rattle.vx_data_buffers.specs.Answers.{and_then, and_so, each_from}
+use Rattle.vx_data_buffers.specs.Results.{and_then, and_so, each_from}
 use Rattle.vx_data_buffers.specs.Bytes.{bytes_at, bit_of, part, number_at}
 use Rattle.vx_data_buffers.specs.declared.fault.Fault.{Fault}
 use Rattle.vx_data_buffers.specs.declared.fault.Fault.TheVariants.{EndsEarly, Unordered, NotUtf8}

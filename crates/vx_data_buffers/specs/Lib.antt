@@ -1,4 +1,4 @@
-pub mod Answers
+pub mod Results
 pub mod Bytes
 pub mod Layout
 pub mod Rows

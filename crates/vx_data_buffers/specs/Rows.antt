@@ -4,7 +4,7 @@ use Rattle.std.specs.Result.{result_map_both}
 use Rattle.vx_value.specs.Types.{LogicalType, Datum}
 use Rattle.vx_value.specs.Fits.{fits}
 use Rattle.vx_value.specs.Columns.{Batch, batch}
-use Rattle.vx_data_buffers.specs.Answers.{and_then, and_so, each_from}
+use Rattle.vx_data_buffers.specs.Results.{and_then, and_so, each_from}
 use Rattle.vx_data_buffers.specs.Layout.{buffer_count, value_at}
 use Rattle.vx_data_buffers.specs.declared.fault.Fault.{Fault}
 use Rattle.vx_data_buffers.specs.declared.error.BufferError.{BufferError}

@@ -1,6 +1,6 @@
 // Columns, row by row.
 ghost use Rattle.std.specs.Prelude.{◌≡◌, ◌<◌, ◌≤◌, IfOk, None, length, map};
-ghost use Rattle.vx_data_buffers.specs.Answers.{Answers, each_from};
+ghost use Rattle.vx_data_buffers.specs.Results.{BufferReturnsOrOom, each_from};
 ghost use Rattle.vx_data_buffers.specs.Bytes.{bytes_in};
 ghost use Rattle.vx_data_buffers.specs.Layout.{buffer_count};
 ghost use Rattle.vx_data_buffers.specs.Rows.{column_said, row_of};
@@ -35,7 +35,7 @@ pub fn column_of(
     rows: usize,
     buffers: &[Buffer<'_>],
 ) -> Result<Column, BufferError>
-    ensures { Answers (λ c. c) result (column_said (bytes_in buffers.now) (type_of dtype) rows) }
+    ensures { BufferReturnsOrOom (λ c. c) result (column_said (bytes_in buffers.now) (type_of dtype) rows) }
 {
     let expected = buffer_count(&dtype).ok_or(BufferError::OutOfMemory)?;
     let given = buffers.len();
@@ -54,7 +54,7 @@ fn rows_of(
     rows: usize,
 ) -> Result<Vec<Value>, BufferError>
     requires { buffer_count (type_of t.now) ≤ length buffers.now }
-    ensures rows { Answers (λ vs. map value_of vs.items) result (each_from (row_of (bytes_in buffers.now) (type_of t.now)) 0 rows) }
+    ensures rows { BufferReturnsOrOom (λ vs. map value_of vs.items) result (each_from (row_of (bytes_in buffers.now) (type_of t.now)) 0 rows) }
     ensures fit { IfOk result (λ vs. first_misfit (type_of t.now) (map value_of vs.items) ≡ None) }
 {
     let mut values = Vec::new(alloc);
@@ -73,7 +73,7 @@ fn row_of(
 ) -> Result<Value, BufferError>
     requires buffers { buffer_count (type_of t.now) ≤ length buffers.now }
     requires row { row < usize.MAX }
-    ensures value { Answers value_of result (row_of (bytes_in buffers.now) (type_of t.now) row) }
+    ensures value { BufferReturnsOrOom value_of result (row_of (bytes_in buffers.now) (type_of t.now) row) }
     ensures fits { IfOk result (λ v. Fits (value_of v) (type_of t.now)) }
 {
     match value_at(alloc, buffers, t, 0, row) {

@@ -1,6 +1,6 @@
 // Values without others inside them, and which rows are null.
 ghost use Rattle.std.specs.Prelude.{◌≡◌, ◌+◌, ◌<◌, length};
-ghost use Rattle.vx_data_buffers.specs.Answers.{Reads, and_so, and_then};
+ghost use Rattle.vx_data_buffers.specs.Results.{Reads, and_so, and_then};
 ghost use Rattle.vx_data_buffers.specs.Bytes.{bit_of, bytes_at, bytes_in, number_at};
 ghost use Rattle.vx_data_buffers.specs.Layout.{found, is_valid, row_bytes, text_of};
 ghost use Rattle.vx_value.specs.Types.{bool, bytes, int};

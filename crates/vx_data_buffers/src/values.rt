@@ -1,6 +1,6 @@
 // Values of any type, with those inside them.
 ghost use Rattle.std.specs.Prelude.{◌≡◌, ◌+◌, ◌-◌, ◌<◌, ◌≤◌, length};
-ghost use Rattle.vx_data_buffers.specs.Answers.{Reads, and_so, each_from};
+ghost use Rattle.vx_data_buffers.specs.Results.{Reads, and_so, each_from};
 ghost use Rattle.vx_data_buffers.specs.Bytes.{bytes_in};
 ghost use Rattle.vx_data_buffers.specs.Layout.{buffer_count, field_buffer_count, fields_at, value_at};
 ghost use Rattle.vx_value.specs.Fields.{data_of};

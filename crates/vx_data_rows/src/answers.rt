@@ -9,7 +9,7 @@ use std::alloc::{AllocError, Global};
 use std::fmt::Display;
 use std::io::Read;
 use vx_data::{CsvWriter, WriteError, write_json_lines};
-use vx_source_dtype::parse_type;
+use vx_source_types::parse_type;
 use vx_types::{Column, DType};
 
 /// What is called.

@@ -5,7 +5,7 @@ use crate::types::type_text;
 use crate::unread::Unread;
 use crate::values::value;
 use std::alloc::Global;
-use vx_source_dtype::parse_type;
+use vx_source_types::parse_type;
 use vx_types::Column;
 
 // More than a type by chance has inside one another.

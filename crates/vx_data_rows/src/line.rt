@@ -3,7 +3,7 @@ use crate::answers::{Call, answer};
 use crate::format::Format;
 use crate::unread::Unread;
 use std::alloc::{AllocError, Global};
-use vx_test_tables::{Judge, Judged};
+use vx_test_support::{Judge, Judged};
 
 /// Judges calls of a format.
 #[derive(Clone, Copy)]

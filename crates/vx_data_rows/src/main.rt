@@ -18,7 +18,7 @@ use anyhow::{Context, Result};
 use line::Calls;
 use std::process::ExitCode;
 use std::{env, fs};
-use vx_test_tables::{Aim, Table, Tally};
+use vx_test_support::{Aim, Table, Tally};
 
 fn main(rt: HostRuntime) -> Result<ExitCode> {
     let mut failed: usize = 0;

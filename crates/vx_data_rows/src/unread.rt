@@ -2,7 +2,7 @@
 use std::alloc::{AllocError, AllocFailed};
 use std::fmt;
 use std::fmt::{Display, Formatter, Write};
-use vx_source_tokens::ParseError;
+use vx_source_types::ParseError;
 
 /// Why a line can't be run.
 #[derive(Drop)]

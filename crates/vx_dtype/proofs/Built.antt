@@ -9,7 +9,7 @@ use Rattle.vx_dtype.specs.Fields.{field_count, field_type, put_field, first_unkn
 use Rattle.std.specs.Prelude.{not, is_some, true, false}
 use Rattle.vx_dtype.specs.Fields.{is_among, names_without, field_names}
 use Rattle.vx_dtype.proofs.Known.{known_by_type, first_unknown-filter, first_unknown-own}
-use Rattle.vx_dtype.specs.Answers.{known_or, projected, projected_without}
+use Rattle.vx_dtype.specs.Returns.{known_or, projected, projected_without}
 use Rattle.vx_dtype.specs.Views.{type_of, fields_view}
 use Rattle.vx_dtype.proofs.Pairs.{fields_step, fields_end}
 

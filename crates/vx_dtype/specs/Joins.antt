@@ -1,7 +1,7 @@
 -- How two types relate: equal but for nullability, joined, one narrower than the other.
 use Rattle.std.specs.Prelude.{ℕ, Bool, true, false, ◌&&◌, ◌||◌, ◌==◌, List, [], ◌∷◌, Option, Some, None, option_and_then, if◌then◌else◌, IsTrue}
 use Rattle.std.specs.Str.{bytes_eq}
-use Rattle.vx_dtype.specs.Lists.{Beside}
+use Rattle.vx_dtype.specs.Lists.{Forall2}
 use Rattle.vx_dtype.specs.Types.{Name, Atomic, same_atomic, LogicalType, ty, Shape, atomic, list, fixed, struct, Fields, no_field, field}
 
 -- whether two types differ in nullability alone, at every level
@@ -73,4 +73,4 @@ mutual
 
 -- each type is narrower than the one beside it
 abbrev pub NarrowerEach : List LogicalType → List LogicalType → Type 0
-NarrowerEach = Beside Narrower
+NarrowerEach = Forall2 Narrower

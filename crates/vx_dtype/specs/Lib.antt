@@ -4,7 +4,7 @@ pub mod Joins
 pub mod Fields
 pub mod Names
 pub mod Views
-pub mod Answers
+pub mod Returns
 pub mod Equality
 pub mod Hashes
 pub mod Deciding

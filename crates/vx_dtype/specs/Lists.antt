@@ -7,6 +7,6 @@ IsIn x [] = ⊥
 IsIn x (y ∷ ys) = (x ≡ y) ⊎ IsIn x ys
 
 -- R holds of each element and the one beside it, and the lists are as long
-pub data Beside {A B : Type 0} (R : A → B → Type 0) : List A → List B → Type 0 where
-  none_beside : Beside R [] []
-  more_beside : {x : A} {y : B} {xs : List A} {ys : List B} → R x y → Beside R xs ys → Beside R (x ∷ xs) (y ∷ ys)
+pub data Forall2 {A B : Type 0} (R : A → B → Type 0) : List A → List B → Type 0 where
+  forall2_nil : Forall2 R [] []
+  forall2_cons : {x : A} {y : B} {xs : List A} {ys : List B} → R x y → Forall2 R xs ys → Forall2 R (x ∷ xs) (y ∷ ys)

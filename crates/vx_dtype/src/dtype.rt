@@ -1,6 +1,6 @@
 // Types of columns.
 ghost use Rattle.std.specs.Prelude.{◌≡◌, IfOk, Ok, false, length, option_map, true};
-ghost use Rattle.vx_dtype.specs.Answers.{Answers};
+ghost use Rattle.vx_dtype.specs.Returns.{ReturnsOrOom};
 ghost use Rattle.vx_dtype.specs.Types.{atomic, is_nullable, number, struct_fields, ty, with_nullability};
 ghost use Rattle.vx_dtype.specs.Views.{admits_null, type_of, fields_of, fields_view, names_of};
 
@@ -159,7 +159,7 @@ impl StructFields {
     /// `OutOfMemory` (1) alone.
     pub fn new(alloc: Global, names: FieldNames, types: Vec<DType>) -> VortexResult<StructFields>
         requires { length names ≡ length types.items }
-        ensures fields { Answers fields_of result (Ok (fields_view names types.items)) }
+        ensures fields { ReturnsOrOom fields_of result (Ok (fields_view names types.items)) }
         ensures names { IfOk result (λ s. names_of s ≡ names) }
     {
         Ok(struct_of(alloc, names, types)?)

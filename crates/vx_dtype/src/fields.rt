@@ -1,6 +1,6 @@
 // Fields of structs: names and types side by side, where a name without a type is no field.
 ghost use Rattle.std.specs.Prelude.{◌≡◌, ℕ, ◌≤◌, length, option_map, IfOk, take};
-ghost use Rattle.vx_dtype.specs.Answers.{Answers, projected, projected_without};
+ghost use Rattle.vx_dtype.specs.Returns.{ReturnsOrOom, projected, projected_without};
 ghost use Rattle.vx_dtype.specs.Fields.{field_count, field_names, field_type, first_unknown, is_among, names_without};
 ghost use Rattle.vx_dtype.specs.Views.{type_of, fields_of, fields_view, names_of};
 
@@ -44,7 +44,7 @@ impl StructFields {
     /// The fields but those of the given names, each the first of its name. Refuses with `OutOfMemory` (1),
     /// and with `NoSuchField` (5) and the first given name that no field has.
     pub fn without(&self, alloc: Global, names: &FieldNames) -> VortexResult<StructFields>
-        ensures fields { Answers fields_of result (projected_without names.now (fields_of self.now)) }
+        ensures fields { ReturnsOrOom fields_of result (projected_without names.now (fields_of self.now)) }
         ensures names { IfOk result (λ s. names_of s ≡ names_without names.now (field_names (fields_of self.now))) }
     {
         match first_unknown(&self.names, &self.types, names) {
@@ -60,7 +60,7 @@ impl StructFields {
     /// For each name the first field of that name. Refuses with `OutOfMemory` (1), and with `NoSuchField` (5)
     /// and the first name that no field has.
     pub fn project(&self, alloc: Global, names: &FieldNames) -> VortexResult<StructFields>
-        ensures fields { Answers fields_of result (projected names.now (fields_of self.now)) }
+        ensures fields { ReturnsOrOom fields_of result (projected names.now (fields_of self.now)) }
         ensures names { IfOk result (λ s. names_of s ≡ names.now) }
     {
         let types = types_of(alloc, &self.names, &self.types, names.as_slice())?;
@@ -98,7 +98,7 @@ fn types_of(
     types: &[DType],
     wanted: &[FieldName],
 ) -> VortexResult<Vec<DType>>
-    ensures { Answers (λ found. fields_view wanted.now found.items) result (projected wanted.now (fields_view names.now types.now)) }
+    ensures { ReturnsOrOom (λ found. fields_view wanted.now found.items) result (projected wanted.now (fields_view names.now types.now)) }
 {
     let mut found = Vec::new(alloc);
     for i in 0..wanted.len() {

@@ -1,6 +1,6 @@
 // Equality with nullability ignored, and unions.
 ghost use Rattle.std.specs.Prelude.{◌≡◌, ◌||◌, IfOk, Ok, None, false, option_map};
-ghost use Rattle.vx_dtype.specs.Answers.{Answers};
+ghost use Rattle.vx_dtype.specs.Returns.{ReturnsOrOom};
 ghost use Rattle.vx_dtype.specs.Joins.{same_base, same_base_fields, join, join_fields, union};
 ghost use Rattle.vx_dtype.specs.Views.{type_of, fields_view, fields_of, admits_null};
 
@@ -21,7 +21,7 @@ impl DType {
     /// The union: nullable at each place where one of the two types is. None where they differ in more
     /// than nullability, and that takes no memory. Refuses with `OutOfMemory` (1) alone.
     pub fn union(&self, alloc: Global, other: &DType) -> VortexResult<Option<DType>>
-        ensures union { Answers (option_map type_of) result (Ok (union (type_of self.now) (type_of other.now))) }
+        ensures union { ReturnsOrOom (option_map type_of) result (Ok (union (type_of self.now) (type_of other.now))) }
         ensures none { same_base (type_of self.now) (type_of other.now) ≡ false → result ≡ Ok None }
     {
         if same_base(self, other) {

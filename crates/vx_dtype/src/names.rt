@@ -6,7 +6,7 @@ ghost use Rattle.std.specs.Str.{bytes_eq};
 ghost use Rattle.std.specs.Cmp.Lexicographic.{pointwise};
 ghost use Rattle.std.specs.Hash as fed;
 ghost use Rattle.std.specs.Cmp.Rules.{comparing, hashing};
-ghost use Rattle.vx_dtype.specs.Answers.{Answers};
+ghost use Rattle.vx_dtype.specs.Returns.{ReturnsOrOom};
 ghost use Rattle.vx_dtype.specs.Fields.{is_among, names_without};
 ghost use Rattle.vx_dtype.specs.Deciding.{names_alike};
 ghost use Rattle.std.proofs.Common.{rules};
@@ -38,7 +38,7 @@ impl Model for FieldName {
 impl FieldName {
     /// The name that is spelled so. Refuses with `OutOfMemory` (1) alone.
     pub fn new(alloc: Global, text: &str) -> VortexResult<FieldName>
-        ensures { Answers (λ name. name) result (Ok text.now) }
+        ensures { ReturnsOrOom (λ name. name) result (Ok text.now) }
     {
         Ok(FieldName {
             text: RcStr::from_str(alloc, text)?,
@@ -120,7 +120,7 @@ impl Model for FieldNames {
 impl FieldNames {
     /// These names in their order. Refuses with `OutOfMemory` (1) alone.
     pub fn new(alloc: Global, names: Vec<FieldName>) -> VortexResult<FieldNames>
-        ensures { Answers (λ all. all) result (Ok names.items) }
+        ensures { ReturnsOrOom (λ all. all) result (Ok names.items) }
     {
         Ok(FieldNames {
             list: Rc::new(alloc, NameList::new(alloc, names)?)?,
@@ -129,7 +129,7 @@ impl FieldNames {
 
     /// No name. Refuses with `OutOfMemory` (1) alone.
     pub fn empty(alloc: Global) -> VortexResult<FieldNames>
-        ensures { Answers (λ all. all) result (Ok []) }
+        ensures { ReturnsOrOom (λ all. all) result (Ok []) }
     {
         FieldNames::new(alloc, Vec::new(alloc))
     }
@@ -150,7 +150,7 @@ impl FieldNames {
 
     /// The names but the given ones, in their order. Refuses with `OutOfMemory` (1) alone.
     pub fn without(&self, alloc: Global, left_out: &FieldNames) -> VortexResult<FieldNames>
-        ensures { Answers (λ all. all) result (Ok (names_without left_out.now self.now)) }
+        ensures { ReturnsOrOom (λ all. all) result (Ok (names_without left_out.now self.now)) }
     {
         FieldNames::new(alloc, names_without(alloc, self.as_slice(), left_out)?)
     }

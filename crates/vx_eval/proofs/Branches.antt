@@ -8,9 +8,9 @@ use Rattle.vx_dtype.proofs.Lists.{drop_next}
 use Rattle.vx_value.specs.Columns.{Batch}
 use Rattle.vx_value.specs.Fits.{Fits, IsBatch}
 use Rattle.vx_value.specs.Types.{LogicalType, Datum, null}
-use Rattle.vx_eval_mask.specs.Masks.{both, but}
-use Rattle.vx_eval_merge.specs.Merges.{merged_at, EachMask, AreApart, claimed, unclaimed}
-use Rattle.vx_eval_merge.proofs.Apart.{merged-snoc, claimed-snoc}
+use Rattle.vx_eval_masks.specs.Masks.{both, but}
+use Rattle.vx_eval_masks.specs.Merges.{merged_at, EachMask, AreApart, claimed, unclaimed}
+use Rattle.vx_eval_masks.proofs.Apart.{merged-snoc, claimed-snoc}
 use Rattle.vx_eval.specs.declared.rows.Rows.{Rows}
 use Rattle.vx_eval.specs.Choices.{EachBatch}
 use Rattle.vx_eval.specs.Columns.{rows_view, rows_views, each_row, AllLong}

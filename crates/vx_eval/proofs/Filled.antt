@@ -18,7 +18,7 @@ use Rattle.vx_value.specs.Views.{value_of}
 use Rattle.vx_fn.specs.Functions.{Function, Operation, compares, binary}
 use Rattle.vx_fn.specs.Values.{fn_value, binary_value}
 use Rattle.vx_fn.specs.Faults.{node_fault}
-use Rattle.vx_eval_merge.proofs.Writing.{Written, written_more, taken_is}
+use Rattle.vx_eval_masks.proofs.Writing.{Written, written_more, taken_is}
 use Rattle.vx_eval.specs.declared.rows.Rows.{Rows}
 use Rattle.vx_eval.specs.declared.rows.Rows.TheVariants.{Owned}
 use Rattle.vx_eval.specs.Columns.{values_of, each_row, row_at, rows_of, rows_view, unless_fault, node_answer, Evaluates}

@@ -7,10 +7,10 @@ use Rattle.vx_value.specs.Types.{Datum, null}
 use Rattle.vx_value.specs.declared.value.Value.{Value}
 use Rattle.vx_value.specs.Views.{value_of}
 use Rattle.vx_fn.specs.Values.{is_true, first_true}
-use Rattle.vx_eval_mask.specs.Masks.{both, but, IsAll}
-use Rattle.vx_eval_mask.proofs.Pairs.{length-but}
-use Rattle.vx_eval_merge.specs.Merges.{merged_at, EachMask, AreApart, HoldsIn, IsIn, claimed, unclaimed, IsWritten}
-use Rattle.vx_eval_merge.proofs.Apart.{merged-at, merged-claimed, merged-snoc, claimed_apart, claimed_long, length-claimed, claimed-snoc, length-unclaimed, both-all}
+use Rattle.vx_eval_masks.specs.Masks.{both, but, IsAll}
+use Rattle.vx_eval_masks.proofs.Pairs.{length-but}
+use Rattle.vx_eval_masks.specs.Merges.{merged_at, EachMask, AreApart, HoldsIn, IsIn, claimed, unclaimed, IsWritten}
+use Rattle.vx_eval_masks.proofs.Apart.{merged-at, merged-claimed, merged-snoc, claimed_apart, claimed_long, length-claimed, claimed-snoc, length-unclaimed, both-all}
 use Rattle.vx_eval.specs.declared.rows.Rows.{Rows}
 use Rattle.vx_eval.specs.declared.rows.Rows.TheVariants.{Same}
 use Rattle.vx_eval.specs.Choices.{else_at, conditions_in, values_in, alone, truths, SameRows}

@@ -15,7 +15,7 @@ use Rattle.vx_dtype.specs.declared.dtype.DType as program
 use Rattle.vx_dtype.specs.declared.dtype.StructFields.{StructFields}
 use Rattle.vx_dtype.specs.declared.dtype.Nullability.{Nullability}
 use Rattle.vx_dtype.specs.declared.error.VortexError.{VortexError}
-use Rattle.vx_dtype.specs.Answers.{known_or}
+use Rattle.vx_dtype.specs.Returns.{known_or}
 use Rattle.vx_dtype.proofs.Known.{known_first}
 use Rattle.vx_fn.specs.declared.options.FieldSelection.{FieldSelection}
 use Rattle.vx_fn.specs.Functions.{item_type, select_type, found, selection_names, included}

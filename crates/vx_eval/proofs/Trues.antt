@@ -4,8 +4,8 @@ use Rattle.std.specs.List.{range_with_len}
 use Rattle.std.proofs.lemmas.List.{map-append, length-map, ext_get_or}
 use Rattle.std.proofs.lemmas.List.FromFn.{map-range_with_len_more, length-map-range_with_len, get_or-map-range_with_len}
 use Rattle.vx_value.specs.Types.{Datum, null, bool}
-use Rattle.vx_eval_mask.specs.Masks.{both, but}
-use Rattle.vx_eval_mask.proofs.Pairs.{get_or-both, length-both}
+use Rattle.vx_eval_masks.specs.Masks.{both, but}
+use Rattle.vx_eval_masks.proofs.Pairs.{get_or-both, length-both}
 use Rattle.vx_eval.proofs.Filled.{map_map}
 use Rattle.vx_fn.specs.Values.{is_true}
 use Rattle.vx_eval.specs.Columns.{each_row}

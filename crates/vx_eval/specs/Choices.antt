@@ -5,7 +5,7 @@ use Rattle.vx_value.specs.Columns.{Batch}
 use Rattle.vx_value.specs.Fits.{IsBatch}
 use Rattle.vx_value.specs.Types.{LogicalType, Datum, null}
 use Rattle.vx_fn.specs.Values.{is_true}
-pub use Rattle.vx_eval_merge.specs.Merges.{first_match}
+pub use Rattle.vx_eval_masks.specs.Merges.{first_match}
 use Rattle.vx_eval.specs.Columns.{row_at}
 
 -- the rows of each column

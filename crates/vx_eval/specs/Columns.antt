@@ -2,13 +2,13 @@
 use Rattle.std.specs.Prelude.{ℕ, List, map, Option, Some, None, Result, Ok, Err, Bool}
 use Rattle.std.proofs.Math.ListN.{replicate}
 use Rattle.vx_dtype.specs.declared.error.VortexError.{VortexError}
-use Rattle.vx_dtype.specs.Answers.{Answers}
+use Rattle.vx_dtype.specs.Returns.{ReturnsOrOom}
 use Rattle.vx_value.specs.Types.{LogicalType, Datum, bool}
 use Rattle.vx_value.specs.Views.{value_of}
 use Rattle.vx_fn.specs.Functions.{Function}
 use Rattle.vx_fn.specs.Values.{fn_value}
 use Rattle.vx_fn.specs.Faults.{node_fault}
-pub use Rattle.vx_eval_merge.specs.Merges.{values_of, each_row, row_at}
+pub use Rattle.vx_eval_masks.specs.Merges.{values_of, each_row, row_at}
 pub use Rattle.vx_eval.specs.Items.{datum_at, item_at, truth_datum, AllLong, HaveRow}
 use Rattle.vx_eval.specs.declared.rows.Rows.{Rows}
 use Rattle.vx_eval.specs.declared.rows.Rows.TheVariants.{Lent, Shared, Item, Owned, Same, Truths, Compared}
@@ -47,4 +47,4 @@ node_answer f ts rows = unless_fault (node_fault f ts rows) (map (fn_value f ts)
 
 -- a call answers what the function gives over the first n rows of the columns
 abbrev pub Evaluates : Function → List LogicalType → ℕ → List (List Datum) → Result Rows VortexError → Type 0
-Evaluates f ts n cs r = Answers rows_view r (node_answer f ts (rows_of n cs))
+Evaluates f ts n cs r = ReturnsOrOom rows_view r (node_answer f ts (rows_of n cs))

@@ -3,8 +3,8 @@ use Rattle.std.specs.Prelude.{◌≡◌, ◌<◌, ℕ, List, map, length, get_or
 use Rattle.std.specs.List.{list_any}
 use Rattle.vx_value.specs.Columns.{Batch}
 use Rattle.vx_value.specs.Types.{Datum, null}
-use Rattle.vx_eval_merge.specs.Merges.{merged_at}
-pub use Rattle.vx_eval_merge.specs.Choices.{masks_in}
+use Rattle.vx_eval_masks.specs.Merges.{merged_at}
+pub use Rattle.vx_eval_masks.specs.Choices.{masks_in}
 
 -- the rows of the columns beside the masks
 abbrev pub columns_in : List (List Bool × Batch) → List (List Datum)

@@ -5,7 +5,7 @@ pub use Rattle.vx_value.specs.StructColumns.{HaveRow}
 use Rattle.vx_value.specs.Types.{Datum, null, bool, struct_of, Data, no_datum, datum}
 use Rattle.vx_fn.specs.Functions.{Operation, compares}
 use Rattle.vx_fn.specs.Values.{binary_value, kleene_and}
-use Rattle.vx_eval_merge.specs.Merges.{each_row, row_at}
+use Rattle.vx_eval_masks.specs.Merges.{each_row, row_at}
 
 -- the value at that place
 abbrev pub datum_at : ℕ → Data → Datum

@@ -1,6 +1,6 @@
 // Trees over a whole batch, a block of its rows after another where no node looks across rows.
 ghost use Rattle.std.specs.Prelude.{◌≡◌, ◌<◌, false, length, IfOk};
-ghost use Rattle.vx_dtype.specs.Answers.{Answers};
+ghost use Rattle.vx_dtype.specs.Returns.{ReturnsOrOom};
 ghost use Rattle.vx_value.specs.Fits.{IsBatch};
 ghost use Rattle.vx_tree.specs.Nodes.{bound_children_of};
 ghost use Rattle.vx_tree.specs.Trees.{node_type, WellTyped, Over};
@@ -35,7 +35,7 @@ pub fn evaluate_over(
 ) -> VortexResult<Rc<Vec<Value>>>
     requires typed { WellTyped (bound_of b.now) }
     requires over { Over (bound_of b.now) batch.now.type }
-    ensures answer { Answers (λ values. values_of values.value.items) result (tree_answer (bound_of b.now) batch.now.rows) }
+    ensures answer { ReturnsOrOom (λ values. values_of values.value.items) result (tree_answer (bound_of b.now) batch.now.rows) }
     ensures fit { IfOk result (λ values. IsBatch (node_type (bound_of b.now)) (values_of values.value.items)) }
 {
     let rows = batch.rows();
@@ -52,7 +52,7 @@ pub fn evaluate_over(
 // later one in a node whose fault comes first: so where a block faults all rows are asked together.
 fn values_over(alloc: Global, b: &BoundExpression, rows: &[Value]) -> VortexResult<Vec<Value>>
     requires { WellTyped (bound_of b.now) }
-    ensures { Answers (λ values. values_of values.items) result (tree_answer (bound_of b.now) (values_of rows.now)) }
+    ensures { ReturnsOrOom (λ values. values_of values.items) result (tree_answer (bound_of b.now) (values_of rows.now)) }
 {
     if rows.len() <= BLOCK || reads_leaves_alone(b) || looks_across(b) {
         return together(alloc, b, rows);
@@ -109,7 +109,7 @@ fn is_scope(trees: &[BoundExpression]) -> bool
 // The tree's value in each row, or the first fault, with all rows at once.
 fn together(alloc: Global, b: &BoundExpression, rows: &[Value]) -> VortexResult<Vec<Value>>
     requires { WellTyped (bound_of b.now) }
-    ensures { Answers (λ values. values_of values.items) result (tree_answer (bound_of b.now) (values_of rows.now)) }
+    ensures { ReturnsOrOom (λ values. values_of values.items) result (tree_answer (bound_of b.now) (values_of rows.now)) }
 {
     evaluate(alloc, b, rows)?.into_values(alloc)
 }

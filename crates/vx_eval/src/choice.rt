@@ -5,16 +5,15 @@ ghost use Rattle.vx_value.specs.Types.{LogicalType};
 ghost use Rattle.vx_dtype.specs.declared.error.VortexError.TheVariants.{OutOfMemory};
 ghost use Rattle.vx_fn.specs.Functions as functions;
 ghost use Rattle.vx_fn.specs.Values as values;
-ghost use Rattle.vx_eval_mask.specs.Masks.{both, but};
-ghost use Rattle.vx_eval_merge.specs.Merges.{claimed, unclaimed};
+ghost use Rattle.vx_eval_masks.specs.Masks.{both, but};
+ghost use Rattle.vx_eval_masks.specs.Merges.{claimed, unclaimed};
 ghost use Rattle.vx_eval.specs.Columns.{rows_view, rows_views, row_at, each_row, AllLong, Evaluates};
 ghost use Rattle.vx_eval.specs.Choices.{conditions_in, values_in, alone, truths};
 
 use crate::merging::{merged, written};
 use crate::rows::Rows;
 use std::alloc::{AllocError, Global};
-use vx_eval_mask::RowMask;
-use vx_eval_merge::preferred;
+use vx_eval_masks::{RowMask, preferred};
 use vx_types::VortexResult;
 
 /// A CASE over its conditions and values in turn, with ELSE last. Refuses with `OutOfMemory` (1)

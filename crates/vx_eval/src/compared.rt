@@ -3,7 +3,7 @@ ghost use Rattle.std.specs.Prelude.{◌≡◌, ◌<◌, IsTrue, length, get_or};
 ghost use Rattle.vx_value.specs.Types.{null};
 ghost use Rattle.vx_value.specs.Views.{value_of};
 ghost use Rattle.vx_fn.specs.Views.{operation_of};
-ghost use Rattle.vx_eval_merge.specs.Merges.{values_of};
+ghost use Rattle.vx_eval_masks.specs.Merges.{values_of};
 ghost use Rattle.vx_eval.specs.Items.{compared_items, is_comparison, truth_datum};
 
 use crate::fields::item_row;
@@ -29,7 +29,7 @@ impl<'a> Model for ComparedItem<'a> {
     ghost use Rattle.vx_value.specs.Types.{Datum};
     ghost use Rattle.vx_value.specs.Views.{value_of};
     ghost use Rattle.vx_fn.specs.Views.{operation_of};
-    ghost use Rattle.vx_eval_merge.specs.Merges.{values_of};
+    ghost use Rattle.vx_eval_masks.specs.Merges.{values_of};
     ghost use Rattle.vx_eval.specs.Items.{compared_items, is_comparison};
     ghost use Rattle.vx_eval.specs.Numbers.{Tests};
 

@@ -3,7 +3,7 @@ ghost use Rattle.std.specs.Prelude.{◌≡◌, ◌<◌, IfOk, length, get_or, �
 ghost use Rattle.vx_value.specs.Types.{null};
 ghost use Rattle.vx_value.specs.Views.{value_of};
 ghost use Rattle.vx_fn.specs.Values as values;
-ghost use Rattle.vx_eval_merge.specs.Merges.{each_row, row_at};
+ghost use Rattle.vx_eval_masks.specs.Merges.{each_row, row_at};
 ghost use Rattle.vx_eval.specs.Items.{all_of, conjoined, truth_datum, HaveRow};
 
 use crate::compared::ComparedItem;

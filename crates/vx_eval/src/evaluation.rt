@@ -1,6 +1,6 @@
 // The evaluation of bound trees over columns.
 ghost use Rattle.std.specs.Prelude.{IsErrOf};
-ghost use Rattle.vx_dtype.specs.Answers.{Answers};
+ghost use Rattle.vx_dtype.specs.Returns.{ReturnsOrOom};
 ghost use Rattle.vx_dtype.specs.declared.error.VortexError.TheVariants.{ScopeMismatch};
 ghost use Rattle.vx_tree.specs.Trees.{WellTyped, Over};
 ghost use Rattle.vx_tree.specs.Views.{bound_of};
@@ -25,7 +25,7 @@ pub fn apply_bound(alloc: Global, batch: &Column, b: &BoundExpression) -> Vortex
     requires { WellTyped (bound_of b.now) }
     ensures mismatch { (Over (bound_of b.now) batch.now.type → ⊥) → IsErrOf result ScopeMismatch }
     ensures meaning { Over (bound_of b.now) batch.now.type →
-        Answers (λ c. c) result (evaluation (bound_of b.now) batch.now) }
+        ReturnsOrOom (λ c. c) result (evaluation (bound_of b.now) batch.now) }
 {
     if !b.is_root_bound_to(batch.dtype()) {
         return Err(VortexError::ScopeMismatch);

@@ -1,6 +1,6 @@
 // Structs: their fields, and structs of columns.
 ghost use Rattle.std.specs.Prelude.{◌≡◌, ◌<◌, Bool, true, is_some, length, get_or, map, List, [], ◌∷◌, IsOk, IfOk, IfErr, Ok, None};
-ghost use Rattle.vx_dtype.specs.Answers.{Answers};
+ghost use Rattle.vx_dtype.specs.Returns.{ReturnsOrOom};
 ghost use Rattle.vx_value.specs.Fields.{data_of, field_type, field_value, first_unknown, project_values};
 ghost use Rattle.vx_value.specs.Types.{Name, LogicalType, Datum, Data, null, struct_of};
 ghost use Rattle.vx_value.specs.Views.{type_of, fields_of, value_of};
@@ -164,7 +164,7 @@ fn included(
     selection: &FieldSelection,
     fields: &StructFields,
 ) -> VortexResult<FieldNames>
-    ensures { Answers (λ names. names) result (Ok (included selection.now (fields_of fields.now))) }
+    ensures { ReturnsOrOom (λ names. names) result (Ok (included selection.now (fields_of fields.now))) }
 {
     let names = &fields.names().as_slice()[..fields.nfields()];
     selection.kept(alloc, names)

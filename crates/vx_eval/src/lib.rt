@@ -29,5 +29,4 @@ mod truths;
 pub use evaluation::apply_bound;
 pub use matching::first_match;
 pub use merges::{merge_compact, merge_runs};
-pub use vx_eval_mask::RowMask;
-pub use vx_eval_merge::prefer_runs;
+pub use vx_eval_masks::{RowMask, prefer_runs};

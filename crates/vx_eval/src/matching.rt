@@ -1,6 +1,6 @@
 // The value beside the first condition that is true, over columns.
 ghost use Rattle.std.specs.Prelude.{◌≡◌, ◌<◌, length, option_map, IsTrue, MatchOption, Ok};
-ghost use Rattle.vx_dtype.specs.Answers.{Answers};
+ghost use Rattle.vx_dtype.specs.Returns.{ReturnsOrOom};
 ghost use Rattle.vx_value.specs.Columns.{batch};
 ghost use Rattle.vx_value.specs.Fits.{IsBatch};
 ghost use Rattle.vx_value.specs.Types.{is_nullable};
@@ -31,7 +31,7 @@ pub fn first_match(
     requires fit { EachBatch (type_of dtype.now) (rows_in values.now) }
     requires last { MatchOption otherwise (IsTrue (is_nullable (type_of dtype.now))) (λ c. (length c.now.rows ≡ height conditions.now) × IsBatch (type_of dtype.now) c.now.rows) }
     ensures { let last = option_map (λ c. c.now.rows) otherwise.entry in
-        Answers (λ c. c) result (Ok (batch (type_of dtype.now) (each_row (height conditions.now) (matched_at (rows_in conditions.now) (rows_in values.now) last)))) }
+        ReturnsOrOom (λ c. c) result (Ok (batch (type_of dtype.now) (each_row (height conditions.now) (matched_at (rows_in conditions.now) (rows_in values.now) last)))) }
 {
     let count = conditions[0].len();
     let columns = in_turn(alloc, conditions, values, otherwise)?;
@@ -48,7 +48,7 @@ fn in_turn<'a>(
     otherwise: Option<&'a Column>,
 ) -> VortexResult<Vec<Rows<'a>>>
     requires { length values.now ≡ length conditions.now }
-    ensures { Answers (λ v. rows_views v.items) result (Ok (in_turn (rows_in conditions.now) (rows_in values.now) (option_map (λ c. c.now.rows) otherwise.entry))) }
+    ensures { ReturnsOrOom (λ v. rows_views v.items) result (Ok (in_turn (rows_in conditions.now) (rows_in values.now) (option_map (λ c. c.now.rows) otherwise.entry))) }
 {
     let mut columns = Vec::new(alloc);
     for i in 0..conditions.len() {

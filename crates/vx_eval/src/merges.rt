@@ -1,12 +1,12 @@
 // Columns merged by the masks that a caller gives.
 ghost use Rattle.std.specs.Prelude.{◌≡◌, Ok, IfOk, length, map, true, ◌++◌, ◌∷◌, []};
 ghost use Rattle.std.proofs.Math.ListN.{replicate};
-ghost use Rattle.vx_dtype.specs.Answers.{Answers};
+ghost use Rattle.vx_dtype.specs.Returns.{ReturnsOrOom};
 ghost use Rattle.vx_value.specs.Columns.{batch};
 ghost use Rattle.vx_value.specs.Fits.{IsBatch};
 ghost use Rattle.vx_value.specs.Views.{type_of};
-ghost use Rattle.vx_eval_mask.specs.Masks.{both, but};
-ghost use Rattle.vx_eval_merge.specs.Merges.{EachMask, claimed};
+ghost use Rattle.vx_eval_masks.specs.Masks.{both, but};
+ghost use Rattle.vx_eval_masks.specs.Merges.{EachMask, claimed};
 ghost use Rattle.vx_eval.specs.Choices.{EachBatch};
 ghost use Rattle.vx_eval.specs.Columns.{rows_views, each_row, AllLong};
 ghost use Rattle.vx_eval.specs.FirstMerged.{masks_in, columns_in, InSomeMask, first_merged};
@@ -14,8 +14,7 @@ ghost use Rattle.vx_eval.specs.FirstMerged.{masks_in, columns_in, InSomeMask, fi
 use crate::merging::merged;
 use crate::rows::Rows;
 use std::alloc::{AllocError, Global};
-use vx_eval_mask::RowMask;
-use vx_eval_merge::Merging;
+use vx_eval_masks::{Merging, RowMask};
 use vx_types::{Column, DType, VortexResult};
 
 /// At each row the value of the first column whose mask is true there, as a column of the type and
@@ -36,7 +35,7 @@ pub fn merge_runs(
     requires some { InSomeMask branches.now rest.now }
     requires fit { EachBatch (type_of dtype.now) (columns_in branches.now) }
     requires last_fit { IsBatch (type_of dtype.now) otherwise.now.rows }
-    ensures { Answers (λ c. c) result (Ok (batch (type_of dtype.now) (each_row (length rest.now) (first_merged branches.now otherwise.now.rows)))) }
+    ensures { ReturnsOrOom (λ c. c) result (Ok (batch (type_of dtype.now) (each_row (length rest.now) (first_merged branches.now otherwise.now.rows)))) }
 {
     merge(alloc, Merging::Runs, branches, rest, otherwise, dtype)
 }
@@ -55,7 +54,7 @@ pub fn merge_compact(
     requires some { InSomeMask branches.now rest.now }
     requires fit { EachBatch (type_of dtype.now) (columns_in branches.now) }
     requires last_fit { IsBatch (type_of dtype.now) otherwise.now.rows }
-    ensures { Answers (λ c. c) result (Ok (batch (type_of dtype.now) (each_row (length rest.now) (first_merged branches.now otherwise.now.rows)))) }
+    ensures { ReturnsOrOom (λ c. c) result (Ok (batch (type_of dtype.now) (each_row (length rest.now) (first_merged branches.now otherwise.now.rows)))) }
 {
     merge(alloc, Merging::Compact, branches, rest, otherwise, dtype)
 }
@@ -75,7 +74,7 @@ fn merge(
     requires some { InSomeMask branches.now rest.now }
     requires fit { EachBatch (type_of dtype.now) (columns_in branches.now) }
     requires last_fit { IsBatch (type_of dtype.now) otherwise.now.rows }
-    ensures { Answers (λ c. c) result (Ok (batch (type_of dtype.now) (each_row (length rest.now) (first_merged branches.now otherwise.now.rows)))) }
+    ensures { ReturnsOrOom (λ c. c) result (Ok (batch (type_of dtype.now) (each_row (length rest.now) (first_merged branches.now otherwise.now.rows)))) }
 {
     let masks = own_rows(alloc, branches, rest)?;
     let values = lent(alloc, branches, otherwise)?;

@@ -2,14 +2,13 @@
 ghost use Rattle.std.specs.Prelude.{◌≡◌, ◌<◌, ◌≤◌, ℕ, IfOk, IfErr, length, map, get_or, List, [], ◌∷◌, ◌++◌};
 ghost use Rattle.vx_dtype.specs.declared.error.VortexError.TheVariants.{OutOfMemory};
 ghost use Rattle.vx_value.specs.Types.{Datum, null};
-ghost use Rattle.vx_eval_merge.specs.Merges.{merged_at, EachMask, AreApart};
+ghost use Rattle.vx_eval_masks.specs.Merges.{merged_at, EachMask, AreApart};
 ghost use Rattle.vx_eval.specs.Columns.{values_of, rows_view, rows_views, row_at, each_row, AllLong};
 ghost use Rattle.vx_eval.specs.Choices.{SameRows};
 
 use crate::rows::Rows;
 use std::alloc::{AllocError, Global};
-use vx_eval_mask::RowMask;
-use vx_eval_merge::{Merging, place_at, place_of_all};
+use vx_eval_masks::{Merging, RowMask, place_at, place_of_all};
 use vx_types::{Value, VortexResult};
 
 /// At each row the value of the column whose mask is true there, else null. A column that has every

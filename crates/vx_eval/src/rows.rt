@@ -1,11 +1,11 @@
 // The values of a column while it is worked on.
 ghost use Rattle.std.specs.Prelude.{◌++◌, ◌≡◌, ◌≢◌, ◌<◌, ℕ, IfOk, true, false, length, get_or, map, Ok};
-ghost use Rattle.vx_dtype.specs.Answers.{Answers};
+ghost use Rattle.vx_dtype.specs.Returns.{ReturnsOrOom};
 ghost use Rattle.vx_value.specs.Types.{Datum, null};
 ghost use Rattle.vx_value.specs.Views.{value_of};
 ghost use Rattle.vx_fn.specs.Values as values;
-ghost use Rattle.vx_eval_mask.specs.Masks.{both, IsRunFrom};
-ghost use Rattle.vx_eval_merge.specs.Merges.{HoldsIn, StaysFrom, IsWritten};
+ghost use Rattle.vx_eval_masks.specs.Masks.{both, IsRunFrom};
+ghost use Rattle.vx_eval_masks.specs.Merges.{HoldsIn, StaysFrom, IsWritten};
 ghost use Rattle.vx_eval.specs.Columns.{each_row, values_of, rows_view, rows_views, row_at, truth_of, HaveRow};
 
 use crate::conjunction::Conjunction;
@@ -15,9 +15,8 @@ use crate::filling::made_behind;
 use crate::truths::{mask_of, truth_at, truth_of, truth_value};
 use std::alloc::{AllocError, Global};
 use std::rc::Rc;
-use vx_eval_mask::RowMask;
-use vx_eval_merge::{
-    Merging, push_moved, push_repeated, push_with, write_moved, write_repeated, write_with,
+use vx_eval_masks::{
+    Merging, RowMask, push_moved, push_repeated, push_with, write_moved, write_repeated, write_with,
 };
 use vx_types::{Column, Value, VortexResult};
 use vx_value::TakeRow;
@@ -186,7 +185,7 @@ impl<'a> Rows<'a> {
     /// The values as a `Vec` that others may share, with no copy where they are in one. Refuses
     /// with `OutOfMemory` (1) alone.
     pub fn into_shared(self, alloc: Global) -> VortexResult<Rc<Vec<Value>>>
-        ensures { Answers (λ values. values_of values.value.items) result (Ok (rows_view self.entry)) }
+        ensures { ReturnsOrOom (λ values. values_of values.value.items) result (Ok (rows_view self.entry)) }
     {
         // Columns are let go of by `drop`: in place that takes the proof far longer.
         match self {
@@ -204,7 +203,7 @@ impl<'a> Rows<'a> {
     /// The values: those that are owned as they are, copies of the others. Refuses with `OutOfMemory`
     /// (1) alone.
     pub fn into_values(self, alloc: Global) -> VortexResult<Vec<Value>>
-        ensures { Answers (λ values. values_of values.items) result (Ok (rows_view self.entry)) }
+        ensures { ReturnsOrOom (λ values. values_of values.items) result (Ok (rows_view self.entry)) }
     {
         match self {
             Rows::Owned(values) => Ok(values),
@@ -232,7 +231,7 @@ impl<'a> Rows<'a> {
 
     // A copy of each value.
     fn copies(&self, alloc: Global) -> VortexResult<Vec<Value>>
-        ensures { Answers (λ values. values_of values.items) result (Ok (rows_view self.now)) }
+        ensures { ReturnsOrOom (λ values. values_of values.items) result (Ok (rows_view self.now)) }
     {
         Ok(self.copied_behind(Vec::with_capacity(alloc, self.len())?)?)
     }

@@ -1,7 +1,7 @@
 // Texts against patterns.
 ghost use Rattle.std.specs.Prelude.{◌≡◌, length, option_map, List, [], ◌∷◌, Ok};
 ghost use Rattle.std.proofs.Math.ListN.{replicate};
-ghost use Rattle.vx_dtype.specs.Answers.{Answers};
+ghost use Rattle.vx_dtype.specs.Returns.{ReturnsOrOom};
 ghost use Rattle.vx_value.specs.Types.{LogicalType};
 ghost use Rattle.vx_value.specs.Views.{value_of};
 ghost use Rattle.vx_fn.specs.Functions as functions;
@@ -101,7 +101,7 @@ fn accepted(negated: bool, v: &Value, pattern: &Pattern) -> Option<bool>
 
 // Whether the text is like the pattern, turned round where it is negated; null where one is.
 fn liked(alloc: Global, options: &LikeOptions, v: &Value, w: &Value) -> VortexResult<Option<bool>>
-    ensures { Answers truth_datum result (Ok (values.liked options.now.negated options.now.case_insensitive (value_of v.now) (value_of w.now))) }
+    ensures { ReturnsOrOom truth_datum result (Ok (values.liked options.now.negated options.now.case_insensitive (value_of v.now) (value_of w.now))) }
 {
     match v {
         Value::Utf8(text) => match w {

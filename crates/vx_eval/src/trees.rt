@@ -1,6 +1,6 @@
 // Trees over whole columns, children first.
 ghost use Rattle.std.specs.Prelude.{◌≡◌, ◌<◌, [], length, get_or, IfOk, IsOk, Err, Ok};
-ghost use Rattle.vx_dtype.specs.Answers.{Answers};
+ghost use Rattle.vx_dtype.specs.Returns.{ReturnsOrOom};
 ghost use Rattle.vx_value.specs.Fits.{IsBatch};
 ghost use Rattle.vx_fn.specs.Functions.{fn_type};
 ghost use Rattle.vx_fn.specs.Views.{function_of};
@@ -27,7 +27,7 @@ pub fn evaluate<'a>(
     batch: &'a [Value],
 ) -> VortexResult<Rows<'a>>
     requires { WellTyped (bound_of b.now) }
-    ensures { Answers rows_view result (tree_answer (bound_of b.now) (values_of batch.now)) }
+    ensures { ReturnsOrOom rows_view result (tree_answer (bound_of b.now) (values_of batch.now)) }
 {
     let columns = evaluate_each(alloc, slice::from_ref(b), batch)?;
     Ok(one(columns))
@@ -43,7 +43,7 @@ fn evaluate_each<'a>(
     batch: &'a [Value],
 ) -> VortexResult<Vec<Rows<'a>>>
     requires { EachWellTyped (bounds_of children.now) }
-    ensures { Answers (λ v. rows_views v.items) result (each_answer (bounds_of children.now) (values_of batch.now)) }
+    ensures { ReturnsOrOom (λ v. rows_views v.items) result (each_answer (bounds_of children.now) (values_of batch.now)) }
 {
     let mut columns = Vec::with_capacity(alloc, children.len())?;
     for child in children {

@@ -10,7 +10,7 @@ ghost use Rattle.vx_eval.specs.Kernels.{TellsRows, TestsRows};
 use crate::constants::Constants;
 use crate::rows::Rows;
 use std::alloc::{AllocError, Global};
-use vx_eval_mask::RowMask;
+use vx_eval_masks::RowMask;
 use vx_types::{Value, VortexResult};
 
 /// What the function tells of each row. Refuses with `OutOfMemory` (1) alone.

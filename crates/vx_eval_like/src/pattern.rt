@@ -1,6 +1,6 @@
 // Patterns that are read once, for many texts.
 ghost use Rattle.std.specs.Prelude.{◌≡◌, Ok};
-ghost use Rattle.vx_dtype.specs.Answers.{Answers};
+ghost use Rattle.vx_dtype.specs.Returns.{ReturnsOrOom};
 ghost use Rattle.vx_fn.specs.Values.{is_like};
 ghost use Rattle.vx_eval_like.specs.Patterns.{compiled, accepts};
 
@@ -31,7 +31,7 @@ impl Pattern {
     /// the ASCII capitals of the pattern and of each text are made small first. Refuses with
     /// `OutOfMemory` (1) alone.
     pub fn compile(alloc: Global, pattern: &str, case_insensitive: bool) -> VortexResult<Pattern>
-        ensures { Answers (λ read. read) result (Ok (compiled case_insensitive pattern.now)) }
+        ensures { ReturnsOrOom (λ read. read) result (Ok (compiled case_insensitive pattern.now)) }
     {
         Ok(Pattern {
             parts: parts_of(alloc, pattern, case_insensitive)?,
@@ -50,7 +50,7 @@ impl Pattern {
 
 /// Whether the text is like the pattern. Refuses with `OutOfMemory` (1) alone.
 pub fn is_like(alloc: Global, text: &str, pattern: &str, ignore_case: bool) -> VortexResult<bool>
-    ensures { Answers (λ b. b) result (Ok (is_like ignore_case text.now pattern.now)) }
+    ensures { ReturnsOrOom (λ b. b) result (Ok (is_like ignore_case text.now pattern.now)) }
 {
     Ok(Pattern::compile(alloc, pattern, ignore_case)?.matches(text))
 }

@@ -8,8 +8,8 @@ use Rattle.vx_fn.specs.Functions.{logical_not}
 use Rattle.vx_fn.specs.Rows.{FnType, of_not}
 use Rattle.vx_fn.specs.Values.{kleene_not}
 use Rattle.vx_tree.specs.Meaning.{value}
-use Rattle.vx_rewrite_rule_sets.specs.Prelude.{BoundTree, node, no_bound, bound, node_type, WellTyped, Keeps, Lawful, weight, one_bound, only_one, in_first, at_first, IsLiteral, EachFrom, Modest, DecidedBy, bound_children_of}
-use Rattle.vx_rewrite_rule_sets.proofs.Prelude.{narrower_refl, fn_type-found, value-fits, each_passes, only_quiet, below_inside, modest_lawful}
+use Rattle.vx_rewrite_core.specs.Prelude.{BoundTree, node, no_bound, bound, node_type, WellTyped, Keeps, Lawful, weight, one_bound, only_one, in_first, at_first, IsLiteral, EachFrom, FromSubterms, DecidedBy, bound_children_of}
+use Rattle.vx_rewrite_core.proofs.Prelude.{narrower_refl, fn_type-found, value-fits, each_passes, only_quiet, below_inside, modest_lawful}
 
 -- ---- the rule
 
@@ -87,7 +87,7 @@ from_below b x negated_twice = below_inside x _ (in_first at_first)
 not_at_literals : {b u : BoundTree} → DoubleNegationAt b u → IsLiteral b → ⊥
 not_at_literals negated_twice l = elim l [ ]
 
-pub double_negation_modest : Modest DoubleNegationAt
+pub double_negation_modest : FromSubterms DoubleNegationAt
 double_negation_modest = record { from = from_below; at_literals = λ b l u r. not_at_literals r l }
 
 pub double_negation_lawful : Lawful DoubleNegationAt

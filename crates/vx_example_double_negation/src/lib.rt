@@ -3,14 +3,13 @@
 
 ghost use Rattle.std.specs.Prelude.{◌≡◌, Ok};
 ghost use Rattle.std.specs.Option.{option_map};
-ghost use Rattle.vx_value.specs.Answers.{Answers};
+ghost use Rattle.vx_value.specs.Returns.{ReturnsOrOom};
 ghost use Rattle.vx_tree.specs.Views.{bound_of};
 ghost use Rattle.vx_example_double_negation.specs.DoubleNegation.{DoubleNegationAt, double_negation_lawful, given, negated};
 
 use std::alloc::Global;
 use vx_fn::ScalarFnRef;
-use vx_rewrite_keep::Rule;
-use vx_rewrite_rule_sets::only;
+use vx_rewrite_core::{Rule, only};
 use vx_tree::{BoundExpression, VortexResult};
 
 /// The rule that `not(not x)` is `x`, as an example of a rule set: definition, laws and code in full.
@@ -32,7 +31,7 @@ impl Rule for DoubleNegation {
 
 // What is given at a node.
 fn given(node: &BoundExpression) -> VortexResult<Option<BoundExpression>>
-    ensures { Answers (option_map bound_of) result (Ok (given (bound_of node.now))) }
+    ensures { ReturnsOrOom (option_map bound_of) result (Ok (given (bound_of node.now))) }
 {
     match negated(node).and_then(negated) {
         Some(input) => Ok(Some(input.clone()?)),

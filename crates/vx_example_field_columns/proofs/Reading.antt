@@ -12,8 +12,8 @@ use Rattle.vx_value.specs.Fields.{data_of, fields_named}
 use Rattle.vx_value.specs.Paths.{Path, is_member}
 use Rattle.vx_value.specs.StructColumns.{all_long, row_at, rows_in, struct_at, struct_column, struct_type, types_in}
 use Rattle.vx_value.specs.Types.{Name, LogicalType, ty, struct, Datum, null, struct_of}
-use Rattle.vx_scan_kept.specs.Defaults.{default_of}
-use Rattle.vx_scan_kept.specs.Kept.{rest_behind, rests, others, at_paths, kept, fields_kept, kept_batch}
+use Rattle.vx_projection.specs.Defaults.{default_of}
+use Rattle.vx_projection.specs.Kept.{rest_behind, rests, others, at_paths, kept, fields_kept, kept_batch}
 use Rattle.vx_example_field_columns.specs.FieldColumns.{is_asked, read_column, read_columns, joined}
 
 abbrev answer : {A : Type 0} → A → Result A VortexError

@@ -6,7 +6,7 @@ use Rattle.vx_value.specs.Columns.{Batch, batch}
 use Rattle.vx_value.specs.Paths.{Path}
 use Rattle.vx_value.specs.StructColumns.{rows_in, struct_rows, struct_type}
 use Rattle.vx_value.specs.Types.{Name}
-use Rattle.vx_scan_kept.specs.Kept.{kept_batch}
+use Rattle.vx_projection.specs.Kept.{kept_batch}
 
 -- the batch of structs whose fields have these names and stand in these columns
 abbrev pub joined : List Name → List Batch → ℕ → Batch

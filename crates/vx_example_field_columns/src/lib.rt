@@ -3,7 +3,7 @@
 
 ghost use Rattle.std.specs.Prelude.{◌≡◌, IsErrOf, Ok, IfOk, false, length, map, true};
 ghost use Rattle.std.specs.Coded.{Coded-set};
-ghost use Rattle.vx_value.specs.Answers.{Answers};
+ghost use Rattle.vx_value.specs.Returns.{ReturnsOrOom};
 ghost use Rattle.vx_value.specs.Codes.{type_code};
 ghost use Rattle.vx_value.specs.Fits.{IsBatch};
 ghost use Rattle.vx_value.specs.Paths.{minimal_paths, path_of};
@@ -13,7 +13,7 @@ ghost use Rattle.vx_dtype.specs.declared.error.VortexError.TheVariants.{LengthMi
 ghost use Rattle.vx_example_field_columns.specs.FieldColumns.{is_asked, joined, reaches, read_column, read_columns};
 
 use std::alloc::{AllocError, Global};
-use vx_scan_kept::{PathReader, read_referenced};
+use vx_projection::{PathReader, read_referenced};
 use vx_types::{
     Column, DType, Field, FieldName, FieldNames, FieldPathSet, Nullability, StructFields,
     VortexError, VortexResult,
@@ -52,7 +52,7 @@ impl FieldColumns {
         allowed: FieldPathSet,
     ) -> VortexResult<FieldColumns>
         requires { length names ≡ length columns.items }
-        ensures batch { Answers (λ r. joined r.names r.columns.items r.rows) result (struct_column names columns.items rows false) }
+        ensures batch { ReturnsOrOom (λ r. joined r.names r.columns.items r.rows) result (struct_column names columns.items rows false) }
         ensures allowed { IfOk result (λ r. r.allowed ≡ allowed) }
         ensures mismatch { all_long rows columns.items ≡ false → IsErrOf result LengthMismatch }
     {
@@ -119,7 +119,7 @@ fn read_columns(
     paths: &FieldPathSet,
 ) -> VortexResult<Vec<Column>>
     requires { length names.now ≡ length columns.now }
-    ensures { Answers (λ read. read.items) result (Ok (read_columns (minimal_paths paths.now) names.now columns.now)) }
+    ensures { ReturnsOrOom (λ read. read.items) result (Ok (read_columns (minimal_paths paths.now) names.now columns.now)) }
 {
     let mut read = Vec::with_capacity(alloc, columns.len())?;
     for i in 0..columns.len() {
@@ -135,7 +135,7 @@ fn read_column(
     column: &Column,
     paths: &FieldPathSet,
 ) -> VortexResult<Column>
-    ensures { Answers (λ read. read) result (Ok (read_column (minimal_paths paths.now) name.now column.now)) }
+    ensures { ReturnsOrOom (λ read. read) result (Ok (read_column (minimal_paths paths.now) name.now column.now)) }
 {
     if is_asked(paths, name) {
         return Ok(column.clone()?);

@@ -2,7 +2,7 @@
 use crate::FieldColumns;
 use std::alloc::Global;
 use std::test::Fail;
-use vx_scan_kept::PathReader;
+use vx_projection::PathReader;
 use vx_types::{
     Column, DType, FieldName, FieldNames, FieldPath, FieldPathSet, Nullability, PType, Value,
     VortexResult,

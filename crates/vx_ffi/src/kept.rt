@@ -1,16 +1,15 @@
 // Calls on a plan that the caller keeps.
 ghost use Rattle.std.specs.Prelude.{◌≡◌, None};
 ghost use Rattle.vx_data_buffers.specs.Bytes.{bytes_in};
-ghost use Rattle.vx_call_pages.specs.Stops.{IsExhausted};
-ghost use Rattle.vx_call_scans.specs.Kept.{IsPathsPage, IsScanPage};
-ghost use Rattle.vx_call_scans.specs.ScanStops.{ScanStops};
-ghost use Rattle.vx_call_kept.specs.Held.{HeldEndsWith, NewEndsWith};
+ghost use Rattle.vx_ffi_calls.specs.Stops.{IsExhausted};
+ghost use Rattle.vx_ffi_plan.specs.Kept.{IsPathsPage, IsScanPage};
+ghost use Rattle.vx_ffi_plan.specs.ScanStops.{ScanStops};
+ghost use Rattle.vx_ffi_plan.specs.Held.{HeldEndsWith, NewEndsWith};
 
 use std::alloc::Global;
-use vx_call_kept::{answer_held_paths, answer_held_scan, answer_new, free_plan};
-use vx_call_pages::Answer;
 use vx_data_buffers::Buffer;
-use vx_plan_handle::PlanHandle;
+use vx_ffi_calls::Answer;
+use vx_ffi_plan::{PlanHandle, answer_held_paths, answer_held_scan, answer_new, free_plan};
 
 /// Makes the plan of the expression over batches of the schema's type: [`answer_new`].
 #[unsafe(no_mangle)]

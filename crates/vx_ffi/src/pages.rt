@@ -2,11 +2,11 @@
 ghost use Rattle.std.specs.Prelude.{◌≡◌, []};
 ghost use Rattle.vx_command_pages.specs.Inputs.{IsComplaint, IsUnread};
 ghost use Rattle.vx_command_pages.specs.Pages.{IsSourcePage, IsTypePage};
-ghost use Rattle.vx_call_pages.specs.Endings.{EndsWith, version_line};
-ghost use Rattle.vx_call_pages.specs.Stops.{IsExhausted, Stops};
+ghost use Rattle.vx_ffi_calls.specs.Endings.{EndsWith, version_line};
+ghost use Rattle.vx_ffi_calls.specs.Stops.{IsExhausted, Stops};
 
 use std::alloc::Global;
-use vx_call_pages::{Answer, answer_source, answer_type, answer_version};
+use vx_ffi_calls::{Answer, answer_source, answer_type, answer_version};
 
 /// Answers the type of the expression over rows of the schema's type, on one line.
 #[unsafe(no_mangle)]

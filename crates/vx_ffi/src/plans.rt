@@ -1,12 +1,11 @@
 // Calls that show plans.
 ghost use Rattle.vx_command_pages.specs.Inputs.{IsComplaint};
-ghost use Rattle.vx_command_plans.specs.PlanPages.{IsPlanPage};
-ghost use Rattle.vx_call_pages.specs.Endings.{EndsWith};
-ghost use Rattle.vx_call_pages.specs.Stops.{Stops};
+ghost use Rattle.vx_command_pages.specs.PlanPages.{IsPlanPage};
+ghost use Rattle.vx_ffi_calls.specs.Endings.{EndsWith};
+ghost use Rattle.vx_ffi_calls.specs.Stops.{Stops};
 
 use std::alloc::Global;
-use vx_call_pages::Answer;
-use vx_call_plans::{answer_explanation, answer_plan};
+use vx_ffi_calls::{Answer, answer_explanation, answer_plan};
 
 /// Answers what becomes of the expression over rows of the schema's type.
 #[unsafe(no_mangle)]

@@ -1,12 +1,11 @@
 // Calls that go over records, or over statistics of chunks of them.
-ghost use Rattle.vx_call_pages.specs.Endings.{EndsWith};
-ghost use Rattle.vx_call_rows.specs.RowPages.{IsRowsPage};
-ghost use Rattle.vx_call_rows.specs.RowStops.{IsRowsComplaint, IsVerdictComplaint, RowsStops};
-ghost use Rattle.vx_call_rows.specs.VerdictPages.{IsVerdictPage};
+ghost use Rattle.vx_ffi_calls.specs.Endings.{EndsWith};
+ghost use Rattle.vx_ffi_calls.specs.RowPages.{IsRowsPage};
+ghost use Rattle.vx_ffi_calls.specs.RowStops.{IsRowsComplaint, IsVerdictComplaint, RowsStops};
+ghost use Rattle.vx_ffi_calls.specs.VerdictPages.{IsVerdictPage};
 
 use std::alloc::Global;
-use vx_call_pages::Answer;
-use vx_call_rows::{answer_rows, answer_verdicts};
+use vx_ffi_calls::{Answer, answer_rows, answer_verdicts};
 
 /// Answers what the expression means at each record, as a line of JSON each: [`answer_rows`].
 #[unsafe(no_mangle)]

@@ -6,7 +6,7 @@ use Rattle.std.proofs.lemmas.Bool.{and_parts, and_from, or_left, or_right}
 use Rattle.std.specs.Str.{bytes_eq}
 use Rattle.vx_value.specs.Types.{Name, truth, number, text, octets, LogicalType, ty, Shape, atomic, list, fixed, struct, Fields, no_field, field, is_nullable, with_nullability}
 use Rattle.vx_value.specs.Joins.{same_base, same_base_shape, same_base_fields, join, join_shape, join_fields, union_all, Narrower, narrower, NarrowerShape, same_atomic_shape, narrower_list, narrower_fixed, narrower_struct, NarrowerFields, no_fields, narrower_field, NarrowerEach}
-use Rattle.vx_dtype.specs.Lists.{none_beside, more_beside}
+use Rattle.vx_dtype.specs.Lists.{forall2_nil, forall2_cons}
 use Rattle.vx_value.specs.Fields.{field_type, field_names, names_without, project, put_field, first_missing, first_unknown, fields_named}
 use Rattle.vx_fn.specs.Functions.{Function, get_item, mask, selection_names, included, conditions, branches, is_truth}
 use Rattle.vx_fn.specs.declared.options.FieldSelection.{FieldSelection}
@@ -89,8 +89,8 @@ same_at t u us w e = go (same_base t u) refl e
     go false q e = cc
 
 union_all-mono : {t' t : LogicalType} {us' us : List LogicalType} (w : LogicalType) → Narrower t' t → NarrowerEach us' us → union_all t us ≡ Some w → UnionAll t' us' w
-union_all-mono {t' = t'} {t = t} w p none_beside e = let q : t ≡ w = cc in (t', refl, subst (Narrower t') q p)
-union_all-mono {t' = t'} {t = t} w p (more_beside {x = u'} {y = u} {xs = us'} {ys = us} q qs) e =
+union_all-mono {t' = t'} {t = t} w p forall2_nil e = let q : t ≡ w = cc in (t', refl, subst (Narrower t') q p)
+union_all-mono {t' = t'} {t = t} w p (forall2_cons {x = u'} {y = u} {xs = us'} {ys = us} q qs) e =
     let x = same_at t u us w e in
     let k = join-mono p q x.0 in
     let r = union_all-mono w k.1 qs x.1 in
@@ -98,9 +98,9 @@ union_all-mono {t' = t'} {t = t} w p (more_beside {x = u'} {y = u} {xs = us'} {y
     (r.0, rw y r.1, r.2)
 
 branches-mono : {ts us : List LogicalType} → NarrowerEach ts us → NarrowerEach (branches ts) (branches us)
-branches-mono none_beside = none_beside
-branches-mono (more_beside p none_beside) = more_beside p none_beside
-branches-mono (more_beside p (more_beside q r)) = more_beside q (branches-mono r)
+branches-mono forall2_nil = forall2_nil
+branches-mono (forall2_cons p forall2_nil) = forall2_cons p forall2_nil
+branches-mono (forall2_cons p (forall2_cons q r)) = forall2_cons q (branches-mono r)
 
 truth-mono : {t u : LogicalType} → Narrower t u → is_truth u ≡ true → is_truth t ≡ true
 truth-mono (narrower (same_atomic_shape {p = truth}) i) e = refl
@@ -112,13 +112,13 @@ truth-mono (narrower (narrower_fixed p) i) e = cc
 truth-mono (narrower (narrower_struct p) i) e = cc
 
 conditions-mono : {ts us : List LogicalType} → NarrowerEach ts us → list_all is_truth (conditions us) ≡ true → list_all is_truth (conditions ts) ≡ true
-conditions-mono none_beside e = refl
-conditions-mono (more_beside p none_beside) e = refl
-conditions-mono (more_beside p (more_beside q r)) e = let x = and_parts _ _ e in and_from _ _ (truth-mono p x.0) (conditions-mono r x.1)
+conditions-mono forall2_nil e = refl
+conditions-mono (forall2_cons p forall2_nil) e = refl
+conditions-mono (forall2_cons p (forall2_cons q r)) e = let x = and_parts _ _ e in and_from _ _ (truth-mono p x.0) (conditions-mono r x.1)
 
 length-mono : {ts us : List LogicalType} → NarrowerEach ts us → length ts ≡ length us
-length-mono none_beside = refl
-length-mono (more_beside p q) = ap Rattle.std.proofs.Common.suc (length-mono q)
+length-mono forall2_nil = refl
+length-mono (forall2_cons p q) = ap Rattle.std.proofs.Common.suc (length-mono q)
 
 -- ---- fields
 
@@ -167,8 +167,8 @@ project-mono {fs = fs} {gs = gs} (a ∷ names) q = put-mono a (field_type a fs) 
 
 pub fields_named-mono : {ts us : List LogicalType} (names : List Name) → NarrowerEach ts us → NarrowerFields (fields_named names ts) (fields_named names us)
 fields_named-mono [] q = no_fields
-fields_named-mono (a ∷ names) none_beside = no_fields
-fields_named-mono (a ∷ names) (more_beside p q) = narrower_field p (fields_named-mono names q)
+fields_named-mono (a ∷ names) forall2_nil = no_fields
+fields_named-mono (a ∷ names) (forall2_cons p q) = narrower_field p (fields_named-mono names q)
 
 -- ---- the rows
 
@@ -176,8 +176,8 @@ abbrev Cons : List LogicalType → LogicalType → List LogicalType → Type 0
 Cons ts u us = (t : LogicalType) × (ts' : List LogicalType) × (ts ≡ t ∷ ts') × Narrower t u × NarrowerEach ts' us
 
 cons-mono : {ts us : List LogicalType} (v : LogicalType) (vs : List LogicalType) → NarrowerEach ts us → us ≡ v ∷ vs → Cons ts v vs
-cons-mono v vs none_beside e = cc
-cons-mono v vs (more_beside {x = t} {y = u} {xs = ts} {ys = us} p q) e =
+cons-mono v vs forall2_nil e = cc
+cons-mono v vs (forall2_cons {x = t} {y = u} {xs = ts} {ys = us} p q) e =
     let x : u ≡ v = cc in
     let y : us ≡ vs = cc in
     (t, ts, refl, subst (Narrower t) x p, subst (NarrowerEach ts) y q)
@@ -211,22 +211,22 @@ fn_type-mono (of_case_else {k = k} {us = vs} {u = v} {w = w} l z c b u) q =
 fn_type-mono (of_case {k = k} {us = vs} {u = v} {w = w} l z c b u) q =
     let x = case-mono v vs w q b u in
     (with_nullability true x.2, of_case (count-mono _ q l) z (conditions-mono q c) x.3 x.4, nullable-mono true true (λ e. e) x.5)
-fn_type-mono (of_get_item {a = a} {s = s} {n = n} {m = m} e) (more_beside (narrower {n = n'} (narrower_struct {fs = fs} p) i) none_beside) = item-mono a fs s n' n m i (field_type-mono a (ty s m) p e)
-fn_type-mono (of_literal {t = t}) none_beside = (t, of_literal, narrower_refl t)
+fn_type-mono (of_get_item {a = a} {s = s} {n = n} {m = m} e) (forall2_cons (narrower {n = n'} (narrower_struct {fs = fs} p) i) forall2_nil) = item-mono a fs s n' n m i (field_type-mono a (ty s m) p e)
+fn_type-mono (of_literal {t = t}) forall2_nil = (t, of_literal, narrower_refl t)
 fn_type-mono {ts = ts} (of_pack {names = names} {n = n} e) q = (ty (struct (fields_named names ts)) n, of_pack (count-mono _ q e), narrower (narrower_struct (fields_named-mono names q)) (λ e. e))
-fn_type-mono (of_select {sel = sel} {fs = gs} {n = n} e) (more_beside (narrower {n = n'} (narrower_struct {fs = fs} p) i) none_beside) =
+fn_type-mono (of_select {sel = sel} {fs = gs} {n = n} e) (forall2_cons (narrower {n = n'} (narrower_struct {fs = fs} p) i) forall2_nil) =
     let k : first_unknown (selection_names sel) fs ≡ None = first_unknown-mono (selection_names sel) p ∙ e in
     (ty (struct (project (included sel fs) fs)) n', of_select k, narrower (narrower_struct (subst (λ names. NarrowerFields (project (included sel fs) fs) (project names gs)) (included-mono sel p) (project-mono (included sel fs) p))) i)
-fn_type-mono (of_fill_null s) (more_beside p (more_beside q none_beside)) = (_, of_fill_null (join-mono p q s).0, nullable-mono _ _ (is_nullable-mono q) p)
-fn_type-mono (of_zip s) (more_beside p (more_beside q (more_beside (narrower same_atomic_shape i) none_beside))) = let k = join-mono p q s in (_, of_zip k.0, k.1)
-fn_type-mono (of_comparison s) (more_beside (narrower same_atomic_shape i) (more_beside (narrower same_atomic_shape j) none_beside)) = (_, of_comparison s, narrower same_atomic_shape (or_mono _ _ _ _ i j))
-fn_type-mono of_and (more_beside (narrower same_atomic_shape i) (more_beside (narrower same_atomic_shape j) none_beside)) = (_, of_and, narrower same_atomic_shape (or_mono _ _ _ _ i j))
-fn_type-mono of_or (more_beside (narrower same_atomic_shape i) (more_beside (narrower same_atomic_shape j) none_beside)) = (_, of_or, narrower same_atomic_shape (or_mono _ _ _ _ i j))
-fn_type-mono (of_add s) (more_beside (narrower same_atomic_shape i) (more_beside (narrower same_atomic_shape j) none_beside)) = (_, of_add s, narrower same_atomic_shape (or_mono _ _ _ _ i j))
-fn_type-mono of_not (more_beside (narrower same_atomic_shape i) none_beside) = (_, of_not, narrower same_atomic_shape i)
-fn_type-mono (of_between s r) (more_beside (narrower same_atomic_shape i) (more_beside (narrower same_atomic_shape j) (more_beside (narrower same_atomic_shape k) none_beside))) = (_, of_between s r, narrower same_atomic_shape (or_mono _ _ _ _ (or_mono _ _ _ _ i j) k))
-fn_type-mono of_like (more_beside (narrower same_atomic_shape i) (more_beside (narrower same_atomic_shape j) none_beside)) = (_, of_like, narrower same_atomic_shape (or_mono _ _ _ _ i j))
-fn_type-mono of_is_null (more_beside p none_beside) = (_, of_is_null, narrower_refl _)
-fn_type-mono of_is_not_null (more_beside p none_beside) = (_, of_is_not_null, narrower_refl _)
-fn_type-mono of_mask (more_beside {x = t} p (more_beside (narrower {n = n} same_atomic_shape i) none_beside)) = mask-mono t n i p
-fn_type-mono (of_cast {u = u} s) (more_beside p none_beside) = (u, of_cast (join-mono p (narrower_refl u) s).0, narrower_refl u)
+fn_type-mono (of_fill_null s) (forall2_cons p (forall2_cons q forall2_nil)) = (_, of_fill_null (join-mono p q s).0, nullable-mono _ _ (is_nullable-mono q) p)
+fn_type-mono (of_zip s) (forall2_cons p (forall2_cons q (forall2_cons (narrower same_atomic_shape i) forall2_nil))) = let k = join-mono p q s in (_, of_zip k.0, k.1)
+fn_type-mono (of_comparison s) (forall2_cons (narrower same_atomic_shape i) (forall2_cons (narrower same_atomic_shape j) forall2_nil)) = (_, of_comparison s, narrower same_atomic_shape (or_mono _ _ _ _ i j))
+fn_type-mono of_and (forall2_cons (narrower same_atomic_shape i) (forall2_cons (narrower same_atomic_shape j) forall2_nil)) = (_, of_and, narrower same_atomic_shape (or_mono _ _ _ _ i j))
+fn_type-mono of_or (forall2_cons (narrower same_atomic_shape i) (forall2_cons (narrower same_atomic_shape j) forall2_nil)) = (_, of_or, narrower same_atomic_shape (or_mono _ _ _ _ i j))
+fn_type-mono (of_add s) (forall2_cons (narrower same_atomic_shape i) (forall2_cons (narrower same_atomic_shape j) forall2_nil)) = (_, of_add s, narrower same_atomic_shape (or_mono _ _ _ _ i j))
+fn_type-mono of_not (forall2_cons (narrower same_atomic_shape i) forall2_nil) = (_, of_not, narrower same_atomic_shape i)
+fn_type-mono (of_between s r) (forall2_cons (narrower same_atomic_shape i) (forall2_cons (narrower same_atomic_shape j) (forall2_cons (narrower same_atomic_shape k) forall2_nil))) = (_, of_between s r, narrower same_atomic_shape (or_mono _ _ _ _ (or_mono _ _ _ _ i j) k))
+fn_type-mono of_like (forall2_cons (narrower same_atomic_shape i) (forall2_cons (narrower same_atomic_shape j) forall2_nil)) = (_, of_like, narrower same_atomic_shape (or_mono _ _ _ _ i j))
+fn_type-mono of_is_null (forall2_cons p forall2_nil) = (_, of_is_null, narrower_refl _)
+fn_type-mono of_is_not_null (forall2_cons p forall2_nil) = (_, of_is_not_null, narrower_refl _)
+fn_type-mono of_mask (forall2_cons {x = t} p (forall2_cons (narrower {n = n} same_atomic_shape i) forall2_nil)) = mask-mono t n i p
+fn_type-mono (of_cast {u = u} s) (forall2_cons p forall2_nil) = (u, of_cast (join-mono p (narrower_refl u) s).0, narrower_refl u)

@@ -8,7 +8,7 @@ use Rattle.vx_value.specs.Types.{Name, Atomic, truth, number, text, LogicalType,
 use Rattle.vx_value.specs.Joins.{same_base, join, union, union_all}
 use Rattle.vx_value.specs.Fields.{field_type, project, first_unknown, fields_named}
 use Rattle.vx_dtype.specs.declared.dtype.PType.{PType}
-use Rattle.vx_value.specs.Answers.{known_or}
+use Rattle.vx_value.specs.Returns.{known_or}
 use Rattle.vx_fn.specs.Functions.{Function, case_when, get_item, literal, pack, select, fill_null, zip, binary, logical_not, between, like, is_null, is_not_null, mask, cast, Operation, compares, and_also, or_else, adds, Comparison, selection_names, included, case_children, conditions, branches, is_truth, is_text, is_number, is_atomic, Typing, of_none, of_one, of_two, of_three, of_many, needs, fn_type, case_union, case_type, item_type, found, with_else, select_type, binary_type, truth_type}
 use Rattle.vx_fn.specs.declared.options.FieldSelection.{FieldSelection}
 use Rattle.vx_dtype.specs.declared.error.VortexError.{VortexError}

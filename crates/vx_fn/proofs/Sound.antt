@@ -7,7 +7,7 @@ use Rattle.vx_dtype.proofs.Known.{first_unknown-filter, first_unknown-own}
 use Rattle.vx_dtype.proofs.Unions.{same_atomic-eq}
 use Rattle.vx_value.specs.Types.{Name, Atomic, truth, number, text, LogicalType, ty, Shape, atomic, struct, Fields, Datum, null, bool, int, utf8, struct_of, is_nullable, with_nullability, is_null_datum}
 use Rattle.vx_value.specs.Fits.{fits, Fits, EachFits}
-use Rattle.vx_dtype.specs.Lists.{none_beside, more_beside}
+use Rattle.vx_dtype.specs.Lists.{forall2_nil, forall2_cons}
 use Rattle.vx_value.specs.Joins.{same_base, join}
 use Rattle.vx_value.specs.Fields.{field_type, field_value, project, first_unknown, field_names}
 use Rattle.vx_dtype.specs.declared.dtype.PType.{PType}
@@ -100,10 +100,10 @@ cond_either true x y w p q = p
 cond_either false x y w p q = q
 
 first_true-fits : {vs : List Datum} {ts : List LogicalType} {w : LogicalType} → EachFits vs ts → Into (branches ts) w → IsOdd ts ⊎ Fits null w → Fits (first_true vs) w
-first_true-fits none_beside i (inl o) = elim o [ ]
-first_true-fits none_beside i (inr h) = h
-first_true-fits (more_beside e none_beside) (into_more f i) o = f _ e
-first_true-fits {vs = c ∷ v ∷ vs} {w = w} (more_beside d (more_beside e a)) (into_more f i) o = cond_either (is_true c) v (first_true vs) w (f v e) (first_true-fits a i o)
+first_true-fits forall2_nil i (inl o) = elim o [ ]
+first_true-fits forall2_nil i (inr h) = h
+first_true-fits (forall2_cons e forall2_nil) (into_more f i) o = f _ e
+first_true-fits {vs = c ∷ v ∷ vs} {w = w} (forall2_cons d (forall2_cons e a)) (into_more f i) o = cond_either (is_true c) v (first_true vs) w (f v e) (first_true-fits a i o)
 
 pub included-known : (sel : FieldSelection) (fs : Fields) → first_unknown (selection_names sel) fs ≡ None → first_unknown (included sel fs) fs ≡ None
 included-known (Include names) fs e = e
@@ -172,20 +172,20 @@ cast-fits u v s = not-false (fits v u) s
 pub fn_value-fits : {f : Function} {ts : List LogicalType} {t : LogicalType} {vs : List Datum} → FnType f ts t → HasFittingLiteral f → IsSafe f ts vs → EachFits vs ts → Fits (fn_value f ts vs) t
 fn_value-fits (of_case_else {k = k} {ts = ts} l z c b u) lit safe a = first_true-fits a (into_at b (union_all-into _ _ _ u)) (inl (is_odd ts k (eqb-true _ _ l)))
 fn_value-fits (of_case {w = w} l z c b u) lit safe a = first_true-fits a (into_at b (into_nullable (union_all-into _ _ _ u))) (inr (null_fits w))
-fn_value-fits (of_get_item {a = a} {fs = fs} {s = s} {n = n} {m = m} e) lit safe (more_beside {x = v} h none_beside) = item-fits a fs n m s v e h
-fn_value-fits of_literal lit safe none_beside = lit
+fn_value-fits (of_get_item {a = a} {fs = fs} {s = s} {n = n} {m = m} e) lit safe (forall2_cons {x = v} h forall2_nil) = item-fits a fs n m s v e h
+fn_value-fits of_literal lit safe forall2_nil = lit
 fn_value-fits (of_pack {names = names} e) lit safe a = pack-fits names (eqb-true _ _ e) a
-fn_value-fits (of_select {sel = sel} {fs = fs} {n = n} e) lit safe (more_beside {x = v} h none_beside) = select-fits sel fs n v e h
-fn_value-fits (of_fill_null {t = t} {u = u} s) lit safe (more_beside {x = v} e (more_beside {x = w} h none_beside)) = fill-fits t u v w s safe e h
-fn_value-fits (of_zip {t = t} {u = u} s) lit safe (more_beside {x = v} e (more_beside {x = w} h (more_beside {x = m} d none_beside))) = zip-fits t u (is_true m) v w s e h
-fn_value-fits (of_comparison {c = c} {p = p} {q = q} {n = n} {m = m} s) lit safe (more_beside {x = v} e (more_beside {x = w} h none_beside)) = compared-fits c v w (atomic p) (atomic q) n m e h
-fn_value-fits (of_and {n = n} {m = m}) lit safe (more_beside {x = v} e (more_beside {x = w} h none_beside)) = and-fits v w n m e h
-fn_value-fits (of_or {n = n} {m = m}) lit safe (more_beside {x = v} e (more_beside {x = w} h none_beside)) = or-fits v w n m e h
-fn_value-fits (of_add {p = p} {q = q} {n = n} {m = m} s) lit safe (more_beside {x = v} e (more_beside {x = w} h none_beside)) = sum-fits p q v w n m e h safe
-fn_value-fits (of_not {n = n}) lit safe (more_beside {x = v} e none_beside) = not-fits v n e
-fn_value-fits (of_between {ls = ls} {us = us} {p = p} {q = q} {r = r} {n = n} {m = m} {k = k} s x) lit safe (more_beside {x = v} e (more_beside {x = l} h (more_beside {x = u} d none_beside))) = between-fits ls us v l u p q r n m k e h d
-fn_value-fits (of_like {neg = neg} {ci = ci} {n = n} {m = m}) lit safe (more_beside {x = v} e (more_beside {x = w} h none_beside)) = like-fits neg ci v w n m e h
-fn_value-fits of_is_null lit safe (more_beside e none_beside) = refl
-fn_value-fits of_is_not_null lit safe (more_beside e none_beside) = refl
-fn_value-fits (of_mask {t = t}) lit safe (more_beside {x = v} e (more_beside {x = m} h none_beside)) = mask-fits t (is_true m) v e
-fn_value-fits (of_cast {u = u} s) lit safe (more_beside {x = v} e none_beside) = cast-fits u v safe
+fn_value-fits (of_select {sel = sel} {fs = fs} {n = n} e) lit safe (forall2_cons {x = v} h forall2_nil) = select-fits sel fs n v e h
+fn_value-fits (of_fill_null {t = t} {u = u} s) lit safe (forall2_cons {x = v} e (forall2_cons {x = w} h forall2_nil)) = fill-fits t u v w s safe e h
+fn_value-fits (of_zip {t = t} {u = u} s) lit safe (forall2_cons {x = v} e (forall2_cons {x = w} h (forall2_cons {x = m} d forall2_nil))) = zip-fits t u (is_true m) v w s e h
+fn_value-fits (of_comparison {c = c} {p = p} {q = q} {n = n} {m = m} s) lit safe (forall2_cons {x = v} e (forall2_cons {x = w} h forall2_nil)) = compared-fits c v w (atomic p) (atomic q) n m e h
+fn_value-fits (of_and {n = n} {m = m}) lit safe (forall2_cons {x = v} e (forall2_cons {x = w} h forall2_nil)) = and-fits v w n m e h
+fn_value-fits (of_or {n = n} {m = m}) lit safe (forall2_cons {x = v} e (forall2_cons {x = w} h forall2_nil)) = or-fits v w n m e h
+fn_value-fits (of_add {p = p} {q = q} {n = n} {m = m} s) lit safe (forall2_cons {x = v} e (forall2_cons {x = w} h forall2_nil)) = sum-fits p q v w n m e h safe
+fn_value-fits (of_not {n = n}) lit safe (forall2_cons {x = v} e forall2_nil) = not-fits v n e
+fn_value-fits (of_between {ls = ls} {us = us} {p = p} {q = q} {r = r} {n = n} {m = m} {k = k} s x) lit safe (forall2_cons {x = v} e (forall2_cons {x = l} h (forall2_cons {x = u} d forall2_nil))) = between-fits ls us v l u p q r n m k e h d
+fn_value-fits (of_like {neg = neg} {ci = ci} {n = n} {m = m}) lit safe (forall2_cons {x = v} e (forall2_cons {x = w} h forall2_nil)) = like-fits neg ci v w n m e h
+fn_value-fits of_is_null lit safe (forall2_cons e forall2_nil) = refl
+fn_value-fits of_is_not_null lit safe (forall2_cons e forall2_nil) = refl
+fn_value-fits (of_mask {t = t}) lit safe (forall2_cons {x = v} e (forall2_cons {x = m} h forall2_nil)) = mask-fits t (is_true m) v e
+fn_value-fits (of_cast {u = u} s) lit safe (forall2_cons {x = v} e forall2_nil) = cast-fits u v safe

@@ -2,7 +2,7 @@
 use Rattle.std.specs.Prelude.{Bool, true, false, Result, Ok, Err, IsTrue}
 use Rattle.vx_dtype.specs.declared.error.VortexError.{VortexError}
 use Rattle.vx_dtype.specs.declared.error.VortexError.TheVariants.{NoSuchField, BaseTypesDiffer}
-use Rattle.vx_value.specs.Answers.{Exactly}
+use Rattle.vx_value.specs.Returns.{Returns}
 use Rattle.vx_value.specs.Types.{LogicalType}
 use Rattle.vx_fn.specs.Functions.{Function, case_when, binary, logical_not, between, like, is_null, is_not_null, Typing}
 
@@ -30,4 +30,4 @@ is_early_refusal f (Err e) = is_early f e
 
 -- such a refusal is answered whatever the memory
 abbrev pub RefusesEarly : {A : Type 0} → Function → (A → LogicalType) → Result A VortexError → Typing → Type 0
-RefusesEarly f view result said = IsTrue (is_early_refusal f said) → Exactly view result said
+RefusesEarly f view result said = IsTrue (is_early_refusal f said) → Returns view result said

@@ -1,7 +1,7 @@
 -- Which names a selection keeps.
 use Rattle.std.specs.Prelude.{Bool, true, false, List, Result, Ok}
 use Rattle.vx_dtype.specs.declared.error.VortexError.{VortexError}
-use Rattle.vx_value.specs.Answers.{known_or}
+use Rattle.vx_value.specs.Returns.{known_or}
 use Rattle.vx_value.specs.Fields.{first_missing, names_without}
 use Rattle.vx_value.specs.Types.{Name}
 use Rattle.vx_fn.specs.declared.options.FieldSelection.{FieldSelection}

@@ -1,7 +1,7 @@
 // The names of a function's children.
 ghost use Rattle.std.specs.Prelude.{◌≡◌, ◌<◌, Ok, Some};
 ghost use Rattle.std.specs.Fmt.{WritesOnOk};
-ghost use Rattle.vx_value.specs.Answers.{Answers};
+ghost use Rattle.vx_value.specs.Returns.{ReturnsOrOom};
 ghost use Rattle.vx_fn.specs.ChildNames.{case_child_name, child_name_of, child_word};
 ghost use Rattle.vx_fn.specs.Functions.{arity_of};
 ghost use Rattle.vx_fn.specs.Views.{function_of};
@@ -80,7 +80,7 @@ impl ScalarFnRef {
     /// The name of the child at that place. Asks a place below the arity.
     pub fn child_name(&self, alloc: Global, index: usize) -> VortexResult<FieldName>
         requires { index < arity_of (function_of self.now) }
-        ensures { Answers (λ name. name) result (Ok (child_name_of (function_of self.now) index)) }
+        ensures { ReturnsOrOom (λ name. name) result (Ok (child_name_of (function_of self.now) index)) }
     {
         let name = ChildName {
             scalar_fn: self,

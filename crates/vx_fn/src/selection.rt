@@ -1,6 +1,6 @@
 // Which of the available names a selection keeps.
 ghost use Rattle.std.specs.Prelude.{◌≡◌, Ok, option_map};
-ghost use Rattle.vx_value.specs.Answers.{Answers};
+ghost use Rattle.vx_value.specs.Returns.{ReturnsOrOom};
 ghost use Rattle.vx_value.specs.Fields.{first_missing};
 ghost use Rattle.vx_fn.specs.Selections.{kept_names, normalized};
 
@@ -17,7 +17,7 @@ impl FieldSelection {
         alloc: Global,
         available: &FieldNames,
     ) -> VortexResult<FieldNames>
-        ensures { Answers (λ names. names) result (normalized self.now available.now) }
+        ensures { ReturnsOrOom (λ names. names) result (normalized self.now available.now) }
     {
         if let Some(missing) = first_missing(available, self.field_names()) {
             return Err(VortexError::NoSuchField(missing.clone()?));
@@ -28,7 +28,7 @@ impl FieldSelection {
     /// The same of names that are known to be available: what isn't is passed over. Refuses with
     /// `OutOfMemory` (1) alone.
     pub fn kept(&self, alloc: Global, available: &[FieldName]) -> VortexResult<FieldNames>
-        ensures { Answers (λ names. names) result (Ok (kept_names self.now available.now)) }
+        ensures { ReturnsOrOom (λ names. names) result (Ok (kept_names self.now available.now)) }
     {
         match self {
             FieldSelection::Include(names) => Ok(names.clone()?),

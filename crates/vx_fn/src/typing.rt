@@ -1,6 +1,6 @@
 // The number of a function's children, and the type of a node over their types.
 ghost use Rattle.std.specs.Prelude.{◌≡◌, ◌≢◌, ℕ, map, length, IsTrue, IfOk, IsErrOf};
-ghost use Rattle.vx_value.specs.Answers.{Answers, Exactly};
+ghost use Rattle.vx_value.specs.Returns.{ReturnsOrOom, Returns};
 ghost use Rattle.vx_value.specs.Views.{type_of};
 ghost use Rattle.vx_dtype.specs.declared.error.VortexError.TheVariants.{ArityMismatch};
 ghost use Rattle.vx_fn.specs.Functions.{fn_type, arity_of, HasFittingLiteral};
@@ -66,10 +66,10 @@ impl ScalarFnRef {
     /// `Between`, `Like`, `IsNull` and `IsNotNull`, and in place of another refusal only where that
     /// is `NoSuchField`, or `BaseTypesDiffer` of `CaseWhen`.
     pub fn return_dtype(&self, alloc: Global, types: &[DType]) -> VortexResult<DType>
-        ensures typed { Answers type_of result (fn_type (function_of self.now) (map type_of types.now)) }
+        ensures typed { ReturnsOrOom type_of result (fn_type (function_of self.now) (map type_of types.now)) }
         ensures literal { IfOk result (λ _. HasFittingLiteral (function_of self.now)) }
         ensures arity { length types.now ≢ arity_of (function_of self.now) → IsErrOf result (ArityMismatch (arity_of (function_of self.now)) (length types.now)) }
-        ensures in_place { IsTrue (is_typed_in_place (function_of self.now)) → Exactly type_of result (fn_type (function_of self.now) (map type_of types.now)) }
+        ensures in_place { IsTrue (is_typed_in_place (function_of self.now)) → Returns type_of result (fn_type (function_of self.now) (map type_of types.now)) }
         ensures early { RefusesEarly (function_of self.now) type_of result (fn_type (function_of self.now) (map type_of types.now)) }
     {
         self.dtype_over(alloc, types)
@@ -78,10 +78,10 @@ impl ScalarFnRef {
     /// The type of a node over these children, or its first refusal, as [`ScalarFnRef::return_dtype`]
     /// gives and refuses it over their types.
     pub fn dtype_over<T: Typed>(&self, alloc: Global, children: &[T]) -> VortexResult<DType>
-        ensures typed { Answers type_of result (fn_type (function_of self.now) (map T.dtype_of children.now)) }
+        ensures typed { ReturnsOrOom type_of result (fn_type (function_of self.now) (map T.dtype_of children.now)) }
         ensures literal { IfOk result (λ _. HasFittingLiteral (function_of self.now)) }
         ensures arity { length children.now ≢ arity_of (function_of self.now) → IsErrOf result (ArityMismatch (arity_of (function_of self.now)) (length children.now)) }
-        ensures in_place { IsTrue (is_typed_in_place (function_of self.now)) → Exactly type_of result (fn_type (function_of self.now) (map T.dtype_of children.now)) }
+        ensures in_place { IsTrue (is_typed_in_place (function_of self.now)) → Returns type_of result (fn_type (function_of self.now) (map T.dtype_of children.now)) }
         ensures early { RefusesEarly (function_of self.now) type_of result (fn_type (function_of self.now) (map T.dtype_of children.now)) }
     {
         let arity = self.arity();

@@ -3,7 +3,7 @@ use Rattle.std.proofs.Common.{◌≡◌, ap, inl, inr, refl, subst, sym}
 use Rattle.std.specs.Prelude.{◌⊎◌, Result, Ok, Err}
 use Rattle.vx_dtype.specs.declared.error.VortexError.{VortexError}
 use Rattle.vx_dtype.specs.declared.error.VortexError.TheVariants.{OutOfMemory}
-use Rattle.vx_dtype.specs.Answers.{Answers}
+use Rattle.vx_dtype.specs.Returns.{ReturnsOrOom}
 use Rattle.vx_value.specs.Columns.{Batch}
 use Rattle.vx_value.specs.Types.{LogicalType}
 use Rattle.vx_tree.specs.Binding.{binding}
@@ -28,8 +28,8 @@ application_refused e c s r is (inr h) = inr (ap (on_ok (λ b. evaluation b c)) 
 
 -- what the bound tree gives is what the source does
 pub application_evaluated : (e : Tree) (c : Batch) (s : LogicalType) (b : BoundTree) (result : Result Batch VortexError) → s ≡ c.type → WellTyped b → Over b s × (unbound b ≡ e)
-    → (Over b c.type → Answers (λ x. x) result (evaluation b c)) → Answers (λ x. x) result (application e c)
+    → (Over b c.type → ReturnsOrOom (λ x. x) result (evaluation b c)) → ReturnsOrOom (λ x. x) result (application e c)
 application_evaluated e c s b result is typed h answered =
     let over = subst (Over b) is h.0 in
     let bound : binding e c.type ≡ Ok b = subst (λ t. binding t c.type ≡ Ok b) h.1 (binding-unbound b c.type typed over) in
-    subst (Answers (λ x. x) result) (sym (ap (on_ok (λ b. evaluation b c)) bound)) (answered over)
+    subst (ReturnsOrOom (λ x. x) result) (sym (ap (on_ok (λ b. evaluation b c)) bound)) (answered over)

@@ -1,7 +1,7 @@
 -- What is given for a child, which may be the refusal of the call that was to make it.
 use Rattle.std.specs.Prelude.{List, [], ◌∷◌, Result, Ok}
 use Rattle.vx_dtype.specs.declared.error.VortexError.{VortexError}
-use Rattle.vx_dtype.specs.Answers.{Answers}
+use Rattle.vx_dtype.specs.Returns.{ReturnsOrOom}
 use Rattle.vx_tree.specs.Trees.{on_ok}
 
 -- what is given, seen by view
@@ -15,7 +15,7 @@ all_seen view (given ∷ rest) = on_ok (λ y. on_ok (λ ys. Ok (y ∷ ys)) (all_
 
 -- the call gave what is made of all that is given, or the first refusal among it, unless memory ran out
 abbrev pub GivesOver : {A B : Type 0} → (A → B) → (List B → Result B VortexError) → List (Result A VortexError) → Result A VortexError → Type 0
-GivesOver view over given result = Answers view result (on_ok over (all_seen view given))
+GivesOver view over given result = ReturnsOrOom view result (on_ok over (all_seen view given))
 
 -- the node of `zip`, whose mask is given first and stands last
 abbrev pub zip_over : {B : Type 0} → (List B → Result B VortexError) → List B → Result B VortexError

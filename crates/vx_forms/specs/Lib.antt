@@ -1,3 +1,6 @@
+pub mod Named
+pub mod Rows
+pub mod Fields
 pub mod Given
 pub mod Applied
 pub mod Collected

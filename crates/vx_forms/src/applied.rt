@@ -1,5 +1,5 @@
 // A source over a batch, in one call.
-ghost use Rattle.vx_dtype.specs.Answers.{Answers};
+ghost use Rattle.vx_dtype.specs.Returns.{ReturnsOrOom};
 ghost use Rattle.vx_tree.specs.Views.{tree_of};
 ghost use Rattle.vx_forms.specs.Applied.{application};
 
@@ -13,7 +13,7 @@ use vx_tree::{Column, Expression, VortexResult};
 /// Refuses as binding does (2 and 4 to 11), and else with the first fault (13 to 15), as `apply_bound`
 /// does, or with `OutOfMemory` (1).
 pub fn apply(alloc: Global, batch: &Column, expr: &Expression) -> VortexResult<Column>
-    ensures { Answers (λ c. c) result (application (tree_of expr.now) batch.now) }
+    ensures { ReturnsOrOom (λ c. c) result (application (tree_of expr.now) batch.now) }
 {
     let bound = expr.bind(alloc, batch.dtype())?;
     apply_bound(alloc, batch, &bound)

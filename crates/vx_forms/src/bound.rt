@@ -9,19 +9,19 @@ ghost use Rattle.vx_tree.specs.Views.{bound_of};
 ghost use Rattle.vx_build.specs.Collects.{CollectsBound};
 ghost use Rattle.vx_forms.specs.Collected.{CollectsGiven};
 
-use crate::Operand;
 pub use crate::choices::{case_when, case_when_no_else, mask, nested_case_when, zip_expr};
 pub use crate::fields::{get_item, pack, select, select_exclude};
+use crate::names::IntoFieldName;
 pub use crate::nulls::{fill_null, is_not_null, is_null};
-use crate::operands::trees_given;
+use crate::operands::{Operand, trees_given};
 pub use crate::operators::{
     and, between, binary, checked_add, eq, gt, gt_eq, lt, lt_eq, not, not_eq, or,
 };
+use crate::scalars::IntoScalar;
 pub use crate::texts::{ilike, like, not_ilike, not_like};
 pub use crate::values::cast;
 use std::alloc::Global;
 pub use vx_build::bound::root;
-use vx_forms_values::{IntoFieldName, IntoScalar};
 use vx_tree::{BoundExpression, DType, VortexResult};
 
 /// The first field of that name of a scope of that type. Refuses as the node does: `NotAStruct` (4),

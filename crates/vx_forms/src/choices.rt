@@ -5,8 +5,7 @@ ghost use Rattle.vx_fn.specs.Functions as function;
 ghost use Rattle.vx_fn.specs.Functions.{case_when};
 ghost use Rattle.vx_forms.specs.Given.{GivesOver, zip_over};
 
-use crate::Operand;
-use crate::operands::trees_given;
+use crate::operands::{Operand, trees_given};
 use std::alloc::{AllocError, Global};
 use vx_tree::{CaseWhenOptions, ScalarFnRef, TreeNode, VortexResult};
 

@@ -5,8 +5,7 @@ ghost use Rattle.vx_tree.specs.Views.{tree_of};
 ghost use Rattle.vx_build.specs.Collects.{CollectsTrees};
 ghost use Rattle.vx_forms.specs.Collected.{CollectsGiven};
 
-use crate::Operand;
-use crate::operands::trees_given;
+use crate::operands::{Operand, trees_given};
 use std::alloc::Global;
 use vx_tree::{Expression, VortexResult};
 

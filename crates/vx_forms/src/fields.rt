@@ -5,13 +5,12 @@ ghost use Rattle.vx_fn.specs.Functions.{get_item, pack, select};
 ghost use Rattle.vx_fn.specs.declared.options.FieldSelection.TheVariants.{Include, Exclude};
 ghost use Rattle.vx_tree.specs.Built.{GivesNode};
 ghost use Rattle.vx_tree.specs.Trees.{root, tree, no_tree};
-ghost use Rattle.vx_forms_values.specs.Named.{beside, named};
+ghost use Rattle.vx_forms.specs.Named.{beside, named};
 ghost use Rattle.vx_forms.specs.Given.{GivesOver};
 
-use crate::Operand;
-use crate::operands::trees_given;
+use crate::names::{IntoFieldName, IntoFieldNames, unzip_named};
+use crate::operands::{Operand, trees_given};
 use std::alloc::Global;
-use vx_forms_values::{IntoFieldName, IntoFieldNames, unzip_named};
 use vx_tree::{
     Expression, FieldNames, Nullability, PackOptions, ScalarFnRef, TreeNode, VortexResult,
 };

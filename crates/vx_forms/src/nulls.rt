@@ -3,7 +3,7 @@ ghost use Rattle.std.specs.Prelude.{[], ◌∷◌};
 ghost use Rattle.vx_fn.specs.Functions.{fill_null, is_null, is_not_null};
 ghost use Rattle.vx_forms.specs.Given.{GivesOver};
 
-use crate::Operand;
+use crate::operands::Operand;
 use std::alloc::Global;
 use vx_tree::{TreeNode, VortexResult};
 

@@ -1,7 +1,7 @@
 // What a child may be given as.
 ghost use Rattle.std.specs.Prelude.{◌≡◌, IfOk, Ok, Result, length, map};
 ghost use Rattle.vx_dtype.specs.declared.error.VortexError.{VortexError};
-ghost use Rattle.vx_dtype.specs.Answers.{Answers};
+ghost use Rattle.vx_dtype.specs.Returns.{ReturnsOrOom};
 ghost use Rattle.vx_forms.specs.Given.{all_seen, seen_as};
 
 use std::alloc::Global;
@@ -15,7 +15,7 @@ pub trait Operand<T: TreeNode>: Drop + Sized {
 
     /// The tree. Refuses as the call did, and with `OutOfMemory` (1).
     fn into_tree(self) -> VortexResult<T>
-        ensures { Answers T.seen result (seen_as T.seen (given self)) };
+        ensures { ReturnsOrOom T.seen result (seen_as T.seen (given self)) };
 }
 
 impl Operand<Expression> for Expression {
@@ -72,7 +72,7 @@ pub(crate) fn trees_given<T: TreeNode, O: Operand<T>>(
     operands: Vec<O>,
 ) -> VortexResult<Vec<T>>
     ensures count { IfOk result (λ trees. length trees.items ≡ length operands.items) }
-    ensures trees { Answers (λ trees. map T.seen trees.items) result (all_seen T.seen (map O.given operands.items)) }
+    ensures trees { ReturnsOrOom (λ trees. map T.seen trees.items) result (all_seen T.seen (map O.given operands.items)) }
 {
     let mut trees = Vec::with_capacity(alloc, operands.len())?;
     for operand in operands {

@@ -4,7 +4,7 @@ ghost use Rattle.vx_fn.specs.Functions.{binary, logical_not, between, compares, 
 ghost use Rattle.vx_fn.specs.Views.{operation_of, is_strict};
 ghost use Rattle.vx_forms.specs.Given.{GivesOver};
 
-use crate::Operand;
+use crate::operands::Operand;
 use std::alloc::Global;
 use vx_tree::{BetweenOptions, Operator, TreeNode, VortexResult};
 

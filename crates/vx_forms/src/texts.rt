@@ -3,7 +3,7 @@ ghost use Rattle.std.specs.Prelude.{true, false, [], ◌∷◌};
 ghost use Rattle.vx_fn.specs.Functions.{like};
 ghost use Rattle.vx_forms.specs.Given.{GivesOver};
 
-use crate::Operand;
+use crate::operands::Operand;
 use std::alloc::Global;
 use vx_tree::{TreeNode, VortexResult};
 

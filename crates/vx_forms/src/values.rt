@@ -6,9 +6,9 @@ ghost use Rattle.vx_tree.specs.Built.{GivesNode};
 ghost use Rattle.vx_tree.specs.Trees.{no_tree};
 ghost use Rattle.vx_forms.specs.Given.{GivesOver};
 
-use crate::Operand;
+use crate::operands::Operand;
+use crate::scalars::IntoScalar;
 use std::alloc::Global;
-use vx_forms_values::IntoScalar;
 use vx_tree::{DType, Expression, TreeNode, VortexResult};
 
 /// The value, whatever the row, as `lit(alloc, 5)`, `lit(alloc, "a")` or `lit(alloc, None::<i32>)`.

@@ -2,7 +2,7 @@
 use Rattle.std.proofs.Common.{◌≡◌, ◌⊎◌, inl, inr, List, [], ◌∷◌, map, refl, sym, ap, ◌∙◌, Bool, true, false, Option, Some, None, Result, Ok, Err}
 use Rattle.std.specs.Prelude.{◌↔◌, IsErr, IsSome, MatchResult}
 use Rattle.std.specs.Option.{option_or}
-use Rattle.vx_dtype.specs.Answers.{Answers}
+use Rattle.vx_dtype.specs.Returns.{ReturnsOrOom}
 use Rattle.vx_dtype.specs.declared.error.VortexError.{VortexError}
 use Rattle.vx_dtype.specs.declared.error.VortexError.TheVariants.{OutOfMemory}
 use Rattle.vx_value.specs.Columns.{Batch, batch}
@@ -63,13 +63,13 @@ own_is_first b rows o quiet first =
     sym parts ∙ first
 
 -- what is evaluated over quiet children is seen, or the node faults
-pub applied : (b : BoundTree) (c : Batch) (r : Result Batch VortexError) → WellTyped b → Over b c.type → each_fault (bound_children_of b) c.rows ≡ None → Answers (λ x. x) r (evaluation b c) → SaysOrFaults (λ x. IsSeen c.rows b (Some x)) c.rows b r
+pub applied : (b : BoundTree) (c : Batch) (r : Result Batch VortexError) → WellTyped b → Over b c.type → each_fault (bound_children_of b) c.rows ≡ None → ReturnsOrOom (λ x. x) r (evaluation b c) → SaysOrFaults (λ x. IsSeen c.rows b (Some x)) c.rows b r
 applied b c (Ok out) typed over quiet says = evaluated b c out typed over says
 applied b c (Err e) typed over quiet (inl m) = inl m
 applied b c (Err e) typed over quiet (inr q) = inr (own_is_first b c.rows (Some e) quiet (fails b c e q))
 
 -- where nothing faults evaluation gives the column, unless memory runs out
-pub applied_quiet : (b : BoundTree) (c : Batch) (r : Result Batch VortexError) → WellTyped b → Over b c.type → HasNoFault b c.rows → Answers (λ x. x) r (evaluation b c) → MatchResult r (λ x. x ≡ column_of b c.rows) (λ e. e ≡ OutOfMemory)
+pub applied_quiet : (b : BoundTree) (c : Batch) (r : Result Batch VortexError) → WellTyped b → Over b c.type → HasNoFault b c.rows → ReturnsOrOom (λ x. x) r (evaluation b c) → MatchResult r (λ x. x ≡ column_of b c.rows) (λ e. e ≡ OutOfMemory)
 applied_quiet b c (Ok out) typed over quiet says = (evaluated b c out typed over says).1
 applied_quiet b c (Err e) typed over quiet (inl m) = m
 applied_quiet b c (Err e) typed over quiet (inr q) = let f = fails b c e q in cc

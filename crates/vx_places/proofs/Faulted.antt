@@ -13,7 +13,7 @@ use Rattle.vx_tree.specs.Views.{bound_of, bounds_of}
 use Rattle.vx_tree.proofs.Children.{bounds_end}
 use Rattle.vx_places.specs.Faults.{IsFirstFault, here, below, IsFirstFaultIn, this_one, later_one}
 use Rattle.vx_places.specs.Nodes.{node_at}
-use Rattle.vx_places.specs.Walked.{own_fault, IsSeen, AreSeen, Leads, SaysOrFaults}
+use Rattle.vx_places.specs.Walked.{own_fault, IsSeen, AreSeen, LeadsToNode, SaysOrFaults}
 use Rattle.vx_places.proofs.Places.{at_node}
 
 mutual
@@ -47,7 +47,7 @@ faults_below rows (scope t) i rest r h = elim h [ ]
 faults_below rows (node t f bs) i rest r h = below h
 
 -- where its children are quiet the node is the place of what it is refused with
-pub valued_at : {C : Type 0} (Says : C → Type 0) (rows : List Datum) (b : BoundTree) (old new : List ℕ) (r : Result C VortexError) → new ≡ old → each_fault (bound_children_of b) rows ≡ None → SaysOrFaults Says rows b r → Leads (IsFirstFault rows b) old r new
+pub valued_at : {C : Type 0} (Says : C → Type 0) (rows : List Datum) (b : BoundTree) (old new : List ℕ) (r : Result C VortexError) → new ≡ old → each_fault (bound_children_of b) rows ≡ None → SaysOrFaults Says rows b r → LeadsToNode (IsFirstFault rows b) old r new
 valued_at Says rows b old new (Ok x) same quiet h = same
 valued_at Says rows b old new (Err e) same quiet h = at_node (IsFirstFault rows b) (own_fault b rows ≡ Some e) old new e same (faults_here rows b e quiet) h
 

@@ -8,7 +8,7 @@ use Rattle.std.proofs.lemmas.Fmt.{decimal_injective}
 use Rattle.std.proofs.lemmas.List.{length-map, get_or-map}
 use Rattle.std.proofs.lemmas.List.FromFn.{length-map-range_with_len, map-range_with_len_more}
 use Rattle.vx_dtype.proofs.NameTests.{own_name, other_name}
-use Rattle.vx_dtype.specs.Answers.{Answers}
+use Rattle.vx_dtype.specs.Returns.{ReturnsOrOom}
 use Rattle.vx_dtype.specs.declared.error.VortexError.{VortexError}
 use Rattle.vx_dtype.specs.declared.error.VortexError.TheVariants.{OutOfMemory}
 use Rattle.vx_value.proofs.StructRows.{struct_rows-each}
@@ -195,7 +195,7 @@ module _ (bs : BoundTrees) (small : length (node_types bs) ≤ 2 ^ 64) where
         (rw (quiet, own) refl, seen.1 ∙ ap (batch t) (same_column rows))
 
     -- what the node gives over structs of its children's values is seen of the node over its children
-    pub over_holes : (rows : List Datum) (r : Result Batch VortexError) → WellTyped (node t f bs) → each_fault bs rows ≡ None → Answers (λ x. x) r (evaluation (node t f (holes_for bs)) (structs_of bs rows)) →
+    pub over_holes : (rows : List Datum) (r : Result Batch VortexError) → WellTyped (node t f bs) → each_fault bs rows ≡ None → ReturnsOrOom (λ x. x) r (evaluation (node t f (holes_for bs)) (structs_of bs rows)) →
         SaysOrFaults (λ x. IsSeen rows (node t f bs) (Some x)) rows (node t f bs) r
     over_holes rows r w quiet says = go r (applied (node t f (holes_for bs)) (structs_of bs rows) r (over_typed w) over_over (holes_quiet (indexed_type (node_types bs)) 0 (node_types bs) (map (struct_for bs) rows)) says)
       where
@@ -221,15 +221,15 @@ module _ (b n : BoundTree) (f : Function) (small : length (node_types (bound_chi
   pub holed_typed : WellTyped n
   holed_typed = subst WellTyped (sym is) (over_typed (bound_children_of b) small (node_type b) f whole_typed)
 
-  pub holed_says : (rows : List Datum) (structs : Batch) (r : Result Batch VortexError) → structs ≡ structs_of (bound_children_of b) rows → each_fault (bound_children_of b) rows ≡ None → (Over n structs.type → Answers (λ x. x) r (evaluation n structs)) →
+  pub holed_says : (rows : List Datum) (structs : Batch) (r : Result Batch VortexError) → structs ≡ structs_of (bound_children_of b) rows → each_fault (bound_children_of b) rows ≡ None → (Over n structs.type → ReturnsOrOom (λ x. x) r (evaluation n structs)) →
       SaysOrFaults (λ x. IsSeen rows b (Some x)) rows b r
   holed_says rows structs r are quiet meaning =
       let bs = bound_children_of b in
       let t = node_type b in
       let all_over : Over (node t f (holes_for bs)) structs.type = subst (λ (y : Batch). Over (node t f (holes_for bs)) y.type) (sym are) (over_over bs small t f) in
       let over : Over n structs.type = subst (λ x. Over x structs.type) (sym is) all_over in
-      let says : Answers (λ x. x) r (evaluation (node t f (holes_for bs)) structs) = subst (λ x. Answers (λ x. x) r (evaluation x structs)) is (meaning over) in
-      let of_structs : Answers (λ x. x) r (evaluation (node t f (holes_for bs)) (structs_of bs rows)) = subst (λ y. Answers (λ x. x) r (evaluation (node t f (holes_for bs)) y)) are says in
+      let says : ReturnsOrOom (λ x. x) r (evaluation (node t f (holes_for bs)) structs) = subst (λ x. ReturnsOrOom (λ x. x) r (evaluation x structs)) is (meaning over) in
+      let of_structs : ReturnsOrOom (λ x. x) r (evaluation (node t f (holes_for bs)) (structs_of bs rows)) = subst (λ y. ReturnsOrOom (λ x. x) r (evaluation (node t f (holes_for bs)) y)) are says in
       subst (λ x. SaysOrFaults (λ y. IsSeen rows x (Some y)) rows x r) (sym whole) (over_holes bs small t f rows r whole_typed quiet of_structs)
 
 -- ---- the columns of children, joined
@@ -259,10 +259,10 @@ columns_joined bs rows =
     rw (columns_long bs rows, types_of_columns bs rows, structs) refl
 
 pub joined : (bs : BoundTrees) (rows : List Datum) (names : List Name) (cs : List Batch) (n : ℕ) (r : Result Batch VortexError) → names ≡ names_from 0 (length (node_types bs)) → cs ≡ columns_of bs rows → n ≡ length rows →
-    Answers (λ x. x) r (struct_column names cs n false) → MatchResult r (λ x. x ≡ structs_of bs rows) (λ e. e ≡ OutOfMemory)
+    ReturnsOrOom (λ x. x) r (struct_column names cs n false) → MatchResult r (λ x. x ≡ structs_of bs rows) (λ e. e ≡ OutOfMemory)
 joined bs rows names cs n r named are long says = go r (rw (named, are, long, columns_joined bs rows) at says)
   where
-    go : (r : Result Batch VortexError) → Answers (λ x. x) r (Ok (structs_of bs rows)) → MatchResult r (λ x. x ≡ structs_of bs rows) (λ e. e ≡ OutOfMemory)
+    go : (r : Result Batch VortexError) → ReturnsOrOom (λ x. x) r (Ok (structs_of bs rows)) → MatchResult r (λ x. x ≡ structs_of bs rows) (λ e. e ≡ OutOfMemory)
     go (Ok x) h = cc
     go (Err e) (inl m) = m
     go (Err e) (inr q) = cc

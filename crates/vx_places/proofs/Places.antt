@@ -6,7 +6,7 @@ use Rattle.vx_dtype.specs.declared.error.VortexError.{VortexError}
 use Rattle.vx_dtype.specs.declared.error.VortexError.TheVariants.{OutOfMemory}
 use Rattle.vx_tree.specs.Pushed.{Pushes}
 use Rattle.vx_places.specs.declared.place.Place.{Place}
-use Rattle.vx_places.specs.Walked.{Leads, IsPlaced}
+use Rattle.vx_places.specs.Walked.{LeadsToNode, IsPlaced}
 
 -- ---- a path on the way back
 
@@ -32,7 +32,7 @@ at_node At F old new r same is (inr f) = inr ([], same ∙ sym (append-nil old),
 
 -- what the node pushes keeps the path, or is refused there
 pub pushed_at : {A B C : Type 0} (view : A → B) (At : List ℕ → VortexError → Type 0) (old new : List ℕ) (xs ys : List A) (r : Result C VortexError) (said : Result B VortexError) →
-    new ≡ old → ((e : VortexError) → said ≡ Err e → At [] e) → Pushes view xs r said ys → Leads At old r new
+    new ≡ old → ((e : VortexError) → said ≡ Err e → At [] e) → Pushes view xs r said ys → LeadsToNode At old r new
 pushed_at view At old new xs ys (Ok x) said same is h = same
 pushed_at view At old new xs ys (Err e) said same is h = at_node At (said ≡ Err e) old new e same (is e) h
 

@@ -16,8 +16,8 @@ abbrev pub Adds : {A B : Type 0} → (A → B) → List A → Result B VortexErr
 Adds {A = A} view old said new = (x : A) × (new ≡ old ++ x ∷ []) × (said ≡ Ok (view x))
 
 -- where the call succeeds the path is as it was; where it is refused the path goes on from there to the place, unless memory ran out
-abbrev pub Leads : {A : Type 0} → (List ℕ → VortexError → Type 0) → List ℕ → Result A VortexError → List ℕ → Type 0
-Leads IsPlace old result new = MatchResult result (λ _. new ≡ old) (λ e. (e ≡ OutOfMemory) ⊎ ((rest : List ℕ) × (new ≡ old ++ rest) × IsPlace rest e))
+abbrev pub LeadsToNode : {A : Type 0} → (List ℕ → VortexError → Type 0) → List ℕ → Result A VortexError → List ℕ → Type 0
+LeadsToNode IsPlace old result new = MatchResult result (λ _. new ≡ old) (λ e. (e ≡ OutOfMemory) ⊎ ((rest : List ℕ) × (new ≡ old ++ rest) × IsPlace rest e))
 
 -- the same of a place that lies at or below one of some children
 abbrev pub LeadsBelow : {A : Type 0} → (ℕ → List ℕ → VortexError → Type 0) → List ℕ → Result A VortexError → List ℕ → Type 0

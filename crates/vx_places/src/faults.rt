@@ -7,7 +7,7 @@ ghost use Rattle.vx_tree.specs.Views.{bound_of, bounds_of};
 ghost use Rattle.vx_eval.specs.Evaluation.{evaluation};
 ghost use Rattle.vx_places.specs.Nodes.{node_at};
 ghost use Rattle.vx_places.specs.Faults.{IsFirstFault, IsFirstFaultIn};
-ghost use Rattle.vx_places.specs.Walked.{AreSeen, AddsSeen, Leads, LeadsBelow};
+ghost use Rattle.vx_places.specs.Walked.{AreSeen, AddsSeen, LeadsToNode, LeadsBelow};
 
 use crate::place::{Place, placed};
 use crate::values::{push_none, push_value};
@@ -89,7 +89,7 @@ fn push_seen(
     requires typed { WellTyped (bound_of b.now) }
     requires over { Over (bound_of b.now) batch.now.type }
     ensures seen { OnOk result (AddsSeen batch.now.rows (bound_of b.now) columns.old.items columns.new.items) }
-    ensures place { Leads (IsFirstFault batch.now.rows (bound_of b.now)) path.old.items result path.new.items }
+    ensures place { LeadsToNode (IsFirstFault batch.now.rows (bound_of b.now)) path.old.items result path.new.items }
 {
     match b {
         BoundExpression::Root { .. } => push_none(columns),

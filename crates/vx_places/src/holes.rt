@@ -1,7 +1,7 @@
 // A node over structs of its children's values: each child is a hole, which takes its value out.
 ghost use Rattle.std.specs.Prelude.{◌≡◌, ◌<◌, ◌^◌, length, Ok, Some, MatchResult};
 ghost use Rattle.std.specs.Fmt.{decimal};
-ghost use Rattle.vx_dtype.specs.Answers.{Answers};
+ghost use Rattle.vx_dtype.specs.Returns.{ReturnsOrOom};
 ghost use Rattle.vx_dtype.specs.declared.error.VortexError.TheVariants.{OutOfMemory};
 ghost use Rattle.vx_value.specs.Views.{type_of};
 ghost use Rattle.vx_fn.specs.Views.{function_of};
@@ -101,7 +101,7 @@ fn column_or_values(
 
 // So many indices as names.
 fn indices(alloc: Global, count: usize) -> VortexResult<FieldNames>
-    ensures names { Answers (λ names. names) result (Ok (names_from 0 count)) }
+    ensures names { ReturnsOrOom (λ names. names) result (Ok (names_from 0 count)) }
     ensures few { count < 2 ^ 64 }
 {
     let mut names = Vec::with_capacity(alloc, count)?;
@@ -113,7 +113,7 @@ fn indices(alloc: Global, count: usize) -> VortexResult<FieldNames>
 
 // The index as a name.
 fn index_name(alloc: Global, index: usize) -> VortexResult<FieldName>
-    ensures { Answers (λ name. name) result (Ok (decimal index)) }
+    ensures { ReturnsOrOom (λ name. name) result (Ok (decimal index)) }
 {
     let text = format!(in alloc; "{index}")?;
     FieldName::new(alloc, text.as_str())
@@ -129,7 +129,7 @@ fn node_over_holes(
     scope: &DType,
 ) -> VortexResult<BoundExpression>
     requires { length names.now ≡ length (node_types (bound_children_of (bound_of b.now))) }
-    ensures { Answers bound_of result (Ok (node (node_type (bound_of b.now)) (function_of scalar_fn.now) (holes (type_of scope.now) names.now (node_types (bound_children_of (bound_of b.now)))))) }
+    ensures { ReturnsOrOom bound_of result (Ok (node (node_type (bound_of b.now)) (function_of scalar_fn.now) (holes (type_of scope.now) names.now (node_types (bound_children_of (bound_of b.now)))))) }
 {
     let holes = holes(alloc, scope, names.as_slice(), b.children())?;
     let dtype = b.dtype().clone()?;
@@ -144,7 +144,7 @@ fn holes(
     children: &[BoundExpression],
 ) -> VortexResult<Vec<BoundExpression>>
     requires { length names.now ≡ length children.now }
-    ensures { Answers (λ nodes. bounds_of nodes.items) result (Ok (holes (type_of scope.now) names.now (node_types (bounds_of children.now)))) }
+    ensures { ReturnsOrOom (λ nodes. bounds_of nodes.items) result (Ok (holes (type_of scope.now) names.now (node_types (bounds_of children.now)))) }
 {
     let mut nodes = Vec::with_capacity(alloc, children.len())?;
     for i in 0..children.len() {
@@ -160,7 +160,7 @@ fn hole(
     name: &FieldName,
     dtype: &DType,
 ) -> VortexResult<BoundExpression>
-    ensures { Answers bound_of result (Ok (hole (type_of scope.now) name.now (type_of dtype.now))) }
+    ensures { ReturnsOrOom bound_of result (Ok (hole (type_of scope.now) name.now (type_of dtype.now))) }
 {
     let mut children = Vec::with_capacity(alloc, 1)?;
     children.push(BoundExpression::new_root(scope.clone()?))?;

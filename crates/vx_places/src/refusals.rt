@@ -9,7 +9,7 @@ ghost use Rattle.vx_tree.specs.Trees.{root, typed, each_typed};
 ghost use Rattle.vx_tree.specs.Views.{tree_of, trees_of};
 ghost use Rattle.vx_places.specs.Nodes.{node_at};
 ghost use Rattle.vx_places.specs.Refusals.{IsFirstRefusal, IsFirstRefusalIn};
-ghost use Rattle.vx_places.specs.Walked.{Adds, Leads, LeadsBelow};
+ghost use Rattle.vx_places.specs.Walked.{Adds, LeadsToNode, LeadsBelow};
 
 use crate::place::{Place, placed};
 use std::alloc::Global;
@@ -70,7 +70,7 @@ fn push_type(
     types: &mut Vec<DType>,
 ) -> VortexResult<()>
     ensures types { OnOk result (Adds type_of types.old.items (typed (tree_of e.now) (type_of scope.now)) types.new.items) }
-    ensures place { Leads (IsFirstRefusal (type_of scope.now) (tree_of e.now)) path.old.items result path.new.items }
+    ensures place { LeadsToNode (IsFirstRefusal (type_of scope.now) (tree_of e.now)) path.old.items result path.new.items }
 {
     match e {
         Expression::Root => push_scope(scope, types),

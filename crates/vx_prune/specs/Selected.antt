@@ -9,9 +9,9 @@ use Rattle.vx_fn.specs.Values.{is_true}
 use Rattle.vx_tree.specs.Faults.{HasNoFault}
 use Rattle.vx_tree.specs.Meaning.{mean}
 use Rattle.vx_tree.specs.Trees.{Tree, BoundTree, node_type}
-use Rattle.vx_rewrite_keep.specs.Keeps.{Keeps}
+use Rattle.vx_rewrite_core.specs.Keeps.{Keeps}
 use Rattle.vx_query_split.specs.Sources.{IsBound}
-use Rattle.vx_prune_stats.specs.Stats.{Facts, Describes}
+use Rattle.vx_prune_tree.specs.Stats.{Facts, Describes}
 use Rattle.vx_prune_tree.specs.Verdicts.{verdict_in}
 use Rattle.vx_prune_tree.specs.declared.verdicts.Verdict.TheVariants.{Unknown}
 

@@ -1,9 +1,12 @@
-// What a scan asks before it reads a chunk: by its statistics, can a predicate be true there?
+// Which chunks can be skipped: predicates planned and selected by statistics, and statistics read from files.
 #![tactic(auto)]
 
+mod chunk_records;
+mod places;
+mod record_type;
 mod selected;
 
+pub use chunk_records::ChunkRecords;
 pub use selected::select_rows;
 pub use vx_prune_bounds::{Bounds, Endpoint, Truths};
-pub use vx_prune_stats::{ChunkStats, FieldStats};
-pub use vx_prune_tree::{Verdict, bounds, verdict};
+pub use vx_prune_tree::{ChunkStats, FieldStats, Verdict, bounds, verdict};

@@ -3,20 +3,19 @@ ghost use Rattle.std.specs.Prelude.{◌≡◌, ◌≢◌, IsErrOf, IfErr, IfOk, 
 ghost use Rattle.vx_dtype.specs.declared.error.VortexError.TheVariants.{NotBool, OutOfMemory, ScopeMismatch};
 ghost use Rattle.vx_fn.specs.Functions.{is_truth};
 ghost use Rattle.vx_fn.specs.Values.{is_true};
-ghost use Rattle.vx_scan_kept.specs.Readers.{AreJust};
+ghost use Rattle.vx_projection.specs.Readers.{AreJust};
 ghost use Rattle.vx_tree.specs.Trees.{node_type};
 ghost use Rattle.vx_tree.specs.Views.{bound_of};
 ghost use Rattle.vx_value.specs.Paths.{minimal_paths};
 ghost use Rattle.vx_value.specs.Views.{type_of, value_of};
-ghost use Rattle.vx_prune_stats.specs.Stats.{Describes};
+ghost use Rattle.vx_prune_tree.specs.Stats.{Describes};
 ghost use Rattle.vx_prune.specs.Selected.{IsRefusedWhereUnsure, IsSureWithout, Selected, SelectsRows};
 
 use std::alloc::Global;
-use vx_eval_mask::RowMask;
-use vx_prune_stats::ChunkStats;
-use vx_prune_tree::{Verdict, verdict};
+use vx_eval_masks::RowMask;
+use vx_projection::PathReader;
+use vx_prune_tree::{ChunkStats, Verdict, verdict};
 use vx_scan::{ScanPlan, scan};
-use vx_scan_kept::PathReader;
 use vx_types::{Column, DType, Value, VortexError, VortexResult};
 
 /// The rows of the reader's batch at which the plan's source is true, null taken as false. Nothing is

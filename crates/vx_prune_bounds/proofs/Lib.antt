@@ -5,3 +5,9 @@ pub mod Lattice
 pub mod Sounds
 pub mod Sums
 pub mod Monotone
+pub mod Bytes
+pub mod Fixed
+pub mod Orders
+pub mod Texts
+pub mod Likeness
+pub mod LikeMonotone

@@ -4,7 +4,7 @@ use Rattle.std.specs.Prelude.{ℤ, ◌+ℤ◌, ◌≤ℤ◌, Option, Some, None,
 use Rattle.std.specs.Int.{saturate_to_bits}
 use Rattle.std.proofs.lemmas.Bool.{and_parts, and_from, or_left, or_right}
 use Rattle.std.proofs.lemmas.Int.{ints}
-use Rattle.vx_dtype.specs.Lists.{Beside, none_beside, more_beside}
+use Rattle.vx_dtype.specs.Lists.{Forall2, forall2_nil, forall2_cons}
 use Rattle.vx_value.specs.Types.{Datum, null, bool, int}
 use Rattle.vx_fn.specs.Functions.{Operation, compares, and_also, or_else, adds, Comparison, equal, not_equal, greater, greater_or_equal, less, less_or_equal}
 use Rattle.vx_fn.specs.Values.{bound_comparison}
@@ -280,10 +280,10 @@ choice-mono s s' x x' y y' d e f =
 pub mask-mono : (x x' : Bounds) (s s' : Truths) → IsWithin x x' → AreWithin s s' → IsWithin (mask_bounds x s) (mask_bounds x' s')
 mask-mono x x' s s' e d = choice-mono s s' x x' (exactly null) (exactly null) d e (within-refl (exactly null) (exactly-proper null))
 
-pub case-mono : {bs bs' : List Bounds} → Beside IsWithin bs bs' → IsWithin (case_bounds bs) (case_bounds bs')
-case-mono none_beside = within-refl (exactly null) (exactly-proper null)
-case-mono (more_beside e none_beside) = e
-case-mono (more_beside {x = c} {y = c'} d (more_beside {x = x} {y = x'} {xs = bs} {ys = bs'} e rest)) =
+pub case-mono : {bs bs' : List Bounds} → Forall2 IsWithin bs bs' → IsWithin (case_bounds bs) (case_bounds bs')
+case-mono forall2_nil = within-refl (exactly null) (exactly-proper null)
+case-mono (forall2_cons e forall2_nil) = e
+case-mono (forall2_cons {x = c} {y = c'} d (forall2_cons {x = x} {y = x'} {xs = bs} {ys = bs'} e rest)) =
     choice-mono (truths_in c) (truths_in c') x x' (case_bounds bs) (case_bounds bs') (truths_in-mono c c' d) e (case-mono rest)
 
 pub null-mono : (x x' : Bounds) → IsWithin x x' → AreWithin (null_truths x) (null_truths x')

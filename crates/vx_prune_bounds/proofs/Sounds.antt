@@ -6,7 +6,7 @@ use Rattle.std.specs.declared.cmp.Ordering.TheVariants.{Less, Equal, Greater}
 use Rattle.std.specs.List.{list_all}
 use Rattle.std.specs.Ordering.{is_le, is_lt, is_gt, is_ge, is_ne, ordering_reverse}
 use Rattle.std.proofs.lemmas.Bool.{and_parts, and_from, or_left, or_right}
-use Rattle.vx_dtype.specs.Lists.{Beside, none_beside, more_beside}
+use Rattle.vx_dtype.specs.Lists.{Forall2, forall2_nil, forall2_cons}
 use Rattle.vx_value.specs.Fits.{Fits, EachFits}
 use Rattle.vx_value.specs.Types.{truth, LogicalType, ty, atomic, Datum, null, bool, int, utf8, bytes, list_of, struct_of, is_null_datum}
 use Rattle.vx_fn.specs.Functions.{Comparison, equal, not_equal, greater, greater_or_equal, less, less_or_equal, conditions, is_truth}
@@ -271,10 +271,10 @@ condition-sound : (b : Bounds) (m : Datum) (t : LogicalType) → is_truth t ≡ 
 condition-sound b m (ty (atomic truth) n) e f h = truths_in-sound b m n f h
 condition-sound b m _ e f h = cc
 
-pub case-sound : {bs : List Bounds} {vs : List Datum} {ts : List LogicalType} → Beside Contains bs vs → EachFits vs ts → list_all is_truth (conditions ts) ≡ true → Contains (case_bounds bs) (first_true vs)
-case-sound none_beside none_beside c = contains-exactly null
-case-sound (more_beside h none_beside) (more_beside f none_beside) c = h
-case-sound (more_beside {x = b} {y = m} h (more_beside {x = x} {y = v} {xs = bs} {ys = vs} k hs)) (more_beside {y = t} f (more_beside g fs)) c =
+pub case-sound : {bs : List Bounds} {vs : List Datum} {ts : List LogicalType} → Forall2 Contains bs vs → EachFits vs ts → list_all is_truth (conditions ts) ≡ true → Contains (case_bounds bs) (first_true vs)
+case-sound forall2_nil forall2_nil c = contains-exactly null
+case-sound (forall2_cons h forall2_nil) (forall2_cons f forall2_nil) c = h
+case-sound (forall2_cons {x = b} {y = m} h (forall2_cons {x = x} {y = v} {xs = bs} {ys = vs} k hs)) (forall2_cons {y = t} f (forall2_cons g fs)) c =
     let p = and_parts _ _ c in
     choice-sound (truths_in b) x (case_bounds bs) m v (first_true vs) (condition-sound b m t p.0 f h) (λ _. k) (λ _. case-sound hs fs p.1)
 

@@ -5,3 +5,4 @@ pub mod Comparing
 pub mod Kernels
 pub mod Views
 pub mod Laws
+pub mod Beginnings

@@ -1,13 +1,14 @@
-// What is known of a value, for pruning: its order, bounds, and what functions give of values
-// within bounds.
+// Bounds of values and what functions give of them, LIKE among them.
 #![tactic(auto)]
 
+mod beginning;
 mod bounds;
 mod comparing;
 mod endpoint;
 mod joins;
 mod kernels;
 mod laws;
+mod like;
 mod shown;
 mod truths;
 
@@ -19,4 +20,5 @@ pub use laws::{
     bounds_are_ordered, join_is_the_narrowest_around_both, meet_is_the_widest_within_both,
     values_are_bounds, wider_bounds_contain_more,
 };
+pub use like::like_truths;
 pub use truths::Truths;

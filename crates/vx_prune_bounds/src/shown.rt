@@ -1,5 +1,6 @@
 // The texts of ends and of bounds.
-use crate::{Bounds, Endpoint};
+use crate::bounds::Bounds;
+use crate::endpoint::Endpoint;
 use std::fmt;
 use std::fmt::{Display, Formatter, Write};
 

@@ -11,8 +11,8 @@ use Rattle.vx_fn.specs.Rows.{FnType, of_get_item}
 use Rattle.vx_fn.specs.Values.{item_value}
 use Rattle.vx_tree.specs.Meaning.{value}
 use Rattle.vx_tree.specs.Trees.{BoundTree, scope, node, no_bound, bound, node_type, WellTyped, Over}
-use Rattle.vx_prune_stats.proofs.Paths.{at_path-null}
-use Rattle.vx_prune_stats.specs.Stats.{at_path, in_known}
+use Rattle.vx_prune_tree.proofs.StatisticsPaths.{at_path-null}
+use Rattle.vx_prune_tree.specs.Stats.{at_path, in_known}
 use Rattle.vx_prune_tree.specs.Bounding.{path_to}
 
 -- nullability doesn't matter to a path

@@ -14,7 +14,7 @@ use Rattle.vx_tree.specs.Trees.{BoundTree, unbound, node_type, WellTyped}
 use Rattle.vx_prune_bounds.specs.Bounds.{Bounds, contains, Contains}
 use Rattle.vx_prune_bounds.specs.declared.truths.Truths.{Truths}
 use Rattle.vx_prune_bounds.specs.Truths.{truths_in, may_fail}
-use Rattle.vx_prune_stats.specs.Stats.{Facts}
+use Rattle.vx_prune_tree.specs.Stats.{Facts}
 use Rattle.vx_prune_tree.proofs.Holding.{bounds-hold}
 use Rattle.vx_prune_tree.specs.Bounding.{bounds_in}
 use Rattle.vx_prune_tree.specs.Verdicts.{verdict_of, verdict_in, IsTrueVerdict, VerdictHolds}

@@ -5,7 +5,7 @@ use Rattle.std.proofs.lemmas.Bool.{and_from, and_parts}
 use Rattle.vx_value.specs.Fields.{field_value}
 use Rattle.vx_value.specs.Fits.{Fits, EachFits}
 use Rattle.vx_value.specs.Types.{Name, LogicalType, ty, struct, Fields, Datum, null, bool, struct_of, is_null_datum}
-use Rattle.vx_dtype.specs.Lists.{Beside, none_beside, more_beside}
+use Rattle.vx_dtype.specs.Lists.{Forall2, forall2_nil, forall2_cons}
 use Rattle.vx_fn.specs.Functions.{Function}
 use Rattle.vx_fn.specs.Rows.{FnType, of_case_else, of_case, of_get_item, of_literal, of_pack, of_select, of_fill_null, of_zip, of_comparison, of_and, of_or, of_add, of_not, of_between, of_like, of_is_null, of_is_not_null, of_mask, of_cast}
 use Rattle.vx_fn.specs.Values.{bound_comparison, compared, fn_value, item_value, kleene_and, kleene_not, kleene_or, liked, select_value}
@@ -17,8 +17,8 @@ use Rattle.vx_prune_bounds.specs.Bounds.{Bounds, bounds, Contains}
 use Rattle.vx_prune_bounds.specs.Comparing.{between_truths, comparison_truths}
 use Rattle.vx_prune_bounds.specs.Kernels.{null_truths, shaped_as}
 use Rattle.vx_prune_bounds.specs.Truths.{and_truths, not_truths, or_truths, truths_in}
-use Rattle.vx_prune_like.proofs.Likeness.{like-sound}
-use Rattle.vx_prune_like.specs.Beginnings.{like_truths}
+use Rattle.vx_prune_bounds.proofs.Likeness.{like-sound}
+use Rattle.vx_prune_bounds.specs.Beginnings.{like_truths}
 use Rattle.vx_prune_tree.specs.Bounding.{unknown, item_bounds, fn_bounds}
 
 -- each value is within what leaves room for all
@@ -42,30 +42,30 @@ select-sound sel fs n x (struct_of vs) e h = shaped_as-sound x (struct_of vs) (s
 select-sound sel fs n x _ e h = cc
 
 pub fn_bounds-sound : {f : Function} {ts : List LogicalType} {t : LogicalType} {vs : List Datum} {xs : List Bounds} →
-    FnType f ts t → EachFits vs ts → Beside Contains xs vs → Contains (fn_bounds f xs) (fn_value f ts vs)
+    FnType f ts t → EachFits vs ts → Forall2 Contains xs vs → Contains (fn_bounds f xs) (fn_value f ts vs)
 fn_bounds-sound (of_case_else l z c b u) a h = case-sound h a c
 fn_bounds-sound (of_case l z c b u) a h = case-sound h a c
-fn_bounds-sound (of_get_item {a = a} {fs = fs} {n = n} e) (more_beside {x = v} f none_beside) (more_beside {x = x} h none_beside) = item-sound a fs n x v h
+fn_bounds-sound (of_get_item {a = a} {fs = fs} {n = n} e) (forall2_cons {x = v} f forall2_nil) (forall2_cons {x = x} h forall2_nil) = item-sound a fs n x v h
 fn_bounds-sound (of_literal {v = v}) a h = contains-exactly v
 fn_bounds-sound (of_pack e) a h = refl
-fn_bounds-sound (of_select {sel = sel} {fs = fs} {n = n} e) (more_beside {x = v} f none_beside) (more_beside {x = x} h none_beside) = select-sound sel fs n x v f h
-fn_bounds-sound (of_fill_null s) (more_beside {x = v} e (more_beside {x = w} f none_beside)) (more_beside {x = x} h (more_beside {x = y} g none_beside)) = fill-sound x y v w h g
-fn_bounds-sound (of_zip {n = n} s) (more_beside {x = v} e (more_beside {x = w} f (more_beside {x = m} d none_beside))) (more_beside {x = x} h (more_beside {x = y} g (more_beside {x = z} k none_beside))) =
+fn_bounds-sound (of_select {sel = sel} {fs = fs} {n = n} e) (forall2_cons {x = v} f forall2_nil) (forall2_cons {x = x} h forall2_nil) = select-sound sel fs n x v f h
+fn_bounds-sound (of_fill_null s) (forall2_cons {x = v} e (forall2_cons {x = w} f forall2_nil)) (forall2_cons {x = x} h (forall2_cons {x = y} g forall2_nil)) = fill-sound x y v w h g
+fn_bounds-sound (of_zip {n = n} s) (forall2_cons {x = v} e (forall2_cons {x = w} f (forall2_cons {x = m} d forall2_nil))) (forall2_cons {x = x} h (forall2_cons {x = y} g (forall2_cons {x = z} k forall2_nil))) =
     choice-sound (truths_in z) x y m v w (truths_in-sound z m n d k) (λ t. h) (λ t. g)
-fn_bounds-sound (of_comparison {c = c} s) (more_beside {x = v} e (more_beside {x = w} f none_beside)) (more_beside {x = x} h (more_beside {x = y} g none_beside)) =
+fn_bounds-sound (of_comparison {c = c} s) (forall2_cons {x = v} e (forall2_cons {x = w} f forall2_nil)) (forall2_cons {x = x} h (forall2_cons {x = y} g forall2_nil)) =
     truth_bounds-sound (comparison_truths c x y) (compared c v w) (comparison-sound c x y v w h g)
-fn_bounds-sound (of_and {n = n} {m = m}) (more_beside {x = v} e (more_beside {x = w} f none_beside)) (more_beside {x = x} h (more_beside {x = y} g none_beside)) =
+fn_bounds-sound (of_and {n = n} {m = m}) (forall2_cons {x = v} e (forall2_cons {x = w} f forall2_nil)) (forall2_cons {x = x} h (forall2_cons {x = y} g forall2_nil)) =
     truth_bounds-sound (and_truths (truths_in x) (truths_in y)) (kleene_and v w) (and-sound (truths_in x) (truths_in y) v w (truths_in-sound x v n e h) (truths_in-sound y w m f g))
-fn_bounds-sound (of_or {n = n} {m = m}) (more_beside {x = v} e (more_beside {x = w} f none_beside)) (more_beside {x = x} h (more_beside {x = y} g none_beside)) =
+fn_bounds-sound (of_or {n = n} {m = m}) (forall2_cons {x = v} e (forall2_cons {x = w} f forall2_nil)) (forall2_cons {x = x} h (forall2_cons {x = y} g forall2_nil)) =
     truth_bounds-sound (or_truths (truths_in x) (truths_in y)) (kleene_or v w) (or-sound (truths_in x) (truths_in y) v w (truths_in-sound x v n e h) (truths_in-sound y w m f g))
-fn_bounds-sound (of_add {p = p} {q = q} {n = n} {m = m} s) (more_beside {x = v} e (more_beside {x = w} f none_beside)) (more_beside {x = x} h (more_beside {x = y} g none_beside)) = sum-sound x y v w p q n m e f h g
-fn_bounds-sound (of_not {n = n}) (more_beside {x = v} e none_beside) (more_beside {x = x} h none_beside) =
+fn_bounds-sound (of_add {p = p} {q = q} {n = n} {m = m} s) (forall2_cons {x = v} e (forall2_cons {x = w} f forall2_nil)) (forall2_cons {x = x} h (forall2_cons {x = y} g forall2_nil)) = sum-sound x y v w p q n m e f h g
+fn_bounds-sound (of_not {n = n}) (forall2_cons {x = v} e forall2_nil) (forall2_cons {x = x} h forall2_nil) =
     truth_bounds-sound (not_truths (truths_in x)) (kleene_not v) (not-sound (truths_in x) v (truths_in-sound x v n e h))
-fn_bounds-sound (of_between {ls = ls} {us = us} s q) (more_beside {x = v} e (more_beside {x = l} f (more_beside {x = u} d none_beside))) (more_beside {x = x} h (more_beside {x = y} g (more_beside {x = z} k none_beside))) =
+fn_bounds-sound (of_between {ls = ls} {us = us} s q) (forall2_cons {x = v} e (forall2_cons {x = l} f (forall2_cons {x = u} d forall2_nil))) (forall2_cons {x = x} h (forall2_cons {x = y} g (forall2_cons {x = z} k forall2_nil))) =
     truth_bounds-sound (between_truths ls us x y z) (kleene_and (compared (bound_comparison ls) l v) (compared (bound_comparison us) v u)) (between-sound ls us x y z v l u h g k)
-fn_bounds-sound (of_like {neg = neg} {ci = ci} {n = n} {m = m}) (more_beside {x = v} e (more_beside {x = w} f none_beside)) (more_beside {x = x} h (more_beside {x = y} g none_beside)) =
+fn_bounds-sound (of_like {neg = neg} {ci = ci} {n = n} {m = m}) (forall2_cons {x = v} e (forall2_cons {x = w} f forall2_nil)) (forall2_cons {x = x} h (forall2_cons {x = y} g forall2_nil)) =
     truth_bounds-sound (like_truths neg ci x y) (liked neg ci v w) (like-sound neg ci x y v w n m e f h g)
-fn_bounds-sound of_is_null (more_beside {x = v} e none_beside) (more_beside {x = x} h none_beside) = truth_bounds-sound (null_truths x) (bool (is_null_datum v)) (is_null-sound x v h)
-fn_bounds-sound of_is_not_null (more_beside {x = v} e none_beside) (more_beside {x = x} h none_beside) = truth_bounds-sound (not_truths (null_truths x)) (bool (not (is_null_datum v))) (is_not_null-sound x v h)
-fn_bounds-sound of_mask (more_beside {x = v} e (more_beside {x = m} f none_beside)) (more_beside {x = x} h (more_beside {x = y} g none_beside)) = mask-sound x (truths_in y) v m h (truths_in-sound y m false f g)
-fn_bounds-sound (of_cast s) (more_beside e none_beside) (more_beside h none_beside) = h
+fn_bounds-sound of_is_null (forall2_cons {x = v} e forall2_nil) (forall2_cons {x = x} h forall2_nil) = truth_bounds-sound (null_truths x) (bool (is_null_datum v)) (is_null-sound x v h)
+fn_bounds-sound of_is_not_null (forall2_cons {x = v} e forall2_nil) (forall2_cons {x = x} h forall2_nil) = truth_bounds-sound (not_truths (null_truths x)) (bool (not (is_null_datum v))) (is_not_null-sound x v h)
+fn_bounds-sound of_mask (forall2_cons {x = v} e (forall2_cons {x = m} f forall2_nil)) (forall2_cons {x = x} h (forall2_cons {x = y} g forall2_nil)) = mask-sound x (truths_in y) v m h (truths_in-sound y m false f g)
+fn_bounds-sound (of_cast s) (forall2_cons e forall2_nil) (forall2_cons h forall2_nil) = h

@@ -3,7 +3,7 @@ use Rattle.std.proofs.Common.{◌≡◌, List, [], refl, sym, subst, Option, Som
 use Rattle.vx_value.specs.Fits.{Fits}
 use Rattle.vx_value.specs.Paths.{Path}
 use Rattle.vx_value.specs.Types.{LogicalType, Datum}
-use Rattle.vx_dtype.specs.Lists.{Beside, none_beside, more_beside, IsIn}
+use Rattle.vx_dtype.specs.Lists.{Forall2, forall2_nil, forall2_cons, IsIn}
 use Rattle.vx_fn.proofs.Rows.{fn_type-found}
 use Rattle.vx_tree.proofs.Meant.{mean-unbound}
 use Rattle.vx_tree.proofs.Trees.{each_passes, or_none, value-fits, values-fit}
@@ -13,8 +13,8 @@ use Rattle.vx_tree.specs.Trees.{BoundTree, scope, node, BoundTrees, no_bound, bo
 use Rattle.vx_prune_bounds.proofs.Contained.{fits-any_of}
 use Rattle.vx_prune_bounds.proofs.Lattice.{contains-meet}
 use Rattle.vx_prune_bounds.specs.Bounds.{Bounds, Contains, any_of}
-use Rattle.vx_prune_stats.proofs.Bounding.{bounds_hold}
-use Rattle.vx_prune_stats.specs.Stats.{Facts, Describes, at_path}
+use Rattle.vx_prune_tree.proofs.StatisticsBounding.{bounds_hold}
+use Rattle.vx_prune_tree.specs.Stats.{Facts, Describes, at_path}
 use Rattle.vx_prune_tree.proofs.Giving.{in-unknown, fn_bounds-sound}
 use Rattle.vx_prune_tree.proofs.Along.{path_to-value}
 use Rattle.vx_prune_tree.specs.Bounding.{item_path, path_to_only, unknown, fn_bounds, at_path_or, bounds_in, each_bounds_in}
@@ -41,11 +41,11 @@ mutual
       (fn_bounds-sound (fn_type-found f (node_types bs) t w.0) (values-fit bs s rows v w.2 o q.0 i e) (each_bounds_in-hold facts bs s rows v d w.2 o q.0 i e)))
 
   each_bounds_in-hold : (facts : Facts) (bs : BoundTrees) (s : LogicalType) (rows : List Datum) (v : Datum) →
-      Describes facts s rows → EachWellTyped bs → EachOver bs s → each_fault bs rows ≡ None → IsIn v rows → Fits v s → Beside Contains (each_bounds_in facts bs) (values bs v)
-  each_bounds_in-hold facts no_bound s rows v d w o n i e = none_beside
+      Describes facts s rows → EachWellTyped bs → EachOver bs s → each_fault bs rows ≡ None → IsIn v rows → Fits v s → Forall2 Contains (each_bounds_in facts bs) (values bs v)
+  each_bounds_in-hold facts no_bound s rows v d w o n i e = forall2_nil
   each_bounds_in-hold facts (bound b bs) s rows v d w o n i e =
       let q = or_none _ _ n in
-      more_beside (bounds_in-hold facts b s rows v d w.0 o.0 q.0 i e) (each_bounds_in-hold facts bs s rows v d w.1 o.1 q.1 i e)
+      forall2_cons (bounds_in-hold facts b s rows v d w.0 o.0 q.0 i e) (each_bounds_in-hold facts bs s rows v d w.1 o.1 q.1 i e)
 
 pub bounds-hold : (facts : Facts) (b : BoundTree) → WellTyped b → BoundsHold facts b
 bounds-hold facts b w = λ s rows o batch d n v i.

@@ -1,3 +1,11 @@
+pub mod StatisticsPaths
+pub mod Compared
+pub mod Read
+pub mod StatisticsBounding
+pub mod StatisticsNarrowing
+pub mod Truth
+pub mod Entries
+pub mod StatisticsAlong
 pub mod Along
 pub mod Giving
 pub mod Holding

@@ -3,7 +3,7 @@ use Rattle.std.proofs.Common.{◌≡◌, ℕ, List, [], refl, sym, subst, Bool, 
 use Rattle.std.specs.Prelude.{◌==◌, if◌then◌else◌, not}
 use Rattle.vx_value.specs.Paths.{Path}
 use Rattle.vx_value.specs.Types.{LogicalType}
-use Rattle.vx_dtype.specs.Lists.{Beside, none_beside, more_beside}
+use Rattle.vx_dtype.specs.Lists.{Forall2, forall2_nil, forall2_cons}
 use Rattle.vx_fn.specs.Functions.{Function, case_when, get_item, literal, pack, select, fill_null, zip, binary, logical_not, between, like, is_null, is_not_null, mask, cast, Operation, compares, and_also, or_else, adds}
 use Rattle.vx_tree.specs.Trees.{BoundTree, scope, node, BoundTrees, no_bound, bound}
 use Rattle.vx_prune_bounds.proofs.Contained.{any_of-proper, exactly-proper, from_within, within, within-refl}
@@ -14,11 +14,11 @@ use Rattle.vx_prune_bounds.specs.Comparing.{between_truths, comparison_truths}
 use Rattle.vx_prune_bounds.specs.Kernels.{null_truths}
 use Rattle.vx_prune_bounds.specs.Truths.{and_truths, may_fail, not_truths, or_truths, truths_in, AreWithin}
 use Rattle.vx_prune_bounds.specs.declared.truths.Truths.{Truths}
-use Rattle.vx_prune_stats.proofs.Narrowing.{bounds_narrow}
-use Rattle.vx_prune_stats.specs.Knowing.{KnowsMore}
-use Rattle.vx_prune_stats.specs.Stats.{Facts}
-use Rattle.vx_prune_like.proofs.Monotone.{like-mono}
-use Rattle.vx_prune_like.specs.Beginnings.{like_truths}
+use Rattle.vx_prune_tree.proofs.StatisticsNarrowing.{bounds_narrow}
+use Rattle.vx_prune_tree.specs.Knowing.{KnowsMore}
+use Rattle.vx_prune_tree.specs.Stats.{Facts}
+use Rattle.vx_prune_bounds.proofs.LikeMonotone.{like-mono}
+use Rattle.vx_prune_bounds.specs.Beginnings.{like_truths}
 use Rattle.vx_prune_tree.specs.Bounding.{at_path_or, binary_bounds, bounds_in, each_bounds_in, fn_bounds, item_bounds, item_path, of_one, of_three, of_two, path_to_only, unknown}
 use Rattle.vx_prune_tree.specs.Verdicts.{verdict_of, IsAsSure, MoreIsAsSure, MoreNarrows}
 use Rattle.vx_prune_tree.specs.declared.verdicts.Verdict.TheVariants.{EveryRow, NoRow, Unknown}
@@ -27,30 +27,30 @@ use Rattle.vx_prune_tree.specs.declared.verdicts.Verdict.TheVariants.{EveryRow, 
 abbrev pub Narrows : Bounds → Bounds → Type 0
 Narrows x y = IsWithin x y × IsProper x
 
-each-within : {xs ys : List Bounds} → Beside Narrows xs ys → Beside IsWithin xs ys
-each-within none_beside = none_beside
-each-within (more_beside n a) = more_beside n.0 (each-within a)
+each-within : {xs ys : List Bounds} → Forall2 Narrows xs ys → Forall2 IsWithin xs ys
+each-within forall2_nil = forall2_nil
+each-within (forall2_cons n a) = forall2_cons n.0 (each-within a)
 
 -- ---- functions
 
-one-mono : (f : Bounds → Bounds) → ((x y : Bounds) → Narrows x y → IsWithin (f x) (f y)) → {xs ys : List Bounds} → Beside Narrows xs ys → IsWithin (of_one f xs) (of_one f ys)
-one-mono f m none_beside = refl
-one-mono f m (more_beside {x = x} {y = y} n none_beside) = m x y n
-one-mono f m (more_beside n (more_beside k a)) = refl
+one-mono : (f : Bounds → Bounds) → ((x y : Bounds) → Narrows x y → IsWithin (f x) (f y)) → {xs ys : List Bounds} → Forall2 Narrows xs ys → IsWithin (of_one f xs) (of_one f ys)
+one-mono f m forall2_nil = refl
+one-mono f m (forall2_cons {x = x} {y = y} n forall2_nil) = m x y n
+one-mono f m (forall2_cons n (forall2_cons k a)) = refl
 
-two-mono : (f : Bounds → Bounds → Bounds) → ((x y : Bounds) → Narrows x y → (v w : Bounds) → Narrows v w → IsWithin (f x v) (f y w)) → {xs ys : List Bounds} → Beside Narrows xs ys → IsWithin (of_two f xs) (of_two f ys)
-two-mono f m none_beside = refl
-two-mono f m (more_beside n none_beside) = refl
-two-mono f m (more_beside {x = x} {y = y} n (more_beside {x = v} {y = w} k none_beside)) = m x y n v w k
-two-mono f m (more_beside n (more_beside k (more_beside l a))) = refl
+two-mono : (f : Bounds → Bounds → Bounds) → ((x y : Bounds) → Narrows x y → (v w : Bounds) → Narrows v w → IsWithin (f x v) (f y w)) → {xs ys : List Bounds} → Forall2 Narrows xs ys → IsWithin (of_two f xs) (of_two f ys)
+two-mono f m forall2_nil = refl
+two-mono f m (forall2_cons n forall2_nil) = refl
+two-mono f m (forall2_cons {x = x} {y = y} n (forall2_cons {x = v} {y = w} k forall2_nil)) = m x y n v w k
+two-mono f m (forall2_cons n (forall2_cons k (forall2_cons l a))) = refl
 
 three-mono : (f : Bounds → Bounds → Bounds → Bounds) → ((x y : Bounds) → Narrows x y → (v w : Bounds) → Narrows v w → (r s : Bounds) → Narrows r s → IsWithin (f x v r) (f y w s)) →
-    {xs ys : List Bounds} → Beside Narrows xs ys → IsWithin (of_three f xs) (of_three f ys)
-three-mono f m none_beside = refl
-three-mono f m (more_beside n none_beside) = refl
-three-mono f m (more_beside n (more_beside k none_beside)) = refl
-three-mono f m (more_beside {x = x} {y = y} n (more_beside {x = v} {y = w} k (more_beside {x = r} {y = s} l none_beside))) = m x y n v w k r s l
-three-mono f m (more_beside n (more_beside k (more_beside l (more_beside i a)))) = refl
+    {xs ys : List Bounds} → Forall2 Narrows xs ys → IsWithin (of_three f xs) (of_three f ys)
+three-mono f m forall2_nil = refl
+three-mono f m (forall2_cons n forall2_nil) = refl
+three-mono f m (forall2_cons n (forall2_cons k forall2_nil)) = refl
+three-mono f m (forall2_cons {x = x} {y = y} n (forall2_cons {x = v} {y = w} k (forall2_cons {x = r} {y = s} l forall2_nil))) = m x y n v w k r s l
+three-mono f m (forall2_cons n (forall2_cons k (forall2_cons l (forall2_cons i a)))) = refl
 
 item-mono : (x y : Bounds) → IsWithin x y → IsWithin (item_bounds x) (item_bounds y)
 item-mono x y e = let p = within x y e in from_within (item_bounds x) (item_bounds y) (record { null = λ h. h; value = p.value; starts = λ _. refl; ends = λ _. refl })
@@ -63,7 +63,7 @@ binary-mono or_else x y n v w k =
     truth_bounds-mono (or_truths (truths_in x) (truths_in v)) (or_truths (truths_in y) (truths_in w)) (or-mono (truths_in x) (truths_in y) (truths_in v) (truths_in w) (truths_in-mono x y n.0) (truths_in-mono v w k.0))
 binary-mono adds x y n v w k = sum-mono x y v w n.0 k.0
 
-fn_bounds-mono : (f : Function) {xs ys : List Bounds} → Beside Narrows xs ys → IsWithin (fn_bounds f xs) (fn_bounds f ys)
+fn_bounds-mono : (f : Function) {xs ys : List Bounds} → Forall2 Narrows xs ys → IsWithin (fn_bounds f xs) (fn_bounds f ys)
 fn_bounds-mono (case_when pairs has_else) a = case-mono (each-within a)
 fn_bounds-mono (get_item b) a = one-mono item_bounds (λ x y n. item-mono x y n.0) a
 fn_bounds-mono (literal u v) a = within-refl (exactly v) (exactly-proper v)
@@ -101,9 +101,9 @@ mutual
       let y = fn_bounds f (each_bounds_in less bs) in
       (typed-mono t (at_path_or more o x) (at_path_or less o y) (at_path_or-mono less more k o x y (fn_bounds-mono f (each_bounds_in-narrow less more bs k))), meet-proper (any_of t) (at_path_or more o x))
 
-  each_bounds_in-narrow : (less more : Facts) (bs : BoundTrees) → KnowsMore less more → Beside Narrows (each_bounds_in more bs) (each_bounds_in less bs)
-  each_bounds_in-narrow less more no_bound k = none_beside
-  each_bounds_in-narrow less more (bound b bs) k = more_beside (bounds_in-narrow less more b k) (each_bounds_in-narrow less more bs k)
+  each_bounds_in-narrow : (less more : Facts) (bs : BoundTrees) → KnowsMore less more → Forall2 Narrows (each_bounds_in more bs) (each_bounds_in less bs)
+  each_bounds_in-narrow less more no_bound k = forall2_nil
+  each_bounds_in-narrow less more (bound b bs) k = forall2_cons (bounds_in-narrow less more b k) (each_bounds_in-narrow less more bs k)
 
 pub more-narrows : MoreNarrows
 more-narrows = λ less more b k. (bounds_in-narrow less more b k).0

@@ -11,9 +11,9 @@ use Rattle.vx_prune_bounds.specs.Bounds.{Bounds, any_of, IsProper}
 use Rattle.vx_prune_bounds.specs.Comparing.{between_truths, comparison_truths}
 use Rattle.vx_prune_bounds.specs.Kernels.{null_truths}
 use Rattle.vx_prune_bounds.specs.Truths.{and_truths, not_truths, or_truths, truths_in}
-use Rattle.vx_prune_like.specs.Beginnings.{like_truths}
-use Rattle.vx_prune_stats.proofs.Bounding.{field_bounds-proper}
-use Rattle.vx_prune_stats.specs.Stats.{Facts, facts_at, field_bounds}
+use Rattle.vx_prune_bounds.specs.Beginnings.{like_truths}
+use Rattle.vx_prune_tree.proofs.StatisticsBounding.{field_bounds-proper}
+use Rattle.vx_prune_tree.specs.Stats.{Facts, facts_at, field_bounds}
 use Rattle.vx_prune_tree.proofs.Steps.{some_path}
 use Rattle.vx_prune_tree.specs.Bounding.{at_path_or, binary_bounds, bounds_in, each_bounds_in, fn_bounds, item_bounds, item_path, of_one, of_three, of_two, path_to, path_to_only, unknown}
 

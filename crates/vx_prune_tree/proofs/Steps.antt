@@ -19,7 +19,7 @@ use Rattle.vx_prune_bounds.specs.Bounds.{Bounds, any_of, meet}
 use Rattle.vx_prune_bounds.specs.Kernels.{case_bounds, choice_bounds}
 use Rattle.vx_prune_bounds.specs.Truths.{truths_in}
 use Rattle.vx_prune_bounds.specs.declared.truths.Truths.{Truths}
-use Rattle.vx_prune_stats.specs.Stats.{Facts, facts_at, field_bounds}
+use Rattle.vx_prune_tree.specs.Stats.{Facts, facts_at, field_bounds}
 use Rattle.vx_prune_tree.specs.Bounding.{at_path_or, bounds_in, each_bounds_in, fn_bounds, item_path, path_to, path_to_only, unknown}
 use Rattle.vx_prune_tree.specs.Cases.{is_of_children}
 

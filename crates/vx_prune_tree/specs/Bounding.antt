@@ -7,8 +7,8 @@ use Rattle.vx_prune_bounds.specs.Bounds.{Bounds, bounds, any_of, exactly, meet}
 use Rattle.vx_prune_bounds.specs.Truths.{truths_in, truth_bounds, not_truths, and_truths, or_truths}
 use Rattle.vx_prune_bounds.specs.Comparing.{comparison_truths, between_truths}
 use Rattle.vx_prune_bounds.specs.Kernels.{sum_bounds, fill_bounds, choice_bounds, mask_bounds, case_bounds, null_truths, shaped_as}
-use Rattle.vx_prune_like.specs.Beginnings.{like_truths}
-use Rattle.vx_prune_stats.specs.Stats.{Facts, facts_at, field_bounds}
+use Rattle.vx_prune_bounds.specs.Beginnings.{like_truths}
+use Rattle.vx_prune_tree.specs.Stats.{Facts, facts_at, field_bounds}
 
 -- ---- paths
 

@@ -1,3 +1,11 @@
+pub mod Stats
+pub mod Codes
+pub mod Reading
+pub mod Knowing
+pub mod Laws
+pub mod Lent
+pub mod Views
+pub mod Ends
 pub mod Bounding
 pub mod Cases
 pub mod Verdicts

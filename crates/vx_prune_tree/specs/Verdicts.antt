@@ -10,8 +10,8 @@ use Rattle.vx_dtype.specs.Lists.{IsIn}
 use Rattle.vx_prune_bounds.specs.Bounds.{Contains, IsWithin}
 use Rattle.vx_prune_bounds.specs.declared.truths.Truths.{Truths}
 use Rattle.vx_prune_bounds.specs.Truths.{truths_in, may_fail}
-use Rattle.vx_prune_stats.specs.Knowing.{KnowsMore}
-use Rattle.vx_prune_stats.specs.Stats.{Facts, Describes}
+use Rattle.vx_prune_tree.specs.Knowing.{KnowsMore}
+use Rattle.vx_prune_tree.specs.Stats.{Facts, Describes}
 use Rattle.vx_prune_tree.specs.Bounding.{bounds_in}
 use Rattle.vx_prune_tree.specs.declared.verdicts.Verdict.{Verdict}
 use Rattle.vx_prune_tree.specs.declared.verdicts.Verdict.TheVariants.{NoRow, EveryRow, Unknown}

@@ -10,6 +10,7 @@ ghost use Rattle.vx_prune_tree.specs.Bounding.{bounds_in, each_bounds_in, fn_bou
 ghost use Rattle.vx_prune_tree.specs.Cases.{is_of_children};
 ghost use Rattle.vx_prune_tree.specs.Verdicts.{BoundsHold};
 
+use crate::chunk_stats::ChunkStats;
 use crate::functions::{
     put_literal, put_null, put_of_one, put_of_pair, put_of_three, put_of_two, put_of_type,
     put_struct, put_unknown, unknown,
@@ -17,7 +18,6 @@ use crate::functions::{
 use crate::paths::{is_path, put_along};
 use vx_fn::ScalarFnRef;
 use vx_prune_bounds::{Bounds, Truths};
-use vx_prune_stats::ChunkStats;
 use vx_tree::BoundExpression;
 
 /// Bounds of the tree's values in a chunk of these statistics. Asks a well-typed tree.

@@ -14,10 +14,9 @@ ghost use Rattle.vx_prune_tree.specs.Cases.{is_of_children};
 
 use vx_fn::{Operator, ScalarFnRef};
 use vx_prune_bounds::{
-    Bounds, Truths, between_truths, choice_bounds, comparison_truths, fill_bounds, mask_bounds,
-    sum_bounds,
+    Bounds, Truths, between_truths, choice_bounds, comparison_truths, fill_bounds, like_truths,
+    mask_bounds, sum_bounds,
 };
-use vx_prune_like::like_truths;
 use vx_types::{DType, Scalar};
 
 // Those of a value of which nothing is known.

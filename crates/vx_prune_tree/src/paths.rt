@@ -4,14 +4,15 @@ ghost use Rattle.std.specs.Map.{lookup};
 ghost use Rattle.vx_value.specs.Paths.{Path, part_name, path_of};
 ghost use Rattle.vx_tree.specs.Views.{bound_of, bounds_of};
 ghost use Rattle.vx_prune_bounds.specs.Views.{bounds_view};
-ghost use Rattle.vx_prune_stats.specs.Stats.{facts_at, field_bounds};
-ghost use Rattle.vx_prune_stats.specs.Views.{stats_facts};
+ghost use Rattle.vx_prune_tree.specs.Stats.{facts_at, field_bounds};
+ghost use Rattle.vx_prune_tree.specs.Views.{stats_facts};
 ghost use Rattle.vx_prune_tree.specs.Bounding.{path_to, path_to_only};
 ghost use Rattle.vx_prune_tree.specs.Cases.{is_that_path};
 
+use crate::chunk_stats::ChunkStats;
+use crate::field_stats::FieldStats;
 use vx_fn::ScalarFnRef;
 use vx_prune_bounds::Bounds;
-use vx_prune_stats::{ChunkStats, FieldStats};
 use vx_tree::BoundExpression;
 use vx_types::{Field, FieldName};
 

@@ -5,9 +5,10 @@ ghost use Rattle.vx_tree.specs.Trees.{node_type, WellTyped};
 ghost use Rattle.vx_tree.specs.Views.{bound_of};
 ghost use Rattle.vx_prune_tree.specs.Verdicts.{verdict_in, verdict_of, VerdictHolds};
 
-use crate::{Verdict, bounds};
+use crate::bounding::bounds;
+use crate::chunk_stats::ChunkStats;
+use crate::verdicts::Verdict;
 use vx_prune_bounds::Truths;
-use vx_prune_stats::ChunkStats;
 use vx_tree::BoundExpression;
 
 /// In which rows of a chunk of these statistics the tree is true. Asks a well-typed tree of type

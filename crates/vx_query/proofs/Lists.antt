@@ -3,8 +3,8 @@ use Rattle.std.proofs.Common.{◌≡◌, ℕ, ◌+◌, ◌<◌, ◌≤◌, List,
 use Rattle.vx_tree.specs.declared.bound.BoundExpression.{BoundExpression}
 use Rattle.vx_tree.specs.Trees.{BoundTree, BoundTrees, no_bound, bound}
 use Rattle.vx_tree.specs.Views.{bound_of, bounds_of}
-use Rattle.vx_rewrite_keep.specs.Keeps.{KeepsEach, keeps_none, keeps_more}
-use Rattle.vx_rewrite_optimizer.specs.NormalForms.{NormalForm, NormalForms, no_form, form}
+use Rattle.vx_rewrite_core.specs.Keeps.{KeepsEach, keeps_none, keeps_more}
+use Rattle.vx_rewrite_core.specs.NormalForms.{NormalForm, NormalForms, no_form, form}
 use Rattle.vx_tree.proofs.Bindings.{before, before_push, before_nothing}
 use Rattle.vx_tree.proofs.Children.{bounds_next, bounds_end}
 

@@ -1,6 +1,6 @@
 -- What follows of a query from how its tree was evaluated.
 use Rattle.std.proofs.Common.{◌≡◌, Bool, List, Option, Some, None, Result, Ok, Err, refl, inl, inr}
-use Rattle.vx_dtype.specs.Answers.{Answers}
+use Rattle.vx_dtype.specs.Returns.{ReturnsOrOom}
 use Rattle.vx_dtype.specs.declared.error.VortexError.{VortexError}
 use Rattle.vx_value.specs.Columns.{Batch}
 use Rattle.vx_value.specs.Fits.{IsBatch}
@@ -8,7 +8,7 @@ use Rattle.vx_value.specs.Types.{Name}
 use Rattle.vx_tree.specs.Faults.{HasNoFault, each_fault}
 use Rattle.vx_tree.specs.Trees.{BoundTree, BoundTrees, WellTyped, Over, unbound}
 use Rattle.vx_eval.specs.Evaluation.{evaluation}
-use Rattle.vx_rewrite_keep.specs.Keeps.{Keeps}
+use Rattle.vx_rewrite_core.specs.Keeps.{Keeps}
 use Rattle.vx_rewrite.specs.declared.passes.Pass.{Pass}
 use Rattle.vx_rewrite.proofs.Passing.{passed_keeps}
 use Rattle.vx_query_split.specs.Division.{FieldsCover}
@@ -24,7 +24,7 @@ use Rattle.vx_query_split.proofs.Meant.{whole_means, split_means}
 
 module _ (b u : BoundTree) (c : Batch) (k : Keeps b u) (o : Over b c.type) (fit : IsBatch c.type c.rows) (quiet : HasNoFault b c.rows) where
   parted_means : (fields names : List Name) (forms : BoundTrees) (again : BoundTree) (r : Result Batch VortexError) → FieldsCover fields u → IsOptimizedSplit fields u names forms again
-      → Answers (λ x. x) r (split_evaluation names forms again c) → IsMeantBy (unbound b) c r
+      → ReturnsOrOom (λ x. x) r (split_evaluation names forms again c) → IsMeantBy (unbound b) c r
   parted_means fields names forms again r cov split answer =
       let p = split.split.partitioned in
       let re = recombined names split.partitions forms split.root again u p.root_typed (p.over_partitions cov) (p.recombines cov) split.optimized split.bound_again in
@@ -44,12 +44,12 @@ passed_means passes split b c r w o fit quiet (passed {u = u} p run) = runs_mean
 
 -- ---- and where it does
 
-evaluated : (u : BoundTree) (c : Batch) (r : Result Batch VortexError) → Answers (λ x. x) r (evaluation u c) → FaultsAlone r
+evaluated : (u : BoundTree) (c : Batch) (r : Result Batch VortexError) → ReturnsOrOom (λ x. x) r (evaluation u c) → FaultsAlone r
 evaluated u c (Ok x) a = tt
 evaluated u c (Err y) (inl m) = inl m
 evaluated u c (Err y) (inr e) = inr (evaluation_faults u c y e)
 
-split_evaluated : (names : List Name) (parts : BoundTrees) (root : BoundTree) (c : Batch) (r : Result Batch VortexError) → Answers (λ x. x) r (split_evaluation names parts root c) → FaultsAlone r
+split_evaluated : (names : List Name) (parts : BoundTrees) (root : BoundTree) (c : Batch) (r : Result Batch VortexError) → ReturnsOrOom (λ x. x) r (split_evaluation names parts root c) → FaultsAlone r
 split_evaluated names parts root c (Ok x) a = tt
 split_evaluated names parts root c (Err y) (inl m) = inl m
 split_evaluated names parts root c (Err y) (inr e) = inr (go (each_fault parts c.rows) refl e)

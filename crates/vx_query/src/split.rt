@@ -1,11 +1,11 @@
 // Trees split by the fields of their scope, their partitions optimized, and evaluated.
 ghost use Rattle.std.specs.Prelude.{◌≡◌, length, IfOk, IfErr, true};
 ghost use Rattle.vx_dtype.specs.declared.error.VortexError.TheVariants.{OutOfMemory};
-ghost use Rattle.vx_rewrite_optimizer.specs.NormalForms.{NormalForms};
-ghost use Rattle.vx_rewrite_split.specs.Partitioned.{IsBoundAgain};
+ghost use Rattle.vx_rewrite_core.specs.NormalForms.{NormalForms};
+ghost use Rattle.vx_partition.specs.Partitioned.{IsBoundAgain};
 ghost use Rattle.vx_query.specs.Queries.{Runs};
-ghost use Rattle.vx_rewrite_recombine.specs.Items.{struct_type};
-ghost use Rattle.vx_rewrite_rules.specs.Rules.{RuleAt};
+ghost use Rattle.vx_partition_laws.specs.Items.{struct_type};
+ghost use Rattle.vx_rewrite_rule_laws.specs.Rules.{RuleAt};
 ghost use Rattle.vx_tree.specs.Trees.{WellTyped, EachWellTyped, Over};
 ghost use Rattle.vx_tree.specs.Views.{bound_of, bounds_of};
 

@@ -8,13 +8,13 @@ use Rattle.vx_value.specs.Types.{Name, LogicalType}
 use Rattle.vx_tree.specs.Trees.{BoundTree, scope, node_types, WellTyped, EachWellTyped, Over}
 use Rattle.vx_rewrite_analysis.specs.Covers.{is_covered}
 use Rattle.vx_rewrite_analysis.proofs.Covering.{covered-decides}
-use Rattle.vx_rewrite_split.specs.Partitioned.{free_names}
-use Rattle.vx_rewrite_split.specs.Splitting.{IsSplitByPieces}
-use Rattle.vx_rewrite_split.proofs.FreeNames.{names_are_free}
-use Rattle.vx_rewrite_recombine.specs.Items.{struct_type}
-use Rattle.vx_rewrite_recombine.specs.Partitions.{partition_names}
-use Rattle.vx_rewrite_recombine.specs.Pieces.{groups}
-use Rattle.vx_rewrite_recombine.specs.Recombining.{Recombines, NoOtherFault}
+use Rattle.vx_partition.specs.Partitioned.{free_names}
+use Rattle.vx_partition.specs.Splitting.{IsSplitByPieces}
+use Rattle.vx_partition.proofs.FreeNames.{names_are_free}
+use Rattle.vx_partition_laws.specs.Items.{struct_type}
+use Rattle.vx_partition_laws.specs.Partitions.{partition_names}
+use Rattle.vx_partition_laws.specs.Pieces.{groups}
+use Rattle.vx_partition_laws.specs.Recombining.{Recombines, NoOtherFault}
 use Rattle.vx_query_split.specs.Division.{split_names, FieldsCover, Parts, IsSplitOf, divided}
 use Rattle.vx_query_split.specs.Reading.{only_field, reads_one}
 

@@ -16,7 +16,7 @@ use Rattle.vx_tree.proofs.Meant.{mean-unbound}
 use Rattle.vx_tree.proofs.Nodes.{length-node_types}
 use Rattle.vx_eval.specs.Columns.{unless_fault}
 use Rattle.vx_eval.specs.Evaluation.{evaluation}
-use Rattle.vx_rewrite_recombine.specs.Items.{joined}
+use Rattle.vx_partition_laws.specs.Items.{joined}
 use Rattle.vx_query_split.specs.Splits.{part_columns, part_answers, joined_column, split_evaluation}
 
 types-columns : (bs : BoundTrees) (c : Batch) → types_in (part_columns bs c) ≡ node_types bs

@@ -4,7 +4,7 @@ use Rattle.std.specs.Prelude.{MatchResult}
 use Rattle.std.proofs.lemmas.Simd.{map-map}
 use Rattle.vx_dtype.specs.declared.error.VortexError.{VortexError}
 use Rattle.vx_dtype.specs.declared.error.VortexError.TheVariants.{OutOfMemory}
-use Rattle.vx_dtype.specs.Answers.{Answers}
+use Rattle.vx_dtype.specs.Returns.{ReturnsOrOom}
 use Rattle.vx_value.specs.Columns.{Batch, batch}
 use Rattle.vx_value.specs.Types.{Name, Datum}
 use Rattle.vx_value.specs.Fits.{IsBatch}
@@ -15,14 +15,14 @@ use Rattle.vx_tree.specs.Meaning.{mean, value}
 use Rattle.vx_tree.specs.Trees.{BoundTree, BoundTrees, WellTyped, Over, unbound, node_type}
 use Rattle.vx_tree.proofs.Meant.{mean-unbound}
 use Rattle.vx_eval.specs.Evaluation.{evaluation}
-use Rattle.vx_rewrite_keep.specs.Keeps.{Keeps}
-use Rattle.vx_rewrite_recombine.specs.Items.{struct_type, joined}
-use Rattle.vx_rewrite_recombine.specs.Recombining.{Recombines}
+use Rattle.vx_rewrite_core.specs.Keeps.{Keeps}
+use Rattle.vx_partition_laws.specs.Items.{struct_type, joined}
+use Rattle.vx_partition_laws.specs.Recombining.{Recombines}
 use Rattle.vx_query_split.specs.Sources.{IsMeantBy}
 use Rattle.vx_query_split.specs.Splits.{split_evaluation}
 
 -- what is answered where nothing faults
-quiet_answer : (e : List Datum) (c : Batch) (r : Result Batch VortexError) → Answers (λ x. x) r (Ok c) → c.rows ≡ e → MatchResult r (λ x. x.rows ≡ e) (λ y. y ≡ OutOfMemory)
+quiet_answer : (e : List Datum) (c : Batch) (r : Result Batch VortexError) → ReturnsOrOom (λ x. x) r (Ok c) → c.rows ≡ e → MatchResult r (λ x. x.rows ≡ e) (λ y. y ≡ OutOfMemory)
 quiet_answer e c (Ok x) a same = let is : c ≡ x = cc in rw (← is) same
 quiet_answer e c (Err y) (inl m) same = m
 quiet_answer e c (Err y) (inr q) same = cc
@@ -32,7 +32,7 @@ module _ (b u : BoundTree) (c : Batch) (k : Keeps b u) (o : Over b c.type) (fit 
   meaning_kept v i = k.meaning c.type c.rows o fit quiet v i ∙ sym (mean-unbound b c.type v k.typed_before o)
 
   -- the tree whole
-  pub whole_means : (r : Result Batch VortexError) → Answers (λ x. x) r (evaluation u c) → IsMeantBy (unbound b) c r
+  pub whole_means : (r : Result Batch VortexError) → ReturnsOrOom (λ x. x) r (evaluation u c) → IsMeantBy (unbound b) c r
   whole_means r a =
       let still : HasNoFault u c.rows = k.no_fault c.type c.rows o fit quiet in
       let over = k.scopes c.type o in
@@ -41,7 +41,7 @@ module _ (b u : BoundTree) (c : Batch) (k : Keeps b u) (o : Over b c.type) (fit 
 
   -- the tree split
   pub split_means : (names : List Name) (parts : BoundTrees) (root : BoundTree) (r : Result Batch VortexError) → WellTyped root → Over root (struct_type names parts) → Recombines parts root u
-      → Answers (λ x. x) r (split_evaluation names parts root c) → IsMeantBy (unbound b) c r
+      → ReturnsOrOom (λ x. x) r (split_evaluation names parts root c) → IsMeantBy (unbound b) c r
   split_means names parts root r w ro re a =
       let still : HasNoFault u c.rows = k.no_fault c.type c.rows o fit quiet in
       let over = k.scopes c.type o in

@@ -12,7 +12,7 @@ use Rattle.vx_tree.specs.Trees.{BoundTree, scope, node, BoundTrees}
 use Rattle.vx_tree.specs.Views.{bound_of, bounds_of}
 use Rattle.vx_rewrite_analysis.specs.Covers.{are_covered}
 use Rattle.vx_rewrite_analysis.specs.Fields.{free_fields}
-use Rattle.vx_rewrite_split.specs.Only.{met_at, annotations_met, annotations_met_in}
+use Rattle.vx_partition.specs.Only.{met_at, annotations_met, annotations_met_in}
 use Rattle.vx_tree.proofs.Children.{bounds_next, bounds_end}
 use Rattle.vx_query_split.specs.Reading.{only_name, own_or, fields_at, fields_in, only_field, reads_one}
 use Rattle.vx_query_split.specs.Reads.{IsReadBy, IsReadAt, IsReadBelow}

@@ -7,9 +7,9 @@ use Rattle.vx_value.specs.Types.{Name, LogicalType, struct_fields}
 use Rattle.vx_tree.specs.Trees.{BoundTree, BoundTrees, node_types}
 use Rattle.vx_tree.specs.Views.{bound_of, bounds_of}
 use Rattle.vx_rewrite_analysis.specs.Covers.{Covered}
-use Rattle.vx_rewrite_split.specs.Splitting.{IsSplit}
+use Rattle.vx_partition.specs.Splitting.{IsSplit}
 use Rattle.vx_query_split.specs.Reading.{only_field, reads_one}
-use Rattle.vx_rewrite_split.specs.declared.partitioned.BoundPartitionedExpr.{BoundPartitionedExpr}
+use Rattle.vx_partition.specs.declared.partitioned.BoundPartitionedExpr.{BoundPartitionedExpr}
 
 -- the names of the scope's fields, where it is a struct and the tree is to be split
 abbrev pub split_names : Bool → LogicalType → Option (List Name)

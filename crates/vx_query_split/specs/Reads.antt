@@ -3,7 +3,7 @@ use Rattle.std.specs.Prelude.{◌≡◌, ◌≢◌, Bool, ◌||◌, List, [], �
 use Rattle.vx_value.specs.Types.{Name}
 use Rattle.vx_tree.specs.Trees.{BoundTree, BoundTrees}
 use Rattle.vx_rewrite_analysis.specs.Covers.{is_covered, are_covered}
-use Rattle.vx_rewrite_split.specs.Only.{met_at, annotations_met, annotations_met_in}
+use Rattle.vx_partition.specs.Only.{met_at, annotations_met, annotations_met_in}
 use Rattle.vx_query_split.specs.Reading.{only_name, fields_at, fields_in, only_field, reads_one}
 use Rattle.vx_query_split.specs.declared.reading.Reads.{Reads}
 use Rattle.vx_query_split.specs.declared.reading.Reads.TheVariants.{Nothing, One, Several}

@@ -8,7 +8,7 @@ use Rattle.vx_tree.specs.Meaning.{mean}
 use Rattle.vx_tree.specs.Trees.{BoundTree, BoundTrees, no_bound, bound, node_type, unbound}
 use Rattle.vx_eval.specs.Columns.{unless_fault}
 use Rattle.vx_eval.specs.Evaluation.{evaluation}
-use Rattle.vx_rewrite_recombine.specs.Items.{struct_type, joined}
+use Rattle.vx_partition_laws.specs.Items.{struct_type, joined}
 
 -- for each partition the column of its source's meaning at each row
 abbrev pub part_columns : BoundTrees → Batch → List Batch

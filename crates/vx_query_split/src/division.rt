@@ -8,7 +8,7 @@ ghost use Rattle.vx_value.specs.Views.{type_of};
 
 use crate::reading::{Reads, read};
 use std::alloc::Global;
-use vx_rewrite_split::{BoundPartitionedExpr, partition_bound_met};
+use vx_partition::{BoundPartitionedExpr, partition_bound_met};
 use vx_tree::{BoundExpression, FieldName};
 use vx_types::{DType, VortexResult};
 

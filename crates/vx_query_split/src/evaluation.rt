@@ -1,14 +1,14 @@
 // Splits evaluated over a batch.
 ghost use Rattle.std.specs.Prelude.{◌≡◌, length};
-ghost use Rattle.vx_dtype.specs.Answers.{Answers};
-ghost use Rattle.vx_rewrite_recombine.specs.Items.{struct_type};
+ghost use Rattle.vx_dtype.specs.Returns.{ReturnsOrOom};
+ghost use Rattle.vx_partition_laws.specs.Items.{struct_type};
 ghost use Rattle.vx_query_split.specs.Splits.{part_answers, split_evaluation};
 ghost use Rattle.vx_tree.specs.Trees.{WellTyped, EachWellTyped, Over, EachOver};
 ghost use Rattle.vx_tree.specs.Views.{bound_of, bounds_of};
 
 use std::alloc::Global;
 use vx_eval::apply_bound;
-use vx_rewrite_split::BoundPartitionedExpr;
+use vx_partition::BoundPartitionedExpr;
 use vx_tree::{BoundExpression, FieldName};
 use vx_types::{Column, Nullability, VortexResult};
 
@@ -28,7 +28,7 @@ pub fn evaluate_split(
     requires over { EachOver (bounds_of split.now.partitions.items) batch.now.type }
     requires root { WellTyped (bound_of split.now.root) }
     requires joined { Over (bound_of split.now.root) (struct_type split.now.partition_names (bounds_of split.now.partitions.items)) }
-    ensures { Answers (λ c. c) result (split_evaluation split.now.partition_names (bounds_of split.now.partitions.items) (bound_of split.now.root) batch.now) }
+    ensures { ReturnsOrOom (λ c. c) result (split_evaluation split.now.partition_names (bounds_of split.now.partitions.items) (bound_of split.now.root) batch.now) }
 {
     let columns = evaluate_each(alloc, batch, split.partitions.as_slice())?;
     let names = split.partition_names.clone()?;
@@ -44,7 +44,7 @@ fn evaluate_each(
 ) -> VortexResult<Vec<Column>>
     requires well_typed { EachWellTyped (bounds_of partitions.now) }
     requires over { EachOver (bounds_of partitions.now) batch.now.type }
-    ensures { Answers (λ columns. columns.items) result (part_answers (bounds_of partitions.now) batch.now) }
+    ensures { ReturnsOrOom (λ columns. columns.items) result (part_answers (bounds_of partitions.now) batch.now) }
 {
     let mut columns = Vec::with_capacity(alloc, partitions.len())?;
     for i in 0..partitions.len() {

@@ -1,10 +1,10 @@
 -- What stops behind some records, seen from before them.
 use Rattle.std.proofs.Common.{◌≡◌, ℕ, List, ◌++◌, [], length, subst, sym, ap, ◌∙◌, append_assoc, Bool, nat_lt, Option, None, Some, Result, Ok, Err, IfOk, IfErr, true, false, ◌+◌, ◌-◌, ◌<◌, ◌≤◌, inl, inr, arith, length-append}
 use Rattle.vx_value.specs.Types.{Datum}
-use Rattle.vx_data_record.specs.declared.error.DataError.{DataError}
+use Rattle.vx_data.specs.declared.error.DataError.{DataError}
 use Rattle.vx_records.specs.Chunks.{AreNext, IsFaultOver, IsFaultThere, IsLast, IsNoFault, IsOfWriting, IsStep}
 use Rattle.vx_tree.specs.Trees.{BoundTree}
-use Rattle.vx_records.specs.Outcomes.{Ends, Stops}
+use Rattle.vx_records.specs.Outcomes.{EndsRecords, Stops}
 use Rattle.vx_records.specs.Reading.{Reads, ReadsUpTo}
 use Rattle.vx_records.specs.Records.{Record, rows}
 use Rattle.vx_records.specs.declared.error.RecordsError.{RecordsError}
@@ -89,7 +89,7 @@ step_full leaves n before after last Wrote more (rs, next, is, w) = (rs, next, i
 
 -- behind some records, the last ones
 pub ends_all : {R : Type 0} (leaves : R → List Record → Type 0) (limit left n : ℕ) (start cur new : R) (last : Bool) (xs : List Record) (Wrote Wrote' : List Record → Type 0)
-    → length xs + left ≡ limit → n ≤ left → Reads (leaves start) (leaves cur) xs → ((ys : List Record) → Wrote ys → Wrote' (xs ++ ys)) → last ≡ true → IsStep leaves n cur new last Wrote → Ends leaves limit start new Wrote'
+    → length xs + left ≡ limit → n ≤ left → Reads (leaves start) (leaves cur) xs → ((ys : List Record) → Wrote ys → Wrote' (xs ++ ys)) → last ≡ true → IsStep leaves n cur new last Wrote → EndsRecords leaves limit start new Wrote'
 ends_all leaves limit left n start cur new last xs Wrote Wrote' count most before wrote is (ys, next, short, w) =
     let (few, all) = are_last n (leaves cur) (leaves new) ys next (sym short ∙ is) in
     let under : length (xs ++ ys) < limit = subst (λ l. l < limit) (sym (length-append xs ys)) (search (arith, count, most, few)) in

@@ -14,7 +14,7 @@ use Rattle.vx_records.specs.Records.{Record, record_of, texts, rows, meanings}
 use Rattle.vx_records.specs.declared.batches.RecordBatch.{RecordBatch}
 use Rattle.vx_records.specs.declared.read.Chunk.{Chunk}
 use Rattle.vx_records.specs.declared.answers.Answers.{Answers}
-use Rattle.vx_data_record.specs.declared.error.DataError.{DataError}
+use Rattle.vx_data.specs.declared.error.DataError.{DataError}
 use Rattle.vx_places.specs.Faults.{IsFirstFault}
 use Rattle.vx_tree.specs.Trees.{BoundTree}
 use Rattle.vx_records.specs.Outcomes.{IsFaultOn}

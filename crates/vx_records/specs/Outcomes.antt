@@ -22,8 +22,8 @@ abbrev pub Breaks : Option (List ℕ) → Option (List ℕ) → List ℕ → Typ
 Breaks old new bytes = (n : ℕ) × (n < length bytes) × Appends old new (take n bytes)
 
 -- the first n records were read, or all where there are fewer, and what is said of them was written
-abbrev pub Ends : {R : Type 0} → (R → List Record → Type 0) → ℕ → R → R → (List Record → Type 0) → Type 0
-Ends leaves n before after Wrote = (rs : List Record) × ReadsUpTo n (leaves before) (leaves after) rs × Wrote rs
+abbrev pub EndsRecords : {R : Type 0} → (R → List Record → Type 0) → ℕ → R → R → (List Record → Type 0) → Type 0
+EndsRecords leaves n before after Wrote = (rs : List Record) × ReadsUpTo n (leaves before) (leaves after) rs × Wrote rs
 
 -- the fault is the first of the tree on the records
 abbrev pub IsFaultOn : BoundTree → List Record → RecordFault → Type 0

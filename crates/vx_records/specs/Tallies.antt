@@ -7,7 +7,7 @@ use Rattle.vx_value.specs.Paths.{minimal_paths}
 use Rattle.vx_value.specs.Types.{LogicalType}
 use Rattle.vx_tree.specs.Trees.{BoundTree}
 use Rattle.vx_rewrite_paths.specs.Asked.{referenced}
-use Rattle.vx_prune_stats.specs.Reading.{facts_along}
+use Rattle.vx_prune_tree.specs.Reading.{facts_along}
 use Rattle.vx_prune_tree.specs.Verdicts.{verdict_in}
 use Rattle.vx_prune_tree.specs.declared.verdicts.Verdict.{Verdict}
 use Rattle.vx_prune_tree.specs.declared.verdicts.Verdict.TheVariants.{Unknown}

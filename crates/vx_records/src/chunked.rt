@@ -10,10 +10,10 @@ ghost use Rattle.vx_tree.specs.Faults.{HasNoFault};
 ghost use Rattle.vx_tree.specs.Trees.{WellTyped, Over, node_type, unbound};
 ghost use Rattle.vx_tree.specs.Views.{bound_of};
 ghost use Rattle.vx_rewrite_paths.specs.Asked.{referenced};
-ghost use Rattle.vx_prune_stats.specs.Reading.{facts_along};
+ghost use Rattle.vx_prune_tree.specs.Reading.{facts_along};
 ghost use Rattle.vx_prune_tree.specs.Verdicts.{IsTrueVerdict, verdict_in};
 ghost use Rattle.vx_records.specs.Chunks.{HasRecords, IsFaultOver, IsStep};
-ghost use Rattle.vx_records.specs.Outcomes.{Breaks, Ends, Stops, UnlessFaulting};
+ghost use Rattle.vx_records.specs.Outcomes.{Breaks, EndsRecords, Stops, UnlessFaulting};
 ghost use Rattle.vx_records.specs.Records.{Record, kept_lines, rows};
 ghost use Rattle.vx_records.specs.Tallies.{chunk_tally, tally_by, tally_of};
 ghost use Rattle.vx_records.specs.declared.error.RecordsError.TheVariants.{OutOfMemory};
@@ -26,8 +26,7 @@ use crate::{RecordReader, RecordsError};
 use std::alloc::Global;
 use std::io::Write;
 use std::num::NonZeroUsize;
-use vx_prune_stats::ChunkStats;
-use vx_prune_tree::{Verdict, verdict};
+use vx_prune_tree::{ChunkStats, Verdict, verdict};
 use vx_rewrite_paths::referenced_field_paths;
 use vx_tree::BoundExpression;
 use vx_types::{Column, FieldPathSet};
@@ -63,7 +62,7 @@ pub fn filter_chunks<R: RecordReader, W: Write>(
     requires typed { WellTyped (bound_of tree.now) }
     requires truth { IsTrue (is_truth (node_type (bound_of tree.now))) }
     requires over { Over (bound_of tree.now) (R.scope records.old) }
-    ensures kept { IfOk result (λ tally. Ends R.leaves limit records.old records.new (λ rs.
+    ensures kept { IfOk result (λ tally. EndsRecords R.leaves limit records.old records.new (λ rs.
         (tally ≡ tally_of (non_zero_usize_get size) (bound_of tree.now) (R.scope records.old) rs)
         × UnlessFaulting (non_zero_usize_get size) (bound_of tree.now)
         (λ rs. Appends (W.contents out.old) (W.contents out.new) (R.head records.old ++ kept_lines (unbound (bound_of tree.now)) (R.scope records.old) rs)) rs)) }

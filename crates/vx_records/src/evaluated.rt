@@ -3,7 +3,7 @@ ghost use Rattle.std.specs.Prelude.{◌≡◌, IfErr, IfOk, OnOk};
 ghost use Rattle.vx_tree.specs.Trees.{WellTyped, Over, unbound};
 ghost use Rattle.vx_tree.specs.Views.{bound_of};
 ghost use Rattle.vx_records.specs.Chunks.{IsStep};
-ghost use Rattle.vx_records.specs.Outcomes.{Ends, Gains, Stops};
+ghost use Rattle.vx_records.specs.Outcomes.{EndsRecords, Gains, Stops};
 ghost use Rattle.vx_records.specs.Records.{meanings};
 
 use crate::answers::{ended, next_answers};
@@ -45,7 +45,7 @@ pub fn evaluate_records<R: RecordReader, W: RowWriter>(
 ) -> Result<(), RecordsError>
     requires typed { WellTyped (bound_of tree.now) }
     requires over { Over (bound_of tree.now) (R.scope records.old) }
-    ensures meant { OnOk result (Ends R.leaves limit records.old records.new
+    ensures meant { OnOk result (EndsRecords R.leaves limit records.old records.new
         (λ rs. Gains (W.written out.old) (W.written out.new) (meanings (unbound (bound_of tree.now)) (R.scope records.old) rs))) }
     ensures stopped { IfErr result (λ e. Stops R.leaves (bound_of tree.now) records.old e
         (λ rs. Gains (W.written out.old) (W.written out.new) (meanings (unbound (bound_of tree.now)) (R.scope records.old) rs))

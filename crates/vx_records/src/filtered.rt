@@ -4,7 +4,7 @@ ghost use Rattle.std.specs.Io.KnownBytes.{Appends};
 ghost use Rattle.vx_tree.specs.Trees.{WellTyped, Over, unbound};
 ghost use Rattle.vx_tree.specs.Views.{bound_of};
 ghost use Rattle.vx_records.specs.Chunks.{IsStep};
-ghost use Rattle.vx_records.specs.Outcomes.{Breaks, Ends, Stops};
+ghost use Rattle.vx_records.specs.Outcomes.{Breaks, EndsRecords, Stops};
 ghost use Rattle.vx_records.specs.Records.{kept_lines};
 
 use crate::answers::{ended, next_answers};
@@ -33,7 +33,7 @@ pub fn filter_records<R: RecordReader, W: Write>(
 ) -> Result<(), RecordsError>
     requires typed { WellTyped (bound_of tree.now) }
     requires over { Over (bound_of tree.now) (R.scope records.old) }
-    ensures kept { OnOk result (Ends R.leaves limit records.old records.new
+    ensures kept { OnOk result (EndsRecords R.leaves limit records.old records.new
         (λ rs. Appends (W.contents out.old) (W.contents out.new) (R.head records.old ++ kept_lines (unbound (bound_of tree.now)) (R.scope records.old) rs))) }
     ensures stopped { IfErr result (λ e. Stops R.leaves (bound_of tree.now) records.old e
         (λ rs. Appends (W.contents out.old) (W.contents out.new) (R.head records.old ++ kept_lines (unbound (bound_of tree.now)) (R.scope records.old) rs))

@@ -1,8 +1,8 @@
 -- Passes keep the tree, one after another.
 use Rattle.std.proofs.Common.{◌≡◌, ℕ, ◌+◌, ◌<◌, List, [], ◌∷◌, length, get_or, drop, drop-cons, add-one, subst, sym}
 use Rattle.vx_tree.specs.Trees.{BoundTree, WellTyped}
-use Rattle.vx_rewrite_keep.specs.Keeps.{Keeps}
-use Rattle.vx_rewrite_keep.proofs.Keeping.{keeps_refl, keeps_trans}
+use Rattle.vx_rewrite_core.specs.Keeps.{Keeps}
+use Rattle.vx_rewrite_core.proofs.Keeping.{keeps_refl, keeps_trans}
 use Rattle.vx_rewrite_fusing.proofs.Merges.{merges_alike}
 use Rattle.vx_rewrite.specs.declared.passes.Pass.{Pass}
 use Rattle.vx_rewrite.specs.declared.passes.Pass.TheVariants.{Optimize, OptimizeRecursive, FindBetween, Branches, Fold}

@@ -1,7 +1,7 @@
 -- What passes promise.
 use Rattle.std.specs.Prelude.{List}
 use Rattle.vx_tree.specs.Trees.{BoundTree, WellTyped}
-use Rattle.vx_rewrite_keep.specs.Keeps.{Keeps}
+use Rattle.vx_rewrite_core.specs.Keeps.{Keeps}
 use Rattle.vx_rewrite.specs.declared.passes.Pass.{Pass}
 use Rattle.vx_rewrite.specs.Passes.{Passed}
 

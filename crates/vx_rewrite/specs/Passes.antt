@@ -2,10 +2,10 @@
 use Rattle.std.specs.Prelude.{◌≡◌, List, [], ◌∷◌}
 use Rattle.vx_tree.specs.Trees.{BoundTree}
 use Rattle.vx_rewrite_fusing.specs.Merging.{IsFusedOf}
-use Rattle.vx_rewrite_optimizer.specs.NormalForms.{NormalForm, RootNormalForm}
-use Rattle.vx_rewrite_rules.specs.Rules.{RuleAt}
-use Rattle.vx_rewrite_branch_rules.specs.Branches.{BranchRuleAt}
-use Rattle.vx_rewrite_folding_rules.specs.Folding.{FoldingRuleAt}
+use Rattle.vx_rewrite_core.specs.NormalForms.{NormalForm, RootNormalForm}
+use Rattle.vx_rewrite_rule_laws.specs.Rules.{RuleAt}
+use Rattle.vx_rewrite_rule_laws.specs.Branches.{BranchRuleAt}
+use Rattle.vx_rewrite_rule_laws.specs.Folding.{FoldingRuleAt}
 use Rattle.vx_rewrite.specs.declared.passes.Pass.{Pass}
 use Rattle.vx_rewrite.specs.declared.passes.Pass.TheVariants.{Optimize, OptimizeRecursive, FindBetween, Branches, Fold}
 

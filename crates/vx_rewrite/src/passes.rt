@@ -1,17 +1,16 @@
 // Passes over bound trees, one after another.
 ghost use Rattle.std.specs.Prelude.{◌≡◌, IfOk, IfErr};
 ghost use Rattle.vx_dtype.specs.declared.error.VortexError.TheVariants.{OutOfMemory};
-ghost use Rattle.vx_rewrite_keep.specs.Keeps.{Keeps};
+ghost use Rattle.vx_rewrite_core.specs.Keeps.{Keeps};
 ghost use Rattle.vx_rewrite.specs.Passes.{Gives, Passed};
 ghost use Rattle.vx_tree.specs.Trees.{WellTyped};
 ghost use Rattle.vx_tree.specs.Views.{bound_of};
 
 use std::alloc::Global;
-use vx_rewrite_branches::BranchRules;
+use vx_rewrite_core::optimized;
 use vx_rewrite_folding::FoldingRules;
 use vx_rewrite_fusing::find_between;
-use vx_rewrite_optimizer::optimized;
-use vx_rewrite_standard::Optimize;
+use vx_rewrite_standard::{BranchRules, Optimize};
 use vx_tree::{BoundExpression, VortexResult};
 
 /// A pass over a bound tree.
@@ -23,10 +22,10 @@ pub enum Pass {
     OptimizeRecursive,
     /// Comparisons of one item as one `Between`: [`find_between`].
     FindBetween,
-    /// The branch rules at every node: [`optimize_with`](vx_rewrite_optimizer::optimize_with) of
+    /// The branch rules at every node: [`optimize_with`](vx_rewrite_core::optimize_with) of
     /// [`BranchRules`], the tree itself on None.
     Branches,
-    /// The folding rules at every node: [`optimize_with`](vx_rewrite_optimizer::optimize_with) of
+    /// The folding rules at every node: [`optimize_with`](vx_rewrite_core::optimize_with) of
     /// [`FoldingRules`], the tree itself on None.
     Fold,
 }

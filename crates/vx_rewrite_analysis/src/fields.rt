@@ -1,6 +1,6 @@
 // The fields of the scope that a node reads itself.
 ghost use Rattle.std.specs.Prelude.{◌≡◌, IfOk, Ok};
-ghost use Rattle.vx_value.specs.Answers.{Answers};
+ghost use Rattle.vx_value.specs.Returns.{ReturnsOrOom};
 ghost use Rattle.vx_value.specs.Fields.{field_names};
 ghost use Rattle.vx_value.specs.Views.{fields_of};
 ghost use Rattle.vx_tree.specs.Views.{bound_of, bounds_of};
@@ -18,7 +18,7 @@ pub fn free_fields(
     e: &BoundExpression,
     scope: &StructFields,
 ) -> VortexResult<Vec<FieldName>>
-    ensures { Answers (λ names. names.items) result (Ok (free_fields (bound_of e.now) (field_names (fields_of scope.now)))) }
+    ensures { ReturnsOrOom (λ names. names.items) result (Ok (free_fields (bound_of e.now) (field_names (fields_of scope.now)))) }
 {
     match e {
         BoundExpression::Root { .. } => {
@@ -40,7 +40,7 @@ fn field_of_root(
     name: &FieldName,
     children: &[BoundExpression],
 ) -> VortexResult<Vec<FieldName>>
-    ensures { Answers (λ names. names.items) result (Ok (field_of_root name.now (bounds_of children.now))) }
+    ensures { ReturnsOrOom (λ names. names.items) result (Ok (field_of_root name.now (bounds_of children.now))) }
 {
     match children {
         [] => Ok(Vec::new(alloc)),

@@ -2,7 +2,7 @@
 use Rattle.std.proofs.Common.{◌≡◌, ◌<◌, ◌⊎◌, inl, inr, [], ◌∷◌, length, get_or, Option, Some, None, Result, Ok, Err, true, false, ◌&&◌, refl, sym, ap, subst, ◌∙◌, arith}
 use Rattle.std.proofs.Math.Bool.{and-false}
 use Rattle.std.proofs.lemmas.Bool.{and_parts}
-use Rattle.vx_dtype.specs.Answers.{Answers}
+use Rattle.vx_dtype.specs.Returns.{ReturnsOrOom}
 use Rattle.vx_dtype.specs.declared.error.VortexError.{VortexError}
 use Rattle.vx_dtype.specs.declared.error.VortexError.TheVariants.{OutOfMemory}
 use Rattle.vx_value.specs.Columns.{Batch, batch}
@@ -14,10 +14,10 @@ use Rattle.vx_tree.specs.Meaning.{value}
 use Rattle.vx_tree.specs.Trees.{BoundTree, scope, node, node_type, WellTyped, Over}
 use Rattle.vx_eval.specs.Columns.{unless_fault}
 use Rattle.vx_eval.specs.Evaluation.{evaluation}
-use Rattle.vx_rewrite_rule_sets.specs.Nodes.{literal_node}
+use Rattle.vx_rewrite_core.specs.Nodes.{literal_node}
 use Rattle.vx_rewrite_folding.specs.Constants.{is_constant}
-use Rattle.vx_rewrite_folding_rules.proofs.Constants.{literals_over}
-use Rattle.vx_rewrite_folding_rules.specs.Folding.{are_literals, constant_given, is_computed, one_row}
+use Rattle.vx_rewrite_rule_laws.proofs.Constants.{literals_over}
+use Rattle.vx_rewrite_rule_laws.specs.Folding.{are_literals, constant_given, is_computed, one_row}
 
 -- the batch of one row
 abbrev pub row_batch : Batch
@@ -73,15 +73,15 @@ module _ (b : BoundTree) (w : WellTyped b) (e : is_constant b ≡ true) (row : B
   at_row : (R : Batch → Type 0) → R row → R row_batch
   at_row R r = subst R (sym is) r
 
-  column_is : (c : Batch) → Answers (λ x. x) (Ok c) (evaluation b row) → (first_fault b one_row ≡ None) × (whole b ≡ c)
+  column_is : (c : Batch) → ReturnsOrOom (λ x. x) (Ok c) (evaluation b row) → (first_fault b one_row ≡ None) × (whole b ≡ c)
   column_is c a = answered (first_fault b one_row) (whole b) c (sym (meant b w e) ∙ at_row (λ r. evaluation b r ≡ Ok c) a)
 
-  pub folded : (c : Batch) → Answers (λ x. x) (Ok c) (evaluation b row) → constant_given b ≡ Some (literal_node c.type (get_or c.rows 0 null))
+  pub folded : (c : Batch) → ReturnsOrOom (λ x. x) (Ok c) (evaluation b row) → constant_given b ≡ Some (literal_node c.type (get_or c.rows 0 null))
   folded c a = let k = column_is c a in subst (λ (x : Batch). constant_given b ≡ Some (literal_node x.type (get_or x.rows 0 null))) k.1 (given b e k.0)
 
-  pub some_row : (c : Batch) → Answers (λ x. x) (Ok c) (evaluation b row) → 0 < length c.rows
+  pub some_row : (c : Batch) → ReturnsOrOom (λ x. x) (Ok c) (evaluation b row) → 0 < length c.rows
   some_row c a = subst (λ (x : Batch). 0 < length x.rows) (column_is c a).1 (omega arith)
 
-  pub not_folded : (y : VortexError) → Answers {A = Batch} (λ x. x) (Err y) (evaluation b row) → (y ≡ OutOfMemory) ⊎ (constant_given b ≡ None)
+  pub not_folded : (y : VortexError) → ReturnsOrOom {A = Batch} (λ x. x) (Err y) (evaluation b row) → (y ≡ OutOfMemory) ⊎ (constant_given b ≡ None)
   not_folded y (inl m) = inl m
   not_folded y (inr a) = inr (none_given b y (faulted (first_fault b one_row) (whole b) y (sym (meant b w e) ∙ at_row (λ r. evaluation b r ≡ Err y) a)))

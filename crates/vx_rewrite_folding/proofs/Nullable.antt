@@ -5,9 +5,9 @@ use Rattle.vx_value.specs.Fits.{Fits}
 use Rattle.vx_value.specs.Types.{LogicalType, ty, null, is_nullable}
 use Rattle.vx_value.specs.Views.{type_of}
 use Rattle.vx_tree.specs.Trees.{BoundTree, WellTyped}
-use Rattle.vx_rewrite_rule_sets.specs.Nodes.{literal_node}
-use Rattle.vx_rewrite_folding_rules.proofs.Keeping.{folds_keep}
-use Rattle.vx_rewrite_folding_rules.specs.Folding.{constant_given, fold_given, known_given}
+use Rattle.vx_rewrite_core.specs.Nodes.{literal_node}
+use Rattle.vx_rewrite_rule_laws.proofs.FoldingKeeping.{folds_keep}
+use Rattle.vx_rewrite_rule_laws.specs.Folding.{constant_given, fold_given, known_given}
 use Rattle.vx_rewrite_folding.specs.Known.{tree_of, HasNull}
 use Rattle.vx_rewrite_folding.specs.declared.known.Known.{Known}
 use Rattle.vx_rewrite_folding.specs.declared.known.Known.TheVariants.{Tree, Truth, Null}

@@ -8,11 +8,11 @@ use Rattle.vx_tree.specs.Binding.{node_over}
 use Rattle.vx_tree.specs.Trees.{BoundTree, node, BoundTrees, no_bound, bound, node_type, node_types, WellTyped}
 use Rattle.vx_tree.specs.Views.{bound_of, bounds_of}
 use Rattle.vx_tree.specs.declared.bound.BoundExpression.{BoundExpression}
-use Rattle.vx_rewrite_rule_sets.proofs.Prelude.{fn_type-found, fn_type-only, CaseTyped, case_typed}
-use Rattle.vx_rewrite_folding_rules.proofs.Cases.{fewer_typed, first_truth}
-use Rattle.vx_rewrite_folding_rules.proofs.Pairs.{without}
+use Rattle.vx_rewrite_core.proofs.Prelude.{fn_type-found, fn_type-only, CaseTyped, case_typed}
+use Rattle.vx_rewrite_rule_laws.proofs.Cases.{fewer_typed, first_truth}
+use Rattle.vx_rewrite_rule_laws.proofs.Pairs.{without}
 use Rattle.vx_rewrite_folding.specs.Behind.{behind_all}
-use Rattle.vx_rewrite_folding_rules.specs.Folding.{is_idle, idle_pairs, without_idle}
+use Rattle.vx_rewrite_rule_laws.specs.Folding.{is_idle, idle_pairs, without_idle}
 
 one_more : (b : Bool) (n k : ℕ) → 2 * n ≤ k → 2 * (if b then n + 1 else n) ≤ k + 2
 one_more true n k h = omega (arith, h)

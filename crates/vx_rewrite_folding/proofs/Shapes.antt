@@ -14,7 +14,7 @@ use Rattle.vx_tree.proofs.Held.{bound_of-Scalar}
 use Rattle.vx_tree.specs.Trees.{BoundTree, node}
 use Rattle.vx_tree.specs.Views.{bound_of, bounds_of}
 use Rattle.vx_tree.specs.declared.bound.BoundExpression.{BoundExpression, Scalar}
-use Rattle.vx_rewrite_folding_rules.specs.Folding.{known_given}
+use Rattle.vx_rewrite_rule_laws.specs.Folding.{known_given}
 
 module _ (b : BoundExpression) (t : DType) (f : ScalarFnRef) (all : Rc (Vec BoundExpression Global) Global) (children : List BoundExpression) (is : b ≡ Scalar t f all) (those : children ≡ all.value.items) where
   pub known_of_node : (o : Option BoundTree) → o ≡ known_given (node (type_of t) (function_of f) (bounds_of children)) → o ≡ known_given (bound_of b)

@@ -1,7 +1,7 @@
 -- Nodes over literals.
 use Rattle.std.specs.Prelude.{Bool, false, ◌&&◌}
 use Rattle.vx_tree.specs.Trees.{BoundTree, node}
-use Rattle.vx_rewrite_folding_rules.specs.Folding.{are_literals, is_computed}
+use Rattle.vx_rewrite_rule_laws.specs.Folding.{are_literals, is_computed}
 
 -- whether the node's function is computed, and all its children are literals
 abbrev pub is_constant : BoundTree → Bool

@@ -5,8 +5,8 @@ use Rattle.vx_value.specs.Views.{type_of}
 use Rattle.vx_fn.specs.Functions.{Function, case_when}
 use Rattle.vx_tree.specs.Trees.{BoundTree}
 use Rattle.vx_tree.specs.Views.{bound_of}
-use Rattle.vx_rewrite_rule_sets.specs.Nodes.{literal_node}
-use Rattle.vx_rewrite_folding_rules.specs.Folding.{truth_literal}
+use Rattle.vx_rewrite_core.specs.Nodes.{literal_node}
+use Rattle.vx_rewrite_rule_laws.specs.Folding.{truth_literal}
 use Rattle.vx_rewrite_folding.specs.declared.known.Known.{Known}
 use Rattle.vx_rewrite_folding.specs.declared.known.Known.TheVariants.{Tree, Truth, Null}
 

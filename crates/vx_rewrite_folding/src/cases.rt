@@ -2,18 +2,18 @@
 ghost use Rattle.std.specs.Prelude.{◌≡◌, ◌≤◌, ◌-◌, Bool, IfOk, IsFalse, IsOk, None, Ok, Some, map, nat_lt, ℕ};
 ghost use Rattle.std.specs.Option.{option_map};
 ghost use Rattle.std.specs.Result.{result_ok};
-ghost use Rattle.vx_value.specs.Answers.{Answers};
+ghost use Rattle.vx_value.specs.Returns.{ReturnsOrOom};
 ghost use Rattle.vx_value.specs.Types.{LogicalType};
 ghost use Rattle.vx_fn.specs.Functions.{case_when};
 ghost use Rattle.vx_rewrite_folding.specs.Behind.{behind_all};
-ghost use Rattle.vx_rewrite_folding_rules.specs.Folding.{case_given, idle_pairs, is_idle, known_given, without_idle};
+ghost use Rattle.vx_rewrite_rule_laws.specs.Folding.{case_given, idle_pairs, is_idle, known_given, without_idle};
 ghost use Rattle.vx_tree.specs.Binding.{node_over};
 ghost use Rattle.vx_tree.specs.Trees.{bound, node, WellTyped};
 ghost use Rattle.vx_tree.specs.Views.{bound_of, bounds_of};
 
 use std::alloc::{AllocError, Global};
 use vx_fn::{CaseWhenOptions, ScalarFnRef};
-use vx_rewrite_rule_sets::{first_two, literal_value};
+use vx_rewrite_core::{first_two, literal_value};
 use vx_tree::{BoundExpression, VortexResult};
 use vx_types::Value;
 
@@ -51,7 +51,7 @@ pub(crate) fn case_given(
     rest: &[BoundExpression],
 ) -> VortexResult<Option<BoundExpression>>
     requires { (t : LogicalType) × WellTyped (node t (case_when options.num_when_then_pairs options.has_else) (bound (bound_of condition.now) (bound (bound_of then.now) (bounds_of rest.now)))) }
-    ensures { Answers (option_map bound_of) result (Ok (case_given options.num_when_then_pairs options.has_else (bound_of condition.now) (bound_of then.now) (bounds_of rest.now))) }
+    ensures { ReturnsOrOom (option_map bound_of) result (Ok (case_given options.num_when_then_pairs options.has_else (bound_of condition.now) (bound_of then.now) (bounds_of rest.now))) }
 {
     let left = pairs_left(options.num_when_then_pairs, rest);
     if left == options.num_when_then_pairs {
@@ -72,7 +72,7 @@ fn case_over(
     children: Vec<BoundExpression>,
 ) -> VortexResult<BoundExpression>
     requires { IsOk (node_over (case_when options.num_when_then_pairs options.has_else) (bounds_of children.items)) }
-    ensures { Answers (λ b. Some (bound_of b)) result (Ok (result_ok (node_over (case_when options.num_when_then_pairs options.has_else) (bounds_of children.items)))) }
+    ensures { ReturnsOrOom (λ b. Some (bound_of b)) result (Ok (result_ok (node_over (case_when options.num_when_then_pairs options.has_else) (bounds_of children.items)))) }
 {
     BoundExpression::try_new(alloc, ScalarFnRef::CaseWhen(options), children)
 }

@@ -2,21 +2,21 @@
 ghost use Rattle.std.specs.Prelude.{◌≡◌, ◌⊎◌, ◌<◌, None, Ok, Option, get_or, length, true};
 ghost use Rattle.std.specs.Option.{option_map};
 ghost use Rattle.vx_dtype.specs.declared.error.VortexError.TheVariants.{OutOfMemory};
-ghost use Rattle.vx_value.specs.Answers.{Answers};
+ghost use Rattle.vx_value.specs.Returns.{ReturnsOrOom};
 ghost use Rattle.vx_value.specs.Columns.{batch};
 ghost use Rattle.vx_value.specs.Types.{null};
 ghost use Rattle.vx_fn.specs.Functions.{truth_type};
 ghost use Rattle.vx_fn.specs.Views.{function_of};
 ghost use Rattle.vx_rewrite_folding.specs.Constants.{is_constant};
-ghost use Rattle.vx_rewrite_folding_rules.specs.Folding.{are_literals, constant_given, is_computed, one_row, truth_literal};
-ghost use Rattle.vx_rewrite_rule_sets.specs.Nodes.{literal_node};
+ghost use Rattle.vx_rewrite_rule_laws.specs.Folding.{are_literals, constant_given, is_computed, one_row, truth_literal};
+ghost use Rattle.vx_rewrite_core.specs.Nodes.{literal_node};
 ghost use Rattle.vx_tree.specs.Trees.{BoundTree, WellTyped};
 ghost use Rattle.vx_tree.specs.Views.{bound_of, bounds_of};
 
 use std::alloc::Global;
 use vx_eval::apply_bound;
 use vx_fn::ScalarFnRef;
-use vx_rewrite_rule_sets::{literal_value, node};
+use vx_rewrite_core::{literal_value, node};
 use vx_tree::{BoundExpression, VortexResult};
 use vx_types::{Column, DType, Nullability, Scalar, Value, VortexError};
 
@@ -44,7 +44,7 @@ pub(crate) fn constant_given(
     node: &BoundExpression,
 ) -> VortexResult<Option<BoundExpression>>
     requires { WellTyped (bound_of node.now) }
-    ensures { Answers (option_map bound_of) result (Ok (constant_given (bound_of node.now))) }
+    ensures { ReturnsOrOom (option_map bound_of) result (Ok (constant_given (bound_of node.now))) }
 {
     if !is_constant(node) {
         return Ok(None);
@@ -58,7 +58,7 @@ pub(crate) fn constant_given(
 
 // Nothing, where a node faults; but want of memory is handed on.
 fn unless_memory(fault: &VortexError) -> VortexResult<Option<BoundExpression>>
-    ensures { (said : Option BoundTree) → (fault.now ≡ OutOfMemory) ⊎ (said ≡ None) → Answers (option_map bound_of) result (Ok said) }
+    ensures { (said : Option BoundTree) → (fault.now ≡ OutOfMemory) ⊎ (said ≡ None) → ReturnsOrOom (option_map bound_of) result (Ok said) }
 {
     match fault {
         VortexError::OutOfMemory => Err(VortexError::OutOfMemory),
@@ -93,7 +93,7 @@ fn are_literals(trees: &[BoundExpression]) -> bool
 
 // A batch of one row: a node over literals gives the same in each.
 fn one_row(alloc: Global) -> VortexResult<Column>
-    ensures { Answers (λ c. c) result (Ok (batch (truth_type true) one_row)) }
+    ensures { ReturnsOrOom (λ c. c) result (Ok (batch (truth_type true) one_row)) }
 {
     let rows = vec![in alloc; Value::Null]?;
     Column::try_new(DType::Bool(Nullability::Nullable), rows)
@@ -102,7 +102,7 @@ fn one_row(alloc: Global) -> VortexResult<Column>
 // The literal of the first row.
 fn first_row(alloc: Global, column: &Column) -> VortexResult<BoundExpression>
     requires { 0 < length column.now.rows }
-    ensures { Answers bound_of result (Ok (literal_node column.now.type (get_or column.now.rows 0 null))) }
+    ensures { ReturnsOrOom bound_of result (Ok (literal_node column.now.type (get_or column.now.rows 0 null))) }
 {
     let value = column.row(0).clone()?;
     literal(alloc, Scalar::try_new(column.dtype().clone()?, value)?)
@@ -110,14 +110,14 @@ fn first_row(alloc: Global, column: &Column) -> VortexResult<BoundExpression>
 
 // The literal of that truth value, of the type without null.
 pub(crate) fn truth_literal(alloc: Global, b: bool) -> VortexResult<BoundExpression>
-    ensures { Answers bound_of result (Ok (truth_literal b)) }
+    ensures { ReturnsOrOom bound_of result (Ok (truth_literal b)) }
 {
     literal(alloc, Scalar::from_bool(b))
 }
 
 // The literal of the scalar.
 fn literal(alloc: Global, scalar: Scalar) -> VortexResult<BoundExpression>
-    ensures { Answers bound_of result (Ok (literal_node scalar.type scalar.value)) }
+    ensures { ReturnsOrOom bound_of result (Ok (literal_node scalar.type scalar.value)) }
 {
     let dtype = scalar.dtype().clone()?;
     node(alloc, dtype, ScalarFnRef::Literal(scalar), Vec::new(alloc))

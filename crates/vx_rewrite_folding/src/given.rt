@@ -1,10 +1,10 @@
 // What folding gives at a node: its value over literals, else what its function knows.
 ghost use Rattle.std.specs.Prelude.{◌≡◌, IsFalse, None, Ok};
 ghost use Rattle.std.specs.Option.{option_map};
-ghost use Rattle.vx_value.specs.Answers.{Answers};
+ghost use Rattle.vx_value.specs.Returns.{ReturnsOrOom};
 ghost use Rattle.vx_value.specs.Views.{type_of};
 ghost use Rattle.vx_fn.specs.Functions.{case_when};
-ghost use Rattle.vx_rewrite_folding_rules.specs.Folding.{constant_given, fold_given, known_given};
+ghost use Rattle.vx_rewrite_rule_laws.specs.Folding.{constant_given, fold_given, known_given};
 ghost use Rattle.vx_tree.specs.Trees.{node, WellTyped};
 ghost use Rattle.vx_tree.specs.Views.{bound_of, bounds_of};
 
@@ -13,7 +13,7 @@ use crate::constants::{constant_given, is_constant};
 use crate::known::{known_of, known_tree};
 use std::alloc::Global;
 use vx_fn::{CaseWhenOptions, ScalarFnRef};
-use vx_rewrite_rule_sets::first_two;
+use vx_rewrite_core::first_two;
 use vx_tree::{BoundExpression, VortexResult};
 use vx_types::DType;
 
@@ -49,7 +49,7 @@ pub(crate) fn fold_given(
     node: &BoundExpression,
 ) -> VortexResult<Option<BoundExpression>>
     requires { WellTyped (bound_of node.now) }
-    ensures { Answers (option_map bound_of) result (Ok (fold_given (bound_of node.now))) }
+    ensures { ReturnsOrOom (option_map bound_of) result (Ok (fold_given (bound_of node.now))) }
 {
     match constant_given(alloc, node)? {
         Some(constant) => Ok(Some(constant)),
@@ -61,7 +61,7 @@ pub(crate) fn fold_given(
 fn known_given(alloc: Global, node: &BoundExpression) -> VortexResult<Option<BoundExpression>>
     requires typed { WellTyped (bound_of node.now) }
     requires no_constant { constant_given (bound_of node.now) ≡ None }
-    ensures { Answers (option_map bound_of) result (Ok (known_given (bound_of node.now))) }
+    ensures { ReturnsOrOom (option_map bound_of) result (Ok (known_given (bound_of node.now))) }
 {
     let BoundExpression::Scalar {
         dtype,
@@ -89,7 +89,7 @@ fn of_case(
     children: &[BoundExpression],
 ) -> VortexResult<Option<BoundExpression>>
     requires { WellTyped (node (type_of dtype.now) (case_when options.num_when_then_pairs options.has_else) (bounds_of children.now)) }
-    ensures { Answers (option_map bound_of) result (Ok (known_given (node (type_of dtype.now) (case_when options.num_when_then_pairs options.has_else) (bounds_of children.now)))) }
+    ensures { ReturnsOrOom (option_map bound_of) result (Ok (known_given (node (type_of dtype.now) (case_when options.num_when_then_pairs options.has_else) (bounds_of children.now)))) }
 {
     match first_two(children) {
         Some((condition, then, rest)) => case_given(alloc, options, condition, then, rest),

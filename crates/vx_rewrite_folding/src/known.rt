@@ -2,12 +2,12 @@
 // takes no memory.
 ghost use Rattle.std.specs.Prelude.{◌≡◌, IsFalse, Ok};
 ghost use Rattle.std.specs.Option.{option_map};
-ghost use Rattle.vx_value.specs.Answers.{Answers};
+ghost use Rattle.vx_value.specs.Returns.{ReturnsOrOom};
 ghost use Rattle.vx_value.specs.Views.{type_of};
 ghost use Rattle.vx_fn.specs.Functions.{binary};
 ghost use Rattle.vx_fn.specs.Views.{function_of, operation_of};
 ghost use Rattle.vx_rewrite_folding.specs.Known.{HasNull, is_case, tree_of};
-ghost use Rattle.vx_rewrite_folding_rules.specs.Folding.{known_given};
+ghost use Rattle.vx_rewrite_rule_laws.specs.Folding.{known_given};
 ghost use Rattle.vx_tree.specs.Trees.{node};
 ghost use Rattle.vx_tree.specs.Views.{bound_of, bounds_of};
 
@@ -17,7 +17,7 @@ use crate::nulls::{known_of_between, known_of_comparison};
 use crate::single::{known_of_cast, known_of_mask, known_of_not, known_of_test};
 use std::alloc::Global;
 use vx_fn::{Operator, ScalarFnRef};
-use vx_rewrite_rule_sets::{null_of, pair};
+use vx_rewrite_core::{null_of, pair};
 use vx_tree::{BoundExpression, VortexResult};
 use vx_types::DType;
 
@@ -74,7 +74,7 @@ fn known_of_binary<'a>(
 // The tree that is known.
 pub(crate) fn known_tree(alloc: Global, known: &Known) -> VortexResult<BoundExpression>
     requires { HasNull known.now }
-    ensures { Answers bound_of result (Ok (tree_of known.now)) }
+    ensures { ReturnsOrOom bound_of result (Ok (tree_of known.now)) }
 {
     match *known {
         Known::Tree(tree) => Ok(tree.clone()?),

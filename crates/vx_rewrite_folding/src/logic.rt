@@ -2,12 +2,12 @@
 ghost use Rattle.std.specs.Prelude.{◌≡◌, option_and_then};
 ghost use Rattle.std.specs.Option.{option_map};
 ghost use Rattle.vx_rewrite_folding.specs.Known.{tree_of};
-ghost use Rattle.vx_rewrite_folding_rules.specs.Folding.{beside, logic_given};
-ghost use Rattle.vx_rewrite_rule_sets.specs.Nodes.{literal_value};
+ghost use Rattle.vx_rewrite_rule_laws.specs.Folding.{beside, logic_given};
+ghost use Rattle.vx_rewrite_core.specs.Nodes.{literal_value};
 ghost use Rattle.vx_tree.specs.Views.{bound_of};
 
 use crate::known::Known;
-use vx_rewrite_rule_sets::literal_value;
+use vx_rewrite_core::literal_value;
 use vx_tree::BoundExpression;
 use vx_types::Value;
 

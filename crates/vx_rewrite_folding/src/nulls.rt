@@ -5,12 +5,12 @@ ghost use Rattle.vx_value.specs.Types.{is_null_datum};
 ghost use Rattle.vx_value.specs.Views.{type_of};
 ghost use Rattle.vx_fn.specs.Functions.{between};
 ghost use Rattle.vx_rewrite_folding.specs.Known.{tree_of};
-ghost use Rattle.vx_rewrite_folding_rules.specs.Folding.{comparison_given, is_literal_of, known_given};
+ghost use Rattle.vx_rewrite_rule_laws.specs.Folding.{comparison_given, is_literal_of, known_given};
 ghost use Rattle.vx_tree.specs.Trees.{node};
 ghost use Rattle.vx_tree.specs.Views.{bound_of, bounds_of};
 
 use crate::known::Known;
-use vx_rewrite_rule_sets::{literal_value, triple};
+use vx_rewrite_core::{literal_value, triple};
 use vx_tree::BoundExpression;
 use vx_types::DType;
 

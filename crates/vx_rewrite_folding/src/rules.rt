@@ -1,8 +1,8 @@
 // The branch rules, and where none of them fits, folding.
 use crate::given::{fold_given, may_give};
 use std::alloc::Global;
-use vx_rewrite_branches::BranchRules;
-use vx_rewrite_keep::Rule;
+use vx_rewrite_core::Rule;
+use vx_rewrite_standard::BranchRules;
 use vx_tree::{BoundExpression, VortexResult};
 
 /// The [`BranchRules`], and where none of them fits a node, folding: what is known of the node before
@@ -33,8 +33,8 @@ use vx_tree::{BoundExpression, VortexResult};
 pub struct FoldingRules;
 
 impl Rule for FoldingRules {
-    ghost use Rattle.vx_rewrite_folding_rules.specs.Folding.{FoldingRuleAt};
-    ghost use Rattle.vx_rewrite_folding_rules.proofs.Lawfulness.{folding_lawful};
+    ghost use Rattle.vx_rewrite_rule_laws.specs.Folding.{FoldingRuleAt};
+    ghost use Rattle.vx_rewrite_rule_laws.proofs.FoldingLawfulness.{folding_lawful};
 
     ghost gives = { λ _. FoldingRuleAt };
 

@@ -5,13 +5,13 @@ ghost use Rattle.std.specs.Option.{option_map};
 ghost use Rattle.vx_value.specs.Views.{type_of};
 ghost use Rattle.vx_fn.specs.Values.{is_true};
 ghost use Rattle.vx_rewrite_folding.specs.Known.{tree_of};
-ghost use Rattle.vx_rewrite_folding_rules.specs.Folding.{cast_given, is_literal_of, mask_given, not_given, test_given};
-ghost use Rattle.vx_rewrite_rule_sets.specs.Nodes.{only_one, two_of};
+ghost use Rattle.vx_rewrite_rule_laws.specs.Folding.{cast_given, is_literal_of, mask_given, not_given, test_given};
+ghost use Rattle.vx_rewrite_core.specs.Nodes.{only_one, two_of};
 ghost use Rattle.vx_tree.specs.Views.{bound_of, bounds_of};
 
 use crate::known::Known;
 use vx_fn::ScalarFnRef;
-use vx_rewrite_rule_sets::{literal_value, only, pair};
+use vx_rewrite_core::{literal_value, only, pair};
 use vx_tree::BoundExpression;
 use vx_types::{DType, Value};
 

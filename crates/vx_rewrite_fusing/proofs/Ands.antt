@@ -9,11 +9,11 @@ use Rattle.vx_fn.specs.Rows.{FnType, of_and}
 use Rattle.vx_tree.specs.Meaning.{value}
 use Rattle.vx_tree.specs.Faults.{HasNoFault}
 use Rattle.vx_tree.specs.Trees.{BoundTree, node_type, WellTyped, Over}
-use Rattle.vx_rewrite_keep.specs.Keeps.{keeps_none, keeps_more}
+use Rattle.vx_rewrite_core.specs.Keeps.{keeps_none, keeps_more}
 use Rattle.vx_rewrite_fusing.specs.Conjuncts.{two_bounds, and_node, and_of}
 use Rattle.vx_fn.proofs.Rows.{fn_type-found}
 use Rattle.vx_fn.proofs.Monotone.{narrower_refl}
-use Rattle.vx_rewrite_keep.proofs.Keeping.{keeps_node, keeps_trans, keeps_refl}
+use Rattle.vx_rewrite_core.proofs.Keeping.{keeps_node, keeps_trans, keeps_refl}
 use Rattle.vx_tree.proofs.Trees.{or_none}
 use Rattle.vx_rewrite_fusing.specs.Merging.{KeepsAlike}
 use Rattle.vx_fn.proofs.Kleene.{and_comm, and_assoc}

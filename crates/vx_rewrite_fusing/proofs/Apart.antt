@@ -11,7 +11,7 @@ use Rattle.vx_dtype.specs.Lists.{IsIn}
 use Rattle.vx_dtype.proofs.Lists.{in_left, in_right}
 use Rattle.vx_tree.specs.Trees.{BoundTree, node, BoundTrees, no_bound, bound, WellTyped}
 use Rattle.vx_tree.specs.declared.bound.BoundExpression.{BoundExpression}
-use Rattle.vx_rewrite_keep.specs.Steps.{Step, OneStep, here, below, this_one, later_one, no_step, one_more}
+use Rattle.vx_rewrite_core.specs.Steps.{Step, OneStep, here, below, this_one, later_one, no_step, one_more}
 use Rattle.vx_rewrite_fusing.specs.declared.ranges.Side.{Side}
 use Rattle.vx_rewrite_fusing.specs.declared.ranges.Side.TheVariants.{Below, Above}
 use Rattle.vx_rewrite_fusing.specs.Conjuncts.{and_node, and_of, is_and, conjuncts, range_of, below_and_above, above_and_below, Fused, Mergeable}

@@ -10,9 +10,9 @@ use Rattle.vx_tree.specs.Trees.{BoundTree, scope, node, BoundTrees, no_bound, bo
 use Rattle.vx_tree.specs.Nodes.{bound_children_of, size_of, sizes_of}
 use Rattle.vx_tree.specs.Views.{bound_of, bounds_of}
 use Rattle.vx_tree.specs.declared.bound.BoundExpression.{BoundExpression}
-use Rattle.vx_rewrite_keep.specs.Steps.{below, OneStep, this_one, later_one, no_step, one_more}
-use Rattle.vx_rewrite_keep.proofs.Stepping.{one_step_keeps}
-use Rattle.vx_rewrite_keep.proofs.Keeping.{each_typed_after}
+use Rattle.vx_rewrite_core.specs.Steps.{below, OneStep, this_one, later_one, no_step, one_more}
+use Rattle.vx_rewrite_core.proofs.Stepping.{one_step_keeps}
+use Rattle.vx_rewrite_core.proofs.Keeping.{each_typed_after}
 use Rattle.vx_rewrite_fusing.specs.Conjuncts.{and_node, Fused, EachFused, FusedBelow}
 use Rattle.vx_rewrite_fusing.specs.Merging.{MergeAt, Merges, IsFusedOf}
 use Rattle.vx_rewrite_fusing.specs.Finding.{EachFusedOf, none_fused, more_fused, over_children, Finds, FirstChanged}

@@ -7,9 +7,9 @@ use Rattle.vx_fn.specs.Functions.{Function, binary, and_also, fn_type}
 use Rattle.vx_dtype.specs.Lists.{IsIn}
 use Rattle.vx_dtype.proofs.Lists.{in_left, in_right}
 use Rattle.vx_tree.specs.Trees.{BoundTree, scope, node, BoundTrees, no_bound, bound, node_type, node_types, WellTyped, EachWellTyped}
-use Rattle.vx_rewrite_keep.specs.Keeps.{Keeps}
-use Rattle.vx_rewrite_keep.specs.Steps.{Step, here, below, OneStep, this_one, later_one, Steps, no_step, one_more}
-use Rattle.vx_rewrite_keep.proofs.Stepping.{step_keeps, steps_keep}
+use Rattle.vx_rewrite_core.specs.Keeps.{Keeps}
+use Rattle.vx_rewrite_core.specs.Steps.{Step, here, below, OneStep, this_one, later_one, Steps, no_step, one_more}
+use Rattle.vx_rewrite_core.proofs.Stepping.{step_keeps, steps_keep}
 use Rattle.vx_rewrite_fusing.specs.Conjuncts.{and_node, and_of, is_and, conjuncts, range_of, between_node, MergeTo, below_and_above, above_and_below, Mergeable, NoneMergeable, Fused, EachFused, FusedBelow}
 use Rattle.vx_rewrite_fusing.specs.Merging.{Replaced, itself, on_left, on_right, Removed, left_gone, right_gone, from_left, from_right, MergeAt, right_stays, right_goes, Merges, KeepsAlike}
 use Rattle.vx_rewrite_fusing.specs.Laws.{is_conjunction, and_count, and_counts}

@@ -8,7 +8,7 @@ use Rattle.vx_fn.specs.Functions.{and_also}
 use Rattle.vx_dtype.proofs.Lists.{in_left, in_right}
 use Rattle.vx_tree.specs.Trees.{BoundTree, node_type}
 use Rattle.vx_tree.specs.Views.{bound_of}
-use Rattle.vx_rewrite_keep.specs.Steps.{here, no_step, one_more}
+use Rattle.vx_rewrite_core.specs.Steps.{here, no_step, one_more}
 use Rattle.vx_rewrite_fusing.specs.Conjuncts.{and_node, and_of, is_and, conjuncts, range_of, MergeTo, below_and_above, above_and_below, NoneMergeable, Fused, FusedBelow}
 use Rattle.vx_rewrite_fusing.specs.Merging.{IsFirstPair, Replaced, MergeAt, right_stays, right_goes, Merges, IsFusedOf}
 use Rattle.vx_rewrite_fusing.specs.declared.merge.Merged.{Merged}

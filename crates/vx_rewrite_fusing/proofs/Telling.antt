@@ -50,9 +50,9 @@ told_one one (Some b) h = (rw (one.alone, h) (became_merged b), sym (one.merged 
 -- ---- an And
 
 -- what is left of an And, by what is left of its children
-abbrev Answers : Bool → BoundTree → Option BoundTree → Result Left VortexError → Type 0
-Answers k l o (Ok left) = IsTold k l o left
-Answers k l o (Err e) = IsTrue k × (e ≡ OutOfMemory)
+abbrev Tells : Bool → BoundTree → Option BoundTree → Result Left VortexError → Type 0
+Tells k l o (Ok left) = IsTold k l o left
+Tells k l o (Err e) = IsTrue k × (e ≡ OutOfMemory)
 
 -- the tree that is left
 abbrev left_tree : BoundTree → Left → Option BoundTree
@@ -64,17 +64,17 @@ left_is k x o None h = h
 left_is k x o (Some rest) h = sym h.1
 
 -- something changed
-told_changed : (k : Bool) (l : BoundTree) (o v w : Option BoundTree) (res : Result Left VortexError) → IsTrue k → o ≡ conjoined v w → IfOk res (λ left. rests left ≡ Some (conjoined v w)) → IfErr res (λ e. e ≡ OutOfMemory) → Answers k l o res
+told_changed : (k : Bool) (l : BoundTree) (o v w : Option BoundTree) (res : Result Left VortexError) → IsTrue k → o ≡ conjoined v w → IfOk res (λ left. rests left ≡ Some (conjoined v w)) → IfErr res (λ e. e ≡ OutOfMemory) → Tells k l o res
 told_changed k l o v w (Ok None) changed is a c = cc
 told_changed k l o v w (Ok (Some left)) changed is a c = let z : option_map tree_in left ≡ conjoined v w = cc in (changed, z ∙ sym is)
 told_changed k l o v w (Err e) changed is a c = (changed, c)
 
 pub told_both : (k m n : Bool) (x y l : BoundTree) (ox oy o : Option BoundTree) (before after : Left) (res : Result Left VortexError) → (IsTrue m → IsTrue k) → (IsTrue n → IsTrue k) → l ≡ and_of x y → o ≡ conjoined ox oy → IsTold m x ox before → IsTold n y oy after
-    → IfOk res (λ left. rests left ≡ rest_of x (rests before) y (rests after)) → (before ≡ None → after ≡ None → res ≡ Ok None) → IfErr res (λ e. e ≡ OutOfMemory) → Answers k l o res
+    → IfOk res (λ left. rests left ≡ rest_of x (rests before) y (rests after)) → (before ≡ None → after ≡ None → res ≡ Ok None) → IfErr res (λ e. e ≡ OutOfMemory) → Tells k l o res
 told_both k m n x y l ox oy o before after res f g whole is h i a b c = go before after h i a b (is ∙ (ap (λ v. conjoined v oy) (left_is m x ox before h) ∙ ap (conjoined (left_tree x before)) (left_is n y oy after i)))
   where
-    go : (before after : Left) → IsTold m x ox before → IsTold n y oy after → IfOk res (λ left. rests left ≡ rest_of x (rests before) y (rests after)) → (before ≡ None → after ≡ None → res ≡ Ok None) → o ≡ conjoined (left_tree x before) (left_tree y after) → Answers k l o res
-    go None None h i a b is = subst (Answers k l o) (sym (b refl refl)) (is ∙ ap Some (sym whole))
+    go : (before after : Left) → IsTold m x ox before → IsTold n y oy after → IfOk res (λ left. rests left ≡ rest_of x (rests before) y (rests after)) → (before ≡ None → after ≡ None → res ≡ Ok None) → o ≡ conjoined (left_tree x before) (left_tree y after) → Tells k l o res
+    go None None h i a b is = subst (Tells k l o) (sym (b refl refl)) (is ∙ ap Some (sym whole))
     go None (Some r) h i a b is = told_changed k l o (Some x) (option_map tree_in r) res (g i.0) is a c
     go (Some q) None h i a b is = told_changed k l o (option_map tree_in q) (Some y) res (f h.0) is a c
     go (Some q) (Some r) h i a b is = told_changed k l o (option_map tree_in q) (option_map tree_in r) res (f h.0) is a c

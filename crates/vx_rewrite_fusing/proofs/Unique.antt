@@ -6,9 +6,9 @@ use Rattle.vx_fn.specs.Functions.{Function, fn_type}
 use Rattle.vx_dtype.specs.Lists.{IsIn}
 use Rattle.vx_dtype.proofs.Lists.{in_left, in_right}
 use Rattle.vx_tree.specs.Trees.{BoundTree, node, BoundTrees, bound, node_types, WellTyped, EachWellTyped}
-use Rattle.vx_rewrite_keep.specs.Steps.{Step, here, below, OneStep, this_one, later_one, no_step, one_more}
-use Rattle.vx_rewrite_keep.proofs.Stepping.{step_keeps, one_step_keeps}
-use Rattle.vx_rewrite_keep.proofs.Keeping.{each_typed_after}
+use Rattle.vx_rewrite_core.specs.Steps.{Step, here, below, OneStep, this_one, later_one, no_step, one_more}
+use Rattle.vx_rewrite_core.proofs.Stepping.{step_keeps, one_step_keeps}
+use Rattle.vx_rewrite_core.proofs.Keeping.{each_typed_after}
 use Rattle.vx_rewrite_fusing.specs.Conjuncts.{and_of, is_and, conjuncts, from_below, from_above, between_node, MergeTo, below_and_above, above_and_below, Mergeable, NoneMergeable, Fused, FusedBelow}
 use Rattle.vx_rewrite_fusing.specs.Merging.{Replaced, itself, on_left, on_right, Removed, left_gone, right_gone, from_left, from_right, MergeAt, right_stays, right_goes, Merges}
 use Rattle.vx_rewrite_fusing.specs.Laws.{FusingIsUnique}

@@ -2,8 +2,8 @@
 use Rattle.std.specs.Prelude.{◌≡◌, ℕ, List, [], ◌∷◌, ◌++◌, IsFalse}
 use Rattle.vx_value.specs.Types.{LogicalType}
 use Rattle.vx_tree.specs.Trees.{BoundTree, node_type}
-use Rattle.vx_rewrite_keep.specs.Keeps.{Keeps}
-use Rattle.vx_rewrite_keep.specs.Steps.{Step, Steps}
+use Rattle.vx_rewrite_core.specs.Keeps.{Keeps}
+use Rattle.vx_rewrite_core.specs.Steps.{Step, Steps}
 use Rattle.vx_rewrite_fusing.specs.Conjuncts.{and_node, and_of, is_and, conjuncts, MergeTo, NoneMergeable, Fused}
 
 -- m stands in the place of the conjunct c, which comes after those of `front`; the Ands above it are typed anew

@@ -1,7 +1,7 @@
 // Range fusing at every node: children first, since what they become decides which pairs the node has.
 ghost use Rattle.std.specs.Prelude.{◌≡◌, ℕ, IsSome, List, ◌∷◌, ◌++◌, [], None, Ok, Some, IfErr, IfOk, MatchOption, option_map};
 ghost use Rattle.vx_dtype.specs.declared.error.VortexError.TheVariants.{OutOfMemory};
-ghost use Rattle.vx_rewrite_keep.specs.Keeps.{Keeps};
+ghost use Rattle.vx_rewrite_core.specs.Keeps.{Keeps};
 ghost use Rattle.vx_tree.specs.Nodes.{bound_children_of};
 ghost use Rattle.vx_tree.specs.Trees.{node_type, BoundTree, EachWellTyped, WellTyped};
 ghost use Rattle.vx_tree.specs.Views.{bound_of, bounds_of};

@@ -2,7 +2,7 @@
 use Rattle.std.proofs.Common.{◌≡◌, List, [], ◌∷◌, refl, sym, subst, Bool, Some, None, ◌||◌, map}
 use Rattle.vx_value.specs.Fields.{field_type, field_value}
 use Rattle.vx_value.specs.Fits.{Fits, EachFits}
-use Rattle.vx_dtype.specs.Lists.{none_beside, more_beside, IsIn}
+use Rattle.vx_dtype.specs.Lists.{forall2_nil, forall2_cons, IsIn}
 use Rattle.vx_value.specs.Paths.{Path}
 use Rattle.vx_value.specs.Types.{Name, LogicalType, ty, Shape, struct, Fields, Datum, null, struct_of}
 use Rattle.vx_fn.proofs.Rows.{fn_type-found}
@@ -75,7 +75,7 @@ by_equal f ts t vs ws paths l e q = subst (λ ws. AgreeAlong paths t (fn_value f
 node_agree : {f : Function} {ts : List LogicalType} {t : LogicalType} {vs ws : List Datum} (paths : List Path) → FnType f ts t → EachLeads paths t → EachFits vs ts → EachFits ws ts → Fits (fn_value f ts vs) t → EachAgree (child_paths f ts paths) ts vs ws → AgreeAlong paths t (fn_value f ts vs) (fn_value f ts ws)
 node_agree [] d l x y e a = tt
 node_agree (path ∷ paths) (of_get_item {a = a} {fs = fs} {s = s} {n = n} {m = m} h) l x y e (agree_more {v = v} {w = w} g agree_none) = item_agree a fs s n m (path ∷ paths) v w h g
-node_agree (path ∷ paths) (of_select {sel = sel} {fs = fs} {n = n} h) l (more_beside x none_beside) (more_beside y none_beside) e (agree_more {v = v} {w = w} g agree_none) =
+node_agree (path ∷ paths) (of_select {sel = sel} {fs = fs} {n = n} h) l (forall2_cons x forall2_nil) (forall2_cons y forall2_nil) e (agree_more {v = v} {w = w} g agree_none) =
     select_agree (included sel fs) fs n (path ∷ paths) v w (included-known sel fs h) x y l g
 node_agree {f = f} {ts = ts} {t = t} {vs = vs} {ws = ws} (path ∷ paths) _ l x y e a = by_equal f ts t vs ws (path ∷ paths) l e (equal_values a)
 

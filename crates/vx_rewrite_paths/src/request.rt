@@ -1,7 +1,7 @@
 // What a node is asked for.
 ghost use Rattle.std.specs.Prelude.{◌≡◌, ◌++◌, ◌∷◌, [], ◌==◌, IfErr, Ok, OnOk, length, map};
 ghost use Rattle.vx_dtype.specs.declared.error.VortexError.TheVariants.{OutOfMemory};
-ghost use Rattle.vx_value.specs.Answers.{Answers};
+ghost use Rattle.vx_value.specs.Returns.{ReturnsOrOom};
 ghost use Rattle.vx_rewrite_paths.specs.Asked.{each_alone, whole};
 ghost use Rattle.vx_rewrite_paths.specs.Requests.{front_path, requested};
 
@@ -64,7 +64,7 @@ impl<'a> Request<'a> {
 impl<'a> Front<'a> {
     // The path of the names.
     fn path(&self, alloc: Global) -> VortexResult<FieldPath>
-        ensures { Answers (λ path. path) result (Ok (front_path self.now)) }
+        ensures { ReturnsOrOom (λ path. path) result (Ok (front_path self.now)) }
     {
         let mut path = FieldPath::root(alloc)?;
         let mut rest = self;

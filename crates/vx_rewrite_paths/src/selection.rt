@@ -1,6 +1,6 @@
 // What a selection of fields asks its child for.
 ghost use Rattle.std.specs.Prelude.{◌≡◌, Ok, filter};
-ghost use Rattle.vx_value.specs.Answers.{Answers};
+ghost use Rattle.vx_value.specs.Returns.{ReturnsOrOom};
 ghost use Rattle.vx_value.specs.Fields.{field_names, is_among};
 ghost use Rattle.vx_value.specs.Views.{type_of, fields_of};
 ghost use Rattle.vx_rewrite_paths.specs.Asked.{select_paths};
@@ -51,7 +51,7 @@ pub(crate) fn asked_by(
     dtype: &DType,
     asked: &Request<'_>,
 ) -> VortexResult<Selected>
-    ensures { Answers (λ s. selected_of s (requested asked.now)) result (Ok (select_paths selection.now (type_of dtype.now) (requested asked.now))) }
+    ensures { ReturnsOrOom (λ s. selected_of s (requested asked.now)) result (Ok (select_paths selection.now (type_of dtype.now) (requested asked.now))) }
 {
     let DType::Struct(fields, nullability) = dtype else {
         return Ok(Selected::Whole);
@@ -86,7 +86,7 @@ fn own_names(fields: &StructFields) -> &[FieldName]
 
 // Those of the names that are among the included ones.
 fn among(alloc: Global, included: &FieldNames, names: &[FieldName]) -> VortexResult<FieldNames>
-    ensures { Answers (λ kept. kept) result (Ok (filter (is_among included.now) names.now)) }
+    ensures { ReturnsOrOom (λ kept. kept) result (Ok (filter (is_among included.now) names.now)) }
 {
     let mut kept = Vec::new(alloc);
     for name in names {

@@ -1,8 +1,8 @@
 -- A test for null whose other value is what it looks at.
 use Rattle.std.proofs.Common.{◌≡◌, refl, true, false, Bool, not}
 use Rattle.std.specs.Prelude.{Some}
-use Rattle.vx_rewrite_rules.specs.Given.{NullTest, coalesce_given, replaced_null}
-use Rattle.vx_rewrite_rule_sets.specs.Nodes.{literal_value}
+use Rattle.vx_rewrite_rule_laws.specs.StandardGiven.{NullTest, coalesce_given, replaced_null}
+use Rattle.vx_rewrite_core.specs.Nodes.{literal_value}
 use Rattle.vx_tree.specs.Equality.{equal_bound}
 use Rattle.vx_value.specs.Types.{Datum}
 

@@ -13,7 +13,7 @@ use Rattle.vx_tree.proofs.Trees.{none_passes}
 use Rattle.vx_dtype.specs.Fields.{field_count}
 use Rattle.vx_dtype.specs.Views.{type_of, fields_view}
 use Rattle.vx_dtype.specs.declared.dtype.DType.{DType}
-use Rattle.vx_rewrite_rules.specs.Rules.{child_named, put_child, children_named, are_nullable}
+use Rattle.vx_rewrite_rule_laws.specs.Rules.{child_named, put_child, children_named, are_nullable}
 use Rattle.vx_tree.specs.Trees.{BoundTree, BoundTrees, no_bound, bound}
 use Rattle.vx_tree.specs.Views.{bound_of, bounds_of, bounds_from}
 use Rattle.vx_tree.specs.declared.bound.BoundExpression.{BoundExpression}

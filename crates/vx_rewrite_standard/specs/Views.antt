@@ -1,5 +1,5 @@
 -- What a test for null of the code stands for.
-use Rattle.vx_rewrite_rules.specs.Given.{NullTest}
+use Rattle.vx_rewrite_rule_laws.specs.StandardGiven.{NullTest}
 use Rattle.vx_rewrite_standard.specs.declared.cases.NullTest as code
 use Rattle.vx_tree.specs.Views.{bound_of}
 use Rattle.vx_tree.specs.declared.bound.BoundExpression.{BoundExpression}

@@ -1,15 +1,15 @@
 // The rules of a CASE that replaces a null.
 ghost use Rattle.std.specs.Prelude.{◌≡◌, Ok};
 ghost use Rattle.std.specs.Option.{option_map};
-ghost use Rattle.vx_value.specs.Answers.{Answers};
-ghost use Rattle.vx_rewrite_rules.specs.Given.{case_given, null_test, coalesce_given, replaced_null};
-ghost use Rattle.vx_rewrite_rules.specs.Rules.{fill_node};
+ghost use Rattle.vx_value.specs.Returns.{ReturnsOrOom};
+ghost use Rattle.vx_rewrite_rule_laws.specs.StandardGiven.{case_given, null_test, coalesce_given, replaced_null};
+ghost use Rattle.vx_rewrite_rule_laws.specs.Rules.{fill_node};
 ghost use Rattle.vx_rewrite_standard.specs.Views.{null_test_of, null_test_over};
 ghost use Rattle.vx_tree.specs.Views.{bound_of};
 
 use std::alloc::Global;
 use vx_fn::{CaseWhenOptions, EmptyOptions, FillNull, ScalarFnRef};
-use vx_rewrite_rule_sets::{literal_value, node, only};
+use vx_rewrite_core::{literal_value, node, only};
 use vx_tree::{BoundExpression, VortexResult};
 use vx_types::Scalar;
 
@@ -30,7 +30,7 @@ pub(crate) fn coalesce(
     then: &BoundExpression,
     otherwise: &BoundExpression,
 ) -> VortexResult<Option<BoundExpression>>
-    ensures { Answers (option_map bound_of) result (Ok (case_given options.num_when_then_pairs options.has_else (bound_of condition.now) (bound_of then.now) (bound_of otherwise.now))) }
+    ensures { ReturnsOrOom (option_map bound_of) result (Ok (case_given options.num_when_then_pairs options.has_else (bound_of condition.now) (bound_of then.now) (bound_of otherwise.now))) }
 {
     if options.num_when_then_pairs != 1 || !options.has_else {
         return Ok(None);
@@ -79,7 +79,7 @@ fn coalesce_by(
     if_null: &BoundExpression,
     if_not: &BoundExpression,
 ) -> VortexResult<Option<BoundExpression>>
-    ensures { Answers (option_map bound_of) result (Ok (coalesce_given (null_test_over tested.now if_null.now if_not.now))) }
+    ensures { ReturnsOrOom (option_map bound_of) result (Ok (coalesce_given (null_test_over tested.now if_null.now if_not.now))) }
 {
     let Some(scalar) = literal_value(if_null) else {
         return Ok(None);
@@ -98,7 +98,7 @@ fn replaced_null(
     literal: &BoundExpression,
     scalar: &Scalar,
 ) -> VortexResult<Option<BoundExpression>>
-    ensures { Answers (option_map bound_of) result (Ok (replaced_null (bound_of input.now) (bound_of literal.now) scalar.now.value)) }
+    ensures { ReturnsOrOom (option_map bound_of) result (Ok (replaced_null (bound_of input.now) (bound_of literal.now) scalar.now.value)) }
 {
     if scalar.is_null() {
         return Ok(Some(input.clone()?));
@@ -115,7 +115,7 @@ fn fill(
     input: &BoundExpression,
     fill_value: &BoundExpression,
 ) -> VortexResult<BoundExpression>
-    ensures { Answers bound_of result (Ok (fill_node (bound_of input.now) (bound_of fill_value.now))) }
+    ensures { ReturnsOrOom bound_of result (Ok (fill_node (bound_of input.now) (bound_of fill_value.now))) }
 {
     let dtype = input.dtype().clone()?;
     let children = vec![in alloc; input.clone()?, fill_value.clone()?]?;

@@ -3,13 +3,13 @@ ghost use Rattle.std.specs.Prelude.{◌≡◌, ◌↔◌, IfOk, IfErr, IfSome, I
 ghost use Rattle.vx_dtype.specs.declared.error.VortexError.TheVariants.{OutOfMemory};
 ghost use Rattle.vx_tree.specs.Trees.{BoundTree, WellTyped};
 ghost use Rattle.vx_tree.specs.Views.{bound_of};
-ghost use Rattle.vx_rewrite_keep.specs.Steps.{GivesNothing, Normal};
-ghost use Rattle.vx_rewrite_optimizer.specs.NormalForms.{NormalForm, RootNormalForm};
-ghost use Rattle.vx_rewrite_rules.specs.Rules.{RuleAt};
+ghost use Rattle.vx_rewrite_core.specs.Steps.{GivesNothing, Normal};
+ghost use Rattle.vx_rewrite_core.specs.NormalForms.{NormalForm, RootNormalForm};
+ghost use Rattle.vx_rewrite_rule_laws.specs.Rules.{RuleAt};
 
-use crate::StandardRules;
+use crate::standard::StandardRules;
 use std::alloc::Global;
-use vx_rewrite_optimizer::{optimize_with, optimized, optimized_root};
+use vx_rewrite_core::{optimize_with, optimized, optimized_root};
 use vx_tree::{BoundExpression, VortexResult};
 
 /// What the standard rules leave of a tree. Each call asks a well-typed tree and refuses with

@@ -3,16 +3,16 @@ ghost use Rattle.std.specs.Prelude.{◌≡◌, Ok, IfOk, IsTrue};
 ghost use Rattle.std.specs.List.{list_all};
 ghost use Rattle.std.specs.Option.{option_map};
 ghost use Rattle.vx_dtype.specs.Views.{fields_of};
-ghost use Rattle.vx_value.specs.Answers.{Answers};
+ghost use Rattle.vx_value.specs.Returns.{ReturnsOrOom};
 ghost use Rattle.vx_value.specs.Types.{is_nullable};
 ghost use Rattle.vx_value.specs.Views.{type_of};
-ghost use Rattle.vx_rewrite_rules.specs.Given.{item_given, is_pack, none_given, some_given, select_given};
-ghost use Rattle.vx_rewrite_rules.specs.Rules.{mask_node, child_named, children_named, are_nullable};
+ghost use Rattle.vx_rewrite_rule_laws.specs.StandardGiven.{item_given, is_pack, none_given, some_given, select_given};
+ghost use Rattle.vx_rewrite_rule_laws.specs.Rules.{mask_node, child_named, children_named, are_nullable};
 ghost use Rattle.vx_tree.specs.Views.{bound_of, bounds_of};
 
 use std::alloc::{AllocError, Global};
 use vx_fn::{EmptyOptions, FieldSelection, Pack, PackOptions, ScalarFnRef};
-use vx_rewrite_rule_sets::node;
+use vx_rewrite_core::node;
 use vx_tree::{BoundExpression, VortexResult};
 use vx_types::{DType, FieldName, FieldNames, Nullability, Scalar, StructFields};
 
@@ -23,7 +23,7 @@ pub(crate) fn item_of_pack(
     name: &FieldName,
     input: &BoundExpression,
 ) -> VortexResult<Option<BoundExpression>>
-    ensures { Answers (option_map bound_of) result (Ok (item_given name.now (bound_of input.now))) }
+    ensures { ReturnsOrOom (option_map bound_of) result (Ok (item_given name.now (bound_of input.now))) }
 {
     let BoundExpression::Scalar {
         scalar_fn: ScalarFnRef::Pack(options),
@@ -45,7 +45,7 @@ pub(crate) fn item_of_pack(
 // The tree under a mask that is true in every row.
 #[inline(never)]
 fn masked(alloc: Global, input: &BoundExpression) -> VortexResult<BoundExpression>
-    ensures { Answers bound_of result (Ok (mask_node (bound_of input.now))) }
+    ensures { ReturnsOrOom bound_of result (Ok (mask_node (bound_of input.now))) }
 {
     let every_row = node(
         alloc,
@@ -70,7 +70,7 @@ pub(crate) fn selection(
     selection: &FieldSelection,
     child: &BoundExpression,
 ) -> VortexResult<Option<BoundExpression>>
-    ensures { Answers (option_map bound_of) result (Ok (select_given (type_of dtype.now) selection.now (bound_of child.now))) }
+    ensures { ReturnsOrOom (option_map bound_of) result (Ok (select_given (type_of dtype.now) selection.now (bound_of child.now))) }
 {
     let Some(fields) = dtype.as_struct_fields_opt() else {
         return Ok(None);
@@ -88,7 +88,7 @@ fn none_of(
     dtype: &DType,
     child: &BoundExpression,
 ) -> VortexResult<Option<BoundExpression>>
-    ensures { Answers (option_map bound_of) result (Ok (none_given (type_of dtype.now) (bound_of child.now))) }
+    ensures { ReturnsOrOom (option_map bound_of) result (Ok (none_given (type_of dtype.now) (bound_of child.now))) }
 {
     if child.dtype().is_nullable() && !child.is::<Pack>() {
         return Ok(None);
@@ -115,7 +115,7 @@ fn some_of(
     selection: &FieldSelection,
     child: &BoundExpression,
 ) -> VortexResult<Option<BoundExpression>>
-    ensures { Answers (option_map bound_of) result (Ok (some_given (type_of dtype.now) selection.now (fields_of fields.now) (bound_of child.now))) }
+    ensures { ReturnsOrOom (option_map bound_of) result (Ok (some_given (type_of dtype.now) selection.now (fields_of fields.now) (bound_of child.now))) }
 {
     let BoundExpression::Scalar {
         scalar_fn: ScalarFnRef::Pack(options),

@@ -1,8 +1,8 @@
 // The standard rules: which functions have one, each in a function of its own.
 ghost use Rattle.std.specs.Prelude.{◌≡◌, IsFalse, None, Ok};
 ghost use Rattle.std.specs.Option.{option_map};
-ghost use Rattle.vx_value.specs.Answers.{Answers};
-ghost use Rattle.vx_rewrite_rules.specs.Given.{given_at, fill_given, is_pack};
+ghost use Rattle.vx_value.specs.Returns.{ReturnsOrOom};
+ghost use Rattle.vx_rewrite_rule_laws.specs.StandardGiven.{given_at, fill_given, is_pack};
 ghost use Rattle.vx_tree.specs.Views.{bound_of};
 
 use crate::cases::coalesce;
@@ -10,8 +10,7 @@ use crate::packs::{item_of_pack, selection};
 use crate::zips::zip_by_literal;
 use std::alloc::Global;
 use vx_fn::ScalarFnRef;
-use vx_rewrite_keep::Rule;
-use vx_rewrite_rule_sets::{only, pair, triple};
+use vx_rewrite_core::{Rule, only, pair, triple};
 use vx_tree::{BoundExpression, VortexResult};
 
 /// The standard rules, at most one of which fits a node:
@@ -31,8 +30,8 @@ use vx_tree::{BoundExpression, VortexResult};
 pub struct StandardRules;
 
 impl Rule for StandardRules {
-    ghost use Rattle.vx_rewrite_rules.specs.Rules.{RuleAt};
-    ghost use Rattle.vx_rewrite_rules.proofs.Lawfulness.{rules_lawful};
+    ghost use Rattle.vx_rewrite_rule_laws.specs.Rules.{RuleAt};
+    ghost use Rattle.vx_rewrite_rule_laws.proofs.StandardLawfulness.{rules_lawful};
 
     ghost gives = { λ _. RuleAt };
 
@@ -90,7 +89,7 @@ fn is_pack(tree: &BoundExpression) -> bool
 }
 
 fn given_at(alloc: Global, node: &BoundExpression) -> VortexResult<Option<BoundExpression>>
-    ensures { Answers (option_map bound_of) result (Ok (given_at (bound_of node.now))) }
+    ensures { ReturnsOrOom (option_map bound_of) result (Ok (given_at (bound_of node.now))) }
 {
     let BoundExpression::Scalar {
         dtype,
@@ -131,7 +130,7 @@ fn given_at(alloc: Global, node: &BoundExpression) -> VortexResult<Option<BoundE
 // A fill of what is never null is its input.
 #[inline(never)]
 fn fill_of_not_null(input: &BoundExpression) -> VortexResult<Option<BoundExpression>>
-    ensures { Answers (option_map bound_of) result (Ok (fill_given (bound_of input.now))) }
+    ensures { ReturnsOrOom (option_map bound_of) result (Ok (fill_given (bound_of input.now))) }
 {
     if input.dtype().is_nullable() {
         return Ok(None);

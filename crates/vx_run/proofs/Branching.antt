@@ -1,7 +1,7 @@
 -- The CASE of the row `branches`, bound, and what the branch rules leave of it.
 use Rattle.std.specs.Prelude.{◌≡◌, ℕ, true, false, Ok, Err, Result, IfOk, IfErr, codes}
 use Rattle.std.proofs.Common.{refl, sym, ap, inl, inr, subst, arith}
-use Rattle.vx_dtype.specs.Answers.{Answers}
+use Rattle.vx_dtype.specs.Returns.{ReturnsOrOom}
 use Rattle.vx_dtype.specs.declared.error.VortexError.{VortexError}
 use Rattle.vx_dtype.specs.declared.error.VortexError.TheVariants.{OutOfMemory}
 use Rattle.vx_value.specs.Types.{Name, LogicalType, bool}
@@ -11,13 +11,13 @@ use Rattle.vx_tree.specs.Examples.{i32, i32_or_null, with_x, number_of}
 use Rattle.vx_tree.specs.Trees.{BoundTree, scope, node, bound, WellTyped, Over}
 use Rattle.vx_tree.specs.Views.{bound_of}
 use Rattle.vx_tree.specs.declared.bound.BoundExpression.{BoundExpression}
-use Rattle.vx_rewrite_keep.specs.Steps.{here, Steps, no_step, one_more, GivesNothing, Normal, NormalBelow}
-use Rattle.vx_rewrite_optimizer.specs.NormalForms.{NormalForm}
-use Rattle.vx_rewrite_rule_sets.specs.Modest.{IsLiteral, is_literal}
-use Rattle.vx_rewrite_rules.specs.Rules.{RuleAt, fill_of_not_null, coalesce_to_null, coalesce, null_first}
-use Rattle.vx_rewrite_rule_sets.specs.Nodes.{one_bound, two_bounds, three_bounds, literal_node}
-use Rattle.vx_rewrite_branch_rules.specs.Branches.{BranchRuleAt, other_pairs, is_false}
-use Rattle.vx_rewrite_branch_rules.proofs.Lawfulness.{branch_rules_modest, branch_form_is_one}
+use Rattle.vx_rewrite_core.specs.Steps.{here, Steps, no_step, one_more, GivesNothing, Normal, NormalBelow}
+use Rattle.vx_rewrite_core.specs.NormalForms.{NormalForm}
+use Rattle.vx_rewrite_core.specs.FromSubterms.{IsLiteral, is_literal}
+use Rattle.vx_rewrite_rule_laws.specs.Rules.{RuleAt, fill_of_not_null, coalesce_to_null, coalesce, null_first}
+use Rattle.vx_rewrite_core.specs.Nodes.{one_bound, two_bounds, three_bounds, literal_node}
+use Rattle.vx_rewrite_rule_laws.specs.Branches.{BranchRuleAt, other_pairs, is_false}
+use Rattle.vx_rewrite_rule_laws.proofs.BranchLawfulness.{branch_rules_modest, branch_form_is_one}
 use Rattle.vx_run.specs.Branches.{BranchesIsNormalForm, branches, never_then_zero}
 
 -- `$.x`, whether it is null, false and 0, bound to the rows' type
@@ -115,6 +115,6 @@ branches_is_normal_form b u n e s g =
 
 -- what is left of the CASE is the tree of `branches`
 pub left : (b : BoundTree) (r : Result BoundExpression VortexError) → binding never_then_zero branches.batch.type ≡ Ok b → IfOk r (λ u. NormalForm BranchRuleAt b (bound_of u)) → IfErr r (λ e. e ≡ OutOfMemory) →
-    Answers bound_of r (binding branches.source branches.batch.type)
+    ReturnsOrOom bound_of r (binding branches.source branches.batch.type)
 left b (Ok u) e f memory = branches_is_normal_form b (bound_of u) f.count e f.steps f.normal
 left b (Err x) e f memory = inl memory

@@ -1,7 +1,7 @@
 -- The tree of the row `kleene`, bound, and what merging leaves of it.
 use Rattle.std.specs.Prelude.{◌≡◌, ℕ, false, Ok, Err, Result, IfOk, IfErr, codes}
 use Rattle.std.proofs.Common.{refl, sym, ap, inl, subst}
-use Rattle.vx_dtype.specs.Answers.{Answers}
+use Rattle.vx_dtype.specs.Returns.{ReturnsOrOom}
 use Rattle.vx_dtype.specs.declared.error.VortexError.{VortexError}
 use Rattle.vx_dtype.specs.declared.error.VortexError.TheVariants.{OutOfMemory}
 use Rattle.vx_value.specs.Types.{null}
@@ -11,7 +11,7 @@ use Rattle.vx_tree.specs.Examples.{i32, i32_or_null, bool_or_null, with_x, numbe
 use Rattle.vx_tree.specs.Trees.{BoundTree, scope, node, no_bound, bound, WellTyped, Over}
 use Rattle.vx_tree.specs.Views.{bound_of}
 use Rattle.vx_tree.specs.declared.bound.BoundExpression.{BoundExpression}
-use Rattle.vx_rewrite_keep.specs.Steps.{here, no_step, one_more}
+use Rattle.vx_rewrite_core.specs.Steps.{here, no_step, one_more}
 use Rattle.vx_rewrite_fusing.specs.Conjuncts.{two_bounds, and_node, between_node, below_and_above, Fused}
 use Rattle.vx_rewrite_fusing.specs.Merging.{itself, right_goes, Merges}
 use Rattle.vx_rewrite_fusing.proofs.Merges.{fused_alone}
@@ -88,6 +88,6 @@ fused_is_kleene_merged b u n e m f =
 
 -- what is found in the tree of `kleene` is that of `fused`
 pub found : (b : BoundTree) (r : Result BoundExpression VortexError) → binding kleene.source kleene.batch.type ≡ Ok b → IfOk r (λ u. (n : ℕ) × Merges b n (bound_of u)) → IfOk r (λ u. Fused (bound_of u)) → IfErr r (λ e. e ≡ OutOfMemory) →
-    Answers bound_of r (binding fused.source fused.batch.type)
+    ReturnsOrOom bound_of r (binding fused.source fused.batch.type)
 found b (Ok u) e m f memory = fused_is_kleene_merged b (bound_of u) m.0 e m.1 f
 found b (Err x) e m f memory = inl memory

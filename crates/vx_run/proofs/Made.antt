@@ -1,7 +1,7 @@
 -- Trees that were made, and what they are bound to.
 use Rattle.std.specs.Prelude.{◌≡◌, Ok}
 use Rattle.std.proofs.Common.{sym, ap, ◌∙◌}
-use Rattle.vx_dtype.specs.Answers.{Answers}
+use Rattle.vx_dtype.specs.Returns.{ReturnsOrOom}
 use Rattle.vx_value.specs.Types.{LogicalType}
 use Rattle.vx_tree.specs.Binding.{binding}
 use Rattle.vx_tree.specs.Trees.{Tree, BoundTree, unbound, WellTyped, Over}
@@ -10,7 +10,7 @@ use Rattle.vx_tree.specs.declared.expression.Expression.{Expression}
 use Rattle.vx_tree.proofs.Unique.{binding-unbound}
 
 -- the tree is the one that was to be made
-pub made : (d : Tree) (e : Expression) → Answers tree_of (Ok e) (Ok d) → d ≡ tree_of e
+pub made : (d : Tree) (e : Expression) → ReturnsOrOom tree_of (Ok e) (Ok d) → d ≡ tree_of e
 made d e given = cc
 
 -- a bound tree is what that source is bound to

@@ -1,7 +1,7 @@
 -- What queries that aren't split give.
 use Rattle.std.specs.Prelude.{◌≡◌, List, [], ◌∷◌, false, Result, Ok, Err, IfErr}
 use Rattle.std.proofs.Common.{refl, sym, ◌∙◌, subst, inl}
-use Rattle.vx_dtype.specs.Answers.{Answers}
+use Rattle.vx_dtype.specs.Returns.{ReturnsOrOom}
 use Rattle.vx_dtype.specs.declared.error.VortexError.{VortexError}
 use Rattle.vx_dtype.specs.declared.error.VortexError.TheVariants.{OutOfMemory}
 use Rattle.vx_value.specs.Columns.{Batch}
@@ -23,19 +23,19 @@ use Rattle.vx_run.proofs.Branching.{one_form, unfilled, unfilled_typed, unfilled
 use Rattle.vx_run.proofs.Fusing.{fused_is_kleene_merged, unfused, unfused_typed, unfused_over, range}
 
 -- the tree is evaluated whole
-whole_runs : (u : BoundTree) (c : Batch) (r : Result Batch VortexError) → Runs false u c r → Answers (λ x. x) r (evaluation u c)
+whole_runs : (u : BoundTree) (c : Batch) (r : Result Batch VortexError) → Runs false u c r → ReturnsOrOom (λ x. x) r (evaluation u c)
 whole_runs u c r (no_memory e) = rw e (inl refl)
 whole_runs u c r (whole s a) = a
 whole_runs u c r (uncovered s n a) = a
 whole_runs u c r (parted s v i a) = cc
 
 -- passes that lead to one tree alone give what that tree gives
-one_tree : (passes : List Pass) (b u : BoundTree) (c : Batch) (r : Result Batch VortexError) → ((w : BoundTree) → Passed passes b w → w ≡ u) → RunsPassed passes false b c r → Answers (λ x. x) r (evaluation u c)
+one_tree : (passes : List Pass) (b u : BoundTree) (c : Batch) (r : Result Batch VortexError) → ((w : BoundTree) → Passed passes b w → w ≡ u) → RunsPassed passes false b c r → ReturnsOrOom (λ x. x) r (evaluation u c)
 one_tree passes b u c r alone (not_passed e) = rw e (inl refl)
-one_tree passes b u c r alone (passed {u = w} p run) = subst (λ t. Answers (λ x. x) r (evaluation t c)) (alone w p) (whole_runs w c r run)
+one_tree passes b u c r alone (passed {u = w} p run) = subst (λ t. ReturnsOrOom (λ x. x) r (evaluation t c)) (alone w p) (whole_runs w c r run)
 
 -- without a pass it is the source, bound
-pub unpassed : (b : BoundTree) (c : Batch) (r : Result Batch VortexError) → RunsPassed [] false b c r → Answers (λ x. x) r (evaluation b c)
+pub unpassed : (b : BoundTree) (c : Batch) (r : Result Batch VortexError) → RunsPassed [] false b c r → ReturnsOrOom (λ x. x) r (evaluation b c)
 unpassed b c r runs = one_tree [] b b c r (λ w p. p) runs
 
 memory_alone : (e : Tree) (c : Batch) (r : Result Batch VortexError) → IsMeantBy e c r → IfErr r (λ y. y ≡ OutOfMemory)
@@ -56,7 +56,7 @@ fused_alone u w f p = p.2 ∙ sym (the_range p.0 (fused_is_kleene_merged unfused
 
 -- of `kleene` by `find_between` it is the tree of `fused`
 pub fused_query : (e : Tree) (c : Batch) (r : Result Batch VortexError) → kleene.source ≡ e → c.type ≡ fused.batch.type → (IsBound e c.type unfused → RunsPassed (FindBetween ∷ []) false unfused c r)
-    → (u : BoundTree) → binding fused.source fused.batch.type ≡ Ok u → Answers (λ x. x) r (evaluation u c)
+    → (u : BoundTree) → binding fused.source fused.batch.type ≡ Ok u → ReturnsOrOom (λ x. x) r (evaluation u c)
 fused_query e c r is over runs u f =
     one_tree (FindBetween ∷ []) unfused u c r (λ w p. fused_alone u w f p) (runs (record { source = is; well_typed = unfused_typed; over = subst (Over unfused) (sym over) unfused_over }))
 
@@ -68,6 +68,6 @@ filled_alone u w f p = p.2 ∙ sym (one_form p.0 p.1.count p.1.steps p.1.normal)
 
 -- of its CASE by the branch rules it is the tree of `branches`
 pub branches_query : (e : Tree) (c : Batch) (r : Result Batch VortexError) → never_then_zero ≡ e → c.type ≡ branches.batch.type → (IsBound e c.type unfilled → RunsPassed (Branches ∷ []) false unfilled c r)
-    → (u : BoundTree) → binding branches.source branches.batch.type ≡ Ok u → Answers (λ x. x) r (evaluation u c)
+    → (u : BoundTree) → binding branches.source branches.batch.type ≡ Ok u → ReturnsOrOom (λ x. x) r (evaluation u c)
 branches_query e c r is over runs u f =
     one_tree (Branches ∷ []) unfilled u c r (λ w p. filled_alone u w f p) (runs (record { source = is; well_typed = unfilled_typed; over = subst (Over unfilled) (sym over) unfilled_over }))

@@ -1,7 +1,7 @@
 -- The tree of the row `scan`, bound, which no rule changes, and what a scan of it gives.
 use Rattle.std.specs.Prelude.{◌≡◌, ℕ, false, List, Result, Ok, Err, IfOk, map, codes}
 use Rattle.std.proofs.Common.{refl, sym, ap, inl, inr, subst, ◌∙◌, rules}
-use Rattle.vx_dtype.specs.Answers.{Answers}
+use Rattle.vx_dtype.specs.Returns.{ReturnsOrOom}
 use Rattle.vx_dtype.specs.declared.error.VortexError.{VortexError}
 use Rattle.vx_value.specs.Columns.{Batch, batch}
 use Rattle.vx_value.specs.Types.{Name, LogicalType, Datum}
@@ -13,14 +13,14 @@ use Rattle.vx_tree.specs.Meaning.{mean}
 use Rattle.vx_value.specs.Views.{type_of}
 use Rattle.vx_tree.specs.Views.{bound_of}
 use Rattle.vx_tree.specs.Trees.{Tree, BoundTree, scope, node, BoundTrees, unbound, node_type, WellTyped, Over}
-use Rattle.vx_rewrite_keep.proofs.Keeping.{keeps_refl}
-use Rattle.vx_rewrite_keep.proofs.Stepping.{no_step_left}
-use Rattle.vx_rewrite_keep.specs.Steps.{Steps, no_step, one_more, GivesNothing, Normal}
+use Rattle.vx_rewrite_core.proofs.Keeping.{keeps_refl}
+use Rattle.vx_rewrite_core.proofs.Stepping.{no_step_left}
+use Rattle.vx_rewrite_core.specs.Steps.{Steps, no_step, one_more, GivesNothing, Normal}
 use Rattle.vx_eval.specs.Evaluation.{evaluation}
-use Rattle.vx_rewrite_rule_sets.specs.Modest.{is_literal}
-use Rattle.vx_rewrite_rule_sets.specs.Nodes.{one_bound, two_bounds, literal_node}
-use Rattle.vx_rewrite_rules.specs.Rules.{coalesce_to_null, coalesce}
-use Rattle.vx_rewrite_branch_rules.specs.Branches.{BranchRuleAt}
+use Rattle.vx_rewrite_core.specs.FromSubterms.{is_literal}
+use Rattle.vx_rewrite_core.specs.Nodes.{one_bound, two_bounds, literal_node}
+use Rattle.vx_rewrite_rule_laws.specs.Rules.{coalesce_to_null, coalesce}
+use Rattle.vx_rewrite_rule_laws.specs.Branches.{BranchRuleAt}
 use Rattle.vx_scan.specs.Plans.{IsPlanFor}
 use Rattle.vx_scan.specs.declared.planned.ScanPlan.{ScanPlan}
 use Rattle.vx_scan.specs.Scans.{KeepsMeaning, HasTypeOf}
@@ -124,7 +124,7 @@ same_batch : (x : Batch) (t : LogicalType) (rows : List Datum) → x.type ≡ t 
 same_batch x t rows is are = ap (λ s. batch s rows) (sym is) ∙ ap (batch x.type) (sym are)
 
 -- a scan of a tree that never faults gives what the tree gives
-pub scan_gives : (e : Tree) (c : Batch) (u : BoundTree) (r : Result Batch VortexError) → IsQuiet e → IsBound e c.type u → KeepsMeaning u c r → HasTypeOf u r → Answers (λ x. x) r (evaluation u c)
+pub scan_gives : (e : Tree) (c : Batch) (u : BoundTree) (r : Result Batch VortexError) → IsQuiet e → IsBound e c.type u → KeepsMeaning u c r → HasTypeOf u r → ReturnsOrOom (λ x. x) r (evaluation u c)
 scan_gives e c u (Ok x) quiet is means typed =
     let none : HasNoFault u c.rows = never_faults u c.rows (subst IsQuiet (sym is.source) quiet) in
     let rows : x.rows ≡ map (mean (unbound u) c.type) c.rows = means e u is (keeps_refl u is.well_typed) none ∙ ap (λ t. map (mean t c.type) c.rows) (sym is.source) in
@@ -133,6 +133,6 @@ scan_gives e c u (Ok x) quiet is means typed =
 scan_gives e c u (Err y) quiet is means typed = inl (means e u is (keeps_refl u is.well_typed) (never_faults u c.rows (subst IsQuiet (sym is.source) quiet)))
 
 -- so of the tree of `scan`
-pub both_scanned : (c read : Batch) (u : BoundTree) (r : Result Batch VortexError) → read ≡ c → c.type ≡ scan.batch.type → binding scan.source scan.batch.type ≡ Ok u → KeepsMeaning u read r → HasTypeOf u r → Answers (λ x. x) r (evaluation u c)
+pub both_scanned : (c read : Batch) (u : BoundTree) (r : Result Batch VortexError) → read ≡ c → c.type ≡ scan.batch.type → binding scan.source scan.batch.type ≡ Ok u → KeepsMeaning u read r → HasTypeOf u r → ReturnsOrOom (λ x. x) r (evaluation u c)
 both_scanned c read u r same type e means typed =
     scan_gives scan.source c u r scan_quiet (subst (λ t. IsBound scan.source t u) (sym type) (bound_scan u e)) (subst (λ b. KeepsMeaning u b r) same means) typed

@@ -5,8 +5,8 @@ use Rattle.vx_fn.specs.Functions.{case_when, fill_null, is_null, truth_type}
 use Rattle.vx_tree.specs.Binding.{binding}
 use Rattle.vx_tree.specs.Examples.{one, two, three, x, lit, lit_i32}
 use Rattle.vx_tree.specs.Trees.{Tree, call, tree, BoundTree}
-use Rattle.vx_rewrite_keep.specs.Steps.{Steps, Normal}
-use Rattle.vx_rewrite_branch_rules.specs.Branches.{BranchRuleAt}
+use Rattle.vx_rewrite_core.specs.Steps.{Steps, Normal}
+use Rattle.vx_rewrite_rule_laws.specs.Branches.{BranchRuleAt}
 use Rattle.vx_run.specs.Coalesce.{coalesce}
 use Rattle.vx_run.specs.Samples.{Sample}
 

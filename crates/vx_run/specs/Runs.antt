@@ -20,8 +20,8 @@ abbrev pub EndsAtNone : List ℕ → Option (List ℕ) → Option (List ℕ) →
 EndsAtNone complaint out out' err err' status = Keeps out out' × Tells err err' complaint 2 status
 
 -- a run on what was asked
-abbrev pub Ends : Result Row (List ℕ) → Option (List ℕ) → Option (List ℕ) → Option (List ℕ) → Option (List ℕ) → ℕ → Type 0
-Ends request out out' err err' status =
+abbrev pub EndsShow : Result Row (List ℕ) → Option (List ℕ) → Option (List ℕ) → Option (List ℕ) → Option (List ℕ) → ℕ → Type 0
+EndsShow request out out' err err' status =
     MatchResult request
     (λ row. EndsAtRow row out out' err err' status)
     (λ complaint. EndsAtNone complaint out out' err err' status)

@@ -1,6 +1,6 @@
 // What the row `branches` shows: a CASE whose first condition never holds, after the branch rules.
 ghost use Rattle.std.specs.Prelude.{◌≡◌, false, Ok, IfOk, IfErr};
-ghost use Rattle.vx_dtype.specs.Answers.{Answers};
+ghost use Rattle.vx_dtype.specs.Returns.{ReturnsOrOom};
 ghost use Rattle.vx_dtype.specs.declared.error.VortexError.TheVariants.{OutOfMemory};
 ghost use Rattle.vx_value.specs.Types.{bool};
 ghost use Rattle.vx_value.specs.Views.{type_of};
@@ -17,7 +17,7 @@ use std::alloc::Global;
 use vx_build::{is_null, lit, nested_case_when};
 use vx_query::run_query;
 use vx_rewrite::{BranchRules, Pass};
-use vx_rewrite_optimizer::optimized;
+use vx_rewrite_core::optimized;
 use vx_tree::{BoundExpression, Expression};
 use vx_types::{Column, DType, Scalar, VortexResult};
 
@@ -25,7 +25,7 @@ use vx_types::{Column, DType, Scalar, VortexResult};
 /// the type of the rows of `coalesce`.
 pub fn tree(alloc: Global, scope: &DType) -> VortexResult<BoundExpression>
     requires { type_of scope.now ≡ branches.batch.type }
-    ensures { Answers bound_of result (binding branches.source branches.batch.type) }
+    ensures { ReturnsOrOom bound_of result (binding branches.source branches.batch.type) }
 {
     let case = Box::new(alloc, source(alloc)?)?;
     let bound = Box::new(alloc, case.bind(alloc, scope)?)?;
@@ -36,7 +36,7 @@ pub fn tree(alloc: Global, scope: &DType) -> VortexResult<BoundExpression>
 /// the rows of `coalesce`.
 pub fn result(alloc: Global, batch: &Column) -> VortexResult<Column>
     requires { batch.now.type ≡ branches.batch.type }
-    ensures { (b : BoundTree) → binding branches.source branches.batch.type ≡ Ok b → Answers (λ c. c) result (evaluation b batch.now) }
+    ensures { (b : BoundTree) → binding branches.source branches.batch.type ≡ Ok b → ReturnsOrOom (λ c. c) result (evaluation b batch.now) }
 {
     let case = source(alloc)?;
     let answer = run_query(alloc, &case, batch, &[Pass::Branches], false);
@@ -46,7 +46,7 @@ pub fn result(alloc: Global, batch: &Column) -> VortexResult<Column>
 
 // `CASE WHEN false THEN $.x WHEN $.x is null THEN 0 ELSE $.x END`.
 fn source(alloc: Global) -> VortexResult<Expression>
-    ensures { Answers tree_of result (Ok never_then_zero) }
+    ensures { ReturnsOrOom tree_of result (Ok never_then_zero) }
 {
     let mut cases = Vec::with_capacity(alloc, 2)?;
     cases.push(never(alloc)?)?;

@@ -1,7 +1,7 @@
 // What the row `cases` shows: a CASE of two conditions, of which the first that is true wins.
 ghost use Rattle.std.specs.Prelude.{◌≡◌, Ok, IfOk, IfErr};
 ghost use Rattle.vx_dtype.specs.declared.error.VortexError.TheVariants.{OutOfMemory};
-ghost use Rattle.vx_dtype.specs.Answers.{Answers};
+ghost use Rattle.vx_dtype.specs.Returns.{ReturnsOrOom};
 ghost use Rattle.vx_value.specs.Types.{int};
 ghost use Rattle.vx_fn.specs.Functions.{compares, greater};
 ghost use Rattle.vx_tree.specs.Examples.{i32, x, lit, operated};
@@ -16,7 +16,7 @@ use vx_types::{Column, DType, Nullability, PType, Value, VortexResult};
 
 /// `CASE WHEN $.x > 0 THEN 10 WHEN $.x > 3 THEN 20 ELSE 30 END`.
 pub fn source(alloc: Global) -> VortexResult<Expression>
-    ensures { Answers tree_of result (Ok cases.source) }
+    ensures { ReturnsOrOom tree_of result (Ok cases.source) }
 {
     let mut cases = Vec::with_capacity(alloc, 2)?;
     cases.push(case(alloc, 0, 10)?)?;
@@ -39,7 +39,7 @@ fn case(alloc: Global, bound: i32, value: i32) -> VortexResult<(Expression, Expr
 
 /// The rows `{x: 1}`, `{x: 5}` and `{x: null}`.
 pub fn batch(alloc: Global) -> VortexResult<Column>
-    ensures { Answers (λ c. c) result (Ok cases.batch) }
+    ensures { ReturnsOrOom (λ c. c) result (Ok cases.batch) }
 {
     let mut rows = Vec::with_capacity(alloc, 3)?;
     rows.push(row_of(alloc, Value::Int(1))?)?;

@@ -1,6 +1,6 @@
 // What the row `coalesce` shows: a CASE that gives 0 for null.
 ghost use Rattle.std.specs.Prelude.{Ok};
-ghost use Rattle.vx_dtype.specs.Answers.{Answers};
+ghost use Rattle.vx_dtype.specs.Returns.{ReturnsOrOom};
 ghost use Rattle.vx_tree.specs.Views.{tree_of};
 ghost use Rattle.vx_run.specs.Coalesce.{coalesce};
 
@@ -12,7 +12,7 @@ use vx_types::{Column, DType, Nullability, PType, Value, VortexResult};
 
 /// `CASE WHEN $.x is null THEN 0 ELSE $.x END`.
 pub fn source(alloc: Global) -> VortexResult<Expression>
-    ensures { Answers tree_of result (Ok coalesce.source) }
+    ensures { ReturnsOrOom tree_of result (Ok coalesce.source) }
 {
     let condition = Box::new(alloc, is_null(alloc, field_x(alloc)?)?)?;
     let zero = Box::new(alloc, number(alloc, 0)?)?;
@@ -22,7 +22,7 @@ pub fn source(alloc: Global) -> VortexResult<Expression>
 
 /// The rows `{x: null}` and `{x: 4}`.
 pub fn batch(alloc: Global) -> VortexResult<Column>
-    ensures { Answers (λ c. c) result (Ok coalesce.batch) }
+    ensures { ReturnsOrOom (λ c. c) result (Ok coalesce.batch) }
 {
     let mut rows = Vec::with_capacity(alloc, 2)?;
     rows.push(row_of(alloc, Value::Null)?)?;

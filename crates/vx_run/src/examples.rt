@@ -1,6 +1,6 @@
 // Small expressions, types and values over one field x, of which the rows are made.
 ghost use Rattle.std.specs.Prelude.{Ok};
-ghost use Rattle.vx_dtype.specs.Answers.{Answers};
+ghost use Rattle.vx_dtype.specs.Returns.{ReturnsOrOom};
 ghost use Rattle.vx_value.specs.Views.{type_of, value_of};
 ghost use Rattle.vx_tree.specs.Examples.{i32, with_x, row_of, x, lit, operated};
 ghost use Rattle.vx_value.specs.Types.{int};
@@ -16,7 +16,7 @@ use vx_types::{
 
 // The struct type with the one field x.
 pub fn with_x(alloc: Global, dtype: DType) -> VortexResult<DType>
-    ensures { Answers type_of result (Ok (with_x (type_of dtype))) }
+    ensures { ReturnsOrOom type_of result (Ok (with_x (type_of dtype))) }
 {
     let names = vec![in alloc; FieldName::new(alloc, "x")?]?;
     let types = vec![in alloc; dtype]?;
@@ -26,28 +26,28 @@ pub fn with_x(alloc: Global, dtype: DType) -> VortexResult<DType>
 
 // The struct value of one field.
 pub fn row_of(alloc: Global, value: Value) -> VortexResult<Value>
-    ensures { Answers value_of result (Ok (row_of (value_of value))) }
+    ensures { ReturnsOrOom value_of result (Ok (row_of (value_of value))) }
 {
     Ok(Value::Struct(vec![in alloc; value]?))
 }
 
 // `$.x`.
 pub fn field_x(alloc: Global) -> VortexResult<Expression>
-    ensures { Answers tree_of result (Ok x) }
+    ensures { ReturnsOrOom tree_of result (Ok x) }
 {
     col(alloc, FieldName::new(alloc, "x")?)
 }
 
 // The number as an expression.
 pub fn number(alloc: Global, n: i32) -> VortexResult<Expression>
-    ensures { Answers tree_of result (Ok (lit i32 (int n))) }
+    ensures { ReturnsOrOom tree_of result (Ok (lit i32 (int n))) }
 {
     lit(alloc, Scalar::from_i32(n))
 }
 
 // `$.x` compared with the other operand.
 pub fn x_compared(alloc: Global, operator: Operator, other: Expression) -> VortexResult<Expression>
-    ensures { Answers tree_of result (Ok (operated (operation_of operator) x (tree_of other))) }
+    ensures { ReturnsOrOom tree_of result (Ok (operated (operation_of operator) x (tree_of other))) }
 {
     let other = Box::new(alloc, other)?;
     let x = field_x(alloc)?;

@@ -1,6 +1,6 @@
 // What the row `fused` shows: the bounds of the row `kleene` as one range.
 ghost use Rattle.std.specs.Prelude.{◌≡◌, Ok};
-ghost use Rattle.vx_dtype.specs.Answers.{Answers};
+ghost use Rattle.vx_dtype.specs.Returns.{ReturnsOrOom};
 ghost use Rattle.vx_value.specs.Views.{type_of};
 ghost use Rattle.vx_eval.specs.Evaluation.{evaluation};
 ghost use Rattle.vx_tree.specs.Binding.{binding};
@@ -19,7 +19,7 @@ use vx_types::{Column, DType, VortexResult};
 /// of its rows.
 pub fn tree(alloc: Global, scope: &DType) -> VortexResult<BoundExpression>
     requires { type_of scope.now ≡ fused.batch.type }
-    ensures { Answers bound_of result (binding fused.source fused.batch.type) }
+    ensures { ReturnsOrOom bound_of result (binding fused.source fused.batch.type) }
 {
     let unfused = Box::new(alloc, kleene::source(alloc)?)?;
     let bound = unfused.bind(alloc, scope)?;
@@ -30,7 +30,7 @@ pub fn tree(alloc: Global, scope: &DType) -> VortexResult<BoundExpression>
 /// of the type of its rows.
 pub fn result(alloc: Global, batch: &Column) -> VortexResult<Column>
     requires { batch.now.type ≡ fused.batch.type }
-    ensures { (b : BoundTree) → binding fused.source fused.batch.type ≡ Ok b → Answers (λ c. c) result (evaluation b batch.now) }
+    ensures { (b : BoundTree) → binding fused.source fused.batch.type ≡ Ok b → ReturnsOrOom (λ c. c) result (evaluation b batch.now) }
 {
     let unfused = kleene::source(alloc)?;
     let answer = run_query(alloc, &unfused, batch, &[Pass::FindBetween], false);

@@ -1,6 +1,6 @@
 // What the row `kleene` shows: two bounds of one field, of which one is null.
 ghost use Rattle.std.specs.Prelude.{Ok};
-ghost use Rattle.vx_dtype.specs.Answers.{Answers};
+ghost use Rattle.vx_dtype.specs.Returns.{ReturnsOrOom};
 ghost use Rattle.vx_tree.specs.Views.{tree_of};
 ghost use Rattle.vx_run.specs.Kleene.{kleene};
 
@@ -12,7 +12,7 @@ use vx_types::{Column, DType, Nullability, PType, Scalar, Value, VortexResult};
 
 /// `$.x >= null and $.x <= 5`.
 pub fn source(alloc: Global) -> VortexResult<Expression>
-    ensures { Answers tree_of result (Ok kleene.source) }
+    ensures { ReturnsOrOom tree_of result (Ok kleene.source) }
 {
     let null = Scalar::null(DType::Primitive(PType::I32, Nullability::Nullable));
     let lower = Box::new(alloc, x_compared(alloc, Operator::Gte, lit(alloc, null)?)?)?;
@@ -22,7 +22,7 @@ pub fn source(alloc: Global) -> VortexResult<Expression>
 
 /// The rows `{x: 10}` and `{x: 1}`.
 pub fn batch(alloc: Global) -> VortexResult<Column>
-    ensures { Answers (λ c. c) result (Ok kleene.batch) }
+    ensures { ReturnsOrOom (λ c. c) result (Ok kleene.batch) }
 {
     let mut rows = Vec::with_capacity(alloc, 2)?;
     rows.push(row_of(alloc, Value::Int(10))?)?;

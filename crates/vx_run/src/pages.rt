@@ -1,6 +1,6 @@
 // The pages of the rows.
 ghost use Rattle.std.specs.Prelude.{◌≡◌, IfErr, Ok, string_bytes};
-ghost use Rattle.vx_dtype.specs.Answers.{Answers};
+ghost use Rattle.vx_dtype.specs.Returns.{ReturnsOrOom};
 ghost use Rattle.vx_dtype.specs.declared.error.VortexError.TheVariants.{OutOfMemory};
 ghost use Rattle.vx_tree.specs.Binding.{binding};
 ghost use Rattle.vx_tree.specs.Trees.{BoundTree, node_type, unbound};
@@ -29,7 +29,7 @@ use vx_types::{Column, DType, VortexResult};
 
 /// The row's page. Refuses with `OutOfMemory` (1) alone.
 pub fn page(alloc: Global, row: Row) -> VortexResult<String>
-    ensures { Answers string_bytes result (Ok (page_of row)) }
+    ensures { ReturnsOrOom string_bytes result (Ok (page_of row)) }
 {
     match row {
         Row::Kleene => {
@@ -52,7 +52,7 @@ pub fn page(alloc: Global, row: Row) -> VortexResult<String>
 
 // The page of the row `fused`: the expression of `kleene` as a query by `find_between`.
 fn fused_page(alloc: Global) -> VortexResult<String>
-    ensures { Answers string_bytes result (Ok (page_of Fused)) }
+    ensures { ReturnsOrOom string_bytes result (Ok (page_of Fused)) }
 {
     let batch = kleene::batch(alloc)?;
     let tree = fused::tree(alloc, batch.dtype())?;
@@ -65,7 +65,7 @@ fn fused_page(alloc: Global) -> VortexResult<String>
 fn fused_text(alloc: Global, tree: &BoundExpression, batch: &Column) -> VortexResult<String>
     requires tree { binding fused.source fused.batch.type ≡ Ok (bound_of tree.now) }
     requires batch { batch.now ≡ fused.batch }
-    ensures { let tree = bound_of tree.now in Answers string_bytes result (Ok (lines (unbound tree) batch.now (node_type tree))) }
+    ensures { let tree = bound_of tree.now in ReturnsOrOom string_bytes result (Ok (lines (unbound tree) batch.now (node_type tree))) }
 {
     let column = fused::result(alloc, batch)?;
     bound_text(alloc, tree, batch, &column)
@@ -73,7 +73,7 @@ fn fused_text(alloc: Global, tree: &BoundExpression, batch: &Column) -> VortexRe
 
 // The page of the row `branches`: the CASE as a query by the branch rules.
 fn branches_page(alloc: Global) -> VortexResult<String>
-    ensures { Answers string_bytes result (Ok (page_of Branches)) }
+    ensures { ReturnsOrOom string_bytes result (Ok (page_of Branches)) }
 {
     let batch = coalesce::batch(alloc)?;
     let tree = branches::tree(alloc, batch.dtype())?;
@@ -86,7 +86,7 @@ fn branches_page(alloc: Global) -> VortexResult<String>
 fn branches_text(alloc: Global, tree: &BoundExpression, batch: &Column) -> VortexResult<String>
     requires tree { binding branches.source branches.batch.type ≡ Ok (bound_of tree.now) }
     requires batch { batch.now ≡ branches.batch }
-    ensures { let tree = bound_of tree.now in Answers string_bytes result (Ok (lines (unbound tree) batch.now (node_type tree))) }
+    ensures { let tree = bound_of tree.now in ReturnsOrOom string_bytes result (Ok (lines (unbound tree) batch.now (node_type tree))) }
 {
     let column = branches::result(alloc, batch)?;
     bound_text(alloc, tree, batch, &column)
@@ -94,7 +94,7 @@ fn branches_text(alloc: Global, tree: &BoundExpression, batch: &Column) -> Vorte
 
 // The page of the row `scan`: the conditions scanned by their plan.
 fn scan_page(alloc: Global) -> VortexResult<String>
-    ensures { Answers string_bytes result (Ok (page_of Scan)) }
+    ensures { ReturnsOrOom string_bytes result (Ok (page_of Scan)) }
 {
     let batch = scan::batch(alloc)?;
     let plan = scan::planned(alloc, batch.dtype())?;
@@ -108,7 +108,7 @@ fn scan_text(alloc: Global, plan: &ScanPlan, batch: &Column) -> VortexResult<Str
     requires tree { binding scan.source scan.batch.type ≡ Ok (bound_of plan.now.tree) }
     requires scope { type_of plan.now.scope ≡ scan.batch.type }
     requires batch { batch.now ≡ scan.batch }
-    ensures { let tree = bound_of plan.now.tree in Answers string_bytes result (Ok (lines (unbound tree) batch.now (node_type tree))) }
+    ensures { let tree = bound_of plan.now.tree in ReturnsOrOom string_bytes result (Ok (lines (unbound tree) batch.now (node_type tree))) }
 {
     let column = scan::result(alloc, plan, batch)?;
     bound_text(alloc, plan.tree(), batch, &column)
@@ -118,7 +118,7 @@ fn scan_text(alloc: Global, plan: &ScanPlan, batch: &Column) -> VortexResult<Str
 // on no batch.
 fn sample_text(alloc: Global, source: Expression, batch: Column) -> VortexResult<String>
     requires { IsQuiet (tree_of source) }
-    ensures { Answers string_bytes result (page_text (tree_of source) batch) }
+    ensures { ReturnsOrOom string_bytes result (page_text (tree_of source) batch) }
 {
     let text = page_text(alloc, &source, &batch);
     drop(source);
@@ -130,7 +130,7 @@ fn sample_text(alloc: Global, source: Expression, batch: Column) -> VortexResult
 // prover, and what is dropped by name isn't.
 fn page_text(alloc: Global, source: &Expression, batch: &Column) -> VortexResult<String>
     requires { IsQuiet (tree_of source.now) }
-    ensures { Answers string_bytes result (page_text (tree_of source.now) batch.now) }
+    ensures { ReturnsOrOom string_bytes result (page_text (tree_of source.now) batch.now) }
 {
     let bound = source.bind(alloc, batch.dtype())?;
     let text = evaluated_text(alloc, source, &bound, batch);
@@ -147,7 +147,7 @@ fn evaluated_text(
 ) -> VortexResult<String>
     requires quiet { IsQuiet (tree_of source.now) }
     requires bound { IsBound (tree_of source.now) batch.now.type (bound_of bound.now) }
-    ensures { let tree = bound_of bound.now in Answers string_bytes result (Ok (lines (unbound tree) batch.now (node_type tree))) }
+    ensures { let tree = bound_of bound.now in ReturnsOrOom string_bytes result (Ok (lines (unbound tree) batch.now (node_type tree))) }
 {
     let column = result_of(alloc, source, batch)?;
     bound_text(alloc, bound, batch, &column)
@@ -158,7 +158,7 @@ fn evaluated_text(
 fn result_of(alloc: Global, source: &Expression, batch: &Column) -> VortexResult<Column>
     requires { IsQuiet (tree_of source.now) }
     ensures memory { (b : BoundTree) → IsBound (tree_of source.now) batch.now.type b → IfErr result (λ e. e ≡ OutOfMemory) }
-    ensures evaluation { (b : BoundTree) → IsBound (tree_of source.now) batch.now.type b → Answers (λ c. c) result (evaluation b batch.now) }
+    ensures evaluation { (b : BoundTree) → IsBound (tree_of source.now) batch.now.type b → ReturnsOrOom (λ c. c) result (evaluation b batch.now) }
 {
     run_query(alloc, source, batch, &[], false)
 }
@@ -173,7 +173,7 @@ fn bound_text(
     column: &Column,
 ) -> VortexResult<String>
     requires { evaluation (bound_of bound.now) batch.now ≡ Ok column.now }
-    ensures { let tree = bound_of bound.now in Answers string_bytes result (Ok (lines (unbound tree) batch.now (node_type tree))) }
+    ensures { let tree = bound_of bound.now in ReturnsOrOom string_bytes result (Ok (lines (unbound tree) batch.now (node_type tree))) }
 {
     lines(alloc, bound, bound.dtype(), column)
 }
@@ -181,7 +181,7 @@ fn bound_text(
 // The lines of a tree, a type and a column.
 fn lines(alloc: Global, bound: &BoundExpression, t: &DType, column: &Column) -> VortexResult<String>
     ensures { let tree = unbound (bound_of bound.now) in
-        Answers string_bytes result (Ok (lines_of (sql tree) (type_text (type_of t.now)) (column_text column.now.rows column.now.type) (tree_text tree))) }
+        ReturnsOrOom string_bytes result (Ok (lines_of (sql tree) (type_text (type_of t.now)) (column_text column.now.rows column.now.type) (tree_text tree))) }
 {
     let tree = bound.display_tree();
     Ok(format!(in alloc; "text: {bound}\ntype: {t}\nresult: {column}\ntree:\n{tree}\n")?)

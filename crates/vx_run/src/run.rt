@@ -1,7 +1,7 @@
 // A run of the program.
 ghost use Rattle.std.specs.Prelude.{◌≡◌, map, string_bytes};
 ghost use Rattle.vx_run.specs.Requests.{asked};
-ghost use Rattle.vx_run.specs.Runs.{Ends, EndsAtRow};
+ghost use Rattle.vx_run.specs.Runs.{EndsShow, EndsAtRow};
 
 use crate::pages::page;
 use crate::row::{Row, asked};
@@ -15,7 +15,7 @@ use std::io::Write;
 /// on `err` and 2, and any other number of words `usage: vx_show ROW` and 2. A writer that fails
 /// holds a part of its text, and the status is 1. The other writer is left as it was.
 pub fn run_show<W: Write, E: Write>(alloc: Global, words: &[String], out: &mut W, err: &mut E) -> u8
-    ensures { Ends (asked (map string_bytes words.now)) (W.contents out.old) (W.contents out.new)
+    ensures { EndsShow (asked (map string_bytes words.now)) (W.contents out.old) (W.contents out.new)
         (E.contents err.old) (E.contents err.new) result }
 {
     match asked(words) {

@@ -1,6 +1,6 @@
 // What the row `scan` shows: conditions on two fields, over what a plan of them reads.
 ghost use Rattle.std.specs.Prelude.{◌≡◌, Ok, IfOk, IfErr, [], ◌∷◌};
-ghost use Rattle.vx_dtype.specs.Answers.{Answers};
+ghost use Rattle.vx_dtype.specs.Returns.{ReturnsOrOom};
 ghost use Rattle.vx_dtype.specs.declared.error.VortexError.TheVariants.{OutOfMemory};
 ghost use Rattle.vx_value.specs.Types.{int};
 ghost use Rattle.vx_value.specs.Views.{type_of, value_of};
@@ -38,7 +38,7 @@ pub fn result(alloc: Global, plan: &ScanPlan, batch: &Column) -> VortexResult<Co
     requires tree { binding scan.source scan.batch.type ≡ Ok (bound_of plan.now.tree) }
     requires scope { type_of plan.now.scope ≡ scan.batch.type }
     requires batch { batch.now.type ≡ scan.batch.type }
-    ensures { Answers (λ c. c) result (evaluation (bound_of plan.now.tree) batch.now) }
+    ensures { ReturnsOrOom (λ c. c) result (evaluation (bound_of plan.now.tree) batch.now) }
 {
     let reader = plan.reader_of(alloc, batch.clone()?)?;
     let answer = vx_scan::scan(alloc, &reader, plan);
@@ -48,7 +48,7 @@ pub fn result(alloc: Global, plan: &ScanPlan, batch: &Column) -> VortexResult<Co
 
 // `$.a.x >= 1 and $.b < 5`.
 fn source(alloc: Global) -> VortexResult<Expression>
-    ensures { Answers tree_of result (Ok scan.source) }
+    ensures { ReturnsOrOom tree_of result (Ok scan.source) }
 {
     let x = x_of_a(alloc)?;
     let from_one = Box::new(alloc, compared(alloc, Operator::Gte, x, 1)?)?;
@@ -59,7 +59,7 @@ fn source(alloc: Global) -> VortexResult<Expression>
 
 // `$.a.x`.
 fn x_of_a(alloc: Global) -> VortexResult<Expression>
-    ensures { Answers tree_of result (Ok x_of_a) }
+    ensures { ReturnsOrOom tree_of result (Ok x_of_a) }
 {
     let a = col(alloc, FieldName::new(alloc, "a")?)?;
     let a = Box::new(alloc, a)?;
@@ -69,7 +69,7 @@ fn x_of_a(alloc: Global) -> VortexResult<Expression>
 
 // The item compared with the number.
 fn compared(alloc: Global, operator: Operator, item: Expression, n: i32) -> VortexResult<Expression>
-    ensures { Answers tree_of result (Ok (operated (operation_of operator) (tree_of item) (lit i32 (int n)))) }
+    ensures { ReturnsOrOom tree_of result (Ok (operated (operation_of operator) (tree_of item) (lit i32 (int n)))) }
 {
     let item = Box::new(alloc, item)?;
     let number = number(alloc, n)?;
@@ -78,7 +78,7 @@ fn compared(alloc: Global, operator: Operator, item: Expression, n: i32) -> Vort
 
 /// The rows `{a: {x: 1, y: 7}, b: 4, c: "q"}` and `{a: null, b: 9, c: "r"}`.
 pub fn batch(alloc: Global) -> VortexResult<Column>
-    ensures { Answers (λ c. c) result (Ok scan.batch) }
+    ensures { ReturnsOrOom (λ c. c) result (Ok scan.batch) }
 {
     let mut rows = Vec::with_capacity(alloc, 2)?;
     let pair = Value::Struct(vec![in alloc; Value::Int(1), Value::Int(7)]?);
@@ -89,7 +89,7 @@ pub fn batch(alloc: Global) -> VortexResult<Column>
 
 // A row of the three fields.
 fn row(alloc: Global, a: Value, b: i32, c: &str) -> VortexResult<Value>
-    ensures { Answers value_of result (Ok (scanned_row (value_of a) (int b) c.now)) }
+    ensures { ReturnsOrOom value_of result (Ok (scanned_row (value_of a) (int b) c.now)) }
 {
     let c = String::from_str(alloc, c)?;
     let row = vec![in alloc; a, Value::Int(i128::from(b)), Value::Utf8(c)]?;
@@ -98,7 +98,7 @@ fn row(alloc: Global, a: Value, b: i32, c: &str) -> VortexResult<Value>
 
 // `{a={x=i32, y=i32}?, b=i32, c=utf8}`.
 fn dtype(alloc: Global) -> VortexResult<DType>
-    ensures { Answers type_of result (Ok scanned_type) }
+    ensures { ReturnsOrOom type_of result (Ok scanned_type) }
 {
     let names = vec![in alloc;
         FieldName::new(alloc, "a")?,
@@ -114,7 +114,7 @@ fn dtype(alloc: Global) -> VortexResult<DType>
 
 // `{x=i32, y=i32}?`.
 fn pair_or_null(alloc: Global) -> VortexResult<DType>
-    ensures { Answers type_of result (Ok pair_or_null) }
+    ensures { ReturnsOrOom type_of result (Ok pair_or_null) }
 {
     let names = vec![in alloc; FieldName::new(alloc, "x")?, FieldName::new(alloc, "y")?]?;
     let x = DType::Primitive(PType::I32, Nullability::NonNullable);

@@ -1,3 +1,5 @@
+pub mod Pruned
+pub mod Faulting
 pub mod Opened
 pub mod Reading
 pub mod Scanning

@@ -8,7 +8,7 @@ use Rattle.vx_value.specs.Codes.{datum_code}
 use Rattle.vx_value.specs.Types.{LogicalType, Datum}
 use Rattle.vx_tree.specs.Trees.{BoundTree, BoundTrees, node_type}
 use Rattle.vx_dtype.specs.declared.error.VortexError.{VortexError}
-use Rattle.vx_rewrite_recombine.specs.Recombining.{Recombines, NoOtherFault}
+use Rattle.vx_partition_laws.specs.Recombining.{Recombines, NoOtherFault}
 use Rattle.vx_query_split.specs.Division.{Parts, IsSplitOf, divided}
 use Rattle.vx_query_split.proofs.Divided.{Sound, sound}
 use Rattle.vx_scan.specs.Propositions.{refusal_code, well_typed-prop, each_well_typed-prop, over-prop, each_over-prop}

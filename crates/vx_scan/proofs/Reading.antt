@@ -10,8 +10,8 @@ use Rattle.vx_rewrite_paths.specs.Asked.{whole, asked, referenced}
 use Rattle.vx_rewrite_paths.proofs.Interference.{asked-lead}
 use Rattle.vx_rewrite_paths.specs.Leading.{Leads, EachLeads}
 use Rattle.vx_rewrite_paths.proofs.Leading.{leads-append}
-use Rattle.vx_scan_kept.specs.Kept.{kept}
-use Rattle.vx_scan_kept.proofs.Agreeing.{kept_rows-agree}
+use Rattle.vx_projection.specs.Kept.{kept}
+use Rattle.vx_projection.proofs.Agreeing.{kept_rows-agree}
 
 filter-leads : (test : Path → Bool) (ps : List Path) (t : LogicalType) → EachLeads ps t → EachLeads (filter test ps) t
 filter-leads test [] t l = tt

@@ -1,7 +1,7 @@
 -- What a planned tree gives over what was read is what its source means on the batch.
 use Rattle.std.proofs.Common.{◌≡◌, ◌≢◌, ◌⊎◌, inl, inr, Bool, true, false, List, map, Option, Some, None, Result, Ok, Err, refl, sym, ap, ◌∙◌, subst}
 use Rattle.std.specs.Prelude.{MatchResult, not}
-use Rattle.vx_dtype.specs.Answers.{Answers}
+use Rattle.vx_dtype.specs.Returns.{ReturnsOrOom}
 use Rattle.vx_dtype.specs.declared.error.VortexError.{VortexError}
 use Rattle.vx_dtype.specs.declared.error.VortexError.TheVariants.{OutOfMemory, ScopeMismatch}
 use Rattle.vx_value.specs.Columns.{Batch, batch}
@@ -15,18 +15,18 @@ use Rattle.vx_tree.proofs.Meant.{mean-unbound}
 use Rattle.vx_tree.specs.Faults.{HasNoFault, first_fault, each_fault}
 use Rattle.vx_tree.specs.Meaning.{mean}
 use Rattle.vx_tree.specs.Trees.{BoundTree, node_type, unbound, WellTyped, Over}
-use Rattle.vx_rewrite_keep.proofs.Keeping.{keeps_refl}
+use Rattle.vx_rewrite_core.proofs.Keeping.{keeps_refl}
 use Rattle.vx_rewrite_paths.proofs.Fixing.{minimal_paths-fix}
-use Rattle.vx_rewrite_recombine.specs.Items.{struct_type, joined}
+use Rattle.vx_partition_laws.specs.Items.{struct_type, joined}
 use Rattle.vx_eval.specs.Columns.{unless_fault}
 use Rattle.vx_eval.specs.Evaluation.{evaluation}
 use Rattle.vx_query_split.proofs.Meant.{whole_means, split_means}
 use Rattle.vx_query_split.specs.Division.{Parts}
 use Rattle.vx_query_split.specs.Sources.{IsMeantBy}
 use Rattle.vx_query_split.specs.Splits.{fault_or, joined_column}
-use Rattle.vx_scan_alike.proofs.Faulting.{normal_trees-alike}
-use Rattle.vx_scan_kept.specs.Kept.{kept, kept_batch}
-use Rattle.vx_scan_kept.proofs.Keeping.{kept_rows-fit}
+use Rattle.vx_scan.proofs.Faulting.{normal_trees-alike}
+use Rattle.vx_projection.specs.Kept.{kept, kept_batch}
+use Rattle.vx_projection.proofs.Keeping.{kept_rows-fit}
 use Rattle.vx_query_split.proofs.Divided.{Sound}
 use Rattle.vx_scan.specs.Plans.{IsPlan}
 use Rattle.vx_scan.specs.Scans.{planned_evaluation, HasTypeOf, KeepsMeaning, Scanned}
@@ -68,7 +68,7 @@ module _ (u : BoundTree) (ps : List Path) (c : Batch) (w : WellTyped u) (o : Ove
 
   -- what is evaluated over it, by a split that there may be
   evaluated_means : (split : Option Parts) (r : Result Batch VortexError) → ((p : Parts) → split ≡ Some p → Sound u p) → ReadAlike → HasNoFault u c.rows
-      → Answers (λ x. x) r (planned_evaluation split u (kept_batch (minimal_paths ps) c)) → MatchResult r (λ x. x.rows ≡ map (mean (unbound u) c.type) c.rows) (λ y. y ≡ OutOfMemory)
+      → ReturnsOrOom (λ x. x) r (planned_evaluation split u (kept_batch (minimal_paths ps) c)) → MatchResult r (λ x. x.rows ≡ map (mean (unbound u) c.type) c.rows) (λ y. y ≡ OutOfMemory)
   evaluated_means None r good alike quiet a =
       let read = kept_batch (minimal_paths ps) c in
       let still : HasNoFault u read.rows = sym alike.faults ∙ quiet in
@@ -81,7 +81,7 @@ module _ (u : BoundTree) (ps : List Path) (c : Batch) (w : WellTyped u) (o : Ove
       (split_means u u read (keeps_refl u w) o alike.fits still p.names p.partitions p.root r s.root_typed s.root_over s.recombines a)
 
   evaluated_quiet : (split : Option Parts) (r : Result Batch VortexError) → ((p : Parts) → split ≡ Some p → Sound u p) → ReadAlike
-      → Answers (λ x. x) r (planned_evaluation split u (kept_batch (minimal_paths ps) c)) → MatchResult r (λ x. HasNoFault u c.rows) (λ y. Unit {0})
+      → ReturnsOrOom (λ x. x) r (planned_evaluation split u (kept_batch (minimal_paths ps) c)) → MatchResult r (λ x. HasNoFault u c.rows) (λ y. Unit {0})
   evaluated_quiet split (Err y) good alike a = tt
   evaluated_quiet None (Ok x) good alike a =
       let read = kept_batch (minimal_paths ps) c in
@@ -96,7 +96,7 @@ module _ (u : BoundTree) (ps : List Path) (c : Batch) (w : WellTyped u) (o : Ove
 
 -- what is evaluated has the tree's type
 evaluated_typed : (u : BoundTree) (split : Option Parts) (r : Result Batch VortexError) (read : Batch) → ((p : Parts) → split ≡ Some p → node_type p.root ≡ node_type u)
-    → Answers (λ x. x) r (planned_evaluation split u read) → HasTypeOf u r
+    → ReturnsOrOom (λ x. x) r (planned_evaluation split u read) → HasTypeOf u r
 evaluated_typed u split (Err y) read root a = tt
 evaluated_typed u None (Ok x) read root a = type_in (first_fault u read.rows) _ x a
 evaluated_typed u (Some p) (Ok x) read root a =
@@ -126,7 +126,7 @@ source_means u c r w o fit means = λ e b is k quiet.
 
 -- a scan that read the plan's paths and evaluated the tree over them
 pub scanned : (s : LogicalType) (u : BoundTree) (ps : List Path) (split : Option Parts) (c : Batch) (r : Result Batch VortexError) → IsPlan s u ps split → c.type ≡ s → IsBatch c.type c.rows
-    → Answers (λ x. x) r (planned_evaluation split u (kept_batch (minimal_paths ps) c)) → Scanned s u ps split c r
+    → ReturnsOrOom (λ x. x) r (planned_evaluation split u (kept_batch (minimal_paths ps) c)) → Scanned s u ps split c r
 scanned s u ps split c r plan same fit a =
     let o : Over u c.type = subst (Over u) (sym same) plan.over in
     let alike = read_alike s u ps split c plan o fit in
@@ -169,10 +169,10 @@ only_memory y x (inl m) = m
 only_memory y x (inr q) = cc
 
 -- what was read is what is kept
-pub read_so : (c b : Batch) (ps qs : List Path) → ps ≡ qs → Answers (λ x. x) (Ok b) (Ok (kept_batch (minimal_paths ps) c)) → kept_batch (minimal_paths qs) c ≡ b
+pub read_so : (c b : Batch) (ps qs : List Path) → ps ≡ qs → ReturnsOrOom (λ x. x) (Ok b) (Ok (kept_batch (minimal_paths ps) c)) → kept_batch (minimal_paths qs) c ≡ b
 read_so c b ps qs e a = subst (λ xs. kept_batch (minimal_paths xs) c ≡ b) e (one (kept_batch (minimal_paths ps) c) b a)
   where
-    one : (x y : Batch) → Answers (λ z. z) (Ok y) (Ok x) → x ≡ y
+    one : (x y : Batch) → ReturnsOrOom (λ z. z) (Ok y) (Ok x) → x ≡ y
     one x y q = cc
 
 -- the tree is over the type of what was read

@@ -1,3 +1,4 @@
+pub mod Alike
 pub mod Plans
 pub mod Propositions
 pub mod Scans

@@ -3,9 +3,9 @@ use Rattle.std.specs.Prelude.{◌≡◌, List, Option}
 use Rattle.vx_value.specs.Paths.{Path}
 use Rattle.vx_value.specs.Types.{LogicalType}
 use Rattle.vx_tree.specs.Trees.{Tree, BoundTree, WellTyped, Over}
-use Rattle.vx_rewrite_keep.specs.Steps.{Normal}
-use Rattle.vx_rewrite_optimizer.specs.NormalForms.{NormalForm}
-use Rattle.vx_rewrite_rules.specs.Rules.{RuleAt}
+use Rattle.vx_rewrite_core.specs.Steps.{Normal}
+use Rattle.vx_rewrite_core.specs.NormalForms.{NormalForm}
+use Rattle.vx_rewrite_rule_laws.specs.Rules.{RuleAt}
 use Rattle.vx_rewrite_paths.specs.Asked.{referenced}
 use Rattle.vx_query_split.specs.Division.{Parts, IsSplitOf}
 use Rattle.vx_query_split.specs.Sources.{IsBound}

@@ -7,8 +7,8 @@ use Rattle.vx_value.specs.Paths.{Path}
 use Rattle.vx_value.specs.Types.{LogicalType}
 use Rattle.vx_fn.specs.Functions.{Function, HasFittingLiteral, literal, Typing}
 use Rattle.vx_tree.specs.Trees.{BoundTree, scope, node, BoundTrees, no_bound, bound, WellTyped, EachWellTyped, Over, EachOver}
-use Rattle.vx_rewrite_keep.specs.Steps.{Normal, EachNormal}
-use Rattle.vx_rewrite_rules.specs.Rules.{RuleAt}
+use Rattle.vx_rewrite_core.specs.Steps.{Normal, EachNormal}
+use Rattle.vx_rewrite_rule_laws.specs.Rules.{RuleAt}
 use Rattle.vx_query_split.specs.Division.{Parts}
 use Rattle.vx_scan.specs.Plans.{IsPlan}
 

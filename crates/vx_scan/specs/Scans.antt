@@ -2,15 +2,15 @@
 use Rattle.std.specs.Prelude.{◌≡◌, ◌≢◌, List, Option, Some, None, Result, MatchResult, IsErrOf}
 use Rattle.vx_dtype.specs.declared.error.VortexError.{VortexError}
 use Rattle.vx_dtype.specs.declared.error.VortexError.TheVariants.{OutOfMemory, ScopeMismatch}
-use Rattle.vx_dtype.specs.Answers.{Answers}
+use Rattle.vx_dtype.specs.Returns.{ReturnsOrOom}
 use Rattle.vx_value.specs.Columns.{Batch}
 use Rattle.vx_value.specs.Paths.{Path, minimal_paths}
 use Rattle.vx_value.specs.Types.{LogicalType}
 use Rattle.vx_tree.specs.Faults.{HasNoFault}
 use Rattle.vx_tree.specs.Trees.{Tree, BoundTree, node_type}
-use Rattle.vx_rewrite_keep.specs.Keeps.{Keeps}
+use Rattle.vx_rewrite_core.specs.Keeps.{Keeps}
 use Rattle.vx_eval.specs.Evaluation.{evaluation}
-use Rattle.vx_scan_kept.specs.Kept.{kept_batch}
+use Rattle.vx_projection.specs.Kept.{kept_batch}
 use Rattle.vx_query_split.specs.Division.{Parts}
 use Rattle.vx_query_split.specs.Sources.{IsBound, IsMeantBy}
 use Rattle.vx_query_split.specs.Splits.{split_evaluation}
@@ -35,7 +35,7 @@ HasTypeOf u result = MatchResult result (λ x. x.type ≡ node_type u) (λ y. Un
 -- all that a scan promises of its answer, over a batch that a reader stands for
 pub record Scanned (s : LogicalType) (u : BoundTree) (paths : List Path) (split : Option Parts) (c : Batch) (r : Result Batch VortexError) : Type 0 where
   pub mismatch : c.type ≢ s → IsErrOf r ScopeMismatch
-  pub evaluated : c.type ≡ s → Answers (λ x. x) r (planned_evaluation split u (kept_batch (minimal_paths paths) c))
+  pub evaluated : c.type ≡ s → ReturnsOrOom (λ x. x) r (planned_evaluation split u (kept_batch (minimal_paths paths) c))
   pub meaning : c.type ≡ s → KeepsMeaning u c r
   pub faults : c.type ≡ s → IsRefusedWhere u c r
   pub typed : c.type ≡ s → HasTypeOf u r

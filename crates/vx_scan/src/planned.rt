@@ -1,7 +1,7 @@
 // A query, planned for scans.
 ghost use Rattle.std.specs.Prelude.{◌≡◌, ◌⊎◌, Err, IfErr, IfOk, option_map};
 ghost use Rattle.vx_dtype.specs.declared.error.VortexError.TheVariants.{OutOfMemory};
-ghost use Rattle.vx_rewrite_branch_rules.specs.Branches.{BranchRuleAt};
+ghost use Rattle.vx_rewrite_rule_laws.specs.Branches.{BranchRuleAt};
 ghost use Rattle.vx_scan.specs.Plans.{IsPlan, IsPlanFor, LeavesNormal};
 ghost use Rattle.vx_scan.specs.Propositions.{plan-prop};
 ghost use Rattle.vx_query_split.specs.Division.{parts_of};
@@ -10,13 +10,12 @@ ghost use Rattle.vx_tree.specs.Views.{bound_of, tree_of};
 ghost use Rattle.vx_value.specs.Views.{type_of};
 
 use std::alloc::Global;
+use vx_partition::BoundPartitionedExpr;
+use vx_projection::ColumnReader;
 use vx_query_split::split_by_fields;
-use vx_rewrite_branches::BranchRules;
-use vx_rewrite_keep::Rule;
-use vx_rewrite_optimizer::optimized;
+use vx_rewrite_core::{Rule, optimized};
 use vx_rewrite_paths::referenced_field_paths;
-use vx_rewrite_split::BoundPartitionedExpr;
-use vx_scan_kept::ColumnReader;
+use vx_rewrite_standard::BranchRules;
 use vx_tree::{BoundExpression, Expression, FieldName};
 use vx_types::{Column, DType, FieldPathSet, VortexResult};
 
@@ -61,7 +60,7 @@ impl ScanPlan {
         self.split.as_ref()
     }
 
-    /// A reader of the batch that allows just the plan's paths, as [`scan`](crate::scan) asks where
+    /// A reader of the batch that allows just the plan's paths, as [`scan`](crate::scanned::scan) asks where
     /// the batch is of the plan's type. Refuses with `OutOfMemory` (1) alone.
     pub fn reader_of(&self, alloc: Global, batch: Column) -> VortexResult<ColumnReader>
         ensures column { IfOk result (λ r. r.column ≡ batch) }

@@ -1,20 +1,20 @@
 // A planned query over what is read of a batch.
 ghost use Rattle.std.specs.Prelude.{◌≡◌, ◌≢◌, IsErrOf};
-ghost use Rattle.vx_dtype.specs.Answers.{Answers};
+ghost use Rattle.vx_dtype.specs.Returns.{ReturnsOrOom};
 ghost use Rattle.vx_dtype.specs.declared.error.VortexError.TheVariants.{ScopeMismatch};
-ghost use Rattle.vx_scan_kept.specs.Kept.{kept_batch};
-ghost use Rattle.vx_scan_kept.specs.Readers.{AreJust};
+ghost use Rattle.vx_projection.specs.Kept.{kept_batch};
+ghost use Rattle.vx_projection.specs.Readers.{AreJust};
 ghost use Rattle.vx_scan.specs.Scans.{HasTypeOf, IsRefusedWhere, KeepsMeaning, Scanned, planned_evaluation};
 ghost use Rattle.vx_query_split.specs.Division.{parts_of};
 ghost use Rattle.vx_tree.specs.Views.{bound_of};
 ghost use Rattle.vx_value.specs.Paths.{minimal_paths};
 ghost use Rattle.vx_value.specs.Views.{type_of};
 
-use crate::ScanPlan;
+use crate::planned::ScanPlan;
 use std::alloc::Global;
 use vx_eval::apply_bound;
+use vx_projection::PathReader;
 use vx_query_split::evaluate_split;
-use vx_scan_kept::PathReader;
 use vx_types::{Column, VortexError, VortexResult};
 
 /// What the plan's tree gives over the reader's batch, of which the plan's paths alone are read: the
@@ -33,7 +33,7 @@ pub fn scan<R: PathReader>(alloc: Global, reader: &R, plan: &ScanPlan) -> Vortex
     requires allowed { (R.batch reader.now).type ≡ type_of plan.now.scope → AreJust (R.allowed reader.now) (minimal_paths plan.now.paths) }
     ensures mismatch { (R.batch reader.now).type ≢ type_of plan.now.scope → IsErrOf result ScopeMismatch }
     ensures evaluated { (R.batch reader.now).type ≡ type_of plan.now.scope →
-        Answers (λ c. c) result (planned_evaluation (parts_of plan.now.split) (bound_of plan.now.tree) (kept_batch (minimal_paths plan.now.paths) (R.batch reader.now))) }
+        ReturnsOrOom (λ c. c) result (planned_evaluation (parts_of plan.now.split) (bound_of plan.now.tree) (kept_batch (minimal_paths plan.now.paths) (R.batch reader.now))) }
     ensures meaning { (R.batch reader.now).type ≡ type_of plan.now.scope → KeepsMeaning (bound_of plan.now.tree) (R.batch reader.now) result }
     ensures faults { (R.batch reader.now).type ≡ type_of plan.now.scope → IsRefusedWhere (bound_of plan.now.tree) (R.batch reader.now) result }
     ensures typed { (R.batch reader.now).type ≡ type_of plan.now.scope → HasTypeOf (bound_of plan.now.tree) result }

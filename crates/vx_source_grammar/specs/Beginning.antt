@@ -5,13 +5,13 @@ use Rattle.vx_value.specs.Columns.{Constant}
 use Rattle.vx_value.specs.Types.{Name, LogicalType}
 use Rattle.vx_fn.specs.Functions.{Function, literal, get_item, pack, cast, fill_null, zip, is_null, is_not_null, mask}
 use Rattle.vx_tree.specs.Trees.{Tree, root}
-use Rattle.vx_source_tokens.specs.declared.expected.Expected.{Expected}
-use Rattle.vx_source_tokens.specs.declared.expected.Expected.TheVariants.{Operand, OperandOrParens, Name as AName, Value, Number, FieldValue, FittingType, Function as AFunction, Options, OpenParen as AParen, CloseParen as TheParen, CloseBracket as TheBracket, When as WhenWord}
-use Rattle.vx_source_tokens.specs.declared.token.Sign.TheVariants.{OpenParen, CloseParen, OpenBracket, CloseBracket, OpenBrace, Colon, DoubleColon, Dot, Question, Dollar}
-use Rattle.vx_source_tokens.specs.Tokens.{Lexeme, word, quoted, number as numeral, text, octets, sign, end, invalid}
-use Rattle.vx_source_dtype.specs.Names.{name_at, same_word}
-use Rattle.vx_source_dtype.specs.Reading.{Goes, more, done, refused}
-use Rattle.vx_source_dtype.specs.TypeReading.{TypeState, type_start, within}
+use Rattle.vx_source_types.specs.declared.expectation.Expected.{Expected}
+use Rattle.vx_source_types.specs.declared.expectation.Expected.TheVariants.{Operand, OperandOrParens, Name as AName, Value, Number, FieldValue, FittingType, Function as AFunction, Options, OpenParen as AParen, CloseParen as TheParen, CloseBracket as TheBracket, When as WhenWord}
+use Rattle.vx_source_types.specs.declared.token.Sign.TheVariants.{OpenParen, CloseParen, OpenBracket, CloseBracket, OpenBrace, Colon, DoubleColon, Dot, Question, Dollar}
+use Rattle.vx_source_types.specs.Tokens.{Lexeme, word, quoted, number as numeral, text, octets, sign, end, invalid}
+use Rattle.vx_source_types.specs.Names.{name_at, same_word}
+use Rattle.vx_source_types.specs.Reading.{Goes, more, done, refused}
+use Rattle.vx_source_types.specs.TypeReading.{TypeState, type_start, within}
 use Rattle.vx_source_types.specs.Literals.{plain_literal, typed_literal}
 use Rattle.vx_source_types.specs.ScalarReading.{suffixed}
 use Rattle.vx_source_types.specs.ValueReading.{Drafted, ValueState, value_start, value_step}

@@ -3,11 +3,11 @@ use Rattle.std.specs.Prelude.{ℕ, ◌/◌, ◌%◌, ◌^◌, ◌==◌, true, fa
 use Rattle.vx_value.specs.Types.{Name}
 use Rattle.vx_fn.specs.Functions.{Function, case_when, arity_of}
 use Rattle.vx_tree.specs.Trees.{Tree}
-use Rattle.vx_source_tokens.specs.declared.expected.Expected.TheVariants.{Operator, OperatorOrCloseParen, CommaOrCloseParen, And as AndWord, As as AsWord, Then as ThenWord, WhenElseEnd, EndWord, FewerPairs, Arity}
-use Rattle.vx_source_tokens.specs.declared.token.Sign.TheVariants.{CloseParen, Comma}
-use Rattle.vx_source_tokens.specs.Tokens.{Lexeme, word, sign, end}
-use Rattle.vx_source_dtype.specs.Reading.{done, refused}
-use Rattle.vx_source_dtype.specs.TypeReading.{type_start}
+use Rattle.vx_source_types.specs.declared.expectation.Expected.TheVariants.{Operator, OperatorOrCloseParen, CommaOrCloseParen, And as AndWord, As as AsWord, Then as ThenWord, WhenElseEnd, EndWord, FewerPairs, Arity}
+use Rattle.vx_source_types.specs.declared.token.Sign.TheVariants.{CloseParen, Comma}
+use Rattle.vx_source_types.specs.Tokens.{Lexeme, word, sign, end}
+use Rattle.vx_source_types.specs.Reading.{done, refused}
+use Rattle.vx_source_types.specs.TypeReading.{type_start}
 use Rattle.vx_source_grammar.specs.declared.words.Keyword.{Keyword}
 use Rattle.vx_source_grammar.specs.declared.words.Keyword.TheVariants.{As, When, Then, Else, End}
 use Rattle.vx_source_grammar.specs.Keywords.{keyword_of}

@@ -1,10 +1,10 @@
 -- How an expression is read, token by token.
 use Rattle.std.specs.Prelude.{ℕ, true, List}
 use Rattle.vx_tree.specs.Trees.{Tree}
-use Rattle.vx_source_tokens.specs.Tokens.{Lexeme}
-use Rattle.vx_source_dtype.specs.Names.{name_at}
-use Rattle.vx_source_dtype.specs.Reading.{Step}
-use Rattle.vx_source_dtype.specs.TypeReading.{type_step}
+use Rattle.vx_source_types.specs.Tokens.{Lexeme}
+use Rattle.vx_source_types.specs.Names.{name_at}
+use Rattle.vx_source_types.specs.Reading.{Step}
+use Rattle.vx_source_types.specs.TypeReading.{type_step}
 use Rattle.vx_source_types.specs.ValueReading.{value_step}
 use Rattle.vx_source_grammar.specs.Beginning.{begins, value_goes, type_goes, word_at, vortex_at, id_at, options_at, children_at, first_child_at, packed_at, first_packed_at, packed_value_at, pack_end_at, case_at}
 use Rattle.vx_source_grammar.specs.Closing.{keyword_at}

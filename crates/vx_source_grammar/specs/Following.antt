@@ -5,13 +5,13 @@ use Rattle.vx_fn.specs.declared.options.FieldSelection.{FieldSelection}
 use Rattle.vx_fn.specs.declared.options.FieldSelection.TheVariants.{Include, Exclude}
 use Rattle.vx_fn.specs.Functions.{Comparison, equal, not_equal, greater, greater_or_equal, less, less_or_equal, Operation, compares, and_also, or_else, adds, get_item, select, is_null, is_not_null}
 use Rattle.vx_tree.specs.Trees.{Tree}
-use Rattle.vx_source_tokens.specs.declared.expected.Expected.TheVariants.{Name as AName, Parens, Like as LikeWord, Null as NullWord, CommaOrCloseBrace}
-use Rattle.vx_source_tokens.specs.declared.token.Sign.{Sign}
-use Rattle.vx_source_tokens.specs.declared.token.Sign.TheVariants.{OpenBrace, CloseBrace, Comma, DoubleColon, Dot, Tilde, Equal, NotEqual, Less, LessEqual, Greater, GreaterEqual, Plus}
-use Rattle.vx_source_tokens.specs.Tokens.{Lexeme, word, sign}
-use Rattle.vx_source_dtype.specs.Names.{name_at}
-use Rattle.vx_source_dtype.specs.Reading.{refused}
-use Rattle.vx_source_dtype.specs.TypeReading.{type_start}
+use Rattle.vx_source_types.specs.declared.expectation.Expected.TheVariants.{Name as AName, Parens, Like as LikeWord, Null as NullWord, CommaOrCloseBrace}
+use Rattle.vx_source_types.specs.declared.token.Sign.{Sign}
+use Rattle.vx_source_types.specs.declared.token.Sign.TheVariants.{OpenBrace, CloseBrace, Comma, DoubleColon, Dot, Tilde, Equal, NotEqual, Less, LessEqual, Greater, GreaterEqual, Plus}
+use Rattle.vx_source_types.specs.Tokens.{Lexeme, word, sign}
+use Rattle.vx_source_types.specs.Names.{name_at}
+use Rattle.vx_source_types.specs.Reading.{refused}
+use Rattle.vx_source_types.specs.TypeReading.{type_start}
 use Rattle.vx_source_grammar.specs.declared.words.Keyword.{Keyword}
 use Rattle.vx_source_grammar.specs.declared.words.Keyword.TheVariants.{And, Or, Not, Like, Ilike, Between, Is, Null}
 use Rattle.vx_source_grammar.specs.Keywords.{keyword_of}

@@ -3,8 +3,8 @@ use Rattle.std.specs.Prelude.{ℕ, zero, suc, true, false, List, [], ◌∷◌, 
 use Rattle.vx_fn.specs.Functions.{Function, Operation, or_else, adds, logical_not, binary, like, between}
 use Rattle.vx_tree.specs.Trees.{Tree}
 use Rattle.vx_tree.specs.Views.{trees_from}
-use Rattle.vx_source_tokens.specs.declared.expected.Expected.{Expected}
-use Rattle.vx_source_tokens.specs.declared.expected.Expected.TheVariants.{Operand}
+use Rattle.vx_source_types.specs.declared.expectation.Expected.{Expected}
+use Rattle.vx_source_types.specs.declared.expectation.Expected.TheVariants.{Operand}
 use Rattle.vx_source_grammar.specs.Nodes.{node_read}
 use Rattle.vx_source_grammar.specs.States.{Frame, in_chain, in_not, in_binary, in_like, in_upper, when_read}
 

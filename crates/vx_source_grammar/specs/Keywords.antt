@@ -2,7 +2,7 @@
 use Rattle.std.specs.Prelude.{ℕ, true, false, List, [], ◌∷◌, Option, Some, None, codes}
 use Rattle.vx_source_grammar.specs.declared.words.Keyword.{Keyword}
 use Rattle.vx_source_grammar.specs.declared.words.Keyword.TheVariants.{And, Or, Not, Like, Ilike, Between, Is, Null, True, False, As, Case, When, Then, Else, End}
-use Rattle.vx_source_dtype.specs.Names.{same_word}
+use Rattle.vx_source_types.specs.Names.{same_word}
 
 -- what stands beside the first word that is the given one, but for the case of its letters
 abbrev pub beside : {A : Type 0} → List (List ℕ × A) → List ℕ → Option A

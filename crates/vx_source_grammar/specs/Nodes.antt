@@ -1,7 +1,7 @@
 -- What stands between the operators of a text.
 use Rattle.std.specs.Prelude.{ℕ, ◌+◌, true, false, max, Result, Ok, Err, nat_lt}
-use Rattle.vx_source_tokens.specs.declared.expected.Expected.{Expected}
-use Rattle.vx_source_tokens.specs.declared.expected.Expected.TheVariants.{LessNesting}
+use Rattle.vx_source_types.specs.declared.expectation.Expected.{Expected}
+use Rattle.vx_source_types.specs.declared.expectation.Expected.TheVariants.{LessNesting}
 use Rattle.vx_fn.specs.Functions.{Function}
 use Rattle.vx_tree.specs.Trees.{Tree, root, call, Trees, no_tree, tree}
 

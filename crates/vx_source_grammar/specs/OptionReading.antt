@@ -4,13 +4,13 @@ use Rattle.vx_value.specs.Types.{Name}
 use Rattle.vx_fn.specs.declared.options.FieldSelection.{FieldSelection}
 use Rattle.vx_fn.specs.declared.options.FieldSelection.TheVariants.{Include, Exclude}
 use Rattle.vx_fn.specs.Functions.{equal, not_equal, greater, greater_or_equal, less, less_or_equal, Operation, compares, and_also, or_else, adds, Function, case_when, get_item, literal, pack, select, fill_null, zip, binary, logical_not, between, like, is_null, is_not_null, mask, cast}
-use Rattle.vx_source_tokens.specs.declared.expected.Expected.{Expected}
-use Rattle.vx_source_tokens.specs.declared.expected.Expected.TheVariants.{CloseBracket as TheBracket, Options}
-use Rattle.vx_source_tokens.specs.declared.token.Sign.TheVariants.{OpenParen, CloseParen, OpenBracket, CloseBracket, OpenBrace, CloseBrace, Comma, Colon, Tilde, Equal, NotEqual, Less, LessEqual, Greater, GreaterEqual, Plus}
-use Rattle.vx_source_tokens.specs.Tokens.{Lexeme, word, quoted, sign}
-use Rattle.vx_source_dtype.specs.Names.{name_at, same_word}
-use Rattle.vx_source_dtype.specs.Reading.{more, done, Step, refused}
-use Rattle.vx_source_dtype.specs.TypeReading.{type_start, type_step, length_at}
+use Rattle.vx_source_types.specs.declared.expectation.Expected.{Expected}
+use Rattle.vx_source_types.specs.declared.expectation.Expected.TheVariants.{CloseBracket as TheBracket, Options}
+use Rattle.vx_source_types.specs.declared.token.Sign.TheVariants.{OpenParen, CloseParen, OpenBracket, CloseBracket, OpenBrace, CloseBrace, Comma, Colon, Tilde, Equal, NotEqual, Less, LessEqual, Greater, GreaterEqual, Plus}
+use Rattle.vx_source_types.specs.Tokens.{Lexeme, word, quoted, sign}
+use Rattle.vx_source_types.specs.Names.{name_at, same_word}
+use Rattle.vx_source_types.specs.Reading.{more, done, Step, refused}
+use Rattle.vx_source_types.specs.TypeReading.{type_start, type_step, length_at}
 use Rattle.vx_source_types.specs.ScalarReading.{scalar_due, scalar_step}
 use Rattle.vx_source_grammar.specs.Keywords.{beside}
 

@@ -3,10 +3,10 @@ use Rattle.std.specs.Prelude.{ℕ, Bool, List, [], Result, Ok, Err}
 use Rattle.vx_value.specs.Types.{Name}
 use Rattle.vx_fn.specs.Functions.{Function, Operation}
 use Rattle.vx_tree.specs.Trees.{Tree}
-use Rattle.vx_source_tokens.specs.declared.expected.Expected.{Expected}
-use Rattle.vx_source_tokens.specs.Tokens.{Lexeme}
-use Rattle.vx_source_dtype.specs.Reading.{Goes, more}
-use Rattle.vx_source_dtype.specs.TypeReading.{TypeState}
+use Rattle.vx_source_types.specs.declared.expectation.Expected.{Expected}
+use Rattle.vx_source_types.specs.Tokens.{Lexeme}
+use Rattle.vx_source_types.specs.Reading.{Goes, more}
+use Rattle.vx_source_types.specs.TypeReading.{TypeState}
 use Rattle.vx_source_types.specs.ValueReading.{Drafted, ValueState}
 
 -- what a call is of: a function over as many children as it takes, one over any number, or a CASE of one condition

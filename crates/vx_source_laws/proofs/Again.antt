@@ -5,9 +5,9 @@ use Rattle.std.proofs.lemmas.Bool.{and_parts, eqb-true}
 use Rattle.vx_fn.specs.Functions.{Function, case_when, get_item, literal, pack, select, fill_null, zip, binary, logical_not, between, like, is_null, is_not_null, mask, cast, arity_of}
 use Rattle.vx_tree.specs.Nodes.{count_of}
 use Rattle.vx_tree.specs.Trees.{Tree, root, call, Trees, no_tree, tree}
-use Rattle.vx_source_tokens.specs.declared.token.Sign.TheVariants.{Dollar}
-use Rattle.vx_source_tokens.specs.Tokens.{sign, end}
-use Rattle.vx_source_dtype.specs.Reading.{Leads, stays, IsRead, is_read}
+use Rattle.vx_source_types.specs.declared.token.Sign.TheVariants.{Dollar}
+use Rattle.vx_source_types.specs.Tokens.{sign, end}
+use Rattle.vx_source_types.specs.Reading.{Leads, stays, IsRead, is_read}
 use Rattle.vx_source_writer.specs.SourceTexts.{source, sources, own_source, full_source, is_shown}
 use Rattle.vx_source_grammar.specs.ExpressionReading.{expression_step}
 use Rattle.vx_source_grammar.specs.Nodes.{heights_of}

@@ -7,12 +7,12 @@ use Rattle.vx_value.specs.Types.{Name}
 use Rattle.vx_fn.specs.Functions.{Function, fill_null, zip, logical_not, is_null, is_not_null, mask, arity_of}
 use Rattle.vx_tree.specs.Nodes.{count_of}
 use Rattle.vx_tree.specs.Trees.{call, Trees, no_tree, tree}
-use Rattle.vx_source_tokens.proofs.Choice.{yes}
-use Rattle.vx_source_tokens.proofs.FirstSigns.{first_open_paren}
-use Rattle.vx_source_tokens.proofs.FirstTokens.{first_word}
-use Rattle.vx_source_tokens.specs.Tokens.{word}
-use Rattle.vx_source_dtype.specs.Names.{is_plain}
-use Rattle.vx_source_dtype.specs.Reading.{more, leads}
+use Rattle.vx_source_types.proofs.Choice.{yes}
+use Rattle.vx_source_types.proofs.FirstSigns.{first_open_paren}
+use Rattle.vx_source_types.proofs.FirstTokens.{first_word}
+use Rattle.vx_source_types.specs.Tokens.{word}
+use Rattle.vx_source_types.specs.Names.{is_plain}
+use Rattle.vx_source_types.specs.Reading.{more, leads}
 use Rattle.vx_source_writer.specs.SourceTexts.{sources}
 use Rattle.vx_source_grammar.specs.Beginning.{id_called}
 use Rattle.vx_source_grammar.specs.Closing.{called}

@@ -7,12 +7,12 @@ use Rattle.vx_fn.specs.Functions.{case_when, case_children}
 use Rattle.vx_fn.specs.Texts.{pairs_sql}
 use Rattle.vx_tree.specs.Nodes.{count_of}
 use Rattle.vx_tree.specs.Trees.{Tree, call, Trees, no_tree, tree}
-use Rattle.vx_source_tokens.proofs.Choice.{yes}
-use Rattle.vx_source_tokens.proofs.FirstTokens.{first_word}
-use Rattle.vx_source_tokens.specs.Tokens.{word}
-use Rattle.vx_source_tokens.specs.declared.expected.Expected.TheVariants.{FewerPairs}
-use Rattle.vx_source_dtype.specs.Reading.{more, stays, leads}
-use Rattle.vx_source_dtype.proofs.Reading.{then, of_text}
+use Rattle.vx_source_types.proofs.Choice.{yes}
+use Rattle.vx_source_types.proofs.FirstTokens.{first_word}
+use Rattle.vx_source_types.specs.Tokens.{word}
+use Rattle.vx_source_types.specs.declared.expectation.Expected.TheVariants.{FewerPairs}
+use Rattle.vx_source_types.specs.Reading.{more, stays, leads}
+use Rattle.vx_source_types.proofs.Reading.{then, of_text}
 use Rattle.vx_source_writer.specs.SourceTexts.{source, sources}
 use Rattle.vx_source_grammar.specs.Closing.{case_ends, node_stands}
 use Rattle.vx_source_grammar.specs.ExpressionReading.{expression_step}

@@ -4,14 +4,14 @@ use Rattle.std.specs.Prelude.{codes}
 use Rattle.vx_dtype.specs.Types.{LogicalType}
 use Rattle.vx_fn.specs.Functions.{cast}
 use Rattle.vx_tree.specs.Trees.{Tree, call, no_tree, tree}
-use Rattle.vx_source_tokens.proofs.FirstSigns.{first_open_paren, first_close_paren}
-use Rattle.vx_source_tokens.specs.declared.token.Sign.TheVariants.{CloseParen}
-use Rattle.vx_source_tokens.specs.Tokens.{word, sign}
-use Rattle.vx_source_dtype.specs.Reading.{stays, leads}
-use Rattle.vx_source_dtype.specs.Spelled.{IsSpelled}
-use Rattle.vx_source_dtype.specs.TypeReading.{type_start}
-use Rattle.vx_source_dtype.specs.TypeTexts.{type_source}
-use Rattle.vx_source_dtype.proofs.Reading.{then}
+use Rattle.vx_source_types.proofs.FirstSigns.{first_open_paren, first_close_paren}
+use Rattle.vx_source_types.specs.declared.token.Sign.TheVariants.{CloseParen}
+use Rattle.vx_source_types.specs.Tokens.{word, sign}
+use Rattle.vx_source_types.specs.Reading.{stays, leads}
+use Rattle.vx_source_types.specs.TypePrintable.{IsPrintable}
+use Rattle.vx_source_types.specs.TypeReading.{type_start}
+use Rattle.vx_source_types.specs.TypeTexts.{type_source}
+use Rattle.vx_source_types.proofs.Reading.{then}
 use Rattle.vx_source_writer.specs.SourceTexts.{source}
 use Rattle.vx_source_grammar.specs.ExpressionReading.{expression_step}
 use Rattle.vx_source_grammar.specs.States.{for_cast_call, in_cast, in_type, operand_due, tight, at_word}
@@ -20,7 +20,7 @@ use Rattle.vx_source_laws.proofs.Owns.{IsOwnAgain}
 use Rattle.vx_source_laws.proofs.TreesRead.{at, due, of_grouped, IsAgain, node_is}
 use Rattle.vx_source_laws.proofs.TypesRead.{whole_type, type_read_behind_blank}
 
-pub cast_again : (t : LogicalType) (e : Tree) → IsSpelled t → IsAgain e → IsOwnAgain (cast t) (tree e no_tree)
+pub cast_again : (t : LogicalType) (e : Tree) → IsPrintable t → IsAgain e → IsOwnAgain (cast t) (tree e no_tree)
 cast_again t e u k fs zero rest h m = absurd (omega arith)
 cast_again t e u k fs (suc r) rest h m =
     let behind : List ℕ = codes " as " ++ (type_source t ++ 41 ∷ rest) in

@@ -4,11 +4,11 @@ use Rattle.std.specs.Prelude.{codes}
 use Rattle.vx_dtype.specs.Texts.{with_commas}
 use Rattle.vx_dtype.proofs.Commas.{after_commas}
 use Rattle.vx_tree.specs.Trees.{Tree, Trees, no_tree, tree}
-use Rattle.vx_source_tokens.proofs.FirstSigns.{first_close_paren, first_comma}
-use Rattle.vx_source_tokens.specs.declared.token.Sign.TheVariants.{CloseParen, Comma}
-use Rattle.vx_source_tokens.specs.Tokens.{sign}
-use Rattle.vx_source_dtype.specs.Reading.{more, stays, leads}
-use Rattle.vx_source_dtype.proofs.Reading.{then, of_text}
+use Rattle.vx_source_types.proofs.FirstSigns.{first_close_paren, first_comma}
+use Rattle.vx_source_types.specs.declared.token.Sign.TheVariants.{CloseParen, Comma}
+use Rattle.vx_source_types.specs.Tokens.{sign}
+use Rattle.vx_source_types.specs.Reading.{more, stays, leads}
+use Rattle.vx_source_types.proofs.Reading.{then, of_text}
 use Rattle.vx_source_writer.specs.SourceTexts.{source, sources}
 use Rattle.vx_source_grammar.specs.Closing.{called}
 use Rattle.vx_source_grammar.specs.ExpressionReading.{expression_step}

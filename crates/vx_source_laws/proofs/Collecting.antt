@@ -1,11 +1,11 @@
 -- The tokens of a function's options, up to the bracket that closes them.
 use Rattle.std.proofs.Common.{◌≡◌, ℕ, zero, suc, ◌+◌, List, [], ◌∷◌, ◌++◌, Result, Ok, Err, refl, sym, ap, ◌∙◌, subst, append_assoc, append-nil, arith}
 use Rattle.vx_value.specs.Types.{Name}
-use Rattle.vx_source_tokens.specs.declared.expected.Expected.{Expected}
-use Rattle.vx_source_tokens.specs.declared.expected.Expected.TheVariants.{CloseBracket as TheBracket}
-use Rattle.vx_source_tokens.specs.declared.token.Sign.TheVariants.{OpenBracket, CloseBracket}
-use Rattle.vx_source_tokens.specs.Tokens.{Lexeme, sign, end, invalid, first}
-use Rattle.vx_source_dtype.specs.Reading.{Goes as Answer, Step, refused, more, done, Leads, stays, leads}
+use Rattle.vx_source_types.specs.declared.expectation.Expected.{Expected}
+use Rattle.vx_source_types.specs.declared.expectation.Expected.TheVariants.{CloseBracket as TheBracket}
+use Rattle.vx_source_types.specs.declared.token.Sign.TheVariants.{OpenBracket, CloseBracket}
+use Rattle.vx_source_types.specs.Tokens.{Lexeme, sign, end, invalid, first}
+use Rattle.vx_source_types.specs.Reading.{Goes as Answer, Step, refused, more, done, Leads, stays, leads}
 use Rattle.vx_source_grammar.specs.Beginning.{options_at}
 use Rattle.vx_source_grammar.specs.OptionReading.{read_all}
 use Rattle.vx_source_grammar.specs.States.{Frame, in_options}

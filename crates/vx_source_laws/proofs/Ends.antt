@@ -4,11 +4,11 @@ use Rattle.vx_dtype.specs.Types.{LogicalType}
 use Rattle.vx_value.specs.Columns.{Constant}
 use Rattle.vx_fn.specs.Functions.{Function, get_item, literal, pack, cast}
 use Rattle.vx_tree.specs.Trees.{Tree, root}
-use Rattle.vx_source_tokens.specs.declared.expected.Expected.{Expected}
-use Rattle.vx_source_tokens.specs.Tokens.{end}
-use Rattle.vx_source_dtype.specs.Reading.{Goes, more, done}
-use Rattle.vx_source_dtype.specs.TypeReading.{TypeState, type_step}
-use Rattle.vx_source_dtype.proofs.TypeEnds.{end_stops as type_stops}
+use Rattle.vx_source_types.specs.declared.expectation.Expected.{Expected}
+use Rattle.vx_source_types.specs.Tokens.{end}
+use Rattle.vx_source_types.specs.Reading.{Goes, more, done}
+use Rattle.vx_source_types.specs.TypeReading.{TypeState, type_step}
+use Rattle.vx_source_types.proofs.TypeEnds.{end_stops as type_stops}
 use Rattle.vx_source_types.specs.Literals.{plain_literal, typed_literal}
 use Rattle.vx_source_types.specs.ScalarReading.{in_value as in_scalar_value, value_after}
 use Rattle.vx_source_types.specs.ValueReading.{Drafted, ValueState, value_step}

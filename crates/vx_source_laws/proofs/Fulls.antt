@@ -5,12 +5,12 @@ use Rattle.vx_dtype.specs.Texts.{with_commas}
 use Rattle.vx_value.specs.Types.{Name}
 use Rattle.vx_fn.specs.Functions.{Function, case_when, get_item, literal, pack, select, fill_null, zip, binary, logical_not, between, like, is_null, is_not_null, mask, cast, id_of}
 use Rattle.vx_tree.specs.Trees.{call, Trees}
-use Rattle.vx_source_tokens.proofs.FirstSigns.{first_open_paren, first_open_bracket, first_close_bracket}
-use Rattle.vx_source_tokens.proofs.FirstTokens.{first_word}
-use Rattle.vx_source_tokens.specs.Tokens.{word}
-use Rattle.vx_source_dtype.specs.Names.{is_plain}
-use Rattle.vx_source_dtype.specs.Reading.{leads}
-use Rattle.vx_source_dtype.proofs.Reading.{then}
+use Rattle.vx_source_types.proofs.FirstSigns.{first_open_paren, first_open_bracket, first_close_bracket}
+use Rattle.vx_source_types.proofs.FirstTokens.{first_word}
+use Rattle.vx_source_types.specs.Tokens.{word}
+use Rattle.vx_source_types.specs.Names.{is_plain}
+use Rattle.vx_source_types.specs.Reading.{leads}
+use Rattle.vx_source_types.proofs.Reading.{then}
 use Rattle.vx_source_writer.specs.Options.{options_source}
 use Rattle.vx_source_writer.specs.SourceTexts.{sources, full_source}
 use Rattle.vx_source_grammar.specs.ExpressionReading.{expression_step}

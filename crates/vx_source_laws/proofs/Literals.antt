@@ -14,20 +14,20 @@ use Rattle.vx_value.specs.Texts.{ptype_text}
 use Rattle.vx_value.specs.Types.{number, LogicalType, ty, atomic, Datum, int}
 use Rattle.vx_fn.specs.Functions.{literal}
 use Rattle.vx_tree.specs.Trees.{call, no_tree}
-use Rattle.vx_source_tokens.specs.Characters.{is_word, is_digit}
-use Rattle.vx_source_tokens.specs.declared.token.Sign.TheVariants.{OpenBracket, OpenBrace, CloseParen, DoubleColon}
-use Rattle.vx_source_tokens.specs.Tokens.{Lexeme, word, number as numeral, text as text_token, octets as octets_token, sign, next, first}
-use Rattle.vx_source_tokens.proofs.Choice.{no}
-use Rattle.vx_source_tokens.specs.declared.expected.Expected.TheVariants.{Value}
-use Rattle.vx_source_tokens.proofs.FirstNumbers.{first_number, first_below_zero}
-use Rattle.vx_source_dtype.specs.Names.{same_word}
-use Rattle.vx_source_dtype.specs.Reading.{more, Leads, stays, leads}
-use Rattle.vx_source_dtype.specs.Spelled.{IsSpelled}
-use Rattle.vx_source_dtype.proofs.Reading.{then}
+use Rattle.vx_source_types.specs.Characters.{is_word, is_digit}
+use Rattle.vx_source_types.specs.declared.token.Sign.TheVariants.{OpenBracket, OpenBrace, CloseParen, DoubleColon}
+use Rattle.vx_source_types.specs.Tokens.{Lexeme, word, number as numeral, text as text_token, octets as octets_token, sign, next, first}
+use Rattle.vx_source_types.proofs.Choice.{no}
+use Rattle.vx_source_types.specs.declared.expectation.Expected.TheVariants.{Value}
+use Rattle.vx_source_types.proofs.FirstNumbers.{first_number, first_below_zero}
+use Rattle.vx_source_types.specs.Names.{same_word}
+use Rattle.vx_source_types.specs.Reading.{more, Leads, stays, leads}
+use Rattle.vx_source_types.specs.TypePrintable.{IsPrintable}
+use Rattle.vx_source_types.proofs.Reading.{then}
 use Rattle.vx_source_types.specs.Literals.{fitting, ranged, plain_literal}
 use Rattle.vx_source_types.specs.ScalarReading.{suffixed}
 use Rattle.vx_source_types.specs.ScalarTexts.{value_source}
-use Rattle.vx_source_types.specs.Spelled.{value_nesting, IsSpelledValue}
+use Rattle.vx_source_types.specs.ScalarPrintable.{value_nesting, IsSpelledValue}
 use Rattle.vx_source_types.specs.ValueReading.{Drafted, ValueState, whole_value, simple_begins, value_start, value_step, word_value}
 use Rattle.vx_source_types.proofs.ValuesAgain.{Follows, names_after, value_again, fits_small, fits_below_zero}
 use Rattle.vx_source_grammar.specs.Beginning.{begins, word_begins, value_begun, number_begins, first_child_at, literal_before, value_ends, value_goes}
@@ -115,7 +115,7 @@ pub fitted : (t : LogicalType) (v : Datum) → Fits v t → fitting t v ≡ Some
 fitted t v f = ap (λ b. if b then Some (constant t v) else None) f
 
 -- a value, and what is read behind it
-pub literal_of : (v : Datum) (t : LogicalType) (fs : List Frame) (r : ℕ) (behind rest : List ℕ) (last : ExpressionState) → Fits v t → IsSpelledValue v → IsSpelled t → value_nesting v ≤ r → Follows behind
+pub literal_of : (v : Datum) (t : LogicalType) (fs : List Frame) (r : ℕ) (behind rest : List ℕ) (last : ExpressionState) → Fits v t → IsSpelledValue v → IsPrintable t → value_nesting v ≤ r → Follows behind
     → Goes (at fs (in_value (read_value v t r)) r) behind last rest → IsBehind fs r (call (literal t v) no_tree) last
     → Reads fs r (call (literal t v) no_tree) (value_source v t ++ behind) rest
 literal_of v t fs r behind rest last f u w h e g b =
@@ -141,7 +141,7 @@ no_type fs r d x p = refl
 value_alone : (v : Datum) (t : LogicalType) (fs : List Frame) (r : ℕ) → plain_literal v ≡ Ok (constant t v) → 0 < r → IsBehind fs r (call (literal t v) no_tree) (at fs (in_value (read_value v t r)) r)
 value_alone v t fs r q h x p = no_type fs r (record { value = v; names = names_after [] v t }) x p ∙ (ap (literal_before fs r x) q ∙ literal_is fs r t v x h)
 
-pub alone_again : (v : Datum) (t : LogicalType) (fs : List Frame) (r : ℕ) (rest : List ℕ) → Fits v t → IsSpelledValue v → IsSpelled t → value_nesting v ≤ r → 0 < r → plain_literal v ≡ Ok (constant t v) → Ends rest
+pub alone_again : (v : Datum) (t : LogicalType) (fs : List Frame) (r : ℕ) (rest : List ℕ) → Fits v t → IsSpelledValue v → IsPrintable t → value_nesting v ≤ r → 0 < r → plain_literal v ≡ Ok (constant t v) → Ends rest
     → Reads fs r (call (literal t v) no_tree) (value_source v t ++ rest) rest
 alone_again v t fs r rest f u w h l q m = literal_of v t fs r rest rest _ f u w h (ends_word rest m, ends_text rest m) stays (value_alone v t fs r q l)
 

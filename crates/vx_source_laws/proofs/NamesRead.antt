@@ -4,10 +4,10 @@ use Rattle.std.specs.Prelude.{◌==◌}
 use Rattle.std.specs.Str.{IsUtf8}
 use Rattle.vx_dtype.proofs.Commas.{after_commas}
 use Rattle.vx_value.specs.Types.{Name}
-use Rattle.vx_source_tokens.proofs.FirstTokens.{first_word, first_quoted}
-use Rattle.vx_source_tokens.specs.Characters.{is_word}
-use Rattle.vx_source_tokens.specs.Tokens.{Lexeme, word, quoted, next, first}
-use Rattle.vx_source_dtype.specs.Names.{is_plain, name_source, name_at, between_quotes}
+use Rattle.vx_source_types.proofs.FirstTokens.{first_word, first_quoted}
+use Rattle.vx_source_types.specs.Characters.{is_word}
+use Rattle.vx_source_types.specs.Tokens.{Lexeme, word, quoted, next, first}
+use Rattle.vx_source_types.specs.Names.{is_plain, name_source, name_at, between_quotes}
 
 -- a token that is the name
 pub data IsNameOf (a : Name) : Lexeme → Type 0 where

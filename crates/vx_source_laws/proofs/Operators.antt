@@ -4,12 +4,12 @@ use Rattle.std.specs.Prelude.{codes}
 use Rattle.vx_fn.specs.Functions.{Comparison, equal, not_equal, greater, greater_or_equal, less, less_or_equal, Operation, compares, and_also, or_else, adds, binary, between, like}
 use Rattle.vx_fn.specs.Texts.{operation_text, bound_text, like_text}
 use Rattle.vx_tree.specs.Trees.{Tree, call, no_tree, tree}
-use Rattle.vx_source_tokens.specs.declared.expected.Expected.{Expected}
-use Rattle.vx_source_tokens.specs.declared.token.Sign.TheVariants.{OpenParen, CloseParen, Equal, NotEqual, Less, LessEqual, Greater, GreaterEqual, Plus}
-use Rattle.vx_source_tokens.specs.Tokens.{word, sign}
-use Rattle.vx_source_tokens.proofs.FirstSigns.{first_open_paren, first_close_paren}
-use Rattle.vx_source_dtype.specs.Reading.{more, stays, leads}
-use Rattle.vx_source_dtype.proofs.Reading.{then}
+use Rattle.vx_source_types.specs.declared.expectation.Expected.{Expected}
+use Rattle.vx_source_types.specs.declared.token.Sign.TheVariants.{OpenParen, CloseParen, Equal, NotEqual, Less, LessEqual, Greater, GreaterEqual, Plus}
+use Rattle.vx_source_types.specs.Tokens.{word, sign}
+use Rattle.vx_source_types.proofs.FirstSigns.{first_open_paren, first_close_paren}
+use Rattle.vx_source_types.specs.Reading.{more, stays, leads}
+use Rattle.vx_source_types.proofs.Reading.{then}
 use Rattle.vx_source_writer.specs.SourceTexts.{source}
 use Rattle.vx_source_grammar.specs.Closing.{bracket_goes, closes}
 use Rattle.vx_source_grammar.specs.ExpressionReading.{expression_step}

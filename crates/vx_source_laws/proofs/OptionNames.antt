@@ -3,11 +3,11 @@ use Rattle.std.proofs.Common.{◌≡◌, ℕ, false, List, [], ◌∷◌, ◌++�
 use Rattle.std.specs.Prelude.{codes, ◌==◌}
 use Rattle.vx_dtype.proofs.Commas.{after_commas}
 use Rattle.vx_value.specs.Types.{Name}
-use Rattle.vx_source_tokens.proofs.FirstSigns.{first_comma}
-use Rattle.vx_source_tokens.specs.Characters.{is_word}
-use Rattle.vx_source_tokens.specs.declared.token.Sign.TheVariants.{Comma}
-use Rattle.vx_source_tokens.specs.Tokens.{Lexeme, sign, next}
-use Rattle.vx_source_dtype.specs.Names.{name_source, names_source}
+use Rattle.vx_source_types.proofs.FirstSigns.{first_comma}
+use Rattle.vx_source_types.specs.Characters.{is_word}
+use Rattle.vx_source_types.specs.declared.token.Sign.TheVariants.{Comma}
+use Rattle.vx_source_types.specs.Tokens.{Lexeme, sign, next}
+use Rattle.vx_source_types.specs.Names.{name_source, names_source}
 use Rattle.vx_source_grammar.specs.OptionReading.{names_read, more_read, name_then}
 use Rattle.vx_source_laws.specs.SpelledTrees.{AreTexts}
 use Rattle.vx_source_laws.proofs.Collecting.{Brackets, Collected, no_token, one_token, of_collected_text}

@@ -8,12 +8,12 @@ use Rattle.vx_fn.specs.Functions.{pack}
 use Rattle.vx_fn.specs.Texts.{named_texts}
 use Rattle.vx_tree.specs.Nodes.{count_of}
 use Rattle.vx_tree.specs.Trees.{Tree, call, Trees, no_tree, tree}
-use Rattle.vx_source_tokens.proofs.FirstSigns.{first_open_paren, first_close_paren, first_comma, first_question}
-use Rattle.vx_source_tokens.specs.declared.token.Sign.TheVariants.{CloseParen, Comma, Question}
-use Rattle.vx_source_tokens.specs.Tokens.{Lexeme, word, sign}
-use Rattle.vx_source_dtype.specs.Names.{name_source}
-use Rattle.vx_source_dtype.specs.Reading.{more, stays, leads}
-use Rattle.vx_source_dtype.proofs.Reading.{then, of_text}
+use Rattle.vx_source_types.proofs.FirstSigns.{first_open_paren, first_close_paren, first_comma, first_question}
+use Rattle.vx_source_types.specs.declared.token.Sign.TheVariants.{CloseParen, Comma, Question}
+use Rattle.vx_source_types.specs.Tokens.{Lexeme, word, sign}
+use Rattle.vx_source_types.specs.Names.{name_source}
+use Rattle.vx_source_types.specs.Reading.{more, stays, leads}
+use Rattle.vx_source_types.proofs.Reading.{then, of_text}
 use Rattle.vx_source_writer.specs.SourceTexts.{source, sources}
 use Rattle.vx_source_grammar.specs.Beginning.{packed_at, first_packed_at, pack_end_at}
 use Rattle.vx_source_grammar.specs.ExpressionReading.{expression_step}

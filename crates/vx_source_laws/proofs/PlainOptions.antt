@@ -11,14 +11,14 @@ use Rattle.vx_fn.specs.declared.options.FieldSelection.{FieldSelection}
 use Rattle.vx_fn.specs.declared.options.FieldSelection.TheVariants.{Include, Exclude}
 use Rattle.vx_fn.specs.Functions.{equal, not_equal, greater, greater_or_equal, less, less_or_equal, Operation, compares, and_also, or_else, adds, Function, case_when, get_item, pack, select, binary, between, like, selection_names}
 use Rattle.vx_fn.specs.Texts.{bound_text, truth_text, nullability_text}
-use Rattle.vx_source_tokens.proofs.Choice.{yes}
-use Rattle.vx_source_tokens.proofs.FirstNumbers.{spelled, first_number}
-use Rattle.vx_source_tokens.proofs.FirstSigns.{first_comma, first_open_bracket, first_open_brace, first_close_brace, first_equal}
-use Rattle.vx_source_tokens.specs.Characters.{is_digit}
-use Rattle.vx_source_tokens.specs.declared.token.Sign.TheVariants.{OpenParen, CloseParen, OpenBracket, CloseBracket, OpenBrace, CloseBrace, Comma, Colon, Tilde, Equal, NotEqual, Less, LessEqual, Greater, GreaterEqual, Plus}
-use Rattle.vx_source_tokens.specs.Tokens.{Lexeme, word, number as numeral, sign, next, first}
-use Rattle.vx_source_dtype.specs.Names.{names_source}
-use Rattle.vx_source_dtype.specs.TypeReading.{narrow_length}
+use Rattle.vx_source_types.proofs.Choice.{yes}
+use Rattle.vx_source_types.proofs.FirstNumbers.{spelled, first_number}
+use Rattle.vx_source_types.proofs.FirstSigns.{first_comma, first_open_bracket, first_open_brace, first_close_brace, first_equal}
+use Rattle.vx_source_types.specs.Characters.{is_digit}
+use Rattle.vx_source_types.specs.declared.token.Sign.TheVariants.{OpenParen, CloseParen, OpenBracket, CloseBracket, OpenBrace, CloseBrace, Comma, Colon, Tilde, Equal, NotEqual, Less, LessEqual, Greater, GreaterEqual, Plus}
+use Rattle.vx_source_types.specs.Tokens.{Lexeme, word, number as numeral, sign, next, first}
+use Rattle.vx_source_types.specs.Names.{names_source}
+use Rattle.vx_source_types.specs.TypeReading.{narrow_length}
 use Rattle.vx_source_writer.specs.Options.{options_source}
 use Rattle.vx_source_grammar.specs.OptionReading.{truth_at, packed, braced, or_options, function_read}
 use Rattle.vx_source_laws.specs.SpelledTrees.{AreTexts}

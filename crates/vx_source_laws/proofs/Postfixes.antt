@@ -8,12 +8,12 @@ use Rattle.vx_fn.specs.declared.options.FieldSelection.{FieldSelection}
 use Rattle.vx_fn.specs.declared.options.FieldSelection.TheVariants.{Include, Exclude}
 use Rattle.vx_fn.specs.Functions.{get_item, select, selection_names}
 use Rattle.vx_tree.specs.Trees.{Tree, call, no_tree, tree}
-use Rattle.vx_source_tokens.proofs.FirstSigns.{first_comma, first_open_brace, first_close_brace}
-use Rattle.vx_source_tokens.specs.declared.token.Sign.TheVariants.{Dot, OpenBrace}
-use Rattle.vx_source_tokens.specs.Tokens.{Lexeme, sign}
-use Rattle.vx_source_dtype.specs.Names.{name_source, names_source}
-use Rattle.vx_source_dtype.specs.Reading.{more, stays, leads}
-use Rattle.vx_source_dtype.proofs.Reading.{then, of_text}
+use Rattle.vx_source_types.proofs.FirstSigns.{first_comma, first_open_brace, first_close_brace}
+use Rattle.vx_source_types.specs.declared.token.Sign.TheVariants.{Dot, OpenBrace}
+use Rattle.vx_source_types.specs.Tokens.{Lexeme, sign}
+use Rattle.vx_source_types.specs.Names.{name_source, names_source}
+use Rattle.vx_source_types.specs.Reading.{more, stays, leads}
+use Rattle.vx_source_types.proofs.Reading.{then, of_text}
 use Rattle.vx_source_writer.specs.SourceTexts.{source, select_source}
 use Rattle.vx_source_grammar.specs.ExpressionReading.{expression_step}
 use Rattle.vx_source_grammar.specs.Following.{field_goes, selection_of, selected, named_goes, excluded_at, selection_at}

@@ -8,20 +8,20 @@ use Rattle.vx_value.specs.Fits.{Fits}
 use Rattle.vx_value.specs.Texts.{ptype_text}
 use Rattle.vx_value.specs.Types.{truth, number, text, octets, LogicalType, ty, atomic, list, fixed, struct, Datum, bool, int, utf8, bytes}
 use Rattle.vx_fn.specs.Functions.{Function, literal, cast}
-use Rattle.vx_source_tokens.specs.declared.expected.Expected.{Expected}
-use Rattle.vx_source_tokens.specs.declared.expected.Expected.TheVariants.{CloseBracket as TheBracket}
-use Rattle.vx_source_tokens.specs.declared.token.Sign.TheVariants.{CloseBracket}
-use Rattle.vx_source_tokens.specs.Characters.{is_word}
-use Rattle.vx_source_tokens.specs.Tokens.{Lexeme, number as numeral, sign, next, first}
-use Rattle.vx_source_tokens.proofs.FirstNumbers.{first_number, first_below_zero}
-use Rattle.vx_source_dtype.specs.Reading.{Goes, Step, more, done}
-use Rattle.vx_source_dtype.specs.Spelled.{IsSpelled, type_nesting}
-use Rattle.vx_source_dtype.specs.TypeReading.{TypeState, type_start, type_step}
-use Rattle.vx_source_dtype.specs.TypeTexts.{type_source}
+use Rattle.vx_source_types.specs.declared.expectation.Expected.{Expected}
+use Rattle.vx_source_types.specs.declared.expectation.Expected.TheVariants.{CloseBracket as TheBracket}
+use Rattle.vx_source_types.specs.declared.token.Sign.TheVariants.{CloseBracket}
+use Rattle.vx_source_types.specs.Characters.{is_word}
+use Rattle.vx_source_types.specs.Tokens.{Lexeme, number as numeral, sign, next, first}
+use Rattle.vx_source_types.proofs.FirstNumbers.{first_number, first_below_zero}
+use Rattle.vx_source_types.specs.Reading.{Goes, Step, more, done}
+use Rattle.vx_source_types.specs.TypePrintable.{IsPrintable, type_nesting}
+use Rattle.vx_source_types.specs.TypeReading.{TypeState, type_start, type_step}
+use Rattle.vx_source_types.specs.TypeTexts.{type_source}
 use Rattle.vx_source_types.specs.Literals.{ranged, plain_literal, fitting}
 use Rattle.vx_source_types.specs.ScalarReading.{ScalarState, scalar_due, in_value, in_type, whole_scalar, value_begun, scalar_begins, value_after, type_after, ended, type_ended as scalar_ended, scalar_step}
 use Rattle.vx_source_types.specs.ScalarTexts.{value_source, type_behind}
-use Rattle.vx_source_types.specs.Spelled.{value_nesting, IsSpelledValue}
+use Rattle.vx_source_types.specs.ScalarPrintable.{value_nesting, IsSpelledValue}
 use Rattle.vx_source_types.specs.ValueReading.{value_start, value_step}
 use Rattle.vx_source_types.proofs.ValuesAgain.{Follows, value_again, fits_small, fits_below_zero}
 use Rattle.vx_source_grammar.specs.OptionReading.{read_all, function_read}
@@ -30,7 +30,7 @@ use Rattle.vx_source_laws.proofs.Literals.{read_value, fitted, suffix_is, suffix
 use Rattle.vx_source_laws.proofs.PlainOptions.{AreOptions}
 use Rattle.vx_source_laws.proofs.TypeBrackets.{type_brackets, type_counted}
 use Rattle.vx_source_laws.proofs.TypedLiterals.{draft, typed_is}
-use Rattle.vx_source_dtype.proofs.TypesAgain.{type_again}
+use Rattle.vx_source_types.proofs.TypesAgain.{type_again}
 use Rattle.vx_source_laws.proofs.TypesRead.{read_type, type_ended}
 use Rattle.vx_source_laws.proofs.ValueBrackets.{value_brackets, value_counted}
 
@@ -44,7 +44,7 @@ ends_read {S} {A} step s a q = ap after q where
 
 -- a type inside something else
 type_taken : {T B : Type 0} (outer : Step T B) (embed : TypeState → T) (t : LogicalType) (r : ℕ) (rest : List ℕ)
-    → ((v w : TypeState) (x : Lexeme) → type_step v x ≡ Ok (more w) → outer (embed v) x ≡ Ok (more (embed w))) → IsSpelled t → type_nesting t ≤ r → is_word (next rest) ≡ false
+    → ((v w : TypeState) (x : Lexeme) → type_step v x ≡ Ok (more w) → outer (embed v) x ≡ Ok (more (embed w))) → IsPrintable t → type_nesting t ≤ r → is_word (next rest) ≡ false
     → (xs : List Lexeme) × Taken outer 0 (embed (type_start r)) (type_source t ++ rest) xs 0 (embed (read_type t r)) rest
 type_taken outer embed (ty s true) r rest goes u h e = embedded type_step outer embed type_brackets goes type_counted (type_again (ty s true) [] r rest u h e)
 type_taken outer embed (ty s false) r rest goes u h e = embedded type_step outer embed type_brackets goes type_counted (type_again (ty s false) [] r rest u h e)
@@ -57,7 +57,7 @@ as_cast (Err e) = Err e
 cast_read : (xs : List Lexeme) (room : ℕ) → function_read (codes "cast") xs room ≡ as_cast (read_all type_step (type_start room) xs)
 cast_read xs room = refl
 
-pub cast_options : (t : LogicalType) (room : ℕ) (rest : List ℕ) → IsSpelled t → type_nesting t ≤ room → AreOptions (cast t) (codes "cast") room rest
+pub cast_options : (t : LogicalType) (room : ℕ) (rest : List ℕ) → IsPrintable t → type_nesting t ≤ room → AreOptions (cast t) (codes "cast") room rest
 cast_options t room rest u h =
     let taken = type_taken type_step (λ s. s) t room (93 ∷ rest) (λ v w x q. q) u h refl in
     record {
@@ -90,20 +90,20 @@ of_taken_text : {S A : Type 0} (step : Step S A) {n k : ℕ} {s u : S} {bs cs ds
 of_taken_text step {n} {k} {s} {u} {bs} {cs} {ds} {xs} q h = subst (λ zs. Taken step n s zs xs k u ds) (sym q) h
 
 -- a value inside a scalar
-value_taken : (v : Datum) (t : LogicalType) (room : ℕ) (behind : List ℕ) → Fits v t → IsSpelledValue v → IsSpelled t → value_nesting v ≤ room → Follows behind
+value_taken : (v : Datum) (t : LogicalType) (room : ℕ) (behind : List ℕ) → Fits v t → IsSpelledValue v → IsPrintable t → value_nesting v ≤ room → Follows behind
     → (xs : List Lexeme) × Taken (scalar_step room) 0 scalar_due (value_source v t ++ behind) xs 0 (in_value (read_value v t room)) behind
 value_taken v t room behind f u w h e =
     let it = value_again v t [] [] room behind f u w h e in
     let rest = embedded value_step (scalar_step room) in_value value_brackets (λ a b x q. ap (value_after room x) q) value_counted it.goes in
     (it.token ∷ rest.0, one_taken it.found (ap (scalar_begins room it.token) it.bare ∙ ap (value_begun it.token) it.taken) (value_counted (value_start room) it.state it.token it.taken) rest.1)
 
-alone_options : (v : Datum) (t : LogicalType) (room : ℕ) (rest : List ℕ) → Fits v t → IsSpelledValue v → IsSpelled t → value_nesting v ≤ room → type_behind t ≡ [] → plain_literal v ≡ Ok (constant t v) → AreOptions (literal t v) (codes "literal") room rest
+alone_options : (v : Datum) (t : LogicalType) (room : ℕ) (rest : List ℕ) → Fits v t → IsSpelledValue v → IsPrintable t → value_nesting v ≤ room → type_behind t ≡ [] → plain_literal v ≡ Ok (constant t v) → AreOptions (literal t v) (codes "literal") room rest
 alone_options v t room rest f u w h q l =
     let taken = value_taken v t room (93 ∷ rest) f u w h (refl, refl) in
     let grouped : (value_source v t ++ type_behind t) ++ 93 ∷ rest ≡ value_source v t ++ 93 ∷ rest = ap (λ xs. (value_source v t ++ xs) ++ 93 ∷ rest) q ∙ ap (λ xs. xs ++ 93 ∷ rest) (append-nil (value_source v t)) in
     scalar_options t v room rest taken.0 (in_value (read_value v t room)) (of_taken_text (scalar_step room) grouped taken.1) (ap ended l)
 
-typed_options : (v : Datum) (t : LogicalType) (room : ℕ) (rest : List ℕ) → Fits v t → IsSpelledValue v → IsSpelled t → value_nesting v ≤ room → type_nesting t ≤ room → type_behind t ≡ codes "::" ++ type_source t
+typed_options : (v : Datum) (t : LogicalType) (room : ℕ) (rest : List ℕ) → Fits v t → IsSpelledValue v → IsPrintable t → value_nesting v ≤ room → type_nesting t ≤ room → type_behind t ≡ codes "::" ++ type_source t
     → AreOptions (literal t v) (codes "literal") room rest
 typed_options v t room rest f u w h k q =
     let behind : List ℕ = 58 ∷ 58 ∷ (type_source t ++ 93 ∷ rest) in
@@ -131,7 +131,7 @@ suffixed_options p (negsuc n) room rest f =
     let apart = suffix_apart p (93 ∷ rest) in
     number_options p (negsuc n) room rest true (suc n) (first_below_zero (suc n) (ptype_text p) (93 ∷ rest) (fits_below_zero p n f) apart.0 apart.2 refl) refl f
 
-pub literal_options : (t : LogicalType) (v : Datum) (room : ℕ) (rest : List ℕ) → Fits v t → IsSpelledValue v → IsSpelled t → value_nesting v ≤ room → type_nesting t ≤ room → AreOptions (literal t v) (codes "literal") room rest
+pub literal_options : (t : LogicalType) (v : Datum) (room : ℕ) (rest : List ℕ) → Fits v t → IsSpelledValue v → IsPrintable t → value_nesting v ≤ room → type_nesting t ≤ room → AreOptions (literal t v) (codes "literal") room rest
 literal_options (ty (atomic (number p)) false) (int i) room rest f u w h k = suffixed_options p i room rest f
 literal_options (ty (atomic truth) false) (bool true) room rest f u w h k = alone_options (bool true) (ty (atomic truth) false) room rest f u w h refl refl
 literal_options (ty (atomic truth) false) (bool false) room rest f u w h k = alone_options (bool false) (ty (atomic truth) false) room rest f u w h refl refl

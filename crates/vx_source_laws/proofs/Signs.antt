@@ -1,9 +1,9 @@
 -- More signs that are spelled at the front are the first token.
 use Rattle.std.proofs.Common.{◌≡◌, ℕ, Bool, true, false, List, ◌∷◌, Option, Some, None, refl, ap}
 use Rattle.std.specs.Prelude.{◌==◌}
-use Rattle.vx_source_tokens.specs.declared.token.Sign.{Sign}
-use Rattle.vx_source_tokens.specs.declared.token.Sign.TheVariants.{Dot, Dollar}
-use Rattle.vx_source_tokens.specs.Tokens.{sign, next, sign_taken, first}
+use Rattle.vx_source_types.specs.declared.token.Sign.{Sign}
+use Rattle.vx_source_types.specs.declared.token.Sign.TheVariants.{Dot, Dollar}
+use Rattle.vx_source_types.specs.Tokens.{sign, next, sign_taken, first}
 
 -- a byte that begins no sign of two
 alone : (t : Bool) → (elim t as (λ v. Option Sign) [ true ↦ None | false ↦ None ]) ≡ None

@@ -11,20 +11,20 @@ use Rattle.vx_value.specs.Views.{value_of, data_view}
 use Rattle.vx_tree.specs.declared.expression.Expression.{Expression}
 use Rattle.vx_tree.specs.Trees.{tree}
 use Rattle.vx_tree.specs.Views.{tree_of, trees_of}
-use Rattle.vx_source_dtype.specs.Spelled.{IsSpelled, AreSpelled}
-use Rattle.vx_source_types.specs.Spelled.{IsSpelledValue, AreSpelledValues}
+use Rattle.vx_source_types.specs.TypePrintable.{IsPrintable, ArePrintable}
+use Rattle.vx_source_types.specs.ScalarPrintable.{IsSpelledValue, AreSpelledValues}
 use Rattle.vx_source_types.proofs.ItemSources.{data_next}
 use Rattle.vx_source_laws.specs.SpelledTrees.{AreTexts, IsSpelledTree, AreSpelledTrees}
 
 -- ---- fields
 
 pub fields_spelled_next : (names : List Name) (types : List DType) (i : ℕ) (a : Name) (t : DType) → i < length names → i < length types
-    → a ≡ get_or names i a → t ≡ get_or types i t → IsUtf8 a → IsSpelled (type_of t)
-    → AreSpelled (fields_view (drop (i + 1) names) (drop (i + 1) types)) → AreSpelled (fields_view (drop i names) (drop i types))
-fields_spelled_next names types i a t h k p q text spelled rest = subst AreSpelled (sym (fields_next names types i a t h k p q)) (text, spelled, rest)
+    → a ≡ get_or names i a → t ≡ get_or types i t → IsUtf8 a → IsPrintable (type_of t)
+    → ArePrintable (fields_view (drop (i + 1) names) (drop (i + 1) types)) → ArePrintable (fields_view (drop i names) (drop i types))
+fields_spelled_next names types i a t h k p q text spelled rest = subst ArePrintable (sym (fields_next names types i a t h k p q)) (text, spelled, rest)
 
-pub fields_spelled_end : (names : List Name) (types : List DType) (i : ℕ) → field_count (fields_view names types) ≤ i → AreSpelled (fields_view (drop i names) (drop i types))
-fields_spelled_end names types i h = subst AreSpelled (sym (fields_end names types i h)) tt
+pub fields_spelled_end : (names : List Name) (types : List DType) (i : ℕ) → field_count (fields_view names types) ≤ i → ArePrintable (fields_view (drop i names) (drop i types))
+fields_spelled_end names types i h = subst ArePrintable (sym (fields_end names types i h)) tt
 
 -- ---- names
 

@@ -5,11 +5,11 @@ use Rattle.std.proofs.lemmas.Bool.Decides.{nat_tests}
 use Rattle.vx_fn.specs.Functions.{Function}
 use Rattle.vx_tree.specs.Trees.{Tree, call, Trees, no_tree, tree}
 use Rattle.vx_tree.specs.Views.{trees_from}
-use Rattle.vx_source_tokens.proofs.Choice.{yes}
-use Rattle.vx_source_tokens.specs.Characters.{is_word}
-use Rattle.vx_source_tokens.specs.declared.token.Sign.TheVariants.{DoubleColon, Question}
-use Rattle.vx_source_tokens.specs.Tokens.{Lexeme, sign, next, first}
-use Rattle.vx_source_dtype.specs.Reading.{more, Leads, leads}
+use Rattle.vx_source_types.proofs.Choice.{yes}
+use Rattle.vx_source_types.specs.Characters.{is_word}
+use Rattle.vx_source_types.specs.declared.token.Sign.TheVariants.{DoubleColon, Question}
+use Rattle.vx_source_types.specs.Tokens.{Lexeme, sign, next, first}
+use Rattle.vx_source_types.specs.Reading.{more, Leads, leads}
 use Rattle.vx_source_writer.specs.SourceTexts.{source}
 use Rattle.vx_source_grammar.specs.Beginning.{begins, first_child_at}
 use Rattle.vx_source_grammar.specs.Closing.{node_stands}

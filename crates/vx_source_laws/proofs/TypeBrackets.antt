@@ -1,10 +1,10 @@
 -- The square brackets that are open in a type.
 use Rattle.std.proofs.Common.{◌≡◌, ℕ, zero, suc, List, [], ◌∷◌, Option, Some, None, Ok, refl, subst}
 use Rattle.vx_dtype.specs.Types.{LogicalType}
-use Rattle.vx_source_tokens.specs.declared.token.Sign.TheVariants.{OpenParen, CloseParen, OpenBracket, CloseBracket, OpenBrace, CloseBrace, Comma, Equal, Question}
-use Rattle.vx_source_tokens.specs.Tokens.{Lexeme, word, quoted, number as numeral, sign}
-use Rattle.vx_source_dtype.specs.Reading.{more}
-use Rattle.vx_source_dtype.specs.TypeReading.{TypeFrame, in_list, in_fixed, in_struct, TypeMode, type_due, list_opens, fixed_opens, length_opens, length_due, length_closes, first_field, next_field, field_type, unmarked, whole, TypeState, TypeAnswer, TypeWord, plain_word, list_word, fixed_word, no_word, type_word_of, word_begins, length_at, length_read, type_ends, type_next, type_step}
+use Rattle.vx_source_types.specs.declared.token.Sign.TheVariants.{OpenParen, CloseParen, OpenBracket, CloseBracket, OpenBrace, CloseBrace, Comma, Equal, Question}
+use Rattle.vx_source_types.specs.Tokens.{Lexeme, word, quoted, number as numeral, sign}
+use Rattle.vx_source_types.specs.Reading.{more}
+use Rattle.vx_source_types.specs.TypeReading.{TypeFrame, in_list, in_fixed, in_struct, TypeMode, type_due, list_opens, fixed_opens, length_opens, length_due, length_closes, first_field, next_field, field_type, unmarked, whole, TypeState, TypeAnswer, TypeWord, plain_word, list_word, fixed_word, no_word, type_word_of, word_begins, length_at, length_read, type_ends, type_next, type_step}
 use Rattle.vx_source_laws.proofs.Collecting.{Brackets}
 
 -- a bracket is open around the length of a list

@@ -6,16 +6,16 @@ use Rattle.vx_value.specs.Fits.{Fits}
 use Rattle.vx_value.specs.Types.{truth, number, text, octets, LogicalType, ty, atomic, list, fixed, struct, Datum, bool, int, utf8, bytes}
 use Rattle.vx_fn.specs.Functions.{literal}
 use Rattle.vx_tree.specs.Trees.{call, no_tree}
-use Rattle.vx_source_tokens.specs.Tokens.{end}
-use Rattle.vx_source_dtype.specs.Reading.{Leads, stays, leads, IsRead, is_read, stops_at}
-use Rattle.vx_source_dtype.specs.Spelled.{IsSpelled, type_nesting}
-use Rattle.vx_source_dtype.specs.TypeReading.{TypeState, type_start, type_step}
-use Rattle.vx_source_dtype.specs.TypeTexts.{type_source}
-use Rattle.vx_source_dtype.proofs.Reading.{then, of_text, read_once, read_or_stopped}
+use Rattle.vx_source_types.specs.Tokens.{end}
+use Rattle.vx_source_types.specs.Reading.{Leads, stays, leads, IsRead, is_read, stops_at}
+use Rattle.vx_source_types.specs.TypePrintable.{IsPrintable, type_nesting}
+use Rattle.vx_source_types.specs.TypeReading.{TypeState, type_start, type_step}
+use Rattle.vx_source_types.specs.TypeTexts.{type_source}
+use Rattle.vx_source_types.proofs.Reading.{then, of_text, read_once, read_or_stopped}
 use Rattle.vx_source_types.specs.Literals.{typed_literal}
 use Rattle.vx_source_types.specs.ScalarReading.{scalar_due, in_value as in_scalar_value, in_type as in_scalar_type, value_begun, scalar_begins, value_after, type_after, type_ended as scalar_ended, scalar_step}
 use Rattle.vx_source_types.specs.ScalarTexts.{value_source, type_behind}
-use Rattle.vx_source_types.specs.Spelled.{value_nesting, IsSpelledValue}
+use Rattle.vx_source_types.specs.ScalarPrintable.{value_nesting, IsSpelledValue}
 use Rattle.vx_source_types.specs.ValueReading.{Drafted, ValueState, value_step}
 use Rattle.vx_source_types.proofs.ScalarsAgain.{scalar_again}
 use Rattle.vx_source_types.proofs.ValuesAgain.{names_after, value_again}
@@ -24,7 +24,7 @@ use Rattle.vx_source_grammar.specs.States.{Frame, in_type, for_literal}
 use Rattle.vx_source_laws.proofs.Literals.{literal_is, literal_of, alone_again, number_again}
 use Rattle.vx_source_laws.proofs.Owns.{IsOwnAgain}
 use Rattle.vx_source_laws.proofs.TreesRead.{at, ends_word, IsBehind, Reads, of_grouped}
-use Rattle.vx_source_dtype.proofs.TypesAgain.{type_again}
+use Rattle.vx_source_types.proofs.TypesAgain.{type_again}
 use Rattle.vx_source_laws.proofs.TypesRead.{read_type, type_ended, whole_type, type_read}
 
 -- ---- the value is one of the type, since the scalar alone is read as it
@@ -41,7 +41,7 @@ type_in : {s u : TypeState} {bs ds : List ℕ} (room : ℕ) (d : Drafted) → Le
 type_in room d stays = stays
 type_in room d (leads p q h) = leads p (ap (type_after d) q) (type_in room d h)
 
-scalar_read : (v : Datum) (t : LogicalType) (room : ℕ) → Fits v t → IsSpelledValue v → IsSpelled t → value_nesting v ≤ room → type_nesting t ≤ room
+scalar_read : (v : Datum) (t : LogicalType) (room : ℕ) → Fits v t → IsSpelledValue v → IsPrintable t → value_nesting v ≤ room → type_nesting t ≤ room
     → Leads (scalar_step room) scalar_due (value_source v t ++ 58 ∷ 58 ∷ type_source t) (in_scalar_type (draft v t) (read_type t room)) []
 scalar_read v t room f u w h k =
     let it = value_again v t [] [] room (58 ∷ 58 ∷ type_source t) f u w h (refl, refl) in
@@ -49,7 +49,7 @@ scalar_read v t room f u w h k =
     leads it.found (ap (scalar_begins room it.token) it.bare ∙ ap (value_begun it.token) it.taken)
     ((then) (scalar_step room) (value_in room it.goes) (leads {t = in_scalar_type (draft v t) (type_start room)} refl refl (type_in room (draft v t) behind)))
 
-pub typed_is : (v : Datum) (t : LogicalType) (room : ℕ) → Fits v t → IsSpelledValue v → IsSpelled t → value_nesting v ≤ room → type_nesting t ≤ room → type_behind t ≡ codes "::" ++ type_source t
+pub typed_is : (v : Datum) (t : LogicalType) (room : ℕ) → Fits v t → IsSpelledValue v → IsPrintable t → value_nesting v ≤ room → type_nesting t ≤ room → type_behind t ≡ codes "::" ++ type_source t
     → typed_literal (draft v t) t ≡ Some (constant t v)
 typed_is v t room f u w h k q = by_literal (typed_literal (draft v t) t) refl where
   whole : IsRead (scalar_step room) scalar_due (value_source v t ++ 58 ∷ 58 ∷ type_source t) (constant t v)
@@ -68,7 +68,7 @@ value_typed : (v : Datum) (t : LogicalType) (fs : List Frame) (r : ℕ) → type
     → IsBehind fs r (call (literal t v) no_tree) (at fs (in_type (for_literal (draft v t)) (read_type t r)) r)
 value_typed v t fs r q h x p = whole_type fs r (for_literal (draft v t)) t r x p ∙ (ap (λ o. literal_before fs r x (fitting o)) q ∙ literal_is fs r t v x h)
 
-typed_again : (v : Datum) (t : LogicalType) → Fits v t → IsSpelledValue v → IsSpelled t → type_behind t ≡ codes "::" ++ type_source t → IsOwnAgain (literal t v) no_tree
+typed_again : (v : Datum) (t : LogicalType) → Fits v t → IsSpelledValue v → IsPrintable t → type_behind t ≡ codes "::" ++ type_source t → IsOwnAgain (literal t v) no_tree
 typed_again v t f u w q fs r rest h m =
     let behind : List ℕ = 58 ∷ 58 ∷ (type_source t ++ rest) in
     let grouped : (value_source v t ++ type_behind t) ++ rest ≡ value_source v t ++ behind = append_assoc (value_source v t) (type_behind t) rest ∙ ap (λ xs. value_source v t ++ (xs ++ rest)) q in
@@ -81,7 +81,7 @@ typed_again v t f u w q fs r rest h m =
 shown_again : (v : Datum) (t : LogicalType) (fs : List Frame) (r : ℕ) (rest : List ℕ) → Reads fs r (call (literal t v) no_tree) (value_source v t ++ rest) rest → Reads fs r (call (literal t v) no_tree) ((value_source v t ++ []) ++ rest) rest
 shown_again v t fs r rest h = of_grouped (append_assoc (value_source v t) [] rest) h
 
-pub literal_again : (t : LogicalType) (v : Datum) → Fits v t → IsSpelledValue v → IsSpelled t → IsOwnAgain (literal t v) no_tree
+pub literal_again : (t : LogicalType) (v : Datum) → Fits v t → IsSpelledValue v → IsPrintable t → IsOwnAgain (literal t v) no_tree
 literal_again (ty (atomic (number p)) false) (int i) f u w fs r rest h m = of_grouped (append_assoc _ _ rest) (number_again p i fs r rest f (omega arith) m)
 literal_again (ty (atomic truth) false) (bool true) f u w fs r rest h m = shown_again _ _ fs r rest (alone_again (bool true) (ty (atomic truth) false) fs r rest f u w (omega arith) (omega arith) refl m)
 literal_again (ty (atomic truth) false) (bool false) f u w fs r rest h m = shown_again _ _ fs r rest (alone_again (bool false) (ty (atomic truth) false) fs r rest f u w (omega arith) (omega arith) refl m)

@@ -1,17 +1,17 @@
 -- A type at the front of a text, inside an expression.
 use Rattle.std.proofs.Common.{◌≡◌, ℕ, ◌≤◌, true, false, List, [], ◌∷◌, ◌++◌, Ok, refl, ap}
 use Rattle.vx_dtype.specs.Types.{LogicalType, ty}
-use Rattle.vx_source_tokens.specs.Characters.{is_word}
-use Rattle.vx_source_tokens.specs.declared.token.Sign.TheVariants.{Question}
-use Rattle.vx_source_tokens.specs.Tokens.{Lexeme, sign, next}
-use Rattle.vx_source_dtype.specs.Reading.{Step, done, Leads, stays, leads}
-use Rattle.vx_source_dtype.specs.Spelled.{IsSpelled, type_nesting}
-use Rattle.vx_source_dtype.specs.TypeReading.{type_due, unmarked, whole, TypeState, type_start, type_step}
-use Rattle.vx_source_dtype.specs.TypeTexts.{type_source}
+use Rattle.vx_source_types.specs.Characters.{is_word}
+use Rattle.vx_source_types.specs.declared.token.Sign.TheVariants.{Question}
+use Rattle.vx_source_types.specs.Tokens.{Lexeme, sign, next}
+use Rattle.vx_source_types.specs.Reading.{Step, done, Leads, stays, leads}
+use Rattle.vx_source_types.specs.TypePrintable.{IsPrintable, type_nesting}
+use Rattle.vx_source_types.specs.TypeReading.{type_due, unmarked, whole, TypeState, type_start, type_step}
+use Rattle.vx_source_types.specs.TypeTexts.{type_source}
 use Rattle.vx_source_grammar.specs.Beginning.{type_goes, type_ends}
 use Rattle.vx_source_grammar.specs.States.{Frame, TypeFor, in_type}
 use Rattle.vx_source_laws.proofs.TreesRead.{at, Goes, is_suffix}
-use Rattle.vx_source_dtype.proofs.TypesAgain.{type_again, read_mode}
+use Rattle.vx_source_types.proofs.TypesAgain.{type_again, read_mode}
 
 -- a type that is read
 abbrev pub read_type : LogicalType → ℕ → TypeState
@@ -40,10 +40,10 @@ begun : (t : LogicalType) (r : ℕ) → ¬ (type_start r ≡ read_type t r)
 begun (ty s true) r = λ q. let modes : type_due ≡ whole (ty s true) = ap (λ (z : TypeState). z.mode) q in (cc)
 begun (ty s false) r = λ q. let modes : type_due ≡ unmarked (ty s false) = ap (λ (z : TypeState). z.mode) q in (cc)
 
-pub type_read : (t : LogicalType) (fs : List Frame) (r : ℕ) (wanted : TypeFor) (inner : ℕ) (rest : List ℕ) → IsSpelled t → type_nesting t ≤ inner → is_word (next rest) ≡ false
+pub type_read : (t : LogicalType) (fs : List Frame) (r : ℕ) (wanted : TypeFor) (inner : ℕ) (rest : List ℕ) → IsPrintable t → type_nesting t ≤ inner → is_word (next rest) ≡ false
     → Goes (at fs (in_type wanted (type_start inner)) r) (type_source t ++ rest) (at fs (in_type wanted (read_type t inner)) r) rest
 type_read t fs r wanted inner rest u h e = type_in fs r wanted (type_again t [] inner rest u h e)
 
-pub type_read_behind_blank : (t : LogicalType) (fs : List Frame) (r : ℕ) (wanted : TypeFor) (inner : ℕ) (rest : List ℕ) → IsSpelled t → type_nesting t ≤ inner → is_word (next rest) ≡ false
+pub type_read_behind_blank : (t : LogicalType) (fs : List Frame) (r : ℕ) (wanted : TypeFor) (inner : ℕ) (rest : List ℕ) → IsPrintable t → type_nesting t ≤ inner → is_word (next rest) ≡ false
     → Goes (at fs (in_type wanted (type_start inner)) r) (32 ∷ (type_source t ++ rest)) (at fs (in_type wanted (read_type t inner)) r) rest
 type_read_behind_blank t fs r wanted inner rest u h e = type_in fs r wanted (behind_blank type_step (begun t inner) (type_again t [] inner rest u h e))

@@ -1,9 +1,9 @@
 -- The square brackets that are open in a value.
 use Rattle.std.proofs.Common.{◌≡◌, ℕ, zero, suc, ◌+◌, List, [], ◌∷◌, Option, Some, None, Ok, refl, subst}
 use Rattle.vx_value.specs.Types.{Name, Datum}
-use Rattle.vx_source_tokens.specs.declared.token.Sign.TheVariants.{OpenBracket, CloseBracket, OpenBrace, CloseBrace, Comma, Colon}
-use Rattle.vx_source_tokens.specs.Tokens.{Lexeme, word, quoted, number as numeral, text, octets, sign}
-use Rattle.vx_source_dtype.specs.Reading.{more}
+use Rattle.vx_source_types.specs.declared.token.Sign.TheVariants.{OpenBracket, CloseBracket, OpenBrace, CloseBrace, Comma, Colon}
+use Rattle.vx_source_types.specs.Tokens.{Lexeme, word, quoted, number as numeral, text, octets, sign}
+use Rattle.vx_source_types.specs.Reading.{more}
 use Rattle.vx_source_types.specs.ValueReading.{ValueFrame, in_items, in_row, ValueMode, value_due, first_item, first_named, next_named, named_value, whole_value, ValueState, ValueAnswer, word_value, number_value, simple_begins, value_begins, value_ends, value_next, value_step}
 use Rattle.vx_source_laws.proofs.Collecting.{Brackets}
 

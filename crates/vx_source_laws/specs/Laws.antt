@@ -1,8 +1,8 @@
 -- What is written of an expression is read as that expression.
 use Rattle.std.specs.Prelude.{◌≡◌, ◌≤◌, ◌+◌, ℕ, Ok}
 use Rattle.vx_tree.specs.Trees.{Tree}
-use Rattle.vx_source_tokens.specs.Tokens.{end}
-use Rattle.vx_source_dtype.specs.Reading.{more, IsRead}
+use Rattle.vx_source_types.specs.Tokens.{end}
+use Rattle.vx_source_types.specs.Reading.{more, IsRead}
 use Rattle.vx_source_writer.specs.SourceTexts.{source}
 use Rattle.vx_source_grammar.specs.ExpressionReading.{expression_step}
 use Rattle.vx_source_grammar.specs.Nodes.{height_of}

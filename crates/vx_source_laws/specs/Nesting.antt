@@ -3,8 +3,8 @@ use Rattle.std.specs.Prelude.{ℕ, ◌+◌, ◌==◌, ◌&&◌, max, if◌then�
 use Rattle.vx_fn.specs.Functions.{Function, get_item, literal, select, binary, between, like, cast, arity_of}
 use Rattle.vx_tree.specs.Nodes.{count_of}
 use Rattle.vx_tree.specs.Trees.{Tree, root, call, Trees, no_tree, tree}
-use Rattle.vx_source_dtype.specs.Spelled.{type_nesting}
-use Rattle.vx_source_types.specs.Spelled.{value_nesting}
+use Rattle.vx_source_types.specs.TypePrintable.{type_nesting}
+use Rattle.vx_source_types.specs.ScalarPrintable.{value_nesting}
 use Rattle.vx_source_writer.specs.SourceTexts.{is_shown}
 use Rattle.vx_source_grammar.specs.Nodes.{heights_of}
 

@@ -5,8 +5,8 @@ use Rattle.vx_value.specs.Fits.{Fits}
 use Rattle.vx_value.specs.Types.{Name}
 use Rattle.vx_fn.specs.Functions.{Function, case_when, get_item, literal, pack, select, cast, selection_names}
 use Rattle.vx_tree.specs.Trees.{Tree, root, call, Trees, no_tree, tree}
-use Rattle.vx_source_dtype.specs.Spelled.{IsSpelled}
-use Rattle.vx_source_types.specs.Spelled.{IsSpelledValue}
+use Rattle.vx_source_types.specs.TypePrintable.{IsPrintable}
+use Rattle.vx_source_types.specs.ScalarPrintable.{IsSpelledValue}
 
 -- each name is UTF-8
 abbrev pub AreTexts : List Name → Type 0
@@ -17,10 +17,10 @@ AreTexts (a ∷ names) = IsUtf8 a × AreTexts names
 abbrev pub IsSpelledFunction : Function → Type 0
 IsSpelledFunction (case_when pairs has_else) = pairs < 2 ^ 32
 IsSpelledFunction (get_item a) = IsUtf8 a
-IsSpelledFunction (literal t v) = Fits v t × IsSpelledValue v × IsSpelled t
+IsSpelledFunction (literal t v) = Fits v t × IsSpelledValue v × IsPrintable t
 IsSpelledFunction (pack names n) = AreTexts names
 IsSpelledFunction (select selection) = AreTexts (selection_names selection)
-IsSpelledFunction (cast t) = IsSpelled t
+IsSpelledFunction (cast t) = IsPrintable t
 IsSpelledFunction f = Unit {0}
 
 -- what each expression of the program has: such functions

@@ -4,8 +4,8 @@ ghost use Rattle.std.specs.Str.{IsUtf8};
 ghost use Rattle.vx_value.specs.Fits.{Fits};
 ghost use Rattle.vx_value.specs.Types.{bytes};
 ghost use Rattle.vx_value.specs.Views.{type_of, fields_of, value_of, data_view};
-ghost use Rattle.vx_source_dtype.specs.Spelled.{IsSpelled, AreSpelled};
-ghost use Rattle.vx_source_types.specs.Spelled.{IsSpelledValue, AreSpelledValues};
+ghost use Rattle.vx_source_types.specs.TypePrintable.{IsPrintable, ArePrintable};
+ghost use Rattle.vx_source_types.specs.ScalarPrintable.{IsSpelledValue, AreSpelledValues};
 ghost use Rattle.vx_source_laws.specs.SpelledTrees.{AreTexts};
 
 use vx_dtype::{DType, FieldName, StructFields};
@@ -14,7 +14,7 @@ use vx_value::{Scalar, Value};
 /// Shows that a text can say the type: its names are UTF-8, and its lengths fit 32 bits. Time is linear in the type.
 #[cycle(types)]
 pub fn type_is_spelled(t: &DType)
-    ensures { IsSpelled (type_of t.now) }
+    ensures { IsPrintable (type_of t.now) }
 {
     match t {
         DType::List(element, _) => type_is_spelled(element.as_ref()),
@@ -30,7 +30,7 @@ pub fn type_is_spelled(t: &DType)
 // The same of the fields of a struct.
 #[cycle(types)]
 fn fields_are_spelled(fields: &StructFields)
-    ensures { AreSpelled (fields_of fields.now) }
+    ensures { ArePrintable (fields_of fields.now) }
 {
     let names = fields.names().as_slice();
     let types = fields.types();
@@ -100,7 +100,7 @@ fn bytes_are_spelled(octets: &[u8])
 pub fn scalar_is_spelled(scalar: &Scalar)
     ensures fits { Fits scalar.now.value scalar.now.type }
     ensures value { IsSpelledValue scalar.now.value }
-    ensures dtype { IsSpelled scalar.now.type }
+    ensures dtype { IsPrintable scalar.now.type }
 {
     value_is_spelled(scalar.value());
     type_is_spelled(scalar.dtype());

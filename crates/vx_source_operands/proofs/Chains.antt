@@ -4,15 +4,15 @@ use Rattle.std.proofs.lemmas.List.{append-nil, map-append, length-map}
 use Rattle.std.specs.Prelude.{IfOk}
 use Rattle.vx_fn.specs.Functions.{Operation, binary}
 use Rattle.vx_tree.specs.Trees.{Tree}
-use Rattle.vx_source_tokens.specs.declared.expected.Expected.{Expected}
-use Rattle.vx_source_tokens.specs.declared.expected.Expected.TheVariants.{Operand as NoOperand}
+use Rattle.vx_source_types.specs.declared.expectation.Expected.{Expected}
+use Rattle.vx_source_types.specs.declared.expectation.Expected.TheVariants.{Operand as NoOperand}
 use Rattle.vx_source_grammar.specs.Joining.{over, paired, rounds, only_left, chained}
-use Rattle.vx_source_tokens.specs.declared.error.ParseError.{ParseError}
-use Rattle.vx_source_tokens.specs.declared.error.ParseError.TheVariants.{OutOfMemory, Unexpected}
+use Rattle.vx_source_types.specs.declared.error.ParseError.{ParseError}
+use Rattle.vx_source_types.specs.declared.error.ParseError.TheVariants.{OutOfMemory, Unexpected}
 use Rattle.vx_source_grammar.specs.States.{when_read}
 use Rattle.vx_source_operands.specs.Places.{ReadsUpTo}
 use Rattle.vx_source_operands.specs.declared.operand.Operand.{Operand}
-use Rattle.vx_source_operands.specs.Views.{operand_of, operands_of}
+use Rattle.vx_source_operands.specs.OperandViews.{operand_of, operands_of}
 
 abbrev trees_read : List Tree → Result (List Tree) Expected
 trees_read zs = Ok zs

@@ -5,7 +5,7 @@ use Rattle.std.proofs.lemmas.List.{at_drop_more}
 use Rattle.vx_source_operands.specs.declared.operand.Operand.{Operand}
 use Rattle.vx_tree.specs.Views.{trees_from}
 use Rattle.vx_source_grammar.specs.Nodes.{height_of, heights_of}
-use Rattle.vx_source_operands.specs.Views.{operand_of, operands_of}
+use Rattle.vx_source_operands.specs.OperandViews.{operand_of, operands_of}
 
 pub heights_next : (os : List Operand) (i : ℕ) (o : Operand) (highest all : ℕ) → i < length os → o ≡ get_or os i o → o.height ≡ height_of (operand_of o)
     → max highest (heights_of (trees_from (operands_of (drop i os)))) ≡ all → max (max o.height highest) (heights_of (trees_from (operands_of (drop (i + 1) os)))) ≡ all

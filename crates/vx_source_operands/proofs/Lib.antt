@@ -1,2 +1,9 @@
 pub mod Chains
 pub mod Heights
+pub mod Betweens
+pub mod Cases
+pub mod Keywords
+pub mod NameLists
+pub mod Packs
+pub mod ReadAll
+pub mod Selections

@@ -1,3 +1,7 @@
 pub mod Levels
 pub mod Places
-pub mod Views
+pub mod OperandViews
+pub mod NameParts
+pub mod Parts
+pub mod ScalarViews
+pub mod OptionViews

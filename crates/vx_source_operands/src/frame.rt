@@ -2,9 +2,9 @@
 ghost use Rattle.std.specs.Prelude.{◌≡◌, nat_le, MatchOption};
 ghost use Rattle.vx_source_grammar.specs.Joining.{level_of};
 ghost use Rattle.vx_source_operands.specs.Levels.{rank_of};
-ghost use Rattle.vx_source_operands.specs.Views.{frame_of};
+ghost use Rattle.vx_source_operands.specs.OperandViews.{frame_of};
 
-use crate::Operand;
+use crate::operand::Operand;
 use vx_fn::{LikeOptions, Operator, ScalarFnRef, StrictComparison};
 use vx_types::FieldName;
 

@@ -4,14 +4,14 @@ ghost use Rattle.vx_fn.specs.Views.{operation_of};
 ghost use Rattle.vx_source_grammar.specs.Joining.{chained, joined, paired, reduced};
 ghost use Rattle.vx_source_operands.specs.Levels.{rank_of};
 ghost use Rattle.vx_source_operands.specs.Places.{ReadsUpTo};
-ghost use Rattle.vx_source_operands.specs.Views.{frame_of, frames_of, operand_of, operands_in, operands_of, range_of, reduced_of};
+ghost use Rattle.vx_source_operands.specs.OperandViews.{frame_of, frames_of, operand_of, operands_in, operands_of, range_of, reduced_of};
 
+use crate::frame::{Frame, Level, OpenRange};
 use crate::nodes::{node, node_between, node_over};
-use crate::{Frame, Level, OpenRange, Operand};
+use crate::operand::Operand;
 use std::alloc::Global;
 use vx_fn::{BetweenOptions, EmptyOptions, Operator, ScalarFnRef};
-use vx_source_tokens::{Expected, Found, ParseError};
-use vx_source_types::expected;
+use vx_source_types::{Expected, Found, ParseError, expected};
 
 /// The operand, joined to all that waits for it and binds at least as tightly as the level, and what is left open. Refuses
 /// with `LessNesting`, at what was found, a node that is higher than the room.

@@ -1,17 +1,26 @@
-// What is read of an expression: operands with the bytes that they were read from, what is open around them, and operators
-// joined to their operands.
+// The operands of source text: literals, names, and functions with their options.
 #![tactic(auto)]
 
 mod frame;
+mod functions;
 mod joining;
+mod names;
 mod nodes;
 mod operand;
+mod operators;
+mod options;
+mod parts;
+mod refusals;
+mod scalars;
 mod state;
+mod types;
 
 pub use frame::{Bracket, Callee, CasePart, Frame, Level, OpenRange};
+pub use functions::plain_function;
 pub use joining::reduce;
-pub use nodes::{enclosed, node, node_between, node_over, root};
+pub use nodes::{enclosed, node, node_over, root};
 pub use operand::{Operand, Places};
+pub use options::function_of;
 pub use state::{
     ExpressionReader, ExpressionStep, Mode, OptionsSoFar, TypeFor, begun_at, more, tight, type_due,
 };

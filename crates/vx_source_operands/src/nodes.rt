@@ -6,14 +6,13 @@ ghost use Rattle.vx_tree.specs.Views.{tree_of, trees_from};
 ghost use Rattle.vx_source_grammar.specs.Joining.{over};
 ghost use Rattle.vx_source_grammar.specs.Nodes.{heights_of};
 ghost use Rattle.vx_source_operands.specs.Places.{ReadsUpTo};
-ghost use Rattle.vx_source_operands.specs.Views.{operand_of, operands_of};
+ghost use Rattle.vx_source_operands.specs.OperandViews.{operand_of, operands_of};
 
-use crate::{Operand, Places};
+use crate::operand::{Operand, Places};
 use std::alloc::{AllocError, Global};
 use std::rc::Rc;
 use vx_fn::ScalarFnRef;
-use vx_source_tokens::{Expected, Found, ParseError};
-use vx_source_types::expected;
+use vx_source_types::{Expected, Found, ParseError, expected};
 use vx_tree::Expression;
 
 /// The scope root, read from these bytes.

@@ -1,16 +1,16 @@
 // How far an expression is read.
 ghost use Rattle.std.specs.Prelude.{◌≡◌, ◌≤◌, ℕ, IfOk};
-ghost use Rattle.vx_source_tokens.specs.declared.error.ParseError.TheVariants.{Unexpected};
-ghost use Rattle.vx_source_dtype.specs.Reading.{more};
-ghost use Rattle.vx_source_dtype.specs.TypeReading.{type_start};
+ghost use Rattle.vx_source_types.specs.declared.error.ParseError.TheVariants.{Unexpected};
+ghost use Rattle.vx_source_types.specs.Reading.{more};
+ghost use Rattle.vx_source_types.specs.TypeReading.{type_start};
 ghost use Rattle.vx_source_grammar.specs.States.{expression_start, in_type, tight};
-ghost use Rattle.vx_source_operands.specs.Views.{frames_of, mode_of, operand_of, reader_of, step_of, type_for};
+ghost use Rattle.vx_source_operands.specs.OperandViews.{frames_of, mode_of, operand_of, reader_of, step_of, type_for};
 
-use crate::{Bracket, Frame, Operand};
+use crate::frame::{Bracket, Frame};
+use crate::operand::Operand;
 use std::alloc::{AllocError, Global};
 use vx_fn::ScalarFnRef;
-use vx_source_tokens::{Expected, Found, ParseError};
-use vx_source_types::{Draft, TypeReader, ValueReader};
+use vx_source_types::{Draft, Expected, Found, ParseError, TypeReader, ValueReader};
 use vx_types::FieldName;
 
 /// What a type is read for.

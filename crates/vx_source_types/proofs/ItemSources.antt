@@ -8,7 +8,7 @@ use Rattle.vx_value.specs.declared.value.Value.{Value}
 use Rattle.vx_value.specs.Types.{Name, LogicalType, Data, no_datum, datum, no_field}
 use Rattle.vx_value.specs.Fields.{field_count}
 use Rattle.vx_value.specs.Views.{type_of, fields_view, value_of, data_view}
-use Rattle.vx_source_dtype.specs.Names.{name_source}
+use Rattle.vx_source_types.specs.Names.{name_source}
 use Rattle.vx_source_types.specs.ScalarTexts.{value_source, item_sources, row_sources}
 
 pub data_next : (values : List Value) (i : ℕ) (v : Value) → i < length values → v ≡ get_or values i v → data_view (drop i values) ≡ datum (value_of v) (data_view (drop (i + 1) values))

@@ -1,3 +1,17 @@
+pub mod Choice
+pub mod Quoting
+pub mod Spelled
+pub mod Unquoting
+pub mod FirstTokens
+pub mod FirstNumbers
+pub mod FirstOctets
+pub mod FirstSigns
+pub mod Reading
+pub mod TypesAgain
+pub mod TypeEnds
+pub mod FieldSources
+pub mod NameSources
+pub mod Doubling
 pub mod ByteTexts
 pub mod ItemSources
 pub mod NamesLeft

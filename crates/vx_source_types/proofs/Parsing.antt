@@ -1,10 +1,10 @@
 -- What a whole text comes to, where a place within it is all that is said of a refusal.
 use Rattle.std.proofs.Common.{◌≡◌, ◌≤◌, ◌<◌, ℕ, false, ⊎_elim, List, length, drop, Result, Ok, Err, refl, subst, arith}
-use Rattle.vx_source_tokens.specs.declared.error.ParseError.{ParseError}
-use Rattle.vx_source_tokens.specs.declared.error.ParseError.TheVariants.{OutOfMemory, Unexpected}
-use Rattle.vx_source_tokens.specs.Tokens.{Lexeme, skip, first}
-use Rattle.vx_source_dtype.specs.Reading.{Goes, more, Step, Leads, stops_at, IsRead, Parses, Gives}
-use Rattle.vx_source_dtype.proofs.Reading.{read_once, read_or_stopped, forward}
+use Rattle.vx_source_types.specs.declared.error.ParseError.{ParseError}
+use Rattle.vx_source_types.specs.declared.error.ParseError.TheVariants.{OutOfMemory, Unexpected}
+use Rattle.vx_source_types.specs.Tokens.{Lexeme, skip, first}
+use Rattle.vx_source_types.specs.Reading.{Goes, more, Step, Leads, stops_at, IsRead, Parses, Gives}
+use Rattle.vx_source_types.proofs.Reading.{read_once, read_or_stopped, forward}
 use Rattle.vx_source_types.specs.ScalarReading.{ScalarState, scalar_step, ReadsFrom, ParsesWithin}
 use Rattle.vx_source_types.proofs.ScalarEnds.{end_stops}
 

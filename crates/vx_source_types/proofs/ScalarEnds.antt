@@ -1,12 +1,12 @@
 -- No scalar goes on behind the end of its text.
 use Rattle.std.proofs.Common.{◌≡◌, ℕ, List, [], ◌∷◌, Option, Some, None, Result, Ok, Err, refl}
-use Rattle.vx_source_tokens.specs.Tokens.{end}
-use Rattle.vx_source_tokens.specs.declared.expected.Expected.{Expected}
+use Rattle.vx_source_types.specs.Tokens.{end}
+use Rattle.vx_source_types.specs.declared.expectation.Expected.{Expected}
 use Rattle.vx_dtype.specs.Types.{LogicalType}
 use Rattle.vx_value.specs.Columns.{Constant}
-use Rattle.vx_source_dtype.specs.Reading.{Goes, more, done}
-use Rattle.vx_source_dtype.specs.TypeReading.{TypeState, type_step}
-use Rattle.vx_source_dtype.proofs.TypeEnds.{end_stops as type_stops}
+use Rattle.vx_source_types.specs.Reading.{Goes, more, done}
+use Rattle.vx_source_types.specs.TypeReading.{TypeState, type_step}
+use Rattle.vx_source_types.proofs.TypeEnds.{end_stops as type_stops}
 use Rattle.vx_value.specs.Types.{Datum}
 use Rattle.vx_source_types.specs.Literals.{plain_literal, typed_literal}
 use Rattle.vx_source_types.specs.ScalarReading.{ScalarState, scalar_due, in_value, in_type, whole_scalar, ended, value_after, type_ended, type_after, scalar_step}

@@ -11,19 +11,19 @@ use Rattle.vx_value.specs.Columns.{constant}
 use Rattle.vx_value.specs.Fits.{fits, each_fits, fields_fit, Fits}
 use Rattle.vx_value.specs.Texts.{ptype_text}
 use Rattle.vx_value.specs.Types.{Name, truth, number, text, octets, LogicalType, ty, atomic, list, fixed, struct, Fields, no_field, field, Datum, null, bool, int, utf8, bytes, list_of, struct_of, Data, no_datum, datum}
-use Rattle.vx_source_tokens.specs.Characters.{is_word, is_digit}
-use Rattle.vx_source_tokens.specs.Tokens.{number as numeral, end, next, first}
-use Rattle.vx_source_tokens.proofs.FirstNumbers.{first_number, first_below_zero}
-use Rattle.vx_source_dtype.specs.Reading.{done, Leads, stays, leads, IsRead, is_read}
-use Rattle.vx_source_dtype.specs.Spelled.{IsSpelled, type_nesting}
-use Rattle.vx_source_dtype.specs.TypeReading.{TypeState, type_start, type_step}
-use Rattle.vx_source_dtype.specs.TypeTexts.{type_source}
-use Rattle.vx_source_dtype.proofs.Reading.{then}
-use Rattle.vx_source_dtype.proofs.TypesAgain.{text_again}
+use Rattle.vx_source_types.specs.Characters.{is_word, is_digit}
+use Rattle.vx_source_types.specs.Tokens.{number as numeral, end, next, first}
+use Rattle.vx_source_types.proofs.FirstNumbers.{first_number, first_below_zero}
+use Rattle.vx_source_types.specs.Reading.{done, Leads, stays, leads, IsRead, is_read}
+use Rattle.vx_source_types.specs.TypePrintable.{IsPrintable, type_nesting}
+use Rattle.vx_source_types.specs.TypeReading.{TypeState, type_start, type_step}
+use Rattle.vx_source_types.specs.TypeTexts.{type_source}
+use Rattle.vx_source_types.proofs.Reading.{then}
+use Rattle.vx_source_types.proofs.TypesAgain.{text_again}
 use Rattle.vx_source_types.specs.Literals.{fitting, ranged, names_left, items_left, row_left, behind_name, typed_literal, typed_of}
 use Rattle.vx_source_types.specs.ScalarReading.{scalar_due, in_value, in_type, suffixed, value_begun, scalar_begins, value_after, type_after, type_ended, scalar_step}
 use Rattle.vx_source_types.specs.ScalarTexts.{value_source, scalar_source}
-use Rattle.vx_source_types.specs.Spelled.{value_nesting, IsSpelledValue}
+use Rattle.vx_source_types.specs.ScalarPrintable.{value_nesting, IsSpelledValue}
 use Rattle.vx_source_types.specs.ValueReading.{Drafted, ValueState, whole_value, value_start, value_step}
 use Rattle.vx_source_types.proofs.ValuesAgain.{Begins, names_after, items_after, row_after, value_again, fits_small, fits_below_zero}
 
@@ -170,7 +170,7 @@ number_again p (negsuc n) room f =
 -- ---- scalars
 
 -- a value, and the whole of its type behind it
-typed_again : (v : Datum) (t : LogicalType) (room : ℕ) → Fits v t → IsSpelledValue v → IsSpelled t → value_nesting v ≤ room → type_nesting t ≤ room
+typed_again : (v : Datum) (t : LogicalType) (room : ℕ) → Fits v t → IsSpelledValue v → IsPrintable t → value_nesting v ≤ room → type_nesting t ≤ room
     → IsRead (scalar_step room) scalar_due (value_source v t ++ 58 ∷ 58 ∷ type_source t) (constant t v)
 typed_again v t room f u w h k = behind (text_again t room w k) where
   draft : Drafted
@@ -183,13 +183,13 @@ typed_again v t room f u w h k = behind (text_again t room w k) where
       (leads refl refl (type_in room draft g))) p (ap (type_after draft) q ∙ ap type_ended (typed_is t v draft refl f))
 
 -- a value without a type behind it
-plain_again : (v : Datum) (t : LogicalType) (room : ℕ) → Fits v t → IsSpelledValue v → IsSpelled t → value_nesting v ≤ room
+plain_again : (v : Datum) (t : LogicalType) (room : ℕ) → Fits v t → IsSpelledValue v → IsPrintable t → value_nesting v ≤ room
     → scalar_step room (in_value (read_value v (names_after [] v t) room)) end ≡ Ok (done (constant t v))
     → IsRead (scalar_step room) scalar_due (value_source v t) (constant t v)
 plain_again v t room f u w h e =
     is_read (subst (λ bs. Leads (scalar_step room) scalar_due bs (in_value (read_value v (names_after [] v t) room)) []) (append-nil (value_source v t)) (begun_in room (value_again v t [] [] room [] f u w h (refl, refl)))) refl e
 
-pub scalar_again : (t : LogicalType) (v : Datum) (room : ℕ) → Fits v t → IsSpelledValue v → IsSpelled t → value_nesting v ≤ room → type_nesting t ≤ room
+pub scalar_again : (t : LogicalType) (v : Datum) (room : ℕ) → Fits v t → IsSpelledValue v → IsPrintable t → value_nesting v ≤ room → type_nesting t ≤ room
     → IsRead (scalar_step room) scalar_due (scalar_source v t) (constant t v)
 scalar_again (ty (atomic (number p)) false) (int i) room f u w h k = number_again p i room f
 scalar_again (ty (atomic truth) false) (bool true) room f u w h k = plain_again (bool true) (ty (atomic truth) false) room f u w h refl

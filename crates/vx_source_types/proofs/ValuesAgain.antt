@@ -12,20 +12,20 @@ use Rattle.vx_value.specs.Fits.{fits, each_fits, fields_fit, fits_ptype, Fits}
 use Rattle.vx_value.specs.Types.{Name, bits, is_signed, number, LogicalType, ty, atomic, list, fixed, struct, Fields, no_field, field, Datum, null, bool, int, utf8, bytes, list_of, struct_of, Data, no_datum, datum}
 use Rattle.vx_dtype.specs.Texts.{with_commas}
 use Rattle.vx_dtype.proofs.Commas.{after_commas}
-use Rattle.vx_source_tokens.specs.Characters.{is_word, is_digit}
-use Rattle.vx_source_tokens.specs.declared.token.Sign.TheVariants.{OpenBracket, CloseBracket, OpenBrace}
-use Rattle.vx_source_tokens.specs.Tokens.{Lexeme, word, number as numeral, text as text_lexeme, octets as octets_lexeme, sign, next, first}
-use Rattle.vx_source_tokens.proofs.FirstTokens.{first_word, first_quoted, first_text}
-use Rattle.vx_source_tokens.proofs.FirstNumbers.{first_number, first_below_zero}
-use Rattle.vx_source_tokens.proofs.FirstOctets.{first_octets}
-use Rattle.vx_source_tokens.proofs.FirstSigns.{first_open_bracket, first_close_bracket, first_open_brace, first_close_brace, first_comma}
-use Rattle.vx_source_dtype.specs.Names.{is_plain, name_source, between_quotes}
-use Rattle.vx_source_dtype.specs.Reading.{more, Leads, stays, leads}
-use Rattle.vx_source_dtype.specs.Spelled.{IsSpelled, AreSpelled}
-use Rattle.vx_source_dtype.proofs.Reading.{then, of_text}
+use Rattle.vx_source_types.specs.Characters.{is_word, is_digit}
+use Rattle.vx_source_types.specs.declared.token.Sign.TheVariants.{OpenBracket, CloseBracket, OpenBrace}
+use Rattle.vx_source_types.specs.Tokens.{Lexeme, word, number as numeral, text as text_lexeme, octets as octets_lexeme, sign, next, first}
+use Rattle.vx_source_types.proofs.FirstTokens.{first_word, first_quoted, first_text}
+use Rattle.vx_source_types.proofs.FirstNumbers.{first_number, first_below_zero}
+use Rattle.vx_source_types.proofs.FirstOctets.{first_octets}
+use Rattle.vx_source_types.proofs.FirstSigns.{first_open_bracket, first_close_bracket, first_open_brace, first_close_brace, first_comma}
+use Rattle.vx_source_types.specs.Names.{is_plain, name_source, between_quotes}
+use Rattle.vx_source_types.specs.Reading.{more, Leads, stays, leads}
+use Rattle.vx_source_types.specs.TypePrintable.{IsPrintable, ArePrintable}
+use Rattle.vx_source_types.proofs.Reading.{then, of_text}
 use Rattle.vx_source_types.specs.ScalarReading.{suffixed}
 use Rattle.vx_source_types.specs.ScalarTexts.{value_source, item_sources, row_sources}
-use Rattle.vx_source_types.specs.Spelled.{value_nesting, data_nesting, IsSpelledValue, AreSpelledValues}
+use Rattle.vx_source_types.specs.ScalarPrintable.{value_nesting, data_nesting, IsSpelledValue, AreSpelledValues}
 use Rattle.vx_source_types.specs.ValueReading.{ItemsRead, no_items, with_item, ValueFrame, in_items, in_row, ValueMode, value_due, first_item, first_named, next_named, whole_value, ValueState, value_step}
 use Rattle.vx_source_types.proofs.ByteTexts.{byte_texts}
 
@@ -216,7 +216,7 @@ in_braces fs ns ms r vs mid bs rest f h =
     })
 
 mutual
-  pub value_again : (v : Datum) (t : LogicalType) (fs : List ValueFrame) (ns : List Name) (r : ℕ) (rest : List ℕ) → Fits v t → IsSpelledValue v → IsSpelled t → value_nesting v ≤ r → Follows rest
+  pub value_again : (v : Datum) (t : LogicalType) (fs : List ValueFrame) (ns : List Name) (r : ℕ) (rest : List ℕ) → Fits v t → IsSpelledValue v → IsPrintable t → value_nesting v ≤ r → Follows rest
       → Begins (at fs value_due ns r) (value_source v t ++ rest) (at fs (whole_value v) (names_after ns v t) r) rest
   value_again null t fs ns r rest f u w h e = one_token fs ns r null _ rest (word (codes "null")) (first_word (codes "null") rest refl e.0) refl refl
   value_again (bool true) t fs ns r rest f u w h e = one_token fs ns r (bool true) _ rest (word (codes "true")) (first_word (codes "true") rest refl e.0) refl refl
@@ -238,7 +238,7 @@ mutual
   value_again _ t fs ns r rest f u w h e = cc
 
   -- all the items of a list
-  list_again : (vs : Data) (t : LogicalType) (d : ItemsRead) (fs : List ValueFrame) (ns : List Name) (r : ℕ) (rest : List ℕ) → each_fits vs t ≡ true → AreSpelledValues vs → IsSpelled t → data_nesting vs ≤ r
+  list_again : (vs : Data) (t : LogicalType) (d : ItemsRead) (fs : List ValueFrame) (ns : List Name) (r : ℕ) (rest : List ℕ) → each_fits vs t ≡ true → AreSpelledValues vs → IsPrintable t → data_nesting vs ≤ r
       → Goes (at fs (first_item d) ns r) (with_commas (item_sources vs t) ++ 93 ∷ rest) (listed fs (items_after ns vs t) (with_items d vs)) rest
   list_again no_datum t d fs ns r rest f u w h = to_state (ap (listed fs ns) (sym (no_item_more d))) (leads (first_close_bracket rest) refl stays)
   list_again (datum v vs) t d fs ns r rest f u w h =
@@ -249,7 +249,7 @@ mutual
       (to_state (ap (listed fs (items_after (names_after ns v t) vs t)) (one_item_more d v vs)) (items_behind vs t v d fs (names_after ns v t) r rest parts.1 u.1 w (omega arith))))
 
   -- the items behind one
-  items_behind : (vs : Data) (t : LogicalType) (v : Datum) (d : ItemsRead) (fs : List ValueFrame) (ns : List Name) (r : ℕ) (rest : List ℕ) → each_fits vs t ≡ true → AreSpelledValues vs → IsSpelled t → data_nesting vs ≤ r
+  items_behind : (vs : Data) (t : LogicalType) (v : Datum) (d : ItemsRead) (fs : List ValueFrame) (ns : List Name) (r : ℕ) (rest : List ℕ) → each_fits vs t ≡ true → AreSpelledValues vs → IsPrintable t → data_nesting vs ≤ r
       → Goes (at (in_items d ∷ fs) (whole_value v) ns r) (after_commas (item_sources vs t) ++ 93 ∷ rest) (listed fs (items_after ns vs t) (with_items (with_item d v) vs)) rest
   items_behind no_datum t v d fs ns r rest f u w h = to_state (ap (listed fs ns) (sym (no_item_more (with_item d v)))) (leads (first_close_bracket rest) refl stays)
   items_behind (datum x vs) t v d fs ns r rest f u w h =
@@ -263,7 +263,7 @@ mutual
       (to_state (ap (listed fs (items_after (names_after ns x t) vs t)) (one_item_more c x vs)) (items_behind vs t x c fs (names_after ns x t) r rest parts.1 u.1 w (omega arith)))))
 
   -- all the values of a struct
-  row_again : (vs : Data) (gs : Fields) (d : ItemsRead) (fs : List ValueFrame) (ns : List Name) (r : ℕ) (rest : List ℕ) → fields_fit vs gs ≡ true → AreSpelledValues vs → AreSpelled gs → data_nesting vs ≤ r
+  row_again : (vs : Data) (gs : Fields) (d : ItemsRead) (fs : List ValueFrame) (ns : List Name) (r : ℕ) (rest : List ℕ) → fields_fit vs gs ≡ true → AreSpelledValues vs → ArePrintable gs → data_nesting vs ≤ r
       → Goes (at fs (first_named d) ns r) (with_commas (row_sources vs gs) ++ 125 ∷ rest) (rowed fs (row_after ns vs gs) (with_items d vs)) rest
   row_again no_datum no_field d fs ns r rest f u w h = to_state (ap (rowed fs ns) (sym (no_item_more d))) (leads (first_close_brace rest) refl stays)
   row_again no_datum (field a t gs) d fs ns r rest f u w h = cc
@@ -279,7 +279,7 @@ mutual
       (to_state (ap (rowed fs (row_after (names_after ms v t) vs gs)) (one_item_more d v vs)) (row_behind vs gs v d fs (names_after ms v t) r rest parts.1 u.1 w.2 (omega arith)))))
 
   -- the values behind one
-  row_behind : (vs : Data) (gs : Fields) (v : Datum) (d : ItemsRead) (fs : List ValueFrame) (ns : List Name) (r : ℕ) (rest : List ℕ) → fields_fit vs gs ≡ true → AreSpelledValues vs → AreSpelled gs → data_nesting vs ≤ r
+  row_behind : (vs : Data) (gs : Fields) (v : Datum) (d : ItemsRead) (fs : List ValueFrame) (ns : List Name) (r : ℕ) (rest : List ℕ) → fields_fit vs gs ≡ true → AreSpelledValues vs → ArePrintable gs → data_nesting vs ≤ r
       → Goes (at (in_row d ∷ fs) (whole_value v) ns r) (after_commas (row_sources vs gs) ++ 125 ∷ rest) (rowed fs (row_after ns vs gs) (with_items (with_item d v) vs)) rest
   row_behind no_datum no_field v d fs ns r rest f u w h = to_state (ap (rowed fs ns) (sym (no_item_more (with_item d v)))) (leads (first_close_brace rest) refl stays)
   row_behind no_datum (field a t gs) v d fs ns r rest f u w h = cc

@@ -7,9 +7,9 @@ use Rattle.vx_dtype.specs.declared.dtype.PType.TheVariants.{I32}
 use Rattle.vx_value.specs.Columns.{Constant, constant}
 use Rattle.vx_value.specs.Fits.{fits}
 use Rattle.vx_value.specs.Types.{Name, truth, number, text, octets, LogicalType, ty, atomic, list, fixed, struct, Fields, no_field, field, Datum, null, bool, int, utf8, bytes, list_of, struct_of, Data, no_datum, datum}
-use Rattle.vx_source_tokens.specs.declared.expected.Expected.{Expected}
-use Rattle.vx_source_tokens.specs.declared.expected.Expected.TheVariants.{NullType, ValueType, Number}
-use Rattle.vx_source_dtype.specs.TypeReading.{ptype_word}
+use Rattle.vx_source_types.specs.declared.expectation.Expected.{Expected}
+use Rattle.vx_source_types.specs.declared.expectation.Expected.TheVariants.{NullType, ValueType, Number}
+use Rattle.vx_source_types.specs.TypeReading.{ptype_word}
 use Rattle.vx_source_types.specs.ValueReading.{Drafted, signed}
 
 -- the value as a scalar of that type, if it is one of it

@@ -2,14 +2,14 @@
 use Rattle.std.specs.Prelude.{◌≡◌, ◌⊎◌, ◌≤◌, ℕ, List, ◌∷◌, length, Option, Some, None, Result, Ok, Err}
 use Rattle.vx_value.specs.Columns.{Constant}
 use Rattle.vx_value.specs.Types.{LogicalType}
-use Rattle.vx_source_tokens.specs.declared.error.ParseError.{ParseError}
-use Rattle.vx_source_tokens.specs.declared.error.ParseError.TheVariants.{OutOfMemory, Unexpected}
-use Rattle.vx_source_tokens.specs.declared.expected.Expected.{Expected}
-use Rattle.vx_source_tokens.specs.declared.expected.Expected.TheVariants.{Value, Number, FittingType}
-use Rattle.vx_source_tokens.specs.declared.token.Sign.TheVariants.{DoubleColon}
-use Rattle.vx_source_tokens.specs.Tokens.{Lexeme, number as numeral, sign}
-use Rattle.vx_source_dtype.specs.Reading.{Goes, more, done, Step, refused, IsRead, Stops}
-use Rattle.vx_source_dtype.specs.TypeReading.{TypeState, type_start, type_step}
+use Rattle.vx_source_types.specs.declared.error.ParseError.{ParseError}
+use Rattle.vx_source_types.specs.declared.error.ParseError.TheVariants.{OutOfMemory, Unexpected}
+use Rattle.vx_source_types.specs.declared.expectation.Expected.{Expected}
+use Rattle.vx_source_types.specs.declared.expectation.Expected.TheVariants.{Value, Number, FittingType}
+use Rattle.vx_source_types.specs.declared.token.Sign.TheVariants.{DoubleColon}
+use Rattle.vx_source_types.specs.Tokens.{Lexeme, number as numeral, sign}
+use Rattle.vx_source_types.specs.Reading.{Goes, more, done, Step, refused, IsRead, Stops}
+use Rattle.vx_source_types.specs.TypeReading.{TypeState, type_start, type_step}
 use Rattle.vx_source_types.specs.Literals.{number_literal, plain_literal, typed_literal}
 use Rattle.vx_source_types.specs.ValueReading.{Drafted, ValueState, value_start, value_step}
 

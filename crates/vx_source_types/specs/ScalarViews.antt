@@ -1,11 +1,11 @@
 -- What a reader of scalars stands for.
 use Rattle.vx_value.specs.Columns.{Constant}
-use Rattle.vx_source_types.specs.declared.parse.ScalarMode.{ScalarMode}
-use Rattle.vx_source_types.specs.declared.parse.ScalarMode.TheVariants.{Value, Typed, Whole}
-use Rattle.vx_source_types.specs.declared.parse.ScalarStep.{ScalarStep}
-use Rattle.vx_source_types.specs.declared.parse.ScalarStep.TheVariants.{More, Done}
-use Rattle.vx_source_dtype.specs.Reading.{Goes, more, done}
-use Rattle.vx_source_dtype.specs.TypeViews as types
+use Rattle.vx_source_types.specs.declared.scalar_parser.ScalarMode.{ScalarMode}
+use Rattle.vx_source_types.specs.declared.scalar_parser.ScalarMode.TheVariants.{Value, Typed, Whole}
+use Rattle.vx_source_types.specs.declared.scalar_parser.ScalarStep.{ScalarStep}
+use Rattle.vx_source_types.specs.declared.scalar_parser.ScalarStep.TheVariants.{More, Done}
+use Rattle.vx_source_types.specs.Reading.{Goes, more, done}
+use Rattle.vx_source_types.specs.TypeViews as types
 use Rattle.vx_source_types.specs.ScalarReading as reading
 use Rattle.vx_source_types.specs.ValueViews.{reader_of, draft_of}
 

@@ -3,13 +3,13 @@
 use Rattle.std.specs.Prelude.{ℕ, Bool, true, false, List, [], ◌∷◌, ◌++◌, Option, Some, None, Result, Ok, codes, option_map, ℤ, pos, neg_ℤ}
 use Rattle.vx_value.specs.Types.{Name, Datum, null, bool, int, utf8, bytes, list_of, struct_of}
 use Rattle.vx_value.specs.Fields.{data_of}
-use Rattle.vx_source_tokens.specs.declared.expected.Expected.{Expected}
-use Rattle.vx_source_tokens.specs.declared.expected.Expected.TheVariants.{Value, Number, Name as AName, FieldValue, CommaOrCloseBracket, CommaOrCloseBrace}
-use Rattle.vx_source_tokens.specs.declared.token.Sign.TheVariants.{OpenBracket as BracketOpens, CloseBracket as BracketCloses, OpenBrace as BraceOpens, CloseBrace as BraceCloses, Comma as CommaSign, Colon}
-use Rattle.vx_source_tokens.specs.Tokens.{Lexeme, word, number as numeral, text, octets, sign}
-use Rattle.vx_source_dtype.specs.Names.{name_at, same_word}
-use Rattle.vx_source_dtype.specs.Reading.{Goes, more, done, Step, refused}
-use Rattle.vx_source_dtype.specs.TypeReading.{within}
+use Rattle.vx_source_types.specs.declared.expectation.Expected.{Expected}
+use Rattle.vx_source_types.specs.declared.expectation.Expected.TheVariants.{Value, Number, Name as AName, FieldValue, CommaOrCloseBracket, CommaOrCloseBrace}
+use Rattle.vx_source_types.specs.declared.token.Sign.TheVariants.{OpenBracket as BracketOpens, CloseBracket as BracketCloses, OpenBrace as BraceOpens, CloseBrace as BraceCloses, Comma as CommaSign, Colon}
+use Rattle.vx_source_types.specs.Tokens.{Lexeme, word, number as numeral, text, octets, sign}
+use Rattle.vx_source_types.specs.Names.{name_at, same_word}
+use Rattle.vx_source_types.specs.Reading.{Goes, more, done, Step, refused}
+use Rattle.vx_source_types.specs.TypeReading.{within}
 
 -- a value without its type, and the names of its structs
 pub record Drafted : Type 0 where

@@ -10,7 +10,7 @@ use Rattle.vx_source_types.specs.declared.value_state.ValueMode.TheVariants.{Val
 use Rattle.vx_source_types.specs.declared.value_state.ValueReader.{ValueReader}
 use Rattle.vx_source_types.specs.declared.value_state.ValueStep.{ValueStep}
 use Rattle.vx_source_types.specs.declared.value_state.ValueStep.TheVariants.{More, Done}
-use Rattle.vx_source_dtype.specs.Reading.{Goes, more, done}
+use Rattle.vx_source_types.specs.Reading.{Goes, more, done}
 use Rattle.vx_source_types.specs.ValueReading as reading
 
 abbrev pub draft_of : Draft → reading.Drafted

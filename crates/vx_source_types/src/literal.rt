@@ -4,11 +4,11 @@ ghost use Rattle.vx_value.specs.Views.{type_of, fields_of, value_of, data_view};
 ghost use Rattle.vx_source_types.specs.Literals.{number_literal, ranged, plain_literal, plain_type, typed_literal, fitting, names_left, items_left, row_left, behind_name};
 ghost use Rattle.vx_source_types.specs.ValueViews.{draft_of};
 
+use crate::expectation::Expected;
+use crate::type_words::ptype_word;
 use crate::value_reader::signed;
 use crate::value_state::Draft;
 use vx_dtype::{DType, FieldName, Nullability, PType, StructFields};
-use vx_source_dtype::ptype_word;
-use vx_source_tokens::Expected;
 use vx_value::{Scalar, Value};
 
 /// The number with a type's name behind it, if it is in the type's range.

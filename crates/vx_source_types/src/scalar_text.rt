@@ -5,13 +5,14 @@ ghost use Rattle.std.specs.List.{flat_map};
 ghost use Rattle.vx_value.specs.Texts.{with_commas};
 ghost use Rattle.vx_value.specs.ValueTexts.{hex_byte};
 ghost use Rattle.vx_value.specs.Views.{type_of, fields_of, value_of, data_view};
-ghost use Rattle.vx_source_dtype.specs.Names.{name_source};
+ghost use Rattle.vx_source_types.specs.Names.{name_source};
 ghost use Rattle.vx_source_types.specs.ScalarTexts.{scalar_source, type_behind, value_source, item_sources, row_sources};
 
+use crate::names::{write_name, write_quoted};
+use crate::type_text::write_type;
 use std::fmt;
 use std::fmt::{Display, Formatter, Write};
 use vx_dtype::{DType, FieldName, Nullability, StructFields, separator};
-use vx_source_dtype::{write_name, write_quoted, write_type};
 use vx_value::{Scalar, Value};
 
 /// The scalar as source text: its text where it is a truth value, a number, a text or bytes of a type without

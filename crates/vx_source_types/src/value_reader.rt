@@ -1,16 +1,20 @@
 // Values, read token by token. What is open lies on a list in the heap, so that no text makes the stack grow.
 ghost use Rattle.std.specs.Prelude.{◌≡◌, ◌∷◌, Ok, IfOk, option_map};
 ghost use Rattle.vx_value.specs.Views.{value_of};
-ghost use Rattle.vx_source_tokens.specs.Views.{lexeme_of};
-ghost use Rattle.vx_source_dtype.specs.Names.{name_at};
-ghost use Rattle.vx_source_dtype.specs.Reading.{ReadsAt, more};
+ghost use Rattle.vx_source_types.specs.Views.{lexeme_of};
+ghost use Rattle.vx_source_types.specs.Names.{name_at};
+ghost use Rattle.vx_source_types.specs.Reading.{ReadsAt, more};
 ghost use Rattle.vx_source_types.specs.ValueReading as reading;
 ghost use Rattle.vx_source_types.specs.ValueViews.{frames_of, items_read, mode_of, reader_of, step_of};
 
+use crate::error::ParseError;
+use crate::expectation::Expected;
+use crate::first::Found;
+use crate::names::{field_name, is_word};
+use crate::state::{inside, refusal};
+use crate::token::{Sign, Token};
 use crate::value_state::{Draft, ItemsSoFar, ValueFrame, ValueMode, ValueReader, ValueStep};
 use std::alloc::{AllocError, Global};
-use vx_source_dtype::{field_name, inside, is_word, refusal};
-use vx_source_tokens::{Expected, Found, ParseError, Sign, Token};
 use vx_types::{FieldName, Value};
 
 impl ValueReader {

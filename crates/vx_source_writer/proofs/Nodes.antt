@@ -8,7 +8,7 @@ use Rattle.vx_tree.specs.Nodes.{function_at, children_of}
 use Rattle.vx_tree.specs.Trees.{Tree}
 use Rattle.vx_tree.specs.Views.{tree_of, trees_of}
 use Rattle.vx_tree.proofs.Seen.{function_node}
-use Rattle.vx_source_dtype.specs.Names.{name_source}
+use Rattle.vx_source_types.specs.Names.{name_source}
 use Rattle.vx_source_writer.specs.SourceTexts.{source, sources, sources_of, node_source, own_source, full_source, is_shown}
 
 pub length-sources : (xs : List Expression) → length (sources_of xs) ≡ length xs

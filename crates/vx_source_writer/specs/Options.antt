@@ -5,8 +5,8 @@ use Rattle.vx_fn.specs.declared.options.FieldSelection.{FieldSelection}
 use Rattle.vx_fn.specs.declared.options.FieldSelection.TheVariants.{Include, Exclude}
 use Rattle.vx_fn.specs.Functions.{Function, get_item, literal, pack, select, cast}
 use Rattle.vx_fn.specs.Texts.{nullability_text, options_text}
-use Rattle.vx_source_dtype.specs.Names.{name_source, names_source}
-use Rattle.vx_source_dtype.specs.TypeTexts.{type_source}
+use Rattle.vx_source_types.specs.Names.{name_source, names_source}
+use Rattle.vx_source_types.specs.TypeTexts.{type_source}
 use Rattle.vx_source_types.specs.ScalarTexts.{scalar_source}
 
 -- the names between braces, behind a tilde where they are left out

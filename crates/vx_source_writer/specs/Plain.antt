@@ -6,7 +6,7 @@ use Rattle.vx_fn.specs.Functions.{Function, get_item, literal, pack, select, cas
 use Rattle.vx_tree.specs.Nodes.{count_of}
 use Rattle.vx_tree.specs.Texts.{sql}
 use Rattle.vx_tree.specs.Trees.{Tree, root, call, Trees, no_tree, tree}
-use Rattle.vx_source_dtype.specs.Names.{is_plain}
+use Rattle.vx_source_types.specs.Names.{is_plain}
 use Rattle.vx_source_writer.specs.SourceTexts.{source, is_shown}
 
 -- the names are words

@@ -8,8 +8,8 @@ use Rattle.vx_fn.specs.Texts.{with_commas, pack_sql, own_sql}
 use Rattle.vx_tree.specs.declared.expression.Expression.{Expression}
 use Rattle.vx_tree.specs.Trees.{Tree, root, call, Trees, no_tree, tree}
 use Rattle.vx_tree.specs.Views.{trees_of}
-use Rattle.vx_source_dtype.specs.Names.{name_source, names_source}
-use Rattle.vx_source_dtype.specs.TypeTexts.{type_source}
+use Rattle.vx_source_types.specs.Names.{name_source, names_source}
+use Rattle.vx_source_types.specs.TypeTexts.{type_source}
 use Rattle.vx_source_types.specs.ScalarTexts.{scalar_source}
 use Rattle.vx_source_writer.specs.Options.{options_source}
 

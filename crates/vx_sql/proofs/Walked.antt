@@ -11,12 +11,12 @@ use Rattle.vx_tree.proofs.Children.{bounds_next, bounds_end}
 use Rattle.vx_sql.specs.declared.dialect.Dialect.{Dialect}
 use Rattle.vx_sql.specs.declared.unsupported.Reason.{Reason}
 use Rattle.vx_sql.specs.Reasons.{own_reason}
-use Rattle.vx_sql.specs.Unsupported.{below, is_column, first_unsupported, first_unsupported_from, Leads}
+use Rattle.vx_sql.specs.Unsupported.{below, is_column, first_unsupported, first_unsupported_from, LeadsToUnsupported}
 
 -- ---- the node itself
 
 pub own_told : (d : Dialect) (b : BoundTree) (t : LogicalType) (f : Function) (bs : BoundTrees) (r : Reason) (old new : List ℕ) → b ≡ node t f bs → Some r ≡ own_reason d t f bs → new ≡ old
-    → Leads old (first_unsupported d b) new (Some r)
+    → LeadsToUnsupported old (first_unsupported d b) new (Some r)
 own_told d b t f bs r old new is own same = (
   [],
   same ∙ sym (append-nil old),
@@ -32,7 +32,7 @@ from_next d bs i b h is = ap (first_unsupported_from d i) (bounds_next bs i b h 
 -- a child's node is one of the children's
 pub child_told : (d : Dialect) (bs : List BoundExpression) (i : ℕ) (b : BoundExpression) (r : Reason) (old pushed new : List ℕ) → i < length bs → b ≡ get_or bs i b
     → pushed ≡ old ++ i ∷ [] → first_unsupported_from d i (bounds_of (drop i bs)) ≡ first_unsupported_from d 0 (bounds_of bs)
-    → Leads pushed (first_unsupported d (bound_of b)) new (Some r) → Leads old (first_unsupported_from d 0 (bounds_of bs)) new (Some r)
+    → LeadsToUnsupported pushed (first_unsupported d (bound_of b)) new (Some r) → LeadsToUnsupported old (first_unsupported_from d 0 (bounds_of bs)) new (Some r)
 child_told d bs i b r old pushed new h is at left (path, goes, said) = (
   i ∷ path,
   goes ∙ ap (λ x. x ++ path) at ∙ append_assoc old (i ∷ []) path,

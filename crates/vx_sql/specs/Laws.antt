@@ -2,7 +2,7 @@
 use Rattle.std.specs.Prelude.{◌≡◌, ℕ, false, ◌==◌, List, [], ◌∷◌, ◌++◌, Some, drop, length, chars, IsUtf8, if◌then◌else◌}
 use Rattle.std.specs.List.{flat_map}
 use Rattle.vx_dtype.specs.Types.{Name}
-use Rattle.vx_source_tokens.specs.Tokens.{next}
+use Rattle.vx_source_types.specs.Tokens.{next}
 use Rattle.vx_fn.specs.Values.{Part, just, part_of}
 use Rattle.vx_sql.specs.declared.dialect.Dialect.{Dialect}
 use Rattle.vx_sql.specs.declared.quotes.Quoting.{Quoting}

@@ -3,7 +3,7 @@ use Rattle.std.specs.Prelude.{ℕ, Bool, false, not, ◌==◌, ◌&&◌, List, [
 use Rattle.std.specs.List.{list_any, count_by}
 use Rattle.std.specs.Option.{option_or, is_some}
 use Rattle.std.specs.Str.{bytes_eq}
-use Rattle.vx_source_dtype.specs.Names.{same_word}
+use Rattle.vx_source_types.specs.Names.{same_word}
 use Rattle.vx_value.specs.Types.{Name, LogicalType, Datum, utf8}
 use Rattle.vx_fn.specs.Functions.{Function, get_item, literal, pack, select, fill_null, like, arity_of, is_atomic}
 use Rattle.vx_tree.specs.Nodes.{bound_at, bound_count_of}

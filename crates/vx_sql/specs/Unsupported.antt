@@ -61,6 +61,6 @@ IsRefusal said OutOfMemory = Unit {0}
 IsRefusal said (Node path reason) = said ≡ Err (path.items, reason)
 
 -- a reason is told of the node that is said, and the path goes on to it; none is where nothing is said
-abbrev pub Leads : List ℕ → Option Refused → List ℕ → Option Reason → Type 0
-Leads old said new None = (said ≡ None) × (new ≡ old)
-Leads old said new (Some reason) = (path : List ℕ) × (new ≡ old ++ path) × (said ≡ Some (path, reason))
+abbrev pub LeadsToUnsupported : List ℕ → Option Refused → List ℕ → Option Reason → Type 0
+LeadsToUnsupported old said new None = (said ≡ None) × (new ≡ old)
+LeadsToUnsupported old said new (Some reason) = (path : List ℕ) × (new ≡ old ++ path) × (said ≡ Some (path, reason))

@@ -13,7 +13,7 @@ use vx_tree::BoundExpression;
 /// own, then the children's from left to right.
 ///
 /// Where the source faults on no row, the engine gives its values on a table that has the columns that
-/// docs/ENGINES.md asks for, which also says which faults of the source are errors there.
+/// docs/embed/ENGINES.md asks for, which also says which faults of the source are errors there.
 ///
 /// Refuses with `Unsupported::Node` exactly where some node has no text, want of memory aside, and with
 /// `Unsupported::OutOfMemory`.

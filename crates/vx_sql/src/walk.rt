@@ -2,7 +2,7 @@
 ghost use Rattle.std.specs.Prelude.{◌≡◌, Result, Ok, IfOk};
 ghost use Rattle.vx_fn.specs.Views.{function_of};
 ghost use Rattle.vx_tree.specs.Views.{bound_of, bounds_of};
-ghost use Rattle.vx_sql.specs.Unsupported.{is_column, first_unsupported, first_unsupported_from, refused_of, Leads};
+ghost use Rattle.vx_sql.specs.Unsupported.{is_column, first_unsupported, first_unsupported_from, refused_of, LeadsToUnsupported};
 
 use crate::Dialect;
 use crate::children::is_row;
@@ -35,7 +35,7 @@ fn look(
     dialect: Dialect,
     path: &mut Vec<usize>,
 ) -> Result<Option<Reason>, AllocError>
-    ensures { IfOk result (Leads path.old.items (first_unsupported dialect (bound_of b.now)) path.new.items) }
+    ensures { IfOk result (LeadsToUnsupported path.old.items (first_unsupported dialect (bound_of b.now)) path.new.items) }
 {
     match b {
         BoundExpression::Root { .. } => Ok(Some(Reason::Row)),
@@ -62,7 +62,7 @@ fn look_below(
     dialect: Dialect,
     path: &mut Vec<usize>,
 ) -> Result<Option<Reason>, AllocError>
-    ensures { IfOk result (Leads path.old.items (first_unsupported_from dialect 0 (bounds_of children.now)) path.new.items) }
+    ensures { IfOk result (LeadsToUnsupported path.old.items (first_unsupported_from dialect 0 (bounds_of children.now)) path.new.items) }
 {
     for i in 0..children.len() {
         path.push(i)?;

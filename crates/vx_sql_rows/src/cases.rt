@@ -11,8 +11,7 @@ use vx_eval::apply_bound;
 use vx_places::first_fault_at;
 use vx_sql::{Dialect, to_sql};
 use vx_sql_plan::{NoStatement, SqlPlan, sql_plan};
-use vx_test_chance::Seeds;
-use vx_test_samples::{Unread, bound};
+use vx_test_support::{Seeds, Unread, bound};
 use vx_tree::BoundExpression;
 use vx_types::{Column, DType, Value, VortexError};
 

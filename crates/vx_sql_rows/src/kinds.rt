@@ -1,6 +1,6 @@
 // What expressions by chance give, and their leaves.
 use std::alloc::{AllocError, Global};
-use vx_test_chance::Seeds;
+use vx_test_support::Seeds;
 use vx_types::{PType, Value};
 
 /// What an expression gives.

@@ -2,8 +2,7 @@
 use std::alloc::{AllocError, Global};
 use vx_source::parse_type;
 use vx_sql::{Dialect, Unsupported, to_sql};
-use vx_test_samples::{Unread, bound};
-use vx_test_tables::{Judge, Judged};
+use vx_test_support::{Judge, Judged, Unread, bound};
 
 /// Judges SQL texts of expressions.
 #[derive(Clone, Copy)]

@@ -19,7 +19,7 @@ use line::{Texts, dialect_named};
 use std::alloc::Global;
 use std::process::ExitCode;
 use std::{env, fs};
-use vx_test_tables::{Aim, Table, Tally};
+use vx_test_support::{Aim, Table, Tally};
 
 fn main(rt: HostRuntime) -> Result<ExitCode> {
     let alloc = rt.alloc();

@@ -4,8 +4,7 @@ use crate::kinds::{Kind, NUMBERS, text};
 use std::alloc::{AllocError, Global};
 use vx_source::ScalarText;
 use vx_sql::Dialect;
-use vx_test_chance::Seeds;
-use vx_test_samples::parted;
+use vx_test_support::{Seeds, parted};
 use vx_types::{DType, Nullability, PType, Scalar, Value};
 
 // What ends a word of a row.

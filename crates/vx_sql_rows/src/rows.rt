@@ -3,8 +3,7 @@ use crate::kinds::{Kind, NUMBERS, maybe_null};
 use std::alloc::{AllocError, Global};
 use vx_source::parse_type;
 use vx_sql::Dialect;
-use vx_test_chance::Seeds;
-use vx_test_samples::Unread;
+use vx_test_support::{Seeds, Unread};
 use vx_types::{DType, FieldName, Nullability, PType, StructFields, Value};
 
 /// How many rows the table has.

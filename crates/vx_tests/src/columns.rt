@@ -4,7 +4,7 @@ use std::alloc::Global;
 use std::process::Abort;
 use std::test::Fail;
 use vx_eval::apply_bound;
-use vx_test_samples::{bound, column, dtype, i32_type, reads, values};
+use vx_test_support::{bound, column, dtype, i32_type, reads, values};
 use vx_tree::Nullability::Nullable;
 use vx_tree::{Column, Value, VortexError, VortexResult};
 
@@ -18,7 +18,7 @@ fn a_column_is_its_type_and_its_rows(rt: HostRuntime) {
     assert!(rt; matches!(column.row(0), Value::Int(7)));
     assert!(rt; column.row(1).is_null());
     assert!(rt; column.shared_rows().is_none());
-    let one = vx_test_samples::column(alloc, "i32?", "7");
+    let one = vx_test_support::column(alloc, "i32?", "7");
     differs(&rt, Box::into_inner(kept(&rt, alloc, one)), &*column);
 }
 
@@ -46,7 +46,7 @@ fn columns_share_their_rows(rt: HostRuntime) {
 /// Asserts whether the value of the word is one of the type.
 fn fits(rt: &impl Abort, alloc: Global, word: &str, kind: &str, wanted: bool) {
     let dtype = kept(rt, alloc, dtype(alloc, kind));
-    let value = kept(rt, alloc, vx_test_samples::value(alloc, word));
+    let value = kept(rt, alloc, vx_test_support::value(alloc, word));
     assert!(rt; value.fits(&dtype) == wanted, "{word} of {kind}");
 }
 

@@ -5,7 +5,7 @@ ghost use Rattle.std.specs.Str.{bytes_eq};
 
 use crate::looks::kept;
 use std::alloc::Global;
-use vx_test_samples::names;
+use vx_test_support::names;
 use vx_tree::Nullability::Nullable;
 use vx_tree::{
     Binary, DType, FieldName, FieldNames, FieldSelection, FillNull, GetItem, Literal, Operator,

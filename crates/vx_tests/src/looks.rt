@@ -1,10 +1,10 @@
 // What tests assert of values that they hand over. All of it is generic, since of a type parameter the
 // prover writes nothing out: a value that a test keeps itself, over a step that may end it, is written
-// out at each such step (docs/BENCHMARKS.md, "What a proof costs").
+// out at each such step (docs/develop/BENCHMARKS.md, "What a proof costs").
 use std::alloc::Global;
 use std::fmt::Display;
 use std::process::Abort;
-use vx_test_samples::reads;
+use vx_test_support::reads;
 use vx_tree::VortexResult;
 
 /// What is answered, behind a box. A refusal ends the test.

@@ -7,7 +7,7 @@ use std::alloc::{AllocError, Global};
 use std::test::Fail;
 use vx_dtype::laws::types_are_equal_exactly;
 use vx_eval::{RowMask, merge_compact, merge_runs, prefer_runs};
-use vx_test_samples::{column, i32_type, reads};
+use vx_test_support::{column, i32_type, reads};
 use vx_tree::Nullability::NonNullable;
 use vx_tree::{Column, DType, VortexResult};
 

@@ -1,6 +1,6 @@
 // Trees split by keys that all have one field name.
 ghost use Rattle.std.specs.Prelude.{◌≡◌, Some, codes, refl};
-ghost use Rattle.vx_rewrite_split.specs.Keys.{same_bytes};
+ghost use Rattle.vx_partition.specs.Keys.{same_bytes};
 ghost use Rattle.vx_tree.specs.Trees.{WellTyped};
 ghost use Rattle.vx_tree.specs.Views.{bound_of};
 
@@ -14,7 +14,7 @@ use vx_rewrite::{
     Annotation, BoundPartitionedExpr, PartitionKey, direct_bound_annotations, partition_bound,
     partition_bound_annotations,
 };
-use vx_test_samples::reads;
+use vx_test_support::reads;
 use vx_tree::{BoundExpression, FieldName, VortexResult};
 
 /// A key with a text of its own, and the field name that all keys have.

@@ -5,15 +5,15 @@ use std::alloc::Global;
 use std::test::Fail;
 use vx_example_double_negation::DoubleNegation;
 use vx_rewrite::{Rule, StandardRules, optimize_with};
-use vx_test_samples::reads;
+use vx_test_support::reads;
 use vx_tree::{BoundExpression, Literal, VortexError, VortexResult};
 
 /// The standard rules, to which memory is refused at each literal.
 struct Refused;
 
 impl Rule for Refused {
-    ghost use Rattle.vx_rewrite_rules.specs.Rules.{RuleAt};
-    ghost use Rattle.vx_rewrite_rules.proofs.Lawfulness.{rules_lawful};
+    ghost use Rattle.vx_rewrite_rule_laws.specs.Rules.{RuleAt};
+    ghost use Rattle.vx_rewrite_rule_laws.proofs.StandardLawfulness.{rules_lawful};
 
     ghost gives = { λ _. RuleAt };
 

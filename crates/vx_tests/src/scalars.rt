@@ -1,6 +1,6 @@
 // Scalars by their constructors: texts, types and values.
 use crate::looks::{answers, differs, gives, kept, shows};
-use vx_test_samples::reads;
+use vx_test_support::reads;
 use vx_tree::Nullability::Nullable;
 use vx_tree::{DType, Scalar, Value, VortexResult};
 

@@ -1,7 +1,7 @@
 // A column of structs that has no columns and may be null, of which no row of a table is made.
 use crate::looks::kept;
 use std::alloc::Global;
-use vx_test_samples::reads;
+use vx_test_support::reads;
 use vx_tree::Nullability::Nullable;
 use vx_tree::{Column, FieldNames, VortexResult};
 

@@ -5,7 +5,7 @@ use std::process::Abort;
 use std::test::Fail;
 use vx_build::{bound, root};
 use vx_source::{parse, parse_type};
-use vx_test_samples::{boxed, dtype, i32_type, reads};
+use vx_test_support::{boxed, dtype, i32_type, reads};
 use vx_tree::Nullability::{NonNullable, Nullable};
 use vx_tree::test_harness::struct_dtype;
 use vx_tree::{
@@ -73,7 +73,7 @@ fn nodes_show_their_function_and_children(rt: HostRuntime) -> Result<(), Fail> {
 fn bound_nodes_show_their_function_and_children(rt: HostRuntime) -> Result<(), Fail> {
     let alloc = rt.alloc();
     let scope = kept(&rt, alloc, dtype(alloc, "{x=i32}"));
-    let bound = vx_test_samples::bound(alloc, RANGE_OF_X, &scope)?;
+    let bound = vx_test_support::bound(alloc, RANGE_OF_X, &scope)?;
     assert!(rt; matches!(bound.as_scalar(), Some(ScalarFnRef::Binary(Operator::And))));
     assert!(rt; bound.as_opt::<Binary>() == Some(&Operator::And));
     assert!(rt; bound.is::<Binary>());
@@ -182,7 +182,7 @@ fn over_its_own(alloc: Global, tree: &BoundExpression) -> VortexResult<BoundExpr
 fn a_bound_node_takes_other_children(rt: HostRuntime) -> Result<(), Fail> {
     let alloc = rt.alloc();
     let scope = kept(&rt, alloc, struct_dtype(alloc));
-    let bound = vx_test_samples::bound(alloc, "bool1 or bool2", &scope)?;
+    let bound = vx_test_support::bound(alloc, "bool1 or bool2", &scope)?;
     gives(&rt, over_its_own(alloc, &bound), &*bound);
     Ok(())
 }

@@ -1,6 +1,6 @@
 // Names, types and their fields.
 use crate::looks::{differs, gives, kept, refuses, same, shows};
-use vx_test_samples::{dtype, i32_type, names, reads};
+use vx_test_support::{dtype, i32_type, names, reads};
 use vx_tree::Nullability::{NonNullable, Nullable};
 use vx_tree::test_harness::struct_dtype;
 use vx_tree::{DType, FieldName, FieldNames, Nullability};

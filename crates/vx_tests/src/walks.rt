@@ -9,7 +9,7 @@ use std::marker::PhantomData;
 use std::process::Abort;
 use std::test::Fail;
 use vx_build::root;
-use vx_test_samples::boxed;
+use vx_test_support::boxed;
 use vx_tree::{Binary, Expression, FieldName, GetItem, Operator, VortexError, VortexResult};
 use vx_walk::TraversalOrder::{Continue, Skip, Stop};
 use vx_walk::{

@@ -5,7 +5,7 @@ ghost use Rattle.vx_tree.specs.Views.{bound_of};
 
 use std::alloc::Global;
 use std::test::Fail;
-use vx_test_samples::{bound, dtype};
+use vx_test_support::{bound, dtype};
 use vx_tree::BoundExpression;
 
 /// Two conditions, of a field each.

@@ -1,7 +1,7 @@
 -- Binding gives the type of the tree, over the scope, and keeps the tree; it refuses where typing does.
 use Rattle.std.proofs.Common.{◌≡◌, inl, inr, ⊎_elim, List, ◌∷◌, Result, Ok, Err, refl, ap, subst, ◌∙◌, IfOk}
 use Rattle.vx_dtype.specs.declared.error.VortexError.{VortexError}
-use Rattle.vx_value.specs.Answers.{Answers}
+use Rattle.vx_value.specs.Returns.{ReturnsOrOom}
 use Rattle.vx_value.specs.Types.{LogicalType}
 use Rattle.vx_fn.specs.Functions.{Function, Typing, fn_type}
 use Rattle.vx_tree.specs.declared.bound.BoundExpression.{BoundExpression}
@@ -50,10 +50,10 @@ mutual
 
 -- ---- what a call that gave the bound tree gave
 
-pub typed_of : (r : Result BoundExpression VortexError) (e : Tree) (s : LogicalType) → Answers bound_of r (binding e s) → Answers (λ b. node_type (bound_of b)) r (typed e s)
+pub typed_of : (r : Result BoundExpression VortexError) (e : Tree) (s : LogicalType) → ReturnsOrOom bound_of r (binding e s) → ReturnsOrOom (λ b. node_type (bound_of b)) r (typed e s)
 typed_of (Ok x) e s h = (subst (Binds e s) h (binds e s)).0
 typed_of (Err r) e s h = ⊎_elim (λ m. inl m) (λ q. inr (subst (Binds e s) q (binds e s))) h
 
-pub bound_over : (r : Result BoundExpression VortexError) (e : Tree) (s : LogicalType) → Answers bound_of r (binding e s) → IfOk r (λ b. Over (bound_of b) s × (unbound (bound_of b) ≡ e))
+pub bound_over : (r : Result BoundExpression VortexError) (e : Tree) (s : LogicalType) → ReturnsOrOom bound_of r (binding e s) → IfOk r (λ b. Over (bound_of b) s × (unbound (bound_of b) ≡ e))
 bound_over (Ok x) e s h = let w = subst (Binds e s) h (binds e s) in (w.1, w.2)
 bound_over (Err r) e s h = tt

@@ -4,7 +4,7 @@ use Rattle.std.specs.Bool.{Decides}
 use Rattle.std.proofs.lemmas.Bool.Decides.{Decides-and, Decides-like}
 use Rattle.vx_dtype.specs.declared.error.VortexError.{VortexError}
 use Rattle.vx_dtype.specs.declared.error.VortexError.TheVariants.{OutOfMemory}
-use Rattle.vx_value.specs.Answers.{Answers}
+use Rattle.vx_value.specs.Returns.{ReturnsOrOom}
 use Rattle.vx_value.specs.Deciding.{apart, equal_type-Decides}
 use Rattle.vx_value.specs.Types.{LogicalType}
 use Rattle.vx_fn.specs.Functions.{Function, literal, HasFittingLiteral, Typing, fn_type}
@@ -31,7 +31,7 @@ mutual
   are_well_typed-Decides (bound b bs) = Decides-and _ _ (is_well_typed-Decides b) (are_well_typed-Decides bs)
 
 -- an answer of the test tells whether the tree is well typed
-pub answer_decides : (r : Result Bool VortexError) (b : BoundTree) → Answers (λ told. told) r (Ok (is_well_typed b))
+pub answer_decides : (r : Result Bool VortexError) (b : BoundTree) → ReturnsOrOom (λ told. told) r (Ok (is_well_typed b))
     → MatchResult r (λ told. IsTrue told ↔ WellTyped b) (λ e. e ≡ OutOfMemory)
 answer_decides (Ok told) b h =
     let same : is_well_typed b ≡ told = cc in

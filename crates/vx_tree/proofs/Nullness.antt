@@ -9,7 +9,7 @@ use Rattle.vx_tree.specs.Meaning.{value, values}
 use Rattle.vx_tree.specs.Trees.{BoundTree, node, no_bound, bound, node_types, WellTyped}
 use Rattle.vx_tree.specs.Validity.{truth_literal, not_null_of, fill_of_node, validity_of, TellsValidity}
 use Rattle.vx_dtype.specs.declared.error.VortexError.{VortexError}
-use Rattle.vx_value.specs.Answers.{Answers}
+use Rattle.vx_value.specs.Returns.{ReturnsOrOom}
 use Rattle.vx_tree.specs.declared.bound.BoundExpression.{BoundExpression}
 use Rattle.vx_tree.specs.Views.{bound_of, bounds_from}
 use Rattle.vx_tree.proofs.Trees.{or_none, row_safe, IsIn-map}
@@ -76,7 +76,7 @@ tells_validity (node t fill_null (bound x (bound y no_bound))) w = fill_tells t 
 tells_validity b w = tested b w
 
 -- what an answer tells, where it is that tree
-pub answer_tells : (r : Result BoundExpression VortexError) (b : BoundTree) → WellTyped b → Answers bound_of r (Ok (validity_of b)) → IfOk r (λ u. TellsValidity b (bound_of u))
+pub answer_tells : (r : Result BoundExpression VortexError) (b : BoundTree) → WellTyped b → ReturnsOrOom bound_of r (Ok (validity_of b)) → IfOk r (λ u. TellsValidity b (bound_of u))
 answer_tells (Ok u) b w h = let same : validity_of b ≡ bound_of u = cc in subst (TellsValidity b) same (tells_validity b w)
 answer_tells (Err e) b w h = tt
 

@@ -8,7 +8,7 @@ use Rattle.vx_fn.proofs.Rows.{fn_type-found}
 use Rattle.vx_fn.proofs.Sound.{IsSafe, fn_value-fits}
 use Rattle.vx_value.specs.Types.{LogicalType, Datum, is_null_datum}
 use Rattle.vx_value.specs.Fits.{Fits, EachFits}
-use Rattle.vx_dtype.specs.Lists.{none_beside, more_beside, IsIn}
+use Rattle.vx_dtype.specs.Lists.{forall2_nil, forall2_cons, IsIn}
 use Rattle.vx_fn.specs.Functions.{Function, binary, adds, cast, fill_null}
 use Rattle.vx_tree.specs.Meaning.{value, values}
 use Rattle.vx_dtype.specs.declared.error.VortexError.{VortexError}
@@ -87,7 +87,7 @@ mutual
       (values-fit bs s batch v w.2 o q.0 i e)
 
   pub values-fit : (bs : BoundTrees) (s : LogicalType) (batch : List Datum) (v : Datum) → EachWellTyped bs → EachOver bs s → each_fault bs batch ≡ None → IsIn v batch → Fits v s → EachFits (values bs v) (node_types bs)
-  values-fit no_bound s batch v w o n i e = none_beside
+  values-fit no_bound s batch v w o n i e = forall2_nil
   values-fit (bound b bs) s batch v w o n i e =
       let q = or_none _ _ n in
-      more_beside (value-fits b s batch v w.0 o.0 q.0 i e) (values-fit bs s batch v w.1 o.1 q.1 i e)
+      forall2_cons (value-fits b s batch v w.0 o.0 q.0 i e) (values-fit bs s batch v w.1 o.1 q.1 i e)

@@ -22,7 +22,7 @@ pub mod Validity
 pub mod Checked
 pub mod Examples
 pub mod WorkedRows
-pub use Rattle.vx_value.specs.Answers
+pub use Rattle.vx_value.specs.Returns
 pub use Rattle.vx_value.specs.Types
 pub use Rattle.vx_value.specs.Views as TypeViews
 pub use Rattle.vx_fn.specs.Functions

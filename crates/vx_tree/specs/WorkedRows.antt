@@ -1,4 +1,4 @@
--- The worked rows of docs/ROWS.md as theorems about the definitions alone; each is proved by computing it.
+-- The worked rows of docs/audit/ROWS.md as theorems about the definitions alone; each is proved by computing it.
 use Rattle.std.specs.Prelude.{◌≡◌, ℕ, Bool, true, false, List, [], ◌∷◌, Option, Some, None, Result, Ok, Err, codes, map}
 use Rattle.vx_dtype.specs.declared.dtype.PType.TheVariants.{I8, U64}
 use Rattle.vx_dtype.specs.declared.error.VortexError.{VortexError}

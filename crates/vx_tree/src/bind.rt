@@ -1,6 +1,6 @@
 // Binding: a tree over a scope, with the type of each node.
 ghost use Rattle.std.specs.Prelude.{◌≡◌, ◌↔◌, Err, IfOk, IsTrue, OnOk, map};
-ghost use Rattle.vx_value.specs.Answers.{Answers};
+ghost use Rattle.vx_value.specs.Returns.{ReturnsOrOom};
 ghost use Rattle.vx_value.specs.Views.{type_of};
 ghost use Rattle.vx_fn.specs.Views.{function_of};
 ghost use Rattle.vx_tree.specs.Binding.{binding, each_binding, node_over};
@@ -22,7 +22,7 @@ impl Expression {
     /// the children's from left to right, then the node's: `ArityMismatch` (2) before those of the
     /// function (4 to 11).
     pub fn bind(&self, alloc: Global, scope: &DType) -> VortexResult<BoundExpression>
-        ensures typed { Answers (λ b. node_type (bound_of b)) result (typed (tree_of self.now) (type_of scope.now)) }
+        ensures typed { ReturnsOrOom (λ b. node_type (bound_of b)) result (typed (tree_of self.now) (type_of scope.now)) }
         ensures well_typed { IfOk result (λ b. WellTyped (bound_of b)) }
         ensures over { IfOk result (λ b. Over (bound_of b) (type_of scope.now) × (unbound (bound_of b) ≡ tree_of self.now)) }
     {
@@ -31,7 +31,7 @@ impl Expression {
 
     /// The tree bound to the type of the scope, as [`Expression::bind`] gives and refuses it.
     pub fn bind_scope(&self, alloc: Global, scope: &Scope) -> VortexResult<BoundExpression>
-        ensures typed { Answers (λ b. node_type (bound_of b)) result (typed (tree_of self.now) scope.now) }
+        ensures typed { ReturnsOrOom (λ b. node_type (bound_of b)) result (typed (tree_of self.now) scope.now) }
         ensures well_typed { IfOk result (λ b. WellTyped (bound_of b)) }
         ensures over { IfOk result (λ b. Over (bound_of b) scope.now × (unbound (bound_of b) ≡ tree_of self.now)) }
     {
@@ -40,7 +40,7 @@ impl Expression {
 }
 
 fn bind_tree<T: TreeNode>(alloc: Global, tree: &T, scope: &DType) -> VortexResult<BoundExpression>
-    ensures bound { Answers bound_of result (binding (T.tree tree.now) (type_of scope.now)) }
+    ensures bound { ReturnsOrOom bound_of result (binding (T.tree tree.now) (type_of scope.now)) }
     ensures typed { IfOk result (λ b. WellTyped (bound_of b)) }
 {
     let Some(scalar_fn) = tree.node_function() else {
@@ -60,7 +60,7 @@ fn bind_all<T: TreeNode>(
     trees: &[T],
     scope: &DType,
 ) -> VortexResult<Vec<BoundExpression>>
-    ensures bound { Answers (λ nodes. bounds_of nodes.items) result (each_binding (trees_from (map T.tree trees.now)) (type_of scope.now)) }
+    ensures bound { ReturnsOrOom (λ nodes. bounds_of nodes.items) result (each_binding (trees_from (map T.tree trees.now)) (type_of scope.now)) }
     ensures typed { IfOk result (λ nodes. EachWellTyped (bounds_of nodes.items)) }
 {
     let mut nodes = Vec::with_capacity(alloc, trees.len())?;
@@ -134,7 +134,7 @@ impl BoundExpression {
     /// refusal is answered, the children's from left to right, then the node's: `ArityMismatch` (2)
     /// before those of the function (4 to 11).
     pub fn rebind(&self, alloc: Global, scope: &DType) -> VortexResult<BoundExpression>
-        ensures typed { Answers (λ b. node_type (bound_of b)) result (typed (unbound (bound_of self.now)) (type_of scope.now)) }
+        ensures typed { ReturnsOrOom (λ b. node_type (bound_of b)) result (typed (unbound (bound_of self.now)) (type_of scope.now)) }
         ensures well_typed { IfOk result (λ b. WellTyped (bound_of b)) }
         ensures over { IfOk result (λ b. Over (bound_of b) (type_of scope.now) × (unbound (bound_of b) ≡ unbound (bound_of self.now))) }
     {

@@ -1,6 +1,6 @@
 // Expressions bound to a scope: each node has its type.
 ghost use Rattle.std.specs.Prelude.{◌≡◌, ◌≢◌, length, IfOk, IfSome, IsErrOf, IsTrue, Ok, map};
-ghost use Rattle.vx_value.specs.Answers.{Answers, Exactly};
+ghost use Rattle.vx_value.specs.Returns.{ReturnsOrOom, Returns};
 ghost use Rattle.vx_value.specs.Views.{type_of};
 ghost use Rattle.vx_dtype.specs.declared.error.VortexError.TheVariants.{ArityMismatch};
 ghost use Rattle.vx_fn.specs.Functions.{arity_of, fn_type, HasFittingLiteral};
@@ -81,7 +81,7 @@ impl BoundExpression {
         scalar_fn: ScalarFnRef,
         children: Vec<BoundExpression>,
     ) -> VortexResult<BoundExpression>
-        ensures node { Answers bound_of result (node_over (function_of scalar_fn) (bounds_of children.items)) }
+        ensures node { ReturnsOrOom bound_of result (node_over (function_of scalar_fn) (bounds_of children.items)) }
         ensures mismatch { length children.items ≢ arity_of (function_of scalar_fn) →
             IsErrOf result (ArityMismatch (arity_of (function_of scalar_fn)) (length children.items)) }
         ensures well_typed { EachWellTyped (bounds_of children.items) → IfOk result (λ b. WellTyped (bound_of b)) }
@@ -98,7 +98,7 @@ impl BoundExpression {
         scalar_fn: ScalarFnRef,
         children: Vec<BoundExpression>,
     ) -> VortexResult<BoundExpression>
-        ensures { Answers bound_of result (Ok (node (type_of dtype) (function_of scalar_fn) (bounds_of children.items))) }
+        ensures { ReturnsOrOom bound_of result (Ok (node (type_of dtype) (function_of scalar_fn) (bounds_of children.items))) }
     {
         Ok(BoundExpression::Scalar {
             dtype,
@@ -121,13 +121,13 @@ impl BoundExpression {
         alloc: Global,
         children: Vec<BoundExpression>,
     ) -> VortexResult<BoundExpression>
-        ensures node { Answers bound_of result (bound_over (bound_of self) (bounds_of children.items)) }
+        ensures node { ReturnsOrOom bound_of result (bound_over (bound_of self) (bounds_of children.items)) }
         ensures well_typed { EachWellTyped (bounds_of children.items) → IfOk result (λ b. WellTyped (bound_of b)) }
         ensures same { WellTyped (bound_of self) → bounds_of children.items ≡ bound_children_of (bound_of self) →
-            Answers bound_of result (Ok (bound_of self)) }
+            ReturnsOrOom bound_of result (Ok (bound_of self)) }
         ensures number { IfSome (number_refusal (bound_of self) (bounds_of children.items)) (λ e. result ≡ Err e) }
         ensures root { IsTrue (is_root (unbound (bound_of self))) →
-            Exactly bound_of result (bound_over (bound_of self) (bounds_of children.items)) }
+            Returns bound_of result (bound_over (bound_of self) (bounds_of children.items)) }
     {
         match self {
             BoundExpression::Root { dtype } => {
@@ -161,7 +161,7 @@ pub(crate) fn dtype_over(
     scalar_fn: &ScalarFnRef,
     children: &[BoundExpression],
 ) -> VortexResult<DType>
-    ensures typed { Answers type_of result (fn_type (function_of scalar_fn.now) (node_types (bounds_of children.now))) }
+    ensures typed { ReturnsOrOom type_of result (fn_type (function_of scalar_fn.now) (node_types (bounds_of children.now))) }
     ensures literal { IfOk result (λ _. HasFittingLiteral (function_of scalar_fn.now)) }
     ensures arity { length children.now ≢ arity_of (function_of scalar_fn.now) →
         IsErrOf result (ArityMismatch (arity_of (function_of scalar_fn.now)) (length children.now)) }

@@ -1,6 +1,6 @@
 // The test that a bound tree is well typed.
 ghost use Rattle.std.specs.Prelude.{◌≡◌, ◌↔◌, IfOk, IsTrue, MatchResult, Ok, map};
-ghost use Rattle.vx_value.specs.Answers.{Answers};
+ghost use Rattle.vx_value.specs.Returns.{ReturnsOrOom};
 ghost use Rattle.vx_dtype.specs.declared.error.VortexError.TheVariants.{OutOfMemory};
 ghost use Rattle.vx_value.specs.Views.{type_of};
 ghost use Rattle.vx_fn.specs.Functions.{fn_type};
@@ -29,7 +29,7 @@ impl BoundExpression {
 
 #[cycle(checked)]
 fn is_well_typed(alloc: Global, b: &BoundExpression) -> VortexResult<bool>
-    ensures { Answers (λ told. told) result (Ok (is_well_typed (bound_of b.now))) }
+    ensures { ReturnsOrOom (λ told. told) result (Ok (is_well_typed (bound_of b.now))) }
 {
     match b {
         BoundExpression::Root { .. } => Ok(true),
@@ -49,7 +49,7 @@ fn is_well_typed(alloc: Global, b: &BoundExpression) -> VortexResult<bool>
 
 #[cycle(checked)]
 fn are_well_typed(alloc: Global, bs: &[BoundExpression]) -> VortexResult<bool>
-    ensures { Answers (λ told. told) result (Ok (are_well_typed (bounds_of bs.now))) }
+    ensures { ReturnsOrOom (λ told. told) result (Ok (are_well_typed (bounds_of bs.now))) }
 {
     for b in bs {
         if !is_well_typed(alloc, b)? {
@@ -66,7 +66,7 @@ fn is_given(
     children: &[BoundExpression],
     dtype: &DType,
 ) -> VortexResult<bool>
-    ensures given { Answers (λ told. told) result (Ok (is_given (fn_type (function_of scalar_fn.now) (node_types (bounds_of children.now))) (type_of dtype.now))) }
+    ensures given { ReturnsOrOom (λ told. told) result (Ok (is_given (fn_type (function_of scalar_fn.now) (node_types (bounds_of children.now))) (type_of dtype.now))) }
     ensures literal { IfOk result (λ told. IsTrue told → IsTrue (has_fitting_literal (function_of scalar_fn.now))) }
 {
     match dtype_over(alloc, scalar_fn, children) {

@@ -1,7 +1,7 @@
 // How deep trees are. The nodes are visited level by level, over lists on the heap, so that the
 // stack doesn't grow with the tree.
 ghost use Rattle.std.specs.Prelude.{◌≡◌, ◌+◌, IfOk, Ok};
-ghost use Rattle.vx_value.specs.Answers.{Answers};
+ghost use Rattle.vx_value.specs.Returns.{ReturnsOrOom};
 ghost use Rattle.vx_tree.specs.Depths.{depth_of};
 ghost use Rattle.vx_tree.specs.Levels.{greatest, lent_depth, lent_depth_below};
 ghost use Rattle.vx_tree.specs.Trees.{unbound};
@@ -18,7 +18,7 @@ impl Expression {
     /// deeper than wanted. Takes time linear in the nodes, and memory for the widest levels. Refuses
     /// with `OutOfMemory` (1) alone.
     pub fn depth(&self, alloc: Global) -> VortexResult<usize>
-        ensures { Answers (λ depth. depth) result (Ok (depth_of (tree_of self.now))) }
+        ensures { ReturnsOrOom (λ depth. depth) result (Ok (depth_of (tree_of self.now))) }
     {
         levels(alloc, self)
     }
@@ -31,7 +31,7 @@ impl BoundExpression {
     /// deeper than wanted. Takes time linear in the nodes, and memory for the widest levels. Refuses
     /// with `OutOfMemory` (1) alone.
     pub fn depth(&self, alloc: Global) -> VortexResult<usize>
-        ensures { Answers (λ depth. depth) result (Ok (depth_of (unbound (bound_of self.now)))) }
+        ensures { ReturnsOrOom (λ depth. depth) result (Ok (depth_of (unbound (bound_of self.now)))) }
     {
         levels(alloc, self)
     }
@@ -39,7 +39,7 @@ impl BoundExpression {
 
 // How many levels the tree has.
 fn levels<T: TreeNode>(alloc: Global, node: &T) -> VortexResult<usize>
-    ensures { Answers (λ levels. levels) result (Ok (depth_of (T.tree node.now))) }
+    ensures { ReturnsOrOom (λ levels. levels) result (Ok (depth_of (T.tree node.now))) }
 {
     let mut depth = 0;
     let mut level = Vec::new(alloc);

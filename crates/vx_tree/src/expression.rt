@@ -1,6 +1,6 @@
 // Expressions that aren't bound to a scope.
 ghost use Rattle.std.specs.Prelude.{◌≡◌, ℕ, IfOk, IsErr, Ok};
-ghost use Rattle.vx_value.specs.Answers.{Answers, Exactly};
+ghost use Rattle.vx_value.specs.Returns.{ReturnsOrOom, Returns};
 ghost use Rattle.vx_fn.specs.Views.{function_of};
 ghost use Rattle.vx_tree.specs.Nodes.{call_over, tree_over};
 ghost use Rattle.vx_tree.specs.Trees.{root};
@@ -51,9 +51,9 @@ impl Expression {
         scalar_fn: ScalarFnRef,
         children: Vec<Expression>,
     ) -> VortexResult<Expression>
-        ensures node { Answers tree_of result (call_over (function_of scalar_fn) (trees_of children.items)) }
+        ensures node { ReturnsOrOom tree_of result (call_over (function_of scalar_fn) (trees_of children.items)) }
         ensures refusal { IsErr (call_over (function_of scalar_fn) (trees_of children.items)) →
-            Exactly tree_of result (call_over (function_of scalar_fn) (trees_of children.items)) }
+            Returns tree_of result (call_over (function_of scalar_fn) (trees_of children.items)) }
     {
         let expected = scalar_fn.arity();
         let got = children.len();
@@ -72,10 +72,10 @@ impl Expression {
     /// with `RootChildren` (3) exactly where the scope root is given some; these refusals take no
     /// memory, and neither does the scope root over none, which stays itself.
     pub fn with_children(self, alloc: Global, children: Vec<Expression>) -> VortexResult<Expression>
-        ensures node { Answers tree_of result (tree_over (tree_of self) (trees_of children.items)) }
+        ensures node { ReturnsOrOom tree_of result (tree_over (tree_of self) (trees_of children.items)) }
         ensures refusal { IsErr (tree_over (tree_of self) (trees_of children.items)) →
-            Exactly tree_of result (tree_over (tree_of self) (trees_of children.items)) }
-        ensures root { tree_of self ≡ root → Exactly tree_of result (tree_over (tree_of self) (trees_of children.items)) }
+            Returns tree_of result (tree_over (tree_of self) (trees_of children.items)) }
+        ensures root { tree_of self ≡ root → Returns tree_of result (tree_over (tree_of self) (trees_of children.items)) }
     {
         match self {
             Expression::Root => {

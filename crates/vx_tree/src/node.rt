@@ -3,7 +3,7 @@ ghost use Rattle.std.specs.Prelude.{◌≡◌, List, length, map, option_map, Re
 ghost use Rattle.std.proofs.Common.{inl, refl};
 ghost use Rattle.vx_dtype.specs.declared.error.VortexError.{VortexError};
 ghost use Rattle.vx_dtype.specs.declared.error.VortexError.TheVariants.{OutOfMemory};
-ghost use Rattle.vx_value.specs.Answers.{Answers};
+ghost use Rattle.vx_value.specs.Returns.{ReturnsOrOom};
 ghost use Rattle.vx_fn.specs.Functions.{Function, arity_of};
 ghost use Rattle.vx_fn.specs.Views.{function_of};
 ghost use Rattle.vx_tree.specs.Binding.{node_over};
@@ -51,7 +51,7 @@ pub trait TreeNode: Drop + Sized {
         ensures { gives (function_of scalar_fn) children.items result };
 
     /// What is answered is the node over what the children stand for, or its refusal.
-    ghost given_is_over: { (f : Function) (xs : List Self) (r : Result Self VortexError) → gives f xs r → Answers seen r (over f (map seen xs)) };
+    ghost given_is_over: { (f : Function) (xs : List Self) (r : Result Self VortexError) → gives f xs r → ReturnsOrOom seen r (over f (map seen xs)) };
 
     /// Want of memory may always be answered.
     ghost memory_may_end: { (f : Function) (xs : List Self) → gives f xs (Err OutOfMemory) };

@@ -1,6 +1,6 @@
 // What tests of expressions share.
 ghost use Rattle.std.specs.Prelude.{Ok};
-ghost use Rattle.vx_value.specs.Answers.{Answers};
+ghost use Rattle.vx_value.specs.Returns.{ReturnsOrOom};
 ghost use Rattle.vx_value.specs.Views.{type_of};
 ghost use Rattle.vx_tree.specs.Harness.{harness_type};
 
@@ -9,7 +9,7 @@ use vx_types::{DType, FieldName, FieldNames, Nullability, PType, StructFields, V
 
 /// The struct type `{a=i32, col1=u16?, col2=u16?, bool1=bool, bool2=bool}`.
 pub fn struct_dtype(alloc: Global) -> VortexResult<DType>
-    ensures { Answers type_of result (Ok harness_type) }
+    ensures { ReturnsOrOom type_of result (Ok harness_type) }
 {
     let names = vec![in alloc;
         FieldName::new(alloc, "a")?,

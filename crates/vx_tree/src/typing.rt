@@ -1,6 +1,6 @@
 // The type of an expression over a scope, with no bound tree built.
 ghost use Rattle.std.specs.Prelude.{◌≡◌, ℕ, map};
-ghost use Rattle.vx_value.specs.Answers.{Answers};
+ghost use Rattle.vx_value.specs.Returns.{ReturnsOrOom};
 ghost use Rattle.vx_value.specs.Views.{type_of};
 ghost use Rattle.vx_fn.specs.Functions.{fn_type};
 ghost use Rattle.vx_fn.specs.Views.{function_of};
@@ -21,14 +21,14 @@ impl Expression {
     /// the children's from left to right, then the node's: `ArityMismatch` (2) before those of the
     /// function (4 to 11).
     pub fn return_dtype(&self, alloc: Global, scope: &DType) -> VortexResult<DType>
-        ensures { Answers type_of result (typed (tree_of self.now) (type_of scope.now)) }
+        ensures { ReturnsOrOom type_of result (typed (tree_of self.now) (type_of scope.now)) }
     {
         type_one(alloc, self, scope)
     }
 }
 
 fn type_one(alloc: Global, e: &Expression, scope: &DType) -> VortexResult<DType>
-    ensures { Answers type_of result (typed (tree_of e.now) (type_of scope.now)) }
+    ensures { ReturnsOrOom type_of result (typed (tree_of e.now) (type_of scope.now)) }
 {
     match e {
         Expression::Root => Ok(scope.clone()?),
@@ -46,7 +46,7 @@ fn type_one(alloc: Global, e: &Expression, scope: &DType) -> VortexResult<DType>
 // in the frame of each level.
 #[cycle(typing)]
 fn type_all(alloc: Global, es: &[Expression], scope: &DType) -> VortexResult<Vec<DType>>
-    ensures { Answers (λ types. map type_of types.items) result (each_typed (trees_of es.now) (type_of scope.now)) }
+    ensures { ReturnsOrOom (λ types. map type_of types.items) result (each_typed (trees_of es.now) (type_of scope.now)) }
 {
     let mut types = Vec::with_capacity(alloc, es.len())?;
     for i in 0..es.len() {

@@ -1,6 +1,6 @@
 // The tree that is true exactly where another isn't null.
 ghost use Rattle.std.specs.Prelude.{◌≡◌, IfOk, Ok, false};
-ghost use Rattle.vx_value.specs.Answers.{Answers};
+ghost use Rattle.vx_value.specs.Returns.{ReturnsOrOom};
 ghost use Rattle.vx_fn.specs.Functions.{truth_type};
 ghost use Rattle.vx_fn.specs.Views.{function_of};
 ghost use Rattle.vx_tree.specs.Trees.{WellTyped, node};
@@ -19,7 +19,7 @@ impl BoundExpression {
     /// `is_not_null` of the node. Asks a well-typed tree. Refuses with `OutOfMemory` (1) alone.
     pub fn validity(&self, alloc: Global) -> VortexResult<BoundExpression>
         requires { WellTyped (bound_of self.now) }
-        ensures node { Answers bound_of result (Ok (validity_of (bound_of self.now))) }
+        ensures node { ReturnsOrOom bound_of result (Ok (validity_of (bound_of self.now))) }
         ensures tells { IfOk result (λ u. TellsValidity (bound_of self.now) (bound_of u)) }
     {
         validity_of(alloc, self)
@@ -27,7 +27,7 @@ impl BoundExpression {
 }
 
 fn validity_of(alloc: Global, node: &BoundExpression) -> VortexResult<BoundExpression>
-    ensures { Answers bound_of result (Ok (validity_of (bound_of node.now))) }
+    ensures { ReturnsOrOom bound_of result (Ok (validity_of (bound_of node.now))) }
 {
     match node {
         BoundExpression::Root { .. } => not_null(alloc, node),
@@ -56,7 +56,7 @@ fn fill_of<'a>(node: &'a BoundExpression, children: &'a [BoundExpression]) -> &'
 
 // A literal truth value.
 fn truth(alloc: Global, value: bool) -> VortexResult<BoundExpression>
-    ensures { Answers bound_of result (Ok (truth_literal value)) }
+    ensures { ReturnsOrOom bound_of result (Ok (truth_literal value)) }
 {
     let scalar_fn = ScalarFnRef::Literal(Scalar::from_bool(value));
     truth_node(alloc, scalar_fn, Vec::new(alloc))
@@ -64,7 +64,7 @@ fn truth(alloc: Global, value: bool) -> VortexResult<BoundExpression>
 
 // The test that the node isn't null.
 fn not_null(alloc: Global, node: &BoundExpression) -> VortexResult<BoundExpression>
-    ensures { Answers bound_of result (Ok (not_null_of (bound_of node.now))) }
+    ensures { ReturnsOrOom bound_of result (Ok (not_null_of (bound_of node.now))) }
 {
     let children = vec![in alloc; node.clone()?]?;
     truth_node(alloc, ScalarFnRef::IsNotNull(EmptyOptions), children)
@@ -76,7 +76,7 @@ fn truth_node(
     scalar_fn: ScalarFnRef,
     children: Vec<BoundExpression>,
 ) -> VortexResult<BoundExpression>
-    ensures { Answers bound_of result (Ok (node (truth_type false) (function_of scalar_fn) (bounds_of children.items))) }
+    ensures { ReturnsOrOom bound_of result (Ok (node (truth_type false) (function_of scalar_fn) (bounds_of children.items))) }
 {
     let dtype = DType::Bool(Nullability::NonNullable);
     BoundExpression::new_typed(alloc, dtype, scalar_fn, children)

@@ -1,4 +1,4 @@
-// The worked rows of docs/ROWS.md, as theorems about the definitions.
+// The worked rows of docs/audit/ROWS.md, as theorems about the definitions.
 ghost use Rattle.vx_tree.specs.WorkedRows.{Row1, Row1Fused, Row5, Row6, Row7, Row8, Row9, Row11, Row12, Row13, Row14, Row21, Row22, Row24, Row26};
 
 /// What the worked rows say of types, values, faults and texts follows from the definitions, by computing.

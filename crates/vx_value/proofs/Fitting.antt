@@ -7,7 +7,7 @@ use Rattle.vx_dtype.proofs.Unions.{same_atomic-eq}
 use Rattle.std.specs.Str.{bytes_eq}
 use Rattle.vx_value.specs.Types.{Name, truth, number, text, octets, LogicalType, ty, Shape, atomic, list, fixed, struct, Fields, no_field, field, Datum, null, bool, int, utf8, bytes, list_of, struct_of, Data, no_datum, datum, with_nullability, is_null_datum}
 use Rattle.vx_value.specs.Fits.{fits, each_fits, fields_fit, Fits, EachFits}
-use Rattle.vx_dtype.specs.Lists.{none_beside, more_beside}
+use Rattle.vx_dtype.specs.Lists.{forall2_nil, forall2_cons}
 use Rattle.vx_value.specs.Joins.{same_base, same_base_fields, join, join_fields, union_all}
 use Rattle.vx_value.specs.Fields.{field_type, field_value, project, project_values, put_field, first_unknown, fields_named, data_of}
 
@@ -141,7 +141,7 @@ project-fits (a ∷ names) fs vs e h =
     go (Some t) q s r = and_from _ _ (field_value-fits a fs vs t q h) r
 
 pub pack-fits : (names : List Name) {ts : List LogicalType} {vs : List Datum} → length ts ≡ length names → EachFits vs ts → fields_fit (data_of vs) (fields_named names ts) ≡ true
-pack-fits [] e none_beside = refl
-pack-fits (a ∷ names) {ts = t ∷ ts} e (more_beside h k) = let q : length ts ≡ length names = omega arith in and_from _ _ h (pack-fits names q k)
-pack-fits [] e (more_beside h k) = absurd (omega arith)
-pack-fits (a ∷ names) e none_beside = absurd (omega arith)
+pack-fits [] e forall2_nil = refl
+pack-fits (a ∷ names) {ts = t ∷ ts} e (forall2_cons h k) = let q : length ts ≡ length names = omega arith in and_from _ _ h (pack-fits names q k)
+pack-fits [] e (forall2_cons h k) = absurd (omega arith)
+pack-fits (a ∷ names) e forall2_nil = absurd (omega arith)

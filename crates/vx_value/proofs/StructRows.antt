@@ -17,7 +17,7 @@ use Rattle.vx_value.specs.declared.value.Value.{Value}
 use Rattle.vx_value.specs.Types.{Name, LogicalType, ty, struct, Datum, null, struct_of}
 use Rattle.vx_value.specs.Fields.{data_of, fields_named}
 use Rattle.vx_value.specs.Fits.{Fits, IsBatch, EachFits}
-use Rattle.vx_dtype.specs.Lists.{none_beside, more_beside}
+use Rattle.vx_dtype.specs.Lists.{forall2_nil, forall2_cons}
 use Rattle.vx_value.specs.Views.{admits_null, fields_of, type_of, value_of}
 use Rattle.vx_value.specs.Columns.{Batch, first_misfit}
 use Rattle.vx_value.specs.StructColumns.{rows_in, types_in, EachFit, all_long, HaveRow, row_at, struct_at, struct_rows, struct_type}
@@ -67,9 +67,9 @@ rows_there n (c ∷ cs) e k h =
     All-cons (IsLong k) c.rows (rows_in cs) (omega arith) (rows_there n cs parts.1 k h)
 
 row_fits : (cs : List Batch) (k : ℕ) → EachFit cs → HaveRow k (rows_in cs) → EachFits (row_at k (rows_in cs)) (types_in cs)
-row_fits [] k fit h = none_beside
+row_fits [] k fit h = forall2_nil
 row_fits (c ∷ cs) k fit h =
-    more_beside (fits_at c.type c.rows k null (All-head RowsFit c cs fit) (All-head (IsLong k) c.rows (rows_in cs) h))
+    forall2_cons (fits_at c.type c.rows k null (All-head RowsFit c cs fit) (All-head (IsLong k) c.rows (rows_in cs) h))
     (row_fits cs k (All-tail RowsFit c cs fit) (All-tail (IsLong k) c.rows (rows_in cs) h))
 
 each_fits : (t : LogicalType) (f : ℕ → Datum) (a n : ℕ) → ((k : ℕ) → k < a + n → Fits (f k) t) → IsBatch t (map f (range_with_len a n))

@@ -1,7 +1,7 @@
 -- Which values are of a type.
 use Rattle.std.specs.Prelude.{ℕ, ◌+◌, ◌^◌, Bool, true, false, ◌&&◌, ◌==◌, List, ℤ, pos, negsuc, IsTrue, nat_lt}
 use Rattle.std.specs.List.{list_all}
-use Rattle.vx_dtype.specs.Lists.{Beside}
+use Rattle.vx_dtype.specs.Lists.{Forall2}
 use Rattle.vx_dtype.specs.declared.dtype.PType.{PType}
 use Rattle.vx_value.specs.Types.{bits, is_signed, truth, number, text, octets, LogicalType, ty, atomic, list, fixed, struct, Fields, no_field, field, Datum, null, bool, int, utf8, bytes, list_of, struct_of, Data, no_datum, datum}
 
@@ -49,4 +49,4 @@ IsBatch s batch = IsTrue (list_all (λ v. fits v s) batch)
 
 -- each value is one of the type beside it
 abbrev pub EachFits : List Datum → List LogicalType → Type 0
-EachFits = Beside Fits
+EachFits = Forall2 Fits

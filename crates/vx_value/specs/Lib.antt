@@ -11,7 +11,7 @@ pub mod Columns
 pub mod StructColumns
 pub mod Paths
 pub mod ValueTexts
-pub use Rattle.vx_dtype.specs.Answers
+pub use Rattle.vx_dtype.specs.Returns
 pub use Rattle.vx_dtype.specs.Joins
 pub use Rattle.vx_dtype.specs.Names
 pub use Rattle.vx_dtype.specs.Texts

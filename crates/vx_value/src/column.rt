@@ -1,7 +1,7 @@
 // Columns: rows of one type.
 ghost use Rattle.std.specs.Prelude.{◌≡◌, ⊤, ◌<◌, ◌==◌, IsOkAnd, IsErrOf, MatchOption, None, Ok, length, map, get_or};
 ghost use Rattle.std.specs.Cmp.{partial_equiv_from_equiv};
-ghost use Rattle.vx_value.specs.Answers.{Answers};
+ghost use Rattle.vx_value.specs.Returns.{ReturnsOrOom};
 ghost use Rattle.vx_value.specs.Columns.{batch, first_misfit, equal_batch};
 ghost use Rattle.vx_value.specs.Deciding.{equal_batch_equiv};
 ghost use Rattle.vx_value.specs.Types.{null};
@@ -73,7 +73,7 @@ impl Column {
     /// has them as they are. Moves the rows into a block of their own, unless they are in one.
     /// Refuses with `OutOfMemory` (1) alone.
     pub fn into_shared(self, alloc: Global) -> VortexResult<Column>
-        ensures { Answers (λ c. c) result (Ok self) }
+        ensures { ReturnsOrOom (λ c. c) result (Ok self) }
     {
         let Column { dtype, rows } = self;
         Ok(Column::from_shared(dtype, rows.into_shared(alloc)?))

@@ -1,6 +1,6 @@
 // The values of a column, which it holds by itself or shares.
 ghost use Rattle.std.specs.Prelude.{◌≡◌, ⊤, IfOk, MatchOption, Ok, map};
-ghost use Rattle.vx_value.specs.Answers.{Answers};
+ghost use Rattle.vx_value.specs.Returns.{ReturnsOrOom};
 ghost use Rattle.vx_value.specs.Views.{rows_held, value_of};
 
 use crate::Value;
@@ -41,7 +41,7 @@ impl ColumnRows {
     /// The same values, which others may share from now on: in a block of their own, unless they
     /// are in one. Refuses with `OutOfMemory` (1) alone.
     pub fn into_shared(self, alloc: Global) -> VortexResult<Rc<Vec<Value>>>
-        ensures { Answers (λ values. map value_of values.value.items) result (Ok (rows_held self)) }
+        ensures { ReturnsOrOom (λ values. map value_of values.value.items) result (Ok (rows_held self)) }
     {
         match self {
             ColumnRows::Own(values) => Ok(Rc::new(alloc, values)?),

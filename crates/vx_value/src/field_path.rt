@@ -3,7 +3,7 @@ ghost use Rattle.std.specs.Prelude.{◌≡◌, ◌==◌, ◌++◌, ◌∷◌, []
 ghost use Rattle.std.specs.Cmp.{on_equiv, on_per, partial_equiv_from_equiv};
 ghost use Rattle.std.specs.Hash as fed;
 ghost use Rattle.std.specs.Str.{bytes_eq};
-ghost use Rattle.vx_value.specs.Answers.{Answers, Exactly};
+ghost use Rattle.vx_value.specs.Returns.{ReturnsOrOom, Returns};
 ghost use Rattle.vx_value.specs.Deciding.{equal_path_equiv, name_equiv, name_alike, names_alike};
 ghost use Rattle.vx_value.specs.Paths.{equal_path, part_name, path_of};
 
@@ -76,7 +76,7 @@ impl Model for FieldPath {
 impl FieldPath {
     /// The path of no name, which leads to the whole row. Takes no memory, and so never refuses.
     pub fn root(alloc: Global) -> VortexResult<FieldPath>
-        ensures { Exactly (λ p. p) result (Ok []) }
+        ensures { Returns (λ p. p) result (Ok []) }
     {
         Ok(FieldPath {
             parts: Vec::new(alloc),
@@ -85,14 +85,14 @@ impl FieldPath {
 
     /// The path of that one name. Refuses with `OutOfMemory` (1) alone.
     pub fn from_name(alloc: Global, name: FieldName) -> VortexResult<FieldPath>
-        ensures { Answers (λ p. p) result (Ok (name ∷ [])) }
+        ensures { ReturnsOrOom (λ p. p) result (Ok (name ∷ [])) }
     {
         FieldPath::root(alloc)?.push(alloc, name)
     }
 
     /// The path that goes on to the field of that name. Refuses with `OutOfMemory` (1) alone.
     pub fn push(self, _alloc: Global, name: FieldName) -> VortexResult<FieldPath>
-        ensures { Answers (λ p. p) result (Ok (self ++ name ∷ [])) }
+        ensures { ReturnsOrOom (λ p. p) result (Ok (self ++ name ∷ [])) }
     {
         let FieldPath { mut parts } = self;
         parts.push(Field::Name(name))?;

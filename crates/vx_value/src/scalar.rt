@@ -1,7 +1,7 @@
 // A value with its type.
 ghost use Rattle.std.specs.Prelude.{◌≡◌, Ok, IfOk, map, IsTrue, pos};
 ghost use Rattle.std.specs.Cmp.{partial_equiv_from_equiv};
-ghost use Rattle.vx_value.specs.Answers.{Answers, Exactly};
+ghost use Rattle.vx_value.specs.Returns.{ReturnsOrOom, Returns};
 ghost use Rattle.vx_value.specs.Columns.{Constant, struct_value, constant, constant_or_misfit, truth_constant, number_constant, text_constant, octets_constant};
 ghost use Rattle.vx_value.specs.Columns.{equal_constant, constant_fed};
 ghost use Rattle.vx_value.specs.Deciding.{equal_constant_equiv, constant_alike};
@@ -40,7 +40,7 @@ impl Model for Scalar {
 impl Scalar {
     /// The value of that type. Refuses with `RowMisfit` (18) and row 0 where it is none of the type.
     pub fn try_new(dtype: DType, value: Value) -> VortexResult<Scalar>
-        ensures { Exactly (λ s. s) result (constant_or_misfit (type_of dtype) (value_of value)) }
+        ensures { Returns (λ s. s) result (constant_or_misfit (type_of dtype) (value_of value)) }
     {
         if value.fits(&dtype) {
             Ok(Scalar { dtype, value })
@@ -128,7 +128,7 @@ impl Scalar {
 
     /// The text, of a type without null. Refuses with `OutOfMemory` (1) alone.
     pub fn utf8(alloc: Global, text: &str) -> VortexResult<Scalar>
-        ensures { Answers (λ s. s) result (Ok (text_constant text.now)) }
+        ensures { ReturnsOrOom (λ s. s) result (Ok (text_constant text.now)) }
     {
         Ok(Scalar {
             dtype: DType::Utf8(Nullability::NonNullable),
@@ -138,7 +138,7 @@ impl Scalar {
 
     /// The bytes, of a type without null. Refuses with `OutOfMemory` (1) alone.
     pub fn binary(alloc: Global, bytes: &[u8]) -> VortexResult<Scalar>
-        ensures { Answers (λ s. s) result (Ok (octets_constant bytes.now)) }
+        ensures { ReturnsOrOom (λ s. s) result (Ok (octets_constant bytes.now)) }
     {
         Ok(Scalar {
             dtype: DType::Binary(Nullability::NonNullable),
@@ -151,7 +151,7 @@ impl Scalar {
     /// alone.
     pub fn struct_(alloc: Global, dtype: DType, fields: Vec<Scalar>) -> VortexResult<Scalar>
         requires { Fits (struct_value fields.items) (type_of dtype) }
-        ensures { Answers (λ s. s) result (Ok (constant (type_of dtype) (struct_value fields.items))) }
+        ensures { ReturnsOrOom (λ s. s) result (Ok (constant (type_of dtype) (struct_value fields.items))) }
     {
         let values = values_of(alloc, fields)?;
         Ok(Scalar {

@@ -1,6 +1,6 @@
 // Columns joined into a column of structs.
 ghost use Rattle.std.specs.Prelude.{◌≡◌, ◌<◌, ℕ, IsErrOf, IfOk, false, length, map};
-ghost use Rattle.vx_value.specs.Answers.{Answers};
+ghost use Rattle.vx_value.specs.Returns.{ReturnsOrOom};
 ghost use Rattle.vx_value.specs.StructColumns.{all_long, rows_in, types_in, HaveRow, struct_rows, struct_column, EachFit, columns_of};
 ghost use Rattle.vx_value.specs.Views.{admits_null, type_of, value_of};
 ghost use Rattle.vx_dtype.specs.declared.error.VortexError.TheVariants.{LengthMismatch};
@@ -23,7 +23,7 @@ impl Column {
         nullability: Nullability,
     ) -> VortexResult<Column>
         requires { length names ≡ length columns.items }
-        ensures column { Answers (λ c. c) result (struct_column names columns.items rows (admits_null nullability)) }
+        ensures column { ReturnsOrOom (λ c. c) result (struct_column names columns.items rows (admits_null nullability)) }
         ensures mismatch { all_long rows columns.items ≡ false → IsErrOf result LengthMismatch }
     {
         if !all_long(columns.as_slice(), rows) {

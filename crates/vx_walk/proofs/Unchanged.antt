@@ -3,7 +3,7 @@ use Rattle.std.proofs.Common.{◌≡◌, List, [], ◌∷◌, ◌++◌, refl, ap
 use Rattle.std.specs.List.{FoldsTo}
 use Rattle.vx_dtype.specs.declared.error.VortexError.{VortexError}
 use Rattle.vx_dtype.specs.declared.error.VortexError.TheVariants.{OutOfMemory}
-use Rattle.vx_value.specs.Answers.{Answers}
+use Rattle.vx_value.specs.Returns.{ReturnsOrOom}
 use Rattle.vx_walk.specs.declared.order.TraversalOrder.{TraversalOrder}
 use Rattle.vx_walk.specs.declared.order.TraversalOrder.TheVariants.{Continue}
 use Rattle.vx_walk.specs.declared.transformed.Transformed.{Transformed}
@@ -111,12 +111,12 @@ AllKeep-steps D U d u v (up m a ∷ es) w s = (u v m a s.0 s.1, AllKeep-steps D 
 AtOwned-keeps : {V N M : Type 0} (mirror : N → M) (R : V → N → Back N → V → Type 0) → HandsBack mirror R → (v : V) (m : M) (a : Back M) (w : V) → AtOwned mirror R v m a w → a ≡ Ok (unchanged m)
 AtOwned-keeps mirror R h v m a w k = sym k.sees ∙ (h v k.node k.answer w k.step ∙ ap (λ x. Ok (unchanged x)) k.looks)
 
-told : {N M : Type 0} (mirror : N → M) (n : M) (result : Back N) → Stays n (seen mirror result) → Answers (looking mirror) result (Ok (unchanged n))
+told : {N M : Type 0} (mirror : N → M) (n : M) (result : Back N) → Stays n (seen mirror result) → ReturnsOrOom (looking mirror) result (Ok (unchanged n))
 told mirror n (Ok t) (inl q) = sym q
 told mirror n (Ok t) (inr q) = absurd cc
 told mirror n (Err e) k = inl (Stays-refused k)
 
 -- the law
-pub Rewritten-unchanged : {V N M : Type 0} (mirror : N → M) (kids : M → List M) (B : M → List M → Result M VortexError → Type 0) (D U : V → N → Back N → V → Type 0) (n : M) (v w : V) (result : Back N) → Rewritten kids B (AtOwned mirror D) (AtOwned mirror U) n v w (seen mirror result) → HandsBack mirror D → HandsBack mirror U → Answers (looking mirror) result (Ok (unchanged n))
+pub Rewritten-unchanged : {V N M : Type 0} (mirror : N → M) (kids : M → List M) (B : M → List M → Result M VortexError → Type 0) (D U : V → N → Back N → V → Type 0) (n : M) (v w : V) (result : Back N) → Rewritten kids B (AtOwned mirror D) (AtOwned mirror U) n v w (seen mirror result) → HandsBack mirror D → HandsBack mirror U → ReturnsOrOom (looking mirror) result (Ok (unchanged n))
 Rewritten-unchanged mirror kids B D U n v w result r d u =
     told mirror n result (Rewrite-stays kids B r.is (AllKeep-steps _ _ (AtOwned-keeps mirror D d) (AtOwned-keeps mirror U u) v r.events w r.steps))

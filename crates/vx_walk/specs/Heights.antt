@@ -4,7 +4,7 @@ use Rattle.std.specs.List.{Contains}
 use Rattle.std.proofs.Common.{ap, subst, ◌∙◌, arith, suc, zero}
 use Rattle.vx_dtype.specs.declared.error.VortexError.{VortexError}
 use Rattle.vx_dtype.specs.declared.error.VortexError.TheVariants.{ArityMismatch}
-use Rattle.vx_value.specs.Answers.{Answers, Exactly}
+use Rattle.vx_value.specs.Returns.{ReturnsOrOom, Returns}
 use Rattle.vx_value.specs.Types.{LogicalType}
 use Rattle.vx_fn.specs.Functions.{Function, arity_of, fn_type}
 use Rattle.vx_tree.specs.Binding.{node_over}
@@ -47,17 +47,17 @@ bound_height_of b = height_of (unbound b)
 
 -- what `with_children` answers for a tree and other children, all seen as trees
 pub record RebuildsTree (e : Tree) (es : List Tree) (answer : Result Tree VortexError) : Type 0 where
-  pub node : Answers (λ t. t) answer (tree_over e (trees_from es))
-  pub refusal : IsErr (tree_over e (trees_from es)) → Exactly (λ t. t) answer (tree_over e (trees_from es))
-  pub scope : e ≡ root → Exactly (λ t. t) answer (tree_over e (trees_from es))
+  pub node : ReturnsOrOom (λ t. t) answer (tree_over e (trees_from es))
+  pub refusal : IsErr (tree_over e (trees_from es)) → Returns (λ t. t) answer (tree_over e (trees_from es))
+  pub scope : e ≡ root → Returns (λ t. t) answer (tree_over e (trees_from es))
 
 -- what `with_children` answers for a bound tree and other children, all seen as bound trees
 pub record RebuildsBound (b : BoundTree) (bs : List BoundTree) (answer : Result BoundTree VortexError) : Type 0 where
-  pub node : Answers (λ t. t) answer (bound_over b (bounds_from bs))
+  pub node : ReturnsOrOom (λ t. t) answer (bound_over b (bounds_from bs))
   pub well_typed : EachWellTyped (bounds_from bs) → IfOk answer WellTyped
-  pub same : WellTyped b → bounds_from bs ≡ bound_children_of b → Answers (λ t. t) answer (Ok b)
+  pub same : WellTyped b → bounds_from bs ≡ bound_children_of b → ReturnsOrOom (λ t. t) answer (Ok b)
   pub number : IfSome (number_refusal b (bounds_from bs)) (λ e. answer ≡ Err e)
-  pub scope : IsTrue (is_root (unbound b)) → Exactly (λ t. t) answer (bound_over b (bounds_from bs))
+  pub scope : IsTrue (is_root (unbound b)) → Returns (λ t. t) answer (bound_over b (bounds_from bs))
 
 pub items-trees : (es : List Tree) → items_of (trees_from es) ≡ es
 items-trees [] = refl

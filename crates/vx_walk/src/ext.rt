@@ -1,6 +1,6 @@
 // Walks, rewrites and folds as calls of a node.
 ghost use Rattle.std.specs.Prelude.{◌≡◌, ◌≤◌, Ok};
-ghost use Rattle.vx_value.specs.Answers.{Answers};
+ghost use Rattle.vx_value.specs.Returns.{ReturnsOrOom};
 ghost use Rattle.vx_walk.specs.Folds.{Folded};
 ghost use Rattle.vx_walk.specs.Handed.{unchanged, looking, seen};
 ghost use Rattle.vx_walk.specs.Mapping.{AtOwned};
@@ -65,7 +65,7 @@ pub trait NodeExt: Node {
     ) -> VortexResult<Transformed<Self>>
         requires { R.ready rewriter.old }
         ensures rewritten { Rewritten Self.kids Self.rebuild_gives (AtOwned Self.mirror R.down_gives) (AtOwned Self.mirror R.up_gives) (Self.mirror self) rewriter.old rewriter.new (seen Self.mirror result) }
-        ensures unchanged { HandsBack Self.mirror R.down_gives → HandsBack Self.mirror R.up_gives → Answers (looking Self.mirror) result (Ok (unchanged (Self.mirror self))) }
+        ensures unchanged { HandsBack Self.mirror R.down_gives → HandsBack Self.mirror R.up_gives → ReturnsOrOom (looking Self.mirror) result (Ok (unchanged (Self.mirror self))) }
         ensures ready { R.ready rewriter.new }
     {
         rewrite_node(alloc, self, rewriter)
@@ -82,7 +82,7 @@ pub trait NodeExt: Node {
         requires callable { F.IsAlwaysCallable f }
         requires no_higher { (g h : F) (n : Self) (t : _) → F.step g n (Ok t) h → t.order ≡ Continue → Self.height (Self.mirror t.value) ≤ Self.height (Self.mirror n) }
         ensures transformed { TransformedDown Self.kids Self.rebuild_gives (AtOwned Self.mirror F.step) (Self.mirror self) f (seen Self.mirror result) }
-        ensures unchanged { HandsBack Self.mirror F.step → Answers (looking Self.mirror) result (Ok (unchanged (Self.mirror self))) }
+        ensures unchanged { HandsBack Self.mirror F.step → ReturnsOrOom (looking Self.mirror) result (Ok (unchanged (Self.mirror self))) }
     {
         let mut rewriter = FnRewriter { f, of: PhantomData };
         rewrite_node(alloc, self, &mut rewriter)

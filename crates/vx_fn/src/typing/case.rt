@@ -1,7 +1,7 @@
 // The type of a CASE, whose children are conditions and values in turn, and the ELSE value last.
 ghost use Rattle.std.specs.Prelude.{◌≡◌, ℕ, map, Ok, option_map};
 ghost use Rattle.std.specs.List.{list_all};
-ghost use Rattle.vx_value.specs.Answers.{Answers};
+ghost use Rattle.vx_value.specs.Returns.{ReturnsOrOom};
 ghost use Rattle.vx_value.specs.Joins.{union_all};
 ghost use Rattle.vx_value.specs.Views.{type_of};
 ghost use Rattle.vx_fn.specs.Functions.{case_when, is_truth, case_type, case_union, conditions, branches};
@@ -17,7 +17,7 @@ pub(super) fn case_dtype<T: Typed>(
     options: CaseWhenOptions,
     children: &[T],
 ) -> VortexResult<DType>
-    ensures typed { Answers type_of result (case_type options.num_when_then_pairs options.has_else (map T.dtype_of children.now)) }
+    ensures typed { ReturnsOrOom type_of result (case_type options.num_when_then_pairs options.has_else (map T.dtype_of children.now)) }
     ensures early { RefusesEarly (case_when options.num_when_then_pairs options.has_else) type_of result (case_type options.num_when_then_pairs options.has_else (map T.dtype_of children.now)) }
 {
     if options.num_when_then_pairs == 0 {
@@ -41,7 +41,7 @@ fn are_truths<T: Typed>(children: &[T]) -> bool
 
 // The union of the branches, nullable where there is no ELSE.
 fn branches_dtype<T: Typed>(alloc: Global, has_else: bool, children: &[T]) -> VortexResult<DType>
-    ensures typed { Answers type_of result (case_union has_else (branches (map T.dtype_of children.now))) }
+    ensures typed { ReturnsOrOom type_of result (case_union has_else (branches (map T.dtype_of children.now))) }
     ensures early { RefusesEarly (case_when 0 has_else) type_of result (case_union has_else (branches (map T.dtype_of children.now))) }
 {
     let joined = match children {
@@ -61,7 +61,7 @@ fn branches_dtype<T: Typed>(alloc: Global, has_else: bool, children: &[T]) -> Vo
 
 // The union of a type and the branches of what is left of the children.
 fn joined_branches<T: Typed>(alloc: Global, t: DType, children: &[T]) -> VortexResult<Option<DType>>
-    ensures { Answers (option_map type_of) result (Ok (union_all (type_of t) (branches (map T.dtype_of children.now)))) }
+    ensures { ReturnsOrOom (option_map type_of) result (Ok (union_all (type_of t) (branches (map T.dtype_of children.now)))) }
 {
     match children {
         [] => Ok(Some(t)),

@@ -1,6 +1,6 @@
 // The types of nodes that make a struct or take one apart.
 ghost use Rattle.std.specs.Prelude.{◌≡◌, ℕ, map, IfOk, length};
-ghost use Rattle.vx_value.specs.Answers.{Answers};
+ghost use Rattle.vx_value.specs.Returns.{ReturnsOrOom};
 ghost use Rattle.vx_value.specs.Views.{type_of, fields_of, admits_null};
 ghost use Rattle.vx_fn.specs.Functions.{get_item, select, item_type, pack_type, select_type, selected};
 ghost use Rattle.vx_fn.specs.Memory.{RefusesEarly};
@@ -10,7 +10,7 @@ use std::alloc::{AllocError, Global};
 use vx_types::{DType, FieldName, Nullability, StructFields, VortexError, VortexResult};
 
 pub(super) fn item_dtype(name: &FieldName, t: &DType) -> VortexResult<DType>
-    ensures typed { Answers type_of result (item_type name.now (type_of t.now)) }
+    ensures typed { ReturnsOrOom type_of result (item_type name.now (type_of t.now)) }
     ensures early { RefusesEarly (get_item name.now) type_of result (item_type name.now (type_of t.now)) }
 {
     match t {
@@ -31,7 +31,7 @@ pub(super) fn pack_dtype<T: Typed>(
     children: &[T],
 ) -> VortexResult<DType>
     requires { length children.now ≡ length options.now.names }
-    ensures { Answers type_of result (pack_type options.now.names (admits_null options.now.nullability) (map T.dtype_of children.now)) }
+    ensures { ReturnsOrOom type_of result (pack_type options.now.names (admits_null options.now.nullability) (map T.dtype_of children.now)) }
 {
     let copies = dtypes_of(alloc, children)?;
     let fields = StructFields::new(alloc, options.names.clone()?, copies)?;
@@ -55,7 +55,7 @@ pub(super) fn select_dtype(
     selection: &FieldSelection,
     t: &DType,
 ) -> VortexResult<DType>
-    ensures typed { Answers type_of result (select_type selection.now (type_of t.now)) }
+    ensures typed { ReturnsOrOom type_of result (select_type selection.now (type_of t.now)) }
     ensures early { RefusesEarly (select selection.now) type_of result (select_type selection.now (type_of t.now)) }
 {
     match t {
@@ -72,7 +72,7 @@ fn selected(
     selection: &FieldSelection,
     fields: &StructFields,
 ) -> VortexResult<StructFields>
-    ensures { Answers fields_of result (selected selection.now (fields_of fields.now)) }
+    ensures { ReturnsOrOom fields_of result (selected selection.now (fields_of fields.now)) }
 {
     match selection {
         FieldSelection::Include(names) => fields.project(alloc, names),

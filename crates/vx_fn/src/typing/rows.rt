@@ -1,6 +1,6 @@
 // The types of nodes whose function looks at types alone: a function for each row of the table.
 ghost use Rattle.std.specs.Prelude.{◌≡◌, Ok};
-ghost use Rattle.vx_value.specs.Answers.{Answers, Exactly};
+ghost use Rattle.vx_value.specs.Returns.{ReturnsOrOom, Returns};
 ghost use Rattle.vx_value.specs.Fits.{Fits};
 ghost use Rattle.vx_value.specs.Views.{type_of};
 ghost use Rattle.vx_fn.specs.Functions.{fill_null, zip, mask as mask_function, cast, is_truth, is_text, is_number, is_atomic, truth_type, binary_type, comparison_type, logic_type, sum_type, fill_type, zip_type, not_type, between_type, like_type, mask_type, cast_type};
@@ -13,7 +13,7 @@ use vx_types::{DType, Nullability, Scalar, VortexError, VortexResult};
 
 // Reading the value tells that it is one of the type.
 pub(super) fn literal_dtype(scalar: &Scalar) -> VortexResult<DType>
-    ensures typed { Answers type_of result (Ok scalar.now.type) }
+    ensures typed { ReturnsOrOom type_of result (Ok scalar.now.type) }
     ensures fits { Fits scalar.now.value scalar.now.type }
 {
     let _value = scalar.value();
@@ -21,7 +21,7 @@ pub(super) fn literal_dtype(scalar: &Scalar) -> VortexResult<DType>
 }
 
 pub(super) fn fill_dtype(t: &DType, u: &DType) -> VortexResult<DType>
-    ensures typed { Answers type_of result (fill_type (type_of t.now) (type_of u.now)) }
+    ensures typed { ReturnsOrOom type_of result (fill_type (type_of t.now) (type_of u.now)) }
     ensures early { RefusesEarly fill_null type_of result (fill_type (type_of t.now) (type_of u.now)) }
 {
     if !t.eq_ignore_nullability(u) {
@@ -31,7 +31,7 @@ pub(super) fn fill_dtype(t: &DType, u: &DType) -> VortexResult<DType>
 }
 
 pub(super) fn zip_dtype(alloc: Global, t: &DType, u: &DType, mask: &DType) -> VortexResult<DType>
-    ensures typed { Answers type_of result (zip_type (type_of t.now) (type_of u.now) (type_of mask.now)) }
+    ensures typed { ReturnsOrOom type_of result (zip_type (type_of t.now) (type_of u.now) (type_of mask.now)) }
     ensures early { RefusesEarly zip type_of result (zip_type (type_of t.now) (type_of u.now) (type_of mask.now)) }
 {
     if !is_truth(mask) {
@@ -44,7 +44,7 @@ pub(super) fn zip_dtype(alloc: Global, t: &DType, u: &DType, mask: &DType) -> Vo
 }
 
 pub(super) fn binary_dtype(operator: Operator, t: &DType, u: &DType) -> VortexResult<DType>
-    ensures { Exactly type_of result (binary_type (operation_of operator) (type_of t.now) (type_of u.now)) }
+    ensures { Returns type_of result (binary_type (operation_of operator) (type_of t.now) (type_of u.now)) }
 {
     match operator {
         Operator::Eq
@@ -59,7 +59,7 @@ pub(super) fn binary_dtype(operator: Operator, t: &DType, u: &DType) -> VortexRe
 }
 
 fn comparison_dtype(t: &DType, u: &DType) -> VortexResult<DType>
-    ensures { Exactly type_of result (comparison_type (type_of t.now) (type_of u.now)) }
+    ensures { Returns type_of result (comparison_type (type_of t.now) (type_of u.now)) }
 {
     if !(is_atomic(t) && is_atomic(u)) {
         return Err(VortexError::NotComparable);
@@ -72,7 +72,7 @@ fn comparison_dtype(t: &DType, u: &DType) -> VortexResult<DType>
 }
 
 fn logic_dtype(t: &DType, u: &DType) -> VortexResult<DType>
-    ensures { Exactly type_of result (logic_type (type_of t.now) (type_of u.now)) }
+    ensures { Returns type_of result (logic_type (type_of t.now) (type_of u.now)) }
 {
     if !(is_truth(t) && is_truth(u)) {
         return Err(VortexError::NotBool);
@@ -81,7 +81,7 @@ fn logic_dtype(t: &DType, u: &DType) -> VortexResult<DType>
 }
 
 fn sum_dtype(t: &DType, u: &DType) -> VortexResult<DType>
-    ensures { Exactly type_of result (sum_type (type_of t.now) (type_of u.now)) }
+    ensures { Returns type_of result (sum_type (type_of t.now) (type_of u.now)) }
 {
     match (t, u) {
         (DType::Primitive(p, _), DType::Primitive(_, _)) => {
@@ -96,7 +96,7 @@ fn sum_dtype(t: &DType, u: &DType) -> VortexResult<DType>
 }
 
 pub(super) fn not_dtype(t: &DType) -> VortexResult<DType>
-    ensures { Exactly type_of result (not_type (type_of t.now)) }
+    ensures { Returns type_of result (not_type (type_of t.now)) }
 {
     match t {
         DType::Bool(n) => Ok(DType::Bool(*n)),
@@ -105,7 +105,7 @@ pub(super) fn not_dtype(t: &DType) -> VortexResult<DType>
 }
 
 pub(super) fn between_dtype(t: &DType, lower: &DType, upper: &DType) -> VortexResult<DType>
-    ensures { Exactly type_of result (between_type (type_of t.now) (type_of lower.now) (type_of upper.now)) }
+    ensures { Returns type_of result (between_type (type_of t.now) (type_of lower.now) (type_of upper.now)) }
 {
     if !(is_atomic(t) && is_atomic(lower) && is_atomic(upper)) {
         return Err(VortexError::NotComparable);
@@ -117,7 +117,7 @@ pub(super) fn between_dtype(t: &DType, lower: &DType, upper: &DType) -> VortexRe
 }
 
 pub(super) fn like_dtype(t: &DType, pattern: &DType) -> VortexResult<DType>
-    ensures { Exactly type_of result (like_type (type_of t.now) (type_of pattern.now)) }
+    ensures { Returns type_of result (like_type (type_of t.now) (type_of pattern.now)) }
 {
     if !(is_text(t) && is_text(pattern)) {
         return Err(VortexError::NotText);
@@ -126,7 +126,7 @@ pub(super) fn like_dtype(t: &DType, pattern: &DType) -> VortexResult<DType>
 }
 
 pub(super) fn mask_dtype(t: &DType, mask: &DType) -> VortexResult<DType>
-    ensures typed { Answers type_of result (mask_type (type_of t.now) (type_of mask.now)) }
+    ensures typed { ReturnsOrOom type_of result (mask_type (type_of t.now) (type_of mask.now)) }
     ensures early { RefusesEarly mask_function type_of result (mask_type (type_of t.now) (type_of mask.now)) }
 {
     if !(is_truth(mask) && !mask.is_nullable()) {
@@ -136,7 +136,7 @@ pub(super) fn mask_dtype(t: &DType, mask: &DType) -> VortexResult<DType>
 }
 
 pub(super) fn cast_dtype(target: &DType, t: &DType) -> VortexResult<DType>
-    ensures typed { Answers type_of result (cast_type (type_of target.now) (type_of t.now)) }
+    ensures typed { ReturnsOrOom type_of result (cast_type (type_of target.now) (type_of t.now)) }
     ensures early { RefusesEarly (cast (type_of target.now)) type_of result (cast_type (type_of target.now) (type_of t.now)) }
 {
     if !t.eq_ignore_nullability(target) {

@@ -3,7 +3,7 @@ ghost use Rattle.std.specs.Prelude.{◌≡◌, ◌<◌, length, get_or, [], map}
 ghost use Rattle.std.specs.Fmt.{WritesOnOk};
 ghost use Rattle.vx_value.specs.Views.{admits_null};
 ghost use Rattle.vx_fn.specs.Texts.{with_commas, named_texts, pack_sql};
-ghost use Rattle.vx_source_dtype.specs.Names.{name_source};
+ghost use Rattle.vx_source_types.specs.Names.{name_source};
 ghost use Rattle.vx_source_writer.specs.SourceTexts.{sources_of};
 
 use super::write_child;

@@ -5,7 +5,7 @@ use std::fmt::Write;
 use std::process::Abort;
 use std::rc::Rc;
 use std::test::Fail;
-use vx_test_samples::{boxed, reads};
+use vx_test_support::{boxed, reads};
 use vx_tree::{Expression, Scalar, VortexError, VortexResult};
 use vx_walk::TraversalOrder::{Continue, Skip, Stop};
 use vx_walk::{NodeContainer, Transformed, apply_ref_elements};

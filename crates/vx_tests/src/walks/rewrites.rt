@@ -11,7 +11,7 @@ use std::marker::PhantomData;
 use std::process::Abort;
 use std::test::Fail;
 use vx_build::{lit, root};
-use vx_test_samples::{boxed, reads};
+use vx_test_support::{boxed, reads};
 use vx_tree::{BoundExpression, Expression, GetItem, Scalar, VortexError, VortexResult};
 use vx_walk::TraversalOrder::{Continue, Stop};
 use vx_walk::{Node, NodeExt, NodeRewriter, Transformed, TraversalOrder};

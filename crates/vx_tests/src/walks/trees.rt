@@ -1,7 +1,7 @@
 // The trees that are walked.
 use std::alloc::Global;
 use std::test::Fail;
-use vx_test_samples::{bound, boxed};
+use vx_test_support::{bound, boxed};
 use vx_tree::test_harness::struct_dtype;
 use vx_tree::{BoundExpression, Expression, FieldName, GetItem};
 

@@ -3,7 +3,7 @@ use Rattle.std.specs.Prelude.{Err}
 use Rattle.vx_value.specs.Views.{type_of, value_of}
 use Rattle.std.specs.Global.{Vec}
 use Rattle.vx_value.specs.declared.value.Value.{Value}
-use Rattle.vx_data_buffers.specs.Answers.{Answers, each_from}
+use Rattle.vx_data_buffers.specs.Results.{BufferReturnsOrOom, each_from}
 use Rattle.vx_data_buffers.specs.Bytes.{bytes_in}
 use Rattle.vx_data_buffers.specs.Rows.{row_of}
 use Rattle.vx_data_buffers.proofs.Grown.{fit_after}
@@ -21,5 +21,5 @@ pub returns-in_err-row_of-clause-rows : goal.returns-in_err-row_of-clause-rows
 returns-in_err-row_of-clause-rows c =
     let f = row_of (bytes_in c.args.buffers.now) (type_of c.args.t.now) in
     let failed : c.from_residual.result ≡ Err c.in_err-row_of.field-0.0 = search rules in
-    subst (λ r. Answers (λ (vs : Vec Value). map value_of vs.items) r (each_from f 0 c.args.rows)) (sym failed)
+    subst (λ r. BufferReturnsOrOom (λ (vs : Vec Value). map value_of vs.items) r (each_from f 0 c.args.rows)) (sym failed)
     (refused f 0 c.loop-row.row c.args.rows c.loop-row.row _ _ _ (omega arith) (omega arith) c.loop-row.invariant.rows c.in_err-row_of.ensures.value)

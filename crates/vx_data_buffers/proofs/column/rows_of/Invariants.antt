@@ -2,7 +2,7 @@ use Rattle.std.proofs.Common.{◌≡◌, map}
 use Rattle.std.specs.Prelude.{None, Ok}
 use Rattle.vx_value.specs.Columns.{first_misfit}
 use Rattle.vx_value.specs.Views.{type_of, value_of}
-use Rattle.vx_data_buffers.specs.Answers.{each_from}
+use Rattle.vx_data_buffers.specs.Results.{each_from}
 use Rattle.vx_data_buffers.specs.Bytes.{bytes_in}
 use Rattle.vx_data_buffers.specs.Rows.{row_of}
 use Rattle.vx_data_buffers.proofs.column.rows_of.Given as goal

@@ -6,7 +6,7 @@ use Rattle.vx_value.specs.Views.{admits_null, fields_of, names_of, type_of, valu
 use Rattle.std.specs.Prelude.{Err, Ok}
 use Rattle.vx_dtype.specs.declared.dtype.DType.{the_lemmas as the_types}
 use Rattle.vx_value.specs.declared.value.Value.{Struct, the_lemmas as the_values}
-use Rattle.vx_data_buffers.specs.Answers.{Reads, and_so, each_from}
+use Rattle.vx_data_buffers.specs.Results.{Reads, and_so, each_from}
 use Rattle.vx_data_buffers.specs.Bytes.{bytes_in}
 use Rattle.vx_data_buffers.specs.Layout.{buffer_count, field_buffer_count, fields_at, value_at}
 use Rattle.vx_data_buffers.proofs.Fields.{count_next, field_read, field_refused, fields_read}

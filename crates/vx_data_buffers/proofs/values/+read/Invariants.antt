@@ -1,7 +1,7 @@
 use Rattle.std.proofs.Common.{◌≡◌, ◌+◌, ◌-◌, ◌*◌, ◌≤◌, drop, map}
 use Rattle.std.specs.Prelude.{Ok}
 use Rattle.vx_value.specs.Views.{fields_of, fields_view, names_of, type_of, value_of}
-use Rattle.vx_data_buffers.specs.Answers.{each_from}
+use Rattle.vx_data_buffers.specs.Results.{each_from}
 use Rattle.vx_data_buffers.specs.Bytes.{bytes_in}
 use Rattle.vx_data_buffers.specs.Layout.{buffer_count, field_buffer_count, fields_at, value_at}
 use Rattle.vx_data_buffers.proofs.Fields.{behind}

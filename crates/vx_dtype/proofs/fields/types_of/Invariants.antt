@@ -1,5 +1,5 @@
 use Rattle.std.proofs.Common.{◌≡◌, drop, length}
-use Rattle.vx_dtype.specs.Answers.{projected}
+use Rattle.vx_dtype.specs.Returns.{projected}
 use Rattle.vx_dtype.specs.Views.{fields_view}
 use Rattle.vx_dtype.proofs.Built.{after}
 use Rattle.vx_dtype.proofs.fields.types_of.Given as goal

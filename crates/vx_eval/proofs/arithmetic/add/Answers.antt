@@ -5,7 +5,7 @@ use Rattle.vx_value.specs.Views.{type_of, value_of}
 use Rattle.vx_fn.specs.Functions.{binary, adds}
 use Rattle.vx_fn.specs.Values.{sum_of}
 use Rattle.vx_eval.specs.Columns.{rows_view, each_row}
-use Rattle.vx_eval_merge.proofs.Writing.{row_pushed}
+use Rattle.vx_eval_masks.proofs.Writing.{row_pushed}
 use Rattle.vx_eval.proofs.Filled.{refused, given}
 use Rattle.vx_eval.proofs.FirstRows.{add_fault, add_quiet, sum_at, inside_at}
 use Rattle.vx_eval.proofs.arithmetic.add.Goals as goal

@@ -4,7 +4,7 @@ use Rattle.vx_value.specs.Fields.{data_of}
 use Rattle.vx_value.specs.Types.{struct_of}
 use Rattle.vx_fn.specs.Functions.{pack}
 use Rattle.vx_eval.specs.Columns.{rows_views, row_at, each_row}
-use Rattle.vx_eval_merge.proofs.Writing.{row_pushed}
+use Rattle.vx_eval_masks.proofs.Writing.{row_pushed}
 use Rattle.vx_eval.proofs.Filled.{given}
 use Rattle.vx_value.proofs.TakenRows.{row_still}
 use Rattle.vx_eval.proofs.Conjoined.{have_row}

@@ -1,5 +1,5 @@
 use Rattle.std.proofs.Common.{arith}
-use Rattle.vx_eval_merge.proofs.Writing.{row_behind}
+use Rattle.vx_eval_masks.proofs.Writing.{row_behind}
 use Rattle.vx_value.specs.Views.{value_of}
 use Rattle.vx_eval.proofs.filling.made_behind.Goals as goal
 

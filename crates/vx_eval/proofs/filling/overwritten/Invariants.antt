@@ -2,7 +2,7 @@ use Rattle.std.proofs.Common.{◌≡◌, ℕ, length}
 use Rattle.vx_value.specs.Types.{Datum}
 use Rattle.vx_eval.specs.Columns.{values_of}
 use Rattle.vx_eval.specs.Kernels.{MakesRows}
-use Rattle.vx_eval_merge.proofs.Writing.{Written}
+use Rattle.vx_eval_masks.proofs.Writing.{Written}
 use Rattle.vx_eval.proofs.filling.overwritten.Given as goal
 
 abbrev pub invariant-loop-i : goal.invariant-loop-i

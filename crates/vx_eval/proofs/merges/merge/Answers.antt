@@ -2,7 +2,7 @@ use Rattle.std.proofs.Common.{◌≡◌, ◌∙◌, ap, sym, subst, length, Ok}
 use Rattle.vx_value.specs.Types.{null}
 use Rattle.vx_value.specs.Fits.{IsBatch}
 use Rattle.vx_value.specs.Views.{type_of}
-use Rattle.vx_eval_merge.specs.Merges.{merged_at, EachMask}
+use Rattle.vx_eval_masks.specs.Merges.{merged_at, EachMask}
 use Rattle.vx_eval.specs.Columns.{rows_view, rows_views, each_row, AllLong}
 use Rattle.vx_eval.specs.FirstMerged.{first_merged}
 use Rattle.vx_eval.proofs.Branches.{ready, merges_fit}

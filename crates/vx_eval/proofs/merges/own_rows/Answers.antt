@@ -1,6 +1,6 @@
 use Rattle.std.proofs.Common.{◌≡◌, ◌∙◌, ap, arith, length, sym, List, Bool}
 use Rattle.vx_value.specs.Columns.{Batch}
-use Rattle.vx_eval_mask.proofs.Pairs.{length-but}
+use Rattle.vx_eval_masks.proofs.Pairs.{length-but}
 use Rattle.vx_eval.proofs.Branches.{own_more, left_more, own_done}
 use Rattle.vx_eval.proofs.Lengths.{long_of}
 use Rattle.vx_eval.proofs.merges.own_rows.Goals as goal

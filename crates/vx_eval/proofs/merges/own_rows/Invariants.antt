@@ -1,6 +1,6 @@
 use Rattle.std.proofs.Common.{◌≡◌, ◌++◌, drop, length, true}
 use Rattle.std.proofs.Math.ListN.{replicate}
-use Rattle.vx_eval_merge.specs.Merges.{claimed, unclaimed}
+use Rattle.vx_eval_masks.specs.Merges.{claimed, unclaimed}
 use Rattle.vx_eval.specs.FirstMerged.{masks_in}
 use Rattle.vx_eval.proofs.merges.own_rows.Given as goal
 

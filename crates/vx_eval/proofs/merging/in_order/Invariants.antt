@@ -1,6 +1,6 @@
 use Rattle.std.proofs.Common.{◌≡◌, ◌≤◌, ◌-◌, length, map}
 use Rattle.vx_value.specs.Types.{null}
-use Rattle.vx_eval_merge.specs.Merges.{merged_at}
+use Rattle.vx_eval_masks.specs.Merges.{merged_at}
 use Rattle.vx_eval.specs.Choices.{SameRows}
 use Rattle.vx_eval.specs.Columns.{values_of, rows_views, each_row}
 use Rattle.vx_eval.proofs.merging.in_order.Given as goal

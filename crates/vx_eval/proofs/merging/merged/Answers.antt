@@ -1,6 +1,6 @@
 use Rattle.std.proofs.Common.{◌<◌, length, get_or, [], subst}
 use Rattle.vx_value.specs.Types.{null}
-use Rattle.vx_eval_mask.specs.Masks.{IsAll}
+use Rattle.vx_eval_masks.specs.Masks.{IsAll}
 use Rattle.vx_eval.proofs.Masked.{whole_is}
 use Rattle.vx_eval.proofs.merging.merged.Goals as goal
 

@@ -1,10 +1,10 @@
 use Rattle.std.proofs.Common.{◌≡◌, ◌<◌, ◌≤◌, ◌∙◌, ap, arith, sym, length, get_or, []}
 use Rattle.vx_value.specs.Types.{null}
 use Rattle.vx_value.specs.Views.{value_of}
-use Rattle.vx_eval_mask.specs.Masks.{IsRunFrom}
-use Rattle.vx_eval_merge.specs.Merges.{merged_at}
-use Rattle.vx_eval_merge.proofs.Apart.{merged-none}
-use Rattle.vx_eval_merge.proofs.Writing.{row_pushed}
+use Rattle.vx_eval_masks.specs.Masks.{IsRunFrom}
+use Rattle.vx_eval_masks.specs.Merges.{merged_at}
+use Rattle.vx_eval_masks.proofs.Apart.{merged-none}
+use Rattle.vx_eval_masks.proofs.Writing.{row_pushed}
 use Rattle.vx_eval.proofs.Structs.{value_of-Null}
 use Rattle.vx_value.proofs.TakenRows.{lengths_kept}
 use Rattle.vx_eval.specs.Columns.{rows_view}

@@ -1,7 +1,7 @@
 use Rattle.std.proofs.Common.{◌≡◌, ◌<◌, ◌∙◌, arith, sym, length, get_or, [], subst}
 use Rattle.std.proofs.lemmas.Grind.{common_steps}
 use Rattle.vx_value.specs.Types.{null}
-use Rattle.vx_eval_mask.specs.Masks.{IsAll}
+use Rattle.vx_eval_masks.specs.Masks.{IsAll}
 use Rattle.vx_eval.specs.Columns.{values_of}
 use Rattle.vx_eval.proofs.Masked.{whole_is, over_front, over_more, over_done}
 use Rattle.vx_eval.proofs.merging.written.Goals as goal

@@ -3,7 +3,7 @@ use Rattle.vx_value.specs.Types.{null}
 use Rattle.vx_fn.specs.Functions.{like}
 use Rattle.vx_fn.specs.Values.{liked}
 use Rattle.vx_eval.specs.Columns.{truth_datum, rows_view, each_row}
-use Rattle.vx_eval_merge.proofs.Writing.{row_pushed}
+use Rattle.vx_eval_masks.proofs.Writing.{row_pushed}
 use Rattle.vx_eval.proofs.Filled.{given}
 use Rattle.vx_eval.proofs.Likes.{liked_at}
 use Rattle.vx_eval.proofs.text.like_each.Goals as goal

@@ -1,6 +1,6 @@
 use Rattle.std.proofs.Common.{arith}
 use Rattle.vx_eval.specs.Columns.{truth_datum}
-use Rattle.vx_eval_merge.proofs.Writing.{row_pushed}
+use Rattle.vx_eval_masks.proofs.Writing.{row_pushed}
 use Rattle.vx_eval.proofs.truths.told.Goals as goal
 
 pub loop-i-preserved : goal.loop-i-preserved

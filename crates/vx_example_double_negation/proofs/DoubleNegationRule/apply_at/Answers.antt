@@ -1,4 +1,4 @@
-use Rattle.vx_rewrite_rule_sets.proofs.Answering.{answer_gives}
+use Rattle.vx_rewrite_core.proofs.Answering.{answer_gives}
 use Rattle.vx_example_double_negation.specs.DoubleNegation.{DoubleNegationAt, double_negation_decided, given}
 use Rattle.vx_example_double_negation.proofs.DoubleNegationRule.apply_at.Goals as goal
 use Rattle.vx_tree.specs.Views.{bound_of}

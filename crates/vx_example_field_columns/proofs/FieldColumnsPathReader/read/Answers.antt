@@ -1,5 +1,5 @@
 use Rattle.std.proofs.Common.{◌≡◌, subst, rules, Ok}
-use Rattle.vx_dtype.specs.Answers.{Answers}
+use Rattle.vx_dtype.specs.Returns.{ReturnsOrOom}
 use Rattle.vx_dtype.specs.declared.error.VortexError.TheVariants.{OutOfMemory}
 use Rattle.vx_value.specs.Paths.{minimal_paths}
 use Rattle.vx_example_field_columns.proofs.Reading.{each_named, joins, joined_kept}
@@ -25,4 +25,4 @@ returns c =
     let kept =
     joined_kept (minimal_paths c.args.paths.now) r.names r.columns.items r.rows c.in_ok-names.names c.in_ok-columns.columns.items c.in_ok-names.ensures.cases
     (rw (← c.as_slice.ensures, ← c.as_slice-2.ensures.value) c.in_ok-columns.ensures) r.long c.in_ok-joined.joined c.in_ok-joined.ensures.column in
-    subst (λ batch. Answers (λ x. x) c.read_referenced.result (Ok batch)) kept c.read_referenced.ensures
+    subst (λ batch. ReturnsOrOom (λ x. x) c.read_referenced.result (Ok batch)) kept c.read_referenced.ensures

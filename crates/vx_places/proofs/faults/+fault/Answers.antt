@@ -3,7 +3,7 @@ use Rattle.vx_tree.specs.Nodes.{bound_children_of}
 use Rattle.vx_tree.specs.Views.{bound_of, bounds_of}
 use Rattle.vx_tree.proofs.Children.{typed_next, over_next}
 use Rattle.vx_places.specs.Faults.{IsFirstFault, IsFirstFaultIn}
-use Rattle.vx_places.specs.Walked.{Leads, LeadsBelow, AreSeen}
+use Rattle.vx_places.specs.Walked.{LeadsToNode, LeadsBelow, AreSeen}
 use Rattle.vx_places.proofs.Faulted.{faults_below, passed_one, passed_to, seen_quiet, seen_one, seen_all, seen_none, passed_none, valued_at}
 use Rattle.vx_places.proofs.SeenNodes.{seen_children}
 use Rattle.vx_places.proofs.Places.{in_child, in_node, popped}
@@ -24,7 +24,7 @@ push_seen-returns-in_err-below-in-Scalar-clause-place t c =
     let place = in_node (IsFirstFault rows b) (IsFirstFaultIn rows bs) c.args.path.now.items c.see_all.new.path.items r
     (λ i rest h. faults_below rows b i rest r (subst (λ xs. IsFirstFaultIn rows xs i rest r) (sym those) h)) c.in_err-below-in-Scalar.ensures.place in
     let is : c.from_residual.result ≡ Err r = search rules in
-    subst (λ x. Leads (IsFirstFault rows b) c.args.path.now.items x c.see_all.new.path.items) (sym is) place
+    subst (λ x. LeadsToNode (IsFirstFault rows b) c.args.path.now.items x c.see_all.new.path.items) (sym is) place
 
 pub push_seen-returns-in_ok-below-in-Scalar-clause-place : goal.push_seen-returns-in_ok-below-in-Scalar-clause-place
 push_seen-returns-in_ok-below-in-Scalar-clause-place t c =

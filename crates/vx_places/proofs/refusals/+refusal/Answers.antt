@@ -4,7 +4,7 @@ use Rattle.vx_value.specs.Views.{type_of}
 use Rattle.vx_tree.specs.Views.{tree_of, trees_of}
 use Rattle.vx_tree.proofs.Typings.{next, end}
 use Rattle.vx_places.specs.Refusals.{IsFirstRefusal, IsFirstRefusalIn}
-use Rattle.vx_places.specs.Walked.{Leads, LeadsBelow}
+use Rattle.vx_places.specs.Walked.{LeadsToNode, LeadsBelow}
 use Rattle.vx_places.proofs.SeenNodes.{seen_call}
 use Rattle.vx_places.proofs.Places.{in_child, in_node, pushed_at, popped}
 use Rattle.vx_places.proofs.Refused.{refuses_here, refuses_below, passed_one, passed_to}
@@ -20,7 +20,7 @@ push_type-returns-in_err-below-in-Scalar-clause-place t c =
     let place = in_node (IsFirstRefusal s e) (IsFirstRefusalIn s es) c.args.path.now.items c.type_all.new.path.items r
     (λ i rest h. refuses_below s e (function_of c.in-Scalar.scalar_fn) es i rest r seen h) c.in_err-below-in-Scalar.ensures.place in
     let is : c.from_residual.result ≡ Err r = search rules in
-    subst (λ x. Leads (IsFirstRefusal s e) c.args.path.now.items x c.type_all.new.path.items) (sym is) place
+    subst (λ x. LeadsToNode (IsFirstRefusal s e) c.args.path.now.items x c.type_all.new.path.items) (sym is) place
 
 pub push_type-returns-in_ok-below-in-Scalar-clause-place : goal.push_type-returns-in_ok-below-in-Scalar-clause-place
 push_type-returns-in_ok-below-in-Scalar-clause-place t c =

@@ -1,7 +1,7 @@
 use Rattle.std.proofs.Common.{◌≡◌, drop, map}
 use Rattle.std.specs.Map.{lookup}
 use Rattle.vx_tree.specs.Views.{bound_of}
-use Rattle.vx_prune_stats.specs.Views.{entry_facts}
+use Rattle.vx_prune_tree.specs.Views.{entry_facts}
 use Rattle.vx_prune_tree.specs.Bounding.{path_to}
 use Rattle.vx_prune_tree.specs.Cases.{is_that_path}
 use Rattle.vx_prune_tree.proofs.paths.entry_of.Given as goal

@@ -1,9 +1,9 @@
 use Rattle.std.proofs.Common.{◌≡◌, ◌∙◌, ap, sym, rules, length}
 use Rattle.std.specs.Global.{Vec}
 use Rattle.vx_dtype.specs.declared.error.VortexError.TheVariants.{OutOfMemory}
-use Rattle.vx_rewrite_keep.specs.Keeps.{KeepsEach}
-use Rattle.vx_rewrite_split.proofs.Replacing.{kept_count}
-use Rattle.vx_rewrite_rules.specs.Rules.{RuleAt}
+use Rattle.vx_rewrite_core.specs.Keeps.{KeepsEach}
+use Rattle.vx_partition.proofs.Replacing.{kept_count}
+use Rattle.vx_rewrite_rule_laws.specs.Rules.{RuleAt}
 use Rattle.vx_tree.specs.declared.bound.BoundExpression.{BoundExpression}
 use Rattle.vx_tree.specs.Views.{bounds_of}
 use Rattle.vx_query.proofs.Lists.{forms_keep}

@@ -1,5 +1,5 @@
 use Rattle.std.proofs.Common.{drop}
-use Rattle.vx_rewrite_rules.specs.Rules.{RuleAt}
+use Rattle.vx_rewrite_rule_laws.specs.Rules.{RuleAt}
 use Rattle.vx_tree.specs.Trees.{EachWellTyped}
 use Rattle.vx_tree.specs.Views.{bounds_of}
 use Rattle.vx_query.proofs.Lists.{FormsLeft}

@@ -6,7 +6,7 @@ use Rattle.vx_value.specs.Types.{struct_fields}
 use Rattle.vx_value.specs.Views.{fields_of, type_of}
 use Rattle.vx_tree.specs.Views.{bound_of}
 use Rattle.vx_tree.proofs.Nodes.{length-node_types}
-use Rattle.vx_rewrite_split.specs.Only.{annotations_met}
+use Rattle.vx_partition.specs.Only.{annotations_met}
 use Rattle.vx_query_split.specs.Division.{no_fields, not_covered}
 use Rattle.vx_query_split.specs.Reading.{only_field}
 use Rattle.vx_query_split.specs.Reads.{IsReadBy}

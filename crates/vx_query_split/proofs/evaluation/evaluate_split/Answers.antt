@@ -1,5 +1,5 @@
 use Rattle.std.proofs.Common.{◌≡◌, ◌∙◌, sym, ap, subst, rules, length, Ok}
-use Rattle.vx_dtype.specs.Answers.{Answers}
+use Rattle.vx_dtype.specs.Returns.{ReturnsOrOom}
 use Rattle.vx_dtype.specs.declared.error.VortexError.TheVariants.{OutOfMemory}
 use Rattle.vx_value.specs.StructColumns.{struct_column}
 use Rattle.vx_tree.specs.Trees.{Over}
@@ -33,5 +33,5 @@ returns c =
     let joined : struct_column names c.in_ok-columns.columns.items (length c.args.batch.now.rows) _ ≡ Ok c.in_ok-joined.joined = rw (← named, ← c.len.ensures) c.in_ok-joined.ensures.column in
     let is = is_joined names bs c.args.batch.now c.in_ok-columns.columns.items c.requires.partitions c.requires.over made c.in_ok-joined.joined joined in
     let over : Over (bound_of c.args.split.now.root) c.in_ok-joined.joined.type = rw is c.requires.joined in
-    subst (Answers (λ x. x) c.apply_bound.result) (root_answers names bs c.args.batch.now c.in_ok-columns.columns.items c.requires.partitions c.requires.over made (bound_of c.args.split.now.root) c.in_ok-joined.joined joined)
+    subst (ReturnsOrOom (λ x. x) c.apply_bound.result) (root_answers names bs c.args.batch.now c.in_ok-columns.columns.items c.requires.partitions c.requires.over made (bound_of c.args.split.now.root) c.in_ok-joined.joined joined)
     (c.apply_bound.ensures.meaning over)

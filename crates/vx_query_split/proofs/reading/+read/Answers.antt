@@ -7,7 +7,7 @@ use Rattle.vx_value.specs.Views.{type_of}
 use Rattle.vx_tree.specs.declared.bound.BoundExpression.{the_lemmas}
 use Rattle.vx_tree.specs.Trees.{node, scope}
 use Rattle.vx_tree.specs.Views.{bound_of, bounds_of}
-use Rattle.vx_rewrite_split.proofs.Meeting.{copied_put}
+use Rattle.vx_partition.proofs.Meeting.{copied_put}
 use Rattle.vx_query_split.specs.Reads.{name_list}
 use Rattle.vx_query_split.specs.declared.reading.Reads.TheVariants.{One}
 use Rattle.vx_query_split.proofs.Walked.{all_met, copied_some, cut_back, goes_on, item_read, node_read, not_one_below, one_below, scope_read}

@@ -1,6 +1,6 @@
 use Rattle.std.proofs.Common.{arith}
 use Rattle.std.proofs.lemmas.List.{get_or_default}
-use Rattle.vx_rewrite_keep.proofs.Keeping.{keeps_refl, keeps_trans}
+use Rattle.vx_rewrite_core.proofs.Keeping.{keeps_refl, keeps_trans}
 use Rattle.vx_rewrite.proofs.Passing.{passed_next}
 use Rattle.vx_rewrite.proofs.passes.run_passes.Goals as goal
 

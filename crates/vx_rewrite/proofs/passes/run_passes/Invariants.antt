@@ -1,7 +1,7 @@
 use Rattle.std.proofs.Common.{drop}
 use Rattle.vx_tree.specs.Trees.{BoundTree}
 use Rattle.vx_tree.specs.Views.{bound_of}
-use Rattle.vx_rewrite_keep.specs.Keeps.{Keeps}
+use Rattle.vx_rewrite_core.specs.Keeps.{Keeps}
 use Rattle.vx_rewrite.specs.Passes.{Passed}
 use Rattle.vx_rewrite.proofs.passes.run_passes.Given as goal
 

@@ -1,4 +1,4 @@
-use Rattle.vx_rewrite_branches.proofs.Answering.{some_answer}
+use Rattle.vx_rewrite_standard.proofs.Answering.{some_answer}
 use Rattle.vx_rewrite_folding.proofs.cases.case_over.Goals as goal
 
 pub returns : goal.returns

@@ -1,5 +1,5 @@
 use Rattle.std.proofs.Common.{◌≡◌, length}
-use Rattle.vx_rewrite_folding_rules.specs.Folding.{idle_pairs}
+use Rattle.vx_rewrite_rule_laws.specs.Folding.{idle_pairs}
 use Rattle.vx_tree.specs.Views.{bounds_of}
 use Rattle.vx_rewrite_folding.proofs.cases.is_one_idle.Given as goal
 

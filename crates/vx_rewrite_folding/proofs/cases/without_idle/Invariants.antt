@@ -1,6 +1,6 @@
 use Rattle.std.proofs.Common.{◌≡◌, length, map}
 use Rattle.vx_rewrite_folding.specs.Behind.{behind_all}
-use Rattle.vx_rewrite_folding_rules.specs.Folding.{without_idle}
+use Rattle.vx_rewrite_rule_laws.specs.Folding.{without_idle}
 use Rattle.vx_tree.specs.Views.{bound_of, bounds_of}
 use Rattle.vx_rewrite_folding.proofs.cases.without_idle.Given as goal
 

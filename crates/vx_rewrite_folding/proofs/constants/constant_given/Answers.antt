@@ -1,6 +1,6 @@
 use Rattle.std.proofs.Common.{Ok, ap, sym, ◌∙◌}
 use Rattle.vx_tree.specs.Views.{bound_of}
-use Rattle.vx_rewrite_folding_rules.specs.Folding.{constant_given}
+use Rattle.vx_rewrite_rule_laws.specs.Folding.{constant_given}
 use Rattle.vx_rewrite_folding.proofs.Evaluated.{the_row, some_ok, row_over, folded, some_row, not_folded}
 use Rattle.vx_rewrite_folding.proofs.constants.constant_given.Goals as goal
 

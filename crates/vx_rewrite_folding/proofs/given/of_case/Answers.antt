@@ -3,7 +3,7 @@ use Rattle.vx_value.specs.Views.{type_of}
 use Rattle.vx_fn.specs.Functions.{case_when}
 use Rattle.vx_tree.specs.Trees.{node, WellTyped}
 use Rattle.vx_tree.specs.Views.{bound_of, bounds_of}
-use Rattle.vx_rewrite_branches.proofs.Answering.{two_and_rest}
+use Rattle.vx_rewrite_standard.proofs.Answering.{two_and_rest}
 use Rattle.vx_rewrite_folding.proofs.given.of_case.Goals as goal
 
 pub case_given-requires : goal.case_given-requires

@@ -1,5 +1,5 @@
-use Rattle.vx_rewrite_keep.proofs.Keeping.{keeps_refl}
-use Rattle.vx_rewrite_keep.specs.Steps.{no_step}
+use Rattle.vx_rewrite_core.proofs.Keeping.{keeps_refl}
+use Rattle.vx_rewrite_core.specs.Steps.{no_step}
 use Rattle.vx_tree.specs.Views.{bound_of}
 use Rattle.vx_rewrite_fusing.proofs.Merges.{merges_alike}
 use Rattle.vx_rewrite_fusing.proofs.finding.find_between.Goals as goal

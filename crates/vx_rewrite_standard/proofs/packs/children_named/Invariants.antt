@@ -1,5 +1,5 @@
 use Rattle.std.proofs.Common.{◌≡◌, drop, map}
-use Rattle.vx_rewrite_rules.specs.Rules.{children_named}
+use Rattle.vx_rewrite_rule_laws.specs.Rules.{children_named}
 use Rattle.vx_rewrite_standard.proofs.Named.{before}
 use Rattle.vx_rewrite_standard.proofs.packs.children_named.Given as goal
 use Rattle.vx_tree.specs.Views.{bound_of, bounds_of}

@@ -1,7 +1,7 @@
 use Rattle.std.specs.Prelude.{IfOk}
-use Rattle.vx_rewrite_optimizer.specs.NormalForms.{NormalForm}
+use Rattle.vx_rewrite_core.specs.NormalForms.{NormalForm}
 use Rattle.vx_tree.specs.Views.{bound_of, tree_of}
-use Rattle.vx_rewrite_branch_rules.specs.Branches.{BranchRuleAt}
+use Rattle.vx_rewrite_rule_laws.specs.Branches.{BranchRuleAt}
 use Rattle.vx_run.specs.Branches.{branches, never_then_zero}
 use Rattle.vx_run.proofs.Branching.{left}
 use Rattle.vx_run.proofs.Made.{made, bound_source}

@@ -1,5 +1,5 @@
 use Rattle.std.proofs.Common.{◌≡◌, ◌≢◌, ◌∙◌, sym, ap, subst, rules, Err, Some}
-use Rattle.vx_dtype.specs.Answers.{Answers}
+use Rattle.vx_dtype.specs.Returns.{ReturnsOrOom}
 use Rattle.vx_dtype.specs.declared.error.VortexError.TheVariants.{OutOfMemory}
 use Rattle.vx_value.specs.Paths.{minimal_paths}
 use Rattle.vx_value.specs.Views.{type_of}
@@ -8,8 +8,8 @@ use Rattle.vx_tree.specs.Views.{bound_of, bounds_of}
 use Rattle.vx_tree.proofs.Nodes.{length-node_types}
 use Rattle.vx_eval.specs.Evaluation.{evaluation}
 use Rattle.vx_query_split.specs.Splits.{split_evaluation}
-use Rattle.vx_scan_kept.specs.Kept.{kept_batch}
-use Rattle.vx_scan_kept.specs.Readers.{AreAmong}
+use Rattle.vx_projection.specs.Kept.{kept_batch}
+use Rattle.vx_projection.specs.Readers.{AreAmong}
 use Rattle.vx_query_split.specs.Division.{parts_of}
 use Rattle.vx_scan.proofs.Opened.{sound_of}
 use Rattle.vx_scan.specs.Scans.{Scanned, planned_evaluation}
@@ -108,8 +108,8 @@ returns-in-Some g c =
     let held : plan.split ≡ Some c.in-Some.split.now = sym c.in-Some.ensures in
     let p = c.in-Some.split.now in
     let r = c.evaluate_split.result in
-    let here = subst (λ b. Answers (λ x. x) r (split_evaluation p.partition_names (bounds_of p.partitions.items) (bound_of p.root) b)) (sym read) c.evaluate_split.ensures in
-    let told = subst (λ o. Answers (λ x. x) r (planned_evaluation (parts_of o) u (kept_batch (minimal_paths plan.paths) batch))) (sym held) here in
+    let here = subst (λ b. ReturnsOrOom (λ x. x) r (split_evaluation p.partition_names (bounds_of p.partitions.items) (bound_of p.root) b)) (sym read) c.evaluate_split.ensures in
+    let told = subst (λ o. ReturnsOrOom (λ x. x) r (planned_evaluation (parts_of o) u (kept_batch (minimal_paths plan.paths) batch))) (sym held) here in
     scanned s u plan.paths (parts_of plan.split) batch r plan.is_plan same c.dtype-dtype.ensures.rows told
 
 pub returns : goal.returns
@@ -122,7 +122,7 @@ returns g c =
     let read : kept_batch (minimal_paths plan.paths) batch ≡ c.in_ok-batch.batch = read_so batch c.in_ok-batch.batch c.paths.result.now plan.paths c.paths.ensures c.in_ok-batch.ensures in
     let r = c.apply_bound.result in
     let over : Over (bound_of c.tree.result.now) c.in_ok-batch.batch.type = subst (λ t. Over (bound_of t) c.in_ok-batch.batch.type) (sym c.tree.ensures) (over_read u s batch c.in_ok-batch.batch plan.paths plan.is_plan.over same read) in
-    let whole = subst (λ t. Answers (λ x. x) r (evaluation (bound_of t) c.in_ok-batch.batch)) c.tree.ensures (c.apply_bound.ensures.meaning over) in
-    let here = subst (λ b. Answers (λ x. x) r (evaluation u b)) (sym read) whole in
-    let told = subst (λ o. Answers (λ x. x) r (planned_evaluation (parts_of o) u (kept_batch (minimal_paths plan.paths) batch))) c.in-None.ensures here in
+    let whole = subst (λ t. ReturnsOrOom (λ x. x) r (evaluation (bound_of t) c.in_ok-batch.batch)) c.tree.ensures (c.apply_bound.ensures.meaning over) in
+    let here = subst (λ b. ReturnsOrOom (λ x. x) r (evaluation u b)) (sym read) whole in
+    let told = subst (λ o. ReturnsOrOom (λ x. x) r (planned_evaluation (parts_of o) u (kept_batch (minimal_paths plan.paths) batch))) c.in-None.ensures here in
     scanned s u plan.paths (parts_of plan.split) batch r plan.is_plan same c.dtype-dtype.ensures.rows told

@@ -1,15 +1,15 @@
 use Rattle.std.proofs.Common.{◌+◌, ◌*◌, ◌<◌, ◌≤◌, length, ap, ◌∙◌, subst, arith, rules}
 use Rattle.vx_dtype.specs.Fields.{field_count}
 use Rattle.vx_dtype.specs.Views.{type_of, fields_view, fields_of}
-use Rattle.vx_source_dtype.specs.Spelled.{AreSpelled, type_nesting, fields_nesting}
-use Rattle.vx_source_dtype.proofs.FieldSources.{field_nested}
+use Rattle.vx_source_types.specs.TypePrintable.{ArePrintable, type_nesting, fields_nesting}
+use Rattle.vx_source_types.proofs.FieldSources.{field_nested}
 use Rattle.vx_source_laws.proofs.SpelledNext.{fields_spelled_next, fields_spelled_end}
 use Rattle.vx_source_laws.proofs.spelled.+types.Goals as goal
 
 pub fields_are_spelled-loop-i-init : goal.fields_are_spelled-loop-i-init
 fields_are_spelled-loop-i-init t c =
     let names = c.as_slice-names.ensures ∙ c.names.ensures.names in
-    subst AreSpelled (ap (λ ns. fields_view ns c.types-types.result.now) names ∙ c.types-types.ensures.fields)
+    subst ArePrintable (ap (λ ns. fields_view ns c.types-types.result.now) names ∙ c.types-types.ensures.fields)
 
 pub fields_are_spelled-loop-i-preserved : goal.fields_are_spelled-loop-i-preserved
 fields_are_spelled-loop-i-preserved t c = λ rest.

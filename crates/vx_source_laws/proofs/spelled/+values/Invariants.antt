@@ -1,6 +1,6 @@
 use Rattle.std.proofs.Common.{drop}
 use Rattle.vx_value.specs.Views.{data_view}
-use Rattle.vx_source_types.specs.Spelled.{AreSpelledValues}
+use Rattle.vx_source_types.specs.ScalarPrintable.{AreSpelledValues}
 use Rattle.vx_source_laws.proofs.spelled.+values.Given as goal
 
 -- what is left of the values is all that is left to show

@@ -2,7 +2,7 @@ use Rattle.std.proofs.Common.{◌≡◌, Err, sym, subst, ◌∙◌, arith, rule
 use Rattle.vx_fn.specs.Views.{operation_of}
 use Rattle.vx_source_grammar.specs.Joining.{chained, paired}
 use Rattle.vx_source_operands.specs.Places.{ReadsUpTo}
-use Rattle.vx_source_operands.specs.Views.{operand_of, operands_in, operands_of}
+use Rattle.vx_source_operands.specs.OperandViews.{operand_of, operands_in, operands_of}
 use Rattle.vx_source_operands.proofs.Chains.{chain_turn, chain_refused, chain_end, only_item, no_item, refused_up_to}
 use Rattle.vx_source_operands.proofs.joining.chain.Goals as goal
 

@@ -1,6 +1,6 @@
 use Rattle.std.proofs.Common.{◌≡◌, [], ◌∷◌, ◌++◌, Ok, sym, ap, ◌∙◌, arith, rules}
 use Rattle.std.proofs.lemmas.Grind.{common_steps}
-use Rattle.vx_source_operands.specs.Views.{operand_of}
+use Rattle.vx_source_operands.specs.OperandViews.{operand_of}
 use Rattle.vx_source_operands.proofs.Chains.{pair_turn, last_turn}
 use Rattle.vx_source_operands.proofs.joining.pair.Goals as goal
 use Rattle.vx_source_operands.proofs.joining.pair.Goals.{in-Some-next+in_ok-node_between-in-Some-next, in-None}

@@ -1,7 +1,7 @@
 use Rattle.std.proofs.Common.{◌≡◌, length}
 use Rattle.vx_source_grammar.specs.Joining.{reduced}
 use Rattle.vx_source_operands.specs.Levels.{rank_of}
-use Rattle.vx_source_operands.specs.Views.{frames_of, operand_of}
+use Rattle.vx_source_operands.specs.OperandViews.{frames_of, operand_of}
 use Rattle.vx_source_operands.proofs.joining.reduce.Given as goal
 
 abbrev pub invariant-loop-frame : goal.invariant-loop-frame

@@ -2,7 +2,7 @@ use Rattle.std.proofs.Common.{◌≡◌, drop}
 use Rattle.std.specs.Prelude.{max}
 use Rattle.vx_tree.specs.Views.{trees_from}
 use Rattle.vx_source_grammar.specs.Nodes.{heights_of}
-use Rattle.vx_source_operands.specs.Views.{operands_of}
+use Rattle.vx_source_operands.specs.OperandViews.{operands_of}
 use Rattle.vx_source_operands.proofs.nodes.highest.Given as goal
 
 abbrev pub invariant-loop-operand : goal.invariant-loop-operand

@@ -1,6 +1,6 @@
 use Rattle.std.proofs.Common.{◌≡◌, map}
 use Rattle.vx_tree.specs.Views.{tree_of}
-use Rattle.vx_source_operands.specs.Views.{operands_of}
+use Rattle.vx_source_operands.specs.OperandViews.{operands_of}
 use Rattle.vx_source_operands.proofs.nodes.taken_apart.Given as goal
 
 abbrev pub invariant-loop-operand : goal.invariant-loop-operand

@@ -9,7 +9,7 @@ use Rattle.vx_tree.specs.Texts.{pair_sql}
 use Rattle.vx_tree.specs.Views.{tree_of}
 use Rattle.vx_tree.proofs.Seen.{item_smaller}
 use Rattle.vx_tree.proofs.Texts.{length-named_texts, get_or-named_texts, pairs_sql-turn, pairs_sql-else, pairs_sql-none}
-use Rattle.vx_source_dtype.specs.Names.{name_source}
+use Rattle.vx_source_types.specs.Names.{name_source}
 use Rattle.vx_source_writer.specs.SourceTexts.{sources_of, is_shown}
 use Rattle.vx_source_writer.proofs.Nodes.{length-sources, get_or-sources, source-own, source-hidden, source-other, length-name_sources, get_or-name_sources}
 use Rattle.vx_source_writer.proofs.source_text.+source.Goals as goal

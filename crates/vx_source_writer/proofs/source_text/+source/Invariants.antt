@@ -4,7 +4,7 @@ use Rattle.vx_dtype.proofs.Commas.{after_commas}
 use Rattle.vx_fn.specs.Texts.{named_texts, pairs_sql}
 use Rattle.vx_tree.specs.Nodes.{size_of, sizes_of}
 use Rattle.vx_tree.specs.Views.{tree_of, trees_of}
-use Rattle.vx_source_dtype.specs.Names.{name_source}
+use Rattle.vx_source_types.specs.Names.{name_source}
 use Rattle.vx_source_writer.specs.SourceTexts.{sources_of}
 use Rattle.vx_source_writer.proofs.source_text.+source.Given as goal
 

@@ -1,6 +1,6 @@
 use Rattle.std.proofs.Common.{[], ◌∷◌, ◌++◌, refl, sym, ap, subst, ◌∙◌}
 use Rattle.vx_tree.specs.Views.{bound_of}
-use Rattle.vx_sql.specs.Unsupported.{first_unsupported, Leads}
+use Rattle.vx_sql.specs.Unsupported.{first_unsupported, LeadsToUnsupported}
 use Rattle.vx_sql.proofs.Seen.{bound_node}
 use Rattle.vx_sql.proofs.Walked.{own_told, child_told}
 use Rattle.vx_sql.proofs.walk.+unsupported.Goals as goal
@@ -15,5 +15,5 @@ look_below-returns-in-Some t c =
     let i = c.loop-i.i in
     let b = c.index-children-i.result in
     let pushed = c.in_ok-push.ensures.items ∙ ap (λ x. x ++ i ∷ []) c.loop-i.invariant.path in
-    let told = subst (Leads c.push.new.self.items (first_unsupported c.args.dialect (bound_of b)) c.look.new.path.items) c.in-Some.is c.in_ok-reason.ensures in
+    let told = subst (LeadsToUnsupported c.push.new.self.items (first_unsupported c.args.dialect (bound_of b)) c.look.new.path.items) c.in-Some.is c.in_ok-reason.ensures in
     child_told c.args.dialect c.args.children.now i b c.in-Some.reason c.args.path.now.items c.push.new.self.items _ c.loop-i-test.true c.index-children-i.is pushed c.loop-i.invariant.left told

@@ -3,7 +3,7 @@ use Rattle.vx_value.specs.Types.{null}
 use Rattle.vx_value.specs.Views.{value_of}
 use Rattle.vx_fn.specs.Values.{binary_value}
 use Rattle.vx_fn.specs.Views.{operation_of}
-use Rattle.vx_eval_merge.specs.Merges.{values_of}
+use Rattle.vx_eval_masks.specs.Merges.{values_of}
 use Rattle.vx_eval.proofs.Filled.{told_at}
 use Rattle.vx_eval.proofs.compared.ComparedItem.truth.Goals as goal
 

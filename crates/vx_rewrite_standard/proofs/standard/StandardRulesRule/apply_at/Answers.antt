@@ -1,7 +1,7 @@
-use Rattle.vx_rewrite_rule_sets.proofs.Answering.{answer_gives}
-use Rattle.vx_rewrite_rules.proofs.Decisions.{rule_decided}
-use Rattle.vx_rewrite_rules.specs.Given.{given_at}
-use Rattle.vx_rewrite_rules.specs.Rules.{RuleAt}
+use Rattle.vx_rewrite_core.proofs.Answering.{answer_gives}
+use Rattle.vx_rewrite_rule_laws.proofs.StandardDecisions.{rule_decided}
+use Rattle.vx_rewrite_rule_laws.specs.StandardGiven.{given_at}
+use Rattle.vx_rewrite_rule_laws.specs.Rules.{RuleAt}
 use Rattle.vx_rewrite_standard.proofs.standard.StandardRulesRule.apply_at.Goals as goal
 use Rattle.vx_tree.specs.Views.{bound_of}
 

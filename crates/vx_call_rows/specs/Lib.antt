@@ -1,3 +1,0 @@
-pub mod RowPages
-pub mod RowStops
-pub mod VerdictPages

@@ -1,5 +1,0 @@
-use Rattle.vx_rewrite_folding_rules.proofs.Lawfulness.{folding_normal}
-use Rattle.vx_command_plans.proofs.planned.plan_of.Goals as goal
-
-pub plan_with-requires : goal.plan_with-requires
-plan_with-requires c = λ b n. (folding_normal b n).1

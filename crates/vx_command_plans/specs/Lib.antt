@@ -1,3 +1,0 @@
-pub mod PlanData
-pub mod PlanPages
-pub mod SqlPages

@@ -1,0 +1,48 @@
+// What stops a command that goes over records.
+ghost use Rattle.std.specs.Prelude.{◌≡◌};
+ghost use Rattle.vx_commands.specs.declared.complaint.RowsComplaint.TheVariants.{Query};
+
+use vx_command_pages::{CommandError, Span, Status};
+use vx_data::{DataError, WriteError};
+use vx_records::RecordsError;
+use vx_types::DType;
+
+/// Why a command doesn't go over all records.
+#[derive(Debug, Drop)]
+pub enum RowsComplaint {
+    /// The expression or the schema can't be read, the expression is refused, or memory ran out.
+    Query(CommandError),
+    /// The expression to filter by is of that type, and not of truth values.
+    NotBool(DType),
+    /// Going over the records stopped; of a fault, at the node that was read from those bytes of the
+    /// expression.
+    Records { error: RecordsError, span: Span },
+}
+
+impl RowsComplaint {
+    ghost use Rattle.vx_commands.specs.Rows.{status_of};
+
+    /// How a command ends that stops with it.
+    pub fn status(&self) -> Status
+        ensures { result ≡ status_of self.now }
+    {
+        match self {
+            RowsComplaint::Query(complaint) => complaint.status(),
+            RowsComplaint::NotBool(_) => Status::Wrong,
+            RowsComplaint::Records { error, .. } => match error {
+                RecordsError::Data(DataError::Unexpected { .. })
+                | RecordsError::Fault(_)
+                | RecordsError::Write(WriteError::Unwritable { .. }) => Status::Wrong,
+                _ => Status::Failed,
+            },
+        }
+    }
+}
+
+impl From<CommandError> for RowsComplaint {
+    ghost from_gives = { λ c r. r ≡ Query c };
+
+    fn from(complaint: CommandError) -> RowsComplaint {
+        RowsComplaint::Query(complaint)
+    }
+}

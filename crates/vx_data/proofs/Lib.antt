@@ -1,0 +1,4 @@
+pub mod Grown
+pub mod Sizes
+mod Lined
+mod Spelled

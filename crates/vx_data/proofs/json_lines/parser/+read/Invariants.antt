@@ -1,0 +1,34 @@
+use Rattle.std.proofs.Common.{◌+◌, ◌*◌, ◌≤◌, length}
+use Rattle.vx_value.specs.Views.{fields_of, type_of}
+use Rattle.vx_data.proofs.Sizes.{fields_size, type_size}
+use Rattle.vx_data.proofs.json_lines.parser.+read.Given as goal
+
+abbrev pub decreases-read_value : goal.decreases-read_value
+decreases-read_value l = 4 * type_size (type_of l.dtype.now) + 1
+
+abbrev pub decreases-read_array : goal.decreases-read_array
+decreases-read_array l = 4 * type_size (type_of l.dtype.now)
+
+abbrev pub decreases-read_items : goal.decreases-read_items
+decreases-read_items l = 4 * type_size (type_of l.element.now) + 2
+
+abbrev pub decreases-read_object : goal.decreases-read_object
+decreases-read_object l = 4 * type_size (type_of l.dtype.now)
+
+abbrev pub decreases-read_fields : goal.decreases-read_fields
+decreases-read_fields l = 4 * fields_size (fields_of l.fields.now) + 2
+
+abbrev pub decreases-read_field : goal.decreases-read_field
+decreases-read_field l = 4 * fields_size (fields_of l.fields.now) + 1
+
+abbrev pub invariant-read_items-loop-alloc : goal.invariant-read_items-loop-alloc
+invariant-read_items-loop-alloc l = length l.reader ≤ length l.initial.reader
+
+abbrev pub decreases-read_items-loop-alloc : goal.decreases-read_items-loop-alloc
+decreases-read_items-loop-alloc l = length l.reader
+
+abbrev pub invariant-read_fields-loop-draft : goal.invariant-read_fields-loop-draft
+invariant-read_fields-loop-draft l = length l.reader ≤ length l.initial.reader
+
+abbrev pub decreases-read_fields-loop-draft : goal.decreases-read_fields-loop-draft
+decreases-read_fields-loop-draft l = length l.reader

@@ -1,0 +1,40 @@
+-- Rows as lines of JSON.
+use Rattle.std.specs.Prelude.{ℕ, List, [], ◌∷◌, ◌++◌}
+use Rattle.std.specs.Fmt.{signed_decimal}
+use Rattle.std.specs.List.{flat_map}
+use Rattle.json.specs.Print.{print}
+use Rattle.json.specs.Token.{Token, begin_object, end_object, begin_array, end_array, key, string, number, boolean}
+use Rattle.json.specs.Token.{null as null_token}
+use Rattle.vx_value.specs.Types.{LogicalType, ty, list, fixed, struct, Fields, field, Datum, null, bool, int, utf8, bytes, list_of, struct_of, Data, no_datum, datum}
+use Rattle.vx_data.specs.Cells.{hex_text}
+
+-- the tokens of a value, which is read by its type: bytes are a string, and a struct's values stand under its fields' names
+abbrev mutual
+  pub value_tokens : Datum → LogicalType → List Token
+  value_tokens null t = null_token ∷ []
+  value_tokens (bool b) t = boolean b ∷ []
+  value_tokens (int i) t = number (signed_decimal i) ∷ []
+  value_tokens (utf8 s) t = string s ∷ []
+  value_tokens (bytes bs) t = string (hex_text bs) ∷ []
+  value_tokens (list_of vs) (ty (list t) n) = begin_array ∷ (item_tokens vs t ++ end_array ∷ [])
+  value_tokens (list_of vs) (ty (fixed t k) n) = begin_array ∷ (item_tokens vs t ++ end_array ∷ [])
+  value_tokens (struct_of vs) (ty (struct fs) n) = begin_object ∷ (field_tokens vs fs ++ end_object ∷ [])
+  value_tokens _ _ = []
+
+  -- of each item of a list
+  pub item_tokens : Data → LogicalType → List Token
+  item_tokens no_datum t = []
+  item_tokens (datum v vs) t = value_tokens v t ++ item_tokens vs t
+
+  -- of each value of a struct, behind its field's name
+  pub field_tokens : Data → Fields → List Token
+  field_tokens (datum v vs) (field a t fs) = key a ∷ (value_tokens v t ++ field_tokens vs fs)
+  field_tokens _ _ = []
+
+-- the value on a line
+abbrev pub json_line : LogicalType → Datum → List ℕ
+json_line t v = print (value_tokens v t) ++ 10 ∷ []
+
+-- a line for each row
+abbrev pub json_lines : LogicalType → List Datum → List ℕ
+json_lines t rows = flat_map (json_line t) rows

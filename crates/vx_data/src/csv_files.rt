@@ -1,0 +1,17 @@
+// Rows from records of comma-separated cells, their types guessed from such records, and rows written as such records.
+mod cells;
+mod guess;
+mod header;
+mod infer;
+mod kept;
+mod parser;
+mod plan;
+mod records;
+mod rows;
+mod write;
+
+pub use infer::infer_csv_type;
+pub use parser::CsvParser;
+pub use records::CsvRecords;
+pub use rows::rows_from_csv;
+pub use write::{CsvWriter, write_csv};

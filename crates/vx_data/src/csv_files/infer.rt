@@ -1,0 +1,188 @@
+// Types guessed from CSV files.
+ghost use Rattle.std.specs.Prelude.{◌≡◌, length};
+
+use crate::csv_files::guess::CellGuess;
+use crate::csv_files::header::{cell_names, fault_at, named};
+use crate::csv_files::records::CsvRecords;
+use crate::error::DataError;
+use crate::expected::Expected;
+use crate::fault::Fault;
+use csv::ByteRecord;
+use std::alloc::{AllocError, Global};
+use std::io::Read;
+use std::str;
+use vx_types::{DType, FieldName, FieldNames, Nullability, StructFields, VortexResult};
+
+// So many records are looked at.
+const RECORDS: usize = 1_000;
+
+/// The narrowest type of the first 1,000 records behind the header, fewer where there are no more: a struct of its names in
+/// their order, in which a name with dots leads to a field of a field. A cell that is always `true` or `false` is
+/// `bool`; one that is always a whole number as it is written, `i64`, or `u64` where one is above the range of `i64`; any
+/// other `utf8`, also one that has no text at all. It is nullable where it is empty in some record; no struct is. Refuses a
+/// file without a header, a name that stands there twice or that is both a cell and the way to others, a cell that is no
+/// text in UTF-8, a record of another number of cells, each with its line; with the reader's error; and with
+/// `OutOfMemory`.
+pub fn infer_csv_type<R: Read + Drop>(alloc: Global, reader: R) -> Result<DType, DataError> {
+    let mut records = CsvRecords::new(alloc, reader);
+    if !records.read_record()? {
+        return Err(Fault::new(alloc, Expected::Header).on_line(alloc, 1));
+    }
+    let (branches, mut guesses) = match fields_of(alloc, records.cells()) {
+        Ok(fields) => fields,
+        Err(fault) => return Err(fault.on_line(alloc, records.line())),
+    };
+    for _ in 0..RECORDS {
+        if !records.read_record()? {
+            break;
+        }
+        if let Err(fault) = see_record(alloc, records.cells(), &mut guesses) {
+            return Err(fault.on_line(alloc, records.line()));
+        }
+    }
+    match struct_of(&branches, alloc, guesses.as_slice()) {
+        Ok(dtype) => Ok(dtype),
+        Err(_) => Err(DataError::OutOfMemory),
+    }
+}
+
+/// A cell of a record, by its name in the header, and what its texts have in common.
+#[derive(Debug, Drop)]
+struct NamedGuess {
+    name: FieldName,
+    guess: CellGuess,
+}
+
+// The fields of that header, and its cells, of which no text was seen.
+fn fields_of(alloc: Global, header: &ByteRecord) -> Result<(Vec<Branch>, Vec<NamedGuess>), Fault> {
+    let names = cell_names(alloc, header)?;
+    let branches = branches_of(alloc, names.as_slice())?;
+    let mut guesses = Vec::with_capacity(alloc, names.len())?;
+    for name in names {
+        let guess = CellGuess::new();
+        guesses.push(NamedGuess { name, guess })?;
+    }
+    Ok((branches, guesses))
+}
+
+fn see_record(
+    alloc: Global,
+    record: &ByteRecord,
+    guesses: &mut Vec<NamedGuess>,
+) -> Result<(), Fault> {
+    for (cell, text) in guesses.iter_mut().zip(record.iter()) {
+        match str::from_utf8(text) {
+            Ok(text) => cell.guess = cell.guess.and(text),
+            Err(_) => return Err(fault_at(alloc, Expected::Utf8, cell.name.as_str())),
+        }
+    }
+    Ok(())
+}
+
+/// A field of the type that is guessed: a cell, by its place in a record, or a struct.
+#[cycle(branch)]
+#[derive(Debug, Drop)]
+struct Branch {
+    name: FieldName,
+    kind: BranchKind,
+}
+
+#[cycle(branch)]
+#[derive(Debug, Drop)]
+enum BranchKind {
+    Cell(usize),
+    Struct(Vec<Branch>),
+}
+
+// The fields whose dotted names are those of the header.
+fn branches_of(alloc: Global, names: &[FieldName]) -> Result<Vec<Branch>, Fault> {
+    let mut branches = Vec::new(alloc);
+    for (place, name) in names.iter().enumerate() {
+        let parts: Vec<&str> = name.as_str().split('.').collect(alloc)?;
+        if let Err(expected) = grow(alloc, &mut branches, parts.as_slice(), place) {
+            return Err(match expected {
+                Some(expected) => fault_at(alloc, expected, name.as_str()),
+                None => Fault::OutOfMemory,
+            });
+        }
+    }
+    Ok(branches)
+}
+
+// Adds the cell of that place under the names. Refuses with what is expected, or for want of memory.
+fn grow(
+    alloc: Global,
+    branches: &mut Vec<Branch>,
+    names: &[&str],
+    place: usize,
+) -> Result<(), Option<Expected>> {
+    let Some((first, rest)) = names.split_first() else {
+        return Ok(());
+    };
+    let i = match branches
+        .iter()
+        .position(|branch| branch.name.as_str() == *first)
+    {
+        Some(i) => i,
+        None => {
+            let branch = new_branch(alloc, first, rest.is_empty(), place).map_err(|_| None)?;
+            if branches.push(branch).is_err() {
+                return Err(None);
+            }
+            if rest.is_empty() {
+                return Ok(());
+            }
+            branches.len() - 1
+        }
+    };
+    if i >= branches.len() {
+        return Ok(());
+    }
+    match &mut branches[i].kind {
+        BranchKind::Struct(inner) if !rest.is_empty() => grow(alloc, inner, rest, place),
+        BranchKind::Cell(_) if rest.is_empty() => Err(Some(Expected::Once)),
+        _ => Err(Some(Expected::CellOrStruct)),
+    }
+}
+
+fn new_branch(alloc: Global, name: &str, is_cell: bool, place: usize) -> Result<Branch, Fault> {
+    let kind = if is_cell {
+        BranchKind::Cell(place)
+    } else {
+        BranchKind::Struct(Vec::new(alloc))
+    };
+    let name = named(alloc, name)?;
+    Ok(Branch { name, kind })
+}
+
+// The struct of those fields.
+#[cycle(typed)]
+fn struct_of(branches: &Vec<Branch>, alloc: Global, guesses: &[NamedGuess]) -> VortexResult<DType> {
+    let mut names = Vec::new(alloc);
+    let mut types = Vec::new(alloc);
+    for branch in branches {
+        types.push(field_type(&branch.kind, alloc, guesses)?)?;
+        names.push(branch.name.clone()?)?;
+    }
+    struct_type(alloc, names, types)
+}
+
+#[cycle(typed)]
+fn field_type(kind: &BranchKind, alloc: Global, guesses: &[NamedGuess]) -> VortexResult<DType> {
+    match kind {
+        BranchKind::Cell(place) => Ok(match guesses.get(*place) {
+            Some(cell) => cell.guess.dtype(),
+            None => CellGuess::new().dtype(),
+        }),
+        BranchKind::Struct(fields) => struct_of(fields, alloc, guesses),
+    }
+}
+
+// The struct of those names, each with the type beside it.
+fn struct_type(alloc: Global, names: Vec<FieldName>, types: Vec<DType>) -> VortexResult<DType>
+    requires { length names.items ≡ length types.items }
+{
+    let names = FieldNames::new(alloc, names)?;
+    let fields = StructFields::new(alloc, names, types)?;
+    Ok(DType::Struct(fields, Nullability::NonNullable))
+}

@@ -1,0 +1,133 @@
+// Records read as values of a type.
+use crate::csv_files::cells::{Found, read_value};
+use crate::csv_files::header::{cell_names, fault_at};
+use crate::csv_files::plan::{Cells, FieldPlan, Plan, first_repeated, listed};
+use crate::error::DataError;
+use crate::expected::Expected;
+use crate::fault::Fault;
+use csv::ByteRecord;
+use std::alloc::{AllocError, Global};
+use vx_types::{DType, FieldNames, Value};
+
+/// Reads the records behind a header as values of a type.
+#[derive(Debug, Drop)]
+pub struct CsvParser {
+    alloc: Global,
+    plan: Plan,
+    // For each cell of the type, where it stands in a record.
+    places: Vec<Option<usize>>,
+}
+
+impl CsvParser {
+    /// A parser of the records behind that header, which stands on that line. The header has the names of the type's
+    /// cells in any order: of a field of a field with a dot between the names, and `value` where the type is no struct. A
+    /// cell that is nullable may be missing, and so may all cells of a struct that is. Refuses a name that is none of the
+    /// type or stands there twice, and a missing cell, with the line and the path; a list with its type; two cells of one
+    /// name; a type without a cell; and with `OutOfMemory`.
+    pub fn new(
+        alloc: Global,
+        dtype: &DType,
+        line: u64,
+        header: &ByteRecord,
+    ) -> Result<CsvParser, DataError> {
+        match parser_of(alloc, dtype, header) {
+            Ok(parser) => Ok(parser),
+            Err(fault) => Err(fault.on_line(alloc, line)),
+        }
+    }
+
+    /// The value that the record on that line is: an empty cell is null where its type is nullable, and a struct whose
+    /// cells are all empty where that is; else `true`, `false`, a whole number of the type's range, a text, or bytes as `0x`
+    /// and two digits each. Refuses with the line, the path of the field, and what is expected there, and with
+    /// `OutOfMemory`.
+    pub fn parse(&self, line: u64, record: &ByteRecord) -> Result<Value, DataError> {
+        let found = Found {
+            record,
+            places: self.places.as_slice(),
+        };
+        match read_value(&self.plan, self.alloc, &found) {
+            Ok(value) => Ok(value),
+            Err(fault) => Err(fault.on_line(self.alloc, line)),
+        }
+    }
+}
+
+fn parser_of(alloc: Global, dtype: &DType, header: &ByteRecord) -> Result<CsvParser, Fault> {
+    let Cells { plan, names } = Cells::of(alloc, dtype)?;
+    let header = listed(alloc, cell_names(alloc, header)?)?;
+    check_header(alloc, &header, &names)?;
+    let places = places_of(alloc, &names, &header)?;
+    check_present(&plan, alloc, places.as_slice())?;
+    Ok(CsvParser {
+        alloc,
+        plan,
+        places,
+    })
+}
+
+// Refuses the first name of the header that stands there twice, or is none of the type's.
+fn check_header(alloc: Global, header: &FieldNames, names: &FieldNames) -> Result<(), Fault> {
+    if let Some(name) = first_repeated(header) {
+        return Err(fault_at(alloc, Expected::Once, name.as_str()));
+    }
+    match header.iter().find(|name| !names.contains(name)) {
+        Some(name) => Err(fault_at(alloc, Expected::Field, name.as_str())),
+        None => Ok(()),
+    }
+}
+
+// For each name where it stands in the header.
+fn places_of(
+    alloc: Global,
+    names: &FieldNames,
+    header: &FieldNames,
+) -> Result<Vec<Option<usize>>, AllocError> {
+    let mut places = Vec::with_capacity(alloc, names.len())?;
+    for name in names.iter() {
+        places.push(header.find(name))?;
+    }
+    Ok(places)
+}
+
+// Refuses the first cell that is missing and isn't nullable, nor in a nullable struct that has none.
+#[cycle(present)]
+fn check_present(plan: &Plan, alloc: Global, places: &[Option<usize>]) -> Result<(), Fault> {
+    match plan {
+        Plan::Cell { dtype, cell } => {
+            if dtype.is_nullable() || is_among(places, *cell) {
+                Ok(())
+            } else {
+                Err(Fault::new(alloc, Expected::Present))
+            }
+        }
+        Plan::Struct {
+            fields,
+            nullable,
+            start,
+            end,
+        } => {
+            if *nullable && !(*start..*end).any(|cell| is_among(places, cell)) {
+                return Ok(());
+            }
+            check_each(fields, alloc, places)
+        }
+    }
+}
+
+#[cycle(present)]
+fn check_each(
+    fields: &Vec<FieldPlan>,
+    alloc: Global,
+    places: &[Option<usize>],
+) -> Result<(), Fault> {
+    for field in fields {
+        if let Err(fault) = check_present(&field.plan, alloc, places) {
+            return Err(fault.within(&field.name));
+        }
+    }
+    Ok(())
+}
+
+fn is_among(places: &[Option<usize>], cell: usize) -> bool {
+    matches!(places.get(cell), Some(Some(_)))
+}

@@ -1,0 +1,86 @@
+// What is wrong inside a record, before it is known where the record stands.
+use crate::error::{DataError, WriteError};
+use crate::expected::Expected;
+use std::alloc::{AllocError, AllocFailed, Global};
+use vx_types::{FieldName, FieldPath, VortexResult};
+
+/// What a record is refused with by those who don't know where it stands. Its names are gathered from the inside out.
+#[derive(Debug, Drop)]
+pub enum Fault {
+    /// Memory ran out.
+    OutOfMemory,
+    /// Something else is expected where these names lead, the innermost first.
+    Unexpected {
+        names: Vec<FieldName>,
+        expected: Expected,
+    },
+}
+
+impl Fault {
+    /// Something else is expected of the value itself.
+    pub fn new(alloc: Global, expected: Expected) -> Fault {
+        Fault::Unexpected {
+            names: Vec::new(alloc),
+            expected,
+        }
+    }
+
+    /// The same fault, seen from the struct in whose field of that name it is.
+    pub fn within(self, name: &FieldName) -> Fault {
+        match self {
+            Fault::OutOfMemory => Fault::OutOfMemory,
+            Fault::Unexpected { names, expected } => match with_name(names, name) {
+                Ok(names) => Fault::Unexpected { names, expected },
+                Err(_) => Fault::OutOfMemory,
+            },
+        }
+    }
+
+    /// The refusal of the record that begins on that line.
+    pub fn on_line(self, alloc: Global, line: u64) -> DataError {
+        match self {
+            Fault::OutOfMemory => DataError::OutOfMemory,
+            Fault::Unexpected { names, expected } => match path_of(alloc, names) {
+                Ok(at) => DataError::Unexpected { line, at, expected },
+                Err(_) => DataError::OutOfMemory,
+            },
+        }
+    }
+
+    /// The refusal of the row of that index.
+    pub fn in_row(self, alloc: Global, row: usize) -> WriteError {
+        match self {
+            Fault::OutOfMemory => WriteError::OutOfMemory,
+            Fault::Unexpected { names, expected } => match path_of(alloc, names) {
+                Ok(at) => WriteError::Unwritable { row, at, expected },
+                Err(_) => WriteError::OutOfMemory,
+            },
+        }
+    }
+}
+
+fn with_name(mut names: Vec<FieldName>, name: &FieldName) -> Result<Vec<FieldName>, AllocError> {
+    names.push(name.clone()?)?;
+    Ok(names)
+}
+
+// The path of the names, of which the innermost comes first.
+fn path_of(alloc: Global, names: Vec<FieldName>) -> VortexResult<FieldPath> {
+    let mut path = FieldPath::root(alloc)?;
+    for name in names.into_iter().rev() {
+        path = path.push(alloc, name)?;
+    }
+    Ok(path)
+}
+
+impl From<AllocError> for Fault {
+    fn from(_e: AllocError) -> Fault {
+        Fault::OutOfMemory
+    }
+}
+
+impl<T: Drop> From<AllocFailed<T>> for Fault {
+    fn from(_e: AllocFailed<T>) -> Fault {
+        Fault::OutOfMemory
+    }
+}

@@ -1,5 +1,0 @@
-use Rattle.std.proofs.Common.{length}
-use Rattle.vx_data_csv.proofs.infer.+grow.Given as goal
-
-abbrev pub decreases-grow : goal.decreases-grow
-decreases-grow l = length l.names.now

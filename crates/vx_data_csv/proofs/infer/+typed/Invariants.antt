@@ -1,5 +1,0 @@
-use Rattle.std.proofs.Common.{◌≡◌, length}
-use Rattle.vx_data_csv.proofs.infer.+typed.Given as goal
-
-abbrev pub invariant-struct_of-loop-branch : goal.invariant-struct_of-loop-branch
-invariant-struct_of-loop-branch l = length l.names.items ≡ length l.types.items

@@ -1,5 +1,0 @@
-use Rattle.std.proofs.Common.{length}
-use Rattle.vx_data_csv.proofs.records.record_in.Given as goal
-
-abbrev pub decreases-ends : goal.decreases-ends
-decreases-ends l = length l.record

@@ -1,2 +1,0 @@
-mod Lined
-mod Spelled

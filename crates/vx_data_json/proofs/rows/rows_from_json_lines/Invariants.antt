@@ -1,6 +1,0 @@
-use Rattle.std.proofs.Common.{◌≡◌}
-use Rattle.vx_value.specs.Views.{type_of}
-use Rattle.vx_data_json.proofs.rows.rows_from_json_lines.Given as goal
-
-abbrev pub invariant-records : goal.invariant-records
-invariant-records g l = l.rows.type ≡ type_of l.dtype

@@ -1,2 +1,0 @@
-pub mod Grown
-pub mod Sizes

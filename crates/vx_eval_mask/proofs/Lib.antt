@@ -1,3 +1,0 @@
-mod Runs
-mod Stretches
-pub mod Pairs

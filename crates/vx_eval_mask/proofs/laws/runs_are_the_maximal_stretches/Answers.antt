@@ -1,5 +1,0 @@
-use Rattle.vx_eval_mask.proofs.Stretches.{are_runs}
-use Rattle.vx_eval_mask.proofs.laws.runs_are_the_maximal_stretches.Goals as goal
-
-pub returns : goal.returns
-returns c = are_runs

@@ -1,8 +1,0 @@
-// What the words of masks mean.
-ghost use Rattle.std.specs.Prelude.{◌≡◌, ℕ, ◌<◌, List, Bool, true, false, get_or, length};
-ghost use Rattle.vx_eval_mask.specs.Masks.{runs, AreRuns};
-
-/// The runs of a mask are its maximal true stretches, in order.
-pub fn runs_are_the_maximal_stretches()
-    ensures { (m : List Bool) → AreRuns m (runs m) }
-{}

@@ -1,8 +1,0 @@
-// Masks of rows.
-#![tactic(auto)]
-
-mod bits;
-pub mod laws;
-mod mask;
-
-pub use mask::RowMask;

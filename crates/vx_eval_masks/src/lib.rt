@@ -1,0 +1,18 @@
+// Masks of rows, and columns put together by them.
+#![tactic(auto)]
+
+mod bits;
+mod choice;
+mod compact;
+pub mod laws;
+mod mask;
+mod over;
+mod places;
+mod pushing;
+mod runs;
+
+pub use choice::{Merging, prefer_runs, preferred};
+pub use mask::RowMask;
+pub use over::{write_moved, write_repeated, write_with};
+pub use places::{place_at, place_of_all};
+pub use pushing::{push_moved, push_repeated, push_with};

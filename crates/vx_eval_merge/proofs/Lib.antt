@@ -1,3 +1,0 @@
-pub mod Writing
-mod Limits
-pub mod Apart

@@ -1,0 +1,2 @@
+pub mod Unsaid
+mod Lines

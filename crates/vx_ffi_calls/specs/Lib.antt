@@ -1,0 +1,5 @@
+pub mod Endings
+pub mod Stops
+pub mod RowPages
+pub mod RowStops
+pub mod VerdictPages

@@ -1,0 +1,155 @@
+// What stops a call that goes over records.
+ghost use Rattle.std.specs.Prelude.{◌≡◌, ◌⊎◌};
+ghost use Rattle.vx_ffi_calls.specs.declared.text.Given.TheVariants.{Records};
+ghost use Rattle.vx_ffi_calls.specs.Stops.{IsExhausted, text_number};
+ghost use Rattle.vx_ffi_calls.specs.RowStops.{IsErrorPlace, TellsRows, error_status};
+
+use crate::answer::{Place, Status};
+use crate::stop::{CallError, place_of, stop_of};
+use crate::text::Given;
+use std::alloc::Global;
+use vx_command_pages::{Input, Span};
+use vx_commands::{RowsComplaint, RowsMessage};
+use vx_data::{DataError, Expected, WriteError};
+use vx_records::RecordsError;
+
+/// The texts that a call is given which goes over records.
+#[derive(Clone, Copy, Debug)]
+pub struct Texts<'a> {
+    pub expression: &'a str,
+    pub schema: &'a str,
+    pub records: &'a [u8],
+}
+
+/// What stops a call that complains so of these texts.
+pub fn rows_stop(alloc: Global, complaint: &RowsComplaint, texts: &Texts<'_>) -> CallError
+    ensures { IsExhausted result ⊎ TellsRows complaint.now texts.now.expression.now texts.now.schema.now result }
+{
+    match complaint {
+        RowsComplaint::Query(complaint) => {
+            stop_of(alloc, complaint, texts.expression, texts.schema)
+        }
+        RowsComplaint::NotBool(_) => {
+            let end = texts.expression.len();
+            let place = place_of(Given::Expression, texts.expression, Span { start: 0, end });
+            told(alloc, Status::Refused, place, complaint, texts)
+        }
+        RowsComplaint::Records { error, span } => {
+            let place = place_at(error, *span, texts);
+            match status_of(error) {
+                Status::OutOfMemory => CallError::out_of_memory(alloc),
+                status => told(alloc, status, place, complaint, texts),
+            }
+        }
+    }
+}
+
+// How a call ends that the error stops.
+fn status_of(error: &RecordsError) -> Status
+    ensures { result ≡ error_status error.now }
+{
+    match error {
+        RecordsError::OutOfMemory
+        | RecordsError::Data(DataError::OutOfMemory)
+        | RecordsError::Write(WriteError::OutOfMemory) => Status::OutOfMemory,
+        RecordsError::Fault(_) => Status::Faulted,
+        RecordsError::Data(_) | RecordsError::Write(_) => Status::BadData,
+    }
+}
+
+// What the error is about: of a fault the node in the expression, else a place in the records.
+fn place_at(error: &RecordsError, span: Span, texts: &Texts<'_>) -> Place
+    ensures { IsErrorPlace error.now span texts.now.expression.now result }
+{
+    match error {
+        RecordsError::Fault(fault) => {
+            let mut place = place_of(Given::Expression, texts.expression, span);
+            place.record = fault.line.unwrap_or(0);
+            place
+        }
+        RecordsError::Data(DataError::Unexpected { line, expected, .. }) => {
+            place_on_line(texts.records, *line, byte_of(expected))
+        }
+        _ => in_records(0),
+    }
+}
+
+// The stop with the message of the complaint.
+fn told<'a>(
+    alloc: Global,
+    status: Status,
+    place: Place,
+    complaint: &'a RowsComplaint,
+    texts: &'a Texts<'a>,
+) -> CallError
+    ensures { IsExhausted result ⊎ ((result.status ≡ status) × (result.place ≡ place)) }
+{
+    let message = RowsMessage {
+        complaint,
+        expression: Input {
+            name: Given::Expression.name(),
+            text: texts.expression,
+        },
+        schema: Input {
+            name: Given::Schema.name(),
+            text: texts.schema,
+        },
+        data: Given::Records.name(),
+    };
+    CallError::new(alloc, status, place, &message)
+}
+
+// At which byte of a record something else is expected, where that is known.
+fn byte_of(expected: &Expected) -> usize {
+    match expected {
+        Expected::Json { at } | Expected::End { at } => *at,
+        _ => 0,
+    }
+}
+
+// The place of that byte of a line of the records.
+fn place_on_line(records: &[u8], number: u64, at: usize) -> Place
+    ensures { result.text ≡ text_number Records }
+{
+    let mut place = in_records(number);
+    if let Some((start, line)) = line_at(records, number) {
+        let before = &line[..at.min(line.len())];
+        place.start = start.saturating_add(before.len());
+        place.end = start.saturating_add(line.len());
+        place.line = usize::try_from(number).unwrap_or(0);
+        place.column = characters(before).saturating_add(1);
+    }
+    place
+}
+
+// The line of that number, from 1 on, behind its first byte.
+fn line_at(records: &[u8], number: u64) -> Option<(usize, &[u8])> {
+    let mut start = 0usize;
+    let mut left = number;
+    for line in records.split(|byte| *byte == b'\n') {
+        left = left.saturating_sub(1);
+        if left == 0 {
+            return Some((start, line));
+        }
+        start = start.saturating_add(line.len()).saturating_add(1);
+    }
+    None
+}
+
+// The records, at the one that begins on that line, without a place in them.
+fn in_records(number: u64) -> Place
+    ensures { result.text ≡ text_number Records }
+{
+    let mut place = Place::nowhere();
+    place.text = Given::Records.number();
+    place.record = number;
+    place
+}
+
+// How many characters begin in the bytes.
+fn characters(bytes: &[u8]) -> usize {
+    bytes
+        .iter()
+        .filter(|byte| **byte < 0x80 || **byte >= 0xc0)
+        .count()
+}

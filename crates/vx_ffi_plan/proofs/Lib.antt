@@ -1,0 +1,3 @@
+mod Given
+mod AsBox
+mod Ended

@@ -1,0 +1,4 @@
+pub mod Kept
+pub mod ScanStops
+pub mod Handles
+pub mod Held

@@ -1,0 +1,91 @@
+// The call that scans a batch by a plan.
+ghost use Rattle.std.specs.Prelude.{◌≡◌, ◌⊎◌, IfErr, IfOk};
+ghost use Rattle.vx_value.specs.Columns.{Batch};
+ghost use Rattle.vx_data_buffers.specs.Bytes.{bytes_in};
+ghost use Rattle.vx_data_buffers.specs.Rows.{column_said};
+ghost use Rattle.vx_data.specs.Lines.{json_lines};
+ghost use Rattle.vx_ffi_calls.specs.Endings.{EndsCall};
+ghost use Rattle.vx_ffi_calls.specs.Stops.{IsExhausted};
+ghost use Rattle.vx_ffi_plan.specs.Kept.{IsScanPage, scope_of};
+ghost use Rattle.vx_ffi_plan.specs.ScanStops.{IsBadData, IsNoBatch, ScanStops};
+
+use crate::kept::KeptPlan;
+use crate::scan_stop::{buffer_stop, write_stop};
+use crate::values::values_of;
+use std::alloc::Global;
+use vx_data::write_json_lines;
+use vx_data_buffers::{Buffer, column_of};
+use vx_ffi_calls::{Answer, CallError, Status, ended};
+use vx_types::Column;
+
+/// Answers what the plan's expression means at each row of the batch in the buffers, as a line of JSON
+/// each. Stops where the buffers have no batch of so many rows of the plan's type, as [`column_of`]
+/// refuses them; at the first fault of the expression on the batch; and where a value can't be
+/// written, as [`write_json_lines`] refuses it. Then no line is answered.
+pub fn answer_scan(
+    alloc: Global,
+    plan: &KeptPlan,
+    rows: usize,
+    buffers: &[Buffer<'_>],
+    buffer: &mut [u8],
+    answer: &mut Answer,
+) -> Status
+    ensures { EndsCall (IsScanPage plan.now rows (bytes_in buffers.now)) (ScanStops plan.now rows (bytes_in buffers.now)) buffer.old result buffer.new answer.new }
+{
+    ended(&scanned(alloc, plan, rows, buffers), buffer, answer)
+}
+
+fn scanned(
+    alloc: Global,
+    plan: &KeptPlan,
+    rows: usize,
+    buffers: &[Buffer<'_>],
+) -> Result<Vec<u8>, CallError>
+    ensures prints { IfOk result (λ page. IsScanPage plan.now rows (bytes_in buffers.now) page.items) }
+    ensures stop { IfErr result (ScanStops plan.now rows (bytes_in buffers.now)) }
+{
+    let batch = batch_of(alloc, plan, rows, buffers)?;
+    let values = values_of(alloc, plan, Box::into_inner(batch))?;
+    lines_of(alloc, &values)
+}
+
+// The batch in the buffers.
+fn batch_of(
+    alloc: Global,
+    plan: &KeptPlan,
+    rows: usize,
+    buffers: &[Buffer<'_>],
+) -> Result<Box<Column>, CallError>
+    ensures batch { IfOk result (λ batch. column_said (bytes_in buffers.now) (scope_of plan.now) rows ≡ Ok batch.value) }
+    ensures stop { IfErr result (λ stop. IsExhausted stop ⊎ IsNoBatch plan.now rows (bytes_in buffers.now) stop) }
+{
+    let Ok(scope) = plan.plan.scope().clone() else {
+        return Err(CallError::out_of_memory(alloc));
+    };
+    match column_of(alloc, scope, rows, buffers) {
+        Ok(batch) => boxed(alloc, batch),
+        Err(error) => Err(buffer_stop(alloc, &error)),
+    }
+}
+
+fn boxed(alloc: Global, batch: Column) -> Result<Box<Column>, CallError>
+    ensures batch { IfOk result (λ b. b.value ≡ batch) }
+    ensures stop { IfErr result IsExhausted }
+{
+    match Box::new(alloc, batch) {
+        Ok(batch) => Ok(batch),
+        Err(_) => Err(CallError::out_of_memory(alloc)),
+    }
+}
+
+// A line of JSON for each value.
+fn lines_of(alloc: Global, values: &Column) -> Result<Vec<u8>, CallError>
+    ensures lines { IfOk result (λ lines. lines.items ≡ json_lines values.now.type values.now.rows) }
+    ensures stop { IfErr result (λ stop. IsExhausted stop ⊎ IsBadData stop) }
+{
+    let mut lines = Vec::new(alloc);
+    match write_json_lines(alloc, values, &mut lines) {
+        Ok(()) => Ok(lines),
+        Err(error) => Err(write_stop(alloc, &error)),
+    }
+}

@@ -1,0 +1,115 @@
+// What stops a scan.
+ghost use Rattle.std.specs.Prelude.{◌≡◌, ◌≢◌, ◌⊎◌, string_bytes};
+ghost use Rattle.vx_data_buffers.specs.declared.error.BufferError.TheVariants.{OutOfMemory};
+ghost use Rattle.vx_command_pages.specs.declared.report.Span.{Span};
+ghost use Rattle.vx_ffi_calls.specs.declared.answer.Status.TheVariants.{Faulted};
+ghost use Rattle.vx_ffi_calls.specs.declared.text.Given.TheVariants.{Expression, Records};
+ghost use Rattle.vx_ffi_calls.specs.Stops.{IsExhausted, IsPlaceIn, text_number};
+ghost use Rattle.vx_ffi_plan.specs.Kept.{scope_of};
+ghost use Rattle.vx_ffi_plan.specs.ScanStops.{IsBadData, IsFaultStop};
+
+use crate::kept::KeptPlan;
+use std::alloc::Global;
+use vx_command_pages::{Input, bind, span_at};
+use vx_commands::{RowsComplaint, RowsMessage};
+use vx_data::WriteError;
+use vx_data_buffers::BufferError;
+use vx_ffi_calls::{CallError, Given, Place, Status, place_of};
+use vx_places::{Place as NodePlace, first_fault_at};
+use vx_records::{RecordFault, RecordsError};
+use vx_types::Column;
+
+/// What stops a scan whose buffers have no batch, with the row that it is on.
+pub(crate) fn buffer_stop(alloc: Global, error: &BufferError) -> CallError
+    ensures { IsExhausted result ⊎ (IsBadData result × (error.now ≢ OutOfMemory)) }
+{
+    let record = match error {
+        BufferError::OutOfMemory => return CallError::out_of_memory(alloc),
+        BufferError::BufferCount { .. } => 0,
+        BufferError::EndsEarly { row, .. }
+        | BufferError::Unordered { row, .. }
+        | BufferError::NotUtf8 { row, .. }
+        | BufferError::RowMisfit { row } => number_of(*row),
+    };
+    let message = format_args!("error: batch: {error}");
+    CallError::new(alloc, Status::BadData, in_batch(record), &message)
+}
+
+/// What stops a scan whose answer can't be written.
+pub(crate) fn write_stop(alloc: Global, error: &WriteError) -> CallError
+    ensures { IsExhausted result ⊎ IsBadData result }
+{
+    match error {
+        WriteError::OutOfMemory => CallError::out_of_memory(alloc),
+        error => {
+            let message = format_args!("error: writing: {error}");
+            CallError::new(alloc, Status::BadData, in_batch(0), &message)
+        }
+    }
+}
+
+/// What stops a scan whose plan faults on the batch: the first fault of the expression, with the row.
+/// Want of memory, too, where the fault can't be told for that.
+pub(crate) fn fault_stop(alloc: Global, kept: &KeptPlan, batch: &Column) -> CallError
+    requires { batch.now.type ≡ scope_of kept.now }
+    ensures { IsExhausted result ⊎ IsFaultStop kept.now batch.now result }
+{
+    let Ok(tree) = bind(alloc, &kept.placed, kept.plan.scope()) else {
+        return CallError::out_of_memory(alloc);
+    };
+    match first_fault_at(alloc, &tree, batch) {
+        Ok(Some(place)) => stop_at(alloc, kept, place),
+        _ => CallError::out_of_memory(alloc),
+    }
+}
+
+// The stop of that fault of the expression.
+fn stop_at(alloc: Global, kept: &KeptPlan, fault: NodePlace) -> CallError
+    ensures { IsExhausted result ⊎ ((result.status ≡ Faulted) × ((span : Span) × IsPlaceIn Expression (string_bytes kept.now.text) span.start span.end result.place)) }
+{
+    let row = fault.row();
+    let NodePlace { path, refusal } = fault;
+    let span = span_at(&kept.placed.places, path.as_slice());
+    let mut place = place_of(Given::Expression, kept.text.as_str(), span);
+    let error = RecordsError::Fault(RecordFault {
+        line: None,
+        path,
+        refusal,
+    });
+    let complaint = RowsComplaint::Records { error, span };
+    let message = RowsMessage {
+        complaint: &complaint,
+        expression: Input {
+            name: Given::Expression.name(),
+            text: kept.text.as_str(),
+        },
+        schema: Input {
+            name: Given::Schema.name(),
+            text: "",
+        },
+        data: "batch",
+    };
+    match row {
+        Some(row) => {
+            place.record = number_of(row);
+            let message = format_args!("{message}\n  = row: {row}");
+            CallError::new(alloc, Status::Faulted, place, &message)
+        }
+        None => CallError::new(alloc, Status::Faulted, place, &message),
+    }
+}
+
+// The batch, at the row of that number.
+fn in_batch(record: u64) -> Place
+    ensures { result.text ≡ text_number Records }
+{
+    let mut place = Place::nowhere();
+    place.text = Given::Records.number();
+    place.record = record;
+    place
+}
+
+// The number of a row, from 1 on.
+fn number_of(row: usize) -> u64 {
+    (row as u64).saturating_add(1)
+}

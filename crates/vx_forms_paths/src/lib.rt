@@ -1,6 +1,0 @@
-// Fields of fields, by their names behind dots.
-#![tactic(auto)]
-
-mod fields;
-
-pub use fields::field;

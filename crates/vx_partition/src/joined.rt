@@ -1,0 +1,47 @@
+// The struct that the partitions' results make: its type, and the holes over it.
+ghost use Rattle.std.specs.Prelude.{◌≡◌, length, Ok};
+ghost use Rattle.vx_value.specs.Returns.{ReturnsOrOom};
+ghost use Rattle.vx_value.specs.Views.{type_of};
+ghost use Rattle.vx_partition_laws.specs.Items.{struct_type};
+ghost use Rattle.vx_partition.specs.Filling.{holes_seen};
+ghost use Rattle.vx_partition.specs.Packing.{all_holes};
+ghost use Rattle.vx_tree.specs.Trees.{scope};
+ghost use Rattle.vx_tree.specs.Views.{bounds_of};
+
+use crate::holes::all_holes;
+use std::alloc::Global;
+use vx_tree::{
+    BoundExpression, DType, FieldNames, Nullability, StructFields, VortexResult, dtypes_of,
+};
+
+// The struct type, not nullable, of the partitions' types under these names.
+pub(crate) fn joined_dtype(
+    alloc: Global,
+    names: &FieldNames,
+    partitions: &[BoundExpression],
+) -> VortexResult<DType>
+    requires { length names.now ≡ length partitions.now }
+    ensures { ReturnsOrOom type_of result (Ok (struct_type names.now (bounds_of partitions.now))) }
+{
+    let types = dtypes_of(alloc, partitions)?;
+    let fields = StructFields::new(alloc, names.clone()?, types)?;
+    Ok(DType::Struct(fields, Nullability::NonNullable))
+}
+
+// The holes of the partitions' pieces, over the scope of that type.
+pub(crate) fn joined_holes(
+    alloc: Global,
+    names: &FieldNames,
+    piece_names: &[FieldNames],
+    partitions: &[BoundExpression],
+) -> VortexResult<Vec<Vec<BoundExpression>>>
+    requires named { length names.now ≡ length partitions.now }
+    requires pieces_named { length piece_names.now ≡ length partitions.now }
+    ensures { ReturnsOrOom (λ holes. holes_seen holes.items) result (Ok (all_holes (scope (struct_type names.now (bounds_of partitions.now))) names.now piece_names.now (bounds_of partitions.now))) }
+{
+    let root = BoundExpression::new_root(joined_dtype(alloc, names, partitions)?);
+    let holes = all_holes(alloc, &root, names, piece_names, partitions);
+    // By `drop`: to let go of a tree in place takes the proof far longer.
+    drop(root);
+    holes
+}

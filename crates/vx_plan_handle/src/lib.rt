@@ -1,6 +1,0 @@
-// Plans that a program in another language keeps.
-#![tactic(auto)]
-
-mod handle;
-
-pub use handle::PlanHandle;

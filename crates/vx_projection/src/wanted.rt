@@ -1,0 +1,166 @@
+// What is wanted of the values of a type.
+ghost use Rattle.std.specs.Prelude.{◌≡◌, [], IfOk, option_map};
+ghost use Rattle.vx_value.specs.Paths.{is_member, path_of};
+ghost use Rattle.vx_value.specs.Views.{data_view, fields_of, type_of, value_of};
+ghost use Rattle.vx_projection.specs.Kept.{others, rest_behind, rests};
+ghost use Rattle.vx_projection.specs.Wanted.{each_taken, fields_wanted, lent_paths, taken, wanted, wanted_of, wanted_view};
+
+use crate::defaults::default_value;
+use std::alloc::{AllocError, Global};
+use vx_types::{DType, Field, FieldName, StructFields, Value};
+
+// How much is wanted of a value.
+#[derive(Drop)]
+pub(crate) enum Wanted {
+    // All of it.
+    All,
+    // Nothing of it, but this in its place.
+    Default(Value),
+    // Of a struct so much of each field; of a null struct that it is null.
+    Fields(Vec<Wanted>),
+}
+
+// What is wanted of the values of the type along the paths.
+#[cycle(along)]
+pub(crate) fn wanted_along(
+    alloc: Global,
+    dtype: &DType,
+    paths: Vec<&[Field]>,
+) -> Result<Wanted, AllocError>
+    ensures { IfOk result (λ w. wanted_of w ≡ wanted (lent_paths paths.entry.items) (type_of dtype.now)) }
+{
+    if has_root(paths.as_slice()) {
+        return Ok(Wanted::All);
+    }
+    if paths.is_empty() {
+        return Ok(Wanted::Default(default_value(alloc, dtype)?));
+    }
+    match dtype {
+        DType::Struct(fields, _) => Ok(Wanted::Fields(wanted_of_each(alloc, fields, paths)?)),
+        _ => Ok(Wanted::Default(default_value(alloc, dtype)?)),
+    }
+}
+
+// So for each of the fields.
+#[cycle(along)]
+fn wanted_of_each(
+    alloc: Global,
+    fields: &StructFields,
+    paths: Vec<&[Field]>,
+) -> Result<Vec<Wanted>, AllocError>
+    ensures { IfOk result (λ ws. wanted_view ws.items ≡ fields_wanted (lent_paths paths.entry.items) (fields_of fields.now)) }
+{
+    let names = fields.names().as_slice();
+    let types = fields.types();
+    let mut left = paths;
+    let mut each = Vec::with_capacity(alloc, fields.nfields())?;
+    for i in 0..fields.nfields() {
+        let name = &names[i];
+        let inside = rests_behind(alloc, name, left.as_slice())?;
+        each.push(wanted_along(alloc, &types[i], inside)?)?;
+        left = others_than(alloc, name, left.as_slice())?;
+    }
+    Ok(each)
+}
+
+// Whether the root path is one of these.
+fn has_root(paths: &[&[Field]]) -> bool
+    ensures { result ≡ is_member (lent_paths paths.now) [] }
+{
+    for i in 0..paths.len() {
+        if paths[i].is_empty() {
+            return true;
+        }
+    }
+    false
+}
+
+// The rests of the paths that begin with the name.
+fn rests_behind<'a>(
+    alloc: Global,
+    name: &FieldName,
+    paths: &[&'a [Field]],
+) -> Result<Vec<&'a [Field]>, AllocError>
+    ensures { IfOk result (λ found. lent_paths found.items ≡ rests name.now (lent_paths paths.now)) }
+{
+    let mut found = Vec::new(alloc);
+    for i in 0..paths.len() {
+        match rest_behind(name, paths[i]) {
+            Some(rest) => found.push(rest)?,
+            None => {}
+        }
+    }
+    Ok(found)
+}
+
+// The paths that begin otherwise.
+fn others_than<'a>(
+    alloc: Global,
+    name: &FieldName,
+    paths: &[&'a [Field]],
+) -> Result<Vec<&'a [Field]>, AllocError>
+    ensures { IfOk result (λ found. lent_paths found.items ≡ others name.now (lent_paths paths.now)) }
+{
+    let mut found = Vec::new(alloc);
+    for i in 0..paths.len() {
+        let path = paths[i];
+        if rest_behind(name, path).is_none() {
+            found.push(path)?;
+        }
+    }
+    Ok(found)
+}
+
+// The rest of the path behind the name, if it begins with it.
+fn rest_behind<'a>(name: &FieldName, path: &'a [Field]) -> Option<&'a [Field]>
+    ensures { option_map (λ rest. path_of rest.now) result ≡ rest_behind name.now (path_of path.now) }
+{
+    let [Field::Name(first), rest @ ..] = path else {
+        return None;
+    };
+    if *name == *first { Some(rest) } else { None }
+}
+
+impl Wanted {
+    // What is wanted of the value, and defaults in place of the rest.
+    pub(crate) fn of(&self, alloc: Global, value: &Value) -> Result<Value, AllocError>
+        ensures { IfOk result (λ v. value_of v ≡ taken (wanted_of self.now) (value_of value.now)) }
+    {
+        taken(alloc, self, value)
+    }
+}
+
+#[cycle(taken)]
+fn taken(alloc: Global, wanted: &Wanted, value: &Value) -> Result<Value, AllocError>
+    ensures { IfOk result (λ v. value_of v ≡ taken (wanted_of wanted.now) (value_of value.now)) }
+{
+    match wanted {
+        Wanted::All => value.clone(),
+        Wanted::Default(default) => default.clone(),
+        Wanted::Fields(each) => match value {
+            Value::Struct(items) => Ok(Value::Struct(taken_of_each(
+                alloc,
+                each.as_slice(),
+                items.as_slice(),
+            )?)),
+            _ => value.clone(),
+        },
+    }
+}
+
+// So of each value what is wanted of it.
+#[cycle(taken)]
+fn taken_of_each(
+    alloc: Global,
+    wanted: &[Wanted],
+    values: &[Value],
+) -> Result<Vec<Value>, AllocError>
+    ensures { IfOk result (λ vs. data_view vs.items ≡ each_taken (wanted_view wanted.now) (data_view values.now)) }
+{
+    let count = wanted.len().min(values.len());
+    let mut made = Vec::with_capacity(alloc, count)?;
+    for i in 0..count {
+        made.push(taken(alloc, &wanted[i], &values[i])?)?;
+    }
+    Ok(made)
+}

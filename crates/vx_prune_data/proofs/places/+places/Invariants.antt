@@ -1,9 +1,0 @@
-use Rattle.vx_value.specs.Views.{type_of, fields_of}
-use Rattle.vx_scan_kept.proofs.Sizes.{type_size, fields_size}
-use Rattle.vx_prune_data.proofs.places.+places.Given as goal
-
-abbrev pub decreases-push_places : goal.decreases-push_places
-decreases-push_places l = type_size (type_of l.dtype.now)
-
-abbrev pub decreases-push_fields : goal.decreases-push_fields
-decreases-push_fields l = fields_size (fields_of l.fields.now)

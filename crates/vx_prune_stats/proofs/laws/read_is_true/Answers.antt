@@ -1,5 +1,0 @@
-use Rattle.vx_prune_stats.proofs.Truth.{read_is_true}
-use Rattle.vx_prune_stats.proofs.laws.read_is_true.Goals as goal
-
-pub returns : goal.returns
-returns c = read_is_true

@@ -1,0 +1,17 @@
+pub mod Keeping
+pub mod Stepping
+pub mod Weighing
+pub mod Rebuilding
+pub mod Forms
+pub mod RewrittenChildren
+pub mod Normality
+pub mod Children
+pub mod Joins
+pub mod Inside
+pub mod Sets
+pub mod Casts
+pub mod Literals
+pub mod Cases
+pub mod Counted
+pub mod Answering
+pub mod Prelude

@@ -1,0 +1,10 @@
+pub mod Keeps
+pub mod Steps
+pub mod Weights
+pub mod Lawful
+pub mod Laws
+pub mod NormalForms
+pub mod Nodes
+pub mod FromSubterms
+pub mod Sets
+pub mod Prelude

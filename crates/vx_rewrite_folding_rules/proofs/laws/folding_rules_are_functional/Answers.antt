@@ -1,5 +1,0 @@
-use Rattle.vx_rewrite_folding_rules.proofs.Lawfulness.{folding_functional}
-use Rattle.vx_rewrite_folding_rules.proofs.laws.folding_rules_are_functional.Goals as goal
-
-pub returns : goal.returns
-returns c = folding_functional

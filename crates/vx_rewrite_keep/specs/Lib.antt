@@ -1,4 +1,0 @@
-pub mod Keeps
-pub mod Steps
-pub mod Weights
-pub mod Lawful

@@ -1,5 +1,0 @@
-use Rattle.vx_rewrite_optimizer.proofs.Normality.{final}
-use Rattle.vx_rewrite_optimizer.proofs.laws.normal_is_final.Goals as goal
-
-pub returns : goal.returns
-returns g c = λ rules. final (g.R.Rule.gives rules)

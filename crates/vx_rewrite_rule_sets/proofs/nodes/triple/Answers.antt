@@ -1,5 +1,0 @@
-use Rattle.vx_rewrite_rule_sets.proofs.Counted.{not_three}
-use Rattle.vx_rewrite_rule_sets.proofs.nodes.triple.Goals as goal
-
-pub returns-then-trees-ne3 : goal.returns-then-trees-ne3
-returns-then-trees-ne3 c = not_three c.args.trees.now c.if-trees-ne3.true

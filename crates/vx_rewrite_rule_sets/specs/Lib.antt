@@ -1,4 +1,0 @@
-pub mod Nodes
-pub mod Modest
-pub mod Sets
-pub mod Prelude

@@ -1,7 +1,0 @@
-use Rattle.std.specs.Slice.Iter.{iter_rest}
-use Rattle.vx_rewrite_split.specs.Filling.{holes_seen}
-use Rattle.vx_rewrite_split.proofs.Filling.{FilledSo}
-use Rattle.vx_rewrite_split.proofs.fill.+fill.Given as goal
-
-abbrev pub invariant-fill_each-loop-e : goal.invariant-fill_each-loop-e
-invariant-fill_each-loop-e l = FilledSo (holes_seen l.holes) l.filled.items l.es l.e-index (iter_rest l.fn.marks) (iter_rest l.marks)

@@ -1,2 +1,0 @@
-pub mod Pruned
-pub mod Faulting

@@ -1,5 +1,0 @@
-use Rattle.vx_scan_alike.proofs.Faulting.{normal_trees-alike}
-use Rattle.vx_scan_alike.proofs.laws.normal_trees_fault_alike.Goals as goal
-
-pub returns : goal.returns
-returns c = normal_trees-alike

@@ -1,5 +1,0 @@
-use Rattle.vx_scan_kept.proofs.Agreeing.{kept_rows-agree}
-use Rattle.vx_scan_kept.proofs.laws.kept_rows_agree.Goals as goal
-
-pub returns : goal.returns
-returns c = kept_rows-agree

@@ -1,5 +1,0 @@
-use Rattle.vx_scan_kept.proofs.Keeping.{kept_rows-fit}
-use Rattle.vx_scan_kept.proofs.laws.kept_rows_fit.Goals as goal
-
-pub returns : goal.returns
-returns c = kept_rows-fit

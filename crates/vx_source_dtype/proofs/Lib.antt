@@ -1,6 +1,0 @@
-pub mod Reading
-pub mod TypesAgain
-pub mod TypeEnds
-pub mod FieldSources
-pub mod NameSources
-pub mod Doubling

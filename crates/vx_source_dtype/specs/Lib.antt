@@ -1,6 +1,0 @@
-pub mod Names
-pub mod Reading
-pub mod TypeTexts
-pub mod Spelled
-pub mod TypeReading
-pub mod TypeViews

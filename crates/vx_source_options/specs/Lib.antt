@@ -1,4 +1,0 @@
-pub mod NameParts
-pub mod Parts
-pub mod ScalarViews
-pub mod Views

@@ -1,0 +1,33 @@
+-- What a whole text comes to, where a place up to the token is all that is said of a refusal.
+use Rattle.std.proofs.Common.{◌≡◌, ◌≤◌, ◌<◌, ℕ, false, List, length, drop, Ok, Err, sym, subst, arith}
+use Rattle.vx_source_types.specs.declared.error.ParseError.{ParseError}
+use Rattle.vx_source_types.specs.declared.error.ParseError.TheVariants.{OutOfMemory, Unexpected}
+use Rattle.vx_source_types.specs.Tokens.{Lexeme, skip, first}
+use Rattle.vx_tree.specs.Trees.{Tree}
+use Rattle.vx_source_types.specs.Reading.{Goes, more, Step, Leads, stops_at, IsRead}
+use Rattle.vx_source_types.proofs.Reading.{forward}
+use Rattle.vx_source_types.specs.ScalarReading.{ParsesWithin}
+use Rattle.vx_source_grammar.specs.ExpressionReading.{expression_step}
+use Rattle.vx_source_grammar.specs.States.{ExpressionState, expression_start}
+use Rattle.vx_source_writer.specs.SourceTexts.{source}
+use Rattle.vx_source_laws.specs.Nesting.{nesting}
+use Rattle.vx_source_laws.specs.SpelledTrees.{IsSpelledTree}
+use Rattle.vx_source_laws.proofs.Again.{again}
+use Rattle.vx_source_operands.specs.Places.{ReadsUpTo}
+use Rattle.vx_source_laws.proofs.Ends.{end_stops}
+
+-- a token that is no part of what is read, at its place or before it
+pub stopped_up_to : {S A B T : Type 0} (step : Step S B) {s u : S} {bs cs : List ℕ} {x : Lexeme} (view : A → B) (other : T → Goes S B) (error : ParseError) (from at : ℕ)
+    → Leads step s bs u (drop from bs) → first (drop from bs) ≡ (x, cs) → ReadsUpTo at other (Err error) (step u x) → at ≤ length bs → ParsesWithin step s bs view (Err error)
+stopped_up_to step view other OutOfMemory from at h p q l = tt
+stopped_up_to step {bs = bs} view other (Unexpected place e) from at h p q l = (omega (arith, q.0), (skip false (drop from bs), stops_at h p q.1))
+
+-- a token that is a part of an expression takes some of the text
+pub takes_some : (s u : ExpressionState) (bs : List ℕ) (from at to : ℕ) (x : Lexeme) (cs : List ℕ) → first (drop from bs) ≡ (x, cs) → drop at bs ≡ skip false (drop from bs) → from ≤ at → at ≤ to
+    → (at < length bs → at < to) → expression_step s x ≡ Ok (more u) → from < to
+takes_some s u bs from at to x cs p q h k l e =
+    forward bs from at to x cs p q h k l (λ n. end_stops s u (subst (λ y. expression_step s y ≡ Ok (more u)) n e))
+
+-- the source text of an expression is read as it
+pub written_is_read : (e : Tree) (room : ℕ) (bs : List ℕ) → IsSpelledTree e → nesting e ≤ room → bs ≡ source e → IsRead expression_step (expression_start room) bs e
+written_is_read e room bs w h is = subst (λ x. IsRead expression_step (expression_start room) x e) (sym is) (again e room w h)

@@ -1,0 +1,69 @@
+// All operators have their last operand: the bracket that is open outside goes on, or closes.
+ghost use Rattle.vx_source_types.specs.Views.{lexeme_of};
+ghost use Rattle.vx_source_grammar.specs.Closing.{bracket_goes, closes, whole_ends};
+ghost use Rattle.vx_source_operands.specs.Places.{ReadsUpTo};
+ghost use Rattle.vx_source_operands.specs.OperandViews.{frames_of, operand_of, step_of};
+
+use crate::brackets::{after_cast, after_child, after_enclosed, after_packed, after_part};
+use crate::steps::with_operand;
+use std::alloc::Global;
+use vx_source_operands::{ExpressionStep, Frame, Level, Operand, reduce};
+use vx_source_types::{Expected, Found, ParseError, Token, refusal};
+
+/// What a token that is no operator makes of the operand, and of all that waits for it.
+pub(crate) fn close(
+    alloc: Global,
+    frames: Vec<Frame>,
+    room: usize,
+    operand: Operand,
+    found: &Found,
+) -> Result<ExpressionStep, ParseError>
+    ensures { ReadsUpTo found.now.at step_of result (closes (frames_of frames.items) room (operand_of operand) (lexeme_of found.now.token)) }
+{
+    let (frames, operand) = reduce(alloc, frames, room, operand, Level::Or, found)?;
+    after_bracketed(alloc, frames, room, operand, found)
+}
+
+// What a token makes of the bracket that is open outside.
+fn after_bracketed(
+    alloc: Global,
+    mut frames: Vec<Frame>,
+    room: usize,
+    operand: Operand,
+    found: &Found,
+) -> Result<ExpressionStep, ParseError>
+    ensures { ReadsUpTo found.now.at step_of result (bracket_goes room (lexeme_of found.now.token) (frames_of frames.items) (operand_of operand)) }
+{
+    let Some(frame) = frames.pop() else {
+        return after_whole(operand, found);
+    };
+    match frame {
+        Frame::Paren(bracket) => after_enclosed(frames, operand, bracket, found),
+        Frame::Call(callee, children, bracket) => {
+            let children = with_operand(children, operand)?;
+            after_child(alloc, frames, room, callee, children, bracket, found)
+        }
+        Frame::Pack(names, children, bracket) => {
+            let children = with_operand(children, operand)?;
+            after_packed(frames, room, names, children, bracket, found)
+        }
+        Frame::Cast(bracket) => after_cast(alloc, frames, room, operand, bracket, found),
+        Frame::Case(part, children, bracket) => {
+            let children = with_operand(children, operand)?;
+            after_part(alloc, frames, room, part, children, bracket, found)
+        }
+        Frame::Lower(_) => Err(refusal(found, Expected::And)),
+        // No operator waits for its last operand here.
+        _ => Err(refusal(found, Expected::Operator)),
+    }
+}
+
+// What follows the whole expression.
+fn after_whole(operand: Operand, found: &Found) -> Result<ExpressionStep, ParseError>
+    ensures { ReadsUpTo found.now.at step_of result (whole_ends (operand_of operand) (lexeme_of found.now.token)) }
+{
+    match &found.token {
+        Token::End => Ok(ExpressionStep::Done(operand)),
+        _ => Err(refusal(found, Expected::Operator)),
+    }
+}

@@ -1,0 +1,21 @@
+// The parser of source text: from tokens to expressions.
+#![tactic(auto)]
+
+mod after;
+mod again;
+mod begin;
+mod brackets;
+mod calls;
+mod chains;
+mod close;
+mod comparisons;
+mod postfix;
+mod step;
+mod steps;
+mod values;
+mod whole;
+mod words;
+
+pub use again::read_again;
+pub use vx_source_operands::Places;
+pub use whole::{Placed, parse, parse_with, parse_with_places};

@@ -1,0 +1,96 @@
+// Whole texts of expressions.
+ghost use Rattle.std.specs.Prelude.{◌≡◌, ◌≤◌, Err, MatchOption};
+ghost use Rattle.vx_tree.specs.Trees.{Tree};
+ghost use Rattle.vx_tree.specs.Views.{tree_of};
+ghost use Rattle.vx_source_types.specs.Tokens.{end};
+ghost use Rattle.vx_source_types.specs.Views.{lexeme_of};
+ghost use Rattle.vx_source_types.specs.Reading.{IsRead, Gives, ReadsAt, whole_text};
+ghost use Rattle.vx_source_types.specs.ScalarReading.{ParsesWithin};
+ghost use Rattle.vx_source_grammar.specs.ExpressionReading.{expression_step};
+ghost use Rattle.vx_source_grammar.specs.States.{expression_start};
+ghost use Rattle.vx_source_operands.specs.OperandViews.{operand_of};
+ghost use Rattle.vx_source_writer.specs.SourceTexts.{source};
+ghost use Rattle.vx_source_laws.specs.Nesting.{nesting};
+ghost use Rattle.vx_source_laws.specs.SpelledTrees.{IsSpelledTree};
+ghost use Rattle.vx_source_parser.specs.Placed.{tree_in};
+
+use crate::step::step;
+use std::alloc::Global;
+use vx_source_operands::{ExpressionReader, ExpressionStep, Operand, Places};
+use vx_source_types::{DEFAULT_NESTING, Expected, Found, ParseError, Token, first_token, refusal};
+use vx_tree::Expression;
+
+/// An expression, and the bytes that its nodes were read from.
+#[derive(Drop)]
+pub struct Placed {
+    /// The expression.
+    pub expression: Expression,
+    /// The bytes of its first node, and those of the nodes below.
+    pub places: Places,
+}
+
+/// The expression that the text says, nested at most 200 deep. Refuses with the byte where reading stopped, or with one
+/// before it, where a word, a value or an option begins that doesn't fit, and what would have stood right there, and with
+/// `OutOfMemory`. Time is linear in the text.
+pub fn parse(alloc: Global, text: &str) -> Result<Expression, ParseError>
+    ensures parses { ParsesWithin expression_step (expression_start 200) text.now (λ e. tree_of e) result }
+    ensures complete { (e : Tree) → IsRead expression_step (expression_start 200) text.now e → Gives tree_of result e }
+    ensures again { (e : Tree) → IsSpelledTree e → nesting e ≤ 200 → text.now ≡ source e → Gives tree_of result e }
+{
+    parse_with(alloc, text, DEFAULT_NESTING)
+}
+
+/// The same, nested at most as deep as said: so many brackets may be open, and so deep may the tree be below its
+/// first node, both together.
+pub fn parse_with(alloc: Global, text: &str, limit: usize) -> Result<Expression, ParseError>
+    ensures parses { ParsesWithin expression_step (expression_start limit) text.now (λ e. tree_of e) result }
+    ensures complete { (e : Tree) → IsRead expression_step (expression_start limit) text.now e → Gives tree_of result e }
+    ensures again { (e : Tree) → IsSpelledTree e → nesting e ≤ limit → text.now ≡ source e → Gives tree_of result e }
+{
+    let Operand { tree, .. } = read(alloc, text, limit)?;
+    Ok(Box::into_inner(tree))
+}
+
+/// The same, and beside it the bytes that each node was read from.
+pub fn parse_with_places(alloc: Global, text: &str, limit: usize) -> Result<Placed, ParseError>
+    ensures parses { ParsesWithin expression_step (expression_start limit) text.now tree_in result }
+    ensures complete { (e : Tree) → IsRead expression_step (expression_start limit) text.now e → Gives tree_in result e }
+    ensures again { (e : Tree) → IsSpelledTree e → nesting e ≤ limit → text.now ≡ source e → Gives tree_in result e }
+{
+    let Operand { tree, places, .. } = read(alloc, text, limit)?;
+    Ok(Placed {
+        expression: Box::into_inner(tree),
+        places,
+    })
+}
+
+// Reads the text token by token.
+fn read(alloc: Global, text: &str, limit: usize) -> Result<Operand, ParseError>
+    ensures { ParsesWithin expression_step (expression_start limit) text.now operand_of result }
+{
+    let mut reader = ExpressionReader::new(alloc, limit);
+    let mut from = 0;
+    loop {
+        let found = first_token(alloc, text, from)?;
+        from = found.end;
+        let surplus = surplus(&found);
+        match step(alloc, reader, found) {
+            Ok(ExpressionStep::More(next)) => reader = next,
+            Ok(ExpressionStep::Done(operand)) => match surplus {
+                None => return Ok(operand),
+                Some(error) => return Err(error),
+            },
+            Err(error) => return Err(error),
+        }
+    }
+}
+
+// Why the token may not stand behind the whole expression; None at the end of the text.
+fn surplus(found: &Found) -> Option<ParseError>
+    ensures { MatchOption result (lexeme_of found.now.token ≡ end) (λ e. (a : Tree) → ReadsAt found.now.at operand_of (Err e) (whole_text a (lexeme_of found.now.token))) }
+{
+    match &found.token {
+        Token::End => None,
+        _ => Some(refusal(found, Expected::End)),
+    }
+}

@@ -1,0 +1,239 @@
+// What follows a word, and a function's name with its options.
+ghost use Rattle.std.specs.Prelude.{[], ◌∷◌, ◌++◌};
+ghost use Rattle.vx_fn.specs.Functions.{get_item};
+ghost use Rattle.vx_fn.specs.Views as functions;
+ghost use Rattle.vx_tree.specs.Trees.{root};
+ghost use Rattle.vx_source_types.specs.Views.{lexeme_of};
+ghost use Rattle.vx_source_grammar.specs.Keywords.{beside};
+ghost use Rattle.vx_source_grammar.specs.OptionReading.{plain_functions, function_read};
+ghost use Rattle.vx_source_grammar.specs.Beginning.{case_at, children_at, id_at, id_called, node_before, options_at, vortex_at, word_at};
+ghost use Rattle.vx_source_grammar.specs.Closing.{keyword_at};
+ghost use Rattle.vx_source_grammar.specs.States.{children_due, goes, in_options, when_read};
+ghost use Rattle.vx_source_operands.specs.Places.{ReadsUpTo};
+ghost use Rattle.vx_source_operands.specs.OperandViews.{frames_of, lexemes_of, step_of};
+
+use crate::after::after_tight;
+use crate::begin::field_of_root;
+use crate::calls::{call, open_children};
+use crate::postfix::{dot, field};
+use crate::steps::keyword;
+use std::alloc::Global;
+use vx_fn::ScalarFnRef;
+use vx_source_grammar::Keyword;
+use vx_source_operands::{
+    Callee, ExpressionStep, Frame, Mode, OptionsSoFar, function_of, more, plain_function,
+};
+use vx_source_types::{Expected, Found, ParseError, Sign, Token, expected, inside, refusal};
+use vx_types::FieldName;
+
+// What follows a word: a bracket makes it the name of a function, and a dot behind `vortex` may begin such a name; else it
+// is a field.
+pub(crate) fn after_word(
+    alloc: Global,
+    frames: Vec<Frame>,
+    room: usize,
+    word: FieldName,
+    bytes: (usize, usize),
+    found: &Found,
+) -> Result<ExpressionStep, ParseError>
+    ensures reads { ReadsUpTo found.now.at step_of result (word_at (frames_of frames.items) room word (lexeme_of found.now.token)) }
+{
+    match &found.token {
+        Token::Sign(Sign::OpenParen) => call(alloc, frames, room, word, bytes.0, found),
+        Token::Sign(Sign::Dot) => {
+            if word.as_str() == "vortex" {
+                Ok(more(frames, Mode::Vortex(word, bytes.0, bytes.1), room))
+            } else {
+                end_field(alloc, frames, room, word, bytes, found)
+            }
+        }
+        _ => end_field(alloc, frames, room, word, bytes, found),
+    }
+}
+
+// A field of the scope root, whose name has ended.
+fn end_field(
+    alloc: Global,
+    frames: Vec<Frame>,
+    room: usize,
+    name: FieldName,
+    bytes: (usize, usize),
+    found: &Found,
+) -> Result<ExpressionStep, ParseError>
+    ensures reads { ReadsUpTo found.now.at step_of result (node_before (frames_of frames.items) room (get_item name) (root ∷ []) (lexeme_of found.now.token)) }
+{
+    let operand = field_of_root(alloc, name, bytes, room, found)?;
+    after_tight(alloc, frames, room, operand, found)
+}
+
+// A name behind `vortex.`, or a field of the field of that name.
+pub(crate) fn after_vortex(
+    alloc: Global,
+    frames: Vec<Frame>,
+    room: usize,
+    word: FieldName,
+    bytes: (usize, usize),
+    found: &Found,
+) -> Result<ExpressionStep, ParseError>
+    ensures reads { ReadsUpTo found.now.at step_of result (vortex_at (frames_of frames.items) room word (lexeme_of found.now.token)) }
+{
+    match &found.token {
+        Token::Word(name) => {
+            let mode = Mode::Id(word, name.clone()?, bytes.0, found.end);
+            Ok(more(frames, mode, room))
+        }
+        _ => {
+            let operand = field_of_root(alloc, word, bytes, room, found)?;
+            dot(alloc, frames, room, operand, found)
+        }
+    }
+}
+
+// What follows `vortex.` and a name: a bracket makes that the name of a function; else it is a field of a field.
+pub(crate) fn after_id(
+    alloc: Global,
+    frames: Vec<Frame>,
+    room: usize,
+    names: (FieldName, FieldName),
+    bytes: (usize, usize),
+    found: &Found,
+) -> Result<ExpressionStep, ParseError>
+    ensures reads { ReadsUpTo found.now.at step_of result (id_at (frames_of frames.items) room names.0 names.1 (lexeme_of found.now.token)) }
+{
+    let (word, name) = names;
+    match &found.token {
+        Token::Sign(Sign::OpenParen) => call_by_id(alloc, frames, room, name, bytes.0, found),
+        Token::Sign(Sign::OpenBracket) => {
+            let less = inside(room, found)?;
+            let options = OptionsSoFar {
+                name,
+                tokens: Vec::new(alloc),
+                opened: 0,
+                room: less,
+                start: bytes.0,
+            };
+            Ok(more(frames, Mode::Options(options), room))
+        }
+        _ => {
+            let inner = field_of_root(alloc, word, bytes, room, found)?;
+            let operand = field(alloc, name, inner, bytes.1, room, found)?;
+            after_tight(alloc, frames, room, operand, found)
+        }
+    }
+}
+
+// The bracket behind `vortex.` and a name.
+fn call_by_id(
+    alloc: Global,
+    frames: Vec<Frame>,
+    room: usize,
+    name: FieldName,
+    start: usize,
+    found: &Found,
+) -> Result<ExpressionStep, ParseError>
+    ensures reads { ReadsUpTo found.now.at step_of result (id_called (frames_of frames.items) room (beside plain_functions name)) }
+{
+    match plain_function(&name) {
+        Some(function) => open_children(alloc, frames, room, Callee::Own(function), start, found),
+        None => Err(expected(found, Expected::Options)),
+    }
+}
+
+// Another token of the options, or the bracket behind them; brackets in them count.
+pub(crate) fn options_next(
+    alloc: Global,
+    frames: Vec<Frame>,
+    room: usize,
+    options: OptionsSoFar,
+    found: Found,
+) -> Result<ExpressionStep, ParseError>
+    ensures reads { ReadsUpTo found.at step_of result (options_at (frames_of frames.items) room options.name (lexemes_of options.tokens.items) options.opened options.room (lexeme_of found.token)) }
+{
+    match &found.token {
+        Token::Sign(Sign::OpenBracket) => match options.opened.checked_add(1) {
+            Some(opened) => collect(frames, room, options, opened, found),
+            None => Err(ParseError::OutOfMemory),
+        },
+        Token::Sign(Sign::CloseBracket) => match options.opened.checked_sub(1) {
+            Some(opened) => collect(frames, room, options, opened, found),
+            None => end_options(alloc, frames, room, options, &found),
+        },
+        Token::End => Err(expected(&found, Expected::CloseBracket)),
+        Token::Invalid(wanted) => Err(expected(&found, *wanted)),
+        _ => {
+            let opened = options.opened;
+            collect(frames, room, options, opened, found)
+        }
+    }
+}
+
+// The options go on behind the token, with so many brackets open.
+fn collect(
+    frames: Vec<Frame>,
+    room: usize,
+    mut options: OptionsSoFar,
+    opened: usize,
+    found: Found,
+) -> Result<ExpressionStep, ParseError>
+    ensures reads { ReadsUpTo found.at step_of result (goes (frames_of frames.items) (in_options options.name (lexemes_of options.tokens.items ++ lexeme_of found.token ∷ []) opened options.room) room) }
+{
+    options.tokens.push(found)?;
+    options.opened = opened;
+    Ok(more(frames, Mode::Options(options), room))
+}
+
+// The options have ended.
+fn end_options(
+    alloc: Global,
+    frames: Vec<Frame>,
+    room: usize,
+    options: OptionsSoFar,
+    found: &Found,
+) -> Result<ExpressionStep, ParseError>
+    ensures reads { ReadsUpTo found.now.at step_of result (when_read (λ f. goes (frames_of frames.items) (children_due f) room) (function_read options.name (lexemes_of options.tokens.items) options.room)) }
+{
+    let tokens = options.tokens.as_slice();
+    let function = function_of(alloc, &options.name, tokens, options.room, found)?;
+    let function = Box::new(alloc, function)?;
+    Ok(more(frames, Mode::Children(function, options.start), room))
+}
+
+// The children of a function with its options.
+pub(crate) fn children(
+    alloc: Global,
+    frames: Vec<Frame>,
+    room: usize,
+    function: Box<ScalarFnRef>,
+    start: usize,
+    found: &Found,
+) -> Result<ExpressionStep, ParseError>
+    ensures reads { ReadsUpTo found.now.at step_of result (children_at (frames_of frames.items) room (functions.function_of function.value) (lexeme_of found.now.token)) }
+{
+    match &found.token {
+        Token::Sign(Sign::OpenParen) => {
+            open_children(
+                alloc,
+                frames,
+                room,
+                Callee::Any(Box::into_inner(function)),
+                start,
+                found,
+            )
+        }
+        _ => Err(refusal(found, Expected::OpenParen)),
+    }
+}
+
+// The first condition of a CASE.
+pub(crate) fn case(
+    frames: Vec<Frame>,
+    room: usize,
+    found: &Found,
+) -> Result<ExpressionStep, ParseError>
+    ensures reads { ReadsUpTo found.now.at step_of result (case_at (frames_of frames.items) room (lexeme_of found.now.token) (keyword_at (lexeme_of found.now.token))) }
+{
+    match keyword(&found.token) {
+        Some(Keyword::When) => Ok(more(frames, Mode::Operand, room)),
+        _ => Err(refusal(found, Expected::When)),
+    }
+}

@@ -1,6 +1,0 @@
-use Rattle.std.proofs.Common.{◌≡◌, Some, drop}
-use Rattle.vx_source_tokens.specs.Tokens.{magnitude}
-use Rattle.vx_source_tokens.proofs.number.magnitude.Given as goal
-
-abbrev pub invariant-loop-digit : goal.invariant-loop-digit
-invariant-loop-digit l = magnitude l.value (drop l.digit-index l.digits) ≡ magnitude (Some 0) l.digits

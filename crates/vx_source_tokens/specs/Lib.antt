@@ -1,4 +1,0 @@
-pub mod Characters
-pub mod Tokens
-pub mod Views
-pub mod Spellings

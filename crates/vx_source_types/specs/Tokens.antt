@@ -1,0 +1,258 @@
+-- The first token of a text.
+use Rattle.std.specs.Prelude.{ℕ, ◌^◌, ◌+◌, ◌*◌, ◌-◌, Bool, true, false, not, List, [], ◌∷◌, ◌++◌, Option, Some, None, Result, Ok, Err, take, drop, ◌==◌, nat_lt}
+use Rattle.std.specs.List.{prefix_len}
+use Rattle.std.specs.Str.{is_utf8}
+use Rattle.hex.specs.Hex.{decode_of}
+use Rattle.hex.specs.declared.error.FromHexError.{FromHexError}
+use Rattle.vx_source_types.specs.declared.expectation.Expected.{Expected}
+use Rattle.vx_source_types.specs.declared.expectation.Expected.TheVariants.{Token, ClosingQuote, ClosingBackquote, HexDigits}
+use Rattle.vx_source_types.specs.declared.token.Sign.{Sign}
+use Rattle.vx_source_types.specs.declared.token.Sign.TheVariants.{OpenParen, CloseParen, OpenBracket, CloseBracket, OpenBrace, CloseBrace, Comma, Colon, DoubleColon, Dot, Question, Tilde, Equal, NotEqual, Less, LessEqual, Greater, GreaterEqual, Plus, Dollar}
+use Rattle.vx_source_types.specs.Characters.{is_letter, is_digit, is_word, is_blank}
+
+-- what stands in a text: words, names between backquotes, numbers (below zero or not, their magnitude where it is below
+-- 2 ^ 64, and the word that follows at once), texts, bytes and signs; the end of the text; and what is none of these
+pub data Lexeme : Type 0 where
+  word : List ℕ → Lexeme
+  quoted : List ℕ → Lexeme
+  number : Bool → Option ℕ → List ℕ → Lexeme
+  text : List ℕ → Lexeme
+  octets : List ℕ → Lexeme
+  sign : Sign → Lexeme
+  end : Lexeme
+  invalid : Expected → Lexeme
+
+-- the first byte, 0 of none
+abbrev pub next : List ℕ → ℕ
+next [] = 0
+next (b ∷ bs) = b
+
+-- whether two dashes begin a comment
+abbrev pub begins_comment : ℕ → List ℕ → Bool
+begins_comment b bs = elim (b == 45) [ true ↦ next bs == 45 | false ↦ false ]
+
+-- what is left behind blanks and comments, inside a comment or not; a comment ends with its line
+abbrev pub skip : Bool → List ℕ → List ℕ
+skip comment [] = []
+skip true (b ∷ bs) = skip (not (b == 10)) bs
+skip false (b ∷ bs) = elim (is_blank b) [ true ↦ skip false bs | false ↦ elim (begins_comment b bs) [ true ↦ skip true bs | false ↦ b ∷ bs ] ]
+
+-- the text with a byte in front
+abbrev pub with_byte : ℕ → Option (List ℕ × List ℕ) → Option (List ℕ × List ℕ)
+with_byte b None = None
+with_byte b (Some (made, rest)) = Some (b ∷ made, rest)
+
+-- what stands before the closing quote, and what is left behind it; two quotes one after another stand for one. Where a
+-- quote was seen, it is the closing one unless another follows
+abbrev pub unquoted : ℕ → Bool → List ℕ → Option (List ℕ × List ℕ)
+unquoted q false [] = None
+unquoted q true [] = Some ([], [])
+unquoted q false (b ∷ bs) = elim (b == q) [ true ↦ unquoted q true bs | false ↦ with_byte b (unquoted q false bs) ]
+unquoted q true (b ∷ bs) = elim (b == q) [ true ↦ with_byte q (unquoted q false bs) | false ↦ Some ([], b ∷ bs) ]
+
+-- the text with others in front
+abbrev pub after_bytes : List ℕ → Option (List ℕ × List ℕ) → Option (List ℕ × List ℕ)
+after_bytes before None = None
+after_bytes before (Some (made, rest)) = Some (before ++ made, rest)
+
+-- a token and what is left behind it
+abbrev pub Taken : Type 0
+Taken = Lexeme × List ℕ
+
+-- what stands between double quotes, where it is UTF-8
+abbrev pub text_lexeme : List ℕ → Lexeme
+text_lexeme made = elim (is_utf8 made) [ true ↦ text made | false ↦ invalid ClosingQuote ]
+
+-- what stands between backquotes, where it is UTF-8
+abbrev pub quoted_lexeme : List ℕ → Lexeme
+quoted_lexeme made = elim (is_utf8 made) [ true ↦ quoted made | false ↦ invalid ClosingBackquote ]
+
+-- a text between double quotes
+abbrev pub text_taken : Option (List ℕ × List ℕ) → Taken
+text_taken None = (invalid ClosingQuote, [])
+text_taken (Some (made, rest)) = (text_lexeme made, rest)
+
+-- a name between backquotes
+abbrev pub quoted_taken : Option (List ℕ × List ℕ) → Taken
+quoted_taken None = (invalid ClosingBackquote, [])
+quoted_taken (Some (made, rest)) = (quoted_lexeme made, rest)
+
+-- the longest word at the front
+abbrev pub word_len : List ℕ → ℕ
+word_len bs = prefix_len is_word bs
+
+-- bytes by their hexadecimal digits, two each
+abbrev pub octets_lexeme : Result (List ℕ) FromHexError → Lexeme
+octets_lexeme (Ok bs) = octets bs
+octets_lexeme (Err e) = invalid HexDigits
+
+-- the number, if it is below 2 ^ 64
+abbrev pub narrow : ℕ → Option ℕ
+narrow n = elim (nat_lt n (2 ^ 64)) [ true ↦ Some n | false ↦ None ]
+
+-- ten times the number and the digit more, if that is below 2 ^ 64
+abbrev pub more_digits : Option ℕ → ℕ → Option ℕ
+more_digits None digit = None
+more_digits (Some n) digit = narrow (n * 10 + (digit - 48))
+
+-- what the digits behind a number make of it, if that is below 2 ^ 64
+abbrev pub magnitude : Option ℕ → List ℕ → Option ℕ
+magnitude value [] = value
+magnitude value (digit ∷ digits) = magnitude (more_digits value digit) digits
+
+-- what follows `0x`
+abbrev pub octets_taken : List ℕ → Taken
+octets_taken bs = (octets_lexeme (decode_of (take (word_len bs) bs)), drop (word_len bs) bs)
+
+-- a number of that many digits, and the word behind them
+abbrev pub number_of : Bool → ℕ → List ℕ → Taken
+number_of negative n bs =
+    let rest = drop n bs in
+    (number negative (magnitude (Some 0) (take n bs)) (take (word_len rest) rest), drop (word_len rest) rest)
+
+-- a number, or bytes behind `0x`
+abbrev pub number_taken : Bool → List ℕ → Taken
+number_taken negative bs = number_of negative (prefix_len is_digit bs) bs
+
+-- whether `0x` is at the front
+abbrev pub is_hex : ℕ → List ℕ → Bool
+is_hex b bs = elim (b == 48) [ true ↦ next bs == 120 | false ↦ false ]
+
+-- the sign of one byte
+abbrev pub short_sign : ℕ → Option Sign
+short_sign b =
+    elim (b == 40) [
+      | true ↦ Some OpenParen
+      | false ↦
+          elim (b == 41) [
+            | true ↦ Some CloseParen
+            | false ↦
+                elim (b == 44) [
+                  | true ↦ Some Comma
+                  | false ↦
+                      elim (b == 46) [
+                        | true ↦ Some Dot
+                        | false ↦
+                            elim (b == 36) [
+                              | true ↦ Some Dollar
+                              | false ↦
+                                  elim (b == 58) [
+                                    | true ↦ Some Colon
+                                    | false ↦
+                                        elim (b == 61) [
+                                          | true ↦ Some Equal
+                                          | false ↦
+                                              elim (b == 60) [
+                                                | true ↦ Some Less
+                                                | false ↦
+                                                    elim (b == 62) [
+                                                      | true ↦ Some Greater
+                                                      | false ↦
+                                                          elim (b == 43) [
+                                                            | true ↦ Some Plus
+                                                            | false ↦
+                                                                elim (b == 91) [
+                                                                  | true ↦ Some OpenBracket
+                                                                  | false ↦
+                                                                      elim (b == 93) [
+                                                                        | true ↦ Some CloseBracket
+                                                                        | false ↦
+                                                                            elim (b == 123) [
+                                                                              | true ↦ Some OpenBrace
+                                                                              | false ↦
+                                                                                  elim (b == 125) [
+                                                                                    | true ↦ Some CloseBrace
+                                                                                    | false ↦
+                                                                                        elim (b == 63) [
+                                                                                          | true ↦ Some Question
+                                                                                          | false ↦
+                                                                                              elim (b == 126) [ true ↦ Some Tilde | false ↦ None ]
+                                                                                        ]
+                                                                                  ]
+                                                                            ]
+                                                                      ]
+                                                                ]
+                                                          ]
+                                                    ]
+                                              ]
+                                        ]
+                                  ]
+                            ]
+                      ]
+                ]
+          ]
+    ]
+
+-- the sign of two bytes
+abbrev pub long_sign : ℕ → ℕ → Option Sign
+long_sign b c =
+    elim (b == 58) [
+      | true ↦ elim (c == 58) [ true ↦ Some DoubleColon | false ↦ None ]
+      | false ↦
+          elim (b == 60) [
+            | true ↦ elim (c == 61) [ true ↦ Some LessEqual | false ↦ elim (c == 62) [ true ↦ Some NotEqual | false ↦ None ] ]
+            | false ↦
+                elim (c == 61) [
+                  | true ↦
+                      elim (b == 62) [
+                        | true ↦ Some GreaterEqual
+                        | false ↦
+                            elim (b == 61) [
+                              | true ↦ Some Equal
+                              | false ↦
+                                  elim (b == 33) [ true ↦ Some NotEqual | false ↦ None ]
+                            ]
+                      ]
+                  | false ↦ None
+                ]
+          ]
+    ]
+
+-- a sign of one byte, or what is none
+abbrev pub short_taken : Option Sign → List ℕ → Taken
+short_taken None bs = (invalid Token, bs)
+short_taken (Some s) bs = (sign s, bs)
+
+-- a sign of two bytes, else of one, of which the first byte is taken already
+abbrev pub sign_taken : Option Sign → Option Sign → List ℕ → Taken
+sign_taken None short bs = short_taken short bs
+sign_taken (Some s) short bs = (sign s, drop 1 bs)
+
+-- what begins with a dash: a number below zero
+abbrev pub dash_taken : List ℕ → Taken
+dash_taken bs = elim (is_digit (next bs)) [ true ↦ number_taken true bs | false ↦ (invalid Token, bs) ]
+
+-- a text, a name between backquotes, a number below zero or a sign, of which b is the first byte
+abbrev pub other_taken : ℕ → List ℕ → Taken
+other_taken b bs =
+    elim (b == 34) [
+      | true ↦ text_taken (unquoted 34 false bs)
+      | false ↦
+          elim (b == 96) [
+            | true ↦ quoted_taken (unquoted 96 false bs)
+            | false ↦
+                elim (b == 45) [ true ↦ dash_taken bs | false ↦ sign_taken (long_sign b (next bs)) (short_sign b) bs ]
+          ]
+    ]
+
+-- the token that begins with b
+abbrev pub token_from : ℕ → List ℕ → Taken
+token_from b bs =
+    elim (is_letter b) [
+      | true ↦ (word (take (word_len (b ∷ bs)) (b ∷ bs)), drop (word_len (b ∷ bs)) (b ∷ bs))
+      | false ↦
+          elim (is_hex b bs) [
+            | true ↦ octets_taken (drop 1 bs)
+            | false ↦
+                elim (is_digit b) [ true ↦ number_taken false (b ∷ bs) | false ↦ other_taken b bs ]
+          ]
+    ]
+
+-- the token at the front, where there is no blank
+abbrev pub token_at : List ℕ → Taken
+token_at [] = (end, [])
+token_at (b ∷ bs) = token_from b bs
+
+-- the first token, and what is left behind it
+abbrev pub first : List ℕ → Taken
+first bs = token_at (skip false bs)

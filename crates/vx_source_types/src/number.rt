@@ -1,0 +1,71 @@
+// Numbers, and bytes.
+ghost use Rattle.std.specs.Prelude.{◌≡◌, ◌≤◌, ℕ, length, drop, IfOk, take, Some};
+ghost use Rattle.std.specs.List.{prefix_len};
+ghost use Rattle.hex.specs.Hex.{decode_of};
+ghost use Rattle.vx_source_types.specs.Characters.{is_digit};
+ghost use Rattle.vx_source_types.specs.Tokens.{number_taken, octets_taken, octets_lexeme, magnitude, more_digits};
+ghost use Rattle.vx_source_types.specs.Views.{taken_of, lexeme_of};
+
+use crate::expectation::Expected;
+use crate::token::Token;
+use crate::words::{digit_len, word_len, word_of};
+use hex::FromHexError;
+use std::alloc::{AllocError, Global};
+
+// The number at the front, and how many bytes it takes with the word behind it.
+pub(crate) fn number_at(
+    alloc: Global,
+    negative: bool,
+    bytes: &[u8],
+) -> Result<(Token, usize), AllocError>
+    ensures taken { IfOk result (λ r. number_taken negative bytes.now ≡ taken_of bytes.now r.0 r.1) }
+    ensures within { IfOk result (λ r. r.1 ≤ length bytes.now) }
+    ensures digits { IfOk result (λ r. prefix_len is_digit bytes.now ≤ r.1) }
+{
+    let digits = digit_len(bytes);
+    let rest = &bytes[digits..];
+    let token = Token::Number {
+        negative,
+        magnitude: magnitude(&bytes[..digits]),
+        suffix: word_of(alloc, rest)?,
+    };
+    Ok((token, digits + word_len(rest)))
+}
+
+// What the digits stand for, if it is below 2^64.
+fn magnitude(digits: &[u8]) -> Option<u64>
+    ensures { result ≡ magnitude (Some 0) digits.now }
+{
+    let mut value = Some(0);
+    for digit in digits {
+        value = more_digits(value, *digit);
+    }
+    value
+}
+
+// Ten times the number and the digit more, if that is below 2^64.
+fn more_digits(value: Option<u64>, digit: u8) -> Option<u64>
+    ensures { result ≡ more_digits value digit }
+{
+    let tens = value?.checked_mul(10)?;
+    tens.checked_add(u64::from(digit.saturating_sub(b'0')))
+}
+
+// The bytes of the two digits each at the front, and how many bytes of the text they take.
+pub(crate) fn octets_at(alloc: Global, bytes: &[u8]) -> Result<(Token, usize), AllocError>
+    ensures taken { IfOk result (λ r. octets_taken bytes.now ≡ taken_of bytes.now r.0 r.1) }
+    ensures within { IfOk result (λ r. r.1 ≤ length bytes.now) }
+{
+    let len = word_len(bytes);
+    Ok((octets_of(alloc, &bytes[..len])?, len))
+}
+
+fn octets_of(alloc: Global, digits: &[u8]) -> Result<Token, AllocError>
+    ensures { IfOk result (λ t. lexeme_of t ≡ octets_lexeme (decode_of digits.now)) }
+{
+    match hex::decode(alloc, digits) {
+        Ok(bytes) => Ok(Token::Octets(bytes)),
+        Err(FromHexError::OutOfMemory) => Err(AllocError),
+        Err(_) => Ok(Token::Invalid(Expected::HexDigits)),
+    }
+}
