@@ -18,7 +18,7 @@ import multiprocessing, os, pathlib, re, subprocess, sys, tempfile
 ROOM = pathlib.Path(sys.argv[1])
 LIBRARY = ROOM / "librefuse.so"
 COUNTED = re.compile(r"requests: (\d+)\nbytes held at most: (-?\d+)\n\Z")
-NO_MEMORY = re.compile(r"out of memory|OutOfMemory|AllocError|AllocFailed")
+NO_MEMORY = re.compile(r"out of memory|OutOfMemory|AllocError|AllocFailed|memory allocation failed")
 
 
 class Failed(Exception):

@@ -1,4 +1,5 @@
 // The command line.
+use crate::choices::{ENGINES, FORMATS, OUTPUTS};
 use clap::{Arg, ArgAction, Command, value_parser};
 use std::alloc::{AllocError, Global};
 
@@ -98,9 +99,6 @@ fn table<'a>(alloc: Global) -> Result<Arg<'a>, AllocError> {
         .help("The name of the engine's table")
         .requires_arg("sql")
 }
-
-// The engines.
-const ENGINES: &[&str] = &["postgres", "sqlite", "duckdb", "spark"];
 
 const DOT: &str = "Example:
   vx dot 'x >= 1' --schema '{x=i32}' | dot -Tsvg > tree.svg";
@@ -221,11 +219,6 @@ fn output<'a>(alloc: Global) -> Arg<'a> {
         .default_value("json")
         .help("In what form the rows are printed")
 }
-
-// The forms of records, and those of rows.
-const FORMATS: &[&str] = &["json", "csv"];
-
-const OUTPUTS: &[&str] = &["json", "csv", "table"];
 
 // A command of an expression and a schema.
 fn query<'a>(

@@ -1,12 +1,14 @@
 // What a person runs: `vx COMMAND EXPR --schema TYPE`.
 #![tactic(auto)]
 
+mod choices;
 mod line;
 mod progress;
 mod records;
 mod texts;
 
 use anyhow::Result;
+use choices::dialect_named;
 use clap::ArgMatches;
 use clap::error::ErrorKind;
 use line::command_line;
@@ -46,7 +48,7 @@ fn answer(rt: &HostRuntime) -> Result<ExitCode> {
     Ok(ExitCode::from(status as u8))
 }
 
-// Runs the command of the words.
+// Runs the command of the words, of which no others are let through than those that are named here.
 fn asked(rt: &HostRuntime, matches: &ArgMatches<'_>) -> Result<Status> {
     match matches.subcommand() {
         Some((_, matches)) if asks_input_twice(matches) => {
@@ -56,8 +58,10 @@ fn asked(rt: &HostRuntime, matches: &ArgMatches<'_>) -> Result<Status> {
             Ok(Status::Wrong)
         }
         Some(("eval", matches)) => {
-            let work = RecordsTask::Evaluate(output_of(matches));
-            over_records(rt, work, u64::MAX, matches)
+            let Some(output) = output_of(matches) else {
+                return Ok(Status::Wrong);
+            };
+            over_records(rt, RecordsTask::Evaluate(output), u64::MAX, matches)
         }
         Some(("filter", matches)) => over_records(rt, filter_of(matches), u64::MAX, matches),
         Some(("plan", matches)) if matches.contains_id("sql") => {
@@ -97,7 +101,8 @@ fn over_texts(rt: &HostRuntime, name: &str, matches: &ArgMatches<'_>) -> Result<
         "explain" => Command::Explain(query),
         "plan" => Command::Plan(query),
         "dot" => Command::Graph(query),
-        _ => Command::Format(query.expression),
+        "fmt" => Command::Format(query.expression),
+        _ => return Ok(Status::Wrong),
     };
     Ok(run_command(rt.alloc(), &command, &mut rt.stdout(), &mut rt.stderr()))
 }
@@ -106,8 +111,11 @@ fn over_texts(rt: &HostRuntime, name: &str, matches: &ArgMatches<'_>) -> Result<
 fn over_engine(rt: &HostRuntime, work: SqlTask, matches: &ArgMatches<'_>) -> Result<Status> {
     let expression = text_at(rt, matches, "expression")?;
     let schema = text_at(rt, matches, "schema")?;
+    let Some(dialect) = matches.get_str("sql").and_then(dialect_named) else {
+        return Ok(Status::Wrong);
+    };
     let table = matches.get_str("table").unwrap_or("");
-    let command = command_for(work, &expression, &schema, dialect_of(matches), table);
+    let command = command_for(work, &expression, &schema, dialect, table);
     Ok(run_sql(rt.alloc(), &command, &mut rt.stdout(), &mut rt.stderr()))
 }
 
@@ -128,15 +136,5 @@ fn command_for<'a>(
         query,
         dialect,
         table,
-    }
-}
-
-// The engine that the words name.
-fn dialect_of(matches: &ArgMatches<'_>) -> Dialect {
-    match matches.get_str("sql") {
-        Some("sqlite") => Dialect::Sqlite,
-        Some("duckdb") => Dialect::DuckDb,
-        Some("spark") => Dialect::Spark,
-        _ => Dialect::Postgres,
     }
 }

@@ -1,22 +1,16 @@
 // Commands that go over the records of a file.
+use crate::choices::{data_format_named, output_format_named};
 use crate::progress::Progress;
 use crate::texts::{Text, text_at};
 use anyhow::{Context, Result};
 use clap::ArgMatches;
 use std::fs::File;
-use std::io::BufReader;
 use std::num::NonZeroUsize;
-use vx_commands::{
-    DataFormat, Input, OutputFormat, RecordsTask, RowsCommand, Status, infer_schema, run_rows,
-};
+use vx_commands::{DataFormat, OutputFormat, RecordsTask, RowsCommand, Schema, Status, run_rows};
 
 /// The form in which rows are printed, as the words say.
-pub fn output_of(matches: &ArgMatches<'_>) -> OutputFormat {
-    match matches.get_str("output") {
-        Some("csv") => OutputFormat::Csv,
-        Some("table") => OutputFormat::Table,
-        _ => OutputFormat::JsonLines,
-    }
+pub fn output_of(matches: &ArgMatches<'_>) -> Option<OutputFormat> {
+    output_format_named(matches.get_str("output")?)
 }
 
 /// What a filter does with records: it goes by chunks where the words say how many records one has.
@@ -41,84 +35,60 @@ pub fn over_records(
         .unwrap_or("-");
     let format = format_of(matches, data);
     let expression = text_at(rt, matches, "expression")?;
-    let schema = match schema_at(rt, matches, data, format)? {
-        Ok(schema) => schema,
-        Err(status) => return Ok(status),
-    };
+    let schema = schema_at(rt, matches)?;
     let name = if data == "-" { "standard input" } else { data };
     let limit = matches.get_one("limit").unwrap_or(limit);
-    let command = command_over(work, &expression, &schema, name, format, limit);
+    let command = command_over(work, &expression, schema.as_ref(), name, format, limit);
     run_over(rt, &command, data)
 }
 
-// The command that does that work on the first records of the file of that name.
+// The command that does that work on the first records of the file of that name, whose type is
+// inferred if the words don't say it.
 fn command_over<'a>(
     work: RecordsTask,
     expression: &'a Text,
-    schema: &'a Text,
+    schema: Option<&'a Text>,
     data: &'a str,
     format: DataFormat,
     limit: u64,
 ) -> RowsCommand<'a> {
-    let expression = expression.input();
-    let schema = schema.input();
     RowsCommand {
         work,
-        expression,
-        schema,
+        expression: expression.input(),
+        schema: match schema {
+            Some(schema) => Schema::Said(schema.input()),
+            None => Schema::Inferred,
+        },
         data,
         format,
         limit,
     }
 }
 
-// Runs the command over that file.
+// Runs the command over that file, or standard input, which is opened once.
 fn run_over(rt: &HostRuntime, command: &RowsCommand<'_>, data: &str) -> Result<Status> {
     let alloc = rt.alloc();
     let (mut out, mut err) = (rt.stdout(), rt.stderr());
     if data == "-" {
-        let reader = BufReader::new(alloc, rt.reader())?;
-        return Ok(run_rows(alloc, command, reader, &mut out, &mut err));
+        return Ok(run_rows(alloc, command, rt.reader(), &mut out, &mut err));
     }
-    let reader = opened(rt, data)?;
+    let file = File::open(rt, data).context(format_args!("reading {data}"))?;
+    let reader = Progress::new(rt, file);
     Ok(run_rows(alloc, command, reader, &mut out, &mut err))
 }
 
-// The schema that the words say, or else the narrowest type of the file's first records; a status
-// where there is none.
-fn schema_at(
-    rt: &HostRuntime,
-    matches: &ArgMatches<'_>,
-    data: &str,
-    format: DataFormat,
-) -> Result<Result<Text, Status>> {
-    if matches.contains_id("schema") {
-        return Ok(Ok(text_at(rt, matches, "schema")?));
+// The schema, if the words say one.
+fn schema_at(rt: &HostRuntime, matches: &ArgMatches<'_>) -> Result<Option<Text>> {
+    if !matches.contains_id("schema") {
+        return Ok(None);
     }
-    if data == "-" {
-        rt.eprintln(format_args!(
-            "error: standard input is read once: say the type of its records by --schema"
-        ))?;
-        return Ok(Err(Status::Wrong));
-    }
-    let reader = opened(rt, data)?;
-    match infer_schema(rt.alloc(), data, format, reader, &mut rt.stderr()) {
-        Ok(text) => Ok(Ok(Text::new(rt.alloc(), "schema", text)?)),
-        Err(status) => Ok(Err(status)),
-    }
+    Ok(Some(text_at(rt, matches, "schema")?))
 }
 
 // The form of the records: the one that the words say, or else the one that the file's name tells.
 fn format_of(matches: &ArgMatches<'_>, data: &str) -> DataFormat {
-    match matches.get_str("format") {
-        Some("csv") => DataFormat::Csv,
-        Some(_) => DataFormat::JsonLines,
+    match matches.get_str("format").and_then(data_format_named) {
+        Some(format) => format,
         None => DataFormat::of(data),
     }
-}
-
-// The file, to be read, which tells how far it is.
-fn opened<'a>(rt: &'a HostRuntime, path: &str) -> Result<BufReader<Progress<'a, File>>> {
-    let file = File::open(rt, path).context(format_args!("reading {path}"))?;
-    Ok(BufReader::new(rt.alloc(), Progress::new(rt, file))?)
 }

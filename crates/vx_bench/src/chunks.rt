@@ -150,18 +150,18 @@ fn rows_in_all(alloc: Global, plan: &ScanPlan, chunks: &[Chunk]) -> VortexResult
 }
 
 fn rows_in(alloc: Global, plan: &ScanPlan, chunk: &Chunk) -> VortexResult<u64> {
-    let reader = plan.reader_of(alloc, chunk.rows.clone()?)?;
+    let reader = plan.reader_of(chunk.rows.clone()?);
     let rows = selected(alloc, &reader, plan, &chunk.stats)?;
     Ok(rows.count() as u64)
 }
 
 fn selected(
     alloc: Global,
-    reader: &ColumnReader,
+    reader: &ColumnReader<'_>,
     plan: &ScanPlan,
     stats: &ChunkStats,
 ) -> VortexResult<RowMask>
-    requires { reader.now.allowed ≡ plan.now.paths }
+    requires { reader.now.allowed.now ≡ plan.now.paths }
 {
     select_rows(alloc, reader, plan, stats)
 }

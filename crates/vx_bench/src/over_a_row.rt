@@ -36,7 +36,7 @@ pub fn query(alloc: Global, subject: &Subject) -> VortexResult<()> {
 pub fn scan(alloc: Global, subject: &Subject) -> VortexResult<()> {
     let row = row(alloc, &*subject.scope)?;
     let plan = Box::new(alloc, plan(alloc, &*subject.tree, row.dtype())?)?;
-    let reader = plan.reader_of(alloc, Box::into_inner(row))?;
+    let reader = plan.reader_of(Box::into_inner(row));
     let answer = vx_scan::scan(alloc, &reader, &*plan);
     drop(reader);
     drop(answer?);

@@ -13,7 +13,7 @@ pub fn scanned(alloc: Global, query: Query, rows: usize, repeats: u32) -> Vortex
     let batch = Box::new(alloc, query.batch(alloc, rows)?)?;
     let source = query.tree(alloc)?;
     let plan = Box::new(alloc, plan(alloc, &*source, batch.dtype())?)?;
-    let reader = plan.reader_of(alloc, Box::into_inner(batch))?;
+    let reader = plan.reader_of(Box::into_inner(batch));
     let answer = repeated(alloc, &reader, &*plan, repeats);
     drop(reader);
     answer
@@ -22,11 +22,11 @@ pub fn scanned(alloc: Global, query: Query, rows: usize, repeats: u32) -> Vortex
 // Scans the reader's batch so often, for the digest of the last column.
 fn repeated(
     alloc: Global,
-    reader: &ColumnReader,
+    reader: &ColumnReader<'_>,
     plan: &ScanPlan,
     repeats: u32,
 ) -> VortexResult<Digest>
-    requires { reader.now.allowed ≡ plan.now.paths }
+    requires { reader.now.allowed.now ≡ plan.now.paths }
 {
     if repeats == 0 {
         return Ok(Digest::default());

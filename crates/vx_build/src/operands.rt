@@ -5,8 +5,8 @@ ghost use Rattle.vx_build.specs.Operands.{pair_operands, case_operands, pack_nam
 use std::alloc::{AllocError, Global};
 use vx_tree::FieldName;
 
-// Each condition and the value beside it, then the ELSE value, if there is one.
-pub(crate) fn case_operands<T: Drop>(
+/// Each condition and the value beside it, then the ELSE value, if there is one.
+pub fn case_operands<T: Drop>(
     alloc: Global,
     pairs: Vec<(T, T)>,
     else_value: Option<T>,

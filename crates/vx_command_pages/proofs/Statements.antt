@@ -10,9 +10,9 @@ use Rattle.vx_sql_plan.specs.declared.refusal.NoStatement.{NoStatement}
 use Rattle.vx_sql_plan.specs.Pushdown.{residual}
 use Rattle.vx_sql_plan.specs.Statements.{statement, statement_refusal, IsRefusalOf}
 use Rattle.vx_command_pages.specs.Inputs.{Reads, ReadsType}
-use Rattle.vx_command_pages.specs.SqlPages.{lines_of, IsSqlPage, IsUnwritten, IsSqlComplaint}
-use Rattle.vx_command_pages.specs.declared.sql.SqlComplaint.{SqlComplaint}
-use Rattle.vx_command_pages.specs.declared.sql.SqlComplaint.TheVariants.{Statement}
+use Rattle.vx_command_pages.specs.SqlPages.{lines_of, IsSqlPage, IsUnwritten, IsSqlError}
+use Rattle.vx_command_pages.specs.declared.sql.SqlError.{SqlError}
+use Rattle.vx_command_pages.specs.declared.sql.SqlError.TheVariants.{Statement}
 
 -- where the code has the plan's type and tree once more, as it hands them on
 module _ (text schema : List ℕ) (e : Tree) (s : LogicalType) (read : Reads text e) (typed : ReadsType schema s) (t : LogicalType) (u : BoundTree) (plan : IsPlanFor FoldingRuleAt e s t u)
@@ -23,7 +23,7 @@ module _ (text schema : List ℕ) (e : Tree) (s : LogicalType) (read : Reads tex
   pub untold : (refusal : NoStatement) → IsRefusalOf (statement_refusal d t' u' table) refusal → IsUnwritten text schema d table refusal
   untold refusal r = (e, s, read, typed, (u, (refl, plan.1), rw (← plan.0, ← type, ← tree) r))
 
--- what is handed on is complained of
-pub handed_on : {A : Type 0} (text schema : List ℕ) (d : Dialect) (table : Name) (r : Result A SqlComplaint) (refusal : NoStatement) → IsErrAnd r (λ e. e ≡ Statement refusal) → IsUnwritten text schema d table refusal → IfErr r (λ e. IsSqlComplaint text schema d table e)
+-- what is handed on is an error of the command
+pub handed_on : {A : Type 0} (text schema : List ℕ) (d : Dialect) (table : Name) (r : Result A SqlError) (refusal : NoStatement) → IsErrAnd r (λ e. e ≡ Statement refusal) → IsUnwritten text schema d table refusal → IfErr r (λ e. IsSqlError text schema d table e)
 handed_on text schema d table (Ok a) refusal h is = tt
 handed_on text schema d table (Err e) refusal h is = rw h is

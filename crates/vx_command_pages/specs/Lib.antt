@@ -4,3 +4,4 @@ pub mod Pages
 pub mod PlanData
 pub mod PlanPages
 pub mod SqlPages
+pub mod Conjuncts

@@ -10,12 +10,12 @@ use Rattle.vx_sql_plan.specs.declared.refusal.NoStatement.{NoStatement}
 use Rattle.vx_sql_plan.specs.declared.refusal.NoStatement.TheVariants.{OutOfMemory, NoColumns, Table, Column}
 use Rattle.vx_sql_plan.specs.Pushdown.{residual}
 use Rattle.vx_sql_plan.specs.Statements.{statement, statement_refusal, IsRefusalOf}
-use Rattle.vx_command_pages.specs.declared.complaint.Status.{Status}
-use Rattle.vx_command_pages.specs.declared.complaint.Status.TheVariants.{Failed, Wrong}
-use Rattle.vx_command_pages.specs.Inputs.{Reads, ReadsType, IsComplaint, status_of}
+use Rattle.vx_command_pages.specs.declared.error.Status.{Status}
+use Rattle.vx_command_pages.specs.declared.error.Status.TheVariants.{Failed, Wrong}
+use Rattle.vx_command_pages.specs.Inputs.{Reads, ReadsType, IsCommandError, status_of}
 use Rattle.vx_command_pages.specs.Pages.{line}
-use Rattle.vx_command_pages.specs.declared.sql.SqlComplaint.{SqlComplaint}
-use Rattle.vx_command_pages.specs.declared.sql.SqlComplaint.TheVariants.{Query, Statement}
+use Rattle.vx_command_pages.specs.declared.sql.SqlError.{SqlError}
+use Rattle.vx_command_pages.specs.declared.sql.SqlError.TheVariants.{Query, Statement}
 
 -- a statement on a line, and on another what is left of a tree, if something is
 abbrev pub lines_of : List ℕ → Option BoundTree → List ℕ
@@ -35,13 +35,13 @@ abbrev pub IsUnwritten : List ℕ → List ℕ → Dialect → Name → NoStatem
 IsUnwritten text schema d table refusal =
     (e : Tree) × (s : LogicalType) × Reads text e × ReadsType schema s × ((u : BoundTree) × IsPlanFor FoldingRuleAt e s s u × IsRefusalOf (statement_refusal d s u table) refusal)
 
--- what is complained of
-abbrev pub IsSqlComplaint : List ℕ → List ℕ → Dialect → Name → SqlComplaint → Type 0
-IsSqlComplaint text schema d table (Query c) = IsComplaint text schema c
-IsSqlComplaint text schema d table (Statement refusal) = IsUnwritten text schema d table refusal
+-- why there is no such page
+abbrev pub IsSqlError : List ℕ → List ℕ → Dialect → Name → SqlError → Type 0
+IsSqlError text schema d table (Query c) = IsCommandError text schema c
+IsSqlError text schema d table (Statement refusal) = IsUnwritten text schema d table refusal
 
--- how a command ends that stops with the complaint
-abbrev pub sql_status_of : SqlComplaint → Status
+-- how a command ends that stops with the error
+abbrev pub sql_status_of : SqlError → Status
 sql_status_of (Query c) = status_of c
 sql_status_of (Statement OutOfMemory) = Failed
 sql_status_of (Statement NoColumns) = Wrong

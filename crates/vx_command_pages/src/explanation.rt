@@ -2,10 +2,10 @@
 ghost use Rattle.std.specs.Prelude.{IfErr};
 ghost use Rattle.vx_value.specs.Views.{type_of};
 ghost use Rattle.vx_tree.specs.Views.{tree_of};
-ghost use Rattle.vx_command_pages.specs.Inputs.{IsComplaint, IsRefusal};
+ghost use Rattle.vx_command_pages.specs.Inputs.{IsCommandError, IsRefusal};
 
-use crate::complaint::CommandError;
-use crate::input::{bind, read_expression, read_schema};
+use crate::error::CommandError;
+use crate::input::{bind, read_query};
 use crate::passes::push_passes;
 use crate::paths::ReadPaths;
 use crate::planned::plan_of;
@@ -18,21 +18,27 @@ use vx_tree::{BoundExpression, DType, Expression, FieldName};
 
 /// What becomes of the expression over rows of the schema's type: its source text, type and tree; what
 /// each pass makes of it, where that changes it; and of its plan the tree, the paths that are read,
-/// the root and the partitions. Complains as [`plan_page`](crate::planned::plan_page) does.
+/// the root and the partitions. Fails as [`plan_page`](crate::planned::plan_page) does.
 pub fn explanation_page(
     alloc: Global,
     expression: &str,
     schema: &str,
 ) -> Result<String, CommandError>
-    ensures { IfErr result (λ c. IsComplaint expression.now schema.now c) }
+    ensures { IfErr result (λ c. IsCommandError expression.now schema.now c) }
 {
-    let placed = read_expression(alloc, expression)?;
-    let scope = read_schema(alloc, schema)?;
-    let plan = plan_of(alloc, &placed, &scope)?;
-    explanation(alloc, &placed, &scope, &plan)
+    let query = read_query(alloc, expression, schema)?;
+    explanation_of(alloc, &query.placed, &query.scope)
 }
 
-/// The same of what was read, and of its plan.
+/// The same of an expression and a type that were read.
+pub fn explanation_of(alloc: Global, placed: &Placed, scope: &DType) -> Result<String, CommandError>
+    ensures { IfErr result (λ c. IsRefusal (tree_of placed.now.expression) (type_of scope.now) c) }
+{
+    let plan = plan_of(alloc, placed, scope)?;
+    explanation(alloc, placed, scope, &plan)
+}
+
+/// The same of its plan, too.
 pub(crate) fn explanation(
     alloc: Global,
     placed: &Placed,

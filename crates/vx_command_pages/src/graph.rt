@@ -1,22 +1,21 @@
 // The page of `dot`.
 ghost use Rattle.std.specs.Prelude.{IfErr};
-ghost use Rattle.vx_command_pages.specs.Inputs.{IsComplaint};
+ghost use Rattle.vx_command_pages.specs.Inputs.{IsCommandError};
 
-use crate::complaint::CommandError;
-use crate::input::{bind, read_expression, read_schema};
+use crate::error::CommandError;
+use crate::input::{bind, read_query};
 use std::alloc::{AllocError, Global};
 use vx_source::TypeText;
-use vx_tree::{BoundExpression, ChildName, ScalarFnRef};
+use vx_tree::{BoundExpression, ChildName};
 
 /// The typed tree as a graph in Graphviz's language: a line for each node, which shows its function
-/// and its type, and one for each edge, with the name of the child. Complains as
+/// and its type, and one for each edge, with the name of the child. Fails as
 /// [`type_page`](crate::types::type_page) does.
 pub fn graph_page(alloc: Global, expression: &str, schema: &str) -> Result<String, CommandError>
-    ensures { IfErr result (λ c. IsComplaint expression.now schema.now c) }
+    ensures { IfErr result (λ c. IsCommandError expression.now schema.now c) }
 {
-    let placed = read_expression(alloc, expression)?;
-    let scope = read_schema(alloc, schema)?;
-    let bound = bind(alloc, &placed, &scope)?;
+    let query = read_query(alloc, expression, schema)?;
+    let bound = bind(alloc, &query.placed, &query.scope)?;
     Ok(graph(alloc, &bound)?)
 }
 
@@ -50,7 +49,8 @@ fn push_nodes(
         let below = *next;
         *next = below.saturating_add(1);
         push_nodes(alloc, child, below, next, page)?;
-        push_edge(alloc, scalar_fn, index, number, below, page)?;
+        let name = ChildName { scalar_fn, index };
+        push_edge(alloc, name, number, below, page)?;
     }
     Ok(())
 }
@@ -74,16 +74,15 @@ fn push_node(
     page.push_str("\"];\n")
 }
 
-// Adds the line of an edge.
+// Adds the line of an edge, which has the name of the child.
 fn push_edge(
     alloc: Global,
-    scalar_fn: &ScalarFnRef,
-    index: usize,
+    name: ChildName<'_>,
     above: u64,
     below: u64,
     page: &mut String,
 ) -> Result<(), AllocError> {
-    let name = ChildName { scalar_fn, index }.to_string(alloc)?;
+    let name = name.to_string(alloc)?;
     page.push_str(format!(in alloc; "  n{above} -> n{below} [label=\"")?.as_str())?;
     push_quoted(name.as_str(), page)?;
     page.push_str("\"];\n")

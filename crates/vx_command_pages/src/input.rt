@@ -3,9 +3,9 @@ ghost use Rattle.std.specs.Prelude.{◌≡◌, IfOk, IfErr, Ok};
 ghost use Rattle.vx_value.specs.Views.{type_of};
 ghost use Rattle.vx_tree.specs.Views.{tree_of, bound_of};
 ghost use Rattle.vx_tree.specs.Trees.{Over, WellTyped, node_type, typed, unbound};
-ghost use Rattle.vx_command_pages.specs.Inputs.{Reads, ReadsType, IsUnread, IsUnreadSchema, IsRefusal, IsRefusedWith};
+ghost use Rattle.vx_command_pages.specs.Inputs.{Reads, ReadsType, IsUnread, IsUnreadSchema, IsUnreadQuery, IsRefusal, IsRefusedWith};
 
-use crate::complaint::CommandError;
+use crate::error::CommandError;
 use crate::report::Span;
 use crate::spans::span_at;
 use std::alloc::Global;
@@ -13,11 +13,11 @@ use vx_places::first_refusal_at;
 use vx_source::{DEFAULT_NESTING, ParseError, Placed, parse_type, parse_with_places};
 use vx_tree::{BoundExpression, DType, VortexError};
 
-/// The expression that the text says, with the bytes that its nodes were read from. Complains of the
-/// place where reading stopped, and of want of memory.
+/// The expression that the text says, with the bytes that its nodes were read from. Fails at the
+/// place where reading stops, and for want of memory.
 pub fn read_expression(alloc: Global, text: &str) -> Result<Box<Placed>, CommandError>
     ensures read { IfOk result (λ placed. Reads text.now (tree_of placed.value.expression)) }
-    ensures complaint { IfErr result (λ c. IsUnread text.now c) }
+    ensures error { IfErr result (λ c. IsUnread text.now c) }
 {
     match parse_with_places(alloc, text, DEFAULT_NESTING) {
         Ok(placed) => Ok(Box::new(alloc, placed)?),
@@ -28,10 +28,10 @@ pub fn read_expression(alloc: Global, text: &str) -> Result<Box<Placed>, Command
     }
 }
 
-/// The type that the schema says. Complains of the place where reading stopped, and of want of memory.
+/// The type that the schema says. Fails at the place where reading stops, and for want of memory.
 pub fn read_schema(alloc: Global, schema: &str) -> Result<Box<DType>, CommandError>
     ensures read { IfOk result (λ scope. ReadsType schema.now (type_of scope.value)) }
-    ensures complaint { IfErr result (λ c. IsUnreadSchema schema.now c) }
+    ensures error { IfErr result (λ c. IsUnreadSchema schema.now c) }
 {
     match parse_type(alloc, schema) {
         Ok(scope) => Ok(Box::new(alloc, scope)?),
@@ -42,8 +42,29 @@ pub fn read_schema(alloc: Global, schema: &str) -> Result<Box<DType>, CommandErr
     }
 }
 
-/// The expression bound to the scope's type. Complains of its first refusal, with the bytes that the
-/// refused node was read from, and of want of memory.
+/// The expression and the type that a command is given, read.
+#[derive(Drop)]
+pub struct ReadQuery {
+    /// The expression, with the bytes that its nodes were read from.
+    pub placed: Box<Placed>,
+    /// The type of the rows that it is over.
+    pub scope: Box<DType>,
+}
+
+/// What the two texts say. Fails at the place where reading stops, of the expression first, and for
+/// want of memory.
+pub fn read_query(alloc: Global, expression: &str, schema: &str) -> Result<ReadQuery, CommandError>
+    ensures read { IfOk result (λ query. Reads expression.now (tree_of query.placed.value.expression)) }
+    ensures scope { IfOk result (λ query. ReadsType schema.now (type_of query.scope.value)) }
+    ensures error { IfErr result (λ c. IsUnreadQuery expression.now schema.now c) }
+{
+    let placed = read_expression(alloc, expression)?;
+    let scope = read_schema(alloc, schema)?;
+    Ok(ReadQuery { placed, scope })
+}
+
+/// The expression bound to the scope's type. Fails at its first refusal, with the bytes that the
+/// refused node was read from, and for want of memory.
 pub fn bind(
     alloc: Global,
     placed: &Placed,
@@ -52,7 +73,7 @@ pub fn bind(
     ensures typed { IfOk result (λ b. typed (tree_of placed.now.expression) (type_of scope.now) ≡ Ok (node_type (bound_of b.value))) }
     ensures well_typed { IfOk result (λ b. WellTyped (bound_of b.value)) }
     ensures over { IfOk result (λ b. Over (bound_of b.value) (type_of scope.now) × (unbound (bound_of b.value) ≡ tree_of placed.now.expression)) }
-    ensures complaint { IfErr result (λ c. IsRefusal (tree_of placed.now.expression) (type_of scope.now) c) }
+    ensures error { IfErr result (λ c. IsRefusal (tree_of placed.now.expression) (type_of scope.now) c) }
 {
     match placed.expression.bind(alloc, scope) {
         Ok(bound) => Ok(Box::new(alloc, bound)?),
@@ -60,7 +81,7 @@ pub fn bind(
     }
 }
 
-/// The complaint of that refusal, with the bytes that the first refused node was read from; those of
+/// The error of that refusal, with the bytes that the first refused node was read from; those of
 /// the whole expression where the node can't be told for want of memory. Asks the first refusal of
 /// binding, or want of memory.
 pub fn refused(alloc: Global, placed: &Placed, scope: &DType, refusal: VortexError) -> CommandError

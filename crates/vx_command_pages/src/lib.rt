@@ -1,7 +1,8 @@
 // What commands are given and the pages that they make: messages, types, trees, plans.
 #![tactic(auto)]
 
-mod complaint;
+mod conjuncts;
+mod error;
 mod excerpt;
 mod explanation;
 mod graph;
@@ -20,15 +21,16 @@ mod spans;
 mod sql;
 mod types;
 
-pub use complaint::{CommandError, Status};
-pub use explanation::explanation_page;
+pub use conjuncts::joins_conjuncts;
+pub use error::{CommandError, Status};
+pub use explanation::{explanation_of, explanation_page};
 pub use graph::graph_page;
-pub use input::{bind, read_expression, read_schema};
+pub use input::{ReadQuery, bind, read_expression, read_query, read_schema};
 pub use message::{Input, Message};
 pub use planned::{paths_page, plan_of, plan_page};
 pub use position::Position;
 pub use report::{Report, Span};
 pub use source::source_page;
 pub use spans::span_at;
-pub use sql::{SqlComplaint, sql_explanation_page, sql_page};
+pub use sql::{SqlError, SqlQuery, sql_explanation_page, sql_page};
 pub use types::type_page;

@@ -1,5 +1,5 @@
-// Complaints as messages.
-use crate::complaint::CommandError;
+// Errors as messages.
+use crate::error::CommandError;
 use crate::help::help_for;
 use crate::report::{Report, Span};
 use std::fmt;
@@ -14,12 +14,30 @@ pub struct Input<'a> {
     pub text: &'a str,
 }
 
-/// A complaint as a message to a person, with the place in the text underlined, and no end of line
+impl<'a> Input<'a> {
+    /// The message about those bytes of the text, with what would do.
+    pub fn report<M: Display>(
+        self,
+        message: M,
+        span: Span,
+        help: Option<&'a str>,
+    ) -> Report<'a, M> {
+        Report {
+            message,
+            name: self.name,
+            text: self.text,
+            span,
+            help,
+        }
+    }
+}
+
+/// An error as a message to a person, with the place in the text underlined, and no end of line
 /// behind it. Takes no memory.
 #[derive(Clone, Copy)]
 pub struct Message<'a> {
-    /// What is complained of.
-    pub complaint: &'a CommandError,
+    /// The error.
+    pub error: &'a CommandError,
     /// The expression that the command was given.
     pub expression: Input<'a>,
     /// The schema; that of a command which takes none is never shown.
@@ -28,16 +46,19 @@ pub struct Message<'a> {
 
 impl Display for Message<'_> {
     fn fmt<W: Write>(&self, f: &mut Formatter<W>) -> fmt::Result {
-        match self.complaint {
+        match self.error {
             CommandError::OutOfMemory => f.write_str("error: out of memory"),
             CommandError::UnreadExpression { at, expected } => {
-                write_report(expected, self.expression, place(*at), None, f)
+                let report = self.expression.report(expected, place(*at), None);
+                report.fmt(f)
             }
             CommandError::UnreadSchema { at, expected } => {
-                write_report(expected, self.schema, place(*at), None, f)
+                let report = self.schema.report(expected, place(*at), None);
+                report.fmt(f)
             }
             CommandError::Refused { span, refusal } => {
-                write_report(refusal, self.expression, *span, help_for(refusal), f)
+                let report = self.expression.report(refusal, *span, help_for(refusal));
+                report.fmt(f)
             }
         }
     }
@@ -46,21 +67,4 @@ impl Display for Message<'_> {
 // The place at which reading stopped.
 fn place(at: usize) -> Span {
     Span { start: at, end: at }
-}
-
-fn write_report<M: Display, W: Write>(
-    message: &M,
-    input: Input<'_>,
-    span: Span,
-    help: Option<&str>,
-    f: &mut Formatter<W>,
-) -> fmt::Result {
-    let report = Report {
-        message,
-        name: input.name,
-        text: input.text,
-        span,
-        help,
-    };
-    report.fmt(f)
 }

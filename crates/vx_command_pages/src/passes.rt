@@ -1,10 +1,10 @@
 // What passes make of a tree.
 ghost use Rattle.std.specs.Prelude.{IfOk, IfErr, ◌≡◌};
-ghost use Rattle.vx_command_pages.specs.declared.complaint.CommandError.TheVariants.{OutOfMemory};
+ghost use Rattle.vx_command_pages.specs.declared.error.CommandError.TheVariants.{OutOfMemory};
 ghost use Rattle.vx_tree.specs.Trees.{WellTyped};
 ghost use Rattle.vx_tree.specs.Views.{bound_of};
 
-use crate::complaint::CommandError;
+use crate::error::CommandError;
 use crate::sources::source_text;
 use std::alloc::Global;
 use vx_rewrite::{Pass, run_passes};

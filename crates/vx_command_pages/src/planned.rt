@@ -8,13 +8,13 @@ ghost use Rattle.vx_tree.specs.Views.{bound_of, tree_of};
 ghost use Rattle.vx_query_split.specs.Division.{parts_of};
 ghost use Rattle.vx_rewrite_rule_laws.specs.Folding.{FoldingRuleAt};
 ghost use Rattle.vx_scan.specs.Plans.{IsPlanFor};
-ghost use Rattle.vx_command_pages.specs.Inputs.{IsComplaint, IsRefusal};
+ghost use Rattle.vx_command_pages.specs.Inputs.{IsCommandError, IsRefusal};
 ghost use Rattle.vx_command_pages.specs.Pages.{line};
 ghost use Rattle.vx_command_pages.specs.PlanData.{plan_data};
 ghost use Rattle.vx_command_pages.specs.PlanPages.{IsPlanPage, paths_line};
 
-use crate::complaint::CommandError;
-use crate::input::{read_expression, read_schema, refused};
+use crate::error::CommandError;
+use crate::input::{read_query, refused};
 use crate::json::{paths_value, plan_value};
 use serde_json::Value;
 use std::alloc::{AllocError, Global};
@@ -24,24 +24,23 @@ use vx_source::Placed;
 use vx_tree::DType;
 use vx_types::FieldPathSet;
 
-/// The plan of the expression over rows of the schema's type, by the folding rules, as JSON on one line. Complains of what
-/// can't be read, of the expression first; else of the first refusal, with its place; and of want of
+/// The plan of the expression over rows of the schema's type, by the folding rules, as JSON on one line. Fails at what
+/// can't be read, at the expression first; else at the first refusal, with its place; and for want of
 /// memory.
 pub fn plan_page(alloc: Global, expression: &str, schema: &str) -> Result<String, CommandError>
     ensures prints { IfOk result (λ page. IsPlanPage expression.now schema.now (string_bytes page)) }
-    ensures complaint { IfErr result (λ c. IsComplaint expression.now schema.now c) }
+    ensures error { IfErr result (λ c. IsCommandError expression.now schema.now c) }
 {
-    let placed = read_expression(alloc, expression)?;
-    let scope = read_schema(alloc, schema)?;
-    let plan = plan_of(alloc, &placed, &scope)?;
+    let query = read_query(alloc, expression, schema)?;
+    let plan = plan_of(alloc, &query.placed, &query.scope)?;
     Ok(plan_line(alloc, &plan)?)
 }
 
-/// The plan of an expression that was read, over rows of that type, by the folding rules. Complains of the
-/// first refusal, with its place, and of want of memory.
+/// The plan of an expression that was read, over rows of that type, by the folding rules. Fails at the
+/// first refusal, with its place, and for want of memory.
 pub fn plan_of(alloc: Global, placed: &Placed, scope: &DType) -> Result<Box<ScanPlan>, CommandError>
     ensures planned { IfOk result (λ p. IsPlanFor FoldingRuleAt (tree_of placed.now.expression) (type_of scope.now) (type_of p.value.scope) (bound_of p.value.tree)) }
-    ensures complaint { IfErr result (λ c. IsRefusal (tree_of placed.now.expression) (type_of scope.now) c) }
+    ensures error { IfErr result (λ c. IsRefusal (tree_of placed.now.expression) (type_of scope.now) c) }
 {
     match plan_with(alloc, &FoldingRules, &placed.expression, scope) {
         Ok(plan) => Ok(Box::new(alloc, plan)?),

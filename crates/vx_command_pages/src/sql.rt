@@ -3,33 +3,46 @@ ghost use Rattle.std.specs.Prelude.{◌≡◌, IfOk, IfErr, option_map, string_b
 ghost use Rattle.vx_value.specs.Views.{type_of};
 ghost use Rattle.vx_tree.specs.Views.{tree_of};
 ghost use Rattle.vx_sql_plan.specs.Pushdown.{tree_in};
-ghost use Rattle.vx_command_pages.specs.declared.complaint.CommandError.TheVariants.{OutOfMemory};
+ghost use Rattle.vx_command_pages.specs.declared.error.CommandError.TheVariants.{OutOfMemory};
 ghost use Rattle.vx_command_pages.specs.Inputs.{Reads, ReadsType};
-ghost use Rattle.vx_command_pages.specs.declared.sql.SqlComplaint.TheVariants.{Query, Statement};
-ghost use Rattle.vx_command_pages.specs.SqlPages.{lines_of, IsSqlPage, IsSqlComplaint};
+ghost use Rattle.vx_command_pages.specs.declared.sql.SqlError.TheVariants.{Query, Statement};
+ghost use Rattle.vx_command_pages.specs.SqlPages.{lines_of, IsSqlPage, IsSqlError};
 
-use crate::complaint::{CommandError, Status};
+use crate::conjuncts::joins_conjuncts;
+use crate::error::{CommandError, Status};
 use crate::explanation::explanation;
-use crate::input::{read_expression, read_schema};
+use crate::input::{ReadQuery, read_query};
 use crate::planned::plan_of;
 use crate::sources::source_text;
 use std::alloc::{AllocError, Global};
 use vx_scan::ScanPlan;
-use vx_source::Placed;
 use vx_sql::{Dialect, first_unsupported};
 use vx_sql_plan::{NoStatement, SqlPlan, sql_plan};
-use vx_tree::{BoundExpression, DType, Operator, ScalarFnRef};
+use vx_tree::{BoundExpression, DType, ScalarFnRef};
+
+/// What is written as SQL.
+#[derive(Clone, Copy, Debug)]
+pub struct SqlQuery<'a> {
+    /// The text of the expression.
+    pub expression: &'a str,
+    /// The schema, which says the type of the table's rows.
+    pub schema: &'a str,
+    /// The engine.
+    pub dialect: Dialect,
+    /// The table's name.
+    pub table: &'a str,
+}
 
 /// Why a command prints no SQL.
 #[derive(Debug, Drop)]
-pub enum SqlComplaint {
+pub enum SqlError {
     /// The expression or the schema isn't read, or the expression is refused, or memory ran out.
     Query(CommandError),
     /// The plan has no statement.
     Statement(NoStatement),
 }
 
-impl SqlComplaint {
+impl SqlError {
     ghost use Rattle.vx_command_pages.specs.SqlPages.{sql_status_of};
 
     /// How a command ends that stops with it.
@@ -37,8 +50,8 @@ impl SqlComplaint {
         ensures { result ≡ sql_status_of self.now }
     {
         match self {
-            SqlComplaint::Query(complaint) => complaint.status(),
-            SqlComplaint::Statement(refusal) => match refusal {
+            SqlError::Query(error) => error.status(),
+            SqlError::Statement(refusal) => match refusal {
                 NoStatement::OutOfMemory => Status::Failed,
                 NoStatement::NoColumns | NoStatement::Table(_) | NoStatement::Column(..) => {
                     Status::Wrong
@@ -48,79 +61,60 @@ impl SqlComplaint {
     }
 }
 
-impl From<CommandError> for SqlComplaint {
+impl From<CommandError> for SqlError {
     ghost from_gives = { λ c e. e ≡ Query c };
 
-    fn from(c: CommandError) -> SqlComplaint {
-        SqlComplaint::Query(c)
+    fn from(c: CommandError) -> SqlError {
+        SqlError::Query(c)
     }
 }
 
-impl From<NoStatement> for SqlComplaint {
+impl From<NoStatement> for SqlError {
     ghost from_gives = { λ refusal e. e ≡ Statement refusal };
 
-    fn from(refusal: NoStatement) -> SqlComplaint {
-        SqlComplaint::Statement(refusal)
+    fn from(refusal: NoStatement) -> SqlError {
+        SqlError::Statement(refusal)
     }
 }
 
-impl From<AllocError> for SqlComplaint {
+impl From<AllocError> for SqlError {
     ghost from_gives = { λ _ e. e ≡ Query OutOfMemory };
 
-    fn from(_e: AllocError) -> SqlComplaint {
-        SqlComplaint::Query(CommandError::OutOfMemory)
+    fn from(_e: AllocError) -> SqlError {
+        SqlError::Query(CommandError::OutOfMemory)
     }
 }
 
-// A query that was read, its plan, and the plan's statement.
+// What was read of a query, its plan, and the plan's statement.
 #[derive(Drop)]
 struct Written {
-    placed: Box<Placed>,
-    scope: Box<DType>,
+    read: ReadQuery,
     plan: Box<ScanPlan>,
     sql: SqlPlan,
 }
 
 // The query that the texts say, its plan by the folding rules, and the plan's statement.
-fn plan_written(
-    alloc: Global,
-    expression: &str,
-    schema: &str,
-    dialect: Dialect,
-    table: &str,
-) -> Result<Written, SqlComplaint>
-    ensures read { IfOk result (λ w. Reads expression.now (tree_of w.placed.value.expression)) }
-    ensures scope { IfOk result (λ w. ReadsType schema.now (type_of w.scope.value)) }
-    ensures lines { IfOk result (λ w. IsSqlPage expression.now schema.now dialect table.now (lines_of (string_bytes w.sql.statement) (option_map tree_in w.sql.residual))) }
-    ensures complaint { IfErr result (λ c. IsSqlComplaint expression.now schema.now dialect table.now c) }
+fn plan_written(alloc: Global, query: &SqlQuery<'_>) -> Result<Written, SqlError>
+    ensures read { IfOk result (λ w. Reads query.now.expression.now (tree_of w.read.placed.value.expression)) }
+    ensures scope { IfOk result (λ w. ReadsType query.now.schema.now (type_of w.read.scope.value)) }
+    ensures lines { IfOk result (λ w. IsSqlPage query.now.expression.now query.now.schema.now query.now.dialect query.now.table.now (lines_of (string_bytes w.sql.statement) (option_map tree_in w.sql.residual))) }
+    ensures error { IfErr result (λ c. IsSqlError query.now.expression.now query.now.schema.now query.now.dialect query.now.table.now c) }
 {
-    let placed = read_expression(alloc, expression)?;
-    let scope = read_schema(alloc, schema)?;
-    let plan = plan_of(alloc, &placed, &scope)?;
-    let sql = sql_plan(alloc, plan.tree(), plan.scope(), table, dialect)?;
-    Ok(Written {
-        placed,
-        scope,
-        plan,
-        sql,
-    })
+    let read = read_query(alloc, query.expression, query.schema)?;
+    let plan = plan_of(alloc, &read.placed, &read.scope)?;
+    let sql = sql_plan(alloc, plan.tree(), plan.scope(), query.table, query.dialect)?;
+    Ok(Written { read, plan, sql })
 }
 
 /// The plan of the expression over rows of the schema's type, by the folding rules, as a statement for the
 /// engine over the table of that name, and behind it, on a line of its own, what is left of the plan's
-/// tree as source text, if something is. Complains as [`plan_page`](crate::planned::plan_page) does, and then of
+/// tree as source text, if something is. Fails as [`plan_page`](crate::planned::plan_page) does, and then at
 /// what stands in the way of a statement.
-pub fn sql_page(
-    alloc: Global,
-    expression: &str,
-    schema: &str,
-    dialect: Dialect,
-    table: &str,
-) -> Result<String, SqlComplaint>
-    ensures prints { IfOk result (λ page. IsSqlPage expression.now schema.now dialect table.now (string_bytes page)) }
-    ensures complaint { IfErr result (λ c. IsSqlComplaint expression.now schema.now dialect table.now c) }
+pub fn sql_page(alloc: Global, query: &SqlQuery<'_>) -> Result<String, SqlError>
+    ensures prints { IfOk result (λ page. IsSqlPage query.now.expression.now query.now.schema.now query.now.dialect query.now.table.now (string_bytes page)) }
+    ensures error { IfErr result (λ c. IsSqlError query.now.expression.now query.now.schema.now query.now.dialect query.now.table.now c) }
 {
-    let written = plan_written(alloc, expression, schema, dialect, table)?;
+    let written = plan_written(alloc, query)?;
     Ok(lines_of(alloc, &written.sql)?)
 }
 
@@ -139,20 +133,15 @@ fn lines_of(alloc: Global, sql: &SqlPlan) -> Result<String, AllocError>
 
 /// What becomes of the expression, as [`explanation_page`](crate::explanation::explanation_page) tells it, and behind it
 /// the statement of its plan, and of each conjunct whether the engine takes it, or why it is left.
-/// Complains as [`sql_page`] does.
-pub fn sql_explanation_page(
-    alloc: Global,
-    expression: &str,
-    schema: &str,
-    dialect: Dialect,
-    table: &str,
-) -> Result<String, SqlComplaint>
-    ensures { IfErr result (λ c. IsSqlComplaint expression.now schema.now dialect table.now c) }
+/// Fails as [`sql_page`] does.
+pub fn sql_explanation_page(alloc: Global, query: &SqlQuery<'_>) -> Result<String, SqlError>
+    ensures { IfErr result (λ c. IsSqlError query.now.expression.now query.now.schema.now query.now.dialect query.now.table.now c) }
 {
-    let written = plan_written(alloc, expression, schema, dialect, table)?;
-    let mut page = explanation(alloc, &written.placed, &written.scope, &written.plan)?;
+    let written = plan_written(alloc, query)?;
+    let read = &written.read;
+    let mut page = explanation(alloc, &read.placed, &read.scope, &written.plan)?;
     push_statement(alloc, &written.sql, &mut page)?;
-    push_conjuncts(alloc, written.plan.tree(), dialect, &mut page)?;
+    push_conjuncts(alloc, written.plan.tree(), query.dialect, &mut page)?;
     Ok(page)
 }
 
@@ -179,7 +168,7 @@ fn push_conjuncts(
         return push_conjunct(alloc, tree, dialect, page);
     };
     match (scalar_fn, children.as_slice()) {
-        (ScalarFnRef::Binary(Operator::And), [left, right]) => {
+        (ScalarFnRef::Binary(operator), [left, right]) if joins_conjuncts(*operator) => {
             push_conjuncts(alloc, left, dialect, page)?;
             push_conjuncts(alloc, right, dialect, page)
         }

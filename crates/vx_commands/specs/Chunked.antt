@@ -9,10 +9,10 @@ use Rattle.vx_records.specs.Records.{Record, kept_lines}
 use Rattle.vx_records.specs.Tallies.{tally_of}
 use Rattle.vx_records.specs.declared.chunked.ChunkTally.{ChunkTally}
 use Rattle.vx_records.specs.declared.error.RecordsError.{RecordsError}
-use Rattle.vx_records.specs.declared.error.RecordsError.TheVariants.{Write as Writing}
+use Rattle.vx_records.specs.declared.error.RecordsError.TheVariants.{OutOfMemory, Data, Fault, Write as Writing}
 use Rattle.vx_commands.specs.Rows.{IsBoundCondition, IsNoCondition}
-use Rattle.vx_commands.specs.declared.complaint.RowsComplaint.{RowsComplaint}
-use Rattle.vx_commands.specs.declared.complaint.RowsComplaint.TheVariants.{Records}
+use Rattle.vx_commands.specs.declared.error.RowsError.{RowsError}
+use Rattle.vx_commands.specs.declared.error.RowsError.TheVariants.{Records}
 
 -- how many of the chunks were evaluated, and how many not
 abbrev pub tally_line : ChunkTally → List ℕ
@@ -34,10 +34,12 @@ IsKeptByChunks leaves s head e m n before after out out' err err' = (b : BoundTr
 -- the error is one of writing
 abbrev pub IsOfWriting : RecordsError → Type 0
 IsOfWriting (Writing e) = Unit {0}
-IsOfWriting _ = ⊥
+IsOfWriting OutOfMemory = ⊥
+IsOfWriting (Data e) = ⊥
+IsOfWriting (Fault f) = ⊥
 
--- nothing was written, since the expression is refused or isn't of type bool, or memory ran out; or the records before what is complained of were gone over; or all were, and the tally can't be written
-abbrev pub IsKeptByChunksUntil : {R : Type 0} → (R → List Record → Type 0) → LogicalType → List ℕ → Tree → ℕ → ℕ → RowsComplaint → R → R → Option (List ℕ) → Option (List ℕ) → Option (List ℕ) → Option (List ℕ) → Type 0
+-- nothing was written, since the expression is refused or isn't of type bool, or memory ran out; or the records before the error were gone over; or all were, and the tally can't be written
+abbrev pub IsKeptByChunksUntil : {R : Type 0} → (R → List Record → Type 0) → LogicalType → List ℕ → Tree → ℕ → ℕ → RowsError → R → R → Option (List ℕ) → Option (List ℕ) → Option (List ℕ) → Option (List ℕ) → Type 0
 IsKeptByChunksUntil leaves s head e m n (Records error span) before after out out' err err' = (b : BoundTree) × IsBoundCondition e s b
     × ((Stops leaves b before error (KeptByChunks s head e m b out out') (BrokeByChunks s head e m b out out') × Keeps err err')
     ⊎ (EndsRecords leaves n before after (KeptByChunks s head e m b out out') × IsOfWriting error))

@@ -5,7 +5,7 @@ ghost use Rattle.std.specs.NonZero.{non_zero_usize_get};
 ghost use Rattle.vx_tree.specs.Views.{tree_of};
 ghost use Rattle.vx_commands.specs.Chunked.{IsKeptByChunks, IsKeptByChunksUntil, tally_line};
 
-use crate::complaint::RowsComplaint;
+use crate::error::RowsError;
 use crate::evaluated::stopped;
 use crate::filtered::condition;
 use std::alloc::Global;
@@ -13,39 +13,52 @@ use std::io;
 use std::io::Write;
 use std::num::NonZeroUsize;
 use vx_data::WriteError;
-use vx_records::{ChunkTally, RecordReader, RecordsError, filter_chunks};
+use vx_records::{ChunkTally, Chunking, RecordReader, RecordsError, filter_chunks};
 use vx_source::Placed;
+
+/// An expression over records that are read in chunks, and how many of these it goes over.
+#[derive(Clone, Copy)]
+pub struct ChunkedQuery<'a> {
+    /// The expression, with the bytes that its nodes were read from.
+    pub placed: &'a Placed,
+    /// How many records a chunk has, but for the last.
+    pub size: NonZeroUsize,
+    /// How many records are gone over at most.
+    pub limit: u64,
+}
 
 /// Writes what [`filter`](crate::filtered::filter) does, going over the records in chunks of `size`, as
 /// [`filter_chunks`] does: the expression isn't evaluated over those whose statistics tell which of
 /// their records to keep. A line on `err` says at the end over how many chunks it was evaluated, and
-/// over how many not. Complains as `filter` does, and then nothing is written on `err`; and where `err`
+/// over how many not. Fails as `filter` does, and then nothing is written on `err`; and where `err`
 /// fails.
 pub fn filter_by_chunks<R: RecordReader, W: Write, E: Write>(
     alloc: Global,
-    placed: &Placed,
-    size: NonZeroUsize,
-    limit: u64,
+    query: &ChunkedQuery<'_>,
     records: &mut R,
     out: &mut W,
     err: &mut E,
-) -> Result<(), RowsComplaint>
-    ensures kept { OnOk result (IsKeptByChunks R.leaves (R.scope records.old) (R.head records.old) (tree_of placed.now.expression) (non_zero_usize_get size) limit records.old records.new
+) -> Result<(), RowsError>
+    ensures kept { OnOk result (IsKeptByChunks R.leaves (R.scope records.old) (R.head records.old) (tree_of query.now.placed.now.expression) (non_zero_usize_get query.now.size) query.now.limit records.old records.new
         (W.contents out.old) (W.contents out.new) (E.contents err.old) (E.contents err.new)) }
-    ensures complaint { IfErr result (λ c. IsKeptByChunksUntil R.leaves (R.scope records.old) (R.head records.old) (tree_of placed.now.expression) (non_zero_usize_get size) limit c records.old records.new
+    ensures error { IfErr result (λ c. IsKeptByChunksUntil R.leaves (R.scope records.old) (R.head records.old) (tree_of query.now.placed.now.expression) (non_zero_usize_get query.now.size) query.now.limit c records.old records.new
         (W.contents out.old) (W.contents out.new) (E.contents err.old) (E.contents err.new)) }
 {
-    let tree = match condition(alloc, placed, records.dtype()) {
+    let tree = match condition(alloc, query.placed, records.dtype()) {
         Ok(tree) => tree,
-        Err(complaint) => return Err(complaint),
+        Err(error) => return Err(error),
     };
-    let tally = match filter_chunks(alloc, &tree, size, limit, records, out) {
+    let chunking = Chunking {
+        size: query.size,
+        limit: query.limit,
+    };
+    let tally = match filter_chunks(alloc, &tree, chunking, records, out) {
         Ok(tally) => tally,
-        Err(error) => return Err(stopped(placed, error)),
+        Err(error) => return Err(stopped(query.placed, error)),
     };
     match tell(tally, err) {
         Ok(()) => Ok(()),
-        Err(e) => Err(stopped(placed, RecordsError::Write(WriteError::Write(e)))),
+        Err(e) => Err(stopped(query.placed, RecordsError::Write(WriteError::Write(e)))),
     }
 }
 

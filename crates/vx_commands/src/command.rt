@@ -1,6 +1,6 @@
 // What the program is asked for, and its page.
 ghost use Rattle.std.specs.Prelude.{IfOk, IfErr, string_bytes};
-ghost use Rattle.vx_commands.specs.Commands.{IsPage, IsComplaintAt};
+ghost use Rattle.vx_commands.specs.Commands.{IsPage, IsCommandErrorAt};
 
 use std::alloc::Global;
 use vx_command_pages::{
@@ -32,8 +32,8 @@ pub enum Command<'a> {
 }
 
 impl<'a> Command<'a> {
-    /// The complaint as a message about the texts of the command.
-    pub fn message<'m>(&self, complaint: &'m CommandError) -> Message<'m>
+    /// The error as a message about the texts of the command.
+    pub fn message<'m>(&self, error: &'m CommandError) -> Message<'m>
     where
         'a: 'm,
     {
@@ -45,7 +45,7 @@ impl<'a> Command<'a> {
             Command::Format(expression) => (expression, expression),
         };
         Message {
-            complaint,
+            error,
             expression,
             schema,
         }
@@ -55,7 +55,7 @@ impl<'a> Command<'a> {
 /// What the command prints, or why it prints nothing.
 pub fn page_of(alloc: Global, command: &Command<'_>) -> Result<String, CommandError>
     ensures prints { IfOk result (λ page. IsPage command.now (string_bytes page)) }
-    ensures complaint { IfErr result (λ c. IsComplaintAt command.now c) }
+    ensures error { IfErr result (λ c. IsCommandErrorAt command.now c) }
 {
     match command {
         Command::Check(query) => type_page(alloc, query.expression.text, query.schema.text),

@@ -1,11 +1,11 @@
 // Files of records, by the form that they have.
-use crate::complaint::RowsComplaint;
+use crate::error::RowsError;
 use std::alloc::Global;
-use std::io::BufRead;
-use vx_command_pages::{CommandError, Span};
-use vx_data::{DataError, WriteError, infer_csv_type, infer_json_type};
+use std::io::{BufReader, Read};
+use vx_command_pages::Span;
+use vx_data::{DataError, Recorded, WriteError, infer_csv_type, infer_json_type};
 use vx_records::RecordsError;
-use vx_source::TypeText;
+use vx_types::DType;
 
 /// In what form records stand in a file.
 #[derive(Clone, Copy, Debug, PartialEq, Eq)]
@@ -27,44 +27,51 @@ impl DataFormat {
     }
 }
 
-/// The narrowest type of the first 1,000 records, as source text. Complains as `infer_json_type` and
-/// `infer_csv_type` of `vx_data` refuse.
-pub fn schema_of<D: BufRead + Drop>(
+/// The narrowest type of the first 1,000 records, and the bytes that were read to tell it. Fails as `infer_json_type` and
+/// `infer_csv_type` of `vx_data` do.
+pub fn inferred_type<D: Read>(
     alloc: Global,
     format: DataFormat,
-    data: D,
-) -> Result<String, RowsComplaint> {
+    data: &mut D,
+) -> Result<(DType, Vec<u8>), RowsError> {
+    let mut recorded = Recorded::new(alloc, data);
     let inferred = match format {
-        DataFormat::JsonLines => infer_json_type(alloc, data),
-        DataFormat::Csv => infer_csv_type(alloc, data),
+        DataFormat::JsonLines => {
+            let reader = buffered(alloc, &mut recorded)?;
+            infer_json_type(alloc, reader)
+        }
+        DataFormat::Csv => infer_csv_type(alloc, &mut recorded),
     };
-    match inferred {
-        Ok(dtype) => match format!(in alloc; "{}", TypeText(&dtype)) {
-            Ok(text) => Ok(text),
-            Err(_) => Err(RowsComplaint::from(CommandError::OutOfMemory)),
-        },
-        Err(e) => Err(stopped_by(RecordsError::from(e))),
+    let (read, _) = recorded.into_parts();
+    Ok((opened(inferred)?, read))
+}
+
+/// The reader with a buffer, or the error for want of memory.
+pub fn buffered<D: Read + Drop>(alloc: Global, data: D) -> Result<BufReader<D>, RowsError> {
+    match BufReader::new(alloc, data) {
+        Ok(reader) => Ok(reader),
+        Err(e) => Err(stopped_by(RecordsError::from(DataError::from(e)))),
     }
 }
 
-/// What was opened, or the complaint of what stopped reading.
-pub fn opened<T>(file: Result<T, DataError>) -> Result<T, RowsComplaint> {
+/// What was opened, or the error of what stopped reading.
+pub fn opened<T>(file: Result<T, DataError>) -> Result<T, RowsError> {
     match file {
         Ok(opened) => Ok(opened),
         Err(e) => Err(stopped_by(RecordsError::from(e))),
     }
 }
 
-/// Nothing, or the complaint of what stopped writing.
-pub fn unwritten(written: Result<(), WriteError>) -> Result<(), RowsComplaint> {
+/// Nothing, or the error of what stopped writing.
+pub fn unwritten(written: Result<(), WriteError>) -> Result<(), RowsError> {
     match written {
         Ok(()) => Ok(()),
         Err(e) => Err(stopped_by(RecordsError::Write(e))),
     }
 }
 
-// The complaint of what no node of the expression stopped.
-fn stopped_by(error: RecordsError) -> RowsComplaint {
+// The error of what no node of the expression stopped.
+fn stopped_by(error: RecordsError) -> RowsError {
     let span = Span { start: 0, end: 0 };
-    RowsComplaint::Records { error, span }
+    RowsError::Records { error, span }
 }

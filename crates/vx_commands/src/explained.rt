@@ -2,8 +2,8 @@
 ghost use Rattle.vx_tree.specs.Trees.{WellTyped};
 ghost use Rattle.vx_tree.specs.Views.{bound_of};
 
-use crate::complaint::RowsComplaint;
 use crate::data::{opened, unwritten};
+use crate::error::RowsError;
 use crate::page::chunk_page;
 use std::alloc::Global;
 use std::io::Write;
@@ -15,31 +15,41 @@ use vx_source::Placed;
 use vx_tree::{BoundExpression, VortexResult};
 use vx_types::DType;
 
+/// An expression of which statistics of chunks tell something, and over how many chunks it goes.
+#[derive(Clone, Copy)]
+pub struct ChunksQuery<'a, 'c> {
+    /// The expression, with the bytes that its nodes were read from.
+    pub placed: &'a Placed,
+    /// The type of the rows in the chunks.
+    pub scope: &'a DType,
+    /// What reads the statistics of such rows.
+    pub chunks: &'c ChunkRecords<'a>,
+    /// How many chunks are gone over at most.
+    pub limit: u64,
+}
+
 /// Writes of each of the first `limit` chunks, or of all where there are fewer, what its statistics
-/// tell of the expression over rows of that type. Complains of the expression's first refusal over
-/// that type, and of want of memory, and then nothing is written; and of what stops reading the
+/// tell of the expression over rows of its type. Fails at the expression's first refusal over
+/// that type, and for want of memory, and then nothing is written; and at what stops reading the
 /// statistics or writing.
 pub fn explain_chunks<R: RecordReader, W: Write>(
     alloc: Global,
-    placed: &Placed,
-    scope: &DType,
-    limit: u64,
-    chunks: &ChunkRecords<'_>,
+    query: &ChunksQuery<'_, '_>,
     records: &mut R,
     out: &mut W,
-) -> Result<(), RowsComplaint> {
-    let tree = match bind(alloc, placed, scope) {
+) -> Result<(), RowsError> {
+    let tree = match bind(alloc, query.placed, query.scope) {
         Ok(tree) => tree,
-        Err(complaint) => return Err(RowsComplaint::Query(complaint)),
+        Err(error) => return Err(RowsError::Query(error)),
     };
-    for number in 0..limit {
+    for number in 0..query.limit {
         let Some(record) = opened(records.read(alloc))? else {
             return Ok(());
         };
         let number = number.saturating_add(1);
-        match page_of(alloc, number, &tree, chunks, &record) {
+        match page_of(alloc, number, &tree, query.chunks, &record) {
             Ok(page) => unwritten(written(out, page.as_str()))?,
-            Err(_) => return Err(RowsComplaint::Query(CommandError::OutOfMemory)),
+            Err(_) => return Err(RowsError::Query(CommandError::OutOfMemory)),
         }
     }
     Ok(())

@@ -6,8 +6,9 @@ ghost use Rattle.vx_tree.specs.Trees.{node_type};
 ghost use Rattle.vx_tree.specs.Views.{bound_of, tree_of};
 ghost use Rattle.vx_commands.specs.Rows.{IsBoundCondition, IsFiltered, IsKeptUntil, IsNoCondition, IsNotBool};
 
-use crate::complaint::RowsComplaint;
+use crate::error::RowsError;
 use crate::evaluated::stopped;
+use crate::records_query::RecordsQuery;
 use std::alloc::Global;
 use std::io::Write;
 use vx_command_pages::{CommandError, bind};
@@ -18,43 +19,42 @@ use vx_types::DType;
 
 /// Writes, of the first `limit` records, or of all where there are fewer, those of which the
 /// expression is true, each as it stands and on a line of its own, behind the records' heading.
-/// Complains of the expression's first refusal over the records' type, of one of another type than
-/// bool, and of want of memory, and then nothing is written; and of what stops going over the
+/// Fails at the expression's first refusal over the records' type, at one of another type than
+/// bool, and for want of memory, and then nothing is written; and at what stops going over the
 /// records, as [`filter_records`] does.
 pub fn filter<R: RecordReader, W: Write>(
     alloc: Global,
-    placed: &Placed,
-    limit: u64,
+    query: &RecordsQuery<'_>,
     records: &mut R,
     out: &mut W,
-) -> Result<(), RowsComplaint>
-    ensures kept { OnOk result (IsFiltered R.leaves (R.scope records.old) (R.head records.old) (tree_of placed.now.expression) limit records.old records.new (W.contents out.old) (W.contents out.new)) }
-    ensures complaint { IfErr result (λ c. IsKeptUntil R.leaves (R.scope records.old) (R.head records.old) (tree_of placed.now.expression) c records.old (W.contents out.old) (W.contents out.new)) }
+) -> Result<(), RowsError>
+    ensures kept { OnOk result (IsFiltered R.leaves (R.scope records.old) (R.head records.old) (tree_of query.now.placed.now.expression) query.now.limit records.old records.new (W.contents out.old) (W.contents out.new)) }
+    ensures error { IfErr result (λ c. IsKeptUntil R.leaves (R.scope records.old) (R.head records.old) (tree_of query.now.placed.now.expression) c records.old (W.contents out.old) (W.contents out.new)) }
 {
-    let tree = match condition(alloc, placed, records.dtype()) {
+    let tree = match condition(alloc, query.placed, records.dtype()) {
         Ok(tree) => tree,
-        Err(complaint) => return Err(complaint),
+        Err(error) => return Err(error),
     };
-    match filter_records(alloc, &tree, limit, records, out) {
+    match filter_records(alloc, &tree, query.limit, records, out) {
         Ok(()) => Ok(()),
-        Err(error) => Err(stopped(placed, error)),
+        Err(error) => Err(stopped(query.placed, error)),
     }
 }
 
-/// The expression bound to the type of the records. Complains of its first refusal over that type, of
-/// one of another type than bool, and of want of memory.
+/// The expression bound to the type of the records. Fails at its first refusal over that type, at
+/// one of another type than bool, and for want of memory.
 pub fn condition(
     alloc: Global,
     placed: &Placed,
     scope: &DType,
-) -> Result<Box<BoundExpression>, RowsComplaint>
+) -> Result<Box<BoundExpression>, RowsError>
     ensures bound { IfOk result (λ tree. IsBoundCondition (tree_of placed.now.expression) (type_of scope.now) (bound_of tree.value)) }
     ensures truth { IfOk result (λ tree. IsTrue (is_truth (node_type (bound_of tree.value)))) }
-    ensures complaint { IfErr result (λ c. IsNoCondition (tree_of placed.now.expression) (type_of scope.now) c) }
+    ensures error { IfErr result (λ c. IsNoCondition (tree_of placed.now.expression) (type_of scope.now) c) }
 {
     let tree = match bind(alloc, placed, scope) {
         Ok(tree) => tree,
-        Err(complaint) => return Err(RowsComplaint::Query(complaint)),
+        Err(error) => return Err(RowsError::Query(error)),
     };
     match tree.dtype() {
         DType::Bool(_) => Ok(tree),
@@ -62,12 +62,12 @@ pub fn condition(
     }
 }
 
-// The complaint that the expression is of that type, or of want of memory.
-fn not_bool(dtype: &DType) -> RowsComplaint
+// The error that the expression is of that type, or want of memory.
+fn not_bool(dtype: &DType) -> RowsError
     ensures { IsNotBool (type_of dtype.now) result }
 {
     match dtype.clone() {
-        Ok(dtype) => RowsComplaint::NotBool(dtype),
-        Err(_) => RowsComplaint::Query(CommandError::OutOfMemory),
+        Ok(dtype) => RowsError::NotBool(dtype),
+        Err(_) => RowsError::Query(CommandError::OutOfMemory),
     }
 }

@@ -1,19 +1,19 @@
-// Complaints as messages.
-use crate::complaint::RowsComplaint;
+// Errors as messages.
+use crate::error::RowsError;
 use std::fmt;
 use std::fmt::{Display, Formatter, Write};
-use vx_command_pages::{Input, Message, Report, Span};
+use vx_command_pages::{Input, Message, Span};
 use vx_data::{DataError, WriteError};
 use vx_records::{RecordFault, RecordsError};
 use vx_source::TypeText;
 use vx_types::VortexError;
 
-/// A complaint as a message to a person, with the place in the text underlined where it is of the
+/// An error as a message to a person, with the place in the text underlined where it is of the
 /// expression or the schema, and no end of line behind it. Takes no memory.
 #[derive(Clone, Copy)]
 pub struct RowsMessage<'a> {
-    /// What is complained of.
-    pub complaint: &'a RowsComplaint,
+    /// The error.
+    pub error: &'a RowsError,
     /// The expression that the command was given.
     pub expression: Input<'a>,
     /// The schema.
@@ -24,16 +24,16 @@ pub struct RowsMessage<'a> {
 
 impl Display for RowsMessage<'_> {
     fn fmt<W: Write>(&self, f: &mut Formatter<W>) -> fmt::Result {
-        match self.complaint {
-            RowsComplaint::Query(complaint) => {
+        match self.error {
+            RowsError::Query(error) => {
                 let message = Message {
-                    complaint,
+                    error,
                     expression: self.expression,
                     schema: self.schema,
                 };
                 message.fmt(f)
             }
-            RowsComplaint::NotBool(dtype) => {
+            RowsError::NotBool(dtype) => {
                 let all = Span {
                     start: 0,
                     end: self.expression.text.len(),
@@ -42,14 +42,11 @@ impl Display for RowsMessage<'_> {
                     "records are kept by truth values, and these are of the type {}",
                     TypeText(dtype)
                 );
-                self.write_report(
-                    &message,
-                    all,
-                    Some("write a comparison, as in x > 0, or a test, as in x is not null"),
-                    f,
-                )
+                let help = "write a comparison, as in x > 0, or a test, as in x is not null";
+                let report = self.expression.report(&message, all, Some(help));
+                report.fmt(f)
             }
-            RowsComplaint::Records { error, span } => self.write_stop(error, *span, f),
+            RowsError::Records { error, span } => self.write_stop(error, *span, f),
         }
     }
 }
@@ -78,28 +75,13 @@ impl RowsMessage<'_> {
         f: &mut Formatter<W>,
     ) -> fmt::Result {
         let refusal = &fault.refusal;
-        self.write_report(&FaultText(refusal), span, help_for(refusal), f)?;
+        let message = FaultText(refusal);
+        let report = self.expression.report(&message, span, help_for(refusal));
+        report.fmt(f)?;
         match fault.line {
             Some(line) => write!(f, "\n  = record: {}, line {line}", self.data),
             None => Ok(()),
         }
-    }
-
-    fn write_report<M: Display, W: Write>(
-        &self,
-        message: &M,
-        span: Span,
-        help: Option<&str>,
-        f: &mut Formatter<W>,
-    ) -> fmt::Result {
-        let report = Report {
-            message,
-            name: self.expression.name,
-            text: self.expression.text,
-            span,
-            help,
-        };
-        report.fmt(f)
     }
 }
 

@@ -3,8 +3,9 @@ ghost use Rattle.vx_tree.specs.Trees.{EachWellTyped, WellTyped};
 ghost use Rattle.vx_tree.specs.Views.{bound_of, bounds_of};
 
 use std::alloc::{AllocError, Global};
+use vx_command_pages::joins_conjuncts;
 use vx_prune::{ChunkStats, Verdict, bounds, verdict};
-use vx_tree::{BoundExpression, DType, Operator, ScalarFnRef};
+use vx_tree::{BoundExpression, DType, ScalarFnRef};
 
 /// The lines of a chunk: its number, its rows and, of a truth value, the verdict; and of each conjunct
 /// and below it of each operand that is no literal, between which values it is there.
@@ -16,29 +17,25 @@ pub fn chunk_page(
 ) -> Result<String, AllocError>
     requires { WellTyped (bound_of tree.now) }
 {
-    let mut page = heading(alloc, number, tree, stats)?;
+    let rows = stats.rows();
+    let said = verdict_said(tree, stats);
+    let mut page = format!(in alloc; "chunk {number}, {rows} rows{said}\n")?;
     push_conjuncts(alloc, tree, stats, &mut page)?;
     Ok(page)
 }
 
-fn heading(
-    alloc: Global,
-    number: u64,
-    tree: &BoundExpression,
-    stats: &ChunkStats,
-) -> Result<String, AllocError>
+// What is said of the verdict behind the number of rows; nothing where the tree is no truth value.
+fn verdict_said(tree: &BoundExpression, stats: &ChunkStats) -> &'static str
     requires { WellTyped (bound_of tree.now) }
 {
-    let rows = stats.rows();
     let DType::Bool(_) = tree.dtype() else {
-        return format!(in alloc; "chunk {number}, {rows} rows\n");
+        return "";
     };
-    let said = match verdict(tree, stats) {
-        Verdict::NoRow => "no row",
-        Verdict::EveryRow => "every row",
-        Verdict::Unknown => "to be read",
-    };
-    format!(in alloc; "chunk {number}, {rows} rows: {said}\n")
+    match verdict(tree, stats) {
+        Verdict::NoRow => ": no row",
+        Verdict::EveryRow => ": every row",
+        Verdict::Unknown => ": to be read",
+    }
 }
 
 // Adds the lines of each conjunct, from left to right.
@@ -60,7 +57,7 @@ fn push_conjuncts(
         return push_known(alloc, "  ", tree, stats, page);
     };
     match (scalar_fn, children.as_slice()) {
-        (ScalarFnRef::Binary(Operator::And), [left, right]) => {
+        (ScalarFnRef::Binary(operator), [left, right]) if joins_conjuncts(*operator) => {
             push_conjuncts(alloc, left, stats, page)?;
             push_conjuncts(alloc, right, stats, page)
         }

@@ -1,18 +1,19 @@
 // A run of the program over the records of a file.
-use crate::chunked::filter_by_chunks;
-use crate::complaint::RowsComplaint;
-use crate::data::{DataFormat, opened, schema_of, unwritten};
+use crate::chunked::{ChunkedQuery, filter_by_chunks};
+use crate::data::{DataFormat, buffered, inferred_type, opened, unwritten};
+use crate::error::RowsError;
 use crate::evaluated::evaluate;
-use crate::explained::explain_chunks;
+use crate::explained::{ChunksQuery, explain_chunks};
 use crate::filtered::filter;
 use crate::message::RowsMessage;
 use crate::outputs::{Output, OutputFormat};
+use crate::records_query::RecordsQuery;
 use crate::run::tell_message;
 use std::alloc::Global;
-use std::io::{BufRead, Write};
+use std::io::{Cursor, Read, Write};
 use std::num::NonZeroUsize;
 use vx_command_pages::{
-    CommandError, Input, Status, explanation_page, read_expression, read_schema,
+    CommandError, Input, ReadQuery, Status, explanation_of, read_expression, read_query,
 };
 use vx_data::WriteError;
 use vx_prune::ChunkRecords;
@@ -37,6 +38,25 @@ pub enum RecordsTask {
     ExplainChunks,
 }
 
+/// The type of the records.
+#[derive(Clone, Copy, Debug)]
+pub enum Schema<'a> {
+    /// The one that the text says.
+    Said(Input<'a>),
+    /// The narrowest type of the first 1,000 records.
+    Inferred,
+}
+
+impl<'a> Schema<'a> {
+    // The text that says it, an empty one where none does.
+    fn input(self) -> Input<'a> {
+        match self {
+            Schema::Said(input) => input,
+            Schema::Inferred => Input { name: "", text: "" },
+        }
+    }
+}
+
 /// A command that goes over the records of a file.
 #[derive(Clone, Copy, Debug)]
 pub struct RowsCommand<'a> {
@@ -45,7 +65,7 @@ pub struct RowsCommand<'a> {
     /// The expression.
     pub expression: Input<'a>,
     /// The type of the records.
-    pub schema: Input<'a>,
+    pub schema: Schema<'a>,
     /// What the file is called.
     pub data: &'a str,
     /// In what form the records stand in it.
@@ -54,12 +74,29 @@ pub struct RowsCommand<'a> {
     pub limit: u64,
 }
 
-/// Runs the command over the records that the reader gives. What it prints is written on `out` as it
-/// comes, and what is complained of as a message on `err`, where a filter by chunks also tells how many
+// A command whose texts were read.
+#[derive(Clone, Copy)]
+struct ReadCommand<'a> {
+    command: &'a RowsCommand<'a>,
+    placed: &'a Placed,
+}
+
+impl<'a> ReadCommand<'a> {
+    // What it asks of the records.
+    fn query(&self) -> RecordsQuery<'a> {
+        RecordsQuery {
+            placed: self.placed,
+            limit: self.command.limit,
+        }
+    }
+}
+
+/// Runs the command over the records that the reader gives, which is read once, in blocks. What it prints is written on
+/// `out` as it comes, and an error as a message on `err`, where a filter by chunks also tells how many
 /// of them weren't evaluated. The status is `Done`; or `Wrong` for a text
 /// that can't be read, an expression that is refused or faults, or a record that isn't of the schema's
 /// type; or `Failed` where memory, the reader or a writer fails.
-pub fn run_rows<D: BufRead + Drop, W: Write, E: Write>(
+pub fn run_rows<D: Read + Drop, W: Write, E: Write>(
     alloc: Global,
     command: &RowsCommand<'_>,
     data: D,
@@ -68,123 +105,120 @@ pub fn run_rows<D: BufRead + Drop, W: Write, E: Write>(
 ) -> Status {
     match gone_over(alloc, command, data, out, err) {
         Ok(()) => Status::Done,
-        Err(complaint) => {
+        Err(error) => {
             let message = RowsMessage {
-                complaint: &complaint,
+                error: &error,
                 expression: command.expression,
-                schema: command.schema,
+                schema: command.schema.input(),
                 data: command.data,
             };
-            tell_message(alloc, &message, complaint.status(), err)
+            tell_message(alloc, &message, error.status(), err)
         }
     }
 }
 
-/// The narrowest type of the first 1,000 records that the reader gives, as source text. What is
-/// complained of is written on `err`, with `data` as the name of the file, and the status is given.
-pub fn infer_schema<D: BufRead + Drop, E: Write>(
-    alloc: Global,
-    data: &str,
-    format: DataFormat,
-    reader: D,
-    err: &mut E,
-) -> Result<String, Status> {
-    match schema_of(alloc, format, reader) {
-        Ok(schema) => Ok(schema),
-        Err(complaint) => {
-            let nothing = Input { name: "", text: "" };
-            let message = RowsMessage {
-                complaint: &complaint,
-                expression: nothing,
-                schema: nothing,
-                data,
-            };
-            Err(tell_message(alloc, &message, complaint.status(), err))
-        }
-    }
-}
-
-// Goes over the records.
-fn gone_over<D: BufRead + Drop, W: Write, E: Write>(
+// Goes over the records. Those that told their type are read once more, from where they were kept.
+fn gone_over<D: Read + Drop, W: Write, E: Write>(
     alloc: Global,
     command: &RowsCommand<'_>,
-    data: D,
+    mut data: D,
     out: &mut W,
     err: &mut E,
-) -> Result<(), RowsComplaint> {
-    let placed = read_expression(alloc, command.expression.text)?;
-    let scope = read_schema(alloc, command.schema.text)?;
+) -> Result<(), RowsError> {
+    let (query, read) = match command.schema {
+        Schema::Said(schema) => {
+            let query = read_query(alloc, command.expression.text, schema.text)?;
+            (query, Vec::new(alloc))
+        }
+        Schema::Inferred => inferred(alloc, command, &mut data)?,
+    };
+    let data = Cursor::new(read).chain(data);
     if let RecordsTask::ExplainChunks = command.work {
-        return chunks_explained(alloc, command, &placed, &scope, data, out);
+        return chunks_explained(alloc, command, &query, data, out);
     }
+    let ReadQuery { placed, scope } = query;
     let scope = Box::into_inner(scope);
-    match command.format {
+    let command = ReadCommand {
+        command,
+        placed: &placed,
+    };
+    match command.command.format {
         DataFormat::JsonLines => {
-            let mut records = JsonRecords::new(alloc, scope, data);
-            worked(alloc, command, &placed, &mut records, out, err)
+            let mut records = JsonRecords::new(alloc, scope, buffered(alloc, data)?);
+            worked(alloc, &command, &mut records, out, err)
         }
         DataFormat::Csv => {
             let mut records = opened(CsvRows::open(alloc, scope, data))?;
-            worked(alloc, command, &placed, &mut records, out, err)
+            worked(alloc, &command, &mut records, out, err)
         }
+    }
+}
+
+// The expression over the narrowest type of the first records, and what was read of these.
+fn inferred<D: Read>(
+    alloc: Global,
+    command: &RowsCommand<'_>,
+    data: &mut D,
+) -> Result<(ReadQuery, Vec<u8>), RowsError> {
+    let placed = read_expression(alloc, command.expression.text)?;
+    let (dtype, read) = inferred_type(alloc, command.format, data)?;
+    match Box::new(alloc, dtype) {
+        Ok(scope) => Ok((ReadQuery { placed, scope }, read)),
+        Err(_) => Err(RowsError::Query(CommandError::OutOfMemory)),
     }
 }
 
 // Writes what becomes of the expression, and what the records tell of it in each chunk.
-fn chunks_explained<D: BufRead + Drop, W: Write>(
+fn chunks_explained<D: Read + Drop, W: Write>(
     alloc: Global,
     command: &RowsCommand<'_>,
-    placed: &Placed,
-    scope: &DType,
+    query: &ReadQuery,
     data: D,
     out: &mut W,
-) -> Result<(), RowsComplaint> {
-    let page = explanation_page(alloc, command.expression.text, command.schema.text)?;
-    let Ok(chunks) = ChunkRecords::new(alloc, scope) else {
-        return Err(RowsComplaint::Query(CommandError::OutOfMemory));
+) -> Result<(), RowsError> {
+    let page = explanation_of(alloc, &query.placed, &query.scope)?;
+    let Ok(chunks) = ChunkRecords::new(alloc, &query.scope) else {
+        return Err(RowsError::Query(CommandError::OutOfMemory));
     };
     let Ok(dtype) = chunks.record_type(alloc) else {
-        return Err(RowsComplaint::Query(CommandError::OutOfMemory));
+        return Err(RowsError::Query(CommandError::OutOfMemory));
     };
     unwritten(written(out, page.as_str()))?;
-    let mut records = JsonRecords::new(alloc, dtype, data);
-    explain_chunks(
-        alloc,
-        placed,
-        scope,
-        command.limit,
-        &chunks,
-        &mut records,
-        out,
-    )
+    let mut records = JsonRecords::new(alloc, dtype, buffered(alloc, data)?);
+    let query = ChunksQuery {
+        placed: &query.placed,
+        scope: &query.scope,
+        chunks: &chunks,
+        limit: command.limit,
+    };
+    explain_chunks(alloc, &query, &mut records, out)
 }
 
 // Does with the records what the command says.
 fn worked<R: RecordReader, W: Write, E: Write>(
     alloc: Global,
-    command: &RowsCommand<'_>,
-    placed: &Placed,
+    command: &ReadCommand<'_>,
     records: &mut R,
     out: &mut W,
     err: &mut E,
-) -> Result<(), RowsComplaint> {
-    match command.work {
-        RecordsTask::Filter => filter(alloc, placed, command.limit, records, out),
+) -> Result<(), RowsError> {
+    let query = command.query();
+    match command.command.work {
+        RecordsTask::Filter => filter(alloc, &query, records, out),
         RecordsTask::FilterByChunks(size) => {
-            filter_by_chunks(alloc, placed, size, command.limit, records, out, err)
-        }
-        RecordsTask::Evaluate(format) => evaluated(alloc, command, format, placed, records, out),
-        RecordsTask::Explain | RecordsTask::ExplainChunks => {
-            let page = explanation(alloc, command, records.dtype())?;
-            unwritten(written(out, page.as_str()))?;
-            evaluated(
-                alloc,
-                command,
-                OutputFormat::JsonLines,
+            let RecordsQuery { placed, limit } = query;
+            let query = ChunkedQuery {
                 placed,
-                records,
-                out,
-            )
+                size,
+                limit,
+            };
+            filter_by_chunks(alloc, &query, records, out, err)
+        }
+        RecordsTask::Evaluate(format) => evaluated(alloc, &query, format, records, out),
+        RecordsTask::Explain | RecordsTask::ExplainChunks => {
+            let page = explanation(alloc, query.placed, records.dtype())?;
+            unwritten(written(out, page.as_str()))?;
+            evaluated(alloc, &query, OutputFormat::JsonLines, records, out)
         }
     }
 }
@@ -192,29 +226,24 @@ fn worked<R: RecordReader, W: Write, E: Write>(
 // Writes what the expression means at the records.
 fn evaluated<R: RecordReader, W: Write>(
     alloc: Global,
-    command: &RowsCommand<'_>,
+    query: &RecordsQuery<'_>,
     format: OutputFormat,
-    placed: &Placed,
     records: &mut R,
     out: &mut W,
-) -> Result<(), RowsComplaint> {
+) -> Result<(), RowsError> {
     let mut output = Output::new(alloc, format, out);
-    let meant = evaluate(alloc, placed, command.limit, records, &mut output);
+    let meant = evaluate(alloc, query, records, &mut output);
     let finished = unwritten(output.finish(alloc));
     meant?;
     finished
 }
 
 // The type of the records, what becomes of the expression, and the line above the rows.
-fn explanation(
-    alloc: Global,
-    command: &RowsCommand<'_>,
-    dtype: &DType,
-) -> Result<String, RowsComplaint> {
-    let page = explanation_page(alloc, command.expression.text, command.schema.text)?;
+fn explanation(alloc: Global, placed: &Placed, dtype: &DType) -> Result<String, RowsError> {
+    let page = explanation_of(alloc, placed, dtype)?;
     match format!(in alloc; "schema: {}\n{page}rows:\n", TypeText(dtype)) {
         Ok(explanation) => Ok(explanation),
-        Err(_) => Err(RowsComplaint::Query(CommandError::OutOfMemory)),
+        Err(_) => Err(RowsError::Query(CommandError::OutOfMemory)),
     }
 }
 

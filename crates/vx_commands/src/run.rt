@@ -1,7 +1,7 @@
 // A run of the program.
 ghost use Rattle.std.specs.Prelude.{◌≡◌, ◌⊎◌};
-ghost use Rattle.vx_command_pages.specs.declared.complaint.Status.TheVariants.{Failed};
-ghost use Rattle.vx_commands.specs.Commands.{EndsCommand, EndsAtPage, EndsAtComplaint};
+ghost use Rattle.vx_command_pages.specs.declared.error.Status.TheVariants.{Failed};
+ghost use Rattle.vx_commands.specs.Commands.{EndsCommand, EndsAtPage, EndsAtError};
 
 use crate::command::{Command, page_of};
 use std::alloc::Global;
@@ -10,7 +10,7 @@ use std::io::Write;
 use vx_command_pages::{CommandError, Status};
 use vx_run::tell;
 
-/// Runs the command: its page is written on `out`, or what is complained of as a message on `err`, and
+/// Runs the command: its page is written on `out`, or an error as a message on `err`, and
 /// the other writer is left as it was. All of a page is made before the first of it is written. The
 /// status is `Done` for a page, `Wrong` for a text that can't be read or an expression that is refused,
 /// and `Failed` where memory or a writer fails.
@@ -24,7 +24,7 @@ pub fn run_command<W: Write, E: Write>(
 {
     match page_of(alloc, command) {
         Ok(page) => print(page.as_str(), out),
-        Err(complaint) => complain(alloc, command, &complaint, err),
+        Err(error) => tell_error(alloc, command, &error, err),
     }
 }
 
@@ -38,16 +38,16 @@ pub(crate) fn print<W: Write>(page: &str, out: &mut W) -> Status
     }
 }
 
-// Writes the complaint as a message.
-fn complain<E: Write>(
+// Writes the error as a message.
+fn tell_error<E: Write>(
     alloc: Global,
     command: &Command<'_>,
-    complaint: &CommandError,
+    error: &CommandError,
     err: &mut E,
 ) -> Status
-    ensures { EndsAtComplaint complaint.now result }
+    ensures { EndsAtError error.now result }
 {
-    tell_message(alloc, &command.message(complaint), complaint.status(), err)
+    tell_message(alloc, &command.message(error), error.status(), err)
 }
 
 /// Writes the message, and the end of its line. The status is the one that is wanted, or `Failed` where

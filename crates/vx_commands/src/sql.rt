@@ -1,12 +1,12 @@
 // A run of the program that writes a plan as SQL.
 ghost use Rattle.std.specs.Prelude.{IfOk, IfErr, string_bytes};
-ghost use Rattle.vx_commands.specs.SqlRuns.{IsSqlText, IsSqlComplaintAt, EndsAtSqlComplaint, EndsAsSql};
+ghost use Rattle.vx_commands.specs.SqlRuns.{IsSqlText, IsSqlErrorAt, EndsAtSqlError, EndsAsSql};
 
 use crate::command::Query;
 use crate::run::{print, tell_message};
 use std::alloc::Global;
 use std::io::Write;
-use vx_command_pages::{Message, SqlComplaint, Status, sql_explanation_page, sql_page};
+use vx_command_pages::{Message, SqlError, SqlQuery, Status, sql_explanation_page, sql_page};
 use vx_sql::Dialect;
 
 /// What is told of a plan that is written as SQL.
@@ -31,7 +31,7 @@ pub struct SqlCommand<'a> {
     pub table: &'a str,
 }
 
-/// Runs the command: its page is written on `out`, or what is complained of as a message on `err`, and
+/// Runs the command: its page is written on `out`, or an error as a message on `err`, and
 /// the other writer is left as it was. All of a page is made before the first of it is written. The
 /// status is `Done` for a page; `Wrong` for a text that can't be read, an expression that is refused, and
 /// a plan that has no statement; and `Failed` where memory or a writer fails.
@@ -45,45 +45,47 @@ pub fn run_sql<W: Write, E: Write>(
 {
     match page_of(alloc, command) {
         Ok(page) => print(page.as_str(), out),
-        Err(complaint) => complain(alloc, command, &complaint, err),
+        Err(error) => tell_error(alloc, command, &error, err),
     }
 }
 
 // What the command prints, or why it prints nothing.
-fn page_of(alloc: Global, command: &SqlCommand<'_>) -> Result<String, SqlComplaint>
+fn page_of(alloc: Global, command: &SqlCommand<'_>) -> Result<String, SqlError>
     ensures prints { IfOk result (λ page. IsSqlText command.now.work command.now (string_bytes page)) }
-    ensures complaint { IfErr result (λ c. IsSqlComplaintAt command.now c) }
+    ensures error { IfErr result (λ c. IsSqlErrorAt command.now c) }
 {
-    let expression = command.query.expression.text;
-    let schema = command.query.schema.text;
+    let query = SqlQuery {
+        expression: command.query.expression.text,
+        schema: command.query.schema.text,
+        dialect: command.dialect,
+        table: command.table,
+    };
     match command.work {
-        SqlTask::Plan => sql_page(alloc, expression, schema, command.dialect, command.table),
-        SqlTask::Explain => {
-            sql_explanation_page(alloc, expression, schema, command.dialect, command.table)
-        }
+        SqlTask::Plan => sql_page(alloc, &query),
+        SqlTask::Explain => sql_explanation_page(alloc, &query),
     }
 }
 
-// Writes the complaint as a message.
-fn complain<E: Write>(
+// Writes the error as a message.
+fn tell_error<E: Write>(
     alloc: Global,
     command: &SqlCommand<'_>,
-    complaint: &SqlComplaint,
+    error: &SqlError,
     err: &mut E,
 ) -> Status
-    ensures { EndsAtSqlComplaint complaint.now result }
+    ensures { EndsAtSqlError error.now result }
 {
-    let wanted = complaint.status();
-    match complaint {
-        SqlComplaint::Query(complaint) => {
+    let wanted = error.status();
+    match error {
+        SqlError::Query(error) => {
             let message = Message {
-                complaint,
+                error,
                 expression: command.query.expression,
                 schema: command.query.schema,
             };
             tell_message(alloc, &message, wanted, err)
         }
-        SqlComplaint::Statement(refusal) => {
+        SqlError::Statement(refusal) => {
             tell_message(alloc, &format_args!("error: {refusal}"), wanted, err)
         }
     }

@@ -8,6 +8,7 @@ mod error;
 mod expected;
 mod fault;
 mod json_lines;
+mod recorded;
 mod wholes;
 
 pub use builder::ColumnBuilder;
@@ -18,3 +19,4 @@ pub use fault::Fault;
 pub use json_lines::{
     JsonLines, JsonParser, infer_json_type, rows_from_json_lines, write_json_lines,
 };
+pub use recorded::Recorded;

@@ -1,8 +1,8 @@
 // Values without others inside them, and which rows are null.
-ghost use Rattle.std.specs.Prelude.{◌≡◌, ◌+◌, ◌<◌, length};
-ghost use Rattle.vx_data_buffers.specs.Results.{Reads, and_so, and_then};
+ghost use Rattle.std.specs.Prelude.{◌≡◌, Ok};
+ghost use Rattle.vx_data_buffers.specs.Results.{Reads, and_so};
 ghost use Rattle.vx_data_buffers.specs.Bytes.{bit_of, bytes_at, bytes_in, number_at};
-ghost use Rattle.vx_data_buffers.specs.Layout.{found, is_valid, row_bytes, text_of};
+ghost use Rattle.vx_data_buffers.specs.Layout.{found, is_valid, text_of};
 ghost use Rattle.vx_value.specs.Types.{bool, bytes, int};
 ghost use Rattle.vx_value.specs.Views.{value_of};
 
@@ -10,7 +10,6 @@ use crate::Buffer;
 use crate::buffer::bytes_at;
 use crate::bytes::{bit_of, number_at};
 use crate::fault::Fault;
-use crate::spans::row_bytes;
 use std::alloc::Global;
 use vx_types::{PType, Value};
 
@@ -50,22 +49,8 @@ pub(crate) fn whole_at(
     }
 }
 
-// The text of row i.
-pub(crate) fn text_at(
-    alloc: Global,
-    buffers: &[Buffer<'_>],
-    at: usize,
-    i: usize,
-) -> Result<Value, Fault>
-    requires buffer { at < length buffers.now }
-    requires row { i < usize.MAX }
-    ensures { Reads value_of result (and_then (row_bytes (bytes_in buffers.now) at i) (text_of (at + 1))) }
-{
-    text_of(alloc, at + 1, row_bytes(buffers, at, i)?)
-}
-
-// The bytes as a text.
-fn text_of(alloc: Global, at: usize, bytes: &[u8]) -> Result<Value, Fault>
+// The bytes, which are of the buffer of that index, as a text.
+pub(crate) fn text_of(alloc: Global, at: usize, bytes: &[u8]) -> Result<Value, Fault>
     ensures { Reads value_of result (text_of at bytes.now) }
 {
     match str::from_utf8(bytes) {
@@ -74,17 +59,9 @@ fn text_of(alloc: Global, at: usize, bytes: &[u8]) -> Result<Value, Fault>
     }
 }
 
-// The bytes of row i.
-pub(crate) fn octets_at(
-    alloc: Global,
-    buffers: &[Buffer<'_>],
-    at: usize,
-    i: usize,
-) -> Result<Value, Fault>
-    requires buffer { at < length buffers.now }
-    requires row { i < usize.MAX }
-    ensures { Reads value_of result (and_so (row_bytes (bytes_in buffers.now) at i) bytes) }
+// The bytes as they are.
+pub(crate) fn octets_of(alloc: Global, octets: &[u8]) -> Result<Value, Fault>
+    ensures { Reads value_of result (Ok (bytes octets.now)) }
 {
-    let bytes = row_bytes(buffers, at, i)?;
-    Ok(Value::Binary(Vec::from_slice(alloc, bytes)?))
+    Ok(Value::Binary(Vec::from_slice(alloc, octets)?))
 }

@@ -10,8 +10,8 @@ ghost use Rattle.vx_value.specs.Views.{fields_of, type_of, value_of};
 use crate::Buffer;
 use crate::counts::buffer_count;
 use crate::fault::Fault;
-use crate::leaves::{is_valid, octets_at, text_at, truth_at, whole_at};
-use crate::spans::{fixed_span, span};
+use crate::leaves::{is_valid, octets_of, text_of, truth_at, whole_at};
+use crate::spans::{fixed_span, row_bytes, span};
 use std::alloc::Global;
 use vx_types::{DType, StructFields, Value};
 
@@ -35,15 +35,15 @@ pub(crate) fn value_at(
     match t {
         DType::Bool(_) => truth_at(buffers, next, i),
         DType::Primitive(ptype, _) => whole_at(buffers, *ptype, next, i),
-        DType::Utf8(_) => text_at(alloc, buffers, next, i),
-        DType::Binary(_) => octets_at(alloc, buffers, next, i),
+        DType::Utf8(_) => text_of(alloc, next + 1, row_bytes(buffers, next, i)?),
+        DType::Binary(_) => octets_of(alloc, row_bytes(buffers, next, i)?),
         DType::List(t, _) => {
-            let (from, to) = span(buffers, next, i)?;
-            items(alloc, buffers, t.as_ref(), next + 1, from, to)
+            let rows = span(buffers, next, i)?;
+            items(alloc, buffers, t.as_ref(), next + 1, rows)
         }
         DType::FixedSizeList(t, size, _) => {
-            let (from, to) = fixed_span(*size, i)?;
-            items(alloc, buffers, t.as_ref(), next, from, to)
+            let rows = fixed_span(*size, i)?;
+            items(alloc, buffers, t.as_ref(), next, rows)
         }
         DType::Struct(fields, _) => fields_at(alloc, buffers, fields, next, i),
     }
@@ -56,13 +56,13 @@ fn items(
     buffers: &[Buffer<'_>],
     t: &DType,
     at: usize,
-    from: usize,
-    to: usize,
+    rows: (usize, usize),
 ) -> Result<Value, Fault>
     requires buffers { at + buffer_count (type_of t.now) ≤ length buffers.now }
-    requires order { from ≤ to }
-    ensures { Reads value_of result (and_so (each_from (value_at (bytes_in buffers.now) (type_of t.now) at) from (to - from)) (λ vs. list_of (data_of vs))) }
+    requires order { rows.0 ≤ rows.1 }
+    ensures { Reads value_of result (and_so (each_from (value_at (bytes_in buffers.now) (type_of t.now) at) rows.0 (rows.1 - rows.0)) (λ vs. list_of (data_of vs))) }
 {
+    let (from, to) = rows;
     let mut items = Vec::new(alloc);
     for i in from..to {
         items.push(value_at(alloc, buffers, t, at, i)?)?;

@@ -15,35 +15,49 @@ use vx_types::{Column, DType};
 /// What is called.
 #[derive(Clone, Copy)]
 pub enum Call {
-    /// `rows | TYPE | FILE`: the rows, which have to be the same where they are written and read again.
-    Rows,
-    /// `cut rows | TYPE | FILE`: the rows of a reader that fails behind the file.
-    CutRows,
+    /// A call on a file alone.
+    Untyped(UntypedCall),
+    /// A call on a file by the type of its rows.
+    Typed(TypedCall),
+    /// `by chance | SEED COUNT`: what becomes of so many columns that are written and read again.
+    ByChance,
+}
+
+/// A call on a file alone.
+#[derive(Clone, Copy)]
+pub enum UntypedCall {
     /// `type | FILE`: the type that is guessed, by which the file has to be read.
     Type,
     /// `cut type | FILE`: the type that is guessed of a reader that fails behind the file.
     CutType,
     /// `records | FILE`: each record as it stood, behind its line.
     Records,
+}
+
+/// A call on a file by the type of its rows.
+#[derive(Clone, Copy)]
+pub enum TypedCall {
+    /// `rows | TYPE | FILE`: the rows, which have to be the same where they are written and read again.
+    Rows,
+    /// `cut rows | TYPE | FILE`: the rows of a reader that fails behind the file.
+    CutRows,
     /// `written | TYPE | LINES`: the file of the rows that the lines of JSON are.
     Written,
     /// `twice | TYPE | LINES`: the file of these rows, written twice to one writer.
     Twice,
-    /// `by chance | SEED COUNT`: what becomes of so many columns that are written and read again.
-    ByChance,
 }
 
 impl Call {
     /// The call of that name.
     pub fn named(name: &str) -> Option<Call> {
         match name {
-            "rows" => Some(Call::Rows),
-            "cut rows" => Some(Call::CutRows),
-            "type" => Some(Call::Type),
-            "cut type" => Some(Call::CutType),
-            "records" => Some(Call::Records),
-            "written" => Some(Call::Written),
-            "twice" => Some(Call::Twice),
+            "rows" => Some(Call::Typed(TypedCall::Rows)),
+            "cut rows" => Some(Call::Typed(TypedCall::CutRows)),
+            "type" => Some(Call::Untyped(UntypedCall::Type)),
+            "cut type" => Some(Call::Untyped(UntypedCall::CutType)),
+            "records" => Some(Call::Untyped(UntypedCall::Records)),
+            "written" => Some(Call::Typed(TypedCall::Written)),
+            "twice" => Some(Call::Typed(TypedCall::Twice)),
             "by chance" => Some(Call::ByChance),
             _ => None,
         }
@@ -52,8 +66,8 @@ impl Call {
     /// How many columns it takes.
     pub fn columns(self) -> usize {
         match self {
-            Call::Rows | Call::CutRows | Call::Written | Call::Twice => 2,
-            Call::Type | Call::CutType | Call::Records | Call::ByChance => 1,
+            Call::Typed(_) => 2,
+            Call::Untyped(_) | Call::ByChance => 1,
         }
     }
 }
@@ -67,11 +81,11 @@ pub fn answer(
 ) -> Result<String, Unread> {
     match (call, columns) {
         (Call::ByChance, [words]) => written_by_chance(alloc, format, words),
-        (_, [file]) => {
+        (Call::Untyped(call), [file]) => {
             let file = unescaped(alloc, file)?;
             Ok(untyped_answer(alloc, format, call, file.as_slice())?)
         }
-        (_, [dtype, file]) => {
+        (Call::Typed(call), [dtype, file]) => {
             let dtype = Box::new(alloc, parse_type(alloc, dtype)?)?;
             let file = unescaped(alloc, file)?;
             Ok(typed_answer(alloc, format, call, &dtype, file.as_slice())?)
@@ -83,29 +97,29 @@ pub fn answer(
 fn untyped_answer(
     alloc: Global,
     format: Format,
-    call: Call,
+    call: UntypedCall,
     file: &[u8],
 ) -> Result<String, AllocError> {
     match (call, format) {
-        (Call::Type, _) => guessed(alloc, format, file),
-        (Call::CutType, _) => shown(alloc, format.guess(alloc, file.chain(Cut))),
-        (_, Format::Json) => shown(alloc, json_records(alloc, file)),
-        (_, Format::Csv) => shown(alloc, csv_records(alloc, file)),
+        (UntypedCall::Type, _) => guessed(alloc, format, file),
+        (UntypedCall::CutType, _) => shown(alloc, format.guess(alloc, file.chain(Cut))),
+        (UntypedCall::Records, Format::Json) => shown(alloc, json_records(alloc, file)),
+        (UntypedCall::Records, Format::Csv) => shown(alloc, csv_records(alloc, file)),
     }
 }
 
 fn typed_answer(
     alloc: Global,
     format: Format,
-    call: Call,
+    call: TypedCall,
     dtype: &DType,
     file: &[u8],
 ) -> Result<String, AllocError> {
     match call {
-        Call::CutRows => shown(alloc, format.read(alloc, dtype, file.chain(Cut))),
-        Call::Written => written(alloc, format, dtype, file),
-        Call::Twice => twice(alloc, format, dtype, file),
-        _ => rows(alloc, format, dtype, file),
+        TypedCall::Rows => rows(alloc, format, dtype, file),
+        TypedCall::CutRows => shown(alloc, format.read(alloc, dtype, file.chain(Cut))),
+        TypedCall::Written => written(alloc, format, dtype, file),
+        TypedCall::Twice => twice(alloc, format, dtype, file),
     }
 }
 
@@ -127,7 +141,7 @@ fn rows(alloc: Global, format: Format, dtype: &DType, file: &[u8]) -> Result<Str
     };
     match format.write_and_read(alloc, &column) {
         Again::Same => format!(in alloc; "{column}"),
-        _ => format!(in alloc; "{column}, which becomes another"),
+        Again::Refused | Again::Other => format!(in alloc; "{column}, which becomes another"),
     }
 }
 

@@ -14,13 +14,27 @@ pub enum Format {
     Csv,
 }
 
+// All formats.
+const FORMATS: [Format; 2] = [Format::Json, Format::Csv];
+
 impl Format {
     /// The format of that name.
     pub fn named(name: &str) -> Option<Format> {
-        match name {
-            "json" => Some(Format::Json),
-            "csv" => Some(Format::Csv),
-            _ => None,
+        FORMATS.iter().find(|format| format.name() == name).copied()
+    }
+
+    fn name(self) -> &'static str {
+        match self {
+            Format::Json => "json",
+            Format::Csv => "csv",
+        }
+    }
+
+    /// Whether it can hold lists.
+    pub fn holds_lists(self) -> bool {
+        match self {
+            Format::Json => true,
+            Format::Csv => false,
         }
     }
 
@@ -61,7 +75,7 @@ impl Format {
             Ok(file) => self.read_again(alloc, column, file.as_slice()),
             Err(refusal) => match &refusal {
                 WriteError::Unwritable { .. } => Again::Refused,
-                _ => Again::Other,
+                WriteError::OutOfMemory | WriteError::Write(_) => Again::Other,
             },
         }
     }

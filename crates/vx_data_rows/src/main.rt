@@ -14,30 +14,16 @@ mod types;
 mod unread;
 mod values;
 
-use anyhow::{Context, Result};
+use anyhow::Result;
 use line::Calls;
+use std::env;
 use std::process::ExitCode;
-use std::{env, fs};
-use vx_test_support::{Aim, Table, Tally};
+use vx_test_support::judge_files;
 
 fn main(rt: HostRuntime) -> Result<ExitCode> {
-    let mut failed: usize = 0;
+    let mut names = Vec::new(rt.alloc());
     for name in env::args(&rt)?.skip(1) {
-        let name = name.as_str();
-        let text = fs::read_to_string(&rt, name).context(format_args!("reading {name}"))?;
-        let table = Table {
-            name,
-            text: text.as_str(),
-            aim: Aim::of(name),
-        };
-        let mut tally = Tally::default();
-        table.judge(rt.alloc(), &mut Calls, &mut tally, &mut rt.stdout())?;
-        println!(rt; "{name}: {tally}")?;
-        failed = failed.saturating_add(tally.failed);
+        names.push(name)?;
     }
-    Ok(if failed == 0 {
-        ExitCode::SUCCESS
-    } else {
-        ExitCode::FAILURE
-    })
+    judge_files(&rt, names.as_slice(), &mut Calls)
 }

@@ -62,16 +62,16 @@ fn other_type(
     numbers: &mut Numbers,
 ) -> Result<String, AllocError> {
     let mark = numbers.pick(&["", "?"]);
-    match (numbers.below(6), format) {
+    match (numbers.below(6), format.holds_lists()) {
         (0, _) => {
             let fields = struct_type(alloc, below, numbers)?;
             format!(in alloc; "{fields}{mark}")
         }
-        (1, Format::Json) => {
+        (1, true) => {
             let element = one_of(below, numbers);
             format!(in alloc; "list({element}){mark}")
         }
-        (2, Format::Json) => {
+        (2, true) => {
             let element = one_of(below, numbers);
             format!(in alloc; "fixed_size_list({element})[2]{mark}")
         }

@@ -42,7 +42,10 @@ pub fn value(
             items(room - 1, alloc, element.as_ref(), u64::from(*size), numbers)
         }
         DType::Struct(fields, _) => values(room - 1, alloc, fields, numbers),
-        _ => flat_value(alloc, dtype, numbers),
+        DType::Bool(_) => Ok(Value::Bool(numbers.below(2) == 0)),
+        DType::Primitive(ptype, _) => Ok(Value::Int(number(*ptype, numbers))),
+        DType::Utf8(_) => Ok(Value::Utf8(String::from_str(alloc, numbers.pick(&TEXTS))?)),
+        DType::Binary(_) => Ok(Value::Binary(numbers.pick(&TEXTS).as_bytes().to_vec(alloc)?)),
     }
 }
 
@@ -73,15 +76,6 @@ fn values(
         values.push(value(room, alloc, dtype, numbers)?)?;
     }
     Ok(Value::Struct(values))
-}
-
-fn flat_value(alloc: Global, dtype: &DType, numbers: &mut Numbers) -> Result<Value, AllocError> {
-    match dtype {
-        DType::Bool(_) => Ok(Value::Bool(numbers.below(2) == 0)),
-        DType::Primitive(ptype, _) => Ok(Value::Int(number(*ptype, numbers))),
-        DType::Utf8(_) => Ok(Value::Utf8(String::from_str(alloc, numbers.pick(&TEXTS))?)),
-        _ => Ok(Value::Binary(numbers.pick(&TEXTS).as_bytes().to_vec(alloc)?)),
-    }
 }
 
 // The least or the greatest number of the type, or a small one.

@@ -6,7 +6,7 @@ ghost use Rattle.vx_dtype.specs.Views.{admits_null, type_of, fields_of, fields_v
 
 use crate::{FieldNames, VortexResult};
 use std::alloc::{AllocError, Global};
-use std::rc::Rc;
+use std::sync::Arc;
 
 /// Whether null is a value of a type.
 #[derive(Clone, Copy, Debug, PartialEq, Eq, Hash)]
@@ -51,9 +51,9 @@ pub enum DType {
     /// Bytes.
     Binary(Nullability),
     /// Lists of any length, whose items are of the element type.
-    List(Rc<DType>, Nullability),
+    List(Arc<DType>, Nullability),
     /// Lists of exactly that length, whose items are of the element type.
-    FixedSizeList(Rc<DType>, u32, Nullability),
+    FixedSizeList(Arc<DType>, u32, Nullability),
     /// Structs, with a value for each field.
     Struct(StructFields, Nullability),
 }
@@ -63,7 +63,7 @@ pub enum DType {
 #[derive(Debug, Drop)]
 pub struct StructFields {
     pub(crate) names: FieldNames,
-    pub(crate) types: Rc<Vec<DType>>,
+    pub(crate) types: Arc<Vec<DType>>,
 }
 
 impl Nullability {
@@ -177,6 +177,6 @@ pub(crate) fn struct_of(
 {
     Ok(StructFields {
         names,
-        types: Rc::new(alloc, types)?,
+        types: Arc::new(alloc, types)?,
     })
 }

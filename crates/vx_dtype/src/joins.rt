@@ -8,7 +8,7 @@ use crate::dtype::struct_of;
 use crate::fields::field_count;
 use crate::{DType, FieldName, Nullability, VortexResult};
 use std::alloc::{AllocError, Global};
-use std::rc::Rc;
+use std::sync::Arc;
 
 impl DType {
     /// Whether the types differ in nullability alone, at every level.
@@ -125,14 +125,14 @@ fn join(alloc: Global, a: &DType, b: &DType) -> Result<DType, AllocError>
         DType::List(t, _) => match b {
             DType::List(u, _) => {
                 let element = join(alloc, t.as_ref(), u.as_ref())?;
-                Ok(DType::List(Rc::new(alloc, element)?, n))
+                Ok(DType::List(Arc::new(alloc, element)?, n))
             }
             _ => Ok(DType::List(t.clone()?, n)),
         },
         DType::FixedSizeList(t, size, _) => match b {
             DType::FixedSizeList(u, _, _) => {
                 let element = join(alloc, t.as_ref(), u.as_ref())?;
-                Ok(DType::FixedSizeList(Rc::new(alloc, element)?, *size, n))
+                Ok(DType::FixedSizeList(Arc::new(alloc, element)?, *size, n))
             }
             _ => Ok(DType::FixedSizeList(t.clone()?, *size, n)),
         },

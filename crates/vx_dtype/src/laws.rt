@@ -1,4 +1,4 @@
-// What `==` says of names and types, and what unions are.
+// What `==` says of names and types, what unions are, and that threads may share types.
 ghost use Rattle.std.specs.Prelude.{◌≡◌, ◌↔◌, Some, IsTrue, IsSome};
 ghost use Rattle.vx_dtype.specs.Types.{LogicalType};
 ghost use Rattle.vx_dtype.specs.Joins.{union, Narrower};
@@ -42,3 +42,14 @@ pub fn union_is_the_narrowest_above_both()
     ensures narrowest { (t u w v : LogicalType) → union t u ≡ Some w → Narrower t v → Narrower u v → Narrower w v }
     ensures there { (t u v : LogicalType) → Narrower t v → Narrower u v → IsSome (union t u) }
 {}
+
+/// Types and names may be sent to other threads and shared with them: this compiles.
+pub fn types_are_send_and_sync(dtype: &DType, names: &FieldNames) {
+    assert_send_sync(dtype);
+    assert_send_sync(names);
+}
+
+/// Compiles for a value that may be sent to other threads and shared with them, and for no other.
+pub fn assert_send_sync<T: Send + Sync>(value: &T) {
+    let _value = value;
+}

@@ -17,22 +17,22 @@ use std::alloc::{AllocError, Global};
 use std::fmt;
 use std::hash::{Hash, Hasher};
 use std::marker::Model;
-use std::rc::{Rc, RcStr};
 use std::slice::Iter;
+use std::sync::{Arc, ArcStr};
 
 /// A name of a field; clones share its text.
 #[derive(Drop)]
 pub struct FieldName {
-    text: RcStr,
+    text: ArcStr,
 }
 
 impl Model for FieldName {
     ghost use Rattle.std.specs.Prelude.{List, ℕ};
-    ghost use Rattle.std.specs.Rc.{rc_str_bytes};
+    ghost use Rattle.std.specs.Arc.{arc_str_bytes};
 
     ghost Value = { List ℕ };
 
-    ghost view = { λ a. rc_str_bytes a.text };
+    ghost view = { λ a. arc_str_bytes a.text };
 }
 
 impl FieldName {
@@ -41,7 +41,7 @@ impl FieldName {
         ensures { ReturnsOrOom (λ name. name) result (Ok text.now) }
     {
         Ok(FieldName {
-            text: RcStr::from_str(alloc, text)?,
+            text: ArcStr::from_str(alloc, text)?,
         })
     }
 
@@ -106,7 +106,7 @@ impl fmt::Debug for FieldName {
 /// A list of names, repeats allowed; clones share it. In a long list a name is looked up by its hash.
 #[derive(Drop)]
 pub struct FieldNames {
-    list: Rc<NameList>,
+    list: Arc<NameList>,
 }
 
 impl Model for FieldNames {
@@ -123,7 +123,7 @@ impl FieldNames {
         ensures { ReturnsOrOom (λ all. all) result (Ok names.items) }
     {
         Ok(FieldNames {
-            list: Rc::new(alloc, NameList::new(alloc, names)?)?,
+            list: Arc::new(alloc, NameList::new(alloc, names)?)?,
         })
     }
 

@@ -21,7 +21,16 @@ impl Display for PType {
     ghost output = { λ p. Some (ptype_text p) };
 
     fn fmt<W: Write>(&self, f: &mut Formatter<W>) -> fmt::Result {
-        f.write_str(match self {
+        f.write_str(self.as_str())
+    }
+}
+
+impl PType {
+    /// The text of the type, as `i64`.
+    pub fn as_str(self) -> &'static str
+        ensures { result.now ≡ ptype_text self }
+    {
+        match self {
             PType::U8 => "u8",
             PType::U16 => "u16",
             PType::U32 => "u32",
@@ -30,7 +39,7 @@ impl Display for PType {
             PType::I16 => "i16",
             PType::I32 => "i32",
             PType::I64 => "i64",
-        })
+        }
     }
 }
 

@@ -1,7 +1,7 @@
 -- Items of structs that are packed and taken apart again.
 use Rattle.std.proofs.Common.{◌≡◌, ℕ, ◌<◌, List, [], ◌∷◌, map, length, get_or, refl, sym, ap, ◌∙◌, arith, zero, suc, Option, Some, None, Ok, Err, IsOk, Bool, true, false, Vec, Global}
 use Rattle.std.specs.Prelude.{⊤, MatchOption, if◌then◌else◌, ◌==◌, position}
-use Rattle.std.specs.declared.rc.Rc.{Rc}
+use Rattle.std.specs.declared.sync.Arc.{Arc}
 use Rattle.std.specs.Str.{bytes_eq}
 use Rattle.std.proofs.lemmas.List.Quantifiers.{position-Some}
 use Rattle.std.proofs.lemmas.Bool.Decides.{nat_tests}
@@ -94,7 +94,7 @@ place_of_first f a children x r is typed first at = rw is (go children (rw is at
 -- ---- from what the calls give
 
 -- a node that takes an item out gives the item's column
-pub item_given : (e : BoundExpression) (t : DType) (f : ScalarFnRef) (all : Rc (Vec BoundExpression Global) Global) (children : List BoundExpression) (x : BoundExpression) (k : ℕ) (batch : List Datum) →
+pub item_given : (e : BoundExpression) (t : DType) (f : ScalarFnRef) (all : Arc (Vec BoundExpression Global) Global) (children : List BoundExpression) (x : BoundExpression) (k : ℕ) (batch : List Datum) →
     e ≡ Scalar t f all → children ≡ all.value.items → x ≡ get_or children 0 x → TakesOut (function_of f) (bounds_of children) k → item_answer (bound_of x) k batch ≡ tree_answer (bound_of e) batch
 item_given e t f all children x k batch is those first takes = rw (is, bound_of-Scalar t f all, ← those) (go children first takes)
   where
@@ -102,11 +102,11 @@ item_given e t f all children x k batch is those first takes = rw (is, bound_of-
     go [] e takes = absurd takes
     go (y ∷ ys) e takes = ap (λ z. item_answer (bound_of z) k batch) e ∙ sym (takes.1 (type_of t) batch)
 
-pub place_within : (e : BoundExpression) (t : DType) (f : ScalarFnRef) (all : Rc (Vec BoundExpression Global) Global) (children : List BoundExpression) (k : ℕ) →
+pub place_within : (e : BoundExpression) (t : DType) (f : ScalarFnRef) (all : Arc (Vec BoundExpression Global) Global) (children : List BoundExpression) (k : ℕ) →
     e ≡ Scalar t f all → children ≡ all.value.items → PacksAt (bound_of e) k → k < length (node_types (bounds_of children))
 place_within e t f all children k is those packs = rw those ((rw (is, bound_of-Scalar t f all) at packs).1)
 
 -- the item of a pack whose children's columns are there
-pub picked_is : (e : BoundExpression) (t : DType) (f : ScalarFnRef) (all : Rc (Vec BoundExpression Global) Global) (children : List BoundExpression) (batch : List Datum) (cs : List (List Datum)) (k : ℕ) →
+pub picked_is : (e : BoundExpression) (t : DType) (f : ScalarFnRef) (all : Arc (Vec BoundExpression Global) Global) (children : List BoundExpression) (batch : List Datum) (cs : List (List Datum)) (k : ℕ) →
     e ≡ Scalar t f all → children ≡ all.value.items → each_answer (bounds_of children) batch ≡ Ok cs → Ok (get_or cs k []) ≡ item_answer (bound_of e) k batch
 picked_is e t f all children batch cs k is those given = rw (is, bound_of-Scalar t f all, ← those, given) refl

@@ -14,7 +14,7 @@ use crate::across::looks_across;
 use crate::rows::Rows;
 use crate::trees::evaluate;
 use std::alloc::Global;
-use std::rc::Rc;
+use std::sync::Arc;
 use vx_fn::ScalarFnRef;
 use vx_tree::BoundExpression;
 use vx_types::{Column, Value, VortexError, VortexResult};
@@ -32,7 +32,7 @@ pub fn evaluate_over(
     alloc: Global,
     batch: &Column,
     b: &BoundExpression,
-) -> VortexResult<Rc<Vec<Value>>>
+) -> VortexResult<Arc<Vec<Value>>>
     requires typed { WellTyped (bound_of b.now) }
     requires over { Over (bound_of b.now) batch.now.type }
     ensures answer { ReturnsOrOom (λ values. values_of values.value.items) result (tree_answer (bound_of b.now) batch.now.rows) }
@@ -43,7 +43,7 @@ pub fn evaluate_over(
         BoundExpression::Root { .. } => Rows::of(batch).into_shared(alloc),
         BoundExpression::Scalar { .. } => {
             let values = values_over(alloc, b, rows)?;
-            Ok(Rc::new(alloc, values)?)
+            Ok(Arc::new(alloc, values)?)
         }
     }
 }

@@ -137,7 +137,7 @@ fn holds(operator: Operator, a: i128, b: i128) -> bool
         Operator::Gte => a >= b,
         Operator::Lt => a < b,
         Operator::Lte => a <= b,
-        _ => unreachable!(),
+        Operator::And | Operator::Or | Operator::Add => unreachable!(),
     }
 }
 
@@ -153,7 +153,7 @@ fn agrees(operator: Operator, order: Ordering) -> bool
         Operator::Gte => order.is_ge(),
         Operator::Lt => order.is_lt(),
         Operator::Lte => order.is_le(),
-        _ => unreachable!(),
+        Operator::And | Operator::Or | Operator::Add => unreachable!(),
     }
 }
 

@@ -106,7 +106,12 @@ fn binary<'a>(
             let (lhs, rhs) = pair(columns.as_slice());
             arithmetic::add(alloc, count, dtype, lhs, rhs)
         }
-        _ => {
+        Operator::Eq
+        | Operator::NotEq
+        | Operator::Gt
+        | Operator::Gte
+        | Operator::Lt
+        | Operator::Lte => {
             let (lhs, rhs) = pair(columns.as_slice());
             comparison::compare(alloc, count, operator, lhs, rhs)
         }

@@ -33,7 +33,7 @@ impl NumberTest {
             Operator::Gte => (false, true, true),
             Operator::Lt => (true, false, false),
             Operator::Lte => (true, true, false),
-            _ => unreachable!(),
+            Operator::And | Operator::Or | Operator::Add => unreachable!(),
         };
         match value {
             Value::Int(number) => Some(NumberTest {

@@ -14,7 +14,7 @@ use crate::fields::item_row;
 use crate::filling::made_behind;
 use crate::truths::{mask_of, truth_at, truth_of, truth_value};
 use std::alloc::{AllocError, Global};
-use std::rc::Rc;
+use std::sync::Arc;
 use vx_eval_masks::{
     Merging, RowMask, push_moved, push_repeated, push_with, write_moved, write_repeated, write_with,
 };
@@ -27,7 +27,7 @@ pub enum Rows<'a> {
     /// Values that are lent.
     Lent(&'a [Value]),
     /// The values of a whole column that is lent, which others may share.
-    Shared(&'a Rc<Vec<Value>>),
+    Shared(&'a Arc<Vec<Value>>),
     /// The items at one place of structs that are lent.
     Item(&'a [Value], usize, Constants),
     /// Values that nobody shares.
@@ -184,7 +184,7 @@ impl<'a> Rows<'a> {
 
     /// The values as a `Vec` that others may share, with no copy where they are in one. Refuses
     /// with `OutOfMemory` (1) alone.
-    pub fn into_shared(self, alloc: Global) -> VortexResult<Rc<Vec<Value>>>
+    pub fn into_shared(self, alloc: Global) -> VortexResult<Arc<Vec<Value>>>
         ensures { ReturnsOrOom (λ values. values_of values.value.items) result (Ok (rows_view self.entry)) }
     {
         // Columns are let go of by `drop`: in place that takes the proof far longer.
@@ -195,7 +195,7 @@ impl<'a> Rows<'a> {
             }
             rows => {
                 let values = rows.into_values(alloc)?;
-                Ok(Rc::new(alloc, values)?)
+                Ok(Arc::new(alloc, values)?)
             }
         }
     }

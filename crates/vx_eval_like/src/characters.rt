@@ -3,8 +3,8 @@ ghost use Rattle.std.specs.Prelude.{◌≡◌, ◌∷◌, [], MatchOption, if◌
 ghost use Rattle.std.specs.Char.{to_ascii_lowercase};
 ghost use Rattle.vx_eval_like.specs.Patterns.{characters};
 
-// The first character, an ASCII capital made small where the case is ignored, and what is left.
-pub(crate) fn split_first(text: &str, ignore_case: bool) -> Option<(char, &str)>
+/// The first character, an ASCII capital made small where the case is ignored, and what is left.
+pub fn split_first(text: &str, ignore_case: bool) -> Option<(char, &str)>
     ensures { MatchOption result (characters ignore_case text.now ≡ [])
         (λ p. characters ignore_case text.now ≡ p.0 ∷ characters ignore_case p.1.now) }
 {

@@ -7,5 +7,7 @@ mod parts;
 mod pattern;
 mod walk;
 
+pub use characters::split_first;
 pub use laws::accepts_what_is_like;
+pub use parts::{Part, first_part};
 pub use pattern::{Pattern, is_like};

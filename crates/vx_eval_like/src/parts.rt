@@ -8,9 +8,12 @@ use std::alloc::{AllocError, Global};
 
 /// What a place of a pattern stands for.
 #[derive(Clone, Copy)]
-pub(crate) enum Part {
+pub enum Part {
+    /// Any text, the empty one too.
     AnyText,
+    /// Any one character.
     AnyOne,
+    /// This character alone.
     Just(char),
 }
 
@@ -61,8 +64,9 @@ pub(crate) fn parts_of(
     Ok(read)
 }
 
-// The first part that the pattern spells, and the pattern after it.
-fn first_part(pattern: &str, ignore_case: bool) -> Option<(Part, &str)>
+/// The first part that the pattern spells, and the pattern after it. A backslash at the end stands
+/// for itself.
+pub fn first_part(pattern: &str, ignore_case: bool) -> Option<(Part, &str)>
     ensures part { MatchOption result (spelled_by ignore_case pattern.now ≡ [])
         (λ p. spelled_by ignore_case pattern.now ≡ part_view p.0 ∷ spelled_by ignore_case p.1.now) }
     ensures shorter { IfSome result
@@ -72,7 +76,6 @@ fn first_part(pattern: &str, ignore_case: bool) -> Option<(Part, &str)>
     if first != '\\' {
         return Some((Part::of(first), rest));
     }
-    // A backslash at the end stands for itself.
     match split_first(rest, ignore_case) {
         Some((quoted, after)) => Some((Part::Just(quoted), after)),
         None => Some((Part::Just(first), rest)),

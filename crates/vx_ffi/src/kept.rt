@@ -8,8 +8,10 @@ ghost use Rattle.vx_ffi_plan.specs.Held.{HeldEndsWith, NewEndsWith};
 
 use std::alloc::Global;
 use vx_data_buffers::Buffer;
-use vx_ffi_calls::Answer;
-use vx_ffi_plan::{PlanHandle, answer_held_paths, answer_held_scan, answer_new, free_plan};
+use vx_ffi_calls::{Answer, GivenQuery};
+use vx_ffi_plan::{
+    GivenBatch, PlanHandle, answer_held_paths, answer_held_scan, answer_new, free_plan,
+};
 
 /// Makes the plan of the expression over batches of the schema's type: [`answer_new`].
 #[unsafe(no_mangle)]
@@ -23,7 +25,8 @@ pub extern "C" fn vx_plan_new(
 ) -> u32
     ensures { NewEndsWith expression.now schema.now plan.new.plan buffer.old result buffer.new answer.new }
 {
-    answer_new(alloc, expression, schema, plan, buffer, answer).number()
+    let query = GivenQuery { expression, schema };
+    answer_new(alloc, &query, plan, buffer, answer).number()
 }
 
 /// Answers the paths that the plan reads, as JSON on one line: [`answer_held_paths`].
@@ -54,7 +57,8 @@ pub extern "C" fn vx_plan_scan(
     ensures ends { HeldEndsWith (λ kept. IsScanPage kept rows (bytes_in buffers.now)) (λ kept. ScanStops kept rows (bytes_in buffers.now)) plan.old.plan buffer.old result buffer.new answer.new }
     ensures kept { plan.new.plan ≡ plan.old.plan }
 {
-    answer_held_scan(alloc, plan, rows, buffers, buffer, answer).number()
+    let batch = GivenBatch { rows, buffers };
+    answer_held_scan(alloc, plan, &batch, buffer, answer).number()
 }
 
 /// Lets go of the plan, if there is one: [`free_plan`].

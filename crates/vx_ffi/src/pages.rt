@@ -1,12 +1,12 @@
 // Calls that need no plan.
 ghost use Rattle.std.specs.Prelude.{◌≡◌, []};
-ghost use Rattle.vx_command_pages.specs.Inputs.{IsComplaint, IsUnread};
+ghost use Rattle.vx_command_pages.specs.Inputs.{IsCommandError, IsUnread};
 ghost use Rattle.vx_command_pages.specs.Pages.{IsSourcePage, IsTypePage};
 ghost use Rattle.vx_ffi_calls.specs.Endings.{EndsWith, version_line};
 ghost use Rattle.vx_ffi_calls.specs.Stops.{IsExhausted, Stops};
 
 use std::alloc::Global;
-use vx_ffi_calls::{Answer, answer_source, answer_type, answer_version};
+use vx_ffi_calls::{Answer, GivenQuery, Page, answer_page, answer_source, answer_version};
 
 /// Answers the type of the expression over rows of the schema's type, on one line.
 #[unsafe(no_mangle)]
@@ -17,9 +17,10 @@ pub extern "C" fn vx_check(
     buffer: &mut [u8],
     answer: &mut Answer,
 ) -> u32
-    ensures { EndsWith (IsTypePage expression.now schema.now) (Stops (IsComplaint expression.now schema.now) expression.now schema.now) buffer.old result buffer.new answer.new }
+    ensures { EndsWith (IsTypePage expression.now schema.now) (Stops (IsCommandError expression.now schema.now) expression.now schema.now) buffer.old result buffer.new answer.new }
 {
-    answer_type(alloc, expression, schema, buffer, answer).number()
+    let query = GivenQuery { expression, schema };
+    answer_page(alloc, Page::Check, &query, buffer, answer).number()
 }
 
 /// Answers the source text of the expression, on one line.

@@ -1,11 +1,11 @@
 // Calls that show plans.
-ghost use Rattle.vx_command_pages.specs.Inputs.{IsComplaint};
+ghost use Rattle.vx_command_pages.specs.Inputs.{IsCommandError};
 ghost use Rattle.vx_command_pages.specs.PlanPages.{IsPlanPage};
 ghost use Rattle.vx_ffi_calls.specs.Endings.{EndsWith};
 ghost use Rattle.vx_ffi_calls.specs.Stops.{Stops};
 
 use std::alloc::Global;
-use vx_ffi_calls::{Answer, answer_explanation, answer_plan};
+use vx_ffi_calls::{Answer, GivenQuery, Page, answer_page};
 
 /// Answers what becomes of the expression over rows of the schema's type.
 #[unsafe(no_mangle)]
@@ -16,9 +16,10 @@ pub extern "C" fn vx_explain(
     buffer: &mut [u8],
     answer: &mut Answer,
 ) -> u32
-    ensures { EndsWith (λ _. Unit {0}) (Stops (IsComplaint expression.now schema.now) expression.now schema.now) buffer.old result buffer.new answer.new }
+    ensures { EndsWith (λ _. Unit {0}) (Stops (IsCommandError expression.now schema.now) expression.now schema.now) buffer.old result buffer.new answer.new }
 {
-    answer_explanation(alloc, expression, schema, buffer, answer).number()
+    let query = GivenQuery { expression, schema };
+    answer_page(alloc, Page::Explain, &query, buffer, answer).number()
 }
 
 /// Answers the plan of the expression over rows of the schema's type, as JSON on one line.
@@ -30,7 +31,8 @@ pub extern "C" fn vx_plan_json(
     buffer: &mut [u8],
     answer: &mut Answer,
 ) -> u32
-    ensures { EndsWith (IsPlanPage expression.now schema.now) (Stops (IsComplaint expression.now schema.now) expression.now schema.now) buffer.old result buffer.new answer.new }
+    ensures { EndsWith (IsPlanPage expression.now schema.now) (Stops (IsCommandError expression.now schema.now) expression.now schema.now) buffer.old result buffer.new answer.new }
 {
-    answer_plan(alloc, expression, schema, buffer, answer).number()
+    let query = GivenQuery { expression, schema };
+    answer_page(alloc, Page::Plan, &query, buffer, answer).number()
 }

@@ -1,11 +1,11 @@
 // Calls that go over records, or over statistics of chunks of them.
 ghost use Rattle.vx_ffi_calls.specs.Endings.{EndsWith};
 ghost use Rattle.vx_ffi_calls.specs.RowPages.{IsRowsPage};
-ghost use Rattle.vx_ffi_calls.specs.RowStops.{IsRowsComplaint, IsVerdictComplaint, RowsStops};
+ghost use Rattle.vx_ffi_calls.specs.RowStops.{IsRowsError, IsVerdictError, RowsStops};
 ghost use Rattle.vx_ffi_calls.specs.VerdictPages.{IsVerdictPage};
 
 use std::alloc::Global;
-use vx_ffi_calls::{Answer, answer_rows, answer_verdicts};
+use vx_ffi_calls::{Answer, GivenQuery, answer_rows, answer_verdicts};
 
 /// Answers what the expression means at each record, as a line of JSON each: [`answer_rows`].
 #[unsafe(no_mangle)]
@@ -17,9 +17,10 @@ pub extern "C" fn vx_eval_json(
     buffer: &mut [u8],
     answer: &mut Answer,
 ) -> u32
-    ensures { EndsWith (IsRowsPage expression.now schema.now) (RowsStops (IsRowsComplaint expression.now schema.now) expression.now schema.now) buffer.old result buffer.new answer.new }
+    ensures { EndsWith (IsRowsPage expression.now schema.now) (RowsStops (IsRowsError expression.now schema.now) expression.now schema.now) buffer.old result buffer.new answer.new }
 {
-    answer_rows(alloc, expression, schema, records, buffer, answer).number()
+    let query = GivenQuery { expression, schema };
+    answer_rows(alloc, &query, records, buffer, answer).number()
 }
 
 /// Answers for each chunk what its statistics tell of the expression, as a line of JSON each:
@@ -33,7 +34,8 @@ pub extern "C" fn vx_prune(
     buffer: &mut [u8],
     answer: &mut Answer,
 ) -> u32
-    ensures { EndsWith (IsVerdictPage expression.now schema.now) (RowsStops (IsVerdictComplaint expression.now schema.now) expression.now schema.now) buffer.old result buffer.new answer.new }
+    ensures { EndsWith (IsVerdictPage expression.now schema.now) (RowsStops (IsVerdictError expression.now schema.now) expression.now schema.now) buffer.old result buffer.new answer.new }
 {
-    answer_verdicts(alloc, expression, schema, statistics, buffer, answer).number()
+    let query = GivenQuery { expression, schema };
+    answer_verdicts(alloc, &query, statistics, buffer, answer).number()
 }

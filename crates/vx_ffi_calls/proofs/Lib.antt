@@ -1,2 +1,1 @@
-pub mod Unsaid
 mod Lines

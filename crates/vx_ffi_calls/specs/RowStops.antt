@@ -4,16 +4,16 @@ use Rattle.vx_command_pages.specs.declared.report.Span.{Span}
 use Rattle.vx_value.specs.Types.{LogicalType}
 use Rattle.vx_value.specs.Views.{type_of}
 use Rattle.vx_tree.specs.Trees.{Tree, BoundTree, typed}
-use Rattle.vx_data.specs.declared.error.DataError.TheVariants.{OutOfMemory as NoRoomToRead}
-use Rattle.vx_data.specs.declared.error.WriteError.TheVariants.{OutOfMemory as NoRoomToWrite}
+use Rattle.vx_data.specs.declared.error.DataError.TheVariants.{OutOfMemory as NoRoomToRead, Read as Unreadable, Unexpected}
+use Rattle.vx_data.specs.declared.error.WriteError.TheVariants.{OutOfMemory as NoRoomToWrite, Write as WriterFailed, Unwritable}
 use Rattle.vx_records.specs.declared.error.RecordsError.{RecordsError}
 use Rattle.vx_records.specs.declared.error.RecordsError.TheVariants.{OutOfMemory as NoRoom, Data, Fault, Write}
 use Rattle.vx_records.specs.Outcomes.{IsFaultOn}
 use Rattle.vx_records.specs.Records.{Record}
-use Rattle.vx_command_pages.specs.declared.complaint.CommandError.TheVariants.{OutOfMemory as Exhausted}
-use Rattle.vx_command_pages.specs.Inputs.{Reads, ReadsType, IsComplaint}
-use Rattle.vx_commands.specs.declared.complaint.RowsComplaint.{RowsComplaint}
-use Rattle.vx_commands.specs.declared.complaint.RowsComplaint.TheVariants.{Query, NotBool, Records as OfRecords}
+use Rattle.vx_command_pages.specs.declared.error.CommandError.TheVariants.{OutOfMemory as Exhausted}
+use Rattle.vx_command_pages.specs.Inputs.{Reads, ReadsType, IsCommandError}
+use Rattle.vx_commands.specs.declared.error.RowsError.{RowsError}
+use Rattle.vx_commands.specs.declared.error.RowsError.TheVariants.{Query, NotBool, Records as OfRecords}
 use Rattle.vx_commands.specs.Rows.{IsBoundTo}
 use Rattle.vx_ffi_calls.specs.declared.answer.Place.{Place}
 use Rattle.vx_ffi_calls.specs.declared.answer.Status.{Status}
@@ -28,15 +28,20 @@ error_status NoRoom = OutOfMemory
 error_status (Data NoRoomToRead) = OutOfMemory
 error_status (Write NoRoomToWrite) = OutOfMemory
 error_status (Fault f) = Faulted
-error_status _ = BadData
+error_status (Data (Unreadable e)) = BadData
+error_status (Data (Unexpected line at expected)) = BadData
+error_status (Write (WriterFailed e)) = BadData
+error_status (Write (Unwritable row at expected)) = BadData
 
 -- the place of a fault is that of the node in the expression, that of any other error is in the records
 abbrev pub IsErrorPlace : RecordsError → Span → List ℕ → Place → Type 0
 IsErrorPlace (Fault f) span expression place = IsPlaceIn Expression expression span.start span.end place
-IsErrorPlace _ span expression place = place.text ≡ text_number Records
+IsErrorPlace NoRoom span expression place = place.text ≡ text_number Records
+IsErrorPlace (Data e) span expression place = place.text ≡ text_number Records
+IsErrorPlace (Write e) span expression place = place.text ≡ text_number Records
 
--- the stop tells where the complaint of those texts is
-abbrev pub TellsRows : RowsComplaint → List ℕ → List ℕ → CallError → Type 0
+-- the stop tells where the error in those texts is
+abbrev pub TellsRows : RowsError → List ℕ → List ℕ → CallError → Type 0
 TellsRows (Query c) expression schema stop = Tells c expression schema stop
 TellsRows (NotBool t) expression schema stop = (stop.status ≡ Refused) × IsPlaceIn Expression expression 0 (length expression) stop.place
 TellsRows (OfRecords error span) expression schema stop = (stop.status ≡ error_status error) × IsErrorPlace error span expression stop.place
@@ -48,29 +53,31 @@ ReadAs expression schema P = (e : Tree) × (s : LogicalType) × Reads expression
 -- the expression, bound to the schema's type, faults so on some records
 abbrev pub FaultsOn : List ℕ → List ℕ → RecordsError → Type 0
 FaultsOn expression schema (Fault f) = ReadAs expression schema (λ e s. (b : BoundTree) × (rs : List Record) × IsBoundTo e s b × IsFaultOn b rs f)
-FaultsOn expression schema _ = Unit {0}
+FaultsOn expression schema NoRoom = Unit {0}
+FaultsOn expression schema (Data e) = Unit {0}
+FaultsOn expression schema (Write e) = Unit {0}
 
--- the complaint is one of the texts, or the first fault on some records, or tells what else stopped going over them
-abbrev pub IsRowsComplaint : List ℕ → List ℕ → RowsComplaint → Type 0
-IsRowsComplaint expression schema (Query c) = IsComplaint expression schema c
-IsRowsComplaint expression schema (NotBool t) = ⊥
-IsRowsComplaint expression schema (OfRecords error span) = FaultsOn expression schema error
+-- the error is one of the texts, or the first fault on some records, or tells what else stopped going over them
+abbrev pub IsRowsError : List ℕ → List ℕ → RowsError → Type 0
+IsRowsError expression schema (Query c) = IsCommandError expression schema c
+IsRowsError expression schema (NotBool t) = ⊥
+IsRowsError expression schema (OfRecords error span) = FaultsOn expression schema error
 
 -- the same where truth values are asked for, and the expression isn't evaluated
-abbrev pub IsVerdictComplaint : List ℕ → List ℕ → RowsComplaint → Type 0
-IsVerdictComplaint expression schema (Query c) = IsComplaint expression schema c
-IsVerdictComplaint expression schema (NotBool t) = ReadAs expression schema (λ e s. typed e s ≡ Ok (type_of t))
-IsVerdictComplaint expression schema (OfRecords error span) = Unit {0}
+abbrev pub IsVerdictError : List ℕ → List ℕ → RowsError → Type 0
+IsVerdictError expression schema (Query c) = IsCommandError expression schema c
+IsVerdictError expression schema (NotBool t) = ReadAs expression schema (λ e s. typed e s ≡ Ok (type_of t))
+IsVerdictError expression schema (OfRecords error span) = Unit {0}
 
--- the complaint is none of the expression, or of want of memory
-abbrev pub IsStatisticsComplaint : RowsComplaint → Type 0
-IsStatisticsComplaint (Query c) = c ≡ Exhausted
-IsStatisticsComplaint (NotBool t) = ⊥
-IsStatisticsComplaint (OfRecords error span) = Unit {0}
+-- the error is none of the expression, or of want of memory
+abbrev pub IsStatisticsError : RowsError → Type 0
+IsStatisticsError (Query c) = c ≡ Exhausted
+IsStatisticsError (NotBool t) = ⊥
+IsStatisticsError (OfRecords error span) = Unit {0}
 
--- a text is no UTF-8, or there is such a complaint of the texts, or memory ran out
-abbrev pub RowsStops : (RowsComplaint → Type 0) → List ℕ → List ℕ → CallError → Type 0
-RowsStops IsComplaint expression schema stop = IsExhausted stop
+-- a text is no UTF-8, or there is such an error in the texts, or memory ran out
+abbrev pub RowsStops : (RowsError → Type 0) → List ℕ → List ℕ → CallError → Type 0
+RowsStops IsError expression schema stop = IsExhausted stop
     ⊎ IsNoText Expression expression stop
     ⊎ IsNoText Schema schema stop
-    ⊎ ((complaint : RowsComplaint) × IsComplaint complaint × TellsRows complaint expression schema stop)
+    ⊎ ((error : RowsError) × IsError error × TellsRows error expression schema stop)

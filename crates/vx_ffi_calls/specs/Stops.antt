@@ -3,8 +3,8 @@ use Rattle.std.specs.Prelude.{◌≡◌, ◌⊎◌, ◌+◌, ℕ, List, [], take
 use Rattle.std.specs.List.{count_by}
 use Rattle.std.specs.Str.{IsValidUpTo}
 use Rattle.vx_command_pages.specs.Positions.{is_newline}
-use Rattle.vx_command_pages.specs.declared.complaint.CommandError.{CommandError}
-use Rattle.vx_command_pages.specs.declared.complaint.CommandError.TheVariants.{OutOfMemory as Exhausted, UnreadExpression, UnreadSchema, Refused as RefusedAt}
+use Rattle.vx_command_pages.specs.declared.error.CommandError.{CommandError}
+use Rattle.vx_command_pages.specs.declared.error.CommandError.TheVariants.{OutOfMemory as Exhausted, UnreadExpression, UnreadSchema, Refused as RefusedAt}
 use Rattle.vx_ffi_calls.specs.declared.answer.Place.{Place}
 use Rattle.vx_ffi_calls.specs.declared.answer.Status.TheVariants.{OutOfMemory, Unread, Refused}
 use Rattle.vx_ffi_calls.specs.declared.stop.CallError.{CallError}
@@ -30,16 +30,16 @@ IsExhausted stop = (stop.status ≡ OutOfMemory) × (string_bytes stop.message �
 abbrev pub IsNoText : Given → List ℕ → CallError → Type 0
 IsNoText given text stop = (stop.status ≡ Unread) × IsValidUpTo text stop.place.start × IsPlaceIn given text stop.place.start stop.place.end stop.place
 
--- the stop tells where the complaint of those texts is
+-- the stop tells where the error in those texts is
 abbrev pub Tells : CommandError → List ℕ → List ℕ → CallError → Type 0
 Tells Exhausted expression schema stop = IsExhausted stop
 Tells (UnreadExpression at expected) expression schema stop = (stop.status ≡ Unread) × IsPlaceIn Expression expression at at stop.place
 Tells (UnreadSchema at expected) expression schema stop = (stop.status ≡ Unread) × IsPlaceIn Schema schema at at stop.place
 Tells (RefusedAt span refusal) expression schema stop = (stop.status ≡ Refused) × IsPlaceIn Expression expression span.start span.end stop.place
 
--- a text is no UTF-8, the texts are complained of in such a way, or memory ran out
+-- a text is no UTF-8, there is such an error in the texts, or memory ran out
 abbrev pub Stops : (CommandError → Type 0) → List ℕ → List ℕ → CallError → Type 0
-Stops IsComplaint expression schema stop = IsExhausted stop
+Stops IsError expression schema stop = IsExhausted stop
     ⊎ IsNoText Expression expression stop
     ⊎ IsNoText Schema schema stop
-    ⊎ ((complaint : CommandError) × IsComplaint complaint × Tells complaint expression schema stop)
+    ⊎ ((error : CommandError) × IsError error × Tells error expression schema stop)

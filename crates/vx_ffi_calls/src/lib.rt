@@ -4,25 +4,21 @@
 mod answer;
 mod columns;
 mod ending;
-mod explanation;
-mod plan;
+mod pages;
 mod rows;
 mod rows_stop;
 mod source;
 mod stop;
 mod text;
-mod types;
 mod verdicts;
 mod version;
 
 pub use answer::{Answer, Place, Status};
 pub use ending::ended;
-pub use explanation::answer_explanation;
-pub use plan::answer_plan;
+pub use pages::{Page, answer_page};
 pub use rows::answer_rows;
 pub use source::answer_source;
 pub use stop::{CallError, place_of, stop_of};
-pub use text::{Given, read_text};
-pub use types::answer_type;
+pub use text::{Given, GivenQuery, read_text};
 pub use verdicts::answer_verdicts;
 pub use version::answer_version;

@@ -9,7 +9,7 @@ use crate::stop::{CallError, place_of, stop_of};
 use crate::text::Given;
 use std::alloc::Global;
 use vx_command_pages::{Input, Span};
-use vx_commands::{RowsComplaint, RowsMessage};
+use vx_commands::{RowsError, RowsMessage};
 use vx_data::{DataError, Expected, WriteError};
 use vx_records::RecordsError;
 
@@ -21,24 +21,22 @@ pub struct Texts<'a> {
     pub records: &'a [u8],
 }
 
-/// What stops a call that complains so of these texts.
-pub fn rows_stop(alloc: Global, complaint: &RowsComplaint, texts: &Texts<'_>) -> CallError
-    ensures { IsExhausted result ⊎ TellsRows complaint.now texts.now.expression.now texts.now.schema.now result }
+/// The error of a call on these texts that stops so.
+pub fn rows_stop(alloc: Global, error: &RowsError, texts: &Texts<'_>) -> CallError
+    ensures { IsExhausted result ⊎ TellsRows error.now texts.now.expression.now texts.now.schema.now result }
 {
-    match complaint {
-        RowsComplaint::Query(complaint) => {
-            stop_of(alloc, complaint, texts.expression, texts.schema)
-        }
-        RowsComplaint::NotBool(_) => {
+    match error {
+        RowsError::Query(error) => { stop_of(alloc, error, texts.expression, texts.schema) }
+        RowsError::NotBool(_) => {
             let end = texts.expression.len();
             let place = place_of(Given::Expression, texts.expression, Span { start: 0, end });
-            told(alloc, Status::Refused, place, complaint, texts)
+            told(alloc, Status::Refused, place, error, texts)
         }
-        RowsComplaint::Records { error, span } => {
-            let place = place_at(error, *span, texts);
-            match status_of(error) {
+        RowsError::Records { error: stop, span } => {
+            let place = place_at(stop, *span, texts);
+            match status_of(stop) {
                 Status::OutOfMemory => CallError::out_of_memory(alloc),
-                status => told(alloc, status, place, complaint, texts),
+                status => told(alloc, status, place, error, texts),
             }
         }
     }
@@ -53,7 +51,10 @@ fn status_of(error: &RecordsError) -> Status
         | RecordsError::Data(DataError::OutOfMemory)
         | RecordsError::Write(WriteError::OutOfMemory) => Status::OutOfMemory,
         RecordsError::Fault(_) => Status::Faulted,
-        RecordsError::Data(_) | RecordsError::Write(_) => Status::BadData,
+        RecordsError::Data(DataError::Read(_) | DataError::Unexpected { .. })
+        | RecordsError::Write(WriteError::Write(_) | WriteError::Unwritable { .. }) => {
+            Status::BadData
+        }
     }
 }
 
@@ -70,22 +71,24 @@ fn place_at(error: &RecordsError, span: Span, texts: &Texts<'_>) -> Place
         RecordsError::Data(DataError::Unexpected { line, expected, .. }) => {
             place_on_line(texts.records, *line, byte_of(expected))
         }
-        _ => in_records(0),
+        RecordsError::OutOfMemory
+        | RecordsError::Data(DataError::OutOfMemory | DataError::Read(_))
+        | RecordsError::Write(_) => in_records(0),
     }
 }
 
-// The stop with the message of the complaint.
+// The error with its message.
 fn told<'a>(
     alloc: Global,
     status: Status,
     place: Place,
-    complaint: &'a RowsComplaint,
+    error: &'a RowsError,
     texts: &'a Texts<'a>,
 ) -> CallError
     ensures { IsExhausted result ⊎ ((result.status ≡ status) × (result.place ≡ place)) }
 {
     let message = RowsMessage {
-        complaint,
+        error,
         expression: Input {
             name: Given::Expression.name(),
             text: texts.expression,

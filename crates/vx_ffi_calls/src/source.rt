@@ -13,7 +13,7 @@ use std::alloc::Global;
 use vx_command_pages::source_page;
 
 /// Answers the source text of the expression, on one line. Stops at what can't be read, as
-/// [`source_page`] complains.
+/// [`source_page`] fails.
 pub fn answer_source(
     alloc: Global,
     expression: &[u8],
@@ -32,6 +32,6 @@ fn formatted(alloc: Global, expression: &[u8]) -> Result<Vec<u8>, CallError>
     let text = read_text(alloc, Given::Expression, expression)?;
     match source_page(alloc, text) {
         Ok(page) => Ok(page.into_bytes()),
-        Err(complaint) => Err(stop_of(alloc, &complaint, text, "")),
+        Err(error) => Err(stop_of(alloc, &error, text, "")),
     }
 }

@@ -46,11 +46,11 @@ impl CallError {
     }
 }
 
-/// What stops a call that complains so of these texts.
-pub fn stop_of(alloc: Global, complaint: &CommandError, expression: &str, schema: &str) -> CallError
-    ensures { IsExhausted result ⊎ Tells complaint.now expression.now schema.now result }
+/// The error of a call on these texts that stops so.
+pub fn stop_of(alloc: Global, error: &CommandError, expression: &str, schema: &str) -> CallError
+    ensures { IsExhausted result ⊎ Tells error.now expression.now schema.now result }
 {
-    let (status, place) = match complaint {
+    let (status, place) = match error {
         CommandError::OutOfMemory => return CallError::out_of_memory(alloc),
         CommandError::UnreadExpression { at, .. } => {
             (Status::Unread, place_at(Given::Expression, expression, *at))
@@ -66,7 +66,7 @@ pub fn stop_of(alloc: Global, complaint: &CommandError, expression: &str, schema
         }
     };
     let message = Message {
-        complaint,
+        error,
         expression: input(Given::Expression, expression),
         schema: input(Given::Schema, schema),
     };

@@ -42,6 +42,15 @@ impl Given {
     }
 }
 
+/// An expression over rows, as a call is given it.
+#[derive(Clone, Copy, Debug)]
+pub struct GivenQuery<'a> {
+    /// The expression.
+    pub expression: &'a [u8],
+    /// The schema, which says the type of the rows.
+    pub schema: &'a [u8],
+}
+
 /// The bytes as text. Stops at the first byte that is of no character of UTF-8, and with want of
 /// memory.
 pub fn read_text(alloc: Global, given: Given, bytes: &[u8]) -> Result<&str, CallError>

@@ -4,17 +4,17 @@ ghost use Rattle.vx_fn.specs.Functions.{is_truth};
 ghost use Rattle.vx_tree.specs.Trees.{WellTyped, node_type};
 ghost use Rattle.vx_tree.specs.Views.{bound_of};
 ghost use Rattle.vx_ffi_calls.specs.Endings.{EndsCall};
-ghost use Rattle.vx_ffi_calls.specs.RowStops.{IsStatisticsComplaint, IsVerdictComplaint, RowsStops};
+ghost use Rattle.vx_ffi_calls.specs.RowStops.{IsStatisticsError, IsVerdictError, RowsStops};
 ghost use Rattle.vx_ffi_calls.specs.VerdictPages.{AddsVerdictLine, AreVerdictLines, IsVerdictLine, IsVerdictPage, verdict_line, verdict_words};
 
 use crate::answer::{Answer, Status};
 use crate::ending::ended;
 use crate::rows_stop::{Texts, rows_stop};
 use crate::stop::CallError;
-use crate::text::{Given, read_text};
+use crate::text::{Given, GivenQuery, read_text};
 use std::alloc::{AllocError, Global};
-use vx_command_pages::{CommandError, Span, read_expression, read_schema};
-use vx_commands::{RowsComplaint, condition};
+use vx_command_pages::{CommandError, Span, read_query};
+use vx_commands::{RowsError, condition};
 use vx_data::DataError;
 use vx_prune::{ChunkRecords, ChunkStats, Verdict, verdict};
 use vx_records::{JsonRecords, Record, RecordReader, RecordsError};
@@ -27,41 +27,31 @@ use vx_types::{DType, VortexResult};
 /// at the first line that isn't one of statistics; then no line is answered.
 pub fn answer_verdicts(
     alloc: Global,
-    expression: &[u8],
-    schema: &[u8],
+    query: &GivenQuery<'_>,
     statistics: &[u8],
     buffer: &mut [u8],
     answer: &mut Answer,
 ) -> Status
-    ensures { EndsCall (IsVerdictPage expression.now schema.now) (RowsStops (IsVerdictComplaint expression.now schema.now) expression.now schema.now) buffer.old result buffer.new answer.new }
+    ensures { EndsCall (IsVerdictPage query.now.expression.now query.now.schema.now) (RowsStops (IsVerdictError query.now.expression.now query.now.schema.now) query.now.expression.now query.now.schema.now) buffer.old result buffer.new answer.new }
 {
-    ended(
-        &judged(alloc, expression, schema, statistics),
-        buffer,
-        answer,
-    )
+    ended(&judged(alloc, query, statistics), buffer, answer)
 }
 
-fn judged(
-    alloc: Global,
-    expression: &[u8],
-    schema: &[u8],
-    statistics: &[u8],
-) -> Result<Vec<u8>, CallError>
-    ensures prints { IfOk result (λ page. IsVerdictPage expression.now schema.now page.items) }
-    ensures stop { IfErr result (RowsStops (IsVerdictComplaint expression.now schema.now) expression.now schema.now) }
+fn judged(alloc: Global, query: &GivenQuery<'_>, statistics: &[u8]) -> Result<Vec<u8>, CallError>
+    ensures prints { IfOk result (λ page. IsVerdictPage query.now.expression.now query.now.schema.now page.items) }
+    ensures stop { IfErr result (RowsStops (IsVerdictError query.now.expression.now query.now.schema.now) query.now.expression.now query.now.schema.now) }
 {
-    let expression = read_text(alloc, Given::Expression, expression)?;
-    let schema = read_text(alloc, Given::Schema, schema)?;
+    let expression = read_text(alloc, Given::Expression, query.expression)?;
+    let schema = read_text(alloc, Given::Schema, query.schema)?;
     match verdict_page(alloc, expression, schema, statistics) {
         Ok(page) => Ok(page.into_bytes()),
-        Err(complaint) => {
+        Err(error) => {
             let texts = Texts {
                 expression,
                 schema,
                 records: statistics,
             };
-            Err(rows_stop(alloc, &complaint, &texts))
+            Err(rows_stop(alloc, &error, &texts))
         }
     }
 }
@@ -72,14 +62,13 @@ fn verdict_page(
     expression: &str,
     schema: &str,
     statistics: &[u8],
-) -> Result<String, RowsComplaint>
+) -> Result<String, RowsError>
     ensures prints { IfOk result (λ page. IsVerdictPage expression.now schema.now (string_bytes page)) }
-    ensures complaint { IfErr result (IsVerdictComplaint expression.now schema.now) }
+    ensures error { IfErr result (IsVerdictError expression.now schema.now) }
 {
-    let placed = read_expression(alloc, expression)?;
-    let scope = read_schema(alloc, schema)?;
-    let tree = condition(alloc, &placed, &scope)?;
-    let Ok(chunks) = ChunkRecords::new(alloc, &scope) else {
+    let query = read_query(alloc, expression, schema)?;
+    let tree = condition(alloc, &query.placed, &query.scope)?;
+    let Ok(chunks) = ChunkRecords::new(alloc, &query.scope) else {
         return Err(out_of_memory());
     };
     verdict_lines(alloc, &tree, &chunks, statistics)
@@ -91,11 +80,11 @@ fn verdict_lines(
     tree: &BoundExpression,
     chunks: &ChunkRecords<'_>,
     statistics: &[u8],
-) -> Result<String, RowsComplaint>
+) -> Result<String, RowsError>
     requires typed { WellTyped (bound_of tree.now) }
     requires truth { IsTrue (is_truth (node_type (bound_of tree.now))) }
     ensures lines { IfOk result (λ page. AreVerdictLines (bound_of tree.now) (string_bytes page)) }
-    ensures complaint { IfErr result IsStatisticsComplaint }
+    ensures error { IfErr result IsStatisticsError }
 {
     let mut records = opened_statistics(alloc, chunks, statistics)?;
     let mut page = String::new(alloc);
@@ -114,8 +103,8 @@ fn opened_statistics<'a>(
     alloc: Global,
     chunks: &ChunkRecords<'_>,
     statistics: &'a [u8],
-) -> Result<JsonRecords<&'a [u8]>, RowsComplaint>
-    ensures { IfErr result IsStatisticsComplaint }
+) -> Result<JsonRecords<&'a [u8]>, RowsError>
+    ensures { IfErr result IsStatisticsError }
 {
     match chunks.record_type(alloc) {
         Ok(dtype) => Ok(JsonRecords::new(alloc, dtype, statistics)),
@@ -130,11 +119,11 @@ fn push_chunk(
     chunks: &ChunkRecords<'_>,
     record: &Record,
     page: &mut String,
-) -> Result<(), RowsComplaint>
+) -> Result<(), RowsError>
     requires typed { WellTyped (bound_of tree.now) }
     requires truth { IsTrue (is_truth (node_type (bound_of tree.now))) }
     ensures line { OnOk result (AddsVerdictLine (bound_of tree.now) (string_bytes page.old) (string_bytes page.new)) }
-    ensures complaint { IfErr result IsStatisticsComplaint }
+    ensures error { IfErr result IsStatisticsError }
 {
     // (the record is of the type that statistics are asked to be of, so that memory alone is wanting)
     let Ok(line) = line_of(alloc, tree, chunks, record) else {
@@ -186,18 +175,18 @@ fn verdict_words(verdict: Verdict) -> &'static str
     }
 }
 
-// The complaint of what stopped reading the statistics.
-fn unread(error: DataError) -> RowsComplaint
-    ensures { IsStatisticsComplaint result }
+// The error of what stopped reading the statistics.
+fn unread(error: DataError) -> RowsError
+    ensures { IsStatisticsError result }
 {
-    RowsComplaint::Records {
+    RowsError::Records {
         error: RecordsError::from(error),
         span: Span { start: 0, end: 0 },
     }
 }
 
-fn out_of_memory() -> RowsComplaint
-    ensures { IsStatisticsComplaint result }
+fn out_of_memory() -> RowsError
+    ensures { IsStatisticsError result }
 {
-    RowsComplaint::Query(CommandError::OutOfMemory)
+    RowsError::Query(CommandError::OutOfMemory)
 }

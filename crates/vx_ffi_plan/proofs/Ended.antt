@@ -2,9 +2,9 @@
 use Rattle.std.proofs.Common.{◌≡◌, ◌≢◌, inl, inr, ◌<◌, ℕ, List, [], length, Option, Some, None, Ok, Err, sym, ap, ◌∙◌, arith}
 use Rattle.std.specs.Prelude.{string_bytes}
 use Rattle.std.specs.Global.{Vec}
-use Rattle.vx_command_pages.specs.Inputs.{IsComplaint}
-use Rattle.vx_command_pages.specs.declared.complaint.CommandError.{CommandError}
-use Rattle.vx_command_pages.specs.declared.complaint.CommandError.TheVariants.{OutOfMemory as Exhausted, UnreadExpression, UnreadSchema, Refused as RefusedAt}
+use Rattle.vx_command_pages.specs.Inputs.{IsCommandError}
+use Rattle.vx_command_pages.specs.declared.error.CommandError.{CommandError}
+use Rattle.vx_command_pages.specs.declared.error.CommandError.TheVariants.{OutOfMemory as Exhausted, UnreadExpression, UnreadSchema, Refused as RefusedAt}
 use Rattle.vx_ffi_calls.specs.declared.answer.Answer.{Answer}
 use Rattle.vx_ffi_calls.specs.declared.answer.Status.{Status}
 use Rattle.vx_ffi_calls.specs.declared.answer.Status.TheVariants.{Answered, TooSmall, OutOfMemory, Unread, Refused}
@@ -29,7 +29,7 @@ module _ (IsPage : KeptPlan → List ℕ → Type 0) (IsStop : KeptPlan → Call
 other : (s t : Status) → s ≡ t → 0 < number_of t → s ≢ Answered
 other s t is more answered = let same : number_of t ≡ 0 = ap number_of (sym is ∙ answered) in absurd (omega arith)
 
--- no complaint is told by a page
+-- no error is told by a page
 tells_other : (c : CommandError) (expression schema : List ℕ) (stop : CallError) → Tells c expression schema stop → stop.status ≢ Answered
 tells_other Exhausted expression schema stop is = other _ OutOfMemory is.0 (omega arith)
 tells_other (UnreadExpression at expected) expression schema stop is = other _ Unread is.0 (omega arith)
@@ -56,5 +56,5 @@ module _ (expression schema before : List ℕ) (status : Status) (after : List �
   pub made : (kept : KeptPlan) (page : Vec ℕ) → IsKept expression schema kept → page.items ≡ [] → EndsAs (Ok page) before status after answer → NewEnds expression schema (Some kept) before status after answer
   made kept page is empty ends = ((put_empty page.items before status after empty ends.0, is), (Ok page, empty, tt, ends))
 
-  pub stopped : (stop : CallError) → Stops (IsComplaint expression schema) expression schema stop → EndsAs (Err stop) before status after answer → NewEnds expression schema None before status after answer
+  pub stopped : (stop : CallError) → Stops (IsCommandError expression schema) expression schema stop → EndsAs (Err stop) before status after answer → NewEnds expression schema None before status after answer
   stopped stop is ends = (put_other (string_bytes stop.message) stop.status before status after (stops_other _ expression schema stop is) ends.0, (Err stop, tt, is, ends))

@@ -1,6 +1,6 @@
 -- What calls on a plan's handle answer, and what the handle has then.
 use Rattle.std.specs.Prelude.{◌≡◌, ◌≢◌, ◌⊎◌, ℕ, List, [], Option, Some, None}
-use Rattle.vx_command_pages.specs.Inputs.{IsComplaint}
+use Rattle.vx_command_pages.specs.Inputs.{IsCommandError}
 use Rattle.vx_ffi_calls.specs.declared.answer.Answer.{Answer}
 use Rattle.vx_ffi_calls.specs.declared.answer.Status.{Status}
 use Rattle.vx_ffi_calls.specs.declared.answer.Status.TheVariants.{Answered, NoPlan}
@@ -31,7 +31,7 @@ IsMade expression schema (Some kept) status = (status ≡ Answered) × IsKept ex
 -- how a call ends that makes a plan, of which the page is empty
 abbrev pub NewEnds : List ℕ → List ℕ → Option KeptPlan → List ℕ → Status → List ℕ → Answer → Type 0
 NewEnds expression schema plan before status after answer = IsMade expression schema plan status
-    × EndsCall (λ page. page ≡ []) (Stops (IsComplaint expression schema) expression schema) before status after answer
+    × EndsCall (λ page. page ≡ []) (Stops (IsCommandError expression schema) expression schema) before status after answer
 
 -- the same of the number that a call answers
 abbrev pub NewEndsWith : List ℕ → List ℕ → Option KeptPlan → List ℕ → ℕ → List ℕ → Answer → Type 0

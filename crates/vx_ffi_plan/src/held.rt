@@ -8,11 +8,10 @@ ghost use Rattle.vx_ffi_plan.specs.Held.{HeldEnds};
 
 use crate::handle::PlanHandle;
 use crate::paths::answer_paths;
-use crate::scan::answer_scan;
+use crate::scan::{GivenBatch, answer_scan};
 use crate::stop::planless;
 use crate::taken::taken;
 use std::alloc::Global;
-use vx_data_buffers::Buffer;
 use vx_ffi_calls::{Answer, Status, ended};
 
 /// Answers the paths that the handle's plan reads: [`answer_paths`]. Stops where it has none.
@@ -40,17 +39,16 @@ pub fn answer_held_paths(
 pub fn answer_held_scan(
     alloc: Global,
     plan: &mut PlanHandle,
-    rows: usize,
-    buffers: &[Buffer<'_>],
+    batch: &GivenBatch<'_>,
     buffer: &mut [u8],
     answer: &mut Answer,
 ) -> Status
-    ensures ends { HeldEnds (λ kept. IsScanPage kept rows (bytes_in buffers.now)) (λ kept. ScanStops kept rows (bytes_in buffers.now)) plan.old.plan buffer.old result buffer.new answer.new }
+    ensures ends { HeldEnds (λ kept. IsScanPage kept batch.now.rows (bytes_in batch.now.buffers.now)) (λ kept. ScanStops kept batch.now.rows (bytes_in batch.now.buffers.now)) plan.old.plan buffer.old result buffer.new answer.new }
     ensures kept { plan.new.plan ≡ plan.old.plan }
 {
     match taken(alloc, plan) {
         Some(kept) => {
-            let status = answer_scan(alloc, &kept, rows, buffers, buffer, answer);
+            let status = answer_scan(alloc, &kept, batch, buffer, answer);
             *plan = PlanHandle::of(kept);
             status
         }

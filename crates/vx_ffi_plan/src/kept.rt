@@ -1,12 +1,12 @@
 // A plan, with the text that it was made of.
 ghost use Rattle.std.specs.Prelude.{◌≡◌, IfErr, IfOk, string_bytes};
-ghost use Rattle.vx_command_pages.specs.Inputs.{IsComplaint};
+ghost use Rattle.vx_command_pages.specs.Inputs.{IsCommandError};
 ghost use Rattle.vx_ffi_calls.specs.Stops.{Stops};
 ghost use Rattle.vx_ffi_plan.specs.Kept.{IsKept};
 
 use std::alloc::{AllocError, Global};
-use vx_command_pages::{CommandError, plan_of, read_expression, read_schema};
-use vx_ffi_calls::{CallError, Given, read_text, stop_of};
+use vx_command_pages::{CommandError, ReadQuery, plan_of, read_query};
+use vx_ffi_calls::{CallError, Given, GivenQuery, read_text, stop_of};
 use vx_scan::ScanPlan;
 use vx_source::Placed;
 
@@ -20,29 +20,24 @@ pub struct KeptPlan {
 }
 
 /// The plan of the expression over batches of the schema's type, by the folding rules. Stops at what
-/// can't be read, and at the first refusal, as [`plan_of`] complains.
-pub fn kept_plan(
-    alloc: Global,
-    expression: &[u8],
-    schema: &[u8],
-) -> Result<Box<KeptPlan>, CallError>
-    ensures kept { IfOk result (λ kept. IsKept expression.now schema.now kept.value) }
-    ensures stop { IfErr result (Stops (IsComplaint expression.now schema.now) expression.now schema.now) }
+/// can't be read, and at the first refusal, as [`plan_of`] fails.
+pub fn kept_plan(alloc: Global, query: &GivenQuery<'_>) -> Result<Box<KeptPlan>, CallError>
+    ensures kept { IfOk result (λ kept. IsKept query.now.expression.now query.now.schema.now kept.value) }
+    ensures stop { IfErr result (Stops (IsCommandError query.now.expression.now query.now.schema.now) query.now.expression.now query.now.schema.now) }
 {
-    let text = read_text(alloc, Given::Expression, expression)?;
-    let rows = read_text(alloc, Given::Schema, schema)?;
-    match planned(alloc, text, rows) {
+    let expression = read_text(alloc, Given::Expression, query.expression)?;
+    let schema = read_text(alloc, Given::Schema, query.schema)?;
+    match planned(alloc, expression, schema) {
         Ok(kept) => Ok(kept),
-        Err(complaint) => Err(stop_of(alloc, &complaint, text, rows)),
+        Err(error) => Err(stop_of(alloc, &error, expression, schema)),
     }
 }
 
 fn planned(alloc: Global, expression: &str, schema: &str) -> Result<Box<KeptPlan>, CommandError>
     ensures kept { IfOk result (λ kept. IsKept expression.now schema.now kept.value) }
-    ensures complaint { IfErr result (IsComplaint expression.now schema.now) }
+    ensures error { IfErr result (IsCommandError expression.now schema.now) }
 {
-    let placed = read_expression(alloc, expression)?;
-    let scope = read_schema(alloc, schema)?;
+    let ReadQuery { placed, scope } = read_query(alloc, expression, schema)?;
     let plan = plan_of(alloc, &placed, &scope)?;
     Ok(kept(alloc, expression, placed, plan)?)
 }

@@ -17,4 +17,4 @@ pub use held::{answer_held_paths, answer_held_scan};
 pub use kept::{KeptPlan, kept_plan};
 pub use made::{answer_new, free_plan};
 pub use paths::answer_paths;
-pub use scan::answer_scan;
+pub use scan::{GivenBatch, answer_scan};

@@ -18,6 +18,15 @@ use vx_data_buffers::{Buffer, column_of};
 use vx_ffi_calls::{Answer, CallError, Status, ended};
 use vx_types::Column;
 
+/// A batch, as a call is given it.
+#[derive(Clone, Copy, Debug)]
+pub struct GivenBatch<'a> {
+    /// How many rows it has.
+    pub rows: usize,
+    /// The buffers of its column, as [`column_of`] reads them.
+    pub buffers: &'a [Buffer<'a>],
+}
+
 /// Answers what the plan's expression means at each row of the batch in the buffers, as a line of JSON
 /// each. Stops where the buffers have no batch of so many rows of the plan's type, as [`column_of`]
 /// refuses them; at the first fault of the expression on the batch; and where a value can't be
@@ -25,27 +34,21 @@ use vx_types::Column;
 pub fn answer_scan(
     alloc: Global,
     plan: &KeptPlan,
-    rows: usize,
-    buffers: &[Buffer<'_>],
+    batch: &GivenBatch<'_>,
     buffer: &mut [u8],
     answer: &mut Answer,
 ) -> Status
-    ensures { EndsCall (IsScanPage plan.now rows (bytes_in buffers.now)) (ScanStops plan.now rows (bytes_in buffers.now)) buffer.old result buffer.new answer.new }
+    ensures { EndsCall (IsScanPage plan.now batch.now.rows (bytes_in batch.now.buffers.now)) (ScanStops plan.now batch.now.rows (bytes_in batch.now.buffers.now)) buffer.old result buffer.new answer.new }
 {
-    ended(&scanned(alloc, plan, rows, buffers), buffer, answer)
+    ended(&scanned(alloc, plan, batch), buffer, answer)
 }
 
-fn scanned(
-    alloc: Global,
-    plan: &KeptPlan,
-    rows: usize,
-    buffers: &[Buffer<'_>],
-) -> Result<Vec<u8>, CallError>
-    ensures prints { IfOk result (λ page. IsScanPage plan.now rows (bytes_in buffers.now) page.items) }
-    ensures stop { IfErr result (ScanStops plan.now rows (bytes_in buffers.now)) }
+fn scanned(alloc: Global, plan: &KeptPlan, batch: &GivenBatch<'_>) -> Result<Vec<u8>, CallError>
+    ensures prints { IfOk result (λ page. IsScanPage plan.now batch.now.rows (bytes_in batch.now.buffers.now) page.items) }
+    ensures stop { IfErr result (ScanStops plan.now batch.now.rows (bytes_in batch.now.buffers.now)) }
 {
-    let batch = batch_of(alloc, plan, rows, buffers)?;
-    let values = values_of(alloc, plan, Box::into_inner(batch))?;
+    let column = batch_of(alloc, plan, batch)?;
+    let values = values_of(alloc, plan, Box::into_inner(column))?;
     lines_of(alloc, &values)
 }
 
@@ -53,17 +56,16 @@ fn scanned(
 fn batch_of(
     alloc: Global,
     plan: &KeptPlan,
-    rows: usize,
-    buffers: &[Buffer<'_>],
+    batch: &GivenBatch<'_>,
 ) -> Result<Box<Column>, CallError>
-    ensures batch { IfOk result (λ batch. column_said (bytes_in buffers.now) (scope_of plan.now) rows ≡ Ok batch.value) }
-    ensures stop { IfErr result (λ stop. IsExhausted stop ⊎ IsNoBatch plan.now rows (bytes_in buffers.now) stop) }
+    ensures batch { IfOk result (λ column. column_said (bytes_in batch.now.buffers.now) (scope_of plan.now) batch.now.rows ≡ Ok column.value) }
+    ensures stop { IfErr result (λ stop. IsExhausted stop ⊎ IsNoBatch plan.now batch.now.rows (bytes_in batch.now.buffers.now) stop) }
 {
     let Ok(scope) = plan.plan.scope().clone() else {
         return Err(CallError::out_of_memory(alloc));
     };
-    match column_of(alloc, scope, rows, buffers) {
-        Ok(batch) => boxed(alloc, batch),
+    match column_of(alloc, scope, batch.rows, batch.buffers) {
+        Ok(column) => boxed(alloc, column),
         Err(error) => Err(buffer_stop(alloc, &error)),
     }
 }

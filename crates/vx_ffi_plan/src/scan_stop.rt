@@ -11,7 +11,7 @@ ghost use Rattle.vx_ffi_plan.specs.ScanStops.{IsBadData, IsFaultStop};
 use crate::kept::KeptPlan;
 use std::alloc::Global;
 use vx_command_pages::{Input, bind, span_at};
-use vx_commands::{RowsComplaint, RowsMessage};
+use vx_commands::{RowsError, RowsMessage};
 use vx_data::WriteError;
 use vx_data_buffers::BufferError;
 use vx_ffi_calls::{CallError, Given, Place, Status, place_of};
@@ -71,14 +71,14 @@ fn stop_at(alloc: Global, kept: &KeptPlan, fault: NodePlace) -> CallError
     let NodePlace { path, refusal } = fault;
     let span = span_at(&kept.placed.places, path.as_slice());
     let mut place = place_of(Given::Expression, kept.text.as_str(), span);
-    let error = RecordsError::Fault(RecordFault {
+    let stop = RecordsError::Fault(RecordFault {
         line: None,
         path,
         refusal,
     });
-    let complaint = RowsComplaint::Records { error, span };
+    let error = RowsError::Records { error: stop, span };
     let message = RowsMessage {
-        complaint: &complaint,
+        error: &error,
         expression: Input {
             name: Given::Expression.name(),
             text: kept.text.as_str(),

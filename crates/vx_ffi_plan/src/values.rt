@@ -54,6 +54,5 @@ fn scan_of(alloc: Global, plan: &ScanPlan, batch: Column) -> VortexResult<Column
     requires { batch.type ≡ type_of plan.now.scope }
     ensures { IfOk result (λ values. Scanned (type_of plan.now.scope) (bound_of plan.now.tree) plan.now.paths (parts_of plan.now.split) batch (Ok values)) }
 {
-    let reader = plan.reader_of(alloc, batch)?;
-    scan(alloc, &reader, plan)
+    scan(alloc, &plan.reader_of(batch), plan)
 }

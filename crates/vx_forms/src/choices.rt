@@ -1,12 +1,13 @@
 // Choices between values, over operands.
 ghost use Rattle.std.specs.Prelude.{◌≡◌, ◌<◌, ◌^◌, is_some, map, IfOk, length, true, false, [], ◌∷◌};
-ghost use Rattle.vx_build.specs.Operands.{case_operands, pair_operands};
+ghost use Rattle.vx_build.specs.Operands.{case_operands};
 ghost use Rattle.vx_fn.specs.Functions as function;
 ghost use Rattle.vx_fn.specs.Functions.{case_when};
 ghost use Rattle.vx_forms.specs.Given.{GivesOver, zip_over};
 
 use crate::operands::{Operand, trees_given};
-use std::alloc::{AllocError, Global};
+use std::alloc::Global;
+use vx_build::case_operands;
 use vx_tree::{CaseWhenOptions, ScalarFnRef, TreeNode, VortexResult};
 
 /// The first value where the condition is true, and else the second. Refuses as the first operand
@@ -91,31 +92,4 @@ pub fn nested_case_when<T: TreeNode, O: Operand<T>, const N: usize>(
     let operands = case_operands(alloc, pairs, else_value)?;
     let children = trees_given(alloc, operands)?;
     T::of_function(alloc, ScalarFnRef::CaseWhen(options), children)
-}
-
-// Each condition and the value beside it, then the ELSE value, if there is one.
-fn case_operands<O: Drop>(
-    alloc: Global,
-    pairs: Vec<(O, O)>,
-    else_value: Option<O>,
-) -> Result<Vec<O>, AllocError>
-    ensures { IfOk result (λ operands. operands.items ≡ case_operands pairs.items else_value) }
-{
-    let mut operands = pair_operands(alloc, pairs)?;
-    if let Some(value) = else_value {
-        operands.push(value)?;
-    }
-    Ok(operands)
-}
-
-// Both of each pair.
-fn pair_operands<O: Drop>(alloc: Global, pairs: Vec<(O, O)>) -> Result<Vec<O>, AllocError>
-    ensures { IfOk result (λ operands. operands.items ≡ pair_operands pairs.items) }
-{
-    let mut operands = Vec::new(alloc);
-    for (condition, value) in pairs {
-        operands.push(condition)?;
-        operands.push(value)?;
-    }
-    Ok(operands)
 }

@@ -17,7 +17,7 @@ fn reorders(alloc: Global) -> VortexResult<Box<ScanPlan>> {
 fn rows(alloc: Global, planned: &ScanPlan) -> VortexResult<Column> {
     let (price, stock) = (column(alloc, [12, 7, 30])?, column(alloc, [3, 0, 5])?);
     let batch = struct_column(alloc, [("price", price), ("stock", stock)])?;
-    scan(alloc, &planned.reader_of(alloc, batch)?, planned)
+    scan(alloc, &planned.reader_of(batch), planned)
 }
 
 #[test]

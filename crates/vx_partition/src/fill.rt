@@ -8,8 +8,8 @@ ghost use Rattle.vx_partition.specs.Packing.{hole_at};
 
 use crate::mark::Mark;
 use std::alloc::{AllocError, Global};
-use std::rc::Rc;
 use std::slice::Iter;
+use std::sync::Arc;
 use vx_tree::BoundExpression;
 
 // The tree as the next marks say, which are its own. What stands above no piece is shared.
@@ -35,7 +35,7 @@ pub(crate) fn fill(
                 children,
             } => {
                 let filled = fill_each(alloc, children.as_slice(), marks, holes)?;
-                let children = Rc::new(alloc, filled)?;
+                let children = Arc::new(alloc, filled)?;
                 let dtype = dtype.clone()?;
                 let scalar_fn = scalar_fn.clone()?;
                 Ok(BoundExpression::Scalar {

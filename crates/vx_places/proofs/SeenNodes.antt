@@ -1,7 +1,7 @@
 -- Nodes of trees of the program, and what they stand for.
 use Rattle.std.proofs.Common.{◌≡◌, ℕ, zero, suc, ◌+◌, ◌<◌, ◌≤◌, List, [], ◌∷◌, length, get_or, drop, map, Some, None, refl, sym, ap, ◌∙◌, arith, Vec}
 use Rattle.std.specs.declared.alloc.Global.{Global}
-use Rattle.std.specs.declared.rc.Rc.{Rc}
+use Rattle.std.specs.declared.sync.Arc.{Arc}
 use Rattle.vx_dtype.specs.declared.dtype.DType.{DType}
 use Rattle.vx_fn.specs.declared.function.ScalarFnRef.{ScalarFnRef}
 use Rattle.vx_fn.specs.Views.{function_of}
@@ -18,11 +18,11 @@ use Rattle.vx_tree.proofs.Held.{bound_of-Scalar, tree_of-Scalar}
 use Rattle.vx_places.specs.Nodes.{node_at}
 
 -- a function node over the children that it holds
-pub seen_call : (e : Expression) (f : ScalarFnRef) (all : Rc (Vec Expression Global) Global) (children : List Expression) → e ≡ Unbound.Scalar f all → children ≡ all.value.items → tree_of e ≡ call (function_of f) (trees_of children)
+pub seen_call : (e : Expression) (f : ScalarFnRef) (all : Arc (Vec Expression Global) Global) (children : List Expression) → e ≡ Unbound.Scalar f all → children ≡ all.value.items → tree_of e ≡ call (function_of f) (trees_of children)
 seen_call e f all children is those = rw (is, tree_of-Scalar f all, ← those) refl
 
 -- the children of a bound node are those that it holds
-pub seen_children : (e : BoundExpression) (t : DType) (f : ScalarFnRef) (all : Rc (Vec BoundExpression Global) Global) (children : List BoundExpression) → e ≡ Bound.Scalar t f all → children ≡ all.value.items → bound_children_of (bound_of e) ≡ bounds_of children
+pub seen_children : (e : BoundExpression) (t : DType) (f : ScalarFnRef) (all : Arc (Vec BoundExpression Global) Global) (children : List BoundExpression) → e ≡ Bound.Scalar t f all → children ≡ all.value.items → bound_children_of (bound_of e) ≡ bounds_of children
 seen_children e t f all children is those = rw (is, bound_of-Scalar t f all, ← those) refl
 
 -- ---- children by their index

@@ -9,7 +9,7 @@ ghost use Rattle.vx_projection.specs.Wanted.{lent_paths, taken, wanted, wanted_o
 
 use crate::wanted::{Wanted, wanted_along};
 use std::alloc::{AllocError, Global};
-use std::rc::Rc;
+use std::sync::Arc;
 use vx_types::{Column, Field, FieldPathSet, Value, VortexResult};
 
 /// The batch with the values along the paths of [`FieldPathSet::iter`] alone, null structs on the way
@@ -26,7 +26,7 @@ pub fn read_referenced(alloc: Global, batch: &Column, paths: &FieldPathSet) -> V
     let wanted = wanted_along(alloc, dtype, along)?;
     let rows = taken_rows(alloc, &wanted, batch)?;
     let dtype = dtype.clone()?;
-    Ok(Column::from_shared(dtype, Rc::new(alloc, rows)?))
+    Ok(Column::from_shared(dtype, Arc::new(alloc, rows)?))
 }
 
 // The paths of the set of which no other is a beginning, lent.

@@ -40,19 +40,19 @@ pub trait PathReader {
         ensures { ReturnsOrOom (λ c. c) result (Ok (kept_batch (minimal_paths paths.now) (batch self.now))) };
 }
 
-/// A reader of a column.
+/// A reader of a column, which allows the paths of a set that is lent to it.
 #[derive(Drop)]
-pub struct ColumnReader {
+pub struct ColumnReader<'p> {
     column: Column,
-    allowed: FieldPathSet,
+    allowed: &'p FieldPathSet,
 }
 
-impl ColumnReader {
+impl<'p> ColumnReader<'p> {
     /// The reader of that column that allows the paths of [`FieldPathSet::iter`]. Along a path that
     /// leads nowhere in the column's type nothing is kept: [`ColumnReader::try_new`] refuses it.
-    pub fn new(column: Column, allowed: FieldPathSet) -> ColumnReader
+    pub fn new(column: Column, allowed: &'p FieldPathSet) -> ColumnReader<'p>
         ensures column { result.column ≡ column }
-        ensures allowed { result.allowed ≡ allowed }
+        ensures allowed { result.allowed.now ≡ allowed.now }
     {
         ColumnReader { column, allowed }
     }
@@ -62,20 +62,20 @@ impl ColumnReader {
     /// Refuses the first path that doesn't: with `NoSuchField` (5) and the name where there is no
     /// field of it, and with `NotAStruct` (4) where it goes on in another type than a struct; and with
     /// `OutOfMemory` (1).
-    pub fn try_new(column: Column, allowed: FieldPathSet) -> VortexResult<ColumnReader>
-        ensures column { ReturnsOrOom (λ r. r.column) result (unless_lost (first_lost (minimal_paths allowed) column.type) column) }
-        ensures allowed { IfOk result (λ r. r.allowed ≡ allowed) }
-        ensures lead { IfOk result (λ r. EachLeads (minimal_paths r.allowed) r.column.type) }
+    pub fn try_new(column: Column, allowed: &'p FieldPathSet) -> VortexResult<ColumnReader<'p>>
+        ensures column { ReturnsOrOom (λ r. r.column) result (unless_lost (first_lost (minimal_paths allowed.now) column.type) column) }
+        ensures allowed { IfOk result (λ r. r.allowed.now ≡ allowed.now) }
+        ensures lead { IfOk result (λ r. EachLeads (minimal_paths r.allowed.now) r.column.type) }
     {
-        check_paths(column.dtype(), &allowed)?;
+        check_paths(column.dtype(), allowed)?;
         Ok(ColumnReader::new(column, allowed))
     }
 }
 
-impl PathReader for ColumnReader {
+impl PathReader for ColumnReader<'_> {
     ghost batch = { λ r. r.column };
 
-    ghost allowed = { λ r. minimal_paths r.allowed };
+    ghost allowed = { λ r. minimal_paths r.allowed.now };
 
     fn dtype(&self) -> &DType {
         // (what it promises is that the rows fit)

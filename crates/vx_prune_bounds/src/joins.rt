@@ -122,9 +122,9 @@ fn are_comparable(l: Option<Endpoint>, m: Option<Endpoint>) -> bool
     }
 }
 
-// Whether both can be the ends of one interval, where they are known. An end alone is compared with
-// itself, which only tells that it can be compared.
-fn is_interval(least: Option<Endpoint>, greatest: Option<Endpoint>) -> bool
+/// Whether both can be the ends of one interval, where they are known. An end alone is compared with
+/// itself, which only tells that it can be compared.
+pub fn is_interval(least: Option<Endpoint>, greatest: Option<Endpoint>) -> bool
     ensures { result ≡ is_interval (option_map endpoint_value least.entry) (option_map endpoint_value greatest.entry) }
 {
     match least {

@@ -2,7 +2,7 @@
 use Rattle.std.proofs.Common.{◌≡◌, ℕ, ◌+◌, ◌*◌, ◌<◌, ◌≤◌, List, [], ◌∷◌, length, get_or, drop, refl, sym, ap, ◌∙◌, true, false, Option, Some, None, arith, Vec}
 use Rattle.std.specs.Prelude.{is_some}
 use Rattle.std.specs.declared.alloc.Global.{Global}
-use Rattle.std.specs.declared.rc.Rc.{Rc}
+use Rattle.std.specs.declared.sync.Arc.{Arc}
 use Rattle.std.proofs.lemmas.List.{drop_more}
 use Rattle.vx_value.specs.Paths.{Path}
 use Rattle.vx_value.specs.Types.{LogicalType}
@@ -46,7 +46,7 @@ no_path None e = refl
 no_path (Some path) e = cc
 
 -- and of one that is none, by those that its function gives
-pub node-given : (facts : Facts) (e : BoundExpression) (t : DType) (f : ScalarFnRef) (all : Rc (Vec BoundExpression Global) Global) (children : List BoundExpression) (r y : Bounds) →
+pub node-given : (facts : Facts) (e : BoundExpression) (t : DType) (f : ScalarFnRef) (all : Arc (Vec BoundExpression Global) Global) (children : List BoundExpression) (r y : Bounds) →
     e ≡ Scalar t f all → children ≡ all.value.items → is_some (path_to (bound_of e)) ≡ false → y ≡ fn_bounds (function_of f) (each_bounds_in facts (bounds_of children)) →
     r ≡ meet (any_of (type_of t)) y → r ≡ bounds_in facts (bound_of e)
 node-given facts e t f all children r y is those s given m =

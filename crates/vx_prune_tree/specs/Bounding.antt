@@ -15,7 +15,20 @@ use Rattle.vx_prune_tree.specs.Stats.{Facts, facts_at, field_bounds}
 -- the path to a field of that name behind the child's, if it is one
 abbrev pub item_path : Function → Option Path → Option Path
 item_path (get_item a) child = option_map (λ path. path ++ a ∷ []) child
-item_path _ child = None
+item_path (case_when pairs has_else) child = None
+item_path (literal u v) child = None
+item_path (pack names n) child = None
+item_path (select selection) child = None
+item_path fill_null child = None
+item_path zip child = None
+item_path (binary op) child = None
+item_path logical_not child = None
+item_path (between ls us) child = None
+item_path (like negated ignore_case) child = None
+item_path is_null child = None
+item_path is_not_null child = None
+item_path mask child = None
+item_path (cast u) child = None
 
 -- the path whose values the tree's are: of the scope root the root path, and of a field of such a tree the path behind it
 abbrev mutual

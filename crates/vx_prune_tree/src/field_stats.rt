@@ -1,11 +1,10 @@
 // Statistics of the values along a path.
 ghost use Rattle.std.specs.Prelude.{◌≡◌, option_map};
 ghost use Rattle.vx_value.specs.Views.{value_of};
-ghost use Rattle.vx_prune_bounds.specs.Bounds.{is_interval};
 ghost use Rattle.vx_prune_bounds.specs.Views.{bounds_view, endpoint_value};
 ghost use Rattle.vx_prune_tree.specs.Stats.{field_bounds, is_known_as, known_end, no_facts};
 
-use vx_prune_bounds::{Bounds, Endpoint};
+use vx_prune_bounds::{Bounds, Endpoint, is_interval};
 use vx_types::Value;
 
 /// What is known of the values along a path of a chunk's rows. Nothing sees that it is true.
@@ -68,21 +67,5 @@ fn known_end(known: &Option<Value>) -> Option<Endpoint<'_>>
     match known {
         Some(value) => Endpoint::of(value),
         None => None,
-    }
-}
-
-// Whether both can be the ends of one interval, where they are known.
-fn is_interval(least: Option<Endpoint>, greatest: Option<Endpoint>) -> bool
-    ensures { result ≡ is_interval (option_map endpoint_value least.entry) (option_map endpoint_value greatest.entry) }
-{
-    match least {
-        Some(l) => match greatest {
-            Some(g) => l.at_most(&g),
-            None => l.at_most(&l),
-        },
-        None => match greatest {
-            Some(g) => g.at_most(&g),
-            None => true,
-        },
     }
 }

@@ -140,7 +140,12 @@ fn put_of_operator(operator: Operator, x: &mut Bounds, y: &Bounds)
         Operator::And => *x = Bounds::of_truths(x.truths().and(y.truths())),
         Operator::Or => *x = Bounds::of_truths(x.truths().or(y.truths())),
         Operator::Add => *x = sum_bounds(x, y),
-        _ => *x = Bounds::of_truths(comparison_truths(operator, x, y)),
+        Operator::Eq
+        | Operator::NotEq
+        | Operator::Gt
+        | Operator::Gte
+        | Operator::Lt
+        | Operator::Lte => *x = Bounds::of_truths(comparison_truths(operator, x, y)),
     }
 }
 

@@ -19,7 +19,7 @@ use Rattle.vx_places.specs.Faults.{IsFirstFault}
 use Rattle.vx_tree.specs.Trees.{BoundTree}
 use Rattle.vx_records.specs.Outcomes.{IsFaultOn}
 use Rattle.vx_records.specs.declared.error.RecordsError.{RecordsError}
-use Rattle.vx_records.specs.declared.error.RecordsError.TheVariants.{Fault, Write}
+use Rattle.vx_records.specs.declared.error.RecordsError.TheVariants.{OutOfMemory, Data, Fault, Write}
 
 -- the texts in vectors
 abbrev pub texts_in : List (Vec ℕ) → List (List ℕ)
@@ -74,22 +74,27 @@ each_line ts = flat_map (λ t. t ++ 10 ∷ []) ts
 -- the error is one of writing
 abbrev pub IsOfWriting : RecordsError → Type 0
 IsOfWriting (Write e) = Unit {0}
-IsOfWriting _ = ⊥
+IsOfWriting OutOfMemory = ⊥
+IsOfWriting (Data e) = ⊥
+IsOfWriting (Fault f) = ⊥
 
 -- the error is neither a fault of the tree's nor of writing
 abbrev pub IsNoFault : RecordsError → Type 0
 IsNoFault (Fault f) = ⊥
 IsNoFault (Write e) = ⊥
-IsNoFault _ = Unit {0}
+IsNoFault OutOfMemory = Unit {0}
+IsNoFault (Data e) = Unit {0}
 
 -- the error is none of writing, and where it is the tree's, its first fault on the rows
 abbrev pub IsFaultOver : BoundTree → List Datum → RecordsError → Type 0
 IsFaultOver b vs (Fault f) = IsFirstFault vs b f.path.items f.refusal
 IsFaultOver b vs (Write e) = ⊥
-IsFaultOver b vs _ = Unit {0}
+IsFaultOver b vs OutOfMemory = Unit {0}
+IsFaultOver b vs (Data e) = Unit {0}
 
 -- the error is no fault of writing, and where it is the tree's, it is the first on the next records
 abbrev pub IsFaultThere : {R : Type 0} → (R → List Record → Type 0) → BoundTree → R → RecordsError → Type 0
 IsFaultThere {R = R} leaves b before (Fault f) = (mid : R) × (rs : List Record) × Reads (leaves before) (leaves mid) rs × IsFaultOn b rs f
 IsFaultThere leaves b before (Write e) = ⊥
-IsFaultThere leaves b before _ = Unit {0}
+IsFaultThere leaves b before OutOfMemory = Unit {0}
+IsFaultThere leaves b before (Data e) = Unit {0}

@@ -9,7 +9,7 @@ use Rattle.vx_records.specs.Reading.{Reads, ReadsUpTo}
 use Rattle.vx_records.specs.Records.{Record, rows}
 use Rattle.vx_records.specs.declared.error.RecordFault.{RecordFault}
 use Rattle.vx_records.specs.declared.error.RecordsError.{RecordsError}
-use Rattle.vx_records.specs.declared.error.RecordsError.TheVariants.{Fault, Write}
+use Rattle.vx_records.specs.declared.error.RecordsError.TheVariants.{OutOfMemory, Data, Fault, Write}
 
 -- known rows grow by these
 abbrev pub Gains : Option (List Datum) → Option (List Datum) → List Datum → Type 0
@@ -33,7 +33,8 @@ IsFaultOn b rs f = IsFirstFault (rows rs) b f.path.items f.refusal
 abbrev pub Stops : {R : Type 0} → (R → List Record → Type 0) → BoundTree → R → RecordsError → (List Record → Type 0) → (List Record → Type 0) → Type 0
 Stops {R = R} leaves b before (Fault f) Wrote Broke = (mid : R) × (done rs : List Record) × Reads (leaves before) (leaves mid) (done ++ rs) × Wrote done × IsFaultOn b rs f
 Stops {R = R} leaves b before (Write e) Wrote Broke = (mid : R) × (rs : List Record) × Reads (leaves before) (leaves mid) rs × Broke rs
-Stops {R = R} leaves b before _ Wrote Broke = (mid : R) × (rs : List Record) × Reads (leaves before) (leaves mid) rs × Wrote rs
+Stops {R = R} leaves b before OutOfMemory Wrote Broke = (mid : R) × (rs : List Record) × Reads (leaves before) (leaves mid) rs × Wrote rs
+Stops {R = R} leaves b before (Data e) Wrote Broke = (mid : R) × (rs : List Record) × Reads (leaves before) (leaves mid) rs × Wrote rs
 
 -- the tree faults on no n of the records, or fewer, that stand one behind the other
 abbrev pub NeverFaults : ℕ → BoundTree → List Record → Type 0

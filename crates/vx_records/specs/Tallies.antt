@@ -10,7 +10,7 @@ use Rattle.vx_rewrite_paths.specs.Asked.{referenced}
 use Rattle.vx_prune_tree.specs.Reading.{facts_along}
 use Rattle.vx_prune_tree.specs.Verdicts.{verdict_in}
 use Rattle.vx_prune_tree.specs.declared.verdicts.Verdict.{Verdict}
-use Rattle.vx_prune_tree.specs.declared.verdicts.Verdict.TheVariants.{Unknown}
+use Rattle.vx_prune_tree.specs.declared.verdicts.Verdict.TheVariants.{NoRow, EveryRow, Unknown}
 use Rattle.vx_records.specs.Records.{Record, rows}
 use Rattle.vx_records.specs.declared.chunked.ChunkTally.{ChunkTally}
 
@@ -25,7 +25,8 @@ verdict_on b s chunk = verdict_in (facts_along s (minimal_paths (referenced b)) 
 -- whether a verdict leaves open in which rows the tree is true
 abbrev pub is_open : Verdict → Bool
 is_open Unknown = true
-is_open _ = false
+is_open NoRow = false
+is_open EveryRow = false
 
 -- so many chunks, of which so many were evaluated
 abbrev pub tally : ℕ → ℕ → ChunkTally

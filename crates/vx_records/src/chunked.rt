@@ -40,8 +40,17 @@ pub struct ChunkTally {
     pub evaluated: u64,
 }
 
+/// In what chunks records are read, and how many of these in all.
+#[derive(Clone, Copy, Debug, PartialEq, Eq)]
+pub struct Chunking {
+    /// How many records a chunk has, but for the last, which may have fewer.
+    pub size: NonZeroUsize,
+    /// How many records are read at most.
+    pub limit: u64,
+}
+
 /// Writes the same as [`filter_records`](crate::filter_records), reading the records in chunks of
-/// `size`, the last of which may be smaller. Of each chunk statistics are taken along the paths that
+/// that size, the last of which may be smaller. Of each chunk statistics are taken along the paths that
 /// the tree references. Where they tell that the tree is true of none of its records none is written,
 /// and where they tell that it is true of each of them all are, without evaluating the tree; else the
 /// tree is evaluated over the chunk. Asks a well-typed tree of type `bool` over the type of the rows.
@@ -49,27 +58,26 @@ pub struct ChunkTally {
 /// Answers how many chunks the records are, and over how many of them the tree was evaluated.
 ///
 /// A fault on records over which the tree isn't evaluated isn't met: those may be written or left out,
-/// whatever the tree would mean at them. In memory are at most `size` records. Stops as
+/// whatever the tree would mean at them. In memory is at most one chunk of records. Stops as
 /// `filter_records` does.
 pub fn filter_chunks<R: RecordReader, W: Write>(
     alloc: Global,
     tree: &BoundExpression,
-    size: NonZeroUsize,
-    limit: u64,
+    chunking: Chunking,
     records: &mut R,
     out: &mut W,
 ) -> Result<ChunkTally, RecordsError>
     requires typed { WellTyped (bound_of tree.now) }
     requires truth { IsTrue (is_truth (node_type (bound_of tree.now))) }
     requires over { Over (bound_of tree.now) (R.scope records.old) }
-    ensures kept { IfOk result (λ tally. EndsRecords R.leaves limit records.old records.new (λ rs.
-        (tally ≡ tally_of (non_zero_usize_get size) (bound_of tree.now) (R.scope records.old) rs)
-        × UnlessFaulting (non_zero_usize_get size) (bound_of tree.now)
+    ensures kept { IfOk result (λ tally. EndsRecords R.leaves chunking.limit records.old records.new (λ rs.
+        (tally ≡ tally_of (non_zero_usize_get chunking.size) (bound_of tree.now) (R.scope records.old) rs)
+        × UnlessFaulting (non_zero_usize_get chunking.size) (bound_of tree.now)
         (λ rs. Appends (W.contents out.old) (W.contents out.new) (R.head records.old ++ kept_lines (unbound (bound_of tree.now)) (R.scope records.old) rs)) rs)) }
     ensures stopped { IfErr result (λ e. Stops R.leaves (bound_of tree.now) records.old e
-        (UnlessFaulting (non_zero_usize_get size) (bound_of tree.now)
+        (UnlessFaulting (non_zero_usize_get chunking.size) (bound_of tree.now)
         (λ rs. Appends (W.contents out.old) (W.contents out.new) (R.head records.old ++ kept_lines (unbound (bound_of tree.now)) (R.scope records.old) rs)))
-        (UnlessFaulting (non_zero_usize_get size) (bound_of tree.now)
+        (UnlessFaulting (non_zero_usize_get chunking.size) (bound_of tree.now)
         (λ rs. Breaks (W.contents out.old) (W.contents out.new) (R.head records.old ++ kept_lines (unbound (bound_of tree.now)) (R.scope records.old) rs)))) }
     ensures within { IfOk result (λ tally. tally.evaluated ≤ tally.chunks) }
 {
@@ -77,14 +85,18 @@ pub fn filter_chunks<R: RecordReader, W: Write>(
     let Ok(paths) = referenced_field_paths(alloc, tree) else {
         return Err(RecordsError::OutOfMemory);
     };
+    let condition = Condition {
+        tree,
+        paths: &paths,
+    };
     let mut tally = ChunkTally {
         chunks: 0,
         evaluated: 0,
     };
-    let mut left = limit;
+    let mut left = chunking.limit;
     while left > 0 {
-        let count = left.min(size.get() as u64);
-        let done = filter_chunk(alloc, tree, &paths, count as usize, records, out)?;
+        let count = left.min(chunking.size.get() as u64);
+        let done = filter_chunk(alloc, &condition, count as usize, records, out)?;
         tally.chunks += done.tally.chunks;
         tally.evaluated += done.tally.evaluated;
         if done.last {
@@ -102,32 +114,39 @@ struct ChunkDone {
     tally: ChunkTally,
 }
 
+// A tree of type bool, and the paths that it references.
+#[derive(Clone, Copy)]
+struct Condition<'a> {
+    tree: &'a BoundExpression,
+    paths: &'a FieldPathSet,
+}
+
 // The same of a chunk of so many records, and without a heading.
 fn filter_chunk<R: RecordReader, W: Write>(
     alloc: Global,
-    tree: &BoundExpression,
-    paths: &FieldPathSet,
+    condition: &Condition<'_>,
     count: usize,
     records: &mut R,
     out: &mut W,
 ) -> Result<ChunkDone, RecordsError>
-    requires typed { WellTyped (bound_of tree.now) }
-    requires truth { IsTrue (is_truth (node_type (bound_of tree.now))) }
-    requires over { Over (bound_of tree.now) (R.scope records.old) }
-    requires paths { paths.now ≡ referenced (bound_of tree.now) }
+    requires typed { WellTyped (bound_of condition.now.tree.now) }
+    requires truth { IsTrue (is_truth (node_type (bound_of condition.now.tree.now))) }
+    requires over { Over (bound_of condition.now.tree.now) (R.scope records.old) }
+    requires paths { condition.now.paths.now ≡ referenced (bound_of condition.now.tree.now) }
     ensures step { IfOk result (λ done. IsStep R.leaves count records.old records.new done.last (λ rs.
-        (done.tally ≡ chunk_tally (bound_of tree.now) (R.scope records.old) rs)
-        × UnlessFaulting count (bound_of tree.now)
-        (λ rs. Appends (W.contents out.old) (W.contents out.new) (kept_lines (unbound (bound_of tree.now)) (R.scope records.old) rs)) rs)) }
-    ensures stopped { IfErr result (λ e. Stops R.leaves (bound_of tree.now) records.old e
-        (UnlessFaulting count (bound_of tree.now)
-        (λ rs. Appends (W.contents out.old) (W.contents out.new) (kept_lines (unbound (bound_of tree.now)) (R.scope records.old) rs)))
-        (UnlessFaulting count (bound_of tree.now)
-        (λ rs. Breaks (W.contents out.old) (W.contents out.new) (kept_lines (unbound (bound_of tree.now)) (R.scope records.old) rs)))) }
+        (done.tally ≡ chunk_tally (bound_of condition.now.tree.now) (R.scope records.old) rs)
+        × UnlessFaulting count (bound_of condition.now.tree.now)
+        (λ rs. Appends (W.contents out.old) (W.contents out.new) (kept_lines (unbound (bound_of condition.now.tree.now)) (R.scope records.old) rs)) rs)) }
+    ensures stopped { IfErr result (λ e. Stops R.leaves (bound_of condition.now.tree.now) records.old e
+        (UnlessFaulting count (bound_of condition.now.tree.now)
+        (λ rs. Appends (W.contents out.old) (W.contents out.new) (kept_lines (unbound (bound_of condition.now.tree.now)) (R.scope records.old) rs)))
+        (UnlessFaulting count (bound_of condition.now.tree.now)
+        (λ rs. Breaks (W.contents out.old) (W.contents out.new) (kept_lines (unbound (bound_of condition.now.tree.now)) (R.scope records.old) rs)))) }
     ensures scope { R.scope records.new ≡ R.scope records.old }
     ensures one { IfOk result (λ done. done.tally.chunks ≤ 1) }
     ensures within { IfOk result (λ done. done.tally.evaluated ≤ done.tally.chunks) }
 {
+    let Condition { tree, paths } = *condition;
     let batch = next_batch(alloc, count, records)?;
     let verdict = verdict_on(alloc, tree, paths, &batch.rows)?;
     let lines = kept_of(alloc, tree, verdict, &batch)?;

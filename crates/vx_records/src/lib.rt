@@ -15,7 +15,7 @@ mod read;
 mod record;
 mod writing;
 
-pub use chunked::{ChunkTally, filter_chunks};
+pub use chunked::{ChunkTally, Chunking, filter_chunks};
 pub use csv_records::CsvRows;
 pub use error::{RecordFault, RecordsError};
 pub use evaluated::{RowWriter, evaluate_records};

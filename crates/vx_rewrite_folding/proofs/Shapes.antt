@@ -2,7 +2,7 @@
 use Rattle.std.proofs.Common.{◌≡◌, List, Vec}
 use Rattle.std.specs.Prelude.{Option, None}
 use Rattle.std.specs.declared.alloc.Global.{Global}
-use Rattle.std.specs.declared.rc.Rc.{Rc}
+use Rattle.std.specs.declared.sync.Arc.{Arc}
 use Rattle.vx_dtype.specs.declared.dtype.DType.{DType}
 use Rattle.vx_value.specs.Views.{type_of}
 use Rattle.vx_fn.specs.Functions.{case_when}
@@ -16,7 +16,7 @@ use Rattle.vx_tree.specs.Views.{bound_of, bounds_of}
 use Rattle.vx_tree.specs.declared.bound.BoundExpression.{BoundExpression, Scalar}
 use Rattle.vx_rewrite_rule_laws.specs.Folding.{known_given}
 
-module _ (b : BoundExpression) (t : DType) (f : ScalarFnRef) (all : Rc (Vec BoundExpression Global) Global) (children : List BoundExpression) (is : b ≡ Scalar t f all) (those : children ≡ all.value.items) where
+module _ (b : BoundExpression) (t : DType) (f : ScalarFnRef) (all : Arc (Vec BoundExpression Global) Global) (children : List BoundExpression) (is : b ≡ Scalar t f all) (those : children ≡ all.value.items) where
   pub known_of_node : (o : Option BoundTree) → o ≡ known_given (node (type_of t) (function_of f) (bounds_of children)) → o ≡ known_given (bound_of b)
   known_of_node o e = rw (is, bound_of-Scalar t f all, ← those) e
 

@@ -24,18 +24,13 @@ use vx_types::{Column, DType, Nullability, Scalar, Value, VortexError};
 fn is_computed(scalar_fn: &ScalarFnRef) -> bool
     ensures { result ≡ is_computed (function_of scalar_fn.now) }
 {
-    matches!(
-        scalar_fn,
-        ScalarFnRef::FillNull(_)
-            | ScalarFnRef::Binary(_)
-            | ScalarFnRef::Not(_)
-            | ScalarFnRef::Between(_)
-            | ScalarFnRef::Like(_)
-            | ScalarFnRef::IsNull(_)
-            | ScalarFnRef::IsNotNull(_)
-            | ScalarFnRef::Mask(_)
-            | ScalarFnRef::Cast(_)
-    )
+    match scalar_fn {
+        ScalarFnRef::Binary(_) | ScalarFnRef::Not(_) | ScalarFnRef::Between(_) => true,
+        ScalarFnRef::IsNull(_) | ScalarFnRef::IsNotNull(_) | ScalarFnRef::FillNull(_) => true,
+        ScalarFnRef::Like(_) | ScalarFnRef::Mask(_) | ScalarFnRef::Cast(_) => true,
+        ScalarFnRef::CaseWhen(_) | ScalarFnRef::Zip(_) | ScalarFnRef::Literal(_) => false,
+        ScalarFnRef::GetItem(_) | ScalarFnRef::Pack(_) | ScalarFnRef::Select(_) => false,
+    }
 }
 
 // What is given at a node over literals: the literal of its type and value, unless it faults.

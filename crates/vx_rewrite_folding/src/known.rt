@@ -67,7 +67,12 @@ fn known_of_binary<'a>(
         Operator::And => known_of_logic(true, left, right),
         Operator::Or => known_of_logic(false, left, right),
         Operator::Add => None,
-        _ => known_of_comparison(dtype, left, right),
+        Operator::Eq
+        | Operator::NotEq
+        | Operator::Gt
+        | Operator::Gte
+        | Operator::Lt
+        | Operator::Lte => known_of_comparison(dtype, left, right),
     }
 }
 

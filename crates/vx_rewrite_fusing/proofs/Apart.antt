@@ -14,8 +14,8 @@ use Rattle.vx_tree.specs.declared.bound.BoundExpression.{BoundExpression}
 use Rattle.vx_rewrite_core.specs.Steps.{Step, OneStep, here, below, this_one, later_one, no_step, one_more}
 use Rattle.vx_rewrite_fusing.specs.declared.ranges.Side.{Side}
 use Rattle.vx_rewrite_fusing.specs.declared.ranges.Side.TheVariants.{Below, Above}
-use Rattle.vx_rewrite_fusing.specs.Conjuncts.{and_node, and_of, is_and, conjuncts, range_of, below_and_above, above_and_below, Fused, Mergeable}
-use Rattle.vx_rewrite_fusing.specs.Finding.{side_of, tree_in, tree_or, ConjunctsFused, Finds, IsBinary, IsFusedApart, Unbounded}
+use Rattle.vx_rewrite_fusing.specs.Conjuncts.{and_node, and_of, is_and, conjuncts, range_of, below_and_above, above_and_below, tree_in, Fused, Mergeable, IsBinary}
+use Rattle.vx_rewrite_fusing.specs.Finding.{side_of, tree_or, ConjunctsFused, Finds, IsFusedApart, Unbounded}
 use Rattle.vx_rewrite_fusing.specs.Merging.{IsFusedOf, MergeAt, right_stays, right_goes, Merges}
 use Rattle.vx_rewrite_fusing.proofs.Ands.{and_parts_of}
 use Rattle.vx_rewrite_fusing.proofs.Children.{both_steps, merges_append}

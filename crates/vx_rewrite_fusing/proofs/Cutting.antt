@@ -9,8 +9,8 @@ use Rattle.vx_rewrite_fusing.specs.declared.places.Link.{Link}
 use Rattle.vx_rewrite_fusing.specs.declared.places.Place.{Place}
 use Rattle.vx_rewrite_fusing.specs.declared.places.Place.TheVariants.{Other, Open, Merged, Gone}
 use Rattle.vx_rewrite_fusing.specs.declared.ranges.RangeComparison.{RangeComparison}
-use Rattle.vx_rewrite_fusing.specs.Conjuncts.{is_and, range_of}
-use Rattle.vx_rewrite_fusing.specs.Finding.{range_seen, tree_in}
+use Rattle.vx_rewrite_fusing.specs.Conjuncts.{is_and, range_of, tree_in}
+use Rattle.vx_rewrite_fusing.specs.Finding.{range_seen}
 use Rattle.vx_rewrite_fusing.specs.Places.{turned, Bounded, bounded_at, bounded_by, Has, Holds, no_range, open_range, merged_range, gone_range, both, IsFirstOf, IsLast, IsPair, IsWithin, NoneFrom, PairIsMerged}
 use Rattle.vx_rewrite_fusing.specs.Sides.{after_single, both_merged, HoldBoth, IsLeft, IsRight, MergedLeft, MergedRight}
 use Rattle.vx_rewrite_fusing.proofs.Holding.{Apart, Parts, has_at, has_either, has_first, has_second, holds_gone, holds_merged, in_ls, in_rs, none_held, parts_of, place_of, turned_back, whole_held, whole_single, with_merged_in}

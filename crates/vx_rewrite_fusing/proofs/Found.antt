@@ -12,9 +12,9 @@ use Rattle.vx_dtype.proofs.Lists.{in_left, in_right}
 use Rattle.vx_tree.specs.Trees.{BoundTree}
 use Rattle.vx_tree.specs.Views.{bound_of}
 use Rattle.vx_tree.specs.declared.bound.BoundExpression.{BoundExpression}
-use Rattle.vx_rewrite_fusing.specs.Conjuncts.{and_node, and_of, is_and, conjuncts, range_of, MergeTo, Mergeable, NoneMergeable}
+use Rattle.vx_rewrite_fusing.specs.Conjuncts.{and_node, and_of, is_and, conjuncts, range_of, conjoined, MergeTo, Mergeable, NoneMergeable, IsBinary}
 use Rattle.vx_rewrite_fusing.specs.Merging.{itself, on_left, on_right, Removed, left_gone, right_gone, from_left, from_right}
-use Rattle.vx_rewrite_fusing.specs.Finding.{Finds, IsBinary, LeftMerged, Gone, whole, part, PairMerged, conjoined}
+use Rattle.vx_rewrite_fusing.specs.Finding.{Finds, LeftMerged, Gone, whole, part, PairMerged}
 use Rattle.vx_rewrite_fusing.proofs.Merges.{alone, in_append, either, replaced_from, removed_from, in_own, no_right}
 use Rattle.vx_rewrite_fusing.proofs.Refusals.{found_as}
 

@@ -7,8 +7,8 @@ use Rattle.vx_tree.specs.Trees.{BoundTree, bound, no_bound, node_type, WellTyped
 use Rattle.vx_value.specs.Types.{LogicalType}
 use Rattle.vx_rewrite_fusing.specs.declared.places.Place.{Place}
 use Rattle.vx_rewrite_fusing.specs.declared.ranges.RangeComparison.{RangeComparison}
-use Rattle.vx_rewrite_fusing.specs.Conjuncts.{and_node, and_of, is_and, range_of, Fused}
-use Rattle.vx_rewrite_fusing.specs.Finding.{range_seen, conjoined, more_fused, none_fused, ConjunctsFused, IsBinary}
+use Rattle.vx_rewrite_fusing.specs.Conjuncts.{and_node, and_of, is_and, range_of, conjoined, Fused, IsBinary}
+use Rattle.vx_rewrite_fusing.specs.Finding.{range_seen, more_fused, none_fused, ConjunctsFused}
 use Rattle.vx_rewrite_fusing.specs.Merging.{IsFusedOf}
 use Rattle.vx_rewrite_fusing.specs.Places.{turned, has_merged, Holds, both, IsPlaceOf, IsWithin, NoPair}
 use Rattle.vx_rewrite_fusing.specs.Sides.{both_merged, merged_with, HoldBoth, IsLeft, IsRight, MergedLeft, MergedRight, TreeMerged}

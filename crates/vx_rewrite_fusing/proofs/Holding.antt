@@ -17,8 +17,8 @@ use Rattle.vx_rewrite_fusing.specs.declared.places.Place.TheVariants.{Other, Ope
 use Rattle.vx_rewrite_fusing.specs.declared.ranges.RangeComparison.{RangeComparison}
 use Rattle.vx_rewrite_fusing.specs.declared.ranges.Side.{Side}
 use Rattle.vx_rewrite_fusing.specs.declared.ranges.Side.TheVariants.{Below, Above}
-use Rattle.vx_rewrite_fusing.specs.Conjuncts.{and_node, and_of, is_and, conjuncts, range_of, MergeTo, Fused}
-use Rattle.vx_rewrite_fusing.specs.Finding.{range_seen, tree_in, conjuncts_left, conjoined, IsBinary}
+use Rattle.vx_rewrite_fusing.specs.Conjuncts.{and_node, and_of, is_and, conjuncts, range_of, tree_in, conjuncts_left, conjoined, MergeTo, Fused, IsBinary}
+use Rattle.vx_rewrite_fusing.specs.Finding.{range_seen}
 use Rattle.vx_rewrite_fusing.specs.Sides.{after_single, both_merged, with_merged}
 use Rattle.vx_rewrite_fusing.specs.Places.{opposite, turned, Bounded, bounded_at, became_place, has_merged, Has, NoPair, Holds, no_range, open_range, merged_range, gone_range, both, IsPlaceOf, IsNoted}
 use Rattle.vx_rewrite_fusing.proofs.Keyed.{between_plain, keyed, merge_between, no_between, seen_key, single_merged, with_single}

@@ -3,8 +3,8 @@ use Rattle.std.proofs.Common.{◌≡◌, [], ◌∷◌, refl, sym, subst, ap, �
 use Rattle.std.specs.Prelude.{Option, Some, None}
 use Rattle.vx_fn.specs.Functions.{and_also, binary}
 use Rattle.vx_tree.specs.Trees.{BoundTree, node, bound, no_bound, WellTyped}
-use Rattle.vx_rewrite_fusing.specs.Conjuncts.{and_node, and_of, is_and, conjuncts, NoneMergeable}
-use Rattle.vx_rewrite_fusing.specs.Finding.{conjoined, IsBinary, LeftMerged, PairsMerged, with_pairs, without_pairs}
+use Rattle.vx_rewrite_fusing.specs.Conjuncts.{and_node, and_of, is_and, conjuncts, conjoined, NoneMergeable, IsBinary}
+use Rattle.vx_rewrite_fusing.specs.Finding.{LeftMerged, PairsMerged, with_pairs, without_pairs}
 use Rattle.vx_rewrite_fusing.specs.Sides.{after_single, both_merged, changed_of, merged_with, with_merged}
 use Rattle.vx_rewrite_fusing.proofs.Ands.{and_parts_of, typed_and}
 use Rattle.vx_rewrite_fusing.proofs.Found.{left_alone, left_in_first, left_in_second, left_none, left_none_alone, right_none, right_none_single, right_single}

@@ -9,10 +9,10 @@ use Rattle.vx_dtype.proofs.Lists.{in_left, in_right}
 use Rattle.vx_tree.specs.Trees.{BoundTree, node_type}
 use Rattle.vx_tree.specs.Views.{bound_of}
 use Rattle.vx_rewrite_core.specs.Steps.{here, no_step, one_more}
-use Rattle.vx_rewrite_fusing.specs.Conjuncts.{and_node, and_of, is_and, conjuncts, range_of, MergeTo, below_and_above, above_and_below, NoneMergeable, Fused, FusedBelow}
+use Rattle.vx_rewrite_fusing.specs.Conjuncts.{and_node, and_of, is_and, conjuncts, range_of, conjuncts_left, conjoined, tree_in, MergeTo, below_and_above, above_and_below, NoneMergeable, Fused, FusedBelow, IsBinary}
 use Rattle.vx_rewrite_fusing.specs.Merging.{IsFirstPair, Replaced, MergeAt, right_stays, right_goes, Merges, IsFusedOf}
 use Rattle.vx_rewrite_fusing.specs.declared.merge.Merged.{Merged}
-use Rattle.vx_rewrite_fusing.specs.Finding.{IsBinary, Gone, whole, part, PairMerged, Pairs, last_pair, and_pairs, conjuncts_left, conjoined, tree_in, PairsMerged, MergesSecond, with_pairs, without_pairs}
+use Rattle.vx_rewrite_fusing.specs.Finding.{Gone, whole, part, PairMerged, Pairs, last_pair, and_pairs, PairsMerged, MergesSecond, with_pairs, without_pairs}
 use Rattle.vx_rewrite_fusing.proofs.Keyed.{between_plain}
 use Rattle.vx_rewrite_fusing.proofs.Merges.{either, no_left, merged_plain, replaced_within, replaced_fused, removed_fused, conjunct_fused, gone_fused, fused_and}
 use Rattle.vx_rewrite_fusing.proofs.Found.{none_append_right, none_to_none, right_is_some, right_in_first, right_in_second}

@@ -4,8 +4,8 @@ use Rattle.std.specs.Prelude.{Some, None, Result, Ok}
 use Rattle.vx_dtype.specs.declared.error.VortexError.{VortexError}
 use Rattle.vx_fn.specs.Functions.{and_also}
 use Rattle.vx_tree.specs.Trees.{BoundTree, bound, no_bound, WellTyped}
-use Rattle.vx_rewrite_fusing.specs.Conjuncts.{and_node, and_of, Fused, FusedBelow}
-use Rattle.vx_rewrite_fusing.specs.Finding.{more_fused, none_fused, tree_in, tree_or, Finds, IsBinary}
+use Rattle.vx_rewrite_fusing.specs.Conjuncts.{and_node, and_of, tree_in, Fused, FusedBelow, IsBinary}
+use Rattle.vx_rewrite_fusing.specs.Finding.{more_fused, none_fused, tree_or, Finds}
 use Rattle.vx_rewrite_fusing.specs.Merging.{IsFusedOf}
 use Rattle.vx_rewrite_fusing.proofs.Ands.{and_parts_of}
 use Rattle.vx_rewrite_fusing.proofs.Apart.{Found}

@@ -5,8 +5,7 @@ use Rattle.std.proofs.lemmas.List.{length-take-le, take-append-drop}
 use Rattle.vx_fn.specs.Functions.{and_also}
 use Rattle.vx_tree.specs.Trees.{BoundTree}
 use Rattle.vx_rewrite_fusing.specs.declared.places.Place.{Place}
-use Rattle.vx_rewrite_fusing.specs.Conjuncts.{and_node, and_of, is_and, conjuncts}
-use Rattle.vx_rewrite_fusing.specs.Finding.{conjoined, IsBinary}
+use Rattle.vx_rewrite_fusing.specs.Conjuncts.{and_node, and_of, is_and, conjuncts, conjoined, IsBinary}
 use Rattle.vx_rewrite_fusing.specs.Places.{turned, Has, Holds, both, IsWithin, NoPair}
 use Rattle.vx_rewrite_fusing.specs.Sides.{both_merged, HoldBoth, IsLeft, IsRight, MergedLeft, MergedRight}
 use Rattle.vx_rewrite_fusing.proofs.Holding.{both_places, has_first, has_second, has_either, holds_count}

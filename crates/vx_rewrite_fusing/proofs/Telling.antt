@@ -9,8 +9,8 @@ use Rattle.vx_dtype.specs.declared.error.VortexError.TheVariants.{OutOfMemory}
 use Rattle.vx_tree.specs.Trees.{BoundTree}
 use Rattle.vx_tree.specs.declared.bound.BoundExpression.{BoundExpression}
 use Rattle.vx_rewrite_fusing.specs.declared.places.Place.{Place}
-use Rattle.vx_rewrite_fusing.specs.Conjuncts.{and_of, Fused}
-use Rattle.vx_rewrite_fusing.specs.Finding.{tree_in, conjoined, Finds}
+use Rattle.vx_rewrite_fusing.specs.Conjuncts.{and_of, tree_in, conjoined, Fused}
+use Rattle.vx_rewrite_fusing.specs.Finding.{Finds}
 use Rattle.vx_rewrite_fusing.specs.Merging.{IsFusedOf}
 use Rattle.vx_rewrite_fusing.specs.Places.{became_place, has_merged, rests, rest_of, IsLeftOver, IsTold}
 use Rattle.vx_rewrite_fusing.specs.Sides.{TreeMerged}

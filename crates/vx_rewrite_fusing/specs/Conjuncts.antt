@@ -1,15 +1,27 @@
 -- The conjuncts of a tree, range comparisons, and when two of them are one Between.
 use Rattle.std.specs.Prelude.{◌≡◌, Bool, true, false, ◌&&◌, ◌||◌, List, [], ◌∷◌, ◌++◌, Option, Some, None, if◌then◌else◌}
+use Rattle.std.specs.declared.alloc.Global.{Global}
+use Rattle.std.specs.declared.boxed.Box.{Box}
 use Rattle.vx_value.specs.Types.{LogicalType, is_nullable}
-use Rattle.vx_fn.specs.Functions.{binary, and_also, compares, Comparison, greater, greater_or_equal, less, less_or_equal, mirrored, between, truth_type}
+use Rattle.vx_fn.specs.Functions.{Operation, binary, and_also, compares, Comparison, equal, not_equal, greater, greater_or_equal, less, less_or_equal, mirrored, between, truth_type}
 use Rattle.vx_dtype.specs.Lists.{IsIn}
 use Rattle.vx_fn.specs.Markers.{is_get_item, is_literal}
 use Rattle.vx_tree.specs.Trees.{BoundTree, scope, node, BoundTrees, no_bound, bound, unbound, node_type}
 use Rattle.vx_tree.specs.Nodes.{is_call_of}
+use Rattle.vx_tree.specs.Views.{bound_of}
+use Rattle.vx_tree.specs.declared.bound.BoundExpression.{BoundExpression}
 
 -- two trees as the children of a node
 abbrev pub two_bounds : BoundTree → BoundTree → BoundTrees
 two_bounds x y = bound x (bound y no_bound)
+
+-- the node has that operation over two children
+abbrev pub IsBinary : Operation → BoundTree → BoundTree → BoundTree → Type 0
+IsBinary op x y b = (t : LogicalType) × (b ≡ node t (binary op) (two_bounds x y))
+
+-- the tree in a box
+abbrev pub tree_in : Box BoundExpression Global → BoundTree
+tree_in b = bound_of b.value
 
 -- ---- conjuncts
 
@@ -30,6 +42,17 @@ is_and b = false
 abbrev pub conjuncts : BoundTree → List BoundTree
 conjuncts (node t (binary and_also) (bound l (bound r no_bound))) = conjuncts l ++ conjuncts r
 conjuncts b = b ∷ []
+
+-- the conjuncts of what is left of a tree, if something is
+abbrev pub conjuncts_left : Option BoundTree → List BoundTree
+conjuncts_left None = []
+conjuncts_left (Some r) = conjuncts r
+
+-- the And of what is left of two trees, or the one of which something is
+abbrev pub conjoined : Option BoundTree → Option BoundTree → Option BoundTree
+conjoined None r = r
+conjoined (Some l) None = Some l
+conjoined (Some l) (Some r) = Some (and_of l r)
 
 -- ---- range comparisons
 
@@ -52,7 +75,8 @@ range greater x y = Some (from_below true x y)
 range greater_or_equal x y = Some (from_below false x y)
 range less x y = Some (from_above true x y)
 range less_or_equal x y = Some (from_above false x y)
-range c x y = None
+range equal x y = None
+range not_equal x y = None
 
 -- the range of a comparison between an item and a literal, which is turned round where the literal is on the left
 abbrev pub range_of : BoundTree → Option Range

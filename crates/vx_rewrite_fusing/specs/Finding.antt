@@ -4,8 +4,7 @@ use Rattle.std.specs.declared.alloc.Global.{Global}
 use Rattle.std.specs.declared.boxed.Box.{Box}
 use Rattle.vx_dtype.specs.declared.error.VortexError.{VortexError}
 use Rattle.vx_dtype.specs.declared.error.VortexError.TheVariants.{OutOfMemory}
-use Rattle.vx_value.specs.Types.{LogicalType}
-use Rattle.vx_fn.specs.Functions.{Operation, compares, binary}
+use Rattle.vx_fn.specs.Functions.{Operation, compares, and_also, or_else, adds}
 use Rattle.vx_fn.specs.Views.{is_strict}
 use Rattle.vx_dtype.specs.Lists.{IsIn}
 use Rattle.vx_tree.specs.Trees.{BoundTree, scope, node, BoundTrees, no_bound, bound}
@@ -14,22 +13,14 @@ use Rattle.vx_tree.specs.declared.bound.BoundExpression.{BoundExpression}
 use Rattle.vx_rewrite_fusing.specs.declared.ranges.RangeComparison.{RangeComparison}
 use Rattle.vx_rewrite_fusing.specs.declared.ranges.Side.{Side}
 use Rattle.vx_rewrite_fusing.specs.declared.ranges.Side.TheVariants.{Below, Above}
-use Rattle.vx_rewrite_fusing.specs.Conjuncts.{two_bounds, and_of, is_and, conjuncts, Range, from_below, from_above, range, range_of, MergeTo, NoneMergeable, Fused}
+use Rattle.vx_rewrite_fusing.specs.Conjuncts.{is_and, conjuncts, conjuncts_left, conjoined, tree_in, Range, from_below, from_above, range, range_of, MergeTo, NoneMergeable, Fused}
 use Rattle.vx_rewrite_fusing.specs.Merging.{Replaced, Removed, IsFirstPair, IsFusedOf, Merges}
-
--- the tree in a box
-abbrev pub tree_in : Box BoundExpression Global → BoundTree
-tree_in b = bound_of b.value
 
 -- None where there is nothing to do, else what is done, or memory ran out
 abbrev pub Finds : {A : Type 0} → Type 0 → (A → Type 0) → Result (Option A) VortexError → Type 0
 Finds nothing done (Ok None) = nothing
 Finds nothing done (Ok (Some a)) = (nothing → ⊥) × done a
 Finds nothing done (Err e) = (nothing → ⊥) × (e ≡ OutOfMemory)
-
--- the node has that operation over two children
-abbrev pub IsBinary : Operation → BoundTree → BoundTree → BoundTree → Type 0
-IsBinary op x y b = (t : LogicalType) × (b ≡ node t (binary op) (two_bounds x y))
 
 -- the node is neither an And nor a range comparison
 abbrev pub IsOther : BoundTree → Type 0
@@ -38,7 +29,9 @@ IsOther b = IsFalse (is_and b) × (range_of b ≡ None)
 -- what the operation between x and y says of x
 abbrev pub range_by : Operation → BoundTree → BoundTree → Option Range
 range_by (compares c) x y = range c x y
-range_by op x y = None
+range_by and_also x y = None
+range_by or_else x y = None
+range_by adds x y = None
 
 -- the range with that side
 abbrev pub range_from : Side → Bool → BoundTree → BoundTree → Range
@@ -80,17 +73,6 @@ pub record PairMerged (l r u : BoundTree) (rest : Option BoundTree) : Type 0 whe
 pub data Pairs : BoundTree → BoundTree → BoundTree → Option BoundTree → Type 0 where
   last_pair : {l r u : BoundTree} {rest : Option BoundTree} → PairMerged l r u rest → Pairs l r u rest
   and_pairs : {l r u s w : BoundTree} {rest : Option BoundTree} → PairMerged l r u (Some s) → Pairs u s w rest → Pairs l r w rest
-
--- the conjuncts of what is left, if something is
-abbrev pub conjuncts_left : Option BoundTree → List BoundTree
-conjuncts_left None = []
-conjuncts_left (Some r) = conjuncts r
-
--- the And of what is left of two trees, or the one of which something is
-abbrev pub conjoined : Option BoundTree → Option BoundTree → Option BoundTree
-conjoined None r = r
-conjoined (Some l) None = Some l
-conjoined (Some l) (Some r) = Some (and_of l r)
 
 -- and no pair is left
 pub record PairsMerged (l r u : BoundTree) (rest : Option BoundTree) : Type 0 where

@@ -20,8 +20,8 @@ use Rattle.vx_rewrite_fusing.specs.declared.places.Place.TheVariants.{Other, Ope
 use Rattle.vx_rewrite_fusing.specs.declared.ranges.RangeComparison.{RangeComparison}
 use Rattle.vx_rewrite_fusing.specs.declared.ranges.Side.{Side}
 use Rattle.vx_rewrite_fusing.specs.declared.ranges.Side.TheVariants.{Below, Above}
-use Rattle.vx_rewrite_fusing.specs.Conjuncts.{and_node, and_of, is_and, range_of, MergeTo}
-use Rattle.vx_rewrite_fusing.specs.Finding.{range_seen, tree_in, conjoined}
+use Rattle.vx_rewrite_fusing.specs.Conjuncts.{and_node, and_of, is_and, range_of, tree_in, conjoined, MergeTo}
+use Rattle.vx_rewrite_fusing.specs.Finding.{range_seen}
 
 -- ---- the ranges of an item
 

@@ -4,8 +4,7 @@ use Rattle.vx_tree.specs.Equality.{equal_bound}
 use Rattle.vx_fn.specs.Functions.{binary, and_also}
 use Rattle.vx_tree.specs.Trees.{BoundTree, node, bound, no_bound}
 use Rattle.vx_rewrite_fusing.specs.declared.places.Place.{Place}
-use Rattle.vx_rewrite_fusing.specs.Conjuncts.{and_of, between_node, conjuncts, Range, from_below, from_above, range_of, Fused}
-use Rattle.vx_rewrite_fusing.specs.Finding.{conjoined}
+use Rattle.vx_rewrite_fusing.specs.Conjuncts.{and_of, between_node, conjuncts, conjoined, Range, from_below, from_above, range_of, Fused}
 use Rattle.vx_rewrite_fusing.specs.Merging.{IsFusedOf}
 use Rattle.vx_rewrite_fusing.specs.Places.{has_merged, Holds, IsWithin, NoPair}
 

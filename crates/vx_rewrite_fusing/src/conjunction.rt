@@ -4,8 +4,8 @@
 ghost use Rattle.std.specs.Prelude.{◌≡◌, ◌+◌, ◌≤◌, IfOk, IsFalse, List, OnOk, length};
 ghost use Rattle.vx_tree.specs.Trees.{WellTyped};
 ghost use Rattle.vx_tree.specs.Views.{bound_of};
-ghost use Rattle.vx_rewrite_fusing.specs.Conjuncts.{conjuncts, Fused};
-ghost use Rattle.vx_rewrite_fusing.specs.Finding.{tree_in, ConjunctsFused, Finds, Unbounded};
+ghost use Rattle.vx_rewrite_fusing.specs.Conjuncts.{conjuncts, tree_in, Fused};
+ghost use Rattle.vx_rewrite_fusing.specs.Finding.{ConjunctsFused, Finds, Unbounded};
 ghost use Rattle.vx_rewrite_fusing.specs.Merging.{IsFusedOf};
 ghost use Rattle.vx_rewrite_fusing.specs.Places.{IsLinked};
 ghost use Rattle.vx_rewrite_fusing.specs.Sides.{CanStandLeft, CanStandRight, IsLeft, IsRight, MergedLeft, MergedRight, TreeMerged};

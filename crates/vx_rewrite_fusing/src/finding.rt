@@ -6,9 +6,9 @@ ghost use Rattle.vx_tree.specs.Nodes.{bound_children_of};
 ghost use Rattle.vx_tree.specs.Trees.{node_type, BoundTree, EachWellTyped, WellTyped};
 ghost use Rattle.vx_tree.specs.Views.{bound_of, bounds_of};
 ghost use Rattle.vx_tree.specs.declared.bound.BoundExpression.{BoundExpression};
-ghost use Rattle.vx_rewrite_fusing.specs.Conjuncts.{Fused, FusedBelow};
+ghost use Rattle.vx_rewrite_fusing.specs.Conjuncts.{tree_in, Fused, FusedBelow};
 ghost use Rattle.vx_rewrite_fusing.specs.Conjuncts as spec;
-ghost use Rattle.vx_rewrite_fusing.specs.Finding.{over_children, tree_in, tree_or, ConjunctsFused, EachFusedOf, Finds, FirstChanged, IsFusedApart};
+ghost use Rattle.vx_rewrite_fusing.specs.Finding.{over_children, tree_or, ConjunctsFused, EachFusedOf, Finds, FirstChanged, IsFusedApart};
 ghost use Rattle.vx_rewrite_fusing.specs.Merging.{IsFusedOf, Merges};
 
 use crate::conjunction::{is_bounded, is_wide, merge_conjuncts};

@@ -15,3 +15,4 @@ pub use finding::find_between;
 pub use laws::{
     fused_stays, fusing_is_unique, merge_shortens, merge_stays_fused, merges_end, merges_keep,
 };
+pub use nodes::{as_and, conjoined};

@@ -6,8 +6,8 @@ ghost use Rattle.vx_dtype.specs.declared.error.VortexError.TheVariants.{OutOfMem
 ghost use Rattle.vx_fn.specs.Functions.{and_also};
 ghost use Rattle.vx_tree.specs.Trees.{BoundTree};
 ghost use Rattle.vx_tree.specs.Views.{bound_of};
-ghost use Rattle.vx_rewrite_fusing.specs.Conjuncts.{conjuncts, is_and, range_of, Fused, FusedBelow, Mergeable, MergeTo, NoneMergeable};
-ghost use Rattle.vx_rewrite_fusing.specs.Finding.{Finds, conjoined, range_seen, tree_in, IsBinary, LeftMerged, MergesSecond, PairsMerged};
+ghost use Rattle.vx_rewrite_fusing.specs.Conjuncts.{conjuncts, is_and, range_of, conjoined, tree_in, Fused, FusedBelow, Mergeable, MergeTo, NoneMergeable, IsBinary};
+ghost use Rattle.vx_rewrite_fusing.specs.Finding.{Finds, range_seen, LeftMerged, MergesSecond, PairsMerged};
 ghost use Rattle.vx_rewrite_fusing.specs.Merging.{IsFusedOf};
 
 use crate::nodes::{and_of, as_and, boxed, conjoined, with_left, with_right};

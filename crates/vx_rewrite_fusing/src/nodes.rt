@@ -5,8 +5,8 @@ ghost use Rattle.vx_fn.specs.Functions.{and_also, truth_type};
 ghost use Rattle.vx_fn.specs.Views.{function_of, operation_of};
 ghost use Rattle.vx_tree.specs.Trees.{node};
 ghost use Rattle.vx_tree.specs.Views.{bound_of, bounds_of};
-ghost use Rattle.vx_rewrite_fusing.specs.Conjuncts.{and_of, is_and};
-ghost use Rattle.vx_rewrite_fusing.specs.Finding.{conjoined, tree_in, IsBinary, IsOther};
+ghost use Rattle.vx_rewrite_fusing.specs.Conjuncts.{and_of, is_and, conjoined, tree_in, IsBinary};
+ghost use Rattle.vx_rewrite_fusing.specs.Finding.{IsOther};
 
 use std::alloc::{AllocError, Global};
 use vx_tree::{BoundExpression, DType, Nullability, Operator, ScalarFnRef, VortexResult};
@@ -34,28 +34,15 @@ pub(crate) fn as_binary(
     }
 }
 
-// The children of an And. Its function is looked at first, since most nodes are none.
-pub(crate) fn as_and(b: &BoundExpression) -> Option<(&BoundExpression, &BoundExpression)>
+/// The children of an And.
+pub fn as_and(b: &BoundExpression) -> Option<(&BoundExpression, &BoundExpression)>
     ensures { MatchOption result (IsFalse (is_and (bound_of b.now))) (λ p. IsBinary and_also (bound_of p.0.now) (bound_of p.1.now) (bound_of b.now)) }
 {
-    let BoundExpression::Scalar {
-        scalar_fn,
-        children,
-        ..
-    } = b
-    else {
-        return None;
-    };
-    let ScalarFnRef::Binary(op) = scalar_fn else {
-        return None;
-    };
+    let (op, l, r) = as_binary(b)?;
     let Operator::And = op else {
         return None;
     };
-    match children.as_slice() {
-        [l, r] => Some((l, r)),
-        _ => None,
-    }
+    Some((l, r))
 }
 
 // How many conjuncts the tree has, up to a limit. Each conjunct that is counted costs two looks at
@@ -131,8 +118,9 @@ pub(crate) fn with_right(
     and_of(alloc, left, Box::into_inner(right))
 }
 
-// The And of what is left of two trees, or the one of which something is.
-pub(crate) fn conjoined(
+/// The And of what is left of two trees, or the one of which something is. Refuses with `OutOfMemory`
+/// alone.
+pub fn conjoined(
     alloc: Global,
     l: Option<Box<BoundExpression>>,
     r: Option<Box<BoundExpression>>,

@@ -2,8 +2,8 @@
 ghost use Rattle.std.specs.Prelude.{◌≡◌, ◌∷◌, ◌++◌, [], IfErr, IfOk, List, MatchOption, None, Ok, Some, false, option_map};
 ghost use Rattle.vx_dtype.specs.declared.error.VortexError.TheVariants.{OutOfMemory};
 ghost use Rattle.vx_tree.specs.Views.{bound_of};
-ghost use Rattle.vx_rewrite_fusing.specs.Finding.{tree_in};
-ghost use Rattle.vx_rewrite_fusing.specs.Finding as spec;
+ghost use Rattle.vx_rewrite_fusing.specs.Conjuncts as spec;
+ghost use Rattle.vx_rewrite_fusing.specs.Conjuncts.{tree_in};
 ghost use Rattle.vx_rewrite_fusing.specs.Places.{became_place, has_merged, rest_of, rests, Holds, IsLeftOver};
 ghost use Rattle.vx_rewrite_fusing.specs.declared.places.Place.{Place};
 

@@ -40,7 +40,7 @@ pub fn result(alloc: Global, plan: &ScanPlan, batch: &Column) -> VortexResult<Co
     requires batch { batch.now.type ≡ scan.batch.type }
     ensures { ReturnsOrOom (λ c. c) result (evaluation (bound_of plan.now.tree) batch.now) }
 {
-    let reader = plan.reader_of(alloc, batch.clone()?)?;
+    let reader = plan.reader_of(batch.clone()?);
     let answer = vx_scan::scan(alloc, &reader, plan);
     drop(reader);
     answer

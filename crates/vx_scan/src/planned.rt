@@ -61,14 +61,12 @@ impl ScanPlan {
     }
 
     /// A reader of the batch that allows just the plan's paths, as [`scan`](crate::scanned::scan) asks where
-    /// the batch is of the plan's type. Refuses with `OutOfMemory` (1) alone.
-    pub fn reader_of(&self, alloc: Global, batch: Column) -> VortexResult<ColumnReader>
-        ensures column { IfOk result (λ r. r.column ≡ batch) }
-        ensures allowed { IfOk result (λ r. r.allowed ≡ self.now.paths) }
-        ensures memory { IfErr result (λ e. e ≡ OutOfMemory) }
+    /// the batch is of the plan's type. Takes no memory.
+    pub fn reader_of(&self, batch: Column) -> ColumnReader<'_>
+        ensures column { result.column ≡ batch }
+        ensures allowed { result.allowed.now ≡ self.now.paths }
     {
-        let allowed = referenced_field_paths(alloc, &self.tree)?;
-        Ok(ColumnReader::new(batch, allowed))
+        ColumnReader::new(batch, &self.paths)
     }
 }
 

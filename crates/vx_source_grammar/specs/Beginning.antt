@@ -2,7 +2,7 @@
 use Rattle.std.specs.Prelude.{ℕ, zero, suc, ◌+◌, true, false, List, [], ◌∷◌, ◌++◌, Option, Some, None, Result, Ok, Err, codes}
 use Rattle.std.specs.Str.{bytes_eq}
 use Rattle.vx_value.specs.Columns.{Constant}
-use Rattle.vx_value.specs.Types.{Name, LogicalType}
+use Rattle.vx_value.specs.Types.{Name, LogicalType, Datum}
 use Rattle.vx_fn.specs.Functions.{Function, literal, get_item, pack, cast, fill_null, zip, is_null, is_not_null, mask}
 use Rattle.vx_tree.specs.Trees.{Tree, root}
 use Rattle.vx_source_types.specs.declared.expectation.Expected.{Expected}
@@ -12,7 +12,7 @@ use Rattle.vx_source_types.specs.Tokens.{Lexeme, word, quoted, number as numeral
 use Rattle.vx_source_types.specs.Names.{name_at, same_word}
 use Rattle.vx_source_types.specs.Reading.{Goes, more, done, refused}
 use Rattle.vx_source_types.specs.TypeReading.{TypeState, type_start, within}
-use Rattle.vx_source_types.specs.Literals.{plain_literal, typed_literal}
+use Rattle.vx_source_types.specs.Literals.{typed_literal}
 use Rattle.vx_source_types.specs.ScalarReading.{suffixed}
 use Rattle.vx_source_types.specs.ValueReading.{Drafted, ValueState, value_start, value_step}
 use Rattle.vx_source_grammar.specs.declared.words.Keyword.{Keyword}
@@ -34,14 +34,18 @@ abbrev pub literal_before : List Frame → ℕ → Lexeme → Result Constant Ex
 literal_before fs r x (Ok c) = node_before fs r (literal c.type c.value) [] x
 literal_before fs r x (Err e) = Err e
 
-abbrev pub value_ends : List Frame → ℕ → Drafted → Lexeme → ExpressionAnswer
-value_ends fs r d (sign DoubleColon) = goes fs (in_type (for_literal d) (type_start r)) r
-value_ends fs r d x = literal_before fs r x (plain_literal d.value)
+-- how a value is read that no type follows
+abbrev pub PlainReading : Type 0
+PlainReading = Datum → Result Constant Expected
 
-abbrev pub value_goes : List Frame → ℕ → Lexeme → Result (Goes ValueState Drafted) Expected → ExpressionAnswer
-value_goes fs r x (Ok (more s)) = goes fs (in_value s) r
-value_goes fs r x (Ok (done d)) = value_ends fs r d x
-value_goes fs r x (Err e) = Err e
+abbrev pub value_ends : PlainReading → List Frame → ℕ → Drafted → Lexeme → ExpressionAnswer
+value_ends plain fs r d (sign DoubleColon) = goes fs (in_type (for_literal d) (type_start r)) r
+value_ends plain fs r d x = literal_before fs r x (plain d.value)
+
+abbrev pub value_goes : PlainReading → List Frame → ℕ → Lexeme → Result (Goes ValueState Drafted) Expected → ExpressionAnswer
+value_goes plain fs r x (Ok (more s)) = goes fs (in_value s) r
+value_goes plain fs r x (Ok (done d)) = value_ends plain fs r d x
+value_goes plain fs r x (Err e) = Err e
 
 abbrev pub fitting : Option Constant → Result Constant Expected
 fitting (Some c) = Ok c

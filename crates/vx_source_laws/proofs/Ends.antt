@@ -9,13 +9,13 @@ use Rattle.vx_source_types.specs.Tokens.{end}
 use Rattle.vx_source_types.specs.Reading.{Goes, more, done}
 use Rattle.vx_source_types.specs.TypeReading.{TypeState, type_step}
 use Rattle.vx_source_types.proofs.TypeEnds.{end_stops as type_stops}
-use Rattle.vx_source_types.specs.Literals.{plain_literal, typed_literal}
+use Rattle.vx_source_types.specs.Literals.{typed_literal}
 use Rattle.vx_source_types.specs.ScalarReading.{in_value as in_scalar_value, value_after}
 use Rattle.vx_source_types.specs.ValueReading.{Drafted, ValueState, value_step}
 use Rattle.vx_source_types.proofs.ScalarEnds.{end_stops as scalar_stops}
-use Rattle.vx_source_grammar.specs.Beginning.{fitting, field_read, literal_before, node_before, type_goes, value_goes}
+use Rattle.vx_source_grammar.specs.Beginning.{PlainReading, fitting, field_read, literal_before, node_before, type_goes, value_goes}
 use Rattle.vx_source_grammar.specs.Closing.{bracket_goes, closes}
-use Rattle.vx_source_grammar.specs.ExpressionReading.{expression_next, expression_step}
+use Rattle.vx_source_grammar.specs.ExpressionReading.{next_by, step_by}
 use Rattle.vx_source_grammar.specs.Joining.{over, reduced}
 use Rattle.vx_source_grammar.specs.States.{condition_part, value_part, else_part, Frame, in_chain, in_not, in_binary, in_like, in_lower, in_upper, in_paren, in_call, in_pack, in_cast, in_case, TypeFor, for_literal, for_cast, for_cast_call, Mode, operand_due, first_child, tight, loose, at_word, at_vortex, at_id, in_options, children_due, at_dot, at_selection, at_exclusion, selected_name, selected_next, first_packed, packed_due, packed_value, pack_end, at_not, at_is, at_is_not, case_due, in_value, in_type, ExpressionState, ExpressionAnswer, when_read}
 
@@ -60,10 +60,10 @@ literal_ends fs r (Err e) = λ u q. (cc)
 value_stops : (s t : ValueState) → ¬ (value_step s end ≡ Ok (more t))
 value_stops s t = λ e. scalar_stops 0 (in_scalar_value s) (in_scalar_value t) (ap (value_after 0 end) e)
 
-value_ended : (fs : List Frame) (r : ℕ) (a : Result (Goes ValueState Drafted) Expected) → ((t : ValueState) → ¬ (a ≡ Ok (more t))) → Ends (value_goes fs r end a)
-value_ended fs r (Ok (more s)) h = absurd (h s refl)
-value_ended fs r (Ok (done d)) h = literal_ends fs r (plain_literal d.value)
-value_ended fs r (Err e) h = λ u q. (cc)
+value_ended : (plain : PlainReading) (fs : List Frame) (r : ℕ) (a : Result (Goes ValueState Drafted) Expected) → ((t : ValueState) → ¬ (a ≡ Ok (more t))) → Ends (value_goes plain fs r end a)
+value_ended plain fs r (Ok (more s)) h = absurd (h s refl)
+value_ended plain fs r (Ok (done d)) h = literal_ends fs r (plain d.value)
+value_ended plain fs r (Err e) h = λ u q. (cc)
 
 type_ended : (fs : List Frame) (r : ℕ) (wanted : TypeFor) (a : Result (Goes TypeState LogicalType) Expected) → ((t : TypeState) → ¬ (a ≡ Ok (more t))) → Ends (type_goes fs r wanted end a)
 type_ended fs r wanted (Ok (more s)) h = absurd (h s refl)
@@ -74,31 +74,31 @@ type_ended fs r wanted (Err e) h = λ u q. (cc)
 
 -- ---- whatever is due
 
-next_ends : (fs : List Frame) (m : Mode) (r : ℕ) → Ends (expression_next fs m r end)
-next_ends fs operand_due r = λ u q. (cc)
-next_ends fs first_child r = λ u q. (cc)
-next_ends fs (tight e) r = closed_ends fs r e
-next_ends fs (loose e) r = closed_ends fs r e
-next_ends fs (at_word a) r = node_ends fs r (get_item a) (root ∷ [])
-next_ends fs (at_vortex a) r = read_ends _ (field_read a r) (λ e u q. (cc))
-next_ends fs (at_id a b) r = read_ends _ (field_read a r) (λ e. node_ends fs r (get_item b) (e ∷ []))
-next_ends fs (in_options b xs opened less) r = λ u q. (cc)
-next_ends fs (children_due f) r = λ u q. (cc)
-next_ends fs (at_dot e) r = λ u q. (cc)
-next_ends fs (at_selection e) r = λ u q. (cc)
-next_ends fs (at_exclusion e) r = λ u q. (cc)
-next_ends fs (selected_name e excludes names) r = λ u q. (cc)
-next_ends fs (selected_next e excludes names) r = λ u q. (cc)
-next_ends fs first_packed r = λ u q. (cc)
-next_ends fs packed_due r = λ u q. (cc)
-next_ends fs packed_value r = λ u q. (cc)
-next_ends fs (pack_end names es) r = node_ends fs r (pack names false) es
-next_ends fs (at_not e) r = λ u q. (cc)
-next_ends fs (at_is e) r = λ u q. (cc)
-next_ends fs (at_is_not e) r = λ u q. (cc)
-next_ends fs case_due r = λ u q. (cc)
-next_ends fs (in_value s) r = value_ended fs r (value_step s end) (value_stops s)
-next_ends fs (in_type wanted s) r = type_ended fs r wanted (type_step s end) (type_stops s)
+next_ends : (plain : PlainReading) (fs : List Frame) (m : Mode) (r : ℕ) → Ends (next_by plain fs m r end)
+next_ends plain fs operand_due r = λ u q. (cc)
+next_ends plain fs first_child r = λ u q. (cc)
+next_ends plain fs (tight e) r = closed_ends fs r e
+next_ends plain fs (loose e) r = closed_ends fs r e
+next_ends plain fs (at_word a) r = node_ends fs r (get_item a) (root ∷ [])
+next_ends plain fs (at_vortex a) r = read_ends _ (field_read a r) (λ e u q. (cc))
+next_ends plain fs (at_id a b) r = read_ends _ (field_read a r) (λ e. node_ends fs r (get_item b) (e ∷ []))
+next_ends plain fs (in_options b xs opened less) r = λ u q. (cc)
+next_ends plain fs (children_due f) r = λ u q. (cc)
+next_ends plain fs (at_dot e) r = λ u q. (cc)
+next_ends plain fs (at_selection e) r = λ u q. (cc)
+next_ends plain fs (at_exclusion e) r = λ u q. (cc)
+next_ends plain fs (selected_name e excludes names) r = λ u q. (cc)
+next_ends plain fs (selected_next e excludes names) r = λ u q. (cc)
+next_ends plain fs first_packed r = λ u q. (cc)
+next_ends plain fs packed_due r = λ u q. (cc)
+next_ends plain fs packed_value r = λ u q. (cc)
+next_ends plain fs (pack_end names es) r = node_ends fs r (pack names false) es
+next_ends plain fs (at_not e) r = λ u q. (cc)
+next_ends plain fs (at_is e) r = λ u q. (cc)
+next_ends plain fs (at_is_not e) r = λ u q. (cc)
+next_ends plain fs case_due r = λ u q. (cc)
+next_ends plain fs (in_value s) r = value_ended plain fs r (value_step s end) (value_stops s)
+next_ends plain fs (in_type wanted s) r = type_ended fs r wanted (type_step s end) (type_stops s)
 
-pub end_stops : (s u : ExpressionState) → ¬ (expression_step s end ≡ Ok (more u))
-end_stops s u = next_ends s.frames s.mode s.room u
+pub end_stops : (plain : PlainReading) (s u : ExpressionState) → ¬ (step_by plain s end ≡ Ok (more u))
+end_stops plain s u = next_ends plain s.frames s.mode s.room u

@@ -99,7 +99,7 @@ no_bracket fs r x s q = refl
 
 pub value_in : {s u : ValueState} {bs ds : List ℕ} (fs : List Frame) (r : ℕ) → Leads value_step s bs u ds → Goes (at fs (in_value s) r) bs (at fs (in_value u) r) ds
 value_in fs r stays = stays
-value_in fs r (leads {x = x} p q h) = leads p (ap (value_goes fs r x) q) (value_in fs r h)
+value_in fs r (leads {x = x} p q h) = leads p (ap (value_goes plain_literal fs r x) q) (value_in fs r h)
 
 -- a value that is read, and the names of its structs
 abbrev pub read_value : Datum → LogicalType → ℕ → ValueState
@@ -134,7 +134,7 @@ literal_of v t fs r behind rest last f u w h e g b =
 
 -- ---- a value alone
 
-no_type : (fs : List Frame) (r : ℕ) (d : Drafted) (x : Lexeme) → is_suffix x ≡ false → value_ends fs r d x ≡ literal_before fs r x (plain_literal d.value)
+no_type : (fs : List Frame) (r : ℕ) (d : Drafted) (x : Lexeme) → is_suffix x ≡ false → value_ends plain_literal fs r d x ≡ literal_before fs r x (plain_literal d.value)
 no_type fs r d (sign DoubleColon) p = cc
 no_type fs r d x p = refl
 

@@ -3,6 +3,7 @@ pub mod Heights
 pub mod Betweens
 pub mod Cases
 pub mod Keywords
+pub mod Marks
 pub mod NameLists
 pub mod Packs
 pub mod ReadAll

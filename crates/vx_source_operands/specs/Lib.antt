@@ -3,5 +3,5 @@ pub mod Places
 pub mod OperandViews
 pub mod NameParts
 pub mod Parts
-pub mod ScalarViews
 pub mod OptionViews
+pub mod PlainViews

@@ -1,6 +1,9 @@
 // What is open around the operand that is being read.
-ghost use Rattle.std.specs.Prelude.{◌≡◌, nat_le, MatchOption};
+ghost use Rattle.std.specs.Prelude.{◌≡◌, List, nat_le, MatchOption};
+ghost use Rattle.vx_fn.specs.Views.{operation_of};
+ghost use Rattle.vx_tree.specs.Trees.{Tree};
 ghost use Rattle.vx_source_grammar.specs.Joining.{level_of};
+ghost use Rattle.vx_source_grammar.specs.States.{in_binary, in_chain};
 ghost use Rattle.vx_source_operands.specs.Levels.{rank_of};
 ghost use Rattle.vx_source_operands.specs.OperandViews.{frame_of};
 
@@ -111,6 +114,40 @@ impl Level {
     }
 }
 
+// How tightly the operator of a chain binds: `or`, or what is read like `and`.
+fn chain_level(operator: Operator) -> Level
+    ensures { (items : List Tree) → level_of (in_chain (operation_of operator) items) ≡ rank_of result }
+{
+    match operator {
+        Operator::Or => Level::Or,
+        Operator::And
+        | Operator::Eq
+        | Operator::NotEq
+        | Operator::Gt
+        | Operator::Gte
+        | Operator::Lt
+        | Operator::Lte
+        | Operator::Add => Level::And,
+    }
+}
+
+// How tightly an operator between two operands binds.
+fn binary_level(operator: Operator) -> Level
+    ensures { (lhs : Tree) → level_of (in_binary (operation_of operator) lhs) ≡ rank_of result }
+{
+    match operator {
+        Operator::Add => Level::Sum,
+        Operator::Eq
+        | Operator::NotEq
+        | Operator::Gt
+        | Operator::Gte
+        | Operator::Lt
+        | Operator::Lte
+        | Operator::And
+        | Operator::Or => Level::Comparison,
+    }
+}
+
 impl Frame {
     /// Whether this waits for its last operand, and binds at least as tightly as the level.
     pub fn binds_at(&self, level: Level) -> bool
@@ -127,12 +164,16 @@ impl Frame {
         ensures { MatchOption result (level_of (frame_of self.now) ≡ 0) (λ own. level_of (frame_of self.now) ≡ rank_of own) }
     {
         match self {
-            Frame::Chain(Operator::Or, _) => Some(Level::Or),
-            Frame::Chain(_, _) => Some(Level::And),
+            Frame::Chain(operator, _) => Some(chain_level(*operator)),
             Frame::Not(_) => Some(Level::Not),
-            Frame::Binary(Operator::Add, _) => Some(Level::Sum),
-            Frame::Binary(_, _) | Frame::Like(_, _) | Frame::Upper(_) => Some(Level::Comparison),
-            _ => None,
+            Frame::Binary(operator, _) => Some(binary_level(*operator)),
+            Frame::Like(_, _) | Frame::Upper(_) => Some(Level::Comparison),
+            Frame::Lower(_)
+            | Frame::Paren(_)
+            | Frame::Call(_, _, _)
+            | Frame::Pack(_, _, _)
+            | Frame::Cast(_)
+            | Frame::Case(_, _, _) => None,
         }
     }
 }

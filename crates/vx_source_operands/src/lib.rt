@@ -1,6 +1,7 @@
 // The operands of source text: literals, names, and functions with their options.
 #![tactic(auto)]
 
+mod context;
 mod frame;
 mod functions;
 mod joining;
@@ -10,17 +11,22 @@ mod operand;
 mod operators;
 mod options;
 mod parts;
+mod plain;
 mod refusals;
 mod scalars;
 mod state;
 mod types;
 
+pub use context::Context;
 pub use frame::{Bracket, Callee, CasePart, Frame, Level, OpenRange};
 pub use functions::plain_function;
 pub use joining::reduce;
 pub use nodes::{enclosed, node, node_over, root};
 pub use operand::{Operand, Places};
+pub use operators::comparison;
 pub use options::function_of;
+pub use plain::PlainValues;
 pub use state::{
-    ExpressionReader, ExpressionStep, Mode, OptionsSoFar, TypeFor, begun_at, more, tight, type_due,
+    ExpressionReader, ExpressionStep, Mode, OptionsSoFar, SelectionSoFar, TypeFor, begun_at, more,
+    tight, type_due,
 };

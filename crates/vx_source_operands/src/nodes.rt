@@ -8,11 +8,12 @@ ghost use Rattle.vx_source_grammar.specs.Nodes.{heights_of};
 ghost use Rattle.vx_source_operands.specs.Places.{ReadsUpTo};
 ghost use Rattle.vx_source_operands.specs.OperandViews.{operand_of, operands_of};
 
+use crate::context::Context;
 use crate::operand::{Operand, Places};
 use std::alloc::{AllocError, Global};
-use std::rc::Rc;
+use std::sync::Arc;
 use vx_fn::ScalarFnRef;
-use vx_source_types::{Expected, Found, ParseError, expected};
+use vx_source_types::{Expected, ParseError, expected};
 use vx_tree::Expression;
 
 /// The scope root, read from these bytes.
@@ -53,15 +54,14 @@ pub fn enclosed(operand: Operand, start: usize, end: usize) -> Operand
 /// The node of the function over the operands, read from these bytes. Refuses with `LessNesting`, at what was found, one
 /// that is higher than the room.
 pub fn node(
-    alloc: Global,
+    context: Context,
     scalar_fn: ScalarFnRef,
     operands: Vec<Operand>,
     bytes: (usize, usize),
-    room: usize,
-    found: &Found,
 ) -> Result<Operand, ParseError>
-    ensures reads { ReadsUpTo found.now.at operand_of result (over (function_of scalar_fn) (operands_of operands.items) room) }
+    ensures reads { ReadsUpTo context.entry.found.now.at operand_of result (over (function_of scalar_fn) (operands_of operands.items) context.entry.room) }
 {
+    let Context { alloc, room, found } = context;
     let highest = highest(operands.as_slice());
     if highest >= room {
         return Err(expected(found, Expected::LessNesting));
@@ -70,7 +70,7 @@ pub fn node(
     let (start, end) = bytes;
     let tree = Expression::Scalar {
         scalar_fn,
-        children: Rc::new(alloc, trees)?,
+        children: Arc::new(alloc, trees)?,
     };
     Ok(Operand {
         tree: Box::new(alloc, tree)?,
@@ -113,31 +113,27 @@ fn taken_apart(
 
 /// The node of the function over one operand, read from these bytes. Refuses as `node` does.
 pub fn node_over(
-    alloc: Global,
+    context: Context,
     scalar_fn: ScalarFnRef,
     operand: Operand,
     bytes: (usize, usize),
-    room: usize,
-    found: &Found,
 ) -> Result<Operand, ParseError>
-    ensures reads { ReadsUpTo found.now.at operand_of result (over (function_of scalar_fn) (operand_of operand ∷ []) room) }
+    ensures reads { ReadsUpTo context.entry.found.now.at operand_of result (over (function_of scalar_fn) (operand_of operand ∷ []) context.entry.room) }
 {
-    let operands = Vec::from_array(alloc, [operand])?;
-    node(alloc, scalar_fn, operands, bytes, room, found)
+    let operands = Vec::from_array(context.alloc, [operand])?;
+    node(context, scalar_fn, operands, bytes)
 }
 
 /// The node of the function over two operands, read from the first to the second. Refuses as `node` does.
 pub fn node_between(
-    alloc: Global,
+    context: Context,
     scalar_fn: ScalarFnRef,
     lhs: Operand,
     rhs: Operand,
-    room: usize,
-    found: &Found,
 ) -> Result<Operand, ParseError>
-    ensures reads { ReadsUpTo found.now.at operand_of result (over (function_of scalar_fn) (operand_of lhs ∷ operand_of rhs ∷ []) room) }
+    ensures reads { ReadsUpTo context.entry.found.now.at operand_of result (over (function_of scalar_fn) (operand_of lhs ∷ operand_of rhs ∷ []) context.entry.room) }
 {
     let bytes = (lhs.places.start, rhs.places.end);
-    let operands = Vec::from_array(alloc, [lhs, rhs])?;
-    node(alloc, scalar_fn, operands, bytes, room, found)
+    let operands = Vec::from_array(context.alloc, [lhs, rhs])?;
+    node(context, scalar_fn, operands, bytes)
 }

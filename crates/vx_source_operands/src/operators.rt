@@ -1,12 +1,14 @@
 // The options of operators and comparisons, and of a CASE.
 ghost use Rattle.std.specs.Prelude.{◌≡◌, option_map};
+ghost use Rattle.vx_fn.specs.Functions.{compares};
 ghost use Rattle.vx_fn.specs.Views.{operation_of, is_strict};
+ghost use Rattle.vx_source_grammar.specs.Following.{comparison_of};
 ghost use Rattle.vx_source_grammar.specs.OptionReading.{between_read, case_read, like_at, like_read, operation_at, operator_read, strict_at, truth_at};
 ghost use Rattle.vx_source_operands.specs.OperandViews.{lexeme_in, lexemes_of};
-ghost use Rattle.vx_source_operands.specs.Parts.{assigned, case_else, case_inside};
+ghost use Rattle.vx_source_operands.specs.Parts.{case_else, case_inside};
 ghost use Rattle.vx_source_operands.specs.OptionViews.{binary_of, like_of, between_of, case_of};
 
-use crate::parts::{behind_comma, is_keyword, labelled, labelled_last};
+use crate::parts::{assigned, behind_comma, is_keyword, labelled, labelled_last};
 use vx_fn::{BetweenOptions, CaseWhenOptions, LikeOptions, Operator, StrictComparison};
 use vx_source_types::{Found, Sign, Token, is_word, length_of};
 
@@ -20,17 +22,40 @@ pub(crate) fn operator(options: &[Found]) -> Option<Operator>
     operator_at(only)
 }
 
+/// The comparison of a sign.
+pub fn comparison(sign: Sign) -> Option<Operator>
+    ensures { option_map operation_of result ≡ option_map compares (comparison_of sign) }
+{
+    match sign {
+        Sign::Equal => Some(Operator::Eq),
+        Sign::NotEqual => Some(Operator::NotEq),
+        Sign::Less => Some(Operator::Lt),
+        Sign::LessEqual => Some(Operator::Lte),
+        Sign::Greater => Some(Operator::Gt),
+        Sign::GreaterEqual => Some(Operator::Gte),
+        Sign::OpenParen
+        | Sign::CloseParen
+        | Sign::OpenBracket
+        | Sign::CloseBracket
+        | Sign::OpenBrace
+        | Sign::CloseBrace
+        | Sign::Comma
+        | Sign::Colon
+        | Sign::DoubleColon
+        | Sign::Dot
+        | Sign::Question
+        | Sign::Tilde
+        | Sign::Plus
+        | Sign::Dollar => None,
+    }
+}
+
 fn operator_at(found: &Found) -> Option<Operator>
     ensures { option_map operation_of result ≡ operation_at (lexeme_in found.now) }
 {
     match &found.token {
-        Token::Sign(Sign::Equal) => Some(Operator::Eq),
-        Token::Sign(Sign::NotEqual) => Some(Operator::NotEq),
-        Token::Sign(Sign::Greater) => Some(Operator::Gt),
-        Token::Sign(Sign::GreaterEqual) => Some(Operator::Gte),
-        Token::Sign(Sign::Less) => Some(Operator::Lt),
-        Token::Sign(Sign::LessEqual) => Some(Operator::Lte),
         Token::Sign(Sign::Plus) => Some(Operator::Add),
+        Token::Sign(sign) => comparison(*sign),
         Token::Word(name) => {
             if is_word(name, "and") {
                 Some(Operator::And)
@@ -140,52 +165,22 @@ fn case_inside(options: &[Found]) -> Option<&[Found]>
     }
 }
 
-// The token behind that word and an equals sign, and what is left behind it.
-fn assigned<'a>(tokens: &'a [Found], word: &str) -> Option<(&'a Found, &'a [Found])>
-    ensures { option_map (λ p. (lexeme_in p.0.now, lexemes_of p.1.now)) result ≡ assigned word.now (lexemes_of tokens.now) }
-{
-    let [
-        label,
-        Found {
-            token: Token::Sign(Sign::Equal),
-            ..
-        },
-        value,
-        rest @ ..,
-    ] = tokens
-    else {
-        return None;
-    };
-    if is_keyword(label, word) {
-        Some((value, rest))
-    } else {
-        None
-    }
-}
-
 // The token behind the word `else` and an equals sign, where the closing parenthesis is all that is left behind it.
+#[tactic(auto, using(crate::proofs::Marks::case_else_is))]
 fn case_else(tokens: &[Found]) -> Option<&Found>
     ensures { option_map (λ value. lexeme_in value.now) result ≡ case_else (lexemes_of tokens.now) }
 {
-    let [
-        label,
-        Found {
-            token: Token::Sign(Sign::Equal),
-            ..
-        },
-        value,
-        Found {
-            token: Token::Sign(Sign::CloseParen),
-            ..
-        },
-    ] = tokens
-    else {
-        return None;
-    };
-    if is_keyword(label, "else") {
-        Some(value)
-    } else {
-        None
+    match assigned(tokens, "else")? {
+        (
+            value,
+            [
+                Found {
+                    token: Token::Sign(Sign::CloseParen),
+                    ..
+                },
+            ],
+        ) => Some(value),
+        _ => None,
     }
 }
 

@@ -8,6 +8,7 @@ ghost use Rattle.vx_source_operands.specs.Places.{ReadsUpTo};
 ghost use Rattle.vx_source_operands.specs.OperandViews.{lexemes_of};
 ghost use Rattle.vx_source_operands.specs.Parts.{read_by, sign_readers};
 
+use crate::context::Context;
 use crate::functions::plain_function;
 use crate::names::{item, pack, select};
 use crate::operators::{between, case_when, like, operator};
@@ -19,46 +20,42 @@ use vx_fn::ScalarFnRef;
 use vx_source_types::{Expected, Found, ParseError, expected, is_word};
 use vx_types::FieldName;
 
-/// The function of that name with the options, of which `end` is the bracket behind the last, and with that many brackets
-/// allowed inside one another in them. Refuses at the token that doesn't fit, or at the bracket, with what would have stood
-/// right.
+/// The function of that name with the options, where the bracket behind the last was found, and with as many brackets allowed
+/// inside one another in them as there is room. Refuses at the token that doesn't fit, or at the bracket, with what would have
+/// stood right.
 pub fn function_of(
-    alloc: Global,
+    context: Context,
     name: &FieldName,
     options: &[Found],
-    room: usize,
-    end: &Found,
 ) -> Result<ScalarFnRef, ParseError>
-    ensures reads { ReadsUpTo end.now.at function_of result (function_read name.now (lexemes_of options.now) room) }
+    ensures reads { ReadsUpTo context.entry.found.now.at function_of result (function_read name.now (lexemes_of options.now) context.entry.room) }
 {
     match plain_function(name) {
         Some(scalar_fn) => match options {
             [] => Ok(scalar_fn),
-            [first, ..] => Err(refusal_in(first, end, Expected::CloseBracket)),
+            [first, ..] => Err(refusal_in(first, context.found, Expected::CloseBracket)),
         },
-        None => with_options(alloc, name, options, room, end),
+        None => with_options(context, name, options),
     }
 }
 
 // The same, where no function without options has the name.
 fn with_options(
-    alloc: Global,
+    context: Context,
     name: &FieldName,
     options: &[Found],
-    room: usize,
-    end: &Found,
 ) -> Result<ScalarFnRef, ParseError>
-    ensures reads { ReadsUpTo end.now.at function_of result (option_read name.now (lexemes_of options.now) room None) }
+    ensures reads { ReadsUpTo context.entry.found.now.at function_of result (option_read name.now (lexemes_of options.now) context.entry.room None) }
 {
     if is_word(name, "literal") {
-        return Ok(ScalarFnRef::Literal(scalar(alloc, options, room, end)?));
+        return Ok(ScalarFnRef::Literal(scalar(context, options)?));
     }
     if is_word(name, "cast") {
-        return Ok(ScalarFnRef::Cast(dtype(alloc, options, room, end)?));
+        return Ok(ScalarFnRef::Cast(dtype(context, options)?));
     }
-    match other(alloc, name, options)? {
+    match other(context.alloc, name, options)? {
         Some(scalar_fn) => Ok(scalar_fn),
-        None => Err(expected(end, Expected::Options)),
+        None => Err(expected(context.found, Expected::Options)),
     }
 }
 

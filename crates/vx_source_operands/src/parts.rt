@@ -2,7 +2,7 @@
 ghost use Rattle.std.specs.Prelude.{◌≡◌, option_map};
 ghost use Rattle.vx_source_grammar.specs.OptionReading.{is_keyword};
 ghost use Rattle.vx_source_operands.specs.OperandViews.{lexeme_in, lexemes_of};
-ghost use Rattle.vx_source_operands.specs.Parts.{labelled, labelled_last, behind_comma};
+ghost use Rattle.vx_source_operands.specs.Parts.{assigned, behind_comma, labelled, labelled_last};
 
 use vx_source_types::{Found, Sign, Token, is_word};
 
@@ -40,22 +40,34 @@ pub(crate) fn labelled<'a>(tokens: &'a [Found], word: &str) -> Option<(&'a Found
 }
 
 // The same, where nothing is left.
+#[tactic(auto, using(crate::proofs::Marks::labelled_last_is))]
 pub(crate) fn labelled_last<'a>(tokens: &'a [Found], word: &str) -> Option<&'a Found>
     ensures { option_map (λ value. lexeme_in value.now) result ≡ labelled_last word.now (lexemes_of tokens.now) }
+{
+    match labelled(tokens, word)? {
+        (value, []) => Some(value),
+        _ => None,
+    }
+}
+
+// The token behind that word and an equals sign, and what is left behind it.
+pub(crate) fn assigned<'a>(tokens: &'a [Found], word: &str) -> Option<(&'a Found, &'a [Found])>
+    ensures { option_map (λ p. (lexeme_in p.0.now, lexemes_of p.1.now)) result ≡ assigned word.now (lexemes_of tokens.now) }
 {
     let [
         label,
         Found {
-            token: Token::Sign(Sign::Colon),
+            token: Token::Sign(Sign::Equal),
             ..
         },
         value,
+        rest @ ..,
     ] = tokens
     else {
         return None;
     };
     if is_keyword(label, word) {
-        Some(value)
+        Some((value, rest))
     } else {
         None
     }

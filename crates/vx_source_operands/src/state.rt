@@ -6,6 +6,7 @@ ghost use Rattle.vx_source_types.specs.TypeReading.{type_start};
 ghost use Rattle.vx_source_grammar.specs.States.{expression_start, in_type, tight};
 ghost use Rattle.vx_source_operands.specs.OperandViews.{frames_of, mode_of, operand_of, reader_of, step_of, type_for};
 
+use crate::context::Context;
 use crate::frame::{Bracket, Frame};
 use crate::operand::Operand;
 use std::alloc::{AllocError, Global};
@@ -39,6 +40,17 @@ pub struct OptionsSoFar {
     pub start: usize,
 }
 
+/// The names of a selection, read so far.
+#[derive(Drop)]
+pub struct SelectionSoFar {
+    /// What fields are selected of.
+    pub operand: Operand,
+    /// Whether the names are left out, and not kept.
+    pub excludes: bool,
+    /// The names.
+    pub names: Vec<FieldName>,
+}
+
 /// What is due next. What is large and rare lies behind a pointer, since this moves at each token.
 #[derive(Drop)]
 pub enum Mode {
@@ -66,10 +78,10 @@ pub enum Mode {
     Selection(Operand),
     /// The names of an exclusion, or the closing brace.
     Exclusion(Operand),
-    /// The names of a selection so far, left out or kept: another name is due.
-    SelectionName(Operand, bool, Vec<FieldName>),
-    /// The names of a selection so far, left out or kept: a comma or the closing brace is due.
-    SelectionNext(Operand, bool, Vec<FieldName>),
+    /// Another name of a selection.
+    SelectionName(SelectionSoFar),
+    /// A comma behind a name of a selection, or the closing brace.
+    SelectionNext(SelectionSoFar),
     /// The first name of a struct that is packed, or its end. The struct begins at that byte.
     FirstPacked(usize),
     /// The name of a child of a struct that is packed.
@@ -139,19 +151,18 @@ pub fn tight(frames: Vec<Frame>, room: usize, operand: Operand) -> ExpressionSte
     more(frames, Mode::Tight(operand), room)
 }
 
-/// A type is due, of which nothing is read yet. The token before it ends at that byte.
+/// A type is due behind the token, of which nothing is read yet.
 pub fn type_due(
-    alloc: Global,
+    context: Context,
     frames: Vec<Frame>,
-    room: usize,
     wanted: TypeFor,
-    end: usize,
 ) -> Result<ExpressionStep, AllocError>
-    ensures { IfOk result (λ step. step_of step ≡ more (record { frames = frames_of frames.items; mode = in_type (type_for wanted) (type_start room); room = room })) }
+    ensures { IfOk result (λ step. step_of step ≡ more (record { frames = frames_of frames.items; mode = in_type (type_for wanted) (type_start context.entry.room); room = context.entry.room })) }
 {
+    let Context { alloc, room, found } = context;
     let wanted = Box::new(alloc, wanted)?;
     let reader = Box::new(alloc, TypeReader::new(alloc, room))?;
-    Ok(more(frames, Mode::Type(wanted, reader, end), room))
+    Ok(more(frames, Mode::Type(wanted, reader, found.end), room))
 }
 
 /// What began at that byte, which lies before the token, isn't what would have stood right.

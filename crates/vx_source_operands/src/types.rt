@@ -7,20 +7,21 @@ ghost use Rattle.vx_source_operands.specs.Places.{ReadsUpTo};
 ghost use Rattle.vx_source_operands.specs.OperandViews.{lexeme_in, lexemes_of};
 ghost use Rattle.vx_source_operands.specs.Parts.{all_read, goes_on};
 
+use crate::context::Context;
 use crate::refusals::{bracket, no_later, refusal_in};
 use std::alloc::Global;
 use vx_source_types::{Expected, Found, ParseError, TypeReader, TypeStep, expected};
 use vx_types::DType;
 
-// The type that the tokens say, of which `end` is the bracket behind the last.
-pub(crate) fn dtype(
-    alloc: Global,
-    tokens: &[Found],
-    room: usize,
-    end: &Found,
-) -> Result<DType, ParseError>
-    ensures reads { ReadsUpTo end.now.at type_of result (read_all type_step (type_start room) (lexemes_of tokens.now)) }
+// The type that the tokens say, where the bracket behind the last was found.
+pub(crate) fn dtype(context: Context, tokens: &[Found]) -> Result<DType, ParseError>
+    ensures reads { ReadsUpTo context.entry.found.now.at type_of result (read_all type_step (type_start context.entry.room) (lexemes_of tokens.now)) }
 {
+    let Context {
+        alloc,
+        room,
+        found: end,
+    } = context;
     let mut reader = TypeReader::new(alloc, room);
     for found in tokens {
         reader = more_of_type(alloc, reader, found, end)?;

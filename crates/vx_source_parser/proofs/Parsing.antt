@@ -7,7 +7,8 @@ use Rattle.vx_tree.specs.Trees.{Tree}
 use Rattle.vx_source_types.specs.Reading.{Goes, more, Step, Leads, stops_at, IsRead}
 use Rattle.vx_source_types.proofs.Reading.{forward}
 use Rattle.vx_source_types.specs.ScalarReading.{ParsesWithin}
-use Rattle.vx_source_grammar.specs.ExpressionReading.{expression_step}
+use Rattle.vx_source_grammar.specs.Beginning.{PlainReading}
+use Rattle.vx_source_grammar.specs.ExpressionReading.{expression_step, step_by}
 use Rattle.vx_source_grammar.specs.States.{ExpressionState, expression_start}
 use Rattle.vx_source_writer.specs.SourceTexts.{source}
 use Rattle.vx_source_laws.specs.Nesting.{nesting}
@@ -23,10 +24,10 @@ stopped_up_to step view other OutOfMemory from at h p q l = tt
 stopped_up_to step {bs = bs} view other (Unexpected place e) from at h p q l = (omega (arith, q.0), (skip false (drop from bs), stops_at h p q.1))
 
 -- a token that is a part of an expression takes some of the text
-pub takes_some : (s u : ExpressionState) (bs : List ℕ) (from at to : ℕ) (x : Lexeme) (cs : List ℕ) → first (drop from bs) ≡ (x, cs) → drop at bs ≡ skip false (drop from bs) → from ≤ at → at ≤ to
-    → (at < length bs → at < to) → expression_step s x ≡ Ok (more u) → from < to
-takes_some s u bs from at to x cs p q h k l e =
-    forward bs from at to x cs p q h k l (λ n. end_stops s u (subst (λ y. expression_step s y ≡ Ok (more u)) n e))
+pub takes_some : (plain : PlainReading) (s u : ExpressionState) (bs : List ℕ) (from at to : ℕ) (x : Lexeme) (cs : List ℕ) → first (drop from bs) ≡ (x, cs) → drop at bs ≡ skip false (drop from bs) → from ≤ at → at ≤ to
+    → (at < length bs → at < to) → step_by plain s x ≡ Ok (more u) → from < to
+takes_some plain s u bs from at to x cs p q h k l e =
+    forward bs from at to x cs p q h k l (λ n. end_stops plain s u (subst (λ y. step_by plain s y ≡ Ok (more u)) n e))
 
 -- the source text of an expression is read as it
 pub written_is_read : (e : Tree) (room : ℕ) (bs : List ℕ) → IsSpelledTree e → nesting e ≤ room → bs ≡ source e → IsRead expression_step (expression_start room) bs e

@@ -1,8 +1,18 @@
--- What was read with its places.
+-- What was read with its places, and texts that are read twice.
+use Rattle.std.specs.Prelude.{ℕ, List, false, true}
 use Rattle.vx_tree.specs.Trees.{Tree}
 use Rattle.vx_tree.specs.Views.{tree_of}
+use Rattle.vx_source_types.specs.Literals.{open_literal}
+use Rattle.vx_source_types.specs.Reading.{IsRead}
+use Rattle.vx_source_grammar.specs.ExpressionReading.{step_by}
+use Rattle.vx_source_grammar.specs.States.{expression_start}
 use Rattle.vx_source_parser.specs.declared.whole.Placed.{Placed}
 
 -- the tree that was read
 abbrev pub tree_in : Placed → Tree
 tree_in p = tree_of p.expression
+
+-- the text is read as both trees, as the first with one type of each literal that has none there, and as the second with
+-- another one
+abbrev pub AreReadings : ℕ → List ℕ → Tree → Tree → Type 0
+AreReadings limit text e d = IsRead (step_by (open_literal false)) (expression_start limit) text e × IsRead (step_by (open_literal true)) (expression_start limit) text d

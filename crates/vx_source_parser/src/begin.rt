@@ -10,63 +10,57 @@ ghost use Rattle.vx_source_operands.specs.OperandViews.{frame_of, frames_of, ope
 
 use crate::postfix::field;
 use crate::values::literal;
-use std::alloc::Global;
 use vx_source_grammar::{Keyword, as_keyword};
 use vx_source_operands::{
-    Bracket, CasePart, ExpressionStep, Frame, Mode, Operand, more, root, tight,
+    Bracket, CasePart, Context, ExpressionStep, Frame, Mode, Operand, more, root, tight,
 };
 use vx_source_types::{
-    Expected, Found, ParseError, Sign, Token, ValueReader, ValueStep, expected, inside, refusal,
-    suffixed,
+    Expected, ParseError, Sign, Token, ValueReader, ValueStep, expected, inside, refusal, suffixed,
 };
 use vx_types::FieldName;
 
 // What begins with the token, where an operand is due.
-pub(crate) fn begin(
-    alloc: Global,
-    frames: Vec<Frame>,
-    room: usize,
-    found: &Found,
-) -> Result<ExpressionStep, ParseError>
-    ensures reads { ReadsUpTo found.now.at step_of result (begins (frames_of frames.items) room (lexeme_of found.now.token)) }
+pub(crate) fn begin(context: Context, frames: Vec<Frame>) -> Result<ExpressionStep, ParseError>
+    ensures reads { ReadsUpTo context.entry.found.now.at step_of result (begins (frames_of frames.items) context.entry.room (lexeme_of context.entry.found.now.token)) }
 {
+    let found = context.found;
     match &found.token {
         Token::Word(name) => match as_keyword(name) {
-            None => Ok(more(frames, Mode::Word(name.clone()?, found.at, found.end), room)),
-            Some(Keyword::Null) | Some(Keyword::True) | Some(Keyword::False) => {
-                begin_value(alloc, frames, room, found)
+            None => {
+                let mode = Mode::Word(name.clone()?, found.at, found.end);
+                Ok(more(frames, mode, context.room))
             }
-            Some(Keyword::Not) => begin_not(frames, room, found),
-            Some(Keyword::Case) => begin_case(alloc, frames, room, found),
+            Some(Keyword::Null) | Some(Keyword::True) | Some(Keyword::False) => {
+                begin_value(context, frames)
+            }
+            Some(Keyword::Not) => begin_not(context, frames),
+            Some(Keyword::Case) => begin_case(context, frames),
             Some(_) => Err(expected(found, Expected::Operand)),
         },
         Token::Quoted(name) => {
             let bytes = (found.at, found.end);
-            let operand = field_of_root(alloc, name.clone()?, bytes, room, found)?;
-            Ok(tight(frames, room, operand))
+            let operand = field_of_root(context, name.clone()?, bytes)?;
+            Ok(tight(frames, context.room, operand))
         }
         Token::Sign(Sign::Dollar) => {
-            let operand = root(alloc, found.at, found.end)?;
-            Ok(tight(frames, room, operand))
+            let operand = root(context.alloc, found.at, found.end)?;
+            Ok(tight(frames, context.room, operand))
         }
-        Token::Sign(Sign::OpenParen) => begin_paren(frames, room, found),
-        Token::Number { .. } => begin_number(alloc, frames, room, found),
+        Token::Sign(Sign::OpenParen) => begin_paren(context, frames),
+        Token::Number { .. } => begin_number(context, frames),
         Token::Text(_)
         | Token::Octets(_)
         | Token::Sign(Sign::OpenBracket)
-        | Token::Sign(Sign::OpenBrace) => begin_value(alloc, frames, room, found),
+        | Token::Sign(Sign::OpenBrace) => begin_value(context, frames),
         _ => Err(refusal(found, Expected::Operand)),
     }
 }
 
 // A bracket around an operand.
-fn begin_paren(
-    mut frames: Vec<Frame>,
-    room: usize,
-    found: &Found,
-) -> Result<ExpressionStep, ParseError>
-    ensures reads { ReadsUpTo found.now.at step_of result (within room (λ less. goes (in_paren room ∷ frames_of frames.items) operand_due less)) }
+fn begin_paren(context: Context, mut frames: Vec<Frame>) -> Result<ExpressionStep, ParseError>
+    ensures reads { ReadsUpTo context.entry.found.now.at step_of result (within context.entry.room (λ less. goes (in_paren context.entry.room ∷ frames_of frames.items) operand_due less)) }
 {
+    let Context { room, found, .. } = context;
     let less = inside(room, found)?;
     let start = found.at;
     frames.push(Frame::Paren(Bracket { start, room }))?;
@@ -74,14 +68,10 @@ fn begin_paren(
 }
 
 // A CASE.
-fn begin_case(
-    alloc: Global,
-    mut frames: Vec<Frame>,
-    room: usize,
-    found: &Found,
-) -> Result<ExpressionStep, ParseError>
-    ensures reads { ReadsUpTo found.now.at step_of result (within room (λ less. goes (in_case condition_part [] room ∷ frames_of frames.items) case_due less)) }
+fn begin_case(context: Context, mut frames: Vec<Frame>) -> Result<ExpressionStep, ParseError>
+    ensures reads { ReadsUpTo context.entry.found.now.at step_of result (within context.entry.room (λ less. goes (in_case condition_part [] context.entry.room ∷ frames_of frames.items) case_due less)) }
 {
+    let Context { alloc, room, found } = context;
     let less = inside(room, found)?;
     let start = found.at;
     let bracket = Bracket { start, room };
@@ -90,52 +80,43 @@ fn begin_case(
 }
 
 // `not` binds more loosely than a comparison and `+`, so it is no operand of theirs.
-fn begin_not(
-    mut frames: Vec<Frame>,
-    room: usize,
-    found: &Found,
-) -> Result<ExpressionStep, ParseError>
-    ensures reads { ReadsUpTo found.now.at step_of result (not_begins (frames_of frames.items) room) }
+fn begin_not(context: Context, mut frames: Vec<Frame>) -> Result<ExpressionStep, ParseError>
+    ensures reads { ReadsUpTo context.entry.found.now.at step_of result (not_begins (frames_of frames.items) context.entry.room) }
 {
     match frames.pop() {
-        Some(frame) => begin_not_in(frames, frame, room, found),
+        Some(frame) => begin_not_in(context, frames, frame),
         None => {
-            frames.push(Frame::Not(found.at))?;
-            Ok(more(frames, Mode::Operand, room))
+            frames.push(Frame::Not(context.found.at))?;
+            Ok(more(frames, Mode::Operand, context.room))
         }
     }
 }
 
 // The same, where that frame is the innermost.
 fn begin_not_in(
+    context: Context,
     mut frames: Vec<Frame>,
     frame: Frame,
-    room: usize,
-    found: &Found,
 ) -> Result<ExpressionStep, ParseError>
-    ensures reads { ReadsUpTo found.now.at step_of result (not_begins (frame_of frame ∷ frames_of frames.items) room) }
+    ensures reads { ReadsUpTo context.entry.found.now.at step_of result (not_begins (frame_of frame ∷ frames_of frames.items) context.entry.room) }
 {
     match &frame {
         Frame::Binary(_, _) | Frame::Like(_, _) | Frame::Lower(_) | Frame::Upper(_) => {
-            Err(expected(found, Expected::OperandOrParens))
+            Err(expected(context.found, Expected::OperandOrParens))
         }
         _ => {
             frames.push(frame)?;
-            frames.push(Frame::Not(found.at))?;
-            Ok(more(frames, Mode::Operand, room))
+            frames.push(Frame::Not(context.found.at))?;
+            Ok(more(frames, Mode::Operand, context.room))
         }
     }
 }
 
 // A value, whose type may follow.
-fn begin_value(
-    alloc: Global,
-    frames: Vec<Frame>,
-    room: usize,
-    found: &Found,
-) -> Result<ExpressionStep, ParseError>
-    ensures reads { ReadsUpTo found.now.at step_of result (value_begins (frames_of frames.items) room (lexeme_of found.now.token)) }
+fn begin_value(context: Context, frames: Vec<Frame>) -> Result<ExpressionStep, ParseError>
+    ensures reads { ReadsUpTo context.entry.found.now.at step_of result (value_begins (frames_of frames.items) context.entry.room (lexeme_of context.entry.found.now.token)) }
 {
+    let Context { alloc, room, found } = context;
     match ValueReader::new(alloc, room).step(alloc, found)? {
         ValueStep::More(reader) => {
             let reader = Box::new(alloc, reader)?;
@@ -146,35 +127,28 @@ fn begin_value(
 }
 
 // A number with the type behind it, or without.
-fn begin_number(
-    alloc: Global,
-    frames: Vec<Frame>,
-    room: usize,
-    found: &Found,
-) -> Result<ExpressionStep, ParseError>
-    ensures reads { ReadsUpTo found.now.at step_of result (number_begins (frames_of frames.items) room (lexeme_of found.now.token) (scalars.suffixed (lexeme_of found.now.token))) }
+fn begin_number(context: Context, frames: Vec<Frame>) -> Result<ExpressionStep, ParseError>
+    ensures reads { ReadsUpTo context.entry.found.now.at step_of result (number_begins (frames_of frames.items) context.entry.room (lexeme_of context.entry.found.now.token) (scalars.suffixed (lexeme_of context.entry.found.now.token))) }
 {
-    match suffixed(found) {
+    match suffixed(context.found) {
         Some(scalar) => {
-            let bytes = (found.at, found.end);
-            let operand = literal(alloc, scalar?, bytes, room, found)?;
-            Ok(tight(frames, room, operand))
+            let bytes = (context.found.at, context.found.end);
+            let operand = literal(context, scalar?, bytes)?;
+            Ok(tight(frames, context.room, operand))
         }
-        None => begin_value(alloc, frames, room, found),
+        None => begin_value(context, frames),
     }
 }
 
 // The field of the scope root, whose name stands in these bytes.
 pub(crate) fn field_of_root(
-    alloc: Global,
+    context: Context,
     name: FieldName,
     bytes: (usize, usize),
-    room: usize,
-    found: &Found,
 ) -> Result<Operand, ParseError>
-    ensures reads { ReadsUpTo found.now.at operand_of result (field_read name room) }
+    ensures reads { ReadsUpTo context.entry.found.now.at operand_of result (field_read name context.entry.room) }
 {
     let (start, end) = bytes;
-    let scope = root(alloc, start, start)?;
-    field(alloc, name, scope, end, room, found)
+    let scope = root(context.alloc, start, start)?;
+    field(context, name, scope, end)
 }

@@ -8,36 +8,33 @@ ghost use Rattle.vx_source_operands.specs.Places.{ReadsUpTo};
 ghost use Rattle.vx_source_operands.specs.OperandViews.{callee_of, frames_of, operand_of, operands_of, part_of, step_of};
 
 use crate::steps::{keyword, node_stands, pending};
-use std::alloc::Global;
 use vx_fn::{CaseWhenOptions, ScalarFnRef};
 use vx_source_grammar::Keyword;
 use vx_source_operands::{
-    Bracket, Callee, CasePart, ExpressionStep, Frame, Mode, Operand, TypeFor, enclosed, more,
-    tight, type_due,
+    Bracket, Callee, CasePart, Context, ExpressionStep, Frame, Mode, Operand, TypeFor, enclosed,
+    more, tight, type_due,
 };
 use vx_source_types::{Expected, Found, ParseError, Sign, Token, expected, refusal};
 use vx_types::FieldName;
 
 /// The call of the children, which begins at that byte, where so much nesting is allowed.
 pub fn called(
-    alloc: Global,
+    context: Context,
     frames: Vec<Frame>,
-    room: usize,
     callee: Callee,
     children: Vec<Operand>,
     start: usize,
-    found: &Found,
 ) -> Result<ExpressionStep, ParseError>
-    ensures reads { ReadsUpTo found.now.at step_of result (grammar.called (frames_of frames.items) room (callee_of callee) (operands_of children.items)) }
+    ensures reads { ReadsUpTo context.entry.found.now.at step_of result (grammar.called (frames_of frames.items) context.entry.room (callee_of callee) (operands_of children.items)) }
 {
-    let bytes = (start, found.end);
+    let bytes = (start, context.found.end);
     match callee {
-        Callee::Any(function) => node_stands(alloc, frames, room, function, children, bytes, found),
+        Callee::Any(function) => node_stands(context, frames, function, children, bytes),
         Callee::Own(function) => {
             if function.arity() == children.len() {
-                node_stands(alloc, frames, room, function, children, bytes, found)
+                node_stands(context, frames, function, children, bytes)
             } else {
-                Err(expected(found, Expected::Arity))
+                Err(expected(context.found, Expected::Arity))
             }
         }
         Callee::If => {
@@ -47,9 +44,9 @@ pub fn called(
                     has_else: true,
                 };
                 let function = ScalarFnRef::CaseWhen(options);
-                node_stands(alloc, frames, room, function, children, bytes, found)
+                node_stands(context, frames, function, children, bytes)
             } else {
-                Err(expected(found, Expected::Arity))
+                Err(expected(context.found, Expected::Arity))
             }
         }
     }
@@ -57,54 +54,47 @@ pub fn called(
 
 /// What follows a child of a call.
 pub(crate) fn after_child(
-    alloc: Global,
+    context: Context,
     frames: Vec<Frame>,
-    room: usize,
     callee: Box<Callee>,
     children: Vec<Operand>,
     bracket: Bracket,
-    found: &Found,
 ) -> Result<ExpressionStep, ParseError>
-    ensures { ReadsUpTo found.now.at step_of result (grammar.child_ends (frames_of frames.items) room (callee_of callee.value) (operands_of children.items) bracket.room (lexeme_of found.now.token)) }
+    ensures { ReadsUpTo context.entry.found.now.at step_of result (grammar.child_ends (frames_of frames.items) context.entry.room (callee_of callee.value) (operands_of children.items) bracket.room (lexeme_of context.entry.found.now.token)) }
 {
-    match &found.token {
+    match &context.found.token {
         Token::Sign(Sign::Comma) => {
-            Ok(pending(frames, Frame::Call(callee, children, bracket), room)?)
+            Ok(pending(frames, Frame::Call(callee, children, bracket), context.room)?)
         }
-        Token::Sign(Sign::CloseParen) => called(
-            alloc,
-            frames,
-            bracket.room,
-            Box::into_inner(callee),
-            children,
-            bracket.start,
-            found,
-        ),
-        _ => Err(refusal(found, Expected::CommaOrCloseParen)),
+        Token::Sign(Sign::CloseParen) => {
+            let Bracket { start, room } = bracket;
+            let outside = Context { room, ..context };
+            called(outside, frames, Box::into_inner(callee), children, start)
+        }
+        _ => Err(refusal(context.found, Expected::CommaOrCloseParen)),
     }
 }
 
 /// What follows a child of a struct.
 pub(crate) fn after_packed(
+    context: Context,
     mut frames: Vec<Frame>,
-    room: usize,
     names: Vec<FieldName>,
     children: Vec<Operand>,
     bracket: Bracket,
-    found: &Found,
 ) -> Result<ExpressionStep, ParseError>
-    ensures { ReadsUpTo found.now.at step_of result (grammar.packed_ends (frames_of frames.items) room names.items (operands_of children.items) bracket.room (lexeme_of found.now.token)) }
+    ensures { ReadsUpTo context.entry.found.now.at step_of result (grammar.packed_ends (frames_of frames.items) context.entry.room names.items (operands_of children.items) bracket.room (lexeme_of context.entry.found.now.token)) }
 {
-    match &found.token {
+    match &context.found.token {
         Token::Sign(Sign::Comma) => {
             frames.push(Frame::Pack(names, children, bracket))?;
-            Ok(more(frames, Mode::Packed, room))
+            Ok(more(frames, Mode::Packed, context.room))
         }
         Token::Sign(Sign::CloseParen) => {
-            let mode = Mode::PackEnd(names, children, bracket.start, found.end);
+            let mode = Mode::PackEnd(names, children, bracket.start, context.found.end);
             Ok(more(frames, mode, bracket.room))
         }
-        _ => Err(refusal(found, Expected::CommaOrCloseParen)),
+        _ => Err(refusal(context.found, Expected::CommaOrCloseParen)),
     }
 }
 
@@ -128,50 +118,64 @@ pub(crate) fn after_enclosed(
 
 /// What follows what is cast: its type.
 pub(crate) fn after_cast(
-    alloc: Global,
+    context: Context,
     frames: Vec<Frame>,
-    room: usize,
     operand: Operand,
     bracket: Bracket,
-    found: &Found,
 ) -> Result<ExpressionStep, ParseError>
-    ensures { ReadsUpTo found.now.at step_of result (grammar.cast_goes (frames_of frames.items) room (operand_of operand) bracket.room (lexeme_of found.now.token) (grammar.keyword_at (lexeme_of found.now.token))) }
+    ensures { ReadsUpTo context.entry.found.now.at step_of result (grammar.cast_goes (frames_of frames.items) context.entry.room (operand_of operand) bracket.room (lexeme_of context.entry.found.now.token) (grammar.keyword_at (lexeme_of context.entry.found.now.token))) }
 {
-    match keyword(&found.token) {
+    match keyword(&context.found.token) {
         Some(Keyword::As) => {
             let wanted = TypeFor::CastCall(operand, bracket);
-            Ok(type_due(alloc, frames, room, wanted, found.end)?)
+            Ok(type_due(context, frames, wanted)?)
         }
-        _ => Err(refusal(found, Expected::As)),
+        _ => Err(refusal(context.found, Expected::As)),
     }
 }
 
 /// What follows a condition, a value or the ELSE value of a CASE.
 pub(crate) fn after_part(
-    alloc: Global,
+    context: Context,
     frames: Vec<Frame>,
-    room: usize,
     part: CasePart,
     children: Vec<Operand>,
     bracket: Bracket,
-    found: &Found,
 ) -> Result<ExpressionStep, ParseError>
-    ensures { ReadsUpTo found.now.at step_of result (grammar.case_goes (frames_of frames.items) room (part_of part) (operands_of children.items) bracket.room (lexeme_of found.now.token) (grammar.keyword_at (lexeme_of found.now.token))) }
+    ensures { ReadsUpTo context.entry.found.now.at step_of result (grammar.case_goes (frames_of frames.items) context.entry.room (part_of part) (operands_of children.items) bracket.room (lexeme_of context.entry.found.now.token) (grammar.keyword_at (lexeme_of context.entry.found.now.token))) }
 {
     match part {
-        CasePart::Condition => match keyword(&found.token) {
-            Some(Keyword::Then) => next_part(frames, room, CasePart::Value, children, bracket),
-            _ => Err(refusal(found, Expected::Then)),
+        CasePart::Condition => match keyword(&context.found.token) {
+            Some(Keyword::Then) => next_part(
+                frames,
+                context.room,
+                CasePart::Value,
+                children,
+                bracket,
+            ),
+            _ => Err(refusal(context.found, Expected::Then)),
         },
-        CasePart::Value => match keyword(&found.token) {
-            Some(Keyword::When) => next_part(frames, room, CasePart::Condition, children, bracket),
-            Some(Keyword::Else) => next_part(frames, room, CasePart::Else, children, bracket),
-            Some(Keyword::End) => end_case(alloc, frames, children, bracket, found),
-            _ => Err(refusal(found, Expected::WhenElseEnd)),
+        CasePart::Value => match keyword(&context.found.token) {
+            Some(Keyword::When) => next_part(
+                frames,
+                context.room,
+                CasePart::Condition,
+                children,
+                bracket,
+            ),
+            Some(Keyword::Else) => next_part(
+                frames,
+                context.room,
+                CasePart::Else,
+                children,
+                bracket,
+            ),
+            Some(Keyword::End) => end_case(context, frames, children, bracket),
+            _ => Err(refusal(context.found, Expected::WhenElseEnd)),
         },
-        CasePart::Else => match keyword(&found.token) {
-            Some(Keyword::End) => end_case(alloc, frames, children, bracket, found),
-            _ => Err(refusal(found, Expected::EndWord)),
+        CasePart::Else => match keyword(&context.found.token) {
+            Some(Keyword::End) => end_case(context, frames, children, bracket),
+            _ => Err(refusal(context.found, Expected::EndWord)),
         },
     }
 }
@@ -191,30 +195,23 @@ fn next_part(
 
 // The CASE of conditions and values in turn, and what is left over as the ELSE value.
 fn end_case(
-    alloc: Global,
+    context: Context,
     frames: Vec<Frame>,
     children: Vec<Operand>,
     bracket: Bracket,
-    found: &Found,
 ) -> Result<ExpressionStep, ParseError>
-    ensures { ReadsUpTo found.now.at step_of result (grammar.case_ends (frames_of frames.items) (operands_of children.items) bracket.room) }
+    ensures { ReadsUpTo context.entry.found.now.at step_of result (grammar.case_ends (frames_of frames.items) (operands_of children.items) bracket.room) }
 {
     let Ok(pairs) = u32::try_from(children.len() / 2) else {
-        return Err(expected(found, Expected::FewerPairs));
+        return Err(expected(context.found, Expected::FewerPairs));
     };
     let options = CaseWhenOptions {
         num_when_then_pairs: pairs,
         has_else: children.len() % 2 == 1,
     };
     let function = ScalarFnRef::CaseWhen(options);
-    let bytes = (bracket.start, found.end);
-    node_stands(
-        alloc,
-        frames,
-        bracket.room,
-        function,
-        children,
-        bytes,
-        found,
-    )
+    let Bracket { start, room } = bracket;
+    let bytes = (start, context.found.end);
+    let outside = Context { room, ..context };
+    node_stands(outside, frames, function, children, bytes)
 }

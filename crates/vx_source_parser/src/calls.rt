@@ -14,72 +14,68 @@ ghost use Rattle.vx_source_operands.specs.OperandViews.{callee_of, frames_of, op
 use crate::after::after_tight;
 use crate::begin::begin;
 use crate::brackets::called;
-use std::alloc::Global;
 use vx_fn::{EmptyOptions, PackOptions, ScalarFnRef};
 use vx_source_operands::{
-    Bracket, Callee, ExpressionStep, Frame, Mode, Operand, begun_at, more, node, tight,
+    Bracket, Callee, Context, ExpressionStep, Frame, Mode, Operand, begun_at, more, node, tight,
 };
 use vx_source_types::{
-    Expected, Found, ParseError, Sign, Token, expected, field_name, inside, is_word, refusal,
+    Expected, ParseError, Sign, Token, expected, field_name, inside, is_word, refusal,
 };
 use vx_types::{FieldName, FieldNames, Nullability};
 
 // The bracket behind a word: the word is a function's name.
 pub(crate) fn call(
-    alloc: Global,
+    context: Context,
     frames: Vec<Frame>,
-    room: usize,
     name: FieldName,
     start: usize,
-    found: &Found,
 ) -> Result<ExpressionStep, ParseError>
-    ensures reads { ReadsUpTo found.now.at step_of result (within room (word_called (frames_of frames.items) room name)) }
+    ensures reads { ReadsUpTo context.entry.found.now.at step_of result (within context.entry.room (word_called (frames_of frames.items) context.entry.room name)) }
 {
+    let Context { room, found, .. } = context;
     let less = inside(room, found)?;
     let bracket = Bracket { start, room };
-    begin_call(alloc, frames, less, name, bracket, found)
+    begin_call(context, frames, less, name, bracket)
 }
 
 // Inside the bracket.
 fn begin_call(
-    alloc: Global,
+    context: Context,
     mut frames: Vec<Frame>,
     less: usize,
     name: FieldName,
     bracket: Bracket,
-    found: &Found,
 ) -> Result<ExpressionStep, ParseError>
-    ensures reads { ReadsUpTo found.now.at step_of result (word_called (frames_of frames.items) bracket.room name less) }
+    ensures reads { ReadsUpTo context.entry.found.now.at step_of result (word_called (frames_of frames.items) bracket.room name less) }
 {
     if is_word(&name, "pack") {
-        frames.push(Frame::Pack(Vec::new(alloc), Vec::new(alloc), bracket))?;
+        frames.push(Frame::Pack(Vec::new(context.alloc), Vec::new(context.alloc), bracket))?;
         Ok(more(frames, Mode::FirstPacked(bracket.start), less))
     } else if is_word(&name, "cast") {
         frames.push(Frame::Cast(bracket))?;
         Ok(more(frames, Mode::Operand, less))
     } else {
-        begin_children(alloc, frames, less, callee(&name), bracket, found)
+        begin_children(context, frames, less, callee(&name), bracket)
     }
 }
 
 // The children of what is called by a name of its own, if there is such.
 fn begin_children(
-    alloc: Global,
+    context: Context,
     mut frames: Vec<Frame>,
     less: usize,
     callee: Option<Callee>,
     bracket: Bracket,
-    found: &Found,
 ) -> Result<ExpressionStep, ParseError>
-    ensures reads { ReadsUpTo found.now.at step_of result (call_begins (frames_of frames.items) bracket.room (option_map callee_of callee) less) }
+    ensures reads { ReadsUpTo context.entry.found.now.at step_of result (call_begins (frames_of frames.items) bracket.room (option_map callee_of callee) less) }
 {
     match callee {
         Some(callee) => {
-            let callee = Box::new(alloc, callee)?;
-            frames.push(Frame::Call(callee, Vec::new(alloc), bracket))?;
+            let callee = Box::new(context.alloc, callee)?;
+            frames.push(Frame::Call(callee, Vec::new(context.alloc), bracket))?;
             Ok(more(frames, Mode::FirstChild, less))
         }
-        None => Err(begun_at(bracket.start, found, Expected::Function)),
+        None => Err(begun_at(bracket.start, context.found, Expected::Function)),
     }
 }
 
@@ -108,15 +104,14 @@ fn callee(name: &FieldName) -> Option<Callee>
 
 // The bracket before the children of a function.
 pub(crate) fn open_children(
-    alloc: Global,
+    context: Context,
     mut frames: Vec<Frame>,
-    room: usize,
     callee: Callee,
     start: usize,
-    found: &Found,
 ) -> Result<ExpressionStep, ParseError>
-    ensures reads { ReadsUpTo found.now.at step_of result (children_begin (frames_of frames.items) room (callee_of callee)) }
+    ensures reads { ReadsUpTo context.entry.found.now.at step_of result (children_begin (frames_of frames.items) context.entry.room (callee_of callee)) }
 {
+    let Context { alloc, room, found } = context;
     let callee = Box::new(alloc, callee)?;
     let less = inside(room, found)?;
     let bracket = Bracket { start, room };
@@ -126,131 +121,112 @@ pub(crate) fn open_children(
 
 // The first child of a call, or its end.
 pub(crate) fn first_child(
-    alloc: Global,
+    context: Context,
     mut frames: Vec<Frame>,
-    room: usize,
-    found: &Found,
 ) -> Result<ExpressionStep, ParseError>
-    ensures reads { ReadsUpTo found.now.at step_of result (first_child_at (frames_of frames.items) room (lexeme_of found.now.token)) }
+    ensures reads { ReadsUpTo context.entry.found.now.at step_of result (first_child_at (frames_of frames.items) context.entry.room (lexeme_of context.entry.found.now.token)) }
 {
-    match &found.token {
+    match &context.found.token {
         Token::Sign(Sign::CloseParen) => match frames.pop() {
             Some(Frame::Call(callee, children, bracket)) => {
                 let Bracket { start, room } = bracket;
-                called(
-                    alloc,
-                    frames,
-                    room,
-                    Box::into_inner(callee),
-                    children,
-                    start,
-                    found,
-                )
+                let outside = Context { room, ..context };
+                called(outside, frames, Box::into_inner(callee), children, start)
             }
-            _ => Err(expected(found, Expected::Operand)),
+            _ => Err(expected(context.found, Expected::Operand)),
         },
-        _ => begin(alloc, frames, room, found),
+        _ => begin(context, frames),
     }
 }
 
 // The first name of a struct that is packed, or its end.
 pub(crate) fn first_packed(
+    context: Context,
     mut frames: Vec<Frame>,
-    room: usize,
     start: usize,
-    found: &Found,
 ) -> Result<ExpressionStep, ParseError>
-    ensures reads { ReadsUpTo found.now.at step_of result (first_packed_at (frames_of frames.items) room (lexeme_of found.now.token)) }
+    ensures reads { ReadsUpTo context.entry.found.now.at step_of result (first_packed_at (frames_of frames.items) context.entry.room (lexeme_of context.entry.found.now.token)) }
 {
-    match &found.token {
+    match &context.found.token {
         Token::Sign(Sign::CloseParen) => match frames.pop() {
             Some(Frame::Pack(names, children, bracket)) => {
-                let mode = Mode::PackEnd(names, children, start, found.end);
+                let mode = Mode::PackEnd(names, children, start, context.found.end);
                 Ok(more(frames, mode, bracket.room))
             }
-            _ => Err(expected(found, Expected::Operand)),
+            _ => Err(expected(context.found, Expected::Operand)),
         },
-        _ => packed(frames, room, found),
+        _ => packed(context, frames),
     }
 }
 
 // The name of a child of a struct that is packed.
-pub(crate) fn packed(
-    mut frames: Vec<Frame>,
-    room: usize,
-    found: &Found,
-) -> Result<ExpressionStep, ParseError>
-    ensures reads { ReadsUpTo found.now.at step_of result (packed_at (frames_of frames.items) room (lexeme_of found.now.token) (name_at (lexeme_of found.now.token))) }
+pub(crate) fn packed(context: Context, mut frames: Vec<Frame>) -> Result<ExpressionStep, ParseError>
+    ensures reads { ReadsUpTo context.entry.found.now.at step_of result (packed_at (frames_of frames.items) context.entry.room (lexeme_of context.entry.found.now.token) (name_at (lexeme_of context.entry.found.now.token))) }
 {
-    match field_name(&found.token) {
+    match field_name(&context.found.token) {
         Some(name) => match frames.pop() {
             Some(Frame::Pack(mut names, children, bracket)) => {
                 names.push(name.clone()?)?;
                 frames.push(Frame::Pack(names, children, bracket))?;
-                Ok(more(frames, Mode::PackedValue, room))
+                Ok(more(frames, Mode::PackedValue, context.room))
             }
-            _ => Err(expected(found, Expected::Operand)),
+            _ => Err(expected(context.found, Expected::Operand)),
         },
-        None => Err(refusal(found, Expected::Name)),
+        None => Err(refusal(context.found, Expected::Name)),
     }
 }
 
 // The colon behind the name.
 pub(crate) fn packed_value(
+    context: Context,
     frames: Vec<Frame>,
-    room: usize,
-    found: &Found,
 ) -> Result<ExpressionStep, ParseError>
-    ensures reads { ReadsUpTo found.now.at step_of result (packed_value_at (frames_of frames.items) room (lexeme_of found.now.token)) }
+    ensures reads { ReadsUpTo context.entry.found.now.at step_of result (packed_value_at (frames_of frames.items) context.entry.room (lexeme_of context.entry.found.now.token)) }
 {
-    match &found.token {
-        Token::Sign(Sign::Colon) => Ok(more(frames, Mode::Operand, room)),
-        _ => Err(refusal(found, Expected::FieldValue)),
+    match &context.found.token {
+        Token::Sign(Sign::Colon) => Ok(more(frames, Mode::Operand, context.room)),
+        _ => Err(refusal(context.found, Expected::FieldValue)),
     }
 }
 
 // A question mark behind a struct makes it nullable.
 pub(crate) fn pack_end(
-    alloc: Global,
+    context: Context,
     frames: Vec<Frame>,
-    room: usize,
     names: Vec<FieldName>,
     children: Vec<Operand>,
     bytes: (usize, usize),
-    found: &Found,
 ) -> Result<ExpressionStep, ParseError>
-    ensures reads { ReadsUpTo found.now.at step_of result (pack_end_at (frames_of frames.items) room names.items (operands_of children.items) (lexeme_of found.now.token)) }
+    ensures reads { ReadsUpTo context.entry.found.now.at step_of result (pack_end_at (frames_of frames.items) context.entry.room names.items (operands_of children.items) (lexeme_of context.entry.found.now.token)) }
 {
-    match &found.token {
+    match &context.found.token {
         Token::Sign(Sign::Question) => {
-            let bytes = (bytes.0, found.end);
+            let bytes = (bytes.0, context.found.end);
             let nullability = Nullability::Nullable;
-            let operand = pack(alloc, names, nullability, children, bytes, room, found)?;
-            Ok(tight(frames, room, operand))
+            let operand = pack(context, names, nullability, children, bytes)?;
+            Ok(tight(frames, context.room, operand))
         }
         _ => {
             let nullability = Nullability::NonNullable;
-            let operand = pack(alloc, names, nullability, children, bytes, room, found)?;
-            after_tight(alloc, frames, room, operand, found)
+            let operand = pack(context, names, nullability, children, bytes)?;
+            after_tight(context, frames, operand)
         }
     }
 }
 
 // The struct of the children, which stands in these bytes.
 fn pack(
-    alloc: Global,
+    context: Context,
     names: Vec<FieldName>,
     nullability: Nullability,
     children: Vec<Operand>,
     bytes: (usize, usize),
-    room: usize,
-    found: &Found,
 ) -> Result<Operand, ParseError>
-    ensures reads { ReadsUpTo found.now.at operand_of result (over (functions.pack names.items (admits_null nullability)) (operands_of children.items) room) }
+    ensures reads { ReadsUpTo context.entry.found.now.at operand_of result (over (functions.pack names.items (admits_null nullability)) (operands_of children.items) context.entry.room) }
 {
-    let Ok(names) = FieldNames::new(alloc, names) else {
+    let Ok(names) = FieldNames::new(context.alloc, names) else {
         return Err(ParseError::OutOfMemory);
     };
     let function = ScalarFnRef::Pack(PackOptions { names, nullability });
-    node(alloc, function, children, bytes, room, found)
+    node(context, function, children, bytes)
 }

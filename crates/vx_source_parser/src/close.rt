@@ -6,55 +6,50 @@ ghost use Rattle.vx_source_operands.specs.OperandViews.{frames_of, operand_of, s
 
 use crate::brackets::{after_cast, after_child, after_enclosed, after_packed, after_part};
 use crate::steps::with_operand;
-use std::alloc::Global;
-use vx_source_operands::{ExpressionStep, Frame, Level, Operand, reduce};
+use vx_source_operands::{Context, ExpressionStep, Frame, Level, Operand, reduce};
 use vx_source_types::{Expected, Found, ParseError, Token, refusal};
 
 /// What a token that is no operator makes of the operand, and of all that waits for it.
 pub(crate) fn close(
-    alloc: Global,
+    context: Context,
     frames: Vec<Frame>,
-    room: usize,
     operand: Operand,
-    found: &Found,
 ) -> Result<ExpressionStep, ParseError>
-    ensures { ReadsUpTo found.now.at step_of result (closes (frames_of frames.items) room (operand_of operand) (lexeme_of found.now.token)) }
+    ensures { ReadsUpTo context.entry.found.now.at step_of result (closes (frames_of frames.items) context.entry.room (operand_of operand) (lexeme_of context.entry.found.now.token)) }
 {
-    let (frames, operand) = reduce(alloc, frames, room, operand, Level::Or, found)?;
-    after_bracketed(alloc, frames, room, operand, found)
+    let (frames, operand) = reduce(context, frames, operand, Level::Or)?;
+    after_bracketed(context, frames, operand)
 }
 
 // What a token makes of the bracket that is open outside.
 fn after_bracketed(
-    alloc: Global,
+    context: Context,
     mut frames: Vec<Frame>,
-    room: usize,
     operand: Operand,
-    found: &Found,
 ) -> Result<ExpressionStep, ParseError>
-    ensures { ReadsUpTo found.now.at step_of result (bracket_goes room (lexeme_of found.now.token) (frames_of frames.items) (operand_of operand)) }
+    ensures { ReadsUpTo context.entry.found.now.at step_of result (bracket_goes context.entry.room (lexeme_of context.entry.found.now.token) (frames_of frames.items) (operand_of operand)) }
 {
     let Some(frame) = frames.pop() else {
-        return after_whole(operand, found);
+        return after_whole(operand, context.found);
     };
     match frame {
-        Frame::Paren(bracket) => after_enclosed(frames, operand, bracket, found),
+        Frame::Paren(bracket) => after_enclosed(frames, operand, bracket, context.found),
         Frame::Call(callee, children, bracket) => {
             let children = with_operand(children, operand)?;
-            after_child(alloc, frames, room, callee, children, bracket, found)
+            after_child(context, frames, callee, children, bracket)
         }
         Frame::Pack(names, children, bracket) => {
             let children = with_operand(children, operand)?;
-            after_packed(frames, room, names, children, bracket, found)
+            after_packed(context, frames, names, children, bracket)
         }
-        Frame::Cast(bracket) => after_cast(alloc, frames, room, operand, bracket, found),
+        Frame::Cast(bracket) => after_cast(context, frames, operand, bracket),
         Frame::Case(part, children, bracket) => {
             let children = with_operand(children, operand)?;
-            after_part(alloc, frames, room, part, children, bracket, found)
+            after_part(context, frames, part, children, bracket)
         }
-        Frame::Lower(_) => Err(refusal(found, Expected::And)),
+        Frame::Lower(_) => Err(refusal(context.found, Expected::And)),
         // No operator waits for its last operand here.
-        _ => Err(refusal(found, Expected::Operator)),
+        _ => Err(refusal(context.found, Expected::Operator)),
     }
 }
 

@@ -9,27 +9,11 @@ ghost use Rattle.vx_source_operands.specs.Places.{ReadsUpTo};
 ghost use Rattle.vx_source_operands.specs.OperandViews.{frame_of, frames_of, operand_of, step_of};
 
 use crate::steps::pending;
-use std::alloc::Global;
 use vx_fn::{EmptyOptions, LikeOptions, Operator, ScalarFnRef, StrictComparison};
 use vx_source_operands::{
-    ExpressionStep, Frame, Level, Mode, OpenRange, Operand, more, node_over, reduce,
+    Context, ExpressionStep, Frame, Level, Mode, OpenRange, Operand, more, node_over, reduce,
 };
-use vx_source_types::{Expected, Found, ParseError, Sign, expected};
-
-/// The comparison of a sign.
-pub(crate) fn comparison(sign: Sign) -> Option<Operator>
-    ensures { option_map operation_of result ≡ option_map compares (grammar.comparison_of sign) }
-{
-    match sign {
-        Sign::Equal => Some(Operator::Eq),
-        Sign::NotEqual => Some(Operator::NotEq),
-        Sign::Less => Some(Operator::Lt),
-        Sign::LessEqual => Some(Operator::Lte),
-        Sign::Greater => Some(Operator::Gt),
-        Sign::GreaterEqual => Some(Operator::Gte),
-        _ => None,
-    }
-}
+use vx_source_types::{Expected, ParseError, expected};
 
 // The bound of that operator, of `<` and `<=`.
 fn bound(operator: Operator) -> Option<StrictComparison>
@@ -38,91 +22,82 @@ fn bound(operator: Operator) -> Option<StrictComparison>
     match operator {
         Operator::Lt => Some(StrictComparison::Strict),
         Operator::Lte => Some(StrictComparison::NonStrict),
-        _ => None,
+        Operator::Eq
+        | Operator::NotEq
+        | Operator::Gt
+        | Operator::Gte
+        | Operator::And
+        | Operator::Or
+        | Operator::Add => None,
     }
 }
 
 /// `+` behind an operand.
 pub(crate) fn sum(
-    alloc: Global,
+    context: Context,
     frames: Vec<Frame>,
-    room: usize,
     operand: Operand,
-    found: &Found,
 ) -> Result<ExpressionStep, ParseError>
-    ensures { ReadsUpTo found.now.at step_of result (grammar.summed (frames_of frames.items) room (operand_of operand) (λ fs lhs. goes (in_binary adds lhs ∷ fs) operand_due room)) }
+    ensures { ReadsUpTo context.entry.found.now.at step_of result (grammar.summed (frames_of frames.items) context.entry.room (operand_of operand) (λ fs lhs. goes (in_binary adds lhs ∷ fs) operand_due context.entry.room)) }
 {
-    let (frames, lhs) = reduce(alloc, frames, room, operand, Level::Sum, found)?;
-    Ok(pending(frames, Frame::Binary(Operator::Add, lhs), room)?)
+    let (frames, lhs) = reduce(context, frames, operand, Level::Sum)?;
+    Ok(pending(frames, Frame::Binary(Operator::Add, lhs), context.room)?)
 }
 
 /// A comparison behind an operand.
 pub(crate) fn after_comparison(
-    alloc: Global,
+    context: Context,
     frames: Vec<Frame>,
-    room: usize,
     operand: Operand,
     operator: Operator,
-    found: &Found,
 ) -> Result<ExpressionStep, ParseError>
     ensures { (c : Comparison) → operation_of operator ≡ compares c
-        → ReadsUpTo found.now.at step_of result (grammar.summed (frames_of frames.items) room (operand_of operand) (grammar.comparison_goes room c)) }
+        → ReadsUpTo context.entry.found.now.at step_of result (grammar.summed (frames_of frames.items) context.entry.room (operand_of operand) (grammar.comparison_goes context.entry.room c)) }
 {
-    let (frames, operand) = reduce(alloc, frames, room, operand, Level::Sum, found)?;
-    compare(alloc, frames, room, operand, operator, found)
+    let (frames, operand) = reduce(context, frames, operand, Level::Sum)?;
+    compare(context, frames, operand, operator)
 }
 
 // The comparison behind what binds more tightly: comparisons don't chain, but `lo < x <= hi`.
 fn compare(
-    alloc: Global,
+    context: Context,
     mut frames: Vec<Frame>,
-    room: usize,
     operand: Operand,
     operator: Operator,
-    found: &Found,
 ) -> Result<ExpressionStep, ParseError>
     ensures { (c : Comparison) → operation_of operator ≡ compares c
-        → ReadsUpTo found.now.at step_of result (grammar.comparison_goes room c (frames_of frames.items) (operand_of operand)) }
+        → ReadsUpTo context.entry.found.now.at step_of result (grammar.comparison_goes context.entry.room c (frames_of frames.items) (operand_of operand)) }
 {
     match frames.pop() {
         Some(Frame::Binary(first, lower)) => {
-            range(
-                alloc,
-                frames,
-                room,
-                lower,
-                operand,
-                bound(first),
-                bound(operator),
-                found,
-            )
+            {
+                let bounds = (bound(first), bound(operator));
+                range(context, frames, lower, operand, bounds)
+            }
         }
         Some(Frame::Like(_, _)) | Some(Frame::Upper(_)) | Some(Frame::Lower(_)) => {
-            Err(expected(found, Expected::Parens))
+            Err(expected(context.found, Expected::Parens))
         }
         Some(frame) => {
             frames.push(frame)?;
-            Ok(pending(frames, Frame::Binary(operator, operand), room)?)
+            Ok(pending(frames, Frame::Binary(operator, operand), context.room)?)
         }
-        None => Ok(pending(frames, Frame::Binary(operator, operand), room)?),
+        None => Ok(pending(frames, Frame::Binary(operator, operand), context.room)?),
     }
 }
 
 // Two comparisons one after another: a range, of `<` and `<=`.
 fn range(
-    alloc: Global,
+    context: Context,
     frames: Vec<Frame>,
-    room: usize,
     lower: Operand,
     array: Operand,
-    first: Option<StrictComparison>,
-    second: Option<StrictComparison>,
-    found: &Found,
+    bounds: (Option<StrictComparison>, Option<StrictComparison>),
 ) -> Result<ExpressionStep, ParseError>
-    ensures { ReadsUpTo found.now.at step_of result (grammar.range_goes (frames_of frames.items) room (operand_of lower) (operand_of array) (option_map is_strict first) (option_map is_strict second)) }
+    ensures { ReadsUpTo context.entry.found.now.at step_of result (grammar.range_goes (frames_of frames.items) context.entry.room (operand_of lower) (operand_of array) (option_map is_strict bounds.0) (option_map is_strict bounds.1)) }
 {
-    let (Some(lower_strict), Some(upper_strict)) = (first, second) else {
-        return Err(expected(found, Expected::Parens));
+    let (Some(lower_strict), Some(upper_strict)) = bounds else {
+        return Err(expected(context.found, Expected::Parens));
     };
     let start = lower.places.start;
     let range = OpenRange {
@@ -132,8 +107,8 @@ fn range(
         upper_strict,
         start,
     };
-    let frame = Frame::Upper(Box::new(alloc, range)?);
-    Ok(pending(frames, frame, room)?)
+    let frame = Frame::Upper(Box::new(context.alloc, range)?);
+    Ok(pending(frames, frame, context.room)?)
 }
 
 // Whether a comparison is open, so that none may follow.
@@ -158,65 +133,59 @@ fn is_comparison(frame: &Frame) -> bool
 
 /// `like` or `ilike`, negated or not.
 pub(crate) fn like(
-    alloc: Global,
+    context: Context,
     frames: Vec<Frame>,
-    room: usize,
     operand: Operand,
     negated: bool,
     case_insensitive: bool,
-    found: &Found,
 ) -> Result<ExpressionStep, ParseError>
-    ensures { ReadsUpTo found.now.at step_of result (grammar.like_goes (frames_of frames.items) room (operand_of operand) negated case_insensitive) }
+    ensures { ReadsUpTo context.entry.found.now.at step_of result (grammar.like_goes (frames_of frames.items) context.entry.room (operand_of operand) negated case_insensitive) }
 {
-    let (frames, operand) = reduce(alloc, frames, room, operand, Level::Sum, found)?;
+    let (frames, operand) = reduce(context, frames, operand, Level::Sum)?;
     if in_comparison(frames.as_slice()) {
-        return Err(expected(found, Expected::Parens));
+        return Err(expected(context.found, Expected::Parens));
     }
     let options = LikeOptions {
         negated,
         case_insensitive,
     };
-    Ok(pending(frames, Frame::Like(options, operand), room)?)
+    Ok(pending(frames, Frame::Like(options, operand), context.room)?)
 }
 
 /// `between` behind an operand.
 pub(crate) fn between(
-    alloc: Global,
+    context: Context,
     frames: Vec<Frame>,
-    room: usize,
     operand: Operand,
-    found: &Found,
 ) -> Result<ExpressionStep, ParseError>
-    ensures { ReadsUpTo found.now.at step_of result (grammar.between_goes (frames_of frames.items) room (operand_of operand)) }
+    ensures { ReadsUpTo context.entry.found.now.at step_of result (grammar.between_goes (frames_of frames.items) context.entry.room (operand_of operand)) }
 {
-    let (frames, operand) = reduce(alloc, frames, room, operand, Level::Sum, found)?;
+    let (frames, operand) = reduce(context, frames, operand, Level::Sum)?;
     if in_comparison(frames.as_slice()) {
-        return Err(expected(found, Expected::Parens));
+        return Err(expected(context.found, Expected::Parens));
     }
-    Ok(pending(frames, Frame::Lower(operand), room)?)
+    Ok(pending(frames, Frame::Lower(operand), context.room)?)
 }
 
 /// `is null` behind an operand, or `is not null`.
 pub(crate) fn null_test(
-    alloc: Global,
+    context: Context,
     frames: Vec<Frame>,
-    room: usize,
     operand: Operand,
     negated: bool,
-    found: &Found,
 ) -> Result<ExpressionStep, ParseError>
-    ensures { ReadsUpTo found.now.at step_of result (grammar.null_goes (frames_of frames.items) room (operand_of operand) negated) }
+    ensures { ReadsUpTo context.entry.found.now.at step_of result (grammar.null_goes (frames_of frames.items) context.entry.room (operand_of operand) negated) }
 {
-    let (frames, operand) = reduce(alloc, frames, room, operand, Level::Sum, found)?;
+    let (frames, operand) = reduce(context, frames, operand, Level::Sum)?;
     if in_comparison(frames.as_slice()) {
-        return Err(expected(found, Expected::Parens));
+        return Err(expected(context.found, Expected::Parens));
     }
     let function = if negated {
         ScalarFnRef::IsNotNull(EmptyOptions)
     } else {
         ScalarFnRef::IsNull(EmptyOptions)
     };
-    let bytes = (operand.places.start, found.end);
-    let made = node_over(alloc, function, operand, bytes, room, found)?;
-    Ok(more(frames, Mode::Loose(made), room))
+    let bytes = (operand.places.start, context.found.end);
+    let made = node_over(context, function, operand, bytes)?;
+    Ok(more(frames, Mode::Loose(made), context.room))
 }

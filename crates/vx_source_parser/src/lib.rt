@@ -18,4 +18,4 @@ mod words;
 
 pub use again::read_again;
 pub use vx_source_operands::Places;
-pub use whole::{Placed, parse, parse_with, parse_with_places};
+pub use whole::{Placed, Readings, parse, parse_open, parse_with, parse_with_places};

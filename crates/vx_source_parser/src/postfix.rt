@@ -11,163 +11,138 @@ ghost use Rattle.vx_source_operands.specs.OperandViews.{frames_of, operand_of, s
 
 use std::alloc::Global;
 use vx_fn::{FieldSelection, ScalarFnRef};
-use vx_source_operands::{ExpressionStep, Frame, Mode, Operand, more, node_over, tight};
-use vx_source_types::{Expected, Found, ParseError, Sign, Token, field_name, refusal};
+use vx_source_operands::{
+    Context, ExpressionStep, Frame, Mode, Operand, SelectionSoFar, more, node_over, tight,
+};
+use vx_source_types::{Expected, ParseError, Sign, Token, field_name, refusal};
 use vx_types::{FieldName, FieldNames};
 
 /// The field of the operand, whose name ends at that byte.
 pub fn field(
-    alloc: Global,
+    context: Context,
     name: FieldName,
     operand: Operand,
     end: usize,
-    room: usize,
-    found: &Found,
 ) -> Result<Operand, ParseError>
-    ensures reads { ReadsUpTo found.now.at operand_of result (over (get_item name) (operand_of operand ∷ []) room) }
+    ensures reads { ReadsUpTo context.entry.found.now.at operand_of result (over (get_item name) (operand_of operand ∷ []) context.entry.room) }
 {
     let bytes = (operand.places.start, end);
-    node_over(
-        alloc,
-        ScalarFnRef::GetItem(name),
-        operand,
-        bytes,
-        room,
-        found,
-    )
+    node_over(context, ScalarFnRef::GetItem(name), operand, bytes)
 }
 
 /// The name behind a dot.
 pub fn dot(
-    alloc: Global,
+    context: Context,
     frames: Vec<Frame>,
-    room: usize,
     operand: Operand,
-    found: &Found,
 ) -> Result<ExpressionStep, ParseError>
-    ensures reads { ReadsUpTo found.now.at step_of result (field_goes (frames_of frames.items) room (operand_of operand) (lexeme_of found.now.token) (name_at (lexeme_of found.now.token))) }
+    ensures reads { ReadsUpTo context.entry.found.now.at step_of result (field_goes (frames_of frames.items) context.entry.room (operand_of operand) (lexeme_of context.entry.found.now.token) (name_at (lexeme_of context.entry.found.now.token))) }
 {
-    match field_name(&found.token) {
+    match field_name(&context.found.token) {
         Some(name) => {
-            let made = field(alloc, name.clone()?, operand, found.end, room, found)?;
-            Ok(tight(frames, room, made))
+            let made = field(context, name.clone()?, operand, context.found.end)?;
+            Ok(tight(frames, context.room, made))
         }
-        None => Err(refusal(found, Expected::Name)),
+        None => Err(refusal(context.found, Expected::Name)),
     }
 }
 
 /// What stands behind the brace that begins a selection.
 pub fn selection(
-    alloc: Global,
+    context: Context,
     frames: Vec<Frame>,
-    room: usize,
     operand: Operand,
-    found: &Found,
 ) -> Result<ExpressionStep, ParseError>
-    ensures reads { ReadsUpTo found.now.at step_of result (selection_at (frames_of frames.items) room (operand_of operand) (lexeme_of found.now.token)) }
+    ensures reads { ReadsUpTo context.entry.found.now.at step_of result (selection_at (frames_of frames.items) context.entry.room (operand_of operand) (lexeme_of context.entry.found.now.token)) }
 {
-    match &found.token {
-        Token::Sign(Sign::Tilde) => Ok(more(frames, Mode::Exclusion(operand), room)),
-        _ => first_name(alloc, frames, room, operand, false, found),
+    match &context.found.token {
+        Token::Sign(Sign::Tilde) => Ok(more(frames, Mode::Exclusion(operand), context.room)),
+        _ => first_name(context, frames, operand, false),
     }
 }
 
 /// What stands behind the tilde that begins an exclusion.
 pub fn exclusion(
-    alloc: Global,
+    context: Context,
     frames: Vec<Frame>,
-    room: usize,
     operand: Operand,
-    found: &Found,
 ) -> Result<ExpressionStep, ParseError>
-    ensures reads { ReadsUpTo found.now.at step_of result (excluded_at (frames_of frames.items) room (operand_of operand) true (lexeme_of found.now.token)) }
+    ensures reads { ReadsUpTo context.entry.found.now.at step_of result (excluded_at (frames_of frames.items) context.entry.room (operand_of operand) true (lexeme_of context.entry.found.now.token)) }
 {
-    first_name(alloc, frames, room, operand, true, found)
+    first_name(context, frames, operand, true)
 }
 
 // The first name of a selection, or its end.
 fn first_name(
-    alloc: Global,
+    context: Context,
     frames: Vec<Frame>,
-    room: usize,
     operand: Operand,
     excludes: bool,
-    found: &Found,
 ) -> Result<ExpressionStep, ParseError>
-    ensures { ReadsUpTo found.now.at step_of result (excluded_at (frames_of frames.items) room (operand_of operand) excludes (lexeme_of found.now.token)) }
+    ensures { ReadsUpTo context.entry.found.now.at step_of result (excluded_at (frames_of frames.items) context.entry.room (operand_of operand) excludes (lexeme_of context.entry.found.now.token)) }
 {
-    let names = Vec::new(alloc);
-    match &found.token {
-        Token::Sign(Sign::CloseBrace) => select(
-            alloc, frames, room, operand, excludes, names, found,
-        ),
-        _ => selection_name(frames, room, operand, excludes, names, found),
+    let names = Vec::new(context.alloc);
+    let selection = SelectionSoFar {
+        operand,
+        excludes,
+        names,
+    };
+    match &context.found.token {
+        Token::Sign(Sign::CloseBrace) => select(context, frames, selection),
+        _ => selection_name(context, frames, selection),
     }
 }
 
 /// The next name of a selection.
 pub fn selection_name(
+    context: Context,
     frames: Vec<Frame>,
-    room: usize,
-    operand: Operand,
-    excludes: bool,
-    names: Vec<FieldName>,
-    found: &Found,
+    mut selection: SelectionSoFar,
 ) -> Result<ExpressionStep, ParseError>
-    ensures reads { ReadsUpTo found.now.at step_of result (named_goes (frames_of frames.items) room (operand_of operand) excludes names.items (lexeme_of found.now.token) (name_at (lexeme_of found.now.token))) }
+    ensures reads { ReadsUpTo context.entry.found.now.at step_of result (named_goes (frames_of frames.items) context.entry.room (operand_of selection.operand) selection.excludes selection.names.items (lexeme_of context.entry.found.now.token) (name_at (lexeme_of context.entry.found.now.token))) }
 {
-    match field_name(&found.token) {
+    match field_name(&context.found.token) {
         Some(name) => {
-            let mut names = names;
-            names.push(name.clone()?)?;
-            Ok(more(frames, Mode::SelectionNext(operand, excludes, names), room))
+            selection.names.push(name.clone()?)?;
+            Ok(more(frames, Mode::SelectionNext(selection), context.room))
         }
-        None => Err(refusal(found, Expected::Name)),
+        None => Err(refusal(context.found, Expected::Name)),
     }
 }
 
 /// What stands behind a name of a selection.
 pub fn selection_next(
-    alloc: Global,
+    context: Context,
     frames: Vec<Frame>,
-    room: usize,
-    operand: Operand,
-    excludes: bool,
-    names: Vec<FieldName>,
-    found: &Found,
+    selection: SelectionSoFar,
 ) -> Result<ExpressionStep, ParseError>
-    ensures reads { ReadsUpTo found.now.at step_of result (selection_goes (frames_of frames.items) room (operand_of operand) excludes names.items (lexeme_of found.now.token)) }
+    ensures reads { ReadsUpTo context.entry.found.now.at step_of result (selection_goes (frames_of frames.items) context.entry.room (operand_of selection.operand) selection.excludes selection.names.items (lexeme_of context.entry.found.now.token)) }
 {
-    match &found.token {
-        Token::Sign(Sign::Comma) => Ok(more(
-            frames,
-            Mode::SelectionName(operand, excludes, names),
-            room,
-        )),
-        Token::Sign(Sign::CloseBrace) => {
-            select(alloc, frames, room, operand, excludes, names, found)
-        }
-        _ => Err(refusal(found, Expected::CommaOrCloseBrace)),
+    match &context.found.token {
+        Token::Sign(Sign::Comma) => Ok(more(frames, Mode::SelectionName(selection), context.room)),
+        Token::Sign(Sign::CloseBrace) => select(context, frames, selection),
+        _ => Err(refusal(context.found, Expected::CommaOrCloseBrace)),
     }
 }
 
 // The selection of the names.
 fn select(
-    alloc: Global,
+    context: Context,
     frames: Vec<Frame>,
-    room: usize,
-    operand: Operand,
-    excludes: bool,
-    names: Vec<FieldName>,
-    found: &Found,
+    selection: SelectionSoFar,
 ) -> Result<ExpressionStep, ParseError>
-    ensures { ReadsUpTo found.now.at step_of result (selected (frames_of frames.items) room (operand_of operand) excludes names.items) }
+    ensures { ReadsUpTo context.entry.found.now.at step_of result (selected (frames_of frames.items) context.entry.room (operand_of selection.operand) selection.excludes selection.names.items) }
 {
-    let selection = names_selected(alloc, excludes, names)?;
-    let bytes = (operand.places.start, found.end);
+    let SelectionSoFar {
+        operand,
+        excludes,
+        names,
+    } = selection;
+    let selection = names_selected(context.alloc, excludes, names)?;
+    let bytes = (operand.places.start, context.found.end);
     let function = ScalarFnRef::Select(selection);
-    let made = node_over(alloc, function, operand, bytes, room, found)?;
-    Ok(tight(frames, room, made))
+    let made = node_over(context, function, operand, bytes)?;
+    Ok(tight(frames, context.room, made))
 }
 
 // All but these names, or these.

@@ -7,11 +7,11 @@ ghost use Rattle.vx_source_grammar.specs.States.{goes, operand_due};
 ghost use Rattle.vx_source_operands.specs.Places.{ReadsUpTo};
 ghost use Rattle.vx_source_operands.specs.OperandViews.{frame_of, frames_of, operand_of, operands_of, step_of};
 
-use std::alloc::{AllocError, Global};
+use std::alloc::AllocError;
 use vx_fn::ScalarFnRef;
 use vx_source_grammar::{Keyword, as_keyword};
-use vx_source_operands::{ExpressionStep, Frame, Mode, Operand, more, node, tight};
-use vx_source_types::{Found, ParseError, Token};
+use vx_source_operands::{Context, ExpressionStep, Frame, Mode, Operand, more, node, tight};
+use vx_source_types::{ParseError, Token};
 
 /// The keyword that the token is.
 pub fn keyword(token: &Token) -> Option<Keyword>
@@ -48,16 +48,14 @@ pub(crate) fn with_operand(
 
 /// The node of the function over the operands stands there, read from these bytes, where so much nesting is allowed.
 pub(crate) fn node_stands(
-    alloc: Global,
+    context: Context,
     frames: Vec<Frame>,
-    room: usize,
     scalar_fn: ScalarFnRef,
     operands: Vec<Operand>,
     bytes: (usize, usize),
-    found: &Found,
 ) -> Result<ExpressionStep, ParseError>
-    ensures reads { ReadsUpTo found.now.at step_of result (grammar.node_stands (frames_of frames.items) room (function_of scalar_fn) (operands_of operands.items)) }
+    ensures reads { ReadsUpTo context.entry.found.now.at step_of result (grammar.node_stands (frames_of frames.items) context.entry.room (function_of scalar_fn) (operands_of operands.items)) }
 {
-    let made = node(alloc, scalar_fn, operands, bytes, room, found)?;
-    Ok(tight(frames, room, made))
+    let made = node(context, scalar_fn, operands, bytes)?;
+    Ok(tight(frames, context.room, made))
 }

@@ -1,22 +1,24 @@
 // Whole texts of expressions.
-ghost use Rattle.std.specs.Prelude.{◌≡◌, ◌≤◌, Err, MatchOption};
+ghost use Rattle.std.specs.Prelude.{◌≡◌, ◌≤◌, Err, IfOk, MatchOption, true};
 ghost use Rattle.vx_tree.specs.Trees.{Tree};
 ghost use Rattle.vx_tree.specs.Views.{tree_of};
 ghost use Rattle.vx_source_types.specs.Tokens.{end};
 ghost use Rattle.vx_source_types.specs.Views.{lexeme_of};
 ghost use Rattle.vx_source_types.specs.Reading.{IsRead, Gives, ReadsAt, whole_text};
 ghost use Rattle.vx_source_types.specs.ScalarReading.{ParsesWithin};
-ghost use Rattle.vx_source_grammar.specs.ExpressionReading.{expression_step};
+ghost use Rattle.vx_source_types.specs.Literals.{open_literal};
+ghost use Rattle.vx_source_grammar.specs.ExpressionReading.{expression_step, step_by};
 ghost use Rattle.vx_source_grammar.specs.States.{expression_start};
 ghost use Rattle.vx_source_operands.specs.OperandViews.{operand_of};
+ghost use Rattle.vx_source_operands.specs.PlainViews.{plain_by};
 ghost use Rattle.vx_source_writer.specs.SourceTexts.{source};
 ghost use Rattle.vx_source_laws.specs.Nesting.{nesting};
 ghost use Rattle.vx_source_laws.specs.SpelledTrees.{IsSpelledTree};
-ghost use Rattle.vx_source_parser.specs.Placed.{tree_in};
+ghost use Rattle.vx_source_parser.specs.Placed.{AreReadings, tree_in};
 
 use crate::step::step;
 use std::alloc::Global;
-use vx_source_operands::{ExpressionReader, ExpressionStep, Operand, Places};
+use vx_source_operands::{ExpressionReader, ExpressionStep, Operand, Places, PlainValues};
 use vx_source_types::{DEFAULT_NESTING, Expected, Found, ParseError, Token, first_token, refusal};
 use vx_tree::Expression;
 
@@ -47,7 +49,7 @@ pub fn parse_with(alloc: Global, text: &str, limit: usize) -> Result<Expression,
     ensures complete { (e : Tree) → IsRead expression_step (expression_start limit) text.now e → Gives tree_of result e }
     ensures again { (e : Tree) → IsSpelledTree e → nesting e ≤ limit → text.now ≡ source e → Gives tree_of result e }
 {
-    let Operand { tree, .. } = read(alloc, text, limit)?;
+    let Operand { tree, .. } = read(alloc, PlainValues::Alone, text, limit)?;
     Ok(Box::into_inner(tree))
 }
 
@@ -57,16 +59,54 @@ pub fn parse_with_places(alloc: Global, text: &str, limit: usize) -> Result<Plac
     ensures complete { (e : Tree) → IsRead expression_step (expression_start limit) text.now e → Gives tree_in result e }
     ensures again { (e : Tree) → IsSpelledTree e → nesting e ≤ limit → text.now ≡ source e → Gives tree_in result e }
 {
-    let Operand { tree, places, .. } = read(alloc, text, limit)?;
+    let Operand { tree, places, .. } = read(alloc, PlainValues::Alone, text, limit)?;
     Ok(Placed {
         expression: Box::into_inner(tree),
         places,
     })
 }
 
-// Reads the text token by token.
-fn read(alloc: Global, text: &str, limit: usize) -> Result<Operand, ParseError>
-    ensures { ParsesWithin expression_step (expression_start limit) text.now operand_of result }
+/// Two readings of a text: they differ in the types of the literals that have none there, and in nothing else.
+#[derive(Drop)]
+pub struct Readings {
+    /// One, and the bytes that its nodes were read from.
+    pub first: Placed,
+    /// The other.
+    pub second: Expression,
+}
+
+/// What the text says where values without a type may take one from what they stand beside, as two readings of it. They are
+/// nested at most as deep as said. Refuses as [`parse_with`] does, but for numbers above the range of `i32` and nulls
+/// without a type, which are read.
+pub fn parse_open(alloc: Global, text: &str, limit: usize) -> Result<Readings, ParseError>
+    ensures { IfOk result (λ both. AreReadings limit text.now (tree_of both.first.expression) (tree_of both.second)) }
+{
+    let Operand { tree, places, .. } = read(alloc, PlainValues::Open(false), text, limit)?;
+    let first = Placed {
+        expression: Box::into_inner(tree),
+        places,
+    };
+    with_second(alloc, first, text, limit)
+}
+
+// The first reading and the second one.
+fn with_second(
+    alloc: Global,
+    first: Placed,
+    text: &str,
+    limit: usize,
+) -> Result<Readings, ParseError>
+    ensures first { IfOk result (λ both. both.first ≡ first) }
+    ensures second { IfOk result (λ both. IsRead (step_by (open_literal true)) (expression_start limit) text.now (tree_of both.second)) }
+{
+    let Operand { tree, .. } = read(alloc, PlainValues::Open(true), text, limit)?;
+    let second = Box::into_inner(tree);
+    Ok(Readings { first, second })
+}
+
+// Reads the text token by token, values without a type as said.
+fn read(alloc: Global, plain: PlainValues, text: &str, limit: usize) -> Result<Operand, ParseError>
+    ensures { ParsesWithin (step_by (plain_by plain)) (expression_start limit) text.now operand_of result }
 {
     let mut reader = ExpressionReader::new(alloc, limit);
     let mut from = 0;
@@ -74,7 +114,7 @@ fn read(alloc: Global, text: &str, limit: usize) -> Result<Operand, ParseError>
         let found = first_token(alloc, text, from)?;
         from = found.end;
         let surplus = surplus(&found);
-        match step(alloc, reader, found) {
+        match step(alloc, plain, reader, found) {
             Ok(ExpressionStep::More(next)) => reader = next,
             Ok(ExpressionStep::Done(operand)) => match surplus {
                 None => return Ok(operand),

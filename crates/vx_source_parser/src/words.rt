@@ -21,7 +21,7 @@ use std::alloc::Global;
 use vx_fn::ScalarFnRef;
 use vx_source_grammar::Keyword;
 use vx_source_operands::{
-    Callee, ExpressionStep, Frame, Mode, OptionsSoFar, function_of, more, plain_function,
+    Callee, Context, ExpressionStep, Frame, Mode, OptionsSoFar, function_of, more, plain_function,
 };
 use vx_source_types::{Expected, Found, ParseError, Sign, Token, expected, inside, refusal};
 use vx_types::FieldName;
@@ -29,113 +29,103 @@ use vx_types::FieldName;
 // What follows a word: a bracket makes it the name of a function, and a dot behind `vortex` may begin such a name; else it
 // is a field.
 pub(crate) fn after_word(
-    alloc: Global,
+    context: Context,
     frames: Vec<Frame>,
-    room: usize,
     word: FieldName,
     bytes: (usize, usize),
-    found: &Found,
 ) -> Result<ExpressionStep, ParseError>
-    ensures reads { ReadsUpTo found.now.at step_of result (word_at (frames_of frames.items) room word (lexeme_of found.now.token)) }
+    ensures reads { ReadsUpTo context.entry.found.now.at step_of result (word_at (frames_of frames.items) context.entry.room word (lexeme_of context.entry.found.now.token)) }
 {
-    match &found.token {
-        Token::Sign(Sign::OpenParen) => call(alloc, frames, room, word, bytes.0, found),
+    match &context.found.token {
+        Token::Sign(Sign::OpenParen) => call(context, frames, word, bytes.0),
         Token::Sign(Sign::Dot) => {
             if word.as_str() == "vortex" {
-                Ok(more(frames, Mode::Vortex(word, bytes.0, bytes.1), room))
+                Ok(more(frames, Mode::Vortex(word, bytes.0, bytes.1), context.room))
             } else {
-                end_field(alloc, frames, room, word, bytes, found)
+                end_field(context, frames, word, bytes)
             }
         }
-        _ => end_field(alloc, frames, room, word, bytes, found),
+        _ => end_field(context, frames, word, bytes),
     }
 }
 
 // A field of the scope root, whose name has ended.
 fn end_field(
-    alloc: Global,
+    context: Context,
     frames: Vec<Frame>,
-    room: usize,
     name: FieldName,
     bytes: (usize, usize),
-    found: &Found,
 ) -> Result<ExpressionStep, ParseError>
-    ensures reads { ReadsUpTo found.now.at step_of result (node_before (frames_of frames.items) room (get_item name) (root ∷ []) (lexeme_of found.now.token)) }
+    ensures reads { ReadsUpTo context.entry.found.now.at step_of result (node_before (frames_of frames.items) context.entry.room (get_item name) (root ∷ []) (lexeme_of context.entry.found.now.token)) }
 {
-    let operand = field_of_root(alloc, name, bytes, room, found)?;
-    after_tight(alloc, frames, room, operand, found)
+    let operand = field_of_root(context, name, bytes)?;
+    after_tight(context, frames, operand)
 }
 
 // A name behind `vortex.`, or a field of the field of that name.
 pub(crate) fn after_vortex(
-    alloc: Global,
+    context: Context,
     frames: Vec<Frame>,
-    room: usize,
     word: FieldName,
     bytes: (usize, usize),
-    found: &Found,
 ) -> Result<ExpressionStep, ParseError>
-    ensures reads { ReadsUpTo found.now.at step_of result (vortex_at (frames_of frames.items) room word (lexeme_of found.now.token)) }
+    ensures reads { ReadsUpTo context.entry.found.now.at step_of result (vortex_at (frames_of frames.items) context.entry.room word (lexeme_of context.entry.found.now.token)) }
 {
-    match &found.token {
+    match &context.found.token {
         Token::Word(name) => {
-            let mode = Mode::Id(word, name.clone()?, bytes.0, found.end);
-            Ok(more(frames, mode, room))
+            let mode = Mode::Id(word, name.clone()?, bytes.0, context.found.end);
+            Ok(more(frames, mode, context.room))
         }
         _ => {
-            let operand = field_of_root(alloc, word, bytes, room, found)?;
-            dot(alloc, frames, room, operand, found)
+            let operand = field_of_root(context, word, bytes)?;
+            dot(context, frames, operand)
         }
     }
 }
 
 // What follows `vortex.` and a name: a bracket makes that the name of a function; else it is a field of a field.
 pub(crate) fn after_id(
-    alloc: Global,
+    context: Context,
     frames: Vec<Frame>,
-    room: usize,
     names: (FieldName, FieldName),
     bytes: (usize, usize),
-    found: &Found,
 ) -> Result<ExpressionStep, ParseError>
-    ensures reads { ReadsUpTo found.now.at step_of result (id_at (frames_of frames.items) room names.0 names.1 (lexeme_of found.now.token)) }
+    ensures reads { ReadsUpTo context.entry.found.now.at step_of result (id_at (frames_of frames.items) context.entry.room names.0 names.1 (lexeme_of context.entry.found.now.token)) }
 {
     let (word, name) = names;
-    match &found.token {
-        Token::Sign(Sign::OpenParen) => call_by_id(alloc, frames, room, name, bytes.0, found),
+    match &context.found.token {
+        Token::Sign(Sign::OpenParen) => call_by_id(context, frames, name, bytes.0),
         Token::Sign(Sign::OpenBracket) => {
-            let less = inside(room, found)?;
+            let less = inside(context.room, context.found)?;
             let options = OptionsSoFar {
                 name,
-                tokens: Vec::new(alloc),
+                tokens: Vec::new(context.alloc),
                 opened: 0,
                 room: less,
                 start: bytes.0,
             };
-            Ok(more(frames, Mode::Options(options), room))
+            Ok(more(frames, Mode::Options(options), context.room))
         }
         _ => {
-            let inner = field_of_root(alloc, word, bytes, room, found)?;
-            let operand = field(alloc, name, inner, bytes.1, room, found)?;
-            after_tight(alloc, frames, room, operand, found)
+            let inner = field_of_root(context, word, bytes)?;
+            let operand = field(context, name, inner, bytes.1)?;
+            after_tight(context, frames, operand)
         }
     }
 }
 
 // The bracket behind `vortex.` and a name.
 fn call_by_id(
-    alloc: Global,
+    context: Context,
     frames: Vec<Frame>,
-    room: usize,
     name: FieldName,
     start: usize,
-    found: &Found,
 ) -> Result<ExpressionStep, ParseError>
-    ensures reads { ReadsUpTo found.now.at step_of result (id_called (frames_of frames.items) room (beside plain_functions name)) }
+    ensures reads { ReadsUpTo context.entry.found.now.at step_of result (id_called (frames_of frames.items) context.entry.room (beside plain_functions name)) }
 {
     match plain_function(&name) {
-        Some(function) => open_children(alloc, frames, room, Callee::Own(function), start, found),
-        None => Err(expected(found, Expected::Options)),
+        Some(function) => open_children(context, frames, Callee::Own(function), start),
+        None => Err(expected(context.found, Expected::Options)),
     }
 }
 
@@ -156,7 +146,10 @@ pub(crate) fn options_next(
         },
         Token::Sign(Sign::CloseBracket) => match options.opened.checked_sub(1) {
             Some(opened) => collect(frames, room, options, opened, found),
-            None => end_options(alloc, frames, room, options, &found),
+            None => {
+                let found = &found;
+                end_options(Context { alloc, room, found }, frames, options)
+            }
         },
         Token::End => Err(expected(&found, Expected::CloseBracket)),
         Token::Invalid(wanted) => Err(expected(&found, *wanted)),
@@ -184,56 +177,50 @@ fn collect(
 
 // The options have ended.
 fn end_options(
-    alloc: Global,
+    context: Context,
     frames: Vec<Frame>,
-    room: usize,
     options: OptionsSoFar,
-    found: &Found,
 ) -> Result<ExpressionStep, ParseError>
-    ensures reads { ReadsUpTo found.now.at step_of result (when_read (λ f. goes (frames_of frames.items) (children_due f) room) (function_read options.name (lexemes_of options.tokens.items) options.room)) }
+    ensures reads { ReadsUpTo context.entry.found.now.at step_of result (when_read (λ f. goes (frames_of frames.items) (children_due f) context.entry.room) (function_read options.name (lexemes_of options.tokens.items) options.room)) }
 {
     let tokens = options.tokens.as_slice();
-    let function = function_of(alloc, &options.name, tokens, options.room, found)?;
-    let function = Box::new(alloc, function)?;
-    Ok(more(frames, Mode::Children(function, options.start), room))
+    let inner = Context {
+        room: options.room,
+        ..context
+    };
+    let function = Box::new(context.alloc, function_of(inner, &options.name, tokens)?)?;
+    let mode = Mode::Children(function, options.start);
+    Ok(more(frames, mode, context.room))
 }
 
 // The children of a function with its options.
 pub(crate) fn children(
-    alloc: Global,
+    context: Context,
     frames: Vec<Frame>,
-    room: usize,
     function: Box<ScalarFnRef>,
     start: usize,
-    found: &Found,
 ) -> Result<ExpressionStep, ParseError>
-    ensures reads { ReadsUpTo found.now.at step_of result (children_at (frames_of frames.items) room (functions.function_of function.value) (lexeme_of found.now.token)) }
+    ensures reads { ReadsUpTo context.entry.found.now.at step_of result (children_at (frames_of frames.items) context.entry.room (functions.function_of function.value) (lexeme_of context.entry.found.now.token)) }
 {
-    match &found.token {
+    match &context.found.token {
         Token::Sign(Sign::OpenParen) => {
             open_children(
-                alloc,
+                context,
                 frames,
-                room,
                 Callee::Any(Box::into_inner(function)),
                 start,
-                found,
             )
         }
-        _ => Err(refusal(found, Expected::OpenParen)),
+        _ => Err(refusal(context.found, Expected::OpenParen)),
     }
 }
 
 // The first condition of a CASE.
-pub(crate) fn case(
-    frames: Vec<Frame>,
-    room: usize,
-    found: &Found,
-) -> Result<ExpressionStep, ParseError>
-    ensures reads { ReadsUpTo found.now.at step_of result (case_at (frames_of frames.items) room (lexeme_of found.now.token) (keyword_at (lexeme_of found.now.token))) }
+pub(crate) fn case(context: Context, frames: Vec<Frame>) -> Result<ExpressionStep, ParseError>
+    ensures reads { ReadsUpTo context.entry.found.now.at step_of result (case_at (frames_of frames.items) context.entry.room (lexeme_of context.entry.found.now.token) (keyword_at (lexeme_of context.entry.found.now.token))) }
 {
-    match keyword(&found.token) {
-        Some(Keyword::When) => Ok(more(frames, Mode::Operand, room)),
-        _ => Err(refusal(found, Expected::When)),
+    match keyword(&context.found.token) {
+        Some(Keyword::When) => Ok(more(frames, Mode::Operand, context.room)),
+        _ => Err(refusal(context.found, Expected::When)),
     }
 }

@@ -1,9 +1,9 @@
 -- Scalars of what was read.
-use Rattle.std.specs.Prelude.{Bool, false, List, [], ◌∷◌, Option, Some, None, Result, Ok, Err, option_and_then, if◌then◌else◌}
+use Rattle.std.specs.Prelude.{Bool, true, false, List, [], ◌∷◌, Option, Some, None, Result, Ok, Err, option_and_then, if◌then◌else◌}
 use Rattle.std.specs.Str.{bytes_eq}
 use Rattle.std.specs.Prelude.{ℕ}
 use Rattle.vx_dtype.specs.declared.dtype.PType.{PType}
-use Rattle.vx_dtype.specs.declared.dtype.PType.TheVariants.{I32}
+use Rattle.vx_dtype.specs.declared.dtype.PType.TheVariants.{I32, I64, U64}
 use Rattle.vx_value.specs.Columns.{Constant, constant}
 use Rattle.vx_value.specs.Fits.{fits}
 use Rattle.vx_value.specs.Types.{Name, truth, number, text, octets, LogicalType, ty, atomic, list, fixed, struct, Fields, no_field, field, Datum, null, bool, int, utf8, bytes, list_of, struct_of, Data, no_datum, datum}
@@ -45,6 +45,20 @@ plain_of v (Err e) = Err e
 
 abbrev pub plain_literal : Datum → Result Constant Expected
 plain_literal v = plain_of v (plain_type v)
+
+-- a type of a value that may take another one by what it stands beside: one of two, which differ in nullability, or for null
+-- in all else
+abbrev pub open_type : Bool → Datum → Result LogicalType Expected
+open_type n null = Ok (ty (atomic (if n then text else truth)) true)
+open_type n (bool b) = Ok (ty (atomic truth) n)
+open_type n (int i) = Ok (ty (atomic (number (if fits (int i) (ty (atomic (number I64)) n) then I64 else U64))) n)
+open_type n (utf8 s) = Ok (ty (atomic text) n)
+open_type n (bytes bs) = Ok (ty (atomic octets) n)
+open_type n (list_of vs) = Err ValueType
+open_type n (struct_of vs) = Err ValueType
+
+abbrev pub open_literal : Bool → Datum → Result Constant Expected
+open_literal n v = plain_of v (open_type n v)
 
 -- what is left of the names behind that one, if it is the first
 abbrev pub behind_name : Name → List Name → Option (List Name)

@@ -1,7 +1,8 @@
 // Scalars of what was read.
 ghost use Rattle.std.specs.Prelude.{◌≡◌, option_map, MatchResult, Some, Ok, Err};
-ghost use Rattle.vx_value.specs.Views.{type_of, fields_of, value_of, data_view};
-ghost use Rattle.vx_source_types.specs.Literals.{number_literal, ranged, plain_literal, plain_type, typed_literal, fitting, names_left, items_left, row_left, behind_name};
+ghost use Rattle.vx_value.specs.Types.{int};
+ghost use Rattle.vx_value.specs.Views.{admits_null, type_of, fields_of, value_of, data_view};
+ghost use Rattle.vx_source_types.specs.Literals.{number_literal, ranged, in_range, open_literal, open_type, plain_literal, plain_type, typed_literal, fitting, names_left, items_left, row_left, behind_name};
 ghost use Rattle.vx_source_types.specs.ValueViews.{draft_of};
 
 use crate::expectation::Expected;
@@ -39,9 +40,55 @@ pub fn plain_literal(draft: Draft) -> Result<Scalar, Expected>
 {
     let Draft { value, names: _ } = draft;
     let dtype = plain_type(&value)?;
-    match fitting(dtype, value) {
+    in_range(fitting(dtype, value))
+}
+
+/// The scalar of a value that no type follows and that may take its type from what it stands beside, or what would have
+/// stood right: of one of two types, which differ.
+pub fn open_literal(draft: Draft, nullable: bool) -> Result<Scalar, Expected>
+    ensures { result ≡ open_literal nullable (value_of draft.value) }
+{
+    let Draft { value, names: _ } = draft;
+    let dtype = open_type(&value, nullable)?;
+    in_range(fitting(dtype, value))
+}
+
+// The scalar, or that a number of another range would have stood right.
+fn in_range(scalar: Option<Scalar>) -> Result<Scalar, Expected>
+    ensures { result ≡ in_range scalar }
+{
+    match scalar {
         Some(scalar) => Ok(scalar),
         None => Err(Expected::Number),
+    }
+}
+
+// One of the two types of a value that may take another one, or what would have stood right.
+fn open_type(value: &Value, nullable: bool) -> Result<DType, Expected>
+    ensures { MatchResult result (λ t. open_type nullable (value_of value.now) ≡ Ok (type_of t)) (λ e. open_type nullable (value_of value.now) ≡ Err e) }
+{
+    let n = Nullability::of(nullable);
+    match value {
+        Value::Null if nullable => Ok(DType::Utf8(n)),
+        Value::Null => Ok(DType::Bool(Nullability::Nullable)),
+        Value::Bool(_) => Ok(DType::Bool(n)),
+        Value::Int(number) => Ok(whole_number(*number, n)),
+        Value::Utf8(_) => Ok(DType::Utf8(n)),
+        Value::Binary(_) => Ok(DType::Binary(n)),
+        Value::List(_) => Err(Expected::ValueType),
+        Value::Struct(_) => Err(Expected::ValueType),
+    }
+}
+
+// The signed type of 64 bits where the number is in its range, and else the unsigned one.
+fn whole_number(number: i128, n: Nullability) -> DType
+    ensures { open_type (admits_null n) (int number) ≡ Ok (type_of result) }
+{
+    let signed = DType::Primitive(PType::I64, n);
+    if Value::Int(number).fits(&signed) {
+        signed
+    } else {
+        DType::Primitive(PType::U64, n)
     }
 }
 

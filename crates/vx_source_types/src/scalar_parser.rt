@@ -59,7 +59,7 @@ fn read_scalar(alloc: Global, text: &str, nesting: usize) -> Result<Scalar, Pars
     let mut from = first.end;
     loop {
         let found = first_token(alloc, text, from)?;
-        match step(alloc, mode, nesting, begun, &found) {
+        match mode.step(alloc, nesting, begun, &found) {
             Ok(ScalarStep::More(next)) => mode = next,
             Ok(ScalarStep::Done(scalar)) => return whole(scalar, &found),
             Err(error) => return Err(error),
@@ -82,6 +82,8 @@ fn whole(scalar: Scalar, found: &Found) -> Result<Scalar, ParseError>
 /// A scalar that is being read.
 #[derive(Drop)]
 pub enum ScalarMode {
+    /// Nothing is read yet.
+    Due,
     /// A value.
     Value(ValueReader),
     /// The type behind a value.
@@ -99,29 +101,32 @@ pub enum ScalarStep {
     Done(Scalar),
 }
 
-// Reads a token of a scalar whose value begins at that byte.
-fn step(
-    alloc: Global,
-    mode: ScalarMode,
-    nesting: usize,
-    begun: usize,
-    found: &Found,
-) -> Result<ScalarStep, ParseError>
-    ensures { ReadsFrom begun found.now.at step_of result (reading.scalar_step nesting (mode_of mode) (lexeme_of found.now.token)) }
-{
-    match mode {
-        ScalarMode::Value(reader) => match reader.step(alloc, found)? {
-            ValueStep::More(next) => Ok(ScalarStep::More(ScalarMode::Value(next))),
-            ValueStep::Done(draft) => end_value(alloc, draft, nesting, begun, found),
-        },
-        ScalarMode::Typed(draft, reader) => match reader.step(alloc, found)? {
-            TypeStep::More(next) => Ok(ScalarStep::More(ScalarMode::Typed(draft, next))),
-            TypeStep::Done(dtype) => match typed_literal(draft, dtype) {
-                Some(scalar) => Ok(ScalarStep::Done(scalar)),
-                None => Err(unexpected(begun, Expected::FittingType)),
+impl ScalarMode {
+    /// Reads a token of a scalar whose value begins at that byte.
+    pub fn step(
+        self,
+        alloc: Global,
+        nesting: usize,
+        begun: usize,
+        found: &Found,
+    ) -> Result<ScalarStep, ParseError>
+        ensures { ReadsFrom begun found.now.at step_of result (reading.scalar_step nesting (mode_of self) (lexeme_of found.now.token)) }
+    {
+        match self {
+            ScalarMode::Due => Ok(ScalarStep::More(begin(alloc, nesting, found)?)),
+            ScalarMode::Value(reader) => match reader.step(alloc, found)? {
+                ValueStep::More(next) => Ok(ScalarStep::More(ScalarMode::Value(next))),
+                ValueStep::Done(draft) => end_value(alloc, draft, nesting, begun, found),
             },
-        },
-        ScalarMode::Whole(scalar) => Ok(ScalarStep::Done(scalar)),
+            ScalarMode::Typed(draft, reader) => match reader.step(alloc, found)? {
+                TypeStep::More(next) => Ok(ScalarStep::More(ScalarMode::Typed(draft, next))),
+                TypeStep::Done(dtype) => match typed_literal(draft, dtype) {
+                    Some(scalar) => Ok(ScalarStep::Done(scalar)),
+                    None => Err(unexpected(begun, Expected::FittingType)),
+                },
+            },
+            ScalarMode::Whole(scalar) => Ok(ScalarStep::Done(scalar)),
+        }
     }
 }
 

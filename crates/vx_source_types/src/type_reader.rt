@@ -17,8 +17,15 @@ use crate::token::{Sign, Token};
 use crate::type_state::{FieldsSoFar, TypeFrame, TypeMode, TypeReader, TypeStep};
 use crate::type_words::{TypeWord, type_word};
 use std::alloc::{AllocError, Global};
-use std::rc::Rc;
+use std::sync::Arc;
 use vx_dtype::{DType, FieldName, FieldNames, Nullability, StructFields};
+
+// What lies around what is due: what is open, and how many more brackets are allowed inside.
+#[derive(Drop)]
+struct Around {
+    frames: Vec<TypeFrame>,
+    room: usize,
+}
 
 impl TypeReader {
     /// A type of which nothing is read yet, with that many brackets allowed inside one another.
@@ -37,81 +44,74 @@ impl TypeReader {
         ensures { ReadsAt found.now.at step_of result (reading.type_step (reader_of self) (lexeme_of found.now.token)) }
     {
         let TypeReader { frames, mode, room } = self;
+        let around = Around { frames, room };
         match mode {
             TypeMode::Unmarked(dtype) => match &found.token {
                 Token::Sign(Sign::Question) => {
                     let dtype = dtype.with_nullability(Nullability::Nullable);
-                    Ok(more(frames, TypeMode::Whole(dtype), room))
+                    Ok(more(around, TypeMode::Whole(dtype)))
                 }
-                _ => close(alloc, frames, dtype, room, found),
+                _ => close(alloc, around, dtype, found),
             },
-            TypeMode::Whole(dtype) => close(alloc, frames, dtype, room, found),
-            TypeMode::Begin => begin(alloc, frames, room, found),
-            TypeMode::ListOpens => opens(frames, TypeFrame::List { room }, room, found),
+            TypeMode::Whole(dtype) => close(alloc, around, dtype, found),
+            TypeMode::Begin => begin(alloc, around, found),
+            TypeMode::ListOpens => opens(around, TypeFrame::List { room }, found),
             TypeMode::FixedSizeListOpens => {
-                opens(frames, TypeFrame::FixedSizeList { room }, room, found)
+                opens(around, TypeFrame::FixedSizeList { room }, found)
             }
-            TypeMode::FirstField(fields) => first_field(alloc, frames, fields, room, found),
-            TypeMode::NextField(fields) => next_field(frames, fields, room, found),
-            TypeMode::FieldType(fields, name) => field_type(frames, fields, name, room, found),
-            TypeMode::LengthOpens(element) => length_opens(frames, element, room, found),
-            TypeMode::Length(element) => length_at(frames, element, room, found),
+            TypeMode::FirstField(fields) => first_field(alloc, around, fields, found),
+            TypeMode::NextField(fields) => next_field(around, fields, found),
+            TypeMode::FieldType(fields, name) => field_type(around, fields, name, found),
+            TypeMode::LengthOpens(element) => length_opens(around, element, found),
+            TypeMode::Length(element) => length_at(around, element, found),
             TypeMode::LengthCloses(element, size) => {
-                length_closes(alloc, frames, element, size, room, found)
+                length_closes(alloc, around, element, size, found)
             }
         }
     }
 }
 
-fn more(frames: Vec<TypeFrame>, mode: TypeMode, room: usize) -> TypeStep
-    ensures { step_of result ≡ more (record { frames = frames_of frames.items; mode = mode_of mode; room = room }) }
+fn more(around: Around, mode: TypeMode) -> TypeStep
+    ensures { step_of result ≡ more (record { frames = frames_of around.frames.items; mode = mode_of mode; room = around.room }) }
 {
+    let Around { frames, room } = around;
     TypeStep::More(TypeReader { frames, mode, room })
 }
 
 // The beginning of a type.
-fn begin(
-    alloc: Global,
-    frames: Vec<TypeFrame>,
-    room: usize,
-    found: &Found,
-) -> Result<TypeStep, ParseError>
-    ensures { ReadsAt found.now.at step_of result (reading.type_begins (frames_of frames.items) room (lexeme_of found.now.token)) }
+fn begin(alloc: Global, mut around: Around, found: &Found) -> Result<TypeStep, ParseError>
+    ensures { ReadsAt found.now.at step_of result (reading.type_begins (frames_of around.frames.items) around.room (lexeme_of found.now.token)) }
 {
     match &found.token {
         Token::Word(name) => match type_word(name) {
-            TypeWord::Plain(dtype) => Ok(more(frames, TypeMode::Unmarked(dtype), room)),
-            TypeWord::List => Ok(more(frames, TypeMode::ListOpens, room)),
-            TypeWord::FixedSizeList => Ok(more(frames, TypeMode::FixedSizeListOpens, room)),
+            TypeWord::Plain(dtype) => Ok(more(around, TypeMode::Unmarked(dtype))),
+            TypeWord::List => Ok(more(around, TypeMode::ListOpens)),
+            TypeWord::FixedSizeList => Ok(more(around, TypeMode::FixedSizeListOpens)),
             TypeWord::None => Err(expected(found, Expected::TypeName)),
         },
         Token::Sign(Sign::OpenBrace) => {
-            let less = inside(room, found)?;
+            let less = inside(around.room, found)?;
             let fields = FieldsSoFar {
                 names: Vec::new(alloc),
                 types: Vec::new(alloc),
-                room,
+                room: around.room,
             };
-            Ok(more(frames, TypeMode::FirstField(fields), less))
+            around.room = less;
+            Ok(more(around, TypeMode::FirstField(fields)))
         }
         _ => Err(refusal(found, Expected::TypeName)),
     }
 }
 
 // The bracket before an element type.
-fn opens(
-    mut frames: Vec<TypeFrame>,
-    frame: TypeFrame,
-    room: usize,
-    found: &Found,
-) -> Result<TypeStep, ParseError>
-    ensures { ReadsAt found.now.at step_of result (reading.element_opens (frames_of frames.items) room (frame_of frame) (lexeme_of found.now.token)) }
+fn opens(mut around: Around, frame: TypeFrame, found: &Found) -> Result<TypeStep, ParseError>
+    ensures { ReadsAt found.now.at step_of result (reading.element_opens (frames_of around.frames.items) around.room (frame_of frame) (lexeme_of found.now.token)) }
 {
     match &found.token {
         Token::Sign(Sign::OpenParen) => {
-            let less = inside(room, found)?;
-            frames.push(frame)?;
-            Ok(more(frames, TypeMode::Begin, less))
+            around.room = inside(around.room, found)?;
+            around.frames.push(frame)?;
+            Ok(more(around, TypeMode::Begin))
         }
         _ => Err(refusal(found, Expected::OpenParen)),
     }
@@ -120,33 +120,32 @@ fn opens(
 // What follows a whole type.
 fn close(
     alloc: Global,
-    mut frames: Vec<TypeFrame>,
+    mut around: Around,
     dtype: DType,
-    room: usize,
     found: &Found,
 ) -> Result<TypeStep, ParseError>
-    ensures { ReadsAt found.now.at step_of result (reading.type_ends (frames_of frames.items) room (type_of dtype) (lexeme_of found.now.token)) }
+    ensures { ReadsAt found.now.at step_of result (reading.type_ends (frames_of around.frames.items) around.room (type_of dtype) (lexeme_of found.now.token)) }
 {
-    match frames.pop() {
+    match around.frames.pop() {
         None => Ok(TypeStep::Done(dtype)),
-        Some(TypeFrame::List { room: outside }) => match &found.token {
+        Some(TypeFrame::List { room }) => match &found.token {
             Token::Sign(Sign::CloseParen) => {
-                let list = DType::List(Rc::new(alloc, dtype)?, Nullability::NonNullable);
-                Ok(more(frames, TypeMode::Unmarked(list), outside))
+                let list = DType::List(Arc::new(alloc, dtype)?, Nullability::NonNullable);
+                around.room = room;
+                Ok(more(around, TypeMode::Unmarked(list)))
             }
             _ => Err(refusal(found, Expected::CloseParen)),
         },
-        Some(TypeFrame::FixedSizeList { room: outside }) => match &found.token {
-            Token::Sign(Sign::CloseParen) => Ok(more(
-                frames,
-                TypeMode::LengthOpens(dtype),
-                outside,
-            )),
+        Some(TypeFrame::FixedSizeList { room }) => match &found.token {
+            Token::Sign(Sign::CloseParen) => {
+                around.room = room;
+                Ok(more(around, TypeMode::LengthOpens(dtype)))
+            }
             _ => Err(refusal(found, Expected::CloseParen)),
         },
         Some(TypeFrame::Struct(fields, name)) => {
             let fields = with_field(fields, name, dtype)?;
-            close_field(alloc, frames, fields, room, found)
+            close_field(alloc, around, fields, found)
         }
     }
 }
@@ -168,16 +167,15 @@ fn with_field(fields: FieldsSoFar, name: FieldName, dtype: DType) -> Result<Fiel
 // What follows the type of a field.
 fn close_field(
     alloc: Global,
-    frames: Vec<TypeFrame>,
+    around: Around,
     fields: FieldsSoFar,
-    room: usize,
     found: &Found,
 ) -> Result<TypeStep, ParseError>
-    ensures { ReadsAt found.now.at step_of result (reading.field_ends (frames_of frames.items) room (fields_read fields) (lexeme_of found.now.token)) }
+    ensures { ReadsAt found.now.at step_of result (reading.field_ends (frames_of around.frames.items) around.room (fields_read fields) (lexeme_of found.now.token)) }
 {
     match &found.token {
-        Token::Sign(Sign::Comma) => Ok(more(frames, TypeMode::NextField(fields), room)),
-        Token::Sign(Sign::CloseBrace) => end_fields(alloc, frames, fields),
+        Token::Sign(Sign::Comma) => Ok(more(around, TypeMode::NextField(fields))),
+        Token::Sign(Sign::CloseBrace) => end_fields(alloc, around, fields),
         _ => Err(refusal(found, Expected::CommaOrCloseBrace)),
     }
 }
@@ -185,10 +183,10 @@ fn close_field(
 // The struct of the fields.
 fn end_fields(
     alloc: Global,
-    frames: Vec<TypeFrame>,
+    mut around: Around,
     fields: FieldsSoFar,
 ) -> Result<TypeStep, ParseError>
-    ensures { MatchResult result (λ s. reading.struct_ends (frames_of frames.items) (fields_read fields) ≡ Ok (step_of s)) (λ e. e ≡ OutOfMemory) }
+    ensures { MatchResult result (λ s. reading.struct_ends (frames_of around.frames.items) (fields_read fields) ≡ Ok (step_of s)) (λ e. e ≡ OutOfMemory) }
 {
     let FieldsSoFar { names, types, room } = fields;
     let Ok(names) = FieldNames::new(alloc, names) else {
@@ -198,82 +196,66 @@ fn end_fields(
         return Err(ParseError::OutOfMemory);
     };
     let dtype = DType::Struct(fields, Nullability::NonNullable);
-    Ok(more(frames, TypeMode::Unmarked(dtype), room))
+    around.room = room;
+    Ok(more(around, TypeMode::Unmarked(dtype)))
 }
 
 fn first_field(
     alloc: Global,
-    frames: Vec<TypeFrame>,
+    around: Around,
     fields: FieldsSoFar,
-    room: usize,
     found: &Found,
 ) -> Result<TypeStep, ParseError>
-    ensures { ReadsAt found.now.at step_of result (reading.first_field_at (frames_of frames.items) room (fields_read fields) (lexeme_of found.now.token)) }
+    ensures { ReadsAt found.now.at step_of result (reading.first_field_at (frames_of around.frames.items) around.room (fields_read fields) (lexeme_of found.now.token)) }
 {
     match &found.token {
-        Token::Sign(Sign::CloseBrace) => end_fields(alloc, frames, fields),
-        _ => next_field(frames, fields, room, found),
+        Token::Sign(Sign::CloseBrace) => end_fields(alloc, around, fields),
+        _ => next_field(around, fields, found),
     }
 }
 
 // The name of a field.
-fn next_field(
-    frames: Vec<TypeFrame>,
-    fields: FieldsSoFar,
-    room: usize,
-    found: &Found,
-) -> Result<TypeStep, ParseError>
-    ensures { ReadsAt found.now.at step_of result (reading.field_named (frames_of frames.items) room (fields_read fields) (lexeme_of found.now.token) (name_at (lexeme_of found.now.token))) }
+fn next_field(around: Around, fields: FieldsSoFar, found: &Found) -> Result<TypeStep, ParseError>
+    ensures { ReadsAt found.now.at step_of result (reading.field_named (frames_of around.frames.items) around.room (fields_read fields) (lexeme_of found.now.token) (name_at (lexeme_of found.now.token))) }
 {
     match field_name(&found.token) {
-        Some(name) => Ok(more(frames, TypeMode::FieldType(fields, name.clone()?), room)),
+        Some(name) => Ok(more(around, TypeMode::FieldType(fields, name.clone()?))),
         None => Err(refusal(found, Expected::Name)),
     }
 }
 
 // The sign before the type of a field.
 fn field_type(
-    mut frames: Vec<TypeFrame>,
+    mut around: Around,
     fields: FieldsSoFar,
     name: FieldName,
-    room: usize,
     found: &Found,
 ) -> Result<TypeStep, ParseError>
-    ensures { ReadsAt found.now.at step_of result (reading.field_type_at (frames_of frames.items) room (fields_read fields) name (lexeme_of found.now.token)) }
+    ensures { ReadsAt found.now.at step_of result (reading.field_type_at (frames_of around.frames.items) around.room (fields_read fields) name (lexeme_of found.now.token)) }
 {
     match &found.token {
         Token::Sign(Sign::Equal) => {
-            frames.push(TypeFrame::Struct(fields, name))?;
-            Ok(more(frames, TypeMode::Begin, room))
+            around.frames.push(TypeFrame::Struct(fields, name))?;
+            Ok(more(around, TypeMode::Begin))
         }
         _ => Err(refusal(found, Expected::FieldType)),
     }
 }
 
-fn length_opens(
-    frames: Vec<TypeFrame>,
-    element: DType,
-    room: usize,
-    found: &Found,
-) -> Result<TypeStep, ParseError>
-    ensures { ReadsAt found.now.at step_of result (reading.length_opens_at (frames_of frames.items) room (type_of element) (lexeme_of found.now.token)) }
+fn length_opens(around: Around, element: DType, found: &Found) -> Result<TypeStep, ParseError>
+    ensures { ReadsAt found.now.at step_of result (reading.length_opens_at (frames_of around.frames.items) around.room (type_of element) (lexeme_of found.now.token)) }
 {
     match &found.token {
-        Token::Sign(Sign::OpenBracket) => Ok(more(frames, TypeMode::Length(element), room)),
+        Token::Sign(Sign::OpenBracket) => Ok(more(around, TypeMode::Length(element))),
         _ => Err(refusal(found, Expected::OpenBracket)),
     }
 }
 
-fn length_at(
-    frames: Vec<TypeFrame>,
-    element: DType,
-    room: usize,
-    found: &Found,
-) -> Result<TypeStep, ParseError>
-    ensures { ReadsAt found.now.at step_of result (reading.length_read (frames_of frames.items) room (type_of element) (lexeme_of found.now.token) (reading.length_at (lexeme_of found.now.token))) }
+fn length_at(around: Around, element: DType, found: &Found) -> Result<TypeStep, ParseError>
+    ensures { ReadsAt found.now.at step_of result (reading.length_read (frames_of around.frames.items) around.room (type_of element) (lexeme_of found.now.token) (reading.length_at (lexeme_of found.now.token))) }
 {
     match length_of(&found.token) {
-        Some(size) => Ok(more(frames, TypeMode::LengthCloses(element, size), room)),
+        Some(size) => Ok(more(around, TypeMode::LengthCloses(element, size))),
         None => Err(refusal(found, Expected::Length)),
     }
 }
@@ -298,22 +280,21 @@ pub fn length_of(token: &Token) -> Option<u32>
 
 fn length_closes(
     alloc: Global,
-    frames: Vec<TypeFrame>,
+    around: Around,
     element: DType,
     size: u32,
-    room: usize,
     found: &Found,
 ) -> Result<TypeStep, ParseError>
-    ensures { ReadsAt found.now.at step_of result (reading.length_closes_at (frames_of frames.items) room (type_of element) size (lexeme_of found.now.token)) }
+    ensures { ReadsAt found.now.at step_of result (reading.length_closes_at (frames_of around.frames.items) around.room (type_of element) size (lexeme_of found.now.token)) }
 {
     match &found.token {
         Token::Sign(Sign::CloseBracket) => {
             let list = DType::FixedSizeList(
-                Rc::new(alloc, element)?,
+                Arc::new(alloc, element)?,
                 size,
                 Nullability::NonNullable,
             );
-            Ok(more(frames, TypeMode::Unmarked(list), room))
+            Ok(more(around, TypeMode::Unmarked(list)))
         }
         _ => Err(refusal(found, Expected::CloseBracket)),
     }

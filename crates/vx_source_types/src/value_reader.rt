@@ -17,6 +17,14 @@ use crate::value_state::{Draft, ItemsSoFar, ValueFrame, ValueMode, ValueReader, 
 use std::alloc::{AllocError, Global};
 use vx_types::{FieldName, Value};
 
+// What lies around what is due: what is open, the names of structs so far, and how many more brackets are allowed inside.
+#[derive(Drop)]
+struct Around {
+    frames: Vec<ValueFrame>,
+    names: Vec<FieldName>,
+    room: usize,
+}
+
 impl ValueReader {
     /// A value of which nothing is read yet, with that many brackets allowed inside one another.
     pub fn new(alloc: Global, room: usize) -> ValueReader
@@ -40,20 +48,30 @@ impl ValueReader {
             names,
             room,
         } = self;
+        let around = Around {
+            frames,
+            names,
+            room,
+        };
         match mode {
-            ValueMode::Value => begin(alloc, frames, names, room, found),
-            ValueMode::FirstItem(items) => first_item(alloc, frames, items, names, room, found),
-            ValueMode::FirstField(items) => first_field(frames, items, names, room, found),
-            ValueMode::NextField(items) => next_field(frames, items, names, room, found),
-            ValueMode::FieldValue(items) => field_value(frames, items, names, room, found),
-            ValueMode::Whole(value) => close(frames, value, names, room, found),
+            ValueMode::Value => begin(alloc, around, found),
+            ValueMode::FirstItem(items) => first_item(alloc, around, items, found),
+            ValueMode::FirstField(items) => first_field(around, items, found),
+            ValueMode::NextField(items) => next_field(around, items, found),
+            ValueMode::FieldValue(items) => field_value(around, items, found),
+            ValueMode::Whole(value) => close(around, value, found),
         }
     }
 }
 
-fn more(frames: Vec<ValueFrame>, mode: ValueMode, names: Vec<FieldName>, room: usize) -> ValueStep
-    ensures { step_of result ≡ more (record { frames = frames_of frames.items; mode = mode_of mode; names = names.items; room = room }) }
+fn more(around: Around, mode: ValueMode) -> ValueStep
+    ensures { step_of result ≡ more (record { frames = frames_of around.frames.items; mode = mode_of mode; names = around.names.items; room = around.room }) }
 {
+    let Around {
+        frames,
+        names,
+        room,
+    } = around;
     ValueStep::More(ValueReader {
         frames,
         mode,
@@ -63,35 +81,21 @@ fn more(frames: Vec<ValueFrame>, mode: ValueMode, names: Vec<FieldName>, room: u
 }
 
 // The beginning of a value.
-fn begin(
-    alloc: Global,
-    frames: Vec<ValueFrame>,
-    names: Vec<FieldName>,
-    room: usize,
-    found: &Found,
-) -> Result<ValueStep, ParseError>
-    ensures { ReadsAt found.now.at step_of result (reading.value_begins (frames_of frames.items) names.items room (lexeme_of found.now.token)) }
+fn begin(alloc: Global, mut around: Around, found: &Found) -> Result<ValueStep, ParseError>
+    ensures { ReadsAt found.now.at step_of result (reading.value_begins (frames_of around.frames.items) around.names.items around.room (lexeme_of found.now.token)) }
 {
     match &found.token {
         Token::Sign(Sign::OpenBracket) => {
-            let less = inside(room, found)?;
-            Ok(more(
-                frames,
-                ValueMode::FirstItem(no_items(alloc, room)),
-                names,
-                less,
-            ))
+            let items = no_items(alloc, around.room);
+            around.room = inside(around.room, found)?;
+            Ok(more(around, ValueMode::FirstItem(items)))
         }
         Token::Sign(Sign::OpenBrace) => {
-            let less = inside(room, found)?;
-            Ok(more(
-                frames,
-                ValueMode::FirstField(no_items(alloc, room)),
-                names,
-                less,
-            ))
+            let items = no_items(alloc, around.room);
+            around.room = inside(around.room, found)?;
+            Ok(more(around, ValueMode::FirstField(items)))
         }
-        _ => begin_simple(alloc, frames, names, room, found),
+        _ => begin_simple(alloc, around, found),
     }
 }
 
@@ -106,17 +110,11 @@ fn no_items(alloc: Global, room: usize) -> ItemsSoFar
 }
 
 // A value of one token.
-fn begin_simple(
-    alloc: Global,
-    frames: Vec<ValueFrame>,
-    names: Vec<FieldName>,
-    room: usize,
-    found: &Found,
-) -> Result<ValueStep, ParseError>
-    ensures { ReadsAt found.now.at step_of result (reading.simple_begins (frames_of frames.items) names.items room (lexeme_of found.now.token) (reading.simple_value (lexeme_of found.now.token))) }
+fn begin_simple(alloc: Global, around: Around, found: &Found) -> Result<ValueStep, ParseError>
+    ensures { ReadsAt found.now.at step_of result (reading.simple_begins (frames_of around.frames.items) around.names.items around.room (lexeme_of found.now.token) (reading.simple_value (lexeme_of found.now.token))) }
 {
     match simple_value(alloc, &found.token)? {
-        Some(value) => Ok(more(frames, ValueMode::Whole(value), names, room)),
+        Some(value) => Ok(more(around, ValueMode::Whole(value))),
         None => Err(refusal(found, lacking(&found.token))),
     }
 }
@@ -188,81 +186,67 @@ fn word_value(name: &FieldName) -> Option<Value>
 // The first item of a list, or the end of an empty one.
 fn first_item(
     alloc: Global,
-    frames: Vec<ValueFrame>,
+    around: Around,
     items: ItemsSoFar,
-    names: Vec<FieldName>,
-    room: usize,
     found: &Found,
 ) -> Result<ValueStep, ParseError>
-    ensures { ReadsAt found.now.at step_of result (reading.first_item_at (frames_of frames.items) names.items room (items_read items) (lexeme_of found.now.token)) }
+    ensures { ReadsAt found.now.at step_of result (reading.first_item_at (frames_of around.frames.items) around.names.items around.room (items_read items) (lexeme_of found.now.token)) }
 {
     match &found.token {
-        Token::Sign(Sign::CloseBracket) => Ok(end_list(frames, items, names)),
-        _ => begin_item(alloc, frames, items, names, room, found),
+        Token::Sign(Sign::CloseBracket) => Ok(end_list(around, items)),
+        _ => begin_item(alloc, around, items, found),
     }
 }
 
 // The beginning of an item.
 fn begin_item(
     alloc: Global,
-    mut frames: Vec<ValueFrame>,
+    mut around: Around,
     items: ItemsSoFar,
-    names: Vec<FieldName>,
-    room: usize,
     found: &Found,
 ) -> Result<ValueStep, ParseError>
-    ensures { ReadsAt found.now.at step_of result (reading.value_begins (reading.in_items (items_read items) ∷ frames_of frames.items) names.items room (lexeme_of found.now.token)) }
+    ensures { ReadsAt found.now.at step_of result (reading.value_begins (reading.in_items (items_read items) ∷ frames_of around.frames.items) around.names.items around.room (lexeme_of found.now.token)) }
 {
-    frames.push(ValueFrame::List(items))?;
-    begin(alloc, frames, names, room, found)
+    around.frames.push(ValueFrame::List(items))?;
+    begin(alloc, around, found)
 }
 
 // The list of the items.
-fn end_list(frames: Vec<ValueFrame>, items: ItemsSoFar, names: Vec<FieldName>) -> ValueStep
-    ensures { Ok (step_of result) ≡ reading.list_ends (frames_of frames.items) names.items (items_read items) }
+fn end_list(mut around: Around, items: ItemsSoFar) -> ValueStep
+    ensures { Ok (step_of result) ≡ reading.list_ends (frames_of around.frames.items) around.names.items (items_read items) }
 {
     let ItemsSoFar { items, room } = items;
-    more(frames, ValueMode::Whole(Value::List(items)), names, room)
+    around.room = room;
+    more(around, ValueMode::Whole(Value::List(items)))
 }
 
 // The struct of the values.
-fn end_struct(frames: Vec<ValueFrame>, items: ItemsSoFar, names: Vec<FieldName>) -> ValueStep
-    ensures { Ok (step_of result) ≡ reading.row_ends (frames_of frames.items) names.items (items_read items) }
+fn end_struct(mut around: Around, items: ItemsSoFar) -> ValueStep
+    ensures { Ok (step_of result) ≡ reading.row_ends (frames_of around.frames.items) around.names.items (items_read items) }
 {
     let ItemsSoFar { items, room } = items;
-    more(frames, ValueMode::Whole(Value::Struct(items)), names, room)
+    around.room = room;
+    more(around, ValueMode::Whole(Value::Struct(items)))
 }
 
 // The first field of a struct, or the end of an empty one.
-fn first_field(
-    frames: Vec<ValueFrame>,
-    items: ItemsSoFar,
-    names: Vec<FieldName>,
-    room: usize,
-    found: &Found,
-) -> Result<ValueStep, ParseError>
-    ensures { ReadsAt found.now.at step_of result (reading.first_named_at (frames_of frames.items) names.items room (items_read items) (lexeme_of found.now.token)) }
+fn first_field(around: Around, items: ItemsSoFar, found: &Found) -> Result<ValueStep, ParseError>
+    ensures { ReadsAt found.now.at step_of result (reading.first_named_at (frames_of around.frames.items) around.names.items around.room (items_read items) (lexeme_of found.now.token)) }
 {
     match &found.token {
-        Token::Sign(Sign::CloseBrace) => Ok(end_struct(frames, items, names)),
-        _ => next_field(frames, items, names, room, found),
+        Token::Sign(Sign::CloseBrace) => Ok(end_struct(around, items)),
+        _ => next_field(around, items, found),
     }
 }
 
 // The name of a field.
-fn next_field(
-    frames: Vec<ValueFrame>,
-    items: ItemsSoFar,
-    mut names: Vec<FieldName>,
-    room: usize,
-    found: &Found,
-) -> Result<ValueStep, ParseError>
-    ensures { ReadsAt found.now.at step_of result (reading.value_named (frames_of frames.items) names.items room (items_read items) (lexeme_of found.now.token) (name_at (lexeme_of found.now.token))) }
+fn next_field(mut around: Around, items: ItemsSoFar, found: &Found) -> Result<ValueStep, ParseError>
+    ensures { ReadsAt found.now.at step_of result (reading.value_named (frames_of around.frames.items) around.names.items around.room (items_read items) (lexeme_of found.now.token) (name_at (lexeme_of found.now.token))) }
 {
     match field_name(&found.token) {
         Some(name) => {
-            names.push(name.clone()?)?;
-            Ok(more(frames, ValueMode::FieldValue(items), names, room))
+            around.names.push(name.clone()?)?;
+            Ok(more(around, ValueMode::FieldValue(items)))
         }
         None => Err(refusal(found, Expected::Name)),
     }
@@ -270,42 +254,37 @@ fn next_field(
 
 // The sign before the value of a field.
 fn field_value(
-    mut frames: Vec<ValueFrame>,
+    mut around: Around,
     items: ItemsSoFar,
-    names: Vec<FieldName>,
-    room: usize,
     found: &Found,
 ) -> Result<ValueStep, ParseError>
-    ensures { ReadsAt found.now.at step_of result (reading.named_value_at (frames_of frames.items) names.items room (items_read items) (lexeme_of found.now.token)) }
+    ensures { ReadsAt found.now.at step_of result (reading.named_value_at (frames_of around.frames.items) around.names.items around.room (items_read items) (lexeme_of found.now.token)) }
 {
     match &found.token {
         Token::Sign(Sign::Colon) => {
-            frames.push(ValueFrame::Struct(items))?;
-            Ok(more(frames, ValueMode::Value, names, room))
+            around.frames.push(ValueFrame::Struct(items))?;
+            Ok(more(around, ValueMode::Value))
         }
         _ => Err(refusal(found, Expected::FieldValue)),
     }
 }
 
 // What follows a whole value.
-fn close(
-    mut frames: Vec<ValueFrame>,
-    value: Value,
-    names: Vec<FieldName>,
-    room: usize,
-    found: &Found,
-) -> Result<ValueStep, ParseError>
-    ensures { ReadsAt found.now.at step_of result (reading.value_ends (frames_of frames.items) names.items room (value_of value) (lexeme_of found.now.token)) }
+fn close(mut around: Around, value: Value, found: &Found) -> Result<ValueStep, ParseError>
+    ensures { ReadsAt found.now.at step_of result (reading.value_ends (frames_of around.frames.items) around.names.items around.room (value_of value) (lexeme_of found.now.token)) }
 {
-    match frames.pop() {
-        None => Ok(ValueStep::Done(Draft { value, names })),
+    match around.frames.pop() {
+        None => Ok(ValueStep::Done(Draft {
+            value,
+            names: around.names,
+        })),
         Some(ValueFrame::List(items)) => {
             let items = with_item(items, value)?;
-            close_item(frames, items, names, room, found)
+            close_item(around, items, found)
         }
         Some(ValueFrame::Struct(items)) => {
             let items = with_item(items, value)?;
-            close_field(frames, items, names, room, found)
+            close_field(around, items, found)
         }
     }
 }
@@ -320,38 +299,26 @@ fn with_item(items: ItemsSoFar, value: Value) -> Result<ItemsSoFar, AllocError>
 }
 
 // What follows an item of a list.
-fn close_item(
-    mut frames: Vec<ValueFrame>,
-    items: ItemsSoFar,
-    names: Vec<FieldName>,
-    room: usize,
-    found: &Found,
-) -> Result<ValueStep, ParseError>
-    ensures { ReadsAt found.now.at step_of result (reading.item_ends (frames_of frames.items) names.items room (items_read items) (lexeme_of found.now.token)) }
+fn close_item(mut around: Around, items: ItemsSoFar, found: &Found) -> Result<ValueStep, ParseError>
+    ensures { ReadsAt found.now.at step_of result (reading.item_ends (frames_of around.frames.items) around.names.items around.room (items_read items) (lexeme_of found.now.token)) }
 {
     match &found.token {
         Token::Sign(Sign::Comma) => {
-            frames.push(ValueFrame::List(items))?;
-            Ok(more(frames, ValueMode::Value, names, room))
+            around.frames.push(ValueFrame::List(items))?;
+            Ok(more(around, ValueMode::Value))
         }
-        Token::Sign(Sign::CloseBracket) => Ok(end_list(frames, items, names)),
+        Token::Sign(Sign::CloseBracket) => Ok(end_list(around, items)),
         _ => Err(refusal(found, Expected::CommaOrCloseBracket)),
     }
 }
 
 // What follows the value of a field.
-fn close_field(
-    frames: Vec<ValueFrame>,
-    items: ItemsSoFar,
-    names: Vec<FieldName>,
-    room: usize,
-    found: &Found,
-) -> Result<ValueStep, ParseError>
-    ensures { ReadsAt found.now.at step_of result (reading.named_ends (frames_of frames.items) names.items room (items_read items) (lexeme_of found.now.token)) }
+fn close_field(around: Around, items: ItemsSoFar, found: &Found) -> Result<ValueStep, ParseError>
+    ensures { ReadsAt found.now.at step_of result (reading.named_ends (frames_of around.frames.items) around.names.items around.room (items_read items) (lexeme_of found.now.token)) }
 {
     match &found.token {
-        Token::Sign(Sign::Comma) => Ok(more(frames, ValueMode::NextField(items), names, room)),
-        Token::Sign(Sign::CloseBrace) => Ok(end_struct(frames, items, names)),
+        Token::Sign(Sign::Comma) => Ok(more(around, ValueMode::NextField(items))),
+        Token::Sign(Sign::CloseBrace) => Ok(end_struct(around, items)),
         _ => Err(refusal(found, Expected::CommaOrCloseBrace)),
     }
 }

@@ -3,27 +3,26 @@ use Rattle.std.proofs.Common.{◌≡◌, ◌≢◌, ℕ, zero, suc, ◌<◌, Lis
 use Rattle.std.proofs.lemmas.Bool.{and_from, and_left, and_right, cond-true, cond-false, eq-eqb, ne_eqb}
 use Rattle.vx_value.specs.Types.{Name}
 use Rattle.vx_fn.specs.Functions.{Function, arity_of}
-use Rattle.vx_tree.specs.declared.expression.Expression.{Expression}
 use Rattle.vx_tree.specs.Nodes.{function_at, children_of}
 use Rattle.vx_tree.specs.Trees.{Tree}
-use Rattle.vx_tree.specs.Views.{tree_of, trees_of}
+use Rattle.vx_tree.specs.Views.{trees_from}
 use Rattle.vx_tree.proofs.Seen.{function_node}
 use Rattle.vx_source_types.specs.Names.{name_source}
 use Rattle.vx_source_writer.specs.SourceTexts.{source, sources, sources_of, node_source, own_source, full_source, is_shown}
 
-pub length-sources : (xs : List Expression) → length (sources_of xs) ≡ length xs
-length-sources [] = refl
-length-sources (x ∷ xs) = omega (arith, length-sources xs)
+pub length-sources : {A : Type 0} (view : A → Tree) (xs : List A) → length (sources_of view xs) ≡ length xs
+length-sources view [] = refl
+length-sources view (x ∷ xs) = omega (arith, length-sources view xs)
 
-pub get_or-sources : (xs : List Expression) (i : ℕ) (x : Expression) → i < length xs → x ≡ get_or xs i x → source (tree_of x) ≡ get_or (sources_of xs) i []
-get_or-sources [] i x h is = absurd (omega arith)
-get_or-sources (y ∷ xs) zero x h is = ap (λ z. source (tree_of z)) is
-get_or-sources (y ∷ xs) (suc i) x h is = get_or-sources xs i x (omega arith) is
+pub get_or-sources : {A : Type 0} (view : A → Tree) (xs : List A) (i : ℕ) (x : A) → i < length xs → x ≡ get_or xs i x → source (view x) ≡ get_or (sources_of view xs) i []
+get_or-sources view [] i x h is = absurd (omega arith)
+get_or-sources view (y ∷ xs) zero x h is = ap (λ z. source (view z)) is
+get_or-sources view (y ∷ xs) (suc i) x h is = get_or-sources view xs i x (omega arith) is
 
 -- ---- the text of a node, over its children
 
-source-node : (e : Tree) (f : Function) (xs : List Expression) → Some f ≡ function_at e → trees_of xs ≡ children_of e → node_source f (sources_of xs) ≡ source e
-source-node e f xs h is = ap (λ es. node_source f (sources es)) is ∙ ap source (sym (function_node e f h))
+source-node : {A : Type 0} (view : A → Tree) (e : Tree) (f : Function) (xs : List A) → Some f ≡ function_at e → trees_from (map view xs) ≡ children_of e → node_source f (sources_of view xs) ≡ source e
+source-node view e f xs h is = ap (λ es. node_source f (sources es)) is ∙ ap source (sym (function_node e f h))
 
 pub node_source-own : (f : Function) (cs : List (List ℕ)) → is_shown f ≡ true → length cs ≡ arity_of f → node_source f cs ≡ own_source f cs
 node_source-own f cs s n = cond-true _ (own_source f cs) (full_source f cs) (and_from (is_shown f) (arity_of f == length cs) s (eq-eqb (arity_of f) (length cs) (sym n)))
@@ -35,14 +34,14 @@ node_source-other : (f : Function) (cs : List (List ℕ)) → length cs ≢ arit
 node_source-other f cs n =
     cond-false _ (own_source f cs) (full_source f cs) (and_right (is_shown f) (arity_of f == length cs) (ne_eqb (arity_of f) (length cs) (λ e. n (sym e))))
 
-pub source-own : (e : Tree) (f : Function) (xs : List Expression) → Some f ≡ function_at e → trees_of xs ≡ children_of e → is_shown f ≡ true → length xs ≡ arity_of f → own_source f (sources_of xs) ≡ source e
-source-own e f xs h is s n = sym (node_source-own f (sources_of xs) s (length-sources xs ∙ n)) ∙ source-node e f xs h is
+pub source-own : {A : Type 0} (view : A → Tree) (e : Tree) (f : Function) (xs : List A) → Some f ≡ function_at e → trees_from (map view xs) ≡ children_of e → is_shown f ≡ true → length xs ≡ arity_of f → own_source f (sources_of view xs) ≡ source e
+source-own view e f xs h is s n = sym (node_source-own f (sources_of view xs) s (length-sources view xs ∙ n)) ∙ source-node view e f xs h is
 
-pub source-hidden : (e : Tree) (f : Function) (xs : List Expression) → Some f ≡ function_at e → trees_of xs ≡ children_of e → is_shown f ≡ false → full_source f (sources_of xs) ≡ source e
-source-hidden e f xs h is s = sym (node_source-hidden f (sources_of xs) s) ∙ source-node e f xs h is
+pub source-hidden : {A : Type 0} (view : A → Tree) (e : Tree) (f : Function) (xs : List A) → Some f ≡ function_at e → trees_from (map view xs) ≡ children_of e → is_shown f ≡ false → full_source f (sources_of view xs) ≡ source e
+source-hidden view e f xs h is s = sym (node_source-hidden f (sources_of view xs) s) ∙ source-node view e f xs h is
 
-pub source-other : (e : Tree) (f : Function) (xs : List Expression) → Some f ≡ function_at e → trees_of xs ≡ children_of e → length xs ≢ arity_of f → full_source f (sources_of xs) ≡ source e
-source-other e f xs h is n = sym (node_source-other f (sources_of xs) (λ m. n (sym (length-sources xs) ∙ m))) ∙ source-node e f xs h is
+pub source-other : {A : Type 0} (view : A → Tree) (e : Tree) (f : Function) (xs : List A) → Some f ≡ function_at e → trees_from (map view xs) ≡ children_of e → length xs ≢ arity_of f → full_source f (sources_of view xs) ≡ source e
+source-other view e f xs h is n = sym (node_source-other f (sources_of view xs) (λ m. n (sym (length-sources view xs) ∙ m))) ∙ source-node view e f xs h is
 
 -- ---- names
 

@@ -5,9 +5,8 @@ use Rattle.vx_fn.specs.declared.options.FieldSelection.{FieldSelection}
 use Rattle.vx_fn.specs.declared.options.FieldSelection.TheVariants.{Include, Exclude}
 use Rattle.vx_fn.specs.Functions.{Function, case_when, get_item, literal, pack, select, cast, arity_of, id_of}
 use Rattle.vx_fn.specs.Texts.{with_commas, pack_sql, own_sql}
-use Rattle.vx_tree.specs.declared.expression.Expression.{Expression}
 use Rattle.vx_tree.specs.Trees.{Tree, root, call, Trees, no_tree, tree}
-use Rattle.vx_tree.specs.Views.{trees_of}
+use Rattle.vx_tree.specs.Views.{trees_from}
 use Rattle.vx_source_types.specs.Names.{name_source, names_source}
 use Rattle.vx_source_types.specs.TypeTexts.{type_source}
 use Rattle.vx_source_types.specs.ScalarTexts.{scalar_source}
@@ -50,6 +49,6 @@ abbrev mutual
   sources no_tree = []
   sources (tree e es) = source e ∷ sources es
 
--- the source texts of expressions
-abbrev pub sources_of : List Expression → List (List ℕ)
-sources_of es = sources (trees_of es)
+-- the source texts of what is seen as a list of trees
+abbrev pub sources_of : {A : Type 0} → (A → Tree) → List A → List (List ℕ)
+sources_of view xs = sources (trees_from (map view xs))

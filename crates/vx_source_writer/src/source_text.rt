@@ -4,7 +4,6 @@ ghost use Rattle.std.specs.Fmt.{WritesOnOk};
 ghost use Rattle.vx_fn.specs.Functions.{arity_of};
 ghost use Rattle.vx_fn.specs.Texts.{call_sql, with_commas};
 ghost use Rattle.vx_fn.specs.Views.{function_of};
-ghost use Rattle.vx_tree.specs.Views.{tree_of};
 ghost use Rattle.vx_source_writer.specs.SourceTexts.{source, sources_of, own_source, full_source, select_source, is_shown};
 
 mod case;
@@ -18,16 +17,16 @@ use pack::write_pack;
 use std::fmt;
 use std::fmt::{Display, Formatter, Write};
 use vx_source_types::{write_name, write_names, write_scalar, write_type};
-use vx_tree::{Expression, FieldSelection, ScalarFnRef};
+use vx_tree::{FieldSelection, ScalarFnRef, TreeNode};
 
-/// The expression as source text, from which it is read back: its SQL text with the types of literals that aren't plain,
-/// names that are no words between backquotes, and the options of a node that has another number of children than it
-/// takes. It takes no memory.
-#[derive(Clone, Copy)]
-pub struct SourceText<'a>(pub &'a Expression);
+/// An expression, or a bound tree without its types, as source text, from which it is read back: its SQL text with the
+/// types of literals that aren't plain, names that are no words between backquotes, and the options of a node that has
+/// another number of children than it takes. It takes no memory.
+#[derive(Drop)]
+pub struct SourceText<'a, T>(pub &'a T);
 
-impl Display for SourceText<'_> {
-    ghost output = { λ text. Some (source (tree_of text.0.now)) };
+impl<T: TreeNode> Display for SourceText<'_, T> {
+    ghost output = { λ text. Some (source (T.tree text.0.now)) };
 
     fn fmt<W: Write>(&self, f: &mut Formatter<W>) -> fmt::Result {
         write_source(self.0, f)
@@ -36,13 +35,13 @@ impl Display for SourceText<'_> {
 
 // The text of a node.
 #[cycle(source)]
-fn write_source<W: Write>(node: &Expression, f: &mut Formatter<W>) -> fmt::Result
-    ensures { WritesOnOk W.write_str_gives f.old result (source (tree_of node.now)) f.new }
+fn write_source<T: TreeNode, W: Write>(node: &T, f: &mut Formatter<W>) -> fmt::Result
+    ensures { WritesOnOk W.write_str_gives f.old result (source (T.tree node.now)) f.new }
 {
-    let Some(scalar_fn) = node.as_scalar() else {
+    let Some(scalar_fn) = node.node_function() else {
         return f.write_str("$");
     };
-    let children = node.children();
+    let children = node.node_children();
     if !is_shown(scalar_fn) {
         return write_full(scalar_fn, children, f);
     }
@@ -65,13 +64,13 @@ fn is_shown(scalar_fn: &ScalarFnRef) -> bool
 
 // The text of a node that has its number of children.
 #[cycle(source)]
-fn write_own<W: Write>(
+fn write_own<T: TreeNode, W: Write>(
     scalar_fn: &ScalarFnRef,
-    children: &[Expression],
+    children: &[T],
     f: &mut Formatter<W>,
 ) -> fmt::Result
     requires { length children.now ≡ arity_of (function_of scalar_fn.now) }
-    ensures { WritesOnOk W.write_str_gives f.old result (own_source (function_of scalar_fn.now) (sources_of children.now)) f.new }
+    ensures { WritesOnOk W.write_str_gives f.old result (own_source (function_of scalar_fn.now) (sources_of T.tree children.now)) f.new }
 {
     match scalar_fn {
         ScalarFnRef::CaseWhen(_) => write_case(children, f),
@@ -108,21 +107,25 @@ fn write_own<W: Write>(
 
 // The text of one of the children.
 #[cycle(source)]
-fn write_child<W: Write>(children: &[Expression], index: usize, f: &mut Formatter<W>) -> fmt::Result
+fn write_child<T: TreeNode, W: Write>(
+    children: &[T],
+    index: usize,
+    f: &mut Formatter<W>,
+) -> fmt::Result
     requires { index < length children.now }
-    ensures { WritesOnOk W.write_str_gives f.old result (get_or (sources_of children.now) index []) f.new }
+    ensures { WritesOnOk W.write_str_gives f.old result (get_or (sources_of T.tree children.now) index []) f.new }
 {
     write_source(&children[index], f)
 }
 
 // The function's name, and the children between parentheses.
 #[cycle(source)]
-fn write_call<W: Write>(
+fn write_call<T: TreeNode, W: Write>(
     scalar_fn: &ScalarFnRef,
-    children: &[Expression],
+    children: &[T],
     f: &mut Formatter<W>,
 ) -> fmt::Result
-    ensures { WritesOnOk W.write_str_gives f.old result (call_sql (function_of scalar_fn.now) (sources_of children.now)) f.new }
+    ensures { WritesOnOk W.write_str_gives f.old result (call_sql (function_of scalar_fn.now) (sources_of T.tree children.now)) f.new }
 {
     f.write_str(scalar_fn.id())?;
     f.write_str("(")?;
@@ -132,12 +135,12 @@ fn write_call<W: Write>(
 
 // The function's name, its options between square brackets, and the children between parentheses.
 #[cycle(source)]
-fn write_full<W: Write>(
+fn write_full<T: TreeNode, W: Write>(
     scalar_fn: &ScalarFnRef,
-    children: &[Expression],
+    children: &[T],
     f: &mut Formatter<W>,
 ) -> fmt::Result
-    ensures { WritesOnOk W.write_str_gives f.old result (full_source (function_of scalar_fn.now) (sources_of children.now)) f.new }
+    ensures { WritesOnOk W.write_str_gives f.old result (full_source (function_of scalar_fn.now) (sources_of T.tree children.now)) f.new }
 {
     f.write_str(scalar_fn.id())?;
     f.write_str("[")?;
@@ -149,8 +152,8 @@ fn write_full<W: Write>(
 
 // The texts of the children, with commas between them.
 #[cycle(source)]
-fn write_list<W: Write>(children: &[Expression], f: &mut Formatter<W>) -> fmt::Result
-    ensures { WritesOnOk W.write_str_gives f.old result (with_commas (sources_of children.now)) f.new }
+fn write_list<T: TreeNode, W: Write>(children: &[T], f: &mut Formatter<W>) -> fmt::Result
+    ensures { WritesOnOk W.write_str_gives f.old result (with_commas (sources_of T.tree children.now)) f.new }
 {
     if children.is_empty() {
         return Ok(());
@@ -165,13 +168,13 @@ fn write_list<W: Write>(children: &[Expression], f: &mut Formatter<W>) -> fmt::R
 
 // The child, and the names of the selection between braces, behind a tilde where they are left out.
 #[cycle(source)]
-fn write_select<W: Write>(
+fn write_select<T: TreeNode, W: Write>(
     selection: &FieldSelection,
-    children: &[Expression],
+    children: &[T],
     f: &mut Formatter<W>,
 ) -> fmt::Result
     requires { length children.now ≡ 1 }
-    ensures { WritesOnOk W.write_str_gives f.old result (select_source selection.now (get_or (sources_of children.now) 0 [])) f.new }
+    ensures { WritesOnOk W.write_str_gives f.old result (select_source selection.now (get_or (sources_of T.tree children.now) 0 [])) f.new }
 {
     write_child(children, 0, f)?;
     match selection {

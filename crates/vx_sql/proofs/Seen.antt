@@ -1,7 +1,7 @@
 -- The children of a node, seen as bound trees.
 use Rattle.std.proofs.Common.{◌≡◌, ℕ, zero, suc, ◌<◌, ◌≤◌, List, [], ◌∷◌, length, get_or, Some, None, refl, sym, ap, ◌∙◌, arith, rules, Vec}
 use Rattle.std.specs.declared.alloc.Global.{Global}
-use Rattle.std.specs.declared.rc.Rc.{Rc}
+use Rattle.std.specs.declared.sync.Arc.{Arc}
 use Rattle.vx_dtype.specs.declared.dtype.DType.{DType}
 use Rattle.vx_value.specs.Views.{type_of}
 use Rattle.vx_fn.specs.declared.function.ScalarFnRef.{ScalarFnRef}
@@ -28,10 +28,10 @@ child_smaller bs i b h is =
     let below = item_smaller (λ x. unbound (bound_of x)) bs i b h is in
     let same = ap sizes_of (unbound_each-bounds_of bs) in omega arith
 
-bound_of-Scalar : (t : DType) (f : ScalarFnRef) (all : Rc (Vec BoundExpression Global) Global) → bound_of (Bound.Scalar t f all) ≡ node (type_of t) (function_of f) (bounds_of all.value.items)
+bound_of-Scalar : (t : DType) (f : ScalarFnRef) (all : Arc (Vec BoundExpression Global) Global) → bound_of (Bound.Scalar t f all) ≡ node (type_of t) (function_of f) (bounds_of all.value.items)
 bound_of-Scalar t f all = search (rules, Bound.the_lemmas)
 
 -- a node over the children that it holds
-pub bound_node : (b : BoundExpression) (t : DType) (f : ScalarFnRef) (all : Rc (Vec BoundExpression Global) Global) (children : List BoundExpression) → b ≡ Bound.Scalar t f all → children ≡ all.value.items
+pub bound_node : (b : BoundExpression) (t : DType) (f : ScalarFnRef) (all : Arc (Vec BoundExpression Global) Global) (children : List BoundExpression) → b ≡ Bound.Scalar t f all → children ≡ all.value.items
     → bound_of b ≡ node (type_of t) (function_of f) (bounds_of children)
 bound_node b t f all children is those = rw (is, bound_of-Scalar t f all, ← those) refl

@@ -2,7 +2,7 @@
 use Rattle.std.specs.Prelude.{ℕ, Bool, true, false, List, [], ◌++◌, codes}
 use Rattle.vx_dtype.specs.declared.dtype.PType.{PType}
 use Rattle.vx_dtype.specs.declared.dtype.PType.TheVariants.{U8, U16, U32, U64, I8, I16, I32, I64}
-use Rattle.vx_value.specs.Types.{truth, number, text, octets, LogicalType, ty, atomic}
+use Rattle.vx_value.specs.Types.{truth, number, text, octets, LogicalType, ty, atomic, list, fixed, struct}
 use Rattle.vx_sql.specs.declared.dialect.Dialect.{Dialect}
 use Rattle.vx_sql.specs.declared.dialect.Dialect.TheVariants.{Postgres, Sqlite, DuckDb, Spark}
 
@@ -71,7 +71,9 @@ type_word d (ty (atomic truth) n) = truth_word d
 type_word d (ty (atomic (number p)) n) = number_word d p
 type_word d (ty (atomic text) n) = text_word d
 type_word d (ty (atomic octets) n) = octets_word d
-type_word d _ = []
+type_word d (ty (list t) n) = []
+type_word d (ty (fixed t k) n) = []
+type_word d (ty (struct fs) n) = []
 
 -- the text as one of that type
 abbrev pub cast_text : List ℕ → List ℕ → List ℕ
@@ -88,11 +90,16 @@ collation Spark = []
 abbrev pub has_type : Dialect → LogicalType → Bool
 has_type Sqlite (ty (atomic (number U64)) n) = false
 has_type Sqlite (ty (atomic p) n) = true
-has_type Sqlite _ = false
-has_type _ _ = true
+has_type Sqlite (ty (list t) n) = false
+has_type Sqlite (ty (fixed t k) n) = false
+has_type Sqlite (ty (struct fs) n) = false
+has_type Postgres t = true
+has_type DuckDb t = true
+has_type Spark t = true
 
 -- whether the engine makes structs of values
 abbrev pub makes_structs : Dialect → Bool
+makes_structs Postgres = false
+makes_structs Sqlite = false
 makes_structs DuckDb = true
 makes_structs Spark = true
-makes_structs _ = false

@@ -5,15 +5,15 @@ use Rattle.std.specs.List.{flat_map}
 use Rattle.vx_fn.specs.Values.{Part, any_text, any_one, just}
 use Rattle.vx_eval_like.specs.Patterns.{spelled_by}
 use Rattle.vx_sql.specs.declared.dialect.Dialect.{Dialect}
-use Rattle.vx_sql.specs.declared.dialect.Dialect.TheVariants.{Sqlite}
-use Rattle.vx_sql.specs.declared.patterns.Part as program
-use Rattle.vx_sql.specs.declared.patterns.Part.TheVariants.{AnyText, AnyOne, Just}
+use Rattle.vx_sql.specs.declared.dialect.Dialect.TheVariants.{Postgres, Sqlite, DuckDb, Spark}
 use Rattle.vx_sql.specs.Quotes.{quoted, quoting_of}
 
 -- whether the engine's patterns are those of GLOB. SQLite's LIKE ignores the case of letters or not, by a setting
 abbrev pub has_globs : Dialect → Bool
+has_globs Postgres = false
 has_globs Sqlite = true
-has_globs _ = false
+has_globs DuckDb = false
+has_globs Spark = false
 
 -- ---- LIKE: 37 is `%`, 95 `_`, and 33 `!`, which makes the character behind it stand for itself
 
@@ -64,11 +64,3 @@ parts_spelled d ignore_case ps = flat_map (part_spelled d ignore_case) ps
 -- a pattern as a text between quotes
 abbrev pub pattern_sql : Dialect → Bool → List ℕ → List ℕ
 pattern_sql d ignore_case p = quoted (quoting_of d p) (parts_spelled d ignore_case (spelled_by ignore_case p))
-
--- ---- what the code has
-
--- what a part of the program stands for
-abbrev pub part_view : program.Part → Part
-part_view AnyText = any_text
-part_view AnyOne = any_one
-part_view (Just c) = just c

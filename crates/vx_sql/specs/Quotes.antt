@@ -37,12 +37,14 @@ quoting_of Spark s = Backslashed
 
 -- what stands for a quote inside a text, and for a backslash
 abbrev pub quote_inside : Quoting → List ℕ
+quote_inside Doubled = 39 ∷ 39 ∷ []
+quote_inside Escaped = 39 ∷ 39 ∷ []
 quote_inside Backslashed = 92 ∷ 39 ∷ []
-quote_inside _ = 39 ∷ 39 ∷ []
 
 abbrev pub backslash_inside : Quoting → List ℕ
 backslash_inside Doubled = 92 ∷ []
-backslash_inside _ = 92 ∷ 92 ∷ []
+backslash_inside Escaped = 92 ∷ 92 ∷ []
+backslash_inside Backslashed = 92 ∷ 92 ∷ []
 
 -- what stands for a character inside a text
 abbrev pub inside : Quoting → ℕ → List ℕ
@@ -50,8 +52,9 @@ inside q c = if c == 39 then quote_inside q else if c == 92 then backslash_insid
 
 -- what begins a text
 abbrev pub opening : Quoting → List ℕ
+opening Doubled = codes "'"
 opening Escaped = codes "E'"
-opening _ = codes "'"
+opening Backslashed = codes "'"
 
 -- characters as a text between quotes
 abbrev pub quoted : Quoting → List ℕ → List ℕ
@@ -65,12 +68,14 @@ text_sql d s = quoted (quoting_of d s) (chars s)
 
 -- whether two quotes inside a text stand for one, and whether a backslash says something of the character behind it
 abbrev pub doubles : Quoting → Bool
+doubles Doubled = true
+doubles Escaped = true
 doubles Backslashed = false
-doubles _ = true
 
 abbrev pub escapes : Quoting → Bool
 escapes Doubled = false
-escapes _ = true
+escapes Escaped = true
+escapes Backslashed = true
 
 -- where a reader is: at any character, behind a quote, or behind a backslash
 pub data Reading : Type 0 where

@@ -4,12 +4,12 @@ use Rattle.std.specs.List.{list_any, count_by}
 use Rattle.std.specs.Option.{option_or, is_some}
 use Rattle.std.specs.Str.{bytes_eq}
 use Rattle.vx_source_types.specs.Names.{same_word}
-use Rattle.vx_value.specs.Types.{Name, LogicalType, Datum, utf8}
-use Rattle.vx_fn.specs.Functions.{Function, get_item, literal, pack, select, fill_null, like, arity_of, is_atomic}
+use Rattle.vx_value.specs.Types.{Name, LogicalType, Datum, null, bool, int, utf8, bytes, list_of, struct_of}
+use Rattle.vx_fn.specs.Functions.{Function, case_when, get_item, literal, pack, select, fill_null, zip, binary, logical_not, between, like, is_null, is_not_null, mask, cast, arity_of, is_atomic}
 use Rattle.vx_tree.specs.Nodes.{bound_at, bound_count_of}
 use Rattle.vx_tree.specs.Trees.{BoundTrees}
 use Rattle.vx_sql.specs.declared.dialect.Dialect.{Dialect}
-use Rattle.vx_sql.specs.declared.dialect.Dialect.TheVariants.{Postgres}
+use Rattle.vx_sql.specs.declared.dialect.Dialect.TheVariants.{Postgres, Sqlite, DuckDb, Spark}
 use Rattle.vx_sql.specs.declared.unsupported.Reason.{Reason}
 use Rattle.vx_sql.specs.declared.unsupported.Reason.TheVariants.{ChildCount, UnknownType, UnknownFunction, NestedLiteral, PatternNotLiteral, FillNotLiteral, EmptyName, LongName, AmbiguousName, Nul}
 use Rattle.vx_sql.specs.Children.{passes, has_atomic_first, names_first, literal_in, is_value}
@@ -28,12 +28,16 @@ has_nul s = list_any (λ b. b == 0) s
 -- whether the engine cuts the name: PostgreSQL keeps 63 bytes
 abbrev pub is_cut : Dialect → Name → Bool
 is_cut Postgres a = nat_lt 63 (length a)
-is_cut _ a = false
+is_cut Sqlite a = false
+is_cut DuckDb a = false
+is_cut Spark a = false
 
 -- whether the engine takes two names for one: all but PostgreSQL ignore the case of ASCII letters, between quotes too
 abbrev pub same_name : Dialect → Name → Name → Bool
 same_name Postgres a b = bytes_eq a b
-same_name _ a b = same_word a b
+same_name Sqlite a b = same_word a b
+same_name DuckDb a b = same_word a b
+same_name Spark a b = same_word a b
 
 -- why no such name can be written
 abbrev pub spelling_reason : Dialect → Name → Option Reason
@@ -52,8 +56,13 @@ names_reason d all (a ∷ names) = option_or (name_reason d all a) (names_reason
 
 -- a literal is of a type without parts, and no text of it has a NUL
 abbrev pub value_reason : Datum → Option Reason
+value_reason null = None
+value_reason (bool b) = None
+value_reason (int i) = None
 value_reason (utf8 s) = because (has_nul s) Nul
-value_reason _ = None
+value_reason (bytes bs) = None
+value_reason (list_of vs) = None
+value_reason (struct_of vs) = None
 
 abbrev pub literal_reason : LogicalType → Datum → Option Reason
 literal_reason t v = if is_atomic t then value_reason v else Some NestedLiteral
@@ -77,7 +86,15 @@ function_reason d (pack names n) bs = pack_reason d names
 function_reason d (select selection) bs = Some UnknownFunction
 function_reason d fill_null bs = fill_reason bs
 function_reason d (like negated ci) bs = pattern_reason bs
-function_reason d _ bs = None
+function_reason d (case_when pairs has_else) bs = None
+function_reason d zip bs = None
+function_reason d (binary op) bs = None
+function_reason d logical_not bs = None
+function_reason d (between ls us) bs = None
+function_reason d is_null bs = None
+function_reason d is_not_null bs = None
+function_reason d mask bs = None
+function_reason d (cast u) bs = None
 
 -- why a node of that type over these children has no text: for their number, for its type, or for its function
 abbrev pub own_reason : Dialect → LogicalType → Function → BoundTrees → Option Reason

@@ -9,7 +9,8 @@ use Rattle.vx_tree.specs.Trees.{BoundTree, scope, node, BoundTrees, no_bound, bo
 use Rattle.vx_tree.specs.declared.bound.BoundExpression.{BoundExpression}
 use Rattle.vx_tree.specs.Views.{bounds_of}
 use Rattle.vx_sql.specs.declared.dialect.Dialect.{Dialect}
-use Rattle.vx_sql.specs.declared.dialect.Dialect.TheVariants.{Postgres, Sqlite, DuckDb}
+use Rattle.vx_sql.specs.declared.dialect.Dialect.TheVariants.{Postgres, Sqlite, DuckDb, Spark}
+use Rattle.vx_sql.specs.declared.text.Children.{Children}
 use Rattle.vx_sql.specs.Children.{is_row, has_text_first, has_struct_first, literal_in}
 use Rattle.vx_sql.specs.Dialects.{collation}
 use Rattle.vx_sql.specs.Quotes.{name_sql, text_sql}
@@ -65,7 +66,9 @@ between_sql d is_text ls us v l u = both_sql (below_sql ls (compared_sql d is_te
 -- whether a struct of nulls is told from a null struct by other words than `IS NULL`
 abbrev pub tests_rows : Dialect → Bool
 tests_rows Postgres = true
-tests_rows _ = false
+tests_rows Sqlite = false
+tests_rows DuckDb = false
+tests_rows Spark = false
 
 abbrev pub null_sign : Bool → Bool → List ℕ
 null_sign true true = codes " IS NOT DISTINCT FROM NULL)"
@@ -81,12 +84,14 @@ null_test d is_struct for_null c = codes "(" ++ (c ++ null_sign (tests_rows d &&
 abbrev pub before_folded : Dialect → List ℕ
 before_folded Postgres = codes "lower("
 before_folded Sqlite = []
-before_folded _ = codes "translate("
+before_folded DuckDb = codes "translate("
+before_folded Spark = codes "translate("
 
 abbrev pub behind_folded : Dialect → List ℕ
 behind_folded Postgres = codes ")"
 behind_folded Sqlite = []
-behind_folded _ = codes ", 'ABCDEFGHIJKLMNOPQRSTUVWXYZ', 'abcdefghijklmnopqrstuvwxyz')"
+behind_folded DuckDb = codes ", 'ABCDEFGHIJKLMNOPQRSTUVWXYZ', 'abcdefghijklmnopqrstuvwxyz')"
+behind_folded Spark = codes ", 'ABCDEFGHIJKLMNOPQRSTUVWXYZ', 'abcdefghijklmnopqrstuvwxyz')"
 
 -- what stands before a text that is matched, and behind it: a GLOB compares bytes by itself, and ignores the case by its pattern
 abbrev pub before_matched : Dialect → Bool → List ℕ
@@ -138,8 +143,10 @@ item_sql d a is_column c = if is_column then name_sql d a else codes "(" ++ (c +
 
 -- a field that is made: its name, and behind it its value
 abbrev pub before_field : Dialect → Name → List ℕ
+before_field Postgres a = text_sql Postgres a ++ codes ", "
+before_field Sqlite a = text_sql Sqlite a ++ codes ", "
 before_field DuckDb a = name_sql DuckDb a ++ codes " := "
-before_field d a = text_sql d a ++ codes ", "
+before_field Spark a = text_sql Spark a ++ codes ", "
 
 abbrev pub fields_sql : Dialect → List Name → List (List ℕ) → List (List ℕ)
 fields_sql d (a ∷ names) (c ∷ cs) = (before_field d a ++ c) ∷ fields_sql d names cs
@@ -147,8 +154,10 @@ fields_sql d _ _ = []
 
 -- the function that makes a struct
 abbrev pub pack_word : Dialect → List ℕ
+pack_word Postgres = codes "named_struct("
+pack_word Sqlite = codes "named_struct("
 pack_word DuckDb = codes "struct_pack("
-pack_word _ = codes "named_struct("
+pack_word Spark = codes "named_struct("
 
 -- ---- trees
 
@@ -187,3 +196,12 @@ abbrev mutual
 -- the texts of bound expressions
 abbrev pub sqls_of : Dialect → List BoundExpression → List (List ℕ)
 sqls_of d bs = sqls d (bounds_of bs)
+
+-- ---- what the code has
+
+-- the children that a node's text is made of, and their texts
+abbrev pub trees_in : Children → BoundTrees
+trees_in c = bounds_of c.nodes.now
+
+abbrev pub sqls_in : Children → List (List ℕ)
+sqls_in c = sqls_of c.dialect c.nodes.now

@@ -16,7 +16,10 @@ wider_check U8 = Moved 32512
 wider_check U16 = Moved 2147418112
 wider_check U32 = Moved 9223372032559808512
 wider_check U64 = Narrowed
-wider_check _ = Own
+wider_check I8 = Own
+wider_check I16 = Own
+wider_check I32 = Own
+wider_check I64 = Own
 
 -- PostgreSQL has no type of one byte either
 abbrev pub postgres_check : PType → Check

@@ -1,7 +1,6 @@
 // SQL texts of bound trees, by the engine that they are handed to.
 #![tactic(auto)]
 
-mod characters;
 mod children;
 mod conversion;
 mod dialect;

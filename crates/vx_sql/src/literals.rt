@@ -73,7 +73,10 @@ fn truth_word(dialect: Dialect, b: bool) -> &'static str
 fn is_by_itself(dialect: Dialect, p: PType) -> bool
     ensures { result ≡ is_by_itself dialect p }
 {
-    matches!(dialect, Dialect::Sqlite) || matches!(p, PType::I32)
+    match dialect {
+        Dialect::Sqlite => true,
+        Dialect::Postgres | Dialect::DuckDb | Dialect::Spark => matches!(p, PType::I32),
+    }
 }
 
 // Writes the number as one of the engine's type, which a sum relies on. The sign of one below zero

@@ -1,25 +1,27 @@
 // The patterns of LIKE.
-ghost use Rattle.std.specs.Prelude.{◌≡◌, ◌<◌, ◌∷◌, ◌&&◌, [], length, encode_utf8_all, MatchOption, IfSome};
+ghost use Rattle.std.specs.Prelude.{◌≡◌, ◌&&◌, encode_utf8_all};
 ghost use Rattle.std.specs.Char.{is_ascii_lowercase};
 ghost use Rattle.std.specs.Fmt.{WritesOnOk};
 ghost use Rattle.std.specs.List.{flat_map};
-ghost use Rattle.vx_fn.specs.Values.{part_of};
-ghost use Rattle.vx_eval_like.specs.Patterns.{characters, spelled_by};
+ghost use Rattle.vx_eval_like.specs.Patterns.{part_view, spelled_by};
 ghost use Rattle.vx_sql.specs.Quotes.{inside};
-ghost use Rattle.vx_sql.specs.Patterns.{has_globs, is_like_sign, is_glob_sign, enclosed, enclosed_pair, like_char, like_part, glob_char, glob_part, part_spelled, parts_spelled, pattern_sql, part_view};
+ghost use Rattle.vx_sql.specs.Patterns.{has_globs, is_like_sign, is_glob_sign, enclosed, enclosed_pair, like_char, like_part, glob_char, glob_part, part_spelled, parts_spelled, pattern_sql};
 
 use crate::Dialect;
-use crate::characters::split_first;
 use crate::quotes::Quoting;
 use std::fmt;
 use std::fmt::{Formatter, Write};
+use vx_eval_like::{Part, first_part};
 
 /// Whether the engine's patterns are those of GLOB. SQLite's LIKE ignores the case of letters or not,
 /// by a setting.
 pub(crate) fn has_globs(dialect: Dialect) -> bool
     ensures { result ≡ has_globs dialect }
 {
-    matches!(dialect, Dialect::Sqlite)
+    match dialect {
+        Dialect::Sqlite => true,
+        Dialect::Postgres | Dialect::DuckDb | Dialect::Spark => false,
+    }
 }
 
 /// Writes the pattern as the engine's, between quotes.
@@ -155,43 +157,4 @@ fn is_glob_sign(c: char) -> bool
     ensures { result ≡ is_glob_sign c }
 {
     matches!(c, '*' | '?' | '[')
-}
-
-// What a place of a pattern stands for.
-#[derive(Clone, Copy)]
-enum Part {
-    AnyText,
-    AnyOne,
-    Just(char),
-}
-
-impl Part {
-    // What the character stands for with no backslash before it.
-    fn of(c: char) -> Part
-        ensures { part_view result ≡ part_of c }
-    {
-        match c {
-            '%' => Part::AnyText,
-            '_' => Part::AnyOne,
-            _ => Part::Just(c),
-        }
-    }
-}
-
-// The first part that the pattern spells, and the pattern after it. A backslash at the end stands for
-// itself.
-fn first_part(pattern: &str, ignore_case: bool) -> Option<(Part, &str)>
-    ensures part { MatchOption result (spelled_by ignore_case pattern.now ≡ [])
-        (λ p. spelled_by ignore_case pattern.now ≡ part_view p.0 ∷ spelled_by ignore_case p.1.now) }
-    ensures shorter { IfSome result
-        (λ p. length (characters ignore_case p.1.now) < length (characters ignore_case pattern.now)) }
-{
-    let (first, rest) = split_first(pattern, ignore_case)?;
-    if first != '\\' {
-        return Some((Part::of(first), rest));
-    }
-    match split_first(rest, ignore_case) {
-        Some((escaped, after)) => Some((Part::Just(escaped), after)),
-        None => Some((Part::Just(first), rest)),
-    }
 }

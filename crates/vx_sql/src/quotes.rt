@@ -5,9 +5,9 @@ ghost use Rattle.std.specs.List.{flat_map};
 ghost use Rattle.vx_sql.specs.Quotes.{quoting_of, quote_inside, backslash_inside, inside, opening, text_sql};
 
 use crate::Dialect;
-use crate::characters::split_first;
 use std::fmt;
 use std::fmt::{Formatter, Write};
+use vx_eval_like::split_first;
 
 /// How a text stands between quotes.
 #[derive(Clone, Copy)]

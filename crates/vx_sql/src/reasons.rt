@@ -104,7 +104,10 @@ fn has_nul(text: &str) -> bool
 fn is_cut(dialect: Dialect, name: &str) -> bool
     ensures { result ≡ is_cut dialect name.now }
 {
-    matches!(dialect, Dialect::Postgres) && name.len() > 63
+    match dialect {
+        Dialect::Postgres => name.len() > 63,
+        Dialect::Sqlite | Dialect::DuckDb | Dialect::Spark => false,
+    }
 }
 
 // Whether the engine takes two names for one: all but PostgreSQL ignore the case of ASCII letters,

@@ -4,8 +4,8 @@ ghost use Rattle.std.specs.Fmt.{WritesOnOk};
 ghost use Rattle.vx_fn.specs.Functions.{arity_of};
 ghost use Rattle.vx_fn.specs.Views.{function_of};
 ghost use Rattle.vx_value.specs.Views.{type_of};
-ghost use Rattle.vx_tree.specs.Views.{bound_of, bounds_of};
-ghost use Rattle.vx_sql.specs.SqlTexts.{sql, sqls_of, own_sql};
+ghost use Rattle.vx_tree.specs.Views.{bound_of};
+ghost use Rattle.vx_sql.specs.SqlTexts.{sql, sqls_in, trees_in, own_sql};
 
 mod choices;
 mod operators;
@@ -36,6 +36,13 @@ impl Display for SqlText<'_> {
     }
 }
 
+/// The children of a node, whose texts the engine's text of the node is made of.
+#[derive(Clone, Copy)]
+struct Children<'a> {
+    dialect: Dialect,
+    nodes: &'a [BoundExpression],
+}
+
 // The text of a node; none of one with another number of children than its function takes.
 #[cycle(text)]
 fn write_sql<W: Write>(b: &BoundExpression, dialect: Dialect, f: &mut Formatter<W>) -> fmt::Result
@@ -47,9 +54,9 @@ fn write_sql<W: Write>(b: &BoundExpression, dialect: Dialect, f: &mut Formatter<
             scalar_fn,
             children,
         } => {
-            let children = children.as_slice();
-            if children.len() == scalar_fn.arity() {
-                write_own(dialect, dtype, scalar_fn, children, f)
+            let nodes = children.as_slice();
+            if nodes.len() == scalar_fn.arity() {
+                write_own(dtype, scalar_fn, Children { dialect, nodes }, f)
             } else {
                 Ok(())
             }
@@ -61,45 +68,39 @@ fn write_sql<W: Write>(b: &BoundExpression, dialect: Dialect, f: &mut Formatter<
 // The text of a node that has its number of children.
 #[cycle(text)]
 fn write_own<W: Write>(
-    dialect: Dialect,
     dtype: &DType,
     scalar_fn: &ScalarFnRef,
-    children: &[BoundExpression],
+    children: Children,
     f: &mut Formatter<W>,
 ) -> fmt::Result
-    requires { length children.now ≡ arity_of (function_of scalar_fn.now) }
+    requires { length children.nodes.now ≡ arity_of (function_of scalar_fn.now) }
     ensures { WritesOnOk W.write_str_gives f.old result
-        (own_sql dialect (type_of dtype.now) (function_of scalar_fn.now) (bounds_of children.now) (sqls_of dialect children.now)) f.new }
+        (own_sql children.entry.dialect (type_of dtype.now) (function_of scalar_fn.now) (trees_in children.entry) (sqls_in children.entry)) f.new }
 {
     match scalar_fn {
-        ScalarFnRef::CaseWhen(_) => write_case(dialect, children, f),
-        ScalarFnRef::GetItem(name) => write_item(dialect, name, children, f),
-        ScalarFnRef::Literal(scalar) => write_literal(dialect, scalar, f),
-        ScalarFnRef::Pack(options) => write_pack(dialect, options.names.as_slice(), children, f),
+        ScalarFnRef::CaseWhen(_) => write_case(children, f),
+        ScalarFnRef::GetItem(name) => write_item(name, children, f),
+        ScalarFnRef::Literal(scalar) => write_literal(children.dialect, scalar, f),
+        ScalarFnRef::Pack(options) => write_pack(options.names.as_slice(), children, f),
         ScalarFnRef::Select(_) => Ok(()),
-        ScalarFnRef::FillNull(_) => write_fill(dialect, children, f),
-        ScalarFnRef::Zip(_) => write_zip(dialect, children, f),
-        ScalarFnRef::Binary(operator) => write_binary(dialect, dtype, *operator, children, f),
-        ScalarFnRef::Not(_) => write_not(dialect, children, f),
-        ScalarFnRef::Between(options) => write_between(dialect, *options, children, f),
-        ScalarFnRef::Like(options) => write_like(dialect, *options, children, f),
-        ScalarFnRef::IsNull(_) => write_null_test(dialect, true, children, f),
-        ScalarFnRef::IsNotNull(_) => write_null_test(dialect, false, children, f),
-        ScalarFnRef::Mask(_) => write_mask(dialect, children, f),
-        ScalarFnRef::Cast(_) => write_child(dialect, children, 0, f),
+        ScalarFnRef::FillNull(_) => write_fill(children, f),
+        ScalarFnRef::Zip(_) => write_zip(children, f),
+        ScalarFnRef::Binary(operator) => write_binary(dtype, *operator, children, f),
+        ScalarFnRef::Not(_) => write_not(children, f),
+        ScalarFnRef::Between(options) => write_between(*options, children, f),
+        ScalarFnRef::Like(options) => write_like(*options, children, f),
+        ScalarFnRef::IsNull(_) => write_null_test(true, children, f),
+        ScalarFnRef::IsNotNull(_) => write_null_test(false, children, f),
+        ScalarFnRef::Mask(_) => write_mask(children, f),
+        ScalarFnRef::Cast(_) => write_child(children, 0, f),
     }
 }
 
 // The text of one of the children.
 #[cycle(text)]
-fn write_child<W: Write>(
-    dialect: Dialect,
-    children: &[BoundExpression],
-    index: usize,
-    f: &mut Formatter<W>,
-) -> fmt::Result
-    requires { index < length children.now }
-    ensures { WritesOnOk W.write_str_gives f.old result (get_or (sqls_of dialect children.now) index []) f.new }
+fn write_child<W: Write>(children: Children, index: usize, f: &mut Formatter<W>) -> fmt::Result
+    requires { index < length children.nodes.now }
+    ensures { WritesOnOk W.write_str_gives f.old result (get_or (sqls_in children.entry) index []) f.new }
 {
-    write_sql(&children[index], dialect, f)
+    write_sql(&children.nodes[index], children.dialect, f)
 }

@@ -15,7 +15,7 @@ pub(crate) fn type_word(dialect: Dialect, dtype: &DType) -> &'static str
         DType::Primitive(p, _) => number_word(dialect, *p),
         DType::Utf8(_) => text_word(dialect),
         DType::Binary(_) => octets_word(dialect),
-        _ => "",
+        DType::List(..) | DType::FixedSizeList(..) | DType::Struct(..) => "",
     }
 }
 
@@ -132,5 +132,8 @@ pub(crate) fn has_type(dialect: Dialect, dtype: &DType) -> bool
 pub(crate) fn makes_structs(dialect: Dialect) -> bool
     ensures { result ≡ makes_structs dialect }
 {
-    matches!(dialect, Dialect::DuckDb | Dialect::Spark)
+    match dialect {
+        Dialect::Postgres | Dialect::Sqlite => false,
+        Dialect::DuckDb | Dialect::Spark => true,
+    }
 }

@@ -6,15 +6,15 @@ use Rattle.vx_value.specs.Types.{LogicalType, Datum, is_nullable}
 use Rattle.vx_fn.specs.Functions.{truth_type}
 use Rattle.vx_tree.specs.Faults.{HasNoFault}
 use Rattle.vx_tree.specs.Trees.{BoundTree, node_type, WellTyped, Over}
-use Rattle.vx_rewrite_fusing.specs.Conjuncts.{and_node, conjuncts}
+use Rattle.vx_rewrite_fusing.specs.Conjuncts.{and_node, conjoined, conjuncts, conjuncts_left}
 use Rattle.vx_rewrite_fusing.proofs.Ands.{and_parts_of, and_typed, and_quiet, quiet_and}
-use Rattle.vx_sql_plan.specs.Laws.{conjuncts_left, IfLeft, OthersAreLeft, NoOtherFault, StaysTyped, StaysOver}
-use Rattle.vx_sql_plan.specs.Pushdown.{is_pushed, both_left, without}
+use Rattle.vx_sql_plan.specs.Laws.{IfLeft, OthersAreLeft, NoOtherFault, StaysTyped, StaysOver}
+use Rattle.vx_sql_plan.specs.Pushdown.{is_pushed, without}
 use Rattle.vx_sql_plan.proofs.Induction.{IsAlone, by_ands, kept_alone, dropped_alone, none_left, all_left}
 
 -- ---- conjuncts
 
-conjuncts_of_both : (a b : Option BoundTree) → conjuncts_left (both_left a b) ≡ conjuncts_left a ++ conjuncts_left b
+conjuncts_of_both : (a b : Option BoundTree) → conjuncts_left (conjoined a b) ≡ conjuncts_left a ++ conjuncts_left b
 conjuncts_of_both None b = refl
 conjuncts_of_both (Some l) None = sym (append-nil (conjuncts l))
 conjuncts_of_both (Some l) (Some r) = refl
@@ -46,7 +46,7 @@ all-append : (P : BoundTree → Type 0) (xs ys : List BoundTree) → AllByRecurs
 all-append P [] ys h k = k
 all-append P (x ∷ xs) ys h k = (h.0, all-append P xs ys h.1 k)
 
-quiet_both : (batch : List Datum) (a b : Option BoundTree) → IfLeft (λ r. HasNoFault r batch) a → IfLeft (λ r. HasNoFault r batch) b → IfLeft (λ r. HasNoFault r batch) (both_left a b)
+quiet_both : (batch : List Datum) (a b : Option BoundTree) → IfLeft (λ r. HasNoFault r batch) a → IfLeft (λ r. HasNoFault r batch) b → IfLeft (λ r. HasNoFault r batch) (conjoined a b)
 quiet_both batch None b h k = k
 quiet_both batch (Some l) None h k = h
 quiet_both batch (Some l) (Some r) h k = quiet_and (truth_type (is_nullable (node_type l) || is_nullable (node_type r))) l r batch h k
@@ -89,7 +89,7 @@ IsTruth t = t ≡ truth_type (is_nullable t)
 abbrev IsTypedTruth : BoundTree → Type 0
 IsTypedTruth b = WellTyped b × IsTruth (node_type b)
 
-typed_both : (a b : Option BoundTree) → IfLeft IsTypedTruth a → IfLeft IsTypedTruth b → IfLeft IsTypedTruth (both_left a b)
+typed_both : (a b : Option BoundTree) → IfLeft IsTypedTruth a → IfLeft IsTypedTruth b → IfLeft IsTypedTruth (conjoined a b)
 typed_both None b h k = k
 typed_both (Some l) None h k = h
 typed_both (Some l) (Some r) h k = (and_typed l r h.0 k.0 h.1 k.1, refl)
@@ -133,7 +133,7 @@ typed_stays d b w = stays (is_pushed d) b w
 
 -- ---- the scope
 
-over_both : (s : LogicalType) (a b : Option BoundTree) → IfLeft (λ r. Over r s) a → IfLeft (λ r. Over r s) b → IfLeft (λ r. Over r s) (both_left a b)
+over_both : (s : LogicalType) (a b : Option BoundTree) → IfLeft (λ r. Over r s) a → IfLeft (λ r. Over r s) b → IfLeft (λ r. Over r s) (conjoined a b)
 over_both s None b h k = k
 over_both s (Some l) None h k = h
 over_both s (Some l) (Some r) h k = (h, (k, tt))

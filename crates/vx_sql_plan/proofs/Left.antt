@@ -1,32 +1,15 @@
--- What is pushed and left of an And, from its sides.
-use Rattle.std.proofs.Common.{◌≡◌, ℕ, Bool, true, false, ◌&&◌, List, [], ◌∷◌, ◌++◌, Option, Some, None, refl, sym, ap, ◌∙◌, map, filter, append_assoc, append-nil}
+-- What is pushed and left of a tree that is no And.
+use Rattle.std.proofs.Common.{◌≡◌, ℕ, Bool, true, false, ◌&&◌, List, [], ◌∷◌, ◌++◌, Option, Some, None, refl, sym, ap, ◌∙◌, map, append-nil}
 use Rattle.std.specs.Prelude.{IsFalse, Ok, Err}
 use Rattle.std.specs.Option.{is_none}
-use Rattle.std.proofs.lemmas.List.{map-append}
-use Rattle.std.proofs.lemmas.List.Elements.{filter-append}
 use Rattle.vx_fn.specs.Functions.{is_truth}
 use Rattle.vx_tree.specs.Trees.{BoundTree, node_type}
-use Rattle.vx_rewrite_fusing.specs.Conjuncts.{is_and, conjuncts}
+use Rattle.vx_rewrite_fusing.specs.Conjuncts.{is_and}
 use Rattle.vx_sql.specs.declared.dialect.Dialect.{Dialect}
 use Rattle.vx_sql.specs.SqlTexts.{sql}
 use Rattle.vx_sql.specs.Unsupported.{Refused, first_unsupported, text_or, sql_text}
-use Rattle.vx_sql_plan.specs.Pushdown.{is_pushed, pushed, both_left, residual, IsAndOf}
+use Rattle.vx_sql_plan.specs.Pushdown.{is_pushed, pushed, residual}
 use Rattle.vx_sql_plan.proofs.Induction.{alone, kept_alone, dropped_alone, none_left, all_left}
-
--- ---- both sides of an And
-
-pushed_of : (d : Dialect) (l r : BoundTree) → map (sql d) (filter (is_pushed d) (conjuncts l ++ conjuncts r)) ≡ map (sql d) (pushed d l) ++ map (sql d) (pushed d r)
-pushed_of d l r = ap (map (sql d)) (filter-append (is_pushed d) (conjuncts l) (conjuncts r)) ∙ map-append (sql d) (pushed d l) (pushed d r)
-
-pub texts_of_both : (d : Dialect) (b l r : BoundTree) (old middle new : List (List ℕ)) → IsAndOf l r b → middle ≡ old ++ map (sql d) (pushed d l) → new ≡ middle ++ map (sql d) (pushed d r) → new ≡ old ++ map (sql d) (pushed d b)
-texts_of_both d b l r old middle new (t, is) first second =
-    second ∙ ap (λ x. x ++ map (sql d) (pushed d r)) first ∙ append_assoc old (map (sql d) (pushed d l)) (map (sql d) (pushed d r))
-    ∙ ap (λ x. old ++ x) (sym (pushed_of d l r) ∙ ap (λ c. map (sql d) (pushed d c)) (sym is))
-
-pub left_of_both : (d : Dialect) (b l r : BoundTree) (x y z : Option BoundTree) → IsAndOf l r b → x ≡ residual d l → y ≡ residual d r → z ≡ both_left x y → z ≡ residual d b
-left_of_both d b l r x y z (t, is) first second whole = whole ∙ ap (λ o. both_left o y) first ∙ ap (both_left (residual d l)) second ∙ ap (residual d) (sym is)
-
--- ---- a tree that is alone
 
 -- it is pushed where it is a truth value with a text
 is_taken : (d : Dialect) (b : BoundTree) (text : List ℕ) → is_truth (node_type b) ≡ true → sql_text d b ≡ Ok text → (is_pushed d b ≡ true) × (text ≡ sql d b)

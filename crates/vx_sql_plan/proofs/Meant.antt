@@ -7,9 +7,9 @@ use Rattle.vx_value.specs.Types.{LogicalType, Datum, bool}
 use Rattle.vx_fn.specs.Values.{is_true, kleene_and}
 use Rattle.vx_tree.specs.Meaning.{value}
 use Rattle.vx_tree.specs.Trees.{BoundTree}
-use Rattle.vx_rewrite_fusing.specs.Conjuncts.{and_node, conjuncts}
+use Rattle.vx_rewrite_fusing.specs.Conjuncts.{and_node, conjoined, conjuncts}
 use Rattle.vx_sql_plan.specs.Laws.{value_left, conjunction, SelectsAlike, MeansAlike}
-use Rattle.vx_sql_plan.specs.Pushdown.{is_pushed, both_left, without}
+use Rattle.vx_sql_plan.specs.Pushdown.{is_pushed, without}
 use Rattle.vx_sql_plan.proofs.Induction.{IsAlone, by_ands, kept_alone, dropped_alone, none_left, all_left}
 use Rattle.vx_sql_plan.proofs.Kleene.{true_and, true_left, true_right, true_before, true_behind, as_truth, exchange, conjunction-append}
 use Rattle.vx_fn.proofs.Kleene.{and_comm}
@@ -36,7 +36,7 @@ alone_true : (a : Bool) → a ≡ ((a && true) && true)
 alone_true true = refl
 alone_true false = refl
 
-true_left_of : (a b : Option BoundTree) (v : Datum) → is_true (value_left (both_left a b) v) ≡ (is_true (value_left a v) && is_true (value_left b v))
+true_left_of : (a b : Option BoundTree) (v : Datum) → is_true (value_left (conjoined a b) v) ≡ (is_true (value_left a v) && is_true (value_left b v))
 true_left_of None b v = refl
 true_left_of (Some l) None v = behind (is_true (value l v)) where
   behind : (a : Bool) → a ≡ (a && true)
@@ -83,7 +83,7 @@ values_of bs v = map (λ c. value c v) bs
 abbrev Means : (BoundTree → Bool) → Datum → BoundTree → Type 0
 Means p v b = kleene_and (bool true) (value b v) ≡ kleene_and (conjunction (values_of (filter p (conjuncts b)) v)) (value_left (without p b) v)
 
-value_left_of : (x : Datum) (a b : Option BoundTree) (v : Datum) → kleene_and x (value_left (both_left a b) v) ≡ kleene_and x (kleene_and (value_left a v) (value_left b v))
+value_left_of : (x : Datum) (a b : Option BoundTree) (v : Datum) → kleene_and x (value_left (conjoined a b) v) ≡ kleene_and x (kleene_and (value_left a v) (value_left b v))
 value_left_of x None b v = sym (true_right x (value_left b v))
 value_left_of x (Some l) None v = sym (true_right x (value l v)) ∙ ap (kleene_and x) (and_comm (bool true) (value l v))
 value_left_of x (Some l) (Some r) v = refl

@@ -8,14 +8,9 @@ use Rattle.vx_fn.specs.Values.{is_true, kleene_and}
 use Rattle.vx_tree.specs.Faults.{HasNoFault}
 use Rattle.vx_tree.specs.Meaning.{value}
 use Rattle.vx_tree.specs.Trees.{BoundTree, WellTyped, Over}
-use Rattle.vx_rewrite_fusing.specs.Conjuncts.{conjuncts}
+use Rattle.vx_rewrite_fusing.specs.Conjuncts.{conjuncts, conjuncts_left}
 use Rattle.vx_sql.specs.declared.dialect.Dialect.{Dialect}
 use Rattle.vx_sql_plan.specs.Pushdown.{is_pushed, pushed, residual}
-
--- the conjuncts of what is left, if something is
-abbrev pub conjuncts_left : Option BoundTree → List BoundTree
-conjuncts_left None = []
-conjuncts_left (Some r) = conjuncts r
 
 -- what is left are the conjuncts that aren't pushed, in their order: none is lost, and none is there twice
 abbrev pub OthersAreLeft : Type 0

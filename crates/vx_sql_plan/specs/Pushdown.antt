@@ -1,14 +1,10 @@
 -- Which conjuncts of a tree are pushed to an engine, and what is left of the tree.
-use Rattle.std.specs.Prelude.{◌≡◌, Bool, ◌&&◌, List, Option, Some, None, filter, if◌then◌else◌}
-use Rattle.std.specs.declared.alloc.Global.{Global}
-use Rattle.std.specs.declared.boxed.Box.{Box}
+use Rattle.std.specs.Prelude.{Bool, ◌&&◌, List, Option, Some, None, filter, if◌then◌else◌}
 use Rattle.std.specs.Option.{is_none}
-use Rattle.vx_value.specs.Types.{LogicalType}
 use Rattle.vx_fn.specs.Functions.{binary, and_also, is_truth}
-use Rattle.vx_tree.specs.declared.bound.BoundExpression.{BoundExpression}
 use Rattle.vx_tree.specs.Trees.{BoundTree, node, no_bound, bound, node_type}
-use Rattle.vx_tree.specs.Views.{bound_of}
-use Rattle.vx_rewrite_fusing.specs.Conjuncts.{and_node, and_of, conjuncts}
+use Rattle.vx_rewrite_fusing.specs.Conjuncts.{conjoined, conjuncts}
+pub use Rattle.vx_rewrite_fusing.specs.Conjuncts.{tree_in}
 use Rattle.vx_sql.specs.declared.dialect.Dialect.{Dialect}
 use Rattle.vx_sql.specs.Unsupported.{first_unsupported}
 
@@ -20,27 +16,11 @@ is_pushed d c = is_truth (node_type c) && is_none (first_unsupported d c)
 abbrev pub pushed : Dialect → BoundTree → List BoundTree
 pushed d b = filter (is_pushed d) (conjuncts b)
 
--- the And of what is left of two trees, or the one of which something is
-abbrev pub both_left : Option BoundTree → Option BoundTree → Option BoundTree
-both_left None r = r
-both_left (Some l) None = Some l
-both_left (Some l) (Some r) = Some (and_of l r)
-
 -- a tree without those of its conjuncts that pass the test, none if all do
 abbrev pub without : (BoundTree → Bool) → BoundTree → Option BoundTree
-without p (node t (binary and_also) (bound l (bound r no_bound))) = both_left (without p l) (without p r)
+without p (node t (binary and_also) (bound l (bound r no_bound))) = conjoined (without p l) (without p r)
 without p b = if p b then None else Some b
 
 -- what is left of the tree for who evaluates the rows that the engine gives
 abbrev pub residual : Dialect → BoundTree → Option BoundTree
 residual d b = without (is_pushed d) b
-
--- ---- what the code has
-
--- the tree in a box
-abbrev pub tree_in : Box BoundExpression Global → BoundTree
-tree_in b = bound_of b.value
-
--- the node is an And of the two
-abbrev pub IsAndOf : BoundTree → BoundTree → BoundTree → Type 0
-IsAndOf l r b = (t : LogicalType) × (b ≡ and_node t l r)

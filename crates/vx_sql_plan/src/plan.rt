@@ -5,7 +5,8 @@ ghost use Rattle.vx_tree.specs.Trees.{WellTyped};
 ghost use Rattle.vx_tree.specs.Views.{bound_of};
 ghost use Rattle.vx_sql.specs.Children.{is_struct, names_in};
 ghost use Rattle.vx_sql.specs.Quotes.{name_sql};
-ghost use Rattle.vx_sql_plan.specs.Pushdown.{residual, tree_in};
+ghost use Rattle.vx_rewrite_fusing.specs.Conjuncts.{tree_in};
+ghost use Rattle.vx_sql_plan.specs.Pushdown.{residual};
 ghost use Rattle.vx_sql_plan.specs.Statements.{columns_read, columns_text, where_text, select_text, statement, column_refusal, statement_refusal, IsRefusalOf};
 
 use crate::columns::column_texts;

@@ -1,16 +1,16 @@
 // What is pushed to an engine of a tree, and what is left of it.
-ghost use Rattle.std.specs.Prelude.{◌≡◌, ◌++◌, IsFalse, IfOk, OnOk, MatchOption, Some, map, option_map, string_bytes};
+ghost use Rattle.std.specs.Prelude.{◌≡◌, ◌++◌, IsFalse, IfOk, OnOk, Some, map, option_map, string_bytes};
 ghost use Rattle.vx_value.specs.Views.{type_of};
 ghost use Rattle.vx_fn.specs.Functions.{is_truth};
 ghost use Rattle.vx_tree.specs.Views.{bound_of};
-ghost use Rattle.vx_rewrite_fusing.specs.Conjuncts.{and_of, is_and};
+ghost use Rattle.vx_rewrite_fusing.specs.Conjuncts.{is_and, tree_in};
 ghost use Rattle.vx_sql.specs.SqlTexts.{sql};
-ghost use Rattle.vx_sql_plan.specs.Pushdown.{pushed, residual, both_left, tree_in, IsAndOf};
+ghost use Rattle.vx_sql_plan.specs.Pushdown.{pushed, residual};
 
 use std::alloc::{AllocError, Global};
-use std::rc::Rc;
+use vx_rewrite_fusing::{as_and, conjoined};
 use vx_sql::{Dialect, Unsupported, to_sql};
-use vx_tree::{BoundExpression, DType, Nullability, Operator, ScalarFnRef};
+use vx_tree::{BoundExpression, DType};
 
 /// What is pushed to an engine of a tree, and what is left.
 #[derive(Drop)]
@@ -51,7 +51,10 @@ fn left_of(
     };
     let left = left_of(alloc, l, dialect, texts)?;
     let right = left_of(alloc, r, dialect, texts)?;
-    both_left(alloc, left, right)
+    match conjoined(alloc, left, right) {
+        Ok(left) => Ok(left),
+        Err(_) => Err(AllocError),
+    }
 }
 
 // The same of a tree that is no And.
@@ -89,60 +92,4 @@ fn is_truth(dtype: &DType) -> bool
     ensures { result ≡ is_truth (type_of dtype.now) }
 {
     matches!(dtype, DType::Bool(_))
-}
-
-// The children of an And.
-fn as_and(b: &BoundExpression) -> Option<(&BoundExpression, &BoundExpression)>
-    ensures { MatchOption result (IsFalse (is_and (bound_of b.now))) (λ p. IsAndOf (bound_of p.0.now) (bound_of p.1.now) (bound_of b.now)) }
-{
-    let BoundExpression::Scalar {
-        scalar_fn,
-        children,
-        ..
-    } = b
-    else {
-        return None;
-    };
-    let ScalarFnRef::Binary(op) = scalar_fn else {
-        return None;
-    };
-    let Operator::And = op else {
-        return None;
-    };
-    match children.as_slice() {
-        [l, r] => Some((l, r)),
-        _ => None,
-    }
-}
-
-// The And of what is left of two trees, or the one of which something is.
-fn both_left(
-    alloc: Global,
-    l: Option<Box<BoundExpression>>,
-    r: Option<Box<BoundExpression>>,
-) -> Result<Option<Box<BoundExpression>>, AllocError>
-    ensures { IfOk result (λ o. option_map tree_in o ≡ both_left (option_map tree_in l) (option_map tree_in r)) }
-{
-    match (l, r) {
-        (Some(l), Some(r)) => Ok(Some(and_of(alloc, Box::into_inner(l), Box::into_inner(r))?)),
-        (Some(l), None) => Ok(Some(l)),
-        (None, r) => Ok(r),
-    }
-}
-
-// The And of the two, typed anew.
-fn and_of(
-    alloc: Global,
-    l: BoundExpression,
-    r: BoundExpression,
-) -> Result<Box<BoundExpression>, AllocError>
-    ensures { IfOk result (λ b. bound_of b.value ≡ and_of (bound_of l) (bound_of r)) }
-{
-    let nullable = l.dtype().is_nullable() || r.dtype().is_nullable();
-    let made = BoundExpression::Scalar {
-        dtype: DType::Bool(Nullability::of(nullable)),
-        scalar_fn: ScalarFnRef::Binary(Operator::And),
-        children: Rc::new(alloc, vec![in alloc; l, r]?)?,
-    };
-    Ok(Box::new(alloc, made)?)
 }

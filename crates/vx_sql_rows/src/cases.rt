@@ -90,7 +90,7 @@ impl Case {
         let sql = sql.as_str();
         let mut found = Found::new(self.alloc);
         for (i, row) in rows.iter().enumerate() {
-            found.add(self.alloc, &tree, scope, i, row)?;
+            found.add(&tree, scope, i, row)?;
         }
         self.push_values(sql, &found, told)?;
         for row in found.shown.as_slice() {
@@ -134,17 +134,19 @@ impl Case {
                 "coalesce(encode(convert_to(v, 'UTF8'), 'hex'), 'null')"
             }
             (Dialect::Postgres, Kind::Octets) => "coalesce(encode(v, 'hex'), 'null')",
-            (Dialect::Postgres, _) => "coalesce(CAST(v AS text), 'null')",
-            (_, Kind::Text) => {
+            (Dialect::Postgres, Kind::Truth | Kind::Number(_) | Kind::Pair) => {
+                "coalesce(CAST(v AS text), 'null')"
+            }
+            (Dialect::Sqlite | Dialect::DuckDb | Dialect::Spark, Kind::Text) => {
                 "CASE typeof(v) WHEN 'null' THEN 'null' WHEN 'text' THEN lower(hex(v)) ELSE 'another' END"
             }
-            (_, Kind::Octets) => {
+            (Dialect::Sqlite | Dialect::DuckDb | Dialect::Spark, Kind::Octets) => {
                 "CASE typeof(v) WHEN 'null' THEN 'null' WHEN 'blob' THEN lower(hex(v)) ELSE 'another' END"
             }
-            (_, Kind::Truth) => {
+            (Dialect::Sqlite | Dialect::DuckDb | Dialect::Spark, Kind::Truth) => {
                 "CASE WHEN v IS NULL THEN 'null' WHEN v = 1 THEN 'true' WHEN v = 0 THEN 'false' ELSE 'another' END"
             }
-            _ => {
+            (Dialect::Sqlite | Dialect::DuckDb | Dialect::Spark, Kind::Number(_) | Kind::Pair) => {
                 "CASE typeof(v) WHEN 'null' THEN 'null' WHEN 'integer' THEN v ELSE 'another' END"
             }
         }
@@ -159,7 +161,7 @@ impl Case {
             }
             Value::Utf8(text) => push_digits(self.alloc, text.as_str().as_bytes(), out),
             Value::Binary(bytes) => push_digits(self.alloc, bytes.as_slice(), out),
-            _ => out.push_str("null"),
+            Value::Null | Value::List(_) | Value::Struct(_) => out.push_str("null"),
         }
     }
 
@@ -236,6 +238,7 @@ fn is_true(value: &Value) -> bool {
 // What is found of an expression, row by row.
 #[derive(Drop)]
 struct Found {
+    alloc: Global,
     // The values of the rows where it doesn't fault.
     values: Vec<(usize, Value)>,
     // Rows whose fault the engine has to show.
@@ -248,6 +251,7 @@ const FAILURES: usize = 2;
 impl Found {
     fn new(alloc: Global) -> Found {
         Found {
+            alloc,
             values: Vec::new(alloc),
             shown: Vec::new(alloc),
         }
@@ -255,7 +259,6 @@ impl Found {
 
     fn add(
         &mut self,
-        alloc: Global,
         tree: &BoundExpression,
         scope: &DType,
         number: usize,
@@ -263,6 +266,7 @@ impl Found {
     ) -> Result<(), Unread>
         requires { WellTyped (bound_of tree.now) }
     {
+        let alloc = self.alloc;
         let mut rows = Vec::new(alloc);
         rows.push(row.clone()?)?;
         let batch = Box::new(alloc, Column::try_new(scope.clone()?, rows)?)?;

@@ -1,5 +1,6 @@
 // What expressions by chance give, and their leaves.
 use std::alloc::{AllocError, Global};
+use vx_sql::Dialect;
 use vx_test_support::Seeds;
 use vx_types::{PType, Value};
 
@@ -24,6 +25,14 @@ pub const NUMBERS: [PType; 8] = [
     PType::I64,
     PType::U64,
 ];
+
+/// Whether the engine's table has pairs.
+pub fn has_pairs(dialect: Dialect) -> bool {
+    match dialect {
+        Dialect::Postgres => true,
+        Dialect::Sqlite | Dialect::DuckDb | Dialect::Spark => false,
+    }
+}
 
 /// Characters of texts and patterns: quotes, signs of patterns, letters in both cases, and others.
 const CHARACTERS: [char; 28] = [
@@ -59,16 +68,7 @@ impl Kind {
             Kind::Text => "utf8",
             Kind::Octets => "binary",
             Kind::Pair => "{f=i32?, g=utf8?}",
-            Kind::Number(p) => match p {
-                PType::U8 => "u8",
-                PType::U16 => "u16",
-                PType::U32 => "u32",
-                PType::U64 => "u64",
-                PType::I8 => "i8",
-                PType::I16 => "i16",
-                PType::I32 => "i32",
-                PType::I64 => "i64",
-            },
+            Kind::Number(p) => p.as_str(),
         }
     }
 

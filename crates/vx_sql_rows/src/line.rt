@@ -34,15 +34,30 @@ impl Judge for Texts {
     }
 }
 
+const DIALECTS: [Dialect; 4] = [
+    Dialect::Postgres,
+    Dialect::Sqlite,
+    Dialect::DuckDb,
+    Dialect::Spark,
+];
+
+fn name_of(dialect: Dialect) -> &'static str {
+    match dialect {
+        Dialect::Postgres => "postgres",
+        Dialect::Sqlite => "sqlite",
+        Dialect::DuckDb => "duckdb",
+        Dialect::Spark => "spark",
+    }
+}
+
 /// The engine of that name.
 pub fn dialect_named(name: &str) -> Option<Dialect> {
-    match name {
-        "postgres" => Some(Dialect::Postgres),
-        "sqlite" => Some(Dialect::Sqlite),
-        "duckdb" => Some(Dialect::DuckDb),
-        "spark" => Some(Dialect::Spark),
-        _ => None,
+    for dialect in DIALECTS {
+        if name_of(dialect) == name {
+            return Some(dialect);
+        }
     }
+    None
 }
 
 // The SQL text of the expression, or where it has none and why.

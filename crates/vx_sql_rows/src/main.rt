@@ -17,9 +17,9 @@ use anyhow::{Context, Result, anyhow};
 use cases::{Cases, make_cases};
 use line::{Texts, dialect_named};
 use std::alloc::Global;
+use std::env;
 use std::process::ExitCode;
-use std::{env, fs};
-use vx_test_support::{Aim, Table, Tally};
+use vx_test_support::judge_files;
 
 fn main(rt: HostRuntime) -> Result<ExitCode> {
     let alloc = rt.alloc();
@@ -39,7 +39,7 @@ fn main(rt: HostRuntime) -> Result<ExitCode> {
             println!(rt; "{} statements fail", told.failures)?;
             Ok(ExitCode::SUCCESS)
         }
-        tables => judge(&rt, tables),
+        tables => judge_files(&rt, tables, &mut Texts),
     }
 }
 
@@ -53,27 +53,4 @@ fn told(alloc: Global, engine: &str, seed: &str, count: &str) -> Result<Cases> {
         Ok(told) => Ok(told),
         Err(why) => Err(anyhow!("{why}")),
     }
-}
-
-// Runs the tables.
-fn judge(rt: &HostRuntime, tables: &[String]) -> Result<ExitCode> {
-    let mut failed: usize = 0;
-    for name in tables {
-        let name = name.as_str();
-        let text = fs::read_to_string(rt, name).context(format_args!("reading {name}"))?;
-        let table = Table {
-            name,
-            text: text.as_str(),
-            aim: Aim::of(name),
-        };
-        let mut tally = Tally::default();
-        table.judge(rt.alloc(), &mut Texts, &mut tally, &mut rt.stdout())?;
-        println!(rt; "{name}: {tally}")?;
-        failed = failed.saturating_add(tally.failed);
-    }
-    Ok(if failed == 0 {
-        ExitCode::SUCCESS
-    } else {
-        ExitCode::FAILURE
-    })
 }

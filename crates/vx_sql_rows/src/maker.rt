@@ -1,6 +1,6 @@
 // Expressions by chance, as source texts.
 use crate::grammar::MASKS;
-use crate::kinds::{Kind, NUMBERS, text};
+use crate::kinds::{Kind, NUMBERS, has_pairs, text};
 use std::alloc::{AllocError, Global};
 use vx_source::ScalarText;
 use vx_sql::Dialect;
@@ -12,6 +12,17 @@ const MARKS: [char; 6] = [' ', '(', ')', ',', '.', '?'];
 
 /// How many nodes stand above one another, at most.
 const LEVELS: usize = 5;
+
+// A node whose row of the grammar is spelled.
+#[derive(Clone, Copy)]
+struct Node {
+    // How many levels its children have, at most.
+    below: usize,
+    // What it gives.
+    kind: Kind,
+    // The type of the row's numbers.
+    number: PType,
+}
 
 /// Makes expressions by chance for an engine.
 #[derive(Drop)]
@@ -44,7 +55,7 @@ impl Maker {
     fn number_type(&mut self) -> PType {
         let count = match self.dialect {
             Dialect::Sqlite => 7,
-            _ => 8,
+            Dialect::Postgres | Dialect::DuckDb | Dialect::Spark => 8,
         };
         let number = self.seeds.below(count);
         NUMBERS.get(number).copied().unwrap_or(PType::I32)
@@ -74,11 +85,16 @@ impl Maker {
         let row = self.row(kind);
         let number = match kind {
             Kind::Number(p) => p,
-            _ => self.number_type(),
+            Kind::Truth | Kind::Text | Kind::Octets | Kind::Pair => self.number_type(),
+        };
+        let node = Node {
+            below,
+            kind,
+            number,
         };
         for piece in row.split_inclusive(MARKS) {
             let (word, mark) = parted(piece, &MARKS);
-            self.push_word(below, word, kind, number, text)?;
+            self.push_word(node, word, text)?;
             if let Some(mark) = mark {
                 text.push(mark)?;
             }
@@ -88,9 +104,8 @@ impl Maker {
 
     // A row of the grammar.
     fn row(&mut self, kind: Kind) -> &'static str {
-        let has_pairs = matches!(self.dialect, Dialect::Postgres);
         let over_pairs = kind.of_pairs();
-        if has_pairs && !over_pairs.is_empty() && self.seeds.below(8) == 0 {
+        if has_pairs(self.dialect) && !over_pairs.is_empty() && self.seeds.below(8) == 0 {
             return self.seeds.pick(over_pairs);
         }
         match self.seeds.below(3) {
@@ -105,25 +120,18 @@ impl Maker {
 
     // What the word of a row stands for.
     #[cycle(node)]
-    fn push_word(
-        &mut self,
-        levels: usize,
-        word: &str,
-        kind: Kind,
-        number: PType,
-        text: &mut String,
-    ) -> Result<(), AllocError> {
+    fn push_word(&mut self, node: Node, word: &str, text: &mut String) -> Result<(), AllocError> {
         match word {
-            "T" => self.push_node(levels, Kind::Truth, text),
-            "N" => self.push_node(levels, Kind::Number(number), text),
-            "S" => self.push_node(levels, Kind::Text, text),
-            "B" => self.push_node(levels, Kind::Octets, text),
-            "P" => self.push_node(levels, Kind::Pair, text),
-            "X" => self.push_node(levels, kind, text),
+            "T" => self.push_node(node.below, Kind::Truth, text),
+            "N" => self.push_node(node.below, Kind::Number(node.number), text),
+            "S" => self.push_node(node.below, Kind::Text, text),
+            "B" => self.push_node(node.below, Kind::Octets, text),
+            "P" => self.push_node(node.below, Kind::Pair, text),
+            "X" => self.push_node(node.below, node.kind, text),
             "M" => self.push_mask(text),
-            "#n" => text.push_str(Kind::Number(number).type_text()),
+            "#n" => text.push_str(node.number.as_str()),
             "%S" => self.push_pattern(text),
-            _ => self.push_leaf(word, kind, number, text),
+            _ => self.push_leaf(node, word, text),
         }
     }
 
@@ -147,20 +155,14 @@ impl Maker {
     }
 
     // A literal, or a word of the source text.
-    fn push_leaf(
-        &mut self,
-        word: &str,
-        kind: Kind,
-        number: PType,
-        text: &mut String,
-    ) -> Result<(), AllocError> {
-        let number = Kind::Number(number);
+    fn push_leaf(&mut self, node: Node, word: &str, text: &mut String) -> Result<(), AllocError> {
+        let number = Kind::Number(node.number);
         match word {
             "#T" => self.push_literal(Kind::Truth, text),
             "#N" => self.push_literal(number, text),
             "#S" => self.push_literal(Kind::Text, text),
             "#B" => self.push_literal(Kind::Octets, text),
-            "#X" => self.push_literal(kind, text),
+            "#X" => self.push_literal(node.kind, text),
             "!T" => self.push_value(Kind::Truth, text),
             "!N" => self.push_value(number, text),
             "!S" => self.push_value(Kind::Text, text),

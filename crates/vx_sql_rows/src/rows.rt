@@ -1,5 +1,5 @@
 // The rows that expressions are evaluated over, and the table that has them.
-use crate::kinds::{Kind, NUMBERS, maybe_null};
+use crate::kinds::{Kind, NUMBERS, has_pairs, maybe_null};
 use std::alloc::{AllocError, Global};
 use vx_source::parse_type;
 use vx_sql::Dialect;
@@ -16,11 +16,11 @@ pub fn kinds(alloc: Global, dialect: Dialect) -> Result<Vec<Kind>, AllocError> {
     kinds.push(Kind::Text)?;
     kinds.push(Kind::Octets)?;
     for p in NUMBERS {
-        if !matches!((dialect, p), (Dialect::Sqlite, PType::U64)) {
+        if !is_sqlite(dialect) || !matches!(p, PType::U64) {
             kinds.push(Kind::Number(p))?;
         }
     }
-    if matches!(dialect, Dialect::Postgres) {
+    if has_pairs(dialect) {
         kinds.push(Kind::Pair)?;
     }
     Ok(kinds)
@@ -59,7 +59,7 @@ pub fn push_table(
     rows: &[Value],
     out: &mut String,
 ) -> Result<(), AllocError> {
-    if matches!(dialect, Dialect::Postgres) {
+    if has_pairs(dialect) {
         out.push_str("CREATE TYPE pair AS (f integer, g text);\n")?;
     }
     out.push_str("CREATE TABLE t (\"row\" integer")?;
@@ -95,8 +95,16 @@ fn push_quoted(name: &FieldName, out: &mut String) -> Result<(), AllocError> {
     out.push('"')
 }
 
+// Whether the table is told in SQLite's words.
+fn is_sqlite(dialect: Dialect) -> bool {
+    match dialect {
+        Dialect::Sqlite => true,
+        Dialect::Postgres | Dialect::DuckDb | Dialect::Spark => false,
+    }
+}
+
 fn column_type(dialect: Dialect, dtype: &DType) -> &'static str {
-    let is_sqlite = matches!(dialect, Dialect::Sqlite);
+    let is_sqlite = is_sqlite(dialect);
     match dtype {
         DType::Bool(_) => "boolean",
         DType::Primitive(p, _) => {
@@ -112,7 +120,7 @@ fn column_type(dialect: Dialect, dtype: &DType) -> &'static str {
         }
         DType::Utf8(_) => "text",
         DType::Binary(_) => { if is_sqlite { "blob" } else { "bytea" } }
-        _ => "pair",
+        DType::List(..) | DType::FixedSizeList(..) | DType::Struct(..) => "pair",
     }
 }
 
@@ -144,7 +152,7 @@ fn push_plain(
     value: &Value,
     out: &mut String,
 ) -> Result<(), AllocError> {
-    let is_sqlite = matches!(dialect, Dialect::Sqlite);
+    let is_sqlite = is_sqlite(dialect);
     match value {
         Value::Bool(b) if is_sqlite => out.push_str(if *b { "1" } else { "0" }),
         Value::Bool(b) => out.push_str(if *b { "true" } else { "false" }),

@@ -30,7 +30,15 @@ fn leads_to(node: &BoundExpression, index: usize) -> bool {
     match node.as_scalar() {
         Some(ScalarFnRef::Binary(Operator::And | Operator::Or)) => false,
         Some(
-            ScalarFnRef::Binary(_)
+            ScalarFnRef::Binary(
+                Operator::Eq
+                | Operator::NotEq
+                | Operator::Gt
+                | Operator::Gte
+                | Operator::Lt
+                | Operator::Lte
+                | Operator::Add,
+            )
             | ScalarFnRef::Not(_)
             | ScalarFnRef::IsNull(_)
             | ScalarFnRef::IsNotNull(_)
@@ -38,7 +46,16 @@ fn leads_to(node: &BoundExpression, index: usize) -> bool {
         ) => true,
         Some(ScalarFnRef::Between(_)) => index < 2,
         Some(ScalarFnRef::FillNull(_) | ScalarFnRef::Like(_)) => index == 0,
-        _ => false,
+        Some(
+            ScalarFnRef::CaseWhen(_)
+            | ScalarFnRef::GetItem(_)
+            | ScalarFnRef::Literal(_)
+            | ScalarFnRef::Pack(_)
+            | ScalarFnRef::Select(_)
+            | ScalarFnRef::Zip(_)
+            | ScalarFnRef::Mask(_),
+        )
+        | None => false,
     }
 }
 
@@ -53,7 +70,20 @@ fn is_plain(tree: &BoundExpression, levels: usize) -> bool {
     let is_plain_node = match tree.as_scalar() {
         Some(ScalarFnRef::Literal(scalar)) => !matches!(scalar.value(), Value::Null),
         Some(ScalarFnRef::CaseWhen(_) | ScalarFnRef::Zip(_) | ScalarFnRef::Mask(_)) => false,
-        _ => true,
+        Some(
+            ScalarFnRef::Binary(_)
+            | ScalarFnRef::Not(_)
+            | ScalarFnRef::IsNull(_)
+            | ScalarFnRef::IsNotNull(_)
+            | ScalarFnRef::Cast(_)
+            | ScalarFnRef::Between(_)
+            | ScalarFnRef::FillNull(_)
+            | ScalarFnRef::Like(_)
+            | ScalarFnRef::GetItem(_)
+            | ScalarFnRef::Pack(_)
+            | ScalarFnRef::Select(_),
+        )
+        | None => true,
     };
     if !is_plain_node {
         return false;

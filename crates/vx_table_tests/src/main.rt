@@ -8,7 +8,7 @@ use anyhow::{Context, Result};
 use std::process::ExitCode;
 use std::{env, fs};
 use vx_test_runner::judge_table;
-use vx_test_support::{Aim, Table, Tally};
+use vx_test_support::{Aim, Table, Tally, exit_code};
 
 // The tallies of tables, by what their lines are there for.
 #[derive(Clone, Copy, Default)]
@@ -34,11 +34,7 @@ fn main(rt: HostRuntime) -> Result<ExitCode> {
     for name in env::args(&rt)?.skip(1) {
         let name = name.as_str();
         let text = fs::read_to_string(&rt, name).context(format_args!("reading {name}"))?;
-        let table = Table {
-            name,
-            text: text.as_str(),
-            aim: Aim::of(name),
-        };
+        let table = Table::new(name, text.as_str());
         let tally = tallies.of(table.aim);
         judge_table(alloc, &table, tally, &mut rt.stdout())?;
     }
@@ -53,10 +49,6 @@ fn main(rt: HostRuntime) -> Result<ExitCode> {
         unread.lines, unread.failed
     )?;
     println!(rt; "{} rows, {} failed", right.lines, right.failed)?;
-    let is_right = wrong.failed == 0 && unread.failed == 0 && right.failed == 0;
-    Ok(if is_right {
-        ExitCode::SUCCESS
-    } else {
-        ExitCode::FAILURE
-    })
+    let failed = right.failed.saturating_add(wrong.failed);
+    Ok(exit_code(failed.saturating_add(unread.failed)))
 }

@@ -1,6 +1,7 @@
 // Answers to the lines of tables, each of the public calls that its kind names.
 mod analyses;
 mod bound;
+mod bound_line;
 mod built;
 mod chance;
 mod distinct;

@@ -33,35 +33,53 @@ pub enum SourceKind {
 pub enum BoundKind {
     Source,
     Rows,
-    Validity,
-    ValidityRows,
-    Optimized,
-    OptimizedRows,
+    OfRewritten(RewrittenKind),
+    OfAnalysis(AnalysisKind),
+    OfFields(FieldsKind),
+    Pruned,
+}
+
+/// What is told of a tree: its text, or what it gives over each batch.
+#[derive(Clone, Copy)]
+pub enum Told {
+    Text,
+    Rows,
+}
+
+/// What a line asks of a tree that is made of the bound one.
+#[derive(Clone, Copy)]
+pub enum RewrittenKind {
+    Validity(Told),
+    Optimized(Told),
     OptimizedOrNone,
     OptimizedAtRoot,
-    ByBranches,
-    ByBranchesRows,
+    ByBranches(Told),
     ByBranchesOrNone,
-    Folded,
-    FoldedRows,
+    Folded(Told),
     FoldedOrNone,
-    Fused,
-    FusedRows,
+    Fused(Told),
+}
+
+/// What a line asks of the paths and the labels of the bound tree.
+#[derive(Clone, Copy)]
+pub enum AnalysisKind {
     Paths,
     OptimizedPaths,
     Size,
     Sizes,
     Heights,
+}
+
+/// What a line asks of the fields that nodes of the bound tree read.
+#[derive(Clone, Copy)]
+pub enum FieldsKind {
     Fields,
     OwnFields,
     OwnAnnotations,
     Annotations,
     Covers,
-    Split,
-    SplitRows,
-    Replaced,
-    ReplacedRows,
-    Pruned,
+    Split(Told),
+    Replaced(Told),
 }
 
 /// Kinds of lines that ask of a tree by something else.
@@ -139,7 +157,22 @@ impl Kind {
                 | WordsKind::Collected(_) => 2,
                 WordsKind::Joined => 3,
                 WordsKind::FirstMatch | WordsKind::PeeledText => 4,
-                _ => 1,
+                WordsKind::Error
+                | WordsKind::Function
+                | WordsKind::ChildNames
+                | WordsKind::Swapped
+                | WordsKind::TypeText
+                | WordsKind::Parse
+                | WordsKind::ParsedType
+                | WordsKind::ParsedScalar
+                | WordsKind::Places
+                | WordsKind::Scalar
+                | WordsKind::PathSet
+                | WordsKind::Read
+                | WordsKind::Reader
+                | WordsKind::StatisticsOf
+                | WordsKind::ByChance
+                | WordsKind::TextsByChance => 1,
             },
         }
     }
@@ -169,35 +202,58 @@ fn of_bound(name: &str) -> Option<BoundKind> {
     Some(match name {
         "source" => BoundKind::Source,
         "rows" => BoundKind::Rows,
-        "validity" => BoundKind::Validity,
-        "validity rows" => BoundKind::ValidityRows,
-        "optimized" => BoundKind::Optimized,
-        "optimized rows" => BoundKind::OptimizedRows,
-        "optimized or none" => BoundKind::OptimizedOrNone,
-        "optimized at root" => BoundKind::OptimizedAtRoot,
-        "by branches" => BoundKind::ByBranches,
-        "by branches rows" => BoundKind::ByBranchesRows,
-        "by branches or none" => BoundKind::ByBranchesOrNone,
-        "folded" => BoundKind::Folded,
-        "folded rows" => BoundKind::FoldedRows,
-        "folded or none" => BoundKind::FoldedOrNone,
-        "fused" => BoundKind::Fused,
-        "fused rows" => BoundKind::FusedRows,
-        "paths" => BoundKind::Paths,
-        "optimized paths" => BoundKind::OptimizedPaths,
-        "size" => BoundKind::Size,
-        "sizes" => BoundKind::Sizes,
-        "heights" => BoundKind::Heights,
-        "fields" => BoundKind::Fields,
-        "own fields" => BoundKind::OwnFields,
-        "own annotations" => BoundKind::OwnAnnotations,
-        "annotations" => BoundKind::Annotations,
-        "covers" => BoundKind::Covers,
-        "split" => BoundKind::Split,
-        "split rows" => BoundKind::SplitRows,
-        "replaced" => BoundKind::Replaced,
-        "replaced rows" => BoundKind::ReplacedRows,
         "pruned" => BoundKind::Pruned,
+        _ => {
+            return of_rewritten(name)
+                .map(BoundKind::OfRewritten)
+                .or_else(|| of_analysis(name).map(BoundKind::OfAnalysis))
+                .or_else(|| of_fields(name).map(BoundKind::OfFields));
+        }
+    })
+}
+
+fn of_rewritten(name: &str) -> Option<RewrittenKind> {
+    Some(match name {
+        "validity" => RewrittenKind::Validity(Told::Text),
+        "validity rows" => RewrittenKind::Validity(Told::Rows),
+        "optimized" => RewrittenKind::Optimized(Told::Text),
+        "optimized rows" => RewrittenKind::Optimized(Told::Rows),
+        "optimized or none" => RewrittenKind::OptimizedOrNone,
+        "optimized at root" => RewrittenKind::OptimizedAtRoot,
+        "by branches" => RewrittenKind::ByBranches(Told::Text),
+        "by branches rows" => RewrittenKind::ByBranches(Told::Rows),
+        "by branches or none" => RewrittenKind::ByBranchesOrNone,
+        "folded" => RewrittenKind::Folded(Told::Text),
+        "folded rows" => RewrittenKind::Folded(Told::Rows),
+        "folded or none" => RewrittenKind::FoldedOrNone,
+        "fused" => RewrittenKind::Fused(Told::Text),
+        "fused rows" => RewrittenKind::Fused(Told::Rows),
+        _ => return None,
+    })
+}
+
+fn of_analysis(name: &str) -> Option<AnalysisKind> {
+    Some(match name {
+        "paths" => AnalysisKind::Paths,
+        "optimized paths" => AnalysisKind::OptimizedPaths,
+        "size" => AnalysisKind::Size,
+        "sizes" => AnalysisKind::Sizes,
+        "heights" => AnalysisKind::Heights,
+        _ => return None,
+    })
+}
+
+fn of_fields(name: &str) -> Option<FieldsKind> {
+    Some(match name {
+        "fields" => FieldsKind::Fields,
+        "own fields" => FieldsKind::OwnFields,
+        "own annotations" => FieldsKind::OwnAnnotations,
+        "annotations" => FieldsKind::Annotations,
+        "covers" => FieldsKind::Covers,
+        "split" => FieldsKind::Split(Told::Text),
+        "split rows" => FieldsKind::Split(Told::Rows),
+        "replaced" => FieldsKind::Replaced(Told::Text),
+        "replaced rows" => FieldsKind::Replaced(Told::Rows),
         _ => return None,
     })
 }

@@ -3,6 +3,7 @@ use crate::judge::{Judge, Judged};
 use std::alloc::Global;
 use std::fmt::{Display, Formatter};
 use std::io::Write;
+use std::process::ExitCode;
 use std::{fmt, io};
 
 /// What each line of a table is there for.
@@ -53,7 +54,16 @@ pub struct Table<'a> {
     pub aim: Aim,
 }
 
-impl Table<'_> {
+impl<'a> Table<'a> {
+    /// The table of that name and text, whose lines are there for what the name says.
+    pub fn new(name: &'a str, text: &'a str) -> Table<'a> {
+        Table {
+            name,
+            text,
+            aim: Aim::of(name),
+        }
+    }
+
     /// Judges each line, adds it to the tally, and writes of each that came to something else than it is
     /// there for the table's name, the line's number, and what it came to. A line that is blank or
     /// begins with `#` is no call. Fails where the writer does.
@@ -99,5 +109,14 @@ fn tell<E: Display, W: Write>(judged: &Result<Judged, E>, out: &mut W) -> io::Re
         Ok(Judged::Differs(got)) => writeln!(out, "    is answered {got}"),
         Ok(_) => writeln!(out, "    is answered as it says"),
         Err(why) => writeln!(out, "    can't be read: {why}"),
+    }
+}
+
+/// The status of a program of which so many lines came to something else than they are there for.
+pub fn exit_code(failed: usize) -> ExitCode {
+    if failed == 0 {
+        ExitCode::SUCCESS
+    } else {
+        ExitCode::FAILURE
     }
 }

@@ -6,7 +6,7 @@ ghost use Rattle.vx_value.specs.Views.{admits_null, type_of};
 use crate::pieces::{numbered, parted};
 use crate::unread::Unread;
 use std::alloc::Global;
-use std::rc::Rc;
+use std::sync::Arc;
 use vx_tree::Nullability::{NonNullable, Nullable};
 use vx_tree::{DType, FieldName, FieldNames, Nullability, PType, StructFields, VortexResult};
 
@@ -99,7 +99,7 @@ impl TypeReader {
     fn list(&mut self) -> Result<(), Unread> {
         match self.open.pop().ok_or("no list to close")? {
             Open::List => {
-                let element = Rc::new(self.alloc, self.last()?)?;
+                let element = Arc::new(self.alloc, self.last()?)?;
                 Ok(self.read.push(DType::List(element, NonNullable))?)
             }
             Open::FixedSizeList => Ok(self.open.push(Open::FixedSizeList)?),
@@ -111,7 +111,7 @@ impl TypeReader {
         let size = size.parse().map_err(|_| Unread::Word("no size"))?;
         match self.open.pop().ok_or("the size of nothing")? {
             Open::FixedSizeList => {
-                let element = Rc::new(self.alloc, self.last()?)?;
+                let element = Arc::new(self.alloc, self.last()?)?;
                 let list = DType::FixedSizeList(element, size, NonNullable);
                 Ok(self.read.push(list)?)
             }

@@ -11,7 +11,7 @@ ghost use Rattle.vx_tree.specs.Trees.{scope, node, unbound, node_type, node_type
 ghost use Rattle.vx_tree.specs.Views.{bound_of, bounds_of};
 
 use std::alloc::{AllocError, Global};
-use std::rc::Rc;
+use std::sync::Arc;
 use vx_fn::{ScalarFnRef, Typed};
 use vx_types::{DType, VortexError, VortexResult};
 
@@ -24,7 +24,7 @@ pub enum BoundExpression {
     Scalar {
         dtype: DType,
         scalar_fn: ScalarFnRef,
-        children: Rc<Vec<BoundExpression>>,
+        children: Arc<Vec<BoundExpression>>,
     },
     /// The row of the scope.
     Root {
@@ -103,7 +103,7 @@ impl BoundExpression {
         Ok(BoundExpression::Scalar {
             dtype,
             scalar_fn,
-            children: Rc::new(alloc, children)?,
+            children: Arc::new(alloc, children)?,
         })
     }
 

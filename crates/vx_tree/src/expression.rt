@@ -7,7 +7,7 @@ ghost use Rattle.vx_tree.specs.Trees.{root};
 ghost use Rattle.vx_tree.specs.Views.{tree_of, trees_of};
 
 use std::alloc::{AllocError, Global};
-use std::rc::Rc;
+use std::sync::Arc;
 use vx_fn::ScalarFnRef;
 use vx_types::{VortexError, VortexResult};
 
@@ -18,7 +18,7 @@ pub enum Expression {
     /// without [`Expression::try_new`]; binding then refuses it.
     Scalar {
         scalar_fn: ScalarFnRef,
-        children: Rc<Vec<Expression>>,
+        children: Arc<Vec<Expression>>,
     },
     /// The row of the scope.
     Root,
@@ -62,7 +62,7 @@ impl Expression {
         }
         Ok(Expression::Scalar {
             scalar_fn,
-            children: Rc::new(alloc, children)?,
+            children: Arc::new(alloc, children)?,
         })
     }
 

@@ -16,7 +16,7 @@ use crate::value_texts::write_list;
 use std::alloc::{AllocError, Global};
 use std::fmt;
 use std::marker::Model;
-use std::rc::Rc;
+use std::sync::Arc;
 use vx_dtype::{DType, VortexError, VortexResult};
 
 /// Rows beside their type, each of which is a value of that type. A column holds its rows by itself
@@ -59,7 +59,7 @@ impl Column {
     }
 
     /// The column of rows that are shared already. Asks rows that all are values of the type.
-    pub fn from_shared(dtype: DType, rows: Rc<Vec<Value>>) -> Column
+    pub fn from_shared(dtype: DType, rows: Arc<Vec<Value>>) -> Column
         requires { first_misfit (type_of dtype) (map value_of rows.value.items) ≡ None }
         ensures { result ≡ batch (type_of dtype) (map value_of rows.value.items) }
     {
@@ -88,7 +88,7 @@ impl Column {
     }
 
     /// The rows where the column shares them.
-    pub fn shared_rows(&self) -> Option<&Rc<Vec<Value>>>
+    pub fn shared_rows(&self) -> Option<&Arc<Vec<Value>>>
         ensures { MatchOption result ⊤ (λ rows. map value_of rows.now.value.items ≡ self.now.rows) }
     {
         self.rows.shared()

@@ -5,7 +5,7 @@ ghost use Rattle.vx_value.specs.Views.{rows_held, value_of};
 
 use crate::Value;
 use std::alloc::{AllocError, Global};
-use std::rc::Rc;
+use std::sync::Arc;
 use vx_dtype::VortexResult;
 
 /// The values of a column, row by row.
@@ -14,7 +14,7 @@ pub enum ColumnRows {
     /// Values that no other column has.
     Own(Vec<Value>),
     /// Values that other columns may share.
-    Shared(Rc<Vec<Value>>),
+    Shared(Arc<Vec<Value>>),
 }
 
 impl ColumnRows {
@@ -29,7 +29,7 @@ impl ColumnRows {
     }
 
     /// The values where others may share them.
-    pub fn shared(&self) -> Option<&Rc<Vec<Value>>>
+    pub fn shared(&self) -> Option<&Arc<Vec<Value>>>
         ensures { MatchOption result ⊤ (λ values. map value_of values.now.value.items ≡ rows_held self.now) }
     {
         match self {
@@ -40,11 +40,11 @@ impl ColumnRows {
 
     /// The same values, which others may share from now on: in a block of their own, unless they
     /// are in one. Refuses with `OutOfMemory` (1) alone.
-    pub fn into_shared(self, alloc: Global) -> VortexResult<Rc<Vec<Value>>>
+    pub fn into_shared(self, alloc: Global) -> VortexResult<Arc<Vec<Value>>>
         ensures { ReturnsOrOom (λ values. map value_of values.value.items) result (Ok (rows_held self)) }
     {
         match self {
-            ColumnRows::Own(values) => Ok(Rc::new(alloc, values)?),
+            ColumnRows::Own(values) => Ok(Arc::new(alloc, values)?),
             ColumnRows::Shared(values) => Ok(values),
         }
     }
@@ -72,10 +72,10 @@ impl Clone for ColumnRows {
 }
 
 // The values themselves, copied where others share them.
-fn unshared(values: Rc<Vec<Value>>) -> Result<Vec<Value>, AllocError>
+fn unshared(values: Arc<Vec<Value>>) -> Result<Vec<Value>, AllocError>
     ensures { IfOk result (λ own. map value_of own.items ≡ map value_of values.value.items) }
 {
-    Rc::unwrap_or_clone(values)
+    Arc::unwrap_or_clone(values)
 }
 
 // A copy of each value.

@@ -8,7 +8,8 @@ ghost use Rattle.vx_value.specs.Joins.{Narrower};
 ghost use Rattle.vx_value.specs.StructColumns.{row_at, struct_rows};
 ghost use Rattle.vx_value.specs.Views.{value_of};
 
-use crate::{Column, Scalar, Value};
+use crate::{Column, FieldPath, Scalar, Value};
+use vx_dtype::laws::assert_send_sync;
 
 /// Values are equal exactly where they are the same.
 pub fn values_are_equal_exactly(a: &Value, b: &Value) -> bool
@@ -47,3 +48,11 @@ pub fn first_misfit_is_the_first()
 pub fn joined_rows_are_the_columns_rows()
     ensures { (n : ℕ) → (columns : List (List Datum)) → (k : ℕ) → k < n → get_or (struct_rows n columns) k null ≡ struct_of (data_of (row_at k columns)) }
 {}
+
+/// Values, scalars, columns and paths may be sent to other threads and shared with them: this compiles.
+pub fn values_are_send_and_sync(value: &Value, scalar: &Scalar, column: &Column, path: &FieldPath) {
+    assert_send_sync(value);
+    assert_send_sync(scalar);
+    assert_send_sync(column);
+    assert_send_sync(path);
+}

@@ -7,7 +7,7 @@ ghost use Rattle.vx_dtype.specs.declared.error.VortexError.TheVariants.{LengthMi
 
 use crate::{Column, Value, take_row};
 use std::alloc::{AllocError, Global};
-use std::rc::Rc;
+use std::sync::Arc;
 use vx_dtype::{DType, FieldNames, Nullability, StructFields, VortexError, VortexResult};
 
 impl Column {
@@ -33,7 +33,7 @@ impl Column {
         let structs = struct_rows(alloc, values, rows)?;
         let fields = StructFields::new(alloc, names, types)?;
         let dtype = DType::Struct(fields, nullability);
-        Ok(Column::from_shared(dtype, Rc::new(alloc, structs)?))
+        Ok(Column::from_shared(dtype, Arc::new(alloc, structs)?))
     }
 }
 

@@ -3,6 +3,7 @@ pub mod Folding
 pub mod Mappings
 pub mod Opened
 pub mod Places
+pub mod Rebuilding
 pub mod Rows
 pub mod Rewriting
 pub mod Steps

@@ -40,16 +40,11 @@ impl<'a> Found<'a> {
 pub(crate) fn read_value(plan: &Plan, alloc: Global, found: &Found<'_>) -> Result<Value, Fault> {
     match plan {
         Plan::Cell { dtype, cell } => cell_value(alloc, dtype, found.cell(*cell)),
-        Plan::Struct {
-            fields,
-            nullable,
-            start,
-            end,
-        } => {
-            if *nullable && found.are_empty(*start, *end) {
+        Plan::Struct(plan) => {
+            if plan.nullable && found.are_empty(plan.start, plan.end) {
                 return Ok(Value::Null);
             }
-            Ok(Value::Struct(read_fields(fields, alloc, found)?))
+            Ok(Value::Struct(read_fields(&plan.fields, alloc, found)?))
         }
     }
 }

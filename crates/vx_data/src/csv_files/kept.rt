@@ -50,13 +50,16 @@ impl Bytes {
         Ok(())
     }
 
-    // These bytes wait, too; those that were taken are let go of.
+    // These bytes wait, too. Those that were taken are let go of once they are as many as those that wait, so that no
+    // byte is moved more often than others are taken.
     fn keep(&mut self, bytes: &[u8]) -> Result<(), AllocError> {
         let len = self.all.len();
         let taken = self.taken.min(len);
-        self.all.copy_within(taken..len, 0);
-        self.all.truncate(len - taken);
-        self.taken = 0;
+        if len - taken <= taken {
+            self.all.copy_within(taken..len, 0);
+            self.all.truncate(len - taken);
+            self.taken = 0;
+        }
         self.all.extend_from_slice(bytes)
     }
 }

@@ -100,16 +100,12 @@ fn check_present(plan: &Plan, alloc: Global, places: &[Option<usize>]) -> Result
                 Err(Fault::new(alloc, Expected::Present))
             }
         }
-        Plan::Struct {
-            fields,
-            nullable,
-            start,
-            end,
-        } => {
-            if *nullable && !(*start..*end).any(|cell| is_among(places, cell)) {
+        Plan::Struct(plan) => {
+            let mut cells = plan.start..plan.end;
+            if plan.nullable && !cells.any(|cell| is_among(places, cell)) {
                 return Ok(());
             }
-            check_each(fields, alloc, places)
+            check_each(&plan.fields, alloc, places)
         }
     }
 }

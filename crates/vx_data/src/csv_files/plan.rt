@@ -10,17 +10,19 @@ use vx_types::{DType, FieldName, FieldNames, StructFields};
 #[derive(Debug, Drop)]
 pub(crate) enum Plan {
     /// The cell of that number, whose text is a value of the type.
-    Cell {
-        dtype: DType,
-        cell: usize,
-    },
-    /// A struct of the cells from one number up to another.
-    Struct {
-        fields: Vec<FieldPlan>,
-        nullable: bool,
-        start: usize,
-        end: usize,
-    },
+    Cell { dtype: DType, cell: usize },
+    /// A struct of some of the cells.
+    Struct(StructPlan),
+}
+
+/// The cells of a struct: those from one number up to another.
+#[cycle(plan)]
+#[derive(Debug, Drop)]
+pub(crate) struct StructPlan {
+    pub(crate) fields: Vec<FieldPlan>,
+    pub(crate) nullable: bool,
+    pub(crate) start: usize,
+    pub(crate) end: usize,
 }
 
 /// The cells of a field.
@@ -92,12 +94,12 @@ fn plan_of(
             let start = names.len();
             let prefix = if is_whole { None } else { Some(name) };
             let fields = plans_of(alloc, fields, prefix, names)?;
-            Ok(Plan::Struct {
+            Ok(Plan::Struct(StructPlan {
                 fields,
                 nullable: nullability.admits_null(),
                 start,
                 end: names.len(),
-            })
+            }))
         }
         _ => {
             let cell = names.len();

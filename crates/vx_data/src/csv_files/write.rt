@@ -122,20 +122,15 @@ fn put_value(
 ) -> Result<bool, Fault> {
     match plan {
         Plan::Cell { dtype, .. } => put_cell(alloc, dtype, value, record),
-        Plan::Struct {
-            fields,
-            nullable,
-            start,
-            end,
-        } => match value {
+        Plan::Struct(plan) => match value {
             Value::Struct(values) => {
-                let shown = put_fields(fields, alloc, values.as_slice(), record)?;
-                if *nullable && !shown {
+                let shown = put_fields(&plan.fields, alloc, values.as_slice(), record)?;
+                if plan.nullable && !shown {
                     return Err(Fault::new(alloc, Expected::NonEmptyCell));
                 }
                 Ok(shown)
             }
-            _ => put_blanks(record, *start, *end),
+            _ => put_blanks(record, plan.start, plan.end),
         },
     }
 }

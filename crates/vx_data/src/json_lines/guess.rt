@@ -6,7 +6,7 @@ use crate::fault::Fault;
 use crate::json_lines::draft::named;
 use crate::wholes::Wholes;
 use std::alloc::{AllocError, Global};
-use std::rc::Rc;
+use std::sync::Arc;
 use vx_types::{DType, FieldName, FieldNames, Nullability, StructFields, VortexResult};
 
 /// What some values have in common.
@@ -181,7 +181,7 @@ pub(crate) fn guessed_type(alloc: Global, guess: &Guess, absent: bool) -> Vortex
         Shape::Text => Ok(DType::Utf8(nullability)),
         Shape::List(items) => {
             let element = guessed_type(alloc, items.as_ref(), false)?;
-            Ok(DType::List(Rc::new(alloc, element)?, nullability))
+            Ok(DType::List(Arc::new(alloc, element)?, nullability))
         }
         Shape::Struct(fields) => {
             let fields = guessed_fields(alloc, fields)?;

@@ -164,28 +164,28 @@ fn read_fields(
     let mut draft = Draft::new(alloc, fields.nfields())?;
     let mut next = 0;
     while let Some(name) = next_name(alloc, reader)? {
-        next = read_field(alloc, fields, name, next, &mut draft, reader)?;
+        let i = place_of(alloc, fields.names(), name, next)?;
+        read_field(alloc, fields, i, &mut draft, reader)?;
+        next = i.saturating_add(1);
     }
     draft.finish(alloc, fields)
 }
 
-// The value of the field of that name, which may be the guessed one. Gives the place behind it.
+// The value of the field of that index.
 #[cycle(read)]
 fn read_field(
     alloc: Global,
     fields: &StructFields,
-    name: &str,
-    guess: usize,
+    i: usize,
     draft: &mut Draft,
     reader: &mut Reader<'_>,
-) -> Result<usize, Fault>
+) -> Result<(), Fault>
     ensures { OnOk result (length reader.new ≤ length reader.old) }
 {
-    let i = place_of(alloc, fields.names(), name, guess)?;
     let types = fields.types();
     let names = fields.names().as_slice();
     if i >= fields.nfields() {
-        return Ok(i);
+        return Ok(());
     }
     if draft.has(i) {
         return Err(Fault::new(alloc, Expected::Once).within(&names[i]));
@@ -193,7 +193,7 @@ fn read_field(
     match read_value(alloc, &types[i], reader) {
         Ok(value) => {
             draft.put(i, value);
-            Ok(i + 1)
+            Ok(())
         }
         Err(fault) => Err(fault.within(&names[i])),
     }

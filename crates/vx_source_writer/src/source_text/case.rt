@@ -8,12 +8,12 @@ ghost use Rattle.vx_source_writer.specs.SourceTexts.{sources_of};
 use super::write_child;
 use std::fmt;
 use std::fmt::{Formatter, Write};
-use vx_tree::Expression;
+use vx_tree::TreeNode;
 
 // A CASE: conditions and values in turn, and what is left over as the ELSE.
 #[cycle(source)]
-pub(super) fn write_case<W: Write>(children: &[Expression], f: &mut Formatter<W>) -> fmt::Result
-    ensures { WritesOnOk W.write_str_gives f.old result (codes "CASE" ++ (pairs_sql (sources_of children.now) ++ codes " END")) f.new }
+pub(super) fn write_case<T: TreeNode, W: Write>(children: &[T], f: &mut Formatter<W>) -> fmt::Result
+    ensures { WritesOnOk W.write_str_gives f.old result (codes "CASE" ++ (pairs_sql (sources_of T.tree children.now) ++ codes " END")) f.new }
 {
     f.write_str("CASE")?;
     write_branches(children, f)?;
@@ -21,8 +21,8 @@ pub(super) fn write_case<W: Write>(children: &[Expression], f: &mut Formatter<W>
 }
 
 #[cycle(source)]
-fn write_branches<W: Write>(children: &[Expression], f: &mut Formatter<W>) -> fmt::Result
-    ensures { WritesOnOk W.write_str_gives f.old result (pairs_sql (sources_of children.now)) f.new }
+fn write_branches<T: TreeNode, W: Write>(children: &[T], f: &mut Formatter<W>) -> fmt::Result
+    ensures { WritesOnOk W.write_str_gives f.old result (pairs_sql (sources_of T.tree children.now)) f.new }
 {
     let pairs = children.len() / 2;
     for pair in 0..pairs {
@@ -37,9 +37,13 @@ fn write_branches<W: Write>(children: &[Expression], f: &mut Formatter<W>) -> fm
 
 // A condition and the value behind it.
 #[cycle(source)]
-fn write_pair<W: Write>(children: &[Expression], index: usize, f: &mut Formatter<W>) -> fmt::Result
+fn write_pair<T: TreeNode, W: Write>(
+    children: &[T],
+    index: usize,
+    f: &mut Formatter<W>,
+) -> fmt::Result
     requires { index + 1 < length children.now }
-    ensures { WritesOnOk W.write_str_gives f.old result (pair_sql (sources_of children.now) index) f.new }
+    ensures { WritesOnOk W.write_str_gives f.old result (pair_sql (sources_of T.tree children.now) index) f.new }
 {
     f.write_str(" WHEN ")?;
     write_child(children, index, f)?;

@@ -8,18 +8,18 @@ ghost use Rattle.vx_source_writer.specs.SourceTexts.{sources_of};
 use super::write_child;
 use std::fmt;
 use std::fmt::{Display, Formatter, Write};
-use vx_tree::{BetweenOptions, Expression, LikeOptions, Operator, StrictComparison};
+use vx_tree::{BetweenOptions, LikeOptions, Operator, StrictComparison, TreeNode};
 
 // An operator between its operands.
 #[cycle(source)]
-pub(super) fn write_binary<W: Write>(
+pub(super) fn write_binary<T: TreeNode, W: Write>(
     operator: Operator,
-    operands: &[Expression],
+    operands: &[T],
     f: &mut Formatter<W>,
 ) -> fmt::Result
     requires { length operands.now ≡ 2 }
     ensures { WritesOnOk W.write_str_gives f.old result
-        (operator_sql (operation_text (operation_of operator)) (get_or (sources_of operands.now) 0 []) (get_or (sources_of operands.now) 1 []))
+        (operator_sql (operation_text (operation_of operator)) (get_or (sources_of T.tree operands.now) 0 []) (get_or (sources_of T.tree operands.now) 1 []))
         f.new }
 {
     f.write_str("(")?;
@@ -31,14 +31,14 @@ pub(super) fn write_binary<W: Write>(
 
 // The word of a LIKE between the text and the pattern.
 #[cycle(source)]
-pub(super) fn write_like<W: Write>(
+pub(super) fn write_like<T: TreeNode, W: Write>(
     options: LikeOptions,
-    children: &[Expression],
+    children: &[T],
     f: &mut Formatter<W>,
 ) -> fmt::Result
     requires { length children.now ≡ 2 }
     ensures { WritesOnOk W.write_str_gives f.old result
-        (operator_sql (like_text options.negated options.case_insensitive) (get_or (sources_of children.now) 0 []) (get_or (sources_of children.now) 1 []))
+        (operator_sql (like_text options.negated options.case_insensitive) (get_or (sources_of T.tree children.now) 0 []) (get_or (sources_of T.tree children.now) 1 []))
         f.new }
 {
     f.write_str("(")?;
@@ -50,15 +50,15 @@ pub(super) fn write_like<W: Write>(
 
 // The lower bound and its sign, the middle, and the sign and the upper bound.
 #[cycle(source)]
-pub(super) fn write_between<W: Write>(
+pub(super) fn write_between<T: TreeNode, W: Write>(
     options: BetweenOptions,
-    children: &[Expression],
+    children: &[T],
     f: &mut Formatter<W>,
 ) -> fmt::Result
     requires { length children.now ≡ 3 }
     ensures { WritesOnOk W.write_str_gives f.old result
         (between_sql (is_strict options.lower_strict) (is_strict options.upper_strict)
-        (get_or (sources_of children.now) 0 []) (get_or (sources_of children.now) 1 []) (get_or (sources_of children.now) 2 []))
+        (get_or (sources_of T.tree children.now) 0 []) (get_or (sources_of T.tree children.now) 1 []) (get_or (sources_of T.tree children.now) 2 []))
         f.new }
 {
     f.write_str("(")?;
@@ -70,15 +70,15 @@ pub(super) fn write_between<W: Write>(
 
 // One of the children, and the sign between it and what is above it.
 #[cycle(source)]
-fn write_below<W: Write>(
-    children: &[Expression],
+fn write_below<T: TreeNode, W: Write>(
+    children: &[T],
     index: usize,
     strict: StrictComparison,
     f: &mut Formatter<W>,
 ) -> fmt::Result
     requires { index < length children.now }
     ensures { WritesOnOk W.write_str_gives f.old result
-        (get_or (sources_of children.now) index [] ++ (codes " " ++ (bound_text (is_strict strict) ++ codes " "))) f.new }
+        (get_or (sources_of T.tree children.now) index [] ++ (codes " " ++ (bound_text (is_strict strict) ++ codes " "))) f.new }
 {
     write_child(children, index, f)?;
     f.write_str(" ")?;

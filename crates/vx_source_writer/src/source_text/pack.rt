@@ -10,17 +10,17 @@ use super::write_child;
 use std::fmt;
 use std::fmt::{Formatter, Write};
 use vx_source_types::write_name;
-use vx_tree::{Expression, FieldName, PackOptions};
+use vx_tree::{FieldName, PackOptions, TreeNode};
 
 // A struct of named children, with a question mark where it is nullable.
 #[cycle(source)]
-pub(super) fn write_pack<W: Write>(
+pub(super) fn write_pack<T: TreeNode, W: Write>(
     options: &PackOptions,
-    children: &[Expression],
+    children: &[T],
     f: &mut Formatter<W>,
 ) -> fmt::Result
     requires { length children.now ≡ length options.now.names }
-    ensures { WritesOnOk W.write_str_gives f.old result (pack_sql (map name_source options.now.names) (admits_null options.now.nullability) (sources_of children.now)) f.new }
+    ensures { WritesOnOk W.write_str_gives f.old result (pack_sql (map name_source options.now.names) (admits_null options.now.nullability) (sources_of T.tree children.now)) f.new }
 {
     f.write_str("pack(")?;
     write_named(options.names.as_slice(), children, f)?;
@@ -34,13 +34,13 @@ pub(super) fn write_pack<W: Write>(
 
 // The children, each behind its name, with commas between them.
 #[cycle(source)]
-fn write_named<W: Write>(
+fn write_named<T: TreeNode, W: Write>(
     names: &[FieldName],
-    children: &[Expression],
+    children: &[T],
     f: &mut Formatter<W>,
 ) -> fmt::Result
     requires { length children.now ≡ length names.now }
-    ensures { WritesOnOk W.write_str_gives f.old result (with_commas (named_texts (map name_source names.now) (sources_of children.now))) f.new }
+    ensures { WritesOnOk W.write_str_gives f.old result (with_commas (named_texts (map name_source names.now) (sources_of T.tree children.now))) f.new }
 {
     if children.is_empty() {
         return Ok(());
@@ -54,15 +54,15 @@ fn write_named<W: Write>(
 }
 
 #[cycle(source)]
-fn write_named_child<W: Write>(
+fn write_named_child<T: TreeNode, W: Write>(
     names: &[FieldName],
-    children: &[Expression],
+    children: &[T],
     index: usize,
     f: &mut Formatter<W>,
 ) -> fmt::Result
     requires named { index < length names.now }
     requires given { index < length children.now }
-    ensures { WritesOnOk W.write_str_gives f.old result (get_or (named_texts (map name_source names.now) (sources_of children.now)) index []) f.new }
+    ensures { WritesOnOk W.write_str_gives f.old result (get_or (named_texts (map name_source names.now) (sources_of T.tree children.now)) index []) f.new }
 {
     write_name(&names[index], f)?;
     f.write_str(": ")?;

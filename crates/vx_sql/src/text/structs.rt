@@ -2,55 +2,51 @@
 ghost use Rattle.std.specs.Prelude.{◌≡◌, ◌<◌, ◌++◌, [], length, get_or, codes};
 ghost use Rattle.std.specs.Fmt.{WritesOnOk};
 ghost use Rattle.vx_fn.specs.Texts.{with_commas};
-ghost use Rattle.vx_tree.specs.Views.{bounds_of};
 ghost use Rattle.vx_sql.specs.Children.{is_row};
-ghost use Rattle.vx_sql.specs.SqlTexts.{sqls_of, item_sql, pack_word, before_field, fields_sql};
+ghost use Rattle.vx_sql.specs.SqlTexts.{sqls_in, trees_in, item_sql, pack_word, before_field, fields_sql};
 
-use super::write_child;
+use super::{Children, write_child};
 use crate::Dialect;
 use crate::children::is_row;
 use crate::names::write_name;
 use crate::quotes::write_text;
 use std::fmt;
 use std::fmt::{Formatter, Write};
-use vx_tree::BoundExpression;
 use vx_types::FieldName;
 
 // A column of the row, or a field of a struct.
 #[cycle(text)]
 pub(super) fn write_item<W: Write>(
-    dialect: Dialect,
     name: &FieldName,
-    children: &[BoundExpression],
+    children: Children,
     f: &mut Formatter<W>,
 ) -> fmt::Result
-    requires { length children.now ≡ 1 }
+    requires { length children.nodes.now ≡ 1 }
     ensures { WritesOnOk W.write_str_gives f.old result
-        (item_sql dialect name.now (is_row (bounds_of children.now)) (get_or (sqls_of dialect children.now) 0 [])) f.new }
+        (item_sql children.entry.dialect name.now (is_row (trees_in children.entry)) (get_or (sqls_in children.entry) 0 [])) f.new }
 {
-    if is_row(children) {
-        return write_name(dialect, name, f);
+    if is_row(children.nodes) {
+        return write_name(children.dialect, name, f);
     }
     f.write_str("(")?;
-    write_child(dialect, children, 0, f)?;
+    write_child(children, 0, f)?;
     f.write_str(").")?;
-    write_name(dialect, name, f)
+    write_name(children.dialect, name, f)
 }
 
 // A struct of named children.
 #[cycle(text)]
 pub(super) fn write_pack<W: Write>(
-    dialect: Dialect,
     names: &[FieldName],
-    children: &[BoundExpression],
+    children: Children,
     f: &mut Formatter<W>,
 ) -> fmt::Result
-    requires { length children.now ≡ length names.now }
+    requires { length children.nodes.now ≡ length names.now }
     ensures { WritesOnOk W.write_str_gives f.old result
-        (pack_word dialect ++ (with_commas (fields_sql dialect names.now (sqls_of dialect children.now)) ++ codes ")")) f.new }
+        (pack_word children.entry.dialect ++ (with_commas (fields_sql children.entry.dialect names.now (sqls_in children.entry)) ++ codes ")")) f.new }
 {
-    f.write_str(pack_word(dialect))?;
-    write_fields(dialect, names, children, f)?;
+    f.write_str(pack_word(children.dialect))?;
+    write_fields(names, children, f)?;
     f.write_str(")")
 }
 
@@ -67,21 +63,20 @@ fn pack_word(dialect: Dialect) -> &'static str
 // The fields, with commas between them.
 #[cycle(text)]
 fn write_fields<W: Write>(
-    dialect: Dialect,
     names: &[FieldName],
-    children: &[BoundExpression],
+    children: Children,
     f: &mut Formatter<W>,
 ) -> fmt::Result
-    requires { length children.now ≡ length names.now }
-    ensures { WritesOnOk W.write_str_gives f.old result (with_commas (fields_sql dialect names.now (sqls_of dialect children.now))) f.new }
+    requires { length children.nodes.now ≡ length names.now }
+    ensures { WritesOnOk W.write_str_gives f.old result (with_commas (fields_sql children.entry.dialect names.now (sqls_in children.entry))) f.new }
 {
-    if children.is_empty() {
+    if children.nodes.is_empty() {
         return Ok(());
     }
-    write_field(dialect, names, children, 0, f)?;
-    for index in 1..children.len() {
+    write_field(names, children, 0, f)?;
+    for index in 1..children.nodes.len() {
         f.write_str(", ")?;
-        write_field(dialect, names, children, index, f)?;
+        write_field(names, children, index, f)?;
     }
     Ok(())
 }
@@ -89,18 +84,17 @@ fn write_fields<W: Write>(
 // A field that is made: its name and its value.
 #[cycle(text)]
 fn write_field<W: Write>(
-    dialect: Dialect,
     names: &[FieldName],
-    children: &[BoundExpression],
+    children: Children,
     index: usize,
     f: &mut Formatter<W>,
 ) -> fmt::Result
     requires named { index < length names.now }
-    requires given { index < length children.now }
-    ensures { WritesOnOk W.write_str_gives f.old result (get_or (fields_sql dialect names.now (sqls_of dialect children.now)) index []) f.new }
+    requires given { index < length children.nodes.now }
+    ensures { WritesOnOk W.write_str_gives f.old result (get_or (fields_sql children.entry.dialect names.now (sqls_in children.entry)) index []) f.new }
 {
-    write_before_field(dialect, &names[index], f)?;
-    write_child(dialect, children, index, f)
+    write_before_field(children.dialect, &names[index], f)?;
+    write_child(children, index, f)
 }
 
 // What stands before the value of a field.

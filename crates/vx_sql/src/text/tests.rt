@@ -1,11 +1,11 @@
 // The texts of tests for null, and of LIKE.
 ghost use Rattle.std.specs.Prelude.{◌≡◌, ◌<◌, ◌++◌, [], length, get_or, codes};
 ghost use Rattle.std.specs.Fmt.{WritesOnOk};
-ghost use Rattle.vx_tree.specs.Views.{bound_of, bounds_of};
+ghost use Rattle.vx_tree.specs.Views.{bound_of};
 ghost use Rattle.vx_sql.specs.Children.{has_struct_first, literal_in};
-ghost use Rattle.vx_sql.specs.SqlTexts.{sqls_of, tests_rows, null_sign, null_test, before_folded, behind_folded, before_matched, behind_matched, like_sign, like_end, value_pattern, literal_pattern, second_pattern, match_sql};
+ghost use Rattle.vx_sql.specs.SqlTexts.{sqls_in, trees_in, tests_rows, null_sign, null_test, before_folded, behind_folded, before_matched, behind_matched, like_sign, like_end, value_pattern, literal_pattern, second_pattern, match_sql};
 
-use super::write_child;
+use super::{Children, write_child};
 use crate::Dialect;
 use crate::children::{child_at, has_struct_first, literal_in};
 use crate::literals::write_null;
@@ -20,18 +20,17 @@ use vx_types::{Scalar, Value};
 // Whether the child is null, or isn't.
 #[cycle(text)]
 pub(super) fn write_null_test<W: Write>(
-    dialect: Dialect,
     for_null: bool,
-    children: &[BoundExpression],
+    children: Children,
     f: &mut Formatter<W>,
 ) -> fmt::Result
-    requires { length children.now ≡ 1 }
+    requires { length children.nodes.now ≡ 1 }
     ensures { WritesOnOk W.write_str_gives f.old result
-        (null_test dialect (has_struct_first (bounds_of children.now)) for_null (get_or (sqls_of dialect children.now) 0 [])) f.new }
+        (null_test children.entry.dialect (has_struct_first (trees_in children.entry)) for_null (get_or (sqls_in children.entry) 0 [])) f.new }
 {
     f.write_str("(")?;
-    write_child(dialect, children, 0, f)?;
-    let by_rows = tests_rows(dialect) && has_struct_first(children);
+    write_child(children, 0, f)?;
+    let by_rows = tests_rows(children.dialect) && has_struct_first(children.nodes);
     f.write_str(null_sign(by_rows, for_null))
 }
 
@@ -39,7 +38,10 @@ pub(super) fn write_null_test<W: Write>(
 fn tests_rows(dialect: Dialect) -> bool
     ensures { result ≡ tests_rows dialect }
 {
-    matches!(dialect, Dialect::Postgres)
+    match dialect {
+        Dialect::Postgres => true,
+        Dialect::Sqlite | Dialect::DuckDb | Dialect::Spark => false,
+    }
 }
 
 fn null_sign(by_rows: bool, for_null: bool) -> &'static str
@@ -56,22 +58,21 @@ fn null_sign(by_rows: bool, for_null: bool) -> &'static str
 // A match of a text with a pattern.
 #[cycle(text)]
 pub(super) fn write_like<W: Write>(
-    dialect: Dialect,
     options: LikeOptions,
-    children: &[BoundExpression],
+    children: Children,
     f: &mut Formatter<W>,
 ) -> fmt::Result
-    requires { length children.now ≡ 2 }
+    requires { length children.nodes.now ≡ 2 }
     ensures { WritesOnOk W.write_str_gives f.old result
-        (match_sql dialect options.negated options.case_insensitive (get_or (sqls_of dialect children.now) 0 [])
-        (second_pattern dialect options.case_insensitive (bounds_of children.now))) f.new }
+        (match_sql children.entry.dialect options.negated options.case_insensitive (get_or (sqls_in children.entry) 0 [])
+        (second_pattern children.entry.dialect options.case_insensitive (trees_in children.entry))) f.new }
 {
-    write_before_matched(dialect, options.case_insensitive, f)?;
-    write_child(dialect, children, 0, f)?;
-    write_behind_matched(dialect, options.case_insensitive, f)?;
-    write_like_sign(dialect, options.negated, f)?;
-    write_second_pattern(dialect, options.case_insensitive, children, f)?;
-    f.write_str(like_end(dialect))
+    write_before_matched(children.dialect, options.case_insensitive, f)?;
+    write_child(children, 0, f)?;
+    write_behind_matched(children.dialect, options.case_insensitive, f)?;
+    write_like_sign(children.dialect, options.negated, f)?;
+    write_second_pattern(options.case_insensitive, children, f)?;
+    f.write_str(like_end(children.dialect))
 }
 
 // What stands before a text whose case is ignored.
@@ -159,15 +160,14 @@ fn like_end(dialect: Dialect) -> &'static str
 
 // The pattern that is the second child.
 fn write_second_pattern<W: Write>(
-    dialect: Dialect,
     ignore_case: bool,
-    children: &[BoundExpression],
+    children: Children,
     f: &mut Formatter<W>,
 ) -> fmt::Result
-    ensures { WritesOnOk W.write_str_gives f.old result (second_pattern dialect ignore_case (bounds_of children.now)) f.new }
+    ensures { WritesOnOk W.write_str_gives f.old result (second_pattern children.entry.dialect ignore_case (trees_in children.entry)) f.new }
 {
-    match child_at(children, 1) {
-        Some(child) => write_pattern_of(dialect, ignore_case, child, f),
+    match child_at(children.nodes, 1) {
+        Some(child) => write_pattern_of(children.dialect, ignore_case, child, f),
         None => Ok(()),
     }
 }

@@ -2,30 +2,33 @@
 ghost use Rattle.vx_tree.specs.Trees.{WellTyped};
 ghost use Rattle.vx_tree.specs.Views.{bound_of};
 
-use crate::answers::distinct::{distinct_nodes, key_of};
+use crate::answers::bound_line::BoundLine;
+use crate::answers::distinct::{Analysis, key_of, told_of_all};
 use crate::answers::paths::shown_paths;
-use crate::kind::BoundKind;
-use crate::scene::Scene;
+use crate::kind::AnalysisKind;
 use std::alloc::Global;
 use vx_rewrite::{BoundLabels, Optimize, label_bound_tree, referenced_field_paths};
-use vx_tree::{BoundExpression, Expression, VortexResult};
+use vx_tree::{BoundExpression, VortexResult};
 
 /// The answer to a line that asks of the paths or the labels of the source, which is bound.
-pub fn answer(
-    alloc: Global,
-    kind: BoundKind,
-    scene: &Scene,
-    source: &Expression,
-    bound: &BoundExpression,
-) -> VortexResult<String>
-    requires { WellTyped (bound_of bound.now) }
+pub fn answer(alloc: Global, kind: AnalysisKind, line: &BoundLine<'_>) -> VortexResult<String>
+    requires { WellTyped (bound_of line.now.bound.now) }
 {
+    let bound = line.bound;
     match kind {
-        BoundKind::Paths => paths(alloc, bound),
-        BoundKind::OptimizedPaths => {
+        AnalysisKind::Paths => paths(alloc, bound),
+        AnalysisKind::OptimizedPaths => {
             paths(alloc, &*Box::new(alloc, bound.optimize_recursive(alloc)?)?)
         }
-        _ => labels(alloc, kind, bound, &*scene.bind(alloc, source)?),
+        AnalysisKind::Size => size(alloc, bound, &*line.again(alloc)?),
+        AnalysisKind::Sizes => {
+            let labels = Box::new(alloc, sizes(alloc, bound)?)?;
+            told_of_all(alloc, &*labels, &*line.again(alloc)?)
+        }
+        AnalysisKind::Heights => {
+            let labels = Box::new(alloc, heights(alloc, bound)?)?;
+            told_of_all(alloc, &*labels, &*line.again(alloc)?)
+        }
     }
 }
 
@@ -36,31 +39,10 @@ fn paths(alloc: Global, bound: &BoundExpression) -> VortexResult<String>
     shown_paths(alloc, &set)
 }
 
-// The labels of the tree, read out by an equal one.
-fn labels(
-    alloc: Global,
-    kind: BoundKind,
-    bound: &BoundExpression,
-    equal: &BoundExpression,
-) -> VortexResult<String> {
-    let labels = match kind {
-        BoundKind::Heights => Box::new(alloc, heights(alloc, bound)?)?,
-        _ => Box::new(alloc, sizes(alloc, bound)?)?,
-    };
-    if let BoundKind::Size = kind {
-        let mut text = String::new(alloc);
-        push_label(alloc, &mut text, &labels, equal)?;
-        return Ok(text);
-    }
-    let mut text = String::new(alloc);
-    for node in distinct_nodes(alloc, equal)?.iter() {
-        if !text.is_empty() {
-            text.push(' ')?;
-        }
-        push_label(alloc, &mut text, &labels, node)?;
-    }
-    let count = labels.len();
-    Ok(format!(in alloc; "{text} ({count})")?)
+// The size of the tree, read out by an equal one.
+fn size(alloc: Global, bound: &BoundExpression, equal: &BoundExpression) -> VortexResult<String> {
+    let labels = Box::new(alloc, sizes(alloc, bound)?)?;
+    labels.told_at(alloc, equal)
 }
 
 // One more than the highest child's.
@@ -83,16 +65,16 @@ fn sizes(alloc: Global, e: &BoundExpression) -> VortexResult<BoundLabels<u64>> {
     )
 }
 
-fn push_label(
-    alloc: Global,
-    text: &mut String,
-    labels: &BoundLabels<u64>,
-    e: &BoundExpression,
-) -> VortexResult<()> {
-    let key = key_of(alloc, e)?;
-    let told = match labels.get(&*key) {
-        Some(label) => format!(in alloc; "{label}")?,
-        None => String::from_str(alloc, "-")?,
-    };
-    Ok(text.push_str(told.as_str())?)
+impl Analysis for BoundLabels<u64> {
+    fn told_at(&self, alloc: Global, node: &BoundExpression) -> VortexResult<String> {
+        let key = key_of(alloc, node)?;
+        match self.get(&*key) {
+            Some(label) => Ok(format!(in alloc; "{label}")?),
+            None => Ok(String::from_str(alloc, "-")?),
+        }
+    }
+
+    fn count(&self) -> usize {
+        self.len()
+    }
 }

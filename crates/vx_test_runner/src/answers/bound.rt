@@ -2,9 +2,10 @@
 ghost use Rattle.vx_tree.specs.Trees.{WellTyped};
 ghost use Rattle.vx_tree.specs.Views.{bound_of};
 
+use crate::answers::bound_line::BoundLine;
 use crate::answers::pruned::pruned;
 use crate::answers::{analyses, partitions};
-use crate::kind::BoundKind;
+use crate::kind::{BoundKind, RewrittenKind, Told};
 use crate::scene::Scene;
 use crate::told::{agreed, barred, push_rows, refused, typed};
 use std::alloc::Global;
@@ -23,37 +24,17 @@ pub fn answer(alloc: Global, kind: BoundKind, scene: &Scene, tree: &str) -> Resu
         Ok(bound) => bound,
         Err(refusal) => return Ok(refused(alloc, &refusal)?),
     };
+    let line = BoundLine {
+        scene,
+        source: &source,
+        bound: &bound,
+    };
     let answer = match kind {
         BoundKind::Source => same_texts(alloc, &source, &bound),
         BoundKind::Rows => rows(alloc, scene, &bound),
-        BoundKind::Validity
-        | BoundKind::ValidityRows
-        | BoundKind::Optimized
-        | BoundKind::OptimizedRows
-        | BoundKind::OptimizedOrNone
-        | BoundKind::OptimizedAtRoot
-        | BoundKind::ByBranches
-        | BoundKind::ByBranchesRows
-        | BoundKind::ByBranchesOrNone
-        | BoundKind::Folded
-        | BoundKind::FoldedRows
-        | BoundKind::FoldedOrNone
-        | BoundKind::Fused
-        | BoundKind::FusedRows => rewritten(alloc, kind, scene, &bound),
-        BoundKind::Paths
-        | BoundKind::OptimizedPaths
-        | BoundKind::Size
-        | BoundKind::Sizes
-        | BoundKind::Heights => analyses::answer(alloc, kind, scene, &source, &bound),
-        BoundKind::Fields
-        | BoundKind::OwnFields
-        | BoundKind::OwnAnnotations
-        | BoundKind::Annotations
-        | BoundKind::Covers
-        | BoundKind::Split
-        | BoundKind::SplitRows
-        | BoundKind::Replaced
-        | BoundKind::ReplacedRows => partitions::answer(alloc, kind, scene, &source, &bound),
+        BoundKind::OfRewritten(kind) => rewritten(alloc, kind, scene, &bound),
+        BoundKind::OfAnalysis(kind) => analyses::answer(alloc, kind, &line),
+        BoundKind::OfFields(kind) => partitions::answer(alloc, kind, &line),
         BoundKind::Pruned => pruned(alloc, scene, &bound),
     };
     told_text(alloc, answer)
@@ -110,49 +91,41 @@ fn fitting(
 
 fn rewritten(
     alloc: Global,
-    kind: BoundKind,
+    kind: RewrittenKind,
     scene: &Scene,
     bound: &BoundExpression,
 ) -> VortexResult<String>
     requires { WellTyped (bound_of bound.now) }
 {
     match kind {
-        BoundKind::Validity => typed(alloc, &*Box::new(alloc, bound.validity(alloc)?)?),
-        BoundKind::ValidityRows => {
+        RewrittenKind::Validity(told) => {
             let validity = Box::new(alloc, bound.validity(alloc)?)?;
-            rows(alloc, scene, &validity)
+            told_of(alloc, told, scene, &validity)
         }
-        BoundKind::OptimizedOrNone => optimized_or_none(alloc, bound),
-        BoundKind::OptimizedAtRoot => optimized_at_root(alloc, bound),
-        BoundKind::ByBranches | BoundKind::ByBranchesRows => {
-            by_rules(alloc, kind, scene, &BranchRules, bound)
+        RewrittenKind::Optimized(told) => {
+            let left = Box::new(alloc, bound.optimize_recursive(alloc)?)?;
+            told_of(alloc, told, scene, &left)
         }
-        BoundKind::ByBranchesOrNone => passed_or_none(alloc, Pass::Branches, &BranchRules, bound),
-        BoundKind::Folded | BoundKind::FoldedRows => {
-            by_rules(alloc, kind, scene, &FoldingRules, bound)
+        RewrittenKind::OptimizedOrNone => optimized_or_none(alloc, bound),
+        RewrittenKind::OptimizedAtRoot => optimized_at_root(alloc, bound),
+        RewrittenKind::ByBranches(told) => by_rules(alloc, told, scene, &BranchRules, bound),
+        RewrittenKind::ByBranchesOrNone => {
+            passed_or_none(alloc, Pass::Branches, &BranchRules, bound)
         }
-        BoundKind::FoldedOrNone => passed_or_none(alloc, Pass::Fold, &FoldingRules, bound),
-        BoundKind::Fused | BoundKind::FusedRows => fused(alloc, kind, scene, bound),
-        _ => optimized(alloc, kind, scene, bound),
+        RewrittenKind::Folded(told) => by_rules(alloc, told, scene, &FoldingRules, bound),
+        RewrittenKind::FoldedOrNone => passed_or_none(alloc, Pass::Fold, &FoldingRules, bound),
+        RewrittenKind::Fused(Told::Text) => fused(alloc, bound),
+        RewrittenKind::Fused(Told::Rows) => {
+            let fused = Box::new(alloc, find_between(alloc, bound.clone()?)?)?;
+            rows(alloc, scene, &fused)
+        }
     }
-}
-
-fn optimized(
-    alloc: Global,
-    kind: BoundKind,
-    scene: &Scene,
-    bound: &BoundExpression,
-) -> VortexResult<String>
-    requires { WellTyped (bound_of bound.now) }
-{
-    let left = Box::new(alloc, bound.optimize_recursive(alloc)?)?;
-    typed_or_rows(alloc, kind, scene, &left)
 }
 
 // What the rules leave, the tree itself where none fits at any node.
 fn by_rules<R: Rule>(
     alloc: Global,
-    kind: BoundKind,
+    told: Told,
     scene: &Scene,
     rules: &R,
     bound: &BoundExpression,
@@ -160,40 +133,26 @@ fn by_rules<R: Rule>(
     requires { WellTyped (bound_of bound.now) }
 {
     match optimize_with(alloc, rules, bound)? {
-        Some(left) => typed_or_rows(alloc, kind, scene, &*Box::new(alloc, left)?),
-        None => typed_or_rows(alloc, kind, scene, bound),
+        Some(left) => told_of(alloc, told, scene, &*Box::new(alloc, left)?),
+        None => told_of(alloc, told, scene, bound),
     }
 }
 
-// The text and the type of what is left, or its rows.
-fn typed_or_rows(
-    alloc: Global,
-    kind: BoundKind,
-    scene: &Scene,
-    left: &BoundExpression,
-) -> VortexResult<String>
-    requires { WellTyped (bound_of left.now) }
+// The text and the type of the tree, or its rows.
+fn told_of(alloc: Global, told: Told, scene: &Scene, tree: &BoundExpression) -> VortexResult<String>
+    requires { WellTyped (bound_of tree.now) }
 {
-    match kind {
-        BoundKind::OptimizedRows | BoundKind::ByBranchesRows | BoundKind::FoldedRows => {
-            rows(alloc, scene, left)
-        }
-        _ => typed(alloc, left),
+    match told {
+        Told::Text => typed(alloc, tree),
+        Told::Rows => rows(alloc, scene, tree),
     }
 }
 
-fn fused(
-    alloc: Global,
-    kind: BoundKind,
-    scene: &Scene,
-    bound: &BoundExpression,
-) -> VortexResult<String>
+// The text and the type of the fused tree, which fusing again has to leave as it is.
+fn fused(alloc: Global, bound: &BoundExpression) -> VortexResult<String>
     requires { WellTyped (bound_of bound.now) }
 {
     let fused = Box::new(alloc, find_between(alloc, bound.clone()?)?)?;
-    if let BoundKind::FusedRows = kind {
-        return rows(alloc, scene, &fused);
-    }
     let again = Box::new(alloc, find_between(alloc, (*fused).clone()?)?)?;
     if *again != *fused {
         return Ok(format!(in alloc; "{fused}, and fused again {again}")?);

@@ -2,9 +2,10 @@
 ghost use Rattle.vx_tree.specs.Trees.{WellTyped};
 ghost use Rattle.vx_tree.specs.Views.{bound_of};
 
-use crate::answers::distinct::{distinct_nodes, key_of};
+use crate::answers::bound_line::BoundLine;
+use crate::answers::distinct::{Analysis, key_of, told_of_all};
 use crate::answers::split::{Divided, divided, joined_rows, replaced_by_optimized, shown};
-use crate::kind::BoundKind;
+use crate::kind::{FieldsKind, Told};
 use crate::scene::Scene;
 use crate::told::agreed;
 use std::alloc::Global;
@@ -12,50 +13,47 @@ use vx_rewrite::{
     BoundAnnotations, covers, descendent_bound_annotations, direct_bound_annotations, free_fields,
     partition_bound,
 };
-use vx_tree::{BoundExpression, Expression, FieldName, StructFields, VortexError, VortexResult};
+use vx_tree::{BoundExpression, FieldName, StructFields, VortexError, VortexResult};
 
 /// The answer to a line that asks of the annotations or the split of the source, which is bound to
 /// the scope, a struct.
-pub fn answer(
-    alloc: Global,
-    kind: BoundKind,
-    scene: &Scene,
-    source: &Expression,
-    bound: &BoundExpression,
-) -> VortexResult<String>
-    requires { WellTyped (bound_of bound.now) }
+pub fn answer(alloc: Global, kind: FieldsKind, line: &BoundLine<'_>) -> VortexResult<String>
+    requires { WellTyped (bound_of line.now.bound.now) }
 {
-    let fields = scene
+    let bound = line.bound;
+    let fields = line
+        .scene
         .scope
         .as_struct_fields_opt()
         .ok_or(VortexError::NotAStruct)?;
     match kind {
-        BoundKind::Split | BoundKind::SplitRows | BoundKind::Replaced | BoundKind::ReplacedRows => {
-            split(alloc, kind, scene, fields, bound)
+        FieldsKind::Split(told) => split(alloc, told, line, fields),
+        FieldsKind::Replaced(told) => {
+            told_of(alloc, told, line.scene, &*replaced(alloc, bound, fields)?)
         }
-        BoundKind::Covers => {
+        FieldsKind::Covers => {
             let covered = covers(alloc, bound, &fields_read(alloc, bound, fields)?)?;
             Ok(format!(in alloc; "{covered}")?)
         }
-        BoundKind::OwnFields => {
+        FieldsKind::OwnFields => {
             let own = direct_bound_annotations(alloc, bound, |node: &BoundExpression| {
                 free_fields(alloc, node, fields)
             })?;
-            all_sets(alloc, &own, &*scene.bind(alloc, source)?)
+            told_of_all(alloc, &own, &*line.again(alloc)?)
         }
-        BoundKind::OwnAnnotations => {
+        FieldsKind::OwnAnnotations => {
             let own = direct_bound_annotations(alloc, bound, |node: &BoundExpression| {
                 free_fields(alloc, node, fields)
             })?;
             fields_in(alloc, &own)
         }
-        BoundKind::Fields => {
+        FieldsKind::Fields => {
             let read = fields_read(alloc, bound, fields)?;
-            all_sets(alloc, &read, &*scene.bind(alloc, source)?)
+            told_of_all(alloc, &read, &*line.again(alloc)?)
         }
-        _ => {
+        FieldsKind::Annotations => {
             let read = fields_read(alloc, bound, fields)?;
-            set_at(alloc, &read, &*scene.bind(alloc, source)?)
+            read.told_at(alloc, &*line.again(alloc)?)
         }
     }
 }
@@ -71,33 +69,40 @@ pub fn fields_read(
     })
 }
 
+// The tree split, on which a split by a closure has to agree.
 fn split(
     alloc: Global,
-    kind: BoundKind,
-    scene: &Scene,
+    told: Told,
+    line: &BoundLine<'_>,
     fields: &StructFields,
-    bound: &BoundExpression,
 ) -> VortexResult<String>
+    requires { WellTyped (bound_of line.now.bound.now) }
+{
+    let BoundLine { scene, bound, .. } = *line;
+    let whole = divided(alloc, bound, fields_read(alloc, bound, fields)?)?;
+    let by_closure = split_by_closure(alloc, fields, bound)?;
+    let own = told_of(alloc, told, scene, &whole)?;
+    agreed(alloc, own, told_of(alloc, told, scene, &by_closure)?)
+}
+
+// The tree split, with its partitions replaced by optimized ones.
+fn replaced(
+    alloc: Global,
+    bound: &BoundExpression,
+    fields: &StructFields,
+) -> VortexResult<Box<Divided>>
     requires { WellTyped (bound_of bound.now) }
 {
     let mut whole = divided(alloc, bound, fields_read(alloc, bound, fields)?)?;
-    match kind {
-        BoundKind::Split => {
-            let by_closure = split_by_closure(alloc, fields, bound)?;
-            agreed(alloc, shown(alloc, &whole)?, shown(alloc, &by_closure)?)
-        }
-        BoundKind::SplitRows => {
-            let by_closure = split_by_closure(alloc, fields, bound)?;
-            let rows = joined_rows(alloc, scene, &whole)?;
-            agreed(alloc, rows, joined_rows(alloc, scene, &by_closure)?)
-        }
-        _ => {
-            replaced_by_optimized(alloc, &mut whole)?;
-            match kind {
-                BoundKind::Replaced => shown(alloc, &whole),
-                _ => joined_rows(alloc, scene, &whole),
-            }
-        }
+    replaced_by_optimized(alloc, &mut whole)?;
+    Ok(whole)
+}
+
+// The split as a text, or what it gives once joined.
+fn told_of(alloc: Global, told: Told, scene: &Scene, split: &Divided) -> VortexResult<String> {
+    match told {
+        Told::Text => shown(alloc, split),
+        Told::Rows => joined_rows(alloc, scene, split),
     }
 }
 
@@ -115,21 +120,23 @@ fn split_by_closure(
     Ok(Box::new(alloc, split)?)
 }
 
-// The set at the node, its names in their order: `[a, b]`; `-` where it has none.
-fn set_at(
-    alloc: Global,
-    found: &BoundAnnotations<FieldName>,
-    node: &BoundExpression,
-) -> VortexResult<String> {
-    let key = key_of(alloc, node)?;
-    let Some(set) = found.get(&*key) else {
-        return Ok(String::from_str(alloc, "-")?);
-    };
-    let mut names: Vec<&str> = Vec::new(alloc);
-    for name in set.iter() {
-        names.push(name.as_str())?;
+impl Analysis for BoundAnnotations<FieldName> {
+    // The set at the node, its names in their order: `[a, b]`.
+    fn told_at(&self, alloc: Global, node: &BoundExpression) -> VortexResult<String> {
+        let key = key_of(alloc, node)?;
+        let Some(set) = self.get(&*key) else {
+            return Ok(String::from_str(alloc, "-")?);
+        };
+        let mut names: Vec<&str> = Vec::new(alloc);
+        for name in set.iter() {
+            names.push(name.as_str())?;
+        }
+        listed(alloc, names)
     }
-    listed(alloc, names)
+
+    fn count(&self) -> usize {
+        self.len()
+    }
 }
 
 // The names of all sets, and how many sets there are: `[a, b] (2)`.
@@ -159,20 +166,4 @@ fn listed(alloc: Global, names: Vec<&str>) -> VortexResult<String> {
     }
     text.push(']')?;
     Ok(text)
-}
-
-fn all_sets(
-    alloc: Global,
-    found: &BoundAnnotations<FieldName>,
-    equal: &BoundExpression,
-) -> VortexResult<String> {
-    let mut text = String::new(alloc);
-    for node in distinct_nodes(alloc, equal)?.iter() {
-        if !text.is_empty() {
-            text.push(' ')?;
-        }
-        text.push_str(set_at(alloc, found, node)?.as_str())?;
-    }
-    let count = found.len();
-    Ok(format!(in alloc; "{text} ({count})")?)
 }

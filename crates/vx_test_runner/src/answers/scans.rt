@@ -96,19 +96,18 @@ fn scanned(alloc: Global, plan: &ScanPlan, column: &Column) -> VortexResult<With
 
 /// What a scan gives of the column, read along the plan's paths alone.
 pub fn scan_column(alloc: Global, plan: &ScanPlan, column: &Column) -> VortexResult<Column> {
-    let reader = reader(alloc, plan, column)?;
-    scan(alloc, &reader, plan)
+    let no_path = FieldPathSet::new(alloc);
+    scan(alloc, &reader(plan, column.clone()?, &no_path), plan)
 }
 
-/// A reader of the column that allows the plan's paths, and none where it is of another type.
-pub fn reader(alloc: Global, plan: &ScanPlan, column: &Column) -> VortexResult<ColumnReader>
-    ensures { IfOk result (λ r. r.column.type ≡ type_of plan.now.scope → r.allowed ≡ plan.now.paths) }
+/// A reader of the column that allows the plan's paths, and no path where it is of another type.
+pub fn reader<'p>(plan: &'p ScanPlan, column: Column, no_path: &'p FieldPathSet) -> ColumnReader<'p>
+    ensures { result.column.type ≡ type_of plan.now.scope → result.allowed.now ≡ plan.now.paths }
 {
-    let column = column.clone()?;
     if *column.dtype() != *plan.scope() {
-        return Ok(ColumnReader::new(column, FieldPathSet::new(alloc)));
+        return ColumnReader::new(column, no_path);
     }
-    plan.reader_of(alloc, column)
+    plan.reader_of(column)
 }
 
 /// What is read of each batch along the paths.
@@ -132,8 +131,8 @@ pub fn read_through(alloc: Global, scene: &Scene, paths: &str) -> VortexResult<S
 }
 
 fn through_reader(alloc: Global, batch: &Column, paths: &Vec<FieldPath>) -> VortexResult<Column> {
-    let reader = ColumnReader::try_new(batch.clone()?, set_of(alloc, paths)?)?;
-    reader.read(alloc, &set_of(alloc, paths)?)
+    let paths = set_of(alloc, paths)?;
+    ColumnReader::try_new(batch.clone()?, &paths)?.read(alloc, &paths)
 }
 
 /// The paths as a set.

@@ -27,7 +27,7 @@ pub fn parsed(alloc: Global, text: &str) -> Result<String, Unread> {
 pub fn read_otherwise(alloc: Global, expression: &Expression) -> Result<Option<String>, Unread> {
     let source = format!(in alloc; "{}", SourceText(expression))?;
     let again = boxed(alloc, source.as_str())?;
-    if *again != *expression || !reads(&SourceText(&again), source.as_str()) {
+    if *again != *expression || !reads(&SourceText(&*again), source.as_str()) {
         return Ok(Some(format!(in alloc; "{source} reads back otherwise")?));
     }
     Ok(None)

@@ -21,47 +21,47 @@ bound_over e t s held lent same is cond = subst (λ s. IsBoundCondition e s (bou
 pub filter_chunks-requires-clause-truth : goal.filter_chunks-requires-clause-truth
 filter_chunks-requires-clause-truth g c = subst (λ t. IsTrue (is_truth (node_type (bound_of t)))) (sym c.deref.ensures) c.in-Ok.ensures.truth
 
-pub returns-in-Err-filter_chunks-clause-complaint : goal.returns-in-Err-filter_chunks-clause-complaint
-returns-in-Err-filter_chunks-clause-complaint g c =
+pub returns-in-Err-filter_chunks-clause-error : goal.returns-in-Err-filter_chunks-clause-error
+returns-in-Err-filter_chunks-clause-error g c =
     let leaves = g.R.RecordReader.leaves in
     let s = g.R.RecordReader.scope c.args.records.now in
     let head = g.R.RecordReader.head c.args.records.now in
-    let e = tree_of c.args.placed.now.expression in
+    let e = tree_of c.args.query.now.placed.now.expression in
     let b = bound_of c.deref.result.now in
-    let m = non_zero_usize_get c.args.size in
+    let m = non_zero_usize_get c.args.query.now.size in
     let out = g.W.Write.contents c.args.out.now in
     let after = g.W.Write.contents c.filter_chunks.new.out in
     let told = g.E.Write.contents c.args.err.now in
     let cond = bound_over e _ s _ c.deref.result.now c.dtype.ensures c.deref.ensures c.in-Ok.ensures.bound in
     let stopped = subst (λ e. Stops leaves b c.args.records.now c.in-Err-filter_chunks.error (KeptByChunks s head e m b out after) (BrokeByChunks s head e m b out after)) cond.0.0 c.in-Err-filter_chunks.ensures.stopped in
     let (span, is) = c.stopped.ensures in
-    subst (λ r. IsKeptByChunksUntil leaves s head e m c.args.limit r c.args.records.now c.filter_chunks.new.records out after told told) (sym is) (b, cond, inl (stopped, untold told))
+    subst (λ r. IsKeptByChunksUntil leaves s head e m c.args.query.now.limit r c.args.records.now c.filter_chunks.new.records out after told told) (sym is) (b, cond, inl (stopped, untold told))
 
 pub returns-in-Ok-tell-clause-kept : goal.returns-in-Ok-tell-clause-kept
 returns-in-Ok-tell-clause-kept g c =
     let s = g.R.RecordReader.scope c.args.records.now in
     let head = g.R.RecordReader.head c.args.records.now in
-    let e = tree_of c.args.placed.now.expression in
+    let e = tree_of c.args.query.now.placed.now.expression in
     let b = bound_of c.deref.result.now in
-    let m = non_zero_usize_get c.args.size in
+    let m = non_zero_usize_get c.args.query.now.size in
     let out = g.W.Write.contents c.args.out.now in
     let after = g.W.Write.contents c.filter_chunks.new.out in
     let cond = bound_over e _ s _ c.deref.result.now c.dtype.ensures c.deref.ensures c.in-Ok.ensures.bound in
     let (rs, reads, (is, kept)) = c.in-Ok-filter_chunks.ensures.kept in
     (b, cond, (rs, reads, (subst (λ e. KeptByChunks s head e m b out after rs) cond.0.0 kept, subst (λ t. Appends (g.E.Write.contents c.args.err.now) (g.E.Write.contents c.tell.new.err) (tally_line t)) is c.in-Ok-tell.ensures)))
 
-pub returns-clause-complaint : goal.returns-clause-complaint
-returns-clause-complaint g c =
+pub returns-clause-error : goal.returns-clause-error
+returns-clause-error g c =
     let leaves = g.R.RecordReader.leaves in
     let s = g.R.RecordReader.scope c.args.records.now in
     let head = g.R.RecordReader.head c.args.records.now in
-    let e = tree_of c.args.placed.now.expression in
+    let e = tree_of c.args.query.now.placed.now.expression in
     let b = bound_of c.deref.result.now in
-    let m = non_zero_usize_get c.args.size in
+    let m = non_zero_usize_get c.args.query.now.size in
     let out = g.W.Write.contents c.args.out.now in
     let after = g.W.Write.contents c.filter_chunks.new.out in
     let cond = bound_over e _ s _ c.deref.result.now c.dtype.ensures c.deref.ensures c.in-Ok.ensures.bound in
     let (rs, reads, (is, kept)) = c.in-Ok-filter_chunks.ensures.kept in
     let (span, stopped) = c.stopped-in-Err-tell.ensures in
-    subst (λ r. IsKeptByChunksUntil leaves s head e m c.args.limit r c.args.records.now c.filter_chunks.new.records out after (g.E.Write.contents c.args.err.now) (g.E.Write.contents c.tell.new.err)) (sym stopped)
+    subst (λ r. IsKeptByChunksUntil leaves s head e m c.args.query.now.limit r c.args.records.now c.filter_chunks.new.records out after (g.E.Write.contents c.args.err.now) (g.E.Write.contents c.tell.new.err)) (sym stopped)
     (b, cond, inr ((rs, reads, subst (λ e. KeptByChunks s head e m b out after rs) cond.0.0 kept), tt))

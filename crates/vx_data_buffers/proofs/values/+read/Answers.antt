@@ -16,16 +16,16 @@ use Rattle.vx_data_buffers.proofs.values.+read.Goals as goal
 
 pub items-loop-i-preserved : goal.items-loop-i-preserved
 items-loop-i-preserved t c =
-    pushed (value_at (bytes_in c.args.buffers.now) (type_of c.args.t.now) c.args.at) c.args.from (c.loop-i.i - c.args.from) (c.loop-i.i + 1 - c.args.from) c.loop-i.i
+    pushed (value_at (bytes_in c.args.buffers.now) (type_of c.args.t.now) c.args.at) c.args.rows.0 (c.loop-i.i - c.args.rows.0) (c.loop-i.i + 1 - c.args.rows.0) c.loop-i.i
     c.loop-i.items.items c.push.new.self.items c.in_ok-value_at.field-0 (omega arith) (omega arith) c.loop-i.invariant c.in_ok-value_at.ensures c.in_ok-push.ensures.items
 
 pub items-returns-in_err-value_at : goal.items-returns-in_err-value_at
 items-returns-in_err-value_at t c =
     let f = value_at (bytes_in c.args.buffers.now) (type_of c.args.t.now) c.args.at in
     let failed : c.from_residual.result ≡ Err c.in_err-value_at.field-0.0 = search rules in
-    subst (λ r. Reads value_of r (and_so (each_from f c.args.from (c.args.to - c.args.from)) (λ vs. list_of (data_of vs)))) (sym failed)
-    (refused_so (λ vs. list_of (data_of vs)) (each_from f c.args.from (c.args.to - c.args.from)) _ _
-    (refused f c.args.from (c.loop-i.i - c.args.from) (c.args.to - c.args.from) c.loop-i.i _ _ _ (omega arith) (omega arith) c.loop-i.invariant c.in_err-value_at.ensures))
+    subst (λ r. Reads value_of r (and_so (each_from f c.args.rows.0 (c.args.rows.1 - c.args.rows.0)) (λ vs. list_of (data_of vs)))) (sym failed)
+    (refused_so (λ vs. list_of (data_of vs)) (each_from f c.args.rows.0 (c.args.rows.1 - c.args.rows.0)) _ _
+    (refused f c.args.rows.0 (c.loop-i.i - c.args.rows.0) (c.args.rows.1 - c.args.rows.0) c.loop-i.i _ _ _ (omega arith) (omega arith) c.loop-i.invariant c.in_err-value_at.ensures))
 
 pub fields_at-value_at-requires : goal.fields_at-value_at-requires
 fields_at-value_at-requires t c =
@@ -78,16 +78,16 @@ fields_at-returns t c =
     (omega arith) c.loop-field.invariant.values)
     ∙ ap (λ v. Ok v) (sym shown)
 
-pub value_at-returns-in_ok-from-in-List : goal.value_at-returns-in_ok-from-in-List
-value_at-returns-in_ok-from-in-List t c =
+pub value_at-returns-in_ok-rows-in-List : goal.value_at-returns-in_ok-rows-in-List
+value_at-returns-in_ok-rows-in-List t c =
     let kind : type_of c.args.t.now ≡ ty (list (type_of c.as_ref.result.now)) (admits_null c.in-List.field-1) = rw (c.in-List.is, c.as_ref.ensures) (search (rules, the_types)) in
     let valid = sym c.in_ok-is_valid.ensures ∙ ap (λ b. Ok b) c.if-not-branch.false in
-    subst (λ r. Reads value_of c.items.result r) (sym (list_read _ _ _ _ _ _ _ _ kind valid (sym c.in_ok-from-in-List.ensures.value))) c.items.ensures
+    subst (λ r. Reads value_of c.items.result r) (sym (list_read _ _ _ _ _ _ _ _ kind valid (sym c.in_ok-rows-in-List.ensures.value))) c.items.ensures
 
-pub value_at-returns-in_ok-from-in-FixedSizeList : goal.value_at-returns-in_ok-from-in-FixedSizeList
-value_at-returns-in_ok-from-in-FixedSizeList t c =
+pub value_at-returns-in_ok-rows-in-FixedSizeList : goal.value_at-returns-in_ok-rows-in-FixedSizeList
+value_at-returns-in_ok-rows-in-FixedSizeList t c =
     let kind : type_of c.args.t.now ≡ ty (fixed (type_of c.as_ref-in-FixedSizeList.result.now) c.in-FixedSizeList.size) (admits_null c.in-FixedSizeList.field-2) =
     rw (c.in-FixedSizeList.is, c.as_ref-in-FixedSizeList.ensures) (search (rules, the_types)) in
     let valid = sym c.in_ok-is_valid.ensures ∙ ap (λ b. Ok b) c.if-not-branch.false in
-    let span = c.in_ok-from-in-FixedSizeList.ensures.value in
+    let span = c.in_ok-rows-in-FixedSizeList.ensures.value in
     subst (λ r. Reads value_of c.items-in-FixedSizeList.result r) (sym (fixed_read _ _ _ _ _ _ _ _ _ kind valid span.0 span.1)) c.items-in-FixedSizeList.ensures

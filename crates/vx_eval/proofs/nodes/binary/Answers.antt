@@ -21,4 +21,4 @@ pub returns : goal.returns
 returns c = λ ts.
     let all = type_of c.args.dtype.now ∷ ts in
     let op = functions.binary (operation_of c.args.operator) in
-    subst (λ cs. Evaluates op all c.args.count cs c.compare.result) (sym (ap rows_views (sym c.as_slice-in_default.ensures.value ∙ c.pair-in_default.ensures))) (c.compare.ensures all)
+    subst (λ cs. Evaluates op all c.args.count cs c.compare.result) (sym (ap rows_views (sym c.as_slice-in-Eq.ensures.value ∙ c.pair-in-Eq.ensures))) (c.compare.ensures all)

@@ -38,7 +38,7 @@ returns-in_err-done-clause-stopped g c =
     let held = g.W.Write.contents in
     let b = bound_of c.args.tree.now in
     let head = g.R.RecordReader.head c.args.records.now in
-    let size = non_zero_usize_get c.args.size in
+    let size = non_zero_usize_get c.args.chunking.size in
     let e = c.in_err-done.field-0.0 in
     let less : c.min-count.result ≤ size = search (arith, c.min-count.ensures, c.get.ensures.value) in
     let failed : c.from_residual-in_err-done.result ≡ Err e = search rules in
@@ -54,13 +54,13 @@ returns-in_err-done-clause-stopped g c =
 pub loop-left-init : goal.loop-left-init
 loop-left-init g c =
     let held = g.W.Write.contents in
-    let some : 0 < non_zero_usize_get c.args.size = search (arith, c.args.size.ok) in (
+    let some : 0 < non_zero_usize_get c.args.chunking.size = search (arith, c.args.chunking.size.ok) in (
       [],
       omega arith,
       reads_none (g.R.RecordReader.leaves c.args.records.now),
       λ never. subst (Appends (held c.args.out.now) (held c.write_text.new.out)) (c.heading.ensures ∙ sym (append-nil (g.R.RecordReader.head c.args.records.now))) c.in_ok-write_text.ensures.whole,
       refl,
-      tally_none (non_zero_usize_get c.args.size) (bound_of c.args.tree.now) (g.R.RecordReader.scope c.args.records.now) some,
+      tally_none (non_zero_usize_get c.args.chunking.size) (bound_of c.args.tree.now) (g.R.RecordReader.scope c.args.records.now) some,
       λ more. omega arith,
       omega arith,
       omega arith,
@@ -74,7 +74,7 @@ returns-then-done-clause-kept g c =
     let s = g.R.RecordReader.scope c.args.records.now in
     let t = g.R.RecordReader.scope c.loop-left.records in
     let head = g.R.RecordReader.head c.args.records.now in
-    let size = non_zero_usize_get c.args.size in
+    let size = non_zero_usize_get c.args.chunking.size in
     let n = c.min-count.result in
     let one = c.in_ok-done.done.tally in
     let less : n ≤ size = search (arith, c.min-count.ensures, c.get.ensures.value) in
@@ -83,7 +83,7 @@ returns-then-done-clause-kept g c =
     let Wrote : List Record → Type 0 = λ ys. (one ≡ chunk_tally b t ys) × Lines ys in
     let Both : List Record → Type 0 = λ zs. (tally (c.loop-left.tally.chunks + one.chunks) (c.loop-left.tally.evaluated + one.evaluated) ≡ tally_of size b s zs)
     × UnlessFaulting size b (λ zs. Appends (held c.args.out.now) (held c.filter_chunk.new.out) (head ++ kept_lines (unbound b) s zs)) zs in
-    ends_all g.R.RecordReader.leaves c.args.limit c.loop-left.left n c.args.records.now c.loop-left.records _ c.in_ok-done.done.last xs (λ ys. (length ys ≤ n) × Wrote ys) Both
+    ends_all g.R.RecordReader.leaves c.args.chunking.limit c.loop-left.left n c.args.records.now c.loop-left.records _ c.in_ok-done.done.last xs (λ ys. (length ys ≤ n) × Wrote ys) Both
     count most before
     (λ ys w. (
       tally_on size b s t xs ys c.loop-left.tally one counted (full c.loop-left-test.true) scope w.1.0 (search (arith, w.0, less)),
@@ -99,7 +99,7 @@ loop-left-preserved g c =
     let s = g.R.RecordReader.scope c.args.records.now in
     let t = g.R.RecordReader.scope c.loop-left.records in
     let head = g.R.RecordReader.head c.args.records.now in
-    let size = non_zero_usize_get c.args.size in
+    let size = non_zero_usize_get c.args.chunking.size in
     let n = c.min-count.result in
     let left = c.loop-left.left in
     let one = c.in_ok-done.done.tally in
@@ -112,7 +112,7 @@ loop-left-preserved g c =
     let Both : List Record → Type 0 = λ zs. (tally (c.loop-left.tally.chunks + one.chunks) (c.loop-left.tally.evaluated + one.evaluated) ≡ tally_of size b s zs)
     × (0 < left - n → length zs ≡ (c.loop-left.tally.chunks + one.chunks) * size)
     × UnlessFaulting size b (λ zs. Appends (held c.args.out.now) (held c.filter_chunk.new.out) (head ++ kept_lines (unbound b) s zs)) zs in
-    let (zs, sum, reads, kept) = goes_on g.R.RecordReader.leaves c.args.limit left n c.args.records.now c.loop-left.records _ c.in_ok-done.done.last xs (λ ys. (length ys ≡ n) × Wrote ys) Both
+    let (zs, sum, reads, kept) = goes_on g.R.RecordReader.leaves c.args.chunking.limit left n c.args.records.now c.loop-left.records _ c.in_ok-done.done.last xs (λ ys. (length ys ≡ n) × Wrote ys) Both
     count most before
     (λ ys w. (
       tally_on size b s t xs ys c.loop-left.tally one counted (full c.loop-left-test.true) scope w.1.0 (search (arith, w.0, less)),

@@ -7,6 +7,6 @@ use Rattle.vx_run.proofs.scan.result.Goals as goal
 
 pub returns : goal.returns
 returns c =
-    let read : c.in_ok-reader.reader.column ≡ c.args.batch.now = c.in_ok-reader.ensures.column ∙ c.in_ok-clone.ensures.cases in
-    let same : c.in_ok-reader.reader.column.type ≡ type_of c.args.plan.now.scope = ap (λ (b : Batch). b.type) read ∙ c.requires.batch ∙ sym c.requires.scope in
-    both_scanned c.args.batch.now c.in_ok-reader.reader.column (bound_of c.args.plan.now.tree) c.scan-answer.result read c.requires.batch c.requires.tree (c.scan-answer.ensures.meaning same) (c.scan-answer.ensures.typed same)
+    let read : c.reader_of-reader.result.column ≡ c.args.batch.now = c.reader_of-reader.ensures.column ∙ c.in_ok-clone.ensures.cases in
+    let same : c.reader_of-reader.result.column.type ≡ type_of c.args.plan.now.scope = ap (λ (b : Batch). b.type) read ∙ c.requires.batch ∙ sym c.requires.scope in
+    both_scanned c.args.batch.now c.reader_of-reader.result.column (bound_of c.args.plan.now.tree) c.scan-answer.result read c.requires.batch c.requires.tree (c.scan-answer.ensures.meaning same) (c.scan-answer.ensures.typed same)

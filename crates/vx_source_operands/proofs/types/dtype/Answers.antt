@@ -25,7 +25,7 @@ returns-in_err-reader c =
     let is : c.from_residual.result ≡ Err e = search rules in
     record {
       reads =
-          subst (λ r. ReadsUpTo c.args.end.now.at type_of r (read_all type_step (type_start c.args.room) (lexemes_of tokens))) (sym is)
-          (stopped type_step reader_of type_of c.args.end.now.at e (lexemes_of (drop (i + 1) tokens)) _ _
+          subst (λ r. ReadsUpTo c.args.context.found.now.at type_of r (read_all type_step (type_start c.args.context.room) (lexemes_of tokens))) (sym is)
+          (stopped type_step reader_of type_of c.args.context.found.now.at e (lexemes_of (drop (i + 1) tokens)) _ _
           (c.loop-found.invariant ∙ next type_step (reader_of c.loop-found.reader) tokens i c.found-item.result h c.found-item.is) c.in_err-reader.ensures.reads);
     }

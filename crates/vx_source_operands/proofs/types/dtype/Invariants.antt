@@ -7,4 +7,4 @@ use Rattle.vx_source_operands.proofs.types.dtype.Given as goal
 
 abbrev pub invariant-loop-found : goal.invariant-loop-found
 invariant-loop-found l =
-    read_all type_step (type_start l.room) (lexemes_of l.tokens) ≡ read_all type_step (reader_of l.reader) (lexemes_of (drop l.found-index l.tokens))
+    read_all type_step (type_start l.context.room) (lexemes_of l.tokens) ≡ read_all type_step (reader_of l.reader) (lexemes_of (drop l.found-index l.tokens))

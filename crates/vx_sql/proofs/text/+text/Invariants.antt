@@ -5,100 +5,100 @@ use Rattle.vx_fn.specs.Texts.{pairs_sql}
 use Rattle.vx_tree.specs.Nodes.{size_of, sizes_of}
 use Rattle.vx_tree.specs.Trees.{unbound, unbound_each}
 use Rattle.vx_tree.specs.Views.{bound_of, bounds_of}
-use Rattle.vx_sql.specs.SqlTexts.{sqls_of, fields_sql}
+use Rattle.vx_sql.specs.SqlTexts.{sqls_in, fields_sql}
 use Rattle.vx_sql.proofs.text.+text.Given as goal
 
 abbrev pub decreases-write_sql : goal.decreases-write_sql
 decreases-write_sql g l = 16 * size_of (unbound (bound_of l.b.now))
 
 abbrev pub decreases-write_own : goal.decreases-write_own
-decreases-write_own g l = 16 * sizes_of (unbound_each (bounds_of l.children.now)) + 8
+decreases-write_own g l = 16 * sizes_of (unbound_each (bounds_of l.children.nodes.now)) + 8
 
 abbrev pub decreases-write_child : goal.decreases-write_child
-decreases-write_child g l = 16 * sizes_of (unbound_each (bounds_of l.children.now)) + 1
+decreases-write_child g l = 16 * sizes_of (unbound_each (bounds_of l.children.nodes.now)) + 1
 
 abbrev pub decreases-choices::write_case : goal.decreases-choices::write_case
-decreases-choices::write_case g l = 16 * sizes_of (unbound_each (bounds_of l.children.now)) + 5
+decreases-choices::write_case g l = 16 * sizes_of (unbound_each (bounds_of l.children.nodes.now)) + 5
 
 abbrev pub decreases-choices::write_branches : goal.decreases-choices::write_branches
-decreases-choices::write_branches g l = 16 * sizes_of (unbound_each (bounds_of l.children.now)) + 3
+decreases-choices::write_branches g l = 16 * sizes_of (unbound_each (bounds_of l.children.nodes.now)) + 3
 
 abbrev pub decreases-choices::write_pair : goal.decreases-choices::write_pair
-decreases-choices::write_pair g l = 16 * sizes_of (unbound_each (bounds_of l.children.now)) + 2
+decreases-choices::write_pair g l = 16 * sizes_of (unbound_each (bounds_of l.children.nodes.now)) + 2
 
 abbrev pub decreases-choices::write_zip : goal.decreases-choices::write_zip
-decreases-choices::write_zip g l = 16 * sizes_of (unbound_each (bounds_of l.children.now)) + 5
+decreases-choices::write_zip g l = 16 * sizes_of (unbound_each (bounds_of l.children.nodes.now)) + 5
 
 abbrev pub decreases-choices::write_mask : goal.decreases-choices::write_mask
-decreases-choices::write_mask g l = 16 * sizes_of (unbound_each (bounds_of l.children.now)) + 5
+decreases-choices::write_mask g l = 16 * sizes_of (unbound_each (bounds_of l.children.nodes.now)) + 5
 
 abbrev pub decreases-choices::write_fill : goal.decreases-choices::write_fill
-decreases-choices::write_fill g l = 16 * sizes_of (unbound_each (bounds_of l.children.now)) + 5
+decreases-choices::write_fill g l = 16 * sizes_of (unbound_each (bounds_of l.children.nodes.now)) + 5
 
 abbrev pub decreases-operators::write_binary : goal.decreases-operators::write_binary
-decreases-operators::write_binary g l = 16 * sizes_of (unbound_each (bounds_of l.operands.now)) + 5
+decreases-operators::write_binary g l = 16 * sizes_of (unbound_each (bounds_of l.operands.nodes.now)) + 5
 
 abbrev pub decreases-operators::write_comparison : goal.decreases-operators::write_comparison
-decreases-operators::write_comparison g l = 16 * sizes_of (unbound_each (bounds_of l.operands.now)) + 4
+decreases-operators::write_comparison g l = 16 * sizes_of (unbound_each (bounds_of l.operands.nodes.now)) + 4
 
 abbrev pub decreases-operators::write_logic : goal.decreases-operators::write_logic
-decreases-operators::write_logic g l = 16 * sizes_of (unbound_each (bounds_of l.operands.now)) + 4
+decreases-operators::write_logic g l = 16 * sizes_of (unbound_each (bounds_of l.operands.nodes.now)) + 4
 
 abbrev pub decreases-operators::write_sum : goal.decreases-operators::write_sum
-decreases-operators::write_sum g l = 16 * sizes_of (unbound_each (bounds_of l.operands.now)) + 4
+decreases-operators::write_sum g l = 16 * sizes_of (unbound_each (bounds_of l.operands.nodes.now)) + 4
 
 abbrev pub decreases-operators::write_not : goal.decreases-operators::write_not
-decreases-operators::write_not g l = 16 * sizes_of (unbound_each (bounds_of l.children.now)) + 5
+decreases-operators::write_not g l = 16 * sizes_of (unbound_each (bounds_of l.children.nodes.now)) + 5
 
 abbrev pub decreases-operators::write_between : goal.decreases-operators::write_between
-decreases-operators::write_between g l = 16 * sizes_of (unbound_each (bounds_of l.children.now)) + 5
+decreases-operators::write_between g l = 16 * sizes_of (unbound_each (bounds_of l.children.nodes.now)) + 5
 
 abbrev pub decreases-operators::write_from_to : goal.decreases-operators::write_from_to
-decreases-operators::write_from_to g l = 16 * sizes_of (unbound_each (bounds_of l.children.now)) + 4
+decreases-operators::write_from_to g l = 16 * sizes_of (unbound_each (bounds_of l.children.nodes.now)) + 4
 
 abbrev pub decreases-operators::write_range : goal.decreases-operators::write_range
-decreases-operators::write_range g l = 16 * sizes_of (unbound_each (bounds_of l.children.now)) + 3
+decreases-operators::write_range g l = 16 * sizes_of (unbound_each (bounds_of l.children.nodes.now)) + 3
 
 abbrev pub decreases-operators::write_both : goal.decreases-operators::write_both
-decreases-operators::write_both g l = 16 * sizes_of (unbound_each (bounds_of l.children.now)) + 4
+decreases-operators::write_both g l = 16 * sizes_of (unbound_each (bounds_of l.children.nodes.now)) + 4
 
 abbrev pub decreases-choices::write_choice : goal.decreases-choices::write_choice
-decreases-choices::write_choice g l = 16 * sizes_of (unbound_each (bounds_of l.children.now)) + 3
+decreases-choices::write_choice g l = 16 * sizes_of (unbound_each (bounds_of l.children.nodes.now)) + 3
 
 abbrev pub decreases-operators::write_below : goal.decreases-operators::write_below
-decreases-operators::write_below g l = 16 * sizes_of (unbound_each (bounds_of l.children.now)) + 3
+decreases-operators::write_below g l = 16 * sizes_of (unbound_each (bounds_of l.children.nodes.now)) + 3
 
 abbrev pub decreases-operators::write_compared : goal.decreases-operators::write_compared
-decreases-operators::write_compared g l = 16 * sizes_of (unbound_each (bounds_of l.children.now)) + 2
+decreases-operators::write_compared g l = 16 * sizes_of (unbound_each (bounds_of l.children.nodes.now)) + 2
 
 abbrev pub decreases-structs::write_item : goal.decreases-structs::write_item
-decreases-structs::write_item g l = 16 * sizes_of (unbound_each (bounds_of l.children.now)) + 5
+decreases-structs::write_item g l = 16 * sizes_of (unbound_each (bounds_of l.children.nodes.now)) + 5
 
 abbrev pub decreases-structs::write_pack : goal.decreases-structs::write_pack
-decreases-structs::write_pack g l = 16 * sizes_of (unbound_each (bounds_of l.children.now)) + 5
+decreases-structs::write_pack g l = 16 * sizes_of (unbound_each (bounds_of l.children.nodes.now)) + 5
 
 abbrev pub decreases-structs::write_fields : goal.decreases-structs::write_fields
-decreases-structs::write_fields g l = 16 * sizes_of (unbound_each (bounds_of l.children.now)) + 3
+decreases-structs::write_fields g l = 16 * sizes_of (unbound_each (bounds_of l.children.nodes.now)) + 3
 
 abbrev pub decreases-structs::write_field : goal.decreases-structs::write_field
-decreases-structs::write_field g l = 16 * sizes_of (unbound_each (bounds_of l.children.now)) + 2
+decreases-structs::write_field g l = 16 * sizes_of (unbound_each (bounds_of l.children.nodes.now)) + 2
 
 abbrev pub decreases-tests::write_null_test : goal.decreases-tests::write_null_test
-decreases-tests::write_null_test g l = 16 * sizes_of (unbound_each (bounds_of l.children.now)) + 5
+decreases-tests::write_null_test g l = 16 * sizes_of (unbound_each (bounds_of l.children.nodes.now)) + 5
 
 abbrev pub decreases-tests::write_like : goal.decreases-tests::write_like
-decreases-tests::write_like g l = 16 * sizes_of (unbound_each (bounds_of l.children.now)) + 5
+decreases-tests::write_like g l = 16 * sizes_of (unbound_each (bounds_of l.children.nodes.now)) + 5
 
 -- what is written, and what is left to write, is the text of all pairs
 abbrev pub invariant-choices::write_branches-loop-pair : goal.invariant-choices::write_branches-loop-pair
 invariant-choices::write_branches-loop-pair g l =
     IsPlainFormatter l.initial.f
     → (done : List ℕ) × HasWritten g.W.Write.write_str_gives l.initial.f done l.f
-    × (done ++ pairs_sql (drop (2 * l.pair) (sqls_of l.dialect l.children)) ≡ pairs_sql (sqls_of l.dialect l.children))
+    × (done ++ pairs_sql (drop (2 * l.pair) (sqls_in l.children)) ≡ pairs_sql (sqls_in l.children))
 
 -- the same of fields
 abbrev pub invariant-structs::write_fields-loop-index : goal.invariant-structs::write_fields-loop-index
 invariant-structs::write_fields-loop-index g l =
     IsPlainFormatter l.initial.f
     → (done : List ℕ) × HasWritten g.W.Write.write_str_gives l.initial.f done l.f
-    × (done ++ after_commas (drop l.index (fields_sql l.dialect l.names (sqls_of l.dialect l.children))) ≡ after_commas (drop 1 (fields_sql l.dialect l.names (sqls_of l.dialect l.children))))
+    × (done ++ after_commas (drop l.index (fields_sql l.children.dialect l.names (sqls_in l.children))) ≡ after_commas (drop 1 (fields_sql l.children.dialect l.names (sqls_in l.children))))

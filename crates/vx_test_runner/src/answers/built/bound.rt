@@ -1,12 +1,12 @@
 // The constructors over bound children.
 ghost use Rattle.std.specs.Prelude.{◌<◌, ◌^◌, length};
 
-use super::constructors::Constructors;
+use super::constructors::{Constructors, Test};
 use std::alloc::Global;
 use vx_build::bound as build;
 use vx_tree::{
     BetweenOptions, BoundExpression, DType, FieldName, FieldNames, LikeOptions, Nullability,
-    Operator, Scalar, ScalarFnRef, VortexResult,
+    Operator, Scalar, VortexResult,
 };
 
 /// Those of bound trees, whose scope root has this type.
@@ -74,13 +74,13 @@ impl Constructors for OfBound<'_> {
     fn test(
         &self,
         alloc: Global,
-        scalar_fn: &ScalarFnRef,
+        test: Test,
         child: BoundExpression,
     ) -> VortexResult<BoundExpression> {
-        match scalar_fn {
-            ScalarFnRef::IsNull(_) => build::is_null(alloc, child),
-            ScalarFnRef::IsNotNull(_) => build::is_not_null(alloc, child),
-            _ => build::not(alloc, child),
+        match test {
+            Test::Not => build::not(alloc, child),
+            Test::IsNull => build::is_null(alloc, child),
+            Test::IsNotNull => build::is_not_null(alloc, child),
         }
     }
 
@@ -88,8 +88,7 @@ impl Constructors for OfBound<'_> {
         &self,
         alloc: Global,
         operator: Operator,
-        lhs: BoundExpression,
-        rhs: BoundExpression,
+        (lhs, rhs): (BoundExpression, BoundExpression),
     ) -> VortexResult<BoundExpression> {
         build::binary(alloc, operator, lhs, rhs)
     }
@@ -98,8 +97,7 @@ impl Constructors for OfBound<'_> {
         &self,
         alloc: Global,
         operator: Operator,
-        lhs: BoundExpression,
-        rhs: BoundExpression,
+        (lhs, rhs): (BoundExpression, BoundExpression),
     ) -> VortexResult<BoundExpression> {
         match operator {
             Operator::Eq => build::eq(alloc, lhs, rhs),

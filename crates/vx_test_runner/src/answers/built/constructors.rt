@@ -12,6 +12,14 @@ use vx_tree::{
 // The most pairs that a CASE may have.
 const MOST_PAIRS: usize = 0xffff_ffff;
 
+/// The functions of one child that have no options.
+#[derive(Clone, Copy)]
+pub enum Test {
+    Not,
+    IsNull,
+    IsNotNull,
+}
+
 /// A set of constructors, by the names that they have.
 pub trait Constructors {
     type Tree: Drop + PartialEq;
@@ -42,19 +50,13 @@ pub trait Constructors {
     fn cast(&self, alloc: Global, child: Self::Tree, target: DType) -> VortexResult<Self::Tree>;
 
     /// By `not`, `is_null` or `is_not_null`.
-    fn test(
-        &self,
-        alloc: Global,
-        scalar_fn: &ScalarFnRef,
-        child: Self::Tree,
-    ) -> VortexResult<Self::Tree>;
+    fn test(&self, alloc: Global, test: Test, child: Self::Tree) -> VortexResult<Self::Tree>;
 
     fn binary(
         &self,
         alloc: Global,
         operator: Operator,
-        lhs: Self::Tree,
-        rhs: Self::Tree,
+        children: (Self::Tree, Self::Tree),
     ) -> VortexResult<Self::Tree>;
 
     /// By the operator's own constructor.
@@ -62,8 +64,7 @@ pub trait Constructors {
         &self,
         alloc: Global,
         operator: Operator,
-        lhs: Self::Tree,
-        rhs: Self::Tree,
+        children: (Self::Tree, Self::Tree),
     ) -> VortexResult<Self::Tree>;
 
     /// By `fill_null`, or by `mask`.
@@ -146,9 +147,9 @@ pub fn node<C: Constructors>(
         }
         ScalarFnRef::Select(selection) => selected(alloc, by, selection, one(children)?),
         ScalarFnRef::Cast(target) => by.cast(alloc, one(children)?, target.clone()?),
-        ScalarFnRef::Not(_) | ScalarFnRef::IsNull(_) | ScalarFnRef::IsNotNull(_) => {
-            by.test(alloc, scalar_fn, one(children)?)
-        }
+        ScalarFnRef::Not(_) => by.test(alloc, Test::Not, one(children)?),
+        ScalarFnRef::IsNull(_) => by.test(alloc, Test::IsNull, one(children)?),
+        ScalarFnRef::IsNotNull(_) => by.test(alloc, Test::IsNotNull, one(children)?),
         ScalarFnRef::CaseWhen(options) => chosen(alloc, by, options.has_else, children),
         ScalarFnRef::Between(options) => by.between(alloc, three(children)?, *options),
         ScalarFnRef::Zip(_) => by.zip_expr(alloc, three(children)?),
@@ -190,8 +191,8 @@ fn compared<C: Constructors>(
     operator: Operator,
     (lhs, rhs): (C::Tree, C::Tree),
 ) -> VortexResult<C::Tree> {
-    let again = by.binary(alloc, operator, by.again(&lhs)?, by.again(&rhs)?)?;
-    let own = by.operator(alloc, operator, lhs, rhs)?;
+    let again = by.binary(alloc, operator, (by.again(&lhs)?, by.again(&rhs)?))?;
+    let own = by.operator(alloc, operator, (lhs, rhs))?;
     same(own, again)
 }
 

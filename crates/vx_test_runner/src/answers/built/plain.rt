@@ -1,11 +1,11 @@
 // The constructors of sources.
 ghost use Rattle.std.specs.Prelude.{◌<◌, ◌^◌, length};
 
-use super::constructors::Constructors;
+use super::constructors::{Constructors, Test};
 use std::alloc::Global;
 use vx_tree::{
     BetweenOptions, DType, Expression, FieldName, FieldNames, LikeOptions, Nullability, Operator,
-    Scalar, ScalarFnRef, VortexResult,
+    Scalar, VortexResult,
 };
 
 /// Those of sources.
@@ -58,16 +58,11 @@ impl Constructors for OfSources {
         vx_build::cast(alloc, child, target)
     }
 
-    fn test(
-        &self,
-        alloc: Global,
-        scalar_fn: &ScalarFnRef,
-        child: Expression,
-    ) -> VortexResult<Expression> {
-        match scalar_fn {
-            ScalarFnRef::IsNull(_) => vx_build::is_null(alloc, child),
-            ScalarFnRef::IsNotNull(_) => vx_build::is_not_null(alloc, child),
-            _ => vx_build::not(alloc, child),
+    fn test(&self, alloc: Global, test: Test, child: Expression) -> VortexResult<Expression> {
+        match test {
+            Test::Not => vx_build::not(alloc, child),
+            Test::IsNull => vx_build::is_null(alloc, child),
+            Test::IsNotNull => vx_build::is_not_null(alloc, child),
         }
     }
 
@@ -75,8 +70,7 @@ impl Constructors for OfSources {
         &self,
         alloc: Global,
         operator: Operator,
-        lhs: Expression,
-        rhs: Expression,
+        (lhs, rhs): (Expression, Expression),
     ) -> VortexResult<Expression> {
         vx_build::binary(alloc, operator, lhs, rhs)
     }
@@ -85,8 +79,7 @@ impl Constructors for OfSources {
         &self,
         alloc: Global,
         operator: Operator,
-        lhs: Expression,
-        rhs: Expression,
+        (lhs, rhs): (Expression, Expression),
     ) -> VortexResult<Expression> {
         match operator {
             Operator::Eq => vx_build::eq(alloc, lhs, rhs),

@@ -10,6 +10,6 @@ read_field-read_value-requires t c =
     let types = c.types-types.result.now in
     let count = ap field_count c.types-types.ensures.fields in
     let size = ap fields_size c.types-types.ensures.fields in
-    let less = smaller_at names types c.in_ok-i.i c.index-types-i.result (omega arith) c.index-types-i.is in
+    let less = smaller_at names types c.args.i c.index-types-i.result (omega arith) c.index-types-i.is in
     let smaller : 4 * type_size (type_of c.index-types-i.result) + 1 < 4 * fields_size (fields_of c.args.fields.now) + 1 = omega (arith, less, size) in
     search rules

@@ -1,6 +1,7 @@
 use Rattle.std.proofs.Common.{[], refl, rules}
 use Rattle.std.proofs.Output.{has_written_append}
-use Rattle.vx_sql.specs.Patterns.{part_spelled, part_view}
+use Rattle.vx_eval_like.specs.Patterns.{part_view}
+use Rattle.vx_sql.specs.Patterns.{part_spelled}
 use Rattle.vx_sql.proofs.Spelled.{thing_turn}
 use Rattle.vx_sql.proofs.patterns.Spelling.write_parts.Goals as goal
 

@@ -1,6 +1,6 @@
 // What stops a command.
 ghost use Rattle.std.specs.Prelude.{◌≡◌};
-ghost use Rattle.vx_command_pages.specs.declared.complaint.CommandError.TheVariants.{OutOfMemory};
+ghost use Rattle.vx_command_pages.specs.declared.error.CommandError.TheVariants.{OutOfMemory};
 
 use crate::report::Span;
 use std::alloc::{AllocError, AllocFailed};

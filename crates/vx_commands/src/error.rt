@@ -1,6 +1,6 @@
 // What stops a command that goes over records.
 ghost use Rattle.std.specs.Prelude.{◌≡◌};
-ghost use Rattle.vx_commands.specs.declared.complaint.RowsComplaint.TheVariants.{Query};
+ghost use Rattle.vx_commands.specs.declared.error.RowsError.TheVariants.{Query};
 
 use vx_command_pages::{CommandError, Span, Status};
 use vx_data::{DataError, WriteError};
@@ -9,7 +9,7 @@ use vx_types::DType;
 
 /// Why a command doesn't go over all records.
 #[derive(Debug, Drop)]
-pub enum RowsComplaint {
+pub enum RowsError {
     /// The expression or the schema can't be read, the expression is refused, or memory ran out.
     Query(CommandError),
     /// The expression to filter by is of that type, and not of truth values.
@@ -19,7 +19,7 @@ pub enum RowsComplaint {
     Records { error: RecordsError, span: Span },
 }
 
-impl RowsComplaint {
+impl RowsError {
     ghost use Rattle.vx_commands.specs.Rows.{status_of};
 
     /// How a command ends that stops with it.
@@ -27,22 +27,26 @@ impl RowsComplaint {
         ensures { result ≡ status_of self.now }
     {
         match self {
-            RowsComplaint::Query(complaint) => complaint.status(),
-            RowsComplaint::NotBool(_) => Status::Wrong,
-            RowsComplaint::Records { error, .. } => match error {
+            RowsError::Query(error) => error.status(),
+            RowsError::NotBool(_) => Status::Wrong,
+            RowsError::Records { error, .. } => match error {
                 RecordsError::Data(DataError::Unexpected { .. })
                 | RecordsError::Fault(_)
                 | RecordsError::Write(WriteError::Unwritable { .. }) => Status::Wrong,
-                _ => Status::Failed,
+                RecordsError::OutOfMemory
+                | RecordsError::Data(DataError::OutOfMemory | DataError::Read(_))
+                | RecordsError::Write(WriteError::OutOfMemory | WriteError::Write(_)) => {
+                    Status::Failed
+                }
             },
         }
     }
 }
 
-impl From<CommandError> for RowsComplaint {
+impl From<CommandError> for RowsError {
     ghost from_gives = { λ c r. r ≡ Query c };
 
-    fn from(complaint: CommandError) -> RowsComplaint {
-        RowsComplaint::Query(complaint)
+    fn from(error: CommandError) -> RowsError {
+        RowsError::Query(error)
     }
 }
