@@ -38,19 +38,21 @@ pub fn over_records(
     let schema = schema_at(rt, matches)?;
     let name = if data == "-" { "standard input" } else { data };
     let limit = matches.get_one("limit").unwrap_or(limit);
-    let command = command_over(work, &expression, schema.as_ref(), name, format, limit);
+    let command = RowsCommand {
+        limit,
+        ..command_over(work, &expression, schema.as_ref(), name, format)
+    };
     run_over(rt, &command, data)
 }
 
-// The command that does that work on the first records of the file of that name, whose type is
-// inferred if the words don't say it.
+// The command that does that work on all records of the file of that name, whose type is inferred if
+// the words don't say it.
 fn command_over<'a>(
     work: RecordsTask,
     expression: &'a Text,
     schema: Option<&'a Text>,
     data: &'a str,
     format: DataFormat,
-    limit: u64,
 ) -> RowsCommand<'a> {
     RowsCommand {
         work,
@@ -61,7 +63,7 @@ fn command_over<'a>(
         },
         data,
         format,
-        limit,
+        limit: u64::MAX,
     }
 }
 

@@ -64,21 +64,22 @@ fn compare_with<'a>(
     }
 }
 
-/// Whether each value lies between its bounds. Refuses with `OutOfMemory` (1) alone.
+/// Whether each value lies between its bounds, the lower and the upper one. Refuses with `OutOfMemory`
+/// (1) alone.
 pub fn between<'a>(
     alloc: Global,
     count: usize,
     options: &BetweenOptions,
     array: &Rows,
-    lower: &Rows,
-    upper: &Rows,
+    bounds: (&Rows, &Rows),
 ) -> VortexResult<Rows<'a>>
     requires array { length (rows_view array.now) ≡ count }
-    requires lower { length (rows_view lower.now) ≡ count }
-    requires upper { length (rows_view upper.now) ≡ count }
+    requires lower { length (rows_view bounds.0.now) ≡ count }
+    requires upper { length (rows_view bounds.1.now) ≡ count }
     ensures { (ts : List LogicalType) → Evaluates (functions.between (is_strict options.now.lower_strict) (is_strict options.now.upper_strict)) ts count
-        (rows_view array.now ∷ rows_view lower.now ∷ rows_view upper.now ∷ []) result }
+        (rows_view array.now ∷ rows_view bounds.entry.0.now ∷ rows_view bounds.entry.1.now ∷ []) result }
 {
+    let (lower, upper) = bounds;
     told(
         alloc,
         count,

@@ -35,9 +35,7 @@ pub fn first_match(
 {
     let count = conditions[0].len();
     let columns = in_turn(alloc, conditions, values, otherwise)?;
-    let rows = first_true(alloc, count, columns)?.into_shared(alloc)?;
-    let dtype = dtype.clone()?;
-    Ok(Column::from_shared(dtype, rows))
+    first_true(alloc, count, columns)?.into_column(alloc, dtype)
 }
 
 // The conditions and values in turn, all lent, with ELSE last.

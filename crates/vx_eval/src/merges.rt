@@ -1,14 +1,15 @@
 // Columns merged by the masks that a caller gives.
-ghost use Rattle.std.specs.Prelude.{◌≡◌, Ok, IfOk, length, map, true, ◌++◌, ◌∷◌, []};
+ghost use Rattle.std.specs.Prelude.{◌≡◌, Ok, IfOk, IfErr, length, map, true, ◌++◌, ◌∷◌, []};
 ghost use Rattle.std.proofs.Math.ListN.{replicate};
 ghost use Rattle.vx_dtype.specs.Returns.{ReturnsOrOom};
+ghost use Rattle.vx_dtype.specs.declared.error.VortexError.TheVariants.{OutOfMemory};
 ghost use Rattle.vx_value.specs.Columns.{batch};
 ghost use Rattle.vx_value.specs.Fits.{IsBatch};
 ghost use Rattle.vx_value.specs.Views.{type_of};
 ghost use Rattle.vx_eval_masks.specs.Masks.{both, but};
 ghost use Rattle.vx_eval_masks.specs.Merges.{EachMask, claimed};
 ghost use Rattle.vx_eval.specs.Choices.{EachBatch};
-ghost use Rattle.vx_eval.specs.Columns.{rows_views, each_row, AllLong};
+ghost use Rattle.vx_eval.specs.Columns.{rows_view, rows_views, each_row, AllLong};
 ghost use Rattle.vx_eval.specs.FirstMerged.{masks_in, columns_in, InSomeMask, first_merged};
 
 use crate::merging::merged;
@@ -37,7 +38,7 @@ pub fn merge_runs(
     requires last_fit { IsBatch (type_of dtype.now) otherwise.now.rows }
     ensures { ReturnsOrOom (λ c. c) result (Ok (batch (type_of dtype.now) (each_row (length rest.now) (first_merged branches.now otherwise.now.rows)))) }
 {
-    merge(alloc, Merging::Runs, branches, rest, otherwise, dtype)
+    merge(alloc, Merging::Runs, branches, rest, otherwise)?.into_column(alloc, dtype)
 }
 
 /// The same, one row of a mask after another: for masks of many short runs.
@@ -56,31 +57,27 @@ pub fn merge_compact(
     requires last_fit { IsBatch (type_of dtype.now) otherwise.now.rows }
     ensures { ReturnsOrOom (λ c. c) result (Ok (batch (type_of dtype.now) (each_row (length rest.now) (first_merged branches.now otherwise.now.rows)))) }
 {
-    merge(alloc, Merging::Compact, branches, rest, otherwise, dtype)
+    merge(alloc, Merging::Compact, branches, rest, otherwise)?.into_column(alloc, dtype)
 }
 
-// Either of them.
-fn merge(
+// The rows of either of them.
+fn merge<'a>(
     alloc: Global,
     merging: Merging,
-    branches: &[(RowMask, Column)],
+    branches: &'a [(RowMask, Column)],
     rest: &RowMask,
-    otherwise: &Column,
-    dtype: &DType,
-) -> VortexResult<Column>
+    otherwise: &'a Column,
+) -> VortexResult<Rows<'a>>
     requires masks { EachMask (length rest.now) (masks_in branches.now) }
     requires columns { AllLong (length rest.now) (columns_in branches.now) }
     requires last { length otherwise.now.rows ≡ length rest.now }
     requires some { InSomeMask branches.now rest.now }
-    requires fit { EachBatch (type_of dtype.now) (columns_in branches.now) }
-    requires last_fit { IsBatch (type_of dtype.now) otherwise.now.rows }
-    ensures { ReturnsOrOom (λ c. c) result (Ok (batch (type_of dtype.now) (each_row (length rest.now) (first_merged branches.now otherwise.now.rows)))) }
+    ensures rows { IfOk result (λ out. rows_view out ≡ each_row (length rest.now) (first_merged branches.now otherwise.now.rows)) }
+    ensures memory { IfErr result (λ e. e ≡ OutOfMemory) }
 {
     let masks = own_rows(alloc, branches, rest)?;
     let values = lent(alloc, branches, otherwise)?;
-    let rows = merged(alloc, rest.len(), merging, masks, values)?.into_shared(alloc)?;
-    let dtype = dtype.clone()?;
-    Ok(Column::from_shared(dtype, rows))
+    merged(alloc, rest.len(), merging, masks, values)
 }
 
 // Of each mask the rows that are in none before it.

@@ -28,9 +28,13 @@ pub fn merged<'a>(
     ensures rows { IfOk result (λ out. rows_view out ≡ each_row count (merged_at masks.items (rows_views values.entry.items) null)) }
     ensures memory { IfErr result (λ e. e ≡ OutOfMemory) }
 {
-    match place_of_all(masks.as_slice()) {
+    let choices = Choices {
+        masks: masks.as_slice(),
+        merging,
+    };
+    match place_of_all(choices.masks) {
         Some(place) => Ok(values.swap_remove(place)),
-        None => Ok(Rows::Owned(in_order(alloc, count, merging, masks.as_slice(), values)?)),
+        None => Ok(Rows::Owned(choices.in_order(alloc, count, values)?)),
     }
 }
 
@@ -65,54 +69,62 @@ fn pop_last<'a>(columns: &mut Vec<Rows<'a>>) -> Rows<'a>
     columns.pop().unwrap()
 }
 
-// The rows in their order, a stretch of one column at a time.
-fn in_order(
-    alloc: Global,
-    count: usize,
+// Masks of which no two are true at one row, and in what steps rows of their columns are put together.
+#[derive(Clone, Copy)]
+struct Choices<'m> {
+    masks: &'m [RowMask],
     merging: Merging,
-    masks: &[RowMask],
-    mut values: Vec<Rows>,
-) -> Result<Vec<Value>, AllocError>
-    requires pairs { length values.items ≡ length masks.now }
-    requires masks { EachMask count masks.now }
-    requires columns { AllLong count (rows_views values.items) }
-    requires apart { AreApart masks.now }
-    ensures { IfOk result (λ rows. values_of rows.items ≡ each_row count (merged_at masks.now (rows_views values.entry.items) null)) }
-{
-    let mut rows = Vec::with_capacity(alloc, count)?;
-    let mut next = 0;
-    while next < count {
-        next = push_stretch(count, merging, &mut rows, masks, &mut values, next)?;
-    }
-    Ok(rows)
 }
 
-// Puts the rows from that one on behind others, as far as one mask is true, or a null where none
-// is, and gives the row behind them. The values of the rows behind them stay.
-fn push_stretch(
-    count: usize,
-    merging: Merging,
-    rows: &mut Vec<Value>,
-    masks: &[RowMask],
-    values: &mut Vec<Rows>,
-    next: usize,
-) -> Result<usize, AllocError>
-    requires row { next < count }
-    requires pairs { length values.old.items ≡ length masks.now }
-    requires masks { EachMask count masks.now }
-    requires columns { AllLong count (rows_views values.old.items) }
-    requires apart { AreApart masks.now }
-    ensures further { IfOk result (λ end. next < end) }
-    ensures within { IfOk result (λ end. end ≤ count) }
-    ensures rows { (cs : List (List Datum)) → length cs ≡ length masks.now → SameRows next cs (rows_views values.old.items) → values_of rows.old.items ≡ each_row next (merged_at masks.now cs null) → IfOk result (λ end. values_of rows.new.items ≡ each_row end (merged_at masks.now cs null)) }
-    ensures left { IfOk result (λ end. SameRows end (rows_views values.old.items) (rows_views values.new.items)) }
-    ensures long { IfOk result (λ _. map length (rows_views values.new.items) ≡ map length (rows_views values.old.items)) }
-{
-    match place_at(masks, next) {
-        Some(place) => values[place].push_rows(merging, rows, &masks[place], next),
-        None => {
-            rows.push(Value::Null)?;
-            Ok(next + 1)
+impl Choices<'_> {
+    // The rows in their order, a stretch of one column at a time.
+    fn in_order(
+        &self,
+        alloc: Global,
+        count: usize,
+        mut values: Vec<Rows>,
+    ) -> Result<Vec<Value>, AllocError>
+        requires pairs { length values.items ≡ length self.now.masks.now }
+        requires masks { EachMask count self.now.masks.now }
+        requires columns { AllLong count (rows_views values.items) }
+        requires apart { AreApart self.now.masks.now }
+        ensures { IfOk result (λ rows. values_of rows.items ≡ each_row count (merged_at self.now.masks.now (rows_views values.entry.items) null)) }
+    {
+        let mut rows = Vec::with_capacity(alloc, count)?;
+        let mut next = 0;
+        while next < count {
+            next = self.push_stretch(count, &mut rows, &mut values, next)?;
+        }
+        Ok(rows)
+    }
+
+    // Puts the rows from that one on behind others, as far as one mask is true, or a null where none
+    // is, and gives the row behind them. The values of the rows behind them stay.
+    fn push_stretch(
+        &self,
+        count: usize,
+        rows: &mut Vec<Value>,
+        values: &mut Vec<Rows>,
+        next: usize,
+    ) -> Result<usize, AllocError>
+        requires row { next < count }
+        requires pairs { length values.old.items ≡ length self.now.masks.now }
+        requires masks { EachMask count self.now.masks.now }
+        requires columns { AllLong count (rows_views values.old.items) }
+        requires apart { AreApart self.now.masks.now }
+        ensures further { IfOk result (λ end. next < end) }
+        ensures within { IfOk result (λ end. end ≤ count) }
+        ensures rows { (cs : List (List Datum)) → length cs ≡ length self.now.masks.now → SameRows next cs (rows_views values.old.items) → values_of rows.old.items ≡ each_row next (merged_at self.now.masks.now cs null) → IfOk result (λ end. values_of rows.new.items ≡ each_row end (merged_at self.now.masks.now cs null)) }
+        ensures left { IfOk result (λ end. SameRows end (rows_views values.old.items) (rows_views values.new.items)) }
+        ensures long { IfOk result (λ _. map length (rows_views values.new.items) ≡ map length (rows_views values.old.items)) }
+    {
+        let Choices { masks, merging } = *self;
+        match place_at(masks, next) {
+            Some(place) => values[place].push_rows(merging, rows, &masks[place], next),
+            None => {
+                rows.push(Value::Null)?;
+                Ok(next + 1)
+            }
         }
     }
 }

@@ -57,7 +57,7 @@ pub fn apply<'a>(
         ScalarFnRef::Not(_) => logic::not(alloc, count, single(columns.as_slice())),
         ScalarFnRef::Between(options) => {
             let (array, lower, upper) = triple(columns.as_slice());
-            comparison::between(alloc, count, options, array, lower, upper)
+            comparison::between(alloc, count, options, array, (lower, upper))
         }
         ScalarFnRef::Like(options) => {
             let (child, pattern) = pair(columns.as_slice());

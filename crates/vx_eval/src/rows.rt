@@ -2,7 +2,9 @@
 ghost use Rattle.std.specs.Prelude.{◌++◌, ◌≡◌, ◌≢◌, ◌<◌, ℕ, IfOk, true, false, length, get_or, map, Ok};
 ghost use Rattle.vx_dtype.specs.Returns.{ReturnsOrOom};
 ghost use Rattle.vx_value.specs.Types.{Datum, null};
-ghost use Rattle.vx_value.specs.Views.{value_of};
+ghost use Rattle.vx_value.specs.Columns.{batch};
+ghost use Rattle.vx_value.specs.Fits.{IsBatch};
+ghost use Rattle.vx_value.specs.Views.{type_of, value_of};
 ghost use Rattle.vx_fn.specs.Values as values;
 ghost use Rattle.vx_eval_masks.specs.Masks.{both, IsRunFrom};
 ghost use Rattle.vx_eval_masks.specs.Merges.{HoldsIn, StaysFrom, IsWritten};
@@ -18,7 +20,7 @@ use std::sync::Arc;
 use vx_eval_masks::{
     Merging, RowMask, push_moved, push_repeated, push_with, write_moved, write_repeated, write_with,
 };
-use vx_types::{Column, Value, VortexResult};
+use vx_types::{Column, DType, Value, VortexResult};
 use vx_value::TakeRow;
 
 /// The values of a column, row by row: lent, or its own to move.
@@ -180,6 +182,17 @@ impl<'a> Rows<'a> {
             }
             column => write_with(rows, mask.as_slice(), |i| copied(column.row(i))),
         }
+    }
+
+    /// The rows as a column of the type, which has to be that of each value. Refuses with
+    /// `OutOfMemory` (1) alone.
+    pub fn into_column(self, alloc: Global, dtype: &DType) -> VortexResult<Column>
+        requires { IsBatch (type_of dtype.now) (rows_view self) }
+        ensures { ReturnsOrOom (λ c. c) result (Ok (batch (type_of dtype.now) (rows_view self.entry))) }
+    {
+        let rows = self.into_shared(alloc)?;
+        let dtype = dtype.clone()?;
+        Ok(Column::from_shared(dtype, rows))
     }
 
     /// The values as a `Vec` that others may share, with no copy where they are in one. Refuses

@@ -20,6 +20,13 @@ use vx_fn::ScalarFnRef;
 use vx_tree::BoundExpression;
 use vx_types::{Value, VortexError, VortexResult};
 
+// What is the same at each node of a tree: the rows that it is evaluated over.
+#[derive(Clone, Copy)]
+struct Scope<'a> {
+    alloc: Global,
+    batch: &'a [Value],
+}
+
 /// The tree's value in each row of a batch, or the first fault. Refuses with `OutOfMemory` (1) too.
 pub fn evaluate<'a>(
     alloc: Global,
@@ -29,7 +36,8 @@ pub fn evaluate<'a>(
     requires { WellTyped (bound_of b.now) }
     ensures { ReturnsOrOom rows_view result (tree_answer (bound_of b.now) (values_of batch.now)) }
 {
-    let columns = evaluate_each(alloc, slice::from_ref(b), batch)?;
+    let scope = Scope { alloc, batch };
+    let columns = evaluate_each(scope, slice::from_ref(b))?;
     Ok(one(columns))
 }
 
@@ -38,16 +46,15 @@ pub fn evaluate<'a>(
 // inlined.
 #[cycle(evaluate)]
 fn evaluate_each<'a>(
-    alloc: Global,
+    scope: Scope<'a>,
     children: &'a [BoundExpression],
-    batch: &'a [Value],
 ) -> VortexResult<Vec<Rows<'a>>>
     requires { EachWellTyped (bounds_of children.now) }
-    ensures { ReturnsOrOom (λ v. rows_views v.items) result (each_answer (bounds_of children.now) (values_of batch.now)) }
+    ensures { ReturnsOrOom (λ v. rows_views v.items) result (each_answer (bounds_of children.now) (values_of scope.entry.batch.now)) }
 {
-    let mut columns = Vec::with_capacity(alloc, children.len())?;
+    let mut columns = Vec::with_capacity(scope.alloc, children.len())?;
     for child in children {
-        if let Err(fault) = push_evaluated(alloc, child, batch, &mut columns) {
+        if let Err(fault) = push_evaluated(scope, child, &mut columns) {
             return refused(columns, fault);
         }
     }
@@ -57,16 +64,15 @@ fn evaluate_each<'a>(
 // Adds the tree's value in each row of the batch to the columns.
 #[cycle(evaluate)]
 fn push_evaluated<'a>(
-    alloc: Global,
+    scope: Scope<'a>,
     b: &'a BoundExpression,
-    batch: &'a [Value],
     columns: &mut Vec<Rows<'a>>,
 ) -> VortexResult<()>
     requires { WellTyped (bound_of b.now) }
-    ensures { Pushes rows_view columns.old.items result (tree_answer (bound_of b.now) (values_of batch.now)) columns.new.items }
+    ensures { Pushes rows_view columns.old.items result (tree_answer (bound_of b.now) (values_of scope.entry.batch.now)) columns.new.items }
 {
     match b {
-        BoundExpression::Root { .. } => push_batch(batch, columns),
+        BoundExpression::Root { .. } => push_batch(scope.batch, columns),
         BoundExpression::Scalar {
             scalar_fn,
             children,
@@ -74,10 +80,10 @@ fn push_evaluated<'a>(
         } => {
             let children = children.as_slice();
             match item_place(scalar_fn, children) {
-                Some(place) => push_item(alloc, &children[0], place, batch, columns),
+                Some(place) => push_item(scope, &children[0], place, columns),
                 None => {
-                    let below = evaluate_each(alloc, children, batch)?;
-                    push_applied(alloc, batch.len(), scalar_fn, children, below, columns)
+                    let below = evaluate_each(scope, children)?;
+                    push_applied(scope, scalar_fn, children, below, columns)
                 }
             }
         }
@@ -87,19 +93,18 @@ fn push_evaluated<'a>(
 // Adds the column at that place of those that a `pack` packs.
 #[cycle(evaluate)]
 fn push_item<'a>(
-    alloc: Global,
+    scope: Scope<'a>,
     pack: &'a BoundExpression,
     place: usize,
-    batch: &'a [Value],
     columns: &mut Vec<Rows<'a>>,
 ) -> VortexResult<()>
     requires typed { WellTyped (bound_of pack.now) }
     requires packs { PacksAt (bound_of pack.now) place }
-    ensures { Pushes rows_view columns.old.items result (item_answer (bound_of pack.now) place (values_of batch.now)) columns.new.items }
+    ensures { Pushes rows_view columns.old.items result (item_answer (bound_of pack.now) place (values_of scope.entry.batch.now)) columns.new.items }
 {
     match pack {
         BoundExpression::Scalar { children, .. } => {
-            let below = evaluate_each(alloc, children.as_slice(), batch)?;
+            let below = evaluate_each(scope, children.as_slice())?;
             push_picked(below, place, columns)
         }
         BoundExpression::Root { .. } => unreachable!(),
@@ -118,8 +123,7 @@ fn push_batch<'a>(batch: &'a [Value], columns: &mut Vec<Rows<'a>>) -> VortexResu
 // Adds what the function gives over its children's columns.
 #[inline(never)]
 fn push_applied<'a>(
-    alloc: Global,
-    count: usize,
+    scope: Scope<'a>,
     f: &'a ScalarFnRef,
     children: &'a [BoundExpression],
     below: Vec<Rows<'a>>,
@@ -127,10 +131,10 @@ fn push_applied<'a>(
 ) -> VortexResult<()>
     requires typed { IsOk (fn_type (function_of f.now) (node_types (bounds_of children.now))) }
     requires number { length below.items ≡ length (node_types (bounds_of children.now)) }
-    requires long { AllLong count (rows_views below.items) }
-    ensures { Pushes rows_view columns.old.items result (node_answer (function_of f.now) (node_types (bounds_of children.now)) (rows_of count (rows_views below.entry.items))) columns.new.items }
+    requires long { AllLong (length scope.batch.now) (rows_views below.items) }
+    ensures { Pushes rows_view columns.old.items result (node_answer (function_of f.now) (node_types (bounds_of children.now)) (rows_of (length scope.entry.batch.now) (rows_views below.entry.items))) columns.new.items }
 {
-    columns.push(apply(alloc, count, f, children, below)?)?;
+    columns.push(apply(scope.alloc, scope.batch.len(), f, children, below)?)?;
     Ok(())
 }
 

@@ -14,6 +14,7 @@ pub mod prune;
 pub mod query;
 pub mod scan;
 pub mod source;
+pub mod threads;
 pub mod transform;
 pub mod traversal;
 pub mod value;

@@ -12,44 +12,57 @@ use vx_types::{Field, FieldName, FieldPathSet};
 
 /// The texts of those names, of all of a row, into whose columns a path leads. Refuses with the first
 /// that can't be written.
-pub(crate) fn column_texts(
+pub(crate) fn column_texts<'a>(
     alloc: Global,
     dialect: Dialect,
-    names: &[FieldName],
-    paths: &FieldPathSet,
+    names: &'a [FieldName],
+    paths: &'a FieldPathSet,
 ) -> Result<Vec<String>, NoStatement>
     ensures { let columns = filter (λ a. list_any (leads_into a) (minimal_paths paths.now)) names.now in
         MatchResult result (λ texts. (column_refusal dialect names.now columns ≡ None) × (map string_bytes texts.items ≡ map (name_sql dialect) columns))
         (IsRefusalOf (column_refusal dialect names.now columns)) }
 {
+    let columns = Columns {
+        dialect,
+        names,
+        paths,
+    };
     let mut texts = Vec::new(alloc);
     for i in 0..names.len() {
-        push_column(alloc, dialect, names, &names[i], paths, &mut texts)?;
+        columns.push_text(alloc, &names[i], &mut texts)?;
     }
     Ok(texts)
 }
 
-// Puts the name's text behind the others, if a path leads into its column.
-fn push_column(
-    alloc: Global,
+// The names of a row's columns, the paths that lead into some of them, and the engine that reads them.
+#[derive(Clone, Copy)]
+struct Columns<'a> {
     dialect: Dialect,
-    names: &[FieldName],
-    name: &FieldName,
-    paths: &FieldPathSet,
-    texts: &mut Vec<String>,
-) -> Result<(), NoStatement>
-    ensures { let columns = filter (λ a. list_any (leads_into a) (minimal_paths paths.now)) (name.now ∷ []) in
-        MatchResult result (λ _. (column_refusal dialect names.now columns ≡ None) × (map string_bytes texts.new.items ≡ map string_bytes texts.old.items ++ map (name_sql dialect) columns))
-        (IsRefusalOf (column_refusal dialect names.now columns)) }
-{
-    if !is_read(name, paths) {
-        return Ok(());
+    names: &'a [FieldName],
+    paths: &'a FieldPathSet,
+}
+
+impl Columns<'_> {
+    // Puts the name's text behind the others, if a path leads into its column.
+    fn push_text(
+        &self,
+        alloc: Global,
+        name: &FieldName,
+        texts: &mut Vec<String>,
+    ) -> Result<(), NoStatement>
+        ensures { let columns = filter (λ a. list_any (leads_into a) (minimal_paths self.now.paths.now)) (name.now ∷ []) in
+            MatchResult result (λ _. (column_refusal self.now.dialect self.now.names.now columns ≡ None) × (map string_bytes texts.new.items ≡ map string_bytes texts.old.items ++ map (name_sql self.now.dialect) columns))
+            (IsRefusalOf (column_refusal self.now.dialect self.now.names.now columns)) }
+    {
+        if !is_read(name, self.paths) {
+            return Ok(());
+        }
+        if let Some(reason) = name_reason(self.dialect, self.names, name) {
+            return Err(NoStatement::Column(name.clone()?, reason));
+        }
+        texts.push(name_text(alloc, self.dialect, name)?)?;
+        Ok(())
     }
-    if let Some(reason) = name_reason(dialect, names, name) {
-        return Err(NoStatement::Column(name.clone()?, reason));
-    }
-    texts.push(name_text(alloc, dialect, name)?)?;
-    Ok(())
 }
 
 fn name_text(alloc: Global, dialect: Dialect, name: &FieldName) -> Result<String, AllocError>

@@ -13,7 +13,7 @@ evaluate_each-loop-child-preserved t c =
     let child = c.child-item.result in
     let pushed = c.in_default.ensures in
     record {
-      answer = column_put bs (values_of c.args.batch.now) i child c.loop-child.columns.items c.push_evaluated.new.columns.items pushed.0 _ (omega arith) c.child-item.is c.loop-child.invariant.answer pushed.2 pushed.1;
+      answer = column_put bs (values_of c.args.scope.batch.now) i child c.loop-child.columns.items c.push_evaluated.new.columns.items pushed.0 _ (omega arith) c.child-item.is c.loop-child.invariant.answer pushed.2 pushed.1;
       typed = typed_on bs i child (omega arith) c.child-item.is c.loop-child.invariant.typed;
     }
 
@@ -31,20 +31,20 @@ push_evaluated-push_applied-requires-clause-number t c = as_many (bounds_of c.as
 
 pub push_evaluated-push_applied-requires-clause-long : goal.push_evaluated-push_applied-requires-clause-long
 push_evaluated-push_applied-requires-clause-long t c =
-    as_long_as c.args.batch.now _ (bounds_of c.as_slice-children.result.now) _ refl c.in_ok-below-in-None.ensures
+    as_long_as c.args.scope.batch.now _ (bounds_of c.as_slice-children.result.now) _ refl c.in_ok-below-in-None.ensures
 
 pub push_evaluated-returns-in_ok-below-in-None : goal.push_evaluated-returns-in_ok-below-in-None
 push_evaluated-returns-in_ok-below-in-None t c =
     subst (λ said. Pushes rows_view c.args.columns.now.items c.push_applied.result said c.push_applied.new.columns.items)
-    (node_given _ _ _ _ c.as_slice-children.result.now c.args.batch.now _ _ c.in-Scalar.is (c.as_slice-children.ensures.value ∙ ap (λ v. v.items) c.deref.ensures)
+    (node_given _ _ _ _ c.as_slice-children.result.now c.args.scope.batch.now _ _ c.in-Scalar.is (c.as_slice-children.ensures.value ∙ ap (λ v. v.items) c.deref.ensures)
     refl c.in_ok-below-in-None.ensures) c.push_applied.ensures
 
 pub push_item-push_picked-requires : goal.push_item-push_picked-requires
 push_item-push_picked-requires t c =
     let within = place_within _ _ _ _ c.as_slice.result.now c.args.place c.in-Scalar.is (c.as_slice.ensures.value ∙ ap (λ v. v.items) c.deref.ensures) c.requires.packs in
-    omega (arith, within, as_many (bounds_of c.as_slice.result.now) (values_of c.args.batch.now) c.in_ok-below-in-Scalar.below.items c.in_ok-below-in-Scalar.ensures)
+    omega (arith, within, as_many (bounds_of c.as_slice.result.now) (values_of c.args.scope.batch.now) c.in_ok-below-in-Scalar.below.items c.in_ok-below-in-Scalar.ensures)
 
 pub push_item-returns : goal.push_item-returns
 push_item-returns t c =
     subst (λ said. Pushes rows_view c.args.columns.now.items c.push_picked.result said c.push_picked.new.columns.items)
-    (picked_is _ _ _ _ c.as_slice.result.now (values_of c.args.batch.now) _ c.args.place c.in-Scalar.is (c.as_slice.ensures.value ∙ ap (λ v. v.items) c.deref.ensures) c.in_ok-below-in-Scalar.ensures) c.push_picked.ensures
+    (picked_is _ _ _ _ c.as_slice.result.now (values_of c.args.scope.batch.now) _ c.args.place c.in-Scalar.is (c.as_slice.ensures.value ∙ ap (λ v. v.items) c.deref.ensures) c.in_ok-below-in-Scalar.ensures) c.push_picked.ensures

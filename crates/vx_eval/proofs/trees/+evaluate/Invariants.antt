@@ -7,6 +7,6 @@ use Rattle.vx_eval.proofs.trees.+evaluate.Given as goal
 
 abbrev pub invariant-evaluate_each-loop-child : goal.invariant-evaluate_each-loop-child
 invariant-evaluate_each-loop-child l = record {
-  answer : each_answer (bounds_of l.children) (values_of l.batch) ≡ prepended (rows_views l.columns.items) (each_answer (bounds_of (drop l.child-index l.children)) (values_of l.batch));
+  answer : each_answer (bounds_of l.children) (values_of l.scope.batch.now) ≡ prepended (rows_views l.columns.items) (each_answer (bounds_of (drop l.child-index l.children)) (values_of l.scope.batch.now));
   typed : EachWellTyped (bounds_of (drop l.child-index l.children));
 }

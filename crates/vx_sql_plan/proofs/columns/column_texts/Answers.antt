@@ -13,13 +13,13 @@ loop-i-init c =
 pub loop-i-preserved : goal.loop-i-preserved
 loop-i-preserved c =
     turn_next c.args.dialect (λ a. list_any (leads_into a) (minimal_paths c.args.paths.now)) c.args.names.now c.loop-i.i c.index-names-i.result _ _ c.loop-i-test.true c.index-names-i.is
-    c.in_ok-push_column.ensures.0 c.in_ok-push_column.ensures.1 c.loop-i.invariant
+    c.in_ok-push_text.ensures.0 c.in_ok-push_text.ensures.1 c.loop-i.invariant
 
-pub returns-in_err-push_column : goal.returns-in_err-push_column
-returns-in_err-push_column c =
-    let told : IsRefusalOf (column_refusal c.args.dialect c.args.names.now (filter (λ a. list_any (leads_into a) (minimal_paths c.args.paths.now)) c.args.names.now)) c.in_err-push_column.field-0.0 =
+pub returns-in_err-push_text : goal.returns-in_err-push_text
+returns-in_err-push_text c =
+    let told : IsRefusalOf (column_refusal c.args.dialect c.args.names.now (filter (λ a. list_any (leads_into a) (minimal_paths c.args.paths.now)) c.args.names.now)) c.in_err-push_text.field-0.0 =
     turn_told c.args.dialect (λ a. list_any (leads_into a) (minimal_paths c.args.paths.now)) c.args.names.now c.loop-i.i c.index-names-i.result _ _ c.loop-i-test.true c.index-names-i.is
-    c.in_err-push_column.ensures c.loop-i.invariant in
+    c.in_err-push_text.ensures c.loop-i.invariant in
     search rules
 
 pub returns : goal.returns
