@@ -7,10 +7,11 @@ use vx_types::{DType, Value, VortexError, VortexResult};
 
 /// What records of statistics say of chunks of rows of a type.
 ///
-/// A record has the number of `rows`, and in `fields` for any places, by their names behind dots and
-/// `$` for the whole row, how many values are null (`nulls`), and the `least` and the `greatest` of the
-/// others: `{"rows": 3, "fields": {"a.x": {"nulls": 1, "least": 1, "greatest": 5}}}`. What isn't there
-/// isn't known.
+/// A record has the number of `rows`, and in `fields` for any places how many values are null
+/// (`nulls`), and the `least` and the `greatest` of the others:
+/// `{"rows": 3, "fields": {"a.x": {"nulls": 1, "least": 1, "greatest": 5}}}`. A place is called by its
+/// path as source text has it: names that are no words stand between backquotes, as in `` a.`x.y` ``,
+/// and `$` is the whole row. What isn't there isn't known.
 #[derive(Drop)]
 pub struct ChunkRecords<'a> {
     places: Vec<Place<'a>>,

@@ -1,6 +1,7 @@
 // The type of a record of statistics.
 use crate::places::Place;
 use std::alloc::{AllocError, Global};
+use vx_source_types::NameText;
 use vx_types::{
     DType, Field, FieldName, FieldNames, FieldPath, Nullability, PType, StructFields, VortexError,
     VortexResult,
@@ -24,14 +25,12 @@ pub fn record_type(alloc: Global, places: &[Place<'_>]) -> VortexResult<DType> {
     struct_type(alloc, names, types, Nullability::NonNullable)
 }
 
-// The names of the path behind dots, and `$` for the whole row.
+// The path as source text has it: the names with dots between them, and `$` for the whole row.
 fn place_text(alloc: Global, path: &FieldPath) -> Result<String, AllocError> {
     let mut text = String::new(alloc);
     for Field::Name(name) in path.parts() {
-        if !text.is_empty() {
-            text.push('.')?;
-        }
-        text.push_str(name.as_str())?;
+        let before = if text.is_empty() { "" } else { "." };
+        text.push_str(format!(in alloc; "{before}{}", NameText(name))?.as_str())?;
     }
     if text.is_empty() {
         text.push('$')?;
