@@ -6,4 +6,4 @@ use Rattle.vx_sql_plan.proofs.ReadColumns.{Turn}
 use Rattle.vx_sql_plan.proofs.columns.column_texts.Given as goal
 
 abbrev pub invariant-loop-i : goal.invariant-loop-i
-invariant-loop-i l = Turn l.dialect (λ a. list_any (leads_into a) (minimal_paths l.paths)) l.names l.i (map string_bytes l.texts.items)
+invariant-loop-i l = Turn l.fn.dialect (λ a. list_any (leads_into a) (minimal_paths l.fn.paths)) l.names l.i (map string_bytes l.texts.items)
