@@ -125,6 +125,14 @@ class Errors(unittest.TestCase):
             vx.explain("y", X)
         self.assertEqual(caught.exception.place.end, 1)
 
+    def test_help(self):
+        for expression, schema, wanted in [
+            ("id > 5", "{id=i64}", "id is i64, 5 is i32: write 5i64"),
+        ]:
+            with self.subTest(expression), self.assertRaises(vx.RefusedError) as caught:
+                vx.check(expression, schema)
+            self.assertIn(f"  = help: {wanted}", str(caught.exception))
+
     def test_texts_that_are_none(self):
         for expression in ("", "x\0", "\ud800", "x = \"\udfff\""):
             with self.assertRaises(vx.UnreadError):

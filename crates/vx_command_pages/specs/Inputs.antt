@@ -19,7 +19,7 @@ abbrev pub status_of : CommandError → Status
 status_of OutOfMemory = Failed
 status_of (UnreadExpression at expected) = Wrong
 status_of (UnreadSchema at expected) = Wrong
-status_of (Refused span refusal) = Wrong
+status_of (Refused span refusal remedy) = Wrong
 
 -- the text is read as that expression
 abbrev pub Reads : List ℕ → Tree → Type 0
@@ -42,14 +42,14 @@ abbrev pub IsUnread : List ℕ → CommandError → Type 0
 IsUnread text OutOfMemory = Unit {0}
 IsUnread text (UnreadExpression at expected) = StopsReading text at expected
 IsUnread text (UnreadSchema at expected) = ⊥
-IsUnread text (Refused span refusal) = ⊥
+IsUnread text (Refused span refusal remedy) = ⊥
 
 -- the error is what stops reading the schema, or want of memory
 abbrev pub IsUnreadSchema : List ℕ → CommandError → Type 0
 IsUnreadSchema schema OutOfMemory = Unit {0}
 IsUnreadSchema schema (UnreadSchema at expected) = StopsReadingType schema at expected
 IsUnreadSchema schema (UnreadExpression at expected) = ⊥
-IsUnreadSchema schema (Refused span refusal) = ⊥
+IsUnreadSchema schema (Refused span refusal remedy) = ⊥
 
 -- the text is read as an expression, and reading the schema stops at that byte
 abbrev pub IsReadUpTo : List ℕ → List ℕ → ℕ → Expected → Type 0
@@ -60,7 +60,7 @@ abbrev pub IsUnreadQuery : List ℕ → List ℕ → CommandError → Type 0
 IsUnreadQuery text schema OutOfMemory = Unit {0}
 IsUnreadQuery text schema (UnreadExpression at expected) = StopsReading text at expected
 IsUnreadQuery text schema (UnreadSchema at expected) = IsReadUpTo text schema at expected
-IsUnreadQuery text schema (Refused span refusal) = ⊥
+IsUnreadQuery text schema (Refused span refusal remedy) = ⊥
 
 -- the refusal is the first of the expression over the scope's type, or want of memory
 abbrev pub IsRefusedWith : Tree → LogicalType → VortexError → Type 0
@@ -69,7 +69,7 @@ IsRefusedWith e s refusal = (refusal ≡ Exhausted) ⊎ (typed e s ≡ Err refus
 -- the error is the first refusal of the expression over the scope's type, or want of memory
 abbrev pub IsRefusal : Tree → LogicalType → CommandError → Type 0
 IsRefusal e s OutOfMemory = Unit {0}
-IsRefusal e s (Refused span refusal) = typed e s ≡ Err refusal
+IsRefusal e s (Refused span refusal remedy) = typed e s ≡ Err refusal
 IsRefusal e s (UnreadExpression at expected) = ⊥
 IsRefusal e s (UnreadSchema at expected) = ⊥
 
@@ -78,4 +78,4 @@ abbrev pub IsCommandError : List ℕ → List ℕ → CommandError → Type 0
 IsCommandError text schema OutOfMemory = Unit {0}
 IsCommandError text schema (UnreadExpression at expected) = StopsReading text at expected
 IsCommandError text schema (UnreadSchema at expected) = IsReadUpTo text schema at expected
-IsCommandError text schema (Refused span refusal) = (e : Tree) × (s : LogicalType) × Reads text e × ReadsType schema s × (typed e s ≡ Err refusal)
+IsCommandError text schema (Refused span refusal remedy) = (e : Tree) × (s : LogicalType) × Reads text e × ReadsType schema s × (typed e s ≡ Err refusal)

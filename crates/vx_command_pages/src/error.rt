@@ -2,6 +2,7 @@
 ghost use Rattle.std.specs.Prelude.{◌≡◌};
 ghost use Rattle.vx_command_pages.specs.declared.error.CommandError.TheVariants.{OutOfMemory};
 
+use crate::remedy::Remedy;
 use crate::report::Span;
 use std::alloc::{AllocError, AllocFailed};
 use vx_source::Expected;
@@ -13,11 +14,22 @@ pub enum CommandError {
     /// Memory ran out.
     OutOfMemory,
     /// Reading the expression stopped at that byte.
-    UnreadExpression { at: usize, expected: Expected },
+    UnreadExpression {
+        at: usize,
+        expected: Expected,
+    },
     /// Reading the schema stopped at that byte.
-    UnreadSchema { at: usize, expected: Expected },
-    /// The node that was read from those bytes of the expression has no type over the schema's.
-    Refused { span: Span, refusal: VortexError },
+    UnreadSchema {
+        at: usize,
+        expected: Expected,
+    },
+    /// The node that was read from those bytes of the expression has no type over the schema's. The
+    /// remedy tells more of it than the refusal, where there is memory for it.
+    Refused {
+        span: Span,
+        refusal: VortexError,
+        remedy: Option<Remedy>,
+    },
 }
 
 impl CommandError {

@@ -6,12 +6,13 @@ ghost use Rattle.vx_tree.specs.Trees.{Over, WellTyped, node_type, typed, unbound
 ghost use Rattle.vx_command_pages.specs.Inputs.{Reads, ReadsType, IsUnread, IsUnreadSchema, IsUnreadQuery, IsRefusal, IsRefusedWith};
 
 use crate::error::CommandError;
-use crate::report::Span;
-use crate::spans::span_at;
+use crate::refused::RefusedNode;
+use crate::remedy::Remedy;
+use crate::spans::{places_at, span_at};
 use std::alloc::Global;
-use vx_places::first_refusal_at;
+use vx_places::{first_refusal_at, node_at};
 use vx_source::{DEFAULT_NESTING, ParseError, Placed, parse_type, parse_with_places};
-use vx_tree::{BoundExpression, DType, VortexError};
+use vx_tree::{BoundExpression, DType, Expression, VortexError};
 
 /// The expression that the text says, with the bytes that its nodes were read from. Fails at the
 /// place where reading stops, and for want of memory.
@@ -90,17 +91,52 @@ pub fn refused(alloc: Global, placed: &Placed, scope: &DType, refusal: VortexErr
 {
     match refusal {
         VortexError::OutOfMemory => CommandError::OutOfMemory,
-        refusal => CommandError::Refused {
-            span: refused_span(alloc, placed, scope),
-            refusal,
-        },
+        refusal => {
+            let path = refused_path(alloc, placed, scope);
+            CommandError::Refused {
+                span: span_at(&placed.places, path.as_slice()),
+                remedy: remedy_at(alloc, placed, scope, path.as_slice(), &refusal),
+                refusal,
+            }
+        }
     }
 }
 
-// The bytes that the first refused node was read from.
-fn refused_span(alloc: Global, placed: &Placed, scope: &DType) -> Span {
+// The way down to the first refused node, or to the whole expression for want of memory.
+fn refused_path(alloc: Global, placed: &Placed, scope: &DType) -> Vec<usize> {
     match first_refusal_at(alloc, &placed.expression, scope) {
-        Ok(Some(place)) => span_at(&placed.places, place.path.as_slice()),
-        _ => span_at(&placed.places, &[]),
+        Ok(Some(place)) => place.path,
+        _ => Vec::new(alloc),
     }
+}
+
+// What would do in place of the node at the path, which is refused so.
+fn remedy_at(
+    alloc: Global,
+    placed: &Placed,
+    scope: &DType,
+    path: &[usize],
+    refusal: &VortexError,
+) -> Option<Remedy> {
+    let Some(
+        Expression::Scalar {
+            scalar_fn,
+            children,
+        },
+    ) = node_at(&placed.expression, path)
+    else {
+        return None;
+    };
+    let places = match places_at(&placed.places, path) {
+        Some(places) => places.children.as_slice(),
+        None => &[],
+    };
+    let node = RefusedNode {
+        scalar_fn,
+        children: children.as_slice(),
+        places,
+        scope,
+        refusal,
+    };
+    node.remedy(alloc).unwrap_or(None)
 }

@@ -1,9 +1,11 @@
 // Errors as messages.
 use crate::error::CommandError;
 use crate::help::help_for;
+use crate::remedy::{Help, Remedy};
 use crate::report::{Report, Span};
 use std::fmt;
 use std::fmt::{Display, Formatter, Write};
+use vx_tree::VortexError;
 
 /// A text that a command is given, and what messages call it.
 #[derive(Clone, Copy, Debug)]
@@ -20,7 +22,7 @@ impl<'a> Input<'a> {
         self,
         message: M,
         span: Span,
-        help: Option<&'a str>,
+        help: Option<Help<'a>>,
     ) -> Report<'a, M> {
         Report {
             message,
@@ -56,10 +58,26 @@ impl Display for Message<'_> {
                 let report = self.schema.report(expected, place(*at), None);
                 report.fmt(f)
             }
-            CommandError::Refused { span, refusal } => {
-                let report = self.expression.report(refusal, *span, help_for(refusal));
+            CommandError::Refused {
+                span,
+                refusal,
+                remedy,
+            } => {
+                let help = self.help(refusal, remedy.as_ref());
+                let report = self.expression.report(refusal, *span, help);
                 report.fmt(f)
             }
+        }
+    }
+}
+
+impl<'a> Message<'a> {
+    // What would do in place of what is refused: what the remedy says, or else the refusal's help.
+    fn help(&self, refusal: &VortexError, remedy: Option<&'a Remedy>) -> Option<Help<'a>> {
+        match (remedy, help_for(refusal)) {
+            (Some(remedy), _) => Some(Help::Remedy(remedy, self.expression.text)),
+            (None, Some(help)) => Some(Help::Said(help)),
+            (None, None) => None,
         }
     }
 }

@@ -1,6 +1,7 @@
 // A message about a place in a text, as it is printed.
 use crate::excerpt::Excerpt;
 use crate::position::Position;
+use crate::remedy::Help;
 use std::fmt;
 use std::fmt::{Display, Formatter, Write};
 
@@ -40,7 +41,7 @@ pub struct Report<'a, M: Display> {
     /// Where in the text.
     pub span: Span,
     /// What would do, in a line of its own.
-    pub help: Option<&'a str>,
+    pub help: Option<Help<'a>>,
 }
 
 impl<M: Display> Display for Report<'_, M> {

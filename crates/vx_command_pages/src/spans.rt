@@ -17,3 +17,12 @@ pub fn span_at(places: &Places, path: &[usize]) -> Span {
         end: place.end,
     }
 }
+
+/// The bytes that the node at the path and those below it were read from, None where it was read from none of its own.
+pub(crate) fn places_at<'a>(places: &'a Places, path: &[usize]) -> Option<&'a Places> {
+    let mut place = places;
+    for index in path {
+        place = place.children.get(*index)?;
+    }
+    Some(place)
+}

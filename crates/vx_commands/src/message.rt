@@ -2,7 +2,7 @@
 use crate::error::RowsError;
 use std::fmt;
 use std::fmt::{Display, Formatter, Write};
-use vx_command_pages::{Input, Message, Span};
+use vx_command_pages::{Help, Input, Message, Span};
 use vx_data::{DataError, WriteError};
 use vx_records::{RecordFault, RecordsError};
 use vx_source::TypeText;
@@ -43,7 +43,9 @@ impl Display for RowsMessage<'_> {
                     TypeText(dtype)
                 );
                 let help = "write a comparison, as in x > 0, or a test, as in x is not null";
-                let report = self.expression.report(&message, all, Some(help));
+                let report = self
+                    .expression
+                    .report(&message, all, Some(Help::Said(help)));
                 report.fmt(f)
             }
             RowsError::Records { error, span } => self.write_stop(error, *span, f),
@@ -100,12 +102,14 @@ impl Display for FaultText<'_> {
 }
 
 // What would do in place of what faults, None where the fault says it.
-fn help_for(refusal: &VortexError) -> Option<&'static str> {
+fn help_for(refusal: &VortexError) -> Option<Help<'static>> {
     match refusal {
-        VortexError::AddOverflow { .. } => Some(
+        VortexError::AddOverflow { .. } => Some(Help::Said(
             "say a wider type in the schema, as i64, and write numbers of it, as 5i64",
-        ),
-        VortexError::CastNull { .. } => Some("fill the nulls before, as in coalesce(x, 0)"),
+        )),
+        VortexError::CastNull { .. } => Some(Help::Said(
+            "fill the nulls before, as in coalesce(x, 0)",
+        )),
         _ => None,
     }
 }

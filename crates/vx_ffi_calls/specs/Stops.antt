@@ -35,7 +35,7 @@ abbrev pub Tells : CommandError → List ℕ → List ℕ → CallError → Type
 Tells Exhausted expression schema stop = IsExhausted stop
 Tells (UnreadExpression at expected) expression schema stop = (stop.status ≡ Unread) × IsPlaceIn Expression expression at at stop.place
 Tells (UnreadSchema at expected) expression schema stop = (stop.status ≡ Unread) × IsPlaceIn Schema schema at at stop.place
-Tells (RefusedAt span refusal) expression schema stop = (stop.status ≡ Refused) × IsPlaceIn Expression expression span.start span.end stop.place
+Tells (RefusedAt span refusal remedy) expression schema stop = (stop.status ≡ Refused) × IsPlaceIn Expression expression span.start span.end stop.place
 
 -- a text is no UTF-8, there is such an error in the texts, or memory ran out
 abbrev pub Stops : (CommandError → Type 0) → List ℕ → List ℕ → CallError → Type 0

@@ -34,7 +34,7 @@ tells_other : (c : CommandError) (expression schema : List ℕ) (stop : CallErro
 tells_other Exhausted expression schema stop is = other _ OutOfMemory is.0 (omega arith)
 tells_other (UnreadExpression at expected) expression schema stop is = other _ Unread is.0 (omega arith)
 tells_other (UnreadSchema at expected) expression schema stop is = other _ Unread is.0 (omega arith)
-tells_other (RefusedAt span refusal) expression schema stop is = other _ Refused is.0 (omega arith)
+tells_other (RefusedAt span refusal remedy) expression schema stop is = other _ Refused is.0 (omega arith)
 
 stops_other : (IsC : CommandError → Type 0) (expression schema : List ℕ) (stop : CallError) → Stops IsC expression schema stop → stop.status ≢ Answered
 stops_other IsC expression schema stop (inl exhausted) = other _ OutOfMemory exhausted.0 (omega arith)
