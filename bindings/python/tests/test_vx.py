@@ -128,6 +128,7 @@ class Errors(unittest.TestCase):
     def test_help(self):
         for expression, schema, wanted in [
             ("id > 5", "{id=i64}", "id is i64, 5 is i32: write 5i64"),
+            ('Name = "Bob"', "{name=utf8}", "there is name"),
         ]:
             with self.subTest(expression), self.assertRaises(vx.RefusedError) as caught:
                 vx.check(expression, schema)

@@ -5,6 +5,7 @@ mod conjuncts;
 mod error;
 mod excerpt;
 mod explanation;
+mod fields;
 mod graph;
 mod help;
 mod input;

@@ -1,10 +1,13 @@
-// What is told of a refused node: the types of what it is given, and what would do.
+// What is told of a refused node: the types of what it is given or the fields that there are, and what would do.
+use crate::fields::fields_told;
 use crate::help::help_for;
 use crate::remedy::{Part, Remedy, Role};
 use crate::report::Span;
 use std::alloc::{AllocError, Global};
 use vx_source::{Places, ScalarText, TypeText};
-use vx_tree::{DType, Expression, PType, Scalar, ScalarFnRef, Value, VortexError, VortexResult};
+use vx_tree::{
+    DType, Expression, FieldName, PType, Scalar, ScalarFnRef, Value, VortexError, VortexResult,
+};
 
 /// A node that is refused, and what it was read from.
 #[derive(Clone, Copy)]
@@ -37,6 +40,9 @@ impl<'a> RefusedNode<'a> {
     /// The remedy, None where nothing is known beside the refusal. Refuses with `OutOfMemory` (1)
     /// alone where each child has a type.
     pub(crate) fn remedy(&self, alloc: Global) -> VortexResult<Option<Remedy>> {
+        if let (VortexError::NoSuchField(name), [input]) = (self.refusal, self.children) {
+            return self.other_fields(alloc, input, name);
+        }
         let operands = self.operands(alloc)?;
         if operands.is_empty() {
             return Ok(None);
@@ -44,6 +50,22 @@ impl<'a> RefusedNode<'a> {
         let advice = self.advice(alloc, operands.as_slice())?;
         let parts = parts_of(alloc, operands.as_slice())?;
         Ok(Some(Remedy { parts, advice }))
+    }
+
+    // Which fields the input has in place of that one.
+    fn other_fields(
+        &self,
+        alloc: Global,
+        input: &Expression,
+        name: &FieldName,
+    ) -> VortexResult<Option<Remedy>> {
+        match input.return_dtype(alloc, self.scope)? {
+            DType::Struct(fields, _) => Ok(Some(Remedy {
+                parts: Vec::new(alloc),
+                advice: fields_told(alloc, &fields, name)?,
+            })),
+            _ => Ok(None),
+        }
     }
 
     // The operands that are told of.
