@@ -119,6 +119,7 @@ def versions() -> dict[str, str]:
     patterns = {
         "include/vx.h": r'#define VX_VERSION "(.*)"',
         "crates/vx_ffi_calls/src/version.rt": r'b"(.*)\\n"',
+        "crates/vx/src/line.rt": r'^const VERSION: &str = "(.*)"',
         "bindings/python/pyproject.toml": r'^version = "(.*)"',
         "bindings/rust/Cargo.toml": r'^version = "(.*)"',
     }

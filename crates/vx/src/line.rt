@@ -3,10 +3,13 @@ use crate::choices::{ENGINES, FORMATS, OUTPUTS};
 use clap::{Arg, ArgAction, Command, value_parser};
 use std::alloc::{AllocError, Global};
 
+const VERSION: &str = "0.1.0";
+
 /// The words that the program takes.
 pub fn command_line<'a>(alloc: Global) -> Result<Command<'a>, AllocError> {
     Command::new(alloc, "vx")
         .bin_name("vx")?
+        .version(VERSION)
         .about(
             "Says what an expression over rows is, what it means at the records of a file, and what is wrong with it.",
         )
