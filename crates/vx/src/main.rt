@@ -15,7 +15,7 @@ use line::command_line;
 use records::{filter_of, output_of, over_records};
 use std::env;
 use std::process::ExitCode;
-use texts::{Text, text_at};
+use texts::{Text, schema_at, text_at};
 use vx_commands::{
     Command, Dialect, Query, RecordsTask, SqlCommand, SqlTask, Status, run_command, run_sql,
 };
@@ -91,7 +91,7 @@ fn asks_input_twice(matches: &ArgMatches<'_>) -> bool {
 // Runs the command of that name, which reads no records.
 fn over_texts(rt: &HostRuntime, name: &str, matches: &ArgMatches<'_>) -> Result<Status> {
     let expression = text_at(rt, matches, "expression")?;
-    let schema = text_at(rt, matches, "schema")?;
+    let schema = schema_at(rt, matches)?;
     let query = Query {
         expression: expression.input(),
         schema: schema.input(),
@@ -110,7 +110,7 @@ fn over_texts(rt: &HostRuntime, name: &str, matches: &ArgMatches<'_>) -> Result<
 // Does that work for the engine that the words name.
 fn over_engine(rt: &HostRuntime, work: SqlTask, matches: &ArgMatches<'_>) -> Result<Status> {
     let expression = text_at(rt, matches, "expression")?;
-    let schema = text_at(rt, matches, "schema")?;
+    let schema = schema_at(rt, matches)?;
     let Some(dialect) = matches.get_str("sql").and_then(dialect_named) else {
         return Ok(Status::Wrong);
     };

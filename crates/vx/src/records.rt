@@ -1,7 +1,7 @@
 // Commands that go over the records of a file.
 use crate::choices::{data_format_named, output_format_named};
 use crate::progress::Progress;
-use crate::texts::{Text, text_at};
+use crate::texts::{Text, schema_at, text_at};
 use anyhow::{Context, Result};
 use clap::ArgMatches;
 use std::fs::File;
@@ -35,7 +35,7 @@ pub fn over_records(
         .unwrap_or("-");
     let format = format_of(matches, data);
     let expression = text_at(rt, matches, "expression")?;
-    let schema = schema_at(rt, matches)?;
+    let schema = schema_said(rt, matches)?;
     let name = if data == "-" { "standard input" } else { data };
     let limit = matches.get_one("limit").unwrap_or(limit);
     let command = RowsCommand {
@@ -80,11 +80,11 @@ fn run_over(rt: &HostRuntime, command: &RowsCommand<'_>, data: &str) -> Result<S
 }
 
 // The schema, if the words say one.
-fn schema_at(rt: &HostRuntime, matches: &ArgMatches<'_>) -> Result<Option<Text>> {
+fn schema_said(rt: &HostRuntime, matches: &ArgMatches<'_>) -> Result<Option<Text>> {
     if !matches.contains_id("schema") {
         return Ok(None);
     }
-    Ok(Some(text_at(rt, matches, "schema")?))
+    Ok(Some(schema_at(rt, matches)?))
 }
 
 // The form of the records: the one that the words say, or else the one that the file's name tells.

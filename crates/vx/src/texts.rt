@@ -10,6 +10,8 @@ use std::{fs, io};
 pub struct Text {
     name: String,
     text: String,
+    // Whether it is rather the name of a file.
+    names_file: bool,
 }
 
 impl Text {
@@ -18,6 +20,7 @@ impl Text {
         Ok(Text {
             name: String::from_str(alloc, name)?,
             text,
+            names_file: false,
         })
     }
 
@@ -26,6 +29,7 @@ impl Text {
         vx_commands::Input {
             name: self.name.as_str(),
             text: self.text.as_str(),
+            names_file: self.names_file,
         }
     }
 }
@@ -33,6 +37,16 @@ impl Text {
 /// The text that the argument says, an empty one where it isn't given.
 pub fn text_at(rt: &HostRuntime, matches: &ArgMatches<'_>, id: &str) -> Result<Text> {
     read_text(rt, id, matches.get_str(id).unwrap_or(""))
+}
+
+/// The type of the rows as the argument says it, an empty text where it isn't given. What ends in
+/// `.schema` or is the name of a file rather names one.
+pub fn schema_at(rt: &HostRuntime, matches: &ArgMatches<'_>) -> Result<Text> {
+    let word = matches.get_str("schema").unwrap_or("");
+    let mut text = read_text(rt, "schema", word)?;
+    text.names_file = word == text.text.as_str()
+        && (word.ends_with(".schema") || fs::metadata(rt, word).is_ok_and(|file| file.is_file()));
+    Ok(text)
 }
 
 /// The text that the word says: standard input for `-`, the file of that name for `@NAME`, else the

@@ -14,9 +14,29 @@ pub struct Input<'a> {
     pub name: &'a str,
     /// The text.
     pub text: &'a str,
+    /// Whether it is rather the name of a file, whose text may be meant.
+    pub names_file: bool,
 }
 
 impl<'a> Input<'a> {
+    /// The text under that name.
+    pub fn new(name: &'a str, text: &'a str) -> Input<'a> {
+        Input {
+            name,
+            text,
+            names_file: false,
+        }
+    }
+
+    // What would do in place of the text where it can't be read.
+    fn help(self) -> Option<Help<'a>> {
+        if self.names_file {
+            Some(Help::File(self.text))
+        } else {
+            None
+        }
+    }
+
     /// The message about those bytes of the text, with what would do.
     pub fn report<M: Display>(
         self,
@@ -55,7 +75,7 @@ impl Display for Message<'_> {
                 report.fmt(f)
             }
             CommandError::UnreadSchema { at, expected } => {
-                let report = self.schema.report(expected, place(*at), None);
+                let report = self.schema.report(expected, place(*at), self.schema.help());
                 report.fmt(f)
             }
             CommandError::Refused {

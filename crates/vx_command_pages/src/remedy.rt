@@ -76,6 +76,8 @@ impl Role {
 pub enum Help<'a> {
     /// What the text says.
     Said(&'a str),
+    /// The text of that file.
+    File(&'a str),
     /// What the remedy of a node of that expression says.
     Remedy(&'a Remedy, &'a str),
 }
@@ -84,6 +86,7 @@ impl Display for Help<'_> {
     fn fmt<W: Write>(&self, f: &mut Formatter<W>) -> fmt::Result {
         match *self {
             Help::Said(text) => f.write_str(text),
+            Help::File(name) => write!(f, "the text of that file is `@{}`", Shown(name)),
             Help::Remedy(remedy, expression) => write_remedy(remedy, expression, f),
         }
     }

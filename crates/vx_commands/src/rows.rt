@@ -52,7 +52,7 @@ impl<'a> Schema<'a> {
     fn input(self) -> Input<'a> {
         match self {
             Schema::Said(input) => input,
-            Schema::Inferred => Input { name: "", text: "" },
+            Schema::Inferred => Input::new("", ""),
         }
     }
 }

@@ -89,14 +89,8 @@ fn told<'a>(
 {
     let message = RowsMessage {
         error,
-        expression: Input {
-            name: Given::Expression.name(),
-            text: texts.expression,
-        },
-        schema: Input {
-            name: Given::Schema.name(),
-            text: texts.schema,
-        },
+        expression: Input::new(Given::Expression.name(), texts.expression),
+        schema: Input::new(Given::Schema.name(), texts.schema),
         data: Given::Records.name(),
     };
     CallError::new(alloc, status, place, &message)

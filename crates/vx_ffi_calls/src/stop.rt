@@ -75,10 +75,7 @@ pub fn stop_of(alloc: Global, error: &CommandError, expression: &str, schema: &s
 
 // The text as messages show it.
 fn input(given: Given, text: &str) -> Input<'_> {
-    Input {
-        name: given.name(),
-        text,
-    }
+    Input::new(given.name(), text)
 }
 
 // The place at which reading stopped.

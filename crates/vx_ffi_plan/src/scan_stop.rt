@@ -79,14 +79,8 @@ fn stop_at(alloc: Global, kept: &KeptPlan, fault: NodePlace) -> CallError
     let error = RowsError::Records { error: stop, span };
     let message = RowsMessage {
         error: &error,
-        expression: Input {
-            name: Given::Expression.name(),
-            text: kept.text.as_str(),
-        },
-        schema: Input {
-            name: Given::Schema.name(),
-            text: "",
-        },
+        expression: Input::new(Given::Expression.name(), kept.text.as_str()),
+        schema: Input::new(Given::Schema.name(), ""),
         data: "batch",
     };
     match row {
