@@ -6,19 +6,21 @@ mod line;
 mod progress;
 mod records;
 mod texts;
+mod written;
 
-use anyhow::Result;
+use anyhow::{Context, Result};
 use choices::dialect_named;
 use clap::ArgMatches;
 use clap::error::ErrorKind;
 use line::command_line;
 use records::{filter_of, output_of, over_records};
-use std::env;
 use std::process::ExitCode;
+use std::{env, io};
 use texts::{Text, schema_at, text_at};
 use vx_commands::{
     Command, Dialect, Query, RecordsTask, SqlCommand, SqlTask, Status, run_command, run_sql,
 };
+use written::Written;
 
 fn main(rt: HostRuntime) -> ExitCode {
     match answer(&rt) {
@@ -37,7 +39,11 @@ fn answer(rt: &HostRuntime) -> Result<ExitCode> {
     let status = match command_line(alloc)?.try_get_matches_from(words.as_slice()) {
         Ok(matches) => asked(rt, &matches)?,
         Err(error) => {
-            error.print(rt)?;
+            if let Err(failure) = error.print(rt)
+                && failure.kind() != io::ErrorKind::BrokenPipe
+            {
+                return Err(failure).context("writing");
+            }
             match error.kind() {
                 ErrorKind::DisplayHelp | ErrorKind::DisplayVersion => Status::Done,
                 ErrorKind::OutOfMemory => Status::Failed,
@@ -104,7 +110,9 @@ fn over_texts(rt: &HostRuntime, name: &str, matches: &ArgMatches<'_>) -> Result<
         "fmt" => Command::Format(query.expression),
         _ => return Ok(Status::Wrong),
     };
-    Ok(run_command(rt.alloc(), &command, &mut rt.stdout(), &mut rt.stderr()))
+    let mut out = Written::new(rt.stdout());
+    let status = run_command(rt.alloc(), &command, &mut out, &mut rt.stderr());
+    out.ended(rt, status)
 }
 
 // Does that work for the engine that the words name.
@@ -116,7 +124,9 @@ fn over_engine(rt: &HostRuntime, work: SqlTask, matches: &ArgMatches<'_>) -> Res
     };
     let table = matches.get_str("table").unwrap_or("");
     let command = command_for(work, &expression, &schema, dialect, table);
-    Ok(run_sql(rt.alloc(), &command, &mut rt.stdout(), &mut rt.stderr()))
+    let mut out = Written::new(rt.stdout());
+    let status = run_sql(rt.alloc(), &command, &mut out, &mut rt.stderr());
+    out.ended(rt, status)
 }
 
 // The command that does that work for the engine.

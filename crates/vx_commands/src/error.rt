@@ -2,6 +2,7 @@
 ghost use Rattle.std.specs.Prelude.{◌≡◌};
 ghost use Rattle.vx_commands.specs.declared.error.RowsError.TheVariants.{Query};
 
+use std::io::ErrorKind;
 use vx_command_pages::{CommandError, Span, Status};
 use vx_data::{DataError, WriteError};
 use vx_records::RecordsError;
@@ -39,6 +40,19 @@ impl RowsError {
                     Status::Failed
                 }
             },
+        }
+    }
+}
+
+impl RowsError {
+    /// Whether what is written to is a pipe that its reader has closed.
+    pub fn is_closed_pipe(&self) -> bool {
+        match self {
+            RowsError::Records {
+                error: RecordsError::Write(WriteError::Write(error)),
+                ..
+            } => error.kind() == ErrorKind::BrokenPipe,
+            _ => false,
         }
     }
 }

@@ -95,7 +95,8 @@ impl<'a> ReadCommand<'a> {
 /// `out` as it comes, and an error as a message on `err`, where a filter by chunks also tells how many
 /// of them weren't evaluated. The status is `Done`; or `Wrong` for a text
 /// that can't be read, an expression that is refused or faults, or a record that isn't of the schema's
-/// type; or `Failed` where memory, the reader or a writer fails.
+/// type; or `Failed` where memory, the reader or a writer fails. Where `out` is a pipe that its reader has
+/// closed, the run ends there as `Done`.
 pub fn run_rows<D: Read + Drop, W: Write, E: Write>(
     alloc: Global,
     command: &RowsCommand<'_>,
@@ -105,6 +106,7 @@ pub fn run_rows<D: Read + Drop, W: Write, E: Write>(
 ) -> Status {
     match gone_over(alloc, command, data, out, err) {
         Ok(()) => Status::Done,
+        Err(error) if error.is_closed_pipe() => Status::Done,
         Err(error) => {
             let message = RowsMessage {
                 error: &error,
