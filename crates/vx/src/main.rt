@@ -18,7 +18,7 @@ use std::process::ExitCode;
 use std::{env, io};
 use texts::{Text, schema_at, text_at};
 use vx_commands::{
-    Command, Dialect, Query, RecordsTask, SqlCommand, SqlTask, Status, run_command, run_sql,
+    Command, Dialect, Query, RecordsTask, Shown, SqlCommand, SqlTask, Status, run_command, run_sql,
 };
 use written::Written;
 
@@ -26,7 +26,7 @@ fn main(rt: HostRuntime) -> ExitCode {
     match answer(&rt) {
         Ok(code) => code,
         Err(error) => {
-            let _ = rt.eprintln(format_args!("error: {error:#}"));
+            let _ = rt.eprintln(format_args!("error: {}", Shown(format_args!("{error:#}"))));
             ExitCode::from(Status::Failed as u8)
         }
     }

@@ -2,6 +2,7 @@
 use crate::excerpt::Excerpt;
 use crate::position::Position;
 use crate::remedy::Help;
+use crate::shown::Shown;
 use std::fmt;
 use std::fmt::{Display, Formatter, Write};
 
@@ -29,7 +30,8 @@ pub struct Span {
 ///
 /// A span over several lines is underlined up to the end of its first. Tabs stand below tabs, so that
 /// the carets are right at any width of them. Of a line of more than 100 characters the 100 around
-/// the span are shown. Takes no memory, and time in the length of the text.
+/// the span are shown. Control characters are escaped in the message and the help, and have a sign in the
+/// line. Takes no memory, and time in the length of the text.
 #[derive(Clone, Copy, Drop)]
 pub struct Report<'a, M: Display> {
     /// What is wrong.
@@ -50,11 +52,13 @@ impl<M: Display> Display for Report<'_, M> {
         let excerpt = Excerpt::new(self.text, self.span);
         let gutter = Gutter(place.line);
         f.write_str("error: ")?;
-        self.message.fmt(f)?;
+        Shown(&self.message).fmt(f)?;
         write!(
             f,
             "\n{gutter}--> {}:{}:{}\n{gutter} |\n",
-            self.name, place.line, place.column
+            Shown(self.name),
+            place.line,
+            place.column
         )?;
         write!(f, "{} | ", place.line)?;
         excerpt.write_line(f)?;

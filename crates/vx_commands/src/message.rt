@@ -2,7 +2,7 @@
 use crate::error::RowsError;
 use std::fmt;
 use std::fmt::{Display, Formatter, Write};
-use vx_command_pages::{Help, Input, Message, Span};
+use vx_command_pages::{Help, Input, Message, Shown, Span};
 use vx_data::{DataError, WriteError};
 use vx_records::{RecordFault, RecordsError};
 use vx_source::TypeText;
@@ -63,8 +63,8 @@ impl RowsMessage<'_> {
     ) -> fmt::Result {
         match error {
             RecordsError::OutOfMemory => f.write_str("error: out of memory"),
-            RecordsError::Data(e) => write!(f, "error: {}: {e}", self.data),
-            RecordsError::Write(e) => write!(f, "error: writing: {e}"),
+            RecordsError::Data(e) => write!(f, "error: {}: {}", Shown(self.data), Shown(e)),
+            RecordsError::Write(e) => write!(f, "error: writing: {}", Shown(e)),
             RecordsError::Fault(fault) => self.write_fault(fault, span, f),
         }
     }
@@ -81,7 +81,7 @@ impl RowsMessage<'_> {
         let report = self.expression.report(&message, span, help_for(refusal));
         report.fmt(f)?;
         match fault.line {
-            Some(line) => write!(f, "\n  = record: {}, line {line}", self.data),
+            Some(line) => write!(f, "\n  = record: {}, line {line}", Shown(self.data)),
             None => Ok(()),
         }
     }

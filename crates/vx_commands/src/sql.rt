@@ -6,7 +6,9 @@ use crate::command::Query;
 use crate::run::{print, tell_message};
 use std::alloc::Global;
 use std::io::Write;
-use vx_command_pages::{Message, SqlError, SqlQuery, Status, sql_explanation_page, sql_page};
+use vx_command_pages::{
+    Message, Shown, SqlError, SqlQuery, Status, sql_explanation_page, sql_page,
+};
 use vx_sql::Dialect;
 
 /// What is told of a plan that is written as SQL.
@@ -86,7 +88,12 @@ fn tell_error<E: Write>(
             tell_message(alloc, &message, wanted, err)
         }
         SqlError::Statement(refusal) => {
-            tell_message(alloc, &format_args!("error: {refusal}"), wanted, err)
+            tell_message(
+                alloc,
+                &format_args!("error: {}", Shown(refusal)),
+                wanted,
+                err,
+            )
         }
     }
 }

@@ -3,6 +3,7 @@ use std::alloc::{AllocError, Global};
 use std::fmt;
 use std::fmt::{Display, Formatter};
 use std::io::Write;
+use vx_command_pages::Shown;
 use vx_data::WriteError;
 use vx_types::{Column, DType, Value};
 
@@ -26,7 +27,7 @@ impl Table {
         match dtype {
             DType::Struct(fields, _) => {
                 for name in fields.names().iter() {
-                    cells.push(String::from_str(alloc, name.as_str())?)?;
+                    cells.push(format!(in alloc; "{}", Shown(name))?)?;
                 }
             }
             _ => cells.push(String::from_str(alloc, "value")?)?,
@@ -98,7 +99,7 @@ fn push_line(cells: &[String], widths: &[usize], text: &mut String) -> Result<()
     text.push_str("\n")
 }
 
-// A value as a person reads it, without its type.
+// A value as a person reads it, without its type, and with control characters escaped.
 #[derive(Clone, Copy)]
 struct CellText<'a>(&'a Value);
 
@@ -114,7 +115,7 @@ fn write_cell<W: fmt::Write>(value: &Value, f: &mut Formatter<W>) -> fmt::Result
         Value::Null => f.write_str("null"),
         Value::Bool(truth) => truth.fmt(f),
         Value::Int(number) => number.fmt(f),
-        Value::Utf8(text) => f.write_str(text.as_str()),
+        Value::Utf8(text) => Shown(text.as_str()).fmt(f),
         Value::Binary(bytes) => {
             f.write_str("0x")?;
             for byte in bytes {
