@@ -108,9 +108,7 @@ const DOT: &str = "Example:
 
 // The command that says what becomes of an expression.
 fn explain<'a>(alloc: Global) -> Result<Command<'a>, AllocError> {
-    let schema = schema(alloc)
-        .required(false)
-        .required_unless_present("data")?;
+    let schema = schema_or_data(alloc)?;
     let command = Command::new(alloc, "explain")
         .about("Prints what becomes of the expression")
         .after_help(EXPLAIN);
@@ -223,18 +221,29 @@ fn output<'a>(alloc: Global) -> Arg<'a> {
         .help("In what form the rows are printed")
 }
 
-// A command of an expression and a schema.
+// A command of an expression, and a schema or the records that tell it.
 fn query<'a>(
     alloc: Global,
     name: &'a str,
     about: &'a str,
     example: &'a str,
 ) -> Result<Command<'a>, AllocError> {
-    Command::new(alloc, name)
+    let schema = schema_or_data(alloc)?;
+    let command = Command::new(alloc, name)
         .about(about)
         .after_help(example)
-        .arg(expression(alloc))?
-        .arg(schema(alloc))
+        .arg(schema)?;
+    command
+        .arg(data(alloc))?
+        .arg(format(alloc))?
+        .arg(expression(alloc))
+}
+
+// The type of the rows, which records may tell in its place.
+fn schema_or_data<'a>(alloc: Global) -> Result<Arg<'a>, AllocError> {
+    schema(alloc)
+        .required(false)
+        .required_unless_present("data")
 }
 
 fn schema<'a>(alloc: Global) -> Arg<'a> {

@@ -5,6 +5,7 @@ mod choices;
 mod line;
 mod progress;
 mod records;
+mod schema;
 mod texts;
 mod written;
 
@@ -14,9 +15,10 @@ use clap::ArgMatches;
 use clap::error::ErrorKind;
 use line::command_line;
 use records::{filter_of, output_of, over_records};
+use schema::schema_of;
 use std::process::ExitCode;
 use std::{env, io};
-use texts::{Text, schema_at, text_at};
+use texts::{Text, text_at};
 use vx_commands::{
     Command, Dialect, Query, RecordsTask, Shown, SqlCommand, SqlTask, Status, run_command, run_sql,
 };
@@ -97,7 +99,10 @@ fn asks_input_twice(matches: &ArgMatches<'_>) -> bool {
 // Runs the command of that name, which reads no records.
 fn over_texts(rt: &HostRuntime, name: &str, matches: &ArgMatches<'_>) -> Result<Status> {
     let expression = text_at(rt, matches, "expression")?;
-    let schema = schema_at(rt, matches)?;
+    let schema = match schema_of(rt, matches)? {
+        Ok(schema) => schema,
+        Err(status) => return Ok(status),
+    };
     let query = Query {
         expression: expression.input(),
         schema: schema.input(),
@@ -118,7 +123,10 @@ fn over_texts(rt: &HostRuntime, name: &str, matches: &ArgMatches<'_>) -> Result<
 // Does that work for the engine that the words name.
 fn over_engine(rt: &HostRuntime, work: SqlTask, matches: &ArgMatches<'_>) -> Result<Status> {
     let expression = text_at(rt, matches, "expression")?;
-    let schema = schema_at(rt, matches)?;
+    let schema = match schema_of(rt, matches)? {
+        Ok(schema) => schema,
+        Err(status) => return Ok(status),
+    };
     let Some(dialect) = matches.get_str("sql").and_then(dialect_named) else {
         return Ok(Status::Wrong);
     };

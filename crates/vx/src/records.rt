@@ -36,11 +36,10 @@ pub fn over_records(
     let format = format_of(matches, data);
     let expression = text_at(rt, matches, "expression")?;
     let schema = schema_said(rt, matches)?;
-    let name = if data == "-" { "standard input" } else { data };
     let limit = matches.get_one("limit").unwrap_or(limit);
     let command = RowsCommand {
         limit,
-        ..command_over(work, &expression, schema.as_ref(), name, format)
+        ..command_over(work, &expression, schema.as_ref(), name_of(data), format)
     };
     run_over(rt, &command, data)
 }
@@ -87,8 +86,13 @@ fn schema_said(rt: &HostRuntime, matches: &ArgMatches<'_>) -> Result<Option<Text
     Ok(Some(schema_at(rt, matches)?))
 }
 
-// The form of the records: the one that the words say, or else the one that the file's name tells.
-fn format_of(matches: &ArgMatches<'_>, data: &str) -> DataFormat {
+/// What the file is called in messages.
+pub fn name_of(data: &str) -> &str {
+    if data == "-" { "standard input" } else { data }
+}
+
+/// The form of the records: the one that the words say, or else the one that the file's name tells.
+pub fn format_of(matches: &ArgMatches<'_>, data: &str) -> DataFormat {
     match matches.get_str("format").and_then(data_format_named) {
         Some(format) => format,
         None => DataFormat::of(data),

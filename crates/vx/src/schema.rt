@@ -1,0 +1,43 @@
+// The type of the rows that a command without records is over.
+use crate::records::{format_of, name_of};
+use crate::texts::{Text, schema_at};
+use anyhow::{Context, Result};
+use clap::ArgMatches;
+use std::fs::File;
+use std::result;
+use vx_commands::{Status, UntypedRecords, guess_schema};
+
+/// The type as the words say it, or else as the records are that they name. What is wrong with these is
+/// told, and then the status is how the command ends.
+pub fn schema_of(
+    rt: &HostRuntime,
+    matches: &ArgMatches<'_>,
+) -> Result<result::Result<Text, Status>> {
+    match (matches.get_str("schema"), matches.get_str("data")) {
+        (None, Some(data)) => guessed(rt, matches, data),
+        _ => Ok(Ok(schema_at(rt, matches)?)),
+    }
+}
+
+// The type of the records of that file, or of standard input.
+fn guessed(
+    rt: &HostRuntime,
+    matches: &ArgMatches<'_>,
+    data: &str,
+) -> Result<result::Result<Text, Status>> {
+    let alloc = rt.alloc();
+    let records = UntypedRecords {
+        name: name_of(data),
+        format: format_of(matches, data),
+    };
+    let guessed = if data == "-" {
+        guess_schema(alloc, records, &mut rt.reader(), &mut rt.stderr())
+    } else {
+        let mut file = File::open(rt, data).context(format_args!("reading {data}"))?;
+        guess_schema(alloc, records, &mut file, &mut rt.stderr())
+    };
+    match guessed {
+        Ok(text) => Ok(Ok(Text::new(alloc, "schema", text)?)),
+        Err(status) => Ok(Err(status)),
+    }
+}
