@@ -16,11 +16,11 @@ use Rattle.vx_tree.proofs.expression.Expression.TheLaws.TheKnot as trees
 
 -- ---- what a node holds
 
-type_send : IsSend (DType.the_field).row
-type_send = search (sendable, heap.crosses, name.the_send, names.the_send, names.the_sync, types.crosses_both) depth 40 fits 100000
+pub type_send : IsSend (DType.the_field).row
+type_send = search (sendable, heap.crosses, names.the_send, names.the_sync, types.crosses_both) depth 40 fits 100000
 
-type_sync : IsSync (DType.the_field).row
-type_sync = search (sendable, heap.crosses, name.the_sync, names.the_send, names.the_sync, types.crosses_both) depth 40 fits 100000
+pub type_sync : IsSync (DType.the_field).row
+type_sync = search (sendable, heap.crosses, names.the_send, names.the_sync, types.crosses_both) depth 40 fits 100000
 
 function_send : IsSend (ScalarFnRef.the_field).row
 function_send = search (sendable, heap.crosses, maps.crosses, name.the_send, names.the_send, names.the_sync, types.crosses_both, values.crosses_both) depth 40 fits 100000
@@ -28,20 +28,28 @@ function_send = search (sendable, heap.crosses, maps.crosses, name.the_send, nam
 function_sync : IsSync (ScalarFnRef.the_field).row
 function_sync = search (sendable, heap.crosses, maps.crosses, name.the_sync, names.the_send, names.the_sync, types.crosses_both, values.crosses_both) depth 40 fits 100000
 
--- ---- trees
+-- ---- trees, alone and as fields
+
+tree_field_send : IsSend (Expression.the_field).row
+tree_field_send = trees.both_send-Expression function_send function_sync (λ h s y. heap.Arc-send _ (heap.Vec-send h s) (heap.Vec-sync h y)) (λ h s y. heap.Arc-sync _ (heap.Vec-send h s) (heap.Vec-sync h y))
+
+tree_field_sync : IsSync (Expression.the_field).row
+tree_field_sync = trees.both_sync-Expression function_send function_sync (λ h s y. heap.Arc-send _ (heap.Vec-send h s) (heap.Vec-sync h y)) (λ h s y. heap.Arc-sync _ (heap.Vec-send h s) (heap.Vec-sync h y))
 
 pub tree_send : IsSend Expression.the_row
-tree_send = as_row_send Expression.the_field
-    (trees.both_send-Expression function_send function_sync (λ h s y. heap.Arc-send _ (heap.Vec-send h s) (heap.Vec-sync h y)) (λ h s y. heap.Arc-sync _ (heap.Vec-send h s) (heap.Vec-sync h y)))
+tree_send = as_row_send Expression.the_field tree_field_send
 
 pub tree_sync : IsSync Expression.the_row
-tree_sync = as_row_sync Expression.the_field
-    (trees.both_sync-Expression function_send function_sync (λ h s y. heap.Arc-send _ (heap.Vec-send h s) (heap.Vec-sync h y)) (λ h s y. heap.Arc-sync _ (heap.Vec-send h s) (heap.Vec-sync h y)))
+tree_sync = as_row_sync Expression.the_field tree_field_sync
+
+pub bound_field_send : IsSend (BoundExpression.the_field).row
+bound_field_send = bounds.both_send-BoundExpression type_send type_sync function_send function_sync (λ h s y. heap.Arc-send _ (heap.Vec-send h s) (heap.Vec-sync h y)) (λ h s y. heap.Arc-sync _ (heap.Vec-send h s) (heap.Vec-sync h y))
+
+pub bound_field_sync : IsSync (BoundExpression.the_field).row
+bound_field_sync = bounds.both_sync-BoundExpression type_send type_sync function_send function_sync (λ h s y. heap.Arc-send _ (heap.Vec-send h s) (heap.Vec-sync h y)) (λ h s y. heap.Arc-sync _ (heap.Vec-send h s) (heap.Vec-sync h y))
 
 pub bound_send : IsSend BoundExpression.the_row
-bound_send = as_row_send BoundExpression.the_field
-    (bounds.both_send-BoundExpression type_send type_sync function_send function_sync (λ h s y. heap.Arc-send _ (heap.Vec-send h s) (heap.Vec-sync h y)) (λ h s y. heap.Arc-sync _ (heap.Vec-send h s) (heap.Vec-sync h y)))
+bound_send = as_row_send BoundExpression.the_field bound_field_send
 
 pub bound_sync : IsSync BoundExpression.the_row
-bound_sync = as_row_sync BoundExpression.the_field
-    (bounds.both_sync-BoundExpression type_send type_sync function_send function_sync (λ h s y. heap.Arc-send _ (heap.Vec-send h s) (heap.Vec-sync h y)) (λ h s y. heap.Arc-sync _ (heap.Vec-send h s) (heap.Vec-sync h y)))
+bound_sync = as_row_sync BoundExpression.the_field bound_field_sync
