@@ -1,5 +1,6 @@
 // Rows from records of comma-separated cells, their types guessed from such records, and rows written as such records.
 mod cells;
+mod format;
 mod guess;
 mod header;
 mod infer;
@@ -10,8 +11,9 @@ mod records;
 mod rows;
 mod write;
 
-pub use infer::infer_csv_type;
+pub use format::CsvFormat;
+pub use infer::{infer_csv_type, infer_csv_type_with};
 pub use parser::CsvParser;
 pub use records::CsvRecords;
-pub use rows::rows_from_csv;
+pub use rows::{rows_from_csv, rows_from_csv_with};
 pub use write::{CsvWriter, write_csv};

@@ -67,12 +67,15 @@ pub enum Expected {
     /// A name of the header leads into a field that is a cell itself.
     #[error("expected either a cell of that name or cells inside it")]
     CellOrStruct,
-    /// A record has another number of cells than the header.
-    #[error("expected {0} cells, as in the header")]
+    /// A record has more cells than the first.
+    #[error("expected at most {0} cells, as many as the first record has")]
     Cells(u64),
     /// A file has no header.
     #[error("expected a line with the names of the fields")]
     Header,
+    /// A file without a header has no record that tells how many cells there are.
+    #[error("expected a record, since the first one tells how many cells there are")]
+    FirstRecord,
     /// A cell holds no list.
     #[error("expected a type that a cell can hold, which {0} is not")]
     CellType(DType),

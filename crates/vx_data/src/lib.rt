@@ -12,7 +12,10 @@ mod recorded;
 mod wholes;
 
 pub use builder::ColumnBuilder;
-pub use csv_files::{CsvParser, CsvRecords, CsvWriter, infer_csv_type, rows_from_csv, write_csv};
+pub use csv_files::{
+    CsvFormat, CsvParser, CsvRecords, CsvWriter, infer_csv_type, infer_csv_type_with,
+    rows_from_csv, rows_from_csv_with, write_csv,
+};
 pub use error::{DataError, WriteError};
 pub use expected::Expected;
 pub use fault::Fault;

@@ -75,7 +75,7 @@ impl Call {
 /// What the call answers to these columns, or what it refuses with.
 pub fn answer(
     alloc: Global,
-    format: Format,
+    format: Format<'_>,
     call: Call,
     columns: &[&str],
 ) -> Result<String, Unread> {
@@ -96,7 +96,7 @@ pub fn answer(
 
 fn untyped_answer(
     alloc: Global,
-    format: Format,
+    format: Format<'_>,
     call: UntypedCall,
     file: &[u8],
 ) -> Result<String, AllocError> {
@@ -104,13 +104,16 @@ fn untyped_answer(
         (UntypedCall::Type, _) => guessed(alloc, format, file),
         (UntypedCall::CutType, _) => shown(alloc, format.guess(alloc, file.chain(Cut))),
         (UntypedCall::Records, Format::Json) => shown(alloc, json_records(alloc, file)),
-        (UntypedCall::Records, Format::Csv) => shown(alloc, csv_records(alloc, file)),
+        (UntypedCall::Records, Format::Csv(format)) => shown(
+            alloc,
+            csv_records(alloc, format, file),
+        ),
     }
 }
 
 fn typed_answer(
     alloc: Global,
-    format: Format,
+    format: Format<'_>,
     call: TypedCall,
     dtype: &DType,
     file: &[u8],
@@ -134,7 +137,12 @@ fn shown<T: Display + Drop, E: Display + Drop>(
     }
 }
 
-fn rows(alloc: Global, format: Format, dtype: &DType, file: &[u8]) -> Result<String, AllocError> {
+fn rows(
+    alloc: Global,
+    format: Format<'_>,
+    dtype: &DType,
+    file: &[u8],
+) -> Result<String, AllocError> {
     let column = match format.read(alloc, dtype, file) {
         Ok(column) => Box::new(alloc, column)?,
         Err(refusal) => return format!(in alloc; "{refusal}"),
@@ -145,7 +153,7 @@ fn rows(alloc: Global, format: Format, dtype: &DType, file: &[u8]) -> Result<Str
     }
 }
 
-fn guessed(alloc: Global, format: Format, file: &[u8]) -> Result<String, AllocError> {
+fn guessed(alloc: Global, format: Format<'_>, file: &[u8]) -> Result<String, AllocError> {
     let dtype = match format.guess(alloc, file) {
         Ok(dtype) => Box::new(alloc, dtype)?,
         Err(refusal) => return format!(in alloc; "{refusal}"),
@@ -158,7 +166,7 @@ fn guessed(alloc: Global, format: Format, file: &[u8]) -> Result<String, AllocEr
 
 fn written(
     alloc: Global,
-    format: Format,
+    format: Format<'_>,
     dtype: &DType,
     lines: &[u8],
 ) -> Result<String, AllocError> {
@@ -169,7 +177,12 @@ fn written(
     file_text(alloc, format.write(alloc, &column))
 }
 
-fn twice(alloc: Global, format: Format, dtype: &DType, lines: &[u8]) -> Result<String, AllocError> {
+fn twice(
+    alloc: Global,
+    format: Format<'_>,
+    dtype: &DType,
+    lines: &[u8],
+) -> Result<String, AllocError> {
     let column = match Format::Json.read(alloc, dtype, lines) {
         Ok(column) => Box::new(alloc, column)?,
         Err(refusal) => return format!(in alloc; "no rows: {refusal}"),
@@ -178,7 +191,7 @@ fn twice(alloc: Global, format: Format, dtype: &DType, lines: &[u8]) -> Result<S
         alloc,
         match format {
             Format::Json => json_twice(alloc, &column),
-            Format::Csv => csv_twice(alloc, &column),
+            Format::Csv(_) => csv_twice(alloc, &column),
         },
     )
 }

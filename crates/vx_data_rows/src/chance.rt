@@ -12,7 +12,7 @@ use vx_types::Column;
 const ROOM: usize = 16;
 
 /// What becomes of that many columns by chance, `SEED COUNT`, which are written and read again.
-pub fn written_by_chance(alloc: Global, format: Format, words: &str) -> Result<String, Unread> {
+pub fn written_by_chance(alloc: Global, format: Format<'_>, words: &str) -> Result<String, Unread> {
     let (seed, count) = seed_and_count(words)?;
     let mut numbers = Numbers::new(seed);
     let mut refused: u64 = 0;
@@ -46,7 +46,7 @@ fn seed_and_count(words: &str) -> Result<(u64, u64), Unread> {
 }
 
 // A column with up to eight rows by chance, of a type by chance that the format can hold.
-fn column(alloc: Global, format: Format, numbers: &mut Numbers) -> Result<Box<Column>, Unread> {
+fn column(alloc: Global, format: Format<'_>, numbers: &mut Numbers) -> Result<Box<Column>, Unread> {
     let text = type_text(alloc, format, numbers)?;
     let dtype = Box::new(alloc, parse_type(alloc, text.as_str())?)?;
     let mut rows = Vec::new(alloc);

@@ -2,39 +2,41 @@
 use std::alloc::Global;
 use std::io::BufRead;
 use vx_data::{
-    DataError, WriteError, infer_csv_type, infer_json_type, rows_from_csv, rows_from_json_lines,
-    write_csv, write_json_lines,
+    CsvFormat, DataError, WriteError, infer_csv_type_with, infer_json_type, rows_from_csv,
+    rows_from_csv_with, rows_from_json_lines, write_csv, write_json_lines,
 };
 use vx_types::{Column, DType};
 
 /// The format of a file.
 #[derive(Clone, Copy)]
-pub enum Format {
+pub enum Format<'a> {
     Json,
-    Csv,
+    Csv(CsvFormat<'a>),
 }
 
-// All formats.
-const FORMATS: [Format; 2] = [Format::Json, Format::Csv];
-
-impl Format {
-    /// The format of that name.
-    pub fn named(name: &str) -> Option<Format> {
-        FORMATS.iter().find(|format| format.name() == name).copied()
-    }
-
-    fn name(self) -> &'static str {
-        match self {
-            Format::Json => "json",
-            Format::Csv => "csv",
+impl<'a> Format<'a> {
+    /// The format of that name: `json`; or `csv`, and behind it what is other than by default, as in
+    /// `csv:no-header:delimiter=tab:comment=#:null=NA`.
+    pub fn named(name: &'a str) -> Option<Format<'a>> {
+        if name == "json" {
+            return Some(Format::Json);
         }
+        let mut parts = name.split(':');
+        if parts.next() != Some("csv") {
+            return None;
+        }
+        let mut format = CsvFormat::default();
+        for part in parts {
+            format = with_part(format, part)?;
+        }
+        Some(Format::Csv(format))
     }
 
     /// Whether it can hold lists.
     pub fn holds_lists(self) -> bool {
         match self {
             Format::Json => true,
-            Format::Csv => false,
+            Format::Csv(_) => false,
         }
     }
 
@@ -47,7 +49,10 @@ impl Format {
     ) -> Result<Column, DataError> {
         match self {
             Format::Json => rows_from_json_lines(alloc, dtype, file),
-            Format::Csv => rows_from_csv(alloc, dtype, file),
+            Format::Csv(format) if format == CsvFormat::default() => {
+                rows_from_csv(alloc, dtype, file)
+            }
+            Format::Csv(format) => rows_from_csv_with(alloc, dtype, format, file),
         }
     }
 
@@ -55,16 +60,16 @@ impl Format {
     pub fn guess<R: BufRead + Drop>(self, alloc: Global, file: R) -> Result<DType, DataError> {
         match self {
             Format::Json => infer_json_type(alloc, file),
-            Format::Csv => infer_csv_type(alloc, file),
+            Format::Csv(format) => infer_csv_type_with(alloc, format, file),
         }
     }
 
-    /// The file of those rows.
+    /// The file of those rows, of CSV by default.
     pub fn write(self, alloc: Global, column: &Column) -> Result<Vec<u8>, WriteError> {
         let mut file = Vec::new(alloc);
         match self {
             Format::Json => write_json_lines(alloc, column, &mut file)?,
-            Format::Csv => write_csv(alloc, column, &mut file)?,
+            Format::Csv(_) => write_csv(alloc, column, &mut file)?,
         }
         Ok(file)
     }
@@ -81,7 +86,11 @@ impl Format {
     }
 
     fn read_again(self, alloc: Global, column: &Column, file: &[u8]) -> Again {
-        let Ok(again) = self.read(alloc, column.dtype(), file) else {
+        let written = match self {
+            Format::Json => Format::Json,
+            Format::Csv(_) => Format::Csv(CsvFormat::default()),
+        };
+        let Ok(again) = written.read(alloc, column.dtype(), file) else {
             return Again::Other;
         };
         if again == *column {
@@ -89,6 +98,41 @@ impl Format {
         } else {
             Again::Other
         }
+    }
+}
+
+// The same format, with what the part says.
+fn with_part<'a>(format: CsvFormat<'a>, part: &'a str) -> Option<CsvFormat<'a>> {
+    if part == "no-header" {
+        return Some(CsvFormat {
+            has_header: false,
+            ..format
+        });
+    }
+    let (name, value) = part.split_once('=')?;
+    match name {
+        "delimiter" => Some(CsvFormat {
+            delimiter: byte_named(value)?,
+            ..format
+        }),
+        "comment" => Some(CsvFormat {
+            comment: Some(byte_named(value)?),
+            ..format
+        }),
+        "null" => Some(CsvFormat {
+            null: Some(value),
+            ..format
+        }),
+        _ => None,
+    }
+}
+
+// The byte of that word: a tab, or the one that it is.
+fn byte_named(word: &str) -> Option<u8> {
+    match word.as_bytes() {
+        b"tab" => Some(b'\t'),
+        [byte] => Some(*byte),
+        _ => None,
     }
 }
 

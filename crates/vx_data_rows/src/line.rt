@@ -33,7 +33,12 @@ fn columns_of(alloc: Global, text: &str, count: usize) -> Result<Vec<&str>, Allo
     Ok(columns)
 }
 
-fn compare(alloc: Global, format: Format, call: Call, columns: &[&str]) -> Result<Judged, Unread> {
+fn compare(
+    alloc: Global,
+    format: Format<'_>,
+    call: Call,
+    columns: &[&str],
+) -> Result<Judged, Unread> {
     let Some((wanted, columns)) = columns.split_last() else {
         return Err(Unread::Word("no answer"));
     };

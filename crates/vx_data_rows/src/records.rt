@@ -1,7 +1,7 @@
 // Records as they stood.
 use std::alloc::{AllocError, Global};
 use std::str;
-use vx_data::{CsvRecords, DataError, JsonLines};
+use vx_data::{CsvFormat, CsvRecords, DataError, JsonLines};
 
 /// Each record of a file of JSON lines behind its line, as `1: 7 / 3: 8`.
 pub fn json_records(alloc: Global, file: &[u8]) -> Result<String, DataError> {
@@ -16,9 +16,9 @@ pub fn json_records(alloc: Global, file: &[u8]) -> Result<String, DataError> {
     Ok(text)
 }
 
-/// Each record of a CSV file behind its line, the header first.
-pub fn csv_records(alloc: Global, file: &[u8]) -> Result<String, DataError> {
-    let mut records = CsvRecords::new(alloc, file);
+/// Each record of a CSV file of that format behind its line, the header first.
+pub fn csv_records(alloc: Global, format: CsvFormat<'_>, file: &[u8]) -> Result<String, DataError> {
+    let mut records = CsvRecords::with_format(alloc, file, format);
     let mut text = String::new(alloc);
     for _ in 0..u64::MAX {
         if !records.read_record()? {

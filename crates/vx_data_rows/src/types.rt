@@ -20,7 +20,7 @@ const LAYERS: usize = 4;
 /// A type that the format can hold: of CSV a struct, and no list in it.
 pub fn type_text(
     alloc: Global,
-    format: Format,
+    format: Format<'_>,
     numbers: &mut Numbers,
 ) -> Result<String, AllocError> {
     let mut below = flat_types(alloc)?;
@@ -29,7 +29,7 @@ pub fn type_text(
     }
     match format {
         Format::Json => other_type(alloc, below.as_slice(), format, numbers),
-        Format::Csv => struct_type(alloc, below.as_slice(), numbers),
+        Format::Csv(_) => struct_type(alloc, below.as_slice(), numbers),
     }
 }
 
@@ -45,7 +45,7 @@ fn flat_types(alloc: Global) -> Result<Vec<String>, AllocError> {
 fn layer_over(
     alloc: Global,
     below: &[String],
-    format: Format,
+    format: Format<'_>,
     numbers: &mut Numbers,
 ) -> Result<Vec<String>, AllocError> {
     let mut layer = Vec::with_capacity(alloc, WIDTH)?;
@@ -58,7 +58,7 @@ fn layer_over(
 fn other_type(
     alloc: Global,
     below: &[String],
-    format: Format,
+    format: Format<'_>,
     numbers: &mut Numbers,
 ) -> Result<String, AllocError> {
     let mark = numbers.pick(&["", "?"]);

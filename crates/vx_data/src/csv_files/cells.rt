@@ -13,6 +13,8 @@ use vx_types::{DType, Value};
 pub(crate) struct Found<'a> {
     pub(crate) record: &'a ByteRecord,
     pub(crate) places: &'a [Option<usize>],
+    /// The text of a cell that is null where an empty one would be.
+    pub(crate) null: Option<&'a [u8]>,
 }
 
 impl<'a> Found<'a> {
@@ -24,10 +26,15 @@ impl<'a> Found<'a> {
         }
     }
 
-    // Whether the cells from one number up to another are all empty.
-    fn are_empty(&self, start: usize, end: usize) -> bool {
+    // Whether a cell of that text is null where it may be.
+    fn is_null(&self, text: &[u8]) -> bool {
+        text.is_empty() || self.null == Some(text)
+    }
+
+    // Whether the cells from one number up to another are all null where they may be.
+    fn are_null(&self, start: usize, end: usize) -> bool {
         for cell in start..end {
-            if !self.cell(cell).is_empty() {
+            if !self.is_null(self.cell(cell)) {
                 return false;
             }
         }
@@ -39,9 +46,9 @@ impl<'a> Found<'a> {
 #[cycle(read)]
 pub(crate) fn read_value(plan: &Plan, alloc: Global, found: &Found<'_>) -> Result<Value, Fault> {
     match plan {
-        Plan::Cell { dtype, cell } => cell_value(alloc, dtype, found.cell(*cell)),
+        Plan::Cell { dtype, cell } => cell_value(alloc, dtype, found, *cell),
         Plan::Struct(plan) => {
-            if plan.nullable && found.are_empty(plan.start, plan.end) {
+            if plan.nullable && found.are_null(plan.start, plan.end) {
                 return Ok(Value::Null);
             }
             Ok(Value::Struct(read_fields(&plan.fields, alloc, found)?))
@@ -65,12 +72,18 @@ fn read_fields(
     Ok(values)
 }
 
-// The value of that type that the cell is.
-fn cell_value(alloc: Global, dtype: &DType, cell: &[u8]) -> Result<Value, Fault> {
-    if cell.is_empty() && dtype.is_nullable() {
+// The value of that type that the cell of that number is.
+fn cell_value(
+    alloc: Global,
+    dtype: &DType,
+    found: &Found<'_>,
+    cell: usize,
+) -> Result<Value, Fault> {
+    let text = found.cell(cell);
+    if dtype.is_nullable() && found.is_null(text) {
         return Ok(Value::Null);
     }
-    match str::from_utf8(cell) {
+    match str::from_utf8(text) {
         Ok(text) => text_value(alloc, dtype, text),
         Err(_) => Err(Fault::new(alloc, Expected::Utf8)),
     }

@@ -1,4 +1,4 @@
-// The names of a header.
+// The names of cells.
 use crate::expected::Expected;
 use crate::fault::Fault;
 use csv::ByteRecord;
@@ -6,14 +6,36 @@ use std::alloc::Global;
 use std::str;
 use vx_types::FieldName;
 
-/// The names of the cells, each as it stands in the header. Refuses a name that stands there twice.
-pub(crate) fn cell_names(alloc: Global, header: &ByteRecord) -> Result<Vec<FieldName>, Fault> {
+/// The names of the cells of a file that begins with that record: as they stand in it where it is the header, else
+/// `column1`, `column2`, and so on.
+pub(crate) fn cell_names(
+    alloc: Global,
+    first: &ByteRecord,
+    has_header: bool,
+) -> Result<Vec<FieldName>, Fault> {
+    if has_header {
+        header_names(alloc, first)
+    } else {
+        numbered_names(alloc, first.len())
+    }
+}
+
+fn header_names(alloc: Global, header: &ByteRecord) -> Result<Vec<FieldName>, Fault> {
     let mut names = Vec::new(alloc);
     for cell in header.iter() {
         let Ok(name) = str::from_utf8(cell) else {
             return Err(Fault::new(alloc, Expected::Utf8));
         };
         names.push(named(alloc, name)?)?;
+    }
+    Ok(names)
+}
+
+fn numbered_names(alloc: Global, count: usize) -> Result<Vec<FieldName>, Fault> {
+    let mut names = Vec::with_capacity(alloc, count)?;
+    for i in 0..count {
+        let name = format!(in alloc; "column{}", i.saturating_add(1))?;
+        names.push(named(alloc, name.as_str())?)?;
     }
     Ok(names)
 }

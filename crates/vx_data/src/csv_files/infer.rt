@@ -1,6 +1,7 @@
 // Types guessed from CSV files.
 ghost use Rattle.std.specs.Prelude.{◌≡◌, length};
 
+use crate::csv_files::format::CsvFormat;
 use crate::csv_files::guess::CellGuess;
 use crate::csv_files::header::{cell_names, fault_at, named};
 use crate::csv_files::records::CsvRecords;
@@ -19,16 +20,24 @@ const RECORDS: usize = 1_000;
 /// The narrowest type of the first 1,000 records behind the header, fewer where there are no more: a struct of its names in
 /// their order, in which a name with dots leads to a field of a field. A cell that is always `true` or `false` is
 /// `bool`; one that is always a whole number as it is written, `i64`, or `u64` where one is above the range of `i64`; any
-/// other `utf8`, also one that has no text at all. It is nullable where it is empty in some record; no struct is. Refuses a
-/// file without a header, a name that stands there twice or that is both a cell and the way to others, a cell that is no
-/// text in UTF-8, a record of another number of cells, each with its line; with the reader's error; and with
+/// other `utf8`, also one that has no text at all. It is nullable where some record lacks it or has an empty one; no struct
+/// is. Refuses a file without a header, a name that stands there twice or that is both a cell and the way to others, a cell
+/// that is no text in UTF-8, a record of more cells than the header, each with its line; with the reader's error; and with
 /// `OutOfMemory`.
 pub fn infer_csv_type<R: Read + Drop>(alloc: Global, reader: R) -> Result<DType, DataError> {
-    let mut records = CsvRecords::new(alloc, reader);
-    if !records.read_record()? {
-        return Err(Fault::new(alloc, Expected::Header).on_line(alloc, 1));
-    }
-    let (branches, mut guesses) = match fields_of(alloc, records.cells()) {
+    infer_csv_type_with(alloc, CsvFormat::default(), reader)
+}
+
+/// The same of records of that format. A cell of its text for null is as an empty one. Where it has no header the names
+/// are the format's, and a file without a record is refused.
+pub fn infer_csv_type_with<R: Read + Drop>(
+    alloc: Global,
+    format: CsvFormat<'_>,
+    reader: R,
+) -> Result<DType, DataError> {
+    let mut records = CsvRecords::with_format(alloc, reader, format);
+    records.read_first()?;
+    let (branches, mut guesses) = match fields_of(alloc, records.cells(), format.has_header) {
         Ok(fields) => fields,
         Err(fault) => return Err(fault.on_line(alloc, records.line())),
     };
@@ -36,7 +45,7 @@ pub fn infer_csv_type<R: Read + Drop>(alloc: Global, reader: R) -> Result<DType,
         if !records.read_record()? {
             break;
         }
-        if let Err(fault) = see_record(alloc, records.cells(), &mut guesses) {
+        if let Err(fault) = see_record(alloc, records.cells(), format.null, &mut guesses) {
             return Err(fault.on_line(alloc, records.line()));
         }
     }
@@ -53,9 +62,13 @@ struct NamedGuess {
     guess: CellGuess,
 }
 
-// The fields of that header, and its cells, of which no text was seen.
-fn fields_of(alloc: Global, header: &ByteRecord) -> Result<(Vec<Branch>, Vec<NamedGuess>), Fault> {
-    let names = cell_names(alloc, header)?;
+// The fields of a file that begins with that record, and its cells, of which no text was seen.
+fn fields_of(
+    alloc: Global,
+    first: &ByteRecord,
+    has_header: bool,
+) -> Result<(Vec<Branch>, Vec<NamedGuess>), Fault> {
+    let names = cell_names(alloc, first, has_header)?;
     let branches = branches_of(alloc, names.as_slice())?;
     let mut guesses = Vec::with_capacity(alloc, names.len())?;
     for name in names {
@@ -65,13 +78,17 @@ fn fields_of(alloc: Global, header: &ByteRecord) -> Result<(Vec<Branch>, Vec<Nam
     Ok((branches, guesses))
 }
 
+// Sees the record, in which the cells are empty that it lacks at its end, and those of the text for null.
 fn see_record(
     alloc: Global,
     record: &ByteRecord,
+    null: Option<&str>,
     guesses: &mut Vec<NamedGuess>,
 ) -> Result<(), Fault> {
-    for (cell, text) in guesses.iter_mut().zip(record.iter()) {
-        match str::from_utf8(text) {
+    let mut texts = record.iter();
+    for cell in guesses.iter_mut() {
+        match str::from_utf8(texts.next().unwrap_or(&[])) {
+            Ok(text) if null == Some(text) => cell.guess = cell.guess.and(""),
             Ok(text) => cell.guess = cell.guess.and(text),
             Err(_) => return Err(fault_at(alloc, Expected::Utf8, cell.name.as_str())),
         }

@@ -1,5 +1,6 @@
 // Records read as values of a type.
 use crate::csv_files::cells::{Found, read_value};
+use crate::csv_files::format::CsvFormat;
 use crate::csv_files::header::{cell_names, fault_at};
 use crate::csv_files::plan::{Cells, FieldPlan, Plan, first_repeated, listed};
 use crate::error::DataError;
@@ -16,6 +17,8 @@ pub struct CsvParser {
     plan: Plan,
     // For each cell of the type, where it stands in a record.
     places: Vec<Option<usize>>,
+    // The text of a cell that is null where an empty one would be.
+    null: Option<String>,
 }
 
 impl CsvParser {
@@ -30,20 +33,33 @@ impl CsvParser {
         line: u64,
         header: &ByteRecord,
     ) -> Result<CsvParser, DataError> {
-        match parser_of(alloc, dtype, header) {
+        CsvParser::with_format(alloc, dtype, line, header, CsvFormat::default())
+    }
+
+    /// The same of a file of that format. Where it has no header the record is the first row, and the names are the
+    /// format's. The format's text for null is null wherever an empty cell is.
+    pub fn with_format(
+        alloc: Global,
+        dtype: &DType,
+        line: u64,
+        first: &ByteRecord,
+        format: CsvFormat<'_>,
+    ) -> Result<CsvParser, DataError> {
+        match parser_of(alloc, dtype, first, format) {
             Ok(parser) => Ok(parser),
             Err(fault) => Err(fault.on_line(alloc, line)),
         }
     }
 
-    /// The value that the record on that line is: an empty cell is null where its type is nullable, and a struct whose
-    /// cells are all empty where that is; else `true`, `false`, a whole number of the type's range, a text, or bytes as `0x`
+    /// The value that the record on that line is, in which the cells are empty that it lacks at its end: an empty cell is
+    /// null where its type is nullable, and a struct whose cells are all empty where that is; else `true`, `false`, a whole number of the type's range, a text, or bytes as `0x`
     /// and two digits each. Refuses with the line, the path of the field, and what is expected there, and with
     /// `OutOfMemory`.
     pub fn parse(&self, line: u64, record: &ByteRecord) -> Result<Value, DataError> {
         let found = Found {
             record,
             places: self.places.as_slice(),
+            null: self.null.as_ref().map(String::as_bytes),
         };
         match read_value(&self.plan, self.alloc, &found) {
             Ok(value) => Ok(value),
@@ -52,16 +68,26 @@ impl CsvParser {
     }
 }
 
-fn parser_of(alloc: Global, dtype: &DType, header: &ByteRecord) -> Result<CsvParser, Fault> {
+fn parser_of(
+    alloc: Global,
+    dtype: &DType,
+    first: &ByteRecord,
+    format: CsvFormat<'_>,
+) -> Result<CsvParser, Fault> {
     let Cells { plan, names } = Cells::of(alloc, dtype)?;
-    let header = listed(alloc, cell_names(alloc, header)?)?;
+    let header = listed(alloc, cell_names(alloc, first, format.has_header)?)?;
     check_header(alloc, &header, &names)?;
     let places = places_of(alloc, &names, &header)?;
     check_present(&plan, alloc, places.as_slice())?;
+    let null = match format.null {
+        Some(text) => Some(String::from_str(alloc, text)?),
+        None => None,
+    };
     Ok(CsvParser {
         alloc,
         plan,
         places,
+        null,
     })
 }
 

@@ -3,11 +3,10 @@ ghost use Rattle.std.specs.Prelude.{◌≡◌, IfOk};
 ghost use Rattle.vx_value.specs.Views.{type_of};
 
 use crate::builder::ColumnBuilder;
+use crate::csv_files::format::CsvFormat;
 use crate::csv_files::parser::CsvParser;
 use crate::csv_files::records::CsvRecords;
 use crate::error::DataError;
-use crate::expected::Expected;
-use crate::fault::Fault;
 use std::alloc::Global;
 use std::io::Read;
 use vx_types::{Column, DType};
@@ -23,11 +22,21 @@ pub fn rows_from_csv<R: Read + Drop>(
 ) -> Result<Column, DataError>
     ensures { IfOk result (λ c. c.type ≡ type_of dtype.now) }
 {
-    let mut records = CsvRecords::new(alloc, reader);
-    if !records.read_record()? {
-        return Err(Fault::new(alloc, Expected::Header).on_line(alloc, 1));
-    }
-    let parser = CsvParser::new(alloc, dtype, records.line(), records.cells())?;
+    rows_from_csv_with(alloc, dtype, CsvFormat::default(), reader)
+}
+
+/// The same of records of that format. Where it has no header, a file without a record is refused.
+pub fn rows_from_csv_with<R: Read + Drop>(
+    alloc: Global,
+    dtype: &DType,
+    format: CsvFormat<'_>,
+    reader: R,
+) -> Result<Column, DataError>
+    ensures { IfOk result (λ c. c.type ≡ type_of dtype.now) }
+{
+    let mut records = CsvRecords::with_format(alloc, reader, format);
+    records.read_first()?;
+    let parser = CsvParser::with_format(alloc, dtype, records.line(), records.cells(), format)?;
     let mut rows = ColumnBuilder::new(alloc, dtype.clone()?);
     'records: for _ in 0..u64::MAX {
         if !records.read_record()? {
