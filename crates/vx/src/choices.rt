@@ -1,6 +1,6 @@
 // Words of the command line that choose one of a few things: each list of words beside what they name,
 // in the same order.
-use vx_commands::{DataFormat, Dialect, OutputFormat};
+use vx_commands::{CsvFormat, DataFormat, Dialect, OutputFormat};
 
 /// The engines.
 pub const ENGINES: &[&str] = &["postgres", "sqlite", "duckdb", "spark"];
@@ -14,8 +14,6 @@ const DIALECTS: &[Dialect] = &[
 
 /// The forms of records.
 pub const FORMATS: &[&str] = &["json", "csv"];
-
-const DATA_FORMATS: &[DataFormat] = &[DataFormat::JsonLines, DataFormat::Csv];
 
 /// The forms of rows.
 pub const OUTPUTS: &[&str] = &["json", "csv", "table"];
@@ -32,8 +30,23 @@ pub fn dialect_named(word: &str) -> Option<Dialect> {
 }
 
 /// The form of records of that name.
-pub fn data_format_named(word: &str) -> Option<DataFormat> {
-    named(word, FORMATS, DATA_FORMATS)
+pub fn data_format_named(word: &str) -> Option<DataFormat<'static>> {
+    match word {
+        "json" => Some(DataFormat::JsonLines),
+        "csv" => Some(DataFormat::Csv(CsvFormat::default())),
+        _ => None,
+    }
+}
+
+/// The byte that may stand between cells or begin a comment: `tab`, or an ASCII character other than a double quote and
+/// the ends of lines.
+pub fn mark_named(word: &str) -> Option<u8> {
+    match word.as_bytes() {
+        b"tab" => Some(b'\t'),
+        [b'"' | b'\n' | b'\r'] => None,
+        [byte] => Some(*byte),
+        _ => None,
+    }
 }
 
 /// The form of rows of that name.

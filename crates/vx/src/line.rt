@@ -168,10 +168,17 @@ fn over_records<'a>(
     data: Arg<'a>,
 ) -> Result<Command<'a>, AllocError> {
     let command = command.arg(schema)?.arg(data)?;
+    form(alloc, command.arg(expression(alloc))?)?.arg(limit(alloc))
+}
+
+// Adds what says in what form records stand.
+fn form<'a>(alloc: Global, command: Command<'a>) -> Result<Command<'a>, AllocError> {
     command
-        .arg(expression(alloc))?
         .arg(format(alloc))?
-        .arg(limit(alloc))
+        .arg(delimiter(alloc))?
+        .arg(no_header(alloc))?
+        .arg(null(alloc))?
+        .arg(comment(alloc))
 }
 
 fn data<'a>(alloc: Global) -> Arg<'a> {
@@ -188,7 +195,42 @@ fn format<'a>(alloc: Global) -> Arg<'a> {
         .value_name("FORM")
         .action(ArgAction::Set)
         .value_parser(FORMATS)
-        .help("The form of the records; without it csv where the file's name ends so, else json")
+        .help(
+            "The form of the records; without it csv where the file's name ends in .csv or .tsv, else json",
+        )
+}
+
+fn delimiter<'a>(alloc: Global) -> Arg<'a> {
+    Arg::new(alloc, "delimiter")
+        .long("delimiter")
+        .value_name("CHARACTER")
+        .action(ArgAction::Set)
+        .help(
+            "What stands between the cells of a CSV file, or the word tab; without it a comma, in .tsv a tab",
+        )
+}
+
+fn no_header<'a>(alloc: Global) -> Arg<'a> {
+    Arg::new(alloc, "no-header")
+        .long("no-header")
+        .action(ArgAction::SetTrue)
+        .help("The CSV file has no header: its cells are called column1, column2, and so on")
+}
+
+fn null<'a>(alloc: Global) -> Arg<'a> {
+    Arg::new(alloc, "null")
+        .long("null")
+        .value_name("TEXT")
+        .action(ArgAction::Set)
+        .help("A cell of this text is null where an empty one is")
+}
+
+fn comment<'a>(alloc: Global) -> Arg<'a> {
+    Arg::new(alloc, "comment")
+        .long("comment")
+        .value_name("CHARACTER")
+        .action(ArgAction::Set)
+        .help("What begins a line of a CSV file that is no record")
 }
 
 fn limit<'a>(alloc: Global) -> Arg<'a> {
@@ -233,10 +275,7 @@ fn query<'a>(
         .about(about)
         .after_help(example)
         .arg(schema)?;
-    command
-        .arg(data(alloc))?
-        .arg(format(alloc))?
-        .arg(expression(alloc))
+    form(alloc, command.arg(data(alloc))?)?.arg(expression(alloc))
 }
 
 // The type of the rows, which records may tell in its place.

@@ -1,12 +1,14 @@
 // Commands that go over the records of a file.
-use crate::choices::{data_format_named, output_format_named};
+use crate::choices::{data_format_named, mark_named, output_format_named};
 use crate::progress::Progress;
 use crate::texts::{Text, schema_at, text_at};
 use anyhow::{Context, Result};
 use clap::ArgMatches;
 use std::fs::File;
 use std::num::NonZeroUsize;
-use vx_commands::{DataFormat, OutputFormat, RecordsTask, RowsCommand, Schema, Status, run_rows};
+use vx_commands::{
+    CsvFormat, DataFormat, OutputFormat, RecordsTask, RowsCommand, Schema, Status, run_rows,
+};
 
 /// The form in which rows are printed, as the words say.
 pub fn output_of(matches: &ArgMatches<'_>) -> Option<OutputFormat> {
@@ -33,7 +35,9 @@ pub fn over_records(
         .get_str("data")
         .or_else(|| matches.get_str("stats"))
         .unwrap_or("-");
-    let format = format_of(matches, data);
+    let Some(format) = format_told(rt, matches, data)? else {
+        return Ok(Status::Wrong);
+    };
     let expression = text_at(rt, matches, "expression")?;
     let schema = schema_said(rt, matches)?;
     let limit = matches.get_one("limit").unwrap_or(limit);
@@ -51,7 +55,7 @@ fn command_over<'a>(
     expression: &'a Text,
     schema: Option<&'a Text>,
     data: &'a str,
-    format: DataFormat,
+    format: DataFormat<'a>,
 ) -> RowsCommand<'a> {
     RowsCommand {
         work,
@@ -91,10 +95,64 @@ pub fn name_of(data: &str) -> &str {
     if data == "-" { "standard input" } else { data }
 }
 
-/// The form of the records: the one that the words say, or else the one that the file's name tells.
-pub fn format_of(matches: &ArgMatches<'_>, data: &str) -> DataFormat {
-    match matches.get_str("format").and_then(data_format_named) {
+/// The form of the records: the one that the words say, or else the one that the file's name tells. Where the words say
+/// none, that is told, and there is none.
+pub fn format_told<'a>(
+    rt: &HostRuntime,
+    matches: &ArgMatches<'a>,
+    data: &str,
+) -> Result<Option<DataFormat<'a>>> {
+    match format_of(matches, data) {
+        Ok(format) => Ok(Some(format)),
+        Err(why) => {
+            rt.eprintln(format_args!("error: {why}"))?;
+            Ok(None)
+        }
+    }
+}
+
+// The form of the records, or why the words say none.
+fn format_of<'a>(matches: &ArgMatches<'a>, data: &str) -> Result<DataFormat<'a>, &'static str> {
+    let format = match matches.get_str("format").and_then(data_format_named) {
         Some(format) => format,
         None => DataFormat::of(data),
+    };
+    match format {
+        DataFormat::Csv(format) => Ok(DataFormat::Csv(csv_format(matches, format)?)),
+        DataFormat::JsonLines if says_csv(matches) => {
+            Err("--delimiter, --no-header, --comment and --null are for CSV: add --format csv")
+        }
+        DataFormat::JsonLines => Ok(DataFormat::JsonLines),
     }
+}
+
+// Whether the words say something of CSV.
+fn says_csv(matches: &ArgMatches<'_>) -> bool {
+    let words = ["delimiter", "comment", "null"];
+    matches.get_flag("no-header") || words.iter().any(|id| matches.contains_id(id))
+}
+
+// The format, but for what the words say; or why they say none.
+fn csv_format<'a>(
+    matches: &ArgMatches<'a>,
+    format: CsvFormat<'a>,
+) -> Result<CsvFormat<'a>, &'static str> {
+    let delimiter = match matches.get_str("delimiter") {
+        Some(word) => mark_named(word).ok_or(
+            "--delimiter is an ASCII character other than a double quote, or the word tab",
+        )?,
+        None => format.delimiter,
+    };
+    let comment = match matches.get_str("comment") {
+        Some(word) => Some(mark_named(word).ok_or(
+            "--comment is an ASCII character other than a double quote",
+        )?),
+        None => None,
+    };
+    Ok(CsvFormat {
+        delimiter,
+        has_header: !matches.get_flag("no-header"),
+        comment,
+        null: matches.get_str("null"),
+    })
 }

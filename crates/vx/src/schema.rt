@@ -1,5 +1,5 @@
 // The type of the rows that a command without records is over.
-use crate::records::{format_of, name_of};
+use crate::records::{format_told, name_of};
 use crate::texts::{Text, schema_at};
 use anyhow::{Context, Result};
 use clap::ArgMatches;
@@ -20,15 +20,18 @@ pub fn schema_of(
 }
 
 // The type of the records of that file, or of standard input.
-fn guessed(
+fn guessed<'a>(
     rt: &HostRuntime,
-    matches: &ArgMatches<'_>,
-    data: &str,
+    matches: &ArgMatches<'a>,
+    data: &'a str,
 ) -> Result<result::Result<Text, Status>> {
     let alloc = rt.alloc();
+    let Some(format) = format_told(rt, matches, data)? else {
+        return Ok(Err(Status::Wrong));
+    };
     let records = UntypedRecords {
         name: name_of(data),
-        format: format_of(matches, data),
+        format,
     };
     let guessed = if data == "-" {
         guess_schema(alloc, records, &mut rt.reader(), &mut rt.stderr())

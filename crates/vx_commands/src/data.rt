@@ -3,24 +3,33 @@ use crate::error::RowsError;
 use std::alloc::Global;
 use std::io::{BufReader, Read};
 use vx_command_pages::Span;
-use vx_data::{DataError, Recorded, WriteError, infer_csv_type, infer_json_type};
+use vx_data::{CsvFormat, DataError, Recorded, WriteError, infer_csv_type_with, infer_json_type};
 use vx_records::RecordsError;
 use vx_types::DType;
 
 /// In what form records stand in a file.
 #[derive(Clone, Copy, Debug, PartialEq, Eq)]
-pub enum DataFormat {
+pub enum DataFormat<'a> {
     /// A line of JSON for each record.
     JsonLines,
-    /// A CSV file, with a header.
-    Csv,
+    /// A CSV file of that format.
+    Csv(CsvFormat<'a>),
 }
 
-impl DataFormat {
-    /// The form of a file of that name: CSV where it ends in `.csv`, else JSON lines.
-    pub fn of(name: &str) -> DataFormat {
-        if name.ends_with(".csv") {
-            DataFormat::Csv
+impl DataFormat<'_> {
+    /// The form of a file of that name: CSV where it ends in `.csv`, CSV with tabs where in `.tsv`, in letters of either
+    /// case, else JSON lines.
+    pub fn of(name: &str) -> Self {
+        let start = name.len().saturating_sub(4);
+        let end = name.as_bytes().get(start..).unwrap_or(&[]);
+        let format = CsvFormat::default();
+        if end.eq_ignore_ascii_case(b".csv") {
+            DataFormat::Csv(format)
+        } else if end.eq_ignore_ascii_case(b".tsv") {
+            DataFormat::Csv(CsvFormat {
+                delimiter: b'\t',
+                ..format
+            })
         } else {
             DataFormat::JsonLines
         }
@@ -28,10 +37,10 @@ impl DataFormat {
 }
 
 /// The narrowest type of the first 1,000 records, and the bytes that were read to tell it. Fails as `infer_json_type` and
-/// `infer_csv_type` of `vx_data` do.
+/// `infer_csv_type_with` of `vx_data` do.
 pub fn inferred_type<D: Read>(
     alloc: Global,
-    format: DataFormat,
+    format: DataFormat<'_>,
     data: &mut D,
 ) -> Result<(DType, Vec<u8>), RowsError> {
     let mut recorded = Recorded::new(alloc, data);
@@ -40,7 +49,7 @@ pub fn inferred_type<D: Read>(
             let reader = buffered(alloc, &mut recorded)?;
             infer_json_type(alloc, reader)
         }
-        DataFormat::Csv => infer_csv_type(alloc, &mut recorded),
+        DataFormat::Csv(format) => infer_csv_type_with(alloc, format, &mut recorded),
     };
     let (read, _) = recorded.into_parts();
     Ok((opened(inferred)?, read))

@@ -14,7 +14,7 @@ pub struct UntypedRecords<'a> {
     /// What their file is called.
     pub name: &'a str,
     /// In what form they stand in it.
-    pub format: DataFormat,
+    pub format: DataFormat<'a>,
 }
 
 /// The narrowest type of the first 1,000 records that the reader gives, as source text. Where they have
@@ -42,7 +42,7 @@ pub fn guess_schema<D: Read, E: Write>(
 // The type as source text.
 fn type_text<D: Read>(
     alloc: Global,
-    format: DataFormat,
+    format: DataFormat<'_>,
     data: &mut D,
 ) -> Result<String, RowsError> {
     let (dtype, read) = inferred_type(alloc, format, data)?;

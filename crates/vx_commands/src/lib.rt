@@ -33,4 +33,5 @@ pub use rows::{RecordsTask, RowsCommand, Schema, run_rows};
 pub use run::run_command;
 pub use sql::{SqlCommand, SqlTask, run_sql};
 pub use vx_command_pages::{CommandError, Input, Shown, Status};
+pub use vx_data::CsvFormat;
 pub use vx_sql::Dialect;

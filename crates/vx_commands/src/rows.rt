@@ -69,7 +69,7 @@ pub struct RowsCommand<'a> {
     /// What the file is called.
     pub data: &'a str,
     /// In what form the records stand in it.
-    pub format: DataFormat,
+    pub format: DataFormat<'a>,
     /// How many records are gone over at most.
     pub limit: u64,
 }
@@ -149,8 +149,8 @@ fn gone_over<D: Read + Drop, W: Write, E: Write>(
             let mut records = JsonRecords::new(alloc, scope, buffered(alloc, data)?);
             worked(alloc, &command, &mut records, out, err)
         }
-        DataFormat::Csv => {
-            let mut records = opened(CsvRows::open(alloc, scope, data))?;
+        DataFormat::Csv(format) => {
+            let mut records = opened(CsvRows::open_with(alloc, scope, format, data))?;
             worked(alloc, &command, &mut records, out, err)
         }
     }

@@ -1,4 +1,5 @@
 // Rows from records of comma-separated cells, their types guessed from such records, and rows written as such records.
+mod branches;
 mod cells;
 mod format;
 mod guess;

@@ -64,9 +64,6 @@ pub enum Expected {
     /// Two fields of a struct have that one name.
     #[error("expected a type whose fields have different names")]
     DistinctNames,
-    /// A name of the header leads into a field that is a cell itself.
-    #[error("expected either a cell of that name or cells inside it")]
-    CellOrStruct,
     /// A record has more cells than the first.
     #[error("expected at most {0} cells, as many as the first record has")]
     Cells(u64),

@@ -4,17 +4,17 @@ ghost use Rattle.vx_value.specs.Views.{type_of};
 use crate::{Record, RecordReader};
 use std::alloc::Global;
 use std::io::Read;
-use vx_data::{CsvParser, CsvRecords, DataError, Expected, Fault};
+use vx_data::{CsvFormat, CsvParser, CsvRecords, DataError};
 use vx_types::DType;
 
-/// The records of a CSV file behind its header, as rows of a type. In memory are one record and the
+/// The records of a CSV file behind its header, if it has one, as rows of a type. In memory are one record and the
 /// reader's buffer.
 #[derive(Drop)]
 pub struct CsvRows<R> {
     dtype: DType,
     records: CsvRecords<R>,
     parser: CsvParser,
-    // The header as it stands, on a line.
+    // The header as it stands, on a line, and nothing where there is none.
     head: Vec<u8>,
 }
 
@@ -23,13 +23,26 @@ impl<R: Read + Drop> CsvRows<R> {
     /// header that isn't the type's, and a type that no cells make, as [`CsvParser::new`] does; with
     /// the reader's error; and with `OutOfMemory`.
     pub fn open(alloc: Global, dtype: DType, reader: R) -> Result<CsvRows<R>, DataError> {
-        let mut records = CsvRecords::new(alloc, reader);
-        if !records.read_record()? {
-            return Err(Fault::new(alloc, Expected::Header).on_line(alloc, 1));
+        CsvRows::open_with(alloc, dtype, CsvFormat::default(), reader)
+    }
+
+    /// The same of a file of that format. Where it has no header its first record is read, and a file without a record
+    /// is refused.
+    pub fn open_with(
+        alloc: Global,
+        dtype: DType,
+        format: CsvFormat<'_>,
+        reader: R,
+    ) -> Result<CsvRows<R>, DataError> {
+        let mut records = CsvRecords::with_format(alloc, reader, format);
+        records.read_first()?;
+        let (line, first) = (records.line(), records.cells());
+        let parser = CsvParser::with_format(alloc, &dtype, line, first, format)?;
+        let mut head = Vec::new(alloc);
+        if format.has_header {
+            head.extend_from_slice(records.record())?;
+            head.push(b'\n')?;
         }
-        let parser = CsvParser::new(alloc, &dtype, records.line(), records.cells())?;
-        let mut head = Vec::from_slice(alloc, records.record())?;
-        head.push(b'\n')?;
         Ok(CsvRows {
             dtype,
             records,

@@ -1,9 +1,11 @@
 // Types guessed from CSV files.
 ghost use Rattle.std.specs.Prelude.{◌≡◌, length};
 
+use crate::csv_files::branches::{Branch, BranchKind, branches_of};
 use crate::csv_files::format::CsvFormat;
 use crate::csv_files::guess::CellGuess;
-use crate::csv_files::header::{cell_names, fault_at, named};
+use crate::csv_files::header::{cell_names, fault_at};
+use crate::csv_files::plan::{first_repeated, listed};
 use crate::csv_files::records::CsvRecords;
 use crate::error::DataError;
 use crate::expected::Expected;
@@ -18,11 +20,11 @@ use vx_types::{DType, FieldName, FieldNames, Nullability, StructFields, VortexRe
 const RECORDS: usize = 1_000;
 
 /// The narrowest type of the first 1,000 records behind the header, fewer where there are no more: a struct of its names in
-/// their order, in which a name with dots leads to a field of a field. A cell that is always `true` or `false` is
+/// their order, in which a name with dots leads to a field of a field, unless some name is both a cell and the way to others:
+/// then each is a field of that name. A cell that is always `true` or `false` is
 /// `bool`; one that is always a whole number as it is written, `i64`, or `u64` where one is above the range of `i64`; any
 /// other `utf8`, also one that has no text at all. It is nullable where some record lacks it or has an empty one; no struct
-/// is. Refuses a file without a header, a name that stands there twice or that is both a cell and the way to others, a cell
-/// that is no text in UTF-8, a record of more cells than the header, each with its line; with the reader's error; and with
+/// is. Refuses a file without a header, a name that stands there twice, a cell that is no text in UTF-8, a record of more cells than the header, each with its line; with the reader's error; and with
 /// `OutOfMemory`.
 pub fn infer_csv_type<R: Read + Drop>(alloc: Global, reader: R) -> Result<DType, DataError> {
     infer_csv_type_with(alloc, CsvFormat::default(), reader)
@@ -68,11 +70,15 @@ fn fields_of(
     first: &ByteRecord,
     has_header: bool,
 ) -> Result<(Vec<Branch>, Vec<NamedGuess>), Fault> {
-    let names = cell_names(alloc, first, has_header)?;
+    let names = listed(alloc, cell_names(alloc, first, has_header)?)?;
+    if let Some(name) = first_repeated(&names) {
+        return Err(fault_at(alloc, Expected::Once, name.as_str()));
+    }
     let branches = branches_of(alloc, names.as_slice())?;
     let mut guesses = Vec::with_capacity(alloc, names.len())?;
-    for name in names {
+    for name in names.iter() {
         let guess = CellGuess::new();
+        let name = name.clone()?;
         guesses.push(NamedGuess { name, guess })?;
     }
     Ok((branches, guesses))
@@ -96,82 +102,6 @@ fn see_record(
     Ok(())
 }
 
-/// A field of the type that is guessed: a cell, by its place in a record, or a struct.
-#[cycle(branch)]
-#[derive(Debug, Drop)]
-struct Branch {
-    name: FieldName,
-    kind: BranchKind,
-}
-
-#[cycle(branch)]
-#[derive(Debug, Drop)]
-enum BranchKind {
-    Cell(usize),
-    Struct(Vec<Branch>),
-}
-
-// The fields whose dotted names are those of the header.
-fn branches_of(alloc: Global, names: &[FieldName]) -> Result<Vec<Branch>, Fault> {
-    let mut branches = Vec::new(alloc);
-    for (place, name) in names.iter().enumerate() {
-        let parts: Vec<&str> = name.as_str().split('.').collect(alloc)?;
-        if let Err(expected) = grow(alloc, &mut branches, parts.as_slice(), place) {
-            return Err(match expected {
-                Some(expected) => fault_at(alloc, expected, name.as_str()),
-                None => Fault::OutOfMemory,
-            });
-        }
-    }
-    Ok(branches)
-}
-
-// Adds the cell of that place under the names. Refuses with what is expected, or for want of memory.
-fn grow(
-    alloc: Global,
-    branches: &mut Vec<Branch>,
-    names: &[&str],
-    place: usize,
-) -> Result<(), Option<Expected>> {
-    let Some((first, rest)) = names.split_first() else {
-        return Ok(());
-    };
-    let i = match branches
-        .iter()
-        .position(|branch| branch.name.as_str() == *first)
-    {
-        Some(i) => i,
-        None => {
-            let branch = new_branch(alloc, first, rest.is_empty(), place).map_err(|_| None)?;
-            if branches.push(branch).is_err() {
-                return Err(None);
-            }
-            if rest.is_empty() {
-                return Ok(());
-            }
-            branches.len() - 1
-        }
-    };
-    if i >= branches.len() {
-        return Ok(());
-    }
-    match &mut branches[i].kind {
-        BranchKind::Struct(inner) if !rest.is_empty() => grow(alloc, inner, rest, place),
-        BranchKind::Cell(_) if rest.is_empty() => Err(Some(Expected::Once)),
-        _ => Err(Some(Expected::CellOrStruct)),
-    }
-}
-
-fn new_branch(alloc: Global, name: &str, is_cell: bool, place: usize) -> Result<Branch, Fault> {
-    let kind = if is_cell {
-        BranchKind::Cell(place)
-    } else {
-        BranchKind::Struct(Vec::new(alloc))
-    };
-    let name = named(alloc, name)?;
-    Ok(Branch { name, kind })
-}
-
 // The struct of those fields.
 #[cycle(typed)]
 fn struct_of(branches: &Vec<Branch>, alloc: Global, guesses: &[NamedGuess]) -> VortexResult<DType> {
@@ -191,7 +121,7 @@ fn field_type(kind: &BranchKind, alloc: Global, guesses: &[NamedGuess]) -> Vorte
             Some(cell) => cell.guess.dtype(),
             None => CellGuess::new().dtype(),
         }),
-        BranchKind::Struct(fields) => struct_of(fields, alloc, guesses),
+        BranchKind::Struct(fields) => struct_of(&fields.all, alloc, guesses),
     }
 }
 

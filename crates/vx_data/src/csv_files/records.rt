@@ -59,8 +59,8 @@ impl<R: Read + Drop> CsvRecords<R> {
         }
     }
 
-    /// Reads the first record, which is the header; or else the first row, which is then read once more. Refuses a file
-    /// without a record; and as `read_record` does.
+    /// Reads the first record: the header, or where there is none the first row, which `read_record` then reads once more.
+    /// Refuses a file without a record; and as `read_record` does.
     pub fn read_first(&mut self) -> Result<(), DataError> {
         if !self.read_record()? {
             let expected = if self.has_header {
@@ -84,19 +84,16 @@ impl<R: Read + Drop> CsvRecords<R> {
         let read = self.reader.read_byte_record(&mut self.cells);
         self.take_text()?;
         match read {
-            Ok(true) if !self.is_open_comment() => self.check_width(),
-            Ok(_) => Ok(false),
+            Ok(found) => self.checked(found),
             Err(e) => Err(refusal(e)),
         }
     }
 
-    // Whether what was read is a comment that ends with the file, which comes as a record of an empty cell.
-    fn is_open_comment(&self) -> bool {
-        self.comment.is_some() && self.record().is_empty()
-    }
-
-    // Refuses the record if it has more cells than the first.
-    fn check_width(&mut self) -> Result<bool, DataError> {
+    // Whether what was found is a record. Refuses one that has more cells than the first.
+    fn checked(&mut self, found: bool) -> Result<bool, DataError> {
+        if !found || self.is_open_comment() {
+            return Ok(false);
+        }
         let count = self.cells.len();
         match self.width {
             None => self.width = Some(count),
@@ -107,6 +104,11 @@ impl<R: Read + Drop> CsvRecords<R> {
             Some(_) => {}
         }
         Ok(true)
+    }
+
+    // Whether what was read is a comment that ends with the file, which comes as a record of an empty cell.
+    fn is_open_comment(&self) -> bool {
+        self.comment.is_some() && self.record().is_empty()
     }
 
     // The record as it stood, and its line.

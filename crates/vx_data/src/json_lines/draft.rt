@@ -55,7 +55,7 @@ impl Draft {
 }
 
 // Up to so many names are compared one after another.
-const FEW: usize = 16;
+pub(crate) const FEW: usize = 16;
 
 /// The index of the first field of that name, which may be the guessed one.
 pub(crate) fn place_of(

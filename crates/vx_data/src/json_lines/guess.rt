@@ -3,9 +3,10 @@ ghost use Rattle.std.specs.Prelude.{◌≡◌, length};
 
 use crate::expected::Expected;
 use crate::fault::Fault;
-use crate::json_lines::draft::named;
+use crate::json_lines::draft::{FEW, named};
 use crate::wholes::Wholes;
 use std::alloc::{AllocError, Global};
+use std::collections::HashMap;
 use std::sync::Arc;
 use vx_types::{DType, FieldName, FieldNames, Nullability, StructFields, VortexResult};
 
@@ -36,6 +37,7 @@ pub(crate) enum Shape {
 pub(crate) struct FieldGuesses {
     pub(crate) structs: u64,
     pub(crate) fields: Vec<FieldGuess>,
+    index: HashMap<FieldName, usize>,
 }
 
 /// A field of some structs: in how many of them it is, and which is the last of these.
@@ -117,6 +119,7 @@ impl Guess {
             self.shape = Shape::Struct(FieldGuesses {
                 structs: 0,
                 fields: Vec::new(alloc),
+                index: HashMap::new(alloc),
             });
         }
         match &mut self.shape {
@@ -138,10 +141,12 @@ impl FieldGuesses {
         name: &str,
         guess: usize,
     ) -> Result<usize, Fault> {
-        let i = self.place_of(name, guess);
+        let i = self.place_of(alloc, name, guess)?;
         if i >= self.fields.len() {
+            let name = named(alloc, name)?;
+            self.index.insert(name.clone()?, i)?;
             self.fields.push(FieldGuess {
-                name: named(alloc, name)?,
+                name,
                 seen: 1,
                 last: self.structs,
                 guess: Guess::new(),
@@ -158,15 +163,17 @@ impl FieldGuesses {
     }
 
     // Where the field of that name is or has to be put.
-    fn place_of(&self, name: &str, guess: usize) -> usize {
+    fn place_of(&self, alloc: Global, name: &str, guess: usize) -> Result<usize, Fault> {
         let fields = &self.fields;
         if guess < fields.len() && fields[guess].name.as_str() == name {
-            return guess;
+            return Ok(guess);
         }
-        match fields.iter().position(|field| field.name.as_str() == name) {
-            Some(i) => i,
-            None => fields.len(),
-        }
+        let found = if fields.len() <= FEW {
+            fields.iter().position(|field| field.name.as_str() == name)
+        } else {
+            self.index.get(&named(alloc, name)?).copied()
+        };
+        Ok(found.unwrap_or(fields.len()))
     }
 }
 

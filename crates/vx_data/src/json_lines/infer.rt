@@ -17,8 +17,7 @@ const RECORDS: usize = 1_000;
 /// What has no type by its values, as it was always null or is the item of a list that was always empty, is `utf8`; so is
 /// the whole type where there is no record. Refuses with the line, the path of the field, and what is expected there:
 /// the first value of another kind than those before, a number with a point or of more than 64 bits, more than 200 arrays
-/// and objects inside one another; with the reader's error; and with `OutOfMemory`. Time is linear in the records that name
-/// their fields in one order.
+/// and objects inside one another; with the reader's error; and with `OutOfMemory`. Time is linear in the records.
 pub fn infer_json_type<R: BufRead + Drop>(alloc: Global, reader: R) -> Result<DType, DataError> {
     let mut lines = JsonLines::new(alloc, reader);
     let mut scratch = Scratch::new(alloc);
