@@ -18,18 +18,11 @@ impl<'a> Format<'a> {
     /// The format of that name: `json`; or `csv`, and behind it what is other than by default, as in
     /// `csv:no-header:delimiter=tab:comment=#:null=NA`.
     pub fn named(name: &'a str) -> Option<Format<'a>> {
-        if name == "json" {
-            return Some(Format::Json);
+        match cut(name) {
+            ("json", "") => Some(Format::Json),
+            ("csv", parts) => Some(Format::Csv(with_parts(parts)?)),
+            _ => None,
         }
-        let mut parts = name.split(':');
-        if parts.next() != Some("csv") {
-            return None;
-        }
-        let mut format = CsvFormat::default();
-        for part in parts {
-            format = with_part(format, part)?;
-        }
-        Some(Format::Csv(format))
     }
 
     /// Whether it can hold lists.
@@ -101,8 +94,26 @@ impl<'a> Format<'a> {
     }
 }
 
-// The same format, with what the part says.
+// What stands before the first colon and behind it, or all of the text and nothing.
+fn cut(text: &str) -> (&str, &str) {
+    text.split_once(':').unwrap_or((text, ""))
+}
+
+// The default format, with what the parts say, of which there are at most four.
+fn with_parts<'a>(parts: &'a str) -> Option<CsvFormat<'a>> {
+    let (first, parts) = cut(parts);
+    let (second, parts) = cut(parts);
+    let (third, fourth) = cut(parts);
+    let format = with_part(CsvFormat::default(), first)?;
+    let format = with_part(format, second)?;
+    with_part(with_part(format, third)?, fourth)
+}
+
+// The same format, with what the part says, which may be nothing.
 fn with_part<'a>(format: CsvFormat<'a>, part: &'a str) -> Option<CsvFormat<'a>> {
+    if part.is_empty() {
+        return Some(format);
+    }
     if part == "no-header" {
         return Some(CsvFormat {
             has_header: false,
