@@ -75,7 +75,11 @@ pub fn stop_of(alloc: Global, error: &CommandError, expression: &str, schema: &s
 
 // The text as messages show it.
 fn input(given: Given, text: &str) -> Input<'_> {
-    Input::new(given.name(), text)
+    Input {
+        name: given.name(),
+        text,
+        names_file: false,
+    }
 }
 
 // The place at which reading stopped.
