@@ -79,8 +79,16 @@ fn stop_at(alloc: Global, kept: &KeptPlan, fault: NodePlace) -> CallError
     let error = RowsError::Records { error: stop, span };
     let message = RowsMessage {
         error: &error,
-        expression: Input::new(Given::Expression.name(), kept.text.as_str()),
-        schema: Input::new(Given::Schema.name(), ""),
+        expression: Input {
+            name: Given::Expression.name(),
+            text: kept.text.as_str(),
+            names_file: false,
+        },
+        schema: Input {
+            name: Given::Schema.name(),
+            text: "",
+            names_file: false,
+        },
         data: "batch",
     };
     match row {
