@@ -1,6 +1,7 @@
 #!/usr/bin/env python3
-"""Runs the gate from nothing, `rt ci --anew`, or proves named crates and those below them for it, `rt
-ci CRATE ..`, which leaves out what the machine has kept. Prints what each crate took of it: the
+"""Runs the gate from nothing, `rt ci --anew`, or `rt ci` by a kit that keeps nothing; or proves named
+crates and those below them for it, `rt ci CRATE ..`, which leaves out what the machine has kept, where
+the kit takes names. Prints what each crate took of it: the
 processor minutes of its proof, of its tests and of its must-fail edits, as read off the provers'
 processes every second; their sums, and the minutes of the whole; and the longest chain of crates that
 stand on one another, by the minutes of their proofs. Nothing else may be proved meanwhile on the
@@ -62,10 +63,16 @@ def longest_chain(below, cost):
     return max(map(up_to, below), default=(0, ()))
 
 
+def from_nothing():
+    """The words for a run from nothing: a kit that keeps what passed has one that asks for it."""
+    told = subprocess.run(["rt", "help"], capture_output=True, text=True)
+    return ["--anew"] if "--anew" in told.stdout + told.stderr else []
+
+
 def main():
     os.chdir(os.path.join(os.path.dirname(os.path.abspath(__file__)), ".."))
     begin, seen = time.monotonic(), {}
-    gate = subprocess.Popen(["rt", "ci", *(sys.argv[1:] or ["--anew"])])
+    gate = subprocess.Popen(["rt", "ci", *(sys.argv[1:] or from_nothing())])
     while gate.poll() is None:
         for process, of, seconds in provers():
             seen[process] = of, seconds
