@@ -77,18 +77,20 @@ fn push_type(
     }
 }
 
-// Adds the scope's type.
+/// Adds a copy of the scope's type, the type of the scope root. Refuses with `OutOfMemory` (1) alone. It stands in no frame of a
+/// recursion that calls it.
 #[inline(never)]
-fn push_scope(scope: &DType, types: &mut Vec<DType>) -> VortexResult<()>
+pub fn push_scope(scope: &DType, types: &mut Vec<DType>) -> VortexResult<()>
     ensures { Pushes type_of types.old.items result (typed root (type_of scope.now)) types.new.items }
 {
     types.push(scope.clone()?)?;
     Ok(())
 }
 
-// Adds the type of the function over the types below.
+/// Adds the type of the function over the types of its children. Refuses with `ArityMismatch` (2), else as the function
+/// does (4 to 11), and with `OutOfMemory` (1). It stands in no frame of a recursion that calls it.
 #[inline(never)]
-fn push_call(
+pub fn push_call(
     alloc: Global,
     scalar_fn: &ScalarFnRef,
     below: &[DType],
