@@ -1,7 +1,7 @@
 use Rattle.std.proofs.Common.{◌≡◌, ◌≤◌, ◌<◌, ℕ, get_or, true, false}
 use Rattle.vx_value.specs.Types.{Datum}
 use Rattle.vx_eval_masks.specs.Merges.{values_of, each_row, AnswersIn}
-use Rattle.vx_eval_masks.proofs.compact.push_with.Given as goal
+use Rattle.vx_eval_masks.proofs.pushing.push_with.Given as goal
 
 abbrev pub invariant-loop-i : goal.invariant-loop-i
 invariant-loop-i g l = record {
