@@ -1,5 +1,5 @@
 // Plain values as literals and scalars.
-use crate::shown::gives;
+use crate::forms::shown::gives;
 use std::alloc::Global;
 use vx_forms::*;
 use vx_tree::Nullability::NonNullable;

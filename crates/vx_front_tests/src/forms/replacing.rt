@@ -1,5 +1,5 @@
 // Nodes put in the place of others.
-use crate::shown::gives;
+use crate::forms::shown::gives;
 use std::alloc::Global;
 use vx_forms::*;
 use vx_tree::{Expression, GetItem, VortexResult};

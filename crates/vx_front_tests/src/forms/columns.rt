@@ -1,5 +1,5 @@
 // Types and columns of plain values, and trees over them.
-use crate::shown::gives;
+use crate::forms::shown::gives;
 use std::alloc::Global;
 use vx_forms::*;
 use vx_tree::Nullability::{NonNullable, Nullable};

@@ -1,5 +1,5 @@
 // The same forms over bound trees, with their types and refusals.
-use crate::shown::{gives, is_nothing, some};
+use crate::forms::shown::{gives, is_nothing, some};
 use std::alloc::Global;
 use vx_forms::{bound, struct_type};
 use vx_tree::Nullability::NonNullable;

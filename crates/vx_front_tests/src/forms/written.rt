@@ -1,5 +1,5 @@
 // Trees as they are read.
-use crate::shown::gives;
+use crate::forms::shown::gives;
 use std::alloc::Global;
 use vx_forms::{expr, lit};
 use vx_tree::Nullability::Nullable;

@@ -1,5 +1,5 @@
 // Fields, structs, and names as they come.
-use crate::shown::gives;
+use crate::forms::shown::gives;
 use std::alloc::Global;
 use vx_forms::{field, *};
 use vx_tree::Nullability::{NonNullable, Nullable};

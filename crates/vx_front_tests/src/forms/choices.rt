@@ -1,5 +1,5 @@
 // Choices between values, of sources.
-use crate::shown::gives;
+use crate::forms::shown::gives;
 use std::alloc::Global;
 use vx_forms::*;
 use vx_tree::{Expression, VortexResult};

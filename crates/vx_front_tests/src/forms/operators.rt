@@ -1,5 +1,5 @@
 // Comparisons, logic, sums, matches of a pattern and what deals with null, of sources.
-use crate::shown::{gives, is_nothing, some};
+use crate::forms::shown::{gives, is_nothing, some};
 use std::alloc::Global;
 use vx_forms::*;
 use vx_tree::StrictComparison::{NonStrict, Strict};
