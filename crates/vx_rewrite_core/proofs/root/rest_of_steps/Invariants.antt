@@ -1,15 +1,14 @@
 use Rattle.std.proofs.Common.{ℕ}
 use Rattle.vx_tree.specs.Trees.{WellTyped}
 use Rattle.vx_tree.specs.Views.{bound_of}
-use Rattle.vx_rewrite_core.specs.Steps.{RootSteps, GivesNothing}
+use Rattle.vx_rewrite_core.specs.Steps.{RootSteps}
 use Rattle.vx_rewrite_core.specs.Weights.{weight}
-use Rattle.vx_rewrite_core.proofs.root.fitting_form.Given as goal
+use Rattle.vx_rewrite_core.proofs.root.rest_of_steps.Given as goal
 
 abbrev pub invariant-loop-current : goal.invariant-loop-current
 invariant-loop-current g l = record {
   count : ℕ;
-  steps : RootSteps (g.R.Rule.gives l.rules) (bound_of l.tree) count (bound_of l.current.value);
-  some : GivesNothing (g.R.Rule.gives l.rules) (bound_of l.tree) → ⊥;
+  steps : RootSteps (g.R.Rule.gives l.rules) (bound_of l.fn.first.value) count (bound_of l.current.value);
   typed : WellTyped (bound_of l.current.value);
 }
 
