@@ -2,7 +2,7 @@ use Rattle.std.proofs.Common.{◌≡◌, take}
 use Rattle.vx_rewrite_analysis.specs.Answered.{trees_of, given_by}
 use Rattle.vx_partition.specs.Found.{found_copied, found_of}
 use Rattle.vx_partition.specs.Gathered.{gathered_in}
-use Rattle.vx_partition.proofs.numbered.found_below.Given as goal
+use Rattle.vx_partition.proofs.numbered.found_at.Given as goal
 
 -- what the children so far have together
 abbrev pub invariant-loop-child : goal.invariant-loop-child
