@@ -7,7 +7,7 @@ use Rattle.vx_fn.specs.Functions.{Function, literal, get_item, pack, cast, fill_
 use Rattle.vx_tree.specs.Trees.{Tree, root}
 use Rattle.vx_source_types.specs.declared.expectation.Expected.{Expected}
 use Rattle.vx_source_types.specs.declared.expectation.Expected.TheVariants.{Operand, OperandOrParens, Name as AName, Value, Number, FieldValue, FittingType, Function as AFunction, Options, OpenParen as AParen, CloseParen as TheParen, CloseBracket as TheBracket, When as WhenWord}
-use Rattle.vx_source_types.specs.declared.token.Sign.TheVariants.{OpenParen, CloseParen, OpenBracket, CloseBracket, OpenBrace, Colon, DoubleColon, Dot, Question, Dollar}
+use Rattle.vx_source_types.specs.declared.token.Sign.TheVariants.{OpenParen, CloseParen, OpenBracket, CloseBracket, OpenBrace, Colon, DoubleColon, Dot, Question, Plus, Dollar}
 use Rattle.vx_source_types.specs.Tokens.{Lexeme, word, quoted, number as numeral, text, octets, sign, end, invalid}
 use Rattle.vx_source_types.specs.Names.{name_at, same_word}
 use Rattle.vx_source_types.specs.Reading.{Goes, more, done, refused}
@@ -22,7 +22,7 @@ use Rattle.vx_source_grammar.specs.OptionReading.{plain_functions, function_read
 use Rattle.vx_source_grammar.specs.Closing.{called, node_stands}
 use Rattle.vx_source_grammar.specs.Following.{follows, field_goes}
 use Rattle.vx_source_grammar.specs.Joining.{over}
-use Rattle.vx_source_grammar.specs.States.{Callee, own_of, any_of, if_of, condition_part, Frame, in_not, in_binary, in_like, in_lower, in_upper, in_paren, in_call, in_pack, in_cast, in_case, TypeFor, for_literal, for_cast, for_cast_call, operand_due, first_child, at_word, at_vortex, at_id, in_options, children_due, first_packed, packed_value, pack_end, case_due, in_value, in_type, ExpressionAnswer, goes, when_read, stands}
+use Rattle.vx_source_grammar.specs.States.{Callee, own_of, any_of, if_of, condition_part, Frame, in_not, in_binary, in_like, in_lower, in_upper, in_paren, in_call, in_pack, in_cast, in_case, TypeFor, for_literal, for_cast, for_cast_call, operand_due, first_child, at_word, at_vortex, at_id, in_options, children_due, first_packed, packed_value, pack_end, case_due, at_plus, in_value, in_type, ExpressionAnswer, goes, when_read, stands}
 
 -- a node stands there, before the token
 abbrev pub node_before : List Frame → ℕ → Function → List Tree → Lexeme → ExpressionAnswer
@@ -105,12 +105,18 @@ begins fs r (word a) = word_begins fs r a (keyword_of a)
 begins fs r (quoted a) = node_stands fs r (get_item a) (root ∷ [])
 begins fs r (sign Dollar) = stands fs r root
 begins fs r (sign OpenParen) = within r (λ less. goes (in_paren r ∷ fs) operand_due less)
+begins fs r (sign Plus) = goes fs at_plus r
 begins fs r (sign OpenBracket) = value_begins fs r (sign OpenBracket)
 begins fs r (sign OpenBrace) = value_begins fs r (sign OpenBrace)
 begins fs r (numeral negative magnitude suffix) = number_begins fs r (numeral negative magnitude suffix) (suffixed (numeral negative magnitude suffix))
 begins fs r (text s) = value_begins fs r (text s)
 begins fs r (octets bs) = value_begins fs r (octets bs)
 begins fs r x = refused x Operand
+
+-- a number behind a `+` with which an operand begins
+abbrev pub plus_at : List Frame → ℕ → Lexeme → ExpressionAnswer
+plus_at fs r (numeral false magnitude suffix) = number_begins fs r (numeral false magnitude suffix) (suffixed (numeral false magnitude suffix))
+plus_at fs r x = refused x Operand
 
 -- ---- functions by name
 

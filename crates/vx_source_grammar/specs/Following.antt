@@ -1,27 +1,29 @@
 -- What follows an operand: a postfix, an operator, or what closes a bracket.
-use Rattle.std.specs.Prelude.{ℕ, Bool, true, false, List, [], ◌∷◌, ◌++◌, Option, Some, None, Err}
-use Rattle.vx_value.specs.Types.{Name}
+use Rattle.std.specs.Prelude.{ℕ, Bool, true, false, List, [], ◌∷◌, ◌++◌, Option, Some, None, Result, Ok, Err}
+use Rattle.vx_value.specs.Types.{Name, truth, ty, atomic, bool}
 use Rattle.vx_fn.specs.declared.options.FieldSelection.{FieldSelection}
 use Rattle.vx_fn.specs.declared.options.FieldSelection.TheVariants.{Include, Exclude}
-use Rattle.vx_fn.specs.Functions.{Comparison, equal, not_equal, greater, greater_or_equal, less, less_or_equal, Operation, compares, and_also, or_else, adds, get_item, select, is_null, is_not_null}
+use Rattle.vx_fn.specs.Functions.{Comparison, equal, not_equal, greater, greater_or_equal, less, less_or_equal, Operation, compares, and_also, or_else, adds, Function, get_item, literal, select, fill_null, is_null, is_not_null}
 use Rattle.vx_tree.specs.Trees.{Tree}
-use Rattle.vx_source_types.specs.declared.expectation.Expected.TheVariants.{Name as AName, Parens, Like as LikeWord, Null as NullWord, CommaOrCloseBrace}
+use Rattle.vx_source_types.specs.declared.expectation.Expected.{Expected}
+use Rattle.vx_source_types.specs.declared.expectation.Expected.TheVariants.{Name as AName, OpenParen as AParen, Parens, Like as LikeWord, Null as NullWord, CommaOrCloseBrace}
 use Rattle.vx_source_types.specs.declared.token.Sign.{Sign}
-use Rattle.vx_source_types.specs.declared.token.Sign.TheVariants.{OpenBrace, CloseBrace, Comma, DoubleColon, Dot, Tilde, Equal, NotEqual, Less, LessEqual, Greater, GreaterEqual, Plus}
+use Rattle.vx_source_types.specs.declared.token.Sign.TheVariants.{OpenParen, OpenBrace, CloseBrace, Comma, DoubleColon, Dot, Tilde, Equal, DoubleEqual, NotEqual, Less, LessEqual, Greater, GreaterEqual, Plus}
 use Rattle.vx_source_types.specs.Tokens.{Lexeme, word, sign}
 use Rattle.vx_source_types.specs.Names.{name_at}
 use Rattle.vx_source_types.specs.Reading.{refused}
-use Rattle.vx_source_types.specs.TypeReading.{type_start}
+use Rattle.vx_source_types.specs.TypeReading.{type_start, within}
 use Rattle.vx_source_grammar.specs.declared.words.Keyword.{Keyword}
-use Rattle.vx_source_grammar.specs.declared.words.Keyword.TheVariants.{And, Or, Not, Like, Ilike, Between, Is, Null}
+use Rattle.vx_source_grammar.specs.declared.words.Keyword.TheVariants.{And, Or, Not, Like, Ilike, Between, In, Is, Null, True, False}
 use Rattle.vx_source_grammar.specs.Keywords.{keyword_of}
 use Rattle.vx_source_grammar.specs.Closing.{closes, node_stands}
 use Rattle.vx_source_grammar.specs.Joining.{over, reduced}
-use Rattle.vx_source_grammar.specs.States.{Frame, in_chain, in_binary, in_like, in_lower, in_upper, for_cast, operand_due, loose, at_dot, at_selection, at_exclusion, selected_name, selected_next, at_not, at_is, at_is_not, in_type, ExpressionAnswer, goes, when_read}
+use Rattle.vx_source_grammar.specs.States.{Frame, in_chain, in_not, in_binary, in_like, in_lower, in_upper, in_members, for_cast, operand_due, at_dot, at_selection, at_exclusion, selected_name, selected_next, at_not, at_is, at_is_not, at_in, in_type, ExpressionAnswer, goes, when_read, stands_loosely}
 
 -- the comparison of a sign
 abbrev pub comparison_of : Sign → Option Comparison
 comparison_of Equal = Some equal
+comparison_of DoubleEqual = Some equal
 comparison_of NotEqual = Some not_equal
 comparison_of Less = Some less
 comparison_of LessEqual = Some less_or_equal
@@ -52,21 +54,28 @@ comparison_goes r c (in_upper lower_strict upper_strict array lower ∷ fs) e = 
 comparison_goes r c (in_lower array ∷ fs) e = Err Parens
 comparison_goes r c fs e = goes (in_binary (compares c) e ∷ fs) operand_due r
 
--- what is written with words in the place of a comparison's sign
-abbrev pub compared : List Frame → ExpressionAnswer → ExpressionAnswer
-compared (in_binary op lhs ∷ fs) made = Err Parens
-compared (in_like negated case_insensitive lhs ∷ fs) made = Err Parens
-compared (in_upper lower_strict upper_strict array lower ∷ fs) made = Err Parens
-compared (in_lower array ∷ fs) made = Err Parens
-compared fs made = made
+-- what is written with words in the place of a comparison's sign: comparisons don't chain
+abbrev pub uncompared : List Frame → Tree → Result (List Frame × Tree) Expected
+uncompared (in_binary op lhs ∷ fs) e = Err Parens
+uncompared (in_like negated case_insensitive lhs ∷ fs) e = Err Parens
+uncompared (in_upper lower_strict upper_strict array lower ∷ fs) e = Err Parens
+uncompared (in_lower array ∷ fs) e = Err Parens
+uncompared fs e = Ok (fs, e)
+
+-- the operand that such a word compares, and what is open around it
+abbrev pub comparable : List Frame → ℕ → Tree → Result (List Frame × Tree) Expected
+comparable fs r e = when_read (λ p. uncompared p.0 p.1) (reduced 5 r fs e)
+
+abbrev pub worded : List Frame → ℕ → Tree → (List Frame → Tree → ExpressionAnswer) → ExpressionAnswer
+worded fs r e f = when_read (λ p. f p.0 p.1) (comparable fs r e)
 
 -- `like` or `ilike`, negated or not
-abbrev pub like_goes : List Frame → ℕ → Tree → Bool → Bool → ExpressionAnswer
-like_goes fs r e negated case_insensitive = summed fs r e (λ gs d. compared gs (goes (in_like negated case_insensitive d ∷ gs) operand_due r))
+abbrev pub like_goes : ℕ → (negated case_insensitive : Bool) → List Frame → Tree → ExpressionAnswer
+like_goes r negated case_insensitive fs e = goes (in_like negated case_insensitive e ∷ fs) operand_due r
 
 -- `between`
-abbrev pub between_goes : List Frame → ℕ → Tree → ExpressionAnswer
-between_goes fs r e = summed fs r e (λ gs d. compared gs (goes (in_lower d ∷ gs) operand_due r))
+abbrev pub between_goes : ℕ → List Frame → Tree → ExpressionAnswer
+between_goes r fs e = goes (in_lower e ∷ fs) operand_due r
 
 -- another item of a chain, or the first of one
 abbrev pub same_chain : Operation → Operation → Bool
@@ -94,11 +103,12 @@ bounds_or_items r fs e = and_goes fs r e
 abbrev pub word_goes : List Frame → ℕ → Tree → Lexeme → Option Keyword → ExpressionAnswer
 word_goes fs r e x (Some And) = summed fs r e (bounds_or_items r)
 word_goes fs r e x (Some Or) = or_goes fs r e
-word_goes fs r e x (Some Like) = like_goes fs r e false false
-word_goes fs r e x (Some Ilike) = like_goes fs r e false true
-word_goes fs r e x (Some Not) = goes fs (at_not e) r
-word_goes fs r e x (Some Between) = between_goes fs r e
-word_goes fs r e x (Some Is) = goes fs (at_is e) r
+word_goes fs r e x (Some Like) = worded fs r e (like_goes r false false)
+word_goes fs r e x (Some Ilike) = worded fs r e (like_goes r false true)
+word_goes fs r e x (Some Not) = worded fs r e (λ gs d. goes gs (at_not d) r)
+word_goes fs r e x (Some Between) = worded fs r e (between_goes r)
+word_goes fs r e x (Some In) = worded fs r e (λ gs d. goes gs (at_in d) r)
+word_goes fs r e x (Some Is) = worded fs r e (λ gs d. goes gs (at_is d) r)
 word_goes fs r e x k = closes fs r e x
 
 -- a comparison's sign, or another, behind an operand
@@ -124,6 +134,7 @@ loose_word_goes fs r e x (Some Like) = Err Parens
 loose_word_goes fs r e x (Some Ilike) = Err Parens
 loose_word_goes fs r e x (Some Not) = Err Parens
 loose_word_goes fs r e x (Some Between) = Err Parens
+loose_word_goes fs r e x (Some In) = Err Parens
 loose_word_goes fs r e x (Some Is) = Err Parens
 loose_word_goes fs r e x k = closes fs r e x
 
@@ -140,23 +151,42 @@ follows_loosely fs r e (sign s) = loose_sign_goes fs r e (sign s) (comparison_of
 follows_loosely fs r e (word w) = loose_word_goes fs r e (word w) (keyword_of w)
 follows_loosely fs r e x = closes fs r e x
 
--- what follows `not`, `is` and `is not` behind an operand
+-- what follows `not` behind an operand: `between` and `in` are what they are without it, negated
 abbrev pub not_goes : List Frame → ℕ → Tree → Lexeme → Option Keyword → ExpressionAnswer
-not_goes fs r e x (Some Like) = like_goes fs r e true false
-not_goes fs r e x (Some Ilike) = like_goes fs r e true true
+not_goes fs r e x (Some Like) = like_goes r true false fs e
+not_goes fs r e x (Some Ilike) = like_goes r true true fs e
+not_goes fs r e x (Some Between) = between_goes r (in_not ∷ fs) e
+not_goes fs r e x (Some In) = goes (in_not ∷ fs) (at_in e) r
 not_goes fs r e x k = refused x LikeWord
 
-abbrev pub null_goes : List Frame → ℕ → Tree → Bool → ExpressionAnswer
-null_goes fs r e true = summed fs r e (λ gs d. compared gs (when_read (λ t. goes gs (loose t) r) (over is_not_null (d ∷ []) r)))
-null_goes fs r e false = summed fs r e (λ gs d. compared gs (when_read (λ t. goes gs (loose t) r) (over is_null (d ∷ []) r)))
+-- the bracket around the items of `in`
+abbrev pub members_at : List Frame → ℕ → Tree → Lexeme → ExpressionAnswer
+members_at fs r e (sign OpenParen) = within r (λ less. goes (in_members e [] r ∷ fs) operand_due less)
+members_at fs r e x = refused x AParen
 
+-- a test of the operand, by a function of it
+abbrev pub null_goes : List Frame → ℕ → Tree → Function → ExpressionAnswer
+null_goes fs r e f = when_read (stands_loosely fs r) (over f (e ∷ []) r)
+
+-- the operand with a truth value in the place of null
+abbrev pub filled : Bool → Tree → ℕ → Result Tree Expected
+filled b e r = when_read (λ t. over fill_null (e ∷ t ∷ []) r) (over (literal (ty (atomic truth) false) (bool b)) [] r)
+
+abbrev pub truth_goes : List Frame → ℕ → Tree → Bool → ExpressionAnswer
+truth_goes fs r e b = when_read (stands_loosely fs r) (filled b e r)
+
+-- what follows `is` and `is not` behind an operand; null is neither true nor false
 abbrev pub is_goes : List Frame → ℕ → Tree → Lexeme → Option Keyword → ExpressionAnswer
 is_goes fs r e x (Some Not) = goes fs (at_is_not e) r
-is_goes fs r e x (Some Null) = null_goes fs r e false
+is_goes fs r e x (Some Null) = null_goes fs r e is_null
+is_goes fs r e x (Some True) = truth_goes fs r e false
+is_goes fs r e x (Some False) = truth_goes (in_not ∷ fs) r e true
 is_goes fs r e x k = refused x NullWord
 
 abbrev pub is_not_goes : List Frame → ℕ → Tree → Lexeme → Option Keyword → ExpressionAnswer
-is_not_goes fs r e x (Some Null) = null_goes fs r e true
+is_not_goes fs r e x (Some Null) = null_goes fs r e is_not_null
+is_not_goes fs r e x (Some True) = truth_goes (in_not ∷ fs) r e false
+is_not_goes fs r e x (Some False) = truth_goes fs r e true
 is_not_goes fs r e x k = refused x NullWord
 
 -- ---- postfixes

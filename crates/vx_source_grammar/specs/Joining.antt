@@ -1,6 +1,6 @@
 -- Operators that have their last operand.
 use Rattle.std.specs.Prelude.{ℕ, zero, suc, true, false, List, [], ◌∷◌, ◌++◌, length, Result, Ok, Err, nat_le}
-use Rattle.vx_fn.specs.Functions.{Function, Operation, or_else, adds, logical_not, binary, like, between}
+use Rattle.vx_fn.specs.Functions.{Function, equal, Operation, compares, or_else, adds, logical_not, binary, like, between}
 use Rattle.vx_tree.specs.Trees.{Tree}
 use Rattle.vx_tree.specs.Views.{trees_from}
 use Rattle.vx_source_types.specs.declared.expectation.Expected.{Expected}
@@ -42,6 +42,15 @@ only_left (e ∷ es) = Ok e
 
 abbrev pub chained : Operation → ℕ → List Tree → Result Tree Expected
 chained op r es = when_read only_left (rounds (length es) op r es)
+
+-- the comparisons of an operand with each of some items
+abbrev pub equal_to : Tree → ℕ → List Tree → Result (List Tree) Expected
+equal_to e r [] = Ok []
+equal_to e r (d ∷ ds) = when_read (λ z. when_read (λ zs. Ok (z ∷ zs)) (equal_to e r ds)) (over (binary (compares equal)) (e ∷ d ∷ []) r)
+
+-- the operand is one of the items: a chain of these comparisons
+abbrev pub among : Tree → ℕ → List Tree → Result Tree Expected
+among e r ds = when_read (chained or_else r) (equal_to e r ds)
 
 -- what waits for the operand, with it
 abbrev pub joined : ℕ → Frame → Tree → Result Tree Expected

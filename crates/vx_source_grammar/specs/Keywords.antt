@@ -1,7 +1,7 @@
 -- Words that are no names where an operand or an operator is due.
 use Rattle.std.specs.Prelude.{ℕ, true, false, List, [], ◌∷◌, Option, Some, None, codes}
 use Rattle.vx_source_grammar.specs.declared.words.Keyword.{Keyword}
-use Rattle.vx_source_grammar.specs.declared.words.Keyword.TheVariants.{And, Or, Not, Like, Ilike, Between, Is, Null, True, False, As, Case, When, Then, Else, End}
+use Rattle.vx_source_grammar.specs.declared.words.Keyword.TheVariants.{And, Or, Not, Like, Ilike, Between, In, Is, Null, True, False, As, Case, When, Then, Else, End}
 use Rattle.vx_source_types.specs.Names.{same_word}
 
 -- what stands beside the first word that is the given one, but for the case of its letters
@@ -11,7 +11,7 @@ beside ((v, a) ∷ rest) w = elim (same_word w v) [ true ↦ Some a | false ↦ 
 
 -- the words of operators, of values, and of a CASE and a cast
 abbrev pub operator_words : List (List ℕ × Keyword)
-operator_words = (codes "and", And) ∷ (codes "or", Or) ∷ (codes "not", Not) ∷ (codes "like", Like) ∷ (codes "ilike", Ilike) ∷ (codes "between", Between) ∷ (codes "is", Is) ∷ []
+operator_words = (codes "and", And) ∷ (codes "or", Or) ∷ (codes "not", Not) ∷ (codes "like", Like) ∷ (codes "ilike", Ilike) ∷ (codes "between", Between) ∷ (codes "in", In) ∷ (codes "is", Is) ∷ []
 
 abbrev pub value_words : List (List ℕ × Keyword)
 value_words = (codes "null", Null) ∷ (codes "true", True) ∷ (codes "false", False) ∷ []

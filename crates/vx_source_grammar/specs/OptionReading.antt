@@ -6,7 +6,7 @@ use Rattle.vx_fn.specs.declared.options.FieldSelection.TheVariants.{Include, Exc
 use Rattle.vx_fn.specs.Functions.{equal, not_equal, greater, greater_or_equal, less, less_or_equal, Operation, compares, and_also, or_else, adds, Function, case_when, get_item, literal, pack, select, fill_null, zip, binary, logical_not, between, like, is_null, is_not_null, mask, cast}
 use Rattle.vx_source_types.specs.declared.expectation.Expected.{Expected}
 use Rattle.vx_source_types.specs.declared.expectation.Expected.TheVariants.{CloseBracket as TheBracket, Options}
-use Rattle.vx_source_types.specs.declared.token.Sign.TheVariants.{OpenParen, CloseParen, OpenBracket, CloseBracket, OpenBrace, CloseBrace, Comma, Colon, Tilde, Equal, NotEqual, Less, LessEqual, Greater, GreaterEqual, Plus}
+use Rattle.vx_source_types.specs.declared.token.Sign.TheVariants.{OpenParen, CloseParen, OpenBracket, CloseBracket, OpenBrace, CloseBrace, Comma, Colon, Tilde, Equal, DoubleEqual, NotEqual, Less, LessEqual, Greater, GreaterEqual, Plus}
 use Rattle.vx_source_types.specs.Tokens.{Lexeme, word, quoted, sign}
 use Rattle.vx_source_types.specs.Names.{name_at, same_word}
 use Rattle.vx_source_types.specs.Reading.{more, done, Step, refused}
@@ -31,6 +31,7 @@ is_keyword w x = false
 -- an operator
 abbrev pub operation_at : Lexeme → Option Operation
 operation_at (sign Equal) = Some (compares equal)
+operation_at (sign DoubleEqual) = Some (compares equal)
 operation_at (sign NotEqual) = Some (compares not_equal)
 operation_at (sign Greater) = Some (compares greater)
 operation_at (sign GreaterEqual) = Some (compares greater_or_equal)

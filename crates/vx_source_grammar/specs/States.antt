@@ -31,6 +31,7 @@ pub data Frame : Type 0 where
   in_lower : Tree → Frame
   in_upper : (lower_strict upper_strict : Bool) → (array lower : Tree) → Frame
   in_paren : (room : ℕ) → Frame
+  in_members : Tree → List Tree → (room : ℕ) → Frame
   in_call : Callee → List Tree → (room : ℕ) → Frame
   in_pack : List Name → List Tree → (room : ℕ) → Frame
   in_cast : (room : ℕ) → Frame
@@ -45,8 +46,8 @@ pub data TypeFor : Type 0 where
 -- what is due next: an operand; a call's first child or its end; what follows an operand, or a whole comparison; what follows
 -- a word, `vortex.`, and a name behind that; more options of a function, with so many brackets open in them and the nesting
 -- that is allowed there; the children of a function; the name of a field; a selection, its names, and what is between them; the names and the values of a struct,
--- and what follows it; what follows `not`, `is` and `is not` behind an operand; the first `when`; more of a value; more of a
--- type
+-- and what follows it; what follows `not`, `is`, `is not` and `in` behind an operand; the first `when`; a number behind a `+`;
+-- more of a value; more of a type
 pub data Mode : Type 0 where
   operand_due : Mode
   first_child : Mode
@@ -69,7 +70,9 @@ pub data Mode : Type 0 where
   at_not : Tree → Mode
   at_is : Tree → Mode
   at_is_not : Tree → Mode
+  at_in : Tree → Mode
   case_due : Mode
+  at_plus : Mode
   in_value : ValueState → Mode
   in_type : TypeFor → TypeState → Mode
 
@@ -98,3 +101,7 @@ when_read f (Err e) = Err e
 -- an operand stands there
 abbrev pub stands : List Frame → ℕ → Tree → ExpressionAnswer
 stands fs r e = goes fs (tight e) r
+
+-- a whole comparison stands there, behind which no other may follow
+abbrev pub stands_loosely : List Frame → ℕ → Tree → ExpressionAnswer
+stands_loosely fs r e = goes fs (loose e) r

@@ -20,6 +20,8 @@ pub enum Keyword {
     Ilike,
     /// `between`
     Between,
+    /// `in`
+    In,
     /// `is`
     Is,
     /// `null`
@@ -70,6 +72,8 @@ fn operator_word(name: &FieldName) -> Option<Keyword>
         Some(Keyword::Ilike)
     } else if is_word(name, "between") {
         Some(Keyword::Between)
+    } else if is_word(name, "in") {
+        Some(Keyword::In)
     } else if is_word(name, "is") {
         Some(Keyword::Is)
     } else {

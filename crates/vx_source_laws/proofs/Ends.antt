@@ -17,7 +17,7 @@ use Rattle.vx_source_grammar.specs.Beginning.{PlainReading, fitting, field_read,
 use Rattle.vx_source_grammar.specs.Closing.{bracket_goes, closes}
 use Rattle.vx_source_grammar.specs.ExpressionReading.{next_by, step_by}
 use Rattle.vx_source_grammar.specs.Joining.{over, reduced}
-use Rattle.vx_source_grammar.specs.States.{condition_part, value_part, else_part, Frame, in_chain, in_not, in_binary, in_like, in_lower, in_upper, in_paren, in_call, in_pack, in_cast, in_case, TypeFor, for_literal, for_cast, for_cast_call, Mode, operand_due, first_child, tight, loose, at_word, at_vortex, at_id, in_options, children_due, at_dot, at_selection, at_exclusion, selected_name, selected_next, first_packed, packed_due, packed_value, pack_end, at_not, at_is, at_is_not, case_due, in_value, in_type, ExpressionState, ExpressionAnswer, when_read}
+use Rattle.vx_source_grammar.specs.States.{condition_part, value_part, else_part, Frame, in_chain, in_not, in_binary, in_like, in_lower, in_upper, in_paren, in_members, in_call, in_pack, in_cast, in_case, TypeFor, for_literal, for_cast, for_cast_call, Mode, operand_due, first_child, tight, loose, at_word, at_vortex, at_id, in_options, children_due, at_dot, at_selection, at_exclusion, selected_name, selected_next, first_packed, packed_due, packed_value, pack_end, at_not, at_is, at_is_not, at_in, case_due, at_plus, in_value, in_type, ExpressionState, ExpressionAnswer, when_read}
 
 -- the answer isn't that more follows
 abbrev Ends : ExpressionAnswer → Type 0
@@ -32,6 +32,7 @@ read_ends f (Err e) h = λ u q. (cc)
 bracket_ends : (r : ℕ) (fs : List Frame) (e : Tree) → Ends (bracket_goes r end fs e)
 bracket_ends r [] e = λ u q. (cc)
 bracket_ends r (in_paren outside ∷ fs) e = λ u q. (cc)
+bracket_ends r (in_members lhs es outside ∷ fs) e = λ u q. (cc)
 bracket_ends r (in_call callee es outside ∷ fs) e = λ u q. (cc)
 bracket_ends r (in_pack names es outside ∷ fs) e = λ u q. (cc)
 bracket_ends r (in_cast outside ∷ fs) e = λ u q. (cc)
@@ -96,7 +97,9 @@ next_ends plain fs (pack_end names es) r = node_ends fs r (pack names false) es
 next_ends plain fs (at_not e) r = λ u q. (cc)
 next_ends plain fs (at_is e) r = λ u q. (cc)
 next_ends plain fs (at_is_not e) r = λ u q. (cc)
+next_ends plain fs (at_in e) r = λ u q. (cc)
 next_ends plain fs case_due r = λ u q. (cc)
+next_ends plain fs at_plus r = λ u q. (cc)
 next_ends plain fs (in_value s) r = value_ended plain fs r (value_step s end) (value_stops s)
 next_ends plain fs (in_type wanted s) r = type_ended fs r wanted (type_step s end) (type_stops s)
 

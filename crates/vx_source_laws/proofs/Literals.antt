@@ -14,12 +14,12 @@ use Rattle.vx_value.specs.Texts.{ptype_text}
 use Rattle.vx_value.specs.Types.{number, LogicalType, ty, atomic, Datum, int}
 use Rattle.vx_fn.specs.Functions.{literal}
 use Rattle.vx_tree.specs.Trees.{call, no_tree}
-use Rattle.vx_source_types.specs.Characters.{is_word, is_digit}
+use Rattle.vx_source_types.specs.Characters.{is_word}
 use Rattle.vx_source_types.specs.declared.token.Sign.TheVariants.{OpenBracket, OpenBrace, CloseParen, DoubleColon}
 use Rattle.vx_source_types.specs.Tokens.{Lexeme, word, number as numeral, text as text_token, octets as octets_token, sign, next, first}
 use Rattle.vx_source_types.proofs.Choice.{no}
 use Rattle.vx_source_types.specs.declared.expectation.Expected.TheVariants.{Value}
-use Rattle.vx_source_types.proofs.FirstNumbers.{first_number, first_below_zero}
+use Rattle.vx_source_types.proofs.FirstNumbers.{is_more, first_number, first_below_zero}
 use Rattle.vx_source_types.specs.Names.{same_word}
 use Rattle.vx_source_types.specs.Reading.{more, Leads, stays, leads}
 use Rattle.vx_source_types.specs.TypePrintable.{IsPrintable}
@@ -158,7 +158,7 @@ suffix_is I32 negative n = refl
 suffix_is I64 negative n = refl
 
 -- a suffix begins with a letter that no number has, and is a word
-pub suffix_apart : (p : PType) (rest : List ℕ) → (is_digit (next (ptype_text p ++ rest)) ≡ false) × ((next (ptype_text p ++ rest) == 120) ≡ false) × (list_all is_word (ptype_text p) ≡ true)
+pub suffix_apart : (p : PType) (rest : List ℕ) → (is_more (next (ptype_text p ++ rest)) ≡ false) × ((next (ptype_text p ++ rest) == 120) ≡ false) × (list_all is_word (ptype_text p) ≡ true)
 suffix_apart U8 rest = (refl, refl, refl)
 suffix_apart U16 rest = (refl, refl, refl)
 suffix_apart U32 rest = (refl, refl, refl)

@@ -4,6 +4,7 @@ pub mod Betweens
 pub mod Cases
 pub mod Keywords
 pub mod Marks
+pub mod Members
 pub mod NameLists
 pub mod Packs
 pub mod ReadAll

@@ -18,7 +18,7 @@ use Rattle.vx_source_operands.specs.declared.frame.CasePart.{CasePart}
 use Rattle.vx_source_operands.specs.declared.frame.CasePart.TheVariants.{Condition, Value as ItsValue, Else}
 use Rattle.vx_source_operands.specs.declared.frame.OpenRange.{OpenRange}
 use Rattle.vx_source_operands.specs.declared.frame.Frame.{Frame}
-use Rattle.vx_source_operands.specs.declared.frame.Frame.TheVariants.{Chain, Not, Binary, Like, Lower, Upper, Paren, Call, Pack, Cast, Case}
+use Rattle.vx_source_operands.specs.declared.frame.Frame.TheVariants.{Chain, Not, Binary, Like, Lower, Upper, Paren, Members, Call, Pack, Cast, Case}
 use Rattle.vx_source_operands.specs.declared.state.TypeFor.{TypeFor}
 use Rattle.vx_source_operands.specs.declared.state.TypeFor.TheVariants.{Literal as ForLiteral, Cast as ForCast, CastCall as ForCastCall}
 use Rattle.vx_source_operands.specs.declared.state.OptionsSoFar.{OptionsSoFar}
@@ -63,6 +63,7 @@ frame_of (Like options o) = reading.in_like options.negated options.case_insensi
 frame_of (Lower o) = reading.in_lower (operand_of o)
 frame_of (Upper r) = range_of r.value
 frame_of (Paren b) = reading.in_paren b.room
+frame_of (Members o os b) = reading.in_members (operand_of o.value) (operands_of os.items) b.room
 frame_of (Call callee os b) = reading.in_call (callee_of callee.value) (operands_of os.items) b.room
 frame_of (Pack names os b) = reading.in_pack names.items (operands_of os.items) b.room
 frame_of (Cast b) = reading.in_cast b.room
@@ -102,7 +103,9 @@ mode_of (modes.PackEnd names os start end) = reading.pack_end names.items (opera
 mode_of (modes.NotLike o) = reading.at_not (operand_of o)
 mode_of (modes.Is o) = reading.at_is (operand_of o)
 mode_of (modes.IsNot o) = reading.at_is_not (operand_of o)
+mode_of (modes.In o) = reading.at_in (operand_of o)
 mode_of modes.Case = reading.case_due
+mode_of (modes.Plus start) = reading.at_plus
 mode_of (modes.Value r start end) = reading.in_value (values.reader_of r.value)
 mode_of (modes.Type wanted r end) = reading.in_type (type_for wanted.value) (types.reader_of r.value)
 

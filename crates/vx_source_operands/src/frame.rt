@@ -75,6 +75,8 @@ pub enum Frame {
     Upper(Box<OpenRange>),
     /// `(`
     Paren(Bracket),
+    /// `in (` behind its operand, with the items so far.
+    Members(Box<Operand>, Vec<Operand>, Bracket),
     /// A call's children.
     Call(Box<Callee>, Vec<Operand>, Bracket),
     /// `pack(`, with the names and the operands so far.
@@ -170,6 +172,7 @@ impl Frame {
             Frame::Like(_, _) | Frame::Upper(_) => Some(Level::Comparison),
             Frame::Lower(_)
             | Frame::Paren(_)
+            | Frame::Members(_, _, _)
             | Frame::Call(_, _, _)
             | Frame::Pack(_, _, _)
             | Frame::Cast(_)

@@ -51,6 +51,22 @@ pub fn enclosed(operand: Operand, start: usize, end: usize) -> Operand
     }
 }
 
+/// The operand once more: a clone, which shares what is below its first node, with the place of that node alone.
+pub fn repeated(alloc: Global, operand: &Operand) -> Result<Operand, AllocError>
+    ensures tree { IfOk result (λ again. operand_of again ≡ operand_of operand.now) }
+{
+    let places = Places {
+        start: operand.places.start,
+        end: operand.places.end,
+        children: Vec::new(alloc),
+    };
+    Ok(Operand {
+        tree: operand.tree.clone()?,
+        height: operand.height,
+        places,
+    })
+}
+
 /// The node of the function over the operands, read from these bytes. Refuses with `LessNesting`, at what was found, one
 /// that is higher than the room.
 pub fn node(

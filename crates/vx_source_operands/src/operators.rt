@@ -27,7 +27,7 @@ pub fn comparison(sign: Sign) -> Option<Operator>
     ensures { option_map operation_of result ≡ option_map compares (comparison_of sign) }
 {
     match sign {
-        Sign::Equal => Some(Operator::Eq),
+        Sign::Equal | Sign::DoubleEqual => Some(Operator::Eq),
         Sign::NotEqual => Some(Operator::NotEq),
         Sign::Less => Some(Operator::Lt),
         Sign::LessEqual => Some(Operator::Lte),

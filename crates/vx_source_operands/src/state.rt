@@ -92,12 +92,16 @@ pub enum Mode {
     PackEnd(Vec<FieldName>, Vec<Operand>, usize, usize),
     /// `not` behind an operand.
     NotLike(Operand),
+    /// `in` behind an operand: the bracket around its items is due.
+    In(Operand),
     /// `is` behind an operand.
     Is(Operand),
     /// `is not` behind an operand.
     IsNot(Operand),
     /// `case`: the first `when` is due.
     Case,
+    /// A `+` with which an operand begins, at that byte: a number is due.
+    Plus(usize),
     /// A value that begins at that byte and has ended at the other so far.
     Value(Box<ValueReader>, usize, usize),
     /// A type, the last token of which ended at that byte.

@@ -2,7 +2,7 @@
 use Rattle.std.proofs.Common.{◌≡◌, ℕ, Bool, true, false, List, ◌∷◌, Option, Some, None, refl, ap}
 use Rattle.std.specs.Prelude.{◌==◌}
 use Rattle.vx_source_types.specs.declared.token.Sign.{Sign}
-use Rattle.vx_source_types.specs.declared.token.Sign.TheVariants.{OpenParen, CloseParen, OpenBracket, CloseBracket, OpenBrace, CloseBrace, Comma, Question, Equal}
+use Rattle.vx_source_types.specs.declared.token.Sign.TheVariants.{OpenParen, CloseParen, OpenBracket, CloseBracket, OpenBrace, CloseBrace, Comma, Question, Equal, DoubleEqual}
 use Rattle.vx_source_types.specs.Tokens.{sign, next, sign_taken, first}
 use Rattle.vx_source_types.proofs.Choice.{no}
 
@@ -37,4 +37,4 @@ first_close_brace rest = ap (λ o. sign_taken o (Some CloseBrace) rest) (alone (
 
 -- an equals sign that no other follows
 pub first_equal : (rest : List ℕ) → (next rest == 61) ≡ false → first (61 ∷ rest) ≡ (sign Equal, rest)
-first_equal rest e = ap (λ o. sign_taken o (Some Equal) rest) (no (next rest == 61) (Some Equal) None e)
+first_equal rest e = ap (λ o. sign_taken o (Some Equal) rest) (no (next rest == 61) (Some DoubleEqual) None e)

@@ -6,6 +6,7 @@ use Rattle.std.specs.Str.{IsUtf8}
 use Rattle.std.proofs.lemmas.Bool.Decides.{nat_tests}
 use Rattle.vx_source_types.specs.Characters.{is_letter, is_digit, is_word, is_blank}
 use Rattle.vx_source_types.specs.Spellings.{is_plain, doubled, between_quotes}
+use Rattle.vx_source_types.specs.declared.expectation.Expected.TheVariants.{ClosingQuote}
 use Rattle.vx_source_types.specs.Tokens.{Lexeme, word, quoted, text, Taken, next, skip, begins_comment, is_hex, word_len, other_taken, token_at, first, quoted_taken, text_taken}
 use Rattle.vx_source_types.proofs.Choice.{yes, no}
 use Rattle.vx_source_types.proofs.Quoting.{text_of_utf8, quoted_of_utf8}
@@ -105,7 +106,7 @@ first_quoted a rest u e =
 pub first_text : (a rest : List ℕ) → IsUtf8 a → (next rest == 34) ≡ false → first (between_quotes 34 a ++ rest) ≡ (text a, rest)
 first_text a rest u e =
     let regrouped : between_quotes 34 a ++ rest ≡ 34 ∷ (doubled 34 a ++ 34 ∷ rest) = ap (λ xs. 34 ∷ xs) (append_assoc (doubled 34 a) (34 ∷ []) rest) in
-    ap first regrouped ∙ ap text_taken (unquoted_doubled 34 a rest e) ∙ ap (λ x. let taken : Taken = (x, rest) in taken) (text_of_utf8 a u)
+    ap first regrouped ∙ ap (text_taken ClosingQuote) (unquoted_doubled 34 a rest e) ∙ ap (λ x. let taken : Taken = (x, rest) in taken) (text_of_utf8 ClosingQuote a u)
 
 -- a length that isn't 0
 pub not_empty : (n : ℕ) → (n == 0) ≡ false → 1 ≤ n

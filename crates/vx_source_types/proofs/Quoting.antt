@@ -5,7 +5,8 @@ use Rattle.std.proofs.lemmas.Bool.Decides.{nat_tests}
 use Rattle.std.specs.Str.{IsUtf8, is_utf8}
 use Rattle.std.proofs.lemmas.Str.{IsUtf8-from_is_utf8, is_utf8-from_IsUtf8}
 use Rattle.vx_source_types.proofs.Choice.{yes, no}
-use Rattle.vx_source_types.specs.declared.expectation.Expected.TheVariants.{ClosingQuote, ClosingBackquote}
+use Rattle.vx_source_types.specs.declared.expectation.Expected.{Expected}
+use Rattle.vx_source_types.specs.declared.expectation.Expected.TheVariants.{ClosingBackquote}
 use Rattle.vx_source_types.specs.Tokens.{text, quoted, invalid, text_lexeme, quoted_lexeme, unquoted, with_byte, after_bytes}
 
 -- what a text that isn't UTF-8 is by the test
@@ -13,11 +14,11 @@ not_utf8 : (b : Bool) (bs : List ℕ) → is_utf8 bs ≡ b → ¬ (IsUtf8 bs) �
 not_utf8 true bs e h = absurd (h (IsUtf8-from_is_utf8 bs e))
 not_utf8 false bs e h = refl
 
-pub text_of_utf8 : (bs : List ℕ) → IsUtf8 bs → text_lexeme bs ≡ text bs
-text_of_utf8 bs h = yes (is_utf8 bs) _ _ (is_utf8-from_IsUtf8 bs h)
+pub text_of_utf8 : (wanted : Expected) (bs : List ℕ) → IsUtf8 bs → text_lexeme wanted bs ≡ text bs
+text_of_utf8 wanted bs h = yes (is_utf8 bs) _ _ (is_utf8-from_IsUtf8 bs h)
 
-pub text_of_others : (bs : List ℕ) → ¬ (IsUtf8 bs) → text_lexeme bs ≡ invalid ClosingQuote
-text_of_others bs h = no (is_utf8 bs) _ _ (not_utf8 (is_utf8 bs) bs refl h)
+pub text_of_others : (wanted : Expected) (bs : List ℕ) → ¬ (IsUtf8 bs) → text_lexeme wanted bs ≡ invalid wanted
+text_of_others wanted bs h = no (is_utf8 bs) _ _ (not_utf8 (is_utf8 bs) bs refl h)
 
 pub quoted_of_utf8 : (bs : List ℕ) → IsUtf8 bs → quoted_lexeme bs ≡ quoted bs
 quoted_of_utf8 bs h = yes (is_utf8 bs) _ _ (is_utf8-from_IsUtf8 bs h)

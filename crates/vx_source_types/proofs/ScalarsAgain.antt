@@ -11,9 +11,9 @@ use Rattle.vx_value.specs.Columns.{constant}
 use Rattle.vx_value.specs.Fits.{fits, each_fits, fields_fit, Fits}
 use Rattle.vx_value.specs.Texts.{ptype_text}
 use Rattle.vx_value.specs.Types.{Name, truth, number, text, octets, LogicalType, ty, atomic, list, fixed, struct, Fields, no_field, field, Datum, null, bool, int, utf8, bytes, list_of, struct_of, Data, no_datum, datum}
-use Rattle.vx_source_types.specs.Characters.{is_word, is_digit}
+use Rattle.vx_source_types.specs.Characters.{is_word}
 use Rattle.vx_source_types.specs.Tokens.{number as numeral, end, next, first}
-use Rattle.vx_source_types.proofs.FirstNumbers.{first_number, first_below_zero}
+use Rattle.vx_source_types.proofs.FirstNumbers.{is_more, first_number, first_below_zero}
 use Rattle.vx_source_types.specs.Reading.{done, Leads, stays, leads, IsRead, is_read}
 use Rattle.vx_source_types.specs.TypePrintable.{IsPrintable, type_nesting}
 use Rattle.vx_source_types.specs.TypeReading.{TypeState, type_start, type_step}
@@ -139,7 +139,7 @@ suffix_is I32 negative n = refl
 suffix_is I64 negative n = refl
 
 -- a suffix begins with a letter that no number has, and is a word
-suffix_apart : (p : PType) → (is_digit (next (ptype_text p ++ [])) ≡ false) × ((next (ptype_text p ++ []) == 120) ≡ false) × (list_all is_word (ptype_text p) ≡ true)
+suffix_apart : (p : PType) → (is_more (next (ptype_text p ++ [])) ≡ false) × ((next (ptype_text p ++ []) == 120) ≡ false) × (list_all is_word (ptype_text p) ≡ true)
 suffix_apart U8 = (refl, refl, refl)
 suffix_apart U16 = (refl, refl, refl)
 suffix_apart U32 = (refl, refl, refl)

@@ -12,11 +12,11 @@ use Rattle.vx_value.specs.Fits.{fits, each_fits, fields_fit, fits_ptype, Fits}
 use Rattle.vx_value.specs.Types.{Name, bits, is_signed, number, LogicalType, ty, atomic, list, fixed, struct, Fields, no_field, field, Datum, null, bool, int, utf8, bytes, list_of, struct_of, Data, no_datum, datum}
 use Rattle.vx_dtype.specs.Texts.{with_commas}
 use Rattle.vx_dtype.proofs.Commas.{after_commas}
-use Rattle.vx_source_types.specs.Characters.{is_word, is_digit}
+use Rattle.vx_source_types.specs.Characters.{is_word}
 use Rattle.vx_source_types.specs.declared.token.Sign.TheVariants.{OpenBracket, CloseBracket, OpenBrace}
 use Rattle.vx_source_types.specs.Tokens.{Lexeme, word, number as numeral, text as text_lexeme, octets as octets_lexeme, sign, next, first}
 use Rattle.vx_source_types.proofs.FirstTokens.{first_word, first_quoted, first_text}
-use Rattle.vx_source_types.proofs.FirstNumbers.{first_number, first_below_zero}
+use Rattle.vx_source_types.proofs.FirstNumbers.{is_more, first_number, first_below_zero}
 use Rattle.vx_source_types.proofs.FirstOctets.{first_octets}
 use Rattle.vx_source_types.proofs.FirstSigns.{first_open_bracket, first_close_bracket, first_open_brace, first_close_brace, first_comma}
 use Rattle.vx_source_types.specs.Names.{is_plain, name_source, between_quotes}
@@ -89,8 +89,8 @@ fits_small p n h = small_bits p n (ltb-true n (2 ^ bits p) h)
 pub fits_below_zero : (p : PType) (n : ℕ) → fits_ptype (negsuc n) p ≡ true → suc n < 2 ^ 64
 fits_below_zero p n h = below_bits p n h
 
-word_no_digit : (b : ℕ) → is_word b ≡ false → is_digit b ≡ false
-word_no_digit b e = grind (arith, nat_tests)
+word_no_more : (b : ℕ) → is_word b ≡ false → is_more b ≡ false
+word_no_more b e = grind (arith, nat_tests)
 
 word_no_x : (b : ℕ) → is_word b ≡ false → (b == 120) ≡ false
 word_no_x b e = grind (arith, nat_tests)
@@ -99,10 +99,10 @@ number_again : (i : ℤ) (p : PType) (fs : List ValueFrame) (ns : List Name) (r 
     → Begins (at fs value_due ns r) (signed_decimal i ++ rest) (at fs (whole_value (int i)) ns r) rest
 number_again (pos n) p fs ns r rest h e =
     one_token fs ns r (int (pos n)) (decimal n ++ rest) rest (numeral false (Some n) [])
-    (first_number n [] rest (fits_small p n h) (word_no_digit (next rest) e) (word_no_x (next rest) e) refl e) refl refl
+    (first_number n [] rest (fits_small p n h) (word_no_more (next rest) e) (word_no_x (next rest) e) refl e) refl refl
 number_again (negsuc n) p fs ns r rest h e =
     one_token fs ns r (int (negsuc n)) (45 ∷ (decimal (suc n) ++ rest)) rest (numeral true (Some (suc n)) [])
-    (first_below_zero (suc n) [] rest (fits_below_zero p n h) (word_no_digit (next rest) e) refl e) refl refl
+    (first_below_zero (suc n) [] rest (fits_below_zero p n h) (word_no_more (next rest) e) refl e) refl refl
 
 -- ---- the names of the structs, outer ones first, behind those that are there
 

@@ -1,13 +1,13 @@
 -- The first token of a text.
-use Rattle.std.specs.Prelude.{ℕ, ◌^◌, ◌+◌, ◌*◌, ◌-◌, Bool, true, false, not, List, [], ◌∷◌, ◌++◌, Option, Some, None, Result, Ok, Err, take, drop, ◌==◌, nat_lt}
+use Rattle.std.specs.Prelude.{ℕ, ◌^◌, ◌+◌, ◌*◌, ◌-◌, Bool, true, false, not, ◌||◌, ◌&&◌, List, [], ◌∷◌, ◌++◌, Option, Some, None, Result, Ok, Err, take, drop, ◌==◌, nat_lt}
 use Rattle.std.specs.List.{prefix_len}
 use Rattle.std.specs.Str.{is_utf8}
 use Rattle.hex.specs.Hex.{decode_of}
 use Rattle.hex.specs.declared.error.FromHexError.{FromHexError}
 use Rattle.vx_source_types.specs.declared.expectation.Expected.{Expected}
-use Rattle.vx_source_types.specs.declared.expectation.Expected.TheVariants.{Token, ClosingQuote, ClosingBackquote, HexDigits}
+use Rattle.vx_source_types.specs.declared.expectation.Expected.TheVariants.{Token, ClosingQuote, ClosingSingleQuote, ClosingBackquote, HexDigits}
 use Rattle.vx_source_types.specs.declared.token.Sign.{Sign}
-use Rattle.vx_source_types.specs.declared.token.Sign.TheVariants.{OpenParen, CloseParen, OpenBracket, CloseBracket, OpenBrace, CloseBrace, Comma, Colon, DoubleColon, Dot, Question, Tilde, Equal, NotEqual, Less, LessEqual, Greater, GreaterEqual, Plus, Dollar}
+use Rattle.vx_source_types.specs.declared.token.Sign.TheVariants.{OpenParen, CloseParen, OpenBracket, CloseBracket, OpenBrace, CloseBrace, Comma, Colon, DoubleColon, Dot, Question, Tilde, Equal, DoubleEqual, NotEqual, Less, LessEqual, Greater, GreaterEqual, Plus, Dollar}
 use Rattle.vx_source_types.specs.Characters.{is_letter, is_digit, is_word, is_blank}
 
 -- what stands in a text: words, names between backquotes, numbers (below zero or not, their magnitude where it is below
@@ -59,18 +59,18 @@ after_bytes before (Some (made, rest)) = Some (before ++ made, rest)
 abbrev pub Taken : Type 0
 Taken = Lexeme × List ℕ
 
--- what stands between double quotes, where it is UTF-8
-abbrev pub text_lexeme : List ℕ → Lexeme
-text_lexeme made = elim (is_utf8 made) [ true ↦ text made | false ↦ invalid ClosingQuote ]
+-- what stands between quotes, where it is UTF-8, or what would have stood right
+abbrev pub text_lexeme : Expected → List ℕ → Lexeme
+text_lexeme wanted made = elim (is_utf8 made) [ true ↦ text made | false ↦ invalid wanted ]
 
 -- what stands between backquotes, where it is UTF-8
 abbrev pub quoted_lexeme : List ℕ → Lexeme
 quoted_lexeme made = elim (is_utf8 made) [ true ↦ quoted made | false ↦ invalid ClosingBackquote ]
 
--- a text between double quotes
-abbrev pub text_taken : Option (List ℕ × List ℕ) → Taken
-text_taken None = (invalid ClosingQuote, [])
-text_taken (Some (made, rest)) = (text_lexeme made, rest)
+-- a text between quotes, or what would have stood right
+abbrev pub text_taken : Expected → Option (List ℕ × List ℕ) → Taken
+text_taken wanted None = (invalid wanted, [])
+text_taken wanted (Some (made, rest)) = (text_lexeme wanted made, rest)
 
 -- a name between backquotes
 abbrev pub quoted_taken : Option (List ℕ × List ℕ) → Taken
@@ -95,16 +95,29 @@ abbrev pub more_digits : Option ℕ → ℕ → Option ℕ
 more_digits None digit = None
 more_digits (Some n) digit = narrow (n * 10 + (digit - 48))
 
--- what the digits behind a number make of it, if that is below 2 ^ 64
+-- the same of a digit, and of an underscore the number as it is
+abbrev pub more_or_same : Option ℕ → ℕ → Option ℕ
+more_or_same value b = elim (b == 95) [ true ↦ value | false ↦ more_digits value b ]
+
+-- what the digits behind a number make of it, if that is below 2 ^ 64, where underscores are left out
 abbrev pub magnitude : Option ℕ → List ℕ → Option ℕ
 magnitude value [] = value
-magnitude value (digit ∷ digits) = magnitude (more_digits value digit) digits
+magnitude value (b ∷ bs) = magnitude (more_or_same value b) bs
+
+-- whether digits go on at the front: with a digit, or an underscore before one
+abbrev pub digits_go_on : ℕ → List ℕ → Bool
+digits_go_on b bs = is_digit b || (b == 95 && is_digit (next bs))
+
+-- how many bytes the digits take at the front, with the underscores between them; the first is a digit
+abbrev pub digits_len : List ℕ → ℕ
+digits_len [] = 0
+digits_len (b ∷ bs) = elim (digits_go_on b bs) [ true ↦ 1 + digits_len bs | false ↦ 0 ]
 
 -- what follows `0x`
 abbrev pub octets_taken : List ℕ → Taken
 octets_taken bs = (octets_lexeme (decode_of (take (word_len bs) bs)), drop (word_len bs) bs)
 
--- a number of that many digits, and the word behind them
+-- a number whose digits take that many bytes, and the word behind them
 abbrev pub number_of : Bool → ℕ → List ℕ → Taken
 number_of negative n bs =
     let rest = drop n bs in
@@ -112,7 +125,7 @@ number_of negative n bs =
 
 -- a number, or bytes behind `0x`
 abbrev pub number_taken : Bool → List ℕ → Taken
-number_taken negative bs = number_of negative (prefix_len is_digit bs) bs
+number_taken negative bs = number_of negative (digits_len bs) bs
 
 -- whether `0x` is at the front
 abbrev pub is_hex : ℕ → List ℕ → Bool
@@ -198,7 +211,7 @@ long_sign b c =
                         | true ↦ Some GreaterEqual
                         | false ↦
                             elim (b == 61) [
-                              | true ↦ Some Equal
+                              | true ↦ Some DoubleEqual
                               | false ↦
                                   elim (b == 33) [ true ↦ Some NotEqual | false ↦ None ]
                             ]
@@ -226,12 +239,16 @@ dash_taken bs = elim (is_digit (next bs)) [ true ↦ number_taken true bs | fals
 abbrev pub other_taken : ℕ → List ℕ → Taken
 other_taken b bs =
     elim (b == 34) [
-      | true ↦ text_taken (unquoted 34 false bs)
+      | true ↦ text_taken ClosingQuote (unquoted 34 false bs)
       | false ↦
-          elim (b == 96) [
-            | true ↦ quoted_taken (unquoted 96 false bs)
+          elim (b == 39) [
+            | true ↦ text_taken ClosingSingleQuote (unquoted 39 false bs)
             | false ↦
-                elim (b == 45) [ true ↦ dash_taken bs | false ↦ sign_taken (long_sign b (next bs)) (short_sign b) bs ]
+                elim (b == 96) [
+                  | true ↦ quoted_taken (unquoted 96 false bs)
+                  | false ↦
+                      elim (b == 45) [ true ↦ dash_taken bs | false ↦ sign_taken (long_sign b (next bs)) (short_sign b) bs ]
+                ]
           ]
     ]
 

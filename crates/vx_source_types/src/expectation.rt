@@ -5,11 +5,14 @@ use thiserror::Error;
 #[derive(Clone, Copy, Debug, PartialEq, Eq, Error)]
 pub enum Expected {
     /// What stands there is no part of any text.
-    #[error("expected a word, a number, a text in double quotes, a name in backquotes or a sign")]
+    #[error("expected a word, a number, a text in quotes, a name in backquotes or a sign")]
     Token,
-    /// A text has no end.
+    /// A text between double quotes has no end.
     #[error("expected a closing double quote")]
     ClosingQuote,
+    /// A text between single quotes has no end.
+    #[error("expected a closing single quote")]
+    ClosingSingleQuote,
     /// A name has no end.
     #[error("expected a closing backquote")]
     ClosingBackquote,
@@ -88,11 +91,11 @@ pub enum Expected {
     /// Comparisons don't chain, but `lo < x <= hi`.
     #[error("expected `and`, `or`, or parentheses around the comparison")]
     Parens,
-    /// What is negated is no LIKE.
-    #[error("expected `like` or `ilike`")]
+    /// What is negated behind an operand is none of the operators that may be.
+    #[error("expected `like`, `ilike`, `between` or `in`")]
     Like,
     /// `is` is followed by something else.
-    #[error("expected `null` or `not null`")]
+    #[error("expected `null`, `true` or `false`, or one of them behind `not`")]
     Null,
     /// The upper bound is missing.
     #[error("expected `and` and the upper bound")]

@@ -73,7 +73,8 @@ fn other_at(alloc: Global, b: u8, rest: &[u8]) -> Result<(Token, usize), AllocEr
     ensures within { IfOk result (λ r. r.1 ≤ length rest.now) }
 {
     match b {
-        b'"' => text_at(alloc, rest),
+        b'"' => text_at(alloc, b'"', Expected::ClosingQuote, rest),
+        b'\'' => text_at(alloc, b'\'', Expected::ClosingSingleQuote, rest),
         b'`' => name_at(alloc, rest),
         b'-' => dash_at(alloc, rest),
         _ => Ok(sign_at(b, rest)),

@@ -1,14 +1,12 @@
 // Numbers, and bytes.
 ghost use Rattle.std.specs.Prelude.{◌≡◌, ◌≤◌, ℕ, length, drop, IfOk, take, Some};
-ghost use Rattle.std.specs.List.{prefix_len};
 ghost use Rattle.hex.specs.Hex.{decode_of};
-ghost use Rattle.vx_source_types.specs.Characters.{is_digit};
-ghost use Rattle.vx_source_types.specs.Tokens.{number_taken, octets_taken, octets_lexeme, magnitude, more_digits};
+ghost use Rattle.vx_source_types.specs.Tokens.{number_taken, digits_len, octets_taken, octets_lexeme, magnitude, more_or_same, more_digits};
 ghost use Rattle.vx_source_types.specs.Views.{taken_of, lexeme_of};
 
 use crate::expectation::Expected;
 use crate::token::Token;
-use crate::words::{digit_len, word_len, word_of};
+use crate::words::{digits_len, word_len, word_of};
 use hex::FromHexError;
 use std::alloc::{AllocError, Global};
 
@@ -20,9 +18,9 @@ pub(crate) fn number_at(
 ) -> Result<(Token, usize), AllocError>
     ensures taken { IfOk result (λ r. number_taken negative bytes.now ≡ taken_of bytes.now r.0 r.1) }
     ensures within { IfOk result (λ r. r.1 ≤ length bytes.now) }
-    ensures digits { IfOk result (λ r. prefix_len is_digit bytes.now ≤ r.1) }
+    ensures digits { IfOk result (λ r. digits_len bytes.now ≤ r.1) }
 {
-    let digits = digit_len(bytes);
+    let digits = digits_len(bytes);
     let rest = &bytes[digits..];
     let token = Token::Number {
         negative,
@@ -32,15 +30,26 @@ pub(crate) fn number_at(
     Ok((token, digits + word_len(rest)))
 }
 
-// What the digits stand for, if it is below 2^64.
+// What the digits stand for, if it is below 2^64, where underscores between them are left out.
 fn magnitude(digits: &[u8]) -> Option<u64>
     ensures { result ≡ magnitude (Some 0) digits.now }
 {
     let mut value = Some(0);
     for digit in digits {
-        value = more_digits(value, *digit);
+        value = more_or_same(value, *digit);
     }
     value
+}
+
+// The number with another digit, and with an underscore as it is.
+fn more_or_same(value: Option<u64>, b: u8) -> Option<u64>
+    ensures { result ≡ more_or_same value b }
+{
+    if b == b'_' {
+        value
+    } else {
+        more_digits(value, b)
+    }
 }
 
 // Ten times the number and the digit more, if that is below 2^64.

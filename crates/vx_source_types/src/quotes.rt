@@ -36,15 +36,20 @@ fn unquoted(alloc: Global, quote: u8, bytes: &[u8]) -> Result<Option<(Vec<u8>, u
     if seen { Ok(Some((made, at))) } else { Ok(None) }
 }
 
-// The text behind a double quote, and how many bytes it takes.
-pub(crate) fn text_at(alloc: Global, bytes: &[u8]) -> Result<(Token, usize), AllocError>
-    ensures taken { IfOk result (λ r. text_taken (unquoted 34 false bytes.now) ≡ taken_of bytes.now r.0 r.1) }
+// The text behind such a quote, and how many bytes it takes, or what would have stood right.
+pub(crate) fn text_at(
+    alloc: Global,
+    quote: u8,
+    wanted: Expected,
+    bytes: &[u8],
+) -> Result<(Token, usize), AllocError>
+    ensures taken { IfOk result (λ r. text_taken wanted (unquoted quote false bytes.now) ≡ taken_of bytes.now r.0 r.1) }
     ensures within { IfOk result (λ r. r.1 ≤ length bytes.now) }
 {
-    let Some((made, len)) = unquoted(alloc, b'"', bytes)? else {
-        return Ok((Token::Invalid(Expected::ClosingQuote), bytes.len()));
+    let Some((made, len)) = unquoted(alloc, quote, bytes)? else {
+        return Ok((Token::Invalid(wanted), bytes.len()));
     };
-    Ok((text_of(alloc, made.as_slice())?, len))
+    Ok((text_of(alloc, wanted, made.as_slice())?, len))
 }
 
 // The name behind a backquote, and how many bytes it takes.
@@ -58,13 +63,13 @@ pub(crate) fn name_at(alloc: Global, bytes: &[u8]) -> Result<(Token, usize), All
     Ok((name_of(alloc, made.as_slice())?, len))
 }
 
-// The token of what stands between double quotes.
-fn text_of(alloc: Global, made: &[u8]) -> Result<Token, AllocError>
-    ensures { IfOk result (λ t. lexeme_of t ≡ text_lexeme made.now) }
+// The token of what stands between quotes, or what would have stood right.
+fn text_of(alloc: Global, wanted: Expected, made: &[u8]) -> Result<Token, AllocError>
+    ensures { IfOk result (λ t. lexeme_of t ≡ text_lexeme wanted made.now) }
 {
     match str::from_utf8(made) {
         Ok(text) => Ok(Token::Text(String::from_str(alloc, text)?)),
-        Err(_) => Ok(Token::Invalid(Expected::ClosingQuote)),
+        Err(_) => Ok(Token::Invalid(wanted)),
     }
 }
 

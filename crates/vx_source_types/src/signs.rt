@@ -38,7 +38,7 @@ pub(crate) fn long_sign(b: u8, c: u8) -> Option<Sign>
         (b'<', b'=') => Some(Sign::LessEqual),
         (b'<', b'>') => Some(Sign::NotEqual),
         (b'>', b'=') => Some(Sign::GreaterEqual),
-        (b'=', b'=') => Some(Sign::Equal),
+        (b'=', b'=') => Some(Sign::DoubleEqual),
         (b'!', b'=') => Some(Sign::NotEqual),
         _ => None,
     }

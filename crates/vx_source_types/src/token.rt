@@ -29,8 +29,10 @@ pub enum Sign {
     Question,
     /// `~`
     Tilde,
-    /// `=` or `==`
+    /// `=`
     Equal,
+    /// `==`
+    DoubleEqual,
     /// `!=` or `<>`
     NotEqual,
     /// `<`
@@ -54,7 +56,8 @@ pub enum Token {
     Word(FieldName),
     /// A name between backquotes, of which two stand for one inside it.
     Quoted(FieldName),
-    /// A whole number with the word that follows it at once, which may be empty.
+    /// A whole number, single underscores between its digits left out, with the word that follows it at once, which may be
+    /// empty.
     Number {
         /// Whether a minus stands before it.
         negative: bool,
@@ -63,7 +66,7 @@ pub enum Token {
         /// The word.
         suffix: FieldName,
     },
-    /// A text between double quotes, of which two stand for one inside it.
+    /// A text between double or single quotes, of which two stand for one inside it.
     Text(String),
     /// Bytes, by two hexadecimal digits each behind `0x`.
     Octets(Vec<u8>),

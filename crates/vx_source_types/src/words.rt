@@ -1,11 +1,11 @@
 // The characters of words and numbers.
 ghost use Rattle.std.specs.Prelude.{◌≡◌, ◌≤◌, ◌+◌, length, drop, IfOk, take, false};
-ghost use Rattle.std.specs.List.{prefix_len};
 ghost use Rattle.vx_source_types.specs.Characters.{is_letter, is_digit, is_word};
 ghost use Rattle.std.specs.List.{list_all};
 ghost use Rattle.vx_source_types.specs.Spellings.{is_plain};
-ghost use Rattle.vx_source_types.specs.Tokens.{word_len};
+ghost use Rattle.vx_source_types.specs.Tokens.{digits_go_on, digits_len, word_len};
 
+use crate::blanks::next;
 use std::alloc::{AllocError, Global};
 use std::str;
 use vx_dtype::FieldName;
@@ -65,16 +65,23 @@ pub(crate) fn word_len(bytes: &[u8]) -> usize
     at
 }
 
-// How many digits there are at the front.
-pub(crate) fn digit_len(bytes: &[u8]) -> usize
-    ensures len { result ≡ prefix_len is_digit bytes.now }
+// How many bytes the digits at the front take, with the underscores between them. The first is a digit.
+pub(crate) fn digits_len(bytes: &[u8]) -> usize
+    ensures len { result ≡ digits_len bytes.now }
     ensures within { result ≤ length bytes.now }
 {
     let mut at = 0;
-    while at < bytes.len() && is_digit(bytes[at]) {
+    while at < bytes.len() && digits_go_on(bytes[at], &bytes[at + 1..]) {
         at += 1;
     }
     at
+}
+
+// Whether digits go on with that byte: with a digit, or an underscore before one.
+fn digits_go_on(b: u8, rest: &[u8]) -> bool
+    ensures { result ≡ digits_go_on b rest.now }
+{
+    is_digit(b) || (b == b'_' && is_digit(next(rest)))
 }
 
 // The longest word at the front.
