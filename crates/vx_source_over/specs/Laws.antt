@@ -4,7 +4,7 @@ use Rattle.vx_value.specs.Fits.{Fits}
 use Rattle.vx_value.specs.Types.{LogicalType, Datum}
 use Rattle.vx_fn.specs.Functions.{Function, literal}
 use Rattle.vx_tree.specs.Trees.{Tree, root, call, Trees, no_tree, tree, typed}
-use Rattle.vx_source_over.specs.Peers.{open_literal, child_at}
+use Rattle.vx_source_over.specs.Peers.{open_value, child_at}
 use Rattle.vx_source_over.specs.Reading.{ReadsAlone, ReadsOver}
 use Rattle.vx_source_over.specs.Settling.{read_over}
 
@@ -13,8 +13,8 @@ use Rattle.vx_source_over.specs.Settling.{read_over}
 mutual
   pub data IsRetyped : Tree → Option Tree → Tree → Type 0 where
     same_root : {d : Option Tree} → IsRetyped root d root
-    other_type : {f : Function} {es : Trees} {d : Option Tree} {t : LogicalType} {v : Datum} → open_literal f d ≡ Some v → Fits v t → IsRetyped (call f es) d (call (literal t v) es)
-    same_node : {f : Function} {es ts : Trees} {d : Option Tree} → open_literal f d ≡ None → AreRetyped 0 es d ts → IsRetyped (call f es) d (call f ts)
+    other_type : {f : Function} {es : Trees} {d : Option Tree} {t : LogicalType} {v : Datum} → open_value f d ≡ Some v → Fits v t → IsRetyped (call f es) d (call (literal t v) es)
+    same_node : {f : Function} {es ts : Trees} {d : Option Tree} → open_value f d ≡ None → AreRetyped 0 es d ts → IsRetyped (call f es) d (call f ts)
 
   -- so of the children from that index on
   pub data AreRetyped : ℕ → Trees → Option Tree → Trees → Type 0 where

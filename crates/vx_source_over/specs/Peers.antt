@@ -65,14 +65,14 @@ literal_of (literal t v) = Some (constant t v)
 literal_of _ = None
 
 -- the value of a scalar to which the other reading gives another type
-abbrev pub value_of_open : Option Constant → Option Constant → Option Datum
-value_of_open (Some c) (Some b) = if equal_type c.type b.type then None else Some c.value
-value_of_open (Some c) None = None
-value_of_open None other = None
+abbrev pub value_left_open : Option Constant → Option Constant → Option Datum
+value_left_open (Some c) (Some b) = if equal_type c.type b.type then None else Some c.value
+value_left_open (Some c) None = None
+value_left_open None other = None
 
 -- the value of a literal that was written without a type, so that the other reading, d, gives it another one
-abbrev pub open_literal : Function → Option Tree → Option Datum
-open_literal f d = value_of_open (literal_of f) (option_and_then literal_of (option_and_then function_at d))
+abbrev pub open_value : Function → Option Tree → Option Datum
+open_value f d = value_left_open (literal_of f) (option_and_then literal_of (option_and_then function_at d))
 
 -- what the other reading has at the child of that index
 abbrev pub child_at : Option Tree → ℕ → Option Tree
@@ -83,7 +83,7 @@ child_at d i = option_and_then (λ n. tree_at (children_of n) i) d
 abbrev mutual
   pub is_open : Tree → Option Tree → Bool
   is_open root d = false
-  is_open (call f es) d = is_some (open_literal f d) || (has_type_of_peers f && are_open f 0 es d)
+  is_open (call f es) d = is_some (open_value f d) || (has_type_of_peers f && are_open f 0 es d)
 
   -- so of each peer among the children from that index on
   pub are_open : Function → ℕ → Trees → Option Tree → Bool

@@ -9,6 +9,8 @@ use Rattle.vx_source_grammar.specs.ExpressionReading.{expression_step}
 use Rattle.vx_source_grammar.specs.States.{expression_start}
 use Rattle.vx_source_parser.specs.Placed.{AreReadings, tree_in}
 use Rattle.vx_source_parser.specs.declared.whole.Placed.{Placed}
+use Rattle.vx_source_parser.specs.declared.whole.Readings.{Readings}
+use Rattle.vx_source_types.specs.declared.error.ParseError.{ParseError}
 use Rattle.vx_source_types.specs.declared.error.ParseError.TheVariants.{OutOfMemory as NoMemory}
 use Rattle.vx_source_over.specs.declared.error.OverError.{OverError}
 use Rattle.vx_source_over.specs.declared.error.OverError.TheVariants.{OutOfMemory, Unexpected, Misfit}
@@ -65,7 +67,11 @@ IsAlone limit text alone = MatchOption alone ((e : Tree) → ReadsAlone limit te
 abbrev pub IsUnread : ℕ → List ℕ → Type 0
 IsUnread limit text = ((e : Tree) → ReadsAlone limit text e → ⊥) × HasNoReadings limit text
 
+-- the two readings of the text, if there are
+abbrev pub AreOpen : ℕ → List ℕ → Result Readings ParseError → Type 0
+AreOpen limit text readings = MatchResult readings (λ both. AreReadings limit text (tree_in both.first) (tree_of both.second)) (λ e. (e ≡ NoMemory → ⊥) × HasNoReadings limit text)
+
 -- that holds what the text is read as
 pub record IsWritten (limit : ℕ) (text : List ℕ) (w : Written) : Type 0 where
   pub alone : IsAlone limit text w.alone
-  pub readings : MatchResult w.readings (λ both. AreReadings limit text (tree_in both.first) (tree_of both.second)) (λ e. (e ≡ NoMemory → ⊥) × HasNoReadings limit text)
+  pub readings : AreOpen limit text w.readings

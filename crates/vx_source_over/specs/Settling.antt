@@ -1,6 +1,6 @@
 -- Literals that take their type from what they stand beside. Of two readings of a text the first is e; d is the other
 -- one, which tells the literals that were written without a type.
-use Rattle.std.specs.Prelude.{ℕ, suc, Bool, true, false, List, [], ◌∷◌, Option, Some, None, Result, Ok, Err, if◌then◌else◌}
+use Rattle.std.specs.Prelude.{ℕ, suc, drop, Bool, true, false, List, [], ◌∷◌, Option, Some, None, Result, Ok, Err, if◌then◌else◌}
 use Rattle.std.specs.Option.{option_or}
 use Rattle.std.specs.Result.{result_ok}
 use Rattle.vx_value.specs.Columns.{Constant}
@@ -10,7 +10,7 @@ use Rattle.vx_fn.specs.Functions.{Function, literal}
 use Rattle.vx_tree.specs.Trees.{Tree, root, call, Trees, no_tree, tree, typed}
 use Rattle.vx_source_types.specs.Literals.{plain_literal}
 use Rattle.vx_source_types.specs.declared.expectation.Expected.{Expected}
-use Rattle.vx_source_over.specs.Peers.{is_peer, open_literal, child_at, is_open}
+use Rattle.vx_source_over.specs.Peers.{is_peer, open_value, child_at, is_open}
 
 -- why a literal has no type: its value is none of the type that it should have, or it needs a type of its own
 pub data Refusal : Type 0 where
@@ -64,10 +64,6 @@ first_or [] said = said
 first_or (None ∷ own) said = said
 first_or (Some t ∷ own) said = Ok t
 
-abbrev pub behind_first : List (Option Tree) → List (Option Tree)
-behind_first [] = []
-behind_first (t ∷ own) = own
-
 -- the node over what is settled below it, or the literal that it is
 abbrev pub node_of : Function → Trees → Option LogicalType → Option Datum → Result Trees Refusal → Result Tree Refusal
 node_of f es w (Some v) below = when_settled (λ g. Ok (call g es)) (literal_as w v)
@@ -90,13 +86,13 @@ abbrev mutual
   pub rest : LogicalType → Option LogicalType → Function → ℕ → Trees → Option Tree → List (Option Tree) → Result Trees Refusal
   rest s w f i no_tree d own = Ok no_tree
   rest s w f i (tree e es) d own =
-      when_settled (λ t. when_settled (λ ts. Ok (tree t ts)) (rest s w f (suc i) es d (behind_first own)))
+      when_settled (λ t. when_settled (λ ts. Ok (tree t ts)) (rest s w f (suc i) es d (drop 1 own)))
       (first_or own (if is_peer f i then wished s w e (child_at d i) else (if is_open e (child_at d i) then wished s None e (child_at d i) else settled s e (child_at d i))))
 
   -- a tree without a type of its own: its literals take the type that is wished, if one is
   pub wished : LogicalType → Option LogicalType → Tree → Option Tree → Result Tree Refusal
   wished s w root d = Ok root
-  wished s w (call f es) d = node_of f es w (open_literal f d) (rest s w f 0 es d [])
+  wished s w (call f es) d = node_of f es w (open_value f d) (rest s w f 0 es d [])
 
 -- the tree of two readings of a text over a scope of type s
 abbrev pub read_over : LogicalType → Tree → Tree → Result Tree Refusal

@@ -17,7 +17,10 @@ pub enum OverError {
     OutOfMemory,
     /// Reading stopped at that byte of the text, where something else should stand; or a literal without a type begins
     /// there that needs one, since nothing that it stands beside has a type.
-    Unexpected { at: usize, expected: Expected },
+    Unexpected {
+        at: usize,
+        expected: Expected,
+    },
     /// The literal in these bytes of the text is none of the type that it takes from what it stands beside.
     Misfit {
         start: usize,

@@ -1,14 +1,13 @@
 // Literals that were written without a type.
 ghost use Rattle.std.specs.Prelude.{◌≡◌, option_map};
-ghost use Rattle.vx_fn.specs.Views.{function_of};
 ghost use Rattle.vx_value.specs.Views.{type_of, value_of};
 ghost use Rattle.vx_source_types.specs.Literals.{plain_literal};
 ghost use Rattle.vx_source_over.specs.Reading.{Settles};
 ghost use Rattle.vx_source_over.specs.Settling.{literal_as, fitted, as_alone};
+ghost use Rattle.vx_source_over.specs.Views.{literal_with};
 
 use crate::OverError;
 use std::alloc::Global;
-use vx_fn::ScalarFnRef;
 use vx_source_types::{Draft, plain_literal};
 use vx_types::{DType, Nullability, Scalar, Value};
 
@@ -20,8 +19,8 @@ pub(crate) fn literal_as(
     wish: Option<&DType>,
     value: &Value,
     bytes: (usize, usize),
-) -> Result<ScalarFnRef, OverError>
-    ensures { Settles function_of result (literal_as (option_map (λ t. type_of t.now) wish.entry) (value_of value.now)) }
+) -> Result<Scalar, OverError>
+    ensures { Settles literal_with result (literal_as (option_map (λ t. type_of t.now) wish.entry) (value_of value.now)) }
 {
     let value = value.clone()?;
     match wish {
@@ -34,8 +33,8 @@ pub(crate) fn literal_as(
 }
 
 // The value as one of the type, if it is one.
-fn fitted(dtype: DType, value: Value, bytes: (usize, usize)) -> Result<ScalarFnRef, OverError>
-    ensures { Settles function_of result (fitted (type_of dtype) (value_of value)) }
+fn fitted(dtype: DType, value: Value, bytes: (usize, usize)) -> Result<Scalar, OverError>
+    ensures { Settles literal_with result (fitted (type_of dtype) (value_of value)) }
 {
     if !value.fits(&dtype) {
         let (start, end) = bytes;
@@ -47,21 +46,21 @@ fn fitted(dtype: DType, value: Value, bytes: (usize, usize)) -> Result<ScalarFnR
         });
     }
     match Scalar::try_new(dtype, value) {
-        Ok(scalar) => Ok(ScalarFnRef::Literal(scalar)),
+        Ok(scalar) => Ok(scalar),
         Err(_) => unreachable!(),
     }
 }
 
 // The literal that the value is read as alone.
-fn as_alone(alloc: Global, value: Value, bytes: (usize, usize)) -> Result<ScalarFnRef, OverError>
-    ensures { Settles function_of result (as_alone (plain_literal (value_of value))) }
+fn as_alone(alloc: Global, value: Value, bytes: (usize, usize)) -> Result<Scalar, OverError>
+    ensures { Settles literal_with result (as_alone (plain_literal (value_of value))) }
 {
     let draft = Draft {
         value,
         names: Vec::new(alloc),
     };
     match plain_literal(draft) {
-        Ok(scalar) => Ok(ScalarFnRef::Literal(scalar)),
+        Ok(scalar) => Ok(scalar),
         Err(expected) => Err(OverError::Unexpected {
             at: bytes.0,
             expected,

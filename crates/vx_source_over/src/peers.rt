@@ -1,10 +1,10 @@
 // Which literals were written without a type, and which children of a node have to agree in type.
 ghost use Rattle.std.specs.Prelude.{◌≡◌, ℕ, option_map};
-ghost use Rattle.vx_fn.specs.Views.{function_of};
+ghost use Rattle.std.specs.Option.{is_some};
+ghost use Rattle.vx_fn.specs.Views.{function_of, operation_of};
 ghost use Rattle.vx_tree.specs.Views.{tree_of};
 ghost use Rattle.vx_value.specs.Views.{value_of};
-ghost use Rattle.vx_source_over.specs.Peers.{is_branch, is_peer, is_sum, has_type_of_peers, literal_of, open_literal, child_at};
-ghost use Rattle.vx_fn.specs.Views.{operation_of};
+ghost use Rattle.vx_source_over.specs.Peers.{is_branch, is_peer, is_sum, has_type_of_peers, literal_of, open_value, child_at};
 
 use vx_fn::{Operator, ScalarFnRef};
 use vx_source_parser::Places;
@@ -116,11 +116,11 @@ fn is_sum(operator: Operator) -> bool
 }
 
 // The value of a literal that was written without a type.
-pub(crate) fn open_literal<'a>(
+pub(crate) fn open_value<'a>(
     scalar_fn: &'a ScalarFnRef,
     other: Option<&Expression>,
 ) -> Option<&'a Value>
-    ensures { option_map (λ v. value_of v.now) result ≡ open_literal (function_of scalar_fn.now) (option_map (λ d. tree_of d.now) other.entry) }
+    ensures { option_map (λ v. value_of v.now) result ≡ open_value (function_of scalar_fn.now) (option_map (λ d. tree_of d.now) other.entry) }
 {
     let scalar = literal_of(scalar_fn)?;
     let read = literal_of(other?.as_scalar()?)?;
@@ -129,6 +129,13 @@ pub(crate) fn open_literal<'a>(
     } else {
         Some(scalar.value())
     }
+}
+
+// Whether that is a literal that was written without a type.
+pub(crate) fn is_untyped(scalar_fn: &ScalarFnRef, other: Option<&Expression>) -> bool
+    ensures { result ≡ is_some (open_value (function_of scalar_fn.now) (option_map (λ d. tree_of d.now) other.entry)) }
+{
+    open_value(scalar_fn, other).is_some()
 }
 
 // The scalar of a literal.

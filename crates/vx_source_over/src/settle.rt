@@ -1,20 +1,23 @@
 // Trees settled: literals take their type from what they stand beside.
-ghost use Rattle.std.specs.Prelude.{◌≡◌, [], IfErr, IfOk, IfSome, option_map};
+ghost use Rattle.std.specs.Prelude.{◌≡◌, ◌&&◌, [], drop, IfErr, IfOk, IfSome, option_map};
 ghost use Rattle.vx_fn.specs.Views.{function_of};
 ghost use Rattle.vx_tree.specs.Views.{tree_of, trees_of};
 ghost use Rattle.vx_value.specs.Types.{LogicalType};
 ghost use Rattle.vx_value.specs.Views.{type_of};
-ghost use Rattle.vx_source_over.specs.Peers.{is_open};
+ghost use Rattle.vx_source_over.specs.Peers.{has_type_of_peers, is_open};
 ghost use Rattle.vx_source_over.specs.Reading.{Settles};
 ghost use Rattle.vx_source_over.specs.Settling.{unless, settled, owned, rest, wished, first_type};
-ghost use Rattle.vx_source_over.specs.Views.{IsTyped, AreTyped, EachTyped, own_trees, other_of, said_of, settled_tree, settled_trees, wish_of};
+ghost use Rattle.vx_source_over.specs.Views.{IsTyped, AreTyped, EachTyped, first_own, none_of, own_trees, other_of, said_of, settled_tree, settled_trees, wish_of};
 ghost use Rattle.vx_source_over.specs.declared.error.OverError.TheVariants.{OutOfMemory};
 
 use crate::OverError;
 use crate::literals::literal_as;
 use crate::nodes::{Settled, are_none, first_type, node_over, retyped, scope_root};
-use crate::peers::{Beside, beside_child, bytes_of, has_type_of_peers, is_peer, open_literal};
+use crate::peers::{
+    Beside, beside_child, bytes_of, has_type_of_peers, is_peer, is_untyped, open_value,
+};
 use std::alloc::Global;
+use std::vec::IntoIter;
 use vx_fn::ScalarFnRef;
 use vx_tree::Expression;
 use vx_types::DType;
@@ -64,14 +67,15 @@ fn own(over: Over, e: &Expression, beside: Beside) -> Result<Option<Settled>, Ov
     let Expression::Scalar {
         scalar_fn,
         children,
-    } = e else {
+    } = e
+    else {
         return Ok(Some(scope_root(over.scope)?));
     };
-    if open_literal(scalar_fn, beside.other).is_some() {
+    if is_untyped(scalar_fn, beside.other) {
         return Ok(None);
     }
     let own = own_all(over, scalar_fn, children.as_slice(), beside)?;
-    if has_type_of_peers(scalar_fn) && are_none(own.as_slice()) {
+    if all_wait(scalar_fn, own.as_slice()) {
         return Ok(None);
     }
     let begun = with_wish(own)?;
@@ -92,13 +96,21 @@ fn own_all(
 {
     let mut all = Vec::with_capacity(over.alloc, es.len())?;
     for i in 0..es.len() {
-        if is_peer(scalar_fn, i) {
-            all.push(own(over, &es[i], beside_child(beside, i))?)?;
-        } else {
+        let e = &es[i];
+        if !is_peer(scalar_fn, i) {
             all.push(None)?;
+            continue;
         }
+        all.push(own(over, e, beside_child(beside, i))?)?;
     }
     Ok(all)
+}
+
+// Whether the node has the type of its peers, and none of them has one of its own.
+fn all_wait(scalar_fn: &ScalarFnRef, own: &[Option<Settled>]) -> bool
+    ensures { result ≡ (has_type_of_peers (function_of scalar_fn.now) && none_of (own_trees own.now)) }
+{
+    has_type_of_peers(scalar_fn) && are_none(own)
 }
 
 // What is wished of the other peers.
@@ -131,15 +143,27 @@ fn rest(
     let mut own = own.into_iter();
     let mut all = Vec::with_capacity(over.alloc, es.len())?;
     for i in 0..es.len() {
-        if let Some(Some(settled)) = own.next() {
+        let e = &es[i];
+        if let Some(settled) = next_own(&mut own) {
             all.push(settled)?;
-        } else {
-            let peer = is_peer(scalar_fn, i);
-            let child = beside_child(beside, i);
-            all.push(settle(over, &es[i], child, peer, wish.as_ref())?)?;
+            continue;
         }
+        let peer = is_peer(scalar_fn, i);
+        let child = beside_child(beside, i);
+        all.push(settle(over, e, child, peer, wish.as_ref())?)?;
     }
     Ok(all)
+}
+
+// The next of them, if it is there.
+fn next_own(own: &mut IntoIter<Option<Settled>>) -> Option<Settled>
+    ensures first { result ≡ first_own own.old.rest.items }
+    ensures rest { own.new.rest.items ≡ drop 1 own.old.rest.items }
+{
+    match own.next() {
+        Some(begun) => begun,
+        None => None,
+    }
 }
 
 // The tree without a type of its own: its literals take the type that is wished, if one is.
@@ -156,10 +180,11 @@ fn wished(
     let Expression::Scalar {
         scalar_fn,
         children,
-    } = e else {
+    } = e
+    else {
         return scope_root(over.scope);
     };
-    if let Some(value) = open_literal(scalar_fn, beside.other) {
+    if let Some(value) = open_value(scalar_fn, beside.other) {
         let literal = literal_as(over.alloc, wish, value, bytes_of(beside))?;
         return retyped(literal, children);
     }

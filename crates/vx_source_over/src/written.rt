@@ -8,6 +8,7 @@ ghost use Rattle.vx_tree.specs.Trees.{typed};
 ghost use Rattle.vx_tree.specs.Views.{tree_of};
 ghost use Rattle.vx_source_over.specs.Reading.{IsAlone, IsWritten, IsUnread, ReadsOver, GivesOver, RefusesOver, Settles};
 ghost use Rattle.vx_source_over.specs.Settling.{read_over};
+ghost use Rattle.vx_source_over.specs.Views.{IsTypedAlone, SettlesOpen};
 ghost use Rattle.vx_source_over.specs.declared.error.OverError.TheVariants.{OutOfMemory};
 ghost use Rattle.std.specs.Result.{is_ok};
 
@@ -42,8 +43,18 @@ pub fn read_open(alloc: Global, text: &str, limit: usize) -> Result<Written, Par
             alone,
             readings: Ok(readings),
         }),
-        Err(ParseError::OutOfMemory) => Err(ParseError::OutOfMemory),
-        Err(error) => match alone {
+        Err(error) => without_readings(alone, error),
+    }
+}
+
+// A text that is read alone, and not as two readings; or why it isn't read.
+fn without_readings(alone: Option<Placed>, error: ParseError) -> Result<Written, ParseError>
+    ensures kept { IfOk result (λ w. (w ≡ record { alone = alone; readings = Err error }) × (error ≡ NoMemory → ⊥)) }
+    ensures refused { IfErr result (λ e. (e ≡ error) × ((error ≡ NoMemory) ⊎ (alone ≡ None))) }
+{
+    match error {
+        ParseError::OutOfMemory => Err(error),
+        ParseError::Unexpected { .. } => match alone {
             Some(placed) => Ok(Written {
                 alone: Some(placed),
                 readings: Err(error),
@@ -79,12 +90,38 @@ pub fn over(alloc: Global, written: Written, scope: &DType) -> Result<Placed, Ov
     ensures complete { (limit : ℕ) (text : List ℕ) (e : Tree) → IsWritten limit text written → ReadsOver limit text (type_of scope.now) e → GivesOver tree_in result e }
 {
     let Written { alone, readings } = written;
-    if let Some(placed) = alone {
-        if has_type(alloc, &placed.expression, scope)? {
-            return Ok(placed);
+    match typed_alone(alloc, alone, scope) {
+        Ok(Some(placed)) => {
+            drop(readings);
+            Ok(placed)
+        }
+        Ok(None) => settle_open(alloc, readings, scope),
+        Err(error) => {
+            drop(readings);
+            Err(error)
         }
     }
-    settle_readings(alloc, readings?, scope)
+}
+
+// What was read as its literals are read alone, if it is there and has a type over the scope.
+fn typed_alone(
+    alloc: Global,
+    alone: Option<Placed>,
+    scope: &DType,
+) -> Result<Option<Placed>, OverError>
+    ensures found { IfOk result (IsTypedAlone (type_of scope.now) alone) }
+    ensures memory { IfErr result (λ e. e ≡ OutOfMemory) }
+{
+    match alone {
+        Some(placed) => {
+            if has_type(alloc, &placed.expression, scope)? {
+                Ok(Some(placed))
+            } else {
+                Ok(None)
+            }
+        }
+        None => Ok(None),
+    }
 }
 
 // Whether the tree has a type over the scope.
@@ -96,6 +133,20 @@ fn has_type(alloc: Global, e: &Expression, scope: &DType) -> Result<bool, OverEr
         Ok(_) => Ok(true),
         Err(VortexError::OutOfMemory) => Err(OverError::OutOfMemory),
         Err(_) => Ok(false),
+    }
+}
+
+// The tree of the two readings, if there are.
+fn settle_open(
+    alloc: Global,
+    readings: Result<Readings, ParseError>,
+    scope: &DType,
+) -> Result<Placed, OverError>
+    ensures { SettlesOpen (type_of scope.now) readings result }
+{
+    match readings {
+        Ok(readings) => settle_readings(alloc, readings, scope),
+        Err(error) => Err(OverError::from(error)),
     }
 }
 
