@@ -1,0 +1,5 @@
+pub mod Steps
+pub mod NodeTypes
+pub mod Settles
+pub mod Retyped
+pub mod Texts

@@ -1,0 +1,163 @@
+-- Settling changes nothing but the types of literals that were written without one.
+use Rattle.std.proofs.Common.{◌≡◌, ℕ, suc, List, [], ◌∷◌, drop, Result, Ok, Err, refl, subst, Bool, true, false}
+use Rattle.std.specs.Prelude.{Option, Some, None, ◌||◌, ◌&&◌, if◌then◌else◌}
+use Rattle.std.specs.Option.{is_some}
+use Rattle.vx_value.specs.Columns.{constant}
+use Rattle.vx_value.specs.Fits.{fits, Fits}
+use Rattle.vx_value.specs.Types.{LogicalType, Datum, is_null_datum, with_nullability}
+use Rattle.vx_fn.specs.Functions.{Function, literal}
+use Rattle.vx_tree.specs.Trees.{Tree, root, call, Trees, no_tree, tree}
+use Rattle.vx_source_types.specs.Literals.{plain_type, plain_of, in_range}
+use Rattle.vx_source_types.specs.declared.expectation.Expected.{Expected}
+use Rattle.vx_source_over.specs.Peers.{is_peer, has_type_of_peers, open_value, child_at, is_open, are_open}
+use Rattle.vx_source_over.specs.Settling.{Refusal, misfit, when_settled, fitted, as_alone, literal_as, unless, first_or, first_type, node_of, settled, owned, rest, wished, read_over}
+use Rattle.vx_source_over.specs.Laws.{IsRetyped, same_root, other_type, same_node, AreRetyped, no_more, one_more, TypesAloneChange}
+use Rattle.vx_source_over.proofs.Steps.{settled_parts}
+
+abbrev ok_tree : Tree → Result Tree Refusal
+ok_tree t = Ok t
+
+abbrev ok_trees : Trees → Result Trees Refusal
+ok_trees ts = Ok ts
+
+abbrev ok_own : List (Option Tree) → Result (List (Option Tree)) Refusal
+ok_own ts = Ok ts
+
+abbrev ok_function : Function → Result Function Refusal
+ok_function g = Ok g
+
+the_tree : (t u : Tree) → ok_tree t ≡ Ok u → t ≡ u
+the_tree t u h = cc
+
+the_trees : (t u : Trees) → ok_trees t ≡ Ok u → t ≡ u
+the_trees t u h = cc
+
+the_own : (t u : List (Option Tree)) → ok_own t ≡ Ok u → t ≡ u
+the_own t u h = cc
+
+the_function : (t u : Function) → ok_function t ≡ Ok u → u ≡ t
+the_function t u h = cc
+
+-- ---- a literal
+
+-- the function is a literal of that value, which is one of its type
+abbrev IsLiteral : Datum → Function → Type 0
+IsLiteral v g = (t : LogicalType) × (g ≡ literal t v) × Fits v t
+
+fitted_is : (t : LogicalType) (v : Datum) (g : Function) → fitted t v ≡ Ok g → IsLiteral v g
+fitted_is t v g h = go (fits v t) refl h
+  where
+    go : (b : Bool) → fits v t ≡ b → (if b then Ok (literal t v) else Err (misfit v t)) ≡ ok_function g → IsLiteral v g
+    go true q h = (t, the_function (literal t v) g h, q)
+    go false q h = cc
+
+alone_is : (v : Datum) (r : Result LogicalType Expected) (g : Function) → as_alone (plain_of v r) ≡ Ok g → IsLiteral v g
+alone_is v (Err x) g h = cc
+alone_is v (Ok t) g h = go (fits v t) refl h
+  where
+    go : (b : Bool) → fits v t ≡ b → as_alone (in_range (if b then Some (constant t v) else None)) ≡ Ok g → IsLiteral v g
+    go true q h = (t, the_function (literal t v) g h, q)
+    go false q h = cc
+
+literal_is : (w : Option LogicalType) (v : Datum) (g : Function) → literal_as w v ≡ Ok g → IsLiteral v g
+literal_is (Some t) v g h = fitted_is (with_nullability (is_null_datum v) t) v g h
+literal_is None v g h = alone_is v (plain_type v) g h
+
+no_literal : (o : Option Datum) (b : Bool) → (is_some o || b) ≡ false → o ≡ None
+no_literal None b h = refl
+no_literal (Some v) b h = cc
+
+-- ---- a child
+
+-- each child that is settled already is so
+abbrev AreOwn : ℕ → Trees → Option Tree → List (Option Tree) → Type 0
+AreOwn i no_tree d own = Unit {0}
+AreOwn i (tree e es) d [] = Unit {0}
+AreOwn i (tree e es) d (None ∷ own) = AreOwn (suc i) es d own
+AreOwn i (tree e es) d (Some t ∷ own) = IsRetyped e (child_at d i) t × AreOwn (suc i) es d own
+
+nothing_own : (i : ℕ) (es : Trees) (d : Option Tree) → AreOwn i es d []
+nothing_own i no_tree d = tt
+nothing_own i (tree e es) d = tt
+
+own_behind : (i : ℕ) (e : Tree) (es : Trees) (d : Option Tree) (own : List (Option Tree)) → AreOwn i (tree e es) d own → AreOwn (suc i) es d (drop 1 own)
+own_behind i e es d [] h = nothing_own (suc i) es d
+own_behind i e es d (None ∷ own) h = h
+own_behind i e es d (Some t ∷ own) h = h.1
+
+own_so : (p b : Bool) (said : Result Tree Refusal) (t : Tree) → (if p then unless b said else Ok None) ≡ Ok (Some t) → (b ≡ false) × (said ≡ Ok t)
+own_so false b said t h = cc
+own_so true true said t h = cc
+own_so true false (Ok u) t h = (refl, cc)
+own_so true false (Err r) t h = cc
+
+module _ (s : LogicalType) (w : Option LogicalType) (e : Tree) (c : Option Tree) (P : Tree → Type 0) (peer : (t : Tree) → wished s w e c ≡ Ok t → P t) (alone : (t : Tree) → wished s None e c ≡ Ok t → P t)
+    (own : (t : Tree) → is_open e c ≡ false → settled s e c ≡ Ok t → P t) where
+  said_so : (p b : Bool) (t : Tree) → is_open e c ≡ b → (if p then wished s w e c else (if b then wished s None e c else settled s e c)) ≡ Ok t → P t
+  said_so true b t q h = peer t h
+  said_so false true t q h = alone t h
+  said_so false false t q h = own t q h
+
+module _ (i : ℕ) (e : Tree) (es : Trees) (d : Option Tree) (said : Result Tree Refusal) (k : (t : Tree) → said ≡ Ok t → IsRetyped e (child_at d i) t) where
+  first_so : (own : List (Option Tree)) (t : Tree) → AreOwn i (tree e es) d own → first_or own said ≡ Ok t → IsRetyped e (child_at d i) t
+  first_so [] t a h = k t h
+  first_so (None ∷ own) t a h = k t h
+  first_so (Some u ∷ own) t a h = subst (IsRetyped e (child_at d i)) (the_tree u t h) a.0
+
+put_own : (i : ℕ) (e : Tree) (es : Trees) (d : Option Tree) (x : Option Tree) (own : List (Option Tree)) → ((t : Tree) → x ≡ Some t → IsRetyped e (child_at d i) t) → AreOwn (suc i) es d own → AreOwn i (tree e es) d (x ∷ own)
+put_own i e es d None own k h = h
+put_own i e es d (Some t) own k h = (k t refl, h)
+
+module _ (s : LogicalType) (w : Option LogicalType) (f : Function) (es : Trees) (d : Option Tree) (t : Tree) (below : Result Trees Refusal) (k : (ts : Trees) → below ≡ Ok ts → AreRetyped 0 es d ts) where
+  node_so : (o : Option Datum) → open_value f d ≡ o → node_of f es w o below ≡ Ok t → IsRetyped (call f es) d t
+  node_so (Some v) q h =
+      let p = settled_parts _ (literal_as w v) t h in
+      let g = literal_is w v p.0 p.1 in
+      let is : call (literal g.0 v) es ≡ t = cc (p.2, g.1) in
+      subst (IsRetyped (call f es) d) is (other_type q g.2)
+  node_so None q h = let p = settled_parts _ below t h in subst (IsRetyped (call f es) d) (the_tree (call f p.0) t p.2) (same_node q (k p.0 p.1))
+
+-- ---- trees
+
+mutual
+  settled_retyped : (s : LogicalType) (e : Tree) (d : Option Tree) (t : Tree) → is_open e d ≡ false → settled s e d ≡ Ok t → IsRetyped e d t
+  settled_retyped s root d t o h = subst (IsRetyped root d) (the_tree root t h) same_root
+  settled_retyped s (call f es) d t o h =
+      let own = settled_parts _ (owned s f 0 es d) t h in
+      let below = settled_parts _ (rest s (first_type s own.0) f 0 es d own.0) t own.2 in
+      subst (IsRetyped (call f es) d) (the_tree (call f below.0) t below.2)
+      (same_node (no_literal (open_value f d) (has_type_of_peers f && are_open f 0 es d) o) (rest_retyped s (first_type s own.0) f 0 es d own.0 below.0 (owned_retyped s f 0 es d own.0 own.1) below.1))
+
+  owned_retyped : (s : LogicalType) (f : Function) (i : ℕ) (es : Trees) (d : Option Tree) (own : List (Option Tree)) → owned s f i es d ≡ Ok own → AreOwn i es d own
+  owned_retyped s f i no_tree d own h = tt
+  owned_retyped s f i (tree e es) d own h =
+      let one = settled_parts _ (if is_peer f i then unless (is_open e (child_at d i)) (settled s e (child_at d i)) else Ok None) own h in
+      let more = settled_parts _ (owned s f (suc i) es d) own one.2 in
+      subst (AreOwn i (tree e es) d) (the_own (one.0 ∷ more.0) own more.2)
+      (put_own i e es d one.0 more.0
+      (λ t q. let p = own_so (is_peer f i) (is_open e (child_at d i)) (settled s e (child_at d i)) t (subst (λ x. (if is_peer f i then unless (is_open e (child_at d i)) (settled s e (child_at d i)) else Ok None) ≡ Ok x) q one.1) in
+      settled_retyped s e (child_at d i) t p.0 p.1)
+      (owned_retyped s f (suc i) es d more.0 more.1))
+
+  rest_retyped : (s : LogicalType) (w : Option LogicalType) (f : Function) (i : ℕ) (es : Trees) (d : Option Tree) (own : List (Option Tree)) (ts : Trees) → AreOwn i es d own → rest s w f i es d own ≡ Ok ts → AreRetyped i es d ts
+  rest_retyped s w f i no_tree d own ts a h = subst (AreRetyped i no_tree d) (the_trees no_tree ts h) no_more
+  rest_retyped s w f i (tree e es) d own ts a h =
+      let c = child_at d i in
+      let said : Result Tree Refusal = if is_peer f i then wished s w e c else (if is_open e c then wished s None e c else settled s e c) in
+      let one = settled_parts _ (first_or own said) ts h in
+      let more = settled_parts _ (rest s w f (suc i) es d (drop 1 own)) ts one.2 in
+      subst (AreRetyped i (tree e es) d) (the_trees (tree one.0 more.0) ts more.2)
+      (one_more
+      (first_so i e es d said (λ t q. said_so s w e c (IsRetyped e c) (λ t p. wished_retyped s w e c t p) (λ t p. wished_retyped s None e c t p) (λ t o p. settled_retyped s e c t o p) (is_peer f i) (is_open e c) t refl q) own one.0 a one.1)
+      (rest_retyped s w f (suc i) es d (drop 1 own) more.0 (own_behind i e es d own a) more.1))
+
+  wished_retyped : (s : LogicalType) (w : Option LogicalType) (e : Tree) (d : Option Tree) (t : Tree) → wished s w e d ≡ Ok t → IsRetyped e d t
+  wished_retyped s w root d t h = subst (IsRetyped root d) (the_tree root t h) same_root
+  wished_retyped s w (call f es) d t h = node_so s w f es d t (rest s w f 0 es d []) (λ ts q. rest_retyped s w f 0 es d [] ts (nothing_own 0 es d) q) (open_value f d) refl h
+
+pub types_alone_change : TypesAloneChange
+types_alone_change s e d t h = go (is_open e (Some d)) refl h
+  where
+    go : (b : Bool) → is_open e (Some d) ≡ b → (if b then wished s None e (Some d) else settled s e (Some d)) ≡ Ok t → IsRetyped e (Some d) t
+    go true q h = wished_retyped s None e (Some d) t h
+    go false q h = settled_retyped s e (Some d) t q h

@@ -1,0 +1,151 @@
+-- What a text is read as over a scope, and why it isn't.
+use Rattle.std.proofs.Common.{◌≡◌, ◌⊎◌, inl, inr, ⊎_elim, ℕ, List, Result, Ok, Err, refl, sym, ap, subst, ◌∙◌, Bool, true, false}
+use Rattle.std.specs.Prelude.{Option, Some, None, IfErr, IfOk, IsOk, IsErr, MatchOption, MatchResult}
+use Rattle.std.specs.Result.{is_ok}
+use Rattle.vx_dtype.specs.declared.error.VortexError.{VortexError}
+use Rattle.vx_value.specs.Types.{LogicalType}
+use Rattle.vx_fn.specs.Functions.{Typing}
+use Rattle.vx_tree.specs.Trees.{Tree, typed}
+use Rattle.vx_source_types.proofs.Reading.{read_once}
+use Rattle.vx_source_types.specs.Literals.{open_literal}
+use Rattle.vx_source_grammar.specs.ExpressionReading.{expression_step, step_by}
+use Rattle.vx_source_parser.specs.Placed.{AreReadings, tree_in}
+use Rattle.vx_source_parser.specs.declared.whole.Placed.{Placed}
+use Rattle.vx_source_over.specs.declared.error.OverError.{OverError}
+use Rattle.vx_source_over.specs.declared.error.OverError.TheVariants.{OutOfMemory, Unexpected, Misfit}
+use Rattle.vx_source_over.specs.Laws.{TypedTextsStay, ReadingOverIsUnique}
+use Rattle.vx_source_over.specs.Reading.{ReadsAlone, ReadsOver, as_alone, as_settled, IsAlone, AreOpen, HasNoTypeAlone, HasNoReadings, RefusesReadings, RefusesOver, Refuses, Settles, GivesOver, IsUnread, IsWritten}
+use Rattle.vx_source_over.specs.Settling.{Refusal, misfit, unexpected, read_over}
+use Rattle.vx_source_over.specs.Views.{IsTypedAlone, SettlesOpen, over_error}
+use Rattle.vx_source_types.specs.declared.error.ParseError.{ParseError}
+use Rattle.vx_source_types.specs.declared.error.ParseError.TheVariants.{OutOfMemory as NoMemory, Unexpected as Stopped}
+use Rattle.vx_source_parser.specs.declared.whole.Readings.{Readings}
+use Rattle.vx_source_over.specs.declared.written.Written.{Written}
+use Rattle.vx_source_types.specs.declared.expectation.Expected.{Expected}
+use Rattle.vx_tree.specs.Views.{tree_of}
+
+-- a type is there, or a refusal
+not_both : (r : Typing) → IsOk r → IsErr r → ⊥
+not_both (Ok t) h k = cc
+not_both (Err e) h k = cc
+
+untyped : (r : Typing) → is_ok r ≡ false → IsErr r
+untyped (Ok t) h = cc
+untyped (Err e) h = refl
+
+abbrev ok_tree : Tree → Result Tree Refusal
+ok_tree t = Ok t
+
+the_tree : (t u : Tree) → ok_tree t ≡ Ok u → t ≡ u
+the_tree t u h = cc
+
+ok_or_not : (t : Tree) (r : Refusal) → ok_tree t ≡ Err r → ⊥
+ok_or_not t r h = cc
+
+module _ (limit : ℕ) (text : List ℕ) (s : LogicalType) where
+  same_readings : {e d a b : Tree} → AreReadings limit text e d → AreReadings limit text a b → read_over s e d ≡ read_over s a b
+  same_readings {d = d} {a = a} h k =
+      let p = read_once (step_by (open_literal false)) h.0 k.0 in
+      let q = read_once (step_by (open_literal true)) h.1 k.1 in
+      ap (λ x. read_over s x d) p ∙ ap (λ x. read_over s a x) q
+
+  pub stays : (e t : Tree) → ReadsAlone limit text e → IsOk (typed e s) → ReadsOver limit text s t → t ≡ e
+  stays e t h ok (as_alone k typed_so) = read_once expression_step k h
+  stays e t h ok (as_settled none k q) = absurd (not_both (typed e s) ok (none e h))
+
+  pub unique : (t u : Tree) → ReadsOver limit text s t → ReadsOver limit text s u → t ≡ u
+  unique t u (as_alone h ok) k = sym (stays t u h ok k)
+  unique t u (as_settled none h q) (as_alone {e = e} k ok) = absurd (not_both (typed e s) ok (none e k))
+  unique t u (as_settled none h q) (as_settled other k p) = the_tree t u (sym q ∙ same_readings h k ∙ p)
+
+  -- what is refused isn't read, unless memory ran out
+  refuses_none : (t : Tree) (error : OverError) → HasNoTypeAlone limit text s → HasNoReadings limit text ⊎ RefusesReadings limit text s error → ((said : Result Tree Refusal) → Refuses error said → (r : Refusal) × (said ≡ Err r)) → ReadsOver limit text s t → ⊥
+  refuses_none t error none why refusal (as_alone {e = e} h ok) = not_both (typed e s) ok (none e h)
+  refuses_none t error none (inl bare) refusal (as_settled {e = e} {d = d} other h q) = bare e d h
+  refuses_none t error none (inr there) refusal (as_settled other h q) =
+      let r = refusal _ there.3 in
+      ok_or_not t r.0 (sym q ∙ same_readings h there.2 ∙ r.1)
+
+  pub excluded : (t : Tree) (error : OverError) → RefusesOver limit text s error → ReadsOver limit text s t → error ≡ OutOfMemory
+  excluded t OutOfMemory h k = refl
+  excluded t (Unexpected at x) h k = absurd (refuses_none t (Unexpected at x) h.0 h.1 (λ said q. (unexpected x, q)) k)
+  excluded t (Misfit start end v u) h k = absurd (refuses_none t (Misfit start end v u) h.0 (inr h.1) (λ said q. (misfit _ _, q)) k)
+
+  pub completes : {A : Type 0} (view : A → Tree) (result : Result A OverError) (t : Tree) → MatchResult result (λ x. ReadsOver limit text s (view x)) (λ e. RefusesOver limit text s e) → ReadsOver limit text s t → GivesOver view result t
+  completes view (Ok x) t h k = unique (view x) t h k
+  completes view (Err e) t h k = excluded t e h k
+
+  -- ---- what was read, and its type
+
+  pub untyped_alone : (alone : Option Placed) → IsAlone limit text alone → IsTypedAlone s alone None → HasNoTypeAlone limit text s
+  untyped_alone None h bare = λ e k. absurd (h e k)
+  untyped_alone (Some p) h bare = λ e k. subst (λ x. IsErr (typed x s)) (read_once expression_step h k) (untyped (typed (tree_in p) s) bare)
+
+  pub typed_alone : (alone : Option Placed) (p : Placed) → IsAlone limit text alone → IsTypedAlone s alone (Some p) → ReadsOver limit text s (tree_in p)
+  typed_alone None p h found = absurd found
+  typed_alone (Some o) p h found = as_alone (subst (λ x. ReadsAlone limit text (tree_in x)) found.0 h) found.1
+
+  -- a text without two readings
+  pub unreadable : (error : ParseError) → AreOpen limit text (Err error) → HasNoTypeAlone limit text s → RefusesOver limit text s (over_error error)
+  unreadable NoMemory h none = tt
+  unreadable (Stopped at x) h none = (none, inl h.1)
+
+  -- what the two readings are settled as
+  pub settles : {e d : Tree} {A : Type 0} (view : A → Tree) (result : Result A OverError) → HasNoTypeAlone limit text s → AreReadings limit text e d → Settles view result (read_over s e d)
+      → MatchResult result (λ x. ReadsOver limit text s (view x)) (λ e. RefusesOver limit text s e)
+  settles view (Ok x) none h q = as_settled none h q
+  settles view (Err OutOfMemory) none h q = tt
+  settles {e = e} {d = d} view (Err (Unexpected at x)) none h q = (none, inr (e, d, h, q))
+  settles {e = e} {d = d} view (Err (Misfit start end v t)) none h q = (none, (e, d, h, q))
+
+  pub open_reads : (readings : Result Readings ParseError) (result : Result Placed OverError) → HasNoTypeAlone limit text s → AreOpen limit text readings → SettlesOpen s readings result → MatchResult result (λ p. ReadsOver limit text s (tree_in p)) (λ e. RefusesOver limit text s e)
+  open_reads (Ok both) result none h q = settles tree_in result none h q
+  open_reads (Err error) result none h q = subst (λ r. MatchResult r (λ p. ReadsOver limit text s (tree_in p)) (λ e. RefusesOver limit text s e)) (sym q) (unreadable error h none)
+
+pub typed_texts_stay : TypedTextsStay
+typed_texts_stay limit text s e t h ok k = stays limit text s e t h ok k
+
+pub reading_over_is_unique : ReadingOverIsUnique
+reading_over_is_unique limit text s t u h k = unique limit text s t u h k
+
+-- ---- what was read of a text
+
+module _ (limit : ℕ) (text : List ℕ) (alone : Option Placed) (error : ParseError) (none : (e d : Tree) → AreReadings limit text e d → error ≡ NoMemory) where
+  pub kept_written : (result : Result Written ParseError) → IsAlone limit text alone → IfOk result (λ w. (w ≡ record { alone = alone; readings = Err error }) × (error ≡ NoMemory → ⊥)) → IfOk result (IsWritten limit text)
+  kept_written (Ok w) h q = let kept : IsWritten limit text (record { alone = alone; readings = Err error }) = record { alone = h; readings = (q.1, λ e d r. q.1 (none e d r)) } in subst (IsWritten limit text) (sym q.0) kept
+  kept_written (Err e) h q = tt
+
+  pub refused_unread : (result : Result Written ParseError) → IsAlone limit text alone → IfErr result (λ e. (e ≡ error) × ((error ≡ NoMemory) ⊎ (alone ≡ None))) → IfErr result (λ e. (e ≡ NoMemory) ⊎ IsUnread limit text)
+  refused_unread (Ok w) h q = tt
+  refused_unread (Err e) h q = go error none q.0 q.1
+    where
+      go : (error : ParseError) → ((e d : Tree) → AreReadings limit text e d → error ≡ NoMemory) → e ≡ error → (error ≡ NoMemory) ⊎ (alone ≡ None) → (e ≡ NoMemory) ⊎ IsUnread limit text
+      go NoMemory k is why = inl is
+      go (Stopped at x) k is (inl m) = cc
+      go (Stopped at x) k is (inr n) = inr (λ t r. subst (IsAlone limit text) n h t r, λ t u r. absurd (not_memory at x (k t u r)))
+        where
+          not_memory : (at : ℕ) (x : Expected) → Stopped at x ≡ NoMemory → ⊥
+          not_memory at x m = cc
+
+pub unread_refused : (limit : ℕ) (text : List ℕ) (s : LogicalType) (error : ParseError) → (error ≡ NoMemory) ⊎ IsUnread limit text → RefusesOver limit text s (over_error error)
+unread_refused limit text s NoMemory why = tt
+unread_refused limit text s (Stopped at x) (inl m) = cc
+unread_refused limit text s (Stopped at x) (inr u) = (λ e k. absurd (u.0 e k), inl u.1)
+
+pub memory_refused : (limit : ℕ) (text : List ℕ) (s : LogicalType) (error : OverError) → error ≡ OutOfMemory → RefusesOver limit text s error
+memory_refused limit text s OutOfMemory h = tt
+memory_refused limit text s (Unexpected at x) h = cc
+memory_refused limit text s (Misfit start end v t) h = cc
+
+-- the clauses of a call that reads or refuses
+pub if_reads : {A : Type 0} (P : A → Type 0) (Q : OverError → Type 0) (result : Result A OverError) → MatchResult result P Q → IfOk result P
+if_reads P Q (Ok x) h = h
+if_reads P Q (Err e) h = tt
+
+pub if_refuses : {A : Type 0} (P : A → Type 0) (Q : OverError → Type 0) (result : Result A OverError) → MatchResult result P Q → IfErr result Q
+if_refuses P Q (Ok x) h = tt
+if_refuses P Q (Err e) h = h
+
+pub reads_or_refuses : {A : Type 0} (P : A → Type 0) (Q : OverError → Type 0) (result : Result A OverError) → IfOk result P → IfErr result Q → MatchResult result P Q
+reads_or_refuses P Q (Ok x) h k = h
+reads_or_refuses P Q (Err e) h k = k

@@ -1,0 +1,34 @@
+-- What settling keeps.
+use Rattle.std.specs.Prelude.{◌≡◌, ℕ, suc, List, Option, Some, None, Ok, IsOk}
+use Rattle.vx_value.specs.Fits.{Fits}
+use Rattle.vx_value.specs.Types.{LogicalType, Datum}
+use Rattle.vx_fn.specs.Functions.{Function, literal}
+use Rattle.vx_tree.specs.Trees.{Tree, root, call, Trees, no_tree, tree, typed}
+use Rattle.vx_source_over.specs.Peers.{open_value, child_at}
+use Rattle.vx_source_over.specs.Reading.{ReadsAlone, ReadsOver}
+use Rattle.vx_source_over.specs.Settling.{read_over}
+
+-- the second tree is the first but for the types of literals to which the other reading gives another type: each has its
+-- value, which is one of its type
+mutual
+  pub data IsRetyped : Tree → Option Tree → Tree → Type 0 where
+    same_root : {d : Option Tree} → IsRetyped root d root
+    other_type : {f : Function} {es : Trees} {d : Option Tree} {t : LogicalType} {v : Datum} → open_value f d ≡ Some v → Fits v t → IsRetyped (call f es) d (call (literal t v) es)
+    same_node : {f : Function} {es ts : Trees} {d : Option Tree} → open_value f d ≡ None → AreRetyped 0 es d ts → IsRetyped (call f es) d (call f ts)
+
+  -- so of the children from that index on
+  pub data AreRetyped : ℕ → Trees → Option Tree → Trees → Type 0 where
+    no_more : {i : ℕ} {d : Option Tree} → AreRetyped i no_tree d no_tree
+    one_more : {i : ℕ} {e t : Tree} {es ts : Trees} {d : Option Tree} → IsRetyped e (child_at d i) t → AreRetyped (suc i) es d ts → AreRetyped i (tree e es) d (tree t ts)
+
+-- nothing but types of literals that were written without one changes
+abbrev pub TypesAloneChange : Type 0
+TypesAloneChange = (s : LogicalType) (e d t : Tree) → read_over s e d ≡ Ok t → IsRetyped e (Some d) t
+
+-- a text that has a type as it is read alone is read so
+abbrev pub TypedTextsStay : Type 0
+TypedTextsStay = (limit : ℕ) (text : List ℕ) (s : LogicalType) (e t : Tree) → ReadsAlone limit text e → IsOk (typed e s) → ReadsOver limit text s t → t ≡ e
+
+-- a text is read over a scope as one tree
+abbrev pub ReadingOverIsUnique : Type 0
+ReadingOverIsUnique = (limit : ℕ) (text : List ℕ) (s : LogicalType) (t u : Tree) → ReadsOver limit text s t → ReadsOver limit text s u → t ≡ u

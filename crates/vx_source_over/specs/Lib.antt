@@ -1,0 +1,5 @@
+pub mod Peers
+pub mod Settling
+pub mod Reading
+pub mod Laws
+pub mod Views

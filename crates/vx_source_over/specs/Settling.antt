@@ -1,0 +1,99 @@
+-- Literals that take their type from what they stand beside. Of two readings of a text the first is e; d is the other
+-- one, which tells the literals that were written without a type.
+use Rattle.std.specs.Prelude.{ℕ, suc, drop, Bool, true, false, List, [], ◌∷◌, Option, Some, None, Result, Ok, Err, if◌then◌else◌}
+use Rattle.std.specs.Option.{option_or}
+use Rattle.std.specs.Result.{result_ok}
+use Rattle.vx_value.specs.Columns.{Constant}
+use Rattle.vx_value.specs.Fits.{fits}
+use Rattle.vx_value.specs.Types.{LogicalType, Datum, is_null_datum, with_nullability}
+use Rattle.vx_fn.specs.Functions.{Function, literal}
+use Rattle.vx_tree.specs.Trees.{Tree, root, call, Trees, no_tree, tree, typed}
+use Rattle.vx_source_types.specs.Literals.{plain_literal}
+use Rattle.vx_source_types.specs.declared.expectation.Expected.{Expected}
+use Rattle.vx_source_over.specs.Peers.{is_peer, open_value, child_at, is_open}
+
+-- why a literal has no type: its value is none of the type that it should have, or it needs a type of its own
+pub data Refusal : Type 0 where
+  misfit : Datum → LogicalType → Refusal
+  unexpected : Expected → Refusal
+
+-- what f gives of what was settled, or the refusal
+abbrev pub when_settled : {A B : Type 0} → (A → Result B Refusal) → Result A Refusal → Result B Refusal
+when_settled f (Ok a) = f a
+when_settled f (Err r) = Err r
+
+-- ---- a literal
+
+-- the value as one of the type, if it is one
+abbrev pub fitted : LogicalType → Datum → Result Function Refusal
+fitted t v = if fits v t then Ok (literal t v) else Err (misfit v t)
+
+-- the literal that a value is read as alone
+abbrev pub as_alone : Result Constant Expected → Result Function Refusal
+as_alone (Ok c) = Ok (literal c.type c.value)
+as_alone (Err x) = Err (unexpected x)
+
+-- the literal of a value that was written without a type: of the type that is wished, nullable where the value is null; and
+-- where none is wished as it is read alone
+abbrev pub literal_as : Option LogicalType → Datum → Result Function Refusal
+literal_as (Some t) v = fitted (with_nullability (is_null_datum v) t) v
+literal_as None v = as_alone (plain_literal v)
+
+-- ---- the type that peers wish
+
+-- the type of a tree over a scope of type s, if it has one
+abbrev pub type_over : LogicalType → Tree → Option LogicalType
+type_over s t = result_ok (typed t s)
+
+-- the first type of those trees that are there
+abbrev pub first_type : LogicalType → List (Option Tree) → Option LogicalType
+first_type s [] = None
+first_type s (None ∷ own) = first_type s own
+first_type s (Some t ∷ own) = option_or (type_over s t) (first_type s own)
+
+-- ---- a tree
+
+-- nothing where it waits, and else what was settled
+abbrev pub unless : Bool → Result Tree Refusal → Result (Option Tree) Refusal
+unless true said = Ok None
+unless false said = when_settled (λ t. Ok (Some t)) said
+
+-- what is settled already, and else what is said
+abbrev pub first_or : List (Option Tree) → Result Tree Refusal → Result Tree Refusal
+first_or [] said = said
+first_or (None ∷ own) said = said
+first_or (Some t ∷ own) said = Ok t
+
+-- the node over what is settled below it, or the literal that it is
+abbrev pub node_of : Function → Trees → Option LogicalType → Option Datum → Result Trees Refusal → Result Tree Refusal
+node_of f es w (Some v) below = when_settled (λ g. Ok (call g es)) (literal_as w v)
+node_of f es w None below = when_settled (λ ts. Ok (call f ts)) below
+
+abbrev mutual
+  -- a tree that has a type of its own. First its peers with a type of their own are settled; the first type that one of them
+  -- has is wished of the other peers
+  pub settled : LogicalType → Tree → Option Tree → Result Tree Refusal
+  settled s root d = Ok root
+  settled s (call f es) d = when_settled (λ own. when_settled (λ ts. Ok (call f ts)) (rest s (first_type s own) f 0 es d own)) (owned s f 0 es d)
+
+  -- of the children from that index on the peers with a type of their own, from left to right, and nothing of the others
+  pub owned : LogicalType → Function → ℕ → Trees → Option Tree → Result (List (Option Tree)) Refusal
+  owned s f i no_tree d = Ok []
+  owned s f i (tree e es) d =
+      when_settled (λ t. when_settled (λ ts. Ok (t ∷ ts)) (owned s f (suc i) es d)) (if is_peer f i then unless (is_open e (child_at d i)) (settled s e (child_at d i)) else Ok None)
+
+  -- then the others, from left to right: peers with that wish, and children that are no peers without one
+  pub rest : LogicalType → Option LogicalType → Function → ℕ → Trees → Option Tree → List (Option Tree) → Result Trees Refusal
+  rest s w f i no_tree d own = Ok no_tree
+  rest s w f i (tree e es) d own =
+      when_settled (λ t. when_settled (λ ts. Ok (tree t ts)) (rest s w f (suc i) es d (drop 1 own)))
+      (first_or own (if is_peer f i then wished s w e (child_at d i) else (if is_open e (child_at d i) then wished s None e (child_at d i) else settled s e (child_at d i))))
+
+  -- a tree without a type of its own: its literals take the type that is wished, if one is
+  pub wished : LogicalType → Option LogicalType → Tree → Option Tree → Result Tree Refusal
+  wished s w root d = Ok root
+  wished s w (call f es) d = node_of f es w (open_value f d) (rest s w f 0 es d [])
+
+-- the tree of two readings of a text over a scope of type s
+abbrev pub read_over : LogicalType → Tree → Tree → Result Tree Refusal
+read_over s e d = if is_open e (Some d) then wished s None e (Some d) else settled s e (Some d)

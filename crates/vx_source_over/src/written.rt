@@ -1,0 +1,168 @@
+// Texts that were read before their scope is known.
+ghost use Rattle.std.specs.Prelude.{◌≡◌, ◌⊎◌, ℕ, List, IfOk, IfErr, MatchResult};
+ghost use Rattle.vx_value.specs.Views.{type_of};
+ghost use Rattle.vx_tree.specs.Trees.{Tree};
+ghost use Rattle.vx_source_parser.specs.Placed.{tree_in};
+ghost use Rattle.vx_source_types.specs.declared.error.ParseError.TheVariants.{OutOfMemory as NoMemory};
+ghost use Rattle.vx_tree.specs.Trees.{typed};
+ghost use Rattle.vx_tree.specs.Views.{tree_of};
+ghost use Rattle.vx_source_over.specs.Reading.{IsAlone, IsWritten, IsUnread, ReadsOver, GivesOver, RefusesOver, Settles};
+ghost use Rattle.vx_source_over.specs.Settling.{read_over};
+ghost use Rattle.vx_source_over.specs.Views.{IsTypedAlone, SettlesOpen};
+ghost use Rattle.vx_source_over.specs.declared.error.OverError.TheVariants.{OutOfMemory};
+ghost use Rattle.std.specs.Result.{is_ok};
+
+use crate::OverError;
+use crate::peers::Beside;
+use crate::settle::{Over, settle};
+use std::alloc::Global;
+use vx_source_parser::{Placed, Readings, parse_open, parse_with_places};
+use vx_source_types::ParseError;
+use vx_tree::Expression;
+use vx_types::{DType, VortexError};
+
+/// What was read of a text whose scope isn't known yet.
+#[derive(Drop)]
+pub struct Written {
+    /// The expression as its literals are read alone, if they are.
+    pub alone: Option<Placed>,
+    /// The two readings in which literals without a type have none of their own, or why there are none.
+    pub readings: Result<Readings, ParseError>,
+}
+
+/// What the text says, nested at most as deep as said, for [`over`]. Refuses a text that is no expression over any scope,
+/// with the byte where reading stopped and what would have stood right there, and with `OutOfMemory`. Time is linear in the
+/// text.
+pub fn read_open(alloc: Global, text: &str, limit: usize) -> Result<Written, ParseError>
+    ensures written { IfOk result (IsWritten limit text.now) }
+    ensures unread { IfErr result (λ e. (e ≡ NoMemory) ⊎ IsUnread limit text.now) }
+{
+    let alone = read_alone(alloc, text, limit)?;
+    match parse_open(alloc, text, limit) {
+        Ok(readings) => Ok(Written {
+            alone,
+            readings: Ok(readings),
+        }),
+        Err(error) => without_readings(alone, error),
+    }
+}
+
+// A text that is read alone, and not as two readings; or why it isn't read.
+fn without_readings(alone: Option<Placed>, error: ParseError) -> Result<Written, ParseError>
+    ensures kept { IfOk result (λ w. (w ≡ record { alone = alone; readings = Err error }) × (error ≡ NoMemory → ⊥)) }
+    ensures refused { IfErr result (λ e. (e ≡ error) × ((error ≡ NoMemory) ⊎ (alone ≡ None))) }
+{
+    match error {
+        ParseError::OutOfMemory => Err(error),
+        ParseError::Unexpected { .. } => match alone {
+            Some(placed) => Ok(Written {
+                alone: Some(placed),
+                readings: Err(error),
+            }),
+            None => Err(error),
+        },
+    }
+}
+
+// The expression as its literals are read alone, if they are.
+fn read_alone(alloc: Global, text: &str, limit: usize) -> Result<Option<Placed>, ParseError>
+    ensures alone { IfOk result (IsAlone limit text.now) }
+    ensures memory { IfErr result (λ e. e ≡ NoMemory) }
+{
+    match parse_with_places(alloc, text, limit) {
+        Ok(placed) => Ok(Some(placed)),
+        Err(ParseError::OutOfMemory) => Err(ParseError::OutOfMemory),
+        Err(ParseError::Unexpected { .. }) => Ok(None),
+    }
+}
+
+/// The expression that was read, over a scope of that type: as its literals are read alone, if it has a type so; and else
+/// each number, text or null that was written without a type takes that of what it stands beside. Literals with a type stay,
+/// and nothing else changes.
+///
+/// They take it from the other side of a comparison, of `+`, `and` and `or`, of BETWEEN and of `fill_null`, and from the
+/// other branches of CASE, `if` and `zip`: from the first of these that has a type of its own, else from what is around
+/// them. Refuses one that is none of that type, with the type, and one that needs a type and finds none, as `parse` does,
+/// and with `OutOfMemory`. Time is linear in the nodes.
+pub fn over(alloc: Global, written: Written, scope: &DType) -> Result<Placed, OverError>
+    ensures reads { (limit : ℕ) (text : List ℕ) → IsWritten limit text written → IfOk result (λ p. ReadsOver limit text (type_of scope.now) (tree_in p)) }
+    ensures refuses { (limit : ℕ) (text : List ℕ) → IsWritten limit text written → IfErr result (RefusesOver limit text (type_of scope.now)) }
+    ensures complete { (limit : ℕ) (text : List ℕ) (e : Tree) → IsWritten limit text written → ReadsOver limit text (type_of scope.now) e → GivesOver tree_in result e }
+{
+    let Written { alone, readings } = written;
+    match typed_alone(alloc, alone, scope) {
+        Ok(Some(placed)) => {
+            drop(readings);
+            Ok(placed)
+        }
+        Ok(None) => settle_open(alloc, readings, scope),
+        Err(error) => {
+            drop(readings);
+            Err(error)
+        }
+    }
+}
+
+// What was read as its literals are read alone, if it is there and has a type over the scope.
+fn typed_alone(
+    alloc: Global,
+    alone: Option<Placed>,
+    scope: &DType,
+) -> Result<Option<Placed>, OverError>
+    ensures found { IfOk result (IsTypedAlone (type_of scope.now) alone) }
+    ensures memory { IfErr result (λ e. e ≡ OutOfMemory) }
+{
+    match alone {
+        Some(placed) => {
+            if has_type(alloc, &placed.expression, scope)? {
+                Ok(Some(placed))
+            } else {
+                Ok(None)
+            }
+        }
+        None => Ok(None),
+    }
+}
+
+// Whether the tree has a type over the scope.
+fn has_type(alloc: Global, e: &Expression, scope: &DType) -> Result<bool, OverError>
+    ensures answer { IfOk result (λ b. b ≡ is_ok (typed (tree_of e.now) (type_of scope.now))) }
+    ensures memory { IfErr result (λ e. e ≡ OutOfMemory) }
+{
+    match e.return_dtype(alloc, scope) {
+        Ok(_) => Ok(true),
+        Err(VortexError::OutOfMemory) => Err(OverError::OutOfMemory),
+        Err(_) => Ok(false),
+    }
+}
+
+// The tree of the two readings, if there are.
+fn settle_open(
+    alloc: Global,
+    readings: Result<Readings, ParseError>,
+    scope: &DType,
+) -> Result<Placed, OverError>
+    ensures { SettlesOpen (type_of scope.now) readings result }
+{
+    match readings {
+        Ok(readings) => settle_readings(alloc, readings, scope),
+        Err(error) => Err(OverError::from(error)),
+    }
+}
+
+// The tree of the two readings.
+fn settle_readings(alloc: Global, readings: Readings, scope: &DType) -> Result<Placed, OverError>
+    ensures { Settles tree_in result (read_over (type_of scope.now) (tree_in readings.first) (tree_of readings.second)) }
+{
+    let Readings { first, second } = readings;
+    let Placed { expression, places } = first;
+    let beside = Beside {
+        other: Some(&second),
+        places: Some(&places),
+    };
+    let settled = settle(Over { alloc, scope }, &expression, beside, false, None)?;
+    Ok(Placed {
+        expression: settled.tree,
+        places,
+    })
+}
