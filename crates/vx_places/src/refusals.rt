@@ -2,7 +2,10 @@
 ghost use Rattle.std.specs.Prelude.{◌≡◌, ◌↔◌, ℕ, map, Ok, Err, IfOk, IfErr, IfSome, IsSome, IsErr, OnOk};
 ghost use Rattle.vx_dtype.specs.declared.error.VortexError.TheVariants.{OutOfMemory};
 ghost use Rattle.vx_value.specs.Views.{type_of};
-ghost use Rattle.vx_tree.specs.Trees.{typed, each_typed};
+ghost use Rattle.vx_fn.specs.Functions.{fn_type};
+ghost use Rattle.vx_fn.specs.Views.{function_of};
+ghost use Rattle.vx_tree.specs.Pushed.{Pushes};
+ghost use Rattle.vx_tree.specs.Trees.{root, typed, each_typed};
 ghost use Rattle.vx_tree.specs.Views.{tree_of, trees_of};
 ghost use Rattle.vx_places.specs.Nodes.{node_at};
 ghost use Rattle.vx_places.specs.Refusals.{IsFirstRefusal, IsFirstRefusalIn};
@@ -10,7 +13,8 @@ ghost use Rattle.vx_places.specs.Walked.{Adds, LeadsToNode, LeadsBelow};
 
 use crate::place::{Place, placed};
 use std::alloc::Global;
-use vx_tree::{Expression, push_call, push_scope};
+use vx_fn::ScalarFnRef;
+use vx_tree::Expression;
 use vx_types::{DType, VortexResult};
 
 /// The place of the first refusal of binding the tree to that type, None exactly where
@@ -78,4 +82,27 @@ fn push_type(
             push_call(alloc, scalar_fn, below.as_slice(), types)
         }
     }
+}
+
+// Adds the scope's type.
+#[inline(never)]
+fn push_scope(scope: &DType, types: &mut Vec<DType>) -> VortexResult<()>
+    ensures { Pushes type_of types.old.items result (typed root (type_of scope.now)) types.new.items }
+{
+    types.push(scope.clone()?)?;
+    Ok(())
+}
+
+// Adds the type of the function over the types below.
+#[inline(never)]
+fn push_call(
+    alloc: Global,
+    scalar_fn: &ScalarFnRef,
+    below: &[DType],
+    types: &mut Vec<DType>,
+) -> VortexResult<()>
+    ensures { Pushes type_of types.old.items result (fn_type (function_of scalar_fn.now) (map type_of below.now)) types.new.items }
+{
+    types.push(scalar_fn.return_dtype(alloc, below)?)?;
+    Ok(())
 }

@@ -36,7 +36,6 @@ pub use laws::{
 };
 pub use node::TreeNode;
 pub use scope::Scope;
-pub use typing::{push_call, push_scope};
 pub use vx_fn::{
     Between, BetweenOptions, Binary, CaseWhen, CaseWhenOptions, Cast, ChildName, EmptyOptions,
     FieldSelection, FillNull, GetItem, IsNotNull, IsNull, Like, LikeOptions, Literal, Mask, Not,

@@ -77,20 +77,18 @@ fn push_type(
     }
 }
 
-/// Adds a copy of the scope's type, the type of the scope root. Refuses with `OutOfMemory` (1) alone. It stands in no frame of a
-/// recursion that calls it.
+// Adds the scope's type.
 #[inline(never)]
-pub fn push_scope(scope: &DType, types: &mut Vec<DType>) -> VortexResult<()>
+fn push_scope(scope: &DType, types: &mut Vec<DType>) -> VortexResult<()>
     ensures { Pushes type_of types.old.items result (typed root (type_of scope.now)) types.new.items }
 {
     types.push(scope.clone()?)?;
     Ok(())
 }
 
-/// Adds the type of the function over the types of its children. Refuses with `ArityMismatch` (2), else as the function
-/// does (4 to 11), and with `OutOfMemory` (1). It stands in no frame of a recursion that calls it.
+// Adds the type of the function over the types below.
 #[inline(never)]
-pub fn push_call(
+fn push_call(
     alloc: Global,
     scalar_fn: &ScalarFnRef,
     below: &[DType],
