@@ -36,10 +36,7 @@ pub(crate) fn pending(
 }
 
 /// `not` is open before the operand.
-pub(crate) fn negated(
-    mut frames: Vec<Frame>,
-    operand: &Operand,
-) -> Result<Vec<Frame>, AllocError>
+pub(crate) fn negated(mut frames: Vec<Frame>, operand: &Operand) -> Result<Vec<Frame>, AllocError>
     ensures { IfOk result (λ all. frames_of all.items ≡ in_not ∷ frames_of frames.items) }
 {
     frames.push(Frame::Not(operand.places.start))?;

@@ -21,6 +21,6 @@ returns-in_default c =
     let r = c.args.context.room in
     let x = lexeme_of c.args.context.found.now.token in
     elim c.in_default.branch [
-      | in_default-via-in-Sign+in_default w ↦ record { reads = subst (λ said. ReadsUpTo at step_of c.begin.result said) (sym (begins_child fs r x (λ e. search rules))) c.begin.ensures.reads; }
-      | in_default-via-in_default w ↦ record { reads = subst (λ said. ReadsUpTo at step_of c.begin.result said) (sym (begins_child fs r x (λ e. search rules))) c.begin.ensures.reads; }
+      | in_default-via-in-Sign+in_default w ↦ record { reads = subst (λ said. ReadsUpTo at step_of c.begin.result said) (sym (begins_child fs r x (λ e. search rules))) c.begin.ensures.reads }
+      | in_default-via-in_default w ↦ record { reads = subst (λ said. ReadsUpTo at step_of c.begin.result said) (sym (begins_child fs r x (λ e. search rules))) c.begin.ensures.reads }
     ]
