@@ -12,7 +12,7 @@ pub struct Places {
     pub start: usize,
     /// The byte behind the last.
     pub end: usize,
-    /// The children, in the order of the tree's.
+    /// The children, in the order of the tree's; none where the node is one that stands before once more.
     pub children: Vec<Places>,
 }
 

@@ -1,16 +1,16 @@
 // What follows an operand: a postfix, an operator, or what closes a bracket.
-ghost use Rattle.std.specs.Prelude.{◌≡◌, Ok};
 ghost use Rattle.vx_source_types.specs.Views.{lexeme_of};
 ghost use Rattle.vx_source_grammar.specs.Closing.{keyword_at};
 ghost use Rattle.vx_source_grammar.specs.Following.{follows, follows_loosely, is_goes, is_not_goes, loose_word_goes, not_goes, word_goes};
-ghost use Rattle.vx_source_grammar.specs.States.{goes};
 ghost use Rattle.vx_source_operands.specs.Places.{ReadsUpTo};
 ghost use Rattle.vx_source_operands.specs.OperandViews.{frames_of, operand_of, step_of};
 
 use crate::chains::{after_and, and_item, or_item};
 use crate::close::close;
-use crate::comparisons::{after_comparison, between, like, null_test, sum};
-use crate::steps::keyword;
+use crate::comparisons::{after_comparison, between, comparable, like, open_like, sum};
+use crate::predicates::{null_test, truth_test};
+use crate::steps::{keyword, negated, pending};
+use vx_fn::{EmptyOptions, ScalarFnRef};
 use vx_source_grammar::Keyword;
 use vx_source_operands::{
     Context, ExpressionStep, Frame, Mode, Operand, TypeFor, comparison, more, type_due,
@@ -49,11 +49,21 @@ fn after_word(
     match keyword(&context.found.token) {
         Some(Keyword::And) => after_and(context, frames, operand),
         Some(Keyword::Or) => or_item(context, frames, operand),
-        Some(Keyword::Like) => like(context, frames, operand, false, false),
-        Some(Keyword::Ilike) => like(context, frames, operand, false, true),
-        Some(Keyword::Not) => Ok(more(frames, Mode::NotLike(operand), context.room)),
+        Some(Keyword::Like) => like(context, frames, operand, false),
+        Some(Keyword::Ilike) => like(context, frames, operand, true),
         Some(Keyword::Between) => between(context, frames, operand),
-        Some(Keyword::Is) => Ok(more(frames, Mode::Is(operand), context.room)),
+        Some(Keyword::Not) => {
+            let (frames, operand) = comparable(context, frames, operand)?;
+            Ok(more(frames, Mode::NotLike(operand), context.room))
+        }
+        Some(Keyword::In) => {
+            let (frames, operand) = comparable(context, frames, operand)?;
+            Ok(more(frames, Mode::In(operand), context.room))
+        }
+        Some(Keyword::Is) => {
+            let (frames, operand) = comparable(context, frames, operand)?;
+            Ok(more(frames, Mode::Is(operand), context.room))
+        }
         _ => close(context, frames, operand),
     }
 }
@@ -94,12 +104,13 @@ fn after_loose_word(
         | Some(Keyword::Ilike)
         | Some(Keyword::Not)
         | Some(Keyword::Between)
+        | Some(Keyword::In)
         | Some(Keyword::Is) => Err(expected(context.found, Expected::Parens)),
         _ => close(context, frames, operand),
     }
 }
 
-/// What follows `not` behind an operand.
+/// What follows `not` behind an operand: `between` and `in` are what they are without it, negated.
 pub fn after_not(
     context: Context,
     frames: Vec<Frame>,
@@ -108,8 +119,16 @@ pub fn after_not(
     ensures reads { ReadsUpTo context.entry.found.now.at step_of result (not_goes (frames_of frames.items) context.entry.room (operand_of operand) (lexeme_of context.entry.found.now.token) (keyword_at (lexeme_of context.entry.found.now.token))) }
 {
     match keyword(&context.found.token) {
-        Some(Keyword::Like) => like(context, frames, operand, true, false),
-        Some(Keyword::Ilike) => like(context, frames, operand, true, true),
+        Some(Keyword::Like) => Ok(open_like(context.room, frames, operand, true, false)?),
+        Some(Keyword::Ilike) => Ok(open_like(context.room, frames, operand, true, true)?),
+        Some(Keyword::Between) => {
+            let frames = negated(frames, &operand)?;
+            Ok(pending(frames, Frame::Lower(operand), context.room)?)
+        }
+        Some(Keyword::In) => {
+            let frames = negated(frames, &operand)?;
+            Ok(more(frames, Mode::In(operand), context.room))
+        }
         _ => Err(refusal(context.found, Expected::Like)),
     }
 }
@@ -124,7 +143,15 @@ pub fn after_is(
 {
     match keyword(&context.found.token) {
         Some(Keyword::Not) => Ok(more(frames, Mode::IsNot(operand), context.room)),
-        Some(Keyword::Null) => null_test(context, frames, operand, false),
+        Some(Keyword::Null) => {
+            let function = ScalarFnRef::IsNull(EmptyOptions);
+            null_test(context, frames, operand, function)
+        }
+        Some(Keyword::True) => truth_test(context, frames, operand, false),
+        Some(Keyword::False) => {
+            let frames = negated(frames, &operand)?;
+            truth_test(context, frames, operand, true)
+        }
         _ => Err(refusal(context.found, Expected::Null)),
     }
 }
@@ -138,7 +165,15 @@ pub fn after_is_not(
     ensures reads { ReadsUpTo context.entry.found.now.at step_of result (is_not_goes (frames_of frames.items) context.entry.room (operand_of operand) (lexeme_of context.entry.found.now.token) (keyword_at (lexeme_of context.entry.found.now.token))) }
 {
     match keyword(&context.found.token) {
-        Some(Keyword::Null) => null_test(context, frames, operand, true),
+        Some(Keyword::Null) => {
+            let function = ScalarFnRef::IsNotNull(EmptyOptions);
+            null_test(context, frames, operand, function)
+        }
+        Some(Keyword::True) => {
+            let frames = negated(frames, &operand)?;
+            truth_test(context, frames, operand, false)
+        }
+        Some(Keyword::False) => truth_test(context, frames, operand, true),
         _ => Err(refusal(context.found, Expected::Null)),
     }
 }

@@ -3,7 +3,7 @@ ghost use Rattle.std.specs.Prelude.{[], ◌∷◌};
 ghost use Rattle.vx_source_types.specs.Views.{lexeme_of};
 ghost use Rattle.vx_source_types.specs.TypeReading.{within};
 ghost use Rattle.vx_source_types.specs.ScalarReading as scalars;
-ghost use Rattle.vx_source_grammar.specs.Beginning.{begins, field_read, not_begins, number_begins, value_begins};
+ghost use Rattle.vx_source_grammar.specs.Beginning.{begins, field_read, not_begins, number_begins, plus_at, value_begins};
 ghost use Rattle.vx_source_grammar.specs.States.{condition_part, in_case, in_paren, operand_due, case_due, goes};
 ghost use Rattle.vx_source_operands.specs.Places.{ReadsUpTo};
 ghost use Rattle.vx_source_operands.specs.OperandViews.{frame_of, frames_of, operand_of, step_of};
@@ -12,7 +12,7 @@ use crate::postfix::field;
 use crate::values::literal;
 use vx_source_grammar::{Keyword, as_keyword};
 use vx_source_operands::{
-    Bracket, CasePart, Context, ExpressionStep, Frame, Mode, Operand, more, root, tight,
+    Bracket, CasePart, Context, ExpressionStep, Frame, Mode, Operand, begun_at, more, root, tight,
 };
 use vx_source_types::{
     Expected, ParseError, Sign, Token, ValueReader, ValueStep, expected, inside, refusal, suffixed,
@@ -31,7 +31,7 @@ pub(crate) fn begin(context: Context, frames: Vec<Frame>) -> Result<ExpressionSt
                 Ok(more(frames, mode, context.room))
             }
             Some(Keyword::Null) | Some(Keyword::True) | Some(Keyword::False) => {
-                begin_value(context, frames)
+                begin_value(context, frames, found.at)
             }
             Some(Keyword::Not) => begin_not(context, frames),
             Some(Keyword::Case) => begin_case(context, frames),
@@ -47,11 +47,12 @@ pub(crate) fn begin(context: Context, frames: Vec<Frame>) -> Result<ExpressionSt
             Ok(tight(frames, context.room, operand))
         }
         Token::Sign(Sign::OpenParen) => begin_paren(context, frames),
-        Token::Number { .. } => begin_number(context, frames),
+        Token::Sign(Sign::Plus) => Ok(more(frames, Mode::Plus(found.at), context.room)),
+        Token::Number { .. } => begin_number(context, frames, found.at),
         Token::Text(_)
         | Token::Octets(_)
         | Token::Sign(Sign::OpenBracket)
-        | Token::Sign(Sign::OpenBrace) => begin_value(context, frames),
+        | Token::Sign(Sign::OpenBrace) => begin_value(context, frames, found.at),
         _ => Err(refusal(found, Expected::Operand)),
     }
 }
@@ -112,31 +113,57 @@ fn begin_not_in(
     }
 }
 
-// A value, whose type may follow.
-fn begin_value(context: Context, frames: Vec<Frame>) -> Result<ExpressionStep, ParseError>
+// A value that begins at that byte, whose type may follow.
+fn begin_value(
+    context: Context,
+    frames: Vec<Frame>,
+    start: usize,
+) -> Result<ExpressionStep, ParseError>
     ensures reads { ReadsUpTo context.entry.found.now.at step_of result (value_begins (frames_of frames.items) context.entry.room (lexeme_of context.entry.found.now.token)) }
 {
     let Context { alloc, room, found } = context;
     match ValueReader::new(alloc, room).step(alloc, found)? {
         ValueStep::More(reader) => {
             let reader = Box::new(alloc, reader)?;
-            Ok(more(frames, Mode::Value(reader, found.at, found.end), room))
+            Ok(more(frames, Mode::Value(reader, start, found.end), room))
         }
         ValueStep::Done(_) => Err(refusal(found, Expected::Value)),
     }
 }
 
-// A number with the type behind it, or without.
-fn begin_number(context: Context, frames: Vec<Frame>) -> Result<ExpressionStep, ParseError>
+// A number with the type behind it, or without, that begins at that byte.
+fn begin_number(
+    context: Context,
+    frames: Vec<Frame>,
+    start: usize,
+) -> Result<ExpressionStep, ParseError>
     ensures reads { ReadsUpTo context.entry.found.now.at step_of result (number_begins (frames_of frames.items) context.entry.room (lexeme_of context.entry.found.now.token) (scalars.suffixed (lexeme_of context.entry.found.now.token))) }
 {
     match suffixed(context.found) {
         Some(scalar) => {
-            let bytes = (context.found.at, context.found.end);
+            let bytes = (start, context.found.end);
             let operand = literal(context, scalar?, bytes)?;
             Ok(tight(frames, context.room, operand))
         }
-        None => begin_value(context, frames),
+        None => begin_value(context, frames, start),
+    }
+}
+
+/// The number behind a `+` with which an operand begins, at that byte.
+pub(crate) fn begin_plus(
+    context: Context,
+    frames: Vec<Frame>,
+    start: usize,
+) -> Result<ExpressionStep, ParseError>
+    ensures reads { ReadsUpTo context.entry.found.now.at step_of result (plus_at (frames_of frames.items) context.entry.room (lexeme_of context.entry.found.now.token)) }
+{
+    match &context.found.token {
+        Token::Number {
+            negative: false,
+            ..
+        } => begin_number(context, frames, start),
+        Token::Invalid(wanted) => Err(expected(context.found, *wanted)),
+        _ => Err(begun_at(start, context.found, Expected::Operand)),
     }
 }
 

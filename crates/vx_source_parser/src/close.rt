@@ -5,6 +5,7 @@ ghost use Rattle.vx_source_operands.specs.Places.{ReadsUpTo};
 ghost use Rattle.vx_source_operands.specs.OperandViews.{frames_of, operand_of, step_of};
 
 use crate::brackets::{after_cast, after_child, after_enclosed, after_packed, after_part};
+use crate::members::after_member;
 use crate::steps::with_operand;
 use vx_source_operands::{Context, ExpressionStep, Frame, Level, Operand, reduce};
 use vx_source_types::{Expected, Found, ParseError, Token, refusal};
@@ -34,6 +35,10 @@ fn after_bracketed(
     };
     match frame {
         Frame::Paren(bracket) => after_enclosed(frames, operand, bracket, context.found),
+        Frame::Members(lhs, items, bracket) => {
+            let items = with_operand(items, operand)?;
+            after_member(context, frames, lhs, items, bracket)
+        }
         Frame::Call(callee, children, bracket) => {
             let children = with_operand(children, operand)?;
             after_child(context, frames, callee, children, bracket)

@@ -1,18 +1,18 @@
 // `+` and comparisons behind an operand, of which two don't chain but as a range.
-ghost use Rattle.std.specs.Prelude.{◌≡◌, ◌∷◌, if◌then◌else◌, List, Err, option_map};
+ghost use Rattle.std.specs.Prelude.{◌≡◌, ◌∷◌, if◌then◌else◌, List, Ok, Err, IfOk, false, option_map};
 ghost use Rattle.vx_fn.specs.Functions.{Comparison, adds, compares};
+ghost use Rattle.vx_tree.specs.Trees.{Tree};
 ghost use Rattle.vx_fn.specs.Views.{is_strict, operation_of};
 ghost use Rattle.vx_source_types.specs.declared.expectation.Expected.TheVariants.{Parens};
 ghost use Rattle.vx_source_grammar.specs.Following as grammar;
-ghost use Rattle.vx_source_grammar.specs.States.{ExpressionAnswer, Frame as OpenFrame, goes, in_binary, operand_due};
+ghost use Rattle.vx_source_grammar.specs.States.{Frame as OpenFrame, goes, in_binary, operand_due};
 ghost use Rattle.vx_source_operands.specs.Places.{ReadsUpTo};
-ghost use Rattle.vx_source_operands.specs.OperandViews.{frame_of, frames_of, operand_of, step_of};
+ghost use Rattle.vx_source_operands.specs.OperandViews.{frame_of, frames_of, operand_of, reduced_of, step_of};
 
 use crate::steps::pending;
-use vx_fn::{EmptyOptions, LikeOptions, Operator, ScalarFnRef, StrictComparison};
-use vx_source_operands::{
-    Context, ExpressionStep, Frame, Level, Mode, OpenRange, Operand, more, node_over, reduce,
-};
+use std::alloc::AllocError;
+use vx_fn::{LikeOptions, Operator, StrictComparison};
+use vx_source_operands::{Context, ExpressionStep, Frame, Level, OpenRange, Operand, reduce};
 use vx_source_types::{Expected, ParseError, expected};
 
 // The bound of that operator, of `<` and `<=`.
@@ -111,9 +111,25 @@ fn range(
     Ok(pending(frames, frame, context.room)?)
 }
 
+/// The operand that a word compares, and what is open around it. Refuses a word behind another comparison, with which it
+/// doesn't chain, and as `reduce` does.
+pub(crate) fn comparable(
+    context: Context,
+    frames: Vec<Frame>,
+    operand: Operand,
+) -> Result<(Vec<Frame>, Operand), ParseError>
+    ensures reads { ReadsUpTo context.entry.found.now.at reduced_of result (grammar.comparable (frames_of frames.items) context.entry.room (operand_of operand)) }
+{
+    let (frames, operand) = reduce(context, frames, operand, Level::Sum)?;
+    if in_comparison(frames.as_slice()) {
+        return Err(expected(context.found, Expected::Parens));
+    }
+    Ok((frames, operand))
+}
+
 // Whether a comparison is open, so that none may follow.
 fn in_comparison(frames: &[Frame]) -> bool
-    ensures { (made : ExpressionAnswer) → grammar.compared (frames_of frames.now) made ≡ (if result then Err Parens else made) }
+    ensures { (e : Tree) → grammar.uncompared (frames_of frames.now) e ≡ (if result then Err Parens else Ok (frames_of frames.now, e)) }
 {
     match frames.last() {
         Some(frame) => is_comparison(frame),
@@ -123,7 +139,7 @@ fn in_comparison(frames: &[Frame]) -> bool
 
 // Whether the frame is a comparison that waits for more.
 fn is_comparison(frame: &Frame) -> bool
-    ensures { (outer : List OpenFrame) (made : ExpressionAnswer) → grammar.compared (frame_of frame.now ∷ outer) made ≡ (if result then Err Parens else made) }
+    ensures { (outer : List OpenFrame) (e : Tree) → grammar.uncompared (frame_of frame.now ∷ outer) e ≡ (if result then Err Parens else Ok (frame_of frame.now ∷ outer, e)) }
 {
     match frame {
         Frame::Binary(_, _) | Frame::Like(_, _) | Frame::Upper(_) | Frame::Lower(_) => true,
@@ -131,25 +147,34 @@ fn is_comparison(frame: &Frame) -> bool
     }
 }
 
-/// `like` or `ilike`, negated or not.
+/// `like` or `ilike` behind an operand.
 pub(crate) fn like(
     context: Context,
     frames: Vec<Frame>,
     operand: Operand,
-    negated: bool,
     case_insensitive: bool,
 ) -> Result<ExpressionStep, ParseError>
-    ensures { ReadsUpTo context.entry.found.now.at step_of result (grammar.like_goes (frames_of frames.items) context.entry.room (operand_of operand) negated case_insensitive) }
+    ensures { ReadsUpTo context.entry.found.now.at step_of result (grammar.worded (frames_of frames.items) context.entry.room (operand_of operand) (grammar.like_goes context.entry.room false case_insensitive)) }
 {
-    let (frames, operand) = reduce(context, frames, operand, Level::Sum)?;
-    if in_comparison(frames.as_slice()) {
-        return Err(expected(context.found, Expected::Parens));
-    }
+    let (frames, operand) = comparable(context, frames, operand)?;
+    Ok(open_like(context.room, frames, operand, false, case_insensitive)?)
+}
+
+/// The same, negated or not, behind the operand that it compares.
+pub(crate) fn open_like(
+    room: usize,
+    frames: Vec<Frame>,
+    operand: Operand,
+    negated: bool,
+    case_insensitive: bool,
+) -> Result<ExpressionStep, AllocError>
+    ensures { IfOk result (λ step. grammar.like_goes room negated case_insensitive (frames_of frames.items) (operand_of operand) ≡ Ok (step_of step)) }
+{
     let options = LikeOptions {
         negated,
         case_insensitive,
     };
-    Ok(pending(frames, Frame::Like(options, operand), context.room)?)
+    pending(frames, Frame::Like(options, operand), room)
 }
 
 /// `between` behind an operand.
@@ -158,34 +183,8 @@ pub(crate) fn between(
     frames: Vec<Frame>,
     operand: Operand,
 ) -> Result<ExpressionStep, ParseError>
-    ensures { ReadsUpTo context.entry.found.now.at step_of result (grammar.between_goes (frames_of frames.items) context.entry.room (operand_of operand)) }
+    ensures { ReadsUpTo context.entry.found.now.at step_of result (grammar.worded (frames_of frames.items) context.entry.room (operand_of operand) (grammar.between_goes context.entry.room)) }
 {
-    let (frames, operand) = reduce(context, frames, operand, Level::Sum)?;
-    if in_comparison(frames.as_slice()) {
-        return Err(expected(context.found, Expected::Parens));
-    }
+    let (frames, operand) = comparable(context, frames, operand)?;
     Ok(pending(frames, Frame::Lower(operand), context.room)?)
-}
-
-/// `is null` behind an operand, or `is not null`.
-pub(crate) fn null_test(
-    context: Context,
-    frames: Vec<Frame>,
-    operand: Operand,
-    negated: bool,
-) -> Result<ExpressionStep, ParseError>
-    ensures { ReadsUpTo context.entry.found.now.at step_of result (grammar.null_goes (frames_of frames.items) context.entry.room (operand_of operand) negated) }
-{
-    let (frames, operand) = reduce(context, frames, operand, Level::Sum)?;
-    if in_comparison(frames.as_slice()) {
-        return Err(expected(context.found, Expected::Parens));
-    }
-    let function = if negated {
-        ScalarFnRef::IsNotNull(EmptyOptions)
-    } else {
-        ScalarFnRef::IsNull(EmptyOptions)
-    };
-    let bytes = (operand.places.start, context.found.end);
-    let made = node_over(context, function, operand, bytes)?;
-    Ok(more(frames, Mode::Loose(made), context.room))
 }

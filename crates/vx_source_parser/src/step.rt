@@ -6,8 +6,9 @@ ghost use Rattle.vx_source_operands.specs.PlainViews.{plain_by};
 ghost use Rattle.vx_source_operands.specs.OperandViews.{reader_of, step_of};
 
 use crate::after::{after_is, after_is_not, after_loose, after_not, after_tight};
-use crate::begin::begin;
+use crate::begin::{begin, begin_plus};
 use crate::calls::{first_child, first_packed, pack_end, packed, packed_value};
+use crate::members::members;
 use crate::postfix::{dot, exclusion, selection, selection_name, selection_next};
 use crate::values::{read_type, value};
 use crate::words::{after_id, after_vortex, after_word, case, children, options_next};
@@ -56,7 +57,9 @@ pub(crate) fn step(
         Mode::NotLike(e) => after_not(context, frames, e),
         Mode::Is(e) => after_is(context, frames, e),
         Mode::IsNot(e) => after_is_not(context, frames, e),
+        Mode::In(e) => members(context, frames, e),
         Mode::Case => case(context, frames),
+        Mode::Plus(start) => begin_plus(context, frames, start),
         Mode::Value(reader, start, end) => value(context, plain, frames, reader, (start, end)),
         Mode::Type(wanted, reader, end) => read_type(context, frames, wanted, reader, end),
     }

@@ -3,7 +3,7 @@ ghost use Rattle.std.specs.Prelude.{◌≡◌, ◌∷◌, ◌++◌, [], Ok, IfOk
 ghost use Rattle.vx_fn.specs.Views.{function_of};
 ghost use Rattle.vx_source_types.specs.Views.{lexeme_of};
 ghost use Rattle.vx_source_grammar.specs.Closing as grammar;
-ghost use Rattle.vx_source_grammar.specs.States.{goes, operand_due};
+ghost use Rattle.vx_source_grammar.specs.States.{goes, in_not, operand_due};
 ghost use Rattle.vx_source_operands.specs.Places.{ReadsUpTo};
 ghost use Rattle.vx_source_operands.specs.OperandViews.{frame_of, frames_of, operand_of, operands_of, step_of};
 
@@ -33,6 +33,14 @@ pub(crate) fn pending(
 {
     frames.push(frame)?;
     Ok(more(frames, Mode::Operand, room))
+}
+
+/// `not` is open before the operand.
+pub(crate) fn negated(mut frames: Vec<Frame>, operand: &Operand) -> Result<Vec<Frame>, AllocError>
+    ensures { IfOk result (λ all. frames_of all.items ≡ in_not ∷ frames_of frames.items) }
+{
+    frames.push(Frame::Not(operand.places.start))?;
+    Ok(frames)
 }
 
 /// The operands with another.
