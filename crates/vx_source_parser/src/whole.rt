@@ -1,5 +1,6 @@
 // Whole texts of expressions.
-ghost use Rattle.std.specs.Prelude.{◌≡◌, ◌≤◌, Err, IfOk, MatchOption, true};
+ghost use Rattle.std.specs.Prelude.{◌≡◌, ◌≤◌, Err, IfErr, IfOk, MatchOption, true};
+ghost use Rattle.vx_source_types.specs.declared.error.ParseError.TheVariants.{OutOfMemory};
 ghost use Rattle.vx_tree.specs.Trees.{Tree};
 ghost use Rattle.vx_tree.specs.Views.{tree_of};
 ghost use Rattle.vx_source_types.specs.Tokens.{end};
@@ -79,7 +80,8 @@ pub struct Readings {
 /// nested at most as deep as said. Refuses as [`parse_with`] does, but for numbers above the range of `i32` and nulls
 /// without a type, which are read.
 pub fn parse_open(alloc: Global, text: &str, limit: usize) -> Result<Readings, ParseError>
-    ensures { IfOk result (λ both. AreReadings limit text.now (tree_of both.first.expression) (tree_of both.second)) }
+    ensures reads { IfOk result (λ both. AreReadings limit text.now (tree_of both.first.expression) (tree_of both.second)) }
+    ensures complete { (e d : Tree) → AreReadings limit text.now e d → IfErr result (λ x. x ≡ OutOfMemory) }
 {
     let Operand { tree, places, .. } = read(alloc, PlainValues::Open(false), text, limit)?;
     let first = Placed {
@@ -98,6 +100,7 @@ fn with_second(
 ) -> Result<Readings, ParseError>
     ensures first { IfOk result (λ both. both.first ≡ first) }
     ensures second { IfOk result (λ both. IsRead (step_by (open_literal true)) (expression_start limit) text.now (tree_of both.second)) }
+    ensures complete { (d : Tree) → IsRead (step_by (open_literal true)) (expression_start limit) text.now d → IfErr result (λ x. x ≡ OutOfMemory) }
 {
     let Operand { tree, .. } = read(alloc, PlainValues::Open(true), text, limit)?;
     let second = Box::into_inner(tree);

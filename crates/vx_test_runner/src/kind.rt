@@ -110,6 +110,7 @@ pub enum WordsKind {
     ParsedType,
     ParsedScalar,
     Places,
+    ParseOver,
     Union,
     Scalar,
     Column,
@@ -152,6 +153,7 @@ impl Kind {
                 WordsKind::Like
                 | WordsKind::NodeType
                 | WordsKind::Kept
+                | WordsKind::ParseOver
                 | WordsKind::Union
                 | WordsKind::Column
                 | WordsKind::Collected(_) => 2,
@@ -286,6 +288,7 @@ fn of_words(name: &str) -> Option<WordsKind> {
         "parsed type" => WordsKind::ParsedType,
         "parsed scalar" => WordsKind::ParsedScalar,
         "places" => WordsKind::Places,
+        "parse over" => WordsKind::ParseOver,
         "union" => WordsKind::Union,
         "scalar" => WordsKind::Scalar,
         "column" => WordsKind::Column,

@@ -1,8 +1,8 @@
 // Answers of source text.
 use std::alloc::Global;
 use vx_source::{
-    DEFAULT_NESTING, ParseError, Places, ScalarText, SourceText, TypeText, parse, parse_scalar,
-    parse_type, parse_with_places,
+    DEFAULT_NESTING, OverError, ParseError, Places, ScalarText, SourceText, TypeText, parse,
+    parse_over, parse_scalar, parse_type, parse_with_places,
 };
 use vx_test_support::{Unread, boxed, reads};
 use vx_tree::{Expression, VortexError};
@@ -31,6 +31,20 @@ pub fn read_otherwise(alloc: Global, expression: &Expression) -> Result<Option<S
         return Ok(Some(format!(in alloc; "{source} reads back otherwise")?));
     }
     Ok(None)
+}
+
+/// The source text of the expression that is read of the text over a scope of that type, or why it
+/// isn't; of a literal that is none of its type also where it ends.
+pub fn parsed_over(alloc: Global, dtype: &str, text: &str) -> Result<String, Unread> {
+    let dtype = parse_type(alloc, dtype)?;
+    match parse_over(alloc, text, &dtype) {
+        Ok(expression) => Ok(format!(in alloc; "{}", SourceText(&expression))?),
+        Err(OverError::OutOfMemory) => Err(Unread::Refused(VortexError::OutOfMemory)),
+        Err(refusal) => match &refusal {
+            OverError::Misfit { end, .. } => Ok(format!(in alloc; "{refusal}, to {end}")?),
+            _ => Ok(format!(in alloc; "{refusal}")?),
+        },
+    }
 }
 
 /// The source text of the type that is read of the text, or where reading stops and what would have

@@ -6,7 +6,7 @@ use crate::answers::matches::{like, matched};
 use crate::answers::paths::path_set;
 use crate::answers::pruned::statistics_of;
 use crate::answers::scans::{read, read_through};
-use crate::answers::source_texts::{parsed, parsed_scalar, parsed_type, places};
+use crate::answers::source_texts::{parsed, parsed_over, parsed_scalar, parsed_type, places};
 use crate::answers::sources::peeled_text;
 use crate::answers::values::{column, joined, scalar_text, type_text, union};
 use crate::kind::WordsKind;
@@ -69,6 +69,7 @@ fn of_two(
         WordsKind::Like => like(alloc, first, second),
         WordsKind::NodeType => node_type(alloc, first, second),
         WordsKind::Kept => kept(alloc, first, second),
+        WordsKind::ParseOver => parsed_over(alloc, first, second),
         WordsKind::Union => union(alloc, first, second),
         WordsKind::Column => column(alloc, first, second),
         WordsKind::Collected(kind) => collected(alloc, kind, scene, first, second),
