@@ -1,5 +1,5 @@
 -- Rows of bits.
-use Rattle.std.proofs.Common.{◌≡◌, ℕ, ◌+◌, ◌-◌, ◌*◌, ◌/◌, ◌%◌, ◌^◌, ◌<◌, ◌≤◌, ◌==◌, eqb, min, max, List, map, length, get_or, refl, sym, ap, ◌∙◌, arith, Bool, true, false, ◌&&◌, ◌||◌, not, ⊎_elim}
+use Rattle.std.proofs.Common.{◌≡◌, ℕ, ◌+◌, ◌/◌, ◌%◌, ◌^◌, ◌<◌, eqb, min, max, List, length, get_or, refl, sym, ap, ◌∙◌, arith, Bool, false, ◌&&◌, ◌||◌, not, ⊎_elim}
 use Rattle.std.proofs.Math.ListN.{replicate, get_or-eq_default}
 use Rattle.std.specs.Int.{bit_at}
 use Rattle.std.specs.Int.RustNames.{bit_and, bit_or, bit_xor}
@@ -10,6 +10,7 @@ use Rattle.std.proofs.lemmas.Bool.Decides.{nat_tests}
 use Rattle.std.proofs.lemmas.Simd.{zip2-map, length-replicate, get_or-replicate, splat_is_map}
 use Rattle.std.proofs.lemmas.List.FromFn.{length-range_with_len, length-map-range_with_len, get_or-map-range_with_len, fill_by_all}
 use Rattle.std.proofs.lemmas.Nat.Bits.{bit_at-lt, bit_at_and, bit_at_or, bit_at_xor, bit_at_ones, bit_at-zero, shr_and_one}
+use Rattle.vx_array_loops.specs.Logic.{and_valid, or_valid}
 use Rattle.vx_array_loops.specs.WordBits.{bit_of, bit, first_bits, each_row, words_for}
 
 pub length-first_bits : (n : ℕ) (words : List ℕ) → length (first_bits n words) ≡ n
@@ -77,3 +78,39 @@ pub bit_read : (n : ℕ) (words : List ℕ) (xs : List Bool) (k w : ℕ) → fir
 bit_read n words xs k w view lt is =
     let within : k < n = omega (arith, ap length view, length-first_bits n words) in
     ap (λ x. eqb x 1) (shr_and_one w (k % 64)) ∙ ap (λ v. bit_of v (k % 64)) is ∙ sym (get_or-first_bits n words k within) ∙ ap (λ l. get_or l k false) view
+
+-- rows of bits that are seen
+pub seen : (n : ℕ) (words : List ℕ) (xs : List Bool) → first_bits n words ≡ xs → (k : ℕ) → k < n → bit words k ≡ get_or xs k false
+seen n words xs view k lt = sym (get_or-first_bits n words k lt) ∙ ap (λ l. get_or l k false) view
+
+-- rows of words that are combined, four side by side
+pub combined_four : (g : Bool → Bool → Bool → Bool → Bool) (post : ℕ → ℕ → ℕ → ℕ → ℕ → Type 0) (n : ℕ) (us vs ts ss new : List ℕ) (xs ys zs os : List Bool) → length us ≡ words_for n →
+    ((k : ℕ) → k < n → bit us k ≡ get_or xs k false) → ((k : ℕ) → k < n → bit vs k ≡ get_or ys k false) → ((k : ℕ) → k < n → bit ts k ≡ get_or zs k false) → ((k : ℕ) → k < n → bit ss k ≡ get_or os k false) →
+    ((j w : ℕ) → j < length us → w ≡ get_or new j 0 → post (get_or us j 0) (get_or vs j 0) (get_or ts j 0) (get_or ss j 0) w) →
+    ((p q r s w i : ℕ) → post p q r s w → i < 64 → bit_of w i ≡ g (bit_of p i) (bit_of q i) (bit_of r i) (bit_of s i)) →
+    first_bits n new ≡ each_row n (λ k. g (get_or xs k false) (get_or ys k false) (get_or zs k false) (get_or os k false))
+combined_four g post n us vs ts ss new xs ys zs os counted first second third fourth called gives =
+    same_rows false n (bit new) (λ k. g (get_or xs k false) (get_or ys k false) (get_or zs k false) (get_or os k false))
+    (λ k lt. let within : k / 64 < length us = omega arith in
+    gives (get_or us (k / 64) 0) (get_or vs (k / 64) 0) (get_or ts (k / 64) 0) (get_or ss (k / 64) 0) (get_or new (k / 64) 0) (k % 64) (called (k / 64) (get_or new (k / 64) 0) within refl) (omega arith)
+    ∙ ap (λ x. g x (bit vs k) (bit ts k) (bit ss k)) (first k lt) ∙ ap (λ x. g (get_or xs k false) x (bit ts k) (bit ss k)) (second k lt)
+    ∙ ap (λ x. g (get_or xs k false) (get_or ys k false) x (bit ss k)) (third k lt) ∙ ap (λ x. g (get_or xs k false) (get_or ys k false) (get_or zs k false) x) (fourth k lt))
+
+or_is : (p q i : ℕ) (x y : Bool) → bit_of p i ≡ x → bit_of q i ≡ y → bit_of (bit_or p q) i ≡ (x || y)
+or_is p q i x y left right = bit_of_or p q i ∙ ap (λ u. u || bit_of q i) left ∙ ap (λ u. x || u) right
+
+and_is : (p q i : ℕ) (x y : Bool) → bit_of p i ≡ x → bit_of q i ≡ y → bit_of (bit_and p q) i ≡ (x && y)
+and_is p q i x y left right = bit_of_and p q i ∙ ap (λ u. u && bit_of q i) left ∙ ap (λ u. x && u) right
+
+pub and_valid_bits : (v a w b n i : ℕ) → n ≡ bit_or (bit_or (bit_and v w) (bit_and v (bit_xor a 18446744073709551615))) (bit_and w (bit_xor b 18446744073709551615)) → i < 64 → bit_of n i ≡ and_valid (bit_of v i) (bit_of a i) (bit_of w i) (bit_of b i)
+and_valid_bits v a w b n i is low =
+    ap (λ m. bit_of m i) is
+    ∙ or_is (bit_or (bit_and v w) (bit_and v (bit_xor a 18446744073709551615))) (bit_and w (bit_xor b 18446744073709551615)) i ((bit_of v i && bit_of w i) || (bit_of v i && not (bit_of a i))) (bit_of w i && not (bit_of b i))
+    (or_is (bit_and v w) (bit_and v (bit_xor a 18446744073709551615)) i (bit_of v i && bit_of w i) (bit_of v i && not (bit_of a i)) (bit_of_and v w i) (and_is v (bit_xor a 18446744073709551615) i (bit_of v i) (not (bit_of a i)) refl (bit_of_not a i low)))
+    (and_is w (bit_xor b 18446744073709551615) i (bit_of w i) (not (bit_of b i)) refl (bit_of_not b i low))
+
+pub or_valid_bits : (v a w b n i : ℕ) → n ≡ bit_or (bit_or (bit_and v w) (bit_and v a)) (bit_and w b) → bit_of n i ≡ or_valid (bit_of v i) (bit_of a i) (bit_of w i) (bit_of b i)
+or_valid_bits v a w b n i is =
+    ap (λ m. bit_of m i) is
+    ∙ or_is (bit_or (bit_and v w) (bit_and v a)) (bit_and w b) i ((bit_of v i && bit_of w i) || (bit_of v i && bit_of a i)) (bit_of w i && bit_of b i)
+    (or_is (bit_and v w) (bit_and v a) i (bit_of v i && bit_of w i) (bit_of v i && bit_of a i) (bit_of_and v w i) (bit_of_and v a i)) (bit_of_and w b i)

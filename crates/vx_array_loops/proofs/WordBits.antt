@@ -1,12 +1,12 @@
 -- Bits of words.
-use Rattle.std.proofs.Common.{◌≡◌, ◌≢◌, ℕ, ◌+◌, ◌-◌, ◌*◌, ◌/◌, ◌%◌, ◌^◌, ◌<◌, ◌≤◌, ◌==◌, eqb, List, map, length, get_or, refl, sym, ap, subst, ◌∙◌, arith, Bool, true, false, cond, get_or-set_other, get_or-set_same, below_more, ⊎_elim, ◌⊎◌}
+use Rattle.std.proofs.Common.{◌≡◌, ◌≢◌, ℕ, ◌+◌, ◌*◌, ◌/◌, ◌%◌, ◌<◌, ◌≤◌, ◌==◌, eqb, List, map, length, get_or, refl, sym, ap, subst, ◌∙◌, arith, Bool, true, false, cond, get_or-set_other, get_or-set_same, below_more, ⊎_elim}
 use Rattle.std.proofs.Math.ListN.{set}
 use Rattle.std.specs.Int.{from_bool}
 use Rattle.std.proofs.lemmas.Bool.{cases_lt}
 use Rattle.std.specs.Simd.Lanes.{mask_l}
 use Rattle.std.proofs.lemmas.Simd.{bit_mask_l}
 use Rattle.std.proofs.lemmas.List.{get_or-map}
-use Rattle.vx_array_loops.specs.WordBits.{bit_of, bit, first_bits, each_row}
+use Rattle.vx_array_loops.specs.WordBits.{bit_of, bit}
 
 one_of : (b : Bool) → eqb (cond b 1 0) 1 ≡ b
 one_of true = refl

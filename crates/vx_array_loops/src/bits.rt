@@ -2,10 +2,12 @@
 ghost use Rattle.std.specs.Prelude.{◌≡◌, ◌<◌, ◌≤◌, ◌+◌, ◌==◌, ℕ, Bool, IfOk, List, false, true, length, get_or, map, not, take, drop};
 ghost use Rattle.std.specs.Simd.Lanes.{zip2};
 ghost use Rattle.std.proofs.Math.ListN.{replicate};
-ghost use Rattle.vx_array_loops.specs.Logic.{both, either, but, unless};
-ghost use Rattle.vx_array_loops.specs.WordBits.{bit_of, first_bits, words_for};
+ghost use Rattle.vx_array_loops.specs.Logic.{and_valid, both, but, either, or_valid, unless};
+ghost use Rattle.vx_array_loops.specs.WordBits.{bit_of, count_true, each_row, first_bits, words_for};
 
-use crate::words::{combine_words, write_words};
+use crate::count::count_bits;
+use crate::fill::tabulated;
+use crate::words::{combine_four, combine_words, write_words};
 use std::alloc::{AllocError, Global};
 use std::marker::Model;
 
@@ -135,6 +137,102 @@ impl Bits {
         ensures { self.new ≡ unless self.old other.now }
     {
         self.combine(other, |a, b| a | (b ^ u64::MAX));
+    }
+
+    // Writes what the function gives of each word and those of three others. It gives a truth value of
+    // all four at each bit.
+    #[inline(always)]
+    fn combine_three<F: Fn(u64, u64, u64, u64) -> u64>(
+        &mut self,
+        second: &Bits,
+        third: &Bits,
+        fourth: &Bits,
+        f: F,
+    )
+        requires second { length second.now ≡ length self.old }
+        requires third { length third.now ≡ length self.old }
+        requires fourth { length fourth.now ≡ length self.old }
+        requires call { F.IsAlwaysCallable f }
+        ensures { (g : Bool → Bool → Bool → Bool → Bool) → ((p q r s w i : ℕ) → F.post f p q r s w → i < 64 → bit_of w i ≡ g (bit_of p i) (bit_of q i) (bit_of r i) (bit_of s i)) →
+            self.new ≡ each_row (length self.old) (λ k. g (get_or self.old k false) (get_or second.now k false) (get_or third.now k false) (get_or fourth.now k false)) }
+    {
+        combine_four(
+            self.words.as_mut_slice(),
+            second.words.as_slice(),
+            third.words.as_slice(),
+            fourth.words.as_slice(),
+            f,
+        );
+    }
+
+    /// Of the rows at which `truth` is valid, makes those at which its And with `other` is, which is valid
+    /// where `other_valid` says so. Asks equally many.
+    pub fn and_validity(&mut self, truth: &Bits, other_valid: &Bits, other: &Bits)
+        requires truth { length truth.now ≡ length self.old }
+        requires valid { length other_valid.now ≡ length self.old }
+        requires other { length other.now ≡ length self.old }
+        ensures { self.new ≡ each_row (length self.old) (λ k. and_valid (get_or self.old k false) (get_or truth.now k false) (get_or other_valid.now k false) (get_or other.now k false)) }
+    {
+        self.combine_three(
+            truth,
+            other_valid,
+            other,
+            |v, a, w, b| v & w | v & (a ^ u64::MAX) | w & (b ^ u64::MAX),
+        );
+    }
+
+    /// The same of their Or.
+    pub fn or_validity(&mut self, truth: &Bits, other_valid: &Bits, other: &Bits)
+        requires truth { length truth.now ≡ length self.old }
+        requires valid { length other_valid.now ≡ length self.old }
+        requires other { length other.now ≡ length self.old }
+        ensures { self.new ≡ each_row (length self.old) (λ k. or_valid (get_or self.old k false) (get_or truth.now k false) (get_or other_valid.now k false) (get_or other.now k false)) }
+    {
+        self.combine_three(
+            truth,
+            other_valid,
+            other,
+            |v, a, w, b| v & w | v & a | w & b,
+        );
+    }
+
+    /// The truth values, as many as there are.
+    pub fn to_bools(&self, alloc: Global) -> Result<Vec<bool>, AllocError>
+        ensures { IfOk result (λ v. v.items ≡ self.now) }
+    {
+        tabulated(alloc, self.len(), false, |k| self.get(k))
+    }
+
+    /// The truth values as bits.
+    pub fn from_bools(alloc: Global, truths: &[bool]) -> Result<Bits, AllocError>
+        ensures { IfOk result (λ b. b ≡ truths.now) }
+    {
+        Bits::tabulated(alloc, truths.len(), |k| truths[k])
+    }
+
+    /// Those of so many rows from one on, in words of their own. Asks rows that are there.
+    pub fn part(&self, alloc: Global, from: usize, len: usize) -> Result<Bits, AllocError>
+        requires { from + len ≤ length self.now }
+        ensures { IfOk result (λ b. b ≡ take len (drop from self.now)) }
+    {
+        Bits::tabulated(alloc, len, |k| self.get_behind(from, k))
+    }
+
+    // Whether row k behind so many is true.
+    #[inline]
+    fn get_behind(&self, from: usize, k: usize) -> bool
+        requires { from + k < length self.now }
+        ensures { result ≡ get_or (drop from self.now) k false }
+    {
+        let _ = self.len();
+        self.get(from + k)
+    }
+
+    /// How many are true.
+    pub fn count_ones(&self) -> usize
+        ensures { result ≡ count_true self.now }
+    {
+        count_bits(self.words.as_slice(), self.len)
     }
 }
 

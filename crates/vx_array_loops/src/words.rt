@@ -24,7 +24,9 @@ pub fn word_of<F: Fn(usize) -> bool>(f: &F, from: usize, count: usize) -> u64
 fn packed(block: &[u8; 64]) -> u64
     ensures { (i : ℕ) → i < 64 → bit_of result i ≡ (get_or block.now i 0 == 1) }
 {
-    u8x64::from_array(*block).simd_eq(u8x64::splat(1)).to_bitmask()
+    u8x64::from_array(*block)
+        .simd_eq(u8x64::splat(1))
+        .to_bitmask()
 }
 
 /// Writes what the function gives at each of so many places as a bit. Asks room for them, and looks at no
@@ -55,5 +57,25 @@ pub fn combine_words<F: Fn(u64, u64) -> u64>(words: &mut [u64], others: &[u64], 
 {
     for j in 0..words.len() {
         words[j] = f(words[j], others[j]);
+    }
+}
+
+/// The same of four words side by side.
+#[inline(always)]
+pub fn combine_four<F: Fn(u64, u64, u64, u64) -> u64>(
+    words: &mut [u64],
+    seconds: &[u64],
+    thirds: &[u64],
+    fourths: &[u64],
+    f: F,
+)
+    requires seconds { length seconds.now ≡ length words.old }
+    requires thirds { length thirds.now ≡ length words.old }
+    requires fourths { length fourths.now ≡ length words.old }
+    requires call { F.IsAlwaysCallable f }
+    ensures { (j w : ℕ) → j < length words.old → w ≡ get_or words.new j 0 → F.post f (get_or words.old j 0) (get_or seconds.now j 0) (get_or thirds.now j 0) (get_or fourths.now j 0) w }
+{
+    for j in 0..words.len() {
+        words[j] = f(words[j], seconds[j], thirds[j], fourths[j]);
     }
 }

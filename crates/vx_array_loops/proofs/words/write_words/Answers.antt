@@ -1,4 +1,4 @@
-use Rattle.std.proofs.Common.{◌*◌, ◌+◌, ◌/◌, ◌%◌, arith, rules}
+use Rattle.std.proofs.Common.{◌/◌, ◌%◌, arith}
 use Rattle.vx_array_loops.proofs.WordBits.{more_words}
 use Rattle.vx_array_loops.proofs.words.write_words.Goals as goal
 

@@ -1,4 +1,4 @@
-use Rattle.std.proofs.Common.{◌&&◌, ◌||◌, not, rules}
+use Rattle.std.proofs.Common.{◌&&◌, not, rules}
 use Rattle.vx_array_loops.proofs.RowBits.{and_not_bits}
 use Rattle.vx_array_loops.proofs.bits.Bits.and_not_with.Goals as goal
 

@@ -1,4 +1,4 @@
-use Rattle.std.proofs.Common.{◌&&◌, ◌||◌, not, rules}
+use Rattle.std.proofs.Common.{◌&&◌, rules}
 use Rattle.vx_array_loops.proofs.RowBits.{and_bits}
 use Rattle.vx_array_loops.proofs.bits.Bits.and_with.Goals as goal
 

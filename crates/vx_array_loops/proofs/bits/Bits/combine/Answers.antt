@@ -1,4 +1,4 @@
-use Rattle.std.proofs.Common.{◌≡◌, sym, ap, ◌∙◌, length, arith, get_or}
+use Rattle.std.proofs.Common.{ap, ◌∙◌, length, arith}
 use Rattle.std.proofs.lemmas.List.{with_items_is}
 use Rattle.vx_array_loops.specs.WordBits.{first_bits}
 use Rattle.vx_array_loops.proofs.RowBits.{combined, same_len}

@@ -1,4 +1,4 @@
-use Rattle.std.proofs.Common.{◌&&◌, ◌||◌, not, rules}
+use Rattle.std.proofs.Common.{◌||◌, not, rules}
 use Rattle.vx_array_loops.proofs.RowBits.{or_not_bits}
 use Rattle.vx_array_loops.proofs.bits.Bits.or_not_with.Goals as goal
 

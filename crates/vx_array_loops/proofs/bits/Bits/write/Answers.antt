@@ -1,4 +1,4 @@
-use Rattle.std.proofs.Common.{◌<◌, sym, ap, ◌∙◌, length, arith}
+use Rattle.std.proofs.Common.{◌<◌, ap, ◌∙◌, length, arith}
 use Rattle.std.proofs.lemmas.List.{with_items_is}
 use Rattle.vx_array_loops.specs.WordBits.{bit}
 use Rattle.vx_array_loops.proofs.RowBits.{length-first_bits, get_or-first_bits}
