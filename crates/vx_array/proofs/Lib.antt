@@ -1,0 +1,5 @@
+pub mod Parts
+pub mod Masked
+pub mod Held
+pub mod Spanned
+pub mod Reading

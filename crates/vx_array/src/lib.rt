@@ -1,0 +1,18 @@
+// Columns in typed buffers.
+#![tactic(auto)]
+
+mod bit_part;
+mod lanes;
+mod numbers;
+mod part;
+mod spans;
+mod validity;
+mod values;
+
+pub use bit_part::BitPart;
+pub use lanes::Lanes;
+pub use numbers::Numbers;
+pub use part::Part;
+pub use spans::Spans;
+pub use validity::Validity;
+pub use values::{to_values, value_at};
