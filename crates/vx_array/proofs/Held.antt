@@ -10,6 +10,7 @@ use Rattle.vx_array.specs.declared.lanes.Lanes as Kind
 use Rattle.vx_array.specs.declared.lanes.Lanes.{Lanes}
 use Rattle.vx_array.specs.declared.numbers.Numbers.{Numbers}
 use Rattle.vx_array.specs.declared.spans.Spans.{Spans}
+use Rattle.vx_array.specs.declared.stretch.Stretch.{Stretch}
 use Rattle.vx_array.specs.declared.validity.Validity.{Validity}
 use Rattle.vx_array.specs.Kinds.{numbers_in, spans_in, text_row}
 use Rattle.vx_array.specs.Rows.{lanes_rows, lanes_each, structs_from}
@@ -33,5 +34,5 @@ rows-Texts xs v = search (rules, Kind.the_lemmas)
 pub rows-Octets : (xs : Spans) (v : Validity) → lanes_rows (Kind.Octets xs v) ≡ shown v (map bytes (spans_in xs))
 rows-Octets xs v = search (rules, Kind.the_lemmas)
 
-pub rows-Structs : (fs : Arc (Vec Lanes Global) Global) (from n : ℕ) (v : Validity) → lanes_rows (Kind.Structs fs from n v) ≡ shown v (structs_from from n (lanes_each fs.value.items))
-rows-Structs fs from n v = search (rules, Kind.the_lemmas)
+pub rows-Structs : (fs : Arc (Vec Lanes Global) Global) (s : Stretch) (v : Validity) → lanes_rows (Kind.Structs fs s v) ≡ shown v (structs_from s.from s.len (lanes_each fs.value.items))
+rows-Structs fs s v = search (rules, Kind.the_lemmas)

@@ -3,3 +3,4 @@ pub mod Masked
 pub mod Held
 pub mod Spanned
 pub mod Reading
+pub mod Fitting

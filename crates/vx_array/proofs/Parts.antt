@@ -1,6 +1,7 @@
 -- Parts of lists.
 use Rattle.std.proofs.Common.{◌≡◌, ℕ, ◌+◌, ◌-◌, ◌<◌, ◌≤◌, List, map, length, get_or, take, drop, refl, sym, ap, ◌∙◌, arith, length-take, length-drop, Vec, Global}
-use Rattle.std.proofs.lemmas.List.{same_lists, get_or-take, get_or-drop, take-map, drop-map}
+use Rattle.std.proofs.lemmas.List.{same_lists, get_or-take, get_or-drop, take-map, drop-map, take-replicate, drop-replicate}
+use Rattle.std.proofs.Math.ListN.{replicate}
 
 -- a part of a part
 pub part_again : {A : Type 0} (xs : List A) (a n b l : ℕ) → a + n ≤ length xs → b + l ≤ n → take l (drop (a + b) xs) ≡ take l (drop b (take n (drop a xs)))
@@ -24,3 +25,7 @@ moved_bits xs ys seen a n b l same is whole within =
 
 pub moved_part : {A : Type 0} (v w : Vec A Global) (seen : List A) (a n b l : ℕ) → w ≡ v → take n (drop a v.items) ≡ seen → a + n ≤ length v.items → b + l ≤ length seen → take l (drop (a + b) w.items) ≡ take l (drop b seen)
 moved_part v w seen a n b l same is whole within = moved_bits v.items w.items seen a n b l (ap (λ u. u.items) same) is whole within
+
+-- a part of so many copies
+pub part-replicate : {A : Type 0} (n from len : ℕ) (x : A) → from + len ≤ n → replicate len x ≡ take len (drop from (replicate n x))
+part-replicate n from len x le = sym (ap (take len) (drop-replicate from n x) ∙ take-replicate len (n - from) x (omega arith))

@@ -1,13 +1,13 @@
 -- Rows that are read one by one.
-use Rattle.std.proofs.Common.{◌≡◌, ℕ, ◌+◌, ◌<◌, ◌≤◌, List, [], ◌∷◌, ◌++◌, map, length, get_or, take, refl, sym, ap, ◌∙◌, arith, rules, Bool, true, false, Vec, ℤ}
-use Rattle.std.specs.Prelude.{◌&&◌, nat_lt, string_bytes, if◌then◌else◌, ¬}
+use Rattle.std.proofs.Common.{◌≡◌, ℕ, ◌+◌, ◌<◌, ◌≤◌, List, [], ◌∷◌, ◌++◌, map, length, get_or, take, drop, length-take, length-drop, refl, sym, ap, ◌∙◌, arith, rules, Bool, true, false, Vec, ℤ}
+use Rattle.std.specs.Prelude.{◌&&◌, nat_lt, string_bytes, if◌then◌else◌}
 use Rattle.std.specs.Str.{IsUtf8, is_utf8}
 use Rattle.std.specs.declared.string.String.{String as Text}
 use Rattle.std.proofs.lemmas.Str.{IsUtf8-from_is_utf8, is_utf8-from_IsUtf8}
 use Rattle.vx_array.specs.Kinds.{text_row}
 use Rattle.std.specs.List.{range_with_len}
 use Rattle.std.specs.declared.alloc.Global.{Global}
-use Rattle.std.proofs.lemmas.List.{map-append, length-map, ext_get_or, take_more}
+use Rattle.std.proofs.lemmas.List.{get_or-take, get_or-drop, map-append, length-map, ext_get_or, take_more}
 use Rattle.std.proofs.lemmas.List.FromFn.{length-range_with_len, get_or-range_with_len, length-map-range_with_len, get_or-map-range_with_len, map-range_with_len_more}
 use Rattle.vx_value.specs.declared.value.Value.{Value, Struct, Null, Bool as Truth, Int, Utf8, Binary, the_lemmas}
 use Rattle.vx_value.specs.Fields.{data_of}
@@ -54,6 +54,14 @@ struct_there v from n cs i both =
 pub struct_missing : (v : Validity) (from n : ℕ) (cs : List (List Datum)) (i : ℕ) → (nat_lt i n && is_valid v i) ≡ false → null ≡ get_or (shown v (structs_from from n cs)) i null
 struct_missing v from n cs i none = row_missing v (structs_from from n cs) n i (sym (length-map-range_with_len (struct_at cs) from n)) none
 
+-- a part of a row of numbers one after another
+pub range_part : (a n from len : ℕ) → from + len ≤ n → range_with_len (a + from) len ≡ take len (drop from (range_with_len a n))
+range_part a n from len le =
+    ext_get_or 0 (range_with_len (a + from) len) (take len (drop from (range_with_len a n))) (length-range_with_len (a + from) len ∙ sym (simp (length-take, length-drop) (omega (arith, length-range_with_len a n))))
+    (λ k lt. let low : k < len = omega (arith, length-range_with_len (a + from) len) in
+      let there : from + k < n = omega arith in
+      get_or-range_with_len (a + from) len k 0 low ∙ omega arith ∙ sym (get_or-take len (drop from (range_with_len a n)) k 0 low ∙ get_or-drop from (range_with_len a n) k 0 ∙ get_or-range_with_len a n (from + k) 0 there))
+
 -- one more value
 pub value_more : (h : ℕ → Datum) (out new : List Value) (i : ℕ) (v : Value) → map value_of out ≡ map h (range_with_len 0 i) → new ≡ out ++ v ∷ [] → value_of v ≡ h i → map value_of new ≡ map h (range_with_len 0 (i + 1))
 value_more h out new i v so_far pushed here =
@@ -72,7 +80,7 @@ value_of-Utf8 s = search (rules, the_lemmas)
 pub text_read : (bs : List ℕ) → IsUtf8 bs → utf8 bs ≡ text_row bs
 text_read bs is = sym (ap (λ b. if b then utf8 bs else null) (is_utf8-from_IsUtf8 bs is))
 
-pub no_text_read : (bs : List ℕ) → ¬ (IsUtf8 bs) → null ≡ text_row bs
+pub no_text_read : (bs : List ℕ) → (IsUtf8 bs → ⊥) → null ≡ text_row bs
 no_text_read bs isnt = go (is_utf8 bs) refl
   where
     go : (b : Bool) → is_utf8 bs ≡ b → null ≡ (if b then utf8 bs else null)

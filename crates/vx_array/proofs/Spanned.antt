@@ -1,5 +1,6 @@
 -- Bytes of rows that lie in one buffer.
-use Rattle.std.proofs.Common.{◌≡◌, ℕ, ◌+◌, ◌-◌, ◌<◌, ◌≤◌, List, map, length, get_or, take, drop, refl, sym, ap, ◌∙◌, arith, length-take, length-drop}
+use Rattle.std.proofs.Common.{◌≡◌, ℕ, ◌+◌, ◌-◌, ◌<◌, ◌≤◌, List, map, length, get_or, take, drop, refl, sym, ap, ◌∙◌, arith, length-take, length-drop, min, ⊎_elim}
+use Rattle.std.proofs.lemmas.Bool.{cases_lt}
 use Rattle.std.specs.List.{range_with_len}
 use Rattle.std.proofs.lemmas.List.{same_lists, get_or-take, get_or-drop}
 use Rattle.std.proofs.lemmas.List.FromFn.{length-map-range_with_len, get_or-map-range_with_len}
@@ -42,3 +43,18 @@ span_part s t from len cut same room =
         let next : from + (k + 1) ≡ (from + k) + 1 = omega arith in
         ap (λ l. span_at t.offsets l k) same ∙ ap (λ n. take (get_or t.offsets (k + 1) 0 - n) (drop n s.bytes.value.items)) (offset k (omega arith))
         ∙ ap (λ n. take (n - get_or s.offsets (from + k) 0) (drop (get_or s.offsets (from + k) 0) s.bytes.value.items)) (offset (k + 1) (omega arith) ∙ ap (λ n. get_or s.offsets n 0) next)
+
+-- the same, whether there are offsets at all or not
+pub span_slice : (s t : Spans) (from len count : ℕ) → count ≡ min (length s.offsets - from) (len + 1) → t.offsets ≡ take count (drop from s.offsets) → t.bytes.value.items ≡ s.bytes.value.items → from + len ≤ length (spans_in s) → spans_in t ≡ take len (drop from (spans_in s))
+span_slice s t from len count many cut same le = ⊎_elim none some (cases_lt (from + len) (length s.offsets))
+  where
+    none : from + len < length s.offsets → spans_in t ≡ take len (drop from (spans_in s))
+    none room =
+        let all : count ≡ len + 1 = omega arith in
+        span_part s t from len (cut ∙ ap (λ n. take n (drop from s.offsets)) all) same room
+
+    some : length s.offsets ≤ from + len → spans_in t ≡ take len (drop from (spans_in s))
+    some past =
+        let empty : length s.offsets ≡ 0 = omega (arith, length_spans s) in
+        let nothing : length t.offsets ≡ 0 = ap length cut ∙ simp (length-take, length-drop) (omega arith) in
+        same_lists (spans_in t) (take len (drop from (spans_in s))) (length_spans t ∙ omega arith ∙ sym (simp (length-take, length-drop) (omega (arith, length_spans s)))) (λ k d lt. absurd (omega (arith, length_spans t)))

@@ -22,7 +22,7 @@ lanes_step (Lanes-F.Bools bs v) = shown v (map bool bs)
 lanes_step (Lanes-F.Numbers ns v) = shown v (map int (numbers_in ns))
 lanes_step (Lanes-F.Texts ss v) = shown v (map text_row (spans_in ss))
 lanes_step (Lanes-F.Octets ss v) = shown v (map bytes (spans_in ss))
-lanes_step (Lanes-F.Structs fs from n v) = shown v (structs_from from n fs.value.items)
+lanes_step (Lanes-F.Structs fs s v) = shown v (structs_from s.from s.len fs.value.items)
 
 -- the rows that lanes stand for
 abbrev pub lanes_rows : Lanes → List Datum

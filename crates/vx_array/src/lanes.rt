@@ -2,7 +2,7 @@
 ghost use Rattle.std.specs.Prelude.{◌≡◌, ◌≤◌, ◌+◌, IfOk, length, take, drop};
 ghost use Rattle.vx_array.specs.Rows.{lanes_rows};
 
-use crate::{BitPart, Numbers, Part, Spans, Validity};
+use crate::{BitPart, Numbers, Part, Spans, Stretch, Validity};
 use std::alloc::AllocError;
 use std::sync::Arc;
 use vx_types::Value;
@@ -23,8 +23,8 @@ pub enum Lanes {
     Texts(Spans, Validity),
     /// Bytes.
     Octets(Spans, Validity),
-    /// Structs, by the lanes of their fields, from one row on in so many rows.
-    Structs(Arc<Vec<Lanes>>, usize, usize, Validity),
+    /// Structs, by the lanes of their fields, in a stretch of their rows.
+    Structs(Arc<Vec<Lanes>>, Stretch, Validity),
 }
 
 impl Lanes {
@@ -39,7 +39,7 @@ impl Lanes {
             Lanes::Numbers(values, validity) => validity.count(values.len()),
             Lanes::Texts(values, validity) => validity.count(values.len()),
             Lanes::Octets(values, validity) => validity.count(values.len()),
-            Lanes::Structs(_, _, count, validity) => validity.count(*count),
+            Lanes::Structs(_, stretch, validity) => validity.count(stretch.len),
         }
     }
 
@@ -63,8 +63,9 @@ impl Lanes {
             Lanes::Octets(values, validity) => {
                 Ok(Lanes::Octets(values.slice(from, len)?, validity.slice(from, len)?))
             }
-            Lanes::Structs(fields, first, _, validity) => {
-                Ok(Lanes::Structs(fields.clone()?, *first + from, len, validity.slice(from, len)?))
+            Lanes::Structs(fields, stretch, validity) => {
+                let rows = stretch.slice(from, len);
+                Ok(Lanes::Structs(fields.clone()?, rows, validity.slice(from, len)?))
             }
         }
     }
@@ -85,8 +86,8 @@ impl Clone for Lanes {
             Lanes::Octets(values, validity) => {
                 Ok(Lanes::Octets(values.clone()?, validity.clone()?))
             }
-            Lanes::Structs(fields, from, count, validity) => {
-                Ok(Lanes::Structs(fields.clone()?, *from, *count, validity.clone()?))
+            Lanes::Structs(fields, stretch, validity) => {
+                Ok(Lanes::Structs(fields.clone()?, *stretch, validity.clone()?))
             }
         }
     }

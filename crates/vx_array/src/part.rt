@@ -36,6 +36,18 @@ impl<T: Drop> Part<T> {
         })
     }
 
+    /// All items of a buffer that is shared already.
+    pub fn from_shared(items: &Arc<Vec<T>>) -> Result<Part<T>, AllocError>
+        ensures { IfOk result (λ p. p ≡ items.now.value.items) }
+    {
+        let len = items.len();
+        Ok(Part {
+            items: items.clone()?,
+            from: 0,
+            len,
+        })
+    }
+
     /// The items.
     #[inline]
     pub fn as_slice(&self) -> &[T]

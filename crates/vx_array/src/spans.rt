@@ -42,13 +42,14 @@ impl Spans {
     }
 
     /// So many rows from one on, in the same buffers. Asks rows that are there.
+    #[tactic(auto, using(crate::proofs::Spanned::length_spans))]
     pub fn slice(&self, from: usize, len: usize) -> Result<Spans, AllocError>
-        requires { from + len < length self.now.offsets }
+        requires { from + len ≤ length (spans_in self.now) }
         ensures { IfOk result (λ s. spans_in s ≡ take len (drop from (spans_in self.now))) }
     {
-        let _ = self.offsets.len();
+        let count = (self.offsets.len() - from).min(len.saturating_add(1));
         Ok(Spans {
-            offsets: self.offsets.slice(from, len + 1)?,
+            offsets: self.offsets.slice(from, count)?,
             bytes: self.bytes.clone()?,
         })
     }

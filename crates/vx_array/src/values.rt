@@ -24,9 +24,9 @@ pub fn value_at(alloc: Global, lanes: &Lanes, i: usize) -> Result<Value, AllocEr
         Lanes::Numbers(values, validity) => Ok(number_at(values, validity, i)),
         Lanes::Texts(values, validity) => text_at(alloc, values, validity, i),
         Lanes::Octets(values, validity) => octets_at(alloc, values, validity, i),
-        Lanes::Structs(fields, from, count, validity) => {
-            if has_row(validity, *count, i) {
-                Ok(Value::Struct(items_at(alloc, fields.as_slice(), *from, i)?))
+        Lanes::Structs(fields, stretch, validity) => {
+            if has_row(validity, stretch.len, i) {
+                Ok(Value::Struct(items_at(alloc, fields.as_slice(), stretch.from, i)?))
             } else {
                 Ok(Value::Null)
             }

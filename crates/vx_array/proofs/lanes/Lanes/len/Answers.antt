@@ -24,4 +24,4 @@ returns-in-Octets c = len_is bytes c.in-Octets.validity (spans_in c.in-Octets.va
 pub returns-in-Structs : goal.returns-in-Structs
 returns-in-Structs c =
     let s = c.in-Structs in
-    len_is (struct_at (lanes_each s.field-0.value.items)) s.validity (range_with_len s.field-1 s.count) (lanes_rows c.args.self.now) c.count-in-Structs.result s.count c.count-in-Structs.ensures (sym (length-range_with_len s.field-1 s.count)) (ap lanes_rows s.is ∙ rows-Structs s.field-0 s.field-1 s.count s.validity)
+    len_is (struct_at (lanes_each s.field-0.value.items)) s.validity (range_with_len s.stretch.from s.stretch.len) (lanes_rows c.args.self.now) c.count-in-Structs.result s.stretch.len c.count-in-Structs.ensures (sym (length-range_with_len s.stretch.from s.stretch.len)) (ap lanes_rows s.is ∙ rows-Structs s.field-0 s.stretch s.validity)
