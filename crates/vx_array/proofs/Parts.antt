@@ -1,5 +1,5 @@
 -- Parts of lists.
-use Rattle.std.proofs.Common.{◌≡◌, ℕ, ◌+◌, ◌-◌, ◌<◌, ◌≤◌, List, map, length, get_or, take, drop, refl, sym, ap, ◌∙◌, arith, length-take, length-drop, Vec, Global}
+use Rattle.std.proofs.Common.{◌≡◌, ℕ, ◌+◌, ◌-◌, ◌<◌, ◌≤◌, List, map, length, get_or, take, drop, sym, ap, ◌∙◌, arith, length-take, length-drop, Vec, Global}
 use Rattle.std.proofs.lemmas.List.{same_lists, get_or-take, get_or-drop, take-map, drop-map, take-replicate, drop-replicate}
 use Rattle.std.proofs.Math.ListN.{replicate}
 
@@ -8,11 +8,11 @@ pub part_again : {A : Type 0} (xs : List A) (a n b l : ℕ) → a + n ≤ length
 part_again xs a n b l whole within =
     same_lists (take l (drop (a + b) xs)) (take l (drop b (take n (drop a xs)))) (simp (length-take, length-drop) (omega arith))
     (λ k d lt.
-      let low : k < l = omega (arith, length-take l (drop (a + b) xs)) in
-      let here : (a + b) + k ≡ a + (b + k) = omega arith in
-      let inside : b + k < n = omega arith in
-      get_or-take l (drop (a + b) xs) k d low ∙ get_or-drop (a + b) xs k d ∙ ap (λ i. get_or xs i d) here
-      ∙ sym (get_or-take l (drop b (take n (drop a xs))) k d low ∙ get_or-drop b (take n (drop a xs)) k d ∙ get_or-take n (drop a xs) (b + k) d inside ∙ get_or-drop a xs (b + k) d))
+    let low : k < l = omega (arith, length-take l (drop (a + b) xs)) in
+    let here : (a + b) + k ≡ a + (b + k) = omega arith in
+    let inside : b + k < n = omega arith in
+    get_or-take l (drop (a + b) xs) k d low ∙ get_or-drop (a + b) xs k d ∙ ap (λ i. get_or xs i d) here
+    ∙ sym (get_or-take l (drop b (take n (drop a xs))) k d low ∙ get_or-drop b (take n (drop a xs)) k d ∙ get_or-take n (drop a xs) (b + k) d inside ∙ get_or-drop a xs (b + k) d))
 
 -- a part of what is made of each
 pub part-map : {A B : Type 0} (f : A → B) (from len : ℕ) (xs : List A) → take len (drop from (map f xs)) ≡ map f (take len (drop from xs))

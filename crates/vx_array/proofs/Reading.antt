@@ -7,7 +7,7 @@ use Rattle.std.proofs.lemmas.Str.{IsUtf8-from_is_utf8, is_utf8-from_IsUtf8}
 use Rattle.vx_array.specs.Kinds.{text_row}
 use Rattle.std.specs.List.{range_with_len}
 use Rattle.std.specs.declared.alloc.Global.{Global}
-use Rattle.std.proofs.lemmas.List.{get_or-take, get_or-drop, map-append, length-map, ext_get_or, take_more}
+use Rattle.std.proofs.lemmas.List.{get_or-take, get_or-drop, map-append, ext_get_or, take_more}
 use Rattle.std.proofs.lemmas.List.FromFn.{length-range_with_len, get_or-range_with_len, length-map-range_with_len, get_or-map-range_with_len, map-range_with_len_more}
 use Rattle.vx_value.specs.declared.value.Value.{Value, Struct, Null, Bool as Truth, Int, Utf8, Binary, the_lemmas}
 use Rattle.vx_value.specs.Fields.{data_of}
@@ -59,8 +59,8 @@ pub range_part : (a n from len : ℕ) → from + len ≤ n → range_with_len (a
 range_part a n from len le =
     ext_get_or 0 (range_with_len (a + from) len) (take len (drop from (range_with_len a n))) (length-range_with_len (a + from) len ∙ sym (simp (length-take, length-drop) (omega (arith, length-range_with_len a n))))
     (λ k lt. let low : k < len = omega (arith, length-range_with_len (a + from) len) in
-      let there : from + k < n = omega arith in
-      get_or-range_with_len (a + from) len k 0 low ∙ omega arith ∙ sym (get_or-take len (drop from (range_with_len a n)) k 0 low ∙ get_or-drop from (range_with_len a n) k 0 ∙ get_or-range_with_len a n (from + k) 0 there))
+    let there : from + k < n = omega arith in
+    get_or-range_with_len (a + from) len k 0 low ∙ omega arith ∙ sym (get_or-take len (drop from (range_with_len a n)) k 0 low ∙ get_or-drop from (range_with_len a n) k 0 ∙ get_or-range_with_len a n (from + k) 0 there))
 
 -- one more value
 pub value_more : (h : ℕ → Datum) (out new : List Value) (i : ℕ) (v : Value) → map value_of out ≡ map h (range_with_len 0 i) → new ≡ out ++ v ∷ [] → value_of v ≡ h i → map value_of new ≡ map h (range_with_len 0 (i + 1))

@@ -1,7 +1,6 @@
 -- Bytes of rows that lie in one buffer.
-use Rattle.std.proofs.Common.{◌≡◌, ℕ, ◌+◌, ◌-◌, ◌<◌, ◌≤◌, List, map, length, get_or, take, drop, refl, sym, ap, ◌∙◌, arith, length-take, length-drop, min, ⊎_elim}
+use Rattle.std.proofs.Common.{◌≡◌, ℕ, ◌+◌, ◌-◌, ◌<◌, ◌≤◌, List, length, get_or, take, drop, sym, ap, ◌∙◌, arith, length-take, length-drop, min, ⊎_elim}
 use Rattle.std.proofs.lemmas.Bool.{cases_lt}
-use Rattle.std.specs.List.{range_with_len}
 use Rattle.std.proofs.lemmas.List.{same_lists, get_or-take, get_or-drop}
 use Rattle.std.proofs.lemmas.List.FromFn.{length-map-range_with_len, get_or-map-range_with_len}
 use Rattle.vx_array.specs.declared.spans.Spans.{Spans}
@@ -24,10 +23,10 @@ pub span_part : (s t : Spans) (from len : ℕ) → t.offsets ≡ take (len + 1) 
 span_part s t from len cut same room =
     same_lists (spans_in t) (take len (drop from (spans_in s))) (long ∙ sym (simp (length-take, length-drop) (omega (arith, length_spans s))))
     (λ k d lt.
-      let low : k < len = omega (arith, long) in
-      let here : k < length t.offsets - 1 = omega (arith, length_spans t) in
-      let there : from + k < length s.offsets - 1 = omega arith in
-      get_or-spans t k d here ∙ moved k low ∙ sym (get_or-take len (drop from (spans_in s)) k d low ∙ get_or-drop from (spans_in s) k d ∙ get_or-spans s (from + k) d there))
+    let low : k < len = omega (arith, long) in
+    let here : k < length t.offsets - 1 = omega (arith, length_spans t) in
+    let there : from + k < length s.offsets - 1 = omega arith in
+    get_or-spans t k d here ∙ moved k low ∙ sym (get_or-take len (drop from (spans_in s)) k d low ∙ get_or-drop from (spans_in s) k d ∙ get_or-spans s (from + k) d there))
   where
     many : length t.offsets ≡ len + 1
     many = ap length cut ∙ simp (length-take, length-drop) (omega arith)
@@ -57,4 +56,4 @@ span_slice s t from len count many cut same le = ⊎_elim none some (cases_lt (f
     some past =
         let empty : length s.offsets ≡ 0 = omega (arith, length_spans s) in
         let nothing : length t.offsets ≡ 0 = ap length cut ∙ simp (length-take, length-drop) (omega arith) in
-        same_lists (spans_in t) (take len (drop from (spans_in s))) (length_spans t ∙ omega arith ∙ sym (simp (length-take, length-drop) (omega (arith, length_spans s)))) (λ k d lt. absurd (omega (arith, length_spans t)))
+        same_lists (spans_in t) (take len (drop from (spans_in s))) (omega (arith, length_spans t, length_spans s, length-take len (drop from (spans_in s)), length-drop from (spans_in s))) (λ k d lt. absurd (omega (arith, length_spans t)))

@@ -85,7 +85,11 @@ fn has_row(validity: &Validity, count: usize, i: usize) -> bool
 fn same_at(value: &Value, count: usize, i: usize) -> Result<Value, AllocError>
     ensures { IfOk result (λ v. value_of v ≡ get_or (replicate count (value_of value.now)) i null) }
 {
-    if i < count { value.clone() } else { Ok(Value::Null) }
+    if i < count {
+        value.clone()
+    } else {
+        Ok(Value::Null)
+    }
 }
 
 // A copy of the value at that place.
@@ -119,12 +123,7 @@ fn number_at(numbers: &Numbers, validity: &Validity, i: usize) -> Value
 }
 
 // The text at that place, where it is valid.
-fn text_at(
-    alloc: Global,
-    spans: &Spans,
-    validity: &Validity,
-    i: usize,
-) -> Result<Value, AllocError>
+fn text_at(alloc: Global, spans: &Spans, validity: &Validity, i: usize) -> Result<Value, AllocError>
     ensures { IfOk result (λ v. value_of v ≡ get_or (shown validity.now (map text_row (spans_in spans.now))) i null) }
 {
     if has_row(validity, spans.len(), i) {

@@ -1,5 +1,4 @@
-use Rattle.std.proofs.Common.{ap, sym, ◌∙◌, get_or, arith, ◌+◌}
-use Rattle.std.proofs.lemmas.List.{get_or_past}
+use Rattle.std.proofs.Common.{ap, sym, ◌∙◌, get_or, ◌+◌}
 use Rattle.vx_value.specs.Fields.{data_of}
 use Rattle.vx_value.specs.StructColumns.{row_at}
 use Rattle.vx_value.specs.Types.{null, struct_of}

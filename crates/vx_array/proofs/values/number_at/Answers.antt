@@ -1,4 +1,4 @@
-use Rattle.std.proofs.Common.{◌≡◌, sym, ap, ◌∙◌, arith, false, true, map, length, pos, rules, to_z, of_z}
+use Rattle.std.proofs.Common.{◌≡◌, sym, ap, ◌∙◌, arith, map, pos, rules, to_z, of_z}
 use Rattle.std.specs.Int.{w128}
 use Rattle.vx_value.specs.declared.value.Value.{Int}
 use Rattle.vx_value.specs.Views.{value_of}

@@ -1,4 +1,4 @@
-use Rattle.std.proofs.Common.{◌≡◌, sym, ap, ◌∙◌, arith, false, true, map, length}
+use Rattle.std.proofs.Common.{sym, ap, ◌∙◌, arith, map}
 use Rattle.std.proofs.lemmas.List.{length-map}
 use Rattle.vx_value.specs.Types.{bytes}
 use Rattle.vx_array.specs.Kinds.{spans_in}

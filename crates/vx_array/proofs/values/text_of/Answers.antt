@@ -1,4 +1,4 @@
-use Rattle.std.proofs.Common.{sym, ap, ◌∙◌}
+use Rattle.std.proofs.Common.{ap, ◌∙◌}
 use Rattle.vx_value.specs.Types.{utf8}
 use Rattle.vx_array.proofs.Reading.{value_of-Utf8, value_of-Null, text_read, no_text_read}
 use Rattle.vx_array.proofs.values.text_of.Goals as goal

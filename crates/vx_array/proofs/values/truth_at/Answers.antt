@@ -1,4 +1,4 @@
-use Rattle.std.proofs.Common.{◌≡◌, sym, ap, ◌∙◌, arith, false, true, map, length}
+use Rattle.std.proofs.Common.{sym, ◌∙◌, arith, false, map}
 use Rattle.std.proofs.lemmas.List.{length-map}
 use Rattle.vx_value.specs.Types.{bool}
 use Rattle.vx_array.proofs.Masked.{row_there, row_missing, both_so}

@@ -1,4 +1,3 @@
-use Rattle.std.proofs.Common.{◌≡◌}
 use Rattle.vx_array.proofs.Parts.{moved_bits}
 use Rattle.vx_array.proofs.bit_part.BitPart.slice.Goals as goal
 

@@ -1,4 +1,4 @@
-use Rattle.std.proofs.Common.{◌+◌, ◌≤◌, ap, sym, ◌∙◌, arith, length, map, take, drop}
+use Rattle.std.proofs.Common.{◌+◌, ap, sym, ◌∙◌, arith, length, map, take, drop}
 use Rattle.std.proofs.Math.ListN.{replicate}
 use Rattle.std.specs.List.{range_with_len}
 use Rattle.std.proofs.lemmas.Simd.{length-replicate}
@@ -76,16 +76,27 @@ returns-in_ok-slice-in-Values c =
     let is = ap lanes_rows c.in-Values.is ∙ rows-Values c.in-Values.values in
     rows-Values c.in_ok-slice-in-Values.field-0 ∙ ap (λ l. map value_of l) c.in_ok-slice-in-Values.ensures ∙ sym (part-map value_of c.args.from c.args.len c.in-Values.values) ∙ ap (λ l. take c.args.len (drop c.args.from l)) (sym is)
 
-pub slice-requires-in-Structs : goal.slice-requires-in-Structs
-slice-requires-in-Structs c =
+pub slice-rows-requires : goal.slice-rows-requires
+slice-rows-requires c =
     let s = c.in-Structs in
     let room = rows_within (struct_at (lanes_each s.fields.value.items)) s.validity (range_with_len s.stretch.from s.stretch.len) (lanes_rows c.args.self.now) (c.args.from + c.args.len) (ap lanes_rows s.is ∙ rows-Structs s.fields s.stretch s.validity) c.requires in
     omega (arith, room.0, length-range_with_len s.stretch.from s.stretch.len)
 
-pub slice-requires-in-Structs-2 : goal.slice-requires-in-Structs-2
-slice-requires-in-Structs-2 c =
+pub slice-requires-in-Structs : goal.slice-requires-in-Structs
+slice-requires-in-Structs c =
     let s = c.in-Structs in
     (rows_within (struct_at (lanes_each s.fields.value.items)) s.validity (range_with_len s.stretch.from s.stretch.len) (lanes_rows c.args.self.now) (c.args.from + c.args.len) (ap lanes_rows s.is ∙ rows-Structs s.fields s.stretch s.validity) c.requires).1
 
 pub returns-in_ok-slice-in-Structs : goal.returns-in_ok-slice-in-Structs
-returns-in_ok-slice-in-Structs c = ?
+returns-in_ok-slice-in-Structs c =
+    let s = c.in-Structs in
+    let cs = lanes_each s.fields.value.items in
+    let fs = c.in_ok-clone-in-Structs.field-0 in
+    let r = c.slice-rows.result in
+    let v = c.in_ok-slice-in-Structs.field-0 in
+    let first = s.stretch.from in
+    let is = ap lanes_rows s.is ∙ rows-Structs s.fields s.stretch s.validity in
+    let room = rows_within (struct_at cs) s.validity (range_with_len first s.stretch.len) (lanes_rows c.args.self.now) (c.args.from + c.args.len) is c.requires in
+    rows-Structs fs r v ∙ ap (λ u. shown v (structs_from r.from r.len (lanes_each u.items))) c.in_ok-clone-in-Structs.ensures.cases
+    ∙ ap (λ n. shown v (structs_from n r.len cs)) c.slice-rows.ensures.from ∙ ap (λ n. shown v (structs_from (first + c.args.from) n cs)) c.slice-rows.ensures.len
+    ∙ part-shown (struct_at cs) s.validity v (range_with_len first s.stretch.len) (range_with_len (first + c.args.from) c.args.len) (lanes_rows c.args.self.now) c.args.from c.args.len is (range_part first s.stretch.len c.args.from c.args.len (omega (arith, room.0, length-range_with_len first s.stretch.len))) c.in_ok-slice-in-Structs.ensures

@@ -1,5 +1,4 @@
-use Rattle.std.proofs.Common.{◌≡◌, ◌≤◌, ◌+◌, arith, ap, ◌∙◌, length, take, drop, List, length-take, length-drop}
-use Rattle.vx_array.proofs.Parts.{part_again, moved_part}
+use Rattle.vx_array.proofs.Parts.{moved_part}
 use Rattle.vx_array.proofs.part.Part.slice.Goals as goal
 
 pub returns : goal.returns

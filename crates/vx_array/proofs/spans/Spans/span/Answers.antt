@@ -1,4 +1,4 @@
-use Rattle.std.proofs.Common.{◌≡◌, ◌∙◌, ap}
+use Rattle.std.proofs.Common.{◌∙◌, ap}
 use Rattle.vx_array.proofs.Spanned.{span_read}
 use Rattle.vx_array.proofs.spans.Spans.span.Goals as goal
 
