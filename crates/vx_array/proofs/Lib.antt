@@ -4,3 +4,4 @@ pub mod Held
 pub mod Spanned
 pub mod Reading
 pub mod Fitting
+pub mod Below

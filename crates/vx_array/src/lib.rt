@@ -4,6 +4,7 @@
 mod array;
 mod bit_part;
 mod lanes;
+pub mod laws;
 mod numbers;
 mod part;
 mod spans;
