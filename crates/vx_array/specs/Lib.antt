@@ -1,0 +1,4 @@
+pub mod Shown
+pub mod Kinds
+pub mod Rows
+pub mod Arrays

@@ -1,0 +1,23 @@
+// Columns in typed buffers.
+#![tactic(auto)]
+
+mod array;
+mod bit_part;
+mod lanes;
+pub mod laws;
+mod numbers;
+mod part;
+mod spans;
+mod stretch;
+mod validity;
+mod values;
+
+pub use array::Array;
+pub use bit_part::BitPart;
+pub use lanes::Lanes;
+pub use numbers::Numbers;
+pub use part::Part;
+pub use spans::Spans;
+pub use stretch::Stretch;
+pub use validity::Validity;
+pub use values::{to_values, value_at};

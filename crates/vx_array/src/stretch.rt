@@ -1,0 +1,32 @@
+// Rows one after another.
+ghost use Rattle.std.specs.Prelude.{◌≡◌, ◌≤◌, ◌<◌, ◌+◌, ◌^◌};
+
+/// So many rows from one on.
+#[derive(Clone, Copy, Debug, Drop)]
+pub struct Stretch {
+    pub(crate) from: usize,
+    pub(crate) len: usize,
+    ghost fits: { from + len < 2 ^ 64 },
+}
+
+impl Stretch {
+    /// So many rows from the first on.
+    pub fn first(len: usize) -> Stretch
+        ensures from { result.from ≡ 0 }
+        ensures len { result.len ≡ len }
+    {
+        Stretch { from: 0, len }
+    }
+
+    /// So many of them from one on. Asks rows that are there.
+    pub fn slice(self, from: usize, len: usize) -> Stretch
+        requires { from + len ≤ self.len }
+        ensures from { result.from ≡ self.from + from }
+        ensures len { result.len ≡ len }
+    {
+        Stretch {
+            from: self.from + from,
+            len,
+        }
+    }
+}

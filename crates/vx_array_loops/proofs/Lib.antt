@@ -1,0 +1,4 @@
+pub mod WordBits
+pub mod RowBits
+pub mod Filled
+pub mod Counted

@@ -1,0 +1,4 @@
+pub mod Numbers
+pub mod Comparisons
+pub mod WordBits
+pub mod Logic
