@@ -14,6 +14,8 @@
  * Where the buffer is too small it stays as it was, and the call answers when it is made again with a buffer
  * of answer.needed bytes. It does all its work again then.
  *
+ * A literal that is written without a type takes that of what it stands beside, as 5 in "x > 5" over {x=i64}.
+ *
  * Memory. A call keeps nothing of what it is given. It takes memory by malloc and frees it before it returns;
  * a vx_plan alone is kept, until vx_plan_free. What a call reads may not overlap with what it writes, which
  * are the buffer, the vx_answer and the vx_plan. These two are never null; the buffer may be null where its
@@ -50,7 +52,8 @@ enum vx_end {
     /* A text isn't UTF-8, or reading it stopped at the place. The buffer begins with the message, as it does
        for each number below. */
     VX_UNREAD = 3,
-    /* The expression has no type over the schema's, or not the type that the call asks for. */
+    /* The expression has no type over the schema's, or not the type that the call asks for; or a literal that is
+       written without a type doesn't fit that of what it stands beside. */
     VX_REFUSED = 4,
     /* The expression faults at a record, or at a row. */
     VX_FAULTED = 5,

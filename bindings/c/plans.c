@@ -277,7 +277,8 @@ static const struct {
     {"x", "{x=i33}", VX_UNREAD, {VX_SCHEMA, 3, 3, 1, 4, 0}},
     {"x", "{x=i32\xff}", VX_UNREAD, {VX_SCHEMA, 6, 6, 1, 7, 0}},
     {"y", X, VX_REFUSED, {VX_EXPRESSION, 0, 1, 1, 1, 0}},
-    {"x > 1 and x + \"a\" = 2", X, VX_REFUSED, {VX_EXPRESSION, 10, 17, 1, 11, 0}},
+    {"x > 1 and x + \"a\"::utf8 = 2", X, VX_REFUSED, {VX_EXPRESSION, 10, 23, 1, 11, 0}},
+    {"x > 1 and x + \"a\" = 2", X, VX_REFUSED, {VX_EXPRESSION, 14, 17, 1, 15, 0}},
 };
 
 /* Where no plan can be made the handle holds none afterwards, also where it held one. */

@@ -9,7 +9,7 @@
 
 #define FILTER                                                                  \
     "a >= 1 and a < 100 and b = 7 and c like \"t%\" and d is not null and "     \
-    "e.x > 5i64 and e.y <= 9i64 and f != \"no\" and not g and h between 1 and 3"
+    "e.x > 5 and e.y <= 9 and f != \"no\" and not g and h between 1 and 3"
 #define SCHEMA "{a=i32, b=i32?, c=utf8, d=utf8?, e={x=i64, y=i64}?, f=utf8, g=bool, h=i32}"
 
 enum { ROWS = 1000 };

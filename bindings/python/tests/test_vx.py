@@ -125,9 +125,18 @@ class Errors(unittest.TestCase):
             vx.explain("y", X)
         self.assertEqual(caught.exception.place.end, 1)
 
+    def test_literals_take_the_type_of_what_they_stand_beside(self):
+        self.assertEqual(vx.check("id > 5", "{id=i64}"), "bool")
+        with self.assertRaises(vx.RefusedError) as caught:
+            vx.check("id > 1 and\n small = 300", "{id=i64, small=i8}")
+        place = caught.exception.place
+        self.assertEqual((place.text, place.start, place.end, place.line), ("expression", 20, 23, 2))
+        self.assertIn("300 is no i8", str(caught.exception))
+
     def test_help(self):
         for expression, schema, wanted in [
-            ("id > 5", "{id=i64}", "id is i64, 5 is i32: write 5i64"),
+            ("id > 5i32", "{id=i64}", "id is i64, 5i32 is i32: write 5i64"),
+            ('id > "5"', "{id=i64}", "what it stands beside is a number: write one, as in x > 5"),
             ('Name = "Bob"', "{name=utf8}", "there is name"),
         ]:
             with self.subTest(expression), self.assertRaises(vx.RefusedError) as caught:

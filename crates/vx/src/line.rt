@@ -39,7 +39,7 @@ Without --schema the type of the records is that of the first 1,000 of them.
 
 Examples:
   vx check 'x >= 1 and x <= 5' --schema '{x=i32}'
-  vx filter 'cents > 5000i64 and ship.country = \"GB\"' --data orders.csv";
+  vx filter 'cents > 5000 and ship.country = \"GB\"' --data orders.csv";
 
 const CHECK: &str = "Example:
   vx check 'x >= 1 and x <= 5' --schema '{x=i32}'
@@ -129,11 +129,11 @@ fn statistics<'a>(alloc: Global) -> Arg<'a> {
 }
 
 const EVALUATE: &str = "Example:
-  vx eval 'cents + 100i64' --data orders.csv --limit 10
+  vx eval 'cents + 100' --data orders.csv --limit 10
 prints a line of JSON for each of the first 10 records";
 
 const FILTER: &str = "Example:
-  vx filter 'cents > 5000i64' --data orders.csv > dear.csv
+  vx filter 'cents > 5000' --data orders.csv > dear.csv
 writes the header, and each record with more than 5000 cents as it stands; with --chunk also says, on
 standard error, how many chunks weren't evaluated";
 

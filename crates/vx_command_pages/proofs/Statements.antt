@@ -9,13 +9,13 @@ use Rattle.vx_sql.specs.declared.dialect.Dialect.{Dialect}
 use Rattle.vx_sql_plan.specs.declared.refusal.NoStatement.{NoStatement}
 use Rattle.vx_sql_plan.specs.Pushdown.{residual}
 use Rattle.vx_sql_plan.specs.Statements.{statement, statement_refusal, IsRefusalOf}
-use Rattle.vx_command_pages.specs.Inputs.{Reads, ReadsType}
+use Rattle.vx_command_pages.specs.Inputs.{ReadsAs, ReadsType}
 use Rattle.vx_command_pages.specs.SqlPages.{lines_of, IsSqlPage, IsUnwritten, IsSqlError}
 use Rattle.vx_command_pages.specs.declared.sql.SqlError.{SqlError}
 use Rattle.vx_command_pages.specs.declared.sql.SqlError.TheVariants.{Statement}
 
 -- where the code has the plan's type and tree once more, as it hands them on
-module _ (text schema : List ℕ) (e : Tree) (s : LogicalType) (read : Reads text e) (typed : ReadsType schema s) (t : LogicalType) (u : BoundTree) (plan : IsPlanFor FoldingRuleAt e s t u)
+module _ (text schema : List ℕ) (e : Tree) (s : LogicalType) (read : ReadsAs text s e) (typed : ReadsType schema s) (t : LogicalType) (u : BoundTree) (plan : IsPlanFor FoldingRuleAt e s t u)
     (d : Dialect) (table : Name) (t' : LogicalType) (u' : BoundTree) (type : t' ≡ t) (tree : u' ≡ u) where
   pub told : (said : List ℕ) (left : Option BoundTree) → said ≡ statement d t' u' table → left ≡ residual d u' → IsSqlPage text schema d table (lines_of said left)
   told said left a b = (e, s, read, typed, (u, (refl, plan.1), rw (a, b, type, tree, ← plan.0) refl))

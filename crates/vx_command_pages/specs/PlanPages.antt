@@ -7,7 +7,7 @@ use Rattle.vx_tree.specs.Trees.{Tree, BoundTree}
 use Rattle.vx_rewrite_rule_laws.specs.Folding.{FoldingRuleAt}
 use Rattle.vx_query_split.specs.Division.{Parts}
 use Rattle.vx_scan.specs.Plans.{IsPlan, IsPlanFor}
-use Rattle.vx_command_pages.specs.Inputs.{Reads, ReadsType}
+use Rattle.vx_command_pages.specs.Inputs.{ReadsAs, ReadsType}
 use Rattle.vx_command_pages.specs.Pages.{line}
 use Rattle.vx_command_pages.specs.PlanData.{paths_data, plan_data}
 
@@ -23,4 +23,4 @@ IsPagePlanned e s page = (u : BoundTree) × (paths : List Path) × (split : Opti
 -- the page is a plan of the expression that the text is read as, over the scope's type that the schema is read as: its tree,
 -- the paths that this references, and its split, as JSON on one line
 abbrev pub IsPlanPage : List ℕ → List ℕ → List ℕ → Type 0
-IsPlanPage text schema page = (e : Tree) × (s : LogicalType) × Reads text e × ReadsType schema s × IsPagePlanned e s page
+IsPlanPage text schema page = (e : Tree) × (s : LogicalType) × ReadsAs text s e × ReadsType schema s × IsPagePlanned e s page

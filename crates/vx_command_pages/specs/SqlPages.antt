@@ -12,7 +12,7 @@ use Rattle.vx_sql_plan.specs.Pushdown.{residual}
 use Rattle.vx_sql_plan.specs.Statements.{statement, statement_refusal, IsRefusalOf}
 use Rattle.vx_command_pages.specs.declared.error.Status.{Status}
 use Rattle.vx_command_pages.specs.declared.error.Status.TheVariants.{Failed, Wrong}
-use Rattle.vx_command_pages.specs.Inputs.{Reads, ReadsType, IsCommandError, status_of}
+use Rattle.vx_command_pages.specs.Inputs.{ReadsAs, ReadsType, IsCommandError, status_of}
 use Rattle.vx_command_pages.specs.Pages.{line}
 use Rattle.vx_command_pages.specs.declared.sql.SqlError.{SqlError}
 use Rattle.vx_command_pages.specs.declared.sql.SqlError.TheVariants.{Query, Statement}
@@ -28,12 +28,12 @@ sql_lines d s u table = lines_of (statement d s u table) (residual d u)
 
 -- the page is that of a plan, by the folding rules, of the expression that the text is read as, over the type that the schema is read as
 abbrev pub IsSqlPage : List ℕ → List ℕ → Dialect → Name → List ℕ → Type 0
-IsSqlPage text schema d table page = (e : Tree) × (s : LogicalType) × Reads text e × ReadsType schema s × ((u : BoundTree) × IsPlanFor FoldingRuleAt e s s u × (page ≡ sql_lines d s u table))
+IsSqlPage text schema d table page = (e : Tree) × (s : LogicalType) × ReadsAs text s e × ReadsType schema s × ((u : BoundTree) × IsPlanFor FoldingRuleAt e s s u × (page ≡ sql_lines d s u table))
 
 -- such a plan has no statement, or memory ran out
 abbrev pub IsUnwritten : List ℕ → List ℕ → Dialect → Name → NoStatement → Type 0
 IsUnwritten text schema d table refusal =
-    (e : Tree) × (s : LogicalType) × Reads text e × ReadsType schema s × ((u : BoundTree) × IsPlanFor FoldingRuleAt e s s u × IsRefusalOf (statement_refusal d s u table) refusal)
+    (e : Tree) × (s : LogicalType) × ReadsAs text s e × ReadsType schema s × ((u : BoundTree) × IsPlanFor FoldingRuleAt e s s u × IsRefusalOf (statement_refusal d s u table) refusal)
 
 -- why there is no such page
 abbrev pub IsSqlError : List ℕ → List ℕ → Dialect → Name → SqlError → Type 0

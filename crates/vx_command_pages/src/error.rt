@@ -6,7 +6,18 @@ use crate::remedy::Remedy;
 use crate::report::Span;
 use std::alloc::{AllocError, AllocFailed};
 use vx_source::Expected;
-use vx_tree::VortexError;
+use vx_tree::{DType, Value, VortexError};
+
+/// A literal that was written without a type, and is none of the type that it takes from what it stands beside.
+#[derive(Debug, Drop)]
+pub struct UnfitLiteral {
+    /// Its bytes.
+    pub span: Span,
+    /// Its value.
+    pub value: Value,
+    /// That type.
+    pub dtype: DType,
+}
 
 /// Why a command prints no page.
 #[derive(Debug, Drop)]
@@ -23,6 +34,8 @@ pub enum CommandError {
         at: usize,
         expected: Expected,
     },
+    /// A literal of the expression is none of the type that it takes from what it stands beside.
+    Unfit(Box<UnfitLiteral>),
     /// The node that was read from those bytes of the expression has no type over the schema's. The
     /// remedy tells more of it than the refusal, where there is memory for it.
     Refused {
@@ -43,6 +56,7 @@ impl CommandError {
             CommandError::OutOfMemory => Status::Failed,
             CommandError::UnreadExpression { .. }
             | CommandError::UnreadSchema { .. }
+            | CommandError::Unfit(_)
             | CommandError::Refused { .. } => Status::Wrong,
         }
     }

@@ -7,7 +7,7 @@ pub(crate) fn help_for(refusal: &VortexError) -> Option<&'static str> {
         VortexError::NotAStruct => Some("only a struct has fields; `$` has those of the schema"),
         VortexError::NoSuchField(_) => Some("name one of the fields that the schema has there"),
         VortexError::BaseTypesDiffer => Some(
-            "use values of one type, as in x > 5i64 where x is an i64",
+            "use values of one type; a literal without a suffix takes that of what it stands beside",
         ),
         VortexError::NotBool => Some(
             "write a comparison, as in x > 0, or a test, as in x is not null",

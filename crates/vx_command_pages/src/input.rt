@@ -1,20 +1,26 @@
 // The texts that a command is given, read.
-ghost use Rattle.std.specs.Prelude.{◌≡◌, IfOk, IfErr, Ok};
+ghost use Rattle.std.specs.Prelude.{◌≡◌, ℕ, List, IfOk, IfErr, Ok};
+ghost use Rattle.vx_value.specs.Types.{LogicalType};
 ghost use Rattle.vx_value.specs.Views.{type_of};
 ghost use Rattle.vx_tree.specs.Views.{tree_of, bound_of};
 ghost use Rattle.vx_tree.specs.Trees.{Over, WellTyped, node_type, typed, unbound};
-ghost use Rattle.vx_command_pages.specs.Inputs.{Reads, ReadsType, IsUnread, IsUnreadSchema, IsUnreadQuery, IsRefusal, IsRefusedWith};
+ghost use Rattle.vx_source_over.specs.Reading.{IsReadOpen, IsWritten, RefusesOver};
+ghost use Rattle.vx_command_pages.specs.Inputs.{Reads, ReadsAs, ReadsType, IsUnread, IsUnreadOver, IsUnreadSchema, IsUnreadQuery, IsRefusal, IsRefusedOver, IsRefusedWith};
 
-use crate::error::CommandError;
+use crate::error::{CommandError, UnfitLiteral};
 use crate::refused::RefusedNode;
 use crate::remedy::Remedy;
+use crate::report::Span;
 use crate::spans::{places_at, span_at};
 use std::alloc::Global;
 use vx_places::{first_refusal_at, node_at};
-use vx_source::{DEFAULT_NESTING, ParseError, Placed, parse_type, parse_with_places};
+use vx_source::{
+    DEFAULT_NESTING, OverError, ParseError, Placed, Written, over, parse_type, parse_with_places,
+    read_open,
+};
 use vx_tree::{BoundExpression, DType, Expression, VortexError};
 
-/// The expression that the text says, with the bytes that its nodes were read from. Fails at the
+/// The expression that the text alone says, with the bytes that its nodes were read from. Fails at the
 /// place where reading stops, and for want of memory.
 pub fn read_expression(alloc: Global, text: &str) -> Result<Box<Placed>, CommandError>
     ensures read { IfOk result (λ placed. Reads text.now (tree_of placed.value.expression)) }
@@ -25,6 +31,59 @@ pub fn read_expression(alloc: Global, text: &str) -> Result<Box<Placed>, Command
         Err(ParseError::OutOfMemory) => Err(CommandError::OutOfMemory),
         Err(ParseError::Unexpected { at, expected }) => {
             Err(CommandError::UnreadExpression { at, expected })
+        }
+    }
+}
+
+/// What the text says before the type of the rows is known. Fails at the place where reading stops, and for want of memory.
+pub fn read_written(alloc: Global, text: &str) -> Result<Box<Written>, CommandError>
+    ensures written { IfOk result (λ written. IsWritten 200 text.now written.value) }
+    ensures read { IfOk result (λ _. IsReadOpen 200 text.now) }
+    ensures error { IfErr result (λ c. IsUnreadOver text.now c) }
+{
+    match read_open(alloc, text, DEFAULT_NESTING) {
+        Ok(written) => Ok(Box::new(alloc, written)?),
+        Err(ParseError::OutOfMemory) => Err(CommandError::OutOfMemory),
+        Err(ParseError::Unexpected { at, expected }) => {
+            Err(CommandError::UnreadExpression { at, expected })
+        }
+    }
+}
+
+/// The expression that was read, over rows of that type. Fails at a literal that is none of the type that it takes from what it
+/// stands beside, or that has none, and for want of memory.
+pub fn read_over(
+    alloc: Global,
+    written: Box<Written>,
+    scope: &DType,
+) -> Result<Box<Placed>, CommandError>
+    ensures read { (text : List ℕ) → IsWritten 200 text written.value → IfOk result (λ placed. ReadsAs text (type_of scope.now) (tree_of placed.value.expression)) }
+    ensures error { (text : List ℕ) → IsWritten 200 text written.value → IfErr result (λ c. IsRefusedOver text (type_of scope.now) c) }
+{
+    match over(alloc, Box::into_inner(written), scope) {
+        Ok(placed) => Ok(Box::new(alloc, placed)?),
+        Err(error) => Err(unsettled(alloc, error)),
+    }
+}
+
+// The error of a text that is refused so.
+fn unsettled(alloc: Global, error: OverError) -> CommandError
+    ensures { (text : List ℕ) (s : LogicalType) → RefusesOver 200 text s error → IsRefusedOver text s result }
+{
+    match error {
+        OverError::OutOfMemory => CommandError::OutOfMemory,
+        OverError::Unexpected { at, expected } => CommandError::UnreadExpression { at, expected },
+        OverError::Misfit {
+            start,
+            end,
+            value,
+            dtype,
+        } => {
+            let span = Span { start, end };
+            match Box::new(alloc, UnfitLiteral { span, value, dtype }) {
+                Ok(literal) => CommandError::Unfit(literal),
+                Err(_) => CommandError::OutOfMemory,
+            }
         }
     }
 }
@@ -52,15 +111,16 @@ pub struct ReadQuery {
     pub scope: Box<DType>,
 }
 
-/// What the two texts say. Fails at the place where reading stops, of the expression first, and for
-/// want of memory.
+/// What the two texts say: literals without a type take that of what they stand beside. Fails at the place where reading
+/// stops, of the expression first; then at a literal that has no type or is none of it; and for want of memory.
 pub fn read_query(alloc: Global, expression: &str, schema: &str) -> Result<ReadQuery, CommandError>
-    ensures read { IfOk result (λ query. Reads expression.now (tree_of query.placed.value.expression)) }
+    ensures read { IfOk result (λ query. ReadsAs expression.now (type_of query.scope.value) (tree_of query.placed.value.expression)) }
     ensures scope { IfOk result (λ query. ReadsType schema.now (type_of query.scope.value)) }
     ensures error { IfErr result (λ c. IsUnreadQuery expression.now schema.now c) }
 {
-    let placed = read_expression(alloc, expression)?;
+    let written = read_written(alloc, expression)?;
     let scope = read_schema(alloc, schema)?;
+    let placed = read_over(alloc, written, &scope)?;
     Ok(ReadQuery { placed, scope })
 }
 

@@ -24,12 +24,15 @@ mod sources;
 mod spans;
 mod sql;
 mod types;
+mod unfit;
 
 pub use conjuncts::joins_conjuncts;
-pub use error::{CommandError, Status};
+pub use error::{CommandError, Status, UnfitLiteral};
 pub use explanation::{explanation_of, explanation_page};
 pub use graph::graph_page;
-pub use input::{ReadQuery, bind, read_expression, read_query, read_schema};
+pub use input::{
+    ReadQuery, bind, read_expression, read_over, read_query, read_schema, read_written,
+};
 pub use message::{Input, Message};
 pub use planned::{paths_page, plan_of, plan_page};
 pub use position::Position;

@@ -3,6 +3,7 @@ use crate::error::CommandError;
 use crate::help::help_for;
 use crate::remedy::{Help, Remedy};
 use crate::report::{Report, Span};
+use crate::unfit::{UnfitText, help_for_unfit};
 use std::fmt;
 use std::fmt::{Display, Formatter, Write};
 use vx_tree::VortexError;
@@ -76,6 +77,13 @@ impl Display for Message<'_> {
             }
             CommandError::UnreadSchema { at, expected } => {
                 let report = self.schema.report(expected, place(*at), self.schema.help());
+                report.fmt(f)
+            }
+            CommandError::Unfit(literal) => {
+                let text = self.expression.text;
+                let help = Some(Help::Said(help_for_unfit(literal)));
+                let told = UnfitText { literal, text };
+                let report = self.expression.report(told, literal.span, help);
                 report.fmt(f)
             }
             CommandError::Refused {

@@ -4,7 +4,7 @@ ghost use Rattle.vx_value.specs.Views.{type_of};
 ghost use Rattle.vx_tree.specs.Views.{tree_of};
 ghost use Rattle.vx_sql_plan.specs.Pushdown.{tree_in};
 ghost use Rattle.vx_command_pages.specs.declared.error.CommandError.TheVariants.{OutOfMemory};
-ghost use Rattle.vx_command_pages.specs.Inputs.{Reads, ReadsType};
+ghost use Rattle.vx_command_pages.specs.Inputs.{ReadsAs, ReadsType};
 ghost use Rattle.vx_command_pages.specs.declared.sql.SqlError.TheVariants.{Query, Statement};
 ghost use Rattle.vx_command_pages.specs.SqlPages.{lines_of, IsSqlPage, IsSqlError};
 
@@ -95,7 +95,7 @@ struct Written {
 
 // The query that the texts say, its plan by the folding rules, and the plan's statement.
 fn plan_written(alloc: Global, query: &SqlQuery<'_>) -> Result<Written, SqlError>
-    ensures read { IfOk result (λ w. Reads query.now.expression.now (tree_of w.read.placed.value.expression)) }
+    ensures read { IfOk result (λ w. ReadsAs query.now.expression.now (type_of w.read.scope.value) (tree_of w.read.placed.value.expression)) }
     ensures scope { IfOk result (λ w. ReadsType query.now.schema.now (type_of w.read.scope.value)) }
     ensures lines { IfOk result (λ w. IsSqlPage query.now.expression.now query.now.schema.now query.now.dialect query.now.table.now (lines_of (string_bytes w.sql.statement) (option_map tree_in w.sql.residual))) }
     ensures error { IfErr result (λ c. IsSqlError query.now.expression.now query.now.schema.now query.now.dialect query.now.table.now c) }

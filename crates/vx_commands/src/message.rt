@@ -105,7 +105,7 @@ impl Display for FaultText<'_> {
 fn help_for(refusal: &VortexError) -> Option<Help<'static>> {
     match refusal {
         VortexError::AddOverflow { .. } => Some(Help::Said(
-            "say a wider type in the schema, as i64, and write numbers of it, as 5i64",
+            "say a wider type in the schema, as i64",
         )),
         VortexError::CastNull { .. } => Some(Help::Said(
             "fill the nulls before, as in coalesce(x, 0)",

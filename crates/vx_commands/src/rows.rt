@@ -13,7 +13,7 @@ use std::alloc::Global;
 use std::io::{Cursor, Read, Write};
 use std::num::NonZeroUsize;
 use vx_command_pages::{
-    CommandError, Input, ReadQuery, Status, explanation_of, read_expression, read_query,
+    CommandError, Input, ReadQuery, Status, explanation_of, read_over, read_query, read_written,
 };
 use vx_data::WriteError;
 use vx_prune::ChunkRecords;
@@ -162,12 +162,13 @@ fn inferred<D: Read>(
     command: &RowsCommand<'_>,
     data: &mut D,
 ) -> Result<(ReadQuery, Vec<u8>), RowsError> {
-    let placed = read_expression(alloc, command.expression.text)?;
+    let written = read_written(alloc, command.expression.text)?;
     let (dtype, read) = inferred_type(alloc, command.format, data)?;
-    match Box::new(alloc, dtype) {
-        Ok(scope) => Ok((ReadQuery { placed, scope }, read)),
-        Err(_) => Err(RowsError::Query(CommandError::OutOfMemory)),
-    }
+    let Ok(scope) = Box::new(alloc, dtype) else {
+        return Err(RowsError::Query(CommandError::OutOfMemory));
+    };
+    let placed = read_over(alloc, written, &scope)?;
+    Ok((ReadQuery { placed, scope }, read))
 }
 
 // Writes what becomes of the expression, and what the records tell of it in each chunk.

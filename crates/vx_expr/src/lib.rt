@@ -5,6 +5,7 @@ pub mod analysis;
 pub mod bound;
 pub mod display;
 pub mod dtype;
+pub mod error;
 pub mod eval;
 pub mod expr;
 pub mod functions;

@@ -11,7 +11,7 @@ use Rattle.vx_records.specs.declared.error.RecordsError.TheVariants.{OutOfMemory
 use Rattle.vx_records.specs.Outcomes.{IsFaultOn}
 use Rattle.vx_records.specs.Records.{Record}
 use Rattle.vx_command_pages.specs.declared.error.CommandError.TheVariants.{OutOfMemory as Exhausted}
-use Rattle.vx_command_pages.specs.Inputs.{Reads, ReadsType, IsCommandError}
+use Rattle.vx_command_pages.specs.Inputs.{ReadsAs, ReadsType, IsCommandError}
 use Rattle.vx_commands.specs.declared.error.RowsError.{RowsError}
 use Rattle.vx_commands.specs.declared.error.RowsError.TheVariants.{Query, NotBool, Records as OfRecords}
 use Rattle.vx_commands.specs.Rows.{IsBoundTo}
@@ -48,7 +48,7 @@ TellsRows (OfRecords error span) expression schema stop = (stop.status ≡ error
 
 -- what the texts are read as is of such a kind
 abbrev pub ReadAs : List ℕ → List ℕ → (Tree → LogicalType → Type 0) → Type 0
-ReadAs expression schema P = (e : Tree) × (s : LogicalType) × Reads expression e × ReadsType schema s × P e s
+ReadAs expression schema P = (e : Tree) × (s : LogicalType) × ReadsAs expression s e × ReadsType schema s × P e s
 
 -- the expression, bound to the schema's type, faults so on some records
 abbrev pub FaultsOn : List ℕ → List ℕ → RecordsError → Type 0

@@ -4,7 +4,7 @@ use Rattle.std.specs.List.{count_by}
 use Rattle.std.specs.Str.{IsValidUpTo}
 use Rattle.vx_command_pages.specs.Positions.{is_newline}
 use Rattle.vx_command_pages.specs.declared.error.CommandError.{CommandError}
-use Rattle.vx_command_pages.specs.declared.error.CommandError.TheVariants.{OutOfMemory as Exhausted, UnreadExpression, UnreadSchema, Refused as RefusedAt}
+use Rattle.vx_command_pages.specs.declared.error.CommandError.TheVariants.{OutOfMemory as Exhausted, UnreadExpression, UnreadSchema, Unfit, Refused as RefusedAt}
 use Rattle.vx_ffi_calls.specs.declared.answer.Place.{Place}
 use Rattle.vx_ffi_calls.specs.declared.answer.Status.TheVariants.{OutOfMemory, Unread, Refused}
 use Rattle.vx_ffi_calls.specs.declared.stop.CallError.{CallError}
@@ -35,6 +35,7 @@ abbrev pub Tells : CommandError → List ℕ → List ℕ → CallError → Type
 Tells Exhausted expression schema stop = IsExhausted stop
 Tells (UnreadExpression at expected) expression schema stop = (stop.status ≡ Unread) × IsPlaceIn Expression expression at at stop.place
 Tells (UnreadSchema at expected) expression schema stop = (stop.status ≡ Unread) × IsPlaceIn Schema schema at at stop.place
+Tells (Unfit literal) expression schema stop = (stop.status ≡ Refused) × IsPlaceIn Expression expression literal.value.span.start literal.value.span.end stop.place
 Tells (RefusedAt span refusal remedy) expression schema stop = (stop.status ≡ Refused) × IsPlaceIn Expression expression span.start span.end stop.place
 
 -- a text is no UTF-8, there is such an error in the texts, or memory ran out

@@ -8,7 +8,7 @@ use Rattle.vx_prune_tree.specs.Stats.{Facts}
 use Rattle.vx_prune_tree.specs.Verdicts.{verdict_in}
 use Rattle.vx_prune_tree.specs.declared.verdicts.Verdict.{Verdict}
 use Rattle.vx_prune_tree.specs.declared.verdicts.Verdict.TheVariants.{NoRow, EveryRow, Unknown}
-use Rattle.vx_command_pages.specs.Inputs.{Reads, ReadsType}
+use Rattle.vx_command_pages.specs.Inputs.{ReadsAs, ReadsType}
 use Rattle.vx_commands.specs.Rows.{IsBoundCondition}
 
 -- a verdict in words
@@ -35,4 +35,4 @@ AreVerdictLines b page = (chunks : List Facts) × (page ≡ flat_map (verdict_li
 
 -- the same of the expression that the text is read as, bound to the type that the schema is read as, over which it is of type bool
 abbrev pub IsVerdictPage : List ℕ → List ℕ → List ℕ → Type 0
-IsVerdictPage expression schema page = (e : Tree) × (s : LogicalType) × (b : BoundTree) × Reads expression e × ReadsType schema s × IsBoundCondition e s b × AreVerdictLines b page
+IsVerdictPage expression schema page = (e : Tree) × (s : LogicalType) × (b : BoundTree) × ReadsAs expression s e × ReadsType schema s × IsBoundCondition e s b × AreVerdictLines b page

@@ -1,6 +1,8 @@
 // What stops a call.
 ghost use Rattle.std.specs.Prelude.{◌≡◌, ◌⊎◌, string_bytes};
 ghost use Rattle.vx_ffi_calls.specs.Stops.{IsExhausted, IsPlaceIn, Tells};
+ghost use Rattle.vx_ffi_calls.specs.declared.answer.Status.TheVariants.{Refused};
+ghost use Rattle.vx_ffi_calls.specs.declared.text.Given.TheVariants.{Expression};
 
 use crate::answer::{Place, Status};
 use crate::text::Given;
@@ -58,12 +60,8 @@ pub fn stop_of(alloc: Global, error: &CommandError, expression: &str, schema: &s
         CommandError::UnreadSchema { at, .. } => {
             (Status::Unread, place_at(Given::Schema, schema, *at))
         }
-        CommandError::Refused { span, .. } => {
-            (
-                Status::Refused,
-                place_of(Given::Expression, expression, *span),
-            )
-        }
+        CommandError::Unfit(literal) => refused_at(expression, literal.span),
+        CommandError::Refused { span, .. } => refused_at(expression, *span),
     };
     let message = Message {
         error,
@@ -71,6 +69,17 @@ pub fn stop_of(alloc: Global, error: &CommandError, expression: &str, schema: &s
         schema: input(Given::Schema, schema),
     };
     CallError::new(alloc, status, place, &message)
+}
+
+// A refusal of those bytes of the expression.
+fn refused_at(expression: &str, span: Span) -> (Status, Place)
+    ensures status { result.0 ≡ Refused }
+    ensures place { IsPlaceIn Expression expression.now span.start span.end result.1 }
+{
+    (
+        Status::Refused,
+        place_of(Given::Expression, expression, span),
+    )
 }
 
 // The text as messages show it.

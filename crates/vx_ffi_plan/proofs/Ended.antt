@@ -4,7 +4,7 @@ use Rattle.std.specs.Prelude.{string_bytes}
 use Rattle.std.specs.Global.{Vec}
 use Rattle.vx_command_pages.specs.Inputs.{IsCommandError}
 use Rattle.vx_command_pages.specs.declared.error.CommandError.{CommandError}
-use Rattle.vx_command_pages.specs.declared.error.CommandError.TheVariants.{OutOfMemory as Exhausted, UnreadExpression, UnreadSchema, Refused as RefusedAt}
+use Rattle.vx_command_pages.specs.declared.error.CommandError.TheVariants.{OutOfMemory as Exhausted, UnreadExpression, UnreadSchema, Unfit, Refused as RefusedAt}
 use Rattle.vx_ffi_calls.specs.declared.answer.Answer.{Answer}
 use Rattle.vx_ffi_calls.specs.declared.answer.Status.{Status}
 use Rattle.vx_ffi_calls.specs.declared.answer.Status.TheVariants.{Answered, TooSmall, OutOfMemory, Unread, Refused}
@@ -34,6 +34,7 @@ tells_other : (c : CommandError) (expression schema : List ℕ) (stop : CallErro
 tells_other Exhausted expression schema stop is = other _ OutOfMemory is.0 (omega arith)
 tells_other (UnreadExpression at expected) expression schema stop is = other _ Unread is.0 (omega arith)
 tells_other (UnreadSchema at expected) expression schema stop is = other _ Unread is.0 (omega arith)
+tells_other (Unfit literal) expression schema stop is = other _ Refused is.0 (omega arith)
 tells_other (RefusedAt span refusal remedy) expression schema stop is = other _ Refused is.0 (omega arith)
 
 stops_other : (IsC : CommandError → Type 0) (expression schema : List ℕ) (stop : CallError) → Stops IsC expression schema stop → stop.status ≢ Answered

@@ -11,7 +11,7 @@ use Rattle.vx_scan.specs.Plans.{IsPlanFor}
 use Rattle.vx_scan.specs.Scans.{Scanned}
 use Rattle.vx_data_buffers.specs.Rows.{column_said}
 use Rattle.vx_data.specs.Lines.{json_lines}
-use Rattle.vx_command_pages.specs.Inputs.{Reads, ReadsType}
+use Rattle.vx_command_pages.specs.Inputs.{ReadsAs, ReadsType}
 use Rattle.vx_command_pages.specs.PlanPages.{paths_line}
 use Rattle.vx_ffi_plan.specs.declared.kept.KeptPlan.{KeptPlan}
 
@@ -27,8 +27,8 @@ planned_tree kept = bound_of kept.plan.value.tree
 
 -- the plan is one, by the folding rules, of the expression that the text is read as, over the type that the schema is read as
 abbrev pub IsKept : List ℕ → List ℕ → KeptPlan → Type 0
-IsKept text schema kept = (string_bytes kept.text ≡ text) × Reads text (source_of kept)
-    × ((s : LogicalType) × ReadsType schema s × IsPlanFor FoldingRuleAt (source_of kept) s (scope_of kept) (planned_tree kept))
+IsKept text schema kept = (string_bytes kept.text ≡ text)
+    × ((s : LogicalType) × ReadsAs text s (source_of kept) × ReadsType schema s × IsPlanFor FoldingRuleAt (source_of kept) s (scope_of kept) (planned_tree kept))
 
 -- the page has the paths that the plan reads
 abbrev pub IsPathsPage : KeptPlan → List ℕ → Type 0

@@ -63,6 +63,10 @@ GivesOver view result said = MatchResult result (λ x. view x ≡ said) (λ e. e
 abbrev pub IsAlone : ℕ → List ℕ → Option Placed → Type 0
 IsAlone limit text alone = MatchOption alone ((e : Tree) → ReadsAlone limit text e → ⊥) (λ p. ReadsAlone limit text (tree_in p))
 
+-- the text is read so, or as two trees
+abbrev pub IsReadOpen : ℕ → List ℕ → Type 0
+IsReadOpen limit text = ((e : Tree) × ReadsAlone limit text e) ⊎ ((e : Tree) × (d : Tree) × AreReadings limit text e d)
+
 -- the text is read neither so nor as two trees
 abbrev pub IsUnread : ℕ → List ℕ → Type 0
 IsUnread limit text = ((e : Tree) → ReadsAlone limit text e → ⊥) × HasNoReadings limit text

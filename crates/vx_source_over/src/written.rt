@@ -1,12 +1,12 @@
 // Texts that were read before their scope is known.
-ghost use Rattle.std.specs.Prelude.{◌≡◌, ◌⊎◌, ℕ, List, IfOk, IfErr, MatchResult};
+ghost use Rattle.std.specs.Prelude.{◌≡◌, ◌⊎◌, ℕ, List, IfOk, IfErr, IsSome, MatchResult};
 ghost use Rattle.vx_value.specs.Views.{type_of};
 ghost use Rattle.vx_tree.specs.Trees.{Tree};
-ghost use Rattle.vx_source_parser.specs.Placed.{tree_in};
+ghost use Rattle.vx_source_parser.specs.Placed.{StopsOpen, tree_in};
 ghost use Rattle.vx_source_types.specs.declared.error.ParseError.TheVariants.{OutOfMemory as NoMemory};
 ghost use Rattle.vx_tree.specs.Trees.{typed};
 ghost use Rattle.vx_tree.specs.Views.{tree_of};
-ghost use Rattle.vx_source_over.specs.Reading.{IsAlone, IsWritten, IsUnread, ReadsOver, GivesOver, RefusesOver, Settles};
+ghost use Rattle.vx_source_over.specs.Reading.{IsAlone, IsReadOpen, IsWritten, IsUnread, ReadsOver, GivesOver, RefusesOver, Settles};
 ghost use Rattle.vx_source_over.specs.Settling.{read_over};
 ghost use Rattle.vx_source_over.specs.Views.{IsTypedAlone, SettlesOpen};
 ghost use Rattle.vx_source_over.specs.declared.error.OverError.TheVariants.{OutOfMemory};
@@ -35,7 +35,9 @@ pub struct Written {
 /// text.
 pub fn read_open(alloc: Global, text: &str, limit: usize) -> Result<Written, ParseError>
     ensures written { IfOk result (IsWritten limit text.now) }
+    ensures read { IfOk result (λ _. IsReadOpen limit text.now) }
     ensures unread { IfErr result (λ e. (e ≡ NoMemory) ⊎ IsUnread limit text.now) }
+    ensures stops { IfErr result (StopsOpen limit text.now) }
 {
     let alone = read_alone(alloc, text, limit)?;
     match parse_open(alloc, text, limit) {
@@ -50,6 +52,7 @@ pub fn read_open(alloc: Global, text: &str, limit: usize) -> Result<Written, Par
 // A text that is read alone, and not as two readings; or why it isn't read.
 fn without_readings(alone: Option<Placed>, error: ParseError) -> Result<Written, ParseError>
     ensures kept { IfOk result (λ w. (w ≡ record { alone = alone; readings = Err error }) × (error ≡ NoMemory → ⊥)) }
+    ensures alone { IfOk result (λ _. IsSome alone) }
     ensures refused { IfErr result (λ e. (e ≡ error) × ((error ≡ NoMemory) ⊎ (alone ≡ None))) }
 {
     match error {

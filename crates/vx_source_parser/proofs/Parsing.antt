@@ -1,5 +1,5 @@
 -- What a whole text comes to, where a place up to the token is all that is said of a refusal.
-use Rattle.std.proofs.Common.{◌≡◌, ◌≤◌, ◌<◌, ℕ, false, List, length, drop, Ok, Err, sym, subst, arith}
+use Rattle.std.proofs.Common.{Bool, ◌≡◌, ◌≤◌, ◌<◌, ℕ, false, List, length, drop, Ok, Err, sym, subst, arith}
 use Rattle.vx_source_types.specs.declared.error.ParseError.{ParseError}
 use Rattle.vx_source_types.specs.declared.error.ParseError.TheVariants.{OutOfMemory, Unexpected}
 use Rattle.vx_source_types.specs.Tokens.{Lexeme, skip, first}
@@ -14,7 +14,10 @@ use Rattle.vx_source_writer.specs.SourceTexts.{source}
 use Rattle.vx_source_laws.specs.Nesting.{nesting}
 use Rattle.vx_source_laws.specs.SpelledTrees.{IsSpelledTree}
 use Rattle.vx_source_laws.proofs.Again.{again}
+use Rattle.vx_source_types.specs.Literals.{open_literal}
+use Rattle.vx_source_operands.specs.OperandViews.{operand_of}
 use Rattle.vx_source_operands.specs.Places.{ReadsUpTo}
+use Rattle.vx_source_parser.specs.Placed.{StopsOpen}
 use Rattle.vx_source_laws.proofs.Ends.{end_stops}
 
 -- a token that is no part of what is read, at its place or before it
@@ -32,3 +35,8 @@ takes_some plain s u bs from at to x cs p q h k l e =
 -- the source text of an expression is read as it
 pub written_is_read : (e : Tree) (room : ℕ) (bs : List ℕ) → IsSpelledTree e → nesting e ≤ room → bs ≡ source e → IsRead expression_step (expression_start room) bs e
 written_is_read e room bs w h is = subst (λ x. IsRead expression_step (expression_start room) x e) (sym is) (again e room w h)
+
+-- one of the readings of a text stops where reading it so does
+pub stops_open : (other : Bool) (limit : ℕ) (text : List ℕ) (error : ParseError) → ParsesWithin (step_by (open_literal other)) (expression_start limit) text operand_of (Err error) → StopsOpen limit text error
+stops_open other limit text OutOfMemory h = tt
+stops_open other limit text (Unexpected at x) h = (h.0, (other, h.1.0, h.1.1))

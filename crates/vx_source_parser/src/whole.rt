@@ -15,7 +15,7 @@ ghost use Rattle.vx_source_operands.specs.PlainViews.{plain_by};
 ghost use Rattle.vx_source_writer.specs.SourceTexts.{source};
 ghost use Rattle.vx_source_laws.specs.Nesting.{nesting};
 ghost use Rattle.vx_source_laws.specs.SpelledTrees.{IsSpelledTree};
-ghost use Rattle.vx_source_parser.specs.Placed.{AreReadings, tree_in};
+ghost use Rattle.vx_source_parser.specs.Placed.{AreReadings, StopsOpen, tree_in};
 
 use crate::step::step;
 use std::alloc::Global;
@@ -82,6 +82,7 @@ pub struct Readings {
 pub fn parse_open(alloc: Global, text: &str, limit: usize) -> Result<Readings, ParseError>
     ensures reads { IfOk result (λ both. AreReadings limit text.now (tree_of both.first.expression) (tree_of both.second)) }
     ensures complete { (e d : Tree) → AreReadings limit text.now e d → IfErr result (λ x. x ≡ OutOfMemory) }
+    ensures stops { IfErr result (StopsOpen limit text.now) }
 {
     let Operand { tree, places, .. } = read(alloc, PlainValues::Open(false), text, limit)?;
     let first = Placed {
@@ -101,6 +102,7 @@ fn with_second(
     ensures first { IfOk result (λ both. both.first ≡ first) }
     ensures second { IfOk result (λ both. IsRead (step_by (open_literal true)) (expression_start limit) text.now (tree_of both.second)) }
     ensures complete { (d : Tree) → IsRead (step_by (open_literal true)) (expression_start limit) text.now d → IfErr result (λ x. x ≡ OutOfMemory) }
+    ensures stops { IfErr result (StopsOpen limit text.now) }
 {
     let Operand { tree, .. } = read(alloc, PlainValues::Open(true), text, limit)?;
     let second = Box::into_inner(tree);

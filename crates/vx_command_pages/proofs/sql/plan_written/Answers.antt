@@ -9,7 +9,7 @@ use Rattle.vx_command_pages.proofs.sql.plan_written.Goals as goal
 pub returns-clause-lines : goal.returns-clause-lines
 returns-clause-lines c =
     let plan = c.in_ok-plan.plan.value in
-    told c.args.query.now.expression.now c.args.query.now.schema.now (tree_of c.deref.result.now.expression) (type_of c.deref-2.result.now) (rw c.deref.ensures c.in_ok-read.ensures.read) (rw c.deref-2.ensures c.in_ok-read.ensures.scope)
+    told c.args.query.now.expression.now c.args.query.now.schema.now (tree_of c.deref.result.now.expression) (type_of c.deref-2.result.now) (rw (c.deref.ensures, c.deref-2.ensures) c.in_ok-read.ensures.read) (rw c.deref-2.ensures c.in_ok-read.ensures.scope)
     (type_of plan.scope) (bound_of plan.tree) c.in_ok-plan.ensures.planned c.args.query.now.dialect c.args.query.now.table.now (type_of c.scope.result.now) (bound_of c.tree.result.now)
     (ap type_of (c.scope.ensures ∙ ap (λ p. p.scope) c.deref-4.ensures)) (ap bound_of (c.tree.ensures ∙ ap (λ p. p.tree) c.deref-3.ensures))
     (string_bytes c.in_ok-sql.sql.statement) (option_map tree_in c.in_ok-sql.sql.residual) c.in_ok-sql.ensures.1 c.in_ok-sql.ensures.2
@@ -17,7 +17,7 @@ returns-clause-lines c =
 pub returns-in_err-sql-clause-error : goal.returns-in_err-sql-clause-error
 returns-in_err-sql-clause-error c =
     let plan = c.in_ok-plan.plan.value in
-    let is = untold c.args.query.now.expression.now c.args.query.now.schema.now (tree_of c.deref.result.now.expression) (type_of c.deref-2.result.now) (rw c.deref.ensures c.in_ok-read.ensures.read) (rw c.deref-2.ensures c.in_ok-read.ensures.scope)
+    let is = untold c.args.query.now.expression.now c.args.query.now.schema.now (tree_of c.deref.result.now.expression) (type_of c.deref-2.result.now) (rw (c.deref.ensures, c.deref-2.ensures) c.in_ok-read.ensures.read) (rw c.deref-2.ensures c.in_ok-read.ensures.scope)
     (type_of plan.scope) (bound_of plan.tree) c.in_ok-plan.ensures.planned c.args.query.now.dialect c.args.query.now.table.now (type_of c.scope.result.now) (bound_of c.tree.result.now)
     (ap type_of (c.scope.ensures ∙ ap (λ p. p.scope) c.deref-4.ensures)) (ap bound_of (c.tree.ensures ∙ ap (λ p. p.tree) c.deref-3.ensures))
     c.in_err-sql.field-0.0 c.in_err-sql.ensures in

@@ -5,6 +5,8 @@ use Rattle.vx_source_types.specs.Literals.{open_literal}
 use Rattle.vx_source_types.proofs.Parsing.{parses_as}
 use Rattle.vx_source_grammar.specs.ExpressionReading.{step_by}
 use Rattle.vx_source_operands.specs.OperandViews.{operand_of}
+use Rattle.vx_source_parser.specs.Placed.{StopsOpen}
+use Rattle.vx_source_parser.proofs.Parsing.{stops_open}
 use Rattle.vx_source_parser.proofs.whole.parse_open.Goals as goal
 
 pub returns-in_err-tree-clause-complete : goal.returns-in_err-tree-clause-complete
@@ -15,3 +17,9 @@ returns-in_err-tree-clause-complete c = λ e d h.
 
 pub returns-clause-complete : goal.returns-clause-complete
 returns-clause-complete c = λ e d h. c.with_second.ensures.complete d h.1
+
+pub returns-in_err-tree-clause-stops : goal.returns-in_err-tree-clause-stops
+returns-in_err-tree-clause-stops c =
+    let error = c.in_err-tree.field-0.0 in
+    let is : c.from_residual.result ≡ Err error = search rules in
+    subst (λ r. IfErr r (StopsOpen c.args.limit c.args.text.now)) (sym is) (stops_open false c.args.limit c.args.text.now error c.in_err-tree.ensures)

@@ -1,0 +1,39 @@
+// Messages of literals that are none of the type that they take from what they stand beside.
+use crate::error::UnfitLiteral;
+use std::fmt;
+use std::fmt::{Display, Formatter, Write};
+use vx_source::TypeText;
+use vx_tree::{DType, Value};
+
+/// The literal, as the text has it, and the type.
+#[derive(Clone, Copy)]
+pub(crate) struct UnfitText<'a> {
+    /// The literal.
+    pub(crate) literal: &'a UnfitLiteral,
+    /// The text that it stands in.
+    pub(crate) text: &'a str,
+}
+
+impl Display for UnfitText<'_> {
+    fn fmt<W: Write>(&self, f: &mut Formatter<W>) -> fmt::Result {
+        let span = self.literal.span;
+        let cited = self.text.get(span.start..span.end).unwrap_or("the literal");
+        write!(f, "{cited} is no {}", TypeText(&self.literal.dtype))
+    }
+}
+
+/// What would do in place of the literal.
+pub(crate) fn help_for_unfit(literal: &UnfitLiteral) -> &'static str {
+    match (&literal.dtype, &literal.value) {
+        (DType::Primitive(..), Value::Int(_)) => {
+            "it takes the type of what it stands beside: say a wider one in the schema, as i64"
+        }
+        (DType::Primitive(..), _) => "what it stands beside is a number: write one, as in x > 5",
+        (DType::Utf8(_), _) => "what it stands beside is a text: write one, as in x = \"5\"",
+        (DType::Bool(_), _) => "what it stands beside is a truth value: write `true` or `false`",
+        (DType::Binary(_), _) => "what it stands beside is bytes: write some, as in x = 0x0a",
+        (DType::List(..) | DType::FixedSizeList(..) | DType::Struct(..), _) => {
+            "what it stands beside is a list or a struct: write its type, as in [1, 2]::list(i32)"
+        }
+    }
+}
