@@ -3,11 +3,13 @@
 
 mod bits;
 mod choice;
+mod compact;
 pub mod laws;
 mod mask;
 mod over;
 mod places;
 mod pushing;
+mod runs;
 
 pub use choice::{Merging, prefer_runs, preferred};
 pub use mask::RowMask;
