@@ -1,9 +1,9 @@
 -- What the kernels of single functions are told. No public contract names this file.
-use Rattle.std.specs.Prelude.{◌≡◌, ℕ, ◌<◌, ℤ, List, [], ◌∷◌, map, Option, Some, None, Result, Ok, Bool, false, not, ◌&&◌}
+use Rattle.std.specs.Prelude.{◌≡◌, ℕ, ◌<◌, ℤ, List, [], ◌∷◌, map, Option, Some, None, Result, Ok, Bool, false, not, ◌&&◌, if◌then◌else◌}
 use Rattle.std.specs.Int.Signed.{le_z}
 use Rattle.vx_value.specs.declared.value.Value.{Value}
 use Rattle.vx_value.specs.Fields.{data_of}
-use Rattle.vx_value.specs.Types.{LogicalType, Datum, null, bool, int, utf8, struct_of}
+use Rattle.vx_value.specs.Types.{LogicalType, Datum, null, bool, int, utf8, struct_of, is_null_datum}
 use Rattle.vx_value.specs.Views.{value_of}
 use Rattle.std.specs.declared.cmp.Ordering.{Ordering}
 use Rattle.vx_fn.specs.Functions.{Operation, compares}
@@ -56,3 +56,7 @@ text_of _ = None
 abbrev pub accepted : Bool → Compiled → Datum → Datum
 accepted negated p (utf8 t) = bool (flipped negated (accepts p t))
 accepted negated p _ = null
+
+-- whether a value is null, or another one
+abbrev pub null_told : Bool → Datum → Datum
+null_told wanted d = if wanted then bool (is_null_datum d) else bool (not (is_null_datum d))

@@ -1,11 +1,13 @@
 // Null: tests for it, and what makes it or puts a value in its place.
-ghost use Rattle.std.specs.Prelude.{◌≡◌, ◌||◌, not, length, IfOk, List, [], ◌∷◌, if◌then◌else◌};
+ghost use Rattle.std.specs.Prelude.{◌≡◌, ◌||◌, length, get_or, IfOk, IfErr, List, [], ◌∷◌, if◌then◌else◌};
 ghost use Rattle.std.specs.List.{list_any};
-ghost use Rattle.vx_value.specs.Types.{LogicalType, bool, is_null_datum};
+ghost use Rattle.vx_dtype.specs.declared.error.VortexError.TheVariants.{OutOfMemory};
+ghost use Rattle.vx_value.specs.Types.{LogicalType, null, is_null_datum};
 ghost use Rattle.vx_value.specs.Views.{type_of, value_of};
 ghost use Rattle.vx_fn.specs.Faults.{is_bad_fill, some_differ};
 ghost use Rattle.vx_fn.specs.Functions as functions;
-ghost use Rattle.vx_eval.specs.Columns.{rows_view, truth_datum, Evaluates};
+ghost use Rattle.vx_eval.specs.Columns.{each_row, rows_view, truth_datum, Evaluates};
+ghost use Rattle.vx_eval.specs.Kernels.{null_told};
 
 use crate::choice::first_true;
 use crate::comparison::order;
@@ -22,17 +24,7 @@ pub fn is_null<'a>(alloc: Global, count: usize, input: &Rows) -> VortexResult<Ro
     requires { length (rows_view input.now) ≡ count }
     ensures { (ts : List LogicalType) → Evaluates functions.is_null ts count (rows_view input.now ∷ []) result }
 {
-    match input {
-        Rows::Item(structs, place, constants) => {
-            let (structs, place, otherwise) = (*structs, *place, constants.null());
-            told(
-                alloc,
-                count,
-                |i| null_test(item_row(otherwise, structs, place, i)),
-            )
-        }
-        _ => told(alloc, count, |i| null_test(input.row(i))),
-    }
+    null_tests(alloc, count, input, true)
 }
 
 /// Whether each value is another one than null. Refuses with `OutOfMemory` (1) alone.
@@ -40,31 +32,33 @@ pub fn is_not_null<'a>(alloc: Global, count: usize, input: &Rows) -> VortexResul
     requires { length (rows_view input.now) ≡ count }
     ensures { (ts : List LogicalType) → Evaluates functions.is_not_null ts count (rows_view input.now ∷ []) result }
 {
+    null_tests(alloc, count, input, false)
+}
+
+// Whether each value is null; where `wanted` is false, whether it is another one.
+fn null_tests<'a>(alloc: Global, count: usize, input: &Rows, wanted: bool) -> VortexResult<Rows<'a>>
+    requires { length (rows_view input.now) ≡ count }
+    ensures rows { IfOk result (λ out. rows_view out ≡ each_row count (λ k. null_told wanted (get_or (rows_view input.now) k null))) }
+    ensures memory { IfErr result (λ e. e ≡ OutOfMemory) }
+{
     match input {
         Rows::Item(structs, place, constants) => {
             let (structs, place, otherwise) = (*structs, *place, constants.null());
             told(
                 alloc,
                 count,
-                |i| value_test(item_row(otherwise, structs, place, i)),
+                |i| null_test(item_row(otherwise, structs, place, i), wanted),
             )
         }
-        _ => told(alloc, count, |i| value_test(input.row(i))),
+        _ => told(alloc, count, |i| null_test(input.row(i), wanted)),
     }
 }
 
-// Whether the value is null.
-fn null_test(v: &Value) -> Option<bool>
-    ensures { truth_datum result ≡ bool (is_null_datum (value_of v.now)) }
+// Whether the value is null; where `wanted` is false, whether it is another one.
+fn null_test(v: &Value, wanted: bool) -> Option<bool>
+    ensures { truth_datum result ≡ null_told wanted (value_of v.now) }
 {
-    Some(v.is_null())
-}
-
-// Whether the value isn't null.
-fn value_test(v: &Value) -> Option<bool>
-    ensures { truth_datum result ≡ bool (not (is_null_datum (value_of v.now))) }
-{
-    Some(!v.is_null())
+    Some(v.is_null() == wanted)
 }
 
 /// The values where the mask is true, and null elsewhere; those that are owned are moved.

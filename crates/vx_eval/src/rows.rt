@@ -123,27 +123,10 @@ impl<'a> Rows<'a> {
         ensures left { IfOk result (λ end. StaysFrom end (rows_view self.old) (rows_view self.new)) }
         ensures long { IfOk result (λ _. length (rows_view self.new) ≡ length (rows_view self.old)) }
     {
-        match self {
-            Rows::Owned(values) => push_moved(merging, rows, mask, from, values),
-            _ => self.push_copies(merging, rows, mask, from),
+        if let Rows::Owned(values) = self {
+            return push_moved(merging, rows, mask, from, values);
         }
-    }
-
-    // The same of copies.
-    fn push_copies(
-        &self,
-        merging: Merging,
-        rows: &mut Vec<Value>,
-        mask: &RowMask,
-        from: usize,
-    ) -> Result<usize, AllocError>
-        requires within { from < length mask.now }
-        requires here { get_or mask.now from false ≡ true }
-        requires values { length (rows_view self.now) ≡ length mask.now }
-        ensures run { IfOk result (λ end. IsRunFrom mask.now from end) }
-        ensures rows { (g : ℕ → Datum) → HoldsIn mask.now from (rows_view self.now) g → values_of rows.old.items ≡ each_row from g → IfOk result (λ end. values_of rows.new.items ≡ each_row end g) }
-    {
-        match self {
+        match &*self {
             Rows::Same(value, _) => push_repeated(merging, rows, mask, from, value),
             Rows::Item(structs, place, constants) => {
                 let (structs, place, otherwise) = (*structs, *place, constants.null());

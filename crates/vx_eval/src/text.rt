@@ -30,10 +30,14 @@ pub fn like<'a>(
     requires pattern { length (rows_view pattern.now) ≡ count }
     ensures { (ts : List LogicalType) → Evaluates (functions.like options.now.negated options.now.case_insensitive) ts count (rows_view child.now ∷ rows_view pattern.now ∷ []) result }
 {
-    match pattern {
-        Rows::Same(value, _) => like_one(alloc, count, options, child, *value),
-        _ => like_each(alloc, count, options, child, pattern),
+    if let Rows::Same(value, _) = pattern {
+        return like_one(alloc, count, options, child, *value);
     }
+    let mut answers = Vec::with_capacity(alloc, count)?;
+    for i in 0..count {
+        answers.push(liked(alloc, options, child.row(i), pattern.row(i))?)?;
+    }
+    Ok(Rows::Truths(answers, Constants::new()))
 }
 
 // The same with one pattern for all rows.
@@ -68,25 +72,6 @@ fn as_text<'v>(v: &'v Value) -> Option<&'v str>
         Value::Utf8(text) => Some(text.as_str()),
         _ => None,
     }
-}
-
-// The same with a pattern for each row.
-fn like_each<'a>(
-    alloc: Global,
-    count: usize,
-    options: &LikeOptions,
-    child: &Rows,
-    pattern: &Rows,
-) -> VortexResult<Rows<'a>>
-    requires child { length (rows_view child.now) ≡ count }
-    requires pattern { length (rows_view pattern.now) ≡ count }
-    ensures { (ts : List LogicalType) → Evaluates (functions.like options.now.negated options.now.case_insensitive) ts count (rows_view child.now ∷ rows_view pattern.now ∷ []) result }
-{
-    let mut answers = Vec::with_capacity(alloc, count)?;
-    for i in 0..count {
-        answers.push(liked(alloc, options, child.row(i), pattern.row(i))?)?;
-    }
-    Ok(Rows::Truths(answers, Constants::new()))
 }
 
 // Whether the pattern accepts the text, turned round where it is negated; null of null.

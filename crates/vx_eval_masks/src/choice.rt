@@ -1,9 +1,10 @@
 // How masks are gone over.
-ghost use Rattle.std.specs.Prelude.{◌≡◌, Ok, Option, List, Bool, length, map, nat_le, if◌then◌else◌};
+ghost use Rattle.std.specs.Prelude.{◌≡◌, ◌<◌, true, false, get_or, Ok, Option, List, Bool, length, map, nat_le, if◌then◌else◌};
 ghost use Rattle.vx_eval_masks.specs.Masks.{runs};
 ghost use Rattle.vx_eval_masks.specs.declared.choice.Merging.TheVariants.{Runs, Compact};
-ghost use Rattle.vx_eval_masks.specs.Choices.{prefers_runs, run_limit, left_of, masks_in};
+ghost use Rattle.vx_eval_masks.specs.Choices.{IsLimit, prefers_runs, run_limit, left_of, masks_in};
 
+use crate::bits;
 use crate::mask::RowMask;
 use vx_types::{Column, VortexResult};
 
@@ -13,6 +14,35 @@ use vx_types::{Column, VortexResult};
 pub enum Merging {
     Runs,
     Compact,
+}
+
+impl Merging {
+    // How far the run of true rows at that row can go: of runs to its end, which is looked for, else
+    // to the last row.
+    #[inline]
+    pub(crate) fn limit(self, bits: &[bool], from: usize) -> usize
+        requires within { from < length bits.now }
+        requires here { get_or bits.now from false ≡ true }
+        ensures { IsLimit self bits.now from result }
+    {
+        match self {
+            Merging::Runs => bits::run_end(bits, from),
+            Merging::Compact => bits.len(),
+        }
+    }
+
+    // Whether the run goes on at that row below its limit, of which runs are sure.
+    #[inline]
+    pub(crate) fn goes_on(self, bits: &[bool], i: usize) -> bool
+        requires within { i < length bits.now }
+        requires sure { self ≡ Runs → get_or bits.now i false ≡ true }
+        ensures { result ≡ get_or bits.now i false }
+    {
+        match self {
+            Merging::Runs => true,
+            Merging::Compact => bits[i],
+        }
+    }
 }
 
 /// Whether all masks together have at most as many runs as there are branches, or as a 256th of

@@ -3,13 +3,11 @@
 
 mod bits;
 mod choice;
-mod compact;
 pub mod laws;
 mod mask;
 mod over;
 mod places;
 mod pushing;
-mod runs;
 
 pub use choice::{Merging, prefer_runs, preferred};
 pub use mask::RowMask;

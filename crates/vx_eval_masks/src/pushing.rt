@@ -7,7 +7,6 @@ ghost use Rattle.vx_eval_masks.specs.Merges.{values_of, each_row, AnswersIn, Hol
 
 use crate::choice::Merging;
 use crate::mask::RowMask;
-use crate::{compact, runs};
 use std::alloc::AllocError;
 use vx_types::Value;
 
@@ -30,10 +29,15 @@ pub fn push_moved(
     ensures left { IfOk result (λ end. StaysFrom end (values_of values.old.items) (values_of values.new.items)) }
     ensures long { IfOk result (λ _. length values.new.items ≡ length values.old.items) }
 {
-    match merging {
-        Merging::Runs => runs::push_moved(rows, mask, from, values),
-        Merging::Compact => compact::push_moved(rows, mask.as_slice(), from, values),
+    let bits = mask.as_slice();
+    let end = merging.limit(bits, from);
+    for i in from..end {
+        if !merging.goes_on(bits, i) {
+            return Ok(i);
+        }
+        rows.push(std::mem::replace(&mut values[i], Value::Null))?;
     }
+    Ok(end)
 }
 
 /// The same of what the function gives at these rows. It refuses where the function does, too.
@@ -50,10 +54,15 @@ pub fn push_with<F: Fn(usize) -> Result<Value, AllocError>>(
     ensures run { IfOk result (λ end. IsRunFrom mask.now from end) }
     ensures rows { (g : ℕ → Datum) → AnswersIn (λ i r. F.post f i r) mask.now from g → values_of rows.old.items ≡ each_row from g → IfOk result (λ end. values_of rows.new.items ≡ each_row end g) }
 {
-    match merging {
-        Merging::Runs => runs::push_with(rows, mask, from, f),
-        Merging::Compact => compact::push_with(rows, mask.as_slice(), from, f),
+    let bits = mask.as_slice();
+    let end = merging.limit(bits, from);
+    for i in from..end {
+        if !merging.goes_on(bits, i) {
+            return Ok(i);
+        }
+        rows.push(f(i)?)?;
     }
+    Ok(end)
 }
 
 /// The same of one value at each of these rows: null, a truth value and a number without a copy

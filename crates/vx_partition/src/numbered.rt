@@ -2,11 +2,10 @@
 // tree is looked up.
 ghost use Rattle.std.specs.Prelude.{◌≡◌, ◌<◌, ◌≤◌, ◌++◌, IfOk, OnOk, Option, length, map};
 ghost use Rattle.std.specs.Option.{option_copied};
-ghost use Rattle.vx_rewrite_analysis.specs.Answered.{count_of, tree_of, given_by, AreAnswered};
-ghost use Rattle.vx_partition.specs.Found.{found_copied, found_of};
-ghost use Rattle.vx_partition.specs.Gathered.{gathered_in, found_at, AreFound, IsOnly};
+ghost use Rattle.vx_rewrite_analysis.specs.Answered.{count_of, tree_of, AreAnswered};
+ghost use Rattle.vx_partition.specs.Found.{found_copied};
+ghost use Rattle.vx_partition.specs.Gathered.{found_at, AreFound, IsOnly};
 ghost use Rattle.vx_partition.specs.Only.{annotations_met};
-ghost use Rattle.vx_tree.specs.Nodes.{bound_children_of};
 ghost use Rattle.vx_tree.specs.Trees.{BoundTree};
 
 use crate::found::{Found, alone, combined, found_in};
@@ -31,7 +30,7 @@ pub(crate) fn found_each<'a, A: Annotation + Drop>(
     Ok(found)
 }
 
-// What the node has, where those below it have this.
+// What the node has, where those below it have this: its own answers, or what its children have together.
 fn found_at<'a, A: Annotation + Drop>(
     nodes: &'a AnsweredNodes<'_, A>,
     number: usize,
@@ -49,21 +48,6 @@ fn found_at<'a, A: Annotation + Drop>(
     if !answers.is_empty() {
         return found_in(answers);
     }
-    found_below(nodes, number, below)
-}
-
-// What the node's children have together.
-fn found_below<'a, A: Annotation + Drop>(
-    nodes: &AnsweredNodes<'_, A>,
-    number: usize,
-    below: &[Found<&'a A>],
-) -> Found<&'a A>
-    requires numbered { AreAnswered nodes.now }
-    requires within { number < count_of nodes.now }
-    requires count { number ≤ length below.now }
-    requires below { AreFound A.eq nodes.now below.now }
-    ensures { found_copied result ≡ found_of A.eq (gathered_in (given_by nodes.now) (bound_children_of (tree_of nodes.now number))) }
-{
     let mut found = Found::Nothing;
     for child in nodes.children(number) {
         found = combined(found, below[*child]);

@@ -9,7 +9,7 @@ ghost use Rattle.vx_tree.specs.Views.{bound_of};
 ghost use Rattle.vx_value.specs.Paths.{minimal_paths};
 ghost use Rattle.vx_value.specs.Views.{type_of, value_of};
 ghost use Rattle.vx_prune_tree.specs.Stats.{Describes};
-ghost use Rattle.vx_prune.specs.Selected.{IsRefusedWhereUnsure, IsSureWithout, Selected, SelectsRows};
+ghost use Rattle.vx_prune.specs.Selected.{IsRefusedWhereUnsure, IsSureWithout, SelectsRows};
 
 use std::alloc::Global;
 use vx_eval_masks::RowMask;
@@ -42,19 +42,6 @@ pub fn select_rows<R: PathReader>(
     ensures faults { (R.batch reader.now).type ≡ type_of plan.now.scope → is_truth (node_type (bound_of plan.now.tree)) ≡ true →
         IsRefusedWhereUnsure stats.now (bound_of plan.now.tree) (R.batch reader.now) result }
     ensures sure { (R.batch reader.now).type ≡ type_of plan.now.scope → is_truth (node_type (bound_of plan.now.tree)) ≡ true → IsSureWithout stats.now (bound_of plan.now.tree) result }
-{
-    select_to_end(alloc, reader, plan, stats)
-}
-
-// The same, whose promises are one fact: there are six ways to end, and each keeps all.
-fn select_to_end<R: PathReader>(
-    alloc: Global,
-    reader: &R,
-    plan: &ScanPlan,
-    stats: &ChunkStats,
-) -> VortexResult<RowMask>
-    requires allowed { (R.batch reader.now).type ≡ type_of plan.now.scope → AreJust (R.allowed reader.now) (minimal_paths plan.now.paths) }
-    ensures { Selected (type_of plan.now.scope) (bound_of plan.now.tree) stats.now (R.batch reader.now) result }
 {
     let dtype = reader.dtype();
     if *dtype != *plan.scope() {

@@ -1,7 +1,6 @@
 // A query as one run.
 ghost use Rattle.std.specs.Prelude.{◌≡◌, Ok, Err};
 ghost use Rattle.vx_dtype.specs.declared.error.VortexError.{VortexError};
-ghost use Rattle.vx_query.specs.Promises.{Promised};
 ghost use Rattle.vx_query.specs.Queries.{FaultsAlone, IsRefusedWith, Runs, RunsPassed};
 ghost use Rattle.vx_query_split.specs.Sources.{IsBound, IsMeantBy};
 ghost use Rattle.vx_tree.specs.Faults.{HasNoFault};
@@ -38,19 +37,6 @@ pub fn run_query(
     ensures meaning { (b : BoundTree) → IsBound (tree_of source.now) batch.now.type b → HasNoFault b batch.now.rows → IsMeantBy (tree_of source.now) batch.now result }
     ensures faults { (t : LogicalType) → typed (tree_of source.now) batch.now.type ≡ Ok t → FaultsAlone result }
     ensures run { (b : BoundTree) → IsBound (tree_of source.now) batch.now.type b → RunsPassed passes.now split b batch.now result }
-{
-    run_to_end(alloc, source, batch, passes, split)
-}
-
-// The same, whose promises are one fact: there are three ways to end, and each keeps all four.
-fn run_to_end(
-    alloc: Global,
-    source: &Expression,
-    batch: &Column,
-    passes: &[Pass],
-    split: bool,
-) -> VortexResult<Column>
-    ensures { Promised (tree_of source.now) batch.now passes.now split result }
 {
     // (what it promises is that the rows fit)
     let _rows = batch.rows();

@@ -65,31 +65,31 @@ pub(crate) fn root_form<R: Rule>(
     if !rules.may_fit(tree) {
         return Ok(None);
     }
-    fitting_form(alloc, rules, tree)
+    match one_step(alloc, rules, tree)? {
+        Some(lighter) => Ok(Some(rest_of_steps(alloc, rules, lighter)?)),
+        None => Ok(None),
+    }
 }
 
-// The same, wherever a rule may fit.
+// What the rules leave at the root of a tree that one of them gave.
 #[inline(never)]
-fn fitting_form<R: Rule>(
+fn rest_of_steps<R: Rule>(
     alloc: Global,
     rules: &R,
-    tree: &BoundExpression,
-) -> VortexResult<Option<Box<BoundExpression>>>
-    requires { WellTyped (bound_of tree.now) }
-    ensures form { IfOk result (λ o. IfSome o (λ u. RootNormalForm (R.gives rules.now) (bound_of tree.now) (bound_of u.value))) }
-    ensures none { IfOk result (λ o. IsNone o ↔ GivesNothing (R.gives rules.now) (bound_of tree.now)) }
+    first: Box<BoundExpression>,
+) -> VortexResult<Box<BoundExpression>>
+    requires { WellTyped (bound_of first.value) }
+    ensures form { IfOk result (λ u. RootNormalForm (R.gives rules.now) (bound_of first.value) (bound_of u.value)) }
     ensures memory { IfErr result (λ e. e ≡ OutOfMemory) }
 {
-    let Some(mut current) = one_step(alloc, rules, tree)? else {
-        return Ok(None);
-    };
+    let mut current = first;
     while let Some(lighter) = one_step(alloc, rules, &current)? {
         current = lighter;
     }
-    Ok(Some(current))
+    Ok(current)
 }
 
-// What the rules give at the root, the same way.
+// What the rules give at the root, in a box and with no node in the caller's frame.
 #[inline(never)]
 fn one_step<R: Rule>(
     alloc: Global,

@@ -1,24 +1,18 @@
 -- What is known of a node by its parts is known of the node.
-use Rattle.std.proofs.Common.{◌≡◌, List, Vec}
-use Rattle.std.specs.Prelude.{Option, None}
-use Rattle.std.specs.declared.alloc.Global.{Global}
-use Rattle.std.specs.declared.sync.Arc.{Arc}
-use Rattle.vx_dtype.specs.declared.dtype.DType.{DType}
-use Rattle.vx_value.specs.Views.{type_of}
-use Rattle.vx_fn.specs.Functions.{case_when}
-use Rattle.vx_fn.specs.Views.{function_of}
-use Rattle.vx_fn.specs.declared.function.ScalarFnRef.{ScalarFnRef}
-use Rattle.vx_fn.specs.declared.function.ScalarFnRef.TheVariants.{CaseWhen}
-use Rattle.vx_fn.specs.declared.options.CaseWhenOptions.{CaseWhenOptions}
-use Rattle.vx_tree.proofs.Held.{bound_of-Scalar}
-use Rattle.vx_tree.specs.Trees.{BoundTree, node}
-use Rattle.vx_tree.specs.Views.{bound_of, bounds_of}
-use Rattle.vx_tree.specs.declared.bound.BoundExpression.{BoundExpression, Scalar}
+use Rattle.std.proofs.Common.{◌≡◌, sym, ap, ◌∙◌, refl}
+use Rattle.std.specs.Prelude.{Option, Some, None}
+use Rattle.vx_value.specs.Types.{LogicalType}
+use Rattle.vx_fn.specs.Functions.{Function}
+use Rattle.vx_tree.specs.Nodes.{function_at, bound_children_of}
+use Rattle.vx_tree.specs.Trees.{BoundTree, BoundTrees, scope, node, node_type, unbound}
 use Rattle.vx_rewrite_rule_laws.specs.Folding.{known_given}
 
-module _ (b : BoundExpression) (t : DType) (f : ScalarFnRef) (all : Arc (Vec BoundExpression Global) Global) (children : List BoundExpression) (is : b ≡ Scalar t f all) (those : children ≡ all.value.items) where
-  pub known_of_node : (o : Option BoundTree) → o ≡ known_given (node (type_of t) (function_of f) (bounds_of children)) → o ≡ known_given (bound_of b)
-  known_of_node o e = rw (is, bound_of-Scalar t f all, ← those) e
+-- a node of a function is that of its type and its children
+pub node_of : (b : BoundTree) (t : LogicalType) (f : Function) (xs : BoundTrees) → Some f ≡ function_at (unbound b) → t ≡ node_type b → xs ≡ bound_children_of b → b ≡ node t f xs
+node_of (scope s) t f xs is typed those = cc
+node_of (node u g ys) t f xs is typed those = let same : f ≡ g = cc in rw (same, typed, those) refl
 
-  pub nothing_of_case : (o : CaseWhenOptions) → f ≡ CaseWhen o → known_given (node (type_of t) (case_when o.num_when_then_pairs o.has_else) (bounds_of children)) ≡ None → known_given (bound_of b) ≡ None
-  nothing_of_case o by e = rw (is, by, bound_of-Scalar t (CaseWhen o) all, ← those) e
+-- of what is no node of a function nothing is known
+pub nothing_of_scope : (b : BoundTree) → None ≡ function_at (unbound b) → known_given b ≡ None
+nothing_of_scope (scope s) none = refl
+nothing_of_scope (node t f xs) none = cc

@@ -2,7 +2,7 @@
 ghost use Rattle.std.specs.Prelude.{◌≡◌, IsFalse, None, Ok};
 ghost use Rattle.std.specs.Option.{option_map};
 ghost use Rattle.vx_value.specs.Returns.{ReturnsOrOom};
-ghost use Rattle.vx_value.specs.Views.{type_of};
+ghost use Rattle.vx_value.specs.Types.{LogicalType};
 ghost use Rattle.vx_fn.specs.Functions.{case_when};
 ghost use Rattle.vx_rewrite_rule_laws.specs.Folding.{constant_given, fold_given, known_given};
 ghost use Rattle.vx_tree.specs.Trees.{node, WellTyped};
@@ -15,7 +15,6 @@ use std::alloc::Global;
 use vx_fn::{CaseWhenOptions, ScalarFnRef};
 use vx_rewrite_core::first_two;
 use vx_tree::{BoundExpression, VortexResult};
-use vx_types::DType;
 
 // Whether something may be given at the node: all but whether a node over literals faults is looked
 // at, without memory, so that where nothing folds little is done.
@@ -29,17 +28,13 @@ pub(crate) fn may_give(node: &BoundExpression) -> bool
 fn may_know(node: &BoundExpression) -> bool
     ensures { IsFalse result → known_given (bound_of node.now) ≡ None }
 {
-    let BoundExpression::Scalar {
-        dtype,
-        scalar_fn,
-        children,
-    } = node
-    else {
+    let Some(scalar_fn) = node.as_scalar() else {
         return false;
     };
+    let children = node.children();
     match scalar_fn {
-        ScalarFnRef::CaseWhen(_) => has_idle_pair(children.as_slice()),
-        _ => known_of(dtype, scalar_fn, children.as_slice()).is_some(),
+        ScalarFnRef::CaseWhen(_) => has_idle_pair(children),
+        _ => known_of(node.dtype(), scalar_fn, children).is_some(),
     }
 }
 
@@ -63,33 +58,27 @@ fn known_given(alloc: Global, node: &BoundExpression) -> VortexResult<Option<Bou
     requires no_constant { constant_given (bound_of node.now) ≡ None }
     ensures { ReturnsOrOom (option_map bound_of) result (Ok (known_given (bound_of node.now))) }
 {
-    let BoundExpression::Scalar {
-        dtype,
-        scalar_fn,
-        children,
-    } = node
-    else {
+    let Some(scalar_fn) = node.as_scalar() else {
         return Ok(None);
     };
-    let children = children.as_slice();
+    let children = node.children();
     if let ScalarFnRef::CaseWhen(options) = scalar_fn {
-        return of_case(alloc, dtype, *options, children);
+        return of_case(alloc, *options, children);
     }
-    match known_of(dtype, scalar_fn, children) {
+    match known_of(node.dtype(), scalar_fn, children) {
         Some(known) => Ok(Some(known_tree(alloc, &known)?)),
         None => Ok(None),
     }
 }
 
-// What is given at a CASE of the type.
+// What is given at a CASE, whatever its type is.
 fn of_case(
     alloc: Global,
-    dtype: &DType,
     options: CaseWhenOptions,
     children: &[BoundExpression],
 ) -> VortexResult<Option<BoundExpression>>
-    requires { WellTyped (node (type_of dtype.now) (case_when options.num_when_then_pairs options.has_else) (bounds_of children.now)) }
-    ensures { ReturnsOrOom (option_map bound_of) result (Ok (known_given (node (type_of dtype.now) (case_when options.num_when_then_pairs options.has_else) (bounds_of children.now)))) }
+    requires { (t : LogicalType) × WellTyped (node t (case_when options.num_when_then_pairs options.has_else) (bounds_of children.now)) }
+    ensures { (t : LogicalType) → ReturnsOrOom (option_map bound_of) result (Ok (known_given (node t (case_when options.num_when_then_pairs options.has_else) (bounds_of children.now)))) }
 {
     match first_two(children) {
         Some((condition, then, rest)) => case_given(alloc, options, condition, then, rest),

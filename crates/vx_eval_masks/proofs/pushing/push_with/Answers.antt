@@ -1,0 +1,14 @@
+use Rattle.std.proofs.Common.{◌≡◌, ◌≤◌, ap, arith, rules, length, get_or, true, false}
+use Rattle.vx_value.specs.Views.{value_of}
+use Rattle.vx_eval_masks.proofs.Writing.{row_pushed, on_more}
+use Rattle.vx_eval_masks.proofs.pushing.push_with.Goals as goal
+
+pub loop-i-preserved : goal.loop-i-preserved
+loop-i-preserved g c =
+    let on : get_or c.args.mask.now c.loop-i.i false ≡ true = search rules in
+    let high : c.limit-end.result ≤ length c.as_slice-bits.result.now = c.limit-end.ensures.high in
+    let long : length c.as_slice-bits.result.now ≡ length c.args.mask.now = ap length c.as_slice-bits.ensures in
+    record {
+      on = on_more c.args.mask.now c.args.from c.loop-i.i c.loop-i.invariant.on on;
+      rows = λ h by so_far. row_pushed value_of h _ _ c.loop-i.i _ (c.loop-i.invariant.rows h by so_far) c.in_ok-push.ensures.items (by _ _ (omega arith) (omega arith) on c.in_ok-f.ensures);
+    }

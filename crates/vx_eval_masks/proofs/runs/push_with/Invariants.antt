@@ -1,7 +1,0 @@
-use Rattle.std.proofs.Common.{◌≡◌, ℕ}
-use Rattle.vx_value.specs.Types.{Datum}
-use Rattle.vx_eval_masks.specs.Merges.{values_of, each_row, AnswersIn}
-use Rattle.vx_eval_masks.proofs.runs.push_with.Given as goal
-
-abbrev pub invariant-loop-i : goal.invariant-loop-i
-invariant-loop-i g l = (h : ℕ → Datum) → AnswersIn (λ i r. goal.F-post g l.f i r) l.mask l.from h → values_of l.fn.rows.items ≡ each_row l.from h → values_of l.rows.items ≡ each_row l.i h
