@@ -79,6 +79,10 @@ pub unequal : {r : Bool} (b : Bool) → r ≡ not b → r ≡ true → false ≡
 unequal true p q = cc
 unequal false p q = refl
 
+pub equal : {r : Bool} (b : Bool) → r ≡ not b → r ≡ false → b ≡ true
+equal true p q = refl
+equal false p q = cc
+
 pub and3_fails : {b d : Bool} (c e : Bool) → false ≡ b → d ≡ (b && c && e) → false ≡ d
 and3_fails c e p q = ap (λ x. x && c && e) p ∙ sym q
 

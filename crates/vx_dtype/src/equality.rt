@@ -1,8 +1,9 @@
 // `==` of types: they are equal exactly where they stand for one and the same type.
-ghost use Rattle.std.specs.Prelude.{◌≡◌};
+ghost use Rattle.std.specs.Prelude.{◌≡◌, true, false};
 ghost use Rattle.std.specs.Cmp.{on_equiv, on_per, partial_equiv_from_equiv};
 ghost use Rattle.vx_dtype.specs.Equality.{equal_type, equal_fields};
 ghost use Rattle.vx_dtype.specs.Deciding.{equal_type_equiv, equal_fields_equiv};
+ghost use Rattle.vx_dtype.specs.Joins.{same_base, same_base_fields};
 ghost use Rattle.vx_dtype.specs.Views.{type_of, fields_view, fields_of};
 
 use crate::fields::field_count;
@@ -14,7 +15,7 @@ impl PartialEq for DType {
     ghost laws = { on_per type_of (partial_equiv_from_equiv equal_type_equiv) };
 
     fn eq(&self, other: &DType) -> bool {
-        equal(self, other)
+        alike(self, other, true)
     }
 }
 
@@ -22,12 +23,14 @@ impl Eq for DType {
     ghost laws = { on_equiv type_of equal_type_equiv };
 }
 
-// Whether the types are the same, one level after another.
-#[cycle(equal)]
-fn equal(a: &DType, b: &DType) -> bool
-    ensures { result ≡ equal_type (type_of a.now) (type_of b.now) }
+// Whether the types are the same, one level after another; where `exactly` is false, whether they
+// differ in nullability alone.
+#[cycle(alike)]
+pub(crate) fn alike(a: &DType, b: &DType, exactly: bool) -> bool
+    ensures same { exactly ≡ true → result ≡ equal_type (type_of a.now) (type_of b.now) }
+    ensures base { exactly ≡ false → result ≡ same_base (type_of a.now) (type_of b.now) }
 {
-    if a.is_nullable() != b.is_nullable() {
+    if exactly && a.is_nullable() != b.is_nullable() {
         return false;
     }
     match a {
@@ -48,29 +51,37 @@ fn equal(a: &DType, b: &DType) -> bool
             _ => false,
         },
         DType::List(t, _) => match b {
-            DType::List(u, _) => equal(t.as_ref(), u.as_ref()),
+            DType::List(u, _) => alike(t.as_ref(), u.as_ref(), exactly),
             _ => false,
         },
         DType::FixedSizeList(t, k, _) => match b {
-            DType::FixedSizeList(u, l, _) => k == l && equal(t.as_ref(), u.as_ref()),
+            DType::FixedSizeList(u, l, _) => k == l && alike(t.as_ref(), u.as_ref(), exactly),
             _ => false,
         },
         DType::Struct(x, _) => match b {
-            DType::Struct(y, _) => equal_all(
+            DType::Struct(y, _) => alike_all(
                 x.names.as_slice(),
                 x.types.as_slice(),
                 y.names.as_slice(),
                 y.types.as_slice(),
+                exactly,
             ),
             _ => false,
         },
     }
 }
 
-// Whether the fields have the same names and types in the same order.
-#[cycle(equal)]
-fn equal_all(names: &[FieldName], types: &[DType], others: &[FieldName], kinds: &[DType]) -> bool
-    ensures { result ≡ equal_fields (fields_view names.now types.now) (fields_view others.now kinds.now) }
+// Whether the fields have the same names in the same order, and types that are so.
+#[cycle(alike)]
+fn alike_all(
+    names: &[FieldName],
+    types: &[DType],
+    others: &[FieldName],
+    kinds: &[DType],
+    exactly: bool,
+) -> bool
+    ensures same { exactly ≡ true → result ≡ equal_fields (fields_view names.now types.now) (fields_view others.now kinds.now) }
+    ensures base { exactly ≡ false → result ≡ same_base_fields (fields_view names.now types.now) (fields_view others.now kinds.now) }
 {
     let count = field_count(names, types);
     if count != field_count(others, kinds) {
@@ -82,7 +93,7 @@ fn equal_all(names: &[FieldName], types: &[DType], others: &[FieldName], kinds: 
         if names[i] != others[i] {
             return false;
         }
-        if !equal(t, u) {
+        if !alike(t, u, exactly) {
             return false;
         }
     }
@@ -95,11 +106,12 @@ impl PartialEq for StructFields {
     ghost laws = { on_per fields_of (partial_equiv_from_equiv equal_fields_equiv) };
 
     fn eq(&self, other: &StructFields) -> bool {
-        equal_all(
+        alike_all(
             self.names.as_slice(),
             self.types.as_slice(),
             other.names.as_slice(),
             other.types.as_slice(),
+            true,
         )
     }
 }

@@ -1,10 +1,11 @@
 // Equality with nullability ignored, and unions.
 ghost use Rattle.std.specs.Prelude.{◌≡◌, ◌||◌, IfOk, Ok, None, false, option_map};
 ghost use Rattle.vx_dtype.specs.Returns.{ReturnsOrOom};
-ghost use Rattle.vx_dtype.specs.Joins.{same_base, same_base_fields, join, join_fields, union};
+ghost use Rattle.vx_dtype.specs.Joins.{same_base, join, join_fields, union};
 ghost use Rattle.vx_dtype.specs.Views.{type_of, fields_view, fields_of, admits_null};
 
 use crate::dtype::struct_of;
+use crate::equality::alike;
 use crate::fields::field_count;
 use crate::{DType, FieldName, Nullability, VortexResult};
 use std::alloc::{AllocError, Global};
@@ -15,7 +16,7 @@ impl DType {
     pub fn eq_ignore_nullability(&self, other: &DType) -> bool
         ensures { result ≡ same_base (type_of self.now) (type_of other.now) }
     {
-        same_base(self, other)
+        alike(self, other, false)
     }
 
     /// The union: nullable at each place where one of the two types is. None where they differ in more
@@ -24,81 +25,12 @@ impl DType {
         ensures union { ReturnsOrOom (option_map type_of) result (Ok (union (type_of self.now) (type_of other.now))) }
         ensures none { same_base (type_of self.now) (type_of other.now) ≡ false → result ≡ Ok None }
     {
-        if same_base(self, other) {
+        if alike(self, other, false) {
             Ok(Some(join(alloc, self, other)?))
         } else {
             Ok(None)
         }
     }
-}
-
-// Whether the types differ in nullability alone, one level after another.
-#[cycle(base)]
-fn same_base(a: &DType, b: &DType) -> bool
-    ensures { result ≡ same_base (type_of a.now) (type_of b.now) }
-{
-    match a {
-        DType::Bool(_) => match b {
-            DType::Bool(_) => true,
-            _ => false,
-        },
-        DType::Primitive(p, _) => match b {
-            DType::Primitive(q, _) => p.index() == q.index(),
-            _ => false,
-        },
-        DType::Utf8(_) => match b {
-            DType::Utf8(_) => true,
-            _ => false,
-        },
-        DType::Binary(_) => match b {
-            DType::Binary(_) => true,
-            _ => false,
-        },
-        DType::List(t, _) => match b {
-            DType::List(u, _) => same_base(t.as_ref(), u.as_ref()),
-            _ => false,
-        },
-        DType::FixedSizeList(t, k, _) => match b {
-            DType::FixedSizeList(u, l, _) => k == l && same_base(t.as_ref(), u.as_ref()),
-            _ => false,
-        },
-        DType::Struct(x, _) => match b {
-            DType::Struct(y, _) => same_base_all(
-                x.names.as_slice(),
-                x.types.as_slice(),
-                y.names.as_slice(),
-                y.types.as_slice(),
-            ),
-            _ => false,
-        },
-    }
-}
-
-// Whether the fields have the same names, and types that differ in nullability alone.
-#[cycle(base)]
-fn same_base_all(
-    names: &[FieldName],
-    types: &[DType],
-    others: &[FieldName],
-    kinds: &[DType],
-) -> bool
-    ensures { result ≡ same_base_fields (fields_view names.now types.now) (fields_view others.now kinds.now) }
-{
-    let count = field_count(names, types);
-    if count != field_count(others, kinds) {
-        return false;
-    }
-    for i in 0..count {
-        let t = &types[i];
-        let u = &kinds[i];
-        if names[i] != others[i] {
-            return false;
-        }
-        if !same_base(t, u) {
-            return false;
-        }
-    }
-    true
 }
 
 // Nullable where one of the two is.
