@@ -121,8 +121,8 @@ fn typed_answer(
     match call {
         TypedCall::Rows => rows(alloc, format, dtype, file),
         TypedCall::CutRows => shown(alloc, format.read(alloc, dtype, file.chain(Cut))),
-        TypedCall::Written => written(alloc, format, dtype, file),
-        TypedCall::Twice => twice(alloc, format, dtype, file),
+        TypedCall::Written => written(alloc, format, dtype, file, false),
+        TypedCall::Twice => written(alloc, format, dtype, file, true),
     }
 }
 
@@ -164,36 +164,24 @@ fn guessed(alloc: Global, format: Format<'_>, file: &[u8]) -> Result<String, All
     }
 }
 
+// The file of the rows that the lines of JSON are, with them once or twice.
 fn written(
     alloc: Global,
     format: Format<'_>,
     dtype: &DType,
     lines: &[u8],
+    twice: bool,
 ) -> Result<String, AllocError> {
     let column = match Format::Json.read(alloc, dtype, lines) {
         Ok(column) => Box::new(alloc, column)?,
         Err(refusal) => return format!(in alloc; "no rows: {refusal}"),
     };
-    file_text(alloc, format.write(alloc, &column))
-}
-
-fn twice(
-    alloc: Global,
-    format: Format<'_>,
-    dtype: &DType,
-    lines: &[u8],
-) -> Result<String, AllocError> {
-    let column = match Format::Json.read(alloc, dtype, lines) {
-        Ok(column) => Box::new(alloc, column)?,
-        Err(refusal) => return format!(in alloc; "no rows: {refusal}"),
+    let file = match (twice, format) {
+        (false, _) => format.write(alloc, &column),
+        (true, Format::Json) => json_twice(alloc, &column),
+        (true, Format::Csv(_)) => csv_twice(alloc, &column),
     };
-    file_text(
-        alloc,
-        match format {
-            Format::Json => json_twice(alloc, &column),
-            Format::Csv(_) => csv_twice(alloc, &column),
-        },
-    )
+    file_text(alloc, file)
 }
 
 fn json_twice(alloc: Global, column: &Column) -> Result<Vec<u8>, WriteError> {
