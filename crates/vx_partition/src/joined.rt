@@ -9,6 +9,7 @@ ghost use Rattle.vx_tree.specs.Trees.{scope};
 ghost use Rattle.vx_tree.specs.Views.{bounds_of};
 
 use crate::holes::all_holes;
+use crate::pack::Packed;
 use std::alloc::Global;
 use vx_tree::{
     BoundExpression, DType, FieldNames, Nullability, StructFields, VortexResult, dtypes_of,
@@ -28,19 +29,19 @@ pub(crate) fn joined_dtype(
     Ok(DType::Struct(fields, Nullability::NonNullable))
 }
 
-// The holes of the partitions' pieces, over the scope of that type.
-pub(crate) fn joined_holes(
+// The holes of the packed pieces, over the scope of that type.
+pub(crate) fn joined_holes<A>(
     alloc: Global,
     names: &FieldNames,
-    piece_names: &[FieldNames],
-    partitions: &[BoundExpression],
+    packed: &Packed<A>,
 ) -> VortexResult<Vec<Vec<BoundExpression>>>
-    requires named { length names.now ≡ length partitions.now }
-    requires pieces_named { length piece_names.now ≡ length partitions.now }
-    ensures { ReturnsOrOom (λ holes. holes_seen holes.items) result (Ok (all_holes (scope (struct_type names.now (bounds_of partitions.now))) names.now piece_names.now (bounds_of partitions.now))) }
+    requires named { length names.now ≡ length packed.now.partitions.items }
+    requires pieces_named { length packed.now.names.items ≡ length packed.now.partitions.items }
+    ensures { ReturnsOrOom (λ holes. holes_seen holes.items) result (Ok (all_holes (scope (struct_type names.now (bounds_of packed.now.partitions.items))) names.now packed.now.names.items (bounds_of packed.now.partitions.items))) }
 {
+    let partitions = packed.partitions.as_slice();
     let root = BoundExpression::new_root(joined_dtype(alloc, names, partitions)?);
-    let holes = all_holes(alloc, &root, names, piece_names, partitions);
+    let holes = all_holes(alloc, &root, names, packed.names.as_slice(), partitions);
     // By `drop`: to let go of a tree in place takes the proof far longer.
     drop(root);
     holes

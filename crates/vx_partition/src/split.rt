@@ -210,8 +210,7 @@ fn put_together<A: PartitionKey + Drop>(
     ensures memory { IfErr result (λ y. y ≡ OutOfMemory) }
 {
     let packed = pack_groups(alloc, groups)?;
-    let partitions = packed.partitions.as_slice();
-    let holes = joined_holes(alloc, &names, packed.names.as_slice(), partitions)?;
+    let holes = joined_holes(alloc, &names, &packed)?;
     Ok(BoundPartitionedExpr {
         root: fill(alloc, e, &mut marks.iter(), holes.as_slice())?,
         partitions: packed.partitions,

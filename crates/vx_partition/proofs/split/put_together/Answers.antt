@@ -13,30 +13,29 @@ use Rattle.vx_partition.proofs.split.put_together.Goals as goal
 pub joined_holes-requires-clause-named : goal.joined_holes-requires-clause-named
 joined_holes-requires-clause-named g c =
     let gs = groups_in c.args.groups in
-    c.requires ∙ sym (parts_count g.A.PartitionKey.text gs c.in_ok-packed.packed.partitions.items c.in_ok-packed.ensures.partitions) ∙ ap length (sym c.as_slice-partitions.ensures.value)
+    c.requires ∙ sym (parts_count g.A.PartitionKey.text gs c.in_ok-packed.packed.partitions.items c.in_ok-packed.ensures.partitions)
 
 pub joined_holes-requires-clause-pieces_named : goal.joined_holes-requires-clause-pieces_named
 joined_holes-requires-clause-pieces_named g c =
     let gs = groups_in c.args.groups in
     let text = g.A.PartitionKey.text in
-    ap length (c.as_slice.ensures.value ∙ c.in_ok-packed.ensures.names) ∙ own_count text gs ∙ sym (parts_count text gs c.in_ok-packed.packed.partitions.items c.in_ok-packed.ensures.partitions) ∙ ap length (sym c.as_slice-partitions.ensures.value)
+    ap length c.in_ok-packed.ensures.names ∙ own_count text gs ∙ sym (parts_count text gs c.in_ok-packed.packed.partitions.items c.in_ok-packed.ensures.partitions)
 
 pub returns-clause-root : goal.returns-clause-root
 returns-clause-root g c =
     let gs = groups_in c.args.groups in
     let text = g.A.PartitionKey.text in
     let names = c.args.names in
-    let lent = c.as_slice-partitions.result.now in
+    let ps = bounds_of c.in_ok-packed.packed.partitions.items in
+    let own = c.in_ok-packed.packed.names.items in
     let b = bound_of c.args.e.now in
-    let parts_are : bounds_of lent ≡ partitions text gs = ap bounds_of c.as_slice-partitions.ensures.value ∙ c.in_ok-packed.ensures.partitions in
-    let own_are : c.as_slice.result.now ≡ all_names text gs = c.as_slice.ensures.value ∙ c.in_ok-packed.ensures.names in
-    let made : holes_seen c.in_ok-holes.holes.items ≡ all_holes (scope (struct_type names (bounds_of lent))) names c.as_slice.result.now (bounds_of lent) = search rules in
-    let holes : holes_seen c.as_slice-2.result.now ≡ all_holes (scope (struct_type names (partitions text gs))) names (all_names text gs) (partitions text gs) =
-    ap holes_seen c.as_slice-2.ensures.value ∙ made
-    ∙ ap (λ ns. all_holes (scope (struct_type names (bounds_of lent))) names ns (bounds_of lent)) own_are
-    ∙ ap (λ bs. all_holes (scope (struct_type names bs)) names (all_names text gs) bs) parts_are in
-    let done : filled (holes_seen c.as_slice-2.result.now) b (iter_rest c.iter.result) ≡ (bound_of c.in_ok-fill.field-0, iter_rest c.fill.new.marks) = c.in_ok-fill.ensures in
-    (iter_rest c.fill.new.marks, ap (λ hs. filled hs b c.args.marks.now) (sym holes) ∙ ap (filled (holes_seen c.as_slice-2.result.now) b) (sym c.iter.ensures.rest) ∙ done)
+    let made : holes_seen c.in_ok-holes.holes.items ≡ all_holes (scope (struct_type names ps)) names own ps = search rules in
+    let holes : holes_seen c.as_slice.result.now ≡ all_holes (scope (struct_type names (partitions text gs))) names (all_names text gs) (partitions text gs) =
+    ap holes_seen c.as_slice.ensures.value ∙ made
+    ∙ ap (λ ns. all_holes (scope (struct_type names ps)) names ns ps) c.in_ok-packed.ensures.names
+    ∙ ap (λ bs. all_holes (scope (struct_type names bs)) names (all_names text gs) bs) c.in_ok-packed.ensures.partitions in
+    let done : filled (holes_seen c.as_slice.result.now) b (iter_rest c.iter.result) ≡ (bound_of c.in_ok-fill.field-0, iter_rest c.fill.new.marks) = c.in_ok-fill.ensures in
+    (iter_rest c.fill.new.marks, ap (λ hs. filled hs b c.args.marks.now) (sym holes) ∙ ap (filled (holes_seen c.as_slice.result.now) b) (sym c.iter.ensures.rest) ∙ done)
 
 pub returns-clause-counts : goal.returns-clause-counts
 returns-clause-counts g c =
