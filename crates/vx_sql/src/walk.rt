@@ -37,23 +37,22 @@ fn look(
 ) -> Result<Option<Reason>, AllocError>
     ensures { IfOk result (LeadsToUnsupported path.old.items (first_unsupported dialect (bound_of b.now)) path.new.items) }
 {
-    match b {
-        BoundExpression::Root { .. } => Ok(Some(Reason::Row)),
-        BoundExpression::Scalar {
-            dtype,
-            scalar_fn,
-            children,
-        } => {
-            let children = children.as_slice();
-            if let Some(reason) = own_reason(dialect, dtype, scalar_fn, children) {
-                return Ok(Some(reason));
-            }
-            if is_column(scalar_fn, children) {
-                return Ok(None);
-            }
-            look_below(children, dialect, path)
-        }
+    let BoundExpression::Scalar {
+        dtype,
+        scalar_fn,
+        children,
+    } = b
+    else {
+        return Ok(Some(Reason::Row));
+    };
+    let children = children.as_slice();
+    if let Some(reason) = own_reason(dialect, dtype, scalar_fn, children) {
+        return Ok(Some(reason));
     }
+    if is_column(scalar_fn, children) {
+        return Ok(None);
+    }
+    look_below(children, dialect, path)
 }
 
 #[cycle(unsupported)]
