@@ -1,7 +1,7 @@
 // What calls answer, as texts.
 use crate::chance::written_by_chance;
 use crate::cut::Cut;
-use crate::format::{Again, Format};
+use crate::format::{Again, Format, JSON_LINES};
 use crate::line::unescaped;
 use crate::records::{csv_records, json_records};
 use crate::unread::Unread;
@@ -103,7 +103,10 @@ fn untyped_answer(
     match (call, format) {
         (UntypedCall::Type, _) => guessed(alloc, format, file),
         (UntypedCall::CutType, _) => shown(alloc, format.guess(alloc, file.chain(Cut))),
-        (UntypedCall::Records, Format::Json) => shown(alloc, json_records(alloc, file)),
+        (UntypedCall::Records, Format::Json(format)) => shown(
+            alloc,
+            json_records(alloc, format, file),
+        ),
         (UntypedCall::Records, Format::Csv(format)) => shown(
             alloc,
             csv_records(alloc, format, file),
@@ -158,7 +161,7 @@ fn guessed(alloc: Global, format: Format<'_>, file: &[u8]) -> Result<String, All
         Ok(dtype) => Box::new(alloc, dtype)?,
         Err(refusal) => return format!(in alloc; "{refusal}"),
     };
-    match format.read(alloc, &dtype, file) {
+    match format.of_guess().read(alloc, &dtype, file) {
         Ok(_) => format!(in alloc; "{dtype}"),
         Err(refusal) => format!(in alloc; "{dtype}, and then {refusal}"),
     }
@@ -172,7 +175,7 @@ fn written(
     lines: &[u8],
     twice: bool,
 ) -> Result<String, AllocError> {
-    let column = match Format::Json.read(alloc, dtype, lines) {
+    let column = match JSON_LINES.read(alloc, dtype, lines) {
         Ok(column) => Box::new(alloc, column)?,
         Err(refusal) => return format!(in alloc; "no rows: {refusal}"),
     };

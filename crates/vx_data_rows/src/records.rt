@@ -1,17 +1,17 @@
 // Records as they stood.
 use std::alloc::{AllocError, Global};
 use std::str;
-use vx_data::{CsvFormat, CsvRecords, DataError, JsonLines};
+use vx_data::{CsvFormat, CsvRecords, DataError, JsonFile, JsonFormat};
 
-/// Each record of a file of JSON lines behind its line, as `1: 7 / 3: 8`.
-pub fn json_records(alloc: Global, file: &[u8]) -> Result<String, DataError> {
-    let mut lines = JsonLines::new(alloc, file);
+/// Each record of a file of JSON of that format behind its line, as `1: 7 / 3: 8`.
+pub fn json_records(alloc: Global, format: JsonFormat, file: &[u8]) -> Result<String, DataError> {
+    let mut records = JsonFile::new(alloc, file, format);
     let mut text = String::new(alloc);
     for _ in 0..u64::MAX {
-        if !lines.read_record()? {
+        if !records.read_record()? {
             break;
         }
-        push_record(alloc, lines.line(), lines.record(), &mut text)?;
+        push_record(alloc, records.line(), records.record(), &mut text)?;
     }
     Ok(text)
 }

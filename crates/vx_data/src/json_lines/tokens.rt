@@ -19,6 +19,18 @@ pub(crate) fn reader_of<'a>(
     }
 }
 
+/// Refuses a record that is no JSON.
+pub(crate) fn check_json(alloc: Global, record: &[u8], scratch: &mut Scratch) -> Result<(), Fault> {
+    let mut reader = reader_of(alloc, record, scratch)?;
+    match reader.skip_value(DEPTH) {
+        Ok(()) => end(alloc, &mut reader),
+        Err(_) => Err(no_json(alloc, &reader)),
+    }
+}
+
+// So many arrays and objects may be inside one another in a record that is checked.
+const DEPTH: usize = 200;
+
 /// Refuses what follows a whole value.
 pub(crate) fn end(alloc: Global, reader: &mut Reader<'_>) -> Result<(), Fault> {
     let at = reader.offset();

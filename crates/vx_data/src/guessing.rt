@@ -1,0 +1,23 @@
+// How types are guessed.
+
+/// How the type of records is guessed.
+#[derive(Clone, Copy, Debug)]
+pub struct Guessing<'a> {
+    /// How many records are looked at, at most.
+    pub records: u64,
+    /// The names of fields whose types are said, those of a field of a field with a dot between them. What stands in such
+    /// a field isn't looked at where that could be refused.
+    pub said: &'a [&'a str],
+    /// Whether a record is left out that would be refused.
+    pub skips: bool,
+}
+
+impl Default for Guessing<'_> {
+    fn default() -> Self {
+        Guessing {
+            records: 1_000,
+            said: &[],
+            skips: false,
+        }
+    }
+}
