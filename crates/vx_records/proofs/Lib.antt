@@ -8,3 +8,5 @@ mod Going
 mod Stopping
 mod Written
 mod Tallying
+mod Counting
+mod Selecting

@@ -16,7 +16,7 @@ pub gains_none : (held : Option (List Datum)) → Gains held held []
 gains_none None = tt
 gains_none (Some us) = sym (append-nil us)
 
-gains_trans : (a b c : Option (List Datum)) (us vs : List Datum) → Gains a b us → Gains b c vs → Gains a c (us ++ vs)
+pub gains_trans : (a b c : Option (List Datum)) (us vs : List Datum) → Gains a b us → Gains b c vs → Gains a c (us ++ vs)
 gains_trans None b c us vs p q = tt
 gains_trans (Some x) None c us vs p q = absurd p
 gains_trans (Some x) (Some y) None us vs p q = absurd q

@@ -10,9 +10,10 @@ use Rattle.vx_value.specs.declared.value.Value.{Value}
 use Rattle.vx_fn.specs.Values.{is_true}
 use Rattle.vx_tree.specs.Trees.{Tree}
 use Rattle.vx_records.specs.Reading.{Reads, ReadsUpTo}
-use Rattle.vx_records.specs.Records.{Record, record_of, texts, rows, meanings}
+use Rattle.vx_records.specs.Records.{Record, record_of, texts, rows, meanings, kept}
 use Rattle.vx_records.specs.declared.batches.RecordBatch.{RecordBatch}
 use Rattle.vx_records.specs.declared.read.Chunk.{Chunk}
+use Rattle.vx_records.specs.declared.kept.KeptBatch.{KeptBatch}
 use Rattle.vx_records.specs.declared.answers.Answers.{Answers}
 use Rattle.vx_data.specs.declared.error.DataError.{DataError}
 use Rattle.vx_places.specs.Faults.{IsFirstFault}
@@ -66,6 +67,19 @@ line_if_true v s = if is_true v then s ++ 10 ∷ [] else []
 abbrev pub true_lines : List (List ℕ) → List Datum → ℕ → List ℕ
 true_lines ts vs zero = []
 true_lines ts vs (suc n) = true_lines ts vs n ++ line_if_true (get_or vs n null) (get_or ts n [])
+
+-- the row, where the value is true
+abbrev pub row_if_true : Datum → Datum → List Datum
+row_if_true v u = if is_true v then u ∷ [] else []
+
+-- of the first n rows those beside which stands true
+abbrev pub true_rows : List Datum → List Datum → ℕ → List Datum
+true_rows us vs zero = []
+true_rows us vs (suc n) = true_rows us vs n ++ row_if_true (get_or vs n null) (get_or us n null)
+
+-- of the next records, n of them at most, the batch has the rows of those of which the expression is true
+abbrev pub IsKeptBatch : {R : Type 0} → (R → List Record → Type 0) → ℕ → Tree → LogicalType → R → R → KeptBatch → Type 0
+IsKeptBatch leaves n e s before after b = (rs : List Record) × AreNext leaves n before after b.stop rs × (b.rows.value ≡ batch s (rows (kept e s rs))) × (b.read ≡ length rs)
 
 -- each of the texts on a line
 abbrev pub each_line : List (List ℕ) → List ℕ
