@@ -115,17 +115,18 @@ fn explain<'a>(alloc: Global) -> Result<Command<'a>, AllocError> {
     let data = data(alloc).conflicts_with("stats")?;
     let sql = sql(alloc)?.conflicts_with("data")?.conflicts_with("stats")?;
     over_records(alloc, command, schema, data)?
-        .arg(statistics(alloc))?
+        .arg(statistics(alloc)?)?
         .arg(sql)?
         .arg(table(alloc)?)
 }
 
-fn statistics<'a>(alloc: Global) -> Arg<'a> {
+fn statistics<'a>(alloc: Global) -> Result<Arg<'a>, AllocError> {
     Arg::new(alloc, "stats")
         .long("stats")
         .value_name("FILE")
         .action(ArgAction::Set)
         .help("A file of statistics of chunks, or - for standard input")
+        .conflicts_with("skip-errors")
 }
 
 const EVALUATE: &str = "Example:
@@ -142,7 +143,7 @@ fn evaluate<'a>(alloc: Global) -> Result<Command<'a>, AllocError> {
     let command = Command::new(alloc, "eval")
         .about("Prints what the expression means at each record")
         .after_help(EVALUATE);
-    over_given_records(alloc, command)?.arg(output(alloc))
+    over_given_records(alloc, command)?.arg(output(alloc).default_value("json"))
 }
 
 // The command that keeps records.
@@ -150,7 +151,28 @@ fn filter<'a>(alloc: Global) -> Result<Command<'a>, AllocError> {
     let command = Command::new(alloc, "filter")
         .about("Prints the records of which the expression is true, as they stand")
         .after_help(FILTER);
-    over_given_records(alloc, command)?.arg(chunk(alloc))
+    let output = output(alloc).conflicts_with("count")?;
+    over_given_records(alloc, command)?
+        .arg(chunk(alloc)?)?
+        .arg(select(alloc)?)?
+        .arg(output)?
+        .arg(count(alloc))
+}
+
+fn select<'a>(alloc: Global) -> Result<Arg<'a>, AllocError> {
+    Arg::new(alloc, "select")
+        .long("select")
+        .value_name("EXPR")
+        .action(ArgAction::Set)
+        .help("Print what this expression means at each of these records, as in ${id, cents}")
+        .conflicts_with("count")
+}
+
+fn count<'a>(alloc: Global) -> Arg<'a> {
+    Arg::new(alloc, "count")
+        .long("count")
+        .action(ArgAction::SetTrue)
+        .help("Print how many records these are")
 }
 
 // The command with an expression, and with the words that say which records it goes over.
@@ -178,7 +200,35 @@ fn form<'a>(alloc: Global, command: Command<'a>) -> Result<Command<'a>, AllocErr
         .arg(delimiter(alloc))?
         .arg(no_header(alloc))?
         .arg(null(alloc))?
-        .arg(comment(alloc))
+        .arg(comment(alloc))?
+        .arg(guess(alloc)?)?
+        .arg(column_type(alloc)?)?
+        .arg(skip_errors(alloc))
+}
+
+fn skip_errors<'a>(alloc: Global) -> Arg<'a> {
+    Arg::new(alloc, "skip-errors")
+        .long("skip-errors")
+        .action(ArgAction::SetTrue)
+        .help("Leave out records that can't be read; how many is said on standard error")
+}
+
+fn guess<'a>(alloc: Global) -> Result<Arg<'a>, AllocError> {
+    Arg::new(alloc, "guess")
+        .long("guess")
+        .value_name("RECORDS")
+        .action(ArgAction::Set)
+        .help("The type is that of the first so many records, or of all; without it of 1000")
+        .conflicts_with("schema")
+}
+
+fn column_type<'a>(alloc: Global) -> Result<Arg<'a>, AllocError> {
+    Arg::new(alloc, "type")
+        .long("type")
+        .value_name("NAME=TYPE")
+        .action(ArgAction::Append)
+        .help("The type of that column, where the others are guessed; may be said of several")
+        .conflicts_with("schema")
 }
 
 fn data<'a>(alloc: Global) -> Arg<'a> {
@@ -242,7 +292,7 @@ fn limit<'a>(alloc: Global) -> Arg<'a> {
         .help("How many records are gone over at most")
 }
 
-fn chunk<'a>(alloc: Global) -> Arg<'a> {
+fn chunk<'a>(alloc: Global) -> Result<Arg<'a>, AllocError> {
     Arg::new(alloc, "chunk")
         .long("chunk")
         .value_name("COUNT")
@@ -251,6 +301,7 @@ fn chunk<'a>(alloc: Global) -> Arg<'a> {
         .help(
             "Go by chunks of so many records, and evaluate only those that their statistics leave open",
         )
+        .conflicts_with_all(&["count", "select", "output"])
 }
 
 fn output<'a>(alloc: Global) -> Arg<'a> {
@@ -259,7 +310,6 @@ fn output<'a>(alloc: Global) -> Arg<'a> {
         .value_name("FORM")
         .action(ArgAction::Set)
         .value_parser(OUTPUTS)
-        .default_value("json")
         .help("In what form the rows are printed")
 }
 

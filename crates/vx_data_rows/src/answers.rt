@@ -181,7 +181,7 @@ fn written(
     };
     let file = match (twice, format) {
         (false, _) => format.write(alloc, &column),
-        (true, Format::Json) => json_twice(alloc, &column),
+        (true, Format::Json(_)) => json_twice(alloc, &column),
         (true, Format::Csv(_)) => csv_twice(alloc, &column),
     };
     file_text(alloc, file)
