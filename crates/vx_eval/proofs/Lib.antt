@@ -1,17 +1,17 @@
-mod Filled
+pub mod Filled
 mod PackedItems
-mod Kleene
-mod Transposed
-mod Fitting
-mod Meanings
-mod Structs
-mod Lengths
-mod FirstRows
-mod Likes
+pub mod Kleene
+pub mod Transposed
+pub mod Fitting
+pub mod Meanings
+pub mod Structs
+pub mod Lengths
+pub mod FirstRows
+pub mod Likes
 mod Matched
 mod Trues
 mod Conjoined
-mod Masked
+pub mod Masked
 mod Branches
 mod Cuts
 mod Leaves

@@ -32,7 +32,7 @@ value_of-Struct v = search (rules, the_lemmas)
 pub value_of-Null : value_of Null ≡ null
 value_of-Null = search (rules, the_lemmas)
 
-datum_at-data : (ds : List Datum) (i : ℕ) → datum_at i (data_of ds) ≡ get_or ds i null
+pub datum_at-data : (ds : List Datum) (i : ℕ) → datum_at i (data_of ds) ≡ get_or ds i null
 datum_at-data [] i = refl
 datum_at-data (d ∷ ds) zero = refl
 datum_at-data (d ∷ ds) (suc i) = datum_at-data ds i

@@ -48,8 +48,8 @@ pub fn get_item<'a>(
     }
 }
 
-// Where the values of the first field of that name stand in the structs of the type.
-fn place_of(name: &FieldName, dtype: &DType) -> usize
+/// Where the values of the first field of that name stand in the structs of the type.
+pub fn place_of(name: &FieldName, dtype: &DType) -> usize
     requires { IsOk (item_type name.now (type_of dtype.now)) }
     ensures { (v : Datum) → item_value name.now (type_of dtype.now ∷ []) v ≡ item_at result v }
 {

@@ -27,6 +27,9 @@ mod trees;
 mod truths;
 
 pub use evaluation::apply_bound;
+pub use fields::place_of;
 pub use matching::first_match;
 pub use merges::{merge_compact, merge_runs};
+pub use nodes::apply as apply_function;
+pub use rows::Rows;
 pub use vx_eval_masks::{RowMask, prefer_runs};
