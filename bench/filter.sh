@@ -1,10 +1,11 @@
 #!/bin/sh
 # Times `vx filter` over a CSV file of orders beside sqlite3, which reads the same file into a table in
-# memory and selects from it, and prints a line of a table for each filter: how many records it keeps,
-# and for both programs the processor seconds, the median of 5 runs in turns, and the megabytes at the
-# peak. Stops where the two don't keep the same records. docs/develop/BENCHMARKS.md has what was measured.
+# memory and selects from it, and beside Miller's `mlr filter`. Prints a line of a table for each filter:
+# how many records it keeps, and for each program the processor seconds, the median of 5 runs in turns,
+# and the megabytes at the peak. Stops where they don't keep the same records. A program that isn't
+# installed is left out. docs/develop/BENCHMARKS.md has what was measured.
 #
-# usage: bench/filter.sh [PROGRAM [RECORDS]], or bench/filter.sh sqlite3 [RECORDS] for that side alone
+# usage: bench/filter.sh [PROGRAM [RECORDS]], or bench/filter.sh others [RECORDS] for the others alone
 set -eu
 cd "$(dirname "$0")/.."
 program=${1:-crates/vx/out/vx}
@@ -13,10 +14,10 @@ room=$(mktemp -d)
 trap 'rm -r "$room"' EXIT
 tools/records.sh "$records" >"$room/orders.csv"
 cp runs/data/orders.schema "$room"
-[ "$program" = sqlite3 ] || ln -s "$(realpath "$program")" "$room/vx"
+[ "$program" = others ] || ln -s "$(realpath "$program")" "$room/vx"
 cd "$room"
 python3 - <<'PYTHON'
-import hashlib, os, statistics, subprocess, sys
+import hashlib, os, shutil, statistics, subprocess, sys
 
 READINGS = 5
 IMPORT = """
@@ -26,11 +27,16 @@ create table orders (id integer, placed text, customer text, item text, quantity
 pragma case_sensitive_like = on;
 .mode csv
 """
-# The filters, for `vx` and for SQLite, which imports an empty cell as a text without a character.
+# The filters, for `vx`, for SQLite, which imports an empty cell as a text without a character, and for
+# Miller, which takes such a cell for no value.
 FILTERS = [
-    ('item = "Egg timer" and rating <= 1 and quantity = 12', "item = 'Egg timer' and rating <= 1 and quantity = 12"),
-    ("quantity <= 6", "quantity <= 6"),
-    ('note like "%smoke%"', "note like '%smoke%'"),
+    (
+        'item = "Egg timer" and rating <= 1 and quantity = 12',
+        "item = 'Egg timer' and rating <= 1 and quantity = 12",
+        '$item == "Egg timer" && is_not_empty($rating) && $rating <= 1 && $quantity == 12',
+    ),
+    ("quantity <= 6", "quantity <= 6", "$quantity <= 6"),
+    ('note like "%smoke%"', "note like '%smoke%'", '$note =~ "smoke"'),
 ]
 
 
@@ -61,34 +67,33 @@ def written():
     return count, digest.hexdigest()
 
 
-def filtered(text):
-    return measured(["./vx", "filter", text, "--data", "orders.csv", "--schema", "@orders.schema"])
+def filtered(filters):
+    return measured(["./vx", "filter", filters[0], "--data", "orders.csv", "--schema", "@orders.schema"])
 
 
-def selected(condition):
-    return measured(["sqlite3", ":memory:"], f"{IMPORT}select * from orders where {condition};\n")
+def selected(filters):
+    return measured(["sqlite3", ":memory:"], f"{IMPORT}select * from orders where {filters[1]};\n")
 
 
-def cells(readings):
-    """The median of the seconds, and the highest peak."""
-    seconds, peaks, _ = zip(*readings)
-    return statistics.median(seconds), max(peaks)
+def by_miller(filters):
+    return measured(["mlr", "--icsv", "--ocsv", "filter", filters[2], "orders.csv"])
 
 
-print("| Filter | Kept | vx (s) | SQLite (s) | Ratio | vx peak (MB) | SQLite peak (MB) |\n|---|---:|---:|---:|---:|---:|---:|")
-for text, condition in FILTERS:
-    theirs, ours = [], []
+PROGRAMS = [("vx", "./vx", filtered), ("SQLite", "sqlite3", selected), ("Miller", "mlr", by_miller)]
+there = [(name, run) for name, file, run in PROGRAMS if shutil.which(file)]
+columns = [f"{name} (s) | {name} peak (MB)" for name, _ in there]
+print("| Filter | Kept |", " | ".join(columns), "|\n|---|---:|" + "---:|" * 2 * len(there))
+for filters in FILTERS:
+    readings = {name: [] for name, _ in there}
     for _ in range(READINGS):
-        theirs.append(selected(condition))
-        if os.path.exists("vx"):
-            ours.append(filtered(text))
-    kept = theirs[0][2]
-    if any(orders != kept for _, _, orders in theirs + ours):
-        sys.exit(f"{text}: the two keep other records")
-    seconds, peak = cells(theirs)
-    if ours:
-        our_seconds, our_peak = cells(ours)
-        print(f"| `{text}` | {kept[0]} | {our_seconds:.2f} | {seconds:.2f} | {our_seconds / seconds:.2f} | {our_peak:.0f} | {peak:.0f} |", flush=True)
-    else:
-        print(f"| `{text}` | {kept[0]} | | {seconds:.2f} | | | {peak:.0f} |", flush=True)
+        for name, run in there:
+            readings[name].append(run(filters))
+    kept = {orders for of in readings.values() for _, _, orders in of}
+    if len(kept) != 1:
+        sys.exit(f"{filters[0]}: they keep other records: " + ", ".join(f"{name} {of[0][2][0]}" for name, of in readings.items()))
+    cells = []
+    for of in readings.values():
+        seconds, peaks, _ = zip(*of)
+        cells += [f"{statistics.median(seconds):.2f}", f"{max(peaks):.0f}"]
+    print(f"| `{filters[0]}` | {kept.pop()[0]} |", " | ".join(cells), "|", flush=True)
 PYTHON
