@@ -10,6 +10,9 @@ pub struct Guessing<'a> {
     pub said: &'a [&'a str],
     /// Whether a record is left out that would be refused.
     pub skips: bool,
+    /// Whether each name with dots in a header leads to a field of a field. A name that is both a cell and the way to others
+    /// is refused then.
+    pub nested: bool,
 }
 
 impl Default for Guessing<'_> {
@@ -18,6 +21,7 @@ impl Default for Guessing<'_> {
             records: 1_000,
             said: &[],
             skips: false,
+            nested: false,
         }
     }
 }

@@ -9,6 +9,7 @@ mod expected;
 mod fault;
 mod guessing;
 mod json_lines;
+mod other_fields;
 mod recorded;
 mod wholes;
 
@@ -25,4 +26,5 @@ pub use json_lines::{
     JsonFile, JsonFormat, JsonLines, JsonParser, infer_json_type, infer_json_type_by,
     rows_from_json, rows_from_json_lines, write_json_lines,
 };
+pub use other_fields::OtherFields;
 pub use recorded::Recorded;

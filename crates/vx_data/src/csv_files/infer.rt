@@ -18,8 +18,9 @@ use std::str;
 use vx_types::{DType, FieldName, FieldNames, Nullability, StructFields, VortexResult};
 
 /// The narrowest type of the first 1,000 records behind the header, fewer where there are no more: a struct of its names in
-/// their order, in which a name with dots leads to a field of a field, unless some name is both a cell and the way to others:
-/// then each is a field of that name. A cell that is always `true` or `false` is
+/// their order, in which a name with dots leads to a field of a field, if in all such names the dots stand between words of
+/// letters, digits and `_`, of which the first doesn't begin with a digit, and no name is both a cell and the way to others;
+/// else each is a field of that name. A cell that is always `true` or `false` is
 /// `bool`; one that is always a whole number as it is written, `i64`, or `u64` where one is above the range of `i64`; any
 /// other `utf8`, also one that has no text at all. It is nullable where some record lacks it or has an empty one; no struct
 /// is. Refuses a file without a header, a name that stands there twice, a cell that is no text in UTF-8, a record of more cells than the header, each with its line; with the reader's error; and with
@@ -47,7 +48,7 @@ pub fn infer_csv_type_by<R: Read + Drop>(
 ) -> Result<DType, DataError> {
     let mut records = CsvRecords::with_format(alloc, reader, format);
     records.read_first()?;
-    let (branches, mut guesses) = match fields_of(alloc, records.cells(), format.has_header) {
+    let (branches, mut guesses) = match fields_of(alloc, records.cells(), format, guessing.nested) {
         Ok(fields) => fields,
         Err(fault) => return Err(fault.on_line(alloc, records.line())),
     };
@@ -92,13 +93,14 @@ struct NamedGuess {
 fn fields_of(
     alloc: Global,
     first: &ByteRecord,
-    has_header: bool,
+    format: CsvFormat<'_>,
+    nested: bool,
 ) -> Result<(Vec<Branch>, Vec<NamedGuess>), Fault> {
-    let names = listed(alloc, cell_names(alloc, first, has_header)?)?;
+    let names = listed(alloc, cell_names(alloc, first, format.has_header)?)?;
     if let Some(name) = first_repeated(&names) {
         return Err(fault_at(alloc, Expected::Once, name.as_str()));
     }
-    let branches = branches_of(alloc, names.as_slice())?;
+    let branches = branches_of(alloc, names.as_slice(), nested)?;
     let mut guesses = Vec::with_capacity(alloc, names.len())?;
     for name in names.iter() {
         let guess = CellGuess::new();

@@ -4,7 +4,7 @@ ghost use Rattle.std.specs.Prelude.{◌<◌, ◌≤◌, OnOk, length};
 use crate::expected::Expected;
 use crate::fault::Fault;
 use crate::json_lines::guess::{FieldGuesses, Guess};
-use crate::json_lines::tokens::{end, next_name, no_json, reader_of};
+use crate::json_lines::tokens::{end, next_name, no_json, reader_of, skip};
 use json::{Reader, Scratch, Token};
 use std::alloc::{AllocError, Global};
 
@@ -129,16 +129,6 @@ fn see_field(
     match see_value(inside, reader, &mut field.guess) {
         Ok(()) => Ok(()),
         Err(fault) => Err(fault.within(&field.name)),
-    }
-}
-
-// Passes over a value.
-fn skip(alloc: Global, room: usize, reader: &mut Reader<'_>) -> Result<(), Fault>
-    ensures { OnOk result (length reader.new ≤ length reader.old) }
-{
-    match reader.skip_value(room) {
-        Ok(()) => Ok(()),
-        Err(_) => Err(no_json(alloc, reader)),
     }
 }
 

@@ -5,9 +5,10 @@ use crate::cells::{bytes_of, text_of, whole_of};
 use crate::error::DataError;
 use crate::expected::Expected;
 use crate::fault::Fault;
-use crate::json_lines::draft::{Draft, place_of};
+use crate::json_lines::draft::{Draft, named, place_of};
 use crate::json_lines::format::JsonFormat;
-use crate::json_lines::tokens::{end, next_name, no_json, reader_of};
+use crate::json_lines::tokens::{DEPTH, end, next_name, no_json, reader_of, skip};
+use crate::other_fields::OtherFields;
 use json::{Reader, Scratch, Token};
 use std::alloc::Global;
 use vx_types::{DType, StructFields, Value};
@@ -25,6 +26,7 @@ struct Reading {
     alloc: Global,
     // Whether a number is its text where a text is expected.
     number_texts: bool,
+    others: OtherFields,
 }
 
 impl JsonParser {
@@ -36,9 +38,15 @@ impl JsonParser {
     /// The same of records of that format: where it says so, a number is its text, as it is written, where a text is
     /// expected.
     pub fn with_format(alloc: Global, format: JsonFormat) -> JsonParser {
+        JsonParser::with_others(alloc, format, OtherFields::Refused)
+    }
+
+    /// The same, where that becomes of fields whose names are none of the type.
+    pub fn with_others(alloc: Global, format: JsonFormat, others: OtherFields) -> JsonParser {
         let reading = Reading {
             alloc,
             number_texts: format.number_texts,
+            others,
         };
         JsonParser {
             reading,
@@ -186,11 +194,28 @@ fn read_fields(
     let mut draft = Draft::new(alloc, fields.nfields())?;
     let mut next = 0;
     'fields: while let Some(name) = next_name(alloc, reader)? {
-        let i = place_of(alloc, fields.names(), name, next)?;
-        read_field(reading, fields, i, &mut draft, reader)?;
-        next = i.saturating_add(1);
+        match place_of(alloc, fields.names(), name, next)? {
+            Some(i) => {
+                read_field(reading, fields, i, &mut draft, reader)?;
+                next = i.saturating_add(1);
+            }
+            None => read_other(reading, name, reader)?,
+        }
     }
     draft.finish(alloc, fields)
+}
+
+// Passes over the value of a field of that name, which the type doesn't have, if that may be.
+fn read_other(reading: Reading, name: &str, reader: &mut Reader<'_>) -> Result<(), Fault>
+    ensures { OnOk result (length reader.new ≤ length reader.old) }
+{
+    let alloc = reading.alloc;
+    match reading.others {
+        OtherFields::Refused => Err(Fault::new(alloc, Expected::Field).within(&named(
+            alloc, name,
+        )?)),
+        OtherFields::PassedOver => skip(alloc, DEPTH, reader),
+    }
 }
 
 // The value of the field of that index.

@@ -1,5 +1,5 @@
 // The tokens of a record.
-ghost use Rattle.std.specs.Prelude.{◌<◌, ◌≤◌, IfOk, IfSome, length};
+ghost use Rattle.std.specs.Prelude.{◌<◌, ◌≤◌, IfOk, IfSome, OnOk, length};
 
 use crate::expected::Expected;
 use crate::fault::Fault;
@@ -28,8 +28,18 @@ pub(crate) fn check_json(alloc: Global, record: &[u8], scratch: &mut Scratch) ->
     }
 }
 
-// So many arrays and objects may be inside one another in a record that is checked.
-const DEPTH: usize = 200;
+/// So many arrays and objects may be inside one another in what is checked or passed over.
+pub(crate) const DEPTH: usize = 200;
+
+/// Passes over a value, in which so many arrays and objects may be inside one another.
+pub(crate) fn skip(alloc: Global, room: usize, reader: &mut Reader<'_>) -> Result<(), Fault>
+    ensures { OnOk result (length reader.new ≤ length reader.old) }
+{
+    match reader.skip_value(room) {
+        Ok(()) => Ok(()),
+        Err(_) => Err(no_json(alloc, reader)),
+    }
+}
 
 /// Refuses what follows a whole value.
 pub(crate) fn end(alloc: Global, reader: &mut Reader<'_>) -> Result<(), Fault> {
