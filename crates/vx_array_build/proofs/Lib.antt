@@ -1,0 +1,5 @@
+pub mod Made
+pub mod Cutting
+pub mod Joined
+pub mod Sizes
+pub mod Typed
