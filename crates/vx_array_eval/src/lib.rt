@@ -1,0 +1,9 @@
+// Evaluation over columns in typed buffers.
+#![tactic(auto)]
+
+mod by_rows;
+mod evaluation;
+mod nodes;
+mod trees;
+
+pub use evaluation::apply_array;

@@ -1,0 +1,114 @@
+// Columns of truth values in bits, which functions write over.
+ghost use Rattle.std.specs.Prelude.{◌≡◌, ◌≤◌, ◌<◌, ℕ, IfOk, false, get_or, length, map, not, take};
+ghost use Rattle.vx_value.specs.Types.{bool};
+ghost use Rattle.vx_fn.specs.Values.{kleene_and, kleene_or};
+ghost use Rattle.vx_array.specs.Rows.{lanes_rows};
+ghost use Rattle.vx_array.specs.Shown.{HasRows, is_valid, shown};
+ghost use Rattle.vx_array_kernels.specs.Truths.{both_rows};
+
+use std::alloc::{AllocError, Global};
+use std::marker::Model;
+use vx_array::{BitPart, Lanes, Validity};
+use vx_array_loops::Bits;
+
+/// Truth values, and as many that say which of them are valid. Contracts see them as the rows.
+#[derive(Drop)]
+pub struct Truths {
+    valid: Bits,
+    bits: Bits,
+}
+
+impl Model for Truths {
+    ghost use Rattle.std.specs.Prelude.{◌≡◌, List, length};
+    ghost use Rattle.std.specs.Coded.{coded_list};
+    ghost use Rattle.vx_value.specs.Codes.{datum_code};
+    ghost use Rattle.vx_value.specs.Types.{Datum};
+    ghost use Rattle.vx_array_kernels.specs.Truths.{truth_rows};
+
+    ghost Value = { List Datum };
+
+    ghost coded = { coded_list datum_code };
+
+    ghost view = { λ t. truth_rows (length t.bits) t.valid t.bits };
+
+    ghost invariant = { λ t. length t.valid ≡ length t.bits };
+}
+
+impl Truths {
+    /// The first so many rows of truth values, where they are valid. Asks just so many rows.
+    pub fn of(
+        alloc: Global,
+        count: usize,
+        bits: &BitPart,
+        validity: &Validity,
+    ) -> Result<Truths, AllocError>
+        requires { length (shown validity.now (map bool bits.now)) ≡ count }
+        ensures { IfOk result (λ t. t ≡ shown validity.now (map bool bits.now)) }
+    {
+        Ok(Truths {
+            valid: valid_rows(alloc, count, validity)?,
+            bits: first_rows(alloc, count, bits)?,
+        })
+    }
+
+    /// Makes of each the And with the one beside it. Asks as many.
+    pub fn and_with(&mut self, other: &Truths)
+        requires { length other.now ≡ length self.old }
+        ensures { self.new ≡ both_rows (length self.old) kleene_and self.old other.now }
+    {
+        self.valid
+            .and_validity(&self.bits, &other.valid, &other.bits);
+        self.bits.and_with(&other.bits);
+    }
+
+    /// Makes of each the Or with the one beside it. Asks as many.
+    pub fn or_with(&mut self, other: &Truths)
+        requires { length other.now ≡ length self.old }
+        ensures { self.new ≡ both_rows (length self.old) kleene_or self.old other.now }
+    {
+        self.valid
+            .or_validity(&self.bits, &other.valid, &other.bits);
+        self.bits.or_with(&other.bits);
+    }
+
+    /// The rows as lanes.
+    pub fn into_lanes(self, alloc: Global) -> Result<Lanes, AllocError>
+        ensures { IfOk result (λ out. lanes_rows out ≡ self) }
+    {
+        let valid = BitPart::new(alloc, self.valid)?;
+        Ok(Lanes::Bools(BitPart::new(alloc, self.bits)?, Validity::Rows(valid)))
+    }
+}
+
+/// The first so many bits. Asks rows that are there.
+pub fn first_rows(alloc: Global, count: usize, part: &BitPart) -> Result<Bits, AllocError>
+    requires { count ≤ length part.now }
+    ensures { IfOk result (λ b. b ≡ take count part.now) }
+{
+    match part.whole() {
+        Some(bits) if bits.len() == count => bits.clone(),
+        _ => part.slice(0, count)?.to_bits(alloc),
+    }
+}
+
+/// Which of the first so many rows are valid. Asks rows that are there.
+pub fn valid_rows(alloc: Global, count: usize, validity: &Validity) -> Result<Bits, AllocError>
+    requires { HasRows validity.now count }
+    ensures long { IfOk result (λ b. length b ≡ count) }
+    ensures each { IfOk result (λ b. (k : ℕ) → k < count → get_or b k false ≡ is_valid validity.now k) }
+{
+    match validity {
+        Validity::All => Bits::tabulated(alloc, count, |_| true),
+        Validity::Nothing => Bits::zeros(alloc, count),
+        Validity::Rows(rows) => first_rows(alloc, count, rows),
+    }
+}
+
+/// The bits turned round.
+pub fn turned(alloc: Global, bits: &Bits) -> Result<Bits, AllocError>
+    ensures { IfOk result (λ b. b ≡ map not bits.now) }
+{
+    let mut others = Bits::zeros(alloc, bits.len())?;
+    others.or_not_with(bits);
+    Ok(others)
+}
