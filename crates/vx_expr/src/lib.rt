@@ -2,6 +2,7 @@
 #![tactic(auto)]
 
 pub mod analysis;
+pub mod arrays;
 pub mod bound;
 pub mod display;
 pub mod dtype;

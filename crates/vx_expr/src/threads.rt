@@ -1,5 +1,6 @@
 //! What may cross threads.
 
+use vx_array::Array;
 use vx_dtype::laws::assert_send_sync;
 use vx_scan::ScanPlan;
 use vx_tree::{BoundExpression, Expression};
@@ -13,4 +14,9 @@ pub fn expressions_are_send_and_sync(tree: &Expression, bound: &BoundExpression)
 /// So may plans of scans: this compiles.
 pub fn plans_are_send_and_sync(plan: &ScanPlan) {
     assert_send_sync(plan);
+}
+
+/// So may arrays: this compiles.
+pub fn arrays_are_send_and_sync(array: &Array) {
+    assert_send_sync(array);
 }
