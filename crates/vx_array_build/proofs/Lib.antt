@@ -1,5 +1,4 @@
 pub mod Made
 pub mod Cutting
 pub mod Joined
-pub mod Sizes
 pub mod Typed
