@@ -1,5 +1,5 @@
 -- Lanes of trees' values, and the rows of their children's values.
-use Rattle.std.proofs.Common.{◌≡◌, ℕ, ◌+◌, ◌<◌, List, [], ◌∷◌, ◌++◌, append_assoc, drop, map, length, get_or, refl, sym, ap, subst, ◌∙◌, arith, Option, Some, None, Result, Ok, Err, suc, IsOk, Vec}
+use Rattle.std.proofs.Common.{◌≡◌, ℕ, ◌+◌, ◌<◌, List, [], ◌∷◌, ◌++◌, append_assoc, drop, map, length, get_or, refl, sym, ap, subst, ◌∙◌, arith, Option, Some, None, Result, Ok, Err, suc, Vec}
 use Rattle.std.specs.Option.{option_or}
 use Rattle.std.proofs.lemmas.List.{map-append, length-map, get_or-map, ext_get_or, map-id}
 use Rattle.std.proofs.lemmas.List.FromFn.{length-map-range_with_len, get_or-map-range_with_len}
@@ -19,7 +19,7 @@ use Rattle.vx_tree.specs.declared.bound.BoundExpression.{BoundExpression, Scalar
 use Rattle.vx_tree.proofs.Held.{bound_of-Root, bound_of-Scalar}
 use Rattle.vx_tree.specs.Faults.{first_fault, each_fault}
 use Rattle.vx_tree.specs.Meaning.{value, values}
-use Rattle.vx_tree.specs.Trees.{EachWellTyped, BoundTree, scope, node, BoundTrees, no_bound, bound, node_type, node_types}
+use Rattle.vx_tree.specs.Trees.{EachWellTyped, BoundTree, scope, node, BoundTrees, no_bound, bound, node_types}
 use Rattle.vx_tree.specs.Views.{bound_of, bounds_of}
 use Rattle.vx_array.specs.declared.lanes.Lanes.{Lanes}
 use Rattle.vx_array.specs.Rows.{lanes_rows, lanes_each}

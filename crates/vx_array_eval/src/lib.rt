@@ -4,6 +4,7 @@
 mod by_rows;
 mod evaluation;
 mod nodes;
+mod structs;
 mod trees;
 
 pub use evaluation::apply_array;
