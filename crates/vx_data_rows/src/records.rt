@@ -44,7 +44,7 @@ impl Records for CsvRecords<&[u8]> {
 }
 
 /// Each record behind its line, as `1: 7 / 3: 8`; of a CSV file the header first.
-pub fn records<R: Records + Drop>(alloc: Global, mut records: R) -> Result<String, DataError> {
+pub fn records_text<R: Records + Drop>(alloc: Global, mut records: R) -> Result<String, DataError> {
     let mut text = String::new(alloc);
     for _ in 0..u64::MAX {
         if !records.read_record()? {
