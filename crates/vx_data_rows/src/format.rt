@@ -102,26 +102,25 @@ impl<'a> Format<'a> {
     /// What becomes of the rows where they are written and read again.
     pub fn write_and_read(self, alloc: Global, column: &Column) -> Again {
         match self.write(alloc, column) {
-            Ok(file) => self.read_again(alloc, column, file.as_slice()),
-            Err(refusal) => match &refusal {
-                WriteError::Unwritable { .. } => Again::Refused,
-                WriteError::OutOfMemory | WriteError::Write(_) => Again::Other,
-            },
+            Ok(file) => {
+                let rows = self
+                    .of_written()
+                    .read(alloc, column.dtype(), file.as_slice());
+                Again::of_rows(rows, column)
+            }
+            Err(refusal) => {
+                let again = Again::of_refusal(&refusal);
+                drop(refusal);
+                again
+            }
         }
     }
 
-    fn read_again(self, alloc: Global, column: &Column, file: &[u8]) -> Again {
-        let written = match self {
+    // The format in which files are written.
+    fn of_written(self) -> Format<'static> {
+        match self {
             Format::Json(_) => JSON_LINES,
             Format::Csv(_) => Format::Csv(CsvFormat::default()),
-        };
-        let Ok(again) = written.read(alloc, column.dtype(), file) else {
-            return Again::Other;
-        };
-        if again == *column {
-            Again::Same
-        } else {
-            Again::Other
         }
     }
 }
@@ -188,4 +187,22 @@ pub enum Again {
     Refused,
     /// Anything else.
     Other,
+}
+
+impl Again {
+    // What became of rows, by what is read of them.
+    fn of_rows<T: PartialEq + Drop, E: Drop>(read: Result<T, E>, rows: &T) -> Again {
+        match read {
+            Ok(read) if read == *rows => Again::Same,
+            Ok(_) | Err(_) => Again::Other,
+        }
+    }
+
+    // What became of rows that aren't written.
+    fn of_refusal(refusal: &WriteError) -> Again {
+        match refusal {
+            WriteError::Unwritable { .. } => Again::Refused,
+            WriteError::OutOfMemory | WriteError::Write(_) => Again::Other,
+        }
+    }
 }

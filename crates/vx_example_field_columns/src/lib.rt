@@ -1,7 +1,7 @@
 // A reader of one's own, as an example: rows kept as columns, one for each field.
 #![tactic(auto)]
 
-ghost use Rattle.std.specs.Prelude.{◌≡◌, IsErrOf, Ok, IfOk, false, length, map, true};
+ghost use Rattle.std.specs.Prelude.{◌≡◌, IsErrOf, Ok, IfErr, IfOk, false, length, map, true};
 ghost use Rattle.std.specs.Coded.{Coded-set};
 ghost use Rattle.vx_value.specs.Returns.{ReturnsOrOom};
 ghost use Rattle.vx_value.specs.Codes.{type_code};
@@ -9,7 +9,7 @@ ghost use Rattle.vx_value.specs.Fits.{IsBatch};
 ghost use Rattle.vx_value.specs.Paths.{minimal_paths, path_of};
 ghost use Rattle.vx_value.specs.StructColumns.{EachFit, all_long, struct_column, struct_type, types_in};
 ghost use Rattle.vx_value.specs.Views.{type_of};
-ghost use Rattle.vx_dtype.specs.declared.error.VortexError.TheVariants.{LengthMismatch};
+ghost use Rattle.vx_dtype.specs.declared.error.VortexError.TheVariants.{LengthMismatch, OutOfMemory};
 ghost use Rattle.vx_example_field_columns.specs.FieldColumns.{is_asked, joined, reaches, read_column, read_columns};
 
 use std::alloc::{AllocError, Global};
@@ -59,9 +59,7 @@ impl FieldColumns {
         if !all_long(columns.as_slice(), rows) {
             return Err(VortexError::LengthMismatch);
         }
-        let types = types_in(alloc, columns.as_slice())?;
-        let fields = StructFields::new(alloc, names.clone()?, types)?;
-        let dtype = DType::Struct(fields, Nullability::NonNullable);
+        let dtype = rows_type(alloc, &names, columns.as_slice())?;
         Ok(FieldColumns {
             dtype,
             names,
@@ -77,6 +75,18 @@ fn all_long(columns: &[Column], rows: usize) -> bool
     ensures { result ≡ all_long rows columns.now }
 {
     columns.iter().all(|column| column.len() == rows)
+}
+
+// The type of rows of those fields. Asks one name a column.
+fn rows_type(alloc: Global, names: &FieldNames, columns: &[Column]) -> VortexResult<DType>
+    requires { length names.now ≡ length columns.now }
+    ensures typed { IfOk result (λ t. type_of t ≡ struct_type names.now columns.now false) }
+    ensures fit { IfOk result (λ t. EachFit columns.now) }
+    ensures memory { IfErr result (λ e. e ≡ OutOfMemory) }
+{
+    let types = types_in(alloc, columns)?;
+    let fields = StructFields::new(alloc, names.clone()?, types)?;
+    Ok(DType::Struct(fields, Nullability::NonNullable))
 }
 
 // The types of the columns.

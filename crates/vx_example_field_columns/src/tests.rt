@@ -9,24 +9,24 @@ use vx_types::{
 };
 
 fn numbers(alloc: Global, first: i128, second: i128) -> VortexResult<Column> {
-    let dtype = DType::Primitive(PType::I32, Nullability::NonNullable);
     let rows = vec![in alloc; Value::Int(first), Value::Int(second)]?;
+    let dtype = DType::Primitive(PType::I32, Nullability::NonNullable);
     Column::try_new(dtype, rows)
 }
 
 fn field_a(alloc: Global) -> VortexResult<FieldPathSet> {
-    let mut paths = FieldPathSet::new(alloc);
     let path = FieldPath::from_name(alloc, FieldName::new(alloc, "a")?)?;
-    paths.extend(vec![in alloc; path]?)?;
+    let asked = vec![in alloc; path]?;
+    let mut paths = FieldPathSet::new(alloc);
+    paths.extend(asked)?;
     Ok(paths)
 }
 
 // Rows of `{a=i32, b=i32}`, of which only `a` may be read.
 fn reader(alloc: Global) -> VortexResult<FieldColumns> {
-    let a = FieldName::new(alloc, "a")?;
-    let b = FieldName::new(alloc, "b")?;
-    let names = FieldNames::new(alloc, vec![in alloc; a, b]?)?;
     let columns = vec![in alloc; numbers(alloc, 1, 2)?, numbers(alloc, 3, 4)?]?;
+    let names = vec![in alloc; FieldName::new(alloc, "a")?, FieldName::new(alloc, "b")?]?;
+    let names = FieldNames::new(alloc, names)?;
     FieldColumns::try_new(alloc, names, columns, 2, field_a(alloc)?)
 }
 

@@ -46,16 +46,16 @@ same_lines view b u c d r tree rows says =
     subst (λ t. ReturnsOrOom view r (Ok (lines (unbound t) d (node_type t)))) tree (subst (λ k. ReturnsOrOom view r (Ok (lines (unbound b) k (node_type b)))) rows says)
 
 -- the lines of the tree of `fused` are its page
-pub fused_shown : {A : Type 0} (view : A → List ℕ) (b : BoundTree) (c : Batch) (r : Result A VortexError) → ReturnsOrOom (λ x. x) (Ok c) (Ok kleene.batch) → binding fused.source fused.batch.type ≡ Ok b
+pub fused_shown : {A : Type 0} (view : A → List ℕ) (b : BoundTree) (c : Batch) (r : Result A VortexError) → c ≡ kleene.batch → binding fused.source fused.batch.type ≡ Ok b
     → ReturnsOrOom view r (Ok (lines (unbound b) c (node_type b))) → ReturnsOrOom view r (Ok (page_of Fused))
-fused_shown view b c r given is says = let found : b ≡ range = cc in same_lines view b range c kleene.batch r found (same_batch c kleene.batch given) says
+fused_shown view b c r rows is says = let found : b ≡ range = cc in same_lines view b range c kleene.batch r found rows says
 
 -- and those of the tree of `branches` its page
-pub branches_shown : {A : Type 0} (view : A → List ℕ) (b : BoundTree) (c : Batch) (r : Result A VortexError) → ReturnsOrOom (λ x. x) (Ok c) (Ok coalesce.batch) → binding branches.source branches.batch.type ≡ Ok b
+pub branches_shown : {A : Type 0} (view : A → List ℕ) (b : BoundTree) (c : Batch) (r : Result A VortexError) → c ≡ coalesce.batch → binding branches.source branches.batch.type ≡ Ok b
     → ReturnsOrOom view r (Ok (lines (unbound b) c (node_type b))) → ReturnsOrOom view r (Ok (page_of Branches))
-branches_shown view b c r given is says = let found : b ≡ filled = cc in same_lines view b filled c coalesce.batch r found (same_batch c coalesce.batch given) says
+branches_shown view b c r rows is says = let found : b ≡ filled = cc in same_lines view b filled c coalesce.batch r found rows says
 
 -- and those of the tree of `scan` its page
-pub scan_shown : {A : Type 0} (view : A → List ℕ) (b : BoundTree) (c : Batch) (r : Result A VortexError) → ReturnsOrOom (λ x. x) (Ok c) (Ok scan.batch) → binding scan.source scan.batch.type ≡ Ok b
+pub scan_shown : {A : Type 0} (view : A → List ℕ) (b : BoundTree) (c : Batch) (r : Result A VortexError) → c ≡ scan.batch → binding scan.source scan.batch.type ≡ Ok b
     → ReturnsOrOom view r (Ok (lines (unbound b) c (node_type b))) → ReturnsOrOom view r (Ok (page_of Scan))
-scan_shown view b c r given is says = let found : b ≡ both = sym (bound_both b is) in same_lines view b both c scan.batch r found (same_batch c scan.batch given) says
+scan_shown view b c r rows is says = let found : b ≡ both = sym (bound_both b is) in same_lines view b both c scan.batch r found rows says

@@ -18,8 +18,8 @@ use vx_types::{
 pub fn with_x(alloc: Global, dtype: DType) -> VortexResult<DType>
     ensures { ReturnsOrOom type_of result (Ok (with_x (type_of dtype))) }
 {
-    let names = vec![in alloc; FieldName::new(alloc, "x")?]?;
     let types = vec![in alloc; dtype]?;
+    let names = vec![in alloc; FieldName::new(alloc, "x")?]?;
     let fields = StructFields::new(alloc, FieldNames::new(alloc, names)?, types)?;
     Ok(DType::Struct(fields, Nullability::NonNullable))
 }

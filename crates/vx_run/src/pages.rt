@@ -33,16 +33,16 @@ pub fn page(alloc: Global, row: Row) -> VortexResult<String>
 {
     match row {
         Row::Kleene => {
-            let batch = kleene::batch(alloc)?;
-            sample_text(alloc, kleene::source(alloc)?, batch)
+            let batch = Box::new(alloc, kleene::batch(alloc)?)?;
+            sample_text(alloc, kleene::source(alloc)?, Box::into_inner(batch))
         }
         Row::Coalesce => {
-            let batch = coalesce::batch(alloc)?;
-            sample_text(alloc, coalesce::source(alloc)?, batch)
+            let batch = Box::new(alloc, coalesce::batch(alloc)?)?;
+            sample_text(alloc, coalesce::source(alloc)?, Box::into_inner(batch))
         }
         Row::Cases => {
-            let batch = cases::batch(alloc)?;
-            sample_text(alloc, cases::source(alloc)?, batch)
+            let batch = Box::new(alloc, cases::batch(alloc)?)?;
+            sample_text(alloc, cases::source(alloc)?, Box::into_inner(batch))
         }
         Row::Fused => fused_page(alloc),
         Row::Branches => branches_page(alloc),
@@ -55,8 +55,18 @@ fn fused_page(alloc: Global) -> VortexResult<String>
     ensures { ReturnsOrOom string_bytes result (Ok (page_of Fused)) }
 {
     let batch = kleene::batch(alloc)?;
+    let text = fused_over(alloc, &batch);
+    drop(batch);
+    text
+}
+
+// The page of the row `fused` over its batch. Asks that batch.
+fn fused_over(alloc: Global, batch: &Column) -> VortexResult<String>
+    requires { batch.now ≡ fused.batch }
+    ensures { ReturnsOrOom string_bytes result (Ok (page_of Fused)) }
+{
     let tree = fused::tree(alloc, batch.dtype())?;
-    let text = fused_text(alloc, &tree, &batch);
+    let text = fused_text(alloc, &tree, batch);
     drop(tree);
     text
 }
@@ -68,7 +78,9 @@ fn fused_text(alloc: Global, tree: &BoundExpression, batch: &Column) -> VortexRe
     ensures { let tree = bound_of tree.now in ReturnsOrOom string_bytes result (Ok (lines (unbound tree) batch.now (node_type tree))) }
 {
     let column = fused::result(alloc, batch)?;
-    bound_text(alloc, tree, batch, &column)
+    let text = bound_text(alloc, tree, batch, &column);
+    drop(column);
+    text
 }
 
 // The page of the row `branches`: the CASE as a query by the branch rules.
@@ -76,8 +88,18 @@ fn branches_page(alloc: Global) -> VortexResult<String>
     ensures { ReturnsOrOom string_bytes result (Ok (page_of Branches)) }
 {
     let batch = coalesce::batch(alloc)?;
+    let text = branches_over(alloc, &batch);
+    drop(batch);
+    text
+}
+
+// The page of the row `branches` over its batch. Asks that batch.
+fn branches_over(alloc: Global, batch: &Column) -> VortexResult<String>
+    requires { batch.now ≡ branches.batch }
+    ensures { ReturnsOrOom string_bytes result (Ok (page_of Branches)) }
+{
     let tree = branches::tree(alloc, batch.dtype())?;
-    let text = branches_text(alloc, &tree, &batch);
+    let text = branches_text(alloc, &tree, batch);
     drop(tree);
     text
 }
@@ -89,7 +111,9 @@ fn branches_text(alloc: Global, tree: &BoundExpression, batch: &Column) -> Vorte
     ensures { let tree = bound_of tree.now in ReturnsOrOom string_bytes result (Ok (lines (unbound tree) batch.now (node_type tree))) }
 {
     let column = branches::result(alloc, batch)?;
-    bound_text(alloc, tree, batch, &column)
+    let text = bound_text(alloc, tree, batch, &column);
+    drop(column);
+    text
 }
 
 // The page of the row `scan`: the conditions scanned by their plan.
@@ -97,8 +121,18 @@ fn scan_page(alloc: Global) -> VortexResult<String>
     ensures { ReturnsOrOom string_bytes result (Ok (page_of Scan)) }
 {
     let batch = scan::batch(alloc)?;
+    let text = scan_over(alloc, &batch);
+    drop(batch);
+    text
+}
+
+// The page of the row `scan` over its batch. Asks that batch.
+fn scan_over(alloc: Global, batch: &Column) -> VortexResult<String>
+    requires { batch.now ≡ scan.batch }
+    ensures { ReturnsOrOom string_bytes result (Ok (page_of Scan)) }
+{
     let plan = scan::planned(alloc, batch.dtype())?;
-    let text = scan_text(alloc, &plan, &batch);
+    let text = scan_text(alloc, &plan, batch);
     drop(plan);
     text
 }
@@ -111,7 +145,9 @@ fn scan_text(alloc: Global, plan: &ScanPlan, batch: &Column) -> VortexResult<Str
     ensures { let tree = bound_of plan.now.tree in ReturnsOrOom string_bytes result (Ok (lines (unbound tree) batch.now (node_type tree))) }
 {
     let column = scan::result(alloc, plan, batch)?;
-    bound_text(alloc, plan.tree(), batch, &column)
+    let text = bound_text(alloc, plan.tree(), batch, &column);
+    drop(column);
+    text
 }
 
 // The lines of an expression over the batch, or what binding refuses. Asks an expression that faults
@@ -150,7 +186,9 @@ fn evaluated_text(
     ensures { let tree = bound_of bound.now in ReturnsOrOom string_bytes result (Ok (lines (unbound tree) batch.now (node_type tree))) }
 {
     let column = result_of(alloc, source, batch)?;
-    bound_text(alloc, bound, batch, &column)
+    let text = bound_text(alloc, bound, batch, &column);
+    drop(column);
+    text
 }
 
 // What the expression gives over the batch, as a query without a pass. Asks an expression that faults

@@ -105,9 +105,11 @@ fn dtype(alloc: Global) -> VortexResult<DType>
         FieldName::new(alloc, "b")?,
         FieldName::new(alloc, "c")?,
     ]?;
-    let number = DType::Primitive(PType::I32, Nullability::NonNullable);
-    let text = DType::Utf8(Nullability::NonNullable);
-    let types = vec![in alloc; pair_or_null(alloc)?, number, text]?;
+    let types = vec![in alloc;
+        pair_or_null(alloc)?,
+        DType::Primitive(PType::I32, Nullability::NonNullable),
+        DType::Utf8(Nullability::NonNullable),
+    ]?;
     let fields = StructFields::new(alloc, FieldNames::new(alloc, names)?, types)?;
     Ok(DType::Struct(fields, Nullability::NonNullable))
 }

@@ -3,35 +3,73 @@ use std::alloc::{AllocError, Global};
 use vx_source::parse_type;
 use vx_sql::{Dialect, Unsupported, to_sql};
 use vx_test_support::{Judge, Judged, Unread, bound};
+use vx_tree::BoundExpression;
+use vx_types::DType;
 
-/// Judges SQL texts of expressions.
+/// What is called.
 #[derive(Clone, Copy)]
-pub struct Texts;
+enum Call {
+    /// `ENGINE | TYPE | EXPRESSION`: the SQL text of an expression over rows of that type, or at which node there is none,
+    /// and why.
+    Text(Dialect),
+}
 
-impl Judge for Texts {
+impl Call {
+    /// The call of that name.
+    fn named(name: &str) -> Option<Call> {
+        Some(Call::Text(dialect_named(name)?))
+    }
+
+    /// How many columns it takes.
+    fn columns(self) -> usize {
+        match self {
+            Call::Text(_) => 2,
+        }
+    }
+
+    /// What it answers to these columns.
+    fn answer(self, alloc: Global, columns: &[&str]) -> Result<String, Unread> {
+        match (self, columns) {
+            (Call::Text(dialect), [scope, expression]) => sql_text(
+                alloc, dialect, scope, expression,
+            ),
+            _ => Err(Unread::Word("another number of columns")),
+        }
+    }
+}
+
+/// Judges calls.
+#[derive(Clone, Copy)]
+pub struct Calls;
+
+impl Judge for Calls {
     type Unread = Unread;
 
-    /// What the line comes to: an engine, the type of its rows, an expression, and the text that is
-    /// wanted or what is wrong, as `postgres | {x=i32} | x > 5 | ("x" > 5)`. Where the type or the
-    /// expression has a `␀` a NUL is meant, which no line should hold.
+    /// What the line comes to: a call, its columns, and the answer that is wanted, as
+    /// `postgres | {x=i32} | x > 5 | ("x" > 5)`.
     fn judge(&mut self, alloc: Global, line: &str) -> Result<Judged, Unread> {
-        let mut columns = Vec::new(alloc);
-        for column in line.splitn(4, '|') {
-            columns.push(column.trim())?;
-        }
-        let [engine, scope, expression, wanted] = columns.as_slice() else {
-            return Err(Unread::Word("another number of columns"));
+        let (name, rest) = line.split_once('|').ok_or("no bar behind the call")?;
+        let call = Call::named(name.trim()).ok_or("no such call")?;
+        let columns = columns_of(alloc, rest, call.columns())?;
+        let Some((wanted, columns)) = columns.as_slice().split_last() else {
+            return Err(Unread::Word("no answer"));
         };
-        let dialect = dialect_named(engine).ok_or("no such engine")?;
-        let scope = scope.replace(alloc, '␀', "\0")?;
-        let expression = expression.replace(alloc, '␀', "\0")?;
-        let answer = answer(alloc, dialect, scope.as_str(), expression.as_str())?;
+        let answer = call.answer(alloc, columns)?;
         if answer.as_str() == *wanted {
             Ok(Judged::Right)
         } else {
             Ok(Judged::Differs(answer))
         }
     }
+}
+
+// So many columns of a line, and the answer that is wanted behind them, which takes the rest of the line.
+fn columns_of(alloc: Global, text: &str, count: usize) -> Result<Vec<&str>, AllocError> {
+    let mut columns = Vec::new(alloc);
+    for column in text.splitn(count.saturating_add(1), '|') {
+        columns.push(column.trim())?;
+    }
+    Ok(columns)
 }
 
 const DIALECTS: [Dialect; 4] = [
@@ -60,19 +98,34 @@ pub fn dialect_named(name: &str) -> Option<Dialect> {
     None
 }
 
-// The SQL text of the expression, or where it has none and why.
-fn answer(
+fn sql_text(
     alloc: Global,
     dialect: Dialect,
     scope: &str,
     expression: &str,
 ) -> Result<String, Unread> {
-    let scope = Box::new(alloc, parse_type(alloc, scope)?)?;
-    let bound = bound(alloc, expression, &scope)?;
-    match to_sql(alloc, &bound, dialect) {
+    let scope = scope_of(alloc, scope)?;
+    let tree = tree_of(alloc, expression, &scope)?;
+    match to_sql(alloc, &tree, dialect) {
         Ok(text) => Ok(text),
-        Err(unsupported) => Ok(told(alloc, &unsupported)?),
+        Err(unsupported) => {
+            let text = told(alloc, &unsupported);
+            drop(unsupported);
+            Ok(text?)
+        }
     }
+}
+
+// The type of that source text, in which `␀` is a NUL, which no line should hold.
+fn scope_of(alloc: Global, text: &str) -> Result<Box<DType>, Unread> {
+    let text = text.replace(alloc, '␀', "\0")?;
+    Ok(Box::new(alloc, parse_type(alloc, text.as_str())?)?)
+}
+
+// The expression of that source text, with NULs as well, bound to the type.
+fn tree_of(alloc: Global, text: &str, scope: &DType) -> Result<Box<BoundExpression>, Unread> {
+    let text = text.replace(alloc, '␀', "\0")?;
+    bound(alloc, text.as_str(), scope)
 }
 
 fn told(alloc: Global, unsupported: &Unsupported) -> Result<String, AllocError> {
