@@ -1,27 +1,53 @@
 // Answers as texts.
 use crate::refusals::Named;
-use std::alloc::{AllocError, Global};
+use std::alloc::Global;
 use std::fmt::Display;
 use vx_tree::{BoundExpression, VortexError, VortexResult};
+
+/// The value as a text.
+pub fn text<T: Display>(alloc: Global, value: &T) -> VortexResult<String> {
+    Ok(format!(in alloc; "{value}")?)
+}
 
 /// What is answered, or `! ` and the refusal's name.
 pub fn told<T: Display + Drop>(alloc: Global, answer: VortexResult<T>) -> VortexResult<String> {
     match answer {
-        Ok(answer) => Ok(format!(in alloc; "{answer}")?),
+        Ok(answer) => text(alloc, &answer),
         Err(refusal) => refused(alloc, &refusal),
     }
 }
 
 /// `! ` and the refusal's name.
 pub fn refused(alloc: Global, refusal: &VortexError) -> VortexResult<String> {
-    let named = Named(refusal);
-    Ok(format!(in alloc; "! {named}")?)
+    text(alloc, &format_args!("! {}", Named(refusal)))
+}
+
+/// A value, and its type behind it.
+pub fn with_type<V: Display, T: Display>(
+    alloc: Global,
+    value: &V,
+    dtype: &T,
+) -> VortexResult<String> {
+    text(alloc, &format_args!("{value} : {dtype}"))
 }
 
 /// The tree's text and its type.
 pub fn typed(alloc: Global, tree: &BoundExpression) -> VortexResult<String> {
-    let dtype = tree.dtype();
-    Ok(format!(in alloc; "{tree} : {dtype}")?)
+    with_type(alloc, tree, tree.dtype())
+}
+
+/// Adds the value, with that text between it and what is before it.
+pub fn push<T: Display>(
+    alloc: Global,
+    texts: &mut String,
+    between: &str,
+    value: &T,
+) -> VortexResult<()> {
+    if !texts.is_empty() {
+        texts.push_str(between)?;
+    }
+    let text = text(alloc, value)?;
+    Ok(texts.push_str(text.as_str())?)
 }
 
 /// Adds what is answered over one more batch.
@@ -30,16 +56,13 @@ pub fn push_rows<T: Display + Drop>(
     rows: &mut String,
     answer: VortexResult<T>,
 ) -> VortexResult<()> {
-    if !rows.is_empty() {
-        rows.push_str(" / ")?;
-    }
     let told = told(alloc, answer)?;
-    Ok(rows.push_str(told.as_str())?)
+    push(alloc, rows, " / ", &told)
 }
 
 /// The lines of the text, with bars between them.
-pub fn barred(alloc: Global, text: &str) -> Result<String, AllocError> {
-    text.replace(alloc, '\n', "|")
+pub fn barred(alloc: Global, text: &str) -> VortexResult<String> {
+    Ok(text.replace(alloc, '\n', "|")?)
 }
 
 /// The same text twice, or both where they differ.
@@ -47,5 +70,5 @@ pub fn agreed(alloc: Global, one: String, other: String) -> VortexResult<String>
     if one.as_str() == other.as_str() {
         return Ok(one);
     }
-    Ok(format!(in alloc; "{one}, and another way {other}")?)
+    text(alloc, &format_args!("{one}, and another way {other}"))
 }

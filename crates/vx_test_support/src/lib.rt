@@ -19,7 +19,7 @@ pub use files::judge_files;
 pub use judge::{Judge, Judged};
 pub use literals::{typed, value, values};
 pub use maker::Maker;
-pub use pieces::parted;
+pub use pieces::{number, parted};
 pub use seeds::Seeds;
 pub use table::{Aim, Table, Tally, exit_code};
 pub use texts::reads;

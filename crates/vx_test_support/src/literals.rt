@@ -1,5 +1,5 @@
 // Values by their words.
-use crate::pieces::{parted, within};
+use crate::pieces::{number, parted, within};
 use crate::unread::Unread;
 use std::alloc::Global;
 use vx_tree::Value;
@@ -75,9 +75,7 @@ impl ValueReader<'_> {
     fn take(&mut self, word: &str, mark: Option<char>) -> Result<(), Unread> {
         match mark {
             Some('*') => {
-                self.times = word
-                    .parse()
-                    .map_err(|_| Unread::Word("no number of times"))?;
+                self.times = number(word, "no number of times")?;
                 Ok(())
             }
             Some('[') => self.open(false),
@@ -147,11 +145,11 @@ fn flat(alloc: Global, word: &str) -> Result<Value, Unread> {
         "null" => Ok(Value::Null),
         "true" => Ok(Value::Bool(true)),
         "false" => Ok(Value::Bool(false)),
-        _ => number(word),
+        _ => int(word),
     }
 }
 
-fn number(word: &str) -> Result<Value, Unread> {
+fn int(word: &str) -> Result<Value, Unread> {
     match word.parse::<i128>() {
         Ok(number) => Ok(Value::Int(number)),
         Err(_) => Err(Unread::Word("no value")),

@@ -1,4 +1,5 @@
 // Texts taken apart at their marks.
+use crate::unread::Unread;
 use std::alloc::{AllocError, Global};
 
 /// What stands before the mark that ends the piece, and that mark, if one does.
@@ -23,4 +24,12 @@ pub fn within<'a>(word: &'a str, name: &str) -> Option<&'a str> {
 pub fn numbered(alloc: Global, text: &str, number: usize) -> Result<String, AllocError> {
     let number = format!(in alloc; "{number}")?;
     text.replace(alloc, '#', number.as_str())
+}
+
+/// The number of the word.
+pub fn number(word: &str, why: &'static str) -> Result<usize, Unread> {
+    match word.parse() {
+        Ok(number) => Ok(number),
+        Err(_) => Err(Unread::Word(why)),
+    }
 }

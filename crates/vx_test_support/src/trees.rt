@@ -12,7 +12,7 @@ use vx_source::parse_with;
 use vx_tree::{BoundExpression, Column, DType, Expression};
 
 // More nesting than a table or a test has.
-const NESTING: usize = 1_000_000;
+pub const NESTING: usize = 1_000_000;
 
 /// The tree of the source text, in which `times(7) .. end` says what is between seven times. It is
 /// behind a box: wherever a caller may end, the prover writes out a tree that isn't behind one.

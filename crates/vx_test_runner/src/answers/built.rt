@@ -7,7 +7,7 @@ mod plain;
 mod walk;
 
 use crate::scene::Scene;
-use crate::told::{refused, typed};
+use crate::told::{refused, text, typed};
 use bound::OfBound;
 pub use chains::collected;
 use plain::OfSources;
@@ -22,9 +22,9 @@ pub fn built(alloc: Global, source: &Expression) -> VortexResult<String> {
 
 fn compared(alloc: Global, built: &Expression, source: &Expression) -> VortexResult<String> {
     if *built != *source {
-        return Ok(format!(in alloc; "{built}, another tree")?);
+        return text(alloc, &format_args!("{built}, another tree"));
     }
-    Ok(format!(in alloc; "{built}")?)
+    text(alloc, built)
 }
 
 /// The text and the type of the tree by the constructors over bound children, or what they refuse.

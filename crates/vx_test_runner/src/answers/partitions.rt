@@ -3,11 +3,11 @@ ghost use Rattle.vx_tree.specs.Trees.{WellTyped};
 ghost use Rattle.vx_tree.specs.Views.{bound_of};
 
 use crate::answers::bound_line::BoundLine;
-use crate::answers::distinct::{Analysis, key_of, told_of_all};
+use crate::answers::distinct::{Analysis, counted, key_of, told_of_all};
 use crate::answers::split::{Divided, divided, joined_rows, replaced_by_optimized, shown};
 use crate::kind::{FieldsKind, Told};
 use crate::scene::Scene;
-use crate::told::agreed;
+use crate::told::{agreed, push, text};
 use std::alloc::Global;
 use vx_rewrite::{
     BoundAnnotations, covers, descendent_bound_annotations, direct_bound_annotations, free_fields,
@@ -20,42 +20,46 @@ use vx_tree::{BoundExpression, FieldName, StructFields, VortexError, VortexResul
 pub fn answer(alloc: Global, kind: FieldsKind, line: &BoundLine<'_>) -> VortexResult<String>
     requires { WellTyped (bound_of line.now.bound.now) }
 {
-    let bound = line.bound;
-    let fields = line
-        .scene
-        .scope
-        .as_struct_fields_opt()
-        .ok_or(VortexError::NotAStruct)?;
+    let Some(fields) = line.scene.scope.as_struct_fields_opt() else {
+        return Err(VortexError::NotAStruct);
+    };
     match kind {
         FieldsKind::Split(told) => split(alloc, told, line, fields),
-        FieldsKind::Replaced(told) => {
-            told_of(alloc, told, line.scene, &*replaced(alloc, bound, fields)?)
+        FieldsKind::Replaced(told) => replaced(alloc, told, line, fields),
+        FieldsKind::OwnFields | FieldsKind::OwnAnnotations => {
+            let own = fields_read_itself(alloc, line.bound, fields)?;
+            of_annotations(alloc, kind, line, &own)
         }
-        FieldsKind::Covers => {
-            let covered = covers(alloc, bound, &fields_read(alloc, bound, fields)?)?;
-            Ok(format!(in alloc; "{covered}")?)
-        }
-        FieldsKind::OwnFields => {
-            let own = direct_bound_annotations(alloc, bound, |node: &BoundExpression| {
-                free_fields(alloc, node, fields)
-            })?;
-            told_of_all(alloc, &own, &*line.again(alloc)?)
-        }
-        FieldsKind::OwnAnnotations => {
-            let own = direct_bound_annotations(alloc, bound, |node: &BoundExpression| {
-                free_fields(alloc, node, fields)
-            })?;
-            fields_in(alloc, &own)
-        }
-        FieldsKind::Fields => {
-            let read = fields_read(alloc, bound, fields)?;
-            told_of_all(alloc, &read, &*line.again(alloc)?)
-        }
-        FieldsKind::Annotations => {
-            let read = fields_read(alloc, bound, fields)?;
-            read.told_at(alloc, &*line.again(alloc)?)
+        FieldsKind::Fields | FieldsKind::Annotations | FieldsKind::Covers => {
+            let read = fields_read(alloc, line.bound, fields)?;
+            of_annotations(alloc, kind, line, &read)
         }
     }
+}
+
+fn of_annotations(
+    alloc: Global,
+    kind: FieldsKind,
+    line: &BoundLine<'_>,
+    found: &BoundAnnotations<FieldName>,
+) -> VortexResult<String> {
+    match kind {
+        FieldsKind::Covers => text(alloc, &covers(alloc, line.bound, found)?),
+        FieldsKind::OwnAnnotations => fields_in(alloc, found),
+        FieldsKind::Annotations => found.told_at(alloc, &*line.again(alloc)?),
+        _ => told_of_all(alloc, found, &*line.again(alloc)?),
+    }
+}
+
+// The fields of the scope that each node reads itself.
+fn fields_read_itself(
+    alloc: Global,
+    bound: &BoundExpression,
+    fields: &StructFields,
+) -> VortexResult<BoundAnnotations<FieldName>> {
+    direct_bound_annotations(alloc, bound, |node: &BoundExpression| {
+        free_fields(alloc, node, fields)
+    })
 }
 
 /// The fields of the scope that each reached node reads.
@@ -85,17 +89,18 @@ fn split(
     agreed(alloc, own, told_of(alloc, told, scene, &by_closure)?)
 }
 
-// The tree split, with its partitions replaced by optimized ones.
+// The same of the tree split, with its partitions replaced by optimized ones.
 fn replaced(
     alloc: Global,
-    bound: &BoundExpression,
+    told: Told,
+    line: &BoundLine<'_>,
     fields: &StructFields,
-) -> VortexResult<Box<Divided>>
-    requires { WellTyped (bound_of bound.now) }
+) -> VortexResult<String>
+    requires { WellTyped (bound_of line.now.bound.now) }
 {
-    let mut whole = divided(alloc, bound, fields_read(alloc, bound, fields)?)?;
+    let mut whole = divided(alloc, line.bound, fields_read(alloc, line.bound, fields)?)?;
     replaced_by_optimized(alloc, &mut whole)?;
-    Ok(whole)
+    told_of(alloc, told, line.scene, &whole)
 }
 
 // The split as a text, or what it gives once joined.
@@ -125,9 +130,9 @@ impl Analysis for BoundAnnotations<FieldName> {
     fn told_at(&self, alloc: Global, node: &BoundExpression) -> VortexResult<String> {
         let key = key_of(alloc, node)?;
         let Some(set) = self.get(&*key) else {
-            return Ok(String::from_str(alloc, "-")?);
+            return text(alloc, &"-");
         };
-        let mut names: Vec<&str> = Vec::new(alloc);
+        let mut names = Vec::new(alloc);
         for name in set.iter() {
             names.push(name.as_str())?;
         }
@@ -141,15 +146,13 @@ impl Analysis for BoundAnnotations<FieldName> {
 
 // The names of all sets, and how many sets there are: `[a, b] (2)`.
 fn fields_in(alloc: Global, found: &BoundAnnotations<FieldName>) -> VortexResult<String> {
-    let mut names: Vec<&str> = Vec::new(alloc);
+    let mut names = Vec::new(alloc);
     for set in found.values() {
         for name in set.iter() {
             names.push(name.as_str())?;
         }
     }
-    let all = listed(alloc, names)?;
-    let count = found.len();
-    Ok(format!(in alloc; "{all} ({count})")?)
+    counted(alloc, &listed(alloc, names)?, found.len())
 }
 
 // The names in their order, each once: `[a, b]`.
@@ -157,13 +160,9 @@ fn listed(alloc: Global, names: Vec<&str>) -> VortexResult<String> {
     let mut names = names;
     names.sort()?;
     names.dedup();
-    let mut text = String::from_str(alloc, "[")?;
-    for (i, name) in names.iter().enumerate() {
-        if i > 0 {
-            text.push_str(", ")?;
-        }
-        text.push_str(name)?;
+    let mut all = String::new(alloc);
+    for name in names.iter() {
+        push(alloc, &mut all, ", ", name)?;
     }
-    text.push(']')?;
-    Ok(text)
+    text(alloc, &format_args!("[{all}]"))
 }
