@@ -8,6 +8,7 @@ use vx_commands::{ColumnType, Guess};
 pub struct GuessWords<'a> {
     records: u64,
     columns: Vec<ColumnType<'a>>,
+    nested: bool,
 }
 
 impl<'a> GuessWords<'a> {
@@ -16,6 +17,7 @@ impl<'a> GuessWords<'a> {
         Guess {
             records: self.records,
             columns: self.columns.as_slice(),
+            nested: self.nested,
         }
     }
 }
@@ -41,7 +43,11 @@ pub fn guess_told<'a>(
             }
         }
     }
-    Ok(Some(GuessWords { records, columns }))
+    Ok(Some(GuessWords {
+        records,
+        columns,
+        nested: matches.get_flag("nested"),
+    }))
 }
 
 // How many records are looked at, at most; none where the words say no number.

@@ -1,6 +1,7 @@
 // What a person runs: `vx COMMAND EXPR --schema TYPE`.
 #![tactic(auto)]
 
+mod arguments;
 mod choices;
 mod guess;
 mod line;

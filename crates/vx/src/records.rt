@@ -148,7 +148,9 @@ fn format_of<'a>(matches: &ArgMatches<'a>, data: &str) -> Result<DataFormat<'a>,
     match format {
         DataFormat::Csv(format) => Ok(DataFormat::Csv(csv_format(matches, format)?)),
         DataFormat::Json if says_csv(matches) => {
-            Err("--delimiter, --no-header, --comment and --null are for CSV: add --format csv")
+            Err(
+                "--delimiter, --no-header, --nested, --comment and --null are for CSV: add --format csv",
+            )
         }
         DataFormat::Json => Ok(DataFormat::Json),
     }
@@ -156,8 +158,9 @@ fn format_of<'a>(matches: &ArgMatches<'a>, data: &str) -> Result<DataFormat<'a>,
 
 // Whether the words say something of CSV.
 fn says_csv(matches: &ArgMatches<'_>) -> bool {
+    let flags = ["no-header", "nested"];
     let words = ["delimiter", "comment", "null"];
-    matches.get_flag("no-header") || words.iter().any(|id| matches.contains_id(id))
+    flags.iter().any(|id| matches.get_flag(id)) || words.iter().any(|id| matches.contains_id(id))
 }
 
 // The format, but for what the words say; or why they say none.

@@ -7,8 +7,8 @@ use std::io;
 use std::io::{BufReader, Read};
 use vx_command_pages::{Input, Span};
 use vx_data::{
-    CsvFormat, DataError, Guessing, JsonFormat, Recorded, WriteError, infer_csv_type_by,
-    infer_json_type_by,
+    CsvFormat, DataError, Guessing, JsonFormat, OtherFields, Recorded, WriteError,
+    infer_csv_type_by, infer_json_type_by,
 };
 use vx_records::RecordsError;
 use vx_types::DType;
@@ -55,6 +55,8 @@ pub struct Guess<'a> {
     pub records: u64,
     /// The types that are said of some columns.
     pub columns: &'a [ColumnType<'a>],
+    /// Whether each name with dots in a header leads to a field of a field.
+    pub nested: bool,
 }
 
 impl Default for Guess<'_> {
@@ -62,6 +64,7 @@ impl Default for Guess<'_> {
         Guess {
             records: 1_000,
             columns: &[],
+            nested: false,
         }
     }
 }
@@ -81,6 +84,14 @@ impl<'a> Schema<'a> {
         match self {
             Schema::Said(input) => input,
             Schema::Guessed(_) => Input::new("", ""),
+        }
+    }
+
+    /// What becomes of fields that the type doesn't have: one that is said may be of some columns only.
+    pub(crate) fn others(self) -> OtherFields {
+        match self {
+            Schema::Said(_) => OtherFields::PassedOver,
+            Schema::Guessed(_) => OtherFields::Refused,
         }
     }
 }
@@ -133,6 +144,7 @@ pub(crate) fn guessed_type<D: Read + Drop>(
         records: guess.records,
         said: said.as_slice(),
         skips,
+        nested: guess.nested,
     };
     let guessed = opened(match format {
         DataFormat::Json => {

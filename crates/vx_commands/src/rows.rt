@@ -143,11 +143,13 @@ fn gone_over<D: Source + Drop, W: Write, E: Write>(
         DataFormat::Json => {
             let lines = buffered(alloc, data)?;
             let format = json_format(command.command.schema, &scope);
-            let records = JsonRecords::with_format(alloc, scope, format, lines);
+            let others = command.command.schema.others();
+            let records = JsonRecords::with_others(alloc, scope, format, others, lines);
             over(alloc, &command, records, out, err)
         }
         DataFormat::Csv(format) => {
-            let records = opened(CsvRows::open_with(alloc, scope, format, data))?;
+            let others = command.command.schema.others();
+            let records = opened(CsvRows::open_others(alloc, scope, format, others, data))?;
             over(alloc, &command, records, out, err)
         }
     }
@@ -308,7 +310,7 @@ fn selected_value(
     alloc: Global,
     command: &ReadCommand<'_>,
     scope: &DType,
-) -> Result<Placed, CommandError> {
+) -> Result<Box<Placed>, CommandError> {
     let written = read_written(alloc, command.command.select.text)?;
     read_over(alloc, written, scope)
 }

@@ -10,3 +10,4 @@ mod Written
 mod Tallying
 mod Counting
 mod Selecting
+mod Portioned

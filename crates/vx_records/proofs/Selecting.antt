@@ -1,25 +1,26 @@
 -- The rows of what is kept, made one after another, and what is meant at them.
-use Rattle.std.proofs.Common.{◌≡◌, ℕ, zero, suc, ◌<◌, ◌≤◌, ◌++◌, List, [], ◌∷◌, length, map, take, get_or, refl, sym, subst, ap, ◌∙◌, append_assoc, true, false, Bool, Option, Some, None, arith, if◌then◌else◌}
-use Rattle.std.specs.List.{filter}
+use Rattle.std.proofs.Common.{◌≡◌, ℕ, zero, suc, ◌<◌, ◌≤◌, ◌++◌, List, [], ◌∷◌, length, take, get_or, refl, sym, subst, ap, ◌∙◌, append_assoc, true, false, Bool, Option, arith, if◌then◌else◌}
 use Rattle.std.proofs.Math.Seq.{take-suc, take-length}
 use Rattle.std.proofs.lemmas.List.{get_or-map, map-append, length-map}
 use Rattle.std.proofs.lemmas.List.Elements.{filter-append}
 use Rattle.vx_value.specs.Columns.{Batch, batch}
 use Rattle.vx_value.specs.Types.{LogicalType, Datum, null}
-use Rattle.vx_data.specs.declared.error.DataError.{DataError}
 use Rattle.vx_fn.specs.Values.{is_true}
 use Rattle.vx_tree.specs.Meaning.{mean}
 use Rattle.vx_tree.specs.Trees.{BoundTree, Tree}
 use Rattle.vx_places.specs.Faults.{IsFirstFault}
-use Rattle.vx_records.specs.Chunks.{IsFaultOver, row_if_true, true_rows}
+use Rattle.vx_records.specs.Chunks.{AreAnswers, AreNext, IsFaultOver, IsKeptBatch, IsKeptOf, row_if_true, true_rows}
 use Rattle.vx_records.specs.Outcomes.{Gains, StopsSelecting}
 use Rattle.vx_records.specs.Reading.{Reads}
 use Rattle.vx_records.specs.Records.{Record, holds, kept, meanings, record_as, rows}
+use Rattle.vx_records.specs.declared.answers.Answers.{Answers}
+use Rattle.vx_records.specs.declared.kept.KeptBatch.{KeptBatch}
 use Rattle.vx_records.specs.declared.error.RecordFault.{RecordFault}
 use Rattle.vx_records.specs.declared.error.RecordsError.TheVariants.{Fault}
 use Rattle.vx_records.specs.declared.error.SelectError.{SelectError}
 use Rattle.vx_records.specs.declared.error.SelectError.TheVariants.{Kept, Selected}
 use Rattle.vx_records.proofs.Going.{reads_on}
+use Rattle.vx_records.proofs.Keeping.{count_of}
 use Rattle.vx_records.proofs.Meaning.{meanings-append}
 use Rattle.vx_records.proofs.Stopping.{stops_on}
 use Rattle.vx_records.proofs.Written.{gains_trans}
@@ -60,6 +61,22 @@ rows_read e s rs us vs read meant =
 pub kept_batch : (e : Tree) (s : LogicalType) (rs : List Record) (whole held made : Batch) (vs : List Datum) → made ≡ batch held.type (true_rows held.rows vs (length held.rows)) → held ≡ whole → whole ≡ batch s (rows rs) → vs ≡ meanings e s rs → made ≡ batch s (rows (kept e s rs))
 kept_batch e s rs whole held made vs is lent over meant =
     is ∙ ap (λ (b : Batch). batch b.type (true_rows b.rows vs (length b.rows))) (lent ∙ over) ∙ ap (batch s) (rows_read e s rs (rows rs) vs refl meant)
+
+-- as many rows as values
+pub as_many_values : {R : Type 0} (leaves : R → List Record → Type 0) (n : ℕ) (e : Tree) (s : LogicalType) (before after : R) (a : Answers) → AreAnswers leaves n e s before after a → length a.batch.rows.value.rows ≤ length a.values.rows
+as_many_values leaves n e s before after a (rs, next, (texts, over), meant) =
+    let rows_long : length a.batch.rows.value.rows ≡ length rs = ap (λ (b : Batch). length b.rows) over ∙ length-map rs (λ (r : Record). r.row) in
+    let values_long : length a.values.rows ≡ length rs = ap length meant ∙ length-map rs (λ (r : Record). mean e s r.row) in
+    omega (arith, rows_long, values_long)
+
+-- of the next records
+pub kept_next : {R : Type 0} (leaves : R → List Record → Type 0) (n : ℕ) (e : Tree) (s : LogicalType) (before after : R) (a : Answers) (b : KeptBatch) → AreAnswers leaves n e s before after a → IsKeptOf a b → IsKeptBatch leaves n e s before after b
+kept_next leaves n e s before after a b (rs, next, (texts, over), meant) (made, read, stop) = (
+  rs,
+  subst (λ stop. AreNext leaves n before after stop rs) (sym stop) next,
+  kept_batch e s rs a.batch.rows.value a.batch.rows.value b.rows.value a.values.rows made refl over meant,
+  read ∙ count_of rs a.batch.texts.items texts,
+)
 
 -- a fault over these rows
 pub selected_fault : (v : BoundTree) (us vs : List Datum) (f : RecordFault) → us ≡ vs → IsFaultOver v us (Fault f) → IsFirstFault vs v f.path.items f.refusal

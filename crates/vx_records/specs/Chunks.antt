@@ -42,9 +42,9 @@ HasRecords b s rs = (texts_in b.texts.items ≡ texts rs) × (b.rows.value ≡ b
 abbrev pub IsNextBatch : {R : Type 0} → (R → List Record → Type 0) → ℕ → LogicalType → R → R → RecordBatch → Type 0
 IsNextBatch leaves n s before after b = (rs : List Record) × AreNext leaves n before after b.stop rs × HasRecords b s rs × IsBatch s (rows rs) × (length rs ≤ n)
 
--- the answers are the texts of the next records, and what the expression means at them
+-- the answers are of the next records, each of them of the type s, and say what the expression means at them
 abbrev pub AreAnswers : {R : Type 0} → (R → List Record → Type 0) → ℕ → Tree → LogicalType → R → R → Answers → Type 0
-AreAnswers leaves n e s before after a = (rs : List Record) × AreNext leaves n before after a.stop rs × (texts_in a.texts.items ≡ texts rs) × (a.values.rows ≡ meanings e s rs)
+AreAnswers leaves n e s before after a = (rs : List Record) × AreNext leaves n before after a.batch.stop rs × HasRecords a.batch s rs × (a.values.rows ≡ meanings e s rs)
 
 -- the values in a slice
 abbrev pub values_in : List Value → List Datum
@@ -80,6 +80,11 @@ true_rows us vs (suc n) = true_rows us vs n ++ row_if_true (get_or vs n null) (g
 -- of the next records, n of them at most, the batch has the rows of those of which the expression is true
 abbrev pub IsKeptBatch : {R : Type 0} → (R → List Record → Type 0) → ℕ → Tree → LogicalType → R → R → KeptBatch → Type 0
 IsKeptBatch leaves n e s before after b = (rs : List Record) × AreNext leaves n before after b.stop rs × (b.rows.value ≡ batch s (rows (kept e s rs))) × (b.read ≡ length rs)
+
+-- the kept batch has the rows beside which stands true, says how many records were read, and what stopped reading
+abbrev pub IsKeptOf : Answers → KeptBatch → Type 0
+IsKeptOf a b = (b.rows.value ≡ batch a.batch.rows.value.type (true_rows a.batch.rows.value.rows a.values.rows (length a.batch.rows.value.rows)))
+    × (b.read ≡ length a.batch.texts.items) × (b.stop ≡ a.batch.stop)
 
 -- each of the texts on a line
 abbrev pub each_line : List (List ℕ) → List ℕ

@@ -5,7 +5,7 @@ ghost use Rattle.vx_value.specs.Views.{type_of};
 use crate::{Record, RecordReader};
 use std::alloc::Global;
 use std::io::BufRead;
-use vx_data::{DataError, JsonFile, JsonFormat, JsonParser};
+use vx_data::{DataError, JsonFile, JsonFormat, JsonParser, OtherFields};
 use vx_types::DType;
 
 /// The records of a file of JSON as rows of a type. In memory is one record.
@@ -28,10 +28,23 @@ impl<R: BufRead> JsonRecords<R> {
     pub fn with_format(alloc: Global, dtype: DType, format: JsonFormat, reader: R) -> JsonRecords<R>
         ensures { type_of result.dtype ≡ type_of dtype }
     {
+        JsonRecords::with_others(alloc, dtype, format, OtherFields::Refused, reader)
+    }
+
+    /// The same, where that becomes of fields that the type doesn't have.
+    pub fn with_others(
+        alloc: Global,
+        dtype: DType,
+        format: JsonFormat,
+        others: OtherFields,
+        reader: R,
+    ) -> JsonRecords<R>
+        ensures { type_of result.dtype ≡ type_of dtype }
+    {
         JsonRecords {
             dtype,
             file: JsonFile::new(alloc, reader, format),
-            parser: JsonParser::with_format(alloc, format),
+            parser: JsonParser::with_others(alloc, format, others),
         }
     }
 }

@@ -4,11 +4,11 @@ ghost use Rattle.vx_value.specs.Columns.{batch};
 ghost use Rattle.vx_value.specs.Views.{value_of};
 ghost use Rattle.vx_tree.specs.Trees.{WellTyped, Over, unbound};
 ghost use Rattle.vx_tree.specs.Views.{bound_of};
-ghost use Rattle.vx_records.specs.Chunks.{IsFaultThere, IsKeptBatch, row_if_true, true_rows, values_in};
+ghost use Rattle.vx_records.specs.Chunks.{IsFaultThere, IsKeptBatch, IsKeptOf, row_if_true, true_rows, values_in};
 ghost use Rattle.vx_records.specs.declared.error.RecordsError.TheVariants.{OutOfMemory};
 
-use crate::answers::values_of;
-use crate::batches::{RecordBatch, next_batch};
+use crate::answers::{Answers, next_answers};
+use crate::batches::RecordBatch;
 use crate::{RecordReader, RecordsError};
 use std::alloc::{AllocError, Global};
 use vx_data::DataError;
@@ -38,25 +38,34 @@ pub(crate) fn next_kept<R: RecordReader>(
     ensures scope { R.scope records.new ≡ R.scope records.old }
     ensures fault { IfErr result (λ e. IsFaultThere R.leaves (bound_of tree.now) records.old e) }
 {
+    match next_answers(alloc, tree, count, records) {
+        Ok(answers) => Ok(kept_of(alloc, answers)?),
+        Err(e) => Err(e),
+    }
+}
+
+// Those of the records at which true stands.
+fn kept_of(alloc: Global, answers: Box<Answers>) -> Result<Box<KeptBatch>, RecordsError>
+    requires { length answers.value.batch.rows.value.rows ≤ length answers.value.values.rows }
+    ensures ok { IfOk result (λ kept. IsKeptOf answers.value kept.value) }
+    ensures err { IfErr result (λ e. e ≡ OutOfMemory) }
+{
+    let Answers { batch, values } = Box::into_inner(answers);
     let RecordBatch {
         texts,
         rows,
         lines,
         stop,
-    } = next_batch(alloc, count, records)?;
-    let truths = match values_of(alloc, tree, &rows, lines.as_slice()) {
-        Ok(truths) => truths,
-        Err(e) => return Err(e),
-    };
-    let rows = Box::new(alloc, kept_rows(alloc, &rows, truths.rows())?)?;
-    let lines = kept_numbers(alloc, lines.as_slice(), truths.rows())?;
-    let batch = KeptBatch {
+    } = batch;
+    let rows = Box::new(alloc, kept_rows(alloc, &rows, values.rows())?)?;
+    let lines = kept_numbers(alloc, lines.as_slice(), values.rows())?;
+    let kept = KeptBatch {
         rows,
         lines,
         read: texts.len(),
         stop,
     };
-    Ok(Box::new(alloc, batch)?)
+    Ok(Box::new(alloc, kept)?)
 }
 
 // The rows beside which stands true, as a column.

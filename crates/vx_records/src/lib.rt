@@ -13,6 +13,7 @@ mod json_records;
 mod kept;
 mod laws;
 mod lines;
+mod portions;
 mod read;
 mod record;
 mod selected;

@@ -8,7 +8,8 @@ ghost use Rattle.vx_records.specs.Records.{kept, meanings};
 
 use crate::answers::{are_last, values_of};
 use crate::kept::{KeptBatch, next_kept};
-use crate::{CHUNK, RecordReader, RecordsError, RowWriter, SelectError};
+use crate::portions::{Portion, in_portions};
+use crate::{RecordReader, RecordsError, RowWriter, SelectError};
 use std::alloc::Global;
 use vx_tree::BoundExpression;
 
@@ -44,16 +45,26 @@ pub fn select_records<R: RecordReader, W: RowWriter>(
     if let Err(e) = out.begin(alloc, selection.value.dtype()) {
         return Err(SelectError::Kept(RecordsError::Write(e)));
     }
-    let mut left = limit;
-    while left > 0 {
-        let count = left.min(CHUNK);
-        match select_some(alloc, selection, count as usize, records, out) {
-            Ok(true) => return Ok(()),
-            Ok(false) => left -= count,
-            Err(e) => return Err(e),
-        }
+    in_portions(alloc, selection, limit, records, out)
+}
+
+impl<R: RecordReader, W: RowWriter> Portion<R, W, SelectError> for Selection<'_> {
+    ghost asks = { λ f s. (WellTyped (bound_of f.condition.now) × Over (bound_of f.condition.now) s) × (WellTyped (bound_of f.value.now) × Over (bound_of f.value.now) s) };
+
+    ghost writes = { λ f s a b rs. Gains (W.written a) (W.written b) (meanings (unbound (bound_of f.value.now)) s (kept (unbound (bound_of f.condition.now)) s rs)) };
+
+    ghost stops = { λ f s before a b e. StopsSelecting R.leaves (bound_of f.condition.now) (bound_of f.value.now) s before e
+        (λ rs. Gains (W.written a) (W.written b) (meanings (unbound (bound_of f.value.now)) s (kept (unbound (bound_of f.condition.now)) s rs))) };
+
+    fn go_over(
+        &self,
+        alloc: Global,
+        count: usize,
+        records: &mut R,
+        out: &mut W,
+    ) -> Result<bool, SelectError> {
+        select_some(alloc, self, count, records, out)
     }
-    Ok(())
 }
 
 // The same of so many records. Tells whether they were the last.

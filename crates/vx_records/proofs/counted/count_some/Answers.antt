@@ -13,7 +13,7 @@ returns-in-Err-clause-stopped g c = stops_first g.R.RecordReader.leaves _ _ c.in
 
 pub returns-in-Ok-ended-clause-step : goal.returns-in-Ok-ended-clause-step
 returns-in-Ok-ended-clause-step g c =
-    let (rs, next, texts, meant) = c.in-Ok.ensures.read in
+    let (rs, next, (texts, over), meant) = c.in-Ok.ensures.read in
     let values = c.rows.ensures.rows ∙ ap (λ (a : Answers). a.values.rows) c.deref.ensures ∙ meant in
     let kept = count_read (unbound (bound_of c.args.tree.now)) (g.R.RecordReader.scope c.args.records.now) c.rows.result.now rs c.true_count-kept.result c.true_count-kept.ensures values in
     step_next g.R.RecordReader.leaves c.args.count c.args.records.now _ _ c.in-Ok-ended.last _ rs _ next c.in-Ok-ended.ensures.ok (count_of rs _ texts) kept
@@ -24,5 +24,5 @@ returns-in-Ok-ended-clause-few g c =
 
 pub returns-in-Err-ended-clause-stopped : goal.returns-in-Err-ended-clause-stopped
 returns-in-Err-ended-clause-stopped g c =
-    let (rs, next, texts, meant) = c.in-Ok.ensures.read in
+    let (rs, next, (texts, over), meant) = c.in-Ok.ensures.read in
     stops_next g.R.RecordReader.leaves _ c.args.count c.args.records.now _ _ c.in-Err-ended.e rs _ _ next tt c.in-Err-ended.ensures.err
