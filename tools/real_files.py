@@ -209,7 +209,8 @@ def differences(program, path):
         ended = run(program, expression, path, words)
         kept = [record for record, truth in zip(records, truths) if truth is True]
         if ended.returncode != 0:
-            found.append((path, expression, ended.stderr.decode(errors="replace").splitlines()[0]))
+            said = ended.stderr.decode(errors="replace").splitlines()
+            found.append((path, expression, said[0] if said else f"status {ended.returncode}"))
         elif read(ended.stdout.decode("utf-8-sig")) != kept:
             found.append((path, expression, f"expected {len(kept)} records"))
     return FILTERS, found
