@@ -171,8 +171,10 @@ fn with_part<'a>(format: CsvFormat<'a>, part: &'a str) -> Option<CsvFormat<'a>> 
 
 // The byte of that word: a tab, or the one that it is.
 fn byte_named(word: &str) -> Option<u8> {
+    if word == "tab" {
+        return Some(b'\t');
+    }
     match word.as_bytes() {
-        b"tab" => Some(b'\t'),
         [byte] => Some(*byte),
         _ => None,
     }
@@ -192,10 +194,12 @@ pub enum Again {
 impl Again {
     // What became of rows, by what is read of them.
     fn of_rows<T: PartialEq + Drop, E: Drop>(read: Result<T, E>, rows: &T) -> Again {
-        match read {
-            Ok(read) if read == *rows => Again::Same,
-            Ok(_) | Err(_) => Again::Other,
-        }
+        let is_same = match &read {
+            Ok(read) => *read == *rows,
+            Err(_) => false,
+        };
+        drop(read);
+        if is_same { Again::Same } else { Again::Other }
     }
 
     // What became of rows that aren't written.
