@@ -5,10 +5,8 @@
 #![tactic(auto)]
 
 use anyhow::{Context, Result};
-use std::fmt::{Display, Formatter};
 use std::process::ExitCode;
-use std::rt::Files;
-use std::{env, fmt, fs, io};
+use std::{env, fs};
 use vx_test_runner::judge_table;
 use vx_test_support::{Aim, Table, Tally, exit_code};
 
@@ -28,47 +26,29 @@ impl Tallies {
             Aim::Unread => &mut self.unread,
         }
     }
-
-    fn failed(&self) -> usize {
-        let of_calls = self.right.failed.saturating_add(self.wrong.failed);
-        of_calls.saturating_add(self.unread.failed)
-    }
-}
-
-impl Display for Tallies {
-    fn fmt<W: fmt::Write>(&self, f: &mut Formatter<W>) -> fmt::Result {
-        let Tallies {
-            right,
-            wrong,
-            unread,
-        } = self;
-        writeln!(f, "{} wrong lines, {} not told", wrong.lines, wrong.failed)?;
-        writeln!(
-            f,
-            "{} lines that can't be read, {} not refused",
-            unread.lines, unread.failed
-        )?;
-        write!(f, "{} rows, {} failed", right.lines, right.failed)
-    }
-}
-
-// Judges the table in the file of that name.
-fn judge_file(
-    rt: &(impl Files + AllocGlobal + Print),
-    name: &str,
-    tallies: &mut Tallies,
-) -> Result<()> {
-    let text = fs::read_to_string(rt, name).context(format_args!("reading {name}"))?;
-    let table = Table::new(name, text.as_str());
-    let tally = tallies.of(table.aim);
-    Ok(judge_table(rt.alloc(), &table, tally, &mut io::writer(rt))?)
 }
 
 fn main(rt: HostRuntime) -> Result<ExitCode> {
+    let alloc = rt.alloc();
     let mut tallies = Tallies::default();
     for name in env::args(&rt)?.skip(1) {
-        judge_file(&rt, name.as_str(), &mut tallies)?;
+        let name = name.as_str();
+        let text = fs::read_to_string(&rt, name).context(format_args!("reading {name}"))?;
+        let table = Table::new(name, text.as_str());
+        let tally = tallies.of(table.aim);
+        judge_table(alloc, &table, tally, &mut rt.stdout())?;
     }
-    println!(rt; "{tallies}")?;
-    Ok(exit_code(tallies.failed()))
+    let Tallies {
+        right,
+        wrong,
+        unread,
+    } = tallies;
+    println!(rt; "{} wrong lines, {} not told", wrong.lines, wrong.failed)?;
+    println!(rt;
+        "{} lines that can't be read, {} not refused",
+        unread.lines, unread.failed
+    )?;
+    println!(rt; "{} rows, {} failed", right.lines, right.failed)?;
+    let failed = right.failed.saturating_add(wrong.failed);
+    Ok(exit_code(failed.saturating_add(unread.failed)))
 }

@@ -35,8 +35,7 @@ pub fn answer(
         (Kind::OfSource(kind), [tree]) => sources::answer(alloc, kind, scene, tree),
         (Kind::OfBound(kind), [tree]) => bound::answer(alloc, kind, scene, tree),
         (Kind::OfTwo(kind), [by, tree]) => pairs::answer(alloc, kind, scene, by, tree),
-        (Kind::OfWord(kind), [word]) => words::of_one(alloc, kind, scene, word),
-        (Kind::OfWords(kind), _) => words::of_several(alloc, kind, scene, columns),
+        (Kind::OfWords(kind), _) => words::answer(alloc, kind, scene, columns),
         _ => Err(Unread::Word("another number of columns")),
     }
 }

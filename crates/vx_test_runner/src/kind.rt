@@ -6,7 +6,6 @@ pub enum Kind {
     OfSource(SourceKind),
     OfBound(BoundKind),
     OfTwo(PairKind),
-    OfWord(WordKind),
     OfWords(WordsKind),
 }
 
@@ -22,17 +21,11 @@ pub enum SourceKind {
     BuiltBound,
     Depth,
     AnyQuery,
-    Planned(PlanKind),
-    Selected,
-}
-
-/// What a line asks of a plan for scans.
-#[derive(Clone, Copy)]
-pub enum PlanKind {
-    Tree,
-    Paths,
-    Split,
+    Planned,
+    PlannedPaths,
+    PlannedSplit,
     Scan,
+    Selected,
 }
 
 /// Kinds of lines that ask of a source that is bound to the scope.
@@ -40,11 +33,7 @@ pub enum PlanKind {
 pub enum BoundKind {
     Source,
     Rows,
-    Rewritten(Rewriting, Told),
-    OptimizedOrNone,
-    OptimizedAtRoot,
-    ByBranchesOrNone,
-    FoldedOrNone,
+    OfRewritten(RewrittenKind),
     OfAnalysis(AnalysisKind),
     OfFields(FieldsKind),
     Pruned,
@@ -57,14 +46,18 @@ pub enum Told {
     Rows,
 }
 
-/// By what a tree is made of the bound one.
+/// What a line asks of a tree that is made of the bound one.
 #[derive(Clone, Copy)]
-pub enum Rewriting {
-    Validity,
-    Optimized,
-    ByBranches,
-    Folded,
-    Fused,
+pub enum RewrittenKind {
+    Validity(Told),
+    Optimized(Told),
+    OptimizedOrNone,
+    OptimizedAtRoot,
+    ByBranches(Told),
+    ByBranchesOrNone,
+    Folded(Told),
+    FoldedOrNone,
+    Fused(Told),
 }
 
 /// What a line asks of the paths and the labels of the bound tree.
@@ -102,39 +95,34 @@ pub enum PairKind {
     FusedAs,
 }
 
-/// Kinds of lines that ask of one column, which is no tree.
+/// Kinds of lines that ask of no tree.
 #[derive(Clone, Copy)]
-pub enum WordKind {
+pub enum WordsKind {
+    Like,
     Error,
     Function,
     ChildNames,
+    NodeType,
+    Kept,
     Swapped,
     TypeText,
     Parse,
     ParsedType,
     ParsedScalar,
     Places,
+    ParseOver,
+    Union,
     Scalar,
+    Column,
+    Joined,
     PathSet,
     Read,
     Reader,
     StatisticsOf,
+    FirstMatch,
+    Collected(CollectKind),
     ByChance,
     TextsByChance,
-}
-
-/// Kinds of lines that ask of several columns, of which none is a tree.
-#[derive(Clone, Copy)]
-pub enum WordsKind {
-    Like,
-    NodeType,
-    Kept,
-    ParseOver,
-    Union,
-    Column,
-    Collected(CollectKind),
-    Joined,
-    FirstMatch,
     PeeledText,
 }
 
@@ -147,237 +135,175 @@ pub enum CollectKind {
 }
 
 impl Kind {
-    /// The kind of that name, and how many columns it has before the answer that is wanted.
-    pub fn named(name: &str) -> Option<(Kind, usize)> {
-        for (other, columns, kind) in KINDS.iter() {
-            if *other == name {
-                return Some((*kind, *columns));
-            }
+    /// The kind of that name.
+    pub fn named(name: &str) -> Option<Kind> {
+        of_source(name)
+            .map(Kind::OfSource)
+            .or_else(|| of_bound(name).map(Kind::OfBound))
+            .or_else(|| of_two(name).map(Kind::OfTwo))
+            .or_else(|| of_words(name).map(Kind::OfWords))
+    }
+
+    /// How many columns it has before the answer that is wanted.
+    pub fn columns(self) -> usize {
+        match self {
+            Kind::OfSource(_) | Kind::OfBound(_) => 1,
+            Kind::OfTwo(_) => 2,
+            Kind::OfWords(kind) => match kind {
+                WordsKind::Like
+                | WordsKind::NodeType
+                | WordsKind::Kept
+                | WordsKind::ParseOver
+                | WordsKind::Union
+                | WordsKind::Column
+                | WordsKind::Collected(_) => 2,
+                WordsKind::Joined => 3,
+                WordsKind::FirstMatch | WordsKind::PeeledText => 4,
+                WordsKind::Error
+                | WordsKind::Function
+                | WordsKind::ChildNames
+                | WordsKind::Swapped
+                | WordsKind::TypeText
+                | WordsKind::Parse
+                | WordsKind::ParsedType
+                | WordsKind::ParsedScalar
+                | WordsKind::Places
+                | WordsKind::Scalar
+                | WordsKind::PathSet
+                | WordsKind::Read
+                | WordsKind::Reader
+                | WordsKind::StatisticsOf
+                | WordsKind::ByChance
+                | WordsKind::TextsByChance => 1,
+            },
         }
-        None
     }
 }
 
-const KINDS: [(&str, usize, Kind); 81] = [
-    ("text", 1, Kind::OfSource(SourceKind::Text)),
-    ("text length", 1, Kind::OfSource(SourceKind::TextLength)),
-    ("tree text", 1, Kind::OfSource(SourceKind::TreeText)),
-    (
-        "tree text length",
-        1,
-        Kind::OfSource(SourceKind::TreeTextLength),
-    ),
-    ("type", 1, Kind::OfSource(SourceKind::Type)),
-    ("built", 1, Kind::OfSource(SourceKind::Built)),
-    ("built bound", 1, Kind::OfSource(SourceKind::BuiltBound)),
-    ("depth", 1, Kind::OfSource(SourceKind::Depth)),
-    ("any query", 1, Kind::OfSource(SourceKind::AnyQuery)),
-    (
-        "planned",
-        1,
-        Kind::OfSource(SourceKind::Planned(PlanKind::Tree)),
-    ),
-    (
-        "planned paths",
-        1,
-        Kind::OfSource(SourceKind::Planned(PlanKind::Paths)),
-    ),
-    (
-        "planned split",
-        1,
-        Kind::OfSource(SourceKind::Planned(PlanKind::Split)),
-    ),
-    (
-        "scan",
-        1,
-        Kind::OfSource(SourceKind::Planned(PlanKind::Scan)),
-    ),
-    ("selected", 1, Kind::OfSource(SourceKind::Selected)),
-    ("source", 1, Kind::OfBound(BoundKind::Source)),
-    ("rows", 1, Kind::OfBound(BoundKind::Rows)),
-    ("pruned", 1, Kind::OfBound(BoundKind::Pruned)),
-    (
-        "validity",
-        1,
-        Kind::OfBound(BoundKind::Rewritten(Rewriting::Validity, Told::Text)),
-    ),
-    (
-        "validity rows",
-        1,
-        Kind::OfBound(BoundKind::Rewritten(Rewriting::Validity, Told::Rows)),
-    ),
-    (
-        "optimized",
-        1,
-        Kind::OfBound(BoundKind::Rewritten(Rewriting::Optimized, Told::Text)),
-    ),
-    (
-        "optimized rows",
-        1,
-        Kind::OfBound(BoundKind::Rewritten(Rewriting::Optimized, Told::Rows)),
-    ),
-    (
-        "optimized or none",
-        1,
-        Kind::OfBound(BoundKind::OptimizedOrNone),
-    ),
-    (
-        "optimized at root",
-        1,
-        Kind::OfBound(BoundKind::OptimizedAtRoot),
-    ),
-    (
-        "by branches",
-        1,
-        Kind::OfBound(BoundKind::Rewritten(Rewriting::ByBranches, Told::Text)),
-    ),
-    (
-        "by branches rows",
-        1,
-        Kind::OfBound(BoundKind::Rewritten(Rewriting::ByBranches, Told::Rows)),
-    ),
-    (
-        "by branches or none",
-        1,
-        Kind::OfBound(BoundKind::ByBranchesOrNone),
-    ),
-    (
-        "folded",
-        1,
-        Kind::OfBound(BoundKind::Rewritten(Rewriting::Folded, Told::Text)),
-    ),
-    (
-        "folded rows",
-        1,
-        Kind::OfBound(BoundKind::Rewritten(Rewriting::Folded, Told::Rows)),
-    ),
-    ("folded or none", 1, Kind::OfBound(BoundKind::FoldedOrNone)),
-    (
-        "fused",
-        1,
-        Kind::OfBound(BoundKind::Rewritten(Rewriting::Fused, Told::Text)),
-    ),
-    (
-        "fused rows",
-        1,
-        Kind::OfBound(BoundKind::Rewritten(Rewriting::Fused, Told::Rows)),
-    ),
-    (
-        "paths",
-        1,
-        Kind::OfBound(BoundKind::OfAnalysis(AnalysisKind::Paths)),
-    ),
-    (
-        "optimized paths",
-        1,
-        Kind::OfBound(BoundKind::OfAnalysis(AnalysisKind::OptimizedPaths)),
-    ),
-    (
-        "size",
-        1,
-        Kind::OfBound(BoundKind::OfAnalysis(AnalysisKind::Size)),
-    ),
-    (
-        "sizes",
-        1,
-        Kind::OfBound(BoundKind::OfAnalysis(AnalysisKind::Sizes)),
-    ),
-    (
-        "heights",
-        1,
-        Kind::OfBound(BoundKind::OfAnalysis(AnalysisKind::Heights)),
-    ),
-    (
-        "fields",
-        1,
-        Kind::OfBound(BoundKind::OfFields(FieldsKind::Fields)),
-    ),
-    (
-        "own fields",
-        1,
-        Kind::OfBound(BoundKind::OfFields(FieldsKind::OwnFields)),
-    ),
-    (
-        "own annotations",
-        1,
-        Kind::OfBound(BoundKind::OfFields(FieldsKind::OwnAnnotations)),
-    ),
-    (
-        "annotations",
-        1,
-        Kind::OfBound(BoundKind::OfFields(FieldsKind::Annotations)),
-    ),
-    (
-        "covers",
-        1,
-        Kind::OfBound(BoundKind::OfFields(FieldsKind::Covers)),
-    ),
-    (
-        "split",
-        1,
-        Kind::OfBound(BoundKind::OfFields(FieldsKind::Split(Told::Text))),
-    ),
-    (
-        "split rows",
-        1,
-        Kind::OfBound(BoundKind::OfFields(FieldsKind::Split(Told::Rows))),
-    ),
-    (
-        "replaced",
-        1,
-        Kind::OfBound(BoundKind::OfFields(FieldsKind::Replaced(Told::Text))),
-    ),
-    (
-        "replaced rows",
-        1,
-        Kind::OfBound(BoundKind::OfFields(FieldsKind::Replaced(Told::Rows))),
-    ),
-    ("passes", 2, Kind::OfTwo(PairKind::Passes)),
-    ("query", 2, Kind::OfTwo(PairKind::Query)),
-    ("query type", 2, Kind::OfTwo(PairKind::QueryType)),
-    ("scan over", 2, Kind::OfTwo(PairKind::ScanOver)),
-    ("partition", 2, Kind::OfTwo(PairKind::Partition)),
-    ("replaced by", 2, Kind::OfTwo(PairKind::ReplacedBy)),
-    ("equal", 2, Kind::OfTwo(PairKind::Equal)),
-    ("fused as", 2, Kind::OfTwo(PairKind::FusedAs)),
-    ("error", 1, Kind::OfWord(WordKind::Error)),
-    ("function", 1, Kind::OfWord(WordKind::Function)),
-    ("child names", 1, Kind::OfWord(WordKind::ChildNames)),
-    ("swapped", 1, Kind::OfWord(WordKind::Swapped)),
-    ("type text", 1, Kind::OfWord(WordKind::TypeText)),
-    ("parse", 1, Kind::OfWord(WordKind::Parse)),
-    ("parsed type", 1, Kind::OfWord(WordKind::ParsedType)),
-    ("parsed scalar", 1, Kind::OfWord(WordKind::ParsedScalar)),
-    ("places", 1, Kind::OfWord(WordKind::Places)),
-    ("scalar", 1, Kind::OfWord(WordKind::Scalar)),
-    ("path set", 1, Kind::OfWord(WordKind::PathSet)),
-    ("read", 1, Kind::OfWord(WordKind::Read)),
-    ("reader", 1, Kind::OfWord(WordKind::Reader)),
-    ("statistics of", 1, Kind::OfWord(WordKind::StatisticsOf)),
-    ("by chance", 1, Kind::OfWord(WordKind::ByChance)),
-    ("texts by chance", 1, Kind::OfWord(WordKind::TextsByChance)),
-    ("like", 2, Kind::OfWords(WordsKind::Like)),
-    ("node type", 2, Kind::OfWords(WordsKind::NodeType)),
-    ("kept", 2, Kind::OfWords(WordsKind::Kept)),
-    ("parse over", 2, Kind::OfWords(WordsKind::ParseOver)),
-    ("union", 2, Kind::OfWords(WordsKind::Union)),
-    ("column", 2, Kind::OfWords(WordsKind::Column)),
-    (
-        "collected",
-        2,
-        Kind::OfWords(WordsKind::Collected(CollectKind::Text)),
-    ),
-    (
-        "collected bound",
-        2,
-        Kind::OfWords(WordsKind::Collected(CollectKind::Bound)),
-    ),
-    (
-        "collected depth",
-        2,
-        Kind::OfWords(WordsKind::Collected(CollectKind::Depth)),
-    ),
-    ("joined", 3, Kind::OfWords(WordsKind::Joined)),
-    ("first match", 4, Kind::OfWords(WordsKind::FirstMatch)),
-    ("peeled text", 4, Kind::OfWords(WordsKind::PeeledText)),
-];
+fn of_source(name: &str) -> Option<SourceKind> {
+    Some(match name {
+        "text" => SourceKind::Text,
+        "text length" => SourceKind::TextLength,
+        "tree text" => SourceKind::TreeText,
+        "tree text length" => SourceKind::TreeTextLength,
+        "type" => SourceKind::Type,
+        "built" => SourceKind::Built,
+        "built bound" => SourceKind::BuiltBound,
+        "depth" => SourceKind::Depth,
+        "any query" => SourceKind::AnyQuery,
+        "planned" => SourceKind::Planned,
+        "planned paths" => SourceKind::PlannedPaths,
+        "planned split" => SourceKind::PlannedSplit,
+        "scan" => SourceKind::Scan,
+        "selected" => SourceKind::Selected,
+        _ => return None,
+    })
+}
+
+fn of_bound(name: &str) -> Option<BoundKind> {
+    Some(match name {
+        "source" => BoundKind::Source,
+        "rows" => BoundKind::Rows,
+        "pruned" => BoundKind::Pruned,
+        _ => {
+            return of_rewritten(name)
+                .map(BoundKind::OfRewritten)
+                .or_else(|| of_analysis(name).map(BoundKind::OfAnalysis))
+                .or_else(|| of_fields(name).map(BoundKind::OfFields));
+        }
+    })
+}
+
+fn of_rewritten(name: &str) -> Option<RewrittenKind> {
+    Some(match name {
+        "validity" => RewrittenKind::Validity(Told::Text),
+        "validity rows" => RewrittenKind::Validity(Told::Rows),
+        "optimized" => RewrittenKind::Optimized(Told::Text),
+        "optimized rows" => RewrittenKind::Optimized(Told::Rows),
+        "optimized or none" => RewrittenKind::OptimizedOrNone,
+        "optimized at root" => RewrittenKind::OptimizedAtRoot,
+        "by branches" => RewrittenKind::ByBranches(Told::Text),
+        "by branches rows" => RewrittenKind::ByBranches(Told::Rows),
+        "by branches or none" => RewrittenKind::ByBranchesOrNone,
+        "folded" => RewrittenKind::Folded(Told::Text),
+        "folded rows" => RewrittenKind::Folded(Told::Rows),
+        "folded or none" => RewrittenKind::FoldedOrNone,
+        "fused" => RewrittenKind::Fused(Told::Text),
+        "fused rows" => RewrittenKind::Fused(Told::Rows),
+        _ => return None,
+    })
+}
+
+fn of_analysis(name: &str) -> Option<AnalysisKind> {
+    Some(match name {
+        "paths" => AnalysisKind::Paths,
+        "optimized paths" => AnalysisKind::OptimizedPaths,
+        "size" => AnalysisKind::Size,
+        "sizes" => AnalysisKind::Sizes,
+        "heights" => AnalysisKind::Heights,
+        _ => return None,
+    })
+}
+
+fn of_fields(name: &str) -> Option<FieldsKind> {
+    Some(match name {
+        "fields" => FieldsKind::Fields,
+        "own fields" => FieldsKind::OwnFields,
+        "own annotations" => FieldsKind::OwnAnnotations,
+        "annotations" => FieldsKind::Annotations,
+        "covers" => FieldsKind::Covers,
+        "split" => FieldsKind::Split(Told::Text),
+        "split rows" => FieldsKind::Split(Told::Rows),
+        "replaced" => FieldsKind::Replaced(Told::Text),
+        "replaced rows" => FieldsKind::Replaced(Told::Rows),
+        _ => return None,
+    })
+}
+
+fn of_two(name: &str) -> Option<PairKind> {
+    Some(match name {
+        "passes" => PairKind::Passes,
+        "query" => PairKind::Query,
+        "query type" => PairKind::QueryType,
+        "scan over" => PairKind::ScanOver,
+        "partition" => PairKind::Partition,
+        "replaced by" => PairKind::ReplacedBy,
+        "equal" => PairKind::Equal,
+        "fused as" => PairKind::FusedAs,
+        _ => return None,
+    })
+}
+
+fn of_words(name: &str) -> Option<WordsKind> {
+    Some(match name {
+        "like" => WordsKind::Like,
+        "error" => WordsKind::Error,
+        "function" => WordsKind::Function,
+        "child names" => WordsKind::ChildNames,
+        "node type" => WordsKind::NodeType,
+        "kept" => WordsKind::Kept,
+        "swapped" => WordsKind::Swapped,
+        "type text" => WordsKind::TypeText,
+        "parse" => WordsKind::Parse,
+        "parsed type" => WordsKind::ParsedType,
+        "parsed scalar" => WordsKind::ParsedScalar,
+        "places" => WordsKind::Places,
+        "parse over" => WordsKind::ParseOver,
+        "union" => WordsKind::Union,
+        "scalar" => WordsKind::Scalar,
+        "column" => WordsKind::Column,
+        "joined" => WordsKind::Joined,
+        "path set" => WordsKind::PathSet,
+        "read" => WordsKind::Read,
+        "reader" => WordsKind::Reader,
+        "statistics of" => WordsKind::StatisticsOf,
+        "first match" => WordsKind::FirstMatch,
+        "collected" => WordsKind::Collected(CollectKind::Text),
+        "collected bound" => WordsKind::Collected(CollectKind::Bound),
+        "collected depth" => WordsKind::Collected(CollectKind::Depth),
+        "by chance" => WordsKind::ByChance,
+        "texts by chance" => WordsKind::TextsByChance,
+        "peeled text" => WordsKind::PeeledText,
+        _ => return None,
+    })
+}

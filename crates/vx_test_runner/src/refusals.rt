@@ -1,9 +1,8 @@
 // Refusals by their names, as tables write them.
-use crate::told::text;
 use std::alloc::Global;
 use std::fmt;
-use vx_test_support::{Unread, reads};
-use vx_tree::{FieldName, VortexError, VortexResult};
+use vx_test_support::Unread;
+use vx_tree::{FieldName, VortexError};
 
 /// A refusal as its name, and behind it what it says in brackets: `NoSuchField(zz)`.
 #[derive(Clone, Copy)]
@@ -17,13 +16,13 @@ impl fmt::Display for Named<'_> {
             | VortexError::PartitionCount { expected, got } => {
                 write!(f, "{name}({expected},{got})")
             }
-            VortexError::RootChildren { got: number }
-            | VortexError::AddOverflow { row: number }
-            | VortexError::CastNull { row: number }
-            | VortexError::RowMisfit { row: number } => write!(f, "{name}({number})"),
+            VortexError::RootChildren { got } => write!(f, "{name}({got})"),
             VortexError::NoSuchField(field) | VortexError::PartitionNameTaken(field) => {
                 write!(f, "{name}({field})")
             }
+            VortexError::AddOverflow { row }
+            | VortexError::CastNull { row }
+            | VortexError::RowMisfit { row } => write!(f, "{name}({row})"),
             _ => f.write_str(name),
         }
     }
@@ -53,50 +52,52 @@ fn name_of(refusal: &VortexError) -> &'static str {
     }
 }
 
-/// The text of the refusal that is written so, as its name with what it says in brackets.
-pub fn error_text(alloc: Global, written: &str) -> Result<String, Unread> {
-    for number in 1..=19 {
-        if let Some(text) = text_of(alloc, number, written)? {
-            return Ok(text);
-        }
+/// The refusal of that name, with what it says behind it in brackets.
+pub fn refusal(alloc: Global, text: &str) -> Result<VortexError, Unread> {
+    let Some((name, said)) = text.split_once('(') else {
+        return Ok(plain(text).ok_or("no refusal")?);
+    };
+    let said = said.strip_suffix(')').ok_or("a bracket that isn't closed")?;
+    match name {
+        "NoSuchField" => Ok(VortexError::NoSuchField(FieldName::new(alloc, said)?)),
+        "PartitionNameTaken" => Ok(VortexError::PartitionNameTaken(FieldName::new(alloc, said)?)),
+        _ => Ok(counted(name, said).ok_or("no refusal that says so")?),
     }
-    Err(Unread::Word("no refusal"))
 }
 
-// The text of the refusal of that number that says what stands in brackets, where it is written so.
-fn text_of(alloc: Global, number: usize, written: &str) -> VortexResult<Option<String>> {
-    let (_, said) = written.split_once('(').unwrap_or((written, ""));
-    let refusal = Box::new(alloc, refusal(alloc, number, said.trim_end_matches(')'))?)?;
-    if !reads(&Named(&refusal), written) {
-        return Ok(None);
-    }
-    Ok(Some(text(alloc, &*refusal)?))
-}
-
-// The refusal of that number; a number that it says and that doesn't stand there is 0.
-fn refusal(alloc: Global, number: usize, said: &str) -> VortexResult<VortexError> {
-    let (expected, got) = said.split_once(',').unwrap_or((said, said));
-    let expected = expected.parse().unwrap_or(0);
-    let got = got.parse().unwrap_or(0);
-    Ok(match number {
-        1 => VortexError::OutOfMemory,
-        2 => VortexError::ArityMismatch { expected, got },
-        3 => VortexError::RootChildren { got },
-        4 => VortexError::NotAStruct,
-        5 => VortexError::NoSuchField(FieldName::new(alloc, said)?),
-        6 => VortexError::BaseTypesDiffer,
-        7 => VortexError::NotBool,
-        8 => VortexError::NotComparable,
-        9 => VortexError::NotNumeric,
-        10 => VortexError::NotText,
-        11 => VortexError::NoPairs,
-        12 => VortexError::ScopeMismatch,
-        13 => VortexError::AddOverflow { row: got },
-        14 => VortexError::CastNull { row: got },
-        15 => VortexError::BadFill,
-        16 => VortexError::PartitionCount { expected, got },
-        17 => VortexError::PartitionNameTaken(FieldName::new(alloc, said)?),
-        18 => VortexError::RowMisfit { row: got },
-        _ => VortexError::LengthMismatch,
+fn plain(name: &str) -> Option<VortexError> {
+    Some(match name {
+        "OutOfMemory" => VortexError::OutOfMemory,
+        "NotAStruct" => VortexError::NotAStruct,
+        "BaseTypesDiffer" => VortexError::BaseTypesDiffer,
+        "NotBool" => VortexError::NotBool,
+        "NotComparable" => VortexError::NotComparable,
+        "NotNumeric" => VortexError::NotNumeric,
+        "NotText" => VortexError::NotText,
+        "NoPairs" => VortexError::NoPairs,
+        "ScopeMismatch" => VortexError::ScopeMismatch,
+        "BadFill" => VortexError::BadFill,
+        "LengthMismatch" => VortexError::LengthMismatch,
+        _ => return None,
     })
+}
+
+fn counted(name: &str, said: &str) -> Option<VortexError> {
+    if let Some((expected, got)) = said.split_once(',') {
+        let expected = expected.parse().ok()?;
+        let got = got.parse().ok()?;
+        return match name {
+            "ArityMismatch" => Some(VortexError::ArityMismatch { expected, got }),
+            "PartitionCount" => Some(VortexError::PartitionCount { expected, got }),
+            _ => None,
+        };
+    }
+    let number = said.parse().ok()?;
+    match name {
+        "RootChildren" => Some(VortexError::RootChildren { got: number }),
+        "AddOverflow" => Some(VortexError::AddOverflow { row: number }),
+        "CastNull" => Some(VortexError::CastNull { row: number }),
+        "RowMisfit" => Some(VortexError::RowMisfit { row: number }),
+        _ => None,
+    }
 }

@@ -41,7 +41,7 @@ impl Scene {
                 self.batches.push(batch)?;
             }
             "no batch" if rest.is_empty() => self.batches = Vec::new(alloc),
-            "statistics" => self.statistics = statistics(alloc, rest)?,
+            "statistics" => self.statistics = Box::new(alloc, statistics(alloc, rest)?)?,
             "read statistics" => self.statistics = self.read_off(alloc, rest)?,
             "tree" => self.tree = String::from_str(alloc, rest)?,
             _ => return Ok(false),
@@ -51,9 +51,7 @@ impl Scene {
 
     // The statistics of the first batch along the paths.
     fn read_off(&self, alloc: Global, paths: &str) -> Result<Box<ChunkStats>, Unread> {
-        let Some(batch) = self.batches.first() else {
-            return Err(Unread::Word("no batch"));
-        };
+        let batch = self.batches.first().ok_or("no batch")?;
         Ok(Box::new(alloc, read_off(alloc, batch, paths)?)?)
     }
 

@@ -1,53 +1,27 @@
 // Answers as texts.
 use crate::refusals::Named;
-use std::alloc::Global;
+use std::alloc::{AllocError, Global};
 use std::fmt::Display;
 use vx_tree::{BoundExpression, VortexError, VortexResult};
-
-/// The value as a text.
-pub fn text<T: Display>(alloc: Global, value: &T) -> VortexResult<String> {
-    Ok(format!(in alloc; "{value}")?)
-}
 
 /// What is answered, or `! ` and the refusal's name.
 pub fn told<T: Display + Drop>(alloc: Global, answer: VortexResult<T>) -> VortexResult<String> {
     match answer {
-        Ok(answer) => text(alloc, &answer),
+        Ok(answer) => Ok(format!(in alloc; "{answer}")?),
         Err(refusal) => refused(alloc, &refusal),
     }
 }
 
 /// `! ` and the refusal's name.
 pub fn refused(alloc: Global, refusal: &VortexError) -> VortexResult<String> {
-    text(alloc, &format_args!("! {}", Named(refusal)))
-}
-
-/// A value, and its type behind it.
-pub fn with_type<V: Display, T: Display>(
-    alloc: Global,
-    value: &V,
-    dtype: &T,
-) -> VortexResult<String> {
-    text(alloc, &format_args!("{value} : {dtype}"))
+    let named = Named(refusal);
+    Ok(format!(in alloc; "! {named}")?)
 }
 
 /// The tree's text and its type.
 pub fn typed(alloc: Global, tree: &BoundExpression) -> VortexResult<String> {
-    with_type(alloc, tree, tree.dtype())
-}
-
-/// Adds the value, with that text between it and what is before it.
-pub fn push<T: Display>(
-    alloc: Global,
-    texts: &mut String,
-    between: &str,
-    value: &T,
-) -> VortexResult<()> {
-    if !texts.is_empty() {
-        texts.push_str(between)?;
-    }
-    let text = text(alloc, value)?;
-    Ok(texts.push_str(text.as_str())?)
+    let dtype = tree.dtype();
+    Ok(format!(in alloc; "{tree} : {dtype}")?)
 }
 
 /// Adds what is answered over one more batch.
@@ -56,13 +30,16 @@ pub fn push_rows<T: Display + Drop>(
     rows: &mut String,
     answer: VortexResult<T>,
 ) -> VortexResult<()> {
+    if !rows.is_empty() {
+        rows.push_str(" / ")?;
+    }
     let told = told(alloc, answer)?;
-    push(alloc, rows, " / ", &told)
+    Ok(rows.push_str(told.as_str())?)
 }
 
 /// The lines of the text, with bars between them.
-pub fn barred(alloc: Global, text: &str) -> VortexResult<String> {
-    Ok(text.replace(alloc, '\n', "|")?)
+pub fn barred(alloc: Global, text: &str) -> Result<String, AllocError> {
+    text.replace(alloc, '\n', "|")
 }
 
 /// The same text twice, or both where they differ.
@@ -70,5 +47,5 @@ pub fn agreed(alloc: Global, one: String, other: String) -> VortexResult<String>
     if one.as_str() == other.as_str() {
         return Ok(one);
     }
-    text(alloc, &format_args!("{one}, and another way {other}"))
+    Ok(format!(in alloc; "{one}, and another way {other}")?)
 }

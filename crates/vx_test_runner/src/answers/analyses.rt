@@ -6,7 +6,6 @@ use crate::answers::bound_line::BoundLine;
 use crate::answers::distinct::{Analysis, key_of, told_of_all};
 use crate::answers::paths::shown_paths;
 use crate::kind::AnalysisKind;
-use crate::told::text;
 use std::alloc::Global;
 use vx_rewrite::{BoundLabels, Optimize, label_bound_tree, referenced_field_paths};
 use vx_tree::{BoundExpression, VortexResult};
@@ -70,8 +69,8 @@ impl Analysis for BoundLabels<u64> {
     fn told_at(&self, alloc: Global, node: &BoundExpression) -> VortexResult<String> {
         let key = key_of(alloc, node)?;
         match self.get(&*key) {
-            Some(label) => text(alloc, label),
-            None => text(alloc, &"-"),
+            Some(label) => Ok(format!(in alloc; "{label}")?),
+            None => Ok(String::from_str(alloc, "-")?),
         }
     }
 

@@ -1,74 +1,63 @@
 // Answers that are of a bound tree, but of its analyses and its split.
-ghost use Rattle.std.specs.Prelude.{IfOk};
 ghost use Rattle.vx_tree.specs.Trees.{WellTyped};
 ghost use Rattle.vx_tree.specs.Views.{bound_of};
 
 use crate::answers::bound_line::BoundLine;
 use crate::answers::pruned::pruned;
 use crate::answers::{analyses, partitions};
-use crate::kind::{BoundKind, Rewriting, Told};
+use crate::kind::{BoundKind, RewrittenKind, Told};
 use crate::scene::Scene;
-use crate::told::{agreed, barred, push_rows, text, told, typed};
+use crate::told::{agreed, barred, push_rows, refused, typed};
 use std::alloc::Global;
 use vx_eval::apply_bound;
 use vx_rewrite::{
     BranchRules, FoldingRules, Optimize, Pass, Rule, StandardRules, find_between, optimize_with,
     run_passes,
 };
-use vx_test_support::{Unread, reads};
+use vx_test_support::Unread;
 use vx_tree::{BoundExpression, Column, Expression, VortexError, VortexResult};
 
 /// The answer to a line that asks of the source of that text, bound to the scope.
 pub fn answer(alloc: Global, kind: BoundKind, scene: &Scene, tree: &str) -> Result<String, Unread> {
     let source = scene.source(alloc, tree)?;
-    told(alloc, of_source(alloc, kind, scene, &source)).map_err(Unread::Refused)
-}
-
-fn of_source(
-    alloc: Global,
-    kind: BoundKind,
-    scene: &Scene,
-    source: &Expression,
-) -> VortexResult<String> {
-    let bound = scene.bind(alloc, source)?;
+    let bound = match scene.bind(alloc, &source) {
+        Ok(bound) => bound,
+        Err(refusal) => return Ok(refused(alloc, &refusal)?),
+    };
     let line = BoundLine {
         scene,
-        source,
+        source: &source,
         bound: &bound,
     };
-    of_bound(alloc, kind, &line)
+    let answer = match kind {
+        BoundKind::Source => same_texts(alloc, &source, &bound),
+        BoundKind::Rows => rows(alloc, scene, &bound),
+        BoundKind::OfRewritten(kind) => rewritten(alloc, kind, scene, &bound),
+        BoundKind::OfAnalysis(kind) => analyses::answer(alloc, kind, &line),
+        BoundKind::OfFields(kind) => partitions::answer(alloc, kind, &line),
+        BoundKind::Pruned => pruned(alloc, scene, &bound),
+    };
+    told_text(alloc, answer)
 }
 
-fn of_bound(alloc: Global, kind: BoundKind, line: &BoundLine<'_>) -> VortexResult<String>
-    requires { WellTyped (bound_of line.now.bound.now) }
-{
-    let BoundLine {
-        scene,
-        source,
-        bound,
-    } = *line;
-    match kind {
-        BoundKind::Source => same_texts(alloc, source, bound),
-        BoundKind::Rows => rows(alloc, scene, bound),
-        BoundKind::Rewritten(by, told) => rewritten(alloc, by, told, scene, bound),
-        BoundKind::OptimizedOrNone => optimized_or_none(alloc, bound),
-        BoundKind::OptimizedAtRoot => optimized_at_root(alloc, bound),
-        BoundKind::ByBranchesOrNone => passed_or_none(alloc, Pass::Branches, &BranchRules, bound),
-        BoundKind::FoldedOrNone => passed_or_none(alloc, Pass::Fold, &FoldingRules, bound),
-        BoundKind::OfAnalysis(kind) => analyses::answer(alloc, kind, line),
-        BoundKind::OfFields(kind) => partitions::answer(alloc, kind, line),
-        BoundKind::Pruned => pruned(alloc, scene, bound),
+// The answer, or what it was refused with.
+fn told_text(alloc: Global, answer: VortexResult<String>) -> Result<String, Unread> {
+    match answer {
+        Ok(text) => Ok(text),
+        Err(refusal) => Ok(refused(alloc, &refusal)?),
     }
 }
 
 // Text and type of the bound tree, which has the source's tree text.
 fn same_texts(alloc: Global, source: &Expression, bound: &BoundExpression) -> VortexResult<String> {
-    let own = text(alloc, &bound.display_tree())?;
-    let other = text(alloc, &source.display_tree())?;
+    let own = bound.display_tree();
+    let own = format!(in alloc; "{own}")?;
+    let other = source.display_tree();
+    let other = format!(in alloc; "{other}")?;
     if own.as_str() == other.as_str() {
         return typed(alloc, bound);
     }
-    barred(alloc, own.as_str())
+    Ok(barred(alloc, own.as_str())?)
 }
 
 /// What the tree gives over each batch of the scene.
@@ -77,8 +66,11 @@ pub fn rows(alloc: Global, scene: &Scene, tree: &BoundExpression) -> VortexResul
 {
     let mut rows = String::new(alloc);
     for batch in scene.batches.iter() {
-        let answer = apply_bound(alloc, batch, tree);
-        push_rows(alloc, &mut rows, fitting(answer, tree, batch))?;
+        push_rows(
+            alloc,
+            &mut rows,
+            fitting(apply_bound(alloc, batch, tree), tree, batch),
+        )?;
     }
     Ok(rows)
 }
@@ -91,9 +83,7 @@ fn fitting(
 ) -> VortexResult<Column> {
     match &answer {
         Ok(column) if *column.dtype() != *tree.dtype() || column.len() != batch.len() => {
-            let row = column.len();
-            drop(answer);
-            Err(VortexError::RowMisfit { row })
+            Err(VortexError::RowMisfit { row: column.len() })
         }
         _ => answer,
     }
@@ -101,63 +91,73 @@ fn fitting(
 
 fn rewritten(
     alloc: Global,
-    by: Rewriting,
-    told: Told,
+    kind: RewrittenKind,
     scene: &Scene,
     bound: &BoundExpression,
 ) -> VortexResult<String>
     requires { WellTyped (bound_of bound.now) }
 {
-    let left = Box::new(alloc, rewritten_by(alloc, by, bound)?)?;
-    match told {
-        Told::Text => typed(alloc, &left),
-        Told::Rows => rows(alloc, scene, &left),
-    }
-}
-
-fn rewritten_by(
-    alloc: Global,
-    by: Rewriting,
-    bound: &BoundExpression,
-) -> VortexResult<BoundExpression>
-    requires { WellTyped (bound_of bound.now) }
-    ensures { IfOk result (λ b. WellTyped (bound_of b)) }
-{
-    match by {
-        Rewriting::Validity => bound.validity(alloc),
-        Rewriting::Optimized => bound.optimize_recursive(alloc),
-        Rewriting::ByBranches => left_by(alloc, &BranchRules, bound),
-        Rewriting::Folded => left_by(alloc, &FoldingRules, bound),
-        Rewriting::Fused => fused(alloc, bound),
+    match kind {
+        RewrittenKind::Validity(told) => {
+            let validity = Box::new(alloc, bound.validity(alloc)?)?;
+            told_of(alloc, told, scene, &validity)
+        }
+        RewrittenKind::Optimized(told) => {
+            let left = Box::new(alloc, bound.optimize_recursive(alloc)?)?;
+            told_of(alloc, told, scene, &left)
+        }
+        RewrittenKind::OptimizedOrNone => optimized_or_none(alloc, bound),
+        RewrittenKind::OptimizedAtRoot => optimized_at_root(alloc, bound),
+        RewrittenKind::ByBranches(told) => by_rules(alloc, told, scene, &BranchRules, bound),
+        RewrittenKind::ByBranchesOrNone => {
+            passed_or_none(alloc, Pass::Branches, &BranchRules, bound)
+        }
+        RewrittenKind::Folded(told) => by_rules(alloc, told, scene, &FoldingRules, bound),
+        RewrittenKind::FoldedOrNone => passed_or_none(alloc, Pass::Fold, &FoldingRules, bound),
+        RewrittenKind::Fused(Told::Text) => fused(alloc, bound),
+        RewrittenKind::Fused(Told::Rows) => {
+            let fused = Box::new(alloc, find_between(alloc, bound.clone()?)?)?;
+            rows(alloc, scene, &fused)
+        }
     }
 }
 
 // What the rules leave, the tree itself where none fits at any node.
-fn left_by<R: Rule>(
+fn by_rules<R: Rule>(
     alloc: Global,
+    told: Told,
+    scene: &Scene,
     rules: &R,
     bound: &BoundExpression,
-) -> VortexResult<BoundExpression>
+) -> VortexResult<String>
     requires { WellTyped (bound_of bound.now) }
-    ensures { IfOk result (λ b. WellTyped (bound_of b)) }
 {
     match optimize_with(alloc, rules, bound)? {
-        Some(left) => Ok(left),
-        None => Ok(bound.clone()?),
+        Some(left) => told_of(alloc, told, scene, &*Box::new(alloc, left)?),
+        None => told_of(alloc, told, scene, bound),
     }
 }
 
-// The fused tree; `LengthMismatch` where fusing again doesn't leave it as it is.
-fn fused(alloc: Global, bound: &BoundExpression) -> VortexResult<BoundExpression>
+// The text and the type of the tree, or its rows.
+fn told_of(alloc: Global, told: Told, scene: &Scene, tree: &BoundExpression) -> VortexResult<String>
+    requires { WellTyped (bound_of tree.now) }
+{
+    match told {
+        Told::Text => typed(alloc, tree),
+        Told::Rows => rows(alloc, scene, tree),
+    }
+}
+
+// The text and the type of the fused tree, which fusing again has to leave as it is.
+fn fused(alloc: Global, bound: &BoundExpression) -> VortexResult<String>
     requires { WellTyped (bound_of bound.now) }
-    ensures { IfOk result (λ b. WellTyped (bound_of b)) }
 {
     let fused = Box::new(alloc, find_between(alloc, bound.clone()?)?)?;
     let again = Box::new(alloc, find_between(alloc, (*fused).clone()?)?)?;
     if *again != *fused {
-        return Err(VortexError::LengthMismatch);
+        return Ok(format!(in alloc; "{fused}, and fused again {again}")?);
     }
-    Ok(Box::into_inner(fused))
+    typed(alloc, &fused)
 }
 
 fn optimized_or_none(alloc: Global, bound: &BoundExpression) -> VortexResult<String>
@@ -197,18 +197,16 @@ fn by_rules_or_none<R: Rule>(
         return agreed(alloc, given, typed(alloc, left)?);
     }
     if *left != *bound {
-        return text(alloc, &format_args!("none, and left {left}"));
+        return Ok(format!(in alloc; "none, and left {left}")?);
     }
     Ok(given)
 }
 
 fn typed_or_none(alloc: Global, tree: Option<BoundExpression>) -> VortexResult<String> {
-    let told = match &tree {
-        Some(tree) => typed(alloc, tree),
-        None => text(alloc, &"none"),
-    };
-    drop(tree);
-    told
+    match tree {
+        Some(tree) => typed(alloc, &tree),
+        None => Ok(String::from_str(alloc, "none")?),
+    }
 }
 
 // The text of what is left; where it is the tree's, an equal tree is left.
@@ -216,9 +214,10 @@ fn optimized_at_root(alloc: Global, bound: &BoundExpression) -> VortexResult<Str
     requires { WellTyped (bound_of bound.now) }
 {
     let left = Box::new(alloc, bound.optimize(alloc)?)?;
-    let own = text(alloc, &*left)?;
-    if *left != *bound && reads(bound, own.as_str()) {
-        return text(alloc, &format_args!("{own}, another tree of that text"));
+    let text = format!(in alloc; "{left}")?;
+    let whole = format!(in alloc; "{bound}")?;
+    if text.as_str() == whole.as_str() && *left != *bound {
+        return Ok(format!(in alloc; "{text}, another tree of that text")?);
     }
-    Ok(own)
+    Ok(text)
 }

@@ -7,7 +7,7 @@ mod plain;
 mod walk;
 
 use crate::scene::Scene;
-use crate::told::{refused, text, typed};
+use crate::told::{refused, typed};
 use bound::OfBound;
 pub use chains::collected;
 use plain::OfSources;
@@ -22,9 +22,9 @@ pub fn built(alloc: Global, source: &Expression) -> VortexResult<String> {
 
 fn compared(alloc: Global, built: &Expression, source: &Expression) -> VortexResult<String> {
     if *built != *source {
-        return text(alloc, &format_args!("{built}, another tree"));
+        return Ok(format!(in alloc; "{built}, another tree")?);
     }
-    text(alloc, built)
+    Ok(format!(in alloc; "{built}")?)
 }
 
 /// The text and the type of the tree by the constructors over bound children, or what they refuse.

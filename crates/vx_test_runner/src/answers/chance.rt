@@ -7,7 +7,6 @@ mod texts;
 use crate::answers::pruned::is_told_true;
 use crate::answers::scans::scan_column;
 use crate::answers::source_texts::read_otherwise;
-use crate::told::text;
 use loosened::loosened;
 use std::alloc::Global;
 pub use texts::texts_by_chance;
@@ -15,7 +14,7 @@ use vx_eval::apply_bound;
 use vx_query::run_query;
 use vx_rewrite::Pass;
 use vx_scan::plan;
-use vx_test_support::{Maker, Seeds, Unread, boxed, column, number};
+use vx_test_support::{Maker, Seeds, Unread, boxed, column};
 use vx_tree::{Column, Expression, VortexError, VortexResult};
 
 const SCOPE: &str = "{a={x=i32?,y=i32}?,b=i32?,m=bool?,s=utf8}";
@@ -30,68 +29,37 @@ const ROWS: &str = "{null,1,true,'ab} {{null,2},null,false,'} {{3,-1},3,null,'ab
 pub fn by_chance(alloc: Global, words: &str) -> Result<String, Unread> {
     let (seed, count) = seed_and_count(words)?;
     let batch = Box::new(alloc, column(alloc, SCOPE, ROWS)?)?;
-    let mut trial = Trial {
-        alloc,
-        batch: &batch,
-        maker: Maker::new(alloc, seed),
-        seeds: Seeds::new(seed),
-        without_fault: 0,
-        shortest: None,
-    };
+    let mut maker = Maker::new(alloc, seed);
+    let mut seeds = Seeds::new(seed);
+    let mut without_fault: usize = 0;
+    let mut shortest = None;
     for _ in 0..count {
-        if let Some(other) = trial.of_one()? {
+        let text = maker.tree()?;
+        let tree = boxed(alloc, text.as_str())?;
+        if let Some(other) = read_otherwise(alloc, &tree)? {
             return Ok(other);
         }
-    }
-    trial.sum(count).map_err(Unread::Refused)
-}
-
-// Trees made by chance, and what came of them.
-#[derive(Drop)]
-struct Trial<'a> {
-    alloc: Global,
-    batch: &'a Column,
-    maker: Maker,
-    seeds: Seeds,
-    without_fault: usize,
-    shortest: Option<String>,
-}
-
-impl Trial<'_> {
-    // Tries one more tree; what is wrong where its source text reads back as another.
-    fn of_one(&mut self) -> Result<Option<String>, Unread> {
-        let text = self.maker.tree()?;
-        let tree = boxed(self.alloc, text.as_str())?;
-        let other = read_otherwise(self.alloc, &tree)?;
-        if other.is_none() {
-            match agrees(self.alloc, &tree, self.batch, &mut self.seeds)? {
-                Some(true) => self.without_fault = self.without_fault.saturating_add(1),
-                Some(false) => {}
-                None => self.shortest = Some(shorter(self.shortest.take(), text)),
-            }
-        }
-        Ok(other)
-    }
-
-    fn sum(&self, count: usize) -> VortexResult<String> {
-        let (alloc, without_fault) = (self.alloc, self.without_fault);
-        match &self.shortest {
-            Some(tree) => text(alloc, &format_args!("another answer to {tree}")),
-            None if without_fault <= count / 4 => {
-                text(
-                    alloc,
-                    &format_args!("only {without_fault} are without a fault"),
-                )
-            }
-            None => text(alloc, &"all agree"),
+        match agrees(alloc, &tree, &batch, &mut seeds)? {
+            Some(true) => without_fault = without_fault.saturating_add(1),
+            Some(false) => {}
+            None => shortest = Some(shorter(shortest, text)),
         }
     }
+    if let Some(text) = shortest {
+        return Ok(format!(in alloc; "another answer to {text}")?);
+    }
+    if without_fault <= count / 4 {
+        return Ok(format!(in alloc; "only {without_fault} are without a fault")?);
+    }
+    Ok(String::from_str(alloc, "all agree")?)
 }
 
 // A seed, and how many are made from it on.
 fn seed_and_count(words: &str) -> Result<(u64, usize), Unread> {
-    let (seed, count) = words.split_once(' ').unwrap_or((words, ""));
-    Ok((number(seed, "no seed")? as u64, number(count, "no count")?))
+    let (seed, count) = words.split_once(' ').ok_or("no count")?;
+    let seed = seed.parse().map_err(|_| Unread::Word("no seed"))?;
+    let count = count.parse().map_err(|_| Unread::Word("no count"))?;
+    Ok((seed, count))
 }
 
 // The shorter of the texts, the earlier of equally long ones.
@@ -115,11 +83,11 @@ fn agrees(
     if !queries_agree(alloc, source, batch, &plain) || !scan_agrees(alloc, source, batch, &plain)? {
         return Ok(None);
     }
-    let Ok(values) = &*plain else {
-        return Ok(Some(false));
-    };
     let stats = Box::new(alloc, loosened(alloc, batch, seeds)?)?;
-    Ok(is_told_true(&bound, &stats, values.rows()).then_some(true))
+    Ok(match &*plain {
+        Ok(values) if !is_told_true(&bound, &stats, values.rows()) => None,
+        _ => Some(plain.is_ok()),
+    })
 }
 
 // Whether the source as a query, by each pass and by all, split and not, agrees with plain evaluation.
@@ -168,14 +136,12 @@ fn scan_agrees(
 // Whether the answer may stand beside that of plain evaluation: the same rows, or where that faults,
 // any rows or a fault.
 fn is_allowed(plain: &VortexResult<Column>, answer: VortexResult<Column>) -> bool {
-    let is_allowed = match (plain, &answer) {
+    match (plain, &answer) {
         (Ok(rows), Ok(answer)) => rows.rows() == answer.rows(),
         (Ok(_), Err(_)) => false,
         (Err(_), Ok(_)) => true,
         (Err(_), Err(refusal)) => is_fault(refusal),
-    };
-    drop(answer);
-    is_allowed
+    }
 }
 
 fn is_fault(refusal: &VortexError) -> bool {

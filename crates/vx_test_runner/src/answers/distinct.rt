@@ -1,5 +1,4 @@
 // The nodes of a tree, each once, as keys, and what an analysis tells of them.
-use crate::told::{push, text};
 use std::alloc::Global;
 use std::collections::HashSet;
 use vx_tree::{BoundExpression, ExactBoundExpr, VortexResult};
@@ -43,16 +42,15 @@ pub fn told_of_all<A: Analysis>(
     analysis: &A,
     tree: &BoundExpression,
 ) -> VortexResult<String> {
-    let mut all = String::new(alloc);
+    let mut text = String::new(alloc);
     for node in distinct_nodes(alloc, tree)?.iter() {
-        push(alloc, &mut all, " ", &analysis.told_at(alloc, node)?)?;
+        if !text.is_empty() {
+            text.push(' ')?;
+        }
+        text.push_str(analysis.told_at(alloc, node)?.as_str())?;
     }
-    counted(alloc, &all, analysis.count())
-}
-
-/// The text, and behind it of how many nodes it tells.
-pub fn counted(alloc: Global, all: &String, count: usize) -> VortexResult<String> {
-    text(alloc, &format_args!("{all} ({count})"))
+    let count = analysis.count();
+    Ok(format!(in alloc; "{text} ({count})")?)
 }
 
 /// The node as a key, behind a box: there the prover doesn't write it out.

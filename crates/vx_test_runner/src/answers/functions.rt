@@ -1,8 +1,8 @@
 // Answers of functions: their texts, children and types.
-use crate::told::{push, text, told};
+use crate::told::told;
 use std::alloc::Global;
 use vx_test_support::{Unread, boxed, dtype};
-use vx_tree::{Expression, FieldSelection, ScalarFnRef, VortexResult};
+use vx_tree::{Expression, ScalarFnRef, VortexResult};
 
 // The function at the top of the tree.
 fn function_of(alloc: Global, tree: &str) -> Result<Box<ScalarFnRef>, Unread> {
@@ -15,42 +15,45 @@ fn function_of(alloc: Global, tree: &str) -> Result<Box<ScalarFnRef>, Unread> {
 /// The function's text, which its id begins, and how many children it takes; its clone is equal.
 pub fn shown_function(alloc: Global, tree: &str) -> Result<String, Unread> {
     let scalar_fn = function_of(alloc, tree)?;
-    shown(alloc, &scalar_fn).map_err(Unread::Refused)
+    Ok(shown(alloc, &scalar_fn)?)
 }
 
 fn shown(alloc: Global, scalar_fn: &ScalarFnRef) -> VortexResult<String> {
-    let own = text(alloc, scalar_fn)?;
+    let text = format!(in alloc; "{scalar_fn}")?;
     let clone = Box::new(alloc, scalar_fn.clone()?)?;
-    if !own.as_str().starts_with(scalar_fn.id()) || *clone != *scalar_fn {
-        return text(
-            alloc,
-            &format_args!("{own}, without its id or with another clone"),
-        );
+    if !text.as_str().starts_with(scalar_fn.id()) || *clone != *scalar_fn {
+        return Ok(format!(in alloc; "{text}, without its id or with another clone")?);
     }
     let arity = scalar_fn.arity();
-    match scalar_fn {
-        ScalarFnRef::CaseWhen(options) if options.num_children() != arity => {
-            text(
-                alloc,
-                &format_args!("{own}, {arity} or {} children", options.num_children()),
-            )
+    if let ScalarFnRef::CaseWhen(options) = scalar_fn {
+        let count = options.num_children();
+        if count != arity {
+            return Ok(format!(in alloc; "{text}, {arity} or {count} children")?);
         }
-        _ => text(alloc, &format_args!("{own}, {arity} children")),
     }
+    Ok(format!(in alloc; "{text}, {arity} children")?)
 }
 
 /// What the function's children are called.
 pub fn child_names(alloc: Global, tree: &str) -> Result<String, Unread> {
     let scalar_fn = function_of(alloc, tree)?;
-    names_of(alloc, &scalar_fn).map_err(Unread::Refused)
+    Ok(names_of(alloc, &scalar_fn)?)
 }
 
 fn names_of(alloc: Global, scalar_fn: &ScalarFnRef) -> VortexResult<String> {
-    let mut names = String::new(alloc);
+    let mut text = String::new(alloc);
     for index in 0..scalar_fn.arity() {
-        push(alloc, &mut names, " ", &scalar_fn.child_name(alloc, index)?)?;
+        let name = scalar_fn.child_name(alloc, index)?;
+        push_word(&mut text, name.as_str())?;
     }
-    Ok(names)
+    Ok(text)
+}
+
+fn push_word(text: &mut String, word: &str) -> VortexResult<()> {
+    if !text.is_empty() {
+        text.push(' ')?;
+    }
+    Ok(text.push_str(word)?)
 }
 
 /// The type of a node of the function over children of these types.
@@ -60,7 +63,7 @@ pub fn node_type(alloc: Global, tree: &str, types: &str) -> Result<String, Unrea
     for text in types.split_whitespace() {
         given.push(dtype(alloc, text)?)?;
     }
-    told(alloc, scalar_fn.return_dtype(alloc, given.as_slice())).map_err(Unread::Refused)
+    Ok(told(alloc, scalar_fn.return_dtype(alloc, given.as_slice()))?)
 }
 
 /// The names that the selection at the top of the tree keeps of those that are there.
@@ -69,32 +72,28 @@ pub fn kept(alloc: Global, tree: &str, names: &str) -> Result<String, Unread> {
     let ScalarFnRef::Select(selection) = &*scalar_fn else {
         return Err(Unread::Word("no selection"));
     };
-    told(alloc, kept_by(alloc, selection, names)).map_err(Unread::Refused)
-}
-
-fn kept_by(alloc: Global, selection: &FieldSelection, names: &str) -> VortexResult<String> {
-    let there = Box::new(alloc, vx_test_support::names(alloc, names, ' ')?)?;
-    let kept = Box::new(
-        alloc,
-        selection.normalize_to_included_fields(alloc, &there)?,
-    )?;
-    let mut all = String::new(alloc);
-    for name in kept.iter() {
-        push(alloc, &mut all, " ", name)?;
+    let there = vx_test_support::names(alloc, names, ' ')?;
+    match selection.normalize_to_included_fields(alloc, &there) {
+        Ok(kept) => {
+            let mut text = String::new(alloc);
+            for name in kept.iter() {
+                push_word(&mut text, name.as_str())?;
+            }
+            Ok(text)
+        }
+        Err(refusal) => Ok(crate::told::refused(alloc, &refusal)?),
     }
-    Ok(all)
 }
 
 /// The operator for exchanged operands.
 pub fn swapped(alloc: Global, sign: &str) -> Result<String, Unread> {
-    let compared = text(alloc, &format_args!("$ {sign} $"))?;
+    let compared = format!(in alloc; "$ {sign} $")?;
     let scalar_fn = function_of(alloc, compared.as_str())?;
     let ScalarFnRef::Binary(operator) = &*scalar_fn else {
         return Err(Unread::Word("no operator"));
     };
-    let swapped = match operator.swap() {
-        Some(swapped) => text(alloc, &swapped),
-        None => text(alloc, &"none"),
-    };
-    swapped.map_err(Unread::Refused)
+    match operator.swap() {
+        Some(swapped) => Ok(format!(in alloc; "{swapped}")?),
+        None => Ok(String::from_str(alloc, "none")?),
+    }
 }

@@ -5,7 +5,7 @@ ghost use Rattle.vx_eval.specs.Columns.{AllLong};
 ghost use Rattle.vx_value.specs.Fits.{IsBatch};
 ghost use Rattle.vx_value.specs.Views.{type_of};
 
-use crate::told::{text as text_of, told};
+use crate::told::told;
 use std::alloc::Global;
 use vx_dtype::laws::types_are_equal_exactly;
 use vx_eval::first_match;
@@ -24,7 +24,7 @@ pub fn like(alloc: Global, pattern: &str, text: &str) -> Result<String, Unread> 
         (Some(false), Some(false)) => "neither",
         _ => "one call says otherwise than another",
     };
-    text_of(alloc, &word).map_err(Unread::Refused)
+    Ok(String::from_str(alloc, word)?)
 }
 
 // None where the calls don't agree.
@@ -111,15 +111,16 @@ fn first_of(
         if !kind.is_nullable() {
             return Err(Unread::Word("no ELSE for a type without null"));
         }
-        let answer = first_match(alloc, conditions, chosen, None, kind);
-        return told(alloc, answer).map_err(Unread::Refused);
+        return Ok(told(alloc, first_match(alloc, conditions, chosen, None, kind))?);
     }
-    let last = Box::new(alloc, column_of(alloc, kind, otherwise)?)?;
+    let last = column_of(alloc, kind, otherwise)?;
     if last.len() != conditions[0].len() {
         return Err(Unread::Word("columns of unequal length"));
     }
-    let answer = first_match(alloc, conditions, chosen, Some(&last), kind);
-    told(alloc, answer).map_err(Unread::Refused)
+    Ok(told(
+        alloc,
+        first_match(alloc, conditions, chosen, Some(&last), kind),
+    )?)
 }
 
 // The column of the type with these rows.
@@ -129,10 +130,10 @@ fn column_of(alloc: Global, kind: &DType, rows: &str) -> Result<Column, Unread>
     let rows = values(alloc, rows)?;
     let column = Column::try_new(kind.clone()?, rows)?;
     if is_of(&column, kind) {
-        return Ok(column);
+        Ok(column)
+    } else {
+        Err(Unread::Word("a column of another type"))
     }
-    drop(column);
-    Err(Unread::Word("a column of another type"))
 }
 
 // Whether the column is of that type; then its rows are.

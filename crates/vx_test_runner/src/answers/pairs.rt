@@ -2,11 +2,11 @@
 use crate::answers::partitions::fields_read;
 use crate::answers::queries::{Plan, query_rows, read_plan};
 use crate::answers::scans::scan_over;
-use crate::answers::split::{Divided, divided, replace, shown};
+use crate::answers::split::{divided, replace, shown};
 use crate::answers::values::typed_column;
 use crate::kind::PairKind;
 use crate::scene::Scene;
-use crate::told::{refused, text, typed};
+use crate::told::{refused, told, typed};
 use std::alloc::Global;
 use std::hash::{DefaultHasher, Hash, Hasher};
 use vx_query::run_query;
@@ -23,30 +23,38 @@ pub fn answer(
     tree: &str,
 ) -> Result<String, Unread> {
     let source = scene.source(alloc, tree)?;
-    match by_what(alloc, kind, scene, by, &source)? {
-        Ok(text) => Ok(text),
-        Err(refusal) => refused(alloc, &refusal).map_err(Unread::Refused),
+    match kind {
+        PairKind::Passes => text_of(alloc, passed(alloc, scene, &source, &read_plan(alloc, by)?)),
+        PairKind::Query => text_of(
+            alloc,
+            query_rows(alloc, scene, &source, &read_plan(alloc, by)?),
+        ),
+        PairKind::QueryType => text_of(
+            alloc,
+            query_type(alloc, scene, &source, &read_plan(alloc, by)?),
+        ),
+        PairKind::ScanOver => {
+            let column = typed_column(alloc, by)?;
+            text_of(alloc, scan_over(alloc, scene, &source, &column))
+        }
+        PairKind::Equal => {
+            let first = scene.source(alloc, by)?;
+            text_of(alloc, compared(alloc, scene, &first, &source))
+        }
+        PairKind::FusedAs => {
+            let first = scene.source(alloc, by)?;
+            text_of(alloc, fused_as(alloc, scene, &first, &source))
+        }
+        PairKind::Partition => text_of(alloc, found(alloc, scene, &source, by)),
+        PairKind::ReplacedBy => replaced_by(alloc, scene, &source, by),
     }
 }
 
-// The answer, or what it is refused with, where the column can be read.
-fn by_what(
-    alloc: Global,
-    kind: PairKind,
-    scene: &Scene,
-    by: &str,
-    source: &Expression,
-) -> Result<VortexResult<String>, Unread> {
-    Ok(match kind {
-        PairKind::Passes => passed(alloc, scene, source, &read_plan(alloc, by)?),
-        PairKind::Query => query_rows(alloc, scene, source, &read_plan(alloc, by)?),
-        PairKind::QueryType => query_type(alloc, scene, source, &read_plan(alloc, by)?),
-        PairKind::ScanOver => scan_over(alloc, scene, source, &*typed_column(alloc, by)?),
-        PairKind::Partition => found(alloc, scene, source, by),
-        PairKind::ReplacedBy => replaced(alloc, scene, source, bound_trees(alloc, scene, by)?),
-        PairKind::Equal => compared(alloc, scene, &*scene.source(alloc, by)?, source),
-        PairKind::FusedAs => fused_as(alloc, scene, &*scene.source(alloc, by)?, source),
-    })
+fn text_of(alloc: Global, answer: VortexResult<String>) -> Result<String, Unread> {
+    match answer {
+        Ok(text) => Ok(text),
+        Err(refusal) => Ok(refused(alloc, &refusal)?),
+    }
 }
 
 fn passed(alloc: Global, scene: &Scene, source: &Expression, plan: &Plan) -> VortexResult<String> {
@@ -62,11 +70,10 @@ fn query_type(
     source: &Expression,
     plan: &Plan,
 ) -> VortexResult<String> {
-    let Some(batch) = scene.batches.first() else {
-        return Err(VortexError::LengthMismatch);
-    };
+    let batch = scene.batches.first().ok_or(VortexError::LengthMismatch)?;
     let column = run_query(alloc, source, batch, plan.passes.as_slice(), plan.split)?;
-    text(alloc, Box::new(alloc, column)?.dtype())
+    let dtype = column.dtype();
+    Ok(format!(in alloc; "{dtype}")?)
 }
 
 // Whether the sources are equal, and so are the trees that both are bound to; equal ones hash alike.
@@ -82,9 +89,9 @@ fn compared(
         _ => sources,
     };
     if sources == bound {
-        return text(alloc, &sources);
+        return Ok(String::from_str(alloc, sources)?);
     }
-    text(alloc, &format_args!("{sources}, and bound {bound}"))
+    Ok(format!(in alloc; "{sources}, and bound {bound}")?)
 }
 
 // Whether the first source, bound, is fused to what the second is bound to.
@@ -97,7 +104,7 @@ fn fused_as(
     let first = scene.bind(alloc, first)?;
     let fused = Box::new(alloc, find_between(alloc, Box::into_inner(first))?)?;
     let second = scene.bind(alloc, second)?;
-    text(alloc, &equality(&*fused, &*second))
+    Ok(String::from_str(alloc, equality(&*fused, &*second))?)
 }
 
 fn equality<T: PartialEq + Hash>(first: &T, second: &T) -> &'static str {
@@ -116,53 +123,55 @@ fn hash_of<T: Hash>(value: &T) -> u64 {
     hasher.finish()
 }
 
-// The source, bound and split by the fields of the scope that its nodes read.
-fn split_by_fields(
+// The text of the partition of that field; none where there is none.
+fn found(alloc: Global, scene: &Scene, source: &Expression, name: &str) -> VortexResult<String> {
+    let fields = scene
+        .scope
+        .as_struct_fields_opt()
+        .ok_or(VortexError::NotAStruct)?;
+    let bound = scene.bind(alloc, source)?;
+    let whole = divided(alloc, &bound, fields_read(alloc, &bound, fields)?)?;
+    let name = FieldName::new(alloc, name)?;
+    match whole.find_partition(alloc, &name)? {
+        Some(partition) => told(alloc, Ok(partition)),
+        None => Ok(String::from_str(alloc, "none")?),
+    }
+}
+
+// The split of the source after its partitions are replaced by those trees, of which `;` ends one;
+// what refuses that stands before it.
+fn replaced_by(
     alloc: Global,
     scene: &Scene,
     source: &Expression,
-) -> VortexResult<Box<Divided>> {
-    let Some(fields) = scene.scope.as_struct_fields_opt() else {
-        return Err(VortexError::NotAStruct);
-    };
-    let bound = scene.bind(alloc, source)?;
-    divided(alloc, &bound, fields_read(alloc, &bound, fields)?)
-}
-
-// The text of the partition of that field; none where there is none.
-fn found(alloc: Global, scene: &Scene, source: &Expression, name: &str) -> VortexResult<String> {
-    let whole = split_by_fields(alloc, scene, source)?;
-    let name = Box::new(alloc, FieldName::new(alloc, name)?)?;
-    match whole.find_partition(alloc, &name)? {
-        Some(partition) => text(alloc, partition),
-        None => text(alloc, &"none"),
-    }
-}
-
-// The trees of the texts, of which `;` ends one, bound; what refuses that stands before the answer.
-fn bound_trees(alloc: Global, scene: &Scene, trees: &str) -> Result<Vec<BoundExpression>, Unread> {
-    let mut bound = Vec::new(alloc);
+    trees: &str,
+) -> Result<String, Unread> {
+    let mut partitions = Vec::new(alloc);
     for tree in trees.split(';') {
-        let source = scene.source(alloc, tree.trim())?;
-        bound.push(Box::into_inner(scene.bind(alloc, &source)?))?;
+        let bound = scene.bind(alloc, &*scene.source(alloc, tree.trim())?)?;
+        partitions.push(Box::into_inner(bound))?;
     }
-    Ok(bound)
+    text_of(alloc, replaced(alloc, scene, source, partitions))
 }
 
-// The split of the source after its partitions are replaced by the trees.
 fn replaced(
     alloc: Global,
     scene: &Scene,
     source: &Expression,
     partitions: Vec<BoundExpression>,
 ) -> VortexResult<String> {
-    let mut whole = split_by_fields(alloc, scene, source)?;
+    let fields = scene
+        .scope
+        .as_struct_fields_opt()
+        .ok_or(VortexError::NotAStruct)?;
+    let bound = scene.bind(alloc, source)?;
+    let mut whole = divided(alloc, &bound, fields_read(alloc, &bound, fields)?)?;
     match replace(alloc, &mut whole, partitions) {
         Ok(()) => shown(alloc, &whole),
         Err(refusal) => {
             let refusal = refused(alloc, &refusal)?;
             let whole = shown(alloc, &whole)?;
-            text(alloc, &format_args!("{refusal}, {whole}"))
+            Ok(format!(in alloc; "{refusal}, {whole}")?)
         }
     }
 }

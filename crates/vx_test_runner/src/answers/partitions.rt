@@ -3,11 +3,11 @@ ghost use Rattle.vx_tree.specs.Trees.{WellTyped};
 ghost use Rattle.vx_tree.specs.Views.{bound_of};
 
 use crate::answers::bound_line::BoundLine;
-use crate::answers::distinct::{Analysis, counted, key_of, told_of_all};
+use crate::answers::distinct::{Analysis, key_of, told_of_all};
 use crate::answers::split::{Divided, divided, joined_rows, replaced_by_optimized, shown};
 use crate::kind::{FieldsKind, Told};
 use crate::scene::Scene;
-use crate::told::{agreed, push, text};
+use crate::told::agreed;
 use std::alloc::Global;
 use vx_rewrite::{
     BoundAnnotations, covers, descendent_bound_annotations, direct_bound_annotations, free_fields,
@@ -20,46 +20,42 @@ use vx_tree::{BoundExpression, FieldName, StructFields, VortexError, VortexResul
 pub fn answer(alloc: Global, kind: FieldsKind, line: &BoundLine<'_>) -> VortexResult<String>
     requires { WellTyped (bound_of line.now.bound.now) }
 {
-    let Some(fields) = line.scene.scope.as_struct_fields_opt() else {
-        return Err(VortexError::NotAStruct);
-    };
+    let bound = line.bound;
+    let fields = line
+        .scene
+        .scope
+        .as_struct_fields_opt()
+        .ok_or(VortexError::NotAStruct)?;
     match kind {
         FieldsKind::Split(told) => split(alloc, told, line, fields),
-        FieldsKind::Replaced(told) => replaced(alloc, told, line, fields),
-        FieldsKind::OwnFields | FieldsKind::OwnAnnotations => {
-            let own = fields_read_itself(alloc, line.bound, fields)?;
-            of_annotations(alloc, kind, line, &own)
+        FieldsKind::Replaced(told) => {
+            told_of(alloc, told, line.scene, &*replaced(alloc, bound, fields)?)
         }
-        FieldsKind::Fields | FieldsKind::Annotations | FieldsKind::Covers => {
-            let read = fields_read(alloc, line.bound, fields)?;
-            of_annotations(alloc, kind, line, &read)
+        FieldsKind::Covers => {
+            let covered = covers(alloc, bound, &fields_read(alloc, bound, fields)?)?;
+            Ok(format!(in alloc; "{covered}")?)
+        }
+        FieldsKind::OwnFields => {
+            let own = direct_bound_annotations(alloc, bound, |node: &BoundExpression| {
+                free_fields(alloc, node, fields)
+            })?;
+            told_of_all(alloc, &own, &*line.again(alloc)?)
+        }
+        FieldsKind::OwnAnnotations => {
+            let own = direct_bound_annotations(alloc, bound, |node: &BoundExpression| {
+                free_fields(alloc, node, fields)
+            })?;
+            fields_in(alloc, &own)
+        }
+        FieldsKind::Fields => {
+            let read = fields_read(alloc, bound, fields)?;
+            told_of_all(alloc, &read, &*line.again(alloc)?)
+        }
+        FieldsKind::Annotations => {
+            let read = fields_read(alloc, bound, fields)?;
+            read.told_at(alloc, &*line.again(alloc)?)
         }
     }
-}
-
-fn of_annotations(
-    alloc: Global,
-    kind: FieldsKind,
-    line: &BoundLine<'_>,
-    found: &BoundAnnotations<FieldName>,
-) -> VortexResult<String> {
-    match kind {
-        FieldsKind::Covers => text(alloc, &covers(alloc, line.bound, found)?),
-        FieldsKind::OwnAnnotations => fields_in(alloc, found),
-        FieldsKind::Annotations => found.told_at(alloc, &*line.again(alloc)?),
-        _ => told_of_all(alloc, found, &*line.again(alloc)?),
-    }
-}
-
-// The fields of the scope that each node reads itself.
-fn fields_read_itself(
-    alloc: Global,
-    bound: &BoundExpression,
-    fields: &StructFields,
-) -> VortexResult<BoundAnnotations<FieldName>> {
-    direct_bound_annotations(alloc, bound, |node: &BoundExpression| {
-        free_fields(alloc, node, fields)
-    })
 }
 
 /// The fields of the scope that each reached node reads.
@@ -89,18 +85,17 @@ fn split(
     agreed(alloc, own, told_of(alloc, told, scene, &by_closure)?)
 }
 
-// The same of the tree split, with its partitions replaced by optimized ones.
+// The tree split, with its partitions replaced by optimized ones.
 fn replaced(
     alloc: Global,
-    told: Told,
-    line: &BoundLine<'_>,
+    bound: &BoundExpression,
     fields: &StructFields,
-) -> VortexResult<String>
-    requires { WellTyped (bound_of line.now.bound.now) }
+) -> VortexResult<Box<Divided>>
+    requires { WellTyped (bound_of bound.now) }
 {
-    let mut whole = divided(alloc, line.bound, fields_read(alloc, line.bound, fields)?)?;
+    let mut whole = divided(alloc, bound, fields_read(alloc, bound, fields)?)?;
     replaced_by_optimized(alloc, &mut whole)?;
-    told_of(alloc, told, line.scene, &whole)
+    Ok(whole)
 }
 
 // The split as a text, or what it gives once joined.
@@ -130,9 +125,9 @@ impl Analysis for BoundAnnotations<FieldName> {
     fn told_at(&self, alloc: Global, node: &BoundExpression) -> VortexResult<String> {
         let key = key_of(alloc, node)?;
         let Some(set) = self.get(&*key) else {
-            return text(alloc, &"-");
+            return Ok(String::from_str(alloc, "-")?);
         };
-        let mut names = Vec::new(alloc);
+        let mut names: Vec<&str> = Vec::new(alloc);
         for name in set.iter() {
             names.push(name.as_str())?;
         }
@@ -146,13 +141,15 @@ impl Analysis for BoundAnnotations<FieldName> {
 
 // The names of all sets, and how many sets there are: `[a, b] (2)`.
 fn fields_in(alloc: Global, found: &BoundAnnotations<FieldName>) -> VortexResult<String> {
-    let mut names = Vec::new(alloc);
+    let mut names: Vec<&str> = Vec::new(alloc);
     for set in found.values() {
         for name in set.iter() {
             names.push(name.as_str())?;
         }
     }
-    counted(alloc, &listed(alloc, names)?, found.len())
+    let all = listed(alloc, names)?;
+    let count = found.len();
+    Ok(format!(in alloc; "{all} ({count})")?)
 }
 
 // The names in their order, each once: `[a, b]`.
@@ -160,9 +157,13 @@ fn listed(alloc: Global, names: Vec<&str>) -> VortexResult<String> {
     let mut names = names;
     names.sort()?;
     names.dedup();
-    let mut all = String::new(alloc);
-    for name in names.iter() {
-        push(alloc, &mut all, ", ", name)?;
+    let mut text = String::from_str(alloc, "[")?;
+    for (i, name) in names.iter().enumerate() {
+        if i > 0 {
+            text.push_str(", ")?;
+        }
+        text.push_str(name)?;
     }
-    text(alloc, &format_args!("[{all}]"))
+    text.push(']')?;
+    Ok(text)
 }

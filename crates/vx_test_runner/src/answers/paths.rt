@@ -1,41 +1,38 @@
 // Paths as texts.
-use crate::told::push;
 use std::alloc::Global;
-use std::fmt;
-use std::fmt::Display;
+use vx_test_support::Unread;
 use vx_tree::{FieldName, VortexResult};
 use vx_types::{Field, FieldPath, FieldPathSet};
 
-/// A path as `$.a.x`, the root path as `$`.
-#[derive(Clone, Copy)]
-pub struct Shown<'a>(pub &'a FieldPath);
-
-impl Display for Shown<'_> {
-    fn fmt<W: fmt::Write>(&self, f: &mut fmt::Formatter<W>) -> fmt::Result {
-        f.write_str("$")?;
-        for Field::Name(name) in self.0.parts() {
-            write!(f, ".{name}")?;
+/// The paths that the set gives: `$.a.x $.b`, the root path as `$`.
+pub fn shown_paths(alloc: Global, set: &FieldPathSet) -> VortexResult<String> {
+    let mut text = String::new(alloc);
+    for path in set.iter() {
+        if !text.is_empty() {
+            text.push(' ')?;
         }
-        Ok(())
+        push_path(&mut text, path)?;
     }
+    Ok(text)
 }
 
-/// The paths that the set gives: `$.a.x $.b`.
-pub fn shown_paths(alloc: Global, set: &FieldPathSet) -> VortexResult<String> {
-    let mut all = String::new(alloc);
-    for path in set.iter() {
-        push(alloc, &mut all, " ", &Shown(path))?;
+/// Adds the path: `$.a.x`, the root path as `$`.
+pub fn push_path(text: &mut String, path: &FieldPath) -> VortexResult<()> {
+    text.push('$')?;
+    for Field::Name(name) in path.parts() {
+        text.push('.')?;
+        text.push_str(name.as_str())?;
     }
-    Ok(all)
+    Ok(())
 }
 
 /// A set extended by the paths of each group, of which `;` ends one: `a.x b ; $`.
-pub fn path_set(alloc: Global, groups: &str) -> VortexResult<String> {
+pub fn path_set(alloc: Global, groups: &str) -> Result<String, Unread> {
     let mut set = FieldPathSet::new(alloc);
     for group in groups.split(';') {
         set.extend(paths_of(alloc, group)?)?;
     }
-    shown_paths(alloc, &set)
+    Ok(shown_paths(alloc, &set)?)
 }
 
 /// The paths of the words: `a.x b`, the root path as `$`.

@@ -2,35 +2,29 @@
 ghost use Rattle.vx_tree.specs.Trees.{WellTyped};
 ghost use Rattle.vx_tree.specs.Views.{bound_of};
 
-use crate::answers::paths::{Shown, path, paths_of};
+use crate::answers::paths::{path, paths_of, push_path};
 use crate::answers::scans::{reader, set_of};
 use crate::scene::Scene;
-use crate::told::{push, push_rows, text, with_type};
-use std::alloc::Global;
+use crate::told::push_rows;
+use std::alloc::{AllocError, Global};
 use std::fmt;
 use vx_eval_masks::RowMask;
 use vx_prune::{ChunkStats, Endpoint, FieldStats, Verdict, bounds, select_rows, verdict};
 use vx_scan::{ScanPlan, plan};
-use vx_test_support::{Unread, number, value};
+use vx_test_support::{Unread, value};
 use vx_tree::{BoundExpression, Column, DType, Expression, Value, VortexResult};
 use vx_types::FieldPathSet;
 
 /// The statistics of the words: `3 rows; a.x: 1 null, least 1, greatest 5; s: least 'ab`.
-pub fn statistics(alloc: Global, words: &str) -> Result<Box<ChunkStats>, Unread> {
+pub fn statistics(alloc: Global, words: &str) -> Result<ChunkStats, Unread> {
     let mut parts = words.split(';');
-    let Some(rows) = parts.next().unwrap_or("").trim().strip_suffix(" rows") else {
-        return Err(Unread::Word("no rows"));
-    };
-    let mut stats = Box::new(
-        alloc,
-        ChunkStats::new(alloc, number(rows, "no number of rows")?),
-    )?;
+    let rows = parts.next().unwrap_or("").trim();
+    let rows = rows.strip_suffix(" rows").ok_or("no rows")?;
+    let mut stats = ChunkStats::new(alloc, number(rows)?);
     for part in parts {
-        let Some((place, known)) = part.split_once(':') else {
-            return Err(Unread::Word("no colon behind a path"));
-        };
-        let known = Box::new(alloc, field_statistics(alloc, known)?)?;
-        stats.insert(path(alloc, place.trim())?, Box::into_inner(known))?;
+        let (place, known) = part.split_once(':').ok_or("no colon behind a path")?;
+        let place = path(alloc, place.trim())?;
+        stats.insert(place, field_statistics(alloc, known)?)?;
     }
     Ok(stats)
 }
@@ -40,7 +34,7 @@ fn field_statistics(alloc: Global, words: &str) -> Result<FieldStats, Unread> {
     for word in words.split(',') {
         let word = word.trim();
         if let Some(count) = word.strip_suffix(" null") {
-            stats.null_count = Some(number(count, "no number of nulls")?);
+            stats.null_count = Some(number(count)?);
         } else if let Some(least) = word.strip_prefix("least ") {
             stats.least = Some(value(alloc, least)?);
         } else if let Some(greatest) = word.strip_prefix("greatest ") {
@@ -50,6 +44,10 @@ fn field_statistics(alloc: Global, words: &str) -> Result<FieldStats, Unread> {
         }
     }
     Ok(stats)
+}
+
+fn number(word: &str) -> Result<usize, Unread> {
+    word.parse().map_err(|_| Unread::Word("no number"))
 }
 
 /// What is read off the batch along the paths.
@@ -67,36 +65,30 @@ pub fn statistics_of(alloc: Global, scene: &Scene, paths: &str) -> VortexResult<
 }
 
 fn shown_statistics(alloc: Global, batch: &Column, paths: &str) -> VortexResult<String> {
-    let stats = Box::new(alloc, read_off(alloc, batch, paths)?)?;
-    let mut all = text(alloc, &format_args!("{} rows", stats.rows()))?;
+    let stats = read_off(alloc, batch, paths)?;
+    let mut text = format!(in alloc; "{} rows", stats.rows())?;
     for (path, known) in stats.entries() {
-        push(alloc, &mut all, "; ", &Shown(path))?;
-        push_statistics(alloc, &mut all, known)?;
+        text.push_str("; ")?;
+        push_path(&mut text, path)?;
+        push_statistics(alloc, &mut text, known)?;
     }
-    Ok(all)
+    Ok(text)
 }
 
-fn push_statistics(alloc: Global, all: &mut String, known: &FieldStats) -> VortexResult<()> {
-    let mut between = ": ";
+fn push_statistics(alloc: Global, text: &mut String, known: &FieldStats) -> Result<(), AllocError> {
+    let mut before = ": ";
     if let Some(count) = known.null_count {
-        push(alloc, all, between, &format_args!("{count} null"))?;
-        between = ", ";
+        text.push_str(format!(in alloc; "{before}{count} null")?.as_str())?;
+        before = ", ";
     }
-    if let Some(least) = end_of(&known.least) {
-        push(alloc, all, between, &format_args!("least {least}"))?;
-        between = ", ";
+    if let Some(least) = known.least.as_ref().and_then(Endpoint::of) {
+        text.push_str(format!(in alloc; "{before}least {least}")?.as_str())?;
+        before = ", ";
     }
-    if let Some(greatest) = end_of(&known.greatest) {
-        push(alloc, all, between, &format_args!("greatest {greatest}"))?;
+    if let Some(greatest) = known.greatest.as_ref().and_then(Endpoint::of) {
+        text.push_str(format!(in alloc; "{before}greatest {greatest}")?.as_str())?;
     }
     Ok(())
-}
-
-fn end_of(end: &Option<Value>) -> Option<Endpoint<'_>> {
-    match end {
-        Some(value) => Endpoint::of(value),
-        None => None,
-    }
 }
 
 /// Between which values the tree's are by the scene's statistics, and of a truth value the verdict.
@@ -106,14 +98,14 @@ pub fn pruned(alloc: Global, scene: &Scene, tree: &BoundExpression) -> VortexRes
     let stats = &scene.statistics;
     let within = bounds(tree, stats);
     let DType::Bool(_) = tree.dtype() else {
-        return text(alloc, &within);
+        return Ok(format!(in alloc; "{within}")?);
     };
     let said = match verdict(tree, stats) {
         Verdict::NoRow => "no row",
         Verdict::EveryRow => "every row",
         Verdict::Unknown => "unknown",
     };
-    with_type(alloc, &within, &said)
+    Ok(format!(in alloc; "{within} : {said}")?)
 }
 
 /// A mask by its rows.

@@ -1,6 +1,6 @@
 // Answers of queries as one run.
 use crate::scene::Scene;
-use crate::told::{push_rows, text};
+use crate::told::push_rows;
 use std::alloc::Global;
 use vx_query::run_query;
 use vx_rewrite::Pass;
@@ -14,37 +14,24 @@ pub struct Plan {
     pub split: bool,
 }
 
-const PASSES: [(&str, Pass); 5] = [
-    ("root", Pass::Optimize),
-    ("all", Pass::OptimizeRecursive),
-    ("fuse", Pass::FindBetween),
-    ("branches", Pass::Branches),
-    ("fold", Pass::Fold),
-];
-
 /// The plan of the words: `root`, `all`, `fuse`, `branches` and `fold` for passes, `none` for none,
 /// and at last `split`.
 pub fn read_plan(alloc: Global, words: &str) -> Result<Plan, Unread> {
     let mut passes = Vec::new(alloc);
     let mut split = false;
     for word in words.split_whitespace() {
-        match (word, pass_named(word)) {
-            (_, Some(pass)) => passes.push(pass)?,
-            ("split", _) => split = true,
-            ("none", _) => {}
+        match word {
+            "root" => passes.push(Pass::Optimize)?,
+            "all" => passes.push(Pass::OptimizeRecursive)?,
+            "fuse" => passes.push(Pass::FindBetween)?,
+            "branches" => passes.push(Pass::Branches)?,
+            "fold" => passes.push(Pass::Fold)?,
+            "split" => split = true,
+            "none" => {}
             _ => return Err(Unread::Word("no pass")),
         }
     }
     Ok(Plan { passes, split })
-}
-
-fn pass_named(word: &str) -> Option<Pass> {
-    for (name, pass) in PASSES.iter() {
-        if *name == word {
-            return Some(*pass);
-        }
-    }
-    None
 }
 
 /// What the query gives over each batch.
@@ -54,19 +41,9 @@ pub fn query_rows(
     source: &Expression,
     plan: &Plan,
 ) -> VortexResult<String> {
-    rows_by(alloc, scene, source, plan.passes.as_slice(), plan.split)
-}
-
-fn rows_by(
-    alloc: Global,
-    scene: &Scene,
-    source: &Expression,
-    passes: &[Pass],
-    split: bool,
-) -> VortexResult<String> {
     let mut rows = String::new(alloc);
     for batch in scene.batches.iter() {
-        let answer = run_query(alloc, source, batch, passes, split);
+        let answer = run_query(alloc, source, batch, plan.passes.as_slice(), plan.split);
         push_rows(alloc, &mut rows, answer)?;
     }
     Ok(rows)
@@ -74,18 +51,26 @@ fn rows_by(
 
 /// What the query gives by each list of at most two passes, split and not.
 pub fn any_query(alloc: Global, scene: &Scene, source: &Expression) -> VortexResult<String> {
-    let none = split_or_not(alloc, scene, source, &[])?;
-    let mut told = text(alloc, &none)?;
-    for (_, first) in PASSES.iter() {
-        push_other(alloc, scene, source, &[*first], none.as_str(), &mut told)?;
-        for (_, second) in PASSES.iter() {
+    let passes = [
+        Pass::Optimize,
+        Pass::OptimizeRecursive,
+        Pass::FindBetween,
+        Pass::Branches,
+        Pass::Fold,
+    ];
+    let none = split_or_not(alloc, scene, source, Vec::new(alloc))?;
+    let mut told = String::from_str(alloc, none.as_str())?;
+    for first in passes {
+        let rows = split_or_not(alloc, scene, source, vec![in alloc; first]?)?;
+        push_other(alloc, &mut told, none.as_str(), rows.as_str(), &[first])?;
+        for second in passes {
+            let rows = split_or_not(alloc, scene, source, vec![in alloc; first, second]?)?;
             push_other(
                 alloc,
-                scene,
-                source,
-                &[*first, *second],
-                none.as_str(),
                 &mut told,
+                none.as_str(),
+                rows.as_str(),
+                &[first, second],
             )?;
         }
     }
@@ -97,29 +82,32 @@ fn split_or_not(
     alloc: Global,
     scene: &Scene,
     source: &Expression,
-    passes: &[Pass],
+    passes: Vec<Pass>,
 ) -> VortexResult<String> {
-    let whole = rows_by(alloc, scene, source, passes, false)?;
-    let split = rows_by(alloc, scene, source, passes, true)?;
+    let mut plan = Plan {
+        passes,
+        split: false,
+    };
+    let whole = query_rows(alloc, scene, source, &plan)?;
+    plan.split = true;
+    let split = query_rows(alloc, scene, source, &plan)?;
     if whole.as_str() == split.as_str() {
         return Ok(whole);
     }
-    text(alloc, &format_args!("{whole}, and split {split}"))
+    Ok(format!(in alloc; "{whole}, and split {split}")?)
 }
 
-// Adds what the query gives by the passes where that is another answer than without a pass.
+// Adds rows that are others than those without a pass.
 fn push_other(
     alloc: Global,
-    scene: &Scene,
-    source: &Expression,
-    passes: &[Pass],
-    none: &str,
     told: &mut String,
+    none: &str,
+    rows: &str,
+    passes: &[Pass],
 ) -> VortexResult<()> {
-    let rows = split_or_not(alloc, scene, source, passes)?;
-    if rows.as_str() == none {
+    if rows == none {
         return Ok(());
     }
-    let other = text(alloc, &format_args!(", and {rows} by {passes:?}"))?;
+    let other = format!(in alloc; ", and {rows} by {passes:?}")?;
     Ok(told.push_str(other.as_str())?)
 }

@@ -4,9 +4,9 @@ ghost use Rattle.vx_value.specs.Paths.{add_paths};
 ghost use Rattle.vx_value.specs.Views.{type_of};
 
 use crate::answers::paths::{paths_of, shown_paths};
-use crate::kind::PlanKind;
+use crate::kind::SourceKind;
 use crate::scene::Scene;
-use crate::told::{push_rows, refused, text, told, typed};
+use crate::told::{push_rows, refused, told, typed};
 use std::alloc::Global;
 use std::fmt;
 use vx_projection::{ColumnReader, PathReader, read_referenced};
@@ -17,7 +17,7 @@ use vx_types::{FieldPath, FieldPathSet};
 /// The answer to a line that asks of the source, planned for scans of the scope, or what refuses that.
 pub fn planned(
     alloc: Global,
-    kind: PlanKind,
+    kind: SourceKind,
     scene: &Scene,
     source: &Expression,
 ) -> VortexResult<String> {
@@ -27,19 +27,24 @@ pub fn planned(
     }
 }
 
-fn of_plan(alloc: Global, kind: PlanKind, scene: &Scene, plan: &ScanPlan) -> VortexResult<String> {
+fn of_plan(
+    alloc: Global,
+    kind: SourceKind,
+    scene: &Scene,
+    plan: &ScanPlan,
+) -> VortexResult<String> {
     match kind {
-        PlanKind::Tree => plan_text(alloc, scene, plan),
-        PlanKind::Paths => shown_paths(alloc, plan.paths()),
-        PlanKind::Split => split_text(alloc, plan),
-        PlanKind::Scan => scan_rows(alloc, scene, plan),
+        SourceKind::Planned => plan_text(alloc, scene, plan),
+        SourceKind::PlannedPaths => shown_paths(alloc, plan.paths()),
+        SourceKind::PlannedSplit => split_text(alloc, plan),
+        _ => scan_rows(alloc, scene, plan),
     }
 }
 
 // Text and type of the plan's tree.
 fn plan_text(alloc: Global, scene: &Scene, plan: &ScanPlan) -> VortexResult<String> {
     if *plan.scope() != *scene.scope {
-        return text(alloc, &"a plan of another scope");
+        return Ok(String::from_str(alloc, "a plan of another scope")?);
     }
     typed(alloc, plan.tree())
 }
@@ -47,8 +52,8 @@ fn plan_text(alloc: Global, scene: &Scene, plan: &ScanPlan) -> VortexResult<Stri
 // The text of the plan's split, `whole` where it has none.
 fn split_text(alloc: Global, plan: &ScanPlan) -> VortexResult<String> {
     match plan.split() {
-        Some(split) => text(alloc, split),
-        None => text(alloc, &"whole"),
+        Some(split) => Ok(format!(in alloc; "{split}")?),
+        None => Ok(String::from_str(alloc, "whole")?),
     }
 }
 

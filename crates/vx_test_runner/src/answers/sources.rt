@@ -5,12 +5,12 @@ use crate::answers::queries::any_query;
 use crate::answers::scans::planned;
 use crate::kind::SourceKind;
 use crate::scene::Scene;
-use crate::told::{agreed, barred, refused, text, told};
+use crate::told::{agreed, barred, refused, told};
 use std::alloc::Global;
 use std::fmt;
-use std::fmt::{Display, Write};
-use vx_test_support::{Unread, boxed, number};
-use vx_tree::{BoundExpression, Expression, Scope, VortexResult};
+use std::fmt::Write;
+use vx_test_support::{Unread, boxed};
+use vx_tree::{DType, Expression, Scope, VortexResult};
 
 /// The answer to a line that asks of the source of that text.
 pub fn answer(
@@ -20,50 +20,53 @@ pub fn answer(
     tree: &str,
 ) -> Result<String, Unread> {
     let source = scene.source(alloc, tree)?;
-    of_source(alloc, kind, scene, &source).map_err(Unread::Refused)
-}
-
-fn of_source(
-    alloc: Global,
-    kind: SourceKind,
-    scene: &Scene,
-    source: &Expression,
-) -> VortexResult<String> {
-    match kind {
-        SourceKind::Text => both_texts(alloc, source),
-        SourceKind::TextLength => agreed_length(alloc, scene, source),
-        SourceKind::TreeText => tree_text(alloc, source),
-        SourceKind::TreeTextLength => text_length(alloc, &source.display_tree()),
-        SourceKind::Type => agreed_type(alloc, scene, source),
-        SourceKind::Built => built(alloc, source),
-        SourceKind::BuiltBound => built_bound(alloc, scene, source),
-        SourceKind::Depth => agreed_depth(alloc, scene, source),
-        SourceKind::AnyQuery => any_query(alloc, scene, source),
-        SourceKind::Planned(kind) => planned(alloc, kind, scene, source),
-        SourceKind::Selected => told(alloc, selected(alloc, scene, source)),
-    }
+    Ok(match kind {
+        SourceKind::Text => text(alloc, &source)?,
+        SourceKind::TextLength => text_length(alloc, scene, &source)?,
+        SourceKind::TreeText => tree_text(alloc, &source)?,
+        SourceKind::TreeTextLength => tree_text_length(alloc, &source)?,
+        SourceKind::Type => agreed_type(alloc, scene, &source)?,
+        SourceKind::Built => built(alloc, &source)?,
+        SourceKind::BuiltBound => built_bound(alloc, scene, &source)?,
+        SourceKind::Depth => depth(alloc, scene, &source)?,
+        SourceKind::AnyQuery => any_query(alloc, scene, &source)?,
+        SourceKind::Planned
+        | SourceKind::PlannedPaths
+        | SourceKind::PlannedSplit
+        | SourceKind::Scan => planned(alloc, kind, scene, &source)?,
+        SourceKind::Selected => told(alloc, selected(alloc, scene, &source))?,
+    })
 }
 
 /// A source by `fmt_sql`.
 #[derive(Clone, Copy)]
 struct Sql<'a>(&'a Expression);
 
-impl Display for Sql<'_> {
-    fn fmt<W: Write>(&self, f: &mut fmt::Formatter<W>) -> fmt::Result {
+impl fmt::Display for Sql<'_> {
+    fn fmt<W: fmt::Write>(&self, f: &mut fmt::Formatter<W>) -> fmt::Result {
         self.0.fmt_sql(f)
     }
 }
 
-fn both_texts(alloc: Global, source: &Expression) -> VortexResult<String> {
-    let plain = text(alloc, source)?;
-    agreed(alloc, plain, text(alloc, &Sql(source))?)
+fn text(alloc: Global, source: &Expression) -> VortexResult<String> {
+    let sql = Sql(source);
+    agreed(
+        alloc,
+        format!(in alloc; "{source}")?,
+        format!(in alloc; "{sql}")?,
+    )
 }
 
 // How many bytes the text has, also once it is bound.
-fn agreed_length(alloc: Global, scene: &Scene, source: &Expression) -> VortexResult<String> {
-    let length = text_length(alloc, source)?;
+fn text_length(alloc: Global, scene: &Scene, source: &Expression) -> VortexResult<String> {
+    let text = format!(in alloc; "{source}")?;
+    let length = format!(in alloc; "{}", text.len())?;
     match scene.bind(alloc, source) {
-        Ok(bound) => agreed(alloc, length, text_length(alloc, &*bound)?),
+        Ok(bound) => {
+            let text = format!(in alloc; "{bound}")?;
+            let other = format!(in alloc; "{}", text.len())?;
+            agreed(alloc, length, other)
+        }
         Err(_) => Ok(length),
     }
 }
@@ -76,96 +79,94 @@ pub fn peeled_text(
     close: &str,
     tree: &str,
 ) -> Result<String, Unread> {
-    let times = number(times, "no number of times")?;
+    let times: usize = times
+        .parse()
+        .map_err(|_| Unread::Word("no number of times"))?;
     let source = boxed(alloc, tree)?;
-    let whole = text(alloc, &*source)?;
-    text(alloc, &peeled(whole.as_str(), times, open, close)).map_err(Unread::Refused)
-}
-
-// The whole text where it can't be peeled so many times.
-fn peeled<'a>(whole: &'a str, times: usize, open: &str, close: &str) -> &'a str {
-    let mut left = whole;
+    let text = format!(in alloc; "{source}")?;
+    let mut peeled = text.as_str();
     for _ in 0..times {
-        let Some(inner) = left.strip_prefix(open) else {
-            return whole;
-        };
-        let Some(inner) = inner.trim_start().strip_suffix(close) else {
-            return whole;
-        };
-        left = inner;
+        let inner = peeled.strip_prefix(open).map(|inner| inner.trim_start());
+        match inner.and_then(|inner| inner.strip_suffix(close)) {
+            Some(inner) => peeled = inner,
+            None => return Ok(String::from_str(alloc, text.as_str())?),
+        }
     }
-    left
+    Ok(String::from_str(alloc, peeled)?)
 }
 
 fn tree_text(alloc: Global, source: &Expression) -> VortexResult<String> {
-    let text = text(alloc, &source.display_tree())?;
-    barred(alloc, text.as_str())
+    let tree = source.display_tree();
+    let text = format!(in alloc; "{tree}")?;
+    Ok(barred(alloc, text.as_str())?)
 }
 
 /// Counts the bytes that are written, and keeps none.
 #[derive(Clone, Copy)]
 struct Counted(usize);
 
-impl Write for Counted {
+impl fmt::Write for Counted {
     fn write_str(&mut self, piece: &str) -> fmt::Result {
         self.0 = self.0.saturating_add(piece.len());
         Ok(())
     }
 }
 
-// How many bytes the value's text has: that of a tree grows with the square of the depth.
-fn text_length<T: Display>(alloc: Global, value: &T) -> VortexResult<String> {
+// How many bytes the tree text has, which grows with the square of the depth.
+fn tree_text_length(alloc: Global, source: &Expression) -> VortexResult<String> {
     let mut counted = Counted(0);
-    let is_written = write!(counted, "{value}").is_ok();
+    let is_written = write!(counted, "{}", source.display_tree()).is_ok();
     let Counted(bytes) = counted;
     if !is_written {
-        return text(alloc, &format_args!("cut off behind {bytes}"));
+        return Ok(format!(in alloc; "cut off behind {bytes}")?);
     }
-    text(alloc, &bytes)
+    Ok(format!(in alloc; "{bytes}")?)
 }
 
 // The type by each call that tells one.
 fn agreed_type(alloc: Global, scene: &Scene, source: &Expression) -> VortexResult<String> {
     let typed = told(alloc, source.return_dtype(alloc, &scene.scope))?;
-    agreed(alloc, typed, bound_type(alloc, scene, source)?)
+    let bound = bound_type(alloc, scene, source)?;
+    agreed(alloc, typed, bound)
 }
 
 fn bound_type(alloc: Global, scene: &Scene, source: &Expression) -> VortexResult<String> {
-    match scene.bind(alloc, source) {
-        Ok(bound) => type_of_bound(alloc, scene, source, &bound),
-        Err(refusal) => refused(alloc, &refusal),
+    let bound = match scene.bind(alloc, source) {
+        Ok(bound) => bound,
+        Err(refusal) => return refused(alloc, &refusal),
+    };
+    if !bound.is_well_typed(alloc)? || !bound.is_root_bound_to(&scene.scope) {
+        return Ok(format!(in alloc; "{bound}, which isn't well typed over its scope")?);
     }
+    if !binds_alike(alloc, &scene.scope, source, &bound)? {
+        return Ok(format!(in alloc; "{bound}, and another tree by its scope")?);
+    }
+    let dtype = bound.dtype();
+    Ok(format!(in alloc; "{dtype}")?)
 }
 
-// The type of the tree, which has to be well typed, and what the source is bound to by the scope.
-fn type_of_bound(
+// Whether the source is bound to the scope as it is to the scope's type.
+fn binds_alike(
     alloc: Global,
-    scene: &Scene,
+    dtype: &DType,
     source: &Expression,
-    bound: &BoundExpression,
-) -> VortexResult<String> {
-    if !bound.is_well_typed(alloc)? || !bound.is_root_bound_to(&scene.scope) {
-        return text(
-            alloc,
-            &format_args!("{bound}, which isn't well typed over its scope"),
-        );
-    }
-    let scope = Box::new(alloc, Scope::new((*scene.scope).clone()?))?;
+    bound: &vx_tree::BoundExpression,
+) -> VortexResult<bool> {
+    let scope = Scope::new(dtype.clone()?);
     let other = Box::new(alloc, source.bind_scope(alloc, &scope)?)?;
-    if *other != *bound {
-        return text(
-            alloc,
-            &format_args!("{bound}, and another tree by its scope"),
-        );
-    }
-    text(alloc, bound.dtype())
+    Ok(*other == *bound)
 }
 
 // How deep the source is, also once it is bound.
-fn agreed_depth(alloc: Global, scene: &Scene, source: &Expression) -> VortexResult<String> {
-    let depth = text(alloc, &source.depth(alloc)?)?;
+fn depth(alloc: Global, scene: &Scene, source: &Expression) -> VortexResult<String> {
+    let depth = source.depth(alloc)?;
+    let depth = format!(in alloc; "{depth}")?;
     match scene.bind(alloc, source) {
-        Ok(bound) => agreed(alloc, depth, text(alloc, &bound.depth(alloc)?)?),
+        Ok(bound) => {
+            let other = bound.depth(alloc)?;
+            let other = format!(in alloc; "{other}")?;
+            agreed(alloc, depth, other)
+        }
         Err(_) => Ok(depth),
     }
 }

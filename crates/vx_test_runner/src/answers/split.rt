@@ -3,7 +3,7 @@ ghost use Rattle.vx_tree.specs.Trees.{WellTyped};
 ghost use Rattle.vx_tree.specs.Views.{bound_of};
 
 use crate::scene::Scene;
-use crate::told::{push_rows, text, with_type};
+use crate::told::push_rows;
 use std::alloc::Global;
 use vx_eval::apply_bound;
 use vx_rewrite::{BoundAnnotations, BoundPartitionedExpr, Optimize, partition_bound_annotations};
@@ -27,13 +27,11 @@ pub fn divided(
 
 /// Its text, and the type of its root.
 pub fn shown(alloc: Global, whole: &Divided) -> VortexResult<String> {
+    let dtype = whole.root.dtype();
     if !is_sound(alloc, whole)? {
-        return text(
-            alloc,
-            &format_args!("{whole}, which isn't well typed or named"),
-        );
+        return Ok(format!(in alloc; "{whole} : {dtype}, which isn't well typed or named")?);
     }
-    with_type(alloc, whole, whole.root.dtype())
+    Ok(format!(in alloc; "{whole} : {dtype}")?)
 }
 
 // Whether the root and each partition are well typed, and there is a name for each of these.

@@ -1,69 +1,60 @@
 // Answers of types, scalars and columns.
-use crate::told::{text, told, with_type};
+use crate::told::{refused, told};
 use std::alloc::Global;
-use vx_test_support::{Unread, dtype, names, number, typed, value, values};
+use vx_test_support::{Unread, dtype, typed, value, values};
 use vx_tree::Nullability::NonNullable;
 use vx_tree::{Column, DType, FieldNames, Scalar, VortexError, VortexResult};
 
 /// The text of the type.
-pub fn type_text(alloc: Global, written: &str) -> Result<String, Unread> {
-    let dtype = Box::new(alloc, dtype(alloc, written)?)?;
-    text(alloc, &*dtype).map_err(Unread::Refused)
+pub fn type_text(alloc: Global, text: &str) -> Result<String, Unread> {
+    let dtype = dtype(alloc, text)?;
+    Ok(format!(in alloc; "{dtype}")?)
 }
 
 /// The union of the types, which is there exactly where they are equal but for nullability.
 pub fn union(alloc: Global, first: &str, second: &str) -> Result<String, Unread> {
     let first = Box::new(alloc, dtype(alloc, first)?)?;
     let second = Box::new(alloc, dtype(alloc, second)?)?;
-    united(alloc, &first, &second).map_err(Unread::Refused)
+    Ok(united(alloc, &first, &second)?)
 }
 
 fn united(alloc: Global, first: &DType, second: &DType) -> VortexResult<String> {
     let alike = first.eq_ignore_nullability(second);
-    match &*Box::new(alloc, first.union(alloc, second)?)? {
-        Some(union) if alike => text(alloc, union),
-        None if !alike => text(alloc, &"none"),
-        _ => text(alloc, &"a union, or equal types, and not both"),
+    match first.union(alloc, second)? {
+        Some(union) if alike => Ok(format!(in alloc; "{union}")?),
+        None if !alike => Ok(String::from_str(alloc, "none")?),
+        _ => Ok(format!(in alloc; "a union, or equal types, and not both")?),
     }
 }
 
 /// The text of the scalar of `VALUE:TYPE`, or what refuses it.
 pub fn scalar_text(alloc: Global, word: &str) -> Result<String, Unread> {
-    let Some((given, kind)) = typed(word) else {
-        return Err(Unread::Word("no type"));
-    };
-    let given = Box::new(alloc, value(alloc, given)?)?;
-    let scalar = Scalar::try_new(dtype(alloc, kind)?, Box::into_inner(given));
-    told(alloc, scalar).map_err(Unread::Refused)
+    let (given, kind) = typed(word).ok_or("no type")?;
+    let kind = dtype(alloc, kind)?;
+    Ok(told(alloc, Scalar::try_new(kind, value(alloc, given)?))?)
 }
 
 /// The text of the column, or what refuses it.
-pub fn column(alloc: Global, kind: &str, rows: &str) -> Result<String, Unread> {
-    let rows = values(alloc, rows)?;
-    let column = Column::try_new(dtype(alloc, kind)?, rows);
-    told(alloc, column).map_err(Unread::Refused)
+pub fn column(alloc: Global, dtype: &str, rows: &str) -> Result<String, Unread> {
+    let dtype = vx_test_support::dtype(alloc, dtype)?;
+    Ok(told(alloc, Column::try_new(dtype, values(alloc, rows)?))?)
 }
 
 /// Columns, `TYPE: ROW ..` each with a `;` between them, as structs of so many rows under the names.
-pub fn joined(alloc: Global, list: &str, columns: &str, rows: &str) -> Result<String, Unread> {
-    let rows = number(rows, "no number of rows")?;
+pub fn joined(alloc: Global, names: &str, columns: &str, rows: &str) -> Result<String, Unread> {
+    let names = vx_test_support::names(alloc, names, ' ')?;
     let mut given = Vec::new(alloc);
     for text in columns.split(';') {
         given.push(Box::into_inner(typed_column(alloc, text.trim())?))?;
     }
-    told(
-        alloc,
-        joined_text(alloc, names(alloc, list, ' ')?, given, rows),
-    )
-    .map_err(Unread::Refused)
+    let rows = rows.parse().map_err(|_| Unread::Word("no number of rows"))?;
+    Ok(joined_text(alloc, names, given, rows)?)
 }
 
 /// The column of the words: its type with a colon, and its rows.
 pub fn typed_column(alloc: Global, text: &str) -> Result<Box<Column>, Unread> {
     let (dtype, rows) = text.split_once(' ').unwrap_or((text, ""));
-    let Some(dtype) = dtype.strip_suffix(':') else {
-        return Err(Unread::Word("no type"));
-    };
+    let dtype = dtype.strip_suffix(':').ok_or("no type")?;
     Ok(Box::new(alloc, vx_test_support::column(alloc, dtype, rows)?)?)
 }
 
@@ -74,10 +65,13 @@ fn joined_text(
     rows: usize,
 ) -> VortexResult<String> {
     if names.len() != columns.len() {
-        drop(names);
-        return Err(VortexError::LengthMismatch);
+        return refused(alloc, &VortexError::LengthMismatch);
     }
-    let column = Column::struct_of(alloc, names, columns, rows, NonNullable)?;
-    let column = Box::new(alloc, column)?;
-    with_type(alloc, &*column, column.dtype())
+    match Column::struct_of(alloc, names, columns, rows, NonNullable) {
+        Ok(column) => {
+            let dtype = column.dtype();
+            Ok(format!(in alloc; "{column} : {dtype}")?)
+        }
+        Err(refusal) => refused(alloc, &refusal),
+    }
 }

@@ -9,56 +9,76 @@ use crate::answers::scans::{read, read_through};
 use crate::answers::source_texts::{parsed, parsed_over, parsed_scalar, parsed_type, places};
 use crate::answers::sources::peeled_text;
 use crate::answers::values::{column, joined, scalar_text, type_text, union};
-use crate::kind::{WordKind, WordsKind};
-use crate::refusals::error_text;
+use crate::kind::WordsKind;
+use crate::refusals::refusal;
 use crate::scene::Scene;
 use std::alloc::Global;
 use vx_test_support::Unread;
 
-/// The answer to a line of one column.
-pub fn of_one(alloc: Global, kind: WordKind, scene: &Scene, word: &str) -> Result<String, Unread> {
-    match kind {
-        WordKind::Error => error_text(alloc, word),
-        WordKind::Function => shown_function(alloc, word),
-        WordKind::ChildNames => child_names(alloc, word),
-        WordKind::Swapped => swapped(alloc, word),
-        WordKind::TypeText => type_text(alloc, word),
-        WordKind::Parse => parsed(alloc, word),
-        WordKind::ParsedType => parsed_type(alloc, word),
-        WordKind::ParsedScalar => parsed_scalar(alloc, word),
-        WordKind::Places => places(alloc, word),
-        WordKind::Scalar => scalar_text(alloc, word),
-        WordKind::PathSet => path_set(alloc, word).map_err(Unread::Refused),
-        WordKind::Read => read(alloc, scene, word).map_err(Unread::Refused),
-        WordKind::Reader => read_through(alloc, scene, word).map_err(Unread::Refused),
-        WordKind::StatisticsOf => statistics_of(alloc, scene, word).map_err(Unread::Refused),
-        WordKind::ByChance => by_chance(alloc, word),
-        WordKind::TextsByChance => texts_by_chance(alloc, word),
-    }
-}
-
-/// The answer to a line of several columns.
-pub fn of_several(
+/// The answer to a line of that kind with these columns.
+pub fn answer(
     alloc: Global,
     kind: WordsKind,
     scene: &Scene,
     columns: &[&str],
 ) -> Result<String, Unread> {
-    match (kind, columns) {
-        (WordsKind::Like, [pattern, text]) => like(alloc, pattern, text),
-        (WordsKind::NodeType, [tree, types]) => node_type(alloc, tree, types),
-        (WordsKind::Kept, [tree, names]) => kept(alloc, tree, names),
-        (WordsKind::ParseOver, [dtype, text]) => parsed_over(alloc, dtype, text),
-        (WordsKind::Union, [first, second]) => union(alloc, first, second),
-        (WordsKind::Column, [dtype, rows]) => column(alloc, dtype, rows),
-        (WordsKind::Collected(kind), [sign, items]) => collected(alloc, kind, scene, sign, items),
-        (WordsKind::Joined, [names, columns, rows]) => joined(alloc, names, columns, rows),
-        (WordsKind::FirstMatch, [kind, tests, chosen, otherwise]) => {
-            matched(alloc, kind, tests, chosen, otherwise)
-        }
-        (WordsKind::PeeledText, [times, open, close, tree]) => {
-            peeled_text(alloc, times, open, close, scene.text(tree))
-        }
+    match columns {
+        [word] => of_one(alloc, kind, scene, word),
+        [first, second] => of_two(alloc, kind, scene, first, second),
+        [names, columns, rows] => joined(alloc, names, columns, rows),
+        [first, second, third, last] => match kind {
+            WordsKind::FirstMatch => matched(alloc, first, second, third, last),
+            _ => peeled_text(alloc, first, second, third, scene.text(last)),
+        },
         _ => Err(Unread::Word("another number of columns")),
     }
+}
+
+// The answer to a line of one column.
+fn of_one(alloc: Global, kind: WordsKind, scene: &Scene, word: &str) -> Result<String, Unread> {
+    match kind {
+        WordsKind::Error => error_text(alloc, word),
+        WordsKind::Function => shown_function(alloc, word),
+        WordsKind::ChildNames => child_names(alloc, word),
+        WordsKind::Swapped => swapped(alloc, word),
+        WordsKind::TypeText => type_text(alloc, word),
+        WordsKind::Parse => parsed(alloc, word),
+        WordsKind::ParsedType => parsed_type(alloc, word),
+        WordsKind::ParsedScalar => parsed_scalar(alloc, word),
+        WordsKind::Places => places(alloc, word),
+        WordsKind::Scalar => scalar_text(alloc, word),
+        WordsKind::PathSet => path_set(alloc, word),
+        WordsKind::Read => Ok(read(alloc, scene, word)?),
+        WordsKind::Reader => Ok(read_through(alloc, scene, word)?),
+        WordsKind::StatisticsOf => Ok(statistics_of(alloc, scene, word)?),
+        WordsKind::ByChance => by_chance(alloc, word),
+        WordsKind::TextsByChance => texts_by_chance(alloc, word),
+        _ => Err(Unread::Word("another number of columns")),
+    }
+}
+
+// The answer to a line of two columns.
+fn of_two(
+    alloc: Global,
+    kind: WordsKind,
+    scene: &Scene,
+    first: &str,
+    second: &str,
+) -> Result<String, Unread> {
+    match kind {
+        WordsKind::Like => like(alloc, first, second),
+        WordsKind::NodeType => node_type(alloc, first, second),
+        WordsKind::Kept => kept(alloc, first, second),
+        WordsKind::ParseOver => parsed_over(alloc, first, second),
+        WordsKind::Union => union(alloc, first, second),
+        WordsKind::Column => column(alloc, first, second),
+        WordsKind::Collected(kind) => collected(alloc, kind, scene, first, second),
+        _ => Err(Unread::Word("another number of columns")),
+    }
+}
+
+// The text of the refusal of that name.
+fn error_text(alloc: Global, name: &str) -> Result<String, Unread> {
+    let refusal = refusal(alloc, name)?;
+    Ok(format!(in alloc; "{refusal}")?)
 }

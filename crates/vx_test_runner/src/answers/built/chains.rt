@@ -6,7 +6,7 @@ use super::plain::OfSources;
 use super::walk::built_by;
 use crate::kind::CollectKind;
 use crate::scene::Scene;
-use crate::told::{push, refused, text, typed};
+use crate::told::{refused, typed};
 use std::alloc::Global;
 use vx_test_support::{Unread, boxed, repeated};
 use vx_tree::Expression;
@@ -31,11 +31,11 @@ pub fn collected(
         CollectKind::Bound => collected_bound(alloc, scene, by_and, items),
         CollectKind::Depth => {
             let tree = collected_by(alloc, &OfSources, by_and, items)?;
-            Ok(text(alloc, &tree.depth(alloc)?)?)
+            Ok(format!(in alloc; "{}", tree.depth(alloc)?)?)
         }
         CollectKind::Text => {
             let tree = collected_by(alloc, &OfSources, by_and, items)?;
-            compared(alloc, &tree, &*chain(alloc, sign, items)?).map_err(Unread::Refused)
+            Ok(compared(alloc, &tree, &*chain(alloc, sign, items)?)?)
         }
     }
 }
@@ -49,12 +49,11 @@ fn collected_bound(
     let by = OfBound {
         scope: &scene.scope,
     };
-    let told = match collected_by(alloc, &by, by_and, items) {
-        Ok(tree) => typed(alloc, &tree),
-        Err(Unread::Refused(refusal)) => refused(alloc, &refusal),
-        Err(unread) => return Err(unread),
-    };
-    told.map_err(Unread::Refused)
+    match collected_by(alloc, &by, by_and, items) {
+        Ok(tree) => Ok(typed(alloc, &tree)?),
+        Err(Unread::Refused(refusal)) => Ok(refused(alloc, &refusal)?),
+        Err(unread) => Err(unread),
+    }
 }
 
 fn collected_by<C: Constructors>(
@@ -75,8 +74,11 @@ fn collected_by<C: Constructors>(
 // The trees as a chain of source text.
 fn chain(alloc: Global, sign: &str, items: &str) -> Result<Box<Expression>, Unread> {
     let mut chain = String::new(alloc);
-    for item in items.split(';') {
-        push(alloc, &mut chain, sign, &format_args!("({})", item.trim()))?;
+    for text in items.split(';') {
+        if !chain.is_empty() {
+            chain.push_str(sign)?;
+        }
+        chain.push_str(format!(in alloc; "({})", text.trim())?.as_str())?;
     }
     boxed(alloc, chain.as_str())
 }

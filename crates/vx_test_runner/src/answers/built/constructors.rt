@@ -139,54 +139,37 @@ pub fn node<C: Constructors>(
     children: Vec<C::Tree>,
 ) -> VortexResult<C::Tree> {
     match scalar_fn {
+        ScalarFnRef::GetItem(name) => by.item(alloc, name.clone()?, one(children)?),
         ScalarFnRef::Literal(scalar) => by.lit(alloc, scalar.clone()?),
         ScalarFnRef::Pack(options) => {
             let elements = named(alloc, &options.names, children)?;
             by.pack(alloc, elements, options.nullability)
         }
+        ScalarFnRef::Select(selection) => selected(alloc, by, selection, one(children)?),
+        ScalarFnRef::Cast(target) => by.cast(alloc, one(children)?, target.clone()?),
+        ScalarFnRef::Not(_) => by.test(alloc, Test::Not, one(children)?),
+        ScalarFnRef::IsNull(_) => by.test(alloc, Test::IsNull, one(children)?),
+        ScalarFnRef::IsNotNull(_) => by.test(alloc, Test::IsNotNull, one(children)?),
         ScalarFnRef::CaseWhen(options) => chosen(alloc, by, options.has_else, children),
         ScalarFnRef::Between(options) => by.between(alloc, three(children)?, *options),
         ScalarFnRef::Zip(_) => by.zip_expr(alloc, three(children)?),
-        ScalarFnRef::Binary(_)
-        | ScalarFnRef::FillNull(_)
-        | ScalarFnRef::Mask(_)
-        | ScalarFnRef::Like(_) => of_two(alloc, by, scalar_fn, two(children)?),
-        _ => of_one(alloc, by, scalar_fn, one(children)?),
+        ScalarFnRef::Binary(operator) => compared(alloc, by, *operator, two(children)?),
+        ScalarFnRef::FillNull(_) => filled(alloc, by, true, two(children)?),
+        ScalarFnRef::Mask(_) => filled(alloc, by, false, two(children)?),
+        ScalarFnRef::Like(options) => {
+            let (child, pattern) = two(children)?;
+            by.like(alloc, *options, child, pattern)
+        }
     }
 }
 
-// The node of a function of one child.
-fn of_one<C: Constructors>(
+fn filled<C: Constructors>(
     alloc: Global,
     by: &C,
-    scalar_fn: &ScalarFnRef,
-    child: C::Tree,
-) -> VortexResult<C::Tree> {
-    match scalar_fn {
-        ScalarFnRef::GetItem(name) => by.item(alloc, name.clone()?, child),
-        ScalarFnRef::Select(selection) => selected(alloc, by, selection, child),
-        ScalarFnRef::Cast(target) => by.cast(alloc, child, target.clone()?),
-        ScalarFnRef::Not(_) => by.test(alloc, Test::Not, child),
-        ScalarFnRef::IsNull(_) => by.test(alloc, Test::IsNull, child),
-        ScalarFnRef::IsNotNull(_) => by.test(alloc, Test::IsNotNull, child),
-        _ => Err(VortexError::LengthMismatch),
-    }
-}
-
-// The node of a function of two children.
-fn of_two<C: Constructors>(
-    alloc: Global,
-    by: &C,
-    scalar_fn: &ScalarFnRef,
+    fills: bool,
     (first, second): (C::Tree, C::Tree),
 ) -> VortexResult<C::Tree> {
-    match scalar_fn {
-        ScalarFnRef::Binary(operator) => compared(alloc, by, *operator, (first, second)),
-        ScalarFnRef::FillNull(_) => by.fill_or_mask(alloc, true, first, second),
-        ScalarFnRef::Mask(_) => by.fill_or_mask(alloc, false, first, second),
-        ScalarFnRef::Like(options) => by.like(alloc, *options, first, second),
-        _ => Err(VortexError::LengthMismatch),
-    }
+    by.fill_or_mask(alloc, fills, first, second)
 }
 
 fn selected<C: Constructors>(

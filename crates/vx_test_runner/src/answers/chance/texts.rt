@@ -2,7 +2,6 @@
 use super::parts::{PARTS, TEXTS};
 use super::seed_and_count;
 use crate::answers::source_texts::read_otherwise;
-use crate::told::text;
 use std::alloc::{AllocError, Global};
 use vx_source::{ParseError, parse};
 use vx_test_support::{Maker, Seeds, Unread};
@@ -15,57 +14,45 @@ pub fn texts_by_chance(alloc: Global, words: &str) -> Result<String, Unread> {
     let (seed, count) = seed_and_count(words)?;
     let mut seeds = Seeds::new(seed);
     let mut maker = Maker::new(alloc, seed);
-    let mut read: usize = 0;
-    for i in 0..count.saturating_mul(2) {
-        let text = match i % 2 {
-            0 => any_text(alloc, &mut seeds)?,
-            _ => changed_text(alloc, &mut seeds, &mut maker)?,
-        };
-        match read_or_refused(alloc, text.as_str())? {
-            Answered::Read => read = read.saturating_add(1),
-            Answered::Refused => {}
-            Answered::Wrong(wrong) => return Ok(wrong),
-        }
-    }
-    let told = match read > count / 100 {
-        true => text(alloc, &"all answered"),
-        false => text(alloc, &format_args!("only {read} are read")),
-    };
-    told.map_err(Unread::Refused)
-}
-
-// What is answered to a text.
-#[derive(Drop)]
-enum Answered {
-    Read,
-    Refused,
-    Wrong(String),
-}
-
-fn read_or_refused(alloc: Global, written: &str) -> Result<Answered, Unread> {
-    match parse(alloc, written) {
-        Ok(expression) => {
-            let expression = Box::new(alloc, expression)?;
-            match read_otherwise(alloc, &expression)? {
-                Some(wrong) => Ok(Answered::Wrong(wrong)),
-                None => Ok(Answered::Read),
+    let mut tally = Tally { alloc, read: 0 };
+    for _ in 0..count {
+        let text = any_text(alloc, &mut seeds)?;
+        let read = readable(alloc, &mut seeds, &mut maker)?;
+        let other = changed(alloc, &mut seeds, read.as_str())?;
+        for text in [text.as_str(), other.as_str()] {
+            if let Some(wrong) = tally.wrong(text)? {
+                return Ok(wrong);
             }
         }
-        Err(ParseError::OutOfMemory) => Err(Unread::Refused(VortexError::OutOfMemory)),
-        Err(ParseError::Unexpected { at, .. }) if written.is_char_boundary(at) => {
-            Ok(Answered::Refused)
-        }
-        Err(refusal) => {
-            let wrong = text(alloc, &format_args!("{written} is refused {refusal}"))?;
-            Ok(Answered::Wrong(wrong))
-        }
     }
+    let Tally { read, .. } = tally;
+    if read <= count / 100 {
+        return Ok(format!(in alloc; "only {read} are read")?);
+    }
+    Ok(String::from_str(alloc, "all answered")?)
 }
 
-// A change of a text that is read.
-fn changed_text(alloc: Global, seeds: &mut Seeds, maker: &mut Maker) -> Result<String, AllocError> {
-    let read = readable(alloc, seeds, maker)?;
-    changed(alloc, seeds, read.as_str())
+// How many texts were read.
+#[derive(Clone, Copy)]
+struct Tally {
+    alloc: Global,
+    read: usize,
+}
+
+impl Tally {
+    // What is wrong with the answer that the text gets.
+    fn wrong(&mut self, text: &str) -> Result<Option<String>, Unread> {
+        let alloc = self.alloc;
+        match parse(alloc, text) {
+            Ok(expression) => {
+                self.read = self.read.saturating_add(1);
+                read_otherwise(alloc, &expression)
+            }
+            Err(ParseError::OutOfMemory) => Err(Unread::Refused(VortexError::OutOfMemory)),
+            Err(ParseError::Unexpected { at, .. }) if text.is_char_boundary(at) => Ok(None),
+            Err(refusal) => Ok(Some(format!(in alloc; "{text} is refused {refusal}")?)),
+        }
+    }
 }
 
 // Some parts one behind another, with blanks between them or without.
