@@ -156,26 +156,9 @@ impl Case<'_> {
 
     // How a value is shown.
     fn shown(self) -> &'static str {
-        match (self.dialect, self.kind) {
-            (Dialect::Postgres, Kind::Text) => {
-                "coalesce(encode(convert_to(v, 'UTF8'), 'hex'), 'null')"
-            }
-            (Dialect::Postgres, Kind::Octets) => "coalesce(encode(v, 'hex'), 'null')",
-            (Dialect::Postgres, Kind::Truth | Kind::Number(_) | Kind::Pair) => {
-                "coalesce(CAST(v AS text), 'null')"
-            }
-            (Dialect::Sqlite | Dialect::DuckDb | Dialect::Spark, Kind::Text) => {
-                "CASE typeof(v) WHEN 'null' THEN 'null' WHEN 'text' THEN lower(hex(v)) ELSE 'another' END"
-            }
-            (Dialect::Sqlite | Dialect::DuckDb | Dialect::Spark, Kind::Octets) => {
-                "CASE typeof(v) WHEN 'null' THEN 'null' WHEN 'blob' THEN lower(hex(v)) ELSE 'another' END"
-            }
-            (Dialect::Sqlite | Dialect::DuckDb | Dialect::Spark, Kind::Truth) => {
-                "CASE WHEN v IS NULL THEN 'null' WHEN v = 1 THEN 'true' WHEN v = 0 THEN 'false' ELSE 'another' END"
-            }
-            (Dialect::Sqlite | Dialect::DuckDb | Dialect::Spark, Kind::Number(_) | Kind::Pair) => {
-                "CASE typeof(v) WHEN 'null' THEN 'null' WHEN 'integer' THEN v ELSE 'another' END"
-            }
+        match self.dialect {
+            Dialect::Postgres => shown_in_postgres(self.kind),
+            Dialect::Sqlite | Dialect::DuckDb | Dialect::Spark => shown_with_type(self.kind),
         }
     }
 
@@ -246,6 +229,32 @@ impl Case<'_> {
         let count = kept.count();
         let line = format_args!("{number} planned {count}\n");
         push_shown(self.alloc, &line, &mut told.answers)
+    }
+}
+
+fn shown_in_postgres(kind: Kind) -> &'static str {
+    match kind {
+        Kind::Text => "coalesce(encode(convert_to(v, 'UTF8'), 'hex'), 'null')",
+        Kind::Octets => "coalesce(encode(v, 'hex'), 'null')",
+        Kind::Truth | Kind::Number(_) | Kind::Pair => "coalesce(CAST(v AS text), 'null')",
+    }
+}
+
+// The same where a value's type is the engine's own matter, so that it is shown, too.
+fn shown_with_type(kind: Kind) -> &'static str {
+    match kind {
+        Kind::Text => {
+            "CASE typeof(v) WHEN 'null' THEN 'null' WHEN 'text' THEN lower(hex(v)) ELSE 'another' END"
+        }
+        Kind::Octets => {
+            "CASE typeof(v) WHEN 'null' THEN 'null' WHEN 'blob' THEN lower(hex(v)) ELSE 'another' END"
+        }
+        Kind::Truth => {
+            "CASE WHEN v IS NULL THEN 'null' WHEN v = 1 THEN 'true' WHEN v = 0 THEN 'false' ELSE 'another' END"
+        }
+        Kind::Number(_) | Kind::Pair => {
+            "CASE typeof(v) WHEN 'null' THEN 'null' WHEN 'integer' THEN v ELSE 'another' END"
+        }
     }
 }
 

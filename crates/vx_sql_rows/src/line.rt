@@ -6,7 +6,7 @@ use vx_test_support::{Judge, Judged, Unread, bound};
 use vx_tree::BoundExpression;
 use vx_types::DType;
 
-/// What is called.
+/// What a line calls.
 #[derive(Clone, Copy)]
 enum Call {
     /// `ENGINE | TYPE | EXPRESSION`: the SQL text of an expression over rows of that type, or at which node there is none,
@@ -18,23 +18,6 @@ impl Call {
     /// The call of that name.
     fn named(name: &str) -> Option<Call> {
         Some(Call::Text(dialect_named(name)?))
-    }
-
-    /// How many columns it takes.
-    fn columns(self) -> usize {
-        match self {
-            Call::Text(_) => 2,
-        }
-    }
-
-    /// What it answers to these columns.
-    fn answer(self, alloc: Global, columns: &[&str]) -> Result<String, Unread> {
-        match (self, columns) {
-            (Call::Text(dialect), [scope, expression]) => sql_text(
-                alloc, dialect, scope, expression,
-            ),
-            _ => Err(Unread::Word("another number of columns")),
-        }
     }
 }
 
@@ -48,28 +31,30 @@ impl Judge for Calls {
     /// What the line comes to: a call, its columns, and the answer that is wanted, as
     /// `postgres | {x=i32} | x > 5 | ("x" > 5)`.
     fn judge(&mut self, alloc: Global, line: &str) -> Result<Judged, Unread> {
-        let (name, rest) = line.split_once('|').ok_or("no bar behind the call")?;
-        let call = Call::named(name.trim()).ok_or("no such call")?;
-        let columns = columns_of(alloc, rest, call.columns())?;
-        let Some((wanted, columns)) = columns.as_slice().split_last() else {
-            return Err(Unread::Word("no answer"));
-        };
-        let answer = call.answer(alloc, columns)?;
-        if answer.as_str() == *wanted {
-            Ok(Judged::Right)
-        } else {
-            Ok(Judged::Differs(answer))
+        let (name, rest) = column_of(line)?;
+        match Call::named(name).ok_or("no such call")? {
+            Call::Text(dialect) => {
+                let (scope, rest) = column_of(rest)?;
+                let (expression, wanted) = column_of(rest)?;
+                let answer = sql_text(alloc, dialect, scope, expression)?;
+                Ok(judged(answer, wanted))
+            }
         }
     }
 }
 
-// So many columns of a line, and the answer that is wanted behind them, which takes the rest of the line.
-fn columns_of(alloc: Global, text: &str, count: usize) -> Result<Vec<&str>, AllocError> {
-    let mut columns = Vec::new(alloc);
-    for column in text.splitn(count.saturating_add(1), '|') {
-        columns.push(column.trim())?;
+// The first column of the text, and what stands behind its bar.
+fn column_of(text: &str) -> Result<(&str, &str), Unread> {
+    let (column, rest) = text.split_once('|').ok_or("no bar behind a column")?;
+    Ok((column.trim(), rest.trim()))
+}
+
+fn judged(answer: String, wanted: &str) -> Judged {
+    if answer.as_str() == wanted {
+        Judged::Right
+    } else {
+        Judged::Differs(answer)
     }
-    Ok(columns)
 }
 
 const DIALECTS: [Dialect; 4] = [
