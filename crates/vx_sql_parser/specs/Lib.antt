@@ -6,4 +6,5 @@ pub mod Patterns
 pub mod Rules
 pub mod RuleViews
 pub mod Views
+pub mod Lettered
 pub mod Reading

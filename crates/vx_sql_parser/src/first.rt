@@ -1,6 +1,7 @@
 // The first token of a text of SQL.
 ghost use Rattle.std.specs.Prelude.{◌≡◌, ◌≤◌, ◌<◌, ◌+◌, IfOk, drop, length};
 ghost use Rattle.vx_sql_parser.specs.SqlTokens.{behind, begins_escaped, begins_octets, closing, comment_taken, has_escapes, has_name_quote, has_octets, lettered_taken, name_taken, number_taken, other_taken, sign_taken, taken_at, text_at, token_taken, word_taken};
+ghost use Rattle.vx_sql_parser.specs.Lettered.{octets_taken};
 ghost use Rattle.vx_sql_parser.specs.Views.{taken_of};
 
 use crate::between::{Quoting, plain_quoting};
@@ -64,12 +65,27 @@ fn lettered(
     let [b, rest @ ..] = bytes else {
         return Ok((None, 0));
     };
-    let c = next(rest);
-    if begins_escaped(dialect, *b, c) {
+    if begins_escaped(dialect, *b, next(rest)) {
         let (token, len) = text_behind(alloc, Quoting::Escaped, &rest[1..])?;
         return Ok((Some(token), 2 + len));
     }
-    if begins_octets(dialect, *b, c) {
+    octets(alloc, dialect, bytes)
+}
+
+// Bytes behind a letter, else a token without one.
+fn octets(
+    alloc: Global,
+    dialect: Dialect,
+    bytes: &[u8],
+) -> Result<(Option<SqlToken>, usize), AllocError>
+    ensures taken { IfOk result (λ r. octets_taken dialect bytes.now ≡ taken_of r.0 r.1) }
+    ensures within { IfOk result (λ r. r.1 ≤ length bytes.now) }
+    ensures forward { IfOk result (λ r. 0 < length bytes.now → 0 < r.1) }
+{
+    let [b, rest @ ..] = bytes else {
+        return Ok((None, 0));
+    };
+    if begins_octets(dialect, *b, next(rest)) {
         let (token, len) = octets_behind(alloc, &rest[1..])?;
         return Ok((Some(token), 2 + len));
     }

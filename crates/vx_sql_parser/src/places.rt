@@ -11,14 +11,18 @@ use std::alloc::{AllocError, Global};
 use vx_source_over::OverError;
 
 // The byte, or the last one before it at which a character of the text begins.
+#[tactic(auto, using(crate::proofs::Boundaries::begins))]
 pub(crate) fn boundary(text: &str, at: usize) -> usize
     ensures { IsCharBoundary text.now result }
 {
     let mut at = at.min(text.len());
-    while at > 0 && !text.is_char_boundary(at) {
+    while at > 0 {
+        if text.is_char_boundary(at) {
+            return at;
+        }
         at -= 1;
     }
-    at
+    0
 }
 
 // Where the token of the text stands that was written as the piece of source text at that byte, and where there is none

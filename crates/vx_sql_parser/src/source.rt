@@ -27,6 +27,7 @@ pub(crate) struct Refusal {
 
 // The source text that the text is read as. Time is linear in the text, but for a column's name before `when`, which is
 // copied for each.
+#[tactic(auto, using(crate::proofs::TokensFound::tokens_at))]
 pub(crate) fn source_of(alloc: Global, reader: Reader, text: &str) -> Result<Source, Refusal>
     ensures source { IfOk result (λ s. sql_source reader text.now ≡ Ok (string_bytes s.text)) }
     ensures refusal { IfErr result (λ r. IsStop r.stop (sql_source reader text.now)) }
