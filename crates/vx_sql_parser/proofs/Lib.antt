@@ -5,5 +5,5 @@ pub mod Betweens
 pub mod PatternsSpelled
 pub mod TokensAhead
 pub mod TokensFound
-pub mod WholeTexts
+pub mod ReadBack
 pub mod Written

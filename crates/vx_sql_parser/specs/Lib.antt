@@ -8,3 +8,4 @@ pub mod RuleViews
 pub mod Views
 pub mod Lettered
 pub mod Reading
+pub mod Laws

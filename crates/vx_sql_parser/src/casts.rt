@@ -5,13 +5,13 @@ ghost use Rattle.vx_sql_parser.specs.RuleViews.{Answers, literal_of};
 ghost use Rattle.vx_sql_parser.specs.Views.{lexemes_of};
 
 use crate::ahead::{closes_at, digits_at, is_minus_at, is_word_at, word_at};
-use vx_sql::Dialect;
 use crate::reader::Reader;
 use crate::reason::Unread;
 use crate::step::{Bracket, Change, Step, Stop, says, stepped};
 use crate::token::Lexed;
 use crate::types::{is_shared, number_word, type_word};
 use std::alloc::{AllocError, Global};
+use vx_sql::Dialect;
 
 // The type that stands there.
 fn typed_at(dialect: Dialect, tokens: &[Lexed], i: usize) -> Option<&'static str>

@@ -5,7 +5,6 @@ ghost use Rattle.vx_sql_parser.specs.Lettered.{octets_taken};
 ghost use Rattle.vx_sql_parser.specs.Views.{taken_of};
 
 use crate::between::{Quoting, plain_quoting};
-use vx_sql::Dialect;
 use crate::quoted::{name_behind, octets_behind, text_behind};
 use crate::reason::Unread;
 use crate::sign::{long_sign, short_sign};
@@ -13,6 +12,7 @@ use crate::spans::{closing, is_blank, is_digit, is_letter, line_len, next};
 use crate::token::SqlToken;
 use crate::words::{number_at, sign_at, word_at};
 use std::alloc::{AllocError, Global};
+use vx_sql::Dialect;
 
 // What is at the front: blanks, a comment or a token, and how many bytes it takes.
 pub(crate) fn taken_at(

@@ -3,10 +3,10 @@ ghost use Rattle.std.specs.Prelude.{◌≡◌, IfOk};
 ghost use Rattle.vx_sql_parser.specs.SqlTokens.{sql_tokens};
 ghost use Rattle.vx_sql_parser.specs.Views.{lexemes_of};
 
-use vx_sql::Dialect;
 use crate::first::taken_at;
 use crate::token::Lexed;
 use std::alloc::{AllocError, Global};
+use vx_sql::Dialect;
 
 // The tokens of the text, each with its first byte.
 pub(crate) fn sql_tokens(

@@ -9,6 +9,7 @@ mod casts;
 mod error;
 mod first;
 mod keywords;
+mod laws;
 mod lexed;
 mod likes;
 mod patterns;
@@ -31,5 +32,6 @@ mod whole;
 mod words;
 
 pub use error::SqlError;
+pub use laws::written_names_are_read;
 pub use reason::Unread;
 pub use whole::{parse_sql, parse_sql_over};

@@ -6,13 +6,13 @@ ghost use Rattle.vx_sql_parser.specs.RuleViews.{Answers};
 ghost use Rattle.vx_sql_parser.specs.Views.{lexemes_of};
 
 use crate::ahead::{is_word_at, text_at};
-use vx_sql::Dialect;
 use crate::patterns::{default_escape, is_escape, pattern_source};
 use crate::quotes::QuotedText;
 use crate::reason::Unread;
 use crate::step::{Change, Step, Stop, stepped};
 use crate::token::Lexed;
 use std::alloc::Global;
+use vx_sql::Dialect;
 
 // A match, with the case of letters ignored or not, of the pattern that the first token is.
 pub(crate) fn like(
@@ -34,12 +34,7 @@ pub(crate) fn like(
 }
 
 // The same where that text is the escape.
-fn escaped(
-    alloc: Global,
-    ignores: bool,
-    pattern: &str,
-    escape: Option<&str>,
-) -> Result<Step, Stop>
+fn escaped(alloc: Global, ignores: bool, pattern: &str, escape: Option<&str>) -> Result<Step, Stop>
     ensures { Answers result (rules.escape_said ignores pattern.now (option_map (λ s. s.now) escape.entry)) }
 {
     let Some(escape) = escape else {

@@ -3,9 +3,9 @@ ghost use Rattle.std.specs.Prelude.{◌≡◌, ◌++◌, IfOk, OnOk, option_map,
 ghost use Rattle.vx_sql_parser.specs.Patterns as patterns;
 ghost use Rattle.vx_sql_parser.specs.Views.{items_in};
 
-use vx_sql::Dialect;
 use crate::utf8::as_text;
 use std::alloc::{AllocError, Global};
+use vx_sql::Dialect;
 
 // Whether LIKE ignores the case of ASCII letters.
 pub(crate) fn ignores_case(dialect: Dialect) -> bool

@@ -6,8 +6,8 @@ ghost use Rattle.vx_sql_parser.specs.Views.{lexeme_of, lexemes_of};
 
 use crate::ahead::{digits_at, is_dot_at, is_text_at, opens_at, token_at};
 use crate::calls::{call, comma};
-use crate::casts::as_type;
 use crate::cases::{case_begins, then_said, when_said};
+use crate::casts::as_type;
 use crate::keywords::{is, is_divider, is_operand_word, is_plain_word, is_reserved};
 use crate::likes::like;
 use crate::patterns::{has_ilike, ignores_case};
@@ -120,12 +120,7 @@ fn case_rule(
 }
 
 // A name, a function, or a word that isn't read.
-fn other_rule(
-    alloc: Global,
-    reader: Reader,
-    word: &str,
-    behind: &[Lexed],
-) -> Result<Step, Stop>
+fn other_rule(alloc: Global, reader: Reader, word: &str, behind: &[Lexed]) -> Result<Step, Stop>
     ensures { Answers result (rules.other_rule reader word.now (lexemes_of behind.now)) }
 {
     if opens_at(behind, 0) {
@@ -168,7 +163,8 @@ fn is_bytes_order(behind: &[Lexed]) -> bool
 {
     match token_at(behind, 0) {
         Some(SqlToken::Quoted(name)) => is(name.as_str(), "C"),
-        Some(SqlToken::Word(word)) => is(word.as_str(), "binary") || is(word.as_str(), "utf8_binary"),
+        Some(SqlToken::Word(word)) => is(word.as_str(), "binary")
+            || is(word.as_str(), "utf8_binary"),
         _ => false,
     }
 }

@@ -73,12 +73,7 @@ impl<T: Drop> From<AllocFailed<T>> for Stop {
 }
 
 // The text, the change, and how many tokens behind are written with it.
-pub(crate) fn says(
-    alloc: Global,
-    text: &str,
-    change: Change,
-    more: usize,
-) -> Result<Step, Stop>
+pub(crate) fn says(alloc: Global, text: &str, change: Change, more: usize) -> Result<Step, Stop>
     ensures { Answers result (rules.says text.now change more) }
 {
     let text = String::from_str(alloc, text)?;

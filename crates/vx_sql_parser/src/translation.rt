@@ -52,7 +52,12 @@ impl Translation {
     }
 
     // Writes the token, before those behind it.
-    pub(crate) fn take(&mut self, alloc: Global, token: &Lexed, behind: &[Lexed]) -> Result<(), Stop>
+    pub(crate) fn take(
+        &mut self,
+        alloc: Global,
+        token: &Lexed,
+        behind: &[Lexed],
+    ) -> Result<(), Stop>
         ensures goes { OnOk result (with_tokens self.new (lexemes_of behind.now) ≡ with_tokens self.old (lexeme_in token.now ∷ lexemes_of behind.now)) }
         ensures stops { IfErr result (λ e. IsStop e (with_tokens self.old (lexeme_in token.now ∷ lexemes_of behind.now))) }
     {

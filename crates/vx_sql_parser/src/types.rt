@@ -2,8 +2,8 @@
 ghost use Rattle.std.specs.Prelude.{◌≡◌, option_map};
 ghost use Rattle.vx_sql_parser.specs.Types as types;
 
-use vx_sql::Dialect;
 use crate::keywords::is;
+use vx_sql::Dialect;
 
 // Whether a word may stand for one of several types of numbers.
 pub(crate) fn is_shared(dialect: Dialect) -> bool

@@ -16,8 +16,13 @@ use vx_sql::Dialect;
 use vx_tree::Expression;
 use vx_types::DType;
 
-/// The expression that the condition means, as the engine's WHERE has it: the one that the source text means as which it is
-/// written.
+/// The expression that the condition of a WHERE means, in the engine's own words. It is the one that its source text says, as
+/// which the text is written token by token.
+///
+/// Read are names, texts, whole numbers, comparisons, `+`, `and`, `or`, `not`, `is [not]` before `null`, `true` and `false`,
+/// `[not] in`, `[not] between`, `[not] like` with an escape or without, `ilike`, CASE over conditions or over a column, casts,
+/// and `coalesce` of a value and a literal. Words are made small in PostgreSQL, and stay as they are elsewhere. `like` ignores
+/// the case of ASCII letters in SQLite, and `ilike` does where it is. Texts are compared by bytes.
 ///
 /// Refuses with the first byte of what isn't read, or where something else should stand, and with `OutOfMemory`. Time is
 /// linear in the text, but for a column behind `case`, which is compared with what stands behind each `when`.

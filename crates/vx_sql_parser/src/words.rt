@@ -5,13 +5,13 @@ ghost use Rattle.vx_source_types.specs.Characters.{is_digit, is_word};
 ghost use Rattle.vx_sql_parser.specs.SqlTokens.{folded, no_sign, number_lexeme, number_taken, sign_taken, word_lexeme, word_taken};
 ghost use Rattle.vx_sql_parser.specs.Views.{lexeme_of, taken_of};
 
-use vx_sql::Dialect;
 use crate::reason::Unread;
 use crate::sign::SqlSign;
 use crate::spans::{digits_len, is_word, next, word_len};
 use crate::token::SqlToken;
 use crate::utf8::as_text;
 use std::alloc::{AllocError, Global};
+use vx_sql::Dialect;
 
 // The longest word at the front, and how many bytes it takes.
 pub(crate) fn word_at(
