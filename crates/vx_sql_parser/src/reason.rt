@@ -64,9 +64,6 @@ pub enum Unread {
     /// The escape of a pattern.
     #[error("the escape is one ASCII character, no `%` and no `_`, and stands before one of these or itself")]
     Escape,
-    /// A pattern whose letters have another case outside ASCII.
-    #[error("where case is ignored, a pattern is of ASCII characters")]
-    Case,
     /// A fill that isn't a literal.
     #[error("`coalesce` is read of two operands, of which the second is a literal")]
     Fill,
