@@ -32,7 +32,7 @@ pub fn dialect_named(word: &str) -> Option<Dialect> {
 /// The form of records of that name.
 pub fn data_format_named(word: &str) -> Option<DataFormat<'static>> {
     match word {
-        "json" => Some(DataFormat::Json),
+        "json" => Some(DataFormat::JsonLines),
         "csv" => Some(DataFormat::Csv(CsvFormat::default())),
         _ => None,
     }

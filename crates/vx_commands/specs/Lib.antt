@@ -2,4 +2,3 @@ pub mod Rows
 pub mod Chunked
 pub mod Commands
 pub mod SqlRuns
-pub mod Selected

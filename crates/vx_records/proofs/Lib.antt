@@ -8,6 +8,3 @@ mod Going
 mod Stopping
 mod Written
 mod Tallying
-mod Counting
-mod Selecting
-mod Portioned

@@ -57,20 +57,24 @@ impl Draft {
 // Up to so many names are compared one after another.
 pub(crate) const FEW: usize = 16;
 
-/// The index of the first field of that name, if there is one. It may be the guessed one.
+/// The index of the first field of that name, which may be the guessed one.
 pub(crate) fn place_of(
     alloc: Global,
     names: &FieldNames,
     name: &str,
     guess: usize,
-) -> Result<Option<usize>, Fault> {
+) -> Result<usize, Fault> {
     if names.get(guess).is_some_and(|found| found.as_str() == name) {
-        return Ok(Some(guess));
+        return Ok(guess);
     }
-    if names.len() <= FEW {
-        Ok(names.iter().position(|found| found.as_str() == name))
+    let found = if names.len() <= FEW {
+        names.iter().position(|found| found.as_str() == name)
     } else {
-        Ok(names.find(&named(alloc, name)?))
+        names.find(&named(alloc, name)?)
+    };
+    match found {
+        Some(i) => Ok(i),
+        None => Err(Fault::new(alloc, Expected::Field).within(&named(alloc, name)?)),
     }
 }
 

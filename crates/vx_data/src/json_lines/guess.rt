@@ -26,7 +26,6 @@ pub(crate) enum Shape {
     Unknown,
     Truth,
     Whole(Wholes),
-    /// Texts, and numbers that are read as their texts.
     Text,
     List(Box<Guess>),
     Struct(FieldGuesses),
@@ -76,7 +75,7 @@ impl Guess {
     pub(crate) fn see_text(&mut self, alloc: Global) -> Result<(), Fault> {
         match self.shape {
             Shape::Text => Ok(()),
-            Shape::Unknown | Shape::Whole(_) => {
+            Shape::Unknown => {
                 self.shape = Shape::Text;
                 Ok(())
             }
@@ -84,21 +83,23 @@ impl Guess {
         }
     }
 
-    /// A number of that text was seen. It stands for its text where no type has it and the numbers before, or where
-    /// there was a text.
+    /// A number of that text was seen.
     pub(crate) fn see_number(&mut self, alloc: Global, text: &str) -> Result<(), Fault> {
-        let number = Wholes::of(text);
+        let Some(number) = Wholes::of(text) else {
+            return Err(Fault::new(alloc, Expected::WholeOfAnyType));
+        };
         let numbers = match self.shape {
-            Shape::Unknown => number,
-            Shape::Whole(before) => number.and_then(|number| before.and(number)),
-            Shape::Text => None,
-            _ => return Err(Fault::new(alloc, Expected::SameKind)),
+            Shape::Unknown => Some(number),
+            Shape::Whole(before) => before.and(number),
+            _ => None,
         };
-        self.shape = match numbers {
-            Some(numbers) => Shape::Whole(numbers),
-            None => Shape::Text,
-        };
-        Ok(())
+        match numbers {
+            Some(numbers) => {
+                self.shape = Shape::Whole(numbers);
+                Ok(())
+            }
+            None => Err(Fault::new(alloc, Expected::SameKind)),
+        }
     }
 
     /// The items of lists, of which one more was seen.

@@ -7,11 +7,9 @@ use std::io::BufRead;
 /// memory is one line.
 #[derive(Drop)]
 pub struct JsonLines<R> {
-    pub(super) reader: R,
-    pub(super) bytes: Vec<u8>,
-    pub(super) line: u64,
-    // Whether the bytes begin the next line.
-    pub(super) is_begun: bool,
+    reader: R,
+    bytes: Vec<u8>,
+    line: u64,
 }
 
 impl<R: BufRead> JsonLines<R> {
@@ -21,7 +19,6 @@ impl<R: BufRead> JsonLines<R> {
             reader,
             bytes: Vec::new(alloc),
             line: 0,
-            is_begun: false,
         }
     }
 
@@ -29,12 +26,8 @@ impl<R: BufRead> JsonLines<R> {
     /// `OutOfMemory`.
     pub fn read_record(&mut self) -> Result<bool, DataError> {
         for _ in self.line..u64::MAX {
-            if !self.is_begun {
-                self.bytes.clear();
-            }
-            self.is_begun = false;
-            self.reader.read_until(b'\n', &mut self.bytes)?;
-            if self.bytes.is_empty() {
+            self.bytes.clear();
+            if self.reader.read_until(b'\n', &mut self.bytes)? == 0 {
                 return Ok(false);
             }
             self.line = self.line.saturating_add(1);
