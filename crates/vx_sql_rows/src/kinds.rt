@@ -79,24 +79,21 @@ impl Kind {
             Kind::Number(p) => Ok(Value::Int(number(p, chance))),
             Kind::Text => Ok(Value::Utf8(text(alloc, chance)?)),
             Kind::Octets => Ok(Value::Binary(octets(alloc, chance)?)),
-            Kind::Pair => pair(alloc, chance),
+            Kind::Pair => {
+                let number = Value::Int(number(PType::I32, chance));
+                let text = Value::Utf8(text(alloc, chance)?);
+                let mut fields = Vec::new(alloc);
+                fields.push(maybe_null(chance, number))?;
+                fields.push(maybe_null(chance, text))?;
+                Ok(Value::Struct(fields))
+            }
         }
     }
-}
-
-fn pair(alloc: Global, chance: &mut Seeds) -> Result<Value, AllocError> {
-    let number = number(PType::I32, chance);
-    let text = text(alloc, chance)?;
-    let mut fields = Vec::new(alloc);
-    fields.push(maybe_null(chance, Value::Int(number)))?;
-    fields.push(maybe_null(chance, Value::Utf8(text)))?;
-    Ok(Value::Struct(fields))
 }
 
 /// The value, or null one time in four.
 pub fn maybe_null(chance: &mut Seeds, value: Value) -> Value {
     if chance.below(4) == 0 {
-        drop(value);
         Value::Null
     } else {
         value

@@ -3,57 +3,34 @@ use std::alloc::{AllocError, Global};
 use vx_source::parse_type;
 use vx_sql::{Dialect, Unsupported, to_sql};
 use vx_test_support::{Judge, Judged, Unread, bound};
-use vx_tree::BoundExpression;
-use vx_types::DType;
 
-/// What a line calls.
+/// Judges SQL texts of expressions.
 #[derive(Clone, Copy)]
-enum Call {
-    /// `ENGINE | TYPE | EXPRESSION`: the SQL text of an expression over rows of that type, or at which node there is none,
-    /// and why.
-    Text(Dialect),
-}
+pub struct Texts;
 
-impl Call {
-    /// The call of that name.
-    fn named(name: &str) -> Option<Call> {
-        Some(Call::Text(dialect_named(name)?))
-    }
-}
-
-/// Judges calls.
-#[derive(Clone, Copy)]
-pub struct Calls;
-
-impl Judge for Calls {
+impl Judge for Texts {
     type Unread = Unread;
 
-    /// What the line comes to: a call, its columns, and the answer that is wanted, as
-    /// `postgres | {x=i32} | x > 5 | ("x" > 5)`.
+    /// What the line comes to: an engine, the type of its rows, an expression, and the text that is
+    /// wanted or what is wrong, as `postgres | {x=i32} | x > 5 | ("x" > 5)`. Where the type or the
+    /// expression has a `␀` a NUL is meant, which no line should hold.
     fn judge(&mut self, alloc: Global, line: &str) -> Result<Judged, Unread> {
-        let (name, rest) = column_of(line)?;
-        match Call::named(name).ok_or("no such call")? {
-            Call::Text(dialect) => {
-                let (scope, rest) = column_of(rest)?;
-                let (expression, wanted) = column_of(rest)?;
-                let answer = sql_text(alloc, dialect, scope, expression)?;
-                Ok(judged(answer, wanted))
-            }
+        let mut columns = Vec::new(alloc);
+        for column in line.splitn(4, '|') {
+            columns.push(column.trim())?;
         }
-    }
-}
-
-// The first column of the text, and what stands behind its bar.
-fn column_of(text: &str) -> Result<(&str, &str), Unread> {
-    let (column, rest) = text.split_once('|').ok_or("no bar behind a column")?;
-    Ok((column.trim(), rest.trim()))
-}
-
-fn judged(answer: String, wanted: &str) -> Judged {
-    if answer.as_str() == wanted {
-        Judged::Right
-    } else {
-        Judged::Differs(answer)
+        let [engine, scope, expression, wanted] = columns.as_slice() else {
+            return Err(Unread::Word("another number of columns"));
+        };
+        let dialect = dialect_named(engine).ok_or("no such engine")?;
+        let scope = scope.replace(alloc, '␀', "\0")?;
+        let expression = expression.replace(alloc, '␀', "\0")?;
+        let answer = answer(alloc, dialect, scope.as_str(), expression.as_str())?;
+        if answer.as_str() == *wanted {
+            Ok(Judged::Right)
+        } else {
+            Ok(Judged::Differs(answer))
+        }
     }
 }
 
@@ -83,34 +60,19 @@ pub fn dialect_named(name: &str) -> Option<Dialect> {
     None
 }
 
-fn sql_text(
+// The SQL text of the expression, or where it has none and why.
+fn answer(
     alloc: Global,
     dialect: Dialect,
     scope: &str,
     expression: &str,
 ) -> Result<String, Unread> {
-    let scope = scope_of(alloc, scope)?;
-    let tree = tree_of(alloc, expression, &scope)?;
-    match to_sql(alloc, &tree, dialect) {
+    let scope = Box::new(alloc, parse_type(alloc, scope)?)?;
+    let bound = bound(alloc, expression, &scope)?;
+    match to_sql(alloc, &bound, dialect) {
         Ok(text) => Ok(text),
-        Err(unsupported) => {
-            let text = told(alloc, &unsupported);
-            drop(unsupported);
-            Ok(text?)
-        }
+        Err(unsupported) => Ok(told(alloc, &unsupported)?),
     }
-}
-
-// The type of that source text, in which `␀` is a NUL, which no line should hold.
-fn scope_of(alloc: Global, text: &str) -> Result<Box<DType>, Unread> {
-    let text = text.replace(alloc, '␀', "\0")?;
-    Ok(Box::new(alloc, parse_type(alloc, text.as_str())?)?)
-}
-
-// The expression of that source text, with NULs as well, bound to the type.
-fn tree_of(alloc: Global, text: &str, scope: &DType) -> Result<Box<BoundExpression>, Unread> {
-    let text = text.replace(alloc, '␀', "\0")?;
-    bound(alloc, text.as_str(), scope)
 }
 
 fn told(alloc: Global, unsupported: &Unsupported) -> Result<String, AllocError> {

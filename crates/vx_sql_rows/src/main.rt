@@ -12,14 +12,12 @@ mod line;
 mod maker;
 mod rows;
 mod shown;
-mod texts;
 
-use anyhow::{Context, Error, Result, anyhow};
+use anyhow::{Context, Result, anyhow};
 use cases::{Cases, make_cases};
-use line::{Calls, dialect_named};
+use line::{Texts, dialect_named};
 use std::alloc::Global;
 use std::env;
-use std::fmt::Display;
 use std::process::ExitCode;
 use vx_test_support::judge_files;
 
@@ -30,27 +28,19 @@ fn main(rt: HostRuntime) -> Result<ExitCode> {
         words.push(word)?;
     }
     match words.as_slice() {
-        [what, engine, seed, count] if is_print(what.as_str()) => {
+        [what, engine, seed, count] if what.as_str() == "script" => {
             let told = told(alloc, engine.as_str(), seed.as_str(), count.as_str())?;
-            print_told(&rt, what.as_str(), &told)?;
+            print!(rt; "{}", told.script)?;
             Ok(ExitCode::SUCCESS)
         }
-        tables => judge_files(&rt, tables, &mut Calls),
+        [what, engine, seed, count] if what.as_str() == "answers" => {
+            let told = told(alloc, engine.as_str(), seed.as_str(), count.as_str())?;
+            print!(rt; "{}", told.answers)?;
+            println!(rt; "{} statements fail", told.failures)?;
+            Ok(ExitCode::SUCCESS)
+        }
+        tables => judge_files(&rt, tables, &mut Texts),
     }
-}
-
-fn is_print(what: &str) -> bool {
-    matches!(what, "script" | "answers")
-}
-
-fn print_told(rt: &impl Print, what: &str, told: &Cases) -> Result<()> {
-    if what == "script" {
-        print!(rt; "{}", told.script)?;
-        return Ok(());
-    }
-    print!(rt; "{}", told.answers)?;
-    println!(rt; "{} statements fail", told.failures)?;
-    Ok(())
 }
 
 fn told(alloc: Global, engine: &str, seed: &str, count: &str) -> Result<Cases> {
@@ -61,10 +51,6 @@ fn told(alloc: Global, engine: &str, seed: &str, count: &str) -> Result<Cases> {
     let count = count.parse().context("reading the count")?;
     match make_cases(alloc, dialect, seed, count) {
         Ok(told) => Ok(told),
-        Err(why) => Err(refused(why)),
+        Err(why) => Err(anyhow!("{why}")),
     }
-}
-
-fn refused<E: Display + Drop>(why: E) -> Error {
-    anyhow!("{why}")
 }

@@ -1,7 +1,6 @@
 // Expressions by chance, as source texts.
 use crate::grammar::MASKS;
-use crate::kinds::{Kind, NUMBERS, has_pairs};
-use crate::texts::push_shown;
+use crate::kinds::{Kind, NUMBERS, has_pairs, text};
 use std::alloc::{AllocError, Global};
 use vx_source::ScalarText;
 use vx_sql::Dialect;
@@ -29,8 +28,8 @@ struct Node {
 #[derive(Drop)]
 pub struct Maker {
     alloc: Global,
-    pub dialect: Dialect,
-    seeds: Seeds,
+    dialect: Dialect,
+    pub seeds: Seeds,
 }
 
 impl Maker {
@@ -199,17 +198,12 @@ impl Maker {
         value: Value,
         text: &mut String,
     ) -> Result<(), AllocError> {
-        match Scalar::try_new(flat_type(kind), value) {
-            Ok(scalar) => {
-                let pushed = push_shown(self.alloc, &ScalarText(&scalar), text);
-                drop(scalar);
-                pushed
-            }
-            Err(refusal) => {
-                drop(refusal);
-                text.push_str("null::bool?")
-            }
-        }
+        let Ok(scalar) = Scalar::try_new(flat_type(kind), value) else {
+            return text.push_str("null::bool?");
+        };
+        let shown = ScalarText(&scalar);
+        let source = format!(in self.alloc; "{shown}")?;
+        text.push_str(source.as_str())
     }
 }
 

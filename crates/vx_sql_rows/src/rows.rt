@@ -1,38 +1,16 @@
-// The engine's table, over whose rows expressions are evaluated, and the statements that make it.
+// The rows that expressions are evaluated over, and the table that has them.
 use crate::kinds::{Kind, NUMBERS, has_pairs, maybe_null};
-use crate::texts::{Digits, Quoted, push_shown};
 use std::alloc::{AllocError, Global};
-use std::fmt;
-use std::fmt::{Display, Formatter, Write};
 use vx_source::parse_type;
 use vx_sql::Dialect;
 use vx_test_support::{Seeds, Unread};
-use vx_types::{DType, PType, Value};
+use vx_types::{DType, FieldName, Nullability, PType, StructFields, Value};
 
 /// How many rows the table has.
-const ROWS: usize = 50;
+pub const ROWS: usize = 50;
 
-/// The engine's table.
-#[derive(Drop)]
-pub struct Table {
-    /// The type of the rows.
-    pub scope: Box<DType>,
-    /// The rows, as structs.
-    pub rows: Vec<Value>,
-}
-
-impl Table {
-    /// The engine's table, with rows by chance.
-    pub fn by_chance(alloc: Global, dialect: Dialect, seeds: &mut Seeds) -> Result<Table, Unread> {
-        let kinds = kinds(alloc, dialect)?;
-        let scope = scope(alloc, kinds.as_slice())?;
-        let rows = rows(alloc, kinds.as_slice(), seeds)?;
-        Ok(Table { scope, rows })
-    }
-}
-
-// The kinds of columns that the engine's table has, each in two columns.
-fn kinds(alloc: Global, dialect: Dialect) -> Result<Vec<Kind>, AllocError> {
+/// The kinds of columns that the engine's table has, each in two columns.
+pub fn kinds(alloc: Global, dialect: Dialect) -> Result<Vec<Kind>, AllocError> {
     let mut kinds = Vec::new(alloc);
     kinds.push(Kind::Truth)?;
     kinds.push(Kind::Text)?;
@@ -48,30 +26,22 @@ fn kinds(alloc: Global, dialect: Dialect) -> Result<Vec<Kind>, AllocError> {
     Ok(kinds)
 }
 
-// The type of the rows: of each kind a column with nulls, and one without.
-fn scope(alloc: Global, kinds: &[Kind]) -> Result<Box<DType>, Unread> {
+/// The type of the rows: of each kind a column with nulls, and one without.
+pub fn scope(alloc: Global, kinds: &[Kind]) -> Result<Box<DType>, Unread> {
     let mut text = String::from_str(alloc, "{")?;
     for (i, kind) in kinds.iter().enumerate() {
         let [nullable, plain] = kind.columns();
         let word = kind.type_text();
         let separator = if i == 0 { "" } else { ", " };
-        let pair = format_args!("{separator}{nullable}={word}?, {plain}={word}");
-        push_shown(alloc, &pair, &mut text)?;
+        let pair = format!(in alloc; "{separator}{nullable}={word}?, {plain}={word}")?;
+        text.push_str(pair.as_str())?;
     }
     text.push_str("}")?;
     Ok(Box::new(alloc, parse_type(alloc, text.as_str())?)?)
 }
 
-// The rows by chance.
-fn rows(alloc: Global, kinds: &[Kind], seeds: &mut Seeds) -> Result<Vec<Value>, AllocError> {
-    let mut rows = Vec::new(alloc);
-    for _ in 0..ROWS {
-        rows.push(Value::Struct(row(alloc, kinds, seeds)?))?;
-    }
-    Ok(rows)
-}
-
-fn row(alloc: Global, kinds: &[Kind], seeds: &mut Seeds) -> Result<Vec<Value>, AllocError> {
+/// A row by chance.
+pub fn row(alloc: Global, kinds: &[Kind], seeds: &mut Seeds) -> Result<Vec<Value>, AllocError> {
     let mut values = Vec::new(alloc);
     for kind in kinds {
         let value = kind.value(alloc, seeds)?;
@@ -82,108 +52,47 @@ fn row(alloc: Global, kinds: &[Kind], seeds: &mut Seeds) -> Result<Vec<Value>, A
 }
 
 /// The statements that make the table and fill it, told without the texts of `vx_sql`.
-#[derive(Clone, Copy)]
-pub struct Statements<'a> {
-    pub dialect: Dialect,
-    pub table: &'a Table,
-}
-
-impl Display for Statements<'_> {
-    fn fmt<W: Write>(&self, f: &mut Formatter<W>) -> fmt::Result {
-        if has_pairs(self.dialect) {
-            f.write_str("CREATE TYPE pair AS (f integer, g text);\n")?;
-        }
-        f.write_str("CREATE TABLE t (\"row\" integer")?;
-        self.write_columns(f)?;
-        f.write_str(");\n")?;
-        for (i, row) in self.table.rows.iter().enumerate() {
-            write!(f, "INSERT INTO t VALUES ({i}")?;
-            self.write_values(row, f)?;
-            f.write_str(");\n")?;
-        }
-        Ok(())
-    }
-}
-
-impl Statements<'_> {
-    fn write_columns<W: Write>(&self, f: &mut Formatter<W>) -> fmt::Result {
-        let DType::Struct(fields, _) = &*self.table.scope else {
-            return Ok(());
-        };
-        for (name, dtype) in fields.names().iter().zip(fields.types().iter()) {
-            let name = Quoted(name.as_str());
-            let kind = column_type(self.dialect, dtype);
-            write!(f, ", {name} {kind}")?;
-        }
-        Ok(())
-    }
-
-    fn write_values<W: Write>(&self, row: &Value, f: &mut Formatter<W>) -> fmt::Result {
-        let Value::Struct(values) = row else {
-            return Ok(());
-        };
-        for value in values.as_slice() {
-            f.write_str(", ")?;
-            self.write_value(value, f)?;
-        }
-        Ok(())
-    }
-
-    // A value of a row; of a pair, both of its values.
-    fn write_value<W: Write>(&self, value: &Value, f: &mut Formatter<W>) -> fmt::Result {
-        let dialect = self.dialect;
-        if let Value::Struct(fields) = value
-            && let [first, second] = fields.as_slice()
-        {
-            let first = Literal {
-                dialect,
-                value: first,
-            };
-            let second = Literal {
-                dialect,
-                value: second,
-            };
-            return write!(f, "ROW({first}, {second})::pair");
-        }
-        write!(f, "{}", Literal { dialect, value })
-    }
-}
-
-// A value in the engine's words.
-#[derive(Clone, Copy)]
-struct Literal<'a> {
+pub fn push_table(
+    alloc: Global,
     dialect: Dialect,
-    value: &'a Value,
-}
-
-impl Display for Literal<'_> {
-    fn fmt<W: Write>(&self, f: &mut Formatter<W>) -> fmt::Result {
-        let is_sqlite = is_sqlite(self.dialect);
-        match self.value {
-            Value::Bool(b) if is_sqlite => f.write_str(if *b { "1" } else { "0" }),
-            Value::Bool(b) => write!(f, "{b}"),
-            Value::Int(number) => write!(f, "{number}"),
-            Value::Utf8(text) => write_text(is_sqlite, Digits(text.as_str().as_bytes()), f),
-            Value::Binary(bytes) => write_bytes(is_sqlite, Digits(bytes.as_slice()), f),
-            Value::Null | Value::List(_) | Value::Struct(_) => f.write_str("NULL"),
+    fields: &StructFields,
+    rows: &[Value],
+    out: &mut String,
+) -> Result<(), AllocError> {
+    if has_pairs(dialect) {
+        out.push_str("CREATE TYPE pair AS (f integer, g text);\n")?;
+    }
+    out.push_str("CREATE TABLE t (\"row\" integer")?;
+    for (name, dtype) in fields.names().iter().zip(fields.types().iter()) {
+        out.push_str(", ")?;
+        push_quoted(name, out)?;
+        out.push_str(" ")?;
+        out.push_str(column_type(dialect, dtype))?;
+    }
+    out.push_str(");\n")?;
+    for (i, row) in rows.iter().enumerate() {
+        let insert = format!(in alloc; "INSERT INTO t VALUES ({i}")?;
+        out.push_str(insert.as_str())?;
+        if let Value::Struct(values) = row {
+            for value in values.as_slice() {
+                out.push_str(", ")?;
+                push_flat(alloc, dialect, value, out)?;
+            }
         }
+        out.push_str(");\n")?;
     }
+    Ok(())
 }
 
-fn write_text<W: Write>(is_sqlite: bool, digits: Digits<'_>, f: &mut Formatter<W>) -> fmt::Result {
-    if is_sqlite {
-        write!(f, "CAST(X'{digits}' AS TEXT)")
-    } else {
-        write!(f, "convert_from(decode('{digits}', 'hex'), 'UTF8')")
+fn push_quoted(name: &FieldName, out: &mut String) -> Result<(), AllocError> {
+    out.push('"')?;
+    for c in name.as_str().chars() {
+        if c == '"' {
+            out.push('"')?;
+        }
+        out.push(c)?;
     }
-}
-
-fn write_bytes<W: Write>(is_sqlite: bool, digits: Digits<'_>, f: &mut Formatter<W>) -> fmt::Result {
-    if is_sqlite {
-        write!(f, "X'{digits}'")
-    } else {
-        write!(f, "decode('{digits}', 'hex')")
-    }
+    out.push('"')
 }
 
 // Whether the table is told in SQLite's words.
@@ -198,20 +107,105 @@ fn column_type(dialect: Dialect, dtype: &DType) -> &'static str {
     let is_sqlite = is_sqlite(dialect);
     match dtype {
         DType::Bool(_) => "boolean",
-        DType::Primitive(_, _) if is_sqlite => "integer",
-        DType::Primitive(p, _) => number_column(*p),
+        DType::Primitive(p, _) => {
+            if is_sqlite {
+                return "integer";
+            }
+            match p {
+                PType::U8 | PType::I8 | PType::I16 => "smallint",
+                PType::U16 | PType::I32 => "integer",
+                PType::U32 | PType::I64 => "bigint",
+                PType::U64 => "numeric(20, 0)",
+            }
+        }
         DType::Utf8(_) => "text",
-        DType::Binary(_) if is_sqlite => "blob",
-        DType::Binary(_) => "bytea",
+        DType::Binary(_) => { if is_sqlite { "blob" } else { "bytea" } }
         DType::List(..) | DType::FixedSizeList(..) | DType::Struct(..) => "pair",
     }
 }
 
-fn number_column(p: PType) -> &'static str {
-    match p {
-        PType::U8 | PType::I8 | PType::I16 => "smallint",
-        PType::U16 | PType::I32 => "integer",
-        PType::U32 | PType::I64 => "bigint",
-        PType::U64 => "numeric(20, 0)",
+// A value of a row; of a pair, both of its values.
+fn push_flat(
+    alloc: Global,
+    dialect: Dialect,
+    value: &Value,
+    out: &mut String,
+) -> Result<(), AllocError> {
+    match value {
+        Value::Struct(fields) => {
+            let [f, g] = fields.as_slice() else {
+                return Ok(());
+            };
+            out.push_str("ROW(")?;
+            push_plain(alloc, dialect, f, out)?;
+            out.push_str(", ")?;
+            push_plain(alloc, dialect, g, out)?;
+            out.push_str(")::pair")
+        }
+        _ => push_plain(alloc, dialect, value, out),
     }
+}
+
+fn push_plain(
+    alloc: Global,
+    dialect: Dialect,
+    value: &Value,
+    out: &mut String,
+) -> Result<(), AllocError> {
+    let is_sqlite = is_sqlite(dialect);
+    match value {
+        Value::Bool(b) if is_sqlite => out.push_str(if *b { "1" } else { "0" }),
+        Value::Bool(b) => out.push_str(if *b { "true" } else { "false" }),
+        Value::Int(number) => {
+            let digits = format!(in alloc; "{number}")?;
+            out.push_str(digits.as_str())
+        }
+        Value::Utf8(text) => {
+            let (before, behind) = if is_sqlite {
+                ("CAST(X'", "' AS TEXT)")
+            } else {
+                ("convert_from(decode('", "', 'hex'), 'UTF8')")
+            };
+            push_between(alloc, before, text.as_str().as_bytes(), behind, out)
+        }
+        Value::Binary(bytes) => {
+            let (before, behind) = if is_sqlite {
+                ("X'", "'")
+            } else {
+                ("decode('", "', 'hex')")
+            };
+            push_between(alloc, before, bytes.as_slice(), behind, out)
+        }
+        Value::Null | Value::List(_) | Value::Struct(_) => out.push_str("NULL"),
+    }
+}
+
+fn push_between(
+    alloc: Global,
+    before: &str,
+    bytes: &[u8],
+    behind: &str,
+    out: &mut String,
+) -> Result<(), AllocError> {
+    out.push_str(before)?;
+    push_digits(alloc, bytes, out)?;
+    out.push_str(behind)
+}
+
+/// Two hexadecimal digits a byte.
+pub fn push_digits(alloc: Global, bytes: &[u8], out: &mut String) -> Result<(), AllocError> {
+    for b in bytes {
+        let digits = format!(in alloc; "{b:02x}")?;
+        out.push_str(digits.as_str())?;
+    }
+    Ok(())
+}
+
+/// The rows, as structs.
+pub fn rows(alloc: Global, kinds: &[Kind], seeds: &mut Seeds) -> Result<Vec<Value>, AllocError> {
+    let mut rows = Vec::new(alloc);
+    for _ in 0..ROWS {
+        rows.push(Value::Struct(row(alloc, kinds, seeds)?))?;
+    }
+    Ok(rows)
 }

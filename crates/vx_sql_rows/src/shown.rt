@@ -28,22 +28,34 @@ pub fn is_shown(tree: &BoundExpression, path: &[usize]) -> bool {
 // Whether the node's value always takes that of the child.
 fn leads_to(node: &BoundExpression, index: usize) -> bool {
     match node.as_scalar() {
-        Some(function) => index < taken(function).unwrap_or(0),
-        None => false,
-    }
-}
-
-// How many of its first children a node of the function takes whatever they give; none where it chooses among children,
-// so that an engine may know more.
-fn taken(function: &ScalarFnRef) -> Option<usize> {
-    match function {
-        ScalarFnRef::Binary(Operator::And | Operator::Or) => Some(0),
-        ScalarFnRef::Binary(_) | ScalarFnRef::Between(_) => Some(2),
-        ScalarFnRef::Not(_) | ScalarFnRef::IsNull(_) | ScalarFnRef::IsNotNull(_) => Some(1),
-        ScalarFnRef::Cast(_) | ScalarFnRef::FillNull(_) | ScalarFnRef::Like(_) => Some(1),
-        ScalarFnRef::GetItem(_) | ScalarFnRef::Pack(_) | ScalarFnRef::Select(_) => Some(0),
-        ScalarFnRef::Literal(_) => Some(0),
-        ScalarFnRef::CaseWhen(_) | ScalarFnRef::Zip(_) | ScalarFnRef::Mask(_) => None,
+        Some(ScalarFnRef::Binary(Operator::And | Operator::Or)) => false,
+        Some(
+            ScalarFnRef::Binary(
+                Operator::Eq
+                | Operator::NotEq
+                | Operator::Gt
+                | Operator::Gte
+                | Operator::Lt
+                | Operator::Lte
+                | Operator::Add,
+            )
+            | ScalarFnRef::Not(_)
+            | ScalarFnRef::IsNull(_)
+            | ScalarFnRef::IsNotNull(_)
+            | ScalarFnRef::Cast(_),
+        ) => true,
+        Some(ScalarFnRef::Between(_)) => index < 2,
+        Some(ScalarFnRef::FillNull(_) | ScalarFnRef::Like(_)) => index == 0,
+        Some(
+            ScalarFnRef::CaseWhen(_)
+            | ScalarFnRef::GetItem(_)
+            | ScalarFnRef::Literal(_)
+            | ScalarFnRef::Pack(_)
+            | ScalarFnRef::Select(_)
+            | ScalarFnRef::Zip(_)
+            | ScalarFnRef::Mask(_),
+        )
+        | None => false,
     }
 }
 
@@ -57,8 +69,21 @@ fn is_plain(tree: &BoundExpression, levels: usize) -> bool {
     };
     let is_plain_node = match tree.as_scalar() {
         Some(ScalarFnRef::Literal(scalar)) => !matches!(scalar.value(), Value::Null),
-        Some(function) => taken(function).is_some(),
-        None => true,
+        Some(ScalarFnRef::CaseWhen(_) | ScalarFnRef::Zip(_) | ScalarFnRef::Mask(_)) => false,
+        Some(
+            ScalarFnRef::Binary(_)
+            | ScalarFnRef::Not(_)
+            | ScalarFnRef::IsNull(_)
+            | ScalarFnRef::IsNotNull(_)
+            | ScalarFnRef::Cast(_)
+            | ScalarFnRef::Between(_)
+            | ScalarFnRef::FillNull(_)
+            | ScalarFnRef::Like(_)
+            | ScalarFnRef::GetItem(_)
+            | ScalarFnRef::Pack(_)
+            | ScalarFnRef::Select(_),
+        )
+        | None => true,
     };
     if !is_plain_node {
         return false;

@@ -1,9 +1,0 @@
-pub mod Boundaries
-pub mod ByteTexts
-pub mod Comments
-pub mod Betweens
-pub mod PatternsSpelled
-pub mod TokensAhead
-pub mod TokensFound
-pub mod ReadBack
-pub mod Written
