@@ -311,7 +311,8 @@ fn selected_value(
     command: &ReadCommand<'_>,
     scope: &DType,
 ) -> Result<Box<Placed>, CommandError> {
-    let written = read_written(alloc, command.command.select.text)?;
+    let rows = command.command;
+    let written = read_written(alloc, rows.select.text)?;
     read_over(alloc, written, scope)
 }
 
