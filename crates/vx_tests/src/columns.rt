@@ -1,10 +1,9 @@
 // Columns and values: their parts, and the batch that is refused.
-use crate::looks::{answers, differs, gives, kept, refuses, same};
+use crate::looks::{answers, counts, differs, gives, got, holds, kept, prints, refuses, same};
 use std::alloc::Global;
 use std::process::Abort;
-use std::test::Fail;
 use vx_eval::apply_bound;
-use vx_test_support::{bound, column, dtype, i32_type, reads, values};
+use vx_test_support::{bound, column, dtype, i32_type, values};
 use vx_tree::Nullability::Nullable;
 use vx_tree::{Column, Value, VortexError, VortexResult};
 
@@ -12,14 +11,15 @@ use vx_tree::{Column, Value, VortexError, VortexResult};
 fn a_column_is_its_type_and_its_rows(rt: HostRuntime) {
     let alloc = rt.alloc();
     let column = kept(&rt, alloc, column(alloc, "i32?", "7 null"));
-    assert_eq!(rt; column.len(), 2);
-    assert!(rt; !column.is_empty());
-    assert!(rt; reads(column.dtype(), "i32?"));
-    assert!(rt; matches!(column.row(0), Value::Int(7)));
-    assert!(rt; column.row(1).is_null());
-    assert!(rt; column.shared_rows().is_none());
+    counts(&rt, column.len(), 2);
+    holds(&rt, !column.is_empty(), "rows");
+    prints(&rt, column.dtype(), "i32?");
+    let is_seven = matches!(column.row(0), Value::Int(7));
+    holds(&rt, is_seven, "seven in the first row");
+    holds(&rt, column.row(1).is_null(), "a null row");
+    holds(&rt, column.shared_rows().is_none(), "rows of its own");
     let one = vx_test_support::column(alloc, "i32?", "7");
-    differs(&rt, Box::into_inner(kept(&rt, alloc, one)), &*column);
+    differs(&rt, got(&rt, one), &*column);
 }
 
 /// A column of the same rows, which both share.
@@ -37,8 +37,8 @@ fn sharing(alloc: Global, column: &Column) -> VortexResult<Column> {
 fn columns_share_their_rows(rt: HostRuntime) {
     let alloc = rt.alloc();
     let column = kept(&rt, alloc, column(alloc, "i32?", "7 null"));
-    let copy = kept(&rt, alloc, (*column).clone());
-    let shared = kept(&rt, alloc, Box::into_inner(copy).into_shared(alloc));
+    let copy = got(&rt, (*column).clone());
+    let shared = kept(&rt, alloc, copy.into_shared(alloc));
     gives(&rt, sharing(alloc, &shared), &*column);
     same(&rt, Box::into_inner(shared), &*column);
 }
@@ -47,7 +47,15 @@ fn columns_share_their_rows(rt: HostRuntime) {
 fn fits(rt: &impl Abort, alloc: Global, word: &str, kind: &str, wanted: bool) {
     let dtype = kept(rt, alloc, dtype(alloc, kind));
     let value = kept(rt, alloc, vx_test_support::value(alloc, word));
-    assert!(rt; value.fits(&dtype) == wanted, "{word} of {kind}");
+    holds(rt, value.fits(&dtype) == wanted, word);
+}
+
+/// Asserts whether the value is null.
+fn nulls(rt: &impl Abort, value: Option<&Value>, wanted: bool) {
+    match value {
+        Some(value) => holds(rt, value.is_null() == wanted, "which values are null"),
+        None => rt.abort(),
+    }
 }
 
 #[test]
@@ -57,29 +65,25 @@ fn values_fit_or_not(rt: HostRuntime) {
     fits(&rt, alloc, "[1]", "fixed_size_list(i32)[2]", false);
     fits(&rt, alloc, "null", "fixed_size_list(i32)[2]", false);
     fits(&rt, alloc, "null", "fixed_size_list(i32)[2]?", true);
-    let two = kept(&rt, alloc, values(alloc, "[1,2] null false"));
-    gives(&rt, (*two).clone(), &*two);
-    assert!(rt;
-        matches!(two.as_slice(), [list, null, truth]
-            if !list.is_null() && null.is_null() && !truth.is_null())
-    );
+    let three = kept(&rt, alloc, values(alloc, "[1,2] null false"));
+    gives(&rt, (*three).clone(), &*three);
+    counts(&rt, three.len(), 3);
+    nulls(&rt, three.get(0), false);
+    nulls(&rt, three.get(1), true);
+    nulls(&rt, three.get(2), false);
 }
 
 /// What the tree of the text, over `i32?`, answers on one row of `i32`.
-fn over_narrower(alloc: Global, text: &str) -> Result<VortexResult<Column>, Fail> {
-    let bound = bound(alloc, text, &i32_type(Nullable))?;
-    let rows = Box::new(alloc, column(alloc, "i32", "1")?)?;
-    Ok(apply_bound(alloc, &rows, &bound))
+fn over_narrower(rt: &impl Abort, alloc: Global, text: &str) -> VortexResult<Column> {
+    let bound = got(rt, bound(alloc, text, &i32_type(Nullable)));
+    let rows = kept(rt, alloc, column(alloc, "i32", "1"));
+    apply_bound(alloc, &rows, &bound)
 }
 
 #[test]
-fn a_batch_of_another_type_is_refused(rt: HostRuntime) -> Result<(), Fail> {
+fn a_batch_of_another_type_is_refused(rt: HostRuntime) {
     let alloc = rt.alloc();
-    answers(&rt, over_narrower(alloc, "1")?, "[1i32]");
-    refuses(
-        &rt,
-        over_narrower(alloc, "$")?,
-        "the column isn't of the scope's type",
-    );
-    Ok(())
+    answers(&rt, over_narrower(&rt, alloc, "1"), "[1i32]");
+    let refused = over_narrower(&rt, alloc, "$");
+    refuses(&rt, refused, "the column isn't of the scope's type");
 }

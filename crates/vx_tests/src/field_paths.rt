@@ -1,5 +1,5 @@
 // What a path is made of.
-use crate::looks::kept;
+use crate::looks::{counts, differs, holds, kept, same};
 use std::alloc::Global;
 use vx_tree::{FieldName, VortexResult};
 use vx_types::FieldPath;
@@ -18,11 +18,12 @@ fn inner(alloc: Global, path: &FieldPath, name: &str) -> VortexResult<FieldPath>
 fn a_path_is_its_parts(rt: HostRuntime) {
     let alloc = rt.alloc();
     let root = kept(&rt, alloc, FieldPath::root(alloc));
-    assert!(rt; root.is_root());
+    holds(&rt, root.is_root(), "the root");
     let a = kept(&rt, alloc, outer(alloc, "a"));
-    assert!(rt; !a.is_root());
+    holds(&rt, !a.is_root(), "no root");
     let a_x = kept(&rt, alloc, inner(alloc, &a, "x"));
-    assert_eq!(rt; a_x.parts().len(), 2);
-    assert!(rt; a_x.parts()[0] == a.parts()[0]);
-    assert!(rt; *a_x != *a);
+    counts(&rt, a_x.parts().len(), 2);
+    counts(&rt, a.parts().len(), 1);
+    same(&rt, a_x.parts().first(), &a.parts().first());
+    differs(&rt, Box::into_inner(a_x), &*a);
 }

@@ -1,23 +1,53 @@
-// What tests assert of values that they hand over. All of it is generic, since of a type parameter the
-// prover writes nothing out: a value that a test keeps itself, over a step that may end it, is written
-// out at each such step (docs/develop/BENCHMARKS.md, "What a proof costs").
+// What tests assert. A test hands each answer over, and branches nowhere: what ends it ends it in one
+// of these. What a test asserts itself, or leaves by `?`, the prover writes out with all that the test
+// holds there (docs/develop/BENCHMARKS.md, "What a proof costs").
+ghost use Rattle.std.specs.Prelude.{◌≡◌, Ok, IsTrue};
+
 use std::alloc::Global;
 use std::fmt::Display;
 use std::process::Abort;
 use vx_test_support::reads;
 use vx_tree::VortexResult;
 
-/// What is answered, behind a box. A refusal ends the test.
-pub fn kept<T: Drop, E: Drop>(rt: &impl Abort, alloc: Global, answer: Result<T, E>) -> Box<T> {
+/// What is answered. A refusal ends the test.
+pub fn got<T, E: Drop>(rt: &impl Abort, answer: Result<T, E>) -> T
+    ensures { answer ≡ Ok result }
+{
     match answer {
-        Ok(value) => Box::new(alloc, value).expect(rt, "memory"),
+        Ok(value) => value,
         Err(_) => rt.abort(),
     }
 }
 
+/// What is answered, behind a box. A refusal ends the test.
+pub fn kept<T: Drop, E: Drop>(rt: &impl Abort, alloc: Global, answer: Result<T, E>) -> Box<T>
+    ensures { answer ≡ Ok result.value }
+{
+    Box::new(alloc, got(rt, answer)).expect(rt, "memory")
+}
+
+/// Asserts that it is so.
+pub fn holds(rt: &impl Abort, is_so: bool, what: &str)
+    ensures { IsTrue is_so }
+{
+    assert!(rt; is_so, "not so: {what}");
+}
+
+/// Asserts that so many were counted.
+pub fn counts(rt: &impl Abort, count: usize, wanted: usize)
+    ensures { count ≡ wanted }
+{
+    assert_eq!(rt; count, wanted);
+}
+
 /// Asserts that the value prints as the text.
 pub fn shows<T: Display + Drop>(rt: &impl Abort, value: T, text: &str) {
-    assert!(rt; reads(&value, text), "not {text}");
+    prints(rt, &value, text);
+}
+
+/// Asserts that the value, which is lent, prints as the text.
+pub fn prints<T: Display>(rt: &impl Abort, value: &T, text: &str) {
+    assert!(rt; reads(value, text), "not {text}");
 }
 
 /// Asserts that what is answered, or what refuses it, prints as the text.

@@ -9,7 +9,6 @@ use crate::worked::tree;
 use std::alloc::Global;
 use std::fmt;
 use std::fmt::{Display, Formatter, Write};
-use std::test::Fail;
 use vx_rewrite::{
     Annotation, BoundPartitionedExpr, PartitionKey, direct_bound_annotations, partition_bound,
     partition_bound_annotations,
@@ -73,21 +72,19 @@ fn split_by_own(alloc: Global, e: Box<BoundExpression>) -> VortexResult<BoundPar
 }
 
 #[test]
-fn equal_pieces_are_two(rt: HostRuntime) -> Result<(), Fail> {
+fn equal_pieces_are_two(rt: HostRuntime) {
     let alloc = rt.alloc();
-    let e = tree(alloc, "b < 5 and b < 5")?;
+    let e = tree(&rt, alloc, "b < 5 and b < 5");
     let text = "root: ($.p.t1_0 and $.p.t1_1) \
                 {p: pack(t1_0: ($.b < 5i32), t1_1: ($.b < 5i32))}";
     answers(&rt, split_by_own(alloc, e), text);
-    Ok(())
 }
 
 #[test]
-fn a_name_is_taken_once(rt: HostRuntime) -> Result<(), Fail> {
+fn a_name_is_taken_once(rt: HostRuntime) {
     let alloc = rt.alloc();
-    let e = tree(alloc, "b < 5 and c < 5")?;
+    let e = tree(&rt, alloc, "b < 5 and c < 5");
     let keys = |node: &BoundExpression| key_of(alloc, node);
     let split = partition_bound(alloc, Box::into_inner(e), keys);
     refuses(&rt, split, "two annotations with the field name p");
-    Ok(())
 }

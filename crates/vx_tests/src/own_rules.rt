@@ -1,11 +1,11 @@
 // The optimizer by rules of a test's own.
-use crate::looks::{kept, refuses};
+use crate::looks::{got, holds, prints, refuses, shows};
 use crate::worked::tree;
 use std::alloc::Global;
-use std::test::Fail;
+use std::fmt::Display;
+use std::process::Abort;
 use vx_example_double_negation::DoubleNegation;
 use vx_rewrite::{Rule, StandardRules, optimize_with};
-use vx_test_support::reads;
 use vx_tree::{BoundExpression, Literal, VortexError, VortexResult};
 
 /// The standard rules, to which memory is refused at each literal.
@@ -31,24 +31,33 @@ impl Rule for Refused {
     }
 }
 
+/// Asserts that the rules leave a tree of that text, or nothing.
+fn leaves<T: Display + Drop>(rt: &impl Abort, left: VortexResult<Option<T>>, text: Option<&str>) {
+    match (got(rt, left), text) {
+        (Some(left), Some(text)) => shows(rt, left, text),
+        (left, text) => holds(
+            rt,
+            left.is_none() & text.is_none(),
+            "a tree is left, or none",
+        ),
+    }
+}
+
 #[test]
-fn a_rule_of_our_own_is_applied(rt: HostRuntime) -> Result<(), Fail> {
+fn a_rule_of_our_own_is_applied(rt: HostRuntime) {
     let alloc = rt.alloc();
-    let e = tree(alloc, "not not not b < 5")?;
-    let left = kept(&rt, alloc, optimize_with(alloc, &DoubleNegation, &*e));
-    assert!(rt; matches!(&*left, Some(left) if reads(left, "vortex.not(($.b < 5i32))")));
-    let e = tree(alloc, "not b < 5")?;
-    let left = kept(&rt, alloc, optimize_with(alloc, &DoubleNegation, &*e));
-    assert!(rt; left.is_none());
-    Ok(())
+    let e = tree(&rt, alloc, "not not not b < 5");
+    let left = optimize_with(alloc, &DoubleNegation, &*e);
+    leaves(&rt, left, Some("vortex.not(($.b < 5i32))"));
+    let e = tree(&rt, alloc, "not b < 5");
+    leaves(&rt, optimize_with(alloc, &DoubleNegation, &*e), None);
 }
 
 // At the second child, behind one that is changed.
 #[test]
-fn a_refusal_of_a_rule_is_passed_on(rt: HostRuntime) -> Result<(), Fail> {
+fn a_refusal_of_a_rule_is_passed_on(rt: HostRuntime) {
     let alloc = rt.alloc();
-    let e = tree(alloc, "pack(p: b).p < 5")?;
+    let e = tree(&rt, alloc, "pack(p: b).p < 5");
     refuses(&rt, optimize_with(alloc, &Refused, &*e), "out of memory");
-    assert!(rt; reads(&*e, "(pack(p: $.b).p < 5i32)"));
-    Ok(())
+    prints(&rt, &*e, "(pack(p: $.b).p < 5i32)");
 }

@@ -1,6 +1,5 @@
 // Scalars by their constructors: texts, types and values.
-use crate::looks::{answers, differs, gives, kept, shows};
-use vx_test_support::reads;
+use crate::looks::{answers, differs, gives, holds, kept, prints, shows};
 use vx_tree::Nullability::Nullable;
 use vx_tree::{DType, Scalar, Value, VortexResult};
 
@@ -28,12 +27,14 @@ fn scalars_have_a_type_and_a_value(rt: HostRuntime) {
     let alloc = rt.alloc();
     let null: VortexResult<Scalar> = Ok(Scalar::null(DType::Utf8(Nullable)));
     let null = kept(&rt, alloc, null);
-    assert!(rt; null.is_null());
-    assert!(rt; reads(&*null, "null") && reads(null.dtype(), "utf8?"));
+    holds(&rt, null.is_null(), "null");
+    prints(&rt, &*null, "null");
+    prints(&rt, null.dtype(), "utf8?");
     let five: VortexResult<Scalar> = Ok(Scalar::from_i32(5));
     let five = kept(&rt, alloc, five);
-    assert!(rt; !five.is_null());
-    assert!(rt; matches!(five.value(), Value::Int(5)));
+    holds(&rt, !five.is_null(), "no null");
+    let is_five = matches!(five.value(), Value::Int(5));
+    holds(&rt, is_five, "five");
     gives(&rt, (*five).clone(), &*five);
     differs(&rt, Scalar::from_i64(5), &*five);
 }

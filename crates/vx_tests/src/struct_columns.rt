@@ -1,7 +1,6 @@
 // A column of structs that has no columns and may be null, of which no row of a table is made.
-use crate::looks::kept;
+use crate::looks::{holds, kept, prints};
 use std::alloc::Global;
-use vx_test_support::reads;
 use vx_tree::Nullability::Nullable;
 use vx_tree::{Column, FieldNames, VortexResult};
 
@@ -13,6 +12,6 @@ fn of_no_columns(alloc: Global, rows: usize) -> VortexResult<Column> {
 #[test]
 fn no_columns_have_rows_too(rt: HostRuntime) {
     let column = kept(&rt, rt.alloc(), of_no_columns(rt.alloc(), 2));
-    assert!(rt; column.dtype().is_nullable());
-    assert!(rt; reads(&*column, "[{}, {}]"), "{column}");
+    holds(&rt, column.dtype().is_nullable(), "a type with null");
+    prints(&rt, &*column, "[{}, {}]");
 }

@@ -1,11 +1,11 @@
 // Trees: their functions and children, and nodes made anew.
-use crate::looks::{gives, kept, refuses, shows};
+use crate::looks::{counts, gives, got, holds, kept, prints, refuses, same, shows};
 use std::alloc::Global;
 use std::process::Abort;
 use std::test::Fail;
 use vx_build::{bound, root};
 use vx_source::{parse, parse_type};
-use vx_test_support::{boxed, dtype, i32_type, reads};
+use vx_test_support::{boxed, dtype, i32_type};
 use vx_tree::Nullability::{NonNullable, Nullable};
 use vx_tree::test_harness::struct_dtype;
 use vx_tree::{
@@ -25,7 +25,8 @@ fn a_range_has_its_text_and_type(rt: HostRuntime) -> Result<(), Fail> {
     let bound = Box::new(alloc, source.bind(alloc, &scope)?)?;
     assert!(rt; *bound.dtype() == DType::Bool(Nullable));
     assert!(rt; bound.is_root_bound_to(&scope));
-    assert!(rt; reads(&*bound, text) && reads(&*source, text));
+    prints(&rt, &*bound, text);
+    prints(&rt, &*source, text);
     Ok(())
 }
 
@@ -39,65 +40,74 @@ fn compared(alloc: Global) -> VortexResult<BoundExpression> {
 }
 
 #[test]
-fn a_number_is_no_text(rt: HostRuntime) -> Result<(), Fail> {
+fn a_number_is_no_text(rt: HostRuntime) {
     let alloc = rt.alloc();
     let scope = kept(&rt, alloc, struct_dtype(alloc));
-    let source = boxed(alloc, r#"a = "nope""#)?;
+    let source = got(&rt, boxed(alloc, r#"a = "nope""#));
     refuses(&rt, source.bind(alloc, &scope), NO_TEXT);
     refuses(&rt, source.return_dtype(alloc, &scope), NO_TEXT);
     refuses(&rt, compared(alloc), NO_TEXT);
-    Ok(())
+}
+
+/// Asserts that it is And.
+fn is_and(rt: &impl Abort, scalar_fn: Option<&ScalarFnRef>) {
+    let is_and = matches!(scalar_fn, Some(ScalarFnRef::Binary(Operator::And)));
+    holds(rt, is_and, "And");
 }
 
 #[test]
-fn nodes_show_their_function_and_children(rt: HostRuntime) -> Result<(), Fail> {
+fn nodes_show_their_function_and_children(rt: HostRuntime) {
     let alloc = rt.alloc();
-    let source = boxed(alloc, RANGE_OF_X)?;
-    assert!(rt; !source.is_root() && !vx_build::is_root(&*source));
-    assert!(rt; matches!(source.as_scalar(), Some(ScalarFnRef::Binary(Operator::And))));
-    assert!(rt; source.as_opt::<Binary>() == Some(&Operator::And));
-    assert!(rt; source.as_opt::<GetItem>().is_none());
-    assert!(rt; source.is::<Binary>());
-    assert!(rt; *source.as_::<Binary>() == Operator::And);
-    assert!(rt; source.contains::<Binary>() && source.contains::<GetItem>());
-    assert!(rt; !source.contains::<IsNull>());
-    assert_eq!(rt; source.display_children_count(), 2);
-    assert_eq!(rt; source.children().len(), 2);
-    assert!(rt; source.child(0) != source.child(1));
-    assert!(rt; source.child(1) == source.display_child(1));
+    let source = got(&rt, boxed(alloc, RANGE_OF_X));
+    holds(&rt, !source.is_root(), "no root");
+    holds(&rt, !vx_build::is_root(&*source), "no root");
+    is_and(&rt, source.as_scalar());
+    same(&rt, source.as_opt::<Binary>(), &Some(&Operator::And));
+    holds(&rt, source.as_opt::<GetItem>().is_none(), "no item");
+    holds(&rt, source.is::<Binary>(), "an operator");
+    same(&rt, source.as_::<Binary>(), &&Operator::And);
+    holds(&rt, source.contains::<Binary>(), "an operator below");
+    holds(&rt, source.contains::<GetItem>(), "an item below");
+    holds(&rt, !source.contains::<IsNull>(), "no test for null");
+    counts(&rt, source.display_children_count(), 2);
+    counts(&rt, source.children().len(), 2);
+    let are_two = source.child(0) != source.child(1);
+    holds(&rt, are_two, "two children");
+    same(&rt, source.child(1), &source.display_child(1));
     gives(&rt, (*source).clone(), &*source);
-    Ok(())
 }
 
 #[test]
-fn bound_nodes_show_their_function_and_children(rt: HostRuntime) -> Result<(), Fail> {
+fn bound_nodes_show_their_function_and_children(rt: HostRuntime) {
     let alloc = rt.alloc();
     let scope = kept(&rt, alloc, dtype(alloc, "{x=i32}"));
-    let bound = vx_test_support::bound(alloc, RANGE_OF_X, &scope)?;
-    assert!(rt; matches!(bound.as_scalar(), Some(ScalarFnRef::Binary(Operator::And))));
-    assert!(rt; bound.as_opt::<Binary>() == Some(&Operator::And));
-    assert!(rt; bound.is::<Binary>());
-    assert!(rt; *bound.as_::<Binary>() == Operator::And);
-    assert!(rt; bound.contains::<Binary>() && bound.contains::<GetItem>());
-    assert!(rt; !bound.contains::<IsNull>());
-    assert_eq!(rt; bound.display_children_count(), 2);
-    assert_eq!(rt; bound.children().len(), 2);
-    assert!(rt; bound.child(0) != bound.child(1));
-    Ok(())
+    let bound = vx_test_support::bound(alloc, RANGE_OF_X, &scope);
+    let bound = got(&rt, bound);
+    is_and(&rt, bound.as_scalar());
+    same(&rt, bound.as_opt::<Binary>(), &Some(&Operator::And));
+    holds(&rt, bound.is::<Binary>(), "an operator");
+    same(&rt, bound.as_::<Binary>(), &&Operator::And);
+    holds(&rt, bound.contains::<Binary>(), "an operator below");
+    holds(&rt, bound.contains::<GetItem>(), "an item below");
+    holds(&rt, !bound.contains::<IsNull>(), "no test for null");
+    counts(&rt, bound.display_children_count(), 2);
+    counts(&rt, bound.children().len(), 2);
+    let are_two = bound.child(0) != bound.child(1);
+    holds(&rt, are_two, "two children");
 }
 
 #[test]
-fn a_scope_is_its_type(rt: HostRuntime) -> Result<(), Fail> {
+fn a_scope_is_its_type(rt: HostRuntime) {
     let alloc = rt.alloc();
-    let source = boxed(alloc, RANGE_OF_X)?;
-    let dtype = kept(&rt, alloc, dtype(alloc, "{x=i32}"));
-    let scope = Box::new(alloc, Scope::new((*dtype).clone()?))?;
+    let source = got(&rt, boxed(alloc, RANGE_OF_X));
+    let scope = kept(&rt, alloc, dtype(alloc, "{x=i32}").map(Scope::new));
     let bound = kept(&rt, alloc, source.bind_scope(alloc, &scope));
-    assert!(rt; bound.is_root_bound_to(scope.root()));
-    assert!(rt; !bound.is_root_bound_to(&i32_type(NonNullable)));
-    shows(&rt, source.return_dtype(alloc, scope.root())?, "bool?");
+    holds(&rt, bound.is_root_bound_to(scope.root()), "over the scope");
+    let is_other = !bound.is_root_bound_to(&i32_type(NonNullable));
+    holds(&rt, is_other, "over no other");
+    let returned = source.return_dtype(alloc, scope.root());
+    shows(&rt, got(&rt, returned), "bool?");
     gives(&rt, source.bind(alloc, scope.root()), &*bound);
-    Ok(())
 }
 
 /// The node of the function over the scope root alone.
@@ -124,28 +134,29 @@ fn a_wrong_number_of_children_is_refused(rt: HostRuntime) {
 
 /// The tree of the text with the trees of the others for its children.
 fn over_others(
+    rt: &impl Abort,
     alloc: Global,
     text: &str,
     others: &[&str],
-) -> Result<VortexResult<Expression>, Fail> {
-    let tree = boxed(alloc, text)?;
+) -> VortexResult<Expression> {
+    let tree = got(rt, boxed(alloc, text));
     let mut children = Vec::new(alloc);
     for other in others {
-        children.push(Box::into_inner(boxed(alloc, other)?))?;
+        let child = got(rt, boxed(alloc, other));
+        got(rt, children.push(Box::into_inner(child)));
     }
-    Ok(Box::into_inner(tree).with_children(alloc, children))
+    Box::into_inner(tree).with_children(alloc, children)
 }
 
 #[test]
-fn a_node_takes_as_many_other_children(rt: HostRuntime) -> Result<(), Fail> {
+fn a_node_takes_as_many_other_children(rt: HostRuntime) {
     let alloc = rt.alloc();
-    let none = over_others(alloc, "x", &[])?;
+    let none = over_others(&rt, alloc, "x", &[]);
     refuses(&rt, none, "1 children are needed, and 0 given");
-    let swapped = over_others(alloc, "bool1 or bool2", &["bool2", "bool1"])?;
-    shows(&rt, swapped?, "($.bool2 or $.bool1)");
-    let below = over_others(alloc, "$", &["$"])?;
+    let swapped = over_others(&rt, alloc, "bool1 or bool2", &["bool2", "bool1"]);
+    shows(&rt, got(&rt, swapped), "($.bool2 or $.bool1)");
+    let below = over_others(&rt, alloc, "$", &["$"]);
     refuses(&rt, below, "1 children given to the scope root");
-    Ok(())
 }
 
 /// The scope root of the type of the harness, made anew without children.
@@ -159,14 +170,16 @@ fn a_root_has_no_children_and_one_line(rt: HostRuntime) {
     let alloc = rt.alloc();
     let source: VortexResult<Expression> = Ok(Expression::Root);
     let source = kept(&rt, alloc, source);
-    assert!(rt; source.is_root() && vx_build::is_root(&*source));
-    assert!(rt; *source == root());
+    holds(&rt, source.is_root(), "a root");
+    holds(&rt, vx_build::is_root(&*source), "a root");
+    same(&rt, root(), &*source);
     let bound = kept(&rt, alloc, root_anew(alloc));
-    assert!(rt; bound.is_root());
+    holds(&rt, bound.is_root(), "a root");
     gives(&rt, struct_dtype(alloc), bound.dtype());
-    assert!(rt; reads(&*source, "$") && reads(&source.display_tree(), "vortex.root()"));
-    assert!(rt; reads(&DisplayTreeExpr(&*source), "vortex.root()"));
-    assert!(rt; reads(&DisplayTreeExpr(&*bound), "vortex.root()"));
+    prints(&rt, &*source, "$");
+    prints(&rt, &source.display_tree(), "vortex.root()");
+    prints(&rt, &DisplayTreeExpr(&*source), "vortex.root()");
+    prints(&rt, &DisplayTreeExpr(&*bound), "vortex.root()");
 }
 
 /// The node with copies of its own children.
@@ -179,17 +192,17 @@ fn over_its_own(alloc: Global, tree: &BoundExpression) -> VortexResult<BoundExpr
 }
 
 #[test]
-fn a_bound_node_takes_other_children(rt: HostRuntime) -> Result<(), Fail> {
+fn a_bound_node_takes_other_children(rt: HostRuntime) {
     let alloc = rt.alloc();
     let scope = kept(&rt, alloc, struct_dtype(alloc));
-    let bound = vx_test_support::bound(alloc, "bool1 or bool2", &scope)?;
+    let bound = vx_test_support::bound(alloc, "bool1 or bool2", &scope);
+    let bound = got(&rt, bound);
     gives(&rt, over_its_own(alloc, &bound), &*bound);
-    Ok(())
 }
 
 /// Asserts that nothing is collected of no items.
 fn is_nothing<T: Drop>(rt: &impl Abort, collected: VortexResult<Option<T>>) {
-    assert!(rt; matches!(&collected, Ok(None)));
+    holds(rt, matches!(&collected, Ok(None)), "nothing");
 }
 
 #[test]

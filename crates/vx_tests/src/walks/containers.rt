@@ -1,35 +1,39 @@
 // Containers of nodes.
+use crate::looks::{got, holds, prints, same};
+use crate::walks::is_end;
 use crate::walks::trees::BOTH;
 use std::alloc::Global;
 use std::fmt::Write;
 use std::process::Abort;
 use std::rc::Rc;
-use std::test::Fail;
-use vx_test_support::{boxed, reads};
+use vx_test_support::boxed;
 use vx_tree::{Expression, Scalar, VortexError, VortexResult};
 use vx_walk::TraversalOrder::{Continue, Skip, Stop};
 use vx_walk::{NodeContainer, Transformed, apply_ref_elements};
 
+/// The tree of that text.
+fn item(rt: &impl Abort, alloc: Global, text: &str) -> Expression {
+    Box::into_inner(got(rt, boxed(alloc, text)))
+}
+
 /// The trees of those texts.
-fn items(alloc: Global, texts: &[&str]) -> Result<Vec<Expression>, Fail> {
+fn items(rt: &impl Abort, alloc: Global, texts: &[&str]) -> Vec<Expression> {
     let mut items = Vec::new(alloc);
     for text in texts {
-        items.push(Box::into_inner(boxed(alloc, text)?))?;
+        got(rt, items.push(item(rt, alloc, text)));
     }
-    Ok(items)
+    items
 }
 
 /// `$.a`, `$.b`, `$.c`
-fn three(alloc: Global) -> Result<Vec<Expression>, Fail> {
-    items(alloc, &["a", "b", "c"])
+fn three(rt: &impl Abort, alloc: Global) -> Vec<Expression> {
+    items(rt, alloc, &["a", "b", "c"])
 }
 
-fn both(alloc: Global) -> Result<Expression, Fail> {
-    Ok(Box::into_inner(boxed(alloc, BOTH)?))
-}
-
-fn zero(alloc: Global) -> VortexResult<Expression> {
-    vx_build::lit(alloc, Scalar::from_i32(0))
+/// `$.a` and `$.b`, each behind a box.
+fn pair(rt: &impl Abort, alloc: Global) -> (Box<Expression>, Box<Expression>) {
+    let first = got(rt, boxed(alloc, "a"));
+    (first, got(rt, boxed(alloc, "b")))
 }
 
 /// Asserts that the expressions print so, one space apart.
@@ -37,17 +41,33 @@ fn print(rt: &impl Abort, alloc: Global, expressions: &[Expression], wanted: &st
     let mut text = String::new(alloc);
     for expression in expressions {
         let written = write!(text, "{expression} ");
-        assert!(rt; written.is_ok());
+        holds(rt, written.is_ok(), "written");
     }
-    assert_eq!(rt; text.as_str().trim(), wanted);
+    same(rt, text.as_str().trim(), &wanted);
+}
+
+fn zero(alloc: Global) -> VortexResult<Expression> {
+    vx_build::lit(alloc, Scalar::from_i32(0))
+}
+
+/// The element as it is.
+fn unchanged(element: Expression) -> VortexResult<Transformed<Expression>> {
+    Ok(Transformed::no(element))
+}
+
+/// The container that is mapped, which is changed as wanted, and goes on as wanted.
+fn mapped<C: Drop>(rt: &impl Abort, answer: VortexResult<Transformed<C>>, is_changed: bool) -> C {
+    let mapped = got(rt, answer);
+    same(rt, mapped.changed, &is_changed);
+    same(rt, mapped.order == Stop, &is_changed);
+    mapped.value
 }
 
 #[test]
-fn elements_are_mapped_in_order_until_stop(rt: HostRuntime) -> Result<(), Fail> {
+fn elements_are_mapped_in_order_until_stop(rt: HostRuntime) {
     let alloc = rt.alloc();
-    let elements = three(alloc)?;
-    let pair = (items(alloc, &["a"])?, items(alloc, &["b"])?);
-    let mapped = elements.map_elements(alloc, |element: Expression| {
+    let elements = three(&rt, alloc);
+    let answer = elements.map_elements(alloc, |element: Expression| {
         drop(element);
         Ok(Transformed {
             value: zero(alloc)?,
@@ -55,26 +75,21 @@ fn elements_are_mapped_in_order_until_stop(rt: HostRuntime) -> Result<(), Fail> 
             changed: true,
         })
     });
-    let mapped = mapped.expect(&rt, "a vector");
-    assert!(rt; mapped.changed);
-    assert!(rt; mapped.order == Stop);
-    print(&rt, alloc, mapped.value.as_slice(), "0i32 $.b $.c");
-    let kept = pair.map_elements(alloc, |element: Expression| Ok(Transformed::no(element)));
-    let kept = kept.expect(&rt, "a pair");
-    assert!(rt; !kept.changed);
-    print(&rt, alloc, kept.value.0.as_slice(), "$.a");
-    print(&rt, alloc, kept.value.1.as_slice(), "$.b");
-    Ok(())
+    let elements = mapped(&rt, answer, true);
+    print(&rt, alloc, elements.as_slice(), "0i32 $.b $.c");
+    let pair = (items(&rt, alloc, &["a"]), items(&rt, alloc, &["b"]));
+    let (first, second) = mapped(&rt, pair.map_elements(alloc, unchanged), false);
+    print(&rt, alloc, first.as_slice(), "$.a");
+    print(&rt, alloc, second.as_slice(), "$.b");
 }
 
 #[test]
-fn visits_end_at_a_refusal_or_stop(rt: HostRuntime) -> Result<(), Fail> {
+fn visits_end_at_a_refusal_or_stop(rt: HostRuntime) {
     let alloc = rt.alloc();
-    let elements = three(alloc)?;
+    let elements = three(&rt, alloc);
     let mut pairs = Vec::new(alloc);
-    for _ in 0..2 {
-        pairs.push((boxed(alloc, "a")?, boxed(alloc, "b")?))?;
-    }
+    got(&rt, pairs.push(pair(&rt, alloc)));
+    got(&rt, pairs.push(pair(&rt, alloc)));
     let mut calls = 0u32;
     let answer = elements.apply_elements(|_element: &Expression| {
         calls = calls.saturating_add(1);
@@ -83,63 +98,62 @@ fn visits_end_at_a_refusal_or_stop(rt: HostRuntime) -> Result<(), Fail> {
         }
         Ok(Skip)
     });
-    assert!(rt; matches!(answer, Err(VortexError::NotBool)));
-    assert_eq!(rt; calls, 2);
+    is_end(&rt, answer, false);
+    same(&rt, calls, &2);
     let mut calls = 0u32;
     let answer = apply_ref_elements(pairs.as_slice(), |_element: &Expression| {
         calls = calls.saturating_add(1);
         Ok(if calls == 3 { Stop } else { Skip })
     });
-    assert!(rt; matches!(answer, Ok(Stop)));
-    assert_eq!(rt; calls, 3);
-    Ok(())
+    is_end(&rt, answer, true);
+    same(&rt, calls, &3);
 }
 
 /// Asserts how many elements the container has.
-fn holds<C: NodeContainer<Expression> + Drop>(rt: &impl Abort, container: C, wanted: u32) {
+fn holds_so_many<C: NodeContainer<Expression> + Drop>(rt: &impl Abort, container: C, wanted: u32) {
     let mut calls = 0u32;
     let answer = container.apply_elements(|_element: &Expression| {
         calls = calls.saturating_add(1);
         Ok(Continue)
     });
-    assert!(rt; answer.expect(rt, "no refusal") == Continue);
-    assert_eq!(rt; calls, wanted);
+    same(rt, got(rt, answer), &Continue);
+    same(rt, calls, &wanted);
 }
 
 #[test]
-fn containers_hold_their_elements(rt: HostRuntime) -> Result<(), Fail> {
+fn containers_hold_their_elements(rt: HostRuntime) {
     let alloc = rt.alloc();
-    holds(&rt, both(alloc)?, 1);
-    holds(&rt, (boxed(alloc, "a")?, boxed(alloc, "b")?), 2);
-    holds(&rt, three(alloc)?, 3);
-    holds(&rt, Box::new(alloc, three(alloc)?)?, 3);
-    holds(&rt, Rc::new(alloc, both(alloc)?)?, 1);
-    holds(&rt, (three(alloc)?, three(alloc)?), 6);
-    Ok(())
+    holds_so_many(&rt, item(&rt, alloc, BOTH), 1);
+    holds_so_many(&rt, pair(&rt, alloc), 2);
+    holds_so_many(&rt, three(&rt, alloc), 3);
+    let boxed = Box::new(alloc, three(&rt, alloc));
+    holds_so_many(&rt, got(&rt, boxed), 3);
+    let shared = Rc::new(alloc, item(&rt, alloc, BOTH));
+    holds_so_many(&rt, got(&rt, shared), 1);
+    holds_so_many(&rt, (three(&rt, alloc), three(&rt, alloc)), 6);
 }
 
 /// The container with a literal for each element, each of which is handed back as another.
 fn zeroed<C: NodeContainer<Expression>>(rt: &impl Abort, alloc: Global, container: C) -> C {
-    let mapped = container.map_elements(alloc, |element: Expression| {
+    let answer = container.map_elements(alloc, |element: Expression| {
         drop(element);
         Ok(Transformed::yes(zero(alloc)?))
     });
-    let mapped = mapped.expect(rt, "a container");
-    assert!(rt; mapped.changed);
+    let mapped = got(rt, answer);
+    holds(rt, mapped.changed, "changed");
     mapped.value
 }
 
 #[test]
-fn elements_are_mapped_alone_boxed_and_shared(rt: HostRuntime) -> Result<(), Fail> {
+fn elements_are_mapped_alone_boxed_and_shared(rt: HostRuntime) {
     let alloc = rt.alloc();
-    let one = boxed(alloc, BOTH)?;
-    let boxed = Box::new(alloc, three(alloc)?)?;
-    let shared = Rc::new(alloc, both(alloc)?)?;
-    assert!(rt; reads(&zeroed(&rt, alloc, Box::into_inner(one)), "0i32"));
+    let one = zeroed(&rt, alloc, item(&rt, alloc, BOTH));
+    prints(&rt, &one, "0i32");
+    let boxed = got(&rt, Box::new(alloc, three(&rt, alloc)));
     let boxed = zeroed(&rt, alloc, boxed);
     print(&rt, alloc, boxed.as_slice(), "0i32 0i32 0i32");
-    let apart = zeroed(&rt, alloc, shared.clone().expect(&rt, "memory"));
-    assert!(rt; reads(&*apart, "0i32"));
-    assert!(rt; reads(&*shared, "($.a and $.b)"));
-    Ok(())
+    let shared = got(&rt, Rc::new(alloc, item(&rt, alloc, BOTH)));
+    let apart = zeroed(&rt, alloc, got(&rt, shared.clone()));
+    prints(&rt, &*apart, "0i32");
+    prints(&rt, &*shared, "($.a and $.b)");
 }

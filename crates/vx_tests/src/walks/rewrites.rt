@@ -5,13 +5,13 @@ ghost use Rattle.vx_tree.specs.Views.{tree_of};
 ghost use Rattle.vx_walk.specs.Heights.{height_of};
 ghost use Rattle.vx_walk.specs.declared.order.TraversalOrder.TheVariants.{Skip};
 
+use crate::looks::{differs, got, holds, prints, same, shows};
 use crate::walks::trees::{BOTH, COMPARISONS, deep, over_harness};
 use std::alloc::Global;
 use std::marker::PhantomData;
 use std::process::Abort;
-use std::test::Fail;
 use vx_build::{lit, root};
-use vx_test_support::{boxed, reads};
+use vx_test_support::boxed;
 use vx_tree::{BoundExpression, Expression, GetItem, Scalar, VortexError, VortexResult};
 use vx_walk::TraversalOrder::{Continue, Stop};
 use vx_walk::{Node, NodeExt, NodeRewriter, Transformed, TraversalOrder};
@@ -34,28 +34,34 @@ pub fn numbered(alloc: Global, tree: Expression) -> VortexResult<Transformed<Exp
     )
 }
 
-#[test]
-fn fields_are_numbered(rt: HostRuntime) -> Result<(), Fail> {
-    let alloc = rt.alloc();
-    let tree = boxed(alloc, "col1 = col2 and 2")?;
-    let rewritten = numbered(alloc, Box::into_inner(tree)).expect(&rt, "a tree");
-    assert!(rt; rewritten.changed);
-    assert!(rt; rewritten.order == Continue);
-    assert!(rt; reads(&rewritten.into_inner(), "((0i32 = 1i32) and 2i32)"));
-    let unchanged = numbered(alloc, root()).expect(&rt, "a tree");
-    assert!(rt; !unchanged.changed);
-    Ok(())
+/// What a rewrite gives, which is changed as wanted.
+fn rewritten<N: Drop>(
+    rt: &impl Abort,
+    answer: VortexResult<Transformed<N>>,
+    changed: bool,
+) -> Transformed<N> {
+    let rewritten = got(rt, answer);
+    same(rt, rewritten.changed, &changed);
+    rewritten
 }
 
 #[test]
-fn a_deep_tree_is_rewritten(rt: HostRuntime) -> Result<(), Fail> {
+fn fields_are_numbered(rt: HostRuntime) {
     let alloc = rt.alloc();
-    let wanted = deep(alloc)?;
-    let tree = deep(alloc)?;
-    let rewritten = numbered(alloc, Box::into_inner(tree)).expect(&rt, "a tree");
-    assert!(rt; rewritten.changed);
-    assert!(rt; rewritten.value != *wanted);
-    Ok(())
+    let tree = got(&rt, boxed(alloc, "col1 = col2 and 2"));
+    let tree = rewritten(&rt, numbered(alloc, Box::into_inner(tree)), true);
+    same(&rt, tree.order, &Continue);
+    shows(&rt, tree.into_inner(), "((0i32 = 1i32) and 2i32)");
+    drop(rewritten(&rt, numbered(alloc, root()), false));
+}
+
+#[test]
+fn a_deep_tree_is_rewritten(rt: HostRuntime) {
+    let alloc = rt.alloc();
+    let wanted = deep(&rt, alloc);
+    let tree = deep(&rt, alloc);
+    let tree = rewritten(&rt, numbered(alloc, Box::into_inner(tree)), true);
+    differs(&rt, tree.value, &*wanted);
 }
 
 /// Leaves the children out on the way down, and gives the scope on the way up.
@@ -85,14 +91,11 @@ impl NodeRewriter for Rooted {
 }
 
 #[test]
-fn the_way_up_comes_after_skip(rt: HostRuntime) -> Result<(), Fail> {
+fn the_way_up_comes_after_skip(rt: HostRuntime) {
     let alloc = rt.alloc();
-    let tree = boxed(alloc, "x")?;
-    let rewritten = Box::into_inner(tree).rewrite(alloc, &mut Rooted);
-    let rewritten = rewritten.expect(&rt, "a tree");
-    assert!(rt; rewritten.changed);
-    assert!(rt; reads(&rewritten.value, "$"));
-    Ok(())
+    let tree = got(&rt, boxed(alloc, "x"));
+    let answer = Box::into_inner(tree).rewrite(alloc, &mut Rooted);
+    shows(&rt, rewritten(&rt, answer, true).value, "$");
 }
 
 /// Hands every node back as it is.
@@ -122,64 +125,72 @@ impl<N: Node> NodeRewriter for Same<N> {
 /// Asserts that a rewrite that hands every node back as it is gives the tree that is wanted, which is
 /// the same.
 fn is_handed_back<N: Node + PartialEq>(rt: &impl Abort, alloc: Global, tree: Box<N>, wanted: &N) {
-    let same = Box::into_inner(tree).rewrite(alloc, &mut Same { of: PhantomData });
-    let same = same.expect(rt, "a tree");
-    assert!(rt; !same.changed);
-    assert!(rt; same.value == *wanted);
+    let answer = Box::into_inner(tree).rewrite(alloc, &mut Same { of: PhantomData });
+    same(rt, rewritten(rt, answer, false).value, wanted);
 }
 
 /// `($.col1 = $.col2)`, bound
-fn bound_equality(alloc: Global) -> Result<Box<BoundExpression>, Fail> {
-    over_harness(alloc, "col1 = col2")
+fn bound_equality(rt: &impl Abort, alloc: Global) -> Box<BoundExpression> {
+    over_harness(rt, alloc, "col1 = col2")
 }
 
 #[test]
-fn a_rewrite_may_change_nothing(rt: HostRuntime) -> Result<(), Fail> {
+fn a_rewrite_may_change_nothing(rt: HostRuntime) {
     let alloc = rt.alloc();
-    let wanted = boxed(alloc, COMPARISONS)?;
-    is_handed_back(&rt, alloc, boxed(alloc, COMPARISONS)?, &*wanted);
-    let wanted = bound_equality(alloc)?;
-    is_handed_back(&rt, alloc, bound_equality(alloc)?, &*wanted);
-    let wanted = deep(alloc)?;
-    is_handed_back(&rt, alloc, deep(alloc)?, &*wanted);
-    Ok(())
+    let wanted = got(&rt, boxed(alloc, COMPARISONS));
+    let tree = got(&rt, boxed(alloc, COMPARISONS));
+    is_handed_back(&rt, alloc, tree, &*wanted);
+    let wanted = bound_equality(&rt, alloc);
+    is_handed_back(&rt, alloc, bound_equality(&rt, alloc), &*wanted);
+    let wanted = deep(&rt, alloc);
+    is_handed_back(&rt, alloc, deep(&rt, alloc), &*wanted);
+}
+
+/// The scope in a child's place, after which the others stay.
+fn root_instead(child: Expression) -> VortexResult<Transformed<Expression>> {
+    drop(child);
+    Ok(Transformed {
+        value: root(),
+        order: Stop,
+        changed: true,
+    })
+}
+
+/// The child as it is.
+fn unchanged(child: Expression) -> VortexResult<Transformed<Expression>> {
+    Ok(Transformed::no(child))
 }
 
 #[test]
-fn children_are_mapped_until_stop_or_kept(rt: HostRuntime) -> Result<(), Fail> {
+fn children_are_mapped_until_stop_or_kept(rt: HostRuntime) {
     let alloc = rt.alloc();
-    let first = boxed(alloc, BOTH)?;
-    let second = boxed(alloc, BOTH)?;
-    let mapped = Box::into_inner(first).map_children(alloc, |_child| {
-        Ok(Transformed {
-            value: root(),
-            order: Stop,
-            changed: true,
-        })
-    });
-    let mapped = mapped.expect(&rt, "a tree");
-    assert!(rt; mapped.changed);
-    assert!(rt; mapped.order == Stop);
-    assert!(rt; reads(&mapped.value, "($ and $.b)"));
-    let kept = Box::into_inner(second).map_children(alloc, |child| Ok(Transformed::no(child)));
-    let kept = kept.expect(&rt, "a tree");
-    assert!(rt; !kept.changed);
-    assert!(rt; reads(&kept.value, "($.a and $.b)"));
-    Ok(())
+    let first = got(&rt, boxed(alloc, BOTH));
+    let second = got(&rt, boxed(alloc, BOTH));
+    let mapped = got(
+        &rt,
+        Box::into_inner(first).map_children(alloc, root_instead),
+    );
+    holds(&rt, mapped.changed, "changed");
+    same(&rt, mapped.order, &Stop);
+    shows(&rt, mapped.value, "($ and $.b)");
+    let answer = Box::into_inner(second).map_children(alloc, unchanged);
+    let tree = got(&rt, answer);
+    holds(&rt, !tree.changed, "not changed");
+    shows(&rt, tree.value, "($.a and $.b)");
 }
 
 #[test]
-fn a_bound_node_is_typed_anew_or_refused(rt: HostRuntime) -> Result<(), Fail> {
+fn a_bound_node_is_typed_anew_or_refused(rt: HostRuntime) {
     let alloc = rt.alloc();
-    let other = over_harness(alloc, "bool1")?;
-    let equality = bound_equality(alloc)?;
-    let differing = bound_equality(alloc)?;
+    let other = over_harness(&rt, alloc, "bool1");
+    let equality = bound_equality(&rt, alloc);
+    let differing = bound_equality(&rt, alloc);
     let mapped = Box::into_inner(equality).map_children(alloc, |child| {
         drop(child);
         Ok(Transformed::yes((*other).clone()?))
     });
-    let mapped = mapped.expect(&rt, "a tree");
-    assert!(rt; reads(&mapped.value, "($.bool1 = $.bool1)"));
+    let mapped = got(&rt, mapped);
+    shows(&rt, mapped.value, "($.bool1 = $.bool1)");
     let mut first = true;
     let refused = Box::into_inner(differing).map_children(alloc, |child| {
         if first {
@@ -189,50 +200,56 @@ fn a_bound_node_is_typed_anew_or_refused(rt: HostRuntime) -> Result<(), Fail> {
         }
         Ok(Transformed::no(child))
     });
-    assert!(rt; matches!(&refused, Err(VortexError::BaseTypesDiffer)));
-    Ok(())
+    let is_refused = matches!(&refused, Err(VortexError::BaseTypesDiffer));
+    holds(&rt, is_refused, "types that differ");
 }
 
 /// Asserts that a node of two children isn't made anew without children.
 fn keeps_its_children<N: Node + Drop>(rt: &impl Abort, alloc: Global, node: Box<N>) {
     let answer = Node::with_children(Box::into_inner(node), alloc, Vec::new(alloc));
-    assert!(rt;
-        matches!(
-            &answer,
-            Err(VortexError::ArityMismatch {
-                expected: 2,
-                got: 0
-            })
-        )
+    let is_refused = matches!(
+        &answer,
+        Err(VortexError::ArityMismatch {
+            expected: 2,
+            got: 0
+        })
     );
+    holds(rt, is_refused, "a wrong number of children");
 }
 
 #[test]
-fn a_node_is_rebuilt_by_its_trait(rt: HostRuntime) -> Result<(), Fail> {
+fn a_node_is_rebuilt_by_its_trait(rt: HostRuntime) {
     let alloc = rt.alloc();
-    keeps_its_children(&rt, alloc, boxed(alloc, BOTH)?);
-    keeps_its_children(&rt, alloc, bound_equality(alloc)?);
-    Ok(())
+    keeps_its_children(&rt, alloc, got(&rt, boxed(alloc, BOTH)));
+    keeps_its_children(&rt, alloc, bound_equality(&rt, alloc));
+}
+
+fn half(value: u8) -> u8 {
+    value / 2
+}
+
+fn is_above_three(value: u8) -> bool {
+    value > 3
 }
 
 #[test]
 fn what_is_handed_back_is_seen_and_mapped(rt: HostRuntime) {
     let yes = Transformed::yes(4u8);
-    assert!(rt; yes.changed);
-    assert!(rt; yes.order == Continue);
+    holds(&rt, yes.changed, "changed");
+    same(&rt, yes.order, &Continue);
     let no = Transformed::no(4u8);
-    assert!(rt; !no.changed);
-    let half = no.map(|value| value / 2);
-    assert_eq!(rt; half.value, 2);
-    assert!(rt; !half.clone().expect(&rt, "memory").changed);
-    assert_eq!(rt; half.into_inner(), 2);
+    holds(&rt, !no.changed, "not changed");
+    let half = no.map(half);
+    same(&rt, half.value, &2);
+    holds(&rt, !got(&rt, half.clone()).changed, "not changed");
+    same(&rt, half.into_inner(), &2);
     let stopped = Transformed {
         value: 4u8,
         order: Stop,
         changed: true,
     };
-    let above = stopped.map(|value| value > 3);
-    assert!(rt; above.value);
-    assert!(rt; above.changed);
-    assert!(rt; above.order == Stop);
+    let above = stopped.map(is_above_three);
+    holds(&rt, above.value, "above three");
+    holds(&rt, above.changed, "changed");
+    same(&rt, above.order, &Stop);
 }
