@@ -1,5 +1,8 @@
 // Tests of the original, through the prelude.
-use crate::boxed::boxed;
+ghost use Rattle.vx_tree.specs.Trees.{WellTyped};
+ghost use Rattle.vx_tree.specs.Views.{bound_of};
+
+use crate::boxed::{boxed, got, same};
 use std::alloc::Global;
 use std::process::Abort;
 use vx_expr::dtype::Nullability::{NonNullable, Nullable};
@@ -15,43 +18,47 @@ fn over(
     children: &[&BoundExpression],
 ) -> Box<BoundExpression> {
     let node = boxed(rt, alloc, node);
-    assert_eq!(rt; node.dtype(), dtype);
-    assert!(rt; node.children().iter().eq(children.iter().copied()));
+    same(rt, node.dtype(), &dtype);
+    let are_same = node.children().iter().eq(children.iter().copied());
+    same(rt, are_same, &true);
     node
 }
 
+// The value where it is above five, and else five.
+fn at_least_five(alloc: Global) -> VortexResult<Expression> {
+    Ok(expr!(in alloc; case_when(gt(col("value"), lit(5)), col("value"), lit(5))))
+}
+
 #[test]
-fn bound_constructors_preserve_order_and_types(rt: HostRuntime) -> VortexResult<()> {
+fn bound_constructors_preserve_order_and_types(rt: HostRuntime) {
     let alloc = rt.alloc();
     let scope = struct_type(alloc, [("value", I32.into())], NonNullable);
     let scope = boxed(&rt, alloc, scope);
-    let unbound = expr!(in alloc; case_when(gt(col("value"), lit(5)), col("value"), lit(5)));
-    let unbound = boxed(&rt, alloc, Box::new(alloc, unbound)?.bind(alloc, &scope));
+    let unbound = boxed(&rt, alloc, at_least_five(alloc));
+    let unbound = boxed(&rt, alloc, unbound.bind(alloc, &scope));
 
     let value = bound::get_item(alloc, "value", bound::root(Box::into_inner(scope)));
     let value = boxed(&rt, alloc, value);
     let literal = boxed(&rt, alloc, bound::lit(alloc, 5));
     let condition = bound::gt(alloc, &*value, &*literal);
-    let truth = Box::new(alloc, DType::Bool(NonNullable))?;
+    let truth: VortexResult<DType> = Ok(DType::Bool(NonNullable));
+    let truth = boxed(&rt, alloc, truth);
     let condition = over(&rt, alloc, condition, &truth, &[&value, &literal]);
 
     let case = bound::case_when(alloc, &*condition, &*value, &*literal);
     let children = [&*condition, &*value, &*literal];
     let case = over(&rt, alloc, case, &I32.into(), &children);
-    assert_eq!(rt; unbound, case);
+    same(&rt, unbound, &case);
 
     let types = [("condition", Box::into_inner(truth)), ("value", I32.into())];
     let types = boxed(&rt, alloc, struct_type(alloc, types, NonNullable));
     let fields = [("condition", &*condition), ("value", &*case)];
     let packed = bound::pack(alloc, fields, NonNullable);
     over(&rt, alloc, packed, &types, &[&condition, &case]);
-    Ok(())
 }
 
-#[test]
-fn test_display_tree_pack(rt: HostRuntime) -> VortexResult<()> {
-    let alloc = rt.alloc();
-    let select_from_pack_expr = expr!(in alloc; select(
+fn selected(alloc: Global) -> VortexResult<Expression> {
+    Ok(expr!(in alloc; select(
         ["fizz", "buzz"],
         pack(
             [
@@ -61,43 +68,50 @@ fn test_display_tree_pack(rt: HostRuntime) -> VortexResult<()> {
             ],
             Nullable
         )
-    ));
-    let text = Box::new(alloc, select_from_pack_expr)?
-        .display_tree()
-        .to_string(alloc)?;
-    assert_eq!(rt;
-        text.as_str(),
-        "vortex.select({fizz, buzz})
+    )))
+}
+
+#[test]
+fn test_display_tree_pack(rt: HostRuntime) {
+    let alloc = rt.alloc();
+    let select_from_pack_expr = boxed(&rt, alloc, selected(alloc));
+    let text = select_from_pack_expr.display_tree().to_string(alloc);
+    same(
+        &rt,
+        got(&rt, text).as_str(),
+        &"vortex.select({fizz, buzz})
 └── child: vortex.pack(names: [fizz, bar, buzz], nullability: Nullable)
     ├── fizz: vortex.root()
     ├── bar: vortex.literal(5i32)
     └── buzz: vortex.binary(=)
         ├── lhs: vortex.literal(42i32)
         └── rhs: vortex.get_item(answer)
-            └── input: vortex.root()"
+            └── input: vortex.root()",
     );
-    Ok(())
+}
+
+// A range whose lower bound is null.
+fn up_to_five(alloc: Global) -> VortexResult<Expression> {
+    let null: Option<i32> = None;
+    Ok(expr!(in alloc; and(gt_eq(col("x"), lit(null)), lt_eq(col("x"), lit(5)))))
 }
 
 #[test]
-fn null_literal_bound_is_value_preserving(rt: HostRuntime) -> VortexResult<()> {
+fn null_literal_bound_is_value_preserving(rt: HostRuntime) {
     let alloc = rt.alloc();
-    let null: Option<i32> = None;
-    let expr = expr!(in alloc; and(gt_eq(col("x"), lit(null)), lt_eq(col("x"), lit(5))));
-    let expr = Box::new(alloc, expr)?;
-    let x = column(alloc, [10, 1]).expect(&rt, "memory");
+    let expr = boxed(&rt, alloc, up_to_five(alloc));
+    let x = got(&rt, column(alloc, [10, 1]));
     let data = boxed(&rt, alloc, struct_column(alloc, [("x", x)]));
 
     let before = boxed(&rt, alloc, apply(alloc, &data, &expr));
 
-    let bound = expr.bind(alloc, data.dtype()).expect(&rt, "a type");
+    let bound = got(&rt, expr.bind(alloc, data.dtype()));
     let rewritten = boxed(&rt, alloc, find_between(alloc, bound));
     let after = boxed(&rt, alloc, apply_bound(alloc, &data, &rewritten));
 
-    assert_eq!(rt; before, after);
+    same(&rt, after, &before);
     let expected = boxed(&rt, alloc, column(alloc, [Some(false), None]));
-    assert_eq!(rt; before, expected);
-    Ok(())
+    same(&rt, before, &expected);
 }
 
 fn scope(alloc: Global) -> VortexResult<DType> {
@@ -106,52 +120,73 @@ fn scope(alloc: Global) -> VortexResult<DType> {
     struct_type(alloc, fields, NonNullable)
 }
 
+fn field_and_item(alloc: Global) -> VortexResult<Expression> {
+    Ok(expr!(in alloc; pack([("a", col("a")), ("x", get_item("x", col("a")))], NonNullable)))
+}
+
 #[test]
-fn ancestor_path_subsumes_descendant(rt: HostRuntime) -> VortexResult<()> {
+fn ancestor_path_subsumes_descendant(rt: HostRuntime) {
     let alloc = rt.alloc();
-    let expr =
-        expr!(in alloc; pack([("a", col("a")), ("x", get_item("x", col("a")))], NonNullable));
-    let expr = Box::new(alloc, expr)?;
+    let expr = boxed(&rt, alloc, field_and_item(alloc));
     let scope = boxed(&rt, alloc, scope(alloc));
     let bound = boxed(&rt, alloc, expr.bind(alloc, &scope));
 
     let set = boxed(&rt, alloc, referenced_field_paths(alloc, &bound));
-    let a = FieldName::new(alloc, "a")?;
-    let a = boxed(&rt, alloc, FieldPath::from_name(alloc, a));
-    assert!(rt; set.iter().eq([&*a].into_iter()));
-    Ok(())
+    let a = FieldPath::from_name(alloc, got(&rt, FieldName::new(alloc, "a")));
+    let a = boxed(&rt, alloc, a);
+    let is_alone = set.iter().eq([&*a].into_iter());
+    same(&rt, is_alone, &true);
 }
 
-#[test]
-fn test_expr_top_level_ref_get_item_and_split_pack(rt: HostRuntime) -> VortexResult<()> {
-    let alloc = rt.alloc();
-    let dtype = Box::new(alloc, scope(alloc)?)?;
-    let expected = expr!(in alloc; pack(
-        [
-            ("a_0", get_item("x", get_item("a", root()))),
-            ("a_1", get_item("y", get_item("a", root()))),
-        ],
-        NonNullable
-    ));
-    let expected = boxed(&rt, alloc, Box::new(alloc, expected)?.bind(alloc, &dtype));
-    let expr = expr!(in alloc; pack(
+fn top_level_items(alloc: Global) -> VortexResult<Expression> {
+    Ok(expr!(in alloc; pack(
         [
             ("x", get_item("x", get_item("a", root()))),
             ("y", get_item("y", get_item("a", root()))),
             ("c", get_item("c", root())),
         ],
         NonNullable
-    ));
-    let bound = boxed(&rt, alloc, Box::new(alloc, expr)?.bind(alloc, &dtype));
-    let fields = dtype.as_struct_fields_opt().expect(&rt, "a struct");
-    let keys = |node: &BoundExpression| free_fields(alloc, node, fields);
-    let partitioned = partition_bound(alloc, Box::into_inner(bound), keys);
-    let partitioned = boxed(&rt, alloc, partitioned);
+    )))
+}
 
-    let a = boxed(&rt, alloc, Ok(FieldName::new(alloc, "a")?));
-    let split_a = partitioned.find_partition(alloc, &a).expect(&rt, "memory");
-    assert_eq!(rt; split_a, Some(&*expected));
-    Ok(())
+fn items_of_a(alloc: Global) -> VortexResult<Expression> {
+    Ok(expr!(in alloc; pack(
+        [
+            ("a_0", get_item("x", get_item("a", root()))),
+            ("a_1", get_item("y", get_item("a", root()))),
+        ],
+        NonNullable
+    )))
+}
+
+// The tree split by the fields of its scope, a struct.
+fn split(
+    alloc: Global,
+    bound: Box<BoundExpression>,
+    scope: &DType,
+) -> VortexResult<BoundPartitionedExpr<FieldName>>
+    requires { WellTyped (bound_of bound.value) }
+{
+    let Some(fields) = scope.as_struct_fields_opt() else {
+        return Err(VortexError::NotAStruct);
+    };
+    let keys = |node: &BoundExpression| free_fields(alloc, node, fields);
+    partition_bound(alloc, Box::into_inner(bound), keys)
+}
+
+#[test]
+fn test_expr_top_level_ref_get_item_and_split_pack(rt: HostRuntime) {
+    let alloc = rt.alloc();
+    let dtype = boxed(&rt, alloc, scope(alloc));
+    let expected = boxed(&rt, alloc, items_of_a(alloc));
+    let expected = boxed(&rt, alloc, expected.bind(alloc, &dtype));
+    let expr = boxed(&rt, alloc, top_level_items(alloc));
+    let bound = boxed(&rt, alloc, expr.bind(alloc, &dtype));
+    let partitioned = boxed(&rt, alloc, split(alloc, bound, &dtype));
+
+    let a = boxed(&rt, alloc, FieldName::new(alloc, "a"));
+    let split_a = got(&rt, partitioned.find_partition(alloc, &a));
+    same(&rt, split_a, &Some(&*expected));
 }
 
 // A row of pets, as a literal.
@@ -170,5 +205,5 @@ fn lit_types(rt: HostRuntime) {
     let sdtype = boxed(&rt, alloc, struct_type(alloc, fields, NonNullable));
     let pets = boxed(&rt, alloc, pets(alloc));
     let dtype = boxed(&rt, alloc, pets.return_dtype(alloc, &sdtype));
-    assert_eq!(rt; dtype, sdtype);
+    same(&rt, dtype, &sdtype);
 }
