@@ -6,7 +6,7 @@ use std::alloc::Global;
 use vx_types::{Column, DType, FieldNames, Nullability, StructFields, Value, VortexResult};
 
 /// How the keys 0, 1 and 2 stand in the rows.
-#[derive(Clone, Copy, Debug, PartialEq, Eq)]
+#[derive(Clone, Copy)]
 pub enum Keys {
     /// In turns, each in a run of 1,000 rows.
     InRuns,

@@ -2,7 +2,7 @@
 ghost use Rattle.std.specs.Prelude.{◌≡◌, ◌≢◌, ◌<◌};
 
 use crate::texts::parsed;
-use crate::{Status, refused};
+use crate::{Status, answered};
 use std::alloc::Global;
 use vx_eval_masks::RowMask;
 use vx_projection::ColumnReader;
@@ -12,7 +12,7 @@ use vx_types::{Column, DType, FieldPath, FieldPathSet, Nullability, PType, Value
 
 /// What a range of numbers found.
 #[repr(C)]
-#[derive(Clone, Copy, Debug, Default, PartialEq, Eq)]
+#[derive(Clone, Copy, Default)]
 pub struct Found {
     /// How many rows are in the range.
     pub rows: u64,
@@ -21,7 +21,7 @@ pub struct Found {
 }
 
 /// How the numbers stand in the chunks.
-#[derive(Clone, Copy, Debug, PartialEq, Eq)]
+#[derive(Clone, Copy)]
 enum Order {
     /// 0: each behind the one before.
     Sorted,
@@ -30,7 +30,7 @@ enum Order {
 }
 
 /// What is known of a chunk.
-#[derive(Clone, Copy, Debug, PartialEq, Eq)]
+#[derive(Clone, Copy)]
 enum Known {
     /// 0: how many rows it has.
     Length,
@@ -39,7 +39,7 @@ enum Known {
 }
 
 /// How many chunks of how many rows the numbers from 0 on stand in, each number in one row.
-#[derive(Clone, Copy, Debug)]
+#[derive(Clone, Copy)]
 struct Layout {
     chunks: usize,
     rows: usize,
@@ -48,7 +48,7 @@ struct Layout {
 }
 
 /// A chunk of numbers, and what is known of it.
-#[derive(Debug, Drop)]
+#[derive(Drop)]
 struct Chunk {
     rows: Column,
     stats: ChunkStats,
@@ -211,11 +211,5 @@ pub extern "C" fn vx_found(
         order,
         known,
     };
-    match search(alloc, layout, repeats) {
-        Ok(found) => {
-            *last = found;
-            Status::Answered as u8
-        }
-        Err(refusal) => refused(refusal),
-    }
+    answered(search(alloc, layout, repeats), last)
 }

@@ -3,7 +3,7 @@ use vx_types::{Column, Value};
 
 /// Some numbers that tell columns apart, of the values in the rows and in the items of structs.
 #[repr(C)]
-#[derive(Clone, Copy, Debug, Default, PartialEq, Eq)]
+#[derive(Clone, Copy, Default)]
 pub struct Digest {
     /// How many values are null.
     pub nulls: u64,

@@ -8,7 +8,7 @@ use vx_tree::{EmptyOptions, Expression, Operator, Scalar, ScalarFnRef};
 use vx_types::{DType, FieldName, Nullability, PType, StructFields, VortexResult};
 
 /// A family of trees, with one of each size `n`.
-#[derive(Clone, Copy, Debug, PartialEq, Eq)]
+#[derive(Clone, Copy)]
 pub enum Family {
     /// And over `n` comparisons, balanced: the `i`th of the field `i mod (n / 4)`, with `10 * (i div
     /// (n / 4))`, and `>=` and `<` in turns.

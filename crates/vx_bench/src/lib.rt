@@ -1,7 +1,7 @@
 // Calls for the benchmark's driver, which isn't Rattle.
 #![tactic(auto)]
 
-ghost use Rattle.std.specs.Prelude.{◌≡◌, ◌≢◌, ◌<◌};
+ghost use Rattle.std.specs.Prelude.{◌≡◌, ◌≢◌, ◌<◌, Ok};
 ghost use Rattle.vx_tree.specs.Trees.{WellTyped};
 ghost use Rattle.vx_tree.specs.Views.{bound_of};
 
@@ -32,7 +32,7 @@ use vx_tree::BoundExpression;
 use vx_types::{Column, VortexError, VortexResult};
 
 /// How a call ended.
-#[derive(Clone, Copy, Debug, PartialEq, Eq)]
+#[derive(Clone, Copy)]
 pub enum Status {
     /// 0: what was asked for is written.
     Answered,
@@ -44,14 +44,34 @@ pub enum Status {
     NoSuchNumber,
 }
 
+/// How a query is evaluated.
+#[derive(Clone, Copy)]
+enum Way {
+    /// 0: the bound tree over the whole batch.
+    Whole,
+    /// 1: a plan, scanned through its own reader of the batch.
+    Scan,
+}
+
+impl Way {
+    fn of(number: u8) -> Option<Way> {
+        match number {
+            0 => Some(Way::Whole),
+            1 => Some(Way::Scan),
+            _ => None,
+        }
+    }
+}
+
 /// Makes the batch of so many rows and the bound tree of the query with that number, evaluates the
-/// tree so often, each column let go before the next, and writes the digest of the last one; with
-/// no repeat nothing is evaluated. Answers the number of a [`Status`]; where that isn't 0, `digest`
-/// stays.
+/// query so often in the way with that number, each column let go before the next, and writes the
+/// digest of the last one; with no repeat nothing is evaluated. Answers the number of a [`Status`];
+/// where that isn't 0, `digest` stays.
 #[unsafe(no_mangle)]
 pub extern "C" fn vx_evaluate(
     alloc: Global,
     number: u8,
+    way: u8,
     rows: usize,
     repeats: u32,
     digest: &mut Digest,
@@ -59,38 +79,25 @@ pub extern "C" fn vx_evaluate(
     ensures status { result < 4 }
     ensures kept { result ≢ 0 → digest.new ≡ digest.old }
 {
-    let Some(query) = Query::of(number) else {
+    let (Some(query), Some(way)) = (Query::of(number), Way::of(way)) else {
         return Status::NoSuchNumber as u8;
     };
-    answered(evaluated(alloc, query, rows, repeats), digest)
-}
-
-/// The same by scans: a plan of the query is scanned so often, through its own reader of the batch.
-#[unsafe(no_mangle)]
-pub extern "C" fn vx_scanned(
-    alloc: Global,
-    number: u8,
-    rows: usize,
-    repeats: u32,
-    digest: &mut Digest,
-) -> u8
-    ensures status { result < 4 }
-    ensures kept { result ≢ 0 → digest.new ≡ digest.old }
-{
-    let Some(query) = Query::of(number) else {
-        return Status::NoSuchNumber as u8;
+    let last = match way {
+        Way::Whole => evaluated(alloc, query, rows, repeats),
+        Way::Scan => scanned(alloc, query, rows, repeats),
     };
-    answered(scanned(alloc, query, rows, repeats), digest)
+    answered(last, digest)
 }
 
-// The number of the status, with the digest written where there is one.
-fn answered(last: VortexResult<Digest>, digest: &mut Digest) -> u8
+// The number of the status, with what is answered written where it is.
+fn answered<T: Copy>(answer: VortexResult<T>, to: &mut T) -> u8
     ensures status { result < 4 }
-    ensures kept { result ≢ 0 → digest.new ≡ digest.old }
+    ensures kept { result ≢ 0 → to.new ≡ to.old }
+    ensures written { result ≡ 0 → answer ≡ Ok to.new }
 {
-    match last {
-        Ok(last) => {
-            *digest = last;
+    match answer {
+        Ok(value) => {
+            *to = value;
             Status::Answered as u8
         }
         Err(refusal) => refused(refusal),

@@ -2,6 +2,7 @@
 ghost use Rattle.vx_tree.specs.Trees.{WellTyped};
 ghost use Rattle.vx_tree.specs.Views.{bound_of};
 
+use crate::pass::gone;
 use crate::subject::Subject;
 use std::alloc::Global;
 use vx_eval::apply_bound;
@@ -15,8 +16,7 @@ pub fn evaluate(alloc: Global, subject: &Subject) -> VortexResult<()>
     requires { WellTyped (bound_of subject.now.bound.value) }
 {
     let row = row(alloc, &*subject.scope)?;
-    drop(apply_bound(alloc, &*row, &*subject.bound)?);
-    Ok(())
+    gone(apply_bound(alloc, &*row, &*subject.bound))
 }
 
 /// The source as a query, passed by all passes and split.
@@ -28,8 +28,7 @@ pub fn query(alloc: Global, subject: &Subject) -> VortexResult<()> {
         Pass::Branches,
         Pass::Fold,
     ];
-    drop(run_query(alloc, &*subject.tree, &*row, &passes, true)?);
-    Ok(())
+    gone(run_query(alloc, &*subject.tree, &*row, &passes, true))
 }
 
 /// The source planned and scanned.
@@ -39,8 +38,7 @@ pub fn scan(alloc: Global, subject: &Subject) -> VortexResult<()> {
     let reader = plan.reader_of(Box::into_inner(row));
     let answer = vx_scan::scan(alloc, &reader, &*plan);
     drop(reader);
-    drop(answer?);
-    Ok(())
+    gone(answer)
 }
 
 // One row of a scope `{b: bool, x: i32?}`.

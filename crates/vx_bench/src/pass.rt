@@ -14,16 +14,14 @@ use vx_rewrite::{
     BranchRules, FoldingRules, Optimize, find_between, partition_bound, referenced_field_paths,
     run_passes,
 };
-use vx_rewrite_analysis::{
-    descendent_bound_annotations, direct_bound_annotations, free_fields, label_bound_tree,
-};
+use vx_rewrite_analysis::{direct_bound_annotations, free_fields, label_bound_tree};
 use vx_rewrite_core::optimize_with;
 use vx_scan::plan;
 use vx_tree::{BoundExpression, ExactBoundExpr, Expression, Mask};
 use vx_types::{DType, StructFields, VortexError, VortexResult};
 
 /// A pass over a tree.
-#[derive(Clone, Copy, Debug, PartialEq, Eq)]
+#[derive(Clone, Copy)]
 pub enum Pass {
     /// The tree bound.
     Bind,
@@ -150,7 +148,7 @@ impl Pass {
             Pass::Optimize => gone(bound.optimize_recursive(alloc)),
             Pass::Fuse => fuse(alloc, bound),
             Pass::Label => label(alloc, bound),
-            Pass::Annotate => annotate(alloc, bound, fields),
+            Pass::Annotate => gone(splits::annotated(alloc, bound, fields)),
             Pass::Partition => partition(alloc, bound, fields),
             Pass::Paths => gone(referenced_field_paths(alloc, bound)),
             Pass::Split => gone(split_by_fields(alloc, bound, &*subject.scope)),
@@ -183,13 +181,16 @@ impl Pass {
     }
 }
 
-// Lets what a call answers go. Of a type parameter the prover writes nothing out.
-fn gone<T: Drop>(answer: VortexResult<T>) -> VortexResult<()> {
-    answer.map(|_result| ())
+/// Lets what a call answers go. Of a type parameter the prover writes nothing out.
+pub fn gone<T: Drop>(answer: VortexResult<T>) -> VortexResult<()> {
+    match answer {
+        Ok(_) => Ok(()),
+        Err(refusal) => Err(refusal),
+    }
 }
 
-// Refuses where a test that holds of every tree was told false.
-fn told(holds: bool) -> VortexResult<()> {
+/// Refuses where a test that holds of every tree was told false.
+pub fn told(holds: bool) -> VortexResult<()> {
     if holds {
         Ok(())
     } else {
@@ -258,11 +259,6 @@ fn label(alloc: Global, bound: &BoundExpression) -> VortexResult<()> {
         |_node: &BoundExpression| 1,
         |label: u64, child: &u64| label.saturating_add(*child),
     ))
-}
-
-fn annotate(alloc: Global, bound: &BoundExpression, fields: &StructFields) -> VortexResult<()> {
-    let read = |node: &BoundExpression| free_fields(alloc, node, fields);
-    gone(descendent_bound_annotations(alloc, bound, read))
 }
 
 fn annotate_directly(

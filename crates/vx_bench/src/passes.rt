@@ -6,7 +6,7 @@ ghost use Rattle.vx_tree.specs.Views.{bound_of};
 use crate::family::Family;
 use crate::pass::Pass;
 use crate::subject::{Subject, visited};
-use crate::{Status, refused};
+use crate::{Status, answered};
 use std::alloc::Global;
 use vx_types::VortexResult;
 
@@ -30,13 +30,7 @@ pub extern "C" fn vx_pass(
     let (Some(family), Some(pass)) = (Family::of(family), Pass::of(pass)) else {
         return Status::NoSuchNumber as u8;
     };
-    match passed(alloc, family, size, pass, repeats) {
-        Ok(count) => {
-            *nodes = count;
-            Status::Answered as u8
-        }
-        Err(refusal) => refused(refusal),
-    }
+    answered(passed(alloc, family, size, pass, repeats), nodes)
 }
 
 // The nodes of the family's tree, after so many passes.

@@ -5,7 +5,7 @@ use std::alloc::Global;
 use vx_types::{Column, VortexResult};
 
 /// A query that is timed.
-#[derive(Clone, Copy, Debug, PartialEq, Eq)]
+#[derive(Clone, Copy)]
 pub enum Query {
     /// `(($.x >= 10i32) and ($.x <= 500000i32))`.
     Range,

@@ -2,9 +2,10 @@
 ghost use Rattle.vx_tree.specs.Trees.{WellTyped};
 ghost use Rattle.vx_tree.specs.Views.{bound_of};
 
+use crate::pass::{gone, told};
 use std::alloc::Global;
 use vx_rewrite::{
-    BoundPartitionedExpr, covers, descendent_bound_annotations, free_fields,
+    BoundAnnotations, BoundPartitionedExpr, covers, descendent_bound_annotations, free_fields,
     partition_bound_annotations,
 };
 use vx_tree::{BoundExpression, FieldName};
@@ -14,8 +15,7 @@ use vx_types::{StructFields, VortexError, VortexResult};
 pub fn by_map(alloc: Global, bound: &BoundExpression, fields: &StructFields) -> VortexResult<()>
     requires { WellTyped (bound_of bound.now) }
 {
-    drop(split(alloc, bound, fields)?);
-    Ok(())
+    gone(split(alloc, bound, fields))
 }
 
 /// The same, with each partition put in its own place again.
@@ -24,13 +24,21 @@ pub fn replaced(alloc: Global, bound: &BoundExpression, fields: &StructFields) -
 {
     let mut split = split(alloc, bound, fields)?;
     if split.partition_names.len() != split.partitions.len() {
-        return Err(VortexError::NotBool);
+        return Err(VortexError::LengthMismatch);
     }
-    let mut partitions = Vec::with_capacity(alloc, split.partitions.len())?;
-    for partition in split.partitions.iter() {
-        partitions.push(partition.clone()?)?;
-    }
+    let partitions = split.partitions.clone()?;
     split.replace_partitions(alloc, partitions)
+}
+
+/// The fields that each node reads, by the node.
+pub fn annotated(
+    alloc: Global,
+    bound: &BoundExpression,
+    fields: &StructFields,
+) -> VortexResult<Box<BoundAnnotations<FieldName>>> {
+    let read = |node: &BoundExpression| free_fields(alloc, node, fields);
+    let map = descendent_bound_annotations(alloc, bound, read)?;
+    Ok(Box::new(alloc, map)?)
 }
 
 fn split(
@@ -40,11 +48,9 @@ fn split(
 ) -> VortexResult<Box<BoundPartitionedExpr<FieldName>>>
     requires { WellTyped (bound_of bound.now) }
 {
-    let read = |node: &BoundExpression| free_fields(alloc, node, fields);
-    let map = descendent_bound_annotations(alloc, bound, read)?;
-    if !covers(alloc, bound, &map)? {
-        return Err(VortexError::NotBool);
-    }
+    let map = annotated(alloc, bound, fields)?;
+    told(covers(alloc, bound, &map)?)?;
+    let map = Box::into_inner(map);
     let split = partition_bound_annotations(alloc, bound.clone()?, map)?;
     Ok(Box::new(alloc, split)?)
 }

@@ -9,7 +9,7 @@ use vx_tree::{BoundExpression, Expression};
 use vx_types::{DType, Nullability, StructFields, VortexResult};
 
 /// A tree, its scope, and the tree bound to it.
-#[derive(Debug, Drop)]
+#[derive(Drop)]
 pub struct Subject {
     /// The tree.
     pub tree: Box<Expression>,

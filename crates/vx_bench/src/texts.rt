@@ -2,7 +2,7 @@
 ghost use Rattle.std.specs.Prelude.{◌≡◌, ◌≢◌, ◌<◌};
 
 use crate::family::Family;
-use crate::{Status, refused};
+use crate::{Status, answered};
 use std::alloc::Global;
 use std::fmt::Display;
 use vx_source::{ParseError, SourceText, parse};
@@ -10,7 +10,7 @@ use vx_tree::Expression;
 use vx_types::{VortexError, VortexResult};
 
 /// What is done with a text.
-#[derive(Clone, Copy, Debug, PartialEq, Eq)]
+#[derive(Clone, Copy)]
 enum Work {
     /// 0: the source text read.
     Read,
@@ -42,13 +42,7 @@ pub extern "C" fn vx_text(alloc: Global, size: usize, work: u8, repeats: u32, by
     let Some(work) = Work::of(work) else {
         return Status::NoSuchNumber as u8;
     };
-    match worked(alloc, size, work, repeats) {
-        Ok(count) => {
-            *bytes = count;
-            Status::Answered as u8
-        }
-        Err(refusal) => refused(refusal),
-    }
+    answered(worked(alloc, size, work, repeats), bytes)
 }
 
 // The bytes of the source text, after so much work.

@@ -3,9 +3,9 @@ ghost use Rattle.std.specs.Prelude.{◌≡◌, ◌≢◌, ◌<◌};
 ghost use Rattle.vx_tree.specs.Trees.{WellTyped};
 ghost use Rattle.vx_tree.specs.Views.{bound_of};
 
+use crate::answered;
 use crate::fields::{numbered, numbered_names, numbers};
 use crate::trees::Trees;
-use crate::{Status, refused};
 use std::alloc::Global;
 use vx_prune::{ChunkStats, FieldStats, Verdict, verdict};
 use vx_tree::{BoundExpression, Expression, Operator};
@@ -80,11 +80,5 @@ pub extern "C" fn vx_verdicts(alloc: Global, repeats: u32, unknown: &mut u64) ->
     ensures status { result < 4 }
     ensures kept { result ≢ 0 → unknown.new ≡ unknown.old }
 {
-    match unknown_of(alloc, repeats) {
-        Ok(count) => {
-            *unknown = count;
-            Status::Answered as u8
-        }
-        Err(refusal) => refused(refusal),
-    }
+    answered(unknown_of(alloc, repeats), unknown)
 }

@@ -34,7 +34,7 @@ pub fn rewrite(alloc: Global, tree: &Expression) -> VortexResult<Transformed<Exp
 }
 
 /// Counts the nodes by a fold.
-#[derive(Debug, Drop)]
+#[derive(Drop)]
 struct Nodes;
 
 impl NodeFolderContext for Nodes {
