@@ -3,3 +3,4 @@ pub mod Cutting
 pub mod Joined
 pub mod Sizes
 pub mod Typed
+pub mod Filling

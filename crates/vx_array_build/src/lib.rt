@@ -2,7 +2,9 @@
 #![tactic(auto)]
 
 mod bytes;
+mod columns;
 mod constants;
+mod filled;
 mod native;
 mod numbers;
 mod spans_builder;
@@ -11,6 +13,7 @@ mod truths;
 mod validity;
 
 pub use bytes::{binaries, texts};
+pub use columns::{from_column, lanes_of};
 pub use constants::constant;
 pub use native::Native;
 pub use numbers::primitive;
