@@ -32,7 +32,7 @@ pub fn dialect_named(word: &str) -> Option<Dialect> {
 /// The form of records of that name.
 pub fn data_format_named(word: &str) -> Option<DataFormat<'static>> {
     match word {
-        "json" => Some(DataFormat::JsonLines),
+        "json" => Some(DataFormat::Json),
         "csv" => Some(DataFormat::Csv(CsvFormat::default())),
         _ => None,
     }

@@ -1,7 +1,9 @@
 // What a person runs: `vx COMMAND EXPR --schema TYPE`.
 #![tactic(auto)]
 
+mod arguments;
 mod choices;
+mod guess;
 mod line;
 mod progress;
 mod records;
@@ -91,7 +93,7 @@ fn asked(rt: &HostRuntime, matches: &ArgMatches<'_>) -> Result<Status> {
 
 // Whether more than one word asks for standard input.
 fn asks_input_twice(matches: &ArgMatches<'_>) -> bool {
-    let words = ["expression", "schema", "data", "stats"];
+    let words = ["expression", "select", "schema", "data", "stats"];
     let inputs = words.iter().filter(|id| matches.get_str(id) == Some("-"));
     inputs.count() > 1
 }

@@ -1,7 +1,8 @@
 // Files that tell how much of them is read.
 use std::io;
-use std::io::{IsTerminal, Read, Write};
+use std::io::{IsTerminal, Read, Seek, SeekFrom, Write};
 use std::time::{Duration, Instant};
+use vx_commands::Source;
 
 /// A file that tells once a second, on standard error, how much of it is read, where standard error is
 /// a terminal and standard output, which would be written over it, is none. The next that is written
@@ -68,5 +69,15 @@ impl<R: Read> Read for Progress<'_, R> {
             self.tell();
         }
         Ok(count)
+    }
+}
+
+impl<R: Read + Seek> Source for Progress<'_, R> {
+    fn go_back(&mut self) -> io::Result<bool> {
+        let went = self.file.seek(SeekFrom::Start(0)).is_ok();
+        if went {
+            self.bytes = 0;
+        }
+        Ok(went)
     }
 }

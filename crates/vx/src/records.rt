@@ -1,13 +1,17 @@
 // Commands that go over the records of a file.
 use crate::choices::{data_format_named, mark_named, output_format_named};
+use crate::guess::guess_told;
 use crate::progress::Progress;
-use crate::texts::{Text, schema_at, text_at};
+use crate::texts::{Text, read_text, schema_at, text_at};
 use anyhow::{Context, Result};
 use clap::ArgMatches;
 use std::fs::File;
+use std::io;
+use std::io::Read;
 use std::num::NonZeroUsize;
 use vx_commands::{
-    CsvFormat, DataFormat, OutputFormat, RecordsTask, RowsCommand, Schema, Status, run_rows,
+    CsvFormat, DataFormat, Guess, OutputFormat, RecordsTask, RowsCommand, Schema, Source, Status,
+    run_rows,
 };
 
 /// The form in which rows are printed, as the words say.
@@ -15,10 +19,17 @@ pub fn output_of(matches: &ArgMatches<'_>) -> Option<OutputFormat> {
     output_format_named(matches.get_str("output")?)
 }
 
-/// What a filter does with records: it goes by chunks where the words say how many records one has.
+/// What a filter does with records: it counts them, selects something of them, or goes by chunks where the words say so.
 pub fn filter_of(matches: &ArgMatches<'_>) -> RecordsTask {
-    match matches.get_one::<NonZeroUsize>("chunk") {
-        Some(size) => RecordsTask::FilterByChunks(size),
+    if matches.get_flag("count") {
+        return RecordsTask::Count;
+    }
+    if let Some(size) = matches.get_one::<NonZeroUsize>("chunk") {
+        return RecordsTask::FilterByChunks(size);
+    }
+    match output_of(matches) {
+        Some(format) => RecordsTask::Select(format),
+        None if matches.contains_id("select") => RecordsTask::Select(OutputFormat::JsonLines),
         None => RecordsTask::Filter,
     }
 }
@@ -38,35 +49,30 @@ pub fn over_records(
     let Some(format) = format_told(rt, matches, data)? else {
         return Ok(Status::Wrong);
     };
+    let Some(guess) = guess_told(rt, matches)? else {
+        return Ok(Status::Wrong);
+    };
     let expression = text_at(rt, matches, "expression")?;
+    let select = select_said(rt, matches)?;
     let schema = schema_said(rt, matches)?;
-    let limit = matches.get_one("limit").unwrap_or(limit);
     let command = RowsCommand {
-        limit,
-        ..command_over(work, &expression, schema.as_ref(), name_of(data), format)
+        work,
+        expression: expression.input(),
+        select: select.input(),
+        schema: schema_or(schema.as_ref(), guess.guess()),
+        data: name_of(data),
+        format,
+        limit: matches.get_one("limit").unwrap_or(limit),
+        skips: matches.get_flag("skip-errors"),
     };
     run_over(rt, &command, data)
 }
 
-// The command that does that work on all records of the file of that name, whose type is inferred if
-// the words don't say it.
-fn command_over<'a>(
-    work: RecordsTask,
-    expression: &'a Text,
-    schema: Option<&'a Text>,
-    data: &'a str,
-    format: DataFormat<'a>,
-) -> RowsCommand<'a> {
-    RowsCommand {
-        work,
-        expression: expression.input(),
-        schema: match schema {
-            Some(schema) => Schema::Said(schema.input()),
-            None => Schema::Inferred,
-        },
-        data,
-        format,
-        limit: u64::MAX,
+// The type that the text says, or the one that is guessed so.
+fn schema_or<'a>(said: Option<&'a Text>, guess: Guess<'a>) -> Schema<'a> {
+    match said {
+        Some(text) => Schema::Said(text.input()),
+        None => Schema::Guessed(guess),
     }
 }
 
@@ -75,11 +81,33 @@ fn run_over(rt: &HostRuntime, command: &RowsCommand<'_>, data: &str) -> Result<S
     let alloc = rt.alloc();
     let (mut out, mut err) = (rt.stdout(), rt.stderr());
     if data == "-" {
-        return Ok(run_rows(alloc, command, rt.reader(), &mut out, &mut err));
+        let input = Once(rt.reader());
+        return Ok(run_rows(alloc, command, input, &mut out, &mut err));
     }
     let file = File::open(rt, data).context(format_args!("reading {data}"))?;
     let reader = Progress::new(rt, file);
     Ok(run_rows(alloc, command, reader, &mut out, &mut err))
+}
+
+// What is read once, as standard input.
+#[derive(Drop)]
+struct Once<R>(R);
+
+impl<R: Read> Read for Once<R> {
+    fn read(&mut self, buf: &mut [u8]) -> io::Result<usize> {
+        self.0.read(buf)
+    }
+}
+
+impl<R: Read> Source for Once<R> {
+    fn go_back(&mut self) -> io::Result<bool> {
+        Ok(false)
+    }
+}
+
+// What is selected of records: what the words say, or else the record.
+fn select_said(rt: &HostRuntime, matches: &ArgMatches<'_>) -> Result<Text> {
+    read_text(rt, "select", matches.get_str("select").unwrap_or("$"))
 }
 
 // The schema, if the words say one.
@@ -119,17 +147,20 @@ fn format_of<'a>(matches: &ArgMatches<'a>, data: &str) -> Result<DataFormat<'a>,
     };
     match format {
         DataFormat::Csv(format) => Ok(DataFormat::Csv(csv_format(matches, format)?)),
-        DataFormat::JsonLines if says_csv(matches) => {
-            Err("--delimiter, --no-header, --comment and --null are for CSV: add --format csv")
+        DataFormat::Json if says_csv(matches) => {
+            Err(
+                "--delimiter, --no-header, --nested, --comment and --null are for CSV: add --format csv",
+            )
         }
-        DataFormat::JsonLines => Ok(DataFormat::JsonLines),
+        DataFormat::Json => Ok(DataFormat::Json),
     }
 }
 
 // Whether the words say something of CSV.
 fn says_csv(matches: &ArgMatches<'_>) -> bool {
+    let flags = ["no-header", "nested"];
     let words = ["delimiter", "comment", "null"];
-    matches.get_flag("no-header") || words.iter().any(|id| matches.contains_id(id))
+    flags.iter().any(|id| matches.get_flag(id)) || words.iter().any(|id| matches.contains_id(id))
 }
 
 // The format, but for what the words say; or why they say none.

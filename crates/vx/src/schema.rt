@@ -1,4 +1,5 @@
 // The type of the rows that a command without records is over.
+use crate::guess::guess_told;
 use crate::records::{format_told, name_of};
 use crate::texts::{Text, schema_at};
 use anyhow::{Context, Result};
@@ -29,9 +30,14 @@ fn guessed<'a>(
     let Some(format) = format_told(rt, matches, data)? else {
         return Ok(Err(Status::Wrong));
     };
+    let Some(guess) = guess_told(rt, matches)? else {
+        return Ok(Err(Status::Wrong));
+    };
     let records = UntypedRecords {
         name: name_of(data),
         format,
+        guess: guess.guess(),
+        skips: matches.get_flag("skip-errors"),
     };
     let guessed = if data == "-" {
         guess_schema(alloc, records, &mut rt.reader(), &mut rt.stderr())

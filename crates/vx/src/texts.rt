@@ -68,5 +68,13 @@ pub fn read_text<R: Files + Input + AllocGlobal>(
         ),
         _ => (argument, String::from_str(alloc, word)?),
     };
-    Text::new(alloc, name, text)
+    Text::new(alloc, name, unmarked(alloc, text)?)
+}
+
+// The text without the byte order mark that a file may begin with.
+fn unmarked(alloc: Global, text: String) -> Result<String> {
+    match text.as_str().strip_prefix('\u{feff}') {
+        Some(rest) => Ok(String::from_str(alloc, rest)?),
+        None => Ok(text),
+    }
 }

@@ -2,3 +2,4 @@ pub mod Rows
 pub mod Chunked
 pub mod Commands
 pub mod SqlRuns
+pub mod Selected

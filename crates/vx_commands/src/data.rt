@@ -1,17 +1,23 @@
 // Files of records, by the form that they have.
+use crate::columns::{ColumnType, names_of, types_of, with_columns};
 use crate::error::RowsError;
+use crate::stop::Stop;
 use std::alloc::Global;
+use std::io;
 use std::io::{BufReader, Read};
-use vx_command_pages::Span;
-use vx_data::{CsvFormat, DataError, Recorded, WriteError, infer_csv_type_with, infer_json_type};
+use vx_command_pages::{Input, Span};
+use vx_data::{
+    CsvFormat, DataError, Guessing, JsonFormat, OtherFields, Recorded, WriteError,
+    infer_csv_type_by, infer_json_type_by,
+};
 use vx_records::RecordsError;
 use vx_types::DType;
 
 /// In what form records stand in a file.
 #[derive(Clone, Copy, Debug, PartialEq, Eq)]
 pub enum DataFormat<'a> {
-    /// A line of JSON for each record.
-    JsonLines,
+    /// A line of JSON for each record, an array of them, or objects of several lines.
+    Json,
     /// A CSV file of that format.
     Csv(CsvFormat<'a>),
 }
@@ -31,28 +37,123 @@ impl DataFormat<'_> {
                 ..format
             })
         } else {
-            DataFormat::JsonLines
+            DataFormat::Json
         }
     }
 }
 
-/// The narrowest type of the first 1,000 records, and the bytes that were read to tell it. Fails as `infer_json_type` and
-/// `infer_csv_type_with` of `vx_data` do.
-pub fn inferred_type<D: Read>(
+/// How JSON is read whose type is guessed.
+pub(crate) const GUESSED_JSON: JsonFormat = JsonFormat {
+    any_layout: true,
+    number_texts: true,
+};
+
+/// How the type of records is guessed.
+#[derive(Clone, Copy, Debug)]
+pub struct Guess<'a> {
+    /// How many records are looked at, at most.
+    pub records: u64,
+    /// The types that are said of some columns.
+    pub columns: &'a [ColumnType<'a>],
+    /// Whether each name with dots in a header leads to a field of a field.
+    pub nested: bool,
+}
+
+impl Default for Guess<'_> {
+    fn default() -> Self {
+        Guess {
+            records: 1_000,
+            columns: &[],
+            nested: false,
+        }
+    }
+}
+
+/// The type of the records.
+#[derive(Clone, Copy, Debug)]
+pub enum Schema<'a> {
+    /// The one that the text says.
+    Said(Input<'a>),
+    /// The narrowest type of the first records.
+    Guessed(Guess<'a>),
+}
+
+impl<'a> Schema<'a> {
+    /// The text that says it, an empty one where none does.
+    pub(crate) fn input(self) -> Input<'a> {
+        match self {
+            Schema::Said(input) => input,
+            Schema::Guessed(_) => Input::new("", ""),
+        }
+    }
+
+    /// What becomes of fields that the type doesn't have: one that is said may be of some columns only.
+    pub(crate) fn others(self) -> OtherFields {
+        match self {
+            Schema::Said(_) => OtherFields::PassedOver,
+            Schema::Guessed(_) => OtherFields::Refused,
+        }
+    }
+}
+
+/// What records are read from, perhaps more than once.
+pub trait Source: Read {
+    /// Goes back to where reading began. Tells whether it did; where it can't, nothing is changed.
+    fn go_back(&mut self) -> io::Result<bool>;
+}
+
+/// The type of the records, and the bytes that were read to tell it and are to be read before what is left: none where the
+/// source goes back. Fails as `guessed_type` does.
+pub(crate) fn inferred_type<D: Source>(
     alloc: Global,
     format: DataFormat<'_>,
+    guess: Guess<'_>,
+    skips: bool,
     data: &mut D,
-) -> Result<(DType, Vec<u8>), RowsError> {
+) -> Result<(DType, Vec<u8>), Stop> {
+    if went_back(data)? {
+        let dtype = guessed_type(alloc, format, guess, skips, &mut *data)?;
+        went_back(data)?;
+        return Ok((dtype, Vec::new(alloc)));
+    }
     let mut recorded = Recorded::new(alloc, data);
-    let inferred = match format {
-        DataFormat::JsonLines => {
-            let reader = buffered(alloc, &mut recorded)?;
-            infer_json_type(alloc, reader)
-        }
-        DataFormat::Csv(format) => infer_csv_type_with(alloc, format, &mut recorded),
-    };
+    let dtype = guessed_type(alloc, format, guess, skips, &mut recorded)?;
     let (read, _) = recorded.into_parts();
-    Ok((opened(inferred)?, read))
+    Ok((dtype, read))
+}
+
+fn went_back<D: Source>(data: &mut D) -> Result<bool, RowsError> {
+    match data.go_back() {
+        Ok(went) => Ok(went),
+        Err(e) => opened(Err(DataError::from(e))),
+    }
+}
+
+/// The narrowest type of the records that are looked at, but for the columns whose types are said, and perhaps without the
+/// records that can't be read. Fails at a type that can't be read, as `infer_json_type_by` and `infer_csv_type_by` of `vx_data` do, and at a column that isn't there.
+pub(crate) fn guessed_type<D: Read + Drop>(
+    alloc: Global,
+    format: DataFormat<'_>,
+    guess: Guess<'_>,
+    skips: bool,
+    data: D,
+) -> Result<DType, Stop> {
+    let types = types_of(alloc, guess.columns)?;
+    let said = names_of(alloc, guess.columns)?;
+    let guessing = Guessing {
+        records: guess.records,
+        said: said.as_slice(),
+        skips,
+        nested: guess.nested,
+    };
+    let guessed = opened(match format {
+        DataFormat::Json => {
+            let lines = buffered(alloc, data)?;
+            infer_json_type_by(alloc, GUESSED_JSON, guessing, lines)
+        }
+        DataFormat::Csv(format) => infer_csv_type_by(alloc, format, guessing, data),
+    })?;
+    Ok(with_columns(alloc, guessed, guess.columns, types.as_slice())?)
 }
 
 /// The reader with a buffer, or the error for want of memory.

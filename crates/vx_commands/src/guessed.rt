@@ -1,8 +1,7 @@
 // The type of records as a schema.
-use crate::data::{DataFormat, inferred_type};
-use crate::error::RowsError;
-use crate::message::RowsMessage;
+use crate::data::{DataFormat, Guess, Schema, guessed_type};
 use crate::run::tell_message;
+use crate::stop::{Stop, StopMessage};
 use std::alloc::Global;
 use std::io::{Read, Write};
 use vx_command_pages::{CommandError, Input, Status};
@@ -15,9 +14,13 @@ pub struct UntypedRecords<'a> {
     pub name: &'a str,
     /// In what form they stand in it.
     pub format: DataFormat<'a>,
+    /// How their type is guessed.
+    pub guess: Guess<'a>,
+    /// Whether those are left out that can't be read.
+    pub skips: bool,
 }
 
-/// The narrowest type of the first 1,000 records that the reader gives, as source text. Where they have
+/// The narrowest type of the first records that the reader gives, as source text. Where they have
 /// none, and for want of memory, that is told on `err`, and the status is how the command ends.
 pub fn guess_schema<D: Read, E: Write>(
     alloc: Global,
@@ -25,16 +28,17 @@ pub fn guess_schema<D: Read, E: Write>(
     data: &mut D,
     err: &mut E,
 ) -> Result<String, Status> {
-    match type_text(alloc, records.format, data) {
+    match type_text(alloc, records, data) {
         Ok(text) => Ok(text),
-        Err(error) => {
-            let message = RowsMessage {
-                error: &error,
+        Err(stop) => {
+            let message = StopMessage {
+                stop: &stop,
                 expression: Input::new("", ""),
-                schema: Input::new("", ""),
+                select: Input::new("", ""),
+                schema: Schema::Guessed(records.guess),
                 data: records.name,
             };
-            Err(tell_message(alloc, &message, error.status(), err))
+            Err(tell_message(alloc, &message, stop.status(), err))
         }
     }
 }
@@ -42,13 +46,12 @@ pub fn guess_schema<D: Read, E: Write>(
 // The type as source text.
 fn type_text<D: Read>(
     alloc: Global,
-    format: DataFormat<'_>,
+    records: UntypedRecords<'_>,
     data: &mut D,
-) -> Result<String, RowsError> {
-    let (dtype, read) = inferred_type(alloc, format, data)?;
-    drop(read);
+) -> Result<String, Stop> {
+    let dtype = guessed_type(alloc, records.format, records.guess, records.skips, data)?;
     match format!(in alloc; "{}", TypeText(&dtype)) {
         Ok(text) => Ok(text),
-        Err(_) => Err(RowsError::Query(CommandError::OutOfMemory)),
+        Err(_) => Err(Stop::from(CommandError::OutOfMemory)),
     }
 }

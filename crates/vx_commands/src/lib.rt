@@ -2,7 +2,9 @@
 #![tactic(auto)]
 
 mod chunked;
+mod columns;
 mod command;
+mod counted;
 mod data;
 mod error;
 mod evaluated;
@@ -15,12 +17,16 @@ mod page;
 mod records_query;
 mod rows;
 mod run;
+mod selected;
 mod sql;
+mod stop;
 mod table;
 
 pub use chunked::{ChunkedQuery, filter_by_chunks};
+pub use columns::ColumnType;
 pub use command::{Command, Query, page_of};
-pub use data::DataFormat;
+pub use counted::count;
+pub use data::{DataFormat, Guess, Schema, Source};
 pub use error::RowsError;
 pub use evaluated::evaluate;
 pub use explained::{ChunksQuery, explain_chunks};
@@ -29,8 +35,9 @@ pub use guessed::{UntypedRecords, guess_schema};
 pub use message::RowsMessage;
 pub use outputs::{Output, OutputFormat};
 pub use records_query::RecordsQuery;
-pub use rows::{RecordsTask, RowsCommand, Schema, run_rows};
+pub use rows::{RecordsTask, RowsCommand, run_rows};
 pub use run::run_command;
+pub use selected::{SelectQuery, SelectStop, select};
 pub use sql::{SqlCommand, SqlTask, run_sql};
 pub use vx_command_pages::{CommandError, Input, Shown, Status};
 pub use vx_data::CsvFormat;

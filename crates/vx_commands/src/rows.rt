@@ -1,23 +1,28 @@
 // A run of the program over the records of a file.
 use crate::chunked::{ChunkedQuery, filter_by_chunks};
-use crate::data::{DataFormat, buffered, inferred_type, opened, unwritten};
+use crate::counted::count;
+use crate::data::{
+    DataFormat, GUESSED_JSON, Guess, Schema, Source, buffered, inferred_type, opened, unwritten,
+};
 use crate::error::RowsError;
 use crate::evaluated::evaluate;
 use crate::explained::{ChunksQuery, explain_chunks};
 use crate::filtered::filter;
-use crate::message::RowsMessage;
 use crate::outputs::{Output, OutputFormat};
 use crate::records_query::RecordsQuery;
 use crate::run::tell_message;
+use crate::selected::{SelectQuery, select};
+use crate::stop::{Stop, StopMessage};
 use std::alloc::Global;
 use std::io::{Cursor, Read, Write};
 use std::num::NonZeroUsize;
 use vx_command_pages::{
-    CommandError, Input, ReadQuery, Status, explanation_of, read_over, read_query, read_written,
+    CommandError, Input, ReadQuery, Shown, Status, explanation_of, read_over, read_query,
+    read_written,
 };
-use vx_data::WriteError;
+use vx_data::{DataError, JsonFormat, WriteError};
 use vx_prune::ChunkRecords;
-use vx_records::{CsvRows, JsonRecords, RecordReader};
+use vx_records::{CsvRows, JsonRecords, RecordReader, Skipping};
 use vx_source::{Placed, TypeText};
 use vx_types::DType;
 
@@ -28,6 +33,10 @@ pub enum RecordsTask {
     Filter,
     /// The same, in chunks of so many records, and how many of these weren't evaluated is told.
     FilterByChunks(NonZeroUsize),
+    /// How many there are of which the expression is true is written.
+    Count,
+    /// What is selected of those of which the expression is true is written in that form.
+    Select(OutputFormat),
     /// What the expression means at each is written in that form.
     Evaluate(OutputFormat),
     /// The type of the records is written, what becomes of the expression, and what it means at each as
@@ -38,25 +47,6 @@ pub enum RecordsTask {
     ExplainChunks,
 }
 
-/// The type of the records.
-#[derive(Clone, Copy, Debug)]
-pub enum Schema<'a> {
-    /// The one that the text says.
-    Said(Input<'a>),
-    /// The narrowest type of the first 1,000 records.
-    Inferred,
-}
-
-impl<'a> Schema<'a> {
-    // The text that says it, an empty one where none does.
-    fn input(self) -> Input<'a> {
-        match self {
-            Schema::Said(input) => input,
-            Schema::Inferred => Input::new("", ""),
-        }
-    }
-}
-
 /// A command that goes over the records of a file.
 #[derive(Clone, Copy, Debug)]
 pub struct RowsCommand<'a> {
@@ -64,6 +54,8 @@ pub struct RowsCommand<'a> {
     pub work: RecordsTask,
     /// The expression.
     pub expression: Input<'a>,
+    /// What is selected of the records of which it is true.
+    pub select: Input<'a>,
     /// The type of the records.
     pub schema: Schema<'a>,
     /// What the file is called.
@@ -72,6 +64,8 @@ pub struct RowsCommand<'a> {
     pub format: DataFormat<'a>,
     /// How many records are gone over at most.
     pub limit: u64,
+    /// Whether records that can't be read are left out, and counted.
+    pub skips: bool,
 }
 
 // A command whose texts were read.
@@ -97,7 +91,7 @@ impl<'a> ReadCommand<'a> {
 /// that can't be read, an expression that is refused or faults, or a record that isn't of the schema's
 /// type; or `Failed` where memory, the reader or a writer fails. Where `out` is a pipe that its reader has
 /// closed, the run ends there as `Done`.
-pub fn run_rows<D: Read + Drop, W: Write, E: Write>(
+pub fn run_rows<D: Source + Drop, W: Write, E: Write>(
     alloc: Global,
     command: &RowsCommand<'_>,
     data: D,
@@ -106,37 +100,38 @@ pub fn run_rows<D: Read + Drop, W: Write, E: Write>(
 ) -> Status {
     match gone_over(alloc, command, data, out, err) {
         Ok(()) => Status::Done,
-        Err(error) if error.is_closed_pipe() => Status::Done,
-        Err(error) => {
-            let message = RowsMessage {
-                error: &error,
+        Err(stop) if stop.is_closed_pipe() => Status::Done,
+        Err(stop) => {
+            let message = StopMessage {
+                stop: &stop,
                 expression: command.expression,
-                schema: command.schema.input(),
+                select: command.select,
+                schema: command.schema,
                 data: command.data,
             };
-            tell_message(alloc, &message, error.status(), err)
+            tell_message(alloc, &message, stop.status(), err)
         }
     }
 }
 
-// Goes over the records. Those that told their type are read once more, from where they were kept.
-fn gone_over<D: Read + Drop, W: Write, E: Write>(
+// Goes over the records. Those that told their type are read once more.
+fn gone_over<D: Source + Drop, W: Write, E: Write>(
     alloc: Global,
     command: &RowsCommand<'_>,
     mut data: D,
     out: &mut W,
     err: &mut E,
-) -> Result<(), RowsError> {
+) -> Result<(), Stop> {
     let (query, read) = match command.schema {
         Schema::Said(schema) => {
             let query = read_query(alloc, command.expression.text, schema.text)?;
             (query, Vec::new(alloc))
         }
-        Schema::Inferred => inferred(alloc, command, &mut data)?,
+        Schema::Guessed(guess) => inferred(alloc, command, guess, &mut data)?,
     };
     let data = Cursor::new(read).chain(data);
     if let RecordsTask::ExplainChunks = command.work {
-        return chunks_explained(alloc, command, &query, data, out);
+        return Ok(chunks_explained(alloc, command, &query, data, out)?);
     }
     let ReadQuery { placed, scope } = query;
     let scope = Box::into_inner(scope);
@@ -145,27 +140,81 @@ fn gone_over<D: Read + Drop, W: Write, E: Write>(
         placed: &placed,
     };
     match command.command.format {
-        DataFormat::JsonLines => {
-            let mut records = JsonRecords::new(alloc, scope, buffered(alloc, data)?);
-            worked(alloc, &command, &mut records, out, err)
+        DataFormat::Json => {
+            let lines = buffered(alloc, data)?;
+            let format = json_format(command.command.schema, &scope);
+            let others = command.command.schema.others();
+            let records = JsonRecords::with_others(alloc, scope, format, others, lines);
+            over(alloc, &command, records, out, err)
         }
         DataFormat::Csv(format) => {
-            let mut records = opened(CsvRows::open_with(alloc, scope, format, data))?;
-            worked(alloc, &command, &mut records, out, err)
+            let others = command.command.schema.others();
+            let records = opened(CsvRows::open_others(alloc, scope, format, others, data))?;
+            over(alloc, &command, records, out, err)
         }
     }
 }
 
-// The expression over the narrowest type of the first records, and what was read of these.
-fn inferred<D: Read>(
+// How JSON of that type is read: where it wasn't guessed, a text is a string; and an array on a line of its own is a list
+// where the records are lists.
+fn json_format(schema: Schema<'_>, scope: &DType) -> JsonFormat {
+    match (schema, scope) {
+        (Schema::Guessed(_), _) => GUESSED_JSON,
+        (Schema::Said(_), DType::List(_, _) | DType::FixedSizeList(_, _, _)) => {
+            JsonFormat::default()
+        }
+        (Schema::Said(_), _) => JsonFormat {
+            any_layout: true,
+            number_texts: false,
+        },
+    }
+}
+
+// Does with the records what the command says, and tells how many were left out that can't be read.
+fn over<R: RecordReader + Drop, W: Write, E: Write>(
+    alloc: Global,
+    command: &ReadCommand<'_>,
+    records: R,
+    out: &mut W,
+    err: &mut E,
+) -> Result<(), Stop> {
+    let mut records = records;
+    if !command.command.skips {
+        return worked(alloc, command, &mut records, out, err);
+    }
+    let mut records = Skipping::new(records);
+    let done = worked(alloc, command, &mut records, out, err);
+    if let Some(first) = records.first_refusal() {
+        unwritten(told_skipped(records.skipped(), first, err))?;
+    }
+    done
+}
+
+// Tells how many records were left out, and where the first stands.
+fn told_skipped<E: Write>(count: u64, first: &DataError, err: &mut E) -> Result<(), WriteError> {
+    if count == 1 {
+        writeln!(err, "1 record skipped, at {}", Shown(first))?;
+    } else {
+        writeln!(
+            err,
+            "{count} records skipped, the first at {}",
+            Shown(first)
+        )?;
+    }
+    Ok(())
+}
+
+// The expression over the narrowest type of the first records, and what was read of these and is to be read again.
+fn inferred<D: Source>(
     alloc: Global,
     command: &RowsCommand<'_>,
+    guess: Guess<'_>,
     data: &mut D,
-) -> Result<(ReadQuery, Vec<u8>), RowsError> {
+) -> Result<(ReadQuery, Vec<u8>), Stop> {
     let written = read_written(alloc, command.expression.text)?;
-    let (dtype, read) = inferred_type(alloc, command.format, data)?;
+    let (dtype, read) = inferred_type(alloc, command.format, guess, command.skips, data)?;
     let Ok(scope) = Box::new(alloc, dtype) else {
-        return Err(RowsError::Query(CommandError::OutOfMemory));
+        return Err(Stop::from(CommandError::OutOfMemory));
     };
     let placed = read_over(alloc, written, &scope)?;
     Ok((ReadQuery { placed, scope }, read))
@@ -204,10 +253,15 @@ fn worked<R: RecordReader, W: Write, E: Write>(
     records: &mut R,
     out: &mut W,
     err: &mut E,
-) -> Result<(), RowsError> {
+) -> Result<(), Stop> {
     let query = command.query();
     match command.command.work {
-        RecordsTask::Filter => filter(alloc, &query, records, out),
+        RecordsTask::Filter => Ok(filter(alloc, &query, records, out)?),
+        RecordsTask::Count => {
+            let count = count(alloc, &query, records)?;
+            Ok(unwritten(written_count(out, count))?)
+        }
+        RecordsTask::Select(format) => selected(alloc, command, format, records, out),
         RecordsTask::FilterByChunks(size) => {
             let RecordsQuery { placed, limit } = query;
             let query = ChunkedQuery {
@@ -215,15 +269,51 @@ fn worked<R: RecordReader, W: Write, E: Write>(
                 size,
                 limit,
             };
-            filter_by_chunks(alloc, &query, records, out, err)
+            Ok(filter_by_chunks(alloc, &query, records, out, err)?)
         }
-        RecordsTask::Evaluate(format) => evaluated(alloc, &query, format, records, out),
+        RecordsTask::Evaluate(format) => Ok(evaluated(alloc, &query, format, records, out)?),
         RecordsTask::Explain | RecordsTask::ExplainChunks => {
             let page = explanation(alloc, query.placed, records.dtype())?;
             unwritten(written(out, page.as_str()))?;
-            evaluated(alloc, &query, OutputFormat::JsonLines, records, out)
+            let format = OutputFormat::JsonLines;
+            Ok(evaluated(alloc, &query, format, records, out)?)
         }
     }
+}
+
+// Writes what is selected of the records of which the expression is true.
+fn selected<R: RecordReader, W: Write>(
+    alloc: Global,
+    command: &ReadCommand<'_>,
+    format: OutputFormat,
+    records: &mut R,
+    out: &mut W,
+) -> Result<(), Stop> {
+    let value = match selected_value(alloc, command, records.dtype()) {
+        Ok(value) => value,
+        Err(error) => return Err(Stop::Select(RowsError::Query(error))),
+    };
+    let query = SelectQuery {
+        placed: command.placed,
+        value: &value,
+        limit: command.command.limit,
+    };
+    let mut output = Output::new(alloc, format, out);
+    let selected = select(alloc, &query, records, &mut output);
+    let finished = unwritten(output.finish(alloc));
+    selected?;
+    Ok(finished?)
+}
+
+// What is selected of records of that type.
+fn selected_value(
+    alloc: Global,
+    command: &ReadCommand<'_>,
+    scope: &DType,
+) -> Result<Box<Placed>, CommandError> {
+    let rows = command.command;
+    let written = read_written(alloc, rows.select.text)?;
+    read_over(alloc, written, scope)
 }
 
 // Writes what the expression means at the records.
@@ -252,5 +342,10 @@ fn explanation(alloc: Global, placed: &Placed, dtype: &DType) -> Result<String, 
 
 fn written<W: Write>(out: &mut W, text: &str) -> Result<(), WriteError> {
     out.write_all(text.as_bytes())?;
+    Ok(())
+}
+
+fn written_count<W: Write>(out: &mut W, count: u64) -> Result<(), WriteError> {
+    writeln!(out, "{count}")?;
     Ok(())
 }

@@ -13,7 +13,7 @@ mod rows;
 mod write;
 
 pub use format::CsvFormat;
-pub use infer::{infer_csv_type, infer_csv_type_with};
+pub use infer::{infer_csv_type, infer_csv_type_by, infer_csv_type_with};
 pub use parser::CsvParser;
 pub use records::CsvRecords;
 pub use rows::{rows_from_csv, rows_from_csv_with};

@@ -67,6 +67,12 @@ pub enum Expected {
     /// A record has more cells than the first.
     #[error("expected at most {0} cells, as many as the first record has")]
     Cells(u64),
+    /// The header lacks the name, and has others that the type doesn't have.
+    #[error("expected the name to stand in the header, which has others")]
+    InHeader,
+    /// A name is a cell's, and those of other cells begin with it.
+    #[error("expected the name of a cell, or the beginning of others, and not both")]
+    CellOrStruct,
     /// A file has no header.
     #[error("expected a line with the names of the fields")]
     Header,

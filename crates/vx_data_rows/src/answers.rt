@@ -1,14 +1,14 @@
 // What calls answer, as texts.
 use crate::chance::written_by_chance;
 use crate::cut::Cut;
-use crate::format::{Again, Format};
+use crate::format::{Again, Format, JSON_LINES};
 use crate::line::unescaped;
-use crate::records::{csv_records, json_records};
+use crate::records::records_text;
 use crate::unread::Unread;
 use std::alloc::{AllocError, Global};
 use std::fmt::Display;
 use std::io::Read;
-use vx_data::{CsvWriter, WriteError, write_json_lines};
+use vx_data::{CsvRecords, CsvWriter, JsonFile, WriteError, write_json_lines};
 use vx_source_types::parse_type;
 use vx_types::{Column, DType};
 
@@ -86,8 +86,8 @@ pub fn answer(
             Ok(untyped_answer(alloc, format, call, file.as_slice())?)
         }
         (Call::Typed(call), [dtype, file]) => {
-            let dtype = Box::new(alloc, parse_type(alloc, dtype)?)?;
             let file = unescaped(alloc, file)?;
+            let dtype = Box::new(alloc, parse_type(alloc, dtype)?)?;
             Ok(typed_answer(alloc, format, call, &dtype, file.as_slice())?)
         }
         _ => Err(Unread::Word("another number of columns")),
@@ -103,10 +103,13 @@ fn untyped_answer(
     match (call, format) {
         (UntypedCall::Type, _) => guessed(alloc, format, file),
         (UntypedCall::CutType, _) => shown(alloc, format.guess(alloc, file.chain(Cut))),
-        (UntypedCall::Records, Format::Json) => shown(alloc, json_records(alloc, file)),
+        (UntypedCall::Records, Format::Json(format)) => shown(
+            alloc,
+            records_text(alloc, JsonFile::new(alloc, file, format)),
+        ),
         (UntypedCall::Records, Format::Csv(format)) => shown(
             alloc,
-            csv_records(alloc, format, file),
+            records_text(alloc, CsvRecords::with_format(alloc, file, format)),
         ),
     }
 }
@@ -121,8 +124,8 @@ fn typed_answer(
     match call {
         TypedCall::Rows => rows(alloc, format, dtype, file),
         TypedCall::CutRows => shown(alloc, format.read(alloc, dtype, file.chain(Cut))),
-        TypedCall::Written => written(alloc, format, dtype, file),
-        TypedCall::Twice => twice(alloc, format, dtype, file),
+        TypedCall::Written => written(alloc, format, dtype, file, false),
+        TypedCall::Twice => written(alloc, format, dtype, file, true),
     }
 }
 
@@ -132,9 +135,14 @@ fn shown<T: Display + Drop, E: Display + Drop>(
     answer: Result<T, E>,
 ) -> Result<String, AllocError> {
     match answer {
-        Ok(value) => format!(in alloc; "{value}"),
-        Err(refusal) => format!(in alloc; "{refusal}"),
+        Ok(value) => text_of(alloc, "", value),
+        Err(refusal) => text_of(alloc, "", refusal),
     }
+}
+
+// The text of what is given, behind those words. (Where a type is known, the prover writes out what is dropped.)
+fn text_of<T: Display + Drop>(alloc: Global, before: &str, given: T) -> Result<String, AllocError> {
+    format!(in alloc; "{before}{given}")
 }
 
 fn rows(
@@ -143,57 +151,78 @@ fn rows(
     dtype: &DType,
     file: &[u8],
 ) -> Result<String, AllocError> {
-    let column = match format.read(alloc, dtype, file) {
-        Ok(column) => Box::new(alloc, column)?,
-        Err(refusal) => return format!(in alloc; "{refusal}"),
-    };
-    match format.write_and_read(alloc, &column) {
-        Again::Same => format!(in alloc; "{column}"),
-        Again::Refused | Again::Other => format!(in alloc; "{column}, which becomes another"),
+    match format.read(alloc, dtype, file) {
+        Ok(column) => {
+            let again = format.write_and_read(alloc, &column);
+            rows_text(alloc, column, again)
+        }
+        Err(refusal) => text_of(alloc, "", refusal),
+    }
+}
+
+// The text of the rows, and whether they become others.
+fn rows_text<T: Display + Drop>(
+    alloc: Global,
+    rows: T,
+    again: Again,
+) -> Result<String, AllocError> {
+    match again {
+        Again::Same => format!(in alloc; "{rows}"),
+        Again::Refused | Again::Other => format!(in alloc; "{rows}, which becomes another"),
     }
 }
 
 fn guessed(alloc: Global, format: Format<'_>, file: &[u8]) -> Result<String, AllocError> {
-    let dtype = match format.guess(alloc, file) {
-        Ok(dtype) => Box::new(alloc, dtype)?,
-        Err(refusal) => return format!(in alloc; "{refusal}"),
-    };
-    match format.read(alloc, &dtype, file) {
+    match format.guess(alloc, file) {
+        Ok(dtype) => {
+            let rows = format.of_guess().read(alloc, &dtype, file);
+            guess_text(alloc, dtype, rows)
+        }
+        Err(refusal) => text_of(alloc, "", refusal),
+    }
+}
+
+// The text of the type that is guessed, and of what refuses the rows by it.
+fn guess_text<T: Display + Drop, C: Drop, E: Display + Drop>(
+    alloc: Global,
+    dtype: T,
+    rows: Result<C, E>,
+) -> Result<String, AllocError> {
+    match rows {
         Ok(_) => format!(in alloc; "{dtype}"),
         Err(refusal) => format!(in alloc; "{dtype}, and then {refusal}"),
     }
 }
 
+// The file of the rows that the lines of JSON are, with them once or twice.
 fn written(
     alloc: Global,
     format: Format<'_>,
     dtype: &DType,
     lines: &[u8],
+    twice: bool,
 ) -> Result<String, AllocError> {
-    let column = match Format::Json.read(alloc, dtype, lines) {
-        Ok(column) => Box::new(alloc, column)?,
-        Err(refusal) => return format!(in alloc; "no rows: {refusal}"),
-    };
-    file_text(alloc, format.write(alloc, &column))
+    match JSON_LINES.read(alloc, dtype, lines) {
+        Ok(column) => {
+            let file = file_of(alloc, format, &column, twice);
+            drop(column);
+            file_text(alloc, file)
+        }
+        Err(refusal) => text_of(alloc, "no rows: ", refusal),
+    }
 }
 
-fn twice(
+fn file_of(
     alloc: Global,
     format: Format<'_>,
-    dtype: &DType,
-    lines: &[u8],
-) -> Result<String, AllocError> {
-    let column = match Format::Json.read(alloc, dtype, lines) {
-        Ok(column) => Box::new(alloc, column)?,
-        Err(refusal) => return format!(in alloc; "no rows: {refusal}"),
-    };
-    file_text(
-        alloc,
-        match format {
-            Format::Json => json_twice(alloc, &column),
-            Format::Csv(_) => csv_twice(alloc, &column),
-        },
-    )
+    column: &Column,
+    twice: bool,
+) -> Result<Vec<u8>, WriteError> {
+    match (twice, format) {
+        (false, _) => format.write(alloc, column),
+        (true, Format::Json(_)) => json_twice(alloc, column),
+        (true, Format::Csv(_)) => csv_twice(alloc, column),
+    }
 }
 
 fn json_twice(alloc: Global, column: &Column) -> Result<Vec<u8>, WriteError> {
@@ -205,10 +234,10 @@ fn json_twice(alloc: Global, column: &Column) -> Result<Vec<u8>, WriteError> {
 
 fn csv_twice(alloc: Global, column: &Column) -> Result<Vec<u8>, WriteError> {
     let mut file = Vec::new(alloc);
-    let mut writer = CsvWriter::new(alloc, column.dtype(), &mut file)?;
+    let mut writer = Box::new(alloc, CsvWriter::new(alloc, column.dtype(), &mut file)?)?;
     writer.write(column)?;
     writer.write(column)?;
-    writer.finish()?;
+    Box::into_inner(writer).finish()?;
     Ok(file)
 }
 
@@ -218,6 +247,6 @@ fn file_text(alloc: Global, file: Result<Vec<u8>, WriteError>) -> Result<String,
             Ok(text) => Ok(text),
             Err(_) => String::from_str(alloc, "no text"),
         },
-        Err(refusal) => format!(in alloc; "{refusal}"),
+        Err(refusal) => text_of(alloc, "", refusal),
     }
 }

@@ -4,9 +4,10 @@ use crate::numbers::Numbers;
 use crate::types::type_text;
 use crate::unread::Unread;
 use crate::values::value;
-use std::alloc::Global;
+use std::alloc::{AllocError, Global};
+use std::fmt::Display;
 use vx_source_types::parse_type;
-use vx_types::Column;
+use vx_types::{Column, DType, Value};
 
 // More than a type by chance has inside one another.
 const ROOM: usize = 16;
@@ -21,10 +22,14 @@ pub fn written_by_chance(alloc: Global, format: Format<'_>, words: &str) -> Resu
         match format.write_and_read(alloc, &column) {
             Again::Same => {}
             Again::Refused => refused = refused.saturating_add(1),
-            Again::Other => return Ok(format!(in alloc; "another than {column}")?),
+            Again::Other => return other_text(alloc, column),
         }
     }
     Ok(String::from_str(alloc, share(refused, count))?)
+}
+
+fn other_text<T: Display + Drop>(alloc: Global, rows: T) -> Result<String, Unread> {
+    Ok(format!(in alloc; "another than {rows}")?)
 }
 
 fn share(refused: u64, count: u64) -> &'static str {
@@ -49,12 +54,20 @@ fn seed_and_count(words: &str) -> Result<(u64, u64), Unread> {
 fn column(alloc: Global, format: Format<'_>, numbers: &mut Numbers) -> Result<Box<Column>, Unread> {
     let text = type_text(alloc, format, numbers)?;
     let dtype = Box::new(alloc, parse_type(alloc, text.as_str())?)?;
-    let mut rows = Vec::new(alloc);
-    for _ in 0..numbers.below(9) {
-        rows.push(value(ROOM, alloc, &dtype, numbers)?)?;
-    }
+    let rows = rows(alloc, &dtype, numbers)?;
     match Column::try_new(Box::into_inner(dtype), rows) {
         Ok(column) => Ok(Box::new(alloc, column)?),
-        Err(_) => Err(Unread::Word("a value by chance is none of its type")),
+        Err(refusal) => {
+            drop(refusal);
+            Err(Unread::Word("a value by chance is none of its type"))
+        }
     }
+}
+
+fn rows(alloc: Global, dtype: &DType, numbers: &mut Numbers) -> Result<Vec<Value>, AllocError> {
+    let mut rows = Vec::new(alloc);
+    for _ in 0..numbers.below(9) {
+        rows.push(value(ROOM, alloc, dtype, numbers)?)?;
+    }
+    Ok(rows)
 }

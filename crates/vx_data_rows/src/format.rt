@@ -2,24 +2,39 @@
 use std::alloc::Global;
 use std::io::BufRead;
 use vx_data::{
-    CsvFormat, DataError, WriteError, infer_csv_type_with, infer_json_type, rows_from_csv,
-    rows_from_csv_with, rows_from_json_lines, write_csv, write_json_lines,
+    CsvFormat, DataError, Guessing, JsonFormat, WriteError, infer_csv_type_with, infer_json_type,
+    infer_json_type_by, rows_from_csv, rows_from_csv_with, rows_from_json, rows_from_json_lines,
+    write_csv, write_json_lines,
 };
 use vx_types::{Column, DType};
 
 /// The format of a file.
 #[derive(Clone, Copy)]
 pub enum Format<'a> {
-    Json,
+    Json(JsonFormat),
     Csv(CsvFormat<'a>),
 }
 
+/// Lines of JSON.
+pub const JSON_LINES: Format<'static> = Format::Json(JsonFormat {
+    any_layout: false,
+    number_texts: false,
+});
+
 impl<'a> Format<'a> {
-    /// The format of that name: `json`; or `csv`, and behind it what is other than by default, as in
-    /// `csv:no-header:delimiter=tab:comment=#:null=NA`.
+    /// The format of that name: `json`, `json:any` or `json:numbers`; or `csv`, and behind it what is other than by
+    /// default, as in `csv:no-header:delimiter=tab:comment=#:null=NA`.
     pub fn named(name: &'a str) -> Option<Format<'a>> {
         match cut(name) {
-            ("json", "") => Some(Format::Json),
+            ("json", "") => Some(JSON_LINES),
+            ("json", "any") => Some(Format::Json(JsonFormat {
+                any_layout: true,
+                number_texts: false,
+            })),
+            ("json", "numbers") => Some(Format::Json(JsonFormat {
+                any_layout: false,
+                number_texts: true,
+            })),
             ("csv", parts) => Some(Format::Csv(with_parts(parts)?)),
             _ => None,
         }
@@ -28,7 +43,7 @@ impl<'a> Format<'a> {
     /// Whether it can hold lists.
     pub fn holds_lists(self) -> bool {
         match self {
-            Format::Json => true,
+            Format::Json(_) => true,
             Format::Csv(_) => false,
         }
     }
@@ -41,7 +56,10 @@ impl<'a> Format<'a> {
         file: R,
     ) -> Result<Column, DataError> {
         match self {
-            Format::Json => rows_from_json_lines(alloc, dtype, file),
+            Format::Json(format) if format == JsonFormat::default() => {
+                rows_from_json_lines(alloc, dtype, file)
+            }
+            Format::Json(format) => rows_from_json(alloc, dtype, format, file),
             Format::Csv(format) if format == CsvFormat::default() => {
                 rows_from_csv(alloc, dtype, file)
             }
@@ -52,8 +70,22 @@ impl<'a> Format<'a> {
     /// The type that is guessed of the file.
     pub fn guess<R: BufRead + Drop>(self, alloc: Global, file: R) -> Result<DType, DataError> {
         match self {
-            Format::Json => infer_json_type(alloc, file),
+            Format::Json(format) if format == JsonFormat::default() => {
+                infer_json_type(alloc, file)
+            }
+            Format::Json(format) => { infer_json_type_by(alloc, format, Guessing::default(), file) }
             Format::Csv(format) => infer_csv_type_with(alloc, format, file),
+        }
+    }
+
+    /// The format by which a file is read whose type was guessed: of JSON, numbers may stand for texts.
+    pub fn of_guess(self) -> Format<'a> {
+        match self {
+            Format::Json(format) => Format::Json(JsonFormat {
+                number_texts: true,
+                ..format
+            }),
+            Format::Csv(format) => Format::Csv(format),
         }
     }
 
@@ -61,7 +93,7 @@ impl<'a> Format<'a> {
     pub fn write(self, alloc: Global, column: &Column) -> Result<Vec<u8>, WriteError> {
         let mut file = Vec::new(alloc);
         match self {
-            Format::Json => write_json_lines(alloc, column, &mut file)?,
+            Format::Json(_) => write_json_lines(alloc, column, &mut file)?,
             Format::Csv(_) => write_csv(alloc, column, &mut file)?,
         }
         Ok(file)
@@ -70,26 +102,25 @@ impl<'a> Format<'a> {
     /// What becomes of the rows where they are written and read again.
     pub fn write_and_read(self, alloc: Global, column: &Column) -> Again {
         match self.write(alloc, column) {
-            Ok(file) => self.read_again(alloc, column, file.as_slice()),
-            Err(refusal) => match &refusal {
-                WriteError::Unwritable { .. } => Again::Refused,
-                WriteError::OutOfMemory | WriteError::Write(_) => Again::Other,
-            },
+            Ok(file) => {
+                let rows = self
+                    .of_written()
+                    .read(alloc, column.dtype(), file.as_slice());
+                Again::of_rows(rows, column)
+            }
+            Err(refusal) => {
+                let again = Again::of_refusal(&refusal);
+                drop(refusal);
+                again
+            }
         }
     }
 
-    fn read_again(self, alloc: Global, column: &Column, file: &[u8]) -> Again {
-        let written = match self {
-            Format::Json => Format::Json,
+    // The format in which files are written.
+    fn of_written(self) -> Format<'static> {
+        match self {
+            Format::Json(_) => JSON_LINES,
             Format::Csv(_) => Format::Csv(CsvFormat::default()),
-        };
-        let Ok(again) = written.read(alloc, column.dtype(), file) else {
-            return Again::Other;
-        };
-        if again == *column {
-            Again::Same
-        } else {
-            Again::Other
         }
     }
 }
@@ -140,8 +171,10 @@ fn with_part<'a>(format: CsvFormat<'a>, part: &'a str) -> Option<CsvFormat<'a>> 
 
 // The byte of that word: a tab, or the one that it is.
 fn byte_named(word: &str) -> Option<u8> {
+    if word == "tab" {
+        return Some(b'\t');
+    }
     match word.as_bytes() {
-        b"tab" => Some(b'\t'),
         [byte] => Some(*byte),
         _ => None,
     }
@@ -156,4 +189,24 @@ pub enum Again {
     Refused,
     /// Anything else.
     Other,
+}
+
+impl Again {
+    // What became of rows, by what is read of them.
+    fn of_rows<T: PartialEq + Drop, E: Drop>(read: Result<T, E>, rows: &T) -> Again {
+        let is_same = match &read {
+            Ok(read) => *read == *rows,
+            Err(_) => false,
+        };
+        drop(read);
+        if is_same { Again::Same } else { Again::Other }
+    }
+
+    // What became of rows that aren't written.
+    fn of_refusal(refusal: &WriteError) -> Again {
+        match refusal {
+            WriteError::Unwritable { .. } => Again::Refused,
+            WriteError::OutOfMemory | WriteError::Write(_) => Again::Other,
+        }
+    }
 }

@@ -1,24 +1,50 @@
 // Records as they stood.
 use std::alloc::{AllocError, Global};
 use std::str;
-use vx_data::{CsvFormat, CsvRecords, DataError, JsonLines};
+use vx_data::{CsvRecords, DataError, JsonFile};
 
-/// Each record of a file of JSON lines behind its line, as `1: 7 / 3: 8`.
-pub fn json_records(alloc: Global, file: &[u8]) -> Result<String, DataError> {
-    let mut lines = JsonLines::new(alloc, file);
-    let mut text = String::new(alloc);
-    for _ in 0..u64::MAX {
-        if !lines.read_record()? {
-            break;
-        }
-        push_record(alloc, lines.line(), lines.record(), &mut text)?;
-    }
-    Ok(text)
+/// Records of a file, read one after another.
+pub trait Records {
+    /// Reads the next record, and tells whether there is one.
+    fn read_record(&mut self) -> Result<bool, DataError>;
+
+    /// The line at which the last record begins.
+    fn line(&self) -> u64;
+
+    /// The last record as it stood.
+    fn record(&self) -> &[u8];
 }
 
-/// Each record of a CSV file of that format behind its line, the header first.
-pub fn csv_records(alloc: Global, format: CsvFormat<'_>, file: &[u8]) -> Result<String, DataError> {
-    let mut records = CsvRecords::with_format(alloc, file, format);
+impl Records for JsonFile<&[u8]> {
+    fn read_record(&mut self) -> Result<bool, DataError> {
+        self.read_record()
+    }
+
+    fn line(&self) -> u64 {
+        self.line()
+    }
+
+    fn record(&self) -> &[u8] {
+        self.record()
+    }
+}
+
+impl Records for CsvRecords<&[u8]> {
+    fn read_record(&mut self) -> Result<bool, DataError> {
+        self.read_record()
+    }
+
+    fn line(&self) -> u64 {
+        self.line()
+    }
+
+    fn record(&self) -> &[u8] {
+        self.record()
+    }
+}
+
+/// Each record behind its line, as `1: 7 / 3: 8`; of a CSV file the header first.
+pub fn records_text<R: Records + Drop>(alloc: Global, mut records: R) -> Result<String, DataError> {
     let mut text = String::new(alloc);
     for _ in 0..u64::MAX {
         if !records.read_record()? {

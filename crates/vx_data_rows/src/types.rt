@@ -28,7 +28,7 @@ pub fn type_text(
         below = layer_over(alloc, below.as_slice(), format, numbers)?;
     }
     match format {
-        Format::Json => other_type(alloc, below.as_slice(), format, numbers),
+        Format::Json(_) => other_type(alloc, below.as_slice(), format, numbers),
         Format::Csv(_) => struct_type(alloc, below.as_slice(), numbers),
     }
 }

@@ -8,3 +8,6 @@ mod Going
 mod Stopping
 mod Written
 mod Tallying
+mod Counting
+mod Selecting
+mod Portioned

@@ -16,7 +16,7 @@ pub gains_none : (held : Option (List Datum)) → Gains held held []
 gains_none None = tt
 gains_none (Some us) = sym (append-nil us)
 
-gains_trans : (a b c : Option (List Datum)) (us vs : List Datum) → Gains a b us → Gains b c vs → Gains a c (us ++ vs)
+pub gains_trans : (a b c : Option (List Datum)) (us vs : List Datum) → Gains a b us → Gains b c vs → Gains a c (us ++ vs)
 gains_trans None b c us vs p q = tt
 gains_trans (Some x) None c us vs p q = absurd p
 gains_trans (Some x) (Some y) None us vs p q = absurd q
@@ -33,7 +33,8 @@ joined head e s xs ys = append_assoc head (kept_lines e s xs) (kept_lines e s ys
 pub appends_on : (head : List ℕ) (e : Tree) (s : LogicalType) (a b c : Option (List ℕ)) (xs ys : List Record) → Appends a b (head ++ kept_lines e s xs) → Appends b c (kept_lines e s ys) → Appends a c (head ++ kept_lines e s (xs ++ ys))
 appends_on head e s a b c xs ys first second = subst (Appends a c) (joined head e s xs ys) (Appends-trans a b c _ _ first second)
 
-breaks_behind : (a b c : Option (List ℕ)) (bs cs : List ℕ) → Appends a b bs → Breaks b c cs → Breaks a c (bs ++ cs)
+-- a beginning behind what is written
+pub breaks_behind : (a b c : Option (List ℕ)) (bs cs : List ℕ) → Appends a b bs → Breaks b c cs → Breaks a c (bs ++ cs)
 breaks_behind a b c bs cs first (n, short, second) = (length bs + n, subst (λ l. length bs + n < l) (sym (length-append bs cs)) (search (arith, short)), subst (Appends a c) (sym (take-append-add bs cs n)) (Appends-trans a b c bs (take n cs) first second))
 
 pub breaks_on : (head : List ℕ) (e : Tree) (s : LogicalType) (a b c : Option (List ℕ)) (xs ys : List Record) → Appends a b (head ++ kept_lines e s xs) → Breaks b c (kept_lines e s ys) → Breaks a c (head ++ kept_lines e s (xs ++ ys))

@@ -10,9 +10,10 @@ use Rattle.vx_value.specs.declared.value.Value.{Value}
 use Rattle.vx_fn.specs.Values.{is_true}
 use Rattle.vx_tree.specs.Trees.{Tree}
 use Rattle.vx_records.specs.Reading.{Reads, ReadsUpTo}
-use Rattle.vx_records.specs.Records.{Record, record_of, texts, rows, meanings}
+use Rattle.vx_records.specs.Records.{Record, record_of, texts, rows, meanings, kept}
 use Rattle.vx_records.specs.declared.batches.RecordBatch.{RecordBatch}
 use Rattle.vx_records.specs.declared.read.Chunk.{Chunk}
+use Rattle.vx_records.specs.declared.kept.KeptBatch.{KeptBatch}
 use Rattle.vx_records.specs.declared.answers.Answers.{Answers}
 use Rattle.vx_data.specs.declared.error.DataError.{DataError}
 use Rattle.vx_places.specs.Faults.{IsFirstFault}
@@ -41,9 +42,9 @@ HasRecords b s rs = (texts_in b.texts.items ≡ texts rs) × (b.rows.value ≡ b
 abbrev pub IsNextBatch : {R : Type 0} → (R → List Record → Type 0) → ℕ → LogicalType → R → R → RecordBatch → Type 0
 IsNextBatch leaves n s before after b = (rs : List Record) × AreNext leaves n before after b.stop rs × HasRecords b s rs × IsBatch s (rows rs) × (length rs ≤ n)
 
--- the answers are the texts of the next records, and what the expression means at them
+-- the answers are of the next records, each of them of the type s, and say what the expression means at them
 abbrev pub AreAnswers : {R : Type 0} → (R → List Record → Type 0) → ℕ → Tree → LogicalType → R → R → Answers → Type 0
-AreAnswers leaves n e s before after a = (rs : List Record) × AreNext leaves n before after a.stop rs × (texts_in a.texts.items ≡ texts rs) × (a.values.rows ≡ meanings e s rs)
+AreAnswers leaves n e s before after a = (rs : List Record) × AreNext leaves n before after a.batch.stop rs × HasRecords a.batch s rs × (a.values.rows ≡ meanings e s rs)
 
 -- the values in a slice
 abbrev pub values_in : List Value → List Datum
@@ -66,6 +67,24 @@ line_if_true v s = if is_true v then s ++ 10 ∷ [] else []
 abbrev pub true_lines : List (List ℕ) → List Datum → ℕ → List ℕ
 true_lines ts vs zero = []
 true_lines ts vs (suc n) = true_lines ts vs n ++ line_if_true (get_or vs n null) (get_or ts n [])
+
+-- the row, where the value is true
+abbrev pub row_if_true : Datum → Datum → List Datum
+row_if_true v u = if is_true v then u ∷ [] else []
+
+-- of the first n rows those beside which stands true
+abbrev pub true_rows : List Datum → List Datum → ℕ → List Datum
+true_rows us vs zero = []
+true_rows us vs (suc n) = true_rows us vs n ++ row_if_true (get_or vs n null) (get_or us n null)
+
+-- of the next records, n of them at most, the batch has the rows of those of which the expression is true
+abbrev pub IsKeptBatch : {R : Type 0} → (R → List Record → Type 0) → ℕ → Tree → LogicalType → R → R → KeptBatch → Type 0
+IsKeptBatch leaves n e s before after b = (rs : List Record) × AreNext leaves n before after b.stop rs × (b.rows.value ≡ batch s (rows (kept e s rs))) × (b.read ≡ length rs)
+
+-- the kept batch has the rows beside which stands true, says how many records were read, and what stopped reading
+abbrev pub IsKeptOf : Answers → KeptBatch → Type 0
+IsKeptOf a b = (b.rows.value ≡ batch a.batch.rows.value.type (true_rows a.batch.rows.value.rows a.values.rows (length a.batch.rows.value.rows)))
+    × (b.read ≡ length a.batch.texts.items) × (b.stop ≡ a.batch.stop)
 
 -- each of the texts on a line
 abbrev pub each_line : List (List ℕ) → List ℕ

@@ -1,14 +1,16 @@
 -- How going over records ends.
 use Rattle.std.specs.Prelude.{◌≡◌, ◌<◌, ◌≤◌, ◌++◌, ℕ, List, length, take, Option, Some, None, ⊤}
 use Rattle.std.specs.Io.KnownBytes.{Appends}
-use Rattle.vx_value.specs.Types.{Datum}
+use Rattle.vx_value.specs.Types.{Datum, LogicalType}
 use Rattle.vx_tree.specs.Faults.{HasNoFault}
-use Rattle.vx_tree.specs.Trees.{BoundTree}
+use Rattle.vx_tree.specs.Trees.{BoundTree, unbound}
 use Rattle.vx_places.specs.Faults.{IsFirstFault}
 use Rattle.vx_records.specs.Reading.{Reads, ReadsUpTo}
-use Rattle.vx_records.specs.Records.{Record, rows}
+use Rattle.vx_records.specs.Records.{Record, kept, rows}
 use Rattle.vx_records.specs.declared.error.RecordFault.{RecordFault}
 use Rattle.vx_records.specs.declared.error.RecordsError.{RecordsError}
+use Rattle.vx_records.specs.declared.error.SelectError.{SelectError}
+use Rattle.vx_records.specs.declared.error.SelectError.TheVariants.{Kept, Selected}
 use Rattle.vx_records.specs.declared.error.RecordsError.TheVariants.{OutOfMemory, Data, Fault, Write}
 
 -- known rows grow by these
@@ -35,6 +37,11 @@ Stops {R = R} leaves b before (Fault f) Wrote Broke = (mid : R) × (done rs : Li
 Stops {R = R} leaves b before (Write e) Wrote Broke = (mid : R) × (rs : List Record) × Reads (leaves before) (leaves mid) rs × Broke rs
 Stops {R = R} leaves b before OutOfMemory Wrote Broke = (mid : R) × (rs : List Record) × Reads (leaves before) (leaves mid) rs × Wrote rs
 Stops {R = R} leaves b before (Data e) Wrote Broke = (mid : R) × (rs : List Record) × Reads (leaves before) (leaves mid) rs × Wrote rs
+
+-- where the tree v of what is kept faults, it does on what the tree c keeps of the records read together behind those that were gone over; else the end is one of going over the records by the tree c
+abbrev pub StopsSelecting : {R : Type 0} → (R → List Record → Type 0) → BoundTree → BoundTree → LogicalType → R → SelectError → (List Record → Type 0) → Type 0
+StopsSelecting {R = R} leaves c v s before (Selected f) Wrote = (mid : R) × (done rs : List Record) × Reads (leaves before) (leaves mid) (done ++ rs) × Wrote done × IsFaultOn v (kept (unbound c) s rs) f
+StopsSelecting {R = R} leaves c v s before (Kept e) Wrote = Stops leaves c before e Wrote (λ rs. Unit {0})
 
 -- the tree faults on no n of the records, or fewer, that stand one behind the other
 abbrev pub NeverFaults : ℕ → BoundTree → List Record → Type 0

@@ -1,5 +1,5 @@
 -- Records, what an expression means at them, and those of which it is true.
-use Rattle.std.specs.Prelude.{◌++◌, ℕ, List, [], ◌∷◌, map, Bool}
+use Rattle.std.specs.Prelude.{◌++◌, ℕ, List, [], ◌∷◌, map, Bool, count_by}
 use Rattle.std.specs.List.{filter, flat_map}
 use Rattle.vx_value.specs.Types.{LogicalType, Datum}
 use Rattle.vx_value.specs.Views.{value_of}
@@ -36,6 +36,14 @@ meanings e s rs = map (λ (r : Record). mean e s r.row) rs
 -- whether the expression is true of the record
 abbrev pub holds : Tree → LogicalType → Record → Bool
 holds e s r = is_true (mean e s r.row)
+
+-- the records of which the expression is true, in order
+abbrev pub kept : Tree → LogicalType → List Record → List Record
+kept e s rs = filter (holds e s) rs
+
+-- how many these are
+abbrev pub kept_count : Tree → LogicalType → List Record → ℕ
+kept_count e s rs = count_by (holds e s) rs
 
 -- the record as it stands, on a line
 abbrev pub record_line : Record → List ℕ

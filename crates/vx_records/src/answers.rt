@@ -14,13 +14,11 @@ use vx_places::first_fault_at;
 use vx_tree::BoundExpression;
 use vx_types::Column;
 
-/// Records that were read together, what an expression means at them, and what stopped reading, if
-/// something did.
+/// Records that were read together, and what an expression means at them.
 #[derive(Drop)]
 pub(crate) struct Answers {
-    pub(crate) texts: Vec<Vec<u8>>,
+    pub(crate) batch: RecordBatch,
     pub(crate) values: Column,
-    pub(crate) stop: Option<DataError>,
 }
 
 /// Reads up to so many records, and says what the tree means at them.
@@ -36,21 +34,9 @@ pub(crate) fn next_answers<R: RecordReader>(
     ensures scope { R.scope records.new ≡ R.scope records.old }
     ensures fault { IfErr result (λ e. IsFaultThere R.leaves (bound_of tree.now) records.old e) }
 {
-    let RecordBatch {
-        texts,
-        rows,
-        lines,
-        stop,
-    } = next_batch(alloc, count, records)?;
-    match values_of(alloc, tree, &rows, lines.as_slice()) {
-        Ok(values) => {
-            let answers = Answers {
-                texts,
-                values,
-                stop,
-            };
-            Ok(Box::new(alloc, answers)?)
-        }
+    let batch = next_batch(alloc, count, records)?;
+    match values_of(alloc, tree, &batch.rows, batch.lines.as_slice()) {
+        Ok(values) => Ok(Box::new(alloc, Answers { batch, values })?),
         Err(e) => Err(e),
     }
 }
@@ -94,10 +80,11 @@ fn first_fault(alloc: Global, tree: &BoundExpression, batch: &Column, lines: &[u
 /// Whether the records that were read are the last, where so many were asked for. Refuses with what
 /// stopped reading, if something did.
 pub(crate) fn ended(answers: Box<Answers>, count: usize) -> Result<bool, RecordsError>
-    ensures ok { IfOk result (λ last. IsLast answers.value.stop (length answers.value.texts.items) count last) }
+    ensures ok { IfOk result (λ last. IsLast answers.value.batch.stop (length answers.value.batch.texts.items) count last) }
     ensures err { IfErr result (λ e. IsNoFault e) }
 {
-    let Answers { texts, stop, .. } = Box::into_inner(answers);
+    let Answers { batch, .. } = Box::into_inner(answers);
+    let RecordBatch { texts, stop, .. } = batch;
     are_last(texts.len(), stop, count)
 }
 

@@ -20,6 +20,15 @@ pub enum RecordsError {
     Write(WriteError),
 }
 
+/// Why what is selected of the records that are kept isn't written of all.
+#[derive(Debug, Drop)]
+pub enum SelectError {
+    /// Going over the records stopped, or writing.
+    Kept(RecordsError),
+    /// What is selected faults on the records that are kept.
+    Selected(RecordFault),
+}
+
 /// The first fault of an expression on records that were read together.
 #[derive(Debug, Drop)]
 pub struct RecordFault {

@@ -7,7 +7,8 @@ ghost use Rattle.vx_records.specs.Outcomes.{EndsRecords, Gains, Stops};
 ghost use Rattle.vx_records.specs.Records.{meanings};
 
 use crate::answers::{ended, next_answers};
-use crate::{CHUNK, RecordReader, RecordsError};
+use crate::portions::{Portion, in_portions};
+use crate::{RecordReader, RecordsError};
 use std::alloc::Global;
 use vx_data::WriteError;
 use vx_tree::BoundExpression;
@@ -54,16 +55,32 @@ pub fn evaluate_records<R: RecordReader, W: RowWriter>(
     if let Err(e) = out.begin(alloc, tree.dtype()) {
         return Err(RecordsError::Write(e));
     }
-    let mut left = limit;
-    while left > 0 {
-        let count = left.min(CHUNK);
-        match evaluate_some(alloc, tree, count as usize, records, out) {
-            Ok(true) => return Ok(()),
-            Ok(false) => left -= count,
-            Err(e) => return Err(e),
-        }
+    in_portions(alloc, &Evaluated { tree }, limit, records, out)
+}
+
+// What a tree means at records.
+#[derive(Clone, Copy)]
+struct Evaluated<'a> {
+    tree: &'a BoundExpression,
+}
+
+impl<R: RecordReader, W: RowWriter> Portion<R, W, RecordsError> for Evaluated<'_> {
+    ghost asks = { λ f s. WellTyped (bound_of f.tree.now) × Over (bound_of f.tree.now) s };
+
+    ghost writes = { λ f s a b rs. Gains (W.written a) (W.written b) (meanings (unbound (bound_of f.tree.now)) s rs) };
+
+    ghost stops = { λ f s before a b e. Stops R.leaves (bound_of f.tree.now) before e
+        (λ rs. Gains (W.written a) (W.written b) (meanings (unbound (bound_of f.tree.now)) s rs)) (λ rs. Unit {0}) };
+
+    fn go_over(
+        &self,
+        alloc: Global,
+        count: usize,
+        records: &mut R,
+        out: &mut W,
+    ) -> Result<bool, RecordsError> {
+        evaluate_some(alloc, self.tree, count, records, out)
     }
-    Ok(())
 }
 
 // The same of so many records. Tells whether they were the last.

@@ -9,8 +9,9 @@ ghost use Rattle.vx_records.specs.Records.{kept_lines};
 
 use crate::answers::{ended, next_answers};
 use crate::lines::lines_of;
+use crate::portions::{Portion, in_portions};
 use crate::writing::write_text;
-use crate::{CHUNK, RecordReader, RecordsError};
+use crate::{RecordReader, RecordsError};
 use std::alloc::Global;
 use std::io::Write;
 use vx_tree::BoundExpression;
@@ -40,16 +41,33 @@ pub fn filter_records<R: RecordReader, W: Write>(
         (λ rs. Breaks (W.contents out.old) (W.contents out.new) (R.head records.old ++ kept_lines (unbound (bound_of tree.now)) (R.scope records.old) rs))) }
 {
     write_text(out, records.heading())?;
-    let mut left = limit;
-    while left > 0 {
-        let count = left.min(CHUNK);
-        match filter_some(alloc, tree, count as usize, records, out) {
-            Ok(true) => return Ok(()),
-            Ok(false) => left -= count,
-            Err(e) => return Err(e),
-        }
+    in_portions(alloc, &Filtered { tree }, limit, records, out)
+}
+
+// The records of which a tree is true.
+#[derive(Clone, Copy)]
+struct Filtered<'a> {
+    tree: &'a BoundExpression,
+}
+
+impl<R: RecordReader, W: Write> Portion<R, W, RecordsError> for Filtered<'_> {
+    ghost asks = { λ f s. WellTyped (bound_of f.tree.now) × Over (bound_of f.tree.now) s };
+
+    ghost writes = { λ f s a b rs. Appends (W.contents a) (W.contents b) (kept_lines (unbound (bound_of f.tree.now)) s rs) };
+
+    ghost stops = { λ f s before a b e. Stops R.leaves (bound_of f.tree.now) before e
+        (λ rs. Appends (W.contents a) (W.contents b) (kept_lines (unbound (bound_of f.tree.now)) s rs))
+        (λ rs. Breaks (W.contents a) (W.contents b) (kept_lines (unbound (bound_of f.tree.now)) s rs)) };
+
+    fn go_over(
+        &self,
+        alloc: Global,
+        count: usize,
+        records: &mut R,
+        out: &mut W,
+    ) -> Result<bool, RecordsError> {
+        filter_some(alloc, self.tree, count, records, out)
     }
-    Ok(())
 }
 
 // The same of so many records and without a heading. Tells whether they were the last.
@@ -73,7 +91,7 @@ fn filter_some<R: RecordReader, W: Write>(
         Ok(answers) => answers,
         Err(e) => return Err(e),
     };
-    let lines = match lines_of(alloc, answers.texts.as_slice(), answers.values.rows()) {
+    let lines = match lines_of(alloc, answers.batch.texts.as_slice(), answers.values.rows()) {
         Ok(lines) => lines,
         Err(_) => return Err(RecordsError::OutOfMemory),
     };

@@ -1,30 +1,50 @@
-// Files of JSON lines as records.
+// Files of JSON as records.
 ghost use Rattle.std.specs.Prelude.{◌≡◌, []};
 ghost use Rattle.vx_value.specs.Views.{type_of};
 
 use crate::{Record, RecordReader};
 use std::alloc::Global;
 use std::io::BufRead;
-use vx_data::{DataError, JsonLines, JsonParser};
+use vx_data::{DataError, JsonFile, JsonFormat, JsonParser, OtherFields};
 use vx_types::DType;
 
-/// The records of a file of JSON lines, one a line, as rows of a type. In memory is one line.
+/// The records of a file of JSON as rows of a type. In memory is one record.
 #[derive(Drop)]
 pub struct JsonRecords<R> {
     dtype: DType,
-    lines: JsonLines<R>,
+    file: JsonFile<R>,
     parser: JsonParser,
 }
 
 impl<R: BufRead> JsonRecords<R> {
-    /// The records of that type, of which none is read yet. Takes no memory.
+    /// The records of that type, one a line, of which none is read yet. Takes no memory.
     pub fn new(alloc: Global, dtype: DType, reader: R) -> JsonRecords<R>
+        ensures { type_of result.dtype ≡ type_of dtype }
+    {
+        JsonRecords::with_format(alloc, dtype, JsonFormat::default(), reader)
+    }
+
+    /// The same of a file of that format.
+    pub fn with_format(alloc: Global, dtype: DType, format: JsonFormat, reader: R) -> JsonRecords<R>
+        ensures { type_of result.dtype ≡ type_of dtype }
+    {
+        JsonRecords::with_others(alloc, dtype, format, OtherFields::Refused, reader)
+    }
+
+    /// The same, where that becomes of fields that the type doesn't have.
+    pub fn with_others(
+        alloc: Global,
+        dtype: DType,
+        format: JsonFormat,
+        others: OtherFields,
+        reader: R,
+    ) -> JsonRecords<R>
         ensures { type_of result.dtype ≡ type_of dtype }
     {
         JsonRecords {
             dtype,
-            lines: JsonLines::new(alloc, reader),
-            parser: JsonParser::new(alloc),
+            file: JsonFile::new(alloc, reader, format),
+            parser: JsonParser::with_others(alloc, format, others),
         }
     }
 }
@@ -46,12 +66,12 @@ impl<R: BufRead> RecordReader for JsonRecords<R> {
     }
 
     fn read(&mut self, alloc: Global) -> Result<Option<Record>, DataError> {
-        if !self.lines.read_record()? {
+        if !self.file.read_record()? {
             return Ok(None);
         }
-        let line = self.lines.line();
-        let row = self.parser.parse(&self.dtype, line, self.lines.record())?;
-        let text = Vec::from_slice(alloc, self.lines.record())?;
+        let line = self.file.line();
+        let row = self.parser.parse(&self.dtype, line, self.file.record())?;
+        let text = Vec::from_slice(alloc, self.file.record())?;
         Ok(Some(Record { text, row, line }))
     }
 }

@@ -1,5 +1,6 @@
 // The fields of a type whose cells have dotted names.
-use crate::csv_files::header::named;
+use crate::csv_files::header::{fault_at, named};
+use crate::expected::Expected;
 use crate::fault::Fault;
 use std::alloc::Global;
 use std::collections::HashMap;
@@ -31,17 +32,44 @@ pub(crate) struct Branches {
     index: HashMap<FieldName, usize>,
 }
 
-/// The fields whose dotted names these are; or where one is both a cell and the way to others, a field of each name. No
-/// name stands there twice. Time is linear in the names.
-pub(crate) fn branches_of(alloc: Global, names: &[FieldName]) -> Result<Vec<Branch>, Fault> {
+/// The fields whose dotted names these are. Where no name has to lead to a field of a field, each name is rather a field of
+/// its own unless all read as paths, of which none is both a cell and the way to others. Refuses such a one where names have
+/// to lead. No name stands there twice. Time is linear in the names.
+pub(crate) fn branches_of(
+    alloc: Global,
+    names: &[FieldName],
+    nested: bool,
+) -> Result<Vec<Branch>, Fault> {
+    if !nested && !names.iter().all(|name| reads_as_path(name.as_str())) {
+        return cells_of(alloc, names);
+    }
     let mut branches = Branches::new(alloc);
     for (place, name) in names.iter().enumerate() {
         let parts: Vec<&str> = name.as_str().split('.').collect(alloc)?;
         if !grow(alloc, &mut branches, parts.as_slice(), place)? {
+            if nested {
+                return Err(fault_at(alloc, Expected::CellOrStruct, name.as_str()));
+            }
             return cells_of(alloc, names);
         }
     }
     Ok(branches.all)
+}
+
+// Whether the dots in a name, if it has some, stand between words, of which the first doesn't begin with a digit.
+fn reads_as_path(name: &str) -> bool {
+    if !name.contains('.') {
+        return true;
+    }
+    !name.starts_with(|first: char| first.is_ascii_digit()) && name.split('.').all(is_word)
+}
+
+// Whether the text is of letters, digits and underscores.
+fn is_word(part: &str) -> bool {
+    !part.is_empty()
+        && part
+            .chars()
+            .all(|each| each == '_' || each.is_alphanumeric())
 }
 
 // A cell of each name.

@@ -18,17 +18,20 @@ pub(crate) struct Found<'a> {
 }
 
 impl<'a> Found<'a> {
-    // The cell of that number, which is empty where the record has none.
-    fn cell(&self, cell: usize) -> &'a [u8] {
+    // The cell of that number, if the record has one.
+    fn cell(&self, cell: usize) -> Option<&'a [u8]> {
         match self.places.get(cell) {
-            Some(Some(place)) => self.record.get(*place).unwrap_or(&[]),
-            _ => &[],
+            Some(Some(place)) => self.record.get(*place),
+            _ => None,
         }
     }
 
-    // Whether a cell of that text is null where it may be.
-    fn is_null(&self, text: &[u8]) -> bool {
-        text.is_empty() || self.null == Some(text)
+    // Whether a cell is null where it may be: of that text, or one that the record lacks.
+    fn is_null(&self, text: Option<&[u8]>) -> bool {
+        match text {
+            Some(text) => text.is_empty() || self.null == Some(text),
+            None => true,
+        }
     }
 
     // Whether the cells from one number up to another are all null where they may be.
@@ -83,6 +86,9 @@ fn cell_value(
     if dtype.is_nullable() && found.is_null(text) {
         return Ok(Value::Null);
     }
+    let Some(text) = text else {
+        return Err(Fault::new(alloc, Expected::Present));
+    };
     match str::from_utf8(text) {
         Ok(text) => text_value(alloc, dtype, text),
         Err(_) => Err(Fault::new(alloc, Expected::Utf8)),

@@ -64,10 +64,10 @@ fn kind_of(text: &str) -> Kind {
     }
 }
 
-// Whether the text of a number is the one that is written of it: `007` and `+7` aren't, and may be more than numbers.
+// Whether the text of a number is one that is written of it: `007` and `+7` aren't, and may be more than numbers.
 fn is_plain(text: &str) -> bool {
     let digits = text.strip_prefix('-').unwrap_or(text);
-    text == "0" || !digits.starts_with(['0', '+'])
+    digits == "0" || !digits.starts_with(['0', '+'])
 }
 
 fn joined(kind: Kind, other: Kind) -> Kind {

@@ -10,18 +10,17 @@ use crate::csv_files::records::CsvRecords;
 use crate::error::DataError;
 use crate::expected::Expected;
 use crate::fault::Fault;
+use crate::guessing::Guessing;
 use csv::ByteRecord;
 use std::alloc::{AllocError, Global};
 use std::io::Read;
 use std::str;
 use vx_types::{DType, FieldName, FieldNames, Nullability, StructFields, VortexResult};
 
-// So many records are looked at.
-const RECORDS: usize = 1_000;
-
 /// The narrowest type of the first 1,000 records behind the header, fewer where there are no more: a struct of its names in
-/// their order, in which a name with dots leads to a field of a field, unless some name is both a cell and the way to others:
-/// then each is a field of that name. A cell that is always `true` or `false` is
+/// their order, in which a name with dots leads to a field of a field, if in all such names the dots stand between words of
+/// letters, digits and `_`, of which the first doesn't begin with a digit, and no name is both a cell and the way to others;
+/// else each is a field of that name. A cell that is always `true` or `false` is
 /// `bool`; one that is always a whole number as it is written, `i64`, or `u64` where one is above the range of `i64`; any
 /// other `utf8`, also one that has no text at all. It is nullable where some record lacks it or has an empty one; no struct
 /// is. Refuses a file without a header, a name that stands there twice, a cell that is no text in UTF-8, a record of more cells than the header, each with its line; with the reader's error; and with
@@ -37,23 +36,49 @@ pub fn infer_csv_type_with<R: Read + Drop>(
     format: CsvFormat<'_>,
     reader: R,
 ) -> Result<DType, DataError> {
+    infer_csv_type_by(alloc, format, Guessing::default(), reader)
+}
+
+/// The same, guessed so. Of the fields whose types are said, the type is guessed all the same.
+pub fn infer_csv_type_by<R: Read + Drop>(
+    alloc: Global,
+    format: CsvFormat<'_>,
+    guessing: Guessing<'_>,
+    reader: R,
+) -> Result<DType, DataError> {
     let mut records = CsvRecords::with_format(alloc, reader, format);
     records.read_first()?;
-    let (branches, mut guesses) = match fields_of(alloc, records.cells(), format.has_header) {
+    let (branches, mut guesses) = match fields_of(alloc, records.cells(), format, guessing.nested) {
         Ok(fields) => fields,
         Err(fault) => return Err(fault.on_line(alloc, records.line())),
     };
-    for _ in 0..RECORDS {
-        if !records.read_record()? {
-            break;
-        }
-        if let Err(fault) = see_record(alloc, records.cells(), format.null, &mut guesses) {
-            return Err(fault.on_line(alloc, records.line()));
+    for _ in 0..guessing.records {
+        match seen(alloc, &mut records, format.null, &mut guesses) {
+            Ok(true) => {}
+            Ok(false) => break,
+            Err(DataError::Unexpected { .. }) if guessing.skips => {}
+            Err(e) => return Err(e),
         }
     }
     match struct_of(&branches, alloc, guesses.as_slice()) {
         Ok(dtype) => Ok(dtype),
         Err(_) => Err(DataError::OutOfMemory),
+    }
+}
+
+// Sees the next record, and tells whether there is one.
+fn seen<R: Read + Drop>(
+    alloc: Global,
+    records: &mut CsvRecords<R>,
+    null: Option<&str>,
+    guesses: &mut Vec<NamedGuess>,
+) -> Result<bool, DataError> {
+    if !records.read_record()? {
+        return Ok(false);
+    }
+    match see_record(alloc, records.cells(), null, guesses) {
+        Ok(()) => Ok(true),
+        Err(fault) => Err(fault.on_line(alloc, records.line())),
     }
 }
 
@@ -68,13 +93,14 @@ struct NamedGuess {
 fn fields_of(
     alloc: Global,
     first: &ByteRecord,
-    has_header: bool,
+    format: CsvFormat<'_>,
+    nested: bool,
 ) -> Result<(Vec<Branch>, Vec<NamedGuess>), Fault> {
-    let names = listed(alloc, cell_names(alloc, first, has_header)?)?;
+    let names = listed(alloc, cell_names(alloc, first, format.has_header)?)?;
     if let Some(name) = first_repeated(&names) {
         return Err(fault_at(alloc, Expected::Once, name.as_str()));
     }
-    let branches = branches_of(alloc, names.as_slice())?;
+    let branches = branches_of(alloc, names.as_slice(), nested)?;
     let mut guesses = Vec::with_capacity(alloc, names.len())?;
     for name in names.iter() {
         let guess = CellGuess::new();

@@ -6,9 +6,10 @@ use crate::csv_files::plan::{Cells, FieldPlan, Plan, first_repeated, listed};
 use crate::error::DataError;
 use crate::expected::Expected;
 use crate::fault::Fault;
+use crate::other_fields::OtherFields;
 use csv::ByteRecord;
 use std::alloc::{AllocError, Global};
-use vx_types::{DType, FieldNames, Value};
+use vx_types::{DType, FieldName, FieldNames, Value};
 
 /// Reads the records behind a header as values of a type.
 #[derive(Debug, Drop)]
@@ -45,16 +46,28 @@ impl CsvParser {
         first: &ByteRecord,
         format: CsvFormat<'_>,
     ) -> Result<CsvParser, DataError> {
-        match parser_of(alloc, dtype, first, format) {
+        CsvParser::with_others(alloc, dtype, line, first, format, OtherFields::Refused)
+    }
+
+    /// The same, where that becomes of cells whose names are none of the type.
+    pub fn with_others(
+        alloc: Global,
+        dtype: &DType,
+        line: u64,
+        first: &ByteRecord,
+        format: CsvFormat<'_>,
+        others: OtherFields,
+    ) -> Result<CsvParser, DataError> {
+        match parser_of(alloc, dtype, first, format, others) {
             Ok(parser) => Ok(parser),
             Err(fault) => Err(fault.on_line(alloc, line)),
         }
     }
 
-    /// The value that the record on that line is, in which the cells are empty that it lacks at its end: an empty cell is
-    /// null where its type is nullable, and a struct whose cells are all empty where that is; else `true`, `false`, a whole number of the type's range, a text, or bytes as `0x`
-    /// and two digits each. Refuses with the line, the path of the field, and what is expected there, and with
-    /// `OutOfMemory`.
+    /// The value that the record on that line is: a cell that is empty, or that the record lacks at its end, is null where its
+    /// type is nullable, and a struct all of whose cells are so where that is; else `true`, `false`, a whole number of the
+    /// type's range, a text, or bytes as `0x` and two digits each. Refuses with the line, the path of the field, and what is
+    /// expected there, and with `OutOfMemory`.
     pub fn parse(&self, line: u64, record: &ByteRecord) -> Result<Value, DataError> {
         let found = Found {
             record,
@@ -73,10 +86,11 @@ fn parser_of(
     dtype: &DType,
     first: &ByteRecord,
     format: CsvFormat<'_>,
+    others: OtherFields,
 ) -> Result<CsvParser, Fault> {
     let Cells { plan, names } = Cells::of(alloc, dtype)?;
     let header = listed(alloc, cell_names(alloc, first, format.has_header)?)?;
-    check_header(alloc, &header, &names)?;
+    check_header(alloc, &header, &names, others)?;
     let places = places_of(alloc, &names, &header)?;
     check_present(&plan, alloc, places.as_slice())?;
     let null = match format.null {
@@ -91,15 +105,32 @@ fn parser_of(
     })
 }
 
-// Refuses the first name of the header that stands there twice, or is none of the type's.
-fn check_header(alloc: Global, header: &FieldNames, names: &FieldNames) -> Result<(), Fault> {
+// Refuses the first name of the header that stands there twice, or is none of the type's. Where such may stand there, the
+// first of the type's is refused that the header lacks beside them.
+fn check_header(
+    alloc: Global,
+    header: &FieldNames,
+    names: &FieldNames,
+    others: OtherFields,
+) -> Result<(), Fault> {
     if let Some(name) = first_repeated(header) {
         return Err(fault_at(alloc, Expected::Once, name.as_str()));
     }
-    match header.iter().find(|name| !names.contains(name)) {
-        Some(name) => Err(fault_at(alloc, Expected::Field, name.as_str())),
-        None => Ok(()),
+    let Some(other) = first_lacked(header, names) else {
+        return Ok(());
+    };
+    match (others, first_lacked(names, header)) {
+        (OtherFields::Refused, _) => Err(fault_at(alloc, Expected::Field, other.as_str())),
+        (OtherFields::PassedOver, Some(name)) => {
+            Err(fault_at(alloc, Expected::InHeader, name.as_str()))
+        }
+        (OtherFields::PassedOver, None) => Ok(()),
     }
+}
+
+// The first of the names that isn't among the others.
+fn first_lacked<'a>(names: &'a FieldNames, others: &FieldNames) -> Option<&'a FieldName> {
+    names.iter().find(|name| !others.contains(name))
 }
 
 // For each name where it stands in the header.

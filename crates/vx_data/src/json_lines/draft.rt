@@ -57,24 +57,20 @@ impl Draft {
 // Up to so many names are compared one after another.
 pub(crate) const FEW: usize = 16;
 
-/// The index of the first field of that name, which may be the guessed one.
+/// The index of the first field of that name, if there is one. It may be the guessed one.
 pub(crate) fn place_of(
     alloc: Global,
     names: &FieldNames,
     name: &str,
     guess: usize,
-) -> Result<usize, Fault> {
+) -> Result<Option<usize>, Fault> {
     if names.get(guess).is_some_and(|found| found.as_str() == name) {
-        return Ok(guess);
+        return Ok(Some(guess));
     }
-    let found = if names.len() <= FEW {
-        names.iter().position(|found| found.as_str() == name)
+    if names.len() <= FEW {
+        Ok(names.iter().position(|found| found.as_str() == name))
     } else {
-        names.find(&named(alloc, name)?)
-    };
-    match found {
-        Some(i) => Ok(i),
-        None => Err(Fault::new(alloc, Expected::Field).within(&named(alloc, name)?)),
+        Ok(names.find(&named(alloc, name)?))
     }
 }
 

@@ -26,6 +26,7 @@ pub(crate) enum Shape {
     Unknown,
     Truth,
     Whole(Wholes),
+    /// Texts, and numbers that are read as their texts.
     Text,
     List(Box<Guess>),
     Struct(FieldGuesses),
@@ -75,7 +76,7 @@ impl Guess {
     pub(crate) fn see_text(&mut self, alloc: Global) -> Result<(), Fault> {
         match self.shape {
             Shape::Text => Ok(()),
-            Shape::Unknown => {
+            Shape::Unknown | Shape::Whole(_) => {
                 self.shape = Shape::Text;
                 Ok(())
             }
@@ -83,23 +84,21 @@ impl Guess {
         }
     }
 
-    /// A number of that text was seen.
+    /// A number of that text was seen. It stands for its text where no type has it and the numbers before, or where
+    /// there was a text.
     pub(crate) fn see_number(&mut self, alloc: Global, text: &str) -> Result<(), Fault> {
-        let Some(number) = Wholes::of(text) else {
-            return Err(Fault::new(alloc, Expected::WholeOfAnyType));
-        };
+        let number = Wholes::of(text);
         let numbers = match self.shape {
-            Shape::Unknown => Some(number),
-            Shape::Whole(before) => before.and(number),
-            _ => None,
+            Shape::Unknown => number,
+            Shape::Whole(before) => number.and_then(|number| before.and(number)),
+            Shape::Text => None,
+            _ => return Err(Fault::new(alloc, Expected::SameKind)),
         };
-        match numbers {
-            Some(numbers) => {
-                self.shape = Shape::Whole(numbers);
-                Ok(())
-            }
-            None => Err(Fault::new(alloc, Expected::SameKind)),
-        }
+        self.shape = match numbers {
+            Some(numbers) => Shape::Whole(numbers),
+            None => Shape::Text,
+        };
+        Ok(())
     }
 
     /// The items of lists, of which one more was seen.

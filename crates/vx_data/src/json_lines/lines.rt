@@ -7,9 +7,11 @@ use std::io::BufRead;
 /// memory is one line.
 #[derive(Drop)]
 pub struct JsonLines<R> {
-    reader: R,
-    bytes: Vec<u8>,
-    line: u64,
+    pub(super) reader: R,
+    pub(super) bytes: Vec<u8>,
+    pub(super) line: u64,
+    // Whether the bytes begin the next line.
+    pub(super) is_begun: bool,
 }
 
 impl<R: BufRead> JsonLines<R> {
@@ -19,6 +21,7 @@ impl<R: BufRead> JsonLines<R> {
             reader,
             bytes: Vec::new(alloc),
             line: 0,
+            is_begun: false,
         }
     }
 
@@ -26,8 +29,12 @@ impl<R: BufRead> JsonLines<R> {
     /// `OutOfMemory`.
     pub fn read_record(&mut self) -> Result<bool, DataError> {
         for _ in self.line..u64::MAX {
-            self.bytes.clear();
-            if self.reader.read_until(b'\n', &mut self.bytes)? == 0 {
+            if !self.is_begun {
+                self.bytes.clear();
+            }
+            self.is_begun = false;
+            self.reader.read_until(b'\n', &mut self.bytes)?;
+            if self.bytes.is_empty() {
                 return Ok(false);
             }
             self.line = self.line.saturating_add(1);

@@ -5,8 +5,10 @@ use crate::cells::{bytes_of, text_of, whole_of};
 use crate::error::DataError;
 use crate::expected::Expected;
 use crate::fault::Fault;
-use crate::json_lines::draft::{Draft, place_of};
-use crate::json_lines::tokens::{end, next_name, no_json, reader_of};
+use crate::json_lines::draft::{Draft, named, place_of};
+use crate::json_lines::format::JsonFormat;
+use crate::json_lines::tokens::{DEPTH, end, next_name, no_json, reader_of, skip};
+use crate::other_fields::OtherFields;
 use json::{Reader, Scratch, Token};
 use std::alloc::Global;
 use vx_types::{DType, StructFields, Value};
@@ -14,15 +16,40 @@ use vx_types::{DType, StructFields, Value};
 /// Reads records as values. It keeps the memory that texts with escapes need.
 #[derive(Drop)]
 pub struct JsonParser {
-    alloc: Global,
+    reading: Reading,
     scratch: Scratch,
+}
+
+// How values are read.
+#[derive(Clone, Copy, Drop)]
+struct Reading {
+    alloc: Global,
+    // Whether a number is its text where a text is expected.
+    number_texts: bool,
+    others: OtherFields,
 }
 
 impl JsonParser {
     /// A parser that read nothing yet. Takes no memory.
     pub fn new(alloc: Global) -> JsonParser {
-        JsonParser {
+        JsonParser::with_format(alloc, JsonFormat::default())
+    }
+
+    /// The same of records of that format: where it says so, a number is its text, as it is written, where a text is
+    /// expected.
+    pub fn with_format(alloc: Global, format: JsonFormat) -> JsonParser {
+        JsonParser::with_others(alloc, format, OtherFields::Refused)
+    }
+
+    /// The same, where that becomes of fields whose names are none of the type.
+    pub fn with_others(alloc: Global, format: JsonFormat, others: OtherFields) -> JsonParser {
+        let reading = Reading {
             alloc,
+            number_texts: format.number_texts,
+            others,
+        };
+        JsonParser {
+            reading,
             scratch: Scratch::new(alloc),
         }
     }
@@ -32,42 +59,43 @@ impl JsonParser {
     /// any order, and be absent where they are nullable. Refuses with the line, the path of the field, and what is
     /// expected there, and with `OutOfMemory`. Time is linear in the record; nesting is the type's.
     pub fn parse(&mut self, dtype: &DType, line: u64, record: &[u8]) -> Result<Value, DataError> {
-        match record_value(self.alloc, dtype, record, &mut self.scratch) {
+        match record_value(self.reading, dtype, record, &mut self.scratch) {
             Ok(value) => Ok(value),
-            Err(fault) => Err(fault.on_line(self.alloc, line)),
+            Err(fault) => Err(fault.on_line(self.reading.alloc, line)),
         }
     }
 }
 
 fn record_value(
-    alloc: Global,
+    reading: Reading,
     dtype: &DType,
     record: &[u8],
     scratch: &mut Scratch,
 ) -> Result<Value, Fault> {
-    let mut reader = reader_of(alloc, record, scratch)?;
-    let value = read_value(alloc, dtype, &mut reader)?;
-    end(alloc, &mut reader)?;
+    let mut reader = reader_of(reading.alloc, record, scratch)?;
+    let value = read_value(reading, dtype, &mut reader)?;
+    end(reading.alloc, &mut reader)?;
     Ok(value)
 }
 
 // The next value, of that type.
 #[cycle(read)]
-fn read_value(alloc: Global, dtype: &DType, reader: &mut Reader<'_>) -> Result<Value, Fault>
+fn read_value(reading: Reading, dtype: &DType, reader: &mut Reader<'_>) -> Result<Value, Fault>
     ensures { OnOk result (length reader.new < length reader.old) }
 {
     match reader.next() {
-        Some(Token::BeginArray) => read_array(alloc, dtype, reader),
-        Some(Token::BeginObject) => read_object(alloc, dtype, reader),
+        Some(Token::BeginArray) => read_array(reading, dtype, reader),
+        Some(Token::BeginObject) => read_object(reading, dtype, reader),
         Some(Token::Key(_) | Token::EndArray | Token::EndObject | Token::Bad) | None => {
-            Err(no_json(alloc, reader))
+            Err(no_json(reading.alloc, reader))
         }
-        Some(token) => flat_value(alloc, dtype, token),
+        Some(token) => flat_value(reading, dtype, token),
     }
 }
 
 // The value of that one token, of that type.
-fn flat_value(alloc: Global, dtype: &DType, token: Token<'_>) -> Result<Value, Fault> {
+fn flat_value(reading: Reading, dtype: &DType, token: Token<'_>) -> Result<Value, Fault> {
+    let alloc = reading.alloc;
     match (dtype, token) {
         (_, Token::Null) => null_value(alloc, dtype),
         (DType::Bool(_), Token::Bool(truth)) => Ok(Value::Bool(truth)),
@@ -76,6 +104,7 @@ fn flat_value(alloc: Global, dtype: &DType, token: Token<'_>) -> Result<Value, F
             None => Err(mismatch(alloc, dtype)),
         },
         (DType::Utf8(_), Token::String(text)) => text_of(alloc, text),
+        (DType::Utf8(_), Token::Number(text)) if reading.number_texts => text_of(alloc, text),
         (DType::Binary(_), Token::String(text)) => bytes_of(alloc, text),
         _ => Err(mismatch(alloc, dtype)),
     }
@@ -105,20 +134,20 @@ fn mismatch(alloc: Global, dtype: &DType) -> Fault {
 
 // The rest of an array, of that type.
 #[cycle(read)]
-fn read_array(alloc: Global, dtype: &DType, reader: &mut Reader<'_>) -> Result<Value, Fault>
+fn read_array(reading: Reading, dtype: &DType, reader: &mut Reader<'_>) -> Result<Value, Fault>
     ensures { OnOk result (length reader.new ≤ length reader.old) }
 {
     match dtype {
-        DType::List(element, _) => read_items(alloc, element.as_ref(), reader),
+        DType::List(element, _) => read_items(reading, element.as_ref(), reader),
         DType::FixedSizeList(element, size, _) => {
-            let items = read_items(alloc, element.as_ref(), reader)?;
+            let items = read_items(reading, element.as_ref(), reader)?;
             if has_items(&items, *size) {
                 Ok(items)
             } else {
-                Err(mismatch(alloc, dtype))
+                Err(mismatch(reading.alloc, dtype))
             }
         }
-        _ => Err(mismatch(alloc, dtype)),
+        _ => Err(mismatch(reading.alloc, dtype)),
     }
 }
 
@@ -131,50 +160,68 @@ fn has_items(list: &Value, size: u32) -> bool {
 
 // The rest of an array, of items of that type.
 #[cycle(read)]
-fn read_items(alloc: Global, element: &DType, reader: &mut Reader<'_>) -> Result<Value, Fault>
+fn read_items(reading: Reading, element: &DType, reader: &mut Reader<'_>) -> Result<Value, Fault>
     ensures { OnOk result (length reader.new ≤ length reader.old) }
 {
-    let mut items = Vec::new(alloc);
-    while !reader.take_end_array() {
-        items.push(read_value(alloc, element, reader)?)?;
+    let mut items = Vec::new(reading.alloc);
+    'items: while !reader.take_end_array() {
+        items.push(read_value(reading, element, reader)?)?;
     }
     Ok(Value::List(items))
 }
 
 // The rest of an object, of that type.
 #[cycle(read)]
-fn read_object(alloc: Global, dtype: &DType, reader: &mut Reader<'_>) -> Result<Value, Fault>
+fn read_object(reading: Reading, dtype: &DType, reader: &mut Reader<'_>) -> Result<Value, Fault>
     ensures { OnOk result (length reader.new ≤ length reader.old) }
 {
     match dtype {
-        DType::Struct(fields, _) => Ok(Value::Struct(read_fields(alloc, fields, reader)?)),
-        _ => Err(mismatch(alloc, dtype)),
+        DType::Struct(fields, _) => Ok(Value::Struct(read_fields(reading, fields, reader)?)),
+        _ => Err(mismatch(reading.alloc, dtype)),
     }
 }
 
 // The rest of an object of those fields, which may come in any order.
 #[cycle(read)]
 fn read_fields(
-    alloc: Global,
+    reading: Reading,
     fields: &StructFields,
     reader: &mut Reader<'_>,
 ) -> Result<Vec<Value>, Fault>
     ensures { OnOk result (length reader.new ≤ length reader.old) }
 {
+    let alloc = reading.alloc;
     let mut draft = Draft::new(alloc, fields.nfields())?;
     let mut next = 0;
-    while let Some(name) = next_name(alloc, reader)? {
-        let i = place_of(alloc, fields.names(), name, next)?;
-        read_field(alloc, fields, i, &mut draft, reader)?;
-        next = i.saturating_add(1);
+    'fields: while let Some(name) = next_name(alloc, reader)? {
+        match place_of(alloc, fields.names(), name, next)? {
+            Some(i) => {
+                read_field(reading, fields, i, &mut draft, reader)?;
+                next = i.saturating_add(1);
+            }
+            None => read_other(reading, name, reader)?,
+        }
     }
     draft.finish(alloc, fields)
+}
+
+// Passes over the value of a field of that name, which the type doesn't have, if that may be.
+fn read_other(reading: Reading, name: &str, reader: &mut Reader<'_>) -> Result<(), Fault>
+    ensures { OnOk result (length reader.new ≤ length reader.old) }
+{
+    let alloc = reading.alloc;
+    match reading.others {
+        OtherFields::Refused => Err(Fault::new(alloc, Expected::Field).within(&named(
+            alloc, name,
+        )?)),
+        OtherFields::PassedOver => skip(alloc, DEPTH, reader),
+    }
 }
 
 // The value of the field of that index.
 #[cycle(read)]
 fn read_field(
-    alloc: Global,
+    reading: Reading,
     fields: &StructFields,
     i: usize,
     draft: &mut Draft,
@@ -188,9 +235,9 @@ fn read_field(
         return Ok(());
     }
     if draft.has(i) {
-        return Err(Fault::new(alloc, Expected::Once).within(&names[i]));
+        return Err(Fault::new(reading.alloc, Expected::Once).within(&names[i]));
     }
-    match read_value(alloc, &types[i], reader) {
+    match read_value(reading, &types[i], reader) {
         Ok(value) => {
             draft.put(i, value);
             Ok(())

@@ -1,5 +1,5 @@
 // The tokens of a record.
-ghost use Rattle.std.specs.Prelude.{◌<◌, ◌≤◌, IfOk, IfSome, length};
+ghost use Rattle.std.specs.Prelude.{◌<◌, ◌≤◌, IfOk, IfSome, OnOk, length};
 
 use crate::expected::Expected;
 use crate::fault::Fault;
@@ -16,6 +16,28 @@ pub(crate) fn reader_of<'a>(
     match str::from_utf8(record) {
         Ok(text) => Ok(Reader::new(text, scratch)?),
         Err(_) => Err(Fault::new(alloc, Expected::Utf8)),
+    }
+}
+
+/// Refuses a record that is no JSON.
+pub(crate) fn check_json(alloc: Global, record: &[u8], scratch: &mut Scratch) -> Result<(), Fault> {
+    let mut reader = reader_of(alloc, record, scratch)?;
+    match reader.skip_value(DEPTH) {
+        Ok(()) => end(alloc, &mut reader),
+        Err(_) => Err(no_json(alloc, &reader)),
+    }
+}
+
+/// So many arrays and objects may be inside one another in what is checked or passed over.
+pub(crate) const DEPTH: usize = 200;
+
+/// Passes over a value, in which so many arrays and objects may be inside one another.
+pub(crate) fn skip(alloc: Global, room: usize, reader: &mut Reader<'_>) -> Result<(), Fault>
+    ensures { OnOk result (length reader.new ≤ length reader.old) }
+{
+    match reader.skip_value(room) {
+        Ok(()) => Ok(()),
+        Err(_) => Err(no_json(alloc, reader)),
     }
 }
 

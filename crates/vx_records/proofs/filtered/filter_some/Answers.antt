@@ -20,9 +20,9 @@ returns-in-Err-lines_of-clause-stopped g c = (c.args.records.now, [], reads_none
 
 pub returns-in_err-write_text-clause-stopped : goal.returns-in_err-write_text-clause-stopped
 returns-in_err-write_text-clause-stopped g c =
-    let (rs, next, texts, meant) = c.in-Ok.ensures.read in
+    let (rs, next, (texts, over), meant) = c.in-Ok.ensures.read in
     let (mid, reads) = next_reads g.R.RecordReader.leaves c.args.count c.args.records.now _ _ rs next in
-    let read = ap texts_in (c.as_slice.ensures.value ∙ ap (λ (a : Answers). a.texts.items) c.deref.ensures) ∙ texts in
+    let read = ap texts_in (c.as_slice.ensures.value ∙ ap (λ (a : Answers). a.batch.texts.items) c.deref.ensures) ∙ texts in
     let values = c.rows.ensures.rows ∙ ap (λ (a : Answers). a.values.rows) c.deref-2.ensures ∙ meant in
     let kept = kept_read (unbound (bound_of c.args.tree.now)) (g.R.RecordReader.scope c.args.records.now) rs _ _ _ _ (c.as_slice-2.ensures.value ∙ c.in-Ok-lines_of.ensures) read values (count_of rs _ read) in
     let (is, broke) = c.in_err-write_text.ensures.part in
@@ -31,16 +31,16 @@ returns-in_err-write_text-clause-stopped g c =
 
 pub returns-clause-step : goal.returns-clause-step
 returns-clause-step g c =
-    let (rs, next, texts, meant) = c.in-Ok.ensures.read in
-    let read = ap texts_in (c.as_slice.ensures.value ∙ ap (λ (a : Answers). a.texts.items) c.deref.ensures) ∙ texts in
+    let (rs, next, (texts, over), meant) = c.in-Ok.ensures.read in
+    let read = ap texts_in (c.as_slice.ensures.value ∙ ap (λ (a : Answers). a.batch.texts.items) c.deref.ensures) ∙ texts in
     let values = c.rows.ensures.rows ∙ ap (λ (a : Answers). a.values.rows) c.deref-2.ensures ∙ meant in
     let kept = kept_read (unbound (bound_of c.args.tree.now)) (g.R.RecordReader.scope c.args.records.now) rs _ _ _ _ (c.as_slice-2.ensures.value ∙ c.in-Ok-lines_of.ensures) read values (count_of rs _ read) in
     ok_map c.ended.result _ _ (λ last is. step_next g.R.RecordReader.leaves c.args.count c.args.records.now _ _ last _ rs _ next is (count_of rs _ texts) (subst (Appends (g.W.Write.contents c.args.out.now) (g.W.Write.contents c.write_text.new.out)) kept c.in_ok-write_text.ensures.whole)) c.ended.ensures.ok
 
 pub returns-clause-stopped : goal.returns-clause-stopped
 returns-clause-stopped g c =
-    let (rs, next, texts, meant) = c.in-Ok.ensures.read in
-    let read = ap texts_in (c.as_slice.ensures.value ∙ ap (λ (a : Answers). a.texts.items) c.deref.ensures) ∙ texts in
+    let (rs, next, (texts, over), meant) = c.in-Ok.ensures.read in
+    let read = ap texts_in (c.as_slice.ensures.value ∙ ap (λ (a : Answers). a.batch.texts.items) c.deref.ensures) ∙ texts in
     let values = c.rows.ensures.rows ∙ ap (λ (a : Answers). a.values.rows) c.deref-2.ensures ∙ meant in
     let kept = kept_read (unbound (bound_of c.args.tree.now)) (g.R.RecordReader.scope c.args.records.now) rs _ _ _ _ (c.as_slice-2.ensures.value ∙ c.in-Ok-lines_of.ensures) read values (count_of rs _ read) in
     err_map c.ended.result _ _ (λ e fine. stops_next g.R.RecordReader.leaves _ c.args.count c.args.records.now _ _ e rs _ _ next (subst (Appends (g.W.Write.contents c.args.out.now) (g.W.Write.contents c.write_text.new.out)) kept c.in_ok-write_text.ensures.whole) fine) c.ended.ensures.err

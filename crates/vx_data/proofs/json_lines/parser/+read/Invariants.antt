@@ -21,14 +21,14 @@ decreases-read_fields l = 4 * fields_size (fields_of l.fields.now) + 2
 abbrev pub decreases-read_field : goal.decreases-read_field
 decreases-read_field l = 4 * fields_size (fields_of l.fields.now) + 1
 
-abbrev pub invariant-read_items-loop-alloc : goal.invariant-read_items-loop-alloc
-invariant-read_items-loop-alloc l = length l.reader ≤ length l.initial.reader
+abbrev pub invariant-read_items-items : goal.invariant-read_items-items
+invariant-read_items-items l = length l.reader ≤ length l.initial.reader
 
-abbrev pub decreases-read_items-loop-alloc : goal.decreases-read_items-loop-alloc
-decreases-read_items-loop-alloc l = length l.reader
+abbrev pub decreases-read_items-items : goal.decreases-read_items-items
+decreases-read_items-items l = length l.reader
 
-abbrev pub invariant-read_fields-loop-draft : goal.invariant-read_fields-loop-draft
-invariant-read_fields-loop-draft l = length l.reader ≤ length l.initial.reader
+abbrev pub invariant-read_fields-fields : goal.invariant-read_fields-fields
+invariant-read_fields-fields l = length l.reader ≤ length l.initial.reader
 
-abbrev pub decreases-read_fields-loop-draft : goal.decreases-read_fields-loop-draft
-decreases-read_fields-loop-draft l = length l.reader
+abbrev pub decreases-read_fields-fields : goal.decreases-read_fields-fields
+decreases-read_fields-fields l = length l.reader

@@ -1,0 +1,224 @@
+// What stops a run over the records of a file, and its message.
+use crate::columns::ColumnError;
+use crate::data::{Guess, Schema};
+use crate::error::RowsError;
+use crate::message::RowsMessage;
+use crate::selected::SelectStop;
+use std::fmt;
+use std::fmt::{Display, Formatter, Write};
+use vx_command_pages::{CommandError, Input, Shown, Span, Status};
+use vx_data::{DataError, Expected};
+use vx_records::RecordsError;
+use vx_types::{Field, FieldPath};
+
+/// Why a run ends early.
+#[derive(Debug, Drop)]
+pub(crate) enum Stop {
+    /// At the command, or at going over the records.
+    Rows(RowsError),
+    /// At a type that is said of a column.
+    Column(ColumnError),
+    /// At the expression that is selected of records that are kept.
+    Select(RowsError),
+}
+
+impl Stop {
+    /// How the run ends.
+    pub(crate) fn status(&self) -> Status {
+        match self {
+            Stop::Rows(error) | Stop::Select(error) => error.status(),
+            Stop::Column(ColumnError::OutOfMemory) => Status::Failed,
+            Stop::Column(ColumnError::Unread { .. } | ColumnError::Missing { .. }) => Status::Wrong,
+        }
+    }
+
+    /// Whether what is written to is a pipe that its reader has closed.
+    pub(crate) fn is_closed_pipe(&self) -> bool {
+        match self {
+            Stop::Rows(error) | Stop::Select(error) => error.is_closed_pipe(),
+            Stop::Column(_) => false,
+        }
+    }
+}
+
+impl From<RowsError> for Stop {
+    fn from(error: RowsError) -> Stop {
+        Stop::Rows(error)
+    }
+}
+
+impl From<CommandError> for Stop {
+    fn from(error: CommandError) -> Stop {
+        Stop::Rows(RowsError::Query(error))
+    }
+}
+
+impl From<SelectStop> for Stop {
+    fn from(stop: SelectStop) -> Stop {
+        match stop {
+            SelectStop::Condition(error) => Stop::Rows(error),
+            SelectStop::Value(error) => Stop::Select(error),
+        }
+    }
+}
+
+impl From<ColumnError> for Stop {
+    fn from(error: ColumnError) -> Stop {
+        Stop::Column(error)
+    }
+}
+
+/// What stopped a run, as a message to a person, and no end of line behind it. Takes no memory.
+#[derive(Clone, Copy)]
+pub(crate) struct StopMessage<'a> {
+    /// What stopped it.
+    pub(crate) stop: &'a Stop,
+    /// The expression that the command was given.
+    pub(crate) expression: Input<'a>,
+    /// What is selected of records that are kept.
+    pub(crate) select: Input<'a>,
+    /// The type of the records.
+    pub(crate) schema: Schema<'a>,
+    /// What the file of the records is called.
+    pub(crate) data: &'a str,
+}
+
+impl Display for StopMessage<'_> {
+    fn fmt<W: Write>(&self, f: &mut Formatter<W>) -> fmt::Result {
+        match (self.stop, self.schema) {
+            (Stop::Rows(error), Schema::Guessed(guess)) => {
+                self.write_error(error, self.expression, f)?;
+                match guess.misfit(error) {
+                    Some(at) => write_remedy(guess, at, f),
+                    None => Ok(()),
+                }
+            }
+            (Stop::Rows(error), Schema::Said(_)) => self.write_error(error, self.expression, f),
+            (Stop::Select(error), _) => self.write_error(error, self.select, f),
+            (Stop::Column(error), Schema::Guessed(guess)) => self.write_column(error, guess, f),
+            (Stop::Column(_), Schema::Said(_)) => f.write_str("error: out of memory"),
+        }
+    }
+}
+
+impl StopMessage<'_> {
+    // The error, of that expression.
+    fn write_error<W: Write>(
+        &self,
+        error: &RowsError,
+        expression: Input<'_>,
+        f: &mut Formatter<W>,
+    ) -> fmt::Result {
+        let message = RowsMessage {
+            error,
+            expression,
+            schema: self.schema.input(),
+            data: self.data,
+        };
+        message.fmt(f)
+    }
+
+    // What is wrong with the type that is said of a column.
+    fn write_column<W: Write>(
+        &self,
+        error: &ColumnError,
+        guess: Guess<'_>,
+        f: &mut Formatter<W>,
+    ) -> fmt::Result {
+        match error {
+            ColumnError::OutOfMemory => f.write_str("error: out of memory"),
+            ColumnError::Unread {
+                column,
+                at,
+                expected,
+            } => {
+                let text = guess.columns.get(*column).map_or("", |said| said.text);
+                let place = Span {
+                    start: *at,
+                    end: *at,
+                };
+                let report = Input::new("type", text).report(expected, place, None);
+                report.fmt(f)
+            }
+            ColumnError::Missing { column, nearest } => {
+                let name = guess.columns.get(*column).map_or("", |said| said.name);
+                write!(
+                    f,
+                    "error: {} has no column {}",
+                    Shown(self.data),
+                    Shown(name)
+                )?;
+                match nearest {
+                    Some(nearest) => write!(f, "\n  = help: there is {}", Shown(nearest.as_str())),
+                    None => Ok(()),
+                }
+            }
+        }
+    }
+}
+
+impl Guess<'_> {
+    // Where a record isn't of the type that was guessed, if that is what the error tells.
+    fn misfit<'a>(self, error: &'a RowsError) -> Option<&'a FieldPath> {
+        match error {
+            RowsError::Records {
+                error: RecordsError::Data(DataError::Unexpected { at, expected, .. }),
+                ..
+            } if self.records < u64::MAX && is_misfit(expected) && !self.says(at) => Some(at),
+            _ => None,
+        }
+    }
+
+    // Whether the type of what stands there is said.
+    fn says(self, at: &FieldPath) -> bool {
+        self.columns.iter().any(|said| leads_to(said.name, at))
+    }
+}
+
+// Whether what stands there is the column of that name, or inside it.
+fn leads_to(name: &str, at: &FieldPath) -> bool {
+    let mut parts = at.parts().iter();
+    for word in name.split('.') {
+        match parts.next() {
+            Some(Field::Name(part)) if part.as_str() == word => {}
+            _ => return false,
+        }
+    }
+    true
+}
+
+// Whether a value of another type was expected.
+fn is_misfit(expected: &Expected) -> bool {
+    matches!(
+        expected,
+        Expected::NotNull
+            | Expected::Truth
+            | Expected::Whole(_)
+            | Expected::Text
+            | Expected::List
+            | Expected::Struct
+            | Expected::Field
+            | Expected::Present
+    )
+}
+
+// What would do where a record isn't of the type that was guessed.
+fn write_remedy<W: Write>(guess: Guess<'_>, at: &FieldPath, f: &mut Formatter<W>) -> fmt::Result {
+    f.write_str("\n  = help: the type is that of the first ")?;
+    match guess.records {
+        1 => f.write_str("record")?,
+        count => write!(f, "{count} records")?,
+    }
+    f.write_str(": --guess all takes that of all, ")?;
+    if !at.parts().is_empty() {
+        f.write_str("--type ")?;
+        let mut before = "";
+        for part in at.parts() {
+            let Field::Name(name) = part;
+            write!(f, "{before}{}", Shown(name.as_str()))?;
+            before = ".";
+        }
+        f.write_str("=TYPE says one, ")?;
+    }
+    f.write_str("--schema says all")
+}
