@@ -52,14 +52,12 @@ pub fn over_records(
     let Some(guess) = guess_told(rt, matches)? else {
         return Ok(Status::Wrong);
     };
-    let expression = text_at(rt, matches, "expression")?;
-    let select = select_said(rt, matches)?;
-    let schema = schema_said(rt, matches)?;
+    let texts = Texts::of(rt, matches)?;
     let command = RowsCommand {
         work,
-        expression: expression.input(),
-        select: select.input(),
-        schema: schema_or(schema.as_ref(), guess.guess()),
+        expression: texts.expression.input(),
+        select: texts.select.input(),
+        schema: texts.schema_or(guess.guess()),
         data: name_of(data),
         format,
         limit: matches.get_one("limit").unwrap_or(limit),
@@ -68,11 +66,30 @@ pub fn over_records(
     run_over(rt, &command, data)
 }
 
-// The type that the text says, or the one that is guessed so.
-fn schema_or<'a>(said: Option<&'a Text>, guess: Guess<'a>) -> Schema<'a> {
-    match said {
-        Some(text) => Schema::Said(text.input()),
-        None => Schema::Guessed(guess),
+// The texts of a command that goes over records.
+#[derive(Drop)]
+struct Texts {
+    expression: Text,
+    select: Text,
+    schema: Option<Text>,
+}
+
+impl Texts {
+    // The texts that the words say. Where they say nothing that is selected, that is the record.
+    fn of(rt: &HostRuntime, matches: &ArgMatches<'_>) -> Result<Texts> {
+        Ok(Texts {
+            expression: text_at(rt, matches, "expression")?,
+            select: read_text(rt, "select", matches.get_str("select").unwrap_or("$"))?,
+            schema: schema_said(rt, matches)?,
+        })
+    }
+
+    // The type that the text says, or the one that is guessed so.
+    fn schema_or<'a>(&'a self, guess: Guess<'a>) -> Schema<'a> {
+        match &self.schema {
+            Some(text) => Schema::Said(text.input()),
+            None => Schema::Guessed(guess),
+        }
     }
 }
 
@@ -103,11 +120,6 @@ impl<R: Read> Source for Once<R> {
     fn go_back(&mut self) -> io::Result<bool> {
         Ok(false)
     }
-}
-
-// What is selected of records: what the words say, or else the record.
-fn select_said(rt: &HostRuntime, matches: &ArgMatches<'_>) -> Result<Text> {
-    read_text(rt, "select", matches.get_str("select").unwrap_or("$"))
 }
 
 // The schema, if the words say one.

@@ -146,14 +146,24 @@ pub(crate) fn guessed_type<D: Read + Drop>(
         skips,
         nested: guess.nested,
     };
-    let guessed = opened(match format {
+    let guessed = narrowest_type(alloc, format, guessing, data)?;
+    Ok(with_columns(alloc, guessed, guess.columns, types.as_slice())?)
+}
+
+// The narrowest type of the records that are looked at.
+fn narrowest_type<D: Read + Drop>(
+    alloc: Global,
+    format: DataFormat<'_>,
+    guessing: Guessing<'_>,
+    data: D,
+) -> Result<DType, RowsError> {
+    match format {
         DataFormat::Json => {
             let lines = buffered(alloc, data)?;
-            infer_json_type_by(alloc, GUESSED_JSON, guessing, lines)
+            opened(infer_json_type_by(alloc, GUESSED_JSON, guessing, lines))
         }
-        DataFormat::Csv(format) => infer_csv_type_by(alloc, format, guessing, data),
-    })?;
-    Ok(with_columns(alloc, guessed, guess.columns, types.as_slice())?)
+        DataFormat::Csv(format) => opened(infer_csv_type_by(alloc, format, guessing, data)),
+    }
 }
 
 /// The reader with a buffer, or the error for want of memory.

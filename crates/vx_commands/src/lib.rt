@@ -21,6 +21,7 @@ mod selected;
 mod sql;
 mod stop;
 mod table;
+mod tasks;
 
 pub use chunked::{ChunkedQuery, filter_by_chunks};
 pub use columns::ColumnType;

@@ -1,18 +1,13 @@
 // A run of the program over the records of a file.
-use crate::chunked::{ChunkedQuery, filter_by_chunks};
-use crate::counted::count;
 use crate::data::{
     DataFormat, GUESSED_JSON, Guess, Schema, Source, buffered, inferred_type, opened, unwritten,
 };
 use crate::error::RowsError;
-use crate::evaluated::evaluate;
 use crate::explained::{ChunksQuery, explain_chunks};
-use crate::filtered::filter;
-use crate::outputs::{Output, OutputFormat};
-use crate::records_query::RecordsQuery;
+use crate::outputs::OutputFormat;
 use crate::run::tell_message;
-use crate::selected::{SelectQuery, select};
 use crate::stop::{Stop, StopMessage};
+use crate::tasks::{ReadCommand, worked, written};
 use std::alloc::Global;
 use std::io::{Cursor, Read, Write};
 use std::num::NonZeroUsize;
@@ -20,10 +15,9 @@ use vx_command_pages::{
     CommandError, Input, ReadQuery, Shown, Status, explanation_of, read_over, read_query,
     read_written,
 };
-use vx_data::{DataError, JsonFormat, WriteError};
+use vx_data::{CsvFormat, DataError, JsonFormat, WriteError};
 use vx_prune::ChunkRecords;
 use vx_records::{CsvRows, JsonRecords, RecordReader, Skipping};
-use vx_source::{Placed, TypeText};
 use vx_types::DType;
 
 /// What is done with records.
@@ -68,23 +62,6 @@ pub struct RowsCommand<'a> {
     pub skips: bool,
 }
 
-// A command whose texts were read.
-#[derive(Clone, Copy)]
-struct ReadCommand<'a> {
-    command: &'a RowsCommand<'a>,
-    placed: &'a Placed,
-}
-
-impl<'a> ReadCommand<'a> {
-    // What it asks of the records.
-    fn query(&self) -> RecordsQuery<'a> {
-        RecordsQuery {
-            placed: self.placed,
-            limit: self.command.limit,
-        }
-    }
-}
-
 /// Runs the command over the records that the reader gives, which is read once, in blocks. What it prints is written on
 /// `out` as it comes, and an error as a message on `err`, where a filter by chunks also tells how many
 /// of them weren't evaluated. The status is `Done`; or `Wrong` for a text
@@ -122,37 +99,71 @@ fn gone_over<D: Source + Drop, W: Write, E: Write>(
     out: &mut W,
     err: &mut E,
 ) -> Result<(), Stop> {
-    let (query, read) = match command.schema {
+    let (query, read) = read_command(alloc, command, &mut data)?;
+    let data = Cursor::new(read).chain(data);
+    match (command.work, command.format) {
+        (RecordsTask::ExplainChunks, _) => Ok(chunks_explained(alloc, command, &query, data, out)?),
+        (_, DataFormat::Json) => over_json(alloc, command, query, data, out, err),
+        (_, DataFormat::Csv(format)) => over_csv(alloc, command, format, query, data, out, err),
+    }
+}
+
+// The expression over the type of the records, and what was read of these and is to be read again.
+fn read_command<D: Source>(
+    alloc: Global,
+    command: &RowsCommand<'_>,
+    data: &mut D,
+) -> Result<(ReadQuery, Vec<u8>), Stop> {
+    match command.schema {
         Schema::Said(schema) => {
             let query = read_query(alloc, command.expression.text, schema.text)?;
-            (query, Vec::new(alloc))
+            Ok((query, Vec::new(alloc)))
         }
-        Schema::Guessed(guess) => inferred(alloc, command, guess, &mut data)?,
-    };
-    let data = Cursor::new(read).chain(data);
-    if let RecordsTask::ExplainChunks = command.work {
-        return Ok(chunks_explained(alloc, command, &query, data, out)?);
+        Schema::Guessed(guess) => inferred(alloc, command, guess, data),
     }
+}
+
+// Goes over the records of a file of JSON.
+fn over_json<D: Read + Drop, W: Write, E: Write>(
+    alloc: Global,
+    command: &RowsCommand<'_>,
+    query: ReadQuery,
+    data: D,
+    out: &mut W,
+    err: &mut E,
+) -> Result<(), Stop> {
+    let lines = buffered(alloc, data)?;
     let ReadQuery { placed, scope } = query;
     let scope = Box::into_inner(scope);
+    let format = json_format(command.schema, &scope);
+    let others = command.schema.others();
+    let records = JsonRecords::with_others(alloc, scope, format, others, lines);
     let command = ReadCommand {
         command,
         placed: &placed,
     };
-    match command.command.format {
-        DataFormat::Json => {
-            let lines = buffered(alloc, data)?;
-            let format = json_format(command.command.schema, &scope);
-            let others = command.command.schema.others();
-            let records = JsonRecords::with_others(alloc, scope, format, others, lines);
-            over(alloc, &command, records, out, err)
-        }
-        DataFormat::Csv(format) => {
-            let others = command.command.schema.others();
-            let records = opened(CsvRows::open_others(alloc, scope, format, others, data))?;
-            over(alloc, &command, records, out, err)
-        }
-    }
+    over(alloc, &command, records, out, err)
+}
+
+// Goes over the records of a CSV file of that format.
+fn over_csv<D: Read + Drop, W: Write, E: Write>(
+    alloc: Global,
+    command: &RowsCommand<'_>,
+    format: CsvFormat<'_>,
+    query: ReadQuery,
+    data: D,
+    out: &mut W,
+    err: &mut E,
+) -> Result<(), Stop> {
+    let ReadQuery { placed, scope } = query;
+    let scope = Box::into_inner(scope);
+    let others = command.schema.others();
+    let records = opened(CsvRows::open_others(alloc, scope, format, others, data))?;
+    let command = ReadCommand {
+        command,
+        placed: &placed,
+    };
+    over(alloc, &command, records, out, err)
 }
 
 // How JSON of that type is read: where it wasn't guessed, a text is a string; and an array on a line of its own is a list
@@ -228,14 +239,13 @@ fn chunks_explained<D: Read + Drop, W: Write>(
     data: D,
     out: &mut W,
 ) -> Result<(), RowsError> {
-    let page = explanation_of(alloc, &query.placed, &query.scope)?;
+    write_explanation(alloc, query, out)?;
     let Ok(chunks) = ChunkRecords::new(alloc, &query.scope) else {
         return Err(RowsError::Query(CommandError::OutOfMemory));
     };
     let Ok(dtype) = chunks.record_type(alloc) else {
         return Err(RowsError::Query(CommandError::OutOfMemory));
     };
-    unwritten(written(out, page.as_str()))?;
     let mut records = JsonRecords::new(alloc, dtype, buffered(alloc, data)?);
     let query = ChunksQuery {
         placed: &query.placed,
@@ -246,106 +256,12 @@ fn chunks_explained<D: Read + Drop, W: Write>(
     explain_chunks(alloc, &query, &mut records, out)
 }
 
-// Does with the records what the command says.
-fn worked<R: RecordReader, W: Write, E: Write>(
+// Writes what becomes of the expression.
+fn write_explanation<W: Write>(
     alloc: Global,
-    command: &ReadCommand<'_>,
-    records: &mut R,
-    out: &mut W,
-    err: &mut E,
-) -> Result<(), Stop> {
-    let query = command.query();
-    match command.command.work {
-        RecordsTask::Filter => Ok(filter(alloc, &query, records, out)?),
-        RecordsTask::Count => {
-            let count = count(alloc, &query, records)?;
-            Ok(unwritten(written_count(out, count))?)
-        }
-        RecordsTask::Select(format) => selected(alloc, command, format, records, out),
-        RecordsTask::FilterByChunks(size) => {
-            let RecordsQuery { placed, limit } = query;
-            let query = ChunkedQuery {
-                placed,
-                size,
-                limit,
-            };
-            Ok(filter_by_chunks(alloc, &query, records, out, err)?)
-        }
-        RecordsTask::Evaluate(format) => Ok(evaluated(alloc, &query, format, records, out)?),
-        RecordsTask::Explain | RecordsTask::ExplainChunks => {
-            let page = explanation(alloc, query.placed, records.dtype())?;
-            unwritten(written(out, page.as_str()))?;
-            let format = OutputFormat::JsonLines;
-            Ok(evaluated(alloc, &query, format, records, out)?)
-        }
-    }
-}
-
-// Writes what is selected of the records of which the expression is true.
-fn selected<R: RecordReader, W: Write>(
-    alloc: Global,
-    command: &ReadCommand<'_>,
-    format: OutputFormat,
-    records: &mut R,
-    out: &mut W,
-) -> Result<(), Stop> {
-    let value = match selected_value(alloc, command, records.dtype()) {
-        Ok(value) => value,
-        Err(error) => return Err(Stop::Select(RowsError::Query(error))),
-    };
-    let query = SelectQuery {
-        placed: command.placed,
-        value: &value,
-        limit: command.command.limit,
-    };
-    let mut output = Output::new(alloc, format, out);
-    let selected = select(alloc, &query, records, &mut output);
-    let finished = unwritten(output.finish(alloc));
-    selected?;
-    Ok(finished?)
-}
-
-// What is selected of records of that type.
-fn selected_value(
-    alloc: Global,
-    command: &ReadCommand<'_>,
-    scope: &DType,
-) -> Result<Box<Placed>, CommandError> {
-    let rows = command.command;
-    let written = read_written(alloc, rows.select.text)?;
-    read_over(alloc, written, scope)
-}
-
-// Writes what the expression means at the records.
-fn evaluated<R: RecordReader, W: Write>(
-    alloc: Global,
-    query: &RecordsQuery<'_>,
-    format: OutputFormat,
-    records: &mut R,
+    query: &ReadQuery,
     out: &mut W,
 ) -> Result<(), RowsError> {
-    let mut output = Output::new(alloc, format, out);
-    let meant = evaluate(alloc, query, records, &mut output);
-    let finished = unwritten(output.finish(alloc));
-    meant?;
-    finished
-}
-
-// The type of the records, what becomes of the expression, and the line above the rows.
-fn explanation(alloc: Global, placed: &Placed, dtype: &DType) -> Result<String, RowsError> {
-    let page = explanation_of(alloc, placed, dtype)?;
-    match format!(in alloc; "schema: {}\n{page}rows:\n", TypeText(dtype)) {
-        Ok(explanation) => Ok(explanation),
-        Err(_) => Err(RowsError::Query(CommandError::OutOfMemory)),
-    }
-}
-
-fn written<W: Write>(out: &mut W, text: &str) -> Result<(), WriteError> {
-    out.write_all(text.as_bytes())?;
-    Ok(())
-}
-
-fn written_count<W: Write>(out: &mut W, count: u64) -> Result<(), WriteError> {
-    writeln!(out, "{count}")?;
-    Ok(())
+    let page = explanation_of(alloc, &query.placed, &query.scope)?;
+    unwritten(written(out, page.as_str()))
 }

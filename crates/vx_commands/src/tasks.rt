@@ -1,0 +1,158 @@
+// What is done with the records of a file.
+use crate::chunked::{ChunkedQuery, filter_by_chunks};
+use crate::counted::count;
+use crate::data::unwritten;
+use crate::error::RowsError;
+use crate::evaluated::evaluate;
+use crate::filtered::filter;
+use crate::outputs::{Output, OutputFormat};
+use crate::records_query::RecordsQuery;
+use crate::rows::{RecordsTask, RowsCommand};
+use crate::selected::{SelectQuery, select};
+use crate::stop::Stop;
+use std::alloc::Global;
+use std::io::Write;
+use vx_command_pages::{CommandError, explanation_of, read_over, read_written};
+use vx_data::WriteError;
+use vx_records::RecordReader;
+use vx_source::{Placed, TypeText};
+use vx_types::DType;
+
+/// A command whose expression was read.
+#[derive(Clone, Copy)]
+pub(crate) struct ReadCommand<'a> {
+    pub(crate) command: &'a RowsCommand<'a>,
+    pub(crate) placed: &'a Placed,
+}
+
+impl<'a> ReadCommand<'a> {
+    // What it asks of the records.
+    fn query(&self) -> RecordsQuery<'a> {
+        RecordsQuery {
+            placed: self.placed,
+            limit: self.command.limit,
+        }
+    }
+}
+
+/// Does with the records what the command says.
+pub(crate) fn worked<R: RecordReader, W: Write, E: Write>(
+    alloc: Global,
+    command: &ReadCommand<'_>,
+    records: &mut R,
+    out: &mut W,
+    err: &mut E,
+) -> Result<(), Stop> {
+    let query = command.query();
+    match command.command.work {
+        RecordsTask::Filter => Ok(filter(alloc, &query, records, out)?),
+        RecordsTask::Count => Ok(counted(alloc, &query, records, out)?),
+        RecordsTask::Select(format) => selected(alloc, command, format, records, out),
+        RecordsTask::FilterByChunks(size) => {
+            let RecordsQuery { placed, limit } = query;
+            let query = ChunkedQuery {
+                placed,
+                size,
+                limit,
+            };
+            Ok(filter_by_chunks(alloc, &query, records, out, err)?)
+        }
+        RecordsTask::Evaluate(format) => Ok(evaluated(alloc, &query, format, records, out)?),
+        RecordsTask::Explain | RecordsTask::ExplainChunks => {
+            Ok(explained(alloc, &query, records, out)?)
+        }
+    }
+}
+
+// Writes of how many records the expression is true.
+fn counted<R: RecordReader, W: Write>(
+    alloc: Global,
+    query: &RecordsQuery<'_>,
+    records: &mut R,
+    out: &mut W,
+) -> Result<(), RowsError> {
+    let count = count(alloc, query, records)?;
+    unwritten(written_count(out, count))
+}
+
+// Writes what is selected of the records of which the expression is true.
+fn selected<R: RecordReader, W: Write>(
+    alloc: Global,
+    command: &ReadCommand<'_>,
+    format: OutputFormat,
+    records: &mut R,
+    out: &mut W,
+) -> Result<(), Stop> {
+    let value = match selected_value(alloc, command, records.dtype()) {
+        Ok(value) => value,
+        Err(error) => return Err(Stop::Select(RowsError::Query(error))),
+    };
+    let query = SelectQuery {
+        placed: command.placed,
+        value: &value,
+        limit: command.command.limit,
+    };
+    let mut output = Output::new(alloc, format, out);
+    let selected = select(alloc, &query, records, &mut output);
+    let finished = unwritten(output.finish(alloc));
+    selected?;
+    Ok(finished?)
+}
+
+// What is selected of records of that type.
+fn selected_value(
+    alloc: Global,
+    command: &ReadCommand<'_>,
+    scope: &DType,
+) -> Result<Box<Placed>, CommandError> {
+    let rows = command.command;
+    let written = read_written(alloc, rows.select.text)?;
+    read_over(alloc, written, scope)
+}
+
+// Writes what the expression means at the records.
+fn evaluated<R: RecordReader, W: Write>(
+    alloc: Global,
+    query: &RecordsQuery<'_>,
+    format: OutputFormat,
+    records: &mut R,
+    out: &mut W,
+) -> Result<(), RowsError> {
+    let mut output = Output::new(alloc, format, out);
+    let meant = evaluate(alloc, query, records, &mut output);
+    let finished = unwritten(output.finish(alloc));
+    meant?;
+    finished
+}
+
+// Writes the type of the records, what becomes of the expression, and what it means at each.
+fn explained<R: RecordReader, W: Write>(
+    alloc: Global,
+    query: &RecordsQuery<'_>,
+    records: &mut R,
+    out: &mut W,
+) -> Result<(), RowsError> {
+    let page = explanation(alloc, query.placed, records.dtype())?;
+    unwritten(written(out, page.as_str()))?;
+    evaluated(alloc, query, OutputFormat::JsonLines, records, out)
+}
+
+// The type of the records, what becomes of the expression, and the line above the rows.
+fn explanation(alloc: Global, placed: &Placed, dtype: &DType) -> Result<String, RowsError> {
+    let page = explanation_of(alloc, placed, dtype)?;
+    match format!(in alloc; "schema: {}\n{page}rows:\n", TypeText(dtype)) {
+        Ok(explanation) => Ok(explanation),
+        Err(_) => Err(RowsError::Query(CommandError::OutOfMemory)),
+    }
+}
+
+/// Writes the text.
+pub(crate) fn written<W: Write>(out: &mut W, text: &str) -> Result<(), WriteError> {
+    out.write_all(text.as_bytes())?;
+    Ok(())
+}
+
+fn written_count<W: Write>(out: &mut W, count: u64) -> Result<(), WriteError> {
+    writeln!(out, "{count}")?;
+    Ok(())
+}
