@@ -5,10 +5,10 @@ ghost use Rattle.vx_tree.specs.Views.{bound_of};
 use crate::data::{opened, unwritten};
 use crate::error::RowsError;
 use crate::page::chunk_page;
+use crate::tasks::written;
 use std::alloc::Global;
 use std::io::Write;
 use vx_command_pages::{CommandError, bind};
-use vx_data::WriteError;
 use vx_prune::ChunkRecords;
 use vx_records::{Record, RecordReader};
 use vx_source::Placed;
@@ -67,9 +67,4 @@ fn page_of(
 {
     let stats = chunks.stats(alloc, &record.row)?;
     Ok(chunk_page(alloc, number, tree, &stats)?)
-}
-
-fn written<W: Write>(out: &mut W, text: &str) -> Result<(), WriteError> {
-    out.write_all(text.as_bytes())?;
-    Ok(())
 }
