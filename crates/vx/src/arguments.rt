@@ -226,7 +226,9 @@ pub fn chunk<'a>(alloc: Global) -> Result<Arg<'a>, AllocError> {
         .help(
             "Go by chunks of so many records, and evaluate only those that their statistics leave open",
         )
-        .conflicts_with_all(&["count", "select", "output"])
+        .conflicts_with("count")?
+        .conflicts_with("select")?
+        .conflicts_with("output")
 }
 
 fn statistics<'a>(alloc: Global) -> Result<Arg<'a>, AllocError> {
