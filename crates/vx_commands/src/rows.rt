@@ -5,6 +5,7 @@ use crate::data::{
 use crate::error::RowsError;
 use crate::explained::{ChunksQuery, explain_chunks};
 use crate::outputs::OutputFormat;
+use crate::records_query::RecordsQuery;
 use crate::run::tell_message;
 use crate::stop::{Stop, StopMessage};
 use crate::tasks::{ReadCommand, worked, written};
@@ -18,6 +19,7 @@ use vx_command_pages::{
 use vx_data::{CsvFormat, DataError, JsonFormat, WriteError};
 use vx_prune::ChunkRecords;
 use vx_records::{CsvRows, JsonRecords, RecordReader, Skipping};
+use vx_source::Placed;
 use vx_types::DType;
 
 /// What is done with records.
@@ -60,6 +62,24 @@ pub struct RowsCommand<'a> {
     pub limit: u64,
     /// Whether records that can't be read are left out, and counted.
     pub skips: bool,
+}
+
+impl<'a> RowsCommand<'a> {
+    // The same, once its expression is read.
+    fn read<'p>(&self, placed: &'p Placed) -> ReadCommand<'p>
+    where
+        'a: 'p,
+    {
+        let query = RecordsQuery {
+            placed,
+            limit: self.limit,
+        };
+        ReadCommand {
+            work: self.work,
+            query,
+            select: self.select.text,
+        }
+    }
 }
 
 /// Runs the command over the records that the reader gives, which is read once, in blocks. What it prints is written on
@@ -138,11 +158,7 @@ fn over_json<D: Read + Drop, W: Write, E: Write>(
     let format = json_format(command.schema, &scope);
     let others = command.schema.others();
     let records = JsonRecords::with_others(alloc, scope, format, others, lines);
-    let command = ReadCommand {
-        command,
-        placed: &placed,
-    };
-    over(alloc, &command, records, out, err)
+    over(alloc, command, &placed, records, out, err)
 }
 
 // Goes over the records of a CSV file of that format.
@@ -159,11 +175,7 @@ fn over_csv<D: Read + Drop, W: Write, E: Write>(
     let scope = Box::into_inner(scope);
     let others = command.schema.others();
     let records = opened(CsvRows::open_others(alloc, scope, format, others, data))?;
-    let command = ReadCommand {
-        command,
-        placed: &placed,
-    };
-    over(alloc, &command, records, out, err)
+    over(alloc, command, &placed, records, out, err)
 }
 
 // How JSON of that type is read: where it wasn't guessed, a text is a string; and an array on a line of its own is a list
@@ -184,17 +196,19 @@ fn json_format(schema: Schema<'_>, scope: &DType) -> JsonFormat {
 // Does with the records what the command says, and tells how many were left out that can't be read.
 fn over<R: RecordReader + Drop, W: Write, E: Write>(
     alloc: Global,
-    command: &ReadCommand<'_>,
+    command: &RowsCommand<'_>,
+    placed: &Placed,
     records: R,
     out: &mut W,
     err: &mut E,
 ) -> Result<(), Stop> {
+    let read = command.read(placed);
     let mut records = records;
-    if !command.command.skips {
-        return worked(alloc, command, &mut records, out, err);
+    if !command.skips {
+        return worked(alloc, &read, &mut records, out, err);
     }
     let mut records = Skipping::new(records);
-    let done = worked(alloc, command, &mut records, out, err);
+    let done = worked(alloc, &read, &mut records, out, err);
     if let Some(first) = records.first_refusal() {
         unwritten(told_skipped(records.skipped(), first, err))?;
     }

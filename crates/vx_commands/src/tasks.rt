@@ -7,7 +7,7 @@ use crate::evaluated::evaluate;
 use crate::filtered::filter;
 use crate::outputs::{Output, OutputFormat};
 use crate::records_query::RecordsQuery;
-use crate::rows::{RecordsTask, RowsCommand};
+use crate::rows::RecordsTask;
 use crate::selected::{SelectQuery, select};
 use crate::stop::Stop;
 use std::alloc::Global;
@@ -21,18 +21,12 @@ use vx_types::DType;
 /// A command whose expression was read.
 #[derive(Clone, Copy)]
 pub(crate) struct ReadCommand<'a> {
-    pub(crate) command: &'a RowsCommand<'a>,
-    pub(crate) placed: &'a Placed,
-}
-
-impl<'a> ReadCommand<'a> {
-    // What it asks of the records.
-    fn query(&self) -> RecordsQuery<'a> {
-        RecordsQuery {
-            placed: self.placed,
-            limit: self.command.limit,
-        }
-    }
+    /// What is done with the records.
+    pub(crate) work: RecordsTask,
+    /// The expression, and how many records are gone over at most.
+    pub(crate) query: RecordsQuery<'a>,
+    /// The text of what is selected.
+    pub(crate) select: &'a str,
 }
 
 /// Does with the records what the command says.
@@ -43,23 +37,22 @@ pub(crate) fn worked<R: RecordReader, W: Write, E: Write>(
     out: &mut W,
     err: &mut E,
 ) -> Result<(), Stop> {
-    let query = command.query();
-    match command.command.work {
-        RecordsTask::Filter => Ok(filter(alloc, &query, records, out)?),
-        RecordsTask::Count => Ok(counted(alloc, &query, records, out)?),
+    let query = &command.query;
+    match command.work {
+        RecordsTask::Filter => Ok(filter(alloc, query, records, out)?),
+        RecordsTask::Count => Ok(counted(alloc, query, records, out)?),
         RecordsTask::Select(format) => selected(alloc, command, format, records, out),
         RecordsTask::FilterByChunks(size) => {
-            let RecordsQuery { placed, limit } = query;
             let query = ChunkedQuery {
-                placed,
+                placed: query.placed,
                 size,
-                limit,
+                limit: query.limit,
             };
             Ok(filter_by_chunks(alloc, &query, records, out, err)?)
         }
-        RecordsTask::Evaluate(format) => Ok(evaluated(alloc, &query, format, records, out)?),
+        RecordsTask::Evaluate(format) => Ok(evaluated(alloc, query, format, records, out)?),
         RecordsTask::Explain | RecordsTask::ExplainChunks => {
-            Ok(explained(alloc, &query, records, out)?)
+            Ok(explained(alloc, query, records, out)?)
         }
     }
 }
@@ -83,14 +76,14 @@ fn selected<R: RecordReader, W: Write>(
     records: &mut R,
     out: &mut W,
 ) -> Result<(), Stop> {
-    let value = match selected_value(alloc, command, records.dtype()) {
+    let value = match selected_value(alloc, command.select, records.dtype()) {
         Ok(value) => value,
         Err(error) => return Err(Stop::Select(RowsError::Query(error))),
     };
     let query = SelectQuery {
-        placed: command.placed,
+        placed: command.query.placed,
         value: &value,
-        limit: command.command.limit,
+        limit: command.query.limit,
     };
     let mut output = Output::new(alloc, format, out);
     let selected = select(alloc, &query, records, &mut output);
@@ -100,13 +93,8 @@ fn selected<R: RecordReader, W: Write>(
 }
 
 // What is selected of records of that type.
-fn selected_value(
-    alloc: Global,
-    command: &ReadCommand<'_>,
-    scope: &DType,
-) -> Result<Box<Placed>, CommandError> {
-    let rows = command.command;
-    let written = read_written(alloc, rows.select.text)?;
+fn selected_value(alloc: Global, text: &str, scope: &DType) -> Result<Box<Placed>, CommandError> {
+    let written = read_written(alloc, text)?;
     read_over(alloc, written, scope)
 }
 
