@@ -1,0 +1,7 @@
+pub mod Boundaries
+pub mod ByteTexts
+pub mod CommentEnds
+pub mod PatternsSpelled
+pub mod TokensAhead
+pub mod TokensFound
+pub mod Written

@@ -1,0 +1,18 @@
+// Laws of reading, as functions without a body.
+ghost use Rattle.vx_sql_parser.specs.Laws.{WrittenNamesAreRead, WrittenTextsAreRead, WrittenTypesAreRead};
+
+/// Each name that `vx_sql` writes for an engine is read back, whatever is in it, and what stands behind
+/// it is no part of it.
+pub fn written_names_are_read()
+    ensures { WrittenNamesAreRead }
+{}
+
+/// So is each text.
+pub fn written_texts_are_read()
+    ensures { WrittenTextsAreRead }
+{}
+
+/// PostgreSQL's and DuckDB's words for the types of numbers are read as the narrowest type that has their numbers.
+pub fn written_types_are_read()
+    ensures { WrittenTypesAreRead }
+{}
