@@ -1,9 +1,11 @@
--- What is read back of names, texts and types that are written for an engine.
-use Rattle.std.specs.Prelude.{◌≡◌, ℕ, false, ◌==◌, List, ◌++◌, Some, Ok, IsUtf8, codes}
+-- What is read back of names, texts, numbers and types that are written for an engine.
+use Rattle.std.specs.Prelude.{◌≡◌, ◌<◌, ◌^◌, ℕ, false, ◌==◌, List, [], ◌++◌, Some, Ok, IsUtf8, codes}
+use Rattle.std.specs.Fmt.{decimal}
 use Rattle.vx_dtype.specs.Types.{Name}
 use Rattle.vx_dtype.specs.declared.dtype.PType.{PType}
 use Rattle.vx_dtype.specs.declared.dtype.PType.TheVariants.{U8, U16, U32, U64, I8, I16, I32, I64}
-use Rattle.vx_source_types.specs.Tokens.{next, quoted, text}
+use Rattle.vx_source_types.specs.Characters.{is_word}
+use Rattle.vx_source_types.specs.Tokens.{next, quoted, number, text}
 use Rattle.vx_sql.specs.declared.dialect.Dialect.{Dialect}
 use Rattle.vx_sql.specs.Dialects.{postgres_word, duckdb_word}
 use Rattle.vx_sql.specs.declared.dialect.Dialect.TheVariants.{Postgres, DuckDb}
@@ -20,6 +22,11 @@ WrittenNamesAreRead = (d : Dialect) (a : Name) (rest : List ℕ) → IsUtf8 a �
 abbrev pub WrittenTextsAreRead : Type 0
 WrittenTextsAreRead = (d : Dialect) (s rest : List ℕ) → IsUtf8 s → (next rest == 39) ≡ false
     → taken_at d (text_sql d s ++ rest) ≡ (let t : Taken = (Some (Ok (text s)), rest) in t)
+
+-- so are the digits of a number, before what no word goes on with
+abbrev pub WrittenNumbersAreRead : Type 0
+WrittenNumbersAreRead = (d : Dialect) (n : ℕ) (rest : List ℕ) → n < 2 ^ 64 → is_word (next rest) ≡ false
+    → taken_at d (decimal n ++ rest) ≡ (let t : Taken = (Some (Ok (number false (Some n) [])), rest) in t)
 
 -- the type of numbers that is read of PostgreSQL's word for one: the one that has all of its numbers
 abbrev pub in_postgres : PType → List ℕ

@@ -21,7 +21,13 @@ ReadsSql d text e = (s : List ℕ) × (sql_source d text ≡ Ok s) × ReadsAlone
 abbrev pub ReadsSqlOver : Dialect → List ℕ → LogicalType → Tree → Type 0
 ReadsSqlOver d text t e = (s : List ℕ) × (sql_source d text ≡ Ok s) × ReadsOver 200 s t e
 
--- memory ran out; or the text has something that isn't read, for that reason; or its source text is no expression
+-- memory ran out, or the text has something that isn't read, for that reason
+abbrev pub IsUnread : Dialect → List ℕ → SqlError → Type 0
+IsUnread d text OutOfMemory = Unit {0}
+IsUnread d text (Unread at r) = sql_source d text ≡ Err r
+IsUnread d text (Source x) = ⊥
+
+-- the same, or its source text is no expression
 abbrev pub RefusesSql : Dialect → List ℕ → SqlError → Type 0
 RefusesSql d text OutOfMemory = Unit {0}
 RefusesSql d text (Unread at r) = sql_source d text ≡ Err r

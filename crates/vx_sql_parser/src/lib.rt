@@ -27,6 +27,11 @@ mod types;
 mod whole;
 
 pub use error::SqlError;
-pub use laws::{written_names_are_read, written_texts_are_read, written_types_are_read};
+pub use laws::{
+    written_names_are_read, written_numbers_are_read, written_texts_are_read,
+    written_types_are_read,
+};
 pub use reason::Unread;
-pub use whole::{parse_sql, parse_sql_over};
+pub use source::SqlSource;
+pub use translation::Place;
+pub use whole::{parse_sql, parse_sql_over, sql_source};

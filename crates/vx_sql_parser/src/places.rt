@@ -3,7 +3,7 @@ ghost use Rattle.std.specs.Str.{IsCharBoundary};
 ghost use Rattle.vx_sql_parser.specs.Reading.{IsMoved, IsPlacedIn, IsRefusal};
 
 use crate::error::SqlError;
-use crate::source::{Refusal, Source};
+use crate::source::{Refusal, SqlSource};
 use crate::step::Stop;
 use vx_source_over::OverError;
 
@@ -24,7 +24,7 @@ pub(crate) fn boundary(text: &str, at: usize) -> usize
 
 // Where the token of the text stands that was written as the piece of source text at that byte, and where there is none
 // the text's end.
-fn place_of(source: &Source, at: usize, len: usize) -> usize {
+fn place_of(source: &SqlSource, at: usize, len: usize) -> usize {
     if at >= source.text.len() {
         return len;
     }
@@ -39,7 +39,7 @@ fn place_of(source: &Source, at: usize, len: usize) -> usize {
 }
 
 // The error by bytes of the text.
-pub(crate) fn placed(error: OverError, source: &Source, text: &str) -> SqlError
+pub(crate) fn placed(error: OverError, source: &SqlSource, text: &str) -> SqlError
     ensures same { IsMoved error result }
     ensures placed { IsPlacedIn text.now result }
 {

@@ -11,9 +11,10 @@ use vx_sql::Dialect;
 
 /// The source text of a text of SQL.
 #[derive(Drop)]
-pub(crate) struct Source {
+pub struct SqlSource {
+    /// The source text.
     pub text: String,
-    /// Where its pieces come from.
+    /// Where its pieces come from, in order.
     pub places: Vec<Place>,
 }
 
@@ -28,7 +29,7 @@ pub(crate) struct Refusal {
 // The source text that the text is read as. Time is linear in the text, but for a column's name before `when`, which is
 // copied for each.
 #[tactic(auto, using(crate::proofs::TokensFound::tokens_at))]
-pub(crate) fn source_of(alloc: Global, dialect: Dialect, text: &str) -> Result<Source, Refusal>
+pub(crate) fn source_of(alloc: Global, dialect: Dialect, text: &str) -> Result<SqlSource, Refusal>
     ensures source { IfOk result (λ s. sql_source dialect text.now ≡ Ok (string_bytes s.text)) }
     ensures refusal { IfErr result (λ r. IsStop r.stop (sql_source dialect text.now)) }
 {
@@ -49,7 +50,7 @@ pub(crate) fn source_of(alloc: Global, dialect: Dialect, text: &str) -> Result<S
         i += 1;
     }
     let Translation { source, places, .. } = translation;
-    Ok(Source {
+    Ok(SqlSource {
         text: source,
         places,
     })

@@ -12,10 +12,12 @@ use crate::step::{Step, Stop};
 use std::alloc::{AllocError, Global};
 use vx_sql::Dialect;
 
-/// Where a piece of source text begins, and where the token stands that it was written of.
-#[derive(Clone, Copy)]
-pub(crate) struct Place {
+/// Where a piece of source text comes from.
+#[derive(Clone, Copy, Debug, PartialEq, Eq)]
+pub struct Place {
+    /// The piece's first byte in the source text.
     pub start: usize,
+    /// The first byte of the token of SQL that it was written of.
     pub at: usize,
 }
 

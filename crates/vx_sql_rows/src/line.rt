@@ -18,12 +18,12 @@ impl Judge for Texts {
     /// should hold.
     fn judge(&mut self, alloc: Global, line: &str) -> Result<Judged, Unread> {
         let line = line.replace(alloc, '␀', "\0")?;
+        let call = Call::of(line.as_str());
         let mut columns = Vec::new(alloc);
-        for column in line.as_str().split('|') {
+        for column in line.as_str().splitn(call.columns(), '|').skip(call.words()) {
             columns.push(column.trim())?;
         }
-        let (call, columns) = Call::of(columns.as_slice());
-        let [engine, columns @ .., wanted] = columns else {
+        let [engine, columns @ .., wanted] = columns.as_slice() else {
             return Err(Unread::Word("another number of columns"));
         };
         let dialect = dialect_named(engine).ok_or("no such engine")?;
@@ -50,20 +50,34 @@ enum Call {
 }
 
 impl Call {
-    // The call of a line of those columns, and what stands behind its word.
-    fn of<'a>(columns: &'a [&'a str]) -> (Call, &'a [&'a str]) {
-        if let [first, behind @ ..] = columns {
-            for (word, call) in [
-                ("parsed sql", Call::Parsed),
-                ("parsed sql over", Call::ParsedOver),
-                ("read back", Call::ReadBack),
-            ] {
-                if *first == word {
-                    return (call, behind);
-                }
-            }
+    // The call of the line.
+    fn of(line: &str) -> Call {
+        let word = match line.split_once('|') {
+            Some((word, _)) => word.trim(),
+            None => line,
+        };
+        match word {
+            "parsed sql" => Call::Parsed,
+            "parsed sql over" => Call::ParsedOver,
+            "read back" => Call::ReadBack,
+            _ => Call::Written,
         }
-        (Call::Written, columns)
+    }
+
+    // How many of a line's columns are the call's words.
+    fn words(self) -> usize {
+        match self {
+            Call::Written => 0,
+            Call::Parsed | Call::ParsedOver | Call::ReadBack => 1,
+        }
+    }
+
+    // How many columns a line has, of which the last may have a `|`.
+    fn columns(self) -> usize {
+        match self {
+            Call::Written | Call::Parsed => 4,
+            Call::ParsedOver | Call::ReadBack => 5,
+        }
     }
 
     // What it gives.
