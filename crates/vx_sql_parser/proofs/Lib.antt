@@ -1,6 +1,8 @@
+pub mod BlanksSeen
 pub mod Boundaries
 pub mod ByteTexts
 pub mod CommentEnds
+pub mod EscapedTexts
 pub mod PatternsSpelled
 pub mod ReadBack
 pub mod TokensAhead

@@ -31,7 +31,7 @@ use Rattle.vx_sql_parser.proofs.ByteTexts.{utf8_is}
 
 -- a token of source text that begins with b, as it is seen here
 abbrev seen : Dialect → ℕ → Taken → sql.Taken
-seen d b t = sql.some_token (sql.as_sql d b t.0, t.1)
+seen d b t = (Some (sql.as_sql d b t.0), t.1)
 
 -- ---- names
 
@@ -131,10 +131,13 @@ doubled_read d s rest begins u e =
     ap (sql.taken_at d) (by_bytes Doubled s rest u ∙ ap (λ xs. 39 ∷ (xs ++ 39 ∷ rest)) (doubled_is s))
     ∙ begins (doubled 39 s ++ 39 ∷ rest) ∙ ap (seen d 39) (first_single s rest u e)
 
+abbrev some : sql.SqlLexeme × List ℕ → sql.Taken
+some token = (Some token.0, token.1)
+
 -- where a backslash says something
 escaped_read : (q : Quoting) (s rest : List ℕ) → IsUtf8 s → (next rest == 39) ≡ false
-    → sql.some_token (sql.text_taken (text_read q anywhere (flat_map (inside q) s ++ 39 ∷ rest))) ≡ (let t : sql.Taken = (Some (Ok (text s)), rest) in t)
-escaped_read q s rest u e = ap (λ r. sql.some_token (sql.text_taken r)) (characters_read q s rest e) ∙ ap (λ o. let t : sql.Taken = (Some (sql.of_text o), rest) in t) (utf8_is s u)
+    → some (sql.text_taken (text_read q anywhere (flat_map (inside q) s ++ 39 ∷ rest))) ≡ (let t : sql.Taken = (Some (Ok (text s)), rest) in t)
+escaped_read q s rest u e = ap (λ r. some (sql.text_taken r)) (characters_read q s rest e) ∙ ap (λ o. let t : sql.Taken = (Some (sql.of_text o), rest) in t) (utf8_is s u)
 
 pub texts_read : WrittenTextsAreRead
 texts_read Postgres s rest u e = by (list_any (λ b. b == 92) s) refl where
@@ -183,10 +186,11 @@ digit_first d [] rest h l = absurd (omega arith)
 digit_first d (b ∷ ds) rest h l =
     let digit = (and_parts (is_digit b) (list_all is_digit ds) h).0 in
     let bs = ds ++ rest in
-    cond-false (is_blank b) _ _ (no_blank b digit)
-    ∙ cond-false (b == 45 && next bs == 45) _ _ (both (b == 45) (next bs == 45) (no_dash b digit))
-    ∙ cond-false (b == 47 && next bs == 42) _ _ (both (b == 47) (next bs == 42) (no_slash b digit))
-    ∙ ap (λ n. sql.some_token (if n == 0 then sql.plain_taken d (b ∷ bs) else sql.escaped_taken (sql.doubles_quotes d) (drop n (b ∷ bs)))) (opens_none d b bs digit)
+    let no_comment : sql.blank_taken (b ∷ bs) ≡ None = cond-false (is_blank b) _ _ (no_blank b digit)
+        ∙ cond-false (b == 45 && next bs == 45) _ _ (both (b == 45) (next bs == 45) (no_dash b digit))
+        ∙ cond-false (b == 47 && next bs == 42) _ _ (both (b == 47) (next bs == 42) (no_slash b digit)) in
+    ap (sql.or_token (sql.token_taken d (b ∷ bs))) no_comment
+    ∙ ap (λ n. some (if n == 0 then sql.plain_taken d (b ∷ bs) else sql.escaped_taken (sql.doubles_quotes d) (drop n (b ∷ bs)))) (opens_none d b bs digit)
 
 pub numbers_read : WrittenNumbersAreRead
 numbers_read d n rest small e =

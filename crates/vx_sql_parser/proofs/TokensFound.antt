@@ -20,6 +20,9 @@ drop_more n m [] = ap (drop n) (drop_nil m) ∙ drop_nil n ∙ sym (drop_nil (m 
 drop_more n zero (b ∷ bs) = ap (λ k. drop k (b ∷ bs)) (let e : n ≡ 0 + n = omega arith in e)
 drop_more n (suc m) (b ∷ bs) = drop_more n m bs ∙ ap (λ k. drop k (b ∷ bs)) (let e : suc (m + n) ≡ suc m + n = omega arith in e)
 
+pub drop_more_one : (n b : ℕ) (bs : List ℕ) → drop (1 + n) (b ∷ bs) ≡ drop n bs
+drop_more_one n b bs = ap (λ k. drop k (b ∷ bs)) (let e : 1 + n ≡ suc n = omega arith in e)
+
 at_place : (bs : List ℕ) (i : ℕ) → i < length bs → drop i bs ≡ get_or bs i 0 ∷ drop (i + 1) bs
 at_place bs i h = rw add-one (drop-cons bs i 0 h)
 

@@ -1,5 +1,6 @@
 -- What tokens of SQL are written as, one after another.
-use Rattle.std.specs.Prelude.{ℕ, zero, suc, ◌+◌, ◌-◌, ◌==◌, ◌||◌, ◌&&◌, Bool, true, false, List, [], ◌∷◌, ◌++◌, Option, Some, None, Result, Ok, Err, if◌then◌else◌, slice_get, codes, length, take, nat_lt}
+use Rattle.std.specs.Prelude.{ℕ, zero, suc, ◌+◌, ◌-◌, ◌==◌, ◌||◌, ◌&&◌, Bool, true, false, List, [], ◌∷◌, ◌++◌, Option, Some, None, Result, Ok, Err, if◌then◌else◌, slice_get, codes, length, take}
+use Rattle.std.specs.Char.{is_ascii}
 use Rattle.std.specs.Fmt.{decimal}
 use Rattle.std.specs.List.{list_all}
 use Rattle.std.specs.Option.{option_map}
@@ -128,8 +129,11 @@ abbrev pub name_rule : List ℕ → List SqlLexeme → Answer
 name_rule a xs = if is_dot (sign_at xs 0) then Err Table else says (between_quotes 96 a) Stays 0
 
 -- a number, with no point behind it
+abbrev pub sign_source : Bool → List ℕ
+sign_source negative = if negative then codes "-" else []
+
 abbrev pub number_source : Bool → ℕ → List ℕ
-number_source negative n = (if negative then codes "-" else []) ++ decimal n
+number_source negative n = sign_source negative ++ decimal n
 
 abbrev pub number_rule : Bool → ℕ → List SqlLexeme → Answer
 number_rule negative n xs = if is_dot (sign_at xs 0) then Err NoNumber else says (number_source negative n) Stays 0
@@ -169,7 +173,7 @@ typed d (Some a) = type_named d a
 -- a number and a null of a type
 abbrev pub typed_number : Bool → ℕ → Option (List ℕ) → Option (List ℕ)
 typed_number negative n None = None
-typed_number negative n (Some t) = Some (number_source negative n ++ (codes "::" ++ t))
+typed_number negative n (Some t) = Some (sign_source negative ++ (decimal n ++ (codes "::" ++ t)))
 
 abbrev pub typed_null : Option (List ℕ) → Option (List ℕ)
 typed_null None = None
@@ -279,7 +283,7 @@ like_rule d ignores xs = like_over d ignores xs (text_at xs 0)
 
 -- an engine's ILIKE ignores the case of all letters, and `ilike` that of those of ASCII: a pattern of these alone is read
 abbrev pub is_ascii_text : Option (List ℕ) → Bool
-is_ascii_text (Some p) = list_all (λ c. nat_lt c 128) p
+is_ascii_text (Some p) = list_all is_ascii p
 is_ascii_text None = true
 
 abbrev pub ilike_rule : Dialect → List SqlLexeme → Answer

@@ -131,28 +131,32 @@ abbrev pub closing : ℕ → List ℕ → Option ℕ
 closing before [] = None
 closing before (b ∷ bs) = if ends_comment before b then Some 1 else (if opens_comment before b then None else one_more (closing b bs))
 
--- what is behind `/*`
+-- a comment, of which the slash is before these bytes and the star is the first
 abbrev pub comment_taken : List ℕ → Option ℕ → Taken
 comment_taken bs None = (Some (Err Comment), [])
-comment_taken bs (Some n) = (None, drop n bs)
+comment_taken bs (Some n) = (None, drop (1 + n) bs)
 
 -- how many bytes stand before the end of the line
 abbrev pub line_len : List ℕ → ℕ
 line_len bs = prefix_len (λ b. not (b == 10)) bs
 
+-- a blank, or a comment to the end of the line or between `/*` and `*/`, if one is at the front
+abbrev pub blank_taken : List ℕ → Option Taken
+blank_taken [] = Some (None, [])
+blank_taken (b ∷ bs) =
+    if is_blank b then Some (None, bs) else (
+    if b == 45 && next bs == 45 then Some (None, drop (line_len bs) bs) else (
+    if b == 47 && next bs == 42 then Some (comment_taken bs (closing 0 (drop 1 bs))) else None))
+
 -- ---- whole texts
 
-abbrev pub some_token : SqlLexeme × List ℕ → Taken
-some_token (x, rest) = (Some x, rest)
+abbrev pub or_token : SqlLexeme × List ℕ → Option Taken → Taken
+or_token token None = (Some token.0, token.1)
+or_token token (Some blank) = blank
 
--- what is at the front: blanks, a comment to the end of the line or between `/*` and `*/`, or a token
+-- what is at the front: a blank, a comment or a token
 abbrev pub taken_at : Dialect → List ℕ → Taken
-taken_at d [] = (None, [])
-taken_at d (b ∷ bs) =
-    if is_blank b then (None, bs) else (
-    if b == 45 && next bs == 45 then (None, drop (line_len bs) bs) else (
-    if b == 47 && next bs == 42 then comment_taken (drop 1 bs) (closing 0 (drop 1 bs)) else
-    some_token (token_taken d (b ∷ bs))))
+taken_at d bs = or_token (token_taken d bs) (blank_taken bs)
 
 -- the token in front of others, if it is one
 abbrev pub put_token : Option SqlLexeme → List SqlLexeme → List SqlLexeme

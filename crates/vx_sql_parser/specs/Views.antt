@@ -31,6 +31,10 @@ token_of bs token len = (sql_of token, drop len bs)
 abbrev pub taken_of : List ℕ → Option (Result Token Unread) → ℕ → Taken
 taken_of bs token len = (option_map sql_of token, drop len bs)
 
+abbrev pub blank_of : List ℕ → Option (Option (Result Token Unread) × ℕ) → Option Taken
+blank_of bs None = None
+blank_of bs (Some (token, len)) = Some (taken_of bs token len)
+
 -- what was read between quotes, and how many bytes it takes
 abbrev pub between_of : List ℕ → Option (Vec ℕ Global × ℕ) → Option (List ℕ × List ℕ)
 between_of bs None = None

@@ -86,5 +86,8 @@ fn between(
 pub(crate) fn as_text(bytes: &[u8]) -> Option<&str>
     ensures { option_map (λ s. s.now) result ≡ utf8 bytes.now }
 {
-    str::from_utf8(bytes).ok()
+    match str::from_utf8(bytes) {
+        Ok(text) => Some(text),
+        Err(_) => None,
+    }
 }

@@ -1,8 +1,8 @@
 // The first token of a text of SQL.
-ghost use Rattle.std.specs.Prelude.{◌≡◌, ◌≤◌, ◌<◌, ◌+◌, IfOk, drop, length, string_bytes};
+ghost use Rattle.std.specs.Prelude.{◌≡◌, ◌≤◌, ◌<◌, ◌+◌, IfOk, MatchOption, drop, length, string_bytes};
 ghost use Rattle.vx_source_types.specs.Views.{lexeme_of};
-ghost use Rattle.vx_sql_parser.specs.SqlTokens.{as_sql, closing, comment_taken, doubles_quotes, folded, has_name_quote, name_lexeme, no_token, number_lexeme, opening_len, plain_taken, taken_at, text_or_name, token_taken};
-ghost use Rattle.vx_sql_parser.specs.Views.{sql_of, taken_of, token_of};
+ghost use Rattle.vx_sql_parser.specs.SqlTokens.{as_sql, blank_taken, closing, comment_taken, doubles_quotes, folded, has_name_quote, name_lexeme, no_token, number_lexeme, opening_len, plain_taken, taken_at, text_or_name, token_taken};
+ghost use Rattle.vx_sql_parser.specs.Views.{blank_of, sql_of, taken_of, token_of};
 
 use crate::comments::{closing, is_blank, line_len, next};
 use crate::escapes::escaped_text;
@@ -24,29 +24,44 @@ pub(crate) fn taken_at(
     ensures within { IfOk result (λ r. at + r.1 ≤ length text.now) }
     ensures forward { IfOk result (λ r. 0 < r.1) }
 {
-    let bytes = &text.as_bytes()[at..];
-    let (b, rest) = (bytes[0], &bytes[1..]);
-    if is_blank(b) {
-        return Ok((None, 1));
-    }
-    if b == b'-' && next(rest) == b'-' {
-        return Ok((None, 1 + line_len(rest)));
-    }
-    if b == b'/' && next(rest) == b'*' {
-        let (token, len) = comment(&rest[1..]);
-        return Ok((token, 2 + len));
+    if let Some((token, len)) = blank_at(&text.as_bytes()[at..]) {
+        return Ok((token, len));
     }
     let (token, len) = token_at(alloc, dialect, text, at)?;
     Ok((Some(token), len))
 }
 
-// What is behind `/*`.
+// The blank or the comment at the front, if there is one, and how many bytes it takes.
+#[tactic(auto, using(crate::proofs::TokensFound::drop_more_one))]
+fn blank_at(bytes: &[u8]) -> Option<(Option<Result<Token, Unread>>, usize)>
+    ensures taken { blank_of bytes.now result ≡ blank_taken bytes.now }
+    ensures within { MatchOption result (Unit {0}) (λ r. r.1 ≤ length bytes.now) }
+    ensures forward { MatchOption result (Unit {0}) (λ r. 0 < length bytes.now → 0 < r.1) }
+{
+    let [b, rest @ ..] = bytes else {
+        return Some((None, 0));
+    };
+    if is_blank(*b) {
+        return Some((None, 1));
+    }
+    if *b == b'-' && next(rest) == b'-' {
+        return Some((None, 1 + line_len(rest)));
+    }
+    if *b == b'/' && next(rest) == b'*' {
+        let (token, len) = comment(rest);
+        return Some((token, 1 + len));
+    }
+    None
+}
+
+// A comment, of which the slash is before these bytes and the star is the first.
 fn comment(bytes: &[u8]) -> (Option<Result<Token, Unread>>, usize)
-    ensures taken { comment_taken bytes.now (closing 0 bytes.now) ≡ taken_of bytes.now result.0 result.1 }
+    requires { 0 < length bytes.now }
+    ensures taken { comment_taken bytes.now (closing 0 (drop 1 bytes.now)) ≡ taken_of bytes.now result.0 result.1 }
     ensures within { result.1 ≤ length bytes.now }
 {
-    match closing(bytes) {
-        Some(len) => (None, len),
+    match closing(&bytes[1..]) {
+        Some(len) => (None, 1 + len),
         None => (Some(Err(Unread::Comment)), bytes.len()),
     }
 }

@@ -1,5 +1,7 @@
 // LIKE and ILIKE.
 ghost use Rattle.std.specs.Prelude.{◌≡◌, option_map, string_bytes};
+ghost use Rattle.std.specs.Char.{is_ascii};
+ghost use Rattle.std.specs.List.{list_all};
 ghost use Rattle.vx_sql_parser.specs.Patterns.{pattern_source};
 ghost use Rattle.vx_sql_parser.specs.Rules as rules;
 ghost use Rattle.vx_sql_parser.specs.RuleViews.{Answers};
@@ -51,9 +53,20 @@ fn is_ascii_text(text: Option<&str>) -> bool
     ensures { result ≡ rules.is_ascii_text (option_map (λ s. s.now) text.entry) }
 {
     match text {
-        Some(text) => text.is_ascii(),
+        Some(text) => are_ascii(text.as_bytes()),
         None => true,
     }
+}
+
+fn are_ascii(bytes: &[u8]) -> bool
+    ensures { result ≡ list_all is_ascii bytes.now }
+{
+    for b in bytes {
+        if !b.is_ascii() {
+            return false;
+        }
+    }
+    true
 }
 
 // The same where that text is the escape.

@@ -1,5 +1,5 @@
 // Names, numbers, bytes and collations.
-ghost use Rattle.std.specs.Prelude.{◌≡◌, if◌then◌else◌, codes, [], option_map};
+ghost use Rattle.std.specs.Prelude.{◌≡◌, option_map};
 ghost use Rattle.vx_source_types.specs.Characters.{is_word};
 ghost use Rattle.vx_sql_parser.specs.Rules as rules;
 ghost use Rattle.vx_sql_parser.specs.RuleViews.{Answers};
@@ -44,7 +44,7 @@ pub(crate) fn number_rule(
 }
 
 pub(crate) fn sign_of(negative: bool) -> &'static str
-    ensures { result.now ≡ (if negative then codes "-" else []) }
+    ensures { result.now ≡ rules.sign_source negative }
 {
     if negative { "-" } else { "" }
 }
