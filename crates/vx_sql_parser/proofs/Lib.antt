@@ -1,4 +1,3 @@
-pub mod BlanksSeen
 pub mod Boundaries
 pub mod ByteTexts
 pub mod CommentEnds

@@ -131,10 +131,14 @@ abbrev pub closing : ℕ → List ℕ → Option ℕ
 closing before [] = None
 closing before (b ∷ bs) = if ends_comment before b then Some 1 else (if opens_comment before b then None else one_more (closing b bs))
 
--- a comment, of which the slash is before these bytes and the star is the first
+abbrev pub begins_comment : List ℕ → Bool
+begins_comment [] = false
+begins_comment (b ∷ bs) = b == 47 && next bs == 42
+
+-- a comment, which begins with two bytes
 abbrev pub comment_taken : List ℕ → Option ℕ → Taken
 comment_taken bs None = (Some (Err Comment), [])
-comment_taken bs (Some n) = (None, drop (1 + n) bs)
+comment_taken bs (Some n) = (None, drop (2 + n) bs)
 
 -- how many bytes stand before the end of the line
 abbrev pub line_len : List ℕ → ℕ
@@ -146,7 +150,7 @@ blank_taken [] = Some (None, [])
 blank_taken (b ∷ bs) =
     if is_blank b then Some (None, bs) else (
     if b == 45 && next bs == 45 then Some (None, drop (line_len bs) bs) else (
-    if b == 47 && next bs == 42 then Some (comment_taken bs (closing 0 (drop 1 bs))) else None))
+    if begins_comment (b ∷ bs) then Some (comment_taken (b ∷ bs) (closing 0 (drop 2 (b ∷ bs)))) else None))
 
 -- ---- whole texts
 

@@ -1,7 +1,7 @@
 // The first token of a text of SQL.
-ghost use Rattle.std.specs.Prelude.{◌≡◌, ◌≤◌, ◌<◌, ◌+◌, IfOk, MatchOption, drop, length, string_bytes};
+ghost use Rattle.std.specs.Prelude.{◌≡◌, ◌≤◌, ◌<◌, ◌+◌, IfOk, MatchOption, drop, length, string_bytes, true};
 ghost use Rattle.vx_source_types.specs.Views.{lexeme_of};
-ghost use Rattle.vx_sql_parser.specs.SqlTokens.{as_sql, blank_taken, closing, comment_taken, doubles_quotes, folded, has_name_quote, name_lexeme, no_token, number_lexeme, opening_len, plain_taken, taken_at, text_or_name, token_taken};
+ghost use Rattle.vx_sql_parser.specs.SqlTokens.{as_sql, begins_comment, blank_taken, closing, comment_taken, doubles_quotes, folded, has_name_quote, name_lexeme, no_token, number_lexeme, opening_len, plain_taken, taken_at, text_or_name, token_taken};
 ghost use Rattle.vx_sql_parser.specs.Views.{blank_of, sql_of, taken_of, token_of};
 
 use crate::comments::{closing, is_blank, line_len, next};
@@ -47,21 +47,31 @@ fn blank_at(bytes: &[u8]) -> Option<(Option<Result<Token, Unread>>, usize)>
     if *b == b'-' && next(rest) == b'-' {
         return Some((None, 1 + line_len(rest)));
     }
-    if *b == b'/' && next(rest) == b'*' {
-        let (token, len) = comment(rest);
-        return Some((token, 1 + len));
+    if begins_comment(bytes) {
+        return Some(comment(bytes));
     }
     None
 }
 
-// A comment, of which the slash is before these bytes and the star is the first.
-fn comment(bytes: &[u8]) -> (Option<Result<Token, Unread>>, usize)
-    requires { 0 < length bytes.now }
-    ensures taken { comment_taken bytes.now (closing 0 (drop 1 bytes.now)) ≡ taken_of bytes.now result.0 result.1 }
-    ensures within { result.1 ≤ length bytes.now }
+fn begins_comment(bytes: &[u8]) -> bool
+    ensures begins { result ≡ begins_comment bytes.now }
+    ensures long { result ≡ true → 2 ≤ length bytes.now }
 {
-    match closing(&bytes[1..]) {
-        Some(len) => (None, 1 + len),
+    match bytes {
+        [b, c, ..] => *b == b'/' && *c == b'*',
+        _ => false,
+    }
+}
+
+// A comment, which begins with two bytes.
+fn comment(bytes: &[u8]) -> (Option<Result<Token, Unread>>, usize)
+    requires { 2 ≤ length bytes.now }
+    ensures taken { comment_taken bytes.now (closing 0 (drop 2 bytes.now)) ≡ taken_of bytes.now result.0 result.1 }
+    ensures within { result.1 ≤ length bytes.now }
+    ensures forward { 0 < result.1 }
+{
+    match closing(&bytes[2..]) {
+        Some(len) => (None, 2 + len),
         None => (Some(Err(Unread::Comment)), bytes.len()),
     }
 }
