@@ -21,9 +21,7 @@ use Rattle.vx_source_types.proofs.Quoting.{text_of_utf8}
 use Rattle.vx_source_types.proofs.Unquoting.{unquoted_doubled}
 use Rattle.vx_sql.specs.declared.dialect.Dialect.{Dialect}
 use Rattle.vx_sql.specs.declared.dialect.Dialect.TheVariants.{Postgres, Sqlite, DuckDb, Spark}
-use Rattle.vx_sql.specs.declared.quotes.Quoting.{Quoting}
-use Rattle.vx_sql.specs.declared.quotes.Quoting.TheVariants.{Doubled, Escaped, Backslashed}
-use Rattle.vx_sql.specs.Quotes.{quote_inside, backslash_inside, inside, opening, quoted, text_sql, anywhere, text_read}
+use Rattle.vx_sql.specs.Quotes.{quoting_of, inside, quoted, text_sql}
 use Rattle.vx_sql.proofs.ReadBack.{characters_read}
 use Rattle.vx_sql_parser.specs.SqlTokens as sql
 use Rattle.vx_sql_parser.specs.Laws.{WrittenNamesAreRead, WrittenNumbersAreRead, WrittenTextsAreRead, WrittenTypesAreRead}
@@ -49,73 +47,89 @@ isnt_39 b h = grind (arith, nat_tests)
 isnt_92 : (b : ℕ) → 128 ≤ b → (b == 92) ≡ false
 isnt_92 b h = grind (arith, nat_tests)
 
-plain : (q : Quoting) (b : ℕ) → (b == 39) ≡ false → (b == 92) ≡ false → inside q b ≡ b ∷ []
-plain q b e h = cond-false (b == 39) _ _ e ∙ cond-false (b == 92) _ _ h
+-- what stands for each byte or character: itself, but for the quote and the backslash, which ASCII stands for
+record Spells (inside : ℕ → List ℕ) : Type 0 where
+  quote : encodes (inside 39) ≡ inside 39
+  backslash : encodes (inside 92) ≡ inside 92
+  other : (c : ℕ) → (c == 39) ≡ false → (c == 92) ≡ false → inside c ≡ c ∷ []
 
-high : (q : Quoting) (bs : List ℕ) → ((k : ℕ) → k < length bs → 128 ≤ get_or bs k 0) → flat_map (inside q) bs ≡ bs
-high q [] h = refl
-high q (b ∷ bs) h =
+same_is : (b q : ℕ) → (b == q) ≡ true → b ≡ q
+same_is b q e = grind (arith, nat_tests)
+
+high : (inside : ℕ → List ℕ) → Spells inside → (bs : List ℕ) → ((k : ℕ) → k < length bs → 128 ≤ get_or bs k 0) → flat_map inside bs ≡ bs
+high inside s [] h = refl
+high inside s (b ∷ bs) h =
     let here : 128 ≤ b = h 0 (omega arith) in
-    ap₂ (λ (xs ys : List ℕ). xs ++ ys) (plain q b (isnt_39 b here) (isnt_92 b here)) (high q bs (λ k below. h (suc k) (omega arith)))
+    ap₂ (λ (xs ys : List ℕ). xs ++ ys) (s.other b (isnt_39 b here) (isnt_92 b here)) (high inside s bs (λ k below. h (suc k) (omega arith)))
 
-quote_encoded : (q : Quoting) → encodes (quote_inside q) ≡ quote_inside q
-unfolding lib.Utf8.encode
-quote_encoded Doubled = refl
-quote_encoded Escaped = refl
-quote_encoded Backslashed = refl
+low : (inside : ℕ → List ℕ) → Spells inside → (c : ℕ) → c < 128 → encodes (inside c) ≡ inside c
+low inside s c small = by (c == 39) (c == 92) refl refl where
+  same : (d : ℕ) → c ≡ d → encodes (inside d) ≡ inside d → encodes (inside c) ≡ inside c
+  same d is e = ap (λ x. encodes (inside x)) is ∙ e ∙ ap inside (sym is)
 
-backslash_encoded : (q : Quoting) → encodes (backslash_inside q) ≡ backslash_inside q
-unfolding lib.Utf8.encode
-backslash_encoded Doubled = refl
-backslash_encoded Escaped = refl
-backslash_encoded Backslashed = refl
+  by : (t u : Bool) → (c == 39) ≡ t → (c == 92) ≡ u → encodes (inside c) ≡ inside c
+  by true u e h = same 39 (same_is c 39 e) s.quote
+  by false true e h = same 92 (same_is c 92 h) s.backslash
+  by false false e h = ap encodes (s.other c e h) ∙ ap (λ xs. xs ++ []) (encode_ascii c small) ∙ sym (s.other c e h)
 
-low : (q : Quoting) (c : ℕ) → c < 128 → encodes (inside q c) ≡ inside q c
-low q c small = by (c == 39) (c == 92) refl refl where
-  same : (xs : List ℕ) → inside q c ≡ xs → encodes xs ≡ xs → encodes (inside q c) ≡ inside q c
-  same xs is e = ap encodes is ∙ e ∙ sym is
-
-  by : (t u : Bool) → (c == 39) ≡ t → (c == 92) ≡ u → encodes (inside q c) ≡ inside q c
-  by true u e h = same (quote_inside q) (cond-true (c == 39) _ _ e) (quote_encoded q)
-  by false true e h = same (backslash_inside q) (cond-false (c == 39) _ _ e ∙ cond-true (c == 92) _ _ h) (backslash_encoded q)
-  by false false e h = same (c ∷ []) (plain q c e h) (ap (λ xs. xs ++ []) (encode_ascii c small))
-
-one : (q : Quoting) (c : ℕ) → encodes (inside q c) ≡ flat_map (inside q) (encode c)
-one q c =
+one : (inside : ℕ → List ℕ) → Spells inside → (c : ℕ) → encodes (inside c) ≡ flat_map inside (encode c)
+one inside s c =
     elim (cases_lt c 128) [
-      | inl small ↦ low q c small ∙ sym (append-nil (inside q c)) ∙ ap (flat_map (inside q)) (sym (encode_ascii c small))
+      | inl small ↦ low inside s c small ∙ sym (append-nil (inside c)) ∙ ap (flat_map inside) (sym (encode_ascii c small))
       | inr big ↦
           let wide : (k : ℕ) → k < length (encode c) → 128 ≤ get_or (encode c) k 0 = λ k below.
               elim (cases_lt (get_or (encode c) k 0) 128) [
                 | inl less ↦ absurd (omega (arith, inside_one c [] (encode c) k (sym (append-nil _)) below less))
                 | inr h ↦ h
               ] in
-          ap encodes (plain q c (isnt_39 c big) (isnt_92 c big)) ∙ append-nil (encode c) ∙ sym (high q (encode c) wide)
+          ap encodes (s.other c (isnt_39 c big) (isnt_92 c big)) ∙ append-nil (encode c) ∙ sym (high inside s (encode c) wide)
     ]
 
-each : (q : Quoting) (cs : List ℕ) → encodes (flat_map (inside q) cs) ≡ flat_map (inside q) (encodes cs)
-each q [] = refl
-each q (c ∷ cs) = encodes-append (inside q c) (flat_map (inside q) cs) ∙ ap₂ (λ (xs ys : List ℕ). xs ++ ys) (one q c) (each q cs) ∙ sym (flat_map-append (inside q) (encode c) (encodes cs))
+each : (inside : ℕ → List ℕ) → Spells inside → (cs : List ℕ) → encodes (flat_map inside cs) ≡ flat_map inside (encodes cs)
+each inside s [] = refl
+each inside s (c ∷ cs) =
+    encodes-append (inside c) (flat_map inside cs) ∙ ap₂ (λ (xs ys : List ℕ). xs ++ ys) (one inside s c) (each inside s cs) ∙ sym (flat_map-append inside (encode c) (encodes cs))
 
--- a text between quotes by its bytes
-by_bytes : (q : Quoting) (s rest : List ℕ) → IsUtf8 s → quoted q (chars s) ++ rest ≡ opening q ++ (flat_map (inside q) s ++ 39 ∷ rest)
-by_bytes q s rest u =
-    ap (λ xs. (opening q ++ (xs ++ 39 ∷ [])) ++ rest) (each q (chars s) ∙ ap (flat_map (inside q)) (encodes-chars s u))
-    ∙ append_assoc (opening q) (flat_map (inside q) s ++ 39 ∷ []) rest
-    ∙ ap (λ xs. opening q ++ xs) (append_assoc (flat_map (inside q) s) (39 ∷ []) rest)
+-- a text between quotes by its bytes, behind what opens it
+by_bytes : (inside : ℕ → List ℕ) → Spells inside → (open s rest : List ℕ) → IsUtf8 s
+    → (open ++ (encodes (flat_map inside (chars s)) ++ 39 ∷ [])) ++ rest ≡ open ++ (flat_map inside s ++ 39 ∷ rest)
+by_bytes inside spells open s rest u =
+    ap (λ xs. (open ++ (xs ++ 39 ∷ [])) ++ rest) (each inside spells (chars s) ∙ ap (flat_map inside) (encodes-chars s u))
+    ∙ append_assoc open (flat_map inside s ++ 39 ∷ []) rest
+    ∙ ap (λ xs. open ++ xs) (append_assoc (flat_map inside s) (39 ∷ []) rest)
 
-doubled_is : (s : List ℕ) → flat_map (inside Doubled) s ≡ doubled 39 s
+-- the three ways of `vx_sql`
+abbrev doubling : ℕ → List ℕ
+doubling = inside (quoting_of Sqlite [])
+
+abbrev escaping : ℕ → List ℕ
+escaping = inside (quoting_of Postgres (92 ∷ []))
+
+abbrev backslashing : ℕ → List ℕ
+backslashing = inside (quoting_of Spark [])
+
+doubling_spells : Spells doubling
+unfolding lib.Utf8.encode
+doubling_spells = record { quote = refl; backslash = refl; other = λ c e h. cond-false (c == 39) _ _ e ∙ cond-false (c == 92) _ _ h }
+
+escaping_spells : Spells escaping
+unfolding lib.Utf8.encode
+escaping_spells = record { quote = refl; backslash = refl; other = λ c e h. cond-false (c == 39) _ _ e ∙ cond-false (c == 92) _ _ h }
+
+backslashing_spells : Spells backslashing
+unfolding lib.Utf8.encode
+backslashing_spells = record { quote = refl; backslash = refl; other = λ c e h. cond-false (c == 39) _ _ e ∙ cond-false (c == 92) _ _ h }
+
+doubled_is : (s : List ℕ) → flat_map doubling s ≡ doubled 39 s
 doubled_is [] = refl
 doubled_is (b ∷ s) = by (b == 39) (b == 92) refl refl where
-  all : (xs : List ℕ) → inside Doubled b ≡ xs → inside Doubled b ++ flat_map (inside Doubled) s ≡ xs ++ doubled 39 s
+  all : (xs : List ℕ) → doubling b ≡ xs → doubling b ++ flat_map doubling s ≡ xs ++ doubled 39 s
   all xs is = ap₂ (λ (ys zs : List ℕ). ys ++ zs) is (doubled_is s)
 
-  by : (t u : Bool) → (b == 39) ≡ t → (b == 92) ≡ u → flat_map (inside Doubled) (b ∷ s) ≡ doubled 39 (b ∷ s)
+  by : (t u : Bool) → (b == 39) ≡ t → (b == 92) ≡ u → flat_map doubling (b ∷ s) ≡ doubled 39 (b ∷ s)
   by true u e h = all (39 ∷ 39 ∷ []) (cond-true (b == 39) _ _ e) ∙ sym (yes (b == 39) _ _ e)
-  by false true e h =
-      let is : b ≡ 92 = grind (arith, nat_tests) in
-      all (92 ∷ []) (cond-false (b == 39) _ _ e ∙ cond-true (b == 92) _ _ h) ∙ ap (λ c. c ∷ doubled 39 s) (sym is) ∙ sym (no (b == 39) _ _ e)
-  by false false e h = all (b ∷ []) (plain Doubled b e h) ∙ sym (no (b == 39) _ _ e)
+  by false true e h = all (92 ∷ []) (cond-false (b == 39) _ _ e ∙ cond-true (b == 92) _ _ h) ∙ ap (λ c. c ∷ doubled 39 s) (sym (same_is b 92 h)) ∙ sym (no (b == 39) _ _ e)
+  by false false e h = all (b ∷ []) (cond-false (b == 39) _ _ e ∙ cond-false (b == 92) _ _ h) ∙ sym (no (b == 39) _ _ e)
 
 -- ---- texts
 
@@ -126,27 +140,34 @@ first_single : (s rest : List ℕ) → IsUtf8 s → (next rest == 39) ≡ false 
 first_single s rest u e = ap (text_taken ClosingSingleQuote) (unquoted_doubled 39 s rest e) ∙ ap (λ x. let t : Taken = (x, rest) in t) (text_of_utf8 ClosingSingleQuote s u)
 
 -- where a quote is doubled, and a backslash is a character like others
-doubled_read : (d : Dialect) (s rest : List ℕ) → ((xs : List ℕ) → sql.taken_at d (39 ∷ xs) ≡ seen d 39 (first (39 ∷ xs))) → IsUtf8 s → (next rest == 39) ≡ false → Reads d (quoted Doubled (chars s) ++ rest) s rest
+doubled_read : (d : Dialect) (s rest : List ℕ) → ((xs : List ℕ) → sql.taken_at d (39 ∷ xs) ≡ seen d 39 (first (39 ∷ xs))) → IsUtf8 s → (next rest == 39) ≡ false
+    → Reads d ((39 ∷ (encodes (flat_map doubling (chars s)) ++ 39 ∷ [])) ++ rest) s rest
 doubled_read d s rest begins u e =
-    ap (sql.taken_at d) (by_bytes Doubled s rest u ∙ ap (λ xs. 39 ∷ (xs ++ 39 ∷ rest)) (doubled_is s))
+    ap (sql.taken_at d) (by_bytes doubling doubling_spells (39 ∷ []) s rest u ∙ ap (λ xs. 39 ∷ (xs ++ 39 ∷ rest)) (doubled_is s))
     ∙ begins (doubled 39 s ++ 39 ∷ rest) ∙ ap (seen d 39) (first_single s rest u e)
 
+-- where a backslash says something
 abbrev some : sql.SqlLexeme × List ℕ → sql.Taken
 some token = (Some token.0, token.1)
 
--- where a backslash says something
-escaped_read : (q : Quoting) (s rest : List ℕ) → IsUtf8 s → (next rest == 39) ≡ false
-    → some (sql.text_taken (text_read q anywhere (flat_map (inside q) s ++ 39 ∷ rest))) ≡ (let t : sql.Taken = (Some (Ok (text s)), rest) in t)
-escaped_read q s rest u e = ap (λ r. some (sql.text_taken r)) (characters_read q s rest e) ∙ ap (λ o. let t : sql.Taken = (Some (sql.of_text o), rest) in t) (utf8_is s u)
+made_read : (s rest : List ℕ) → IsUtf8 s → some (sql.text_taken (Some (s, rest))) ≡ (let t : sql.Taken = (Some (Ok (text s)), rest) in t)
+made_read s rest u = ap (λ o. let t : sql.Taken = (Some (sql.of_text o), rest) in t) (utf8_is s u)
 
 pub texts_read : WrittenTextsAreRead
 texts_read Postgres s rest u e = by (list_any (λ b. b == 92) s) refl where
   by : (t : Bool) → list_any (λ b. b == 92) s ≡ t → Reads Postgres (text_sql Postgres s ++ rest) s rest
-  by true h = ap (λ q. sql.taken_at Postgres (quoted q (chars s) ++ rest)) (cond-true (list_any (λ b. b == 92) s) Escaped Doubled h) ∙ ap (sql.taken_at Postgres) (by_bytes Escaped s rest u) ∙ escaped_read Escaped s rest u e
-  by false h = ap (λ q. sql.taken_at Postgres (quoted q (chars s) ++ rest)) (cond-false (list_any (λ b. b == 92) s) Escaped Doubled h) ∙ doubled_read Postgres s rest (λ xs. refl) u e
+  by true h =
+      ap (λ q. sql.taken_at Postgres (quoted q (chars s) ++ rest)) (let is : quoting_of Postgres s ≡ quoting_of Postgres (92 ∷ []) = cond-true (list_any (λ b. b == 92) s) _ _ h in is)
+      ∙ ap (sql.taken_at Postgres) (by_bytes escaping escaping_spells (69 ∷ 39 ∷ []) s rest u)
+      ∙ ap (λ r. some (sql.text_taken r)) (characters_read (quoting_of Postgres (92 ∷ [])) s rest e) ∙ made_read s rest u
+  by false h =
+      ap (λ q. sql.taken_at Postgres (quoted q (chars s) ++ rest)) (let is : quoting_of Postgres s ≡ quoting_of Sqlite [] = cond-false (list_any (λ b. b == 92) s) _ _ h in is)
+      ∙ doubled_read Postgres s rest (λ xs. refl) u e
 texts_read Sqlite s rest u e = doubled_read Sqlite s rest (λ xs. refl) u e
 texts_read DuckDb s rest u e = doubled_read DuckDb s rest (λ xs. refl) u e
-texts_read Spark s rest u e = ap (sql.taken_at Spark) (by_bytes Backslashed s rest u) ∙ escaped_read Backslashed s rest u e
+texts_read Spark s rest u e =
+    ap (sql.taken_at Spark) (by_bytes backslashing backslashing_spells (39 ∷ []) s rest u)
+    ∙ ap (λ r. some (sql.text_taken r)) (characters_read (quoting_of Spark []) s rest e) ∙ made_read s rest u
 
 -- ---- numbers
 

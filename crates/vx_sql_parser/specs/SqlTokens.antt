@@ -9,9 +9,7 @@ use Rattle.vx_source_types.specs.Characters.{is_blank}
 use Rattle.vx_source_types.specs.Tokens.{Lexeme, word, quoted, number, text, octets, sign, end, invalid, next, first}
 use Rattle.vx_sql.specs.declared.dialect.Dialect.{Dialect}
 use Rattle.vx_sql.specs.declared.dialect.Dialect.TheVariants.{Postgres, Sqlite, DuckDb, Spark}
-use Rattle.vx_sql.specs.declared.quotes.Quoting.{Quoting}
-use Rattle.vx_sql.specs.declared.quotes.Quoting.TheVariants.{Escaped, Backslashed}
-use Rattle.vx_sql.specs.Quotes.{anywhere, text_read}
+use Rattle.vx_sql.specs.Quotes.{quoting_of, Reading, anywhere, text_read}
 use Rattle.vx_sql_parser.specs.declared.reason.Unread.{Unread}
 use Rattle.vx_sql_parser.specs.declared.reason.Unread.TheVariants.{Sign as NoSign, Unclosed, Comment, NameQuote, Number as NoNumber}
 
@@ -87,8 +85,6 @@ doubles_quotes Sqlite = true
 doubles_quotes DuckDb = true
 doubles_quotes Spark = false
 
-abbrev pub quoting : Bool → Quoting
-quoting doubled = if doubled then Escaped else Backslashed
 
 -- the bytes, where they are a text
 abbrev pub utf8 : List ℕ → Option (List ℕ)
@@ -105,9 +101,13 @@ abbrev pub text_taken : Option (List ℕ × List ℕ) → SqlLexeme × List ℕ
 text_taken None = (Err Unclosed, [])
 text_taken (Some (made, rest)) = (text_lexeme made, rest)
 
--- such a text behind what opens it
+-- what stands behind what opens such a text, by the engines' ways with a backslash, 92: PostgreSQL's, where quotes are doubled, and
+-- Spark's
+abbrev pub escaped_read : Bool → Reading → List ℕ → Option (List ℕ × List ℕ)
+escaped_read doubled at bs = text_read (quoting_of (if doubled then Postgres else Spark) (92 ∷ [])) at bs
+
 abbrev pub escaped_taken : Bool → List ℕ → SqlLexeme × List ℕ
-escaped_taken doubled bs = text_taken (text_read (quoting doubled) anywhere bs)
+escaped_taken doubled bs = text_taken (escaped_read doubled anywhere bs)
 
 -- a token
 abbrev pub token_taken : Dialect → List ℕ → SqlLexeme × List ℕ

@@ -1,7 +1,7 @@
 // Texts in which a backslash says something of the byte behind it.
 ghost use Rattle.std.specs.Prelude.{◌≡◌, ◌≤◌, IfOk, MatchOption, length, option_map};
-ghost use Rattle.vx_sql.specs.Quotes.{anywhere, text_read};
-ghost use Rattle.vx_sql_parser.specs.SqlTokens.{escaped_taken, quoting, text_lexeme, utf8};
+ghost use Rattle.vx_sql.specs.Quotes.{anywhere};
+ghost use Rattle.vx_sql_parser.specs.SqlTokens.{escaped_read, escaped_taken, text_lexeme, utf8};
 ghost use Rattle.vx_sql_parser.specs.Views.{between_of, sql_of, token_of};
 
 use crate::reason::Unread;
@@ -51,7 +51,7 @@ fn between(
     doubled: bool,
     bytes: &[u8],
 ) -> Result<Option<(Vec<u8>, usize)>, AllocError>
-    ensures found { IfOk result (λ o. between_of bytes.now o ≡ text_read (quoting doubled) anywhere bytes.now) }
+    ensures found { IfOk result (λ o. between_of bytes.now o ≡ escaped_read doubled anywhere bytes.now) }
     ensures within { IfOk result (λ o. MatchOption o (Unit {0}) (λ p. p.1 ≤ length bytes.now)) }
 {
     let mut made = Vec::new(alloc);
