@@ -1,5 +1,5 @@
 -- Names, texts, numbers and types that are written for an engine are read back.
-use Rattle.std.proofs.Common.{◌≡◌, ℕ, suc, ◌<◌, ◌≤◌, Bool, true, false, List, [], ◌∷◌, ◌++◌, length, get_or, drop, codes, chars, Some, Ok, inl, inr, refl, sym, ap, ap₂, ◌∙◌, append_assoc, append-nil, arith}
+use Rattle.std.proofs.Common.{◌≡◌, ℕ, suc, ◌<◌, ◌≤◌, Bool, true, false, List, [], ◌∷◌, ◌++◌, length, get_or, drop, codes, chars, Some, None, Ok, inl, inr, refl, sym, ap, ap₂, ◌∙◌, append_assoc, append-nil, arith}
 use Rattle.std.specs.Prelude.{◌==◌, ◌||◌, ◌&&◌, if◌then◌else◌}
 use Rattle.std.specs.Fmt.{decimal}
 use Rattle.std.specs.List.{flat_map, list_all, list_any}
@@ -91,12 +91,12 @@ each inside s (c ∷ cs) =
     encodes-append (inside c) (flat_map inside cs) ∙ ap₂ (λ (xs ys : List ℕ). xs ++ ys) (one inside s c) (each inside s cs) ∙ sym (flat_map-append inside (encode c) (encodes cs))
 
 -- a text between quotes by its bytes, behind what opens it
-by_bytes : (inside : ℕ → List ℕ) → Spells inside → (open s rest : List ℕ) → IsUtf8 s
-    → (open ++ (encodes (flat_map inside (chars s)) ++ 39 ∷ [])) ++ rest ≡ open ++ (flat_map inside s ++ 39 ∷ rest)
-by_bytes inside spells open s rest u =
-    ap (λ xs. (open ++ (xs ++ 39 ∷ [])) ++ rest) (each inside spells (chars s) ∙ ap (flat_map inside) (encodes-chars s u))
-    ∙ append_assoc open (flat_map inside s ++ 39 ∷ []) rest
-    ∙ ap (λ xs. open ++ xs) (append_assoc (flat_map inside s) (39 ∷ []) rest)
+by_bytes : (inside : ℕ → List ℕ) → Spells inside → (start s rest : List ℕ) → IsUtf8 s
+    → (start ++ (encodes (flat_map inside (chars s)) ++ 39 ∷ [])) ++ rest ≡ start ++ (flat_map inside s ++ 39 ∷ rest)
+by_bytes inside spells start s rest u =
+    ap (λ xs. (start ++ (xs ++ 39 ∷ [])) ++ rest) (each inside spells (chars s) ∙ ap (flat_map inside) (encodes-chars s u))
+    ∙ append_assoc start (flat_map inside s ++ 39 ∷ []) rest
+    ∙ ap (λ xs. start ++ xs) (append_assoc (flat_map inside s) (39 ∷ []) rest)
 
 -- the three ways of `vx_sql`
 abbrev doubling : ℕ → List ℕ
@@ -122,14 +122,17 @@ backslashing_spells = record { quote = refl; backslash = refl; other = λ c e h.
 
 doubled_is : (s : List ℕ) → flat_map doubling s ≡ doubled 39 s
 doubled_is [] = refl
-doubled_is (b ∷ s) = by (b == 39) (b == 92) refl refl where
-  all : (xs : List ℕ) → doubling b ≡ xs → doubling b ++ flat_map doubling s ≡ xs ++ doubled 39 s
-  all xs is = ap₂ (λ (ys zs : List ℕ). ys ++ zs) is (doubled_is s)
-
-  by : (t u : Bool) → (b == 39) ≡ t → (b == 92) ≡ u → flat_map doubling (b ∷ s) ≡ doubled 39 (b ∷ s)
-  by true u e h = all (39 ∷ 39 ∷ []) (cond-true (b == 39) _ _ e) ∙ sym (yes (b == 39) _ _ e)
-  by false true e h = all (92 ∷ []) (cond-false (b == 39) _ _ e ∙ cond-true (b == 92) _ _ h) ∙ ap (λ c. c ∷ doubled 39 s) (sym (same_is b 92 h)) ∙ sym (no (b == 39) _ _ e)
-  by false false e h = all (b ∷ []) (cond-false (b == 39) _ _ e ∙ cond-false (b == 92) _ _ h) ∙ sym (no (b == 39) _ _ e)
+doubled_is (b ∷ s) = by (b == 39) (b == 92) refl refl (doubled_is s) where
+  by : (t u : Bool) → (b == 39) ≡ t → (b == 92) ≡ u → flat_map doubling s ≡ doubled 39 s → flat_map doubling (b ∷ s) ≡ doubled 39 (b ∷ s)
+  by true u e h k =
+      let is : doubling b ≡ 39 ∷ 39 ∷ [] = cond-true (b == 39) _ _ e in
+      ap₂ (λ (ys zs : List ℕ). ys ++ zs) is k ∙ sym (yes (b == 39) _ _ e)
+  by false true e h k =
+      let is : doubling b ≡ 92 ∷ [] = cond-false (b == 39) _ _ e ∙ cond-true (b == 92) _ _ h in
+      ap₂ (λ (ys zs : List ℕ). ys ++ zs) is k ∙ ap (λ c. c ∷ doubled 39 s) (sym (same_is b 92 h)) ∙ sym (no (b == 39) _ _ e)
+  by false false e h k =
+      let is : doubling b ≡ b ∷ [] = cond-false (b == 39) _ _ e ∙ cond-false (b == 92) _ _ h in
+      ap₂ (λ (ys zs : List ℕ). ys ++ zs) is k ∙ sym (no (b == 39) _ _ e)
 
 -- ---- texts
 
