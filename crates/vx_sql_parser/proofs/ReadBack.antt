@@ -1,5 +1,5 @@
 -- Names, texts, numbers and types that are written for an engine are read back.
-use Rattle.std.proofs.Common.{◌≡◌, ℕ, suc, ◌<◌, ◌≤◌, Bool, true, false, List, [], ◌∷◌, ◌++◌, length, get_or, drop, codes, chars, Some, None, Ok, inl, inr, refl, sym, ap, ap₂, ◌∙◌, append_assoc, append-nil, arith}
+use Rattle.std.proofs.Common.{◌≡◌, ℕ, suc, ◌<◌, ◌≤◌, Bool, true, false, List, [], ◌∷◌, ◌++◌, length, get_or, drop, chars, Some, None, Ok, inl, inr, refl, sym, ap, ap₂, ◌∙◌, append_assoc, append-nil, arith}
 use Rattle.std.specs.Prelude.{◌==◌, ◌||◌, ◌&&◌, if◌then◌else◌}
 use Rattle.std.specs.Fmt.{decimal}
 use Rattle.std.specs.List.{flat_map, list_all, list_any}
@@ -78,10 +78,10 @@ one inside s c =
       | inl small ↦ low inside s c small ∙ sym (append-nil (inside c)) ∙ ap (flat_map inside) (sym (encode_ascii c small))
       | inr big ↦
           let wide : (k : ℕ) → k < length (encode c) → 128 ≤ get_or (encode c) k 0 = λ k below.
-              elim (cases_lt (get_or (encode c) k 0) 128) [
-                | inl less ↦ absurd (omega (arith, inside_one c [] (encode c) k (sym (append-nil _)) below less))
-                | inr h ↦ h
-              ] in
+          elim (cases_lt (get_or (encode c) k 0) 128) [
+            | inl less ↦ absurd (omega (arith, inside_one c [] (encode c) k (sym (append-nil _)) below less))
+            | inr h ↦ h
+          ] in
           ap encodes (s.other c (isnt_39 c big) (isnt_92 c big)) ∙ append-nil (encode c) ∙ sym (high inside s (encode c) wide)
     ]
 
@@ -211,8 +211,8 @@ digit_first d (b ∷ ds) rest h l =
     let digit = (and_parts (is_digit b) (list_all is_digit ds) h).0 in
     let bs = ds ++ rest in
     let no_comment : sql.blank_taken (b ∷ bs) ≡ None = cond-false (is_blank b) _ _ (no_blank b digit)
-        ∙ cond-false (b == 45 && next bs == 45) _ _ (both (b == 45) (next bs == 45) (no_dash b digit))
-        ∙ cond-false (b == 47 && next bs == 42) _ _ (both (b == 47) (next bs == 42) (no_slash b digit)) in
+    ∙ cond-false (b == 45 && next bs == 45) _ _ (both (b == 45) (next bs == 45) (no_dash b digit))
+    ∙ cond-false (b == 47 && next bs == 42) _ _ (both (b == 47) (next bs == 42) (no_slash b digit)) in
     ap (sql.or_token (sql.token_taken d (b ∷ bs))) no_comment
     ∙ ap (λ n. some (if n == 0 then sql.plain_taken d (b ∷ bs) else sql.escaped_taken (sql.doubles_quotes d) (drop n (b ∷ bs)))) (opens_none d b bs digit)
 

@@ -1,5 +1,5 @@
 -- What tokens are written as, one after another.
-use Rattle.std.proofs.Common.{◌≡◌, ℕ, zero, suc, List, [], ◌∷◌, ◌++◌, Result, Ok, Err, refl, sym, ap, ◌∙◌, append_assoc}
+use Rattle.std.proofs.Common.{◌≡◌, ℕ, List, [], ◌∷◌, ◌++◌, Result, Ok, Err, refl, sym, ap, ◌∙◌, append_assoc}
 use Rattle.vx_sql.specs.declared.dialect.Dialect.{Dialect}
 use Rattle.vx_sql_parser.specs.declared.reason.Unread.{Unread}
 use Rattle.vx_sql_parser.specs.SqlTokens.{SqlLexeme}

@@ -1,5 +1,5 @@
 -- What a text of SQL is read as.
-use Rattle.std.specs.Prelude.{◌≡◌, ℕ, Bool, true, false, List, Result, Ok, Err, MatchResult}
+use Rattle.std.specs.Prelude.{◌≡◌, ℕ, List, Result, Ok, Err, MatchResult}
 use Rattle.std.specs.Str.{IsCharBoundary}
 use Rattle.vx_value.specs.Types.{LogicalType}
 use Rattle.vx_tree.specs.Trees.{Tree}

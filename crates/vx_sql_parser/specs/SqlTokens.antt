@@ -85,7 +85,6 @@ doubles_quotes Sqlite = true
 doubles_quotes DuckDb = true
 doubles_quotes Spark = false
 
-
 -- the bytes, where they are a text
 abbrev pub utf8 : List ℕ → Option (List ℕ)
 utf8 bs = if is_utf8 bs then Some bs else None

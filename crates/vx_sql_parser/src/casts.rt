@@ -52,11 +52,13 @@ fn typed_literal(
     ensures { IfOk result (λ t. option_map string_bytes t ≡ rules.typed_literal (option_map (λ x. lexeme_of x.now) token.entry) (option_map (λ t. t.now) dtype.entry)) }
 {
     match token {
-        Some(Token::Number {
-            negative,
-            magnitude: Some(n),
-            ..
-        }) => typed_number(alloc, *negative, *n, dtype),
+        Some(
+            Token::Number {
+                negative,
+                magnitude: Some(n),
+                ..
+            },
+        ) => typed_number(alloc, *negative, *n, dtype),
         Some(Token::Word(null)) if is(null.as_str(), "null") => typed_null(alloc, dtype),
         _ => Ok(None),
     }

@@ -174,11 +174,7 @@ fn text_of(
 }
 
 // A number, with no word behind it, and below 2^64.
-fn number_of(
-    negative: bool,
-    magnitude: Option<u64>,
-    suffix: FieldName,
-) -> Result<Token, Unread>
+fn number_of(negative: bool, magnitude: Option<u64>, suffix: FieldName) -> Result<Token, Unread>
     ensures { sql_of result ≡ number_lexeme negative magnitude suffix }
 {
     if magnitude.is_some() && suffix.as_str().is_empty() {

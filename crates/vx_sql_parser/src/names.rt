@@ -98,7 +98,8 @@ fn are_words(bytes: &[u8]) -> bool
 fn is_word(b: u8) -> bool
     ensures { result ≡ is_word b }
 {
-    ((b >= b'a' && b <= b'z') || ((b >= b'A' && b <= b'Z') || b == b'_')) || (b >= b'0' && b <= b'9')
+    ((b >= b'a' && b <= b'z') || ((b >= b'A' && b <= b'Z') || b == b'_'))
+        || (b >= b'0' && b <= b'9')
 }
 
 // A collation, which isn't written where it is the one of bytes.

@@ -153,12 +153,7 @@ fn case_rule(
 }
 
 // A name, a function, or a word that isn't read.
-fn other_rule(
-    alloc: Global,
-    dialect: Dialect,
-    word: &str,
-    behind: &[Lexed],
-) -> Result<Step, Stop>
+fn other_rule(alloc: Global, dialect: Dialect, word: &str, behind: &[Lexed]) -> Result<Step, Stop>
     ensures { Answers result (rules.other_rule dialect word.now (lexemes_of behind.now)) }
 {
     if is_reserved(word) {

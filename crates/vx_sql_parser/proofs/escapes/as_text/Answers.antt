@@ -1,4 +1,4 @@
-use Rattle.std.proofs.Common.{None, Some, sym, ap, ◌∙◌}
+use Rattle.std.proofs.Common.{Some, sym, ap, ◌∙◌}
 use Rattle.vx_sql_parser.proofs.ByteTexts.{utf8_is, utf8_isnt}
 use Rattle.vx_sql_parser.proofs.escapes.as_text.Goals as goal
 
