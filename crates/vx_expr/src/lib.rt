@@ -16,6 +16,7 @@ pub mod prune;
 pub mod query;
 pub mod scan;
 pub mod source;
+pub mod sql;
 pub mod threads;
 pub mod transform;
 pub mod traversal;

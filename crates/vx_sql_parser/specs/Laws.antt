@@ -1,0 +1,55 @@
+-- What is read back of names, texts, numbers and types that are written for an engine.
+use Rattle.std.specs.Prelude.{◌≡◌, ◌<◌, ◌^◌, ℕ, false, ◌==◌, List, [], ◌++◌, Some, Ok, IsUtf8, codes}
+use Rattle.std.specs.Fmt.{decimal}
+use Rattle.vx_dtype.specs.Types.{Name}
+use Rattle.vx_dtype.specs.declared.dtype.PType.{PType}
+use Rattle.vx_dtype.specs.declared.dtype.PType.TheVariants.{U8, U16, U32, U64, I8, I16, I32, I64}
+use Rattle.vx_source_types.specs.Characters.{is_word}
+use Rattle.vx_source_types.specs.Tokens.{next, quoted, number, text}
+use Rattle.vx_sql.specs.declared.dialect.Dialect.{Dialect}
+use Rattle.vx_sql.specs.Dialects.{postgres_word, duckdb_word}
+use Rattle.vx_sql.specs.declared.dialect.Dialect.TheVariants.{Postgres, DuckDb}
+use Rattle.vx_sql.specs.Quotes.{name_quote, name_sql, text_sql}
+use Rattle.vx_sql_parser.specs.SqlTokens.{Taken, taken_at}
+use Rattle.vx_sql_parser.specs.Types.{type_named}
+
+-- a name as `vx_sql` writes it is the first token, whole, whatever follows but another quote
+abbrev pub WrittenNamesAreRead : Type 0
+WrittenNamesAreRead = (d : Dialect) (a : Name) (rest : List ℕ) → IsUtf8 a → (next rest == name_quote d) ≡ false
+    → taken_at d (name_sql d a ++ rest) ≡ (let t : Taken = (Some (Ok (quoted a)), rest) in t)
+
+-- so is a text
+abbrev pub WrittenTextsAreRead : Type 0
+WrittenTextsAreRead = (d : Dialect) (s rest : List ℕ) → IsUtf8 s → (next rest == 39) ≡ false
+    → taken_at d (text_sql d s ++ rest) ≡ (let t : Taken = (Some (Ok (text s)), rest) in t)
+
+-- so are the digits of a number, before what no word goes on with
+abbrev pub WrittenNumbersAreRead : Type 0
+WrittenNumbersAreRead = (d : Dialect) (n : ℕ) (rest : List ℕ) → n < 2 ^ 64 → is_word (next rest) ≡ false
+    → taken_at d (decimal n ++ rest) ≡ (let t : Taken = (Some (Ok (number false (Some n) [])), rest) in t)
+
+-- the type of numbers that is read of PostgreSQL's word for one: the one that has all of its numbers
+abbrev pub in_postgres : PType → List ℕ
+in_postgres U8 = codes "i16"
+in_postgres U16 = codes "i32"
+in_postgres U32 = codes "i64"
+in_postgres U64 = codes "u64"
+in_postgres I8 = codes "i16"
+in_postgres I16 = codes "i16"
+in_postgres I32 = codes "i32"
+in_postgres I64 = codes "i64"
+
+-- DuckDB has a word for each
+abbrev pub in_duckdb : PType → List ℕ
+in_duckdb U8 = codes "u8"
+in_duckdb U16 = codes "u16"
+in_duckdb U32 = codes "u32"
+in_duckdb U64 = codes "u64"
+in_duckdb I8 = codes "i8"
+in_duckdb I16 = codes "i16"
+in_duckdb I32 = codes "i32"
+in_duckdb I64 = codes "i64"
+
+-- the words that `vx_sql` writes for the types of numbers are read
+abbrev pub WrittenTypesAreRead : Type 0
+WrittenTypesAreRead = (p : PType) → (type_named Postgres (postgres_word p) ≡ Some (in_postgres p)) × (type_named DuckDb (duckdb_word p) ≡ Some (in_duckdb p))

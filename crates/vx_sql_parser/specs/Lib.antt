@@ -1,0 +1,9 @@
+pub mod SqlTokens
+pub mod Words
+pub mod Types
+pub mod Patterns
+pub mod Rules
+pub mod RuleViews
+pub mod Views
+pub mod Reading
+pub mod Laws

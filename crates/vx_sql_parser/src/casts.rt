@@ -1,0 +1,112 @@
+// Casts, of literals and others.
+ghost use Rattle.std.specs.Prelude.{◌≡◌, ◌<◌, IfOk, option_map, string_bytes};
+ghost use Rattle.vx_source_types.specs.Views.{lexeme_of};
+ghost use Rattle.vx_sql_parser.specs.Rules as rules;
+ghost use Rattle.vx_sql_parser.specs.RuleViews.{Answers};
+ghost use Rattle.vx_sql_parser.specs.Views.{lexemes_of};
+
+use crate::ahead::{closes_at, is_word_at, token_at, word_at};
+use crate::keywords::is;
+use crate::lexed::Lexed;
+use crate::names::sign_of;
+use crate::reason::Unread;
+use crate::step::{Bracket, Change, Step, Stop, says, stepped};
+use crate::types::type_named;
+use std::alloc::{AllocError, Global};
+use vx_source_types::Token;
+use vx_sql::Dialect;
+
+// A cast whose bracket is the first token: a literal, or the bracket around what is cast.
+pub(crate) fn cast(alloc: Global, dialect: Dialect, tokens: &[Lexed]) -> Result<Step, Stop>
+    ensures { Answers result (rules.cast_said (rules.literal_cast dialect (lexemes_of tokens.now) 0)) }
+{
+    match literal_cast(alloc, dialect, tokens, 0)? {
+        Some(text) => Ok(stepped(text, Change::Stays, 5)),
+        None => says(alloc, "cast(", Change::Opens(Bracket::Paren), 1),
+    }
+}
+
+// The literal that a cast is whose bracket is at that place: a number or a null, of the type that is said.
+pub(crate) fn literal_cast(
+    alloc: Global,
+    dialect: Dialect,
+    tokens: &[Lexed],
+    i: usize,
+) -> Result<Option<String>, AllocError>
+    requires { i < 2 }
+    ensures { IfOk result (λ t. option_map string_bytes t ≡ rules.literal_cast dialect (lexemes_of tokens.now) i) }
+{
+    if !(is_word_at(tokens, i + 2, "as") && closes_at(tokens, i + 4)) {
+        return Ok(None);
+    }
+    let dtype = typed(dialect, word_at(tokens, i + 3));
+    typed_literal(alloc, token_at(tokens, i + 1), dtype)
+}
+
+// The literal that the token is as one of that type.
+fn typed_literal(
+    alloc: Global,
+    token: Option<&Token>,
+    dtype: Option<&'static str>,
+) -> Result<Option<String>, AllocError>
+    ensures { IfOk result (λ t. option_map string_bytes t ≡ rules.typed_literal (option_map (λ x. lexeme_of x.now) token.entry) (option_map (λ t. t.now) dtype.entry)) }
+{
+    match token {
+        Some(
+            Token::Number {
+                negative,
+                magnitude: Some(n),
+                ..
+            },
+        ) => typed_number(alloc, *negative, *n, dtype),
+        Some(Token::Word(null)) if is(null.as_str(), "null") => typed_null(alloc, dtype),
+        _ => Ok(None),
+    }
+}
+
+fn typed_number(
+    alloc: Global,
+    negative: bool,
+    n: u64,
+    dtype: Option<&'static str>,
+) -> Result<Option<String>, AllocError>
+    ensures { IfOk result (λ t. option_map string_bytes t ≡ rules.typed_number negative n (option_map (λ t. t.now) dtype.entry)) }
+{
+    let Some(dtype) = dtype else {
+        return Ok(None);
+    };
+    let sign = sign_of(negative);
+    Ok(Some(format!(in alloc; "{sign}{n}::{dtype}")?))
+}
+
+fn typed_null(alloc: Global, dtype: Option<&'static str>) -> Result<Option<String>, AllocError>
+    ensures { IfOk result (λ t. option_map string_bytes t ≡ rules.typed_null (option_map (λ t. t.now) dtype.entry)) }
+{
+    let Some(dtype) = dtype else {
+        return Ok(None);
+    };
+    Ok(Some(format!(in alloc; "null::{dtype}?")?))
+}
+
+// The type that the word is.
+fn typed(dialect: Dialect, word: Option<&str>) -> Option<&'static str>
+    ensures { option_map (λ t. t.now) result ≡ rules.typed dialect (option_map (λ w. w.now) word.entry) }
+{
+    match word {
+        Some(word) => type_named(dialect, word),
+        None => None,
+    }
+}
+
+// The type behind `as`.
+pub(crate) fn as_type(alloc: Global, dialect: Dialect, tokens: &[Lexed]) -> Result<Step, Stop>
+    ensures { Answers result (rules.as_said (rules.typed dialect (rules.word_at (lexemes_of tokens.now) 0))) }
+{
+    match typed(dialect, word_at(tokens, 0)) {
+        Some(dtype) => {
+            let text = format!(in alloc; "as {dtype}?")?;
+            Ok(stepped(text, Change::Stays, 1))
+        }
+        None => Err(Stop::Unread(Unread::CastType)),
+    }
+}

@@ -1,0 +1,23 @@
+// Laws of reading, as functions without a body.
+ghost use Rattle.vx_sql_parser.specs.Laws.{WrittenNamesAreRead, WrittenNumbersAreRead, WrittenTextsAreRead, WrittenTypesAreRead};
+
+/// Each name that `vx_sql` writes for an engine is read back, whatever is in it, and what stands behind
+/// it is no part of it.
+pub fn written_names_are_read()
+    ensures { WrittenNamesAreRead }
+{}
+
+/// So is each text.
+pub fn written_texts_are_read()
+    ensures { WrittenTextsAreRead }
+{}
+
+/// So are the digits of a number, whose casts are read by `written_types_are_read`.
+pub fn written_numbers_are_read()
+    ensures { WrittenNumbersAreRead }
+{}
+
+/// PostgreSQL's and DuckDB's words for the types of numbers are read as the narrowest type that has their numbers.
+pub fn written_types_are_read()
+    ensures { WrittenTypesAreRead }
+{}

@@ -1,0 +1,124 @@
+// Names, numbers, bytes and collations.
+ghost use Rattle.std.specs.Prelude.{◌≡◌, option_map};
+ghost use Rattle.vx_source_types.specs.Characters.{is_word};
+ghost use Rattle.vx_sql_parser.specs.Rules as rules;
+ghost use Rattle.vx_sql_parser.specs.RuleViews.{Answers};
+ghost use Rattle.vx_sql_parser.specs.Views.{lexemes_of};
+ghost use Rattle.std.specs.List.{list_all};
+
+use crate::ahead::{is_dot_at, text_at, token_at};
+use crate::keywords::{is, is_one_of};
+use crate::lexed::Lexed;
+use crate::quotes::QuotedName;
+use crate::reason::Unread;
+use crate::step::{Change, Step, Stop, says, stepped};
+use std::alloc::Global;
+use vx_source_types::Token;
+use vx_sql::Dialect;
+
+// A name, behind which no other stands.
+pub(crate) fn name_rule(alloc: Global, name: &str, behind: &[Lexed]) -> Result<Step, Stop>
+    ensures { Answers result (rules.name_rule name.now (lexemes_of behind.now)) }
+{
+    if is_dot_at(behind, 0) {
+        return Err(Stop::Unread(Unread::Table));
+    }
+    let name = QuotedName(name);
+    Ok(stepped(format!(in alloc; "{name}")?, Change::Stays, 0))
+}
+
+// A number, with no point behind it.
+pub(crate) fn number_rule(
+    alloc: Global,
+    negative: bool,
+    n: u64,
+    behind: &[Lexed],
+) -> Result<Step, Stop>
+    ensures { Answers result (rules.number_rule negative n (lexemes_of behind.now)) }
+{
+    if is_dot_at(behind, 0) {
+        return Err(Stop::Unread(Unread::Number));
+    }
+    let sign = sign_of(negative);
+    Ok(stepped(format!(in alloc; "{sign}{n}")?, Change::Stays, 0))
+}
+
+pub(crate) fn sign_of(negative: bool) -> &'static str
+    ensures { result.now ≡ rules.sign_source negative }
+{
+    if negative { "-" } else { "" }
+}
+
+// A word before a text: an `X` says that bytes are spelled by it.
+pub(crate) fn typed_text(
+    alloc: Global,
+    dialect: Dialect,
+    word: &str,
+    behind: &[Lexed],
+) -> Result<Step, Stop>
+    ensures { Answers result (rules.typed_text dialect word.now (lexemes_of behind.now)) }
+{
+    if has_octets(dialect) && is(word, "x") {
+        octets_said(alloc, 1, text_at(behind, 0))
+    } else {
+        Err(Stop::Unread(Unread::TypedText))
+    }
+}
+
+fn has_octets(dialect: Dialect) -> bool
+    ensures { result ≡ rules.has_octets dialect }
+{
+    matches!(dialect, Dialect::Sqlite | Dialect::Spark)
+}
+
+// Bytes by the digits that stand for them, which take so many tokens.
+pub(crate) fn octets_said(alloc: Global, more: usize, digits: Option<&str>) -> Result<Step, Stop>
+    ensures { Answers result (rules.octets_said more (option_map (λ d. d.now) digits.entry)) }
+{
+    match digits {
+        Some(digits) if are_words(digits.as_bytes()) => {
+            Ok(stepped(format!(in alloc; "0x{digits}")?, Change::Stays, more))
+        }
+        _ => Err(Stop::Unread(Unread::Hexadecimal)),
+    }
+}
+
+// Whether all of the bytes are letters, digits or underscores.
+fn are_words(bytes: &[u8]) -> bool
+    ensures { result ≡ list_all is_word bytes.now }
+{
+    for b in bytes {
+        if !is_word(*b) {
+            return false;
+        }
+    }
+    true
+}
+
+fn is_word(b: u8) -> bool
+    ensures { result ≡ is_word b }
+{
+    ((b >= b'a' && b <= b'z') || ((b >= b'A' && b <= b'Z') || b == b'_'))
+        || (b >= b'0' && b <= b'9')
+}
+
+// A collation, which isn't written where it is the one of bytes.
+pub(crate) fn collate_rule(alloc: Global, behind: &[Lexed]) -> Result<Step, Stop>
+    ensures { Answers result (rules.collate_rule (lexemes_of behind.now)) }
+{
+    if is_bytes_order(behind) {
+        says(alloc, "", Change::Stays, 1)
+    } else {
+        Err(Stop::Unread(Unread::Collation))
+    }
+}
+
+fn is_bytes_order(behind: &[Lexed]) -> bool
+    ensures { result ≡ rules.is_bytes_order (rules.lexeme_at (lexemes_of behind.now) 0) }
+{
+    match token_at(behind, 0) {
+        Some(Token::Quoted(name)) => is(name.as_str(), "C"),
+        Some(Token::Word(word)) => is_one_of(word.as_str(), &["binary", "utf8_binary"]),
+        _ => false,
+    }
+}

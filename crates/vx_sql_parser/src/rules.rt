@@ -1,0 +1,200 @@
+// What tokens of SQL are written as.
+ghost use Rattle.std.specs.Prelude.{◌≡◌, ◌<◌, option_map};
+ghost use Rattle.vx_source_types.specs.Views.{lexeme_of};
+ghost use Rattle.vx_sql_parser.specs.Rules as rules;
+ghost use Rattle.vx_sql_parser.specs.RuleViews.{Answers};
+ghost use Rattle.vx_sql_parser.specs.Views.{lexemes_of, sql_of};
+
+use crate::ahead::{is_text_at, is_word_at, opens_at};
+use crate::calls::{call, comma};
+use crate::cases::{case_begins, then_said, when_said};
+use crate::casts::as_type;
+use crate::keywords::{is, is_divider, is_plain_word, is_reserved};
+use crate::lexed::Lexed;
+use crate::likes::{ilike, like};
+use crate::names::{collate_rule, name_rule, number_rule, typed_text};
+use crate::patterns::ignores_case;
+use crate::quotes::QuotedText;
+use crate::reason::Unread;
+use crate::step::{Bracket, Change, Step, Stop, says, stepped};
+use std::alloc::Global;
+use vx_source_types::{Sign, Token};
+use vx_sql::Dialect;
+
+// What the token is written as: inside that bracket, behind a `<` there or not, and before those tokens.
+pub(crate) fn written_as(
+    alloc: Global,
+    dialect: Dialect,
+    top: Option<&Bracket>,
+    chained: bool,
+    token: &Result<Token, Unread>,
+    behind: &[Lexed],
+) -> Result<Step, Stop>
+    ensures { Answers result (rules.rule dialect (option_map (λ b. b.now) top.entry) chained (sql_of token.now) (lexemes_of behind.now)) }
+{
+    match token {
+        Ok(token) => token_rule(alloc, dialect, top, chained, token, behind),
+        Err(reason) => Err(Stop::Unread(*reason)),
+    }
+}
+
+fn token_rule(
+    alloc: Global,
+    dialect: Dialect,
+    top: Option<&Bracket>,
+    chained: bool,
+    token: &Token,
+    behind: &[Lexed],
+) -> Result<Step, Stop>
+    ensures { Answers result (rules.token_rule dialect (option_map (λ b. b.now) top.entry) chained (lexeme_of token.now) (lexemes_of behind.now)) }
+{
+    match token {
+        Token::Word(word) => word_rule(alloc, dialect, top, word.as_str(), behind),
+        Token::Quoted(name) => name_rule(alloc, name.as_str(), behind),
+        Token::Text(text) => {
+            let text = QuotedText(text.as_str());
+            Ok(stepped(format!(in alloc; "{text}")?, Change::Stays, 0))
+        }
+        Token::Number {
+            negative,
+            magnitude: Some(n),
+            ..
+        } => number_rule(alloc, *negative, *n, behind),
+        Token::Sign(Sign::Comma) => comma(alloc, dialect, top, behind),
+        Token::Sign(sign) => sign_rule(alloc, chained, *sign),
+        _ => Err(Stop::Unread(Unread::Sign)),
+    }
+}
+
+fn word_rule(
+    alloc: Global,
+    dialect: Dialect,
+    top: Option<&Bracket>,
+    word: &str,
+    behind: &[Lexed],
+) -> Result<Step, Stop>
+    ensures { Answers result (rules.word_rule dialect (option_map (λ b. b.now) top.entry) word.now (lexemes_of behind.now)) }
+{
+    if is_divider(word) {
+        says(alloc, word, Change::Divides, 0)
+    } else if is_plain_word(word) {
+        says(alloc, word, Change::Stays, 0)
+    } else {
+        keyword_rule(alloc, dialect, top, word, behind)
+    }
+}
+
+// `is`, `like`, `ilike` and `as`.
+fn keyword_rule(
+    alloc: Global,
+    dialect: Dialect,
+    top: Option<&Bracket>,
+    word: &str,
+    behind: &[Lexed],
+) -> Result<Step, Stop>
+    ensures { Answers result (rules.keyword_rule dialect (option_map (λ b. b.now) top.entry) word.now (lexemes_of behind.now)) }
+{
+    if is(word, "is") {
+        is_rule(alloc, behind)
+    } else if is(word, "like") {
+        like(alloc, dialect, ignores_case(dialect), behind)
+    } else if is(word, "ilike") {
+        ilike(alloc, dialect, behind)
+    } else if is(word, "as") {
+        as_type(alloc, dialect, behind)
+    } else {
+        case_rule(alloc, dialect, top, word, behind)
+    }
+}
+
+// `is`, and the tests for null that PostgreSQL has for structs.
+fn is_rule(alloc: Global, behind: &[Lexed]) -> Result<Step, Stop>
+    ensures { Answers result (rules.is_rule (lexemes_of behind.now)) }
+{
+    if is_distinct(behind, 0) {
+        says(alloc, "is not null", Change::Stays, 3)
+    } else if is_word_at(behind, 0, "not") && is_distinct(behind, 1) {
+        says(alloc, "is null", Change::Stays, 4)
+    } else {
+        says(alloc, "is", Change::Stays, 0)
+    }
+}
+
+// Whether `distinct from null` stands from that place on.
+fn is_distinct(behind: &[Lexed], i: usize) -> bool
+    requires { i < 2 }
+    ensures { result ≡ rules.is_distinct (lexemes_of behind.now) i }
+{
+    is_word_at(behind, i, "distinct")
+        && (is_word_at(behind, i + 1, "from") && is_word_at(behind, i + 2, "null"))
+}
+
+// The words of a CASE.
+fn case_rule(
+    alloc: Global,
+    dialect: Dialect,
+    top: Option<&Bracket>,
+    word: &str,
+    behind: &[Lexed],
+) -> Result<Step, Stop>
+    ensures { Answers result (rules.case_rule dialect (option_map (λ b. b.now) top.entry) word.now (lexemes_of behind.now)) }
+{
+    if is(word, "case") {
+        case_begins(alloc, behind)
+    } else if is(word, "when") {
+        Ok(stepped(when_said(alloc, top)?, Change::Divides, 0))
+    } else if is(word, "then") {
+        says(alloc, then_said(top), Change::Divides, 0)
+    } else if is(word, "end") {
+        says(alloc, "end", Change::Closes, 0)
+    } else {
+        other_rule(alloc, dialect, word, behind)
+    }
+}
+
+// A name, a function, or a word that isn't read.
+fn other_rule(alloc: Global, dialect: Dialect, word: &str, behind: &[Lexed]) -> Result<Step, Stop>
+    ensures { Answers result (rules.other_rule dialect word.now (lexemes_of behind.now)) }
+{
+    if is_reserved(word) {
+        Err(Stop::Unread(Unread::Word))
+    } else if opens_at(behind, 0) {
+        call(alloc, dialect, word, behind)
+    } else if is_text_at(behind, 0) {
+        typed_text(alloc, dialect, word, behind)
+    } else if is(word, "collate") {
+        collate_rule(alloc, behind)
+    } else {
+        name_rule(alloc, word, behind)
+    }
+}
+
+// A sign, no comma.
+fn sign_rule(alloc: Global, chained: bool, sign: Sign) -> Result<Step, Stop>
+    ensures { Answers result (rules.sign_rule chained sign) }
+{
+    match sign {
+        Sign::OpenParen => says(alloc, "(", Change::Opens(Bracket::Paren), 0),
+        Sign::CloseParen => says(alloc, ")", Change::Closes, 0),
+        Sign::Dot => says(alloc, ".", Change::Stays, 0),
+        Sign::Equal | Sign::DoubleEqual => says(alloc, "=", Change::Stays, 0),
+        Sign::NotEqual => says(alloc, "<>", Change::Stays, 0),
+        Sign::Less => chain_rule(alloc, chained, "<"),
+        Sign::LessEqual => chain_rule(alloc, chained, "<="),
+        Sign::Greater => says(alloc, ">", Change::Stays, 0),
+        Sign::GreaterEqual => says(alloc, ">=", Change::Stays, 0),
+        Sign::Plus => says(alloc, "+", Change::Stays, 0),
+        _ => Err(Stop::Unread(Unread::Sign)),
+    }
+}
+
+// A `<` or `<=`, of which none stands before it: source text reads two as a range.
+fn chain_rule(alloc: Global, chained: bool, sign: &str) -> Result<Step, Stop>
+    ensures { Answers result (rules.chain_rule chained sign.now) }
+{
+    if chained {
+        Err(Stop::Unread(Unread::Chain))
+    } else {
+        says(alloc, sign, Change::Chains, 0)
+    }
+}
