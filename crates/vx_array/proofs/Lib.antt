@@ -5,3 +5,7 @@ pub mod Spanned
 pub mod Reading
 pub mod Fitting
 pub mod Below
+pub mod Mapped
+pub mod Joined
+pub mod Picked
+pub mod Found

@@ -82,6 +82,17 @@ impl BitPart {
         self.bits.part(alloc, self.from, self.len)
     }
 
+    /// The first so many in words that begin with them, copied. Asks rows that are there.
+    pub fn first(&self, alloc: Global, count: usize) -> Result<Bits, AllocError>
+        requires { count ≤ length self.now }
+        ensures { IfOk result (λ bits. bits ≡ take count self.now) }
+    {
+        match self.whole() {
+            Some(bits) if bits.len() == count => bits.clone(),
+            _ => self.slice(0, count)?.to_bits(alloc),
+        }
+    }
+
     /// So many of them from one on, in the same buffer. Asks rows that are there.
     pub fn slice(&self, from: usize, len: usize) -> Result<BitPart, AllocError>
         requires { from + len ≤ length self.now }

@@ -3,8 +3,10 @@
 
 mod array;
 mod bit_part;
+mod items;
 mod lanes;
 pub mod laws;
+mod masks;
 mod numbers;
 mod part;
 mod spans;

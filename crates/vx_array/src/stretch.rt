@@ -18,6 +18,27 @@ impl Stretch {
         Stretch { from: 0, len }
     }
 
+    /// The first of them.
+    pub fn from(self) -> usize
+        ensures { result ≡ self.from }
+    {
+        self.from
+    }
+
+    /// How many there are.
+    pub fn len(self) -> usize
+        ensures { result ≡ self.len }
+    {
+        self.len
+    }
+
+    /// The row behind the last one.
+    pub fn end(self) -> usize
+        ensures { result ≡ self.from + self.len }
+    {
+        self.from + self.len
+    }
+
     /// So many of them from one on. Asks rows that are there.
     pub fn slice(self, from: usize, len: usize) -> Stretch
         requires { from + len ≤ self.len }

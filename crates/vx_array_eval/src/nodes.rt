@@ -13,7 +13,7 @@ ghost use Rattle.vx_array_kernels.specs.Asked.{asked};
 ghost use Rattle.vx_eval.specs.Columns.{rows_of, node_answer, AllLong};
 
 use crate::by_rows::apply_by_rows;
-use crate::structs::pack;
+use crate::structs::{get_item, pack};
 use std::alloc::{AllocError, Global};
 use std::sync::Arc;
 use vx_array::Lanes;
@@ -21,7 +21,7 @@ use vx_array_kernels::{and, between, compare, comparison_of, is_not_null, is_nul
 use vx_array_loops::Comparison;
 use vx_fn::{BetweenOptions, Operator, ScalarFnRef, StrictComparison};
 use vx_tree::BoundExpression;
-use vx_types::{Scalar, VortexResult};
+use vx_types::{FieldName, Scalar, VortexResult};
 
 /// The function over its children's lanes, or its fault over their rows.
 #[inline(never)]
@@ -37,7 +37,7 @@ pub fn apply(
     requires long { AllLong count (lanes_each below.now) }
     ensures { ReturnsOrOom lanes_rows result (node_answer (function_of f.now) (node_types (bounds_of children.now)) (rows_of count (lanes_each below.now))) }
 {
-    match apply_fast(alloc, count, f, below)? {
+    match apply_fast(alloc, count, f, children, below)? {
         Some(out) => Ok(out),
         None => apply_by_rows(alloc, count, f, children, below),
     }
@@ -45,6 +45,42 @@ pub fn apply(
 
 // The function over its children's lanes, where there is a fast way.
 fn apply_fast(
+    alloc: Global,
+    count: usize,
+    f: &ScalarFnRef,
+    children: &[BoundExpression],
+    below: &[Lanes],
+) -> Result<Option<Lanes>, AllocError>
+    requires typed { IsOk (fn_type (function_of f.now) (node_types (bounds_of children.now))) }
+    requires long { AllLong count (lanes_each below.now) }
+    ensures { IfOk result (λ found. IfSome found (λ out. node_answer (function_of f.now) (node_types (bounds_of children.now)) (rows_of count (lanes_each below.now)) ≡ Ok (lanes_rows out))) }
+{
+    match f {
+        ScalarFnRef::GetItem(name) => item_of(alloc, count, name, children, below),
+        _ => apply_untyped(alloc, count, f, below),
+    }
+}
+
+// The first field of that name of the one child's structs, where there is a fast way.
+fn item_of(
+    alloc: Global,
+    count: usize,
+    name: &FieldName,
+    children: &[BoundExpression],
+    below: &[Lanes],
+) -> Result<Option<Lanes>, AllocError>
+    requires typed { IsOk (fn_type (functions.get_item name.now) (node_types (bounds_of children.now))) }
+    requires long { AllLong count (lanes_each below.now) }
+    ensures { IfOk result (λ found. IfSome found (λ out. node_answer (functions.get_item name.now) (node_types (bounds_of children.now)) (rows_of count (lanes_each below.now)) ≡ Ok (lanes_rows out))) }
+{
+    match (children, below) {
+        ([child], [input]) => get_item(alloc, count, name, child.dtype(), input),
+        _ => Ok(None),
+    }
+}
+
+// The function over its children's lanes, where there is a fast way whatever their types.
+fn apply_untyped(
     alloc: Global,
     count: usize,
     f: &ScalarFnRef,

@@ -1,0 +1,77 @@
+// Items of structs in buffers.
+ghost use Rattle.std.specs.Prelude.{◌≡◌, ◌≤◌, ◌+◌, IfOk, IfSome, List, [], get_or, length, map, take, drop};
+ghost use Rattle.vx_array.specs.Items.{item_at, items_at};
+ghost use Rattle.vx_array.specs.Rows.{lanes_each, lanes_rows};
+ghost use Rattle.vx_array.specs.Shown.{shown};
+
+use crate::{Lanes, Stretch, Validity};
+use std::alloc::{AllocError, Global};
+use std::sync::Arc;
+
+impl Lanes {
+    /// The item at that place of each struct, null where the struct is: the field's rows, in the same
+    /// buffers. There is an answer where these are structs in buffers with such a field, which has all
+    /// rows of their stretch, and can be masked by their validity.
+    pub fn item(&self, alloc: Global, place: usize) -> Result<Option<Lanes>, AllocError>
+        ensures { IfOk result (λ found. IfSome found (λ l. lanes_rows l ≡ map (item_at place) (lanes_rows self.now))) }
+    {
+        match self {
+            Lanes::Structs(fields, stretch, validity) => match fields.get(place) {
+                Some(field) => stretched(alloc, field, *stretch, validity),
+                None => Ok(None),
+            },
+            _ => Ok(None),
+        }
+    }
+
+    /// The struct of the items at those places of each struct, null where the struct is, in the same
+    /// buffers. There is an answer where these are structs in buffers with such fields.
+    pub fn items(&self, alloc: Global, places: &[usize]) -> Result<Option<Lanes>, AllocError>
+        ensures { IfOk result (λ found. IfSome found (λ l. lanes_rows l ≡ map (items_at places.now) (lanes_rows self.now))) }
+    {
+        match self {
+            Lanes::Structs(fields, stretch, validity) => {
+                let Some(some) = fields_at(alloc, fields.as_slice(), places)? else {
+                    return Ok(None);
+                };
+                let some = Arc::new(alloc, some)?;
+                Ok(Some(Lanes::Structs(some, *stretch, validity.clone()?)))
+            }
+            _ => Ok(None),
+        }
+    }
+}
+
+// The field's rows in the stretch, where they are valid.
+fn stretched(
+    alloc: Global,
+    field: &Lanes,
+    stretch: Stretch,
+    validity: &Validity,
+) -> Result<Option<Lanes>, AllocError>
+    ensures { IfOk result (λ found. IfSome found (λ l. (stretch.from + stretch.len ≤ length (lanes_rows field.now)) × (lanes_rows l ≡ shown validity.now (take stretch.len (drop stretch.from (lanes_rows field.now)))))) }
+{
+    if field.len() < stretch.end() {
+        return Ok(None);
+    }
+    let rows = field.slice(stretch.from(), stretch.len())?;
+    rows.masked(alloc, validity)
+}
+
+// The fields at those places, if there are all of them.
+fn fields_at(
+    alloc: Global,
+    fields: &[Lanes],
+    places: &[usize],
+) -> Result<Option<Vec<Lanes>>, AllocError>
+    ensures { IfOk result (λ found. IfSome found (λ some. lanes_each some.items ≡ map (λ k. get_or (lanes_each fields.now) k []) places.now)) }
+{
+    let mut some = Vec::with_capacity(alloc, places.len())?;
+    for i in 0..places.len() {
+        match fields.get(places[i]) {
+            Some(field) => some.push(field.clone()?)?,
+            None => return Ok(None),
+        }
+    }
+    Ok(Some(some))
+}
