@@ -81,6 +81,15 @@ python_tests() {
     VX_LIBRARY=$out/libvx.so python3 -m unittest discover -q -s bindings/python/tests
 }
 
+# The same of numpy's arrays, by the Python that Debian's numpy is for.
+numpy_tests() {
+    python=/usr/bin/python3
+    if ! $python -c "import numpy" 2>/dev/null; then
+        apt-get update -qq && apt-get install -qq --no-install-recommends python3-numpy >/dev/null
+    fi
+    VX_LIBRARY=$out/libvx.so $python -m unittest discover -q -s bindings/python/tests -p "test_numpy.py"
+}
+
 rust_tests() {
     (cd bindings/rust && cargo test -q --offline && cargo build -q --offline --lib --examples)
 }
@@ -114,6 +123,7 @@ if [ "$failed" -eq 0 ]; then
     try "long texts" "$out/test" long
     try "random buffers" "$out/test_sanitized" fuzz "$buffers" 1
     try "Python" python_tests
+    try "numpy" numpy_tests
     try "Rust" rust_tests
     try "docs/embed/FFI.md" env VX_LIBRARY="$out/libvx.so" python3 bindings/tests/guide.py "$out"
     try "the same answers" answers

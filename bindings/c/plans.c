@@ -362,13 +362,13 @@ static void test_many_batches(void)
     int32_t numbers[MOST];
     for (size_t turn = 0; turn < 2000; turn++) {
         size_t rows = turn % MOST;
-        char wanted[MOST * 12] = "";
+        char wanted[MOST * 13] = "";
         for (size_t i = 0; i < rows; i++) {
             numbers[i] = (int32_t)(turn * 7 + i);
             if (turn % 2)
                 strcat(wanted, numbers[i] < 100 ? "true\n" : "false\n");
             else
-                snprintf(wanted + strlen(wanted), 12, "%d\n", (int)numbers[i] + 1);
+                snprintf(wanted + strlen(wanted), 13, "%d\n", (int)numbers[i] + 1);
         }
         const vx_buffer batch[] = {NONE, NONE, {numbers, rows * sizeof numbers[0]}};
         Answered a = scanned(&plans[turn % 2], rows, batch, 3);

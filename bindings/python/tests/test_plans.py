@@ -216,6 +216,21 @@ class Lives(unittest.TestCase):
         self.assertEqual(plan.scan([{"x": 1}]), [1])
         plan.close()
 
+    def test_freed_as_a_thread_ends(self):
+        """A plan that a thread keeps in its own variables is freed with them."""
+        own, kept = threading.local(), []
+
+        def work():
+            own.plan = vx.Plan("x", X)
+            kept.append((own.plan._freed, own.plan._handle))
+
+        thread = threading.Thread(target=work)
+        thread.start()
+        thread.join()
+        ((freed, handle),) = kept
+        self.assertFalse(freed.alive)
+        self.assertIsNone(handle.at)
+
     def test_threads_of_their_own(self):
         found = []
 

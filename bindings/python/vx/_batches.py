@@ -5,9 +5,12 @@ from __future__ import annotations
 import dataclasses
 import itertools
 import struct
+from numbers import Integral
 from typing import Any, Callable, Iterator, List, Mapping, Sequence, Tuple
 
+from . import _numpy
 from ._errors import DataError, Place
+from ._library import Lent
 from ._types import Type
 
 _NUMBERS = {"i8": "b", "u8": "B", "i16": "h", "u16": "H", "i32": "i", "u32": "I", "i64": "q", "u64": "Q"}
@@ -74,9 +77,9 @@ def count_of(columns: Mapping[str, Sequence[Any]]) -> int:
     return lengths.pop()
 
 
-def batch_of(rows: Any, dtype: Type) -> Tuple[int, List[bytes]]:
-    """How many rows there are, of a list of them or a dict of columns, and their buffers, depth first. Raises
-    :class:`DataError` for a row that isn't of the type.
+def batch_of(rows: Any, dtype: Type) -> Tuple[int, List[Lent]]:
+    """How many rows there are, of a list of them, a dict of columns or an array of numpy's, and their buffers,
+    depth first. Raises :class:`DataError` for a row that isn't of the type.
 
     >>> from vx._types import type_of
     >>> batch_of([{"x": 1}, {"x": None}], type_of("{x=i16?}"))
@@ -84,16 +87,26 @@ def batch_of(rows: Any, dtype: Type) -> Tuple[int, List[bytes]]:
     >>> batch_of({"x": [1, None]}, type_of("{x=i16?}"))
     (2, [b'', b'\\x01', b'\\x01\\x00\\x00\\x00'])
     """
+    if _numpy.is_record_array(rows):
+        rows = {name: rows[name] for name in rows.dtype.names}
     if not isinstance(rows, Mapping):
-        values = list(rows)
-        return len(values), list(_Column(dtype, values, range(1, len(values) + 1)).buffers())
+        values = rows if _numpy.is_array(rows) else list(rows)
+        return len(values), list(_buffers_of(dtype, values, ()))
     count = count_of(rows)
     unknown = sorted(set(rows).difference(name for name, _ in dtype.fields))
     if dtype.kind != "struct" or unknown:
         raise DataError(f"error: batch: expected columns of the type {dtype}", Place.of_row(None))
     fields = [(name, inner, rows.get(name, [None] * count)) for name, inner in dtype.fields]
-    columns = [_Column(inner, values, range(1, count + 1), (name,)) for name, inner, values in fields]
-    return count, [b"", *(buffer for column in columns for buffer in column.buffers())]
+    return count, [b"", *(buffer for name, inner, values in fields for buffer in _buffers_of(inner, values, (name,)))]
+
+
+def _buffers_of(dtype: Type, values: Sequence[Any], path: Tuple[str, ...]) -> Iterator[Lent]:
+    """The buffers of a column of rows, depth first."""
+    lent = _numpy.buffers_of(values, dtype) if _numpy.is_array(values) else None
+    if lent is not None:
+        return iter(lent)
+    listed = _numpy.plain(values)
+    return _Column(dtype, listed, range(1, len(listed) + 1), path).buffers()
 
 
 def _filler(dtype: Type) -> Any:
@@ -114,14 +127,26 @@ def _test_of(dtype: Type) -> Callable[[Any], bool]:
         bits = 8 * number_size(kind)
         least = -(1 << bits - 1) if kind[0] == "i" else 0
         most = least + (1 << bits) - 1
-        return lambda value: isinstance(value, int) and not isinstance(value, bool) and least <= value <= most
+        return lambda value: _is_integer(value) and least <= value <= most
     if kind == "struct":
         names = {name for name, _ in dtype.fields}
         return lambda value: isinstance(value, Mapping) and names.issuperset(value)
     if kind == "fixed_size_list":
         return lambda value: isinstance(value, (list, tuple)) and len(value) == dtype.length
-    classes = {"bool": bool, "utf8": str, "binary": (bytes, bytearray, memoryview), "list": (list, tuple)}[kind]
+    if kind == "bool":
+        return lambda value: isinstance(_numpy.plain(value), bool)
+    classes = {"utf8": str, "binary": (bytes, bytearray, memoryview), "list": (list, tuple)}[kind]
     return lambda value: isinstance(value, classes)
+
+
+def _is_integer(value: Any) -> bool:
+    """Whether this is a whole number, of Python's or numpy's.
+
+    >>> _is_integer(1), _is_integer(True), _is_integer(1.0)
+    (True, False, False)
+    """
+    # (the first test is the fast one)
+    return isinstance(value, (int, Integral)) and not isinstance(value, bool)
 
 
 @dataclasses.dataclass

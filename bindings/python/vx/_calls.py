@@ -5,7 +5,7 @@ from __future__ import annotations
 import json
 from typing import Any, Iterable, List, Mapping, Optional, Sequence, Union
 
-from . import _arrow
+from . import _arrow, _numpy
 from ._batches import count_of
 from ._library import call
 from ._plans import PlanDescription
@@ -13,7 +13,7 @@ from ._statistics import Statistics, Verdict, to_lines, verdicts_of
 from ._types import to_json, type_of, values_of
 
 Rows = Union[Sequence[Any], Mapping[str, Sequence[Any]], Any]
-"""Rows: a list of them, a dict of columns, or an Arrow table."""
+"""Rows: a list of them, a dict of columns, an array of numpy's, or an Arrow table."""
 
 
 def encoded(text: str) -> bytes:
@@ -135,8 +135,10 @@ def evaluate(expression: str, rows: Rows, schema: Optional[str] = None) -> Any:
 
 
 def _rows_of(rows: Rows) -> List[Any]:
-    """The rows, also those of a dict of columns."""
+    """The rows, also those of a dict of columns, and of arrays of numpy's."""
+    if _numpy.is_record_array(rows):
+        rows = {name: rows[name] for name in rows.dtype.names}
     if not isinstance(rows, Mapping):
-        return list(rows)
+        return list(_numpy.plain(rows))
     count_of(rows)
-    return [dict(zip(rows, values)) for values in zip(*rows.values())]
+    return [dict(zip(rows, values)) for values in zip(*map(_numpy.plain, rows.values()))]

@@ -40,7 +40,7 @@ class Plan:
     """The type of the expression."""
 
     def __init__(self, expression: str, schema: str) -> None:
-        self._thread = threading.current_thread()
+        self._thread = threading.get_ident()
         self._handle = Handle()
         self._freed = weakref.finalize(self, _free, self._handle, self._thread)
         make_plan(self._handle, encoded(expression), encoded(schema))
@@ -56,8 +56,10 @@ class Plan:
         ...     plan.scan([{"x": 1}, {"x": 7}])
         [False, True]
 
-        The batch is a list of rows, a dict of columns, or an Arrow table, record batch or array; of the first
-        two a list is answered, and of Arrow's an array. A column that is left out is null in each row.
+        The batch is a list of rows, a dict of columns, which may be arrays of numpy's, an array of numpy's
+        with a name for each column, or an Arrow table, record batch or array; of Arrow's an array is
+        answered, and else a list. A column that is left out is null in each row, and what an array of
+        numpy's masks is null.
 
         Raises :class:`DataError` for a row that isn't of the plan's type, :class:`FaultError` where the
         expression faults, and :class:`NoPlanError` for a plan that is closed. The ``record`` of the
@@ -82,11 +84,11 @@ class Plan:
         self.close()
 
     def _check_thread(self) -> None:
-        if threading.current_thread() is not self._thread:
+        if threading.get_ident() != self._thread:
             raise RuntimeError("a plan stays on the thread that made it")
 
 
-def _free(handle: Handle, thread: threading.Thread) -> None:
-    """Frees the plan on its own thread; another one mustn't."""
-    if threading.current_thread() is thread:
+def _free(handle: Handle, thread: int) -> None:
+    """Frees the plan on its own thread, also as that ends; another one mustn't."""
+    if threading.get_ident() == thread:
         free_plan(handle)

@@ -11,7 +11,7 @@ from typing import Any, Dict, List, Sequence, Tuple
 from ._errors import Place, error_of
 
 Lent = Any
-"""Bytes that are lent: `bytes`, or a buffer of pyarrow's."""
+"""Bytes that are lent: `bytes`, an array of numpy's of bytes, or a buffer of pyarrow's."""
 
 _ANSWERED, _TOO_SMALL, _OUT_OF_MEMORY = 0, 1, 2
 _LEAST_ROOM = 1024
@@ -147,7 +147,9 @@ def scan_plan(handle: Handle, rows: int, buffers: Sequence[Lent]) -> str:
 
 def _address(buffer: Lent) -> Any:
     """Where the bytes lie, for as long as the buffer is there."""
-    return ctypes.cast(buffer, ctypes.c_void_p) if isinstance(buffer, bytes) else buffer.address
+    if isinstance(buffer, bytes):
+        return ctypes.cast(buffer, ctypes.c_void_p)
+    return buffer.ctypes.data if hasattr(buffer, "ctypes") else buffer.address
 
 
 def free_plan(handle: Handle) -> None:

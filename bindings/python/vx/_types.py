@@ -7,6 +7,8 @@ import json
 import re
 from typing import Any, List, Optional, Tuple
 
+from . import _numpy
+
 _ATOM = re.compile(r"bool|[ui](?:8|16|32|64)|utf8|binary")
 _NAME = re.compile(r"`((?:[^`]|``)*)`|([A-Za-z_][A-Za-z_0-9]*)")
 _WORD = re.compile(r"[A-Za-z_][A-Za-z_0-9]*")
@@ -112,7 +114,7 @@ def to_json(value: Any) -> Any:
         return {name: to_json(inner) for name, inner in value.items()}
     if isinstance(value, (list, tuple)):
         return [to_json(inner) for inner in value]
-    return value
+    return _numpy.plain(value)
 
 
 def from_json(value: Any, dtype: Type) -> Any:

@@ -2,3 +2,4 @@ pub mod Kept
 pub mod ScanStops
 pub mod Handles
 pub mod Held
+pub mod Selections

@@ -1,0 +1,71 @@
+"""numpy's arrays as columns, where the caller has numpy."""
+
+from __future__ import annotations
+
+import sys
+from typing import TYPE_CHECKING, Any, List, Optional
+
+if TYPE_CHECKING:
+    from ._types import Type
+
+_LETTERS = {"i8": "<i1", "u8": "<u1", "i16": "<i2", "u16": "<u2", "i32": "<i4", "u32": "<u4", "i64": "<i8", "u64": "<u8"}
+"""The letters of numbers in numpy."""
+
+
+def is_array(values: Any) -> bool:
+    """Whether this is an array of numpy's, which is imported then."""
+    numpy = sys.modules.get("numpy")
+    return numpy is not None and isinstance(values, numpy.ndarray)
+
+
+def is_record_array(values: Any) -> bool:
+    """Whether this is an array of numpy's whose items have fields."""
+    return is_array(values) and values.dtype.names is not None
+
+
+def plain(value: Any) -> Any:
+    """A value of numpy's as one of Python's, an array as a list; anything else as it is.
+
+    >>> plain("a")
+    'a'
+    """
+    numpy = sys.modules.get("numpy")
+    if numpy is None or not isinstance(value, (numpy.generic, numpy.ndarray)):
+        return value
+    return None if value is numpy.ma.masked else value.tolist()
+
+
+def buffers_of(values: Any, dtype: Type) -> Optional[List[Any]]:
+    """The buffers of an array as a column of numbers or truth values of that type, which are lent where the
+    array has them in the type's layout. None where its values aren't all of the type, or it has other ones."""
+    if values.ndim != 1:
+        return None
+    numpy = sys.modules["numpy"]
+    masked = numpy.ma.getmaskarray(values) if isinstance(values, numpy.ma.MaskedArray) else None
+    data = numpy.ma.getdata(values)
+    hides = masked is not None and bool(masked.any())
+    if hides and not dtype.is_nullable:
+        return None
+    bits = _bits(~masked) if hides else b""
+    if dtype.kind == "bool" and data.dtype.kind == "b":
+        return [bits, _bits(data)]
+    if dtype.kind in _LETTERS and data.dtype.kind in "iu":
+        letters = numpy.dtype(_LETTERS[dtype.kind])
+        if _are_within(data[~masked] if hides else data, numpy.iinfo(letters)):
+            return [bits, numpy.ascontiguousarray(data, letters).view(numpy.uint8)]
+    return None
+
+
+def _bits(flags: Any) -> bytes:
+    """The flags as bits, the least significant of a byte first."""
+    return sys.modules["numpy"].packbits(flags, bitorder="little").tobytes()
+
+
+def _are_within(numbers: Any, ends: Any) -> bool:
+    """Whether all numbers are from the least of the ends up to the greatest."""
+    if numbers.size == 0:
+        return True
+    own = sys.modules["numpy"].iinfo(numbers.dtype)
+    if own.min >= ends.min and own.max <= ends.max:
+        return True
+    return int(numbers.min()) >= ends.min and int(numbers.max()) <= ends.max
