@@ -248,6 +248,16 @@ pub fn json<'a>(alloc: Global) -> Arg<'a> {
         .help("Print JSON, as without --sql")
 }
 
+/// The engine whose SQL the expression is.
+pub fn dialect<'a>(alloc: Global) -> Arg<'a> {
+    Arg::new(alloc, "sql")
+        .long("sql")
+        .value_name("ENGINE")
+        .action(ArgAction::Set)
+        .value_parser(ENGINES)
+        .help("The expression is the condition of a WHERE, in that engine's SQL")
+}
+
 /// The engine that a plan is written for.
 pub fn sql<'a>(alloc: Global) -> Result<Arg<'a>, AllocError> {
     Arg::new(alloc, "sql")

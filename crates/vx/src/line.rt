@@ -1,6 +1,6 @@
 // The command line.
 use crate::arguments::{
-    add, chunk, count, expression, json, output, over_given_records, over_records_or_statistics,
+    add, chunk, count, dialect, expression, json, output, over_given_records, over_records_or_statistics,
     select, sql, table, typed_expression, with_args,
 };
 use clap::Command;
@@ -54,7 +54,8 @@ prints
   bool";
 
 fn check<'a>(alloc: Global) -> Result<Command<'a>, AllocError> {
-    let args = typed_expression(alloc)?;
+    let mut args = typed_expression(alloc)?;
+    args.push(dialect(alloc))?;
     let command = Command::new(alloc, "check")
         .about("Prints the type of the expression")
         .after_help(CHECK);
@@ -87,6 +88,7 @@ prints a line of JSON for each of the first 10 records";
 fn evaluate<'a>(alloc: Global) -> Result<Command<'a>, AllocError> {
     let mut args = over_given_records(alloc)?;
     args.push(output(alloc).default_value("json"))?;
+    args.push(dialect(alloc))?;
     let command = Command::new(alloc, "eval")
         .about("Prints what the expression means at each record")
         .after_help(EVALUATE);
@@ -104,6 +106,7 @@ fn filter<'a>(alloc: Global) -> Result<Command<'a>, AllocError> {
     add(&mut args, select(alloc))?;
     add(&mut args, output(alloc).conflicts_with("count"))?;
     args.push(count(alloc))?;
+    args.push(dialect(alloc))?;
     let command = Command::new(alloc, "filter")
         .about("Prints the records of which the expression is true, as they stand")
         .after_help(FILTER);
@@ -119,7 +122,8 @@ fn format<'a>(alloc: Global) -> Result<Command<'a>, AllocError> {
     Command::new(alloc, "fmt")
         .about("Prints the expression as its source text")
         .after_help(FORMAT)
-        .arg(expression(alloc))
+        .arg(expression(alloc))?
+        .arg(dialect(alloc))
 }
 
 const PLAN: &str = "Examples:

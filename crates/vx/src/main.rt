@@ -20,7 +20,7 @@ use records::{filter_of, output_of, over_records};
 use schema::schema_of;
 use std::process::ExitCode;
 use std::{env, io};
-use texts::{Text, text_at};
+use texts::{Text, expression_at, text_at};
 use vx_commands::{
     Command, Dialect, Query, RecordsTask, Shown, SqlCommand, SqlTask, Status, run_command, run_sql,
 };
@@ -100,7 +100,10 @@ fn asks_input_twice(matches: &ArgMatches<'_>) -> bool {
 
 // Runs the command of that name, which reads no records.
 fn over_texts(rt: &HostRuntime, name: &str, matches: &ArgMatches<'_>) -> Result<Status> {
-    let expression = text_at(rt, matches, "expression")?;
+    let expression = match expression_at(rt, matches)? {
+        Ok(expression) => expression,
+        Err(status) => return Ok(status),
+    };
     let schema = match schema_of(rt, matches)? {
         Ok(schema) => schema,
         Err(status) => return Ok(status),

@@ -2,7 +2,7 @@
 use crate::choices::{data_format_named, mark_named, output_format_named};
 use crate::guess::guess_told;
 use crate::progress::Progress;
-use crate::texts::{Text, read_text, schema_at, text_at};
+use crate::texts::{Text, expression_at, read_text, schema_at};
 use anyhow::{Context, Result};
 use clap::ArgMatches;
 use std::fs::File;
@@ -52,7 +52,10 @@ pub fn over_records(
     let Some(guess) = guess_told(rt, matches)? else {
         return Ok(Status::Wrong);
     };
-    let texts = Texts::of(rt, matches)?;
+    let texts = match Texts::of(rt, matches)? {
+        Ok(texts) => texts,
+        Err(status) => return Ok(status),
+    };
     let command = RowsCommand {
         work,
         expression: texts.expression.input(),
@@ -75,13 +78,18 @@ struct Texts {
 }
 
 impl Texts {
-    // The texts that the words say. Where they say nothing that is selected, that is the record.
-    fn of(rt: &HostRuntime, matches: &ArgMatches<'_>) -> Result<Texts> {
-        Ok(Texts {
-            expression: text_at(rt, matches, "expression")?,
+    // The texts that the words say, or the status of those that are told to be wrong. Where they say nothing that is selected,
+    // that is the record.
+    fn of(rt: &HostRuntime, matches: &ArgMatches<'_>) -> Result<Result<Texts, Status>> {
+        let expression = match expression_at(rt, matches)? {
+            Ok(expression) => expression,
+            Err(status) => return Ok(Err(status)),
+        };
+        Ok(Ok(Texts {
+            expression,
             select: read_text(rt, "select", matches.get_str("select").unwrap_or("$"))?,
             schema: schema_said(rt, matches)?,
-        })
+        }))
     }
 
     // The type that the text says, or the one that is guessed so.

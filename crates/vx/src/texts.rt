@@ -1,9 +1,12 @@
 // Texts of the command line: as they stand, of a file, or of standard input.
+use crate::choices::dialect_named;
 use anyhow::{Context, Result};
 use clap::ArgMatches;
 use std::alloc::Global;
 use std::rt::Files;
 use std::{fs, io};
+use vx_commands::Status;
+use vx_sql_parser::sql_source;
 
 /// A text, and what messages call it.
 #[derive(Drop)]
@@ -37,6 +40,22 @@ impl Text {
 /// The text that the argument says, an empty one where it isn't given.
 pub fn text_at(rt: &HostRuntime, matches: &ArgMatches<'_>, id: &str) -> Result<Text> {
     read_text(rt, id, matches.get_str(id).unwrap_or(""))
+}
+
+/// The expression, as source text where the words say that it is SQL of an engine. Where that isn't read, that is told, and the
+/// status with which the program ends.
+pub fn expression_at(rt: &HostRuntime, matches: &ArgMatches<'_>) -> Result<Result<Text, Status>> {
+    let text = text_at(rt, matches, "expression")?;
+    let Some(dialect) = matches.get_str("sql").and_then(dialect_named) else {
+        return Ok(Ok(text));
+    };
+    match sql_source(rt.alloc(), text.text.as_str(), dialect) {
+        Ok(source) => Ok(Ok(Text::new(rt.alloc(), "SQL as source text", source.text)?)),
+        Err(error) => {
+            rt.eprintln(format_args!("error: {}, {error}", text.name))?;
+            Ok(Err(Status::Wrong))
+        }
+    }
 }
 
 /// The type of the rows as the argument says it, an empty text where it isn't given. What ends in
