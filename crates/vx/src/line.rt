@@ -1,7 +1,7 @@
 // The command line.
 use crate::arguments::{
-    add, chunk, count, dialect, expression, json, output, over_given_records, over_records_or_statistics,
-    select, sql, table, typed_expression, with_args,
+    add, chunk, count, dialect, expression, json, output, over_given_records,
+    over_records_or_statistics, select, sql, table, typed_expression, with_args,
 };
 use clap::Command;
 use std::alloc::{AllocError, Global};

@@ -2,7 +2,8 @@
 //! them: the same rows as over a column, by loops over the buffers. Clones and slices share them.
 pub use vx_array::{Array, BitPart, Validity};
 pub use vx_array_build::{
-    Native, are_within, binaries, booleans, constant, filter, from_column, primitive, struct_of, take, texts,
+    Native, are_within, binaries, booleans, constant, filter, from_column, primitive, struct_of,
+    take, texts,
 };
 pub use vx_array_eval::apply_array;
 pub use vx_array_loops::Bits;

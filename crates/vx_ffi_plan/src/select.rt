@@ -40,11 +40,7 @@ pub fn answer_select(
     ended(&selected(alloc, plan, batch), buffer, answer)
 }
 
-fn selected(
-    alloc: Global,
-    plan: &KeptPlan,
-    batch: &GivenBatch<'_>,
-) -> Result<Vec<u8>, CallError>
+fn selected(alloc: Global, plan: &KeptPlan, batch: &GivenBatch<'_>) -> Result<Vec<u8>, CallError>
     ensures page { IfOk result (λ page. IsSelectPage plan.now batch.now.rows (bytes_in batch.now.buffers.now) page.items) }
     ensures stop { IfErr result (SelectStops plan.now batch.now.rows (bytes_in batch.now.buffers.now)) }
 {
@@ -60,11 +56,7 @@ fn selected(
 }
 
 // The batch in the buffers.
-fn array_in(
-    alloc: Global,
-    plan: &KeptPlan,
-    batch: &GivenBatch<'_>,
-) -> Result<Box<Array>, CallError>
+fn array_in(alloc: Global, plan: &KeptPlan, batch: &GivenBatch<'_>) -> Result<Box<Array>, CallError>
     ensures batch { IfOk result (λ array. column_said (bytes_in batch.now.buffers.now) (scope_of plan.now) batch.now.rows ≡ Ok array.value) }
     ensures stop { IfErr result (λ stop. IsExhausted stop ⊎ IsNoBatch plan.now batch.now.rows (bytes_in batch.now.buffers.now) stop) }
 {
