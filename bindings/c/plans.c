@@ -366,7 +366,7 @@ static Answered selected(vx_plan *plan, size_t rows, const vx_buffer *buffers, s
 /* A row is selected where the expression is true, and not where it is null. */
 static void test_selections(void)
 {
-    static const Scan cases[] = {
+    const Scan cases[] = {
         {"x > 1", "{x=i32?}", 3, BUFFERS(NONE, B("\5"), B("\2\0\0\0\7\0\0\0\1\0\0\0")), "\1\0\0"},
         {"x > 1 or x is null", "{x=u8?}", 3, BUFFERS(NONE, B("\5"), B("\0\7\2")), "\0\1\1"},
         {"s = 'b'", "{s=utf8}", 2, BUFFERS(NONE, NONE, B("\0\0\0\0\1\0\0\0\2\0\0\0"), B("ab")), "\0\1"},
