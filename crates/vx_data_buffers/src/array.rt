@@ -1,5 +1,6 @@
 // Arrays, column by column.
-ghost use Rattle.std.specs.Prelude.{◌≡◌, ◌+◌, ◌≤◌, IfOk, IfSome, List, Bool, Ok, length, map};
+ghost use Rattle.std.specs.Prelude.{◌≡◌, ◌+◌, ◌≤◌, IfErr, IfOk, IfSome, List, Bool, Ok, length, map};
+ghost use Rattle.vx_data_buffers.specs.declared.error.BufferError.TheVariants.{OutOfMemory};
 ghost use Rattle.vx_data_buffers.specs.Arrays.{AreBits, HaveFields, IsColumn};
 ghost use Rattle.vx_data_buffers.specs.Bytes.{bytes_in};
 ghost use Rattle.vx_data_buffers.specs.Layout.{buffer_count, field_buffer_count};
@@ -40,7 +41,10 @@ pub fn array_of(
         return Ok(array);
     }
     let column = column_of(alloc, dtype, rows, buffers)?;
-    array_from(alloc, column).map_err(|_| BufferError::OutOfMemory)
+    match array_from(alloc, column) {
+        Ok(array) => Ok(array),
+        Err(_) => Err(BufferError::OutOfMemory),
+    }
 }
 
 // The same, where all is read at once.
@@ -50,12 +54,22 @@ fn read_at_once(
     rows: usize,
     buffers: &[Buffer<'_>],
 ) -> Result<Option<Array>, BufferError>
-    ensures { IfOk result (λ found. IfSome found (λ a. column_said (bytes_in buffers.now) (type_of dtype.now) rows ≡ Ok a)) }
+    ensures said { IfOk result (λ found. IfSome found (λ a. column_said (bytes_in buffers.now) (type_of dtype.now) rows ≡ Ok a)) }
+    ensures memory { IfErr result (λ e. e ≡ OutOfMemory) }
 {
-    if buffer_count(dtype) != Some(buffers.len()) {
+    let expected = buffer_count(dtype).ok_or(BufferError::OutOfMemory)?;
+    if buffers.len() != expected {
         return Ok(None);
     }
-    array_at(alloc, buffers, dtype, 0, rows).map_err(|_| BufferError::OutOfMemory)
+    match array_at(alloc, buffers, dtype, 0, rows) {
+        Ok(Some(array)) => {
+            // each row is a value of the type
+            let _ = array.lanes();
+            Ok(Some(array))
+        }
+        Ok(None) => Ok(None),
+        Err(_) => Err(BufferError::OutOfMemory),
+    }
 }
 
 // The rows of a column, which the array shares.

@@ -1,5 +1,6 @@
 pub mod Kept
 pub mod ScanStops
+pub mod Selections
+pub mod Batches
 pub mod Handles
 pub mod Held
-pub mod Selections

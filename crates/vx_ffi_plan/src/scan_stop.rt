@@ -50,7 +50,12 @@ pub(crate) fn no_condition(alloc: Global, kept: &KeptPlan) -> CallError
     };
     let dtype = TypeText(kept.plan.tree().dtype());
     let message = format_args!("error: the expression is of type {dtype}, and not of truth values");
-    CallError::new(alloc, Status::Refused, place_of(Given::Expression, text, span), &message)
+    CallError::new(
+        alloc,
+        Status::Refused,
+        place_of(Given::Expression, text, span),
+        &message,
+    )
 }
 
 /// What stops a scan whose answer can't be written.

@@ -12,8 +12,8 @@ ghost use Rattle.vx_ffi_plan.specs.Kept.{scope_of};
 ghost use Rattle.vx_ffi_plan.specs.ScanStops.{IsFaultStop, IsNoBatch};
 ghost use Rattle.vx_ffi_plan.specs.Selections.{AreValues, IsSelectPage, SelectStops};
 
+use crate::batch::{GivenBatch, boxed, scope};
 use crate::kept::KeptPlan;
-use crate::scan::GivenBatch;
 use crate::scan_stop::{buffer_stop, fault_stop, no_condition};
 use crate::truth_bytes::truth_bytes;
 use std::alloc::Global;
@@ -40,11 +40,7 @@ pub fn answer_select(
     ended(&selected(alloc, plan, batch), buffer, answer)
 }
 
-fn selected(
-    alloc: Global,
-    plan: &KeptPlan,
-    batch: &GivenBatch<'_>,
-) -> Result<Vec<u8>, CallError>
+fn selected(alloc: Global, plan: &KeptPlan, batch: &GivenBatch<'_>) -> Result<Vec<u8>, CallError>
     ensures page { IfOk result (λ page. IsSelectPage plan.now batch.now.rows (bytes_in batch.now.buffers.now) page.items) }
     ensures stop { IfErr result (SelectStops plan.now batch.now.rows (bytes_in batch.now.buffers.now)) }
 {
@@ -60,30 +56,13 @@ fn selected(
 }
 
 // The batch in the buffers.
-fn array_in(
-    alloc: Global,
-    plan: &KeptPlan,
-    batch: &GivenBatch<'_>,
-) -> Result<Box<Array>, CallError>
+fn array_in(alloc: Global, plan: &KeptPlan, batch: &GivenBatch<'_>) -> Result<Box<Array>, CallError>
     ensures batch { IfOk result (λ array. column_said (bytes_in batch.now.buffers.now) (scope_of plan.now) batch.now.rows ≡ Ok array.value) }
     ensures stop { IfErr result (λ stop. IsExhausted stop ⊎ IsNoBatch plan.now batch.now.rows (bytes_in batch.now.buffers.now) stop) }
 {
-    let Ok(scope) = plan.plan.scope().clone() else {
-        return Err(CallError::out_of_memory(alloc));
-    };
-    match array_of(alloc, scope, batch.rows, batch.buffers) {
+    match array_of(alloc, scope(alloc, plan)?, batch.rows, batch.buffers) {
         Ok(array) => boxed(alloc, array),
         Err(error) => Err(buffer_stop(alloc, &error)),
-    }
-}
-
-fn boxed(alloc: Global, array: Array) -> Result<Box<Array>, CallError>
-    ensures array { IfOk result (λ b. b.value ≡ array) }
-    ensures stop { IfErr result IsExhausted }
-{
-    match Box::new(alloc, array) {
-        Ok(array) => Ok(array),
-        Err(_) => Err(CallError::out_of_memory(alloc)),
     }
 }
 

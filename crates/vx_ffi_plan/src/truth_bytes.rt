@@ -30,10 +30,8 @@ fn is_true_at(lanes: &Lanes, i: usize) -> bool
             Some(value) => is_true(value),
             None => false,
         },
-        Lanes::Numbers(_, _)
-        | Lanes::Texts(_, _)
-        | Lanes::Octets(_, _)
-        | Lanes::Structs(_, _, _) => false,
+        Lanes::Numbers(_, _) | Lanes::Texts(_, _) | Lanes::Octets(_, _) | Lanes::Structs(_, _, _) =>
+            false,
     }
 }
 
