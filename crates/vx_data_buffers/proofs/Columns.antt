@@ -1,7 +1,6 @@
 -- Columns that are read at once.
-use Rattle.std.proofs.Common.{◌≡◌, ℕ, zero, suc, ◌+◌, ◌<◌, ◌≤◌, List, [], ◌∷◌, ◌++◌, length, get_or, take, drop, map, refl, sym, ap, ◌∙◌, subst, arith, add-one, below_more, Bool, true, false, ℤ, pos}
-use Rattle.std.specs.Prelude.{Result, Ok, Err, IfOk, IfSome, Option, Some, None, is_some, if◌then◌else◌, ◌==◌}
-use Rattle.std.specs.List.{range_with_len}
+use Rattle.std.proofs.Common.{◌≡◌, ℕ, zero, suc, ◌+◌, ◌<◌, ◌≤◌, List, [], ◌∷◌, ◌++◌, length, get_or, take, map, refl, sym, ap, ◌∙◌, subst, arith, add-one, below_more, Bool, true, false, ℤ, pos}
+use Rattle.std.specs.Prelude.{Result, Ok, Err, IfOk, IfSome, Option, Some, None, is_some, if◌then◌else◌}
 use Rattle.std.proofs.Math.Seq.{take-length}
 use Rattle.std.proofs.Math.ListN.{get_or-append}
 use Rattle.std.proofs.Math.Seq.{get_or-append_seam}
@@ -13,7 +12,7 @@ use Rattle.vx_dtype.specs.declared.dtype.DType.{DType}
 use Rattle.vx_dtype.specs.declared.dtype.PType.{PType}
 use Rattle.vx_value.specs.Types.{Name, LogicalType, ty, Shape, atomic, truth, number, struct, Fields, Datum, null, bool, int, struct_of}
 use Rattle.vx_value.specs.Fields.{data_of}
-use Rattle.vx_value.specs.Fits.{fits, Fits}
+use Rattle.vx_value.specs.Fits.{Fits}
 use Rattle.vx_value.specs.Columns.{Batch, batch, first_misfit}
 use Rattle.vx_value.specs.StructColumns.{all_long, row_at, rows_in, struct_at, struct_rows, struct_type, types_in}
 use Rattle.vx_value.specs.Views.{fields_view, type_of}
@@ -24,11 +23,10 @@ use Rattle.vx_array.specs.Shown.{shown_count}
 use Rattle.vx_array.proofs.Masked.{get_or-shown, length-shown}
 use Rattle.vx_array_build.specs.Built.{column_by, shown_by, structs_by}
 use Rattle.vx_data_buffers.specs.Results.{and_then, and_so, each_from}
-use Rattle.vx_data_buffers.specs.Bytes.{bit_of, bytes_at, number_at}
-use Rattle.vx_data_buffers.specs.Layout.{buffer_count, found, is_valid, unless_null, value_at, present_at, fields_at}
+use Rattle.vx_data_buffers.specs.Bytes.{bytes_at, number_at}
+use Rattle.vx_data_buffers.specs.Layout.{buffer_count, found, unless_null, value_at, present_at}
 use Rattle.vx_data_buffers.specs.Rows.{column_said, row_of}
 use Rattle.vx_data_buffers.specs.Arrays.{AreBits, AreNumbers, HaveFields, IsColumn, Tells, if_nullable}
-use Rattle.vx_data_buffers.specs.declared.error.BufferError.{BufferError}
 use Rattle.vx_data_buffers.specs.declared.fault.Fault.{Fault}
 use Rattle.vx_data_buffers.proofs.Runs.{one_more}
 

@@ -1,7 +1,7 @@
 -- Columns that are read at once.
-use Rattle.std.specs.Prelude.{◌≡◌, ℕ, ◌<◌, Bool, true, false, List, length, get_or, map, ℤ, pos, Option, Some, None, Ok, if◌then◌else◌}
+use Rattle.std.specs.Prelude.{◌≡◌, ℕ, ◌<◌, Bool, true, false, List, length, get_or, ℤ, pos, Option, Some, None, Ok, if◌then◌else◌}
 use Rattle.vx_dtype.specs.declared.dtype.PType.{PType}
-use Rattle.vx_value.specs.Types.{LogicalType, Fields, Datum, null}
+use Rattle.vx_value.specs.Types.{LogicalType, Fields, null}
 use Rattle.vx_value.specs.Columns.{Batch}
 use Rattle.vx_value.specs.StructColumns.{row_at, rows_in}
 use Rattle.vx_array.specs.declared.validity.Validity.{Validity}

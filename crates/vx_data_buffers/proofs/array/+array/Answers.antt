@@ -1,4 +1,4 @@
-use Rattle.std.proofs.Common.{◌≡◌, ◌+◌, ◌*◌, ◌<◌, ◌≤◌, ap, length, map, sym, subst, ◌∙◌, rules, arith, get_or, take}
+use Rattle.std.proofs.Common.{◌≡◌, ◌+◌, ◌*◌, ◌<◌, ◌≤◌, ap, length, map, sym, subst, ◌∙◌, rules, arith, get_or}
 use Rattle.std.specs.Prelude.{IfSome}
 use Rattle.vx_dtype.proofs.Pairs.{field_count_view}
 use Rattle.vx_dtype.specs.declared.dtype.DType.{the_lemmas as the_types}
@@ -6,11 +6,11 @@ use Rattle.vx_dtype.specs.Fields.{fields_named}
 use Rattle.vx_dtype.specs.Types.{is_nullable}
 use Rattle.vx_value.specs.Fields.{field_count}
 use Rattle.vx_value.specs.StructColumns.{row_at, rows_in}
-use Rattle.vx_value.specs.Types.{LogicalType, ty, atomic, truth, number, struct, bool, int, null}
-use Rattle.vx_value.specs.Views.{admits_null, fields_of, fields_view, names_of, type_of}
+use Rattle.vx_value.specs.Types.{ty, atomic, truth, number, struct, bool, int, null}
+use Rattle.vx_value.specs.Views.{admits_null, fields_of, names_of, type_of}
 use Rattle.vx_array_build.specs.Built.{column_by, structs_by}
 use Rattle.vx_data_buffers.specs.Arrays.{AreBits, AreNumbers, IsColumn, Tells}
-use Rattle.vx_data_buffers.specs.Bytes.{bytes_at, bytes_in}
+use Rattle.vx_data_buffers.specs.Bytes.{bytes_in}
 use Rattle.vx_data_buffers.specs.Layout.{buffer_count, field_buffer_count, fields_at}
 use Rattle.vx_data_buffers.proofs.Columns.{found_so, numbers_read, row_grown, structs_read, truths_read, types_grown, view_taken}
 use Rattle.vx_data_buffers.proofs.Fields.{count_next, field_more}
