@@ -1,2 +1,4 @@
 pub mod Built
 pub mod Cuts
+pub mod Filled
+pub mod Taken

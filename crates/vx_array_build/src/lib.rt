@@ -2,18 +2,26 @@
 #![tactic(auto)]
 
 mod bytes;
+mod columns;
 mod constants;
+mod filled;
+mod gather;
 mod native;
 mod numbers;
+mod selection;
 mod spans_builder;
 mod structs;
+mod taken;
 mod truths;
 mod validity;
 
 pub use bytes::{binaries, texts};
+pub use columns::from_column;
 pub use constants::constant;
+pub use gather::are_within;
 pub use native::Native;
 pub use numbers::primitive;
+pub use selection::{filter, take};
 pub use spans_builder::SpansBuilder;
 pub use structs::struct_of;
 pub use truths::booleans;

@@ -1,2 +1,4 @@
 pub mod Children
 pub mod Given
+pub mod Typed
+pub mod Placed

@@ -4,6 +4,7 @@
 mod by_rows;
 mod evaluation;
 mod nodes;
+mod places;
 mod structs;
 mod trees;
 

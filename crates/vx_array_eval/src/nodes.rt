@@ -1,6 +1,7 @@
 // The function of a node over its children's lanes.
-ghost use Rattle.std.specs.Prelude.{◌≡◌, length, IfOk, IfSome, IsOk, List, Ok, [], ◌∷◌};
+ghost use Rattle.std.specs.Prelude.{◌≡◌, length, IfErr, IfOk, IfSome, IsOk, List, Ok, [], ◌∷◌};
 ghost use Rattle.vx_dtype.specs.Returns.{ReturnsOrOom};
+ghost use Rattle.vx_dtype.specs.declared.error.VortexError.TheVariants.{OutOfMemory};
 ghost use Rattle.vx_value.specs.Types.{LogicalType, Datum};
 ghost use Rattle.vx_fn.specs.Functions as functions;
 ghost use Rattle.vx_fn.specs.Functions.{fn_type};
@@ -13,15 +14,15 @@ ghost use Rattle.vx_array_kernels.specs.Asked.{asked};
 ghost use Rattle.vx_eval.specs.Columns.{rows_of, node_answer, AllLong};
 
 use crate::by_rows::apply_by_rows;
-use crate::structs::pack;
+use crate::structs::{get_item, pack, select};
 use std::alloc::{AllocError, Global};
 use std::sync::Arc;
 use vx_array::Lanes;
 use vx_array_kernels::{and, between, compare, comparison_of, is_not_null, is_null, not, or};
 use vx_array_loops::Comparison;
-use vx_fn::{BetweenOptions, Operator, ScalarFnRef, StrictComparison};
+use vx_fn::{BetweenOptions, FieldSelection, Operator, ScalarFnRef, StrictComparison};
 use vx_tree::BoundExpression;
-use vx_types::{Scalar, VortexResult};
+use vx_types::{FieldName, Scalar, VortexResult};
 
 /// The function over its children's lanes, or its fault over their rows.
 #[inline(never)]
@@ -37,7 +38,7 @@ pub fn apply(
     requires long { AllLong count (lanes_each below.now) }
     ensures { ReturnsOrOom lanes_rows result (node_answer (function_of f.now) (node_types (bounds_of children.now)) (rows_of count (lanes_each below.now))) }
 {
-    match apply_fast(alloc, count, f, below)? {
+    match apply_fast(alloc, count, f, children, below)? {
         Some(out) => Ok(out),
         None => apply_by_rows(alloc, count, f, children, below),
     }
@@ -45,6 +46,63 @@ pub fn apply(
 
 // The function over its children's lanes, where there is a fast way.
 fn apply_fast(
+    alloc: Global,
+    count: usize,
+    f: &ScalarFnRef,
+    children: &[BoundExpression],
+    below: &[Lanes],
+) -> VortexResult<Option<Lanes>>
+    requires typed { IsOk (fn_type (function_of f.now) (node_types (bounds_of children.now))) }
+    requires long { AllLong count (lanes_each below.now) }
+    ensures answer { IfOk result (λ found. IfSome found (λ out. node_answer (function_of f.now) (node_types (bounds_of children.now)) (rows_of count (lanes_each below.now)) ≡ Ok (lanes_rows out))) }
+    ensures memory { IfErr result (λ e. e ≡ OutOfMemory) }
+{
+    match f {
+        ScalarFnRef::GetItem(name) => Ok(item_of(alloc, count, name, children, below)?),
+        ScalarFnRef::Select(selection) => select_of(alloc, count, selection, children, below),
+        _ => Ok(apply_untyped(alloc, count, f, below)?),
+    }
+}
+
+// The first field of that name of the one child's structs, where there is a fast way.
+fn item_of(
+    alloc: Global,
+    count: usize,
+    name: &FieldName,
+    children: &[BoundExpression],
+    below: &[Lanes],
+) -> Result<Option<Lanes>, AllocError>
+    requires typed { IsOk (fn_type (functions.get_item name.now) (node_types (bounds_of children.now))) }
+    requires long { AllLong count (lanes_each below.now) }
+    ensures { IfOk result (λ found. IfSome found (λ out. node_answer (functions.get_item name.now) (node_types (bounds_of children.now)) (rows_of count (lanes_each below.now)) ≡ Ok (lanes_rows out))) }
+{
+    match (children, below) {
+        ([child], [input]) => get_item(alloc, count, name, child.dtype(), input),
+        _ => Ok(None),
+    }
+}
+
+// The included fields of the one child's structs, where there is a fast way.
+fn select_of(
+    alloc: Global,
+    count: usize,
+    selection: &FieldSelection,
+    children: &[BoundExpression],
+    below: &[Lanes],
+) -> VortexResult<Option<Lanes>>
+    requires typed { IsOk (fn_type (functions.select selection.now) (node_types (bounds_of children.now))) }
+    requires long { AllLong count (lanes_each below.now) }
+    ensures answer { IfOk result (λ found. IfSome found (λ out. node_answer (functions.select selection.now) (node_types (bounds_of children.now)) (rows_of count (lanes_each below.now)) ≡ Ok (lanes_rows out))) }
+    ensures memory { IfErr result (λ e. e ≡ OutOfMemory) }
+{
+    match (children, below) {
+        ([child], [input]) => select(alloc, count, selection, child.dtype(), input),
+        _ => Ok(None),
+    }
+}
+
+// The function over its children's lanes, where there is a fast way whatever their types.
+fn apply_untyped(
     alloc: Global,
     count: usize,
     f: &ScalarFnRef,

@@ -14,9 +14,10 @@ use Rattle.vx_array_loops.specs.WordBits.{each_row}
 use Rattle.vx_array.specs.declared.validity.Validity.{Validity}
 use Rattle.vx_array.specs.declared.validity.Validity.TheVariants.{Rows}
 use Rattle.vx_array.specs.Shown.{masked, shown, is_valid, HasRows}
+use Rattle.vx_array.proofs.Mapped.{map_map, map-shown}
 use Rattle.vx_array.proofs.Masked.{length-masked, get_or-shown, rows_within}
 use Rattle.vx_array_kernels.specs.Truths.{truth, truth_rows, both_rows}
-use Rattle.vx_array_kernels.proofs.Told.{map_map, map-shown, rows_as}
+use Rattle.vx_array_kernels.proofs.Told.{rows_as}
 
 pub and_is : (v a w b : Bool) → truth (and_valid v a w b) (a && b) ≡ kleene_and (truth v a) (truth w b)
 and_is true true true true = refl

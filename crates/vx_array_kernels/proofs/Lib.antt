@@ -1,4 +1,4 @@
 pub mod Told
 pub mod Bits
 pub mod NullRows
-pub mod Found
+pub mod Beside

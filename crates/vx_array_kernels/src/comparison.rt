@@ -1,4 +1,4 @@
-// Comparisons of numbers in buffers with one value.
+// Comparisons of numbers in buffers, with one value and with each other.
 ghost use Rattle.std.specs.Prelude.{◌≡◌, IfOk, IfSome, length, map};
 ghost use Rattle.std.specs.Ordering.{int_cmp};
 ghost use Rattle.vx_value.specs.Types.{bool, int};
@@ -14,6 +14,7 @@ ghost use Rattle.vx_array_loops.specs.Comparisons.{holds};
 ghost use Rattle.vx_array_kernels.specs.Asked.{asked, between_rows, compared_rows};
 ghost use Rattle.vx_array_kernels.specs.Truths.{both_rows};
 
+use crate::columns::compare_columns;
 use crate::logic::and;
 use std::alloc::{AllocError, Global};
 use vx_array::{BitPart, Lanes, Numbers, Part, Validity};
@@ -75,8 +76,9 @@ pub fn between(
     and(alloc, count, &above, &below)
 }
 
-/// The comparison of two columns, of which one is one value in all rows. There is an answer where
-/// `compare_with` has one. Asks so many rows of both.
+/// The comparison of two columns. There is an answer where both are numbers in buffers of one width, and
+/// where one is one value in all rows and the other has numbers whose width has that value. Asks so many
+/// rows of both.
 pub fn compare(
     alloc: Global,
     count: usize,
@@ -93,7 +95,7 @@ pub fn compare(
         (Lanes::Same(value, _), _) => {
             compare_with(alloc, mirrored(comparison), rhs, value.as_ref())
         }
-        _ => Ok(None),
+        _ => compare_columns(alloc, count, comparison, lhs, rhs),
     }
 }
 

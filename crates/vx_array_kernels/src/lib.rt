@@ -1,6 +1,7 @@
 // Functions over columns in typed buffers.
 #![tactic(auto)]
 
+mod columns;
 mod comparison;
 mod logic;
 mod nulls;

@@ -4,7 +4,7 @@ ghost use Rattle.vx_fn.specs.Values.{kleene_and, kleene_not, kleene_or};
 ghost use Rattle.vx_array.specs.Rows.{lanes_rows};
 ghost use Rattle.vx_array_kernels.specs.Truths.{both_rows};
 
-use crate::truths::{Truths, first_rows, turned};
+use crate::truths::{Truths, turned};
 use std::alloc::{AllocError, Global};
 use vx_array::{BitPart, Lanes};
 
@@ -58,7 +58,7 @@ pub fn not(alloc: Global, input: &Lanes) -> Result<Option<Lanes>, AllocError>
 {
     match input {
         Lanes::Bools(bits, validity) => {
-            let others = turned(alloc, &first_rows(alloc, bits.len(), bits)?)?;
+            let others = turned(alloc, &bits.first(alloc, bits.len())?)?;
             Ok(Some(Lanes::Bools(BitPart::new(alloc, others)?, validity.clone()?)))
         }
         _ => Ok(None),

@@ -47,7 +47,7 @@ impl Truths {
     {
         Ok(Truths {
             valid: valid_rows(alloc, count, validity)?,
-            bits: first_rows(alloc, count, bits)?,
+            bits: bits.first(alloc, count)?,
         })
     }
 
@@ -80,17 +80,6 @@ impl Truths {
     }
 }
 
-/// The first so many bits. Asks rows that are there.
-pub fn first_rows(alloc: Global, count: usize, part: &BitPart) -> Result<Bits, AllocError>
-    requires { count ≤ length part.now }
-    ensures { IfOk result (λ b. b ≡ take count part.now) }
-{
-    match part.whole() {
-        Some(bits) if bits.len() == count => bits.clone(),
-        _ => part.slice(0, count)?.to_bits(alloc),
-    }
-}
-
 /// Which of the first so many rows are valid. Asks rows that are there.
 pub fn valid_rows(alloc: Global, count: usize, validity: &Validity) -> Result<Bits, AllocError>
     requires { HasRows validity.now count }
@@ -100,7 +89,7 @@ pub fn valid_rows(alloc: Global, count: usize, validity: &Validity) -> Result<Bi
     match validity {
         Validity::All => Bits::tabulated(alloc, count, |_| true),
         Validity::Nothing => Bits::zeros(alloc, count),
-        Validity::Rows(rows) => first_rows(alloc, count, rows),
+        Validity::Rows(rows) => rows.first(alloc, count),
     }
 }
 

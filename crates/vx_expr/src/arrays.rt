@@ -1,5 +1,8 @@
-//! Columns in typed buffers, made of vectors, and evaluation over them: the same rows as over a
-//! [`Column`](crate::value::Column), by loops over the buffers. Clones and slices share them.
-pub use vx_array::{Array, Validity};
-pub use vx_array_build::{Native, binaries, booleans, constant, primitive, struct_of, texts};
+//! Columns in typed buffers, made of vectors and of a [`Column`](crate::value::Column), and evaluation over
+//! them: the same rows as over a column, by loops over the buffers. Clones and slices share them.
+pub use vx_array::{Array, BitPart, Validity};
+pub use vx_array_build::{
+    Native, are_within, binaries, booleans, constant, filter, from_column, primitive, struct_of, take, texts,
+};
 pub use vx_array_eval::apply_array;
+pub use vx_array_loops::Bits;

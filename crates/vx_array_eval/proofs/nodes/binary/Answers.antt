@@ -6,7 +6,7 @@ use Rattle.vx_fn.specs.Views.{operation_of}
 use Rattle.vx_array.specs.Rows.{lanes_rows}
 use Rattle.vx_array_kernels.specs.Asked.{asked}
 use Rattle.vx_array_kernels.specs.Truths.{both_rows}
-use Rattle.vx_array_kernels.proofs.Found.{found_map}
+use Rattle.vx_array.proofs.Found.{found_map}
 use Rattle.vx_eval.specs.Columns.{rows_of, node_answer}
 use Rattle.vx_array_eval.proofs.Given.{and_given, compared_given, or_given}
 use Rattle.vx_array_eval.proofs.nodes.binary.Goals as goal

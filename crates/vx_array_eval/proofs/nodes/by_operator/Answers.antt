@@ -3,7 +3,7 @@ use Rattle.vx_value.specs.Types.{LogicalType}
 use Rattle.vx_fn.specs.Functions as functions
 use Rattle.vx_fn.specs.Views.{function_of, operation_of}
 use Rattle.vx_array.specs.Rows.{lanes_rows}
-use Rattle.vx_array_kernels.proofs.Found.{found_map}
+use Rattle.vx_array.proofs.Found.{found_map}
 use Rattle.vx_eval.specs.Columns.{rows_of, node_answer}
 use Rattle.vx_array_eval.proofs.Given.{at_function}
 use Rattle.vx_array_eval.proofs.nodes.by_operator.Goals as goal

@@ -4,7 +4,7 @@ use Rattle.vx_fn.specs.Values.{kleene_not}
 use Rattle.vx_fn.specs.Views.{function_of}
 use Rattle.vx_array.specs.Rows.{lanes_rows}
 use Rattle.vx_array_kernels.specs.Truths.{null_told, value_told}
-use Rattle.vx_array_kernels.proofs.Found.{found_map}
+use Rattle.vx_array.proofs.Found.{found_map}
 use Rattle.vx_eval.specs.Columns.{rows_of, node_answer}
 use Rattle.vx_array_eval.proofs.Given.{at_function, not_given, null_given, value_given}
 use Rattle.vx_array_eval.proofs.nodes.unary.Goals as goal

@@ -4,7 +4,7 @@ use Rattle.vx_fn.specs.Functions as functions
 use Rattle.vx_fn.specs.Views.{is_strict}
 use Rattle.vx_array.specs.Rows.{lanes_rows}
 use Rattle.vx_array_kernels.specs.Asked.{between_rows}
-use Rattle.vx_array_kernels.proofs.Found.{found_map}
+use Rattle.vx_array.proofs.Found.{found_map}
 use Rattle.vx_eval.specs.Columns.{rows_of, node_answer}
 use Rattle.vx_array_eval.proofs.Given.{between_given}
 use Rattle.vx_array_eval.proofs.nodes.within.Goals as goal

@@ -3,7 +3,7 @@ use Rattle.vx_fn.specs.Values.{compared, kleene_and}
 use Rattle.vx_array.specs.Rows.{lanes_rows}
 use Rattle.vx_array_kernels.specs.Asked.{asked, between_rows}
 use Rattle.vx_array_kernels.specs.Truths.{both_rows}
-use Rattle.vx_array_kernels.proofs.Found.{found_map}
+use Rattle.vx_array.proofs.Found.{found_map}
 use Rattle.vx_array_kernels.proofs.Told.{between_is, length-both_rows}
 use Rattle.vx_array_kernels.proofs.comparison.between.Goals as goal
 

@@ -6,7 +6,7 @@ use Rattle.vx_array.specs.Rows.{lanes_rows}
 use Rattle.vx_array.proofs.Held.{rows-Same}
 use Rattle.vx_array_kernels.specs.Asked.{asked, compared_rows}
 use Rattle.vx_array_kernels.specs.Truths.{both_rows}
-use Rattle.vx_array_kernels.proofs.Found.{found_map}
+use Rattle.vx_array.proofs.Found.{found_map}
 use Rattle.vx_array_kernels.proofs.Told.{both_before, both_with, turned_round}
 use Rattle.vx_array_kernels.proofs.comparison.compare.Goals as goal
 

@@ -1,0 +1,8 @@
+use Rattle.std.proofs.Common.{◌≡◌, map, take}
+use Rattle.vx_value.specs.Views.{value_of}
+use Rattle.vx_array.specs.Rows.{lanes_rows}
+use Rattle.vx_array_build.specs.Taken.{rows_at}
+use Rattle.vx_array_build.proofs.taken.boxed.Given as goal
+
+abbrev pub invariant-loop-i : goal.invariant-loop-i
+invariant-loop-i l = map value_of l.values.items ≡ rows_at (lanes_rows l.lanes) (take l.i l.indices)
