@@ -1,5 +1,5 @@
 -- Buffers that are filled from values.
-use Rattle.std.proofs.Common.{◌≡◌, ℕ, ◌+◌, ◌<◌, ◌≤◌, zero, suc, List, [], ◌∷◌, ◌++◌, map, length, get_or, take, refl, sym, subst, ap, ◌∙◌, arith, Bool, true, false, below_more, Vec, Global}
+use Rattle.std.proofs.Common.{◌≡◌, ℕ, ◌+◌, ◌<◌, ◌≤◌, List, [], ◌∷◌, ◌++◌, map, length, get_or, take, refl, sym, subst, ap, ◌∙◌, arith, Bool, true, false, below_more, Vec, Global}
 use Rattle.std.specs.Prelude.{if◌then◌else◌, not}
 use Rattle.std.specs.Borrow.{Bor}
 use Rattle.std.specs.List.{range_with_len}
@@ -8,7 +8,7 @@ use Rattle.std.proofs.lemmas.List.{length-map, get_or-map, ext_get_or, get_or_ap
 use Rattle.std.proofs.lemmas.List.FromFn.{length-map-range_with_len, get_or-map-range_with_len, map-range_with_len_more}
 use Rattle.vx_value.specs.declared.value.Value.{Value, Struct}
 use Rattle.vx_value.specs.Fields.{data_of}
-use Rattle.vx_value.specs.Types.{Datum, null, bool, int, utf8, bytes, list_of, struct_of, is_null_datum, Data, no_datum, datum}
+use Rattle.vx_value.specs.Types.{Datum, null, bool, int, utf8, bytes, list_of, struct_of, is_null_datum}
 use Rattle.vx_value.specs.StructColumns.{row_at, struct_at}
 use Rattle.vx_value.specs.Views.{value_of}
 use Rattle.vx_array.specs.declared.lanes.Lanes as Kind

@@ -1,5 +1,5 @@
 -- Structs of columns side by side.
-use Rattle.std.proofs.Common.{◌≡◌, ℕ, List, length, map, refl, sym, ap, ◌∙◌, arith, rules, true, false}
+use Rattle.std.proofs.Common.{◌≡◌, ℕ, List, length, map, ap, ◌∙◌, rules, true, false}
 use Rattle.std.specs.Prelude.{Option, None, is_some}
 use Rattle.std.specs.declared.alloc.Global.{Global}
 use Rattle.std.specs.declared.sync.Arc.{Arc}
@@ -8,10 +8,10 @@ use Rattle.vx_dtype.specs.declared.dtype.DType.{DType, the_lemmas as the_types}
 use Rattle.vx_dtype.specs.declared.dtype.DType.TheVariants as DType
 use Rattle.vx_dtype.specs.declared.dtype.Nullability.{Nullability}
 use Rattle.vx_dtype.specs.declared.dtype.StructFields.{StructFields}
-use Rattle.vx_value.specs.Types.{Name, LogicalType, ty, struct}
+use Rattle.vx_value.specs.Types.{Name, ty, struct}
 use Rattle.vx_value.specs.Fields.{fields_named}
 use Rattle.vx_value.specs.Views.{admits_null, fields_of, type_of}
-use Rattle.vx_value.specs.Columns.{Batch, batch, first_misfit}
+use Rattle.vx_value.specs.Columns.{Batch, first_misfit}
 use Rattle.vx_value.specs.StructColumns.{EachFit, all_long, rows_in, struct_rows, struct_type, types_in}
 use Rattle.vx_value.proofs.StructRows.{structs_fit}
 use Rattle.vx_array.specs.declared.lanes.Lanes as Kind

@@ -1,5 +1,5 @@
 -- Rows that are values of a type, out of vectors.
-use Rattle.std.proofs.Common.{◌≡◌, ℕ, ◌<◌, ◌≤◌, zero, suc, List, [], ◌∷◌, map, length, get_or, refl, sym, ap, ◌∙◌, arith, rules, Bool, true, false, ℤ, pos, ⊎_elim}
+use Rattle.std.proofs.Common.{◌≡◌, ℕ, ◌<◌, zero, suc, List, [], ◌∷◌, map, length, get_or, refl, sym, ap, ◌∙◌, arith, Bool, true, false, ℤ, pos, ⊎_elim}
 use Rattle.std.specs.Prelude.{if◌then◌else◌, Option, Some, None, is_some}
 use Rattle.std.proofs.Math.ListN.{replicate}
 use Rattle.std.proofs.lemmas.Bool.{cases_lt}

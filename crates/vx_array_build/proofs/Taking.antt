@@ -10,7 +10,7 @@ use Rattle.std.proofs.lemmas.List.{append-nil, map-id, get_or_past, length-map, 
 use Rattle.vx_value.specs.Fields.{data_of}
 use Rattle.vx_value.specs.StructColumns.{row_at, struct_at}
 use Rattle.vx_value.specs.Types.{LogicalType, Datum, null, struct_of}
-use Rattle.vx_value.specs.Fits.{fits, Fits}
+use Rattle.vx_value.specs.Fits.{fits}
 use Rattle.vx_value.specs.Columns.{first_misfit}
 use Rattle.vx_value.proofs.Lists.{fits_at}
 use Rattle.vx_array.specs.declared.validity.Validity.{Validity}

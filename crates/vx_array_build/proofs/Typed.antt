@@ -1,16 +1,11 @@
 -- The types and the rows of lanes of each kind.
-use Rattle.std.proofs.Common.{◌≡◌, ℕ, List, map, ap, ◌∙◌, rules, Bool, ℤ}
+use Rattle.std.proofs.Common.{◌≡◌, List, map, ap, ◌∙◌, rules, Bool, ℤ}
 use Rattle.std.specs.Prelude.{Option, is_some}
-use Rattle.std.proofs.Math.ListN.{replicate}
-use Rattle.std.specs.declared.alloc.Global.{Global}
-use Rattle.std.specs.declared.sync.Arc.{Arc}
 use Rattle.vx_dtype.specs.declared.dtype.DType.{DType, the_lemmas as the_types}
-use Rattle.vx_dtype.specs.declared.dtype.DType.TheVariants as DType
 use Rattle.vx_dtype.specs.declared.dtype.Nullability.{Nullability}
 use Rattle.vx_dtype.specs.declared.dtype.PType.{PType}
-use Rattle.vx_value.specs.declared.value.Value.{Value}
 use Rattle.vx_value.specs.Types.{ty, atomic, truth, number, text, octets, Datum, bool, int, bytes}
-use Rattle.vx_value.specs.Views.{admits_null, type_of, value_of}
+use Rattle.vx_value.specs.Views.{admits_null, type_of}
 use Rattle.vx_array.specs.declared.lanes.Lanes as Kind
 use Rattle.vx_array.specs.declared.numbers.Numbers.{Numbers}
 use Rattle.vx_array.specs.declared.spans.Spans.{Spans}
@@ -18,7 +13,7 @@ use Rattle.vx_array.specs.declared.validity.Validity.{Validity}
 use Rattle.vx_array.specs.Kinds.{numbers_in, spans_in, text_row}
 use Rattle.vx_array.specs.Rows.{lanes_rows}
 use Rattle.vx_array.specs.Shown.{shown}
-use Rattle.vx_array.proofs.Held.{rows-Bools, rows-Numbers, rows-Octets, rows-Same, rows-Texts}
+use Rattle.vx_array.proofs.Held.{rows-Bools, rows-Numbers, rows-Octets, rows-Texts}
 use Rattle.vx_array_build.specs.Built.{shown_by}
 
 pub bool_typed : (n : Nullability) (v : Option Validity) → admits_null n ≡ is_some v → type_of (DType.Bool n) ≡ ty (atomic truth) (is_some v)

@@ -1,8 +1,8 @@
 -- Arrays out of vectors.
-use Rattle.std.specs.Prelude.{ℕ, List, map, Option, Some, None, is_some, Result, Ok, Err, if◌then◌else◌}
+use Rattle.std.specs.Prelude.{ℕ, List, Option, Some, None, is_some, Result, Ok, Err, if◌then◌else◌}
 use Rattle.vx_dtype.specs.declared.error.VortexError.{VortexError}
 use Rattle.vx_dtype.specs.declared.error.VortexError.TheVariants.{LengthMismatch}
-use Rattle.vx_value.specs.Types.{Name, LogicalType, ty, Shape, Datum}
+use Rattle.vx_value.specs.Types.{Name, ty, Shape, Datum}
 use Rattle.vx_value.specs.Columns.{Batch, batch}
 use Rattle.vx_value.specs.StructColumns.{all_long, rows_in, struct_rows, struct_type}
 use Rattle.vx_array.specs.declared.validity.Validity.{Validity}

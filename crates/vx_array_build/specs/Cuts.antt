@@ -1,5 +1,5 @@
 -- Bytes of rows that are added to one buffer.
-use Rattle.std.specs.Prelude.{◌≡◌, ℕ, ◌-◌, ◌+◌, ◌≤◌, ◌<◌, List, map, length, get_or}
+use Rattle.std.specs.Prelude.{◌≡◌, ℕ, ◌-◌, ◌≤◌, ◌<◌, List, map, length, get_or}
 use Rattle.std.specs.List.{range_with_len}
 use Rattle.vx_array.specs.Kinds.{span_at}
 

@@ -1,4 +1,4 @@
-use Rattle.std.proofs.Common.{◌≡◌, ap, sym, ◌∙◌, arith, below_more, get_or, subst}
+use Rattle.std.proofs.Common.{arith, below_more, get_or, subst}
 use Rattle.vx_value.specs.Types.{null}
 use Rattle.vx_array_build.specs.Filled.{HasItems, rows_lent}
 use Rattle.vx_array_build.proofs.Filling.{lent_at}

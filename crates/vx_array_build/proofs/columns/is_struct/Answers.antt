@@ -1,4 +1,4 @@
-use Rattle.std.proofs.Common.{◌≡◌, ap, sym, ◌∙◌, arith, length, subst}
+use Rattle.std.proofs.Common.{◌≡◌, ap, sym, arith, length, subst}
 use Rattle.std.proofs.lemmas.Bool.{eqb-true}
 use Rattle.vx_value.specs.Views.{value_of}
 use Rattle.vx_array_build.specs.Filled.{HasItems}

@@ -1,4 +1,4 @@
-use Rattle.std.proofs.Common.{◌≡◌, ap, ◌∙◌, ◌++◌, [], ◌∷◌, arith, List, length, map}
+use Rattle.std.proofs.Common.{◌≡◌, ap, ◌∙◌, [], ◌∷◌, arith, List, length, map}
 use Rattle.std.proofs.lemmas.List.{map-append}
 use Rattle.vx_value.specs.Types.{int}
 use Rattle.vx_array_build.specs.Filled.{rows_lent}

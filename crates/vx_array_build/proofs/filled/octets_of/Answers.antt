@@ -1,7 +1,6 @@
-use Rattle.std.proofs.Common.{◌≡◌, ap, ◌∙◌, arith, length, map, rules}
+use Rattle.std.proofs.Common.{◌≡◌, ap, arith, length, map}
 use Rattle.vx_value.specs.Types.{bytes}
 use Rattle.vx_array.specs.Kinds.{spans_in}
-use Rattle.vx_value.specs.Views.{value_of}
 use Rattle.vx_array_build.specs.Filled.{rows_lent}
 use Rattle.vx_array_build.proofs.Filling.{at_row, filled_end, filled_push}
 use Rattle.vx_array_build.proofs.filled.octets_of.Goals as goal

@@ -1,4 +1,4 @@
-use Rattle.std.proofs.Common.{◌≡◌, ap, ◌∙◌, arith, length, map, rules}
+use Rattle.std.proofs.Common.{◌≡◌, ap, ◌∙◌, arith, length, map}
 use Rattle.std.specs.Prelude.{if◌then◌else◌}
 use Rattle.vx_array.specs.Kinds.{spans_in, text_row}
 use Rattle.vx_value.specs.Types.{null, utf8}

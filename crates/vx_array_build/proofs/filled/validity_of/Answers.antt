@@ -1,8 +1,4 @@
-use Rattle.std.proofs.Common.{◌≡◌, ap, sym, ◌∙◌, arith, below_more, false, get_or, length}
-use Rattle.std.specs.Prelude.{not}
-use Rattle.std.proofs.lemmas.List.{length_push, get_or_append_left, get_or_at}
-use Rattle.vx_value.specs.Types.{is_null_datum, null}
-use Rattle.vx_array_build.specs.Filled.{rows_lent}
+use Rattle.std.proofs.Common.{◌≡◌, ◌∙◌, arith, length}
 use Rattle.vx_array_build.proofs.Filling.{all_valid, valid_end, valid_push}
 use Rattle.vx_array_build.proofs.filled.validity_of.Goals as goal
 

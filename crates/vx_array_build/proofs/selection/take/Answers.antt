@@ -1,6 +1,5 @@
-use Rattle.std.proofs.Common.{◌≡◌, ap, ◌∙◌}
+use Rattle.std.proofs.Common.{ap, ◌∙◌}
 use Rattle.vx_value.specs.Columns.{first_misfit}
-use Rattle.vx_value.specs.Views.{type_of}
 use Rattle.vx_array.specs.Rows.{lanes_rows}
 use Rattle.vx_array_build.specs.Taken.{rows_at}
 use Rattle.vx_array_build.proofs.Taking.{taken_fit}

@@ -1,8 +1,8 @@
-use Rattle.std.proofs.Common.{◌≡◌, ap, sym, ◌∙◌, map, rules}
+use Rattle.std.proofs.Common.{◌≡◌, ap, sym, ◌∙◌, map}
 use Rattle.std.specs.Prelude.{is_some}
 use Rattle.vx_value.specs.Columns.{first_misfit}
 use Rattle.vx_value.specs.Fields.{fields_named}
-use Rattle.vx_value.specs.StructColumns.{rows_in, struct_type}
+use Rattle.vx_value.specs.StructColumns.{struct_type}
 use Rattle.vx_value.specs.Views.{fields_of, type_of}
 use Rattle.vx_array.specs.declared.lanes.Lanes as Kind
 use Rattle.vx_array.specs.Rows.{lanes_each, lanes_rows}

@@ -1,5 +1,4 @@
-use Rattle.std.proofs.Common.{◌≡◌, ap, List, Ok}
-use Rattle.vx_value.specs.Types.{LogicalType}
+use Rattle.std.proofs.Common.{◌≡◌, ap, Ok}
 use Rattle.vx_fn.specs.Functions as functions
 use Rattle.vx_fn.specs.Views.{function_of}
 use Rattle.vx_tree.specs.Trees.{node_types}
