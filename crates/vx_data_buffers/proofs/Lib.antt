@@ -1,4 +1,3 @@
-pub mod Columns
 pub mod Fields
 pub mod Grown
 pub mod Items

@@ -2,4 +2,3 @@ pub mod Results
 pub mod Bytes
 pub mod Layout
 pub mod Rows
-pub mod Arrays

@@ -1,7 +1,6 @@
-// Columns and arrays out of buffers of bytes, laid out as in the Arrow columnar format.
+// Columns out of buffers of bytes, laid out as in the Arrow columnar format.
 #![tactic(auto)]
 
-mod array;
 mod buffer;
 mod bytes;
 mod column;
@@ -9,12 +8,9 @@ mod counts;
 mod error;
 mod fault;
 mod leaves;
-mod numbers;
 mod spans;
-mod validity;
 mod values;
 
-pub use array::array_of;
 pub use buffer::Buffer;
 pub use column::column_of;
 pub use error::BufferError;

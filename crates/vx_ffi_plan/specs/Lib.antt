@@ -2,4 +2,3 @@ pub mod Kept
 pub mod ScanStops
 pub mod Handles
 pub mod Held
-pub mod Selections

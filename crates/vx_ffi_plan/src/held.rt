@@ -5,12 +5,10 @@ ghost use Rattle.vx_ffi_calls.specs.Stops.{IsExhausted};
 ghost use Rattle.vx_ffi_plan.specs.Kept.{IsPathsPage, IsScanPage};
 ghost use Rattle.vx_ffi_plan.specs.ScanStops.{ScanStops};
 ghost use Rattle.vx_ffi_plan.specs.Held.{HeldEnds};
-ghost use Rattle.vx_ffi_plan.specs.Selections.{IsSelectPage, SelectStops};
 
 use crate::handle::PlanHandle;
 use crate::paths::answer_paths;
 use crate::scan::{GivenBatch, answer_scan};
-use crate::select::answer_select;
 use crate::stop::planless;
 use crate::taken::taken;
 use std::alloc::Global;
@@ -51,28 +49,6 @@ pub fn answer_held_scan(
     match taken(alloc, plan) {
         Some(kept) => {
             let status = answer_scan(alloc, &kept, batch, buffer, answer);
-            *plan = PlanHandle::of(kept);
-            status
-        }
-        None => ended(&Err(planless(alloc)), buffer, answer),
-    }
-}
-
-/// Answers at which rows of the batch in the buffers the expression of the handle's plan is true:
-/// [`answer_select`]. Stops where the handle has no plan, and as that does.
-pub fn answer_held_select(
-    alloc: Global,
-    plan: &mut PlanHandle,
-    batch: &GivenBatch<'_>,
-    buffer: &mut [u8],
-    answer: &mut Answer,
-) -> Status
-    ensures ends { HeldEnds (λ kept. IsSelectPage kept batch.now.rows (bytes_in batch.now.buffers.now)) (λ kept. SelectStops kept batch.now.rows (bytes_in batch.now.buffers.now)) plan.old.plan buffer.old result buffer.new answer.new }
-    ensures kept { plan.new.plan ≡ plan.old.plan }
-{
-    match taken(alloc, plan) {
-        Some(kept) => {
-            let status = answer_select(alloc, &kept, batch, buffer, answer);
             *plan = PlanHandle::of(kept);
             status
         }

@@ -8,16 +8,13 @@ mod made;
 mod paths;
 mod scan;
 mod scan_stop;
-mod select;
 mod stop;
 mod taken;
-mod truth_bytes;
 mod values;
 
 pub use handle::PlanHandle;
-pub use held::{answer_held_paths, answer_held_scan, answer_held_select};
+pub use held::{answer_held_paths, answer_held_scan};
 pub use kept::{KeptPlan, kept_plan};
 pub use made::{answer_new, free_plan};
 pub use paths::answer_paths;
 pub use scan::{GivenBatch, answer_scan};
-pub use select::answer_select;
