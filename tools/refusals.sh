@@ -10,8 +10,9 @@ room=$(mktemp -d)
 trap 'rm -r "$room"' EXIT
 rustc --edition 2024 -O -C panic=abort --crate-type cdylib tools/refuse_alloc.rs \
     -o "$room/librefuse.so"
-tools/records.sh 10000 csv >"$room/some.csv"
-tools/records.sh 10000 jsonl >"$room/some.jsonl"
+# (so many that what a batch takes has its full size in the shorter file, too)
+tools/records.sh 50000 csv >"$room/some.csv"
+tools/records.sh 50000 jsonl >"$room/some.jsonl"
 PYTHONUTF8=1 python3 - "$room" <<'PYTHON'
 import multiprocessing, os, pathlib, re, subprocess, sys, tempfile
 
@@ -87,7 +88,8 @@ class Line:
         self.is_never, self.is_first = is_never, is_first
         self.command = [pathlib.Path(f"crates/{crate}/out/{crate}").resolve(), "line.table"]
         self.kind, columns = (it.strip() for it in text.split("|", 1))
-        count = COLUMNS.get(self.kind, 1)
+        # (a form may have options, as in `json:any rows`)
+        count = COLUMNS.get(re.sub(r":\S+", "", self.kind), 1)
         self.wanted = columns.split("|", count)[count].strip()
         self.refusal = self.of_files() if crate == "vx_data_rows" else self.of_trees(before)
 
