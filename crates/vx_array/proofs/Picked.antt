@@ -8,7 +8,7 @@ use Rattle.vx_value.specs.StructColumns.{row_at, struct_at}
 use Rattle.vx_value.specs.Types.{Datum, null, struct_of}
 use Rattle.vx_array.specs.declared.lanes.Lanes.{Lanes}
 use Rattle.vx_array.specs.declared.validity.Validity.{Validity}
-use Rattle.vx_array.specs.Items.{datum_at, item_at, items_at}
+use Rattle.vx_value.specs.Items.{datum_at, item_at, items_at}
 use Rattle.vx_array.specs.Rows.{lanes_each, lanes_rows, structs_from}
 use Rattle.vx_array.specs.Shown.{shown}
 use Rattle.vx_array.proofs.Mapped.{map_map, map_same, map-shown}

@@ -2,4 +2,3 @@ pub mod Shown
 pub mod Kinds
 pub mod Rows
 pub mod Arrays
-pub mod Items

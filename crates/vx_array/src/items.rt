@@ -1,6 +1,6 @@
 // Items of structs in buffers.
 ghost use Rattle.std.specs.Prelude.{◌≡◌, ◌≤◌, ◌+◌, IfOk, IfSome, List, [], get_or, length, map, take, drop};
-ghost use Rattle.vx_array.specs.Items.{item_at, items_at};
+ghost use Rattle.vx_value.specs.Items.{item_at, items_at};
 ghost use Rattle.vx_array.specs.Rows.{lanes_each, lanes_rows};
 ghost use Rattle.vx_array.specs.Shown.{shown};
 

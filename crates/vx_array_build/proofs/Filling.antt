@@ -16,7 +16,7 @@ use Rattle.vx_array.specs.declared.lanes.Lanes.{Lanes}
 use Rattle.vx_array.specs.declared.stretch.Stretch.{Stretch}
 use Rattle.vx_array.specs.declared.validity.Validity.{Validity}
 use Rattle.vx_array.specs.declared.validity.Validity.TheVariants.{All, Rows}
-use Rattle.vx_array.specs.Items.{datum_at, item_at}
+use Rattle.vx_value.specs.Items.{datum_at, item_at}
 use Rattle.vx_array.specs.Rows.{lanes_each, lanes_rows, structs_from}
 use Rattle.vx_array.specs.Shown.{is_valid, shown, shown_count}
 use Rattle.vx_array.proofs.Held.{rows-Structs}

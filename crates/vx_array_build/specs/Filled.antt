@@ -7,7 +7,7 @@ use Rattle.vx_value.specs.Types.{Datum, null, struct_of, is_null_datum}
 use Rattle.vx_value.specs.Fields.{data_of}
 use Rattle.vx_value.specs.Views.{value_of}
 use Rattle.vx_array.specs.declared.validity.Validity.{Validity}
-use Rattle.vx_array.specs.Items.{item_at}
+use Rattle.vx_value.specs.Items.{item_at}
 use Rattle.vx_array.specs.Shown.{is_valid, shown_count}
 
 -- what values that are lent stand for

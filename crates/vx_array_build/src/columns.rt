@@ -3,7 +3,7 @@ ghost use Rattle.std.specs.Prelude.{◌≡◌, ◌<◌, ℕ, IfOk, IfSome, Ok, t
 ghost use Rattle.vx_dtype.specs.Returns.{ReturnsOrOom};
 ghost use Rattle.vx_value.specs.Types.{null};
 ghost use Rattle.vx_value.specs.Views.{value_of};
-ghost use Rattle.vx_array.specs.Items.{item_at};
+ghost use Rattle.vx_value.specs.Items.{item_at};
 ghost use Rattle.vx_array.specs.Rows.{lanes_rows};
 ghost use Rattle.vx_array_build.specs.Filled.{HasItems, rows_lent};
 

@@ -1,4 +1,3 @@
 pub mod Children
 pub mod Given
 pub mod Typed
-pub mod Placed

@@ -6,7 +6,7 @@ use Rattle.vx_fn.specs.declared.options.FieldSelection.{FieldSelection}
 use Rattle.vx_fn.specs.Functions.{get_item, select}
 use Rattle.vx_fn.specs.Values.{item_value, select_value}
 use Rattle.vx_array.specs.declared.lanes.Lanes.{Lanes}
-use Rattle.vx_array.specs.Items.{datum_at, item_at, items_at}
+use Rattle.vx_value.specs.Items.{datum_at, item_at, items_at}
 use Rattle.vx_array.proofs.Mapped.{map_same}
 use Rattle.vx_eval.specs.Columns as rows
 use Rattle.vx_eval.specs.Columns.{rows_of, node_answer}

@@ -4,7 +4,6 @@
 mod by_rows;
 mod evaluation;
 mod nodes;
-mod places;
 mod structs;
 mod trees;
 

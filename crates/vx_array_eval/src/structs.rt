@@ -8,11 +8,10 @@ ghost use Rattle.vx_fn.specs.Functions.{item_type, select_type};
 ghost use Rattle.vx_array.specs.Rows.{lanes_rows, lanes_each};
 ghost use Rattle.vx_eval.specs.Columns.{rows_of, node_answer};
 
-use crate::places::places_of;
 use std::alloc::{AllocError, Global};
 use std::sync::Arc;
 use vx_array::{Lanes, Stretch, Validity};
-use vx_eval::place_of;
+use vx_eval::{place_of, places_of};
 use vx_fn::FieldSelection;
 use vx_types::{DType, FieldName, VortexResult};
 

@@ -1,22 +1,12 @@
 -- Items of structs, and truth values told of them. No public contract names this file.
-use Rattle.std.specs.Prelude.{◌≡◌, ℕ, List, [], ◌∷◌, map, length, Option, Some, None, zero, suc, Bool, true, false}
+use Rattle.std.specs.Prelude.{◌≡◌, ℕ, List, [], ◌∷◌, map, length, Option, Some, None, Bool, true, false}
 use Rattle.std.specs.List.{AllByRecursion}
+pub use Rattle.vx_value.specs.Items.{datum_at, item_at}
 pub use Rattle.vx_value.specs.StructColumns.{HaveRow}
-use Rattle.vx_value.specs.Types.{Datum, null, bool, struct_of, Data, no_datum, datum}
+use Rattle.vx_value.specs.Types.{Datum, null, bool}
 use Rattle.vx_fn.specs.Functions.{Operation, compares}
 use Rattle.vx_fn.specs.Values.{binary_value, kleene_and}
 use Rattle.vx_eval_masks.specs.Merges.{each_row, row_at}
-
--- the value at that place
-abbrev pub datum_at : ℕ → Data → Datum
-datum_at k no_datum = null
-datum_at zero (datum v vs) = v
-datum_at (suc k) (datum v vs) = datum_at k vs
-
--- the item at that place of a struct, null of what is none
-abbrev pub item_at : ℕ → Datum → Datum
-item_at k (struct_of vs) = datum_at k vs
-item_at k _ = null
 
 -- the value that a truth value is, or null
 abbrev pub truth_datum : Option Bool → Datum

@@ -1,17 +1,17 @@
 -- What the kernels of single functions are told. No public contract names this file.
-use Rattle.std.specs.Prelude.{◌≡◌, ℕ, ◌<◌, ℤ, List, [], ◌∷◌, map, Option, Some, None, Result, Ok, Bool, false, not, ◌&&◌, if◌then◌else◌}
+use Rattle.std.specs.Prelude.{◌≡◌, ℕ, ◌<◌, ℤ, List, [], ◌∷◌, Option, Some, None, Result, Ok, Bool, false, not, ◌&&◌, if◌then◌else◌}
 use Rattle.std.specs.Int.Signed.{le_z}
 use Rattle.vx_value.specs.declared.value.Value.{Value}
-use Rattle.vx_value.specs.Fields.{data_of}
-use Rattle.vx_value.specs.Types.{LogicalType, Datum, null, bool, int, utf8, struct_of, is_null_datum}
+use Rattle.vx_value.specs.Types.{LogicalType, Datum, null, bool, int, utf8, is_null_datum}
 use Rattle.vx_value.specs.Views.{value_of}
 use Rattle.std.specs.declared.cmp.Ordering.{Ordering}
 use Rattle.vx_fn.specs.Functions.{Operation, compares}
 use Rattle.vx_fn.specs.Faults.{is_outside}
 use Rattle.vx_fn.specs.Values.{agrees, flipped, is_true}
 use Rattle.vx_eval_like.specs.Patterns.{Compiled, accepts}
-use Rattle.vx_eval.specs.Columns.{truth_datum, datum_at}
+use Rattle.vx_eval.specs.Columns.{truth_datum}
 pub use Rattle.vx_eval.specs.Items.{is_comparison}
+pub use Rattle.vx_value.specs.Items.{items_at}
 
 -- where a call answers at one of the first n rows, it is what g gives there
 abbrev pub AnswersRows : {E : Type 0} → (ℕ → Result Value E → Type 0) → ℕ → (ℕ → Datum) → Type 0
@@ -36,11 +36,6 @@ is_between lowest highest i = le_z lowest i && le_z i highest
 -- the numbers of the type are those from the lowest to the highest
 abbrev pub IsRange : LogicalType → ℤ → ℤ → Type 0
 IsRange t lowest highest = (i : ℤ) → is_outside (t ∷ []) (int i) ≡ not (is_between lowest highest i)
-
--- the struct of the items at those places of a struct, null of what is none
-abbrev pub items_at : List ℕ → Datum → Datum
-items_at ks (struct_of vs) = struct_of (data_of (map (λ k. datum_at k vs) ks))
-items_at ks _ = null
 
 -- whether an order is one that a comparison asks for
 abbrev pub agrees_with : Operation → Ordering → Bool

@@ -143,8 +143,13 @@ pub fn select<'a>(
     tabulated(alloc, count, |i| items_copied(alloc, input.row(i), places))
 }
 
-// Where the values of the included fields stand in the structs of the type.
-fn places_of(alloc: Global, selection: &FieldSelection, dtype: &DType) -> VortexResult<Vec<usize>>
+/// Where the values of the included fields stand in the structs of the type. Refuses with
+/// `OutOfMemory` (1) alone.
+pub fn places_of(
+    alloc: Global,
+    selection: &FieldSelection,
+    dtype: &DType,
+) -> VortexResult<Vec<usize>>
     requires { IsOk (select_type selection.now (type_of dtype.now)) }
     ensures places { IfOk result (λ places. (v : Datum) → select_value selection.now (type_of dtype.now ∷ []) v ≡ items_at places.items v) }
     ensures memory { IfErr result (λ e. e ≡ OutOfMemory) }

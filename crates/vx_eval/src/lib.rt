@@ -27,7 +27,7 @@ mod trees;
 mod truths;
 
 pub use evaluation::apply_bound;
-pub use fields::place_of;
+pub use fields::{place_of, places_of};
 pub use matching::first_match;
 pub use merges::{merge_compact, merge_runs};
 pub use nodes::apply as apply_function;

@@ -1,20 +1,15 @@
 -- What stands at places in rows, and what lent values are.
-use Rattle.std.specs.Prelude.{ℕ, zero, suc, List, [], ◌∷◌, Option}
+use Rattle.std.specs.Prelude.{ℕ, List, [], ◌∷◌, Option}
 use Rattle.std.specs.Option.{option_map}
 use Rattle.std.specs.Borrow.{Bor}
-use Rattle.vx_value.specs.Types.{Datum, null, struct_of, Data, no_datum, datum}
+pub use Rattle.vx_value.specs.Items.{datum_at}
+use Rattle.vx_value.specs.Types.{Datum, null, struct_of}
 use Rattle.vx_value.specs.Views.{value_of}
 use Rattle.vx_value.specs.declared.value.Value.{Value}
 
 -- the value that is lent, if there is one
 abbrev pub lent_value : Option (Bor Value) → Option Datum
 lent_value = option_map (λ v. value_of v.now)
-
--- the value at that place, or null where there is none
-abbrev pub datum_at : ℕ → Data → Datum
-datum_at k no_datum = null
-datum_at zero (datum v vs) = v
-datum_at (suc k) (datum v vs) = datum_at k vs
 
 -- the value at the places, each in the struct at the one before, or null where one isn't a struct
 abbrev pub at_places : List ℕ → Datum → Datum

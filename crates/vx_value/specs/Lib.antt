@@ -9,6 +9,7 @@ pub mod Deciding
 pub mod Codes
 pub mod Columns
 pub mod StructColumns
+pub mod Items
 pub mod Paths
 pub mod ValueTexts
 pub use Rattle.vx_dtype.specs.Returns

@@ -2,7 +2,7 @@ use Rattle.std.proofs.Common.{◌≡◌, ◌+◌, ◌*◌, map}
 use Rattle.std.specs.List.{range_with_len}
 use Rattle.vx_value.specs.Views.{fields_of, type_of}
 use Rattle.vx_array.specs.Rows.{lanes_each}
-use Rattle.vx_array.specs.Items.{item_at}
+use Rattle.vx_value.specs.Items.{item_at}
 use Rattle.vx_array_build.specs.Filled.{rows_lent}
 use Rattle.vx_array_build.proofs.Sizes.{fields_size, type_size}
 use Rattle.vx_array_build.proofs.columns.+fill.Given as goal

@@ -1,6 +1,6 @@
 use Rattle.std.proofs.Common.{ap, sym, ◌∙◌, arith, get_or}
 use Rattle.vx_value.specs.Views.{value_of}
-use Rattle.vx_array.specs.Items.{item_at}
+use Rattle.vx_value.specs.Items.{item_at}
 use Rattle.vx_array_build.proofs.Filling.{item_missing, item_there}
 use Rattle.vx_array_build.proofs.columns.item_in.Goals as goal
 

@@ -1,5 +1,5 @@
 use Rattle.std.proofs.Common.{ap, ◌∙◌, arith}
-use Rattle.vx_array.specs.Items.{item_at}
+use Rattle.vx_value.specs.Items.{item_at}
 use Rattle.vx_array_build.specs.Filled.{rows_lent}
 use Rattle.vx_array_build.proofs.Filling.{lent_at, lent_long, lent_more}
 use Rattle.vx_array_build.proofs.columns.items_of.Goals as goal

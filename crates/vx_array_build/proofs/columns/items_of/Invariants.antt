@@ -1,5 +1,5 @@
 use Rattle.std.proofs.Common.{◌≡◌, map, take}
-use Rattle.vx_array.specs.Items.{item_at}
+use Rattle.vx_value.specs.Items.{item_at}
 use Rattle.vx_array_build.specs.Filled.{rows_lent}
 use Rattle.vx_array_build.proofs.columns.items_of.Given as goal
 

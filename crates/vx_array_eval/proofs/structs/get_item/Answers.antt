@@ -1,7 +1,7 @@
 use Rattle.std.proofs.Common.{◌≡◌, [], ◌∷◌, map, Ok}
 use Rattle.vx_value.specs.Views.{type_of}
 use Rattle.vx_fn.specs.Functions as functions
-use Rattle.vx_array.specs.Items.{item_at}
+use Rattle.vx_value.specs.Items.{item_at}
 use Rattle.vx_array.specs.Rows.{lanes_rows}
 use Rattle.vx_array.proofs.Found.{found_map}
 use Rattle.vx_eval.specs.Columns.{rows_of, node_answer}

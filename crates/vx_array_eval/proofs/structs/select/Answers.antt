@@ -1,7 +1,7 @@
 use Rattle.std.proofs.Common.{◌≡◌, ap, ◌∙◌, [], ◌∷◌, map, Ok}
 use Rattle.vx_value.specs.Views.{type_of}
 use Rattle.vx_fn.specs.Functions as functions
-use Rattle.vx_array.specs.Items.{items_at}
+use Rattle.vx_value.specs.Items.{items_at}
 use Rattle.vx_array.specs.Rows.{lanes_rows}
 use Rattle.vx_eval.specs.Columns.{rows_of, node_answer}
 use Rattle.vx_array_eval.proofs.Typed.{select_given, some_map}

@@ -1,6 +1,6 @@
 use Rattle.std.proofs.Common.{◌≡◌, ◌≤◌, ◌+◌, ap, sym, ◌∙◌, [], drop, get_or, length, map, take}
 use Rattle.std.proofs.lemmas.Bool.{ltb-true}
-use Rattle.vx_array.specs.Items.{item_at}
+use Rattle.vx_value.specs.Items.{item_at}
 use Rattle.vx_array.specs.Rows.{lanes_each, lanes_rows}
 use Rattle.vx_array.specs.Shown.{shown}
 use Rattle.vx_array.proofs.Found.{found_map}
