@@ -1,5 +1,6 @@
 // Answers to the lines of tables, each of the public calls that its kind names.
 mod analyses;
+mod arrays;
 mod bound;
 mod bound_line;
 mod built;

@@ -2,6 +2,7 @@
 ghost use Rattle.vx_tree.specs.Trees.{WellTyped};
 ghost use Rattle.vx_tree.specs.Views.{bound_of};
 
+use crate::answers::arrays::arrays_agree;
 use crate::answers::bound_line::BoundLine;
 use crate::answers::pruned::pruned;
 use crate::answers::{analyses, partitions};
@@ -60,17 +61,19 @@ fn same_texts(alloc: Global, source: &Expression, bound: &BoundExpression) -> Vo
     Ok(barred(alloc, own.as_str())?)
 }
 
-/// What the tree gives over each batch of the scene.
+/// What the tree gives over each batch of the scene, and a word before it where arrays of the batch give
+/// something else.
 pub fn rows(alloc: Global, scene: &Scene, tree: &BoundExpression) -> VortexResult<String>
     requires { WellTyped (bound_of tree.now) }
 {
     let mut rows = String::new(alloc);
     for batch in scene.batches.iter() {
-        push_rows(
-            alloc,
-            &mut rows,
-            fitting(apply_bound(alloc, batch, tree), tree, batch),
-        )?;
+        let answer = fitting(apply_bound(alloc, batch, tree), tree, batch);
+        let answer = Box::new(alloc, answer)?;
+        if !arrays_agree(alloc, batch, tree, &answer)? {
+            rows.push_str("arrays differ from ")?;
+        }
+        push_rows(alloc, &mut rows, Box::into_inner(answer))?;
     }
     Ok(rows)
 }

@@ -1,9 +1,10 @@
-// Trees made by chance, written and read, evaluated as they are, as queries and by scans: the rows
-// stay, and are what statistics tell of them. And texts made by chance.
+// Trees made by chance, written and read, evaluated as they are, over arrays, as queries and by scans:
+// the rows stay, and are what statistics tell of them. And texts made by chance.
 mod loosened;
 mod parts;
 mod texts;
 
+use crate::answers::arrays::arrays_agree;
 use crate::answers::pruned::is_told_true;
 use crate::answers::scans::scan_column;
 use crate::answers::source_texts::read_otherwise;
@@ -22,7 +23,7 @@ const SCOPE: &str = "{a={x=i32?,y=i32}?,b=i32?,m=bool?,s=utf8}";
 // With null in each field that may be null.
 const ROWS: &str = "{null,1,true,'ab} {{null,2},null,false,'} {{3,-1},3,null,'abab}";
 
-/// What the queries and scans of so many trees answer beside their evaluation, from a seed on:
+/// What arrays, queries and scans of so many trees answer beside their evaluation, from a seed on:
 /// `SEED COUNT`. Of the trees that are answered otherwise the one of the shortest text is told, and
 /// before it one whose source text reads back as another. More than a quarter of the trees have to
 /// fault nowhere.
@@ -70,8 +71,8 @@ fn shorter(earlier: Option<String>, text: String) -> String {
     }
 }
 
-// Whether the source faults nowhere on the batch; None where a query or a scan answers otherwise, or
-// statistics of the batch, loosened by chance, tell of a row what isn't so.
+// Whether the source faults nowhere on the batch; None where arrays, a query or a scan answer otherwise,
+// or statistics of the batch, loosened by chance, tell of a row what isn't so.
 fn agrees(
     alloc: Global,
     source: &Expression,
@@ -80,7 +81,10 @@ fn agrees(
 ) -> VortexResult<Option<bool>> {
     let bound = Box::new(alloc, source.bind(alloc, batch.dtype())?)?;
     let plain = Box::new(alloc, apply_bound(alloc, batch, &bound))?;
-    if !queries_agree(alloc, source, batch, &plain) || !scan_agrees(alloc, source, batch, &plain)? {
+    if !arrays_agree(alloc, batch, &bound, &plain)?
+        || !queries_agree(alloc, source, batch, &plain)
+        || !scan_agrees(alloc, source, batch, &plain)?
+    {
         return Ok(None);
     }
     let stats = Box::new(alloc, loosened(alloc, batch, seeds)?)?;

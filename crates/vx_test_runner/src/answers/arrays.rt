@@ -1,0 +1,98 @@
+// Evaluation over arrays beside that over columns: the same rows, or the same fault.
+ghost use Rattle.vx_tree.specs.Trees.{WellTyped};
+ghost use Rattle.vx_tree.specs.Views.{bound_of};
+
+use std::alloc::Global;
+use vx_array::Array;
+use vx_array_build::{are_within, from_column, take};
+use vx_array_eval::apply_array;
+use vx_tree::{BoundExpression, Column, VortexError, VortexResult};
+
+// How an array holds the rows of a batch: in typed buffers, in the middle of longer ones, or boxed.
+#[derive(Clone, Copy)]
+enum Form {
+    Buffers,
+    Slice,
+    Boxed,
+}
+
+/// Whether the tree gives that answer over arrays of the batch's rows, too.
+pub fn arrays_agree(
+    alloc: Global,
+    batch: &Column,
+    tree: &BoundExpression,
+    answer: &VortexResult<Column>,
+) -> VortexResult<bool>
+    requires { WellTyped (bound_of tree.now) }
+{
+    for form in [Form::Buffers, Form::Slice, Form::Boxed] {
+        let array = Box::new(alloc, array(alloc, form, batch)?)?;
+        let found = Box::new(alloc, evaluated(alloc, &array, tree))?;
+        if !is_same(answer, &found) {
+            return Ok(false);
+        }
+    }
+    Ok(true)
+}
+
+fn array(alloc: Global, form: Form, batch: &Column) -> VortexResult<Array> {
+    match form {
+        Form::Buffers => from_column(alloc, batch),
+        Form::Slice => slice(alloc, batch),
+        Form::Boxed => Array::from_column(alloc, batch),
+    }
+}
+
+// The rows behind a copy of the last one and before one of the first, of which they are a slice.
+fn slice(alloc: Global, batch: &Column) -> VortexResult<Array> {
+    let array = Box::new(alloc, from_column(alloc, batch)?)?;
+    let indices = around(alloc, array.len())?;
+    let indices = indices.as_slice();
+    if !are_within(indices, array.len()) {
+        return Err(VortexError::RowMisfit { row: array.len() });
+    }
+    let wide = Box::new(alloc, take(alloc, &array, indices)?)?;
+    if wide.len() <= array.len() {
+        return wide.slice(0, wide.len());
+    }
+    wide.slice(1, array.len())
+}
+
+// The indices of so many rows, that of the last before them and that of the first behind them; none of none.
+fn around(alloc: Global, rows: usize) -> VortexResult<Vec<usize>> {
+    let mut indices = Vec::new(alloc);
+    if rows > 0 {
+        indices.push(rows - 1)?;
+        for i in 0..rows {
+            indices.push(i)?;
+        }
+        indices.push(0)?;
+    }
+    Ok(indices)
+}
+
+fn evaluated(alloc: Global, array: &Array, tree: &BoundExpression) -> VortexResult<Column>
+    requires { WellTyped (bound_of tree.now) }
+{
+    apply_array(alloc, array, tree)?.to_column(alloc)
+}
+
+// Whether both are the same rows of one type, or one fault in the same row.
+fn is_same(one: &VortexResult<Column>, other: &VortexResult<Column>) -> bool {
+    match (one, other) {
+        (Ok(one), Ok(other)) => one == other,
+        (Err(one), Err(other)) => is_same_fault(one, other),
+        _ => false,
+    }
+}
+
+fn is_same_fault(one: &VortexError, other: &VortexError) -> bool {
+    match (one, other) {
+        (VortexError::AddOverflow { row: one }, VortexError::AddOverflow { row: other })
+        | (VortexError::CastNull { row: one }, VortexError::CastNull { row: other }) => {
+            one == other
+        }
+        (VortexError::BadFill, VortexError::BadFill) => true,
+        _ => false,
+    }
+}
