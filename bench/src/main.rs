@@ -1,5 +1,6 @@
 //! Times the library: queries beside the same ones written by hand, passes over growing trees, source
 //! text, and chunks that statistics prune.
+mod arrays;
 mod batch;
 mod by_hand;
 mod chunks;
@@ -14,6 +15,7 @@ mod queries;
 mod readings;
 mod scans;
 mod texts;
+mod typed;
 
 fn main() {
     let mut words = std::env::args().skip(1);
@@ -34,16 +36,19 @@ fn main() {
         Some("depths") => depths::table(),
         Some("texts") => texts::table(),
         Some("chunks") => chunks::tables(),
+        Some("arrays") => arrays::table(1_000_000),
         Some(rows) => queries_and_scan(
             rows.parse()
-                .expect("a number of rows, passes, growth, depths, texts or chunks"),
+                .expect("a number of rows, arrays, passes, growth, depths, texts or chunks"),
         ),
     }
 }
 
-/// Prints the tables of the queries and of the scan over so many rows.
+/// Prints the tables of the queries, over columns and arrays, and of the scan over so many rows.
 fn queries_and_scan(rows: usize) {
     comparison::table(rows);
+    println!();
+    arrays::table(rows);
     println!();
     scans::table(rows);
 }

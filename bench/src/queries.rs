@@ -1,7 +1,7 @@
 //! The queries: each through the library, and written by hand.
 use crate::batch::{self, Digest};
 use crate::by_hand::{self, Value};
-use crate::library::evaluated;
+use crate::library::{Way, evaluated};
 use crate::memory;
 use crate::readings::{medians, reading};
 use std::hint::black_box;
@@ -125,7 +125,7 @@ impl Times {
 impl Query {
     /// Makes the batch and evaluates the query so often, for the digest of the last column.
     pub fn through_library(&self, rows: usize, repeats: u32) -> Digest {
-        evaluated(self.number, rows, repeats)
+        evaluated(self.number, Way::Column, rows, repeats)
     }
 
     /// The same, by hand.

@@ -1,7 +1,7 @@
 //! A filter of two fields of a hundred: by a scan, and evaluated over the whole batch.
 use crate::batch::Digest;
 use crate::clock::milliseconds;
-use crate::library::{evaluated, scanned};
+use crate::library::{Way, evaluated};
 use crate::readings::{READINGS, bytes, medians};
 
 /// The number of the filter in the library.
@@ -13,8 +13,8 @@ pub fn table(rows: usize) {
         "| Query | Rows | Scan (ms) | Whole batch (ms) | Ratio | Peak of the scan (bytes) | Peak over the whole (bytes) |"
     );
     println!("|---|---:|---:|---:|---:|---:|---:|");
-    let scan = |repeats| scanned(WIDE, rows, repeats);
-    let whole = |repeats| evaluated(WIDE, rows, repeats);
+    let scan = |repeats| evaluated(WIDE, Way::Scan, rows, repeats);
+    let whole = |repeats| evaluated(WIDE, Way::Column, rows, repeats);
     assert_eq!(scan(1), whole(1), "a filter of two fields");
     let (by_scan, by_whole) = medians(READINGS, || reading(scan), || reading(whole));
     println!(

@@ -5,6 +5,7 @@ ghost use Rattle.std.specs.Prelude.{◌≡◌, ◌≢◌, ◌<◌};
 ghost use Rattle.vx_tree.specs.Trees.{WellTyped};
 ghost use Rattle.vx_tree.specs.Views.{bound_of};
 
+mod arrays;
 mod batch;
 mod chunks;
 mod digest;
@@ -22,7 +23,9 @@ mod texts;
 mod trees;
 mod verdicts;
 mod walks;
+mod way;
 
+use arrays::over_arrays;
 use digest::Digest;
 use query::Query;
 use scans::scanned;
@@ -30,6 +33,7 @@ use std::alloc::Global;
 use vx_eval::apply_bound;
 use vx_tree::BoundExpression;
 use vx_types::{Column, VortexError, VortexResult};
+use way::Way;
 
 /// How a call ended.
 #[derive(Clone, Copy, Debug, PartialEq, Eq)]
@@ -45,13 +49,14 @@ pub enum Status {
 }
 
 /// Makes the batch of so many rows and the bound tree of the query with that number, evaluates the
-/// tree so often, each column let go before the next, and writes the digest of the last one; with
-/// no repeat nothing is evaluated. Answers the number of a [`Status`]; where that isn't 0, `digest`
-/// stays.
+/// tree so often in the way of that number, each result let go before the next, and writes the digest
+/// of the last one; with no repeat nothing is evaluated. Answers the number of a [`Status`]; where
+/// that isn't 0, `digest` stays.
 #[unsafe(no_mangle)]
 pub extern "C" fn vx_evaluate(
     alloc: Global,
     number: u8,
+    way: u8,
     rows: usize,
     repeats: u32,
     digest: &mut Digest,
@@ -59,28 +64,15 @@ pub extern "C" fn vx_evaluate(
     ensures status { result < 4 }
     ensures kept { result ≢ 0 → digest.new ≡ digest.old }
 {
-    let Some(query) = Query::of(number) else {
+    let (Some(query), Some(way)) = (Query::of(number), Way::of(way)) else {
         return Status::NoSuchNumber as u8;
     };
-    answered(evaluated(alloc, query, rows, repeats), digest)
-}
-
-/// The same by scans: a plan of the query is scanned so often, through its own reader of the batch.
-#[unsafe(no_mangle)]
-pub extern "C" fn vx_scanned(
-    alloc: Global,
-    number: u8,
-    rows: usize,
-    repeats: u32,
-    digest: &mut Digest,
-) -> u8
-    ensures status { result < 4 }
-    ensures kept { result ≢ 0 → digest.new ≡ digest.old }
-{
-    let Some(query) = Query::of(number) else {
-        return Status::NoSuchNumber as u8;
+    let last = match way {
+        Way::Column => evaluated(alloc, query, rows, repeats),
+        Way::Scan => scanned(alloc, query, rows, repeats),
+        Way::Array => over_arrays(alloc, query, rows, repeats),
     };
-    answered(scanned(alloc, query, rows, repeats), digest)
+    answered(last, digest)
 }
 
 // The number of the status, with the digest written where there is one.
