@@ -93,16 +93,43 @@ fn nearest<'a>(
 
 // How near the name is to that one in lower case.
 fn nearness_of(alloc: Global, name: &str, wanted: &str) -> Result<Nearness, AllocError> {
+    Ok(match edits_to(alloc, name, wanted)? {
+        Some(0) => Nearness::Alike,
+        Some(1) => Nearness::OneEdit,
+        Some(2) => Nearness::TwoEdits,
+        _ => Nearness::Far,
+    })
+}
+
+/// The field of which the fewest edits make that name, and of several the first; both are taken in lower case. Fields of
+/// more than 100 bytes are left out unless they are that name. Fails for want of memory alone.
+pub fn nearest_field<'a>(
+    alloc: Global,
+    fields: &'a StructFields,
+    wanted: &str,
+) -> Result<Option<&'a FieldName>, AllocError> {
+    let wanted = wanted.to_lowercase(alloc)?;
+    let mut nearest = None;
+    let mut fewest = usize::MAX;
+    for name in fields.names().iter() {
+        if let Some(edits) = edits_to(alloc, name.as_str(), wanted.as_str())?
+            && edits < fewest
+        {
+            fewest = edits;
+            nearest = Some(name);
+        }
+    }
+    Ok(nearest)
+}
+
+// How many edits make that name, which is in lower case, of this one; None where one of them is too long to tell.
+fn edits_to(alloc: Global, name: &str, wanted: &str) -> Result<Option<usize>, AllocError> {
     let name = name.to_lowercase(alloc)?;
     if name.as_str() == wanted {
-        return Ok(Nearness::Alike);
+        return Ok(Some(0));
     }
     if name.len().max(wanted.len()) > COMPARED {
-        return Ok(Nearness::Far);
+        return Ok(None);
     }
-    match levenshtein(alloc, name.as_str(), wanted)? {
-        0 | 1 => Ok(Nearness::OneEdit),
-        2 => Ok(Nearness::TwoEdits),
-        _ => Ok(Nearness::Far),
-    }
+    Ok(Some(levenshtein(alloc, name.as_str(), wanted)?))
 }

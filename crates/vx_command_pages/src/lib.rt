@@ -29,6 +29,7 @@ mod unfit;
 pub use conjuncts::joins_conjuncts;
 pub use error::{CommandError, Status, UnfitLiteral};
 pub use explanation::{explanation_of, explanation_page};
+pub use fields::nearest_field;
 pub use graph::graph_page;
 pub use input::{
     ReadQuery, bind, read_expression, read_over, read_query, read_schema, read_written,
