@@ -2,7 +2,7 @@
 ghost use Rattle.std.specs.Prelude.{◌≡◌, length};
 
 use std::alloc::{AllocError, AllocFailed, Global};
-use strsim::levenshtein;
+use vx_command_pages::nearest_field;
 use vx_source::{Expected, ParseError, parse_type};
 use vx_types::{DType, FieldName, FieldNames, StructFields, VortexError, VortexResult};
 
@@ -205,29 +205,4 @@ fn nearest_column(alloc: Global, dtype: &DType, name: &str) -> Result<Option<Str
         }
     }
     Ok(None)
-}
-
-// How many bytes a name has at most that is compared.
-const COMPARED: usize = 100;
-
-// The field of which the fewest edits make that name, in lower case.
-fn nearest_field<'a>(
-    alloc: Global,
-    fields: &'a StructFields,
-    wanted: &str,
-) -> Result<Option<&'a FieldName>, AllocError> {
-    let wanted = wanted.to_lowercase(alloc)?;
-    let mut nearest = None;
-    let mut fewest = usize::MAX;
-    for name in fields.names().iter() {
-        if name.as_str().len().max(wanted.len()) <= COMPARED {
-            let lower = name.as_str().to_lowercase(alloc)?;
-            let edits = levenshtein(alloc, lower.as_str(), wanted.as_str())?;
-            if edits < fewest {
-                fewest = edits;
-                nearest = Some(name);
-            }
-        }
-    }
-    Ok(nearest)
 }

@@ -42,6 +42,18 @@ impl DataFormat<'_> {
     }
 }
 
+impl DataFormat<'_> {
+    /// Whether a file of that form seems to begin with a comment that is read as its header: one of CSV that begins with `#`,
+    /// if it can be told. What was read of it is read no more.
+    pub(crate) fn has_comments<D: Source>(self, data: &mut D) -> bool {
+        let DataFormat::Csv(CsvFormat { comment: None, .. }) = self else {
+            return false;
+        };
+        let mut first = [0];
+        matches!(data.go_back(), Ok(true)) && data.read(&mut first).is_ok() && first[0] == b'#'
+    }
+}
+
 /// How JSON is read whose type is guessed.
 pub(crate) const GUESSED_JSON: JsonFormat = JsonFormat {
     any_layout: true,
@@ -84,6 +96,14 @@ impl<'a> Schema<'a> {
         match self {
             Schema::Said(input) => input,
             Schema::Guessed(_) => Input::new("", ""),
+        }
+    }
+
+    /// The columns whose types are said, where the others are guessed.
+    pub(crate) fn columns(self) -> &'a [ColumnType<'a>] {
+        match self {
+            Schema::Said(_) => &[],
+            Schema::Guessed(guess) => guess.columns,
         }
     }
 

@@ -1,9 +1,9 @@
 // The type of records as a schema.
-use crate::data::{DataFormat, Guess, Schema, guessed_type};
+use crate::data::{DataFormat, Guess, Schema, Source, guessed_type};
 use crate::run::tell_message;
 use crate::stop::{Stop, StopMessage};
 use std::alloc::Global;
-use std::io::{Read, Write};
+use std::io::Write;
 use vx_command_pages::{CommandError, Input, Status};
 use vx_source::TypeText;
 
@@ -22,13 +22,13 @@ pub struct UntypedRecords<'a> {
 
 /// The narrowest type of the first records that the reader gives, as source text. Where they have
 /// none, and for want of memory, that is told on `err`, and the status is how the command ends.
-pub fn guess_schema<D: Read, E: Write>(
+pub fn guess_schema<D: Source, E: Write>(
     alloc: Global,
     records: UntypedRecords<'_>,
     data: &mut D,
     err: &mut E,
 ) -> Result<String, Status> {
-    match type_text(alloc, records, data) {
+    match type_text(alloc, records, &mut *data) {
         Ok(text) => Ok(text),
         Err(stop) => {
             let message = StopMessage {
@@ -37,6 +37,7 @@ pub fn guess_schema<D: Read, E: Write>(
                 select: Input::new("", ""),
                 schema: Schema::Guessed(records.guess),
                 data: records.name,
+                has_comments: stop.may_be_comments() && records.format.has_comments(data),
             };
             Err(tell_message(alloc, &message, stop.status(), err))
         }
@@ -44,7 +45,7 @@ pub fn guess_schema<D: Read, E: Write>(
 }
 
 // The type as source text.
-fn type_text<D: Read>(
+fn type_text<D: Source>(
     alloc: Global,
     records: UntypedRecords<'_>,
     data: &mut D,

@@ -4,6 +4,7 @@ use crate::data::{
 };
 use crate::error::RowsError;
 use crate::explained::{ChunksQuery, explain_chunks};
+use crate::number_texts::{GuessedRecords, number_texts};
 use crate::outputs::OutputFormat;
 use crate::records_query::RecordsQuery;
 use crate::run::tell_message;
@@ -95,7 +96,8 @@ pub fn run_rows<D: Source + Drop, W: Write, E: Write>(
     out: &mut W,
     err: &mut E,
 ) -> Status {
-    match gone_over(alloc, command, data, out, err) {
+    let mut data = data;
+    match gone_over(alloc, command, &mut data, out, &mut *err) {
         Ok(()) => Status::Done,
         Err(stop) if stop.is_closed_pipe() => Status::Done,
         Err(stop) => {
@@ -105,6 +107,7 @@ pub fn run_rows<D: Source + Drop, W: Write, E: Write>(
                 select: command.select,
                 schema: command.schema,
                 data: command.data,
+                has_comments: stop.may_be_comments() && command.format.has_comments(&mut data),
             };
             tell_message(alloc, &message, stop.status(), err)
         }
@@ -115,16 +118,22 @@ pub fn run_rows<D: Source + Drop, W: Write, E: Write>(
 fn gone_over<D: Source + Drop, W: Write, E: Write>(
     alloc: Global,
     command: &RowsCommand<'_>,
-    mut data: D,
+    data: &mut D,
     out: &mut W,
     err: &mut E,
 ) -> Result<(), Stop> {
-    let (query, read) = read_command(alloc, command, &mut data)?;
+    let (query, read) = read_command(alloc, command, &mut *data)?;
     let data = Cursor::new(read).chain(data);
+    let run = Run {
+        alloc,
+        command,
+        out,
+        err,
+    };
     match (command.work, command.format) {
-        (RecordsTask::ExplainChunks, _) => Ok(chunks_explained(alloc, command, &query, data, out)?),
-        (_, DataFormat::Json) => over_json(alloc, command, query, data, out, err),
-        (_, DataFormat::Csv(format)) => over_csv(alloc, command, format, query, data, out, err),
+        (RecordsTask::ExplainChunks, _) => Ok(run.chunks_explained(&query, data)?),
+        (_, DataFormat::Json) => run.over_json(query, data),
+        (_, DataFormat::Csv(format)) => run.over_csv(format, query, data),
     }
 }
 
@@ -143,39 +152,86 @@ fn read_command<D: Source>(
     }
 }
 
-// Goes over the records of a file of JSON.
-fn over_json<D: Read + Drop, W: Write, E: Write>(
+// A command, and what it writes on.
+#[derive(Drop)]
+struct Run<'r, 'a, W: Write, E: Write> {
     alloc: Global,
-    command: &RowsCommand<'_>,
-    query: ReadQuery,
-    data: D,
-    out: &mut W,
-    err: &mut E,
-) -> Result<(), Stop> {
-    let lines = buffered(alloc, data)?;
-    let ReadQuery { placed, scope } = query;
-    let scope = Box::into_inner(scope);
-    let format = json_format(command.schema, &scope);
-    let others = command.schema.others();
-    let records = JsonRecords::with_others(alloc, scope, format, others, lines);
-    over(alloc, command, &placed, records, out, err)
+    command: &'r RowsCommand<'a>,
+    out: &'r mut W,
+    err: &'r mut E,
 }
 
-// Goes over the records of a CSV file of that format.
-fn over_csv<D: Read + Drop, W: Write, E: Write>(
-    alloc: Global,
-    command: &RowsCommand<'_>,
-    format: CsvFormat<'_>,
-    query: ReadQuery,
-    data: D,
-    out: &mut W,
-    err: &mut E,
-) -> Result<(), Stop> {
-    let ReadQuery { placed, scope } = query;
-    let scope = Box::into_inner(scope);
-    let others = command.schema.others();
-    let records = opened(CsvRows::open_others(alloc, scope, format, others, data))?;
-    over(alloc, command, &placed, records, out, err)
+impl<W: Write, E: Write> Run<'_, '_, W, E> {
+    // Goes over the records of a file of JSON.
+    fn over_json<D: Read + Drop>(self, query: ReadQuery, data: D) -> Result<(), Stop> {
+        let lines = buffered(self.alloc, data)?;
+        let ReadQuery { placed, scope } = query;
+        let scope = Box::into_inner(scope);
+        let schema = self.command.schema;
+        let format = json_format(schema, &scope);
+        let records = JsonRecords::with_others(self.alloc, scope, format, schema.others(), lines);
+        self.over(&placed, records)
+    }
+
+    // Goes over the records of a CSV file of that format.
+    fn over_csv<D: Read + Drop>(
+        self,
+        format: CsvFormat<'_>,
+        query: ReadQuery,
+        data: D,
+    ) -> Result<(), Stop> {
+        let ReadQuery { placed, scope } = query;
+        let scope = Box::into_inner(scope);
+        let others = self.command.schema.others();
+        let records = opened(CsvRows::open_others(self.alloc, scope, format, others, data))?;
+        self.over(&placed, records)
+    }
+
+    // Does with the records what the command says, and tells how many were left out that can't be read.
+    fn over<R: RecordReader + Drop>(self, placed: &Placed, records: R) -> Result<(), Stop> {
+        let Run {
+            alloc,
+            command,
+            out,
+            err,
+        } = self;
+        let read = command.read(placed);
+        let mut records = records;
+        if !command.skips {
+            return worked(alloc, &read, &mut records, out, err);
+        }
+        let mut records = Skipping::new(records);
+        let done = worked(alloc, &read, &mut records, out, &mut *err);
+        if let Some(first) = records.first_refusal() {
+            unwritten(told_skipped(records.skipped(), first, err))?;
+        }
+        done
+    }
+
+    // Writes what becomes of the expression, and what the records tell of it in each chunk.
+    fn chunks_explained<D: Read + Drop>(self, query: &ReadQuery, data: D) -> Result<(), RowsError> {
+        let Run {
+            alloc,
+            command,
+            out,
+            ..
+        } = self;
+        write_explanation(alloc, query, &mut *out)?;
+        let Ok(chunks) = ChunkRecords::new(alloc, &query.scope) else {
+            return Err(RowsError::Query(CommandError::OutOfMemory));
+        };
+        let Ok(dtype) = chunks.record_type(alloc) else {
+            return Err(RowsError::Query(CommandError::OutOfMemory));
+        };
+        let mut records = JsonRecords::new(alloc, dtype, buffered(alloc, data)?);
+        let query = ChunksQuery {
+            placed: &query.placed,
+            scope: &query.scope,
+            chunks: &chunks,
+            limit: command.limit,
+        };
+        explain_chunks(alloc, &query, &mut records, out)
+    }
 }
 
 // How JSON of that type is read: where it wasn't guessed, a text is a string; and an array on a line of its own is a list
@@ -191,28 +247,6 @@ fn json_format(schema: Schema<'_>, scope: &DType) -> JsonFormat {
             number_texts: false,
         },
     }
-}
-
-// Does with the records what the command says, and tells how many were left out that can't be read.
-fn over<R: RecordReader + Drop, W: Write, E: Write>(
-    alloc: Global,
-    command: &RowsCommand<'_>,
-    placed: &Placed,
-    records: R,
-    out: &mut W,
-    err: &mut E,
-) -> Result<(), Stop> {
-    let read = command.read(placed);
-    let mut records = records;
-    if !command.skips {
-        return worked(alloc, &read, &mut records, out, err);
-    }
-    let mut records = Skipping::new(records);
-    let done = worked(alloc, &read, &mut records, out, err);
-    if let Some(first) = records.first_refusal() {
-        unwritten(told_skipped(records.skipped(), first, err))?;
-    }
-    done
 }
 
 // Tells how many records were left out, and where the first stands.
@@ -241,33 +275,24 @@ fn inferred<D: Source>(
     let Ok(scope) = Box::new(alloc, dtype) else {
         return Err(Stop::from(CommandError::OutOfMemory));
     };
-    let placed = read_over(alloc, written, &scope)?;
-    Ok((ReadQuery { placed, scope }, read))
-}
-
-// Writes what becomes of the expression, and what the records tell of it in each chunk.
-fn chunks_explained<D: Read + Drop, W: Write>(
-    alloc: Global,
-    command: &RowsCommand<'_>,
-    query: &ReadQuery,
-    data: D,
-    out: &mut W,
-) -> Result<(), RowsError> {
-    write_explanation(alloc, query, out)?;
-    let Ok(chunks) = ChunkRecords::new(alloc, &query.scope) else {
-        return Err(RowsError::Query(CommandError::OutOfMemory));
-    };
-    let Ok(dtype) = chunks.record_type(alloc) else {
-        return Err(RowsError::Query(CommandError::OutOfMemory));
-    };
-    let mut records = JsonRecords::new(alloc, dtype, buffered(alloc, data)?);
-    let query = ChunksQuery {
-        placed: &query.placed,
-        scope: &query.scope,
-        chunks: &chunks,
-        limit: command.limit,
-    };
-    explain_chunks(alloc, &query, &mut records, out)
+    match read_over(alloc, written, &scope) {
+        Ok(placed) => Ok((ReadQuery { placed, scope }, read)),
+        Err(CommandError::Unfit(literal)) => {
+            let records = GuessedRecords {
+                format: command.format,
+                dtype: scope,
+                limit: guess.records,
+                data: Cursor::new(read).chain(data),
+            };
+            let texts = number_texts(alloc, command.expression.text, &literal, records);
+            let error = RowsError::Query(CommandError::Unfit(literal));
+            Err(match texts {
+                Some(texts) => Stop::Numbers(error, texts),
+                None => Stop::Rows(error),
+            })
+        }
+        Err(error) => Err(Stop::from(error)),
+    }
 }
 
 // Writes what becomes of the expression.

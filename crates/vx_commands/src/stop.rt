@@ -3,13 +3,14 @@ use crate::columns::ColumnError;
 use crate::data::{Guess, Schema};
 use crate::error::RowsError;
 use crate::message::RowsMessage;
+use crate::number_texts::NumberTexts;
 use crate::selected::SelectStop;
 use std::fmt;
 use std::fmt::{Display, Formatter, Write};
 use vx_command_pages::{CommandError, Input, Shown, Span, Status};
 use vx_data::{DataError, Expected};
 use vx_records::RecordsError;
-use vx_types::{Field, FieldPath};
+use vx_types::{Field, FieldPath, VortexError};
 
 /// Why a run ends early.
 #[derive(Debug, Drop)]
@@ -20,13 +21,15 @@ pub(crate) enum Stop {
     Column(ColumnError),
     /// At the expression that is selected of records that are kept.
     Select(RowsError),
+    /// At a number of the expression that stands beside a column of such texts.
+    Numbers(RowsError, NumberTexts),
 }
 
 impl Stop {
     /// How the run ends.
     pub(crate) fn status(&self) -> Status {
         match self {
-            Stop::Rows(error) | Stop::Select(error) => error.status(),
+            Stop::Rows(error) | Stop::Select(error) | Stop::Numbers(error, _) => error.status(),
             Stop::Column(ColumnError::OutOfMemory) => Status::Failed,
             Stop::Column(ColumnError::Unread { .. } | ColumnError::Missing { .. }) => Status::Wrong,
         }
@@ -36,7 +39,23 @@ impl Stop {
     pub(crate) fn is_closed_pipe(&self) -> bool {
         match self {
             Stop::Rows(error) | Stop::Select(error) => error.is_closed_pipe(),
-            Stop::Column(_) => false,
+            Stop::Column(_) | Stop::Numbers(..) => false,
+        }
+    }
+
+    /// Whether it may be because of comments that are read as a header or as records.
+    pub(crate) fn may_be_comments(&self) -> bool {
+        match self {
+            Stop::Rows(
+                RowsError::Records {
+                    error: RecordsError::Data(DataError::Unexpected { expected, .. }),
+                    ..
+                },
+            ) => !is_misfit(expected),
+            Stop::Rows(RowsError::Query(CommandError::Refused { refusal, .. })) => {
+                matches!(refusal, VortexError::NoSuchField(_))
+            }
+            _ => false,
         }
     }
 }
@@ -81,22 +100,23 @@ pub(crate) struct StopMessage<'a> {
     pub(crate) schema: Schema<'a>,
     /// What the file of the records is called.
     pub(crate) data: &'a str,
+    /// Whether it seems to begin with a comment that is read as its header.
+    pub(crate) has_comments: bool,
 }
 
 impl Display for StopMessage<'_> {
     fn fmt<W: Write>(&self, f: &mut Formatter<W>) -> fmt::Result {
-        match (self.stop, self.schema) {
-            (Stop::Rows(error), Schema::Guessed(guess)) => {
+        match self.stop {
+            Stop::Rows(error) => {
                 self.write_error(error, self.expression, f)?;
-                match guess.misfit(error) {
-                    Some(at) => write_remedy(guess, at, f),
-                    None => Ok(()),
-                }
+                self.write_help(error, f)
             }
-            (Stop::Rows(error), Schema::Said(_)) => self.write_error(error, self.expression, f),
-            (Stop::Select(error), _) => self.write_error(error, self.select, f),
-            (Stop::Column(error), Schema::Guessed(guess)) => self.write_column(error, guess, f),
-            (Stop::Column(_), Schema::Said(_)) => f.write_str("error: out of memory"),
+            Stop::Select(error) => self.write_error(error, self.select, f),
+            Stop::Numbers(error, texts) => {
+                self.write_error(error, self.expression, f)?;
+                write!(f, "\n  = help: {texts}")
+            }
+            Stop::Column(error) => self.write_column(error, f),
         }
     }
 }
@@ -118,13 +138,25 @@ impl StopMessage<'_> {
         message.fmt(f)
     }
 
+    // What would do, if it is known beside what the error says.
+    fn write_help<W: Write>(&self, error: &RowsError, f: &mut Formatter<W>) -> fmt::Result {
+        if self.has_comments {
+            return f.write_str(
+                "\n  = help: the file begins with `#`: --comment '#' leaves out lines that do",
+            );
+        }
+        let Schema::Guessed(guess) = self.schema else {
+            return Ok(());
+        };
+        match guess.misfit(error) {
+            Some(at) => write_remedy(guess, at, f),
+            None => Ok(()),
+        }
+    }
+
     // What is wrong with the type that is said of a column.
-    fn write_column<W: Write>(
-        &self,
-        error: &ColumnError,
-        guess: Guess<'_>,
-        f: &mut Formatter<W>,
-    ) -> fmt::Result {
+    fn write_column<W: Write>(&self, error: &ColumnError, f: &mut Formatter<W>) -> fmt::Result {
+        let columns = self.schema.columns();
         match error {
             ColumnError::OutOfMemory => f.write_str("error: out of memory"),
             ColumnError::Unread {
@@ -132,7 +164,7 @@ impl StopMessage<'_> {
                 at,
                 expected,
             } => {
-                let text = guess.columns.get(*column).map_or("", |said| said.text);
+                let text = columns.get(*column).map_or("", |said| said.text);
                 let place = Span {
                     start: *at,
                     end: *at,
@@ -141,7 +173,7 @@ impl StopMessage<'_> {
                 report.fmt(f)
             }
             ColumnError::Missing { column, nearest } => {
-                let name = guess.columns.get(*column).map_or("", |said| said.name);
+                let name = columns.get(*column).map_or("", |said| said.name);
                 write!(
                     f,
                     "error: {} has no column {}",
