@@ -204,7 +204,9 @@ pub fn select<'a>(alloc: Global) -> Result<Arg<'a>, AllocError> {
         .long("select")
         .value_name("EXPR")
         .action(ArgAction::Set)
-        .help("Print what this expression means at each of these records, as in ${id, cents}")
+        .help(
+            "Print what this expression means at each of these records, or a list, as in id, total: cents + 100",
+        )
         .conflicts_with("count")
 }
 

@@ -1,7 +1,7 @@
 // How the type of records is guessed, as the words of the command line say.
 use anyhow::Result;
 use clap::ArgMatches;
-use vx_commands::{ColumnType, Guess};
+use vx_commands::{ColumnType, Guess, Shown};
 
 /// How the type of records is guessed.
 #[derive(Drop)]
@@ -33,9 +33,29 @@ pub fn guess_told<'a>(
         ))?;
         return Ok(None);
     };
-    let mut columns = Vec::new(rt.alloc());
+    let Some(columns) = columns_told(rt, matches)? else {
+        return Ok(None);
+    };
+    Ok(Some(GuessWords {
+        records,
+        columns,
+        nested: matches.get_flag("nested"),
+    }))
+}
+
+// The types that the words say of columns. Where one can't be read, or is another of a column, that is told, and there is
+// nothing.
+fn columns_told<'a>(
+    rt: &HostRuntime,
+    matches: &ArgMatches<'a>,
+) -> Result<Option<Vec<ColumnType<'a>>>> {
+    let mut columns: Vec<ColumnType<'a>> = Vec::new(rt.alloc());
     for word in matches.get_strs("type").unwrap_or(&[]) {
         match word.split_once('=') {
+            Some((name, _)) if columns.iter().any(|said| said.name == name) => {
+                rt.eprintln(format_args!("error: --type says two types of {}", Shown(name)))?;
+                return Ok(None);
+            }
             Some((name, text)) if !name.is_empty() => columns.push(ColumnType { name, text })?,
             _ => {
                 rt.eprintln(format_args!("error: --type is a column and its type, as price=i64"))?;
@@ -43,11 +63,7 @@ pub fn guess_told<'a>(
             }
         }
     }
-    Ok(Some(GuessWords {
-        records,
-        columns,
-        nested: matches.get_flag("nested"),
-    }))
+    Ok(Some(columns))
 }
 
 // How many records are looked at, at most; none where the words say no number.

@@ -8,6 +8,7 @@ mod line;
 mod progress;
 mod records;
 mod schema;
+mod selection;
 mod texts;
 mod written;
 

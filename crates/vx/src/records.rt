@@ -2,7 +2,8 @@
 use crate::choices::{data_format_named, mark_named, output_format_named};
 use crate::guess::guess_told;
 use crate::progress::Progress;
-use crate::texts::{Text, expression_at, read_text, schema_at};
+use crate::selection::selection_at;
+use crate::texts::{Text, expression_at, schema_at};
 use anyhow::{Context, Result};
 use clap::ArgMatches;
 use std::fs::File;
@@ -85,9 +86,13 @@ impl Texts {
             Ok(expression) => expression,
             Err(status) => return Ok(Err(status)),
         };
+        let select = match selection_at(rt, matches)? {
+            Ok(select) => select,
+            Err(status) => return Ok(Err(status)),
+        };
         Ok(Ok(Texts {
             expression,
-            select: read_text(rt, "select", matches.get_str("select").unwrap_or("$"))?,
+            select,
             schema: schema_said(rt, matches)?,
         }))
     }
@@ -109,14 +114,19 @@ fn run_over(rt: &HostRuntime, command: &RowsCommand<'_>, data: &str) -> Result<S
         let input = Once(rt.reader());
         return Ok(run_rows(alloc, command, input, &mut out, &mut err));
     }
-    let file = File::open(rt, data).context(format_args!("reading {data}"))?;
-    let reader = Progress::new(rt, file);
+    let reader = file_at(rt, data)?;
     Ok(run_rows(alloc, command, reader, &mut out, &mut err))
 }
 
-// What is read once, as standard input.
+/// The file of that name.
+pub fn file_at<'a>(rt: &'a HostRuntime, name: &str) -> Result<Progress<'a, File>> {
+    let file = File::open(rt, name).context(format_args!("reading {name}"))?;
+    Ok(Progress::new(rt, file))
+}
+
+/// What is read once, as standard input.
 #[derive(Drop)]
-struct Once<R>(R);
+pub struct Once<R>(pub R);
 
 impl<R: Read> Read for Once<R> {
     fn read(&mut self, buf: &mut [u8]) -> io::Result<usize> {

@@ -1,10 +1,9 @@
 // The type of the rows that a command without records is over.
 use crate::guess::guess_told;
-use crate::records::{format_told, name_of};
+use crate::records::{Once, file_at, format_told, name_of};
 use crate::texts::{Text, schema_at};
-use anyhow::{Context, Result};
+use anyhow::Result;
 use clap::ArgMatches;
-use std::fs::File;
 use std::result;
 use vx_commands::{Status, UntypedRecords, guess_schema};
 
@@ -40,9 +39,9 @@ fn guessed<'a>(
         skips: matches.get_flag("skip-errors"),
     };
     let guessed = if data == "-" {
-        guess_schema(alloc, records, &mut rt.reader(), &mut rt.stderr())
+        guess_schema(alloc, records, &mut Once(rt.reader()), &mut rt.stderr())
     } else {
-        let mut file = File::open(rt, data).context(format_args!("reading {data}"))?;
+        let mut file = file_at(rt, data)?;
         guess_schema(alloc, records, &mut file, &mut rt.stderr())
     };
     match guessed {

@@ -5,8 +5,8 @@ use clap::ArgMatches;
 use std::alloc::Global;
 use std::rt::Files;
 use std::{fs, io};
-use vx_commands::Status;
-use vx_sql_parser::sql_source;
+use vx_commands::{Span, Status};
+use vx_sql_parser::{SqlError, sql_source};
 
 /// A text, and what messages call it.
 #[derive(Drop)]
@@ -51,11 +51,19 @@ pub fn expression_at(rt: &HostRuntime, matches: &ArgMatches<'_>) -> Result<Resul
     };
     match sql_source(rt.alloc(), text.text.as_str(), dialect) {
         Ok(source) => Ok(Ok(Text::new(rt.alloc(), "SQL as source text", source.text)?)),
-        Err(error) => {
-            rt.eprintln(format_args!("error: {}, {error}", text.name))?;
-            Ok(Err(Status::Wrong))
-        }
+        Err(error) => Ok(Err(unread_sql(rt, &text, error)?)),
     }
+}
+
+// Tells what isn't read of the text, and answers how the program ends.
+fn unread_sql(rt: &HostRuntime, text: &Text, error: SqlError) -> Result<Status> {
+    let SqlError::Unread { at, reason } = error else {
+        rt.eprintln(format_args!("error: {error}"))?;
+        return Ok(Status::Failed);
+    };
+    let place = Span { start: at, end: at };
+    rt.eprintln(format_args!("{}", text.input().report(reason, place, None)))?;
+    Ok(Status::Wrong)
 }
 
 /// The type of the rows as the argument says it, an empty text where it isn't given. What ends in
