@@ -12,6 +12,9 @@ use vx_source_types::{Expected, Token, first_token};
 use vx_sql::Dialect;
 use vx_types::FieldName;
 
+// A token, or why it is none, and how many bytes it takes.
+type Taken = (Result<Token, Unread>, usize);
+
 // What is at that byte: blanks, a comment or a token, and how many bytes it takes.
 pub(crate) fn taken_at(
     alloc: Global,
@@ -77,12 +80,7 @@ fn comment(bytes: &[u8]) -> (Option<Result<Token, Unread>>, usize)
 }
 
 // The token at that byte, and how many bytes it takes.
-fn token_at(
-    alloc: Global,
-    dialect: Dialect,
-    text: &str,
-    at: usize,
-) -> Result<(Result<Token, Unread>, usize), AllocError>
+fn token_at(alloc: Global, dialect: Dialect, text: &str, at: usize) -> Result<Taken, AllocError>
     requires { at < length text.now }
     ensures taken { IfOk result (λ r. token_taken dialect (drop at text.now) ≡ token_of (drop at text.now) r.0 r.1) }
     ensures within { IfOk result (λ r. at + r.1 ≤ length text.now) }
@@ -116,12 +114,7 @@ fn doubles_quotes(dialect: Dialect) -> bool
 }
 
 // The same of a token that source text has, too.
-fn plain_at(
-    alloc: Global,
-    dialect: Dialect,
-    text: &str,
-    at: usize,
-) -> Result<(Result<Token, Unread>, usize), AllocError>
+fn plain_at(alloc: Global, dialect: Dialect, text: &str, at: usize) -> Result<Taken, AllocError>
     requires { at < length text.now }
     ensures taken { IfOk result (λ r. plain_taken dialect (drop at text.now) ≡ token_of (drop at text.now) r.0 r.1) }
     ensures within { IfOk result (λ r. at + r.1 ≤ length text.now) }

@@ -50,10 +50,10 @@ pub(crate) fn placed(error: OverError, source: &SqlSource, text: &str) -> SqlErr
             SqlError::Source(OverError::Unexpected { at, expected })
         }
         OverError::Misfit {
-            start,
-            end,
             value,
             dtype,
+            start,
+            end,
         } => {
             let start = boundary(text, place_of(source, start, text.len()));
             let end = boundary(text, place_of(source, end, text.len()));

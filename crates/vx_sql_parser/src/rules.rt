@@ -1,9 +1,9 @@
 // What tokens of SQL are written as.
-ghost use Rattle.std.specs.Prelude.{◌≡◌, ◌<◌, option_map};
+ghost use Rattle.std.specs.Prelude.{◌≡◌, ◌<◌};
 ghost use Rattle.vx_source_types.specs.Views.{lexeme_of};
 ghost use Rattle.vx_sql_parser.specs.Rules as rules;
 ghost use Rattle.vx_sql_parser.specs.RuleViews.{Answers};
-ghost use Rattle.vx_sql_parser.specs.Views.{lexemes_of, sql_of};
+ghost use Rattle.vx_sql_parser.specs.Views.{lexeme_in, lexemes_of};
 
 use crate::ahead::{is_text_at, is_word_at, opens_at};
 use crate::calls::{call, comma};
@@ -17,93 +17,88 @@ use crate::patterns::ignores_case;
 use crate::quotes::QuotedText;
 use crate::reason::Unread;
 use crate::step::{Bracket, Change, Step, Stop, says, stepped};
+use crate::translation::Translation;
 use std::alloc::Global;
 use vx_source_types::{Sign, Token};
 use vx_sql::Dialect;
 
-// What the token is written as: inside that bracket, behind a `<` there or not, and before those tokens.
-pub(crate) fn written_as(
-    alloc: Global,
-    dialect: Dialect,
-    top: Option<&Bracket>,
-    chained: bool,
-    token: &Result<Token, Unread>,
-    behind: &[Lexed],
-) -> Result<Step, Stop>
-    ensures { Answers result (rules.rule dialect (option_map (λ b. b.now) top.entry) chained (sql_of token.now) (lexemes_of behind.now)) }
-{
-    match token {
-        Ok(token) => token_rule(alloc, dialect, top, chained, token, behind),
-        Err(reason) => Err(Stop::Unread(*reason)),
-    }
-}
-
-fn token_rule(
-    alloc: Global,
-    dialect: Dialect,
-    top: Option<&Bracket>,
-    chained: bool,
-    token: &Token,
-    behind: &[Lexed],
-) -> Result<Step, Stop>
-    ensures { Answers result (rules.token_rule dialect (option_map (λ b. b.now) top.entry) chained (lexeme_of token.now) (lexemes_of behind.now)) }
-{
-    match token {
-        Token::Word(word) => word_rule(alloc, dialect, top, word.as_str(), behind),
-        Token::Quoted(name) => name_rule(alloc, name.as_str(), behind),
-        Token::Text(text) => {
-            let text = QuotedText(text.as_str());
-            Ok(stepped(format!(in alloc; "{text}")?, Change::Stays, 0))
+impl Translation {
+    // What the token is written as, before those behind it.
+    pub(crate) fn step(&self, alloc: Global, token: &Lexed, behind: &[Lexed]) -> Result<Step, Stop>
+        ensures { Answers result (rules.rule self.now.dialect (rules.innermost self.now.state.brackets.items) self.now.state.chained (lexeme_in token.now) (lexemes_of behind.now)) }
+    {
+        match &token.token {
+            Ok(token) => self.token_rule(alloc, token, behind),
+            Err(reason) => Err(Stop::Unread(*reason)),
         }
-        Token::Number {
-            negative,
-            magnitude: Some(n),
-            ..
-        } => number_rule(alloc, *negative, *n, behind),
-        Token::Sign(Sign::Comma) => comma(alloc, dialect, top, behind),
-        Token::Sign(sign) => sign_rule(alloc, chained, *sign),
-        _ => Err(Stop::Unread(Unread::Sign)),
     }
-}
 
-fn word_rule(
-    alloc: Global,
-    dialect: Dialect,
-    top: Option<&Bracket>,
-    word: &str,
-    behind: &[Lexed],
-) -> Result<Step, Stop>
-    ensures { Answers result (rules.word_rule dialect (option_map (λ b. b.now) top.entry) word.now (lexemes_of behind.now)) }
-{
-    if is_divider(word) {
-        says(alloc, word, Change::Divides, 0)
-    } else if is_plain_word(word) {
-        says(alloc, word, Change::Stays, 0)
-    } else {
-        keyword_rule(alloc, dialect, top, word, behind)
+    fn token_rule(&self, alloc: Global, token: &Token, behind: &[Lexed]) -> Result<Step, Stop>
+        ensures { Answers result (rules.token_rule self.now.dialect (rules.innermost self.now.state.brackets.items) self.now.state.chained (lexeme_of token.now) (lexemes_of behind.now)) }
+    {
+        match token {
+            Token::Word(word) => self.word_rule(alloc, word.as_str(), behind),
+            Token::Quoted(name) => name_rule(alloc, name.as_str(), behind),
+            Token::Text(text) => {
+                let text = QuotedText(text.as_str());
+                Ok(stepped(format!(in alloc; "{text}")?, Change::Stays, 0))
+            }
+            Token::Number {
+                negative,
+                magnitude: Some(n),
+                ..
+            } => number_rule(alloc, *negative, *n, behind),
+            Token::Sign(Sign::Comma) => comma(alloc, self.dialect, self.state.innermost(), behind),
+            Token::Sign(sign) => sign_rule(alloc, self.state.chained, *sign),
+            _ => Err(Stop::Unread(Unread::Sign)),
+        }
     }
-}
 
-// `is`, `like`, `ilike` and `as`.
-fn keyword_rule(
-    alloc: Global,
-    dialect: Dialect,
-    top: Option<&Bracket>,
-    word: &str,
-    behind: &[Lexed],
-) -> Result<Step, Stop>
-    ensures { Answers result (rules.keyword_rule dialect (option_map (λ b. b.now) top.entry) word.now (lexemes_of behind.now)) }
-{
-    if is(word, "is") {
-        is_rule(alloc, behind)
-    } else if is(word, "like") {
-        like(alloc, dialect, ignores_case(dialect), behind)
-    } else if is(word, "ilike") {
-        ilike(alloc, dialect, behind)
-    } else if is(word, "as") {
-        as_type(alloc, dialect, behind)
-    } else {
-        case_rule(alloc, dialect, top, word, behind)
+    fn word_rule(&self, alloc: Global, word: &str, behind: &[Lexed]) -> Result<Step, Stop>
+        ensures { Answers result (rules.word_rule self.now.dialect (rules.innermost self.now.state.brackets.items) word.now (lexemes_of behind.now)) }
+    {
+        if is_divider(word) {
+            says(alloc, word, Change::Divides, 0)
+        } else if is_plain_word(word) {
+            says(alloc, word, Change::Stays, 0)
+        } else {
+            self.keyword_rule(alloc, word, behind)
+        }
+    }
+
+    // `is`, `like`, `ilike` and `as`.
+    fn keyword_rule(&self, alloc: Global, word: &str, behind: &[Lexed]) -> Result<Step, Stop>
+        ensures { Answers result (rules.keyword_rule self.now.dialect (rules.innermost self.now.state.brackets.items) word.now (lexemes_of behind.now)) }
+    {
+        if is(word, "is") {
+            is_rule(alloc, behind)
+        } else if is(word, "like") {
+            like(alloc, self.dialect, ignores_case(self.dialect), behind)
+        } else if is(word, "ilike") {
+            ilike(alloc, self.dialect, behind)
+        } else if is(word, "as") {
+            as_type(alloc, self.dialect, behind)
+        } else {
+            self.case_rule(alloc, word, behind)
+        }
+    }
+
+    // The words of a CASE.
+    fn case_rule(&self, alloc: Global, word: &str, behind: &[Lexed]) -> Result<Step, Stop>
+        ensures { Answers result (rules.case_rule self.now.dialect (rules.innermost self.now.state.brackets.items) word.now (lexemes_of behind.now)) }
+    {
+        if is(word, "case") {
+            case_begins(alloc, behind)
+        } else if is(word, "when") {
+            let when = when_said(alloc, self.state.innermost())?;
+            Ok(stepped(when, Change::Divides, 0))
+        } else if is(word, "then") {
+            says(alloc, then_said(self.state.innermost()), Change::Divides, 0)
+        } else if is(word, "end") {
+            says(alloc, "end", Change::Closes, 0)
+        } else {
+            other_rule(alloc, self.dialect, word, behind)
+        }
     }
 }
 
@@ -127,29 +122,6 @@ fn is_distinct(behind: &[Lexed], i: usize) -> bool
 {
     is_word_at(behind, i, "distinct")
         && (is_word_at(behind, i + 1, "from") && is_word_at(behind, i + 2, "null"))
-}
-
-// The words of a CASE.
-fn case_rule(
-    alloc: Global,
-    dialect: Dialect,
-    top: Option<&Bracket>,
-    word: &str,
-    behind: &[Lexed],
-) -> Result<Step, Stop>
-    ensures { Answers result (rules.case_rule dialect (option_map (λ b. b.now) top.entry) word.now (lexemes_of behind.now)) }
-{
-    if is(word, "case") {
-        case_begins(alloc, behind)
-    } else if is(word, "when") {
-        Ok(stepped(when_said(alloc, top)?, Change::Divides, 0))
-    } else if is(word, "then") {
-        says(alloc, then_said(top), Change::Divides, 0)
-    } else if is(word, "end") {
-        says(alloc, "end", Change::Closes, 0)
-    } else {
-        other_rule(alloc, dialect, word, behind)
-    }
 }
 
 // A name, a function, or a word that isn't read.

@@ -1,12 +1,11 @@
 // A text of SQL as source text.
 ghost use Rattle.std.specs.Prelude.{◌≡◌, ◌∷◌, ◌++◌, [], IfErr, List, OnOk, string_bytes};
 ghost use Rattle.vx_sql_parser.specs.Rules as rules;
-ghost use Rattle.vx_sql_parser.specs.RuleViews.{Answers, IsStop, state_of, with_tokens};
+ghost use Rattle.vx_sql_parser.specs.RuleViews.{IsStop, state_of, with_tokens};
 ghost use Rattle.vx_sql_parser.specs.SqlTokens.{SqlLexeme};
 ghost use Rattle.vx_sql_parser.specs.Views.{lexeme_in, lexemes_of};
 
 use crate::lexed::Lexed;
-use crate::rules::written_as;
 use crate::state::State;
 use crate::step::{Step, Stop};
 use std::alloc::{AllocError, Global};
@@ -67,20 +66,6 @@ impl Translation {
         let step = self.step(alloc, token, behind)?;
         self.put(step, token.at)?;
         Ok(())
-    }
-
-    // What the token is written as, before those behind it.
-    fn step(&self, alloc: Global, token: &Lexed, behind: &[Lexed]) -> Result<Step, Stop>
-        ensures { Answers result (rules.rule self.now.dialect (rules.innermost self.now.state.brackets.items) self.now.state.chained (lexeme_in token.now) (lexemes_of behind.now)) }
-    {
-        written_as(
-            alloc,
-            self.dialect,
-            self.state.innermost(),
-            self.state.chained,
-            &token.token,
-            behind,
-        )
     }
 
     // Writes what the token at that byte is written as.
