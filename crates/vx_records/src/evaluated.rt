@@ -2,12 +2,11 @@
 ghost use Rattle.std.specs.Prelude.{◌≡◌, IfErr, IfOk, OnOk};
 ghost use Rattle.vx_tree.specs.Trees.{WellTyped, Over, unbound};
 ghost use Rattle.vx_tree.specs.Views.{bound_of};
-ghost use Rattle.vx_records.specs.Chunks.{IsStep};
 ghost use Rattle.vx_records.specs.Outcomes.{EndsRecords, Gains, Stops};
 ghost use Rattle.vx_records.specs.Records.{meanings};
 
 use crate::answers::{ended, next_answers};
-use crate::portions::{Portion, in_portions};
+use crate::portions::{Gone, Portion, in_portions};
 use crate::{RecordReader, RecordsError};
 use std::alloc::Global;
 use vx_data::WriteError;
@@ -72,40 +71,14 @@ impl<R: RecordReader, W: RowWriter> Portion<R, W, RecordsError> for Evaluated<'_
     ghost stops = { λ f s before a b e. Stops R.leaves (bound_of f.tree.now) before e
         (λ rs. Gains (W.written a) (W.written b) (meanings (unbound (bound_of f.tree.now)) s rs)) (λ rs. Unit {0}) };
 
-    fn go_over(
-        &self,
-        alloc: Global,
-        count: usize,
-        records: &mut R,
-        out: &mut W,
-    ) -> Result<bool, RecordsError> {
-        evaluate_some(alloc, self.tree, count, records, out)
+    fn go(&self, alloc: Global, count: usize, records: &mut R, out: &mut W) -> Gone<RecordsError> {
+        let answers = match next_answers(alloc, self.tree, count, records) {
+            Ok(answers) => answers,
+            Err(e) => return Err(e),
+        };
+        if let Err(e) = out.write(alloc, &answers.values) {
+            return Err(RecordsError::Write(e));
+        }
+        ended(answers, count)
     }
-}
-
-// The same of so many records. Tells whether they were the last.
-fn evaluate_some<R: RecordReader, W: RowWriter>(
-    alloc: Global,
-    tree: &BoundExpression,
-    count: usize,
-    records: &mut R,
-    out: &mut W,
-) -> Result<bool, RecordsError>
-    requires typed { WellTyped (bound_of tree.now) }
-    requires over { Over (bound_of tree.now) (R.scope records.old) }
-    ensures step { IfOk result (λ last. IsStep R.leaves count records.old records.new last
-        (λ rs. Gains (W.written out.old) (W.written out.new) (meanings (unbound (bound_of tree.now)) (R.scope records.old) rs))) }
-    ensures stopped { IfErr result (λ e. Stops R.leaves (bound_of tree.now) records.old e
-        (λ rs. Gains (W.written out.old) (W.written out.new) (meanings (unbound (bound_of tree.now)) (R.scope records.old) rs))
-        (λ rs. Unit {0})) }
-    ensures scope { R.scope records.new ≡ R.scope records.old }
-{
-    let answers = match next_answers(alloc, tree, count, records) {
-        Ok(answers) => answers,
-        Err(e) => return Err(e),
-    };
-    if let Err(e) = out.write(alloc, &answers.values) {
-        return Err(RecordsError::Write(e));
-    }
-    ended(answers, count)
 }

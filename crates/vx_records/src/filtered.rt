@@ -3,13 +3,12 @@ ghost use Rattle.std.specs.Prelude.{◌≡◌, ◌++◌, IfOk, IfErr, OnOk};
 ghost use Rattle.std.specs.Io.KnownBytes.{Appends};
 ghost use Rattle.vx_tree.specs.Trees.{WellTyped, Over, unbound};
 ghost use Rattle.vx_tree.specs.Views.{bound_of};
-ghost use Rattle.vx_records.specs.Chunks.{IsStep};
 ghost use Rattle.vx_records.specs.Outcomes.{Breaks, EndsRecords, Stops};
 ghost use Rattle.vx_records.specs.Records.{kept_lines};
 
 use crate::answers::{ended, next_answers};
 use crate::lines::lines_of;
-use crate::portions::{Portion, in_portions};
+use crate::portions::{Gone, Portion, in_portions};
 use crate::writing::write_text;
 use crate::{RecordReader, RecordsError};
 use std::alloc::Global;
@@ -59,42 +58,16 @@ impl<R: RecordReader, W: Write> Portion<R, W, RecordsError> for Filtered<'_> {
         (λ rs. Appends (W.contents a) (W.contents b) (kept_lines (unbound (bound_of f.tree.now)) s rs))
         (λ rs. Breaks (W.contents a) (W.contents b) (kept_lines (unbound (bound_of f.tree.now)) s rs)) };
 
-    fn go_over(
-        &self,
-        alloc: Global,
-        count: usize,
-        records: &mut R,
-        out: &mut W,
-    ) -> Result<bool, RecordsError> {
-        filter_some(alloc, self.tree, count, records, out)
+    fn go(&self, alloc: Global, count: usize, records: &mut R, out: &mut W) -> Gone<RecordsError> {
+        let answers = match next_answers(alloc, self.tree, count, records) {
+            Ok(answers) => answers,
+            Err(e) => return Err(e),
+        };
+        let lines = match lines_of(alloc, answers.batch.texts.as_slice(), answers.values.rows()) {
+            Ok(lines) => lines,
+            Err(_) => return Err(RecordsError::OutOfMemory),
+        };
+        write_text(out, lines.as_slice())?;
+        ended(answers, count)
     }
-}
-
-// The same of so many records and without a heading. Tells whether they were the last.
-fn filter_some<R: RecordReader, W: Write>(
-    alloc: Global,
-    tree: &BoundExpression,
-    count: usize,
-    records: &mut R,
-    out: &mut W,
-) -> Result<bool, RecordsError>
-    requires typed { WellTyped (bound_of tree.now) }
-    requires over { Over (bound_of tree.now) (R.scope records.old) }
-    ensures step { IfOk result (λ last. IsStep R.leaves count records.old records.new last
-        (λ rs. Appends (W.contents out.old) (W.contents out.new) (kept_lines (unbound (bound_of tree.now)) (R.scope records.old) rs))) }
-    ensures stopped { IfErr result (λ e. Stops R.leaves (bound_of tree.now) records.old e
-        (λ rs. Appends (W.contents out.old) (W.contents out.new) (kept_lines (unbound (bound_of tree.now)) (R.scope records.old) rs))
-        (λ rs. Breaks (W.contents out.old) (W.contents out.new) (kept_lines (unbound (bound_of tree.now)) (R.scope records.old) rs))) }
-    ensures scope { R.scope records.new ≡ R.scope records.old }
-{
-    let answers = match next_answers(alloc, tree, count, records) {
-        Ok(answers) => answers,
-        Err(e) => return Err(e),
-    };
-    let lines = match lines_of(alloc, answers.batch.texts.as_slice(), answers.values.rows()) {
-        Ok(lines) => lines,
-        Err(_) => return Err(RecordsError::OutOfMemory),
-    };
-    write_text(out, lines.as_slice())?;
-    ended(answers, count)
 }

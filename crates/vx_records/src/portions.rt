@@ -8,6 +8,9 @@ ghost use Rattle.vx_records.specs.Records.{Record};
 use crate::{CHUNK, RecordReader};
 use std::alloc::Global;
 
+/// Whether the records that were gone over were the last, or what stopped there.
+pub(crate) type Gone<E> = Result<bool, E>;
+
 /// What is done with the next records of a reader, and a writer.
 pub(crate) trait Portion<R: RecordReader, W, E> {
     ghost use Rattle.vx_value.specs.Types.{LogicalType};
@@ -21,8 +24,8 @@ pub(crate) trait Portion<R: RecordReader, W, E> {
     /// How it stops at records of that type, with that error.
     ghost stops: { Self → LogicalType → R → W → W → E → Type 0 };
 
-    /// Does it with up to so many records. Tells whether they were the last.
-    fn go_over(&self, alloc: Global, count: usize, records: &mut R, out: &mut W) -> Result<bool, E>
+    /// Does it with up to so many records.
+    fn go(&self, alloc: Global, count: usize, records: &mut R, out: &mut W) -> Gone<E>
         requires { asks self.now (R.scope records.old) }
         ensures step { IfOk result (λ last. IsStep R.leaves count records.old records.new last (writes self.now (R.scope records.old) out.old out.new)) }
         ensures stopped { IfErr result (λ e. stops self.now (R.scope records.old) records.old out.old out.new e) }
@@ -48,7 +51,7 @@ pub(crate) fn in_portions<R: RecordReader, W, E, P: Portion<R, W, E>>(
     let mut left = limit;
     while left > 0 {
         let count = left.min(CHUNK);
-        match portion.go_over(alloc, count as usize, records, out) {
+        match portion.go(alloc, count as usize, records, out) {
             Ok(true) => return Ok(()),
             Ok(false) => left -= count,
             Err(e) => return Err(e),

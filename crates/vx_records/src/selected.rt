@@ -2,13 +2,12 @@
 ghost use Rattle.std.specs.Prelude.{◌≡◌, IfErr, IfOk, OnOk};
 ghost use Rattle.vx_tree.specs.Trees.{WellTyped, Over, unbound};
 ghost use Rattle.vx_tree.specs.Views.{bound_of};
-ghost use Rattle.vx_records.specs.Chunks.{IsStep};
 ghost use Rattle.vx_records.specs.Outcomes.{EndsRecords, Gains, StopsSelecting};
 ghost use Rattle.vx_records.specs.Records.{kept, meanings};
 
 use crate::answers::{are_last, values_of};
 use crate::kept::{KeptBatch, next_kept};
-use crate::portions::{Portion, in_portions};
+use crate::portions::{Gone, Portion, in_portions};
 use crate::{RecordReader, RecordsError, RowWriter, SelectError};
 use std::alloc::Global;
 use vx_tree::BoundExpression;
@@ -56,53 +55,28 @@ impl<R: RecordReader, W: RowWriter> Portion<R, W, SelectError> for Selection<'_>
     ghost stops = { λ f s before a b e. StopsSelecting R.leaves (bound_of f.condition.now) (bound_of f.value.now) s before e
         (λ rs. Gains (W.written a) (W.written b) (meanings (unbound (bound_of f.value.now)) s (kept (unbound (bound_of f.condition.now)) s rs))) };
 
-    fn go_over(
-        &self,
-        alloc: Global,
-        count: usize,
-        records: &mut R,
-        out: &mut W,
-    ) -> Result<bool, SelectError> {
-        select_some(alloc, self, count, records, out)
-    }
-}
-
-// The same of so many records. Tells whether they were the last.
-fn select_some<R: RecordReader, W: RowWriter>(
-    alloc: Global,
-    selection: &Selection<'_>,
-    count: usize,
-    records: &mut R,
-    out: &mut W,
-) -> Result<bool, SelectError>
-    requires condition { WellTyped (bound_of selection.now.condition.now) × Over (bound_of selection.now.condition.now) (R.scope records.old) }
-    requires value { WellTyped (bound_of selection.now.value.now) × Over (bound_of selection.now.value.now) (R.scope records.old) }
-    ensures step { IfOk result (λ last. IsStep R.leaves count records.old records.new last
-        (λ rs. Gains (W.written out.old) (W.written out.new) (meanings (unbound (bound_of selection.now.value.now)) (R.scope records.old) (kept (unbound (bound_of selection.now.condition.now)) (R.scope records.old) rs)))) }
-    ensures stopped { IfErr result (λ e. StopsSelecting R.leaves (bound_of selection.now.condition.now) (bound_of selection.now.value.now) (R.scope records.old) records.old e
-        (λ rs. Gains (W.written out.old) (W.written out.new) (meanings (unbound (bound_of selection.now.value.now)) (R.scope records.old) (kept (unbound (bound_of selection.now.condition.now)) (R.scope records.old) rs)))) }
-    ensures scope { R.scope records.new ≡ R.scope records.old }
-{
-    let batch = match next_kept(alloc, selection.condition, count, records) {
-        Ok(batch) => batch,
-        Err(e) => return Err(SelectError::Kept(e)),
-    };
-    let KeptBatch {
-        rows,
-        lines,
-        read,
-        stop,
-    } = Box::into_inner(batch);
-    let values = match values_of(alloc, selection.value, &rows, lines.as_slice()) {
-        Ok(values) => values,
-        Err(RecordsError::Fault(fault)) => return Err(SelectError::Selected(fault)),
-        Err(_) => return Err(SelectError::Kept(RecordsError::OutOfMemory)),
-    };
-    if let Err(e) = out.write(alloc, &values) {
-        return Err(SelectError::Kept(RecordsError::Write(e)));
-    }
-    match are_last(read, stop, count) {
-        Ok(last) => Ok(last),
-        Err(e) => Err(SelectError::Kept(e)),
+    fn go(&self, alloc: Global, count: usize, records: &mut R, out: &mut W) -> Gone<SelectError> {
+        let batch = match next_kept(alloc, self.condition, count, records) {
+            Ok(batch) => batch,
+            Err(e) => return Err(SelectError::Kept(e)),
+        };
+        let KeptBatch {
+            rows,
+            lines,
+            read,
+            stop,
+        } = Box::into_inner(batch);
+        let values = match values_of(alloc, self.value, &rows, lines.as_slice()) {
+            Ok(values) => values,
+            Err(RecordsError::Fault(fault)) => return Err(SelectError::Selected(fault)),
+            Err(_) => return Err(SelectError::Kept(RecordsError::OutOfMemory)),
+        };
+        if let Err(e) = out.write(alloc, &values) {
+            return Err(SelectError::Kept(RecordsError::Write(e)));
+        }
+        match are_last(read, stop, count) {
+            Ok(last) => Ok(last),
+            Err(e) => Err(SelectError::Kept(e)),
+        }
     }
 }

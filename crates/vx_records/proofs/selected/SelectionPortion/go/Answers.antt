@@ -11,20 +11,20 @@ use Rattle.vx_records.proofs.Meaning.{meanings_of}
 use Rattle.vx_records.proofs.Selecting.{selected_fault}
 use Rattle.vx_records.proofs.Stopping.{next_reads, step_next, stops_first, stops_next}
 use Rattle.vx_records.proofs.Written.{gains_none}
-use Rattle.vx_records.proofs.selected.select_some.Goals as goal
+use Rattle.vx_records.proofs.selected.SelectionPortion.go.Goals as goal
 
 pub returns-in-Err-clause-stopped : goal.returns-in-Err-clause-stopped
 returns-in-Err-clause-stopped g c = stops_first g.R.RecordReader.leaves _ _ c.in-Err.e _ _ (gains_none (g.W.RowWriter.written c.args.out.now)) c.in-Err.ensures.fault
 
 pub returns-in-Err-Fault-clause-stopped : goal.returns-in-Err-Fault-clause-stopped
 returns-in-Err-Fault-clause-stopped g c =
-    let e = unbound (bound_of c.args.selection.now.condition.now) in
+    let e = unbound (bound_of c.args.self.now.condition.now) in
     let s = g.R.RecordReader.scope c.args.records.now in
     let (rs, next, is, count) = subst (IsKeptBatch g.R.RecordReader.leaves c.args.count e s c.args.records.now c.next_kept.new.records) (sym c.into_inner-rows.ensures) c.in-Ok.ensures.read in
     let (mid, reads) = next_reads g.R.RecordReader.leaves c.args.count c.args.records.now _ _ rs next in
-    let over = subst (IsFaultOver (bound_of c.args.selection.now.value.now) c.deref.result.now.rows) c.in-Err-Fault.field-0-is c.in-Err-Fault.ensures.err in
-    let there : IsFaultOn (bound_of c.args.selection.now.value.now) (kept e s rs) c.in-Err-Fault.fault = selected_fault (bound_of c.args.selection.now.value.now) c.deref.result.now.rows _ c.in-Err-Fault.fault (ap (λ (b : Batch). b.rows) (c.deref.ensures ∙ is)) over in
-    (mid, [], rs, reads, gains_none (g.W.RowWriter.written c.args.out.now), subst (IsFaultOn (bound_of c.args.selection.now.value.now) (kept e s rs)) (sym c.in-Err-Fault.fault-is) there)
+    let over = subst (IsFaultOver (bound_of c.args.self.now.value.now) c.deref.result.now.rows) c.in-Err-Fault.field-0-is c.in-Err-Fault.ensures.err in
+    let there : IsFaultOn (bound_of c.args.self.now.value.now) (kept e s rs) c.in-Err-Fault.fault = selected_fault (bound_of c.args.self.now.value.now) c.deref.result.now.rows _ c.in-Err-Fault.fault (ap (λ (b : Batch). b.rows) (c.deref.ensures ∙ is)) over in
+    (mid, [], rs, reads, gains_none (g.W.RowWriter.written c.args.out.now), subst (IsFaultOn (bound_of c.args.self.now.value.now) (kept e s rs)) (sym c.in-Err-Fault.fault-is) there)
 
 pub returns-in-Err-values_of : goal.returns-in-Err-values_of
 returns-in-Err-values_of g c = record {
@@ -41,8 +41,8 @@ returns-in-Err-write-clause-stopped g c =
 
 pub returns-in-Ok-are_last-clause-step : goal.returns-in-Ok-are_last-clause-step
 returns-in-Ok-are_last-clause-step g c =
-    let e = unbound (bound_of c.args.selection.now.condition.now) in
-    let v = unbound (bound_of c.args.selection.now.value.now) in
+    let e = unbound (bound_of c.args.self.now.condition.now) in
+    let v = unbound (bound_of c.args.self.now.value.now) in
     let s = g.R.RecordReader.scope c.args.records.now in
     let (rs, next, is, count) = subst (IsKeptBatch g.R.RecordReader.leaves c.args.count e s c.args.records.now c.next_kept.new.records) (sym c.into_inner-rows.ensures) c.in-Ok.ensures.read in
     let meant = meanings_of v s s (kept e s rs) c.deref.result.now _ _ c.in-Ok-values_of.ensures.ok (c.deref.ensures ∙ is) refl refl in
@@ -51,8 +51,8 @@ returns-in-Ok-are_last-clause-step g c =
 
 pub returns-clause-stopped : goal.returns-clause-stopped
 returns-clause-stopped g c =
-    let e = unbound (bound_of c.args.selection.now.condition.now) in
-    let v = unbound (bound_of c.args.selection.now.value.now) in
+    let e = unbound (bound_of c.args.self.now.condition.now) in
+    let v = unbound (bound_of c.args.self.now.value.now) in
     let s = g.R.RecordReader.scope c.args.records.now in
     let (rs, next, is, count) = subst (IsKeptBatch g.R.RecordReader.leaves c.args.count e s c.args.records.now c.next_kept.new.records) (sym c.into_inner-rows.ensures) c.in-Ok.ensures.read in
     let meant = meanings_of v s s (kept e s rs) c.deref.result.now _ _ c.in-Ok-values_of.ensures.ok (c.deref.ensures ∙ is) refl refl in
