@@ -8,5 +8,15 @@ use vx_tree::Operator;
 pub fn joins_conjuncts(operator: Operator) -> bool
     ensures { result ≡ joins_conjuncts operator }
 {
-    matches!(operator, Operator::And)
+    match operator {
+        Operator::And => true,
+        Operator::Or
+        | Operator::Eq
+        | Operator::NotEq
+        | Operator::Gt
+        | Operator::Gte
+        | Operator::Lt
+        | Operator::Lte
+        | Operator::Add => false,
+    }
 }
