@@ -36,12 +36,16 @@ pub(crate) fn branch_given(
     requires { WellTyped (bound_of node.now) }
     ensures { ReturnsOrOom (option_map bound_of) result (Ok (branch_given (bound_of node.now))) }
 {
-    match node {
-        BoundExpression::Scalar {
-            dtype,
-            scalar_fn: ScalarFnRef::CaseWhen(options),
-            children,
-        } => of_case(alloc, dtype, *options, children.as_slice()),
+    let BoundExpression::Scalar {
+        dtype,
+        scalar_fn,
+        children,
+    } = node
+    else {
+        return Ok(None);
+    };
+    match scalar_fn {
+        ScalarFnRef::CaseWhen(options) => of_case(alloc, dtype, *options, children.as_slice()),
         _ => Ok(None),
     }
 }
