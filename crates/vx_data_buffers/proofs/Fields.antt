@@ -39,15 +39,22 @@ module _ (buffers : List (List ℕ)) (names : List Name) (types : List DType) (i
   from_next k at t h l e = ap (λ fs. fields_at buffers fs at i) (fields_step names types k [] t h l e)
 
   -- one more value
+  pub field_more : (k at next : ℕ) (t : DType) (d : Datum) (done after : List Datum) (all : Result (List Datum) Fault) → k < length names → k < length types → t ≡ get_or types k t
+      → all ≡ behind done (fields_from k at) → value_at buffers (type_of t) at i ≡ Ok d → after ≡ done ++ d ∷ [] → next ≡ at + buffer_count (type_of t)
+      → all ≡ behind after (fields_from (k + 1) next)
+  field_more k at next t d done after all h l e so_far read grown further =
+      let f = λ (r : Result Datum Fault). and_then r (λ d. and_so (fields_from (k + 1) (at + buffer_count (type_of t))) (λ vs. d ∷ vs)) in
+      so_far ∙ ap (behind done) (from_next k at t h l e ∙ ap f read)
+      ∙ behind_more done d (fields_from (k + 1) (at + buffer_count (type_of t)))
+      ∙ ap (λ ds. behind ds (fields_from (k + 1) (at + buffer_count (type_of t)))) (sym grown)
+      ∙ ap (λ n. behind after (fields_from (k + 1) n)) (sym further)
+
+  -- the same of values
   pub field_read : (k at next : ℕ) (t : DType) (v : Value) (values after : List Value) (all : Result (List Datum) Fault) → k < length names → k < length types → t ≡ get_or types k t
       → all ≡ behind (map value_of values) (fields_from k at) → value_at buffers (type_of t) at i ≡ Ok (value_of v) → after ≡ values ++ v ∷ [] → next ≡ at + buffer_count (type_of t)
       → all ≡ behind (map value_of after) (fields_from (k + 1) next)
   field_read k at next t v values after all h l e so_far read grown further =
-      let f = λ (r : Result Datum Fault). and_then r (λ d. and_so (fields_from (k + 1) (at + buffer_count (type_of t))) (λ vs. d ∷ vs)) in
-      so_far ∙ ap (behind (map value_of values)) (from_next k at t h l e ∙ ap f read)
-      ∙ behind_more (map value_of values) (value_of v) (fields_from (k + 1) (at + buffer_count (type_of t)))
-      ∙ ap (λ done. behind done (fields_from (k + 1) (at + buffer_count (type_of t)))) (sym (ap (map value_of) grown ∙ map-append value_of values (v ∷ [])))
-      ∙ ap (λ n. behind (map value_of after) (fields_from (k + 1) n)) (sym further)
+      field_more k at next t (value_of v) (map value_of values) (map value_of after) all h l e so_far read (ap (map value_of) grown ∙ map-append value_of values (v ∷ [])) further
 
   -- a value that is refused
   pub field_refused : (k at : ℕ) (t : DType) (done : List Datum) (all : Result (List Datum) Fault) (e other : Fault) → k < length names → k < length types → t ≡ get_or types k t

@@ -1,3 +1,4 @@
+pub mod Columns
 pub mod Fields
 pub mod Grown
 pub mod Items

@@ -2,3 +2,4 @@ pub mod Results
 pub mod Bytes
 pub mod Layout
 pub mod Rows
+pub mod Arrays

@@ -1,6 +1,7 @@
-// Columns out of buffers of bytes, laid out as in the Arrow columnar format.
+// Columns and arrays out of buffers of bytes, laid out as in the Arrow columnar format.
 #![tactic(auto)]
 
+mod array;
 mod buffer;
 mod bytes;
 mod column;
@@ -8,9 +9,12 @@ mod counts;
 mod error;
 mod fault;
 mod leaves;
+mod numbers;
 mod spans;
+mod validity;
 mod values;
 
+pub use array::array_of;
 pub use buffer::Buffer;
 pub use column::column_of;
 pub use error::BufferError;

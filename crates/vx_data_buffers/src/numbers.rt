@@ -1,0 +1,75 @@
+// Numbers of a buffer's bytes, all at once.
+ghost use Rattle.std.specs.Prelude.{◌≡◌, IfOk, IfSome, ℤ, List, Some, map};
+ghost use Rattle.vx_value.specs.Types.{atomic, int, number};
+ghost use Rattle.vx_array_build.specs.Built.{column_by};
+ghost use Rattle.vx_data_buffers.specs.Arrays.{AreNumbers};
+ghost use Rattle.vx_data_buffers.specs.Bytes.{number_at};
+
+use crate::bytes::number_at;
+use std::alloc::{AllocError, Global};
+use vx_array::{Array, Validity};
+use vx_array_build::{Native, primitive};
+use vx_types::{PType, VortexResult};
+
+// The array of so many numbers of the type. None where there are fewer.
+pub(crate) fn numbers_in(
+    alloc: Global,
+    bytes: &[u8],
+    ptype: PType,
+    rows: usize,
+    validity: Option<Validity>,
+) -> VortexResult<Option<Array>>
+    ensures { IfOk result (λ found. IfSome found (λ a. (ns : List ℤ) × AreNumbers ptype bytes.now rows ns × (a ≡ column_by (atomic (number ptype)) validity (map int ns)))) }
+{
+    match ptype {
+        PType::U8 => natives::<u8>(alloc, bytes, rows, validity),
+        PType::U16 => natives::<u16>(alloc, bytes, rows, validity),
+        PType::U32 => natives::<u32>(alloc, bytes, rows, validity),
+        PType::U64 => natives::<u64>(alloc, bytes, rows, validity),
+        PType::I8 => natives::<i8>(alloc, bytes, rows, validity),
+        PType::I16 => natives::<i16>(alloc, bytes, rows, validity),
+        PType::I32 => natives::<i32>(alloc, bytes, rows, validity),
+        PType::I64 => natives::<i64>(alloc, bytes, rows, validity),
+    }
+}
+
+// The same of numbers of Rust's.
+fn natives<T: Native>(
+    alloc: Global,
+    bytes: &[u8],
+    rows: usize,
+    validity: Option<Validity>,
+) -> VortexResult<Option<Array>>
+    ensures { IfOk result (λ found. IfSome found (λ a. (ns : List ℤ) × AreNumbers T.kind bytes.now rows ns × (a ≡ column_by (atomic (number T.kind)) validity (map int ns)))) }
+{
+    match read::<T>(alloc, bytes, rows)? {
+        Some(numbers) => Ok(Some(primitive(alloc, numbers, validity)?)),
+        None => Ok(None),
+    }
+}
+
+// So many numbers, where they are there.
+fn read<T: Native>(alloc: Global, bytes: &[u8], rows: usize) -> Result<Option<Vec<T>>, AllocError>
+    ensures { IfOk result (λ found. IfSome found (λ ns. AreNumbers T.kind bytes.now rows (map T.number ns.items))) }
+{
+    // (no memory is asked for where the buffer ends early)
+    if rows > 0 && number_at(bytes, T::ptype(), rows - 1).is_none() {
+        return Ok(None);
+    }
+    let mut numbers = Vec::with_capacity(alloc, rows)?;
+    for i in 0..rows {
+        match native_at::<T>(bytes, i) {
+            Some(number) => numbers.push(number)?,
+            None => return Ok(None),
+        }
+    }
+    Ok(Some(numbers))
+}
+
+// Number i, if it is there.
+#[inline]
+fn native_at<T: Native>(bytes: &[u8], i: usize) -> Option<T>
+    ensures { IfSome result (λ x. number_at T.kind bytes.now i ≡ Some (T.number x)) }
+{
+    T::narrowed(number_at(bytes, T::ptype(), i)?)
+}
