@@ -9,7 +9,7 @@ use Rattle.vx_value.specs.StructColumns.{struct_rows}
 use Rattle.vx_value.specs.Types.{Name, LogicalType, ty, atomic, number, Datum, null}
 use Rattle.vx_value.specs.Views.{admits_null, type_of}
 use Rattle.vx_fn.specs.Faults.{is_outside}
-use Rattle.vx_fn.specs.Functions.{Function, Operation, Comparison, compares, and_also, or_else, adds, binary, between, literal, logical_not, is_null, is_not_null, pack}
+use Rattle.vx_fn.specs.Functions.{Function, Operation, compares, and_also, or_else, adds, binary, between, literal, logical_not, is_null, is_not_null, pack}
 use Rattle.vx_fn.specs.Values.{bound_comparison, compared, kleene_and, kleene_or, kleene_not, sum_of}
 use Rattle.vx_fn.specs.Views.{function_of}
 use Rattle.vx_array_loops.specs.declared.comparison.Comparison.{Comparison as Asked}

@@ -1,4 +1,4 @@
-use Rattle.std.proofs.Common.{◌≡◌, sym, subst, map, get_or, pos, rules}
+use Rattle.std.proofs.Common.{◌≡◌, sym, subst, get_or, pos, rules}
 use Rattle.std.specs.Prelude.{◌+ℤ◌}
 use Rattle.vx_array.specs.Kinds.{numbers_in}
 use Rattle.vx_array_kernels.specs.Sums.{FindsValid}

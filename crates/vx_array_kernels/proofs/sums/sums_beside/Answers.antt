@@ -1,9 +1,8 @@
-use Rattle.std.proofs.Common.{◌≡◌, ◌∙◌, ◌<◌, ℕ, ℤ, ap, Bool, true, false, length, map, get_or, pos, rules}
+use Rattle.std.proofs.Common.{◌≡◌, ◌∙◌, ◌<◌, ℕ, ℤ, ap, true, false, length, map, get_or, pos, rules}
 use Rattle.std.specs.Prelude.{◌+ℤ◌, ◌&&◌, not}
 use Rattle.vx_value.specs.Types.{int}
 use Rattle.vx_array.specs.Shown.{is_valid, shown}
 use Rattle.vx_array.proofs.Held.{rows-Numbers}
-use Rattle.vx_array_kernels.specs.Sums.{IsSum}
 use Rattle.vx_array_kernels.proofs.Added.{not_told, sums_shown}
 use Rattle.vx_array_kernels.proofs.sums.sums_beside.Goals as goal
 
