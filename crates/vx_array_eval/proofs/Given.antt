@@ -1,17 +1,29 @@
 -- What functions give that have a fast way.
-use Rattle.std.proofs.Common.{◌≡◌, ℕ, List, [], ◌∷◌, length, get_or, refl, sym, ap, ◌∙◌, arith, map, Ok, Bool}
+use Rattle.std.proofs.Common.{◌≡◌, ℕ, ◌<◌, List, [], ◌∷◌, length, get_or, refl, sym, ap, ◌∙◌, arith, map, Ok, Err, Result, Option, Some, None, Bool, false, rules}
 use Rattle.std.proofs.Math.ListN.{replicate}
+use Rattle.std.proofs.lemmas.List.FromFn.{get_or-map-range_with_len}
+use Rattle.vx_dtype.specs.declared.dtype.PType.{PType}
+use Rattle.vx_dtype.specs.declared.dtype.DType.{DType, the_lemmas as the_types}
+use Rattle.vx_dtype.specs.declared.dtype.Nullability.{Nullability}
 use Rattle.vx_value.specs.StructColumns.{struct_rows}
-use Rattle.vx_value.specs.Types.{Name, LogicalType, Datum, null}
-use Rattle.vx_fn.specs.Functions.{Function, Operation, Comparison, compares, and_also, or_else, binary, between, literal, logical_not, is_null, is_not_null, pack}
-use Rattle.vx_fn.specs.Values.{bound_comparison, compared, kleene_and, kleene_or, kleene_not}
+use Rattle.vx_value.specs.Types.{Name, LogicalType, ty, atomic, number, Datum, null}
+use Rattle.vx_value.specs.Views.{admits_null, type_of}
+use Rattle.vx_fn.specs.Faults.{is_outside}
+use Rattle.vx_fn.specs.Functions.{Function, Operation, compares, and_also, or_else, adds, binary, between, literal, logical_not, is_null, is_not_null, pack}
+use Rattle.vx_fn.specs.Values.{bound_comparison, compared, kleene_and, kleene_or, kleene_not, sum_of}
+use Rattle.vx_fn.specs.Views.{function_of}
 use Rattle.vx_array_loops.specs.declared.comparison.Comparison.{Comparison as Asked}
 use Rattle.vx_array.specs.declared.lanes.Lanes.{Lanes}
 use Rattle.vx_array.specs.Rows.{lanes_rows, lanes_each}
-use Rattle.vx_array_kernels.specs.Asked.{asked, between_rows}
+use Rattle.vx_array_kernels.specs.Asked.{asked}
+use Rattle.vx_array_kernels.specs.Sums.{FindsSums}
+use Rattle.vx_array_kernels.specs.declared.pair.Pair.{Pair}
 use Rattle.vx_array_kernels.specs.Truths.{both_rows, null_told, value_told}
-use Rattle.vx_eval.specs.Columns.{each_row, rows_of, node_answer}
-use Rattle.vx_eval.proofs.Filled.{given, each_of, same_rows}
+use Rattle.vx_eval.specs.Columns.{rows_of, node_answer}
+use Rattle.vx_eval.proofs.Filled.{each_same, given, each_of, same_rows}
+use Rattle.vx_eval.proofs.FirstRows.{add_quiet}
+use Rattle.vx_array_eval.specs.declared.node.Node.{Node}
+use Rattle.vx_array_eval.specs.Nodes.{FindsAnswer, answer_of, types_of}
 
 -- a literal
 pub literal_given : (t : LogicalType) (v : Datum) (ts : List LogicalType) (n : ℕ) (cs : List (List Datum)) (rows : List Datum) → rows ≡ replicate n v → node_answer (literal t v) ts (rows_of n cs) ≡ Ok rows
@@ -32,14 +44,22 @@ pub compared_given : (op : Operation) (c : Asked) (ts : List LogicalType) (n : �
 compared_given op c ts n l r rows of is = rw of (given (binary (compares (asked c))) ts n (l ∷ r ∷ []) rows refl is)
 
 -- a test by two bounds
-abbrev between_by : ℕ → Comparison → Comparison → List Datum → List Datum → List Datum → List Datum
-between_by n c d ls vs us = each_row n (λ k. kleene_and (compared c (get_or ls k null) (get_or vs k null)) (compared d (get_or vs k null) (get_or us k null)))
-
-pub between_given : (a b : Bool) (lower upper : Asked) (ts : List LogicalType) (n : ℕ) (vs ls us rows : List Datum) → asked lower ≡ bound_comparison a → asked upper ≡ bound_comparison b → rows ≡ between_rows n lower upper ls vs us →
+pub between_given : (a b : Bool) (lower upper : Asked) (ts : List LogicalType) (n : ℕ) (vs ls us above below rows : List Datum) → asked lower ≡ bound_comparison a → asked upper ≡ bound_comparison b → above ≡ both_rows n (compared (asked lower)) ls vs → below ≡ both_rows n (compared (asked upper)) vs us → rows ≡ both_rows n kleene_and above below →
     node_answer (between a b) ts (rows_of n (vs ∷ ls ∷ us ∷ [])) ≡ Ok rows
-between_given a b lower upper ts n vs ls us rows below above is =
+between_given a b lower upper ts n vs ls us above below rows first second left right is =
     given (between a b) ts n (vs ∷ ls ∷ us ∷ []) rows refl
-    (is ∙ ap (λ c. between_by n c (asked upper) ls vs us) below ∙ ap (λ c. between_by n (bound_comparison a) c ls vs us) above)
+    (is ∙ each_same n (λ k. kleene_and (get_or above k null) (get_or below k null)) (λ k. kleene_and (compared (bound_comparison a) (get_or ls k null) (get_or vs k null)) (compared (bound_comparison b) (get_or vs k null) (get_or us k null)))
+    (λ k lt.
+    ap (λ d. kleene_and d (get_or below k null)) (at (compared (asked lower)) ls vs above left k lt ∙ ap (λ c. compared c (get_or ls k null) (get_or vs k null)) first)
+    ∙ ap (kleene_and (compared (bound_comparison a) (get_or ls k null) (get_or vs k null))) (at (compared (asked upper)) vs us below right k lt ∙ ap (λ c. compared c (get_or vs k null) (get_or us k null)) second)))
+  where
+    at : (f : Datum → Datum → Datum) (xs ys out : List Datum) → out ≡ both_rows n f xs ys → (k : ℕ) → k < n → get_or out k null ≡ f (get_or xs k null) (get_or ys k null)
+    at f xs ys out made k lt = ap (λ l. get_or l k null) made ∙ get_or-map-range_with_len (λ k. f (get_or xs k null) (get_or ys k null)) 0 n k k null lt (omega arith)
+
+-- sums that the type of the first column holds
+pub sum_given : (p : PType) (m : Bool) (ts : List LogicalType) (n : ℕ) (l r rows : List Datum) → rows ≡ both_rows n sum_of l r → ((m : Bool) (k : ℕ) → k < n → is_outside (ty (atomic (number p)) m ∷ []) (sum_of (get_or l k null) (get_or r k null)) ≡ false) →
+    node_answer (binary adds) (ty (atomic (number p)) m ∷ ts) (rows_of n (l ∷ r ∷ [])) ≡ Ok rows
+sum_given p m ts n l r rows is inside = given (binary adds) (ty (atomic (number p)) m ∷ ts) n (l ∷ r ∷ []) rows (add_quiet (ty (atomic (number p)) m) ts n l r (inside m)) is
 
 -- functions of one child
 pub not_given : (ts : List LogicalType) (n : ℕ) (c rows : List Datum) → length c ≡ n → rows ≡ map kleene_not c → node_answer logical_not ts (rows_of n (c ∷ [])) ≡ Ok rows
@@ -51,9 +71,10 @@ null_given ts n c rows long is = given is_null ts n (c ∷ []) rows refl (is ∙
 pub value_given : (ts : List LogicalType) (n : ℕ) (c rows : List Datum) → length c ≡ n → rows ≡ map value_told c → node_answer is_not_null ts (rows_of n (c ∷ [])) ≡ Ok rows
 value_given ts n c rows long is = given is_not_null ts n (c ∷ []) rows refl (is ∙ sym (each_of value_told c n long))
 
--- the same of a function that is known by an equation
-pub at_function : (f g : Function) (ts : List LogicalType) (cs : List (List Datum)) (rows : List Datum) → f ≡ g → node_answer g ts cs ≡ Ok rows → node_answer f ts cs ≡ Ok rows
-at_function f g ts cs rows of is = rw of is
+-- the same of a node whose function and columns are known by equations
+pub at_node : (node : Node) (g : Function) (cs : List (List Datum)) (n : ℕ) (rows : List Datum) → function_of node.function.now ≡ g → lanes_each node.below.now ≡ cs → n ≡ node.count → node_answer g (types_of node) (rows_of n cs) ≡ Ok rows → answer_of node ≡ Ok rows
+at_node node g cs n rows of are counted is =
+    ap (λ f. node_answer f (types_of node) (rows_of node.count (lanes_each node.below.now))) of ∙ ap (λ c. node_answer g (types_of node) (rows_of node.count c)) are ∙ ap (λ k. node_answer g (types_of node) (rows_of k cs)) (sym counted) ∙ is
 
 -- ---- lists of one, of two and of three
 
@@ -75,3 +96,16 @@ three_of (a ∷ b ∷ []) x y z long is at third = absurd (omega arith)
 three_of (a ∷ b ∷ c ∷ []) x y z long is at third =
     ap (λ w. lanes_rows w ∷ lanes_rows b ∷ lanes_rows c ∷ []) (sym is) ∙ ap (λ w. lanes_rows x ∷ lanes_rows w ∷ lanes_rows c ∷ []) (sym at) ∙ ap (λ w. lanes_rows x ∷ lanes_rows y ∷ lanes_rows w ∷ []) (sym third)
 three_of (a ∷ b ∷ c ∷ d ∷ xs) x y z long is at third = absurd (omega arith)
+
+-- the type of numbers
+pub number_typed : (p : PType) (n : Nullability) → type_of (DType.Primitive p n) ≡ ty (atomic (number p)) (admits_null n)
+number_typed p n = search (rules, the_types)
+
+-- sums that are found
+pub sums_found : {E : Type 0} (node : Node) (pair : Pair) (p : PType) (m : Bool) (ts : List LogicalType) (r : Result (Option Lanes) E) → function_of node.function.now ≡ binary adds → lanes_each node.below.now ≡ lanes_rows pair.lhs.now ∷ lanes_rows pair.rhs.now ∷ [] → pair.count ≡ node.count →
+    types_of node ≡ ty (atomic (number p)) m ∷ ts → FindsSums p pair r → FindsAnswer node r
+sums_found node pair p m ts (Ok (Some out)) of two counted typed found =
+    at_node node (binary adds) (lanes_rows pair.lhs.now ∷ lanes_rows pair.rhs.now ∷ []) pair.count (lanes_rows out) of two counted
+    (ap (λ us. node_answer (binary adds) us (rows_of pair.count (lanes_rows pair.lhs.now ∷ lanes_rows pair.rhs.now ∷ []))) typed ∙ sum_given p m ts pair.count (lanes_rows pair.lhs.now) (lanes_rows pair.rhs.now) (lanes_rows out) found.0 found.1)
+sums_found node pair p m ts (Ok None) of two counted typed found = tt
+sums_found node pair p m ts (Err e) of two counted typed found = tt

@@ -1,36 +1,26 @@
 // Functions by way of columns of values.
-ghost use Rattle.std.specs.Prelude.{◌≡◌, length, IsOk, Ok};
+ghost use Rattle.std.specs.Prelude.{Ok};
 ghost use Rattle.vx_dtype.specs.Returns.{ReturnsOrOom};
-ghost use Rattle.vx_fn.specs.Functions.{fn_type};
-ghost use Rattle.vx_fn.specs.Views.{function_of};
-ghost use Rattle.vx_tree.specs.Trees.{node_types};
-ghost use Rattle.vx_tree.specs.Views.{bounds_of};
-ghost use Rattle.vx_array.specs.Rows.{lanes_rows, lanes_each};
-ghost use Rattle.vx_eval.specs.Columns.{rows_view, rows_views, rows_of, node_answer, AllLong};
+ghost use Rattle.vx_array.specs.Rows.{lanes_each, lanes_rows};
+ghost use Rattle.vx_array_eval.specs.Nodes.{IsEven, IsTyped, IsWhole, answer_of};
+ghost use Rattle.vx_eval.specs.Columns.{rows_view, rows_views};
 
+use crate::node::Node;
 use std::alloc::Global;
 use vx_array::{Lanes, Part, to_values};
 use vx_eval::{Rows, apply_function};
-use vx_fn::ScalarFnRef;
-use vx_tree::BoundExpression;
 use vx_types::VortexResult;
 
 /// The function over its children's lanes, or its fault over their rows, by the kernels of columns.
 #[inline(never)]
-pub fn apply_by_rows(
-    alloc: Global,
-    count: usize,
-    f: &ScalarFnRef,
-    children: &[BoundExpression],
-    below: &[Lanes],
-) -> VortexResult<Lanes>
-    requires typed { IsOk (fn_type (function_of f.now) (node_types (bounds_of children.now))) }
-    requires number { length below.now ≡ length (node_types (bounds_of children.now)) }
-    requires long { AllLong count (lanes_each below.now) }
-    ensures { ReturnsOrOom lanes_rows result (node_answer (function_of f.now) (node_types (bounds_of children.now)) (rows_of count (lanes_each below.now))) }
+pub fn apply_by_rows(alloc: Global, node: Node) -> VortexResult<Lanes>
+    requires typed { IsTyped node }
+    requires number { IsWhole node }
+    requires long { IsEven node }
+    ensures { ReturnsOrOom lanes_rows result (answer_of node.entry) }
 {
-    let columns = rows_each(alloc, below)?;
-    let out = apply_function(alloc, count, f, children, columns)?;
+    let columns = rows_each(alloc, node.below)?;
+    let out = apply_function(alloc, node.count, node.function, node.children, columns)?;
     Ok(Lanes::Values(Part::new(alloc, out.into_values(alloc)?)?))
 }
 

@@ -3,6 +3,8 @@
 
 mod by_rows;
 mod evaluation;
+mod few;
+mod node;
 mod nodes;
 mod structs;
 mod trees;

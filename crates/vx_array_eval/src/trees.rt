@@ -5,6 +5,7 @@ ghost use Rattle.vx_tree.specs.Views.{bound_of, bounds_of};
 ghost use Rattle.vx_array.specs.Rows.{lanes_rows, lanes_each};
 ghost use Rattle.vx_eval.specs.Evaluation.{tree_answer, each_answer};
 
+use crate::node::Node;
 use crate::nodes::apply;
 use std::alloc::Global;
 use vx_array::Lanes;
@@ -26,7 +27,13 @@ pub fn evaluate(alloc: Global, b: &BoundExpression, batch: &Lanes) -> VortexResu
         } => {
             let children = children.as_slice();
             let below = evaluate_each(alloc, children, batch)?;
-            apply(alloc, batch.len(), scalar_fn, children, below.as_slice())
+            let node = Node {
+                count: batch.len(),
+                function: scalar_fn,
+                children,
+                below: below.as_slice(),
+            };
+            apply(alloc, node)
         }
     }
 }

@@ -11,22 +11,43 @@ use Rattle.vx_fn.specs.Values.{compared}
 use Rattle.vx_array_loops.specs.Comparisons.{holds}
 use Rattle.vx_array_loops.specs.declared.comparison.Comparison.{Comparison as Asked}
 use Rattle.vx_array_loops.specs.WordBits.{each_row}
+use Rattle.vx_array.specs.declared.lanes.Lanes as Kind
+use Rattle.vx_array.specs.declared.lanes.Lanes.{Lanes}
+use Rattle.vx_array.specs.declared.numbers.Numbers.{Numbers}
 use Rattle.vx_array.specs.declared.validity.Validity.{Validity}
 use Rattle.vx_array.specs.declared.validity.Validity.TheVariants.{All, Nothing, Rows}
 use Rattle.vx_array.specs.Shown.{is_valid, shown, shown_count, HasRows}
+use Rattle.vx_array.specs.Kinds.{numbers_in}
+use Rattle.vx_array.specs.Rows.{lanes_rows}
+use Rattle.vx_array.proofs.Held.{rows-Numbers}
 use Rattle.vx_array.proofs.Masked.{get_or-shown, length-shown, rows_within}
 use Rattle.vx_array_kernels.specs.Asked.{asked}
+use Rattle.vx_array_kernels.specs.Found.{IsLong, pair_rows}
+use Rattle.vx_array_kernels.specs.declared.pair.Pair.{Pair}
 use Rattle.vx_array_kernels.specs.Truths.{both_rows}
 use Rattle.vx_array_kernels.proofs.Told.{agrees-asked, rows_as}
 
 -- a validity of so many rows shows as many
-all_counted : (v : Validity) (n : ℕ) → HasRows v n → shown_count v n ≡ n
+pub all_counted : (v : Validity) (n : ℕ) → HasRows v n → shown_count v n ≡ n
 all_counted All n h = refl
 all_counted Nothing n h = refl
 all_counted (Rows bits) n h = omega arith
 
 pub numbers_there : (v : Validity) (ns : List ℤ) (n : ℕ) → length (shown v (map int ns)) ≡ n → (n ≤ length ns) × HasRows v n
 numbers_there v ns n long = rows_within int v ns (shown v (map int ns)) n refl (omega arith)
+
+-- the rows of lanes of numbers
+pub numbers_held : (l : Lanes) (ns : Numbers) (v : Validity) (n : ℕ) → l ≡ Kind.Numbers ns v → length (lanes_rows l) ≡ n → length (shown v (map int (numbers_in ns))) ≡ n
+numbers_held l ns v n is long = ap length (sym (ap lanes_rows is ∙ rows-Numbers ns v)) ∙ long
+
+-- validities that show so many rows have as many
+has_rows : (v : Validity) (n : ℕ) → shown_count v n ≡ n → HasRows v n
+has_rows All n e = tt
+has_rows Nothing n e = tt
+has_rows (Rows bits) n e = omega (arith, e)
+
+pub both_have : (v w all : Validity) (n : ℕ) → HasRows v n → HasRows w n → ((m : ℕ) → shown_count all m ≡ shown_count v (shown_count w m)) → HasRows all n
+both_have v w all n left right count = has_rows all n (count n ∙ ap (shown_count v) (all_counted w n right) ∙ all_counted v n left)
 
 -- of numbers that are shown and of those beside them
 pub told_beside : (c : Asked) (v w all : Validity) (ns ms : List ℤ) (n : ℕ) (told : List Bool) (out : List Datum) → length (shown v (map int ns)) ≡ n → length (shown w (map int ms)) ≡ n →
@@ -92,3 +113,11 @@ told_first {A = A} number c xs ys us vs n told left right these those are =
 
     first : (zs ts : List A) → ts ≡ take n zs → (k : ℕ) → k < n → get_or (map number ts) k (pos 0) ≡ get_or (map number zs) k (pos 0)
     first zs ts is k low = ap (λ l. get_or (map number l) k (pos 0)) is ∙ ap (λ l. get_or l k (pos 0)) (sym (take-map number n zs)) ∙ get_or-take n (map number zs) k (pos 0) low
+
+-- the same of the lanes of a pair
+pub columns_told : (c : Asked) (q : Pair) (v w all : Validity) (ns ms : Numbers) (told bits : List Bool) (out : List Datum) → q.lhs.now ≡ Kind.Numbers ns v → q.rhs.now ≡ Kind.Numbers ms w → IsLong q →
+    told ≡ each_row q.count (λ k. holds c (int_cmp (get_or (numbers_in ns) k (pos 0)) (get_or (numbers_in ms) k (pos 0)))) → bits ≡ told → ((k : ℕ) → is_valid all k ≡ (is_valid v k && is_valid w k)) → ((m : ℕ) → shown_count all m ≡ shown_count v (shown_count w m)) →
+    out ≡ shown all (map bool bits) → out ≡ pair_rows (compared (asked c)) q
+columns_told c q v w all ns ms told bits out left right long are same each count is =
+    told_beside c v w all (numbers_in ns) (numbers_in ms) q.count bits out (numbers_held q.lhs.now ns v q.count left long.0) (numbers_held q.rhs.now ms w q.count right long.1) (same ∙ are) each count is
+    ∙ ap (λ l. both_rows q.count (compared (asked c)) l (shown w (map int (numbers_in ms)))) (sym (ap lanes_rows left ∙ rows-Numbers ns v)) ∙ ap (both_rows q.count (compared (asked c)) (lanes_rows q.lhs.now)) (sym (ap lanes_rows right ∙ rows-Numbers ms w))

@@ -2,3 +2,4 @@ pub mod Told
 pub mod Bits
 pub mod NullRows
 pub mod Beside
+mod Added

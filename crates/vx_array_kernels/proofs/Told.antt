@@ -4,7 +4,7 @@ use Rattle.std.specs.Ordering.{int_cmp}
 use Rattle.std.specs.declared.cmp.Ordering.{Ordering}
 use Rattle.vx_value.specs.Types.{Datum, null, bool, int}
 use Rattle.vx_fn.specs.Functions.{compares, mirrored}
-use Rattle.vx_fn.specs.Values.{agrees, compared, kleene_and}
+use Rattle.vx_fn.specs.Values.{agrees, compared}
 use Rattle.vx_fn.proofs.Swaps.{swapped_over_exchanged_operands}
 use Rattle.std.proofs.Math.ListN.{replicate}
 use Rattle.std.proofs.lemmas.List.{length-map, ext_get_or, get_or-map, get_or-replicate, length-replicate}
@@ -69,12 +69,3 @@ both_before n m g h xs ys out d turned long wide one is =
 -- a comparison for exchanged operands
 pub turned_round : (c b : Asked) (v w : Datum) → asked b ≡ mirrored (asked c) → compared (asked b) v w ≡ compared (asked c) w v
 turned_round c b v w is = ap (λ x. compared x v w) is ∙ swapped_over_exchanged_operands (compares (asked c)) v w
-
--- the two comparisons of a test by bounds, joined
-pub between_is : (n : ℕ) (f g : Datum → Datum → Datum) (ls vs us above below out : List Datum) → above ≡ both_rows n f ls vs → below ≡ both_rows n g vs us → out ≡ both_rows n kleene_and above below →
-    out ≡ each_row n (λ k. kleene_and (f (get_or ls k null) (get_or vs k null)) (g (get_or vs k null) (get_or us k null)))
-between_is n f g ls vs us above below out first second is =
-    is ∙ rows_as n (λ k. kleene_and (f (get_or ls k null) (get_or vs k null)) (g (get_or vs k null) (get_or us k null))) (both_rows n kleene_and above below) (length-map-range_with_len (λ k. kleene_and (get_or above k null) (get_or below k null)) 0 n)
-    (λ k lt. get_or-map-range_with_len (λ k. kleene_and (get_or above k null) (get_or below k null)) 0 n k k null lt (omega arith)
-    ∙ ap (λ d. kleene_and d (get_or below k null)) (ap (λ l. get_or l k null) first ∙ get_or-map-range_with_len (λ k. f (get_or ls k null) (get_or vs k null)) 0 n k k null lt (omega arith))
-    ∙ ap (kleene_and (f (get_or ls k null) (get_or vs k null))) (ap (λ l. get_or l k null) second ∙ get_or-map-range_with_len (λ k. g (get_or vs k null) (get_or us k null)) 0 n k k null lt (omega arith)))

@@ -1,11 +1,10 @@
 -- Which comparison of values a comparison of numbers tells.
-use Rattle.std.specs.Prelude.{ℕ, List, map, get_or}
+use Rattle.std.specs.Prelude.{List, map}
 use Rattle.vx_array_loops.specs.declared.comparison.Comparison.{Comparison as Asked}
 use Rattle.vx_array_loops.specs.declared.comparison.Comparison.TheVariants.{Equal, NotEqual, Less, LessOrEqual, Greater, GreaterOrEqual}
-use Rattle.vx_value.specs.Types.{Datum, null}
+use Rattle.vx_value.specs.Types.{Datum}
 use Rattle.vx_fn.specs.Functions.{Comparison, equal, not_equal, greater, greater_or_equal, less, less_or_equal}
-use Rattle.vx_array_loops.specs.WordBits.{each_row}
-use Rattle.vx_fn.specs.Values.{compared, kleene_and}
+use Rattle.vx_fn.specs.Values.{compared}
 
 -- the comparison of values
 abbrev pub asked : Asked → Comparison
@@ -19,7 +18,3 @@ asked GreaterOrEqual = greater_or_equal
 -- the comparison of each row with one value
 abbrev pub compared_rows : Asked → Datum → List Datum → List Datum
 compared_rows c d rows = map (λ v. compared (asked c) v d) rows
-
--- whether the value of each of the first n rows lies between two bounds
-abbrev pub between_rows : ℕ → Asked → Asked → List Datum → List Datum → List Datum → List Datum
-between_rows n lower upper ls vs us = each_row n (λ k. kleene_and (compared (asked lower) (get_or ls k null) (get_or vs k null)) (compared (asked upper) (get_or vs k null) (get_or us k null)))

@@ -1,2 +1,5 @@
 pub mod Asked
+pub mod Connected
+pub mod Found
+pub mod Sums
 pub mod Truths

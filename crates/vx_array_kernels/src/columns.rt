@@ -9,62 +9,35 @@ ghost use Rattle.vx_array.specs.Shown.{shown};
 ghost use Rattle.vx_array_loops.specs.Comparisons.{holds};
 ghost use Rattle.vx_array_loops.specs.WordBits.{each_row};
 ghost use Rattle.vx_array_kernels.specs.Asked.{asked};
-ghost use Rattle.vx_array_kernels.specs.Truths.{both_rows};
+ghost use Rattle.vx_array_kernels.specs.Found.{Finds, IsLong, pair_rows};
 
+use crate::pair::Pair;
+use crate::widths::by_one_width;
 use std::alloc::{AllocError, Global};
-use vx_array::{BitPart, Lanes, Numbers, Part, Validity};
+use vx_array::{BitPart, Lanes, Numbers, Part};
 use vx_array_loops::{Bits, Comparison, Number, compare_both};
 
 /// The comparison of two columns, row by row. There is an answer where both are numbers in buffers of one
-/// width. Asks so many rows of both.
+/// width.
 pub fn compare_columns(
     alloc: Global,
-    count: usize,
     comparison: Comparison,
-    lhs: &Lanes,
-    rhs: &Lanes,
+    pair: Pair,
 ) -> Result<Option<Lanes>, AllocError>
-    requires left { length (lanes_rows lhs.now) ≡ count }
-    requires right { length (lanes_rows rhs.now) ≡ count }
-    ensures { IfOk result (λ found. IfSome found (λ out. lanes_rows out ≡ both_rows count (compared (asked comparison)) (lanes_rows lhs.now) (lanes_rows rhs.now))) }
+    requires { IsLong pair }
+    ensures { Finds (pair_rows (compared (asked comparison)) pair.entry) result }
 {
-    match (lhs, rhs) {
+    match (pair.lhs, pair.rhs) {
         (Lanes::Numbers(numbers, validity), Lanes::Numbers(others, others_validity)) => {
-            compare_numbers(
-                alloc,
-                count,
-                comparison,
-                numbers,
-                validity,
-                others,
-                others_validity,
-            )
+            match told_of(alloc, pair.count, comparison, numbers, others)? {
+                None => Ok(None),
+                Some(told) => {
+                    let both = validity.and(alloc, others_validity)?;
+                    Ok(Some(Lanes::Bools(BitPart::new(alloc, told)?, both)))
+                }
+            }
         }
         _ => Ok(None),
-    }
-}
-
-// The comparison of each number with the one beside it, null where one of them isn't valid, if both have
-// one width.
-fn compare_numbers(
-    alloc: Global,
-    count: usize,
-    comparison: Comparison,
-    numbers: &Numbers,
-    validity: &Validity,
-    others: &Numbers,
-    others_validity: &Validity,
-) -> Result<Option<Lanes>, AllocError>
-    requires left { length (shown validity.now (map int (numbers_in numbers.now))) ≡ count }
-    requires right { length (shown others_validity.now (map int (numbers_in others.now))) ≡ count }
-    ensures { IfOk result (λ found. IfSome found (λ out. lanes_rows out ≡ both_rows count (compared (asked comparison)) (shown validity.now (map int (numbers_in numbers.now))) (shown others_validity.now (map int (numbers_in others.now))))) }
-{
-    match told_of(alloc, count, comparison, numbers, others)? {
-        None => Ok(None),
-        Some(told) => {
-            let both = validity.and(alloc, others_validity)?;
-            Ok(Some(Lanes::Bools(BitPart::new(alloc, told)?, both)))
-        }
     }
 }
 
@@ -81,33 +54,7 @@ fn told_of(
     requires others { count ≤ length (numbers_in others.now) }
     ensures { IfOk result (λ found. IfSome found (λ told. told ≡ each_row count (λ k. holds comparison (int_cmp (get_or (numbers_in numbers.now) k (pos 0)) (get_or (numbers_in others.now) k (pos 0)))))) }
 {
-    match (numbers, others) {
-        (Numbers::U8(numbers), Numbers::U8(others)) => told_in(
-            alloc, count, comparison, numbers, others,
-        ),
-        (Numbers::U16(numbers), Numbers::U16(others)) => told_in(
-            alloc, count, comparison, numbers, others,
-        ),
-        (Numbers::U32(numbers), Numbers::U32(others)) => told_in(
-            alloc, count, comparison, numbers, others,
-        ),
-        (Numbers::U64(numbers), Numbers::U64(others)) => told_in(
-            alloc, count, comparison, numbers, others,
-        ),
-        (Numbers::I8(numbers), Numbers::I8(others)) => told_in(
-            alloc, count, comparison, numbers, others,
-        ),
-        (Numbers::I16(numbers), Numbers::I16(others)) => told_in(
-            alloc, count, comparison, numbers, others,
-        ),
-        (Numbers::I32(numbers), Numbers::I32(others)) => told_in(
-            alloc, count, comparison, numbers, others,
-        ),
-        (Numbers::I64(numbers), Numbers::I64(others)) => told_in(
-            alloc, count, comparison, numbers, others,
-        ),
-        _ => Ok(None),
-    }
+    by_one_width!(numbers, others, (part, other) => told_in(alloc, count, comparison, part, other))
 }
 
 // The same of numbers of one width.

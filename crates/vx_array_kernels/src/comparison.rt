@@ -5,17 +5,20 @@ ghost use Rattle.vx_value.specs.Types.{bool, int};
 ghost use Rattle.vx_value.specs.Views.{value_of};
 ghost use Rattle.vx_fn.specs.Functions.{compares};
 ghost use Rattle.vx_fn.specs.Functions as functions;
-ghost use Rattle.vx_fn.specs.Values.{compared};
+ghost use Rattle.vx_fn.specs.Values.{compared, kleene_and};
 ghost use Rattle.vx_fn.specs.Views.{operation_of};
 ghost use Rattle.vx_array.specs.Kinds.{numbers_in};
 ghost use Rattle.vx_array.specs.Rows.{lanes_rows};
 ghost use Rattle.vx_array.specs.Shown.{shown};
 ghost use Rattle.vx_array_loops.specs.Comparisons.{holds};
-ghost use Rattle.vx_array_kernels.specs.Asked.{asked, between_rows, compared_rows};
+ghost use Rattle.vx_array_kernels.specs.Asked.{asked, compared_rows};
+ghost use Rattle.vx_array_kernels.specs.Found.{Finds, IsLong, pair_rows};
 ghost use Rattle.vx_array_kernels.specs.Truths.{both_rows};
 
 use crate::columns::compare_columns;
-use crate::logic::and;
+use crate::logic::{Connective, connect};
+use crate::pair::Pair;
+use crate::widths::by_width;
 use std::alloc::{AllocError, Global};
 use vx_array::{BitPart, Lanes, Numbers, Part, Validity};
 use vx_array_loops::{Bits, Comparison, Number};
@@ -51,51 +54,50 @@ fn mirrored(comparison: Comparison) -> Comparison
     }
 }
 
-/// Whether each row lies between two bounds, each of which is one value in all rows: by one comparison of
-/// the lower bound with the row, and by another one of the row with the upper bound. There is an answer
-/// where each of them has one. Asks so many rows of all three.
+/// Whether each row lies between two bounds: by one comparison of the lower bound with the row, which are
+/// the first pair, and by another one of the row with the upper bound. There is an answer where each of the
+/// two has one.
 pub fn between(
     alloc: Global,
-    count: usize,
     comparisons: (Comparison, Comparison),
-    rows: &Lanes,
-    lower: &Lanes,
-    upper: &Lanes,
+    lower: Pair,
+    upper: Pair,
 ) -> Result<Option<Lanes>, AllocError>
-    requires rows { length (lanes_rows rows.now) ≡ count }
-    requires lower { length (lanes_rows lower.now) ≡ count }
-    requires upper { length (lanes_rows upper.now) ≡ count }
-    ensures { IfOk result (λ found. IfSome found (λ out. lanes_rows out ≡ between_rows count comparisons.0 comparisons.1 (lanes_rows lower.now) (lanes_rows rows.now) (lanes_rows upper.now))) }
+    requires lower { IsLong lower }
+    requires upper { IsLong upper }
+    requires count { upper.count ≡ lower.count }
+    ensures { Finds (both_rows lower.entry.count kleene_and (pair_rows (compared (asked comparisons.0)) lower.entry) (pair_rows (compared (asked comparisons.1)) upper.entry)) result }
 {
-    let Some(above) = compare(alloc, count, comparisons.0, lower, rows)? else {
+    let Some(above) = compare(alloc, comparisons.0, lower)? else {
         return Ok(None);
     };
-    let Some(below) = compare(alloc, count, comparisons.1, rows, upper)? else {
+    let Some(below) = compare(alloc, comparisons.1, upper)? else {
         return Ok(None);
     };
-    and(alloc, count, &above, &below)
+    let both = Pair {
+        count: lower.count,
+        lhs: &above,
+        rhs: &below,
+    };
+    connect(alloc, Connective::And, both)
 }
 
 /// The comparison of two columns. There is an answer where both are numbers in buffers of one width, and
-/// where one is one value in all rows and the other has numbers whose width has that value. Asks so many
-/// rows of both.
+/// where one is one value in all rows and the other has numbers whose width has that value.
 pub fn compare(
     alloc: Global,
-    count: usize,
     comparison: Comparison,
-    lhs: &Lanes,
-    rhs: &Lanes,
+    pair: Pair,
 ) -> Result<Option<Lanes>, AllocError>
-    requires left { length (lanes_rows lhs.now) ≡ count }
-    requires right { length (lanes_rows rhs.now) ≡ count }
-    ensures { IfOk result (λ found. IfSome found (λ out. lanes_rows out ≡ both_rows count (compared (asked comparison)) (lanes_rows lhs.now) (lanes_rows rhs.now))) }
+    requires { IsLong pair }
+    ensures { Finds (pair_rows (compared (asked comparison)) pair.entry) result }
 {
-    match (lhs, rhs) {
-        (_, Lanes::Same(value, _)) => compare_with(alloc, comparison, lhs, value.as_ref()),
-        (Lanes::Same(value, _), _) => {
+    match (pair.lhs, pair.rhs) {
+        (lhs, Lanes::Same(value, _)) => compare_with(alloc, comparison, lhs, value.as_ref()),
+        (Lanes::Same(value, _), rhs) => {
             compare_with(alloc, mirrored(comparison), rhs, value.as_ref())
         }
-        _ => compare_columns(alloc, count, comparison, lhs, rhs),
+        _ => compare_columns(alloc, comparison, pair),
     }
 }
 
@@ -107,7 +109,7 @@ fn compare_with(
     lanes: &Lanes,
     value: &Value,
 ) -> Result<Option<Lanes>, AllocError>
-    ensures { IfOk result (λ found. IfSome found (λ out. lanes_rows out ≡ compared_rows comparison (value_of value.now) (lanes_rows lanes.now))) }
+    ensures { Finds (compared_rows comparison (value_of value.now) (lanes_rows lanes.now)) result }
 {
     match (lanes, value) {
         (Lanes::Numbers(numbers, validity), Value::Int(number)) => {
@@ -125,7 +127,7 @@ fn compare_numbers(
     validity: &Validity,
     number: &i128,
 ) -> Result<Option<Lanes>, AllocError>
-    ensures { IfOk result (λ found. IfSome found (λ out. lanes_rows out ≡ compared_rows comparison (int number.now) (shown validity.now (map int (numbers_in numbers.now))))) }
+    ensures { Finds (compared_rows comparison (int number.now) (shown validity.now (map int (numbers_in numbers.now)))) result }
 {
     match told_of(alloc, comparison, numbers, number)? {
         None => Ok(None),
@@ -149,16 +151,7 @@ fn told_of(
 ) -> Result<Option<Bits>, AllocError>
     ensures { IfOk result (λ found. IfSome found (λ told. told ≡ map (λ n. holds comparison (int_cmp n number.now)) (numbers_in numbers.now))) }
 {
-    match numbers {
-        Numbers::U8(numbers) => told_in(alloc, comparison, numbers, number),
-        Numbers::U16(numbers) => told_in(alloc, comparison, numbers, number),
-        Numbers::U32(numbers) => told_in(alloc, comparison, numbers, number),
-        Numbers::U64(numbers) => told_in(alloc, comparison, numbers, number),
-        Numbers::I8(numbers) => told_in(alloc, comparison, numbers, number),
-        Numbers::I16(numbers) => told_in(alloc, comparison, numbers, number),
-        Numbers::I32(numbers) => told_in(alloc, comparison, numbers, number),
-        Numbers::I64(numbers) => told_in(alloc, comparison, numbers, number),
-    }
+    by_width!(numbers, part => told_in(alloc, comparison, part, number))
 }
 
 // The same of numbers of one width.

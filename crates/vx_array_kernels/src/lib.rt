@@ -5,8 +5,14 @@ mod columns;
 mod comparison;
 mod logic;
 mod nulls;
+mod pair;
+mod sums;
 mod truths;
+mod width;
+mod widths;
 
 pub use comparison::{between, compare, comparison_of};
-pub use logic::{and, not, or};
+pub use logic::{Connective, connect, not};
 pub use nulls::{is_not_null, is_null};
+pub use pair::Pair;
+pub use sums::add;

@@ -1,51 +1,38 @@
 // And, Or and Not of truth values in bits, by Kleene's tables.
-ghost use Rattle.std.specs.Prelude.{◌≡◌, IfOk, IfSome, length, map};
-ghost use Rattle.vx_fn.specs.Values.{kleene_and, kleene_not, kleene_or};
+ghost use Rattle.std.specs.Prelude.{map};
+ghost use Rattle.vx_fn.specs.Values.{kleene_not};
 ghost use Rattle.vx_array.specs.Rows.{lanes_rows};
-ghost use Rattle.vx_array_kernels.specs.Truths.{both_rows};
+ghost use Rattle.vx_array_kernels.specs.Connected.{connected};
+ghost use Rattle.vx_array_kernels.specs.Found.{Finds, IsLong, pair_rows};
 
+use crate::pair::Pair;
 use crate::truths::{Truths, turned};
 use std::alloc::{AllocError, Global};
 use vx_array::{BitPart, Lanes};
 
-/// The And of two columns. There is an answer where both are truth values in bits. Asks so many rows of
-/// both.
-pub fn and(
-    alloc: Global,
-    count: usize,
-    lhs: &Lanes,
-    rhs: &Lanes,
-) -> Result<Option<Lanes>, AllocError>
-    requires left { length (lanes_rows lhs.now) ≡ count }
-    requires right { length (lanes_rows rhs.now) ≡ count }
-    ensures { IfOk result (λ found. IfSome found (λ out. lanes_rows out ≡ both_rows count kleene_and (lanes_rows lhs.now) (lanes_rows rhs.now))) }
-{
-    match (lhs, rhs) {
-        (Lanes::Bools(a, v), Lanes::Bools(b, w)) => {
-            let mut truths = Truths::of(alloc, count, a, v)?;
-            truths.and_with(&Truths::of(alloc, count, b, w)?);
-            Ok(Some(truths.into_lanes(alloc)?))
-        }
-        _ => Ok(None),
-    }
+/// How two truth values are joined into one.
+#[derive(Clone, Copy)]
+pub enum Connective {
+    /// Both are true.
+    And,
+    /// One of them is true.
+    Or,
 }
 
-/// The Or of two columns. There is an answer where both are truth values in bits. Asks so many rows of
-/// both.
-pub fn or(
+/// The And or the Or of two columns. There is an answer where both are truth values in bits.
+pub fn connect(
     alloc: Global,
-    count: usize,
-    lhs: &Lanes,
-    rhs: &Lanes,
+    connective: Connective,
+    pair: Pair,
 ) -> Result<Option<Lanes>, AllocError>
-    requires left { length (lanes_rows lhs.now) ≡ count }
-    requires right { length (lanes_rows rhs.now) ≡ count }
-    ensures { IfOk result (λ found. IfSome found (λ out. lanes_rows out ≡ both_rows count kleene_or (lanes_rows lhs.now) (lanes_rows rhs.now))) }
+    requires { IsLong pair }
+    ensures { Finds (pair_rows (connected connective) pair.entry) result }
 {
-    match (lhs, rhs) {
+    match (pair.lhs, pair.rhs) {
         (Lanes::Bools(a, v), Lanes::Bools(b, w)) => {
-            let mut truths = Truths::of(alloc, count, a, v)?;
-            truths.or_with(&Truths::of(alloc, count, b, w)?);
+            let mut truths = Truths::of(alloc, pair.count, a, v)?;
+            let others = Truths::of(alloc, pair.count, b, w)?;
+            truths.connect(connective, &others);
             Ok(Some(truths.into_lanes(alloc)?))
         }
         _ => Ok(None),
@@ -54,7 +41,7 @@ pub fn or(
 
 /// The negation of a column. There is an answer where it holds truth values in bits.
 pub fn not(alloc: Global, input: &Lanes) -> Result<Option<Lanes>, AllocError>
-    ensures { IfOk result (λ found. IfSome found (λ out. lanes_rows out ≡ map kleene_not (lanes_rows input.now))) }
+    ensures { Finds (map kleene_not (lanes_rows input.now)) result }
 {
     match input {
         Lanes::Bools(bits, validity) => {

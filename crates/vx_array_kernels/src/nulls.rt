@@ -3,6 +3,7 @@ ghost use Rattle.std.specs.Prelude.{◌≡◌, IfOk, IfSome, map};
 ghost use Rattle.std.proofs.Math.ListN.{replicate};
 ghost use Rattle.vx_value.specs.Types.{bool};
 ghost use Rattle.vx_array.specs.Rows.{lanes_rows};
+ghost use Rattle.vx_array_kernels.specs.Found.{Finds};
 ghost use Rattle.vx_array_kernels.specs.Truths.{null_told, value_told, TellsNulls};
 
 use crate::truths::{turned, valid_rows};
@@ -14,7 +15,7 @@ use vx_types::Value;
 
 /// Whether each row is null. There is an answer for one value in all rows, and where a validity says so.
 pub fn is_null(alloc: Global, input: &Lanes) -> Result<Option<Lanes>, AllocError>
-    ensures { IfOk result (λ found. IfSome found (λ out. lanes_rows out ≡ map null_told (lanes_rows input.now))) }
+    ensures { Finds (map null_told (lanes_rows input.now)) result }
 {
     if let Lanes::Same(value, count) = input {
         return Ok(Some(repeated(alloc, value.is_null(), *count)?));
@@ -30,7 +31,7 @@ pub fn is_null(alloc: Global, input: &Lanes) -> Result<Option<Lanes>, AllocError
 
 /// Whether each row isn't null. There is an answer as for `is_null`.
 pub fn is_not_null(alloc: Global, input: &Lanes) -> Result<Option<Lanes>, AllocError>
-    ensures { IfOk result (λ found. IfSome found (λ out. lanes_rows out ≡ map value_told (lanes_rows input.now))) }
+    ensures { Finds (map value_told (lanes_rows input.now)) result }
 {
     if let Lanes::Same(value, count) = input {
         return Ok(Some(repeated(alloc, !value.is_null(), *count)?));

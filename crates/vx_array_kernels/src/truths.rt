@@ -4,8 +4,10 @@ ghost use Rattle.vx_value.specs.Types.{bool};
 ghost use Rattle.vx_fn.specs.Values.{kleene_and, kleene_or};
 ghost use Rattle.vx_array.specs.Rows.{lanes_rows};
 ghost use Rattle.vx_array.specs.Shown.{HasRows, is_valid, shown};
+ghost use Rattle.vx_array_kernels.specs.Connected.{connected};
 ghost use Rattle.vx_array_kernels.specs.Truths.{both_rows};
 
+use crate::logic::Connective;
 use std::alloc::{AllocError, Global};
 use std::marker::Model;
 use vx_array::{BitPart, Lanes, Validity};
@@ -51,8 +53,8 @@ impl Truths {
         })
     }
 
-    /// Makes of each the And with the one beside it. Asks as many.
-    pub fn and_with(&mut self, other: &Truths)
+    // Makes of each the And with the one beside it. Asks as many.
+    fn and_with(&mut self, other: &Truths)
         requires { length other.now ≡ length self.old }
         ensures { self.new ≡ both_rows (length self.old) kleene_and self.old other.now }
     {
@@ -61,14 +63,25 @@ impl Truths {
         self.bits.and_with(&other.bits);
     }
 
-    /// Makes of each the Or with the one beside it. Asks as many.
-    pub fn or_with(&mut self, other: &Truths)
+    // Makes of each the Or with the one beside it. Asks as many.
+    fn or_with(&mut self, other: &Truths)
         requires { length other.now ≡ length self.old }
         ensures { self.new ≡ both_rows (length self.old) kleene_or self.old other.now }
     {
         self.valid
             .or_validity(&self.bits, &other.valid, &other.bits);
         self.bits.or_with(&other.bits);
+    }
+
+    /// Joins each with the one beside it. Asks as many.
+    pub fn connect(&mut self, connective: Connective, other: &Truths)
+        requires { length other.now ≡ length self.old }
+        ensures { self.new ≡ both_rows (length self.old) (connected connective) self.old other.now }
+    {
+        match connective {
+            Connective::And => self.and_with(other),
+            Connective::Or => self.or_with(other),
+        }
     }
 
     /// The rows as lanes.
