@@ -1,0 +1,2 @@
+mod TrueRows
+mod Selecting
