@@ -101,10 +101,11 @@ impl<'a> Schema<'a> {
 
     /// The columns whose types are said, where the others are guessed.
     pub(crate) fn columns(self) -> &'a [ColumnType<'a>] {
-        match self {
-            Schema::Said(_) => &[],
-            Schema::Guessed(guess) => guess.columns,
-        }
+        let guess = match self {
+            Schema::Said(_) => Guess::default(),
+            Schema::Guessed(guess) => guess,
+        };
+        guess.columns
     }
 
     /// What becomes of fields that the type doesn't have: one that is said may be of some columns only.
