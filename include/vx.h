@@ -174,6 +174,11 @@ vx_status vx_plan_paths(vx_plan *plan, char *buffer, size_t buffer_length, vx_an
 vx_status vx_plan_scan(vx_plan *plan, size_t rows, const vx_buffer *buffers, size_t buffers_length,
                        char *buffer, size_t buffer_length, vx_answer *answer);
 
+/* At which rows of a batch the expression is true, as a byte for each: 1 where it is, and 0 where it is false
+   or null. The batch is as vx_plan_scan takes it; an expression of another type than bool is refused. */
+vx_status vx_plan_select(vx_plan *plan, size_t rows, const vx_buffer *buffers, size_t buffers_length,
+                         char *buffer, size_t buffer_length, vx_answer *answer);
+
 /* Frees the plan, if there is one. Then *plan holds none. */
 void vx_plan_free(vx_plan *plan);
 

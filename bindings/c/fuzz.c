@@ -143,11 +143,11 @@ static size_t random_buffers(vx_buffer *buffers, char *const memory[MOST_BUFFERS
     return number;
 }
 
-/* Plans are made, asked for their paths, and scan, mostly over good batches. */
+/* Plans are made, asked for their paths, scan and select, mostly over good batches. */
 static void fuzz_plans(size_t times, char *const memory[4])
 {
     static const char *const GOOD[] = {"x + 1 > 5 and s like \"t%\"", "x + 2147483647", "l", "$", "f"};
-    Tally made = {0}, paths = {0}, scans = {0};
+    Tally made = {0}, paths = {0}, scans = {0}, selects = {0};
     vx_plan plan = VX_PLAN_INIT;
     char *lent[MOST_BUFFERS];
     for (size_t i = 0; i < MOST_BUFFERS; i++)
@@ -173,11 +173,14 @@ static void fuzz_plans(size_t times, char *const memory[4])
         size_t number = random_buffers(buffers, lent), rows = below(8) ? 2 : below(20);
         status = vx_plan_scan(&plan, rows, buffers, number, buffer, room, &answer);
         count(&scans, "vx_plan_scan", status, answer.needed, room);
+        status = vx_plan_select(&plan, rows, buffers, number, buffer, room, &answer);
+        count(&selects, "vx_plan_select", status, answer.needed, room);
     }
     vx_plan_free(&plan);
     print("new", &made);
     print("paths", &paths);
     print("scan", &scans);
+    print("select", &selects);
 }
 
 int fuzz(size_t times, uint64_t seed)

@@ -354,6 +354,43 @@ static void test_nothing_is_kept(void)
     vx_plan_free(&plan);
 }
 
+static Answered selected(vx_plan *plan, size_t rows, const vx_buffer *buffers, size_t count)
+{
+    Answered a = with_room(1);
+    do
+        a.status = vx_plan_select(plan, rows, buffers, count, a.text, a.room, &a.answer);
+    while (is_grown(&a));
+    return a;
+}
+
+/* A row is selected where the expression is true, and not where it is null. */
+static void test_selections(void)
+{
+    const Scan cases[] = {
+        {"x > 1", "{x=i32?}", 3, BUFFERS(NONE, B("\5"), B("\2\0\0\0\7\0\0\0\1\0\0\0")), "\1\0\0"},
+        {"x > 1 or x is null", "{x=u8?}", 3, BUFFERS(NONE, B("\5"), B("\0\7\2")), "\0\1\1"},
+        {"s = 'b'", "{s=utf8}", 2, BUFFERS(NONE, NONE, B("\0\0\0\0\1\0\0\0\2\0\0\0"), B("ab")), "\0\1"},
+        {"1 < 2", "{}", 2, BUFFERS(NONE), "\1\1"},
+        {"$", "bool", 9, BUFFERS(NONE, B("\376\1")), "\0\1\1\1\1\1\1\1\1"},
+    };
+    for (size_t i = 0; i < sizeof cases / sizeof cases[0]; i++) {
+        vx_plan plan = plan_of(cases[i].expression, cases[i].schema);
+        Answered a = selected(&plan, cases[i].rows, cases[i].buffers, cases[i].count);
+        EXPECT(a.status == VX_ANSWERED && a.answer.needed == cases[i].rows);
+        EXPECT(memcmp(a.text, cases[i].page, cases[i].rows) == 0);
+        free(a.text);
+        vx_plan_free(&plan);
+    }
+    vx_plan plan = plan_of("x + 1", X);
+    Answered a = selected(&plan, 1, BUFFERS(NONE, NONE, B("\1\0\0\0")));
+    EXPECT(a.status == VX_REFUSED && a.answer.place.text == VX_EXPRESSION && a.answer.place.end == 5);
+    free(a.text);
+    vx_plan_free(&plan);
+    a = selected(&plan, 0, NULL, 0);
+    EXPECT(a.status == VX_NO_PLAN);
+    free(a.text);
+}
+
 /* Two plans, over batches of any length, take turns. */
 static void test_many_batches(void)
 {
@@ -403,6 +440,7 @@ void test_plans(void)
     test_paths();
     test_room_of_scans();
     test_nothing_is_kept();
+    test_selections();
     test_many_batches();
     test_made_again();
 }

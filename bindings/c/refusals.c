@@ -103,12 +103,18 @@ static void test_calls_of_texts(void)
 
 static vx_plan plan = VX_PLAN_INIT;
 
-static vx_status make_plan(const void *expression, char *buffer, size_t room, vx_answer *answer)
+static vx_status make_plan_over(const char *expression, const char *schema, char *buffer, size_t room,
+                                vx_answer *answer)
 {
-    vx_status status = vx_plan_new(expression, strlen(expression), SCHEMA, strlen(SCHEMA), &plan,
-                                   buffer, room, answer);
+    vx_status status = vx_plan_new(expression, strlen(expression), schema, strlen(schema), &plan, buffer,
+                                   room, answer);
     EXPECT((status == VX_ANSWERED) == (plan.at != NULL));
     return status;
+}
+
+static vx_status make_plan(const void *expression, char *buffer, size_t room, vx_answer *answer)
+{
+    return make_plan_over(expression, SCHEMA, buffer, room, answer);
 }
 
 static vx_status tell_paths(const void *given, char *buffer, size_t room, vx_answer *answer)
@@ -124,6 +130,14 @@ static vx_status scan(const void *numbers, char *buffer, size_t room, vx_answer 
                                {"t", 1},  {NULL, 0}, {"\0\0\0\0\1\0\0\0\2\0\0\0", 12}, {NULL, 0}, {"\1", 1}};
     EXPECT(plan.at != NULL);
     return vx_plan_scan(&plan, 2, batch, sizeof batch / sizeof batch[0], buffer, room, answer);
+}
+
+/* The same two rows. */
+static vx_status select_rows(const void *numbers, char *buffer, size_t room, vx_answer *answer)
+{
+    const vx_buffer batch[] = {{NULL, 0}, {NULL, 0}, {numbers, 8}};
+    EXPECT(plan.at != NULL);
+    return vx_plan_select(&plan, 2, batch, sizeof batch / sizeof batch[0], buffer, room, answer);
 }
 
 static vx_status scan_too_few(const void *given, char *buffer, size_t room, vx_answer *answer)
@@ -147,6 +161,10 @@ static void test_calls_of_plans(void)
     expect_refusals(scan, "\1\0\0\0\377\377\377\177");
     expect_refusals(scan_too_few, NULL);
     EXPECT(scan("\1\0\0\0\5\0\0\0", buffer, sizeof buffer, &answer) == VX_ANSWERED);
+    EXPECT(make_plan_over("x + 1 > 5", "{x=i32}", buffer, sizeof buffer, &answer) == VX_ANSWERED);
+    expect_refusals(select_rows, "\1\0\0\0\5\0\0\0");
+    expect_refusals(select_rows, "\1\0\0\0\377\377\377\177");
+    EXPECT(select_rows("\1\0\0\0\5\0\0\0", buffer, sizeof buffer, &answer) == VX_ANSWERED);
     vx_plan_free(&plan);
     expect_refusals(tell_paths, NULL);
 }

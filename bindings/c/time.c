@@ -78,12 +78,42 @@ static bool is_scanned(size_t times, vx_plan *plan, char *page, size_t room)
     return true;
 }
 
+/* Whether a range over a hundred thousand numbers selects rows so often. */
+static bool is_selected(size_t times)
+{
+    enum { MANY = 100000 };
+    static const char RANGE[] = "x >= 10 and x <= 500000";
+    static int32_t numbers[MANY];
+    static char selected[MANY];
+    for (size_t i = 0; i < MANY; i++)
+        numbers[i] = (int32_t)(i * 2654435761u % 1000000);
+    const vx_buffer batch[] = {NO_NULLS, NO_NULLS, ALL(numbers)};
+    vx_plan plan = VX_PLAN_INIT;
+    vx_answer answer = {0};
+    if (vx_plan_new(RANGE, strlen(RANGE), "{x=i32}", 7, &plan, selected, MANY, &answer) != VX_ANSWERED)
+        return false;
+    double from = microseconds();
+    for (size_t i = 0; i < times; i++)
+        if (vx_plan_select(&plan, MANY, batch, 3, selected, MANY, &answer) != VX_ANSWERED)
+            return false;
+    printf("vx_plan_select of %d rows by a range: %.2f nanoseconds a row\n", MANY,
+           1000 * (microseconds() - from) / (double)times / MANY);
+    size_t count = 0, wanted = 0;
+    for (size_t i = 0; i < MANY; i++) {
+        count += selected[i] == 1;
+        wanted += numbers[i] >= 10 && numbers[i] <= 500000;
+    }
+    vx_plan_free(&plan);
+    return count == wanted;
+}
+
 int timed(size_t times)
 {
     static char page[65536];
     vx_plan plan = VX_PLAN_INIT;
     fill_columns();
-    bool is_done = is_planned(times, page, sizeof page) && is_scanned(times, &plan, page, sizeof page);
+    bool is_done = is_planned(times, page, sizeof page) && is_scanned(times, &plan, page, sizeof page) &&
+                   is_selected(times);
     vx_plan_free(&plan);
     return is_done ? 0 : 1;
 }

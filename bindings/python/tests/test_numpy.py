@@ -95,6 +95,12 @@ class Arrays(unittest.TestCase):
         self.assertEqual(vx.evaluate("x + 1", records, "{x=i32, b=bool}"), [2, 3])
         self.assertEqual(vx.evaluate("x + 1", {"x": columns["x"]}, "{x=i32?}"), [2, None, 8])
 
+    def test_selections(self):
+        numbers = np.arange(-5000, 5000, dtype=np.int32)
+        with vx.Plan("x >= 10 and x <= 4000", "{x=i32}") as plan:
+            found = np.asarray(plan.select({"x": numbers}))
+        self.assertTrue((found == ((numbers >= 10) & (numbers <= 4000))).all())
+
     def test_numbers(self):
         rows = [{"x": np.int8(1), "b": np.bool_(True)}, {"x": np.uint64(7), "b": None}]
         with vx.Plan("x", ROWS) as plan:

@@ -96,6 +96,29 @@ class Scans(unittest.TestCase):
         with vx.Plan("$ + 1", "i32") as plan:
             self.assertEqual(plan.scan([1, 2]), [2, 3])
 
+    def test_selections(self):
+        for expression, schema, batch, wanted in [
+            ("x > 1", "{x=i32?}", {"x": [1, None, 2, 7]}, [False, False, True, True]),
+            ("x is null or x = 1", "{x=i32?}", [{"x": 1}, {"x": None}, {"x": 2}], [True, True, False]),
+            ('s like "a%"', "{s=utf8?}", {"s": ["ab", None, "b"]}, [True, False, False]),
+            ("a.b >= 2 and not c", "{a={b=u8}?, c=bool}", [{"a": {"b": 2}, "c": False}, {"a": None, "c": False}], [True, False]),
+            ("1 < 2", "{}", [{}, {}], [True, True]),
+            ("$", "bool?", [True, None, False], [True, False, False]),
+            ("x > 1", "{x=i32}", [], []),
+        ]:
+            with self.subTest(expression), vx.Plan(expression, schema) as plan:
+                self.assertEqual(plan.select(batch).tolist(), wanted)
+                self.assertEqual([value is True for value in plan.scan(batch)], wanted)
+        with vx.Plan("x + 1 > 5", X) as plan, self.assertRaises(vx.FaultError) as caught:
+            plan.select({"x": [1, 2**31 - 1]})
+        self.assertEqual(caught.exception.place.record, 2)
+        with vx.Plan("x + 1", X) as plan, self.assertRaises(vx.RefusedError) as caught:
+            plan.select({"x": [1]})
+        place = caught.exception.place
+        self.assertEqual((place.text, place.start, place.end), ("expression", 0, 5))
+        with vx.Plan("x > 1", X) as plan, self.assertRaises(vx.DataError):
+            plan.select([{"x": "a"}])
+
     def test_paths(self):
         rows = "{a={x=i32, y=i32}?, b=i32, c=utf8}"
         for expression, schema, paths in [

@@ -10,7 +10,7 @@ from typing import Any, List, Tuple
 from . import _arrow
 from ._batches import batch_of
 from ._calls import Rows, check, encoded
-from ._library import Handle, free_plan, make_plan, plan_paths, scan_plan
+from ._library import Handle, free_plan, make_plan, plan_paths, scan_plan, select_plan
 from ._plans import paths_of
 from ._types import type_of, values_of
 
@@ -66,11 +66,29 @@ class Plan:
         ``place`` says at which row, from 1 on.
         """
         self._check_thread()
-        is_arrow = _arrow.is_batch(batch)
-        count, buffers = (_arrow.batch_of if is_arrow else batch_of)(batch, self._scope)
+        count, buffers = self._batch_of(batch)
         dtype = type_of(self.type)
         values = values_of(scan_plan(self._handle, count, buffers), dtype)
-        return _arrow.array_of(values, dtype) if is_arrow else values
+        return _arrow.array_of(values, dtype) if _arrow.is_batch(batch) else values
+
+    def select(self, batch: Rows) -> memoryview:
+        """At which rows of the batch the expression is true: where it is false or null, a row isn't selected.
+
+        >>> import vx
+        >>> with vx.Plan("x > 5", "{x=i32?}") as plan:
+        ...     plan.select({"x": [1, None, 7]}).tolist()
+        [False, False, True]
+
+        The batch is as :meth:`scan` takes it. The answer is a buffer of truth values, which
+        ``numpy.asarray`` makes an array of without a copy. Raises as :meth:`scan` does, and
+        :class:`RefusedError` for an expression that isn't of truth values.
+        """
+        self._check_thread()
+        return memoryview(select_plan(self._handle, *self._batch_of(batch))).cast("?")
+
+    def _batch_of(self, batch: Rows) -> Tuple[int, List[Any]]:
+        """How many rows the batch has, and their buffers."""
+        return (_arrow.batch_of if _arrow.is_batch(batch) else batch_of)(batch, self._scope)
 
     def close(self) -> None:
         """Frees the plan. What is closed already stays so."""

@@ -64,6 +64,7 @@ _CALLS: Dict[str, Tuple[Any, ...]] = {
     "vx_plan_new": (*_TEXT, *_TEXT, _PLAN, *_ROOM),
     "vx_plan_paths": (_PLAN, *_ROOM),
     "vx_plan_scan": (_PLAN, ctypes.c_size_t, ctypes.POINTER(_Buffer), ctypes.c_size_t, *_ROOM),
+    "vx_plan_select": (_PLAN, ctypes.c_size_t, ctypes.POINTER(_Buffer), ctypes.c_size_t, *_ROOM),
     "vx_plan_free": (_PLAN,),
 }
 
@@ -95,6 +96,11 @@ _LIBRARY = _opened()
 
 
 def _answered(name: str, given: Sequence[Any], room: int) -> str:
+    """The page that the call answers, as a text."""
+    return _answered_bytes(name, given, room).decode("utf-8", "replace")
+
+
+def _answered_bytes(name: str, given: Sequence[Any], room: int) -> bytes:
     """The page that the call answers, or an exception of what stops it. The first buffer has that much room."""
     function = getattr(_LIBRARY, name)
     answer = _Answer()
@@ -106,9 +112,9 @@ def _answered(name: str, given: Sequence[Any], room: int) -> str:
         room = answer.needed
     if status == _OUT_OF_MEMORY:
         raise MemoryError
-    page = buffer[: answer.needed].decode("utf-8", "replace")
+    page = buffer[: answer.needed]
     if status != _ANSWERED:
-        raise error_of(status, page, Place.of(*(getattr(answer.place, field) for field, _ in _Place._fields_)))
+        raise error_of(status, page.decode("utf-8", "replace"), Place.of(*(getattr(answer.place, field) for field, _ in _Place._fields_)))
     return page
 
 
@@ -139,10 +145,20 @@ def plan_paths(handle: Handle) -> str:
 
 def scan_plan(handle: Handle, rows: int, buffers: Sequence[Lent]) -> str:
     """What the plan means at the rows, as lines of JSON."""
-    lent = (_Buffer * len(buffers))(*((_address(buffer), len(buffer)) for buffer in buffers))
     # (enough for numbers)
     room = _LEAST_ROOM + 24 * rows
-    return _answered("vx_plan_scan", [ctypes.byref(handle), rows, lent, len(buffers)], room)
+    return _answered("vx_plan_scan", _batch(handle, rows, buffers), room)
+
+
+def select_plan(handle: Handle, rows: int, buffers: Sequence[Lent]) -> bytes:
+    """At which rows the plan is true, as a byte for each."""
+    return _answered_bytes("vx_plan_select", _batch(handle, rows, buffers), _LEAST_ROOM + rows)
+
+
+def _batch(handle: Handle, rows: int, buffers: Sequence[Lent]) -> List[Any]:
+    """What a call on a plan and a batch is given."""
+    lent = (_Buffer * len(buffers))(*((_address(buffer), len(buffer)) for buffer in buffers))
+    return [ctypes.byref(handle), rows, lent, len(buffers)]
 
 
 def _address(buffer: Lent) -> Any:

@@ -24,8 +24,16 @@ pub(crate) use page;
 /// a longer one where that is too small.
 pub(crate) fn answered(
     room: usize,
-    mut call: impl FnMut(*mut c_char, usize, *mut VxAnswer) -> u32,
+    call: impl FnMut(*mut c_char, usize, *mut VxAnswer) -> u32,
 ) -> Result<String, Error> {
+    Ok(text_of(answered_bytes(room, call)?))
+}
+
+/// The same of a page that is no text.
+pub(crate) fn answered_bytes(
+    room: usize,
+    mut call: impl FnMut(*mut c_char, usize, *mut VxAnswer) -> u32,
+) -> Result<Vec<u8>, Error> {
     let mut buffer = vec![0u8; room];
     loop {
         let mut answer = VxAnswer::default();
@@ -36,11 +44,14 @@ pub(crate) fn answered(
         }
         buffer.truncate(answer.needed);
         buffer.shrink_to_fit();
-        let text = String::from_utf8(buffer)
-            .unwrap_or_else(|error| String::from_utf8_lossy(error.as_bytes()).into_owned());
         return match status {
-            sys::ANSWERED => Ok(text),
-            status => Err(Error::of(status, text, &answer.place)),
+            sys::ANSWERED => Ok(buffer),
+            status => Err(Error::of(status, text_of(buffer), &answer.place)),
         };
     }
+}
+
+fn text_of(bytes: Vec<u8>) -> String {
+    String::from_utf8(bytes)
+        .unwrap_or_else(|error| String::from_utf8_lossy(error.as_bytes()).into_owned())
 }

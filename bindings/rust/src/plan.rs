@@ -1,6 +1,6 @@
 //! Plans that are kept.
 
-use crate::call::{answered, ROOM};
+use crate::call::{answered, answered_bytes, ROOM};
 use crate::sys::{self, VxBuffer, VxPlan};
 use crate::Error;
 use std::ptr;
@@ -102,7 +102,7 @@ impl Plan {
             .fold(0, |sum: usize, it| sum.saturating_add(it.len()));
         // (enough for numbers, and no more than the buffers can have rows)
         let room = ROOM.saturating_add(rows.saturating_mul(24).min(bytes.saturating_mul(8)));
-        let lent: Vec<VxBuffer> = buffers.iter().copied().map(VxBuffer::of).collect();
+        let lent = lent(buffers);
         answered(room, |buffer, length, answer| {
             // SAFETY: as for `paths`; the buffers are lent to the call, which tests what is in them.
             unsafe {
@@ -118,6 +118,43 @@ impl Plan {
             }
         })
     }
+
+    /// At which rows of a batch the expression is true: where it is false or null, a row isn't selected.
+    ///
+    /// ```
+    /// let mut plan = vx::Plan::new("x > 1", "{x=i32?}")?;
+    /// let numbers: Vec<u8> = [1i32, 0, 5].iter().flat_map(|x| x.to_le_bytes()).collect();
+    /// assert_eq!(plan.select(3, &[&[], &[0b101], &numbers])?, [false, false, true]);
+    /// # Ok::<(), vx::Error>(())
+    /// ```
+    ///
+    /// The batch is as [`scan`](Plan::scan) takes it.
+    ///
+    /// # Errors
+    ///
+    /// As of `scan`, and `Refused` for an expression that isn't of truth values.
+    pub fn select(&mut self, rows: usize, buffers: &[&[u8]]) -> Result<Vec<bool>, Error> {
+        let lent = lent(buffers);
+        let bytes = answered_bytes(ROOM, |buffer, length, answer| {
+            // SAFETY: as for `scan`.
+            unsafe {
+                sys::vx_plan_select(
+                    &mut self.handle,
+                    rows,
+                    lent.as_ptr(),
+                    lent.len(),
+                    buffer,
+                    length,
+                    answer,
+                )
+            }
+        })?;
+        Ok(bytes.into_iter().map(|byte| byte == 1).collect())
+    }
+}
+
+fn lent(buffers: &[&[u8]]) -> Vec<VxBuffer> {
+    buffers.iter().copied().map(VxBuffer::of).collect()
 }
 
 impl Drop for Plan {

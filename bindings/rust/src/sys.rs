@@ -135,5 +135,14 @@ extern "C" {
         buffer_length: usize,
         answer: *mut VxAnswer,
     ) -> u32;
+    pub fn vx_plan_select(
+        plan: *mut VxPlan,
+        rows: usize,
+        buffers: *const VxBuffer,
+        buffers_length: usize,
+        buffer: *mut c_char,
+        buffer_length: usize,
+        answer: *mut VxAnswer,
+    ) -> u32;
     pub fn vx_plan_free(plan: *mut VxPlan);
 }

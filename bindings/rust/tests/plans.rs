@@ -22,6 +22,29 @@ fn a_plan_scans_many_batches() -> Result<(), Error> {
 }
 
 #[test]
+fn a_plan_selects_rows() -> Result<(), Error> {
+    let mut plan = Plan::new("x + 1 > 5", "{x=i32?}")?;
+    let values = numbers([7, 7, 1]);
+    assert_eq!(
+        plan.select(3, &[&[], &[0b101], &values])?,
+        [true, false, false]
+    );
+    assert!(plan.select(0, &[&[], &[], &[]])?.is_empty());
+    let many = plan.select(10_000, &[&[], &[], &numbers(0..10_000)])?;
+    assert!(many.iter().enumerate().all(|(x, &is)| is == (x > 4)));
+    let faulted = plan
+        .select(2, &[&[], &[], &numbers([1, i32::MAX])])
+        .unwrap_err();
+    assert_eq!(faulted.kind(), Kind::Faulted);
+    assert_eq!(faulted.place().and_then(|place| place.record), Some(2));
+    let short = plan.select(2, &[&[], &[], &numbers([1])]).unwrap_err();
+    assert_eq!(short.kind(), Kind::BadData);
+    let number = Plan::new("x + 1", X)?.select(3, &[&[], &[], &values]);
+    assert_eq!(number.unwrap_err().kind(), Kind::Refused);
+    Ok(())
+}
+
+#[test]
 fn long_answers_are_whole() -> Result<(), Error> {
     let mut plan = Plan::new("\"a text that is longer than a number\"", "i32")?;
     let page = plan.scan(10_000, &[&[], &numbers(0..10_000)])?;

@@ -4,13 +4,14 @@ ghost use Rattle.vx_data_buffers.specs.Bytes.{bytes_in};
 ghost use Rattle.vx_ffi_calls.specs.Stops.{IsExhausted};
 ghost use Rattle.vx_ffi_plan.specs.Kept.{IsPathsPage, IsScanPage};
 ghost use Rattle.vx_ffi_plan.specs.ScanStops.{ScanStops};
+ghost use Rattle.vx_ffi_plan.specs.Selections.{IsSelectPage, SelectStops};
 ghost use Rattle.vx_ffi_plan.specs.Held.{HeldEndsWith, NewEndsWith};
 
 use std::alloc::Global;
 use vx_data_buffers::Buffer;
 use vx_ffi_calls::{Answer, GivenQuery};
 use vx_ffi_plan::{
-    GivenBatch, PlanHandle, answer_held_paths, answer_held_scan, answer_new, free_plan,
+    Asked, GivenBatch, PlanHandle, answer_held_batch, answer_held_paths, answer_new, free_plan,
 };
 
 /// Makes the plan of the expression over batches of the schema's type: [`answer_new`].
@@ -44,7 +45,7 @@ pub extern "C" fn vx_plan_paths(
 }
 
 /// Answers what the plan's expression means at each row of the batch in the buffers, as a line of JSON
-/// each: [`answer_held_scan`].
+/// each: [`answer_held_batch`].
 #[unsafe(no_mangle)]
 pub extern "C" fn vx_plan_scan(
     alloc: Global,
@@ -57,8 +58,34 @@ pub extern "C" fn vx_plan_scan(
     ensures ends { HeldEndsWith (λ kept. IsScanPage kept rows (bytes_in buffers.now)) (λ kept. ScanStops kept rows (bytes_in buffers.now)) plan.old.plan buffer.old result buffer.new answer.new }
     ensures kept { plan.new.plan ≡ plan.old.plan }
 {
-    let batch = GivenBatch { rows, buffers };
-    answer_held_scan(alloc, plan, &batch, buffer, answer).number()
+    let batch = GivenBatch {
+        asked: Asked::Values,
+        rows,
+        buffers,
+    };
+    answer_held_batch(alloc, plan, &batch, buffer, answer).number()
+}
+
+/// Answers at which rows of the batch in the buffers the plan's expression is true, as a byte for each: 1
+/// where it is, else 0: [`answer_held_batch`].
+#[unsafe(no_mangle)]
+pub extern "C" fn vx_plan_select(
+    alloc: Global,
+    plan: &mut PlanHandle,
+    rows: usize,
+    buffers: &[Buffer<'_>],
+    buffer: &mut [u8],
+    answer: &mut Answer,
+) -> u32
+    ensures ends { HeldEndsWith (λ kept. IsSelectPage kept rows (bytes_in buffers.now)) (λ kept. SelectStops kept rows (bytes_in buffers.now)) plan.old.plan buffer.old result buffer.new answer.new }
+    ensures kept { plan.new.plan ≡ plan.old.plan }
+{
+    let batch = GivenBatch {
+        asked: Asked::Rows,
+        rows,
+        buffers,
+    };
+    answer_held_batch(alloc, plan, &batch, buffer, answer).number()
 }
 
 /// Lets go of the plan, if there is one: [`free_plan`].

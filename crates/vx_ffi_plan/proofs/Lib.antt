@@ -1,3 +1,4 @@
 mod Given
 mod AsBox
 mod Ended
+mod Stopped

@@ -1,4 +1,6 @@
 pub mod Kept
 pub mod ScanStops
+pub mod Selections
+pub mod Batches
 pub mod Handles
 pub mod Held

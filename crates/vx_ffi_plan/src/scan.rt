@@ -9,23 +9,15 @@ ghost use Rattle.vx_ffi_calls.specs.Stops.{IsExhausted};
 ghost use Rattle.vx_ffi_plan.specs.Kept.{IsScanPage, scope_of};
 ghost use Rattle.vx_ffi_plan.specs.ScanStops.{IsBadData, IsNoBatch, ScanStops};
 
+use crate::batch::{GivenBatch, boxed, scope};
 use crate::kept::KeptPlan;
 use crate::scan_stop::{buffer_stop, write_stop};
 use crate::values::values_of;
 use std::alloc::Global;
 use vx_data::write_json_lines;
-use vx_data_buffers::{Buffer, column_of};
+use vx_data_buffers::column_of;
 use vx_ffi_calls::{Answer, CallError, Status, ended};
 use vx_types::Column;
-
-/// A batch, as a call is given it.
-#[derive(Clone, Copy, Debug)]
-pub struct GivenBatch<'a> {
-    /// How many rows it has.
-    pub rows: usize,
-    /// The buffers of its column, as [`column_of`] reads them.
-    pub buffers: &'a [Buffer<'a>],
-}
 
 /// Answers what the plan's expression means at each row of the batch in the buffers, as a line of JSON
 /// each. Stops where the buffers have no batch of so many rows of the plan's type, as [`column_of`]
@@ -61,22 +53,9 @@ fn batch_of(
     ensures batch { IfOk result (λ column. column_said (bytes_in batch.now.buffers.now) (scope_of plan.now) batch.now.rows ≡ Ok column.value) }
     ensures stop { IfErr result (λ stop. IsExhausted stop ⊎ IsNoBatch plan.now batch.now.rows (bytes_in batch.now.buffers.now) stop) }
 {
-    let Ok(scope) = plan.plan.scope().clone() else {
-        return Err(CallError::out_of_memory(alloc));
-    };
-    match column_of(alloc, scope, batch.rows, batch.buffers) {
+    match column_of(alloc, scope(alloc, plan)?, batch.rows, batch.buffers) {
         Ok(column) => boxed(alloc, column),
         Err(error) => Err(buffer_stop(alloc, &error)),
-    }
-}
-
-fn boxed(alloc: Global, batch: Column) -> Result<Box<Column>, CallError>
-    ensures batch { IfOk result (λ b. b.value ≡ batch) }
-    ensures stop { IfErr result IsExhausted }
-{
-    match Box::new(alloc, batch) {
-        Ok(batch) => Ok(batch),
-        Err(_) => Err(CallError::out_of_memory(alloc)),
     }
 }
 

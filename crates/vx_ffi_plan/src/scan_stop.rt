@@ -1,22 +1,25 @@
 // What stops a scan.
-ghost use Rattle.std.specs.Prelude.{◌≡◌, ◌≢◌, ◌⊎◌, string_bytes};
+ghost use Rattle.std.specs.Prelude.{◌≡◌, ◌≢◌, ◌⊎◌, false, string_bytes};
 ghost use Rattle.vx_data_buffers.specs.declared.error.BufferError.TheVariants.{OutOfMemory};
-ghost use Rattle.vx_command_pages.specs.declared.report.Span.{Span};
 ghost use Rattle.vx_ffi_calls.specs.declared.answer.Status.TheVariants.{Faulted};
 ghost use Rattle.vx_ffi_calls.specs.declared.text.Given.TheVariants.{Expression, Records};
 ghost use Rattle.vx_ffi_calls.specs.Stops.{IsExhausted, IsPlaceIn, text_number};
-ghost use Rattle.vx_ffi_plan.specs.Kept.{scope_of};
+ghost use Rattle.vx_fn.specs.Functions.{is_truth};
+ghost use Rattle.vx_tree.specs.Trees.{node_type};
+ghost use Rattle.vx_ffi_plan.specs.Kept.{planned_tree, scope_of};
 ghost use Rattle.vx_ffi_plan.specs.ScanStops.{IsBadData, IsFaultStop};
+ghost use Rattle.vx_ffi_plan.specs.Selections.{IsNoCondition};
 
 use crate::kept::KeptPlan;
 use std::alloc::Global;
-use vx_command_pages::{Input, bind, span_at};
+use vx_command_pages::{Input, Span, bind, span_at};
 use vx_commands::{RowsError, RowsMessage};
 use vx_data::WriteError;
 use vx_data_buffers::BufferError;
 use vx_ffi_calls::{CallError, Given, Place, Status, place_of};
 use vx_places::{Place as NodePlace, first_fault_at};
 use vx_records::{RecordFault, RecordsError};
+use vx_source::TypeText;
 use vx_types::Column;
 
 /// What stops a scan whose buffers have no batch, with the row that it is on.
@@ -33,6 +36,26 @@ pub(crate) fn buffer_stop(alloc: Global, error: &BufferError) -> CallError
     };
     let message = format_args!("error: batch: {error}");
     CallError::new(alloc, Status::BadData, in_batch(record), &message)
+}
+
+/// What stops a selection of rows whose expression isn't one of truth values.
+pub(crate) fn no_condition(alloc: Global, kept: &KeptPlan) -> CallError
+    requires { is_truth (node_type (planned_tree kept.now)) ≡ false }
+    ensures { IsExhausted result ⊎ IsNoCondition kept.now result }
+{
+    let text = kept.text.as_str();
+    let span = Span {
+        start: 0,
+        end: text.len(),
+    };
+    let dtype = TypeText(kept.plan.tree().dtype());
+    let message = format_args!("error: the expression is of type {dtype}, and not of truth values");
+    CallError::new(
+        alloc,
+        Status::Refused,
+        place_of(Given::Expression, text, span),
+        &message,
+    )
 }
 
 /// What stops a scan whose answer can't be written.

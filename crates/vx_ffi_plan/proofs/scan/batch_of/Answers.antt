@@ -1,15 +1,8 @@
-use Rattle.std.proofs.Common.{◌≡◌, inl, inr, rules}
 use Rattle.vx_value.specs.Views.{type_of}
-use Rattle.vx_ffi_plan.specs.Kept.{scope_of}
+use Rattle.vx_data_buffers.specs.Bytes.{bytes_in}
+use Rattle.vx_ffi_plan.proofs.Stopped.{no_batch}
 use Rattle.vx_ffi_plan.proofs.scan.batch_of.Goals as goal
 
 pub returns-in-Err-clause-stop : goal.returns-in-Err-clause-stop
 returns-in-Err-clause-stop c =
-    let same : type_of c.in-Ok.scope ≡ scope_of c.args.plan.now = search (rules, c.in-Ok.ensures.cases, c.scope.ensures, c.deref.ensures) in
-    elim c.buffer_stop.ensures [
-      | inl exhausted ↦ inl exhausted
-      | inr bad ↦ elim c.in-Err.ensures [
-        | inl memory ↦ absurd (bad.1 memory)
-        | inr said ↦ inr (bad.0, (c.in-Err.error, rw (← same) said))
-      ]
-    ]
+    no_batch c.args.plan.now c.args.batch.now.rows (bytes_in c.args.batch.now.buffers.now) (type_of c.in_ok-scope.field-0) c.in-Err.error c.buffer_stop.result c.in_ok-scope.ensures.scope c.buffer_stop.ensures c.in-Err.ensures
