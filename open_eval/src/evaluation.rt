@@ -1,0 +1,37 @@
+// The evaluation of bound trees over arrays.
+ghost use Rattle.std.specs.Prelude.{IsErrOf};
+ghost use Rattle.vx_dtype.specs.Returns.{ReturnsOrOom};
+ghost use Rattle.vx_dtype.specs.declared.error.VortexError.TheVariants.{ScopeMismatch};
+ghost use Rattle.vx_tree.specs.Trees.{WellTyped, Over};
+ghost use Rattle.vx_tree.specs.Views.{bound_of};
+ghost use Rattle.vx_eval.specs.Evaluation.{evaluation};
+
+use crate::trees::evaluate;
+use std::alloc::Global;
+use vx_array::Array;
+use vx_tree::BoundExpression;
+use vx_types::{VortexError, VortexResult};
+
+/// The value of the tree in each row of the batch: an array of the node's type, as long as the
+/// batch, in whose rows stands what the tree's source means there. Asks a well-typed tree. Every
+/// node is evaluated, also in a branch that no row chooses.
+///
+/// Refuses with `ScopeMismatch` (12) exactly where some scope root has another type than the
+/// batch; that refusal takes no memory. Else exactly where some node faults on the batch, with the
+/// first such fault: the children's from left to right, then the node's, with its lowest row. A sum
+/// out of the range of its type is `AddOverflow` (13), a value that a cast's target doesn't take
+/// `CastNull` (14), and a fill that is null, not one value, or of a type that isn't filled
+/// `BadFill` (15). Refuses with `OutOfMemory` (1) too.
+pub fn apply_array(alloc: Global, batch: &Array, b: &BoundExpression) -> VortexResult<Array>
+    requires { WellTyped (bound_of b.now) }
+    ensures mismatch { (Over (bound_of b.now) batch.now.type → ⊥) → IsErrOf result ScopeMismatch }
+    ensures meaning { Over (bound_of b.now) batch.now.type →
+        ReturnsOrOom (λ c. c) result (evaluation (bound_of b.now) batch.now) }
+{
+    if !b.is_root_bound_to(batch.dtype()) {
+        return Err(VortexError::ScopeMismatch);
+    }
+    let lanes = evaluate(alloc, b, batch.lanes())?;
+    let dtype = b.dtype().clone()?;
+    Ok(Array::new(dtype, lanes))
+}
