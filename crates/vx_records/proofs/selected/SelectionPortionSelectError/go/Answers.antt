@@ -11,7 +11,7 @@ use Rattle.vx_records.proofs.Meaning.{meanings_of}
 use Rattle.vx_records.proofs.Selecting.{selected_fault}
 use Rattle.vx_records.proofs.Stopping.{next_reads, step_next, stops_first, stops_next}
 use Rattle.vx_records.proofs.Written.{gains_none}
-use Rattle.vx_records.proofs.selected.SelectionPortion.go.Goals as goal
+use Rattle.vx_records.proofs.selected.SelectionPortionSelectError.go.Goals as goal
 
 pub returns-in-Err-clause-stopped : goal.returns-in-Err-clause-stopped
 returns-in-Err-clause-stopped g c = stops_first g.R.RecordReader.leaves _ _ c.in-Err.e _ _ (gains_none (g.W.RowWriter.written c.args.out.now)) c.in-Err.ensures.fault

@@ -4,7 +4,7 @@ use Rattle.vx_records.specs.declared.answers.Answers.{Answers}
 use Rattle.vx_records.specs.Outcomes.{Gains}
 use Rattle.vx_records.proofs.Stopping.{err_map, next_reads, stops_first, stops_next}
 use Rattle.vx_records.proofs.Written.{gains_none}
-use Rattle.vx_records.proofs.evaluated.EvaluatedPortion.go.Goals as goal
+use Rattle.vx_records.proofs.evaluated.EvaluatedPortionRecordsError.go.Goals as goal
 
 pub returns-in-Err-clause-stopped : goal.returns-in-Err-clause-stopped
 returns-in-Err-clause-stopped g c = stops_first g.R.RecordReader.leaves _ _ c.in-Err.e _ _ (gains_none (g.W.RowWriter.written c.args.out.now)) c.in-Err.ensures.fault

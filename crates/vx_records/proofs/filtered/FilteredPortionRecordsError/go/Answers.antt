@@ -10,7 +10,7 @@ use Rattle.vx_records.specs.declared.answers.Answers.{Answers}
 use Rattle.vx_records.proofs.Going.{reads_none}
 use Rattle.vx_records.proofs.Keeping.{count_of, kept_read}
 use Rattle.vx_records.proofs.Stopping.{err_map, next_reads, ok_map, on_failed, step_next, stops_broken, stops_first, stops_next}
-use Rattle.vx_records.proofs.filtered.FilteredPortion.go.Goals as goal
+use Rattle.vx_records.proofs.filtered.FilteredPortionRecordsError.go.Goals as goal
 
 pub returns-in-Err-clause-stopped : goal.returns-in-Err-clause-stopped
 returns-in-Err-clause-stopped g c = stops_first g.R.RecordReader.leaves _ _ c.in-Err.e _ _ (Appends-nil (g.W.Write.contents c.args.out.now)) c.in-Err.ensures.fault
