@@ -16,7 +16,8 @@ enum Form {
     Boxed,
 }
 
-/// Whether the tree gives that answer over arrays of the batch's rows, too.
+/// Whether the tree gives that answer over arrays of the batch's rows, too, unless memory ran out for it.
+/// Refuses with `OutOfMemory` where it does over an array.
 pub fn arrays_agree(
     alloc: Global,
     batch: &Column,
@@ -28,7 +29,10 @@ pub fn arrays_agree(
     for form in [Form::Buffers, Form::Slice, Form::Boxed] {
         let array = Box::new(alloc, array(alloc, form, batch)?)?;
         let found = Box::new(alloc, evaluated(alloc, &array, tree))?;
-        if !is_same(answer, &found) {
+        if is_exhausted(&found) {
+            return Err(VortexError::OutOfMemory);
+        }
+        if !is_exhausted(answer) && !is_same(answer, &found) {
             return Ok(false);
         }
     }
@@ -75,6 +79,11 @@ fn evaluated(alloc: Global, array: &Array, tree: &BoundExpression) -> VortexResu
     requires { WellTyped (bound_of tree.now) }
 {
     apply_array(alloc, array, tree)?.to_column(alloc)
+}
+
+// Whether memory ran out.
+fn is_exhausted(answer: &VortexResult<Column>) -> bool {
+    matches!(answer, Err(VortexError::OutOfMemory))
 }
 
 // Whether both are the same rows of one type, or one fault in the same row.
