@@ -4,10 +4,10 @@ use Rattle.std.specs.Prelude.{IsSome, IsErr, option_and_then}
 use Rattle.vx_dtype.specs.declared.error.VortexError.{VortexError}
 use Rattle.vx_dtype.proofs.Lists.{drop_next}
 use Rattle.vx_value.specs.Types.{LogicalType}
-use Rattle.vx_fn.specs.Functions.{Function, fn_type}
+use Rattle.vx_fn.specs.Functions.{fn_type}
 use Rattle.vx_tree.specs.declared.expression.Expression.{Expression}
-use Rattle.vx_tree.specs.Nodes.{tree_at}
-use Rattle.vx_tree.specs.Trees.{Tree, call, Trees, on_ok, typed, each_typed}
+use Rattle.vx_tree.specs.Nodes.{tree_at, children_of}
+use Rattle.vx_tree.specs.Trees.{Tree, root, call, Trees, no_tree, on_ok, typed, each_typed}
 use Rattle.vx_tree.specs.Views.{tree_of, trees_of}
 use Rattle.vx_places.specs.Nodes.{node_at}
 use Rattle.vx_places.specs.Refusals.{IsFirstRefusal, here, below, IsFirstRefusalIn, this_one, later_one}
@@ -33,15 +33,20 @@ mutual
 pub is_refused : {s : LogicalType} {e : Tree} {path : List ℕ} {r : VortexError} → IsFirstRefusal s e path r → IsErr (typed e s)
 is_refused h = rw (refused h) refl
 
--- ---- a node of a function over children
+-- ---- a node and its children
 
--- the node refuses over the types below it
-pub refuses_here : (s : LogicalType) (e : Tree) (f : Function) (es : Trees) (ts : List LogicalType) (r : VortexError) → e ≡ call f es → each_typed es s ≡ Ok ts → fn_type f ts ≡ Err r → IsFirstRefusal s e [] r
-refuses_here s e f es ts r is typed_so refuses = subst (λ x. IsFirstRefusal s x [] r) (sym is) (here typed_so refuses)
+-- the node refuses over its children's types
+pub refuses_here : (s : LogicalType) (e : Tree) (ts : List LogicalType) (r : VortexError) → each_typed (children_of e) s ≡ Ok ts → typed e s ≡ Err r → IsFirstRefusal s e [] r
+refuses_here s root ts r has refuses = absurd (cc)
+refuses_here s (call f es) ts r has refuses = here has (sym (ap (on_ok (fn_type f)) has) ∙ refuses)
+
+none_refused_in : {s : LogicalType} {i : ℕ} {path : List ℕ} {r : VortexError} → IsFirstRefusalIn s no_tree i path r → ⊥
+none_refused_in h = elim h [ ]
 
 -- one of its children does
-pub refuses_below : (s : LogicalType) (e : Tree) (f : Function) (es : Trees) (i : ℕ) (rest : List ℕ) (r : VortexError) → e ≡ call f es → IsFirstRefusalIn s es i rest r → IsFirstRefusal s e (i ∷ rest) r
-refuses_below s e f es i rest r is found = subst (λ x. IsFirstRefusal s x (i ∷ rest) r) (sym is) (below found)
+pub refuses_below : (s : LogicalType) (e : Tree) (es : Trees) (i : ℕ) (rest : List ℕ) (r : VortexError) → es ≡ children_of e → IsFirstRefusalIn s es i rest r → IsFirstRefusal s e (i ∷ rest) r
+refuses_below s root es i rest r those found = absurd (none_refused_in (subst (λ xs. IsFirstRefusalIn s xs i rest r) those found))
+refuses_below s (call f all) es i rest r those found = below (subst (λ xs. IsFirstRefusalIn s xs i rest r) those found)
 
 -- ---- the trees before a place have types
 

@@ -4,22 +4,15 @@ use Rattle.std.specs.declared.alloc.Global.{Global}
 use Rattle.std.specs.declared.sync.Arc.{Arc}
 use Rattle.vx_dtype.specs.declared.dtype.DType.{DType}
 use Rattle.vx_fn.specs.declared.function.ScalarFnRef.{ScalarFnRef}
-use Rattle.vx_fn.specs.Views.{function_of}
 use Rattle.vx_tree.specs.declared.bound.BoundExpression as Bound
 use Rattle.vx_tree.specs.declared.bound.BoundExpression.{BoundExpression}
-use Rattle.vx_tree.specs.declared.expression.Expression as Unbound
-use Rattle.vx_tree.specs.declared.expression.Expression.{Expression}
 use Rattle.std.proofs.lemmas.List.{drop_more}
 use Rattle.std.specs.Prelude.{option_and_then}
 use Rattle.vx_tree.specs.Nodes.{tree_at, children_of, bound_children_of}
-use Rattle.vx_tree.specs.Trees.{Tree, call, node}
-use Rattle.vx_tree.specs.Views.{tree_of, trees_of, trees_from, bound_of, bounds_of}
-use Rattle.vx_tree.proofs.Held.{bound_of-Scalar, tree_of-Scalar}
+use Rattle.vx_tree.specs.Trees.{Tree}
+use Rattle.vx_tree.specs.Views.{trees_from, bound_of, bounds_of}
+use Rattle.vx_tree.proofs.Held.{bound_of-Scalar}
 use Rattle.vx_places.specs.Nodes.{node_at}
-
--- a function node over the children that it holds
-pub seen_call : (e : Expression) (f : ScalarFnRef) (all : Arc (Vec Expression Global) Global) (children : List Expression) → e ≡ Unbound.Scalar f all → children ≡ all.value.items → tree_of e ≡ call (function_of f) (trees_of children)
-seen_call e f all children is those = rw (is, tree_of-Scalar f all, ← those) refl
 
 -- the children of a bound node are those that it holds
 pub seen_children : (e : BoundExpression) (t : DType) (f : ScalarFnRef) (all : Arc (Vec BoundExpression Global) Global) (children : List BoundExpression) → e ≡ Bound.Scalar t f all → children ≡ all.value.items → bound_children_of (bound_of e) ≡ bounds_of children

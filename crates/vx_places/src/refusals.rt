@@ -2,10 +2,7 @@
 ghost use Rattle.std.specs.Prelude.{◌≡◌, ◌↔◌, ℕ, map, Ok, Err, IfOk, IfErr, IfSome, IsSome, IsErr, OnOk};
 ghost use Rattle.vx_dtype.specs.declared.error.VortexError.TheVariants.{OutOfMemory};
 ghost use Rattle.vx_value.specs.Views.{type_of};
-ghost use Rattle.vx_fn.specs.Functions.{fn_type};
-ghost use Rattle.vx_fn.specs.Views.{function_of};
-ghost use Rattle.vx_tree.specs.Pushed.{Pushes};
-ghost use Rattle.vx_tree.specs.Trees.{root, typed, each_typed};
+ghost use Rattle.vx_tree.specs.Trees.{typed, each_typed};
 ghost use Rattle.vx_tree.specs.Views.{tree_of, trees_of};
 ghost use Rattle.vx_places.specs.Nodes.{node_at};
 ghost use Rattle.vx_places.specs.Refusals.{IsFirstRefusal, IsFirstRefusalIn};
@@ -13,8 +10,7 @@ ghost use Rattle.vx_places.specs.Walked.{Adds, LeadsToNode, LeadsBelow};
 
 use crate::place::{Place, placed};
 use std::alloc::Global;
-use vx_fn::ScalarFnRef;
-use vx_tree::Expression;
+use vx_tree::{Expression, push_type_over};
 use vx_types::{DType, VortexResult};
 
 /// The place of the first refusal of binding the tree to that type, None exactly where
@@ -39,8 +35,7 @@ pub fn first_refusal_at(alloc: Global, e: &Expression, scope: &DType) -> VortexR
     }
 }
 
-// The types of the trees, or the first refusal, and then the path leads to its node. What makes a
-// type stands in functions that aren't inlined, so that it has no place in the frame of each level.
+// The types of the trees, or the first refusal, and then the path leads to its node.
 #[cycle(refusal)]
 fn type_all(
     alloc: Global,
@@ -72,37 +67,6 @@ fn push_type(
     ensures types { OnOk result (Adds type_of types.old.items (typed (tree_of e.now) (type_of scope.now)) types.new.items) }
     ensures place { LeadsToNode (IsFirstRefusal (type_of scope.now) (tree_of e.now)) path.old.items result path.new.items }
 {
-    match e {
-        Expression::Root => push_scope(scope, types),
-        Expression::Scalar {
-            scalar_fn,
-            children,
-        } => {
-            let below = type_all(alloc, children.as_slice(), scope, path)?;
-            push_call(alloc, scalar_fn, below.as_slice(), types)
-        }
-    }
-}
-
-// Adds the scope's type.
-#[inline(never)]
-fn push_scope(scope: &DType, types: &mut Vec<DType>) -> VortexResult<()>
-    ensures { Pushes type_of types.old.items result (typed root (type_of scope.now)) types.new.items }
-{
-    types.push(scope.clone()?)?;
-    Ok(())
-}
-
-// Adds the type of the function over the types below.
-#[inline(never)]
-fn push_call(
-    alloc: Global,
-    scalar_fn: &ScalarFnRef,
-    below: &[DType],
-    types: &mut Vec<DType>,
-) -> VortexResult<()>
-    ensures { Pushes type_of types.old.items result (fn_type (function_of scalar_fn.now) (map type_of below.now)) types.new.items }
-{
-    types.push(scalar_fn.return_dtype(alloc, below)?)?;
-    Ok(())
+    let below = type_all(alloc, e.children(), scope, path)?;
+    push_type_over(alloc, e, scope, below.as_slice(), types)
 }

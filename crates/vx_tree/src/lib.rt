@@ -36,6 +36,7 @@ pub use laws::{
 };
 pub use node::TreeNode;
 pub use scope::Scope;
+pub use typing::push_type_over;
 pub use vx_fn::{
     Between, BetweenOptions, Binary, CaseWhen, CaseWhenOptions, Cast, ChildName, EmptyOptions,
     FieldSelection, FillNull, GetItem, IsNotNull, IsNull, Like, LikeOptions, Literal, Mask, Not,

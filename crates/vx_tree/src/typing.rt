@@ -1,16 +1,14 @@
 // The type of an expression over a scope, with no bound tree built.
-ghost use Rattle.std.specs.Prelude.{◌≡◌, ℕ, map};
+ghost use Rattle.std.specs.Prelude.{◌≡◌, ℕ, map, Ok};
 ghost use Rattle.vx_value.specs.Returns.{ReturnsOrOom};
 ghost use Rattle.vx_value.specs.Views.{type_of};
-ghost use Rattle.vx_fn.specs.Functions.{fn_type};
-ghost use Rattle.vx_fn.specs.Views.{function_of};
+ghost use Rattle.vx_tree.specs.Nodes.{children_of};
 ghost use Rattle.vx_tree.specs.Pushed.{Pushes};
-ghost use Rattle.vx_tree.specs.Trees.{root, typed, each_typed};
+ghost use Rattle.vx_tree.specs.Trees.{typed, each_typed};
 ghost use Rattle.vx_tree.specs.Views.{tree_of, trees_of};
 
 use crate::Expression;
 use std::alloc::Global;
-use vx_fn::ScalarFnRef;
 use vx_types::{DType, VortexResult};
 
 impl Expression {
@@ -23,26 +21,12 @@ impl Expression {
     pub fn return_dtype(&self, alloc: Global, scope: &DType) -> VortexResult<DType>
         ensures { ReturnsOrOom type_of result (typed (tree_of self.now) (type_of scope.now)) }
     {
-        type_one(alloc, self, scope)
+        let below = type_all(alloc, self.children(), scope)?;
+        type_over(alloc, self, scope, below.as_slice())
     }
 }
 
-fn type_one(alloc: Global, e: &Expression, scope: &DType) -> VortexResult<DType>
-    ensures { ReturnsOrOom type_of result (typed (tree_of e.now) (type_of scope.now)) }
-{
-    match e {
-        Expression::Root => Ok(scope.clone()?),
-        Expression::Scalar {
-            scalar_fn,
-            children,
-        } => {
-            let types = type_all(alloc, children.as_slice(), scope)?;
-            scalar_fn.return_dtype(alloc, types.as_slice())
-        }
-    }
-}
-
-// The recursion. What makes a type stands in functions that aren't inlined, so that it has no place
+// The recursion. What makes a type stands in a function that isn't inlined, so that it has no place
 // in the frame of each level.
 #[cycle(typing)]
 fn type_all(alloc: Global, es: &[Expression], scope: &DType) -> VortexResult<Vec<DType>>
@@ -65,37 +49,37 @@ fn push_type(
 ) -> VortexResult<()>
     ensures { Pushes type_of types.old.items result (typed (tree_of e.now) (type_of scope.now)) types.new.items }
 {
-    match e {
-        Expression::Root => push_scope(scope, types),
-        Expression::Scalar {
-            scalar_fn,
-            children,
-        } => {
-            let below = type_all(alloc, children.as_slice(), scope)?;
-            push_call(alloc, scalar_fn, below.as_slice(), types)
-        }
-    }
+    let below = type_all(alloc, e.children(), scope)?;
+    push_type_over(alloc, e, scope, below.as_slice(), types)
 }
 
-// Adds the scope's type.
+/// Adds the type of the tree over a scope of that type behind the others. Asks for the types of its
+/// children, none at a scope root, and types the node alone.
+///
+/// Where the node's function gives no type, its refusal is answered and nothing is added:
+/// `ArityMismatch` (2) before those of the function (4 to 11).
 #[inline(never)]
-fn push_scope(scope: &DType, types: &mut Vec<DType>) -> VortexResult<()>
-    ensures { Pushes type_of types.old.items result (typed root (type_of scope.now)) types.new.items }
-{
-    types.push(scope.clone()?)?;
-    Ok(())
-}
-
-// Adds the type of the function over the types below.
-#[inline(never)]
-fn push_call(
+pub fn push_type_over(
     alloc: Global,
-    scalar_fn: &ScalarFnRef,
+    e: &Expression,
+    scope: &DType,
     below: &[DType],
     types: &mut Vec<DType>,
 ) -> VortexResult<()>
-    ensures { Pushes type_of types.old.items result (fn_type (function_of scalar_fn.now) (map type_of below.now)) types.new.items }
+    requires { each_typed (children_of (tree_of e.now)) (type_of scope.now) ≡ Ok (map type_of below.now) }
+    ensures { Pushes type_of types.old.items result (typed (tree_of e.now) (type_of scope.now)) types.new.items }
 {
-    types.push(scalar_fn.return_dtype(alloc, below)?)?;
+    types.push(type_over(alloc, e, scope, below)?)?;
     Ok(())
+}
+
+// The type of the tree over its children's types.
+fn type_over(alloc: Global, e: &Expression, scope: &DType, below: &[DType]) -> VortexResult<DType>
+    requires { each_typed (children_of (tree_of e.now)) (type_of scope.now) ≡ Ok (map type_of below.now) }
+    ensures { ReturnsOrOom type_of result (typed (tree_of e.now) (type_of scope.now)) }
+{
+    match e.as_scalar() {
+        None => Ok(scope.clone()?),
+        Some(scalar_fn) => scalar_fn.return_dtype(alloc, below),
+    }
 }

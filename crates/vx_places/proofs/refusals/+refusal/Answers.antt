@@ -1,35 +1,50 @@
-use Rattle.std.proofs.Common.{◌≡◌, ◌∙◌, Err, ap, sym, subst, arith, rules}
-use Rattle.vx_fn.specs.Views.{function_of}
+use Rattle.std.proofs.Common.{◌≡◌, ◌∙◌, map, Ok, Err, ap, sym, subst, arith, rules}
 use Rattle.vx_value.specs.Views.{type_of}
+use Rattle.vx_tree.specs.Nodes.{children_of, sizes_of}
+use Rattle.vx_tree.specs.Trees.{each_typed}
 use Rattle.vx_tree.specs.Views.{tree_of, trees_of}
+use Rattle.vx_tree.proofs.Seen.{item_smaller, sizes_of-children}
 use Rattle.vx_tree.proofs.Typings.{next, end}
 use Rattle.vx_places.specs.Refusals.{IsFirstRefusal, IsFirstRefusalIn}
 use Rattle.vx_places.specs.Walked.{LeadsToNode, LeadsBelow}
-use Rattle.vx_places.proofs.SeenNodes.{seen_call}
 use Rattle.vx_places.proofs.Places.{in_child, in_node, pushed_at, popped}
 use Rattle.vx_places.proofs.Refused.{refuses_here, refuses_below, passed_one, passed_to}
 use Rattle.vx_places.proofs.refusals.+refusal.Goals as goal
 
-pub push_type-returns-in_err-below-in-Scalar-clause-place : goal.push_type-returns-in_err-below-in-Scalar-clause-place
-push_type-returns-in_err-below-in-Scalar-clause-place t c =
+pub push_type-type_all-requires : goal.push_type-type_all-requires
+push_type-type_all-requires t c =
+    let below = sizes_of-children (tree_of c.args.e.now) in
+    let those = ap sizes_of c.children.ensures.trees in
+    (omega (arith, below, those, c.decreases), tt)
+
+pub type_all-push_type-requires : goal.type_all-push_type-requires
+type_all-push_type-requires t c =
+    let below = item_smaller tree_of c.args.es.now c.loop-i.i c.index-es-i.result (omega arith) c.index-es-i.is in
+    (omega (arith, below, c.decreases), tt)
+
+pub push_type-returns-in_err-below-clause-place : goal.push_type-returns-in_err-below-clause-place
+push_type-returns-in_err-below-clause-place t c =
     let s = type_of c.args.scope.now in
     let e = tree_of c.args.e.now in
-    let es = trees_of c.as_slice.result.now in
-    let r = c.in_err-below-in-Scalar.field-0.0 in
-    let seen = seen_call _ _ _ c.as_slice.result.now c.in-Scalar.is (c.as_slice.ensures.value ∙ ap (λ v. v.items) c.deref.ensures) in
+    let es = trees_of c.children.result.now in
+    let r = c.in_err-below.field-0.0 in
     let place = in_node (IsFirstRefusal s e) (IsFirstRefusalIn s es) c.args.path.now.items c.type_all.new.path.items r
-    (λ i rest h. refuses_below s e (function_of c.in-Scalar.scalar_fn) es i rest r seen h) c.in_err-below-in-Scalar.ensures.place in
+    (λ i rest h. refuses_below s e es i rest r c.children.ensures.trees h) c.in_err-below.ensures.place in
     let is : c.from_residual.result ≡ Err r = search rules in
     subst (λ x. LeadsToNode (IsFirstRefusal s e) c.args.path.now.items x c.type_all.new.path.items) (sym is) place
 
-pub push_type-returns-in_ok-below-in-Scalar-clause-place : goal.push_type-returns-in_ok-below-in-Scalar-clause-place
-push_type-returns-in_ok-below-in-Scalar-clause-place t c =
+pub push_type-push_type_over-requires : goal.push_type-push_type_over-requires
+push_type-push_type_over-requires t c =
+    let s = type_of c.args.scope.now in
+    ap (λ es. each_typed es s) (sym c.children.ensures.trees) ∙ c.in_ok-below.ensures.types ∙ ap (λ ds. Ok (map type_of ds)) (sym c.as_slice.ensures.value)
+
+pub push_type-returns-clause-place : goal.push_type-returns-clause-place
+push_type-returns-clause-place t c =
     let s = type_of c.args.scope.now in
     let e = tree_of c.args.e.now in
-    let es = trees_of c.as_slice.result.now in
-    let seen = seen_call _ _ _ c.as_slice.result.now c.in-Scalar.is (c.as_slice.ensures.value ∙ ap (λ v. v.items) c.deref.ensures) in
-    pushed_at type_of (IsFirstRefusal s e) c.args.path.now.items c.type_all.new.path.items _ _ c.push_call.result _ c.in_ok-below-in-Scalar.ensures.place
-    (λ r h. refuses_here s e (function_of c.in-Scalar.scalar_fn) es _ r seen c.in_ok-below-in-Scalar.ensures.types (rw c.as_slice-in-Scalar.ensures.value at h)) c.push_call.ensures
+    let has : each_typed (children_of e) s ≡ Ok (map type_of c.in_ok-below.below.items) = ap (λ es. each_typed es s) (sym c.children.ensures.trees) ∙ c.in_ok-below.ensures.types in
+    pushed_at type_of (IsFirstRefusal s e) c.args.path.now.items c.type_all.new.path.items _ _ c.push_type_over.result _ c.in_ok-below.ensures.place
+    (λ r h. refuses_here s e _ r has h) c.push_type_over.ensures
 
 pub type_all-returns-in_err-push_type-clause-place : goal.type_all-returns-in_err-push_type-clause-place
 type_all-returns-in_err-push_type-clause-place t c =
