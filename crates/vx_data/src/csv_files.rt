@@ -14,7 +14,7 @@ mod write;
 
 pub use format::CsvFormat;
 pub use infer::{infer_csv_type, infer_csv_type_by, infer_csv_type_with};
-pub use parser::CsvParser;
+pub use parser::{CsvParser, FirstRecord};
 pub use records::CsvRecords;
 pub use rows::{rows_from_csv, rows_from_csv_with};
 pub use write::{CsvWriter, write_csv};

@@ -15,7 +15,7 @@ mod wholes;
 
 pub use builder::ColumnBuilder;
 pub use csv_files::{
-    CsvFormat, CsvParser, CsvRecords, CsvWriter, infer_csv_type, infer_csv_type_by,
+    CsvFormat, CsvParser, CsvRecords, CsvWriter, FirstRecord, infer_csv_type, infer_csv_type_by,
     infer_csv_type_with, rows_from_csv, rows_from_csv_with, write_csv,
 };
 pub use error::{DataError, WriteError};

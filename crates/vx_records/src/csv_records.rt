@@ -4,7 +4,7 @@ ghost use Rattle.vx_value.specs.Views.{type_of};
 use crate::{Record, RecordReader};
 use std::alloc::Global;
 use std::io::Read;
-use vx_data::{CsvFormat, CsvParser, CsvRecords, DataError, OtherFields};
+use vx_data::{CsvFormat, CsvParser, CsvRecords, DataError, FirstRecord, OtherFields};
 use vx_types::DType;
 
 /// The records of a CSV file behind its header, if it has one, as rows of a type. In memory are one record and the
@@ -47,8 +47,11 @@ impl<R: Read + Drop> CsvRows<R> {
     ) -> Result<CsvRows<R>, DataError> {
         let mut records = CsvRecords::with_format(alloc, reader, format);
         records.read_first()?;
-        let (line, first) = (records.line(), records.cells());
-        let parser = CsvParser::with_others(alloc, &dtype, line, first, format, others)?;
+        let first = FirstRecord {
+            line: records.line(),
+            cells: records.cells(),
+        };
+        let parser = CsvParser::with_others(alloc, &dtype, first, format, others)?;
         let mut head = Vec::new(alloc);
         if format.has_header {
             head.extend_from_slice(records.record())?;

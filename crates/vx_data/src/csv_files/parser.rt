@@ -22,6 +22,15 @@ pub struct CsvParser {
     null: Option<String>,
 }
 
+/// The first record of a file, which names the cells where the file has a header, and the line that it stands on.
+#[derive(Clone, Copy)]
+pub struct FirstRecord<'a> {
+    /// The line.
+    pub line: u64,
+    /// The record.
+    pub cells: &'a ByteRecord,
+}
+
 impl CsvParser {
     /// A parser of the records behind that header, which stands on that line. The header has the names of the type's
     /// cells in any order: of a field of a field with a dot between the names, and `value` where the type is no struct. A
@@ -46,21 +55,21 @@ impl CsvParser {
         first: &ByteRecord,
         format: CsvFormat<'_>,
     ) -> Result<CsvParser, DataError> {
-        CsvParser::with_others(alloc, dtype, line, first, format, OtherFields::Refused)
+        let first = FirstRecord { line, cells: first };
+        CsvParser::with_others(alloc, dtype, first, format, OtherFields::Refused)
     }
 
     /// The same, where that becomes of cells whose names are none of the type.
     pub fn with_others(
         alloc: Global,
         dtype: &DType,
-        line: u64,
-        first: &ByteRecord,
+        first: FirstRecord<'_>,
         format: CsvFormat<'_>,
         others: OtherFields,
     ) -> Result<CsvParser, DataError> {
-        match parser_of(alloc, dtype, first, format, others) {
+        match parser_of(alloc, dtype, first.cells, format, others) {
             Ok(parser) => Ok(parser),
-            Err(fault) => Err(fault.on_line(alloc, line)),
+            Err(fault) => Err(fault.on_line(alloc, first.line)),
         }
     }
 
