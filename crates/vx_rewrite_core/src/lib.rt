@@ -12,7 +12,7 @@ mod whole;
 pub use keep_laws::{
     keeps_is_reflexive, keeps_is_transitive, keeps_the_meaning, keeps_under_nodes,
 };
-pub use nodes::{as_type, copies, first_two, literal_value, node, null_of, only, pair, triple};
+pub use nodes::{as_type, copies, first_two, literal_value, null_of, only, pair, triple};
 pub use optimizer_laws::{normal_is_final, steps_keep};
 pub use root::{optimize_root, optimized_root};
 pub use rule::Rule;

@@ -4,28 +4,13 @@ ghost use Rattle.std.specs.Option.{option_map};
 ghost use Rattle.vx_value.specs.Returns.{ReturnsOrOom};
 ghost use Rattle.vx_value.specs.Types.{is_nullable, null};
 ghost use Rattle.vx_value.specs.Views.{type_of};
-ghost use Rattle.vx_fn.specs.Views.{function_of};
 ghost use Rattle.vx_rewrite_core.specs.Nodes.{as_type, first_two, literal_node, literal_value, only_one, three_of, two_of};
-ghost use Rattle.vx_tree.specs.Trees.{node};
 ghost use Rattle.vx_tree.specs.Views.{bound_of, bounds_of};
 
 use std::alloc::{AllocError, Global};
 use vx_fn::ScalarFnRef;
 use vx_tree::{BoundExpression, VortexResult};
 use vx_types::{DType, Scalar};
-
-/// The node of that type and function over the children, as [`BoundExpression::new_typed`] makes it:
-/// what it is typed is for its caller to know. Refuses with `OutOfMemory` (1) alone.
-pub fn node(
-    alloc: Global,
-    dtype: DType,
-    scalar_fn: ScalarFnRef,
-    children: Vec<BoundExpression>,
-) -> VortexResult<BoundExpression>
-    ensures { ReturnsOrOom bound_of result (Ok (node (type_of dtype) (function_of scalar_fn) (bounds_of children.items))) }
-{
-    BoundExpression::new_typed(alloc, dtype, scalar_fn, children)
-}
 
 /// The value of a literal, with its type; None for any other tree.
 pub fn literal_value(node: &BoundExpression) -> Option<&Scalar>
@@ -96,7 +81,7 @@ pub fn as_type(
         return Ok(tree.clone()?);
     }
     let children = vec![in alloc; tree.clone()?]?;
-    node(
+    BoundExpression::new_typed(
         alloc,
         dtype.clone()?,
         ScalarFnRef::Cast(dtype.clone()?),
@@ -111,7 +96,7 @@ pub fn null_of(alloc: Global, dtype: &DType) -> VortexResult<BoundExpression>
     requires { IsTrue (is_nullable (type_of dtype.now)) }
     ensures { ReturnsOrOom bound_of result (Ok (literal_node (type_of dtype.now) null)) }
 {
-    node(
+    BoundExpression::new_typed(
         alloc,
         dtype.clone()?,
         ScalarFnRef::Literal(Scalar::null(dtype.clone()?)),

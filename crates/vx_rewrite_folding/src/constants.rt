@@ -16,7 +16,7 @@ ghost use Rattle.vx_tree.specs.Views.{bound_of, bounds_of};
 use std::alloc::Global;
 use vx_eval::apply_bound;
 use vx_fn::ScalarFnRef;
-use vx_rewrite_core::{literal_value, node};
+use vx_rewrite_core::literal_value;
 use vx_tree::{BoundExpression, VortexResult};
 use vx_types::{Column, DType, Nullability, Scalar, Value, VortexError};
 
@@ -115,5 +115,5 @@ fn literal(alloc: Global, scalar: Scalar) -> VortexResult<BoundExpression>
     ensures { ReturnsOrOom bound_of result (Ok (literal_node scalar.type scalar.value)) }
 {
     let dtype = scalar.dtype().clone()?;
-    node(alloc, dtype, ScalarFnRef::Literal(scalar), Vec::new(alloc))
+    BoundExpression::new_typed(alloc, dtype, ScalarFnRef::Literal(scalar), Vec::new(alloc))
 }

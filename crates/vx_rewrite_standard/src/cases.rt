@@ -9,7 +9,7 @@ ghost use Rattle.vx_tree.specs.Views.{bound_of};
 
 use std::alloc::Global;
 use vx_fn::{CaseWhenOptions, EmptyOptions, FillNull, ScalarFnRef};
-use vx_rewrite_core::{literal_value, node, only};
+use vx_rewrite_core::{literal_value, only};
 use vx_tree::{BoundExpression, VortexResult};
 use vx_types::Scalar;
 
@@ -119,7 +119,7 @@ fn fill(
 {
     let dtype = input.dtype().clone()?;
     let children = vec![in alloc; input.clone()?, fill_value.clone()?]?;
-    node(
+    BoundExpression::new_typed(
         alloc,
         dtype.with_nullability(fill_value.dtype().nullability()),
         ScalarFnRef::FillNull(EmptyOptions),

@@ -12,7 +12,6 @@ ghost use Rattle.vx_tree.specs.Views.{bound_of, bounds_of};
 
 use std::alloc::{AllocError, Global};
 use vx_fn::{EmptyOptions, FieldSelection, Pack, PackOptions, ScalarFnRef};
-use vx_rewrite_core::node;
 use vx_tree::{BoundExpression, VortexResult};
 use vx_types::{DType, FieldName, FieldNames, Nullability, Scalar, StructFields};
 
@@ -47,14 +46,14 @@ pub(crate) fn item_of_pack(
 fn masked(alloc: Global, input: &BoundExpression) -> VortexResult<BoundExpression>
     ensures { ReturnsOrOom bound_of result (Ok (mask_node (bound_of input.now))) }
 {
-    let every_row = node(
+    let every_row = BoundExpression::new_typed(
         alloc,
         DType::Bool(Nullability::NonNullable),
         ScalarFnRef::Literal(Scalar::from_bool(true)),
         Vec::new(alloc),
     )?;
     let children = vec![in alloc; input.clone()?, every_row]?;
-    node(
+    BoundExpression::new_typed(
         alloc,
         input.dtype().clone()?.as_nullable(),
         ScalarFnRef::Mask(EmptyOptions),
@@ -97,7 +96,7 @@ fn none_of(
         names: FieldNames::empty(alloc)?,
         nullability: dtype.nullability(),
     };
-    Ok(Some(node(
+    Ok(Some(BoundExpression::new_typed(
         alloc,
         dtype.clone()?,
         ScalarFnRef::Pack(options),
@@ -134,7 +133,7 @@ fn some_of(
         names,
         nullability: options.nullability,
     };
-    Ok(Some(node(alloc, dtype.clone()?, ScalarFnRef::Pack(options), kept)?))
+    Ok(Some(BoundExpression::new_typed(alloc, dtype.clone()?, ScalarFnRef::Pack(options), kept)?))
 }
 
 // Whether the type of each field is nullable.
