@@ -4,7 +4,38 @@ use Rattle.std.specs.Prelude.{codes}
 use Rattle.vx_source_types.specs.declared.token.Sign.TheVariants.{CloseParen, Colon, Equal}
 use Rattle.vx_source_types.specs.Tokens.{Lexeme, sign}
 use Rattle.vx_source_grammar.specs.OptionReading.{is_keyword}
-use Rattle.vx_source_operands.specs.Parts.{assigned, case_else, labelled, labelled_last}
+use Rattle.vx_source_operands.specs.Parts.{assigned, behind_word, case_else, labelled, labelled_last}
+
+-- the token behind a colon, or an equals sign
+abbrev at_colon : Option (Lexeme × Lexeme × List Lexeme) → Option (Lexeme × List Lexeme)
+at_colon (Some (sign Colon, x, xs)) = Some (x, xs)
+at_colon o = None
+
+abbrev at_equal : Option (Lexeme × Lexeme × List Lexeme) → Option (Lexeme × List Lexeme)
+at_equal (Some (sign Equal, x, xs)) = Some (x, xs)
+at_equal o = None
+
+module _ (at : Option (Lexeme × Lexeme × List Lexeme) → Option (Lexeme × List Lexeme)) (none : ◌≡◌ {A = Option (Lexeme × List Lexeme)} None (at None)) where
+  sign_here : (b : Bool) (s x : Lexeme) (xs : List Lexeme) → ◌≡◌ {A = Option (Lexeme × List Lexeme)} (Some (x, xs)) (at (Some (s, x, xs)))
+      → (elim b as (λ _. Option (Lexeme × List Lexeme)) [ true ↦ Some (x, xs) | false ↦ None ])
+      ≡ at (elim b as (λ _. Option (Lexeme × Lexeme × List Lexeme)) [ true ↦ Some (s, x, xs) | false ↦ None ])
+  sign_here true s x xs h = h
+  sign_here false s x xs h = none
+
+  no_sign : (b : Bool) (s x : Lexeme) (xs : List Lexeme) → ◌≡◌ {A = Option (Lexeme × List Lexeme)} None (at (Some (s, x, xs)))
+      → ◌≡◌ {A = Option (Lexeme × List Lexeme)} None (at (elim b as (λ _. Option (Lexeme × Lexeme × List Lexeme)) [ true ↦ Some (s, x, xs) | false ↦ None ]))
+  no_sign true s x xs h = h
+  no_sign false s x xs h = none
+
+pub labelled_is : (w : List ℕ) (xs : List Lexeme) → labelled w xs ≡ at_colon (behind_word w xs)
+labelled_is w (a ∷ sign Colon ∷ x ∷ xs) = sign_here at_colon refl (is_keyword w a) (sign Colon) x xs refl
+labelled_is w (a ∷ s ∷ x ∷ xs) = no_sign at_colon refl (is_keyword w a) s x xs refl
+labelled_is w xs = refl
+
+pub assigned_is : (w : List ℕ) (xs : List Lexeme) → assigned w xs ≡ at_equal (behind_word w xs)
+assigned_is w (a ∷ sign Equal ∷ x ∷ xs) = sign_here at_equal refl (is_keyword w a) (sign Equal) x xs refl
+assigned_is w (a ∷ s ∷ x ∷ xs) = no_sign at_equal refl (is_keyword w a) s x xs refl
+assigned_is w xs = refl
 
 -- the token, where nothing is left behind it, or a closing parenthesis
 abbrev alone : Option (Lexeme × List Lexeme) → Option Lexeme

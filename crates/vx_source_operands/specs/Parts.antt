@@ -11,6 +11,11 @@ use Rattle.vx_source_types.specs.Tokens.{Lexeme, word, quoted, sign}
 use Rattle.vx_source_types.specs.Reading.{Goes, more, done, Step, refused}
 use Rattle.vx_source_grammar.specs.OptionReading.{is_keyword, read_all, operator_read, like_read, between_read, case_read}
 
+-- the two tokens behind that word, and what is left behind them
+abbrev pub behind_word : List ℕ → List Lexeme → Option (Lexeme × Lexeme × List Lexeme)
+behind_word w (a ∷ s ∷ x ∷ xs) = elim (is_keyword w a) [ true ↦ Some (s, x, xs) | false ↦ None ]
+behind_word w xs = None
+
 -- the token behind that word and a colon, and what is left behind it
 abbrev pub labelled : List ℕ → List Lexeme → Option (Lexeme × List Lexeme)
 labelled w (a ∷ sign Colon ∷ x ∷ xs) = elim (is_keyword w a) [ true ↦ Some (x, xs) | false ↦ None ]

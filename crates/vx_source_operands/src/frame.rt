@@ -116,37 +116,37 @@ impl Level {
     }
 }
 
-// How tightly the operator of a chain binds: `or`, or what is read like `and`.
-fn chain_level(operator: Operator) -> Level
-    ensures { (items : List Tree) → level_of (in_chain (operation_of operator) items) ≡ rank_of result }
+// How tightly an operator binds: in a chain, where all but `or` is read like `and`, and between two
+// operands.
+#[derive(Clone, Copy)]
+struct Levels {
+    in_chain: Level,
+    between: Level,
+}
+
+fn levels_of(operator: Operator) -> Levels
+    ensures chain { (items : List Tree) → level_of (in_chain (operation_of operator) items) ≡ rank_of result.in_chain }
+    ensures between { (lhs : Tree) → level_of (in_binary (operation_of operator) lhs) ≡ rank_of result.between }
 {
     match operator {
-        Operator::Or => Level::Or,
+        Operator::Or => Levels {
+            in_chain: Level::Or,
+            between: Level::Comparison,
+        },
         Operator::And
         | Operator::Eq
         | Operator::NotEq
         | Operator::Gt
         | Operator::Gte
         | Operator::Lt
-        | Operator::Lte
-        | Operator::Add => Level::And,
-    }
-}
-
-// How tightly an operator between two operands binds.
-fn binary_level(operator: Operator) -> Level
-    ensures { (lhs : Tree) → level_of (in_binary (operation_of operator) lhs) ≡ rank_of result }
-{
-    match operator {
-        Operator::Add => Level::Sum,
-        Operator::Eq
-        | Operator::NotEq
-        | Operator::Gt
-        | Operator::Gte
-        | Operator::Lt
-        | Operator::Lte
-        | Operator::And
-        | Operator::Or => Level::Comparison,
+        | Operator::Lte => Levels {
+            in_chain: Level::And,
+            between: Level::Comparison,
+        },
+        Operator::Add => Levels {
+            in_chain: Level::And,
+            between: Level::Sum,
+        },
     }
 }
 
@@ -166,9 +166,9 @@ impl Frame {
         ensures { MatchOption result (level_of (frame_of self.now) ≡ 0) (λ own. level_of (frame_of self.now) ≡ rank_of own) }
     {
         match self {
-            Frame::Chain(operator, _) => Some(chain_level(*operator)),
+            Frame::Chain(operator, _) => Some(levels_of(*operator).in_chain),
             Frame::Not(_) => Some(Level::Not),
-            Frame::Binary(operator, _) => Some(binary_level(*operator)),
+            Frame::Binary(operator, _) => Some(levels_of(*operator).between),
             Frame::Like(_, _) | Frame::Upper(_) => Some(Level::Comparison),
             Frame::Lower(_)
             | Frame::Paren(_)
