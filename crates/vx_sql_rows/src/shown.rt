@@ -31,13 +31,13 @@ fn leads_to(node: &BoundExpression, index: usize) -> bool {
         Some(ScalarFnRef::Binary(Operator::And | Operator::Or)) => false,
         Some(
             ScalarFnRef::Binary(
-                Operator::Eq
+                Operator::Add
+                | Operator::Eq
                 | Operator::NotEq
-                | Operator::Gt
-                | Operator::Gte
                 | Operator::Lt
                 | Operator::Lte
-                | Operator::Add,
+                | Operator::Gt
+                | Operator::Gte,
             )
             | ScalarFnRef::Not(_)
             | ScalarFnRef::IsNull(_)
@@ -46,16 +46,9 @@ fn leads_to(node: &BoundExpression, index: usize) -> bool {
         ) => true,
         Some(ScalarFnRef::Between(_)) => index < 2,
         Some(ScalarFnRef::FillNull(_) | ScalarFnRef::Like(_)) => index == 0,
-        Some(
-            ScalarFnRef::CaseWhen(_)
-            | ScalarFnRef::GetItem(_)
-            | ScalarFnRef::Literal(_)
-            | ScalarFnRef::Pack(_)
-            | ScalarFnRef::Select(_)
-            | ScalarFnRef::Zip(_)
-            | ScalarFnRef::Mask(_),
-        )
-        | None => false,
+        Some(ScalarFnRef::CaseWhen(_) | ScalarFnRef::Zip(_) | ScalarFnRef::Mask(_)) => false,
+        Some(ScalarFnRef::GetItem(_) | ScalarFnRef::Pack(_) | ScalarFnRef::Select(_)) => false,
+        Some(ScalarFnRef::Literal(_)) | None => false,
     }
 }
 
@@ -70,20 +63,11 @@ fn is_plain(tree: &BoundExpression, levels: usize) -> bool {
     let is_plain_node = match tree.as_scalar() {
         Some(ScalarFnRef::Literal(scalar)) => !matches!(scalar.value(), Value::Null),
         Some(ScalarFnRef::CaseWhen(_) | ScalarFnRef::Zip(_) | ScalarFnRef::Mask(_)) => false,
-        Some(
-            ScalarFnRef::Binary(_)
-            | ScalarFnRef::Not(_)
-            | ScalarFnRef::IsNull(_)
-            | ScalarFnRef::IsNotNull(_)
-            | ScalarFnRef::Cast(_)
-            | ScalarFnRef::Between(_)
-            | ScalarFnRef::FillNull(_)
-            | ScalarFnRef::Like(_)
-            | ScalarFnRef::GetItem(_)
-            | ScalarFnRef::Pack(_)
-            | ScalarFnRef::Select(_),
-        )
-        | None => true,
+        Some(ScalarFnRef::Binary(_) | ScalarFnRef::Not(_) | ScalarFnRef::Between(_)) => true,
+        Some(ScalarFnRef::IsNull(_) | ScalarFnRef::IsNotNull(_) | ScalarFnRef::FillNull(_)) => true,
+        Some(ScalarFnRef::Cast(_) | ScalarFnRef::Like(_)) => true,
+        Some(ScalarFnRef::GetItem(_) | ScalarFnRef::Pack(_) | ScalarFnRef::Select(_)) | None =>
+            true,
     };
     if !is_plain_node {
         return false;
