@@ -5,6 +5,7 @@ use Rattle.vx_fn.specs.declared.options.FieldSelection.{FieldSelection}
 use Rattle.vx_fn.specs.declared.options.FieldSelection.TheVariants.{Include, Exclude}
 use Rattle.vx_fn.specs.Functions.{Function, case_when, get_item, literal, pack, select, cast, arity_of, id_of}
 use Rattle.vx_fn.specs.Texts.{with_commas, pack_sql, own_sql}
+use Rattle.vx_tree.specs.Notations.{Words}
 use Rattle.vx_tree.specs.Trees.{Tree, root, call, Trees, no_tree, tree}
 use Rattle.vx_tree.specs.Views.{trees_from}
 use Rattle.vx_source_types.specs.Names.{name_source, names_source}
@@ -52,3 +53,7 @@ abbrev mutual
 -- the source texts of what is seen as a list of trees
 abbrev pub sources_of : {A : Type 0} → (A → Tree) → List A → List (List ℕ)
 sources_of view xs = sources (trees_from (map view xs))
+
+-- the words of source text as a notation
+abbrev pub source_words : Words
+source_words = record { named = name_source; valued = scalar_source; typed_as = type_source; shows = is_shown; opened = λ f. codes "[" ++ (options_source f ++ codes "](") }

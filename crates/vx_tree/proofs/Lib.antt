@@ -10,6 +10,7 @@ pub mod Held
 pub mod Built
 pub mod Unique
 pub mod Texts
+pub mod Written
 pub mod TreeTexts
 pub mod Nullness
 pub mod Checks

@@ -20,23 +20,6 @@ get_or-texts view [] i x h is = absurd (omega arith)
 get_or-texts view (y ∷ xs) zero x h is = ap (λ z. sql (view z)) is
 get_or-texts view (y ∷ xs) (suc i) x h is = get_or-texts view xs i x (omega arith) is
 
--- ---- the text of a node, over its children
-
-node_sql-own : {A : Type 0} (view : A → Tree) (f : Function) (xs : List A) → length xs ≡ arity_of f → node_sql f (texts view xs) ≡ own_sql f (texts view xs)
-node_sql-own view f xs h = rw (length-texts view xs) (grind (arith, nat_tests, h))
-
-node_sql-other : {A : Type 0} (view : A → Tree) (f : Function) (xs : List A) → length xs ≢ arity_of f → node_sql f (texts view xs) ≡ call_sql f (texts view xs)
-node_sql-other view f xs h = rw (length-texts view xs) (grind (arith, nat_tests, h))
-
-sql-node : {A : Type 0} (view : A → Tree) (e : Tree) (f : Function) (xs : List A) → Some f ≡ function_at e → trees_from (map view xs) ≡ children_of e → node_sql f (texts view xs) ≡ sql e
-sql-node view e f xs h is = ap (λ es. node_sql f (sqls es)) is ∙ ap sql (sym (function_node e f h))
-
-pub sql-own : {A : Type 0} (view : A → Tree) (e : Tree) (f : Function) (xs : List A) → Some f ≡ function_at e → trees_from (map view xs) ≡ children_of e → length xs ≡ arity_of f → own_sql f (texts view xs) ≡ sql e
-sql-own view e f xs h is n = sym (node_sql-own view f xs n) ∙ sql-node view e f xs h is
-
-pub sql-other : {A : Type 0} (view : A → Tree) (e : Tree) (f : Function) (xs : List A) → Some f ≡ function_at e → trees_from (map view xs) ≡ children_of e → length xs ≢ arity_of f → call_sql f (texts view xs) ≡ sql e
-sql-other view e f xs h is n = sym (node_sql-other view f xs n) ∙ sql-node view e f xs h is
-
 -- ---- texts behind names
 
 pub length-named_texts : (names : List Name) (cs : List (List ℕ)) → length cs ≡ length names → length (named_texts names cs) ≡ length cs

@@ -17,6 +17,7 @@ pub mod Exact
 pub mod Uniqueness
 pub mod Harness
 pub mod Texts
+pub mod Notations
 pub mod TreeTexts
 pub mod Validity
 pub mod Checked

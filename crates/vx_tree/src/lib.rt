@@ -17,6 +17,7 @@ mod expression;
 mod hashed;
 mod laws;
 mod node;
+mod notation;
 mod scope;
 mod sql;
 pub mod test_harness;
@@ -35,6 +36,7 @@ pub use laws::{
     types_are_sound,
 };
 pub use node::TreeNode;
+pub use notation::{Notation, write_tree};
 pub use scope::Scope;
 pub use typing::push_type_over;
 pub use vx_fn::{

@@ -4,12 +4,11 @@ use Rattle.vx_dtype.proofs.Commas.{after_commas}
 use Rattle.vx_fn.specs.Texts.{named_texts, pairs_sql}
 use Rattle.vx_tree.specs.Nodes.{size_of, sizes_of}
 use Rattle.vx_tree.specs.Views.{trees_from}
-use Rattle.vx_source_types.specs.Names.{name_source}
-use Rattle.vx_source_writer.specs.SourceTexts.{sources_of}
-use Rattle.vx_source_writer.proofs.source_text.+source.Given as goal
+use Rattle.vx_tree.specs.Notations.{names_in, texts_of}
+use Rattle.vx_tree.proofs.notation.+written.Given as goal
 
-abbrev pub decreases-write_source : goal.decreases-write_source
-decreases-write_source g l = 16 * size_of (g.T.TreeNode.tree l.node.now)
+abbrev pub decreases-write_tree : goal.decreases-write_tree
+decreases-write_tree g l = 16 * size_of (g.T.TreeNode.tree l.node.now)
 
 abbrev pub decreases-write_own : goal.decreases-write_own
 decreases-write_own g l = 16 * sizes_of (trees_from (map g.T.TreeNode.tree l.children.now)) + 8
@@ -61,21 +60,21 @@ abbrev pub invariant-write_list-loop-index : goal.invariant-write_list-loop-inde
 invariant-write_list-loop-index g l =
     IsPlainFormatter l.initial.f
     → (done : List ℕ) × HasWritten g.W.Write.write_str_gives l.initial.f done l.f
-    × (done ++ after_commas (drop l.index (sources_of g.T.TreeNode.tree l.children)) ≡ after_commas (drop 1 (sources_of g.T.TreeNode.tree l.children)))
+    × (done ++ after_commas (drop l.index (texts_of g.N.Notation.words g.T.TreeNode.tree l.children)) ≡ after_commas (drop 1 (texts_of g.N.Notation.words g.T.TreeNode.tree l.children)))
 
 -- the same of children behind their names
 abbrev pub invariant-pack::write_named-loop-index : goal.invariant-pack::write_named-loop-index
 invariant-pack::write_named-loop-index g l =
     IsPlainFormatter l.initial.f
     → (done : List ℕ) × HasWritten g.W.Write.write_str_gives l.initial.f done l.f
-    × (done ++ after_commas (drop l.index (named_texts (map name_source l.names) (sources_of g.T.TreeNode.tree l.children))) ≡ after_commas (drop 1 (named_texts (map name_source l.names) (sources_of g.T.TreeNode.tree l.children))))
+    × (done ++ after_commas (drop l.index (named_texts (names_in g.N.Notation.words l.names) (texts_of g.N.Notation.words g.T.TreeNode.tree l.children))) ≡ after_commas (drop 1 (named_texts (names_in g.N.Notation.words l.names) (texts_of g.N.Notation.words g.T.TreeNode.tree l.children))))
 
 -- the same of pairs of children
 abbrev pub invariant-case::write_branches-loop-pair : goal.invariant-case::write_branches-loop-pair
 invariant-case::write_branches-loop-pair g l =
     IsPlainFormatter l.initial.f
     → (done : List ℕ) × HasWritten g.W.Write.write_str_gives l.initial.f done l.f
-    × (done ++ pairs_sql (drop (2 * l.pair) (sources_of g.T.TreeNode.tree l.children)) ≡ pairs_sql (sources_of g.T.TreeNode.tree l.children))
+    × (done ++ pairs_sql (drop (2 * l.pair) (texts_of g.N.Notation.words g.T.TreeNode.tree l.children)) ≡ pairs_sql (texts_of g.N.Notation.words g.T.TreeNode.tree l.children))
 
 abbrev pub decreases-write_full : goal.decreases-write_full
 decreases-write_full g l = 16 * sizes_of (trees_from (map g.T.TreeNode.tree l.children.now)) + 8
