@@ -1,27 +1,31 @@
 -- What functions give that have a fast way.
-use Rattle.std.proofs.Common.{◌≡◌, ℕ, ◌<◌, List, [], ◌∷◌, length, get_or, refl, sym, ap, ◌∙◌, arith, map, Ok, Err, Result, Option, Some, None, Bool, false, rules}
+use Rattle.std.proofs.Common.{◌≡◌, ℕ, ◌<◌, List, [], ◌∷◌, suc, length, get_or, refl, sym, ap, ◌∙◌, arith, map, Ok, Err, Result, Option, Some, None, Bool, true, false, rules}
 use Rattle.std.proofs.Math.ListN.{replicate}
+use Rattle.std.specs.List.{list_any}
+use Rattle.std.proofs.lemmas.List.{get_or-replicate, length-replicate}
 use Rattle.std.proofs.lemmas.List.FromFn.{get_or-map-range_with_len}
 use Rattle.vx_dtype.specs.declared.dtype.PType.{PType}
 use Rattle.vx_dtype.specs.declared.dtype.DType.{DType, the_lemmas as the_types}
 use Rattle.vx_dtype.specs.declared.dtype.Nullability.{Nullability}
 use Rattle.vx_value.specs.StructColumns.{struct_rows}
-use Rattle.vx_value.specs.Types.{Name, LogicalType, ty, atomic, number, Datum, null}
+use Rattle.vx_value.specs.Types.{Name, LogicalType, ty, atomic, number, Datum, null, is_null_datum}
 use Rattle.vx_value.specs.Views.{admits_null, type_of}
-use Rattle.vx_fn.specs.Faults.{is_outside}
-use Rattle.vx_fn.specs.Functions.{Function, Operation, compares, and_also, or_else, adds, binary, between, literal, logical_not, is_null, is_not_null, pack}
+use Rattle.vx_fn.specs.Faults.{differs, is_bad_fill, is_outside, some_differ}
+use Rattle.vx_fn.specs.Functions.{Function, Operation, compares, and_also, or_else, adds, binary, between, fill_null, literal, logical_not, is_atomic, is_null, is_not_null, pack}
 use Rattle.vx_fn.specs.Values.{bound_comparison, compared, kleene_and, kleene_or, kleene_not, sum_of}
 use Rattle.vx_fn.specs.Views.{function_of}
 use Rattle.vx_array_loops.specs.declared.comparison.Comparison.{Comparison as Asked}
 use Rattle.vx_array.specs.declared.lanes.Lanes.{Lanes}
 use Rattle.vx_array.specs.Rows.{lanes_rows, lanes_each}
 use Rattle.vx_array_kernels.specs.Asked.{asked}
+use Rattle.vx_array_kernels.specs.Choices.{filled_rows}
+use Rattle.vx_array_kernels.specs.Found.{Finds}
 use Rattle.vx_array_kernels.specs.Sums.{FindsSums}
 use Rattle.vx_array_kernels.specs.declared.pair.Pair.{Pair}
 use Rattle.vx_array_kernels.specs.Truths.{both_rows, null_told, value_told}
 use Rattle.vx_eval.specs.Columns.{rows_of, node_answer}
 use Rattle.vx_eval.proofs.Filled.{each_same, given, each_of, same_rows}
-use Rattle.vx_eval.proofs.FirstRows.{add_quiet}
+use Rattle.vx_eval.proofs.FirstRows.{add_quiet, fill_quiet, none_any, none_differ}
 use Rattle.vx_array_eval.specs.declared.node.Node.{Node}
 use Rattle.vx_array_eval.specs.Nodes.{FindsAnswer, answer_of, types_of}
 
@@ -60,6 +64,23 @@ between_given a b lower upper ts n vs ls us above below rows first second left r
 pub sum_given : (p : PType) (m : Bool) (ts : List LogicalType) (n : ℕ) (l r rows : List Datum) → rows ≡ both_rows n sum_of l r → ((m : Bool) (k : ℕ) → k < n → is_outside (ty (atomic (number p)) m ∷ []) (sum_of (get_or l k null) (get_or r k null)) ≡ false) →
     node_answer (binary adds) (ty (atomic (number p)) m ∷ ts) (rows_of n (l ∷ r ∷ [])) ≡ Ok rows
 sum_given p m ts n l r rows is inside = given (binary adds) (ty (atomic (number p)) m ∷ ts) n (l ∷ r ∷ []) rows (add_quiet (ty (atomic (number p)) m) ts n l r (inside m)) is
+
+-- one value in place of the nulls
+pub fill_given : (t : LogicalType) (ts : List LogicalType) (n m : ℕ) (x f rows : List Datum) (d : Datum) → is_atomic t ≡ true → f ≡ replicate m d → length f ≡ n → is_null_datum d ≡ false → differs d d ≡ false → rows ≡ filled_rows n x f →
+    node_answer fill_null (t ∷ ts) (rows_of n (x ∷ f ∷ [])) ≡ Ok rows
+fill_given t ts n m x f rows d filled one long some same is = given fill_null (t ∷ ts) n (x ∷ f ∷ []) rows (fill_quiet (t ∷ ts) n x f long good) is
+  where
+    at : (k : ℕ) → k < length f → get_or f k null ≡ d
+    at k lt = ap (λ l. get_or l k null) one ∙ get_or-replicate m k d null (omega (arith, ap length one, length-replicate m d))
+
+    no_null : list_any is_null_datum f ≡ false
+    no_null = none_any is_null_datum null f (λ k lt. ap is_null_datum (at k lt) ∙ some)
+
+    alike : some_differ f ≡ false
+    alike = none_differ f (λ k lt. ap (λ v. differs v (get_or f (suc k) null)) (at 0 (omega arith)) ∙ ap (differs d) (at (suc k) lt) ∙ same)
+
+    good : is_bad_fill (t ∷ ts) f ≡ false
+    good = rw (filled, no_null, alike) refl
 
 -- functions of one child
 pub not_given : (ts : List LogicalType) (n : ℕ) (c rows : List Datum) → length c ≡ n → rows ≡ map kleene_not c → node_answer logical_not ts (rows_of n (c ∷ [])) ≡ Ok rows
@@ -109,3 +130,14 @@ sums_found node pair p m ts (Ok (Some out)) of two counted typed found =
     (ap (λ us. node_answer (binary adds) us (rows_of pair.count (lanes_rows pair.lhs.now ∷ lanes_rows pair.rhs.now ∷ []))) typed ∙ sum_given p m ts pair.count (lanes_rows pair.lhs.now) (lanes_rows pair.rhs.now) (lanes_rows out) found.0 found.1)
 sums_found node pair p m ts (Ok None) of two counted typed found = tt
 sums_found node pair p m ts (Err e) of two counted typed found = tt
+
+-- the value of one in all rows that are filled in
+pub fill_found : {E : Type 0} (node : Node) (pair : Pair) (t : LogicalType) (ts : List LogicalType) (k : ℕ) (d : Datum) (r : Result (Option Lanes) E) → function_of node.function.now ≡ fill_null → lanes_each node.below.now ≡ lanes_rows pair.lhs.now ∷ lanes_rows pair.rhs.now ∷ [] →
+    pair.count ≡ node.count → types_of node ≡ t ∷ ts → is_atomic t ≡ true → lanes_rows pair.rhs.now ≡ replicate k d → length (lanes_rows pair.rhs.now) ≡ pair.count → (is_null_datum d ≡ false) × (differs d d ≡ false) →
+    Finds (filled_rows pair.count (lanes_rows pair.lhs.now) (lanes_rows pair.rhs.now)) r → FindsAnswer node r
+fill_found node pair t ts k d (Ok (Some out)) of two counted typed filled one long good found =
+    at_node node fill_null (lanes_rows pair.lhs.now ∷ lanes_rows pair.rhs.now ∷ []) pair.count (lanes_rows out) of two counted
+    (ap (λ us. node_answer fill_null us (rows_of pair.count (lanes_rows pair.lhs.now ∷ lanes_rows pair.rhs.now ∷ []))) typed
+    ∙ fill_given t ts pair.count k (lanes_rows pair.lhs.now) (lanes_rows pair.rhs.now) (lanes_rows out) d filled one long good.0 good.1 found)
+fill_found node pair t ts k d (Ok None) of two counted typed filled one long good found = tt
+fill_found node pair t ts k d (Err e) of two counted typed filled one long good found = tt

@@ -1,7 +1,8 @@
 // Functions of one child, two or three over their lanes.
-ghost use Rattle.std.specs.Prelude.{◌≡◌, IfSome, List, [], ◌∷◌, length};
-ghost use Rattle.vx_value.specs.Types.{LogicalType};
-ghost use Rattle.vx_value.specs.Views.{type_of};
+ghost use Rattle.std.specs.Prelude.{◌≡◌, IfSome, List, [], ◌∷◌, false, length, true};
+ghost use Rattle.vx_value.specs.Types.{LogicalType, is_null_datum};
+ghost use Rattle.vx_value.specs.Views.{type_of, value_of};
+ghost use Rattle.vx_fn.specs.Faults.{differs};
 ghost use Rattle.vx_fn.specs.Functions as functions;
 ghost use Rattle.vx_fn.specs.Functions.{adds};
 ghost use Rattle.vx_fn.specs.Values as values;
@@ -15,11 +16,12 @@ use crate::node::Node;
 use std::alloc::{AllocError, Global};
 use vx_array::Lanes;
 use vx_array_kernels::{
-    Connective, Pair, add, between, compare, comparison_of, connect, is_not_null, is_null, not,
+    Connective, Pair, add, between, compare, comparison_of, connect, fill_null, is_not_null,
+    is_null, not,
 };
 use vx_array_loops::Comparison;
-use vx_fn::{BetweenOptions, Operator, ScalarFnRef, StrictComparison};
-use vx_types::DType;
+use vx_fn::{BetweenOptions, FillNull, Operator, ScalarFnRef, StrictComparison};
+use vx_types::{DType, Value};
 
 /// The function over the one child, where there is a fast way.
 pub fn of_one(alloc: Global, node: Node, input: &Lanes) -> Result<Option<Lanes>, AllocError>
@@ -44,6 +46,7 @@ pub fn of_two(alloc: Global, node: Node, pair: Pair) -> Result<Option<Lanes>, Al
 {
     match node.function {
         ScalarFnRef::Binary(operator) => binary(alloc, node, *operator, pair),
+        ScalarFnRef::FillNull(_) => filled_of(alloc, node, pair),
         _ => Ok(None),
     }
 }
@@ -116,6 +119,33 @@ fn sums_of(alloc: Global, node: Node, pair: Pair) -> Result<Option<Lanes>, Alloc
         Some(DType::Primitive(number, _)) => add(alloc, *number, pair),
         _ => Ok(None),
     }
+}
+
+// The first column with its nulls filled, where there is a fast way and no fault.
+fn filled_of(alloc: Global, node: Node, pair: Pair) -> Result<Option<Lanes>, AllocError>
+    requires fill { function_of node.function.now ≡ functions.fill_null }
+    requires two { lanes_each node.below.now ≡ lanes_rows pair.lhs.now ∷ lanes_rows pair.rhs.now ∷ [] }
+    requires count { pair.count ≡ node.count }
+    requires long { IsLong pair }
+    ensures { FindsAnswer node.entry result }
+{
+    match (first_type(node), pair.rhs) {
+        (Some(dtype), Lanes::Same(value, _)) => {
+            if FillNull::supports_dtype(dtype) && is_fill(value.as_ref()) {
+                fill_null(alloc, dtype, pair)
+            } else {
+                Ok(None)
+            }
+        }
+        _ => Ok(None),
+    }
+}
+
+// Whether the value is a truth value or a number.
+fn is_fill(value: &Value) -> bool
+    ensures { result ≡ true → (is_null_datum (value_of value.now) ≡ false) × (differs (value_of value.now) (value_of value.now) ≡ false) }
+{
+    matches!(value, Value::Bool(_) | Value::Int(_))
 }
 
 // The first child's type, if there is one.

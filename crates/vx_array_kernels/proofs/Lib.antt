@@ -2,4 +2,5 @@ pub mod Told
 pub mod Bits
 pub mod NullRows
 pub mod Beside
+mod Chosen
 mod Added

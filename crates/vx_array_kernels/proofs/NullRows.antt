@@ -43,7 +43,7 @@ nulls_are v rows bs cs out tells long each turned is =
     get_or-map bool (map not bs) k false null (omega (arith, length-map bs not)) ∙ ap bool (get_or-map not bs k false false there ∙ ap not (each k within) ∙ sym (tells.1 k within)) ∙ sym (get_or-map null_told rows k null null within))
 
 -- what is made of one value in so many rows
-pub map-replicate : (f : Datum → Datum) (n : ℕ) (d : Datum) → map f (replicate n d) ≡ replicate n (f d)
+pub map-replicate : {A B : Type 0} (f : A → B) (n : ℕ) (d : A) → map f (replicate n d) ≡ replicate n (f d)
 map-replicate f zero d = refl
 map-replicate f (suc n) d = ap (λ l. f d ∷ l) (map-replicate f n d)
 

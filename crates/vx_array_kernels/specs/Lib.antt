@@ -1,4 +1,5 @@
 pub mod Asked
+pub mod Choices
 pub mod Connected
 pub mod Found
 pub mod Sums

@@ -28,3 +28,7 @@ both_rows n g xs ys = each_row n (λ k. g (get_or xs k null) (get_or ys k null))
 -- the validity says of each row whether it is null
 abbrev pub TellsNulls : Validity → List Datum → Type 0
 TellsNulls v rows = HasRows v (length rows) × ((k : ℕ) → k < length rows → is_null_datum (get_or rows k null) ≡ not (is_valid v k))
+
+-- the bits say of each row whether it is null
+abbrev pub IsNulls : List Bool → List Datum → Type 0
+IsNulls bits rows = (length bits ≡ length rows) × ((k : ℕ) → k < length rows → get_or bits k false ≡ is_null_datum (get_or rows k null))

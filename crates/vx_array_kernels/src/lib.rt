@@ -1,16 +1,20 @@
 // Functions over columns in typed buffers.
 #![tactic(auto)]
 
+mod blend;
+mod choices;
 mod columns;
 mod comparison;
 mod logic;
 mod nulls;
+mod number_rows;
 mod pair;
 mod sums;
 mod truths;
 mod width;
 mod widths;
 
+pub use choices::fill_null;
 pub use comparison::{between, compare, comparison_of};
 pub use logic::{Connective, connect, not};
 pub use nulls::{is_not_null, is_null};

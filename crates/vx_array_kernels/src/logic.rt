@@ -5,6 +5,7 @@ ghost use Rattle.vx_array.specs.Rows.{lanes_rows};
 ghost use Rattle.vx_array_kernels.specs.Connected.{connected};
 ghost use Rattle.vx_array_kernels.specs.Found.{Finds, IsLong, pair_rows};
 
+use crate::blend::Blend;
 use crate::pair::Pair;
 use crate::truths::{Truths, turned};
 use std::alloc::{AllocError, Global};
@@ -30,8 +31,8 @@ pub fn connect(
 {
     match (pair.lhs, pair.rhs) {
         (Lanes::Bools(a, v), Lanes::Bools(b, w)) => {
-            let mut truths = Truths::of(alloc, pair.count, a, v)?;
-            let others = Truths::of(alloc, pair.count, b, w)?;
+            let mut truths = Truths::of_bits(alloc, pair.count, a, v)?;
+            let others = Truths::of_bits(alloc, pair.count, b, w)?;
             truths.connect(connective, &others);
             Ok(Some(truths.into_lanes(alloc)?))
         }

@@ -1,10 +1,10 @@
 // Whether values in buffers are null.
-ghost use Rattle.std.specs.Prelude.{◌≡◌, IfOk, IfSome, map};
+ghost use Rattle.std.specs.Prelude.{◌≡◌, IfOk, IfSome, length, map};
 ghost use Rattle.std.proofs.Math.ListN.{replicate};
 ghost use Rattle.vx_value.specs.Types.{bool};
 ghost use Rattle.vx_array.specs.Rows.{lanes_rows};
 ghost use Rattle.vx_array_kernels.specs.Found.{Finds};
-ghost use Rattle.vx_array_kernels.specs.Truths.{null_told, value_told, TellsNulls};
+ghost use Rattle.vx_array_kernels.specs.Truths.{null_told, value_told, IsNulls, TellsNulls};
 
 use crate::truths::{turned, valid_rows};
 use std::alloc::{AllocError, Global};
@@ -40,6 +40,20 @@ pub fn is_not_null(alloc: Global, input: &Lanes) -> Result<Option<Lanes>, AllocE
         Some(validity) => {
             let valid = valid_rows(alloc, input.len(), validity)?;
             Ok(Some(truths(alloc, valid)?))
+        }
+        None => Ok(None),
+    }
+}
+
+/// Of so many rows those that are null. There is an answer where a validity says so.
+pub fn null_rows(alloc: Global, count: usize, input: &Lanes) -> Result<Option<Bits>, AllocError>
+    requires { length (lanes_rows input.now) ≡ count }
+    ensures { IfOk result (λ found. IfSome found (λ bits. IsNulls bits (lanes_rows input.now))) }
+{
+    match validity_of(input) {
+        Some(validity) => {
+            let valid = valid_rows(alloc, count, validity)?;
+            Ok(Some(turned(alloc, &valid)?))
         }
         None => Ok(None),
     }

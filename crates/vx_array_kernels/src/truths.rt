@@ -1,17 +1,22 @@
 // Columns of truth values in bits, which functions write over.
-ghost use Rattle.std.specs.Prelude.{◌≡◌, ◌≤◌, ◌<◌, ℕ, IfOk, false, get_or, length, map, not, take};
+ghost use Rattle.std.specs.Prelude.{◌≡◌, ◌<◌, ℕ, IfOk, IfSome, false, true, get_or, length, map, not};
 ghost use Rattle.vx_value.specs.Types.{bool};
 ghost use Rattle.vx_fn.specs.Values.{kleene_and, kleene_or};
 ghost use Rattle.vx_array.specs.Rows.{lanes_rows};
 ghost use Rattle.vx_array.specs.Shown.{HasRows, is_valid, shown};
+ghost use Rattle.std.proofs.Math.ListN.{replicate};
+ghost use Rattle.vx_value.specs.Views.{value_of};
+ghost use Rattle.vx_array_kernels.specs.Choices.{chosen};
 ghost use Rattle.vx_array_kernels.specs.Connected.{connected};
 ghost use Rattle.vx_array_kernels.specs.Truths.{both_rows};
 
+use crate::blend::Blend;
 use crate::logic::Connective;
 use std::alloc::{AllocError, Global};
 use std::marker::Model;
 use vx_array::{BitPart, Lanes, Validity};
 use vx_array_loops::Bits;
+use vx_types::Value;
 
 /// Truth values, and as many that say which of them are valid. Contracts see them as the rows.
 #[derive(Drop)]
@@ -38,7 +43,7 @@ impl Model for Truths {
 
 impl Truths {
     /// The first so many rows of truth values, where they are valid. Asks just so many rows.
-    pub fn of(
+    pub fn of_bits(
         alloc: Global,
         count: usize,
         bits: &BitPart,
@@ -83,13 +88,57 @@ impl Truths {
             Connective::Or => self.or_with(other),
         }
     }
+}
 
-    /// The rows as lanes.
-    pub fn into_lanes(self, alloc: Global) -> Result<Lanes, AllocError>
-        ensures { IfOk result (λ out. lanes_rows out ≡ self) }
-    {
+impl Blend for Truths {
+    ghost rows = { λ t. t };
+
+    fn of(alloc: Global, count: usize, lanes: &Lanes) -> Result<Option<Truths>, AllocError> {
+        match lanes {
+            Lanes::Bools(bits, validity) => Ok(Some(Truths::of_bits(
+                alloc, count, bits, validity,
+            )?)),
+            Lanes::Same(value, _) => repeated(alloc, count, value.as_ref()),
+            _ => Ok(None),
+        }
+    }
+
+    fn put(&mut self, mask: &Bits, other: Truths) {
+        put_bits(&mut self.bits, mask, other.bits);
+        put_bits(&mut self.valid, mask, other.valid);
+    }
+
+    fn into_lanes(self, alloc: Global) -> Result<Lanes, AllocError> {
         let valid = BitPart::new(alloc, self.valid)?;
         Ok(Lanes::Bools(BitPart::new(alloc, self.bits)?, Validity::Rows(valid)))
+    }
+}
+
+// One value in so many rows, if it is null or a truth value.
+fn repeated(alloc: Global, count: usize, value: &Value) -> Result<Option<Truths>, AllocError>
+    ensures { IfOk result (λ found. IfSome found (λ t. t ≡ replicate count (value_of value.now))) }
+{
+    match value {
+        Value::Null => Ok(Some(Truths {
+            valid: Bits::zeros(alloc, count)?,
+            bits: Bits::zeros(alloc, count)?,
+        })),
+        Value::Bool(truth) => Ok(Some(Truths {
+            valid: all_rows(alloc, count)?,
+            bits: same_rows(alloc, count, *truth)?,
+        })),
+        _ => Ok(None),
+    }
+}
+
+// So many rows that are that truth value.
+fn same_rows(alloc: Global, count: usize, truth: bool) -> Result<Bits, AllocError>
+    ensures { IfOk result (λ b. b ≡ replicate count truth) }
+{
+    if truth {
+        all_rows(alloc, count)
+    } else {
+        Bits::zeros(alloc, count)
     }
 }
 
@@ -104,6 +153,24 @@ pub fn valid_rows(alloc: Global, count: usize, validity: &Validity) -> Result<Bi
         Validity::Nothing => Bits::zeros(alloc, count),
         Validity::Rows(rows) => rows.first(alloc, count),
     }
+}
+
+/// So many rows that are true.
+pub fn all_rows(alloc: Global, count: usize) -> Result<Bits, AllocError>
+    ensures { IfOk result (λ b. b ≡ replicate count true) }
+{
+    turned(alloc, &Bits::zeros(alloc, count)?)
+}
+
+/// Writes the other's bits where the mask is true. Asks equally many.
+pub fn put_bits(bits: &mut Bits, mask: &Bits, mut other: Bits)
+    requires mask { length mask.now ≡ length bits.old }
+    requires other { length other ≡ length bits.old }
+    ensures { bits.new ≡ chosen mask.now other bits.old }
+{
+    other.and_with(mask);
+    bits.and_not_with(mask);
+    bits.or_with(&other);
 }
 
 /// The bits turned round.

@@ -1,7 +1,7 @@
 use Rattle.std.proofs.Common.{◌∙◌}
 use Rattle.vx_array.proofs.Held.{rows-Bools}
 use Rattle.vx_array_kernels.proofs.Bits.{masked_truths}
-use Rattle.vx_array_kernels.proofs.truths.Truths.into_lanes.Goals as goal
+use Rattle.vx_array_kernels.proofs.truths.TruthsBlend.into_lanes.Goals as goal
 
 pub returns : goal.returns
 returns c =

@@ -1,5 +1,5 @@
 use Rattle.vx_array_kernels.proofs.Bits.{rows_there, shown_truths}
-use Rattle.vx_array_kernels.proofs.truths.Truths.of.Goals as goal
+use Rattle.vx_array_kernels.proofs.truths.Truths.of_bits.Goals as goal
 
 pub valid_rows-requires : goal.valid_rows-requires
 valid_rows-requires c = (rows_there c.args.validity.now c.args.bits.now c.args.count c.requires).1

@@ -1,0 +1,119 @@
+// Columns of numbers in a buffer, which others are written over.
+ghost use Rattle.std.specs.Prelude.{◌≡◌, IfOk, IfSome, length, map};
+ghost use Rattle.vx_value.specs.Views.{value_of};
+ghost use Rattle.vx_array.specs.Shown.{shown};
+ghost use Rattle.vx_value.specs.Types.{int};
+ghost use Rattle.std.proofs.Math.ListN.{replicate};
+
+use crate::blend::Blend;
+use crate::truths::{all_rows, put_bits, valid_rows};
+use crate::width::Width;
+use std::alloc::{AllocError, Global};
+use std::marker::Model;
+use vx_array::{BitPart, Lanes, Part, Validity};
+use vx_array_build::Native;
+use vx_array_loops::{Bits, Number, tabulated, write_where};
+use vx_types::Value;
+
+/// Numbers, and as many bits that say which of them are valid. Contracts see them as the rows.
+#[derive(Drop)]
+pub struct NumberRows<T: Width> {
+    numbers: Vec<T>,
+    valid: Bits,
+}
+
+impl<T: Width> Model for NumberRows<T> {
+    ghost use Rattle.std.specs.Prelude.{◌≡◌, List, length, map};
+    ghost use Rattle.std.specs.Coded.{coded_list};
+    ghost use Rattle.vx_value.specs.Codes.{datum_code};
+    ghost use Rattle.vx_value.specs.Types.{Datum};
+    ghost use Rattle.vx_array_kernels.specs.Choices.{number_rows};
+
+    ghost Value = { List Datum };
+
+    ghost coded = { coded_list datum_code };
+
+    ghost view = { λ r. number_rows r.valid (map T.number r.numbers.items) };
+
+    ghost invariant = { λ r. length r.valid ≡ length r.numbers.items };
+}
+
+impl<T: Width> Blend for NumberRows<T> {
+    ghost rows = { λ r. r };
+
+    fn of(alloc: Global, count: usize, lanes: &Lanes) -> Result<Option<NumberRows<T>>, AllocError> {
+        match lanes {
+            Lanes::Numbers(numbers, validity) => match T::part(numbers) {
+                Some(part) => Ok(Some(copied(alloc, count, part, validity)?)),
+                None => Ok(None),
+            },
+            Lanes::Same(value, _) => repeated(alloc, count, value.as_ref()),
+            _ => Ok(None),
+        }
+    }
+
+    fn put(&mut self, mask: &Bits, other: NumberRows<T>) {
+        let numbers = other.numbers.as_slice();
+        write_where(self.numbers.as_mut_slice(), mask, |i| numbers[i]);
+        put_bits(&mut self.valid, mask, other.valid);
+    }
+
+    fn into_lanes(self, alloc: Global) -> Result<Lanes, AllocError> {
+        let valid = BitPart::new(alloc, self.valid)?;
+        let numbers = T::numbers(Part::new(alloc, self.numbers)?);
+        Ok(Lanes::Numbers(numbers, Validity::Rows(valid)))
+    }
+}
+
+// The numbers, where they are valid. Asks just so many rows.
+fn copied<T: Width>(
+    alloc: Global,
+    count: usize,
+    part: &Part<T>,
+    validity: &Validity,
+) -> Result<NumberRows<T>, AllocError>
+    requires { length (shown validity.now (map int (map T.number part.now))) ≡ count }
+    ensures { IfOk result (λ r. r ≡ shown validity.now (map int (map T.number part.now))) }
+{
+    let _ = part.len();
+    let numbers = Vec::from_slice(alloc, &part.as_slice()[..count])?;
+    let valid = valid_rows(alloc, count, validity)?;
+    Ok(NumberRows { numbers, valid })
+}
+
+// One value in so many rows, if it is null or a number of the width.
+fn repeated<T: Width>(
+    alloc: Global,
+    count: usize,
+    value: &Value,
+) -> Result<Option<NumberRows<T>>, AllocError>
+    ensures { IfOk result (λ found. IfSome found (λ r. r ≡ replicate count (value_of value.now))) }
+{
+    match value {
+        Value::Null => {
+            let numbers = vec![in alloc; T::zero(); count]?;
+            let valid = Bits::zeros(alloc, count)?;
+            Ok(Some(NumberRows { numbers, valid }))
+        }
+        Value::Int(number) => repeated_number(alloc, count, number),
+        _ => Ok(None),
+    }
+}
+
+// One number in so many rows, if it has the width.
+fn repeated_number<T: Width>(
+    alloc: Global,
+    count: usize,
+    number: &i128,
+) -> Result<Option<NumberRows<T>>, AllocError>
+    ensures { IfOk result (λ found. IfSome found (λ r. r ≡ replicate count (int number.now))) }
+{
+    match T::narrowed(*number) {
+        Some(number) => {
+            let numbers = tabulated(alloc, count, number, |_| number)?;
+            let valid = all_rows(alloc, count)?;
+            Ok(Some(NumberRows { numbers, valid }))
+        }
+        None => Ok(None),
+    }
+}
