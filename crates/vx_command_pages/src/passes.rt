@@ -10,6 +10,13 @@ use std::alloc::Global;
 use vx_rewrite::{Pass, run_passes};
 use vx_tree::BoundExpression;
 
+// A tree, and its source text.
+#[derive(Drop)]
+struct Passed {
+    tree: Box<BoundExpression>,
+    text: String,
+}
+
 /// Adds a line for each pass that changes the tree which the passes before it left. Asks a well-typed
 /// tree.
 pub(crate) fn push_passes(
@@ -20,31 +27,50 @@ pub(crate) fn push_passes(
     requires { WellTyped (bound_of tree.now) }
     ensures { IfErr result (λ c. c ≡ OutOfMemory) }
 {
-    let standard = pushed(alloc, tree, Pass::OptimizeRecursive, "standard rules", page)?;
+    let tree = unpassed(alloc, tree)?;
+    let standard = pushed(
+        alloc,
+        &tree,
+        Pass::OptimizeRecursive,
+        "standard rules",
+        page,
+    )?;
     let branches = pushed(alloc, &standard, Pass::Branches, "branch rules", page)?;
     let folded = pushed(alloc, &branches, Pass::Fold, "folding", page)?;
     let _fused = pushed(alloc, &folded, Pass::FindBetween, "fused ranges", page)?;
     Ok(())
 }
 
-// Adds the line of one pass, and gives what it makes of the tree.
+// The tree before all passes.
+fn unpassed(alloc: Global, tree: &BoundExpression) -> Result<Passed, CommandError>
+    requires { WellTyped (bound_of tree.now) }
+    ensures typed { IfOk result (λ u. WellTyped (bound_of u.tree.value)) }
+    ensures memory { IfErr result (λ c. c ≡ OutOfMemory) }
+{
+    let text = source_text(alloc, tree)?;
+    let tree = Box::new(alloc, tree.clone()?)?;
+    Ok(Passed { tree, text })
+}
+
+// Adds the line of one pass, and gives what it makes of the tree. That it changes something is told by the texts: trees are
+// compared with the types of their nodes, which takes as long for each as the scope has fields.
 fn pushed(
     alloc: Global,
-    tree: &BoundExpression,
+    before: &Passed,
     pass: Pass,
     name: &str,
     page: &mut String,
-) -> Result<Box<BoundExpression>, CommandError>
-    requires { WellTyped (bound_of tree.now) }
-    ensures typed { IfOk result (λ u. WellTyped (bound_of u.value)) }
+) -> Result<Passed, CommandError>
+    requires { WellTyped (bound_of before.now.tree.value) }
+    ensures typed { IfOk result (λ u. WellTyped (bound_of u.tree.value)) }
     ensures memory { IfErr result (λ c. c ≡ OutOfMemory) }
 {
-    let passed = passed(alloc, tree, pass)?;
-    if *passed != *tree {
-        let text = source_text(alloc, &passed)?;
+    let tree = passed(alloc, &before.tree, pass)?;
+    let text = source_text(alloc, &tree)?;
+    if text != before.text {
         page.push_str(format!(in alloc; "{name}: {text}\n")?.as_str())?;
     }
-    Ok(passed)
+    Ok(Passed { tree, text })
 }
 
 // What the pass makes of the tree.
