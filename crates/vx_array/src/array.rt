@@ -17,10 +17,18 @@ use vx_types::{Column, DType, Value, VortexError, VortexResult};
 
 /// Rows in buffers beside their type, each of which is a value of that type. Clones and slices share the
 /// buffers. Contracts see an array as the batch that a column of the same rows is.
-#[derive(Debug, Drop)]
+#[derive(Debug)]
 pub struct Array {
     dtype: DType,
     lanes: Lanes,
+}
+
+impl Drop for Array {
+    fn drop(self) {
+        let Array { dtype, lanes } = self;
+        drop(dtype);
+        drop(lanes);
+    }
 }
 
 impl Model for Array {

@@ -7,11 +7,22 @@ use std::sync::Arc;
 use vx_array_loops::Bits;
 
 /// So many truth values of a buffer of bits from one on. Clones and slices share the buffer.
-#[derive(Debug, Drop)]
+#[derive(Debug)]
 pub struct BitPart {
     bits: Arc<Bits>,
     from: usize,
     len: usize,
+}
+
+impl Drop for BitPart {
+    fn drop(self) {
+        let BitPart {
+            bits,
+            from: _,
+            len: _,
+        } = self;
+        drop(bits);
+    }
 }
 
 impl Model for BitPart {

@@ -9,7 +9,7 @@ use vx_types::Value;
 
 /// The rows of a column in buffers, without their type. Clones and slices share the buffers.
 #[cycle(lanes)]
-#[derive(Debug, Drop)]
+#[derive(Debug)]
 pub enum Lanes {
     /// One value in so many rows.
     Same(Arc<Value>, usize),
@@ -25,6 +25,31 @@ pub enum Lanes {
     Octets(Spans, Validity),
     /// Structs, by the lanes of their fields, in a stretch of their rows.
     Structs(Arc<Vec<Lanes>>, Stretch, Validity),
+}
+
+impl Drop for Lanes {
+    fn drop(self) {
+        match self {
+            Lanes::Same(value, _) => drop(value),
+            Lanes::Values(values) => drop(values),
+            Lanes::Bools(bits, validity) => {
+                drop(bits);
+                drop(validity);
+            }
+            Lanes::Numbers(numbers, validity) => {
+                drop(numbers);
+                drop(validity);
+            }
+            Lanes::Texts(spans, validity) | Lanes::Octets(spans, validity) => {
+                drop(spans);
+                drop(validity);
+            }
+            Lanes::Structs(fields, _, validity) => {
+                drop(fields);
+                drop(validity);
+            }
+        }
+    }
 }
 
 impl Lanes {

@@ -7,7 +7,7 @@ use std::alloc::AllocError;
 use vx_array_loops::Number;
 
 /// Whole numbers in a buffer of their own width.
-#[derive(Debug, Drop)]
+#[derive(Debug)]
 pub enum Numbers {
     /// Of 8 bits without a sign.
     U8(Part<u8>),
@@ -25,6 +25,21 @@ pub enum Numbers {
     I32(Part<i32>),
     /// Of 64 bits with a sign.
     I64(Part<i64>),
+}
+
+impl Drop for Numbers {
+    fn drop(self) {
+        match self {
+            Numbers::U8(part) => drop(part),
+            Numbers::U16(part) => drop(part),
+            Numbers::U32(part) => drop(part),
+            Numbers::U64(part) => drop(part),
+            Numbers::I8(part) => drop(part),
+            Numbers::I16(part) => drop(part),
+            Numbers::I32(part) => drop(part),
+            Numbers::I64(part) => drop(part),
+        }
+    }
 }
 
 impl Numbers {

@@ -6,11 +6,22 @@ use std::marker::Model;
 use std::sync::Arc;
 
 /// So many items of a buffer from one on. Clones and slices share the buffer.
-#[derive(Debug, Drop)]
+#[derive(Debug)]
 pub struct Part<T> {
     items: Arc<Vec<T>>,
     from: usize,
     len: usize,
+}
+
+impl<T: Drop> Drop for Part<T> {
+    fn drop(self) {
+        let Part {
+            items,
+            from: _,
+            len: _,
+        } = self;
+        drop(items);
+    }
 }
 
 impl<T> Model for Part<T> {

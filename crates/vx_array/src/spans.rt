@@ -8,10 +8,18 @@ use std::sync::Arc;
 
 /// Bytes of rows: row k goes from where offset k says up to where offset k + 1 says. There is one row fewer
 /// than offsets. Where an offset goes back or behind the end, what it cuts off is no part of the row.
-#[derive(Debug, Drop)]
+#[derive(Debug)]
 pub struct Spans {
     pub(crate) offsets: Part<usize>,
     pub(crate) bytes: Arc<Vec<u8>>,
+}
+
+impl Drop for Spans {
+    fn drop(self) {
+        let Spans { offsets, bytes } = self;
+        drop(offsets);
+        drop(bytes);
+    }
 }
 
 impl Spans {

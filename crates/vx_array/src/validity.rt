@@ -8,7 +8,7 @@ use std::alloc::{AllocError, Global};
 use vx_array_loops::Bits;
 
 /// Which rows aren't null.
-#[derive(Debug, Drop)]
+#[derive(Debug)]
 pub enum Validity {
     /// All of them.
     All,
@@ -16,6 +16,15 @@ pub enum Validity {
     Nothing,
     /// The rows that are true, of as many as there are truth values.
     Rows(BitPart),
+}
+
+impl Drop for Validity {
+    fn drop(self) {
+        match self {
+            Validity::Rows(rows) => drop(rows),
+            Validity::All | Validity::Nothing => {}
+        }
+    }
 }
 
 impl Validity {

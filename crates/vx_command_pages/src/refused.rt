@@ -59,10 +59,11 @@ impl<'a> RefusedNode<'a> {
         input: &Expression,
         name: &FieldName,
     ) -> VortexResult<Option<Remedy>> {
-        match input.return_dtype(alloc, self.scope)? {
+        let dtype = input.return_dtype(alloc, self.scope)?;
+        match &dtype {
             DType::Struct(fields, _) => Ok(Some(Remedy {
                 parts: Vec::new(alloc),
-                advice: fields_told(alloc, &fields, name)?,
+                advice: fields_told(alloc, fields, name)?,
             })),
             _ => Ok(None),
         }

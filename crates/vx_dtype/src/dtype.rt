@@ -40,7 +40,7 @@ pub enum PType {
 
 /// The type of a value or of a column's rows; clones share what it points to.
 #[cycle(dtype)]
-#[derive(Debug, Drop)]
+#[derive(Debug)]
 pub enum DType {
     /// Truth values.
     Bool(Nullability),
@@ -60,10 +60,31 @@ pub enum DType {
 
 /// The fields of a struct, names and types side by side: a name without a type is no field.
 #[cycle(dtype)]
-#[derive(Debug, Drop)]
+#[derive(Debug)]
 pub struct StructFields {
     pub(crate) names: FieldNames,
     pub(crate) types: Arc<Vec<DType>>,
+}
+
+// (a drop that is written is one call wherever a type is let go, which proofs step over)
+impl Drop for DType {
+    #[cycle(let_go)]
+    fn drop(self) {
+        match self {
+            DType::Bool(_) | DType::Primitive(_, _) | DType::Utf8(_) | DType::Binary(_) => {}
+            DType::List(element, _) | DType::FixedSizeList(element, _, _) => drop(element),
+            DType::Struct(fields, _) => drop(fields),
+        }
+    }
+}
+
+impl Drop for StructFields {
+    #[cycle(let_go)]
+    fn drop(self) {
+        let StructFields { names, types } = self;
+        drop(names);
+        drop(types);
+    }
 }
 
 impl Nullability {

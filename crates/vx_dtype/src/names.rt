@@ -21,9 +21,15 @@ use std::slice::Iter;
 use std::sync::{Arc, ArcStr};
 
 /// A name of a field; clones share its text.
-#[derive(Drop)]
 pub struct FieldName {
     text: ArcStr,
+}
+
+impl Drop for FieldName {
+    fn drop(self) {
+        let FieldName { text } = self;
+        drop(text);
+    }
 }
 
 impl Model for FieldName {
@@ -104,9 +110,15 @@ impl fmt::Debug for FieldName {
 }
 
 /// A list of names, repeats allowed; clones share it. In a long list a name is looked up by its hash.
-#[derive(Drop)]
 pub struct FieldNames {
     list: Arc<NameList>,
+}
+
+impl Drop for FieldNames {
+    fn drop(self) {
+        let FieldNames { list } = self;
+        drop(list);
+    }
 }
 
 impl Model for FieldNames {

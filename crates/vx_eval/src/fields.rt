@@ -71,19 +71,16 @@ fn field_place(name: &FieldName, fields: &StructFields) -> usize
 }
 
 // The item at that place of a struct, or null.
-fn item_moved(row: Value, place: usize) -> Value
+fn item_moved(mut row: Value, place: usize) -> Value
     ensures { value_of result ≡ item_at place (value_of row) }
 {
-    match row {
-        Value::Struct(mut items) => if place < items.len() {
+    match &mut row {
+        Value::Struct(items) => if place < items.len() {
             items.swap_remove(place)
         } else {
             Value::Null
         },
-        other => {
-            drop(other);
-            Value::Null
-        }
+        _ => Value::Null,
     }
 }
 

@@ -11,7 +11,7 @@ use vx_types::{DType, FieldName, Scalar};
 
 /// A function with its options. A clone shares what its source points to, and equal functions hash
 /// alike.
-#[derive(Debug, Drop)]
+#[derive(Debug)]
 pub enum ScalarFnRef {
     /// The value beside the first condition that is true, else the ELSE value, else null.
     CaseWhen(CaseWhenOptions),
@@ -43,6 +43,28 @@ pub enum ScalarFnRef {
     Mask(EmptyOptions),
     /// The input as a value of that type, which differs in nullability alone.
     Cast(DType),
+}
+
+impl Drop for ScalarFnRef {
+    fn drop(self) {
+        match self {
+            ScalarFnRef::GetItem(name) => drop(name),
+            ScalarFnRef::Literal(scalar) => drop(scalar),
+            ScalarFnRef::Pack(options) => drop(options),
+            ScalarFnRef::Select(selection) => drop(selection),
+            ScalarFnRef::Cast(dtype) => drop(dtype),
+            ScalarFnRef::CaseWhen(_)
+            | ScalarFnRef::FillNull(_)
+            | ScalarFnRef::Zip(_)
+            | ScalarFnRef::Binary(_)
+            | ScalarFnRef::Not(_)
+            | ScalarFnRef::Between(_)
+            | ScalarFnRef::Like(_)
+            | ScalarFnRef::IsNull(_)
+            | ScalarFnRef::IsNotNull(_)
+            | ScalarFnRef::Mask(_) => {}
+        }
+    }
 }
 
 impl Clone for ScalarFnRef {

@@ -19,7 +19,7 @@ pub struct CaseWhenOptions {
 }
 
 /// The struct that a `Pack` makes.
-#[derive(Clone, Debug, PartialEq, Eq, Hash, Drop)]
+#[derive(Clone, Debug, PartialEq, Eq, Hash)]
 pub struct PackOptions {
     /// The names of the fields, one a child.
     pub names: FieldNames,
@@ -27,13 +27,31 @@ pub struct PackOptions {
     pub nullability: Nullability,
 }
 
+impl Drop for PackOptions {
+    fn drop(self) {
+        let PackOptions {
+            names,
+            nullability: _,
+        } = self;
+        drop(names);
+    }
+}
+
 /// Which fields of a struct a `Select` keeps.
-#[derive(Clone, Debug, PartialEq, Eq, Hash, Drop)]
+#[derive(Clone, Debug, PartialEq, Eq, Hash)]
 pub enum FieldSelection {
     /// The fields of these names, in this order.
     Include(FieldNames),
     /// The fields of all other names, in the struct's order.
     Exclude(FieldNames),
+}
+
+impl Drop for FieldSelection {
+    fn drop(self) {
+        match self {
+            FieldSelection::Include(names) | FieldSelection::Exclude(names) => drop(names),
+        }
+    }
 }
 
 /// Whether a bound itself is left out.

@@ -17,7 +17,7 @@ use vx_types::{DType, VortexError, VortexResult};
 
 /// A tree of functions over the row of a scope whose type is known, with the type of each node;
 /// clones share their children.
-#[derive(Debug, Drop)]
+#[derive(Debug)]
 pub enum BoundExpression {
     /// A function over children. Where it is made without [`BoundExpression::try_new`], nothing
     /// says that the type is the one that the function gives.
@@ -30,6 +30,23 @@ pub enum BoundExpression {
     Root {
         dtype: DType,
     },
+}
+
+impl Drop for BoundExpression {
+    fn drop(self) {
+        match self {
+            BoundExpression::Scalar {
+                dtype,
+                scalar_fn,
+                children,
+            } => {
+                drop(dtype);
+                drop(scalar_fn);
+                drop(children);
+            }
+            BoundExpression::Root { dtype } => drop(dtype),
+        }
+    }
 }
 
 impl Clone for BoundExpression {
@@ -138,9 +155,11 @@ impl BoundExpression {
                     got: children.len(),
                 })
             }
-            BoundExpression::Scalar { scalar_fn, .. } => {
-                BoundExpression::try_new(alloc, scalar_fn, children)
-            }
+            BoundExpression::Scalar {
+                dtype: _,
+                scalar_fn,
+                children: _,
+            } => BoundExpression::try_new(alloc, scalar_fn, children),
         }
     }
 }

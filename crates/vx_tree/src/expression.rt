@@ -12,7 +12,7 @@ use vx_fn::ScalarFnRef;
 use vx_types::{VortexError, VortexResult};
 
 /// A tree of functions over the row of a scope that isn't known yet; clones share their children.
-#[derive(Debug, Drop)]
+#[derive(Debug)]
 pub enum Expression {
     /// A function over children. Its number of children may differ from its arity where it is made
     /// without [`Expression::try_new`]; binding then refuses it.
@@ -22,6 +22,21 @@ pub enum Expression {
     },
     /// The row of the scope.
     Root,
+}
+
+impl Drop for Expression {
+    fn drop(self) {
+        match self {
+            Expression::Scalar {
+                scalar_fn,
+                children,
+            } => {
+                drop(scalar_fn);
+                drop(children);
+            }
+            Expression::Root => {}
+        }
+    }
 }
 
 impl Clone for Expression {
@@ -86,7 +101,10 @@ impl Expression {
                     got: children.len(),
                 })
             }
-            Expression::Scalar { scalar_fn, .. } => Expression::try_new(alloc, scalar_fn, children),
+            Expression::Scalar {
+                scalar_fn,
+                children: _,
+            } => Expression::try_new(alloc, scalar_fn, children),
         }
     }
 }

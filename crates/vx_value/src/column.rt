@@ -21,10 +21,18 @@ use vx_dtype::{DType, VortexError, VortexResult};
 
 /// Rows beside their type, each of which is a value of that type. A column holds its rows by itself
 /// until it is made to share them (`into_shared`); a clone of one that shares its rows copies none.
-#[derive(Debug, Drop)]
+#[derive(Debug)]
 pub struct Column {
     dtype: DType,
     rows: ColumnRows,
+}
+
+impl Drop for Column {
+    fn drop(self) {
+        let Column { dtype, rows } = self;
+        drop(dtype);
+        drop(rows);
+    }
 }
 
 impl Model for Column {

@@ -9,12 +9,21 @@ use std::sync::Arc;
 use vx_dtype::VortexResult;
 
 /// The values of a column, row by row.
-#[derive(Debug, Drop)]
+#[derive(Debug)]
 pub enum ColumnRows {
     /// Values that no other column has.
     Own(Vec<Value>),
     /// Values that other columns may share.
     Shared(Arc<Vec<Value>>),
+}
+
+impl Drop for ColumnRows {
+    fn drop(self) {
+        match self {
+            ColumnRows::Own(values) => drop(values),
+            ColumnRows::Shared(values) => drop(values),
+        }
+    }
 }
 
 impl ColumnRows {

@@ -14,10 +14,17 @@ use std::marker::Model;
 use vx_dtype::{FieldName, VortexResult};
 
 /// A part of a path.
-#[derive(Debug, Drop)]
+#[derive(Debug)]
 pub enum Field {
     /// The first field of that name in a struct.
     Name(FieldName),
+}
+
+impl Drop for Field {
+    fn drop(self) {
+        let Field::Name(name) = self;
+        drop(name);
+    }
 }
 
 impl Clone for Field {
@@ -59,9 +66,15 @@ impl Hash for Field {
 }
 
 /// Where a value stands in a row: the names of fields on the way to it, each inside the one before.
-#[derive(Drop)]
 pub struct FieldPath {
     parts: Vec<Field>,
+}
+
+impl Drop for FieldPath {
+    fn drop(self) {
+        let FieldPath { parts } = self;
+        drop(parts);
+    }
 }
 
 impl Model for FieldPath {

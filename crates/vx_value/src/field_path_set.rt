@@ -12,10 +12,16 @@ use std::marker::Model;
 use vx_dtype::VortexResult;
 
 /// Paths without repeats, in the order in which they were first inserted.
-#[derive(Drop)]
 pub struct FieldPathSet {
     // Each path beside its parts, by which a prefix of another path is looked up as it stands.
     paths: IndexMap<Vec<Field>, FieldPath>,
+}
+
+impl Drop for FieldPathSet {
+    fn drop(self) {
+        let FieldPathSet { paths } = self;
+        drop(paths);
+    }
 }
 
 impl Model for FieldPathSet {

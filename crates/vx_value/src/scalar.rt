@@ -17,10 +17,18 @@ use std::marker::Model;
 use vx_dtype::{DType, Nullability, PType, VortexError, VortexResult};
 
 /// A value beside its type, of which it is one; clones share what the type points to.
-#[derive(Debug, Drop)]
+#[derive(Debug)]
 pub struct Scalar {
     dtype: DType,
     value: Value,
+}
+
+impl Drop for Scalar {
+    fn drop(self) {
+        let Scalar { dtype, value } = self;
+        drop(dtype);
+        drop(value);
+    }
 }
 
 impl Model for Scalar {

@@ -11,7 +11,7 @@ use std::alloc::AllocError;
 use std::hash::{Hash, Hasher};
 
 /// A value of some type.
-#[derive(Debug, Drop)]
+#[derive(Debug)]
 pub enum Value {
     /// A value of every nullable type.
     Null,
@@ -27,6 +27,17 @@ pub enum Value {
     List(Vec<Value>),
     /// A struct, by the values of its fields.
     Struct(Vec<Value>),
+}
+
+impl Drop for Value {
+    fn drop(self) {
+        match self {
+            Value::Null | Value::Bool(_) | Value::Int(_) => {}
+            Value::Utf8(text) => drop(text),
+            Value::Binary(bytes) => drop(bytes),
+            Value::List(items) | Value::Struct(items) => drop(items),
+        }
+    }
 }
 
 impl Value {

@@ -22,6 +22,9 @@ write_child-returns g t c plain ok =
     let same = get_or-texts_of g.N.Notation.words g.T.TreeNode.tree c.args.children.now c.args.index c.index-children-index.result c.requires c.index-children-index.is in
     has_written_of_eq _ _ _ _ _ same (c.write_tree.ensures plain ok)
 
+pub write_list-loop-index-init : goal.write_list-loop-index-init
+write_list-loop-index-init g t c = λ plain. ([], record { wrote = record { parts = []; calls = refl; whole = refl }; plain = plain }, refl)
+
 pub write_list-loop-index-preserved : goal.write_list-loop-index-preserved
 write_list-loop-index-preserved g t c = λ plain.
     let l = c.loop-index in

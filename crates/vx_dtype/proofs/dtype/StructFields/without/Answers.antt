@@ -10,4 +10,4 @@ returns-in_ok-new-in-None-clause-fields c =
     let none : None ≡ first_unknown c.args.names.now (fields_of c.args.self.now) = search rules in
     let kept : c.in_ok-new-in-None.field-0 ≡ names_without c.args.names.now (field_names (fields_of c.args.self.now)) = search rules in
     let known = projected_kept c.args.names.now (fields_of c.args.self.now) none in
-    subst (ReturnsOrOom fields_of c.project-in-None.result) (ap (λ names. projected names (fields_of c.args.self.now)) kept ∙ known) c.project-in-None.ensures.fields
+    subst (ReturnsOrOom fields_of c.project.result) (ap (λ names. projected names (fields_of c.args.self.now)) kept ∙ known) c.project.ensures.fields

@@ -5,20 +5,20 @@ use Rattle.vx_tree.specs.Views.{tree_of}
 use Rattle.vx_tree.proofs.Nodes.{tree_over-root}
 use Rattle.vx_tree.proofs.expression.Expression.with_children.Goals as goal
 
-pub returns-in-Root-clause-node : goal.returns-in-Root-clause-node
-returns-in-Root-clause-node c =
+pub returns-else-is_empty-clause-node : goal.returns-else-is_empty-clause-node
+returns-else-is_empty-clause-node c =
     let is : tree_of c.args.self ≡ root = search (rules, the_lemmas) in
     let some : c.len.result ≢ 0 = grind arith in
     inr (tree_over-root _ c.args.children.items _ is (grind arith) some)
 
-pub returns-in-Root-clause-refusal : goal.returns-in-Root-clause-refusal
-returns-in-Root-clause-refusal c =
+pub returns-else-is_empty-clause-refusal : goal.returns-else-is_empty-clause-refusal
+returns-else-is_empty-clause-refusal c =
     let is : tree_of c.args.self ≡ root = search (rules, the_lemmas) in
     let some : c.len.result ≢ 0 = grind arith in
     λ _. tree_over-root _ c.args.children.items _ is (grind arith) some
 
-pub returns-in-Root-clause-root : goal.returns-in-Root-clause-root
-returns-in-Root-clause-root c =
+pub returns-else-is_empty-clause-root : goal.returns-else-is_empty-clause-root
+returns-else-is_empty-clause-root c =
     let is : tree_of c.args.self ≡ root = search (rules, the_lemmas) in
     let some : c.len.result ≢ 0 = grind arith in
     λ _. tree_over-root _ c.args.children.items _ is (grind arith) some
