@@ -40,7 +40,7 @@ impl Bits {
     }
 
     /// What the function gives at each of so many rows.
-    #[inline]
+    #[inline(always)]
     pub fn tabulated<F: Fn(usize) -> bool>(
         alloc: Global,
         len: usize,
@@ -56,7 +56,7 @@ impl Bits {
     }
 
     /// Writes what the function gives at each row.
-    #[inline]
+    #[inline(always)]
     pub fn write<F: Fn(usize) -> bool>(&mut self, f: F)
         requires { (k : ℕ) → k < length self.old → F.pre f k }
         ensures long { length self.new ≡ length self.old }

@@ -4,7 +4,7 @@ ghost use Rattle.std.specs.Prelude.{◌≡◌, ◌<◌, ℕ, false, true, length
 use crate::bits::Bits;
 
 /// Writes what the function gives at each row at which the mask is true. The others stay.
-#[inline]
+#[inline(always)]
 pub fn write_where<T: Copy + Drop, F: Fn(usize) -> T>(rows: &mut [T], mask: &Bits, f: F)
     requires long { length mask.now ≡ length rows.old }
     requires call { (i : ℕ) → i < length rows.old → F.pre f i }

@@ -5,7 +5,7 @@ use std::alloc::{AllocError, Global};
 
 /// What the function gives at each of so many rows. The list is made of the first value, and then written
 /// over, so that the loop asks for no memory.
-#[inline]
+#[inline(always)]
 pub fn tabulated<T: Copy + Drop, F: Fn(usize) -> T>(
     alloc: Global,
     count: usize,
@@ -24,7 +24,7 @@ pub fn tabulated<T: Copy + Drop, F: Fn(usize) -> T>(
 }
 
 /// Writes what the function gives at each row.
-#[inline]
+#[inline(always)]
 pub fn write_rows<T: Copy + Drop, F: Fn(usize) -> T>(rows: &mut [T], f: F)
     requires { (i : ℕ) → i < length rows.old → F.pre f i }
     ensures { (i : ℕ) (x : T) → i < length rows.old → x ≡ get_or rows.new i x → F.post f i x }
@@ -35,7 +35,7 @@ pub fn write_rows<T: Copy + Drop, F: Fn(usize) -> T>(rows: &mut [T], f: F)
 }
 
 /// The same of a function that raises a flag, beside whether it raised one at some row.
-#[inline]
+#[inline(always)]
 pub fn write_flagged<T: Copy + Drop, F: Fn(usize) -> (T, bool)>(rows: &mut [T], f: F) -> bool
     requires { (i : ℕ) → i < length rows.old → F.pre f i }
     ensures each { (i : ℕ) (x : T) → i < length rows.old → x ≡ get_or rows.new i x → (raised : Bool) × F.post f i (x, raised) }
@@ -52,7 +52,7 @@ pub fn write_flagged<T: Copy + Drop, F: Fn(usize) -> (T, bool)>(rows: &mut [T], 
 }
 
 /// The first of so many rows at which the function gives true.
-#[inline]
+#[inline(always)]
 pub fn first_where<F: Fn(usize) -> bool>(count: usize, f: F) -> Option<usize>
     requires { (i : ℕ) → i < count → F.pre f i }
     ensures none { MatchOption result ((i : ℕ) → i < count → F.post f i false) (λ row. (i : ℕ) → i < row → F.post f i false) }
