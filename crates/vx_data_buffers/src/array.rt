@@ -103,7 +103,10 @@ fn array_at(
         DType::Primitive(ptype, _) => {
             numbers_in(alloc, bytes_at(buffers, next), *ptype, rows, validity)
         }
-        DType::Struct(fields, _) => structs_at(alloc, buffers, fields, next, rows, validity),
+        DType::Struct(fields, _) => match columns_at(alloc, buffers, fields, next, rows)? {
+            Some(columns) => structs_of(alloc, fields, columns.as_slice(), rows, validity),
+            None => Ok(None),
+        },
         DType::Utf8(_) | DType::Binary(_) | DType::List(_, _) | DType::FixedSizeList(_, _, _) => {
             Ok(None)
         }
@@ -125,27 +128,19 @@ fn truths_in(
     }
 }
 
-// The array of so many structs of the fields, of whose columns the first buffer has that index.
-#[cycle(array)]
-fn structs_at(
+// The array of so many structs of these columns, one a field.
+fn structs_of(
     alloc: Global,
-    buffers: &[Buffer<'_>],
     fields: &StructFields,
-    first: usize,
+    columns: &[Array],
     rows: usize,
     validity: Option<Validity>,
 ) -> VortexResult<Option<Array>>
-    requires { first + field_buffer_count (fields_of fields.now) ≤ length buffers.now }
-    ensures { IfOk result (λ found. IfSome found (λ a. (cs : List Batch) × HaveFields (bytes_in buffers.now) (fields_of fields.now) first rows cs × (structs_by (names_of fields.now) cs rows validity ≡ Ok a) × (fields_named (names_of fields.now) (types_in cs) ≡ fields_of fields.now))) }
+    requires { length columns.now ≡ length (names_of fields.now) }
+    ensures { IfOk result (λ found. IfSome found (λ a. structs_by (names_of fields.now) columns.now rows validity ≡ Ok a)) }
 {
-    match columns_at(alloc, buffers, fields, first, rows)? {
-        Some(columns) => {
-            let names = fields.names().clone()?;
-            let structs = struct_of(alloc, names, columns.as_slice(), rows, validity)?;
-            Ok(Some(structs))
-        }
-        None => Ok(None),
-    }
+    let names = fields.names().clone()?;
+    Ok(Some(struct_of(alloc, names, columns, rows, validity)?))
 }
 
 // The columns of the fields, the first of whose buffers has that index.

@@ -21,13 +21,27 @@ use vx_types::{Column, DType, FieldPathSet, VortexResult};
 
 /// A query over batches of one type, made ready to be scanned: its tree, at no node of which a
 /// standard rule fits, the paths that this references, and its split by the fields that its nodes read.
-#[derive(Drop)]
 pub struct ScanPlan {
     scope: DType,
     tree: BoundExpression,
     paths: FieldPathSet,
     split: Option<BoundPartitionedExpr<FieldName>>,
     ghost is_plan: { IsPlan (type_of scope) (bound_of tree) paths (parts_of split) } by { plan-prop (type_of scope) (bound_of tree) paths (parts_of split) },
+}
+
+impl Drop for ScanPlan {
+    fn drop(self) {
+        let ScanPlan {
+            scope,
+            tree,
+            paths,
+            split,
+        } = self;
+        drop(scope);
+        drop(tree);
+        drop(paths);
+        drop(split);
+    }
 }
 
 impl ScanPlan {

@@ -5,11 +5,11 @@ use Rattle.vx_dtype.specs.declared.dtype.DType.{the_lemmas as the_types}
 use Rattle.vx_dtype.specs.Fields.{fields_named}
 use Rattle.vx_dtype.specs.Types.{is_nullable}
 use Rattle.vx_value.specs.Fields.{field_count}
-use Rattle.vx_value.specs.StructColumns.{row_at, rows_in}
+use Rattle.vx_value.specs.StructColumns.{row_at, rows_in, types_in}
 use Rattle.vx_value.specs.Types.{ty, atomic, truth, number, struct, bool, int, null}
 use Rattle.vx_value.specs.Views.{admits_null, fields_of, names_of, type_of}
 use Rattle.vx_array_build.specs.Built.{column_by, structs_by}
-use Rattle.vx_data_buffers.specs.Arrays.{AreBits, AreNumbers, IsColumn, Tells}
+use Rattle.vx_data_buffers.specs.Arrays.{AreBits, AreNumbers, HaveFields, IsColumn, Tells}
 use Rattle.vx_data_buffers.specs.Bytes.{bytes_in}
 use Rattle.vx_data_buffers.specs.Layout.{buffer_count, field_buffer_count, fields_at}
 use Rattle.vx_data_buffers.proofs.Columns.{found_so, numbers_read, row_grown, structs_read, truths_read, types_grown, view_taken}
@@ -43,19 +43,23 @@ array_at-returns-in-Primitive t c =
     (subst (IsColumn bs (ty (atomic (number p)) n) c.args.at c.args.rows) (sym (h.2 ∙ ap (λ w. column_by (atomic (number p)) w (map int h.0)) c.if_nullable-validity.ensures))
     (numbers_read bs p c.args.at c.args.rows n v h.0 tells (subst (λ b. AreNumbers p b c.args.rows h.0) c.bytes_at-in-Primitive.ensures h.1)))) c.numbers_in.ensures
 
-pub array_at-returns-in-Struct : goal.array_at-returns-in-Struct
-array_at-returns-in-Struct t c =
+pub array_at-returns-in-Some-2 : goal.array_at-returns-in-Some-2
+array_at-returns-in-Some-2 t c =
     let bs = bytes_in c.args.buffers.now in
     let n = c.is_nullable-is_nullable.result in
     let v = c.in-Some.validity in
     let fs = fields_of c.in-Struct.fields in
+    let names = names_of c.in-Struct.fields in
+    let cs = c.in-Some-2.columns.items in
     let kind : type_of c.args.t.now ≡ ty (struct fs) (admits_null c.in-Struct.field-1) = rw c.in-Struct.is (search (rules, the_types)) in
     let typed : type_of c.args.t.now ≡ ty (struct fs) n = kind ∙ ap (ty (struct fs)) (sym (c.is_nullable-is_nullable.ensures ∙ ap is_nullable kind)) in
     let tells : Tells bs c.args.at c.args.rows n v = subst (λ found. IfSome found (Tells bs c.args.at c.args.rows n)) c.in-Some.is c.in_ok-validity.ensures in
-    found_so c.structs_at.result
+    let fields : HaveFields bs fs (c.args.at + 1) c.args.rows cs = subst (λ found. IfSome found (λ columns. HaveFields bs fs (c.args.at + 1) c.args.rows columns.items)) c.in-Some-2.is c.in_ok-columns-in-Struct.ensures.fields in
+    let types : fields_named names (types_in cs) ≡ fs = subst (λ found. IfSome found (λ columns. fields_named names (types_in columns.items) ≡ fs)) c.in-Some-2.is c.in_ok-columns-in-Struct.ensures.types in
+    found_so c.structs_of.result
     (λ a h. subst (λ s. IsColumn bs s c.args.at c.args.rows a) (sym typed)
-    (structs_read bs fs (names_of c.in-Struct.fields) h.0 c.args.at c.args.rows n v a tells h.1 h.3
-    (ap (structs_by (names_of c.in-Struct.fields) h.0 c.args.rows) (sym c.if_nullable-validity.ensures) ∙ h.2))) c.structs_at.ensures
+    (structs_read bs fs names cs c.args.at c.args.rows n v a tells fields types
+    (ap (structs_by names cs c.args.rows) (sym c.if_nullable-validity.ensures) ∙ ap (λ columns. structs_by names columns c.args.rows c.if_nullable-validity.result) (sym c.as_slice.ensures.value) ∙ h))) c.structs_of.ensures
 
 pub columns_at-array_at-requires : goal.columns_at-array_at-requires
 columns_at-array_at-requires t c =

@@ -9,9 +9,6 @@ use Rattle.vx_data_buffers.proofs.array.+array.Given as goal
 abbrev pub decreases-array_at : goal.decreases-array_at
 decreases-array_at l = 3 * buffer_count (type_of l.t.now)
 
-abbrev pub decreases-structs_at : goal.decreases-structs_at
-decreases-structs_at l = 3 * field_buffer_count (fields_of l.fields.now) + 2
-
 abbrev pub decreases-columns_at : goal.decreases-columns_at
 decreases-columns_at l = 3 * field_buffer_count (fields_of l.fields.now) + 1
 
