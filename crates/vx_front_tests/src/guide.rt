@@ -5,12 +5,11 @@ use vx_expr::dtype::PType::I32;
 use vx_expr::prelude::*;
 
 /// What isn't cheap and is nearly sold out, planned for every batch of one schema.
-fn reorders(alloc: Global) -> VortexResult<Box<ScanPlan>> {
+fn reorders(alloc: Global) -> VortexResult<ScanPlan> {
     let fields = [("price", I32.into()), ("stock", I32.into())];
-    let schema = Box::new(alloc, struct_type(alloc, fields, NonNullable)?)?;
+    let schema = struct_type(alloc, fields, NonNullable)?;
     let filter = expr!(in alloc; and(gt_eq(col("price"), lit(10)), lt(col("stock"), lit(5))));
-    let filter = Box::new(alloc, filter)?;
-    Ok(Box::new(alloc, plan(alloc, &filter, &schema)?)?)
+    plan(alloc, &filter, &schema)
 }
 
 /// Of which rows of a batch that is so.
@@ -26,7 +25,7 @@ fn a_filter_is_planned_and_scanned(rt: HostRuntime) -> VortexResult<()> {
     let planned = reorders(alloc)?;
     let paths: Vec<&FieldPath> = planned.paths().iter().collect(alloc)?;
     let split = planned.split().expect(&rt, "a split");
-    let rows = Box::new(alloc, rows(alloc, &planned)?)?;
+    let rows = rows(alloc, &planned)?;
     let page = format!(in alloc; "{paths:?}\n{split}\n{rows}")?;
     assert_eq!(rt;
         page.as_str(),

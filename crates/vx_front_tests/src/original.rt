@@ -1,5 +1,4 @@
 // Tests of the original, through the prelude.
-use crate::boxed::boxed;
 use std::alloc::Global;
 use std::process::Abort;
 use vx_expr::dtype::Nullability::{NonNullable, Nullable};
@@ -9,12 +8,11 @@ use vx_expr::prelude::*;
 // The node, of which that type and these children are asserted.
 fn over(
     rt: &impl Abort,
-    alloc: Global,
     node: VortexResult<BoundExpression>,
     dtype: &DType,
     children: &[&BoundExpression],
-) -> Box<BoundExpression> {
-    let node = boxed(rt, alloc, node);
+) -> BoundExpression {
+    let node = node.expect(rt, "a node");
     assert_eq!(rt; node.dtype(), dtype);
     assert!(rt; node.children().iter().eq(children.iter().copied()));
     node
@@ -23,28 +21,26 @@ fn over(
 #[test]
 fn bound_constructors_preserve_order_and_types(rt: HostRuntime) -> VortexResult<()> {
     let alloc = rt.alloc();
-    let scope = struct_type(alloc, [("value", I32.into())], NonNullable);
-    let scope = boxed(&rt, alloc, scope);
+    let scope = struct_type(alloc, [("value", I32.into())], NonNullable)?;
     let unbound = expr!(in alloc; case_when(gt(col("value"), lit(5)), col("value"), lit(5)));
-    let unbound = boxed(&rt, alloc, Box::new(alloc, unbound)?.bind(alloc, &scope));
+    let unbound = unbound.bind(alloc, &scope)?;
 
-    let value = bound::get_item(alloc, "value", bound::root(Box::into_inner(scope)));
-    let value = boxed(&rt, alloc, value);
-    let literal = boxed(&rt, alloc, bound::lit(alloc, 5));
-    let condition = bound::gt(alloc, &*value, &*literal);
-    let truth = Box::new(alloc, DType::Bool(NonNullable))?;
-    let condition = over(&rt, alloc, condition, &truth, &[&value, &literal]);
+    let value = bound::get_item(alloc, "value", bound::root(scope))?;
+    let literal = bound::lit(alloc, 5)?;
+    let condition = bound::gt(alloc, &value, &literal);
+    let truth = DType::Bool(NonNullable);
+    let condition = over(&rt, condition, &truth, &[&value, &literal]);
 
-    let case = bound::case_when(alloc, &*condition, &*value, &*literal);
-    let children = [&*condition, &*value, &*literal];
-    let case = over(&rt, alloc, case, &I32.into(), &children);
+    let case = bound::case_when(alloc, &condition, &value, &literal);
+    let children = [&condition, &value, &literal];
+    let case = over(&rt, case, &I32.into(), &children);
     assert_eq!(rt; unbound, case);
 
-    let types = [("condition", Box::into_inner(truth)), ("value", I32.into())];
-    let types = boxed(&rt, alloc, struct_type(alloc, types, NonNullable));
-    let fields = [("condition", &*condition), ("value", &*case)];
+    let types = [("condition", truth), ("value", I32.into())];
+    let types = struct_type(alloc, types, NonNullable)?;
+    let fields = [("condition", &condition), ("value", &case)];
     let packed = bound::pack(alloc, fields, NonNullable);
-    over(&rt, alloc, packed, &types, &[&condition, &case]);
+    over(&rt, packed, &types, &[&condition, &case]);
     Ok(())
 }
 
@@ -62,9 +58,7 @@ fn test_display_tree_pack(rt: HostRuntime) -> VortexResult<()> {
             Nullable
         )
     ));
-    let text = Box::new(alloc, select_from_pack_expr)?
-        .display_tree()
-        .to_string(alloc)?;
+    let text = select_from_pack_expr.display_tree().to_string(alloc)?;
     assert_eq!(rt;
         text.as_str(),
         "vortex.select({fizz, buzz})
@@ -84,18 +78,16 @@ fn null_literal_bound_is_value_preserving(rt: HostRuntime) -> VortexResult<()> {
     let alloc = rt.alloc();
     let null: Option<i32> = None;
     let expr = expr!(in alloc; and(gt_eq(col("x"), lit(null)), lt_eq(col("x"), lit(5))));
-    let expr = Box::new(alloc, expr)?;
-    let x = column(alloc, [10, 1]).expect(&rt, "memory");
-    let data = boxed(&rt, alloc, struct_column(alloc, [("x", x)]));
+    let data = struct_column(alloc, [("x", column(alloc, [10, 1])?)])?;
 
-    let before = boxed(&rt, alloc, apply(alloc, &data, &expr));
+    let before = apply(alloc, &data, &expr)?;
 
-    let bound = expr.bind(alloc, data.dtype()).expect(&rt, "a type");
-    let rewritten = boxed(&rt, alloc, find_between(alloc, bound));
-    let after = boxed(&rt, alloc, apply_bound(alloc, &data, &rewritten));
+    let bound = expr.bind(alloc, data.dtype())?;
+    let rewritten = find_between(alloc, bound)?;
+    let after = apply_bound(alloc, &data, &rewritten)?;
 
     assert_eq!(rt; before, after);
-    let expected = boxed(&rt, alloc, column(alloc, [Some(false), None]));
+    let expected = column(alloc, [Some(false), None])?;
     assert_eq!(rt; before, expected);
     Ok(())
 }
@@ -111,21 +103,18 @@ fn ancestor_path_subsumes_descendant(rt: HostRuntime) -> VortexResult<()> {
     let alloc = rt.alloc();
     let expr =
         expr!(in alloc; pack([("a", col("a")), ("x", get_item("x", col("a")))], NonNullable));
-    let expr = Box::new(alloc, expr)?;
-    let scope = boxed(&rt, alloc, scope(alloc));
-    let bound = boxed(&rt, alloc, expr.bind(alloc, &scope));
+    let bound = expr.bind(alloc, &scope(alloc)?)?;
 
-    let set = boxed(&rt, alloc, referenced_field_paths(alloc, &bound));
-    let a = FieldName::new(alloc, "a")?;
-    let a = boxed(&rt, alloc, FieldPath::from_name(alloc, a));
-    assert!(rt; set.iter().eq([&*a].into_iter()));
+    let set = referenced_field_paths(alloc, &bound)?;
+    let a = FieldPath::from_name(alloc, FieldName::new(alloc, "a")?)?;
+    assert!(rt; set.iter().eq([&a].into_iter()));
     Ok(())
 }
 
 #[test]
 fn test_expr_top_level_ref_get_item_and_split_pack(rt: HostRuntime) -> VortexResult<()> {
     let alloc = rt.alloc();
-    let dtype = Box::new(alloc, scope(alloc)?)?;
+    let dtype = scope(alloc)?;
     let expected = expr!(in alloc; pack(
         [
             ("a_0", get_item("x", get_item("a", root()))),
@@ -133,7 +122,7 @@ fn test_expr_top_level_ref_get_item_and_split_pack(rt: HostRuntime) -> VortexRes
         ],
         NonNullable
     ));
-    let expected = boxed(&rt, alloc, Box::new(alloc, expected)?.bind(alloc, &dtype));
+    let expected = expected.bind(alloc, &dtype)?;
     let expr = expr!(in alloc; pack(
         [
             ("x", get_item("x", get_item("a", root()))),
@@ -142,15 +131,14 @@ fn test_expr_top_level_ref_get_item_and_split_pack(rt: HostRuntime) -> VortexRes
         ],
         NonNullable
     ));
-    let bound = boxed(&rt, alloc, Box::new(alloc, expr)?.bind(alloc, &dtype));
+    let bound = expr.bind(alloc, &dtype)?;
     let fields = dtype.as_struct_fields_opt().expect(&rt, "a struct");
     let keys = |node: &BoundExpression| free_fields(alloc, node, fields);
-    let partitioned = partition_bound(alloc, Box::into_inner(bound), keys);
-    let partitioned = boxed(&rt, alloc, partitioned);
+    let partitioned = partition_bound(alloc, bound, keys)?;
 
-    let a = boxed(&rt, alloc, Ok(FieldName::new(alloc, "a")?));
-    let split_a = partitioned.find_partition(alloc, &a).expect(&rt, "memory");
-    assert_eq!(rt; split_a, Some(&*expected));
+    let a = FieldName::new(alloc, "a")?;
+    let split_a = partitioned.find_partition(alloc, &a)?;
+    assert_eq!(rt; split_a, Some(&expected));
     Ok(())
 }
 
@@ -164,11 +152,11 @@ fn pets(alloc: Global) -> VortexResult<Expression> {
 }
 
 #[test]
-fn lit_types(rt: HostRuntime) {
+fn lit_types(rt: HostRuntime) -> VortexResult<()> {
     let alloc = rt.alloc();
     let fields = [("dog", U32.into()), ("cat", DType::Utf8(NonNullable))];
-    let sdtype = boxed(&rt, alloc, struct_type(alloc, fields, NonNullable));
-    let pets = boxed(&rt, alloc, pets(alloc));
-    let dtype = boxed(&rt, alloc, pets.return_dtype(alloc, &sdtype));
+    let sdtype = struct_type(alloc, fields, NonNullable)?;
+    let dtype = pets(alloc)?.return_dtype(alloc, &sdtype)?;
     assert_eq!(rt; dtype, sdtype);
+    Ok(())
 }

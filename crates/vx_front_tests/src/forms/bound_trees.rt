@@ -36,7 +36,7 @@ fn nope(alloc: Global) -> VortexResult<BoundExpression> {
 
 // The text of the tree, and its type.
 fn shown(alloc: Global, tree: VortexResult<BoundExpression>) -> VortexResult<String> {
-    let tree = Box::new(alloc, tree?)?;
+    let tree = tree?;
     let dtype = tree.dtype();
     Ok(format!(in alloc; "{tree} of {dtype}")?)
 }

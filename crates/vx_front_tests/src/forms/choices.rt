@@ -14,8 +14,8 @@ fn exceeds(alloc: Global, bound: i32) -> VortexResult<Expression> {
 
 // (an operand may be lent, too)
 fn zipped(alloc: Global) -> VortexResult<Expression> {
-    let m = Box::new(alloc, col(alloc, "m")?)?;
-    zip_expr(alloc, &*m, x(alloc), lit(alloc, 0))
+    let m = col(alloc, "m")?;
+    zip_expr(alloc, &m, x(alloc), lit(alloc, 0))
 }
 
 #[test]

@@ -8,7 +8,7 @@ use vx_tree::{Column, DType, Expression, VortexResult};
 
 // The text of the column, and its type.
 fn shown(alloc: Global, column: VortexResult<Column>) -> VortexResult<String> {
-    let column = Box::new(alloc, column?)?;
+    let column = column?;
     let dtype = column.dtype();
     Ok(format!(in alloc; "{column} of {dtype}")?)
 }
@@ -80,9 +80,7 @@ fn columns_of_structs(rt: HostRuntime) {
 // The value of the tree over two rows.
 fn over_rows(alloc: Global, tree: VortexResult<Expression>) -> VortexResult<String> {
     let rows = beside(alloc, column(alloc, [10, 1]), column(alloc, [i32::MAX, 1]));
-    let rows = Box::new(alloc, rows?)?;
-    let tree = Box::new(alloc, tree?)?;
-    shown(alloc, apply(alloc, &*rows, &*tree))
+    shown(alloc, apply(alloc, &rows?, &tree?))
 }
 
 #[test]

@@ -7,7 +7,7 @@ use vx_tree::{DType, Scalar, VortexResult};
 
 // The text of the literal, and its type.
 fn literal<S: IntoScalar>(alloc: Global, value: S) -> VortexResult<String> {
-    let tree = Box::new(alloc, lit(alloc, value)?)?;
+    let tree = lit(alloc, value)?;
     let dtype = tree.return_dtype(alloc, &DType::Bool(NonNullable))?;
     Ok(format!(in alloc; "{tree} of {dtype}")?)
 }
@@ -66,8 +66,7 @@ fn row(alloc: Global, row: VortexResult<Scalar>) -> VortexResult<String> {
 
 // The same of a row that is lent.
 fn lent_row(alloc: Global, row: VortexResult<Scalar>) -> VortexResult<String> {
-    let row = Box::new(alloc, row?)?;
-    literal(alloc, &*row)
+    literal(alloc, &row?)
 }
 
 #[test]

@@ -24,7 +24,7 @@ fn numbered(
 
 // The tree that was handed back, and whether it is said to be changed.
 fn shown(alloc: Global, handed: VortexResult<Transformed<Expression>>) -> VortexResult<String> {
-    let handed = Box::new(alloc, handed?)?;
+    let handed = handed?;
     let tree = &handed.value;
     let changed = handed.changed;
     Ok(format!(in alloc; "{tree}, changed: {changed}")?)

@@ -43,27 +43,19 @@ fn fields(rt: HostRuntime) {
     );
 }
 
-fn name(alloc: Global) -> VortexResult<Box<FieldName>> {
-    Ok(Box::new(alloc, FieldName::new(alloc, "a")?)?)
-}
-
-fn names(alloc: Global) -> VortexResult<Box<FieldNames>> {
-    let names = FieldNames::new(alloc, vec![in alloc; FieldName::new(alloc, "a")?]?)?;
-    Ok(Box::new(alloc, names)?)
+fn names(alloc: Global) -> VortexResult<FieldNames> {
+    let names = vec![in alloc; FieldName::new(alloc, "a")?]?;
+    Ok(FieldNames::new(alloc, names)?)
 }
 
 #[test]
 fn names_as_they_come(rt: HostRuntime) {
     let alloc = rt.alloc();
-    let name = name(alloc).expect(&rt, "memory");
+    let name = FieldName::new(alloc, "a").expect(&rt, "memory");
     let names = names(alloc).expect(&rt, "memory");
-    gives(&rt, col(alloc, &*name), "$.a");
-    gives(&rt, select(alloc, [&*name, &*name], root()), "${a, a}");
-    gives(&rt, select(alloc, &*names, root()), "${a}");
-    gives(
-        &rt,
-        select_exclude(alloc, Box::into_inner(names), root()),
-        "${~ a}",
-    );
-    gives(&rt, get_item(alloc, Box::into_inner(name), root()), "$.a");
+    gives(&rt, col(alloc, &name), "$.a");
+    gives(&rt, select(alloc, [&name, &name], root()), "${a, a}");
+    gives(&rt, select(alloc, &names, root()), "${a}");
+    gives(&rt, select_exclude(alloc, names, root()), "${~ a}");
+    gives(&rt, get_item(alloc, name, root()), "$.a");
 }
