@@ -87,7 +87,7 @@ pub fn answer(
         }
         (Call::Typed(call), [dtype, file]) => {
             let file = unescaped(alloc, file)?;
-            let dtype = Box::new(alloc, parse_type(alloc, dtype)?)?;
+            let dtype = parse_type(alloc, dtype)?;
             Ok(typed_answer(alloc, format, call, &dtype, file.as_slice())?)
         }
         _ => Err(Unread::Word("another number of columns")),

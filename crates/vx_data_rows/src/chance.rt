@@ -51,12 +51,12 @@ fn seed_and_count(words: &str) -> Result<(u64, u64), Unread> {
 }
 
 // A column with up to eight rows by chance, of a type by chance that the format can hold.
-fn column(alloc: Global, format: Format<'_>, numbers: &mut Numbers) -> Result<Box<Column>, Unread> {
+fn column(alloc: Global, format: Format<'_>, numbers: &mut Numbers) -> Result<Column, Unread> {
     let text = type_text(alloc, format, numbers)?;
-    let dtype = Box::new(alloc, parse_type(alloc, text.as_str())?)?;
+    let dtype = parse_type(alloc, text.as_str())?;
     let rows = rows(alloc, &dtype, numbers)?;
-    match Column::try_new(Box::into_inner(dtype), rows) {
-        Ok(column) => Ok(Box::new(alloc, column)?),
+    match Column::try_new(dtype, rows) {
+        Ok(column) => Ok(column),
         Err(refusal) => {
             drop(refusal);
             Err(Unread::Word("a value by chance is none of its type"))

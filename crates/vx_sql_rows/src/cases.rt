@@ -36,7 +36,7 @@ pub fn make_cases(
     let mut seeds = Seeds::new(seed.wrapping_add(1));
     let rows = rows(alloc, kinds.as_slice(), &mut seeds)?;
     let mut script = String::new(alloc);
-    if let DType::Struct(fields, _) = &*scope {
+    if let DType::Struct(fields, _) = &scope {
         push_table(alloc, dialect, fields, rows.as_slice(), &mut script)?;
     }
     let mut told = Cases {
@@ -269,7 +269,7 @@ impl Found {
         let alloc = self.alloc;
         let mut rows = Vec::new(alloc);
         rows.push(row.clone()?)?;
-        let batch = Box::new(alloc, Column::try_new(scope.clone()?, rows)?)?;
+        let batch = Column::try_new(scope.clone()?, rows)?;
         match apply_bound(alloc, &batch, tree) {
             Ok(column) => {
                 if let [value] = column.rows() {

@@ -131,7 +131,7 @@ fn sql(
     scope: &str,
     expression: &str,
 ) -> Result<Result<String, Unsupported>, Unread> {
-    let scope = Box::new(alloc, parse_type(alloc, scope)?)?;
+    let scope = parse_type(alloc, scope)?;
     let bound = bound(alloc, expression, &scope)?;
     Ok(to_sql(alloc, &bound, dialect))
 }

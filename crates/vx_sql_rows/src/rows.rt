@@ -27,7 +27,7 @@ pub fn kinds(alloc: Global, dialect: Dialect) -> Result<Vec<Kind>, AllocError> {
 }
 
 /// The type of the rows: of each kind a column with nulls, and one without.
-pub fn scope(alloc: Global, kinds: &[Kind]) -> Result<Box<DType>, Unread> {
+pub fn scope(alloc: Global, kinds: &[Kind]) -> Result<DType, Unread> {
     let mut text = String::from_str(alloc, "{")?;
     for (i, kind) in kinds.iter().enumerate() {
         let [nullable, plain] = kind.columns();
@@ -37,7 +37,7 @@ pub fn scope(alloc: Global, kinds: &[Kind]) -> Result<Box<DType>, Unread> {
         text.push_str(pair.as_str())?;
     }
     text.push_str("}")?;
-    Ok(Box::new(alloc, parse_type(alloc, text.as_str())?)?)
+    Ok(parse_type(alloc, text.as_str())?)
 }
 
 /// A row by chance.

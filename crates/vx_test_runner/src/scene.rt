@@ -6,15 +6,15 @@ ghost use Rattle.vx_tree.specs.Views.{bound_of};
 use crate::answers::pruned::{read_off, statistics};
 use std::alloc::Global;
 use vx_prune::ChunkStats;
-use vx_test_support::{Unread, boxed, dtype, values};
+use vx_test_support::{Unread, dtype, expression, values};
 use vx_tree::{BoundExpression, Column, DType, Expression, VortexResult};
 
 /// The scope, batches of its type, statistics, and the tree that a ditto mark stands for.
 #[derive(Drop)]
 pub struct Scene {
-    pub scope: Box<DType>,
+    pub scope: DType,
     pub batches: Vec<Column>,
-    pub statistics: Box<ChunkStats>,
+    pub statistics: ChunkStats,
     tree: String,
 }
 
@@ -22,9 +22,9 @@ impl Scene {
     /// The scope of no fields, without a batch, and statistics of no row.
     pub fn new(alloc: Global) -> Result<Scene, Unread> {
         Ok(Scene {
-            scope: Box::new(alloc, dtype(alloc, "{}")?)?,
+            scope: dtype(alloc, "{}")?,
             batches: Vec::new(alloc),
-            statistics: Box::new(alloc, ChunkStats::new(alloc, 0))?,
+            statistics: ChunkStats::new(alloc, 0),
             tree: String::new(alloc),
         })
     }
@@ -33,7 +33,7 @@ impl Scene {
     pub fn set(&mut self, alloc: Global, name: &str, rest: &str) -> Result<bool, Unread> {
         match name {
             "scope" => {
-                self.scope = Box::new(alloc, dtype(alloc, rest)?)?;
+                self.scope = dtype(alloc, rest)?;
                 self.batches = Vec::new(alloc);
             }
             "batch" => {
@@ -41,7 +41,7 @@ impl Scene {
                 self.batches.push(batch)?;
             }
             "no batch" if rest.is_empty() => self.batches = Vec::new(alloc),
-            "statistics" => self.statistics = Box::new(alloc, statistics(alloc, rest)?)?,
+            "statistics" => self.statistics = statistics(alloc, rest)?,
             "read statistics" => self.statistics = self.read_off(alloc, rest)?,
             "tree" => self.tree = String::from_str(alloc, rest)?,
             _ => return Ok(false),
@@ -50,13 +50,13 @@ impl Scene {
     }
 
     // The statistics of the first batch along the paths.
-    fn read_off(&self, alloc: Global, paths: &str) -> Result<Box<ChunkStats>, Unread> {
+    fn read_off(&self, alloc: Global, paths: &str) -> Result<ChunkStats, Unread> {
         let batch = self.batches.first().ok_or("no batch")?;
-        Ok(Box::new(alloc, read_off(alloc, batch, paths)?)?)
+        Ok(read_off(alloc, batch, paths)?)
     }
 
     fn column(&self, alloc: Global, rows: &str) -> Result<Column, Unread> {
-        let dtype = (*self.scope).clone()?;
+        let dtype = self.scope.clone()?;
         Ok(Column::try_new(dtype, values(alloc, rows)?)?)
     }
 
@@ -69,15 +69,14 @@ impl Scene {
     }
 
     /// The source of the text.
-    pub fn source(&self, alloc: Global, text: &str) -> Result<Box<Expression>, Unread> {
-        boxed(alloc, self.text(text))
+    pub fn source(&self, alloc: Global, text: &str) -> Result<Expression, Unread> {
+        expression(alloc, self.text(text))
     }
 
     /// The source, bound to the scope.
-    pub fn bind(&self, alloc: Global, source: &Expression) -> VortexResult<Box<BoundExpression>>
-        ensures { IfOk result (λ b. WellTyped (bound_of b.value)) }
+    pub fn bind(&self, alloc: Global, source: &Expression) -> VortexResult<BoundExpression>
+        ensures { IfOk result (λ b. WellTyped (bound_of b)) }
     {
-        let bound = source.bind(alloc, &self.scope)?;
-        Ok(Box::new(alloc, bound)?)
+        source.bind(alloc, &self.scope)
     }
 }

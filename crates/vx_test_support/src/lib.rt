@@ -24,6 +24,6 @@ pub use seeds::Seeds;
 pub use table::{Aim, Table, Tally, exit_code};
 pub use texts::reads;
 pub use times::repeated;
-pub use trees::{bound, boxed, column};
+pub use trees::{bound, column, expression};
 pub use types::{dtype, i32_type, names};
 pub use unread::Unread;

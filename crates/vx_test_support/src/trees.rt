@@ -14,27 +14,20 @@ use vx_tree::{BoundExpression, Column, DType, Expression};
 // More nesting than a table or a test has.
 pub const NESTING: usize = 1_000_000;
 
-/// The tree of the source text, in which `times(7) .. end` says what is between seven times. It is
-/// behind a box: wherever a caller may end, the prover writes out a tree that isn't behind one.
-pub fn boxed(alloc: Global, text: &str) -> Result<Box<Expression>, Unread> {
+/// The tree of the source text, in which `times(7) .. end` says what is between seven times.
+pub fn expression(alloc: Global, text: &str) -> Result<Expression, Unread> {
     if !text.contains("times(") {
-        return parsed(alloc, text);
+        return Ok(parse_with(alloc, text, NESTING)?);
     }
     let text = repeated(alloc, text)?;
-    parsed(alloc, text.as_str())
-}
-
-fn parsed(alloc: Global, text: &str) -> Result<Box<Expression>, Unread> {
-    let tree = parse_with(alloc, text, NESTING)?;
-    Ok(Box::new(alloc, tree)?)
+    Ok(parse_with(alloc, text.as_str(), NESTING)?)
 }
 
 /// The tree of the source text, bound to the scope.
-pub fn bound(alloc: Global, text: &str, scope: &DType) -> Result<Box<BoundExpression>, Unread>
-    ensures { IfOk result (λ b. WellTyped (bound_of b.value)) }
+pub fn bound(alloc: Global, text: &str, scope: &DType) -> Result<BoundExpression, Unread>
+    ensures { IfOk result (λ b. WellTyped (bound_of b)) }
 {
-    let bound = boxed(alloc, text)?.bind(alloc, scope)?;
-    Ok(Box::new(alloc, bound)?)
+    Ok(expression(alloc, text)?.bind(alloc, scope)?)
 }
 
 /// The column of that type with these rows, which stand one space apart.

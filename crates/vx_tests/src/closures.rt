@@ -1,5 +1,4 @@
 // Labels and annotations by closures that no row of a table names.
-use crate::looks::kept;
 use crate::worked::{CONDITIONS, tree};
 use std::alloc::Global;
 use std::process::Abort;
@@ -24,12 +23,10 @@ fn labels_are_merged_from_the_left(rt: HostRuntime) -> Result<(), Fail> {
     let alloc = rt.alloc();
     let e = tree(alloc, "a.x >= 1")?;
     let apart = tree(alloc, "a.x >= 1")?;
-    let labels = kept(&rt, alloc, folded(alloc, &*e));
+    let labels = folded(alloc, &e).expect(&rt, "labels");
     // $ 1, $.a 3, $.a.x 5, the literal 1, and (1 * 2 + 5) * 2 + 1.
     assert_eq!(rt; labels.len(), 5);
-    let found = labels
-        .get(&ExactBoundExpr::new(Box::into_inner(apart)))
-        .copied();
+    let found = labels.get(&ExactBoundExpr::new(apart)).copied();
     assert!(rt; found == Some(15), "{found:?} and not 15");
     Ok(())
 }
@@ -55,8 +52,8 @@ fn the_first_refusal_is_passed_on(rt: HostRuntime) -> Result<(), Fail> {
     let alloc = rt.alloc();
     let e = tree(alloc, CONDITIONS)?;
     let refuse = |node: &BoundExpression| refuse(alloc, node);
-    is_first(&rt, descendent_bound_annotations(alloc, &*e, refuse));
+    is_first(&rt, descendent_bound_annotations(alloc, &e, refuse));
     let refuse = |node: &BoundExpression| self::refuse(alloc, node);
-    is_first(&rt, direct_bound_annotations(alloc, &*e, refuse));
+    is_first(&rt, direct_bound_annotations(alloc, &e, refuse));
     Ok(())
 }

@@ -1,5 +1,5 @@
 // Columns and values: their parts, and the batch that is refused.
-use crate::looks::{answers, differs, gives, kept, refuses, same};
+use crate::looks::{answers, differs, gives, refuses, same};
 use std::alloc::Global;
 use std::process::Abort;
 use std::test::Fail;
@@ -11,7 +11,7 @@ use vx_tree::{Column, Value, VortexError, VortexResult};
 #[test]
 fn a_column_is_its_type_and_its_rows(rt: HostRuntime) {
     let alloc = rt.alloc();
-    let column = kept(&rt, alloc, column(alloc, "i32?", "7 null"));
+    let column = column(alloc, "i32?", "7 null").expect(&rt, "a column");
     assert_eq!(rt; column.len(), 2);
     assert!(rt; !column.is_empty());
     assert!(rt; reads(column.dtype(), "i32?"));
@@ -19,7 +19,7 @@ fn a_column_is_its_type_and_its_rows(rt: HostRuntime) {
     assert!(rt; column.row(1).is_null());
     assert!(rt; column.shared_rows().is_none());
     let one = vx_test_support::column(alloc, "i32?", "7");
-    differs(&rt, Box::into_inner(kept(&rt, alloc, one)), &*column);
+    differs(&rt, one.expect(&rt, "a column"), &column);
 }
 
 /// A column of the same rows, which both share.
@@ -36,17 +36,17 @@ fn sharing(alloc: Global, column: &Column) -> VortexResult<Column> {
 #[test]
 fn columns_share_their_rows(rt: HostRuntime) {
     let alloc = rt.alloc();
-    let column = kept(&rt, alloc, column(alloc, "i32?", "7 null"));
-    let copy = kept(&rt, alloc, (*column).clone());
-    let shared = kept(&rt, alloc, Box::into_inner(copy).into_shared(alloc));
-    gives(&rt, sharing(alloc, &shared), &*column);
-    same(&rt, Box::into_inner(shared), &*column);
+    let column = column(alloc, "i32?", "7 null").expect(&rt, "a column");
+    let copy = column.clone().expect(&rt, "memory");
+    let shared = copy.into_shared(alloc).expect(&rt, "a column");
+    gives(&rt, sharing(alloc, &shared), &column);
+    same(&rt, shared, &column);
 }
 
 /// Asserts whether the value of the word is one of the type.
 fn fits(rt: &impl Abort, alloc: Global, word: &str, kind: &str, wanted: bool) {
-    let dtype = kept(rt, alloc, dtype(alloc, kind));
-    let value = kept(rt, alloc, vx_test_support::value(alloc, word));
+    let dtype = dtype(alloc, kind).expect(rt, "a type");
+    let value = vx_test_support::value(alloc, word).expect(rt, "a value");
     assert!(rt; value.fits(&dtype) == wanted, "{word} of {kind}");
 }
 
@@ -57,8 +57,8 @@ fn values_fit_or_not(rt: HostRuntime) {
     fits(&rt, alloc, "[1]", "fixed_size_list(i32)[2]", false);
     fits(&rt, alloc, "null", "fixed_size_list(i32)[2]", false);
     fits(&rt, alloc, "null", "fixed_size_list(i32)[2]?", true);
-    let two = kept(&rt, alloc, values(alloc, "[1,2] null false"));
-    gives(&rt, (*two).clone(), &*two);
+    let two = values(alloc, "[1,2] null false").expect(&rt, "values");
+    gives(&rt, two.clone(), &two);
     assert!(rt;
         matches!(two.as_slice(), [list, null, truth]
             if !list.is_null() && null.is_null() && !truth.is_null())
@@ -68,7 +68,7 @@ fn values_fit_or_not(rt: HostRuntime) {
 /// What the tree of the text, over `i32?`, answers on one row of `i32`.
 fn over_narrower(alloc: Global, text: &str) -> Result<VortexResult<Column>, Fail> {
     let bound = bound(alloc, text, &i32_type(Nullable))?;
-    let rows = Box::new(alloc, column(alloc, "i32", "1")?)?;
+    let rows = column(alloc, "i32", "1")?;
     Ok(apply_bound(alloc, &rows, &bound))
 }
 

@@ -1,5 +1,4 @@
 // What a path is made of.
-use crate::looks::kept;
 use std::alloc::Global;
 use vx_tree::{FieldName, VortexResult};
 use vx_types::FieldPath;
@@ -17,12 +16,12 @@ fn inner(alloc: Global, path: &FieldPath, name: &str) -> VortexResult<FieldPath>
 #[test]
 fn a_path_is_its_parts(rt: HostRuntime) {
     let alloc = rt.alloc();
-    let root = kept(&rt, alloc, FieldPath::root(alloc));
+    let root = FieldPath::root(alloc).expect(&rt, "a path");
     assert!(rt; root.is_root());
-    let a = kept(&rt, alloc, outer(alloc, "a"));
+    let a = outer(alloc, "a").expect(&rt, "a path");
     assert!(rt; !a.is_root());
-    let a_x = kept(&rt, alloc, inner(alloc, &a, "x"));
+    let a_x = inner(alloc, &a, "x").expect(&rt, "a path");
     assert_eq!(rt; a_x.parts().len(), 2);
     assert!(rt; a_x.parts()[0] == a.parts()[0]);
-    assert!(rt; *a_x != *a);
+    assert!(rt; a_x != a);
 }

@@ -3,7 +3,6 @@ ghost use Rattle.std.specs.Prelude.{IfOk};
 ghost use Rattle.std.specs.List.{IsDistinct};
 ghost use Rattle.std.specs.Str.{bytes_eq};
 
-use crate::looks::kept;
 use std::alloc::Global;
 use vx_test_support::names;
 use vx_tree::Nullability::Nullable;
@@ -20,7 +19,7 @@ fn item(alloc: Global, name: &str) -> VortexResult<ScalarFnRef> {
 #[test]
 fn markers_see_their_own_function(rt: HostRuntime) {
     let alloc = rt.alloc();
-    let item = kept(&rt, alloc, item(alloc, "a"));
+    let item = item(alloc, "a").expect(&rt, "a function");
     assert!(rt; item.is::<GetItem>());
     assert!(rt; !item.is::<Literal>());
     assert!(rt;
@@ -28,9 +27,8 @@ fn markers_see_their_own_function(rt: HostRuntime) {
             .is_some_and(|name| name.as_str() == "a")
     );
     assert!(rt; item.as_opt::<Binary>().is_none());
-    let and: VortexResult<ScalarFnRef> = Ok(Binary::bind(Operator::And));
-    let and = kept(&rt, alloc, and);
-    assert!(rt; Binary::options_of(&*and) == Some(&Operator::And));
+    let and = Binary::bind(Operator::And);
+    assert!(rt; Binary::options_of(&and) == Some(&Operator::And));
     assert!(rt; FillNull::supports_dtype(&DType::Utf8(Nullable)));
     assert_eq!(rt; StrictComparison::Strict.sign(), "<");
 }
@@ -53,15 +51,15 @@ fn only(alloc: Global, name: &str) -> VortexResult<FieldSelection> {
 #[test]
 fn selections_tell_their_names(rt: HostRuntime) {
     let alloc = rt.alloc();
-    let a = kept(&rt, alloc, names(alloc, "a", ' '));
-    let left_out = kept(&rt, alloc, all_but(alloc, "a"));
+    let a = names(alloc, "a", ' ').expect(&rt, "names");
+    let left_out = all_but(alloc, "a").expect(&rt, "a selection");
     assert!(rt; left_out.is_exclude() && !left_out.is_include());
-    assert!(rt; *left_out.field_names() == *a);
-    let chosen = kept(&rt, alloc, only(alloc, "a"));
+    assert!(rt; *left_out.field_names() == a);
+    let chosen = only(alloc, "a").expect(&rt, "a selection");
     assert!(rt; chosen.is_include() && !chosen.is_exclude());
-    assert!(rt; *chosen.field_names() == *a);
-    let given = names(alloc, "c b", ' ').map(FieldSelection::Include);
-    let given = kept(&rt, alloc, given);
+    assert!(rt; *chosen.field_names() == a);
+    let given = names(alloc, "c b", ' ').expect(&rt, "names");
+    let given = FieldSelection::Include(given);
     assert!(rt; given.is_include() && !given.is_exclude());
     assert_eq!(rt; given.field_names().len(), 2);
 }

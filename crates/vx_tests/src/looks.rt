@@ -1,19 +1,8 @@
-// What tests assert of values that they hand over. All of it is generic, since of a type parameter the
-// prover writes nothing out: a value that a test keeps itself, over a step that may end it, is written
-// out at each such step (docs/develop/BENCHMARKS.md, "What a proof costs").
-use std::alloc::Global;
+// What tests assert of values that they hand over.
 use std::fmt::Display;
 use std::process::Abort;
 use vx_test_support::reads;
 use vx_tree::VortexResult;
-
-/// What is answered, behind a box. A refusal ends the test.
-pub fn kept<T: Drop, E: Drop>(rt: &impl Abort, alloc: Global, answer: Result<T, E>) -> Box<T> {
-    match answer {
-        Ok(value) => Box::new(alloc, value).expect(rt, "memory"),
-        Err(_) => rt.abort(),
-    }
-}
 
 /// Asserts that the value prints as the text.
 pub fn shows<T: Display + Drop>(rt: &impl Abort, value: T, text: &str) {

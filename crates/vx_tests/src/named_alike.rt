@@ -64,12 +64,12 @@ fn key_of(alloc: Global, e: &BoundExpression) -> VortexResult<Vec<Key>> {
 }
 
 /// The tree split by its own annotations.
-fn split_by_own(alloc: Global, e: Box<BoundExpression>) -> VortexResult<BoundPartitionedExpr<Key>>
-    requires { WellTyped (bound_of e.value) }
+fn split_by_own(alloc: Global, e: BoundExpression) -> VortexResult<BoundPartitionedExpr<Key>>
+    requires { WellTyped (bound_of e) }
 {
     let keys = |node: &BoundExpression| key_of(alloc, node);
-    let annotations = direct_bound_annotations(alloc, &*e, keys)?;
-    partition_bound_annotations(alloc, Box::into_inner(e), annotations)
+    let annotations = direct_bound_annotations(alloc, &e, keys)?;
+    partition_bound_annotations(alloc, e, annotations)
 }
 
 #[test]
@@ -87,7 +87,7 @@ fn a_name_is_taken_once(rt: HostRuntime) -> Result<(), Fail> {
     let alloc = rt.alloc();
     let e = tree(alloc, "b < 5 and c < 5")?;
     let keys = |node: &BoundExpression| key_of(alloc, node);
-    let split = partition_bound(alloc, Box::into_inner(e), keys);
+    let split = partition_bound(alloc, e, keys);
     refuses(&rt, split, "two annotations with the field name p");
     Ok(())
 }

@@ -1,5 +1,5 @@
 // The optimizer by rules of a test's own.
-use crate::looks::{kept, refuses};
+use crate::looks::refuses;
 use crate::worked::tree;
 use std::alloc::Global;
 use std::test::Fail;
@@ -35,10 +35,10 @@ impl Rule for Refused {
 fn a_rule_of_our_own_is_applied(rt: HostRuntime) -> Result<(), Fail> {
     let alloc = rt.alloc();
     let e = tree(alloc, "not not not b < 5")?;
-    let left = kept(&rt, alloc, optimize_with(alloc, &DoubleNegation, &*e));
-    assert!(rt; matches!(&*left, Some(left) if reads(left, "vortex.not(($.b < 5i32))")));
+    let left = optimize_with(alloc, &DoubleNegation, &e).expect(&rt, "a tree");
+    assert!(rt; matches!(&left, Some(left) if reads(left, "vortex.not(($.b < 5i32))")));
     let e = tree(alloc, "not b < 5")?;
-    let left = kept(&rt, alloc, optimize_with(alloc, &DoubleNegation, &*e));
+    let left = optimize_with(alloc, &DoubleNegation, &e).expect(&rt, "a tree");
     assert!(rt; left.is_none());
     Ok(())
 }
@@ -48,7 +48,7 @@ fn a_rule_of_our_own_is_applied(rt: HostRuntime) -> Result<(), Fail> {
 fn a_refusal_of_a_rule_is_passed_on(rt: HostRuntime) -> Result<(), Fail> {
     let alloc = rt.alloc();
     let e = tree(alloc, "pack(p: b).p < 5")?;
-    refuses(&rt, optimize_with(alloc, &Refused, &*e), "out of memory");
-    assert!(rt; reads(&*e, "(pack(p: $.b).p < 5i32)"));
+    refuses(&rt, optimize_with(alloc, &Refused, &e), "out of memory");
+    assert!(rt; reads(&e, "(pack(p: $.b).p < 5i32)"));
     Ok(())
 }

@@ -1,8 +1,8 @@
 // Scalars by their constructors: texts, types and values.
-use crate::looks::{answers, differs, gives, kept, shows};
+use crate::looks::{answers, differs, gives, shows};
 use vx_test_support::reads;
 use vx_tree::Nullability::Nullable;
-use vx_tree::{DType, Scalar, Value, VortexResult};
+use vx_tree::{DType, Scalar, Value};
 
 #[test]
 fn scalars_show_their_value(rt: HostRuntime) {
@@ -25,15 +25,12 @@ fn scalars_show_their_value(rt: HostRuntime) {
 
 #[test]
 fn scalars_have_a_type_and_a_value(rt: HostRuntime) {
-    let alloc = rt.alloc();
-    let null: VortexResult<Scalar> = Ok(Scalar::null(DType::Utf8(Nullable)));
-    let null = kept(&rt, alloc, null);
+    let null = Scalar::null(DType::Utf8(Nullable));
     assert!(rt; null.is_null());
-    assert!(rt; reads(&*null, "null") && reads(null.dtype(), "utf8?"));
-    let five: VortexResult<Scalar> = Ok(Scalar::from_i32(5));
-    let five = kept(&rt, alloc, five);
+    assert!(rt; reads(&null, "null") && reads(null.dtype(), "utf8?"));
+    let five = Scalar::from_i32(5);
     assert!(rt; !five.is_null());
     assert!(rt; matches!(five.value(), Value::Int(5)));
-    gives(&rt, (*five).clone(), &*five);
-    differs(&rt, Scalar::from_i64(5), &*five);
+    gives(&rt, five.clone(), &five);
+    differs(&rt, Scalar::from_i64(5), &five);
 }

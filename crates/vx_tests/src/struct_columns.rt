@@ -1,5 +1,4 @@
 // A column of structs that has no columns and may be null, of which no row of a table is made.
-use crate::looks::kept;
 use std::alloc::Global;
 use vx_test_support::reads;
 use vx_tree::Nullability::Nullable;
@@ -12,7 +11,7 @@ fn of_no_columns(alloc: Global, rows: usize) -> VortexResult<Column> {
 
 #[test]
 fn no_columns_have_rows_too(rt: HostRuntime) {
-    let column = kept(&rt, rt.alloc(), of_no_columns(rt.alloc(), 2));
+    let column = of_no_columns(rt.alloc(), 2).expect(&rt, "a column");
     assert!(rt; column.dtype().is_nullable());
-    assert!(rt; reads(&*column, "[{}, {}]"), "{column}");
+    assert!(rt; reads(&column, "[{}, {}]"), "{column}");
 }

@@ -1,11 +1,11 @@
 // Trees: their functions and children, and nodes made anew.
-use crate::looks::{gives, kept, refuses, shows};
+use crate::looks::{gives, refuses, shows};
 use std::alloc::Global;
 use std::process::Abort;
 use std::test::Fail;
 use vx_build::{bound, root};
 use vx_source::{parse, parse_type};
-use vx_test_support::{boxed, dtype, i32_type, reads};
+use vx_test_support::{dtype, expression, i32_type, reads};
 use vx_tree::Nullability::{NonNullable, Nullable};
 use vx_tree::test_harness::struct_dtype;
 use vx_tree::{
@@ -20,12 +20,12 @@ pub const RANGE_OF_X: &str = "x >= null::i32? and x <= 5";
 fn a_range_has_its_text_and_type(rt: HostRuntime) -> Result<(), Fail> {
     let alloc = rt.alloc();
     let text = "(($.x >= null) and ($.x <= 5i32))";
-    let scope = Box::new(alloc, parse_type(alloc, "{x=i32}")?)?;
-    let source = Box::new(alloc, parse(alloc, RANGE_OF_X)?)?;
-    let bound = Box::new(alloc, source.bind(alloc, &scope)?)?;
+    let scope = parse_type(alloc, "{x=i32}")?;
+    let source = parse(alloc, RANGE_OF_X)?;
+    let bound = source.bind(alloc, &scope)?;
     assert!(rt; *bound.dtype() == DType::Bool(Nullable));
     assert!(rt; bound.is_root_bound_to(&scope));
-    assert!(rt; reads(&*bound, text) && reads(&*source, text));
+    assert!(rt; reads(&bound, text) && reads(&source, text));
     Ok(())
 }
 
@@ -41,8 +41,8 @@ fn compared(alloc: Global) -> VortexResult<BoundExpression> {
 #[test]
 fn a_number_is_no_text(rt: HostRuntime) -> Result<(), Fail> {
     let alloc = rt.alloc();
-    let scope = kept(&rt, alloc, struct_dtype(alloc));
-    let source = boxed(alloc, r#"a = "nope""#)?;
+    let scope = struct_dtype(alloc).expect(&rt, "a type");
+    let source = expression(alloc, r#"a = "nope""#)?;
     refuses(&rt, source.bind(alloc, &scope), NO_TEXT);
     refuses(&rt, source.return_dtype(alloc, &scope), NO_TEXT);
     refuses(&rt, compared(alloc), NO_TEXT);
@@ -52,8 +52,8 @@ fn a_number_is_no_text(rt: HostRuntime) -> Result<(), Fail> {
 #[test]
 fn nodes_show_their_function_and_children(rt: HostRuntime) -> Result<(), Fail> {
     let alloc = rt.alloc();
-    let source = boxed(alloc, RANGE_OF_X)?;
-    assert!(rt; !source.is_root() && !vx_build::is_root(&*source));
+    let source = expression(alloc, RANGE_OF_X)?;
+    assert!(rt; !source.is_root() && !vx_build::is_root(&source));
     assert!(rt; matches!(source.as_scalar(), Some(ScalarFnRef::Binary(Operator::And))));
     assert!(rt; source.as_opt::<Binary>() == Some(&Operator::And));
     assert!(rt; source.as_opt::<GetItem>().is_none());
@@ -65,14 +65,14 @@ fn nodes_show_their_function_and_children(rt: HostRuntime) -> Result<(), Fail> {
     assert_eq!(rt; source.children().len(), 2);
     assert!(rt; source.child(0) != source.child(1));
     assert!(rt; source.child(1) == source.display_child(1));
-    gives(&rt, (*source).clone(), &*source);
+    gives(&rt, source.clone(), &source);
     Ok(())
 }
 
 #[test]
 fn bound_nodes_show_their_function_and_children(rt: HostRuntime) -> Result<(), Fail> {
     let alloc = rt.alloc();
-    let scope = kept(&rt, alloc, dtype(alloc, "{x=i32}"));
+    let scope = dtype(alloc, "{x=i32}").expect(&rt, "a type");
     let bound = vx_test_support::bound(alloc, RANGE_OF_X, &scope)?;
     assert!(rt; matches!(bound.as_scalar(), Some(ScalarFnRef::Binary(Operator::And))));
     assert!(rt; bound.as_opt::<Binary>() == Some(&Operator::And));
@@ -89,14 +89,14 @@ fn bound_nodes_show_their_function_and_children(rt: HostRuntime) -> Result<(), F
 #[test]
 fn a_scope_is_its_type(rt: HostRuntime) -> Result<(), Fail> {
     let alloc = rt.alloc();
-    let source = boxed(alloc, RANGE_OF_X)?;
-    let dtype = kept(&rt, alloc, dtype(alloc, "{x=i32}"));
-    let scope = Box::new(alloc, Scope::new((*dtype).clone()?))?;
-    let bound = kept(&rt, alloc, source.bind_scope(alloc, &scope));
+    let source = expression(alloc, RANGE_OF_X)?;
+    let dtype = dtype(alloc, "{x=i32}").expect(&rt, "a type");
+    let scope = Scope::new(dtype.clone()?);
+    let bound = source.bind_scope(alloc, &scope).expect(&rt, "a tree");
     assert!(rt; bound.is_root_bound_to(scope.root()));
     assert!(rt; !bound.is_root_bound_to(&i32_type(NonNullable)));
     shows(&rt, source.return_dtype(alloc, scope.root())?, "bool?");
-    gives(&rt, source.bind(alloc, scope.root()), &*bound);
+    gives(&rt, source.bind(alloc, scope.root()), &bound);
     Ok(())
 }
 
@@ -128,12 +128,12 @@ fn over_others(
     text: &str,
     others: &[&str],
 ) -> Result<VortexResult<Expression>, Fail> {
-    let tree = boxed(alloc, text)?;
+    let tree = expression(alloc, text)?;
     let mut children = Vec::new(alloc);
     for other in others {
-        children.push(Box::into_inner(boxed(alloc, other)?))?;
+        children.push(expression(alloc, other)?)?;
     }
-    Ok(Box::into_inner(tree).with_children(alloc, children))
+    Ok(tree.with_children(alloc, children))
 }
 
 #[test]
@@ -157,16 +157,15 @@ fn root_anew(alloc: Global) -> VortexResult<BoundExpression> {
 #[test]
 fn a_root_has_no_children_and_one_line(rt: HostRuntime) {
     let alloc = rt.alloc();
-    let source: VortexResult<Expression> = Ok(Expression::Root);
-    let source = kept(&rt, alloc, source);
-    assert!(rt; source.is_root() && vx_build::is_root(&*source));
-    assert!(rt; *source == root());
-    let bound = kept(&rt, alloc, root_anew(alloc));
+    let source = Expression::Root;
+    assert!(rt; source.is_root() && vx_build::is_root(&source));
+    assert!(rt; source == root());
+    let bound = root_anew(alloc).expect(&rt, "a tree");
     assert!(rt; bound.is_root());
     gives(&rt, struct_dtype(alloc), bound.dtype());
-    assert!(rt; reads(&*source, "$") && reads(&source.display_tree(), "vortex.root()"));
-    assert!(rt; reads(&DisplayTreeExpr(&*source), "vortex.root()"));
-    assert!(rt; reads(&DisplayTreeExpr(&*bound), "vortex.root()"));
+    assert!(rt; reads(&source, "$") && reads(&source.display_tree(), "vortex.root()"));
+    assert!(rt; reads(&DisplayTreeExpr(&source), "vortex.root()"));
+    assert!(rt; reads(&DisplayTreeExpr(&bound), "vortex.root()"));
 }
 
 /// The node with copies of its own children.
@@ -181,9 +180,9 @@ fn over_its_own(alloc: Global, tree: &BoundExpression) -> VortexResult<BoundExpr
 #[test]
 fn a_bound_node_takes_other_children(rt: HostRuntime) -> Result<(), Fail> {
     let alloc = rt.alloc();
-    let scope = kept(&rt, alloc, struct_dtype(alloc));
+    let scope = struct_dtype(alloc).expect(&rt, "a type");
     let bound = vx_test_support::bound(alloc, "bool1 or bool2", &scope)?;
-    gives(&rt, over_its_own(alloc, &bound), &*bound);
+    gives(&rt, over_its_own(alloc, &bound), &bound);
     Ok(())
 }
 

@@ -9,7 +9,7 @@ use std::marker::PhantomData;
 use std::process::Abort;
 use std::test::Fail;
 use vx_build::root;
-use vx_test_support::boxed;
+use vx_test_support::expression;
 use vx_tree::{Binary, Expression, FieldName, GetItem, Operator, VortexError, VortexResult};
 use vx_walk::TraversalOrder::{Continue, Skip, Stop};
 use vx_walk::{
@@ -91,17 +91,17 @@ fn finds<N: Node + HasField>(
 #[test]
 fn names_are_collected_over_both_trees(rt: HostRuntime) -> Result<(), Fail> {
     let alloc = rt.alloc();
-    let source = boxed(alloc, COMPARISONS)?;
-    finds(&rt, alloc, &*source, "col1 col2 col3 col4")?;
+    let source = expression(alloc, COMPARISONS)?;
+    finds(&rt, alloc, &source, "col1 col2 col3 col4")?;
     let bound = over_harness(alloc, "col1 = col2")?;
-    finds(&rt, alloc, &*bound, "col1 col2")
+    finds(&rt, alloc, &bound, "col1 col2")
 }
 
 /// Answers Skip on the way up of the nodes that are equal to one, and sees whether an operator's way
 /// up comes.
 #[derive(Drop)]
 struct SkipAt {
-    node: Box<Expression>,
+    node: Expression,
     above: bool,
 }
 
@@ -117,7 +117,7 @@ impl NodeVisitor for SkipAt {
     }
 
     fn visit_up(&mut self, node: &Expression) -> VortexResult<TraversalOrder> {
-        if *node == *self.node {
+        if *node == self.node {
             return Ok(Skip);
         }
         self.above = self.above | node.is::<Binary>();
@@ -130,10 +130,10 @@ fn a_last_child_skips_the_way_up(rt: HostRuntime) -> Result<(), Fail> {
     let alloc = rt.alloc();
     for (name, order, above) in [("b", Skip, false), ("a", Continue, true)] {
         let mut visitor = SkipAt {
-            node: boxed(alloc, name)?,
+            node: expression(alloc, name)?,
             above: false,
         };
-        let both = boxed(alloc, BOTH)?;
+        let both = expression(alloc, BOTH)?;
         assert!(rt; both.accept(&mut visitor)? == order, "at {name}");
         assert!(rt; visitor.above == above, "at {name}");
     }
@@ -145,8 +145,8 @@ fn a_pre_order_walk_skips_and_stops(rt: HostRuntime) -> Result<(), Fail> {
     let alloc = rt.alloc();
     for (at_equal, names, order) in [(Skip, "col3 col4", Continue), (Stop, "", Stop)] {
         let mut found: Vec<FieldName> = Vec::new(alloc);
-        let tree = boxed(alloc, COMPARISONS)?;
-        let answer = pre_order_visit_down(&*tree, |node: &Expression| {
+        let tree = expression(alloc, COMPARISONS)?;
+        let answer = pre_order_visit_down(&tree, |node: &Expression| {
             if node.as_opt::<Binary>() == Some(&Operator::Eq) {
                 return Ok(at_equal);
             }
@@ -167,7 +167,7 @@ const CHOICE: &str = "case when bool1 then 1 else 2 end";
 #[test]
 fn children_are_counted_and_visited(rt: HostRuntime) -> Result<(), Fail> {
     let alloc = rt.alloc();
-    let choice = boxed(alloc, CHOICE)?;
+    let choice = expression(alloc, CHOICE)?;
     assert_eq!(rt; choice.children_count(), 3);
     assert_eq!(rt; choice.children_slice().len(), 3);
     let bound = over_harness(alloc, CHOICE)?;
@@ -234,28 +234,23 @@ impl<N: Node> NodeFolderContext for Depth<N> {
 }
 
 /// How deep the tree is, down to the limit.
-fn depth_of<N: Node>(
-    alloc: Global,
-    tree: Box<N>,
-    limit: u32,
-    ends: bool,
-) -> VortexResult<FoldUp<u32>> {
+fn depth_of<N: Node>(alloc: Global, tree: N, limit: u32, ends: bool) -> VortexResult<FoldUp<u32>> {
     let mut folder = Depth {
         limit,
         ends,
         of: PhantomData,
     };
-    Box::into_inner(tree).fold_context(alloc, &0, &mut folder)
+    tree.fold_context(alloc, &0, &mut folder)
 }
 
 #[test]
 fn depth_is_counted_by_the_context(rt: HostRuntime) -> Result<(), Fail> {
     let alloc = rt.alloc();
-    let whole = depth_of(alloc, boxed(alloc, COMPARISONS)?, 9, true)?;
+    let whole = depth_of(alloc, expression(alloc, COMPARISONS)?, 9, true)?;
     assert!(rt; matches!(whole, FoldUp::Continue(4)));
-    let skipped = depth_of(alloc, boxed(alloc, COMPARISONS)?, 3, false)?;
+    let skipped = depth_of(alloc, expression(alloc, COMPARISONS)?, 3, false)?;
     assert!(rt; matches!(skipped, FoldUp::Continue(3)));
-    let ended = depth_of(alloc, boxed(alloc, COMPARISONS)?, 3, true)?;
+    let ended = depth_of(alloc, expression(alloc, COMPARISONS)?, 3, true)?;
     assert!(rt; matches!(ended, FoldUp::Stop(3)));
     let bound = over_harness(alloc, CHOICE)?;
     assert!(rt; matches!(depth_of(alloc, bound, 9, true)?, FoldUp::Continue(3)));
@@ -267,14 +262,14 @@ fn a_deep_tree_is_walked_and_folded(rt: HostRuntime) -> Result<(), Fail> {
     let alloc = rt.alloc();
     let tree = deep(alloc)?;
     let mut nodes = 0u32;
-    let answer = pre_order_visit_down(&*tree, |_node: &Expression| {
+    let answer = pre_order_visit_down(&tree, |_node: &Expression| {
         nodes = nodes.saturating_add(1);
         Ok(Continue)
     })?;
     assert!(rt; answer == Continue);
     assert_eq!(rt; nodes, 10_002);
     assert!(rt; tree.contains::<GetItem>() && !tree.contains::<Binary>());
-    finds(&rt, alloc, &*tree, "bool1")?;
+    finds(&rt, alloc, &tree, "bool1")?;
     assert!(rt;
         matches!(
             depth_of(alloc, tree, 20_000, true)?,

@@ -14,9 +14,8 @@ pub const CONDITIONS: &str = "a.x >= 1 and b < 5";
 const SCOPE: &str = "{a={x=i32,y=i32},b=i32,c=i32}";
 
 /// The tree of the text over that scope.
-pub fn tree(alloc: Global, text: &str) -> Result<Box<BoundExpression>, Fail>
-    ensures { IfOk result (λ b. WellTyped (bound_of b.value)) }
+pub fn tree(alloc: Global, text: &str) -> Result<BoundExpression, Fail>
+    ensures { IfOk result (λ b. WellTyped (bound_of b)) }
 {
-    let scope = Box::new(alloc, dtype(alloc, SCOPE)?)?;
-    Ok(bound(alloc, text, &scope)?)
+    Ok(bound(alloc, text, &dtype(alloc, SCOPE)?)?)
 }

@@ -27,7 +27,7 @@ pub fn arrays_agree(
     requires { WellTyped (bound_of tree.now) }
 {
     for form in [Form::Buffers, Form::Slice, Form::Boxed] {
-        let array = Box::new(alloc, array(alloc, form, batch)?)?;
+        let array = array(alloc, form, batch)?;
         let found = Box::new(alloc, evaluated(alloc, &array, tree))?;
         if is_exhausted(&found) {
             return Err(VortexError::OutOfMemory);
@@ -49,13 +49,13 @@ fn array(alloc: Global, form: Form, batch: &Column) -> VortexResult<Array> {
 
 // The rows behind a copy of the last one and before one of the first, of which they are a slice.
 fn slice(alloc: Global, batch: &Column) -> VortexResult<Array> {
-    let array = Box::new(alloc, from_column(alloc, batch)?)?;
+    let array = from_column(alloc, batch)?;
     let indices = around(alloc, array.len())?;
     let indices = indices.as_slice();
     if !are_within(indices, array.len()) {
         return Err(VortexError::RowMisfit { row: array.len() });
     }
-    let wide = Box::new(alloc, take(alloc, &array, indices)?)?;
+    let wide = take(alloc, &array, indices)?;
     if wide.len() <= array.len() {
         return wide.slice(0, wide.len());
     }

@@ -102,11 +102,11 @@ fn rewritten(
 {
     match kind {
         RewrittenKind::Validity(told) => {
-            let validity = Box::new(alloc, bound.validity(alloc)?)?;
+            let validity = bound.validity(alloc)?;
             told_of(alloc, told, scene, &validity)
         }
         RewrittenKind::Optimized(told) => {
-            let left = Box::new(alloc, bound.optimize_recursive(alloc)?)?;
+            let left = bound.optimize_recursive(alloc)?;
             told_of(alloc, told, scene, &left)
         }
         RewrittenKind::OptimizedOrNone => optimized_or_none(alloc, bound),
@@ -119,7 +119,7 @@ fn rewritten(
         RewrittenKind::FoldedOrNone => passed_or_none(alloc, Pass::Fold, &FoldingRules, bound),
         RewrittenKind::Fused(Told::Text) => fused(alloc, bound),
         RewrittenKind::Fused(Told::Rows) => {
-            let fused = Box::new(alloc, find_between(alloc, bound.clone()?)?)?;
+            let fused = find_between(alloc, bound.clone()?)?;
             rows(alloc, scene, &fused)
         }
     }
@@ -136,7 +136,7 @@ fn by_rules<R: Rule>(
     requires { WellTyped (bound_of bound.now) }
 {
     match optimize_with(alloc, rules, bound)? {
-        Some(left) => told_of(alloc, told, scene, &*Box::new(alloc, left)?),
+        Some(left) => told_of(alloc, told, scene, &left),
         None => told_of(alloc, told, scene, bound),
     }
 }
@@ -155,9 +155,9 @@ fn told_of(alloc: Global, told: Told, scene: &Scene, tree: &BoundExpression) -> 
 fn fused(alloc: Global, bound: &BoundExpression) -> VortexResult<String>
     requires { WellTyped (bound_of bound.now) }
 {
-    let fused = Box::new(alloc, find_between(alloc, bound.clone()?)?)?;
-    let again = Box::new(alloc, find_between(alloc, (*fused).clone()?)?)?;
-    if *again != *fused {
+    let fused = find_between(alloc, bound.clone()?)?;
+    let again = find_between(alloc, fused.clone()?)?;
+    if again != fused {
         return Ok(format!(in alloc; "{fused}, and fused again {again}")?);
     }
     typed(alloc, &fused)
@@ -167,7 +167,7 @@ fn optimized_or_none(alloc: Global, bound: &BoundExpression) -> VortexResult<Str
     requires { WellTyped (bound_of bound.now) }
 {
     let tried = typed_or_none(alloc, bound.try_optimize_recursive(alloc)?)?;
-    let left = Box::new(alloc, bound.optimize_recursive(alloc)?)?;
+    let left = bound.optimize_recursive(alloc)?;
     let by_rules = by_rules_or_none(alloc, &StandardRules, bound, &left)?;
     agreed(alloc, tried, by_rules)
 }
@@ -182,7 +182,7 @@ fn passed_or_none<R: Rule>(
     requires { WellTyped (bound_of bound.now) }
 {
     let passed = run_passes(alloc, bound.clone()?, &[pass])?;
-    by_rules_or_none(alloc, rules, bound, &*Box::new(alloc, passed)?)
+    by_rules_or_none(alloc, rules, bound, &passed)
 }
 
 // What the rules give, none where no rule fits at any node. What another call leaves has to be the
@@ -216,10 +216,10 @@ fn typed_or_none(alloc: Global, tree: Option<BoundExpression>) -> VortexResult<S
 fn optimized_at_root(alloc: Global, bound: &BoundExpression) -> VortexResult<String>
     requires { WellTyped (bound_of bound.now) }
 {
-    let left = Box::new(alloc, bound.optimize(alloc)?)?;
+    let left = bound.optimize(alloc)?;
     let text = format!(in alloc; "{left}")?;
     let whole = format!(in alloc; "{bound}")?;
-    if text.as_str() == whole.as_str() && *left != *bound {
+    if text.as_str() == whole.as_str() && left != *bound {
         return Ok(format!(in alloc; "{text}, another tree of that text")?);
     }
     Ok(text)

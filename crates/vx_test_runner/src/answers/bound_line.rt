@@ -13,7 +13,7 @@ pub struct BoundLine<'a> {
 
 impl BoundLine<'_> {
     /// The source, bound once more.
-    pub fn again(&self, alloc: Global) -> VortexResult<Box<BoundExpression>> {
+    pub fn again(&self, alloc: Global) -> VortexResult<BoundExpression> {
         self.scene.bind(alloc, self.source)
     }
 }

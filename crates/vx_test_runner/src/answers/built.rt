@@ -17,7 +17,7 @@ use walk::built_by;
 
 /// The text of the source's tree by its constructors, which has to be the source.
 pub fn built(alloc: Global, source: &Expression) -> VortexResult<String> {
-    compared(alloc, &*built_by(alloc, &OfSources, source)?, source)
+    compared(alloc, &built_by(alloc, &OfSources, source)?, source)
 }
 
 fn compared(alloc: Global, built: &Expression, source: &Expression) -> VortexResult<String> {

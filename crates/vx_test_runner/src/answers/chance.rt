@@ -1,5 +1,8 @@
 // Trees made by chance, written and read, evaluated as they are, over arrays, as queries and by scans:
 // the rows stay, and are what statistics tell of them. And texts made by chance.
+ghost use Rattle.vx_tree.specs.Trees.{WellTyped};
+ghost use Rattle.vx_tree.specs.Views.{bound_of};
+
 mod loosened;
 mod parts;
 mod texts;
@@ -15,8 +18,8 @@ use vx_eval::apply_bound;
 use vx_query::run_query;
 use vx_rewrite::Pass;
 use vx_scan::plan;
-use vx_test_support::{Maker, Seeds, Unread, boxed, column};
-use vx_tree::{Column, Expression, VortexError, VortexResult};
+use vx_test_support::{Maker, Seeds, Unread, column, expression};
+use vx_tree::{BoundExpression, Column, Expression, VortexError, VortexResult};
 
 const SCOPE: &str = "{a={x=i32?,y=i32}?,b=i32?,m=bool?,s=utf8}";
 
@@ -29,14 +32,14 @@ const ROWS: &str = "{null,1,true,'ab} {{null,2},null,false,'} {{3,-1},3,null,'ab
 /// fault nowhere.
 pub fn by_chance(alloc: Global, words: &str) -> Result<String, Unread> {
     let (seed, count) = seed_and_count(words)?;
-    let batch = Box::new(alloc, column(alloc, SCOPE, ROWS)?)?;
+    let batch = column(alloc, SCOPE, ROWS)?;
     let mut maker = Maker::new(alloc, seed);
     let mut seeds = Seeds::new(seed);
     let mut without_fault: usize = 0;
     let mut shortest = None;
     for _ in 0..count {
         let text = maker.tree()?;
-        let tree = boxed(alloc, text.as_str())?;
+        let tree = expression(alloc, text.as_str())?;
         if let Some(other) = read_otherwise(alloc, &tree)? {
             return Ok(other);
         }
@@ -79,17 +82,31 @@ fn agrees(
     batch: &Column,
     seeds: &mut Seeds,
 ) -> VortexResult<Option<bool>> {
-    let bound = Box::new(alloc, source.bind(alloc, batch.dtype())?)?;
-    let plain = Box::new(alloc, apply_bound(alloc, batch, &bound))?;
-    if !arrays_agree(alloc, batch, &bound, &plain)?
-        || !queries_agree(alloc, source, batch, &plain)
-        || !scan_agrees(alloc, source, batch, &plain)?
+    let bound = source.bind(alloc, batch.dtype())?;
+    let plain = apply_bound(alloc, batch, &bound);
+    agrees_with(alloc, source, &bound, batch, &plain, seeds)
+}
+
+// The same of the source that is bound so, beside what plain evaluation answers.
+fn agrees_with(
+    alloc: Global,
+    source: &Expression,
+    bound: &BoundExpression,
+    batch: &Column,
+    plain: &VortexResult<Column>,
+    seeds: &mut Seeds,
+) -> VortexResult<Option<bool>>
+    requires { WellTyped (bound_of bound.now) }
+{
+    if !arrays_agree(alloc, batch, bound, plain)?
+        || !queries_agree(alloc, source, batch, plain)
+        || !scan_agrees(alloc, source, batch, plain)?
     {
         return Ok(None);
     }
-    let stats = Box::new(alloc, loosened(alloc, batch, seeds)?)?;
-    Ok(match &*plain {
-        Ok(values) if !is_told_true(&bound, &stats, values.rows()) => None,
+    let stats = loosened(alloc, batch, seeds)?;
+    Ok(match plain {
+        Ok(values) if !is_told_true(bound, &stats, values.rows()) => None,
         _ => Some(plain.is_ok()),
     })
 }
@@ -133,7 +150,7 @@ fn scan_agrees(
     batch: &Column,
     plain: &VortexResult<Column>,
 ) -> VortexResult<bool> {
-    let plan = Box::new(alloc, plan(alloc, source, batch.dtype())?)?;
+    let plan = plan(alloc, source, batch.dtype())?;
     Ok(is_allowed(plain, scan_column(alloc, &plan, batch)))
 }
 

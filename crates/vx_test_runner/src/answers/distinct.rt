@@ -52,8 +52,3 @@ pub fn told_of_all<A: Analysis>(
     let count = analysis.count();
     Ok(format!(in alloc; "{text} ({count})")?)
 }
-
-/// The node as a key, behind a box: there the prover doesn't write it out.
-pub fn key_of(alloc: Global, node: &BoundExpression) -> VortexResult<Box<ExactBoundExpr>> {
-    Ok(Box::new(alloc, ExactBoundExpr::new(node.clone()?))?)
-}

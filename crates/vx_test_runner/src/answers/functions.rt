@@ -1,13 +1,13 @@
 // Answers of functions: their texts, children and types.
 use crate::told::told;
 use std::alloc::Global;
-use vx_test_support::{Unread, boxed, dtype};
+use vx_test_support::{Unread, dtype, expression};
 use vx_tree::{Expression, ScalarFnRef, VortexResult};
 
 // The function at the top of the tree.
-fn function_of(alloc: Global, tree: &str) -> Result<Box<ScalarFnRef>, Unread> {
-    match &*boxed(alloc, tree)? {
-        Expression::Scalar { scalar_fn, .. } => Ok(Box::new(alloc, scalar_fn.clone()?)?),
+fn function_of(alloc: Global, tree: &str) -> Result<ScalarFnRef, Unread> {
+    match &expression(alloc, tree)? {
+        Expression::Scalar { scalar_fn, .. } => Ok(scalar_fn.clone()?),
         Expression::Root => Err(Unread::Word("no function")),
     }
 }
@@ -20,8 +20,8 @@ pub fn shown_function(alloc: Global, tree: &str) -> Result<String, Unread> {
 
 fn shown(alloc: Global, scalar_fn: &ScalarFnRef) -> VortexResult<String> {
     let text = format!(in alloc; "{scalar_fn}")?;
-    let clone = Box::new(alloc, scalar_fn.clone()?)?;
-    if !text.as_str().starts_with(scalar_fn.id()) || *clone != *scalar_fn {
+    let clone = scalar_fn.clone()?;
+    if !text.as_str().starts_with(scalar_fn.id()) || clone != *scalar_fn {
         return Ok(format!(in alloc; "{text}, without its id or with another clone")?);
     }
     let arity = scalar_fn.arity();
@@ -69,7 +69,7 @@ pub fn node_type(alloc: Global, tree: &str, types: &str) -> Result<String, Unrea
 /// The names that the selection at the top of the tree keeps of those that are there.
 pub fn kept(alloc: Global, tree: &str, names: &str) -> Result<String, Unread> {
     let scalar_fn = function_of(alloc, tree)?;
-    let ScalarFnRef::Select(selection) = &*scalar_fn else {
+    let ScalarFnRef::Select(selection) = &scalar_fn else {
         return Err(Unread::Word("no selection"));
     };
     let there = vx_test_support::names(alloc, names, ' ')?;
@@ -89,7 +89,7 @@ pub fn kept(alloc: Global, tree: &str, names: &str) -> Result<String, Unread> {
 pub fn swapped(alloc: Global, sign: &str) -> Result<String, Unread> {
     let compared = format!(in alloc; "$ {sign} $")?;
     let scalar_fn = function_of(alloc, compared.as_str())?;
-    let ScalarFnRef::Binary(operator) = &*scalar_fn else {
+    let ScalarFnRef::Binary(operator) = &scalar_fn else {
         return Err(Unread::Word("no operator"));
     };
     match operator.swap() {

@@ -48,7 +48,7 @@ pub fn matched(
     chosen: &str,
     otherwise: &str,
 ) -> Result<String, Unread> {
-    let kind = Box::new(alloc, dtype(alloc, kind)?)?;
+    let kind = dtype(alloc, kind)?;
     match (conditions.split_once(';'), chosen.split_once(';')) {
         (None, None) => of_one(alloc, &kind, conditions, chosen, otherwise),
         (Some(conditions), Some(chosen)) => of_two(alloc, &kind, conditions, chosen, otherwise),

@@ -59,8 +59,7 @@ fn text_of(alloc: Global, answer: VortexResult<String>) -> Result<String, Unread
 
 fn passed(alloc: Global, scene: &Scene, source: &Expression, plan: &Plan) -> VortexResult<String> {
     let bound = scene.bind(alloc, source)?;
-    let left = run_passes(alloc, Box::into_inner(bound), plan.passes.as_slice())?;
-    typed(alloc, &*Box::new(alloc, left)?)
+    typed(alloc, &run_passes(alloc, bound, plan.passes.as_slice())?)
 }
 
 // The type of what the query gives over the first batch.
@@ -85,7 +84,7 @@ fn compared(
 ) -> VortexResult<String> {
     let sources = equality(first, second);
     let bound = match (scene.bind(alloc, first), scene.bind(alloc, second)) {
-        (Ok(first), Ok(second)) => equality(&*first, &*second),
+        (Ok(first), Ok(second)) => equality(&first, &second),
         _ => sources,
     };
     if sources == bound {
@@ -101,10 +100,9 @@ fn fused_as(
     first: &Expression,
     second: &Expression,
 ) -> VortexResult<String> {
-    let first = scene.bind(alloc, first)?;
-    let fused = Box::new(alloc, find_between(alloc, Box::into_inner(first))?)?;
+    let fused = find_between(alloc, scene.bind(alloc, first)?)?;
     let second = scene.bind(alloc, second)?;
-    Ok(String::from_str(alloc, equality(&*fused, &*second))?)
+    Ok(String::from_str(alloc, equality(&fused, &second))?)
 }
 
 fn equality<T: PartialEq + Hash>(first: &T, second: &T) -> &'static str {
@@ -148,8 +146,8 @@ fn replaced_by(
 ) -> Result<String, Unread> {
     let mut partitions = Vec::new(alloc);
     for tree in trees.split(';') {
-        let bound = scene.bind(alloc, &*scene.source(alloc, tree.trim())?)?;
-        partitions.push(Box::into_inner(bound))?;
+        let tree = scene.source(alloc, tree.trim())?;
+        partitions.push(scene.bind(alloc, &tree)?)?;
     }
     text_of(alloc, replaced(alloc, scene, source, partitions))
 }

@@ -3,7 +3,7 @@ ghost use Rattle.vx_tree.specs.Trees.{WellTyped};
 ghost use Rattle.vx_tree.specs.Views.{bound_of};
 
 use crate::answers::bound_line::BoundLine;
-use crate::answers::distinct::{Analysis, key_of, told_of_all};
+use crate::answers::distinct::{Analysis, told_of_all};
 use crate::answers::split::{Divided, divided, joined_rows, replaced_by_optimized, shown};
 use crate::kind::{FieldsKind, Told};
 use crate::scene::Scene;
@@ -13,7 +13,9 @@ use vx_rewrite::{
     BoundAnnotations, covers, descendent_bound_annotations, direct_bound_annotations, free_fields,
     partition_bound,
 };
-use vx_tree::{BoundExpression, FieldName, StructFields, VortexError, VortexResult};
+use vx_tree::{
+    BoundExpression, ExactBoundExpr, FieldName, StructFields, VortexError, VortexResult,
+};
 
 /// The answer to a line that asks of the annotations or the split of the source, which is bound to
 /// the scope, a struct.
@@ -29,7 +31,7 @@ pub fn answer(alloc: Global, kind: FieldsKind, line: &BoundLine<'_>) -> VortexRe
     match kind {
         FieldsKind::Split(told) => split(alloc, told, line, fields),
         FieldsKind::Replaced(told) => {
-            told_of(alloc, told, line.scene, &*replaced(alloc, bound, fields)?)
+            told_of(alloc, told, line.scene, &replaced(alloc, bound, fields)?)
         }
         FieldsKind::Covers => {
             let covered = covers(alloc, bound, &fields_read(alloc, bound, fields)?)?;
@@ -39,7 +41,7 @@ pub fn answer(alloc: Global, kind: FieldsKind, line: &BoundLine<'_>) -> VortexRe
             let own = direct_bound_annotations(alloc, bound, |node: &BoundExpression| {
                 free_fields(alloc, node, fields)
             })?;
-            told_of_all(alloc, &own, &*line.again(alloc)?)
+            told_of_all(alloc, &own, &line.again(alloc)?)
         }
         FieldsKind::OwnAnnotations => {
             let own = direct_bound_annotations(alloc, bound, |node: &BoundExpression| {
@@ -49,11 +51,11 @@ pub fn answer(alloc: Global, kind: FieldsKind, line: &BoundLine<'_>) -> VortexRe
         }
         FieldsKind::Fields => {
             let read = fields_read(alloc, bound, fields)?;
-            told_of_all(alloc, &read, &*line.again(alloc)?)
+            told_of_all(alloc, &read, &line.again(alloc)?)
         }
         FieldsKind::Annotations => {
             let read = fields_read(alloc, bound, fields)?;
-            read.told_at(alloc, &*line.again(alloc)?)
+            read.told_at(alloc, &line.again(alloc)?)
         }
     }
 }
@@ -86,11 +88,7 @@ fn split(
 }
 
 // The tree split, with its partitions replaced by optimized ones.
-fn replaced(
-    alloc: Global,
-    bound: &BoundExpression,
-    fields: &StructFields,
-) -> VortexResult<Box<Divided>>
+fn replaced(alloc: Global, bound: &BoundExpression, fields: &StructFields) -> VortexResult<Divided>
     requires { WellTyped (bound_of bound.now) }
 {
     let mut whole = divided(alloc, bound, fields_read(alloc, bound, fields)?)?;
@@ -111,20 +109,19 @@ fn split_by_closure(
     alloc: Global,
     fields: &StructFields,
     bound: &BoundExpression,
-) -> VortexResult<Box<Divided>>
+) -> VortexResult<Divided>
     requires { WellTyped (bound_of bound.now) }
 {
-    let split = partition_bound(alloc, bound.clone()?, |node: &BoundExpression| {
+    partition_bound(alloc, bound.clone()?, |node: &BoundExpression| {
         free_fields(alloc, node, fields)
-    })?;
-    Ok(Box::new(alloc, split)?)
+    })
 }
 
 impl Analysis for BoundAnnotations<FieldName> {
     // The set at the node, its names in their order: `[a, b]`.
     fn told_at(&self, alloc: Global, node: &BoundExpression) -> VortexResult<String> {
-        let key = key_of(alloc, node)?;
-        let Some(set) = self.get(&*key) else {
+        let key = ExactBoundExpr::new(node.clone()?);
+        let Some(set) = self.get(&key) else {
             return Ok(String::from_str(alloc, "-")?);
         };
         let mut names: Vec<&str> = Vec::new(alloc);

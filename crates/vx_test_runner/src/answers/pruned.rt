@@ -124,7 +124,7 @@ impl fmt::Display for Rows {
 
 /// For each row of each batch whether the source, planned for scans, is selected there by the scene's statistics.
 pub fn selected(alloc: Global, scene: &Scene, source: &Expression) -> VortexResult<String> {
-    let plan = Box::new(alloc, plan(alloc, source, &scene.scope)?)?;
+    let plan = plan(alloc, source, &scene.scope)?;
     let mut rows = String::new(alloc);
     for batch in scene.batches.iter() {
         push_rows(

@@ -22,7 +22,7 @@ pub fn planned(
     source: &Expression,
 ) -> VortexResult<String> {
     match plan(alloc, source, &scene.scope) {
-        Ok(plan) => of_plan(alloc, kind, scene, &*Box::new(alloc, plan)?),
+        Ok(plan) => of_plan(alloc, kind, scene, &plan),
         Err(refusal) => refused(alloc, &refusal),
     }
 }
@@ -43,7 +43,7 @@ fn of_plan(
 
 // Text and type of the plan's tree.
 fn plan_text(alloc: Global, scene: &Scene, plan: &ScanPlan) -> VortexResult<String> {
-    if *plan.scope() != *scene.scope {
+    if *plan.scope() != scene.scope {
         return Ok(String::from_str(alloc, "a plan of another scope")?);
     }
     typed(alloc, plan.tree())
@@ -73,7 +73,7 @@ pub fn scan_over(
     source: &Expression,
     column: &Column,
 ) -> VortexResult<String> {
-    let plan = Box::new(alloc, plan(alloc, source, &scene.scope)?)?;
+    let plan = plan(alloc, source, &scene.scope)?;
     told(alloc, scanned(alloc, &plan, column))
 }
 

@@ -4,30 +4,27 @@ use vx_source::{
     DEFAULT_NESTING, OverError, ParseError, Places, ScalarText, SourceText, TypeText, parse,
     parse_over, parse_scalar, parse_type, parse_with_places,
 };
-use vx_test_support::{Unread, boxed, reads};
+use vx_test_support::{Unread, expression, reads};
 use vx_tree::{Expression, VortexError};
 
 /// The source text of the expression that is read of the text, or where reading stops and what would
 /// have stood right there. The source text reads back to an equal expression, or else that is told.
 pub fn parsed(alloc: Global, text: &str) -> Result<String, Unread> {
     match parse(alloc, text) {
-        Ok(expression) => {
-            let expression = Box::new(alloc, expression)?;
-            match read_otherwise(alloc, &expression)? {
-                Some(other) => Ok(other),
-                None => Ok(format!(in alloc; "{}", SourceText(&*expression))?),
-            }
-        }
+        Ok(expression) => match read_otherwise(alloc, &expression)? {
+            Some(other) => Ok(other),
+            None => Ok(format!(in alloc; "{}", SourceText(&expression))?),
+        },
         Err(refusal) => refused(alloc, refusal),
     }
 }
 
-/// What is wrong where the expression's source text doesn't read back to an equal one, of the same
+/// What is wrong where the tree's source text doesn't read back to an equal one, of the same
 /// text; none where it does.
-pub fn read_otherwise(alloc: Global, expression: &Expression) -> Result<Option<String>, Unread> {
-    let source = format!(in alloc; "{}", SourceText(expression))?;
-    let again = boxed(alloc, source.as_str())?;
-    if *again != *expression || !reads(&SourceText(&*again), source.as_str()) {
+pub fn read_otherwise(alloc: Global, tree: &Expression) -> Result<Option<String>, Unread> {
+    let source = format!(in alloc; "{}", SourceText(tree))?;
+    let again = expression(alloc, source.as_str())?;
+    if again != *tree || !reads(&SourceText(&again), source.as_str()) {
         return Ok(Some(format!(in alloc; "{source} reads back otherwise")?));
     }
     Ok(None)
@@ -66,7 +63,7 @@ pub fn parsed_scalar(alloc: Global, text: &str) -> Result<String, Unread> {
 
 /// The bytes that each node was read from, a node before its children: `1-8 1-4 1-2 1-1 7-8`.
 pub fn places(alloc: Global, text: &str) -> Result<String, Unread> {
-    let placed = Box::new(alloc, parse_with_places(alloc, text, DEFAULT_NESTING)?)?;
+    let placed = parse_with_places(alloc, text, DEFAULT_NESTING)?;
     let mut waiting = Vec::new(alloc);
     waiting.push(&placed.places)?;
     let mut all = String::new(alloc);

@@ -9,7 +9,7 @@ use crate::told::{agreed, barred, refused, told};
 use std::alloc::Global;
 use std::fmt;
 use std::fmt::Write;
-use vx_test_support::{Unread, boxed};
+use vx_test_support::{Unread, expression};
 use vx_tree::{DType, Expression, Scope, VortexResult};
 
 /// The answer to a line that asks of the source of that text.
@@ -82,7 +82,7 @@ pub fn peeled_text(
     let times: usize = times
         .parse()
         .map_err(|_| Unread::Word("no number of times"))?;
-    let source = boxed(alloc, tree)?;
+    let source = expression(alloc, tree)?;
     let text = format!(in alloc; "{source}")?;
     let mut peeled = text.as_str();
     for _ in 0..times {
@@ -153,8 +153,8 @@ fn binds_alike(
     bound: &vx_tree::BoundExpression,
 ) -> VortexResult<bool> {
     let scope = Scope::new(dtype.clone()?);
-    let other = Box::new(alloc, source.bind_scope(alloc, &scope)?)?;
-    Ok(*other == *bound)
+    let other = source.bind_scope(alloc, &scope)?;
+    Ok(other == *bound)
 }
 
 // How deep the source is, also once it is bound.

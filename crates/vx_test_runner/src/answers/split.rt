@@ -18,11 +18,10 @@ pub fn divided(
     alloc: Global,
     bound: &BoundExpression,
     map: BoundAnnotations<FieldName>,
-) -> VortexResult<Box<Divided>>
+) -> VortexResult<Divided>
     requires { WellTyped (bound_of bound.now) }
 {
-    let whole = partition_bound_annotations(alloc, bound.clone()?, map)?;
-    Ok(Box::new(alloc, whole)?)
+    partition_bound_annotations(alloc, bound.clone()?, map)
 }
 
 /// Its text, and the type of its root.

@@ -13,8 +13,8 @@ pub fn type_text(alloc: Global, text: &str) -> Result<String, Unread> {
 
 /// The union of the types, which is there exactly where they are equal but for nullability.
 pub fn union(alloc: Global, first: &str, second: &str) -> Result<String, Unread> {
-    let first = Box::new(alloc, dtype(alloc, first)?)?;
-    let second = Box::new(alloc, dtype(alloc, second)?)?;
+    let first = dtype(alloc, first)?;
+    let second = dtype(alloc, second)?;
     Ok(united(alloc, &first, &second)?)
 }
 
@@ -45,17 +45,17 @@ pub fn joined(alloc: Global, names: &str, columns: &str, rows: &str) -> Result<S
     let names = vx_test_support::names(alloc, names, ' ')?;
     let mut given = Vec::new(alloc);
     for text in columns.split(';') {
-        given.push(Box::into_inner(typed_column(alloc, text.trim())?))?;
+        given.push(typed_column(alloc, text.trim())?)?;
     }
     let rows = rows.parse().map_err(|_| Unread::Word("no number of rows"))?;
     Ok(joined_text(alloc, names, given, rows)?)
 }
 
 /// The column of the words: its type with a colon, and its rows.
-pub fn typed_column(alloc: Global, text: &str) -> Result<Box<Column>, Unread> {
+pub fn typed_column(alloc: Global, text: &str) -> Result<Column, Unread> {
     let (dtype, rows) = text.split_once(' ').unwrap_or((text, ""));
     let dtype = dtype.strip_suffix(':').ok_or("no type")?;
-    Ok(Box::new(alloc, vx_test_support::column(alloc, dtype, rows)?)?)
+    vx_test_support::column(alloc, dtype, rows)
 }
 
 fn joined_text(

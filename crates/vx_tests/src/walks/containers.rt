@@ -5,7 +5,7 @@ use std::fmt::Write;
 use std::process::Abort;
 use std::rc::Rc;
 use std::test::Fail;
-use vx_test_support::{boxed, reads};
+use vx_test_support::{expression, reads};
 use vx_tree::{Expression, Scalar, VortexError, VortexResult};
 use vx_walk::TraversalOrder::{Continue, Skip, Stop};
 use vx_walk::{NodeContainer, Transformed, apply_ref_elements};
@@ -14,7 +14,7 @@ use vx_walk::{NodeContainer, Transformed, apply_ref_elements};
 fn items(alloc: Global, texts: &[&str]) -> Result<Vec<Expression>, Fail> {
     let mut items = Vec::new(alloc);
     for text in texts {
-        items.push(Box::into_inner(boxed(alloc, text)?))?;
+        items.push(expression(alloc, text)?)?;
     }
     Ok(items)
 }
@@ -25,7 +25,7 @@ fn three(alloc: Global) -> Result<Vec<Expression>, Fail> {
 }
 
 fn both(alloc: Global) -> Result<Expression, Fail> {
-    Ok(Box::into_inner(boxed(alloc, BOTH)?))
+    Ok(expression(alloc, BOTH)?)
 }
 
 fn zero(alloc: Global) -> VortexResult<Expression> {
@@ -73,7 +73,7 @@ fn visits_end_at_a_refusal_or_stop(rt: HostRuntime) -> Result<(), Fail> {
     let elements = three(alloc)?;
     let mut pairs = Vec::new(alloc);
     for _ in 0..2 {
-        pairs.push((boxed(alloc, "a")?, boxed(alloc, "b")?))?;
+        pairs.push((expression(alloc, "a")?, expression(alloc, "b")?))?;
     }
     let mut calls = 0u32;
     let answer = elements.apply_elements(|_element: &Expression| {
@@ -110,8 +110,9 @@ fn holds<C: NodeContainer<Expression> + Drop>(rt: &impl Abort, container: C, wan
 fn containers_hold_their_elements(rt: HostRuntime) -> Result<(), Fail> {
     let alloc = rt.alloc();
     holds(&rt, both(alloc)?, 1);
-    holds(&rt, (boxed(alloc, "a")?, boxed(alloc, "b")?), 2);
+    holds(&rt, (both(alloc)?, both(alloc)?), 2);
     holds(&rt, three(alloc)?, 3);
+    holds(&rt, Box::new(alloc, both(alloc)?)?, 1);
     holds(&rt, Box::new(alloc, three(alloc)?)?, 3);
     holds(&rt, Rc::new(alloc, both(alloc)?)?, 1);
     holds(&rt, (three(alloc)?, three(alloc)?), 6);
@@ -132,10 +133,10 @@ fn zeroed<C: NodeContainer<Expression>>(rt: &impl Abort, alloc: Global, containe
 #[test]
 fn elements_are_mapped_alone_boxed_and_shared(rt: HostRuntime) -> Result<(), Fail> {
     let alloc = rt.alloc();
-    let one = boxed(alloc, BOTH)?;
+    let one = both(alloc)?;
     let boxed = Box::new(alloc, three(alloc)?)?;
     let shared = Rc::new(alloc, both(alloc)?)?;
-    assert!(rt; reads(&zeroed(&rt, alloc, Box::into_inner(one)), "0i32"));
+    assert!(rt; reads(&zeroed(&rt, alloc, one), "0i32"));
     let boxed = zeroed(&rt, alloc, boxed);
     print(&rt, alloc, boxed.as_slice(), "0i32 0i32 0i32");
     let apart = zeroed(&rt, alloc, shared.clone().expect(&rt, "memory"));

@@ -11,7 +11,7 @@ use std::marker::PhantomData;
 use std::process::Abort;
 use std::test::Fail;
 use vx_build::{lit, root};
-use vx_test_support::{boxed, reads};
+use vx_test_support::{expression, reads};
 use vx_tree::{BoundExpression, Expression, GetItem, Scalar, VortexError, VortexResult};
 use vx_walk::TraversalOrder::{Continue, Stop};
 use vx_walk::{Node, NodeExt, NodeRewriter, Transformed, TraversalOrder};
@@ -37,8 +37,8 @@ pub fn numbered(alloc: Global, tree: Expression) -> VortexResult<Transformed<Exp
 #[test]
 fn fields_are_numbered(rt: HostRuntime) -> Result<(), Fail> {
     let alloc = rt.alloc();
-    let tree = boxed(alloc, "col1 = col2 and 2")?;
-    let rewritten = numbered(alloc, Box::into_inner(tree)).expect(&rt, "a tree");
+    let tree = expression(alloc, "col1 = col2 and 2")?;
+    let rewritten = numbered(alloc, tree).expect(&rt, "a tree");
     assert!(rt; rewritten.changed);
     assert!(rt; rewritten.order == Continue);
     assert!(rt; reads(&rewritten.into_inner(), "((0i32 = 1i32) and 2i32)"));
@@ -52,9 +52,9 @@ fn a_deep_tree_is_rewritten(rt: HostRuntime) -> Result<(), Fail> {
     let alloc = rt.alloc();
     let wanted = deep(alloc)?;
     let tree = deep(alloc)?;
-    let rewritten = numbered(alloc, Box::into_inner(tree)).expect(&rt, "a tree");
+    let rewritten = numbered(alloc, tree).expect(&rt, "a tree");
     assert!(rt; rewritten.changed);
-    assert!(rt; rewritten.value != *wanted);
+    assert!(rt; rewritten.value != wanted);
     Ok(())
 }
 
@@ -87,8 +87,8 @@ impl NodeRewriter for Rooted {
 #[test]
 fn the_way_up_comes_after_skip(rt: HostRuntime) -> Result<(), Fail> {
     let alloc = rt.alloc();
-    let tree = boxed(alloc, "x")?;
-    let rewritten = Box::into_inner(tree).rewrite(alloc, &mut Rooted);
+    let tree = expression(alloc, "x")?;
+    let rewritten = tree.rewrite(alloc, &mut Rooted);
     let rewritten = rewritten.expect(&rt, "a tree");
     assert!(rt; rewritten.changed);
     assert!(rt; reads(&rewritten.value, "$"));
@@ -121,36 +121,36 @@ impl<N: Node> NodeRewriter for Same<N> {
 
 /// Asserts that a rewrite that hands every node back as it is gives the tree that is wanted, which is
 /// the same.
-fn is_handed_back<N: Node + PartialEq>(rt: &impl Abort, alloc: Global, tree: Box<N>, wanted: &N) {
-    let same = Box::into_inner(tree).rewrite(alloc, &mut Same { of: PhantomData });
+fn is_handed_back<N: Node + PartialEq>(rt: &impl Abort, alloc: Global, tree: N, wanted: &N) {
+    let same = tree.rewrite(alloc, &mut Same { of: PhantomData });
     let same = same.expect(rt, "a tree");
     assert!(rt; !same.changed);
     assert!(rt; same.value == *wanted);
 }
 
 /// `($.col1 = $.col2)`, bound
-fn bound_equality(alloc: Global) -> Result<Box<BoundExpression>, Fail> {
+fn bound_equality(alloc: Global) -> Result<BoundExpression, Fail> {
     over_harness(alloc, "col1 = col2")
 }
 
 #[test]
 fn a_rewrite_may_change_nothing(rt: HostRuntime) -> Result<(), Fail> {
     let alloc = rt.alloc();
-    let wanted = boxed(alloc, COMPARISONS)?;
-    is_handed_back(&rt, alloc, boxed(alloc, COMPARISONS)?, &*wanted);
+    let wanted = expression(alloc, COMPARISONS)?;
+    is_handed_back(&rt, alloc, expression(alloc, COMPARISONS)?, &wanted);
     let wanted = bound_equality(alloc)?;
-    is_handed_back(&rt, alloc, bound_equality(alloc)?, &*wanted);
+    is_handed_back(&rt, alloc, bound_equality(alloc)?, &wanted);
     let wanted = deep(alloc)?;
-    is_handed_back(&rt, alloc, deep(alloc)?, &*wanted);
+    is_handed_back(&rt, alloc, deep(alloc)?, &wanted);
     Ok(())
 }
 
 #[test]
 fn children_are_mapped_until_stop_or_kept(rt: HostRuntime) -> Result<(), Fail> {
     let alloc = rt.alloc();
-    let first = boxed(alloc, BOTH)?;
-    let second = boxed(alloc, BOTH)?;
-    let mapped = Box::into_inner(first).map_children(alloc, |_child| {
+    let first = expression(alloc, BOTH)?;
+    let second = expression(alloc, BOTH)?;
+    let mapped = first.map_children(alloc, |_child| {
         Ok(Transformed {
             value: root(),
             order: Stop,
@@ -161,10 +161,10 @@ fn children_are_mapped_until_stop_or_kept(rt: HostRuntime) -> Result<(), Fail> {
     assert!(rt; mapped.changed);
     assert!(rt; mapped.order == Stop);
     assert!(rt; reads(&mapped.value, "($ and $.b)"));
-    let kept = Box::into_inner(second).map_children(alloc, |child| Ok(Transformed::no(child)));
-    let kept = kept.expect(&rt, "a tree");
-    assert!(rt; !kept.changed);
-    assert!(rt; reads(&kept.value, "($.a and $.b)"));
+    let unchanged = second.map_children(alloc, |child| Ok(Transformed::no(child)));
+    let unchanged = unchanged.expect(&rt, "a tree");
+    assert!(rt; !unchanged.changed);
+    assert!(rt; reads(&unchanged.value, "($.a and $.b)"));
     Ok(())
 }
 
@@ -174,18 +174,18 @@ fn a_bound_node_is_typed_anew_or_refused(rt: HostRuntime) -> Result<(), Fail> {
     let other = over_harness(alloc, "bool1")?;
     let equality = bound_equality(alloc)?;
     let differing = bound_equality(alloc)?;
-    let mapped = Box::into_inner(equality).map_children(alloc, |child| {
+    let mapped = equality.map_children(alloc, |child| {
         drop(child);
-        Ok(Transformed::yes((*other).clone()?))
+        Ok(Transformed::yes(other.clone()?))
     });
     let mapped = mapped.expect(&rt, "a tree");
     assert!(rt; reads(&mapped.value, "($.bool1 = $.bool1)"));
     let mut first = true;
-    let refused = Box::into_inner(differing).map_children(alloc, |child| {
+    let refused = differing.map_children(alloc, |child| {
         if first {
             first = false;
             drop(child);
-            return Ok(Transformed::yes((*other).clone()?));
+            return Ok(Transformed::yes(other.clone()?));
         }
         Ok(Transformed::no(child))
     });
@@ -194,8 +194,8 @@ fn a_bound_node_is_typed_anew_or_refused(rt: HostRuntime) -> Result<(), Fail> {
 }
 
 /// Asserts that a node of two children isn't made anew without children.
-fn keeps_its_children<N: Node + Drop>(rt: &impl Abort, alloc: Global, node: Box<N>) {
-    let answer = Node::with_children(Box::into_inner(node), alloc, Vec::new(alloc));
+fn keeps_its_children<N: Node + Drop>(rt: &impl Abort, alloc: Global, node: N) {
+    let answer = Node::with_children(node, alloc, Vec::new(alloc));
     assert!(rt;
         matches!(
             &answer,
@@ -210,7 +210,7 @@ fn keeps_its_children<N: Node + Drop>(rt: &impl Abort, alloc: Global, node: Box<
 #[test]
 fn a_node_is_rebuilt_by_its_trait(rt: HostRuntime) -> Result<(), Fail> {
     let alloc = rt.alloc();
-    keeps_its_children(&rt, alloc, boxed(alloc, BOTH)?);
+    keeps_its_children(&rt, alloc, expression(alloc, BOTH)?);
     keeps_its_children(&rt, alloc, bound_equality(alloc)?);
     Ok(())
 }

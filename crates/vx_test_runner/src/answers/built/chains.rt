@@ -8,7 +8,7 @@ use crate::kind::CollectKind;
 use crate::scene::Scene;
 use crate::told::{refused, typed};
 use std::alloc::Global;
-use vx_test_support::{Unread, boxed, repeated};
+use vx_test_support::{Unread, expression, repeated};
 use vx_tree::Expression;
 
 /// What joins the trees, of which `;` ends one, by `and` or by `or`: the text of the source, which has
@@ -35,7 +35,7 @@ pub fn collected(
         }
         CollectKind::Text => {
             let tree = collected_by(alloc, &OfSources, by_and, items)?;
-            Ok(compared(alloc, &tree, &*chain(alloc, sign, items)?)?)
+            Ok(compared(alloc, &tree, &chain(alloc, sign, items)?)?)
         }
     }
 }
@@ -61,18 +61,17 @@ fn collected_by<C: Constructors>(
     by: &C,
     by_and: bool,
     items: &str,
-) -> Result<Box<C::Tree>, Unread> {
+) -> Result<C::Tree, Unread> {
     let mut trees = Vec::new(alloc);
     for text in items.split(';') {
-        let tree = built_by(alloc, by, &*boxed(alloc, text.trim())?)?;
-        trees.push(Box::into_inner(tree))?;
+        trees.push(built_by(alloc, by, &expression(alloc, text.trim())?)?)?;
     }
     let joined = by.joined(alloc, by_and, trees)?;
-    Ok(Box::new(alloc, joined.ok_or("no item")?)?)
+    Ok(joined.ok_or("no item")?)
 }
 
 // The trees as a chain of source text.
-fn chain(alloc: Global, sign: &str, items: &str) -> Result<Box<Expression>, Unread> {
+fn chain(alloc: Global, sign: &str, items: &str) -> Result<Expression, Unread> {
     let mut chain = String::new(alloc);
     for text in items.split(';') {
         if !chain.is_empty() {
@@ -80,5 +79,5 @@ fn chain(alloc: Global, sign: &str, items: &str) -> Result<Box<Expression>, Unre
         }
         chain.push_str(format!(in alloc; "({})", text.trim())?.as_str())?;
     }
-    boxed(alloc, chain.as_str())
+    expression(alloc, chain.as_str())
 }

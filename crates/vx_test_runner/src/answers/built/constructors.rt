@@ -1,5 +1,4 @@
-// Nodes by the constructor of their function, for any set of constructors: of a type parameter the
-// prover writes nothing out.
+// Nodes by the constructor of their function, for any set of constructors.
 ghost use Rattle.std.specs.Prelude.{◌<◌, ◌^◌, length};
 
 use super::children::{cases, named, one, three, two};

@@ -8,13 +8,12 @@ pub fn built_by<C: Constructors>(
     alloc: Global,
     by: &C,
     source: &Expression,
-) -> VortexResult<Box<C::Tree>> {
+) -> VortexResult<C::Tree> {
     let mut trees = Vec::new(alloc);
     for node in nodes_of(alloc, source)?.iter().rev() {
         push_node(alloc, by, &mut trees, node)?;
     }
-    let tree = trees.pop().ok_or(VortexError::LengthMismatch)?;
-    Ok(Box::new(alloc, tree)?)
+    trees.pop().ok_or(VortexError::LengthMismatch)
 }
 
 // The nodes of the tree, each before its children, of which the last one comes first.
