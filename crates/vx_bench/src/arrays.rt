@@ -13,12 +13,12 @@ use vx_types::VortexResult;
 
 /// The digest of the query's rows over an array of its batch.
 pub fn over_arrays(alloc: Global, query: Query, rows: usize, repeats: u32) -> VortexResult<Digest> {
-    let column = Box::new(alloc, query.batch(alloc, rows)?)?;
-    let batch = Box::new(alloc, from_column(alloc, &column)?)?;
+    let column = query.batch(alloc, rows)?;
+    let batch = from_column(alloc, &column)?;
     drop(column);
     let source = query.tree(alloc)?;
-    let tree = Box::new(alloc, source.bind(alloc, batch.dtype())?)?;
-    repeated(alloc, &*batch, &*tree, repeats)
+    let tree = source.bind(alloc, batch.dtype())?;
+    repeated(alloc, &batch, &tree, repeats)
 }
 
 // Evaluates the tree so often, for the digest of the last array.
@@ -36,7 +36,7 @@ fn repeated(
     for _ in 1..repeats {
         drop(apply_array(alloc, batch, tree)?);
     }
-    let last = Box::new(alloc, apply_array(alloc, batch, tree)?)?;
-    let column = Box::new(alloc, last.to_column(alloc)?)?;
+    let last = apply_array(alloc, batch, tree)?;
+    let column = last.to_column(alloc)?;
     Ok(Digest::of(&column))
 }

@@ -125,13 +125,10 @@ fn root_alone(alloc: Global) -> VortexResult<FieldPathSet> {
 
 // What the range finds in the chunks, after so many searches.
 fn search(alloc: Global, layout: Layout, repeats: u32) -> VortexResult<Found> {
-    let dtype = Box::new(
-        alloc,
-        DType::Primitive(PType::I64, Nullability::NonNullable),
-    )?;
+    let dtype = DType::Primitive(PType::I64, Nullability::NonNullable);
     let chunks = layout.all(alloc, &dtype)?;
-    let source = Box::new(alloc, parsed(alloc, RANGE)?)?;
-    let plan = Box::new(alloc, plan(alloc, &source, &dtype)?)?;
+    let source = parsed(alloc, RANGE)?;
+    let plan = plan(alloc, &source, &dtype)?;
     let mut rows = 0;
     for _ in 0..repeats {
         rows = rows_in_all(alloc, &plan, chunks.as_slice())?;

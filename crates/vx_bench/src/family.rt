@@ -55,10 +55,10 @@ impl Family {
     }
 
     /// The tree of that size.
-    pub fn tree(self, alloc: Global, size: usize) -> VortexResult<Box<Expression>> {
+    pub fn tree(self, alloc: Global, size: usize) -> VortexResult<Expression> {
         let mut trees = Trees::new(alloc);
         self.make(alloc, size, &mut trees)?;
-        trees.last(alloc)
+        trees.last()
     }
 
     // Makes the tree of that size.

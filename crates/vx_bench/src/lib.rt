@@ -102,10 +102,10 @@ fn refused(refusal: VortexError) -> u8
 
 // The digest of the query's column over its batch.
 fn evaluated(alloc: Global, query: Query, rows: usize, repeats: u32) -> VortexResult<Digest> {
-    let batch = Box::new(alloc, query.batch(alloc, rows)?)?;
+    let batch = query.batch(alloc, rows)?;
     let source = query.tree(alloc)?;
-    let tree = Box::new(alloc, source.bind(alloc, batch.dtype())?)?;
-    repeated(alloc, &*batch, &*tree, repeats)
+    let tree = source.bind(alloc, batch.dtype())?;
+    repeated(alloc, &batch, &tree, repeats)
 }
 
 // Evaluates the tree so often, for the digest of the last column.

@@ -12,41 +12,40 @@ use vx_types::{Column, DType, Value, VortexResult};
 
 /// The bound tree evaluated.
 pub fn evaluate(alloc: Global, subject: &Subject) -> VortexResult<()>
-    requires { WellTyped (bound_of subject.now.bound.value) }
+    requires { WellTyped (bound_of subject.now.bound) }
 {
-    let row = row(alloc, &*subject.scope)?;
-    drop(apply_bound(alloc, &*row, &*subject.bound)?);
+    let row = row(alloc, &subject.scope)?;
+    drop(apply_bound(alloc, &row, &subject.bound)?);
     Ok(())
 }
 
 /// The source as a query, passed by all passes and split.
 pub fn query(alloc: Global, subject: &Subject) -> VortexResult<()> {
-    let row = row(alloc, &*subject.scope)?;
+    let row = row(alloc, &subject.scope)?;
     let passes = [
         Pass::OptimizeRecursive,
         Pass::FindBetween,
         Pass::Branches,
         Pass::Fold,
     ];
-    drop(run_query(alloc, &*subject.tree, &*row, &passes, true)?);
+    drop(run_query(alloc, &subject.tree, &row, &passes, true)?);
     Ok(())
 }
 
 /// The source planned and scanned.
 pub fn scan(alloc: Global, subject: &Subject) -> VortexResult<()> {
-    let row = row(alloc, &*subject.scope)?;
-    let plan = Box::new(alloc, plan(alloc, &*subject.tree, row.dtype())?)?;
-    let reader = plan.reader_of(Box::into_inner(row));
-    let answer = vx_scan::scan(alloc, &reader, &*plan);
+    let row = row(alloc, &subject.scope)?;
+    let plan = plan(alloc, &subject.tree, row.dtype())?;
+    let reader = plan.reader_of(row);
+    let answer = vx_scan::scan(alloc, &reader, &plan);
     drop(reader);
     drop(answer?);
     Ok(())
 }
 
 // One row of a scope `{b: bool, x: i32?}`.
-fn row(alloc: Global, scope: &DType) -> VortexResult<Box<Column>> {
+fn row(alloc: Global, scope: &DType) -> VortexResult<Column> {
     let values = vec![in alloc; Value::Bool(true), Value::Int(7)]?;
     let rows = vec![in alloc; Value::Struct(values)]?;
-    let column = Column::try_new(scope.clone()?, rows)?;
-    Ok(Box::new(alloc, column)?)
+    Column::try_new(scope.clone()?, rows)
 }

@@ -141,11 +141,11 @@ impl Pass {
 
     /// Runs the pass once, and lets its result go.
     pub fn run(self, alloc: Global, subject: &Subject) -> VortexResult<()>
-        requires { WellTyped (bound_of subject.now.bound.value) }
+        requires { WellTyped (bound_of subject.now.bound) }
     {
-        let (source, bound, fields) = (&*subject.tree, &*subject.bound, &*subject.fields);
+        let (source, bound, fields) = (&subject.tree, &subject.bound, &subject.fields);
         match self {
-            Pass::Bind => gone(source.bind(alloc, &*subject.scope)),
+            Pass::Bind => gone(source.bind(alloc, &subject.scope)),
             Pass::Display => written(alloc, bound),
             Pass::Optimize => gone(bound.optimize_recursive(alloc)),
             Pass::Fuse => fuse(alloc, bound),
@@ -153,15 +153,15 @@ impl Pass {
             Pass::Annotate => annotate(alloc, bound, fields),
             Pass::Partition => partition(alloc, bound, fields),
             Pass::Paths => gone(referenced_field_paths(alloc, bound)),
-            Pass::Split => gone(split_by_fields(alloc, bound, &*subject.scope)),
-            Pass::Plan => gone(plan(alloc, source, &*subject.scope)),
+            Pass::Split => gone(split_by_fields(alloc, bound, &subject.scope)),
+            Pass::Plan => gone(plan(alloc, source, &subject.scope)),
             Pass::Folding => gone(optimize_with(alloc, &FoldingRules, bound)),
-            Pass::ReturnDtype => gone(source.return_dtype(alloc, &*subject.scope)),
+            Pass::ReturnDtype => gone(source.return_dtype(alloc, &subject.scope)),
             Pass::Equality => told(*source == *source && *bound == *bound),
             Pass::SourceText => written(alloc, source),
             Pass::TreeText => written(alloc, &bound.display_tree()),
             Pass::Contains => told(!bound.contains::<Mask>()),
-            Pass::Check => check(alloc, bound, &*subject.scope),
+            Pass::Check => check(alloc, bound, &subject.scope),
             Pass::Key => key(bound),
             Pass::Validity => gone(bound.validity(alloc)),
             Pass::Walk => gone(walk(source)),
@@ -172,7 +172,7 @@ impl Pass {
             Pass::Evaluate => over_a_row::evaluate(alloc, subject),
             Pass::Query => over_a_row::query(alloc, subject),
             Pass::Scan => over_a_row::scan(alloc, subject),
-            Pass::Rebind => gone(bound.rebind(alloc, &*subject.scope)),
+            Pass::Rebind => gone(bound.rebind(alloc, &subject.scope)),
             Pass::Hash => hash(source, bound),
             Pass::DebugText => debugged(alloc, bound),
             Pass::Passes => passed(alloc, bound),
@@ -183,7 +183,7 @@ impl Pass {
     }
 }
 
-// Lets what a call answers go. Of a type parameter the prover writes nothing out.
+// Lets what a call answers go.
 fn gone<T: Drop>(answer: VortexResult<T>) -> VortexResult<()> {
     answer.map(|_result| ())
 }

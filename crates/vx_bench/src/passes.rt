@@ -47,5 +47,5 @@ fn passed(alloc: Global, family: Family, size: usize, pass: Pass, repeats: u32) 
     for _ in 0..repeats {
         pass.run(alloc, &subject)?;
     }
-    Ok(visited(&*subject.tree))
+    Ok(visited(&subject.tree))
 }

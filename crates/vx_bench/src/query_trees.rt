@@ -8,10 +8,10 @@ use vx_types::{FieldName, VortexResult};
 
 impl Query {
     /// The query as a tree.
-    pub fn tree(self, alloc: Global) -> VortexResult<Box<Expression>> {
+    pub fn tree(self, alloc: Global) -> VortexResult<Expression> {
         let mut trees = Trees::new(alloc);
         self.make(alloc, &mut trees)?;
-        trees.last(alloc)
+        trees.last()
     }
 
     // Makes the query's tree.

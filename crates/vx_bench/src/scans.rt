@@ -10,11 +10,11 @@ use vx_types::VortexResult;
 
 /// The digest of the query's column over its batch, by scans.
 pub fn scanned(alloc: Global, query: Query, rows: usize, repeats: u32) -> VortexResult<Digest> {
-    let batch = Box::new(alloc, query.batch(alloc, rows)?)?;
+    let batch = query.batch(alloc, rows)?;
     let source = query.tree(alloc)?;
-    let plan = Box::new(alloc, plan(alloc, &*source, batch.dtype())?)?;
-    let reader = plan.reader_of(Box::into_inner(batch));
-    let answer = repeated(alloc, &reader, &*plan, repeats);
+    let plan = plan(alloc, &source, batch.dtype())?;
+    let reader = plan.reader_of(batch);
+    let answer = repeated(alloc, &reader, &plan, repeats);
     drop(reader);
     answer
 }

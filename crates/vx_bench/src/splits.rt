@@ -37,7 +37,7 @@ fn split(
     alloc: Global,
     bound: &BoundExpression,
     fields: &StructFields,
-) -> VortexResult<Box<BoundPartitionedExpr<FieldName>>>
+) -> VortexResult<BoundPartitionedExpr<FieldName>>
     requires { WellTyped (bound_of bound.now) }
 {
     let read = |node: &BoundExpression| free_fields(alloc, node, fields);
@@ -45,6 +45,5 @@ fn split(
     if !covers(alloc, bound, &map)? {
         return Err(VortexError::NotBool);
     }
-    let split = partition_bound_annotations(alloc, bound.clone()?, map)?;
-    Ok(Box::new(alloc, split)?)
+    partition_bound_annotations(alloc, bound.clone()?, map)
 }

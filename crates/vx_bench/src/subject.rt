@@ -9,27 +9,42 @@ use vx_tree::{BoundExpression, Expression};
 use vx_types::{DType, Nullability, StructFields, VortexResult};
 
 /// A tree, its scope, and the tree bound to it.
-#[derive(Debug, Drop)]
+#[derive(Debug)]
 pub struct Subject {
     /// The tree.
-    pub tree: Box<Expression>,
+    pub tree: Expression,
     /// The fields of its scope.
-    pub fields: Box<StructFields>,
+    pub fields: StructFields,
     /// The type of its scope.
-    pub scope: Box<DType>,
+    pub scope: DType,
     /// The tree, bound.
-    pub bound: Box<BoundExpression>,
+    pub bound: BoundExpression,
+}
+
+impl Drop for Subject {
+    fn drop(self) {
+        let Subject {
+            tree,
+            fields,
+            scope,
+            bound,
+        } = self;
+        drop(tree);
+        drop(fields);
+        drop(scope);
+        drop(bound);
+    }
 }
 
 impl Subject {
     /// The family's tree of that size.
     pub fn new(alloc: Global, family: Family, size: usize) -> VortexResult<Subject>
-        ensures { IfOk result (λ s. WellTyped (bound_of s.bound.value)) }
+        ensures { IfOk result (λ s. WellTyped (bound_of s.bound)) }
     {
         let tree = family.tree(alloc, size)?;
-        let fields = Box::new(alloc, family.fields(alloc, size)?)?;
-        let scope = scope(alloc, &*fields)?;
-        let bound = Box::new(alloc, tree.bind(alloc, &*scope)?)?;
+        let fields = family.fields(alloc, size)?;
+        let scope = scope(&fields)?;
+        let bound = tree.bind(alloc, &scope)?;
         Ok(Subject {
             tree,
             fields,
@@ -40,9 +55,8 @@ impl Subject {
 }
 
 // The struct of the fields that is never null.
-fn scope(alloc: Global, fields: &StructFields) -> VortexResult<Box<DType>> {
-    let scope = DType::Struct(fields.clone()?, Nullability::NonNullable);
-    Ok(Box::new(alloc, scope)?)
+fn scope(fields: &StructFields) -> VortexResult<DType> {
+    Ok(DType::Struct(fields.clone()?, Nullability::NonNullable))
 }
 
 /// How many nodes a walk of the tree visits: one that is shared counts each time it is met.

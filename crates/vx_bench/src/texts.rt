@@ -54,12 +54,12 @@ pub extern "C" fn vx_text(alloc: Global, size: usize, work: u8, repeats: u32, by
 // The bytes of the source text, after so much work.
 fn worked(alloc: Global, size: usize, work: Work, repeats: u32) -> VortexResult<u64> {
     let tree = Family::Conjunction.tree(alloc, size)?;
-    let text = format!(in alloc; "{}", SourceText(&*tree))?;
+    let text = format!(in alloc; "{}", SourceText(&tree))?;
     for _ in 0..repeats {
         match work {
             Work::Read => drop(parsed(alloc, text.as_str())?),
-            Work::Write => written(alloc, &SourceText(&*tree))?,
-            Work::Display => written::<Expression>(alloc, &*tree)?,
+            Work::Write => written(alloc, &SourceText(&tree))?,
+            Work::Display => written(alloc, &tree)?,
         }
     }
     Ok(text.len() as u64)

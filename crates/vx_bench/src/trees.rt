@@ -7,8 +7,7 @@ use vx_tree::{
 };
 use vx_types::{FieldNames, Nullability};
 
-/// Trees that are being made: each function goes over the last ones, as many as it takes. So nobody
-/// holds a tree where memory may run out, which is where the prover writes out all that is held.
+/// Trees that are being made: each function goes over the last ones, as many as it takes.
 #[derive(Drop)]
 pub struct Trees {
     made: Vec<Expression>,
@@ -23,10 +22,9 @@ impl Trees {
 
     /// The function over the last trees.
     pub fn call(&mut self, alloc: Global, scalar_fn: ScalarFnRef) -> VortexResult<()> {
-        let scalar_fn = Box::new(alloc, scalar_fn)?;
         let first = self.made.len().saturating_sub(scalar_fn.arity());
         let children = self.made.split_off(first)?;
-        let tree = Expression::try_new(alloc, Box::into_inner(scalar_fn), children)?;
+        let tree = Expression::try_new(alloc, scalar_fn, children)?;
         self.made.push(tree)?;
         Ok(())
     }
@@ -113,9 +111,9 @@ impl Trees {
     }
 
     /// The last tree. Where none was made, the refusal is that of a function with too few children.
-    pub fn last(mut self, alloc: Global) -> VortexResult<Box<Expression>> {
+    pub fn last(mut self) -> VortexResult<Expression> {
         match self.made.pop() {
-            Some(tree) => Ok(Box::new(alloc, tree)?),
+            Some(tree) => Ok(tree),
             None => Err(VortexError::ArityMismatch {
                 expected: 1,
                 got: 0,

@@ -16,9 +16,9 @@ const CONJUNCTS: usize = 10;
 
 // Of how many of so many verdicts nothing is known.
 fn unknown_of(alloc: Global, repeats: u32) -> VortexResult<u64> {
-    let scope = Box::new(alloc, scope(alloc)?)?;
+    let scope = scope(alloc)?;
     let source = conjunction(alloc)?;
-    let tree = Box::new(alloc, source.bind(alloc, &scope)?)?;
+    let tree = source.bind(alloc, &scope)?;
     let stats = stats(alloc)?;
     Ok(unknown(&tree, &stats, repeats))
 }
@@ -62,14 +62,14 @@ fn stats(alloc: Global) -> VortexResult<ChunkStats> {
 }
 
 // `f0 >= 500` joined by And with the same of the other fields, which the statistics leave open.
-fn conjunction(alloc: Global) -> VortexResult<Box<Expression>> {
+fn conjunction(alloc: Global) -> VortexResult<Expression> {
     let mut trees = Trees::new(alloc);
     for i in 0..CONJUNCTS {
         trees.field(alloc, numbered(alloc, i)?)?;
         trees.with_number(alloc, Operator::Gte, 500)?;
     }
     trees.join(alloc)?;
-    trees.last(alloc)
+    trees.last()
 }
 
 /// Gives so many verdicts of a conjunction of ten comparisons, each of a field of its own, in a chunk
