@@ -4,7 +4,7 @@ pub mod NameTests
 pub mod Known
 pub mod Built
 pub mod Commas
-pub mod FieldTexts
+pub mod TypesWritten
 pub mod Unions
 pub mod FirstPlaces
 pub mod FieldsAt

@@ -10,3 +10,4 @@ pub mod Hashes
 pub mod Deciding
 pub mod Codes
 pub mod Texts
+pub mod Notations

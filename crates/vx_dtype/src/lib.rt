@@ -11,9 +11,11 @@ mod joins;
 pub mod laws;
 mod name_list;
 mod names;
+mod notation;
 mod shown;
 
 pub use dtype::{DType, Nullability, PType, StructFields};
 pub use error::{VortexError, VortexResult};
 pub use names::{FieldName, FieldNames, names_without};
-pub use shown::separator;
+pub use notation::{TypeNotation, write_type_in};
+pub use shown::{Shown, separator};
