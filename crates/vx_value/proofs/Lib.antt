@@ -2,7 +2,7 @@ pub mod Lists
 pub mod Pairs
 pub mod Fitting
 pub mod Above
-pub mod ItemTexts
+pub mod ValuesWritten
 pub mod Misfits
 pub mod PathSets
 pub mod TakenRows

@@ -12,6 +12,7 @@ pub mod StructColumns
 pub mod Items
 pub mod Paths
 pub mod ValueTexts
+pub mod Notations
 pub use Rattle.vx_dtype.specs.Returns
 pub use Rattle.vx_dtype.specs.Joins
 pub use Rattle.vx_dtype.specs.Names

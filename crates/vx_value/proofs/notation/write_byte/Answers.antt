@@ -1,6 +1,6 @@
 use Rattle.std.proofs.Common.{false, rules}
 use Rattle.std.proofs.lemmas.Fmt as texts
-use Rattle.vx_value.proofs.value_texts.write_byte.Goals as goal
+use Rattle.vx_value.proofs.notation.write_byte.Goals as goal
 
 pub returns : goal.returns
 returns g c =

@@ -1,0 +1,54 @@
+-- Values in a notation: what notations have in common, over how each writes names, numbers and texts.
+use Rattle.std.specs.Prelude.{ℕ, ℤ, true, false, List, [], ◌∷◌, ◌++◌, codes}
+use Rattle.std.specs.Fmt.{signed_decimal}
+use Rattle.std.specs.List.{flat_map}
+use Rattle.vx_value.specs.Types.{Name, number, LogicalType, ty, atomic, list, fixed, struct, Fields, field, Datum, null, bool, int, utf8, bytes, list_of, struct_of, Data, no_datum, datum}
+use Rattle.vx_value.specs.Texts.{with_commas, ptype_text}
+use Rattle.vx_value.specs.ValueTexts.{hex_byte}
+
+-- the words of a notation, beside those of names: of a number of a type, and of a text
+pub record ValueWords : Type 0 where
+  pub numbered : ℤ → LogicalType → List ℕ
+  pub quoted : List ℕ → List ℕ
+
+abbrev pub number_in : ValueWords → ℤ → LogicalType → List ℕ
+number_in w = w.numbered
+
+abbrev pub quoted_in : ValueWords → List ℕ → List ℕ
+quoted_in w = w.quoted
+
+-- the text of a value, which is read by its type
+abbrev mutual
+  pub value_in : (Name → List ℕ) → ValueWords → Datum → LogicalType → List ℕ
+  value_in named w null t = codes "null"
+  value_in named w (bool true) t = codes "true"
+  value_in named w (bool false) t = codes "false"
+  value_in named w (int i) t = number_in w i t
+  value_in named w (utf8 s) t = quoted_in w s
+  value_in named w (bytes bs) t = codes "0x" ++ flat_map hex_byte bs
+  value_in named w (list_of vs) (ty (list t) n) = codes "[" ++ (with_commas (items_in named w vs t) ++ codes "]")
+  value_in named w (list_of vs) (ty (fixed t k) n) = codes "[" ++ (with_commas (items_in named w vs t) ++ codes "]")
+  value_in named w (struct_of vs) (ty (struct fs) n) = codes "{" ++ (with_commas (row_in named w vs fs) ++ codes "}")
+  value_in named w _ _ = []
+
+  -- each item of a list
+  pub items_in : (Name → List ℕ) → ValueWords → Data → LogicalType → List (List ℕ)
+  items_in named w no_datum t = []
+  items_in named w (datum v vs) t = value_in named w v t ∷ items_in named w vs t
+
+  -- each value of a struct after its field's name
+  pub row_in : (Name → List ℕ) → ValueWords → Data → Fields → List (List ℕ)
+  row_in named w (datum v vs) (field a t fs) = (named a ++ (codes ": " ++ value_in named w v t)) ∷ row_in named w vs fs
+  row_in named w _ _ = []
+
+-- the items of a list, between brackets
+abbrev pub list_in : (Name → List ℕ) → ValueWords → Data → LogicalType → List ℕ
+list_in named w vs t = codes "[" ++ (with_commas (items_in named w vs t) ++ codes "]")
+
+-- those of values as they are shown: a number has its type behind it
+abbrev pub shown_number : ℤ → LogicalType → List ℕ
+shown_number i (ty (atomic (number p)) n) = signed_decimal i ++ ptype_text p
+shown_number _ _ = []
+
+abbrev pub shown_words : ValueWords
+shown_words = record { numbered = shown_number; quoted = λ s. codes "\"" ++ (s ++ codes "\"") }
