@@ -9,6 +9,7 @@ pub mod TypePrintable
 pub mod TypeReading
 pub mod TypeViews
 pub mod ScalarTexts
+pub mod Notations
 pub mod ValueReading
 pub mod ValueViews
 pub mod Literals

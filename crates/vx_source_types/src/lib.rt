@@ -7,6 +7,7 @@ mod expectation;
 mod first;
 mod literal;
 mod names;
+mod notation;
 mod number;
 mod quotes;
 mod scalar_parser;

@@ -1,0 +1,41 @@
+// Source text, as a notation of types and values.
+ghost use Rattle.std.specs.Prelude.{◌≡◌};
+ghost use Rattle.std.specs.Fmt.{WritesOnOk};
+ghost use Rattle.vx_value.specs.Notations.{number_in, quoted_in};
+ghost use Rattle.vx_value.specs.Views.{type_of};
+ghost use Rattle.vx_source_types.specs.Names.{name_source};
+ghost use Rattle.vx_source_types.specs.Notations.{source_words};
+
+use crate::names::{write_name, write_quoted};
+use std::fmt;
+use std::fmt::{Display, Formatter, Write};
+use vx_dtype::{DType, FieldName, TypeNotation};
+use vx_value::ValueNotation;
+
+// Names and texts between quotes, the names only where they are no words, and numbers without their types.
+pub(crate) struct Source;
+
+impl TypeNotation for Source {
+    ghost named = { name_source };
+
+    fn write_name<W: Write>(&self, name: &FieldName, f: &mut Formatter<W>) -> fmt::Result {
+        write_name(name, f)
+    }
+}
+
+impl ValueNotation for Source {
+    ghost words = { source_words };
+
+    fn write_number<W: Write>(
+        &self,
+        number: i128,
+        _t: &DType,
+        f: &mut Formatter<W>,
+    ) -> fmt::Result {
+        number.fmt(f)
+    }
+
+    fn write_text<W: Write>(&self, text: &str, f: &mut Formatter<W>) -> fmt::Result {
+        write_quoted(text, '"', f)
+    }
+}
