@@ -27,9 +27,9 @@ pub fn tree(alloc: Global, scope: &DType) -> VortexResult<BoundExpression>
     requires { type_of scope.now ≡ branches.batch.type }
     ensures { ReturnsOrOom bound_of result (binding branches.source branches.batch.type) }
 {
-    let case = Box::new(alloc, source(alloc)?)?;
-    let bound = Box::new(alloc, case.bind(alloc, scope)?)?;
-    optimized(alloc, &BranchRules, &*bound)
+    let case = source(alloc)?;
+    let bound = case.bind(alloc, scope)?;
+    optimized(alloc, &BranchRules, &bound)
 }
 
 /// What the CASE gives over the batch, as a query by the branch rules. Asks a batch of the type of
@@ -61,9 +61,9 @@ fn never(alloc: Global) -> VortexResult<(Expression, Expression)>
     ensures value { IfOk result (λ c. tree_of c.1 ≡ x) }
     ensures memory { IfErr result (λ e. e ≡ OutOfMemory) }
 {
-    let condition = Box::new(alloc, lit(alloc, Scalar::from_bool(false))?)?;
+    let condition = lit(alloc, Scalar::from_bool(false))?;
     let value = field_x(alloc)?;
-    Ok((Box::into_inner(condition), value))
+    Ok((condition, value))
 }
 
 // The condition that x is null, and 0 beside it.
@@ -72,7 +72,7 @@ fn zero_for_null(alloc: Global) -> VortexResult<(Expression, Expression)>
     ensures value { IfOk result (λ c. tree_of c.1 ≡ lit_i32 0) }
     ensures memory { IfErr result (λ e. e ≡ OutOfMemory) }
 {
-    let condition = Box::new(alloc, is_null(alloc, field_x(alloc)?)?)?;
+    let condition = is_null(alloc, field_x(alloc)?)?;
     let value = number(alloc, 0)?;
-    Ok((Box::into_inner(condition), value))
+    Ok((condition, value))
 }

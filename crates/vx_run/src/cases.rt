@@ -31,10 +31,9 @@ fn case(alloc: Global, bound: i32, value: i32) -> VortexResult<(Expression, Expr
     ensures value { IfOk result (λ c. tree_of c.1 ≡ lit i32 (int value)) }
     ensures memory { IfErr result (λ e. e ≡ OutOfMemory) }
 {
-    let greater = x_compared(alloc, Operator::Gt, number(alloc, bound)?)?;
-    let condition = Box::new(alloc, greater)?;
+    let condition = x_compared(alloc, Operator::Gt, number(alloc, bound)?)?;
     let value = number(alloc, value)?;
-    Ok((Box::into_inner(condition), value))
+    Ok((condition, value))
 }
 
 /// The rows `{x: 1}`, `{x: 5}` and `{x: null}`.

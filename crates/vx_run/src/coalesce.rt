@@ -14,10 +14,10 @@ use vx_types::{Column, DType, Nullability, PType, Value, VortexResult};
 pub fn source(alloc: Global) -> VortexResult<Expression>
     ensures { ReturnsOrOom tree_of result (Ok coalesce.source) }
 {
-    let condition = Box::new(alloc, is_null(alloc, field_x(alloc)?)?)?;
-    let zero = Box::new(alloc, number(alloc, 0)?)?;
+    let condition = is_null(alloc, field_x(alloc)?)?;
+    let zero = number(alloc, 0)?;
     let x = field_x(alloc)?;
-    case_when(alloc, Box::into_inner(condition), Box::into_inner(zero), x)
+    case_when(alloc, condition, zero, x)
 }
 
 /// The rows `{x: null}` and `{x: 4}`.

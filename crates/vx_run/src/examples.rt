@@ -49,7 +49,6 @@ pub fn number(alloc: Global, n: i32) -> VortexResult<Expression>
 pub fn x_compared(alloc: Global, operator: Operator, other: Expression) -> VortexResult<Expression>
     ensures { ReturnsOrOom tree_of result (Ok (operated (operation_of operator) x (tree_of other))) }
 {
-    let other = Box::new(alloc, other)?;
     let x = field_x(alloc)?;
-    binary(alloc, operator, x, Box::into_inner(other))
+    binary(alloc, operator, x, other)
 }

@@ -21,7 +21,7 @@ pub fn tree(alloc: Global, scope: &DType) -> VortexResult<BoundExpression>
     requires { type_of scope.now ≡ fused.batch.type }
     ensures { ReturnsOrOom bound_of result (binding fused.source fused.batch.type) }
 {
-    let unfused = Box::new(alloc, kleene::source(alloc)?)?;
+    let unfused = kleene::source(alloc)?;
     let bound = unfused.bind(alloc, scope)?;
     find_between(alloc, bound)
 }

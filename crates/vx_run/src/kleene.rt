@@ -15,9 +15,9 @@ pub fn source(alloc: Global) -> VortexResult<Expression>
     ensures { ReturnsOrOom tree_of result (Ok kleene.source) }
 {
     let null = Scalar::null(DType::Primitive(PType::I32, Nullability::Nullable));
-    let lower = Box::new(alloc, x_compared(alloc, Operator::Gte, lit(alloc, null)?)?)?;
+    let lower = x_compared(alloc, Operator::Gte, lit(alloc, null)?)?;
     let upper = x_compared(alloc, Operator::Lte, number(alloc, 5)?)?;
-    and(alloc, Box::into_inner(lower), upper)
+    and(alloc, lower, upper)
 }
 
 /// The rows `{x: 10}` and `{x: 1}`.

@@ -33,16 +33,16 @@ pub fn page(alloc: Global, row: Row) -> VortexResult<String>
 {
     match row {
         Row::Kleene => {
-            let batch = Box::new(alloc, kleene::batch(alloc)?)?;
-            sample_text(alloc, kleene::source(alloc)?, Box::into_inner(batch))
+            let batch = kleene::batch(alloc)?;
+            sample_text(alloc, kleene::source(alloc)?, batch)
         }
         Row::Coalesce => {
-            let batch = Box::new(alloc, coalesce::batch(alloc)?)?;
-            sample_text(alloc, coalesce::source(alloc)?, Box::into_inner(batch))
+            let batch = coalesce::batch(alloc)?;
+            sample_text(alloc, coalesce::source(alloc)?, batch)
         }
         Row::Cases => {
-            let batch = Box::new(alloc, cases::batch(alloc)?)?;
-            sample_text(alloc, cases::source(alloc)?, Box::into_inner(batch))
+            let batch = cases::batch(alloc)?;
+            sample_text(alloc, cases::source(alloc)?, batch)
         }
         Row::Fused => fused_page(alloc),
         Row::Branches => branches_page(alloc),

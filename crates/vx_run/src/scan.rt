@@ -28,8 +28,8 @@ pub fn planned(alloc: Global, scope: &DType) -> VortexResult<ScanPlan>
     ensures scope { IfOk result (λ p. type_of p.scope ≡ scan.batch.type) }
     ensures memory { IfErr result (λ e. e ≡ OutOfMemory) }
 {
-    let source = Box::new(alloc, source(alloc)?)?;
-    plan(alloc, &source, scope)
+    let conditions = source(alloc)?;
+    plan(alloc, &conditions, scope)
 }
 
 /// What a scan by the plan gives over the batch. Asks a plan of the conditions, and a batch of its
@@ -51,10 +51,10 @@ fn source(alloc: Global) -> VortexResult<Expression>
     ensures { ReturnsOrOom tree_of result (Ok scan.source) }
 {
     let x = x_of_a(alloc)?;
-    let from_one = Box::new(alloc, compared(alloc, Operator::Gte, x, 1)?)?;
+    let from_one = compared(alloc, Operator::Gte, x, 1)?;
     let b = col(alloc, FieldName::new(alloc, "b")?)?;
     let below_five = compared(alloc, Operator::Lt, b, 5)?;
-    and(alloc, Box::into_inner(from_one), below_five)
+    and(alloc, from_one, below_five)
 }
 
 // `$.a.x`.
@@ -62,18 +62,16 @@ fn x_of_a(alloc: Global) -> VortexResult<Expression>
     ensures { ReturnsOrOom tree_of result (Ok x_of_a) }
 {
     let a = col(alloc, FieldName::new(alloc, "a")?)?;
-    let a = Box::new(alloc, a)?;
     let x = FieldName::new(alloc, "x")?;
-    get_item(alloc, x, Box::into_inner(a))
+    get_item(alloc, x, a)
 }
 
 // The item compared with the number.
 fn compared(alloc: Global, operator: Operator, item: Expression, n: i32) -> VortexResult<Expression>
     ensures { ReturnsOrOom tree_of result (Ok (operated (operation_of operator) (tree_of item) (lit i32 (int n)))) }
 {
-    let item = Box::new(alloc, item)?;
     let number = number(alloc, n)?;
-    binary(alloc, operator, Box::into_inner(item), number)
+    binary(alloc, operator, item, number)
 }
 
 /// The rows `{a: {x: 1, y: 7}, b: 4, c: "q"}` and `{a: null, b: 9, c: "r"}`.

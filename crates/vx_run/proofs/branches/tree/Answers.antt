@@ -9,7 +9,7 @@ use Rattle.vx_run.proofs.branches.tree.Goals as goal
 
 pub returns : goal.returns
 returns c =
-    let form : IfOk c.optimized.result (λ u. NormalForm BranchRuleAt (bound_of c.in_ok-bind.field-0) (bound_of u)) = rw (c.deref-2.ensures, c.in_ok-bound.ensures.ok) at c.optimized.ensures.form in
-    left (bound_of c.in_ok-bind.field-0) c.optimized.result
-    (bound_source never_then_zero branches.batch.type (bound_of c.in_ok-bind.field-0) (tree_of c.deref.result.now) _ c.in_ok-bind.ensures.well_typed c.in_ok-bind.ensures.over.0 c.in_ok-bind.ensures.over.1 (rw (c.deref.ensures, c.in_ok-case.ensures.ok) (made never_then_zero _ c.in_ok-source.ensures)) c.requires)
+    let form : IfOk c.optimized.result (λ u. NormalForm BranchRuleAt (bound_of c.in_ok-bound.bound) (bound_of u)) = c.optimized.ensures.form in
+    left (bound_of c.in_ok-bound.bound) c.optimized.result
+    (bound_source never_then_zero branches.batch.type (bound_of c.in_ok-bound.bound) (tree_of c.in_ok-case.case) _ c.in_ok-bound.ensures.well_typed c.in_ok-bound.ensures.over.0 c.in_ok-bound.ensures.over.1 (made never_then_zero _ c.in_ok-case.ensures) c.requires)
     form c.optimized.ensures.memory

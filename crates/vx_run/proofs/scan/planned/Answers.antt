@@ -5,4 +5,4 @@ use Rattle.vx_run.proofs.Scanned.{planned_tree}
 use Rattle.vx_run.proofs.scan.planned.Goals as goal
 
 pub returns-clause-tree : goal.returns-clause-tree
-returns-clause-tree c = planned_tree _ (type_of c.args.scope.now) c.plan.result (rw (c.deref.ensures, c.in_ok-source-2.ensures.ok) (made scan.source _ c.in_ok-source.ensures)) c.requires c.plan.ensures.planned
+returns-clause-tree c = planned_tree _ (type_of c.args.scope.now) c.plan.result (made scan.source _ c.in_ok-conditions.ensures) c.requires c.plan.ensures.planned
