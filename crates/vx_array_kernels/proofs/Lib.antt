@@ -4,3 +4,5 @@ pub mod NullRows
 pub mod Beside
 mod Chosen
 mod Added
+mod Where
+mod Cases

@@ -1,16 +1,19 @@
 // Rows that are chosen from several columns by masks.
-ghost use Rattle.vx_array.specs.Rows.{lanes_rows};
-ghost use Rattle.vx_array_kernels.specs.Choices.{filled_rows};
+ghost use Rattle.std.specs.Prelude.{◌≡◌, ◌≤◌, IfOk, IfSome, length, true};
+ghost use Rattle.vx_array.specs.Rows.{lanes_each, lanes_rows};
+ghost use Rattle.vx_array_kernels.specs.Choices.{EachLong, case_rows, chosen_rows, filled_rows};
 ghost use Rattle.vx_array_kernels.specs.Found.{Finds, IsLong};
 
 use crate::blend::Blend;
+use crate::masks::mask_of;
 use crate::nulls::null_rows;
 use crate::number_rows::NumberRows;
 use crate::pair::Pair;
 use crate::truths::Truths;
 use std::alloc::{AllocError, Global};
+use std::sync::Arc;
 use vx_array::Lanes;
-use vx_types::{DType, PType};
+use vx_types::{DType, PType, Value};
 
 // A call for rows of the kind that a type has, if they are truth values or numbers.
 macro_rules! by_kind {
@@ -33,6 +36,36 @@ macro_rules! by_kind {
     (@ $f:ident $kind:ident $args:tt) => { $f::<$kind> $args };
 }
 
+/// Of conditions and values in turn the value beside the first condition that is true, else the last
+/// column's value, else null. There is an answer where all values are truth values or numbers of the type
+/// in buffers, or one value in all rows, and conditions truth values.
+pub fn case_when(
+    alloc: Global,
+    count: usize,
+    dtype: &DType,
+    below: &[Lanes],
+) -> Result<Option<Lanes>, AllocError>
+    requires { EachLong count (lanes_each below.now) }
+    ensures { Finds (case_rows count (lanes_each below.now)) result }
+{
+    by_kind!(dtype, case_in(alloc, count, below))
+}
+
+/// The first column's value where the condition is true, else the other's. There is an answer as for
+/// `case_when`.
+pub fn zip(
+    alloc: Global,
+    dtype: &DType,
+    pair: Pair,
+    condition: &Lanes,
+) -> Result<Option<Lanes>, AllocError>
+    requires pair { IsLong pair }
+    requires condition { length (lanes_rows condition.now) ≡ pair.count }
+    ensures { Finds (chosen_rows pair.entry.count (lanes_rows condition.now) (lanes_rows pair.entry.lhs.now) (lanes_rows pair.entry.rhs.now)) result }
+{
+    by_kind!(dtype, zip_in(alloc, pair, condition))
+}
+
 /// The first column's values, and the other's where they are null. There is an answer where the first ones
 /// are truth values or numbers of the type in buffers, and the others, too, or one value in all rows.
 pub fn fill_null(alloc: Global, dtype: &DType, pair: Pair) -> Result<Option<Lanes>, AllocError>
@@ -40,6 +73,85 @@ pub fn fill_null(alloc: Global, dtype: &DType, pair: Pair) -> Result<Option<Lane
     ensures { Finds (filled_rows pair.entry.count (lanes_rows pair.entry.lhs.now) (lanes_rows pair.entry.rhs.now)) result }
 {
     by_kind!(dtype, fill_in(alloc, pair))
+}
+
+// The same of rows of one kind, from the last branch to the first.
+fn case_in<B: Blend>(
+    alloc: Global,
+    count: usize,
+    below: &[Lanes],
+) -> Result<Option<Lanes>, AllocError>
+    requires { EachLong count (lanes_each below.now) }
+    ensures { Finds (case_rows count (lanes_each below.now)) result }
+{
+    let pairs = below.len() / 2;
+    let Some(mut rows) = otherwise::<B>(alloc, count, &below[2 * pairs..])? else {
+        return Ok(None);
+    };
+    for j in 0..pairs {
+        let i = 2 * (pairs - 1 - j);
+        if !put_where(alloc, count, &mut rows, &below[i], &below[i + 1])? {
+            return Ok(None);
+        }
+    }
+    Ok(Some(rows.into_lanes(alloc)?))
+}
+
+// The rows behind all branches: those of the last column, if it has no condition, and else null.
+fn otherwise<B: Blend>(alloc: Global, count: usize, rest: &[Lanes]) -> Result<Option<B>, AllocError>
+    requires few { length rest.now ≤ 1 }
+    requires long { EachLong count (lanes_each rest.now) }
+    ensures { IfOk result (λ found. IfSome found (λ b. B.rows b ≡ case_rows count (lanes_each rest.now))) }
+{
+    match rest {
+        [last, ..] => B::of(alloc, count, last),
+        [] => {
+            let nulls = Lanes::Same(Arc::new(alloc, Value::Null)?, count);
+            B::of(alloc, count, &nulls)
+        }
+    }
+}
+
+// The same of rows of one kind.
+fn zip_in<B: Blend>(
+    alloc: Global,
+    pair: Pair,
+    condition: &Lanes,
+) -> Result<Option<Lanes>, AllocError>
+    requires pair { IsLong pair }
+    requires condition { length (lanes_rows condition.now) ≡ pair.count }
+    ensures { Finds (chosen_rows pair.entry.count (lanes_rows condition.now) (lanes_rows pair.entry.lhs.now) (lanes_rows pair.entry.rhs.now)) result }
+{
+    let Some(mut rows) = B::of(alloc, pair.count, pair.rhs)? else {
+        return Ok(None);
+    };
+    if put_where(alloc, pair.count, &mut rows, condition, pair.lhs)? {
+        return Ok(Some(rows.into_lanes(alloc)?));
+    }
+    Ok(None)
+}
+
+// Writes values where the condition is true, and tells whether it could.
+fn put_where<B: Blend>(
+    alloc: Global,
+    count: usize,
+    rows: &mut B,
+    condition: &Lanes,
+    values: &Lanes,
+) -> Result<bool, AllocError>
+    requires rows { length (B.rows rows.old) ≡ count }
+    requires condition { length (lanes_rows condition.now) ≡ count }
+    requires values { length (lanes_rows values.now) ≡ count }
+    ensures { IfOk result (λ done. done ≡ true → B.rows rows.new ≡ chosen_rows count (lanes_rows condition.now) (lanes_rows values.now) (B.rows rows.old)) }
+{
+    let Some(mask) = mask_of(alloc, count, condition)? else {
+        return Ok(false);
+    };
+    let Some(values) = B::of(alloc, count, values)? else {
+        return Ok(false);
+    };
+    rows.put(&mask, values);
+    Ok(true)
 }
 
 // The same of rows of one kind.

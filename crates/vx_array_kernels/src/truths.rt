@@ -131,8 +131,8 @@ fn repeated(alloc: Global, count: usize, value: &Value) -> Result<Option<Truths>
     }
 }
 
-// So many rows that are that truth value.
-fn same_rows(alloc: Global, count: usize, truth: bool) -> Result<Bits, AllocError>
+/// So many rows that are that truth value.
+pub fn same_rows(alloc: Global, count: usize, truth: bool) -> Result<Bits, AllocError>
     ensures { IfOk result (λ b. b ≡ replicate count truth) }
 {
     if truth {
