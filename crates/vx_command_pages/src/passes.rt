@@ -12,8 +12,8 @@ use vx_tree::BoundExpression;
 
 // A tree, and its source text.
 #[derive(Drop)]
-struct Passed {
-    tree: Box<BoundExpression>,
+struct TreeText {
+    tree: BoundExpression,
     text: String,
 }
 
@@ -42,27 +42,27 @@ pub(crate) fn push_passes(
 }
 
 // The tree before all passes.
-fn unpassed(alloc: Global, tree: &BoundExpression) -> Result<Passed, CommandError>
+fn unpassed(alloc: Global, tree: &BoundExpression) -> Result<TreeText, CommandError>
     requires { WellTyped (bound_of tree.now) }
-    ensures typed { IfOk result (λ u. WellTyped (bound_of u.tree.value)) }
+    ensures typed { IfOk result (λ u. WellTyped (bound_of u.tree)) }
     ensures memory { IfErr result (λ c. c ≡ OutOfMemory) }
 {
     let text = source_text(alloc, tree)?;
-    let tree = Box::new(alloc, tree.clone()?)?;
-    Ok(Passed { tree, text })
+    let tree = tree.clone()?;
+    Ok(TreeText { tree, text })
 }
 
 // Adds the line of one pass, and gives what it makes of the tree. That it changes something is told by the texts: trees are
 // compared with the types of their nodes, which takes as long for each as the scope has fields.
 fn pushed(
     alloc: Global,
-    before: &Passed,
+    before: &TreeText,
     pass: Pass,
     name: &str,
     page: &mut String,
-) -> Result<Passed, CommandError>
-    requires { WellTyped (bound_of before.now.tree.value) }
-    ensures typed { IfOk result (λ u. WellTyped (bound_of u.tree.value)) }
+) -> Result<TreeText, CommandError>
+    requires { WellTyped (bound_of before.now.tree) }
+    ensures typed { IfOk result (λ u. WellTyped (bound_of u.tree)) }
     ensures memory { IfErr result (λ c. c ≡ OutOfMemory) }
 {
     let tree = passed(alloc, &before.tree, pass)?;
@@ -70,7 +70,7 @@ fn pushed(
     if text != before.text {
         page.push_str(format!(in alloc; "{name}: {text}\n")?.as_str())?;
     }
-    Ok(Passed { tree, text })
+    Ok(TreeText { tree, text })
 }
 
 // What the pass makes of the tree.
@@ -78,13 +78,13 @@ fn passed(
     alloc: Global,
     tree: &BoundExpression,
     pass: Pass,
-) -> Result<Box<BoundExpression>, CommandError>
+) -> Result<BoundExpression, CommandError>
     requires { WellTyped (bound_of tree.now) }
-    ensures typed { IfOk result (λ u. WellTyped (bound_of u.value)) }
+    ensures typed { IfOk result (λ u. WellTyped (bound_of u)) }
     ensures memory { IfErr result (λ c. c ≡ OutOfMemory) }
 {
     match run_passes(alloc, tree.clone()?, &[pass]) {
-        Ok(passed) => Ok(Box::new(alloc, passed)?),
+        Ok(passed) => Ok(passed),
         Err(_) => Err(CommandError::OutOfMemory),
     }
 }
