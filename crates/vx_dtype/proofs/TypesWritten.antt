@@ -3,13 +3,19 @@ use Rattle.std.proofs.Common.{◌≡◌, ℕ, ◌+◌, ◌<◌, ◌≤◌, List,
 use Rattle.std.specs.Prelude.{◌==◌, if◌then◌else◌}
 use Rattle.std.specs.Fmt.{decimal}
 use Rattle.vx_dtype.specs.declared.dtype.DType.{DType}
-use Rattle.vx_dtype.specs.Types.{Name, LogicalType, ty, Shape, atomic, list, fixed, struct, Fields, no_field, field}
+use Rattle.vx_dtype.specs.Types.{Name, LogicalType, ty, Shape, atomic, list, fixed, struct, Fields, no_field, field, shape_of, is_nullable}
 use Rattle.vx_dtype.specs.Fields.{field_count}
 use Rattle.vx_dtype.specs.Notations.{type_in, shape_in, fields_in}
 use Rattle.vx_dtype.specs.Texts.{with_commas, mark, type_text, shape_text, field_texts}
 use Rattle.vx_dtype.specs.Views.{type_of, fields_view}
 use Rattle.vx_dtype.proofs.Commas.{behind, written_next, written_all}
 use Rattle.vx_dtype.proofs.Pairs.{fields_next, fields_end}
+
+-- the text of a type is that of its shape, and the mark behind it
+pub marked_shape : (named : Name → List ℕ) (t : LogicalType) → shape_in named (shape_of t) ++ mark (is_nullable t) ≡ type_in named t
+marked_shape named (ty s n) = refl
+
+-- ---- the fields of a struct
 
 -- the texts of the fields from the i-th on
 abbrev pub fields_from : (Name → List ℕ) → ℕ → List Name → List DType → List (List ℕ)

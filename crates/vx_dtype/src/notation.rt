@@ -1,8 +1,9 @@
 // Types written in a notation.
 ghost use Rattle.std.specs.Prelude.{◌≡◌, ◌++◌, codes};
 ghost use Rattle.std.specs.Fmt.{WritesOnOk};
-ghost use Rattle.vx_dtype.specs.Notations.{type_in, fields_in};
+ghost use Rattle.vx_dtype.specs.Notations.{type_in, shape_in, fields_in};
 ghost use Rattle.vx_dtype.specs.Texts.{with_commas, mark};
+ghost use Rattle.vx_dtype.specs.Types.{shape_of};
 ghost use Rattle.vx_dtype.specs.Views.{type_of, fields_view};
 
 use crate::fields::field_count;
@@ -31,49 +32,8 @@ pub fn write_type_in<N: TypeNotation, W: Write>(
 ) -> fmt::Result
     ensures { WritesOnOk W.write_str_gives f.old result (type_in N.named (type_of t.now)) f.new }
 {
-    match t {
-        DType::Bool(n) => {
-            f.write_str("bool")?;
-            f.write_str(mark(n.admits_null()))
-        }
-        DType::Primitive(p, n) => {
-            p.fmt(f)?;
-            f.write_str(mark(n.admits_null()))
-        }
-        DType::Utf8(n) => {
-            f.write_str("utf8")?;
-            f.write_str(mark(n.admits_null()))
-        }
-        DType::Binary(n) => {
-            f.write_str("binary")?;
-            f.write_str(mark(n.admits_null()))
-        }
-        DType::List(element, n) => {
-            f.write_str("list(")?;
-            write_type_in(notation, element.as_ref(), f)?;
-            f.write_str(")")?;
-            f.write_str(mark(n.admits_null()))
-        }
-        DType::FixedSizeList(element, size, n) => {
-            f.write_str("fixed_size_list(")?;
-            write_type_in(notation, element.as_ref(), f)?;
-            f.write_str(")[")?;
-            size.fmt(f)?;
-            f.write_str("]")?;
-            f.write_str(mark(n.admits_null()))
-        }
-        DType::Struct(fields, n) => {
-            f.write_str("{")?;
-            write_fields(
-                notation,
-                fields.names.as_slice(),
-                fields.types.as_slice(),
-                f,
-            )?;
-            f.write_str("}")?;
-            f.write_str(mark(n.admits_null()))
-        }
-    }
+    write_shape(notation, t, f)?;
+    f.write_str(mark(t.is_nullable()))
 }
 
 // What follows the text of a type: a question mark where it is nullable.
@@ -81,6 +41,45 @@ fn mark(nullable: bool) -> &'static str
     ensures { result.now ≡ mark nullable }
 {
     if nullable { "?" } else { "" }
+}
+
+// Writes the type but for the mark of a nullable one.
+#[cycle(write)]
+fn write_shape<N: TypeNotation, W: Write>(
+    notation: &N,
+    t: &DType,
+    f: &mut Formatter<W>,
+) -> fmt::Result
+    ensures { WritesOnOk W.write_str_gives f.old result (shape_in N.named (shape_of (type_of t.now))) f.new }
+{
+    match t {
+        DType::Bool(_) => f.write_str("bool"),
+        DType::Primitive(p, _) => p.fmt(f),
+        DType::Utf8(_) => f.write_str("utf8"),
+        DType::Binary(_) => f.write_str("binary"),
+        DType::List(element, _) => {
+            f.write_str("list(")?;
+            write_type_in(notation, element.as_ref(), f)?;
+            f.write_str(")")
+        }
+        DType::FixedSizeList(element, size, _) => {
+            f.write_str("fixed_size_list(")?;
+            write_type_in(notation, element.as_ref(), f)?;
+            f.write_str(")[")?;
+            size.fmt(f)?;
+            f.write_str("]")
+        }
+        DType::Struct(fields, _) => {
+            f.write_str("{")?;
+            write_fields(
+                notation,
+                fields.names.as_slice(),
+                fields.types.as_slice(),
+                f,
+            )?;
+            f.write_str("}")
+        }
+    }
 }
 
 // Writes the fields with a comma between them.

@@ -48,18 +48,9 @@ pub fn write_value_in<N: ValueNotation, W: Write>(
             write_bytes(bytes.as_slice(), f)
         }
         Value::List(items) => match t {
-            DType::List(element, _) => write_list_in(
-                notation,
-                items.as_slice(),
-                element.as_ref(),
-                f,
-            ),
-            DType::FixedSizeList(element, _, _) => write_list_in(
-                notation,
-                items.as_slice(),
-                element.as_ref(),
-                f,
-            ),
+            DType::List(element, _) | DType::FixedSizeList(element, _, _) => {
+                write_list_in(notation, items.as_slice(), element.as_ref(), f)
+            }
             _ => Ok(()),
         },
         Value::Struct(items) => match t {

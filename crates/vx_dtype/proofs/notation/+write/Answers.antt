@@ -1,7 +1,19 @@
-use Rattle.std.proofs.Common.{[], arith, refl, rules}
+use Rattle.std.proofs.Common.{[], ◌++◌, ap, ◌∙◌, arith, refl, rules}
 use Rattle.std.proofs.Output.{has_written_append, has_written_of_eq, writes_in_calls_nil}
-use Rattle.vx_dtype.proofs.TypesWritten.{fields_in_next, fields_in_all}
+use Rattle.vx_dtype.specs.Notations.{shape_in}
+use Rattle.vx_dtype.specs.Texts.{mark}
+use Rattle.vx_dtype.specs.Types.{shape_of}
+use Rattle.vx_dtype.specs.Views.{type_of}
+use Rattle.vx_dtype.proofs.TypesWritten.{marked_shape, fields_in_next, fields_in_all}
 use Rattle.vx_dtype.proofs.notation.+write.Goals as goal
+
+pub write_type_in-returns : goal.write_type_in-returns
+write_type_in-returns g _ c plain ok =
+    let shape = c.write_shape.ensures plain (search rules) in
+    let question = c.write_str.ensures.writes shape.plain ok in
+    let t = type_of c.args.t.now in
+    let whole = ap (λ m. shape_in g.N.TypeNotation.named (shape_of t) ++ m) (c.mark.ensures ∙ ap mark c.is_nullable.ensures) ∙ marked_shape g.N.TypeNotation.named t in
+    has_written_of_eq _ _ _ _ _ whole (has_written_append _ _ _ _ _ _ shape question)
 
 pub write_fields-loop-i-init : goal.write_fields-loop-i-init
 write_fields-loop-i-init g t c = λ plain. ([], record { wrote = writes_in_calls_nil _ _; plain = plain }, refl)
