@@ -11,14 +11,14 @@ use Rattle.vx_value.specs.StructColumns.{struct_rows}
 use Rattle.vx_value.specs.Types.{Name, LogicalType, ty, atomic, number, Datum, null, is_null_datum}
 use Rattle.vx_value.specs.Views.{admits_null, type_of}
 use Rattle.vx_fn.specs.Faults.{differs, is_bad_fill, is_outside, some_differ}
-use Rattle.vx_fn.specs.Functions.{Function, Operation, compares, and_also, or_else, adds, binary, between, fill_null, literal, logical_not, is_atomic, is_null, is_not_null, pack}
+use Rattle.vx_fn.specs.Functions.{Function, Operation, compares, and_also, or_else, adds, binary, between, case_when, fill_null, literal, logical_not, is_atomic, is_null, is_not_null, mask, pack, zip}
 use Rattle.vx_fn.specs.Values.{bound_comparison, compared, kleene_and, kleene_or, kleene_not, sum_of}
 use Rattle.vx_fn.specs.Views.{function_of}
 use Rattle.vx_array_loops.specs.declared.comparison.Comparison.{Comparison as Asked}
 use Rattle.vx_array.specs.declared.lanes.Lanes.{Lanes}
 use Rattle.vx_array.specs.Rows.{lanes_rows, lanes_each}
 use Rattle.vx_array_kernels.specs.Asked.{asked}
-use Rattle.vx_array_kernels.specs.Choices.{filled_rows}
+use Rattle.vx_array_kernels.specs.Choices.{case_rows, chosen_rows, filled_rows, masked_rows}
 use Rattle.vx_array_kernels.specs.Found.{Finds}
 use Rattle.vx_array_kernels.specs.Sums.{FindsSums}
 use Rattle.vx_array_kernels.specs.declared.pair.Pair.{Pair}
@@ -59,6 +59,16 @@ between_given a b lower upper ts n vs ls us above below rows first second left r
   where
     at : (f : Datum → Datum → Datum) (xs ys out : List Datum) → out ≡ both_rows n f xs ys → (k : ℕ) → k < n → get_or out k null ≡ f (get_or xs k null) (get_or ys k null)
     at f xs ys out made k lt = ap (λ l. get_or l k null) made ∙ get_or-map-range_with_len (λ k. f (get_or xs k null) (get_or ys k null)) 0 n k k null lt (omega arith)
+
+-- choices
+pub case_given : (pairs : ℕ) (has_else : Bool) (ts : List LogicalType) (n : ℕ) (cs : List (List Datum)) (rows : List Datum) → rows ≡ case_rows n cs → node_answer (case_when pairs has_else) ts (rows_of n cs) ≡ Ok rows
+case_given pairs has_else ts n cs rows is = given (case_when pairs has_else) ts n cs rows refl is
+
+pub zip_given : (ts : List LogicalType) (n : ℕ) (v w m rows : List Datum) → rows ≡ chosen_rows n m v w → node_answer zip ts (rows_of n (v ∷ w ∷ m ∷ [])) ≡ Ok rows
+zip_given ts n v w m rows is = given zip ts n (v ∷ w ∷ m ∷ []) rows refl is
+
+pub mask_given : (ts : List LogicalType) (n : ℕ) (v m rows : List Datum) → rows ≡ masked_rows n v m → node_answer mask ts (rows_of n (v ∷ m ∷ [])) ≡ Ok rows
+mask_given ts n v m rows is = given mask ts n (v ∷ m ∷ []) rows refl is
 
 -- sums that the type of the first column holds
 pub sum_given : (p : PType) (m : Bool) (ts : List LogicalType) (n : ℕ) (l r rows : List Datum) → rows ≡ both_rows n sum_of l r → ((m : Bool) (k : ℕ) → k < n → is_outside (ty (atomic (number p)) m ∷ []) (sum_of (get_or l k null) (get_or r k null)) ≡ false) →

@@ -9,7 +9,8 @@ ghost use Rattle.vx_fn.specs.Values as values;
 ghost use Rattle.vx_fn.specs.Views.{function_of, is_strict, operation_of};
 ghost use Rattle.vx_array.specs.Rows.{lanes_each, lanes_rows};
 ghost use Rattle.vx_array_kernels.specs.Asked.{asked};
-ghost use Rattle.vx_array_kernels.specs.Found.{IsLong};
+ghost use Rattle.vx_array_kernels.specs.Choices.{chosen_rows};
+ghost use Rattle.vx_array_kernels.specs.Found.{Finds, IsLong};
 ghost use Rattle.vx_array_eval.specs.Nodes.{FindsAnswer, types_of};
 
 use crate::node::Node;
@@ -17,7 +18,7 @@ use std::alloc::{AllocError, Global};
 use vx_array::Lanes;
 use vx_array_kernels::{
     Connective, Pair, add, between, compare, comparison_of, connect, fill_null, is_not_null,
-    is_null, not,
+    is_null, mask, not, zip,
 };
 use vx_array_loops::Comparison;
 use vx_fn::{BetweenOptions, FillNull, Operator, ScalarFnRef, StrictComparison};
@@ -47,6 +48,7 @@ pub fn of_two(alloc: Global, node: Node, pair: Pair) -> Result<Option<Lanes>, Al
     match node.function {
         ScalarFnRef::Binary(operator) => binary(alloc, node, *operator, pair),
         ScalarFnRef::FillNull(_) => filled_of(alloc, node, pair),
+        ScalarFnRef::Mask(_) => mask(alloc, pair),
         _ => Ok(None),
     }
 }
@@ -78,6 +80,14 @@ pub fn of_three(
                 rhs: third,
             };
             between(alloc, comparisons(options), lower, upper)
+        }
+        ScalarFnRef::Zip(_) => {
+            let pair = Pair {
+                count,
+                lhs: first,
+                rhs: second,
+            };
+            zip_of(alloc, node, pair, third)
         }
         _ => Ok(None),
     }
@@ -138,6 +148,24 @@ fn filled_of(alloc: Global, node: Node, pair: Pair) -> Result<Option<Lanes>, All
             }
         }
         _ => Ok(None),
+    }
+}
+
+// The first column's values where the condition is true, and else the other's, where there is a fast way.
+// The first child's type tells of which kind they are.
+fn zip_of(
+    alloc: Global,
+    node: Node,
+    pair: Pair,
+    condition: &Lanes,
+) -> Result<Option<Lanes>, AllocError>
+    requires pair { IsLong pair }
+    requires condition { length (lanes_rows condition.now) ≡ pair.count }
+    ensures { Finds (chosen_rows pair.entry.count (lanes_rows condition.now) (lanes_rows pair.entry.lhs.now) (lanes_rows pair.entry.rhs.now)) result }
+{
+    match first_type(node) {
+        Some(dtype) => zip(alloc, dtype, pair, condition),
+        None => Ok(None),
     }
 }
 

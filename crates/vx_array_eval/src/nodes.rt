@@ -6,6 +6,8 @@ ghost use Rattle.vx_dtype.specs.declared.error.VortexError.TheVariants.{OutOfMem
 ghost use Rattle.vx_fn.specs.Functions as functions;
 ghost use Rattle.vx_fn.specs.Functions.{fn_type};
 ghost use Rattle.vx_array.specs.Rows.{lanes_each, lanes_rows};
+ghost use Rattle.vx_array_kernels.specs.Choices.{case_rows};
+ghost use Rattle.vx_array_kernels.specs.Found.{Finds};
 ghost use Rattle.vx_eval.specs.Columns.{node_answer, rows_of};
 ghost use Rattle.vx_array_eval.specs.Nodes.{FindsAnswer, IsEven, IsTyped, IsWhole, answer_of, types_of};
 
@@ -16,7 +18,7 @@ use crate::structs::{get_item, pack, select};
 use std::alloc::{AllocError, Global};
 use std::sync::Arc;
 use vx_array::Lanes;
-use vx_array_kernels::Pair;
+use vx_array_kernels::{Pair, case_when};
 use vx_fn::{FieldSelection, ScalarFnRef};
 use vx_types::{FieldName, Scalar, VortexResult};
 
@@ -81,6 +83,7 @@ fn apply_untyped(alloc: Global, node: Node) -> Result<Option<Lanes>, AllocError>
     match node.function {
         ScalarFnRef::Literal(scalar) => Ok(Some(literal(alloc, node.count, scalar)?)),
         ScalarFnRef::Pack(_) => Ok(Some(pack(alloc, node.count, node.below)?)),
+        ScalarFnRef::CaseWhen(_) => case_of(alloc, node),
         _ => of_few(alloc, node),
     }
 }
@@ -91,6 +94,18 @@ fn literal(alloc: Global, count: usize, scalar: &Scalar) -> Result<Lanes, AllocE
 {
     let value = scalar.value().clone()?;
     Ok(Lanes::Same(Arc::new(alloc, value)?, count))
+}
+
+// The value beside the first condition that is true, where there is a fast way. The first value's type tells
+// of which kind they are.
+fn case_of(alloc: Global, node: Node) -> Result<Option<Lanes>, AllocError>
+    requires { IsEven node }
+    ensures { Finds (case_rows node.entry.count (lanes_each node.entry.below.now)) result }
+{
+    match node.children.get(1) {
+        Some(value) => case_when(alloc, node.count, value.dtype(), node.below),
+        None => Ok(None),
+    }
 }
 
 // The function over one child, two or three, where there is a fast way.

@@ -1,5 +1,10 @@
-use Rattle.std.proofs.Common.{ap}
+use Rattle.std.proofs.Common.{◌≡◌, ap, Ok, [], ◌∷◌}
 use Rattle.vx_fn.specs.Views.{function_of}
+use Rattle.vx_array.specs.Rows.{lanes_rows}
+use Rattle.vx_array_kernels.specs.Choices.{masked_rows}
+use Rattle.vx_array.proofs.Found.{found_map}
+use Rattle.vx_array_eval.proofs.Given.{at_node, mask_given}
+use Rattle.vx_array_eval.specs.Nodes.{answer_of, types_of}
 use Rattle.vx_array_eval.proofs.few.of_two.Goals as goal
 
 pub binary-requires-clause-operator : goal.binary-requires-clause-operator
@@ -7,3 +12,11 @@ binary-requires-clause-operator c = ap function_of c.in-Binary.is
 
 pub filled_of-requires-clause-fill : goal.filled_of-requires-clause-fill
 filled_of-requires-clause-fill c = ap function_of c.in-FillNull.is
+
+pub returns-in-Mask : goal.returns-in-Mask
+returns-in-Mask c =
+    let x = lanes_rows c.args.pair.lhs.now in
+    let y = lanes_rows c.args.pair.rhs.now in
+    let n = c.args.pair.count in
+    found_map c.mask.result (λ out. lanes_rows out ≡ masked_rows n x y) (λ out. answer_of c.args.node ≡ Ok (lanes_rows out))
+    (λ out is. at_node c.args.node _ (x ∷ y ∷ []) n (lanes_rows out) (ap function_of c.in-Mask.is) c.requires.two c.requires.count (mask_given (types_of c.args.node) n x y (lanes_rows out) is)) c.mask.ensures
