@@ -8,7 +8,7 @@ use crate::parts::{Part, parts_of};
 use crate::walk::spells;
 use std::alloc::Global;
 use std::marker::Model;
-use vx_types::VortexResult;
+use vx_dtype::VortexResult;
 
 /// A pattern of LIKE: `%` stands for any text, `_` for one character, and a backslash makes the
 /// next character stand for itself.

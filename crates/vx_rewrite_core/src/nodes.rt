@@ -8,9 +8,10 @@ ghost use Rattle.vx_rewrite_core.specs.Nodes.{as_type, first_two, literal_node, 
 ghost use Rattle.vx_tree.specs.Views.{bound_of, bounds_of};
 
 use std::alloc::{AllocError, Global};
+use vx_dtype::DType;
 use vx_fn::ScalarFnRef;
 use vx_tree::{BoundExpression, VortexResult};
-use vx_types::{DType, Scalar};
+use vx_value::Scalar;
 
 /// The value of a literal, with its type; None for any other tree.
 pub fn literal_value(node: &BoundExpression) -> Option<&Scalar>
