@@ -11,8 +11,8 @@ use Rattle.vx_value.specs.StructColumns.{struct_rows}
 use Rattle.vx_value.specs.Types.{Name, LogicalType, ty, atomic, number, Datum, null, is_null_datum}
 use Rattle.vx_value.specs.Views.{admits_null, type_of}
 use Rattle.vx_fn.specs.Faults.{differs, is_bad_fill, is_outside, some_differ}
-use Rattle.vx_fn.specs.Functions.{Function, Operation, compares, and_also, or_else, adds, binary, between, case_when, fill_null, literal, logical_not, is_atomic, is_null, is_not_null, mask, pack, zip}
-use Rattle.vx_fn.specs.Values.{bound_comparison, compared, kleene_and, kleene_or, kleene_not, sum_of}
+use Rattle.vx_fn.specs.Functions.{Function, Operation, compares, and_also, or_else, adds, binary, between, case_when, fill_null, like, literal, logical_not, is_atomic, is_null, is_not_null, mask, pack, zip}
+use Rattle.vx_fn.specs.Values.{bound_comparison, compared, kleene_and, kleene_or, kleene_not, liked, sum_of}
 use Rattle.vx_fn.specs.Views.{function_of}
 use Rattle.vx_array_loops.specs.declared.comparison.Comparison.{Comparison as Asked}
 use Rattle.vx_array.specs.declared.lanes.Lanes.{Lanes}
@@ -59,6 +59,10 @@ between_given a b lower upper ts n vs ls us above below rows first second left r
   where
     at : (f : Datum → Datum → Datum) (xs ys out : List Datum) → out ≡ both_rows n f xs ys → (k : ℕ) → k < n → get_or out k null ≡ f (get_or xs k null) (get_or ys k null)
     at f xs ys out made k lt = ap (λ l. get_or l k null) made ∙ get_or-map-range_with_len (λ k. f (get_or xs k null) (get_or ys k null)) 0 n k k null lt (omega arith)
+
+-- whether texts are like patterns
+pub like_given : (negated ci : Bool) (ts : List LogicalType) (n : ℕ) (l r rows : List Datum) → rows ≡ both_rows n (liked negated ci) l r → node_answer (like negated ci) ts (rows_of n (l ∷ r ∷ [])) ≡ Ok rows
+like_given negated ci ts n l r rows is = given (like negated ci) ts n (l ∷ r ∷ []) rows refl is
 
 -- choices
 pub case_given : (pairs : ℕ) (has_else : Bool) (ts : List LogicalType) (n : ℕ) (cs : List (List Datum)) (rows : List Datum) → rows ≡ case_rows n cs → node_answer (case_when pairs has_else) ts (rows_of n cs) ≡ Ok rows

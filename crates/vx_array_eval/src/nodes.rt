@@ -18,8 +18,8 @@ use crate::structs::{get_item, pack, select};
 use std::alloc::{AllocError, Global};
 use std::sync::Arc;
 use vx_array::Lanes;
-use vx_array_kernels::{Pair, case_when};
-use vx_fn::{FieldSelection, ScalarFnRef};
+use vx_array_kernels::{Pair, case_when, like};
+use vx_fn::{FieldSelection, LikeOptions, ScalarFnRef};
 use vx_types::{FieldName, Scalar, VortexResult};
 
 /// The function over its children's lanes, or its fault over their rows.
@@ -46,6 +46,7 @@ fn apply_fast(alloc: Global, node: Node) -> VortexResult<Option<Lanes>>
     match node.function {
         ScalarFnRef::GetItem(name) => Ok(item_of(alloc, name, node)?),
         ScalarFnRef::Select(selection) => select_of(alloc, selection, node),
+        ScalarFnRef::Like(options) => like_of(alloc, options, node),
         _ => Ok(apply_untyped(alloc, node)?),
     }
 }
@@ -71,6 +72,21 @@ fn select_of(alloc: Global, selection: &FieldSelection, node: Node) -> VortexRes
 {
     match (node.children, node.below) {
         ([child], [input]) => select(alloc, node.count, selection, child.dtype(), input),
+        _ => Ok(None),
+    }
+}
+
+// Whether each text is like the pattern beside it, where there is a fast way.
+fn like_of(alloc: Global, options: &LikeOptions, node: Node) -> VortexResult<Option<Lanes>>
+    requires { IsEven node }
+    ensures answer { IfOk result (λ found. IfSome found (λ out. node_answer (functions.like options.now.negated options.now.case_insensitive) (types_of node.entry) (rows_of node.entry.count (lanes_each node.entry.below.now)) ≡ Ok (lanes_rows out))) }
+    ensures memory { IfErr result (λ e. e ≡ OutOfMemory) }
+{
+    match node.below {
+        [lhs, rhs] => {
+            let count = node.count;
+            like(alloc, options, Pair { count, lhs, rhs })
+        }
         _ => Ok(None),
     }
 }

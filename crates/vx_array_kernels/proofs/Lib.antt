@@ -6,3 +6,4 @@ mod Chosen
 mod Added
 mod Where
 mod Cases
+mod Liked

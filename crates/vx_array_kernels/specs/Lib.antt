@@ -2,5 +2,6 @@ pub mod Asked
 pub mod Choices
 pub mod Connected
 pub mod Found
+pub mod Likeness
 pub mod Sums
 pub mod Truths

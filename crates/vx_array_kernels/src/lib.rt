@@ -5,6 +5,7 @@ mod blend;
 mod choices;
 mod columns;
 mod comparison;
+mod likeness;
 mod logic;
 mod masks;
 mod nulls;
@@ -17,6 +18,7 @@ mod widths;
 
 pub use choices::{case_when, fill_null, zip};
 pub use comparison::{between, compare, comparison_of};
+pub use likeness::like;
 pub use logic::{Connective, connect, not};
 pub use masks::mask;
 pub use nulls::{is_not_null, is_null};

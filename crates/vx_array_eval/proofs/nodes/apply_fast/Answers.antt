@@ -30,3 +30,11 @@ returns-in-Select-clause-answer c =
     let f = functions.select c.in-Select.selection in
     found_map c.select_of.result (λ out. node_answer f (types_of node) (rows_of node.count cs) ≡ Ok (lanes_rows out)) (λ out. answer_of node ≡ Ok (lanes_rows out))
     (λ out is. at_node node f cs node.count (lanes_rows out) (ap function_of c.in-Select.is) refl refl is) c.select_of.ensures.answer
+
+pub returns-in-Like-clause-answer : goal.returns-in-Like-clause-answer
+returns-in-Like-clause-answer c =
+    let node = c.args.node in
+    let cs = lanes_each node.below.now in
+    let f = functions.like c.in-Like.options.negated c.in-Like.options.case_insensitive in
+    found_map c.like_of.result (λ out. node_answer f (types_of node) (rows_of node.count cs) ≡ Ok (lanes_rows out)) (λ out. answer_of node ≡ Ok (lanes_rows out))
+    (λ out is. at_node node f cs node.count (lanes_rows out) (ap function_of c.in-Like.is) refl refl is) c.like_of.ensures.answer

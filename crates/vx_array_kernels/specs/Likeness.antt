@@ -1,0 +1,27 @@
+-- Texts in a buffer, and what a pattern that was read tells of them.
+use Rattle.std.specs.Prelude.{ℕ, List, map, Option, Some, None, Bool}
+use Rattle.vx_value.specs.Types.{Datum, null, bool, utf8}
+use Rattle.vx_fn.specs.Values.{flipped}
+use Rattle.vx_eval_like.specs.Patterns.{Compiled, accepts}
+use Rattle.vx_array.specs.Kinds.{spans_in, text_row}
+use Rattle.vx_array.specs.Shown.{shown}
+use Rattle.vx_array_kernels.specs.declared.likeness.Texts.{Texts}
+
+-- the texts, row by row
+abbrev pub text_rows : Texts → List Datum
+text_rows t = shown t.validity.now (map text_row (spans_in t.spans.now))
+
+-- the text, or null where there is none
+abbrev pub text_datum : Option (List ℕ) → Datum
+text_datum (Some t) = utf8 t
+text_datum None = null
+
+-- the truth value, or null where there is none
+abbrev pub truth_datum : Option Bool → Datum
+truth_datum (Some b) = bool b
+truth_datum None = null
+
+-- whether the pattern accepts the text, or not where it is negated; null of what is no text
+abbrev pub accepted : Bool → Compiled → Datum → Datum
+accepted negated p (utf8 t) = bool (flipped negated (accepts p t))
+accepted negated p _ = null
