@@ -1,7 +1,6 @@
 -- Rows that are chosen by masks.
 use Rattle.std.proofs.Common.{◌≡◌, ℕ, ◌<◌, ◌≤◌, ℤ, pos, List, [], ◌∷◌, map, length, get_or, take, refl, sym, ap, ◌∙◌, arith, Bool, true, false, Result, Ok, Err, Option, Some, None}
 use Rattle.std.specs.Prelude.{if◌then◌else◌, ◌&&◌, ◌||◌, not, IfOk, IfSome}
-use Rattle.std.specs.Simd.Lanes.{zip2}
 use Rattle.std.proofs.Math.ListN.{replicate}
 use Rattle.std.proofs.lemmas.List.{ext_get_or, length-map, length-take, get_or-map, get_or-take, get_or_default, get_or-replicate, length-replicate, take-map}
 use Rattle.std.proofs.lemmas.List.FromFn.{length-map-range_with_len, get_or-map-range_with_len}

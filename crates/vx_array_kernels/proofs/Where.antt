@@ -1,7 +1,6 @@
 -- The rows at which a condition is true.
 use Rattle.std.proofs.Common.{◌≡◌, ℕ, ◌<◌, ◌≤◌, List, map, length, get_or, take, refl, sym, ap, ◌∙◌, arith, Bool, true, false, ◌&&◌}
 use Rattle.std.specs.Prelude.{if◌then◌else◌}
-use Rattle.std.specs.Simd.Lanes.{zip2}
 use Rattle.std.proofs.Math.ListN.{replicate}
 use Rattle.std.proofs.lemmas.List.{get_or-map, get_or-take, get_or-replicate, length-replicate, length-take}
 use Rattle.std.proofs.lemmas.Simd.{length-zip2, get_or-zip2}

@@ -1,6 +1,5 @@
-use Rattle.std.proofs.Common.{◌≡◌, ◌∙◌, ◌-◌, ◌*◌, ◌/◌, ◌<◌, ap, arith, length, drop, true, rules}
-use Rattle.vx_array.specs.Rows.{lanes_each, lanes_rows}
-use Rattle.vx_array_kernels.specs.Choices.{case_rows, chosen_rows}
+use Rattle.std.proofs.Common.{◌≡◌, ◌∙◌, ◌-◌, ◌*◌, ◌/◌, ap, arith, length, drop, true, rules}
+use Rattle.vx_array.specs.Rows.{lanes_each}
 use Rattle.vx_array_kernels.proofs.Cases.{branch_put, lanes_long, length-case_rows, long_left, none_put}
 use Rattle.vx_array_kernels.proofs.choices.case_in.Goals as goal
 
