@@ -7,8 +7,8 @@ usage: tools/map.py            prints the table
        tools/map.py CRATE ..   prints the lines of those crates, each with its files in src/ and specs/ and the
                                first sentence of their opening comments
        tools/map.py --write    writes the table into docs/develop/MAP.md, between its two comments
-       tools/map.py --check    prints what is wrong: a crate without a purpose, a library that no file of its crate
-                               names, or another table in docs/develop/MAP.md; then the status is 1
+       tools/map.py --check    prints what is wrong: a crate without a purpose, or another table in docs/develop/MAP.md;
+                               then the status is 1
 """
 import functools
 import glob
@@ -84,14 +84,6 @@ def files(name):
                 yield f"{path}: {opening(path)}"
 
 
-def unnamed(name, libraries):
-    """The libraries of the crate's line that no file of it names. The toolchain reads a crate once for each way
-    down to it, so each that isn't needed costs time in all crates above."""
-    paths = [it for part in ("src", "specs", "proofs") for it in glob.glob(f"crates/{name}/{part}/**/*.*", recursive=True)]
-    words = {word for path in paths for word in re.findall(r"\w+", open(path, encoding="utf-8").read())}
-    return [it for it in libraries if it not in words]
-
-
 def main():
     os.chdir(os.path.join(os.path.dirname(os.path.abspath(__file__)), ".."))
     found, words = crates(), sys.argv[1:]
@@ -104,7 +96,6 @@ def main():
                 file.write(wanted)
             return 0
         wrong = [f"crates.txt: no purpose above {name}" for name in found if not found[name][1]]
-        wrong += [f"crates.txt: no file of {name} names {it}" for name in found for it in unnamed(name, found[name][2])]
         if wanted != text or not TABLE.search(text):
             wrong.append(f"{DOCUMENT}: another table than crates.txt gives: run tools/map.py --write")
         print(*wrong, f"map: {len(found)} crates, {len(wrong)} wrong", sep="\n")
