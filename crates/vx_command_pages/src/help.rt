@@ -19,3 +19,27 @@ pub(crate) fn help_for(refusal: &VortexError) -> Option<&'static str> {
         _ => None,
     }
 }
+
+/// What would do in place of what stands at that byte of an expression, where other languages have it and this one
+/// hasn't.
+pub(crate) fn help_for_unread(text: &str, at: usize) -> Option<&'static str> {
+    let bytes = text.as_bytes();
+    match bytes.get(at)? {
+        b'-' | b'*' | b'/' | b'%' => Some("the only arithmetic is `+`, as in x + 1"),
+        b'&' => Some("write `and`, as in x > 1 and y > 2"),
+        b'|' => Some("write `or`, as in x > 1 or y > 2"),
+        b'!' => Some("write `not`, as in not (x > 1)"),
+        b'~' => Some("match a text by `like`, as in s like \"a%\""),
+        b';' => Some("leave the `;` out: a text is one expression"),
+        b'[' => Some("there are no subscripts: a field is named, as in x.y"),
+        b'0'..=b'9' if is_behind_point(bytes, at) => Some(
+            "there are whole numbers alone, as in x > 5",
+        ),
+        _ => None,
+    }
+}
+
+fn is_behind_point(bytes: &[u8], at: usize) -> bool {
+    let before = at.checked_sub(1).and_then(|place| bytes.get(place));
+    matches!(before, Some(b'.'))
+}

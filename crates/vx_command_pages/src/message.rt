@@ -1,6 +1,6 @@
 // Errors as messages.
 use crate::error::CommandError;
-use crate::help::help_for;
+use crate::help::{help_for, help_for_unread};
 use crate::remedy::{Help, Remedy};
 use crate::report::{Report, Span};
 use crate::unfit::{UnfitText, help_for_unfit};
@@ -72,7 +72,8 @@ impl Display for Message<'_> {
         match self.error {
             CommandError::OutOfMemory => f.write_str("error: out of memory"),
             CommandError::UnreadExpression { at, expected } => {
-                let report = self.expression.report(expected, place(*at), None);
+                let help = help_for_unread(self.expression.text, *at).map(Help::Said);
+                let report = self.expression.report(expected, place(*at), help);
                 report.fmt(f)
             }
             CommandError::UnreadSchema { at, expected } => {
