@@ -1,8 +1,7 @@
 // The calls on a plan.
-ghost use Rattle.std.specs.Prelude.{◌≡◌};
+ghost use Rattle.std.specs.Prelude.{◌≡◌, IfErr, IfOk};
 ghost use Rattle.vx_data_buffers.specs.Bytes.{bytes_in};
 ghost use Rattle.vx_ffi_calls.specs.Stops.{IsExhausted};
-ghost use Rattle.vx_ffi_calls.specs.Endings.{EndsCall};
 ghost use Rattle.vx_ffi_plan.specs.Kept.{IsPathsPage};
 ghost use Rattle.vx_ffi_plan.specs.Held.{HeldEnds};
 ghost use Rattle.vx_ffi_plan.specs.Batches.{BatchStops, IsBatchPage};
@@ -11,12 +10,12 @@ use crate::batch::{Asked, GivenBatch};
 use crate::handle::PlanHandle;
 use crate::kept::KeptPlan;
 use crate::paths::answer_paths;
-use crate::scan::answer_scan;
-use crate::select::answer_select;
+use crate::scan::scanned;
+use crate::select::selected;
 use crate::stop::planless;
 use crate::taken::taken;
 use std::alloc::Global;
-use vx_ffi_calls::{Answer, Status, ended};
+use vx_ffi_calls::{Answer, CallError, Status, ended};
 
 /// Answers the paths that the handle's plan reads: [`answer_paths`]. Stops where it has none.
 pub fn answer_held_paths(
@@ -38,8 +37,9 @@ pub fn answer_held_paths(
     }
 }
 
-/// Answers what the call asks of the handle's plan over the batch in the buffers: [`answer_scan`] or
-/// [`answer_select`]. Stops where the handle has no plan, and as those do.
+/// Answers what the call asks of the handle's plan over the batch in the buffers: a line of JSON for each
+/// value, or a byte for each row, which is 1 where the expression is true. Stops where the handle has no
+/// plan, and as reading the buffers, the plan's expression or writing its values does.
 pub fn answer_held_batch(
     alloc: Global,
     plan: &mut PlanHandle,
@@ -52,7 +52,7 @@ pub fn answer_held_batch(
 {
     match taken(alloc, plan) {
         Some(kept) => {
-            let status = answer_batch(alloc, &kept, batch, buffer, answer);
+            let status = ended(&page_of(alloc, &kept, batch), buffer, answer);
             *plan = PlanHandle::of(kept);
             status
         }
@@ -60,17 +60,13 @@ pub fn answer_held_batch(
     }
 }
 
-fn answer_batch(
-    alloc: Global,
-    plan: &KeptPlan,
-    batch: &GivenBatch<'_>,
-    buffer: &mut [u8],
-    answer: &mut Answer,
-) -> Status
-    ensures { EndsCall (IsBatchPage batch.now.asked plan.now batch.now.rows (bytes_in batch.now.buffers.now)) (BatchStops batch.now.asked plan.now batch.now.rows (bytes_in batch.now.buffers.now)) buffer.old result buffer.new answer.new }
+// The page of what the call asks of the batch.
+fn page_of(alloc: Global, plan: &KeptPlan, batch: &GivenBatch<'_>) -> Result<Vec<u8>, CallError>
+    ensures page { IfOk result (λ page. IsBatchPage batch.now.asked plan.now batch.now.rows (bytes_in batch.now.buffers.now) page.items) }
+    ensures stop { IfErr result (BatchStops batch.now.asked plan.now batch.now.rows (bytes_in batch.now.buffers.now)) }
 {
     match batch.asked {
-        Asked::Values => answer_scan(alloc, plan, batch, buffer, answer),
-        Asked::Rows => answer_select(alloc, plan, batch, buffer, answer),
+        Asked::Values => scanned(alloc, plan, batch),
+        Asked::Rows => selected(alloc, plan, batch),
     }
 }

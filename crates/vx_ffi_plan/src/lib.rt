@@ -20,5 +20,3 @@ pub use held::{answer_held_batch, answer_held_paths};
 pub use kept::{KeptPlan, kept_plan};
 pub use made::{answer_new, free_plan};
 pub use paths::answer_paths;
-pub use scan::answer_scan;
-pub use select::answer_select;

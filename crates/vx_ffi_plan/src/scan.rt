@@ -1,10 +1,9 @@
-// The call that scans a batch by a plan.
+// What a plan means at each row of a batch, as lines of JSON.
 ghost use Rattle.std.specs.Prelude.{◌≡◌, ◌⊎◌, IfErr, IfOk};
 ghost use Rattle.vx_value.specs.Columns.{Batch};
 ghost use Rattle.vx_data_buffers.specs.Bytes.{bytes_in};
 ghost use Rattle.vx_data_buffers.specs.Rows.{column_said};
 ghost use Rattle.vx_data.specs.Lines.{json_lines};
-ghost use Rattle.vx_ffi_calls.specs.Endings.{EndsCall};
 ghost use Rattle.vx_ffi_calls.specs.Stops.{IsExhausted};
 ghost use Rattle.vx_ffi_plan.specs.Kept.{IsScanPage, scope_of};
 ghost use Rattle.vx_ffi_plan.specs.ScanStops.{IsBadData, IsNoBatch, ScanStops};
@@ -16,26 +15,18 @@ use crate::values::values_of;
 use std::alloc::Global;
 use vx_data::write_json_lines;
 use vx_data_buffers::column_of;
-use vx_ffi_calls::{Answer, CallError, Status, ended};
+use vx_ffi_calls::CallError;
 use vx_types::Column;
 
-/// Answers what the plan's expression means at each row of the batch in the buffers, as a line of JSON
-/// each. Stops where the buffers have no batch of so many rows of the plan's type, as [`column_of`]
-/// refuses them; at the first fault of the expression on the batch; and where a value can't be
-/// written, as [`write_json_lines`] refuses it. Then no line is answered.
-pub fn answer_scan(
+/// What the plan's expression means at each row of the batch in the buffers, as a line of JSON each. Stops
+/// where the buffers have no batch of so many rows of the plan's type, as [`column_of`] refuses them; at the
+/// first fault of the expression on the batch; and where a value can't be written, as [`write_json_lines`]
+/// refuses it.
+pub(crate) fn scanned(
     alloc: Global,
     plan: &KeptPlan,
     batch: &GivenBatch<'_>,
-    buffer: &mut [u8],
-    answer: &mut Answer,
-) -> Status
-    ensures { EndsCall (IsScanPage plan.now batch.now.rows (bytes_in batch.now.buffers.now)) (ScanStops plan.now batch.now.rows (bytes_in batch.now.buffers.now)) buffer.old result buffer.new answer.new }
-{
-    ended(&scanned(alloc, plan, batch), buffer, answer)
-}
-
-fn scanned(alloc: Global, plan: &KeptPlan, batch: &GivenBatch<'_>) -> Result<Vec<u8>, CallError>
+) -> Result<Vec<u8>, CallError>
     ensures prints { IfOk result (λ page. IsScanPage plan.now batch.now.rows (bytes_in batch.now.buffers.now) page.items) }
     ensures stop { IfErr result (ScanStops plan.now batch.now.rows (bytes_in batch.now.buffers.now)) }
 {

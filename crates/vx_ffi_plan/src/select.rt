@@ -1,11 +1,10 @@
-// The call that selects rows of a batch by a plan.
+// The rows of a batch at which a plan is true, as bytes.
 ghost use Rattle.std.specs.Prelude.{◌≡◌, ◌<◌, ◌⊎◌, IfErr, IfOk, Ok, false, get_or, if◌then◌else◌, length, true};
 ghost use Rattle.vx_fn.specs.Functions.{is_truth};
 ghost use Rattle.vx_tree.specs.Trees.{node_type};
 ghost use Rattle.vx_array_scan.specs.Selected.{IsSelection};
 ghost use Rattle.vx_data_buffers.specs.Bytes.{bytes_in};
 ghost use Rattle.vx_data_buffers.specs.Rows.{column_said};
-ghost use Rattle.vx_ffi_calls.specs.Endings.{EndsCall};
 ghost use Rattle.vx_ffi_calls.specs.Stops.{IsExhausted};
 ghost use Rattle.vx_ffi_plan.specs.Kept.{planned_tree, scope_of};
 ghost use Rattle.vx_ffi_plan.specs.ScanStops.{IsFaultStop, IsNoBatch};
@@ -19,26 +18,18 @@ use vx_array::Array;
 use vx_array_loops::{Bits, tabulated};
 use vx_array_scan::select_array;
 use vx_data_buffers::array_of;
-use vx_ffi_calls::{Answer, CallError, Status, ended};
+use vx_ffi_calls::CallError;
 use vx_types::DType;
 
-/// Answers at which rows of the batch in the buffers the plan's expression is true, as a byte for each: 1
-/// where it is, and 0 where it is false or null. Stops at an expression of another type than truth values;
-/// where the buffers have no batch of so many rows of the plan's type, as [`array_of`] refuses them; and at
-/// the first fault of the expression on the batch.
-pub fn answer_select(
+/// At which rows of the batch in the buffers the plan's expression is true, as a byte for each: 1 where it
+/// is, and 0 where it is false or null. Stops at an expression of another type than truth values; where the
+/// buffers have no batch of so many rows of the plan's type, as [`array_of`] refuses them; and at the first
+/// fault of the expression on the batch.
+pub(crate) fn selected(
     alloc: Global,
     plan: &KeptPlan,
     batch: &GivenBatch<'_>,
-    buffer: &mut [u8],
-    answer: &mut Answer,
-) -> Status
-    ensures { EndsCall (IsSelectPage plan.now batch.now.rows (bytes_in batch.now.buffers.now)) (SelectStops plan.now batch.now.rows (bytes_in batch.now.buffers.now)) buffer.old result buffer.new answer.new }
-{
-    ended(&selected(alloc, plan, batch), buffer, answer)
-}
-
-fn selected(alloc: Global, plan: &KeptPlan, batch: &GivenBatch<'_>) -> Result<Vec<u8>, CallError>
+) -> Result<Vec<u8>, CallError>
     ensures page { IfOk result (λ page. IsSelectPage plan.now batch.now.rows (bytes_in batch.now.buffers.now) page.items) }
     ensures stop { IfErr result (SelectStops plan.now batch.now.rows (bytes_in batch.now.buffers.now)) }
 {

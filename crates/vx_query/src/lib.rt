@@ -5,3 +5,4 @@ mod query;
 mod split;
 
 pub use query::run_query;
+pub use split::optimize_partitions;

@@ -29,7 +29,7 @@ pub(crate) fn run_split(
 {
     match split_by_fields(alloc, tree, batch.dtype())? {
         Some(split) => {
-            let split = optimized(alloc, split)?;
+            let split = optimize_partitions(alloc, split)?;
             let answer = evaluate_split(alloc, batch, &split);
             drop(split);
             answer
@@ -38,8 +38,12 @@ pub(crate) fn run_split(
     }
 }
 
-// The split with its partitions optimized.
-fn optimized(
+/// The split with its partitions optimized at every node by the standard rules, and its root bound again
+/// to what these give. Names and annotations stay.
+///
+/// Asks a name for each partition, well-typed partitions, and a well-typed root over the struct of their
+/// types. Refuses with `OutOfMemory` (1) alone.
+pub fn optimize_partitions(
     alloc: Global,
     split: BoundPartitionedExpr<FieldName>,
 ) -> VortexResult<BoundPartitionedExpr<FieldName>>

@@ -7,8 +7,8 @@ use Rattle.vx_query_split.proofs.Divided.{sound}
 use Rattle.vx_query.proofs.Optimized.{unsplit, split_runs, forms_typed, forms_over}
 use Rattle.vx_query.proofs.split.run_split.Goals as goal
 
-pub optimized-requires-clause-count : goal.optimized-requires-clause-count
-optimized-requires-clause-count c =
+pub optimize_partitions-requires-clause-count : goal.optimize_partitions-requires-clause-count
+optimize_partitions-requires-clause-count c =
     let is : c.in_ok-split.field-0 ≡ Some c.in-Some.split = search rules in
     let split = subst (λ o. IsSplitOf (type_of c.dtype.result.now) (bound_of c.args.tree.now) (parts_of o)) is c.in_ok-split.ensures.split in
     (sound split).counted ∙ length-node_types c.in-Some.split.partitions.items

@@ -7,7 +7,7 @@ use Rattle.vx_rewrite_rule_laws.specs.Rules.{RuleAt}
 use Rattle.vx_tree.specs.declared.bound.BoundExpression.{BoundExpression}
 use Rattle.vx_tree.specs.Views.{bounds_of}
 use Rattle.vx_query.proofs.Lists.{forms_keep}
-use Rattle.vx_query.proofs.split.optimized.Goals as goal
+use Rattle.vx_query.proofs.split.optimize_partitions.Goals as goal
 
 pub returns-in_err-replace_partitions-clause-memory : goal.returns-in_err-replace_partitions-clause-memory
 returns-in_err-replace_partitions-clause-memory c =

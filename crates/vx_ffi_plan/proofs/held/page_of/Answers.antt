@@ -1,0 +1,13 @@
+use Rattle.vx_ffi_plan.proofs.held.page_of.Goals as goal
+
+pub returns-in-Values-clause-page : goal.returns-in-Values-clause-page
+returns-in-Values-clause-page c = rw c.in-Values.is c.scanned.ensures.prints
+
+pub returns-in-Values-clause-stop : goal.returns-in-Values-clause-stop
+returns-in-Values-clause-stop c = rw c.in-Values.is c.scanned.ensures.stop
+
+pub returns-in-Rows-clause-page : goal.returns-in-Rows-clause-page
+returns-in-Rows-clause-page c = rw c.in-Rows.is c.selected.ensures.page
+
+pub returns-in-Rows-clause-stop : goal.returns-in-Rows-clause-stop
+returns-in-Rows-clause-stop c = rw c.in-Rows.is c.selected.ensures.stop
