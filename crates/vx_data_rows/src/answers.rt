@@ -3,7 +3,7 @@ use crate::chance::written_by_chance;
 use crate::cut::Cut;
 use crate::format::{Again, Format, JSON_LINES};
 use crate::line::unescaped;
-use crate::records::records_text;
+use crate::records::Records;
 use crate::unread::Unread;
 use std::alloc::{AllocError, Global};
 use std::fmt::Display;
@@ -105,11 +105,11 @@ fn untyped_answer(
         (UntypedCall::CutType, _) => shown(alloc, format.guess(alloc, file.chain(Cut))),
         (UntypedCall::Records, Format::Json(format)) => shown(
             alloc,
-            records_text(alloc, JsonFile::new(alloc, file, format)),
+            Records::Json(JsonFile::new(alloc, file, format)).text(alloc),
         ),
         (UntypedCall::Records, Format::Csv(format)) => shown(
             alloc,
-            records_text(alloc, CsvRecords::with_format(alloc, file, format)),
+            Records::Csv(CsvRecords::with_format(alloc, file, format)).text(alloc),
         ),
     }
 }

@@ -3,56 +3,45 @@ use std::alloc::{AllocError, Global};
 use std::str;
 use vx_data::{CsvRecords, DataError, JsonFile};
 
-/// Records of a file, read one after another.
-pub trait Records {
-    /// Reads the next record, and tells whether there is one.
-    fn read_record(&mut self) -> Result<bool, DataError>;
-
-    /// The line at which the last record begins.
-    fn line(&self) -> u64;
-
-    /// The last record as it stood.
-    fn record(&self) -> &[u8];
+/// A file whose records are read one after another, as they stood.
+#[derive(Drop)]
+pub enum Records<'a> {
+    Json(JsonFile<&'a [u8]>),
+    Csv(CsvRecords<&'a [u8]>),
 }
 
-impl Records for JsonFile<&[u8]> {
-    fn read_record(&mut self) -> Result<bool, DataError> {
-        self.read_record()
+impl Records<'_> {
+    // Reads the next record: the line at which it begins, and what it is, None behind the last.
+    fn next(&mut self) -> Result<Option<(u64, &[u8])>, DataError> {
+        Ok(match self {
+            Records::Json(file) => {
+                if file.read_record()? {
+                    Some((file.line(), file.record()))
+                } else {
+                    None
+                }
+            }
+            Records::Csv(file) => {
+                if file.read_record()? {
+                    Some((file.line(), file.record()))
+                } else {
+                    None
+                }
+            }
+        })
     }
 
-    fn line(&self) -> u64 {
-        self.line()
-    }
-
-    fn record(&self) -> &[u8] {
-        self.record()
-    }
-}
-
-impl Records for CsvRecords<&[u8]> {
-    fn read_record(&mut self) -> Result<bool, DataError> {
-        self.read_record()
-    }
-
-    fn line(&self) -> u64 {
-        self.line()
-    }
-
-    fn record(&self) -> &[u8] {
-        self.record()
-    }
-}
-
-/// Each record behind its line, as `1: 7 / 3: 8`; of a CSV file the header first.
-pub fn records_text<R: Records + Drop>(alloc: Global, mut records: R) -> Result<String, DataError> {
-    let mut text = String::new(alloc);
-    for _ in 0..u64::MAX {
-        if !records.read_record()? {
-            break;
+    /// Each record behind its line, as `1: 7 / 3: 8`; of a CSV file the header first.
+    pub fn text(mut self, alloc: Global) -> Result<String, DataError> {
+        let mut text = String::new(alloc);
+        for _ in 0..u64::MAX {
+            match self.next()? {
+                Some((line, record)) => push_record(alloc, line, record, &mut text)?,
+                None => break,
+            }
         }
-        push_record(alloc, records.line(), records.record(), &mut text)?;
+        Ok(text)
     }
-    Ok(text)
 }
 
 fn push_record(
