@@ -6,10 +6,10 @@ ghost use Rattle.vx_projection.specs.Defaults.{default_of, field_defaults};
 use std::alloc::{AllocError, Global};
 use vx_types::{DType, StructFields, Value};
 
-// The default of the type: null where it is nullable, else false, 0, an empty text, no byte, no item,
-// so many defaults, or the default of each field.
+/// The default of the type: null where it is nullable, else false, 0, an empty text, no byte, no item,
+/// so many defaults, or the default of each field.
 #[cycle(default)]
-pub(crate) fn default_value(alloc: Global, dtype: &DType) -> Result<Value, AllocError>
+pub fn default_value(alloc: Global, dtype: &DType) -> Result<Value, AllocError>
     ensures { IfOk result (λ v. value_of v ≡ default_of (type_of dtype.now)) }
 {
     if dtype.is_nullable() {

@@ -5,12 +5,13 @@ ghost use Rattle.vx_value.specs.Columns.{first_misfit};
 ghost use Rattle.vx_value.specs.Paths.{minimal_paths};
 ghost use Rattle.vx_value.specs.Views.{type_of, value_of};
 ghost use Rattle.vx_projection.specs.Kept.{kept, kept_batch};
-ghost use Rattle.vx_projection.specs.Wanted.{lent_paths, taken, wanted, wanted_of};
+ghost use Rattle.vx_projection.specs.Wanted.{taken, wanted, wanted_of};
 
+use crate::along::lent;
 use crate::wanted::{Wanted, wanted_along};
 use std::alloc::{AllocError, Global};
 use std::sync::Arc;
-use vx_types::{Column, Field, FieldPathSet, Value, VortexResult};
+use vx_types::{Column, FieldPathSet, Value, VortexResult};
 
 /// The batch with the values along the paths of [`FieldPathSet::iter`] alone, null structs on the way
 /// among them, and a default in place of all others: null where the type is nullable, else false, 0,
@@ -27,17 +28,6 @@ pub fn read_referenced(alloc: Global, batch: &Column, paths: &FieldPathSet) -> V
     let rows = taken_rows(alloc, &wanted, batch)?;
     let dtype = dtype.clone()?;
     Ok(Column::from_shared(dtype, Arc::new(alloc, rows)?))
-}
-
-// The paths of the set of which no other is a beginning, lent.
-fn lent<'a>(alloc: Global, paths: &'a FieldPathSet) -> Result<Vec<&'a [Field]>, AllocError>
-    ensures { IfOk result (λ lent. lent_paths lent.items ≡ minimal_paths paths.now) }
-{
-    let mut lent = Vec::new(alloc);
-    for path in paths.iter() {
-        lent.push(path.parts())?;
-    }
-    Ok(lent)
 }
 
 // What is wanted of each row.

@@ -1,13 +1,12 @@
 // What is wanted of the values of a type.
-ghost use Rattle.std.specs.Prelude.{◌≡◌, [], IfOk, option_map};
-ghost use Rattle.vx_value.specs.Paths.{is_member, path_of};
+ghost use Rattle.std.specs.Prelude.{◌≡◌, IfOk};
 ghost use Rattle.vx_value.specs.Views.{data_view, fields_of, type_of, value_of};
-ghost use Rattle.vx_projection.specs.Kept.{others, rest_behind, rests};
 ghost use Rattle.vx_projection.specs.Wanted.{each_taken, fields_wanted, lent_paths, taken, wanted, wanted_of, wanted_view};
 
+use crate::along::{has_root, parted};
 use crate::defaults::default_value;
 use std::alloc::{AllocError, Global};
-use vx_types::{DType, Field, FieldName, StructFields, Value};
+use vx_types::{DType, Field, StructFields, Value};
 
 // How much is wanted of a value.
 #[derive(Drop)]
@@ -55,70 +54,11 @@ fn wanted_of_each(
     let mut left = paths;
     let mut each = Vec::with_capacity(alloc, fields.nfields())?;
     for i in 0..fields.nfields() {
-        let name = &names[i];
-        let inside = rests_behind(alloc, name, left.as_slice())?;
+        let (inside, others) = parted(alloc, &names[i], left.as_slice())?;
+        left = others;
         each.push(wanted_along(alloc, &types[i], inside)?)?;
-        left = others_than(alloc, name, left.as_slice())?;
     }
     Ok(each)
-}
-
-// Whether the root path is one of these.
-fn has_root(paths: &[&[Field]]) -> bool
-    ensures { result ≡ is_member (lent_paths paths.now) [] }
-{
-    for i in 0..paths.len() {
-        if paths[i].is_empty() {
-            return true;
-        }
-    }
-    false
-}
-
-// The rests of the paths that begin with the name.
-fn rests_behind<'a>(
-    alloc: Global,
-    name: &FieldName,
-    paths: &[&'a [Field]],
-) -> Result<Vec<&'a [Field]>, AllocError>
-    ensures { IfOk result (λ found. lent_paths found.items ≡ rests name.now (lent_paths paths.now)) }
-{
-    let mut found = Vec::new(alloc);
-    for i in 0..paths.len() {
-        match rest_behind(name, paths[i]) {
-            Some(rest) => found.push(rest)?,
-            None => {}
-        }
-    }
-    Ok(found)
-}
-
-// The paths that begin otherwise.
-fn others_than<'a>(
-    alloc: Global,
-    name: &FieldName,
-    paths: &[&'a [Field]],
-) -> Result<Vec<&'a [Field]>, AllocError>
-    ensures { IfOk result (λ found. lent_paths found.items ≡ others name.now (lent_paths paths.now)) }
-{
-    let mut found = Vec::new(alloc);
-    for i in 0..paths.len() {
-        let path = paths[i];
-        if rest_behind(name, path).is_none() {
-            found.push(path)?;
-        }
-    }
-    Ok(found)
-}
-
-// The rest of the path behind the name, if it begins with it.
-fn rest_behind<'a>(name: &FieldName, path: &'a [Field]) -> Option<&'a [Field]>
-    ensures { option_map (λ rest. path_of rest.now) result ≡ rest_behind name.now (path_of path.now) }
-{
-    let [Field::Name(first), rest @ ..] = path else {
-        return None;
-    };
-    if *name == *first { Some(rest) } else { None }
 }
 
 impl Wanted {

@@ -26,9 +26,9 @@ wanted_of_each-loop-i-preserved t c =
     let same : c.as_slice-names.result.now ≡ names = c.as_slice-names.ensures ∙ c.names.ensures.names in
     let name = c.index-names-i.result in
     let left = lent_paths c.loop-i.left.items in
-    let inside : lent_paths c.in_ok-inside.inside.items ≡ rests name left = cc (c.in_ok-inside.ensures, c.as_slice.ensures.value) in
-    let after : lent_paths c.in_ok-left.left.items ≡ others name left = cc (c.in_ok-left.ensures, c.as_slice-in-loop-i.ensures.value) in
-    want_next names types c.loop-i.each.items c.push.new.self.items left (lent_paths c.in_ok-left.left.items) c.loop-i.i name c.index-types-i.result c.in_ok-wanted_along.field-0 _
+    let inside : lent_paths c.in_ok-inside.inside.items ≡ rests name left = cc (c.in_ok-inside.ensures.rests, c.as_slice.ensures.value) in
+    let after : lent_paths c.in_ok-inside.others.items ≡ others name left = cc (c.in_ok-inside.ensures.others, c.as_slice.ensures.value) in
+    want_next names types c.loop-i.each.items c.push.new.self.items left (lent_paths c.in_ok-inside.others.items) c.loop-i.i name c.index-types-i.result c.in_ok-wanted_along.field-0 _
     (omega arith) (omega arith) (rw same at c.index-names-i.is) c.index-types-i.is c.in_ok-push.ensures.items
     (c.in_ok-wanted_along.ensures ∙ ap (λ ps. wanted ps (type_of c.index-types-i.result)) inside) after c.loop-i.invariant
 
