@@ -1,13 +1,14 @@
 // Rows of which nothing is read.
-ghost use Rattle.std.specs.Prelude.{◌≡◌, IfOk, map, replicate};
-ghost use Rattle.vx_value.specs.Views.{data_view, fields_of, type_of, value_of};
+ghost use Rattle.std.specs.Prelude.{◌≡◌, IfOk, replicate};
+ghost use Rattle.vx_value.specs.Views.{type_of};
 ghost use Rattle.vx_array.specs.Rows.{lanes_rows};
-ghost use Rattle.vx_projection.specs.Defaults.{default_of, field_defaults};
+ghost use Rattle.vx_projection.specs.Defaults.{default_of};
 
 use std::alloc::{AllocError, Global};
 use std::sync::Arc;
 use vx_array::Lanes;
-use vx_types::{DType, StructFields, Value};
+use vx_projection::default_value;
+use vx_types::DType;
 
 // So many rows that are the default of the type.
 pub(crate) fn defaults(alloc: Global, dtype: &DType, count: usize) -> Result<Lanes, AllocError>
@@ -15,51 +16,4 @@ pub(crate) fn defaults(alloc: Global, dtype: &DType, count: usize) -> Result<Lan
 {
     let value = Arc::new(alloc, default_value(alloc, dtype)?)?;
     Ok(Lanes::Same(value, count))
-}
-
-// The default of the type: null where it is nullable, else false, 0, an empty text, no byte, no item,
-// so many defaults, or the default of each field.
-#[cycle(default)]
-fn default_value(alloc: Global, dtype: &DType) -> Result<Value, AllocError>
-    ensures { IfOk result (λ v. value_of v ≡ default_of (type_of dtype.now)) }
-{
-    if dtype.is_nullable() {
-        return Ok(Value::Null);
-    }
-    match dtype {
-        DType::Bool(_) => Ok(Value::Bool(false)),
-        DType::Primitive(_, _) => Ok(Value::Int(0)),
-        DType::Utf8(_) => Ok(Value::Utf8(String::new(alloc))),
-        DType::Binary(_) => Ok(Value::Binary(Vec::new(alloc))),
-        DType::List(_, _) => Ok(Value::List(Vec::new(alloc))),
-        DType::FixedSizeList(element, size, _) => {
-            let item = default_value(alloc, element.as_ref())?;
-            Ok(Value::List(repeated(alloc, &item, *size)?))
-        }
-        DType::Struct(fields, _) => Ok(Value::Struct(default_of_each(alloc, fields)?)),
-    }
-}
-
-// The default of each field.
-#[cycle(default)]
-fn default_of_each(alloc: Global, fields: &StructFields) -> Result<Vec<Value>, AllocError>
-    ensures { IfOk result (λ vs. data_view vs.items ≡ field_defaults (fields_of fields.now)) }
-{
-    let types = fields.types();
-    let mut made = Vec::with_capacity(alloc, fields.nfields())?;
-    for i in 0..fields.nfields() {
-        made.push(default_value(alloc, &types[i])?)?;
-    }
-    Ok(made)
-}
-
-// So many copies of the value.
-fn repeated(alloc: Global, value: &Value, count: u32) -> Result<Vec<Value>, AllocError>
-    ensures { IfOk result (λ vs. map value_of vs.items ≡ replicate count (value_of value.now)) }
-{
-    let mut copies = Vec::with_capacity(alloc, count as usize)?;
-    for i in 0..count {
-        copies.push(value.clone()?)?;
-    }
-    Ok(copies)
 }

@@ -6,11 +6,11 @@ ghost use Rattle.vx_projection.specs.Kept.{kept};
 ghost use Rattle.vx_projection.specs.Wanted.{lent_paths};
 ghost use Rattle.vx_array_projection.specs.Columns.{are_long, columns_kept};
 
-use crate::behind::{has_root, parted};
 use crate::defaults::defaults;
 use std::alloc::{AllocError, Global};
 use std::sync::Arc;
 use vx_array::Lanes;
+use vx_projection::along::{has_root, parted};
 use vx_types::{DType, Field, StructFields};
 
 // What is kept of the rows along the paths, in the same buffers, and one default in all rows of what no

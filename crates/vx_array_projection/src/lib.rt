@@ -1,7 +1,6 @@
 // What is kept of an array along paths of fields, and readers of arrays that read no more.
 #![tactic(auto)]
 
-mod behind;
 mod defaults;
 mod kept;
 mod read;

@@ -4,10 +4,10 @@ ghost use Rattle.vx_value.specs.Returns.{ReturnsOrOom};
 ghost use Rattle.vx_value.specs.Paths.{minimal_paths};
 ghost use Rattle.vx_projection.specs.Kept.{kept_batch};
 
-use crate::behind::lent;
 use crate::kept::kept_along;
 use std::alloc::Global;
 use vx_array::Array;
+use vx_projection::along::lent;
 use vx_projection::read_referenced;
 use vx_types::{FieldPathSet, VortexResult};
 
