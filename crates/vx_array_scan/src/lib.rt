@@ -1,10 +1,12 @@
 // Planned queries over columns in typed buffers.
 #![tactic(auto)]
 
+mod pruned;
 mod scanned;
 mod selected;
 mod split;
 mod truths;
 
+pub use pruned::select_rows_array;
 pub use scanned::scan_array;
 pub use selected::select_array;
