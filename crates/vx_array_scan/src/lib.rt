@@ -5,8 +5,10 @@ mod pruned;
 mod scanned;
 mod selected;
 mod split;
+mod statistics;
 mod truths;
 
 pub use pruned::select_rows_array;
 pub use scanned::scan_array;
 pub use selected::select_array;
+pub use statistics::stats_of_array;
