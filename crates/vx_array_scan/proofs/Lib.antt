@@ -1,2 +1,3 @@
 mod TrueRows
 mod Selecting
+mod Described

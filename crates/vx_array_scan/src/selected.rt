@@ -39,7 +39,7 @@ pub fn select_array(alloc: Global, batch: &Array, plan: &ScanPlan) -> VortexResu
     selected(alloc, batch, plan)
 }
 
-fn is_bool(dtype: &DType) -> bool
+pub(crate) fn is_bool(dtype: &DType) -> bool
     ensures { result ≡ is_truth (type_of dtype.now) }
 {
     matches!(dtype, DType::Bool(_))

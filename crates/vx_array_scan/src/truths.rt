@@ -28,7 +28,7 @@ pub(crate) fn true_rows(alloc: Global, lanes: &Lanes) -> Result<Bits, AllocError
 }
 
 // The same truth value so often.
-fn repeated(alloc: Global, truth: bool, count: usize) -> Result<Bits, AllocError>
+pub(crate) fn repeated(alloc: Global, truth: bool, count: usize) -> Result<Bits, AllocError>
     ensures { IfOk result (λ rows. rows ≡ replicate count truth) }
 {
     Bits::tabulated(alloc, count, |_| truth)
