@@ -15,11 +15,7 @@ use vx_types::VortexResult;
 
 // What the tree gives over the batch: split by the fields of the scope that its nodes read, where
 // the batch is of structs and these cover the tree, else whole.
-pub(crate) fn run_split(
-    alloc: Global,
-    tree: &BoundExpression,
-    batch: &Array,
-) -> VortexResult<Array>
+pub(crate) fn run_split(alloc: Global, tree: &BoundExpression, batch: &Array) -> VortexResult<Array>
     requires well_typed { WellTyped (bound_of tree.now) }
     requires over { Over (bound_of tree.now) batch.now.type }
     ensures { Runs true (bound_of tree.now) batch.now result }

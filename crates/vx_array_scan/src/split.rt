@@ -14,9 +14,13 @@ use vx_partition::BoundPartitionedExpr;
 use vx_tree::{BoundExpression, FieldName};
 use vx_types::VortexResult;
 
-// What the split gives over the batch: each partition's array, and the root over the structs that these
-// make, which share their buffers. Refuses with the first partition's fault, else with the root's.
-pub(crate) fn evaluate_split_array(
+/// What the split gives over the batch, a row for each of the batch's: each partition's array, and the root
+/// over the structs that these make, which share their buffers.
+///
+/// Asks well-typed partitions over the batch's type, a name for each, and a well-typed root over the
+/// struct of their types. Refuses with the fault (13 to 15) of the first partition that faults on the
+/// batch, else of the root over the structs, and with `OutOfMemory` (1).
+pub fn evaluate_split_array(
     alloc: Global,
     batch: &Array,
     split: &BoundPartitionedExpr<FieldName>,
