@@ -149,12 +149,12 @@ int arrow_threads(void)
     Column fields[] = {column_of("i", true, 3, ROWS + 5), column_of("b", true, 1, ROWS + 5)};
     shared = struct_of(fields, 2, false, 5, ROWS);
     size_t wrong = 0;
-    for (size_t row = 0; row < ROWS; row++) {
-        const struct ArrowArray *a = shared.array.children[0], *b = shared.array.children[1];
-        size_t at = row + 5;
-        bool is_above = !is_null_at(a, (int64_t)at) && ((const int32_t *)a->buffers[1])[3 + at] > 0;
-        bool is_true = !is_null_at(b, (int64_t)at) && (((const unsigned char *)b->buffers[1])[(1 + at) / 8] >> (1 + at) % 8 & 1);
-        wanted[row] = is_above || is_true;
+    const struct ArrowArray *a = shared.array.children[0], *b = shared.array.children[1];
+    const int32_t *numbers = a->buffers[1];
+    const unsigned char *bits = b->buffers[1];
+    for (int64_t row = 0, at = 5; row < ROWS; row++, at++) {
+        bool is_above = !is_null_at(a, at) && numbers[3 + at] > 0;
+        wanted[row] = is_above || (!is_null_at(b, at) && (bits[(1 + at) / 8] >> (1 + at) % 8 & 1));
     }
     pthread_t threads[THREADS];
     for (size_t i = 0; i < THREADS; i++)

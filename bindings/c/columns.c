@@ -161,7 +161,8 @@ static void put_texts(Column *c, size_t rows, bool is_text)
 
 static size_t size_of(char format)
 {
-    return format == 'c' || format == 'C' ? 1 : format == 's' || format == 'S' ? 2 : format == 'i' || format == 'I' ? 4 : 8;
+    static const char FORMATS[] = "cCsSiIlL";
+    return (size_t)1 << (strchr(FORMATS, format) - FORMATS) / 2;
 }
 
 Column column_of(const char *format, bool is_nullable, size_t offset, size_t rows)
@@ -306,12 +307,12 @@ static void add_number(Lines *lines, char format, const char *bytes)
     add_text(lines, text);
 }
 
-static void add_bytes(Lines *lines, const unsigned char *bytes, size_t length)
+static void add_bytes(Lines *lines, const char *bytes, size_t length)
 {
     char digits[3];
     add_text(lines, "\"0x");
     for (size_t i = 0; i < length; i++) {
-        snprintf(digits, sizeof digits, "%02x", bytes[i]);
+        snprintf(digits, sizeof digits, "%02x", (unsigned char)bytes[i]);
         add_text(lines, digits);
     }
     add_text(lines, "\"");
@@ -354,11 +355,10 @@ static void add_value(Lines *lines, const struct ArrowSchema *schema, const stru
         add_items(lines, schema, array, at * atoi(format + 3), (at + 1) * atoi(format + 3));
     else if (*format == 'b')
         add_text(lines, bit_at(array->buffers[1], at) ? "true" : "false");
-    else if (*format == 'u')
-        add_quoted(lines, (const char *)array->buffers[2] + offsets[at], (size_t)(offsets[at + 1] - offsets[at]));
-    else if (*format == 'z')
-        add_bytes(lines, (const unsigned char *)array->buffers[2] + offsets[at], (size_t)(offsets[at + 1] - offsets[at]));
-    else
+    else if (*format == 'u' || *format == 'z') {
+        const char *bytes = (const char *)array->buffers[2] + offsets[at];
+        (*format == 'u' ? add_quoted : add_bytes)(lines, bytes, (size_t)(offsets[at + 1] - offsets[at]));
+    } else
         add_number(lines, *format, (const char *)array->buffers[1] + (size_t)at * size_of(*format));
 }
 
