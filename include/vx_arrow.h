@@ -81,9 +81,9 @@ vx_status vx_schema_of_arrow(const struct ArrowSchema *type, char *buffer, size_
 
 /* At which rows of the array the expression is true, as vx_plan_select answers it.
 
-   The schema is the text that the plan was made of. The type may be written otherwise, and may differ from it
-   in what is nullable: a null that the plan's type doesn't allow is refused where it stands. Another
-   difference is refused with VX_BAD_DATA. */
+   The schema is the text that the plan was made of, written as vx_schema_of_arrow writes types. Blanks and
+   question marks may differ: a null that the plan's type doesn't allow is refused where it stands. An array of
+   another type is refused with VX_BAD_DATA. */
 vx_status vx_plan_select_arrow(vx_plan *plan, const char *schema, size_t schema_length,
                                const struct ArrowSchema *type, const struct ArrowArray *array,
                                char *buffer, size_t buffer_length, vx_answer *answer);

@@ -56,10 +56,18 @@ compiled() {
 
 # The objects of bindings/arrow, which are C.
 arrow_objects() {
-    for file in arrow schema; do
+    mkdir "$out/objects/arrow"
+    for file in bindings/arrow/*.c; do
         gcc -std=c11 -Wall -Wextra -Wpedantic -Wconversion -Werror -O2 -fPIC -Iinclude \
-            -c "bindings/arrow/$file.c" -o "$out/objects/arrow_$file.o" || return 1
+            -c "$file" -o "$out/objects/arrow/$(basename "$file" .c).o" || return 1
     done
+}
+
+# One object of several, in which the calls alone have names for others.
+joined() {
+    object=$1
+    shift
+    ld -r -o "$object" "$@" && objcopy --wildcard --keep-global-symbol="vx_*" "$object"
 }
 
 # The library of the exports, beside the three calls of C's allocator that it makes, and Arrow's columns.
@@ -74,14 +82,17 @@ library() {
     mkdir "$out/objects"
     arrow_objects || return 1
     (cd "$out/objects" && ar x ../../../crates/vx_ffi/out/libvx_ffi.a &&
-        ar x "$(dirname "$(rt doc)")/c/liblibc_c.a" && ar rcs ../libvx.a ./*.o &&
-        gcc -shared -Wl,-soname,libvx.so.0 -Wl,--version-script=../../c/exports.map -o ../libvx.so ./*.o &&
-        ln -sf libvx.so ../libvx.so.0)
+        ar x "$(dirname "$(rt doc)")/c/liblibc_c.a" && joined ../vx.o ./*.o && joined ../vx_arrow.o arrow/*.o &&
+        cd .. && ar rcs libvx.a vx.o vx_arrow.o &&
+        gcc -shared -Wl,-soname,libvx.so.0 -Wl,--version-script=../c/exports.map -o libvx.so vx.o vx_arrow.o &&
+        ln -sf libvx.so libvx.so.0)
 }
 
 # The shared library's own name, by which a program that is linked to it finds it.
 named() {
-    readelf -d "$out/libvx.so" | grep -q "SONAME.*\[libvx.so.0\]"
+    readelf -d "$out/libvx.so" | grep -q "SONAME.*\[libvx.so.0\]" &&
+        g++ -std=c++17 -Iinclude -o "$out/test_shared" bindings/cpp/test.cpp "$out/libvx.so" &&
+        LD_LIBRARY_PATH=$out "$out/test_shared"
 }
 
 # The C program, in four builds, of which two have Arrow's columns under sanitizers; the headers are C++, too.

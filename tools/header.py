@@ -134,9 +134,9 @@ def arrow_calls() -> set[str]:
 
 
 def symbols(archive: str) -> set[str]:
-    """The calls that the archive defines."""
+    """What the archive defines for others."""
     listed = subprocess.run(["nm", "--defined-only", archive], capture_output=True, text=True, check=True)
-    return set(re.findall(r" T (vx_\w+)$", listed.stdout, re.MULTILINE))
+    return set(re.findall(r" [A-Z] (\w+)$", listed.stdout, re.MULTILINE))
 
 
 def differences(archive: str | None) -> Iterator[str]:
