@@ -45,13 +45,13 @@ static std::vector<char> read_numbers(const std::string &folder, std::size_t chu
     return file;
 }
 
-// The columns that the filter reads: those whose name stands in the paths of its plan.
+// The columns that the filter reads, by the paths of its plan.
 static std::vector<Field> fields_read() {
-    const std::string paths = vx::Plan(FILTER, SCHEMA).paths();
     std::vector<Field> fields;
-    for (const Field &field : FIELDS)
-        if (paths.find("[\"" + std::string(field.name) + "\"]") != std::string::npos)
-            fields.push_back(field);
+    for (const auto &path : vx::Plan(FILTER, SCHEMA).paths())
+        for (const Field &field : FIELDS)
+            if (path[0] == field.name)
+                fields.push_back(field);
     return fields;
 }
 

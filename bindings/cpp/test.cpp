@@ -54,6 +54,15 @@ static void test_verdicts() {
     EXPECT(vx::prune("x > 5", "{x=i32?}", "").empty());
 }
 
+static void test_paths() {
+    using Paths = std::vector<std::vector<std::string>>;
+    EXPECT(vx::Plan("a.x >= 1 and b < 5", "{a={x=i32, y=i32}?, b=i32, c=utf8}").paths() == Paths{{"a", "x"}, {"b"}});
+    EXPECT(vx::Plan("1 < 2", "{x=i32}").paths().empty());
+    EXPECT(vx::Plan("is_null($)", "utf8?").paths() == Paths{{}});
+    const std::string name = "a\"\\n\\u0041[\n\t\b\f\r\1\303\244";
+    EXPECT(vx::Plan("`" + name + "`", "{`" + name + "`=i8}").paths() == Paths{{name}});
+}
+
 static void test_plans() {
     static_assert(!std::is_copy_constructible_v<vx::Plan> && !std::is_copy_assignable_v<vx::Plan>);
     static_assert(std::is_nothrow_move_constructible_v<vx::Plan> && std::is_nothrow_move_assignable_v<vx::Plan>);
@@ -61,7 +70,7 @@ static void test_plans() {
     const std::vector<uint8_t> is_there{5}, wanted{1, 0, 1};
     const std::vector<vx_buffer> batch{{nullptr, 0}, vx::lend(is_there), vx::lend(numbers)};
     vx::Plan plan("x > 5", "{x=i32?}");
-    EXPECT(plan.paths() == "[[\"x\"]]");
+    EXPECT(plan.paths() == std::vector<std::vector<std::string>>{{"x"}});
     EXPECT(plan.select(3, batch) == wanted);
     EXPECT(plan.scan_json(3, batch) == "true\nnull\ntrue\n");
     vx::Plan moved(std::move(plan));
@@ -100,6 +109,7 @@ static void test_arrow() {
 int main() {
     test_texts();
     test_verdicts();
+    test_paths();
     test_plans();
     test_arrow();
     std::printf("C++: %d checks, %d failed\n", checks, failures);
