@@ -23,7 +23,7 @@ static vx_status check_array(const Call *call, const Path *at, Layout layout, in
 {
     if (!array || !array->release)
         return arrow_stop(call, VX_RECORDS, at, "expected an array that isn't released", "");
-    if (array->length < 0 || array->offset < 0 || array->length > MOST || array->offset > MOST - array->length)
+    if (array->length < 0 || array->offset < 0 || array->offset > MOST - array->length)
         return arrow_stop(call, VX_RECORDS, at, "expected a length and an offset that count rows", "");
     if (array->null_count < -1 || array->null_count > array->length)
         return arrow_stop(call, VX_RECORDS, at, "expected a null_count that counts rows, or is -1", "");

@@ -113,10 +113,10 @@ static bool is_read(const char *format, Type *type)
         return false;
     const char *digits = format + 3;
     size_t length = strspn(digits, "0123456789");
-    if (length == 0 || length > 10 || digits[length] != 0)
+    if (length == 0 || digits[length] != 0)
         return false;
     *type = (Type){"+w", "fixed_size_list", FIXED_SIZE_LIST, strtoll(digits, NULL, 10)};
-    return type->size <= UINT32_MAX;
+    return type->size <= UINT32_MAX; /* (what is too long for strtoll is the most that it has) */
 }
 
 vx_status arrow_type(const Call *call, const Path *at, const struct ArrowSchema *schema, Type *type)

@@ -215,8 +215,9 @@ static void test_wrong_schemas(void)
     WRONG(VX_SCHEMA, x->n_children, 1, "Arrow schema: $.b: expected n_children 0, and not 1");
     WRONG(VX_SCHEMA, x->n_children, INT64_MAX, "Arrow schema: $.b: expected n_children 0, and not 9223372036854775807");
     static const char *const FORMATS[] = {
-        "",   "f",  "g",     "e",  "n",   "U",      "Z",     "vu",           "vz",            "d:19,10", "w:3", "tdD", "tsu:UTC",
-        "+L", "+m", "+r",    "+w", "+w:", "+w:-1",  "+w:3x", "+w:4294967296", "+w:99999999999", "ii",      "+s ", "B",
+        "",   "f",  "g",  "e",  "n",   "U",     "Z",     "vu",            "vz",  "d:19,10", "w:3", "tdD", "tsu:UTC",
+        "+L", "+m", "+r", "+w", "+w:", "+w:-1", "+w:3x", "+w:4294967296", "ii", "+s ",     "B",
+        "+w:99999999999999999999",
     };
     for (size_t i = 0; i < sizeof FORMATS / sizeof FORMATS[0]; i++) {
         char message[200];
@@ -337,6 +338,32 @@ static void test_wrong_fields(void)
 
 /* --- types that are alike, and room --- */
 
+/* Blanks and question marks in a name are part of it. */
+static void test_names(Column *c)
+{
+    static const char *const NAMES[][3] = {
+        {"a?", "{`a?`=i32?}", "{`a`=i32?}"},
+        {"a  b", "{`a  b`=i32?}", "{`a b`=i32?}"},
+        {"a`?", "{`a``?`=i32?}", "{`a```=i32?}"},
+    };
+    const char *was = c->schema.children[0]->name;
+    for (size_t i = 0; i < sizeof NAMES / sizeof NAMES[0]; i++) {
+        Text schema;
+        c->schema.children[0]->name = NAMES[i][0];
+        vx_plan plan = plan_over("1 < 2", c, &schema);
+        EXPECT(strlen(NAMES[i][1]) == schema.length && memcmp(NAMES[i][1], schema.bytes, schema.length) == 0);
+        Answered a = selected_column(&plan, text_of(NAMES[i][1]), c);
+        EXPECT(a.status == VX_ANSWERED);
+        free(a.text);
+        a = selected_column(&plan, text_of(NAMES[i][2]), c);
+        EXPECT(a.status == VX_BAD_DATA);
+        free(a.text);
+        vx_plan_free(&plan);
+        free((char *)schema.bytes);
+    }
+    c->schema.children[0]->name = was;
+}
+
 static void test_alike(void)
 {
     static const struct {
@@ -362,6 +389,7 @@ static void test_alike(void)
         free(a.text);
         vx_plan_free(&plan);
     }
+    test_names(&c);
     Text schema;
     vx_plan plan = plan_over("a is null", &c, &schema);
     char page[10] = "..........";

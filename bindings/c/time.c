@@ -131,11 +131,13 @@ static bool is_selected_arrow(size_t times, int64_t offset)
         numbers[i] = (int32_t)(i * 2654435761u % 1000000);
     memset(validity, 0x6d, sizeof validity);
     const void *buffers[] = {validity, numbers}, *none[] = {NULL};
-    struct ArrowSchema x = {.format = "i", .name = "x", .flags = ARROW_FLAG_NULLABLE, .release = unreleased},
-                       *fields[] = {&x}, type = {.format = "+s", .n_children = 1, .children = fields, .release = unreleased};
+    struct ArrowSchema x = {.format = "i", .name = "x", .flags = ARROW_FLAG_NULLABLE, .release = unreleased};
+    struct ArrowSchema *fields[] = {&x};
+    struct ArrowSchema type = {.format = "+s", .n_children = 1, .children = fields, .release = unreleased};
     int64_t rows = MANY - offset;
-    struct ArrowArray column = {rows, -1, offset, 2, 0, buffers, NULL, NULL, unreleased_array, NULL}, *columns[] = {&column},
-                      batch = {rows, 0, 0, 1, 1, none, columns, NULL, unreleased_array, NULL};
+    struct ArrowArray column = {rows, -1, offset, 2, 0, buffers, NULL, NULL, unreleased_array, NULL};
+    struct ArrowArray *columns[] = {&column};
+    struct ArrowArray batch = {rows, 0, 0, 1, 1, none, columns, NULL, unreleased_array, NULL};
     vx_plan plan = VX_PLAN_INIT;
     vx_answer answer = {0};
     if (vx_plan_new(RANGE, strlen(RANGE), TYPE, strlen(TYPE), &plan, selected, MANY, &answer) != VX_ANSWERED)
