@@ -309,6 +309,19 @@ static Column list_of(Column item, size_t offset, size_t rows)
     return c;
 }
 
+/* Nothing looks at metadata, at what is the producer's own, or at flags but the one of nulls. */
+static void test_unread_fields(void)
+{
+    struct ArrowSchema *x = wrong.schema.children[1], was = *x;
+    struct ArrowArray *array = wrong.array.children[1];
+    x->metadata = (const char *)1;
+    x->private_data = array->private_data = (void *)1;
+    x->flags = -1;
+    expect_answer(__LINE__);
+    *x = was;
+    array->private_data = NULL;
+}
+
 static void test_wrong_fields(void)
 {
     Column fields[] = {column_of("u", true, 2, 12), column_of("i", true, 3, 12), column_of("b", false, 1, 12),
@@ -318,6 +331,7 @@ static void test_wrong_fields(void)
     expect_answer(__LINE__);
     test_wrong_schemas();
     test_wrong_arrays();
+    test_unread_fields();
     Answered a = with_room(100);
     a.status = vx_plan_select_arrow(&wrong_plan, wrong_type.bytes, wrong_type.length, &wrong.schema, NULL, a.text,
                                     a.room, &a.answer);
