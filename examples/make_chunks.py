@@ -30,8 +30,8 @@ def main(folder):
         prices = numbers.integers(0, 100 * (1 + chunk), ROWS, dtype=np.int32)
         stocks = numbers.integers(0, 30, ROWS, dtype=np.int32)
         has_stock = numbers.random(ROWS) > 0.1
-        columns = {"id": ids, "price": prices, "stock": stocks, "stock.valid": np.packbits(has_stock, bitorder="little")}
-        for name, column in columns.items():
+        bits = np.packbits(has_stock, bitorder="little")
+        for name, column in {"id": ids, "price": prices, "stock": stocks, "stock.valid": bits}.items():
             np.save(folder / f"{chunk}.{name}.npy", column)
         fields = {"id": statistics_of(ids), "price": statistics_of(prices)}
         fields["stock"] = statistics_of(stocks[has_stock], int((~has_stock).sum()))

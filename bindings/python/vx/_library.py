@@ -120,7 +120,8 @@ def _answered_bytes(name: str, given: Sequence[Any], room: int) -> bytes:
         raise MemoryError
     page = buffer[: answer.needed]
     if status != _ANSWERED:
-        raise error_of(status, page.decode("utf-8", "replace"), Place.of(*(getattr(answer.place, field) for field, _ in _Place._fields_)))
+        place = Place.of(*(getattr(answer.place, field) for field, _ in _Place._fields_))
+        raise error_of(status, page.decode("utf-8", "replace"), place)
     return page
 
 
