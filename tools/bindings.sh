@@ -1,9 +1,10 @@
 #!/bin/sh
 # Builds the library of include/vx.h, as bindings/out/libvx.a and libvx.so, and runs what tests it: the
-# header against the exports, the tests in C, Python and Rust, texts of ten megabytes through each call,
-# random buffers through each under a sanitizer, what docs/embed/FFI.md shows, and the 200 expressions of
-# bindings/tests, which the program and the three languages have to answer alike. Ends with a line
-# `bindings: N passed, M failed`, and with status 1 where something failed.
+# header against the exports, the tests in C, C++, Python and Rust, texts of ten megabytes through each call,
+# random buffers and columns of Arrow's through each under sanitizers, what docs/embed/FFI.md shows, the
+# programs of examples, and the 200 expressions of bindings/tests, which the program and the three languages
+# have to answer alike. Ends with a line `bindings: N passed, M failed`, and with status 1 where something
+# failed.
 #
 #     tools/bindings.sh [BUFFERS]     so many random buffers through each call, 100,000 where none is said
 #
@@ -53,7 +54,23 @@ compiled() {
         -o out/libvx_ffi.a)
 }
 
-# The library of the exports, beside the three calls of C's allocator that it makes.
+# The objects of bindings/arrow, which are C.
+arrow_objects() {
+    mkdir "$out/objects/arrow"
+    for file in bindings/arrow/*.c; do
+        gcc -std=c11 -Wall -Wextra -Wpedantic -Wconversion -Werror -O2 -fPIC -Iinclude \
+            -c "$file" -o "$out/objects/arrow/$(basename "$file" .c).o" || return 1
+    done
+}
+
+# One object of several, in which the calls alone have names for others.
+joined() {
+    object=$1
+    shift
+    ld -r -o "$object" "$@" && objcopy --wildcard --keep-global-symbol="vx_*" "$object"
+}
+
+# The library of the exports, beside the three calls of C's allocator that it makes, and Arrow's columns.
 library() {
     rlib=crates/vx_ffi_calls/out/rlib
     if [ -d "$rlib" ] && [ ! -e "$rlib/stamp" ]; then
@@ -63,35 +80,96 @@ library() {
     fi
     rm -rf "$out/objects" "$out/libvx.a"
     mkdir "$out/objects"
+    arrow_objects || return 1
     (cd "$out/objects" && ar x ../../../crates/vx_ffi/out/libvx_ffi.a &&
-        ar x "$(dirname "$(rt doc)")/c/liblibc_c.a" && ar rcs ../libvx.a ./*.o &&
-        gcc -shared -Wl,--version-script=../../c/exports.map -o ../libvx.so ./*.o)
+        ar x "$(dirname "$(rt doc)")/c/liblibc_c.a" && joined ../vx.o ./*.o && joined ../vx_arrow.o arrow/*.o &&
+        cd .. && ar rcs libvx.a vx.o vx_arrow.o &&
+        gcc -shared -Wl,-soname,libvx.so.0 -Wl,--version-script=../c/exports.map -o libvx.so vx.o vx_arrow.o &&
+        ln -sf libvx.so libvx.so.0)
 }
 
-# The C program, in two builds; the header is C++, too.
+# The shared library's own name, by which a program that is linked to it finds it.
+named() {
+    readelf -d "$out/libvx.so" | grep -q "SONAME.*\[libvx.so.0\]" &&
+        g++ -std=c++17 -Iinclude -o "$out/test_shared" bindings/cpp/test.cpp "$out/libvx.so" &&
+        LD_LIBRARY_PATH=$out "$out/test_shared"
+}
+
+# The C program, in four builds, of which two have Arrow's columns under sanitizers; the headers are C++, too.
 c_program() {
-    flags="-std=c11 -Wall -Wextra -Wpedantic -Werror -Iinclude -Wl,--wrap=malloc,--wrap=realloc"
-    gcc $flags -O2 -o "$out/test" bindings/c/*.c "$out/libvx.a" &&
+    flags="-std=c11 -Wall -Wextra -Wpedantic -Werror -Iinclude -Wl,--wrap=malloc,--wrap=realloc -pthread"
+    gcc $flags -O1 -o "$out/test" bindings/c/*.c "$out/libvx.a" &&
+        gcc $flags -O2 -o "$out/test" bindings/c/*.c "$out/libvx.a" &&
         gcc $flags -O1 -g -fsanitize=address,undefined -fno-sanitize-recover=undefined \
-            -o "$out/test_sanitized" bindings/c/*.c "$out/libvx.a" &&
-        g++ -std=c++11 -Wall -Wextra -Wpedantic -Werror -fsyntax-only -x c++ include/vx.h
+            -o "$out/test_sanitized" bindings/c/*.c bindings/arrow/*.c "$out/libvx.a" &&
+        gcc $flags -O1 -g -fsanitize=thread -o "$out/test_threads" bindings/c/*.c bindings/arrow/*.c "$out/libvx.a" &&
+        g++ -std=c++11 -Wall -Wextra -Wpedantic -Werror -fsyntax-only -x c++ include/vx.h &&
+        g++ -std=c++11 -Wall -Wextra -Wpedantic -Werror -fsyntax-only -x c++ include/vx_arrow.h
+}
+
+# Under the thread sanitizer, which some kernels run only where addresses aren't by chance.
+threads() {
+    "$out/test_threads" threads || setarch "$(uname -m)" -R "$out/test_threads" threads
+}
+
+cpp_program() {
+    flags="-std=c++17 -Wall -Wextra -Wpedantic -Werror -Iinclude"
+    g++ $flags -O1 -g -fsanitize=address,undefined -fno-sanitize-recover=undefined \
+        -o "$out/test_cpp" bindings/cpp/test.cpp "$out/libvx.a" && "$out/test_cpp"
 }
 
 python_tests() {
     VX_LIBRARY=$out/libvx.so python3 -m unittest discover -q -s bindings/python/tests
 }
 
-# The same of numpy's arrays, by the Python that Debian's numpy is for.
-numpy_tests() {
-    python=/usr/bin/python3
-    if ! $python -c "import numpy" 2>/dev/null; then
-        apt-get update -qq && apt-get install -qq --no-install-recommends python3-numpy >/dev/null
+# The Python that Debian's packages are for, with the package that has the module.
+debian_python() {
+    if ! /usr/bin/python3 -c "import $1" 2>/dev/null; then
+        apt-get update -qq && apt-get install -qq --no-install-recommends "$2" >/dev/null
     fi
-    VX_LIBRARY=$out/libvx.so $python -m unittest discover -q -s bindings/python/tests -p "test_numpy.py"
+}
+
+# The same of numpy's arrays.
+numpy_tests() {
+    debian_python numpy python3-numpy && for tests in test_numpy test_capsules; do
+        VX_LIBRARY=$out/libvx.so /usr/bin/python3 -m unittest discover -q -s bindings/python/tests -p "$tests.py" || return 1
+    done
+}
+
+# The programs of examples: a table in chunks, scanned by Python, which numpy checks, and alike by C++.
+examples() {
+    rm -rf "$out/chunks"
+    debian_python numpy python3-numpy && /usr/bin/python3 examples/make_chunks.py "$out/chunks" &&
+        VX_LIBRARY=$out/libvx.so PYTHONPATH=bindings/python /usr/bin/python3 examples/scan.py "$out/chunks" \
+            >"$out/scan_python.txt" &&
+        g++ -std=c++17 -Wall -Wextra -Wpedantic -Werror -O2 -Iinclude -pthread -o "$out/scan" examples/scan.cpp \
+            "$out/libvx.a" && "$out/scan" "$out/chunks" >"$out/scan_cpp.txt" &&
+        diff "$out/scan_python.txt" "$out/scan_cpp.txt"
+}
+
+# A wheel that holds the library is for this system, and works as it is unpacked.
+wheel() {
+    rm -rf "$out/wheel"
+    mkdir "$out/wheel"
+    cp -r bindings/python "$out/wheel/source" && cp "$out/libvx.so" "$out/wheel/source/vx/" &&
+        debian_python setuptools python3-setuptools && debian_python wheel python3-wheel &&
+        (cd "$out/wheel/source" && /usr/bin/python3 -c "from setuptools import build_meta; build_meta.build_wheel('..')") \
+            >"$out/wheel.log" 2>&1 &&
+        /usr/bin/python3 -m zipfile -e "$out/wheel/vx-0.1.0-py3-none-linux_$(uname -m).whl" "$out/wheel/unpacked" &&
+        env -u VX_LIBRARY PYTHONPATH="$out/wheel/unpacked" python3 -c "import vx; assert vx.version() == vx.__version__"
 }
 
 rust_tests() {
     (cd bindings/rust && cargo test -q --offline && cargo build -q --offline --lib --examples)
+}
+
+# Where no variable names the folder of the library, the build says which one has to.
+rust_without_library() {
+    if (cd bindings/rust && env -u VX_LIBRARY_DIR cargo build -q --offline --lib --target-dir "$out/rust_without") \
+        >"$out/rust_without.log" 2>&1; then
+        return 1
+    fi
+    grep -q "VX_LIBRARY_DIR isn't set" "$out/rust_without.log"
 }
 
 # What each of them answers of the expressions.
@@ -117,14 +195,21 @@ export PYTHONDONTWRITEBYTECODE=1 CARGO_TARGET_DIR="$out/rust" VX_LIBRARY_DIR="$o
 try "the library" library
 if [ "$failed" -eq 0 ]; then
     try "the header" tools/header.py "$out/libvx.a"
+    try "the shared library's name" named
     try "the C program's build" c_program
     try "C" "$out/test"
     try "C under a sanitizer" "$out/test_sanitized"
     try "long texts" "$out/test" long
     try "random buffers" "$out/test_sanitized" fuzz "$buffers" 1
+    try "random columns" "$out/test_sanitized" arrow "$buffers" 1
+    try "threads over a batch" threads
+    try "C++" cpp_program
     try "Python" python_tests
     try "numpy" numpy_tests
+    try "the wheel" wheel
+    try "the examples" examples
     try "Rust" rust_tests
+    try "Rust without the library" rust_without_library
     try "docs/embed/FFI.md" env VX_LIBRARY="$out/libvx.so" python3 bindings/tests/guide.py "$out"
     try "the same answers" answers
 fi

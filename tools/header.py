@@ -1,7 +1,7 @@
 #!/usr/bin/env python3
 """Compares include/vx.h with what crates/vx_ffi exports: each call with its parameters, the structs with
 their fields, the numbers of statuses and texts, and the version. With an archive, also that it defines these
-calls and no other. Prints each difference, and at the end how many there are; the status is 1 where there is
+calls, those of include/vx_arrow.h and no other. Prints each difference, and at the end how many there are; the status is 1 where there is
 one.
 
     tools/header.py [ARCHIVE]
@@ -121,16 +121,22 @@ def versions() -> dict[str, str]:
         "crates/vx_ffi_calls/src/version.rt": r'b"(.*)\\n"',
         "crates/vx/src/line.rt": r'^const VERSION: &str = "(.*)"',
         "bindings/python/pyproject.toml": r'^version = "(.*)"',
+        "bindings/python/vx/__init__.py": r'^__version__ = "(.*)"',
         "bindings/rust/Cargo.toml": r'^version = "(.*)"',
     }
     texts = {name: (TOP / name).read_text(encoding="utf-8") for name in patterns}
     return {name: re.search(pattern, texts[name], re.MULTILINE)[1] for name, pattern in patterns.items()}
 
 
+def arrow_calls() -> set[str]:
+    """The calls of include/vx_arrow.h, which the compiler compares with their C."""
+    return set(declared((TOP / "include/vx_arrow.h").read_text(encoding="utf-8")))
+
+
 def symbols(archive: str) -> set[str]:
-    """The calls that the archive defines."""
+    """What the archive defines for others."""
     listed = subprocess.run(["nm", "--defined-only", archive], capture_output=True, text=True, check=True)
-    return set(re.findall(r" T (vx_\w+)$", listed.stdout, re.MULTILINE))
+    return set(re.findall(r" [A-Z] (\w+)$", listed.stdout, re.MULTILINE))
 
 
 def differences(archive: str | None) -> Iterator[str]:
@@ -144,7 +150,7 @@ def differences(archive: str | None) -> Iterator[str]:
     if len(set(versions().values())) != 1:
         yield f"versions: {versions()}"
     if archive:
-        for name in sorted(symbols(archive) ^ set(exports())):
+        for name in sorted(symbols(archive) ^ {*exports(), *arrow_calls()}):
             yield f"{name}: stands in one of {archive} and the code"
 
 
@@ -152,7 +158,7 @@ def main(archive: str | None = None) -> int:
     found = list(differences(archive))
     for it in found:
         print(f"header: {it}")
-    print(f"header: {len(exports())} calls, {len(found)} differences")
+    print(f"header: {len(exports())} calls and {len(arrow_calls())} over Arrow, {len(found)} differences")
     return 1 if found else 0
 
 

@@ -3,7 +3,7 @@
  *
  * The linker puts the two functions below in the place of malloc and realloc, by --wrap.
  */
-#include "test.h"
+#include "columns.h"
 
 #include <stdlib.h>
 #include <string.h>
@@ -169,8 +169,45 @@ static void test_calls_of_plans(void)
     expect_refusals(tell_paths, NULL);
 }
 
+/* --- columns of Arrow's --- */
+
+#define ARROW_SCHEMA "{a=bool?, b=i32?, c=utf8?}"
+
+static vx_status select_column(const void *given, char *buffer, size_t room, vx_answer *answer)
+{
+    const Column *it = given;
+    return vx_plan_select_arrow(&plan, ARROW_SCHEMA, sizeof ARROW_SCHEMA - 1, &it->schema, &it->array, buffer, room,
+                                answer);
+}
+
+static vx_status scan_column(const void *given, char *buffer, size_t room, vx_answer *answer)
+{
+    const Column *it = given;
+    return vx_plan_scan_arrow_json(&plan, ARROW_SCHEMA, sizeof ARROW_SCHEMA - 1, &it->schema, &it->array, buffer, room,
+                                   answer);
+}
+
+/* Bits that begin within a byte are copied, in three columns. */
+static void test_calls_of_arrow(void)
+{
+    char buffer[PAGE_ROOM];
+    vx_answer answer;
+    start_chance(2);
+    Column fields[] = {column_of("b", true, 1, 20), column_of("i", true, 2, 20), column_of("u", true, 3, 20)};
+    Column c = struct_of(fields, 3, false, 2, 18);
+    EXPECT(make_plan_over("a or b > 0 or c = 'a'", ARROW_SCHEMA, buffer, sizeof buffer, &answer) == VX_ANSWERED);
+    expect_refusals(select_column, &c);
+    expect_refusals(scan_column, &c);
+    c.array.children[2]->n_buffers = 2;
+    expect_refusals(select_column, &c);
+    c.array.children[2]->n_buffers = 3;
+    vx_plan_free(&plan);
+    release_column(&c);
+}
+
 void test_refusals(void)
 {
     test_calls_of_texts();
     test_calls_of_plans();
+    test_calls_of_arrow();
 }

@@ -5,6 +5,8 @@
  *     test long            texts of ten megabytes through each call
  *     test answers FILE    what each call answers of each line of a file of expressions
  *     test fuzz N SEED     N random buffers through each call
+ *     test arrow N SEED    N columns of Arrow's by chance
+ *     test threads         threads over one batch of Arrow's
  *     test time N          the microseconds of a plan that is made, and of one that is kept, N times
  */
 #define _DEFAULT_SOURCE
@@ -125,6 +127,7 @@ int main(int argc, char **argv)
     if (argc == 1) {
         test_calls();
         test_plans();
+        test_arrow();
         test_refusals();
         return ended();
     }
@@ -136,8 +139,12 @@ int main(int argc, char **argv)
         return answers(argv[2]);
     if (strcmp(work, "fuzz") == 0 && argc == 4)
         return fuzz(strtoull(argv[2], NULL, 10), strtoull(argv[3], NULL, 10));
+    if (strcmp(work, "arrow") == 0 && argc == 4)
+        return arrow_by_chance(strtoull(argv[2], NULL, 10), strtoull(argv[3], NULL, 10));
+    if (strcmp(work, "threads") == 0 && argc == 2)
+        return arrow_threads();
     if (strcmp(work, "time") == 0 && argc == 3)
         return timed(strtoull(argv[2], NULL, 10));
-    fprintf(stderr, "usage: test [long | answers FILE | fuzz N SEED | time N]\n");
+    fprintf(stderr, "usage: test [long | answers FILE | fuzz N SEED | arrow N SEED | threads | time N]\n");
     return 2;
 }

@@ -63,6 +63,7 @@ enum { ROOM = 4096 };
 
 char *guarded_end(void);
 
+void test_arrow(void);
 void test_calls(void);
 void test_long_texts(void);
 void test_plans(void);
@@ -70,5 +71,7 @@ void test_refusals(void);
 int answers(const char *path);
 int fuzz(size_t count, uint64_t seed);
 int timed(size_t count);
+int arrow_by_chance(size_t count, uint64_t seed);
+int arrow_threads(void);
 
 #endif

@@ -2,6 +2,7 @@
 #define _POSIX_C_SOURCE 199309L
 
 #include "test.h"
+#include "vx_arrow.h"
 
 #include <stdio.h>
 #include <string.h>
@@ -36,6 +37,17 @@ static double microseconds(void)
     struct timespec now;
     clock_gettime(CLOCK_PROCESS_CPUTIME_ID, &now);
     return (double)now.tv_sec * 1e6 + (double)now.tv_nsec / 1e3;
+}
+
+/* The releases of what is static. */
+static void unreleased(struct ArrowSchema *schema)
+{
+    (void)schema;
+}
+
+static void unreleased_array(struct ArrowArray *array)
+{
+    (void)array;
 }
 
 static bool is_planned(size_t times, char *page, size_t room)
@@ -107,13 +119,51 @@ static bool is_selected(size_t times)
     return count == wanted;
 }
 
+/* Whether the same range over a million numbers of Arrow's, with nulls, behind so many rows, selects them. */
+static bool is_selected_arrow(size_t times, int64_t offset)
+{
+    enum { MANY = 1000000 };
+    static const char RANGE[] = "x >= 10 and x <= 500000", TYPE[] = "{x=i32?}";
+    static int32_t numbers[MANY];
+    static unsigned char validity[MANY / 8];
+    static char selected[MANY];
+    for (size_t i = 0; i < MANY; i++)
+        numbers[i] = (int32_t)(i * 2654435761u % 1000000);
+    memset(validity, 0x6d, sizeof validity);
+    const void *buffers[] = {validity, numbers}, *none[] = {NULL};
+    struct ArrowSchema x = {.format = "i", .name = "x", .flags = ARROW_FLAG_NULLABLE, .release = unreleased};
+    struct ArrowSchema *fields[] = {&x};
+    struct ArrowSchema type = {.format = "+s", .n_children = 1, .children = fields, .release = unreleased};
+    int64_t rows = MANY - offset;
+    struct ArrowArray column = {rows, -1, offset, 2, 0, buffers, NULL, NULL, unreleased_array, NULL};
+    struct ArrowArray *columns[] = {&column};
+    struct ArrowArray batch = {rows, 0, 0, 1, 1, none, columns, NULL, unreleased_array, NULL};
+    vx_plan plan = VX_PLAN_INIT;
+    vx_answer answer = {0};
+    if (vx_plan_new(RANGE, strlen(RANGE), TYPE, strlen(TYPE), &plan, selected, MANY, &answer) != VX_ANSWERED)
+        return false;
+    double from = microseconds();
+    for (size_t i = 0; i < times; i++)
+        if (vx_plan_select_arrow(&plan, TYPE, strlen(TYPE), &type, &batch, selected, MANY, &answer) != VX_ANSWERED)
+            return false;
+    printf("vx_plan_select_arrow of %d rows with nulls by it, from row %d: %.2f nanoseconds a row\n", MANY, (int)offset,
+           1000 * (microseconds() - from) / (double)times / (double)rows);
+    size_t wrong = 0;
+    for (size_t i = 0; i < (size_t)rows; i++) {
+        size_t at = i + (size_t)offset;
+        wrong += selected[i] != ((validity[at / 8] >> at % 8 & 1) && numbers[at] >= 10 && numbers[at] <= 500000);
+    }
+    vx_plan_free(&plan);
+    return wrong == 0;
+}
+
 int timed(size_t times)
 {
     static char page[65536];
     vx_plan plan = VX_PLAN_INIT;
     fill_columns();
     bool is_done = is_planned(times, page, sizeof page) && is_scanned(times, &plan, page, sizeof page) &&
-                   is_selected(times);
+                   is_selected(times) && is_selected_arrow(times, 0) && is_selected_arrow(times, 3);
     vx_plan_free(&plan);
     return is_done ? 0 : 1;
 }

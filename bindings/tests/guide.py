@@ -2,7 +2,7 @@
 
     guide.py OUT
 
-A block of `c`, `python` or `rust` is a whole program where a block of `text` follows, which is what it
+A block of `c`, `cpp`, `python` or `rust` is a whole program where a block of `text` follows, which is what it
 prints. OUT is the folder with the library, in which they are compiled.
 """
 
@@ -15,11 +15,12 @@ import subprocess
 import sys
 
 TOP = pathlib.Path(__file__).resolve().parents[2]
-SHOWN = re.compile(r"^```(c|python|rust)\n(.*?)^```\n\n```text\n(.*?)^```$", re.MULTILINE | re.DOTALL)
+SHOWN = re.compile(r"^```(c|cpp|python|rust)\n(.*?)^```\n\n```text\n(.*?)^```$", re.MULTILINE | re.DOTALL)
 
 # How the program of a source becomes one that can be run. What has no line is run as it stands.
 COMPILERS = {
     "c": "gcc -std=c11 -Wall -Wextra -Wpedantic -Werror -I{top}/include -x c {source} -x none {out}/libvx.a -o {built}",
+    "cpp": "g++ -std=c++17 -Wall -Wextra -Wpedantic -Werror -I{top}/include {source} {out}/libvx.a -o {built}",
     "rust": "rustc --edition 2021 --crate-name main --extern vx={out}/rust/debug/libvx.rlib {source} -o {built}",
 }
 

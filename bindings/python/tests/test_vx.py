@@ -8,14 +8,14 @@ import unittest
 sys.path.insert(0, str(pathlib.Path(__file__).parents[1]))
 
 import vx  # noqa: E402
-from vx import _batches, _calls, _errors, _kept, _library, _plans, _statistics, _types  # noqa: E402
+from vx import _batches, _calls, _capsules, _errors, _kept, _library, _plans, _statistics, _types  # noqa: E402
 
 X = "{x=i32}"
 
 
 def load_tests(_loader, tests, _pattern):
     """Adds the examples of the docstrings."""
-    for module in (vx, _batches, _calls, _errors, _kept, _library, _plans, _statistics, _types):
+    for module in (vx, _batches, _calls, _capsules, _errors, _kept, _library, _plans, _statistics, _types):
         tests.addTests(doctest.DocTestSuite(module))
     return tests
 
@@ -39,7 +39,7 @@ class Pages(unittest.TestCase):
         self.assertIn("type: bool\n", vx.explain("x > 5 and x < 9", X))
 
     def test_version(self):
-        self.assertEqual(vx.version(), "0.1.0")
+        self.assertEqual((vx.version(), vx.__version__), ("0.1.0", "0.1.0"))
 
 
 class Rows(unittest.TestCase):

@@ -27,10 +27,14 @@ What a call refuses is raised as a :class:`VxError`, whose ``place`` says where:
 """
 
 from ._calls import check, evaluate, explain, fmt, plan, prune, version
+from ._capsules import schema_of
 from ._errors import DataError, FaultError, NoPlanError, Place, RefusedError, UnreadError, VxError
 from ._kept import Plan
 from ._plans import Partition, PlanDescription
 from ._statistics import Verdict, statistics
+
+__version__ = "0.1.0"
+"""The version of the package. :func:`version` answers that of the library."""
 
 __all__ = [
     "DataError",
@@ -50,6 +54,7 @@ __all__ = [
     "fmt",
     "plan",
     "prune",
+    "schema_of",
     "statistics",
     "version",
 ]

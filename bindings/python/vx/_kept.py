@@ -7,10 +7,19 @@ import threading
 import weakref
 from typing import Any, List, Tuple
 
-from . import _arrow
+from . import _arrow, _capsules
 from ._batches import batch_of
 from ._calls import Rows, check, encoded
-from ._library import Handle, free_plan, make_plan, plan_paths, scan_plan, select_plan
+from ._library import (
+    Handle,
+    free_plan,
+    make_plan,
+    plan_paths,
+    scan_arrow,
+    scan_plan,
+    select_arrow,
+    select_plan,
+)
 from ._plans import paths_of
 from ._types import type_of, values_of
 
@@ -46,7 +55,9 @@ class Plan:
         make_plan(self._handle, encoded(expression), encoded(schema))
         self.paths = paths_of(json.loads(plan_paths(self._handle)))
         self.type = check(expression, schema)
-        self._scope = type_of(check("$", schema))
+        scope = check("$", schema)
+        self._schema = encoded(scope)
+        self._scope = type_of(scope)
 
     def scan(self, batch: Rows) -> Any:
         """What the expression means at each row of the batch.
@@ -57,17 +68,20 @@ class Plan:
         [False, True]
 
         The batch is a list of rows, a dict of columns, which may be arrays of numpy's, an array of numpy's
-        with a name for each column, or an Arrow table, record batch or array; of Arrow's an array is
+        with a name for each column, or an Arrow table, record batch or array; of pyarrow's an array is
         answered, and else a list. A column that is left out is null in each row, and what an array of
-        numpy's masks is null.
+        numpy's masks is null. What another library exports by ``__arrow_c_array__`` has all columns of the
+        plan's type, in its order, and is read where it lies.
 
         Raises :class:`DataError` for a row that isn't of the plan's type, :class:`FaultError` where the
         expression faults, and :class:`NoPlanError` for a plan that is closed. The ``record`` of the
         ``place`` says at which row, from 1 on.
         """
         self._check_thread()
-        count, buffers = self._batch_of(batch)
         dtype = type_of(self.type)
+        if _is_lent(batch):
+            return values_of(scan_arrow(self._handle, self._schema, _capsules.exported(batch)), dtype)
+        count, buffers = self._batch_of(batch)
         values = values_of(scan_plan(self._handle, count, buffers), dtype)
         return _arrow.array_of(values, dtype) if _arrow.is_batch(batch) else values
 
@@ -84,7 +98,11 @@ class Plan:
         :class:`RefusedError` for an expression that isn't of truth values.
         """
         self._check_thread()
-        return memoryview(select_plan(self._handle, *self._batch_of(batch))).cast("?")
+        if _is_lent(batch):
+            page = select_arrow(self._handle, self._schema, _capsules.exported(batch))
+        else:
+            page = select_plan(self._handle, *self._batch_of(batch))
+        return memoryview(page).cast("?")
 
     def _batch_of(self, batch: Rows) -> Tuple[int, List[Any]]:
         """How many rows the batch has, and their buffers."""
@@ -104,6 +122,11 @@ class Plan:
     def _check_thread(self) -> None:
         if threading.get_ident() != self._thread:
             raise RuntimeError("a plan stays on the thread that made it")
+
+
+def _is_lent(batch: Rows) -> bool:
+    """Whether the batch is of a library that exports it. pyarrow's own may be of more types and in chunks."""
+    return _capsules.is_exporter(batch) and not _arrow.is_batch(batch)
 
 
 def _free(handle: Handle, thread: int) -> None:

@@ -1,4 +1,4 @@
-"""The calls of include/vx.h, by ctypes."""
+"""The calls of include/vx.h and include/vx_arrow.h, by ctypes."""
 
 from __future__ import annotations
 
@@ -6,9 +6,12 @@ import ctypes
 import os
 import pathlib
 from ctypes.util import find_library
-from typing import Any, Dict, List, Sequence, Tuple
+from typing import TYPE_CHECKING, Any, Dict, List, Sequence, Tuple
 
 from ._errors import Place, error_of
+
+if TYPE_CHECKING:
+    from ._capsules import Exported
 
 Lent = Any
 """Bytes that are lent: `bytes`, an array of numpy's of bytes, or a buffer of pyarrow's."""
@@ -65,6 +68,9 @@ _CALLS: Dict[str, Tuple[Any, ...]] = {
     "vx_plan_paths": (_PLAN, *_ROOM),
     "vx_plan_scan": (_PLAN, ctypes.c_size_t, ctypes.POINTER(_Buffer), ctypes.c_size_t, *_ROOM),
     "vx_plan_select": (_PLAN, ctypes.c_size_t, ctypes.POINTER(_Buffer), ctypes.c_size_t, *_ROOM),
+    "vx_schema_of_arrow": (ctypes.c_void_p, *_ROOM),
+    "vx_plan_scan_arrow_json": (_PLAN, *_TEXT, ctypes.c_void_p, ctypes.c_void_p, *_ROOM),
+    "vx_plan_select_arrow": (_PLAN, *_TEXT, ctypes.c_void_p, ctypes.c_void_p, *_ROOM),
     "vx_plan_free": (_PLAN,),
 }
 
@@ -114,7 +120,8 @@ def _answered_bytes(name: str, given: Sequence[Any], room: int) -> bytes:
         raise MemoryError
     page = buffer[: answer.needed]
     if status != _ANSWERED:
-        raise error_of(status, page.decode("utf-8", "replace"), Place.of(*(getattr(answer.place, field) for field, _ in _Place._fields_)))
+        place = Place.of(*(getattr(answer.place, field) for field, _ in _Place._fields_))
+        raise error_of(status, page.decode("utf-8", "replace"), place)
     return page
 
 
@@ -145,9 +152,11 @@ def plan_paths(handle: Handle) -> str:
 
 def scan_plan(handle: Handle, rows: int, buffers: Sequence[Lent]) -> str:
     """What the plan means at the rows, as lines of JSON."""
-    # (enough for numbers)
-    room = _LEAST_ROOM + 24 * rows
-    return _answered("vx_plan_scan", _batch(handle, rows, buffers), room)
+    return _answered("vx_plan_scan", _batch(handle, rows, buffers), _room_of_numbers(rows))
+
+
+def _room_of_numbers(rows: int) -> int:
+    return _LEAST_ROOM + 24 * rows
 
 
 def select_plan(handle: Handle, rows: int, buffers: Sequence[Lent]) -> bytes:
@@ -166,6 +175,23 @@ def _address(buffer: Lent) -> Any:
     if isinstance(buffer, bytes):
         return ctypes.cast(buffer, ctypes.c_void_p)
     return buffer.ctypes.data if hasattr(buffer, "ctypes") else buffer.address
+
+
+def arrow_schema(type: int) -> str:
+    """The ArrowSchema at the address, as the text of a type."""
+    return _answered("vx_schema_of_arrow", [type], _LEAST_ROOM)
+
+
+def scan_arrow(handle: Handle, schema: bytes, column: Exported) -> str:
+    """What the plan over that schema means at the rows, as lines of JSON."""
+    given = [ctypes.byref(handle), *_counted([schema]), column.type, column.array]
+    return _answered("vx_plan_scan_arrow_json", given, _room_of_numbers(column.rows))
+
+
+def select_arrow(handle: Handle, schema: bytes, column: Exported) -> bytes:
+    """At which rows the plan over that schema is true, as a byte for each."""
+    given = [ctypes.byref(handle), *_counted([schema]), column.type, column.array]
+    return _answered_bytes("vx_plan_select_arrow", given, _LEAST_ROOM + column.rows)
 
 
 def free_plan(handle: Handle) -> None:

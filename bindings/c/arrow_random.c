@@ -1,0 +1,171 @@
+/* Columns by chance, through the calls of include/vx_arrow.h, and one plan of many threads each. */
+#include "columns.h"
+#include "test.h"
+
+#include <pthread.h>
+#include <stdio.h>
+#include <stdlib.h>
+#include <string.h>
+
+static size_t failures = 0;
+
+static void need(bool holds, const char *what, const Column *column)
+{
+    if (holds)
+        return;
+    char page[2000];
+    vx_answer answer;
+    vx_status status = vx_schema_of_arrow(&column->schema, page, sizeof page, &answer);
+    fprintf(stderr, "%s: status %u, %.*s\n", what, status, status ? 0 : (int)answer.needed, page);
+    failures++;
+}
+
+/* The values and the nulls of the column are those that the consumer reads. */
+static void check_values(const Column *c)
+{
+    Text schema;
+    vx_plan plan = plan_over("$", c, &schema);
+    char *wanted = lines_of(&c->schema, &c->array);
+    Answered a = scanned_column(&plan, schema, c);
+    need(a.status == VX_ANSWERED && says(&a, wanted), "another page", c);
+    free(a.text);
+    free(wanted);
+    Given g = {{"$", 1}, schema, {NULL, 0}};
+    a = answered(CHECK, &g);
+    need(a.answer.needed == schema.length + 1 && memcmp(a.text, schema.bytes, schema.length) == 0, "another text", c);
+    free(a.text);
+    vx_plan_free(&plan);
+    free((char *)schema.bytes);
+    plan = plan_over("$ is null", c, &schema);
+    a = selected_column(&plan, schema, c);
+    need(a.status == VX_ANSWERED && a.answer.needed == (size_t)c->array.length, "no selection", c);
+    for (int64_t row = 0; row < c->array.length; row++)
+        need(a.text[row] == is_null_at(&c->array, row), "another null", c);
+    free(a.text);
+    vx_plan_free(&plan);
+    free((char *)schema.bytes);
+}
+
+/* --- what is wrong --- */
+
+/* Puts what can't be in the place of one of an array's fields. */
+static void break_array(struct ArrowArray *array)
+{
+    static const int64_t NUMBERS[] = {-2, INT64_MIN, INT64_MAX};
+    int64_t number = NUMBERS[by_chance(3)];
+    switch (by_chance(8)) {
+    case 0: array->length = number; break;
+    case 1: array->offset = number; break;
+    case 2: array->null_count = number; break;
+    case 3: array->n_buffers = by_chance(2) ? array->n_buffers + 1 : number; break;
+    case 4: array->n_children = by_chance(2) ? array->n_children + 1 : number; break;
+    case 5: array->buffers = NULL; break;
+    case 6: array->release = NULL; break;
+    default: array->dictionary = array; break;
+    }
+}
+
+static void break_schema(struct ArrowSchema *schema)
+{
+    static const char *const FORMATS[] = {"f", "+L", "U", "+w:x", "", NULL};
+    switch (by_chance(5)) {
+    case 0: schema->format = FORMATS[by_chance(6)]; break;
+    case 1: schema->n_children = by_chance(2) ? -1 : INT64_MIN; break;
+    case 2: schema->release = NULL; break;
+    case 3: schema->dictionary = schema; break;
+    default: schema->format = *schema->format == '+' ? "i" : "+l"; break;
+    }
+}
+
+/* Breaks one struct of the column by chance, asks the call, and mends it. */
+static void check_broken(Column *c, vx_plan *plan, Text schema)
+{
+    struct ArrowSchema *type = &c->schema;
+    struct ArrowArray *array = &c->array;
+    while (type->n_children > 0 && by_chance(3)) {
+        size_t i = by_chance((size_t)type->n_children);
+        array = array->children[i];
+        type = type->children[i];
+    }
+    struct ArrowSchema was_type = *type;
+    struct ArrowArray was_array = *array;
+    if (by_chance(3))
+        break_array(array);
+    else
+        break_schema(type);
+    Answered a = scanned_column(plan, schema, c);
+    *type = was_type;
+    *array = was_array;
+    need(a.status == VX_BAD_DATA && begins(&a, "error: "), "a broken struct", c);
+    free(a.text);
+}
+
+int arrow_by_chance(size_t times, uint64_t seed)
+{
+    start_chance(seed);
+    for (size_t i = 0; i < times && failures < 10; i++) {
+        Column c = random_column(3, by_chance(4) ? by_chance(20) : by_chance(3));
+        Text schema;
+        check_values(&c);
+        vx_plan plan = plan_over("$", &c, &schema);
+        for (int turn = 0; turn < 4; turn++)
+            check_broken(&c, &plan, schema);
+        vx_plan_free(&plan);
+        free((char *)schema.bytes);
+        release_column(&c);
+    }
+    printf("Arrow: %zu columns by chance, %zu failed, %zu structs left\n", times, failures, live_structs);
+    return failures > 0 || live_structs > 0;
+}
+
+/* --- threads --- */
+
+enum { THREADS = 8, TURNS = 50, ROWS = 3000 };
+
+static Column shared;
+static char wanted[ROWS];
+
+/* Selects rows of the shared batch by a plan of its own; answers how often that is wrong. */
+static void *work(void *unused)
+{
+    (void)unused;
+    size_t wrong = 0;
+    char page[ROWS];
+    vx_answer answer;
+    vx_plan plan = VX_PLAN_INIT;
+    wrong += vx_plan_new("a > 0 or b", 10, "{a=i32?, b=bool?}", 17, &plan, page, ROWS, &answer) != VX_ANSWERED;
+    for (int turn = 0; turn < TURNS; turn++) {
+        vx_status status = vx_plan_select_arrow(&plan, "{a=i32?, b=bool?}", 17, &shared.schema, &shared.array, page,
+                                                ROWS, &answer);
+        wrong += status != VX_ANSWERED || memcmp(page, wanted, ROWS) != 0;
+    }
+    vx_plan_free(&plan);
+    return (void *)wrong;
+}
+
+/* Threads that read one batch at once. */
+int arrow_threads(void)
+{
+    Column fields[] = {column_of("i", true, 3, ROWS + 5), column_of("b", true, 1, ROWS + 5)};
+    shared = struct_of(fields, 2, false, 5, ROWS);
+    size_t wrong = 0;
+    const struct ArrowArray *a = shared.array.children[0], *b = shared.array.children[1];
+    const int32_t *numbers = a->buffers[1];
+    const unsigned char *bits = b->buffers[1];
+    for (int64_t row = 0, at = 5; row < ROWS; row++, at++) {
+        bool is_above = !is_null_at(a, at) && numbers[3 + at] > 0;
+        wanted[row] = is_above || (!is_null_at(b, at) && (bits[(1 + at) / 8] >> (1 + at) % 8 & 1));
+    }
+    pthread_t threads[THREADS];
+    for (size_t i = 0; i < THREADS; i++)
+        if (pthread_create(&threads[i], NULL, work, NULL) != 0)
+            abort();
+    for (size_t i = 0; i < THREADS; i++) {
+        void *found;
+        pthread_join(threads[i], &found);
+        wrong += (size_t)found;
+    }
+    release_column(&shared);
+    printf("Arrow: %d threads over one batch, %zu wrong\n", THREADS, wrong);
+    return wrong > 0;
+}

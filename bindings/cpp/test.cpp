@@ -1,0 +1,117 @@
+// Tests of include/vx.hpp. The last line is "C++: N checks, M failed".
+#include "vx.hpp"
+
+#include <cstdio>
+#include <cstring>
+#include <type_traits>
+
+static int checks = 0, failures = 0;
+
+static void expect(bool holds, const char *what, int line) {
+    checks++;
+    if (!holds) {
+        failures++;
+        std::fprintf(stderr, "test.cpp:%d: %s\n", line, what);
+    }
+}
+
+#define EXPECT(...) expect((__VA_ARGS__), #__VA_ARGS__, __LINE__)
+
+// Whether the call throws with this status, and a place that begins and ends there.
+template <class Call>
+static bool stops(Call call, vx_status status, std::size_t text, std::size_t start, std::size_t end) {
+    try {
+        call();
+    } catch (const vx::Error &error) {
+        const vx_place &place = error.place();
+        return error.status() == status && std::strncmp(error.what(), "error: ", 7) == 0 && place.text == text &&
+               place.start == start && place.end == end;
+    }
+    return false;
+}
+
+static void test_texts() {
+    EXPECT(vx::version() == VX_VERSION);
+    EXPECT(vx::check("x >= 1", "{x=i32?}") == "bool?");
+    EXPECT(vx::check(std::string_view("x >= 1 and garbage", 6), "{x=i32?}") == "bool?");
+    EXPECT(vx::fmt("x between 1 and 3") == "(1i32 <= $.x <= 3i32)");
+    EXPECT(vx::explain("x >= 1", "{x=i32}").find("type: bool\n") != std::string::npos);
+    EXPECT(vx::plan_json("x >= 1", "{x=i32}").find("\"paths\":[[\"x\"]]") != std::string::npos);
+    EXPECT(vx::eval_json("x + 1", "{x=i32}", "{\"x\": 1}\n{\"x\": 5}\n") == "2\n6\n");
+    const std::string long_text = "x = " + std::string(3000, '(') + "1";
+    EXPECT(stops([&] { vx::fmt(long_text); }, VX_UNREAD, VX_EXPRESSION, 204, 204));
+    EXPECT(stops([] { vx::check("x >= s", "{x=i32, s=utf8}"); }, VX_REFUSED, VX_EXPRESSION, 0, 6));
+    EXPECT(stops([] { vx::check("x", "{x=i33}"); }, VX_UNREAD, VX_SCHEMA, 3, 3));
+    EXPECT(stops([] { vx::eval_json("x + 1", "{x=i32}", "{\"x\": 2147483647}"); }, VX_FAULTED, VX_EXPRESSION, 0, 5));
+}
+
+static void test_verdicts() {
+    const char *statistics = "{\"rows\": 3, \"fields\": {\"x\": {\"greatest\": 5}}}\n{\"rows\": 4}\n"
+                             "{\"rows\": 2, \"fields\": {\"x\": {\"nulls\": 0, \"least\": 6}}}\n";
+    using vx::Verdict;
+    EXPECT(vx::prune("x > 5", "{x=i32?}", statistics) ==
+           std::vector<Verdict>{Verdict::no_row, Verdict::to_be_read, Verdict::every_row});
+    EXPECT(vx::prune("x > 5", "{x=i32?}", "").empty());
+}
+
+static void test_paths() {
+    using Paths = std::vector<std::vector<std::string>>;
+    EXPECT(vx::Plan("a.x >= 1 and b < 5", "{a={x=i32, y=i32}?, b=i32, c=utf8}").paths() == Paths{{"a", "x"}, {"b"}});
+    EXPECT(vx::Plan("1 < 2", "{x=i32}").paths().empty());
+    EXPECT(vx::Plan("is_null($)", "utf8?").paths() == Paths{{}});
+    const std::string name = "a\"\\n\\u0041[\n\t\b\f\r\1\303\244";
+    EXPECT(vx::Plan("`" + name + "`", "{`" + name + "`=i8}").paths() == Paths{{name}});
+}
+
+static void test_plans() {
+    static_assert(!std::is_copy_constructible_v<vx::Plan> && !std::is_copy_assignable_v<vx::Plan>);
+    static_assert(std::is_nothrow_move_constructible_v<vx::Plan> && std::is_nothrow_move_assignable_v<vx::Plan>);
+    const std::vector<int32_t> numbers{7, 1, 9};
+    const std::vector<uint8_t> is_there{5}, wanted{1, 0, 1};
+    const std::vector<vx_buffer> batch{{nullptr, 0}, vx::lend(is_there), vx::lend(numbers)};
+    vx::Plan plan("x > 5", "{x=i32?}");
+    EXPECT(plan.paths() == std::vector<std::vector<std::string>>{{"x"}});
+    EXPECT(plan.select(3, batch) == wanted);
+    EXPECT(plan.scan_json(3, batch) == "true\nnull\ntrue\n");
+    vx::Plan moved(std::move(plan));
+    EXPECT(moved.select(3, batch) == wanted);
+    EXPECT(stops([&] { plan.select(3, batch); }, VX_NO_PLAN, VX_NOWHERE, 0, 0));
+    moved = vx::Plan("x + 1 > 8", "{x=i32?}");
+    EXPECT(moved.select(3, batch) == std::vector<uint8_t>{0, 0, 1});
+    std::vector<vx::Plan> plans;
+    for (int i = 0; i < 5; i++)
+        plans.emplace_back("x > " + std::to_string(i), "{x=i32?}");
+    EXPECT(plans[4].select(3, batch) == wanted);
+    EXPECT(stops([] { vx::Plan("y", "{x=i32}"); }, VX_REFUSED, VX_EXPRESSION, 0, 1));
+    EXPECT(stops([&] { moved.select(9, batch); }, VX_BAD_DATA, VX_RECORDS, 0, 0));
+}
+
+static void test_arrow() {
+    const int32_t numbers[] = {0, 7, 1, 9};
+    const uint8_t is_there = 11;
+    const void *buffers[] = {&is_there, numbers}, *none[] = {nullptr};
+    auto kept = [](auto *) {};
+    ArrowSchema x{"i", "x", nullptr, ARROW_FLAG_NULLABLE, 0, nullptr, nullptr, kept, nullptr}, *fields[] = {&x};
+    ArrowSchema type{"+s", "", nullptr, 0, 1, fields, nullptr, kept, nullptr};
+    ArrowArray column{4, -1, 0, 2, 0, buffers, nullptr, nullptr, kept, nullptr}, *columns[] = {&column};
+    ArrowArray array{3, 0, 1, 1, 1, none, columns, nullptr, kept, nullptr};
+    EXPECT(vx::schema_of(type) == "{x=i32?}");
+    vx::Plan plan("x > 5", type);
+    EXPECT(plan.select(type, array) == std::vector<uint8_t>{1, 0, 1});
+    EXPECT(plan.scan_json(type, array) == "true\nnull\ntrue\n");
+    x.format = "l";
+    EXPECT(stops([&] { plan.select(type, array); }, VX_BAD_DATA, VX_RECORDS, 0, 0));
+    x.format = "g";
+    EXPECT(stops([&] { plan.select(type, array); }, VX_BAD_DATA, VX_SCHEMA, 0, 0));
+    EXPECT(stops([&] { vx::schema_of(type); }, VX_BAD_DATA, VX_SCHEMA, 0, 0));
+}
+
+int main() {
+    test_texts();
+    test_verdicts();
+    test_paths();
+    test_plans();
+    test_arrow();
+    std::printf("C++: %d checks, %d failed\n", checks, failures);
+    return failures > 0;
+}

@@ -1,0 +1,129 @@
+"""Tests of what other libraries export by Arrow's PyCapsule interface."""
+
+import gc
+import pathlib
+import struct
+import sys
+import unittest
+
+sys.path.insert(0, str(pathlib.Path(__file__).parents[1]))
+sys.path.insert(0, str(pathlib.Path(__file__).parent))
+
+import vx  # noqa: E402
+from columns import Column, live, record_batch  # noqa: E402
+
+try:
+    import numpy as np
+except ImportError:
+    np = None
+
+
+def numbers(values, bits=None, **more):
+    """A column of numbers of 32 bits, of which the bits say which are there."""
+    buffers = [bits and bytearray(bits), bytearray(struct.pack(f"<{len(values)}i", *values))]
+    return Column("i", len(values) - more.get("offset", 0), buffers, **more)
+
+
+def texts(*values):
+    ends = [len("".join(values[:end]).encode()) for end in range(len(values) + 1)]
+    buffers = [None, bytearray(struct.pack(f"<{len(ends)}i", *ends)), bytearray("".join(values).encode() + b" ")]
+    return Column("u", len(values), buffers, is_nullable=False)
+
+
+class Capsules(unittest.TestCase):
+    def tearDown(self):
+        gc.collect()
+        self.assertEqual(live, {})
+
+    def test_schemas(self):
+        batch = record_batch(2, x=numbers([1, 2]), s=texts("a", "b"))
+        self.assertEqual(vx.schema_of(batch), "{x=i32?, s=utf8}")
+        self.assertEqual(vx.schema_of(Column("+l", 1, [None, None], [("item", texts("a"))])), "list(utf8)?")
+        self.assertEqual(vx.schema_of(record_batch(0, **{"a`b": texts()})), "{`a``b`=utf8}")
+        with self.assertRaises(vx.DataError) as caught:
+            vx.schema_of(record_batch(0, x=texts(), y=record_batch(0, z=Column("g", 0, [None, None]))))
+        self.assertIn("$.y.z: expected a format", str(caught.exception))
+        self.assertEqual(caught.exception.place.text, "schema")
+        with self.assertRaises(TypeError):
+            vx.schema_of([1])
+
+    def test_scans(self):
+        batch = record_batch(3, x=numbers([1, 5, 7], b"\5"), s=texts("a", "b", "c"))
+        with vx.Plan("x + 1", vx.schema_of(batch)) as plan:
+            self.assertEqual(plan.scan(batch), [2, None, 8])
+        with vx.Plan("x > 5 or s = 'a'", "{ x=i32?,\ts=utf8? }") as plan:
+            self.assertEqual(plan.select(batch).tolist(), [True, False, True])
+        with vx.Plan("$ > 5", "i32?") as plan:
+            self.assertEqual(plan.scan(numbers([7, 1], b"\1")), [True, None])
+
+    def test_offsets(self):
+        for offset in range(10):
+            inner = numbers(list(range(40)), b"\x55\xaa\x0f\xf0\x99", offset=3)
+            batch = record_batch(20, offset, x=inner)
+            present = [0x99F00FAA55 >> at & 1 for at in range(3 + offset, 23 + offset)]
+            with vx.Plan("x", "{x=i32?}") as plan:
+                wanted = [3 + offset + at if there else None for at, there in enumerate(present)]
+                self.assertEqual(plan.scan(batch), wanted)
+            with vx.Plan("x is null", "{x=i32?}") as plan:
+                self.assertEqual(plan.select(batch).tolist(), [not there for there in present])
+
+    def test_refused(self):
+        with vx.Plan("x > 1", "{x=i32}") as plan:
+            for batch, message in [
+                (record_batch(1, x=texts("a")), "expected a batch of the plan's type, and not of {x=utf8}"),
+                (record_batch(1, y=numbers([1])), "not of {y=i32?}"),
+                (record_batch(1), "not of {}"),
+                (record_batch(2, x=numbers([1])), "$.x: expected a length of at least 2, and not 1"),
+                (record_batch(1, x=Column("i", 1, [None])), "$.x: expected n_buffers 2, and not 1"),
+                (record_batch(-1, x=numbers([1])), "$: expected a length and an offset"),
+                (record_batch(1, x=Column("i", 1, [None, None])), "$.x: expected values"),
+            ]:
+                with self.subTest(message):
+                    for work in (plan.scan, plan.select):
+                        with self.assertRaises(vx.DataError) as caught:
+                            work(batch)
+                        self.assertIn(message, str(caught.exception))
+                        self.assertEqual(caught.exception.place.text, "records")
+            with self.assertRaises(vx.DataError) as caught:
+                plan.select(record_batch(2, x=numbers([1, 2], b"\1")))
+            self.assertEqual(caught.exception.place.record, 2)
+        with self.assertRaises(vx.NoPlanError):
+            plan.select(record_batch(1, x=numbers([1])))
+
+    def test_wrong_capsules(self):
+        class Swapped:
+            def __arrow_c_array__(self, requested_schema=None):
+                return tuple(reversed(numbers([1]).__arrow_c_array__()))
+
+        with vx.Plan("$", "i32?") as plan, self.assertRaises(ValueError):
+            plan.scan(Swapped())
+
+    def test_released_by_none_but_the_capsules(self):
+        column = numbers([1, 2])
+        capsules = column.__arrow_c_array__()
+
+        class Held:
+            def __arrow_c_array__(self, requested_schema=None):
+                return capsules
+
+        with vx.Plan("$ > 1", "i32") as plan:
+            for _ in range(3):
+                self.assertEqual(plan.select(Held()).tolist(), [False, True])
+        self.assertEqual(len(live), 2)
+        capsules = None
+
+    @unittest.skipUnless(np, "numpy isn't installed")
+    def test_arrays_of_numpy(self):
+        values = (np.arange(100_000, dtype=np.int64) * 2654435761 % 1_000_000).astype(np.int32)
+        there = np.arange(100_000) % 7 != 0
+        bits = np.packbits(there, bitorder="little")
+        for start in (0, 3, 8):
+            column = Column("i", len(values) - start, [bits, values], offset=start)
+            with vx.Plan("x >= 10 and x <= 500000", "{x=i32?}") as plan:
+                found = np.asarray(plan.select(record_batch(len(values) - start, x=column)))
+            wanted = (there & (values >= 10) & (values <= 500_000))[start:]
+            self.assertTrue((found == wanted).all())
+
+
+if __name__ == "__main__":
+    unittest.main()
