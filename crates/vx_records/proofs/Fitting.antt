@@ -1,20 +1,20 @@
--- Rows that a column was made of are values of its type.
-use Rattle.std.proofs.Common.{◌≡◌, ℕ, List, Option, Some, None, Ok, refl, sym, subst}
-use Rattle.std.specs.Prelude.{MatchOption, IsOkAnd, IsErrOf, Result}
-use Rattle.vx_dtype.specs.declared.error.VortexError.{VortexError}
-use Rattle.vx_dtype.specs.declared.error.VortexError.TheVariants.{RowMisfit}
-use Rattle.vx_value.specs.Columns.{Batch, batch, first_misfit}
-use Rattle.vx_value.specs.Fits.{IsBatch}
+-- Rows of a type, and one more.
+use Rattle.std.proofs.Common.{◌≡◌, List, [], ◌∷◌, ◌++◌, map, refl, subst, sym, ap, ◌∙◌}
+use Rattle.std.proofs.lemmas.Bool.{and_from}
+use Rattle.std.proofs.lemmas.List.{map-append}
+use Rattle.std.proofs.lemmas.List.Folds.{list_all-append}
+use Rattle.vx_value.specs.Fits.{fits, Fits, IsBatch}
 use Rattle.vx_value.specs.Types.{LogicalType, Datum}
-use Rattle.vx_value.proofs.Misfits.{no_misfit}
+use Rattle.vx_value.specs.Views.{value_of}
+use Rattle.vx_records.specs.Records.{record_of, rows}
+use Rattle.vx_records.specs.declared.record.Record.{Record as Read}
 
--- what is said of making a column
-abbrev IsMade : LogicalType → List Datum → Result Batch VortexError → Option ℕ → Type 0
-IsMade t rows made misfit = MatchOption misfit (IsOkAnd made (λ c. c ≡ batch t rows)) (λ row. IsErrOf made (RowMisfit row))
+fits_on : (s : LogicalType) (vs : List Datum) (v : Datum) → IsBatch s vs → Fits v s → IsBatch s (vs ++ v ∷ [])
+fits_on s vs v all here = list_all-append (λ (d : Datum). fits d s) vs (v ∷ []) ∙ and_from _ _ all (and_from _ _ here refl)
 
-pub made_fits : (t : LogicalType) (rows : List Datum) (c : Batch) → IsMade t rows (Ok c) (first_misfit t rows) → IsBatch c.type c.rows
-made_fits t rows c said = go (first_misfit t rows) refl said
+-- the rows of what was read, and of one record more
+pub rows_fit : (s : LogicalType) (rs : List Read) (r : Read) → IsBatch s (rows (map record_of rs)) → Fits (value_of r.row) s → IsBatch s (rows (map record_of (rs ++ r ∷ [])))
+rows_fit s rs r all here = subst (IsBatch s) (sym joined) (fits_on s (rows (map record_of rs)) (value_of r.row) all here)
   where
-    go : (misfit : Option ℕ) → first_misfit t rows ≡ misfit → IsMade t rows (Ok c) misfit → IsBatch c.type c.rows
-    go None none is = subst (λ (c : Batch). IsBatch c.type c.rows) (sym is) ((no_misfit t rows).0 none)
-    go (Some row) some is = cc
+    joined : rows (map record_of (rs ++ r ∷ [])) ≡ rows (map record_of rs) ++ value_of r.row ∷ []
+    joined = ap rows (map-append record_of rs (r ∷ [])) ∙ map-append _ (map record_of rs) (record_of r ∷ [])

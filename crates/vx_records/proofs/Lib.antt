@@ -10,4 +10,5 @@ mod Written
 mod Tallying
 mod Counting
 mod Selecting
+mod Skipped
 mod Portioned
