@@ -3,7 +3,6 @@ mod Fewer
 mod Keeping
 mod Verdicts
 mod Meaning
-mod Fitting
 mod Going
 mod Stopping
 mod Written
