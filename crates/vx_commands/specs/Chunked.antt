@@ -5,6 +5,7 @@ use Rattle.std.specs.Io.KnownBytes.{Appends, Keeps}
 use Rattle.vx_value.specs.Types.{LogicalType}
 use Rattle.vx_tree.specs.Trees.{Tree, BoundTree}
 use Rattle.vx_records.specs.Outcomes.{Breaks, EndsRecords, Stops, UnlessFaulting}
+use Rattle.vx_records.specs.Reading.{Reading}
 use Rattle.vx_records.specs.Records.{Record, kept_lines}
 use Rattle.vx_records.specs.Tallies.{tally_of}
 use Rattle.vx_records.specs.declared.chunked.ChunkTally.{ChunkTally}
@@ -27,7 +28,7 @@ abbrev pub BrokeByChunks : LogicalType → List ℕ → Tree → ℕ → BoundTr
 BrokeByChunks s head e m b out out' = UnlessFaulting m b (λ rs. Breaks out out' (head ++ kept_lines e s rs))
 
 -- so it was of the first n records, or of all where there are fewer, and their tally in chunks of m is on the other writer
-abbrev pub IsKeptByChunks : {R : Type 0} → (R → List Record → Type 0) → LogicalType → List ℕ → Tree → ℕ → ℕ → R → R → Option (List ℕ) → Option (List ℕ) → Option (List ℕ) → Option (List ℕ) → Type 0
+abbrev pub IsKeptByChunks : {R : Type 0} → (R → List Reading → Type 0) → LogicalType → List ℕ → Tree → ℕ → ℕ → R → R → Option (List ℕ) → Option (List ℕ) → Option (List ℕ) → Option (List ℕ) → Type 0
 IsKeptByChunks leaves s head e m n before after out out' err err' = (b : BoundTree) × IsBoundCondition e s b
     × EndsRecords leaves n before after (λ rs. KeptByChunks s head e m b out out' rs × Appends err err' (tally_line (tally_of m b s rs)))
 
@@ -39,7 +40,7 @@ IsOfWriting (Data e) = ⊥
 IsOfWriting (Fault f) = ⊥
 
 -- nothing was written, since the expression is refused or isn't of type bool, or memory ran out; or the records before the error were gone over; or all were, and the tally can't be written
-abbrev pub IsKeptByChunksUntil : {R : Type 0} → (R → List Record → Type 0) → LogicalType → List ℕ → Tree → ℕ → ℕ → RowsError → R → R → Option (List ℕ) → Option (List ℕ) → Option (List ℕ) → Option (List ℕ) → Type 0
+abbrev pub IsKeptByChunksUntil : {R : Type 0} → (R → List Reading → Type 0) → LogicalType → List ℕ → Tree → ℕ → ℕ → RowsError → R → R → Option (List ℕ) → Option (List ℕ) → Option (List ℕ) → Option (List ℕ) → Type 0
 IsKeptByChunksUntil leaves s head e m n (Records error span) before after out out' err err' = (b : BoundTree) × IsBoundCondition e s b
     × ((Stops leaves b before error (KeptByChunks s head e m b out out') (BrokeByChunks s head e m b out out') × Keeps err err')
     ⊎ (EndsRecords leaves n before after (KeptByChunks s head e m b out out') × IsOfWriting error))

@@ -12,7 +12,8 @@ use Rattle.vx_data.specs.declared.error.DataError.TheVariants.{OutOfMemory as No
 use Rattle.vx_data.specs.declared.error.WriteError.TheVariants.{OutOfMemory as NoRoomToWrite, Write as WriterFailed, Unwritable}
 use Rattle.vx_records.specs.declared.error.RecordsError.TheVariants.{OutOfMemory as NoRoom, Data, Fault, Write as Writing}
 use Rattle.vx_records.specs.Outcomes.{Breaks, EndsRecords, Gains, Stops}
-use Rattle.vx_records.specs.Records.{Record, kept_lines, meanings}
+use Rattle.vx_records.specs.Reading.{Reading}
+use Rattle.vx_records.specs.Records.{kept_lines, meanings}
 use Rattle.vx_commands.specs.declared.error.RowsError.{RowsError}
 use Rattle.vx_commands.specs.declared.error.RowsError.TheVariants.{Query, NotBool, Records}
 
@@ -41,22 +42,22 @@ IsNotBool t (Query c) = c ≡ OutOfMemory
 IsNotBool t (Records error span) = ⊥
 
 -- of the first n records, or of all where there are fewer, those of which the expression is true were written behind the heading, in order
-abbrev pub IsFiltered : {R : Type 0} → (R → List Record → Type 0) → LogicalType → List ℕ → Tree → ℕ → R → R → Option (List ℕ) → Option (List ℕ) → Type 0
+abbrev pub IsFiltered : {R : Type 0} → (R → List Reading → Type 0) → LogicalType → List ℕ → Tree → ℕ → R → R → Option (List ℕ) → Option (List ℕ) → Type 0
 IsFiltered leaves s head e n before after out out' = IsCondition e s × EndsRecords leaves n before after (λ rs. Appends out out' (head ++ kept_lines e s rs))
 
 -- nothing was written, since the expression is refused or isn't of type bool, or memory ran out; or the records before the error were gone over
-abbrev pub IsKeptUntil : {R : Type 0} → (R → List Record → Type 0) → LogicalType → List ℕ → Tree → RowsError → R → Option (List ℕ) → Option (List ℕ) → Type 0
+abbrev pub IsKeptUntil : {R : Type 0} → (R → List Reading → Type 0) → LogicalType → List ℕ → Tree → RowsError → R → Option (List ℕ) → Option (List ℕ) → Type 0
 IsKeptUntil leaves s head e (Query c) before out out' = IsRefusal e s c × Keeps out out'
 IsKeptUntil leaves s head e (NotBool t) before out out' = (typed e s ≡ Ok (type_of t)) × Keeps out out'
 IsKeptUntil leaves s head e (Records error span) before out out' = (b : BoundTree) × IsBoundTo e s b × IsCondition e s × Stops leaves b before error
     (λ rs. Appends out out' (head ++ kept_lines e s rs)) (λ rs. Breaks out out' (head ++ kept_lines e s rs))
 
 -- what the expression means at the first n records, or at all where there are fewer, was written in order
-abbrev pub IsMeant : {R : Type 0} → (R → List Record → Type 0) → LogicalType → Tree → ℕ → R → R → Option (List Datum) → Option (List Datum) → Type 0
+abbrev pub IsMeant : {R : Type 0} → (R → List Reading → Type 0) → LogicalType → Tree → ℕ → R → R → Option (List Datum) → Option (List Datum) → Type 0
 IsMeant leaves s e n before after out out' = EndsRecords leaves n before after (λ rs. Gains out out' (meanings e s rs))
 
 -- nothing was written, since the expression is refused, or memory ran out; or the records before the error were gone over
-abbrev pub IsMeantUntil : {R : Type 0} → (R → List Record → Type 0) → LogicalType → Tree → RowsError → R → Option (List Datum) → Option (List Datum) → Type 0
+abbrev pub IsMeantUntil : {R : Type 0} → (R → List Reading → Type 0) → LogicalType → Tree → RowsError → R → Option (List Datum) → Option (List Datum) → Type 0
 IsMeantUntil leaves s e (Query c) before out out' = IsRefusal e s c × (out' ≡ out)
 IsMeantUntil leaves s e (NotBool t) before out out' = ⊥
 IsMeantUntil leaves s e (Records error span) before out out' = (b : BoundTree) × IsBoundTo e s b × Stops leaves b before error

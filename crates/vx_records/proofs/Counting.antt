@@ -9,6 +9,7 @@ use Rattle.vx_fn.specs.Values.{is_true}
 use Rattle.vx_tree.specs.Meaning.{mean}
 use Rattle.vx_tree.specs.Trees.{Tree}
 use Rattle.vx_records.specs.Chunks.{IsStep}
+use Rattle.vx_records.specs.Reading.{Reading}
 use Rattle.vx_records.specs.Records.{Record, holds, kept_count, meanings}
 
 of_map : {X Y : Type 0} (p : Y → Bool) (f : X → Y) (xs : List X) → count_by p (map f xs) ≡ count_by (λ x. p (f x)) xs
@@ -24,6 +25,6 @@ pub count_on : (e : Tree) (s : LogicalType) (xs ys : List Record) (n m : ℕ) �
 count_on e s xs ys n m first second = ap (λ k. k + m) first ∙ ap (λ k. kept_count e s xs + k) second ∙ sym (sum_by-append (λ (r : Record). cond (holds e s r) 1 0) xs ys)
 
 -- no more than were asked for
-pub count_few : {R : Type 0} (leaves : R → List Record → Type 0) (n : ℕ) (before after : R) (last : Bool) (e : Tree) (s : LogicalType) (k : ℕ) → IsStep leaves n before after last (λ rs. k ≡ kept_count e s rs) → k ≤ n
+pub count_few : {R : Type 0} (leaves : R → List Reading → Type 0) (n : ℕ) (before after : R) (last : Bool) (e : Tree) (s : LogicalType) (k : ℕ) → IsStep leaves n before after last (λ rs. k ≡ kept_count e s rs) → k ≤ n
 count_few leaves n before after last e s k (rs, (reads, inl full), is, same) = let few = count_by-le-length (holds e s) rs in omega arith
 count_few leaves n before after last e s k (rs, (reads, inr (short, ends)), is, same) = let few = count_by-le-length (holds e s) rs in omega arith

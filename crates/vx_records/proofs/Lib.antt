@@ -3,11 +3,11 @@ mod Fewer
 mod Keeping
 mod Verdicts
 mod Meaning
-mod Fitting
 mod Going
 mod Stopping
 mod Written
 mod Tallying
 mod Counting
 mod Selecting
+mod Skipped
 mod Portioned

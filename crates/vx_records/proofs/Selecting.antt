@@ -11,7 +11,7 @@ use Rattle.vx_tree.specs.Trees.{BoundTree, Tree}
 use Rattle.vx_places.specs.Faults.{IsFirstFault}
 use Rattle.vx_records.specs.Chunks.{AreAnswers, AreNext, IsFaultOver, IsKeptBatch, IsKeptOf, row_if_true, true_rows}
 use Rattle.vx_records.specs.Outcomes.{Gains, StopsSelecting}
-use Rattle.vx_records.specs.Reading.{Reads}
+use Rattle.vx_records.specs.Reading.{Reading, Reads}
 use Rattle.vx_records.specs.Records.{Record, holds, kept, meanings, record_as, rows}
 use Rattle.vx_records.specs.declared.answers.Answers.{Answers}
 use Rattle.vx_records.specs.declared.kept.KeptBatch.{KeptBatch}
@@ -63,14 +63,14 @@ kept_batch e s rs whole held made vs is lent over meant =
     is ∙ ap (λ (b : Batch). batch b.type (true_rows b.rows vs (length b.rows))) (lent ∙ over) ∙ ap (batch s) (rows_read e s rs (rows rs) vs refl meant)
 
 -- as many rows as values
-pub as_many_values : {R : Type 0} (leaves : R → List Record → Type 0) (n : ℕ) (e : Tree) (s : LogicalType) (before after : R) (a : Answers) → AreAnswers leaves n e s before after a → length a.batch.rows.value.rows ≤ length a.values.rows
+pub as_many_values : {R : Type 0} (leaves : R → List Reading → Type 0) (n : ℕ) (e : Tree) (s : LogicalType) (before after : R) (a : Answers) → AreAnswers leaves n e s before after a → length a.batch.rows.value.rows ≤ length a.values.rows
 as_many_values leaves n e s before after a (rs, next, (texts, over), meant) =
     let rows_long : length a.batch.rows.value.rows ≡ length rs = ap (λ (b : Batch). length b.rows) over ∙ length-map rs (λ (r : Record). r.row) in
     let values_long : length a.values.rows ≡ length rs = ap length meant ∙ length-map rs (λ (r : Record). mean e s r.row) in
     omega (arith, rows_long, values_long)
 
 -- of the next records
-pub kept_next : {R : Type 0} (leaves : R → List Record → Type 0) (n : ℕ) (e : Tree) (s : LogicalType) (before after : R) (a : Answers) (b : KeptBatch) → AreAnswers leaves n e s before after a → IsKeptOf a b → IsKeptBatch leaves n e s before after b
+pub kept_next : {R : Type 0} (leaves : R → List Reading → Type 0) (n : ℕ) (e : Tree) (s : LogicalType) (before after : R) (a : Answers) (b : KeptBatch) → AreAnswers leaves n e s before after a → IsKeptOf a b → IsKeptBatch leaves n e s before after b
 kept_next leaves n e s before after a b (rs, next, (texts, over), meant) (made, read, stop) = (
   rs,
   subst (λ stop. AreNext leaves n before after stop rs) (sym stop) next,
@@ -88,7 +88,7 @@ gains_kept c v s before mid after xs ys first second =
     subst (Gains before after) (sym (ap (meanings v s) (filter-append (holds c s) xs ys) ∙ meanings-append v s (kept c s xs) (kept c s ys))) (gains_trans before mid after _ _ first second)
 
 -- what stops behind some records, seen from before them
-pub selecting_on : {R : Type 0} (leaves : R → List Record → Type 0) (c v : BoundTree) (s : LogicalType) (start cur : R) (e : SelectError) (xs : List Record) (Wrote Wrote' : List Record → Type 0)
+pub selecting_on : {R : Type 0} (leaves : R → List Reading → Type 0) (c v : BoundTree) (s : LogicalType) (start cur : R) (e : SelectError) (xs : List Record) (Wrote Wrote' : List Record → Type 0)
     → Reads (leaves start) (leaves cur) xs → ((ys : List Record) → Wrote ys → Wrote' (xs ++ ys)) → StopsSelecting leaves c v s cur e Wrote → StopsSelecting leaves c v s start e Wrote'
 selecting_on leaves c v s start cur (Kept e) xs Wrote Wrote' before wrote stops = stops_on leaves c start cur e xs Wrote (λ rs. Unit {0}) Wrote' (λ rs. Unit {0}) before wrote (λ ys w. tt) stops
 selecting_on leaves c v s start cur (Selected f) xs Wrote Wrote' before wrote (mid, done, rs, reads, w, fault) =

@@ -1,5 +1,6 @@
 pub mod Records
 pub mod Reading
+pub mod Skipped
 pub mod Outcomes
 pub mod Chunks
 pub mod Laws

@@ -3,7 +3,7 @@ ghost use Rattle.std.specs.Prelude.{◌≡◌, IfOk, IfErr, length, map};
 ghost use Rattle.vx_tree.specs.Trees.{WellTyped, Over, unbound};
 ghost use Rattle.vx_tree.specs.Meaning.{mean};
 ghost use Rattle.vx_tree.specs.Views.{bound_of};
-ghost use Rattle.vx_records.specs.Chunks.{AreAnswers, IsFaultThere, IsFaultOver, IsLast, IsNoFault};
+ghost use Rattle.vx_records.specs.Chunks.{AreAnswers, IsFaultThere, IsFaultOver, IsLast, IsStopError};
 
 use crate::batches::{RecordBatch, next_batch};
 use crate::{RecordFault, RecordReader, RecordsError};
@@ -81,7 +81,7 @@ fn first_fault(alloc: Global, tree: &BoundExpression, batch: &Column, lines: &[u
 /// stopped reading, if something did.
 pub(crate) fn ended(answers: Box<Answers>, count: usize) -> Result<bool, RecordsError>
     ensures ok { IfOk result (λ last. IsLast answers.value.batch.stop (length answers.value.batch.texts.items) count last) }
-    ensures err { IfErr result (λ e. IsNoFault e) }
+    ensures err { IfErr result (λ e. IsStopError answers.value.batch.stop e) }
 {
     let Answers { batch, .. } = Box::into_inner(answers);
     let RecordBatch { texts, stop, .. } = batch;
@@ -95,7 +95,7 @@ pub(crate) fn are_last(
     count: usize,
 ) -> Result<bool, RecordsError>
     ensures ok { IfOk result (λ last. IsLast stop read count last) }
-    ensures err { IfErr result (λ e. IsNoFault e) }
+    ensures err { IfErr result (λ e. IsStopError stop e) }
 {
     match stop {
         Some(stop) => Err(RecordsError::from(stop)),

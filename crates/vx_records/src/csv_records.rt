@@ -1,6 +1,7 @@
 // CSV files as records.
 ghost use Rattle.vx_value.specs.Views.{type_of};
 
+use crate::record::require_fit;
 use crate::{Record, RecordReader};
 use std::alloc::Global;
 use std::io::Read;
@@ -67,7 +68,7 @@ impl<R: Read + Drop> CsvRows<R> {
 }
 
 impl<R: Read + Drop> RecordReader for CsvRows<R> {
-    // What a file holds isn't known.
+    // What reading a file gives isn't known.
     ghost leaves = { λ _ _. Unit {0} };
 
     ghost scope = { λ r. type_of r.dtype };
@@ -88,6 +89,7 @@ impl<R: Read + Drop> RecordReader for CsvRows<R> {
         }
         let line = self.records.line();
         let row = self.parser.parse(line, self.records.cells())?;
+        require_fit(alloc, &self.dtype, line, &row)?;
         let text = Vec::from_slice(alloc, self.records.record())?;
         Ok(Some(Record { text, row, line }))
     }

@@ -1,6 +1,6 @@
 // What stops going over records.
 ghost use Rattle.std.specs.Prelude.{◌≡◌};
-ghost use Rattle.vx_records.specs.Chunks.{IsNoFault};
+ghost use Rattle.vx_records.specs.Chunks.{stop_error};
 ghost use Rattle.vx_records.specs.declared.error.RecordsError.TheVariants.{OutOfMemory};
 
 use std::alloc::{AllocError, AllocFailed};
@@ -57,7 +57,7 @@ impl<T: Drop> From<AllocFailed<T>> for RecordsError {
 }
 
 impl From<DataError> for RecordsError {
-    ghost from_gives = { λ _ e. IsNoFault e };
+    ghost from_gives = { λ stop e. e ≡ stop_error stop };
 
     fn from(e: DataError) -> RecordsError {
         match e {

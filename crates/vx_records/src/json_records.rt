@@ -2,6 +2,7 @@
 ghost use Rattle.std.specs.Prelude.{◌≡◌, []};
 ghost use Rattle.vx_value.specs.Views.{type_of};
 
+use crate::record::require_fit;
 use crate::{Record, RecordReader};
 use std::alloc::Global;
 use std::io::BufRead;
@@ -50,7 +51,7 @@ impl<R: BufRead> JsonRecords<R> {
 }
 
 impl<R: BufRead> RecordReader for JsonRecords<R> {
-    // What a file holds isn't known.
+    // What reading a file gives isn't known.
     ghost leaves = { λ _ _. Unit {0} };
 
     ghost scope = { λ r. type_of r.dtype };
@@ -71,6 +72,7 @@ impl<R: BufRead> RecordReader for JsonRecords<R> {
         }
         let line = self.file.line();
         let row = self.parser.parse(&self.dtype, line, self.file.record())?;
+        require_fit(alloc, &self.dtype, line, &row)?;
         let text = Vec::from_slice(alloc, self.file.record())?;
         Ok(Some(Record { text, row, line }))
     }

@@ -1,5 +1,6 @@
 // Records that are read together.
 ghost use Rattle.std.specs.Prelude.{◌≡◌, ◌≤◌, IfOk, length, map};
+ghost use Rattle.vx_value.specs.Fits.{IsBatch};
 ghost use Rattle.vx_value.specs.Views.{value_of};
 ghost use Rattle.vx_records.specs.Chunks.{IsChunk, texts_in};
 ghost use Rattle.vx_records.specs.Records.{record_of, texts, rows};
@@ -24,6 +25,7 @@ pub(crate) fn read_chunk<R: RecordReader>(
 ) -> Result<Chunk, AllocError>
     ensures read { IfOk result (λ c. IsChunk R.leaves count records.old records.new c) }
     ensures few { IfOk result (λ c. length c.records.items ≤ count) }
+    ensures fit { IfOk result (λ c. IsBatch (R.scope records.old) (rows (map record_of c.records.items))) }
     ensures scope { R.scope records.new ≡ R.scope records.old }
 {
     let mut read = Vec::new(alloc);

@@ -1,11 +1,12 @@
 // Records, and what they are read from.
-ghost use Rattle.std.specs.Prelude.{◌≡◌, IfOk, option_map};
-ghost use Rattle.vx_value.specs.Views.{type_of};
-ghost use Rattle.vx_records.specs.Reading.{Goes};
+ghost use Rattle.std.specs.Prelude.{◌≡◌, IfOk, IfSome, MatchResult, OnOk, option_map};
+ghost use Rattle.vx_value.specs.Fits.{Fits};
+ghost use Rattle.vx_value.specs.Views.{type_of, value_of};
+ghost use Rattle.vx_records.specs.Reading.{Goes, Refuses};
 ghost use Rattle.vx_records.specs.Records.{record_of};
 
 use std::alloc::Global;
-use vx_data::DataError;
+use vx_data::{DataError, Expected, Fault};
 use vx_types::{DType, Value};
 
 /// A record of a file.
@@ -19,15 +20,16 @@ pub struct Record {
     pub line: u64,
 }
 
-/// What records are read from, one after another. An impl says by `leaves` which records may stand
-/// from here on to the end.
+/// What records are read from, one after another. An impl says by `leaves` what reading may give from
+/// here on to the end.
 pub trait RecordReader {
     ghost use Rattle.std.specs.Prelude.{ℕ, List};
     ghost use Rattle.vx_value.specs.Types.{LogicalType};
-    ghost use Rattle.vx_records.specs.Records.{Record};
+    ghost use Rattle.vx_records.specs.Reading.{Reading};
 
-    /// The records that may stand from here on, up to the end.
-    ghost leaves: { Self → List Record → Type 0 };
+    /// What reading may give from here on, up to the end: records, and refusals of those that can't be
+    /// read.
+    ghost leaves: { Self → List Reading → Type 0 };
 
     /// The type of their rows.
     ghost scope: { Self → LogicalType };
@@ -44,9 +46,29 @@ pub trait RecordReader {
     fn heading(&self) -> &[u8]
         ensures { result.now ≡ head self.now };
 
-    /// Reads the next record, None at the end. Refuses a record whose row isn't of the type, with the
-    /// reader's error, and with `OutOfMemory`.
+    /// Reads the next record, whose row is of the type, None at the end. Refuses a record that isn't of
+    /// the type, with the reader's error, and with `OutOfMemory`, after which nothing is known of what is
+    /// left.
     fn read(&mut self, alloc: Global) -> Result<Option<Record>, DataError>
-        ensures read { IfOk result (λ found. Goes (leaves self.old) (leaves self.new) (option_map record_of found)) }
+        ensures read { MatchResult result
+            (λ found. Goes (leaves self.old) (leaves self.new) (option_map record_of found))
+            (λ e. Refuses (leaves self.old) (leaves self.new) e) }
+        ensures fit { IfOk result (λ found. IfSome found (λ r. Fits (value_of r.row) (scope self.old))) }
         ensures scope { scope self.new ≡ scope self.old };
+}
+
+/// Refuses a row on that line that isn't of the type, and with `OutOfMemory`.
+pub(crate) fn require_fit(
+    alloc: Global,
+    dtype: &DType,
+    line: u64,
+    row: &Value,
+) -> Result<(), DataError>
+    ensures { OnOk result (Fits (value_of row.now) (type_of dtype.now)) }
+{
+    if row.fits(dtype) {
+        return Ok(());
+    }
+    let fault = Fault::new(alloc, Expected::Value(dtype.clone()?));
+    Err(fault.on_line(alloc, line))
 }

@@ -33,11 +33,23 @@ impl<R: RecordReader> Skipping<R> {
     pub fn first_refusal(&self) -> Option<&DataError> {
         self.first.as_ref()
     }
+
+    // Counts a record that is refused, of which the first refusal is kept.
+    fn leave_out(&mut self, refusal: DataError)
+        ensures { self.new.records ≡ self.old.records }
+    {
+        self.skipped = self.skipped.saturating_add(1);
+        if self.first.is_none() {
+            self.first = Some(refusal);
+        }
+    }
 }
 
 impl<R: RecordReader> RecordReader for Skipping<R> {
-    // What a reader leaves behind a record that it refuses isn't known.
-    ghost leaves = { λ _ _. Unit {0} };
+    ghost use Rattle.vx_records.specs.Skipped.{Skips};
+
+    // What the records' own reader gives, but its refusals of what a record holds.
+    ghost leaves = { λ r gs. Skips (R.leaves r.records) gs };
 
     ghost scope = { λ r. R.scope r.records };
 
@@ -54,15 +66,15 @@ impl<R: RecordReader> RecordReader for Skipping<R> {
     fn read(&mut self, alloc: Global) -> Result<Option<Record>, DataError> {
         'refused: for _ in 0..u64::MAX {
             match self.records.read(alloc) {
-                Err(refusal @ DataError::Unexpected { .. }) => {
-                    self.skipped = self.skipped.saturating_add(1);
-                    if self.first.is_none() {
-                        self.first = Some(refusal);
-                    }
+                Ok(found) => return Ok(found),
+                Err(DataError::OutOfMemory) => return Err(DataError::OutOfMemory),
+                Err(DataError::Read(e)) => return Err(DataError::Read(e)),
+                Err(DataError::Unexpected { line, at, expected }) => {
+                    self.leave_out(DataError::Unexpected { line, at, expected });
                 }
-                read => return read,
             }
         }
-        Ok(None)
+        // No file has so many records.
+        Err(DataError::OutOfMemory)
     }
 }

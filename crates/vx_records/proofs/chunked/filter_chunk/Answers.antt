@@ -1,30 +1,31 @@
 -- The next records are read, and those of them that are kept are written, unless the tree faults on them.
-use Rattle.std.proofs.Common.{◌≡◌, Err, subst, ap, sym, ◌∙◌, length, rules}
+use Rattle.std.proofs.Common.{◌≡◌, Err, [], subst, ap, sym, ◌∙◌, length, rules}
 use Rattle.std.proofs.KnownBytes.{Appends-nil}
 use Rattle.std.specs.Io.KnownBytes.{Appends}
 use Rattle.vx_value.specs.Columns.{Batch}
 use Rattle.vx_tree.specs.Faults.{HasNoFault}
 use Rattle.vx_tree.specs.Views.{bound_of}
 use Rattle.vx_prune_tree.specs.Verdicts.{IsTrueVerdict}
-use Rattle.vx_records.specs.Chunks.{IsNoFault}
+use Rattle.vx_records.specs.Chunks.{IsFaultThere}
 use Rattle.vx_records.specs.Outcomes.{Breaks}
+use Rattle.vx_records.specs.declared.error.RecordsError.TheVariants.{OutOfMemory}
+use Rattle.vx_records.proofs.Going.{reads_none}
 use Rattle.vx_records.proofs.Keeping.{count_of}
-use Rattle.vx_records.proofs.Stopping.{fault_there, next_reads, no_fault_there, on_failed, step_next, stops_broken, stops_first, stops_next}
+use Rattle.vx_records.proofs.Stopping.{fault_there, next_reads, on_failed, step_next, stops_broken, stops_first, stops_next}
 use Rattle.vx_records.proofs.Tallying.{tally_read, within_chunk}
 use Rattle.vx_records.proofs.Verdicts.{as_many, chunk_kept}
 use Rattle.vx_records.proofs.chunked.filter_chunk.Goals as goal
 
 pub returns-in_err-batch-clause-stopped : goal.returns-in_err-batch-clause-stopped
 returns-in_err-batch-clause-stopped g c =
-    let e = c.in_err-batch.field-0.0 in
-    let failed : c.from_residual.result ≡ Err e = search rules in
-    on_failed _ e _ failed (stops_first g.R.RecordReader.leaves _ _ e _ _ (λ never. Appends-nil (g.W.Write.contents c.args.out.now)) (no_fault_there g.R.RecordReader.leaves _ _ e c.in_err-batch.ensures.err))
+    let failed : c.from_residual.result ≡ Err OutOfMemory = search rules in
+    on_failed _ OutOfMemory _ failed (c.args.records.now, [], reads_none (g.R.RecordReader.leaves c.args.records.now), λ never. Appends-nil (g.W.Write.contents c.args.out.now))
 
 pub returns-in_err-verdict-clause-stopped : goal.returns-in_err-verdict-clause-stopped
 returns-in_err-verdict-clause-stopped g c =
     let e = c.in_err-verdict.field-0.0 in
     let failed : c.from_residual-in_err-verdict.result ≡ Err e = search rules in
-    on_failed _ e _ failed (stops_first g.R.RecordReader.leaves _ _ e _ _ (λ never. Appends-nil (g.W.Write.contents c.args.out.now)) (no_fault_there g.R.RecordReader.leaves _ _ e (subst IsNoFault (sym c.in_err-verdict.ensures.err) tt)))
+    on_failed _ e _ failed (stops_first g.R.RecordReader.leaves _ _ e _ _ (λ never. Appends-nil (g.W.Write.contents c.args.out.now)) (subst (IsFaultThere g.R.RecordReader.leaves (bound_of c.args.condition.now.tree.now) c.args.records.now) (sym c.in_err-verdict.ensures.err) tt))
 
 pub returns-in_err-lines-clause-stopped : goal.returns-in_err-lines-clause-stopped
 returns-in_err-lines-clause-stopped g c =
