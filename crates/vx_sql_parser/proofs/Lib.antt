@@ -2,6 +2,8 @@ pub mod Boundaries
 pub mod ByteTexts
 pub mod CommentEnds
 pub mod EscapedTexts
+pub mod GlobParts
+pub mod ByteEscapes
 pub mod PatternsSpelled
 pub mod ReadBack
 pub mod TokensAhead

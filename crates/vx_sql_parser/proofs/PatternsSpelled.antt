@@ -7,7 +7,7 @@ use Rattle.vx_sql_parser.specs.Patterns.{is_that, is_sign, put, behind, respelle
 at_place : (p : List ℕ) (i : ℕ) → i < length p → drop i p ≡ get_or p i 0 ∷ drop (i + 1) p
 at_place p i h = rw add-one (drop-cons p i 0 h)
 
-behind_behind : (cs ds : List ℕ) (o : Option (List ℕ)) → behind cs (behind ds o) ≡ behind (cs ++ ds) o
+pub behind_behind : (cs ds : List ℕ) (o : Option (List ℕ)) → behind cs (behind ds o) ≡ behind (cs ++ ds) o
 behind_behind cs ds None = refl
 behind_behind cs ds (Some more) = ap Some (sym (append_assoc cs ds more))
 

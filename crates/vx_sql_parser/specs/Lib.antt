@@ -1,6 +1,7 @@
 pub mod SqlTokens
 pub mod Words
 pub mod Types
+pub mod Globs
 pub mod Patterns
 pub mod Rules
 pub mod RuleViews

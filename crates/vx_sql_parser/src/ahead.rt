@@ -84,6 +84,16 @@ pub(crate) fn is_text_at(tokens: &[Lexed], i: usize) -> bool
     matches!(token_at(tokens, i), Some(Token::Text(_)))
 }
 
+// Whether that text stands there.
+pub(crate) fn is_this_text(tokens: &[Lexed], i: usize, text: &str) -> bool
+    ensures { result ≡ rules.is_this_text (lexemes_of tokens.now) i text.now }
+{
+    match text_at(tokens, i) {
+        Some(found) => found == text,
+        None => false,
+    }
+}
+
 pub(crate) fn opens_at(tokens: &[Lexed], i: usize) -> bool
     ensures { result ≡ rules.opens (rules.sign_at (lexemes_of tokens.now) i) }
 {
@@ -94,6 +104,12 @@ pub(crate) fn closes_at(tokens: &[Lexed], i: usize) -> bool
     ensures { result ≡ rules.closes (rules.sign_at (lexemes_of tokens.now) i) }
 {
     matches!(sign_at(tokens, i), Some(Sign::CloseParen))
+}
+
+pub(crate) fn is_comma_at(tokens: &[Lexed], i: usize) -> bool
+    ensures { result ≡ rules.is_comma (rules.sign_at (lexemes_of tokens.now) i) }
+{
+    matches!(sign_at(tokens, i), Some(Sign::Comma))
 }
 
 pub(crate) fn is_dot_at(tokens: &[Lexed], i: usize) -> bool

@@ -1,27 +1,39 @@
-// Functions: casts, bytes, and the fill of a `coalesce`.
-ghost use Rattle.std.specs.Prelude.{◌≡◌, ◌<◌, IfOk, option_map, string_bytes};
+// Functions: casts, bytes, the fill of a `coalesce`, and those that ignore the case of letters.
+ghost use Rattle.std.specs.Prelude.{◌≡◌, IfOk, option_map};
 ghost use Rattle.vx_sql_parser.specs.Rules as rules;
 ghost use Rattle.vx_sql_parser.specs.RuleViews.{Answers};
-ghost use Rattle.vx_sql_parser.specs.Views.{lexemes_of};
+ghost use Rattle.vx_sql_parser.specs.Views.{lexeme_in, lexemes_of};
 
-use crate::ahead::{closes_at, is_word_at, text_at, token_at};
-use crate::casts::{cast, literal_cast};
+use crate::ahead::{closes_at, opens_at, text_at};
+use crate::casts::cast;
+use crate::folds::translated;
 use crate::keywords::{is, is_truth};
 use crate::lexed::Lexed;
-use crate::names::octets_said;
+use crate::names::{octets_said, typed_text};
 use crate::reason::Unread;
 use crate::step::{Bracket, Change, Step, Stop, says};
 use std::alloc::{AllocError, Global};
 use vx_source_types::Token;
 use vx_sql::Dialect;
 
-// The function of that name, whose bracket is the first token.
-pub(crate) fn call(
+// A call, or a word before a text.
+pub(crate) fn valued(
     alloc: Global,
     dialect: Dialect,
     word: &str,
     tokens: &[Lexed],
 ) -> Result<Step, Stop>
+    ensures { Answers result (rules.valued_rule dialect word.now (lexemes_of tokens.now)) }
+{
+    if opens_at(tokens, 0) {
+        call(alloc, dialect, word, tokens)
+    } else {
+        typed_text(alloc, dialect, word, tokens)
+    }
+}
+
+// The function of that name, whose bracket is the first token.
+fn call(alloc: Global, dialect: Dialect, word: &str, tokens: &[Lexed]) -> Result<Step, Stop>
     ensures { Answers result (rules.call_rule dialect word.now (lexemes_of tokens.now)) }
 {
     if is(word, "cast") {
@@ -31,7 +43,22 @@ pub(crate) fn call(
     } else if is(word, "decode") {
         decode(alloc, dialect, tokens)
     } else {
-        Err(Stop::Unread(Unread::Function))
+        fold_call(alloc, dialect, word)
+    }
+}
+
+// The functions that ignore the case of ASCII letters, before a match.
+fn fold_call(alloc: Global, dialect: Dialect, word: &str) -> Result<Step, Stop>
+    ensures { Answers result (rules.fold_call dialect word.now) }
+{
+    match dialect {
+        Dialect::Postgres if is(word, "lower") => {
+            says(alloc, "(", Change::Opens(Bracket::Lower), 1)
+        }
+        Dialect::DuckDb | Dialect::Spark if is(word, "translate") => {
+            says(alloc, "(", Change::Opens(Bracket::Translate), 1)
+        }
+        _ => Err(Stop::Unread(Unread::Function)),
     }
 }
 
@@ -63,32 +90,49 @@ pub(crate) fn comma(
 ) -> Result<Step, Stop>
     ensures { Answers result (rules.comma_rule dialect (option_map (λ b. b.now) top.entry) (lexemes_of tokens.now)) }
 {
-    if matches!(top, Some(Bracket::Fill)) && !is_fill(alloc, dialect, tokens)? {
-        return Err(Stop::Unread(Unread::Fill));
+    match top {
+        Some(Bracket::Translate) => translated(alloc, dialect, tokens),
+        Some(Bracket::Fill) if !is_fill(alloc, dialect, tokens)? => {
+            Err(Stop::Unread(Unread::Fill))
+        }
+        _ => says(alloc, ",", Change::Divides, 0),
     }
-    says(alloc, ",", Change::Divides, 0)
 }
 
 // Whether a literal stands at the front and then a closing bracket.
 fn is_fill(alloc: Global, dialect: Dialect, tokens: &[Lexed]) -> Result<bool, AllocError>
     ensures { IfOk result (λ b. b ≡ rules.is_fill dialect (lexemes_of tokens.now)) }
 {
-    if is_value_at(tokens) && closes_at(tokens, 1) {
+    let [first, rest @ ..] = tokens else {
+        return Ok(false);
+    };
+    if is_value(first) && closes_at(rest, 0) {
         return Ok(true);
     }
-    if !(is_word_at(tokens, 0, "cast") && closes_at(tokens, 6)) {
-        return Ok(false);
+    match &first.token {
+        Ok(Token::Word(word)) => ends_value(valued(alloc, dialect, word.as_str(), rest), rest),
+        _ => Ok(false),
     }
-    Ok(literal_cast(alloc, dialect, tokens, 1)?.is_some())
 }
 
-// Whether the first token is a literal by itself.
-fn is_value_at(tokens: &[Lexed]) -> bool
-    ensures { result ≡ rules.is_value (rules.lexeme_at (lexemes_of tokens.now) 0) }
+// Whether the token is a literal by itself.
+fn is_value(token: &Lexed) -> bool
+    ensures { result ≡ rules.is_value (lexeme_in token.now) }
 {
-    match token_at(tokens, 0) {
-        Some(Token::Text(_)) | Some(Token::Number { .. }) => true,
-        Some(Token::Word(word)) => is_truth(word.as_str()),
+    match &token.token {
+        Ok(Token::Text(_)) | Ok(Token::Number { .. }) => true,
+        Ok(Token::Word(word)) => is_truth(word.as_str()),
         _ => false,
+    }
+}
+
+// Whether what is said of a word is a literal, no bracket, and then a bracket closes.
+fn ends_value(said: Result<Step, Stop>, tokens: &[Lexed]) -> Result<bool, AllocError>
+    ensures { (answer : rules.Answer) → Answers said answer → IfOk result (λ b. b ≡ rules.ends_value answer (lexemes_of tokens.now)) }
+{
+    match said {
+        Ok(step) => Ok(matches!(step.change, Change::Stays) && closes_at(tokens, step.more)),
+        Err(Stop::OutOfMemory) => Err(AllocError),
+        Err(Stop::Unread(_)) => Ok(false),
     }
 }

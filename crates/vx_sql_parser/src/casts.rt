@@ -9,6 +9,8 @@ use crate::ahead::{closes_at, is_word_at, token_at, word_at};
 use crate::keywords::is;
 use crate::lexed::Lexed;
 use crate::names::sign_of;
+use crate::octets::escape_digits;
+use crate::patterns::as_source;
 use crate::reason::Unread;
 use crate::step::{Bracket, Change, Step, Stop, says, stepped};
 use crate::types::type_named;
@@ -33,23 +35,24 @@ pub(crate) fn literal_cast(
     tokens: &[Lexed],
     i: usize,
 ) -> Result<Option<String>, AllocError>
-    requires { i < 2 }
+    requires { i < 8 }
     ensures { IfOk result (λ t. option_map string_bytes t ≡ rules.literal_cast dialect (lexemes_of tokens.now) i) }
 {
     if !(is_word_at(tokens, i + 2, "as") && closes_at(tokens, i + 4)) {
         return Ok(None);
     }
     let dtype = typed(dialect, word_at(tokens, i + 3));
-    typed_literal(alloc, token_at(tokens, i + 1), dtype)
+    typed_literal(alloc, dialect, token_at(tokens, i + 1), dtype)
 }
 
 // The literal that the token is as one of that type.
 fn typed_literal(
     alloc: Global,
+    dialect: Dialect,
     token: Option<&Token>,
     dtype: Option<&'static str>,
 ) -> Result<Option<String>, AllocError>
-    ensures { IfOk result (λ t. option_map string_bytes t ≡ rules.typed_literal (option_map (λ x. lexeme_of x.now) token.entry) (option_map (λ t. t.now) dtype.entry)) }
+    ensures { IfOk result (λ t. option_map string_bytes t ≡ rules.typed_literal dialect (option_map (λ x. lexeme_of x.now) token.entry) (option_map (λ t. t.now) dtype.entry)) }
 {
     match token {
         Some(
@@ -58,25 +61,52 @@ fn typed_literal(
                 magnitude: Some(n),
                 ..
             },
-        ) => typed_number(alloc, *negative, *n, dtype),
+        ) => typed_number(alloc, dialect, sign_of(*negative), *n, dtype),
         Some(Token::Word(null)) if is(null.as_str(), "null") => typed_null(alloc, dtype),
+        Some(Token::Text(text)) if is_bytes_type(dialect, dtype) => {
+            let digits = escape_digits(alloc, text.as_str().as_bytes())?;
+            as_source(alloc, digits)
+        }
         _ => Ok(None),
     }
 }
 
 fn typed_number(
     alloc: Global,
-    negative: bool,
+    dialect: Dialect,
+    sign: &str,
     n: u64,
     dtype: Option<&'static str>,
 ) -> Result<Option<String>, AllocError>
-    ensures { IfOk result (λ t. option_map string_bytes t ≡ rules.typed_number negative n (option_map (λ t. t.now) dtype.entry)) }
+    ensures { IfOk result (λ t. option_map string_bytes t ≡ rules.typed_number dialect sign.now n (option_map (λ t. t.now) dtype.entry)) }
 {
     let Some(dtype) = dtype else {
         return Ok(None);
     };
-    let sign = sign_of(negative);
+    if is_of_all(dialect, dtype) {
+        return Ok(Some(format!(in alloc; "{sign}{n}")?));
+    }
     Ok(Some(format!(in alloc; "{sign}{n}::{dtype}")?))
+}
+
+// Whether the type is the one of all numbers, as SQLite's.
+fn is_of_all(dialect: Dialect, dtype: &str) -> bool
+    ensures { result ≡ rules.is_of_all dialect dtype.now }
+{
+    match dialect {
+        Dialect::Sqlite => is(dtype, "i64"),
+        Dialect::Postgres | Dialect::DuckDb | Dialect::Spark => false,
+    }
+}
+
+// Whether the type is that of DuckDB's bytes.
+fn is_bytes_type(dialect: Dialect, dtype: Option<&'static str>) -> bool
+    ensures { result ≡ rules.is_bytes_type dialect (option_map (λ t. t.now) dtype.entry) }
+{
+    match (dialect, dtype) {
+        (Dialect::DuckDb, Some(dtype)) => is(dtype, "binary"),
+        _ => false,
+    }
 }
 
 fn typed_null(alloc: Global, dtype: Option<&'static str>) -> Result<Option<String>, AllocError>

@@ -1,5 +1,5 @@
-// LIKE and ILIKE.
-ghost use Rattle.std.specs.Prelude.{◌≡◌, option_map, string_bytes};
+// LIKE, ILIKE and GLOB.
+ghost use Rattle.std.specs.Prelude.{◌≡◌, ◌<◌, ◌≤◌, Some, option_map, string_bytes};
 ghost use Rattle.std.specs.Char.{is_ascii};
 ghost use Rattle.std.specs.List.{list_all};
 ghost use Rattle.vx_sql_parser.specs.Patterns.{pattern_source};
@@ -7,7 +7,9 @@ ghost use Rattle.vx_sql_parser.specs.Rules as rules;
 ghost use Rattle.vx_sql_parser.specs.RuleViews.{Answers};
 ghost use Rattle.vx_sql_parser.specs.Views.{lexemes_of};
 
-use crate::ahead::{is_word_at, text_at};
+use crate::ahead::{is_text_at, is_word_at, text_at};
+use crate::casts::literal_cast;
+use crate::globs::glob_source;
 use crate::lexed::Lexed;
 use crate::patterns::{default_escape, ignores_case, is_escape, pattern_source};
 use crate::quotes::QuotedText;
@@ -16,22 +18,64 @@ use crate::step::{Change, Step, Stop, stepped};
 use std::alloc::Global;
 use vx_sql::Dialect;
 
-// A match, with the case of letters ignored or not, of the pattern that the first token is.
+// A match, with the case of letters ignored or not, of the pattern at that place.
 pub(crate) fn like(
     alloc: Global,
     dialect: Dialect,
     ignores: bool,
     tokens: &[Lexed],
+    i: usize,
 ) -> Result<Step, Stop>
-    ensures { Answers result (rules.like_rule dialect ignores (lexemes_of tokens.now)) }
+    requires { i < 7 }
+    ensures { Answers result (rules.like_rule dialect ignores (lexemes_of tokens.now) i) }
 {
-    let Some(pattern) = text_at(tokens, 0) else {
-        return Err(Stop::Unread(Unread::Pattern));
+    let Some(pattern) = text_at(tokens, i) else {
+        return null_pattern(alloc, dialect, ignores, tokens, i);
     };
-    if is_word_at(tokens, 1, "escape") {
-        escaped(alloc, ignores, pattern, text_at(tokens, 2))
+    if !is_word_at(tokens, i + 1, "escape") {
+        return matched(alloc, ignores, default_escape(dialect), pattern, i + 1);
+    }
+    match escape_in(text_at(tokens, i + 2)) {
+        Some(escape) => matched(alloc, ignores, Some(escape), pattern, i + 3),
+        None => Err(Stop::Unread(Unread::Escape)),
+    }
+}
+
+// A match of a pattern that is null, whatever the escape.
+fn null_pattern(
+    alloc: Global,
+    dialect: Dialect,
+    ignores: bool,
+    tokens: &[Lexed],
+    i: usize,
+) -> Result<Step, Stop>
+    requires { i < 7 }
+    ensures { Answers result (rules.null_pattern dialect ignores (lexemes_of tokens.now) i) }
+{
+    if !(is_word_at(tokens, i, "cast") && is_word_at(tokens, i + 2, "null")) {
+        return Err(Stop::Unread(Unread::Pattern));
+    }
+    match literal_cast(alloc, dialect, tokens, i + 1)? {
+        Some(null) => {
+            let word = like_word(ignores);
+            let text = format!(in alloc; "{word}{null}")?;
+            let more = i + 6 + escape_len(tokens, i + 6);
+            Ok(stepped(text, Change::Stays, more))
+        }
+        None => Err(Stop::Unread(Unread::Pattern)),
+    }
+}
+
+// How many tokens say an escape.
+fn escape_len(tokens: &[Lexed], i: usize) -> usize
+    requires { i < 13 }
+    ensures len { result ≡ rules.escape_len (lexemes_of tokens.now) i }
+    ensures few { result ≤ 2 }
+{
+    if is_word_at(tokens, i, "escape") && is_text_at(tokens, i + 1) {
+        2
     } else {
-        matched(alloc, ignores, default_escape(dialect), pattern, 1)
+        0
     }
 }
 
@@ -45,7 +89,26 @@ pub(crate) fn ilike(alloc: Global, dialect: Dialect, tokens: &[Lexed]) -> Result
     if !is_ascii_text(text_at(tokens, 0)) {
         return Err(Stop::Unread(Unread::Case));
     }
-    like(alloc, dialect, true, tokens)
+    like(alloc, dialect, true, tokens, 0)
+}
+
+// A match of a pattern of SQLite's GLOB.
+pub(crate) fn glob(alloc: Global, dialect: Dialect, tokens: &[Lexed]) -> Result<Step, Stop>
+    ensures { Answers result (rules.glob_rule dialect (lexemes_of tokens.now)) }
+{
+    let Dialect::Sqlite = dialect else {
+        return Err(Stop::Unread(Unread::Word));
+    };
+    let Some(pattern) = text_at(tokens, 0) else {
+        return null_pattern(alloc, dialect, false, tokens, 0);
+    };
+    if let Some(made) = glob_source(alloc, false, pattern)? {
+        return likes(alloc, false, made.as_str(), 1);
+    }
+    match glob_source(alloc, true, pattern)? {
+        Some(made) => likes(alloc, true, made.as_str(), 1),
+        None => Err(Stop::Unread(Unread::Glob)),
+    }
 }
 
 // Whether the text, if it is one, has characters of ASCII alone.
@@ -69,20 +132,17 @@ fn are_ascii(bytes: &[u8]) -> bool
     true
 }
 
-// The same where that text is the escape.
-fn escaped(alloc: Global, ignores: bool, pattern: &str, escape: Option<&str>) -> Result<Step, Stop>
-    ensures { Answers result (rules.escape_said ignores pattern.now (option_map (λ s. s.now) escape.entry)) }
+// The escape that the text is.
+fn escape_in(text: Option<&str>) -> Option<u8>
+    ensures { result ≡ rules.escape_in (option_map (λ s. s.now) text.entry) }
 {
-    let Some(escape) = escape else {
-        return Err(Stop::Unread(Unread::Escape));
-    };
-    let [c] = escape.as_bytes() else {
-        return Err(Stop::Unread(Unread::Escape));
-    };
-    if !is_escape(*c) {
-        return Err(Stop::Unread(Unread::Escape));
+    match text {
+        Some(text) => match text.as_bytes() {
+            [c] if is_escape(*c) => Some(*c),
+            _ => None,
+        },
+        None => None,
     }
-    matched(alloc, ignores, Some(*c), pattern, 3)
 }
 
 // The pattern, which takes so many tokens, where that character, if any, makes the one behind it stand for itself.
@@ -96,13 +156,18 @@ fn matched(
     ensures { Answers result (rules.pattern_said ignores escape pattern.now more) }
 {
     match pattern_source(alloc, escape, pattern)? {
-        Some(made) => {
-            let (word, made) = (like_word(ignores), QuotedText(made.as_str()));
-            let text = format!(in alloc; "{word}{made}")?;
-            Ok(stepped(text, Change::Stays, more))
-        }
+        Some(made) => likes(alloc, ignores, made.as_str(), more),
         None => Err(Stop::Unread(Unread::Escape)),
     }
+}
+
+// A match of that pattern of source text.
+fn likes(alloc: Global, ignores: bool, pattern: &str, more: usize) -> Result<Step, Stop>
+    ensures { Answers result (rules.like_said ignores more (Some pattern.now)) }
+{
+    let (word, pattern) = (like_word(ignores), QuotedText(pattern));
+    let text = format!(in alloc; "{word}{pattern}")?;
+    Ok(stepped(text, Change::Stays, more))
 }
 
 fn like_word(ignores: bool) -> &'static str

@@ -1,4 +1,4 @@
-// Names, numbers, bytes and collations.
+// Names, numbers and bytes.
 ghost use Rattle.std.specs.Prelude.{◌≡◌, option_map};
 ghost use Rattle.vx_source_types.specs.Characters.{is_word};
 ghost use Rattle.vx_sql_parser.specs.Rules as rules;
@@ -6,14 +6,13 @@ ghost use Rattle.vx_sql_parser.specs.RuleViews.{Answers};
 ghost use Rattle.vx_sql_parser.specs.Views.{lexemes_of};
 ghost use Rattle.std.specs.List.{list_all};
 
-use crate::ahead::{is_dot_at, text_at, token_at};
-use crate::keywords::{is, is_one_of};
+use crate::ahead::{is_dot_at, text_at};
+use crate::keywords::is;
 use crate::lexed::Lexed;
 use crate::quotes::QuotedName;
 use crate::reason::Unread;
-use crate::step::{Change, Step, Stop, says, stepped};
+use crate::step::{Change, Step, Stop, stepped};
 use std::alloc::Global;
-use vx_source_types::Token;
 use vx_sql::Dialect;
 
 // A name, behind which no other stands.
@@ -95,30 +94,9 @@ fn are_words(bytes: &[u8]) -> bool
     true
 }
 
-fn is_word(b: u8) -> bool
+pub(crate) fn is_word(b: u8) -> bool
     ensures { result ≡ is_word b }
 {
     ((b >= b'a' && b <= b'z') || ((b >= b'A' && b <= b'Z') || b == b'_'))
         || (b >= b'0' && b <= b'9')
-}
-
-// A collation, which isn't written where it is the one of bytes.
-pub(crate) fn collate_rule(alloc: Global, behind: &[Lexed]) -> Result<Step, Stop>
-    ensures { Answers result (rules.collate_rule (lexemes_of behind.now)) }
-{
-    if is_bytes_order(behind) {
-        says(alloc, "", Change::Stays, 1)
-    } else {
-        Err(Stop::Unread(Unread::Collation))
-    }
-}
-
-fn is_bytes_order(behind: &[Lexed]) -> bool
-    ensures { result ≡ rules.is_bytes_order (rules.lexeme_at (lexemes_of behind.now) 0) }
-{
-    match token_at(behind, 0) {
-        Some(Token::Quoted(name)) => is(name.as_str(), "C"),
-        Some(Token::Word(word)) => is_one_of(word.as_str(), &["binary", "utf8_binary"]),
-        _ => false,
-    }
 }

@@ -41,7 +41,7 @@ fn is_that(escape: Option<u8>, c: u8) -> bool
 }
 
 // Whether source text has a backslash before the character where it stands for itself.
-fn is_sign(c: u8) -> bool
+pub(crate) fn is_sign(c: u8) -> bool
     ensures { result ≡ patterns.is_sign c }
 {
     c == b'%' || (c == b'_' || c == b'\\')
@@ -55,11 +55,19 @@ pub(crate) fn pattern_source(
 ) -> Result<Option<String>, AllocError>
     ensures { IfOk result (λ p. option_map (λ s. string_bytes s) p ≡ patterns.pattern_source escape pattern.now) }
 {
-    match respelled(alloc, escape, pattern.as_bytes())? {
-        Some(made) => match as_text(made.as_slice()) {
-            Some(text) => Ok(Some(String::from_str(alloc, text)?)),
-            None => Ok(None),
-        },
+    let made = respelled(alloc, escape, pattern.as_bytes())?;
+    as_source(alloc, made)
+}
+
+// The bytes as a text.
+pub(crate) fn as_source(alloc: Global, made: Option<Vec<u8>>) -> Result<Option<String>, AllocError>
+    ensures { IfOk result (λ p. option_map (λ s. string_bytes s) p ≡ patterns.as_text (option_map items_in made)) }
+{
+    let Some(made) = made else {
+        return Ok(None);
+    };
+    match as_text(made.as_slice()) {
+        Some(text) => Ok(Some(String::from_str(alloc, text)?)),
         None => Ok(None),
     }
 }
@@ -91,7 +99,7 @@ fn respelled(
 }
 
 // Adds the character, behind a backslash or not.
-fn put(made: &mut Vec<u8>, escaped: bool, c: u8) -> Result<(), AllocError>
+pub(crate) fn put(made: &mut Vec<u8>, escaped: bool, c: u8) -> Result<(), AllocError>
     ensures { OnOk result (made.new.items ≡ made.old.items ++ patterns.put escaped c) }
 {
     if escaped {

@@ -46,6 +46,9 @@ pub enum Unread {
     /// The escape of a pattern.
     #[error("the escape is one ASCII character, no `%` and no `_`, and stands before one of these or itself")]
     Escape,
+    /// Brackets in a pattern of `glob` that aren't read.
+    #[error("between the brackets of `glob` stands one character or, as for all letters then, a small letter and its capital")]
+    Glob,
     /// A pattern of `ilike` with other letters than those of ASCII.
     #[error("the case of ASCII letters alone is ignored, and the pattern has other characters")]
     Case,

@@ -6,13 +6,14 @@ ghost use Rattle.vx_sql_parser.specs.RuleViews.{Answers};
 ghost use Rattle.vx_sql_parser.specs.Views.{lexeme_in, lexemes_of};
 
 use crate::ahead::{is_text_at, is_word_at, opens_at};
-use crate::calls::{call, comma};
+use crate::calls::{comma, valued};
 use crate::cases::{case_begins, then_said, when_said};
 use crate::casts::as_type;
+use crate::folds::{closing, collate_rule};
 use crate::keywords::{is, is_divider, is_plain_word, is_reserved};
 use crate::lexed::Lexed;
-use crate::likes::{ilike, like};
-use crate::names::{collate_rule, name_rule, number_rule, typed_text};
+use crate::likes::{glob, ilike, like};
+use crate::names::{name_rule, number_rule};
 use crate::patterns::ignores_case;
 use crate::quotes::QuotedText;
 use crate::reason::Unread;
@@ -49,7 +50,7 @@ impl Translation {
                 ..
             } => number_rule(alloc, *negative, *n, behind),
             Token::Sign(Sign::Comma) => comma(alloc, self.dialect, self.state.innermost(), behind),
-            Token::Sign(sign) => sign_rule(alloc, self.state.chained, *sign),
+            Token::Sign(sign) => self.sign_rule(alloc, *sign),
             _ => Err(Stop::Unread(Unread::Sign)),
         }
     }
@@ -66,16 +67,18 @@ impl Translation {
         }
     }
 
-    // `is`, `like`, `ilike` and `as`.
+    // `is`, `like`, `ilike`, `glob` and `as`.
     fn keyword_rule(&self, alloc: Global, word: &str, behind: &[Lexed]) -> Result<Step, Stop>
         ensures { Answers result (rules.keyword_rule self.now.dialect (rules.innermost self.now.state.brackets.items) word.now (lexemes_of behind.now)) }
     {
         if is(word, "is") {
             is_rule(alloc, behind)
         } else if is(word, "like") {
-            like(alloc, self.dialect, ignores_case(self.dialect), behind)
+            like(alloc, self.dialect, ignores_case(self.dialect), behind, 0)
         } else if is(word, "ilike") {
             ilike(alloc, self.dialect, behind)
+        } else if is(word, "glob") {
+            glob(alloc, self.dialect, behind)
         } else if is(word, "as") {
             as_type(alloc, self.dialect, behind)
         } else {
@@ -97,7 +100,41 @@ impl Translation {
         } else if is(word, "end") {
             says(alloc, "end", Change::Closes, 0)
         } else {
-            other_rule(alloc, self.dialect, word, behind)
+            self.other_rule(alloc, word, behind)
+        }
+    }
+
+    // A name, a function, or a word that isn't read.
+    fn other_rule(&self, alloc: Global, word: &str, behind: &[Lexed]) -> Result<Step, Stop>
+        ensures { Answers result (rules.other_rule self.now.dialect (rules.innermost self.now.state.brackets.items) word.now (lexemes_of behind.now)) }
+    {
+        if is_reserved(word) {
+            Err(Stop::Unread(Unread::Word))
+        } else if opens_at(behind, 0) || is_text_at(behind, 0) {
+            valued(alloc, self.dialect, word, behind)
+        } else if is(word, "collate") {
+            collate_rule(alloc, self.dialect, self.state.innermost(), behind)
+        } else {
+            name_rule(alloc, word, behind)
+        }
+    }
+
+    // A sign, no comma.
+    fn sign_rule(&self, alloc: Global, sign: Sign) -> Result<Step, Stop>
+        ensures { Answers result (rules.sign_rule (rules.innermost self.now.state.brackets.items) self.now.state.chained sign) }
+    {
+        match sign {
+            Sign::OpenParen => says(alloc, "(", Change::Opens(Bracket::Paren), 0),
+            Sign::CloseParen => closing(alloc, self.state.innermost()),
+            Sign::Dot => says(alloc, ".", Change::Stays, 0),
+            Sign::Equal | Sign::DoubleEqual => says(alloc, "=", Change::Stays, 0),
+            Sign::NotEqual => says(alloc, "<>", Change::Stays, 0),
+            Sign::Less => chain_rule(alloc, self.state.chained, "<"),
+            Sign::LessEqual => chain_rule(alloc, self.state.chained, "<="),
+            Sign::Greater => says(alloc, ">", Change::Stays, 0),
+            Sign::GreaterEqual => says(alloc, ">=", Change::Stays, 0),
+            Sign::Plus => says(alloc, "+", Change::Stays, 0),
+            _ => Err(Stop::Unread(Unread::Sign)),
         }
     }
 }
@@ -122,42 +159,6 @@ fn is_distinct(behind: &[Lexed], i: usize) -> bool
 {
     is_word_at(behind, i, "distinct")
         && (is_word_at(behind, i + 1, "from") && is_word_at(behind, i + 2, "null"))
-}
-
-// A name, a function, or a word that isn't read.
-fn other_rule(alloc: Global, dialect: Dialect, word: &str, behind: &[Lexed]) -> Result<Step, Stop>
-    ensures { Answers result (rules.other_rule dialect word.now (lexemes_of behind.now)) }
-{
-    if is_reserved(word) {
-        Err(Stop::Unread(Unread::Word))
-    } else if opens_at(behind, 0) {
-        call(alloc, dialect, word, behind)
-    } else if is_text_at(behind, 0) {
-        typed_text(alloc, dialect, word, behind)
-    } else if is(word, "collate") {
-        collate_rule(alloc, behind)
-    } else {
-        name_rule(alloc, word, behind)
-    }
-}
-
-// A sign, no comma.
-fn sign_rule(alloc: Global, chained: bool, sign: Sign) -> Result<Step, Stop>
-    ensures { Answers result (rules.sign_rule chained sign) }
-{
-    match sign {
-        Sign::OpenParen => says(alloc, "(", Change::Opens(Bracket::Paren), 0),
-        Sign::CloseParen => says(alloc, ")", Change::Closes, 0),
-        Sign::Dot => says(alloc, ".", Change::Stays, 0),
-        Sign::Equal | Sign::DoubleEqual => says(alloc, "=", Change::Stays, 0),
-        Sign::NotEqual => says(alloc, "<>", Change::Stays, 0),
-        Sign::Less => chain_rule(alloc, chained, "<"),
-        Sign::LessEqual => chain_rule(alloc, chained, "<="),
-        Sign::Greater => says(alloc, ">", Change::Stays, 0),
-        Sign::GreaterEqual => says(alloc, ">=", Change::Stays, 0),
-        Sign::Plus => says(alloc, "+", Change::Stays, 0),
-        _ => Err(Stop::Unread(Unread::Sign)),
-    }
 }
 
 // A `<` or `<=`, of which none stands before it: source text reads two as a range.

@@ -15,6 +15,10 @@ pub(crate) enum Bracket {
     Paren,
     /// The bracket of a `coalesce`.
     Fill,
+    /// The bracket of a `lower`, behind which a match ignores the case of letters.
+    Lower,
+    /// The same of a `translate`.
+    Translate,
     /// A CASE.
     Case,
     /// A CASE over the column of that name.
