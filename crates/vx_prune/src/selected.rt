@@ -9,6 +9,8 @@ ghost use Rattle.vx_tree.specs.Views.{bound_of};
 ghost use Rattle.vx_value.specs.Paths.{minimal_paths};
 ghost use Rattle.vx_value.specs.Views.{type_of, value_of};
 ghost use Rattle.vx_prune_tree.specs.Stats.{Describes};
+ghost use Rattle.vx_prune_tree.specs.Verdicts.{verdict_in};
+ghost use Rattle.vx_prune_tree.specs.declared.verdicts.Verdict.TheVariants.{Unknown};
 ghost use Rattle.vx_prune.specs.Selected.{IsRefusedWhereUnsure, IsSureWithout, SelectsRows};
 
 use std::alloc::Global;
@@ -23,7 +25,8 @@ use vx_types::{Column, DType, Value, VortexError, VortexResult};
 ///
 /// Where the statistics describe the batch and the source of the plan faults nowhere on it, the mask
 /// has the batch's length, and in each row whether the source is true there. Asks a reader that
-/// allows just the plan's paths, where its batch is of the plan's type.
+/// allows just the plan's paths, where its batch is of the plan's type, the plan's tree is of type bool
+/// and the verdict isn't sure.
 ///
 /// Refuses with `ScopeMismatch` (12) exactly where the batch is of another type than the plan's; else
 /// with `NotBool` (7) exactly where the plan's tree is of another type than bool; else, where the
@@ -34,7 +37,8 @@ pub fn select_rows<R: PathReader>(
     plan: &ScanPlan,
     stats: &ChunkStats,
 ) -> VortexResult<RowMask>
-    requires allowed { (R.batch reader.now).type ≡ type_of plan.now.scope → AreJust (R.allowed reader.now) (minimal_paths plan.now.paths) }
+    requires allowed { (R.batch reader.now).type ≡ type_of plan.now.scope → is_truth (node_type (bound_of plan.now.tree)) ≡ true →
+        verdict_in stats.now (bound_of plan.now.tree) ≡ Unknown → AreJust (R.allowed reader.now) (minimal_paths plan.now.paths) }
     ensures mismatch { (R.batch reader.now).type ≢ type_of plan.now.scope → IsErrOf result ScopeMismatch }
     ensures not_bool { (R.batch reader.now).type ≡ type_of plan.now.scope → is_truth (node_type (bound_of plan.now.tree)) ≡ false → IsErrOf result NotBool }
     ensures rows { (R.batch reader.now).type ≡ type_of plan.now.scope → is_truth (node_type (bound_of plan.now.tree)) ≡ true →

@@ -92,3 +92,13 @@ returns-in-Err g c =
     let exact : c.verdict.result ≡ verdict_in facts u = subst (λ t. c.verdict.result ≡ verdict_in facts (bound_of t)) c.tree-2.ensures c.verdict.ensures.exact in
     let all = unread_selected s u facts batch c.verdict.result c.in-Err.e same truth c.in-Unknown.is exact (c.in-Err.ensures.meaning same) (c.in-Err.ensures.faults same) in
     record { mismatch = all.mismatch; not_bool = all.not_bool; rows = all.rows; faults = all.faults; sure = all.sure }
+
+pub scan-requires : goal.scan-requires
+scan-requires g c =
+    let plan = c.args.plan.now in
+    let u = bound_of plan.tree in
+    let facts = c.args.stats.now in
+    let typed : type_of c.dtype.result.now ≡ node_type u = c.dtype.ensures ∙ ap (λ t. node_type (bound_of t)) c.tree.ensures in
+    let truth : is_truth (node_type u) ≡ true = ap is_truth (sym typed) ∙ sym c.is_bool.ensures ∙ c.if-not-is_bool.false in
+    let exact : c.verdict.result ≡ verdict_in facts u = subst (λ t. c.verdict.result ≡ verdict_in facts (bound_of t)) c.tree-2.ensures c.verdict.ensures.exact in
+    record { allowed = λ same. c.requires.allowed same truth (sym exact ∙ c.in-Unknown.is) }
