@@ -1,5 +1,6 @@
 // Bytes of rows that lie in one buffer.
-ghost use Rattle.std.specs.Prelude.{◌≡◌, ◌≤◌, ◌<◌, ◌+◌, ◌-◌, IfOk, get_or, length, take, drop};
+ghost use Rattle.std.specs.Prelude.{◌≡◌, ◌≤◌, ◌<◌, ◌+◌, ◌-◌, IfOk, get_or, length, map, take, drop};
+ghost use Rattle.std.specs.List.{range_with_len};
 ghost use Rattle.vx_array.specs.Kinds.{span_at, spans_in};
 
 use crate::Part;
@@ -47,6 +48,13 @@ impl Spans {
     {
         let offsets = self.offsets.as_slice();
         cut(self.bytes.as_slice(), offsets[k], offsets[k + 1])
+    }
+
+    /// The offsets, and the bytes that they cut.
+    pub fn buffers(&self) -> (&[usize], &[u8])
+        ensures { spans_in self.now ≡ map (span_at result.0.now result.1.now) (range_with_len 0 (length result.0.now - 1)) }
+    {
+        (self.offsets.as_slice(), self.bytes.as_slice())
     }
 
     /// So many rows from one on, in the same buffers. Asks rows that are there.

@@ -2,7 +2,7 @@
 use Rattle.std.proofs.Common.{◌≡◌, ℕ, ◌<◌, ◌≤◌, ℤ, pos, List, [], ◌∷◌, map, length, get_or, refl, sym, ap, ◌∙◌, arith, Bool, true, false, Result, Ok, Err, Option, Some, None}
 use Rattle.std.specs.List.{range_with_len}
 use Rattle.std.proofs.Math.ListN.{replicate}
-use Rattle.std.specs.Prelude.{if◌then◌else◌, ◌&&◌, ◌+ℤ◌, not}
+use Rattle.std.specs.Prelude.{if◌then◌else◌, ◌&&◌, ◌+ℤ◌, not, is_some, MatchOption}
 use Rattle.std.proofs.lemmas.List.{length-map, get_or-map, get_or-replicate, get_or_default, length-replicate}
 use Rattle.vx_dtype.specs.declared.dtype.PType.{PType}
 use Rattle.vx_value.specs.Fits.{fits_ptype}
@@ -34,7 +34,7 @@ use Rattle.std.proofs.lemmas.List.FromFn.{length-map-range_with_len, get_or-map-
 number_at : {A : Type 0} (num : A → ℤ) (xs : List A) (k : ℕ) (x : A) → k < length xs → x ≡ get_or xs k x → get_or (map num xs) k (pos 0) ≡ num x
 number_at num xs k x lt is = get_or-map num xs k x (pos 0) lt ∙ ap num (sym is)
 
-some_at : {A : Type 0} (xs : List A) (k : ℕ) → k < length xs → (x : A) × (x ≡ get_or xs k x)
+pub some_at : {A : Type 0} (xs : List A) (k : ℕ) → k < length xs → (x : A) × (x ≡ get_or xs k x)
 some_at [] k lt = absurd (omega arith)
 some_at (x ∷ xs) k lt = (get_or (x ∷ xs) k x, get_or_default (x ∷ xs) k x (get_or (x ∷ xs) k x) lt)
 
@@ -160,3 +160,13 @@ number_before fits p q v ns m i r same left right long found =
       h.0 ∙ map_same (λ k. sum_of (get_or (lanes_rows q.rhs.now) k null) (get_or (lanes_rows q.lhs.now) k null)) (λ k. sum_of (get_or (lanes_rows q.lhs.now) k null) (get_or (lanes_rows q.rhs.now) k null)) (range_with_len 0 q.count) (λ k. sum_of-turned (get_or (lanes_rows q.rhs.now) k null) (get_or (lanes_rows q.lhs.now) k null)),
       (λ m k lt. ap (is_outside (ty (atomic (number p)) m ∷ [])) (sum_of-turned (get_or (lanes_rows q.lhs.now) k null) (get_or (lanes_rows q.rhs.now) k null)) ∙ h.1 m k lt),
     )
+
+-- nothing was found
+pub none_found : {P : Type 0} (Q : ℕ → Type 0) (r : Option ℕ) → is_some r ≡ false → MatchOption r P Q → P
+none_found Q (Some row) e is = cc
+none_found Q None e is = is
+
+-- a sum for which no flag is raised is held
+pub not_raised : (fit : Bool) → false ≡ not fit → fit ≡ true
+not_raised true e = refl
+not_raised false e = cc

@@ -238,3 +238,40 @@ numbers_put {A = A} number mask vs ws us news olds others xs ys old other many w
 
     counted : length us ≡ length vs
     counted = ap length valid ∙ length-chosen mask ws vs
+
+-- ---- numbers that are written over by a buffer's, by one number or by none
+
+-- a buffer's numbers, where they are valid
+pub part_put : {A : Type 0} (number : A → ℤ) (mask vs ws us : List Bool) (news olds part : List A) (v : Validity) (ys : List Datum) → number_rows vs (map number olds) ≡ ys → length vs ≡ length olds → length (shown v (map int (map number part))) ≡ length ys → length ws ≡ length ys →
+    ((k : ℕ) → k < length ys → get_or ws k false ≡ is_valid v k) → length news ≡ length olds → us ≡ chosen mask ws vs →
+    ((i : ℕ) (x : A) → i < length olds → get_or mask i false ≡ true → x ≡ get_or news i x → x ≡ get_or part i x) → ((i : ℕ) (x : A) → i < length olds → get_or mask i false ≡ false → x ≡ get_or news i x → x ≡ get_or olds i x) →
+    (length us ≡ length news) × (number_rows us (map number news) ≡ blended mask (shown v (map int (map number part))) ys)
+part_put number mask vs ws us news olds part v ys view many long wide each same valid on off =
+    let n = length ys in
+    let counted : n ≡ length vs = numbers_long number vs olds ys view in
+    let copied = numbers_copied number v part (take n part) ws n long wide each refl in
+    numbers_put number mask vs ws us news olds (take n part) (shown v (map int (map number part))) ys view copied.1 many (wide ∙ counted) copied.0 same valid
+    (λ i x lt e is. on i x lt e is ∙ sym (get_or-take n part i x (omega (arith, counted, many)))) off
+
+-- one number
+pub number_put : {A : Type 0} (number : A → ℤ) (mask vs ws us : List Bool) (news olds : List A) (x : A) (z : ℤ) (ys : List Datum) → number_rows vs (map number olds) ≡ ys → length vs ≡ length olds → length mask ≡ length ys → ws ≡ replicate (length mask) true → number x ≡ z → length news ≡ length olds → us ≡ chosen mask ws vs →
+    ((i : ℕ) (y : A) → i < length olds → get_or mask i false ≡ true → y ≡ get_or news i y → y ≡ x) → ((i : ℕ) (y : A) → i < length olds → get_or mask i false ≡ false → y ≡ get_or news i y → y ≡ get_or olds i y) →
+    (length us ≡ length news) × (number_rows us (map number news) ≡ blended mask (replicate (length ys) (int z)) ys)
+number_put number mask vs ws us news olds x z ys view many wide all is same valid on off =
+    let n = length ys in
+    let counted : n ≡ length vs = numbers_long number vs olds ys view in
+    let all_there : ws ≡ replicate n true = all ∙ ap (λ m. replicate m true) wide in
+    let ws_long : length ws ≡ n = ap length all_there ∙ length-replicate n true in
+    let shown_as = same_numbers number n x z ws (replicate n x) all_there (length-replicate n x) (λ i y lt here. here ∙ get_or-replicate n i x y lt) is in
+    numbers_put number mask vs ws us news olds (replicate n x) (replicate n (int z)) ys view shown_as many (ws_long ∙ counted) (ws_long ∙ sym (length-replicate n x)) same valid
+    (λ i y lt e here. on i y lt e here ∙ sym (get_or-replicate n i x y (omega (arith, counted, many)))) off
+
+-- null
+pub nulls_put : {A : Type 0} (number : A → ℤ) (mask vs ws us : List Bool) (olds : List A) (ys : List Datum) → number_rows vs (map number olds) ≡ ys → length vs ≡ length olds → length mask ≡ length ys → ws ≡ replicate (length mask) false → us ≡ chosen mask ws vs →
+    (length us ≡ length olds) × (number_rows us (map number olds) ≡ blended mask (replicate (length ys) null) ys)
+nulls_put number mask vs ws us olds ys view many wide none valid =
+    let n = length ys in
+    let counted : n ≡ length vs = numbers_long number vs olds ys view in
+    let none_there : ws ≡ replicate n false = none ∙ ap (λ m. replicate m false) wide in
+    let ws_long : length ws ≡ n = ap length none_there ∙ length-replicate n false in
+    numbers_put number mask vs ws us olds olds olds (replicate n null) ys view (null_numbers n ws (map number olds) none_there) many (ws_long ∙ counted) (ws_long ∙ counted ∙ many) refl valid (λ i y lt e here. here) (λ i y lt e here. here)

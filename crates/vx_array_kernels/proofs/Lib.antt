@@ -7,3 +7,7 @@ mod Added
 mod Where
 mod Cases
 mod Liked
+pub mod Alive
+pub mod Upward
+pub mod Along
+pub mod Quick

@@ -1,5 +1,5 @@
 // Rows that those of other columns are written over.
-ghost use Rattle.std.specs.Prelude.{◌≡◌, IfOk, IfSome, List, length};
+ghost use Rattle.std.specs.Prelude.{◌≡◌, IfOk, IfSome, List, length, true};
 ghost use Rattle.vx_value.specs.Types.{Datum};
 ghost use Rattle.vx_array.specs.Rows.{lanes_rows};
 ghost use Rattle.vx_array_kernels.specs.Choices.{blended};
@@ -18,11 +18,12 @@ pub trait Blend: Drop {
         requires { length (lanes_rows lanes.now) ≡ count }
         ensures { IfOk result (λ found. IfSome found (λ b. rows b ≡ lanes_rows lanes.now)) };
 
-    /// Writes the other's rows where the mask is true. Asks as many rows of all three.
-    fn put(&mut self, mask: &Bits, other: Self)
+    /// Writes other rows where the mask is true, and tells whether it could: where they are one value in all
+    /// rows or in a buffer of this kind. Asks as many rows of all three.
+    fn put(&mut self, alloc: Global, mask: &Bits, lanes: &Lanes) -> Result<bool, AllocError>
         requires mask { length mask.now ≡ length (rows self.old) }
-        requires other { length (rows other) ≡ length (rows self.old) }
-        ensures { rows self.new ≡ blended mask.now (rows other) (rows self.old) };
+        requires lanes { length (lanes_rows lanes.now) ≡ length (rows self.old) }
+        ensures { IfOk result (λ done. done ≡ true → rows self.new ≡ blended mask.now (lanes_rows lanes.now) (rows self.old)) };
 
     /// The rows as lanes.
     fn into_lanes(self, alloc: Global) -> Result<Lanes, AllocError>

@@ -144,14 +144,10 @@ fn put_where<B: Blend>(
     requires values { length (lanes_rows values.now) ≡ count }
     ensures { IfOk result (λ done. done ≡ true → B.rows rows.new ≡ chosen_rows count (lanes_rows condition.now) (lanes_rows values.now) (B.rows rows.old)) }
 {
-    let Some(mask) = mask_of(alloc, count, condition)? else {
-        return Ok(false);
-    };
-    let Some(values) = B::of(alloc, count, values)? else {
-        return Ok(false);
-    };
-    rows.put(&mask, values);
-    Ok(true)
+    match mask_of(alloc, count, condition)? {
+        Some(mask) => rows.put(alloc, &mask, values),
+        None => Ok(false),
+    }
 }
 
 // The same of rows of one kind.
@@ -165,9 +161,8 @@ fn fill_in<B: Blend>(alloc: Global, pair: Pair) -> Result<Option<Lanes>, AllocEr
     let Some(mut rows) = B::of(alloc, pair.count, pair.lhs)? else {
         return Ok(None);
     };
-    let Some(fills) = B::of(alloc, pair.count, pair.rhs)? else {
-        return Ok(None);
-    };
-    rows.put(&nulls, fills);
-    Ok(Some(rows.into_lanes(alloc)?))
+    if rows.put(alloc, &nulls, pair.rhs)? {
+        return Ok(Some(rows.into_lanes(alloc)?));
+    }
+    Ok(None)
 }

@@ -11,6 +11,7 @@ mod masks;
 mod nulls;
 mod number_rows;
 mod pair;
+mod reach;
 mod sums;
 mod truths;
 mod width;

@@ -1,8 +1,9 @@
 // Columns of numbers in a buffer, which others are written over.
-ghost use Rattle.std.specs.Prelude.{◌≡◌, IfOk, IfSome, length, map};
+ghost use Rattle.std.specs.Prelude.{◌≡◌, IfOk, IfSome, length, map, true};
 ghost use Rattle.vx_value.specs.Views.{value_of};
 ghost use Rattle.vx_array.specs.Shown.{shown};
-ghost use Rattle.vx_value.specs.Types.{int};
+ghost use Rattle.vx_array_kernels.specs.Choices.{blended};
+ghost use Rattle.vx_value.specs.Types.{int, null};
 ghost use Rattle.std.proofs.Math.ListN.{replicate};
 
 use crate::blend::Blend;
@@ -52,10 +53,19 @@ impl<T: Width> Blend for NumberRows<T> {
         }
     }
 
-    fn put(&mut self, mask: &Bits, other: NumberRows<T>) {
-        let numbers = other.numbers.as_slice();
-        write_where(self.numbers.as_mut_slice(), mask, |i| numbers[i]);
-        put_bits(&mut self.valid, mask, other.valid);
+    fn put(&mut self, alloc: Global, mask: &Bits, lanes: &Lanes) -> Result<bool, AllocError> {
+        match lanes {
+            Lanes::Numbers(numbers, validity) => match T::part(numbers) {
+                Some(part) => put_part(alloc, self, mask, part, validity),
+                None => Ok(false),
+            },
+            Lanes::Same(value, _) => match value.as_ref() {
+                Value::Null => put_nulls(alloc, self, mask),
+                Value::Int(number) => put_number(alloc, self, mask, number),
+                _ => Ok(false),
+            },
+            _ => Ok(false),
+        }
     }
 
     fn into_lanes(self, alloc: Global) -> Result<Lanes, AllocError> {
@@ -79,6 +89,60 @@ fn copied<T: Width>(
     let numbers = Vec::from_slice(alloc, &part.as_slice()[..count])?;
     let valid = valid_rows(alloc, count, validity)?;
     Ok(NumberRows { numbers, valid })
+}
+
+// Writes numbers, where they are valid, over the rows where the mask is true.
+fn put_part<T: Width>(
+    alloc: Global,
+    rows: &mut NumberRows<T>,
+    mask: &Bits,
+    part: &Part<T>,
+    validity: &Validity,
+) -> Result<bool, AllocError>
+    requires mask { length mask.now ≡ length rows.old }
+    requires part { length (shown validity.now (map int (map T.number part.now))) ≡ length rows.old }
+    ensures { IfOk result (λ done. rows.new ≡ blended mask.now (shown validity.now (map int (map T.number part.now))) rows.old) }
+{
+    let numbers = part.as_slice();
+    write_where(rows.numbers.as_mut_slice(), mask, |i| numbers[i]);
+    let valid = valid_rows(alloc, mask.len(), validity)?;
+    put_bits(&mut rows.valid, mask, valid);
+    Ok(true)
+}
+
+// Makes the rows null where the mask is true.
+fn put_nulls<T: Width>(
+    alloc: Global,
+    rows: &mut NumberRows<T>,
+    mask: &Bits,
+) -> Result<bool, AllocError>
+    requires { length mask.now ≡ length rows.old }
+    ensures { IfOk result (λ done. rows.new ≡ blended mask.now (replicate (length rows.old) null) rows.old) }
+{
+    let none = Bits::zeros(alloc, mask.len())?;
+    put_bits(&mut rows.valid, mask, none);
+    Ok(true)
+}
+
+// Writes one number over the rows where the mask is true, if it has the width.
+fn put_number<T: Width>(
+    alloc: Global,
+    rows: &mut NumberRows<T>,
+    mask: &Bits,
+    number: &i128,
+) -> Result<bool, AllocError>
+    requires { length mask.now ≡ length rows.old }
+    ensures { IfOk result (λ done. done ≡ true → rows.new ≡ blended mask.now (replicate (length rows.old) (int number.now)) rows.old) }
+{
+    match T::narrowed(*number) {
+        Some(number) => {
+            write_where(rows.numbers.as_mut_slice(), mask, |_| number);
+            let all = all_rows(alloc, mask.len())?;
+            put_bits(&mut rows.valid, mask, all);
+            Ok(true)
+        }
+        None => Ok(false),
+    }
 }
 
 // One value in so many rows, if it is null or a number of the width.

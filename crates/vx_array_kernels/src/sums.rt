@@ -10,7 +10,7 @@ use crate::width::Width;
 use std::alloc::{AllocError, Global};
 use vx_array::{Lanes, Numbers, Part, Validity};
 use vx_array_build::Native;
-use vx_array_loops::{Number, first_where, tabulated};
+use vx_array_loops::{Number, first_where, write_flagged};
 use vx_types::{PType, Value};
 
 /// The sums of two columns, as numbers of the type. There is an answer where one has numbers of the type's
@@ -88,23 +88,23 @@ fn sums_beside<T: Width>(
     ensures { FindsValid T.fits count both (λ k. get_or (map T.number part.now) k (pos 0) +ℤ get_or (map T.number others.now) k (pos 0)) result }
 {
     let (part, others) = (part.as_slice(), others.as_slice());
-    match first_where(count, |i| is_outside(&both, part, i, others)) {
-        Some(_) => Ok(None),
-        None => {
-            let sums = tabulated(alloc, count, T::zero(), |i| beside(part, i, others))?;
-            Ok(Some(Lanes::Numbers(T::numbers(Part::new(alloc, sums)?), both)))
-        }
+    let mut sums = vec![in alloc; T::zero(); count]?;
+    let raised = write_flagged(sums.as_mut_slice(), |i| beside(part, i, others));
+    if raised && first_where(count, |i| is_outside(&both, part, i, others)).is_some() {
+        return Ok(None);
     }
+    Ok(Some(Lanes::Numbers(T::numbers(Part::new(alloc, sums)?), both)))
 }
 
-// The sum of the two numbers at that place, if the type holds it.
+// The sum of the two numbers at that place if the type holds it, beside whether it doesn't.
 #[inline(always)]
-fn beside<T: Number>(part: &[T], i: usize, others: &[T]) -> T
+fn beside<T: Number>(part: &[T], i: usize, others: &[T]) -> (T, bool)
     requires numbers { i < length part.now }
     requires others { i < length others.now }
-    ensures { IsSum T.fits T.number (get_or (map T.number part.now) i (pos 0) +ℤ get_or (map T.number others.now) i (pos 0)) result }
+    ensures sum { IsSum T.fits T.number (get_or (map T.number part.now) i (pos 0) +ℤ get_or (map T.number others.now) i (pos 0)) result.0 }
+    ensures over { result.1 ≡ not (T.fits (get_or (map T.number part.now) i (pos 0) +ℤ get_or (map T.number others.now) i (pos 0))) }
 {
-    part[i].sum(others[i]).0
+    part[i].sum(others[i])
 }
 
 // Whether the row is valid, and the type doesn't hold the sum of the two numbers at that place.
@@ -149,22 +149,22 @@ fn sums_with<T: Width>(
     ensures { FindsValid T.fits count validity.now (λ k. get_or (map T.number part.now) k (pos 0) +ℤ T.number other) result }
 {
     let part = part.as_slice();
-    match first_where(count, |i| is_outside_with(validity, part, i, other)) {
-        Some(_) => Ok(None),
-        None => {
-            let sums = tabulated(alloc, count, T::zero(), |i| with(part, i, other))?;
-            Ok(Some(Lanes::Numbers(T::numbers(Part::new(alloc, sums)?), validity.clone()?)))
-        }
+    let mut sums = vec![in alloc; T::zero(); count]?;
+    let raised = write_flagged(sums.as_mut_slice(), |i| with(part, i, other));
+    if raised && first_where(count, |i| is_outside_with(validity, part, i, other)).is_some() {
+        return Ok(None);
     }
+    Ok(Some(Lanes::Numbers(T::numbers(Part::new(alloc, sums)?), validity.clone()?)))
 }
 
-// The sum of the number at that place and the one, if the type holds it.
+// The sum of the number at that place and the one if the type holds it, beside whether it doesn't.
 #[inline(always)]
-fn with<T: Number>(part: &[T], i: usize, other: T) -> T
+fn with<T: Number>(part: &[T], i: usize, other: T) -> (T, bool)
     requires { i < length part.now }
-    ensures { IsSum T.fits T.number (get_or (map T.number part.now) i (pos 0) +ℤ T.number other) result }
+    ensures sum { IsSum T.fits T.number (get_or (map T.number part.now) i (pos 0) +ℤ T.number other) result.0 }
+    ensures over { result.1 ≡ not (T.fits (get_or (map T.number part.now) i (pos 0) +ℤ T.number other)) }
 {
-    part[i].sum(other).0
+    part[i].sum(other)
 }
 
 // Whether the row is valid, and the type doesn't hold the sum of the number at that place and the one.

@@ -103,9 +103,13 @@ impl Blend for Truths {
         }
     }
 
-    fn put(&mut self, mask: &Bits, other: Truths) {
+    fn put(&mut self, alloc: Global, mask: &Bits, lanes: &Lanes) -> Result<bool, AllocError> {
+        let Some(other) = Truths::of(alloc, mask.len(), lanes)? else {
+            return Ok(false);
+        };
         put_bits(&mut self.bits, mask, other.bits);
         put_bits(&mut self.valid, mask, other.valid);
+        Ok(true)
     }
 
     fn into_lanes(self, alloc: Global) -> Result<Lanes, AllocError> {

@@ -2,3 +2,4 @@ pub mod WordBits
 pub mod RowBits
 pub mod Filled
 pub mod Counted
+pub mod Where

@@ -7,7 +7,7 @@ ghost use Rattle.vx_array_loops.specs.WordBits.{bit_of, count_true, each_row, fi
 
 use crate::count::count_bits;
 use crate::fill::tabulated;
-use crate::words::{combine_four, combine_words, write_words};
+use crate::words::{combine_four, combine_words, window_of, write_words};
 use std::alloc::{AllocError, Global};
 use std::marker::Model;
 
@@ -86,6 +86,14 @@ impl Bits {
         ensures { result ≡ get_or self.now k false }
     {
         self.words[k / 64] >> (k % 64) & 1 == 1
+    }
+
+    /// The 64 rows from one on, least first; what stands for those behind the last row may be anything.
+    #[inline(always)]
+    pub fn window(&self, from: usize) -> u64
+        ensures { (i : ℕ) → i < 64 → from + i < length self.now → bit_of result i ≡ get_or self.now (from + i) false }
+    {
+        window_of(self.words.as_slice(), from)
     }
 
     /// The words; what they hold behind the last row may be anything.

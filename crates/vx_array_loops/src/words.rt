@@ -79,3 +79,23 @@ pub fn combine_four<F: Fn(u64, u64, u64, u64) -> u64>(
         words[j] = f(words[j], seconds[j], thirds[j], fourths[j]);
     }
 }
+
+/// The 64 bits from one on, those behind the last word zero.
+#[inline(always)]
+pub fn window_of(words: &[u64], from: usize) -> u64
+    ensures { (i : ℕ) → i < 64 → bit_of result i ≡ bit words.now (from + i) }
+{
+    let low = word_at(words, from / 64) >> (from % 64);
+    if from % 64 == 0 {
+        return low;
+    }
+    low | word_at(words, from / 64 + 1) << (64 - from % 64)
+}
+
+// The word of that number, zero where there is none.
+#[inline(always)]
+fn word_at(words: &[u64], j: usize) -> u64
+    ensures { result ≡ get_or words.now j 0 }
+{
+    if j < words.len() { words[j] } else { 0 }
+}

@@ -1,48 +1,46 @@
-use Rattle.std.proofs.Common.{◌≡◌, ◌∙◌, ◌<◌, ap, sym, map, length, get_or, arith, rules}
-use Rattle.std.proofs.lemmas.List.{with_items_is}
-use Rattle.vx_array_kernels.specs.Choices.{number_rows}
-use Rattle.vx_array_kernels.proofs.Chosen.{numbers_beside, numbers_long, numbers_put}
+use Rattle.std.proofs.Common.{◌≡◌, ◌∙◌, ℕ, List, ap, sym, map, length, true}
+use Rattle.std.proofs.Math.ListN.{replicate}
+use Rattle.std.proofs.lemmas.List.{length-replicate}
+use Rattle.vx_value.specs.Types.{Datum, int, null}
+use Rattle.vx_value.specs.Views.{value_of}
+use Rattle.vx_array.specs.Rows.{lanes_rows}
+use Rattle.vx_array.specs.Shown.{shown}
+use Rattle.vx_array.proofs.Held.{rows-Numbers, rows-Same}
+use Rattle.vx_array.proofs.Reading.{value_of-Int, value_of-Null}
+use Rattle.vx_array_kernels.specs.Choices.{blended}
+use Rattle.vx_array_kernels.proofs.Chosen.{ok_all}
 use Rattle.vx_array_kernels.proofs.number_rows.NumberRowsBlend.put.Goals as goal
 
-pub write_where-requires-clause-long : goal.write_where-requires-clause-long
-write_where-requires-clause-long g c =
-    c.requires.mask ∙ numbers_long g.T.Number.number c.self.inside.valid c.self.inside.numbers.items c.args.self.now c.self.view_is ∙ c.self.invariant ∙ sym (ap length c.as_mut_slice.ensures.value)
+-- one value in as many rows as there are
+same_long : (rows : List Datum) (n m : ℕ) (d : Datum) → rows ≡ replicate n d → length rows ≡ m → rows ≡ replicate m d
+same_long rows n m d is long = is ∙ ap (λ k. replicate k d) (sym (length-replicate n d) ∙ ap length (sym is) ∙ long)
 
-pub write_where-requires-clause-call : goal.write_where-requires-clause-call
-write_where-requires-clause-call g c = λ i lt.
-    let same = numbers_beside g.T.Number.number c.self.inside.valid c.other.inside.valid c.self.inside.numbers.items c.other.inside.numbers.items c.args.self.now c.args.other c.self.view_is c.other.view_is c.self.invariant c.other.invariant c.requires.other in
-    let low : i < length c.as_slice-numbers.result.now = omega (arith, same.1, ap length c.as_slice-numbers.ensures.value, ap length c.as_mut_slice.ensures.value) in
-    (λ κs ptr is ranges small u. omega (arith, low), λ κs ptr is ranges small u. low)
+pub returns-in-Some : goal.returns-in-Some
+returns-in-Some g c =
+    let m = c.in-Numbers in
+    let new = c.put_part.new.rows in
+    let part = map int (map g.T.Number.number c.in-Some.part.now) in
+    let there : lanes_rows c.args.lanes.now ≡ shown m.validity part = ap lanes_rows m.is ∙ rows-Numbers m.numbers m.validity ∙ ap (λ ns. shown m.validity (map int ns)) c.in-Some.ensures in
+    ok_all c.put_part.result (λ done. new ≡ blended c.args.mask.now (shown m.validity part) c.args.self.now) (λ done. done ≡ true → new ≡ blended c.args.mask.now (lanes_rows c.args.lanes.now) c.args.self.now)
+    (λ done is _. is ∙ ap (λ l. blended c.args.mask.now l c.args.self.now) (sym there)) c.put_part.ensures
 
-pub put_bits-requires-clause-mask : goal.put_bits-requires-clause-mask
-put_bits-requires-clause-mask g c = c.requires.mask ∙ numbers_long g.T.Number.number c.self.inside.valid c.self.inside.numbers.items c.args.self.now c.self.view_is
+pub returns-in-Null : goal.returns-in-Null
+returns-in-Null g c =
+    let m = c.in-Same in
+    let new = c.put_nulls.new.rows in
+    let n = length c.args.self.now in
+    let held : value_of m.value.value ≡ null = ap value_of (sym c.as_ref.ensures ∙ c.in-Null.is) ∙ value_of-Null in
+    let there = same_long (lanes_rows c.args.lanes.now) m.field-1 n null (ap lanes_rows m.is ∙ rows-Same m.value m.field-1 ∙ ap (replicate m.field-1) held) c.requires.lanes in
+    ok_all c.put_nulls.result (λ done. new ≡ blended c.args.mask.now (replicate n null) c.args.self.now) (λ done. done ≡ true → new ≡ blended c.args.mask.now (lanes_rows c.args.lanes.now) c.args.self.now)
+    (λ done is _. is ∙ ap (λ l. blended c.args.mask.now l c.args.self.now) (sym there)) c.put_nulls.ensures
 
-pub put_bits-requires-clause-other : goal.put_bits-requires-clause-other
-put_bits-requires-clause-other g c =
-    (numbers_beside g.T.Number.number c.self.inside.valid c.other.inside.valid c.self.inside.numbers.items c.other.inside.numbers.items c.args.self.now c.args.other c.self.view_is c.other.view_is c.self.invariant c.other.invariant c.requires.other).0
-
-pub invariant_of-self : goal.invariant_of-self
-invariant_of-self g c =
-    let new = c.write_where.new.rows in
-    let same = numbers_beside g.T.Number.number c.self.inside.valid c.other.inside.valid c.self.inside.numbers.items c.other.inside.numbers.items c.args.self.now c.args.other c.self.view_is c.other.view_is c.self.invariant c.other.invariant c.requires.other in
-    (numbers_put g.T.Number.number c.args.mask.now c.self.inside.valid c.other.inside.valid c.put_bits.new.bits new c.self.inside.numbers.items c.other.inside.numbers.items c.args.other c.args.self.now c.self.view_is c.other.view_is c.self.invariant same.0 c.other.invariant
-    (c.write_where.auto.rows ∙ ap length c.as_mut_slice.ensures.value) c.put_bits.ensures
-    (λ i x lt on is.
-    let post = c.write_where.ensures.on i x (omega (arith, ap length c.as_mut_slice.ensures.value)) on is in
-    let read : x ≡ get_or c.as_slice-numbers.result.now i x = search rules in
-    read ∙ ap (λ l. get_or l i x) c.as_slice-numbers.ensures.value)
-    (λ i x lt off is. c.write_where.ensures.off i x (omega (arith, ap length c.as_mut_slice.ensures.value)) off is ∙ ap (λ l. get_or l i x) c.as_mut_slice.ensures.value)).0
-    ∙ sym (ap length (with_items_is c.self.inside.numbers new (omega (arith, c.write_where.auto.rows, c.as_mut_slice.ensures.len))))
-
-pub returns : goal.returns
-returns g c =
-    let new = c.write_where.new.rows in
-    let same = numbers_beside g.T.Number.number c.self.inside.valid c.other.inside.valid c.self.inside.numbers.items c.other.inside.numbers.items c.args.self.now c.args.other c.self.view_is c.other.view_is c.self.invariant c.other.invariant c.requires.other in
-    ap (λ l. number_rows c.put_bits.new.bits (map g.T.Number.number l)) (with_items_is c.self.inside.numbers new (omega (arith, c.write_where.auto.rows, c.as_mut_slice.ensures.len)))
-    ∙ (numbers_put g.T.Number.number c.args.mask.now c.self.inside.valid c.other.inside.valid c.put_bits.new.bits new c.self.inside.numbers.items c.other.inside.numbers.items c.args.other c.args.self.now c.self.view_is c.other.view_is c.self.invariant same.0 c.other.invariant
-    (c.write_where.auto.rows ∙ ap length c.as_mut_slice.ensures.value) c.put_bits.ensures
-    (λ i x lt on is.
-    let post = c.write_where.ensures.on i x (omega (arith, ap length c.as_mut_slice.ensures.value)) on is in
-    let read : x ≡ get_or c.as_slice-numbers.result.now i x = search rules in
-    read ∙ ap (λ l. get_or l i x) c.as_slice-numbers.ensures.value)
-    (λ i x lt off is. c.write_where.ensures.off i x (omega (arith, ap length c.as_mut_slice.ensures.value)) off is ∙ ap (λ l. get_or l i x) c.as_mut_slice.ensures.value)).1
+pub returns-in-Int : goal.returns-in-Int
+returns-in-Int g c =
+    let m = c.in-Same in
+    let new = c.put_number.new.rows in
+    let n = length c.args.self.now in
+    let d = int c.in-Int.number in
+    let held : value_of m.value.value ≡ d = ap value_of (sym c.as_ref.ensures ∙ c.in-Int.is) ∙ value_of-Int c.in-Int.number in
+    let there = same_long (lanes_rows c.args.lanes.now) m.field-1 n d (ap lanes_rows m.is ∙ rows-Same m.value m.field-1 ∙ ap (replicate m.field-1) held) c.requires.lanes in
+    ok_all c.put_number.result (λ done. done ≡ true → new ≡ blended c.args.mask.now (replicate n d) c.args.self.now) (λ done. done ≡ true → new ≡ blended c.args.mask.now (lanes_rows c.args.lanes.now) c.args.self.now)
+    (λ done is yes. is yes ∙ ap (λ l. blended c.args.mask.now l c.args.self.now) (sym there)) c.put_number.ensures
