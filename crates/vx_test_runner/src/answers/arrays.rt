@@ -1,4 +1,4 @@
-// Evaluation over arrays beside that over columns: the same rows, or the same fault.
+// Evaluation and scans over arrays beside those over columns: the same rows, or the same fault.
 ghost use Rattle.vx_tree.specs.Trees.{WellTyped};
 ghost use Rattle.vx_tree.specs.Views.{bound_of};
 
@@ -6,6 +6,9 @@ use std::alloc::Global;
 use vx_array::Array;
 use vx_array_build::{are_within, from_column, take};
 use vx_array_eval::apply_array;
+use vx_array_projection::ArrayPlanReader;
+use vx_array_scan::scan_array;
+use vx_scan::ScanPlan;
 use vx_tree::{BoundExpression, Column, VortexError, VortexResult};
 
 // How an array holds the rows of a batch: in typed buffers, in the middle of longer ones, or boxed.
@@ -29,14 +32,36 @@ pub fn arrays_agree(
     for form in [Form::Buffers, Form::Slice, Form::Boxed] {
         let array = array(alloc, form, batch)?;
         let found = Box::new(alloc, evaluated(alloc, &array, tree))?;
-        if is_exhausted(&found) {
-            return Err(VortexError::OutOfMemory);
-        }
-        if !is_exhausted(answer) && !is_same(answer, &found) {
+        if !agrees(answer, &found)? {
             return Ok(false);
         }
     }
     Ok(true)
+}
+
+/// The same of a scan by the plan.
+pub fn scans_agree(
+    alloc: Global,
+    batch: &Column,
+    plan: &ScanPlan,
+    answer: &VortexResult<Column>,
+) -> VortexResult<bool> {
+    for form in [Form::Buffers, Form::Slice, Form::Boxed] {
+        let array = array(alloc, form, batch)?;
+        let found = Box::new(alloc, scanned(alloc, &array, plan))?;
+        if !agrees(answer, &found)? {
+            return Ok(false);
+        }
+    }
+    Ok(true)
+}
+
+// Whether both are the same, unless memory ran out for the answer. Refuses where it did for what was found.
+fn agrees(answer: &VortexResult<Column>, found: &VortexResult<Column>) -> VortexResult<bool> {
+    if is_exhausted(found) {
+        return Err(VortexError::OutOfMemory);
+    }
+    Ok(is_exhausted(answer) || is_same(answer, found))
 }
 
 fn array(alloc: Global, form: Form, batch: &Column) -> VortexResult<Array> {
@@ -81,6 +106,11 @@ fn evaluated(alloc: Global, array: &Array, tree: &BoundExpression) -> VortexResu
     apply_array(alloc, array, tree)?.to_column(alloc)
 }
 
+fn scanned(alloc: Global, array: &Array, plan: &ScanPlan) -> VortexResult<Column> {
+    let reader = ArrayPlanReader::new(array, plan.paths());
+    scan_array(alloc, &reader, plan)?.to_column(alloc)
+}
+
 // Whether memory ran out.
 fn is_exhausted(answer: &VortexResult<Column>) -> bool {
     matches!(answer, Err(VortexError::OutOfMemory))
@@ -101,7 +131,8 @@ fn is_same_fault(one: &VortexError, other: &VortexError) -> bool {
         | (VortexError::CastNull { row: one }, VortexError::CastNull { row: other }) => {
             one == other
         }
-        (VortexError::BadFill, VortexError::BadFill) => true,
+        (VortexError::BadFill, VortexError::BadFill)
+        | (VortexError::ScopeMismatch, VortexError::ScopeMismatch) => true,
         _ => false,
     }
 }

@@ -3,6 +3,7 @@ ghost use Rattle.std.specs.Prelude.{◌≡◌, [], IfOk};
 ghost use Rattle.vx_value.specs.Paths.{add_paths};
 ghost use Rattle.vx_value.specs.Views.{type_of};
 
+use crate::answers::arrays::scans_agree;
 use crate::answers::paths::{paths_of, shown_paths};
 use crate::kind::SourceKind;
 use crate::scene::Scene;
@@ -57,11 +58,15 @@ fn split_text(alloc: Global, plan: &ScanPlan) -> VortexResult<String> {
     }
 }
 
-// What a scan gives of each batch.
+// What a scan gives of each batch, and a word before it where arrays of the batch give something else.
 fn scan_rows(alloc: Global, scene: &Scene, plan: &ScanPlan) -> VortexResult<String> {
     let mut rows = String::new(alloc);
     for batch in scene.batches.iter() {
-        push_rows(alloc, &mut rows, scanned(alloc, plan, batch))?;
+        let answer = Box::new(alloc, scan_column(alloc, plan, batch))?;
+        if !scans_agree(alloc, batch, plan, &answer)? {
+            rows.push_str("arrays differ from ")?;
+        }
+        push_rows(alloc, &mut rows, with_type(Box::into_inner(answer)))?;
     }
     Ok(rows)
 }
@@ -74,7 +79,7 @@ pub fn scan_over(
     column: &Column,
 ) -> VortexResult<String> {
     let plan = plan(alloc, source, &scene.scope)?;
-    told(alloc, scanned(alloc, &plan, column))
+    told(alloc, with_type(scan_column(alloc, &plan, column)))
 }
 
 /// A column with its type behind it.
@@ -89,9 +94,9 @@ impl fmt::Display for WithType {
     }
 }
 
-// The same as `scan_column`, with the column's type.
-fn scanned(alloc: Global, plan: &ScanPlan, column: &Column) -> VortexResult<WithType> {
-    Ok(WithType(scan_column(alloc, plan, column)?))
+// The same answer, with the column's type.
+fn with_type(answer: VortexResult<Column>) -> VortexResult<WithType> {
+    Ok(WithType(answer?))
 }
 
 /// What a scan gives of the column, read along the plan's paths alone.
