@@ -28,7 +28,7 @@ impl fmt::Display for Named<'_> {
     }
 }
 
-fn name_of(refusal: &VortexError) -> &'static str {
+pub fn name_of(refusal: &VortexError) -> &'static str {
     match refusal {
         VortexError::OutOfMemory => "OutOfMemory",
         VortexError::ArityMismatch { .. } => "ArityMismatch",

@@ -1,15 +1,21 @@
-// Evaluation and scans over arrays beside those over columns: the same rows, or the same fault.
+// Evaluation, scans, queries and selections over arrays beside those over columns: the same answers.
 ghost use Rattle.vx_tree.specs.Trees.{WellTyped};
 ghost use Rattle.vx_tree.specs.Views.{bound_of};
 
+use crate::answers::queries::Plan;
+use crate::refusals::name_of;
 use std::alloc::Global;
 use vx_array::Array;
 use vx_array_build::{are_within, from_column, take};
 use vx_array_eval::apply_array;
+use vx_array_loops::Bits;
 use vx_array_projection::ArrayPlanReader;
-use vx_array_scan::scan_array;
+use vx_array_query::run_query_array;
+use vx_array_scan::{scan_array, select_rows_array};
+use vx_eval_masks::RowMask;
+use vx_prune_tree::ChunkStats;
 use vx_scan::ScanPlan;
-use vx_tree::{BoundExpression, Column, VortexError, VortexResult};
+use vx_tree::{BoundExpression, Column, Expression, VortexError, VortexResult};
 
 // How an array holds the rows of a batch: in typed buffers, in the middle of longer ones, or boxed.
 #[derive(Clone, Copy)]
@@ -54,6 +60,62 @@ pub fn scans_agree(
         }
     }
     Ok(true)
+}
+
+/// The same of a query by the plan.
+pub fn queries_agree(
+    alloc: Global,
+    batch: &Column,
+    source: &Expression,
+    plan: &Plan,
+    answer: &VortexResult<Column>,
+) -> VortexResult<bool> {
+    for form in [Form::Buffers, Form::Slice, Form::Boxed] {
+        let array = array(alloc, form, batch)?;
+        let found = Box::new(alloc, queried(alloc, &array, source, plan))?;
+        if !agrees(answer, &found)? {
+            return Ok(false);
+        }
+    }
+    Ok(true)
+}
+
+/// Whether the plan selects these rows of arrays of the batch's rows by the statistics, too.
+pub fn selections_agree(
+    alloc: Global,
+    batch: &Column,
+    plan: &ScanPlan,
+    stats: &ChunkStats,
+    answer: &VortexResult<RowMask>,
+) -> VortexResult<bool> {
+    for form in [Form::Buffers, Form::Slice, Form::Boxed] {
+        let array = array(alloc, form, batch)?;
+        let reader = ArrayPlanReader::new(&array, plan.paths());
+        let found = select_rows_array(alloc, &reader, plan, stats);
+        if !is_same_selection(answer, &found) {
+            return Ok(false);
+        }
+    }
+    Ok(true)
+}
+
+fn is_same_selection(one: &VortexResult<RowMask>, other: &VortexResult<Bits>) -> bool {
+    match (one, other) {
+        (Ok(mask), Ok(bits)) => has_rows(bits, mask.as_slice()),
+        (Err(one), Err(other)) => is_same_refusal(one, other),
+        _ => false,
+    }
+}
+
+fn has_rows(bits: &Bits, rows: &[bool]) -> bool {
+    let mut k = 0;
+    for row in rows {
+        if k >= bits.len() || bits.get(k) != *row {
+            return false;
+        }
+        k += 1;
+    }
+    k == bits.len()
 }
 
 // Whether both are the same, unless memory ran out for the answer. Refuses where it did for what was found.
@@ -111,28 +173,31 @@ fn scanned(alloc: Global, array: &Array, plan: &ScanPlan) -> VortexResult<Column
     scan_array(alloc, &reader, plan)?.to_column(alloc)
 }
 
+fn queried(alloc: Global, array: &Array, source: &Expression, plan: &Plan) -> VortexResult<Column> {
+    run_query_array(alloc, source, array, plan.passes.as_slice(), plan.split)?.to_column(alloc)
+}
+
 // Whether memory ran out.
 fn is_exhausted(answer: &VortexResult<Column>) -> bool {
     matches!(answer, Err(VortexError::OutOfMemory))
 }
 
-// Whether both are the same rows of one type, or one fault in the same row.
+// Whether both are the same rows of one type, or the same refusal.
 fn is_same(one: &VortexResult<Column>, other: &VortexResult<Column>) -> bool {
     match (one, other) {
         (Ok(one), Ok(other)) => one == other,
-        (Err(one), Err(other)) => is_same_fault(one, other),
+        (Err(one), Err(other)) => is_same_refusal(one, other),
         _ => false,
     }
 }
 
-fn is_same_fault(one: &VortexError, other: &VortexError) -> bool {
+// Whether both have one name, and tell the same row where they tell one.
+fn is_same_refusal(one: &VortexError, other: &VortexError) -> bool {
     match (one, other) {
         (VortexError::AddOverflow { row: one }, VortexError::AddOverflow { row: other })
         | (VortexError::CastNull { row: one }, VortexError::CastNull { row: other }) => {
             one == other
         }
-        (VortexError::BadFill, VortexError::BadFill)
-        | (VortexError::ScopeMismatch, VortexError::ScopeMismatch) => true,
-        _ => false,
+        _ => name_of(one) == name_of(other),
     }
 }

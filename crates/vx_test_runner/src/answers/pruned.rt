@@ -2,6 +2,7 @@
 ghost use Rattle.vx_tree.specs.Trees.{WellTyped};
 ghost use Rattle.vx_tree.specs.Views.{bound_of};
 
+use crate::answers::arrays::selections_agree;
 use crate::answers::paths::{path, paths_of, push_path};
 use crate::answers::scans::{reader, set_of};
 use crate::scene::Scene;
@@ -122,16 +123,17 @@ impl fmt::Display for Rows {
     }
 }
 
-/// For each row of each batch whether the source, planned for scans, is selected there by the scene's statistics.
+/// For each row of each batch whether the source, planned for scans, is selected there by the scene's statistics,
+/// and a word before them where others are of arrays of the batch.
 pub fn selected(alloc: Global, scene: &Scene, source: &Expression) -> VortexResult<String> {
     let plan = plan(alloc, source, &scene.scope)?;
     let mut rows = String::new(alloc);
     for batch in scene.batches.iter() {
-        push_rows(
-            alloc,
-            &mut rows,
-            selection(alloc, &plan, batch, &scene.statistics),
-        )?;
+        let answer = Box::new(alloc, selection(alloc, &plan, batch, &scene.statistics))?;
+        if !selections_agree(alloc, batch, &plan, &scene.statistics, &answer)? {
+            rows.push_str("arrays differ from ")?;
+        }
+        push_rows(alloc, &mut rows, as_rows(Box::into_inner(answer)))?;
     }
     Ok(rows)
 }
@@ -141,10 +143,14 @@ fn selection(
     plan: &ScanPlan,
     batch: &Column,
     stats: &ChunkStats,
-) -> VortexResult<Rows> {
+) -> VortexResult<RowMask> {
     let no_path = FieldPathSet::new(alloc);
     let reader = reader(plan, batch.clone()?, &no_path);
-    Ok(Rows(select_rows(alloc, &reader, plan, stats)?))
+    select_rows(alloc, &reader, plan, stats)
+}
+
+fn as_rows(answer: VortexResult<RowMask>) -> VortexResult<Rows> {
+    Ok(Rows(answer?))
 }
 
 /// Whether what statistics of the batch tell of the tree is true of the values that it has there.

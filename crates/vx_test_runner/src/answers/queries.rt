@@ -1,4 +1,5 @@
 // Answers of queries as one run.
+use crate::answers::arrays::queries_agree;
 use crate::scene::Scene;
 use crate::told::push_rows;
 use std::alloc::Global;
@@ -34,7 +35,7 @@ pub fn read_plan(alloc: Global, words: &str) -> Result<Plan, Unread> {
     Ok(Plan { passes, split })
 }
 
-/// What the query gives over each batch.
+/// What the query gives over each batch, and a word before it where arrays of the batch give something else.
 pub fn query_rows(
     alloc: Global,
     scene: &Scene,
@@ -44,7 +45,11 @@ pub fn query_rows(
     let mut rows = String::new(alloc);
     for batch in scene.batches.iter() {
         let answer = run_query(alloc, source, batch, plan.passes.as_slice(), plan.split);
-        push_rows(alloc, &mut rows, answer)?;
+        let answer = Box::new(alloc, answer)?;
+        if !queries_agree(alloc, batch, source, plan, &answer)? {
+            rows.push_str("arrays differ from ")?;
+        }
+        push_rows(alloc, &mut rows, Box::into_inner(answer))?;
     }
     Ok(rows)
 }
