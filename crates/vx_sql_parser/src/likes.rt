@@ -41,25 +41,25 @@ pub(crate) fn like(
     }
 }
 
-// A match of a pattern that is null, whatever the escape.
+// A match of a pattern at that place that is null, whatever the escape.
 fn null_pattern(
     alloc: Global,
     dialect: Dialect,
     ignores: bool,
     tokens: &[Lexed],
-    i: usize,
+    at: usize,
 ) -> Result<Step, Stop>
-    requires { i < 7 }
-    ensures { Answers result (rules.null_pattern dialect ignores (lexemes_of tokens.now) i) }
+    requires { at < 7 }
+    ensures { Answers result (rules.null_pattern dialect ignores (lexemes_of tokens.now) at) }
 {
-    if !(is_word_at(tokens, i, "cast") && is_word_at(tokens, i + 2, "null")) {
+    if !(is_word_at(tokens, at, "cast") && is_word_at(tokens, at + 2, "null")) {
         return Err(Stop::Unread(Unread::Pattern));
     }
-    match literal_cast(alloc, dialect, tokens, i + 1)? {
+    match literal_cast(alloc, dialect, tokens, at + 1)? {
         Some(null) => {
             let word = like_word(ignores);
             let text = format!(in alloc; "{word}{null}")?;
-            let more = i + 6 + escape_len(tokens, i + 6);
+            let more = at + 6 + escape_len(tokens, at + 6);
             Ok(stepped(text, Change::Stays, more))
         }
         None => Err(Stop::Unread(Unread::Pattern)),
