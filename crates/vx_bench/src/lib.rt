@@ -2,8 +2,6 @@
 #![tactic(auto)]
 
 ghost use Rattle.std.specs.Prelude.{◌≡◌, ◌≢◌, ◌<◌};
-ghost use Rattle.vx_tree.specs.Trees.{WellTyped};
-ghost use Rattle.vx_tree.specs.Views.{bound_of};
 
 mod arrays;
 mod batch;
@@ -31,8 +29,7 @@ use query::Query;
 use scans::scanned;
 use std::alloc::Global;
 use vx_eval::apply_bound;
-use vx_tree::BoundExpression;
-use vx_types::{Column, VortexError, VortexResult};
+use vx_types::{VortexError, VortexResult};
 use way::Way;
 
 /// How a call ended.
@@ -105,24 +102,23 @@ fn evaluated(alloc: Global, query: Query, rows: usize, repeats: u32) -> VortexRe
     let batch = query.batch(alloc, rows)?;
     let source = query.tree(alloc)?;
     let tree = source.bind(alloc, batch.dtype())?;
-    repeated(alloc, &batch, &tree, repeats)
+    match last_of(repeats, || apply_bound(alloc, &batch, &tree))? {
+        Some(column) => Ok(Digest::of(&column)),
+        None => Ok(Digest::default()),
+    }
 }
 
-// Evaluates the tree so often, for the digest of the last column.
-fn repeated(
-    alloc: Global,
-    batch: &Column,
-    tree: &BoundExpression,
+// What the last of so many evaluations gives, each let go before the next.
+fn last_of<T: Drop, F: Fn() -> VortexResult<T>>(
     repeats: u32,
-) -> VortexResult<Digest>
-    requires { WellTyped (bound_of tree.now) }
+    evaluate: F,
+) -> VortexResult<Option<T>>
+    requires { F.IsAlwaysCallable evaluate }
 {
-    if repeats == 0 {
-        return Ok(Digest::default());
+    let mut last = None;
+    for _ in 0..repeats {
+        drop(last);
+        last = Some(evaluate()?);
     }
-    for _ in 1..repeats {
-        let _ = apply_bound(alloc, batch, tree)?;
-    }
-    let column = apply_bound(alloc, batch, tree)?;
-    Ok(Digest::of(&column))
+    Ok(last)
 }
