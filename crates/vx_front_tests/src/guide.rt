@@ -1,6 +1,7 @@
-// The program that the guide begins with, and the same over columns in typed buffers.
+// The program that the guide begins with.
+mod buffers;
+
 use std::alloc::Global;
-use vx_expr::arrays::{Array, ArrayPlanReader, primitive, scan_array, struct_of};
 use vx_expr::dtype::Nullability::NonNullable;
 use vx_expr::dtype::PType::I32;
 use vx_expr::prelude::*;
@@ -20,15 +21,6 @@ fn rows(alloc: Global, planned: &ScanPlan) -> VortexResult<Column> {
     scan(alloc, &planned.reader_of(batch), planned)
 }
 
-/// The same of columns in typed buffers, made of vectors.
-fn rows_of_buffers(alloc: Global, planned: &ScanPlan) -> VortexResult<Array> {
-    let price = primitive(alloc, vec![in alloc; 12i32, 7, 30]?, None)?;
-    let stock = primitive(alloc, vec![in alloc; 3i32, 0, 5]?, None)?;
-    let names = ["price", "stock"].into_field_names(alloc)?;
-    let batch = struct_of(alloc, names, &[price, stock], 3, None)?;
-    scan_array(alloc, &ArrayPlanReader::new(&batch, planned.paths()), planned)
-}
-
 #[test]
 fn a_filter_is_planned_and_scanned(rt: HostRuntime) -> VortexResult<()> {
     let alloc = rt.alloc();
@@ -36,8 +28,6 @@ fn a_filter_is_planned_and_scanned(rt: HostRuntime) -> VortexResult<()> {
     let paths: Vec<&FieldPath> = planned.paths().iter().collect(alloc)?;
     let split = planned.split().expect(&rt, "a split");
     let rows = rows(alloc, &planned)?;
-    let same = rows_of_buffers(alloc, &planned)?.to_column(alloc)?;
-    assert!(rt; same == rows);
     let page = format!(in alloc; "{paths:?}\n{split}\n{rows}")?;
     assert_eq!(rt;
         page.as_str(),
