@@ -2,7 +2,7 @@
 use crate::batch::{self, Digest};
 use crate::by_hand::Value;
 use crate::library::{Way, evaluated};
-use crate::readings::{READINGS, medians, reading};
+use crate::readings::{READINGS, ROWS_OF_ARRAYS, medians, reading};
 use crate::typed::{self, Numbers, Rows};
 use std::hint::black_box;
 
@@ -81,12 +81,16 @@ fn line(query: &Query, rows: usize) -> String {
             "{}",
             query.name
         );
-        let (ours, _) = medians(READINGS, || reading(rows, arrays), || 0.0);
+        let (ours, _) = medians(READINGS, || reading(rows, ROWS_OF_ARRAYS, arrays), || 0.0);
         return format!("| {} | {rows} | {:.2} | | |", query.name, a_row(ours));
     };
     let hand = |repeats| through_hand(query, by_hand, rows, repeats);
     assert_eq!(arrays(1), hand(1), "{}", query.name);
-    let (ours, hand) = medians(READINGS, || reading(rows, arrays), || reading(rows, hand));
+    let (ours, hand) = medians(
+        READINGS,
+        || reading(rows, ROWS_OF_ARRAYS, arrays),
+        || reading(rows, ROWS_OF_ARRAYS, hand),
+    );
     format!(
         "| {} | {rows} | {:.2} | {:.2} | {:.2} |",
         query.name,

@@ -3,7 +3,7 @@ use crate::batch::{self, Digest};
 use crate::by_hand::{self, Value};
 use crate::library::{Way, evaluated};
 use crate::memory;
-use crate::readings::{medians, reading};
+use crate::readings::{ROWS, medians, reading};
 use std::hint::black_box;
 
 /// A query: its number in the library, and what is written by hand.
@@ -146,7 +146,11 @@ impl Query {
         let library = |repeats| self.through_library(rows, repeats);
         let hand = |repeats| self.through_hand(rows, repeats);
         assert_eq!(library(1), hand(1), "{}", self.name);
-        let (ours, by_hand) = medians(readings, || reading(rows, library), || reading(rows, hand));
+        let (ours, by_hand) = medians(
+            readings,
+            || reading(rows, ROWS, library),
+            || reading(rows, ROWS, hand),
+        );
         Times { ours, by_hand }
     }
 

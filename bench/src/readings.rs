@@ -8,8 +8,10 @@ use std::hint::black_box;
 pub const READINGS: usize = 5;
 pub const FEW_READINGS: usize = 3;
 
-/// The rows that the evaluations of a reading go over together, and the fewest evaluations.
-const ROWS: usize = 10_000_000;
+/// The rows that the evaluations of a reading go over together: of arrays more, since making the batch
+/// takes as long as a hundred evaluations over one. And the fewest evaluations.
+pub const ROWS: usize = 10_000_000;
+pub const ROWS_OF_ARRAYS: usize = 400_000_000;
 const FEWEST: usize = 5;
 
 /// The medians of so many readings of two sides, each of the one followed by one of the other.
@@ -23,16 +25,13 @@ fn median(mut readings: Vec<f64>) -> f64 {
     readings[readings.len() / 2]
 }
 
-/// The milliseconds of one evaluation over so many rows, by a run with many and one with a single one.
-pub fn reading(rows: usize, call: impl Fn(u32) -> Digest) -> f64 {
-    let evaluations = evaluations(rows);
+/// The milliseconds of one evaluation over so many rows, by a run with one and one with as many more as
+/// go over `all` rows together.
+pub fn reading(rows: usize, all: usize, call: impl Fn(u32) -> Digest) -> f64 {
+    let evaluations = (all / rows.max(1)).max(FEWEST) as u32;
     let one = milliseconds(|| call(1));
     let more = milliseconds(|| call(1 + evaluations));
     (more - one) / f64::from(evaluations)
-}
-
-fn evaluations(rows: usize) -> u32 {
-    (ROWS / rows.max(1)).max(FEWEST) as u32
 }
 
 /// The bytes at the peak of one evaluation, beyond those of its batch.

@@ -13,7 +13,10 @@ unsafe extern "C" {
 
 /// Prints the megabytes of source text that each work goes through in a second.
 pub fn table() {
-    println!("| Conjuncts | Bytes | {} (MB/s) |", WORKS.join(" (MB/s) | "));
+    println!(
+        "| Conjuncts | Bytes | {} (MB/s) |",
+        WORKS.join(" (MB/s) | ")
+    );
     println!("|---:|---:|---:|---:|---:|");
     for size in SIZES {
         let bytes = through_library(size, 0, 0);

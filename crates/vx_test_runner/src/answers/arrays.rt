@@ -92,18 +92,25 @@ pub fn selections_agree(
         let array = array(alloc, form, batch)?;
         let reader = ArrayPlanReader::new(&array, plan.paths());
         let found = select_rows_array(alloc, &reader, plan, stats);
-        if !is_same_selection(answer, &found) {
+        if !selections_agree_on(answer, &found)? {
             return Ok(false);
         }
     }
     Ok(true)
 }
 
-fn is_same_selection(one: &VortexResult<RowMask>, other: &VortexResult<Bits>) -> bool {
-    match (one, other) {
-        (Ok(mask), Ok(bits)) => has_rows(bits, mask.as_slice()),
-        (Err(one), Err(other)) => is_same_refusal(one, other),
-        _ => false,
+// Whether both select the same rows, or are the same refusal, unless memory ran out for the answer. Refuses
+// where it did for what was found.
+fn selections_agree_on(
+    answer: &VortexResult<RowMask>,
+    found: &VortexResult<Bits>,
+) -> VortexResult<bool> {
+    match (answer, found) {
+        (_, Err(VortexError::OutOfMemory)) => Err(VortexError::OutOfMemory),
+        (Err(VortexError::OutOfMemory), _) => Ok(true),
+        (Ok(mask), Ok(bits)) => Ok(has_rows(bits, mask.as_slice())),
+        (Err(one), Err(other)) => Ok(is_same_refusal(one, other)),
+        _ => Ok(false),
     }
 }
 
