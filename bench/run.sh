@@ -1,10 +1,10 @@
 #!/bin/sh
 # Builds the static library and the driver, and runs the benchmark: the queries over 1,000,000 rows
 # and then the passes. Give it a number of rows for the queries alone, the word arrays for those over
-# arrays alone, the word passes for the passes alone, the word growth for the queries over 10,000 to
-# 10,000,000 rows, the word depths for the deepest trees that each pass returns from, the word texts
-# for source text read and written, or the word chunks for a range that is looked for in chunks with
-# statistics and without.
+# arrays alone (with a number of rows, over so many), the word passes for the passes alone, the word
+# growth for the queries over 10,000 to 10,000,000 rows, the word depths for the deepest trees that
+# each pass returns from, the word texts for source text read and written, or the word chunks for a
+# range that is looked for in chunks with statistics and without.
 set -eu
 cd "$(dirname "$0")"
 (cd ../crates/vx_bench && rt lib >/dev/null)

@@ -36,7 +36,10 @@ fn main() {
         Some("depths") => depths::table(),
         Some("texts") => texts::table(),
         Some("chunks") => chunks::tables(),
-        Some("arrays") => arrays::table(1_000_000),
+        Some("arrays") => {
+            let rows = words.next().unwrap_or("1000000".into());
+            arrays::table(rows.parse().expect("a number of rows"));
+        }
         Some(rows) => queries_and_scan(
             rows.parse()
                 .expect("a number of rows, arrays, passes, growth, depths, texts or chunks"),
