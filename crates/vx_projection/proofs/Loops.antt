@@ -1,8 +1,7 @@
 -- Loops over paths, fields and values: what was made stands in front of what is left.
-use Rattle.std.proofs.Common.{◌≡◌, ℕ, suc, ◌+◌, ◌<◌, ◌≤◌, ◌==◌, List, [], ◌∷◌, ◌++◌, length, get_or, drop, drop-cons, drop_of_length-le, add-one, min, ◌⊎◌, inl, inr, refl, sym, ap, ◌∙◌, Bool, true, false, ◌||◌, Some, None, arith}
+use Rattle.std.proofs.Common.{◌≡◌, ℕ, suc, ◌+◌, ◌<◌, ◌≤◌, ◌==◌, List, [], ◌∷◌, ◌++◌, length, get_or, drop, drop-cons, drop_of_length-le, add-one, min, ◌⊎◌, inl, inr, refl, sym, ap, ◌∙◌, Bool, true, false, ◌||◌, arith}
 use Rattle.std.specs.Borrow.{Bor}
 use Rattle.std.proofs.lemmas.Bool.{cases_lt, eqb-true}
-use Rattle.std.proofs.lemmas.List.{append-nil}
 use Rattle.vx_dtype.specs.declared.dtype.DType.{DType}
 use Rattle.vx_dtype.proofs.Lists.{in_front, in_front-push, in_front-all}
 use Rattle.vx_dtype.proofs.Pairs.{fields_next, fields_step, fields_end}
@@ -13,7 +12,7 @@ use Rattle.vx_value.specs.Views.{type_of, fields_view, value_of, data_view}
 use Rattle.vx_value.specs.declared.field_path.Field.{Field}
 use Rattle.vx_value.specs.declared.value.Value.{Value}
 use Rattle.vx_projection.specs.Defaults.{default_of, field_defaults}
-use Rattle.vx_projection.specs.Kept.{rest_behind, rests, others}
+use Rattle.vx_projection.specs.Kept.{rests, others}
 use Rattle.vx_projection.specs.Wanted.{Wants, no_want, want, wanted, fields_wanted, taken, each_taken, wanted_of, wanted_view, lent_paths}
 use Rattle.vx_projection.specs.declared.wanted.Wanted.{Wanted}
 
@@ -113,24 +112,3 @@ lent_at ps i p h q = rw (add-one, drop-cons ps i p h, ← q)
 
 pub root_next : (ps : List (Bor (List Field))) (i : ℕ) (p : Bor (List Field)) (b : Bool) → i < length ps → p ≡ get_or ps i p → b ≡ (length p.now == 0) → is_member (lent_paths (drop i ps)) [] ≡ (b || is_member (lent_paths (drop (i + 1) ps)) [])
 root_next ps i p b h q e = ap (λ xs. is_member xs []) (lent_at ps i p h q) ∙ ap (λ c. c || is_member (lent_paths (drop (i + 1) ps)) []) (root_is_empty p.now ∙ sym e)
-
-lent_push : (found : List (Bor (List Field))) (r : Bor (List Field)) (rest : List Path) → lent_paths (found ++ r ∷ []) ++ rest ≡ lent_paths found ++ (path_of r.now ∷ rest)
-lent_push [] r rest = refl
-lent_push (x ∷ found) r rest = ap (λ ps. path_of x.now ∷ ps) (lent_push found r rest)
-
--- the rest of one more path, or none
-pub rest_next : (a : Name) (ps found new : List (Bor (List Field))) (i : ℕ) (p r : Bor (List Field)) (all : List Path) → i < length ps → p ≡ get_or ps i p → Some (path_of r.now) ≡ rest_behind a (path_of p.now) → new ≡ found ++ r ∷ []
-    → all ≡ lent_paths found ++ rests a (lent_paths (drop i ps)) → all ≡ lent_paths new ++ rests a (lent_paths (drop (i + 1) ps))
-rest_next a ps found new i p r all h q has pushed so_far =
-    let rest = rests a (lent_paths (drop (i + 1) ps)) in
-    let one : rests a (path_of p.now ∷ lent_paths (drop (i + 1) ps)) ≡ path_of r.now ∷ rest = rw (← has) refl in
-    so_far ∙ ap (λ xs. lent_paths found ++ rests a xs) (lent_at ps i p h q) ∙ ap (λ xs. lent_paths found ++ xs) one ∙ sym (lent_push found r rest) ∙ ap (λ m. lent_paths m ++ rest) (sym pushed)
-
-pub rest_none : (a : Name) (ps found : List (Bor (List Field))) (i : ℕ) (p : Bor (List Field)) (all : List Path) → i < length ps → p ≡ get_or ps i p → None ≡ rest_behind a (path_of p.now)
-    → all ≡ lent_paths found ++ rests a (lent_paths (drop i ps)) → all ≡ lent_paths found ++ rests a (lent_paths (drop (i + 1) ps))
-rest_none a ps found i p all h q has so_far =
-    let one : rests a (path_of p.now ∷ lent_paths (drop (i + 1) ps)) ≡ rests a (lent_paths (drop (i + 1) ps)) = rw (← has) refl in
-    so_far ∙ ap (λ xs. lent_paths found ++ rests a xs) (lent_at ps i p h q) ∙ ap (λ xs. lent_paths found ++ xs) one
-
-pub rest_end : (a : Name) (ps found : List (Bor (List Field))) (i : ℕ) (all : List Path) → length ps ≤ i → all ≡ lent_paths found ++ rests a (lent_paths (drop i ps)) → lent_paths found ≡ all
-rest_end a ps found i all h so_far = sym (so_far ∙ rw (drop_of_length-le ps h) (append-nil (lent_paths found)))

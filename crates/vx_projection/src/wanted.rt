@@ -70,13 +70,15 @@ impl Wanted {
     }
 }
 
+// (in line, since of most fields nothing is wanted, and a copy of a number then takes no call)
 #[cycle(taken)]
+#[inline(always)]
 fn taken(alloc: Global, wanted: &Wanted, value: &Value) -> Result<Value, AllocError>
     ensures { IfOk result (λ v. value_of v ≡ taken (wanted_of wanted.now) (value_of value.now)) }
 {
     match wanted {
         Wanted::All => value.clone(),
-        Wanted::Default(default) => default.clone(),
+        Wanted::Default(default) => copied(default),
         Wanted::Fields(each) => match value {
             Value::Struct(items) => Ok(Value::Struct(taken_of_each(
                 alloc,
@@ -103,4 +105,17 @@ fn taken_of_each(
         made.push(taken(alloc, &wanted[i], &values[i])?)?;
     }
     Ok(made)
+}
+
+// A copy of the value.
+#[inline(always)]
+fn copied(value: &Value) -> Result<Value, AllocError>
+    ensures { IfOk result (λ copy. value_of copy ≡ value_of value.now) }
+{
+    match value {
+        Value::Null => Ok(Value::Null),
+        Value::Bool(truth) => Ok(Value::Bool(*truth)),
+        Value::Int(number) => Ok(Value::Int(*number)),
+        _ => value.clone(),
+    }
 }
