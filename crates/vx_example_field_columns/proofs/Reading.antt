@@ -10,8 +10,9 @@ use Rattle.vx_dtype.specs.declared.error.VortexError.TheVariants.{OutOfMemory}
 use Rattle.vx_value.specs.Columns.{Batch}
 use Rattle.vx_value.specs.Fields.{data_of, fields_named}
 use Rattle.vx_value.specs.Paths.{Path, is_member}
-use Rattle.vx_value.specs.StructColumns.{all_long, row_at, rows_in, struct_at, struct_column, struct_type, types_in}
+use Rattle.vx_value.specs.StructColumns.{all_long, row_at, rows_in, struct_at, struct_type, types_in}
 use Rattle.vx_value.specs.Types.{Name, LogicalType, ty, struct, Datum, null, struct_of}
+use Rattle.vx_array_build.specs.Built.{structs_by}
 use Rattle.vx_projection.specs.Defaults.{default_of}
 use Rattle.vx_projection.specs.Kept.{rest_behind, rests, others, at_paths, kept, fields_kept, kept_batch}
 use Rattle.vx_example_field_columns.specs.FieldColumns.{is_asked, read_column, read_columns, joined}
@@ -145,14 +146,14 @@ module _ (asked : List Path) where
     each_named e = ap length same ∙ e ∙ sym (as_many names cs) ∙ ap length (told _ read said)
 
     module _ (long : all_long n cs ≡ true) where
-      joined_so : struct_column named read n false ≡ Ok (joined names (read_columns asked names cs) n)
+      joined_so : structs_by named read n None ≡ Ok (joined names (read_columns asked names cs) n)
       joined_so = rw (same, ← told _ read said, long_stay names cs n, long) refl
 
       -- joining them is refused for memory alone
-      pub joins : (e : VortexError) → (e ≡ OutOfMemory) ⊎ (struct_column named read n false ≡ Err e) → e ≡ OutOfMemory
+      pub joins : (e : VortexError) → (e ≡ OutOfMemory) ⊎ (structs_by named read n None ≡ Err e) → e ≡ OutOfMemory
       joins e (inl m) = m
       joins e (inr q) = let p = joined_so in cc
 
       -- and what is kept of them is what is kept of all
-      pub joined_kept : (j : Batch) → struct_column named read n false ≡ Ok j → kept_batch asked j ≡ kept_batch asked (joined names cs n)
+      pub joined_kept : (j : Batch) → structs_by named read n None ≡ Ok j → kept_batch asked j ≡ kept_batch asked (joined names cs n)
       joined_kept j q = let p = joined_so in let is : j ≡ joined names (read_columns asked names cs) n = cc in rw is (read_kept names cs n)

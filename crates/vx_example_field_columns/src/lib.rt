@@ -1,4 +1,4 @@
-// A reader of one's own, as an example: rows kept as columns, one for each field.
+// A reader of one's own, as an example: rows kept as arrays, one for each field.
 #![tactic(auto)]
 
 ghost use Rattle.std.specs.Prelude.{◌≡◌, IsErrOf, Ok, IfErr, IfOk, false, length, map, true};
@@ -13,23 +13,26 @@ ghost use Rattle.vx_dtype.specs.declared.error.VortexError.TheVariants.{LengthMi
 ghost use Rattle.vx_example_field_columns.specs.FieldColumns.{is_asked, joined, reaches, read_column, read_columns};
 
 use std::alloc::{AllocError, Global};
-use vx_projection::{PathReader, read_referenced};
+use vx_array::Array;
+use vx_array_build::struct_of;
+use vx_array_projection::{ArrayReader, read_referenced_array};
 use vx_types::{
-    Column, DType, Field, FieldName, FieldNames, FieldPathSet, Nullability, StructFields,
-    VortexError, VortexResult,
+    DType, Field, FieldName, FieldNames, FieldPathSet, Nullability, StructFields, VortexError,
+    VortexResult,
 };
 
 #[cfg(test)]
 mod tests;
 
-/// Rows of structs, none of them null, kept as a column for each field, and read by their columns:
-/// a read along paths copies the columns whose names some path begins with, and looks at no value of
-/// the others, unless the root path asks for all.
+/// Rows of structs, none of them null, kept as an array for each field, and read by their fields: a read
+/// along paths shares the buffers of the arrays whose names some path begins with, and looks at no value of
+/// the others, unless the root path asks for all. It costs nothing a row where the structs on the paths'
+/// ways are in buffers.
 #[derive(Drop)]
 pub struct FieldColumns {
     dtype: DType,
     names: FieldNames,
-    columns: Vec<Column>,
+    columns: Vec<Array>,
     rows: usize,
     allowed: FieldPathSet,
     ghost named: { length names ≡ length columns.items },
@@ -47,7 +50,7 @@ impl FieldColumns {
     pub fn try_new(
         alloc: Global,
         names: FieldNames,
-        columns: Vec<Column>,
+        columns: Vec<Array>,
         rows: usize,
         allowed: FieldPathSet,
     ) -> VortexResult<FieldColumns>
@@ -71,14 +74,14 @@ impl FieldColumns {
 }
 
 // Whether each column has so many rows.
-fn all_long(columns: &[Column], rows: usize) -> bool
+fn all_long(columns: &[Array], rows: usize) -> bool
     ensures { result ≡ all_long rows columns.now }
 {
     columns.iter().all(|column| column.len() == rows)
 }
 
 // The type of rows of those fields. Asks one name a column.
-fn rows_type(alloc: Global, names: &FieldNames, columns: &[Column]) -> VortexResult<DType>
+fn rows_type(alloc: Global, names: &FieldNames, columns: &[Array]) -> VortexResult<DType>
     requires { length names.now ≡ length columns.now }
     ensures typed { IfOk result (λ t. type_of t ≡ struct_type names.now columns.now false) }
     ensures fit { IfOk result (λ t. EachFit columns.now) }
@@ -90,20 +93,20 @@ fn rows_type(alloc: Global, names: &FieldNames, columns: &[Column]) -> VortexRes
 }
 
 // The types of the columns.
-fn types_in(alloc: Global, columns: &[Column]) -> Result<Vec<DType>, AllocError>
+fn types_in(alloc: Global, columns: &[Array]) -> Result<Vec<DType>, AllocError>
     ensures types { IfOk result (λ types. map type_of types.items ≡ types_in columns.now) }
     ensures fit { IfOk result (λ types. EachFit columns.now) }
 {
     let mut types = Vec::with_capacity(alloc, columns.len())?;
     for column in columns {
         // (what it promises is that the rows fit)
-        let _rows = column.rows();
+        let _ = column.lanes();
         types.push(column.dtype().clone()?)?;
     }
     Ok(types)
 }
 
-impl PathReader for FieldColumns {
+impl ArrayReader for FieldColumns {
     ghost batch = { λ r. joined r.names r.columns.items r.rows };
 
     ghost allowed = { λ r. minimal_paths r.allowed };
@@ -112,22 +115,21 @@ impl PathReader for FieldColumns {
         &self.dtype
     }
 
-    fn read(&self, alloc: Global, paths: &FieldPathSet) -> VortexResult<Column> {
+    fn read(&self, alloc: Global, paths: &FieldPathSet) -> VortexResult<Array> {
         let columns = read_columns(alloc, self.names.as_slice(), self.columns.as_slice(), paths)?;
         let names = self.names.clone()?;
-        let rows = self.rows;
-        let joined = Column::struct_of(alloc, names, columns, rows, Nullability::NonNullable)?;
-        read_referenced(alloc, &joined, paths)
+        let joined = struct_of(alloc, names, columns.as_slice(), self.rows, None)?;
+        read_referenced_array(alloc, &joined, paths)
     }
 }
 
-// The columns, and defaults in place of those that the paths don't ask for.
+// The arrays, and one default in place of each that the paths don't ask for.
 fn read_columns(
     alloc: Global,
     names: &[FieldName],
-    columns: &[Column],
+    columns: &[Array],
     paths: &FieldPathSet,
-) -> VortexResult<Vec<Column>>
+) -> VortexResult<Vec<Array>>
     requires { length names.now ≡ length columns.now }
     ensures { ReturnsOrOom (λ read. read.items) result (Ok (read_columns (minimal_paths paths.now) names.now columns.now)) }
 {
@@ -138,19 +140,19 @@ fn read_columns(
     Ok(read)
 }
 
-// The column of the field of that name, or as many defaults, for which no value is looked at.
+// The array of the field of that name, or as many defaults, for which no value is looked at.
 fn read_column(
     alloc: Global,
     name: &FieldName,
-    column: &Column,
+    column: &Array,
     paths: &FieldPathSet,
-) -> VortexResult<Column>
+) -> VortexResult<Array>
     ensures { ReturnsOrOom (λ read. read) result (Ok (read_column (minimal_paths paths.now) name.now column.now)) }
 {
     if is_asked(paths, name) {
         return Ok(column.clone()?);
     }
-    read_referenced(alloc, column, &FieldPathSet::new(alloc))
+    read_referenced_array(alloc, column, &FieldPathSet::new(alloc))
 }
 
 // Whether the paths ask for the field of that name.

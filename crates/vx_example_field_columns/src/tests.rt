@@ -2,16 +2,13 @@
 use crate::FieldColumns;
 use std::alloc::Global;
 use std::test::Fail;
-use vx_projection::PathReader;
-use vx_types::{
-    Column, DType, FieldName, FieldNames, FieldPath, FieldPathSet, Nullability, PType, Value,
-    VortexResult,
-};
+use vx_array::Array;
+use vx_array_build::primitive;
+use vx_array_projection::ArrayReader;
+use vx_types::{FieldName, FieldNames, FieldPath, FieldPathSet, VortexResult};
 
-fn numbers(alloc: Global, first: i128, second: i128) -> VortexResult<Column> {
-    let rows = vec![in alloc; Value::Int(first), Value::Int(second)]?;
-    let dtype = DType::Primitive(PType::I32, Nullability::NonNullable);
-    Column::try_new(dtype, rows)
+fn numbers(alloc: Global, first: i32, second: i32) -> VortexResult<Array> {
+    primitive(alloc, vec![in alloc; first, second]?, None)
 }
 
 fn field_a(alloc: Global) -> VortexResult<FieldPathSet> {
@@ -34,8 +31,11 @@ fn reader(alloc: Global) -> VortexResult<FieldColumns> {
 fn only_what_is_asked_is_read(rt: HostRuntime) -> Result<(), Fail> {
     let alloc = rt.alloc();
     let reader = reader(alloc).expect(&rt, "a reader");
-    let read = reader.read(alloc, &reader.allowed).expect(&rt, "a column");
-    let text = format!(in alloc; "{read}").expect(&rt, "a text");
+    let read = reader
+        .read(alloc, &reader.allowed)
+        .expect(&rt, "an array");
+    let column = read.to_column(alloc).expect(&rt, "a column");
+    let text = format!(in alloc; "{column}").expect(&rt, "a text");
     assert!(rt;
         text.as_str() == "[{a: 1i32, b: 0i32}, {a: 2i32, b: 0i32}]",
         "{text}"

@@ -4,7 +4,7 @@ use Rattle.std.proofs.Math.Seq.{take-length}
 use Rattle.std.specs.Prelude.{◌==◌, ◌&&◌, if◌then◌else◌, slice_index_or}
 use Rattle.vx_source_types.specs.Characters.{is_word}
 use Rattle.vx_sql_parser.specs.Patterns.{behind}
-use Rattle.vx_sql_parser.specs.Rules.{escape_digits}
+use Rattle.vx_sql_parser.specs.Values.{escape_digits}
 
 pub escape_short : (p : List ℕ) → length p < 4 → 0 < length p → escape_digits p ≡ None
 escape_short [] short some = absurd (omega arith)

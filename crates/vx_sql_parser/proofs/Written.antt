@@ -3,7 +3,8 @@ use Rattle.std.proofs.Common.{◌≡◌, ℕ, List, [], ◌∷◌, ◌++◌, Res
 use Rattle.vx_sql.specs.declared.dialect.Dialect.{Dialect}
 use Rattle.vx_sql_parser.specs.declared.reason.Unread.{Unread}
 use Rattle.vx_sql_parser.specs.SqlTokens.{SqlLexeme}
-use Rattle.vx_sql_parser.specs.Rules.{State, Said, Answer, innermost, changed, rule, onto, written}
+use Rattle.vx_sql_parser.specs.Steps.{State, Said, Answer, innermost, changed}
+use Rattle.vx_sql_parser.specs.Rules.{rule, onto, written}
 use Rattle.vx_sql_parser.specs.declared.step.Stop.{Stop}
 use Rattle.vx_sql_parser.specs.declared.step.Stop.TheVariants as stops
 use Rattle.vx_sql_parser.specs.RuleViews.{Answers, IsStop, after}

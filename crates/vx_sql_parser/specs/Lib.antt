@@ -3,6 +3,10 @@ pub mod Words
 pub mod Types
 pub mod Globs
 pub mod Patterns
+pub mod Steps
+pub mod Ahead
+pub mod Values
+pub mod Matches
 pub mod Rules
 pub mod RuleViews
 pub mod Views

@@ -7,20 +7,21 @@ use Rattle.vx_sql_parser.specs.declared.step.Step.{Step}
 use Rattle.vx_sql_parser.specs.declared.step.Stop.{Stop}
 use Rattle.vx_sql_parser.specs.declared.step.Stop.TheVariants as stops
 use Rattle.vx_sql_parser.specs.SqlTokens.{SqlLexeme}
+use Rattle.vx_sql_parser.specs.Steps as steps
 use Rattle.vx_sql_parser.specs.Rules as rules
 
 -- what a step says
-abbrev pub said_of : Step → rules.Said
+abbrev pub said_of : Step → steps.Said
 said_of s = record { text = string_bytes s.text; change = s.change; more = s.more }
 
 -- the call gave what is said, or stopped for the same reason, unless memory ran out
-abbrev pub Answers : Result Step Stop → rules.Answer → Type 0
+abbrev pub Answers : Result Step Stop → steps.Answer → Type 0
 Answers (Ok s) said = said ≡ Ok (said_of s)
 Answers (Err stops.OutOfMemory) said = Unit {0}
 Answers (Err (stops.Unread r)) said = said ≡ Err r
 
 -- what is open
-abbrev pub state_of : State → rules.State
+abbrev pub state_of : State → steps.State
 state_of s = record { brackets = s.brackets.items; chained = s.chained }
 
 -- what is written behind a text

@@ -1,7 +1,8 @@
 // What stands behind a token.
 ghost use Rattle.std.specs.Prelude.{◌≡◌, option_map, slice_get};
 ghost use Rattle.vx_source_types.specs.Views.{lexeme_of};
-ghost use Rattle.vx_sql_parser.specs.Rules as rules;
+ghost use Rattle.vx_sql_parser.specs.Ahead as ahead;
+ghost use Rattle.vx_sql_parser.specs.Matches as matches;
 ghost use Rattle.vx_sql_parser.specs.Views.{lexemes_of, sql_of};
 
 use crate::keywords::{is, is_name};
@@ -22,7 +23,7 @@ fn found_at(tokens: &[Lexed], i: usize) -> Option<&Result<Token, Unread>>
 
 // The token at that place.
 pub(crate) fn token_at(tokens: &[Lexed], i: usize) -> Option<&Token>
-    ensures { option_map (λ t. lexeme_of t.now) result ≡ rules.lexeme_at (lexemes_of tokens.now) i }
+    ensures { option_map (λ t. lexeme_of t.now) result ≡ ahead.lexeme_at (lexemes_of tokens.now) i }
 {
     match found_at(tokens, i) {
         Some(Ok(token)) => Some(token),
@@ -31,7 +32,7 @@ pub(crate) fn token_at(tokens: &[Lexed], i: usize) -> Option<&Token>
 }
 
 pub(crate) fn word_at(tokens: &[Lexed], i: usize) -> Option<&str>
-    ensures { option_map (λ s. s.now) result ≡ rules.word_at (lexemes_of tokens.now) i }
+    ensures { option_map (λ s. s.now) result ≡ ahead.word_at (lexemes_of tokens.now) i }
 {
     match token_at(tokens, i) {
         Some(Token::Word(word)) => Some(word.as_str()),
@@ -40,7 +41,7 @@ pub(crate) fn word_at(tokens: &[Lexed], i: usize) -> Option<&str>
 }
 
 pub(crate) fn text_at(tokens: &[Lexed], i: usize) -> Option<&str>
-    ensures { option_map (λ s. s.now) result ≡ rules.text_at (lexemes_of tokens.now) i }
+    ensures { option_map (λ s. s.now) result ≡ ahead.text_at (lexemes_of tokens.now) i }
 {
     match token_at(tokens, i) {
         Some(Token::Text(text)) => Some(text.as_str()),
@@ -49,7 +50,7 @@ pub(crate) fn text_at(tokens: &[Lexed], i: usize) -> Option<&str>
 }
 
 fn sign_at(tokens: &[Lexed], i: usize) -> Option<Sign>
-    ensures { result ≡ rules.sign_at (lexemes_of tokens.now) i }
+    ensures { result ≡ ahead.sign_at (lexemes_of tokens.now) i }
 {
     match token_at(tokens, i) {
         Some(Token::Sign(sign)) => Some(*sign),
@@ -59,7 +60,7 @@ fn sign_at(tokens: &[Lexed], i: usize) -> Option<Sign>
 
 // Whether that word stands there, in either case.
 pub(crate) fn is_word_at(tokens: &[Lexed], i: usize, word: &str) -> bool
-    ensures { result ≡ rules.is_word_at (lexemes_of tokens.now) i word.now }
+    ensures { result ≡ ahead.is_word_at (lexemes_of tokens.now) i word.now }
 {
     match word_at(tokens, i) {
         Some(found) => is(found, word),
@@ -69,7 +70,7 @@ pub(crate) fn is_word_at(tokens: &[Lexed], i: usize, word: &str) -> bool
 
 // The name that stands there, no word of SQL.
 pub(crate) fn name_at(tokens: &[Lexed], i: usize) -> Option<&str>
-    ensures { option_map (λ s. s.now) result ≡ rules.name_in (rules.lexeme_at (lexemes_of tokens.now) i) }
+    ensures { option_map (λ s. s.now) result ≡ ahead.name_in (ahead.lexeme_at (lexemes_of tokens.now) i) }
 {
     match token_at(tokens, i) {
         Some(Token::Quoted(name)) => Some(name.as_str()),
@@ -79,14 +80,14 @@ pub(crate) fn name_at(tokens: &[Lexed], i: usize) -> Option<&str>
 }
 
 pub(crate) fn is_text_at(tokens: &[Lexed], i: usize) -> bool
-    ensures { result ≡ rules.is_text (rules.lexeme_at (lexemes_of tokens.now) i) }
+    ensures { result ≡ ahead.is_text (ahead.lexeme_at (lexemes_of tokens.now) i) }
 {
     matches!(token_at(tokens, i), Some(Token::Text(_)))
 }
 
 // Whether that text stands there.
 pub(crate) fn is_this_text(tokens: &[Lexed], i: usize, text: &str) -> bool
-    ensures { result ≡ rules.is_this_text (lexemes_of tokens.now) i text.now }
+    ensures { result ≡ matches.is_this_text (lexemes_of tokens.now) i text.now }
 {
     match text_at(tokens, i) {
         Some(found) => found == text,
@@ -95,25 +96,25 @@ pub(crate) fn is_this_text(tokens: &[Lexed], i: usize, text: &str) -> bool
 }
 
 pub(crate) fn opens_at(tokens: &[Lexed], i: usize) -> bool
-    ensures { result ≡ rules.opens (rules.sign_at (lexemes_of tokens.now) i) }
+    ensures { result ≡ ahead.opens (ahead.sign_at (lexemes_of tokens.now) i) }
 {
     matches!(sign_at(tokens, i), Some(Sign::OpenParen))
 }
 
 pub(crate) fn closes_at(tokens: &[Lexed], i: usize) -> bool
-    ensures { result ≡ rules.closes (rules.sign_at (lexemes_of tokens.now) i) }
+    ensures { result ≡ ahead.closes (ahead.sign_at (lexemes_of tokens.now) i) }
 {
     matches!(sign_at(tokens, i), Some(Sign::CloseParen))
 }
 
 pub(crate) fn is_comma_at(tokens: &[Lexed], i: usize) -> bool
-    ensures { result ≡ rules.is_comma (rules.sign_at (lexemes_of tokens.now) i) }
+    ensures { result ≡ ahead.is_comma (ahead.sign_at (lexemes_of tokens.now) i) }
 {
     matches!(sign_at(tokens, i), Some(Sign::Comma))
 }
 
 pub(crate) fn is_dot_at(tokens: &[Lexed], i: usize) -> bool
-    ensures { result ≡ rules.is_dot (rules.sign_at (lexemes_of tokens.now) i) }
+    ensures { result ≡ ahead.is_dot (ahead.sign_at (lexemes_of tokens.now) i) }
 {
     matches!(sign_at(tokens, i), Some(Sign::Dot))
 }

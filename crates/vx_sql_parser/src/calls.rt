@@ -1,5 +1,7 @@
 // Functions: casts, bytes, the fill of a `coalesce`, and those that ignore the case of letters.
 ghost use Rattle.std.specs.Prelude.{◌≡◌, IfOk, option_map};
+ghost use Rattle.vx_sql_parser.specs.Steps as steps;
+ghost use Rattle.vx_sql_parser.specs.Values as values;
 ghost use Rattle.vx_sql_parser.specs.Rules as rules;
 ghost use Rattle.vx_sql_parser.specs.RuleViews.{Answers};
 ghost use Rattle.vx_sql_parser.specs.Views.{lexeme_in, lexemes_of};
@@ -23,7 +25,7 @@ pub(crate) fn valued(
     word: &str,
     tokens: &[Lexed],
 ) -> Result<Step, Stop>
-    ensures { Answers result (rules.valued_rule dialect word.now (lexemes_of tokens.now)) }
+    ensures { Answers result (values.valued_rule dialect word.now (lexemes_of tokens.now)) }
 {
     if opens_at(tokens, 0) {
         call(alloc, dialect, word, tokens)
@@ -34,7 +36,7 @@ pub(crate) fn valued(
 
 // The function of that name, whose bracket is the first token.
 fn call(alloc: Global, dialect: Dialect, word: &str, tokens: &[Lexed]) -> Result<Step, Stop>
-    ensures { Answers result (rules.call_rule dialect word.now (lexemes_of tokens.now)) }
+    ensures { Answers result (values.call_rule dialect word.now (lexemes_of tokens.now)) }
 {
     if is(word, "cast") {
         cast(alloc, dialect, tokens)
@@ -49,7 +51,7 @@ fn call(alloc: Global, dialect: Dialect, word: &str, tokens: &[Lexed]) -> Result
 
 // The functions that ignore the case of ASCII letters, before a match.
 fn fold_call(alloc: Global, dialect: Dialect, word: &str) -> Result<Step, Stop>
-    ensures { Answers result (rules.fold_call dialect word.now) }
+    ensures { Answers result (values.fold_call dialect word.now) }
 {
     match dialect {
         Dialect::Postgres if is(word, "lower") => {
@@ -64,7 +66,7 @@ fn fold_call(alloc: Global, dialect: Dialect, word: &str) -> Result<Step, Stop>
 
 // PostgreSQL's bytes by their digits.
 fn decode(alloc: Global, dialect: Dialect, tokens: &[Lexed]) -> Result<Step, Stop>
-    ensures { Answers result (rules.decode_rule dialect (lexemes_of tokens.now)) }
+    ensures { Answers result (values.decode_rule dialect (lexemes_of tokens.now)) }
 {
     match dialect {
         Dialect::Postgres if is_hex_call(tokens) => octets_said(alloc, 5, text_at(tokens, 1)),
@@ -73,7 +75,7 @@ fn decode(alloc: Global, dialect: Dialect, tokens: &[Lexed]) -> Result<Step, Sto
 }
 
 fn is_hex_call(tokens: &[Lexed]) -> bool
-    ensures { result ≡ rules.is_hex_call (lexemes_of tokens.now) }
+    ensures { result ≡ values.is_hex_call (lexemes_of tokens.now) }
 {
     match text_at(tokens, 3) {
         Some(form) => is(form, "hex") && closes_at(tokens, 4),
@@ -101,7 +103,7 @@ pub(crate) fn comma(
 
 // Whether a literal stands at the front and then a closing bracket.
 fn is_fill(alloc: Global, dialect: Dialect, tokens: &[Lexed]) -> Result<bool, AllocError>
-    ensures { IfOk result (λ b. b ≡ rules.is_fill dialect (lexemes_of tokens.now)) }
+    ensures { IfOk result (λ b. b ≡ values.is_fill dialect (lexemes_of tokens.now)) }
 {
     let [first, rest @ ..] = tokens else {
         return Ok(false);
@@ -117,7 +119,7 @@ fn is_fill(alloc: Global, dialect: Dialect, tokens: &[Lexed]) -> Result<bool, Al
 
 // Whether the token is a literal by itself.
 fn is_value(token: &Lexed) -> bool
-    ensures { result ≡ rules.is_value (lexeme_in token.now) }
+    ensures { result ≡ values.is_value (lexeme_in token.now) }
 {
     match &token.token {
         Ok(Token::Text(_)) | Ok(Token::Number { .. }) => true,
@@ -128,7 +130,7 @@ fn is_value(token: &Lexed) -> bool
 
 // Whether what is said of a word is a literal, no bracket, and then a bracket closes.
 fn ends_value(said: Result<Step, Stop>, tokens: &[Lexed]) -> Result<bool, AllocError>
-    ensures { (answer : rules.Answer) → Answers said answer → IfOk result (λ b. b ≡ rules.ends_value answer (lexemes_of tokens.now)) }
+    ensures { (answer : steps.Answer) → Answers said answer → IfOk result (λ b. b ≡ values.ends_value answer (lexemes_of tokens.now)) }
 {
     match said {
         Ok(step) => Ok(matches!(step.change, Change::Stays) && closes_at(tokens, step.more)),

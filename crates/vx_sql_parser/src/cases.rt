@@ -1,5 +1,6 @@
 // CASE, over a column or not.
 ghost use Rattle.std.specs.Prelude.{◌≡◌, IfOk, option_map, string_bytes};
+ghost use Rattle.vx_sql_parser.specs.Ahead as ahead;
 ghost use Rattle.vx_sql_parser.specs.Rules as rules;
 ghost use Rattle.vx_sql_parser.specs.RuleViews.{Answers};
 ghost use Rattle.vx_sql_parser.specs.Views.{lexemes_of};
@@ -24,7 +25,7 @@ pub(crate) fn case_begins(alloc: Global, tokens: &[Lexed]) -> Result<Step, Stop>
 
 // The same over a column.
 fn case_over(alloc: Global, tokens: &[Lexed]) -> Result<Step, Stop>
-    ensures { Answers result (rules.case_over (lexemes_of tokens.now) (rules.name_in (rules.lexeme_at (lexemes_of tokens.now) 0))) }
+    ensures { Answers result (rules.case_over (lexemes_of tokens.now) (ahead.name_in (ahead.lexeme_at (lexemes_of tokens.now) 0))) }
 {
     let Some(name) = name_at(tokens, 0) else {
         return Err(Stop::Unread(Unread::Operand));

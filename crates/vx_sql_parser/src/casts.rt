@@ -1,7 +1,8 @@
 // Casts, of literals and others.
 ghost use Rattle.std.specs.Prelude.{◌≡◌, ◌<◌, IfOk, option_map, string_bytes};
 ghost use Rattle.vx_source_types.specs.Views.{lexeme_of};
-ghost use Rattle.vx_sql_parser.specs.Rules as rules;
+ghost use Rattle.vx_sql_parser.specs.Ahead as ahead;
+ghost use Rattle.vx_sql_parser.specs.Values as values;
 ghost use Rattle.vx_sql_parser.specs.RuleViews.{Answers};
 ghost use Rattle.vx_sql_parser.specs.Views.{lexemes_of};
 
@@ -20,7 +21,7 @@ use vx_sql::Dialect;
 
 // A cast whose bracket is the first token: a literal, or the bracket around what is cast.
 pub(crate) fn cast(alloc: Global, dialect: Dialect, tokens: &[Lexed]) -> Result<Step, Stop>
-    ensures { Answers result (rules.cast_said (rules.literal_cast dialect (lexemes_of tokens.now) 0)) }
+    ensures { Answers result (values.cast_said (values.literal_cast dialect (lexemes_of tokens.now) 0)) }
 {
     match literal_cast(alloc, dialect, tokens, 0)? {
         Some(text) => Ok(stepped(text, Change::Stays, 5)),
@@ -36,7 +37,7 @@ pub(crate) fn literal_cast(
     i: usize,
 ) -> Result<Option<String>, AllocError>
     requires { i < 8 }
-    ensures { IfOk result (λ t. option_map string_bytes t ≡ rules.literal_cast dialect (lexemes_of tokens.now) i) }
+    ensures { IfOk result (λ t. option_map string_bytes t ≡ values.literal_cast dialect (lexemes_of tokens.now) i) }
 {
     if !(is_word_at(tokens, i + 2, "as") && closes_at(tokens, i + 4)) {
         return Ok(None);
@@ -52,7 +53,7 @@ fn typed_literal(
     token: Option<&Token>,
     dtype: Option<&'static str>,
 ) -> Result<Option<String>, AllocError>
-    ensures { IfOk result (λ t. option_map string_bytes t ≡ rules.typed_literal dialect (option_map (λ x. lexeme_of x.now) token.entry) (option_map (λ t. t.now) dtype.entry)) }
+    ensures { IfOk result (λ t. option_map string_bytes t ≡ values.typed_literal dialect (option_map (λ x. lexeme_of x.now) token.entry) (option_map (λ t. t.now) dtype.entry)) }
 {
     match token {
         Some(
@@ -78,7 +79,7 @@ fn typed_number(
     n: u64,
     dtype: Option<&'static str>,
 ) -> Result<Option<String>, AllocError>
-    ensures { IfOk result (λ t. option_map string_bytes t ≡ rules.typed_number dialect sign.now n (option_map (λ t. t.now) dtype.entry)) }
+    ensures { IfOk result (λ t. option_map string_bytes t ≡ values.typed_number dialect sign.now n (option_map (λ t. t.now) dtype.entry)) }
 {
     let Some(dtype) = dtype else {
         return Ok(None);
@@ -91,7 +92,7 @@ fn typed_number(
 
 // Whether the type is the one of all numbers, as SQLite's.
 fn is_of_all(dialect: Dialect, dtype: &str) -> bool
-    ensures { result ≡ rules.is_of_all dialect dtype.now }
+    ensures { result ≡ values.is_of_all dialect dtype.now }
 {
     match dialect {
         Dialect::Sqlite => is(dtype, "i64"),
@@ -101,7 +102,7 @@ fn is_of_all(dialect: Dialect, dtype: &str) -> bool
 
 // Whether the type is that of DuckDB's bytes.
 fn is_bytes_type(dialect: Dialect, dtype: Option<&'static str>) -> bool
-    ensures { result ≡ rules.is_bytes_type dialect (option_map (λ t. t.now) dtype.entry) }
+    ensures { result ≡ values.is_bytes_type dialect (option_map (λ t. t.now) dtype.entry) }
 {
     match (dialect, dtype) {
         (Dialect::DuckDb, Some(dtype)) => is(dtype, "binary"),
@@ -110,7 +111,7 @@ fn is_bytes_type(dialect: Dialect, dtype: Option<&'static str>) -> bool
 }
 
 fn typed_null(alloc: Global, dtype: Option<&'static str>) -> Result<Option<String>, AllocError>
-    ensures { IfOk result (λ t. option_map string_bytes t ≡ rules.typed_null (option_map (λ t. t.now) dtype.entry)) }
+    ensures { IfOk result (λ t. option_map string_bytes t ≡ values.typed_null (option_map (λ t. t.now) dtype.entry)) }
 {
     let Some(dtype) = dtype else {
         return Ok(None);
@@ -120,7 +121,7 @@ fn typed_null(alloc: Global, dtype: Option<&'static str>) -> Result<Option<Strin
 
 // The type that the word is.
 fn typed(dialect: Dialect, word: Option<&str>) -> Option<&'static str>
-    ensures { option_map (λ t. t.now) result ≡ rules.typed dialect (option_map (λ w. w.now) word.entry) }
+    ensures { option_map (λ t. t.now) result ≡ values.typed dialect (option_map (λ w. w.now) word.entry) }
 {
     match word {
         Some(word) => type_named(dialect, word),
@@ -130,7 +131,7 @@ fn typed(dialect: Dialect, word: Option<&str>) -> Option<&'static str>
 
 // The type behind `as`.
 pub(crate) fn as_type(alloc: Global, dialect: Dialect, tokens: &[Lexed]) -> Result<Step, Stop>
-    ensures { Answers result (rules.as_said (rules.typed dialect (rules.word_at (lexemes_of tokens.now) 0))) }
+    ensures { Answers result (values.as_said (values.typed dialect (ahead.word_at (lexemes_of tokens.now) 0))) }
 {
     match typed(dialect, word_at(tokens, 0)) {
         Some(dtype) => {

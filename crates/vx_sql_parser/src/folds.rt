@@ -2,6 +2,9 @@
 ghost use Rattle.std.specs.Prelude.{◌≡◌, ◌<◌, not, option_map};
 ghost use Rattle.std.specs.Char.{is_ascii_uppercase};
 ghost use Rattle.std.specs.List.{list_all};
+ghost use Rattle.vx_sql_parser.specs.Ahead as ahead;
+ghost use Rattle.vx_sql_parser.specs.Values as values;
+ghost use Rattle.vx_sql_parser.specs.Matches as matches;
 ghost use Rattle.vx_sql_parser.specs.Rules as rules;
 ghost use Rattle.vx_sql_parser.specs.RuleViews.{Answers};
 ghost use Rattle.vx_sql_parser.specs.Views.{lexemes_of};
@@ -49,7 +52,7 @@ pub(crate) fn collate_rule(
 }
 
 fn is_bytes_order(behind: &[Lexed]) -> bool
-    ensures { result ≡ rules.is_bytes_order (rules.lexeme_at (lexemes_of behind.now) 0) }
+    ensures { result ≡ values.is_bytes_order (ahead.lexeme_at (lexemes_of behind.now) 0) }
 {
     match token_at(behind, 0) {
         Some(Token::Quoted(name)) => is(name.as_str(), "C"),
@@ -60,7 +63,7 @@ fn is_bytes_order(behind: &[Lexed]) -> bool
 
 // The comma of a `translate`, behind which each capital stands and its small letter, and a match.
 pub(crate) fn translated(alloc: Global, dialect: Dialect, behind: &[Lexed]) -> Result<Step, Stop>
-    ensures { Answers result (rules.translated dialect (lexemes_of behind.now)) }
+    ensures { Answers result (matches.translated dialect (lexemes_of behind.now)) }
 {
     if are_letters(behind) {
         folded_like(alloc, dialect, behind, 4)
@@ -70,7 +73,7 @@ pub(crate) fn translated(alloc: Global, dialect: Dialect, behind: &[Lexed]) -> R
 }
 
 fn are_letters(behind: &[Lexed]) -> bool
-    ensures { result ≡ rules.are_letters (lexemes_of behind.now) }
+    ensures { result ≡ matches.are_letters (lexemes_of behind.now) }
 {
     (is_this_text(behind, 0, "ABCDEFGHIJKLMNOPQRSTUVWXYZ") && is_comma_at(behind, 1))
         && (is_this_text(behind, 2, "abcdefghijklmnopqrstuvwxyz") && closes_at(behind, 3))
@@ -79,7 +82,7 @@ fn are_letters(behind: &[Lexed]) -> bool
 // `[NOT] LIKE` at that place, which is written behind the closing bracket.
 fn folded_like(alloc: Global, dialect: Dialect, tokens: &[Lexed], i: usize) -> Result<Step, Stop>
     requires { i < 5 }
-    ensures { Answers result (rules.folded_like dialect (lexemes_of tokens.now) i) }
+    ensures { Answers result (matches.folded_like dialect (lexemes_of tokens.now) i) }
 {
     if is_word_at(tokens, i, "not") {
         small_like(alloc, dialect, ") not ", tokens, i + 1)
@@ -97,7 +100,7 @@ fn small_like(
     i: usize,
 ) -> Result<Step, Stop>
     requires { i < 6 }
-    ensures { Answers result (rules.small_like dialect before.now (lexemes_of tokens.now) i) }
+    ensures { Answers result (matches.small_like dialect before.now (lexemes_of tokens.now) i) }
 {
     if !(is_word_at(tokens, i, "like") && is_small(text_at(tokens, i + 1))) {
         return Err(Stop::Unread(Unread::Function));
@@ -109,7 +112,7 @@ fn small_like(
 
 // Whether the text has no capital of ASCII, if it is one.
 fn is_small(text: Option<&str>) -> bool
-    ensures { result ≡ rules.is_small (option_map (λ s. s.now) text.entry) }
+    ensures { result ≡ matches.is_small (option_map (λ s. s.now) text.entry) }
 {
     match text {
         Some(text) => are_small(text.as_bytes()),

@@ -3,7 +3,7 @@ ghost use Rattle.std.specs.Prelude.{◌≡◌, ◌<◌, ◌≤◌, Some, option_
 ghost use Rattle.std.specs.Char.{is_ascii};
 ghost use Rattle.std.specs.List.{list_all};
 ghost use Rattle.vx_sql_parser.specs.Patterns.{pattern_source};
-ghost use Rattle.vx_sql_parser.specs.Rules as rules;
+ghost use Rattle.vx_sql_parser.specs.Matches as matches;
 ghost use Rattle.vx_sql_parser.specs.RuleViews.{Answers};
 ghost use Rattle.vx_sql_parser.specs.Views.{lexemes_of};
 
@@ -27,7 +27,7 @@ pub(crate) fn like(
     i: usize,
 ) -> Result<Step, Stop>
     requires { i < 7 }
-    ensures { Answers result (rules.like_rule dialect ignores (lexemes_of tokens.now) i) }
+    ensures { Answers result (matches.like_rule dialect ignores (lexemes_of tokens.now) i) }
 {
     let Some(pattern) = text_at(tokens, i) else {
         return null_pattern(alloc, dialect, ignores, tokens, i);
@@ -50,7 +50,7 @@ fn null_pattern(
     at: usize,
 ) -> Result<Step, Stop>
     requires { at < 7 }
-    ensures { Answers result (rules.null_pattern dialect ignores (lexemes_of tokens.now) at) }
+    ensures { Answers result (matches.null_pattern dialect ignores (lexemes_of tokens.now) at) }
 {
     if !(is_word_at(tokens, at, "cast") && is_word_at(tokens, at + 2, "null")) {
         return Err(Stop::Unread(Unread::Pattern));
@@ -69,7 +69,7 @@ fn null_pattern(
 // How many tokens say an escape.
 fn escape_len(tokens: &[Lexed], i: usize) -> usize
     requires { i < 13 }
-    ensures len { result ≡ rules.escape_len (lexemes_of tokens.now) i }
+    ensures len { result ≡ matches.escape_len (lexemes_of tokens.now) i }
     ensures few { result ≤ 2 }
 {
     if is_word_at(tokens, i, "escape") && is_text_at(tokens, i + 1) {
@@ -81,7 +81,7 @@ fn escape_len(tokens: &[Lexed], i: usize) -> usize
 
 // The same with the case ignored, where only that of ASCII letters is in question.
 pub(crate) fn ilike(alloc: Global, dialect: Dialect, tokens: &[Lexed]) -> Result<Step, Stop>
-    ensures { Answers result (rules.ilike_rule dialect (lexemes_of tokens.now)) }
+    ensures { Answers result (matches.ilike_rule dialect (lexemes_of tokens.now)) }
 {
     if ignores_case(dialect) {
         return Err(Stop::Unread(Unread::Word));
@@ -94,7 +94,7 @@ pub(crate) fn ilike(alloc: Global, dialect: Dialect, tokens: &[Lexed]) -> Result
 
 // A match of a pattern of SQLite's GLOB.
 pub(crate) fn glob(alloc: Global, dialect: Dialect, tokens: &[Lexed]) -> Result<Step, Stop>
-    ensures { Answers result (rules.glob_rule dialect (lexemes_of tokens.now)) }
+    ensures { Answers result (matches.glob_rule dialect (lexemes_of tokens.now)) }
 {
     let Dialect::Sqlite = dialect else {
         return Err(Stop::Unread(Unread::Word));
@@ -113,7 +113,7 @@ pub(crate) fn glob(alloc: Global, dialect: Dialect, tokens: &[Lexed]) -> Result<
 
 // Whether the text, if it is one, has characters of ASCII alone.
 fn is_ascii_text(text: Option<&str>) -> bool
-    ensures { result ≡ rules.is_ascii_text (option_map (λ s. s.now) text.entry) }
+    ensures { result ≡ matches.is_ascii_text (option_map (λ s. s.now) text.entry) }
 {
     match text {
         Some(text) => are_ascii(text.as_bytes()),
@@ -134,7 +134,7 @@ fn are_ascii(bytes: &[u8]) -> bool
 
 // The escape that the text is.
 fn escape_in(text: Option<&str>) -> Option<u8>
-    ensures { result ≡ rules.escape_in (option_map (λ s. s.now) text.entry) }
+    ensures { result ≡ matches.escape_in (option_map (λ s. s.now) text.entry) }
 {
     match text {
         Some(text) => match text.as_bytes() {
@@ -153,7 +153,7 @@ fn matched(
     pattern: &str,
     more: usize,
 ) -> Result<Step, Stop>
-    ensures { Answers result (rules.pattern_said ignores escape pattern.now more) }
+    ensures { Answers result (matches.pattern_said ignores escape pattern.now more) }
 {
     match pattern_source(alloc, escape, pattern)? {
         Some(made) => likes(alloc, ignores, made.as_str(), more),
@@ -163,7 +163,7 @@ fn matched(
 
 // A match of that pattern of source text.
 fn likes(alloc: Global, ignores: bool, pattern: &str, more: usize) -> Result<Step, Stop>
-    ensures { Answers result (rules.like_said ignores more (Some pattern.now)) }
+    ensures { Answers result (matches.like_said ignores more (Some pattern.now)) }
 {
     let (word, pattern) = (like_word(ignores), QuotedText(pattern));
     let text = format!(in alloc; "{word}{pattern}")?;
@@ -171,7 +171,7 @@ fn likes(alloc: Global, ignores: bool, pattern: &str, more: usize) -> Result<Ste
 }
 
 fn like_word(ignores: bool) -> &'static str
-    ensures { result.now ≡ rules.like_word ignores }
+    ensures { result.now ≡ matches.like_word ignores }
 {
     if ignores { "ilike " } else { "like " }
 }

@@ -1,7 +1,7 @@
 // Names, numbers and bytes.
 ghost use Rattle.std.specs.Prelude.{◌≡◌, option_map};
 ghost use Rattle.vx_source_types.specs.Characters.{is_word};
-ghost use Rattle.vx_sql_parser.specs.Rules as rules;
+ghost use Rattle.vx_sql_parser.specs.Values as values;
 ghost use Rattle.vx_sql_parser.specs.RuleViews.{Answers};
 ghost use Rattle.vx_sql_parser.specs.Views.{lexemes_of};
 ghost use Rattle.std.specs.List.{list_all};
@@ -17,7 +17,7 @@ use vx_sql::Dialect;
 
 // A name, behind which no other stands.
 pub(crate) fn name_rule(alloc: Global, name: &str, behind: &[Lexed]) -> Result<Step, Stop>
-    ensures { Answers result (rules.name_rule name.now (lexemes_of behind.now)) }
+    ensures { Answers result (values.name_rule name.now (lexemes_of behind.now)) }
 {
     if is_dot_at(behind, 0) {
         return Err(Stop::Unread(Unread::Table));
@@ -33,7 +33,7 @@ pub(crate) fn number_rule(
     n: u64,
     behind: &[Lexed],
 ) -> Result<Step, Stop>
-    ensures { Answers result (rules.number_rule negative n (lexemes_of behind.now)) }
+    ensures { Answers result (values.number_rule negative n (lexemes_of behind.now)) }
 {
     if is_dot_at(behind, 0) {
         return Err(Stop::Unread(Unread::Number));
@@ -43,7 +43,7 @@ pub(crate) fn number_rule(
 }
 
 pub(crate) fn sign_of(negative: bool) -> &'static str
-    ensures { result.now ≡ rules.sign_source negative }
+    ensures { result.now ≡ values.sign_source negative }
 {
     if negative { "-" } else { "" }
 }
@@ -55,7 +55,7 @@ pub(crate) fn typed_text(
     word: &str,
     behind: &[Lexed],
 ) -> Result<Step, Stop>
-    ensures { Answers result (rules.typed_text dialect word.now (lexemes_of behind.now)) }
+    ensures { Answers result (values.typed_text dialect word.now (lexemes_of behind.now)) }
 {
     if has_octets(dialect) && is(word, "x") {
         octets_said(alloc, 1, text_at(behind, 0))
@@ -65,14 +65,14 @@ pub(crate) fn typed_text(
 }
 
 fn has_octets(dialect: Dialect) -> bool
-    ensures { result ≡ rules.has_octets dialect }
+    ensures { result ≡ values.has_octets dialect }
 {
     matches!(dialect, Dialect::Sqlite | Dialect::Spark)
 }
 
 // Bytes by the digits that stand for them, which take so many tokens.
 pub(crate) fn octets_said(alloc: Global, more: usize, digits: Option<&str>) -> Result<Step, Stop>
-    ensures { Answers result (rules.octets_said more (option_map (λ d. d.now) digits.entry)) }
+    ensures { Answers result (values.octets_said more (option_map (λ d. d.now) digits.entry)) }
 {
     match digits {
         Some(digits) if are_words(digits.as_bytes()) => {

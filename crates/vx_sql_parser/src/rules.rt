@@ -1,6 +1,7 @@
 // What tokens of SQL are written as.
 ghost use Rattle.std.specs.Prelude.{◌≡◌, ◌<◌};
 ghost use Rattle.vx_source_types.specs.Views.{lexeme_of};
+ghost use Rattle.vx_sql_parser.specs.Steps as steps;
 ghost use Rattle.vx_sql_parser.specs.Rules as rules;
 ghost use Rattle.vx_sql_parser.specs.RuleViews.{Answers};
 ghost use Rattle.vx_sql_parser.specs.Views.{lexeme_in, lexemes_of};
@@ -26,7 +27,7 @@ use vx_sql::Dialect;
 impl Translation {
     // What the token is written as, before those behind it.
     pub(crate) fn step(&self, alloc: Global, token: &Lexed, behind: &[Lexed]) -> Result<Step, Stop>
-        ensures { Answers result (rules.rule self.now.dialect (rules.innermost self.now.state.brackets.items) self.now.state.chained (lexeme_in token.now) (lexemes_of behind.now)) }
+        ensures { Answers result (rules.rule self.now.dialect (steps.innermost self.now.state.brackets.items) self.now.state.chained (lexeme_in token.now) (lexemes_of behind.now)) }
     {
         match &token.token {
             Ok(token) => self.token_rule(alloc, token, behind),
@@ -35,7 +36,7 @@ impl Translation {
     }
 
     fn token_rule(&self, alloc: Global, token: &Token, behind: &[Lexed]) -> Result<Step, Stop>
-        ensures { Answers result (rules.token_rule self.now.dialect (rules.innermost self.now.state.brackets.items) self.now.state.chained (lexeme_of token.now) (lexemes_of behind.now)) }
+        ensures { Answers result (rules.token_rule self.now.dialect (steps.innermost self.now.state.brackets.items) self.now.state.chained (lexeme_of token.now) (lexemes_of behind.now)) }
     {
         match token {
             Token::Word(word) => self.word_rule(alloc, word.as_str(), behind),
@@ -56,7 +57,7 @@ impl Translation {
     }
 
     fn word_rule(&self, alloc: Global, word: &str, behind: &[Lexed]) -> Result<Step, Stop>
-        ensures { Answers result (rules.word_rule self.now.dialect (rules.innermost self.now.state.brackets.items) word.now (lexemes_of behind.now)) }
+        ensures { Answers result (rules.word_rule self.now.dialect (steps.innermost self.now.state.brackets.items) word.now (lexemes_of behind.now)) }
     {
         if is_divider(word) {
             says(alloc, word, Change::Divides, 0)
@@ -69,7 +70,7 @@ impl Translation {
 
     // `is`, `like`, `ilike`, `glob` and `as`.
     fn keyword_rule(&self, alloc: Global, word: &str, behind: &[Lexed]) -> Result<Step, Stop>
-        ensures { Answers result (rules.keyword_rule self.now.dialect (rules.innermost self.now.state.brackets.items) word.now (lexemes_of behind.now)) }
+        ensures { Answers result (rules.keyword_rule self.now.dialect (steps.innermost self.now.state.brackets.items) word.now (lexemes_of behind.now)) }
     {
         if is(word, "is") {
             is_rule(alloc, behind)
@@ -88,7 +89,7 @@ impl Translation {
 
     // The words of a CASE.
     fn case_rule(&self, alloc: Global, word: &str, behind: &[Lexed]) -> Result<Step, Stop>
-        ensures { Answers result (rules.case_rule self.now.dialect (rules.innermost self.now.state.brackets.items) word.now (lexemes_of behind.now)) }
+        ensures { Answers result (rules.case_rule self.now.dialect (steps.innermost self.now.state.brackets.items) word.now (lexemes_of behind.now)) }
     {
         if is(word, "case") {
             case_begins(alloc, behind)
@@ -106,7 +107,7 @@ impl Translation {
 
     // A name, a function, or a word that isn't read.
     fn other_rule(&self, alloc: Global, word: &str, behind: &[Lexed]) -> Result<Step, Stop>
-        ensures { Answers result (rules.other_rule self.now.dialect (rules.innermost self.now.state.brackets.items) word.now (lexemes_of behind.now)) }
+        ensures { Answers result (rules.other_rule self.now.dialect (steps.innermost self.now.state.brackets.items) word.now (lexemes_of behind.now)) }
     {
         if is_reserved(word) {
             Err(Stop::Unread(Unread::Word))
@@ -121,7 +122,7 @@ impl Translation {
 
     // A sign, no comma.
     fn sign_rule(&self, alloc: Global, sign: Sign) -> Result<Step, Stop>
-        ensures { Answers result (rules.sign_rule (rules.innermost self.now.state.brackets.items) self.now.state.chained sign) }
+        ensures { Answers result (rules.sign_rule (steps.innermost self.now.state.brackets.items) self.now.state.chained sign) }
     {
         match sign {
             Sign::OpenParen => says(alloc, "(", Change::Opens(Bracket::Paren), 0),

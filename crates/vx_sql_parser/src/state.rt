@@ -1,5 +1,6 @@
 // What is open.
 ghost use Rattle.std.specs.Prelude.{◌≡◌, [], false, OnOk, option_map};
+ghost use Rattle.vx_sql_parser.specs.Steps as steps;
 ghost use Rattle.vx_sql_parser.specs.Rules as rules;
 ghost use Rattle.vx_sql_parser.specs.RuleViews.{state_of};
 
@@ -33,7 +34,7 @@ impl State {
 
     // The innermost bracket.
     pub(crate) fn innermost(&self) -> Option<&Bracket>
-        ensures { option_map (λ b. b.now) result ≡ rules.innermost self.now.brackets.items }
+        ensures { option_map (λ b. b.now) result ≡ steps.innermost self.now.brackets.items }
     {
         match self.brackets.as_slice().last() {
             Some(open) => Some(&open.bracket),
@@ -43,7 +44,7 @@ impl State {
 
     // Makes of it what a token does.
     pub(crate) fn change(&mut self, change: Change) -> Result<(), AllocError>
-        ensures { OnOk result (state_of self.new ≡ rules.changed change (state_of self.old)) }
+        ensures { OnOk result (state_of self.new ≡ steps.changed change (state_of self.old)) }
     {
         match change {
             Change::Stays => {}

@@ -1,6 +1,6 @@
 // What a token is written as.
 ghost use Rattle.std.specs.Prelude.{◌≡◌, Ok, string_bytes};
-ghost use Rattle.vx_sql_parser.specs.Rules as rules;
+ghost use Rattle.vx_sql_parser.specs.Steps as steps;
 ghost use Rattle.vx_sql_parser.specs.RuleViews.{Answers};
 ghost use Rattle.vx_sql_parser.specs.declared.step.Stop.TheVariants as stops;
 
@@ -78,7 +78,7 @@ impl<T: Drop> From<AllocFailed<T>> for Stop {
 
 // The text, the change, and how many tokens behind are written with it.
 pub(crate) fn says(alloc: Global, text: &str, change: Change, more: usize) -> Result<Step, Stop>
-    ensures { Answers result (rules.says text.now change more) }
+    ensures { Answers result (steps.says text.now change more) }
 {
     let text = String::from_str(alloc, text)?;
     Ok(Step { text, change, more })
@@ -86,7 +86,7 @@ pub(crate) fn says(alloc: Global, text: &str, change: Change, more: usize) -> Re
 
 // The same of a text that is there.
 pub(crate) fn stepped(text: String, change: Change, more: usize) -> Step
-    ensures { Answers (Ok result) (rules.says (string_bytes text) change more) }
+    ensures { Answers (Ok result) (steps.says (string_bytes text) change more) }
 {
     Step { text, change, more }
 }

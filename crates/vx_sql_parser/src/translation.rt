@@ -1,5 +1,6 @@
 // A text of SQL as source text.
 ghost use Rattle.std.specs.Prelude.{◌≡◌, ◌∷◌, ◌++◌, [], IfErr, List, OnOk, string_bytes};
+ghost use Rattle.vx_sql_parser.specs.Steps as steps;
 ghost use Rattle.vx_sql_parser.specs.Rules as rules;
 ghost use Rattle.vx_sql_parser.specs.RuleViews.{IsStop, state_of, with_tokens};
 ghost use Rattle.vx_sql_parser.specs.SqlTokens.{SqlLexeme};
@@ -72,7 +73,7 @@ impl Translation {
     fn put(&mut self, step: Step, at: usize) -> Result<(), AllocError>
         ensures dialect { OnOk result (self.new.dialect ≡ self.old.dialect) }
         ensures source { OnOk result (string_bytes self.new.source ≡ string_bytes self.old.source ++ (string_bytes step.text ++ 32 ∷ [])) }
-        ensures state { OnOk result (state_of self.new.state ≡ rules.changed step.change (state_of self.old.state)) }
+        ensures state { OnOk result (state_of self.new.state ≡ steps.changed step.change (state_of self.old.state)) }
         ensures more { OnOk result (self.new.more ≡ step.more) }
     {
         let Step { text, change, more } = step;

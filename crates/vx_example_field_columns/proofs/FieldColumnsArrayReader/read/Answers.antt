@@ -3,7 +3,7 @@ use Rattle.vx_dtype.specs.Returns.{ReturnsOrOom}
 use Rattle.vx_dtype.specs.declared.error.VortexError.TheVariants.{OutOfMemory}
 use Rattle.vx_value.specs.Paths.{minimal_paths}
 use Rattle.vx_example_field_columns.proofs.Reading.{each_named, joins, joined_kept}
-use Rattle.vx_example_field_columns.proofs.FieldColumnsPathReader.read.Goals as goal
+use Rattle.vx_example_field_columns.proofs.FieldColumnsArrayReader.read.Goals as goal
 
 pub struct_of-requires : goal.struct_of-requires
 struct_of-requires c =
@@ -16,7 +16,7 @@ returns-in_err-joined c =
     let r = c.args.self.now in
     let memory : c.in_err-joined.field-0.0 ≡ OutOfMemory =
     joins (minimal_paths c.args.paths.now) r.names r.columns.items r.rows c.in_ok-names.names c.in_ok-columns.columns.items c.in_ok-names.ensures.cases
-    (rw (← c.as_slice.ensures, ← c.as_slice-2.ensures.value) c.in_ok-columns.ensures) r.long c.in_err-joined.field-0.0 c.in_err-joined.ensures.column in
+    (rw (← c.as_slice.ensures, ← c.as_slice-2.ensures.value) c.in_ok-columns.ensures) r.long c.in_err-joined.field-0.0 c.in_err-joined.ensures.structs in
     search (rules, memory)
 
 pub returns : goal.returns
@@ -24,5 +24,5 @@ returns c =
     let r = c.args.self.now in
     let kept =
     joined_kept (minimal_paths c.args.paths.now) r.names r.columns.items r.rows c.in_ok-names.names c.in_ok-columns.columns.items c.in_ok-names.ensures.cases
-    (rw (← c.as_slice.ensures, ← c.as_slice-2.ensures.value) c.in_ok-columns.ensures) r.long c.in_ok-joined.joined c.in_ok-joined.ensures.column in
-    subst (λ batch. ReturnsOrOom (λ x. x) c.read_referenced.result (Ok batch)) kept c.read_referenced.ensures
+    (rw (← c.as_slice.ensures, ← c.as_slice-2.ensures.value) c.in_ok-columns.ensures) r.long c.in_ok-joined.joined c.in_ok-joined.ensures.structs in
+    subst (λ batch. ReturnsOrOom (λ x. x) c.read_referenced_array.result (Ok batch)) kept c.read_referenced_array.ensures

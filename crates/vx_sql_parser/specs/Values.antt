@@ -1,0 +1,169 @@
+-- What names, numbers, bytes, casts and calls of SQL are written as.
+use Rattle.std.specs.Prelude.{ℕ, ◌+◌, ◌-◌, ◌||◌, ◌&&◌, ◌==◌, Bool, true, false, List, [], ◌∷◌, ◌++◌, Option, Some, None, Ok, Err, if◌then◌else◌, codes}
+use Rattle.std.specs.Fmt.{decimal}
+use Rattle.std.specs.List.{list_all}
+use Rattle.vx_source_types.specs.Characters.{is_word}
+use Rattle.vx_source_types.specs.Names.{same_word}
+use Rattle.vx_source_types.specs.Spellings.{between_quotes}
+use Rattle.vx_source_types.specs.Tokens.{Lexeme, word, quoted, number, text}
+use Rattle.vx_sql.specs.declared.dialect.Dialect.{Dialect}
+use Rattle.vx_sql.specs.declared.dialect.Dialect.TheVariants.{Postgres, Sqlite, DuckDb, Spark}
+use Rattle.vx_sql_parser.specs.declared.reason.Unread.TheVariants.{Number as NoNumber, Hexadecimal, Function, TypedText, Table, CastType}
+use Rattle.vx_sql_parser.specs.declared.step.Bracket.TheVariants.{Paren, Fill, Lower, Translate}
+use Rattle.vx_sql_parser.specs.declared.step.Change.TheVariants.{Stays, Opens}
+use Rattle.vx_sql_parser.specs.SqlTokens.{SqlLexeme}
+use Rattle.vx_sql_parser.specs.Words.{is_one_of, is_truth}
+use Rattle.vx_sql_parser.specs.Types.{type_named}
+use Rattle.vx_sql_parser.specs.Patterns.{as_text, behind}
+use Rattle.vx_sql_parser.specs.Steps.{is_kept, Answer, says}
+use Rattle.vx_sql_parser.specs.Ahead.{lexeme_at, opens, closes, is_dot, sign_at, word_at, text_at, is_this, is_word_at}
+
+-- ---- names, numbers and bytes
+
+-- a name, behind which no other stands
+abbrev pub name_rule : List ℕ → List SqlLexeme → Answer
+name_rule a xs = if is_dot (sign_at xs 0) then Err Table else says (between_quotes 96 a) Stays 0
+
+-- a number, with no point behind it
+abbrev pub sign_source : Bool → List ℕ
+sign_source negative = if negative then codes "-" else []
+
+abbrev pub number_source : Bool → ℕ → List ℕ
+number_source negative n = sign_source negative ++ decimal n
+
+abbrev pub number_rule : Bool → ℕ → List SqlLexeme → Answer
+number_rule negative n xs = if is_dot (sign_at xs 0) then Err NoNumber else says (number_source negative n) Stays 0
+
+-- bytes by the digits that stand for them, which take so many tokens
+abbrev pub octets_said : ℕ → Option (List ℕ) → Answer
+octets_said n None = Err Hexadecimal
+octets_said n (Some digits) = if list_all is_word digits then says (codes "0x" ++ digits) Stays n else Err Hexadecimal
+
+-- whether `X` before a text says that bytes are spelled by it
+abbrev pub has_octets : Dialect → Bool
+has_octets Postgres = false
+has_octets Sqlite = true
+has_octets DuckDb = false
+has_octets Spark = true
+
+-- a word before a text
+abbrev pub typed_text : Dialect → List ℕ → List SqlLexeme → Answer
+typed_text d w xs = if has_octets d && same_word w (codes "x") then octets_said 1 (text_at xs 0) else Err TypedText
+
+-- a collation, which isn't written where it is the one of bytes
+abbrev pub is_bytes_order : Option Lexeme → Bool
+is_bytes_order (Some (quoted a)) = same_word a (codes "C")
+is_bytes_order (Some (word a)) = is_one_of (codes "binary" ∷ codes "utf8_binary" ∷ []) a
+is_bytes_order _ = false
+
+-- ---- casts
+
+-- the type that a word is
+abbrev pub typed : Dialect → Option (List ℕ) → Option (List ℕ)
+typed d None = None
+typed d (Some a) = type_named d a
+
+-- what says the type of a number: nothing in SQLite, which has one type for all
+abbrev pub is_of_all : Dialect → List ℕ → Bool
+is_of_all Sqlite t = same_word t (codes "i64")
+is_of_all d t = false
+
+abbrev pub number_type : Dialect → List ℕ → List ℕ
+number_type d t = if is_of_all d t then [] else codes "::" ++ t
+
+-- a number and a null of a type
+abbrev pub typed_number : Dialect → List ℕ → ℕ → Option (List ℕ) → Option (List ℕ)
+typed_number d minus n None = None
+typed_number d minus n (Some t) = Some (minus ++ (decimal n ++ number_type d t))
+
+abbrev pub typed_null : Option (List ℕ) → Option (List ℕ)
+typed_null None = None
+typed_null (Some t) = Some (codes "null::" ++ (t ++ codes "?"))
+
+-- DuckDB's bytes, each spelled by `\x` and two digits
+abbrev pub escape_digits : List ℕ → Option (List ℕ)
+escape_digits [] = Some []
+escape_digits (a ∷ b ∷ c ∷ d ∷ bs) = if (a == 92 && b == 120) && (is_word c && is_word d) then behind (c ∷ d ∷ []) (escape_digits bs) else None
+escape_digits _ = None
+
+-- the digits of the first byte, if there are, before those of what follows
+abbrev pub escaped_digits : Option (ℕ × ℕ × List ℕ) → Option (List ℕ)
+escaped_digits None = None
+escaped_digits (Some (high, low, bs)) = behind (high ∷ low ∷ []) (escape_digits bs)
+
+abbrev pub digits_said : Option (List ℕ) → Option (List ℕ)
+digits_said digits = as_text (behind (codes "0x") digits)
+
+abbrev pub is_bytes_type : Dialect → Option (List ℕ) → Bool
+is_bytes_type DuckDb (Some t) = same_word t (codes "binary")
+is_bytes_type d t = false
+
+-- the literal that a token is as one of that type
+abbrev pub typed_literal : Dialect → Option Lexeme → Option (List ℕ) → Option (List ℕ)
+typed_literal d (Some (number negative (Some n) s)) t = typed_number d (sign_source negative) n t
+typed_literal d (Some (word a)) t = if same_word a (codes "null") then typed_null t else None
+typed_literal d (Some (text s)) t = if is_bytes_type d t then digits_said (escape_digits s) else None
+typed_literal d _ t = None
+
+-- the literal that a cast is whose bracket is at that place, and which ends four tokens behind that
+abbrev pub literal_cast : Dialect → List SqlLexeme → ℕ → Option (List ℕ)
+literal_cast d xs i = if is_word_at xs (i + 2) (codes "as") && closes (sign_at xs (i + 4)) then typed_literal d (lexeme_at xs (i + 1)) (typed d (word_at xs (i + 3))) else None
+
+-- a literal, or a bracket around what is cast
+abbrev pub cast_said : Option (List ℕ) → Answer
+cast_said (Some t) = says t Stays 5
+cast_said None = says (codes "cast(") (Opens Paren) 1
+
+-- the type behind `as`, which lets nulls be
+abbrev pub as_said : Option (List ℕ) → Answer
+as_said (Some t) = says (codes "as " ++ (t ++ codes "?")) Stays 1
+as_said None = Err CastType
+
+-- ---- calls
+
+-- `('..', 'hex')` behind PostgreSQL's `decode`
+abbrev pub is_hex_call : List SqlLexeme → Bool
+is_hex_call xs = is_this (codes "hex") (text_at xs 3) && closes (sign_at xs 4)
+
+abbrev pub decode_rule : Dialect → List SqlLexeme → Answer
+decode_rule Postgres xs = if is_hex_call xs then octets_said 5 (text_at xs 1) else Err Function
+decode_rule d xs = Err Function
+
+-- the functions that ignore the case of ASCII letters, before a match
+abbrev pub fold_call : Dialect → List ℕ → Answer
+fold_call Postgres w = if same_word w (codes "lower") then says (codes "(") (Opens Lower) 1 else Err Function
+fold_call Sqlite w = Err Function
+fold_call DuckDb w = if same_word w (codes "translate") then says (codes "(") (Opens Translate) 1 else Err Function
+fold_call Spark w = if same_word w (codes "translate") then says (codes "(") (Opens Translate) 1 else Err Function
+
+abbrev pub call_rule : Dialect → List ℕ → List SqlLexeme → Answer
+call_rule d w xs =
+    if same_word w (codes "cast") then cast_said (literal_cast d xs 0) else (
+    if same_word w (codes "coalesce") then says (codes "coalesce(") (Opens Fill) 1 else (
+    if same_word w (codes "decode") then decode_rule d xs else fold_call d w))
+
+-- a call, or a word before a text
+abbrev pub valued_rule : Dialect → List ℕ → List SqlLexeme → Answer
+valued_rule d w xs = if opens (sign_at xs 0) then call_rule d w xs else typed_text d w xs
+
+-- whether the token is a literal by itself
+abbrev pub is_value : SqlLexeme → Bool
+is_value (Ok (text s)) = true
+is_value (Ok (number negative m s)) = true
+is_value (Ok (word a)) = is_truth a
+is_value _ = false
+
+-- whether what is said of a word is a literal, no bracket, and then a bracket closes
+abbrev pub ends_value : Answer → List SqlLexeme → Bool
+ends_value (Ok said) xs = is_kept said.change && closes (sign_at xs said.more)
+ends_value (Err r) xs = false
+
+-- whether the word begins a literal, and then a bracket closes
+abbrev pub is_valued : Dialect → SqlLexeme → List SqlLexeme → Bool
+is_valued d (Ok (word w)) xs = ends_value (valued_rule d w xs) xs
+is_valued d x xs = false
+
+-- whether a literal stands at the front and then a closing bracket
+abbrev pub is_fill : Dialect → List SqlLexeme → Bool
+is_fill d [] = false
+is_fill d (x ∷ xs) = (is_value x && closes (sign_at xs 0)) || is_valued d x xs
