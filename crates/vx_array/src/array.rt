@@ -9,8 +9,10 @@ ghost use Rattle.vx_array.specs.Rows.{lanes_rows};
 
 use crate::lanes::Lanes;
 use crate::part::Part;
+use crate::texts::write_rows;
 use crate::values::{to_values, value_at};
 use std::alloc::{AllocError, Global};
+use std::fmt;
 use std::marker::Model;
 use std::sync::Arc;
 use vx_types::{Column, DType, Value, VortexError, VortexResult};
@@ -147,6 +149,18 @@ impl Clone for Array {
             dtype: self.dtype.clone()?,
             lanes: self.lanes.clone()?,
         })
+    }
+}
+
+// The text is that of a column of the same rows, and is written from the buffers.
+impl fmt::Display for Array {
+    ghost use Rattle.std.specs.Prelude.{Some};
+    ghost use Rattle.vx_value.specs.ValueTexts.{column_text};
+
+    ghost output = { λ a. Some (column_text a.rows a.type) };
+
+    fn fmt<W: fmt::Write>(&self, f: &mut fmt::Formatter<W>) -> fmt::Result {
+        write_rows(&self.lanes, &self.dtype, f)
     }
 }
 

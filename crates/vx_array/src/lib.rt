@@ -11,6 +11,7 @@ mod numbers;
 mod part;
 mod spans;
 mod stretch;
+mod texts;
 mod validity;
 mod values;
 
