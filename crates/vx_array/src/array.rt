@@ -1,8 +1,8 @@
 // Columns in typed buffers.
-ghost use Rattle.std.specs.Prelude.{◌≡◌, ◌≤◌, ◌<◌, ◌+◌, ◌==◌, IfOk, None, Ok, drop, get_or, length, map, take};
+ghost use Rattle.std.specs.Prelude.{◌≡◌, ◌≤◌, ◌<◌, ◌+◌, ◌==◌, IfOk, None, Ok, count_by, drop, get_or, length, map, take};
 ghost use Rattle.vx_value.specs.Columns.{batch, first_misfit};
 ghost use Rattle.vx_value.specs.Returns.{ReturnsOrOom};
-ghost use Rattle.vx_value.specs.Types.{null};
+ghost use Rattle.vx_value.specs.Types.{is_null_datum, null};
 ghost use Rattle.vx_value.specs.Views.{type_of, value_of};
 ghost use Rattle.vx_array.specs.Arrays.{batch_or_misfit};
 ghost use Rattle.vx_array.specs.Rows.{lanes_rows};
@@ -127,6 +127,20 @@ impl Array {
     {
         let value = value_at(alloc, self.lanes(), i)?;
         Ok(value)
+    }
+
+    /// Whether the row is null, as one is that isn't there.
+    pub fn is_null(&self, i: usize) -> bool
+        ensures { result ≡ is_null_datum (get_or self.now.rows i null) }
+    {
+        self.lanes().is_null(i)
+    }
+
+    /// How many rows are null. Looks at each row.
+    pub fn null_count(&self) -> usize
+        ensures { result ≡ count_by is_null_datum self.now.rows }
+    {
+        self.lanes().null_count()
     }
 
     /// So many rows from one on, in the same buffers. Asks rows that are there, and refuses with

@@ -7,6 +7,7 @@ mod items;
 mod lanes;
 pub mod laws;
 mod masks;
+mod nulls;
 mod numbers;
 mod part;
 mod spans;
