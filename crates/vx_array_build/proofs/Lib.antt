@@ -5,3 +5,4 @@ pub mod Sizes
 pub mod Typed
 pub mod Filling
 pub mod Taking
+pub mod Concatenated

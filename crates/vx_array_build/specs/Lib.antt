@@ -1,4 +1,5 @@
 pub mod Built
 pub mod Cuts
+pub mod Parts
 pub mod Filled
 pub mod Taken

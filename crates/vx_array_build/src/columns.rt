@@ -19,11 +19,22 @@ use vx_types::{Column, DType, PType, StructFields, Value, VortexResult};
 pub fn from_column(alloc: Global, column: &Column) -> VortexResult<Array>
     ensures { ReturnsOrOom (λ a. a) result (Ok column.now) }
 {
-    let nothing = Value::Null;
-    let rows = lent(alloc, column.rows())?;
-    let lanes = lanes_of(alloc, column.dtype(), rows.as_slice(), &nothing)?;
+    let lanes = typed_lanes(alloc, column.dtype(), column.rows())?;
     let dtype = column.dtype().clone()?;
     Ok(Array::new(dtype, lanes))
+}
+
+// The lanes of these values, in buffers for the type's kind.
+pub(crate) fn typed_lanes(
+    alloc: Global,
+    dtype: &DType,
+    values: &[Value],
+) -> Result<Lanes, AllocError>
+    ensures { IfOk result (λ lanes. lanes_rows lanes ≡ map value_of values.now) }
+{
+    let nothing = Value::Null;
+    let rows = lent(alloc, values)?;
+    lanes_of(alloc, dtype, rows.as_slice(), &nothing)
 }
 
 // The values, lent one by one.

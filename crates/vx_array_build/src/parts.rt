@@ -1,0 +1,58 @@
+// Arrays one after another.
+ghost use Rattle.std.specs.Prelude.{◌≡◌, ◌++◌, IfOk, IsErrOf, false, map};
+ghost use Rattle.vx_dtype.specs.Returns.{ReturnsOrOom};
+ghost use Rattle.vx_dtype.specs.declared.error.VortexError.TheVariants.{ScopeMismatch};
+ghost use Rattle.vx_value.specs.StructColumns.{EachFit};
+ghost use Rattle.vx_value.specs.Views.{type_of, value_of};
+ghost use Rattle.vx_array.specs.Rows.{lanes_rows};
+ghost use Rattle.vx_array_build.specs.Parts.{all_of_type, parts_joined, rows_of_parts};
+
+use crate::columns::typed_lanes;
+use std::alloc::{AllocError, Global};
+use vx_array::{Array, Lanes, value_at};
+use vx_types::{DType, Value, VortexError, VortexResult};
+
+/// The rows of the parts, one part after another, in buffers for the type's kind. Refuses with
+/// `ScopeMismatch` (12) where some part has another type, before it takes any memory, and with
+/// `OutOfMemory` (1). Reads each row once.
+pub fn concat(alloc: Global, dtype: &DType, parts: &[Array]) -> VortexResult<Array>
+    ensures rows { ReturnsOrOom (λ a. a) result (parts_joined (type_of dtype.now) parts.now) }
+    ensures mismatch { all_of_type (type_of dtype.now) parts.now ≡ false → IsErrOf result ScopeMismatch }
+{
+    if !all_of_type(dtype, parts) {
+        return Err(VortexError::ScopeMismatch);
+    }
+    let values = values_of(alloc, parts)?;
+    let lanes = typed_lanes(alloc, dtype, values.as_slice())?;
+    let dtype = dtype.clone()?;
+    Ok(Array::new(dtype, lanes))
+}
+
+// Whether each part is of that type.
+fn all_of_type(dtype: &DType, parts: &[Array]) -> bool
+    ensures { result ≡ all_of_type (type_of dtype.now) parts.now }
+{
+    parts.iter().all(|part| *part.dtype() == *dtype)
+}
+
+// The values of the parts' rows.
+fn values_of(alloc: Global, parts: &[Array]) -> Result<Vec<Value>, AllocError>
+    ensures rows { IfOk result (λ values. map value_of values.items ≡ rows_of_parts parts.now) }
+    ensures fit { IfOk result (λ _. EachFit parts.now) }
+{
+    let mut values = Vec::new(alloc);
+    for i in 0..parts.len() {
+        values = with_rows(alloc, values, parts[i].lanes())?;
+    }
+    Ok(values)
+}
+
+// The values, and those of the rows behind them.
+fn with_rows(alloc: Global, mut values: Vec<Value>, lanes: &Lanes) -> Result<Vec<Value>, AllocError>
+    ensures { IfOk result (λ more. map value_of more.items ≡ map value_of values.items ++ lanes_rows lanes.now) }
+{
+    for i in 0..lanes.len() {
+        values.push(value_at(alloc, lanes, i)?)?;
+    }
+    Ok(values)
+}
