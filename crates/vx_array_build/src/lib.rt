@@ -9,6 +9,7 @@ mod gather;
 mod native;
 mod numbers;
 mod parts;
+mod same;
 mod selection;
 mod spans_builder;
 mod structs;

@@ -8,13 +8,14 @@ ghost use Rattle.vx_array.specs.Rows.{lanes_rows};
 ghost use Rattle.vx_array_build.specs.Parts.{all_of_type, parts_joined, rows_of_parts};
 
 use crate::columns::typed_lanes;
+use crate::same::same_rows;
 use std::alloc::{AllocError, Global};
 use vx_array::{Array, Lanes, value_at};
 use vx_types::{DType, Value, VortexError, VortexResult};
 
-/// The rows of the parts, one part after another, in buffers for the type's kind. Refuses with
-/// `ScopeMismatch` (12) where some part has another type, before it takes any memory, and with
-/// `OutOfMemory` (1). Reads each row once.
+/// The rows of the parts, one part after another, in buffers for the type's kind; constants of one value
+/// stay a constant. Refuses with `ScopeMismatch` (12) where some part has another type, before it takes any
+/// memory, and with `OutOfMemory` (1). Reads each row once.
 pub fn concat(alloc: Global, dtype: &DType, parts: &[Array]) -> VortexResult<Array>
     ensures rows { ReturnsOrOom (λ a. a) result (parts_joined (type_of dtype.now) parts.now) }
     ensures mismatch { all_of_type (type_of dtype.now) parts.now ≡ false → IsErrOf result ScopeMismatch }
@@ -22,10 +23,23 @@ pub fn concat(alloc: Global, dtype: &DType, parts: &[Array]) -> VortexResult<Arr
     if !all_of_type(dtype, parts) {
         return Err(VortexError::ScopeMismatch);
     }
-    let values = values_of(alloc, parts)?;
-    let lanes = typed_lanes(alloc, dtype, values.as_slice())?;
+    let lanes = joined_lanes(alloc, dtype, parts)?;
     let dtype = dtype.clone()?;
     Ok(Array::new(dtype, lanes))
+}
+
+// The rows of the parts: a constant where each part is one of the same value, and else in buffers for the
+// type's kind.
+fn joined_lanes(alloc: Global, dtype: &DType, parts: &[Array]) -> Result<Lanes, AllocError>
+    ensures rows { IfOk result (λ lanes. lanes_rows lanes ≡ rows_of_parts parts.now) }
+    ensures fit { IfOk result (λ _. EachFit parts.now) }
+{
+    if let Some(lanes) = same_rows(parts)? {
+        return Ok(lanes);
+    }
+    let values = values_of(alloc, parts)?;
+    let lanes = typed_lanes(alloc, dtype, values.as_slice())?;
+    Ok(lanes)
 }
 
 // Whether each part is of that type.
