@@ -1,6 +1,7 @@
 // The commands of the program over any two writers.
 #![tactic(auto)]
 
+mod asked;
 mod chunked;
 mod columns;
 mod command;

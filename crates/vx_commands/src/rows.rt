@@ -1,4 +1,5 @@
 // A run of the program over the records of a file.
+use crate::asked::asked_paths;
 use crate::data::{
     DataFormat, GUESSED_JSON, Guess, Schema, Source, buffered, inferred_type, opened, unwritten,
 };
@@ -183,7 +184,12 @@ impl<W: Write, E: Write> Run<'_, '_, W, E> {
         let ReadQuery { placed, scope } = query;
         let scope = Box::into_inner(scope);
         let others = self.command.schema.others();
+        let paths = asked_paths(self.alloc, self.command, &placed, &scope);
         let records = opened(CsvRows::open_others(self.alloc, scope, format, others, data))?;
+        let records = match paths {
+            Some(paths) => records.along(&paths),
+            None => records,
+        };
         self.over(&placed, records)
     }
 

@@ -92,8 +92,12 @@ fn selected<R: RecordReader, W: Write>(
     Ok(finished?)
 }
 
-// What is selected of records of that type.
-fn selected_value(alloc: Global, text: &str, scope: &DType) -> Result<Box<Placed>, CommandError> {
+/// What is selected of records of that type.
+pub(crate) fn selected_value(
+    alloc: Global,
+    text: &str,
+    scope: &DType,
+) -> Result<Box<Placed>, CommandError> {
     let written = read_written(alloc, text)?;
     read_over(alloc, written, scope)
 }

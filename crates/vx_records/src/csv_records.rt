@@ -1,4 +1,5 @@
 // CSV files as records.
+ghost use Rattle.std.specs.Prelude.{◌≡◌};
 ghost use Rattle.vx_value.specs.Views.{type_of};
 
 use crate::record::require_fit;
@@ -6,7 +7,7 @@ use crate::{Record, RecordReader};
 use std::alloc::Global;
 use std::io::Read;
 use vx_data::{CsvFormat, CsvParser, CsvRecords, DataError, FirstRecord, OtherFields};
-use vx_types::DType;
+use vx_types::{DType, FieldPathSet};
 
 /// The records of a CSV file behind its header, if it has one, as rows of a type. In memory are one record and the
 /// reader's buffer.
@@ -64,6 +65,27 @@ impl<R: Read + Drop> CsvRows<R> {
             parser,
             head,
         })
+    }
+
+    /// The same records, of whose rows nothing is asked for but what stands at those paths: what stands elsewhere may be read
+    /// as another value of its type. What is refused stays the same, and so does each record's text.
+    pub fn along(self, paths: &FieldPathSet) -> CsvRows<R>
+        ensures scope { type_of result.dtype ≡ type_of self.dtype }
+        ensures head { result.head ≡ self.head }
+    {
+        let CsvRows {
+            dtype,
+            records,
+            parser,
+            head,
+        } = self;
+        let parser = parser.along(&dtype, paths);
+        CsvRows {
+            dtype,
+            records,
+            parser,
+            head,
+        }
     }
 }
 

@@ -6,18 +6,60 @@ use crate::fault::Fault;
 use csv::ByteRecord;
 use std::alloc::Global;
 use std::str;
-use vx_types::{DType, Value};
+use vx_types::{DType, PType, Value};
 
 /// The cells that a record has of a type.
 #[derive(Clone, Copy)]
 pub(crate) struct Found<'a> {
     pub(crate) record: &'a ByteRecord,
     pub(crate) places: &'a [Option<usize>],
+    /// Of each cell whether its value is asked for.
+    pub(crate) asked: &'a [bool],
+    /// Whether all bytes of the cells are ASCII, so that each of these is a text.
+    pub(crate) is_ascii: bool,
     /// The text of a cell that is null where an empty one would be.
     pub(crate) null: Option<&'a [u8]>,
 }
 
 impl<'a> Found<'a> {
+    // Whether nothing is asked for that the cells make, and they plainly make a value: then what they make is passed over.
+    #[cycle(passes)]
+    fn passes(&self, plan: &Plan) -> bool {
+        match plan {
+            Plan::Cell { dtype, cell } => {
+                !self.is_asked(*cell) && self.is_plain(dtype, self.cell(*cell))
+            }
+            Plan::Struct(plan) => plan.nullable && self.passes_each(&plan.fields),
+        }
+    }
+
+    #[cycle(passes)]
+    fn passes_each(&self, fields: &Vec<FieldPlan>) -> bool {
+        for field in fields {
+            if !self.passes(&field.plan) {
+                return false;
+            }
+        }
+        true
+    }
+
+    fn is_asked(&self, cell: usize) -> bool {
+        matches!(self.asked.get(cell), Some(true))
+    }
+
+    // Whether a cell is plainly a value of the type: one that isn't found to be may still be some.
+    fn is_plain(&self, dtype: &DType, text: Option<&[u8]>) -> bool {
+        if dtype.is_nullable() && self.is_null(text) {
+            return true;
+        }
+        match (dtype, text) {
+            (DType::Bool(_), Some(b"true" | b"false")) => true,
+            (DType::Primitive(ptype, _), Some(text)) => are_few_digits(text, *ptype),
+            (DType::Utf8(_), Some(_)) => self.is_ascii,
+            _ => false,
+        }
+    }
+
     // The cell of that number, if the record has one.
     fn cell(&self, cell: usize) -> Option<&'a [u8]> {
         match self.places.get(cell) {
@@ -67,12 +109,49 @@ fn read_fields(
 ) -> Result<Vec<Value>, Fault> {
     let mut values = Vec::with_capacity(alloc, fields.len())?;
     for field in fields {
+        if found.passes(&field.plan) {
+            values.push(stand_in(alloc, &field.plan))?;
+            continue;
+        }
         match read_value(&field.plan, alloc, found) {
             Ok(value) => values.push(value)?,
             Err(fault) => return Err(fault.within(&field.name)),
         }
     }
     Ok(values)
+}
+
+// A value in place of one that is passed over: null where that may be.
+fn stand_in(alloc: Global, plan: &Plan) -> Value {
+    match plan {
+        Plan::Cell { dtype, .. } if !dtype.is_nullable() => match dtype {
+            DType::Bool(_) => Value::Bool(false),
+            DType::Primitive(_, _) => Value::Int(0),
+            DType::Utf8(_) => Value::Utf8(String::new(alloc)),
+            _ => Value::Null,
+        },
+        _ => Value::Null,
+    }
+}
+
+// Whether the text is of digits, as few as each number of that type may have.
+fn are_few_digits(text: &[u8], ptype: PType) -> bool {
+    let few = match ptype {
+        PType::U8 | PType::I8 => 2,
+        PType::U16 | PType::I16 => 4,
+        PType::U32 | PType::I32 => 9,
+        PType::U64 | PType::I64 => 18,
+    };
+    !text.is_empty() && text.len() <= few && text.iter().all(|byte| byte.is_ascii_digit())
+}
+
+/// Whether all bytes are ASCII.
+pub(crate) fn is_ascii(bytes: &[u8]) -> bool {
+    let mut joined = 0;
+    for byte in bytes {
+        joined |= *byte;
+    }
+    joined < 128
 }
 
 // The value of that type that the cell of that number is.

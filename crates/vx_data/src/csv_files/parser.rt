@@ -1,5 +1,5 @@
 // Records read as values of a type.
-use crate::csv_files::cells::{Found, read_value};
+use crate::csv_files::cells::{Found, is_ascii, read_value};
 use crate::csv_files::format::CsvFormat;
 use crate::csv_files::header::{cell_names, fault_at};
 use crate::csv_files::plan::{Cells, FieldPlan, Plan, first_repeated, listed};
@@ -9,7 +9,7 @@ use crate::fault::Fault;
 use crate::other_fields::OtherFields;
 use csv::ByteRecord;
 use std::alloc::{AllocError, Global};
-use vx_types::{DType, FieldName, FieldNames, Value};
+use vx_types::{DType, FieldName, FieldNames, FieldPathSet, Value};
 
 /// Reads the records behind a header as values of a type.
 #[derive(Debug, Drop)]
@@ -18,6 +18,8 @@ pub struct CsvParser {
     plan: Plan,
     // For each cell of the type, where it stands in a record.
     places: Vec<Option<usize>>,
+    // For each cell of the type, whether its value is asked for.
+    asked: Vec<bool>,
     // The text of a cell that is null where an empty one would be.
     null: Option<String>,
 }
@@ -73,6 +75,31 @@ impl CsvParser {
         }
     }
 
+    /// The same parser of values of its type, of which nothing is asked for but what stands at those paths: what stands
+    /// elsewhere may be read as another value of its type. What is refused stays the same. Takes no memory. Time is linear in
+    /// the cells and in the names of the paths.
+    pub fn along(self, dtype: &DType, paths: &FieldPathSet) -> CsvParser {
+        let CsvParser {
+            alloc,
+            plan,
+            places,
+            mut asked,
+            null,
+        } = self;
+        asked.fill(false);
+        for path in paths.iter() {
+            let (start, end) = plan.cells_at(dtype, path.parts());
+            ask(&mut asked, start, end);
+        }
+        CsvParser {
+            alloc,
+            plan,
+            places,
+            asked,
+            null,
+        }
+    }
+
     /// The value that the record on that line is: a cell that is empty, or that the record lacks at its end, is null where its
     /// type is nullable, and a struct all of whose cells are so where that is; else `true`, `false`, a whole number of the
     /// type's range, a text, or bytes as `0x` and two digits each. Refuses with the line, the path of the field, and what is
@@ -81,6 +108,8 @@ impl CsvParser {
         let found = Found {
             record,
             places: self.places.as_slice(),
+            asked: self.asked.as_slice(),
+            is_ascii: is_ascii(record.as_slice()),
             null: self.null.as_ref().map(String::as_bytes),
         };
         match read_value(&self.plan, self.alloc, &found) {
@@ -102,6 +131,8 @@ fn parser_of(
     check_header(alloc, &header, &names, others)?;
     let places = places_of(alloc, &names, &header)?;
     check_present(&plan, alloc, places.as_slice())?;
+    let mut asked = Vec::new(alloc);
+    asked.resize(names.len(), true)?;
     let null = match format.null {
         Some(text) => Some(String::from_str(alloc, text)?),
         None => None,
@@ -110,8 +141,18 @@ fn parser_of(
         alloc,
         plan,
         places,
+        asked,
         null,
     })
+}
+
+// The cells from one number up to another are asked for.
+fn ask(asked: &mut Vec<bool>, start: usize, end: usize) {
+    for cell in start..end {
+        if let Some(is_asked) = asked.get_mut(cell) {
+            *is_asked = true;
+        }
+    }
 }
 
 // Refuses the first name of the header that stands there twice, or is none of the type's. Where such may stand there, the

@@ -3,7 +3,7 @@ use crate::csv_files::header::{fault_at, named};
 use crate::expected::Expected;
 use crate::fault::Fault;
 use std::alloc::{AllocError, Global};
-use vx_types::{DType, FieldName, FieldNames, StructFields};
+use vx_types::{DType, Field, FieldName, FieldNames, StructFields};
 
 /// How the cells of a type make a value of it. The cells are numbered in the order of the fields.
 #[cycle(plan)]
@@ -55,6 +55,41 @@ impl Cells {
         match first_repeated(&names) {
             Some(name) => Err(fault_at(alloc, Expected::DistinctNames, name.as_str())),
             None => Ok(Cells { plan, names }),
+        }
+    }
+}
+
+impl Plan {
+    /// The cells that make what stands at the path in a value of that type, from one number up to another: none where
+    /// nothing stands there.
+    pub(crate) fn cells_at(&self, dtype: &DType, path: &[Field]) -> (usize, usize) {
+        let mut plan = self;
+        let mut dtype = dtype;
+        for part in path {
+            let Field::Name(name) = part;
+            match (plan, dtype) {
+                (Plan::Struct(inner), DType::Struct(fields, _)) => {
+                    let Some(i) = fields.names().find(name) else {
+                        return (0, 0);
+                    };
+                    let (Some(field), Some(below)) = (inner.fields.get(i), fields.types().get(i))
+                    else {
+                        return (0, 0);
+                    };
+                    plan = &field.plan;
+                    dtype = below;
+                }
+                _ => return (0, 0),
+            }
+        }
+        plan.cells()
+    }
+
+    // The cells, from one number up to another.
+    fn cells(&self) -> (usize, usize) {
+        match self {
+            Plan::Cell { cell, .. } => (*cell, cell.saturating_add(1)),
+            Plan::Struct(plan) => (plan.start, plan.end),
         }
     }
 }

@@ -1,0 +1,46 @@
+// Where a command reads the rows of records.
+use crate::rows::{RecordsTask, RowsCommand};
+use crate::tasks::selected_value;
+use std::alloc::Global;
+use vx_command_pages::bind;
+use vx_rewrite_paths::referenced_field_paths;
+use vx_source::Placed;
+use vx_types::{DType, FieldPathSet};
+
+/// The paths of the records' type at which the command reads rows: those that the expression asks for, and what is selected.
+/// None where one of these is refused, or memory runs out, which then stops the command.
+pub(crate) fn asked_paths(
+    alloc: Global,
+    command: &RowsCommand<'_>,
+    placed: &Placed,
+    scope: &DType,
+) -> Option<FieldPathSet> {
+    let paths = paths_of(alloc, placed, scope)?;
+    if !matches!(command.work, RecordsTask::Select(_)) {
+        return Some(paths);
+    }
+    let Ok(value) = selected_value(alloc, command.select.text, scope) else {
+        return None;
+    };
+    let others = paths_of(alloc, &value, scope)?;
+    joined(alloc, paths, &others)
+}
+
+// The paths that the expression asks for over that type.
+fn paths_of(alloc: Global, placed: &Placed, scope: &DType) -> Option<FieldPathSet> {
+    let Ok(tree) = bind(alloc, placed, scope) else {
+        return None;
+    };
+    referenced_field_paths(alloc, &tree).ok()
+}
+
+// The paths, and the others behind them.
+fn joined(alloc: Global, paths: FieldPathSet, others: &FieldPathSet) -> Option<FieldPathSet> {
+    let mut all = paths;
+    let mut more = Vec::new(alloc);
+    for path in others.iter() {
+        more.push(path.clone().ok()?).ok()?;
+    }
+    all.extend(more).ok()?;
+    Some(all)
+}
