@@ -1,4 +1,4 @@
-use Rattle.std.proofs.Common.{◌≡◌, ◌∙◌, ap, arith, rules}
+use Rattle.std.proofs.Common.{◌≡◌, ◌∙◌, ap, rules}
 use Rattle.vx_value.specs.Types.{is_null_datum}
 use Rattle.vx_value.specs.Views.{value_of}
 use Rattle.vx_array.specs.Rows.{lanes_rows}

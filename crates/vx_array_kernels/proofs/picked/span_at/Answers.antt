@@ -1,4 +1,4 @@
-use Rattle.std.proofs.Common.{◌∙◌, map, rules, sym, ◌≡◌, true, false}
+use Rattle.std.proofs.Common.{◌≡◌, map, rules, true, false}
 use Rattle.vx_array.specs.Kinds.{spans_in}
 use Rattle.vx_array.specs.Shown.{is_valid}
 use Rattle.vx_array.proofs.Masked.{row_null, row_there}
