@@ -6,6 +6,7 @@ mod Chosen
 mod Added
 mod Where
 mod Cases
+pub mod Picking
 mod Liked
 pub mod Alive
 pub mod Upward

@@ -1,4 +1,5 @@
 pub mod Asked
+pub mod ByteRows
 pub mod Choices
 pub mod Connected
 pub mod Found

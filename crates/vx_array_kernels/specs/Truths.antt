@@ -32,3 +32,7 @@ TellsNulls v rows = HasRows v (length rows) × ((k : ℕ) → k < length rows �
 -- the bits say of each row whether it is null
 abbrev pub IsNulls : List Bool → List Datum → Type 0
 IsNulls bits rows = (length bits ≡ length rows) × ((k : ℕ) → k < length rows → get_or bits k false ≡ is_null_datum (get_or rows k null))
+
+-- the bits say of each row whether it isn't null
+abbrev pub AreValues : List Bool → List Datum → Type 0
+AreValues bits rows = (length bits ≡ length rows) × ((k : ℕ) → k < length rows → is_null_datum (get_or rows k null) ≡ not (get_or bits k false))

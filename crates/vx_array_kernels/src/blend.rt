@@ -3,6 +3,7 @@ ghost use Rattle.std.specs.Prelude.{◌≡◌, IfOk, IfSome, List, length, true}
 ghost use Rattle.vx_value.specs.Types.{Datum};
 ghost use Rattle.vx_array.specs.Rows.{lanes_rows};
 ghost use Rattle.vx_array_kernels.specs.Choices.{blended};
+ghost use Rattle.vx_array_kernels.specs.Found.{Finds};
 
 use std::alloc::{AllocError, Global};
 use vx_array::Lanes;
@@ -25,7 +26,7 @@ pub trait Blend: Drop {
         requires lanes { length (lanes_rows lanes.now) ≡ length (rows self.old) }
         ensures { IfOk result (λ done. done ≡ true → rows self.new ≡ blended mask.now (lanes_rows lanes.now) (rows self.old)) };
 
-    /// The rows as lanes.
-    fn into_lanes(self, alloc: Global) -> Result<Lanes, AllocError>
-        ensures { IfOk result (λ out. lanes_rows out ≡ rows self) };
+    /// The rows as lanes, if they can be told.
+    fn into_lanes(self, alloc: Global) -> Result<Option<Lanes>, AllocError>
+        ensures { Finds (rows self) result };
 }

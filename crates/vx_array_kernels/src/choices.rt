@@ -5,6 +5,8 @@ ghost use Rattle.vx_array_kernels.specs.Choices.{EachLong, case_rows, chosen_row
 ghost use Rattle.vx_array_kernels.specs.Found.{Finds, IsLong};
 
 use crate::blend::Blend;
+use crate::byte_kind::{OctetKind, TextKind};
+use crate::byte_rows::ByteRows;
 use crate::masks::mask_of;
 use crate::nulls::null_rows;
 use crate::number_rows::NumberRows;
@@ -15,11 +17,13 @@ use std::sync::Arc;
 use vx_array::Lanes;
 use vx_types::{DType, PType, Value};
 
-// A call for rows of the kind that a type has, if they are truth values or numbers.
+// A call for rows of the kind that a type has, if they are truth values, numbers, texts or bytes.
 macro_rules! by_kind {
     ($dtype:expr, $f:ident $args:tt) => {
         match $dtype {
             DType::Bool(_) => by_kind!(@ $f Truths $args),
+            DType::Utf8(_) => $f::<ByteRows<TextKind>> $args,
+            DType::Binary(_) => $f::<ByteRows<OctetKind>> $args,
             DType::Primitive(number, _) => match number {
                 PType::U8 => $f::<NumberRows<u8>> $args,
                 PType::U16 => $f::<NumberRows<u16>> $args,
@@ -37,8 +41,8 @@ macro_rules! by_kind {
 }
 
 /// Of conditions and values in turn the value beside the first condition that is true, else the last
-/// column's value, else null. There is an answer where all values are truth values or numbers of the type
-/// in buffers, or one value in all rows, and conditions truth values.
+/// column's value, else null. There is an answer where all values are truth values, numbers, texts or bytes
+/// of the type in buffers, or one value in all rows, and conditions truth values.
 pub fn case_when(
     alloc: Global,
     count: usize,
@@ -67,7 +71,8 @@ pub fn zip(
 }
 
 /// The first column's values, and the other's where they are null. There is an answer where the first ones
-/// are truth values or numbers of the type in buffers, and the others, too, or one value in all rows.
+/// are truth values, numbers, texts or bytes of the type in buffers, and the others, too, or one value in
+/// all rows.
 pub fn fill_null(alloc: Global, dtype: &DType, pair: Pair) -> Result<Option<Lanes>, AllocError>
     requires { IsLong pair }
     ensures { Finds (filled_rows pair.entry.count (lanes_rows pair.entry.lhs.now) (lanes_rows pair.entry.rhs.now)) result }
@@ -94,7 +99,7 @@ fn case_in<B: Blend>(
             return Ok(None);
         }
     }
-    Ok(Some(rows.into_lanes(alloc)?))
+    rows.into_lanes(alloc)
 }
 
 // The rows behind all branches: those of the last column, if it has no condition, and else null.
@@ -126,7 +131,7 @@ fn zip_in<B: Blend>(
         return Ok(None);
     };
     if put_where(alloc, pair.count, &mut rows, condition, pair.lhs)? {
-        return Ok(Some(rows.into_lanes(alloc)?));
+        return rows.into_lanes(alloc);
     }
     Ok(None)
 }
@@ -162,7 +167,7 @@ fn fill_in<B: Blend>(alloc: Global, pair: Pair) -> Result<Option<Lanes>, AllocEr
         return Ok(None);
     };
     if rows.put(alloc, &nulls, pair.rhs)? {
-        return Ok(Some(rows.into_lanes(alloc)?));
+        return rows.into_lanes(alloc);
     }
     Ok(None)
 }

@@ -2,6 +2,8 @@
 #![tactic(auto)]
 
 mod blend;
+mod byte_kind;
+mod byte_rows;
 mod choices;
 mod columns;
 mod comparison;
@@ -11,6 +13,7 @@ mod masks;
 mod nulls;
 mod number_rows;
 mod pair;
+mod picked;
 mod reach;
 mod sums;
 mod truths;

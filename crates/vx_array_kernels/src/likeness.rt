@@ -1,13 +1,14 @@
 // LIKE over texts in a buffer.
-ghost use Rattle.std.specs.Prelude.{◌≡◌, ◌<◌, ◌≤◌, Bool, IfErr, IfOk, IfSome, false, get_or, is_some, length, map, option_map, unwrap_or};
+ghost use Rattle.std.specs.Prelude.{◌≡◌, ◌<◌, ◌≤◌, Bool, IfErr, IfOk, IfSome, false, get_or, is_some, length, map, not, option_map, unwrap_or};
 ghost use Rattle.vx_dtype.specs.declared.error.VortexError.TheVariants.{OutOfMemory};
-ghost use Rattle.vx_value.specs.Types.{bool, null, utf8};
+ghost use Rattle.vx_value.specs.Types.{bool, is_null_datum, null, utf8};
 ghost use Rattle.vx_fn.specs.Values.{flipped, liked};
 ghost use Rattle.vx_eval_like.specs.Patterns.{Compiled, compiled};
 ghost use Rattle.vx_array.specs.Kinds.{spans_in, text_row};
 ghost use Rattle.vx_array.specs.Rows.{lanes_rows};
 ghost use Rattle.vx_array_kernels.specs.Found.{Finds, IsLong, pair_rows};
 ghost use Rattle.vx_array_kernels.specs.Likeness.{accepted, text_datum, text_rows, truth_datum, Suits};
+ghost use Rattle.vx_array_kernels.specs.Truths.{AreValues};
 
 use crate::pair::Pair;
 use crate::reach::Steps;
@@ -18,12 +19,15 @@ use vx_eval_like::Pattern;
 use vx_fn::LikeOptions;
 use vx_types::{Value, VortexResult};
 
-// So many texts in a buffer, where they are valid.
+/// So many texts in a buffer, where they are valid.
 #[derive(Clone, Copy)]
-struct Texts<'a> {
-    count: usize,
-    spans: &'a Spans,
-    validity: &'a Validity,
+pub struct Texts<'a> {
+    /// How many.
+    pub count: usize,
+    /// Their bytes.
+    pub spans: &'a Spans,
+    /// Which are valid.
+    pub validity: &'a Validity,
 }
 
 // The offsets that cut texts out of bytes, and the steps of a pattern along these.
@@ -180,6 +184,24 @@ fn text_at<'a>(texts: Texts<'a>, k: usize) -> Option<&'a str>
         return as_text(texts.spans.span(k));
     }
     None
+}
+
+/// Which of the texts aren't null: those that are valid and UTF-8.
+pub fn texts_there(alloc: Global, texts: Texts) -> Result<Bits, AllocError>
+    requires long { length (text_rows texts) ≡ texts.count }
+    requires there { texts.count ≤ length (spans_in texts.spans.now) }
+    ensures { IfOk result (λ bits. AreValues bits (text_rows texts.entry)) }
+{
+    Bits::tabulated(alloc, texts.count, |k| is_text(texts, k))
+}
+
+// Whether the text of that row isn't null.
+#[inline(always)]
+fn is_text(texts: Texts, k: usize) -> bool
+    requires { k < length (spans_in texts.spans.now) }
+    ensures { result ≡ not (is_null_datum (get_or (text_rows texts.entry) k null)) }
+{
+    text_at(texts, k).is_some()
 }
 
 // The bytes as a text, if they are one.

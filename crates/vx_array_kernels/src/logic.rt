@@ -34,7 +34,7 @@ pub fn connect(
             let mut truths = Truths::of_bits(alloc, pair.count, a, v)?;
             let others = Truths::of_bits(alloc, pair.count, b, w)?;
             truths.connect(connective, &others);
-            Ok(Some(truths.into_lanes(alloc)?))
+            truths.into_lanes(alloc)
         }
         _ => Ok(None),
     }

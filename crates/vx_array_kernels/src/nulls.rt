@@ -4,8 +4,9 @@ ghost use Rattle.std.proofs.Math.ListN.{replicate};
 ghost use Rattle.vx_value.specs.Types.{bool};
 ghost use Rattle.vx_array.specs.Rows.{lanes_rows};
 ghost use Rattle.vx_array_kernels.specs.Found.{Finds};
-ghost use Rattle.vx_array_kernels.specs.Truths.{null_told, value_told, IsNulls, TellsNulls};
+ghost use Rattle.vx_array_kernels.specs.Truths.{null_told, value_told, AreValues, IsNulls, TellsNulls};
 
+use crate::likeness::{Texts, texts_there};
 use crate::truths::{turned, valid_rows};
 use std::alloc::{AllocError, Global};
 use std::sync::Arc;
@@ -13,18 +14,16 @@ use vx_array::{BitPart, Lanes, Validity};
 use vx_array_loops::Bits;
 use vx_types::Value;
 
-/// Whether each row is null. There is an answer for one value in all rows, and where a validity says so.
+/// Whether each row is null. There is an answer for one value in all rows, and for rows in
+/// buffers.
 pub fn is_null(alloc: Global, input: &Lanes) -> Result<Option<Lanes>, AllocError>
     ensures { Finds (map null_told (lanes_rows input.now)) result }
 {
     if let Lanes::Same(value, count) = input {
         return Ok(Some(repeated(alloc, value.is_null(), *count)?));
     }
-    match validity_of(input) {
-        Some(validity) => {
-            let valid = valid_rows(alloc, input.len(), validity)?;
-            Ok(Some(truths(alloc, turned(alloc, &valid)?)?))
-        }
+    match value_rows(alloc, input.len(), input)? {
+        Some(values) => Ok(Some(truths(alloc, turned(alloc, &values)?)?)),
         None => Ok(None),
     }
 }
@@ -36,25 +35,38 @@ pub fn is_not_null(alloc: Global, input: &Lanes) -> Result<Option<Lanes>, AllocE
     if let Lanes::Same(value, count) = input {
         return Ok(Some(repeated(alloc, !value.is_null(), *count)?));
     }
-    match validity_of(input) {
-        Some(validity) => {
-            let valid = valid_rows(alloc, input.len(), validity)?;
-            Ok(Some(truths(alloc, valid)?))
-        }
+    match value_rows(alloc, input.len(), input)? {
+        Some(values) => Ok(Some(truths(alloc, values)?)),
         None => Ok(None),
     }
 }
 
-/// Of so many rows those that are null. There is an answer where a validity says so.
+/// Of so many rows those that are null. There is an answer for rows in buffers.
 pub fn null_rows(alloc: Global, count: usize, input: &Lanes) -> Result<Option<Bits>, AllocError>
     requires { length (lanes_rows input.now) ≡ count }
     ensures { IfOk result (λ found. IfSome found (λ bits. IsNulls bits (lanes_rows input.now))) }
 {
+    match value_rows(alloc, count, input)? {
+        Some(values) => Ok(Some(turned(alloc, &values)?)),
+        None => Ok(None),
+    }
+}
+
+// Which of so many rows aren't null, if they are in buffers.
+fn value_rows(alloc: Global, count: usize, input: &Lanes) -> Result<Option<Bits>, AllocError>
+    requires { length (lanes_rows input.now) ≡ count }
+    ensures { IfOk result (λ found. IfSome found (λ bits. AreValues bits (lanes_rows input.now))) }
+{
+    if let Lanes::Texts(spans, validity) = input {
+        let texts = Texts {
+            count,
+            spans,
+            validity,
+        };
+        return Ok(Some(texts_there(alloc, texts)?));
+    }
     match validity_of(input) {
-        Some(validity) => {
-            let valid = valid_rows(alloc, count, validity)?;
-            Ok(Some(turned(alloc, &valid)?))
-        }
+        Some(validity) => Ok(Some(valid_rows(alloc, count, validity)?)),
         None => Ok(None),
     }
 }

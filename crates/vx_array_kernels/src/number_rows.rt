@@ -68,10 +68,10 @@ impl<T: Width> Blend for NumberRows<T> {
         }
     }
 
-    fn into_lanes(self, alloc: Global) -> Result<Lanes, AllocError> {
+    fn into_lanes(self, alloc: Global) -> Result<Option<Lanes>, AllocError> {
         let valid = BitPart::new(alloc, self.valid)?;
         let numbers = T::numbers(Part::new(alloc, self.numbers)?);
-        Ok(Lanes::Numbers(numbers, Validity::Rows(valid)))
+        Ok(Some(Lanes::Numbers(numbers, Validity::Rows(valid))))
     }
 }
 

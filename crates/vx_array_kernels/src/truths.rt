@@ -112,9 +112,9 @@ impl Blend for Truths {
         Ok(true)
     }
 
-    fn into_lanes(self, alloc: Global) -> Result<Lanes, AllocError> {
+    fn into_lanes(self, alloc: Global) -> Result<Option<Lanes>, AllocError> {
         let valid = BitPart::new(alloc, self.valid)?;
-        Ok(Lanes::Bools(BitPart::new(alloc, self.bits)?, Validity::Rows(valid)))
+        Ok(Some(Lanes::Bools(BitPart::new(alloc, self.bits)?, Validity::Rows(valid))))
     }
 }
 

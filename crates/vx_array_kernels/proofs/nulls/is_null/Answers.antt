@@ -1,4 +1,4 @@
-use Rattle.std.proofs.Common.{◌≡◌, ◌∙◌, ap, arith, rules}
+use Rattle.std.proofs.Common.{◌≡◌, ◌∙◌, ap, rules}
 use Rattle.vx_value.specs.Types.{is_null_datum}
 use Rattle.vx_value.specs.Views.{value_of}
 use Rattle.vx_array.specs.Rows.{lanes_rows}
@@ -13,6 +13,4 @@ returns-in-Same c =
     same_null c.is_null.result c.in-Same.count d (lanes_rows c.args.input.now) (lanes_rows c.in_ok-repeated.field-0) (ap lanes_rows c.in-Same.is ∙ rows-Same c.in-Same.value c.in-Same.count) told c.in_ok-repeated.ensures
 
 pub returns-in_ok-truths-in-Some : goal.returns-in_ok-truths-in-Some
-returns-in_ok-truths-in-Some c =
-    nulls_are c.in-Some.validity.now (lanes_rows c.args.input.now) c.in_ok-valid-in-Some.valid c.in_ok-turned-in-Some.field-0 (lanes_rows c.in_ok-truths-in-Some.field-0) c.in-Some.ensures (c.in_ok-valid-in-Some.ensures.long ∙ c.len.ensures)
-    (λ k lt. c.in_ok-valid-in-Some.ensures.each k (omega (arith, c.len.ensures))) c.in_ok-turned-in-Some.ensures c.in_ok-truths-in-Some.ensures
+returns-in_ok-truths-in-Some c = nulls_are (lanes_rows c.args.input.now) c.in-Some.values c.in_ok-turned-in-Some.field-0 (lanes_rows c.in_ok-truths-in-Some.field-0) (search rules) c.in_ok-turned-in-Some.ensures c.in_ok-truths-in-Some.ensures
