@@ -40,7 +40,7 @@ impl ByteKind for TextKind {
     fn bytes_of(value: &Value) -> Option<(&[u8], bool)> {
         match value {
             Value::Null => Some(("".as_bytes(), false)),
-            Value::Utf8(text) => Some((text.as_bytes(), true)),
+            Value::Utf8(text) => Some((text.as_str().as_bytes(), true)),
             _ => None,
         }
     }
