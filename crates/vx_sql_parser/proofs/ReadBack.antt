@@ -1,6 +1,6 @@
 -- Names, texts, numbers and types that are written for an engine are read back.
 use Rattle.std.proofs.Common.{◌≡◌, ℕ, suc, ◌<◌, ◌≤◌, Bool, true, false, List, [], ◌∷◌, ◌++◌, length, get_or, drop, chars, Some, None, Ok, Err, inl, inr, refl, sym, ap, ap₂, ◌∙◌, append_assoc, append-nil, arith}
-use Rattle.std.specs.Prelude.{◌==◌, ◌||◌, ◌&&◌, not, if◌then◌else◌}
+use Rattle.std.specs.Prelude.{◌==◌, ◌||◌, ◌&&◌, if◌then◌else◌}
 use Rattle.std.specs.Fmt.{decimal}
 use Rattle.std.specs.List.{flat_map, list_all, list_any}
 use Rattle.std.specs.Str.{IsUtf8}
@@ -24,7 +24,7 @@ use Rattle.vx_sql.specs.declared.dialect.Dialect.TheVariants.{Postgres, Sqlite, 
 use Rattle.vx_sql.specs.Quotes as quotes
 use Rattle.vx_sql.specs.Quotes.{quoting_of, inside, text_sql, anywhere}
 use Rattle.vx_sql.proofs.ReadBack.{characters_read}
-use Rattle.vx_sql_parser.specs.declared.reason.Unread.TheVariants.{NameQuote}
+use Rattle.vx_sql_parser.specs.declared.reason.Unread.TheVariants.{Unclosed}
 use Rattle.vx_sql_parser.specs.SqlTokens as sql
 use Rattle.vx_sql_parser.specs.Laws.{WrittenNamesAreRead, WrittenNumbersAreRead, WrittenTextsAreRead, WrittenTypesAreRead}
 use Rattle.vx_sql_parser.proofs.ByteTexts.{utf8_is}
@@ -42,7 +42,7 @@ names_read DuckDb a rest u plain e = ap (seen DuckDb 34) (first_text a rest u e)
 names_read Spark a rest u plain e = ap (seen Spark 96) (first_quoted a rest u e)
 names_read ClickHouse a rest u plain e =
     ap (seen ClickHouse 96) (first_quoted a rest u e)
-    ∙ ap (λ b. let t : sql.Taken = (Some (if not b then Ok (quoted a) else Err NameQuote), rest) in t) plain
+    ∙ ap (λ b. let t : sql.Taken = (Some (if b then Err Unclosed else Ok (quoted a)), rest) in t) plain
 
 -- ---- texts, byte by byte
 

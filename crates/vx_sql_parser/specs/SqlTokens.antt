@@ -31,9 +31,9 @@ has_name_quote DuckDb q = q == 34
 has_name_quote Spark q = q == 96
 has_name_quote ClickHouse q = true
 
--- a name between such quotes, in which no backslash says something
+-- a name between such quotes, in which no backslash may say something
 abbrev pub name_lexeme : Dialect → ℕ → List ℕ → SqlLexeme
-name_lexeme d q a = if has_name_quote d q && not (is_escaped d a) then Ok (quoted a) else Err NameQuote
+name_lexeme d q a = if has_name_quote d q then (if is_escaped d a then Err Unclosed else Ok (quoted a)) else Err NameQuote
 
 -- PostgreSQL makes the letters of words small
 abbrev pub folded : Dialect → List ℕ → List ℕ

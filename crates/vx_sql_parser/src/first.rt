@@ -209,14 +209,16 @@ fn field_name(alloc: Global, name: &str) -> Result<FieldName, AllocError>
     FieldName::new(alloc, name).map_err(|_| AllocError)
 }
 
-// A name between such quotes, in which no backslash says something.
+// A name between such quotes, in which no backslash may say something.
 fn name_of(dialect: Dialect, quote: u8, name: FieldName) -> Result<Token, Unread>
     ensures { sql_of result ≡ name_lexeme dialect quote name }
 {
-    if has_name_quote(dialect, quote) && !is_escaped(dialect, name.as_str()) {
-        Ok(Token::Quoted(name))
-    } else {
+    if !has_name_quote(dialect, quote) {
         Err(Unread::NameQuote)
+    } else if is_escaped(dialect, name.as_str()) {
+        Err(Unread::Unclosed)
+    } else {
+        Ok(Token::Quoted(name))
     }
 }
 

@@ -32,7 +32,7 @@ pub fn make_cases(
     count: usize,
 ) -> Result<Cases, Unread> {
     let kinds = kinds(alloc, dialect)?;
-    let scope = scope(alloc, dialect, kinds.as_slice())?;
+    let scope = scope(alloc, dialect, "", kinds.as_slice())?;
     let mut seeds = Seeds::new(seed.wrapping_add(1));
     let rows = rows(alloc, kinds.as_slice(), &mut seeds)?;
     let mut script = String::new(alloc);

@@ -26,9 +26,15 @@ pub fn kinds(alloc: Global, dialect: Dialect) -> Result<Vec<Kind>, AllocError> {
     Ok(kinds)
 }
 
-/// The type of the rows: of each kind a column with nulls, and one without.
-pub fn scope(alloc: Global, dialect: Dialect, kinds: &[Kind]) -> Result<DType, Unread> {
-    let mut text = String::from_str(alloc, "{")?;
+/// The type of the rows: first the columns that are given, and then of each kind a column with nulls, and
+/// one without.
+pub fn scope(
+    alloc: Global,
+    dialect: Dialect,
+    given: &str,
+    kinds: &[Kind],
+) -> Result<DType, Unread> {
+    let mut text = format!(in alloc; "{{{given}")?;
     for (i, kind) in kinds.iter().enumerate() {
         let [nullable, plain] = kind.columns(dialect);
         let word = kind.type_text();
