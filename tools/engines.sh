@@ -1,9 +1,10 @@
 #!/bin/sh
 # Runs expressions by chance in real engines: `tools/engines.sh [SEED [COUNT]]`, from seed 1 on and 5,000 of
-# them unless told otherwise. Over a table of 50 rows with nulls, SQLite and PostgreSQL have to give the value of
+# them unless told otherwise. Over a table of 50 rows with nulls, SQLite, PostgreSQL and ClickHouse have to give the value of
 # the source for each row where it doesn't fault, to fail at sums that have to fail (docs/embed/ENGINES.md), and to keep
 # the rows of which a filter is true. An engine that isn't installed is installed from Debian's packages, and where
-# it can't be, or doesn't start, a line says so. PostgreSQL is started on a socket in a temporary folder, and stopped at the end.
+# it can't be, or doesn't start, a line says so. PostgreSQL is started on a socket in a temporary folder, ClickHouse at a port
+# on loopback, and both are stopped at the end.
 # Ends with status 1 where an engine answers otherwise, and prints what.
 # `rt ci` or `rt run vx_sql_rows` has built the program.
 set -eu
@@ -14,8 +15,10 @@ program=$PWD/crates/vx_sql_rows/out/vx_sql_rows
 room=$(mktemp -d)
 server=
 as_postgres=
+. tools/clickhouse.sh
 
 stop() {
+    stop_clickhouse
     if [ -n "$server" ]; then
         $as_postgres "$server/pg_ctl" -D "$room/data" -m immediate stop >"$room/stopped" 2>&1 || cat "$room/stopped"
         server=
@@ -25,10 +28,10 @@ stop() {
 trap stop EXIT
 trap 'exit 1' INT TERM
 
-# Installs a package, if that is allowed here.
+# Installs packages, if that is allowed here.
 add_package() {
     [ "$(id -u)" -eq 0 ] && command -v apt-get >/dev/null || return 1
-    DEBIAN_FRONTEND=noninteractive timeout 300 apt-get install -y -q "$1" >"$room/installed" 2>&1 </dev/null
+    DEBIAN_FRONTEND=noninteractive timeout 300 apt-get install -y -q "$@" >"$room/installed" 2>&1 </dev/null
 }
 
 # The folder of PostgreSQL's programs, the newest one's.
@@ -100,5 +103,24 @@ run_postgres() {
     compare postgres 'ERROR:  [a-z]* out of range$'
 }
 
+run_clickhouse() {
+    has_clickhouse || {
+        echo "engines: clickhouse: isn't installed here, and couldn't be: nothing was compared"
+        return 0
+    }
+    port=$(free_port 19400)
+    start_clickhouse server "$port" || {
+        echo "engines: clickhouse: is installed here, and doesn't start: nothing was compared"
+        tail -n 20 "$room/server/out" || true
+        return 0
+    }
+    "$program" script clickhouse "$seed" "$count" >"$room/script"
+    ask_clickhouse "$port" --multiquery --ignore-error <"$room/script" >"$room/said" 2>"$room/told" || true
+    # Each error is told by several lines, of which one has the code.
+    grep '^Code: ' "$room/told" >"$room/errors" || true
+    compare clickhouse '^Code: 395\. .* Value passed to .throwIf. function is non zero'
+}
+
 run_sqlite
 run_postgres
+run_clickhouse

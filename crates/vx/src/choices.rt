@@ -3,13 +3,14 @@
 use vx_commands::{CsvFormat, DataFormat, Dialect, OutputFormat};
 
 /// The engines.
-pub const ENGINES: &[&str] = &["postgres", "sqlite", "duckdb", "spark"];
+pub const ENGINES: &[&str] = &["postgres", "sqlite", "duckdb", "spark", "clickhouse"];
 
 const DIALECTS: &[Dialect] = &[
     Dialect::Postgres,
     Dialect::Sqlite,
     Dialect::DuckDb,
     Dialect::Spark,
+    Dialect::ClickHouse,
 ];
 
 /// The forms of records.

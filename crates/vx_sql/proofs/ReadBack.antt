@@ -1,9 +1,9 @@
 -- What stands between quotes is read back, and so are patterns.
-use Rattle.std.proofs.Common.{◌≡◌, ℕ, Bool, true, false, List, [], ◌∷◌, ◌++◌, Some, codes, chars, refl, sym, ap, ◌∙◌, append_assoc, arith}
+use Rattle.std.proofs.Common.{◌≡◌, ℕ, Bool, true, false, List, [], ◌∷◌, ◌++◌, Some, None, codes, chars, refl, sym, ap, ◌∙◌, append_assoc, arith}
 use Rattle.std.specs.Prelude.{◌==◌, ◌||◌, ◌&&◌, encode_utf8_all}
 use Rattle.std.specs.List.{flat_map}
 use Rattle.std.proofs.Math.Utf8.{scalars}
-use Rattle.std.proofs.lemmas.Bool.{cond-true, cond-false}
+use Rattle.std.proofs.lemmas.Bool.{cond-true, cond-false, eq-eqb}
 use Rattle.std.proofs.lemmas.Bool.Decides.{nat_tests}
 use Rattle.std.proofs.lemmas.Str.{chars-encodes, encodes-append, scalars-chars}
 use Rattle.std.proofs.Math.Seq.{drop-append_seam}
@@ -12,11 +12,13 @@ use Rattle.vx_source_types.specs.Tokens.{next, unquoted, with_byte}
 use Rattle.vx_source_types.proofs.Choice.{no}
 use Rattle.vx_source_types.proofs.Unquoting.{unquoted_doubled}
 use Rattle.vx_fn.specs.Values.{Part, any_text, any_one, just}
+use Rattle.vx_sql.specs.declared.dialect.Dialect.{Dialect}
+use Rattle.vx_sql.specs.declared.dialect.Dialect.TheVariants.{Postgres, Sqlite, DuckDb, Spark, ClickHouse}
 use Rattle.vx_sql.specs.declared.quotes.Quoting.{Quoting}
 use Rattle.vx_sql.specs.declared.quotes.Quoting.TheVariants.{Doubled, Escaped, Backslashed}
-use Rattle.vx_sql.specs.Laws.{NamesReadBack, CharactersReadBack, TextsReadBack, like_read, PatternsReadBack}
-use Rattle.vx_sql.specs.Patterns.{is_like_sign, like_char, like_part}
-use Rattle.vx_sql.specs.Quotes.{name_quote, quoting_of, quote_inside, backslash_inside, inside, opening, anywhere, text_read}
+use Rattle.vx_sql.specs.Laws.{NamesReadBack, CharactersReadBack, TextsReadBack, like_read, like_escaped, PatternsReadBack}
+use Rattle.vx_sql.specs.Patterns.{like_escape, is_like_sign, like_char, like_part}
+use Rattle.vx_sql.specs.Quotes.{name_quote, plain_name, quoting_of, quote_inside, backslash_inside, inside, opening, anywhere, text_read}
 
 same_is : (b q : ℕ) → (b == q) ≡ true → b ≡ q
 same_is b q e = grind (arith, nat_tests)
@@ -24,7 +26,9 @@ same_is b q e = grind (arith, nat_tests)
 -- ---- names
 
 pub names_read : NamesReadBack
-names_read d a rest e = ap (unquoted (name_quote d) false) (append_assoc (doubled (name_quote d) a) (name_quote d ∷ []) rest) ∙ unquoted_doubled (name_quote d) a rest e
+names_read d a rest plain e =
+    ap (plain_name d) (ap (unquoted (name_quote d) false) (append_assoc (doubled (name_quote d) a) (name_quote d ∷ []) rest) ∙ unquoted_doubled (name_quote d) a rest e)
+    ∙ ap (λ b. elim b [ true ↦ None | false ↦ Some (a, rest) ]) plain
 
 -- ---- characters
 
@@ -122,22 +126,33 @@ none_of true b c e = cc
 none_of false true c e = cc
 none_of false false true e = cc
 
-plain_read : (c : ℕ) (cs : List ℕ) → is_like_sign c ≡ false → like_read (c ∷ cs) ≡ just c ∷ like_read cs
-plain_read c cs e =
-    let (any, one, escape) = none_of (c == 37) (c == 95) (c == 33) e in
-    cond-false (c == 33) _ _ escape ∙ ap (λ p. p ∷ like_read cs) (cond-false (c == 37) _ _ any ∙ cond-false (c == 95) _ _ one)
+plain_read : (e c : ℕ) (cs : List ℕ) → is_like_sign e c ≡ false → like_read e (c ∷ cs) ≡ just c ∷ like_read e cs
+plain_read e c cs h =
+    let (any, one, escape) = none_of (c == 37) (c == 95) (c == e) h in
+    cond-false (c == e) _ _ escape ∙ ap (λ p. p ∷ like_read e cs) (cond-false (c == 37) _ _ any ∙ cond-false (c == 95) _ _ one)
 
-char_read : (c : ℕ) (cs : List ℕ) → like_read (like_char c ++ cs) ≡ just c ∷ like_read cs
-char_read c cs = by (is_like_sign c) refl where
-  by : (t : Bool) → is_like_sign c ≡ t → like_read (like_char c ++ cs) ≡ just c ∷ like_read cs
-  by true e = ap (λ xs. like_read (xs ++ cs)) (cond-true (is_like_sign c) (33 ∷ c ∷ []) (c ∷ []) e)
-  by false e = ap (λ xs. like_read (xs ++ cs)) (cond-false (is_like_sign c) (33 ∷ c ∷ []) (c ∷ []) e) ∙ plain_read c cs e
+escape_read : (e : ℕ) (cs : List ℕ) → like_read e (e ∷ cs) ≡ like_escaped e cs
+escape_read e cs = cond-true (e == e) _ _ (eq-eqb e e refl)
 
-part_read : (p : Part) (cs : List ℕ) → like_read (like_part p ++ cs) ≡ p ∷ like_read cs
-part_read any_text cs = refl
-part_read any_one cs = refl
-part_read (just c) cs = char_read c cs
+char_read : (e c : ℕ) (cs : List ℕ) → like_read e (like_char e c ++ cs) ≡ just c ∷ like_read e cs
+char_read e c cs = by (is_like_sign e c) refl where
+  by : (t : Bool) → is_like_sign e c ≡ t → like_read e (like_char e c ++ cs) ≡ just c ∷ like_read e cs
+  by true h = ap (λ xs. like_read e (xs ++ cs)) (cond-true (is_like_sign e c) (e ∷ c ∷ []) (c ∷ []) h) ∙ escape_read e (c ∷ cs)
+  by false h = ap (λ xs. like_read e (xs ++ cs)) (cond-false (is_like_sign e c) (e ∷ c ∷ []) (c ∷ []) h) ∙ plain_read e c cs h
+
+-- an escape is none of the signs of any text and any character
+is_apart : (d : Dialect) → (37 == like_escape d ≡ false) × (95 == like_escape d ≡ false)
+is_apart Postgres = (refl, refl)
+is_apart Sqlite = (refl, refl)
+is_apart DuckDb = (refl, refl)
+is_apart Spark = (refl, refl)
+is_apart ClickHouse = (refl, refl)
+
+part_read : (d : Dialect) (p : Part) (cs : List ℕ) → like_read (like_escape d) (like_part (like_escape d) p ++ cs) ≡ p ∷ like_read (like_escape d) cs
+part_read d any_text cs = cond-false (37 == like_escape d) _ _ (is_apart d).0
+part_read d any_one cs = cond-false (95 == like_escape d) _ _ (is_apart d).1
+part_read d (just c) cs = char_read (like_escape d) c cs
 
 pub patterns_read : PatternsReadBack
-patterns_read [] = refl
-patterns_read (p ∷ ps) = part_read p (flat_map like_part ps) ∙ ap (λ x. p ∷ x) (patterns_read ps)
+patterns_read d [] = refl
+patterns_read d (p ∷ ps) = part_read d p (flat_map (like_part (like_escape d)) ps) ∙ ap (λ x. p ∷ x) (patterns_read d ps)

@@ -1,8 +1,8 @@
 -- What the text of a node depends on beside its children's texts.
-use Rattle.std.specs.Prelude.{Bool, true, false, not, List, [], Option, Some, None}
+use Rattle.std.specs.Prelude.{ℕ, Bool, true, false, not, List, [], Option, Some, None}
 use Rattle.vx_value.specs.Columns.{Constant, constant}
 use Rattle.vx_value.specs.Fields.{field_names}
-use Rattle.vx_value.specs.Types.{Name, LogicalType, ty, struct, is_null_datum}
+use Rattle.vx_value.specs.Types.{Name, LogicalType, ty, struct, is_null_datum, is_nullable}
 use Rattle.vx_fn.specs.Functions.{literal, is_text, is_atomic}
 use Rattle.vx_tree.specs.Nodes.{is_root, bound_at}
 use Rattle.vx_tree.specs.Trees.{BoundTree, node, BoundTrees, node_type, unbound}
@@ -29,6 +29,10 @@ has_struct_first bs = passes (λ b. is_struct (node_type b)) (bound_at bs 0)
 
 abbrev pub has_atomic_first : BoundTrees → Bool
 has_atomic_first bs = passes (λ b. is_atomic (node_type b)) (bound_at bs 0)
+
+-- whether the child at that place may be null
+abbrev pub admits_null_at : BoundTrees → ℕ → Bool
+admits_null_at bs i = passes (λ b. is_nullable (node_type b)) (bound_at bs i)
 
 -- the names of the fields of a struct, none of another type
 abbrev pub names_in : LogicalType → List Name

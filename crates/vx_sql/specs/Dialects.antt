@@ -4,7 +4,7 @@ use Rattle.vx_dtype.specs.declared.dtype.PType.{PType}
 use Rattle.vx_dtype.specs.declared.dtype.PType.TheVariants.{U8, U16, U32, U64, I8, I16, I32, I64}
 use Rattle.vx_value.specs.Types.{truth, number, text, octets, LogicalType, ty, atomic, list, fixed, struct}
 use Rattle.vx_sql.specs.declared.dialect.Dialect.{Dialect}
-use Rattle.vx_sql.specs.declared.dialect.Dialect.TheVariants.{Postgres, Sqlite, DuckDb, Spark}
+use Rattle.vx_sql.specs.declared.dialect.Dialect.TheVariants.{Postgres, Sqlite, DuckDb, Spark, ClickHouse}
 
 -- PostgreSQL's narrowest type that has all numbers of that type
 abbrev pub postgres_word : PType → List ℕ
@@ -39,12 +39,24 @@ spark_word I16 = codes "SMALLINT"
 spark_word I32 = codes "INT"
 spark_word I64 = codes "BIGINT"
 
+-- ClickHouse's type of the same numbers
+abbrev pub clickhouse_word : PType → List ℕ
+clickhouse_word U8 = codes "UInt8"
+clickhouse_word U16 = codes "UInt16"
+clickhouse_word U32 = codes "UInt32"
+clickhouse_word U64 = codes "UInt64"
+clickhouse_word I8 = codes "Int8"
+clickhouse_word I16 = codes "Int16"
+clickhouse_word I32 = codes "Int32"
+clickhouse_word I64 = codes "Int64"
+
 -- the engine's number type, which in SQLite is one for all
 abbrev pub number_word : Dialect → PType → List ℕ
 number_word Postgres p = postgres_word p
 number_word Sqlite p = codes "INTEGER"
 number_word DuckDb p = duckdb_word p
 number_word Spark p = spark_word p
+number_word ClickHouse p = clickhouse_word p
 
 -- the engine's type of truth values, of texts, and of bytes
 abbrev pub truth_word : Dialect → List ℕ
@@ -52,18 +64,21 @@ truth_word Postgres = codes "boolean"
 truth_word Sqlite = codes "INTEGER"
 truth_word DuckDb = codes "BOOLEAN"
 truth_word Spark = codes "BOOLEAN"
+truth_word ClickHouse = codes "UInt8"
 
 abbrev pub text_word : Dialect → List ℕ
 text_word Postgres = codes "text"
 text_word Sqlite = codes "TEXT"
 text_word DuckDb = codes "VARCHAR"
 text_word Spark = codes "STRING"
+text_word ClickHouse = codes "String"
 
 abbrev pub octets_word : Dialect → List ℕ
 octets_word Postgres = codes "bytea"
 octets_word Sqlite = codes "BLOB"
 octets_word DuckDb = codes "BLOB"
 octets_word Spark = codes "BINARY"
+octets_word ClickHouse = codes "String"
 
 -- the engine's type of such values, none of lists and structs
 abbrev pub type_word : Dialect → LogicalType → List ℕ
@@ -85,14 +100,20 @@ collation Postgres = codes " COLLATE \"C\""
 collation Sqlite = codes " COLLATE BINARY"
 collation DuckDb = []
 collation Spark = []
+collation ClickHouse = []
 
--- whether the engine has values of the type: SQLite has no numbers from 2 ^ 63 on, no lists and no structs
+-- whether the engine has values of the type: SQLite has no numbers from 2 ^ 63 on, no lists and no structs, and ClickHouse has
+-- neither lists nor structs that may be null
 abbrev pub has_type : Dialect → LogicalType → Bool
 has_type Sqlite (ty (atomic (number U64)) n) = false
 has_type Sqlite (ty (atomic p) n) = true
 has_type Sqlite (ty (list t) n) = false
 has_type Sqlite (ty (fixed t k) n) = false
 has_type Sqlite (ty (struct fs) n) = false
+has_type ClickHouse (ty (atomic p) n) = true
+has_type ClickHouse (ty (list t) n) = false
+has_type ClickHouse (ty (fixed t k) n) = false
+has_type ClickHouse (ty (struct fs) n) = false
 has_type Postgres t = true
 has_type DuckDb t = true
 has_type Spark t = true
@@ -103,3 +124,4 @@ makes_structs Postgres = false
 makes_structs Sqlite = false
 makes_structs DuckDb = true
 makes_structs Spark = true
+makes_structs ClickHouse = false

@@ -7,7 +7,7 @@ use Rattle.vx_dtype.specs.declared.dtype.PType.TheVariants.{I32}
 use Rattle.vx_value.specs.Types.{number, LogicalType, ty, atomic, Datum, null, bool, int, utf8, bytes, list_of, struct_of}
 use Rattle.vx_value.specs.ValueTexts.{hex_byte}
 use Rattle.vx_sql.specs.declared.dialect.Dialect.{Dialect}
-use Rattle.vx_sql.specs.declared.dialect.Dialect.TheVariants.{Postgres, Sqlite, DuckDb, Spark}
+use Rattle.vx_sql.specs.declared.dialect.Dialect.TheVariants.{Postgres, Sqlite, DuckDb, Spark, ClickHouse}
 use Rattle.vx_sql.specs.Dialects.{type_word, number_word, cast_text}
 use Rattle.vx_sql.specs.Quotes.{text_sql}
 
@@ -21,6 +21,8 @@ truth_sql DuckDb true = codes "TRUE"
 truth_sql DuckDb false = codes "FALSE"
 truth_sql Spark true = codes "TRUE"
 truth_sql Spark false = codes "FALSE"
+truth_sql ClickHouse true = codes "1"
+truth_sql ClickHouse false = codes "0"
 
 abbrev pub is_i32 : PType → Bool
 is_i32 I32 = true
@@ -32,6 +34,7 @@ is_by_itself Postgres p = is_i32 p
 is_by_itself Sqlite p = true
 is_by_itself DuckDb p = is_i32 p
 is_by_itself Spark p = is_i32 p
+is_by_itself ClickHouse p = is_i32 p
 
 -- the number as one of the engine's type, which a sum relies on
 abbrev pub natural_sql : Dialect → PType → ℕ → List ℕ
@@ -56,10 +59,15 @@ octets_sql Postgres bs = codes "decode('" ++ (flat_map hex_byte bs ++ codes "', 
 octets_sql Sqlite bs = digits_sql bs
 octets_sql DuckDb bs = codes "CAST('" ++ (flat_map byte_escape bs ++ codes "' AS BLOB)")
 octets_sql Spark bs = digits_sql bs
+octets_sql ClickHouse bs = codes "unhex('" ++ (flat_map hex_byte bs ++ codes "')")
 
--- a null of that type
+-- a null of that type, which ClickHouse has to be told that it may be null
 abbrev pub null_sql : Dialect → LogicalType → List ℕ
-null_sql d t = cast_text (codes "NULL") (type_word d t)
+null_sql Postgres t = cast_text (codes "NULL") (type_word Postgres t)
+null_sql Sqlite t = cast_text (codes "NULL") (type_word Sqlite t)
+null_sql DuckDb t = cast_text (codes "NULL") (type_word DuckDb t)
+null_sql Spark t = cast_text (codes "NULL") (type_word Spark t)
+null_sql ClickHouse t = codes "CAST(NULL AS Nullable(" ++ (type_word ClickHouse t ++ codes "))")
 
 -- a value of that type, none of a list or a struct
 abbrev pub literal_sql : Dialect → Datum → LogicalType → List ℕ

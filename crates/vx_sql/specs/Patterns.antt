@@ -5,7 +5,7 @@ use Rattle.std.specs.List.{flat_map}
 use Rattle.vx_fn.specs.Values.{Part, any_text, any_one, just}
 use Rattle.vx_eval_like.specs.Patterns.{spelled_by}
 use Rattle.vx_sql.specs.declared.dialect.Dialect.{Dialect}
-use Rattle.vx_sql.specs.declared.dialect.Dialect.TheVariants.{Postgres, Sqlite, DuckDb, Spark}
+use Rattle.vx_sql.specs.declared.dialect.Dialect.TheVariants.{Postgres, Sqlite, DuckDb, Spark, ClickHouse}
 use Rattle.vx_sql.specs.Quotes.{quoted, quoting_of}
 
 -- whether the engine's patterns are those of GLOB. SQLite's LIKE ignores the case of letters or not, by a setting
@@ -14,20 +14,29 @@ has_globs Postgres = false
 has_globs Sqlite = true
 has_globs DuckDb = false
 has_globs Spark = false
+has_globs ClickHouse = false
 
--- ---- LIKE: 37 is `%`, 95 `_`, and 33 `!`, which makes the character behind it stand for itself
+-- ---- LIKE: 37 is `%`, and 95 `_`
+
+-- what makes the character behind it stand for itself: 33, `!`, which is said, and in ClickHouse, where none is, 92, the backslash
+abbrev pub like_escape : Dialect → ℕ
+like_escape Postgres = 33
+like_escape Sqlite = 33
+like_escape DuckDb = 33
+like_escape Spark = 33
+like_escape ClickHouse = 92
 
 -- whether the character would stand for others, or make another stand for itself
-abbrev pub is_like_sign : ℕ → Bool
-is_like_sign c = c == 37 || (c == 95 || c == 33)
+abbrev pub is_like_sign : ℕ → ℕ → Bool
+is_like_sign e c = c == 37 || (c == 95 || c == e)
 
-abbrev pub like_char : ℕ → List ℕ
-like_char c = if is_like_sign c then 33 ∷ c ∷ [] else c ∷ []
+abbrev pub like_char : ℕ → ℕ → List ℕ
+like_char e c = if is_like_sign e c then e ∷ c ∷ [] else c ∷ []
 
-abbrev pub like_part : Part → List ℕ
-like_part any_text = 37 ∷ []
-like_part any_one = 95 ∷ []
-like_part (just c) = like_char c
+abbrev pub like_part : ℕ → Part → List ℕ
+like_part e any_text = 37 ∷ []
+like_part e any_one = 95 ∷ []
+like_part e (just c) = like_char e c
 
 -- ---- GLOB: 42 is `*` for any text, 63 `?` for any one character, and 91 and 93 enclose those of which one stands
 
@@ -55,7 +64,7 @@ glob_part ignore_case (just c) = glob_char ignore_case c
 
 -- the engine's spelling of a part
 abbrev pub part_spelled : Dialect → Bool → Part → List ℕ
-part_spelled d ignore_case p = if has_globs d then glob_part ignore_case p else like_part p
+part_spelled d ignore_case p = if has_globs d then glob_part ignore_case p else like_part (like_escape d) p
 
 -- the engine's spelling of the parts
 abbrev pub parts_spelled : Dialect → Bool → List Part → List ℕ

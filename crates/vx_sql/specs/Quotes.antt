@@ -5,7 +5,7 @@ use Rattle.vx_dtype.specs.Types.{Name}
 use Rattle.vx_source_types.specs.Spellings.{between_quotes}
 use Rattle.vx_source_types.specs.Tokens.{unquoted, with_byte}
 use Rattle.vx_sql.specs.declared.dialect.Dialect.{Dialect}
-use Rattle.vx_sql.specs.declared.dialect.Dialect.TheVariants.{Postgres, Sqlite, DuckDb, Spark}
+use Rattle.vx_sql.specs.declared.dialect.Dialect.TheVariants.{Postgres, Sqlite, DuckDb, Spark, ClickHouse}
 use Rattle.vx_sql.specs.declared.quotes.Quoting.{Quoting}
 use Rattle.vx_sql.specs.declared.quotes.Quoting.TheVariants.{Doubled, Escaped, Backslashed}
 
@@ -17,14 +17,28 @@ name_quote Postgres = 34
 name_quote Sqlite = 96
 name_quote DuckDb = 34
 name_quote Spark = 96
+name_quote ClickHouse = 96
 
 -- the name between quotes, a quote in it doubled
 abbrev pub name_sql : Dialect → Name → List ℕ
 name_sql d a = between_quotes (name_quote d) a
 
+-- whether a backslash says something of the character behind it in the engine's names, and stands in this one
+abbrev pub is_escaped : Dialect → Name → Bool
+is_escaped Postgres a = false
+is_escaped Sqlite a = false
+is_escaped DuckDb a = false
+is_escaped Spark a = false
+is_escaped ClickHouse a = list_any (λ b. b == 92) a
+
+-- the name, but where a backslash says something in it
+abbrev pub plain_name : Dialect → Option (Name × List ℕ) → Option (Name × List ℕ)
+plain_name d None = None
+plain_name d (Some (a, rest)) = elim (is_escaped d a) [ true ↦ None | false ↦ Some (a, rest) ]
+
 -- what the engine reads of a name behind its opening quote: the name, and what follows the closing quote
 abbrev pub name_read : Dialect → List ℕ → Option (Name × List ℕ)
-name_read d bs = unquoted (name_quote d) false bs
+name_read d bs = plain_name d (unquoted (name_quote d) false bs)
 
 -- ---- texts: 39 is the quote, 92 the backslash
 
@@ -34,6 +48,7 @@ quoting_of Postgres s = if list_any (λ b. b == 92) s then Escaped else Doubled
 quoting_of Sqlite s = Doubled
 quoting_of DuckDb s = Doubled
 quoting_of Spark s = Backslashed
+quoting_of ClickHouse s = Backslashed
 
 -- what stands for a quote inside a text, and for a backslash
 abbrev pub quote_inside : Quoting → List ℕ

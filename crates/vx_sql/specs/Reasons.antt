@@ -9,11 +9,12 @@ use Rattle.vx_fn.specs.Functions.{Function, case_when, get_item, literal, pack, 
 use Rattle.vx_tree.specs.Nodes.{bound_at, bound_count_of}
 use Rattle.vx_tree.specs.Trees.{BoundTrees}
 use Rattle.vx_sql.specs.declared.dialect.Dialect.{Dialect}
-use Rattle.vx_sql.specs.declared.dialect.Dialect.TheVariants.{Postgres, Sqlite, DuckDb, Spark}
+use Rattle.vx_sql.specs.declared.dialect.Dialect.TheVariants.{Postgres, Sqlite, DuckDb, Spark, ClickHouse}
 use Rattle.vx_sql.specs.declared.unsupported.Reason.{Reason}
-use Rattle.vx_sql.specs.declared.unsupported.Reason.TheVariants.{ChildCount, UnknownType, UnknownFunction, NestedLiteral, PatternNotLiteral, FillNotLiteral, EmptyName, LongName, AmbiguousName, Nul}
+use Rattle.vx_sql.specs.declared.unsupported.Reason.TheVariants.{ChildCount, UnknownType, UnknownFunction, NestedLiteral, PatternNotLiteral, FillNotLiteral, EmptyName, LongName, AmbiguousName, Nul, Backslash}
 use Rattle.vx_sql.specs.Children.{passes, has_atomic_first, names_first, literal_in, is_value}
 use Rattle.vx_sql.specs.Dialects.{has_type, makes_structs}
+use Rattle.vx_sql.specs.Quotes.{is_escaped}
 
 -- the reason where the test holds
 abbrev pub because : Bool → Reason → Option Reason
@@ -31,17 +32,19 @@ is_cut Postgres a = nat_lt 63 (length a)
 is_cut Sqlite a = false
 is_cut DuckDb a = false
 is_cut Spark a = false
+is_cut ClickHouse a = false
 
--- whether the engine takes two names for one: all but PostgreSQL ignore the case of ASCII letters, between quotes too
+-- whether the engine takes two names for one: all but PostgreSQL and ClickHouse ignore the case of ASCII letters, between quotes too
 abbrev pub same_name : Dialect → Name → Name → Bool
 same_name Postgres a b = bytes_eq a b
 same_name Sqlite a b = same_word a b
 same_name DuckDb a b = same_word a b
 same_name Spark a b = same_word a b
+same_name ClickHouse a b = bytes_eq a b
 
 -- why no such name can be written
 abbrev pub spelling_reason : Dialect → Name → Option Reason
-spelling_reason d a = option_or (because (length a == 0) EmptyName) (option_or (because (has_nul a) Nul) (because (is_cut d a) LongName))
+spelling_reason d a = option_or (because (length a == 0) EmptyName) (option_or (because (has_nul a) Nul) (option_or (because (is_cut d a) LongName) (because (is_escaped d a) Backslash)))
 
 -- why the name isn't that of one of the columns or fields alone
 abbrev pub name_reason : Dialect → List Name → Name → Option Reason

@@ -1,5 +1,5 @@
 -- The SQL text of a bound tree over the columns of its scope.
-use Rattle.std.specs.Prelude.{ℕ, Bool, true, false, ◌&&◌, ◌==◌, List, [], ◌∷◌, ◌++◌, codes, get_or, if◌then◌else◌, Option, Some, None}
+use Rattle.std.specs.Prelude.{ℕ, Bool, true, false, ◌&&◌, ◌||◌, ◌==◌, List, [], ◌∷◌, ◌++◌, codes, get_or, if◌then◌else◌, Option, Some, None}
 use Rattle.vx_value.specs.Columns.{Constant}
 use Rattle.vx_value.specs.Types.{Name, number, LogicalType, ty, atomic, Datum, utf8}
 use Rattle.vx_fn.specs.Functions.{equal, not_equal, greater, greater_or_equal, less, less_or_equal, Comparison, Operation, compares, and_also, or_else, adds, Function, case_when, get_item, literal, pack, select, fill_null, zip, binary, logical_not, between, like, is_null, is_not_null, mask, cast, arity_of}
@@ -9,9 +9,9 @@ use Rattle.vx_tree.specs.Trees.{BoundTree, scope, node, BoundTrees, no_bound, bo
 use Rattle.vx_tree.specs.declared.bound.BoundExpression.{BoundExpression}
 use Rattle.vx_tree.specs.Views.{bounds_of}
 use Rattle.vx_sql.specs.declared.dialect.Dialect.{Dialect}
-use Rattle.vx_sql.specs.declared.dialect.Dialect.TheVariants.{Postgres, Sqlite, DuckDb, Spark}
+use Rattle.vx_sql.specs.declared.dialect.Dialect.TheVariants.{Postgres, Sqlite, DuckDb, Spark, ClickHouse}
 use Rattle.vx_sql.specs.declared.text.Children.{Children}
-use Rattle.vx_sql.specs.Children.{is_row, has_text_first, has_struct_first, literal_in}
+use Rattle.vx_sql.specs.Children.{is_row, has_text_first, has_struct_first, literal_in, admits_null_at}
 use Rattle.vx_sql.specs.Dialects.{collation}
 use Rattle.vx_sql.specs.Quotes.{name_sql, text_sql}
 use Rattle.vx_sql.specs.Patterns.{has_globs, pattern_sql}
@@ -38,12 +38,29 @@ abbrev pub added_sql : Dialect → LogicalType → List ℕ → List ℕ → Lis
 added_sql d (ty (atomic (number p)) n) a b = sum_sql d p a b
 added_sql d _ a b = []
 
--- an operator between two texts, where the first may be a text, and the sum has a type
-abbrev pub binary_sql : Dialect → LogicalType → Bool → Operation → List ℕ → List ℕ → List ℕ
-binary_sql d t is_text (compares c) a b = operator_sql (comparison_sign c) (compared_sql d is_text a) b
-binary_sql d t is_text and_also a b = operator_sql (codes "AND") a b
-binary_sql d t is_text or_else a b = operator_sql (codes "OR") a b
-binary_sql d t is_text adds a b = added_sql d t a b
+-- whether the engine's AND and OR take no null for what it is: in ClickHouse, to version 19, an AND of false and null is null, and
+-- an OR takes null for false
+abbrev pub loses_nulls : Dialect → Bool
+loses_nulls Postgres = false
+loses_nulls Sqlite = false
+loses_nulls DuckDb = false
+loses_nulls Spark = false
+loses_nulls ClickHouse = true
+
+-- the least or the greatest of two truth values of which null is the middle one
+abbrev pub least_sql : List ℕ → List ℕ → List ℕ → List ℕ
+least_sql function a b = codes "(nullIf(" ++ (function ++ (codes "(COALESCE(" ++ (a ++ (codes ", 0.5), COALESCE(" ++ (b ++ codes ", 0.5)), 0.5) > 0)")))))
+
+-- two truth values, by the engine's word or by a function where that would lose a null
+abbrev pub logic_sql : Bool → List ℕ → List ℕ → List ℕ → List ℕ → List ℕ
+logic_sql loses sign function a b = if loses then least_sql function a b else operator_sql sign a b
+
+-- an operator between two texts, where the first may be a text, a null may be lost, and the sum has a type
+abbrev pub binary_sql : Dialect → LogicalType → Bool → Bool → Operation → List ℕ → List ℕ → List ℕ
+binary_sql d t is_text loses (compares c) a b = operator_sql (comparison_sign c) (compared_sql d is_text a) b
+binary_sql d t is_text loses and_also a b = logic_sql loses (codes "AND") (codes "least") a b
+binary_sql d t is_text loses or_else a b = logic_sql loses (codes "OR") (codes "greatest") a b
+binary_sql d t is_text loses adds a b = added_sql d t a b
 
 -- one text below another, or not above it
 abbrev pub below_sql : Bool → List ℕ → List ℕ → List ℕ
@@ -56,10 +73,15 @@ range_sql l u = codes " BETWEEN " ++ (l ++ (codes " AND " ++ u))
 abbrev pub both_sql : List ℕ → List ℕ → List ℕ
 both_sql a b = codes "(" ++ (a ++ (codes " AND " ++ (b ++ codes ")")))
 
--- a text between two bounds: by one word where both are let in, else by two comparisons
-abbrev pub between_sql : Dialect → Bool → Bool → Bool → List ℕ → List ℕ → List ℕ → List ℕ
-between_sql d is_text false false v l u = codes "(" ++ (compared_sql d is_text v ++ (range_sql l u ++ codes ")"))
-between_sql d is_text ls us v l u = both_sql (below_sql ls (compared_sql d is_text l) v) (below_sql us (compared_sql d is_text v) u)
+-- two comparisons that both have to hold, of which a null may be lost
+abbrev pub both_below : Dialect → Bool → Bool → Bool → Bool → List ℕ → List ℕ → List ℕ → List ℕ
+both_below d is_text true ls us v l u = least_sql (codes "least") (below_sql ls (compared_sql d is_text l) v) (below_sql us (compared_sql d is_text v) u)
+both_below d is_text false ls us v l u = both_sql (below_sql ls (compared_sql d is_text l) v) (below_sql us (compared_sql d is_text v) u)
+
+-- a text between two bounds: by one word where both are let in and no null is lost, else by two comparisons
+abbrev pub between_sql : Dialect → Bool → Bool → Bool → Bool → List ℕ → List ℕ → List ℕ → List ℕ
+between_sql d is_text false false false v l u = codes "(" ++ (compared_sql d is_text v ++ (range_sql l u ++ codes ")"))
+between_sql d is_text loses ls us v l u = both_below d is_text loses ls us v l u
 
 -- ---- tests
 
@@ -69,6 +91,7 @@ tests_rows Postgres = true
 tests_rows Sqlite = false
 tests_rows DuckDb = false
 tests_rows Spark = false
+tests_rows ClickHouse = false
 
 abbrev pub null_sign : Bool → Bool → List ℕ
 null_sign true true = codes " IS NOT DISTINCT FROM NULL)"
@@ -86,12 +109,14 @@ before_folded Postgres = codes "lower("
 before_folded Sqlite = []
 before_folded DuckDb = codes "translate("
 before_folded Spark = codes "translate("
+before_folded ClickHouse = codes "lower("
 
 abbrev pub behind_folded : Dialect → List ℕ
 behind_folded Postgres = codes ")"
 behind_folded Sqlite = []
 behind_folded DuckDb = codes ", 'ABCDEFGHIJKLMNOPQRSTUVWXYZ', 'abcdefghijklmnopqrstuvwxyz')"
 behind_folded Spark = codes ", 'ABCDEFGHIJKLMNOPQRSTUVWXYZ', 'abcdefghijklmnopqrstuvwxyz')"
+behind_folded ClickHouse = codes ")"
 
 -- what stands before a text that is matched, and behind it: a GLOB compares bytes by itself, and ignores the case by its pattern
 abbrev pub before_matched : Dialect → Bool → List ℕ
@@ -106,7 +131,11 @@ like_sign d negated = (if negated then codes " NOT" else []) ++ (if has_globs d 
 
 -- what stands behind the pattern
 abbrev pub like_end : Dialect → List ℕ
-like_end d = if has_globs d then codes ")" else codes " ESCAPE '!')"
+like_end Postgres = codes " ESCAPE '!')"
+like_end Sqlite = codes ")"
+like_end DuckDb = codes " ESCAPE '!')"
+like_end Spark = codes " ESCAPE '!')"
+like_end ClickHouse = codes ")"
 
 -- the pattern of a literal, which may be null
 abbrev pub value_pattern : Dialect → Bool → LogicalType → Datum → List ℕ
@@ -147,6 +176,7 @@ before_field Postgres a = text_sql Postgres a ++ codes ", "
 before_field Sqlite a = text_sql Sqlite a ++ codes ", "
 before_field DuckDb a = name_sql DuckDb a ++ codes " := "
 before_field Spark a = text_sql Spark a ++ codes ", "
+before_field ClickHouse a = text_sql ClickHouse a ++ codes ", "
 
 abbrev pub fields_sql : Dialect → List Name → List (List ℕ) → List (List ℕ)
 fields_sql d (a ∷ names) (c ∷ cs) = (before_field d a ++ c) ∷ fields_sql d names cs
@@ -158,8 +188,16 @@ pack_word Postgres = codes "named_struct("
 pack_word Sqlite = codes "named_struct("
 pack_word DuckDb = codes "struct_pack("
 pack_word Spark = codes "named_struct("
+pack_word ClickHouse = codes "named_struct("
 
 -- ---- trees
+
+-- whether the engine would lose a null of one of the operands, or of a comparison with one of the bounds and not of that with the other
+abbrev pub loses_operands : Dialect → BoundTrees → Bool
+loses_operands d bs = loses_nulls d && (admits_null_at bs 0 || admits_null_at bs 1)
+
+abbrev pub loses_bounds : Dialect → BoundTrees → Bool
+loses_bounds d bs = loses_nulls d && (admits_null_at bs 1 || admits_null_at bs 2)
 
 -- the text of a node of that type over as many children as it takes, whose texts are there
 abbrev pub own_sql : Dialect → LogicalType → Function → BoundTrees → List (List ℕ) → List ℕ
@@ -170,9 +208,9 @@ own_sql d t (pack names n) bs cs = pack_word d ++ (with_commas (fields_sql d nam
 own_sql d t (select selection) bs cs = []
 own_sql d t fill_null bs cs = codes "COALESCE(" ++ (get_or cs 0 [] ++ (codes ", " ++ (get_or cs 1 [] ++ codes ")")))
 own_sql d t zip bs cs = choice_sql (get_or cs 2 []) (get_or cs 0 []) (codes " ELSE " ++ (get_or cs 1 [] ++ codes " END"))
-own_sql d t (binary op) bs cs = binary_sql d t (has_text_first bs) op (get_or cs 0 []) (get_or cs 1 [])
+own_sql d t (binary op) bs cs = binary_sql d t (has_text_first bs) (loses_operands d bs) op (get_or cs 0 []) (get_or cs 1 [])
 own_sql d t logical_not bs cs = codes "(NOT " ++ (get_or cs 0 [] ++ codes ")")
-own_sql d t (between ls us) bs cs = between_sql d (has_text_first bs) ls us (get_or cs 0 []) (get_or cs 1 []) (get_or cs 2 [])
+own_sql d t (between ls us) bs cs = between_sql d (has_text_first bs) (loses_bounds d bs) ls us (get_or cs 0 []) (get_or cs 1 []) (get_or cs 2 [])
 own_sql d t (like negated ci) bs cs = match_sql d negated ci (get_or cs 0 []) (second_pattern d ci bs)
 own_sql d t is_null bs cs = null_test d (has_struct_first bs) true (get_or cs 0 [])
 own_sql d t is_not_null bs cs = null_test d (has_struct_first bs) false (get_or cs 0 [])

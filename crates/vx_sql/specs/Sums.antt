@@ -4,9 +4,9 @@ use Rattle.vx_dtype.specs.declared.dtype.PType.{PType}
 use Rattle.vx_dtype.specs.declared.dtype.PType.TheVariants.{U8, U16, U32, U64, I8, I16, I32, I64}
 use Rattle.vx_value.specs.Types.{is_signed}
 use Rattle.vx_sql.specs.declared.dialect.Dialect.{Dialect}
-use Rattle.vx_sql.specs.declared.dialect.Dialect.TheVariants.{Postgres, Sqlite, DuckDb, Spark}
+use Rattle.vx_sql.specs.declared.dialect.Dialect.TheVariants.{Postgres, Sqlite, DuckDb, Spark, ClickHouse}
 use Rattle.vx_sql.specs.declared.sums.Check.{Check}
-use Rattle.vx_sql.specs.declared.sums.Check.TheVariants.{Own, Moved, Floated, MovedFloated, Narrowed}
+use Rattle.vx_sql.specs.declared.sums.Check.TheVariants.{Own, Moved, Floated, MovedFloated, Narrowed, Thrown}
 use Rattle.vx_sql.specs.Dialects.{number_word}
 use Rattle.vx_sql.specs.Literals.{natural_sql}
 
@@ -43,6 +43,7 @@ check_of Postgres p = postgres_check p
 check_of Sqlite p = sqlite_check p
 check_of DuckDb p = Own
 check_of Spark p = wider_check p
+check_of ClickHouse p = Thrown
 
 -- a sum moved so far up and back, and where its numbers have a sign as far down
 abbrev pub there_sql : Dialect → PType → ℕ → List ℕ
@@ -53,13 +54,29 @@ there_sql d p k =
 abbrev pub back_sql : Dialect → PType → ℕ → List ℕ
 back_sql d p k = if is_signed p then codes " + " ++ natural_sql d p k else []
 
+-- a function of two numbers, each the only one of an array: their sum as one of the type, in which it wraps. It isn't of the type where it is
+-- below the first though the second isn't below 0, or the other way round, and then the function throws
+abbrev pub thrown_sql : List ℕ → List ℕ
+thrown_sql word =
+    codes "arrayMap((a, b) -> to" ++ (word ++ (codes "(a + b + throwIf(COALESCE((b < 0) <> (to" ++ (word ++ codes "(a + b) < a), 0))), [")))
+
 -- what stands before the operands of a sum
-abbrev pub before_sum : Check → List ℕ
-before_sum Own = codes "("
-before_sum (Moved k) = codes "("
-before_sum Floated = codes "CAST(json(("
-before_sum (MovedFloated k) = codes "(CAST(json(("
-before_sum Narrowed = codes "CAST(CAST("
+abbrev pub before_sum : Dialect → PType → Check → List ℕ
+before_sum d p Own = codes "("
+before_sum d p (Moved k) = codes "("
+before_sum d p Floated = codes "CAST(json(("
+before_sum d p (MovedFloated k) = codes "(CAST(json(("
+before_sum d p Narrowed = codes "CAST(CAST("
+before_sum d p Thrown = thrown_sql (number_word d p)
+
+-- what stands between them
+abbrev pub amid_sum : Check → List ℕ
+amid_sum Own = codes " + "
+amid_sum (Moved k) = codes " + "
+amid_sum Floated = codes " + "
+amid_sum (MovedFloated k) = codes " + "
+amid_sum Narrowed = codes " + "
+amid_sum Thrown = codes "], ["
 
 -- what stands behind them
 abbrev pub behind_sum : Dialect → PType → Check → List ℕ
@@ -69,7 +86,8 @@ behind_sum d p Floated = codes ") || '.5') AS INTEGER)"
 behind_sum d p (MovedFloated k) = there_sql d p k ++ (codes ") || '.5') AS INTEGER)" ++ (back_sql d p k ++ codes ")"))
 behind_sum d p Narrowed =
     codes " - 9223372036854775808 AS " ++ (number_word d I64 ++ (codes ") + 9223372036854775808 AS " ++ (number_word d p ++ codes ")")))
+behind_sum d p Thrown = codes "])[1]"
 
 -- the sum of two texts of that number type
 abbrev pub sum_sql : Dialect → PType → List ℕ → List ℕ → List ℕ
-sum_sql d p a b = before_sum (check_of d p) ++ (a ++ (codes " + " ++ (b ++ behind_sum d p (check_of d p))))
+sum_sql d p a b = before_sum d p (check_of d p) ++ (a ++ (amid_sum (check_of d p) ++ (b ++ behind_sum d p (check_of d p))))

@@ -4,7 +4,7 @@ ghost use Rattle.vx_value.specs.Views.{type_of};
 ghost use Rattle.vx_fn.specs.Functions.{is_text, is_atomic};
 ghost use Rattle.vx_tree.specs.Nodes.{bound_at};
 ghost use Rattle.vx_tree.specs.Views.{bound_of, bounds_of};
-ghost use Rattle.vx_sql.specs.Children.{is_row, has_text_first, is_struct, has_struct_first, has_atomic_first, literal_in};
+ghost use Rattle.vx_sql.specs.Children.{is_row, has_text_first, is_struct, has_struct_first, has_atomic_first, literal_in, admits_null_at};
 
 use vx_fn::ScalarFnRef;
 use vx_tree::BoundExpression;
@@ -57,6 +57,16 @@ pub(crate) fn has_atomic_first(children: &[BoundExpression]) -> bool
 {
     match child_at(children, 0) {
         Some(child) => is_atomic(child.dtype()),
+        None => false,
+    }
+}
+
+/// Whether the child at that index may be null.
+pub(crate) fn admits_null_at(children: &[BoundExpression], index: usize) -> bool
+    ensures { result ≡ admits_null_at (bounds_of children.now) index }
+{
+    match child_at(children, index) {
+        Some(child) => child.dtype().is_nullable(),
         None => false,
     }
 }

@@ -11,4 +11,6 @@ pub enum Dialect {
     DuckDb,
     /// Spark with `spark.sql.ansi.enabled`, as Spark 4 has it by default.
     Spark,
+    /// ClickHouse, from version 18 on.
+    ClickHouse,
 }

@@ -20,6 +20,6 @@ pub use conversion::to_sql;
 pub use dialect::Dialect;
 pub use laws::{names_read_back, patterns_read_back, texts_read_back};
 pub use names::SqlName;
-pub use reasons::{column_names, name_reason, spelling_reason};
+pub use reasons::{column_names, is_escaped, name_reason, spelling_reason};
 pub use unsupported::{Reason, Unsupported};
 pub use walk::first_unsupported;

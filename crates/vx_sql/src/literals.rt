@@ -2,10 +2,10 @@
 ghost use Rattle.std.specs.Prelude.{◌≡◌, ◌++◌, pos, codes};
 ghost use Rattle.std.specs.Fmt.{WritesOnOk};
 ghost use Rattle.std.specs.List.{flat_map};
-ghost use Rattle.vx_value.specs.Types.{is_signed};
+ghost use Rattle.vx_value.specs.Types.{LogicalType};
 ghost use Rattle.vx_value.specs.ValueTexts.{hex_byte};
 ghost use Rattle.vx_value.specs.Views.{type_of, value_of};
-ghost use Rattle.vx_sql.specs.Dialects.{cast_text};
+ghost use Rattle.vx_sql.specs.Dialects.{cast_text, type_word};
 ghost use Rattle.vx_sql.specs.Literals.{literal_sql, null_sql, truth_sql, is_by_itself, natural_sql, number_sql, octets_sql, byte_escape};
 
 use crate::Dialect;
@@ -47,7 +47,7 @@ fn write_value<W: Write>(
     }
 }
 
-/// Writes a null of that type.
+/// Writes a null of that type, which ClickHouse has to be told that it may be null.
 pub(crate) fn write_null<W: Write>(
     dialect: Dialect,
     dtype: &DType,
@@ -55,16 +55,29 @@ pub(crate) fn write_null<W: Write>(
 ) -> fmt::Result
     ensures { WritesOnOk W.write_str_gives f.old result (null_sql dialect (type_of dtype.now)) f.new }
 {
-    f.write_str("CAST(NULL AS ")?;
+    let (before, behind) = null_words(dialect);
+    f.write_str(before)?;
     f.write_str(type_word(dialect, dtype))?;
-    f.write_str(")")
+    f.write_str(behind)
+}
+
+// What stands before the type of a null, and behind it.
+fn null_words(dialect: Dialect) -> (&'static str, &'static str)
+    ensures { (t : LogicalType) → null_sql dialect t ≡ result.0.now ++ (type_word dialect t ++ result.1.now) }
+{
+    match dialect {
+        Dialect::Postgres | Dialect::Sqlite | Dialect::DuckDb | Dialect::Spark => {
+            ("CAST(NULL AS ", ")")
+        }
+        Dialect::ClickHouse => ("CAST(NULL AS Nullable(", "))"),
+    }
 }
 
 fn truth_word(dialect: Dialect, b: bool) -> &'static str
     ensures { result.now ≡ truth_sql dialect b }
 {
     match dialect {
-        Dialect::Sqlite => { if b { "1" } else { "0" } }
+        Dialect::Sqlite | Dialect::ClickHouse => { if b { "1" } else { "0" } }
         Dialect::Postgres | Dialect::DuckDb | Dialect::Spark => { if b { "TRUE" } else { "FALSE" } }
     }
 }
@@ -75,7 +88,9 @@ fn is_by_itself(dialect: Dialect, p: PType) -> bool
 {
     match dialect {
         Dialect::Sqlite => true,
-        Dialect::Postgres | Dialect::DuckDb | Dialect::Spark => matches!(p, PType::I32),
+        Dialect::Postgres | Dialect::DuckDb | Dialect::Spark | Dialect::ClickHouse => {
+            matches!(p, PType::I32)
+        }
     }
 }
 
@@ -125,6 +140,11 @@ fn write_octets<W: Write>(dialect: Dialect, bytes: &[u8], f: &mut Formatter<W>) 
             f.write_str("CAST('")?;
             write_escapes(bytes, f)?;
             f.write_str("' AS BLOB)")
+        }
+        Dialect::ClickHouse => {
+            f.write_str("unhex('")?;
+            write_digits(bytes, f)?;
+            f.write_str("')")
         }
         Dialect::Sqlite | Dialect::Spark => {
             f.write_str("X'")?;

@@ -40,6 +40,6 @@ fn name_quote(dialect: Dialect) -> char
 {
     match dialect {
         Dialect::Postgres | Dialect::DuckDb => '"',
-        Dialect::Sqlite | Dialect::Spark => '`',
+        Dialect::Sqlite | Dialect::Spark | Dialect::ClickHouse => '`',
     }
 }

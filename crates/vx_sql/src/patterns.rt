@@ -1,11 +1,11 @@
 // The patterns of LIKE.
-ghost use Rattle.std.specs.Prelude.{◌≡◌, ◌&&◌, encode_utf8_all};
+ghost use Rattle.std.specs.Prelude.{◌≡◌, ◌&&◌, ◌∷◌, [], encode_utf8_all};
 ghost use Rattle.std.specs.Char.{is_ascii_lowercase};
 ghost use Rattle.std.specs.Fmt.{WritesOnOk};
 ghost use Rattle.std.specs.List.{flat_map};
 ghost use Rattle.vx_eval_like.specs.Patterns.{part_view, spelled_by};
 ghost use Rattle.vx_sql.specs.Quotes.{inside};
-ghost use Rattle.vx_sql.specs.Patterns.{has_globs, is_like_sign, is_glob_sign, enclosed, enclosed_pair, like_char, like_part, glob_char, glob_part, part_spelled, parts_spelled, pattern_sql};
+ghost use Rattle.vx_sql.specs.Patterns.{has_globs, like_escape, is_like_sign, is_glob_sign, enclosed, enclosed_pair, like_char, like_part, glob_char, glob_part, part_spelled, parts_spelled, pattern_sql};
 
 use crate::Dialect;
 use crate::quotes::Quoting;
@@ -20,7 +20,7 @@ pub(crate) fn has_globs(dialect: Dialect) -> bool
 {
     match dialect {
         Dialect::Sqlite => true,
-        Dialect::Postgres | Dialect::DuckDb | Dialect::Spark => false,
+        Dialect::Postgres | Dialect::DuckDb | Dialect::Spark | Dialect::ClickHouse => false,
     }
 }
 
@@ -78,7 +78,7 @@ impl Spelling {
     }
 
     fn write_like<W: Write>(self, part: Part, f: &mut Formatter<W>) -> fmt::Result
-        ensures { WritesOnOk W.write_str_gives f.old result (encode_utf8_all (flat_map (inside self.quoting) (like_part (part_view part)))) f.new }
+        ensures { WritesOnOk W.write_str_gives f.old result (encode_utf8_all (flat_map (inside self.quoting) (like_part (like_escape self.dialect) (part_view part)))) f.new }
     {
         match part {
             Part::AnyText => f.write_str("%"),
@@ -89,11 +89,20 @@ impl Spelling {
 
     // A character that would stand for others is written behind the sign that makes it stand for itself.
     fn write_like_char<W: Write>(self, c: char, f: &mut Formatter<W>) -> fmt::Result
-        ensures { WritesOnOk W.write_str_gives f.old result (encode_utf8_all (flat_map (inside self.quoting) (like_char c))) f.new }
+        ensures { WritesOnOk W.write_str_gives f.old result (encode_utf8_all (flat_map (inside self.quoting) (like_char (like_escape self.dialect) c))) f.new }
     {
-        if is_like_sign(c) {
-            f.write_str("!")?;
+        let escape = like_escape(self.dialect);
+        if is_like_sign(escape, c) {
+            self.write_escaped(escape, c, f)
+        } else {
+            self.quoting.write_inside(c, f)
         }
+    }
+
+    fn write_escaped<W: Write>(self, escape: char, c: char, f: &mut Formatter<W>) -> fmt::Result
+        ensures { WritesOnOk W.write_str_gives f.old result (encode_utf8_all (flat_map (inside self.quoting) (escape ∷ c ∷ []))) f.new }
+    {
+        self.quoting.write_inside(escape, f)?;
         self.quoting.write_inside(c, f)
     }
 
@@ -146,10 +155,20 @@ fn has_two_cases(c: char, ignore_case: bool) -> bool
 }
 
 // Whether the character would stand for others, or make another stand for itself.
-fn is_like_sign(c: char) -> bool
-    ensures { result ≡ is_like_sign c }
+fn is_like_sign(escape: char, c: char) -> bool
+    ensures { result ≡ is_like_sign escape c }
 {
-    matches!(c, '%' | '_' | '!')
+    c == '%' || (c == '_' || c == escape)
+}
+
+// What makes the character behind it stand for itself.
+fn like_escape(dialect: Dialect) -> char
+    ensures { result ≡ like_escape dialect }
+{
+    match dialect {
+        Dialect::Postgres | Dialect::Sqlite | Dialect::DuckDb | Dialect::Spark => '!',
+        Dialect::ClickHouse => '\\',
+    }
 }
 
 // Whether the character would stand for others.

@@ -29,7 +29,7 @@ impl Quoting {
         match dialect {
             Dialect::Postgres if text.as_bytes().contains(&b'\\') => Quoting::Escaped,
             Dialect::Postgres | Dialect::Sqlite | Dialect::DuckDb => Quoting::Doubled,
-            Dialect::Spark => Quoting::Backslashed,
+            Dialect::Spark | Dialect::ClickHouse => Quoting::Backslashed,
         }
     }
 

@@ -6,6 +6,7 @@ ghost use Rattle.vx_fn.specs.Views.{function_of};
 ghost use Rattle.vx_tree.specs.Nodes.{bound_at};
 ghost use Rattle.vx_tree.specs.Views.{bounds_of};
 ghost use Rattle.vx_sql.specs.Children.{passes, names_in, names_first, literal_in, is_value};
+ghost use Rattle.vx_sql.specs.Quotes.{is_escaped};
 ghost use Rattle.vx_sql.specs.Reasons.{has_nul, is_cut, same_name, spelling_reason, name_reason, names_reason, literal_reason, pack_reason, fill_reason, pattern_reason, function_reason, own_reason};
 
 use crate::Dialect;
@@ -61,8 +62,8 @@ fn function_reason(
     }
 }
 
-/// Why the name can't be written as that of one of these columns or fields alone: `EmptyName`, `Nul` or
-/// `LongName` by its spelling, `AmbiguousName` where the engine takes several of them for it.
+/// Why the name can't be written as that of one of these columns or fields alone: `EmptyName`, `Nul`,
+/// `LongName` or `Backslash` by its spelling, `AmbiguousName` where the engine takes several of them for it.
 pub fn name_reason(dialect: Dialect, names: &[FieldName], name: &FieldName) -> Option<Reason>
     ensures { result ≡ name_reason dialect names.now name.now }
 {
@@ -79,7 +80,8 @@ pub fn name_reason(dialect: Dialect, names: &[FieldName], name: &FieldName) -> O
     None
 }
 
-/// Why no such name can be written: it is empty, has a NUL, or is longer than the engine keeps.
+/// Why no such name can be written: it is empty, has a NUL, is longer than the engine keeps, or has a
+/// backslash, which says something of the character behind it in ClickHouse.
 pub fn spelling_reason(dialect: Dialect, name: &str) -> Option<Reason>
     ensures { result ≡ spelling_reason dialect name.now }
 {
@@ -89,6 +91,8 @@ pub fn spelling_reason(dialect: Dialect, name: &str) -> Option<Reason>
         Some(Reason::Nul)
     } else if is_cut(dialect, name) {
         Some(Reason::LongName)
+    } else if is_escaped(dialect, name) {
+        Some(Reason::Backslash)
     } else {
         None
     }
@@ -106,17 +110,28 @@ fn is_cut(dialect: Dialect, name: &str) -> bool
 {
     match dialect {
         Dialect::Postgres => name.len() > 63,
-        Dialect::Sqlite | Dialect::DuckDb | Dialect::Spark => false,
+        Dialect::Sqlite | Dialect::DuckDb | Dialect::Spark | Dialect::ClickHouse => false,
     }
 }
 
-// Whether the engine takes two names for one: all but PostgreSQL ignore the case of ASCII letters,
-// between quotes too.
+/// Whether a backslash says something of the character behind it in the engine's names, and stands in
+/// this one.
+pub fn is_escaped(dialect: Dialect, name: &str) -> bool
+    ensures { result ≡ is_escaped dialect name.now }
+{
+    match dialect {
+        Dialect::ClickHouse => name.as_bytes().contains(&b'\\'),
+        Dialect::Postgres | Dialect::Sqlite | Dialect::DuckDb | Dialect::Spark => false,
+    }
+}
+
+// Whether the engine takes two names for one: all but PostgreSQL and ClickHouse ignore the case of
+// ASCII letters, between quotes too.
 fn same_name(dialect: Dialect, a: &FieldName, b: &FieldName) -> bool
     ensures { result ≡ same_name dialect a.now b.now }
 {
     match dialect {
-        Dialect::Postgres => a == b,
+        Dialect::Postgres | Dialect::ClickHouse => a == b,
         Dialect::Sqlite | Dialect::DuckDb | Dialect::Spark => a
             .as_str()
             .as_bytes()

@@ -3,7 +3,7 @@ ghost use Rattle.std.specs.Prelude.{◌≡◌};
 ghost use Rattle.std.specs.Fmt.{WritesOnOk};
 ghost use Rattle.vx_value.specs.Types.{is_signed};
 ghost use Rattle.vx_sql.specs.declared.sums.Check.TheVariants.{Narrowed};
-ghost use Rattle.vx_sql.specs.Sums.{wider_check, postgres_check, sqlite_check, check_of, there_sql, back_sql, before_sum, behind_sum};
+ghost use Rattle.vx_sql.specs.Sums.{wider_check, postgres_check, sqlite_check, check_of, there_sql, back_sql, thrown_sql, before_sum, amid_sum, behind_sum};
 
 use crate::Dialect;
 use crate::literals::write_natural;
@@ -25,6 +25,9 @@ pub(crate) enum Check {
     MovedFloated(u64),
     /// Its type has no end: the sum less 2 ^ 63 is made one of a type that ends there.
     Narrowed,
+    /// Its sums wrap or are of a wider type: it throws where the sum, made one of the type, is below the
+    /// first operand though the second isn't below 0, or the other way round.
+    Thrown,
 }
 
 impl Check {
@@ -37,18 +40,39 @@ impl Check {
             Dialect::Sqlite => sqlite_check(p),
             Dialect::DuckDb => Check::Own,
             Dialect::Spark => wider_check(p),
+            Dialect::ClickHouse => Check::Thrown,
         }
     }
 
-    /// What stands before the operands of a sum.
-    pub(crate) fn opening(self) -> &'static str
-        ensures { result.now ≡ before_sum self }
+    /// Writes what stands before the operands of a sum.
+    pub(crate) fn write_opening<W: Write>(
+        self,
+        dialect: Dialect,
+        p: PType,
+        f: &mut Formatter<W>,
+    ) -> fmt::Result
+        ensures { WritesOnOk W.write_str_gives f.old result (before_sum dialect p self) f.new }
     {
         match self {
-            Check::Own | Check::Moved(_) => "(",
-            Check::Floated => "CAST(json((",
-            Check::MovedFloated(_) => "(CAST(json((",
-            Check::Narrowed => "CAST(CAST(",
+            Check::Own | Check::Moved(_) => f.write_str("("),
+            Check::Floated => f.write_str("CAST(json(("),
+            Check::MovedFloated(_) => f.write_str("(CAST(json(("),
+            Check::Narrowed => f.write_str("CAST(CAST("),
+            Check::Thrown => write_throwing(number_word(dialect, p), f),
+        }
+    }
+
+    /// What stands between them.
+    pub(crate) fn separator(self) -> &'static str
+        ensures { result.now ≡ amid_sum self }
+    {
+        match self {
+            Check::Thrown => "], [",
+            Check::Own
+            | Check::Moved(_)
+            | Check::Floated
+            | Check::MovedFloated(_)
+            | Check::Narrowed => " + ",
         }
     }
 
@@ -76,6 +100,7 @@ impl Check {
                 f.write_str(")")
             }
             Check::Narrowed => write_narrowed(dialect, p, f),
+            Check::Thrown => f.write_str("])[1]"),
         }
     }
 }
@@ -147,6 +172,18 @@ fn write_back<W: Write>(dialect: Dialect, p: PType, k: u64, f: &mut Formatter<W>
     }
     f.write_str(" + ")?;
     write_natural(dialect, p, k, f)
+}
+
+// Writes a function of two numbers, each the only one of an array, which throws where their sum isn't one
+// of the type. So neither is written twice.
+fn write_throwing<W: Write>(word: &str, f: &mut Formatter<W>) -> fmt::Result
+    ensures { WritesOnOk W.write_str_gives f.old result (thrown_sql word.now) f.new }
+{
+    f.write_str("arrayMap((a, b) -> to")?;
+    f.write_str(word)?;
+    f.write_str("(a + b + throwIf(COALESCE((b < 0) <> (to")?;
+    f.write_str(word)?;
+    f.write_str("(a + b) < a), 0))), [")
 }
 
 fn write_narrowed<W: Write>(dialect: Dialect, p: PType, f: &mut Formatter<W>) -> fmt::Result

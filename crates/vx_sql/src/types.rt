@@ -1,7 +1,7 @@
 // What the engines call their types.
 ghost use Rattle.std.specs.Prelude.{◌≡◌};
 ghost use Rattle.vx_value.specs.Views.{type_of};
-ghost use Rattle.vx_sql.specs.Dialects.{postgres_word, duckdb_word, spark_word, number_word, truth_word, text_word, octets_word, type_word, collation, has_type, makes_structs};
+ghost use Rattle.vx_sql.specs.Dialects.{postgres_word, duckdb_word, spark_word, clickhouse_word, number_word, truth_word, text_word, octets_word, type_word, collation, has_type, makes_structs};
 
 use crate::Dialect;
 use vx_types::{DType, PType};
@@ -28,6 +28,7 @@ pub(crate) fn number_word(dialect: Dialect, p: PType) -> &'static str
         Dialect::Sqlite => "INTEGER",
         Dialect::DuckDb => duckdb_word(p),
         Dialect::Spark => spark_word(p),
+        Dialect::ClickHouse => clickhouse_word(p),
     }
 }
 
@@ -72,6 +73,22 @@ fn spark_word(p: PType) -> &'static str
     }
 }
 
+// ClickHouse's type of the same numbers.
+fn clickhouse_word(p: PType) -> &'static str
+    ensures { result.now ≡ clickhouse_word p }
+{
+    match p {
+        PType::U8 => "UInt8",
+        PType::U16 => "UInt16",
+        PType::U32 => "UInt32",
+        PType::U64 => "UInt64",
+        PType::I8 => "Int8",
+        PType::I16 => "Int16",
+        PType::I32 => "Int32",
+        PType::I64 => "Int64",
+    }
+}
+
 fn truth_word(dialect: Dialect) -> &'static str
     ensures { result.now ≡ truth_word dialect }
 {
@@ -79,6 +96,7 @@ fn truth_word(dialect: Dialect) -> &'static str
         Dialect::Postgres => "boolean",
         Dialect::Sqlite => "INTEGER",
         Dialect::DuckDb | Dialect::Spark => "BOOLEAN",
+        Dialect::ClickHouse => "UInt8",
     }
 }
 
@@ -90,6 +108,7 @@ fn text_word(dialect: Dialect) -> &'static str
         Dialect::Sqlite => "TEXT",
         Dialect::DuckDb => "VARCHAR",
         Dialect::Spark => "STRING",
+        Dialect::ClickHouse => "String",
     }
 }
 
@@ -100,6 +119,7 @@ fn octets_word(dialect: Dialect) -> &'static str
         Dialect::Postgres => "bytea",
         Dialect::Sqlite | Dialect::DuckDb => "BLOB",
         Dialect::Spark => "BINARY",
+        Dialect::ClickHouse => "String",
     }
 }
 
@@ -110,7 +130,7 @@ pub(crate) fn collation(dialect: Dialect) -> &'static str
     match dialect {
         Dialect::Postgres => " COLLATE \"C\"",
         Dialect::Sqlite => " COLLATE BINARY",
-        Dialect::DuckDb | Dialect::Spark => "",
+        Dialect::DuckDb | Dialect::Spark | Dialect::ClickHouse => "",
     }
 }
 
@@ -124,6 +144,10 @@ pub(crate) fn has_type(dialect: Dialect, dtype: &DType) -> bool
             DType::Bool(_) | DType::Utf8(_) | DType::Binary(_) => true,
             DType::List(..) | DType::FixedSizeList(..) | DType::Struct(..) => false,
         },
+        Dialect::ClickHouse => match dtype {
+            DType::Bool(_) | DType::Primitive(..) | DType::Utf8(_) | DType::Binary(_) => true,
+            DType::List(..) | DType::FixedSizeList(..) | DType::Struct(..) => false,
+        },
         Dialect::Postgres | Dialect::DuckDb | Dialect::Spark => true,
     }
 }
@@ -133,7 +157,7 @@ pub(crate) fn makes_structs(dialect: Dialect) -> bool
     ensures { result ≡ makes_structs dialect }
 {
     match dialect {
-        Dialect::Postgres | Dialect::Sqlite => false,
+        Dialect::Postgres | Dialect::Sqlite | Dialect::ClickHouse => false,
         Dialect::DuckDb | Dialect::Spark => true,
     }
 }

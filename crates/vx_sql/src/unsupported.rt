@@ -41,6 +41,9 @@ pub enum Reason {
     /// A NUL stands in a name or a text.
     #[error("a NUL stands in a name or a text")]
     Nul,
+    /// A backslash stands in a name, and says something of the character behind it.
+    #[error("a backslash stands in a name")]
+    Backslash,
 }
 
 /// Why there is no SQL text of a tree.

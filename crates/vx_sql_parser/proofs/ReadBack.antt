@@ -1,5 +1,5 @@
 -- Names, texts, numbers and types that are written for an engine are read back.
-use Rattle.std.proofs.Common.{◌≡◌, ℕ, suc, ◌<◌, ◌≤◌, Bool, true, false, List, [], ◌∷◌, ◌++◌, length, get_or, drop, chars, Some, None, Ok, inl, inr, refl, sym, ap, ap₂, ◌∙◌, append_assoc, append-nil, arith}
+use Rattle.std.proofs.Common.{◌≡◌, ℕ, suc, ◌<◌, ◌≤◌, Bool, true, false, List, [], ◌∷◌, ◌++◌, length, get_or, drop, chars, Some, None, Ok, Err, inl, inr, refl, sym, ap, ap₂, ◌∙◌, append_assoc, append-nil, arith}
 use Rattle.std.specs.Prelude.{◌==◌, ◌||◌, ◌&&◌, if◌then◌else◌}
 use Rattle.std.specs.Fmt.{decimal}
 use Rattle.std.specs.List.{flat_map, list_all, list_any}
@@ -12,7 +12,7 @@ use Rattle.std.proofs.Math.Utf8.{encode, encodes}
 use Rattle.vx_dtype.specs.declared.dtype.PType.TheVariants.{U8, U16, U32, U64, I8, I16, I32, I64}
 use Rattle.vx_source_types.specs.declared.expectation.Expected.TheVariants.{ClosingSingleQuote}
 use Rattle.vx_source_types.specs.Spellings.{doubled}
-use Rattle.vx_source_types.specs.Tokens.{Taken, next, first, text, text_taken}
+use Rattle.vx_source_types.specs.Tokens.{Taken, next, first, quoted, text, text_taken, with_byte}
 use Rattle.vx_source_types.specs.Characters.{is_blank, is_digit, is_word}
 use Rattle.vx_source_types.proofs.Choice.{yes, no}
 use Rattle.vx_source_types.proofs.FirstNumbers.{is_more, spelled, first_number}
@@ -20,9 +20,11 @@ use Rattle.vx_source_types.proofs.FirstTokens.{first_quoted, first_text}
 use Rattle.vx_source_types.proofs.Quoting.{text_of_utf8}
 use Rattle.vx_source_types.proofs.Unquoting.{unquoted_doubled}
 use Rattle.vx_sql.specs.declared.dialect.Dialect.{Dialect}
-use Rattle.vx_sql.specs.declared.dialect.Dialect.TheVariants.{Postgres, Sqlite, DuckDb, Spark}
-use Rattle.vx_sql.specs.Quotes.{quoting_of, inside, quoted, text_sql}
+use Rattle.vx_sql.specs.declared.dialect.Dialect.TheVariants.{Postgres, Sqlite, DuckDb, Spark, ClickHouse}
+use Rattle.vx_sql.specs.Quotes as quotes
+use Rattle.vx_sql.specs.Quotes.{quoting_of, inside, text_sql, anywhere}
 use Rattle.vx_sql.proofs.ReadBack.{characters_read}
+use Rattle.vx_sql_parser.specs.declared.reason.Unread.TheVariants.{Unclosed}
 use Rattle.vx_sql_parser.specs.SqlTokens as sql
 use Rattle.vx_sql_parser.specs.Laws.{WrittenNamesAreRead, WrittenNumbersAreRead, WrittenTextsAreRead, WrittenTypesAreRead}
 use Rattle.vx_sql_parser.proofs.ByteTexts.{utf8_is}
@@ -34,10 +36,13 @@ seen d b t = (Some (sql.as_sql d b t.0), t.1)
 -- ---- names
 
 pub names_read : WrittenNamesAreRead
-names_read Postgres a rest u e = ap (seen Postgres 34) (first_text a rest u e)
-names_read Sqlite a rest u e = ap (seen Sqlite 96) (first_quoted a rest u e)
-names_read DuckDb a rest u e = ap (seen DuckDb 34) (first_text a rest u e)
-names_read Spark a rest u e = ap (seen Spark 96) (first_quoted a rest u e)
+names_read Postgres a rest u plain e = ap (seen Postgres 34) (first_text a rest u e)
+names_read Sqlite a rest u plain e = ap (seen Sqlite 96) (first_quoted a rest u e)
+names_read DuckDb a rest u plain e = ap (seen DuckDb 34) (first_text a rest u e)
+names_read Spark a rest u plain e = ap (seen Spark 96) (first_quoted a rest u e)
+names_read ClickHouse a rest u plain e =
+    ap (seen ClickHouse 96) (first_quoted a rest u e)
+    ∙ ap (λ b. let t : sql.Taken = (Some (if b then Err Unclosed else Ok (quoted a)), rest) in t) plain
 
 -- ---- texts, byte by byte
 
@@ -156,21 +161,45 @@ some token = (Some token.0, token.1)
 made_read : (s rest : List ℕ) → IsUtf8 s → some (sql.text_taken (Some (s, rest))) ≡ (let t : sql.Taken = (Some (Ok (text s)), rest) in t)
 made_read s rest u = ap (λ o. let t : sql.Taken = (Some (sql.of_text o), rest) in t) (utf8_is s u)
 
+-- the same where a quote could be doubled as well
+by_escape : (c : ℕ) (xs : List ℕ) → sql.escaped_read true anywhere (backslashing c ++ xs) ≡ with_byte c (sql.escaped_read true anywhere xs)
+by_escape c xs = by (c == 39) (c == 92) refl refl where
+  by : (t u : Bool) → (c == 39) ≡ t → (c == 92) ≡ u → sql.escaped_read true anywhere (backslashing c ++ xs) ≡ with_byte c (sql.escaped_read true anywhere xs)
+  by true u e h =
+      ap (λ ys. sql.escaped_read true anywhere (ys ++ xs)) (let is : backslashing c ≡ 92 ∷ 39 ∷ [] = cond-true (c == 39) _ _ e in is)
+      ∙ ap (λ b. with_byte b (sql.escaped_read true anywhere xs)) (sym (same_is c 39 e))
+  by false true e h =
+      ap (λ ys. sql.escaped_read true anywhere (ys ++ xs)) (let is : backslashing c ≡ 92 ∷ 92 ∷ [] = cond-false (c == 39) _ _ e ∙ cond-true (c == 92) _ _ h in is)
+      ∙ ap (λ b. with_byte b (sql.escaped_read true anywhere xs)) (sym (same_is c 92 h))
+  by false false e h =
+      ap (λ ys. sql.escaped_read true anywhere (ys ++ xs)) (let is : backslashing c ≡ c ∷ [] = cond-false (c == 39) _ _ e ∙ cond-false (c == 92) _ _ h in is)
+      ∙ no (c == 39) _ _ e ∙ no (c == 92) _ _ h
+
+backslashed_read : (cs rest : List ℕ) → (next rest == 39) ≡ false → sql.escaped_read true anywhere (flat_map backslashing cs ++ 39 ∷ rest) ≡ Some (cs, rest)
+backslashed_read [] [] e = refl
+backslashed_read [] (b ∷ bs) e = no (b == 39) _ _ e
+backslashed_read (c ∷ cs) rest e =
+    ap (sql.escaped_read true anywhere) (append_assoc (backslashing c) (flat_map backslashing cs) (39 ∷ rest))
+    ∙ by_escape c (flat_map backslashing cs ++ 39 ∷ rest) ∙ ap (with_byte c) (backslashed_read cs rest e)
+
 pub texts_read : WrittenTextsAreRead
 texts_read Postgres s rest u e = by (list_any (λ b. b == 92) s) refl where
   by : (t : Bool) → list_any (λ b. b == 92) s ≡ t → Reads Postgres (text_sql Postgres s ++ rest) s rest
   by true h =
-      ap (λ q. sql.taken_at Postgres (quoted q (chars s) ++ rest)) (let is : quoting_of Postgres s ≡ quoting_of Postgres (92 ∷ []) = cond-true (list_any (λ b. b == 92) s) _ _ h in is)
+      ap (λ q. sql.taken_at Postgres (quotes.quoted q (chars s) ++ rest)) (let is : quoting_of Postgres s ≡ quoting_of Postgres (92 ∷ []) = cond-true (list_any (λ b. b == 92) s) _ _ h in is)
       ∙ ap (sql.taken_at Postgres) (by_bytes escaping escaping_spells (69 ∷ 39 ∷ []) s rest u)
       ∙ ap (λ r. some (sql.text_taken r)) (characters_read (quoting_of Postgres (92 ∷ [])) s rest e) ∙ made_read s rest u
   by false h =
-      ap (λ q. sql.taken_at Postgres (quoted q (chars s) ++ rest)) (let is : quoting_of Postgres s ≡ quoting_of Sqlite [] = cond-false (list_any (λ b. b == 92) s) _ _ h in is)
+      ap (λ q. sql.taken_at Postgres (quotes.quoted q (chars s) ++ rest)) (let is : quoting_of Postgres s ≡ quoting_of Sqlite [] = cond-false (list_any (λ b. b == 92) s) _ _ h in is)
       ∙ doubled_read Postgres s rest (λ xs. refl) u e
 texts_read Sqlite s rest u e = doubled_read Sqlite s rest (λ xs. refl) u e
 texts_read DuckDb s rest u e = doubled_read DuckDb s rest (λ xs. refl) u e
 texts_read Spark s rest u e =
     ap (sql.taken_at Spark) (by_bytes backslashing backslashing_spells (39 ∷ []) s rest u)
     ∙ ap (λ r. some (sql.text_taken r)) (characters_read (quoting_of Spark []) s rest e) ∙ made_read s rest u
+texts_read ClickHouse s rest u e =
+    ap (sql.taken_at ClickHouse) (by_bytes backslashing backslashing_spells (39 ∷ []) s rest u)
+    ∙ ap (λ r. some (sql.text_taken r)) (backslashed_read s rest e) ∙ made_read s rest u
 
 -- ---- numbers
 
@@ -204,6 +233,7 @@ opens_none Postgres b bs e = cond-false ((b == 69 || b == 101) && next bs == 39)
 opens_none Sqlite b bs e = refl
 opens_none DuckDb b bs e = refl
 opens_none Spark b bs e = cond-false (b == 39) 1 0 (no_quote b e)
+opens_none ClickHouse b bs e = cond-false (b == 39) 1 0 (no_quote b e)
 
 digit_first : (d : Dialect) (ds rest : List ℕ) → list_all is_digit ds ≡ true → 0 < length ds → sql.taken_at d (ds ++ rest) ≡ seen d (next (ds ++ rest)) (first (ds ++ rest))
 digit_first d [] rest h l = absurd (omega arith)
@@ -225,11 +255,11 @@ numbers_read d n rest small e =
 -- ---- types
 
 pub types_read : WrittenTypesAreRead
-types_read U8 = (refl, refl)
-types_read U16 = (refl, refl)
-types_read U32 = (refl, refl)
-types_read U64 = (refl, refl)
-types_read I8 = (refl, refl)
-types_read I16 = (refl, refl)
-types_read I32 = (refl, refl)
-types_read I64 = (refl, refl)
+types_read U8 = (refl, refl, refl)
+types_read U16 = (refl, refl, refl)
+types_read U32 = (refl, refl, refl)
+types_read U64 = (refl, refl, refl)
+types_read I8 = (refl, refl, refl)
+types_read I16 = (refl, refl, refl)
+types_read I32 = (refl, refl, refl)
+types_read I64 = (refl, refl, refl)

@@ -7,15 +7,15 @@ use Rattle.vx_dtype.specs.declared.dtype.PType.TheVariants.{U8, U16, U32, U64, I
 use Rattle.vx_source_types.specs.Characters.{is_word}
 use Rattle.vx_source_types.specs.Tokens.{next, quoted, number, text}
 use Rattle.vx_sql.specs.declared.dialect.Dialect.{Dialect}
-use Rattle.vx_sql.specs.Dialects.{postgres_word, duckdb_word}
-use Rattle.vx_sql.specs.declared.dialect.Dialect.TheVariants.{Postgres, DuckDb}
-use Rattle.vx_sql.specs.Quotes.{name_quote, name_sql, text_sql}
+use Rattle.vx_sql.specs.Dialects.{postgres_word, duckdb_word, clickhouse_word}
+use Rattle.vx_sql.specs.declared.dialect.Dialect.TheVariants.{Postgres, DuckDb, ClickHouse}
+use Rattle.vx_sql.specs.Quotes.{name_quote, name_sql, is_escaped, text_sql}
 use Rattle.vx_sql_parser.specs.SqlTokens.{Taken, taken_at}
 use Rattle.vx_sql_parser.specs.Types.{type_named}
 
--- a name as `vx_sql` writes it is the first token, whole, whatever follows but another quote
+-- a name as `vx_sql` writes it, which refuses one that says more than its characters, is the first token, whole, whatever follows but another quote
 abbrev pub WrittenNamesAreRead : Type 0
-WrittenNamesAreRead = (d : Dialect) (a : Name) (rest : List ℕ) → IsUtf8 a → (next rest == name_quote d) ≡ false
+WrittenNamesAreRead = (d : Dialect) (a : Name) (rest : List ℕ) → IsUtf8 a → is_escaped d a ≡ false → (next rest == name_quote d) ≡ false
     → taken_at d (name_sql d a ++ rest) ≡ (let t : Taken = (Some (Ok (quoted a)), rest) in t)
 
 -- so is a text
@@ -39,7 +39,7 @@ in_postgres I16 = codes "i16"
 in_postgres I32 = codes "i32"
 in_postgres I64 = codes "i64"
 
--- DuckDB has a word for each
+-- DuckDB and ClickHouse have a word for each
 abbrev pub in_duckdb : PType → List ℕ
 in_duckdb U8 = codes "u8"
 in_duckdb U16 = codes "u16"
@@ -52,4 +52,4 @@ in_duckdb I64 = codes "i64"
 
 -- the words that `vx_sql` writes for the types of numbers are read
 abbrev pub WrittenTypesAreRead : Type 0
-WrittenTypesAreRead = (p : PType) → (type_named Postgres (postgres_word p) ≡ Some (in_postgres p)) × (type_named DuckDb (duckdb_word p) ≡ Some (in_duckdb p))
+WrittenTypesAreRead = (p : PType) → (type_named Postgres (postgres_word p) ≡ Some (in_postgres p)) × (type_named DuckDb (duckdb_word p) ≡ Some (in_duckdb p)) × (type_named ClickHouse (clickhouse_word p) ≡ Some (in_duckdb p))

@@ -1,7 +1,7 @@
 -- The patterns of LIKE.
 use Rattle.std.specs.Prelude.{ℕ, Bool, true, false, not, ◌==◌, ◌&&◌, ◌||◌, List, [], ◌∷◌, ◌++◌, Option, Some, None, if◌then◌else◌, nat_lt}
 use Rattle.vx_sql.specs.declared.dialect.Dialect.{Dialect}
-use Rattle.vx_sql.specs.declared.dialect.Dialect.TheVariants.{Postgres, Sqlite, DuckDb, Spark}
+use Rattle.vx_sql.specs.declared.dialect.Dialect.TheVariants.{Postgres, Sqlite, DuckDb, Spark, ClickHouse}
 use Rattle.vx_sql_parser.specs.SqlTokens.{utf8}
 
 -- whether LIKE ignores the case of ASCII letters, and there is no ILIKE
@@ -10,6 +10,7 @@ ignores_case Postgres = false
 ignores_case Sqlite = true
 ignores_case DuckDb = false
 ignores_case Spark = false
+ignores_case ClickHouse = false
 
 -- what makes a character stand for itself where no other is said: 92 is the backslash
 abbrev pub default_escape : Dialect → Option ℕ
@@ -17,6 +18,7 @@ default_escape Postgres = Some 92
 default_escape Sqlite = None
 default_escape DuckDb = None
 default_escape Spark = Some 92
+default_escape ClickHouse = Some 92
 
 -- whether the character may be said to do so: one of ASCII, and neither `%` nor `_`
 abbrev pub is_escape : ℕ → Bool

@@ -8,8 +8,8 @@ use Rattle.vx_source_types.specs.declared.expectation.Expected.TheVariants as ex
 use Rattle.vx_source_types.specs.Characters.{is_blank}
 use Rattle.vx_source_types.specs.Tokens.{Lexeme, word, quoted, number, text, octets, sign, end, invalid, next, first}
 use Rattle.vx_sql.specs.declared.dialect.Dialect.{Dialect}
-use Rattle.vx_sql.specs.declared.dialect.Dialect.TheVariants.{Postgres, Sqlite, DuckDb, Spark}
-use Rattle.vx_sql.specs.Quotes.{quoting_of, Reading, anywhere, text_read}
+use Rattle.vx_sql.specs.declared.dialect.Dialect.TheVariants.{Postgres, Sqlite, DuckDb, Spark, ClickHouse}
+use Rattle.vx_sql.specs.Quotes.{is_escaped, quoting_of, Reading, anywhere, text_read}
 use Rattle.vx_sql_parser.specs.declared.reason.Unread.{Unread}
 use Rattle.vx_sql_parser.specs.declared.reason.Unread.TheVariants.{Sign as NoSign, Unclosed, Comment, NameQuote, Number as NoNumber}
 
@@ -23,16 +23,17 @@ Taken = Option SqlLexeme × List ℕ
 
 -- ---- tokens that source text has, too
 
--- whether the engine's names stand between such quotes, 34 or 96. SQLite has both
+-- whether the engine's names stand between such quotes, 34 or 96. SQLite and ClickHouse have both
 abbrev pub has_name_quote : Dialect → ℕ → Bool
 has_name_quote Postgres q = q == 34
 has_name_quote Sqlite q = true
 has_name_quote DuckDb q = q == 34
 has_name_quote Spark q = q == 96
+has_name_quote ClickHouse q = true
 
--- a name between such quotes
+-- a name between such quotes, in which no backslash may say something
 abbrev pub name_lexeme : Dialect → ℕ → List ℕ → SqlLexeme
-name_lexeme d q a = if has_name_quote d q then Ok (quoted a) else Err NameQuote
+name_lexeme d q a = if has_name_quote d q then (if is_escaped d a then Err Unclosed else Ok (quoted a)) else Err NameQuote
 
 -- PostgreSQL makes the letters of words small
 abbrev pub folded : Dialect → List ℕ → List ℕ
@@ -40,6 +41,7 @@ folded Postgres w = map to_ascii_lowercase w
 folded Sqlite w = w
 folded DuckDb w = w
 folded Spark w = w
+folded ClickHouse w = w
 
 -- a number has no word behind it, and is below 2 ^ 64
 abbrev pub number_lexeme : Bool → Option ℕ → List ℕ → SqlLexeme
@@ -71,12 +73,13 @@ plain_taken d bs = (as_sql d (next bs) (first bs).0, (first bs).1)
 
 -- ---- texts in which a backslash says something of what is behind it
 
--- how many bytes open such a text: `E'` in PostgreSQL, and a quote in Spark; 0 where none begins
+-- how many bytes open such a text: `E'` in PostgreSQL, and a quote in Spark and ClickHouse; 0 where none begins
 abbrev pub opening_len : Dialect → List ℕ → ℕ
 opening_len Postgres bs = if (next bs == 69 || next bs == 101) && next (drop 1 bs) == 39 then 2 else 0
 opening_len Sqlite bs = 0
 opening_len DuckDb bs = 0
 opening_len Spark bs = if next bs == 39 then 1 else 0
+opening_len ClickHouse bs = if next bs == 39 then 1 else 0
 
 -- whether two quotes stand for one in it
 abbrev pub doubles_quotes : Dialect → Bool
@@ -84,6 +87,7 @@ doubles_quotes Postgres = true
 doubles_quotes Sqlite = true
 doubles_quotes DuckDb = true
 doubles_quotes Spark = false
+doubles_quotes ClickHouse = true
 
 -- the bytes, where they are a text
 abbrev pub utf8 : List ℕ → Option (List ℕ)
@@ -100,8 +104,8 @@ abbrev pub text_taken : Option (List ℕ × List ℕ) → SqlLexeme × List ℕ
 text_taken None = (Err Unclosed, [])
 text_taken (Some (made, rest)) = (text_lexeme made, rest)
 
--- what stands behind what opens such a text, by the engines' ways with a backslash, 92: PostgreSQL's, where quotes are doubled, and
--- Spark's
+-- what stands behind what opens such a text, by the engines' ways with a backslash, 92: PostgreSQL's and ClickHouse's, where quotes
+-- are doubled, and Spark's
 abbrev pub escaped_read : Bool → Reading → List ℕ → Option (List ℕ × List ℕ)
 escaped_read doubled at bs = text_read (quoting_of (if doubled then Postgres else Spark) (92 ∷ [])) at bs
 

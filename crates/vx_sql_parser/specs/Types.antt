@@ -2,7 +2,7 @@
 use Rattle.std.specs.Prelude.{ℕ, List, [], ◌∷◌, Option, Some, None, if◌then◌else◌, codes}
 use Rattle.vx_source_types.specs.Names.{same_word}
 use Rattle.vx_sql.specs.declared.dialect.Dialect.{Dialect}
-use Rattle.vx_sql.specs.declared.dialect.Dialect.TheVariants.{Postgres, Sqlite, DuckDb, Spark}
+use Rattle.vx_sql.specs.declared.dialect.Dialect.TheVariants.{Postgres, Sqlite, DuckDb, Spark, ClickHouse}
 
 -- what the first of these words that is the given one stands for
 abbrev pub called : List (List ℕ × List ℕ) → List ℕ → Option (List ℕ)
@@ -19,6 +19,8 @@ type_words DuckDb =
     (codes "utinyint", codes "u8") ∷ (codes "usmallint", codes "u16") ∷ (codes "uinteger", codes "u32") ∷ (codes "ubigint", codes "u64") ∷ (codes "tinyint", codes "i8") ∷ (codes "smallint", codes "i16") ∷ (codes "integer", codes "i32") ∷ (codes "int", codes "i32") ∷ (codes "bigint", codes "i64") ∷ (codes "varchar", codes "utf8") ∷ (codes "text", codes "utf8") ∷ (codes "blob", codes "binary") ∷ (codes "boolean", codes "bool") ∷ []
 type_words Spark =
     (codes "tinyint", codes "i8") ∷ (codes "smallint", codes "i16") ∷ (codes "int", codes "i32") ∷ (codes "integer", codes "i32") ∷ (codes "bigint", codes "i64") ∷ (codes "string", codes "utf8") ∷ (codes "binary", codes "binary") ∷ (codes "boolean", codes "bool") ∷ []
+type_words ClickHouse =
+    (codes "uint8", codes "u8") ∷ (codes "uint16", codes "u16") ∷ (codes "uint32", codes "u32") ∷ (codes "uint64", codes "u64") ∷ (codes "int8", codes "i8") ∷ (codes "int16", codes "i16") ∷ (codes "int32", codes "i32") ∷ (codes "int64", codes "i64") ∷ (codes "string", codes "utf8") ∷ []
 
 -- the type that a word is
 abbrev pub type_named : Dialect → List ℕ → Option (List ℕ)

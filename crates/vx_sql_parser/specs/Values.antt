@@ -7,7 +7,7 @@ use Rattle.vx_source_types.specs.Names.{same_word}
 use Rattle.vx_source_types.specs.Spellings.{between_quotes}
 use Rattle.vx_source_types.specs.Tokens.{Lexeme, word, quoted, number, text}
 use Rattle.vx_sql.specs.declared.dialect.Dialect.{Dialect}
-use Rattle.vx_sql.specs.declared.dialect.Dialect.TheVariants.{Postgres, Sqlite, DuckDb, Spark}
+use Rattle.vx_sql.specs.declared.dialect.Dialect.TheVariants.{Postgres, Sqlite, DuckDb, Spark, ClickHouse}
 use Rattle.vx_sql_parser.specs.declared.reason.Unread.TheVariants.{Number as NoNumber, Hexadecimal, Function, TypedText, Table, CastType}
 use Rattle.vx_sql_parser.specs.declared.step.Bracket.TheVariants.{Paren, Fill, Lower, Translate}
 use Rattle.vx_sql_parser.specs.declared.step.Change.TheVariants.{Stays, Opens}
@@ -45,6 +45,7 @@ has_octets Postgres = false
 has_octets Sqlite = true
 has_octets DuckDb = false
 has_octets Spark = true
+has_octets ClickHouse = false
 
 -- a word before a text
 abbrev pub typed_text : Dialect → List ℕ → List SqlLexeme → Answer
@@ -129,18 +130,25 @@ abbrev pub decode_rule : Dialect → List SqlLexeme → Answer
 decode_rule Postgres xs = if is_hex_call xs then octets_said 5 (text_at xs 1) else Err Function
 decode_rule d xs = Err Function
 
+-- `('..')` behind ClickHouse's `unhex`
+abbrev pub unhex_rule : Dialect → List SqlLexeme → Answer
+unhex_rule ClickHouse xs = if closes (sign_at xs 2) then octets_said 3 (text_at xs 1) else Err Function
+unhex_rule d xs = Err Function
+
 -- the functions that ignore the case of ASCII letters, before a match
 abbrev pub fold_call : Dialect → List ℕ → Answer
 fold_call Postgres w = if same_word w (codes "lower") then says (codes "(") (Opens Lower) 1 else Err Function
 fold_call Sqlite w = Err Function
 fold_call DuckDb w = if same_word w (codes "translate") then says (codes "(") (Opens Translate) 1 else Err Function
 fold_call Spark w = if same_word w (codes "translate") then says (codes "(") (Opens Translate) 1 else Err Function
+fold_call ClickHouse w = Err Function
 
 abbrev pub call_rule : Dialect → List ℕ → List SqlLexeme → Answer
 call_rule d w xs =
     if same_word w (codes "cast") then cast_said (literal_cast d xs 0) else (
     if same_word w (codes "coalesce") then says (codes "coalesce(") (Opens Fill) 1 else (
-    if same_word w (codes "decode") then decode_rule d xs else fold_call d w))
+    if same_word w (codes "decode") then decode_rule d xs else (
+    if same_word w (codes "unhex") then unhex_rule d xs else fold_call d w)))
 
 -- a call, or a word before a text
 abbrev pub valued_rule : Dialect → List ℕ → List SqlLexeme → Answer

@@ -44,6 +44,8 @@ fn call(alloc: Global, dialect: Dialect, word: &str, tokens: &[Lexed]) -> Result
         says(alloc, "coalesce(", Change::Opens(Bracket::Fill), 1)
     } else if is(word, "decode") {
         decode(alloc, dialect, tokens)
+    } else if is(word, "unhex") {
+        unhex(alloc, dialect, tokens)
     } else {
         fold_call(alloc, dialect, word)
     }
@@ -70,6 +72,16 @@ fn decode(alloc: Global, dialect: Dialect, tokens: &[Lexed]) -> Result<Step, Sto
 {
     match dialect {
         Dialect::Postgres if is_hex_call(tokens) => octets_said(alloc, 5, text_at(tokens, 1)),
+        _ => Err(Stop::Unread(Unread::Function)),
+    }
+}
+
+// ClickHouse's bytes by their digits.
+fn unhex(alloc: Global, dialect: Dialect, tokens: &[Lexed]) -> Result<Step, Stop>
+    ensures { Answers result (values.unhex_rule dialect (lexemes_of tokens.now)) }
+{
+    match dialect {
+        Dialect::ClickHouse if closes_at(tokens, 2) => octets_said(alloc, 3, text_at(tokens, 1)),
         _ => Err(Stop::Unread(Unread::Function)),
     }
 }

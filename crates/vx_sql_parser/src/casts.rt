@@ -96,7 +96,7 @@ fn is_of_all(dialect: Dialect, dtype: &str) -> bool
 {
     match dialect {
         Dialect::Sqlite => is(dtype, "i64"),
-        Dialect::Postgres | Dialect::DuckDb | Dialect::Spark => false,
+        Dialect::Postgres | Dialect::DuckDb | Dialect::Spark | Dialect::ClickHouse => false,
     }
 }
 

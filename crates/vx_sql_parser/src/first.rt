@@ -9,7 +9,7 @@ use crate::escapes::escaped_text;
 use crate::reason::Unread;
 use std::alloc::{AllocError, Global};
 use vx_source_types::{Expected, Token, first_token};
-use vx_sql::Dialect;
+use vx_sql::{Dialect, is_escaped};
 use vx_types::FieldName;
 
 // A token, or why it is none, and how many bytes it takes.
@@ -102,7 +102,7 @@ fn opening_len(dialect: Dialect, bytes: &[u8]) -> usize
 {
     match (dialect, bytes) {
         (Dialect::Postgres, [b'E' | b'e', b'\'', ..]) => 2,
-        (Dialect::Spark, [b'\'', ..]) => 1,
+        (Dialect::Spark | Dialect::ClickHouse, [b'\'', ..]) => 1,
         _ => 0,
     }
 }
@@ -199,7 +199,7 @@ fn folded(alloc: Global, dialect: Dialect, word: FieldName) -> Result<FieldName,
             let small = word.as_str().to_ascii_lowercase(alloc)?;
             field_name(alloc, small.as_str())
         }
-        Dialect::Sqlite | Dialect::DuckDb | Dialect::Spark => Ok(word),
+        Dialect::Sqlite | Dialect::DuckDb | Dialect::Spark | Dialect::ClickHouse => Ok(word),
     }
 }
 
@@ -209,14 +209,16 @@ fn field_name(alloc: Global, name: &str) -> Result<FieldName, AllocError>
     FieldName::new(alloc, name).map_err(|_| AllocError)
 }
 
-// A name between such quotes.
+// A name between such quotes, in which no backslash may say something.
 fn name_of(dialect: Dialect, quote: u8, name: FieldName) -> Result<Token, Unread>
     ensures { sql_of result ≡ name_lexeme dialect quote name }
 {
-    if has_name_quote(dialect, quote) {
-        Ok(Token::Quoted(name))
-    } else {
+    if !has_name_quote(dialect, quote) {
         Err(Unread::NameQuote)
+    } else if is_escaped(dialect, name.as_str()) {
+        Err(Unread::Unclosed)
+    } else {
+        Ok(Token::Quoted(name))
     }
 }
 
@@ -226,7 +228,7 @@ fn has_name_quote(dialect: Dialect, quote: u8) -> bool
 {
     match dialect {
         Dialect::Postgres | Dialect::DuckDb => quote == b'"',
-        Dialect::Sqlite => true,
+        Dialect::Sqlite | Dialect::ClickHouse => true,
         Dialect::Spark => quote == b'`',
     }
 }

@@ -17,7 +17,7 @@ pub fn written_numbers_are_read()
     ensures { WrittenNumbersAreRead }
 {}
 
-/// PostgreSQL's and DuckDB's words for the types of numbers are read as the narrowest type that has their numbers.
+/// The words of PostgreSQL, DuckDB and ClickHouse for the types of numbers are read as the narrowest type that has their numbers.
 pub fn written_types_are_read()
     ensures { WrittenTypesAreRead }
 {}

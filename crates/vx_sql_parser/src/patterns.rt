@@ -19,7 +19,7 @@ pub(crate) fn default_escape(dialect: Dialect) -> Option<u8>
     ensures { result ≡ patterns.default_escape dialect }
 {
     match dialect {
-        Dialect::Postgres | Dialect::Spark => Some(b'\\'),
+        Dialect::Postgres | Dialect::Spark | Dialect::ClickHouse => Some(b'\\'),
         Dialect::Sqlite | Dialect::DuckDb => None,
     }
 }

@@ -80,5 +80,19 @@ pub(crate) fn type_named(dialect: Dialect, word: &str) -> Option<&'static str>
                 ("boolean", "bool"),
             ],
         ),
+        Dialect::ClickHouse => called(
+            word,
+            &[
+                ("uint8", "u8"),
+                ("uint16", "u16"),
+                ("uint32", "u32"),
+                ("uint64", "u64"),
+                ("int8", "i8"),
+                ("int16", "i16"),
+                ("int32", "i32"),
+                ("int64", "i64"),
+                ("string", "utf8"),
+            ],
+        ),
     }
 }

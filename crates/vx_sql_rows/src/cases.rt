@@ -32,7 +32,7 @@ pub fn make_cases(
     count: usize,
 ) -> Result<Cases, Unread> {
     let kinds = kinds(alloc, dialect)?;
-    let scope = scope(alloc, kinds.as_slice())?;
+    let scope = scope(alloc, dialect, "", kinds.as_slice())?;
     let mut seeds = Seeds::new(seed.wrapping_add(1));
     let rows = rows(alloc, kinds.as_slice(), &mut seeds)?;
     let mut script = String::new(alloc);
@@ -109,8 +109,9 @@ impl Case {
         }
         let number = self.number;
         let shown = self.shown();
+        let row = self.row();
         let head = format!(in self.alloc;
-            "SELECT '{number} ' || \"row\" || ' ' || {shown} FROM (SELECT \"row\", "
+            "SELECT '{number} ' || {row} || ' ' || {shown} FROM (SELECT \"row\", "
         )?;
         told.script.push_str(head.as_str())?;
         told.script.push_str(sql)?;
@@ -127,6 +128,21 @@ impl Case {
         told.script.push_str(")) q ORDER BY \"row\";\n")
     }
 
+    // How the number of a row is shown, and how many rows there are.
+    fn row(self) -> &'static str {
+        match self.dialect {
+            Dialect::ClickHouse => "toString(\"row\")",
+            Dialect::Postgres | Dialect::Sqlite | Dialect::DuckDb | Dialect::Spark => "\"row\"",
+        }
+    }
+
+    fn count(self) -> &'static str {
+        match self.dialect {
+            Dialect::ClickHouse => "toString(count(*))",
+            Dialect::Postgres | Dialect::Sqlite | Dialect::DuckDb | Dialect::Spark => "count(*)",
+        }
+    }
+
     // How a value is shown.
     fn shown(self) -> &'static str {
         match (self.dialect, self.kind) {
@@ -137,13 +153,18 @@ impl Case {
             (Dialect::Postgres, Kind::Truth | Kind::Number(_) | Kind::Pair) => {
                 "coalesce(CAST(v AS text), 'null')"
             }
+            (Dialect::ClickHouse, Kind::Text | Kind::Octets) => "ifNull(lower(hex(v)), 'null')",
+            (Dialect::ClickHouse, Kind::Number(_) | Kind::Pair) => "ifNull(toString(v), 'null')",
             (Dialect::Sqlite | Dialect::DuckDb | Dialect::Spark, Kind::Text) => {
                 "CASE typeof(v) WHEN 'null' THEN 'null' WHEN 'text' THEN lower(hex(v)) ELSE 'another' END"
             }
             (Dialect::Sqlite | Dialect::DuckDb | Dialect::Spark, Kind::Octets) => {
                 "CASE typeof(v) WHEN 'null' THEN 'null' WHEN 'blob' THEN lower(hex(v)) ELSE 'another' END"
             }
-            (Dialect::Sqlite | Dialect::DuckDb | Dialect::Spark, Kind::Truth) => {
+            (
+                Dialect::Sqlite | Dialect::DuckDb | Dialect::Spark | Dialect::ClickHouse,
+                Kind::Truth,
+            ) => {
                 "CASE WHEN v IS NULL THEN 'null' WHEN v = 1 THEN 'true' WHEN v = 0 THEN 'false' ELSE 'another' END"
             }
             (Dialect::Sqlite | Dialect::DuckDb | Dialect::Spark, Kind::Number(_) | Kind::Pair) => {
@@ -204,8 +225,9 @@ impl Case {
         };
         let number = self.number;
         let statement = statement.as_str();
+        let count = self.count();
         let line = format!(in self.alloc;
-            "SELECT '{number} planned ' || count(*) FROM ({statement}) q;\n"
+            "SELECT '{number} planned ' || {count} FROM ({statement}) q;\n"
         )?;
         told.script.push_str(line.as_str())?;
         let kept = found.values.iter().filter(|(_, value)| is_true(value));
@@ -217,7 +239,8 @@ impl Case {
     // The rows of which the truth value is true.
     fn push_filter(self, sql: &str, found: &Found, told: &mut Cases) -> Result<(), AllocError> {
         let number = self.number;
-        let head = format!(in self.alloc; "SELECT '{number} kept ' || \"row\" FROM t WHERE ")?;
+        let row = self.row();
+        let head = format!(in self.alloc; "SELECT '{number} kept ' || {row} FROM t WHERE ")?;
         told.script.push_str(head.as_str())?;
         told.script.push_str(sql)?;
         told.script.push_str(" ORDER BY \"row\";\n")?;

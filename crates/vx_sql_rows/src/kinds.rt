@@ -30,7 +30,7 @@ pub const NUMBERS: [PType; 8] = [
 pub fn has_pairs(dialect: Dialect) -> bool {
     match dialect {
         Dialect::Postgres => true,
-        Dialect::Sqlite | Dialect::DuckDb | Dialect::Spark => false,
+        Dialect::Sqlite | Dialect::DuckDb | Dialect::Spark | Dialect::ClickHouse => false,
     }
 }
 
@@ -41,12 +41,18 @@ const CHARACTERS: [char; 28] = [
 ];
 
 impl Kind {
-    /// The columns of the scope that have such values, the second without null.
-    pub fn columns(self) -> [&'static str; 2] {
+    /// The columns of the scope that have such values, the second without null. ClickHouse has no name with
+    /// a backslash.
+    pub fn columns(self, dialect: Dialect) -> [&'static str; 2] {
         match self {
             Kind::Truth => ["b", "`select`"],
             Kind::Text => ["s", "`it's \"t\"`"],
-            Kind::Octets => ["x", "`X``x\\ \n1`"],
+            Kind::Octets => match dialect {
+                Dialect::ClickHouse => ["x", "`X``x/ \n1`"],
+                Dialect::Postgres | Dialect::Sqlite | Dialect::DuckDb | Dialect::Spark => {
+                    ["x", "`X``x\\ \n1`"]
+                }
+            },
             Kind::Pair => ["p", "q"],
             Kind::Number(p) => match p {
                 PType::U8 => ["u8", "u8n"],

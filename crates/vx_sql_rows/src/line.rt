@@ -98,11 +98,12 @@ impl Call {
     }
 }
 
-const DIALECTS: [Dialect; 4] = [
+const DIALECTS: [Dialect; 5] = [
     Dialect::Postgres,
     Dialect::Sqlite,
     Dialect::DuckDb,
     Dialect::Spark,
+    Dialect::ClickHouse,
 ];
 
 fn name_of(dialect: Dialect) -> &'static str {
@@ -111,6 +112,7 @@ fn name_of(dialect: Dialect) -> &'static str {
         Dialect::Sqlite => "sqlite",
         Dialect::DuckDb => "duckdb",
         Dialect::Spark => "spark",
+        Dialect::ClickHouse => "clickhouse",
     }
 }
 

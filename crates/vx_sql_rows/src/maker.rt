@@ -55,7 +55,7 @@ impl Maker {
     fn number_type(&mut self) -> PType {
         let count = match self.dialect {
             Dialect::Sqlite => 7,
-            Dialect::Postgres | Dialect::DuckDb | Dialect::Spark => 8,
+            Dialect::Postgres | Dialect::DuckDb | Dialect::Spark | Dialect::ClickHouse => 8,
         };
         let number = self.seeds.below(count);
         NUMBERS.get(number).copied().unwrap_or(PType::I32)
@@ -115,7 +115,7 @@ impl Maker {
     }
 
     fn push_column(&mut self, kind: Kind, text: &mut String) -> Result<(), AllocError> {
-        text.push_str(self.seeds.pick(&kind.columns()))
+        text.push_str(self.seeds.pick(&kind.columns(self.dialect)))
     }
 
     // What the word of a row stands for.

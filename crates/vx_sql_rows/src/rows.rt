@@ -26,11 +26,17 @@ pub fn kinds(alloc: Global, dialect: Dialect) -> Result<Vec<Kind>, AllocError> {
     Ok(kinds)
 }
 
-/// The type of the rows: of each kind a column with nulls, and one without.
-pub fn scope(alloc: Global, kinds: &[Kind]) -> Result<DType, Unread> {
-    let mut text = String::from_str(alloc, "{")?;
+/// The type of the rows: first the columns that are given, and then of each kind a column with nulls, and
+/// one without.
+pub fn scope(
+    alloc: Global,
+    dialect: Dialect,
+    given: &str,
+    kinds: &[Kind],
+) -> Result<DType, Unread> {
+    let mut text = format!(in alloc; "{{{given}")?;
     for (i, kind) in kinds.iter().enumerate() {
-        let [nullable, plain] = kind.columns();
+        let [nullable, plain] = kind.columns(dialect);
         let word = kind.type_text();
         let separator = if i == 0 { "" } else { ", " };
         let pair = format!(in alloc; "{separator}{nullable}={word}?, {plain}={word}")?;
@@ -67,9 +73,13 @@ pub fn push_table(
         out.push_str(", ")?;
         push_quoted(name, out)?;
         out.push_str(" ")?;
-        out.push_str(column_type(dialect, dtype))?;
+        push_column_type(alloc, dialect, dtype, out)?;
     }
-    out.push_str(");\n")?;
+    out.push_str(if is_clickhouse(dialect) {
+        ") ENGINE = Memory;\n"
+    } else {
+        ");\n"
+    })?;
     for (i, row) in rows.iter().enumerate() {
         let insert = format!(in alloc; "INSERT INTO t VALUES ({i}")?;
         out.push_str(insert.as_str())?;
@@ -99,7 +109,54 @@ fn push_quoted(name: &FieldName, out: &mut String) -> Result<(), AllocError> {
 fn is_sqlite(dialect: Dialect) -> bool {
     match dialect {
         Dialect::Sqlite => true,
-        Dialect::Postgres | Dialect::DuckDb | Dialect::Spark => false,
+        Dialect::Postgres | Dialect::DuckDb | Dialect::Spark | Dialect::ClickHouse => false,
+    }
+}
+
+// Whether it is told in ClickHouse's.
+fn is_clickhouse(dialect: Dialect) -> bool {
+    match dialect {
+        Dialect::ClickHouse => true,
+        Dialect::Postgres | Dialect::Sqlite | Dialect::DuckDb | Dialect::Spark => false,
+    }
+}
+
+fn push_column_type(
+    alloc: Global,
+    dialect: Dialect,
+    dtype: &DType,
+    out: &mut String,
+) -> Result<(), AllocError> {
+    if !is_clickhouse(dialect) {
+        return out.push_str(column_type(dialect, dtype));
+    }
+    let word = clickhouse_type(dtype);
+    let told = if dtype.is_nullable() {
+        format!(in alloc; "Nullable({word})")?
+    } else {
+        format!(in alloc; "{word}")?
+    };
+    out.push_str(told.as_str())
+}
+
+fn clickhouse_type(dtype: &DType) -> &'static str {
+    match dtype {
+        DType::Bool(_) => "UInt8",
+        DType::Primitive(p, _) => match p {
+            PType::U8 => "UInt8",
+            PType::U16 => "UInt16",
+            PType::U32 => "UInt32",
+            PType::U64 => "UInt64",
+            PType::I8 => "Int8",
+            PType::I16 => "Int16",
+            PType::I32 => "Int32",
+            PType::I64 => "Int64",
+        },
+        DType::Utf8(_)
+        | DType::Binary(_)
+        | DType::List(..)
+        | DType::FixedSizeList(..)
+        | DType::Struct(..) => "String",
     }
 }
 
@@ -154,7 +211,11 @@ fn push_plain(
 ) -> Result<(), AllocError> {
     let is_sqlite = is_sqlite(dialect);
     match value {
-        Value::Bool(b) if is_sqlite => out.push_str(if *b { "1" } else { "0" }),
+        Value::Bool(b) if is_sqlite || is_clickhouse(dialect) => out.push_str(if *b {
+            "1"
+        } else {
+            "0"
+        }),
         Value::Bool(b) => out.push_str(if *b { "true" } else { "false" }),
         Value::Int(number) => {
             let digits = format!(in alloc; "{number}")?;
@@ -163,6 +224,8 @@ fn push_plain(
         Value::Utf8(text) => {
             let (before, behind) = if is_sqlite {
                 ("CAST(X'", "' AS TEXT)")
+            } else if is_clickhouse(dialect) {
+                ("unhex('", "')")
             } else {
                 ("convert_from(decode('", "', 'hex'), 'UTF8')")
             };
@@ -171,6 +234,8 @@ fn push_plain(
         Value::Binary(bytes) => {
             let (before, behind) = if is_sqlite {
                 ("X'", "'")
+            } else if is_clickhouse(dialect) {
+                ("unhex('", "')")
             } else {
                 ("decode('", "', 'hex')")
             };

@@ -6,10 +6,11 @@ ghost use Rattle.vx_fn.specs.Texts.{operator_sql};
 ghost use Rattle.vx_fn.specs.Views.{is_strict, operation_of};
 ghost use Rattle.vx_sql.specs.Children.{has_text_first};
 ghost use Rattle.vx_sql.specs.Sums.{sum_sql};
-ghost use Rattle.vx_sql.specs.SqlTexts.{sqls_in, trees_in, compared_sql, binary_sql, between_sql, range_sql, both_sql, below_sql};
+ghost use Rattle.vx_sql.specs.SqlTexts.{sqls_in, trees_in, compared_sql, loses_nulls, loses_operands, loses_bounds, least_sql, logic_sql, binary_sql, between_sql, range_sql, both_sql, below_sql};
 
 use super::{Children, write_child};
-use crate::children::has_text_first;
+use crate::Dialect;
+use crate::children::{admits_null_at, has_text_first};
 use crate::sums::Check;
 use crate::types::collation;
 use std::fmt;
@@ -27,7 +28,7 @@ pub(super) fn write_binary<W: Write>(
 ) -> fmt::Result
     requires { length operands.nodes.now ≡ 2 }
     ensures { let cs = sqls_in operands.entry in WritesOnOk W.write_str_gives f.old result
-        (binary_sql operands.entry.dialect (type_of dtype.now) (has_text_first (trees_in operands.entry)) (operation_of operator) (get_or cs 0 []) (get_or cs 1 [])) f.new }
+        (binary_sql operands.entry.dialect (type_of dtype.now) (has_text_first (trees_in operands.entry)) (loses_operands operands.entry.dialect (trees_in operands.entry)) (operation_of operator) (get_or cs 0 []) (get_or cs 1 [])) f.new }
 {
     match operator {
         Operator::Eq => write_comparison("=", operands, f),
@@ -36,8 +37,8 @@ pub(super) fn write_binary<W: Write>(
         Operator::Gte => write_comparison(">=", operands, f),
         Operator::Lt => write_comparison("<", operands, f),
         Operator::Lte => write_comparison("<=", operands, f),
-        Operator::And => write_logic("AND", operands, f),
-        Operator::Or => write_logic("OR", operands, f),
+        Operator::And => write_logic("AND", "least", operands, f),
+        Operator::Or => write_logic("OR", "greatest", operands, f),
         Operator::Add => match dtype {
             DType::Primitive(p, _) => write_sum(*p, operands, f),
             _ => Ok(()),
@@ -59,8 +60,76 @@ fn write_comparison<W: Write>(sign: &str, operands: Children, f: &mut Formatter<
     f.write_str(")")
 }
 
+// Two truth values, by the engine's word or by a function where that would lose a null.
 #[cycle(text)]
-fn write_logic<W: Write>(sign: &str, operands: Children, f: &mut Formatter<W>) -> fmt::Result
+fn write_logic<W: Write>(
+    sign: &str,
+    function: &str,
+    operands: Children,
+    f: &mut Formatter<W>,
+) -> fmt::Result
+    requires { length operands.nodes.now ≡ 2 }
+    ensures { let cs = sqls_in operands.entry in WritesOnOk W.write_str_gives f.old result
+        (logic_sql (loses_operands operands.entry.dialect (trees_in operands.entry)) sign.now function.now (get_or cs 0 []) (get_or cs 1 [])) f.new }
+{
+    if loses_operands(operands) {
+        write_least(function, operands, f)
+    } else {
+        write_operator(sign, operands, f)
+    }
+}
+
+// Whether the engine would lose a null of an operand.
+fn loses_operands(operands: Children) -> bool
+    ensures { result ≡ loses_operands operands.entry.dialect (trees_in operands.entry) }
+{
+    loses_nulls(operands.dialect)
+        && (admits_null_at(operands.nodes, 0) || admits_null_at(operands.nodes, 1))
+}
+
+// Whether it would lose one of the comparison with a bound where that with the other has none.
+fn loses_bounds(children: Children) -> bool
+    ensures { result ≡ loses_bounds children.entry.dialect (trees_in children.entry) }
+{
+    loses_nulls(children.dialect)
+        && (admits_null_at(children.nodes, 1) || admits_null_at(children.nodes, 2))
+}
+
+// Whether the engine's AND and OR take no null for what it is: in ClickHouse, to version 19, an AND of
+// false and null is null, and an OR takes null for false.
+fn loses_nulls(dialect: Dialect) -> bool
+    ensures { result ≡ loses_nulls dialect }
+{
+    match dialect {
+        Dialect::Postgres | Dialect::Sqlite | Dialect::DuckDb | Dialect::Spark => false,
+        Dialect::ClickHouse => true,
+    }
+}
+
+// The least or the greatest of two truth values, of which null is the middle one.
+#[cycle(text)]
+fn write_least<W: Write>(function: &str, operands: Children, f: &mut Formatter<W>) -> fmt::Result
+    requires { length operands.nodes.now ≡ 2 }
+    ensures { let cs = sqls_in operands.entry in WritesOnOk W.write_str_gives f.old result
+        (least_sql function.now (get_or cs 0 []) (get_or cs 1 [])) f.new }
+{
+    write_least_opening(function, f)?;
+    write_child(operands, 0, f)?;
+    f.write_str(", 0.5), COALESCE(")?;
+    write_child(operands, 1, f)?;
+    f.write_str(", 0.5)), 0.5) > 0)")
+}
+
+fn write_least_opening<W: Write>(function: &str, f: &mut Formatter<W>) -> fmt::Result
+    ensures { WritesOnOk W.write_str_gives f.old result (codes "(nullIf(" ++ (function.now ++ codes "(COALESCE(")) f.new }
+{
+    f.write_str("(nullIf(")?;
+    f.write_str(function)?;
+    f.write_str("(COALESCE(")
+}
+
+#[cycle(text)]
+fn write_operator<W: Write>(sign: &str, operands: Children, f: &mut Formatter<W>) -> fmt::Result
     requires { length operands.nodes.now ≡ 2 }
     ensures { let cs = sqls_in operands.entry in WritesOnOk W.write_str_gives f.old result
         (operator_sql sign.now (get_or cs 0 []) (get_or cs 1 [])) f.new }
@@ -89,9 +158,9 @@ fn write_sum<W: Write>(p: PType, operands: Children, f: &mut Formatter<W>) -> fm
         (sum_sql operands.entry.dialect p (get_or cs 0 []) (get_or cs 1 [])) f.new }
 {
     let check = Check::of(operands.dialect, p);
-    f.write_str(check.opening())?;
+    check.write_opening(operands.dialect, p, f)?;
     write_child(operands, 0, f)?;
-    f.write_str(" + ")?;
+    f.write_str(check.separator())?;
     write_child(operands, 1, f)?;
     check.write_end(operands.dialect, p, f)
 }
@@ -115,9 +184,12 @@ pub(super) fn write_between<W: Write>(
 ) -> fmt::Result
     requires { length children.nodes.now ≡ 3 }
     ensures { let cs = sqls_in children.entry in WritesOnOk W.write_str_gives f.old result
-        (between_sql children.entry.dialect (has_text_first (trees_in children.entry)) (is_strict options.lower_strict) (is_strict options.upper_strict)
+        (between_sql children.entry.dialect (has_text_first (trees_in children.entry)) (loses_bounds children.entry.dialect (trees_in children.entry)) (is_strict options.lower_strict) (is_strict options.upper_strict)
         (get_or cs 0 []) (get_or cs 1 []) (get_or cs 2 [])) f.new }
 {
+    if loses_bounds(children) {
+        return write_least_below(options, children, f);
+    }
     match options.lower_strict {
         StrictComparison::NonStrict => match options.upper_strict {
             StrictComparison::NonStrict => write_from_to(children, f),
@@ -166,6 +238,24 @@ fn write_both<W: Write>(
     f.write_str(" AND ")?;
     write_below(children, 0, options.upper_strict, 2, f)?;
     f.write_str(")")
+}
+
+#[cycle(text)]
+fn write_least_below<W: Write>(
+    options: BetweenOptions,
+    children: Children,
+    f: &mut Formatter<W>,
+) -> fmt::Result
+    requires { length children.nodes.now ≡ 3 }
+    ensures { let cs = sqls_in children.entry in let is_text = has_text_first (trees_in children.entry) in WritesOnOk W.write_str_gives f.old result
+        (least_sql (codes "least") (below_sql (is_strict options.lower_strict) (compared_sql children.entry.dialect is_text (get_or cs 1 [])) (get_or cs 0 []))
+        (below_sql (is_strict options.upper_strict) (compared_sql children.entry.dialect is_text (get_or cs 0 [])) (get_or cs 2 []))) f.new }
+{
+    write_least_opening("least", f)?;
+    write_below(children, 1, options.lower_strict, 0, f)?;
+    f.write_str(", 0.5), COALESCE(")?;
+    write_below(children, 0, options.upper_strict, 2, f)?;
+    f.write_str(", 0.5)), 0.5) > 0)")
 }
 
 // One of the children below another, or not above it.

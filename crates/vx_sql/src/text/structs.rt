@@ -56,7 +56,9 @@ fn pack_word(dialect: Dialect) -> &'static str
 {
     match dialect {
         Dialect::DuckDb => "struct_pack(",
-        Dialect::Postgres | Dialect::Sqlite | Dialect::Spark => "named_struct(",
+        Dialect::Postgres | Dialect::Sqlite | Dialect::Spark | Dialect::ClickHouse => {
+            "named_struct("
+        }
     }
 }
 
@@ -110,7 +112,7 @@ fn write_before_field<W: Write>(
             write_name(dialect, name, f)?;
             f.write_str(" := ")
         }
-        Dialect::Postgres | Dialect::Sqlite | Dialect::Spark => {
+        Dialect::Postgres | Dialect::Sqlite | Dialect::Spark | Dialect::ClickHouse => {
             write_text(dialect, name.as_str(), f)?;
             f.write_str(", ")
         }

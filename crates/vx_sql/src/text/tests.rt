@@ -40,7 +40,7 @@ fn tests_rows(dialect: Dialect) -> bool
 {
     match dialect {
         Dialect::Postgres => true,
-        Dialect::Sqlite | Dialect::DuckDb | Dialect::Spark => false,
+        Dialect::Sqlite | Dialect::DuckDb | Dialect::Spark | Dialect::ClickHouse => false,
     }
 }
 
@@ -80,7 +80,7 @@ fn before_folded(dialect: Dialect) -> &'static str
     ensures { result.now ≡ before_folded dialect }
 {
     match dialect {
-        Dialect::Postgres => "lower(",
+        Dialect::Postgres | Dialect::ClickHouse => "lower(",
         Dialect::Sqlite => "",
         Dialect::DuckDb | Dialect::Spark => "translate(",
     }
@@ -91,7 +91,7 @@ fn behind_folded(dialect: Dialect) -> &'static str
     ensures { result.now ≡ behind_folded dialect }
 {
     match dialect {
-        Dialect::Postgres => ")",
+        Dialect::Postgres | Dialect::ClickHouse => ")",
         Dialect::Sqlite => "",
         Dialect::DuckDb | Dialect::Spark => {
             ", 'ABCDEFGHIJKLMNOPQRSTUVWXYZ', 'abcdefghijklmnopqrstuvwxyz')"
@@ -151,10 +151,9 @@ fn write_like_sign<W: Write>(dialect: Dialect, negated: bool, f: &mut Formatter<
 fn like_end(dialect: Dialect) -> &'static str
     ensures { result.now ≡ like_end dialect }
 {
-    if has_globs(dialect) {
-        ")"
-    } else {
-        " ESCAPE '!')"
+    match dialect {
+        Dialect::Postgres | Dialect::DuckDb | Dialect::Spark => " ESCAPE '!')",
+        Dialect::Sqlite | Dialect::ClickHouse => ")",
     }
 }
 

@@ -44,6 +44,15 @@ decreases-operators::write_comparison g l = 16 * sizes_of (unbound_each (bounds_
 abbrev pub decreases-operators::write_logic : goal.decreases-operators::write_logic
 decreases-operators::write_logic g l = 16 * sizes_of (unbound_each (bounds_of l.operands.nodes.now)) + 4
 
+abbrev pub decreases-operators::write_least : goal.decreases-operators::write_least
+decreases-operators::write_least g l = 16 * sizes_of (unbound_each (bounds_of l.operands.nodes.now)) + 3
+
+abbrev pub decreases-operators::write_operator : goal.decreases-operators::write_operator
+decreases-operators::write_operator g l = 16 * sizes_of (unbound_each (bounds_of l.operands.nodes.now)) + 3
+
+abbrev pub decreases-operators::write_least_below : goal.decreases-operators::write_least_below
+decreases-operators::write_least_below g l = 16 * sizes_of (unbound_each (bounds_of l.children.nodes.now)) + 4
+
 abbrev pub decreases-operators::write_sum : goal.decreases-operators::write_sum
 decreases-operators::write_sum g l = 16 * sizes_of (unbound_each (bounds_of l.operands.nodes.now)) + 4
 

@@ -1,0 +1,169 @@
+// Plans of expressions by chance, as a script for an engine whose rows stand on several machines, and
+// what is to become of the rows that it prints.
+ghost use Rattle.vx_tree.specs.Trees.{WellTyped};
+ghost use Rattle.vx_tree.specs.Views.{bound_of};
+
+use crate::kinds::Kind;
+use crate::maker::Maker;
+use crate::rows::{kinds, push_table, rows, scope};
+use std::alloc::{AllocError, Global};
+use vx_eval::apply_bound;
+use vx_sql::Dialect;
+use vx_sql_plan::{NoStatement, SqlPlan, sql_plan};
+use vx_test_support::{Seeds, Unread, bound};
+use vx_tree::BoundExpression;
+use vx_types::{Column, DType, Value};
+
+/// The table that has the rows, the plans' statements over a table `spread`, and what is wanted.
+#[derive(Drop)]
+pub struct Plans {
+    pub table: String,
+    /// Before each statement one that prints the word `plan` and the expression's number. The first
+    /// column of each row is its number.
+    pub script: String,
+    /// Of each expression the rows of which what is left is true.
+    pub left: String,
+    /// Of each expression the rows of which it is true.
+    pub answers: String,
+}
+
+/// So many plans of truth values by chance that fault at no row, every second of which leaves a match
+/// with a pattern from a column.
+pub fn make_plans(
+    alloc: Global,
+    dialect: Dialect,
+    seed: u64,
+    count: usize,
+) -> Result<Plans, Unread> {
+    let kinds = kinds(alloc, dialect)?;
+    let flat = scope(alloc, dialect, "", kinds.as_slice())?;
+    let scope = scope(alloc, dialect, "row=i32, ", kinds.as_slice())?;
+    let mut seeds = Seeds::new(seed.wrapping_add(1));
+    let rows = rows(alloc, kinds.as_slice(), &mut seeds)?;
+    let mut plans = Plans {
+        table: String::new(alloc),
+        script: String::new(alloc),
+        left: String::new(alloc),
+        answers: String::new(alloc),
+    };
+    if let DType::Struct(fields, _) = &flat {
+        push_table(alloc, dialect, fields, rows.as_slice(), &mut plans.table)?;
+    }
+    let batch = numbered(alloc, &scope, rows.as_slice())?;
+    let mut maker = Maker::new(alloc, dialect, seed);
+    let mut made = 0usize;
+    for _ in 0..count.saturating_mul(ATTEMPTS) {
+        if made >= count {
+            break;
+        }
+        let expression = maker.expression(Kind::Truth)?;
+        let left = if made % 2 == 0 { "" } else { LEFT };
+        let source = format!(in alloc; "({expression}) and (row is not null{left})")?;
+        let tree = bound(alloc, source.as_str(), &scope)?;
+        if let Ok(column) = apply_bound(alloc, &batch, &tree) {
+            push_true(alloc, made, &column, &mut plans.answers)?;
+            push_plan(alloc, dialect, made, &tree, &batch, &mut plans)?;
+            made = made.saturating_add(1);
+        }
+    }
+    Ok(plans)
+}
+
+// How many expressions are made for each that faults at no row, at most.
+const ATTEMPTS: usize = 20;
+
+// A match with a pattern that is no literal, which has no text.
+const LEFT: &str = " and not (s like `it's \"t\"`)";
+
+// The rows, each behind its number.
+fn numbered(alloc: Global, scope: &DType, rows: &[Value]) -> Result<Column, Unread> {
+    let mut numbered = Vec::new(alloc);
+    for (i, row) in rows.iter().enumerate() {
+        let mut values = Vec::new(alloc);
+        values.push(Value::Int(i as i128))?;
+        if let Value::Struct(fields) = row {
+            for value in fields.as_slice() {
+                values.push(value.clone()?)?;
+            }
+        }
+        numbered.push(Value::Struct(values))?;
+    }
+    Ok(Column::try_new(scope.clone()?, numbered)?)
+}
+
+// The statement of the plan, and the rows of which what it leaves is true.
+fn push_plan(
+    alloc: Global,
+    dialect: Dialect,
+    number: usize,
+    tree: &BoundExpression,
+    batch: &Column,
+    plans: &mut Plans,
+) -> Result<(), Unread>
+    requires { WellTyped (bound_of tree.now) }
+{
+    let plan = match sql_plan(alloc, tree, batch.dtype(), "spread", dialect) {
+        Ok(plan) => plan,
+        Err(NoStatement::OutOfMemory) => return Err(AllocError.into()),
+        Err(_) => return Err(Unread::Word("no statement")),
+    };
+    let SqlPlan {
+        statement,
+        residual,
+    } = plan;
+    push_statement(
+        alloc,
+        dialect,
+        number,
+        statement.as_str(),
+        &mut plans.script,
+    )?;
+    match residual {
+        Some(residual) => {
+            let column = apply_bound(alloc, batch, &residual)?;
+            push_true(alloc, number, &column, &mut plans.left)?;
+        }
+        None => {
+            for i in 0..batch.rows().len() {
+                let line = format!(in alloc; "{number} {i}\n")?;
+                plans.left.push_str(line.as_str())?;
+            }
+        }
+    }
+    Ok(())
+}
+
+// The statement behind its number. PostgreSQL tells first what it hands on, and then each row on one line.
+fn push_statement(
+    alloc: Global,
+    dialect: Dialect,
+    number: usize,
+    statement: &str,
+    script: &mut String,
+) -> Result<(), AllocError> {
+    let lines = match dialect {
+        Dialect::Postgres => format!(in alloc;
+            "SELECT 'plan {number}';\nEXPLAIN (VERBOSE, COSTS OFF) {statement};\nCOPY ({statement}) TO STDOUT;\n"
+        )?,
+        Dialect::Sqlite | Dialect::DuckDb | Dialect::Spark | Dialect::ClickHouse => {
+            format!(in alloc; "SELECT 'plan {number}';\n{statement};\n")?
+        }
+    };
+    script.push_str(lines.as_str())
+}
+
+// The rows of which the truth value is true.
+fn push_true(
+    alloc: Global,
+    number: usize,
+    column: &Column,
+    out: &mut String,
+) -> Result<(), AllocError> {
+    for (i, value) in column.rows().iter().enumerate() {
+        if matches!(value, Value::Bool(true)) {
+            let line = format!(in alloc; "{number} {i}\n")?;
+            out.push_str(line.as_str())?;
+        }
+    }
+    Ok(())
+}

@@ -1,0 +1,171 @@
+#!/bin/sh
+# Runs plans of expressions by chance over rows that stand on two servers: `tools/cluster.sh [SEED [COUNT]]`, from
+# seed 1 on and 300 of them unless told otherwise. Two ClickHouse servers have the shards of a `Distributed` table, and
+# two PostgreSQL servers the partitions of a third one's table. Each statement has to be handed on with its condition, as
+# the shards' logs of queries and `EXPLAIN VERBOSE` show. Of the rows that come back those are kept of which
+# what the plan leaves is true, by vx_eval, and they have to be the source's. What isn't installed is installed from
+# Debian's packages, or a line says that it can't be. All servers are on loopback or on sockets in a temporary folder,
+# and are stopped at the end. Ends with a line `cluster: N expressions, M failed`, and with status 1 if any failed.
+# `rt ci` or `rt run vx_sql_rows` has built the program.
+set -eu
+cd "$(dirname "$0")/.."
+seed=${1:-1}
+count=${2:-300}
+program=$PWD/crates/vx_sql_rows/out/vx_sql_rows
+room=$(mktemp -d)
+chmod a+x "$room"
+postgres_servers=
+as_postgres=
+expressions=0
+failed=0
+. tools/clickhouse.sh
+
+stop() {
+    stop_clickhouse
+    for name in $postgres_servers; do
+        $as_postgres "$postgres/pg_ctl" -D "$room/$name" -m immediate stop >"$room/stopped" 2>&1 || cat "$room/stopped"
+    done
+    rm -r "$room"
+}
+trap stop EXIT
+trap 'exit 1' INT TERM
+
+# Installs packages, if that is allowed here.
+add_package() {
+    [ "$(id -u)" -eq 0 ] && command -v apt-get >/dev/null || return 1
+    DEBIAN_FRONTEND=noninteractive timeout 300 apt-get install -y -q "$@" >"$room/installed" 2>&1 </dev/null
+}
+
+# Writes the plans for an engine: the table's statements, without and with its rows, and the rest.
+write_plans() {
+    "$program" plans "$1" table "$seed" "$count" >"$room/table"
+    sed '/^INSERT INTO /,$d' "$room/table" >"$room/columns"
+    sed -n '/^INSERT INTO /,$p' "$room/table" | sed 's/^INSERT INTO t /INSERT INTO spread /' >"$room/rows"
+    "$program" plans "$1" script "$seed" "$count" >"$room/script"
+    "$program" plans "$1" left "$seed" "$count" | sort >"$room/left"
+    "$program" plans "$1" answers "$seed" "$count" | sort >"$room/answers"
+}
+
+# Keeps of the rows that an engine gave those of which what is left is true, and compares them with the source's.
+# Each row begins with its number, and the word `plan` stands before the rows of each expression.
+compare() {
+    awk '/^plan [0-9]+$/ { plan = $2; next } /^[0-9]+(\t|$)/ { print plan, $1 + 0 }' "$room/said" | sort >"$room/given"
+    comm -12 "$room/given" "$room/left" >"$room/kept"
+    diff "$room/answers" "$room/kept" >"$room/differ" || true
+    wrong=$(awk '/^[<>]/ { print $2 }' "$room/differ" | sort -u | wc -l)
+    run=$(grep -c '^plan [0-9]*$' "$room/said" || true)
+    given=$(wc -l <"$room/given")
+    echo "cluster: $1: $run expressions over two servers, $given rows came back, $(wc -l <"$room/kept") kept, $wrong expressions differ"
+    [ "$wrong" -eq 0 ] || head -n 10 "$room/differ"
+    [ "$run" -eq "$count" ] || {
+        echo "cluster: $1: $((count - run)) statements weren't run"
+        wrong=$((wrong + count - run))
+    }
+    [ ! -s "$room/errors" ] || {
+        echo "cluster: $1 says:"
+        head -n 10 "$room/errors"
+        wrong=$((wrong + 1))
+    }
+    expressions=$((expressions + run))
+    failed=$((failed + wrong))
+}
+
+# Tells that so many of the statements were handed on to a server with their conditions.
+handed_on() {
+    echo "cluster: $1: $2 of $count statements came with the condition to $3"
+    [ "$2" -ge "$4" ] || failed=$((failed + 1))
+}
+
+run_clickhouse() {
+    has_clickhouse || {
+        echo "cluster: clickhouse: isn't installed here, and couldn't be: nothing was run"
+        return 0
+    }
+    first=$(free_port 19500)
+    second=$(free_port $((first + 1)))
+    asker=$(free_port $((second + 1)))
+    start_clickhouse first "$first" && start_clickhouse second "$second" && start_clickhouse asker "$asker" "$first" "$second" || {
+        echo "cluster: clickhouse: is installed here, and doesn't start: nothing was run"
+        return 0
+    }
+    write_plans clickhouse
+    for port in "$first" "$second" "$asker"; do
+        ask_clickhouse "$port" --multiquery <"$room/columns"
+    done
+    ask_clickhouse "$asker" --query='CREATE TABLE spread AS t ENGINE = Distributed(shards, default, t, "row")'
+    ask_clickhouse "$asker" --multiquery <"$room/rows"
+    echo "cluster: clickhouse: $(ask_clickhouse "$first" --query='SELECT count() FROM t') rows on one server, $(ask_clickhouse "$second" --query='SELECT count() FROM t') on the other"
+    ask_clickhouse "$asker" --multiquery --ignore-error <"$room/script" >"$room/said" 2>"$room/errors" || true
+    compare clickhouse
+    sleep 2
+    for port in "$first" "$second"; do
+        seen=$(ask_clickhouse "$port" --query="SELECT count() FROM system.query_log WHERE type = 1 AND is_initial_query = 0 AND query LIKE 'SELECT%FROM default.t%WHERE%'")
+        handed_on clickhouse "$seen" "the server at port $port" "$count"
+    done
+    stop_clickhouse
+}
+
+# Starts a PostgreSQL server of that name on a socket in its folder.
+start_postgres() {
+    cp -r "$room/made" "$room/$1"
+    if [ -n "$as_postgres" ]; then
+        chown -R "$user" "$room/$1"
+    fi
+    chmod 700 "$room/$1"
+    $as_postgres "$postgres/pg_ctl" -D "$room/$1" -o "-k $room/$1 -c listen_addresses= -c fsync=off" -l "$room/$1/log" -w start >"$room/started" || return 1
+    postgres_servers="$postgres_servers $1"
+}
+
+ask_postgres() {
+    asked=$1
+    shift
+    PGOPTIONS='-c client_min_messages=warning' "$postgres/psql" -X -q -A -t -h "$room/$asked" -U postgres -d postgres -v VERBOSITY=terse "$@"
+}
+
+run_postgres() {
+    [ -n "$(ls -d /usr/lib/postgresql/*/bin 2>/dev/null)" ] || add_package postgresql || {
+        echo "cluster: postgres: isn't installed here, and couldn't be: nothing was run"
+        return 0
+    }
+    postgres=$(ls -d /usr/lib/postgresql/*/bin | sort -V | tail -n 1)
+    # The server refuses to run as root.
+    if [ "$(id -u)" -eq 0 ]; then
+        user=$(id -un postgres 2>/dev/null || echo nobody)
+        as_postgres="setpriv --reuid=$user --regid=$(id -g "$user") --clear-groups"
+        mkdir "$room/made"
+        chown "$user" "$room/made"
+    fi
+    $as_postgres "$postgres/initdb" -D "$room/made" -U postgres -A trust -E UTF8 --locale=C.UTF-8 >"$room/init" 2>&1 || cat "$room/init"
+    start_postgres one && start_postgres two && start_postgres third || {
+        echo "cluster: postgres: is installed here, and doesn't start: nothing was run"
+        return 0
+    }
+    write_plans postgres
+    for name in one two; do
+        ask_postgres "$name" -f "$room/columns"
+    done
+    {
+        sed 's/^CREATE TABLE t (/CREATE TABLE spread (/; s/);$/) PARTITION BY HASH ("row");/' "$room/columns" | sed 's/^\(CREATE TYPE .*\)) PARTITION BY HASH ("row");$/\1);/'
+        echo "CREATE EXTENSION postgres_fdw;"
+        part=0
+        for name in one two; do
+            echo "CREATE SERVER $name FOREIGN DATA WRAPPER postgres_fdw OPTIONS (host '$room/$name', dbname 'postgres');"
+            echo "CREATE USER MAPPING FOR postgres SERVER $name OPTIONS (user 'postgres');"
+            echo "CREATE FOREIGN TABLE spread_$name PARTITION OF spread FOR VALUES WITH (MODULUS 2, REMAINDER $part) SERVER $name OPTIONS (schema_name 'public', table_name 't');"
+            part=$((part + 1))
+        done
+    } >"$room/spread"
+    ask_postgres third -f "$room/spread"
+    ask_postgres third -f "$room/rows"
+    echo "cluster: postgres: $(ask_postgres one -c 'SELECT count(*) FROM t') rows on one server, $(ask_postgres two -c 'SELECT count(*) FROM t') on the other"
+    ask_postgres third -f "$room/script" >"$room/said" 2>"$room/errors" || true
+    compare postgres
+    # Comparisons of texts in the collation "C" stay at the server that is asked: postgres_fdw hands none on.
+    seen=$(grep -c 'FROM public\.t WHERE ' "$room/said" || true)
+    handed_on postgres $((seen / 2)) "each server" $((count / 4))
+}
+
+run_clickhouse
+run_postgres
+echo "cluster: $expressions expressions, $failed failed"
+[ "$failed" -eq 0 ]
