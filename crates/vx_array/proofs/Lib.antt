@@ -9,3 +9,5 @@ pub mod Mapped
 pub mod Joined
 pub mod Picked
 pub mod Found
+pub mod Written
+pub mod Counts

@@ -1,9 +1,9 @@
 -- Rows that are shown, and those that are null.
 use Rattle.std.proofs.Common.{◌≡◌, ℕ, ◌<◌, ◌≤◌, List, [], ◌∷◌, map, length, get_or, take, drop, refl, sym, ap, ◌∙◌, arith, zero, suc, Bool, true, false}
-use Rattle.std.specs.Prelude.{if◌then◌else◌, ◌&&◌, min, nat_lt}
+use Rattle.std.specs.Prelude.{if◌then◌else◌, ◌&&◌, min, nat_lt, not}
 use Rattle.std.proofs.lemmas.List.{length-map, get_or-map, get_or_past}
 use Rattle.std.proofs.lemmas.Bool.Decides.{nat_tests}
-use Rattle.vx_value.specs.Types.{Datum, null}
+use Rattle.vx_value.specs.Types.{Datum, null, is_null_datum}
 use Rattle.vx_array.specs.declared.validity.Validity.{Validity}
 use Rattle.vx_array.specs.declared.validity.Validity.TheVariants.{All, Nothing, Rows}
 use Rattle.vx_array.specs.Shown.{masked, shown, is_valid, shown_count, HasRows}
@@ -118,3 +118,8 @@ pub rows_within : {A : Type 0} (f : A → Datum) (v : Validity) (xs : List A) (l
 rows_within f All xs ls n is le = (omega (arith, ap length is, length-map xs f), tt)
 rows_within f Nothing xs ls n is le = (omega (arith, ap length is, length-map (map f xs) (λ _. null), length-map xs f), tt)
 rows_within f (Rows bits) xs ls n is le = (omega (arith, ap length is, length-masked bits (map f xs), length-map xs f), omega (arith, ap length is, length-masked bits (map f xs)))
+
+-- a row is null just where none that isn't null stands there
+pub null_unless : (there : Bool) (d : Datum) → (there ≡ true → is_null_datum d ≡ false) → (there ≡ false → null ≡ d) → not there ≡ is_null_datum d
+null_unless true d is isnt = sym (is refl)
+null_unless false d is isnt = ap is_null_datum (isnt refl)

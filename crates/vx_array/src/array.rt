@@ -1,16 +1,18 @@
 // Columns in typed buffers.
-ghost use Rattle.std.specs.Prelude.{◌≡◌, ◌≤◌, ◌<◌, ◌+◌, ◌==◌, IfOk, None, Ok, drop, get_or, length, map, take};
+ghost use Rattle.std.specs.Prelude.{◌≡◌, ◌≤◌, ◌<◌, ◌+◌, ◌==◌, IfOk, None, Ok, count_by, drop, get_or, length, map, take};
 ghost use Rattle.vx_value.specs.Columns.{batch, first_misfit};
 ghost use Rattle.vx_value.specs.Returns.{ReturnsOrOom};
-ghost use Rattle.vx_value.specs.Types.{null};
+ghost use Rattle.vx_value.specs.Types.{is_null_datum, null};
 ghost use Rattle.vx_value.specs.Views.{type_of, value_of};
 ghost use Rattle.vx_array.specs.Arrays.{batch_or_misfit};
 ghost use Rattle.vx_array.specs.Rows.{lanes_rows};
 
 use crate::lanes::Lanes;
 use crate::part::Part;
+use crate::texts::write_rows;
 use crate::values::{to_values, value_at};
 use std::alloc::{AllocError, Global};
+use std::fmt;
 use std::marker::Model;
 use std::sync::Arc;
 use vx_types::{Column, DType, Value, VortexError, VortexResult};
@@ -127,6 +129,20 @@ impl Array {
         Ok(value)
     }
 
+    /// Whether the row is null, as one is that isn't there.
+    pub fn is_null(&self, i: usize) -> bool
+        ensures { result ≡ is_null_datum (get_or self.now.rows i null) }
+    {
+        self.lanes().is_null(i)
+    }
+
+    /// How many rows are null. Looks at each row.
+    pub fn null_count(&self) -> usize
+        ensures { result ≡ count_by is_null_datum self.now.rows }
+    {
+        self.lanes().null_count()
+    }
+
     /// So many rows from one on, in the same buffers. Asks rows that are there, and refuses with
     /// `OutOfMemory` (1) alone.
     pub fn slice(&self, from: usize, len: usize) -> VortexResult<Array>
@@ -147,6 +163,18 @@ impl Clone for Array {
             dtype: self.dtype.clone()?,
             lanes: self.lanes.clone()?,
         })
+    }
+}
+
+// The text is that of a column of the same rows, and is written from the buffers.
+impl fmt::Display for Array {
+    ghost use Rattle.std.specs.Prelude.{Some};
+    ghost use Rattle.vx_value.specs.ValueTexts.{column_text};
+
+    ghost output = { λ a. Some (column_text a.rows a.type) };
+
+    fn fmt<W: fmt::Write>(&self, f: &mut fmt::Formatter<W>) -> fmt::Result {
+        write_rows(&self.lanes, &self.dtype, f)
     }
 }
 

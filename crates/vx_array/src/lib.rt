@@ -7,10 +7,12 @@ mod items;
 mod lanes;
 pub mod laws;
 mod masks;
+mod nulls;
 mod numbers;
 mod part;
 mod spans;
 mod stretch;
+mod texts;
 mod validity;
 mod values;
 

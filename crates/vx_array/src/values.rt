@@ -75,7 +75,7 @@ pub fn to_values(alloc: Global, lanes: &Lanes) -> Result<Vec<Value>, AllocError>
 }
 
 // Whether there is a row that isn't null.
-fn has_row(validity: &Validity, count: usize, i: usize) -> bool
+pub(crate) fn has_row(validity: &Validity, count: usize, i: usize) -> bool
     ensures { result ≡ (nat_lt i count && is_valid validity.now i) }
 {
     i < count && validity.is_valid(i)
@@ -103,7 +103,7 @@ fn copy_at(values: &[Value], i: usize) -> Result<Value, AllocError>
 }
 
 // The truth value at that place, where it is valid.
-fn truth_at(bits: &BitPart, validity: &Validity, i: usize) -> Value
+pub(crate) fn truth_at(bits: &BitPart, validity: &Validity, i: usize) -> Value
     ensures { value_of result ≡ get_or (shown validity.now (map bool bits.now)) i null }
 {
     if has_row(validity, bits.len(), i) {
@@ -113,7 +113,7 @@ fn truth_at(bits: &BitPart, validity: &Validity, i: usize) -> Value
 }
 
 // The number at that place, where it is valid.
-fn number_at(numbers: &Numbers, validity: &Validity, i: usize) -> Value
+pub(crate) fn number_at(numbers: &Numbers, validity: &Validity, i: usize) -> Value
     ensures { value_of result ≡ get_or (shown validity.now (map int (numbers_in numbers.now))) i null }
 {
     if has_row(validity, numbers.len(), i) {
