@@ -1,5 +1,6 @@
 pub mod Positions
 pub mod Inputs
+pub mod Spans
 pub mod Pages
 pub mod PlanData
 pub mod PlanPages

@@ -1,10 +1,12 @@
 // The texts that a command is given, read.
-ghost use Rattle.std.specs.Prelude.{◌≡◌, ℕ, List, IfOk, IfErr, Ok};
+ghost use Rattle.std.specs.Prelude.{◌≡◌, ℕ, List, Err, IfOk, IfErr, Ok};
 ghost use Rattle.vx_value.specs.Types.{LogicalType};
 ghost use Rattle.vx_value.specs.Views.{type_of};
 ghost use Rattle.vx_tree.specs.Views.{tree_of, bound_of};
 ghost use Rattle.vx_tree.specs.Trees.{Over, WellTyped, node_type, typed, unbound};
 ghost use Rattle.vx_source_over.specs.Reading.{IsReadOpen, IsWritten, RefusesOver};
+ghost use Rattle.vx_places.specs.Refusals.{IsFirstRefusal};
+ghost use Rattle.vx_command_pages.specs.Spans.{IsRefusalAt};
 ghost use Rattle.vx_command_pages.specs.Inputs.{Reads, ReadsAs, ReadsType, IsUnread, IsUnreadOver, IsUnreadSchema, IsUnreadQuery, IsRefusal, IsRefusedOver, IsRefusedWith};
 
 use crate::error::{CommandError, UnfitLiteral};
@@ -13,7 +15,7 @@ use crate::remedy::Remedy;
 use crate::report::Span;
 use crate::spans::{places_at, span_at};
 use std::alloc::Global;
-use vx_places::{first_refusal_at, node_at};
+use vx_places::{Place, first_refusal_at, node_at};
 use vx_source::{
     DEFAULT_NESTING, OverError, ParseError, Placed, Written, over, parse_type, parse_with_places,
     read_open,
@@ -135,6 +137,7 @@ pub fn bind(
     ensures well_typed { IfOk result (λ b. WellTyped (bound_of b.value)) }
     ensures over { IfOk result (λ b. Over (bound_of b.value) (type_of scope.now) × (unbound (bound_of b.value) ≡ tree_of placed.now.expression)) }
     ensures error { IfErr result (λ c. IsRefusal (tree_of placed.now.expression) (type_of scope.now) c) }
+    ensures place { IfErr result (λ c. IsRefusalAt placed.now (type_of scope.now) c) }
 {
     match placed.expression.bind(alloc, scope) {
         Ok(bound) => Ok(Box::new(alloc, bound)?),
@@ -142,31 +145,35 @@ pub fn bind(
     }
 }
 
-/// The error of that refusal, with the bytes that the first refused node was read from; those of
-/// the whole expression where the node can't be told for want of memory. Asks the first refusal of
-/// binding, or want of memory.
+/// The error of that refusal, with the bytes that the first refused node was read from; that memory ran
+/// out, where it does while the node is looked for. Asks the first refusal of binding, or want of memory.
 pub fn refused(alloc: Global, placed: &Placed, scope: &DType, refusal: VortexError) -> CommandError
     requires { IsRefusedWith (tree_of placed.now.expression) (type_of scope.now) refusal }
-    ensures { IsRefusal (tree_of placed.now.expression) (type_of scope.now) result }
+    ensures refusal { IsRefusal (tree_of placed.now.expression) (type_of scope.now) result }
+    ensures place { IsRefusalAt placed.now (type_of scope.now) result }
 {
-    match refusal {
-        VortexError::OutOfMemory => CommandError::OutOfMemory,
-        refusal => {
-            let path = refused_path(alloc, placed, scope);
-            CommandError::Refused {
-                span: span_at(&placed.places, path.as_slice()),
-                remedy: remedy_at(alloc, placed, scope, path.as_slice(), &refusal),
-                refusal,
-            }
-        }
+    if let VortexError::OutOfMemory = refusal {
+        return CommandError::OutOfMemory;
+    }
+    match first_refusal_at(alloc, &placed.expression, scope) {
+        Ok(Some(place)) => refused_at(alloc, placed, scope, place),
+        _ => CommandError::OutOfMemory,
     }
 }
 
-// The way down to the first refused node, or to the whole expression for want of memory.
-fn refused_path(alloc: Global, placed: &Placed, scope: &DType) -> Vec<usize> {
-    match first_refusal_at(alloc, &placed.expression, scope) {
-        Ok(Some(place)) => place.path,
-        _ => Vec::new(alloc),
+// The error of the refusal at that place.
+fn refused_at(alloc: Global, placed: &Placed, scope: &DType, place: Place) -> CommandError
+    requires typed { typed (tree_of placed.now.expression) (type_of scope.now) ≡ Err place.refusal }
+    requires first { IsFirstRefusal (type_of scope.now) (tree_of placed.now.expression) place.path.items place.refusal }
+    ensures refusal { IsRefusal (tree_of placed.now.expression) (type_of scope.now) result }
+    ensures place { IsRefusalAt placed.now (type_of scope.now) result }
+{
+    let Place { path, refusal, .. } = place;
+    let path = path.as_slice();
+    CommandError::Refused {
+        span: span_at(&placed.places, path),
+        remedy: remedy_at(alloc, placed, scope, path, &refusal),
+        refusal,
     }
 }
 

@@ -9,6 +9,7 @@ ghost use Rattle.vx_query_split.specs.Division.{parts_of};
 ghost use Rattle.vx_rewrite_rule_laws.specs.Folding.{FoldingRuleAt};
 ghost use Rattle.vx_scan.specs.Plans.{IsPlanFor};
 ghost use Rattle.vx_command_pages.specs.Inputs.{IsCommandError, IsRefusal};
+ghost use Rattle.vx_command_pages.specs.Spans.{IsRefusalAt};
 ghost use Rattle.vx_command_pages.specs.Pages.{line};
 ghost use Rattle.vx_command_pages.specs.PlanData.{plan_data};
 ghost use Rattle.vx_command_pages.specs.PlanPages.{IsPlanPage, paths_line};
@@ -41,6 +42,7 @@ pub fn plan_page(alloc: Global, expression: &str, schema: &str) -> Result<String
 pub fn plan_of(alloc: Global, placed: &Placed, scope: &DType) -> Result<Box<ScanPlan>, CommandError>
     ensures planned { IfOk result (λ p. IsPlanFor FoldingRuleAt (tree_of placed.now.expression) (type_of scope.now) (type_of p.value.scope) (bound_of p.value.tree)) }
     ensures error { IfErr result (λ c. IsRefusal (tree_of placed.now.expression) (type_of scope.now) c) }
+    ensures place { IfErr result (λ c. IsRefusalAt placed.now (type_of scope.now) c) }
 {
     match plan_with(alloc, &FoldingRules, &placed.expression, scope) {
         Ok(plan) => Ok(Box::new(alloc, plan)?),

@@ -6,6 +6,7 @@ ghost use Rattle.vx_tree.specs.Trees.{typed};
 ghost use Rattle.vx_tree.specs.Views.{tree_of};
 ghost use Rattle.vx_source_types.specs.TypeTexts.{type_source};
 ghost use Rattle.vx_command_pages.specs.Inputs.{IsCommandError, IsRefusal};
+ghost use Rattle.vx_command_pages.specs.Spans.{IsRefusalAt};
 ghost use Rattle.vx_command_pages.specs.Pages.{IsTypePage, line};
 
 use crate::error::CommandError;
@@ -28,6 +29,7 @@ pub fn type_page(alloc: Global, expression: &str, schema: &str) -> Result<String
 fn type_line(alloc: Global, placed: &Placed, scope: &DType) -> Result<String, CommandError>
     ensures prints { IfOk result (λ page. (t : LogicalType) × (typed (tree_of placed.now.expression) (type_of scope.now) ≡ Ok t) × (string_bytes page ≡ line (type_source t))) }
     ensures error { IfErr result (λ c. IsRefusal (tree_of placed.now.expression) (type_of scope.now) c) }
+    ensures place { IfErr result (λ c. IsRefusalAt placed.now (type_of scope.now) c) }
 {
     let bound = bind(alloc, placed, scope)?;
     Ok(format!(in alloc; "{}\n", TypeText(bound.dtype()))?)

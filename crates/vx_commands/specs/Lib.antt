@@ -3,3 +3,4 @@ pub mod Chunked
 pub mod Commands
 pub mod SqlRuns
 pub mod Selected
+pub mod Spans

@@ -4,6 +4,7 @@ ghost use Rattle.std.specs.Io.KnownBytes.{Appends};
 ghost use Rattle.std.specs.NonZero.{non_zero_usize_get};
 ghost use Rattle.vx_tree.specs.Views.{tree_of};
 ghost use Rattle.vx_commands.specs.Chunked.{IsKeptByChunks, IsKeptByChunksUntil, tally_line};
+ghost use Rattle.vx_commands.specs.Spans.{IsToldAt};
 
 use crate::error::RowsError;
 use crate::evaluated::stopped;
@@ -43,6 +44,7 @@ pub fn filter_by_chunks<R: RecordReader, W: Write, E: Write>(
         (W.contents out.old) (W.contents out.new) (E.contents err.old) (E.contents err.new)) }
     ensures error { IfErr result (λ c. IsKeptByChunksUntil R.leaves (R.scope records.old) (R.head records.old) (tree_of query.now.placed.now.expression) (non_zero_usize_get query.now.size) query.now.limit c records.old records.new
         (W.contents out.old) (W.contents out.new) (E.contents err.old) (E.contents err.new)) }
+    ensures place { IfErr result (λ c. IsToldAt query.now.placed.now (R.scope records.old) c) }
 {
     let tree = match condition(alloc, query.placed, records.dtype()) {
         Ok(tree) => tree,

@@ -2,6 +2,7 @@
 ghost use Rattle.std.specs.Prelude.{IfErr, IfOk};
 ghost use Rattle.vx_tree.specs.Views.{tree_of};
 ghost use Rattle.vx_commands.specs.Selected.{IsCounted, IsCountedUntil};
+ghost use Rattle.vx_commands.specs.Spans.{IsToldAt};
 
 use crate::error::RowsError;
 use crate::evaluated::stopped;
@@ -19,6 +20,7 @@ pub fn count<R: RecordReader>(
 ) -> Result<u64, RowsError>
     ensures counted { IfOk result (λ n. IsCounted R.leaves (R.scope records.old) (tree_of query.now.placed.now.expression) query.now.limit records.old records.new n) }
     ensures error { IfErr result (λ c. IsCountedUntil R.leaves (R.scope records.old) (tree_of query.now.placed.now.expression) c records.old) }
+    ensures place { IfErr result (λ c. IsToldAt query.now.placed.now (R.scope records.old) c) }
 {
     let tree = match condition(alloc, query.placed, records.dtype()) {
         Ok(tree) => tree,

@@ -2,8 +2,8 @@
 ghost use Rattle.std.specs.Prelude.{◌≡◌, IfErr, OnOk};
 ghost use Rattle.vx_tree.specs.Views.{tree_of};
 ghost use Rattle.vx_commands.specs.Rows.{IsMeant, IsMeantUntil};
+ghost use Rattle.vx_commands.specs.Spans.{IsToldAt, records_span};
 ghost use Rattle.vx_commands.specs.declared.error.RowsError.TheVariants.{Records};
-ghost use Rattle.vx_command_pages.specs.declared.report.Span.{Span};
 
 use crate::error::RowsError;
 use crate::records_query::RecordsQuery;
@@ -24,6 +24,7 @@ pub fn evaluate<R: RecordReader, W: RowWriter>(
 ) -> Result<(), RowsError>
     ensures meant { OnOk result (IsMeant R.leaves (R.scope records.old) (tree_of query.now.placed.now.expression) query.now.limit records.old records.new (W.written out.old) (W.written out.new)) }
     ensures error { IfErr result (λ c. IsMeantUntil R.leaves (R.scope records.old) (tree_of query.now.placed.now.expression) c records.old (W.written out.old) (W.written out.new)) }
+    ensures place { IfErr result (λ c. IsToldAt query.now.placed.now (R.scope records.old) c) }
 {
     let tree = match bind(alloc, query.placed, records.dtype()) {
         Ok(tree) => tree,
@@ -35,9 +36,10 @@ pub fn evaluate<R: RecordReader, W: RowWriter>(
     }
 }
 
-/// The error of what stopped going over the records.
+/// The error of what stopped going over the records, with the bytes of the node that faults, else of the
+/// whole expression.
 pub(crate) fn stopped(placed: &Placed, error: RecordsError) -> RowsError
-    ensures { (span : Span) × (result ≡ Records error span) }
+    ensures { result ≡ Records error (records_span placed.now error) }
 {
     let span = match &error {
         RecordsError::Fault(fault) => span_at(&placed.places, fault.path.as_slice()),

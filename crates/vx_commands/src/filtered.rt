@@ -5,6 +5,7 @@ ghost use Rattle.vx_fn.specs.Functions.{is_truth};
 ghost use Rattle.vx_tree.specs.Trees.{node_type};
 ghost use Rattle.vx_tree.specs.Views.{bound_of, tree_of};
 ghost use Rattle.vx_commands.specs.Rows.{IsBoundCondition, IsFiltered, IsKeptUntil, IsNoCondition, IsNotBool};
+ghost use Rattle.vx_commands.specs.Spans.{IsToldAt};
 
 use crate::error::RowsError;
 use crate::evaluated::stopped;
@@ -30,6 +31,7 @@ pub fn filter<R: RecordReader, W: Write>(
 ) -> Result<(), RowsError>
     ensures kept { OnOk result (IsFiltered R.leaves (R.scope records.old) (R.head records.old) (tree_of query.now.placed.now.expression) query.now.limit records.old records.new (W.contents out.old) (W.contents out.new)) }
     ensures error { IfErr result (λ c. IsKeptUntil R.leaves (R.scope records.old) (R.head records.old) (tree_of query.now.placed.now.expression) c records.old (W.contents out.old) (W.contents out.new)) }
+    ensures place { IfErr result (λ c. IsToldAt query.now.placed.now (R.scope records.old) c) }
 {
     let tree = match condition(alloc, query.placed, records.dtype()) {
         Ok(tree) => tree,
@@ -51,6 +53,7 @@ pub fn condition(
     ensures bound { IfOk result (λ tree. IsBoundCondition (tree_of placed.now.expression) (type_of scope.now) (bound_of tree.value)) }
     ensures truth { IfOk result (λ tree. IsTrue (is_truth (node_type (bound_of tree.value)))) }
     ensures error { IfErr result (λ c. IsNoCondition (tree_of placed.now.expression) (type_of scope.now) c) }
+    ensures place { IfErr result (λ c. IsToldAt placed.now (type_of scope.now) c) }
 {
     let tree = match bind(alloc, placed, scope) {
         Ok(tree) => tree,

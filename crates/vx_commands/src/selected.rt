@@ -2,6 +2,7 @@
 ghost use Rattle.std.specs.Prelude.{IfErr, OnOk};
 ghost use Rattle.vx_tree.specs.Views.{tree_of};
 ghost use Rattle.vx_commands.specs.Selected.{IsSelected, IsSelectedUntil};
+ghost use Rattle.vx_commands.specs.Spans.{IsSelectToldAt};
 
 use crate::error::RowsError;
 use crate::evaluated::stopped;
@@ -44,6 +45,7 @@ pub fn select<R: RecordReader, W: RowWriter>(
 ) -> Result<(), SelectStop>
     ensures selected { OnOk result (IsSelected R.leaves (R.scope records.old) (tree_of query.now.placed.now.expression) (tree_of query.now.value.now.expression) query.now.limit records.old records.new (W.written out.old) (W.written out.new)) }
     ensures error { IfErr result (λ c. IsSelectedUntil R.leaves (R.scope records.old) (tree_of query.now.placed.now.expression) (tree_of query.now.value.now.expression) c records.old (W.written out.old) (W.written out.new)) }
+    ensures place { IfErr result (λ c. IsSelectToldAt query.now.placed.now query.now.value.now (R.scope records.old) c) }
 {
     let tree = match condition(alloc, query.placed, records.dtype()) {
         Ok(tree) => tree,
