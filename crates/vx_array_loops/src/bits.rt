@@ -51,18 +51,19 @@ impl Bits {
         ensures each { IfOk result (λ b. (k : ℕ) (x : Bool) → k < len → x ≡ get_or b k false → F.post f k x) }
     {
         let mut bits = Bits::zeros(alloc, len)?;
-        bits.write(f);
+        bits.write(false, f);
         Ok(bits)
     }
 
-    /// Writes what the function gives at each row.
+    /// Writes what the function gives at each row, in code for tests of wide numbers, of more than 16 bits,
+    /// or of others.
     #[inline(always)]
-    pub fn write<F: Fn(usize) -> bool>(&mut self, f: F)
+    pub fn write<F: Fn(usize) -> bool>(&mut self, wide: bool, f: F)
         requires { (k : ℕ) → k < length self.old → F.pre f k }
         ensures long { length self.new ≡ length self.old }
         ensures each { (k : ℕ) (x : Bool) → k < length self.old → x ≡ get_or self.new k false → F.post f k x }
     {
-        write_words(self.words.as_mut_slice(), self.len, &f);
+        write_words(self.words.as_mut_slice(), self.len, wide, &f);
     }
 
     /// The number of rows.

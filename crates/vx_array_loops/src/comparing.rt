@@ -1,5 +1,5 @@
 // Numbers compared, each with one number or with the one beside it.
-ghost use Rattle.std.specs.Prelude.{◌≡◌, ◌<◌, length, map, get_or, false};
+ghost use Rattle.std.specs.Prelude.{◌≡◌, ◌<◌, length, map, get_or, false, pos};
 ghost use Rattle.std.specs.Ordering.{int_cmp};
 ghost use Rattle.std.specs.Simd.Lanes.{zip2};
 ghost use Rattle.vx_array_loops.specs.Comparisons.{holds};
@@ -29,7 +29,18 @@ fn compare_by<T: Number>(rows: &mut Bits, comparison: Comparison, numbers: &[T],
     requires { length rows.old ≡ length numbers.now }
     ensures { rows.new ≡ map (λ x. holds comparison (int_cmp (T.number x) (T.number other))) numbers.now }
 {
-    rows.write(|i| holds_at(comparison, numbers, i, other));
+    rows.write(is_wide::<T>(), |i| holds_at(comparison, numbers, i, other));
+}
+
+// Whether the type may have numbers of more than 16 bits, whose tests are written as those of wide ones.
+#[inline(always)]
+fn is_wide<T: Number>() -> bool
+    ensures { result ≡ false → T.fits (pos 65536) ≡ false }
+{
+    match T::narrowed(65536) {
+        Some(_) => true,
+        None => false,
+    }
 }
 
 // Whether the comparison holds of the number at that place and the one.
@@ -65,7 +76,10 @@ fn both_by<T: Number>(rows: &mut Bits, comparison: Comparison, numbers: &[T], ot
     requires others { length rows.old ≡ length others.now }
     ensures { rows.new ≡ zip2 (λ x y. holds comparison (int_cmp (T.number x) (T.number y))) numbers.now others.now }
 {
-    rows.write(|i| holds_beside(comparison, numbers, i, others));
+    rows.write(
+        is_wide::<T>(),
+        |i| holds_beside(comparison, numbers, i, others),
+    );
 }
 
 // Whether the comparison holds of the two numbers at that place.

@@ -1,6 +1,6 @@
 use Rattle.std.proofs.Common.{◌+◌, arith, rules}
 use Rattle.vx_array_loops.proofs.WordBits.{more_bytes}
-use Rattle.vx_array_loops.proofs.words.word_of.Goals as goal
+use Rattle.vx_array_loops.proofs.words.narrow_word_of.Goals as goal
 
 pub loop-i-preserved : goal.loop-i-preserved
 loop-i-preserved g c = record {

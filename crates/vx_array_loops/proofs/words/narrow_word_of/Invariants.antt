@@ -1,5 +1,5 @@
 use Rattle.std.proofs.Common.{◌≡◌, ◌<◌, ◌+◌, ◌==◌, ℕ, Bool, get_or, length}
-use Rattle.vx_array_loops.proofs.words.word_of.Given as goal
+use Rattle.vx_array_loops.proofs.words.narrow_word_of.Given as goal
 
 abbrev pub invariant-loop-i : goal.invariant-loop-i
 invariant-loop-i g l = record {
