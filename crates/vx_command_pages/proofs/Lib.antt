@@ -1,4 +1,5 @@
 mod Floats
+mod SpansBelow
 mod Unbinding
 mod Partitions
 mod Statements
