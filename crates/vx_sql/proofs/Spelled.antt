@@ -1,5 +1,5 @@
 -- Characters inside texts, one after another.
-use Rattle.std.proofs.Common.{◌≡◌, ℕ, List, [], ◌∷◌, ◌++◌, codes, sym, ap, ◌∙◌, append_assoc}
+use Rattle.std.proofs.Common.{◌≡◌, ℕ, List, [], ◌∷◌, ◌++◌, codes, sym, ap, ◌∙◌, append_assoc, append-nil}
 use Rattle.std.specs.List.{flat_map}
 use Rattle.std.specs.Prelude.{encode_utf8_all}
 use Rattle.std.proofs.lemmas.Grind.{flat_map-append}
@@ -39,3 +39,9 @@ pub written-enclosed_pair : (q : Quoting) (c d : ℕ) → ((codes "[" ++ encode_
 unfolding lib.Utf8.encode
 written-enclosed_pair q c d =
     ap (λ x. 91 ∷ x) (append_assoc (encode_utf8_all (inside q c)) _ _ ∙ ap (λ x. encode_utf8_all (inside q c) ++ x) (sym (encodes-append (inside q d) (93 ∷ []))) ∙ sym (encodes-append (inside q c) (inside q d ++ 93 ∷ [])))
+
+-- ---- two characters
+
+pub written-pair : (q : Quoting) (c d : ℕ) → encode_utf8_all (inside q c) ++ encode_utf8_all (inside q d) ≡ written q (c ∷ d ∷ [])
+written-pair q c d =
+    ap (λ xs. encode_utf8_all (inside q c) ++ encode_utf8_all xs) (sym (append-nil (inside q d))) ∙ sym (encodes-append (inside q c) (inside q d ++ []))
