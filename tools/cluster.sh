@@ -46,14 +46,6 @@ write_plans() {
     "$program" plans answers "$1" "$seed" "$count" | sort >"$room/answers"
 }
 
-# ClickHouse hands a statement on without the quotes of names, but where they are no words: its shards reject a column
-# that is called `select`, so it has another name here.
-rename_column() {
-    for file in columns rows script; do
-        sed -i 's/`select`/`selects`/g; s/"select"/"selects"/g' "$room/$file"
-    done
-}
-
 # Keeps of the rows that an engine gave those of which what is left is true, and compares them with the source's.
 # Each row begins with its number, and the word `plan` stands before the rows of each expression.
 compare() {
@@ -97,7 +89,6 @@ run_clickhouse() {
         return 0
     }
     write_plans clickhouse
-    rename_column
     for port in "$first" "$second" "$asker"; do
         ask_clickhouse "$port" --multiquery <"$room/columns"
     done
