@@ -38,12 +38,12 @@ add_package() {
 
 # Writes the plans for an engine: the table's statements, without and with its rows, and the rest.
 write_plans() {
-    "$program" plans "$1" table "$seed" "$count" >"$room/table"
+    "$program" plans table "$1" "$seed" "$count" >"$room/table"
     sed '/^INSERT INTO /,$d' "$room/table" >"$room/columns"
     sed -n '/^INSERT INTO /,$p' "$room/table" | sed 's/^INSERT INTO t /INSERT INTO spread /' >"$room/rows"
-    "$program" plans "$1" script "$seed" "$count" >"$room/script"
-    "$program" plans "$1" left "$seed" "$count" | sort >"$room/left"
-    "$program" plans "$1" answers "$seed" "$count" | sort >"$room/answers"
+    "$program" plans script "$1" "$seed" "$count" >"$room/script"
+    "$program" plans left "$1" "$seed" "$count" | sort >"$room/left"
+    "$program" plans answers "$1" "$seed" "$count" | sort >"$room/answers"
 }
 
 # Keeps of the rows that an engine gave those of which what is left is true, and compares them with the source's.
@@ -160,9 +160,10 @@ run_postgres() {
     echo "cluster: postgres: $(ask_postgres one -c 'SELECT count(*) FROM t') rows on one server, $(ask_postgres two -c 'SELECT count(*) FROM t') on the other"
     ask_postgres third -f "$room/script" >"$room/said" 2>"$room/errors" || true
     compare postgres
-    # Comparisons of texts in the collation "C" stay at the server that is asked: postgres_fdw hands none on.
+    # A comparison of texts in the collation "C" stays at the server that is asked, beside the rest of the condition that is
+    # handed on: postgres_fdw hands on no collation. Of a condition that is known to be false nothing is.
     seen=$(grep -c 'FROM public\.t WHERE ' "$room/said" || true)
-    handed_on postgres $((seen / 2)) "each server" $((count / 4))
+    handed_on postgres $((seen / 2)) "each server" $((count * 3 / 4))
 }
 
 run_clickhouse

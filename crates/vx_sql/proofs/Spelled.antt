@@ -1,9 +1,8 @@
 -- Characters inside texts, one after another.
-use Rattle.std.proofs.Common.{◌≡◌, ℕ, List, [], ◌∷◌, ◌++◌, codes, sym, ap, ◌∙◌, append_assoc}
+use Rattle.std.proofs.Common.{◌≡◌, ℕ, List, [], ◌∷◌, ◌++◌, codes, sym, ap, ◌∙◌, append_assoc, append-nil}
 use Rattle.std.specs.List.{flat_map}
 use Rattle.std.specs.Prelude.{encode_utf8_all}
 use Rattle.std.proofs.lemmas.Grind.{flat_map-append}
-use Rattle.std.proofs.lemmas.List.{append-nil}
 use Rattle.std.proofs.lemmas.Str.{encodes-append}
 use Rattle.vx_sql.specs.declared.quotes.Quoting.{Quoting}
 use Rattle.vx_sql.specs.Quotes.{inside}
@@ -41,6 +40,8 @@ unfolding lib.Utf8.encode
 written-enclosed_pair q c d =
     ap (λ x. 91 ∷ x) (append_assoc (encode_utf8_all (inside q c)) _ _ ∙ ap (λ x. encode_utf8_all (inside q c) ++ x) (sym (encodes-append (inside q d) (93 ∷ []))) ∙ sym (encodes-append (inside q c) (inside q d ++ 93 ∷ [])))
 
--- a character, and one before it that makes it stand for itself
-pub written-escaped : (q : Quoting) (e c : ℕ) → encode_utf8_all (inside q e) ++ encode_utf8_all (inside q c) ≡ written q (e ∷ c ∷ [])
-written-escaped q e c = sym (encodes-append (inside q e) (flat_map (inside q) (c ∷ [])) ∙ ap (λ x. encode_utf8_all (inside q e) ++ encode_utf8_all x) (append-nil (inside q c)))
+-- ---- two characters
+
+pub written-pair : (q : Quoting) (c d : ℕ) → encode_utf8_all (inside q c) ++ encode_utf8_all (inside q d) ≡ written q (c ∷ d ∷ [])
+written-pair q c d =
+    ap (λ xs. encode_utf8_all (inside q c) ++ encode_utf8_all xs) (sym (append-nil (inside q d))) ∙ sym (encodes-append (inside q c) (inside q d ++ []))

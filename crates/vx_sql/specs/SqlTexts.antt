@@ -62,6 +62,14 @@ binary_sql d t is_text loses and_also a b = logic_sql loses (codes "AND") (codes
 binary_sql d t is_text loses or_else a b = logic_sql loses (codes "OR") (codes "greatest") a b
 binary_sql d t is_text loses adds a b = added_sql d t a b
 
+-- a truth value turned round. ClickHouse hands NOT on to its shards without the brackets around it, so there the value is compared with 0
+abbrev pub not_sql : Dialect → List ℕ → List ℕ
+not_sql Postgres c = codes "(NOT " ++ (c ++ codes ")")
+not_sql Sqlite c = codes "(NOT " ++ (c ++ codes ")")
+not_sql DuckDb c = codes "(NOT " ++ (c ++ codes ")")
+not_sql Spark c = codes "(NOT " ++ (c ++ codes ")")
+not_sql ClickHouse c = codes "(" ++ (c ++ codes " = 0)")
+
 -- one text below another, or not above it
 abbrev pub below_sql : Bool → List ℕ → List ℕ → List ℕ
 below_sql strict a b = a ++ (codes " " ++ (bound_text strict ++ (codes " " ++ b)))
@@ -209,7 +217,7 @@ own_sql d t (select selection) bs cs = []
 own_sql d t fill_null bs cs = codes "COALESCE(" ++ (get_or cs 0 [] ++ (codes ", " ++ (get_or cs 1 [] ++ codes ")")))
 own_sql d t zip bs cs = choice_sql (get_or cs 2 []) (get_or cs 0 []) (codes " ELSE " ++ (get_or cs 1 [] ++ codes " END"))
 own_sql d t (binary op) bs cs = binary_sql d t (has_text_first bs) (loses_operands d bs) op (get_or cs 0 []) (get_or cs 1 [])
-own_sql d t logical_not bs cs = codes "(NOT " ++ (get_or cs 0 [] ++ codes ")")
+own_sql d t logical_not bs cs = not_sql d (get_or cs 0 [])
 own_sql d t (between ls us) bs cs = between_sql d (has_text_first bs) (loses_bounds d bs) ls us (get_or cs 0 []) (get_or cs 1 []) (get_or cs 2 [])
 own_sql d t (like negated ci) bs cs = match_sql d negated ci (get_or cs 0 []) (second_pattern d ci bs)
 own_sql d t is_null bs cs = null_test d (has_struct_first bs) true (get_or cs 0 [])

@@ -93,17 +93,17 @@ impl Spelling {
     {
         let escape = like_escape(self.dialect);
         if is_like_sign(escape, c) {
-            self.write_escaped(escape, c, f)
+            self.write_pair(escape, c, f)
         } else {
             self.quoting.write_inside(c, f)
         }
     }
 
-    fn write_escaped<W: Write>(self, escape: char, c: char, f: &mut Formatter<W>) -> fmt::Result
-        ensures { WritesOnOk W.write_str_gives f.old result (encode_utf8_all (flat_map (inside self.quoting) (escape ∷ c ∷ []))) f.new }
+    fn write_pair<W: Write>(self, first: char, second: char, f: &mut Formatter<W>) -> fmt::Result
+        ensures { WritesOnOk W.write_str_gives f.old result (encode_utf8_all (flat_map (inside self.quoting) (first ∷ second ∷ []))) f.new }
     {
-        self.quoting.write_inside(escape, f)?;
-        self.quoting.write_inside(c, f)
+        self.quoting.write_inside(first, f)?;
+        self.quoting.write_inside(second, f)
     }
 
     fn write_glob<W: Write>(self, part: Part, f: &mut Formatter<W>) -> fmt::Result

@@ -1,12 +1,12 @@
 // The texts of operators and of BETWEEN.
-ghost use Rattle.std.specs.Prelude.{◌≡◌, ◌<◌, ◌++◌, [], length, get_or, codes};
+ghost use Rattle.std.specs.Prelude.{◌≡◌, ◌<◌, ◌++◌, ℕ, List, [], length, get_or, codes};
 ghost use Rattle.std.specs.Fmt.{WritesOnOk};
 ghost use Rattle.vx_value.specs.Views.{type_of};
 ghost use Rattle.vx_fn.specs.Texts.{operator_sql};
 ghost use Rattle.vx_fn.specs.Views.{is_strict, operation_of};
 ghost use Rattle.vx_sql.specs.Children.{has_text_first};
 ghost use Rattle.vx_sql.specs.Sums.{sum_sql};
-ghost use Rattle.vx_sql.specs.SqlTexts.{sqls_in, trees_in, compared_sql, loses_nulls, loses_operands, loses_bounds, least_sql, logic_sql, binary_sql, between_sql, range_sql, both_sql, below_sql};
+ghost use Rattle.vx_sql.specs.SqlTexts.{sqls_in, trees_in, compared_sql, loses_nulls, loses_operands, loses_bounds, least_sql, logic_sql, binary_sql, not_sql, between_sql, range_sql, both_sql, below_sql};
 
 use super::{Children, write_child};
 use crate::Dialect;
@@ -168,11 +168,23 @@ fn write_sum<W: Write>(p: PType, operands: Children, f: &mut Formatter<W>) -> fm
 #[cycle(text)]
 pub(super) fn write_not<W: Write>(children: Children, f: &mut Formatter<W>) -> fmt::Result
     requires { length children.nodes.now ≡ 1 }
-    ensures { WritesOnOk W.write_str_gives f.old result (codes "(NOT " ++ (get_or (sqls_in children.entry) 0 [] ++ codes ")")) f.new }
+    ensures { WritesOnOk W.write_str_gives f.old result (not_sql children.entry.dialect (get_or (sqls_in children.entry) 0 [])) f.new }
 {
-    f.write_str("(NOT ")?;
+    let (before, behind) = not_words(children.dialect);
+    f.write_str(before)?;
     write_child(children, 0, f)?;
-    f.write_str(")")
+    f.write_str(behind)
+}
+
+// What stands before a truth value that is turned round, and behind it. ClickHouse hands NOT on to its
+// shards without the brackets around it, so there the value is compared with 0.
+fn not_words(dialect: Dialect) -> (&'static str, &'static str)
+    ensures { (c : List ℕ) → not_sql dialect c ≡ result.0.now ++ (c ++ result.1.now) }
+{
+    match dialect {
+        Dialect::Postgres | Dialect::Sqlite | Dialect::DuckDb | Dialect::Spark => ("(NOT ", ")"),
+        Dialect::ClickHouse => ("(", " = 0)"),
+    }
 }
 
 // A value between two bounds: by one word where both are let in, else by two comparisons.
