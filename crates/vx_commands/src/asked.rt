@@ -1,4 +1,11 @@
 // Where a command reads the rows of records.
+ghost use Rattle.std.specs.Prelude.{◌≡◌, IfSome};
+ghost use Rattle.vx_value.specs.Views.{type_of};
+ghost use Rattle.vx_tree.specs.Trees.{BoundTree};
+ghost use Rattle.vx_tree.specs.Views.{tree_of};
+ghost use Rattle.vx_rewrite_paths.specs.Asked.{referenced};
+ghost use Rattle.vx_commands.specs.Rows.{IsBoundTo};
+
 use crate::rows::{RecordsTask, RowsCommand};
 use crate::tasks::selected_value;
 use std::alloc::Global;
@@ -27,7 +34,9 @@ pub(crate) fn asked_paths(
 }
 
 // The paths that the expression asks for over that type.
-fn paths_of(alloc: Global, placed: &Placed, scope: &DType) -> Option<FieldPathSet> {
+fn paths_of(alloc: Global, placed: &Placed, scope: &DType) -> Option<FieldPathSet>
+    ensures { IfSome result (λ paths. (b : BoundTree) × IsBoundTo (tree_of placed.now.expression) (type_of scope.now) b × (paths ≡ referenced b)) }
+{
     let Ok(tree) = bind(alloc, placed, scope) else {
         return None;
     };
