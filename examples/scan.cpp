@@ -85,15 +85,15 @@ static void scan(const std::string &folder) {
     const std::vector<Field> fields = fields_read();
     std::vector<std::vector<uint8_t>> selected(verdicts.size());
     std::atomic<std::size_t> next{0};
-    auto work = [&] {
-        vx::Plan plan(FILTER, schema_of(fields)); // (which stays on this thread)
+    auto work = [&](vx::Plan plan) { // (a copy, which shares the plan)
         for (std::size_t chunk; (chunk = next++) < verdicts.size();)
             if (verdicts[chunk] == vx::Verdict::to_be_read)
                 selected[chunk] = select(plan, fields, folder, chunk);
     };
+    const vx::Plan plan(FILTER, schema_of(fields));
     std::vector<std::future<void>> threads;
     for (std::size_t i = 0; i < THREADS; i++)
-        threads.push_back(std::async(std::launch::async, work));
+        threads.push_back(std::async(std::launch::async, work, plan));
     for (std::future<void> &thread : threads)
         thread.get(); // (which throws what stopped it)
     for (std::size_t chunk = 0; chunk < verdicts.size(); chunk++) {

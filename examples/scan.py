@@ -8,7 +8,6 @@ threads. scan.cpp is the same in C++, and prints the same.
 
 import pathlib
 import sys
-import threading
 from concurrent.futures import ThreadPoolExecutor
 
 import numpy as np
@@ -17,9 +16,6 @@ import vx
 FILTER = "id >= 700000 or id >= 120000 and price between 10 and 500 and stock > 5"
 TYPES = {"id": "i64", "price": "i32", "stock": "i32?", "note": "utf8?"}
 THREADS = 4
-
-own = threading.local()
-"""What each thread has of its own: a plan stays on the thread that made it."""
 
 
 def schema_of(names):
@@ -37,11 +33,9 @@ def read(folder, chunk, name):
     return np.ma.masked_array(column, ~valid)
 
 
-def select(folder, chunk, names):
+def select(plan, folder, chunk, names):
     """At which rows of the chunk the filter is true."""
-    if not hasattr(own, "plan"):
-        own.plan = vx.Plan(FILTER, schema_of(names))
-    return np.asarray(own.plan.select({name: read(folder, chunk, name) for name in names}))
+    return np.asarray(plan.select({name: read(folder, chunk, name) for name in names}))
 
 
 def scan(folder):
@@ -49,15 +43,16 @@ def scan(folder):
     statistics = (folder / "statistics.jsonl").read_text()
     verdicts = vx.prune(FILTER, statistics, schema_of(TYPES))
     names = [path[0] for path in vx.plan(FILTER, schema_of(TYPES)).paths]
-    with ThreadPoolExecutor(THREADS) as threads:
+    with ThreadPoolExecutor(THREADS) as threads, vx.Plan(FILTER, schema_of(names)) as plan:
         selected = {
-            chunk: threads.submit(select, folder, chunk, names)
+            chunk: threads.submit(select, plan, folder, chunk, names)
             for chunk, verdict in enumerate(verdicts)
             if verdict is vx.Verdict.TO_BE_READ
         }
-    return [
-        (verdict, selected[chunk].result() if chunk in selected else None) for chunk, verdict in enumerate(verdicts)
-    ]
+        return [
+            (verdict, selected[chunk].result() if chunk in selected else None)
+            for chunk, verdict in enumerate(verdicts)
+        ]
 
 
 def by_numpy(folder, chunk):

@@ -21,8 +21,10 @@
  * are the buffer, the vx_answer and the vx_plan. These two are never null; the buffer may be null where its
  * length is 0.
  *
- * Threads. Any calls may run at once on several threads, but a vx_plan stays on the thread that made it. No
- * call may be made in a signal handler, nor in the forked child of a process with several threads.
+ * Threads. Any calls may run at once on several threads, but on one vx_plan one at a time. It may go from thread
+ * to thread where their calls can't overlap, as by a lock, or by a start or join of a thread. To use a plan on
+ * several threads at once, give each a handle of its own, which vx_plan_share makes. No call may be made in a
+ * signal handler, nor in the forked child of a process with several threads.
  *
  * docs/embed/FFI.md is the guide, and crates/vx_ffi has the contract of each call.
  */
@@ -95,8 +97,8 @@ typedef struct vx_answer {
     vx_place place;
 } vx_answer;
 
-/* A plan that is kept between calls. It is made as vx_plan plan = VX_PLAN_INIT, which holds none. Only the
-   calls below change what is in it, and a copy of it may not be used beside it. */
+/* A handle of a plan that is kept between calls. It is made as vx_plan plan = VX_PLAN_INIT, which holds none.
+   Only the calls below change what is in it, and a copy of it may not be used beside it. */
 typedef struct vx_plan {
     void *at;
 } vx_plan;
@@ -151,6 +153,14 @@ vx_status vx_plan_new(const char *expression, size_t expression_length, const ch
                       size_t schema_length, vx_plan *plan, char *buffer, size_t buffer_length,
                       vx_answer *answer);
 
+/* Makes *other a handle of the plan that *plan holds: the plan isn't copied, and is freed with the last of its
+   handles. What *other held is freed first. Ends with VX_ANSWERED, VX_OUT_OF_MEMORY or VX_NO_PLAN; at the last
+   two *other holds none. The two may not be one vx_plan. */
+vx_status vx_plan_share(vx_plan *plan, vx_plan *other);
+
+/* The type of the plan's batches as source text, on a line. */
+vx_status vx_plan_scope(vx_plan *plan, char *buffer, size_t buffer_length, vx_answer *answer);
+
 /* The paths of the fields that the plan reads: on a line an array of them, each an array of its names, as
    [["x"],["a","b"]]. The path without a name is the whole row. */
 vx_status vx_plan_paths(vx_plan *plan, char *buffer, size_t buffer_length, vx_answer *answer);
@@ -179,7 +189,7 @@ vx_status vx_plan_scan(vx_plan *plan, size_t rows, const vx_buffer *buffers, siz
 vx_status vx_plan_select(vx_plan *plan, size_t rows, const vx_buffer *buffers, size_t buffers_length,
                          char *buffer, size_t buffer_length, vx_answer *answer);
 
-/* Frees the plan, if there is one. Then *plan holds none. */
+/* Lets go of the plan, if there is one, which is freed with its last handle. Then *plan holds none. */
 void vx_plan_free(vx_plan *plan);
 
 #ifdef __cplusplus

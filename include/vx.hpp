@@ -4,7 +4,7 @@
 //     vx::Plan plan("x > 5", "{x=i32?}");
 //     std::vector<uint8_t> rows = plan.select(schema, array);      // of any Arrow library
 //
-// A plan stays on the thread that made it.
+// A copy of a plan shares it, and may be used on another thread.
 #ifndef VX_HPP
 #define VX_HPP
 
@@ -133,8 +133,9 @@ template <class Number> vx_buffer lend(const std::vector<Number> &numbers) {
     return {numbers.data(), numbers.size() * sizeof(Number)};
 }
 
-// A plan of scans by the expression over batches of the schema's type, or of the type of Arrow columns. What it
-// is moved to has it then, and its calls throw VX_NO_PLAN.
+// A plan of scans by the expression over batches of the schema's type, or of the type of Arrow columns. A copy
+// shares it and takes no more than a count, so that each thread can have its own: on one object calls are made
+// one at a time, and copying it is a call, too. What it is moved to has it then, and its calls throw VX_NO_PLAN.
 class Plan {
   public:
     Plan(std::string_view expression, std::string_view schema) : schema_(schema) {
@@ -147,8 +148,18 @@ class Plan {
     Plan(std::string_view expression, const ArrowSchema &type) : Plan(expression, schema_of(type)) {}
     Plan(Plan &&other) noexcept { swap(other); }
     Plan &operator=(Plan other) noexcept { return swap(other), *this; }
-    Plan(const Plan &) = delete;
+    Plan(const Plan &other) : schema_(other.schema_) {
+        if (vx_plan_share(&other.plan_, &plan_) == VX_OUT_OF_MEMORY)
+            throw std::bad_alloc();
+    }
     ~Plan() { vx_plan_free(&plan_); }
+
+    // The type of its batches, as a schema.
+    std::string scope() {
+        return detail::line(detail::answered<std::string>([&](char *buffer, std::size_t room, vx_answer *answer) {
+            return vx_plan_scope(&plan_, buffer, room, answer);
+        }));
+    }
 
     // The paths of the fields that are read, each from the row on: {{"x"}, {"a", "b"}}.
     std::vector<std::vector<std::string>> paths() {
@@ -191,7 +202,7 @@ class Plan {
         }, (array.length > 0 ? static_cast<std::size_t>(array.length) : 0) + 512);
     }
 
-    vx_plan plan_ = VX_PLAN_INIT;
+    mutable vx_plan plan_ = VX_PLAN_INIT; // (a call takes the plan out of it, and puts it back)
     std::string schema_;
 };
 

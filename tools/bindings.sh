@@ -91,7 +91,7 @@ library() {
 # The shared library's own name, by which a program that is linked to it finds it.
 named() {
     readelf -d "$out/libvx.so" | grep -q "SONAME.*\[libvx.so.0\]" &&
-        g++ -std=c++17 -Iinclude -o "$out/test_shared" bindings/cpp/test.cpp "$out/libvx.so" &&
+        g++ -std=c++17 -Iinclude -pthread -o "$out/test_shared" bindings/cpp/test.cpp "$out/libvx.so" &&
         LD_LIBRARY_PATH=$out "$out/test_shared"
 }
 
@@ -115,7 +115,7 @@ threads() {
 cpp_program() {
     flags="-std=c++17 -Wall -Wextra -Wpedantic -Werror -Iinclude"
     g++ $flags -O1 -g -fsanitize=address,undefined -fno-sanitize-recover=undefined \
-        -o "$out/test_cpp" bindings/cpp/test.cpp "$out/libvx.a" && "$out/test_cpp"
+        -pthread -o "$out/test_cpp" bindings/cpp/test.cpp "$out/libvx.a" && "$out/test_cpp"
 }
 
 python_tests() {

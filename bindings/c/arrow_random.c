@@ -125,25 +125,28 @@ enum { THREADS = 8, TURNS = 50, ROWS = 3000 };
 static Column shared;
 static char wanted[ROWS];
 
-/* Selects rows of the shared batch by a plan of its own; answers how often that is wrong. */
-static void *work(void *unused)
+/* Selects rows of the shared batch by the plan that is given, and by others that it shares and lets go of;
+   answers how often that is wrong. */
+static void *work(void *given)
 {
-    (void)unused;
     size_t wrong = 0;
     char page[ROWS];
     vx_answer answer;
-    vx_plan plan = VX_PLAN_INIT;
-    wrong += vx_plan_new("a > 0 or b", 10, "{a=i32?, b=bool?}", 17, &plan, page, ROWS, &answer) != VX_ANSWERED;
+    vx_plan *plan = given;
     for (int turn = 0; turn < TURNS; turn++) {
-        vx_status status = vx_plan_select_arrow(&plan, "{a=i32?, b=bool?}", 17, &shared.schema, &shared.array, page,
-                                                ROWS, &answer);
+        vx_plan other = VX_PLAN_INIT;
+        wrong += vx_plan_share(plan, &other) != VX_ANSWERED;
+        vx_plan *used = turn % 2 ? plan : &other;
+        vx_status status = vx_plan_select_arrow(used, "{a=i32?, b=bool?}", 17, &shared.schema, &shared.array, page, ROWS,
+                                                &answer);
         wrong += status != VX_ANSWERED || memcmp(page, wanted, ROWS) != 0;
+        vx_plan_free(&other);
     }
-    vx_plan_free(&plan);
+    vx_plan_free(plan);
     return (void *)wrong;
 }
 
-/* Threads that read one batch at once. */
+/* Threads that read one batch at once, each by a handle of one plan. */
 int arrow_threads(void)
 {
     Column fields[] = {column_of("i", true, 3, ROWS + 5), column_of("b", true, 1, ROWS + 5)};
@@ -157,9 +160,16 @@ int arrow_threads(void)
         wanted[row] = is_above || (!is_null_at(b, at) && (bits[(1 + at) / 8] >> (1 + at) % 8 & 1));
     }
     pthread_t threads[THREADS];
-    for (size_t i = 0; i < THREADS; i++)
-        if (pthread_create(&threads[i], NULL, work, NULL) != 0)
+    vx_plan plan = VX_PLAN_INIT, plans[THREADS] = {VX_PLAN_INIT};
+    char page[200];
+    vx_answer answer;
+    wrong += vx_plan_new("a > 0 or b", 10, "{a=i32?, b=bool?}", 17, &plan, page, sizeof page, &answer) != VX_ANSWERED;
+    for (size_t i = 0; i < THREADS; i++) {
+        wrong += vx_plan_share(&plan, &plans[i]) != VX_ANSWERED;
+        if (pthread_create(&threads[i], NULL, work, &plans[i]) != 0)
             abort();
+    }
+    vx_plan_free(&plan);
     for (size_t i = 0; i < THREADS; i++) {
         void *found;
         pthread_join(threads[i], &found);

@@ -246,6 +246,8 @@ static void expect_no_plan(vx_plan *plan)
     EXPECT(a.status == VX_NO_PLAN && begins(&a, "error: ") && is_at(&a.answer, (vx_place){0}));
     a.status = vx_plan_scan(plan, 0, NULL, 0, a.text, a.room, &a.answer);
     EXPECT(a.status == VX_NO_PLAN && begins(&a, "error: ") && is_at(&a.answer, (vx_place){0}));
+    a.status = vx_plan_scope(plan, a.text, a.room, &a.answer);
+    EXPECT(a.status == VX_NO_PLAN && begins(&a, "error: ") && is_at(&a.answer, (vx_place){0}));
     EXPECT(plan->at == NULL);
     free(a.text);
 }
@@ -318,6 +320,54 @@ static void test_paths(void)
     expect_paths("1", X, "[]\n");
     expect_paths("is_null($)", "utf8?", "[[]]\n");
     expect_paths("`a\"\303\244`", "{`a\"\303\244`=i8}", "[[\"a\\\"\303\244\"]]\n");
+}
+
+static void expect_scope(const char *schema, const char *page)
+{
+    vx_plan plan = plan_of("1 < 2", schema);
+    Answered a = with_room(8);
+    do
+        a.status = vx_plan_scope(&plan, a.text, a.room, &a.answer);
+    while (is_grown(&a));
+    expect(a.status == VX_ANSWERED && says(&a, page), page, __FILE__, __LINE__);
+    free(a.text);
+    vx_plan_free(&plan);
+}
+
+static void test_scopes(void)
+{
+    expect_scope(X, X "\n");
+    expect_scope(" i8 ? ", "i8?\n");
+    expect_scope("{a={`b c`=list(u8?)}?,b=fixed_size_list(utf8)[3]}", "{a={`b c`=list(u8?)}?, b=fixed_size_list(utf8)[3]}\n");
+    expect_scope("{}", "{}\n");
+}
+
+/* A plan has as many handles as it is shared to, and is freed with the last. */
+static void test_shared(void)
+{
+    const vx_buffer batch[] = {NONE, NONE, B("\1\0\0\0")};
+    vx_plan plan = plan_of("x + 1", X), other = VX_PLAN_INIT, third = plan_of("x", X), none = VX_PLAN_INIT;
+    EXPECT(vx_plan_share(&plan, &other) == VX_ANSWERED && other.at && other.at != plan.at);
+    EXPECT(vx_plan_share(&other, &third) == VX_ANSWERED);
+    vx_plan_free(&plan);
+    expect_no_plan(&plan);
+    for (int turn = 0; turn < 2; turn++) {
+        Answered a = scanned(turn ? &third : &other, 1, batch, 3);
+        EXPECT(a.status == VX_ANSWERED && says(&a, "2\n"));
+        free(a.text);
+    }
+    /* Another plan in one handle is of no concern to the other. */
+    Answered a = made(&other, "x", X);
+    free(a.text);
+    a = scanned(&third, 1, batch, 3);
+    EXPECT(a.status == VX_ANSWERED && says(&a, "2\n"));
+    free(a.text);
+    EXPECT(vx_plan_share(&none, &third) == VX_NO_PLAN);
+    expect_no_plan(&third);
+    EXPECT(vx_plan_share(&other, &plan) == VX_ANSWERED);
+    vx_plan_free(&other);
+    vx_plan_free(&plan);
+    vx_plan_free(&third);
 }
 
 /* A buffer that is too small stays as it was, and so does the plan. */
@@ -438,6 +488,8 @@ void test_plans(void)
     test_no_plan();
     test_unplanned();
     test_paths();
+    test_scopes();
+    test_shared();
     test_room_of_scans();
     test_nothing_is_kept();
     test_selections();

@@ -1,8 +1,11 @@
 // Tests of include/vx.hpp. The last line is "C++: N checks, M failed".
 #include "vx.hpp"
 
+#include <atomic>
 #include <cstdio>
 #include <cstring>
+#include <memory>
+#include <thread>
 #include <type_traits>
 
 static int checks = 0, failures = 0;
@@ -64,7 +67,7 @@ static void test_paths() {
 }
 
 static void test_plans() {
-    static_assert(!std::is_copy_constructible_v<vx::Plan> && !std::is_copy_assignable_v<vx::Plan>);
+    static_assert(std::is_copy_constructible_v<vx::Plan> && std::is_copy_assignable_v<vx::Plan>);
     static_assert(std::is_nothrow_move_constructible_v<vx::Plan> && std::is_nothrow_move_assignable_v<vx::Plan>);
     const std::vector<int32_t> numbers{7, 1, 9};
     const std::vector<uint8_t> is_there{5}, wanted{1, 0, 1};
@@ -84,6 +87,33 @@ static void test_plans() {
     EXPECT(plans[4].select(3, batch) == wanted);
     EXPECT(stops([] { vx::Plan("y", "{x=i32}"); }, VX_REFUSED, VX_EXPRESSION, 0, 1));
     EXPECT(stops([&] { moved.select(9, batch); }, VX_BAD_DATA, VX_RECORDS, 0, 0));
+}
+
+// A copy is a plan of its own, which is there after the first, and on another thread.
+static void test_shared_plans() {
+    const std::vector<int32_t> numbers{7, 1, 9};
+    const std::vector<uint8_t> is_there{5}, wanted{1, 0, 1};
+    const std::vector<vx_buffer> batch{{nullptr, 0}, vx::lend(is_there), vx::lend(numbers)};
+    auto first = std::make_unique<vx::Plan>("x > 5", "{x=i32?}");
+    std::vector<vx::Plan> copies(8, *first);
+    EXPECT(first->select(3, batch) == wanted);
+    first.reset();
+    std::vector<std::thread> threads;
+    std::atomic<int> right{0};
+    for (vx::Plan &copy : copies)
+        threads.emplace_back([&] {
+            for (int turn = 0; turn < 100; turn++)
+                right += copy.select(3, batch) == wanted;
+        });
+    for (std::thread &thread : threads)
+        thread.join();
+    EXPECT(right == 800);
+    vx::Plan other("x > 8", "{x=i32?}");
+    other = copies[0];
+    EXPECT(other.select(3, batch) == wanted && copies[0].select(3, batch) == wanted);
+    vx::Plan moved(std::move(other)), none(other);
+    EXPECT(stops([&] { none.select(3, batch); }, VX_NO_PLAN, VX_NOWHERE, 0, 0));
+    EXPECT(moved.scope() == "{x=i32?}");
 }
 
 static void test_arrow() {
@@ -111,6 +141,7 @@ int main() {
     test_verdicts();
     test_paths();
     test_plans();
+    test_shared_plans();
     test_arrow();
     std::printf("C++: %d checks, %d failed\n", checks, failures);
     return failures > 0;

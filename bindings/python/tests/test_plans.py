@@ -221,38 +221,55 @@ class Lives(unittest.TestCase):
             vx.Plan("x", X)
         gc.collect()
 
-    def test_other_threads(self):
-        raised = []
+    def test_one_plan_on_many_threads(self):
+        plan, found = vx.Plan("x + 1", X), []
 
-        def use(work):
-            try:
-                work()
-            except RuntimeError as error:
-                raised.append(error)
+        def work(number):
+            found.append(all(plan.scan({"x": [number, turn]}) == [number + 1, turn + 1] for turn in range(200)))
 
-        plan = vx.Plan("x", X)
-        for work in (lambda: plan.scan([]), plan.close):
-            thread = threading.Thread(target=use, args=[work])
-            thread.start()
-            thread.join()
-        self.assertEqual(len(raised), 2)
-        self.assertEqual(plan.scan([{"x": 1}]), [1])
+        self.on_threads(work)
+        self.assertEqual(found, [True] * 8)
+        self.assertLessEqual(len(plan._handles._spare), 8)
         plan.close()
+        self.assertEqual(plan._handles._spare, [])
 
-    def test_freed_as_a_thread_ends(self):
-        """A plan that a thread keeps in its own variables is freed with them."""
+    def test_closed_on_another_thread(self):
+        plan, errors = vx.Plan("x + 1", X), []
+
+        def work(number):
+            try:
+                for turn in range(1000):
+                    if number == 0 and turn == 500:
+                        plan.close()
+                    plan.select({"x": [turn]}) if number % 2 else plan.scan({"x": [turn]})
+            except vx.VxError as error:
+                errors.append(type(error))
+
+        self.on_threads(work)
+        self.assertIn(vx.NoPlanError, errors)
+        self.assertIsNone(plan._handles._first.at)
+        self.assertEqual(plan._handles._spare, [])
+
+    def test_let_go_of_on_another_thread(self):
+        """The last reference may be dropped by any thread, also by one that ends."""
         own, kept = threading.local(), []
 
-        def work():
+        def work(number):
             own.plan = vx.Plan("x", X)
-            kept.append((own.plan._freed, own.plan._handle))
+            own.plan.scan({"x": [1]})
+            kept.append((own.plan._handles._free, own.plan._handles._first))
 
-        thread = threading.Thread(target=work)
-        thread.start()
-        thread.join()
-        ((freed, handle),) = kept
-        self.assertFalse(freed.alive)
-        self.assertIsNone(handle.at)
+        self.on_threads(work)
+        for free, handle in kept:
+            self.assertFalse(free.alive)
+            self.assertIsNone(handle.at)
+
+    def on_threads(self, work):
+        threads = [threading.Thread(target=work, args=[number]) for number in range(8)]
+        for thread in threads:
+            thread.start()
+        for thread in threads:
+            thread.join()
 
     def test_threads_of_their_own(self):
         found = []
@@ -261,11 +278,7 @@ class Lives(unittest.TestCase):
             with vx.Plan(f"x + {number}", X) as plan:
                 found.append(all(plan.scan({"x": [turn]}) == [turn + number] for turn in range(200)))
 
-        threads = [threading.Thread(target=work, args=[number]) for number in range(8)]
-        for thread in threads:
-            thread.start()
-        for thread in threads:
-            thread.join()
+        self.on_threads(work)
         self.assertEqual(found, [True] * 8)
 
 

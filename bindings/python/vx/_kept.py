@@ -3,23 +3,13 @@
 from __future__ import annotations
 
 import json
-import threading
-import weakref
 from typing import Any, List, Tuple
 
 from . import _arrow, _capsules
 from ._batches import batch_of
 from ._calls import Rows, check, encoded
-from ._library import (
-    Handle,
-    free_plan,
-    make_plan,
-    plan_paths,
-    scan_arrow,
-    scan_plan,
-    select_arrow,
-    select_plan,
-)
+from ._handles import Handles
+from ._library import plan_paths, plan_scope, scan_arrow, scan_plan, select_arrow, select_plan
 from ._plans import paths_of
 from ._types import type_of, values_of
 
@@ -38,9 +28,8 @@ class Plan:
 
     Raises as :func:`check` does.
 
-    A plan stays on the thread that made it: what another thread asks of it is a ``RuntimeError``. It is freed
-    by :meth:`close`, by the end of a ``with`` block, or with the last reference to it if its own thread drops
-    that; where another thread does, its memory is lost.
+    Any threads may use it at once, and each lets others run meanwhile. It is freed by :meth:`close`, by the end
+    of a ``with`` block, or with the last reference to it, once no thread is within a call of it.
     """
 
     paths: List[Tuple[str, ...]]
@@ -49,13 +38,11 @@ class Plan:
     """The type of the expression."""
 
     def __init__(self, expression: str, schema: str) -> None:
-        self._thread = threading.get_ident()
-        self._handle = Handle()
-        self._freed = weakref.finalize(self, _free, self._handle, self._thread)
-        make_plan(self._handle, encoded(expression), encoded(schema))
-        self.paths = paths_of(json.loads(plan_paths(self._handle)))
+        self._handles = Handles(encoded(expression), encoded(schema))
+        with self._handles.lent() as handle:
+            self.paths = paths_of(json.loads(plan_paths(handle)))
+            scope = plan_scope(handle).rstrip("\n")
         self.type = check(expression, schema)
-        scope = check("$", schema)
         self._schema = encoded(scope)
         self._scope = type_of(scope)
 
@@ -77,12 +64,13 @@ class Plan:
         expression faults, and :class:`NoPlanError` for a plan that is closed. The ``record`` of the
         ``place`` says at which row, from 1 on.
         """
-        self._check_thread()
         dtype = type_of(self.type)
         if _is_lent(batch):
-            return values_of(scan_arrow(self._handle, self._schema, _capsules.exported(batch)), dtype)
+            with self._handles.lent() as handle:
+                return values_of(scan_arrow(handle, self._schema, _capsules.exported(batch)), dtype)
         count, buffers = self._batch_of(batch)
-        values = values_of(scan_plan(self._handle, count, buffers), dtype)
+        with self._handles.lent() as handle:
+            values = values_of(scan_plan(handle, count, buffers), dtype)
         return _arrow.array_of(values, dtype) if _arrow.is_batch(batch) else values
 
     def select(self, batch: Rows) -> memoryview:
@@ -97,11 +85,12 @@ class Plan:
         ``numpy.asarray`` makes an array of without a copy. Raises as :meth:`scan` does, and
         :class:`RefusedError` for an expression that isn't of truth values.
         """
-        self._check_thread()
-        if _is_lent(batch):
-            page = select_arrow(self._handle, self._schema, _capsules.exported(batch))
-        else:
-            page = select_plan(self._handle, *self._batch_of(batch))
+        lent = _capsules.exported(batch) if _is_lent(batch) else self._batch_of(batch)
+        with self._handles.lent() as handle:
+            if isinstance(lent, _capsules.Exported):
+                page = select_arrow(handle, self._schema, lent)
+            else:
+                page = select_plan(handle, *lent)
         return memoryview(page).cast("?")
 
     def _batch_of(self, batch: Rows) -> Tuple[int, List[Any]]:
@@ -109,9 +98,8 @@ class Plan:
         return (_arrow.batch_of if _arrow.is_batch(batch) else batch_of)(batch, self._scope)
 
     def close(self) -> None:
-        """Frees the plan. What is closed already stays so."""
-        self._check_thread()
-        self._freed()
+        """Frees the plan, as soon as no thread is within a call of it. What is closed already stays so."""
+        self._handles.close()
 
     def __enter__(self) -> Plan:
         return self
@@ -119,17 +107,7 @@ class Plan:
     def __exit__(self, *_raised: object) -> None:
         self.close()
 
-    def _check_thread(self) -> None:
-        if threading.get_ident() != self._thread:
-            raise RuntimeError("a plan stays on the thread that made it")
-
 
 def _is_lent(batch: Rows) -> bool:
     """Whether the batch is of a library that exports it. pyarrow's own may be of more types and in chunks."""
     return _capsules.is_exporter(batch) and not _arrow.is_batch(batch)
-
-
-def _free(handle: Handle, thread: int) -> None:
-    """Frees the plan on its own thread, also as that ends; another one mustn't."""
-    if threading.get_ident() == thread:
-        free_plan(handle)

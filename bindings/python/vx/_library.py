@@ -65,6 +65,8 @@ _CALLS: Dict[str, Tuple[Any, ...]] = {
     "vx_prune": (*_TEXT, *_TEXT, *_TEXT, *_ROOM),
     "vx_eval_json": (*_TEXT, *_TEXT, *_TEXT, *_ROOM),
     "vx_plan_new": (*_TEXT, *_TEXT, _PLAN, *_ROOM),
+    "vx_plan_share": (_PLAN, _PLAN),
+    "vx_plan_scope": (_PLAN, *_ROOM),
     "vx_plan_paths": (_PLAN, *_ROOM),
     "vx_plan_scan": (_PLAN, ctypes.c_size_t, ctypes.POINTER(_Buffer), ctypes.c_size_t, *_ROOM),
     "vx_plan_select": (_PLAN, ctypes.c_size_t, ctypes.POINTER(_Buffer), ctypes.c_size_t, *_ROOM),
@@ -143,6 +145,17 @@ def call(name: str, *texts: bytes) -> str:
 def make_plan(handle: Handle, expression: bytes, schema: bytes) -> None:
     """Has the handle hold a plan, in place of the one that it held."""
     _answered("vx_plan_new", [*_counted([expression, schema]), ctypes.byref(handle)], _LEAST_ROOM)
+
+
+def share_plan(handle: Handle, other: Handle) -> None:
+    """Has the other handle hold the same plan. Where the first holds none, neither does the other."""
+    if _LIBRARY.vx_plan_share(ctypes.byref(handle), ctypes.byref(other)) == _OUT_OF_MEMORY:
+        raise MemoryError
+
+
+def plan_scope(handle: Handle) -> str:
+    """The type of the plan's batches, as source text."""
+    return _answered("vx_plan_scope", [ctypes.byref(handle)], _LEAST_ROOM)
 
 
 def plan_paths(handle: Handle) -> str:

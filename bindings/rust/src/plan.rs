@@ -1,8 +1,9 @@
 //! Plans that are kept.
 
 use crate::call::{answered, answered_bytes, ROOM};
-use crate::sys::{self, VxBuffer, VxPlan};
+use crate::sys::{self, VxBuffer, VxPlace, VxPlan};
 use crate::Error;
+use std::cell::UnsafeCell;
 use std::ptr;
 
 /// A plan of scans by an expression over batches of rows of one type, made once for all of them.
@@ -16,11 +17,18 @@ use std::ptr;
 /// # Ok::<(), vx::Error>(())
 /// ```
 ///
-/// It stays on the thread that made it, and is neither `Send` nor `Sync`:
+/// It is `Send`, and a clone shares it at the cost of a count: each thread has a clone of its own. So it need
+/// not be `Sync`, and isn't:
 ///
-/// ```compile_fail,E0277
-/// fn sent<T: Send>() {}
-/// sent::<vx::Plan>();
+/// ```
+/// let plan = vx::Plan::new("x > 1", "{x=i32}")?;
+/// let threads = [1i32, 2].map(|x| {
+///     let mut plan = plan.clone();
+///     std::thread::spawn(move || plan.select(1, &[&[], &[], &x.to_le_bytes()]))
+/// });
+/// let found = threads.map(|thread| thread.join().expect("it ends"));
+/// assert_eq!(found, [Ok(vec![false]), Ok(vec![true])]);
+/// # Ok::<(), vx::Error>(())
 /// ```
 ///
 /// ```compile_fail,E0277
@@ -29,9 +37,12 @@ use std::ptr;
 /// ```
 #[derive(Debug)]
 pub struct Plan {
-    // (a plan, between the calls; its pointer keeps it from other threads)
-    handle: VxPlan,
+    // (a call takes the plan out of it, and puts it back)
+    handle: UnsafeCell<VxPlan>,
 }
+
+// SAFETY: a handle goes to any thread that makes its calls one at a time, and a `Plan` isn't `Sync`.
+unsafe impl Send for Plan {}
 
 impl Plan {
     /// The plan of the expression over rows of the schema's type.
@@ -41,11 +52,7 @@ impl Plan {
     /// As of [`check`](crate::check).
     pub fn new(expression: impl AsRef<[u8]>, schema: impl AsRef<[u8]>) -> Result<Plan, Error> {
         let (expression, schema) = (expression.as_ref(), schema.as_ref());
-        let mut plan = Plan {
-            handle: VxPlan {
-                at: ptr::null_mut(),
-            },
-        };
+        let plan = Plan::none();
         answered(ROOM, |buffer, length, answer| {
             // SAFETY: as in `page`, and the handle holds no plan.
             unsafe {
@@ -54,7 +61,7 @@ impl Plan {
                     expression.len(),
                     schema.as_ptr().cast(),
                     schema.len(),
-                    &mut plan.handle,
+                    plan.handle.get(),
                     buffer,
                     length,
                     answer,
@@ -62,6 +69,42 @@ impl Plan {
             }
         })?;
         Ok(plan)
+    }
+
+    fn none() -> Plan {
+        Plan {
+            handle: UnsafeCell::new(VxPlan {
+                at: ptr::null_mut(),
+            }),
+        }
+    }
+
+    /// Another handle of the plan, as a clone is.
+    ///
+    /// # Errors
+    ///
+    /// `OutOfMemory` alone.
+    pub fn try_clone(&self) -> Result<Plan, Error> {
+        let other = Plan::none();
+        // SAFETY: the handle holds a plan, the other none, and no call is under way on either: none of the
+        // calls calls back, and a `Plan` isn't `Sync`.
+        let status = unsafe { sys::vx_plan_share(self.handle.get(), other.handle.get()) };
+        match status {
+            sys::ANSWERED => Ok(other),
+            status => Err(Error::of(status, String::new(), &VxPlace::default())),
+        }
+    }
+
+    /// The type of the plan's batches, as source text on a line.
+    ///
+    /// # Errors
+    ///
+    /// `OutOfMemory` alone.
+    pub fn scope(&mut self) -> Result<String, Error> {
+        answered(ROOM, |buffer, length, answer| {
+            // SAFETY: as for `paths`.
+            unsafe { sys::vx_plan_scope(self.handle.get(), buffer, length, answer) }
+        })
     }
 
     /// The paths of the fields that the plan reads: a line of JSON, an array of them, each an array of its
@@ -72,8 +115,8 @@ impl Plan {
     /// `OutOfMemory` alone.
     pub fn paths(&mut self) -> Result<String, Error> {
         answered(ROOM, |buffer, length, answer| {
-            // SAFETY: as in `page`, and the handle holds a plan of this thread.
-            unsafe { sys::vx_plan_paths(&mut self.handle, buffer, length, answer) }
+            // SAFETY: as in `page`, and the handle holds a plan, and no other call is under way.
+            unsafe { sys::vx_plan_paths(self.handle.get(), buffer, length, answer) }
         })
     }
 
@@ -107,7 +150,7 @@ impl Plan {
             // SAFETY: as for `paths`; the buffers are lent to the call, which tests what is in them.
             unsafe {
                 sys::vx_plan_scan(
-                    &mut self.handle,
+                    self.handle.get(),
                     rows,
                     lent.as_ptr(),
                     lent.len(),
@@ -139,7 +182,7 @@ impl Plan {
             // SAFETY: as for `scan`.
             unsafe {
                 sys::vx_plan_select(
-                    &mut self.handle,
+                    self.handle.get(),
                     rows,
                     lent.as_ptr(),
                     lent.len(),
@@ -157,9 +200,20 @@ fn lent(buffers: &[&[u8]]) -> Vec<VxBuffer> {
     buffers.iter().copied().map(VxBuffer::of).collect()
 }
 
+impl Clone for Plan {
+    /// Another handle of the plan, which isn't copied.
+    ///
+    /// # Panics
+    ///
+    /// Where memory runs out, which [`try_clone`](Plan::try_clone) tells.
+    fn clone(&self) -> Plan {
+        self.try_clone().expect("memory for a handle of a plan")
+    }
+}
+
 impl Drop for Plan {
     fn drop(&mut self) {
-        // SAFETY: the handle holds a plan of this thread, or none.
-        unsafe { sys::vx_plan_free(&mut self.handle) };
+        // SAFETY: the handle holds a plan or none, and no call is under way.
+        unsafe { sys::vx_plan_free(self.handle.get()) };
     }
 }

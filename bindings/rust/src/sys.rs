@@ -120,6 +120,13 @@ extern "C" {
         buffer_length: usize,
         answer: *mut VxAnswer,
     ) -> u32;
+    pub fn vx_plan_share(plan: *mut VxPlan, other: *mut VxPlan) -> u32;
+    pub fn vx_plan_scope(
+        plan: *mut VxPlan,
+        buffer: *mut c_char,
+        buffer_length: usize,
+        answer: *mut VxAnswer,
+    ) -> u32;
     pub fn vx_plan_paths(
         plan: *mut VxPlan,
         buffer: *mut c_char,

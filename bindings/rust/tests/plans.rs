@@ -86,6 +86,31 @@ fn two_plans_stand_side_by_side() -> Result<(), Error> {
 }
 
 #[test]
+fn a_clone_is_a_plan_of_its_own() -> Result<(), Error> {
+    let plan = Plan::new("x + 1 > 5", X)?;
+    let mut clones: Vec<Plan> = (0..8).map(|_| plan.clone()).collect();
+    let wanted = [true, false];
+    std::thread::scope(|threads| {
+        for clone in &mut clones {
+            threads.spawn(move || {
+                for _ in 0..100 {
+                    let mut again = clone.clone();
+                    let values = numbers([5, 4]);
+                    assert_eq!(clone.select(2, &[&[], &[], &values]), Ok(wanted.to_vec()));
+                    assert_eq!(again.select(2, &[&[], &[], &values]), Ok(wanted.to_vec()));
+                }
+            });
+        }
+    });
+    drop(plan);
+    assert_eq!(clones[7].scope()?, "{x=i32}\n");
+    let mut last = clones.swap_remove(3);
+    drop(clones);
+    assert_eq!(last.select(2, &[&[], &[], &numbers([5, 4])])?, wanted);
+    Ok(())
+}
+
+#[test]
 fn stops_tell_their_place() -> Result<(), Error> {
     assert_eq!(Plan::new("x +", X).unwrap_err().kind(), Kind::Unread);
     assert_eq!(Plan::new(b"x\xff", X).unwrap_err().kind(), Kind::Unread);

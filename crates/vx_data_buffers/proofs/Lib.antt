@@ -4,3 +4,6 @@ pub mod Grown
 pub mod Items
 pub mod Runs
 pub mod Texts
+mod ByteBits
+mod NumberBytes
+mod LaidOut

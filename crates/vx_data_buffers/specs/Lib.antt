@@ -3,3 +3,4 @@ pub mod Bytes
 pub mod Layout
 pub mod Rows
 pub mod Arrays
+pub mod Laid

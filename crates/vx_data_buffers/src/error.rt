@@ -1,6 +1,7 @@
 // What a column out of buffers is refused with.
 ghost use Rattle.std.specs.Prelude.{◌≡◌};
 ghost use Rattle.vx_data_buffers.specs.declared.error.BufferError.TheVariants.{OutOfMemory};
+ghost use Rattle.vx_data_buffers.specs.declared.error.LayoutError.TheVariants as layout;
 
 use std::alloc::{AllocError, AllocFailed};
 use thiserror::Error;
@@ -27,6 +28,33 @@ pub enum BufferError {
     /// The value in that row isn't one of the type.
     #[error("the value of row {row} doesn't fit the type")]
     RowMisfit { row: usize },
+}
+
+/// What writing a column into buffers is refused with.
+#[derive(Debug, Drop, PartialEq, Eq, Error)]
+pub enum LayoutError {
+    /// Memory ran out.
+    #[error("out of memory")]
+    OutOfMemory,
+    /// Texts, bytes or items take more than offsets of 32 bits can say.
+    #[error("texts, bytes or items take more than offsets of 32 bits can say")]
+    TooLong,
+}
+
+impl From<AllocError> for LayoutError {
+    ghost from_gives = { λ _ e. e ≡ layout.OutOfMemory };
+
+    fn from(_e: AllocError) -> LayoutError {
+        LayoutError::OutOfMemory
+    }
+}
+
+impl<T: Drop> From<AllocFailed<T>> for LayoutError {
+    ghost from_gives = { λ _ e. e ≡ layout.OutOfMemory };
+
+    fn from(_e: AllocFailed<T>) -> LayoutError {
+        LayoutError::OutOfMemory
+    }
 }
 
 impl From<AllocError> for BufferError {

@@ -2,16 +2,17 @@
 ghost use Rattle.std.specs.Prelude.{◌≡◌, None};
 ghost use Rattle.vx_data_buffers.specs.Bytes.{bytes_in};
 ghost use Rattle.vx_ffi_calls.specs.Stops.{IsExhausted};
-ghost use Rattle.vx_ffi_plan.specs.Kept.{IsPathsPage, IsScanPage};
+ghost use Rattle.vx_ffi_plan.specs.Kept.{IsPathsPage, IsScanPage, IsScopePage};
 ghost use Rattle.vx_ffi_plan.specs.ScanStops.{ScanStops};
 ghost use Rattle.vx_ffi_plan.specs.Selections.{IsSelectPage, SelectStops};
-ghost use Rattle.vx_ffi_plan.specs.Held.{HeldEndsWith, NewEndsWith};
+ghost use Rattle.vx_ffi_plan.specs.Held.{HeldEndsWith, NewEndsWith, ShareEndsWith};
 
 use std::alloc::Global;
 use vx_data_buffers::Buffer;
 use vx_ffi_calls::{Answer, GivenQuery};
 use vx_ffi_plan::{
-    Asked, GivenBatch, PlanHandle, answer_held_batch, answer_held_paths, answer_new, free_plan,
+    Asked, GivenBatch, PlanHandle, answer_held_batch, answer_held_paths, answer_held_scope,
+    answer_new, free_plan, share_plan,
 };
 
 /// Makes the plan of the expression over batches of the schema's type: [`answer_new`].
@@ -42,6 +43,20 @@ pub extern "C" fn vx_plan_paths(
     ensures kept { plan.new.plan ≡ plan.old.plan }
 {
     answer_held_paths(alloc, plan, buffer, answer).number()
+}
+
+/// Answers the type of the plan's batches, as source text on a line: [`answer_held_scope`].
+#[unsafe(no_mangle)]
+pub extern "C" fn vx_plan_scope(
+    alloc: Global,
+    plan: &mut PlanHandle,
+    buffer: &mut [u8],
+    answer: &mut Answer,
+) -> u32
+    ensures ends { HeldEndsWith IsScopePage (λ _. IsExhausted) plan.old.plan buffer.old result buffer.new answer.new }
+    ensures kept { plan.new.plan ≡ plan.old.plan }
+{
+    answer_held_scope(alloc, plan, buffer, answer).number()
 }
 
 /// Answers what the plan's expression means at each row of the batch in the buffers, as a line of JSON
@@ -86,6 +101,15 @@ pub extern "C" fn vx_plan_select(
         buffers,
     };
     answer_held_batch(alloc, plan, &batch, buffer, answer).number()
+}
+
+/// Makes the other a handle of the same plan: [`share_plan`].
+#[unsafe(no_mangle)]
+pub extern "C" fn vx_plan_share(alloc: Global, plan: &mut PlanHandle, other: &mut PlanHandle) -> u32
+    ensures ends { ShareEndsWith plan.old.plan result other.new.plan }
+    ensures kept { plan.new.plan ≡ plan.old.plan }
+{
+    share_plan(alloc, plan, other).number()
 }
 
 /// Lets go of the plan, if there is one: [`free_plan`].

@@ -25,8 +25,8 @@ use Rattle.std.proofs.GlobalToken.{dealloc_token-Testable}
 use Rattle.std.specs.Prelude.{Option, None, Some}
 use Rattle.std.specs.contracts.alloc.Global as Global
 use Rattle.std.specs.contracts.impls.GlobalAllocator.TheImpl.{ghosts, dict}
-use Rattle.vx_ffi_plan.proofs.kept.KeptPlan.TheLaws as kept_plan
-use Rattle.vx_ffi_plan.specs.contracts.kept.KeptPlan as KeptPlan
+use Rattle.vx_ffi_plan.proofs.shared.SharedPlan.TheLaws as shared_plan
+use Rattle.vx_ffi_plan.specs.contracts.shared.SharedPlan as SharedPlan
 use Rattle.vx_ffi_plan.specs.contracts.handle.PlanHandle as PlanHandle
 
 -- a type as it is passed to a function with type parameters
@@ -38,8 +38,8 @@ lets_go = impl ("vx_ffi_plan::Destruct++none::drop" ∷ []) (tcons (layout (pass
 
 abbrev pub E : Bx
 E = record {
-  row = passed KeptPlan.the_row;
-  laws = arg_laws (bare (layout KeptPlan.the_row)) no KeptPlan.the_row kept_plan.the_row_laws refl;
+  row = passed SharedPlan.the_row;
+  laws = arg_laws (bare (layout SharedPlan.the_row)) no SharedPlan.the_row shared_plan.the_row_laws refl;
   al = record {
     row = passed Global.the_row;
     laws = arg_laws (bare (layout Global.the_row)) no Global.the_row memory.the_row_laws refl;

@@ -5,7 +5,7 @@ use Rattle.std.specs.Coded.{Coded, coded_option}
 use Rattle.std.specs.Box.Ownership.{box_owns}
 use Rattle.std.specs.contracts.impls.GlobalAllocator.TheImpl.{ghosts}
 use Rattle.vx_ffi_plan.specs.declared.kept.KeptPlan.{KeptPlan}
-use Rattle.vx_ffi_plan.specs.contracts.kept.KeptPlan.{the_row}
+use Rattle.vx_ffi_plan.specs.contracts.shared.SharedPlan.{the_row}
 use base.Fml.{Fml, feq}
 use denote.RawPtr.{Ptr, null_ptr}
 

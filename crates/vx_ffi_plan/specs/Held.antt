@@ -3,7 +3,7 @@ use Rattle.std.specs.Prelude.{◌≡◌, ◌≢◌, ◌⊎◌, ℕ, List, [], Op
 use Rattle.vx_command_pages.specs.Inputs.{IsCommandError}
 use Rattle.vx_ffi_calls.specs.declared.answer.Answer.{Answer}
 use Rattle.vx_ffi_calls.specs.declared.answer.Status.{Status}
-use Rattle.vx_ffi_calls.specs.declared.answer.Status.TheVariants.{Answered, NoPlan}
+use Rattle.vx_ffi_calls.specs.declared.answer.Status.TheVariants.{Answered, NoPlan, OutOfMemory}
 use Rattle.vx_ffi_calls.specs.declared.stop.CallError.{CallError}
 use Rattle.vx_ffi_calls.specs.Endings.{EndsCall, IsNowhere, number_of}
 use Rattle.vx_ffi_calls.specs.Stops.{IsExhausted, Stops}
@@ -22,6 +22,15 @@ HeldEnds IsPage IsStop (Some kept) before status after answer = EndsCall (IsPage
 -- the same of the number that a call answers
 abbrev pub HeldEndsWith : (KeptPlan → List ℕ → Type 0) → (KeptPlan → CallError → Type 0) → Option KeptPlan → List ℕ → ℕ → List ℕ → Answer → Type 0
 HeldEndsWith IsPage IsStop plan before number after answer = (status : Status) × (number ≡ number_of status) × HeldEnds IsPage IsStop plan before status after answer
+
+-- how the call ends that shares the plan of a handle with another one, by the plan that this has then
+abbrev pub ShareEnds : Option KeptPlan → Status → Option KeptPlan → Type 0
+ShareEnds None status other = (status ≡ NoPlan) × (other ≡ None)
+ShareEnds (Some kept) status other = ((status ≡ Answered) × (other ≡ Some kept)) ⊎ ((status ≡ OutOfMemory) × (other ≡ None))
+
+-- the same of the number that the call answers
+abbrev pub ShareEndsWith : Option KeptPlan → ℕ → Option KeptPlan → Type 0
+ShareEndsWith plan number other = (status : Status) × (number ≡ number_of status) × ShareEnds plan status other
 
 -- a plan of these texts is there where the call answered, and none where it didn't
 abbrev pub IsMade : List ℕ → List ℕ → Option KeptPlan → Status → Type 0

@@ -10,8 +10,10 @@ use Rattle.vx_query_split.specs.Division.{parts_of}
 use Rattle.vx_scan.specs.Plans.{IsPlanFor}
 use Rattle.vx_scan.specs.Scans.{Scanned}
 use Rattle.vx_data_buffers.specs.Rows.{column_said}
+use Rattle.vx_source_types.specs.TypeTexts.{type_source}
 use Rattle.vx_data.specs.Lines.{json_lines}
 use Rattle.vx_command_pages.specs.Inputs.{ReadsAs, ReadsType}
+use Rattle.vx_command_pages.specs.Pages.{line}
 use Rattle.vx_command_pages.specs.PlanPages.{paths_line}
 use Rattle.vx_ffi_plan.specs.declared.kept.KeptPlan.{KeptPlan}
 
@@ -33,6 +35,10 @@ IsKept text schema kept = (string_bytes kept.text ≡ text)
 -- the page has the paths that the plan reads
 abbrev pub IsPathsPage : KeptPlan → List ℕ → Type 0
 IsPathsPage kept page = page ≡ paths_line kept.plan.value.paths
+
+-- the page has the type of the plan's batches
+abbrev pub IsScopePage : KeptPlan → List ℕ → Type 0
+IsScopePage kept page = page ≡ line (type_source (scope_of kept))
 
 -- the column is what a scan by the plan gives of the batch
 abbrev pub IsScanOf : KeptPlan → Batch → Batch → Type 0

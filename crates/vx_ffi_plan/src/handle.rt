@@ -6,7 +6,7 @@ ghost use Rattle.vx_ffi_plan.specs.Handles.{plan_coded, plan_owns};
 
 mod parts;
 
-use crate::kept::KeptPlan;
+use crate::shared::SharedPlan;
 use parts::Parts;
 use std::alloc::Global;
 use std::marker::Model;
@@ -26,6 +26,8 @@ impl Model for PlanHandle {
     ghost also_owns = { λ h. plan_owns h.alloc h.at h.plan };
 }
 
+unsafe impl Send for PlanHandle {}
+
 impl Drop for PlanHandle {
     fn drop(self) {
         let _plan = self.into_option();
@@ -44,13 +46,13 @@ impl PlanHandle {
     }
 
     /// A handle of the plan, which stays where it is.
-    pub fn of(plan: Box<KeptPlan>) -> PlanHandle
+    pub fn of(plan: Box<SharedPlan>) -> PlanHandle
         ensures { result.plan ≡ Some plan.value }
     {
         PlanHandle::of_parts(Parts::of(plan))
     }
 
-    fn of_parts(parts: Parts<KeptPlan, Global>) -> PlanHandle
+    fn of_parts(parts: Parts<SharedPlan, Global>) -> PlanHandle
         ensures { result.plan ≡ Some parts.value }
     {
         let Parts { ptr, alloc } = parts;
@@ -61,13 +63,13 @@ impl PlanHandle {
     }
 
     /// The plan, where there is one. `Some` exactly where the pointer isn't null.
-    pub fn into_option(self) -> Option<Box<KeptPlan>>
+    pub fn into_option(self) -> Option<Box<SharedPlan>>
         ensures { option_map (λ b. b.value) result ≡ self.plan }
     {
         let PlanHandle { at, alloc } = self;
         if at.is_null() {
             return None;
         }
-        Some(unsafe { Box::from_raw(alloc, at as *mut KeptPlan) })
+        Some(unsafe { Box::from_raw(alloc, at as *mut SharedPlan) })
     }
 }

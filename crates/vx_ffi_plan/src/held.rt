@@ -2,7 +2,7 @@
 ghost use Rattle.std.specs.Prelude.{◌≡◌, IfErr, IfOk};
 ghost use Rattle.vx_data_buffers.specs.Bytes.{bytes_in};
 ghost use Rattle.vx_ffi_calls.specs.Stops.{IsExhausted};
-ghost use Rattle.vx_ffi_plan.specs.Kept.{IsPathsPage};
+ghost use Rattle.vx_ffi_plan.specs.Kept.{IsPathsPage, IsScopePage};
 ghost use Rattle.vx_ffi_plan.specs.Held.{HeldEnds};
 ghost use Rattle.vx_ffi_plan.specs.Batches.{BatchStops, IsBatchPage};
 
@@ -11,6 +11,7 @@ use crate::handle::PlanHandle;
 use crate::kept::KeptPlan;
 use crate::paths::answer_paths;
 use crate::scan::scanned;
+use crate::scope::answer_scope;
 use crate::select::selected;
 use crate::stop::planless;
 use crate::taken::taken;
@@ -29,7 +30,27 @@ pub fn answer_held_paths(
 {
     match taken(alloc, plan) {
         Some(kept) => {
-            let status = answer_paths(alloc, &kept, buffer, answer);
+            let status = answer_paths(alloc, kept.plan(), buffer, answer);
+            *plan = PlanHandle::of(kept);
+            status
+        }
+        None => ended(&Err(planless(alloc)), buffer, answer),
+    }
+}
+
+/// Answers the type of the batches of the handle's plan: [`answer_scope`]. Stops where it has none.
+pub fn answer_held_scope(
+    alloc: Global,
+    plan: &mut PlanHandle,
+    buffer: &mut [u8],
+    answer: &mut Answer,
+) -> Status
+    ensures ends { HeldEnds IsScopePage (λ _. IsExhausted) plan.old.plan buffer.old result buffer.new answer.new }
+    ensures kept { plan.new.plan ≡ plan.old.plan }
+{
+    match taken(alloc, plan) {
+        Some(kept) => {
+            let status = answer_scope(alloc, kept.plan(), buffer, answer);
             *plan = PlanHandle::of(kept);
             status
         }
@@ -52,7 +73,7 @@ pub fn answer_held_batch(
 {
     match taken(alloc, plan) {
         Some(kept) => {
-            let status = ended(&page_of(alloc, &kept, batch), buffer, answer);
+            let status = ended(&page_of(alloc, kept.plan(), batch), buffer, answer);
             *plan = PlanHandle::of(kept);
             status
         }

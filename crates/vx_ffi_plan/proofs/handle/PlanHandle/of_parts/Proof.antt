@@ -19,7 +19,7 @@ use Rattle.std.proofs.raw_atomic.Walks.{proved_at}
 use Rattle.std.specs.Prelude.{Some}
 use Rattle.std.specs.contracts.alloc.Global as Global
 use Rattle.std.specs.contracts.impls.GlobalAllocator.TheImpl.{ghosts}
-use Rattle.vx_ffi_plan.specs.contracts.kept.KeptPlan as KeptPlan
+use Rattle.vx_ffi_plan.specs.contracts.shared.SharedPlan as SharedPlan
 use Rattle.vx_ffi_plan.proofs.AsBox.{E, runs_at}
 use Rattle.vx_ffi_plan.specs.contracts.handle.parts.Parts as Parts
 use Rattle.vx_ffi_plan.specs.contracts.handle.PlanHandle.of_parts as f
@@ -27,7 +27,7 @@ use Rattle.vx_ffi_plan.proofs.handle.PlanHandle.of_parts.Statement.{statement}
 use Rattle.vx_ffi_plan.proofs.handle.PlanHandle.of_parts.Code as code
 
 abbrev From : Slot 0
-From = plain (λ _. Parts.the_row KeptPlan.the_row Global.the_row ghosts)
+From = plain (λ _. Parts.the_row SharedPlan.the_row Global.the_row ghosts)
 
 abbrev stayed : Stays f.ended.signature.params f.ended.kept
 stayed = (stay_dropped From yes, tt)

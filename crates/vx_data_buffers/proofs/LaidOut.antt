@@ -1,0 +1,55 @@
+-- Columns that are written at once.
+use Rattle.std.proofs.Common.{◌≡◌, ℕ, ◌<◌, List, [], ◌∷◌, length, get_or, map, refl, sym, ap, ◌∙◌, subst, Bool, true, false, ℤ, pos}
+use Rattle.std.specs.Global.{Vec}
+use Rattle.std.specs.Prelude.{Result, Ok, Err, IfOk, IfSome, Option, Some, None}
+use Rattle.std.proofs.lemmas.List.{get_or-map, length-map}
+use Rattle.vx_dtype.specs.declared.dtype.PType.{PType}
+use Rattle.vx_value.specs.Types.{Datum, ty, Shape, atomic, truth, number, null, bool, int}
+use Rattle.vx_value.specs.Columns.{Batch, batch, first_misfit}
+use Rattle.vx_array.specs.declared.validity.Validity.{Validity}
+use Rattle.vx_array.specs.Shown as shown
+use Rattle.vx_array.specs.Shown.{shown_count}
+use Rattle.vx_data_buffers.specs.Results.{and_so}
+use Rattle.vx_data_buffers.specs.Layout.{buffer_count, found, present_at}
+use Rattle.vx_data_buffers.specs.Rows.{column_said}
+use Rattle.vx_data_buffers.specs.Arrays.{IsColumn, Tells}
+use Rattle.vx_data_buffers.specs.Laid.{AreBuffersOf, HaveNumbers, HaveTruths, SayValid, lists_in, packed_bytes}
+use Rattle.vx_data_buffers.proofs.ByteBits.{packed_are}
+use Rattle.vx_data_buffers.proofs.Columns.{column_read, said_whole}
+
+-- the two buffers of truth values
+pub have_truths : {E : Type 0} (r : Result (Vec (Vec ℕ)) E) (valid values : List ℕ) (bits : List Bool) (v : Validity) → IfOk r (λ b. lists_in b.items ≡ valid ∷ values ∷ []) → SayValid valid (length bits) v → values ≡ packed_bytes bits
+    → IfOk r (λ b. HaveTruths bits v (lists_in b.items))
+have_truths (Ok b) valid values bits v are say packed = (valid, values, are, say, rw packed (packed_are bits))
+have_truths (Err e) valid values bits v are say packed = tt
+
+-- a column whose values are read from two buffers
+laid : (array : Batch) (s : Shape) (n : Bool) (ds : List Datum) (v : Validity) (valid values : List ℕ) → buffer_count (ty s n) ≡ 2 → array.type ≡ ty s n → array.rows ≡ shown.shown v ds → first_misfit array.type array.rows ≡ None
+    → shown_count v (length ds) ≡ length ds → SayValid valid (length ds) v → ((i : ℕ) → i < length ds → present_at (valid ∷ values ∷ []) s 1 i ≡ Ok (get_or ds i null)) → AreBuffersOf array (valid ∷ values ∷ [])
+laid array s n ds v valid values two typed rows fit all say each =
+    let buffers = valid ∷ values ∷ [] in
+    let tells : Tells buffers 0 (length ds) true v = record { count = all; each = say; full = λ no. cc } in
+    let read : IsColumn buffers (ty s true) 0 (length ds) (batch (ty s true) (shown.shown v ds)) = column_read buffers s 0 (length ds) true v ds tells refl each in
+    let column : IsColumn buffers (ty s n) 0 (length ds) array = record { type = typed; count = ap length rows ∙ read.count; each = λ i h. read.each i h ∙ ap (λ rs. Ok (get_or rs i null)) (sym rows) } in
+    let said = said_whole buffers (ty s n) (length ds) array (sym two) fit column in
+    subst (λ t. column_said buffers t (length array.rows) ≡ Ok array) (sym typed) (ap (column_said buffers (ty s n)) column.count ∙ said)
+
+pub laid_truths : (array : Batch) (n : Bool) (bits : List Bool) (v : Validity) (buffers : List (List ℕ)) → array.type ≡ ty (atomic truth) n → array.rows ≡ shown.shown v (map bool bits) → first_misfit array.type array.rows ≡ None
+    → shown_count v (length bits) ≡ length bits → HaveTruths bits v buffers → AreBuffersOf array buffers
+laid_truths array n bits v buffers typed rows fit all (valid, values, is, say, are) =
+    let long : length (map bool bits) ≡ length bits = length-map bits bool in
+    rw is (laid array (atomic truth) n (map bool bits) v valid values refl typed rows fit (rw long all) (rw long say)
+    (λ i h. let low : i < length bits = subst (λ m. i < m) long h in ap (λ r. and_so (found 1 r) bool) (are.1 i low) ∙ ap Ok (sym (get_or-map bool bits i false null low))))
+
+pub laid_numbers : (array : Batch) (p : PType) (n : Bool) (ns : List ℤ) (v : Validity) (buffers : List (List ℕ)) → array.type ≡ ty (atomic (number p)) n → array.rows ≡ shown.shown v (map int ns) → first_misfit array.type array.rows ≡ None
+    → shown_count v (length ns) ≡ length ns → HaveNumbers p ns v buffers → AreBuffersOf array buffers
+laid_numbers array p n ns v buffers typed rows fit all (valid, values, is, say, are) =
+    let long : length (map int ns) ≡ length ns = length-map ns int in
+    rw is (laid array (atomic (number p)) n (map int ns) v valid values refl typed rows fit (rw long all) (rw long say)
+    (λ i h. let low : i < length ns = subst (λ m. i < m) long h in ap (λ r. and_so (found 1 r) int) (are.1 i low) ∙ ap Ok (sym (get_or-map int ns i (pos 0) null low))))
+
+-- what there is is as well what follows of it
+pub some_laid : {A E : Type 0} {P Q : A → Type 0} (r : Result (Option A) E) → ((a : A) → P a → Q a) → IfOk r (λ found. IfSome found P) → IfOk r (λ found. IfSome found Q)
+some_laid (Ok (Some a)) f h = f a h
+some_laid (Ok None) f h = h
+some_laid (Err e) f h = h

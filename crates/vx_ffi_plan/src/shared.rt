@@ -1,0 +1,67 @@
+// A plan that several handles may have.
+ghost use Rattle.std.specs.Prelude.{◌≡◌, IfOk};
+
+use crate::handle::PlanHandle;
+use crate::kept::KeptPlan;
+use std::alloc::{AllocError, Global};
+use std::marker::Model;
+use std::sync::Arc;
+
+/// A plan that several handles may have, each on a thread of its own. It is freed with the last of them.
+#[derive(Drop)]
+pub struct SharedPlan {
+    plan: Arc<KeptPlan>,
+}
+
+impl Model for SharedPlan {
+    ghost use Rattle.vx_ffi_plan.specs.declared.kept.KeptPlan.{KeptPlan};
+
+    ghost Value = { KeptPlan };
+
+    ghost view = { λ s. s.plan.value };
+}
+
+impl SharedPlan {
+    /// The plan, which has no other owner yet.
+    pub fn new(alloc: Global, plan: KeptPlan) -> Result<SharedPlan, AllocError>
+        ensures { IfOk result (λ shared. shared ≡ plan) }
+    {
+        match Arc::new(alloc, plan) {
+            Ok(plan) => Ok(SharedPlan { plan }),
+            Err(_) => Err(AllocError),
+        }
+    }
+
+    /// The plan itself.
+    pub fn plan(&self) -> &KeptPlan
+        ensures { result.now ≡ self.now }
+    {
+        &self.plan
+    }
+
+    /// Another owner of the plan, which isn't copied: a count goes up.
+    pub fn share(&self) -> Result<SharedPlan, AllocError>
+        ensures { IfOk result (λ shared. shared ≡ self.now) }
+    {
+        Ok(SharedPlan {
+            plan: self.plan.clone()?,
+        })
+    }
+}
+
+/// Plans may be sent to other threads and shared with them, and handles sent: this compiles.
+pub fn plans_are_shareable(plan: &SharedPlan, handle: &PlanHandle) {
+    assert_send(plan);
+    assert_sync(plan);
+    assert_send(handle);
+}
+
+// Compiles for a value that may be sent to other threads, and for no other.
+fn assert_send<T: Send>(value: &T) {
+    let _value = value;
+}
+
+// Compiles for a value that may be shared with other threads, and for no other.
+fn assert_sync<T: Sync>(value: &T) {
+    let _value = value;
+}
