@@ -7,7 +7,7 @@ ghost use Rattle.vx_ffi_calls.specs.Stops.{IsExhausted, IsPlaceIn, text_number};
 ghost use Rattle.vx_fn.specs.Functions.{is_truth};
 ghost use Rattle.vx_tree.specs.Trees.{node_type};
 ghost use Rattle.vx_ffi_plan.specs.Kept.{planned_tree, scope_of};
-ghost use Rattle.vx_ffi_plan.specs.ScanStops.{IsBadData, IsFaultStop};
+ghost use Rattle.vx_ffi_plan.specs.ScanStops.{IsBadData, IsFaultStop, IsNodePlace};
 ghost use Rattle.vx_ffi_plan.specs.Selections.{IsNoCondition};
 
 use crate::kept::KeptPlan;
@@ -88,7 +88,7 @@ pub(crate) fn fault_stop(alloc: Global, kept: &KeptPlan, batch: &Column) -> Call
 
 // The stop of that fault of the expression.
 fn stop_at(alloc: Global, kept: &KeptPlan, fault: NodePlace) -> CallError
-    ensures { IsExhausted result ⊎ ((result.status ≡ Faulted) × ((span : Span) × IsPlaceIn Expression (string_bytes kept.now.text) span.start span.end result.place)) }
+    ensures { IsExhausted result ⊎ ((result.status ≡ Faulted) × IsNodePlace kept.now fault.path.items result.place) }
 {
     let row = fault.row();
     let NodePlace { path, refusal } = fault;
