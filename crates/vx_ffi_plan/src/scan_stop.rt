@@ -1,9 +1,9 @@
 // What stops a scan.
-ghost use Rattle.std.specs.Prelude.{◌≡◌, ◌≢◌, ◌⊎◌, false, string_bytes};
+ghost use Rattle.std.specs.Prelude.{◌≡◌, ◌≢◌, ◌⊎◌, false};
 ghost use Rattle.vx_data_buffers.specs.declared.error.BufferError.TheVariants.{OutOfMemory};
 ghost use Rattle.vx_ffi_calls.specs.declared.answer.Status.TheVariants.{Faulted};
-ghost use Rattle.vx_ffi_calls.specs.declared.text.Given.TheVariants.{Expression, Records};
-ghost use Rattle.vx_ffi_calls.specs.Stops.{IsExhausted, IsPlaceIn, text_number};
+ghost use Rattle.vx_ffi_calls.specs.declared.text.Given.TheVariants.{Records};
+ghost use Rattle.vx_ffi_calls.specs.Stops.{IsExhausted, text_number};
 ghost use Rattle.vx_fn.specs.Functions.{is_truth};
 ghost use Rattle.vx_tree.specs.Trees.{node_type};
 ghost use Rattle.vx_ffi_plan.specs.Kept.{planned_tree, scope_of};
