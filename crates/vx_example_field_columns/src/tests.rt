@@ -31,9 +31,7 @@ fn reader(alloc: Global) -> VortexResult<FieldColumns> {
 fn only_what_is_asked_is_read(rt: HostRuntime) -> Result<(), Fail> {
     let alloc = rt.alloc();
     let reader = reader(alloc).expect(&rt, "a reader");
-    let read = reader
-        .read(alloc, &reader.allowed)
-        .expect(&rt, "an array");
+    let read = reader.read(alloc, &reader.allowed).expect(&rt, "an array");
     let column = read.to_column(alloc).expect(&rt, "a column");
     let text = format!(in alloc; "{column}").expect(&rt, "a text");
     assert!(rt;
