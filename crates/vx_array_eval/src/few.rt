@@ -169,11 +169,11 @@ fn zip_of(
     }
 }
 
-// Whether the value is a truth value or a number.
+// Whether the value fills nulls, as each does that isn't null.
 fn is_fill(value: &Value) -> bool
     ensures { result ≡ true → (is_null_datum (value_of value.now) ≡ false) × (differs (value_of value.now) (value_of value.now) ≡ false) }
 {
-    matches!(value, Value::Bool(_) | Value::Int(_))
+    !value.is_null()
 }
 
 // The first child's type, if there is one.
