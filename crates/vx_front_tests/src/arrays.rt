@@ -1,0 +1,40 @@
+// Arrays as they are shown, their nulls, and arrays one after another.
+use std::alloc::Global;
+use vx_expr::arrays::{Array, BitPart, Bits, Validity, concat, primitive, texts};
+use vx_expr::prelude::*;
+
+/// Three texts, of which the second one is null.
+fn fruits(alloc: Global) -> VortexResult<Array> {
+    let valid = Bits::from_bools(alloc, &[true, false, true])?;
+    let validity = Validity::Rows(BitPart::new(alloc, valid)?);
+    texts(alloc, &["pear", "plum", "fig"], Some(validity))
+}
+
+/// The texts, then two of them once more.
+fn more_fruits(alloc: Global) -> VortexResult<Array> {
+    let fruits = fruits(alloc)?;
+    let last = fruits.slice(1, 2)?;
+    let dtype = fruits.dtype().clone()?;
+    concat(alloc, &dtype, &[fruits, last])
+}
+
+#[test]
+fn arrays_one_after_another_are_shown(rt: HostRuntime) -> VortexResult<()> {
+    let alloc = rt.alloc();
+    let all = more_fruits(alloc)?;
+    let page = format!(in alloc; "{all} {} {}", all.null_count(), all.is_null(4))?;
+    assert_eq!(rt;
+        page.as_str(),
+        r#"["pear", null, "fig", null, "fig"] 2 false"#
+    );
+    Ok(())
+}
+
+#[test]
+fn arrays_of_two_types_are_refused(rt: HostRuntime) -> VortexResult<()> {
+    let alloc = rt.alloc();
+    let numbers = primitive(alloc, vec![in alloc; 1i32, 2]?, None)?;
+    let joined = concat(alloc, fruits(alloc)?.dtype(), &[numbers]);
+    assert!(rt; matches!(joined, Err(VortexError::ScopeMismatch)));
+    Ok(())
+}
