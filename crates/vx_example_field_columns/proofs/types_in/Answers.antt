@@ -12,5 +12,5 @@ loop-column-preserved c =
     let same : type_of c.in_ok-clone.field-0 ≡ column.type = c.in_ok-clone.ensures.cases ∙ c.dtype.ensures in record {
       typed = ap (map type_of) c.in_ok-push.ensures.items ∙ map-append type_of c.loop-column.types.items (c.in_ok-clone.field-0 ∷ [])
           ∙ rw (c.loop-column.invariant.typed, same, ap (λ (x : Batch). x.type) c.column-item.is) (sym (map_more (λ (x : Batch). x.type) columns c.loop-column.column-index column (omega arith)));
-      fit = All-more (λ (x : Batch). first_misfit x.type x.rows ≡ None) columns c.loop-column.column-index column (omega arith) c.loop-column.invariant.fit (rw (← c.column-item.is) c.rows-rows.ensures.fit);
+      fit = All-more (λ (x : Batch). first_misfit x.type x.rows ≡ None) columns c.loop-column.column-index column (omega arith) c.loop-column.invariant.fit (rw (← c.column-item.is) c.lanes.ensures.fit);
     }
