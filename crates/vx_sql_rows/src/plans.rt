@@ -119,16 +119,36 @@ fn push_plan(
         &mut plans.script,
     )?;
     match residual {
-        Some(residual) => {
-            let column = apply_bound(alloc, batch, &residual)?;
-            push_true(alloc, number, &column, &mut plans.left)?;
-        }
-        None => {
-            for i in 0..batch.rows().len() {
-                let line = format!(in alloc; "{number} {i}\n")?;
-                plans.left.push_str(line.as_str())?;
-            }
-        }
+        Some(residual) => push_left(alloc, number, &residual, batch, &mut plans.left),
+        None => Ok(push_all(alloc, number, batch.len(), &mut plans.left)?),
+    }
+}
+
+// The rows of which what is left is true.
+fn push_left(
+    alloc: Global,
+    number: usize,
+    residual: &BoundExpression,
+    batch: &Column,
+    left: &mut String,
+) -> Result<(), Unread> {
+    if !residual.is_well_typed(alloc)? {
+        return Err(Unread::Word("what is left isn't well typed"));
+    }
+    let column = apply_bound(alloc, batch, residual)?;
+    Ok(push_true(alloc, number, &column, left)?)
+}
+
+// All of so many rows.
+fn push_all(
+    alloc: Global,
+    number: usize,
+    count: usize,
+    left: &mut String,
+) -> Result<(), AllocError> {
+    for i in 0..count {
+        let line = format!(in alloc; "{number} {i}\n")?;
+        left.push_str(line.as_str())?;
     }
     Ok(())
 }
