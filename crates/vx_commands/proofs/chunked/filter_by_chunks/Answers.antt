@@ -34,8 +34,7 @@ returns-in-Err-filter_chunks-clause-error g c =
     let told = g.E.Write.contents c.args.err.now in
     let cond = bound_over e _ s _ c.deref.result.now c.dtype.ensures c.deref.ensures c.in-Ok.ensures.bound in
     let stopped = subst (λ e. Stops leaves b c.args.records.now c.in-Err-filter_chunks.error (KeptByChunks s head e m b out after) (BrokeByChunks s head e m b out after)) cond.0.0 c.in-Err-filter_chunks.ensures.stopped in
-    let (span, is) = c.stopped.ensures in
-    subst (λ r. IsKeptByChunksUntil leaves s head e m c.args.query.now.limit r c.args.records.now c.filter_chunks.new.records out after told told) (sym is) (b, cond, inl (stopped, untold told))
+    subst (λ r. IsKeptByChunksUntil leaves s head e m c.args.query.now.limit r c.args.records.now c.filter_chunks.new.records out after told told) (sym c.stopped.ensures) (b, cond, inl (stopped, untold told))
 
 pub returns-in-Ok-tell-clause-kept : goal.returns-in-Ok-tell-clause-kept
 returns-in-Ok-tell-clause-kept g c =
@@ -62,6 +61,5 @@ returns-clause-error g c =
     let after = g.W.Write.contents c.filter_chunks.new.out in
     let cond = bound_over e _ s _ c.deref.result.now c.dtype.ensures c.deref.ensures c.in-Ok.ensures.bound in
     let (rs, reads, (is, kept)) = c.in-Ok-filter_chunks.ensures.kept in
-    let (span, stopped) = c.stopped-in-Err-tell.ensures in
-    subst (λ r. IsKeptByChunksUntil leaves s head e m c.args.query.now.limit r c.args.records.now c.filter_chunks.new.records out after (g.E.Write.contents c.args.err.now) (g.E.Write.contents c.tell.new.err)) (sym stopped)
+    subst (λ r. IsKeptByChunksUntil leaves s head e m c.args.query.now.limit r c.args.records.now c.filter_chunks.new.records out after (g.E.Write.contents c.args.err.now) (g.E.Write.contents c.tell.new.err)) (sym c.stopped-in-Err-tell.ensures)
     (b, cond, inr ((rs, reads, subst (λ e. KeptByChunks s head e m b out after rs) cond.0.0 kept), tt))
