@@ -94,8 +94,8 @@ class Faults(unittest.TestCase):
                 plan.scan([1])
             self.assertEqual((caught.exception.place.text, caught.exception.place.record), ("records", 1))
             # (the buffers of a column of i32)
-            with self.assertRaises(vx.DataError) as caught:
-                scan_plan(plan._handle, 1, [b"", b"\1\0\0\0"])
+            with self.assertRaises(vx.DataError) as caught, plan._handles.lent() as handle:
+                scan_plan(handle, 1, [b"", b"\1\0\0\0"])
             self.assertEqual((caught.exception.place.text, caught.exception.place.record), ("records", None))
 
     def assert_is_at(self, error, start, end, record, message):
