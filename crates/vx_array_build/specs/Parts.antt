@@ -6,10 +6,16 @@ use Rattle.vx_dtype.specs.declared.error.VortexError.TheVariants.{ScopeMismatch}
 use Rattle.vx_dtype.specs.Equality.{equal_type}
 use Rattle.vx_value.specs.Types.{LogicalType, Datum}
 use Rattle.vx_value.specs.Columns.{Batch, batch}
+use Rattle.vx_array.specs.declared.lanes.Lanes.{Lanes}
+use Rattle.vx_array.specs.Rows.{lanes_rows}
 
 -- the rows of each part, one part after another
 abbrev pub rows_of_parts : List Batch → List Datum
 rows_of_parts parts = flat_map (λ (part : Batch). part.rows) parts
+
+-- the rows of each of the lanes, one after another
+abbrev pub rows_of_lanes : List Lanes → List Datum
+rows_of_lanes parts = flat_map lanes_rows parts
 
 -- whether each part is of that type
 abbrev pub all_of_type : LogicalType → List Batch → Bool

@@ -5,9 +5,10 @@ ghost use Rattle.vx_dtype.specs.declared.error.VortexError.TheVariants.{ScopeMis
 ghost use Rattle.vx_value.specs.StructColumns.{EachFit};
 ghost use Rattle.vx_value.specs.Views.{type_of, value_of};
 ghost use Rattle.vx_array.specs.Rows.{lanes_rows};
-ghost use Rattle.vx_array_build.specs.Parts.{all_of_type, parts_joined, rows_of_parts};
+ghost use Rattle.vx_array_build.specs.Parts.{all_of_type, parts_joined, rows_of_lanes, rows_of_parts};
 
 use crate::columns::typed_lanes;
+use crate::one_buffer::in_one_buffer;
 use crate::same::same_rows;
 use std::alloc::{AllocError, Global};
 use vx_array::{Array, Lanes, value_at};
@@ -28,13 +29,17 @@ pub fn concat(alloc: Global, dtype: &DType, parts: &[Array]) -> VortexResult<Arr
     Ok(Array::new(dtype, lanes))
 }
 
-// The rows of the parts: a constant where each part is one of the same value, and else in buffers for the
-// type's kind.
+// The rows of the parts: a constant where each part is one of the same value, the parts' buffers one after
+// another where they can be, and else values in buffers for the type's kind.
 fn joined_lanes(alloc: Global, dtype: &DType, parts: &[Array]) -> Result<Lanes, AllocError>
     ensures rows { IfOk result (λ lanes. lanes_rows lanes ≡ rows_of_parts parts.now) }
     ensures fit { IfOk result (λ _. EachFit parts.now) }
 {
     if let Some(lanes) = same_rows(parts)? {
+        return Ok(lanes);
+    }
+    let each = lanes_of_parts(alloc, parts)?;
+    if let Some(lanes) = in_one_buffer(alloc, each.as_slice())? {
         return Ok(lanes);
     }
     let values = values_of(alloc, parts)?;
@@ -47,6 +52,18 @@ fn all_of_type(dtype: &DType, parts: &[Array]) -> bool
     ensures { result ≡ all_of_type (type_of dtype.now) parts.now }
 {
     parts.iter().all(|part| *part.dtype() == *dtype)
+}
+
+// The lanes of each part, which share its buffers.
+fn lanes_of_parts(alloc: Global, parts: &[Array]) -> Result<Vec<Lanes>, AllocError>
+    ensures rows { IfOk result (λ lanes. rows_of_lanes lanes.items ≡ rows_of_parts parts.now) }
+    ensures fit { IfOk result (λ _. EachFit parts.now) }
+{
+    let mut each = Vec::with_capacity(alloc, parts.len())?;
+    for i in 0..parts.len() {
+        each.push(parts[i].lanes().clone()?)?;
+    }
+    Ok(each)
 }
 
 // The values of the parts' rows.
