@@ -15,10 +15,13 @@ pub struct SharedPlan {
 
 impl Model for SharedPlan {
     ghost use Rattle.vx_ffi_plan.specs.declared.kept.KeptPlan.{KeptPlan};
+    ghost use Rattle.vx_ffi_plan.specs.contracts.kept.KeptPlan as kept;
 
     ghost Value = { KeptPlan };
 
     ghost view = { λ s. s.plan.value };
+
+    ghost coded = { kept.the_row.coded };
 }
 
 impl SharedPlan {
