@@ -26,8 +26,6 @@ impl Model for PlanHandle {
     ghost also_owns = { λ h. plan_owns h.alloc h.at h.plan };
 }
 
-unsafe impl Send for PlanHandle {}
-
 impl Drop for PlanHandle {
     fn drop(self) {
         let _plan = self.into_option();

@@ -25,4 +25,4 @@ pub use made::{answer_new, free_plan};
 pub use paths::answer_paths;
 pub use scope::answer_scope;
 pub use share::share_plan;
-pub use shared::{SharedPlan, plans_are_shareable};
+pub use shared::SharedPlan;

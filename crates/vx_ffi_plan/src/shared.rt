@@ -1,7 +1,6 @@
 // A plan that several handles may have.
 ghost use Rattle.std.specs.Prelude.{◌≡◌, IfOk};
 
-use crate::handle::PlanHandle;
 use crate::kept::KeptPlan;
 use std::alloc::{AllocError, Global};
 use std::marker::Model;
@@ -50,21 +49,4 @@ impl SharedPlan {
             plan: self.plan.clone()?,
         })
     }
-}
-
-/// Plans may be sent to other threads and shared with them, and handles sent: this compiles.
-pub fn plans_are_shareable(plan: &SharedPlan, handle: &PlanHandle) {
-    assert_send(plan);
-    assert_sync(plan);
-    assert_send(handle);
-}
-
-// Compiles for a value that may be sent to other threads, and for no other.
-fn assert_send<T: Send>(value: &T) {
-    let _value = value;
-}
-
-// Compiles for a value that may be shared with other threads, and for no other.
-fn assert_sync<T: Sync>(value: &T) {
-    let _value = value;
 }
