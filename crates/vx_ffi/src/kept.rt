@@ -2,6 +2,7 @@
 ghost use Rattle.std.specs.Prelude.{◌≡◌, None};
 ghost use Rattle.vx_data_buffers.specs.Bytes.{bytes_in};
 ghost use Rattle.vx_ffi_calls.specs.Stops.{IsExhausted};
+ghost use Rattle.vx_ffi_plan.specs.Columns.{FilterStops, IsColumnPage, IsFilteredPage};
 ghost use Rattle.vx_ffi_plan.specs.Kept.{IsPathsPage, IsScanPage, IsScopePage};
 ghost use Rattle.vx_ffi_plan.specs.ScanStops.{ScanStops};
 ghost use Rattle.vx_ffi_plan.specs.Selections.{IsSelectPage, SelectStops};
@@ -97,6 +98,50 @@ pub extern "C" fn vx_plan_select(
 {
     let batch = GivenBatch {
         asked: Asked::Rows,
+        rows,
+        buffers,
+    };
+    answer_held_batch(alloc, plan, &batch, buffer, answer).number()
+}
+
+/// Answers what the plan's expression means at each row of the batch in the buffers, as a column in buffers:
+/// [`answer_held_batch`].
+#[unsafe(no_mangle)]
+pub extern "C" fn vx_plan_scan_column(
+    alloc: Global,
+    plan: &mut PlanHandle,
+    rows: usize,
+    buffers: &[Buffer<'_>],
+    buffer: &mut [u8],
+    answer: &mut Answer,
+) -> u32
+    ensures ends { HeldEndsWith (λ kept. IsColumnPage kept rows (bytes_in buffers.now)) (λ kept. ScanStops kept rows (bytes_in buffers.now)) plan.old.plan buffer.old result buffer.new answer.new }
+    ensures kept { plan.new.plan ≡ plan.old.plan }
+{
+    let batch = GivenBatch {
+        asked: Asked::Column,
+        rows,
+        buffers,
+    };
+    answer_held_batch(alloc, plan, &batch, buffer, answer).number()
+}
+
+/// Answers the rows of the batch in the buffers at which the plan's expression is true, as a column in
+/// buffers: [`answer_held_batch`].
+#[unsafe(no_mangle)]
+pub extern "C" fn vx_plan_filter_column(
+    alloc: Global,
+    plan: &mut PlanHandle,
+    rows: usize,
+    buffers: &[Buffer<'_>],
+    buffer: &mut [u8],
+    answer: &mut Answer,
+) -> u32
+    ensures ends { HeldEndsWith (λ kept. IsFilteredPage kept rows (bytes_in buffers.now)) (λ kept. FilterStops kept rows (bytes_in buffers.now)) plan.old.plan buffer.old result buffer.new answer.new }
+    ensures kept { plan.new.plan ≡ plan.old.plan }
+{
+    let batch = GivenBatch {
+        asked: Asked::Filtered,
         rows,
         buffers,
     };

@@ -2,3 +2,4 @@ mod Given
 mod AsBox
 mod Ended
 mod Stopped
+mod SelectedRows

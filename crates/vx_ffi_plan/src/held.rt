@@ -9,6 +9,7 @@ ghost use Rattle.vx_ffi_plan.specs.Batches.{BatchStops, IsBatchPage};
 use crate::batch::{Asked, GivenBatch};
 use crate::handle::PlanHandle;
 use crate::kept::KeptPlan;
+use crate::laid::{filtered_column, scanned_column};
 use crate::paths::answer_paths;
 use crate::scan::scanned;
 use crate::scope::answer_scope;
@@ -59,8 +60,9 @@ pub fn answer_held_scope(
 }
 
 /// Answers what the call asks of the handle's plan over the batch in the buffers: a line of JSON for each
-/// value, or a byte for each row, which is 1 where the expression is true. Stops where the handle has no
-/// plan, and as reading the buffers, the plan's expression or writing its values does.
+/// value; a byte for each row, which is 1 where the expression is true; the values, or the rows where it is
+/// true, as a column in buffers. Stops where the handle has no plan, and as reading the buffers, the plan's
+/// expression or writing what is answered does.
 pub fn answer_held_batch(
     alloc: Global,
     plan: &mut PlanHandle,
@@ -89,5 +91,7 @@ fn page_of(alloc: Global, plan: &KeptPlan, batch: &GivenBatch<'_>) -> Result<Vec
     match batch.asked {
         Asked::Values => scanned(alloc, plan, batch),
         Asked::Rows => selected(alloc, plan, batch),
+        Asked::Column => scanned_column(alloc, plan, batch),
+        Asked::Filtered => filtered_column(alloc, plan, batch),
     }
 }

@@ -2,9 +2,11 @@
 #![tactic(auto)]
 
 mod batch;
+mod frames;
 mod handle;
 mod held;
 mod kept;
+mod laid;
 mod made;
 mod paths;
 mod scan;
