@@ -94,6 +94,23 @@ vx_status vx_plan_scan_arrow_json(vx_plan *plan, const char *schema, size_t sche
                                   const struct ArrowSchema *type, const struct ArrowArray *array,
                                   char *buffer, size_t buffer_length, vx_answer *answer);
 
+/* What the expression means at each row of the array, as a column: *values is its array, and *values_type its
+   type, which may be a null pointer. What is given is as vx_plan_select_arrow takes it.
+
+   Where the call answers, the structs are the caller's, who has to call release of each. Until then they keep
+   what they point to, also where a child was moved out. They don't need the array that was given, nor the plan.
+   Where it doesn't, both have release NULL. The buffer is for a message alone. */
+vx_status vx_plan_scan_arrow(vx_plan *plan, const char *schema, size_t schema_length,
+                             const struct ArrowSchema *type, const struct ArrowArray *array,
+                             struct ArrowArray *values, struct ArrowSchema *values_type,
+                             char *buffer, size_t buffer_length, vx_answer *answer);
+
+/* The rows of the array at which the expression is true, as a column of the plan's type in the same way. */
+vx_status vx_plan_filter_arrow(vx_plan *plan, const char *schema, size_t schema_length,
+                               const struct ArrowSchema *type, const struct ArrowArray *array,
+                               struct ArrowArray *rows, struct ArrowSchema *rows_type,
+                               char *buffer, size_t buffer_length, vx_answer *answer);
+
 #ifdef __cplusplus
 }
 #endif

@@ -3,7 +3,7 @@ ghost use Rattle.std.specs.Prelude.{◌≡◌, None};
 ghost use Rattle.vx_data_buffers.specs.Bytes.{bytes_in};
 ghost use Rattle.vx_ffi_calls.specs.Stops.{IsExhausted};
 ghost use Rattle.vx_ffi_plan.specs.Columns.{FilterStops, IsColumnPage, IsFilteredPage};
-ghost use Rattle.vx_ffi_plan.specs.Kept.{IsPathsPage, IsScanPage, IsScopePage};
+ghost use Rattle.vx_ffi_plan.specs.Kept.{IsPathsPage, IsPlanTypePage, IsScanPage, IsScopePage};
 ghost use Rattle.vx_ffi_plan.specs.ScanStops.{ScanStops};
 ghost use Rattle.vx_ffi_plan.specs.Selections.{IsSelectPage, SelectStops};
 ghost use Rattle.vx_ffi_plan.specs.Held.{HeldEndsWith, NewEndsWith, ShareEndsWith};
@@ -13,7 +13,7 @@ use vx_data_buffers::Buffer;
 use vx_ffi_calls::{Answer, GivenQuery};
 use vx_ffi_plan::{
     Asked, GivenBatch, PlanHandle, answer_held_batch, answer_held_paths, answer_held_scope,
-    answer_new, free_plan, share_plan,
+    answer_held_type, answer_new, free_plan, share_plan,
 };
 
 /// Makes the plan of the expression over batches of the schema's type: [`answer_new`].
@@ -58,6 +58,20 @@ pub extern "C" fn vx_plan_scope(
     ensures kept { plan.new.plan ≡ plan.old.plan }
 {
     answer_held_scope(alloc, plan, buffer, answer).number()
+}
+
+/// Answers the type of the plan's expression, as source text on a line: [`answer_held_type`].
+#[unsafe(no_mangle)]
+pub extern "C" fn vx_plan_type(
+    alloc: Global,
+    plan: &mut PlanHandle,
+    buffer: &mut [u8],
+    answer: &mut Answer,
+) -> u32
+    ensures ends { HeldEndsWith IsPlanTypePage (λ _. IsExhausted) plan.old.plan buffer.old result buffer.new answer.new }
+    ensures kept { plan.new.plan ≡ plan.old.plan }
+{
+    answer_held_type(alloc, plan, buffer, answer).number()
 }
 
 /// Answers what the plan's expression means at each row of the batch in the buffers, as a line of JSON

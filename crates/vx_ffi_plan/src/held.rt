@@ -2,7 +2,7 @@
 ghost use Rattle.std.specs.Prelude.{◌≡◌, IfErr, IfOk};
 ghost use Rattle.vx_data_buffers.specs.Bytes.{bytes_in};
 ghost use Rattle.vx_ffi_calls.specs.Stops.{IsExhausted};
-ghost use Rattle.vx_ffi_plan.specs.Kept.{IsPathsPage, IsScopePage};
+ghost use Rattle.vx_ffi_plan.specs.Kept.{IsPathsPage, IsPlanTypePage, IsScopePage};
 ghost use Rattle.vx_ffi_plan.specs.Held.{HeldEnds};
 ghost use Rattle.vx_ffi_plan.specs.Batches.{BatchStops, IsBatchPage};
 
@@ -12,7 +12,7 @@ use crate::kept::KeptPlan;
 use crate::laid::{filtered_column, scanned_column};
 use crate::paths::answer_paths;
 use crate::scan::scanned;
-use crate::scope::answer_scope;
+use crate::scope::{answer_scope, answer_type};
 use crate::select::selected;
 use crate::stop::planless;
 use crate::taken::taken;
@@ -52,6 +52,26 @@ pub fn answer_held_scope(
     match taken(alloc, plan) {
         Some(kept) => {
             let status = answer_scope(alloc, kept.plan(), buffer, answer);
+            *plan = PlanHandle::of(kept);
+            status
+        }
+        None => ended(&Err(planless(alloc)), buffer, answer),
+    }
+}
+
+/// Answers the type of the expression of the handle's plan: [`answer_type`]. Stops where it has none.
+pub fn answer_held_type(
+    alloc: Global,
+    plan: &mut PlanHandle,
+    buffer: &mut [u8],
+    answer: &mut Answer,
+) -> Status
+    ensures ends { HeldEnds IsPlanTypePage (λ _. IsExhausted) plan.old.plan buffer.old result buffer.new answer.new }
+    ensures kept { plan.new.plan ≡ plan.old.plan }
+{
+    match taken(alloc, plan) {
+        Some(kept) => {
+            let status = answer_type(alloc, kept.plan(), buffer, answer);
             *plan = PlanHandle::of(kept);
             status
         }
