@@ -46,6 +46,67 @@ static void check_values(const Column *c)
     free((char *)schema.bytes);
 }
 
+/* The column, or a child that was moved out before the rest was released, is still there, and is released. */
+static void let_go(Column *values)
+{
+    if (values->array.n_children == 0 || by_chance(2)) {
+        release_column(values);
+        return;
+    }
+    size_t i = by_chance((size_t)values->array.n_children);
+    Column moved = {*values->schema.children[i], *values->array.children[i]};
+    values->schema.children[i]->release = NULL;
+    values->array.children[i]->release = NULL;
+    char *before = lines_of(&moved.schema, &moved.array);
+    release_column(values);
+    char *after = lines_of(&moved.schema, &moved.array);
+    need(strcmp(before, after) == 0, "another child", &moved);
+    free(before);
+    free(after);
+    release_column(&moved);
+}
+
+/* What the expression answers of the column, by the call, is a column of these lines. */
+static void check_column(ColumnCall *call, const char *expression, const Column *c, const char *wanted)
+{
+    Text schema, type;
+    vx_plan plan = plan_over(expression, c, &schema), other;
+    Column values;
+    Answered a = column_out(call, &plan, schema, c, &values);
+    need(a.status == VX_ANSWERED, "no column", c);
+    if (a.status == VX_ANSWERED) {
+        char *lines = lines_of(&values.schema, &values.array);
+        need(strcmp(lines, wanted) == 0, "another column", c);
+        free(lines);
+        other = plan_over("$", &values, &type);
+        need(type.length == schema.length && memcmp(type.bytes, schema.bytes, type.length) == 0, "another type", c);
+        vx_plan_free(&other);
+        free((char *)type.bytes);
+        let_go(&values);
+    }
+    free(a.text);
+    vx_plan_free(&plan);
+    free((char *)schema.bytes);
+}
+
+/* The column itself, and its rows that aren't null. */
+static void check_columns(const Column *c)
+{
+    char *lines = lines_of(&c->schema, &c->array), *to = lines;
+    check_column(vx_plan_scan_arrow, "$", c, lines);
+    for (const char *from = lines; *from;) {
+        size_t length = strcspn(from, "\n") + 1;
+        if (strncmp(from, "null\n", 5) != 0) {
+            memmove(to, from, length);
+            to += length;
+        }
+        from += length;
+    }
+    *to = 0;
+    check_column(vx_plan_filter_arrow, "$ is not null", c, lines);
+    free(lines);
+}
+
 /* --- what is wrong --- */
 
 /* Puts what can't be in the place of one of an array's fields. */
@@ -107,6 +168,7 @@ int arrow_by_chance(size_t times, uint64_t seed)
         Column c = random_column(3, by_chance(4) ? by_chance(20) : by_chance(3));
         Text schema;
         check_values(&c);
+        check_columns(&c);
         vx_plan plan = plan_over("$", &c, &schema);
         for (int turn = 0; turn < 4; turn++)
             check_broken(&c, &plan, schema);
