@@ -161,6 +161,13 @@ class Plan {
         }));
     }
 
+    // The type of its expression.
+    std::string type() {
+        return detail::line(detail::answered<std::string>([&](char *buffer, std::size_t room, vx_answer *answer) {
+            return vx_plan_type(&plan_, buffer, room, answer);
+        }));
+    }
+
     // The paths of the fields that are read, each from the row on: {{"x"}, {"a", "b"}}.
     std::vector<std::vector<std::string>> paths() {
         return detail::names_of(detail::answered<std::string>([&](char *buffer, std::size_t room, vx_answer *answer) {
@@ -183,7 +190,22 @@ class Plan {
         return on_array<std::string>(vx_plan_scan_arrow_json, type, array);
     }
 
+    // What stands at each row, or the rows at which it is true, as a column, whose structs the caller releases.
+    void scan(const ArrowSchema &type, const ArrowArray &array, ArrowArray &values, ArrowSchema &values_type) {
+        column_of(vx_plan_scan_arrow, type, array, values, values_type);
+    }
+    void filter(const ArrowSchema &type, const ArrowArray &array, ArrowArray &rows, ArrowSchema &rows_type) {
+        column_of(vx_plan_filter_arrow, type, array, rows, rows_type);
+    }
+
   private:
+    template <class Call>
+    void column_of(Call call, const ArrowSchema &type, const ArrowArray &array, ArrowArray &out, ArrowSchema &out_type) {
+        detail::answered<std::string>([&](char *buffer, std::size_t room, vx_answer *answer) {
+            return call(&plan_, schema_.data(), schema_.size(), &type, &array, &out, &out_type, buffer, room, answer);
+        });
+    }
+
     void swap(Plan &other) noexcept {
         std::swap(plan_, other.plan_);
         schema_.swap(other.schema_);

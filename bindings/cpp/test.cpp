@@ -128,7 +128,14 @@ static void test_arrow() {
     EXPECT(vx::schema_of(type) == "{x=i32?}");
     vx::Plan plan("x > 5", type);
     EXPECT(plan.select(type, array) == std::vector<uint8_t>{1, 0, 1});
-    EXPECT(plan.scan_json(type, array) == "true\nnull\ntrue\n");
+    EXPECT(plan.scan_json(type, array) == "true\nnull\ntrue\n" && plan.type() == "bool?");
+    ArrowSchema rows_type;
+    ArrowArray rows;
+    plan.filter(type, array, rows, rows_type);
+    EXPECT(rows.length == 2 && static_cast<const int32_t *>(rows.children[0]->buffers[1])[1] == 9);
+    EXPECT(plan.scan_json(rows_type, rows) == "true\ntrue\n");
+    rows_type.release(&rows_type);
+    rows.release(&rows);
     x.format = "l";
     EXPECT(stops([&] { plan.select(type, array); }, VX_BAD_DATA, VX_RECORDS, 0, 0));
     x.format = "g";

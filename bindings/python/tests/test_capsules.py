@@ -56,6 +56,26 @@ class Capsules(unittest.TestCase):
         with vx.Plan("$ > 5", "i32?") as plan:
             self.assertEqual(plan.scan(numbers([7, 1], b"\1")), [True, None])
 
+    def test_columns(self):
+        batch = record_batch(3, x=numbers([1, 5, 7], b"\5"), s=texts("a", "b", "c"))
+        with vx.Plan("x + 1", vx.schema_of(batch)) as plan:
+            column = plan.scan_arrow(batch)
+            self.assertEqual((column.type, len(column)), ("i32?", 3))
+            with vx.Plan("$ + 1", column.type) as again:
+                self.assertEqual(again.scan(column), [3, None, 9])
+            with self.assertRaises(ValueError):
+                column.__arrow_c_array__()
+            plan.scan_arrow(batch)
+            with self.assertRaises(vx.RefusedError):
+                plan.filter_arrow(batch)
+        with vx.Plan("x > 5 or s = 'a'", vx.schema_of(batch)) as plan:
+            column = plan.filter_arrow(batch)
+            self.assertEqual((column.type, len(column)), ("{x=i32?, s=utf8}", 2))
+            with vx.Plan("$", column.type) as again:
+                self.assertEqual(again.scan(column), [{"x": 1, "s": "a"}, {"x": 7, "s": "c"}])
+        with self.assertRaises(vx.NoPlanError):
+            plan.scan_arrow(batch)
+
     def test_offsets(self):
         for offset in range(10):
             inner = numbers(list(range(40)), b"\x55\xaa\x0f\xf0\x99", offset=3)

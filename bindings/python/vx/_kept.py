@@ -5,11 +5,11 @@ from __future__ import annotations
 import json
 from typing import Any, List, Tuple
 
-from . import _arrow, _capsules
+from . import _arrow, _capsules, _results
 from ._batches import batch_of
 from ._calls import Rows, check, encoded
 from ._handles import Handles
-from ._library import plan_paths, plan_scope, scan_arrow, scan_plan, select_arrow, select_plan
+from ._library import column_arrow, plan_paths, plan_scope, scan_arrow, scan_plan, select_arrow, select_plan
 from ._plans import paths_of
 from ._types import type_of, values_of
 
@@ -92,6 +92,29 @@ class Plan:
             else:
                 page = select_plan(handle, *lent)
         return memoryview(page).cast("?")
+
+    def scan_arrow(self, batch: Any) -> _results.ArrowColumn:
+        """What the expression means at each row, as :meth:`scan`, as a column for other libraries.
+
+        The batch is one that a library exports by ``__arrow_c_array__``, as pyarrow's record batches, with all
+        columns of the plan's type, in its order.
+        """
+        return self._column("vx_plan_scan_arrow", self.type, batch)
+
+    def filter_arrow(self, batch: Any) -> _results.ArrowColumn:
+        """The rows of the batch at which the expression is true, as a column of the plan's type. Raises as
+        :meth:`select` does, of a batch as :meth:`scan_arrow` takes it."""
+        return self._column("vx_plan_filter_arrow", str(self._scope), batch)
+
+    def _column(self, call: str, type: str, batch: Any) -> _results.ArrowColumn:
+        """The column of that type which the call answers."""
+        lent = _capsules.exported(batch)
+        names = (b"arrow_schema", b"arrow_array")
+        structs = [_results.struct_of(name) for name in names]
+        with self._handles.lent() as handle:
+            column_arrow(call, handle, self._schema, lent, *structs)
+        schema, array = (_results.capsule_of(name, struct) for name, struct in zip(names, structs))
+        return _results.ArrowColumn(type, int.from_bytes(structs[1].raw[:8], "little"), (schema, array))
 
     def _batch_of(self, batch: Rows) -> Tuple[int, List[Any]]:
         """How many rows the batch has, and their buffers."""
