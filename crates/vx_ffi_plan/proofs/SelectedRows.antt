@@ -15,10 +15,8 @@ as_long : (fault : Option VortexError) (c b : Batch) → unless_fault fault c �
 as_long None c b is = cc
 as_long (Some e) c b is = cc
 
-found_of : (found : List Bool) (b : Batch) → Ok {B = VortexError} found ≡ Ok (true_rows b) → length found ≡ length b.rows
-found_of found b is = let same : found ≡ true_rows b = cc in ap length same ∙ length-map b.rows is_true
-
 pub selection_long : (u : BoundTree) (c : Batch) (found : List Bool) → IsSelection u c (Ok found) → length found ≡ length c.rows
 selection_long u c found (Ok b, values, is) =
-    found_of found b is ∙ as_long (first_fault u c.rows) (batch (node_type u) (map (mean (unbound u) c.type) c.rows)) b values.0 ∙ length-map c.rows (mean (unbound u) c.type)
+    let same : found ≡ true_rows b = cc in
+    ap length same ∙ length-map b.rows is_true ∙ as_long (first_fault u c.rows) (batch (node_type u) (map (mean (unbound u) c.type) c.rows)) b values.0 ∙ length-map c.rows (mean (unbound u) c.type)
 selection_long u c found (Err e, values, is) = cc
