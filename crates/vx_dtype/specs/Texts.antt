@@ -1,10 +1,15 @@
 -- Texts with commas between them, and the text of a type.
-use Rattle.std.specs.Prelude.{ℕ, Bool, true, false, List, [], ◌∷◌, ◌++◌, codes}
+use Rattle.std.specs.Prelude.{ℕ, Bool, true, false, List, [], ◌∷◌, ◌++◌, Option, Some, None, codes}
 use Rattle.std.specs.Fmt.{decimal}
 use Rattle.std.specs.List.{join_by}
-use Rattle.vx_dtype.specs.declared.dtype.PType.{PType}
-use Rattle.vx_dtype.specs.declared.dtype.PType.TheVariants.{U8, U16, U32, U64, I8, I16, I32, I64}
-use Rattle.vx_dtype.specs.Types.{Atomic, truth, number, text, octets, LogicalType, ty, Shape, atomic, list, fixed, struct, Fields, no_field, field}
+use Rattle.vx_dtype.specs.declared.ptype.FloatType.{FloatType}
+use Rattle.vx_dtype.specs.declared.ptype.FloatType.TheVariants.{F32, F64}
+use Rattle.vx_dtype.specs.declared.ptype.IntType.{IntType}
+use Rattle.vx_dtype.specs.declared.ptype.IntType.TheVariants.{U8, U16, U32, U64, I8, I16, I32, I64}
+use Rattle.vx_dtype.specs.declared.timestamp_type.TimeUnit.{TimeUnit}
+use Rattle.vx_dtype.specs.declared.timestamp_type.TimeUnit.TheVariants.{Seconds, Milliseconds, Microseconds, Nanoseconds}
+use Rattle.vx_dtype.specs.Quotes.{between_quotes}
+use Rattle.vx_dtype.specs.Types.{Name, Atomic, truth, number, floating, decimals, date, timestamp, text, octets, LogicalType, ty, Shape, atomic, list, fixed, struct, Fields, no_field, field}
 
 -- the texts, joined by `, `
 abbrev pub with_commas : List (List ℕ) → List ℕ
@@ -15,21 +20,42 @@ abbrev pub mark : Bool → List ℕ
 mark false = []
 mark true = codes "?"
 
--- the text of a number type
-abbrev pub ptype_text : PType → List ℕ
-ptype_text U8 = codes "u8"
-ptype_text U16 = codes "u16"
-ptype_text U32 = codes "u32"
-ptype_text U64 = codes "u64"
-ptype_text I8 = codes "i8"
-ptype_text I16 = codes "i16"
-ptype_text I32 = codes "i32"
-ptype_text I64 = codes "i64"
+-- the text of a type of whole numbers
+abbrev pub int_text : IntType → List ℕ
+int_text U8 = codes "u8"
+int_text U16 = codes "u16"
+int_text U32 = codes "u32"
+int_text U64 = codes "u64"
+int_text I8 = codes "i8"
+int_text I16 = codes "i16"
+int_text I32 = codes "i32"
+int_text I64 = codes "i64"
+
+-- the text of a type of floats
+abbrev pub float_text : FloatType → List ℕ
+float_text F32 = codes "f32"
+float_text F64 = codes "f64"
+
+-- the text of a unit
+abbrev pub unit_text : TimeUnit → List ℕ
+unit_text Seconds = codes "s"
+unit_text Milliseconds = codes "ms"
+unit_text Microseconds = codes "us"
+unit_text Nanoseconds = codes "ns"
+
+-- a zone between quotes, behind a comma, if there is one
+abbrev pub zone_text : Option Name → List ℕ
+zone_text None = []
+zone_text (Some a) = codes ", " ++ between_quotes 34 a
 
 -- the text of such a kind
 abbrev pub atomic_text : Atomic → List ℕ
 atomic_text truth = codes "bool"
-atomic_text (number p) = ptype_text p
+atomic_text (number p) = int_text p
+atomic_text (floating f) = float_text f
+atomic_text (decimals p s) = codes "decimal(" ++ (decimal p ++ (codes ", " ++ (decimal s ++ codes ")")))
+atomic_text date = codes "date"
+atomic_text (timestamp u z) = codes "timestamp(" ++ (unit_text u ++ (zone_text z ++ codes ")"))
 atomic_text text = codes "utf8"
 atomic_text octets = codes "binary"
 

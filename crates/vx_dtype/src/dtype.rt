@@ -1,10 +1,11 @@
 // Types of columns.
 ghost use Rattle.std.specs.Prelude.{◌≡◌, IfOk, Ok, false, length, option_map, true};
 ghost use Rattle.vx_dtype.specs.Returns.{ReturnsOrOom};
-ghost use Rattle.vx_dtype.specs.Types.{atomic, is_nullable, number, struct_fields, ty, with_nullability};
+ghost use Rattle.vx_dtype.specs.Numbers.{atomic_of};
+ghost use Rattle.vx_dtype.specs.Types.{atomic, is_nullable, struct_fields, ty, with_nullability};
 ghost use Rattle.vx_dtype.specs.Views.{admits_null, type_of, fields_of, fields_view, names_of};
 
-use crate::{FieldNames, VortexResult};
+use crate::{DecimalType, FieldNames, PType, TimestampType, VortexResult};
 use std::alloc::{AllocError, Global};
 use std::sync::Arc;
 
@@ -17,35 +18,20 @@ pub enum Nullability {
     Nullable,
 }
 
-/// The types of whole numbers, by their ranges.
-#[derive(Clone, Copy, Debug, PartialEq, Eq, Hash)]
-pub enum PType {
-    /// From 0 to 255.
-    U8,
-    /// From 0 to 65,535.
-    U16,
-    /// From 0 to 4,294,967,295.
-    U32,
-    /// From 0 to 18,446,744,073,709,551,615.
-    U64,
-    /// From -128 to 127.
-    I8,
-    /// From -32,768 to 32,767.
-    I16,
-    /// From -2,147,483,648 to 2,147,483,647.
-    I32,
-    /// From -9,223,372,036,854,775,808 to 9,223,372,036,854,775,807.
-    I64,
-}
-
 /// The type of a value or of a column's rows; clones share what it points to.
 #[cycle(dtype)]
 #[derive(Debug)]
 pub enum DType {
     /// Truth values.
     Bool(Nullability),
-    /// Whole numbers in the range of the `PType`.
+    /// Numbers of the `PType`.
     Primitive(PType, Nullability),
+    /// Decimals of that precision and scale.
+    Decimal(DecimalType, Nullability),
+    /// Days, counted from the first of January 1970, in 32 bits.
+    Date(Nullability),
+    /// Instants, counted from the beginning of the year 1970 in the type's unit, in 64 bits.
+    Timestamp(TimestampType, Nullability),
     /// Texts.
     Utf8(Nullability),
     /// Bytes.
@@ -71,7 +57,13 @@ impl Drop for DType {
     #[cycle(let_go)]
     fn drop(self) {
         match self {
-            DType::Bool(_) | DType::Primitive(_, _) | DType::Utf8(_) | DType::Binary(_) => {}
+            DType::Bool(_)
+            | DType::Primitive(_, _)
+            | DType::Decimal(_, _)
+            | DType::Date(_)
+            | DType::Utf8(_)
+            | DType::Binary(_) => {}
+            DType::Timestamp(timestamp, _) => drop(timestamp),
             DType::List(element, _) | DType::FixedSizeList(element, _, _) => drop(element),
             DType::Struct(fields, _) => drop(fields),
         }
@@ -118,6 +110,9 @@ impl DType {
         match self {
             DType::Bool(n) => *n,
             DType::Primitive(_, n) => *n,
+            DType::Decimal(_, n) => *n,
+            DType::Date(n) => *n,
+            DType::Timestamp(_, n) => *n,
             DType::Utf8(n) => *n,
             DType::Binary(n) => *n,
             DType::List(_, n) => *n,
@@ -140,6 +135,9 @@ impl DType {
         match self {
             DType::Bool(_) => DType::Bool(nullability),
             DType::Primitive(p, _) => DType::Primitive(p, nullability),
+            DType::Decimal(decimal, _) => DType::Decimal(decimal, nullability),
+            DType::Date(_) => DType::Date(nullability),
+            DType::Timestamp(timestamp, _) => DType::Timestamp(timestamp, nullability),
             DType::Utf8(_) => DType::Utf8(nullability),
             DType::Binary(_) => DType::Binary(nullability),
             DType::List(t, _) => DType::List(t, nullability),
@@ -167,8 +165,8 @@ impl DType {
 }
 
 impl From<PType> for DType {
-    /// The whole numbers in that range, without null.
-    ghost from_gives = { λ ptype dtype. type_of dtype ≡ ty (atomic (number ptype)) false };
+    /// The numbers of that type, without null.
+    ghost from_gives = { λ ptype dtype. type_of dtype ≡ ty (atomic (atomic_of ptype)) false };
 
     fn from(ptype: PType) -> DType {
         DType::Primitive(ptype, Nullability::NonNullable)

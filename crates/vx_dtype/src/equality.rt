@@ -3,11 +3,13 @@ ghost use Rattle.std.specs.Prelude.{◌≡◌, true, false};
 ghost use Rattle.std.specs.Cmp.{on_equiv, on_per, partial_equiv_from_equiv};
 ghost use Rattle.vx_dtype.specs.Equality.{equal_type, equal_fields};
 ghost use Rattle.vx_dtype.specs.Deciding.{equal_type_equiv, equal_fields_equiv};
+ghost use Rattle.vx_dtype.specs.Numbers.{atomic_of};
+ghost use Rattle.vx_dtype.specs.Types.{same_atomic};
 ghost use Rattle.vx_dtype.specs.Joins.{same_base, same_base_fields};
 ghost use Rattle.vx_dtype.specs.Views.{type_of, fields_view, fields_of};
 
 use crate::fields::field_count;
-use crate::{DType, FieldName, StructFields};
+use crate::{DType, FieldName, NumberKind, PType, StructFields};
 
 impl PartialEq for DType {
     ghost eq = { λ a b. equal_type (type_of a) (type_of b) };
@@ -39,7 +41,19 @@ pub(crate) fn alike(a: &DType, b: &DType, exactly: bool) -> bool
             _ => false,
         },
         DType::Primitive(p, _) => match b {
-            DType::Primitive(q, _) => p.index() == q.index(),
+            DType::Primitive(q, _) => is_same_ptype(*p, *q),
+            _ => false,
+        },
+        DType::Decimal(d, _) => match b {
+            DType::Decimal(e, _) => d.precision() == e.precision() && d.scale() == e.scale(),
+            _ => false,
+        },
+        DType::Date(_) => match b {
+            DType::Date(_) => true,
+            _ => false,
+        },
+        DType::Timestamp(t, _) => match b {
+            DType::Timestamp(u, _) => t.is_same(u),
             _ => false,
         },
         DType::Utf8(_) => match b {
@@ -68,6 +82,17 @@ pub(crate) fn alike(a: &DType, b: &DType, exactly: bool) -> bool
             ),
             _ => false,
         },
+    }
+}
+
+// Whether the types have the same numbers.
+fn is_same_ptype(p: PType, q: PType) -> bool
+    ensures { result ≡ same_atomic (atomic_of p) (atomic_of q) }
+{
+    match (p.kind(), q.kind()) {
+        (NumberKind::Int(int), NumberKind::Int(other)) => int.index() == other.index(),
+        (NumberKind::Float(float), NumberKind::Float(other)) => float.index() == other.index(),
+        _ => false,
     }
 }
 

@@ -1,31 +1,13 @@
 // Equal types are hashed alike: what is fed depends on the type that is stood for alone.
 ghost use Rattle.std.specs.Prelude.{◌≡◌, ℕ, fold};
-ghost use Rattle.vx_dtype.specs.Types.{ptype_index};
-ghost use Rattle.vx_dtype.specs.Hashes.{type_fed, fields_fed};
+ghost use Rattle.vx_dtype.specs.Numbers.{atomic_of};
+ghost use Rattle.vx_dtype.specs.Hashes.{atomic_fed, type_fed, fields_fed};
 ghost use Rattle.vx_dtype.specs.Deciding.{type_alike, fields_alike};
 ghost use Rattle.vx_dtype.specs.Views.{type_of, fields_of, fields_view};
 
 use crate::fields::field_count;
-use crate::{DType, FieldName, PType, StructFields};
+use crate::{DType, FieldName, NumberKind, PType, StructFields};
 use std::hash::{Hash, Hasher};
-
-impl PType {
-    // The place among the eight types.
-    pub(crate) fn index(self) -> u8
-        ensures { result ≡ ptype_index self }
-    {
-        match self {
-            PType::U8 => 0,
-            PType::U16 => 1,
-            PType::U32 => 2,
-            PType::U64 => 3,
-            PType::I8 => 4,
-            PType::I16 => 5,
-            PType::I32 => 6,
-            PType::I64 => 7,
-        }
-    }
-}
 
 // Feeds the type to the hasher.
 #[cycle(feed)]
@@ -35,12 +17,16 @@ fn feed<H: Hasher>(t: &DType, state: &mut H)
     t.is_nullable().hash(state);
     match t {
         DType::Bool(_) => state.write_u8(0),
-        DType::Primitive(p, _) => {
-            state.write_u8(1);
-            state.write_u8(p.index());
-        }
+        DType::Primitive(p, _) => feed_ptype(*p, state),
         DType::Utf8(_) => state.write_u8(2),
         DType::Binary(_) => state.write_u8(3),
+        DType::Decimal(decimal, _) => {
+            state.write_u8(7);
+            state.write_u8(decimal.precision());
+            state.write_u8(decimal.scale());
+        }
+        DType::Date(_) => state.write_u8(8),
+        DType::Timestamp(timestamp, _) => timestamp.feed(state),
         DType::List(t, _) => {
             state.write_u8(4);
             feed(t.as_ref(), state);
@@ -54,6 +40,17 @@ fn feed<H: Hasher>(t: &DType, state: &mut H)
             state.write_u8(6);
             feed_all(fields.names.as_slice(), fields.types.as_slice(), state);
         }
+    }
+}
+
+// Feeds the type of numbers.
+fn feed_ptype<H: Hasher>(p: PType, state: &mut H)
+    ensures { state.new ≡ fold H.write state.old (atomic_fed (atomic_of p)) }
+{
+    state.write_u8(1);
+    match p.kind() {
+        NumberKind::Int(int) => state.write_u8(int.index()),
+        NumberKind::Float(float) => state.write_u8(float.index()),
     }
 }
 

@@ -1,11 +1,12 @@
 // The text of a type.
 ghost use Rattle.std.specs.Prelude.{◌≡◌, ◌==◌, ℕ, Some, [], codes, if◌then◌else◌};
 ghost use Rattle.std.specs.Fmt.{WritesOnOk};
-ghost use Rattle.vx_dtype.specs.Texts.{type_text, ptype_text};
+ghost use Rattle.vx_dtype.specs.Numbers.{atomic_of};
+ghost use Rattle.vx_dtype.specs.Texts.{atomic_text, int_text, type_text};
 ghost use Rattle.vx_dtype.specs.Views.{type_of};
 
 use crate::notation::{TypeNotation, write_type_in};
-use crate::{DType, FieldName, PType};
+use crate::{DType, FieldName, IntType, PType};
 use std::fmt;
 use std::fmt::{Display, Formatter, Write};
 
@@ -37,7 +38,7 @@ impl TypeNotation for Shown {
 }
 
 impl Display for PType {
-    ghost output = { λ p. Some (ptype_text p) };
+    ghost output = { λ p. Some (atomic_text (atomic_of p)) };
 
     fn fmt<W: Write>(&self, f: &mut Formatter<W>) -> fmt::Result {
         f.write_str(self.as_str())
@@ -47,7 +48,7 @@ impl Display for PType {
 impl PType {
     /// The text of the type, as `i64`.
     pub fn as_str(self) -> &'static str
-        ensures { result.now ≡ ptype_text self }
+        ensures { result.now ≡ atomic_text (atomic_of self) }
     {
         match self {
             PType::U8 => "u8",
@@ -58,7 +59,17 @@ impl PType {
             PType::I16 => "i16",
             PType::I32 => "i32",
             PType::I64 => "i64",
+            PType::F32 => "f32",
+            PType::F64 => "f64",
         }
+    }
+}
+
+impl Display for IntType {
+    ghost output = { λ p. Some (int_text p) };
+
+    fn fmt<W: Write>(&self, f: &mut Formatter<W>) -> fmt::Result {
+        f.write_str(PType::from(*self).as_str())
     }
 }
 
