@@ -1,3 +1,5 @@
+pub mod Primitives
+pub mod FloatSums
 pub mod Rows
 pub mod Monotone
 pub mod Sound

@@ -5,17 +5,20 @@ use Rattle.std.proofs.lemmas.Bool.{eqb-true, not-false, or_left, or_right}
 use Rattle.vx_value.proofs.Fitting.{fits-not_null, fits-wider, fits-nullable, join-fits-left, join-fits-right, Into, into_none, into_more, union_all-into, field_value-fits, project-fits, pack-fits}
 use Rattle.vx_dtype.proofs.Known.{first_unknown-filter, first_unknown-own}
 use Rattle.vx_dtype.proofs.Unions.{same_atomic-eq}
-use Rattle.vx_value.specs.Types.{Name, Atomic, truth, number, text, LogicalType, ty, Shape, atomic, struct, Fields, Datum, null, bool, int, utf8, struct_of, is_nullable, with_nullability, is_null_datum}
+use Rattle.vx_value.specs.Types.{Name, Atomic, same_float, truth, number, floating, decimals, text, LogicalType, ty, Shape, atomic, struct, Fields, Datum, null, bool, int, float, utf8, struct_of, is_nullable, with_nullability, is_null_datum}
 use Rattle.vx_value.specs.Fits.{fits, Fits, EachFits}
 use Rattle.vx_dtype.specs.Lists.{forall2_nil, forall2_cons}
 use Rattle.vx_value.specs.Joins.{same_base, join}
 use Rattle.vx_value.specs.Fields.{field_type, field_value, project, first_unknown, field_names}
-use Rattle.vx_dtype.specs.declared.dtype.PType.{PType}
+use Rattle.vx_dtype.specs.declared.ptype.FloatType.{FloatType}
+use Rattle.vx_dtype.specs.declared.ptype.FloatType.TheVariants.{F32, F64}
+use Rattle.vx_dtype.specs.declared.ptype.IntType.{IntType}
 use Rattle.vx_fn.specs.Functions.{Function, get_item, select, fill_null, binary, cast, adds, Comparison, selection_names, included, branches, HasFittingLiteral}
 use Rattle.vx_fn.specs.declared.options.FieldSelection.{FieldSelection}
 use Rattle.vx_fn.specs.declared.options.FieldSelection.TheVariants.{Include, Exclude}
-use Rattle.vx_fn.specs.Rows.{FnType, of_case_else, of_case, of_get_item, of_literal, of_pack, of_select, of_fill_null, of_zip, of_comparison, of_and, of_or, of_add, of_not, of_between, of_like, of_is_null, of_is_not_null, of_mask, of_cast}
+use Rattle.vx_fn.specs.Rows.{FnType, of_case_else, of_case, of_get_item, of_literal, of_pack, of_select, of_fill_null, of_zip, of_comparison, of_and, of_or, of_add, of_add_floats, of_add_decimals, of_not, of_between, of_like, of_is_null, of_is_not_null, of_mask, of_cast}
 use Rattle.vx_fn.specs.Values.{is_true, kleene_and, kleene_or, kleene_not, compared, agrees, order, bound_comparison, sum_of, liked, first_true, fn_value}
+use Rattle.vx_fn.proofs.FloatSums.{sum_is_float}
 use Rattle.vx_fn.specs.Faults.{overflows, misfits, is_fillable, fill_of}
 
 -- the row doesn't make the node fault
@@ -75,11 +78,30 @@ like-fits neg ci (utf8 t) null n m e h = or_right n m h
 like-fits neg ci (utf8 t) (utf8 p) n m e h = refl
 like-fits neg ci _ _ n m e h = cc
 
-sum-fits : (p q : PType) (v w : Datum) (n m : Bool) → Fits v (ty (atomic (number p)) n) → Fits w (ty (atomic (number q)) m) → overflows (ty (atomic (number p)) n ∷ ty (atomic (number q)) m ∷ []) (v ∷ w ∷ []) ≡ false → Fits (sum_of v w) (ty (atomic (number p)) (n || m))
+sum-fits : (p q : IntType) (v w : Datum) (n m : Bool) → Fits v (ty (atomic (number p)) n) → Fits w (ty (atomic (number q)) m) → overflows (ty (atomic (number p)) n ∷ ty (atomic (number q)) m ∷ []) (v ∷ w ∷ []) ≡ false → Fits (sum_of v w) (ty (atomic (number p)) (n || m))
 sum-fits p q null w n m e h s = or_left n m e
 sum-fits p q (int i) null n m e h s = or_right n m h
 sum-fits p q (int i) (int j) n m e h s = not-false _ s
 sum-fits p q _ _ n m e h s = cc
+
+decimal_sum-fits : (p a q b : ℕ) (v w : Datum) (n m : Bool) → Fits v (ty (atomic (decimals p a)) n) → Fits w (ty (atomic (decimals q b)) m) → overflows (ty (atomic (decimals p a)) n ∷ ty (atomic (decimals q b)) m ∷ []) (v ∷ w ∷ []) ≡ false → Fits (sum_of v w) (ty (atomic (decimals p a)) (n || m))
+decimal_sum-fits p a q b null w n m e h s = or_left n m e
+decimal_sum-fits p a q b (int i) null n m e h s = or_right n m h
+decimal_sum-fits p a q b (int i) (int j) n m e h s = not-false _ s
+decimal_sum-fits p a q b _ _ n m e h s = cc
+
+float_sum-fits : (f g : FloatType) (v w : Datum) (n m : Bool) → same_float f g ≡ true → Fits v (ty (atomic (floating f)) n) → Fits w (ty (atomic (floating g)) m) → Fits (sum_of v w) (ty (atomic (floating f)) (n || m))
+float_sum-fits f g null w n m s e h = or_left n m e
+float_sum-fits f g (float k a) null n m s e h = or_right n m h
+float_sum-fits F32 F32 (float F32 a) (float F32 b) n m s e h = sum_is_float F32 a b
+float_sum-fits F64 F64 (float F64 a) (float F64 b) n m s e h = sum_is_float F64 a b
+float_sum-fits F32 F32 (float F64 a) w n m s e h = cc
+float_sum-fits F32 F32 (float F32 a) (float F64 b) n m s e h = cc
+float_sum-fits F64 F64 (float F32 a) w n m s e h = cc
+float_sum-fits F64 F64 (float F64 a) (float F32 b) n m s e h = cc
+float_sum-fits F32 F64 v w n m s e h = cc
+float_sum-fits F64 F32 v w n m s e h = cc
+float_sum-fits _ _ _ _ n m s e h = cc
 
 -- ---- CASE
 
@@ -182,6 +204,8 @@ fn_value-fits (of_comparison {c = c} {p = p} {q = q} {n = n} {m = m} s) lit safe
 fn_value-fits (of_and {n = n} {m = m}) lit safe (forall2_cons {x = v} e (forall2_cons {x = w} h forall2_nil)) = and-fits v w n m e h
 fn_value-fits (of_or {n = n} {m = m}) lit safe (forall2_cons {x = v} e (forall2_cons {x = w} h forall2_nil)) = or-fits v w n m e h
 fn_value-fits (of_add {p = p} {q = q} {n = n} {m = m} s) lit safe (forall2_cons {x = v} e (forall2_cons {x = w} h forall2_nil)) = sum-fits p q v w n m e h safe
+fn_value-fits (of_add_floats {f = f} {g = g} {n = n} {m = m} s) lit safe (forall2_cons {x = v} e (forall2_cons {x = w} h forall2_nil)) = float_sum-fits f g v w n m s e h
+fn_value-fits (of_add_decimals {p = p} {s = a} {q = q} {r = b} {n = n} {m = m} s) lit safe (forall2_cons {x = v} e (forall2_cons {x = w} h forall2_nil)) = decimal_sum-fits p a q b v w n m e h safe
 fn_value-fits (of_not {n = n}) lit safe (forall2_cons {x = v} e forall2_nil) = not-fits v n e
 fn_value-fits (of_between {ls = ls} {us = us} {p = p} {q = q} {r = r} {n = n} {m = m} {k = k} s x) lit safe (forall2_cons {x = v} e (forall2_cons {x = l} h (forall2_cons {x = u} d forall2_nil))) = between-fits ls us v l u p q r n m k e h d
 fn_value-fits (of_like {neg = neg} {ci = ci} {n = n} {m = m}) lit safe (forall2_cons {x = v} e (forall2_cons {x = w} h forall2_nil)) = like-fits neg ci v w n m e h

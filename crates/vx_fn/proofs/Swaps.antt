@@ -4,10 +4,13 @@ use Rattle.std.specs.declared.cmp.Ordering.{Ordering}
 use Rattle.std.specs.declared.cmp.Ordering.TheVariants.{Less, Equal, Greater}
 use Rattle.std.specs.Cmp.{bool_cmp_total}
 use Rattle.std.specs.Ordering.{ordering_reverse}
-use Rattle.std.proofs.lemmas.Cmp.{int_cmp_total, nat_list_cmp_total}
+use Rattle.std.proofs.lemmas.Cmp.{int_cmp_total, nat_cmp_total, nat_list_cmp_total}
 use Rattle.std.proofs.Math.Bool.{or_comm, and_comm}
 use Rattle.std.proofs.Math.IntN.{+ℤ_comm}
-use Rattle.vx_value.specs.Types.{Datum, null, bool, int, utf8, bytes, list_of, struct_of, is_null_datum}
+use Rattle.vx_value.specs.Types.{Datum, null, bool, int, float, utf8, bytes, list_of, struct_of, is_null_datum}
+use Rattle.vx_dtype.specs.declared.ptype.FloatType.TheVariants.{F32, F64}
+use Rattle.vx_fn.proofs.FloatSums.{sum_turned}
+use Rattle.vx_fn.specs.Floats.{float_key}
 use Rattle.vx_fn.specs.Functions.{Comparison, equal, not_equal, greater, greater_or_equal, less, less_or_equal, mirrored, compares, and_also, or_else, adds}
 use Rattle.vx_fn.specs.Laws.{SwappedOverExchangedOperands}
 use Rattle.vx_fn.specs.Values.{is_true, is_false, kleene_and, kleene_or, order, agrees, compared, sum_of}
@@ -15,6 +18,7 @@ use Rattle.vx_fn.specs.Values.{is_true, is_false, kleene_and, kleene_or, order, 
 pub order-turned : (v w : Datum) → order v w ≡ ordering_reverse (order w v)
 order-turned (bool a) (bool b) = bool_cmp_total.antisymm a b
 order-turned (int i) (int j) = int_cmp_total.antisymm i j
+order-turned (float f a) (float g b) = nat_cmp_total.antisymm (float_key f a) (float_key g b)
 order-turned (utf8 s) (utf8 t) = nat_list_cmp_total.antisymm s t
 order-turned (bytes s) (bytes t) = nat_list_cmp_total.antisymm s t
 order-turned null null = refl
@@ -59,8 +63,13 @@ kleene_or-turned v w =
 
 sum_of-turned : (v w : Datum) → sum_of v w ≡ sum_of w v
 sum_of-turned (int i) (int j) = ap int (+ℤ_comm i j)
+sum_of-turned (float F32 a) (float F32 b) = ap (float F32) (sum_turned F32 a b)
+sum_of-turned (float F64 a) (float F64 b) = ap (float F64) (sum_turned F64 a b)
+sum_of-turned (float F32 a) (float F64 b) = refl
+sum_of-turned (float F64 a) (float F32 b) = refl
 sum_of-turned null null = refl
 sum_of-turned (bool a) null = refl
+sum_of-turned (float f a) null = refl
 sum_of-turned (utf8 s) null = refl
 sum_of-turned (bytes s) null = refl
 sum_of-turned (list_of vs) null = refl

@@ -3,6 +3,7 @@ pub mod Functions
 pub mod Memory
 pub mod ChildNames
 pub mod Rows
+pub mod Floats
 pub mod Values
 pub mod Faults
 pub mod Views

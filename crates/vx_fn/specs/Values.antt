@@ -5,8 +5,9 @@ use Rattle.std.specs.declared.cmp.Ordering.TheVariants.{Equal}
 use Rattle.std.specs.Ordering.{is_lt, is_le, is_gt, is_ge, is_eq, is_ne, nat_cmp, int_cmp, bool_cmp}
 use Rattle.std.specs.Char.{to_ascii_lowercase}
 use Rattle.std.specs.Cmp.Lexicographic.{slice_cmp}
-use Rattle.vx_value.specs.Types.{Name, LogicalType, ty, struct, Datum, null, bool, int, utf8, bytes, struct_of, is_null_datum}
+use Rattle.vx_value.specs.Types.{Name, LogicalType, ty, struct, Datum, null, bool, int, float, utf8, bytes, struct_of, is_null_datum, same_float}
 use Rattle.vx_value.specs.Fields.{field_value, project_values, data_of}
+use Rattle.vx_fn.specs.Floats.{float_key, float_sum}
 use Rattle.vx_fn.specs.Functions.{Function, case_when, get_item, literal, pack, select, fill_null, zip, binary, logical_not, between, like, is_null, is_not_null, mask, cast, Operation, compares, and_also, or_else, adds, Comparison, equal, not_equal, greater, greater_or_equal, less, less_or_equal, included}
 use Rattle.vx_fn.specs.declared.options.FieldSelection.{FieldSelection}
 
@@ -35,10 +36,11 @@ abbrev pub kleene_not : Datum → Datum
 kleene_not (bool b) = bool (not b)
 kleene_not _ = null
 
--- false before true, whole numbers by number, texts and bytes by their bytes
+-- false before true, whole numbers by number, floats by IEEE 754's total order, texts and bytes by their bytes
 abbrev pub order : Datum → Datum → Ordering
 order (bool a) (bool b) = bool_cmp a b
 order (int i) (int j) = int_cmp i j
+order (float f a) (float g b) = nat_cmp (float_key f a) (float_key g b)
 order (utf8 s) (utf8 t) = slice_cmp nat_cmp s t
 order (bytes s) (bytes t) = slice_cmp nat_cmp s t
 order _ _ = Equal
@@ -60,9 +62,10 @@ compared c v w = if is_null_datum v || is_null_datum w then null else bool (agre
 abbrev pub bound_comparison : Bool → Comparison
 bound_comparison strict = if strict then less else less_or_equal
 
--- the sum of two numbers, or null
+-- the sum of two whole numbers or of two floats of one format, or null
 abbrev pub sum_of : Datum → Datum → Datum
 sum_of (int i) (int j) = int (i +ℤ j)
+sum_of (float f a) (float g b) = if same_float f g then float f (float_sum f a b) else null
 sum_of _ _ = null
 
 -- ---- patterns
