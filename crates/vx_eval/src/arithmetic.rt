@@ -1,7 +1,7 @@
 // Sums.
 ghost use Rattle.std.specs.Prelude.{◌≡◌, ℤ, false, true, length, List, [], ◌∷◌, IsTrue, MatchOption};
-ghost use Rattle.vx_value.specs.Fits.{fits_ptype};
-ghost use Rattle.vx_value.specs.Types.{LogicalType, int};
+ghost use Rattle.vx_value.specs.Fits.{fits_digits, fits_int};
+ghost use Rattle.vx_value.specs.Types.{LogicalType, float as float_of, int};
 ghost use Rattle.vx_value.specs.Views.{type_of, value_of};
 ghost use Rattle.vx_fn.specs.Faults.{is_outside};
 ghost use Rattle.vx_fn.specs.Functions.{binary, adds, is_number};
@@ -9,9 +9,11 @@ ghost use Rattle.vx_fn.specs.Values.{sum_of};
 ghost use Rattle.vx_eval.specs.Columns.{rows_view, Evaluates};
 ghost use Rattle.vx_eval.specs.Kernels.{is_between, IsRange};
 
+use crate::floats::float_sum;
 use crate::rows::Rows;
 use std::alloc::Global;
-use vx_types::{DType, PType, Value, VortexError, VortexResult};
+use vx_types::{DType, DecimalType, FloatType, IntType, NumberKind, Value, VortexError, VortexResult};
+use vx_value::power_of_ten;
 
 /// The sums of two columns, of which the left one has the number type. Refuses with `AddOverflow`
 /// (13) and the first row whose sum is out of its range, and with `OutOfMemory` (1).
@@ -51,24 +53,47 @@ fn range_of(dtype: &DType) -> NumberRange
     ensures { IsRange (type_of dtype.now) result.lowest result.highest }
 {
     match dtype {
-        DType::Primitive(number, _) => number_range(*number),
+        DType::Primitive(p, _) => match p.kind() {
+            NumberKind::Int(int) => number_range(int),
+            NumberKind::Float(_) => NumberRange::NONE,
+        },
+        DType::Decimal(decimal, _) => decimal_range(*decimal),
         _ => unreachable!(),
     }
 }
 
-// The numbers of the number type.
-fn number_range(number: PType) -> NumberRange
-    ensures { (i : ℤ) → fits_ptype i number ≡ is_between result.lowest result.highest i }
+impl NumberRange {
+    // No number.
+    const NONE: NumberRange = NumberRange {
+        lowest: 1,
+        highest: 0,
+    };
+}
+
+// The units of the decimals of the type.
+fn decimal_range(decimal: DecimalType) -> NumberRange
+    ensures { (i : ℤ) → fits_digits i decimal.precision ≡ is_between result.lowest result.highest i }
+{
+    let highest = power_of_ten(decimal.precision()) as i128 - 1;
+    NumberRange {
+        lowest: -highest,
+        highest,
+    }
+}
+
+// The numbers of the type of whole numbers.
+fn number_range(number: IntType) -> NumberRange
+    ensures { (i : ℤ) → fits_int i number ≡ is_between result.lowest result.highest i }
 {
     let (lowest, highest) = match number {
-        PType::U8 => (0, 255),
-        PType::U16 => (0, 65_535),
-        PType::U32 => (0, 4_294_967_295),
-        PType::U64 => (0, 18_446_744_073_709_551_615),
-        PType::I8 => (-128, 127),
-        PType::I16 => (-32_768, 32_767),
-        PType::I32 => (-2_147_483_648, 2_147_483_647),
-        PType::I64 => (-9_223_372_036_854_775_808, 9_223_372_036_854_775_807),
+        IntType::U8 => (0, 255),
+        IntType::U16 => (0, 65_535),
+        IntType::U32 => (0, 4_294_967_295),
+        IntType::U64 => (0, 18_446_744_073_709_551_615),
+        IntType::I8 => (-128, 127),
+        IntType::I16 => (-32_768, 32_767),
+        IntType::I32 => (-2_147_483_648, 2_147_483_647),
+        IntType::I64 => (-9_223_372_036_854_775_808, 9_223_372_036_854_775_807),
     };
     NumberRange { lowest, highest }
 }
@@ -89,7 +114,22 @@ fn sum(dtype: &DType, range: NumberRange, v: &Value, w: &Value) -> Option<Value>
             },
             _ => Some(Value::Null),
         },
+        Value::Float(float, a) => match w {
+            Value::Float(other, b) => Some(float_sum_of(*float, *a, *other, *b)),
+            _ => Some(Value::Null),
+        },
         _ => Some(Value::Null),
+    }
+}
+
+// The sum of two floats of one format, or null.
+fn float_sum_of(float: FloatType, a: u64, other: FloatType, b: u64) -> Value
+    ensures { value_of result ≡ sum_of (float_of float a) (float_of other b) }
+{
+    if float.is_same(other) {
+        Value::Float(float, float_sum(float, a, b))
+    } else {
+        Value::Null
     }
 }
 

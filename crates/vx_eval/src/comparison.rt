@@ -14,6 +14,7 @@ ghost use Rattle.vx_eval.specs.Kernels.{is_comparison, agrees_with};
 
 use crate::compared::ComparedItem;
 use crate::conjunction::Conjunction;
+use crate::floats::float_key;
 use crate::logic::kleene_and;
 use crate::rows::Rows;
 use crate::truths::told;
@@ -158,7 +159,8 @@ fn agrees(operator: Operator, order: Ordering) -> bool
     }
 }
 
-/// False before true, whole numbers by number, texts and bytes by their bytes.
+/// False before true, whole numbers by number, floats by IEEE 754's total order, texts and bytes by
+/// their bytes.
 pub fn order(v: &Value, w: &Value) -> Ordering
     ensures { result ≡ values.order (value_of v.now) (value_of w.now) }
 {
@@ -169,6 +171,10 @@ pub fn order(v: &Value, w: &Value) -> Ordering
         },
         Value::Int(a) => match w {
             Value::Int(b) => a.cmp(b),
+            _ => Ordering::Equal,
+        },
+        Value::Float(float, a) => match w {
+            Value::Float(other, b) => float_key(*float, *a).cmp(&float_key(*other, *b)),
             _ => Ordering::Equal,
         },
         Value::Utf8(a) => match w {

@@ -12,6 +12,7 @@ mod conjunction;
 mod constants;
 mod evaluation;
 mod fields;
+mod floats;
 mod filling;
 mod logic;
 mod matching;

@@ -51,6 +51,9 @@ pub fn write_repeated(rows: &mut Vec<Value>, mask: &[bool], value: &Value) -> Re
         Value::Null => write_with(rows, mask, |_| Ok(Value::Null)),
         Value::Bool(b) => write_with(rows, mask, |_| Ok(Value::Bool(*b))),
         Value::Int(z) => write_with(rows, mask, |_| Ok(Value::Int(*z))),
+        Value::Float(float, bits) => {
+            write_with(rows, mask, |_| Ok(Value::Float(*float, *bits)))
+        }
         _ => write_with(rows, mask, |_| value.clone()),
     }
 }

@@ -4,7 +4,7 @@ ghost use Rattle.vx_value.specs.Views.{data_view, fields_of, type_of, value_of};
 ghost use Rattle.vx_projection.specs.Defaults.{default_of, field_defaults};
 
 use std::alloc::{AllocError, Global};
-use vx_types::{DType, StructFields, Value};
+use vx_types::{DType, NumberKind, StructFields, Value};
 
 /// The default of the type: null where it is nullable, else false, 0, an empty text, no byte, no item,
 /// so many defaults, or the default of each field.
@@ -17,7 +17,11 @@ pub fn default_value(alloc: Global, dtype: &DType) -> Result<Value, AllocError>
     }
     match dtype {
         DType::Bool(_) => Ok(Value::Bool(false)),
-        DType::Primitive(_, _) => Ok(Value::Int(0)),
+        DType::Primitive(p, _) => match p.kind() {
+            NumberKind::Int(_) => Ok(Value::Int(0)),
+            NumberKind::Float(float) => Ok(Value::Float(float, 0)),
+        },
+        DType::Decimal(_, _) | DType::Date(_) | DType::Timestamp(_, _) => Ok(Value::Int(0)),
         DType::Utf8(_) => Ok(Value::Utf8(String::new(alloc))),
         DType::Binary(_) => Ok(Value::Binary(Vec::new(alloc))),
         DType::List(_, _) => Ok(Value::List(Vec::new(alloc))),
