@@ -6,9 +6,9 @@ use Rattle.std.proofs.lemmas.Bool.{cases_lt}
 use Rattle.std.specs.Option.{option_map}
 use Rattle.std.proofs.lemmas.List.{get_or_past, length-map}
 use Rattle.vx_dtype.specs.declared.dtype.DType.{DType}
-use Rattle.vx_dtype.specs.declared.dtype.PType.{PType}
+use Rattle.vx_dtype.specs.declared.ptype.IntType.{IntType}
 use Rattle.vx_value.specs.Types.{LogicalType, ty, Shape, atomic, truth, number, text, octets, Datum, null, bool, int, utf8, bytes}
-use Rattle.vx_value.specs.Fits.{fits, Fits, fits_ptype}
+use Rattle.vx_value.specs.Fits.{fits, Fits, fits_int}
 use Rattle.vx_value.specs.Columns.{batch, first_misfit}
 use Rattle.vx_value.specs.Views.{type_of}
 use Rattle.vx_value.proofs.Fitting.{fits-wider}
@@ -48,10 +48,10 @@ made_is dtype lanes s v ds typed rows = sym (ap (λ u. batch u (lanes_rows lanes
 
 -- ---- values of each kind
 
-pub numbers_fit : (p : PType) (zs : List ℤ) → ((k : ℕ) → k < length zs → fits_ptype (get_or zs k (pos 0)) p ≡ true) → first_misfit (ty (atomic (number p)) false) (map int zs) ≡ None
+pub numbers_fit : (p : IntType) (zs : List ℤ) → ((k : ℕ) → k < length zs → fits_int (get_or zs k (pos 0)) p ≡ true) → first_misfit (ty (atomic (number p)) false) (map int zs) ≡ None
 numbers_fit p [] h = refl
 numbers_fit p (z ∷ zs) h =
-    let here : fits_ptype z p ≡ true = h 0 (omega arith) in
+    let here : fits_int z p ≡ true = h 0 (omega arith) in
     rw (here, numbers_fit p zs (λ k lt. h (suc k) (omega arith)))
 
 pub truths_fit : (bs : List Bool) → first_misfit (ty (atomic truth) false) (map bool bs) ≡ None
@@ -74,7 +74,7 @@ same_fit t v (suc n) fit =
     rw (here, same_fit t v n fit)
 
 -- numbers that were seen to be some of their type
-pub range_seen : {A : Type 0} (f : A → ℤ) (within : ℤ → Bool) (p : PType) (xs ys : List A) → ys ≡ xs → ((z : ℤ) → within z ≡ fits_ptype z p) → ((k : ℕ) → k < length ys → within (get_or (map f ys) k (pos 0)) ≡ true) →
+pub range_seen : {A : Type 0} (f : A → ℤ) (within : ℤ → Bool) (p : IntType) (xs ys : List A) → ys ≡ xs → ((z : ℤ) → within z ≡ fits_int z p) → ((k : ℕ) → k < length ys → within (get_or (map f ys) k (pos 0)) ≡ true) →
     first_misfit (ty (atomic (number p)) false) (map int (map f xs)) ≡ None
 range_seen f within p xs ys is same seen =
     numbers_fit p (map f xs) (λ k lt. sym (same (get_or (map f xs) k (pos 0))) ∙ ap (λ l. within (get_or (map f l) k (pos 0))) (sym is) ∙ seen k (omega (arith, ap length is, length-map xs f)))

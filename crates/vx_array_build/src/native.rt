@@ -3,7 +3,7 @@ ghost use Rattle.std.specs.Prelude.{◌≡◌, ℤ, map, refl, pos, negsuc};
 ghost use Rattle.vx_array.specs.Kinds.{numbers_in};
 ghost use Rattle.vx_dtype.specs.declared.dtype.PType.{PType as Kind};
 ghost use Rattle.vx_dtype.specs.declared.dtype.PType.TheVariants as kinds;
-ghost use Rattle.vx_value.specs.Fits.{fits_ptype};
+ghost use Rattle.vx_value.specs.Fits.{fits_int};
 
 use vx_array::{Numbers, Part};
 use vx_array_loops::Number;
@@ -23,7 +23,7 @@ pub trait Native: Number {
         ensures { numbers_in result ≡ map Self.number part };
 
     /// The type's numbers are those of the `PType`.
-    ghost same_range: { (z : ℤ) → Self.fits z ≡ fits_ptype z kind };
+    ghost same_range: { (z : ℤ) → Self.fits z ≡ fits_int z kind };
 }
 
 impl Native for u8 {

@@ -4,7 +4,7 @@ use Rattle.std.proofs.Math.ListN.{replicate}
 use Rattle.std.specs.List.{list_any}
 use Rattle.std.proofs.lemmas.List.{get_or-replicate, length-replicate}
 use Rattle.std.proofs.lemmas.List.FromFn.{get_or-map-range_with_len}
-use Rattle.vx_dtype.specs.declared.dtype.PType.{PType}
+use Rattle.vx_dtype.specs.declared.ptype.IntType.{IntType}
 use Rattle.vx_dtype.specs.declared.dtype.DType.{DType, the_lemmas as the_types}
 use Rattle.vx_dtype.specs.declared.dtype.Nullability.{Nullability}
 use Rattle.vx_value.specs.StructColumns.{struct_rows}
@@ -75,7 +75,7 @@ pub mask_given : (ts : List LogicalType) (n : ℕ) (v m rows : List Datum) → r
 mask_given ts n v m rows is = given mask ts n (v ∷ m ∷ []) rows refl is
 
 -- sums that the type of the first column holds
-pub sum_given : (p : PType) (m : Bool) (ts : List LogicalType) (n : ℕ) (l r rows : List Datum) → rows ≡ both_rows n sum_of l r → ((m : Bool) (k : ℕ) → k < n → is_outside (ty (atomic (number p)) m ∷ []) (sum_of (get_or l k null) (get_or r k null)) ≡ false) →
+pub sum_given : (p : IntType) (m : Bool) (ts : List LogicalType) (n : ℕ) (l r rows : List Datum) → rows ≡ both_rows n sum_of l r → ((m : Bool) (k : ℕ) → k < n → is_outside (ty (atomic (number p)) m ∷ []) (sum_of (get_or l k null) (get_or r k null)) ≡ false) →
     node_answer (binary adds) (ty (atomic (number p)) m ∷ ts) (rows_of n (l ∷ r ∷ [])) ≡ Ok rows
 sum_given p m ts n l r rows is inside = given (binary adds) (ty (atomic (number p)) m ∷ ts) n (l ∷ r ∷ []) rows (add_quiet (ty (atomic (number p)) m) ts n l r (inside m)) is
 
@@ -133,11 +133,11 @@ three_of (a ∷ b ∷ c ∷ []) x y z long is at third =
 three_of (a ∷ b ∷ c ∷ d ∷ xs) x y z long is at third = absurd (omega arith)
 
 -- the type of numbers
-pub number_typed : (p : PType) (n : Nullability) → type_of (DType.Primitive p n) ≡ ty (atomic (number p)) (admits_null n)
+pub number_typed : (p : IntType) (n : Nullability) → type_of (DType.Primitive p n) ≡ ty (atomic (number p)) (admits_null n)
 number_typed p n = search (rules, the_types)
 
 -- sums that are found
-pub sums_found : {E : Type 0} (node : Node) (pair : Pair) (p : PType) (m : Bool) (ts : List LogicalType) (r : Result (Option Lanes) E) → function_of node.function.now ≡ binary adds → lanes_each node.below.now ≡ lanes_rows pair.lhs.now ∷ lanes_rows pair.rhs.now ∷ [] → pair.count ≡ node.count →
+pub sums_found : {E : Type 0} (node : Node) (pair : Pair) (p : IntType) (m : Bool) (ts : List LogicalType) (r : Result (Option Lanes) E) → function_of node.function.now ≡ binary adds → lanes_each node.below.now ≡ lanes_rows pair.lhs.now ∷ lanes_rows pair.rhs.now ∷ [] → pair.count ≡ node.count →
     types_of node ≡ ty (atomic (number p)) m ∷ ts → FindsSums p pair r → FindsAnswer node r
 sums_found node pair p m ts (Ok (Some out)) of two counted typed found =
     at_node node (binary adds) (lanes_rows pair.lhs.now ∷ lanes_rows pair.rhs.now ∷ []) pair.count (lanes_rows out) of two counted

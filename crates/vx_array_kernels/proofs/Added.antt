@@ -4,8 +4,8 @@ use Rattle.std.specs.List.{range_with_len}
 use Rattle.std.proofs.Math.ListN.{replicate}
 use Rattle.std.specs.Prelude.{if◌then◌else◌, ◌&&◌, ◌+ℤ◌, not, is_some, MatchOption}
 use Rattle.std.proofs.lemmas.List.{length-map, get_or-map, get_or-replicate, get_or_default, length-replicate}
-use Rattle.vx_dtype.specs.declared.dtype.PType.{PType}
-use Rattle.vx_value.specs.Fits.{fits_ptype}
+use Rattle.vx_dtype.specs.declared.ptype.IntType.{IntType}
+use Rattle.vx_value.specs.Fits.{fits_int}
 use Rattle.vx_value.specs.Types.{Datum, null, int, ty, atomic, number}
 use Rattle.vx_fn.specs.Faults.{is_outside}
 use Rattle.vx_fn.specs.Values.{sum_of}
@@ -73,7 +73,7 @@ not_told false fit told e = cc
 abbrev pub ShowsNumbers : ℕ → Validity → (ℕ → ℤ) → List Datum → Type 0
 ShowsNumbers n v f rows = (k : ℕ) → k < n → get_or rows k null ≡ (if is_valid v k then int (f k) else null)
 
-pub added : (fits : ℤ → Bool) (p : PType) (n : ℕ) (v w all : Validity) (f g : ℕ → ℤ) (xs ys out : List Datum) → ((z : ℤ) → fits z ≡ fits_ptype z p) → ShowsNumbers n v f xs → ShowsNumbers n w g ys → ((k : ℕ) → is_valid all k ≡ (is_valid v k && is_valid w k)) →
+pub added : (fits : ℤ → Bool) (p : IntType) (n : ℕ) (v w all : Validity) (f g : ℕ → ℤ) (xs ys out : List Datum) → ((z : ℤ) → fits z ≡ fits_int z p) → ShowsNumbers n v f xs → ShowsNumbers n w g ys → ((k : ℕ) → is_valid all k ≡ (is_valid v k && is_valid w k)) →
     (out ≡ valid_rows n all (λ k. f k +ℤ g k)) × ((k : ℕ) → k < n → is_valid all k ≡ true → fits (f k +ℤ g k) ≡ true) →
     (out ≡ both_rows n sum_of xs ys) × ((m : Bool) (k : ℕ) → k < n → is_outside (ty (atomic (number p)) m ∷ []) (sum_of (get_or xs k null) (get_or ys k null)) ≡ false)
 added fits p n v w all f g xs ys out same left right each found = (
@@ -103,7 +103,7 @@ buffer_shows n v ns xs is there k lt = ap (λ l. get_or l k null) is ∙ get_or-
 
 -- ---- sums that are found
 
-pub sums_from : {E : Type 0} (fits : ℤ → Bool) (p : PType) (q : Pair) (all : Validity) (f : ℕ → ℤ) (r : Result (Option Lanes) E) → FindsValid fits q.count all f r →
+pub sums_from : {E : Type 0} (fits : ℤ → Bool) (p : IntType) (q : Pair) (all : Validity) (f : ℕ → ℤ) (r : Result (Option Lanes) E) → FindsValid fits q.count all f r →
     ((out : List Datum) → (out ≡ valid_rows q.count all f) × ((k : ℕ) → k < q.count → is_valid all k ≡ true → fits (f k) ≡ true) → (out ≡ pair_rows sum_of q) × NoneOutside p q) → FindsSums p q r
 sums_from fits p q all f (Ok (Some out)) found gives = gives (lanes_rows out) found
 sums_from fits p q all f (Ok None) found gives = tt
@@ -117,7 +117,7 @@ and_all true = refl
 and_all false = refl
 
 -- of two columns of numbers
-pub columns_added : {E : Type 0} (fits : ℤ → Bool) (p : PType) (q : Pair) (v w all : Validity) (ns ms : Numbers) (r : Result (Option Lanes) E) → ((z : ℤ) → fits z ≡ fits_ptype z p) → q.lhs.now ≡ Kind.Numbers ns v → q.rhs.now ≡ Kind.Numbers ms w → IsLong q →
+pub columns_added : {E : Type 0} (fits : ℤ → Bool) (p : IntType) (q : Pair) (v w all : Validity) (ns ms : Numbers) (r : Result (Option Lanes) E) → ((z : ℤ) → fits z ≡ fits_int z p) → q.lhs.now ≡ Kind.Numbers ns v → q.rhs.now ≡ Kind.Numbers ms w → IsLong q →
     ((k : ℕ) → is_valid all k ≡ (is_valid v k && is_valid w k)) → FindsValid fits q.count all (λ k. get_or (numbers_in ns) k (pos 0) +ℤ get_or (numbers_in ms) k (pos 0)) r → FindsSums p q r
 columns_added fits p q v w all ns ms r same left right long each found =
     let x = lanes_rows q.lhs.now in
@@ -133,7 +133,7 @@ pub number_shows : (n m : ℕ) (i : ℤ) (ys : List Datum) → ys ≡ replicate 
 number_shows n m i ys one long k lt = ap (λ l. get_or l k null) one ∙ get_or-replicate m k (int i) null (omega (arith, ap length one, length-replicate m (int i), long))
 
 -- of a column of numbers and one number
-pub number_added : {E : Type 0} (fits : ℤ → Bool) (p : PType) (q : Pair) (v : Validity) (ns : Numbers) (m : ℕ) (i : ℤ) (r : Result (Option Lanes) E) → ((z : ℤ) → fits z ≡ fits_ptype z p) → q.lhs.now ≡ Kind.Numbers ns v → lanes_rows q.rhs.now ≡ replicate m (int i) → IsLong q →
+pub number_added : {E : Type 0} (fits : ℤ → Bool) (p : IntType) (q : Pair) (v : Validity) (ns : Numbers) (m : ℕ) (i : ℤ) (r : Result (Option Lanes) E) → ((z : ℤ) → fits z ≡ fits_int z p) → q.lhs.now ≡ Kind.Numbers ns v → lanes_rows q.rhs.now ≡ replicate m (int i) → IsLong q →
     FindsValid fits q.count v (λ k. get_or (numbers_in ns) k (pos 0) +ℤ i) r → FindsSums p q r
 number_added fits p q v ns m i r same left right long found =
     let x = lanes_rows q.lhs.now in
@@ -144,7 +144,7 @@ number_added fits p q v ns m i r same left right long found =
     (number_shows q.count m i y right long.1) (λ k. and_all (is_valid v k)) is)
 
 -- and of one number and a column
-pub number_before : {E : Type 0} (fits : ℤ → Bool) (p : PType) (q : Pair) (v : Validity) (ns : Numbers) (m : ℕ) (i : ℤ) (r : Result (Option Lanes) E) → ((z : ℤ) → fits z ≡ fits_ptype z p) → lanes_rows q.lhs.now ≡ replicate m (int i) → q.rhs.now ≡ Kind.Numbers ns v → IsLong q →
+pub number_before : {E : Type 0} (fits : ℤ → Bool) (p : IntType) (q : Pair) (v : Validity) (ns : Numbers) (m : ℕ) (i : ℤ) (r : Result (Option Lanes) E) → ((z : ℤ) → fits z ≡ fits_int z p) → lanes_rows q.lhs.now ≡ replicate m (int i) → q.rhs.now ≡ Kind.Numbers ns v → IsLong q →
     FindsValid fits q.count v (λ k. get_or (numbers_in ns) k (pos 0) +ℤ i) r → FindsSums p q r
 number_before fits p q v ns m i r same left right long found =
     let x = lanes_rows q.lhs.now in

@@ -1,6 +1,6 @@
 -- Sums, and which of them a type doesn't hold.
 use Rattle.std.specs.Prelude.{◌≡◌, ◌<◌, ℕ, ℤ, Bool, true, false, List, [], ◌∷◌, get_or, IfOk, IfSome, Option, Result, if◌then◌else◌}
-use Rattle.vx_dtype.specs.declared.dtype.PType.{PType}
+use Rattle.vx_dtype.specs.declared.ptype.IntType.{IntType}
 use Rattle.vx_value.specs.Types.{Datum, null, int, ty, atomic, number}
 use Rattle.vx_fn.specs.Faults.{is_outside}
 use Rattle.vx_fn.specs.Values.{sum_of}
@@ -25,9 +25,9 @@ abbrev pub FindsValid : {E : Type 0} → (ℤ → Bool) → ℕ → Validity →
 FindsValid fits n v f r = IfOk r (λ found. IfSome found (λ out. (lanes_rows out ≡ valid_rows n v f) × ((k : ℕ) → k < n → is_valid v k ≡ true → fits (f k) ≡ true)))
 
 -- the number type holds the sum of each row
-abbrev pub NoneOutside : PType → Pair → Type 0
+abbrev pub NoneOutside : IntType → Pair → Type 0
 NoneOutside p q = (n : Bool) (k : ℕ) → k < q.count → is_outside (ty (atomic (number p)) n ∷ []) (sum_of (get_or (lanes_rows q.lhs.now) k null) (get_or (lanes_rows q.rhs.now) k null)) ≡ false
 
 -- lanes that are found hold the sums, and the number type holds each
-abbrev pub FindsSums : {E : Type 0} → PType → Pair → Result (Option Lanes) E → Type 0
+abbrev pub FindsSums : {E : Type 0} → IntType → Pair → Result (Option Lanes) E → Type 0
 FindsSums p q r = IfOk r (λ found. IfSome found (λ out. (lanes_rows out ≡ pair_rows sum_of q) × NoneOutside p q))

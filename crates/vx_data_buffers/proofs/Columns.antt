@@ -9,7 +9,7 @@ use Rattle.std.proofs.lemmas.Bool.{eq-eqb}
 use Rattle.std.proofs.lemmas.List.FromFn.{length-map-range_with_len, get_or-map-range_with_len}
 use Rattle.vx_dtype.specs.Fields.{fields_named}
 use Rattle.vx_dtype.specs.declared.dtype.DType.{DType}
-use Rattle.vx_dtype.specs.declared.dtype.PType.{PType}
+use Rattle.vx_dtype.specs.declared.ptype.IntType.{IntType}
 use Rattle.vx_value.specs.Types.{Name, LogicalType, ty, Shape, atomic, truth, number, struct, Fields, Datum, null, bool, int, struct_of}
 use Rattle.vx_value.specs.Fields.{data_of}
 use Rattle.vx_value.specs.Fits.{Fits}
@@ -77,7 +77,7 @@ truths_read buffers at rows n v bits tells are =
     (λ i h. ap (λ r. and_so (found (at + 1) r) bool) (are.1 i h) ∙ ap Ok (sym (get_or-map bool bits i false null (omega (arith, are.0)))))
 
 -- of numbers
-pub numbers_read : (buffers : List (List ℕ)) (p : PType) (at rows : ℕ) (n : Bool) (v : Validity) (ns : List ℤ) → Tells buffers at rows n v → AreNumbers p (bytes_at buffers (at + 1)) rows ns
+pub numbers_read : (buffers : List (List ℕ)) (p : IntType) (at rows : ℕ) (n : Bool) (v : Validity) (ns : List ℤ) → Tells buffers at rows n v → AreNumbers p (bytes_at buffers (at + 1)) rows ns
     → IsColumn buffers (ty (atomic (number p)) n) at rows (column_by (atomic (number p)) (if_nullable n v) (map int ns))
 numbers_read buffers p at rows n v ns tells are =
     column_read buffers (atomic (number p)) at rows n v (map int ns) tells (length-map ns int ∙ are.0)
@@ -130,7 +130,7 @@ found_so (Ok None) f h = h
 found_so (Err e) f h = h
 
 -- one more number
-pub number_more : {A : Type 0} (f : A → ℤ) (p : PType) (bytes : List ℕ) (xs ys : List A) (x : A) (i : ℕ) → AreNumbers p bytes i (map f xs) → number_at p bytes i ≡ Some (f x) → ys ≡ xs ++ x ∷ [] → AreNumbers p bytes (i + 1) (map f ys)
+pub number_more : {A : Type 0} (f : A → ℤ) (p : IntType) (bytes : List ℕ) (xs ys : List A) (x : A) (i : ℕ) → AreNumbers p bytes i (map f xs) → number_at p bytes i ≡ Some (f x) → ys ≡ xs ++ x ∷ [] → AreNumbers p bytes (i + 1) (map f ys)
 number_more f p bytes xs ys x i so_far here grown =
     let long : length xs ≡ i = sym (length-map xs f) ∙ so_far.0 in
     let whole : map f ys ≡ map f xs ++ f x ∷ [] = ap (map f) grown ∙ map-append f xs (x ∷ []) in

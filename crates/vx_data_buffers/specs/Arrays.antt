@@ -1,6 +1,6 @@
 -- Columns that are read at once.
 use Rattle.std.specs.Prelude.{◌≡◌, ℕ, ◌<◌, Bool, true, false, List, length, get_or, ℤ, pos, Option, Some, None, Ok, if◌then◌else◌}
-use Rattle.vx_dtype.specs.declared.dtype.PType.{PType}
+use Rattle.vx_dtype.specs.declared.ptype.IntType.{IntType}
 use Rattle.vx_value.specs.Types.{LogicalType, Fields, null}
 use Rattle.vx_value.specs.Columns.{Batch}
 use Rattle.vx_value.specs.StructColumns.{row_at, rows_in}
@@ -15,7 +15,7 @@ abbrev pub AreBits : List ℕ → ℕ → List Bool → Type 0
 AreBits bytes rows bits = (length bits ≡ rows) × ((i : ℕ) → i < rows → bit_of bytes i ≡ Some (get_or bits i false))
 
 -- so many numbers are those of the type in the bytes
-abbrev pub AreNumbers : PType → List ℕ → ℕ → List ℤ → Type 0
+abbrev pub AreNumbers : IntType → List ℕ → ℕ → List ℤ → Type 0
 AreNumbers p bytes rows ns = (length ns ≡ rows) × ((i : ℕ) → i < rows → number_at p bytes i ≡ Some (get_or ns i (pos 0)))
 
 -- the validity says of so many rows what the buffer of that index says, and of a type without null that no row is null

@@ -1,8 +1,8 @@
 -- Bits and numbers of a buffer's bytes, where the buffer has them.
 use Rattle.std.specs.Prelude.{ℕ, ◌+◌, ◌*◌, ◌/◌, ◌%◌, Bool, ◌==◌, nat_le, List, [], map, take, drop, length, get_or, ℤ, pos, Option, Some, None, option_map, slice_get, if◌then◌else◌}
 use Rattle.std.specs.Int.{bit_at, cast_signed, from_le_bytes, w8, w16, w32, w64}
-use Rattle.vx_dtype.specs.declared.dtype.PType.{PType}
-use Rattle.vx_dtype.specs.declared.dtype.PType.TheVariants.{U8, U16, U32, U64, I8, I16, I32, I64}
+use Rattle.vx_dtype.specs.declared.ptype.IntType.{IntType}
+use Rattle.vx_dtype.specs.declared.ptype.IntType.TheVariants.{U8, U16, U32, U64, I8, I16, I32, I64}
 use Rattle.vx_data_buffers.specs.declared.buffer.Buffer.{Buffer}
 
 -- the bytes of each buffer
@@ -22,7 +22,7 @@ abbrev pub part : List ℕ → ℕ → ℕ → Option (List ℕ)
 part bytes from size = if nat_le (from + size) (length bytes) then Some (take size (drop from bytes)) else None
 
 -- how many bytes a number of the type has
-abbrev pub width : PType → ℕ
+abbrev pub width : IntType → ℕ
 width U8 = 1
 width U16 = 2
 width U32 = 4
@@ -33,7 +33,7 @@ width I32 = 4
 width I64 = 8
 
 -- the number that the bytes spell, little endian, in two's complement where the type is signed
-abbrev pub number_of : PType → List ℕ → ℤ
+abbrev pub number_of : IntType → List ℕ → ℤ
 number_of U8 bytes = pos (from_le_bytes w8 bytes)
 number_of U16 bytes = pos (from_le_bytes w16 bytes)
 number_of U32 bytes = pos (from_le_bytes w32 bytes)
@@ -44,5 +44,5 @@ number_of I32 bytes = cast_signed w32 (from_le_bytes w32 bytes)
 number_of I64 bytes = cast_signed w64 (from_le_bytes w64 bytes)
 
 -- number i of the type
-abbrev pub number_at : PType → List ℕ → ℕ → Option ℤ
+abbrev pub number_at : IntType → List ℕ → ℕ → Option ℤ
 number_at p bytes i = option_map (number_of p) (part bytes (i * width p) (width p))

@@ -1,7 +1,7 @@
 -- Where a column's buffers lie, and the value that a row has in them.
 use Rattle.std.specs.Prelude.{ℕ, ◌+◌, ◌-◌, ◌*◌, ◌==◌, nat_le, Bool, true, false, List, [], ◌∷◌, ℤ, pos, Option, length, ok_or, Result, Ok, Err, if◌then◌else◌}
 use Rattle.std.specs.Str.{is_utf8}
-use Rattle.vx_dtype.specs.declared.dtype.PType.TheVariants.{I32}
+use Rattle.vx_dtype.specs.declared.ptype.IntType.TheVariants.{I32}
 use Rattle.vx_value.specs.Types.{truth, number, text, octets, LogicalType, ty, Shape, atomic, list, fixed, struct, Fields, no_field, field, Datum, null, bool, int, utf8, bytes, list_of, struct_of}
 use Rattle.vx_value.specs.Fields.{data_of}
 use Rattle.vx_data_buffers.specs.Results.{and_then, and_so, each_from}

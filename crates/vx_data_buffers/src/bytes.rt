@@ -1,7 +1,7 @@
 // Bits and numbers of a buffer's bytes, where the buffer has them.
 ghost use Rattle.std.specs.Prelude.{◌≡◌, ◌*◌, option_map};
 ghost use Rattle.vx_data_buffers.specs.Bytes.{bit_of, number_at, part};
-ghost use Rattle.vx_dtype.specs.declared.dtype.PType.TheVariants.{I32};
+ghost use Rattle.vx_dtype.specs.declared.ptype.IntType.TheVariants.{I32};
 
 use vx_types::PType;
 

@@ -1,6 +1,6 @@
 // Whole numbers of Rust's types.
 ghost use Rattle.std.specs.Prelude.{pos, false};
-ghost use Rattle.vx_dtype.specs.declared.dtype.PType.TheVariants.{U8, U16, U32, U64, I8, I16, I32, I64};
+ghost use Rattle.vx_dtype.specs.declared.ptype.IntType.TheVariants.{U8, U16, U32, U64, I8, I16, I32, I64};
 ghost use Rattle.vx_value.specs.Types.{ty, atomic, number, int};
 
 use crate::native::Native;

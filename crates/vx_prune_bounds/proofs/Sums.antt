@@ -8,9 +8,9 @@ use Rattle.std.specs.Int.{saturate_to_bits}
 use Rattle.std.specs.Ordering.{is_le, int_cmp, MatchOrdering}
 use Rattle.std.proofs.lemmas.Bool.{and_parts, and_from, or_left, or_right, ltb-true}
 use Rattle.std.proofs.lemmas.Int.{ints}
-use Rattle.vx_dtype.specs.declared.dtype.PType.{PType}
-use Rattle.vx_dtype.specs.declared.dtype.PType.TheVariants.{U8, U16, U32, U64, I8, I16, I32, I64}
-use Rattle.vx_value.specs.Fits.{Fits, fits_ptype}
+use Rattle.vx_dtype.specs.declared.ptype.IntType.{IntType}
+use Rattle.vx_dtype.specs.declared.ptype.IntType.TheVariants.{U8, U16, U32, U64, I8, I16, I32, I64}
+use Rattle.vx_value.specs.Fits.{Fits, fits_int}
 use Rattle.vx_value.specs.Types.{bits, is_signed, number, ty, atomic, Datum, null, bool, int, utf8, bytes, list_of, struct_of}
 use Rattle.vx_fn.specs.Values.{sum_of}
 use Rattle.vx_prune_bounds.specs.Bounds.{Bounds, is_from, is_up_to, Contains, of_both}
@@ -57,7 +57,7 @@ le-saturated (negsuc m) (negsuc n) h k = omega (arith, ints)
 
 -- ---- numbers of the types
 
-powers : (p : PType) → 2 ^ bits p ≤ 2 ^ 64
+powers : (p : IntType) → 2 ^ bits p ≤ 2 ^ 64
 powers U8 = lit≤ tt
 powers U16 = lit≤ tt
 powers U32 = lit≤ tt
@@ -67,13 +67,13 @@ powers I16 = lit≤ tt
 powers I32 = lit≤ tt
 powers I64 = lit≤ tt
 
-number_low : (i : ℤ) (p : PType) → fits_ptype i p ≡ true → negsuc (2 ^ 64) ≤ℤ i
+number_low : (i : ℤ) (p : IntType) → fits_int i p ≡ true → negsuc (2 ^ 64) ≤ℤ i
 number_low (pos n) p e = omega (arith, ints)
 number_low (negsuc n) p e =
     let h : n < 2 ^ bits p = ltb-true n (2 ^ bits p) (and_parts (is_signed p) (nat_lt n (2 ^ bits p)) e).1 in
     omega (arith, ints, powers p)
 
-number_high : (i : ℤ) (p : PType) → fits_ptype i p ≡ true → i ≤ℤ pos (2 ^ 64)
+number_high : (i : ℤ) (p : IntType) → fits_int i p ≡ true → i ≤ℤ pos (2 ^ 64)
 number_high (pos n) p e = let h : n < 2 ^ bits p = ltb-true n (2 ^ bits p) e in omega (arith, ints, powers p)
 number_high (negsuc n) p e = omega (arith, ints)
 
@@ -110,7 +110,7 @@ module _ (i j : ℤ) (low : negsuc (2 ^ 66) ≤ℤ (i +ℤ j)) (high : (i +ℤ j
   sum_up_to (Some (struct_of _)) (Some h) e f = refl
   sum_up_to (Some (int a)) (Some _) e f = refl
 
-pub sum-sound : (x y : Bounds) (v w : Datum) (p q : PType) (n m : Bool) → Fits v (ty (atomic (number p)) n) → Fits w (ty (atomic (number q)) m) → Contains x v → Contains y w → Contains (sum_bounds x y) (sum_of v w)
+pub sum-sound : (x y : Bounds) (v w : Datum) (p q : IntType) (n m : Bool) → Fits v (ty (atomic (number p)) n) → Fits w (ty (atomic (number q)) m) → Contains x v → Contains y w → Contains (sum_bounds x y) (sum_of v w)
 sum-sound x y null w p q n m f g h k = or_left x.null y.null h
 sum-sound x y (int i) null p q n m f g h k = or_right x.null y.null k
 sum-sound x y (int i) (int j) p q n m f g h k =

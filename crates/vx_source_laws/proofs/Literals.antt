@@ -6,11 +6,11 @@ use Rattle.std.specs.Fmt.{signed_decimal}
 use Rattle.std.specs.List.{list_all}
 use Rattle.std.specs.Str.{bytes_eq}
 use Rattle.std.proofs.lemmas.Slice.Eq.{bytes_eq-Decides}
-use Rattle.vx_dtype.specs.declared.dtype.PType.{PType}
-use Rattle.vx_dtype.specs.declared.dtype.PType.TheVariants.{U8, U16, U32, U64, I8, I16, I32, I64}
+use Rattle.vx_dtype.specs.declared.ptype.IntType.{IntType}
+use Rattle.vx_dtype.specs.declared.ptype.IntType.TheVariants.{U8, U16, U32, U64, I8, I16, I32, I64}
 use Rattle.vx_value.specs.Columns.{constant}
 use Rattle.vx_value.specs.Fits.{Fits}
-use Rattle.vx_value.specs.Texts.{ptype_text}
+use Rattle.vx_value.specs.Texts.{int_text}
 use Rattle.vx_value.specs.Types.{number, LogicalType, ty, atomic, Datum, int}
 use Rattle.vx_fn.specs.Functions.{literal}
 use Rattle.vx_tree.specs.Trees.{call, no_tree}
@@ -147,7 +147,7 @@ alone_again v t fs r rest f u w h l q m = literal_of v t fs r rest rest _ f u w 
 
 -- ---- a number with its type's name behind it
 
-pub suffix_is : (p : PType) (negative : Bool) (n : ℕ) → suffixed (numeral negative (Some n) (ptype_text p)) ≡ Some (ranged negative (Some n) (Some p))
+pub suffix_is : (p : IntType) (negative : Bool) (n : ℕ) → suffixed (numeral negative (Some n) (int_text p)) ≡ Some (ranged negative (Some n) (Some p))
 suffix_is U8 negative n = refl
 suffix_is U16 negative n = refl
 suffix_is U32 negative n = refl
@@ -158,7 +158,7 @@ suffix_is I32 negative n = refl
 suffix_is I64 negative n = refl
 
 -- a suffix begins with a letter that no number has, and is a word
-pub suffix_apart : (p : PType) (rest : List ℕ) → (is_more (next (ptype_text p ++ rest)) ≡ false) × ((next (ptype_text p ++ rest) == 120) ≡ false) × (list_all is_word (ptype_text p) ≡ true)
+pub suffix_apart : (p : IntType) (rest : List ℕ) → (is_more (next (int_text p ++ rest)) ≡ false) × ((next (int_text p ++ rest) == 120) ≡ false) × (list_all is_word (int_text p) ≡ true)
 suffix_apart U8 rest = (refl, refl, refl)
 suffix_apart U16 rest = (refl, refl, refl)
 suffix_apart U32 rest = (refl, refl, refl)
@@ -169,28 +169,28 @@ suffix_apart I32 rest = (refl, refl, refl)
 suffix_apart I64 rest = (refl, refl, refl)
 
 -- a number whose token is known
-number_read : (p : PType) (i : ℤ) (fs : List Frame) (r : ℕ) (bs rest : List ℕ) (negative : Bool) (n : ℕ) → first bs ≡ (numeral negative (Some n) (ptype_text p), rest) → ranged negative (Some n) (Some p) ≡ fitting (ty (atomic (number p)) false) (int i)
+number_read : (p : IntType) (i : ℤ) (fs : List Frame) (r : ℕ) (bs rest : List ℕ) (negative : Bool) (n : ℕ) → first bs ≡ (numeral negative (Some n) (int_text p), rest) → ranged negative (Some n) (Some p) ≡ fitting (ty (atomic (number p)) false) (int i)
     → Fits (int i) (ty (atomic (number p)) false) → 0 < r → Reads fs r (call (literal (ty (atomic (number p)) false) (int i)) no_tree) bs rest
 number_read p i fs r bs rest negative n e g f h =
     let t = ty (atomic (number p)) false in
-    let found : suffixed (numeral negative (Some n) (ptype_text p)) ≡ Some (Some (constant t (int i))) = suffix_is p negative n ∙ ap (λ o. Some o) (g ∙ fitted t (int i) f) in
+    let found : suffixed (numeral negative (Some n) (int_text p)) ≡ Some (Some (constant t (int i))) = suffix_is p negative n ∙ ap (λ o. Some o) (g ∙ fitted t (int i) f) in
     record {
-      token = numeral negative (Some n) (ptype_text p);
+      token = numeral negative (Some n) (int_text p);
       behind = rest;
       state = at fs (tight (call (literal t (int i)) no_tree)) r;
       last = at fs (tight (call (literal t (int i)) no_tree)) r;
       found = e;
-      taken = ap (number_begins fs r (numeral negative (Some n) (ptype_text p))) found ∙ node_is fs (literal t (int i)) no_tree r h;
+      taken = ap (number_begins fs r (numeral negative (Some n) (int_text p))) found ∙ node_is fs (literal t (int i)) no_tree r h;
       opens = refl;
       more_of = stays;
       is_behind = λ x p. refl;
     }
 
-pub number_again : (p : PType) (i : ℤ) (fs : List Frame) (r : ℕ) (rest : List ℕ) → Fits (int i) (ty (atomic (number p)) false) → 0 < r → Ends rest
-    → Reads fs r (call (literal (ty (atomic (number p)) false) (int i)) no_tree) (signed_decimal i ++ (ptype_text p ++ rest)) rest
+pub number_again : (p : IntType) (i : ℤ) (fs : List Frame) (r : ℕ) (rest : List ℕ) → Fits (int i) (ty (atomic (number p)) false) → 0 < r → Ends rest
+    → Reads fs r (call (literal (ty (atomic (number p)) false) (int i)) no_tree) (signed_decimal i ++ (int_text p ++ rest)) rest
 number_again p (pos n) fs r rest f h m =
     let apart = suffix_apart p rest in
-    number_read p (pos n) fs r _ rest false n (first_number n (ptype_text p) rest (fits_small p n f) apart.0 apart.1 apart.2 (ends_word rest m)) refl f h
+    number_read p (pos n) fs r _ rest false n (first_number n (int_text p) rest (fits_small p n f) apart.0 apart.1 apart.2 (ends_word rest m)) refl f h
 number_again p (negsuc n) fs r rest f h m =
     let apart = suffix_apart p rest in
-    number_read p (negsuc n) fs r _ rest true (suc n) (first_below_zero (suc n) (ptype_text p) rest (fits_below_zero p n f) apart.0 apart.2 (ends_word rest m)) refl f h
+    number_read p (negsuc n) fs r _ rest true (suc n) (first_below_zero (suc n) (int_text p) rest (fits_below_zero p n f) apart.0 apart.2 (ends_word rest m)) refl f h

@@ -2,10 +2,10 @@
 use Rattle.std.proofs.Common.{◌≡◌, ℕ, suc, ◌≤◌, Bool, true, false, List, [], ◌∷◌, ◌++◌, Some, Result, Ok, Err, refl, sym, ap, ◌∙◌, subst, append_assoc, append-nil}
 use Rattle.std.specs.Prelude.{codes, ℤ, pos, negsuc}
 use Rattle.std.specs.Fmt.{signed_decimal}
-use Rattle.vx_dtype.specs.declared.dtype.PType.{PType}
+use Rattle.vx_dtype.specs.declared.ptype.IntType.{IntType}
 use Rattle.vx_value.specs.Columns.{Constant, constant}
 use Rattle.vx_value.specs.Fits.{Fits}
-use Rattle.vx_value.specs.Texts.{ptype_text}
+use Rattle.vx_value.specs.Texts.{int_text}
 use Rattle.vx_value.specs.Types.{truth, number, text, octets, LogicalType, ty, atomic, list, fixed, struct, Datum, bool, int, utf8, bytes}
 use Rattle.vx_fn.specs.Functions.{Function, literal, cast}
 use Rattle.vx_source_types.specs.declared.expectation.Expected.{Expected}
@@ -115,21 +115,21 @@ typed_options v t room rest f u w h k q =
     (ap (type_after (draft v t)) (type_ended t room (sign CloseBracket) refl) ∙ ap scalar_ended (typed_is v t room f u w h k q))
 
 -- a number whose token is known
-number_options : (p : PType) (i : ℤ) (room : ℕ) (rest : List ℕ) (negative : Bool) (n : ℕ) → first (signed_decimal i ++ (ptype_text p ++ 93 ∷ rest)) ≡ (numeral negative (Some n) (ptype_text p), 93 ∷ rest)
+number_options : (p : IntType) (i : ℤ) (room : ℕ) (rest : List ℕ) (negative : Bool) (n : ℕ) → first (signed_decimal i ++ (int_text p ++ 93 ∷ rest)) ≡ (numeral negative (Some n) (int_text p), 93 ∷ rest)
     → ranged negative (Some n) (Some p) ≡ fitting (ty (atomic (number p)) false) (int i) → Fits (int i) (ty (atomic (number p)) false) → AreOptions (literal (ty (atomic (number p)) false) (int i)) (codes "literal") room rest
 number_options p i room rest negative n e g f =
     let t = ty (atomic (number p)) false in
     let found = suffix_is p negative n ∙ ap (λ o. Some o) (g ∙ fitted t (int i) f) in
-    scalar_options t (int i) room rest (numeral negative (Some n) (ptype_text p) ∷ []) (whole_scalar (constant t (int i)))
-    (of_taken_text (scalar_step room) (append_assoc (signed_decimal i) (ptype_text p) (93 ∷ rest)) (one_taken {m = 0} e (ap (scalar_begins room (numeral negative (Some n) (ptype_text p))) found) refl none_taken)) refl
+    scalar_options t (int i) room rest (numeral negative (Some n) (int_text p) ∷ []) (whole_scalar (constant t (int i)))
+    (of_taken_text (scalar_step room) (append_assoc (signed_decimal i) (int_text p) (93 ∷ rest)) (one_taken {m = 0} e (ap (scalar_begins room (numeral negative (Some n) (int_text p))) found) refl none_taken)) refl
 
-suffixed_options : (p : PType) (i : ℤ) (room : ℕ) (rest : List ℕ) → Fits (int i) (ty (atomic (number p)) false) → AreOptions (literal (ty (atomic (number p)) false) (int i)) (codes "literal") room rest
+suffixed_options : (p : IntType) (i : ℤ) (room : ℕ) (rest : List ℕ) → Fits (int i) (ty (atomic (number p)) false) → AreOptions (literal (ty (atomic (number p)) false) (int i)) (codes "literal") room rest
 suffixed_options p (pos n) room rest f =
     let apart = suffix_apart p (93 ∷ rest) in
-    number_options p (pos n) room rest false n (first_number n (ptype_text p) (93 ∷ rest) (fits_small p n f) apart.0 apart.1 apart.2 refl) refl f
+    number_options p (pos n) room rest false n (first_number n (int_text p) (93 ∷ rest) (fits_small p n f) apart.0 apart.1 apart.2 refl) refl f
 suffixed_options p (negsuc n) room rest f =
     let apart = suffix_apart p (93 ∷ rest) in
-    number_options p (negsuc n) room rest true (suc n) (first_below_zero (suc n) (ptype_text p) (93 ∷ rest) (fits_below_zero p n f) apart.0 apart.2 refl) refl f
+    number_options p (negsuc n) room rest true (suc n) (first_below_zero (suc n) (int_text p) (93 ∷ rest) (fits_below_zero p n f) apart.0 apart.2 refl) refl f
 
 pub literal_options : (t : LogicalType) (v : Datum) (room : ℕ) (rest : List ℕ) → Fits v t → IsSpelledValue v → IsPrintable t → value_nesting v ≤ room → type_nesting t ≤ room → AreOptions (literal t v) (codes "literal") room rest
 literal_options (ty (atomic (number p)) false) (int i) room rest f u w h k = suffixed_options p i room rest f

@@ -5,11 +5,11 @@ use Rattle.std.specs.Fmt.{decimal, signed_decimal}
 use Rattle.std.specs.List.{list_all}
 use Rattle.std.proofs.lemmas.Bool.{and_parts}
 use Rattle.std.proofs.lemmas.Slice.Eq.{bytes_eq-Decides}
-use Rattle.vx_dtype.specs.declared.dtype.PType.{PType}
-use Rattle.vx_dtype.specs.declared.dtype.PType.TheVariants.{U8, U16, U32, U64, I8, I16, I32, I64}
+use Rattle.vx_dtype.specs.declared.ptype.IntType.{IntType}
+use Rattle.vx_dtype.specs.declared.ptype.IntType.TheVariants.{U8, U16, U32, U64, I8, I16, I32, I64}
 use Rattle.vx_value.specs.Columns.{constant}
 use Rattle.vx_value.specs.Fits.{fits, each_fits, fields_fit, Fits}
-use Rattle.vx_value.specs.Texts.{ptype_text}
+use Rattle.vx_value.specs.Texts.{int_text}
 use Rattle.vx_value.specs.Types.{Name, truth, number, text, octets, LogicalType, ty, atomic, list, fixed, struct, Fields, no_field, field, Datum, null, bool, int, utf8, bytes, list_of, struct_of, Data, no_datum, datum}
 use Rattle.vx_source_types.specs.Characters.{is_word}
 use Rattle.vx_source_types.specs.Tokens.{number as numeral, end, next, first}
@@ -128,7 +128,7 @@ read_value v ns r = record { frames = []; mode = whole_value v; names = ns; room
 
 -- ---- a number with its type's name behind it
 
-suffix_is : (p : PType) (negative : Bool) (n : ℕ) → suffixed (numeral negative (Some n) (ptype_text p)) ≡ Some (ranged negative (Some n) (Some p))
+suffix_is : (p : IntType) (negative : Bool) (n : ℕ) → suffixed (numeral negative (Some n) (int_text p)) ≡ Some (ranged negative (Some n) (Some p))
 suffix_is U8 negative n = refl
 suffix_is U16 negative n = refl
 suffix_is U32 negative n = refl
@@ -139,7 +139,7 @@ suffix_is I32 negative n = refl
 suffix_is I64 negative n = refl
 
 -- a suffix begins with a letter that no number has, and is a word
-suffix_apart : (p : PType) → (is_more (next (ptype_text p ++ [])) ≡ false) × ((next (ptype_text p ++ []) == 120) ≡ false) × (list_all is_word (ptype_text p) ≡ true)
+suffix_apart : (p : IntType) → (is_more (next (int_text p ++ [])) ≡ false) × ((next (int_text p ++ []) == 120) ≡ false) × (list_all is_word (int_text p) ≡ true)
 suffix_apart U8 = (refl, refl, refl)
 suffix_apart U16 = (refl, refl, refl)
 suffix_apart U32 = (refl, refl, refl)
@@ -150,22 +150,22 @@ suffix_apart I32 = (refl, refl, refl)
 suffix_apart I64 = (refl, refl, refl)
 
 -- a number whose token is known
-number_read : (p : PType) (i : ℤ) (room : ℕ) (bs : List ℕ) (negative : Bool) (n : ℕ) → first bs ≡ (numeral negative (Some n) (ptype_text p), []) → ranged negative (Some n) (Some p) ≡ fitting (ty (atomic (number p)) false) (int i)
+number_read : (p : IntType) (i : ℤ) (room : ℕ) (bs : List ℕ) (negative : Bool) (n : ℕ) → first bs ≡ (numeral negative (Some n) (int_text p), []) → ranged negative (Some n) (Some p) ≡ fitting (ty (atomic (number p)) false) (int i)
     → Fits (int i) (ty (atomic (number p)) false) → IsRead (scalar_step room) scalar_due bs (constant (ty (atomic (number p)) false) (int i))
 number_read p i room bs negative n e g f =
     let t = ty (atomic (number p)) false in
-    let found : suffixed (numeral negative (Some n) (ptype_text p)) ≡ Some (Some (constant t (int i))) = suffix_is p negative n ∙ ap (λ o. Some o) (g ∙ fitted t (int i) f) in
-    is_read (leads e (ap (scalar_begins room (numeral negative (Some n) (ptype_text p))) found) stays) refl refl
+    let found : suffixed (numeral negative (Some n) (int_text p)) ≡ Some (Some (constant t (int i))) = suffix_is p negative n ∙ ap (λ o. Some o) (g ∙ fitted t (int i) f) in
+    is_read (leads e (ap (scalar_begins room (numeral negative (Some n) (int_text p))) found) stays) refl refl
 
-number_again : (p : PType) (i : ℤ) (room : ℕ) → Fits (int i) (ty (atomic (number p)) false) → IsRead (scalar_step room) scalar_due (signed_decimal i ++ ptype_text p) (constant (ty (atomic (number p)) false) (int i))
+number_again : (p : IntType) (i : ℤ) (room : ℕ) → Fits (int i) (ty (atomic (number p)) false) → IsRead (scalar_step room) scalar_due (signed_decimal i ++ int_text p) (constant (ty (atomic (number p)) false) (int i))
 number_again p (pos n) room f =
     let apart = suffix_apart p in
-    let e : first (decimal n ++ (ptype_text p ++ [])) ≡ (numeral false (Some n) (ptype_text p), []) = first_number n (ptype_text p) [] (fits_small p n f) apart.0 apart.1 apart.2 refl in
-    number_read p (pos n) room (decimal n ++ ptype_text p) false n (ap (λ w. first (decimal n ++ w)) (sym (append-nil (ptype_text p))) ∙ e) refl f
+    let e : first (decimal n ++ (int_text p ++ [])) ≡ (numeral false (Some n) (int_text p), []) = first_number n (int_text p) [] (fits_small p n f) apart.0 apart.1 apart.2 refl in
+    number_read p (pos n) room (decimal n ++ int_text p) false n (ap (λ w. first (decimal n ++ w)) (sym (append-nil (int_text p))) ∙ e) refl f
 number_again p (negsuc n) room f =
     let apart = suffix_apart p in
-    let e : first (45 ∷ (decimal (suc n) ++ (ptype_text p ++ []))) ≡ (numeral true (Some (suc n)) (ptype_text p), []) = first_below_zero (suc n) (ptype_text p) [] (fits_below_zero p n f) apart.0 apart.2 refl in
-    number_read p (negsuc n) room (45 ∷ (decimal (suc n) ++ ptype_text p)) true (suc n) (ap (λ w. first (45 ∷ (decimal (suc n) ++ w))) (sym (append-nil (ptype_text p))) ∙ e) refl f
+    let e : first (45 ∷ (decimal (suc n) ++ (int_text p ++ []))) ≡ (numeral true (Some (suc n)) (int_text p), []) = first_below_zero (suc n) (int_text p) [] (fits_below_zero p n f) apart.0 apart.2 refl in
+    number_read p (negsuc n) room (45 ∷ (decimal (suc n) ++ int_text p)) true (suc n) (ap (λ w. first (45 ∷ (decimal (suc n) ++ w))) (sym (append-nil (int_text p))) ∙ e) refl f
 
 -- ---- scalars
 

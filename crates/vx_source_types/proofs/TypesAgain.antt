@@ -4,7 +4,7 @@ use Rattle.std.specs.Prelude.{codes, ◌==◌, nat_lt}
 use Rattle.std.specs.Fmt.{decimal}
 use Rattle.std.specs.Str.{IsUtf8}
 use Rattle.std.proofs.lemmas.Bool.Decides.{nat_tests}
-use Rattle.vx_dtype.specs.declared.dtype.PType.TheVariants.{U8, U16, U32, U64, I8, I16, I32, I64}
+use Rattle.vx_dtype.specs.declared.ptype.IntType.TheVariants.{U8, U16, U32, U64, I8, I16, I32, I64}
 use Rattle.vx_dtype.specs.Fields.{fields_named}
 use Rattle.vx_dtype.specs.Texts.{with_commas, atomic_text}
 use Rattle.vx_dtype.specs.Types.{Name, Atomic, truth, number, text, octets, LogicalType, ty, Shape, atomic, list, fixed, struct, Fields, no_field, field}

@@ -5,10 +5,10 @@ use Rattle.std.specs.Fmt.{decimal, signed_decimal}
 use Rattle.std.specs.Str.{IsUtf8}
 use Rattle.std.proofs.lemmas.Bool.{and_parts, ltb-true}
 use Rattle.std.proofs.lemmas.Bool.Decides.{nat_tests}
-use Rattle.vx_dtype.specs.declared.dtype.PType.{PType}
-use Rattle.vx_dtype.specs.declared.dtype.PType.TheVariants.{U8, U16, U32, U64, I8, I16, I32, I64}
+use Rattle.vx_dtype.specs.declared.ptype.IntType.{IntType}
+use Rattle.vx_dtype.specs.declared.ptype.IntType.TheVariants.{U8, U16, U32, U64, I8, I16, I32, I64}
 use Rattle.vx_value.specs.Fields.{data_of}
-use Rattle.vx_value.specs.Fits.{fits, each_fits, fields_fit, fits_ptype, Fits}
+use Rattle.vx_value.specs.Fits.{fits, each_fits, fields_fit, fits_int, Fits}
 use Rattle.vx_value.specs.Types.{Name, bits, is_signed, number, LogicalType, ty, atomic, list, fixed, struct, Fields, no_field, field, Datum, null, bool, int, utf8, bytes, list_of, struct_of, Data, no_datum, datum}
 use Rattle.vx_dtype.specs.Texts.{with_commas}
 use Rattle.vx_dtype.proofs.Commas.{after_commas}
@@ -63,7 +63,7 @@ Follows rest = (is_word (next rest) ≡ false) × ((next rest == 34) ≡ false)
 
 -- ---- numbers
 
-small_bits : (p : PType) (n : ℕ) → n < 2 ^ bits p → n < 2 ^ 64
+small_bits : (p : IntType) (n : ℕ) → n < 2 ^ bits p → n < 2 ^ 64
 small_bits U8 n h = omega arith
 small_bits U16 n h = omega arith
 small_bits U32 n h = omega arith
@@ -73,7 +73,7 @@ small_bits I16 n h = omega arith
 small_bits I32 n h = omega arith
 small_bits I64 n h = omega arith
 
-below_bits : (p : PType) (n : ℕ) → (is_signed p && nat_lt n (2 ^ bits p)) ≡ true → suc n < 2 ^ 64
+below_bits : (p : IntType) (n : ℕ) → (is_signed p && nat_lt n (2 ^ bits p)) ≡ true → suc n < 2 ^ 64
 below_bits U8 n h = cc
 below_bits U16 n h = cc
 below_bits U32 n h = cc
@@ -83,10 +83,10 @@ below_bits I16 n h = let k = ltb-true n (2 ^ 15) h in omega arith
 below_bits I32 n h = let k = ltb-true n (2 ^ 31) h in omega arith
 below_bits I64 n h = let k = ltb-true n (2 ^ 63) h in omega arith
 
-pub fits_small : (p : PType) (n : ℕ) → fits_ptype (pos n) p ≡ true → n < 2 ^ 64
+pub fits_small : (p : IntType) (n : ℕ) → fits_int (pos n) p ≡ true → n < 2 ^ 64
 fits_small p n h = small_bits p n (ltb-true n (2 ^ bits p) h)
 
-pub fits_below_zero : (p : PType) (n : ℕ) → fits_ptype (negsuc n) p ≡ true → suc n < 2 ^ 64
+pub fits_below_zero : (p : IntType) (n : ℕ) → fits_int (negsuc n) p ≡ true → suc n < 2 ^ 64
 fits_below_zero p n h = below_bits p n h
 
 word_no_more : (b : ℕ) → is_word b ≡ false → is_more b ≡ false
@@ -95,7 +95,7 @@ word_no_more b e = grind (arith, nat_tests)
 word_no_x : (b : ℕ) → is_word b ≡ false → (b == 120) ≡ false
 word_no_x b e = grind (arith, nat_tests)
 
-number_again : (i : ℤ) (p : PType) (fs : List ValueFrame) (ns : List Name) (r : ℕ) (rest : List ℕ) → fits_ptype i p ≡ true → is_word (next rest) ≡ false
+number_again : (i : ℤ) (p : IntType) (fs : List ValueFrame) (ns : List Name) (r : ℕ) (rest : List ℕ) → fits_int i p ≡ true → is_word (next rest) ≡ false
     → Begins (at fs value_due ns r) (signed_decimal i ++ rest) (at fs (whole_value (int i)) ns r) rest
 number_again (pos n) p fs ns r rest h e =
     one_token fs ns r (int (pos n)) (decimal n ++ rest) rest (numeral false (Some n) [])

@@ -2,8 +2,8 @@
 use Rattle.std.specs.Prelude.{Bool, true, false, List, [], ◌∷◌, Option, Some, None, Result, Ok, Err, option_and_then, if◌then◌else◌}
 use Rattle.std.specs.Str.{bytes_eq}
 use Rattle.std.specs.Prelude.{ℕ}
-use Rattle.vx_dtype.specs.declared.dtype.PType.{PType}
-use Rattle.vx_dtype.specs.declared.dtype.PType.TheVariants.{I32, I64, U64}
+use Rattle.vx_dtype.specs.declared.ptype.IntType.{IntType}
+use Rattle.vx_dtype.specs.declared.ptype.IntType.TheVariants.{I32, I64, U64}
 use Rattle.vx_value.specs.Columns.{Constant, constant}
 use Rattle.vx_value.specs.Fits.{fits}
 use Rattle.vx_value.specs.Types.{Name, truth, number, text, octets, LogicalType, ty, atomic, list, fixed, struct, Fields, no_field, field, Datum, null, bool, int, utf8, bytes, list_of, struct_of, Data, no_datum, datum}
@@ -17,7 +17,7 @@ abbrev pub fitting : LogicalType → Datum → Option Constant
 fitting t v = if fits v t then Some (constant t v) else None
 
 -- the number, if it is in the range of the type that is named behind it
-abbrev pub ranged : Bool → Option ℕ → Option PType → Option Constant
+abbrev pub ranged : Bool → Option ℕ → Option IntType → Option Constant
 ranged negative (Some n) (Some p) = fitting (ty (atomic (number p)) false) (int (signed negative n))
 ranged negative _ _ = None
 

@@ -2,7 +2,7 @@
 use Rattle.std.specs.Prelude.{ℕ, true, false, List, [], ◌∷◌, ◌++◌, codes}
 use Rattle.std.specs.Fmt.{signed_decimal}
 use Rattle.std.specs.List.{flat_map}
-use Rattle.vx_value.specs.Texts.{with_commas, ptype_text}
+use Rattle.vx_value.specs.Texts.{with_commas, int_text}
 use Rattle.vx_value.specs.Types.{number, LogicalType, ty, atomic, list, fixed, struct, Fields, field, Datum, null, bool, int, utf8, bytes, list_of, struct_of, Data, no_datum, datum}
 use Rattle.vx_value.specs.ValueTexts.{hex_byte}
 use Rattle.vx_source_types.specs.Names.{name_source, between_quotes}
@@ -34,7 +34,7 @@ abbrev mutual
 
 -- what tells a value's type: nothing or a number's suffix where null is no value of a type without parts, else the type
 abbrev pub type_behind : LogicalType → List ℕ
-type_behind (ty (atomic (number p)) false) = ptype_text p
+type_behind (ty (atomic (number p)) false) = int_text p
 type_behind (ty (atomic p) false) = []
 type_behind t = codes "::" ++ type_source t
 

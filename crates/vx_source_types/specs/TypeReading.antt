@@ -1,7 +1,7 @@
 -- How a type is read, token by token: what is open around it lies on a stack, and the last token says what is due next.
 use Rattle.std.specs.Prelude.{ℕ, zero, suc, ◌^◌, true, false, List, [], ◌∷◌, ◌++◌, Option, Some, None, Result, Ok, Err, codes, nat_lt, option_and_then}
-use Rattle.vx_dtype.specs.declared.dtype.PType.{PType}
-use Rattle.vx_dtype.specs.declared.dtype.PType.TheVariants.{U8, U16, U32, U64, I8, I16, I32, I64}
+use Rattle.vx_dtype.specs.declared.ptype.IntType.{IntType}
+use Rattle.vx_dtype.specs.declared.ptype.IntType.TheVariants.{U8, U16, U32, U64, I8, I16, I32, I64}
 use Rattle.vx_dtype.specs.Fields.{fields_named}
 use Rattle.vx_dtype.specs.Types.{Name, Atomic, truth, number, text, octets, LogicalType, ty, atomic, list, fixed, struct, with_nullability}
 use Rattle.vx_source_types.specs.declared.expectation.Expected.{Expected}
@@ -58,7 +58,7 @@ within zero f = Err LessNesting
 within (suc r) f = f r
 
 -- the number type of that name
-abbrev pub ptype_word : List ℕ → Option PType
+abbrev pub ptype_word : List ℕ → Option IntType
 ptype_word w =
     elim (same_word w (codes "u8")) [
       | true ↦ Some U8
@@ -91,7 +91,7 @@ ptype_word w =
     ]
 
 -- a number type that was found, as a kind of type
-abbrev pub of_number : Option PType → Option Atomic
+abbrev pub of_number : Option IntType → Option Atomic
 of_number None = None
 of_number (Some p) = Some (number p)
 

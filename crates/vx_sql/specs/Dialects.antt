@@ -1,13 +1,13 @@
 -- What the engines call their types, and how they are told to compare texts.
 use Rattle.std.specs.Prelude.{ℕ, Bool, true, false, List, [], ◌++◌, codes}
-use Rattle.vx_dtype.specs.declared.dtype.PType.{PType}
-use Rattle.vx_dtype.specs.declared.dtype.PType.TheVariants.{U8, U16, U32, U64, I8, I16, I32, I64}
+use Rattle.vx_dtype.specs.declared.ptype.IntType.{IntType}
+use Rattle.vx_dtype.specs.declared.ptype.IntType.TheVariants.{U8, U16, U32, U64, I8, I16, I32, I64}
 use Rattle.vx_value.specs.Types.{truth, number, text, octets, LogicalType, ty, atomic, list, fixed, struct}
 use Rattle.vx_sql.specs.declared.dialect.Dialect.{Dialect}
 use Rattle.vx_sql.specs.declared.dialect.Dialect.TheVariants.{Postgres, Sqlite, DuckDb, Spark}
 
 -- PostgreSQL's narrowest type that has all numbers of that type
-abbrev pub postgres_word : PType → List ℕ
+abbrev pub postgres_word : IntType → List ℕ
 postgres_word U8 = codes "smallint"
 postgres_word U16 = codes "integer"
 postgres_word U32 = codes "bigint"
@@ -18,7 +18,7 @@ postgres_word I32 = codes "integer"
 postgres_word I64 = codes "bigint"
 
 -- DuckDB's type of the same numbers
-abbrev pub duckdb_word : PType → List ℕ
+abbrev pub duckdb_word : IntType → List ℕ
 duckdb_word U8 = codes "UTINYINT"
 duckdb_word U16 = codes "USMALLINT"
 duckdb_word U32 = codes "UINTEGER"
@@ -29,7 +29,7 @@ duckdb_word I32 = codes "INTEGER"
 duckdb_word I64 = codes "BIGINT"
 
 -- Spark's narrowest type that has all numbers of that type
-abbrev pub spark_word : PType → List ℕ
+abbrev pub spark_word : IntType → List ℕ
 spark_word U8 = codes "SMALLINT"
 spark_word U16 = codes "INT"
 spark_word U32 = codes "BIGINT"
@@ -40,7 +40,7 @@ spark_word I32 = codes "INT"
 spark_word I64 = codes "BIGINT"
 
 -- the engine's number type, which in SQLite is one for all
-abbrev pub number_word : Dialect → PType → List ℕ
+abbrev pub number_word : Dialect → IntType → List ℕ
 number_word Postgres p = postgres_word p
 number_word Sqlite p = codes "INTEGER"
 number_word DuckDb p = duckdb_word p

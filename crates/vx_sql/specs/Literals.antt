@@ -2,8 +2,8 @@
 use Rattle.std.specs.Prelude.{ℕ, Bool, true, false, ℤ, pos, negsuc, List, [], ◌++◌, codes, if◌then◌else◌}
 use Rattle.std.specs.Fmt.{decimal, signed_decimal}
 use Rattle.std.specs.List.{flat_map}
-use Rattle.vx_dtype.specs.declared.dtype.PType.{PType}
-use Rattle.vx_dtype.specs.declared.dtype.PType.TheVariants.{I32}
+use Rattle.vx_dtype.specs.declared.ptype.IntType.{IntType}
+use Rattle.vx_dtype.specs.declared.ptype.IntType.TheVariants.{I32}
 use Rattle.vx_value.specs.Types.{number, LogicalType, ty, atomic, Datum, null, bool, int, utf8, bytes, list_of, struct_of}
 use Rattle.vx_value.specs.ValueTexts.{hex_byte}
 use Rattle.vx_sql.specs.declared.dialect.Dialect.{Dialect}
@@ -22,23 +22,23 @@ truth_sql DuckDb false = codes "FALSE"
 truth_sql Spark true = codes "TRUE"
 truth_sql Spark false = codes "FALSE"
 
-abbrev pub is_i32 : PType → Bool
+abbrev pub is_i32 : IntType → Bool
 is_i32 I32 = true
 is_i32 _ = false
 
 -- whether the digits alone are a number of that type: all are of SQLite's, and else those of an `i32`
-abbrev pub is_by_itself : Dialect → PType → Bool
+abbrev pub is_by_itself : Dialect → IntType → Bool
 is_by_itself Postgres p = is_i32 p
 is_by_itself Sqlite p = true
 is_by_itself DuckDb p = is_i32 p
 is_by_itself Spark p = is_i32 p
 
 -- the number as one of the engine's type, which a sum relies on
-abbrev pub natural_sql : Dialect → PType → ℕ → List ℕ
+abbrev pub natural_sql : Dialect → IntType → ℕ → List ℕ
 natural_sql d p n = if is_by_itself d p then decimal n else cast_text (decimal n) (number_word d p)
 
 -- the same of one that may be below zero, whose sign would be read with what stands before it
-abbrev pub number_sql : Dialect → PType → ℤ → List ℕ
+abbrev pub number_sql : Dialect → IntType → ℤ → List ℕ
 number_sql d p (pos n) = natural_sql d p n
 number_sql d p (negsuc n) = cast_text (signed_decimal (negsuc n)) (number_word d p)
 

@@ -9,7 +9,7 @@ use Rattle.std.proofs.lemmas.Bool.Decides.{nat_tests}
 use Rattle.std.proofs.lemmas.Grind.{flat_map-append}
 use Rattle.std.proofs.lemmas.Str.{encode_ascii, encodes-append, encodes-chars, inside_one}
 use Rattle.std.proofs.Math.Utf8.{encode, encodes}
-use Rattle.vx_dtype.specs.declared.dtype.PType.TheVariants.{U8, U16, U32, U64, I8, I16, I32, I64}
+use Rattle.vx_dtype.specs.declared.ptype.IntType.TheVariants.{U8, U16, U32, U64, I8, I16, I32, I64}
 use Rattle.vx_source_types.specs.declared.expectation.Expected.TheVariants.{ClosingSingleQuote}
 use Rattle.vx_source_types.specs.Spellings.{doubled}
 use Rattle.vx_source_types.specs.Tokens.{Taken, next, first, text, text_taken}

@@ -2,8 +2,8 @@
 use Rattle.std.specs.Prelude.{◌≡◌, ◌<◌, ◌^◌, ℕ, false, ◌==◌, List, [], ◌++◌, Some, Ok, IsUtf8, codes}
 use Rattle.std.specs.Fmt.{decimal}
 use Rattle.vx_dtype.specs.Types.{Name}
-use Rattle.vx_dtype.specs.declared.dtype.PType.{PType}
-use Rattle.vx_dtype.specs.declared.dtype.PType.TheVariants.{U8, U16, U32, U64, I8, I16, I32, I64}
+use Rattle.vx_dtype.specs.declared.ptype.IntType.{IntType}
+use Rattle.vx_dtype.specs.declared.ptype.IntType.TheVariants.{U8, U16, U32, U64, I8, I16, I32, I64}
 use Rattle.vx_source_types.specs.Characters.{is_word}
 use Rattle.vx_source_types.specs.Tokens.{next, quoted, number, text}
 use Rattle.vx_sql.specs.declared.dialect.Dialect.{Dialect}
@@ -29,7 +29,7 @@ WrittenNumbersAreRead = (d : Dialect) (n : ℕ) (rest : List ℕ) → n < 2 ^ 64
     → taken_at d (decimal n ++ rest) ≡ (let t : Taken = (Some (Ok (number false (Some n) [])), rest) in t)
 
 -- the type of numbers that is read of PostgreSQL's word for one: the one that has all of its numbers
-abbrev pub in_postgres : PType → List ℕ
+abbrev pub in_postgres : IntType → List ℕ
 in_postgres U8 = codes "i16"
 in_postgres U16 = codes "i32"
 in_postgres U32 = codes "i64"
@@ -40,7 +40,7 @@ in_postgres I32 = codes "i32"
 in_postgres I64 = codes "i64"
 
 -- DuckDB has a word for each
-abbrev pub in_duckdb : PType → List ℕ
+abbrev pub in_duckdb : IntType → List ℕ
 in_duckdb U8 = codes "u8"
 in_duckdb U16 = codes "u16"
 in_duckdb U32 = codes "u32"
@@ -52,4 +52,4 @@ in_duckdb I64 = codes "i64"
 
 -- the words that `vx_sql` writes for the types of numbers are read
 abbrev pub WrittenTypesAreRead : Type 0
-WrittenTypesAreRead = (p : PType) → (type_named Postgres (postgres_word p) ≡ Some (in_postgres p)) × (type_named DuckDb (duckdb_word p) ≡ Some (in_duckdb p))
+WrittenTypesAreRead = (p : IntType) → (type_named Postgres (postgres_word p) ≡ Some (in_postgres p)) × (type_named DuckDb (duckdb_word p) ≡ Some (in_duckdb p))

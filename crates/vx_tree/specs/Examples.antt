@@ -1,6 +1,6 @@
 -- Small types, values and trees to write examples with.
 use Rattle.std.specs.Prelude.{ℕ, true, false, List, codes, pos}
-use Rattle.vx_dtype.specs.declared.dtype.PType.TheVariants.{I8, I32}
+use Rattle.vx_dtype.specs.declared.ptype.IntType.TheVariants.{I8, I32}
 use Rattle.vx_value.specs.Types.{Name, truth, number, text, LogicalType, ty, atomic, struct, Fields, no_field, field, Datum, int, utf8, struct_of, no_datum, datum}
 use Rattle.vx_fn.specs.Functions.{Operation, get_item, literal, binary}
 use Rattle.vx_tree.specs.Trees.{Tree, root, call, Trees, no_tree, tree}

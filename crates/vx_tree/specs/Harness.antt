@@ -1,6 +1,6 @@
 -- The type that tests of expressions take for their scope.
 use Rattle.std.specs.Prelude.{true, false, codes}
-use Rattle.vx_dtype.specs.declared.dtype.PType.TheVariants.{U16, I32}
+use Rattle.vx_dtype.specs.declared.ptype.IntType.TheVariants.{U16, I32}
 use Rattle.vx_value.specs.Types.{truth, number, LogicalType, ty, atomic, struct, no_field, field}
 
 -- `{a=i32, col1=u16?, col2=u16?, bool1=bool, bool2=bool}`

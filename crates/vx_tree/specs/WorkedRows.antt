@@ -1,6 +1,6 @@
 -- The worked rows of docs/audit/ROWS.md as theorems about the definitions alone; each is proved by computing it.
 use Rattle.std.specs.Prelude.{◌≡◌, ℕ, Bool, true, false, List, [], ◌∷◌, Option, Some, None, Result, Ok, Err, codes, map}
-use Rattle.vx_dtype.specs.declared.dtype.PType.TheVariants.{I8, U64}
+use Rattle.vx_dtype.specs.declared.ptype.IntType.TheVariants.{I8, U64}
 use Rattle.vx_dtype.specs.declared.error.VortexError.{VortexError}
 use Rattle.vx_dtype.specs.declared.error.VortexError.TheVariants.{ArityMismatch, NoSuchField, BaseTypesDiffer, NotBool, NoPairs, AddOverflow, BadFill}
 use Rattle.vx_value.specs.Types.{truth, number, LogicalType, ty, atomic, struct, no_field, field, Datum, null, bool, utf8, struct_of, no_datum}
