@@ -3,8 +3,9 @@ use Rattle.std.specs.Prelude.{map, ◌≡◌, ℕ, suc, ℤ, ◌<◌, length, ge
 use Rattle.std.specs.Option.{option_map}
 use Rattle.std.specs.Coded.{Coded, code_by, coded×, coded_list}
 use Rattle.std.specs.Hash.{HashWrites}
-use Rattle.vx_value.specs.Types.{truth, number, text, octets, LogicalType, ty, atomic, Datum, null, bool, int, utf8, bytes, struct_of}
-use Rattle.vx_dtype.specs.declared.dtype.PType.{PType}
+use Rattle.vx_value.specs.Types.{truth, number, floating, text, octets, LogicalType, ty, atomic, Datum, null, bool, int, float, utf8, bytes, struct_of}
+use Rattle.vx_dtype.specs.declared.ptype.FloatType.{FloatType}
+use Rattle.vx_dtype.specs.declared.ptype.IntType.{IntType}
 use Rattle.vx_dtype.specs.declared.error.VortexError.{VortexError}
 use Rattle.vx_dtype.specs.declared.error.VortexError.TheVariants.{RowMisfit}
 use Rattle.vx_value.specs.Fields.{data_of}
@@ -36,8 +37,12 @@ abbrev pub truth_constant : Bool → Constant
 truth_constant b = constant (ty (atomic truth) false) (bool b)
 
 -- the whole number, of that type without null
-abbrev pub number_constant : PType → ℤ → Constant
+abbrev pub number_constant : IntType → ℤ → Constant
 number_constant p i = constant (ty (atomic (number p)) false) (int i)
+
+-- the float of these bits, of that type without null
+abbrev pub float_constant : FloatType → ℕ → Constant
+float_constant f b = constant (ty (atomic (floating f)) false) (float f b)
 
 -- the text of these bytes, of a type without null
 abbrev pub text_constant : List ℕ → Constant

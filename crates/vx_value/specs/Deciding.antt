@@ -7,14 +7,14 @@ use Rattle.std.specs.Hash.{Alike, str, same_Alike}
 use Rattle.std.specs.Str.{bytes_eq}
 use Rattle.std.proofs.Common.{ap}
 use Rattle.std.proofs.lemmas.Slice.Eq.{bytes_eq-Decides}
-use Rattle.std.proofs.lemmas.Bool.Decides.{Decides-int_eq, Decides-and, Decides-like}
+use Rattle.std.proofs.lemmas.Bool.Decides.{Decides-eqb, Decides-int_eq, Decides-and, Decides-like}
 use Rattle.vx_value.specs.Columns.{Constant, constant, equal_constant, constant_fed, Batch, batch, equal_batch}
 use Rattle.vx_value.specs.Equality.{equal_datum, equal_data}
 use Rattle.vx_value.specs.Fields.{data_of}
 use Rattle.vx_value.specs.Hashes.{datum_fed}
 use Rattle.vx_value.specs.Paths.{equal_path}
-use Rattle.vx_value.specs.Values.{Datum, null, bool, int, utf8, bytes, list_of, struct_of, Data, no_datum, datum}
-pub use Rattle.vx_dtype.specs.Deciding.{apart, itself, equivalence_of, same_ptype-Decides, same_atomic-Decides, equal_type-Decides, equal_shape-Decides, equal_fields-Decides, equal_type_equiv, equal_fields_equiv, type_alike, fields_alike, names_alike}
+use Rattle.vx_value.specs.Values.{Datum, null, bool, int, float, utf8, bytes, list_of, struct_of, Data, no_datum, datum}
+pub use Rattle.vx_dtype.specs.Deciding.{apart, itself, equivalence_of, same_int-Decides, same_float-Decides, same_atomic-Decides, equal_type-Decides, equal_shape-Decides, equal_fields-Decides, equal_type_equiv, equal_fields_equiv, type_alike, fields_alike, names_alike}
 
 -- the test says whether two values are the same
 mutual
@@ -22,6 +22,7 @@ mutual
   equal_datum-Decides null null = itself
   equal_datum-Decides (bool a) (bool b) = Decides-like _ (λ e. ap bool e) (λ e. cc) (booleans_Decides a b)
   equal_datum-Decides (int i) (int j) = Decides-like _ (λ e. ap int e) (λ e. cc) (Decides-int_eq i j)
+  equal_datum-Decides (float f b) (float g c) = Decides-like _ (λ e. cc) (λ e. (cc, cc)) (Decides-and _ _ (same_float-Decides f g) (Decides-eqb b c))
   equal_datum-Decides (utf8 a) (utf8 b) = Decides-like _ (λ e. ap utf8 e) (λ e. cc) (bytes_eq-Decides a b)
   equal_datum-Decides (bytes a) (bytes b) = Decides-like _ (λ e. ap bytes e) (λ e. cc) (bytes_eq-Decides a b)
   equal_datum-Decides (list_of vs) (list_of ws) = Decides-like _ (λ e. ap list_of e) (λ e. cc) (equal_data-Decides vs ws)

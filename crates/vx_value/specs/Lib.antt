@@ -11,6 +11,7 @@ pub mod Columns
 pub mod StructColumns
 pub mod Items
 pub mod Paths
+pub mod LeafTexts
 pub mod ValueTexts
 pub mod Notations
 pub use Rattle.vx_dtype.specs.Returns

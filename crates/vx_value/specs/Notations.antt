@@ -2,17 +2,23 @@
 use Rattle.std.specs.Prelude.{ℕ, ℤ, true, false, List, [], ◌∷◌, ◌++◌, codes}
 use Rattle.std.specs.Fmt.{signed_decimal}
 use Rattle.std.specs.List.{flat_map}
-use Rattle.vx_value.specs.Types.{Name, number, LogicalType, ty, atomic, list, fixed, struct, Fields, field, Datum, null, bool, int, utf8, bytes, list_of, struct_of, Data, no_datum, datum}
-use Rattle.vx_value.specs.Texts.{with_commas, ptype_text}
-use Rattle.vx_value.specs.ValueTexts.{hex_byte}
+use Rattle.vx_dtype.specs.declared.ptype.FloatType.{FloatType}
+use Rattle.vx_value.specs.LeafTexts.{decimal_text, date_text, instant_text}
+use Rattle.vx_value.specs.Types.{Name, number, decimals, date, timestamp, LogicalType, ty, atomic, list, fixed, struct, Fields, field, Datum, null, bool, int, float, utf8, bytes, list_of, struct_of, Data, no_datum, datum}
+use Rattle.vx_value.specs.Texts.{with_commas, int_text}
+use Rattle.vx_value.specs.ValueTexts.{hex_byte, shown_float}
 
--- the words of a notation, beside those of names: of a number of a type, and of a text
+-- the words of a notation, beside those of names: of a whole number of a type, of a float, and of a text
 pub record ValueWords : Type 0 where
   pub numbered : ℤ → LogicalType → List ℕ
+  pub floated : FloatType → ℕ → List ℕ
   pub quoted : List ℕ → List ℕ
 
 abbrev pub number_in : ValueWords → ℤ → LogicalType → List ℕ
 number_in w = w.numbered
+
+abbrev pub float_in : ValueWords → FloatType → ℕ → List ℕ
+float_in w = w.floated
 
 abbrev pub quoted_in : ValueWords → List ℕ → List ℕ
 quoted_in w = w.quoted
@@ -24,6 +30,7 @@ abbrev mutual
   value_in named w (bool true) t = codes "true"
   value_in named w (bool false) t = codes "false"
   value_in named w (int i) t = number_in w i t
+  value_in named w (float f b) t = float_in w f b
   value_in named w (utf8 s) t = quoted_in w s
   value_in named w (bytes bs) t = codes "0x" ++ flat_map hex_byte bs
   value_in named w (list_of vs) (ty (list t) n) = codes "[" ++ (with_commas (items_in named w vs t) ++ codes "]")
@@ -47,8 +54,11 @@ list_in named w vs t = codes "[" ++ (with_commas (items_in named w vs t) ++ code
 
 -- those of values as they are shown: a number has its type behind it
 abbrev pub shown_number : ℤ → LogicalType → List ℕ
-shown_number i (ty (atomic (number p)) n) = signed_decimal i ++ ptype_text p
+shown_number i (ty (atomic (number p)) n) = signed_decimal i ++ int_text p
+shown_number i (ty (atomic (decimals p s)) n) = decimal_text i s
+shown_number i (ty (atomic date) n) = date_text i
+shown_number i (ty (atomic (timestamp u z)) n) = instant_text u z i
 shown_number _ _ = []
 
 abbrev pub shown_words : ValueWords
-shown_words = record { numbered = shown_number; quoted = λ s. codes "\"" ++ (s ++ codes "\"") }
+shown_words = record { numbered = shown_number; floated = shown_float; quoted = λ s. codes "\"" ++ (s ++ codes "\"") }

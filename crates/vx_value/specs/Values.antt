@@ -1,12 +1,15 @@
 -- Values, seen without pointers: the field's own data, in place of the program's.
 use Rattle.std.specs.Prelude.{ℕ, Bool, true, false, List, ℤ}
+use Rattle.vx_dtype.specs.declared.ptype.FloatType.{FloatType}
 
--- a value: null, a truth value, a whole number, a text by its bytes, bytes, a list of values, or a struct of values
+-- a value: null, a truth value, a whole number, a float of a format by its bits, a text by its bytes, bytes, a list of values,
+-- or a struct of values
 mutual
   pub data Datum : Type 0 where
     null : Datum
     bool : Bool → Datum
     int : ℤ → Datum
+    float : FloatType → ℕ → Datum
     utf8 : List ℕ → Datum
     bytes : List ℕ → Datum
     list_of : Data → Datum

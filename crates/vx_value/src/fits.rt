@@ -1,24 +1,84 @@
 // Which values are of a type.
-ghost use Rattle.std.specs.Prelude.{◌≡◌, ℕ, ◌==◌};
-ghost use Rattle.vx_value.specs.Fits.{fits, each_fits, fields_fit, fits_ptype, count};
+ghost use Rattle.std.specs.Prelude.{◌≡◌, ℕ, ◌==◌, IsTrue};
+ghost use Rattle.vx_value.specs.Fits.{canonical_bits, fits, each_fits, fields_fit, fits_digits, fits_float, fits_int, count};
+ghost use Rattle.vx_value.specs.Types.{int, float as float_of};
 ghost use Rattle.vx_value.specs.Views.{type_of, fields_of, value_of, data_view};
 
 use crate::Value;
-use vx_dtype::{DType, PType, StructFields};
+use crate::decimals::power_of_ten;
+use crate::float_texts::{infinity_bits, nan_bits, sign_bit};
+use vx_dtype::{DType, DecimalType, FloatType, IntType, NumberKind, StructFields};
 
 // Whether the number lies in the range of the type.
-fn in_range(i: i128, p: PType) -> bool
-    ensures { result ≡ fits_ptype i p }
+fn in_range(i: i128, p: IntType) -> bool
+    ensures { result ≡ fits_int i p }
 {
     match p {
-        PType::U8 => 0 <= i && i < 256,
-        PType::U16 => 0 <= i && i < 65_536,
-        PType::U32 => 0 <= i && i < 4_294_967_296,
-        PType::U64 => 0 <= i && i < 18_446_744_073_709_551_616,
-        PType::I8 => -128 <= i && i < 128,
-        PType::I16 => -32_768 <= i && i < 32_768,
-        PType::I32 => -2_147_483_648 <= i && i < 2_147_483_648,
-        PType::I64 => -9_223_372_036_854_775_808 <= i && i < 9_223_372_036_854_775_808,
+        IntType::U8 => 0 <= i && i < 256,
+        IntType::U16 => 0 <= i && i < 65_536,
+        IntType::U32 => 0 <= i && i < 4_294_967_296,
+        IntType::U64 => 0 <= i && i < 18_446_744_073_709_551_616,
+        IntType::I8 => -128 <= i && i < 128,
+        IntType::I16 => -32_768 <= i && i < 32_768,
+        IntType::I32 => -2_147_483_648 <= i && i < 2_147_483_648,
+        IntType::I64 => -9_223_372_036_854_775_808 <= i && i < 9_223_372_036_854_775_808,
+    }
+}
+
+// Whether the whole number is a value of the type.
+fn int_fits(i: i128, t: &DType) -> bool
+    ensures { result ≡ fits (int i) (type_of t.now) }
+{
+    match t {
+        DType::Primitive(p, _) => match p.kind() {
+            NumberKind::Int(int) => in_range(i, int),
+            NumberKind::Float(_) => false,
+        },
+        DType::Decimal(decimal, _) => has_digits(i, *decimal),
+        DType::Date(_) => in_range(i, IntType::I32),
+        DType::Timestamp(_, _) => in_range(i, IntType::I64),
+        _ => false,
+    }
+}
+
+// Whether so many units are a decimal of the type.
+fn has_digits(i: i128, decimal: DecimalType) -> bool
+    ensures { result ≡ fits_digits i decimal.precision }
+{
+    i.unsigned_abs() < power_of_ten(decimal.precision())
+}
+
+// Whether the float of that format is a value of the type.
+fn float_fits(float: FloatType, bits: u64, t: &DType) -> bool
+    ensures { result ≡ fits (float_of float bits) (type_of t.now) }
+{
+    match t {
+        DType::Primitive(p, _) => match p.kind() {
+            NumberKind::Int(_) => false,
+            NumberKind::Float(other) => float.is_same(other) && is_float(bits, float),
+        },
+        _ => false,
+    }
+}
+
+/// Whether the bits are those of a float: of a number, an infinity, or the one NaN.
+pub fn is_float(bits: u64, float: FloatType) -> bool
+    ensures { result ≡ fits_float bits float }
+{
+    let sign = sign_bit(float);
+    let infinity = infinity_bits(float);
+    bits <= infinity || bits == nan_bits(float) || (sign <= bits && bits <= sign + infinity)
+}
+
+/// The bits of a float as they are, and those of the one NaN for every other.
+pub fn canonical_bits(float: FloatType, bits: u64) -> u64
+    ensures bits { result ≡ canonical_bits float bits }
+    ensures fits { IsTrue (fits_float result float) }
+{
+    if is_float(bits, float) {
+        bits
+    } else {
+        nan_bits(float)
     }
 }
 
@@ -42,10 +102,8 @@ fn value_fits(value: &Value, t: &DType) -> bool
             DType::Bool(_) => true,
             _ => false,
         },
-        Value::Int(i) => match t {
-            DType::Primitive(p, _) => in_range(*i, *p),
-            _ => false,
-        },
+        Value::Int(i) => int_fits(*i, t),
+        Value::Float(float, bits) => float_fits(*float, *bits, t),
         Value::Utf8(_) => match t {
             DType::Utf8(_) => true,
             _ => false,

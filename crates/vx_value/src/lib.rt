@@ -1,11 +1,14 @@
 // Values, scalars, columns and field paths, over the types of the crate below.
 #![tactic(auto)]
 
+mod calendar;
 mod column;
 mod column_rows;
+mod decimals;
 mod field_path;
 mod field_path_set;
 mod fits;
+mod float_texts;
 pub mod laws;
 mod notation;
 mod scalar;
@@ -14,9 +17,13 @@ mod taking;
 mod value;
 mod value_texts;
 
+pub use calendar::{units_a_second, write_date, write_instant};
 pub use column::Column;
+pub use decimals::{power_of_ten, write_decimal};
 pub use field_path::{Field, FieldPath};
 pub use field_path_set::{FieldPathSet, FieldPaths};
+pub use fits::{canonical_bits, is_float};
+pub use float_texts::{infinity_bits, nan_bits, sign_bit, write_float_text};
 pub use notation::{ValueNotation, write_value_in};
 pub use scalar::Scalar;
 pub use taking::{TakeRow, take_row};

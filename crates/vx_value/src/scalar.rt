@@ -2,19 +2,21 @@
 ghost use Rattle.std.specs.Prelude.{◌≡◌, Ok, IfOk, map, IsTrue, pos};
 ghost use Rattle.std.specs.Cmp.{partial_equiv_from_equiv};
 ghost use Rattle.vx_value.specs.Returns.{ReturnsOrOom, Returns};
-ghost use Rattle.vx_value.specs.Columns.{Constant, struct_value, constant, constant_or_misfit, truth_constant, number_constant, text_constant, octets_constant};
+ghost use Rattle.vx_value.specs.Columns.{Constant, struct_value, constant, constant_or_misfit, truth_constant, number_constant, float_constant, text_constant, octets_constant};
 ghost use Rattle.vx_value.specs.Columns.{equal_constant, constant_fed};
 ghost use Rattle.vx_value.specs.Deciding.{equal_constant_equiv, constant_alike};
 ghost use Rattle.vx_value.specs.Types.{is_nullable, null, is_null_datum};
-ghost use Rattle.vx_value.specs.Fits.{fits_ptype, Fits};
+ghost use Rattle.vx_value.specs.Fits.{canonical_bits, fits_int, Fits};
 ghost use Rattle.vx_value.specs.Views.{type_of, value_of};
-ghost use Rattle.vx_dtype.specs.declared.dtype.PType.TheVariants.{U8, U16, U32, U64, I8, I16, I32, I64};
+ghost use Rattle.vx_dtype.specs.declared.ptype.FloatType.TheVariants.{F32, F64};
+ghost use Rattle.vx_dtype.specs.declared.ptype.IntType.TheVariants.{U8, U16, U32, U64, I8, I16, I32, I64};
 
 use crate::Value;
+use crate::fits::canonical_bits;
 use std::alloc::{AllocError, Global};
 use std::hash::{Hash, Hasher};
 use std::marker::Model;
-use vx_dtype::{DType, Nullability, PType, VortexError, VortexResult};
+use vx_dtype::{DType, FloatType, IntType, Nullability, PType, VortexError, VortexResult};
 
 /// A value beside its type, of which it is one; clones share what the type points to.
 #[derive(Debug)]
@@ -82,56 +84,70 @@ impl Scalar {
     pub fn from_u8(n: u8) -> Scalar
         ensures { result ≡ number_constant U8 (pos n) }
     {
-        number(PType::U8, i128::from(n))
+        number(IntType::U8, i128::from(n))
     }
 
     /// The number, of the type `U16` without null.
     pub fn from_u16(n: u16) -> Scalar
         ensures { result ≡ number_constant U16 (pos n) }
     {
-        number(PType::U16, i128::from(n))
+        number(IntType::U16, i128::from(n))
     }
 
     /// The number, of the type `U32` without null.
     pub fn from_u32(n: u32) -> Scalar
         ensures { result ≡ number_constant U32 (pos n) }
     {
-        number(PType::U32, i128::from(n))
+        number(IntType::U32, i128::from(n))
     }
 
     /// The number, of the type `U64` without null.
     pub fn from_u64(n: u64) -> Scalar
         ensures { result ≡ number_constant U64 (pos n) }
     {
-        number(PType::U64, i128::from(n))
+        number(IntType::U64, i128::from(n))
     }
 
     /// The number, of the type `I8` without null.
     pub fn from_i8(n: i8) -> Scalar
         ensures { result ≡ number_constant I8 n }
     {
-        number(PType::I8, i128::from(n))
+        number(IntType::I8, i128::from(n))
     }
 
     /// The number, of the type `I16` without null.
     pub fn from_i16(n: i16) -> Scalar
         ensures { result ≡ number_constant I16 n }
     {
-        number(PType::I16, i128::from(n))
+        number(IntType::I16, i128::from(n))
     }
 
     /// The number, of the type `I32` without null.
     pub fn from_i32(n: i32) -> Scalar
         ensures { result ≡ number_constant I32 n }
     {
-        number(PType::I32, i128::from(n))
+        number(IntType::I32, i128::from(n))
     }
 
     /// The number, of the type `I64` without null.
     pub fn from_i64(n: i64) -> Scalar
         ensures { result ≡ number_constant I64 n }
     {
-        number(PType::I64, i128::from(n))
+        number(IntType::I64, i128::from(n))
+    }
+
+    /// The float of these bits, of the type `F32` without null, or NaN where they are those of one.
+    pub fn from_f32_bits(bits: u32) -> Scalar
+        ensures { result ≡ float_constant F32 (canonical_bits F32 bits) }
+    {
+        float(FloatType::F32, u64::from(bits))
+    }
+
+    /// The float of these bits, of the type `F64` without null, or NaN where they are those of one.
+    pub fn from_f64_bits(bits: u64) -> Scalar
+        ensures { result ≡ float_constant F64 (canonical_bits F64 bits) }
+    {
+        float(FloatType::F64, bits)
     }
 
     /// The text, of a type without null. Refuses with `OutOfMemory` (1) alone.
@@ -200,13 +216,23 @@ impl Scalar {
 }
 
 // The number of that type, without null.
-fn number(p: PType, n: i128) -> Scalar
-    requires { IsTrue (fits_ptype n p) }
+fn number(p: IntType, n: i128) -> Scalar
+    requires { IsTrue (fits_int n p) }
     ensures { result ≡ number_constant p n }
 {
     Scalar {
-        dtype: DType::Primitive(p, Nullability::NonNullable),
+        dtype: DType::Primitive(PType::from(p), Nullability::NonNullable),
         value: Value::Int(n),
+    }
+}
+
+// The float of these bits, or NaN, of that type without null.
+fn float(float: FloatType, bits: u64) -> Scalar
+    ensures { result ≡ float_constant float (canonical_bits float bits) }
+{
+    Scalar {
+        dtype: DType::Primitive(PType::from(float), Nullability::NonNullable),
+        value: Value::Float(float, canonical_bits(float, bits)),
     }
 }
 

@@ -9,6 +9,7 @@ ghost use Rattle.vx_value.specs.Views.{value_of, data_view};
 
 use std::alloc::AllocError;
 use std::hash::{Hash, Hasher};
+use vx_dtype::FloatType;
 
 /// A value of some type.
 #[derive(Debug)]
@@ -17,8 +18,10 @@ pub enum Value {
     Null,
     /// A truth value.
     Bool(bool),
-    /// A whole number.
+    /// A whole number: of a whole number's type, units of a decimal, a day, or an instant.
     Int(i128),
+    /// A floating-point number of that format, by its bits; each NaN is the quiet one without a sign.
+    Float(FloatType, u64),
     /// A text.
     Utf8(String),
     /// Bytes.
@@ -32,7 +35,7 @@ pub enum Value {
 impl Drop for Value {
     fn drop(self) {
         match self {
-            Value::Null | Value::Bool(_) | Value::Int(_) => {}
+            Value::Null | Value::Bool(_) | Value::Int(_) | Value::Float(_, _) => {}
             Value::Utf8(text) => drop(text),
             Value::Binary(bytes) => drop(bytes),
             Value::List(items) | Value::Struct(items) => drop(items),
@@ -66,6 +69,7 @@ fn copy(value: &Value) -> Result<Value, AllocError>
         Value::Null => Ok(Value::Null),
         Value::Bool(b) => Ok(Value::Bool(*b)),
         Value::Int(z) => Ok(Value::Int(*z)),
+        Value::Float(float, bits) => Ok(Value::Float(*float, *bits)),
         Value::Utf8(text) => Ok(Value::Utf8(text.clone()?)),
         Value::Binary(bytes) => Ok(Value::Binary(copy_bytes(bytes)?)),
         Value::List(items) => Ok(Value::List(copy_all(items)?)),
@@ -134,6 +138,10 @@ fn equal(a: &Value, b: &Value) -> bool
             Value::Int(y) => x == y,
             _ => false,
         },
+        Value::Float(float, x) => match b {
+            Value::Float(other, y) => float.is_same(*other) && x == y,
+            _ => false,
+        },
         Value::Utf8(x) => match b {
             Value::Utf8(y) => x == y,
             _ => false,
@@ -183,6 +191,11 @@ fn feed<H: Hasher>(value: &Value, state: &mut H)
         Value::Int(z) => {
             state.write_u8(2);
             z.hash(state);
+        }
+        Value::Float(float, bits) => {
+            state.write_u8(7);
+            state.write_u8(float.index());
+            state.write_u64(*bits);
         }
         Value::Utf8(text) => {
             state.write_u8(3);

@@ -1,15 +1,18 @@
 // The text of a value of a type.
 ghost use Rattle.std.specs.Prelude.{Some};
 ghost use Rattle.std.specs.Fmt.{WritesOnOk};
-ghost use Rattle.vx_value.specs.Notations.{number_in, quoted_in, shown_words};
+ghost use Rattle.vx_value.specs.Notations.{float_in, number_in, quoted_in, shown_words};
 ghost use Rattle.vx_value.specs.ValueTexts.{value_text, list_text};
 ghost use Rattle.vx_value.specs.Views.{type_of, value_of, data_view};
 
+use crate::calendar::{write_date, write_instant};
+use crate::decimals::write_decimal;
+use crate::float_texts::write_shown_float;
 use crate::notation::{ValueNotation, write_list_in, write_value_in};
 use crate::{Scalar, Value};
 use std::fmt;
 use std::fmt::{Display, Formatter, Write};
-use vx_dtype::{DType, Shown};
+use vx_dtype::{DType, FloatType, NumberKind, Shown};
 
 impl Display for Scalar {
     ghost output = { λ s. Some (value_text s.value s.type) };
@@ -33,18 +36,34 @@ pub(crate) fn write_list<W: Write>(values: &[Value], t: &DType, f: &mut Formatte
     write_list_in(&Shown, values, t, f)
 }
 
-// A number with its type behind it, and a text between quotes as it stands.
+// A whole number of a whole number's type with the type behind it, a float of binary32 likewise, and a text between quotes as it
+// stands.
 impl ValueNotation for Shown {
     ghost words = { shown_words };
 
     fn write_number<W: Write>(&self, number: i128, t: &DType, f: &mut Formatter<W>) -> fmt::Result {
         match t {
-            DType::Primitive(p, _) => {
-                number.fmt(f)?;
-                p.fmt(f)
-            }
+            DType::Primitive(p, _) => match p.kind() {
+                NumberKind::Int(int) => {
+                    number.fmt(f)?;
+                    int.fmt(f)
+                }
+                NumberKind::Float(_) => Ok(()),
+            },
+            DType::Decimal(decimal, _) => write_decimal(number, decimal.scale(), f),
+            DType::Date(_) => write_date(number, f),
+            DType::Timestamp(timestamp, _) => write_instant(number, timestamp, f),
             _ => Ok(()),
         }
+    }
+
+    fn write_float<W: Write>(
+        &self,
+        float: FloatType,
+        bits: u64,
+        f: &mut Formatter<W>,
+    ) -> fmt::Result {
+        write_shown_float(float, bits, f)
     }
 
     fn write_text<W: Write>(&self, text: &str, f: &mut Formatter<W>) -> fmt::Result {
