@@ -4,6 +4,7 @@ ghost use Rattle.std.specs.Fmt.{WritesOnOk};
 ghost use Rattle.std.specs.List.{flat_map};
 ghost use Rattle.vx_value.specs.Notations.{float_in, number_in, quoted_in, value_in, list_in, items_in, row_in};
 ghost use Rattle.vx_value.specs.Texts.{with_commas};
+ghost use Rattle.vx_value.specs.Types.{list_of, struct_of};
 ghost use Rattle.vx_value.specs.ValueTexts.{hex_byte};
 ghost use Rattle.vx_value.specs.Views.{type_of, fields_of, value_of, data_view};
 
@@ -57,20 +58,46 @@ pub fn write_value_in<N: ValueNotation, W: Write>(
             f.write_str("0x")?;
             write_bytes(bytes.as_slice(), f)
         }
-        Value::List(items) => match t {
-            DType::List(element, _) | DType::FixedSizeList(element, _, _) => {
-                write_list_in(notation, items.as_slice(), element.as_ref(), f)
-            }
-            _ => Ok(()),
-        },
-        Value::Struct(items) => match t {
-            DType::Struct(fields, _) => {
-                f.write_str("{")?;
-                write_row(notation, items.as_slice(), fields, f)?;
-                f.write_str("}")
-            }
-            _ => Ok(()),
-        },
+        Value::List(items) => write_list_of(notation, items.as_slice(), t, f),
+        Value::Struct(items) => write_struct_of(notation, items.as_slice(), t, f),
+    }
+}
+
+// Writes the list of the values, which is read by its type.
+#[cycle(write)]
+fn write_list_of<N: ValueNotation, W: Write>(
+    notation: &N,
+    values: &[Value],
+    t: &DType,
+    f: &mut Formatter<W>,
+) -> fmt::Result
+    ensures { WritesOnOk W.write_str_gives f.old result (value_in N.named N.words (list_of (data_view values.now)) (type_of t.now)) f.new }
+{
+    match t {
+        DType::List(element, _) | DType::FixedSizeList(element, _, _) => {
+            write_list_in(notation, values, element.as_ref(), f)
+        }
+        _ => Ok(()),
+    }
+}
+
+// Writes the struct of the values, which is read by its type.
+#[cycle(write)]
+fn write_struct_of<N: ValueNotation, W: Write>(
+    notation: &N,
+    values: &[Value],
+    t: &DType,
+    f: &mut Formatter<W>,
+) -> fmt::Result
+    ensures { WritesOnOk W.write_str_gives f.old result (value_in N.named N.words (struct_of (data_view values.now)) (type_of t.now)) f.new }
+{
+    match t {
+        DType::Struct(fields, _) => {
+            f.write_str("{")?;
+            write_row(notation, values, fields, f)?;
+            f.write_str("}")
+        }
+        _ => Ok(()),
     }
 }
 
