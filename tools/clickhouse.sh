@@ -1,5 +1,5 @@
-# Starts and stops ClickHouse for other scripts, which read this file, have a folder `$room` of their own and a
-# function `add_package`. Each server has a folder in it and a port on loopback, and keeps nothing elsewhere.
+# Starts and stops ClickHouse for `servers.sh`. Each server has a folder in `$room` and a port on loopback, and keeps
+# nothing elsewhere.
 
 clickhouse_servers=
 

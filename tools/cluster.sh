@@ -12,29 +12,9 @@ cd "$(dirname "$0")/.."
 seed=${1:-1}
 count=${2:-300}
 program=$PWD/crates/vx_sql_rows/out/vx_sql_rows
-room=$(mktemp -d)
-chmod a+x "$room"
-postgres_servers=
-as_postgres=
 expressions=0
 failed=0
-. tools/clickhouse.sh
-
-stop() {
-    stop_clickhouse
-    for name in $postgres_servers; do
-        $as_postgres "$postgres/pg_ctl" -D "$room/$name" -m immediate stop >"$room/stopped" 2>&1 || cat "$room/stopped"
-    done
-    rm -r "$room"
-}
-trap stop EXIT
-trap 'exit 1' INT TERM
-
-# Installs packages, if that is allowed here.
-add_package() {
-    [ "$(id -u)" -eq 0 ] && command -v apt-get >/dev/null || return 1
-    DEBIAN_FRONTEND=noninteractive timeout 300 apt-get install -y -q "$@" >"$room/installed" 2>&1 </dev/null
-}
+. tools/servers.sh
 
 # Writes the plans for an engine: the table's statements, without and with its rows, and the rest.
 write_plans() {
@@ -105,41 +85,17 @@ run_clickhouse() {
     stop_clickhouse
 }
 
-# Starts a PostgreSQL server of that name on a socket in its folder.
-start_postgres() {
-    cp -r "$room/made" "$room/$1"
-    if [ -n "$as_postgres" ]; then
-        chown -R "$user" "$room/$1"
-    fi
-    chmod 700 "$room/$1"
-    $as_postgres "$postgres/pg_ctl" -D "$room/$1" -o "-k $room/$1 -c listen_addresses= -c fsync=off" -l "$room/$1/log" -w start >"$room/started" || return 1
-    postgres_servers="$postgres_servers $1"
-}
-
-ask_postgres() {
-    asked=$1
-    shift
-    PGOPTIONS='-c client_min_messages=warning' "$postgres/psql" -X -q -A -t -h "$room/$asked" -U postgres -d postgres -v VERBOSITY=terse "$@"
-}
-
 run_postgres() {
-    [ -n "$(ls -d /usr/lib/postgresql/*/bin 2>/dev/null)" ] || add_package postgresql || {
+    has_postgres || {
         echo "cluster: postgres: isn't installed here, and couldn't be: nothing was run"
         return 0
     }
-    postgres=$(ls -d /usr/lib/postgresql/*/bin | sort -V | tail -n 1)
-    # The server refuses to run as root.
-    if [ "$(id -u)" -eq 0 ]; then
-        user=$(id -un postgres 2>/dev/null || echo nobody)
-        as_postgres="setpriv --reuid=$user --regid=$(id -g "$user") --clear-groups"
-        mkdir "$room/made"
-        chown "$user" "$room/made"
-    fi
-    $as_postgres "$postgres/initdb" -D "$room/made" -U postgres -A trust -E UTF8 --locale=C.UTF-8 >"$room/init" 2>&1 || cat "$room/init"
-    start_postgres one && start_postgres two && start_postgres third || {
-        echo "cluster: postgres: is installed here, and doesn't start: nothing was run"
-        return 0
-    }
+    for name in one two third; do
+        make_database "$name" && start_postgres "$name" || {
+            echo "cluster: postgres: is installed here, and doesn't start: nothing was run"
+            return 0
+        }
+    done
     write_plans postgres
     for name in one two; do
         ask_postgres "$name" -f "$room/columns"

@@ -12,32 +12,7 @@ cd "$(dirname "$0")/.."
 seed=${1:-1}
 count=${2:-5000}
 program=$PWD/crates/vx_sql_rows/out/vx_sql_rows
-room=$(mktemp -d)
-server=
-as_postgres=
-. tools/clickhouse.sh
-
-stop() {
-    stop_clickhouse
-    if [ -n "$server" ]; then
-        $as_postgres "$server/pg_ctl" -D "$room/data" -m immediate stop >"$room/stopped" 2>&1 || cat "$room/stopped"
-        server=
-    fi
-    rm -r "$room"
-}
-trap stop EXIT
-trap 'exit 1' INT TERM
-
-# Installs packages, if that is allowed here.
-add_package() {
-    [ "$(id -u)" -eq 0 ] && command -v apt-get >/dev/null || return 1
-    DEBIAN_FRONTEND=noninteractive timeout 300 apt-get install -y -q "$@" >"$room/installed" 2>&1 </dev/null
-}
-
-# The folder of PostgreSQL's programs, the newest one's.
-postgres_folder() {
-    ls -d /usr/lib/postgresql/*/bin 2>/dev/null | sort -V | tail -n 1
-}
+. tools/servers.sh
 
 # Compares what an engine printed, and how many statements failed and why, with what it should.
 compare() {
@@ -71,35 +46,19 @@ run_sqlite() {
     compare sqlite '^Runtime error near line [0-9]*: malformed JSON$'
 }
 
-# Makes a database in UTF-8, with those options.
-make_database() {
-    rm -rf "$room/data"
-    $as_postgres "$folder/initdb" -D "$room/data" -U postgres -A trust -E UTF8 --locale=C.UTF-8 "$@" >"$room/made" 2>&1
-}
-
 run_postgres() {
-    [ -n "$(postgres_folder)" ] || add_package postgresql || {
+    has_postgres || {
         echo "engines: postgres: isn't installed here, and couldn't be: nothing was compared"
         return 0
     }
-    folder=$(postgres_folder)
-    # The server refuses to run as root.
-    if [ "$(id -u)" -eq 0 ]; then
-        user=$(id -un postgres 2>/dev/null || echo nobody)
-        chown "$user" "$room"
-        as_postgres="setpriv --reuid=$user --regid=$(id -g "$user") --clear-groups"
-    fi
     # A database that compares texts by the rules of a language shows where a comparison isn't told to go by bytes.
-    make_database --locale-provider=icu --icu-locale=en-US || make_database || cat "$room/made"
-    $as_postgres "$folder/pg_ctl" -D "$room/data" -o "-k $room -c listen_addresses= -c fsync=off" -l "$room/log" -w start >"$room/started" || {
+    make_database data --locale-provider=icu --icu-locale=en-US || make_database data || cat "$room/made"
+    start_postgres data || {
         echo "engines: postgres: is installed here, and doesn't start: nothing was compared"
-        tail -n 20 "$room/started" "$room/log" || true
         return 0
     }
-    server=$folder
     "$program" script postgres "$seed" "$count" >"$room/script"
-    PGOPTIONS='-c client_min_messages=warning' "$folder/psql" -X -q -A -t -h "$room" -U postgres -d postgres -v VERBOSITY=terse \
-        -f "$room/script" >"$room/said" 2>"$room/errors" || true
+    ask_postgres data -f "$room/script" >"$room/said" 2>"$room/errors" || true
     compare postgres 'ERROR:  [a-z]* out of range$'
 }
 

@@ -1,0 +1,21 @@
+# What scripts need that ask engines, and that read this file at the top of the repository: a folder `$room`, packages,
+# and servers of ClickHouse and PostgreSQL. At the end the servers are stopped, and the folder is removed.
+
+room=$(mktemp -d)
+chmod a+x "$room"
+. tools/clickhouse.sh
+. tools/postgres.sh
+
+stop() {
+    stop_clickhouse
+    stop_postgres
+    rm -r "$room"
+}
+trap stop EXIT
+trap 'exit 1' INT TERM
+
+# Installs packages, if that is allowed here.
+add_package() {
+    [ "$(id -u)" -eq 0 ] && command -v apt-get >/dev/null || return 1
+    DEBIAN_FRONTEND=noninteractive timeout 300 apt-get install -y -q "$@" >"$room/installed" 2>&1 </dev/null
+}
