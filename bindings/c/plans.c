@@ -301,12 +301,15 @@ static void test_unplanned(void)
     EXPECT(vx_plan_new(NULL, 0, NULL, 0, &plan, NULL, 0, &answer) == VX_TOO_SMALL && plan.at == NULL);
 }
 
-static void expect_paths(const char *expression, const char *schema, const char *page)
+typedef vx_status page_call(vx_plan *plan, char *buffer, size_t buffer_length, vx_answer *answer);
+
+/* The call says that page of a plan. */
+static void expect_page(page_call *call, const char *expression, const char *schema, const char *page)
 {
     vx_plan plan = plan_of(expression, schema);
     Answered a = with_room(8);
     do
-        a.status = vx_plan_paths(&plan, a.text, a.room, &a.answer);
+        a.status = call(&plan, a.text, a.room, &a.answer);
     while (is_grown(&a));
     expect(a.status == VX_ANSWERED && says(&a, page), page, __FILE__, __LINE__);
     free(a.text);
@@ -315,31 +318,19 @@ static void expect_paths(const char *expression, const char *schema, const char 
 
 static void test_paths(void)
 {
-    expect_paths("x", X, "[[\"x\"]]\n");
-    expect_paths("a.x >= 1 and b < 5", "{a={x=i32, y=i32}?, b=i32, c=utf8}", "[[\"a\",\"x\"],[\"b\"]]\n");
-    expect_paths("1", X, "[]\n");
-    expect_paths("is_null($)", "utf8?", "[[]]\n");
-    expect_paths("`a\"\303\244`", "{`a\"\303\244`=i8}", "[[\"a\\\"\303\244\"]]\n");
-}
-
-static void expect_scope(const char *schema, const char *page)
-{
-    vx_plan plan = plan_of("1 < 2", schema);
-    Answered a = with_room(8);
-    do
-        a.status = vx_plan_scope(&plan, a.text, a.room, &a.answer);
-    while (is_grown(&a));
-    expect(a.status == VX_ANSWERED && says(&a, page), page, __FILE__, __LINE__);
-    free(a.text);
-    vx_plan_free(&plan);
+    expect_page(vx_plan_paths, "x", X, "[[\"x\"]]\n");
+    expect_page(vx_plan_paths, "a.x >= 1 and b < 5", "{a={x=i32, y=i32}?, b=i32, c=utf8}", "[[\"a\",\"x\"],[\"b\"]]\n");
+    expect_page(vx_plan_paths, "1", X, "[]\n");
+    expect_page(vx_plan_paths, "is_null($)", "utf8?", "[[]]\n");
+    expect_page(vx_plan_paths, "`a\"\303\244`", "{`a\"\303\244`=i8}", "[[\"a\\\"\303\244\"]]\n");
 }
 
 static void test_scopes(void)
 {
-    expect_scope(X, X "\n");
-    expect_scope(" i8 ? ", "i8?\n");
-    expect_scope("{a={`b c`=list(u8?)}?,b=fixed_size_list(utf8)[3]}", "{a={`b c`=list(u8?)}?, b=fixed_size_list(utf8)[3]}\n");
-    expect_scope("{}", "{}\n");
+    expect_page(vx_plan_scope, "1 < 2", X, X "\n");
+    expect_page(vx_plan_scope, "1 < 2", " i8 ? ", "i8?\n");
+    expect_page(vx_plan_scope, "1 < 2", "{a={`b c`=list(u8?)}?,b=fixed_size_list(utf8)[3]}", "{a={`b c`=list(u8?)}?, b=fixed_size_list(utf8)[3]}\n");
+    expect_page(vx_plan_scope, "1 < 2", "{}", "{}\n");
 }
 
 /* A plan has as many handles as it is shared to, and is freed with the last. */
