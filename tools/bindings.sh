@@ -85,7 +85,7 @@ library() {
         ar x "$(dirname "$(rt doc)")/c/liblibc_c.a" && joined ../vx.o ./*.o && joined ../vx_arrow.o arrow/*.o &&
         cd .. && ar rcs libvx.a vx.o vx_arrow.o &&
         gcc -shared -Wl,-soname,libvx.so.0 -Wl,--version-script=../c/exports.map -o libvx.so vx.o vx_arrow.o &&
-        ln -sf libvx.so libvx.so.0)
+        cp libvx.so libvx.so.0)
 }
 
 # The shared library's own name, by which a program that is linked to it finds it.
