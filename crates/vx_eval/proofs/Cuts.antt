@@ -1,10 +1,10 @@
--- Batches that are cut in two, under trees in which no node looks across rows.
-use Rattle.std.proofs.Common.{◌≡◌, ◌∙◌, ◌≤◌, ◌<◌, ℕ, zero, suc, ◌+◌, List, [], ◌∷◌, ◌++◌, append_assoc, map, length, refl, sym, ap, arith, Option, Some, None, Ok, Bool, true, false, take, drop}
+-- Batches that are cut in two, under trees in which no node looks across rows: what evaluation by blocks rests on.
+use Rattle.std.proofs.Common.{◌≡◌, ◌∙◌, ◌≤◌, ◌<◌, ℕ, zero, suc, ◌+◌, ◌-◌, List, [], ◌∷◌, ◌++◌, append_assoc, map, length, refl, sym, ap, arith, Option, Some, None, Ok, Bool, true, false, take, drop}
 use Rattle.std.specs.Prelude.{not, cond, position}
 use Rattle.std.specs.List.{between, list_any, position_or_len, prefix_len}
 use Rattle.std.specs.Option.{option_or, option_map}
 use Rattle.std.proofs.lemmas.Bool.{or_parts, or_from, ltb-false, le-ltb}
-use Rattle.std.proofs.lemmas.List.{map-append, take_all, take-append-drop, append_cancel_right}
+use Rattle.std.proofs.lemmas.List.{map-append, take_all, take-append-drop, take-map, drop-map, append_cancel_right}
 use Rattle.std.proofs.lemmas.List.Edits.{split_between}
 use Rattle.std.proofs.lemmas.List.Folds.{list_any-append}
 use Rattle.vx_dtype.specs.declared.error.VortexError.{VortexError}
@@ -151,31 +151,34 @@ answer_cut b xs ys before behind apart e f =
 -- ---- blocks, one after another
 
 -- what a tree gives over the first n rows, if there are any
-pub record Told (b : BoundTree) (rows : List Value) (n : ℕ) (made : List Value) : Type 0 where
+pub record Told (b : BoundTree) (rows : List Datum) (n : ℕ) (made : List Datum) : Type 0 where
   pub within : n ≤ length rows
   pub none : n ≡ 0 → made ≡ []
-  pub answer : 0 < n → tree_answer b (values_of (take n rows)) ≡ Ok (values_of made)
+  pub answer : 0 < n → tree_answer b (take n rows) ≡ Ok made
+
+-- what the rows between two places stand for
+pub values_between : (from to : ℕ) (rows : List Value) → between from to (values_of rows) ≡ values_of (between from to rows)
+values_between from to rows = ap (take (to - from)) (drop-map value_of from rows) ∙ take-map value_of (to - from) (drop from rows)
 
 -- the rows before a place, and those from there on before another one
-cut_at : (rows : List Value) (from to : ℕ) → from ≤ to → take to rows ≡ take from rows ++ between from to rows
+cut_at : (rows : List Datum) (from to : ℕ) → from ≤ to → take to rows ≡ take from rows ++ between from to rows
 cut_at rows from to in_order =
     append_cancel_right (take to rows) (take from rows ++ between from to rows) (drop to rows)
     (take-append-drop to rows ∙ split_between rows from to in_order ∙ sym (append_assoc (take from rows) (between from to rows) (drop to rows)))
 
-pub told_more : (b : BoundTree) (rows made new : List Value) (out : List Datum) (from to : ℕ) → looks_across b ≡ false → from < to → to ≤ length rows →
-    Told b rows from made → tree_answer b (values_of (between from to rows)) ≡ Ok out → values_of new ≡ values_of made ++ out → Told b rows to new
+pub told_more : (b : BoundTree) (rows made new out : List Datum) (from to : ℕ) → looks_across b ≡ false → from < to → to ≤ length rows →
+    Told b rows from made → tree_answer b (between from to rows) ≡ Ok out → new ≡ made ++ out → Told b rows to new
 told_more b rows made new out from to apart further within so_far here behind = record {
   within = within;
   none = λ e. absurd (omega arith);
-  answer = λ lt. ap (λ l. tree_answer b (values_of l)) (cut_at rows from to (omega arith)) ∙ go from refl ∙ ap Ok (sym behind);
+  answer = λ lt. ap (tree_answer b) (cut_at rows from to (omega arith)) ∙ go from refl ∙ ap Ok (sym behind);
 }
   where
-    go : (n : ℕ) → from ≡ n → tree_answer b (values_of (take from rows ++ (between from to rows))) ≡ Ok (values_of made ++ out)
+    go : (n : ℕ) → from ≡ n → tree_answer b (take from rows ++ (between from to rows)) ≡ Ok (made ++ out)
     go zero e =
-        ap (λ k. tree_answer b (values_of (take k rows ++ (between from to rows)))) e ∙ here ∙ ap (λ l. Ok (values_of l ++ out)) (sym (so_far.none e))
+        ap (λ k. tree_answer b (take k rows ++ (between from to rows))) e ∙ here ∙ ap (λ l. Ok (l ++ out)) (sym (so_far.none e))
     go (suc n) e =
-        ap (tree_answer b) (map-append value_of (take from rows) (between from to rows)) ∙ answer_cut b (values_of (take from rows)) (values_of (between from to rows)) (values_of made) out apart (so_far.answer (omega arith)) here
+        answer_cut b (take from rows) (between from to rows) made out apart (so_far.answer (omega arith)) here
 
-pub told_all : (b : BoundTree) (rows made : List Value) (n : ℕ) → 0 < length rows → length rows ≤ n → Told b rows n made → tree_answer b (values_of rows) ≡ Ok (values_of made)
-told_all b rows made n some ended so_far =
-    ap (λ l. tree_answer b (values_of l)) (sym (take_all n rows ended)) ∙ so_far.answer (omega arith)
+pub told_all : (b : BoundTree) (rows made : List Datum) (n : ℕ) → 0 < length rows → length rows ≤ n → Told b rows n made → tree_answer b rows ≡ Ok made
+told_all b rows made n some ended so_far = ap (tree_answer b) (sym (take_all n rows ended)) ∙ so_far.answer (omega arith)

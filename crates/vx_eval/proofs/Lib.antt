@@ -13,5 +13,5 @@ mod Trues
 mod Conjoined
 pub mod Masked
 mod Branches
-mod Cuts
+pub mod Cuts
 mod Leaves

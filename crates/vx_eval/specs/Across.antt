@@ -1,4 +1,4 @@
--- Trees with a node that looks across rows. No public contract names this file.
+-- Trees with a node that looks across rows. Such a tree is not evaluated by blocks.
 use Rattle.std.specs.Prelude.{Bool, true, false, not, ◌||◌}
 use Rattle.vx_fn.specs.Functions.{Function, literal, fill_null}
 use Rattle.vx_tree.specs.Trees.{BoundTree, scope, node, BoundTrees, no_bound, bound}

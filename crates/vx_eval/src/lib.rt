@@ -26,6 +26,7 @@ mod text;
 mod trees;
 mod truths;
 
+pub use across::looks_across;
 pub use evaluation::apply_bound;
 pub use fields::{place_of, places_of};
 pub use matching::first_match;

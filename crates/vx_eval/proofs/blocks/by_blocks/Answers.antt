@@ -1,10 +1,15 @@
-use Rattle.std.proofs.Common.{arith}
-use Rattle.vx_eval.proofs.Cuts.{told_more, told_all}
+use Rattle.std.proofs.Common.{◌≡◌, ◌∙◌, ap, arith, length}
+use Rattle.std.proofs.lemmas.List.{length-map}
+use Rattle.vx_tree.specs.Views.{bound_of}
+use Rattle.vx_value.specs.Views.{value_of}
+use Rattle.vx_eval.specs.Evaluation.{tree_answer}
+use Rattle.vx_eval.proofs.Cuts.{told_more, told_all, values_between}
 use Rattle.vx_eval.proofs.blocks.by_blocks.Goals as goal
 
 pub loop-from-preserved : goal.loop-from-preserved
 loop-from-preserved c =
-    told_more _ _ _ _ _ _ _ c.requires.apart (omega (arith, c.min.ensures, c.loop-from-test.true)) (omega (arith, c.min.ensures, c.loop-from.invariant.within)) c.loop-from.invariant c.in_ok-evaluate.ensures c.in_ok-values-2.ensures
+    told_more _ _ _ _ _ _ _ c.requires.apart (omega (arith, c.min.ensures, c.loop-from-test.true)) (omega (arith, c.min.ensures, c.loop-from.invariant.within, length-map c.rows value_of)) c.loop-from.invariant
+    (ap (tree_answer (bound_of c.b)) (values_between _ _ c.rows) ∙ c.in_ok-evaluate.ensures) c.in_ok-values-2.ensures
 
 pub returns : goal.returns
-returns c = told_all _ _ _ _ c.requires.some (omega (arith, c.loop-from-test.false)) c.loop-from.invariant
+returns c = told_all _ _ _ _ (omega (c.requires.some, length-map c.rows value_of)) (omega (arith, c.loop-from-test.false, length-map c.rows value_of)) c.loop-from.invariant
