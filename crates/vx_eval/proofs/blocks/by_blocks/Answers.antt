@@ -8,8 +8,8 @@ use Rattle.vx_eval.proofs.blocks.by_blocks.Goals as goal
 
 pub loop-from-preserved : goal.loop-from-preserved
 loop-from-preserved c =
-    told_more _ _ _ _ _ _ _ c.requires.apart (omega (arith, c.min.ensures, c.loop-from-test.true)) (omega (arith, c.min.ensures, c.loop-from.invariant.within, length-map c.rows value_of)) c.loop-from.invariant
-    (ap (tree_answer (bound_of c.b)) (values_between _ _ c.rows) ∙ c.in_ok-evaluate.ensures) c.in_ok-values-2.ensures
+    told_more _ _ _ _ _ _ _ c.requires.apart (omega (arith, c.min.ensures, c.loop-from-test.true)) (omega (arith, c.min.ensures, c.loop-from.invariant.within, length-map c.args.rows.now value_of)) c.loop-from.invariant
+    (ap (tree_answer (bound_of c.args.b.now)) (values_between _ _ c.args.rows.now) ∙ c.in_ok-evaluate.ensures) c.in_ok-values-2.ensures
 
 pub returns : goal.returns
-returns c = told_all _ _ _ _ (omega (c.requires.some, length-map c.rows value_of)) (omega (arith, c.loop-from-test.false, length-map c.rows value_of)) c.loop-from.invariant
+returns c = told_all _ _ _ _ (omega (arith, c.requires.some, length-map c.args.rows.now value_of)) (omega (arith, c.loop-from-test.false, length-map c.args.rows.now value_of)) c.loop-from.invariant
