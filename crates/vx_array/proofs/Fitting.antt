@@ -1,5 +1,5 @@
 -- Rows that are values of a type, one after another.
-use Rattle.std.proofs.Common.{◌≡◌, ℕ, ◌+◌, ◌<◌, ◌≤◌, List, [], ◌∷◌, length, get_or, take, drop, zero, suc, refl, sym, ap, ◌∙◌, arith, Bool, true, false, drop-cons}
+use Rattle.std.proofs.Common.{◌≡◌, ℕ, ◌+◌, ◌<◌, ◌≤◌, List, [], ◌∷◌, map, length, get_or, take, drop, zero, suc, refl, sym, ap, ◌∙◌, arith, Bool, true, false, drop-cons}
 use Rattle.std.specs.Prelude.{Option, Some, None, if◌then◌else◌}
 use Rattle.std.specs.Option.{option_map}
 use Rattle.std.proofs.lemmas.List.{drop_all}
@@ -55,3 +55,10 @@ taken t (suc n) (v ∷ rows) e =
 -- a part of rows that are values of the type
 pub part_fits : (t : LogicalType) (from len : ℕ) (rows : List Datum) → first_misfit t rows ≡ None → first_misfit t (take len (drop from rows)) ≡ None
 part_fits t from len rows e = taken t len (drop from rows) (dropped t from rows e)
+
+-- what is made of rows that are values of a type
+pub made_fits : (t u : LogicalType) (f : Datum → Datum) (rows : List Datum) → ((v : Datum) → fits v t ≡ true → fits (f v) u ≡ true) → first_misfit t rows ≡ None → first_misfit u (map f rows) ≡ None
+made_fits t u f [] h e = refl
+made_fits t u f (v ∷ rows) h e =
+    let halves = parted t v rows e in
+    ap (λ b. if b then option_map (λ j. suc j) (first_misfit u (map f rows)) else Some 0) (h v halves.0) ∙ ap (option_map (λ j. suc j)) (made_fits t u f rows h halves.1)

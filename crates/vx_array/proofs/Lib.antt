@@ -11,3 +11,5 @@ pub mod Picked
 pub mod Found
 pub mod Written
 pub mod Counts
+pub mod Fielded
+pub mod Itemed

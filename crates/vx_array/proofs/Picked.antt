@@ -21,7 +21,7 @@ datum_at-data (d ∷ ds) zero = refl
 datum_at-data (d ∷ ds) (suc p) = datum_at-data ds p
 
 -- an item of the struct of one row of columns
-item_row : (cs : List (List Datum)) (p k : ℕ) → item_at p (struct_at cs k) ≡ get_or (get_or cs p []) k null
+pub item_row : (cs : List (List Datum)) (p k : ℕ) → item_at p (struct_at cs k) ≡ get_or (get_or cs p []) k null
 item_row cs p k = datum_at-data (row_at k cs) p ∙ at_column cs p
   where
     at_column : (cs : List (List Datum)) (p : ℕ) → get_or (row_at k cs) p null ≡ get_or (get_or cs p []) k null

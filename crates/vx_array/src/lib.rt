@@ -3,6 +3,7 @@
 
 mod array;
 mod bit_part;
+mod fields;
 mod items;
 mod lanes;
 pub mod laws;

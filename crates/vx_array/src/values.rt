@@ -53,7 +53,12 @@ fn items_at(
 
 // The value of row i from one on, null where there is no such row.
 #[cycle(value)]
-fn behind(alloc: Global, lanes: &Lanes, from: usize, i: usize) -> Result<Value, AllocError>
+pub(crate) fn behind(
+    alloc: Global,
+    lanes: &Lanes,
+    from: usize,
+    i: usize,
+) -> Result<Value, AllocError>
     ensures { IfOk result (λ v. value_of v ≡ get_or (lanes_rows lanes.now) (from + i) null) }
 {
     if lanes.len().saturating_sub(from) <= i {

@@ -9,6 +9,7 @@ pub use vx_array_build::{
 };
 pub use vx_array_eval::apply_array;
 pub use vx_array_loops::Bits;
+pub use vx_array_merges::{first_match_array, merge_compact_array, merge_runs_array};
 pub use vx_array_projection::{ArrayPlanReader, ArrayReader, read_referenced_array};
 pub use vx_array_query::run_query_array;
 pub use vx_array_scan::{scan_array, select_array, select_rows_array, stats_of_array};

@@ -1,10 +1,17 @@
 // Masks of rows, and columns merged by them.
-ghost use Rattle.std.specs.Prelude.{◌≡◌, ◌<◌, ℕ, IsTrue, true, false, ◌||◌, length, get_or};
+ghost use Rattle.std.specs.Prelude.{◌≡◌, ◌<◌, ℕ, IfOk, IsTrue, true, false, ◌||◌, length, get_or};
+ghost use Rattle.vx_eval_masks.specs.Merges.{EachMask};
+ghost use Rattle.vx_eval.specs.Choices.{EachBatch};
+ghost use Rattle.vx_eval.specs.Columns.{AllLong};
+ghost use Rattle.vx_eval.specs.FirstMerged.{InSomeMask, columns_in, masks_in};
 ghost use Rattle.vx_value.specs.Fits.{IsBatch};
 ghost use Rattle.vx_value.specs.Views.{type_of};
 
 use std::alloc::{AllocError, Global};
 use std::test::Fail;
+use vx_array::Array;
+use vx_array_build::from_column;
+use vx_array_merges::{merge_compact_array, merge_runs_array};
 use vx_dtype::laws::types_are_equal_exactly;
 use vx_eval::{RowMask, merge_compact, merge_runs, prefer_runs};
 use vx_test_support::{column, i32_type, reads};
@@ -116,8 +123,16 @@ pub enum By {
     Compact,
 }
 
-/// The columns merged by that call, if they are as it asks.
-pub fn merged(alloc: Global, by: By, of: &Masked) -> Option<VortexResult<Column>> {
+/// What holds the rows that are merged.
+#[derive(Clone, Copy)]
+pub enum Over {
+    Columns,
+    Buffers,
+    Boxes,
+}
+
+/// The columns, or arrays of their rows, merged by that call, if they are as it asks.
+pub fn merged(alloc: Global, by: By, over: Over, of: &Masked) -> Option<VortexResult<Column>> {
     let dtype = i32_type(NonNullable);
     let count = of.rest.len();
     let [first, second] = &of.branches;
@@ -127,10 +142,53 @@ pub fn merged(alloc: Global, by: By, of: &Masked) -> Option<VortexResult<Column>
     if !is_ready || !covers(&of.rest, &first.0, &second.0) {
         return None;
     }
-    Some(match by {
-        By::Runs => merge_runs(alloc, &of.branches, &of.rest, &of.otherwise, &dtype),
-        By::Compact => merge_compact(alloc, &of.branches, &of.rest, &of.otherwise, &dtype),
+    Some(match (over, by) {
+        (Over::Columns, By::Runs) => {
+            merge_runs(alloc, &of.branches, &of.rest, &of.otherwise, &dtype)
+        }
+        (Over::Columns, By::Compact) => {
+            merge_compact(alloc, &of.branches, &of.rest, &of.otherwise, &dtype)
+        }
+        _ => merged_arrays(alloc, by, over, of, &dtype),
     })
+}
+
+// The rows of arrays, merged by that call.
+fn merged_arrays(
+    alloc: Global,
+    by: By,
+    over: Over,
+    of: &Masked,
+    dtype: &DType,
+) -> VortexResult<Column>
+    requires masks { EachMask (length of.now.rest) (masks_in of.now.branches) }
+    requires columns { AllLong (length of.now.rest) (columns_in of.now.branches) }
+    requires last { length of.now.otherwise.rows ≡ length of.now.rest }
+    requires some { InSomeMask of.now.branches of.now.rest }
+    requires fit { EachBatch (type_of dtype.now) (columns_in of.now.branches) }
+    requires last_fit { IsBatch (type_of dtype.now) of.now.otherwise.rows }
+{
+    let [first, second] = &of.branches;
+    let branches = [
+        (first.0.clone()?, array(alloc, over, &first.1)?),
+        (second.0.clone()?, array(alloc, over, &second.1)?),
+    ];
+    let otherwise = array(alloc, over, &of.otherwise)?;
+    let merged = match by {
+        By::Runs => merge_runs_array(alloc, &branches, &of.rest, &otherwise, dtype)?,
+        By::Compact => merge_compact_array(alloc, &branches, &of.rest, &otherwise, dtype)?,
+    };
+    merged.to_column(alloc)
+}
+
+// The array of a column's rows, boxed or in buffers.
+fn array(alloc: Global, over: Over, column: &Column) -> VortexResult<Array>
+    ensures { IfOk result (λ a. a ≡ column.now) }
+{
+    match over {
+        Over::Boxes => Array::from_column(alloc, column),
+        _ => from_column(alloc, column),
+    }
 }
 
 // Whether mask and column have so many rows, and the column is of the type.
@@ -167,10 +225,12 @@ fn both_merges_give_the_first_match(rt: HostRuntime) -> Result<(), Fail> {
     let alloc = rt.alloc();
     let of = sample(alloc)?;
     for by in [By::Runs, By::Compact] {
-        let Some(answer) = merged(alloc, by, &of) else {
-            return Err(Fail::new("not as the calls ask"));
-        };
-        assert!(rt; reads(&answer?, "[1i32, 2i32, 300i32, 40i32, 500i32]"));
+        for over in [Over::Columns, Over::Buffers, Over::Boxes] {
+            let Some(answer) = merged(alloc, by, over, &of) else {
+                return Err(Fail::new("not as the calls ask"));
+            };
+            assert!(rt; reads(&answer?, "[1i32, 2i32, 300i32, 40i32, 500i32]"));
+        }
     }
     Ok(())
 }

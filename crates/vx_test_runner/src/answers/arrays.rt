@@ -1,4 +1,10 @@
 // Evaluation, scans, queries and selections over arrays beside those over columns: the same answers.
+ghost use Rattle.std.specs.Prelude.{◌≡◌, ◌<◌, length, IfOk, IsTrue, MatchOption};
+ghost use Rattle.vx_value.specs.Fits.{IsBatch};
+ghost use Rattle.vx_value.specs.Types.{is_nullable};
+ghost use Rattle.vx_value.specs.Views.{type_of};
+ghost use Rattle.vx_eval.specs.Choices.{rows_in, height, EachBatch};
+ghost use Rattle.vx_eval.specs.Columns.{AllLong};
 ghost use Rattle.vx_tree.specs.Trees.{WellTyped};
 ghost use Rattle.vx_tree.specs.Views.{bound_of};
 
@@ -9,13 +15,15 @@ use vx_array::Array;
 use vx_array_build::{are_within, from_column, take};
 use vx_array_eval::apply_array;
 use vx_array_loops::Bits;
+use vx_array_merges::first_match_array;
 use vx_array_projection::ArrayPlanReader;
 use vx_array_query::run_query_array;
 use vx_array_scan::{scan_array, select_rows_array};
 use vx_eval_masks::RowMask;
 use vx_prune_tree::ChunkStats;
 use vx_scan::ScanPlan;
-use vx_tree::{BoundExpression, Column, Expression, VortexError, VortexResult};
+use vx_tree::{BoundExpression, Column, DType, Expression, VortexError, VortexResult};
+use vx_value::laws::columns_are_equal_exactly;
 
 // How an array holds the rows of a batch: in typed buffers, in the middle of longer ones, or boxed.
 #[derive(Clone, Copy)]
@@ -23,6 +31,46 @@ enum Form {
     Buffers,
     Slice,
     Boxed,
+}
+
+/// Whether the first match of arrays of these rows is that answer, too, unless memory ran out for it.
+/// Refuses with `OutOfMemory` where it does over an array.
+pub fn matches_agree(
+    alloc: Global,
+    kind: &DType,
+    conditions: &[Column],
+    chosen: &[Column],
+    otherwise: Option<&Column>,
+    answer: &VortexResult<Column>,
+) -> VortexResult<bool>
+    requires some { 0 < length conditions.now }
+    requires pairs { length chosen.now ≡ length conditions.now }
+    requires tests { AllLong (height conditions.now) (rows_in conditions.now) }
+    requires choices { AllLong (height conditions.now) (rows_in chosen.now) }
+    requires fit { EachBatch (type_of kind.now) (rows_in chosen.now) }
+    requires last { MatchOption otherwise (IsTrue (is_nullable (type_of kind.now))) (λ c. (length c.now.rows ≡ height conditions.now) × IsBatch (type_of kind.now) c.now.rows) }
+{
+    for form in [Form::Buffers, Form::Slice, Form::Boxed] {
+        let conditions = arrays(alloc, form, conditions)?;
+        let chosen = arrays(alloc, form, chosen)?;
+        let conditions = conditions.as_slice();
+        let chosen = chosen.as_slice();
+        let found = match otherwise {
+            Some(column) => {
+                let last = array(alloc, form, column)?;
+                first_match_array(alloc, conditions, chosen, Some(&last), kind)
+            }
+            None => first_match_array(alloc, conditions, chosen, None, kind),
+        };
+        if !agrees(answer, &in_column(alloc, found))? {
+            return Ok(false);
+        }
+    }
+    Ok(true)
+}
+
+fn in_column(alloc: Global, found: VortexResult<Array>) -> VortexResult<Column> {
+    found?.to_column(alloc)
 }
 
 /// Whether the tree gives that answer over arrays of the batch's rows, too, unless memory ran out for it.
@@ -133,12 +181,31 @@ fn agrees(answer: &VortexResult<Column>, found: &VortexResult<Column>) -> Vortex
     Ok(is_exhausted(answer) || is_same(answer, found))
 }
 
-fn array(alloc: Global, form: Form, batch: &Column) -> VortexResult<Array> {
+// Refuses rows that a slice doesn't keep.
+fn array(alloc: Global, form: Form, batch: &Column) -> VortexResult<Array>
+    ensures { IfOk result (λ a. a ≡ batch.now) }
+{
     match form {
         Form::Buffers => from_column(alloc, batch),
-        Form::Slice => slice(alloc, batch),
+        Form::Slice => {
+            let array = slice(alloc, batch)?;
+            if columns_are_equal_exactly(&array.to_column(alloc)?, batch) {
+                return Ok(array);
+            }
+            Err(VortexError::RowMisfit { row: batch.len() })
+        }
         Form::Boxed => Array::from_column(alloc, batch),
     }
+}
+
+fn arrays(alloc: Global, form: Form, columns: &[Column]) -> VortexResult<Vec<Array>>
+    ensures { IfOk result (λ arrays. arrays.items ≡ columns.now) }
+{
+    let mut arrays = Vec::with_capacity(alloc, columns.len())?;
+    for column in columns {
+        arrays.push(array(alloc, form, column)?)?;
+    }
+    Ok(arrays)
 }
 
 // The rows behind a copy of the last one and before one of the first, of which they are a slice.

@@ -1,10 +1,12 @@
 // Answers of patterns, and of the first match.
-ghost use Rattle.std.specs.Prelude.{◌≡◌, ◌<◌, length, IfOk, IsTrue};
+ghost use Rattle.std.specs.Prelude.{◌≡◌, ◌<◌, length, IfOk, IsTrue, MatchOption};
 ghost use Rattle.vx_eval.specs.Choices.{rows_in, height, EachBatch};
 ghost use Rattle.vx_eval.specs.Columns.{AllLong};
 ghost use Rattle.vx_value.specs.Fits.{IsBatch};
+ghost use Rattle.vx_value.specs.Types.{is_nullable};
 ghost use Rattle.vx_value.specs.Views.{type_of};
 
+use crate::answers::arrays::matches_agree;
 use crate::told::told;
 use std::alloc::Global;
 use vx_dtype::laws::types_are_equal_exactly;
@@ -111,16 +113,36 @@ fn first_of(
         if !kind.is_nullable() {
             return Err(Unread::Word("no ELSE for a type without null"));
         }
-        return Ok(told(alloc, first_match(alloc, conditions, chosen, None, kind))?);
+        return told_of(alloc, kind, conditions, chosen, None);
     }
     let last = column_of(alloc, kind, otherwise)?;
     if last.len() != conditions[0].len() {
         return Err(Unread::Word("columns of unequal length"));
     }
-    Ok(told(
-        alloc,
-        first_match(alloc, conditions, chosen, Some(&last), kind),
-    )?)
+    told_of(alloc, kind, conditions, chosen, Some(&last))
+}
+
+// The first match, and a word before it where arrays of these rows give another.
+fn told_of(
+    alloc: Global,
+    kind: &DType,
+    conditions: &[Column],
+    chosen: &[Column],
+    otherwise: Option<&Column>,
+) -> Result<String, Unread>
+    requires some { 0 < length conditions.now }
+    requires pairs { length chosen.now ≡ length conditions.now }
+    requires tests { AllLong (height conditions.now) (rows_in conditions.now) }
+    requires choices { AllLong (height conditions.now) (rows_in chosen.now) }
+    requires fit { EachBatch (type_of kind.now) (rows_in chosen.now) }
+    requires last { MatchOption otherwise (IsTrue (is_nullable (type_of kind.now))) (λ c. (length c.now.rows ≡ height conditions.now) × IsBatch (type_of kind.now) c.now.rows) }
+{
+    let answer = first_match(alloc, conditions, chosen, otherwise, kind);
+    if matches_agree(alloc, kind, conditions, chosen, otherwise, &answer)? {
+        return Ok(told(alloc, answer)?);
+    }
+    let answer = told(alloc, answer)?;
+    Ok(format!(in alloc; "arrays differ from {answer}")?)
 }
 
 // The column of the type with these rows.
