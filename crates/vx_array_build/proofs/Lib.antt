@@ -6,3 +6,4 @@ pub mod Typed
 pub mod Filling
 pub mod Taking
 pub mod Concatenated
+pub mod Rowed

@@ -3,3 +3,4 @@ pub mod Cuts
 pub mod Parts
 pub mod Filled
 pub mod Taken
+pub mod Rowed

@@ -1,5 +1,5 @@
 // Rust's whole numbers as those of columns.
-ghost use Rattle.std.specs.Prelude.{◌≡◌, ℤ, map, refl, pos, negsuc};
+ghost use Rattle.std.specs.Prelude.{◌≡◌, ℤ, IfSome, map, refl, pos, negsuc};
 ghost use Rattle.vx_array.specs.Kinds.{numbers_in};
 ghost use Rattle.vx_dtype.specs.declared.dtype.PType.{PType as Kind};
 ghost use Rattle.vx_dtype.specs.declared.dtype.PType.TheVariants as kinds;
@@ -22,6 +22,10 @@ pub trait Native: Number {
     fn numbers(part: Part<Self>) -> Numbers
         ensures { numbers_in result ≡ map Self.number part };
 
+    /// The numbers of a column, where they are of this type.
+    fn of(numbers: &Numbers) -> Option<&Part<Self>>
+        ensures { IfSome result (λ part. map Self.number part.now ≡ numbers_in numbers.now) };
+
     /// The type's numbers are those of the `PType`.
     ghost same_range: { (z : ℤ) → Self.fits z ≡ fits_ptype z kind };
 }
@@ -40,6 +44,15 @@ impl Native for u8 {
     {
         Numbers::U8(part)
     }
+
+    fn of(numbers: &Numbers) -> Option<&Part<u8>>
+        ensures { IfSome result (λ part. map (λ n. pos n) part.now ≡ numbers_in numbers.now) }
+    {
+        match numbers {
+            Numbers::U8(part) => Some(part),
+            _ => None,
+        }
+    }
 }
 
 impl Native for u16 {
@@ -55,6 +68,15 @@ impl Native for u16 {
         ensures { numbers_in result ≡ map (λ n. pos n) part }
     {
         Numbers::U16(part)
+    }
+
+    fn of(numbers: &Numbers) -> Option<&Part<u16>>
+        ensures { IfSome result (λ part. map (λ n. pos n) part.now ≡ numbers_in numbers.now) }
+    {
+        match numbers {
+            Numbers::U16(part) => Some(part),
+            _ => None,
+        }
     }
 }
 
@@ -72,6 +94,15 @@ impl Native for u32 {
     {
         Numbers::U32(part)
     }
+
+    fn of(numbers: &Numbers) -> Option<&Part<u32>>
+        ensures { IfSome result (λ part. map (λ n. pos n) part.now ≡ numbers_in numbers.now) }
+    {
+        match numbers {
+            Numbers::U32(part) => Some(part),
+            _ => None,
+        }
+    }
 }
 
 impl Native for u64 {
@@ -87,6 +118,15 @@ impl Native for u64 {
         ensures { numbers_in result ≡ map (λ n. pos n) part }
     {
         Numbers::U64(part)
+    }
+
+    fn of(numbers: &Numbers) -> Option<&Part<u64>>
+        ensures { IfSome result (λ part. map (λ n. pos n) part.now ≡ numbers_in numbers.now) }
+    {
+        match numbers {
+            Numbers::U64(part) => Some(part),
+            _ => None,
+        }
     }
 }
 
@@ -104,6 +144,15 @@ impl Native for i8 {
     {
         Numbers::I8(part)
     }
+
+    fn of(numbers: &Numbers) -> Option<&Part<i8>>
+        ensures { IfSome result (λ part. map (λ n. n) part.now ≡ numbers_in numbers.now) }
+    {
+        match numbers {
+            Numbers::I8(part) => Some(part),
+            _ => None,
+        }
+    }
 }
 
 impl Native for i16 {
@@ -119,6 +168,15 @@ impl Native for i16 {
         ensures { numbers_in result ≡ map (λ n. n) part }
     {
         Numbers::I16(part)
+    }
+
+    fn of(numbers: &Numbers) -> Option<&Part<i16>>
+        ensures { IfSome result (λ part. map (λ n. n) part.now ≡ numbers_in numbers.now) }
+    {
+        match numbers {
+            Numbers::I16(part) => Some(part),
+            _ => None,
+        }
     }
 }
 
@@ -136,6 +194,15 @@ impl Native for i32 {
     {
         Numbers::I32(part)
     }
+
+    fn of(numbers: &Numbers) -> Option<&Part<i32>>
+        ensures { IfSome result (λ part. map (λ n. n) part.now ≡ numbers_in numbers.now) }
+    {
+        match numbers {
+            Numbers::I32(part) => Some(part),
+            _ => None,
+        }
+    }
 }
 
 impl Native for i64 {
@@ -151,5 +218,14 @@ impl Native for i64 {
         ensures { numbers_in result ≡ map (λ n. n) part }
     {
         Numbers::I64(part)
+    }
+
+    fn of(numbers: &Numbers) -> Option<&Part<i64>>
+        ensures { IfSome result (λ part. map (λ n. n) part.now ≡ numbers_in numbers.now) }
+    {
+        match numbers {
+            Numbers::I64(part) => Some(part),
+            _ => None,
+        }
     }
 }

@@ -1,0 +1,19 @@
+use Rattle.std.proofs.Common.{◌≡◌, ◌++◌, ◌∙◌, ap, length, rules}
+use Rattle.vx_value.specs.Types.{bool}
+use Rattle.vx_array.specs.Shown.{shown_count}
+use Rattle.vx_array_build.specs.Rowed.{flags, valid_in}
+use Rattle.vx_array_build.proofs.Rowed.{rows_behind, sum_of}
+use Rattle.vx_array_build.proofs.truths_builder.with_part.Goals as goal
+
+pub returns : goal.returns
+returns c =
+    let xs = c.rows.inside.truths.items in
+    let part = c.args.part.now in
+    let v = c.args.validity.now in
+    let n = c.count-count.result in
+    let long : c.len-2.result ≡ length xs = search rules in
+    let valid = c.in_ok-valid.valid in
+    let counted = c.count-count.ensures ∙ ap (shown_count v) c.len.ensures in
+    let more = c.in_ok-extend_from_slice.ensures.items ∙ ap (λ l. xs ++ l) (c.as_slice.ensures.value ∙ c.in_ok-first_of.ensures) in
+    let grown = ap (λ k. flags k valid) (sum_of xs part _ v c.len-2.result n long counted more) ∙ c.in_ok-valid.ensures ∙ ap (λ k. flags k c.rows.inside.valid ++ valid_in v n) long in
+    (rows_behind bool _ _ xs part _ _ v n c.rows.view_is c.rows.invariant counted grown more).1
