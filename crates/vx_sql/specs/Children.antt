@@ -2,7 +2,7 @@
 use Rattle.std.specs.Prelude.{ℕ, Bool, true, false, not, List, [], Option, Some, None}
 use Rattle.vx_value.specs.Columns.{Constant, constant}
 use Rattle.vx_value.specs.Fields.{field_names}
-use Rattle.vx_value.specs.Types.{Name, LogicalType, ty, struct, is_null_datum, is_nullable}
+use Rattle.vx_value.specs.Types.{Name, text, octets, LogicalType, ty, atomic, struct, is_null_datum, is_nullable}
 use Rattle.vx_fn.specs.Functions.{literal, is_text, is_atomic}
 use Rattle.vx_tree.specs.Nodes.{is_root, bound_at}
 use Rattle.vx_tree.specs.Trees.{BoundTree, node, BoundTrees, node_type, unbound}
@@ -16,9 +16,18 @@ passes p (Some b) = p b
 abbrev pub is_row : BoundTrees → Bool
 is_row bs = passes (λ b. is_root (unbound b)) (bound_at bs 0)
 
--- whether the first child is a text, a struct, or a value without parts
+-- whether the first child is a text, one of texts and bytes, a struct, or a value without parts
 abbrev pub has_text_first : BoundTrees → Bool
 has_text_first bs = passes (λ b. is_text (node_type b)) (bound_at bs 0)
+
+-- texts and bytes
+abbrev pub is_string : LogicalType → Bool
+is_string (ty (atomic text) n) = true
+is_string (ty (atomic octets) n) = true
+is_string _ = false
+
+abbrev pub has_string_first : BoundTrees → Bool
+has_string_first bs = passes (λ b. is_string (node_type b)) (bound_at bs 0)
 
 abbrev pub is_struct : LogicalType → Bool
 is_struct (ty (struct fs) n) = true

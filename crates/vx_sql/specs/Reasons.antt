@@ -11,10 +11,11 @@ use Rattle.vx_tree.specs.Trees.{BoundTrees}
 use Rattle.vx_sql.specs.declared.dialect.Dialect.{Dialect}
 use Rattle.vx_sql.specs.declared.dialect.Dialect.TheVariants.{Postgres, Sqlite, DuckDb, Spark, ClickHouse}
 use Rattle.vx_sql.specs.declared.unsupported.Reason.{Reason}
-use Rattle.vx_sql.specs.declared.unsupported.Reason.TheVariants.{ChildCount, UnknownType, UnknownFunction, NestedLiteral, PatternNotLiteral, FillNotLiteral, EmptyName, LongName, AmbiguousName, Nul, Backslash}
+use Rattle.vx_sql.specs.declared.unsupported.Reason.TheVariants.{ChildCount, UnknownType, UnknownFunction, NestedLiteral, PatternNotLiteral, FillNotLiteral, EmptyName, LongName, AmbiguousName, Nul, Backslash, Keyword}
 use Rattle.vx_sql.specs.Children.{passes, has_atomic_first, names_first, literal_in, is_value}
 use Rattle.vx_sql.specs.Dialects.{has_type, makes_structs}
 use Rattle.vx_sql.specs.Quotes.{is_escaped}
+use Rattle.vx_sql.specs.Words.{is_misread}
 
 -- the reason where the test holds
 abbrev pub because : Bool → Reason → Option Reason
@@ -44,7 +45,7 @@ same_name ClickHouse a b = bytes_eq a b
 
 -- why no such name can be written
 abbrev pub spelling_reason : Dialect → Name → Option Reason
-spelling_reason d a = option_or (because (length a == 0) EmptyName) (option_or (because (has_nul a) Nul) (option_or (because (is_cut d a) LongName) (because (is_escaped d a) Backslash)))
+spelling_reason d a = option_or (because (length a == 0) EmptyName) (option_or (because (has_nul a) Nul) (option_or (because (is_cut d a) LongName) (option_or (because (is_escaped d a) Backslash) (because (is_misread d a) Keyword))))
 
 -- why the name isn't that of one of the columns or fields alone
 abbrev pub name_reason : Dialect → List Name → Name → Option Reason

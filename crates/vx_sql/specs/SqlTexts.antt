@@ -11,7 +11,7 @@ use Rattle.vx_tree.specs.Views.{bounds_of}
 use Rattle.vx_sql.specs.declared.dialect.Dialect.{Dialect}
 use Rattle.vx_sql.specs.declared.dialect.Dialect.TheVariants.{Postgres, Sqlite, DuckDb, Spark, ClickHouse}
 use Rattle.vx_sql.specs.declared.text.Children.{Children}
-use Rattle.vx_sql.specs.Children.{is_row, has_text_first, has_struct_first, literal_in, admits_null_at}
+use Rattle.vx_sql.specs.Children.{is_row, has_text_first, has_string_first, has_struct_first, literal_in, admits_null_at}
 use Rattle.vx_sql.specs.Dialects.{collation}
 use Rattle.vx_sql.specs.Quotes.{name_sql, text_sql}
 use Rattle.vx_sql.specs.Patterns.{has_globs, pattern_sql}
@@ -19,15 +19,6 @@ use Rattle.vx_sql.specs.Literals.{literal_sql, null_sql}
 use Rattle.vx_sql.specs.Sums.{sum_sql}
 
 -- ---- operators
-
--- the sign of a comparison
-abbrev pub comparison_sign : Comparison → List ℕ
-comparison_sign equal = codes "="
-comparison_sign not_equal = codes "<>"
-comparison_sign greater = codes ">"
-comparison_sign greater_or_equal = codes ">="
-comparison_sign less = codes "<"
-comparison_sign less_or_equal = codes "<="
 
 -- an operand, with the engine's word for comparing bytes where it is a text
 abbrev pub compared_sql : Dialect → Bool → List ℕ → List ℕ
@@ -55,13 +46,6 @@ least_sql function a b = codes "(nullIf(" ++ (function ++ (codes "(COALESCE(" ++
 abbrev pub logic_sql : Bool → List ℕ → List ℕ → List ℕ → List ℕ → List ℕ
 logic_sql loses sign function a b = if loses then least_sql function a b else operator_sql sign a b
 
--- an operator between two texts, where the first may be a text, a null may be lost, and the sum has a type
-abbrev pub binary_sql : Dialect → LogicalType → Bool → Bool → Operation → List ℕ → List ℕ → List ℕ
-binary_sql d t is_text loses (compares c) a b = operator_sql (comparison_sign c) (compared_sql d is_text a) b
-binary_sql d t is_text loses and_also a b = logic_sql loses (codes "AND") (codes "least") a b
-binary_sql d t is_text loses or_else a b = logic_sql loses (codes "OR") (codes "greatest") a b
-binary_sql d t is_text loses adds a b = added_sql d t a b
-
 -- a truth value turned round. ClickHouse hands NOT on to its shards without the brackets around it, so there the value is compared with 0
 abbrev pub not_sql : Dialect → List ℕ → List ℕ
 not_sql Postgres c = codes "(NOT " ++ (c ++ codes ")")
@@ -70,9 +54,39 @@ not_sql DuckDb c = codes "(NOT " ++ (c ++ codes ")")
 not_sql Spark c = codes "(NOT " ++ (c ++ codes ")")
 not_sql ClickHouse c = codes "(" ++ (c ++ codes " = 0)")
 
+-- whether the engine's `<=` overlooks NULs at the end of its left side, and `>=` those of its right side, as ClickHouse's do in version
+-- 18: there a text with one is at most the same without it, though it is also above it
+abbrev pub overlooks_ends : Dialect → Bool
+overlooks_ends Postgres = false
+overlooks_ends Sqlite = false
+overlooks_ends DuckDb = false
+overlooks_ends Spark = false
+overlooks_ends ClickHouse = true
+
+-- a comparison that lets equal values in, by its sign, or by the opposite one turned round where that would overlook an end
+abbrev pub or_equal_sql : Dialect → Bool → List ℕ → List ℕ → List ℕ → List ℕ → List ℕ
+or_equal_sql d overlooks sign opposite a b = if overlooks then not_sql d (operator_sql opposite a b) else operator_sql sign a b
+
+-- a comparison of two texts
+abbrev pub comparison_sql : Dialect → Bool → Comparison → List ℕ → List ℕ → List ℕ
+comparison_sql d overlooks equal a b = operator_sql (codes "=") a b
+comparison_sql d overlooks not_equal a b = operator_sql (codes "<>") a b
+comparison_sql d overlooks greater a b = operator_sql (codes ">") a b
+comparison_sql d overlooks greater_or_equal a b = or_equal_sql d overlooks (codes ">=") (codes "<") a b
+comparison_sql d overlooks less a b = operator_sql (codes "<") a b
+comparison_sql d overlooks less_or_equal a b = or_equal_sql d overlooks (codes "<=") (codes ">") a b
+
+-- an operator between two texts, where the first may be a text, a null may be lost, an end overlooked, and the sum has a type
+abbrev pub binary_sql : Dialect → LogicalType → Bool → Bool → Bool → Operation → List ℕ → List ℕ → List ℕ
+binary_sql d t is_text loses overlooks (compares c) a b = comparison_sql d overlooks c (compared_sql d is_text a) b
+binary_sql d t is_text loses overlooks and_also a b = logic_sql loses (codes "AND") (codes "least") a b
+binary_sql d t is_text loses overlooks or_else a b = logic_sql loses (codes "OR") (codes "greatest") a b
+binary_sql d t is_text loses overlooks adds a b = added_sql d t a b
+
 -- one text below another, or not above it
-abbrev pub below_sql : Bool → List ℕ → List ℕ → List ℕ
-below_sql strict a b = a ++ (codes " " ++ (bound_text strict ++ (codes " " ++ b)))
+abbrev pub below_sql : Dialect → Bool → Bool → List ℕ → List ℕ → List ℕ
+below_sql d overlooks true a b = a ++ (codes " " ++ (bound_text true ++ (codes " " ++ b)))
+below_sql d overlooks false a b = if overlooks then not_sql d (operator_sql (codes ">") a b) else a ++ (codes " " ++ (bound_text false ++ (codes " " ++ b)))
 
 -- what says that a text before it is from one bound to another, and two texts that both have to hold
 abbrev pub range_sql : List ℕ → List ℕ → List ℕ
@@ -82,14 +96,14 @@ abbrev pub both_sql : List ℕ → List ℕ → List ℕ
 both_sql a b = codes "(" ++ (a ++ (codes " AND " ++ (b ++ codes ")")))
 
 -- two comparisons that both have to hold, of which a null may be lost
-abbrev pub both_below : Dialect → Bool → Bool → Bool → Bool → List ℕ → List ℕ → List ℕ → List ℕ
-both_below d is_text true ls us v l u = least_sql (codes "least") (below_sql ls (compared_sql d is_text l) v) (below_sql us (compared_sql d is_text v) u)
-both_below d is_text false ls us v l u = both_sql (below_sql ls (compared_sql d is_text l) v) (below_sql us (compared_sql d is_text v) u)
+abbrev pub both_below : Dialect → Bool → Bool → Bool → Bool → Bool → List ℕ → List ℕ → List ℕ → List ℕ
+both_below d is_text true overlooks ls us v l u = least_sql (codes "least") (below_sql d overlooks ls (compared_sql d is_text l) v) (below_sql d overlooks us (compared_sql d is_text v) u)
+both_below d is_text false overlooks ls us v l u = both_sql (below_sql d overlooks ls (compared_sql d is_text l) v) (below_sql d overlooks us (compared_sql d is_text v) u)
 
--- a text between two bounds: by one word where both are let in and no null is lost, else by two comparisons
-abbrev pub between_sql : Dialect → Bool → Bool → Bool → Bool → List ℕ → List ℕ → List ℕ → List ℕ
-between_sql d is_text false false false v l u = codes "(" ++ (compared_sql d is_text v ++ (range_sql l u ++ codes ")"))
-between_sql d is_text loses ls us v l u = both_below d is_text loses ls us v l u
+-- a text between two bounds: by one word where both are let in, no null is lost and no end overlooked, else by two comparisons
+abbrev pub between_sql : Dialect → Bool → Bool → Bool → Bool → Bool → List ℕ → List ℕ → List ℕ → List ℕ
+between_sql d is_text false false false false v l u = codes "(" ++ (compared_sql d is_text v ++ (range_sql l u ++ codes ")"))
+between_sql d is_text loses overlooks ls us v l u = both_below d is_text loses overlooks ls us v l u
 
 -- ---- tests
 
@@ -207,6 +221,10 @@ loses_operands d bs = loses_nulls d && (admits_null_at bs 0 || admits_null_at bs
 abbrev pub loses_bounds : Dialect → BoundTrees → Bool
 loses_bounds d bs = loses_nulls d && (admits_null_at bs 1 || admits_null_at bs 2)
 
+-- whether its comparisons overlook the end of such an operand
+abbrev pub overlooks_operands : Dialect → BoundTrees → Bool
+overlooks_operands d bs = overlooks_ends d && has_string_first bs
+
 -- the text of a node of that type over as many children as it takes, whose texts are there
 abbrev pub own_sql : Dialect → LogicalType → Function → BoundTrees → List (List ℕ) → List ℕ
 own_sql d t (case_when pairs has_else) bs cs = codes "CASE" ++ (pairs_sql cs ++ codes " END")
@@ -216,9 +234,9 @@ own_sql d t (pack names n) bs cs = pack_word d ++ (with_commas (fields_sql d nam
 own_sql d t (select selection) bs cs = []
 own_sql d t fill_null bs cs = codes "COALESCE(" ++ (get_or cs 0 [] ++ (codes ", " ++ (get_or cs 1 [] ++ codes ")")))
 own_sql d t zip bs cs = choice_sql (get_or cs 2 []) (get_or cs 0 []) (codes " ELSE " ++ (get_or cs 1 [] ++ codes " END"))
-own_sql d t (binary op) bs cs = binary_sql d t (has_text_first bs) (loses_operands d bs) op (get_or cs 0 []) (get_or cs 1 [])
+own_sql d t (binary op) bs cs = binary_sql d t (has_text_first bs) (loses_operands d bs) (overlooks_operands d bs) op (get_or cs 0 []) (get_or cs 1 [])
 own_sql d t logical_not bs cs = not_sql d (get_or cs 0 [])
-own_sql d t (between ls us) bs cs = between_sql d (has_text_first bs) (loses_bounds d bs) ls us (get_or cs 0 []) (get_or cs 1 []) (get_or cs 2 [])
+own_sql d t (between ls us) bs cs = between_sql d (has_text_first bs) (loses_bounds d bs) (overlooks_operands d bs) ls us (get_or cs 0 []) (get_or cs 1 []) (get_or cs 2 [])
 own_sql d t (like negated ci) bs cs = match_sql d negated ci (get_or cs 0 []) (second_pattern d ci bs)
 own_sql d t is_null bs cs = null_test d (has_struct_first bs) true (get_or cs 0 [])
 own_sql d t is_not_null bs cs = null_test d (has_struct_first bs) false (get_or cs 0 [])

@@ -4,7 +4,7 @@ ghost use Rattle.vx_value.specs.Views.{type_of};
 ghost use Rattle.vx_fn.specs.Functions.{is_text, is_atomic};
 ghost use Rattle.vx_tree.specs.Nodes.{bound_at};
 ghost use Rattle.vx_tree.specs.Views.{bound_of, bounds_of};
-ghost use Rattle.vx_sql.specs.Children.{is_row, has_text_first, is_struct, has_struct_first, has_atomic_first, literal_in, admits_null_at};
+ghost use Rattle.vx_sql.specs.Children.{is_row, has_text_first, is_string, has_string_first, is_struct, has_struct_first, has_atomic_first, literal_in, admits_null_at};
 
 use vx_fn::ScalarFnRef;
 use vx_tree::BoundExpression;
@@ -37,6 +37,16 @@ pub(crate) fn has_text_first(children: &[BoundExpression]) -> bool
 {
     match child_at(children, 0) {
         Some(child) => is_text(child.dtype()),
+        None => false,
+    }
+}
+
+/// Whether the first child is a text or bytes.
+pub(crate) fn has_string_first(children: &[BoundExpression]) -> bool
+    ensures { result ≡ has_string_first (bounds_of children.now) }
+{
+    match child_at(children, 0) {
+        Some(child) => is_string(child.dtype()),
         None => false,
     }
 }
@@ -75,6 +85,12 @@ fn is_text(dtype: &DType) -> bool
     ensures { result ≡ is_text (type_of dtype.now) }
 {
     matches!(dtype, DType::Utf8(_))
+}
+
+fn is_string(dtype: &DType) -> bool
+    ensures { result ≡ is_string (type_of dtype.now) }
+{
+    matches!(dtype, DType::Utf8(_) | DType::Binary(_))
 }
 
 fn is_struct(dtype: &DType) -> bool

@@ -15,6 +15,7 @@ mod text;
 mod types;
 mod unsupported;
 mod walk;
+mod words;
 
 pub use conversion::to_sql;
 pub use dialect::Dialect;
@@ -23,3 +24,4 @@ pub use names::SqlName;
 pub use reasons::{column_names, is_escaped, name_reason, spelling_reason};
 pub use unsupported::{Reason, Unsupported};
 pub use walk::first_unsupported;
+pub use words::{is_one_of, is_word};

@@ -13,6 +13,7 @@ use crate::Dialect;
 use crate::children::{child_at, has_atomic_first, is_atomic, literal_in};
 use crate::types::{has_type, makes_structs};
 use crate::unsupported::Reason;
+use crate::words::is_misread;
 use vx_fn::ScalarFnRef;
 use vx_tree::BoundExpression;
 use vx_types::{DType, FieldName, Scalar, Value};
@@ -63,7 +64,8 @@ fn function_reason(
 }
 
 /// Why the name can't be written as that of one of these columns or fields alone: `EmptyName`, `Nul`,
-/// `LongName` or `Backslash` by its spelling, `AmbiguousName` where the engine takes several of them for it.
+/// `LongName`, `Backslash` or `Keyword` by its spelling, `AmbiguousName` where the engine takes several of
+/// them for it.
 pub fn name_reason(dialect: Dialect, names: &[FieldName], name: &FieldName) -> Option<Reason>
     ensures { result ≡ name_reason dialect names.now name.now }
 {
@@ -80,8 +82,9 @@ pub fn name_reason(dialect: Dialect, names: &[FieldName], name: &FieldName) -> O
     None
 }
 
-/// Why no such name can be written: it is empty, has a NUL, is longer than the engine keeps, or has a
-/// backslash, which says something of the character behind it in ClickHouse.
+/// Why no such name can be written: it is empty, has a NUL, is longer than the engine keeps, has a
+/// backslash, which says something of the character behind it in ClickHouse, or is a word that ClickHouse's
+/// shards take for something else.
 pub fn spelling_reason(dialect: Dialect, name: &str) -> Option<Reason>
     ensures { result ≡ spelling_reason dialect name.now }
 {
@@ -93,6 +96,8 @@ pub fn spelling_reason(dialect: Dialect, name: &str) -> Option<Reason>
         Some(Reason::LongName)
     } else if is_escaped(dialect, name) {
         Some(Reason::Backslash)
+    } else if is_misread(dialect, name) {
+        Some(Reason::Keyword)
     } else {
         None
     }

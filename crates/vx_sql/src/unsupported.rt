@@ -44,6 +44,9 @@ pub enum Reason {
     /// A backslash stands in a name, and says something of the character behind it.
     #[error("a backslash stands in a name")]
     Backslash,
+    /// The engine takes the name for another word, though it stands between quotes.
+    #[error("the engine's shards take a name for another word")]
+    Keyword,
 }
 
 /// Why there is no SQL text of a tree.

@@ -1,11 +1,6 @@
 -- Words of SQL.
 use Rattle.std.specs.Prelude.{ℕ, Bool, not, ◌||◌, List, [], ◌∷◌, codes}
-use Rattle.std.specs.List.{list_any}
-use Rattle.vx_source_types.specs.Names.{same_word}
-
--- whether the word is one of those, in either case
-abbrev pub is_one_of : List (List ℕ) → List ℕ → Bool
-is_one_of ws w = list_any (λ x. same_word w x) ws
+pub use Rattle.vx_sql.specs.Words.{is_one_of}
 
 -- what divides conditions and the parts of a CASE
 abbrev pub is_divider : List ℕ → Bool

@@ -1,26 +1,8 @@
 // Words of SQL.
-ghost use Rattle.std.specs.Prelude.{◌≡◌, map};
-ghost use Rattle.vx_source_types.specs.Names.{same_word};
+ghost use Rattle.std.specs.Prelude.{◌≡◌};
 ghost use Rattle.vx_sql_parser.specs.Words as words;
 
-// Whether the word is the given one, in either case.
-pub(crate) fn is(word: &str, other: &str) -> bool
-    ensures { result ≡ same_word word.now other.now }
-{
-    word.as_bytes().eq_ignore_ascii_case(other.as_bytes())
-}
-
-// Whether the word is one of those, in either case.
-pub(crate) fn is_one_of(word: &str, others: &[&str]) -> bool
-    ensures { result ≡ words.is_one_of (map (λ w. w.now) others.now) word.now }
-{
-    for other in others {
-        if is(word, other) {
-            return true;
-        }
-    }
-    false
-}
+pub(crate) use vx_sql::{is_one_of, is_word as is};
 
 // Whether it divides conditions and the parts of a CASE.
 pub(crate) fn is_divider(word: &str) -> bool

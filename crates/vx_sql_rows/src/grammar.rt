@@ -84,7 +84,7 @@ pub const MASKS: [&str; 5] = [
     "(N is null)",
     "(S is not null)",
     "(T is null)",
-    "`select`",
+    "`from`",
     "true",
 ];
 

@@ -45,7 +45,7 @@ impl Kind {
     /// a backslash.
     pub fn columns(self, dialect: Dialect) -> [&'static str; 2] {
         match self {
-            Kind::Truth => ["b", "`select`"],
+            Kind::Truth => ["b", "`from`"],
             Kind::Text => ["s", "`it's \"t\"`"],
             Kind::Octets => match dialect {
                 Dialect::ClickHouse => ["x", "`X``x/ \n1`"],

@@ -6,11 +6,11 @@ ghost use Rattle.vx_fn.specs.Texts.{operator_sql};
 ghost use Rattle.vx_fn.specs.Views.{is_strict, operation_of};
 ghost use Rattle.vx_sql.specs.Children.{has_text_first};
 ghost use Rattle.vx_sql.specs.Sums.{sum_sql};
-ghost use Rattle.vx_sql.specs.SqlTexts.{sqls_in, trees_in, compared_sql, loses_nulls, loses_operands, loses_bounds, least_sql, logic_sql, binary_sql, not_sql, between_sql, range_sql, both_sql, below_sql};
+ghost use Rattle.vx_sql.specs.SqlTexts.{sqls_in, trees_in, compared_sql, loses_nulls, loses_operands, loses_bounds, overlooks_ends, overlooks_operands, least_sql, logic_sql, or_equal_sql, binary_sql, not_sql, between_sql, range_sql, both_sql, below_sql};
 
 use super::{Children, write_child};
 use crate::Dialect;
-use crate::children::{admits_null_at, has_text_first};
+use crate::children::{admits_null_at, has_string_first, has_text_first};
 use crate::sums::Check;
 use crate::types::collation;
 use std::fmt;
@@ -28,15 +28,15 @@ pub(super) fn write_binary<W: Write>(
 ) -> fmt::Result
     requires { length operands.nodes.now ≡ 2 }
     ensures { let cs = sqls_in operands.entry in WritesOnOk W.write_str_gives f.old result
-        (binary_sql operands.entry.dialect (type_of dtype.now) (has_text_first (trees_in operands.entry)) (loses_operands operands.entry.dialect (trees_in operands.entry)) (operation_of operator) (get_or cs 0 []) (get_or cs 1 [])) f.new }
+        (binary_sql operands.entry.dialect (type_of dtype.now) (has_text_first (trees_in operands.entry)) (loses_operands operands.entry.dialect (trees_in operands.entry)) (overlooks_operands operands.entry.dialect (trees_in operands.entry)) (operation_of operator) (get_or cs 0 []) (get_or cs 1 [])) f.new }
 {
     match operator {
-        Operator::Eq => write_comparison("=", operands, f),
-        Operator::NotEq => write_comparison("<>", operands, f),
-        Operator::Gt => write_comparison(">", operands, f),
-        Operator::Gte => write_comparison(">=", operands, f),
-        Operator::Lt => write_comparison("<", operands, f),
-        Operator::Lte => write_comparison("<=", operands, f),
+        Operator::Eq => write_comparison("=", operands, 0, 1, f),
+        Operator::NotEq => write_comparison("<>", operands, 0, 1, f),
+        Operator::Gt => write_comparison(">", operands, 0, 1, f),
+        Operator::Gte => write_or_equal(">=", "<", operands, f),
+        Operator::Lt => write_comparison("<", operands, 0, 1, f),
+        Operator::Lte => write_or_equal("<=", ">", operands, f),
         Operator::And => write_logic("AND", "least", operands, f),
         Operator::Or => write_logic("OR", "greatest", operands, f),
         Operator::Add => match dtype {
@@ -46,17 +46,65 @@ pub(super) fn write_binary<W: Write>(
     }
 }
 
-// A comparison, of texts by their bytes.
+// A comparison that lets equal values in, by its sign, or by the opposite one turned round where that
+// would overlook the end of an operand.
 #[cycle(text)]
-fn write_comparison<W: Write>(sign: &str, operands: Children, f: &mut Formatter<W>) -> fmt::Result
+fn write_or_equal<W: Write>(
+    sign: &str,
+    opposite: &str,
+    operands: Children,
+    f: &mut Formatter<W>,
+) -> fmt::Result
     requires { length operands.nodes.now ≡ 2 }
     ensures { let cs = sqls_in operands.entry in WritesOnOk W.write_str_gives f.old result
-        (operator_sql sign.now (compared_sql operands.entry.dialect (has_text_first (trees_in operands.entry)) (get_or cs 0 [])) (get_or cs 1 [])) f.new }
+        (or_equal_sql operands.entry.dialect (overlooks_operands operands.entry.dialect (trees_in operands.entry)) sign.now opposite.now
+        (compared_sql operands.entry.dialect (has_text_first (trees_in operands.entry)) (get_or cs 0 [])) (get_or cs 1 [])) f.new }
+{
+    if overlooks_operands(operands) {
+        write_turned(opposite, operands, 0, 1, f)
+    } else {
+        write_comparison(sign, operands, 0, 1, f)
+    }
+}
+
+// A comparison of two of the children, turned round.
+#[cycle(text)]
+fn write_turned<W: Write>(
+    sign: &str,
+    children: Children,
+    first: usize,
+    second: usize,
+    f: &mut Formatter<W>,
+) -> fmt::Result
+    requires first { first < length children.nodes.now }
+    requires second { second < length children.nodes.now }
+    ensures { let cs = sqls_in children.entry in WritesOnOk W.write_str_gives f.old result
+        (not_sql children.entry.dialect (operator_sql sign.now (compared_sql children.entry.dialect (has_text_first (trees_in children.entry)) (get_or cs first [])) (get_or cs second []))) f.new }
+{
+    let (before, behind) = not_words(children.dialect);
+    f.write_str(before)?;
+    write_comparison(sign, children, first, second, f)?;
+    f.write_str(behind)
+}
+
+// A comparison of two of the children, of texts by their bytes.
+#[cycle(text)]
+fn write_comparison<W: Write>(
+    sign: &str,
+    children: Children,
+    first: usize,
+    second: usize,
+    f: &mut Formatter<W>,
+) -> fmt::Result
+    requires first { first < length children.nodes.now }
+    requires second { second < length children.nodes.now }
+    ensures { let cs = sqls_in children.entry in WritesOnOk W.write_str_gives f.old result
+        (operator_sql sign.now (compared_sql children.entry.dialect (has_text_first (trees_in children.entry)) (get_or cs first [])) (get_or cs second [])) f.new }
 {
     f.write_str("(")?;
-    write_compared(operands, 0, f)?;
+    write_compared(children, first, f)?;
     write_sign(sign, f)?;
-    write_child(operands, 1, f)?;
+    write_child(children, second, f)?;
     f.write_str(")")
 }
 
@@ -99,6 +147,24 @@ fn loses_bounds(children: Children) -> bool
 // false and null is null, and an OR takes null for false.
 fn loses_nulls(dialect: Dialect) -> bool
     ensures { result ≡ loses_nulls dialect }
+{
+    match dialect {
+        Dialect::Postgres | Dialect::Sqlite | Dialect::DuckDb | Dialect::Spark => false,
+        Dialect::ClickHouse => true,
+    }
+}
+
+// Whether its comparisons overlook the end of such an operand.
+fn overlooks_operands(operands: Children) -> bool
+    ensures { result ≡ overlooks_operands operands.entry.dialect (trees_in operands.entry) }
+{
+    overlooks_ends(operands.dialect) && has_string_first(operands.nodes)
+}
+
+// Whether the engine's `<=` overlooks NULs at the end of its left side, and `>=` those of its right side, as
+// ClickHouse's do in version 18.
+fn overlooks_ends(dialect: Dialect) -> bool
+    ensures { result ≡ overlooks_ends dialect }
 {
     match dialect {
         Dialect::Postgres | Dialect::Sqlite | Dialect::DuckDb | Dialect::Spark => false,
@@ -187,7 +253,8 @@ fn not_words(dialect: Dialect) -> (&'static str, &'static str)
     }
 }
 
-// A value between two bounds: by one word where both are let in, else by two comparisons.
+// A value between two bounds: by one word where both are let in and nothing is lost or overlooked, else
+// by two comparisons.
 #[cycle(text)]
 pub(super) fn write_between<W: Write>(
     options: BetweenOptions,
@@ -196,11 +263,14 @@ pub(super) fn write_between<W: Write>(
 ) -> fmt::Result
     requires { length children.nodes.now ≡ 3 }
     ensures { let cs = sqls_in children.entry in WritesOnOk W.write_str_gives f.old result
-        (between_sql children.entry.dialect (has_text_first (trees_in children.entry)) (loses_bounds children.entry.dialect (trees_in children.entry)) (is_strict options.lower_strict) (is_strict options.upper_strict)
+        (between_sql children.entry.dialect (has_text_first (trees_in children.entry)) (loses_bounds children.entry.dialect (trees_in children.entry)) (overlooks_operands children.entry.dialect (trees_in children.entry)) (is_strict options.lower_strict) (is_strict options.upper_strict)
         (get_or cs 0 []) (get_or cs 1 []) (get_or cs 2 [])) f.new }
 {
     if loses_bounds(children) {
         return write_least_below(options, children, f);
+    }
+    if overlooks_operands(children) {
+        return write_both(options, children, f);
     }
     match options.lower_strict {
         StrictComparison::NonStrict => match options.upper_strict {
@@ -241,9 +311,10 @@ fn write_both<W: Write>(
     f: &mut Formatter<W>,
 ) -> fmt::Result
     requires { length children.nodes.now ≡ 3 }
-    ensures { let cs = sqls_in children.entry in let is_text = has_text_first (trees_in children.entry) in WritesOnOk W.write_str_gives f.old result
-        (both_sql (below_sql (is_strict options.lower_strict) (compared_sql children.entry.dialect is_text (get_or cs 1 [])) (get_or cs 0 []))
-        (below_sql (is_strict options.upper_strict) (compared_sql children.entry.dialect is_text (get_or cs 0 [])) (get_or cs 2 []))) f.new }
+    ensures { let cs = sqls_in children.entry in let is_text = has_text_first (trees_in children.entry) in
+        let overlooks = overlooks_operands children.entry.dialect (trees_in children.entry) in WritesOnOk W.write_str_gives f.old result
+        (both_sql (below_sql children.entry.dialect overlooks (is_strict options.lower_strict) (compared_sql children.entry.dialect is_text (get_or cs 1 [])) (get_or cs 0 []))
+        (below_sql children.entry.dialect overlooks (is_strict options.upper_strict) (compared_sql children.entry.dialect is_text (get_or cs 0 [])) (get_or cs 2 []))) f.new }
 {
     f.write_str("(")?;
     write_below(children, 1, options.lower_strict, 0, f)?;
@@ -259,9 +330,10 @@ fn write_least_below<W: Write>(
     f: &mut Formatter<W>,
 ) -> fmt::Result
     requires { length children.nodes.now ≡ 3 }
-    ensures { let cs = sqls_in children.entry in let is_text = has_text_first (trees_in children.entry) in WritesOnOk W.write_str_gives f.old result
-        (least_sql (codes "least") (below_sql (is_strict options.lower_strict) (compared_sql children.entry.dialect is_text (get_or cs 1 [])) (get_or cs 0 []))
-        (below_sql (is_strict options.upper_strict) (compared_sql children.entry.dialect is_text (get_or cs 0 [])) (get_or cs 2 []))) f.new }
+    ensures { let cs = sqls_in children.entry in let is_text = has_text_first (trees_in children.entry) in
+        let overlooks = overlooks_operands children.entry.dialect (trees_in children.entry) in WritesOnOk W.write_str_gives f.old result
+        (least_sql (codes "least") (below_sql children.entry.dialect overlooks (is_strict options.lower_strict) (compared_sql children.entry.dialect is_text (get_or cs 1 [])) (get_or cs 0 []))
+        (below_sql children.entry.dialect overlooks (is_strict options.upper_strict) (compared_sql children.entry.dialect is_text (get_or cs 0 [])) (get_or cs 2 []))) f.new }
 {
     write_least_opening("least", f)?;
     write_below(children, 1, options.lower_strict, 0, f)?;
@@ -282,8 +354,12 @@ fn write_below<W: Write>(
     requires lower { lower < length children.nodes.now }
     requires upper { upper < length children.nodes.now }
     ensures { let cs = sqls_in children.entry in WritesOnOk W.write_str_gives f.old result
-        (below_sql (is_strict strict) (compared_sql children.entry.dialect (has_text_first (trees_in children.entry)) (get_or cs lower [])) (get_or cs upper [])) f.new }
+        (below_sql children.entry.dialect (overlooks_operands children.entry.dialect (trees_in children.entry)) (is_strict strict)
+        (compared_sql children.entry.dialect (has_text_first (trees_in children.entry)) (get_or cs lower [])) (get_or cs upper [])) f.new }
 {
+    if matches!(strict, StrictComparison::NonStrict) && overlooks_operands(children) {
+        return write_turned(">", children, lower, upper, f);
+    }
     write_compared(children, lower, f)?;
     write_sign(strict.sign(), f)?;
     write_child(children, upper, f)

@@ -36,10 +36,16 @@ abbrev pub decreases-choices::write_fill : goal.decreases-choices::write_fill
 decreases-choices::write_fill g l = 16 * sizes_of (unbound_each (bounds_of l.children.nodes.now)) + 5
 
 abbrev pub decreases-operators::write_binary : goal.decreases-operators::write_binary
-decreases-operators::write_binary g l = 16 * sizes_of (unbound_each (bounds_of l.operands.nodes.now)) + 5
+decreases-operators::write_binary g l = 16 * sizes_of (unbound_each (bounds_of l.operands.nodes.now)) + 7
+
+abbrev pub decreases-operators::write_or_equal : goal.decreases-operators::write_or_equal
+decreases-operators::write_or_equal g l = 16 * sizes_of (unbound_each (bounds_of l.operands.nodes.now)) + 6
+
+abbrev pub decreases-operators::write_turned : goal.decreases-operators::write_turned
+decreases-operators::write_turned g l = 16 * sizes_of (unbound_each (bounds_of l.children.nodes.now)) + 4
 
 abbrev pub decreases-operators::write_comparison : goal.decreases-operators::write_comparison
-decreases-operators::write_comparison g l = 16 * sizes_of (unbound_each (bounds_of l.operands.nodes.now)) + 4
+decreases-operators::write_comparison g l = 16 * sizes_of (unbound_each (bounds_of l.children.nodes.now)) + 3
 
 abbrev pub decreases-operators::write_logic : goal.decreases-operators::write_logic
 decreases-operators::write_logic g l = 16 * sizes_of (unbound_each (bounds_of l.operands.nodes.now)) + 4
@@ -51,7 +57,7 @@ abbrev pub decreases-operators::write_operator : goal.decreases-operators::write
 decreases-operators::write_operator g l = 16 * sizes_of (unbound_each (bounds_of l.operands.nodes.now)) + 3
 
 abbrev pub decreases-operators::write_least_below : goal.decreases-operators::write_least_below
-decreases-operators::write_least_below g l = 16 * sizes_of (unbound_each (bounds_of l.children.nodes.now)) + 4
+decreases-operators::write_least_below g l = 16 * sizes_of (unbound_each (bounds_of l.children.nodes.now)) + 6
 
 abbrev pub decreases-operators::write_sum : goal.decreases-operators::write_sum
 decreases-operators::write_sum g l = 16 * sizes_of (unbound_each (bounds_of l.operands.nodes.now)) + 4
@@ -60,7 +66,7 @@ abbrev pub decreases-operators::write_not : goal.decreases-operators::write_not
 decreases-operators::write_not g l = 16 * sizes_of (unbound_each (bounds_of l.children.nodes.now)) + 5
 
 abbrev pub decreases-operators::write_between : goal.decreases-operators::write_between
-decreases-operators::write_between g l = 16 * sizes_of (unbound_each (bounds_of l.children.nodes.now)) + 5
+decreases-operators::write_between g l = 16 * sizes_of (unbound_each (bounds_of l.children.nodes.now)) + 7
 
 abbrev pub decreases-operators::write_from_to : goal.decreases-operators::write_from_to
 decreases-operators::write_from_to g l = 16 * sizes_of (unbound_each (bounds_of l.children.nodes.now)) + 4
@@ -69,13 +75,13 @@ abbrev pub decreases-operators::write_range : goal.decreases-operators::write_ra
 decreases-operators::write_range g l = 16 * sizes_of (unbound_each (bounds_of l.children.nodes.now)) + 3
 
 abbrev pub decreases-operators::write_both : goal.decreases-operators::write_both
-decreases-operators::write_both g l = 16 * sizes_of (unbound_each (bounds_of l.children.nodes.now)) + 4
+decreases-operators::write_both g l = 16 * sizes_of (unbound_each (bounds_of l.children.nodes.now)) + 6
 
 abbrev pub decreases-choices::write_choice : goal.decreases-choices::write_choice
 decreases-choices::write_choice g l = 16 * sizes_of (unbound_each (bounds_of l.children.nodes.now)) + 3
 
 abbrev pub decreases-operators::write_below : goal.decreases-operators::write_below
-decreases-operators::write_below g l = 16 * sizes_of (unbound_each (bounds_of l.children.nodes.now)) + 3
+decreases-operators::write_below g l = 16 * sizes_of (unbound_each (bounds_of l.children.nodes.now)) + 5
 
 abbrev pub decreases-operators::write_compared : goal.decreases-operators::write_compared
 decreases-operators::write_compared g l = 16 * sizes_of (unbound_each (bounds_of l.children.nodes.now)) + 2
