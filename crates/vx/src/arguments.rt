@@ -242,12 +242,26 @@ fn statistics<'a>(alloc: Global) -> Result<Arg<'a>, AllocError> {
         .conflicts_with("skip-errors")
 }
 
+/// The statistics of the chunks of which those are printed that have to be read.
+pub fn chunks<'a>(alloc: Global) -> Result<Arg<'a>, AllocError> {
+    Arg::new(alloc, "chunks")
+        .long("chunks")
+        .value_name("FILE")
+        .action(ArgAction::Set)
+        .help(
+            "Print which chunks have to be read, by a file of their statistics, or - for standard input",
+        )
+        .conflicts_with("data")?
+        .conflicts_with("sql")?
+        .conflicts_with("skip-errors")
+}
+
 /// Whether a plan is printed as JSON.
 pub fn json<'a>(alloc: Global) -> Arg<'a> {
     Arg::new(alloc, "json")
         .long("json")
         .action(ArgAction::SetTrue)
-        .help("Print JSON, as without --sql")
+        .help("Print JSON, as without --sql and --chunks")
 }
 
 /// The engine whose SQL the expression is.

@@ -1,6 +1,6 @@
 // The command line.
 use crate::arguments::{
-    add, chunk, count, dialect, expression, json, output, over_given_records,
+    add, chunk, chunks, count, dialect, expression, json, output, over_given_records,
     over_records_or_statistics, select, sql, table, typed_expression, with_args,
 };
 use clap::Command;
@@ -130,13 +130,16 @@ const PLAN: &str = "Examples:
   vx plan 'x >= 1' --schema '{x=i32}' --json
 prints an object of the plan's tree, its type and scope, the paths that are read, the root and the partitions
   vx plan 'x >= 1' --schema '{x=i32}' --sql postgres --table t
-prints a SELECT for that engine, and behind it what the engine can't take of the expression";
+prints a SELECT for that engine, and behind it what the engine can't take of the expression
+  vx plan 'x >= 1' --schema '{x=i32}' --chunks chunks.stats
+prints the number of each chunk that has to be read, and whether the expression is true of every row";
 
 fn plan<'a>(alloc: Global) -> Result<Command<'a>, AllocError> {
     let mut args = typed_expression(alloc)?;
     args.push(json(alloc))?;
     add(&mut args, sql(alloc)?.conflicts_with("json"))?;
     add(&mut args, table(alloc))?;
+    add(&mut args, chunks(alloc))?;
     let command = Command::new(alloc, "plan")
         .about("Prints the plan of a scan, as JSON or SQL")
         .after_help(PLAN);

@@ -17,7 +17,7 @@ use choices::dialect_named;
 use clap::ArgMatches;
 use clap::error::ErrorKind;
 use line::command_line;
-use records::{filter_of, output_of, over_records};
+use records::{chunks_form_of, filter_of, output_of, over_records};
 use schema::schema_of;
 use std::process::ExitCode;
 use std::{env, io};
@@ -75,6 +75,10 @@ fn asked(rt: &HostRuntime, matches: &ArgMatches<'_>) -> Result<Status> {
             over_records(rt, RecordsTask::Evaluate(output), u64::MAX, matches)
         }
         Some(("filter", matches)) => over_records(rt, filter_of(matches), u64::MAX, matches),
+        Some(("plan", matches)) if matches.contains_id("chunks") => {
+            let work = RecordsTask::PlanChunks(chunks_form_of(matches));
+            over_records(rt, work, u64::MAX, matches)
+        }
         Some(("plan", matches)) if matches.contains_id("sql") => {
             over_engine(rt, SqlTask::Plan, matches)
         }
@@ -94,7 +98,7 @@ fn asked(rt: &HostRuntime, matches: &ArgMatches<'_>) -> Result<Status> {
 
 // Whether more than one word asks for standard input.
 fn asks_input_twice(matches: &ArgMatches<'_>) -> bool {
-    let words = ["expression", "select", "schema", "data", "stats"];
+    let words = ["expression", "select", "schema", "data", "stats", "chunks"];
     let inputs = words.iter().filter(|id| matches.get_str(id) == Some("-"));
     inputs.count() > 1
 }

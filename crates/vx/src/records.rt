@@ -11,8 +11,8 @@ use std::io;
 use std::io::Read;
 use std::num::NonZeroUsize;
 use vx_commands::{
-    CsvFormat, DataFormat, Guess, OutputFormat, RecordsTask, RowsCommand, Schema, Source, Status,
-    run_rows,
+    ChunksForm, CsvFormat, DataFormat, Guess, OutputFormat, RecordsTask, RowsCommand, Schema,
+    Source, Status, run_rows,
 };
 
 /// The form in which rows are printed, as the words say.
@@ -35,6 +35,15 @@ pub fn filter_of(matches: &ArgMatches<'_>) -> RecordsTask {
     }
 }
 
+/// The form in which chunks that have to be read are printed.
+pub fn chunks_form_of(matches: &ArgMatches<'_>) -> ChunksForm {
+    if matches.get_flag("json") {
+        ChunksForm::Json
+    } else {
+        ChunksForm::Lines
+    }
+}
+
 /// Does that work on the records of the file that the words name, on so many of them where they don't
 /// say on how many.
 pub fn over_records(
@@ -46,6 +55,7 @@ pub fn over_records(
     let data = matches
         .get_str("data")
         .or_else(|| matches.get_str("stats"))
+        .or_else(|| matches.get_str("chunks"))
         .unwrap_or("-");
     let Some(format) = format_told(rt, matches, data)? else {
         return Ok(Status::Wrong);

@@ -4,5 +4,6 @@ pub mod Spans
 pub mod Pages
 pub mod PlanData
 pub mod PlanPages
+pub mod Tasks
 pub mod SqlPages
 pub mod Conjuncts

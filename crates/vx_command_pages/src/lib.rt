@@ -23,6 +23,7 @@ mod source;
 mod sources;
 mod spans;
 mod sql;
+mod tasks;
 mod types;
 mod unfit;
 
@@ -43,4 +44,5 @@ pub use shown::Shown;
 pub use source::source_page;
 pub use spans::span_at;
 pub use sql::{SqlError, SqlQuery, sql_explanation_page, sql_page};
+pub use tasks::{ChunkTask, chunk_tasks, planned_tasks_page, tasks_page};
 pub use types::type_page;

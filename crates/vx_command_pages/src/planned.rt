@@ -65,8 +65,8 @@ fn plan_line(alloc: Global, plan: &ScanPlan) -> Result<String, AllocError>
     value_line(alloc, &plan_value(alloc, plan)?)
 }
 
-// The value on one line. Asks one without floats.
-fn value_line(alloc: Global, value: &Value) -> Result<String, AllocError>
+/// The value on one line. Asks one without floats.
+pub(crate) fn value_line(alloc: Global, value: &Value) -> Result<String, AllocError>
     requires { has_float (view value.now) ≡ false }
     ensures { IfOk result (λ page. string_bytes page ≡ line (compact_text (view value.now))) }
 {

@@ -1,7 +1,9 @@
 // What stops a command that goes over records.
 ghost use Rattle.std.specs.Prelude.{◌≡◌};
+ghost use Rattle.vx_command_pages.specs.declared.error.CommandError.TheVariants.{OutOfMemory};
 ghost use Rattle.vx_commands.specs.declared.error.RowsError.TheVariants.{Query};
 
+use std::alloc::{AllocError, AllocFailed};
 use std::io::ErrorKind;
 use vx_command_pages::{CommandError, Span, Status};
 use vx_data::{DataError, WriteError};
@@ -62,5 +64,21 @@ impl From<CommandError> for RowsError {
 
     fn from(error: CommandError) -> RowsError {
         RowsError::Query(error)
+    }
+}
+
+impl From<AllocError> for RowsError {
+    ghost from_gives = { λ _ r. r ≡ Query OutOfMemory };
+
+    fn from(_e: AllocError) -> RowsError {
+        RowsError::Query(CommandError::OutOfMemory)
+    }
+}
+
+impl<T: Drop> From<AllocFailed<T>> for RowsError {
+    ghost from_gives = { λ _ r. r ≡ Query OutOfMemory };
+
+    fn from(_e: AllocFailed<T>) -> RowsError {
+        RowsError::Query(CommandError::OutOfMemory)
     }
 }

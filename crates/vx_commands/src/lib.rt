@@ -2,6 +2,7 @@
 #![tactic(auto)]
 
 mod asked;
+mod chunk_plan;
 mod chunked;
 mod columns;
 mod command;
@@ -25,6 +26,7 @@ mod stop;
 mod table;
 mod tasks;
 
+pub use chunk_plan::{ChunksForm, plan_chunks};
 pub use chunked::{ChunkedQuery, filter_by_chunks};
 pub use columns::ColumnType;
 pub use command::{Command, Query, page_of};

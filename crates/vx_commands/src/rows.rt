@@ -1,5 +1,6 @@
 // A run of the program over the records of a file.
 use crate::asked::asked_paths;
+use crate::chunk_plan::{ChunksForm, plan_chunks};
 use crate::data::{
     DataFormat, GUESSED_JSON, Guess, Schema, Source, buffered, inferred_type, opened, unwritten,
 };
@@ -43,6 +44,8 @@ pub enum RecordsTask {
     /// What becomes of the expression is written, and what is known of it in each chunk: the records are
     /// statistics of chunks of rows of the schema's type, as JSON lines.
     ExplainChunks,
+    /// Which chunks have to be read is written in that form; the records are such statistics.
+    PlanChunks(ChunksForm),
 }
 
 /// A command that goes over the records of a file.
@@ -132,7 +135,9 @@ fn gone_over<D: Source + Drop, W: Write, E: Write>(
         err,
     };
     match (command.work, command.format) {
-        (RecordsTask::ExplainChunks, _) => Ok(run.chunks_explained(&query, data)?),
+        (RecordsTask::ExplainChunks | RecordsTask::PlanChunks(_), _) => {
+            Ok(run.over_chunks(&query, data)?)
+        }
         (_, DataFormat::Json) => run.over_json(query, data),
         (_, DataFormat::Csv(format)) => run.over_csv(format, query, data),
     }
@@ -214,15 +219,17 @@ impl<W: Write, E: Write> Run<'_, '_, W, E> {
         done
     }
 
-    // Writes what becomes of the expression, and what the records tell of it in each chunk.
-    fn chunks_explained<D: Read + Drop>(self, query: &ReadQuery, data: D) -> Result<(), RowsError> {
+    // Does with the statistics of chunks that the records are what the command says.
+    fn over_chunks<D: Read + Drop>(self, query: &ReadQuery, data: D) -> Result<(), RowsError> {
         let Run {
             alloc,
             command,
             out,
             ..
         } = self;
-        write_explanation(alloc, query, &mut *out)?;
+        if command.work == RecordsTask::ExplainChunks {
+            write_explanation(alloc, query, &mut *out)?;
+        }
         let Ok(chunks) = ChunkRecords::new(alloc, &query.scope) else {
             return Err(RowsError::Query(CommandError::OutOfMemory));
         };
@@ -236,7 +243,10 @@ impl<W: Write, E: Write> Run<'_, '_, W, E> {
             chunks: &chunks,
             limit: command.limit,
         };
-        explain_chunks(alloc, &query, &mut records, out)
+        match command.work {
+            RecordsTask::PlanChunks(form) => plan_chunks(alloc, &query, form, &mut records, out),
+            _ => explain_chunks(alloc, &query, &mut records, out),
+        }
     }
 }
 

@@ -51,7 +51,7 @@ pub(crate) fn worked<R: RecordReader, W: Write, E: Write>(
             Ok(filter_by_chunks(alloc, &query, records, out, err)?)
         }
         RecordsTask::Evaluate(format) => Ok(evaluated(alloc, query, format, records, out)?),
-        RecordsTask::Explain | RecordsTask::ExplainChunks => {
+        RecordsTask::Explain | RecordsTask::ExplainChunks | RecordsTask::PlanChunks(_) => {
             Ok(explained(alloc, query, records, out)?)
         }
     }
