@@ -3,7 +3,7 @@ ghost use Rattle.std.specs.Prelude.{◌≡◌, ◌<◌, ℕ, IfOk, IsTrue, true,
 ghost use Rattle.vx_eval_masks.specs.Merges.{EachMask};
 ghost use Rattle.vx_eval.specs.Choices.{EachBatch};
 ghost use Rattle.vx_eval.specs.Columns.{AllLong};
-ghost use Rattle.vx_eval.specs.FirstMerged.{InSomeMask, columns_in, masks_in};
+ghost use Rattle.vx_eval.specs.FirstMerged.{columns_in, masks_in};
 ghost use Rattle.vx_value.specs.Fits.{IsBatch};
 ghost use Rattle.vx_value.specs.Views.{type_of};
 
@@ -16,7 +16,7 @@ use vx_dtype::laws::types_are_equal_exactly;
 use vx_eval::{RowMask, merge_compact, merge_runs, prefer_runs};
 use vx_test_support::{column, i32_type, reads};
 use vx_tree::Nullability::NonNullable;
-use vx_tree::{Column, DType, VortexResult};
+use vx_tree::{Column, DType, VortexError, VortexResult};
 
 /// The mask of a text of `t` and `f`.
 pub fn mask(alloc: Global, text: &str) -> Result<RowMask, AllocError> {
@@ -164,7 +164,6 @@ fn merged_arrays(
     requires masks { EachMask (length of.now.rest) (masks_in of.now.branches) }
     requires columns { AllLong (length of.now.rest) (columns_in of.now.branches) }
     requires last { length of.now.otherwise.rows ≡ length of.now.rest }
-    requires some { InSomeMask of.now.branches of.now.rest }
     requires fit { EachBatch (type_of dtype.now) (columns_in of.now.branches) }
     requires last_fit { IsBatch (type_of dtype.now) of.now.otherwise.rows }
 {
@@ -173,6 +172,9 @@ fn merged_arrays(
         (first.0.clone()?, array(alloc, over, &first.1)?),
         (second.0.clone()?, array(alloc, over, &second.1)?),
     ];
+    if !covers(&of.rest, &branches[0].0, &branches[1].0) {
+        return Err(VortexError::LengthMismatch);
+    }
     let otherwise = array(alloc, over, &of.otherwise)?;
     let merged = match by {
         By::Runs => merge_runs_array(alloc, &branches, &of.rest, &otherwise, dtype)?,
