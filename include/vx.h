@@ -59,8 +59,8 @@ enum vx_end {
     VX_REFUSED = 4,
     /* The expression faults at a record, or at a row. */
     VX_FAULTED = 5,
-    /* A record isn't JSON of the schema's type, a line is no statistics, or a buffer isn't laid out as the
-       type asks. */
+    /* A record isn't JSON of the schema's type, a line is no statistics, a buffer isn't laid out as the type asks,
+       or texts, bytes or items of an answered column take more than its offsets of 32 bits say. */
     VX_BAD_DATA = 6,
     /* The vx_plan holds no plan. */
     VX_NO_PLAN = 7
@@ -161,6 +161,9 @@ vx_status vx_plan_share(vx_plan *plan, vx_plan *other);
 /* The type of the plan's batches as source text, on a line. */
 vx_status vx_plan_scope(vx_plan *plan, char *buffer, size_t buffer_length, vx_answer *answer);
 
+/* The type of the plan's expression as source text, on a line. */
+vx_status vx_plan_type(vx_plan *plan, char *buffer, size_t buffer_length, vx_answer *answer);
+
 /* The paths of the fields that the plan reads: on a line an array of them, each an array of its names, as
    [["x"],["a","b"]]. The path without a name is the whole row. */
 vx_status vx_plan_paths(vx_plan *plan, char *buffer, size_t buffer_length, vx_answer *answer);
@@ -188,6 +191,17 @@ vx_status vx_plan_scan(vx_plan *plan, size_t rows, const vx_buffer *buffers, siz
    or null. The batch is as vx_plan_scan takes it; an expression of another type than bool is refused. */
 vx_status vx_plan_select(vx_plan *plan, size_t rows, const vx_buffer *buffers, size_t buffers_length,
                          char *buffer, size_t buffer_length, vx_answer *answer);
+
+/* What the expression means at each row of a batch, as a column in buffers: 8 bytes with the number of rows,
+   and of each buffer, in the order above, 8 bytes with its length, its bytes, and zeros up to a multiple of 8
+   bytes. vx_arrow.h has the same as a column of Arrow's. */
+vx_status vx_plan_scan_column(vx_plan *plan, size_t rows, const vx_buffer *buffers, size_t buffers_length,
+                              char *buffer, size_t buffer_length, vx_answer *answer);
+
+/* The rows of a batch at which the expression is true, as such a column of the batch's type. Ends as
+   vx_plan_select does. */
+vx_status vx_plan_filter_column(vx_plan *plan, size_t rows, const vx_buffer *buffers, size_t buffers_length,
+                                char *buffer, size_t buffer_length, vx_answer *answer);
 
 /* Lets go of the plan, if there is one, which is freed with its last handle. Then *plan holds none. */
 void vx_plan_free(vx_plan *plan);

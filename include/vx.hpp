@@ -133,6 +133,26 @@ template <class Number> vx_buffer lend(const std::vector<Number> &numbers) {
     return {numbers.data(), numbers.size() * sizeof(Number)};
 }
 
+// A column that a plan answers, for any Arrow library. What isn't moved out of it is released as it goes.
+struct Column {
+    ArrowSchema type{};
+    ArrowArray array{};
+
+    Column() = default;
+    Column(Column &&other) noexcept : type(std::exchange(other.type, {})), array(std::exchange(other.array, {})) {}
+    Column &operator=(Column &&other) noexcept {
+        std::swap(type, other.type);
+        std::swap(array, other.array);
+        return *this;
+    }
+    ~Column() {
+        if (type.release)
+            type.release(&type);
+        if (array.release)
+            array.release(&array);
+    }
+};
+
 // A plan of scans by the expression over batches of the schema's type, or of the type of Arrow columns. A copy
 // shares it and takes no more than a count, so that each thread can have its own: on one object calls are made
 // one at a time, and copying it is a call, too. What it is moved to has it then, and its calls throw VX_NO_PLAN.
@@ -161,6 +181,13 @@ class Plan {
         }));
     }
 
+    // The type of its expression.
+    std::string type() {
+        return detail::line(detail::answered<std::string>([&](char *buffer, std::size_t room, vx_answer *answer) {
+            return vx_plan_type(&plan_, buffer, room, answer);
+        }));
+    }
+
     // The paths of the fields that are read, each from the row on: {{"x"}, {"a", "b"}}.
     std::vector<std::vector<std::string>> paths() {
         return detail::names_of(detail::answered<std::string>([&](char *buffer, std::size_t room, vx_answer *answer) {
@@ -183,7 +210,23 @@ class Plan {
         return on_array<std::string>(vx_plan_scan_arrow_json, type, array);
     }
 
+    // The value at each row, as a column.
+    Column scan(const ArrowSchema &type, const ArrowArray &array) { return column_of(vx_plan_scan_arrow, type, array); }
+    // The rows at which the expression is true, as a column of the plan's type.
+    Column filter(const ArrowSchema &type, const ArrowArray &array) {
+        return column_of(vx_plan_filter_arrow, type, array);
+    }
+
   private:
+    template <class Call> Column column_of(Call call, const ArrowSchema &type, const ArrowArray &array) {
+        Column column;
+        detail::answered<std::string>([&](char *buffer, std::size_t room, vx_answer *answer) {
+            return call(&plan_, schema_.data(), schema_.size(), &type, &array, &column.array, &column.type, buffer,
+                        room, answer);
+        });
+        return column;
+    }
+
     void swap(Plan &other) noexcept {
         std::swap(plan_, other.plan_);
         schema_.swap(other.schema_);

@@ -1,5 +1,5 @@
 /*
- * vx_arrow.h: columns of any Arrow library, by Arrow's C data interface, into the calls of vx.h.
+ * vx_arrow.h: columns of any Arrow library, by Arrow's C data interface, into the calls of vx.h and out of them.
  *
  * A library exports a column as an ArrowSchema, its type, and an ArrowArray, its buffers:
  *
@@ -12,7 +12,7 @@
  *
  * Who owns what. The calls read both structs, and change nothing in them. They call no release, neither for
  * an answer nor for an error: who holds the structs has to release them afterwards, as before. Nothing of
- * them is kept, and memory that a call takes is freed before it returns.
+ * them is kept, and memory that a call takes is freed before it returns, but for that of a column that it answers.
  *
  * What is copied. Numbers, offsets and bytes are lent where they lie, at any address; so are bits that begin
  * with a byte. Bits that begin within one, as those of a slice may, are copied: a bit for each row.
@@ -93,6 +93,23 @@ vx_status vx_plan_select_arrow(vx_plan *plan, const char *schema, size_t schema_
 vx_status vx_plan_scan_arrow_json(vx_plan *plan, const char *schema, size_t schema_length,
                                   const struct ArrowSchema *type, const struct ArrowArray *array,
                                   char *buffer, size_t buffer_length, vx_answer *answer);
+
+/* What the expression means at each row of the array, as a column: *values is its array, and *values_type its
+   type, which may be a null pointer. What is given is as vx_plan_select_arrow takes it.
+
+   Where the call answers, the structs are the caller's, who has to call release of each. Until then they keep
+   what they point to, also where a child was moved out. They don't need the array that was given, nor the plan.
+   Where it doesn't, both have release NULL. The buffer is for a message alone. */
+vx_status vx_plan_scan_arrow(vx_plan *plan, const char *schema, size_t schema_length,
+                             const struct ArrowSchema *type, const struct ArrowArray *array,
+                             struct ArrowArray *values, struct ArrowSchema *values_type,
+                             char *buffer, size_t buffer_length, vx_answer *answer);
+
+/* The rows of the array at which the expression is true, as a column of the plan's type in the same way. */
+vx_status vx_plan_filter_arrow(vx_plan *plan, const char *schema, size_t schema_length,
+                               const struct ArrowSchema *type, const struct ArrowArray *array,
+                               struct ArrowArray *rows, struct ArrowSchema *rows_type,
+                               char *buffer, size_t buffer_length, vx_answer *answer);
 
 #ifdef __cplusplus
 }

@@ -142,29 +142,34 @@ static vx_status lend_array(Call *call, const Path *at, const struct ArrowSchema
     return status;
 }
 
-/* --- calls on a plan --- */
-
-/* A call of vx.h on a plan and a batch. */
-typedef vx_status Scan(vx_plan *plan, size_t rows, const vx_buffer *buffers, size_t buffers_length, char *buffer,
-                       size_t buffer_length, vx_answer *answer);
-
-/* Lends the array, which is of the layout of the schema, to the call. */
-static vx_status scanned(Call *call, Scan *scan, vx_plan *plan, const struct ArrowSchema *type,
-                         const struct ArrowArray *array)
+vx_status arrow_lend(Call *call, const struct ArrowSchema *type, const struct ArrowArray *array)
 {
     call->lent = malloc(call->count * sizeof *call->lent);
     if (!call->lent)
         return arrow_out_of_memory(call);
     call->count = 0;
-    vx_status status = lend_array(call, &ARROW_ROW, type, array, 0, array ? array->length : 0);
-    if (status == VX_ANSWERED)
-        status = scan(plan, (size_t)array->length, call->lent, call->count, call->buffer, call->room, call->answer);
+    return lend_array(call, &ARROW_ROW, type, array, 0, array ? array->length : 0);
+}
+
+void arrow_let_go(Call *call)
+{
     while (call->copies) {
         Copy *copy = call->copies;
         call->copies = copy->next;
         free(copy);
     }
     free(call->lent);
+}
+
+/* --- calls on a plan --- */
+
+static vx_status scanned(Call *call, Scan *scan, vx_plan *plan, const struct ArrowSchema *type,
+                         const struct ArrowArray *array)
+{
+    vx_status status = arrow_lend(call, type, array);
+    if (status == VX_ANSWERED)
+        status = scan(plan, (size_t)array->length, call->lent, call->count, call->buffer, call->room, call->answer);
+    arrow_let_go(call);
     return status;
 }
 

@@ -4,6 +4,8 @@
 
 #include "vx_arrow.h"
 
+#include <stdatomic.h>
+
 typedef enum { BITS, NUMBERS, BYTES, LIST, FIXED_SIZE_LIST, STRUCT } Layout;
 
 /* How many buffers and children an array of each layout has; a struct may have more children. */
@@ -43,6 +45,24 @@ typedef struct {
     Copy *copies;
 } Call;
 
+/* A call of vx.h on a plan and a batch. */
+typedef vx_status Scan(vx_plan *plan, size_t rows, const vx_buffer *buffers, size_t buffers_length, char *buffer,
+                       size_t buffer_length, vx_answer *answer);
+
+/* What all structs of a tree share that the library hands out: each may be released by itself, on any thread. */
+typedef struct {
+    /* How many of them aren't released. */
+    atomic_size_t left;
+    /* What they point into, or a null pointer. */
+    char *page;
+} Owner;
+
+/* One of so many structs, with so much room of zeros behind it; a null pointer where memory runs out. */
+Owner *arrow_owner(size_t structs, size_t room);
+
+/* One of the structs is released: with the last of them all is freed. */
+void arrow_disowned(Owner *owner);
+
 /* Ends the call with the message "error: batch: $.a.b: ", what and more, where the buffer has room for it. */
 vx_status arrow_stop(const Call *call, enum vx_text of, const Path *at, const char *what, const char *more);
 
@@ -60,5 +80,17 @@ Path arrow_child(const Path *at, const struct ArrowSchema *child);
 
 /* Whether all of the type is taken and its layout is that of the schema's text. Counts the buffers. */
 vx_status arrow_layout(Call *call, const struct ArrowSchema *type, const char *schema, size_t schema_length);
+
+/* Lends the array, which is of the layout of the schema that arrow_layout took, to a call of vx.h. Let go of it
+   at any status. */
+vx_status arrow_lend(Call *call, const struct ArrowSchema *type, const struct ArrowArray *array);
+
+void arrow_let_go(Call *call);
+
+/* The format that stands for a word of source text. */
+const char *arrow_format(const char *word, size_t length);
+
+/* The type that a text of the library's says. */
+vx_status arrow_schema_of(const Call *call, const char *text, size_t length, struct ArrowSchema *schema);
 
 #endif

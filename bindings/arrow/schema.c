@@ -119,6 +119,14 @@ static bool is_read(const char *format, Type *type)
     return type->size <= UINT32_MAX; /* (what is too long for strtoll is the most that it has) */
 }
 
+const char *arrow_format(const char *word, size_t length)
+{
+    for (size_t i = 0; i < sizeof TYPES / sizeof TYPES[0]; i++)
+        if (strlen(TYPES[i].word) == length && memcmp(TYPES[i].word, word, length) == 0)
+            return TYPES[i].format;
+    return "";
+}
+
 vx_status arrow_type(const Call *call, const Path *at, const struct ArrowSchema *schema, Type *type)
 {
     if (!schema || !schema->release || !schema->format)

@@ -35,6 +35,19 @@ Answered selected_column(vx_plan *plan, Text schema, const Column *column)
     return a;
 }
 
+Answered column_out(ColumnCall *call, vx_plan *plan, Text schema, const Column *column, Column *values)
+{
+    Answered a = with_room(1);
+    do {
+        memset(values, 1, sizeof *values);
+        a.status = call(plan, schema.bytes, schema.length, &column->schema, &column->array, &values->array,
+                        &values->schema, a.text, a.room, &a.answer);
+        bool is_there = a.status == VX_ANSWERED;
+        EXPECT((values->array.release != NULL) == is_there && (values->schema.release != NULL) == is_there);
+    } while (is_grown(&a));
+    return a;
+}
+
 /* A plan of the expression over the column's own type, whose text is freed by whoever asked. */
 vx_plan plan_over(const char *expression, const Column *column, Text *schema)
 {
@@ -421,6 +434,113 @@ static void test_alike(void)
     release_column(&c);
 }
 
+/* --- columns that are answered --- */
+
+/* The call answers a column of that type with these lines, in one piece. */
+static Column expect_column(ColumnCall *call, vx_plan *plan, Text schema, const Column *c, const char *type,
+                            const char *lines)
+{
+    Column values;
+    Answered a = column_out(call, plan, schema, c, &values);
+    expect(a.status == VX_ANSWERED && a.answer.needed == 0 && is_at(&a.answer, (vx_place){0}), lines, __FILE__,
+           __LINE__);
+    if (a.status != VX_ANSWERED) {
+        fprintf(stderr, "  status %u: %.*s\n", a.status, (int)a.answer.needed, a.text);
+        exit(1);
+    }
+    free(a.text);
+    char *found = lines_of(&values.schema, &values.array);
+    expect(strcmp(found, lines) == 0, lines, __FILE__, __LINE__);
+    free(found);
+    expect_type(&values.schema, type);
+    EXPECT(values.array.offset == 0 && !values.array.dictionary && !values.schema.dictionary);
+    return values;
+}
+
+static bool is_aligned(const void *bytes)
+{
+    return (uintptr_t)bytes % 8 == 0;
+}
+
+/* Four rows: numbers of which one is null, and texts. */
+static Column four_rows(void)
+{
+    static const int32_t NUMBERS[] = {1, 2, -3, INT32_MAX}, ENDS[] = {0, 1, 1, 3, 4};
+    Column fields[] = {column_of("i", true, 0, 4), column_of("u", false, 0, 4)};
+    *(unsigned char *)fields[0].array.buffers[0] = 13;
+    fields[0].array.null_count = 1;
+    memcpy((void *)fields[0].array.buffers[1], NUMBERS, sizeof NUMBERS);
+    memcpy((void *)fields[1].array.buffers[1], ENDS, sizeof ENDS);
+    fields[1].array.buffers[2] = realloc((void *)fields[1].array.buffers[2], 4);
+    if (!fields[1].array.buffers[2])
+        abort();
+    memcpy((void *)fields[1].array.buffers[2], "tabc", 4);
+    return struct_of(fields, 2, false, 0, 4);
+}
+
+static void test_values_out(const Column *c)
+{
+    Text schema;
+    vx_plan plan = plan_over("b like 'a%'", c, &schema);
+    Column values = expect_column(vx_plan_scan_arrow, &plan, schema, c, "bool", "false\nfalse\ntrue\nfalse\n");
+    EXPECT(values.array.n_buffers == 2 && !values.array.buffers[0] && is_aligned(values.array.buffers[1]));
+    EXPECT(values.array.null_count == 0 && strcmp(values.schema.name, "") == 0);
+    release_column(&values);
+    values = expect_column(vx_plan_filter_arrow, &plan, schema, c, "{a=i32?, b=utf8}", "{\"a\":-3,\"b\":\"ab\"}\n");
+    EXPECT(values.array.n_buffers == 1 && !values.array.children[0]->buffers[0]);
+    release_column(&values);
+    free((char *)schema.bytes);
+    vx_plan_free(&plan);
+    plan = plan_over("a", c, &schema);
+    values = expect_column(vx_plan_scan_arrow, &plan, schema, c, "i32?", "1\nnull\n-3\n2147483647\n");
+    EXPECT(values.array.null_count == 1 && is_aligned(values.array.buffers[0]) && is_aligned(values.array.buffers[1]));
+    release_column(&values);
+    vx_answer answer;
+    char page[1];
+    vx_status status = vx_plan_scan_arrow(&plan, schema.bytes, schema.length, &c->schema, &c->array, &values.array, NULL,
+                                          page, 1, &answer);
+    EXPECT(status == VX_ANSWERED && values.array.length == 4);
+    values.array.release(&values.array);
+    EXPECT(!values.array.release);
+    Answered a = column_out(vx_plan_filter_arrow, &plan, schema, c, &values);
+    EXPECT(a.status == VX_REFUSED && begins(&a, "error: the expression is of type i32?, and not of truth values"));
+    free(a.text);
+    vx_plan_free(&plan);
+    a = column_out(vx_plan_scan_arrow, &plan, schema, c, &values);
+    EXPECT(a.status == VX_NO_PLAN && begins(&a, "error: there is no plan"));
+    free(a.text);
+    free((char *)schema.bytes);
+}
+
+/* What stops a call, with its place; and a column that is told nothing of. */
+static void test_stops_out(Column *c)
+{
+    Text schema;
+    vx_plan plan = plan_over("a + 1", c, &schema);
+    Column values;
+    Answered a = column_out(vx_plan_scan_arrow, &plan, schema, c, &values);
+    EXPECT(a.status == VX_FAULTED && a.answer.place.record == 4);
+    free(a.text);
+    a = column_out(vx_plan_scan_arrow, &plan, text_of("{a=i32?}"), c, &values);
+    EXPECT(a.status == VX_BAD_DATA && begins(&a, "error: batch: $: expected a batch of the plan's type"));
+    free(a.text);
+    c->array.n_buffers = 2;
+    a = column_out(vx_plan_scan_arrow, &plan, schema, c, &values);
+    EXPECT(a.status == VX_BAD_DATA && says(&a, "error: batch: $: expected n_buffers 1, and not 2"));
+    free(a.text);
+    c->array.n_buffers = 1;
+    vx_plan_free(&plan);
+    free((char *)schema.bytes);
+}
+
+static void test_columns_out(void)
+{
+    Column c = four_rows();
+    test_values_out(&c);
+    test_stops_out(&c);
+    release_column(&c);
+}
+
 void test_arrow(void)
 {
     start_chance(1);
@@ -429,5 +549,6 @@ void test_arrow(void)
     test_offsets();
     test_wrong_fields();
     test_alike();
+    test_columns_out();
     EXPECT(live_structs == 0);
 }

@@ -46,6 +46,73 @@ static void check_values(const Column *c)
     free((char *)schema.bytes);
 }
 
+/* A child of the column, moved out of it. */
+static Column moved_out(Column *values, size_t i)
+{
+    Column moved = {*values->schema.children[i], *values->array.children[i]};
+    values->schema.children[i]->release = NULL;
+    values->array.children[i]->release = NULL;
+    return moved;
+}
+
+/* The column, or a child that was moved out before the rest was released, is still there, and is released. */
+static void let_go(Column *values)
+{
+    if (values->array.n_children == 0 || by_chance(2)) {
+        release_column(values);
+        return;
+    }
+    Column moved = moved_out(values, by_chance((size_t)values->array.n_children));
+    char *before = lines_of(&moved.schema, &moved.array);
+    release_column(values);
+    char *after = lines_of(&moved.schema, &moved.array);
+    need(strcmp(before, after) == 0, "another child", &moved);
+    free(before);
+    free(after);
+    release_column(&moved);
+}
+
+/* What the expression answers of the column, by the call, is a column of these lines. */
+static void check_column(ColumnCall *call, const char *expression, const Column *c, const char *wanted)
+{
+    Text schema, type;
+    vx_plan plan = plan_over(expression, c, &schema), other;
+    Column values;
+    Answered a = column_out(call, &plan, schema, c, &values);
+    need(a.status == VX_ANSWERED, "no column", c);
+    if (a.status == VX_ANSWERED) {
+        char *lines = lines_of(&values.schema, &values.array);
+        need(strcmp(lines, wanted) == 0, "another column", c);
+        free(lines);
+        other = plan_over("$", &values, &type);
+        need(type.length == schema.length && memcmp(type.bytes, schema.bytes, type.length) == 0, "another type", c);
+        vx_plan_free(&other);
+        free((char *)type.bytes);
+        let_go(&values);
+    }
+    free(a.text);
+    vx_plan_free(&plan);
+    free((char *)schema.bytes);
+}
+
+/* The column itself, and its rows that aren't null. */
+static void check_columns(const Column *c)
+{
+    char *lines = lines_of(&c->schema, &c->array), *to = lines;
+    check_column(vx_plan_scan_arrow, "$", c, lines);
+    for (const char *from = lines; *from;) {
+        size_t length = strcspn(from, "\n") + 1;
+        if (strncmp(from, "null\n", 5) != 0) {
+            memmove(to, from, length);
+            to += length;
+        }
+        from += length;
+    }
+    *to = 0;
+    check_column(vx_plan_filter_arrow, "$ is not null", c, lines);
+    free(lines);
+}
+
 /* --- what is wrong --- */
 
 /* Puts what can't be in the place of one of an array's fields. */
@@ -77,7 +144,7 @@ static void break_schema(struct ArrowSchema *schema)
     }
 }
 
-/* Breaks one struct of the column by chance, asks the call, and mends it. */
+/* Breaks one struct of the column by chance, asks one of the calls, and mends it. */
 static void check_broken(Column *c, vx_plan *plan, Text schema)
 {
     struct ArrowSchema *type = &c->schema;
@@ -93,7 +160,9 @@ static void check_broken(Column *c, vx_plan *plan, Text schema)
         break_array(array);
     else
         break_schema(type);
-    Answered a = scanned_column(plan, schema, c);
+    Column values;
+    ColumnCall *call = by_chance(2) ? vx_plan_scan_arrow : vx_plan_filter_arrow;
+    Answered a = by_chance(2) ? scanned_column(plan, schema, c) : column_out(call, plan, schema, c, &values);
     *type = was_type;
     *array = was_array;
     need(a.status == VX_BAD_DATA && begins(&a, "error: "), "a broken struct", c);
@@ -107,6 +176,7 @@ int arrow_by_chance(size_t times, uint64_t seed)
         Column c = random_column(3, by_chance(4) ? by_chance(20) : by_chance(3));
         Text schema;
         check_values(&c);
+        check_columns(&c);
         vx_plan plan = plan_over("$", &c, &schema);
         for (int turn = 0; turn < 4; turn++)
             check_broken(&c, &plan, schema);
@@ -122,24 +192,54 @@ int arrow_by_chance(size_t times, uint64_t seed)
 
 enum { THREADS = 8, TURNS = 50, ROWS = 3000 };
 
+static const char SHARED[] = "{a=i32?, b=bool?}";
 static Column shared;
 static char wanted[ROWS];
 
-/* Selects rows of the shared batch by the plan that is given, and by others that it shares and lets go of;
-   answers how often that is wrong. */
+static void *release_there(void *column)
+{
+    release_column(column);
+    return NULL;
+}
+
+/* How many rows of the shared batch are answered as a column, of which another thread lets go of a field. */
+static int64_t filtered(vx_plan *plan)
+{
+    Column rows;
+    char page[200];
+    vx_answer answer;
+    pthread_t thread;
+    if (vx_plan_filter_arrow(plan, SHARED, strlen(SHARED), &shared.schema, &shared.array, &rows.array, &rows.schema,
+                             page, sizeof page, &answer) != VX_ANSWERED)
+        return -1;
+    int64_t count = rows.array.length;
+    Column moved = moved_out(&rows, 0);
+    if (pthread_create(&thread, NULL, release_there, &moved) != 0)
+        abort();
+    release_column(&rows);
+    pthread_join(thread, NULL);
+    return count;
+}
+
+/* Selects and filters rows of the shared batch by the plan that is given, and by others that it shares and lets
+   go of; answers how often that is wrong. */
 static void *work(void *given)
 {
     size_t wrong = 0;
+    int64_t selected = 0;
     char page[ROWS];
     vx_answer answer;
     vx_plan *plan = given;
+    for (size_t row = 0; row < ROWS; row++)
+        selected += wanted[row];
     for (int turn = 0; turn < TURNS; turn++) {
         vx_plan other = VX_PLAN_INIT;
         wrong += vx_plan_share(plan, &other) != VX_ANSWERED;
         vx_plan *used = turn % 2 ? plan : &other;
-        vx_status status = vx_plan_select_arrow(used, "{a=i32?, b=bool?}", 17, &shared.schema, &shared.array, page, ROWS,
+        vx_status status = vx_plan_select_arrow(used, SHARED, strlen(SHARED), &shared.schema, &shared.array, page, ROWS,
                                                 &answer);
         wrong += status != VX_ANSWERED || memcmp(page, wanted, ROWS) != 0;
+        wrong += filtered(used) != selected;
         vx_plan_free(&other);
     }
     vx_plan_free(plan);
@@ -163,7 +263,7 @@ int arrow_threads(void)
     vx_plan plan = VX_PLAN_INIT, plans[THREADS] = {VX_PLAN_INIT};
     char page[200];
     vx_answer answer;
-    wrong += vx_plan_new("a > 0 or b", 10, "{a=i32?, b=bool?}", 17, &plan, page, sizeof page, &answer) != VX_ANSWERED;
+    wrong += vx_plan_new("a > 0 or b", 10, SHARED, strlen(SHARED), &plan, page, sizeof page, &answer) != VX_ANSWERED;
     for (size_t i = 0; i < THREADS; i++) {
         wrong += vx_plan_share(&plan, &plans[i]) != VX_ANSWERED;
         if (pthread_create(&threads[i], NULL, work, &plans[i]) != 0)

@@ -48,4 +48,11 @@ vx_plan plan_over(const char *expression, const Column *column, Text *schema);
 Answered scanned_column(vx_plan *plan, Text schema, const Column *column);
 Answered selected_column(vx_plan *plan, Text schema, const Column *column);
 
+/* The calls that answer columns, which are released by whoever asked where they answered. */
+typedef vx_status ColumnCall(vx_plan *plan, const char *schema, size_t schema_length, const struct ArrowSchema *type,
+                             const struct ArrowArray *array, struct ArrowArray *values,
+                             struct ArrowSchema *values_type, char *buffer, size_t room, vx_answer *answer);
+
+Answered column_out(ColumnCall *call, vx_plan *plan, Text schema, const Column *column, Column *values);
+
 #endif

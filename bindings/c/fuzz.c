@@ -147,7 +147,7 @@ static size_t random_buffers(vx_buffer *buffers, char *const memory[MOST_BUFFERS
 static void fuzz_plans(size_t times, char *const memory[4])
 {
     static const char *const GOOD[] = {"x + 1 > 5 and s like \"t%\"", "x + 2147483647", "l", "$", "f"};
-    Tally made = {0}, paths = {0}, scans = {0}, selects = {0};
+    Tally made = {0}, paths = {0}, scans = {0}, selects = {0}, columns = {0}, filters = {0};
     vx_plan plan = VX_PLAN_INIT;
     char *lent[MOST_BUFFERS];
     for (size_t i = 0; i < MOST_BUFFERS; i++)
@@ -175,12 +175,18 @@ static void fuzz_plans(size_t times, char *const memory[4])
         count(&scans, "vx_plan_scan", status, answer.needed, room);
         status = vx_plan_select(&plan, rows, buffers, number, buffer, room, &answer);
         count(&selects, "vx_plan_select", status, answer.needed, room);
+        status = vx_plan_scan_column(&plan, rows, buffers, number, buffer, room, &answer);
+        count(&columns, "vx_plan_scan_column", status, answer.needed, room);
+        status = vx_plan_filter_column(&plan, rows, buffers, number, buffer, room, &answer);
+        count(&filters, "vx_plan_filter_column", status, answer.needed, room);
     }
     vx_plan_free(&plan);
     print("new", &made);
     print("paths", &paths);
     print("scan", &scans);
     print("select", &selects);
+    print("scan column", &columns);
+    print("filter column", &filters);
 }
 
 int fuzz(size_t times, uint64_t seed)

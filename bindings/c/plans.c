@@ -248,6 +248,10 @@ static void expect_no_plan(vx_plan *plan)
     EXPECT(a.status == VX_NO_PLAN && begins(&a, "error: ") && is_at(&a.answer, (vx_place){0}));
     a.status = vx_plan_scope(plan, a.text, a.room, &a.answer);
     EXPECT(a.status == VX_NO_PLAN && begins(&a, "error: ") && is_at(&a.answer, (vx_place){0}));
+    a.status = vx_plan_type(plan, a.text, a.room, &a.answer);
+    EXPECT(a.status == VX_NO_PLAN && begins(&a, "error: ") && is_at(&a.answer, (vx_place){0}));
+    a.status = vx_plan_scan_column(plan, 0, NULL, 0, a.text, a.room, &a.answer);
+    EXPECT(a.status == VX_NO_PLAN && begins(&a, "error: ") && is_at(&a.answer, (vx_place){0}));
     EXPECT(plan->at == NULL);
     free(a.text);
 }
@@ -323,6 +327,12 @@ static void test_paths(void)
     expect_page(vx_plan_paths, "1", X, "[]\n");
     expect_page(vx_plan_paths, "is_null($)", "utf8?", "[[]]\n");
     expect_page(vx_plan_paths, "`a\"\303\244`", "{`a\"\303\244`=i8}", "[[\"a\\\"\303\244\"]]\n");
+}
+
+static void test_types(void)
+{
+    expect_page(vx_plan_type, "x + 1", "{x=i32?}", "i32?\n");
+    expect_page(vx_plan_type, "$", "{a={`b c`=list(u8?)}?,b=fixed_size_list(utf8)[3]}", "{a={`b c`=list(u8?)}?, b=fixed_size_list(utf8)[3]}\n");
 }
 
 static void test_scopes(void)
@@ -404,6 +414,27 @@ static Answered selected(vx_plan *plan, size_t rows, const vx_buffer *buffers, s
     return a;
 }
 
+/* The calls that answer columns in buffers, by the bytes of their pages. */
+static void test_columns(void)
+{
+    const vx_buffer batch[] = {NONE, B("\5"), B("\2\0\0\0\7\0\0\0\4\0\0\0")};
+#define EIGHT(number) number "\0\0\0\0\0\0\0"
+    static const char NUMBERS[] = EIGHT("\3") EIGHT("\1") EIGHT("\5") EIGHT("\14") "\3\0\0\0\0\0\0\0\5\0\0\0\0\0\0\0";
+    static const char ROWS[] = EIGHT("\1") EIGHT("\0") EIGHT("\0") EIGHT("\4") EIGHT("\4");
+    char page[100];
+    vx_answer answer;
+    vx_plan plan = plan_of("x + 1", "{x=i32?}");
+    EXPECT(vx_plan_scan_column(&plan, 3, batch, 3, page, 47, &answer) == VX_TOO_SMALL && answer.needed == 48);
+    EXPECT(vx_plan_scan_column(&plan, 3, batch, 3, page, 48, &answer) == VX_ANSWERED && answer.needed == 48);
+    EXPECT(sizeof NUMBERS == 49 && memcmp(page, NUMBERS, 36) == 0 && memcmp(page + 40, NUMBERS + 40, 8) == 0);
+    EXPECT(vx_plan_filter_column(&plan, 3, batch, 3, page, 100, &answer) == VX_REFUSED);
+    vx_plan_free(&plan);
+    plan = plan_of("x > 2", "{x=i32?}");
+    EXPECT(vx_plan_filter_column(&plan, 3, batch, 3, page, 100, &answer) == VX_ANSWERED && answer.needed == 40);
+    EXPECT(memcmp(page, ROWS, 40) == 0);
+    vx_plan_free(&plan);
+}
+
 /* A row is selected where the expression is true, and not where it is null. */
 static void test_selections(void)
 {
@@ -473,6 +504,7 @@ static void test_made_again(void)
 
 void test_plans(void)
 {
+    test_columns();
     test_good_batches();
     test_bad_batches();
     test_faults();
@@ -480,6 +512,7 @@ void test_plans(void)
     test_unplanned();
     test_paths();
     test_scopes();
+    test_types();
     test_shared();
     test_room_of_scans();
     test_nothing_is_kept();

@@ -187,6 +187,36 @@ static vx_status scan_column(const void *given, char *buffer, size_t room, vx_an
                                    answer);
 }
 
+/* The lines of a column that is answered, which is released. */
+static vx_status lines_out(ColumnCall *call, const void *given, char *buffer, size_t room, vx_answer *answer)
+{
+    const Column *it = given;
+    Column values;
+    vx_status status = call(&plan, ARROW_SCHEMA, sizeof ARROW_SCHEMA - 1, &it->schema, &it->array, &values.array,
+                            &values.schema, buffer, room, answer);
+    if (status != VX_ANSWERED)
+        return status;
+    size_t was = until;
+    until = 0;
+    char *lines = lines_of(&values.schema, &values.array);
+    answer->needed = strlen(lines);
+    memcpy(buffer, lines, answer->needed);
+    free(lines);
+    release_column(&values);
+    until = was;
+    return status;
+}
+
+static vx_status scan_out(const void *given, char *buffer, size_t room, vx_answer *answer)
+{
+    return lines_out(vx_plan_scan_arrow, given, buffer, room, answer);
+}
+
+static vx_status filter_out(const void *given, char *buffer, size_t room, vx_answer *answer)
+{
+    return lines_out(vx_plan_filter_arrow, given, buffer, room, answer);
+}
+
 /* Bits that begin within a byte are copied, in three columns. */
 static void test_calls_of_arrow(void)
 {
@@ -198,6 +228,8 @@ static void test_calls_of_arrow(void)
     EXPECT(make_plan_over("a or b > 0 or c = 'a'", ARROW_SCHEMA, buffer, sizeof buffer, &answer) == VX_ANSWERED);
     expect_refusals(select_column, &c);
     expect_refusals(scan_column, &c);
+    expect_refusals(scan_out, &c);
+    expect_refusals(filter_out, &c);
     c.array.children[2]->n_buffers = 2;
     expect_refusals(select_column, &c);
     c.array.children[2]->n_buffers = 3;

@@ -81,7 +81,7 @@ _destroy_array = _destroyer(b"arrow_array", ArrowArray)
 
 
 def _address(buffer: Any) -> Optional[int]:
-    if buffer is None:
+    if buffer is None or len(buffer) == 0:
         return None
     if hasattr(buffer, "ctypes"):
         return buffer.ctypes.data

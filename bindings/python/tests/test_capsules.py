@@ -11,6 +11,7 @@ sys.path.insert(0, str(pathlib.Path(__file__).parent))
 
 import vx  # noqa: E402
 from columns import Column, live, record_batch  # noqa: E402
+from vx import _results  # noqa: E402
 
 try:
     import numpy as np
@@ -33,7 +34,7 @@ def texts(*values):
 class Capsules(unittest.TestCase):
     def tearDown(self):
         gc.collect()
-        self.assertEqual(live, {})
+        self.assertEqual((live, _results._held), ({}, {}))
 
     def test_schemas(self):
         batch = record_batch(2, x=numbers([1, 2]), s=texts("a", "b"))
@@ -55,6 +56,55 @@ class Capsules(unittest.TestCase):
             self.assertEqual(plan.select(batch).tolist(), [True, False, True])
         with vx.Plan("$ > 5", "i32?") as plan:
             self.assertEqual(plan.scan(numbers([7, 1], b"\1")), [True, None])
+
+    def test_columns(self):
+        batch = record_batch(3, x=numbers([1, 5, 7], b"\5"), s=texts("a", "b", "c"))
+        with vx.Plan("x + 1", vx.schema_of(batch)) as plan:
+            column = plan.scan_arrow(batch)
+            self.assertEqual((column.type, len(column)), ("i32?", 3))
+            with vx.Plan("$ + 1", column.type) as again:
+                self.assertEqual(again.scan(column), [3, None, 9])
+            with self.assertRaises(ValueError):
+                column.__arrow_c_array__()
+            plan.scan_arrow(batch)
+            with self.assertRaises(vx.RefusedError):
+                plan.filter_arrow(batch)
+        with vx.Plan("x > 5 or s = 'a'", vx.schema_of(batch)) as plan:
+            column = plan.filter_arrow(batch)
+            self.assertEqual((column.type, len(column)), ("{x=i32?, s=utf8}", 2))
+            with vx.Plan("$", column.type) as again:
+                self.assertEqual(again.scan(column), [{"x": 1, "s": "a"}, {"x": 7, "s": "c"}])
+        with self.assertRaises(vx.NoPlanError):
+            plan.scan_arrow(batch)
+
+    @unittest.skipUnless(np, "numpy isn't installed")
+    def test_columns_as_arrays(self):
+        batch = record_batch(3, x=numbers([1, 5, 7], b"\5"), s=texts("a", "b", "c"))
+        for expression, wanted in [
+            ("x + 1", [2, None, 8]),
+            ("s < 'c'", [True, True, False]),
+            ("x > 1", [False, None, True]),
+            ("x is null", [False, True, False]),
+            ("7u8", [7, 7, 7]),
+        ]:
+            with self.subTest(expression), vx.Plan(expression, vx.schema_of(batch)) as plan:
+                self.assertEqual(plan.scan_numpy(batch).tolist(), wanted)
+        with vx.Plan("x + 1", vx.schema_of(batch)) as plan:
+            column = plan.scan_arrow(batch)
+            array = column.numpy()
+            for handed_out in (column.numpy, column.__arrow_c_array__):
+                self.assertRaises(ValueError, handed_out)
+        del column, plan
+        gc.collect()
+        self.assertEqual(array[1:].tolist(), [None, 8])
+        with vx.Plan("s", vx.schema_of(batch)) as plan:
+            self.assertRaises(TypeError, plan.scan_numpy, batch)
+            column = plan.scan_arrow(batch)
+            self.assertRaises(TypeError, column.numpy)
+            self.assertEqual(len(column), 3)
+        empty = record_batch(0, x=numbers([]), s=texts())
+        with vx.Plan("x > 1", vx.schema_of(empty)) as plan:
+            self.assertEqual(plan.scan_numpy(empty).tolist(), [])
 
     def test_offsets(self):
         for offset in range(10):

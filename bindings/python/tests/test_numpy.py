@@ -95,6 +95,30 @@ class Arrays(unittest.TestCase):
         self.assertEqual(vx.evaluate("x + 1", records, "{x=i32, b=bool}"), [2, 3])
         self.assertEqual(vx.evaluate("x + 1", {"x": columns["x"]}, "{x=i32?}"), [2, None, 8])
 
+    def test_columns(self):
+        """What is answered as an array is what is answered as a list."""
+        columns = {
+            "x": np.ma.masked_array(np.array([1, 2, 7] * 9, np.int32), [False, True, False] * 9),
+            "b": np.arange(27) % 5 != 0,
+        }
+        for expression, letters in [
+            ("x + 1", "<i4"),
+            ("x > 1", "?"),
+            ("b", "?"),
+            ("x is null", "?"),
+            ("case when b then 1u8 else 2u8 end", "u1"),
+            ("9i64", "<i8"),
+        ]:
+            with self.subTest(expression), vx.Plan(expression, ROWS) as plan:
+                found = plan.scan_numpy(columns)
+                self.assertEqual((found.tolist(), found.dtype), (plan.scan(columns), np.dtype(letters)))
+                self.assertEqual(plan.scan_numpy([]).tolist(), [])
+        with vx.Plan("s", ROWS) as plan:
+            self.assertRaises(TypeError, plan.scan_numpy, columns)
+        with vx.Plan("x + 1", "{x=i32}") as plan, self.assertRaises(vx.FaultError):
+            plan.scan_numpy({"x": np.array([1, 2**31 - 1])})
+        self.assertRaises(vx.NoPlanError, plan.scan_numpy, {"x": np.array([1])})
+
     def test_selections(self):
         numbers = np.arange(-5000, 5000, dtype=np.int32)
         with vx.Plan("x >= 10 and x <= 4000", "{x=i32}") as plan:

@@ -8,14 +8,14 @@ import unittest
 sys.path.insert(0, str(pathlib.Path(__file__).parents[1]))
 
 import vx  # noqa: E402
-from vx import _batches, _calls, _capsules, _errors, _kept, _library, _plans, _statistics, _types  # noqa: E402
+from vx import _batches, _calls, _capsules, _errors, _kept, _library, _plans, _results, _statistics, _types  # noqa: E402
 
 X = "{x=i32}"
 
 
 def load_tests(_loader, tests, _pattern):
     """Adds the examples of the docstrings."""
-    for module in (vx, _batches, _calls, _capsules, _errors, _kept, _library, _plans, _statistics, _types):
+    for module in (vx, _batches, _calls, _capsules, _errors, _kept, _library, _plans, _results, _statistics, _types):
         tests.addTests(doctest.DocTestSuite(module))
     return tests
 

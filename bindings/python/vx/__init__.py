@@ -31,12 +31,14 @@ from ._capsules import schema_of
 from ._errors import DataError, FaultError, NoPlanError, Place, RefusedError, UnreadError, VxError
 from ._kept import Plan
 from ._plans import Partition, PlanDescription
+from ._results import ArrowColumn
 from ._statistics import Verdict, statistics
 
 __version__ = "0.1.0"
 """The version of the package. :func:`version` answers that of the library."""
 
 __all__ = [
+    "ArrowColumn",
     "DataError",
     "FaultError",
     "NoPlanError",

@@ -5,12 +5,22 @@ from __future__ import annotations
 import json
 from typing import Any, List, Tuple
 
-from . import _arrow, _capsules
-from ._batches import batch_of
+from . import _arrow, _capsules, _numpy
+from ._batches import batch_of, number_size
 from ._calls import Rows, check, encoded
 from ._handles import Handles
-from ._library import plan_paths, plan_scope, scan_arrow, scan_plan, select_arrow, select_plan
+from ._library import (
+    column_arrow,
+    plan_paths,
+    plan_scope,
+    scan_arrow,
+    scan_column,
+    scan_plan,
+    select_arrow,
+    select_plan,
+)
 from ._plans import paths_of
+from ._results import ArrowArray, ArrowColumn, ArrowSchema, parts_of
 from ._types import type_of, values_of
 
 
@@ -92,6 +102,40 @@ class Plan:
             else:
                 page = select_plan(handle, *lent)
         return memoryview(page).cast("?")
+
+    def scan_arrow(self, batch: Any) -> ArrowColumn:
+        """What the expression means at each row, as :meth:`scan`, as a column for other libraries.
+
+        The batch is one that a library exports by ``__arrow_c_array__``, as pyarrow's record batches, with all
+        columns of the plan's type, in its order.
+        """
+        return self._column("vx_plan_scan_arrow", self.type, batch)
+
+    def filter_arrow(self, batch: Any) -> ArrowColumn:
+        """The rows of the batch at which the expression is true, as a column of the plan's type. Raises as
+        :meth:`select` does, of a batch as :meth:`scan_arrow` takes it."""
+        return self._column("vx_plan_filter_arrow", str(self._scope), batch)
+
+    def scan_numpy(self, batch: Rows) -> Any:
+        """What the expression means at each row, as :meth:`scan`, as an array of numpy's, which is masked where it
+        is null. Raises TypeError where the expression is none of numbers or truth values."""
+        if _is_lent(batch):
+            return self.scan_arrow(batch).numpy()
+        dtype = type_of(self.type)
+        _numpy.check_kind(dtype)
+        count, buffers = self._batch_of(batch)
+        with self._handles.lent() as handle:
+            page = scan_column(handle, count, buffers, number_size(dtype.kind))
+        rows, (validity, values) = parts_of(page)
+        return _numpy.column_of(rows, validity, values, dtype)
+
+    def _column(self, call: str, type: str, batch: Any) -> ArrowColumn:
+        """The column of that type which the call answers."""
+        schema, array = ArrowSchema(), ArrowArray()
+        lent = _capsules.exported(batch)
+        with self._handles.lent() as handle:
+            column_arrow(call, handle, self._schema, lent, schema, array)
+        return ArrowColumn(type, schema, array)
 
     def _batch_of(self, batch: Rows) -> Tuple[int, List[Any]]:
         """How many rows the batch has, and their buffers."""

@@ -67,12 +67,16 @@ _CALLS: Dict[str, Tuple[Any, ...]] = {
     "vx_plan_new": (*_TEXT, *_TEXT, _PLAN, *_ROOM),
     "vx_plan_share": (_PLAN, _PLAN),
     "vx_plan_scope": (_PLAN, *_ROOM),
+    "vx_plan_type": (_PLAN, *_ROOM),
     "vx_plan_paths": (_PLAN, *_ROOM),
     "vx_plan_scan": (_PLAN, ctypes.c_size_t, ctypes.POINTER(_Buffer), ctypes.c_size_t, *_ROOM),
     "vx_plan_select": (_PLAN, ctypes.c_size_t, ctypes.POINTER(_Buffer), ctypes.c_size_t, *_ROOM),
+    "vx_plan_scan_column": (_PLAN, ctypes.c_size_t, ctypes.POINTER(_Buffer), ctypes.c_size_t, *_ROOM),
     "vx_schema_of_arrow": (ctypes.c_void_p, *_ROOM),
     "vx_plan_scan_arrow_json": (_PLAN, *_TEXT, ctypes.c_void_p, ctypes.c_void_p, *_ROOM),
     "vx_plan_select_arrow": (_PLAN, *_TEXT, ctypes.c_void_p, ctypes.c_void_p, *_ROOM),
+    "vx_plan_scan_arrow": (_PLAN, *_TEXT, *[ctypes.c_void_p] * 4, *_ROOM),
+    "vx_plan_filter_arrow": (_PLAN, *_TEXT, *[ctypes.c_void_p] * 4, *_ROOM),
     "vx_plan_free": (_PLAN,),
 }
 
@@ -177,6 +181,13 @@ def select_plan(handle: Handle, rows: int, buffers: Sequence[Lent]) -> bytes:
     return _answered_bytes("vx_plan_select", _batch(handle, rows, buffers), _LEAST_ROOM + rows)
 
 
+def scan_column(handle: Handle, rows: int, buffers: Sequence[Lent], size: int) -> bytes:
+    """What the plan means at the rows, as a column in buffers, of numbers of that size or of bits."""
+    # (the number of rows, two lengths, and zeros behind both buffers)
+    room = 40 + rows // 8 + (size * rows or rows // 8)
+    return _answered_bytes("vx_plan_scan_column", _batch(handle, rows, buffers), room)
+
+
 def _batch(handle: Handle, rows: int, buffers: Sequence[Lent]) -> List[Any]:
     """What a call on a plan and a batch is given."""
     lent = (_Buffer * len(buffers))(*((_address(buffer), len(buffer)) for buffer in buffers))
@@ -205,6 +216,12 @@ def select_arrow(handle: Handle, schema: bytes, column: Exported) -> bytes:
     """At which rows the plan over that schema is true, as a byte for each."""
     given = [ctypes.byref(handle), *_counted([schema]), column.type, column.array]
     return _answered_bytes("vx_plan_select_arrow", given, _LEAST_ROOM + column.rows)
+
+
+def column_arrow(name: str, handle: Handle, schema: bytes, column: Exported, type: Any, array: Any) -> None:
+    """Has the two structs be those of the column that the call of that name answers."""
+    structs = [column.type, column.array, ctypes.addressof(array), ctypes.addressof(type)]
+    _answered_bytes(name, [ctypes.byref(handle), *_counted([schema]), *structs], _LEAST_ROOM)
 
 
 def free_plan(handle: Handle) -> None:

@@ -56,6 +56,24 @@ def buffers_of(values: Any, dtype: Type) -> Optional[List[Any]]:
     return None
 
 
+def check_kind(dtype: Type) -> None:
+    """Raises TypeError for a type whose values no array has."""
+    if dtype.kind != "bool" and dtype.kind not in _LETTERS:
+        raise TypeError(f"numpy's arrays are taken of numbers and truth values, and not of values of type {dtype}")
+
+
+def column_of(rows: int, validity: Any, values: Any, dtype: Type) -> Any:
+    """The column of numbers or truth values as an array, which is masked where it has nulls. Numbers aren't
+    copied."""
+    import numpy
+
+    def flags(bits: Any) -> Any:
+        return numpy.unpackbits(numpy.frombuffer(bits, numpy.uint8), count=rows, bitorder="little").view(bool)
+
+    found = flags(values) if dtype.kind == "bool" else numpy.frombuffer(values, _LETTERS[dtype.kind], rows)
+    return numpy.ma.masked_array(found, ~flags(validity)) if len(validity) else found
+
+
 def _bits(flags: Any) -> bytes:
     """The flags as bits, the least significant of a byte first."""
     return sys.modules["numpy"].packbits(flags, bitorder="little").tobytes()

@@ -2,7 +2,8 @@
 ghost use Rattle.std.specs.Prelude.{◌≡◌, None};
 ghost use Rattle.vx_data_buffers.specs.Bytes.{bytes_in};
 ghost use Rattle.vx_ffi_calls.specs.Stops.{IsExhausted};
-ghost use Rattle.vx_ffi_plan.specs.Kept.{IsPathsPage, IsScanPage, IsScopePage};
+ghost use Rattle.vx_ffi_plan.specs.Columns.{FilterStops, IsColumnPage, IsFilteredPage};
+ghost use Rattle.vx_ffi_plan.specs.Kept.{IsPathsPage, IsPlanTypePage, IsScanPage, IsScopePage};
 ghost use Rattle.vx_ffi_plan.specs.ScanStops.{ScanStops};
 ghost use Rattle.vx_ffi_plan.specs.Selections.{IsSelectPage, SelectStops};
 ghost use Rattle.vx_ffi_plan.specs.Held.{HeldEndsWith, NewEndsWith, ShareEndsWith};
@@ -12,7 +13,7 @@ use vx_data_buffers::Buffer;
 use vx_ffi_calls::{Answer, GivenQuery};
 use vx_ffi_plan::{
     Asked, GivenBatch, PlanHandle, answer_held_batch, answer_held_paths, answer_held_scope,
-    answer_new, free_plan, share_plan,
+    answer_held_type, answer_new, free_plan, share_plan,
 };
 
 /// Makes the plan of the expression over batches of the schema's type: [`answer_new`].
@@ -59,6 +60,20 @@ pub extern "C" fn vx_plan_scope(
     answer_held_scope(alloc, plan, buffer, answer).number()
 }
 
+/// Answers the type of the plan's expression, as source text on a line: [`answer_held_type`].
+#[unsafe(no_mangle)]
+pub extern "C" fn vx_plan_type(
+    alloc: Global,
+    plan: &mut PlanHandle,
+    buffer: &mut [u8],
+    answer: &mut Answer,
+) -> u32
+    ensures ends { HeldEndsWith IsPlanTypePage (λ _. IsExhausted) plan.old.plan buffer.old result buffer.new answer.new }
+    ensures kept { plan.new.plan ≡ plan.old.plan }
+{
+    answer_held_type(alloc, plan, buffer, answer).number()
+}
+
 /// Answers what the plan's expression means at each row of the batch in the buffers, as a line of JSON
 /// each: [`answer_held_batch`].
 #[unsafe(no_mangle)]
@@ -97,6 +112,50 @@ pub extern "C" fn vx_plan_select(
 {
     let batch = GivenBatch {
         asked: Asked::Rows,
+        rows,
+        buffers,
+    };
+    answer_held_batch(alloc, plan, &batch, buffer, answer).number()
+}
+
+/// Answers what the plan's expression means at each row of the batch in the buffers, as a column in buffers:
+/// [`answer_held_batch`].
+#[unsafe(no_mangle)]
+pub extern "C" fn vx_plan_scan_column(
+    alloc: Global,
+    plan: &mut PlanHandle,
+    rows: usize,
+    buffers: &[Buffer<'_>],
+    buffer: &mut [u8],
+    answer: &mut Answer,
+) -> u32
+    ensures ends { HeldEndsWith (λ kept. IsColumnPage kept rows (bytes_in buffers.now)) (λ kept. ScanStops kept rows (bytes_in buffers.now)) plan.old.plan buffer.old result buffer.new answer.new }
+    ensures kept { plan.new.plan ≡ plan.old.plan }
+{
+    let batch = GivenBatch {
+        asked: Asked::Column,
+        rows,
+        buffers,
+    };
+    answer_held_batch(alloc, plan, &batch, buffer, answer).number()
+}
+
+/// Answers the rows of the batch in the buffers at which the plan's expression is true, as a column in
+/// buffers: [`answer_held_batch`].
+#[unsafe(no_mangle)]
+pub extern "C" fn vx_plan_filter_column(
+    alloc: Global,
+    plan: &mut PlanHandle,
+    rows: usize,
+    buffers: &[Buffer<'_>],
+    buffer: &mut [u8],
+    answer: &mut Answer,
+) -> u32
+    ensures ends { HeldEndsWith (λ kept. IsFilteredPage kept rows (bytes_in buffers.now)) (λ kept. FilterStops kept rows (bytes_in buffers.now)) plan.old.plan buffer.old result buffer.new answer.new }
+    ensures kept { plan.new.plan ≡ plan.old.plan }
+{
+    let batch = GivenBatch {
+        asked: Asked::Filtered,
         rows,
         buffers,
     };

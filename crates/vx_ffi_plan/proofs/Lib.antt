@@ -2,3 +2,5 @@ mod Given
 mod AsBox
 mod Ended
 mod Stopped
+mod SelectedRows
+mod Printed

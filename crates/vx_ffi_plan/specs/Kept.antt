@@ -3,7 +3,7 @@ use Rattle.std.specs.Prelude.{◌≡◌, ℕ, List, Ok, string_bytes}
 use Rattle.vx_value.specs.Columns.{Batch}
 use Rattle.vx_value.specs.Types.{LogicalType}
 use Rattle.vx_value.specs.Views.{type_of}
-use Rattle.vx_tree.specs.Trees.{Tree, BoundTree}
+use Rattle.vx_tree.specs.Trees.{Tree, BoundTree, node_type}
 use Rattle.vx_tree.specs.Views.{bound_of, tree_of}
 use Rattle.vx_rewrite_rule_laws.specs.Folding.{FoldingRuleAt}
 use Rattle.vx_query_split.specs.Division.{parts_of}
@@ -39,6 +39,10 @@ IsPathsPage kept page = page ≡ paths_line kept.plan.value.paths
 -- the page has the type of the plan's batches
 abbrev pub IsScopePage : KeptPlan → List ℕ → Type 0
 IsScopePage kept page = page ≡ line (type_source (scope_of kept))
+
+-- the page has the type of the plan's expression
+abbrev pub IsPlanTypePage : KeptPlan → List ℕ → Type 0
+IsPlanTypePage kept page = page ≡ line (type_source (node_type (planned_tree kept)))
 
 -- the column is what a scan by the plan gives of the batch
 abbrev pub IsScanOf : KeptPlan → Batch → Batch → Type 0

@@ -2,9 +2,11 @@
 #![tactic(auto)]
 
 mod batch;
+mod frames;
 mod handle;
 mod held;
 mod kept;
+mod laid;
 mod made;
 mod paths;
 mod scan;
@@ -19,10 +21,10 @@ mod values;
 
 pub use batch::{Asked, GivenBatch};
 pub use handle::PlanHandle;
-pub use held::{answer_held_batch, answer_held_paths, answer_held_scope};
+pub use held::{answer_held_batch, answer_held_paths, answer_held_scope, answer_held_type};
 pub use kept::{KeptPlan, kept_plan};
 pub use made::{answer_new, free_plan};
 pub use paths::answer_paths;
-pub use scope::answer_scope;
+pub use scope::{answer_scope, answer_type};
 pub use share::share_plan;
 pub use shared::SharedPlan;

@@ -2,26 +2,25 @@
 ghost use Rattle.std.specs.Prelude.{◌≡◌, ◌⊎◌, IfErr, IfOk};
 ghost use Rattle.vx_value.specs.Columns.{Batch};
 ghost use Rattle.vx_data_buffers.specs.Bytes.{bytes_in};
-ghost use Rattle.vx_data_buffers.specs.Rows.{column_said};
 ghost use Rattle.vx_data.specs.Lines.{json_lines};
 ghost use Rattle.vx_ffi_calls.specs.Stops.{IsExhausted};
-ghost use Rattle.vx_ffi_plan.specs.Kept.{IsScanPage, scope_of};
-ghost use Rattle.vx_ffi_plan.specs.ScanStops.{IsBadData, IsNoBatch, ScanStops};
+ghost use Rattle.vx_ffi_plan.specs.Kept.{IsScanPage};
+ghost use Rattle.vx_ffi_plan.specs.ScanStops.{IsBadData, ScanStops};
 
-use crate::batch::{GivenBatch, boxed, scope};
+use crate::batch::{GivenBatch, array_in};
 use crate::kept::KeptPlan;
-use crate::scan_stop::{buffer_stop, write_stop};
+use crate::scan_stop::write_stop;
 use crate::values::values_of;
 use std::alloc::Global;
+use vx_array::Array;
 use vx_data::write_json_lines;
-use vx_data_buffers::column_of;
 use vx_ffi_calls::CallError;
 use vx_types::Column;
 
 /// What the plan's expression means at each row of the batch in the buffers, as a line of JSON each. Stops
-/// where the buffers have no batch of so many rows of the plan's type, as [`column_of`] refuses them; at the
-/// first fault of the expression on the batch; and where a value can't be written, as [`write_json_lines`]
-/// refuses it.
+/// where the buffers have no batch of so many rows of the plan's type, as
+/// [`array_of`](vx_data_buffers::array_of) refuses them; at the first fault of the expression on the batch;
+/// and where a value can't be written, as [`write_json_lines`] refuses it.
 pub(crate) fn scanned(
     alloc: Global,
     plan: &KeptPlan,
@@ -30,23 +29,19 @@ pub(crate) fn scanned(
     ensures prints { IfOk result (λ page. IsScanPage plan.now batch.now.rows (bytes_in batch.now.buffers.now) page.items) }
     ensures stop { IfErr result (ScanStops plan.now batch.now.rows (bytes_in batch.now.buffers.now)) }
 {
-    let column = batch_of(alloc, plan, batch)?;
-    let values = values_of(alloc, plan, Box::into_inner(column))?;
-    lines_of(alloc, &values)
+    let array = array_in(alloc, plan, batch)?;
+    let values = values_of(alloc, plan, &array)?;
+    page_of(alloc, &values)
 }
 
-// The batch in the buffers.
-fn batch_of(
-    alloc: Global,
-    plan: &KeptPlan,
-    batch: &GivenBatch<'_>,
-) -> Result<Box<Column>, CallError>
-    ensures batch { IfOk result (λ column. column_said (bytes_in batch.now.buffers.now) (scope_of plan.now) batch.now.rows ≡ Ok column.value) }
-    ensures stop { IfErr result (λ stop. IsExhausted stop ⊎ IsNoBatch plan.now batch.now.rows (bytes_in batch.now.buffers.now) stop) }
+// A line of JSON for each value, whose rows are read one by one for it.
+fn page_of(alloc: Global, values: &Array) -> Result<Vec<u8>, CallError>
+    ensures lines { IfOk result (λ lines. lines.items ≡ json_lines values.now.type values.now.rows) }
+    ensures stop { IfErr result (λ stop. IsExhausted stop ⊎ IsBadData stop) }
 {
-    match column_of(alloc, scope(alloc, plan)?, batch.rows, batch.buffers) {
-        Ok(column) => boxed(alloc, column),
-        Err(error) => Err(buffer_stop(alloc, &error)),
+    match values.to_column(alloc) {
+        Ok(column) => lines_of(alloc, &column),
+        Err(_) => Err(CallError::out_of_memory(alloc)),
     }
 }
 

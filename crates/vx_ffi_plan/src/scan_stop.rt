@@ -12,10 +12,11 @@ ghost use Rattle.vx_ffi_plan.specs.Selections.{IsNoCondition};
 
 use crate::kept::KeptPlan;
 use std::alloc::Global;
+use vx_array::Array;
 use vx_command_pages::{Input, Span, bind, span_at};
 use vx_commands::{RowsError, RowsMessage};
 use vx_data::WriteError;
-use vx_data_buffers::BufferError;
+use vx_data_buffers::{BufferError, LayoutError};
 use vx_ffi_calls::{CallError, Given, Place, Status, place_of};
 use vx_places::{Place as NodePlace, first_fault_at};
 use vx_records::{RecordFault, RecordsError};
@@ -71,6 +72,19 @@ pub(crate) fn write_stop(alloc: Global, error: &WriteError) -> CallError
     }
 }
 
+/// What stops a call whose answer can't be laid out in buffers.
+pub(crate) fn layout_stop(alloc: Global, error: &LayoutError) -> CallError
+    ensures { IsExhausted result ⊎ IsBadData result }
+{
+    match error {
+        LayoutError::OutOfMemory => CallError::out_of_memory(alloc),
+        error => {
+            let message = format_args!("error: batch: {error}");
+            CallError::new(alloc, Status::BadData, in_batch(0), &message)
+        }
+    }
+}
+
 /// What stops a scan whose plan faults on the batch: the first fault of the expression, with the row.
 /// Want of memory, too, where the fault can't be told for that.
 pub(crate) fn fault_stop(alloc: Global, kept: &KeptPlan, batch: &Column) -> CallError
@@ -83,6 +97,17 @@ pub(crate) fn fault_stop(alloc: Global, kept: &KeptPlan, batch: &Column) -> Call
     match first_fault_at(alloc, &tree, batch) {
         Ok(Some(place)) => stop_at(alloc, kept, place),
         _ => CallError::out_of_memory(alloc),
+    }
+}
+
+/// The same of a batch in typed buffers, whose rows are read one by one for it.
+pub(crate) fn fault_over(alloc: Global, kept: &KeptPlan, batch: &Array) -> CallError
+    requires { batch.now.type ≡ scope_of kept.now }
+    ensures { IsExhausted result ⊎ IsFaultStop kept.now batch.now result }
+{
+    match batch.to_column(alloc) {
+        Ok(column) => fault_stop(alloc, kept, &column),
+        Err(_) => CallError::out_of_memory(alloc),
     }
 }
 

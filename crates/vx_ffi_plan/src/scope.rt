@@ -1,13 +1,17 @@
-// The call that tells the type of a plan's batches.
-ghost use Rattle.std.specs.Prelude.{IfErr, IfOk, string_bytes};
+// The calls that tell the types of a plan: of its batches, and of its expression.
+ghost use Rattle.std.specs.Prelude.{◌≡◌, IfErr, IfOk, string_bytes};
+ghost use Rattle.vx_value.specs.Views.{type_of};
+ghost use Rattle.vx_command_pages.specs.Pages.{line};
+ghost use Rattle.vx_source_types.specs.TypeTexts.{type_source};
 ghost use Rattle.vx_ffi_calls.specs.Endings.{EndsCall};
 ghost use Rattle.vx_ffi_calls.specs.Stops.{IsExhausted};
-ghost use Rattle.vx_ffi_plan.specs.Kept.{IsScopePage};
+ghost use Rattle.vx_ffi_plan.specs.Kept.{IsPlanTypePage, IsScopePage};
 
 use crate::kept::KeptPlan;
 use std::alloc::{AllocError, Global};
 use vx_ffi_calls::{Answer, CallError, Status, ended};
 use vx_source::TypeText;
+use vx_types::DType;
 
 /// Answers the type of the plan's batches, as source text on a line. Stops only where memory runs out.
 pub fn answer_scope(
@@ -18,21 +22,29 @@ pub fn answer_scope(
 ) -> Status
     ensures { EndsCall (IsScopePage plan.now) IsExhausted buffer.old result buffer.new answer.new }
 {
-    ended(&scope_page(alloc, plan), buffer, answer)
+    ended(&type_page(alloc, plan.plan.scope()), buffer, answer)
 }
 
-fn scope_page(alloc: Global, plan: &KeptPlan) -> Result<Vec<u8>, CallError>
-    ensures prints { IfOk result (λ page. IsScopePage plan.now page.items) }
+/// Answers the type of the plan's expression, as source text on a line. Stops only where memory runs out.
+pub fn answer_type(alloc: Global, plan: &KeptPlan, buffer: &mut [u8], answer: &mut Answer) -> Status
+    ensures { EndsCall (IsPlanTypePage plan.now) IsExhausted buffer.old result buffer.new answer.new }
+{
+    ended(&type_page(alloc, plan.plan.tree().dtype()), buffer, answer)
+}
+
+// The type on a line.
+fn type_page(alloc: Global, dtype: &DType) -> Result<Vec<u8>, CallError>
+    ensures prints { IfOk result (λ page. page.items ≡ line (type_source (type_of dtype.now))) }
     ensures stop { IfErr result IsExhausted }
 {
-    match scope_line(alloc, plan) {
+    match type_line(alloc, dtype) {
         Ok(page) => Ok(page.into_bytes()),
         Err(_) => Err(CallError::out_of_memory(alloc)),
     }
 }
 
-fn scope_line(alloc: Global, plan: &KeptPlan) -> Result<String, AllocError>
-    ensures { IfOk result (λ page. IsScopePage plan.now (string_bytes page)) }
+fn type_line(alloc: Global, dtype: &DType) -> Result<String, AllocError>
+    ensures { IfOk result (λ page. string_bytes page ≡ line (type_source (type_of dtype.now))) }
 {
-    format!(in alloc; "{}\n", TypeText(plan.plan.scope()))
+    format!(in alloc; "{}\n", TypeText(dtype))
 }

@@ -4,26 +4,24 @@ ghost use Rattle.vx_fn.specs.Functions.{is_truth};
 ghost use Rattle.vx_tree.specs.Trees.{node_type};
 ghost use Rattle.vx_array_scan.specs.Selected.{IsSelection};
 ghost use Rattle.vx_data_buffers.specs.Bytes.{bytes_in};
-ghost use Rattle.vx_data_buffers.specs.Rows.{column_said};
 ghost use Rattle.vx_ffi_calls.specs.Stops.{IsExhausted};
 ghost use Rattle.vx_ffi_plan.specs.Kept.{planned_tree, scope_of};
-ghost use Rattle.vx_ffi_plan.specs.ScanStops.{IsFaultStop, IsNoBatch};
+ghost use Rattle.vx_ffi_plan.specs.ScanStops.{IsFaultStop};
 ghost use Rattle.vx_ffi_plan.specs.Selections.{IsSelectPage, SelectStops, selection};
 
-use crate::batch::{GivenBatch, boxed, scope};
+use crate::batch::{GivenBatch, array_in, boxed};
 use crate::kept::KeptPlan;
-use crate::scan_stop::{buffer_stop, fault_stop, no_condition};
+use crate::scan_stop::{fault_over, no_condition};
 use std::alloc::{AllocError, Global};
 use vx_array::Array;
 use vx_array_loops::{Bits, tabulated};
 use vx_array_scan::select_array;
-use vx_data_buffers::array_of;
 use vx_ffi_calls::CallError;
 use vx_types::DType;
 
 /// At which rows of the batch in the buffers the plan's expression is true, as a byte for each: 1 where it
 /// is, and 0 where it is false or null. Stops at an expression of another type than truth values; where the
-/// buffers have no batch of so many rows of the plan's type, as [`array_of`] refuses them; and at the first
+/// buffers have no batch of so many rows of the plan's type, as [`array_of`](vx_data_buffers::array_of) refuses them; and at the first
 /// fault of the expression on the batch.
 pub(crate) fn selected(
     alloc: Global,
@@ -44,19 +42,8 @@ pub(crate) fn selected(
     }
 }
 
-// The batch in the buffers.
-fn array_in(alloc: Global, plan: &KeptPlan, batch: &GivenBatch<'_>) -> Result<Box<Array>, CallError>
-    ensures batch { IfOk result (λ array. column_said (bytes_in batch.now.buffers.now) (scope_of plan.now) batch.now.rows ≡ Ok array.value) }
-    ensures stop { IfErr result (λ stop. IsExhausted stop ⊎ IsNoBatch plan.now batch.now.rows (bytes_in batch.now.buffers.now) stop) }
-{
-    match array_of(alloc, scope(alloc, plan)?, batch.rows, batch.buffers) {
-        Ok(array) => boxed(alloc, array),
-        Err(error) => Err(buffer_stop(alloc, &error)),
-    }
-}
-
 // The rows of the batch at which the plan's tree is true. Stops at the first fault of the plan's expression.
-fn rows_of(alloc: Global, kept: &KeptPlan, batch: &Array) -> Result<Box<Bits>, CallError>
+pub(crate) fn rows_of(alloc: Global, kept: &KeptPlan, batch: &Array) -> Result<Box<Bits>, CallError>
     requires scope { batch.now.type ≡ scope_of kept.now }
     requires truths { is_truth (node_type (planned_tree kept.now)) ≡ true }
     ensures rows { IfOk result (λ rows. IsSelection (planned_tree kept.now) batch.now (Ok rows.value)) }
@@ -65,17 +52,6 @@ fn rows_of(alloc: Global, kept: &KeptPlan, batch: &Array) -> Result<Box<Bits>, C
     match select_array(alloc, batch, &kept.plan) {
         Ok(rows) => boxed(alloc, rows),
         Err(_) => Err(fault_over(alloc, kept, batch)),
-    }
-}
-
-// The stop of the expression's first fault on the batch, whose rows are read one by one for it.
-fn fault_over(alloc: Global, kept: &KeptPlan, batch: &Array) -> CallError
-    requires { batch.now.type ≡ scope_of kept.now }
-    ensures { IsExhausted result ⊎ IsFaultStop kept.now batch.now result }
-{
-    match batch.to_column(alloc) {
-        Ok(column) => fault_stop(alloc, kept, &column),
-        Err(_) => CallError::out_of_memory(alloc),
     }
 }
 

@@ -1,7 +1,7 @@
 use Rattle.vx_value.specs.Views.{type_of}
 use Rattle.vx_data_buffers.specs.Bytes.{bytes_in}
 use Rattle.vx_ffi_plan.proofs.Stopped.{no_batch}
-use Rattle.vx_ffi_plan.proofs.scan.batch_of.Goals as goal
+use Rattle.vx_ffi_plan.proofs.batch.array_in.Goals as goal
 
 pub returns-in-Err-clause-stop : goal.returns-in-Err-clause-stop
 returns-in-Err-clause-stop c =
