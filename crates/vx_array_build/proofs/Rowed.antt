@@ -1,14 +1,16 @@
 -- Rows in one buffer, of which some are valid, and more behind them.
-use Rattle.std.proofs.Common.{◌≡◌, ℕ, ℤ, length-append, ◌+◌, ◌<◌, ◌≤◌, List, [], ◌∷◌, ◌++◌, map, length, length-take, get_or, take, refl, sym, ap, ◌∙◌, arith, Bool, true, false, Vec, Global}
+use Rattle.std.proofs.Common.{◌≡◌, ℕ, ℤ, length-append, ◌+◌, ◌<◌, ◌≤◌, List, [], ◌∷◌, ◌++◌, map, length, length-take, get_or, take, refl, sym, ap, ◌∙◌, arith, Bool, true, false}
 use Rattle.std.specs.Prelude.{if◌then◌else◌, Option, None}
 use Rattle.std.proofs.Math.ListN.{replicate}
 use Rattle.std.proofs.lemmas.List.{ext_get_or, get_or_default, get_or-take, get_or-replicate, length-replicate, length-map, map-append, replicate-append-replicate, take-map, take_all}
-use Rattle.vx_value.specs.Types.{Datum, null, int}
+use Rattle.vx_value.specs.Types.{Datum, null, bool, int}
 use Rattle.vx_array.specs.declared.validity.Validity.{Validity}
 use Rattle.vx_array.specs.declared.validity.Validity.TheVariants.{All, Nothing, Rows}
 use Rattle.vx_array.specs.Shown.{HasRows, is_valid, masked, shown, shown_count}
 use Rattle.vx_array.proofs.Mapped.{map_map}
 use Rattle.vx_array.proofs.Masked.{length-masked, part-masked}
+use Rattle.vx_array_build.specs.declared.valid_rows.ValidRows.{ValidRows}
+use Rattle.vx_array_build.specs.declared.valid_rows.ValidRows.TheVariants as variants
 use Rattle.vx_array_build.specs.Rowed.{flags, valid_in}
 
 -- ---- rows that are valid or not
@@ -63,7 +65,7 @@ valid_told v n truths told long each =
 -- ---- rows, and more behind them
 
 -- flags of rows that are all valid, and more that are
-pub all_behind : (n m : ℕ) (v : Option (Vec Bool Global)) (w : Validity) → v ≡ None → w ≡ All → flags (n + m) None ≡ flags n v ++ valid_in w m
+pub all_behind : (n m : ℕ) (v : ValidRows) (w : Validity) → v ≡ variants.All → w ≡ All → flags (n + m) variants.All ≡ flags n v ++ valid_in w m
 all_behind n m v w none all = ap (λ j. replicate j true) (omega arith) ∙ sym (ap (λ o. flags n o ++ valid_in w m) none ∙ ap (λ u. replicate n true ++ valid_in u m) all ∙ replicate-append-replicate n m true)
 
 shown_behind : (us new : List Bool) (ds es all rows : List Datum) (v : Validity) (n : ℕ) → masked us ds ≡ rows → length us ≡ length ds → n ≡ shown_count v (length es) → new ≡ us ++ valid_in v n → all ≡ ds ++ take n es → masked new all ≡ rows ++ shown v es
@@ -89,3 +91,11 @@ numbers_behind number us new xs part ys rows v n view long counted grown more =
 -- how many values there are with those of one more part
 pub sum_of : {A : Type 0} (xs part ys : List A) (v : Validity) (m n : ℕ) → m ≡ length xs → n ≡ shown_count v (length part) → ys ≡ xs ++ take n part → length ys ≡ m + n
 sum_of xs part ys v m n long counted more = omega (arith, long, ap length more, length-append xs (take n part), length-take n part, there v n (length part) counted)
+
+-- truth values with those of one more part
+pub truths_behind : (xs part first ys : List Bool) (old valid : ValidRows) (rows : List Datum) (v : Validity) (m n : ℕ) → masked (flags (length xs) old) (map bool xs) ≡ rows → length (flags (length xs) old) ≡ length xs → m ≡ length xs → n ≡ shown_count v (length part) →
+    flags (m + n) valid ≡ flags m old ++ valid_in v n → first ≡ take n part → ys ≡ xs ++ first → (length (flags (length ys) valid) ≡ length ys) × (masked (flags (length ys) valid) (map bool ys) ≡ rows ++ shown v (map bool part))
+truths_behind xs part first ys old valid rows v m n view long before counted more is grown =
+    let all : ys ≡ xs ++ take n part = grown ∙ ap (λ l. xs ++ l) is in
+    rows_behind bool (flags (length xs) old) (flags (length ys) valid) xs part ys rows v n view long counted
+    (ap (λ k. flags k valid) (sum_of xs part ys v m n before counted all) ∙ more ∙ ap (λ k. flags k old ++ valid_in v n) before) all

@@ -1,15 +1,15 @@
 -- Rows in one buffer, of which some are valid.
-use Rattle.std.specs.Prelude.{ℕ, List, take, Option, Some, None, Bool, true, false}
+use Rattle.std.specs.Prelude.{ℕ, List, take, Bool, true, false}
 use Rattle.std.proofs.Math.ListN.{replicate}
-use Rattle.std.specs.declared.alloc.Global.{Global}
-use Rattle.std.specs.declared.vec.Vec.{Vec}
 use Rattle.vx_array.specs.declared.validity.Validity.{Validity}
 use Rattle.vx_array.specs.declared.validity.Validity.TheVariants.{All, Nothing, Rows}
+use Rattle.vx_array_build.specs.declared.valid_rows.ValidRows.{ValidRows}
+use Rattle.vx_array_build.specs.declared.valid_rows.ValidRows.TheVariants as variants
 
 -- whether each of n rows is valid: all of them where there is no list
-abbrev pub flags : ℕ → Option (Vec Bool Global) → List Bool
-flags n None = replicate n true
-flags n (Some truths) = truths.items
+abbrev pub flags : ℕ → ValidRows → List Bool
+flags n variants.All = replicate n true
+flags n (variants.Listed truths) = truths
 
 -- whether each of the first n rows is valid
 abbrev pub valid_in : Validity → ℕ → List Bool

@@ -1,11 +1,11 @@
 // Numbers of one width, to which those of lanes are added.
-ghost use Rattle.std.specs.Prelude.{◌≡◌, ◌++◌, IfOk, map};
+ghost use Rattle.std.specs.Prelude.{◌≡◌, ◌++◌, IfOk, IfSome, map};
 ghost use Rattle.vx_array.specs.Shown.{shown};
 ghost use Rattle.vx_value.specs.Types.{int};
 
 use crate::native::Native;
 use crate::rows_builder::RowsBuilder;
-use crate::valid_rows::{valid_behind, validity_of_rows};
+use crate::valid_rows::{ValidRows, valid_behind, validity_of_rows};
 use std::alloc::{AllocError, Global};
 use std::marker::Model;
 use vx_array::{Lanes, Part, Validity};
@@ -16,7 +16,7 @@ use vx_array_loops::Number;
 #[derive(Drop)]
 pub struct NumbersBuilder<T: Native> {
     numbers: Vec<T>,
-    valid: Option<Vec<bool>>,
+    valid: ValidRows,
 }
 
 impl<T: Native> Model for NumbersBuilder<T> {
@@ -42,14 +42,14 @@ impl<T: Native> RowsBuilder for NumbersBuilder<T> {
     fn with_capacity(alloc: Global, count: usize) -> Result<NumbersBuilder<T>, AllocError> {
         Ok(NumbersBuilder {
             numbers: Vec::with_capacity(alloc, count)?,
-            valid: None,
+            valid: ValidRows::All,
         })
     }
 
     fn push(self, alloc: Global, lanes: &Lanes) -> Result<Option<NumbersBuilder<T>>, AllocError> {
         match lanes {
             Lanes::Numbers(numbers, validity) => match T::of(numbers) {
-                Some(part) => Ok(Some(with_part(alloc, self, part, validity)?)),
+                Some(part) => with_part(alloc, self, part, validity),
                 None => Ok(None),
             },
             _ => Ok(None),
@@ -64,18 +64,21 @@ impl<T: Native> RowsBuilder for NumbersBuilder<T> {
     }
 }
 
-// The same rows and behind them the numbers, where they are valid.
+// The same rows and behind them the numbers, where they are valid. There is an answer as for bits that are
+// appended.
 fn with_part<T: Native>(
     alloc: Global,
     rows: NumbersBuilder<T>,
     part: &Part<T>,
     validity: &Validity,
-) -> Result<NumbersBuilder<T>, AllocError>
-    ensures { IfOk result (λ b. b ≡ rows ++ shown validity.now (map int (map T.number part.now))) }
+) -> Result<Option<NumbersBuilder<T>>, AllocError>
+    ensures { IfOk result (λ found. IfSome found (λ b. b ≡ rows ++ shown validity.now (map int (map T.number part.now)))) }
 {
     let NumbersBuilder { mut numbers, valid } = rows;
     let count = validity.count(part.len());
-    let valid = valid_behind(alloc, valid, numbers.len(), validity, count)?;
+    let Some(valid) = valid_behind(alloc, valid, numbers.len(), validity, count)? else {
+        return Ok(None);
+    };
     numbers.extend_from_slice(&part.as_slice()[..count])?;
-    Ok(NumbersBuilder { numbers, valid })
+    Ok(Some(NumbersBuilder { numbers, valid }))
 }

@@ -1,63 +1,71 @@
 // Which rows aren't null, row after row.
-ghost use Rattle.std.specs.Prelude.{◌≡◌, ◌++◌, ◌+◌, ℕ, IfOk, length};
+ghost use Rattle.std.specs.Prelude.{◌≡◌, ◌++◌, ◌+◌, ℕ, IfOk, IfSome, List, length, true};
+ghost use Rattle.std.proofs.Math.ListN.{replicate};
+ghost use Rattle.vx_value.specs.Types.{Datum};
 ghost use Rattle.vx_array.specs.Shown.{HasRows, masked, shown};
 ghost use Rattle.vx_array_build.specs.Rowed.{flags, valid_in};
-ghost use Rattle.vx_value.specs.Types.{Datum};
-ghost use Rattle.std.specs.Prelude.{List};
 
 use std::alloc::{AllocError, Global};
 use vx_array::{BitPart, Validity};
-use vx_array_loops::{Bits, tabulated};
+use vx_array_loops::Bits;
 
-// Of so many rows, which are valid, and behind them so many that a validity tells of. Rows that are all
-// valid have no list.
+/// Which rows are valid: all of them, or those whose bit is true.
+#[derive(Drop)]
+pub(crate) enum ValidRows {
+    /// All of them.
+    All,
+    /// Those that are true, of as many as there are bits.
+    Listed(Bits),
+}
+
+// Of so many rows, which are valid, and behind them so many that a validity tells of. There is an answer as
+// for bits that are appended.
 pub(crate) fn valid_behind(
     alloc: Global,
-    valid: Option<Vec<bool>>,
+    valid: ValidRows,
     rows: usize,
     validity: &Validity,
     count: usize,
-) -> Result<Option<Vec<bool>>, AllocError>
+) -> Result<Option<ValidRows>, AllocError>
     requires { HasRows validity.now count }
-    ensures { IfOk result (λ more. flags (rows + count) more ≡ flags rows valid ++ valid_in validity.now count) }
+    ensures { IfOk result (λ found. IfSome found (λ more. flags (rows + count) more ≡ flags rows valid ++ valid_in validity.now count)) }
 {
-    match (valid, validity) {
-        (None, Validity::All) => Ok(None),
-        (Some(truths), _) => Ok(Some(with_valid(alloc, truths, validity, count)?)),
-        (None, _) => {
-            let truths = vec![in alloc; true; rows]?;
-            Ok(Some(with_valid(alloc, truths, validity, count)?))
-        }
+    let bits = match (valid, validity) {
+        (ValidRows::All, Validity::All) => return Ok(Some(ValidRows::All)),
+        (ValidRows::All, _) => all_rows(alloc, rows)?,
+        (ValidRows::Listed(bits), _) => bits,
+    };
+    match bits.append(&valid_bits(alloc, validity, count)?)? {
+        Some(bits) => Ok(Some(ValidRows::Listed(bits))),
+        None => Ok(None),
     }
 }
 
-// The truth values, and behind them whether each of so many rows is valid.
-fn with_valid(
-    alloc: Global,
-    mut truths: Vec<bool>,
-    validity: &Validity,
-    count: usize,
-) -> Result<Vec<bool>, AllocError>
+// Whether each of the first so many rows is valid.
+fn valid_bits(alloc: Global, validity: &Validity, count: usize) -> Result<Bits, AllocError>
     requires { HasRows validity.now count }
-    ensures { IfOk result (λ more. more.items ≡ truths.items ++ valid_in validity.now count) }
+    ensures { IfOk result (λ bits. bits ≡ valid_in validity.now count) }
 {
-    let more = tabulated(alloc, count, false, |i| validity.is_valid(i))?;
-    truths.extend_from_slice(more.as_slice())?;
-    Ok(truths)
+    match validity {
+        Validity::All => all_rows(alloc, count),
+        Validity::Nothing => Bits::zeros(alloc, count),
+        Validity::Rows(bits) => bits.first(alloc, count),
+    }
+}
+
+// So many rows that are true.
+fn all_rows(alloc: Global, count: usize) -> Result<Bits, AllocError>
+    ensures { IfOk result (λ bits. bits ≡ replicate count true) }
+{
+    Bits::tabulated(alloc, count, |_| true)
 }
 
 // That as the validity of so many rows.
-pub(crate) fn validity_of_rows(
-    alloc: Global,
-    valid: Option<Vec<bool>>,
-) -> Result<Validity, AllocError>
+pub(crate) fn validity_of_rows(alloc: Global, valid: ValidRows) -> Result<Validity, AllocError>
     ensures { IfOk result (λ v. (ds : List Datum) → shown v ds ≡ masked (flags (length ds) valid) ds) }
 {
     match valid {
-        None => Ok(Validity::All),
-        Some(truths) => {
-            let bits = Bits::from_bools(alloc, truths.as_slice())?;
-            Ok(Validity::Rows(BitPart::new(alloc, bits)?))
-        }
+        ValidRows::All => Ok(Validity::All),
+        ValidRows::Listed(bits) => Ok(Validity::Rows(BitPart::new(alloc, bits)?)),
     }
 }

@@ -6,7 +6,7 @@ ghost use Rattle.vx_tree.specs.Trees.{WellTyped, Over};
 ghost use Rattle.vx_tree.specs.Views.{bound_of};
 ghost use Rattle.vx_eval.specs.Evaluation.{evaluation};
 
-use crate::trees::evaluate;
+use crate::blocks::evaluate_over;
 use std::alloc::Global;
 use vx_array::Array;
 use vx_tree::BoundExpression;
@@ -31,7 +31,7 @@ pub fn apply_array(alloc: Global, batch: &Array, b: &BoundExpression) -> VortexR
     if !b.is_root_bound_to(batch.dtype()) {
         return Err(VortexError::ScopeMismatch);
     }
-    let lanes = evaluate(alloc, b, batch.lanes())?;
+    let lanes = evaluate_over(alloc, b, batch.lanes())?;
     let dtype = b.dtype().clone()?;
     Ok(Array::new(dtype, lanes))
 }

@@ -1,6 +1,7 @@
 // Evaluation over columns in typed buffers.
 #![tactic(auto)]
 
+mod blocks;
 mod by_rows;
 mod evaluation;
 mod few;
@@ -8,5 +9,6 @@ mod node;
 mod nodes;
 mod structs;
 mod trees;
+mod walks;
 
 pub use evaluation::apply_array;

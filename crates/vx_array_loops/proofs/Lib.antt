@@ -3,3 +3,4 @@ pub mod RowBits
 pub mod Filled
 pub mod Counted
 pub mod Where
+pub mod Joined

@@ -1,5 +1,5 @@
 // Truth values as bits.
-ghost use Rattle.std.specs.Prelude.{◌≡◌, ◌<◌, ◌≤◌, ◌+◌, ◌==◌, ℕ, Bool, IfOk, List, false, true, length, get_or, map, not, take, drop};
+ghost use Rattle.std.specs.Prelude.{◌≡◌, ◌<◌, ◌≤◌, ◌+◌, ◌*◌, ◌%◌, ◌++◌, ◌==◌, ℕ, Bool, IfOk, IfSome, List, [], false, true, length, get_or, map, not, take, drop};
 ghost use Rattle.std.specs.Simd.Lanes.{zip2};
 ghost use Rattle.std.proofs.Math.ListN.{replicate};
 ghost use Rattle.vx_array_loops.specs.Logic.{and_valid, both, but, either, or_valid, unless};
@@ -37,6 +37,14 @@ impl Bits {
     {
         let words = vec![in alloc; 0u64; len.div_ceil(64)]?;
         Ok(Bits { words, len })
+    }
+
+    /// No row yet, and room for so many.
+    pub fn with_capacity(alloc: Global, rows: usize) -> Result<Bits, AllocError>
+        ensures { IfOk result (λ b. b ≡ []) }
+    {
+        let words = Vec::with_capacity(alloc, rows.div_ceil(64))?;
+        Ok(Bits { words, len: 0 })
     }
 
     /// What the function gives at each of so many rows.
@@ -224,17 +232,31 @@ impl Bits {
         requires { from + len ≤ length self.now }
         ensures { IfOk result (λ b. b ≡ take len (drop from self.now)) }
     {
-        Bits::tabulated(alloc, len, |k| self.get_behind(from, k))
+        let words = tabulated(alloc, len.div_ceil(64), 0u64, |j| self.word_behind(from, j))?;
+        Ok(Bits { words, len })
     }
 
-    // Whether row k behind so many is true.
-    #[inline]
-    fn get_behind(&self, from: usize, k: usize) -> bool
-        requires { from + k < length self.now }
-        ensures { result ≡ get_or (drop from self.now) k false }
+    // The word of that number of the rows from one on. Asks a row that is there.
+    #[inline(always)]
+    fn word_behind(&self, from: usize, j: usize) -> u64
+        requires { from + 64 * j < length self.now }
+        ensures { (i : ℕ) → i < 64 → from + 64 * j + i < length self.now → bit_of result i ≡ get_or self.now (from + 64 * j + i) false }
     {
         let _ = self.len();
-        self.get(from + k)
+        self.window(from + 64 * j)
+    }
+
+    /// The same rows and those of the other behind them, copied word by word. There is an answer where the
+    /// rows so far fill whole words, and all together can be counted.
+    pub fn append(self, other: &Bits) -> Result<Option<Bits>, AllocError>
+        ensures { IfOk result (λ found. IfSome found (λ b. b ≡ self ++ other.now)) }
+    {
+        let Bits { mut words, len } = self;
+        let Some(sum) = sum_of_whole(len, other.len) else {
+            return Ok(None);
+        };
+        words.extend_from_slice(other.words.as_slice())?;
+        Ok(Some(Bits { words, len: sum }))
     }
 
     /// How many are true.
@@ -243,6 +265,16 @@ impl Bits {
     {
         count_bits(self.words.as_slice(), self.len)
     }
+}
+
+// So many rows more than some that fill whole words.
+fn sum_of_whole(count: usize, more: usize) -> Option<usize>
+    ensures { IfSome result (λ sum. (sum ≡ count + more) × (count % 64 ≡ 0)) }
+{
+    if count % 64 == 0 {
+        return count.checked_add(more);
+    }
+    None
 }
 
 impl Clone for Bits {

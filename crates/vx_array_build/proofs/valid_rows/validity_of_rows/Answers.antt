@@ -4,5 +4,5 @@ use Rattle.vx_array_build.specs.Rowed.{flags}
 use Rattle.vx_array_build.proofs.Rowed.{masked_all}
 use Rattle.vx_array_build.proofs.valid_rows.validity_of_rows.Goals as goal
 
-pub returns-in-None : goal.returns-in-None
-returns-in-None c = λ ds. sym (ap (λ o. masked (flags (length ds) o) ds) c.in-None.is ∙ masked_all ds)
+pub returns-in-All : goal.returns-in-All
+returns-in-All c = λ ds. sym (ap (λ o. masked (flags (length ds) o) ds) c.in-All.is ∙ masked_all ds)
