@@ -127,6 +127,7 @@ int main(int argc, char **argv)
     if (argc == 1) {
         test_calls();
         test_plans();
+        test_long_batches();
         test_arrow();
         test_refusals();
         return ended();

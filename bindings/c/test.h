@@ -65,6 +65,7 @@ char *guarded_end(void);
 
 void test_arrow(void);
 void test_calls(void);
+void test_long_batches(void);
 void test_long_texts(void);
 void test_plans(void);
 void test_refusals(void);
