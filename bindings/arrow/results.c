@@ -89,12 +89,12 @@ static size_t read_number(Reader *r)
     return (size_t)number;
 }
 
-/* The next buffer, which has so many bytes at least, or a null pointer where it has none. */
-static const void *read_buffer(Reader *r, size_t least)
+/* The next buffer, which has so many bytes at least, or a null pointer where it has none, as validity may. */
+static const void *read_buffer(Reader *r, size_t least, bool may_lack)
 {
     size_t length = read_number(r);
     const void *bytes = length > 0 ? r->at : NULL;
-    r->is_whole &= length >= least;
+    r->is_whole &= length >= least || (may_lack && length == 0);
     r->at += (length + 7) / 8 * 8;
     return bytes;
 }
@@ -103,9 +103,7 @@ static const void *read_buffer(Reader *r, size_t least)
 static size_t least_of(const Type *type, const struct ArrowArray *array, int64_t buffer)
 {
     size_t rows = (size_t)array->length;
-    if (buffer == 0)
-        return 0;
-    if (type->layout == BITS)
+    if (buffer == 0 || type->layout == BITS)
         return (rows + 7) / 8;
     if (type->layout == NUMBERS)
         return (size_t)type->size * rows;
@@ -149,8 +147,8 @@ static void read_array(const Call *call, Reader *r, const struct ArrowSchema *sc
     r->buffers += count;
     r->pointers += schema->n_children;
     for (int64_t i = 0; i < count && r->is_whole; i++)
-        array->buffers[i] = read_buffer(r, least_of(&type, array, i));
-    if (array->buffers[0])
+        array->buffers[i] = read_buffer(r, least_of(&type, array, i), i == 0);
+    if (r->is_whole && array->buffers[0])
         array->null_count = count_nulls(array->buffers[0], rows);
     if (array->null_count == 0)
         array->buffers[0] = NULL;
