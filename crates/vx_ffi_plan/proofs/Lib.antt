@@ -3,4 +3,5 @@ mod AsBox
 mod Ended
 mod Stopped
 mod SelectedRows
+mod Filtered
 mod Printed

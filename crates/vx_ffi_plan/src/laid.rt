@@ -40,7 +40,6 @@ pub(crate) fn scanned_column(
 
 /// The rows of the batch in the buffers at which the plan's expression is true, as a column in buffers. Stops
 /// as a selection of rows does, and where the rows can't be laid out, as [`buffers_of`] refuses them.
-#[tactic(auto, using(crate::proofs::SelectedRows::selection_long))]
 pub(crate) fn filtered_column(
     alloc: Global,
     plan: &KeptPlan,
