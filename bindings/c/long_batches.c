@@ -128,11 +128,11 @@ static size_t wrong_rows(const Answered *a, bool has_nulls, int32_t (*number)(si
     uint64_t bit_bytes = length_at(a->text + 8), before = (bit_bytes + 7) / 8 * 8;
     const char *numbers = bits + before + 8;
     size_t wrong = 0;
-    if (length_at(a->text) != ROWS || bit_bytes != (has_nulls ? sizeof validity : 0) ||
+    if (length_at(a->text) != ROWS || (bit_bytes != 0 && bit_bytes != sizeof validity) ||
         length_at(bits + before) != sizeof xs)
         return ROWS;
     for (size_t row = 0; row < ROWS; row++) {
-        bool is_valid = !has_nulls || (bits[row / 8] >> row % 8 & 1);
+        bool is_valid = bit_bytes == 0 || (bits[row / 8] >> row % 8 & 1);
         int32_t found;
         memcpy(&found, numbers + row * sizeof found, sizeof found);
         wrong += is_valid != (!has_nulls || !is_null(row)) || (is_valid && found != number(row));
