@@ -99,7 +99,8 @@ vx_status vx_plan_scan_arrow_json(vx_plan *plan, const char *schema, size_t sche
 
    Where the call answers, the structs are the caller's, who has to call release of each. Until then they keep
    what they point to, also where a child was moved out. They don't need the array that was given, nor the plan.
-   Where it doesn't, both have release NULL. The buffer is for a message alone. */
+   Where it doesn't, both have release NULL: as it does where a name of the answer's type has a byte 0, at which
+   Arrow's names end. The buffer is for a message alone. */
 vx_status vx_plan_scan_arrow(vx_plan *plan, const char *schema, size_t schema_length,
                              const struct ArrowSchema *type, const struct ArrowArray *array,
                              struct ArrowArray *values, struct ArrowSchema *values_type,

@@ -142,6 +142,8 @@ static void read_type(Reader *r, struct ArrowSchema *schema)
 
 vx_status arrow_schema_of(const Call *call, const char *text, size_t length, struct ArrowSchema *schema)
 {
+    if (memchr(text, 0, length)) /* (names end there in a schema) */
+        return arrow_stop(call, VX_SCHEMA, &ARROW_ROW, "expected names without the byte 0", "");
     /* (each child has one of these signs before it; a name has no more bytes than in the text with the sign) */
     size_t structs = 1;
     for (size_t i = 0; i < length; i++)

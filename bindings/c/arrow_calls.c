@@ -512,6 +512,21 @@ static void test_values_out(const Column *c)
     free((char *)schema.bytes);
 }
 
+/* A name that an ArrowSchema would cut. */
+static void test_name_with_zero(const Column *c, Text schema)
+{
+    static const char PACK[] = "pack(`a\0b`: a)";
+    vx_plan plan = VX_PLAN_INIT;
+    vx_answer answer;
+    Column values;
+    EXPECT(vx_plan_new(PACK, sizeof PACK - 1, schema.bytes, schema.length, &plan, NULL, 0, &answer) == VX_ANSWERED);
+    Answered a = column_out(vx_plan_scan_arrow, &plan, schema, c, &values);
+    EXPECT(a.status == VX_BAD_DATA && says(&a, "error: Arrow schema: $: expected names without the byte 0"));
+    EXPECT(!values.array.release && !values.schema.release);
+    free(a.text);
+    vx_plan_free(&plan);
+}
+
 /* What stops a call, with its place; and a column that is told nothing of. */
 static void test_stops_out(Column *c)
 {
@@ -524,6 +539,7 @@ static void test_stops_out(Column *c)
     a = column_out(vx_plan_scan_arrow, &plan, text_of("{a=i32?}"), c, &values);
     EXPECT(a.status == VX_BAD_DATA && begins(&a, "error: batch: $: expected a batch of the plan's type"));
     free(a.text);
+    test_name_with_zero(c, schema);
     c->array.n_buffers = 2;
     a = column_out(vx_plan_scan_arrow, &plan, schema, c, &values);
     EXPECT(a.status == VX_BAD_DATA && says(&a, "error: batch: $: expected n_buffers 1, and not 2"));
