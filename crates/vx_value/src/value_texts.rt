@@ -10,6 +10,7 @@ use crate::{Scalar, Value};
 use std::fmt;
 use std::fmt::{Display, Formatter, Write};
 use vx_dtype::{DType, Shown};
+use vx_literals::{write_day, write_decimal, write_instant};
 
 impl Display for Scalar {
     ghost output = { λ s. Some (value_text s.value s.type) };
@@ -33,7 +34,7 @@ pub(crate) fn write_list<W: Write>(values: &[Value], t: &DType, f: &mut Formatte
     write_list_in(&Shown, values, t, f)
 }
 
-// A number with its type behind it, and a text between quotes as it stands.
+// A number of a `PType` with that behind it, and a text between quotes as it stands.
 impl ValueNotation for Shown {
     ghost words = { shown_words };
 
@@ -43,6 +44,9 @@ impl ValueNotation for Shown {
                 number.fmt(f)?;
                 p.fmt(f)
             }
+            DType::Decimal(decimal, _) => write_decimal(number, decimal.scale(), f),
+            DType::Date(_) => write_day(number, f),
+            DType::Timestamp(timestamp, _) => write_instant(number, timestamp, f),
             _ => Ok(()),
         }
     }
