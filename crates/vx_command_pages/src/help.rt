@@ -33,7 +33,7 @@ pub(crate) fn help_for_unread(text: &str, at: usize) -> Option<&'static str> {
         b';' => Some("leave the `;` out: a text is one expression"),
         b'[' => Some("there are no subscripts: a field is named, as in x.y"),
         b'0'..=b'9' if is_behind_point(bytes, at) => Some(
-            "there are whole numbers alone, as in x > 5",
+            "numbers are whole, as in x > 5; beside a decimal one with a point stands in quotes, as in x > \"5.5\"",
         ),
         _ => None,
     }

@@ -248,11 +248,11 @@ fn ptype_wanted(operands: &[Operand<'_>]) -> Option<PType> {
     None
 }
 
-// The number of a literal.
+// The number of a literal that is of a type of whole numbers.
 fn number_at(node: &Expression) -> Option<i128> {
     match node.as_scalar() {
-        Some(ScalarFnRef::Literal(scalar)) => match scalar.value() {
-            Value::Int(number) => Some(*number),
+        Some(ScalarFnRef::Literal(scalar)) => match (scalar.dtype(), scalar.value()) {
+            (DType::Primitive(..), Value::Int(number)) => Some(*number),
             _ => None,
         },
         _ => None,

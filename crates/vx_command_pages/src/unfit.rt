@@ -29,6 +29,20 @@ pub(crate) fn help_for_unfit(literal: &UnfitLiteral) -> &'static str {
             "it takes the type of what it stands beside: say a wider one in the schema, as i64"
         }
         (DType::Primitive(..), _) => "what it stands beside is a number: write one, as in x > 5",
+        (DType::Decimal(..), _) => {
+            "what it stands beside is a decimal: write a number that it holds, as in x > \"12.50\""
+        }
+        (DType::Date(_), _) => {
+            "what it stands beside is a date: write one, as in x > \"2024-01-31\""
+        }
+        (DType::Timestamp(timestamp, _), _) => match &timestamp.zone {
+            Some(_) => {
+                "what it stands beside is a timestamp: write one, as in x > \"2024-01-31T10:15:00Z\""
+            }
+            None => {
+                "what it stands beside is a timestamp: write one, as in x > \"2024-01-31T10:15:00\""
+            }
+        },
         (DType::Utf8(_), _) => "what it stands beside is a text: write one, as in x = \"5\"",
         (DType::Bool(_), _) => "what it stands beside is a truth value: write `true` or `false`",
         (DType::Binary(_), _) => "what it stands beside is bytes: write some, as in x = 0x0a",

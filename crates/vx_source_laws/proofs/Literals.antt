@@ -17,7 +17,7 @@ use Rattle.vx_tree.specs.Trees.{call, no_tree}
 use Rattle.vx_source_types.specs.Characters.{is_word}
 use Rattle.vx_source_types.specs.declared.token.Sign.TheVariants.{OpenBracket, OpenBrace, CloseParen, DoubleColon}
 use Rattle.vx_source_types.specs.Tokens.{Lexeme, word, number as numeral, text as text_token, octets as octets_token, sign, next, first}
-use Rattle.vx_source_types.proofs.Choice.{no}
+use Rattle.vx_dtype.proofs.Choice.{no}
 use Rattle.vx_source_types.specs.declared.expectation.Expected.TheVariants.{Value}
 use Rattle.vx_source_types.proofs.FirstNumbers.{is_more, first_number, first_below_zero}
 use Rattle.vx_source_types.specs.Names.{same_word}
@@ -28,6 +28,7 @@ use Rattle.vx_source_types.specs.Literals.{fitting, ranged, plain_literal}
 use Rattle.vx_source_types.specs.ScalarReading.{suffixed}
 use Rattle.vx_source_types.specs.ScalarTexts.{value_source}
 use Rattle.vx_source_types.specs.ScalarPrintable.{value_nesting, IsSpelledValue}
+use Rattle.vx_source_types.specs.Untyped.{untyped}
 use Rattle.vx_source_types.specs.ValueReading.{Drafted, ValueState, whole_value, simple_begins, value_start, value_step, word_value}
 use Rattle.vx_source_types.proofs.ValuesAgain.{Follows, names_after, value_again, fits_small, fits_below_zero}
 use Rattle.vx_source_grammar.specs.Beginning.{begins, word_begins, value_begun, number_begins, first_child_at, literal_before, value_ends, value_goes}
@@ -101,9 +102,9 @@ pub value_in : {s u : ValueState} {bs ds : List ℕ} (fs : List Frame) (r : ℕ)
 value_in fs r stays = stays
 value_in fs r (leads {x = x} p q h) = leads p (ap (value_goes plain_literal fs r x) q) (value_in fs r h)
 
--- a value that is read, and the names of its structs
+-- a value that is read, as it stands before its type, and the names of its structs
 abbrev pub read_value : Datum → LogicalType → ℕ → ValueState
-read_value v t r = record { frames = []; mode = whole_value v; names = names_after [] v t; room = r }
+read_value v t r = record { frames = []; mode = whole_value (untyped v t); names = names_after [] v t; room = r }
 
 -- ---- nodes
 
@@ -138,10 +139,10 @@ no_type : (fs : List Frame) (r : ℕ) (d : Drafted) (x : Lexeme) → is_suffix x
 no_type fs r d (sign DoubleColon) p = cc
 no_type fs r d x p = refl
 
-value_alone : (v : Datum) (t : LogicalType) (fs : List Frame) (r : ℕ) → plain_literal v ≡ Ok (constant t v) → 0 < r → IsBehind fs r (call (literal t v) no_tree) (at fs (in_value (read_value v t r)) r)
-value_alone v t fs r q h x p = no_type fs r (record { value = v; names = names_after [] v t }) x p ∙ (ap (literal_before fs r x) q ∙ literal_is fs r t v x h)
+value_alone : (v : Datum) (t : LogicalType) (fs : List Frame) (r : ℕ) → plain_literal (untyped v t) ≡ Ok (constant t v) → 0 < r → IsBehind fs r (call (literal t v) no_tree) (at fs (in_value (read_value v t r)) r)
+value_alone v t fs r q h x p = no_type fs r (record { value = untyped v t; names = names_after [] v t }) x p ∙ (ap (literal_before fs r x) q ∙ literal_is fs r t v x h)
 
-pub alone_again : (v : Datum) (t : LogicalType) (fs : List Frame) (r : ℕ) (rest : List ℕ) → Fits v t → IsSpelledValue v → IsPrintable t → value_nesting v ≤ r → 0 < r → plain_literal v ≡ Ok (constant t v) → Ends rest
+pub alone_again : (v : Datum) (t : LogicalType) (fs : List Frame) (r : ℕ) (rest : List ℕ) → Fits v t → IsSpelledValue v → IsPrintable t → value_nesting v ≤ r → 0 < r → plain_literal (untyped v t) ≡ Ok (constant t v) → Ends rest
     → Reads fs r (call (literal t v) no_tree) (value_source v t ++ rest) rest
 alone_again v t fs r rest f u w h l q m = literal_of v t fs r rest rest _ f u w h (ends_word rest m, ends_text rest m) stays (value_alone v t fs r q l)
 

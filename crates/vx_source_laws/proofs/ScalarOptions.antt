@@ -6,7 +6,7 @@ use Rattle.vx_dtype.specs.declared.dtype.PType.{PType}
 use Rattle.vx_value.specs.Columns.{Constant, constant}
 use Rattle.vx_value.specs.Fits.{Fits}
 use Rattle.vx_value.specs.Texts.{ptype_text}
-use Rattle.vx_value.specs.Types.{truth, number, text, octets, LogicalType, ty, atomic, list, fixed, struct, Datum, bool, int, utf8, bytes}
+use Rattle.vx_value.specs.Types.{truth, number, decimals, date, timestamp, text, octets, LogicalType, ty, atomic, list, fixed, struct, Datum, bool, int, utf8, bytes}
 use Rattle.vx_fn.specs.Functions.{Function, literal, cast}
 use Rattle.vx_source_types.specs.declared.expectation.Expected.{Expected}
 use Rattle.vx_source_types.specs.declared.expectation.Expected.TheVariants.{CloseBracket as TheBracket}
@@ -22,6 +22,7 @@ use Rattle.vx_source_types.specs.Literals.{ranged, plain_literal, fitting}
 use Rattle.vx_source_types.specs.ScalarReading.{ScalarState, scalar_due, in_value, in_type, whole_scalar, value_begun, scalar_begins, value_after, type_after, ended, type_ended as scalar_ended, scalar_step}
 use Rattle.vx_source_types.specs.ScalarTexts.{value_source, type_behind}
 use Rattle.vx_source_types.specs.ScalarPrintable.{value_nesting, IsSpelledValue}
+use Rattle.vx_source_types.specs.Untyped.{untyped}
 use Rattle.vx_source_types.specs.ValueReading.{value_start, value_step}
 use Rattle.vx_source_types.proofs.ValuesAgain.{Follows, value_again, fits_small, fits_below_zero}
 use Rattle.vx_source_grammar.specs.OptionReading.{read_all, function_read}
@@ -97,7 +98,7 @@ value_taken v t room behind f u w h e =
     let rest = embedded value_step (scalar_step room) in_value value_brackets (λ a b x q. ap (value_after room x) q) value_counted it.goes in
     (it.token ∷ rest.0, one_taken it.found (ap (scalar_begins room it.token) it.bare ∙ ap (value_begun it.token) it.taken) (value_counted (value_start room) it.state it.token it.taken) rest.1)
 
-alone_options : (v : Datum) (t : LogicalType) (room : ℕ) (rest : List ℕ) → Fits v t → IsSpelledValue v → IsPrintable t → value_nesting v ≤ room → type_behind t ≡ [] → plain_literal v ≡ Ok (constant t v) → AreOptions (literal t v) (codes "literal") room rest
+alone_options : (v : Datum) (t : LogicalType) (room : ℕ) (rest : List ℕ) → Fits v t → IsSpelledValue v → IsPrintable t → value_nesting v ≤ room → type_behind t ≡ [] → plain_literal (untyped v t) ≡ Ok (constant t v) → AreOptions (literal t v) (codes "literal") room rest
 alone_options v t room rest f u w h q l =
     let taken = value_taken v t room (93 ∷ rest) f u w h (refl, refl) in
     let grouped : (value_source v t ++ type_behind t) ++ 93 ∷ rest ≡ value_source v t ++ 93 ∷ rest = ap (λ xs. (value_source v t ++ xs) ++ 93 ∷ rest) q ∙ ap (λ xs. xs ++ 93 ∷ rest) (append-nil (value_source v t)) in
@@ -141,6 +142,9 @@ literal_options (ty (atomic (number p)) true) v room rest f u w h k = typed_opti
 literal_options (ty (atomic truth) true) v room rest f u w h k = typed_options v (ty (atomic truth) true) room rest f u w h k refl
 literal_options (ty (atomic text) true) v room rest f u w h k = typed_options v (ty (atomic text) true) room rest f u w h k refl
 literal_options (ty (atomic octets) true) v room rest f u w h k = typed_options v (ty (atomic octets) true) room rest f u w h k refl
+literal_options (ty (atomic (decimals p s)) n) v room rest f u w h k = typed_options v (ty (atomic (decimals p s)) n) room rest f u w h k refl
+literal_options (ty (atomic date) n) v room rest f u w h k = typed_options v (ty (atomic date) n) room rest f u w h k refl
+literal_options (ty (atomic (timestamp i z)) n) v room rest f u w h k = typed_options v (ty (atomic (timestamp i z)) n) room rest f u w h k refl
 literal_options (ty (list t) n) v room rest f u w h k = typed_options v (ty (list t) n) room rest f u w h k refl
 literal_options (ty (fixed t l) n) v room rest f u w h k = typed_options v (ty (fixed t l) n) room rest f u w h k refl
 literal_options (ty (struct gs) n) v room rest f u w h k = typed_options v (ty (struct gs) n) room rest f u w h k refl

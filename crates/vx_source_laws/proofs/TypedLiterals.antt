@@ -3,7 +3,7 @@ use Rattle.std.proofs.Common.{◌≡◌, ℕ, ◌<◌, ◌≤◌, true, false, L
 use Rattle.std.specs.Prelude.{codes}
 use Rattle.vx_value.specs.Columns.{Constant, constant}
 use Rattle.vx_value.specs.Fits.{Fits}
-use Rattle.vx_value.specs.Types.{truth, number, text, octets, LogicalType, ty, atomic, list, fixed, struct, Datum, bool, int, utf8, bytes}
+use Rattle.vx_value.specs.Types.{truth, number, decimals, date, timestamp, text, octets, LogicalType, ty, atomic, list, fixed, struct, Datum, bool, int, utf8, bytes}
 use Rattle.vx_fn.specs.Functions.{literal}
 use Rattle.vx_tree.specs.Trees.{call, no_tree}
 use Rattle.vx_source_types.specs.Tokens.{end}
@@ -16,6 +16,7 @@ use Rattle.vx_source_types.specs.Literals.{typed_literal}
 use Rattle.vx_source_types.specs.ScalarReading.{scalar_due, in_value as in_scalar_value, in_type as in_scalar_type, value_begun, scalar_begins, value_after, type_after, type_ended as scalar_ended, scalar_step}
 use Rattle.vx_source_types.specs.ScalarTexts.{value_source, type_behind}
 use Rattle.vx_source_types.specs.ScalarPrintable.{value_nesting, IsSpelledValue}
+use Rattle.vx_source_types.specs.Untyped.{untyped}
 use Rattle.vx_source_types.specs.ValueReading.{Drafted, ValueState, value_step}
 use Rattle.vx_source_types.proofs.ScalarsAgain.{scalar_again}
 use Rattle.vx_source_types.proofs.ValuesAgain.{names_after, value_again}
@@ -29,9 +30,9 @@ use Rattle.vx_source_laws.proofs.TypesRead.{read_type, type_ended, whole_type, t
 
 -- ---- the value is one of the type, since the scalar alone is read as it
 
--- the value as it was read
+-- the value as it was read, before its type
 abbrev pub draft : Datum → LogicalType → Drafted
-draft v t = record { value = v; names = names_after [] v t }
+draft v t = record { value = untyped v t; names = names_after [] v t }
 
 value_in : {s u : ValueState} {bs ds : List ℕ} (room : ℕ) → Leads value_step s bs u ds → Leads (scalar_step room) (in_scalar_value s) bs (in_scalar_value u) ds
 value_in room stays = stays
@@ -91,6 +92,9 @@ literal_again (ty (atomic (number p)) true) v f u w fs r rest h m = typed_again 
 literal_again (ty (atomic truth) true) v f u w fs r rest h m = typed_again v (ty (atomic truth) true) f u w refl fs r rest h m
 literal_again (ty (atomic text) true) v f u w fs r rest h m = typed_again v (ty (atomic text) true) f u w refl fs r rest h m
 literal_again (ty (atomic octets) true) v f u w fs r rest h m = typed_again v (ty (atomic octets) true) f u w refl fs r rest h m
+literal_again (ty (atomic (decimals p s)) n) v f u w fs r rest h m = typed_again v (ty (atomic (decimals p s)) n) f u w refl fs r rest h m
+literal_again (ty (atomic date) n) v f u w fs r rest h m = typed_again v (ty (atomic date) n) f u w refl fs r rest h m
+literal_again (ty (atomic (timestamp i z)) n) v f u w fs r rest h m = typed_again v (ty (atomic (timestamp i z)) n) f u w refl fs r rest h m
 literal_again (ty (list t) n) v f u w fs r rest h m = typed_again v (ty (list t) n) f u w refl fs r rest h m
 literal_again (ty (fixed t l) n) v f u w fs r rest h m = typed_again v (ty (fixed t l) n) f u w refl fs r rest h m
 literal_again (ty (struct gs) n) v f u w fs r rest h m = typed_again v (ty (struct gs) n) f u w refl fs r rest h m

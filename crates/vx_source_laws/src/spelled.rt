@@ -2,13 +2,14 @@
 // as any bytes and of a length as any number, and only a name or a length that is at hand is text, or fits 32 bits.
 ghost use Rattle.std.specs.Str.{IsUtf8};
 ghost use Rattle.vx_value.specs.Fits.{Fits};
-ghost use Rattle.vx_value.specs.Types.{bytes};
+ghost use Rattle.vx_dtype.specs.Timestamps.{instants};
+ghost use Rattle.vx_value.specs.Types.{bytes, decimals};
 ghost use Rattle.vx_value.specs.Views.{type_of, fields_of, value_of, data_view};
-ghost use Rattle.vx_source_types.specs.TypePrintable.{IsPrintable, ArePrintable};
+ghost use Rattle.vx_source_types.specs.TypePrintable.{IsPrintable, IsPrintableAtomic, ArePrintable};
 ghost use Rattle.vx_source_types.specs.ScalarPrintable.{IsSpelledValue, AreSpelledValues};
 ghost use Rattle.vx_source_laws.specs.SpelledTrees.{AreTexts};
 
-use vx_dtype::{DType, FieldName, StructFields};
+use vx_dtype::{DType, DecimalType, FieldName, StructFields, TimestampType};
 use vx_value::{Scalar, Value};
 
 /// Shows that a text can say the type: its names are UTF-8, and its lengths fit 32 bits. Time is linear in the type.
@@ -23,7 +24,30 @@ pub fn type_is_spelled(t: &DType)
             type_is_spelled(element.as_ref());
         }
         DType::Struct(fields, _) => fields_are_spelled(fields),
-        DType::Bool(_) | DType::Primitive(_, _) | DType::Utf8(_) | DType::Binary(_) => {}
+        DType::Decimal(decimal, _) => decimal_is_spelled(*decimal),
+        DType::Timestamp(timestamp, _) => timestamp_is_spelled(timestamp),
+        DType::Bool(_)
+        | DType::Primitive(_, _)
+        | DType::Date(_)
+        | DType::Utf8(_)
+        | DType::Binary(_) => {}
+    }
+}
+
+// The precision is from 1 to 38, and the scale at most that.
+fn decimal_is_spelled(decimal: DecimalType)
+    ensures { IsPrintableAtomic (decimals decimal.precision decimal.scale) }
+{
+    let _precision = decimal.precision();
+    let _scale = decimal.scale();
+}
+
+// The name of the zone is UTF-8, if there is one.
+fn timestamp_is_spelled(timestamp: &TimestampType)
+    ensures { IsPrintableAtomic (instants timestamp.now) }
+{
+    if let Some(zone) = &timestamp.zone {
+        is_text(zone.as_str());
     }
 }
 

@@ -1,17 +1,18 @@
--- Settling changes nothing but the types of literals that were written without one.
-use Rattle.std.proofs.Common.{◌≡◌, ℕ, suc, List, [], ◌∷◌, drop, Result, Ok, Err, refl, subst, Bool, true, false}
+-- Settling changes nothing but the types of literals that were written without one, and what their values are as those of the types.
+use Rattle.std.proofs.Common.{◌≡◌, ◌∙◌, ℕ, suc, List, [], ◌∷◌, drop, Result, Ok, Err, refl, ap, subst, Bool, true, false}
 use Rattle.std.specs.Prelude.{Option, Some, None, ◌||◌, ◌&&◌, if◌then◌else◌}
 use Rattle.std.specs.Option.{is_some}
-use Rattle.vx_value.specs.Columns.{constant}
+use Rattle.vx_value.specs.Columns.{Constant, constant}
 use Rattle.vx_value.specs.Fits.{fits, Fits}
-use Rattle.vx_value.specs.Types.{LogicalType, Datum, is_null_datum, with_nullability}
+use Rattle.vx_value.specs.Types.{Name, Atomic, truth, number, decimals, date, timestamp, text, octets, LogicalType, ty, atomic, Datum, null, bool, int, utf8, bytes, list_of, struct_of, is_null_datum, with_nullability}
 use Rattle.vx_fn.specs.Functions.{Function, literal}
 use Rattle.vx_tree.specs.Trees.{Tree, root, call, Trees, no_tree, tree}
-use Rattle.vx_source_types.specs.Literals.{plain_type, plain_of, in_range}
+use Rattle.vx_source_types.specs.Literals.{fitting, plain_type, plain_of, in_range, names_left, typed_of, typed_literal}
+use Rattle.vx_source_types.specs.Untyped.{has_texts, typed_value}
 use Rattle.vx_source_types.specs.declared.expectation.Expected.{Expected}
 use Rattle.vx_source_over.specs.Peers.{is_peer, has_type_of_peers, open_value, child_at, is_open, are_open}
-use Rattle.vx_source_over.specs.Settling.{Refusal, misfit, when_settled, fitted, as_alone, literal_as, unless, first_or, first_type, node_of, settled, owned, rest, wished, read_over}
-use Rattle.vx_source_over.specs.Laws.{IsRetyped, same_root, other_type, same_node, AreRetyped, no_more, one_more, TypesAloneChange}
+use Rattle.vx_source_over.specs.Settling.{Refusal, when_settled, read_as, fitted, as_alone, literal_as, unless, first_or, first_type, node_of, settled, owned, rest, wished, read_over}
+use Rattle.vx_source_over.specs.Laws.{IsValueAs, IsRetyped, same_root, other_type, same_node, AreRetyped, no_more, one_more, TypesAloneChange, OtherValuesStay}
 use Rattle.vx_source_over.proofs.Steps.{settled_parts}
 
 abbrev ok_tree : Tree → Result Tree Refusal
@@ -40,28 +41,60 @@ the_function t u h = cc
 
 -- ---- a literal
 
--- the function is a literal of that value, which is one of its type
+-- the function is a literal of what that value is as one of its type
 abbrev IsLiteral : Datum → Function → Type 0
-IsLiteral v g = (t : LogicalType) × (g ≡ literal t v) × Fits v t
+IsLiteral v g = (t : LogicalType) × (w : Datum) × (g ≡ literal t w) × IsValueAs v t w
+
+fitting_is : (t : LogicalType) (w : Datum) (c : Constant) → fitting t w ≡ Some c → (c ≡ constant t w) × Fits w t
+fitting_is t w c h = go (fits w t) refl h
+  where
+    go : (b : Bool) → fits w t ≡ b → (if b then Some (constant t w) else None) ≡ Some c → (c ≡ constant t w) × Fits w t
+    go true q h = (cc, q)
+    go false q h = cc
+
+typed_of_is : (t : LogicalType) (left : Option (List Name)) (o : Option Datum) (c : Constant) → typed_of t left o ≡ Some c → (w : Datum) × (o ≡ Some w) × (fitting t w ≡ Some c)
+typed_of_is t (Some []) (Some w) c h = (w, refl, h)
+typed_of_is t (Some []) None c h = cc
+typed_of_is t (Some (a ∷ names)) o c h = cc
+typed_of_is t None o c h = cc
 
 fitted_is : (t : LogicalType) (v : Datum) (g : Function) → fitted t v ≡ Ok g → IsLiteral v g
-fitted_is t v g h = go (fits v t) refl h
+fitted_is t v g h = go (typed_literal (record { value = v; names = [] }) t) refl h
   where
-    go : (b : Bool) → fits v t ≡ b → (if b then Ok (literal t v) else Err (misfit v t)) ≡ ok_function g → IsLiteral v g
-    go true q h = (t, the_function (literal t v) g h, q)
-    go false q h = cc
+    go : (o : Option Constant) → typed_literal (record { value = v; names = [] }) t ≡ o → read_as t v o ≡ Ok g → IsLiteral v g
+    go (Some c) q k =
+        let p = typed_of_is t (names_left v t []) (typed_value v t) c q in
+        let f = fitting_is t p.0 c p.2 in
+        (t, p.0, the_function (literal c.type c.value) g k ∙ ap (λ (x : Constant). literal x.type x.value) f.0, (p.1, f.1))
+    go None q k = cc
 
-alone_is : (v : Datum) (r : Result LogicalType Expected) (g : Function) → as_alone (plain_of v r) ≡ Ok g → IsLiteral v g
-alone_is v (Err x) g h = cc
-alone_is v (Ok t) g h = go (fits v t) refl h
+abbrev ok_type : LogicalType → Result LogicalType Expected
+ok_type t = Ok t
+
+the_type : (t u : LogicalType) → ok_type t ≡ Ok u → t ≡ u
+the_type t u h = cc
+
+-- a value is that value of the type that it has alone
+alone_stays : (v : Datum) (t : LogicalType) → plain_type v ≡ Ok t → typed_value v t ≡ Some v
+alone_stays null t h = cc
+alone_stays (bool b) t h = subst (λ u. typed_value (bool b) u ≡ Some (bool b)) (the_type _ t h) refl
+alone_stays (int i) t h = subst (λ u. typed_value (int i) u ≡ Some (int i)) (the_type _ t h) refl
+alone_stays (utf8 s) t h = subst (λ u. typed_value (utf8 s) u ≡ Some (utf8 s)) (the_type _ t h) refl
+alone_stays (bytes bs) t h = subst (λ u. typed_value (bytes bs) u ≡ Some (bytes bs)) (the_type _ t h) refl
+alone_stays (list_of vs) t h = cc
+alone_stays (struct_of vs) t h = cc
+
+alone_is : (v : Datum) (r : Result LogicalType Expected) (g : Function) → plain_type v ≡ r → as_alone (plain_of v r) ≡ Ok g → IsLiteral v g
+alone_is v (Err x) g p h = cc
+alone_is v (Ok t) g p h = go (fits v t) refl h
   where
     go : (b : Bool) → fits v t ≡ b → as_alone (in_range (if b then Some (constant t v) else None)) ≡ Ok g → IsLiteral v g
-    go true q h = (t, the_function (literal t v) g h, q)
-    go false q h = cc
+    go true q k = (t, v, the_function (literal t v) g k, (alone_stays v t p, q))
+    go false q k = cc
 
 literal_is : (w : Option LogicalType) (v : Datum) (g : Function) → literal_as w v ≡ Ok g → IsLiteral v g
 literal_is (Some t) v g h = fitted_is (with_nullability (is_null_datum v) t) v g h
-literal_is None v g h = alone_is v (plain_type v) g h
+literal_is None v g h = alone_is v (plain_type v) g refl h
 
 no_literal : (o : Option Datum) (b : Bool) → (is_some o || b) ≡ false → o ≡ None
 no_literal None b h = refl
@@ -113,8 +146,8 @@ module _ (s : LogicalType) (w : Option LogicalType) (f : Function) (es : Trees) 
   node_so (Some v) q h =
       let p = settled_parts _ (literal_as w v) t h in
       let g = literal_is w v p.0 p.1 in
-      let is : call (literal g.0 v) es ≡ t = cc (p.2, g.1) in
-      subst (IsRetyped (call f es) d) is (other_type q g.2)
+      let is : call (literal g.0 g.1) es ≡ t = cc (p.2, g.2) in
+      subst (IsRetyped (call f es) d) is (other_type q g.3)
   node_so None q h = let p = settled_parts _ below t h in subst (IsRetyped (call f es) d) (the_tree (call f p.0) t p.2) (same_node q (k p.0 p.1))
 
 -- ---- trees
@@ -161,3 +194,45 @@ types_alone_change s e d t h = go (is_open e (Some d)) refl h
     go : (b : Bool) → is_open e (Some d) ≡ b → (if b then wished s None e (Some d) else settled s e (Some d)) ≡ Ok t → IsRetyped e (Some d) t
     go true q h = wished_retyped s None e (Some d) t h
     go false q h = settled_retyped s e (Some d) t q h
+
+-- ---- values of other types
+
+stays_as : (v w : Datum) (o : Option Datum) → o ≡ Some v → o ≡ Some w → w ≡ v
+stays_as v w o h k = cc
+
+-- of a type whose values are no texts before it
+same_before : (v : Datum) (a : Atomic) (n : Bool) → has_texts (ty (atomic a) n) ≡ false → typed_value v (ty (atomic a) n) ≡ Some v
+same_before v (decimals p k) n h = cc
+same_before v date n h = cc
+same_before v (timestamp u z) n h = cc
+same_before null truth n h = refl
+same_before (bool b) truth n h = refl
+same_before (int i) truth n h = refl
+same_before (utf8 s) truth n h = refl
+same_before (bytes bs) truth n h = refl
+same_before (list_of vs) truth n h = refl
+same_before (struct_of vs) truth n h = refl
+same_before null (number p) n h = refl
+same_before (bool b) (number p) n h = refl
+same_before (int i) (number p) n h = refl
+same_before (utf8 s) (number p) n h = refl
+same_before (bytes bs) (number p) n h = refl
+same_before (list_of vs) (number p) n h = refl
+same_before (struct_of vs) (number p) n h = refl
+same_before null text n h = refl
+same_before (bool b) text n h = refl
+same_before (int i) text n h = refl
+same_before (utf8 s) text n h = refl
+same_before (bytes bs) text n h = refl
+same_before (list_of vs) text n h = refl
+same_before (struct_of vs) text n h = refl
+same_before null octets n h = refl
+same_before (bool b) octets n h = refl
+same_before (int i) octets n h = refl
+same_before (utf8 s) octets n h = refl
+same_before (bytes bs) octets n h = refl
+same_before (list_of vs) octets n h = refl
+same_before (struct_of vs) octets n h = refl
+
+pub other_values_stay : OtherValuesStay
+other_values_stay v w a n h is = stays_as v w _ (same_before v a n h) is.0

@@ -1,19 +1,24 @@
 -- What settling keeps.
-use Rattle.std.specs.Prelude.{◌≡◌, ℕ, suc, List, Option, Some, None, Ok, IsOk}
+use Rattle.std.specs.Prelude.{◌≡◌, ℕ, suc, Bool, false, List, Option, Some, None, Ok, IsOk}
 use Rattle.vx_value.specs.Fits.{Fits}
-use Rattle.vx_value.specs.Types.{LogicalType, Datum}
+use Rattle.vx_value.specs.Types.{Atomic, LogicalType, ty, atomic, Datum}
 use Rattle.vx_fn.specs.Functions.{Function, literal}
 use Rattle.vx_tree.specs.Trees.{Tree, root, call, Trees, no_tree, tree, typed}
+use Rattle.vx_source_types.specs.Untyped.{has_texts, typed_value}
 use Rattle.vx_source_over.specs.Peers.{open_value, child_at}
 use Rattle.vx_source_over.specs.Reading.{ReadsAlone, ReadsOver}
 use Rattle.vx_source_over.specs.Settling.{read_over}
 
--- the second tree is the first but for the types of literals to which the other reading gives another type: each has its
--- value, which is one of its type
+-- that is the value as one of the type: what the type behind it makes of it
+abbrev pub IsValueAs : Datum → LogicalType → Datum → Type 0
+IsValueAs v t w = (typed_value v t ≡ Some w) × Fits w t
+
+-- the second tree is the first but for literals to which the other reading gives another type: each has its value as one of
+-- its type
 mutual
   pub data IsRetyped : Tree → Option Tree → Tree → Type 0 where
     same_root : {d : Option Tree} → IsRetyped root d root
-    other_type : {f : Function} {es : Trees} {d : Option Tree} {t : LogicalType} {v : Datum} → open_value f d ≡ Some v → Fits v t → IsRetyped (call f es) d (call (literal t v) es)
+    other_type : {f : Function} {es : Trees} {d : Option Tree} {t : LogicalType} {v w : Datum} → open_value f d ≡ Some v → IsValueAs v t w → IsRetyped (call f es) d (call (literal t w) es)
     same_node : {f : Function} {es ts : Trees} {d : Option Tree} → open_value f d ≡ None → AreRetyped 0 es d ts → IsRetyped (call f es) d (call f ts)
 
   -- so of the children from that index on
@@ -21,9 +26,14 @@ mutual
     no_more : {i : ℕ} {d : Option Tree} → AreRetyped i no_tree d no_tree
     one_more : {i : ℕ} {e t : Tree} {es ts : Trees} {d : Option Tree} → IsRetyped e (child_at d i) t → AreRetyped (suc i) es d ts → AreRetyped i (tree e es) d (tree t ts)
 
--- nothing but types of literals that were written without one changes
+-- nothing changes but the types of literals that were written without one, and with them what their values are as those of
+-- the types
 abbrev pub TypesAloneChange : Type 0
 TypesAloneChange = (s : LogicalType) (e d t : Tree) → read_over s e d ≡ Ok t → IsRetyped e (Some d) t
+
+-- of a type of truth values, whole numbers, texts or bytes the value is the one that was written
+abbrev pub OtherValuesStay : Type 0
+OtherValuesStay = (v w : Datum) (a : Atomic) (n : Bool) → has_texts (ty (atomic a) n) ≡ false → IsValueAs v (ty (atomic a) n) w → w ≡ v
 
 -- a text that has a type as it is read alone is read so
 abbrev pub TypedTextsStay : Type 0

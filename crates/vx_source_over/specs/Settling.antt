@@ -4,11 +4,10 @@ use Rattle.std.specs.Prelude.{ℕ, suc, drop, Bool, true, false, List, [], ◌�
 use Rattle.std.specs.Option.{option_or}
 use Rattle.std.specs.Result.{result_ok}
 use Rattle.vx_value.specs.Columns.{Constant}
-use Rattle.vx_value.specs.Fits.{fits}
 use Rattle.vx_value.specs.Types.{LogicalType, Datum, is_null_datum, with_nullability}
 use Rattle.vx_fn.specs.Functions.{Function, literal}
 use Rattle.vx_tree.specs.Trees.{Tree, root, call, Trees, no_tree, tree, typed}
-use Rattle.vx_source_types.specs.Literals.{plain_literal}
+use Rattle.vx_source_types.specs.Literals.{plain_literal, typed_literal}
 use Rattle.vx_source_types.specs.declared.expectation.Expected.{Expected}
 use Rattle.vx_source_over.specs.Peers.{is_peer, open_value, child_at, is_open}
 
@@ -24,9 +23,14 @@ when_settled f (Err r) = Err r
 
 -- ---- a literal
 
--- the value as one of the type, if it is one
+-- the literal that was read, or that the value is none of the type
+abbrev pub read_as : LogicalType → Datum → Option Constant → Result Function Refusal
+read_as t v (Some c) = Ok (literal c.type c.value)
+read_as t v None = Err (misfit v t)
+
+-- the value as one of the type, if it is one: what the type behind it makes of it
 abbrev pub fitted : LogicalType → Datum → Result Function Refusal
-fitted t v = if fits v t then Ok (literal t v) else Err (misfit v t)
+fitted t v = read_as t v (typed_literal (record { value = v; names = [] }) t)
 
 -- the literal that a value is read as alone
 abbrev pub as_alone : Result Constant Expected → Result Function Refusal

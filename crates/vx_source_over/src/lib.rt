@@ -11,6 +11,6 @@ mod whole;
 mod written;
 
 pub use error::OverError;
-pub use laws::{reading_over_is_unique, typed_texts_stay, types_alone_change};
+pub use laws::{other_values_stay, reading_over_is_unique, typed_texts_stay, types_alone_change};
 pub use whole::{parse_over, parse_over_with_places};
 pub use written::{Written, over, read_open};

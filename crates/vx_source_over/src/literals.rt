@@ -1,14 +1,14 @@
 // Literals that were written without a type.
-ghost use Rattle.std.specs.Prelude.{◌≡◌, option_map};
+ghost use Rattle.std.specs.Prelude.{◌≡◌, None, option_map};
 ghost use Rattle.vx_value.specs.Views.{type_of, value_of};
 ghost use Rattle.vx_source_types.specs.Literals.{plain_literal};
 ghost use Rattle.vx_source_over.specs.Reading.{Settles};
-ghost use Rattle.vx_source_over.specs.Settling.{literal_as, fitted, as_alone};
+ghost use Rattle.vx_source_over.specs.Settling.{literal_as, fitted, read_as, as_alone};
 ghost use Rattle.vx_source_over.specs.Views.{literal_with};
 
 use crate::OverError;
 use std::alloc::Global;
-use vx_source_types::{Draft, plain_literal};
+use vx_source_types::{Draft, plain_literal, typed_literal};
 use vx_types::{DType, Nullability, Scalar, Value};
 
 // The literal of the value, which stands in these bytes: of the type that is wished, nullable where the value is null, and
@@ -22,33 +22,46 @@ pub(crate) fn literal_as(
 ) -> Result<Scalar, OverError>
     ensures { Settles literal_with result (literal_as (option_map (λ t. type_of t.now) wish.entry) (value_of value.now)) }
 {
-    let value = value.clone()?;
     match wish {
         Some(dtype) => {
             let nullability = Nullability::of(value.is_null());
-            fitted(dtype.clone()?.with_nullability(nullability), value, bytes)
+            let dtype = dtype.clone()?.with_nullability(nullability);
+            fitted(alloc, dtype, value, bytes)
         }
-        None => as_alone(alloc, value, bytes),
+        None => as_alone(alloc, value.clone()?, bytes),
     }
 }
 
 // The value as one of the type, if it is one.
-fn fitted(dtype: DType, value: Value, bytes: (usize, usize)) -> Result<Scalar, OverError>
-    ensures { Settles literal_with result (fitted (type_of dtype) (value_of value)) }
+fn fitted(
+    alloc: Global,
+    dtype: DType,
+    value: &Value,
+    bytes: (usize, usize),
+) -> Result<Scalar, OverError>
+    ensures { Settles literal_with result (fitted (type_of dtype) (value_of value.now)) }
 {
-    if !value.fits(&dtype) {
-        let (start, end) = bytes;
-        return Err(OverError::Misfit {
-            start,
-            end,
-            value,
-            dtype,
-        });
+    let draft = Draft {
+        value: value.clone()?,
+        names: Vec::new(alloc),
+    };
+    match typed_literal(draft, dtype.clone()?) {
+        Some(scalar) => Ok(scalar),
+        None => misfit(dtype, value, bytes),
     }
-    match Scalar::try_new(dtype, value) {
-        Ok(scalar) => Ok(scalar),
-        Err(_) => unreachable!(),
-    }
+}
+
+// Refuses the value, which is none of the type.
+fn misfit(dtype: DType, value: &Value, bytes: (usize, usize)) -> Result<Scalar, OverError>
+    ensures { Settles literal_with result (read_as (type_of dtype) (value_of value.now) None) }
+{
+    let (start, end) = bytes;
+    Err(OverError::Misfit {
+        start,
+        end,
+        value: value.clone()?,
+        dtype,
+    })
 }
 
 // The literal that the value is read as alone.
