@@ -2,3 +2,4 @@ pub mod Grown
 pub mod Sizes
 mod Lined
 mod Spelled
+mod JsonNumbers

@@ -3,8 +3,7 @@ ghost use Rattle.std.specs.Prelude.{◌≡◌, ◌==◌, ◌++◌, ◌∷◌, []
 ghost use Rattle.vx_value.specs.Columns.{batch};
 ghost use Rattle.vx_value.specs.Views.{type_of, value_of};
 
-use crate::expected::Expected;
-use crate::fault::Fault;
+use crate::fault::{Fault, misfit};
 use std::alloc::Global;
 use std::marker::Model;
 use vx_types::{Column, DType, Value};
@@ -80,13 +79,5 @@ impl ColumnBuilder {
     {
         let ColumnBuilder { dtype, rows } = self;
         Column::try_new(dtype, rows).unwrap()
-    }
-}
-
-// What is no value of the type.
-fn misfit(alloc: Global, dtype: &DType) -> Fault {
-    match dtype.clone() {
-        Ok(dtype) => Fault::new(alloc, Expected::Value(dtype)),
-        Err(_) => Fault::OutOfMemory,
     }
 }

@@ -2,7 +2,7 @@
 use crate::error::{DataError, WriteError};
 use crate::expected::Expected;
 use std::alloc::{AllocError, AllocFailed, Global};
-use vx_types::{FieldName, FieldPath, VortexResult};
+use vx_types::{DType, FieldName, FieldPath, VortexResult};
 
 /// What a record is refused with by those who don't know where it stands. Its names are gathered from the inside out.
 #[derive(Debug, Drop)]
@@ -56,6 +56,14 @@ impl Fault {
                 Err(_) => WriteError::OutOfMemory,
             },
         }
+    }
+}
+
+/// The fault of what is no value of the type.
+pub fn misfit(alloc: Global, dtype: &DType) -> Fault {
+    match dtype.clone() {
+        Ok(dtype) => Fault::new(alloc, Expected::Value(dtype)),
+        Err(_) => Fault::OutOfMemory,
     }
 }
 

@@ -9,6 +9,7 @@ mod expected;
 mod fault;
 mod guessing;
 mod json_lines;
+mod numbers;
 mod other_fields;
 mod recorded;
 mod wholes;

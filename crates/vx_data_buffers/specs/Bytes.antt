@@ -1,6 +1,6 @@
 -- Bits and numbers of a buffer's bytes, where the buffer has them.
 use Rattle.std.specs.Prelude.{ℕ, ◌+◌, ◌*◌, ◌/◌, ◌%◌, Bool, ◌==◌, nat_le, List, [], map, take, drop, length, get_or, ℤ, pos, Option, Some, None, option_map, slice_get, if◌then◌else◌}
-use Rattle.std.specs.Int.{bit_at, cast_signed, from_le_bytes, w8, w16, w32, w64}
+use Rattle.std.specs.Int.{bit_at, cast_signed, from_le_bytes, w8, w16, w32, w64, w128}
 use Rattle.vx_dtype.specs.declared.dtype.PType.{PType}
 use Rattle.vx_dtype.specs.declared.dtype.PType.TheVariants.{U8, U16, U32, U64, I8, I16, I32, I64}
 use Rattle.vx_data_buffers.specs.declared.buffer.Buffer.{Buffer}
@@ -46,3 +46,7 @@ number_of I64 bytes = cast_signed w64 (from_le_bytes w64 bytes)
 -- number i of the type
 abbrev pub number_at : PType → List ℕ → ℕ → Option ℤ
 number_at p bytes i = option_map (number_of p) (part bytes (i * width p) (width p))
+
+-- the units of decimal i: sixteen bytes, little endian, in two's complement
+abbrev pub units_at : List ℕ → ℕ → Option ℤ
+units_at bytes i = option_map (λ b. cast_signed w128 (from_le_bytes w128 b)) (part bytes (i * 16) 16)

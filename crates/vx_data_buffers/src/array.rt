@@ -107,9 +107,13 @@ fn array_at(
             Some(columns) => structs_of(alloc, fields, columns.as_slice(), rows, validity),
             None => Ok(None),
         },
-        DType::Utf8(_) | DType::Binary(_) | DType::List(_, _) | DType::FixedSizeList(_, _, _) => {
-            Ok(None)
-        }
+        DType::Decimal(_, _)
+        | DType::Date(_)
+        | DType::Timestamp(_, _)
+        | DType::Utf8(_)
+        | DType::Binary(_)
+        | DType::List(_, _)
+        | DType::FixedSizeList(_, _, _) => Ok(None),
     }
 }
 

@@ -1,6 +1,6 @@
 // Bits and numbers of a buffer's bytes, where the buffer has them.
 ghost use Rattle.std.specs.Prelude.{◌≡◌, ◌*◌, option_map};
-ghost use Rattle.vx_data_buffers.specs.Bytes.{bit_of, number_at, part};
+ghost use Rattle.vx_data_buffers.specs.Bytes.{bit_of, number_at, part, units_at};
 ghost use Rattle.vx_dtype.specs.declared.dtype.PType.TheVariants.{I32};
 
 use vx_types::PType;
@@ -51,4 +51,11 @@ pub(crate) fn number_at(bytes: &[u8], ptype: PType, i: usize) -> Option<i128>
         PType::I32 => offset_at(bytes, i)? as i128,
         PType::I64 => i64::from_le_bytes(chunk_at(bytes, i)?) as i128,
     })
+}
+
+// The units of decimal i.
+pub(crate) fn units_at(bytes: &[u8], i: usize) -> Option<i128>
+    ensures { result ≡ units_at bytes.now i }
+{
+    Some(i128::from_le_bytes(chunk_at(bytes, i)?))
 }

@@ -1,14 +1,14 @@
 // Values without others inside them, and which rows are null.
 ghost use Rattle.std.specs.Prelude.{◌≡◌, Ok};
 ghost use Rattle.vx_data_buffers.specs.Results.{Reads, and_so};
-ghost use Rattle.vx_data_buffers.specs.Bytes.{bit_of, bytes_at, bytes_in, number_at};
+ghost use Rattle.vx_data_buffers.specs.Bytes.{bit_of, bytes_at, bytes_in, number_at, units_at};
 ghost use Rattle.vx_data_buffers.specs.Layout.{found, is_valid, text_of};
 ghost use Rattle.vx_value.specs.Types.{bool, bytes, int};
 ghost use Rattle.vx_value.specs.Views.{value_of};
 
 use crate::Buffer;
 use crate::buffer::bytes_at;
-use crate::bytes::{bit_of, number_at};
+use crate::bytes::{bit_of, number_at, units_at};
 use crate::fault::Fault;
 use std::alloc::Global;
 use vx_types::{PType, Value};
@@ -45,6 +45,16 @@ pub(crate) fn whole_at(
 {
     match number_at(bytes_at(buffers, at), ptype, i) {
         Some(number) => Ok(Value::Int(number)),
+        None => Err(Fault::EndsEarly(at)),
+    }
+}
+
+// The decimal of row i.
+pub(crate) fn decimal_at(buffers: &[Buffer<'_>], at: usize, i: usize) -> Result<Value, Fault>
+    ensures { Reads value_of result (and_so (found at (units_at (bytes_at (bytes_in buffers.now) at) i)) int) }
+{
+    match units_at(bytes_at(buffers, at), i) {
+        Some(units) => Ok(Value::Int(units)),
         None => Err(Fault::EndsEarly(at)),
     }
 }

@@ -14,14 +14,11 @@ pub(crate) fn write_column<'a>(
 ) -> Result<(), LayoutError> {
     buffers.push(validity_of(alloc, t.is_nullable(), rows)?)?;
     match t {
-        DType::Bool(_) => {
-            buffers.push(bits_of(alloc, rows, Bit::IsTrue)?)?;
-            Ok(())
-        }
-        DType::Primitive(ptype, _) => {
-            buffers.push(numbers_of(alloc, *ptype, rows)?)?;
-            Ok(())
-        }
+        DType::Bool(_) => Ok(buffers.push(bits_of(alloc, rows, Bit::IsTrue)?)?),
+        DType::Primitive(ptype, _) => Ok(buffers.push(numbers_of(alloc, *ptype, rows)?)?),
+        DType::Decimal(_, _) => Ok(buffers.push(decimals_of(alloc, rows)?)?),
+        DType::Date(_) => Ok(buffers.push(numbers_of(alloc, PType::I32, rows)?)?),
+        DType::Timestamp(_, _) => Ok(buffers.push(numbers_of(alloc, PType::I64, rows)?)?),
         DType::Utf8(_) | DType::Binary(_) => {
             let (offsets, bytes) = spans_of(alloc, rows)?;
             buffers.push(offsets)?;
@@ -101,13 +98,26 @@ fn numbers_of(alloc: Global, ptype: PType, rows: &[&Value]) -> Result<Vec<u8>, A
     };
     let mut bytes = Vec::new(alloc);
     for row in rows {
-        let number = match row {
-            Value::Int(number) => *number,
-            _ => 0,
-        };
-        bytes.extend_from_slice(&number.to_le_bytes()[..width])?;
+        bytes.extend_from_slice(&number_of(row).to_le_bytes()[..width])?;
     }
     Ok(bytes)
+}
+
+// The units of decimals in sixteen bytes each, least byte first.
+fn decimals_of(alloc: Global, rows: &[&Value]) -> Result<Vec<u8>, AllocError> {
+    let mut bytes = Vec::new(alloc);
+    for row in rows {
+        bytes.extend_from_slice(&number_of(row).to_le_bytes())?;
+    }
+    Ok(bytes)
+}
+
+// The number of the row, 0 where it has none.
+fn number_of(row: &Value) -> i128 {
+    match row {
+        Value::Int(number) => *number,
+        _ => 0,
+    }
 }
 
 // The offsets and bytes of texts, or of bytes.

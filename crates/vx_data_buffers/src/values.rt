@@ -10,10 +10,10 @@ ghost use Rattle.vx_value.specs.Views.{fields_of, type_of, value_of};
 use crate::Buffer;
 use crate::counts::buffer_count;
 use crate::fault::Fault;
-use crate::leaves::{is_valid, octets_of, text_of, truth_at, whole_at};
+use crate::leaves::{decimal_at, is_valid, octets_of, text_of, truth_at, whole_at};
 use crate::spans::{fixed_span, row_bytes, span};
 use std::alloc::Global;
-use vx_types::{DType, StructFields, Value};
+use vx_types::{DType, PType, StructFields, Value};
 
 // The value of row i of the type's column, whose first buffer has that index.
 #[cycle(read)]
@@ -35,6 +35,9 @@ pub(crate) fn value_at(
     match t {
         DType::Bool(_) => truth_at(buffers, next, i),
         DType::Primitive(ptype, _) => whole_at(buffers, *ptype, next, i),
+        DType::Decimal(_, _) => decimal_at(buffers, next, i),
+        DType::Date(_) => whole_at(buffers, PType::I32, next, i),
+        DType::Timestamp(_, _) => whole_at(buffers, PType::I64, next, i),
         DType::Utf8(_) => text_of(alloc, next + 1, row_bytes(buffers, next, i)?),
         DType::Binary(_) => octets_of(alloc, row_bytes(buffers, next, i)?),
         DType::List(t, _) => {

@@ -3,8 +3,27 @@ use crate::format::Format;
 use crate::numbers::Numbers;
 use std::alloc::{AllocError, Global};
 
-const FLAT: [&str; 11] = [
-    "bool", "u8", "u16", "u32", "u64", "i8", "i16", "i32", "i64", "utf8", "binary",
+const FLAT: [&str; 20] = [
+    "bool",
+    "u8",
+    "u16",
+    "u32",
+    "u64",
+    "i8",
+    "i16",
+    "i32",
+    "i64",
+    "utf8",
+    "binary",
+    "decimal(10, 2)",
+    "decimal(38, 0)",
+    "decimal(38, 38)",
+    "date",
+    "timestamp(s)",
+    "timestamp(ms, \"UTC\")",
+    "timestamp(us)",
+    "timestamp(us, \"Europe/Zurich\")",
+    "timestamp(ns)",
 ];
 
 const FIRST_NAMES: [&str; 4] = ["a", "Name_1", "`x,y`", "`say \"it\"`"];

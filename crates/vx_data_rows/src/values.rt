@@ -1,7 +1,8 @@
 // Values by chance.
 use crate::numbers::Numbers;
 use std::alloc::{AllocError, Global};
-use vx_types::{DType, PType, StructFields, Value};
+use vx_literals::{power_of_ten, units_a_second};
+use vx_types::{DType, DecimalType, PType, StructFields, TimeUnit, Value};
 
 const TEXTS: [&str; 16] = [
     "",
@@ -44,6 +45,9 @@ pub fn value(
         DType::Struct(fields, _) => values(room - 1, alloc, fields, numbers),
         DType::Bool(_) => Ok(Value::Bool(numbers.below(2) == 0)),
         DType::Primitive(ptype, _) => Ok(Value::Int(number(*ptype, numbers))),
+        DType::Decimal(decimal, _) => Ok(Value::Int(units(*decimal, numbers))),
+        DType::Date(_) => Ok(Value::Int(day(numbers))),
+        DType::Timestamp(timestamp, _) => Ok(Value::Int(instant(timestamp.unit, numbers))),
         DType::Utf8(_) => Ok(Value::Utf8(String::from_str(alloc, numbers.pick(&TEXTS))?)),
         DType::Binary(_) => Ok(Value::Binary(numbers.pick(&TEXTS).as_bytes().to_vec(alloc)?)),
     }
@@ -85,6 +89,39 @@ fn number(ptype: PType, numbers: &mut Numbers) -> i128 {
         1 => greatest(ptype),
         _ => i128::from(numbers.below(128)),
     }
+}
+
+// The least or the greatest decimal of the type, or a digit on either side of zero, all by their units.
+fn units(decimal: DecimalType, numbers: &mut Numbers) -> i128 {
+    let greatest = power_of_ten(decimal.precision()) as i128 - 1;
+    match numbers.below(4) {
+        0 => -greatest,
+        1 => greatest,
+        2 => i128::from(numbers.below(10)),
+        _ => -i128::from(numbers.below(10)),
+    }
+}
+
+// A day of the years 1 to 9999, perhaps the first or the last, or one beyond them.
+fn day(numbers: &mut Numbers) -> i128 {
+    match numbers.below(8) {
+        0 => -719_162,
+        1 => 2_932_896,
+        2 => -719_163,
+        3 => 2_932_897,
+        4 => number(PType::I32, numbers),
+        _ => i128::from(numbers.below(3_652_059)) - 719_162,
+    }
+}
+
+// An instant of the years around 1970, or another number of 64 bits.
+fn instant(unit: TimeUnit, numbers: &mut Numbers) -> i128 {
+    if numbers.below(4) == 0 {
+        return number(PType::I64, numbers);
+    }
+    let second = i128::from(numbers.below(2_000_000_000)) - 1_000_000_000;
+    let units = i128::from(units_a_second(unit));
+    second * units + i128::from(numbers.below(units_a_second(unit)))
 }
 
 fn least(ptype: PType) -> i128 {

@@ -16,7 +16,7 @@ use Rattle.vx_dtype.specs.declared.error.VortexError.{VortexError}
 use Rattle.vx_dtype.specs.declared.error.VortexError.TheVariants.{AddOverflow, CastNull, BadFill}
 use Rattle.vx_dtype.proofs.Lists.{in_left, in_right}
 use Rattle.vx_value.specs.Fits.{IsBatch, fits}
-use Rattle.vx_value.specs.Types.{truth, number, text, octets, LogicalType, ty, atomic, Datum, bool, int, utf8, bytes, is_null_datum}
+use Rattle.vx_value.specs.Types.{truth, number, decimals, date, timestamp, text, octets, LogicalType, ty, atomic, Datum, bool, int, utf8, bytes, is_null_datum}
 use Rattle.vx_fn.specs.Faults.{node_fault, overflows, misfits, differs, fill_of, is_bad_fill, some_differ, when}
 use Rattle.vx_fn.specs.Functions.{Function, Typing, binary, adds, cast, fill_null, fn_type, is_atomic, needs}
 use Rattle.vx_fn.specs.Values.{order}
@@ -85,6 +85,9 @@ itself v = (or_parts _ _ (none_differ v (v ∷ v ∷ []))).0
 alike : (t : LogicalType) (v w : Datum) → is_atomic t ≡ true → fits v t ≡ true → fits w t ≡ true → is_null_datum v ≡ false → is_null_datum w ≡ false → AreAlike v w
 alike (ty (atomic truth) n) (bool a) (bool b) at f g m k = tt
 alike (ty (atomic (number p)) n) (int a) (int b) at f g m k = tt
+alike (ty (atomic (decimals p s)) n) (int a) (int b) at f g m k = tt
+alike (ty (atomic date) n) (int a) (int b) at f g m k = tt
+alike (ty (atomic (timestamp u z)) n) (int a) (int b) at f g m k = tt
 alike (ty (atomic text) n) (utf8 a) (utf8 b) at f g m k = tt
 alike (ty (atomic octets) n) (bytes a) (bytes b) at f g m k = tt
 alike _ _ _ at f g m k = cc

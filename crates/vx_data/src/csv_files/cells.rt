@@ -3,6 +3,7 @@ use crate::cells::{bytes_of, text_of, whole_of};
 use crate::csv_files::plan::{FieldPlan, Plan};
 use crate::expected::Expected;
 use crate::fault::Fault;
+use crate::numbers::{number_counted, number_said, number_value};
 use csv::ByteRecord;
 use std::alloc::Global;
 use std::str;
@@ -126,7 +127,10 @@ fn stand_in(alloc: Global, plan: &Plan) -> Value {
     match plan {
         Plan::Cell { dtype, .. } if !dtype.is_nullable() => match dtype {
             DType::Bool(_) => Value::Bool(false),
-            DType::Primitive(_, _) => Value::Int(0),
+            DType::Primitive(_, _)
+            | DType::Decimal(_, _)
+            | DType::Date(_)
+            | DType::Timestamp(_, _) => Value::Int(0),
             DType::Utf8(_) => Value::Utf8(String::new(alloc)),
             _ => Value::Null,
         },
@@ -183,7 +187,14 @@ fn text_value(alloc: Global, dtype: &DType, text: &str) -> Result<Value, Fault> 
         },
         DType::Utf8(_) => text_of(alloc, text),
         DType::Binary(_) => bytes_of(alloc, text),
-        _ => Err(Fault::new(alloc, Expected::CellType(dtype.clone()?))),
+        DType::Decimal(_, _) | DType::Date(_) | DType::Timestamp(_, _) => {
+            let said = number_said(text, dtype);
+            number_value(alloc, said.or_else(|| number_counted(text, dtype)), dtype)
+        }
+        DType::List(_, _) | DType::FixedSizeList(_, _, _) | DType::Struct(_, _) => Err(Fault::new(
+            alloc,
+            Expected::CellType(dtype.clone()?),
+        )),
     }
 }
 

@@ -4,6 +4,7 @@ use crate::csv_files::plan::{Cells, FieldPlan, Plan};
 use crate::error::WriteError;
 use crate::expected::Expected;
 use crate::fault::Fault;
+use crate::numbers::number_text;
 use csv::{ByteRecord, Error, ErrorKind, Writer};
 use std::alloc::{AllocError, Global};
 use std::io::Write;
@@ -75,8 +76,8 @@ impl<W: Write + Drop> CsvWriter<W> {
 }
 
 /// Writes the column as a CSV file: a header with the names of the cells, of a field of a field with a dot between the names,
-/// and `value` where the type is no struct; then each row as a record, null as an empty cell, bytes as `0x` and two digits
-/// each. It is read back as the column by its type. Refuses what `CsvWriter` refuses. Time is linear in the column.
+/// and `value` where the type is no struct; then each row as a record, null as an empty cell, a decimal with all places of its
+/// scale, a day and an instant as a text, or as its number outside the years 1 to 9999, bytes as `0x` and two digits each. It is read back as the column by its type. Refuses what `CsvWriter` refuses. Time is linear in the column.
 pub fn write_csv<W: Write + Drop>(
     alloc: Global,
     column: &Column,
@@ -169,7 +170,7 @@ fn put_cell(
         Value::Null => put_text("", record),
         Value::Bool(true) => put_text("true", record),
         Value::Bool(false) => put_text("false", record),
-        Value::Int(number) => put_text(format!(in alloc; "{number}")?.as_str(), record),
+        Value::Int(number) => put_text(number_text(alloc, *number, dtype)?.as_str(), record),
         Value::Utf8(text) => {
             if text.is_empty() && dtype.is_nullable() {
                 return Err(Fault::new(alloc, Expected::NonEmptyText));

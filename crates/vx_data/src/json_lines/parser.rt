@@ -4,10 +4,11 @@ ghost use Rattle.std.specs.Prelude.{◌<◌, ◌≤◌, OnOk, length};
 use crate::cells::{bytes_of, text_of, whole_of};
 use crate::error::DataError;
 use crate::expected::Expected;
-use crate::fault::Fault;
+use crate::fault::{Fault, misfit};
 use crate::json_lines::draft::{Draft, named, place_of};
 use crate::json_lines::format::JsonFormat;
 use crate::json_lines::tokens::{DEPTH, end, next_name, no_json, reader_of, skip};
+use crate::numbers::{number_counted, number_said, number_value};
 use crate::other_fields::OtherFields;
 use json::{Reader, Scratch, Token};
 use std::alloc::Global;
@@ -55,8 +56,11 @@ impl JsonParser {
     }
 
     /// The value of that type that the record on that line is: null, true, false, whole numbers of the type's range,
+    /// decimals as numbers without an exponent or as texts of such, days and instants as texts (`2024-01-31`,
+    /// `2024-01-31T10:15:30.25Z`, without the `Z` where the type has no zone) or as whole numbers of days or units since 1970,
     /// texts, bytes as texts of `0x` and two digits each, lists as arrays, structs as objects, whose fields may come in
-    /// any order, and be absent where they are nullable. Refuses with the line, the path of the field, and what is
+    /// any order, and be absent where they are nullable. Digits of a decimal beyond its scale, and of a second beyond the unit,
+    /// are zeros. Refuses with the line, the path of the field, and what is
     /// expected there, and with `OutOfMemory`. Time is linear in the record; nesting is the type's.
     pub fn parse(&mut self, dtype: &DType, line: u64, record: &[u8]) -> Result<Value, DataError> {
         match record_value(self.reading, dtype, record, &mut self.scratch) {
@@ -106,6 +110,12 @@ fn flat_value(reading: Reading, dtype: &DType, token: Token<'_>) -> Result<Value
         (DType::Utf8(_), Token::String(text)) => text_of(alloc, text),
         (DType::Utf8(_), Token::Number(text)) if reading.number_texts => text_of(alloc, text),
         (DType::Binary(_), Token::String(text)) => bytes_of(alloc, text),
+        (DType::Decimal(_, _) | DType::Date(_) | DType::Timestamp(_, _), Token::String(text)) => {
+            number_value(alloc, number_said(text, dtype), dtype)
+        }
+        (DType::Decimal(_, _) | DType::Date(_) | DType::Timestamp(_, _), Token::Number(text)) => {
+            number_value(alloc, number_counted(text, dtype), dtype)
+        }
         _ => Err(mismatch(alloc, dtype)),
     }
 }
@@ -128,6 +138,9 @@ fn mismatch(alloc: Global, dtype: &DType) -> Fault {
         DType::List(_, _) => Expected::List,
         DType::FixedSizeList(_, size, _) => Expected::Items(*size),
         DType::Struct(_, _) => Expected::Struct,
+        DType::Decimal(_, _) | DType::Date(_) | DType::Timestamp(_, _) => {
+            return misfit(alloc, dtype);
+        }
     };
     Fault::new(alloc, expected)
 }

@@ -5,13 +5,14 @@ ghost use Rattle.std.specs.Io.KnownBytes.{Appends};
 ghost use Rattle.json.specs.Token.{begin_array, begin_object, end_array, end_object, number};
 ghost use Rattle.vx_value.specs.Types.{list_of, struct_of};
 ghost use Rattle.vx_value.specs.Views.{data_view, fields_of, type_of, value_of};
-ghost use Rattle.vx_data.specs.Lines.{field_tokens, item_tokens, json_line, json_lines, value_tokens};
+ghost use Rattle.vx_data.specs.Lines.{field_tokens, item_tokens, json_line, json_lines, number_token, value_tokens};
 
 use crate::cells::hex_text;
 use crate::error::WriteError;
 use crate::expected::Expected;
 use crate::fault::Fault;
 use crate::json_lines::distinct::check_names;
+use crate::numbers::{is_dated, number_text};
 use json::Writer;
 use std::alloc::Global;
 use std::io::Write;
@@ -20,8 +21,9 @@ use vx_types::{Column, DType, StructFields, Value};
 // Lines are handed to the writer so many bytes at a time.
 const BLOCK: usize = 65_536;
 
-/// Writes each row as a line of JSON, which is read back as that row by the column's type: bytes as `0x` and their digits,
-/// and each field of a struct under its name, also where it is null. Refuses a type with a struct of which two fields have one name, as row 0 and with the
+/// Writes each row as a line of JSON, which is read back as that row by the column's type: a decimal as a number with all
+/// places of its scale, a day and an instant as a text, or as its number outside the years 1 to 9999, bytes as `0x` and their
+/// digits, and each field of a struct under its name, also where it is null. Refuses a type with a struct of which two fields have one name, as row 0 and with the
 /// path, before anything is written; and with the writer's error and with `OutOfMemory`. Time is linear in the column.
 pub fn write_json_lines<W: Write>(
     alloc: Global,
@@ -72,7 +74,7 @@ fn write_value(
     match value {
         Value::Null => Ok(writer.null()?),
         Value::Bool(truth) => Ok(writer.boolean(*truth)?),
-        Value::Int(number) => write_number(alloc, *number, writer),
+        Value::Int(number) => write_number(*number, dtype, alloc, writer),
         Value::Utf8(text) => Ok(writer.string(text.as_str())?),
         Value::Binary(bytes) => Ok(writer.string(hex_text(alloc, bytes.as_slice())?.as_str())?),
         Value::List(items) => write_list(items.as_slice(), dtype, alloc, writer),
@@ -80,7 +82,25 @@ fn write_value(
     }
 }
 
-fn write_number(alloc: Global, whole: i128, writer: &mut Writer) -> Result<(), Fault>
+fn write_number(
+    number: i128,
+    dtype: &DType,
+    alloc: Global,
+    writer: &mut Writer,
+) -> Result<(), Fault>
+    ensures before { writer.new.before ≡ writer.old.before }
+    ensures tokens { OnOk result (writer.new.tokens ≡ writer.old.tokens ++ number_token number (type_of dtype.now) ∷ []) }
+{
+    if is_dated(number, dtype) {
+        return Ok(writer.string(number_text(alloc, number, dtype)?.as_str())?);
+    }
+    match dtype {
+        DType::Decimal(_, _) => Ok(writer.number(number_text(alloc, number, dtype)?.as_str())?),
+        _ => write_whole(alloc, number, writer),
+    }
+}
+
+fn write_whole(alloc: Global, whole: i128, writer: &mut Writer) -> Result<(), Fault>
     ensures before { writer.new.before ≡ writer.old.before }
     ensures tokens { OnOk result (writer.new.tokens ≡ writer.old.tokens ++ number (signed_decimal whole) ∷ []) }
 {
