@@ -100,6 +100,8 @@ pub use crate::value::Scalar;
 pub use crate::value::Value;
 pub use crate::value::column;
 pub use crate::value::column_of;
+pub use crate::value::date;
+pub use crate::value::decimal;
 pub use crate::value::scalar;
 pub use crate::value::struct_column;
 pub use crate::value::struct_row;

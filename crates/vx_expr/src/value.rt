@@ -1,3 +1,5 @@
 //! Values, scalars, columns, and the paths of fields in them.
-pub use vx_forms::{IntoScalar, Native, column, column_of, scalar, struct_column, struct_row};
+pub use vx_forms::{
+    IntoScalar, Native, column, column_of, date, decimal, scalar, struct_column, struct_row,
+};
 pub use vx_tree::{Column, Field, FieldPath, FieldPathSet, Scalar, Value};

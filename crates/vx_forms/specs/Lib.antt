@@ -5,3 +5,4 @@ pub mod Given
 pub mod Applied
 pub mod Collected
 pub mod Replaced
+pub mod Literals

@@ -7,6 +7,7 @@ mod choices;
 mod collects;
 mod columns;
 mod fields;
+mod literals;
 mod macros;
 mod names;
 mod native;
@@ -26,6 +27,7 @@ pub use choices::{case_when, case_when_no_else, mask, nested_case_when, zip_expr
 pub use collects::{and_collect, or_collect};
 pub use columns::{column, column_of, struct_column};
 pub use fields::{col, get_item, pack, select, select_exclude};
+pub use literals::{date, decimal};
 pub use names::{IntoFieldName, IntoFieldNames};
 pub use native::Native;
 pub use nulls::{fill_null, is_not_null, is_null};

@@ -84,3 +84,18 @@ fn scalars(rt: HostRuntime) {
     );
     gives(&rt, row(alloc, nobody(alloc)), "{} of {}");
 }
+
+#[test]
+fn days_and_decimals(rt: HostRuntime) {
+    let alloc = rt.alloc();
+    gives(&rt, row(alloc, date("2024-01-31")), "2024-01-31 of date");
+    gives(
+        &rt,
+        row(alloc, decimal("-12.50")),
+        "-12.50 of decimal(4, 2)",
+    );
+    gives(&rt, row(alloc, decimal("7")), "7 of decimal(1, 0)");
+    let refused = "the value of row 0 doesn't fit the type";
+    gives(&rt, row(alloc, date("2023-02-29")), refused);
+    gives(&rt, row(alloc, decimal("1e2")), refused);
+}
