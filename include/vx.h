@@ -175,6 +175,9 @@ vx_status vx_plan_paths(vx_plan *plan, char *buffer, size_t buffer_length, vx_an
 
        bool                    validity, values
        i8 to i64, u8 to u64    validity, values
+       decimal(p, s)           validity, units in 128 bits
+       date                    validity, days since 1970 in 32 bits
+       timestamp(unit)         validity, units since 1970 in 64 bits
        utf8, binary            validity, offsets, bytes
        list                    validity, offsets, then the buffers of the items
        fixed_size_list         validity, then the buffers of the items

@@ -131,7 +131,7 @@ debian_python() {
 
 # The same of numpy's arrays.
 numpy_tests() {
-    debian_python numpy python3-numpy && for tests in test_numpy test_capsules; do
+    debian_python numpy python3-numpy && for tests in test_numpy test_capsules test_days; do
         VX_LIBRARY=$out/libvx.so /usr/bin/python3 -m unittest discover -q -s bindings/python/tests -p "$tests.py" || return 1
     done
 }

@@ -21,7 +21,7 @@ static const Type TYPES[] = {
     {"b", "bool", BITS, 0},   {"c", "i8", NUMBERS, 1},  {"C", "u8", NUMBERS, 1},   {"s", "i16", NUMBERS, 2},
     {"S", "u16", NUMBERS, 2}, {"i", "i32", NUMBERS, 4}, {"I", "u32", NUMBERS, 4},  {"l", "i64", NUMBERS, 8},
     {"L", "u64", NUMBERS, 8}, {"u", "utf8", BYTES, 0},  {"z", "binary", BYTES, 0}, {"+l", "list", LIST, 0},
-    {"+s", "", STRUCT, 0},
+    {"+s", "", STRUCT, 0},    {"tdD", "date", NUMBERS, 4},
 };
 
 /* --- texts --- */
@@ -40,6 +40,15 @@ static void put(Text *text, const char *bytes)
             text->bytes[text->length] = *bytes;
 }
 
+/* What stands between such signs, and them, which are doubled inside. */
+static void put_quoted(Text *text, const char *bytes, char sign)
+{
+    put(text, (const char[]){sign, 0});
+    for (; bytes && *bytes; bytes++)
+        put(text, *bytes == sign ? (const char[]){sign, sign, 0} : (const char[]){*bytes, 0});
+    put(text, (const char[]){sign, 0});
+}
+
 /* A name as source text has it. */
 static void put_name(Text *text, const char *name)
 {
@@ -48,10 +57,7 @@ static void put_name(Text *text, const char *name)
         put(text, name);
         return;
     }
-    put(text, "`");
-    for (; name && *name; name++)
-        put(text, *name == '`' ? "``" : (const char[]){*name, 0});
-    put(text, "`");
+    put_quoted(text, name, '`');
 }
 
 static void put_path(Text *text, const Path *at)
@@ -101,9 +107,58 @@ vx_status arrow_out_of_memory(const Call *call)
 
 /* --- schemas --- */
 
+/* The precision and the scale of a decimal's format of 128 bits, as d:10,2 or d:10,2,128. */
+static bool is_decimal(const char *format, int *precision, int *scale)
+{
+    char plain[32], sized[40];
+    if (sscanf(format, "d:%2d,%2d", precision, scale) != 2)
+        return false;
+    snprintf(plain, sizeof plain, "d:%d,%d", *precision, *scale);
+    snprintf(sized, sizeof sized, "%s,128", plain);
+    return *precision >= 1 && *precision <= 38 && *scale >= 0 && *scale <= *precision &&
+           (strcmp(format, plain) == 0 || strcmp(format, sized) == 0);
+}
+
+/* The unit of a timestamp's format, as tsu:UTC, whose zone begins at the fifth byte; a null pointer where it is none. */
+static const char *unit_of(const char *format)
+{
+    static const char *const UNITS[] = {"s", "ms", "us", "ns"};
+    static const char SIGNS[] = "smun";
+    const char *sign = strncmp(format, "ts", 2) == 0 && format[2] ? strchr(SIGNS, format[2]) : NULL;
+    return sign && format[3] == ':' ? UNITS[sign - SIGNS] : NULL;
+}
+
+/* Writes what stands in brackets behind the word of a decimal or a timestamp. */
+static void put_parts(Text *text, const char *format)
+{
+    int precision, scale;
+    const char *unit = unit_of(format);
+    char parts[40];
+    if (is_decimal(format, &precision, &scale)) {
+        snprintf(parts, sizeof parts, "(%d, %d)", precision, scale);
+        put(text, parts);
+    } else if (unit) {
+        put(text, "(");
+        put(text, unit);
+        put(text, format[4] ? ", " : "");
+        if (format[4])
+            put_quoted(text, format + 4, '"');
+        put(text, ")");
+    }
+}
+
 /* Whether the format is one that is taken. */
 static bool is_read(const char *format, Type *type)
 {
+    int precision, scale;
+    if (is_decimal(format, &precision, &scale)) {
+        *type = (Type){"d", "decimal", NUMBERS, 16};
+        return true;
+    }
+    if (unit_of(format)) {
+        *type = (Type){"ts", "timestamp", NUMBERS, 8};
+        return true;
+    }
     for (size_t i = 0; i < sizeof TYPES / sizeof TYPES[0]; i++)
         if (strcmp(format, TYPES[i].format) == 0) {
             *type = TYPES[i];
@@ -136,7 +191,8 @@ vx_status arrow_type(const Call *call, const Path *at, const struct ArrowSchema 
     if (schema->dictionary)
         return arrow_stop(call, VX_SCHEMA, at, "expected values without a dictionary", "");
     if (!is_read(schema->format, type))
-        return arrow_stop(call, VX_SCHEMA, at, "expected a format of bcCsSiIlLuz, +l, +s or +w:N, and not ",
+        return arrow_stop(call, VX_SCHEMA, at,
+                          "expected a format of bcCsSiIlLuz, d:P,S, tdD, tsU:Z, +l, +s or +w:N, and not ",
                           schema->format);
     int64_t wanted = ARROW_CHILDREN[type->layout], found = schema->n_children;
     if (type->layout == STRUCT ? found < wanted : found != wanted)
@@ -160,6 +216,7 @@ static vx_status put_type(Call *call, const Path *at, const struct ArrowSchema *
         return status;
     call->count += (size_t)ARROW_BUFFERS[type.layout];
     put(text, type.word);
+    put_parts(text, schema->format);
     put(text, type.layout == STRUCT ? "{" : type.layout >= LIST ? "(" : "");
     for (int64_t i = 0; i < schema->n_children; i++) {
         Path child = arrow_child(at, schema->children[i]);
@@ -207,14 +264,16 @@ static size_t marks(const char *text, size_t at, size_t length)
 static bool is_alike(const char *one, size_t one_length, const char *other, size_t other_length)
 {
     size_t i = 0, j = 0;
-    for (bool in_name = false;; i++, j++) {
-        i += in_name ? 0 : marks(one, i, one_length);
-        j += in_name ? 0 : marks(other, j, other_length);
+    /* (within a name or a zone each byte counts) */
+    for (char quote = 0;; i++, j++) {
+        i += quote ? 0 : marks(one, i, one_length);
+        j += quote ? 0 : marks(other, j, other_length);
         if (i == one_length || j == other_length)
             return i == one_length && j == other_length;
         if (one[i] != other[j])
             return false;
-        in_name ^= one[i] == '`';
+        if (quote ? one[i] == quote : one[i] == '`' || one[i] == '"')
+            quote = quote ? 0 : one[i];
     }
 }
 

@@ -124,17 +124,63 @@ static void read_list(Reader *r, struct ArrowSchema *schema)
     *r->texts++ = 0;
 }
 
+/* Puts the bytes into the format that is written. */
+static void put_format(Reader *r, const char *bytes, size_t length)
+{
+    memcpy(r->texts, bytes, length);
+    r->texts += length;
+}
+
+/* The precision and the scale, up to the bracket. */
+static void read_decimal(Reader *r, struct ArrowSchema *schema)
+{
+    schema->format = r->texts;
+    put_format(r, "d:", 2);
+    for (; !takes(r, ')'); r->at++)
+        if (*r->at != ' ')
+            put_format(r, r->at, 1);
+    *r->texts++ = 0;
+}
+
+/* The unit and the zone, up to the bracket: of ms the first letter stands in the format, and so of the others. */
+static void read_timestamp(Reader *r, struct ArrowSchema *schema)
+{
+    schema->format = r->texts;
+    put_format(r, "ts", 2);
+    put_format(r, r->at++, 1);
+    takes(r, 's');
+    put_format(r, ":", 1);
+    if (takes(r, ',')) {
+        takes(r, ' ');
+        takes(r, '"');
+        while (!takes(r, '"') || *r->at == '"')
+            put_format(r, r->at++, 1);
+    }
+    takes(r, ')');
+    *r->texts++ = 0;
+}
+
+static bool is_word(const char *word, size_t length, const char *other)
+{
+    return strlen(other) == length && memcmp(word, other, length) == 0;
+}
+
 static void read_type(Reader *r, struct ArrowSchema *schema)
 {
     const char *word = r->at;
     while (r->at < r->end && !strchr("{(?,)}", *r->at))
         r->at++;
+    size_t length = (size_t)(r->at - word);
     if (takes(r, '{'))
         read_struct(r, schema);
-    else if (takes(r, '('))
-        read_list(r, schema);
+    else if (!takes(r, '('))
+        schema->format = arrow_format(word, length);
+    else if (is_word(word, length, "decimal"))
+        read_decimal(r, schema);
+    else if (is_word(word, length, "timestamp"))
+        read_timestamp(r, schema);
     else
-        schema->format = arrow_format(word, (size_t)(r->at - word));
+        read_list(r, schema);
     schema->flags = takes(r, '?') ? ARROW_FLAG_NULLABLE : 0;
     schema->release = release_schema;
     schema->private_data = r->owner;

@@ -114,6 +114,80 @@ static void test_formats(void)
     expect_type(&list, "fixed_size_list(i8?)[4294967295]?");
 }
 
+static void test_formats_with_parts(void)
+{
+    static const char *const FORMATS[][2] = {
+        {"tdD", "date"},
+        {"tss:", "timestamp(s)"},
+        {"tsm:UTC", "timestamp(ms, \"UTC\")"},
+        {"tsu:a\"b", "timestamp(us, \"a\"\"b\")"},
+        {"tsn:Europe/Zurich", "timestamp(ns, \"Europe/Zurich\")"},
+        {"d:10,2", "decimal(10, 2)"},
+        {"d:38,38,128", "decimal(38, 38)"},
+        {"d:1,0", "decimal(1, 0)"},
+    };
+    for (size_t i = 0; i < sizeof FORMATS / sizeof FORMATS[0]; i++) {
+        struct ArrowSchema schema = {.format = FORMATS[i][0], .release = (void (*)(struct ArrowSchema *))abort};
+        expect_type(&schema, FORMATS[i][1]);
+    }
+}
+
+/* --- decimals, days and instants --- */
+
+/* A record batch of one day, one instant and one decimal a row, of which the second row is null. */
+static void test_days(void)
+{
+    static const int32_t DAYS[] = {19753, 0, -1};
+    static const int64_t INSTANTS[] = {1706696130250, 0, -1};
+    static const __int128 UNITS[] = {950, 0, -5};
+    static const unsigned char VALID[] = {5};
+    const void *none[] = {NULL}, *buffers[3][2] = {{VALID, DAYS}, {VALID, INSTANTS}, {VALID, UNITS}};
+    const char *formats[] = {"tdD", "tsm:UTC", "d:4,2"}, *names[] = {"d", "t", "p"};
+    struct ArrowSchema types[3], *inner_types[3];
+    struct ArrowArray arrays[3], *inner[3];
+    for (size_t i = 0; i < 3; i++) {
+        types[i] = (struct ArrowSchema){.format = formats[i], .name = names[i], .flags = ARROW_FLAG_NULLABLE,
+                                        .release = (void (*)(struct ArrowSchema *))abort};
+        arrays[i] = (struct ArrowArray){.length = 3, .null_count = 1, .n_buffers = 2, .buffers = buffers[i],
+                                        .release = (void (*)(struct ArrowArray *))abort};
+        inner_types[i] = &types[i];
+        inner[i] = &arrays[i];
+    }
+    Column rows = {{.format = "+s", .name = "", .n_children = 3, .children = inner_types,
+                    .release = (void (*)(struct ArrowSchema *))abort},
+                   {.length = 3, .n_buffers = 1, .buffers = none, .n_children = 3, .children = inner,
+                    .release = (void (*)(struct ArrowArray *))abort}};
+    Text schema, again;
+    vx_plan plan = plan_over("d >= \"2024-01-31\" and p > 9 and t < \"2024-02-01T00:00:00Z\"", &rows, &schema);
+    vx_plan all = plan_over("$", &rows, &again);
+    Answered a = selected_column(&plan, schema, &rows);
+    EXPECT(a.status == VX_ANSWERED && a.answer.needed == 3 && memcmp(a.text, "\1\0\0", 3) == 0);
+    free(a.text);
+    a = scanned_column(&all, again, &rows);
+    EXPECT(says(&a, "{\"d\":\"2024-01-31\",\"t\":\"2024-01-31T10:15:30.250Z\",\"p\":9.50}\n"
+                    "{\"d\":null,\"t\":null,\"p\":null}\n"
+                    "{\"d\":\"1969-12-31\",\"t\":\"1969-12-31T23:59:59.999Z\",\"p\":-0.05}\n"));
+    free(a.text);
+    Column values;
+    a = column_out(vx_plan_scan_arrow, &all, again, &rows, &values);
+    EXPECT(a.status == VX_ANSWERED && values.array.n_children == 3);
+    for (size_t i = 0; i < 3 && a.status == VX_ANSWERED; i++) {
+        static const size_t SIZES[] = {4, 8, 16};
+        const struct ArrowArray *found = values.array.children[i];
+        EXPECT(strcmp(values.schema.children[i]->format, formats[i]) == 0 && found->null_count == 1);
+        for (size_t row = 0; row < 3; row += 2)
+            EXPECT(memcmp((const char *)found->buffers[1] + SIZES[i] * row,
+                          (const char *)buffers[i][1] + SIZES[i] * row, SIZES[i]) == 0);
+    }
+    free(a.text);
+    if (a.status == VX_ANSWERED)
+        release_column(&values);
+    vx_plan_free(&plan);
+    vx_plan_free(&all);
+    free((char *)schema.bytes);
+    free((char *)again.bytes);
+}
+
 /* Lists within lists, of which each is the next one's item. */
 static void test_nesting(void)
 {
@@ -209,7 +283,7 @@ static void expect_answer(int line)
         expect_answer(__LINE__);                            \
     } while (0)
 
-#define FORMATS_TAKEN "expected a format of bcCsSiIlLuz, +l, +s or +w:N, and not "
+#define FORMATS_TAKEN "expected a format of bcCsSiIlLuz, d:P,S, tdD, tsU:Z, +l, +s or +w:N, and not "
 
 static void test_wrong_schemas(void)
 {
@@ -228,9 +302,9 @@ static void test_wrong_schemas(void)
     WRONG(VX_SCHEMA, x->n_children, 1, "Arrow schema: $.b: expected n_children 0, and not 1");
     WRONG(VX_SCHEMA, x->n_children, INT64_MAX, "Arrow schema: $.b: expected n_children 0, and not 9223372036854775807");
     static const char *const FORMATS[] = {
-        "",   "f",  "g",  "e",  "n",   "U",     "Z",     "vu",            "vz",  "d:19,10", "w:3", "tdD", "tsu:UTC",
-        "+L", "+m", "+r", "+w", "+w:", "+w:-1", "+w:3x", "+w:4294967296", "ii", "+s ",     "B",
-        "+w:99999999999999999999",
+        "",   "f",  "g",  "e",  "n",   "U",     "Z",     "vu",            "vz", "d:39,2", "w:3", "tdm", "tsu",
+        "+L", "+m", "+r", "+w", "+w:", "+w:-1", "+w:3x", "+w:4294967296", "ii", "+s ",    "B",   "ts:", "tsx:UTC",
+        "d:0,0", "d:9", "d:9,10", "d:9,2,256", "d: 9,2", "d:09,2", "d:9,-1", "+w:99999999999999999999",
     };
     for (size_t i = 0; i < sizeof FORMATS / sizeof FORMATS[0]; i++) {
         char message[200];
@@ -561,6 +635,8 @@ void test_arrow(void)
 {
     start_chance(1);
     test_formats();
+    test_formats_with_parts();
+    test_days();
     test_nesting();
     test_offsets();
     test_wrong_fields();

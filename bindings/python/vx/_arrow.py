@@ -2,6 +2,7 @@
 
 from __future__ import annotations
 
+import dataclasses
 from typing import Any, Dict, Iterator, List, Mapping, Tuple
 
 from ._batches import bits_from, number_size
@@ -17,6 +18,7 @@ except ImportError:
 
 _WORDS = {
     "bool": "bool",
+    "date32[day]": "date",
     "string": "utf8",
     "large_string": "utf8",
     "string_view": "utf8",
@@ -25,7 +27,7 @@ _WORDS = {
     "binary_view": "binary",
     **{f"{arrow}{size}": f"{word}{size}" for arrow, word in (("int", "i"), ("uint", "u")) for size in (8, 16, 32, 64)},
 }
-_ATOMS = {"bool": "bool_", "utf8": "string", "binary": "binary"}
+_ATOMS = {"bool": "bool_", "date": "date32", "utf8": "string", "binary": "binary"}
 
 
 def is_table(rows: Any) -> bool:
@@ -51,6 +53,10 @@ def _type_of(arrow: Any, is_nullable: bool) -> Type:
     if kinds.is_fixed_size_list(arrow):
         item = _type_of(arrow.value_type, arrow.value_field.nullable)
         return Type("fixed_size_list", is_nullable, item, arrow.list_size)
+    if kinds.is_decimal128(arrow) and 0 <= arrow.scale <= arrow.precision:
+        return Type("decimal", is_nullable, precision=arrow.precision, scale=arrow.scale)
+    if kinds.is_timestamp(arrow):
+        return Type("timestamp", is_nullable, unit=arrow.unit, zone=arrow.tz)
     word = _WORDS.get(str(arrow))
     if word is None:
         raise TypeError(f"no expression is over values of Arrow's type {arrow}")
@@ -71,6 +77,10 @@ def _arrow_type(dtype: Type) -> Any:
     if dtype.item is not None:
         item = pyarrow.field("item", _arrow_type(dtype.item), dtype.item.is_nullable)
         return pyarrow.list_(item, dtype.length if dtype.kind == "fixed_size_list" else -1)
+    if dtype.kind == "decimal":
+        return pyarrow.decimal128(dtype.precision, dtype.scale)
+    if dtype.kind == "timestamp":
+        return pyarrow.timestamp(dtype.unit, dtype.zone)
     if dtype.kind in _ATOMS:
         return getattr(pyarrow, _ATOMS[dtype.kind])()
     word = "uint" if dtype.kind[0] == "u" else "int"
@@ -145,7 +155,7 @@ def _plain(array: Any, dtype: Type) -> Any:
     if pyarrow.types.is_dictionary(array.type):
         array = array.dictionary_decode()
     found = _type_of(array.type, dtype.is_nullable)
-    if (found.kind, found.length) != (dtype.kind, dtype.length):
+    if dataclasses.replace(found, item=None, fields=()) != dataclasses.replace(dtype, item=None, fields=()):
         raise _refused(f"values of type {dtype}, and not {found}")
     return array.cast(_arrow_type(dtype)) if dtype.kind in ("utf8", "binary") else array
 

@@ -12,6 +12,7 @@ from . import _numpy
 from ._errors import DataError, Place
 from ._library import Lent
 from ._types import Type
+from ._units import SIZES, units_of
 
 _NUMBERS = {"i8": "b", "u8": "B", "i16": "h", "u16": "H", "i32": "i", "u32": "I", "i64": "q", "u64": "Q"}
 """The letters of numbers in `struct`."""
@@ -22,9 +23,11 @@ _MOST_BYTES = 2**31 - 1
 def number_size(kind: str) -> int:
     """How many bytes a number of that kind has, 0 where it is no number.
 
-    >>> number_size("u16"), number_size("bool")
-    (2, 0)
+    >>> number_size("u16"), number_size("date"), number_size("bool")
+    (2, 4, 0)
     """
+    if kind in SIZES:
+        return SIZES[kind]
     return struct.calcsize(f"<{_NUMBERS[kind]}") if kind in _NUMBERS else 0
 
 
@@ -128,6 +131,8 @@ def _test_of(dtype: Type) -> Callable[[Any], bool]:
         least = -(1 << bits - 1) if kind[0] == "i" else 0
         most = least + (1 << bits) - 1
         return lambda value: _is_integer(value) and least <= value <= most
+    if kind in SIZES:
+        return lambda value: units_of(value, dtype) is not None
     if kind == "struct":
         names = {name for name, _ in dtype.fields}
         return lambda value: isinstance(value, Mapping) and names.issuperset(value)
@@ -173,6 +178,8 @@ class _Column:
             yield bits_of(values)
         elif kind in _NUMBERS:
             yield struct.pack(f"<{len(values)}{_NUMBERS[kind]}", *values)
+        elif kind in SIZES:
+            yield b"".join((units_of(value, dtype) or 0).to_bytes(SIZES[kind], "little", signed=True) for value in values)
         elif kind == "struct":
             for name, inner in dtype.fields:
                 fields = [value.get(name) for value in values]

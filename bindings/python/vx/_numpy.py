@@ -49,6 +49,8 @@ def buffers_of(values: Any, dtype: Type) -> Optional[List[Any]]:
     bits = _bits(~masked) if hides else b""
     if dtype.kind == "bool" and data.dtype.kind == "b":
         return [bits, _bits(data)]
+    if data.dtype.kind == "M":
+        return _instants_of(data, masked if hides else None, dtype)
     if dtype.kind in _LETTERS and data.dtype.kind in "iu":
         letters = numpy.dtype(_LETTERS[dtype.kind])
         if _are_within(data[~masked] if hides else data, numpy.iinfo(letters)):
@@ -56,10 +58,31 @@ def buffers_of(values: Any, dtype: Type) -> Optional[List[Any]]:
     return None
 
 
+def _instants_of(data: Any, masked: Any, dtype: Type) -> Optional[List[Any]]:
+    """The same of days, or of instants without a zone in the type's unit; NaT is null."""
+    numpy = sys.modules["numpy"]
+    unit = ("D" if dtype.kind == "date" else dtype.unit, 1)
+    if dtype.kind not in ("date", "timestamp") or dtype.zone is not None or numpy.datetime_data(data.dtype) != unit:
+        return None
+    absent = numpy.isnat(data) if masked is None else masked | numpy.isnat(data)
+    hides = bool(absent.any())
+    numbers = numpy.ascontiguousarray(data).view("<i8")
+    if hides and not dtype.is_nullable:
+        return None
+    if dtype.kind == "date":
+        if not _are_within(numbers[~absent] if hides else numbers, numpy.iinfo("<i4")):
+            return None
+        numbers = numbers.astype("<i4")
+    return [_bits(~absent) if hides else b"", numbers.view(numpy.uint8)]
+
+
 def check_kind(dtype: Type) -> None:
     """Raises TypeError for a type whose values no array has."""
-    if dtype.kind != "bool" and dtype.kind not in _LETTERS:
-        raise TypeError(f"numpy's arrays are taken of numbers and truth values, and not of values of type {dtype}")
+    is_instant = dtype.kind == "date" or (dtype.kind == "timestamp" and dtype.zone is None)
+    if dtype.kind != "bool" and dtype.kind not in _LETTERS and not is_instant:
+        raise TypeError(
+            f"numpy's arrays are taken of numbers, truth values, days and instants without a zone, and not of values of type {dtype}"
+        )
 
 
 def column_of(rows: int, validity: Any, values: Any, dtype: Type) -> Any:
@@ -70,7 +93,14 @@ def column_of(rows: int, validity: Any, values: Any, dtype: Type) -> Any:
     def flags(bits: Any) -> Any:
         return numpy.unpackbits(numpy.frombuffer(bits, numpy.uint8), count=rows, bitorder="little").view(bool)
 
-    found = flags(values) if dtype.kind == "bool" else numpy.frombuffer(values, _LETTERS[dtype.kind], rows)
+    if dtype.kind == "bool":
+        found = flags(values)
+    elif dtype.kind == "date":
+        found = numpy.frombuffer(values, "<i4", rows).astype("<M8[D]")
+    elif dtype.kind == "timestamp":
+        found = numpy.frombuffer(values, f"<M8[{dtype.unit}]", rows)
+    else:
+        found = numpy.frombuffer(values, _LETTERS[dtype.kind], rows)
     return numpy.ma.masked_array(found, ~flags(validity)) if len(validity) else found
 
 
