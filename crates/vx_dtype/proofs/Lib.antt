@@ -8,3 +8,5 @@ pub mod TypesWritten
 pub mod Unions
 pub mod FirstPlaces
 pub mod FieldsAt
+pub mod Choice
+pub mod Doubling

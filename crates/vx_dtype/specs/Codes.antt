@@ -1,11 +1,13 @@
 -- Scaffolding: a code of types, so that they may be what a `Model` shows.
-use Rattle.std.specs.Prelude.{◌≡◌, refl}
-use Rattle.std.specs.Coded.{Coded, coded_ℕ, coded_bool, coded_list}
+use Rattle.std.specs.Prelude.{◌≡◌, Option, refl}
+use Rattle.std.specs.Coded.{Coded, coded_ℕ, coded_bool, coded_list, coded_option}
 use Rattle.std.proofs.Common.{ap}
 use base.Stored.{Gv, gnil, gnum, gcons}
 use Rattle.vx_dtype.specs.declared.dtype.PType.{PType}
 use Rattle.vx_dtype.specs.declared.dtype.PType.TheVariants.{U8, U16, U32, U64, I8, I16, I32, I64}
-use Rattle.vx_dtype.specs.Types.{Name, ptype_index, Atomic, truth, number, text, octets, LogicalType, ty, Shape, atomic, list, fixed, struct, Fields, no_field, field}
+use Rattle.vx_dtype.specs.declared.timestamp_type.TimeUnit.{TimeUnit}
+use Rattle.vx_dtype.specs.declared.timestamp_type.TimeUnit.TheVariants.{Seconds, Milliseconds, Microseconds, Nanoseconds}
+use Rattle.vx_dtype.specs.Types.{Name, ptype_index, unit_index, Atomic, truth, number, decimals, date, timestamp, text, octets, LogicalType, ty, Shape, atomic, list, fixed, struct, Fields, no_field, field}
 
 -- a name, by its bytes
 abbrev pub name_code : Coded Name
@@ -23,10 +25,25 @@ inj_ptype I32 I32 h = refl
 inj_ptype I64 I64 h = refl
 inj_ptype _ _ h = cc
 
+-- units at one place are the same
+inj_unit : (u v : TimeUnit) → unit_index u ≡ unit_index v → u ≡ v
+inj_unit Seconds Seconds h = refl
+inj_unit Milliseconds Milliseconds h = refl
+inj_unit Microseconds Microseconds h = refl
+inj_unit Nanoseconds Nanoseconds h = refl
+inj_unit _ _ h = cc
+
+-- a zone, by whether there is one and its name
+abbrev pub zone_code : Coded (Option Name)
+zone_code = coded_option name_code
+
 -- a kind of type, by its number and what it holds
 abbrev code_atomic : Atomic → Gv
 code_atomic truth = gcons (gnum 0) gnil
 code_atomic (number p) = gcons (gnum 1) (gnum (ptype_index p))
+code_atomic (decimals p s) = gcons (gnum 4) (gcons (gnum p) (gnum s))
+code_atomic date = gcons (gnum 5) gnil
+code_atomic (timestamp u z) = gcons (gnum 6) (gcons (gnum (unit_index u)) (zone_code.code z))
 code_atomic text = gcons (gnum 2) gnil
 code_atomic octets = gcons (gnum 3) gnil
 
@@ -34,6 +51,9 @@ code_atomic octets = gcons (gnum 3) gnil
 inj_atomic : (p q : Atomic) → code_atomic p ≡ code_atomic q → p ≡ q
 inj_atomic truth truth h = refl
 inj_atomic (number p) (number q) h = ap number (inj_ptype p q cc)
+inj_atomic (decimals p s) (decimals q r) h = cc
+inj_atomic date date h = refl
+inj_atomic (timestamp u z) (timestamp v y) h = let a = inj_unit u v cc in let b = zone_code.inj z y cc in cc
 inj_atomic text text h = refl
 inj_atomic octets octets h = refl
 inj_atomic _ _ h = cc

@@ -1,6 +1,6 @@
 -- Scaffolding: proofs that the tests of `Equality` decide `≡`, and that what is equal is hashed alike. The laws of `PartialEq`,
 -- `Eq` and `Hash` cite them, and no contract.
-use Rattle.std.specs.Prelude.{◌≡◌, Bool, true, false, refl}
+use Rattle.std.specs.Prelude.{◌≡◌, Bool, true, false, Option, Some, None, refl}
 use Rattle.std.specs.Bool.{Decides}
 use Rattle.std.specs.Cmp.{IsEquivalence, booleans_Decides}
 use Rattle.std.specs.Cmp.Lexicographic.{pointwise}
@@ -11,7 +11,9 @@ use Rattle.std.proofs.lemmas.Slice.Eq.{bytes_eq-Decides}
 use Rattle.std.proofs.lemmas.Bool.Decides.{Decides-eqb, Decides-and, Decides-like, same_from_decides}
 use Rattle.vx_dtype.specs.declared.dtype.PType.{PType}
 use Rattle.vx_dtype.specs.declared.dtype.PType.TheVariants.{U8, U16, U32, U64, I8, I16, I32, I64}
-use Rattle.vx_dtype.specs.Types.{same_ptype, Atomic, truth, number, text, octets, same_atomic, LogicalType, ty, Shape, atomic, list, fixed, struct, Fields, no_field, field}
+use Rattle.vx_dtype.specs.declared.timestamp_type.TimeUnit.{TimeUnit}
+use Rattle.vx_dtype.specs.declared.timestamp_type.TimeUnit.TheVariants.{Seconds, Milliseconds, Microseconds, Nanoseconds}
+use Rattle.vx_dtype.specs.Types.{Name, same_ptype, same_unit, same_zone, Atomic, truth, number, decimals, date, timestamp, text, octets, same_atomic, LogicalType, ty, Shape, atomic, list, fixed, struct, Fields, no_field, field}
 use Rattle.vx_dtype.specs.Equality.{equal_type, equal_shape, equal_fields}
 use Rattle.vx_dtype.specs.Hashes.{type_fed, fields_fed}
 
@@ -45,10 +47,28 @@ same_ptype-Decides I32 I32 = itself
 same_ptype-Decides I64 I64 = itself
 same_ptype-Decides _ _ = apart (λ e. cc)
 
+-- the test says whether two units are the same
+pub same_unit-Decides : (u v : TimeUnit) → Decides (same_unit u v) (u ≡ v)
+same_unit-Decides Seconds Seconds = itself
+same_unit-Decides Milliseconds Milliseconds = itself
+same_unit-Decides Microseconds Microseconds = itself
+same_unit-Decides Nanoseconds Nanoseconds = itself
+same_unit-Decides _ _ = apart (λ e. cc)
+
+-- the test says whether two zones are the same
+pub same_zone-Decides : (z y : Option Name) → Decides (same_zone z y) (z ≡ y)
+same_zone-Decides None None = itself
+same_zone-Decides (Some a) (Some b) = Decides-like _ (λ e. ap Some e) (λ e. cc) (bytes_eq-Decides a b)
+same_zone-Decides None (Some b) = apart (λ e. cc)
+same_zone-Decides (Some a) None = apart (λ e. cc)
+
 -- the test says whether two such kinds are the same
 pub same_atomic-Decides : (p q : Atomic) → Decides (same_atomic p q) (p ≡ q)
 same_atomic-Decides truth truth = itself
 same_atomic-Decides (number p) (number q) = Decides-like _ (λ e. ap number e) (λ e. cc) (same_ptype-Decides p q)
+same_atomic-Decides (decimals p s) (decimals q r) = Decides-like _ (λ e. cc) (λ e. (cc, cc)) (Decides-and _ _ (Decides-eqb p q) (Decides-eqb s r))
+same_atomic-Decides date date = itself
+same_atomic-Decides (timestamp u z) (timestamp v y) = Decides-like _ (λ e. cc) (λ e. (cc, cc)) (Decides-and _ _ (same_unit-Decides u v) (same_zone-Decides z y))
 same_atomic-Decides text text = itself
 same_atomic-Decides octets octets = itself
 same_atomic-Decides _ _ = apart (λ e. cc)

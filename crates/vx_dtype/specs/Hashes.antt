@@ -1,13 +1,21 @@
 -- What a type feeds to a hasher, so that equal ones are hashed alike.
-use Rattle.std.specs.Prelude.{◌++◌}
+use Rattle.std.specs.Prelude.{◌++◌, Option, Some, None}
 use Rattle.std.specs.Hash.{HashWrites}
 use Rattle.std.specs.Hash as fed
-use Rattle.vx_dtype.specs.Types.{ptype_index, Atomic, truth, number, text, octets, LogicalType, ty, Shape, atomic, list, fixed, struct, Fields, no_field, field}
+use Rattle.vx_dtype.specs.Types.{Name, ptype_index, unit_index, Atomic, truth, number, decimals, date, timestamp, text, octets, LogicalType, ty, Shape, atomic, list, fixed, struct, Fields, no_field, field}
+
+-- a zone is hashed as whether there is one, and its name
+abbrev pub zone_fed : Option Name → HashWrites
+zone_fed None = fed.u8 0
+zone_fed (Some a) = fed.u8 1 ++ fed.str a
 
 -- such a kind is hashed as its number and what it holds
 abbrev pub atomic_fed : Atomic → HashWrites
 atomic_fed truth = fed.u8 0
 atomic_fed (number p) = fed.u8 1 ++ fed.u8 (ptype_index p)
+atomic_fed (decimals p s) = fed.u8 7 ++ (fed.u8 p ++ fed.u8 s)
+atomic_fed date = fed.u8 8
+atomic_fed (timestamp u z) = fed.u8 9 ++ (fed.u8 (unit_index u) ++ zone_fed z)
 atomic_fed text = fed.u8 2
 atomic_fed octets = fed.u8 3
 

@@ -1,5 +1,6 @@
 pub mod Lists
 pub mod Types
+pub mod Timestamps
 pub mod Joins
 pub mod Fields
 pub mod Names
@@ -9,5 +10,6 @@ pub mod Equality
 pub mod Hashes
 pub mod Deciding
 pub mod Codes
+pub mod Quotes
 pub mod Texts
 pub mod Notations

@@ -1,10 +1,13 @@
 -- Texts with commas between them, and the text of a type.
-use Rattle.std.specs.Prelude.{ℕ, Bool, true, false, List, [], ◌∷◌, ◌++◌, codes}
+use Rattle.std.specs.Prelude.{ℕ, Bool, true, false, List, [], ◌∷◌, ◌++◌, Option, Some, None, codes}
 use Rattle.std.specs.Fmt.{decimal}
 use Rattle.std.specs.List.{join_by}
 use Rattle.vx_dtype.specs.declared.dtype.PType.{PType}
 use Rattle.vx_dtype.specs.declared.dtype.PType.TheVariants.{U8, U16, U32, U64, I8, I16, I32, I64}
-use Rattle.vx_dtype.specs.Types.{Atomic, truth, number, text, octets, LogicalType, ty, Shape, atomic, list, fixed, struct, Fields, no_field, field}
+use Rattle.vx_dtype.specs.declared.timestamp_type.TimeUnit.{TimeUnit}
+use Rattle.vx_dtype.specs.declared.timestamp_type.TimeUnit.TheVariants.{Seconds, Milliseconds, Microseconds, Nanoseconds}
+use Rattle.vx_dtype.specs.Quotes.{between_quotes}
+use Rattle.vx_dtype.specs.Types.{Name, Atomic, truth, number, decimals, date, timestamp, text, octets, LogicalType, ty, Shape, atomic, list, fixed, struct, Fields, no_field, field}
 
 -- the texts, joined by `, `
 abbrev pub with_commas : List (List ℕ) → List ℕ
@@ -26,10 +29,25 @@ ptype_text I16 = codes "i16"
 ptype_text I32 = codes "i32"
 ptype_text I64 = codes "i64"
 
+-- the text of a unit
+abbrev pub unit_text : TimeUnit → List ℕ
+unit_text Seconds = codes "s"
+unit_text Milliseconds = codes "ms"
+unit_text Microseconds = codes "us"
+unit_text Nanoseconds = codes "ns"
+
+-- a zone between quotes, behind a comma, if there is one
+abbrev pub zone_text : Option Name → List ℕ
+zone_text None = []
+zone_text (Some a) = codes ", " ++ between_quotes 34 a
+
 -- the text of such a kind
 abbrev pub atomic_text : Atomic → List ℕ
 atomic_text truth = codes "bool"
 atomic_text (number p) = ptype_text p
+atomic_text (decimals p s) = codes "decimal(" ++ (decimal p ++ (codes ", " ++ (decimal s ++ codes ")")))
+atomic_text date = codes "date"
+atomic_text (timestamp u z) = codes "timestamp(" ++ (unit_text u ++ (zone_text z ++ codes ")"))
 atomic_text text = codes "utf8"
 atomic_text octets = codes "binary"
 

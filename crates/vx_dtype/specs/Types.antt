@@ -1,7 +1,10 @@
 -- Types, seen without pointers: the field's own data, in place of the program's.
-use Rattle.std.specs.Prelude.{ℕ, Bool, true, false, ◌==◌, List, Option, Some, None}
+use Rattle.std.specs.Prelude.{ℕ, Bool, true, false, ◌==◌, ◌&&◌, List, Option, Some, None}
+use Rattle.std.specs.Str.{bytes_eq}
 use Rattle.vx_dtype.specs.declared.dtype.PType.{PType}
 use Rattle.vx_dtype.specs.declared.dtype.PType.TheVariants.{U8, U16, U32, U64, I8, I16, I32, I64}
+use Rattle.vx_dtype.specs.declared.timestamp_type.TimeUnit.{TimeUnit}
+use Rattle.vx_dtype.specs.declared.timestamp_type.TimeUnit.TheVariants.{Seconds, Milliseconds, Microseconds, Nanoseconds}
 
 -- a name is its bytes
 abbrev pub Name : Type 0
@@ -41,10 +44,32 @@ ptype_index I64 = 7
 abbrev pub same_ptype : PType → PType → Bool
 same_ptype p q = ptype_index p == ptype_index q
 
--- the kinds of type whose values are compared, and that a fill may have: Bool, Primitive, Utf8 and Binary
+-- the place of a unit among the four
+abbrev pub unit_index : TimeUnit → ℕ
+unit_index Seconds = 0
+unit_index Milliseconds = 1
+unit_index Microseconds = 2
+unit_index Nanoseconds = 3
+
+-- whether two units are the same
+abbrev pub same_unit : TimeUnit → TimeUnit → Bool
+same_unit u v = unit_index u == unit_index v
+
+-- whether there are two zones of one name, or none
+abbrev pub same_zone : Option Name → Option Name → Bool
+same_zone None None = true
+same_zone (Some a) (Some b) = bytes_eq a b
+same_zone None (Some b) = false
+same_zone (Some a) None = false
+
+-- the kinds of type whose values are compared, and that a fill may have: truth values; whole numbers; decimals of a precision
+-- and a scale; days; instants in a unit, with the name of a zone or none; texts; bytes
 pub data Atomic : Type 0 where
   truth : Atomic
   number : PType → Atomic
+  decimals : ℕ → ℕ → Atomic
+  date : Atomic
+  timestamp : TimeUnit → Option Name → Atomic
   text : Atomic
   octets : Atomic
 
@@ -52,6 +77,9 @@ pub data Atomic : Type 0 where
 abbrev pub same_atomic : Atomic → Atomic → Bool
 same_atomic truth truth = true
 same_atomic (number p) (number q) = same_ptype p q
+same_atomic (decimals p s) (decimals q r) = (p == q) && (s == r)
+same_atomic date date = true
+same_atomic (timestamp u z) (timestamp v y) = same_unit u v && same_zone z y
 same_atomic text text = true
 same_atomic octets octets = true
 same_atomic _ _ = false

@@ -5,7 +5,8 @@ use Rattle.vx_dtype.specs.declared.dtype.Nullability.TheVariants.{NonNullable, N
 use Rattle.vx_dtype.specs.declared.dtype.DType.{DType, fold-DType}
 use Rattle.vx_dtype.specs.declared.dtype.DType.TheOpen.{DType-F, StructFields-F}
 use Rattle.vx_dtype.specs.declared.dtype.StructFields.{StructFields}
-use Rattle.vx_dtype.specs.Types.{Name, truth, number, text, octets, LogicalType, ty, atomic, list, fixed, struct, Fields}
+use Rattle.vx_dtype.specs.Timestamps.{instants}
+use Rattle.vx_dtype.specs.Types.{Name, truth, number, decimals, date, text, octets, LogicalType, ty, atomic, list, fixed, struct, Fields}
 use Rattle.vx_dtype.specs.Fields.{fields_named}
 
 -- whether null is admitted
@@ -17,6 +18,9 @@ admits_null Nullable = true
 abbrev pub type_step : DType-F LogicalType Fields → LogicalType
 type_step (DType-F.Bool n) = ty (atomic truth) (admits_null n)
 type_step (DType-F.Primitive p n) = ty (atomic (number p)) (admits_null n)
+type_step (DType-F.Decimal d n) = ty (atomic (decimals d.precision d.scale)) (admits_null n)
+type_step (DType-F.Date n) = ty (atomic date) (admits_null n)
+type_step (DType-F.Timestamp t n) = ty (atomic (instants t)) (admits_null n)
 type_step (DType-F.Utf8 n) = ty (atomic text) (admits_null n)
 type_step (DType-F.Binary n) = ty (atomic octets) (admits_null n)
 type_step (DType-F.List t n) = ty (list t.value) (admits_null n)

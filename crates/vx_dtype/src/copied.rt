@@ -12,6 +12,9 @@ impl Clone for DType {
         match self {
             DType::Bool(n) => Ok(DType::Bool(*n)),
             DType::Primitive(p, n) => Ok(DType::Primitive(*p, *n)),
+            DType::Decimal(decimal, n) => Ok(DType::Decimal(*decimal, *n)),
+            DType::Date(n) => Ok(DType::Date(*n)),
+            DType::Timestamp(timestamp, n) => Ok(DType::Timestamp(timestamp.clone()?, *n)),
             DType::Utf8(n) => Ok(DType::Utf8(*n)),
             DType::Binary(n) => Ok(DType::Binary(*n)),
             DType::List(t, n) => Ok(DType::List(t.clone()?, *n)),

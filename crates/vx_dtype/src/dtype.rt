@@ -4,7 +4,7 @@ ghost use Rattle.vx_dtype.specs.Returns.{ReturnsOrOom};
 ghost use Rattle.vx_dtype.specs.Types.{atomic, is_nullable, number, struct_fields, ty, with_nullability};
 ghost use Rattle.vx_dtype.specs.Views.{admits_null, type_of, fields_of, fields_view, names_of};
 
-use crate::{FieldNames, VortexResult};
+use crate::{DecimalType, FieldNames, TimestampType, VortexResult};
 use std::alloc::{AllocError, Global};
 use std::sync::Arc;
 
@@ -46,6 +46,12 @@ pub enum DType {
     Bool(Nullability),
     /// Whole numbers in the range of the `PType`.
     Primitive(PType, Nullability),
+    /// Decimals of that precision and scale.
+    Decimal(DecimalType, Nullability),
+    /// Days, counted from the first of January 1970, in 32 bits.
+    Date(Nullability),
+    /// Instants, counted from the beginning of the year 1970 in the type's unit, in 64 bits.
+    Timestamp(TimestampType, Nullability),
     /// Texts.
     Utf8(Nullability),
     /// Bytes.
@@ -71,7 +77,13 @@ impl Drop for DType {
     #[cycle(let_go)]
     fn drop(self) {
         match self {
-            DType::Bool(_) | DType::Primitive(_, _) | DType::Utf8(_) | DType::Binary(_) => {}
+            DType::Bool(_)
+            | DType::Primitive(_, _)
+            | DType::Decimal(_, _)
+            | DType::Date(_)
+            | DType::Utf8(_)
+            | DType::Binary(_) => {}
+            DType::Timestamp(timestamp, _) => drop(timestamp),
             DType::List(element, _) | DType::FixedSizeList(element, _, _) => drop(element),
             DType::Struct(fields, _) => drop(fields),
         }
@@ -118,6 +130,9 @@ impl DType {
         match self {
             DType::Bool(n) => *n,
             DType::Primitive(_, n) => *n,
+            DType::Decimal(_, n) => *n,
+            DType::Date(n) => *n,
+            DType::Timestamp(_, n) => *n,
             DType::Utf8(n) => *n,
             DType::Binary(n) => *n,
             DType::List(_, n) => *n,
@@ -140,6 +155,9 @@ impl DType {
         match self {
             DType::Bool(_) => DType::Bool(nullability),
             DType::Primitive(p, _) => DType::Primitive(p, nullability),
+            DType::Decimal(decimal, _) => DType::Decimal(decimal, nullability),
+            DType::Date(_) => DType::Date(nullability),
+            DType::Timestamp(timestamp, _) => DType::Timestamp(timestamp, nullability),
             DType::Utf8(_) => DType::Utf8(nullability),
             DType::Binary(_) => DType::Binary(nullability),
             DType::List(t, _) => DType::List(t, nullability),

@@ -42,6 +42,18 @@ pub(crate) fn alike(a: &DType, b: &DType, exactly: bool) -> bool
             DType::Primitive(q, _) => p.index() == q.index(),
             _ => false,
         },
+        DType::Decimal(d, _) => match b {
+            DType::Decimal(e, _) => d.precision() == e.precision() && d.scale() == e.scale(),
+            _ => false,
+        },
+        DType::Date(_) => match b {
+            DType::Date(_) => true,
+            _ => false,
+        },
+        DType::Timestamp(t, _) => match b {
+            DType::Timestamp(u, _) => t.is_same(u),
+            _ => false,
+        },
         DType::Utf8(_) => match b {
             DType::Utf8(_) => true,
             _ => false,

@@ -39,6 +39,13 @@ fn feed<H: Hasher>(t: &DType, state: &mut H)
             state.write_u8(1);
             state.write_u8(p.index());
         }
+        DType::Decimal(decimal, _) => {
+            state.write_u8(7);
+            state.write_u8(decimal.precision());
+            state.write_u8(decimal.scale());
+        }
+        DType::Date(_) => state.write_u8(8),
+        DType::Timestamp(timestamp, _) => timestamp.feed(state),
         DType::Utf8(_) => state.write_u8(2),
         DType::Binary(_) => state.write_u8(3),
         DType::List(t, _) => {

@@ -55,6 +55,9 @@ fn write_shape<N: TypeNotation, W: Write>(
     match t {
         DType::Bool(_) => f.write_str("bool"),
         DType::Primitive(p, _) => p.fmt(f),
+        DType::Decimal(decimal, _) => decimal.fmt(f),
+        DType::Date(_) => f.write_str("date"),
+        DType::Timestamp(timestamp, _) => timestamp.fmt(f),
         DType::Utf8(_) => f.write_str("utf8"),
         DType::Binary(_) => f.write_str("binary"),
         DType::List(element, _) => {

@@ -1,6 +1,6 @@
 // Sums.
 ghost use Rattle.std.specs.Prelude.{◌≡◌, ℤ, false, true, length, List, [], ◌∷◌, IsTrue, MatchOption};
-ghost use Rattle.vx_value.specs.Fits.{fits_ptype};
+ghost use Rattle.vx_value.specs.Fits.{fits_digits, fits_ptype};
 ghost use Rattle.vx_value.specs.Types.{LogicalType, int};
 ghost use Rattle.vx_value.specs.Views.{type_of, value_of};
 ghost use Rattle.vx_fn.specs.Faults.{is_outside};
@@ -11,7 +11,8 @@ ghost use Rattle.vx_eval.specs.Kernels.{is_between, IsRange};
 
 use crate::rows::Rows;
 use std::alloc::Global;
-use vx_types::{DType, PType, Value, VortexError, VortexResult};
+use vx_types::{DType, DecimalType, PType, Value, VortexError, VortexResult};
+use vx_value::power_of_ten;
 
 /// The sums of two columns, of which the left one has the number type. Refuses with `AddOverflow`
 /// (13) and the first row whose sum is out of its range, and with `OutOfMemory` (1).
@@ -52,7 +53,19 @@ fn range_of(dtype: &DType) -> NumberRange
 {
     match dtype {
         DType::Primitive(number, _) => number_range(*number),
+        DType::Decimal(decimal, _) => decimal_range(*decimal),
         _ => unreachable!(),
+    }
+}
+
+// The units of the decimals of the type.
+fn decimal_range(decimal: DecimalType) -> NumberRange
+    ensures { (i : ℤ) → fits_digits i decimal.precision ≡ is_between result.lowest result.highest i }
+{
+    let highest = power_of_ten(decimal.precision()) as i128 - 1;
+    NumberRange {
+        lowest: -highest,
+        highest,
     }
 }
 

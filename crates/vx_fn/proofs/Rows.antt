@@ -4,7 +4,7 @@ use Rattle.std.specs.Prelude.{Ok, Err, Option, Some, None, not, ok_or, option_ma
 use Rattle.std.proofs.lemmas.Bool.{and_parts}
 use Rattle.std.specs.List.{list_all}
 use Rattle.std.specs.Result.{result_map_both}
-use Rattle.vx_value.specs.Types.{Name, Atomic, truth, number, text, LogicalType, ty, atomic, list, fixed, struct, Datum, is_nullable, with_nullability}
+use Rattle.vx_value.specs.Types.{Name, Atomic, truth, number, decimals, text, LogicalType, ty, atomic, list, fixed, struct, Datum, is_nullable, with_nullability}
 use Rattle.vx_value.specs.Joins.{same_base, join, union, union_all}
 use Rattle.vx_value.specs.Fields.{field_type, project, first_unknown, fields_named}
 use Rattle.vx_dtype.specs.declared.dtype.PType.{PType}
@@ -13,7 +13,7 @@ use Rattle.vx_fn.specs.Functions.{Function, case_when, get_item, literal, pack, 
 use Rattle.vx_fn.specs.declared.options.FieldSelection.{FieldSelection}
 use Rattle.vx_dtype.specs.declared.error.VortexError.{VortexError}
 use Rattle.vx_dtype.specs.declared.error.VortexError.TheVariants.{ArityMismatch, NotBool, NotText, NotComparable, BaseTypesDiffer}
-use Rattle.vx_fn.specs.Rows.{FnType, of_case_else, of_case, of_get_item, of_literal, of_pack, of_select, of_fill_null, of_zip, of_comparison, of_and, of_or, of_add, of_not, of_between, of_like, of_is_null, of_is_not_null, of_mask, of_cast}
+use Rattle.vx_fn.specs.Rows.{FnType, of_case_else, of_case, of_get_item, of_literal, of_pack, of_select, of_fill_null, of_zip, of_comparison, of_and, of_or, of_add, of_add_decimals, of_not, of_between, of_like, of_is_null, of_is_not_null, of_mask, of_cast}
 
 -- ---- a number of children
 
@@ -60,10 +60,6 @@ truth_ok P k _ e = cc
 text_ok : (P : LogicalType → Type 0) → ((n : Bool) → P (ty (atomic text) n)) → (a : LogicalType) → is_text a ≡ true → P a
 text_ok P k (ty (atomic text) n) e = k n
 text_ok P k _ e = cc
-
-number_ok : (P : LogicalType → Type 0) → ((p : PType) (n : Bool) → P (ty (atomic (number p)) n)) → (a : LogicalType) → is_number a ≡ true → P a
-number_ok P k (ty (atomic (number p)) n) e = k p n
-number_ok P k _ e = cc
 
 row_not : (t : LogicalType) (a : LogicalType) → needs (is_truth a) NotBool (Ok a) ≡ Ok t → FnType logical_not (a ∷ []) t
 row_not t (ty (atomic truth) n) e = ok_at logical_not _ of_not e
@@ -122,13 +118,9 @@ row_compares c t a b e =
     (λ p' m s d. ok_at (binary (compares c)) _ (of_comparison s) d) b h.1) a h.0 r.0 r.1
 
 row_adds : (t a b : LogicalType) → binary_type adds a b ≡ Ok t → FnType (binary adds) (a ∷ b ∷ []) t
-row_adds t a b e =
-    let q = needs_ok _ _ _ e in
-    let r = needs_ok _ _ _ q.1 in
-    let h = and_parts _ _ q.0 in
-    number_ok (λ a. same_base a b ≡ true → ok_ty (with_nullability (is_nullable a || is_nullable b) a) ≡ Ok t → FnType (binary adds) (a ∷ b ∷ []) t)
-    (λ p n. number_ok (λ b. same_base (ty (atomic (number p)) n) b ≡ true → ok_ty (ty (atomic (number p)) (n || is_nullable b)) ≡ Ok t → FnType (binary adds) (ty (atomic (number p)) n ∷ b ∷ []) t)
-    (λ p' m s d. ok_at (binary adds) _ (of_add s) d) b h.1) a h.0 r.0 r.1
+row_adds t (ty (atomic (number p)) n) (ty (atomic (number q)) m) e = let r = needs_ok _ _ _ e in ok_at (binary adds) _ (of_add r.0) r.1
+row_adds t (ty (atomic (decimals p s)) n) (ty (atomic (decimals q r)) m) e = let d = needs_ok _ _ _ e in ok_at (binary adds) _ (of_add_decimals d.0) d.1
+row_adds t _ _ e = cc
 
 row_and : (t a b : LogicalType) → binary_type and_also a b ≡ Ok t → FnType (binary and_also) (a ∷ b ∷ []) t
 row_and t a b e =
@@ -215,6 +207,7 @@ fn_type-only (of_comparison e) = rw e
 fn_type-only of_and = refl
 fn_type-only of_or = refl
 fn_type-only (of_add e) = rw e
+fn_type-only (of_add_decimals e) = rw e
 fn_type-only of_not = refl
 fn_type-only (of_between a b) = rw (a, b)
 fn_type-only of_like = refl

@@ -5,7 +5,7 @@ use Rattle.std.proofs.lemmas.Bool.{eqb-true, not-false, or_left, or_right}
 use Rattle.vx_value.proofs.Fitting.{fits-not_null, fits-wider, fits-nullable, join-fits-left, join-fits-right, Into, into_none, into_more, union_all-into, field_value-fits, project-fits, pack-fits}
 use Rattle.vx_dtype.proofs.Known.{first_unknown-filter, first_unknown-own}
 use Rattle.vx_dtype.proofs.Unions.{same_atomic-eq}
-use Rattle.vx_value.specs.Types.{Name, Atomic, truth, number, text, LogicalType, ty, Shape, atomic, struct, Fields, Datum, null, bool, int, utf8, struct_of, is_nullable, with_nullability, is_null_datum}
+use Rattle.vx_value.specs.Types.{Name, Atomic, truth, number, decimals, text, LogicalType, ty, Shape, atomic, struct, Fields, Datum, null, bool, int, utf8, struct_of, is_nullable, with_nullability, is_null_datum}
 use Rattle.vx_value.specs.Fits.{fits, Fits, EachFits}
 use Rattle.vx_dtype.specs.Lists.{forall2_nil, forall2_cons}
 use Rattle.vx_value.specs.Joins.{same_base, join}
@@ -14,7 +14,7 @@ use Rattle.vx_dtype.specs.declared.dtype.PType.{PType}
 use Rattle.vx_fn.specs.Functions.{Function, get_item, select, fill_null, binary, cast, adds, Comparison, selection_names, included, branches, HasFittingLiteral}
 use Rattle.vx_fn.specs.declared.options.FieldSelection.{FieldSelection}
 use Rattle.vx_fn.specs.declared.options.FieldSelection.TheVariants.{Include, Exclude}
-use Rattle.vx_fn.specs.Rows.{FnType, of_case_else, of_case, of_get_item, of_literal, of_pack, of_select, of_fill_null, of_zip, of_comparison, of_and, of_or, of_add, of_not, of_between, of_like, of_is_null, of_is_not_null, of_mask, of_cast}
+use Rattle.vx_fn.specs.Rows.{FnType, of_case_else, of_case, of_get_item, of_literal, of_pack, of_select, of_fill_null, of_zip, of_comparison, of_and, of_or, of_add, of_add_decimals, of_not, of_between, of_like, of_is_null, of_is_not_null, of_mask, of_cast}
 use Rattle.vx_fn.specs.Values.{is_true, kleene_and, kleene_or, kleene_not, compared, agrees, order, bound_comparison, sum_of, liked, first_true, fn_value}
 use Rattle.vx_fn.specs.Faults.{overflows, misfits, is_fillable, fill_of}
 
@@ -80,6 +80,12 @@ sum-fits p q null w n m e h s = or_left n m e
 sum-fits p q (int i) null n m e h s = or_right n m h
 sum-fits p q (int i) (int j) n m e h s = not-false _ s
 sum-fits p q _ _ n m e h s = cc
+
+decimal_sum-fits : (p a q b : ℕ) (v w : Datum) (n m : Bool) → Fits v (ty (atomic (decimals p a)) n) → Fits w (ty (atomic (decimals q b)) m) → overflows (ty (atomic (decimals p a)) n ∷ ty (atomic (decimals q b)) m ∷ []) (v ∷ w ∷ []) ≡ false → Fits (sum_of v w) (ty (atomic (decimals p a)) (n || m))
+decimal_sum-fits p a q b null w n m e h s = or_left n m e
+decimal_sum-fits p a q b (int i) null n m e h s = or_right n m h
+decimal_sum-fits p a q b (int i) (int j) n m e h s = not-false _ s
+decimal_sum-fits p a q b _ _ n m e h s = cc
 
 -- ---- CASE
 
@@ -181,6 +187,7 @@ fn_value-fits (of_zip {t = t} {u = u} s) lit safe (forall2_cons {x = v} e (foral
 fn_value-fits (of_comparison {c = c} {p = p} {q = q} {n = n} {m = m} s) lit safe (forall2_cons {x = v} e (forall2_cons {x = w} h forall2_nil)) = compared-fits c v w (atomic p) (atomic q) n m e h
 fn_value-fits (of_and {n = n} {m = m}) lit safe (forall2_cons {x = v} e (forall2_cons {x = w} h forall2_nil)) = and-fits v w n m e h
 fn_value-fits (of_or {n = n} {m = m}) lit safe (forall2_cons {x = v} e (forall2_cons {x = w} h forall2_nil)) = or-fits v w n m e h
+fn_value-fits (of_add_decimals {p = p} {s = a} {q = q} {r = b} {n = n} {m = m} s) lit safe (forall2_cons {x = v} e (forall2_cons {x = w} h forall2_nil)) = decimal_sum-fits p a q b v w n m e h safe
 fn_value-fits (of_add {p = p} {q = q} {n = n} {m = m} s) lit safe (forall2_cons {x = v} e (forall2_cons {x = w} h forall2_nil)) = sum-fits p q v w n m e h safe
 fn_value-fits (of_not {n = n}) lit safe (forall2_cons {x = v} e forall2_nil) = not-fits v n e
 fn_value-fits (of_between {ls = ls} {us = us} {p = p} {q = q} {r = r} {n = n} {m = m} {k = k} s x) lit safe (forall2_cons {x = v} e (forall2_cons {x = l} h (forall2_cons {x = u} d forall2_nil))) = between-fits ls us v l u p q r n m k e h d

@@ -5,14 +5,15 @@ use Rattle.std.specs.List.{list_any}
 use Rattle.std.specs.Ordering.{is_eq}
 use Rattle.vx_dtype.specs.declared.error.VortexError.{VortexError}
 use Rattle.vx_dtype.specs.declared.error.VortexError.TheVariants.{AddOverflow, CastNull, BadFill}
-use Rattle.vx_value.specs.Types.{LogicalType, ty, atomic, number, Datum, int, null, is_null_datum}
-use Rattle.vx_value.specs.Fits.{fits, fits_ptype}
+use Rattle.vx_value.specs.Types.{LogicalType, ty, atomic, number, decimals, Datum, int, null, is_null_datum}
+use Rattle.vx_value.specs.Fits.{fits, fits_digits, fits_ptype}
 use Rattle.vx_fn.specs.Functions.{Function, binary, adds, cast, fill_null, is_atomic}
 use Rattle.vx_fn.specs.Values.{order, sum_of, at_two}
 
--- whether a sum lies outside the number type of the first operand
+-- whether a sum lies outside the type of the first operand
 abbrev pub is_outside : List LogicalType → Datum → Bool
 is_outside (ty (atomic (number p)) n ∷ ts) (int i) = not (fits_ptype i p)
+is_outside (ty (atomic (decimals p s)) n ∷ ts) (int i) = not (fits_digits i p)
 is_outside _ _ = false
 
 -- whether the sum of the row's two values lies outside the type
@@ -38,7 +39,7 @@ abbrev pub some_differ : List Datum → Bool
 some_differ [] = false
 some_differ (v ∷ vs) = list_any (differs v) vs
 
--- whether the input's type is Bool, Primitive, Utf8 or Binary
+-- whether the input's type is neither a list's nor a struct's
 abbrev pub is_fillable : List LogicalType → Bool
 is_fillable (t ∷ ts) = is_atomic t
 is_fillable [] = false

@@ -1,5 +1,7 @@
 -- What is kept of a value is a value of its type, and what the code takes.
-use Rattle.std.proofs.Common.{◌≡◌, ℕ, zero, suc, List, [], ◌∷◌, refl, ap, ◌∙◌, Bool, true, false, replicate, map, None, add-one, eq-eqb}
+use Rattle.std.proofs.Common.{◌≡◌, ℕ, zero, suc, List, [], ◌∷◌, refl, ap, ◌∙◌, Bool, true, false, replicate, map, None, add-one, eq-eqb, ◌^◌, arith}
+use Rattle.std.proofs.Math.Nat.{one-le-pow}
+use borrow.Author.Tests.{lt-ltb}
 use Rattle.std.specs.Prelude.{if◌then◌else◌, pos}
 use Rattle.std.proofs.lemmas.Bool.{and_parts, and_from}
 use Rattle.vx_dtype.specs.declared.dtype.PType.{PType}
@@ -7,9 +9,9 @@ use Rattle.vx_dtype.specs.declared.dtype.PType.TheVariants.{U8, U16, U32, U64, I
 use Rattle.vx_value.proofs.Misfits.{no_misfit}
 use Rattle.vx_value.specs.Columns.{first_misfit, batch}
 use Rattle.vx_value.specs.Fields.{data_of}
-use Rattle.vx_value.specs.Fits.{Fits, fits_ptype, each_fits, fields_fit, count, IsBatch}
+use Rattle.vx_value.specs.Fits.{Fits, fits_digits, fits_ptype, each_fits, fields_fit, count, IsBatch}
 use Rattle.vx_value.specs.Paths.{Path, is_member}
-use Rattle.vx_value.specs.Types.{truth, number, text, octets, LogicalType, ty, Shape, atomic, list, fixed, struct, Fields, no_field, field, Datum, null, struct_of, Data, no_datum, datum}
+use Rattle.vx_value.specs.Types.{truth, number, decimals, date, timestamp, text, octets, LogicalType, ty, Shape, atomic, list, fixed, struct, Fields, no_field, field, Datum, null, struct_of, Data, no_datum, datum}
 use Rattle.vx_projection.specs.Defaults.{default_of, shape_default, field_defaults}
 use Rattle.vx_projection.specs.Kept.{rests, others, at_paths, kept, fields_kept, kept_batch}
 use Rattle.vx_projection.specs.Wanted.{Want, want_all, want_none, want_fields, wanted, fields_wanted, taken, each_taken}
@@ -25,6 +27,9 @@ zero-fits I8 = refl
 zero-fits I16 = refl
 zero-fits I32 = refl
 zero-fits I64 = refl
+
+no_units : (p : ℕ) → fits_digits (pos 0) p ≡ true
+no_units p = lt-ltb 0 (10 ^ p) (omega (arith, one-le-pow p 10 (omega arith)))
 
 count-replicate : (k : ℕ) (v : Datum) → count (data_of (replicate k v)) ≡ k
 count-replicate zero v = refl
@@ -42,6 +47,9 @@ mutual
   shape-fits : (s : Shape) → Fits (shape_default s) (ty s false)
   shape-fits (atomic truth) = refl
   shape-fits (atomic (number p)) = zero-fits p
+  shape-fits (atomic (decimals p s)) = no_units p
+  shape-fits (atomic date) = refl
+  shape-fits (atomic (timestamp u z)) = refl
   shape-fits (atomic text) = refl
   shape-fits (atomic octets) = refl
   shape-fits (list t) = refl

@@ -1,7 +1,7 @@
 -- The value that stands where nothing is kept.
 use Rattle.std.specs.Prelude.{false, [], pos, replicate, if◌then◌else◌}
 use Rattle.vx_value.specs.Fields.{data_of}
-use Rattle.vx_value.specs.Types.{truth, number, text, octets, LogicalType, ty, Shape, atomic, list, fixed, struct, Fields, no_field, field, Datum, null, bool, int, utf8, bytes, list_of, struct_of, Data, no_datum, datum}
+use Rattle.vx_value.specs.Types.{truth, number, decimals, date, timestamp, text, octets, LogicalType, ty, Shape, atomic, list, fixed, struct, Fields, no_field, field, Datum, null, bool, int, utf8, bytes, list_of, struct_of, Data, no_datum, datum}
 
 -- null where the type is nullable, else false, 0, an empty text, no byte, no item, or so many defaults or a default for each field
 abbrev mutual
@@ -12,6 +12,9 @@ abbrev mutual
   pub shape_default : Shape → Datum
   shape_default (atomic truth) = bool false
   shape_default (atomic (number p)) = int (pos 0)
+  shape_default (atomic (decimals p s)) = int (pos 0)
+  shape_default (atomic date) = int (pos 0)
+  shape_default (atomic (timestamp u z)) = int (pos 0)
   shape_default (atomic text) = utf8 []
   shape_default (atomic octets) = bytes []
   shape_default (list t) = list_of no_datum

@@ -4,7 +4,7 @@
 pub mod laws;
 
 pub use vx_dtype::{
-    DType, FieldName, FieldNames, Nullability, PType, StructFields, VortexError, VortexResult,
-    names_without,
+    DType, DecimalType, FieldName, FieldNames, Nullability, PType, StructFields, TimeUnit,
+    TimestampType, VortexError, VortexResult, names_without,
 };
 pub use vx_value::{Column, Field, FieldPath, FieldPathSet, FieldPaths, Scalar, Value};

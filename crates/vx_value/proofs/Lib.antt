@@ -4,6 +4,7 @@ pub mod Fitting
 pub mod Above
 pub mod ValuesWritten
 pub mod Misfits
+pub mod Digits
 pub mod PathSets
 pub mod TakenRows
 pub mod StructRows

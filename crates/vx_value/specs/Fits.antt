@@ -1,14 +1,19 @@
 -- Which values are of a type.
-use Rattle.std.specs.Prelude.{ℕ, ◌+◌, ◌^◌, Bool, true, false, ◌&&◌, ◌==◌, List, ℤ, pos, negsuc, IsTrue, nat_lt}
+use Rattle.std.specs.Prelude.{ℕ, ◌+◌, ◌^◌, Bool, true, false, ◌&&◌, ◌==◌, List, ℤ, pos, negsuc, IsTrue, nat_lt, unsigned_abs}
 use Rattle.std.specs.List.{list_all}
 use Rattle.vx_dtype.specs.Lists.{Forall2}
 use Rattle.vx_dtype.specs.declared.dtype.PType.{PType}
-use Rattle.vx_value.specs.Types.{bits, is_signed, truth, number, text, octets, LogicalType, ty, atomic, list, fixed, struct, Fields, no_field, field, Datum, null, bool, int, utf8, bytes, list_of, struct_of, Data, no_datum, datum}
+use Rattle.vx_dtype.specs.declared.dtype.PType.TheVariants.{I32, I64}
+use Rattle.vx_value.specs.Types.{bits, is_signed, truth, number, decimals, date, timestamp, text, octets, LogicalType, ty, atomic, list, fixed, struct, Fields, no_field, field, Datum, null, bool, int, utf8, bytes, list_of, struct_of, Data, no_datum, datum}
 
 -- whether the number lies in the range of the number type
 abbrev pub fits_ptype : ℤ → PType → Bool
 fits_ptype (pos n) p = nat_lt n (2 ^ bits p)
 fits_ptype (negsuc n) p = is_signed p && nat_lt n (2 ^ bits p)
+
+-- whether the number of units has at most so many digits
+abbrev pub fits_digits : ℤ → ℕ → Bool
+fits_digits i precision = nat_lt (unsigned_abs i) (10 ^ precision)
 
 -- how many values there are
 abbrev pub count : Data → ℕ
@@ -21,6 +26,9 @@ abbrev mutual
   fits null (ty s n) = n
   fits (bool b) (ty (atomic truth) n) = true
   fits (int i) (ty (atomic (number p)) n) = fits_ptype i p
+  fits (int i) (ty (atomic (decimals p s)) n) = fits_digits i p
+  fits (int i) (ty (atomic date) n) = fits_ptype i I32
+  fits (int i) (ty (atomic (timestamp u z)) n) = fits_ptype i I64
   fits (utf8 t) (ty (atomic text) n) = true
   fits (bytes t) (ty (atomic octets) n) = true
   fits (list_of vs) (ty (list t) n) = each_fits vs t

@@ -1,10 +1,12 @@
 // Which values are of a type.
 ghost use Rattle.std.specs.Prelude.{◌≡◌, ℕ, ◌==◌};
-ghost use Rattle.vx_value.specs.Fits.{fits, each_fits, fields_fit, fits_ptype, count};
+ghost use Rattle.vx_value.specs.Fits.{fits, each_fits, fields_fit, fits_digits, fits_ptype, count};
+ghost use Rattle.vx_value.specs.Types.{int};
 ghost use Rattle.vx_value.specs.Views.{type_of, fields_of, value_of, data_view};
 
 use crate::Value;
-use vx_dtype::{DType, PType, StructFields};
+use crate::decimals::power_of_ten;
+use vx_dtype::{DType, DecimalType, PType, StructFields};
 
 // Whether the number lies in the range of the type.
 fn in_range(i: i128, p: PType) -> bool
@@ -20,6 +22,26 @@ fn in_range(i: i128, p: PType) -> bool
         PType::I32 => -2_147_483_648 <= i && i < 2_147_483_648,
         PType::I64 => -9_223_372_036_854_775_808 <= i && i < 9_223_372_036_854_775_808,
     }
+}
+
+// Whether the whole number is a value of the type.
+fn int_fits(i: i128, t: &DType) -> bool
+    ensures { result ≡ fits (int i) (type_of t.now) }
+{
+    match t {
+        DType::Primitive(p, _) => in_range(i, *p),
+        DType::Decimal(decimal, _) => has_digits(i, *decimal),
+        DType::Date(_) => in_range(i, PType::I32),
+        DType::Timestamp(_, _) => in_range(i, PType::I64),
+        _ => false,
+    }
+}
+
+// Whether so many units are a decimal of the type.
+fn has_digits(i: i128, decimal: DecimalType) -> bool
+    ensures { result ≡ fits_digits i decimal.precision }
+{
+    i.unsigned_abs() < power_of_ten(decimal.precision())
 }
 
 impl Value {
@@ -42,10 +64,7 @@ fn value_fits(value: &Value, t: &DType) -> bool
             DType::Bool(_) => true,
             _ => false,
         },
-        Value::Int(i) => match t {
-            DType::Primitive(p, _) => in_range(*i, *p),
-            _ => false,
-        },
+        Value::Int(i) => int_fits(*i, t),
         Value::Utf8(_) => match t {
             DType::Utf8(_) => true,
             _ => false,

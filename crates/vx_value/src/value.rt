@@ -17,7 +17,7 @@ pub enum Value {
     Null,
     /// A truth value.
     Bool(bool),
-    /// A whole number.
+    /// A whole number: of a type of whole numbers, the units of a decimal, a day, or an instant.
     Int(i128),
     /// A text.
     Utf8(String),

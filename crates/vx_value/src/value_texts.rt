@@ -5,6 +5,8 @@ ghost use Rattle.vx_value.specs.Notations.{number_in, quoted_in, shown_words};
 ghost use Rattle.vx_value.specs.ValueTexts.{value_text, list_text};
 ghost use Rattle.vx_value.specs.Views.{type_of, value_of, data_view};
 
+use crate::calendar::{write_date, write_instant};
+use crate::decimals::write_decimal;
 use crate::notation::{ValueNotation, write_list_in, write_value_in};
 use crate::{Scalar, Value};
 use std::fmt;
@@ -33,7 +35,7 @@ pub(crate) fn write_list<W: Write>(values: &[Value], t: &DType, f: &mut Formatte
     write_list_in(&Shown, values, t, f)
 }
 
-// A number with its type behind it, and a text between quotes as it stands.
+// A number of a `PType` with that behind it, and a text between quotes as it stands.
 impl ValueNotation for Shown {
     ghost words = { shown_words };
 
@@ -43,6 +45,9 @@ impl ValueNotation for Shown {
                 number.fmt(f)?;
                 p.fmt(f)
             }
+            DType::Decimal(decimal, _) => write_decimal(number, decimal.scale(), f),
+            DType::Date(_) => write_date(number, f),
+            DType::Timestamp(timestamp, _) => write_instant(number, timestamp, f),
             _ => Ok(()),
         }
     }

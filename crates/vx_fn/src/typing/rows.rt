@@ -1,8 +1,9 @@
 // The types of nodes whose function looks at types alone: a function for each row of the table.
-ghost use Rattle.std.specs.Prelude.{◌≡◌, Ok};
+ghost use Rattle.std.specs.Prelude.{◌≡◌, Ok, true};
 ghost use Rattle.vx_value.specs.Returns.{ReturnsOrOom, Returns};
 ghost use Rattle.vx_value.specs.Fits.{Fits};
-ghost use Rattle.vx_value.specs.Views.{type_of};
+ghost use Rattle.vx_value.specs.Types.{with_nullability};
+ghost use Rattle.vx_value.specs.Views.{admits_null, type_of};
 ghost use Rattle.vx_fn.specs.Functions.{fill_null, zip, mask as mask_function, cast, is_truth, is_text, is_number, is_atomic, truth_type, binary_type, comparison_type, logic_type, sum_type, fill_type, zip_type, not_type, between_type, like_type, mask_type, cast_type};
 ghost use Rattle.vx_fn.specs.Memory.{RefusesEarly};
 ghost use Rattle.vx_fn.specs.Views.{operation_of};
@@ -83,16 +84,31 @@ fn logic_dtype(t: &DType, u: &DType) -> VortexResult<DType>
 fn sum_dtype(t: &DType, u: &DType) -> VortexResult<DType>
     ensures { Returns type_of result (sum_type (type_of t.now) (type_of u.now)) }
 {
-    match (t, u) {
-        (DType::Primitive(p, _), DType::Primitive(_, _)) => {
-            if !t.eq_ignore_nullability(u) {
-                return Err(VortexError::BaseTypesDiffer);
-            }
-            let nullable = t.is_nullable() || u.is_nullable();
-            Ok(DType::Primitive(*p, Nullability::of(nullable)))
-        }
+    if !(is_number(t) && is_number(u)) {
+        return Err(VortexError::NotNumeric);
+    }
+    if !t.eq_ignore_nullability(u) {
+        return Err(VortexError::BaseTypesDiffer);
+    }
+    number_dtype(t, Nullability::of(t.is_nullable() || u.is_nullable()))
+}
+
+// The type of numbers with that nullability.
+fn number_dtype(t: &DType, nullability: Nullability) -> VortexResult<DType>
+    requires { is_number (type_of t.now) ≡ true }
+    ensures { Returns type_of result (Ok (with_nullability (admits_null nullability) (type_of t.now))) }
+{
+    match t {
+        DType::Primitive(p, _) => Ok(DType::Primitive(*p, nullability)),
+        DType::Decimal(decimal, _) => Ok(DType::Decimal(*decimal, nullability)),
         _ => Err(VortexError::NotNumeric),
     }
+}
+
+fn is_number(t: &DType) -> bool
+    ensures { result ≡ is_number (type_of t.now) }
+{
+    matches!(t, DType::Primitive(_, _) | DType::Decimal(_, _))
 }
 
 pub(super) fn not_dtype(t: &DType) -> VortexResult<DType>
@@ -168,6 +184,12 @@ pub(crate) fn is_atomic(t: &DType) -> bool
 {
     matches!(
         t,
-        DType::Bool(_) | DType::Primitive(_, _) | DType::Utf8(_) | DType::Binary(_)
+        DType::Bool(_)
+            | DType::Primitive(_, _)
+            | DType::Decimal(_, _)
+            | DType::Date(_)
+            | DType::Timestamp(_, _)
+            | DType::Utf8(_)
+            | DType::Binary(_)
     )
 }
