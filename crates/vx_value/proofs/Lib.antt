@@ -4,7 +4,6 @@ pub mod Fitting
 pub mod Above
 pub mod ValuesWritten
 pub mod Misfits
-pub mod Digits
 pub mod PathSets
 pub mod TakenRows
 pub mod StructRows

@@ -1,7 +1,6 @@
 pub mod Values
 pub mod Types
 pub mod Fits
-pub mod LeafTexts
 pub mod Fields
 pub mod Views
 pub mod Equality

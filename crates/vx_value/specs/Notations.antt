@@ -2,7 +2,9 @@
 use Rattle.std.specs.Prelude.{ℕ, ℤ, true, false, List, [], ◌∷◌, ◌++◌, codes}
 use Rattle.std.specs.Fmt.{signed_decimal}
 use Rattle.std.specs.List.{flat_map}
-use Rattle.vx_value.specs.LeafTexts.{decimal_text, date_text, instant_text}
+use Rattle.vx_literals.specs.Days.{day_text}
+use Rattle.vx_literals.specs.Decimals.{decimal_text}
+use Rattle.vx_literals.specs.Instants.{instant_text}
 use Rattle.vx_value.specs.Types.{Name, number, decimals, date, timestamp, LogicalType, ty, atomic, list, fixed, struct, Fields, field, Datum, null, bool, int, utf8, bytes, list_of, struct_of, Data, no_datum, datum}
 use Rattle.vx_value.specs.Texts.{with_commas, ptype_text}
 use Rattle.vx_value.specs.ValueTexts.{hex_byte}
@@ -50,7 +52,7 @@ list_in named w vs t = codes "[" ++ (with_commas (items_in named w vs t) ++ code
 abbrev pub shown_number : ℤ → LogicalType → List ℕ
 shown_number i (ty (atomic (number p)) n) = signed_decimal i ++ ptype_text p
 shown_number i (ty (atomic (decimals p s)) n) = decimal_text i s
-shown_number i (ty (atomic date) n) = date_text i
+shown_number i (ty (atomic date) n) = day_text i
 shown_number i (ty (atomic (timestamp u z)) n) = instant_text u z i
 shown_number _ _ = []
 

@@ -5,8 +5,8 @@ ghost use Rattle.vx_value.specs.Types.{int};
 ghost use Rattle.vx_value.specs.Views.{type_of, fields_of, value_of, data_view};
 
 use crate::Value;
-use crate::decimals::power_of_ten;
 use vx_dtype::{DType, DecimalType, PType, StructFields};
+use vx_literals::power_of_ten;
 
 // Whether the number lies in the range of the type.
 fn in_range(i: i128, p: PType) -> bool

@@ -1,10 +1,8 @@
 // Values, scalars, columns and field paths, over the types of the crate below.
 #![tactic(auto)]
 
-mod calendar;
 mod column;
 mod column_rows;
-mod decimals;
 mod field_path;
 mod field_path_set;
 mod fits;
@@ -16,9 +14,7 @@ mod taking;
 mod value;
 mod value_texts;
 
-pub use calendar::{units_a_second, write_date, write_instant};
 pub use column::Column;
-pub use decimals::{power_of_ten, write_decimal};
 pub use field_path::{Field, FieldPath};
 pub use field_path_set::{FieldPathSet, FieldPaths};
 pub use notation::{ValueNotation, write_value_in};

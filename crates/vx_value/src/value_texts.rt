@@ -5,13 +5,12 @@ ghost use Rattle.vx_value.specs.Notations.{number_in, quoted_in, shown_words};
 ghost use Rattle.vx_value.specs.ValueTexts.{value_text, list_text};
 ghost use Rattle.vx_value.specs.Views.{type_of, value_of, data_view};
 
-use crate::calendar::{write_date, write_instant};
-use crate::decimals::write_decimal;
 use crate::notation::{ValueNotation, write_list_in, write_value_in};
 use crate::{Scalar, Value};
 use std::fmt;
 use std::fmt::{Display, Formatter, Write};
 use vx_dtype::{DType, Shown};
+use vx_literals::{write_day, write_decimal, write_instant};
 
 impl Display for Scalar {
     ghost output = { λ s. Some (value_text s.value s.type) };
@@ -46,7 +45,7 @@ impl ValueNotation for Shown {
                 p.fmt(f)
             }
             DType::Decimal(decimal, _) => write_decimal(number, decimal.scale(), f),
-            DType::Date(_) => write_date(number, f),
+            DType::Date(_) => write_day(number, f),
             DType::Timestamp(timestamp, _) => write_instant(number, timestamp, f),
             _ => Ok(()),
         }

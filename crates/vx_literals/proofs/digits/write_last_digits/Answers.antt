@@ -1,8 +1,8 @@
 use Rattle.std.proofs.Common.{◌≡◌, ◌-◌, [], ap, arith, refl}
 use Rattle.std.proofs.Output.{has_written_append, has_written_of_eq, writes_in_calls_nil}
-use Rattle.vx_value.specs.LeafTexts.{last_digits}
-use Rattle.vx_value.proofs.Digits.{digit_next, digits_all}
-use Rattle.vx_value.proofs.decimals.write_last_digits.Goals as goal
+use Rattle.vx_literals.specs.Digits.{last_digits}
+use Rattle.vx_literals.proofs.LastDigits.{digit_next, digits_all}
+use Rattle.vx_literals.proofs.digits.write_last_digits.Goals as goal
 
 pub loop-place-init : goal.loop-place-init
 loop-place-init g c = λ plain.

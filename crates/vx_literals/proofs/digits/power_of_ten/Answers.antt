@@ -1,6 +1,6 @@
 use Rattle.std.proofs.Common.{◌^◌, ap, arith}
 use Rattle.std.proofs.Math.Nat.{pow-le-pow_right, one-le-pow}
-use Rattle.vx_value.proofs.decimals.power_of_ten.Goals as goal
+use Rattle.vx_literals.proofs.digits.power_of_ten.Goals as goal
 
 pub pow-requires : goal.pow-requires
 pow-requires c = omega (arith, pow-le-pow_right {n = 10} (omega arith) c.requires, ap (λ e. 10 ^ e) c.from.ensures)

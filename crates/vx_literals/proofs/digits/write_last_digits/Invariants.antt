@@ -1,7 +1,7 @@
 use Rattle.std.proofs.Common.{◌≡◌, ℕ, ◌-◌, List, ◌++◌}
 use Rattle.std.specs.Fmt.{HasWritten, IsPlainFormatter}
-use Rattle.vx_value.specs.LeafTexts.{last_digits}
-use Rattle.vx_value.proofs.decimals.write_last_digits.Given as goal
+use Rattle.vx_literals.specs.Digits.{last_digits}
+use Rattle.vx_literals.proofs.digits.write_last_digits.Given as goal
 
 abbrev pub invariant-loop-place : goal.invariant-loop-place
 invariant-loop-place g l =

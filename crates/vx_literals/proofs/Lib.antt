@@ -1,0 +1,4 @@
+mod LastDigits
+mod DigitsRead
+mod Calendar
+mod Parts

@@ -1,0 +1,5 @@
+pub mod Digits
+pub mod Decimals
+pub mod Days
+pub mod Dates
+pub mod Instants

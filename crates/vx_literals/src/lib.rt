@@ -1,0 +1,12 @@
+// Decimals, days and instants as texts, written and read.
+#![tactic(auto)]
+
+mod days;
+mod decimals;
+mod digits;
+mod instants;
+
+pub use days::{read_day, write_day};
+pub use decimals::{read_decimal, write_decimal};
+pub use digits::power_of_ten;
+pub use instants::{read_instant, units_a_second, write_instant};
