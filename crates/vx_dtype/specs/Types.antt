@@ -110,6 +110,12 @@ abbrev pub struct_fields : LogicalType → Option Fields
 struct_fields (ty (struct fs) n) = Some fs
 struct_fields _ = None
 
+-- the type of the items of a type of lists, of any length or of one, if it is one
+abbrev pub items_type : LogicalType → Option LogicalType
+items_type (ty (list t) n) = Some t
+items_type (ty (fixed t k) n) = Some t
+items_type _ = None
+
 -- whether null is a value of the type
 abbrev pub is_nullable : LogicalType → Bool
 is_nullable (ty s n) = n

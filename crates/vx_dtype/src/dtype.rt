@@ -1,7 +1,7 @@
 // Types of columns.
 ghost use Rattle.std.specs.Prelude.{◌≡◌, IfOk, Ok, false, length, option_map, true};
 ghost use Rattle.vx_dtype.specs.Returns.{ReturnsOrOom};
-ghost use Rattle.vx_dtype.specs.Types.{atomic, is_nullable, number, struct_fields, ty, with_nullability};
+ghost use Rattle.vx_dtype.specs.Types.{atomic, is_nullable, items_type, number, struct_fields, ty, with_nullability};
 ghost use Rattle.vx_dtype.specs.Views.{admits_null, type_of, fields_of, fields_view, names_of};
 
 use crate::{DecimalType, FieldNames, TimestampType, VortexResult};
@@ -171,6 +171,16 @@ impl DType {
         ensures { type_of result ≡ with_nullability true (type_of self) }
     {
         self.with_nullability(Nullability::Nullable)
+    }
+
+    /// The type of the items, if this is a type of lists, of any length or of one.
+    pub fn as_any_size_list_element_opt(&self) -> Option<&DType>
+        ensures { option_map (λ t. type_of t.now) result ≡ items_type (type_of self.now) }
+    {
+        match self {
+            DType::List(element, _) | DType::FixedSizeList(element, _, _) => Some(element.as_ref()),
+            _ => None,
+        }
     }
 
     /// The fields, if this is a struct type.

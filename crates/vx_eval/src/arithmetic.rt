@@ -11,8 +11,8 @@ ghost use Rattle.vx_eval.specs.Kernels.{is_between, IsRange};
 
 use crate::rows::Rows;
 use std::alloc::Global;
-use vx_types::{DType, DecimalType, PType, Value, VortexError, VortexResult};
 use vx_literals::power_of_ten;
+use vx_types::{DType, DecimalType, PType, Value, VortexError, VortexResult};
 
 /// The sums of two columns, of which the left one has the number type. Refuses with `AddOverflow`
 /// (13) and the first row whose sum is out of its range, and with `OutOfMemory` (1).

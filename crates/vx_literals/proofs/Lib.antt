@@ -2,3 +2,4 @@ mod LastDigits
 mod DigitsRead
 mod Calendar
 mod Parts
+pub mod ReadBack

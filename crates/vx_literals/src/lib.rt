@@ -5,6 +5,7 @@ mod days;
 mod decimals;
 mod digits;
 mod instants;
+pub mod laws;
 
 pub use days::{read_day, write_day};
 pub use decimals::{read_decimal, write_decimal};

@@ -17,10 +17,8 @@ pub fn default_value(alloc: Global, dtype: &DType) -> Result<Value, AllocError>
     }
     match dtype {
         DType::Bool(_) => Ok(Value::Bool(false)),
-        DType::Primitive(_, _)
-        | DType::Decimal(_, _)
-        | DType::Date(_)
-        | DType::Timestamp(_, _) => Ok(Value::Int(0)),
+        DType::Primitive(_, _) | DType::Decimal(_, _) | DType::Date(_) | DType::Timestamp(_, _) =>
+            Ok(Value::Int(0)),
         DType::Utf8(_) => Ok(Value::Utf8(String::new(alloc))),
         DType::Binary(_) => Ok(Value::Binary(Vec::new(alloc))),
         DType::List(_, _) => Ok(Value::List(Vec::new(alloc))),

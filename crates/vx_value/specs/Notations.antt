@@ -1,11 +1,11 @@
 -- Values in a notation: what notations have in common, over how each writes names, numbers and texts.
-use Rattle.std.specs.Prelude.{ℕ, ℤ, true, false, List, [], ◌∷◌, ◌++◌, codes}
+use Rattle.std.specs.Prelude.{ℕ, ℤ, true, false, List, [], ◌∷◌, ◌++◌, Option, Some, None, codes}
 use Rattle.std.specs.Fmt.{signed_decimal}
 use Rattle.std.specs.List.{flat_map}
 use Rattle.vx_literals.specs.Days.{day_text}
 use Rattle.vx_literals.specs.Decimals.{decimal_text}
 use Rattle.vx_literals.specs.Instants.{instant_text}
-use Rattle.vx_value.specs.Types.{Name, number, decimals, date, timestamp, LogicalType, ty, atomic, list, fixed, struct, Fields, field, Datum, null, bool, int, utf8, bytes, list_of, struct_of, Data, no_datum, datum}
+use Rattle.vx_value.specs.Types.{Name, number, decimals, date, timestamp, LogicalType, ty, atomic, items_type, struct_fields, Fields, field, Datum, null, bool, int, utf8, bytes, list_of, struct_of, Data, no_datum, datum}
 use Rattle.vx_value.specs.Texts.{with_commas, ptype_text}
 use Rattle.vx_value.specs.ValueTexts.{hex_byte}
 
@@ -29,10 +29,8 @@ abbrev mutual
   value_in named w (int i) t = number_in w i t
   value_in named w (utf8 s) t = quoted_in w s
   value_in named w (bytes bs) t = codes "0x" ++ flat_map hex_byte bs
-  value_in named w (list_of vs) (ty (list t) n) = codes "[" ++ (with_commas (items_in named w vs t) ++ codes "]")
-  value_in named w (list_of vs) (ty (fixed t k) n) = codes "[" ++ (with_commas (items_in named w vs t) ++ codes "]")
-  value_in named w (struct_of vs) (ty (struct fs) n) = codes "{" ++ (with_commas (row_in named w vs fs) ++ codes "}")
-  value_in named w _ _ = []
+  value_in named w (list_of vs) t = elim (items_type t) [ Some e ↦ codes "[" ++ (with_commas (items_in named w vs e) ++ codes "]") | None ↦ [] ]
+  value_in named w (struct_of vs) t = elim (struct_fields t) [ Some fs ↦ codes "{" ++ (with_commas (row_in named w vs fs) ++ codes "}") | None ↦ [] ]
 
   -- each item of a list
   pub items_in : (Name → List ℕ) → ValueWords → Data → LogicalType → List (List ℕ)
@@ -43,6 +41,10 @@ abbrev mutual
   pub row_in : (Name → List ℕ) → ValueWords → Data → Fields → List (List ℕ)
   row_in named w (datum v vs) (field a t fs) = (named a ++ (codes ": " ++ value_in named w v t)) ∷ row_in named w vs fs
   row_in named w _ _ = []
+
+-- the values of a struct, between braces
+abbrev pub struct_in : (Name → List ℕ) → ValueWords → Data → Fields → List ℕ
+struct_in named w vs fs = codes "{" ++ (with_commas (row_in named w vs fs) ++ codes "}")
 
 -- the items of a list, between brackets
 abbrev pub list_in : (Name → List ℕ) → ValueWords → Data → LogicalType → List ℕ

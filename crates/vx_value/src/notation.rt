@@ -2,7 +2,7 @@
 ghost use Rattle.std.specs.Prelude.{◌≡◌, ◌++◌, codes};
 ghost use Rattle.std.specs.Fmt.{WritesOnOk};
 ghost use Rattle.std.specs.List.{flat_map};
-ghost use Rattle.vx_value.specs.Notations.{number_in, quoted_in, value_in, list_in, items_in, row_in};
+ghost use Rattle.vx_value.specs.Notations.{number_in, quoted_in, value_in, list_in, items_in, row_in, struct_in};
 ghost use Rattle.vx_value.specs.Texts.{with_commas};
 ghost use Rattle.vx_value.specs.ValueTexts.{hex_byte};
 ghost use Rattle.vx_value.specs.Views.{type_of, fields_of, value_of, data_view};
@@ -47,21 +47,30 @@ pub fn write_value_in<N: ValueNotation, W: Write>(
             f.write_str("0x")?;
             write_bytes(bytes.as_slice(), f)
         }
-        Value::List(items) => match t {
-            DType::List(element, _) | DType::FixedSizeList(element, _, _) => {
-                write_list_in(notation, items.as_slice(), element.as_ref(), f)
-            }
-            _ => Ok(()),
+        Value::List(items) => match t.as_any_size_list_element_opt() {
+            Some(element) => write_list_in(notation, items.as_slice(), element, f),
+            None => Ok(()),
         },
-        Value::Struct(items) => match t {
-            DType::Struct(fields, _) => {
-                f.write_str("{")?;
-                write_row(notation, items.as_slice(), fields, f)?;
-                f.write_str("}")
-            }
-            _ => Ok(()),
+        Value::Struct(items) => match t.as_struct_fields_opt() {
+            Some(fields) => write_struct_in(notation, items.as_slice(), fields, f),
+            None => Ok(()),
         },
     }
+}
+
+// Writes the values of a struct, each after its field's name, between braces.
+#[cycle(write)]
+fn write_struct_in<N: ValueNotation, W: Write>(
+    notation: &N,
+    values: &[Value],
+    fields: &StructFields,
+    f: &mut Formatter<W>,
+) -> fmt::Result
+    ensures { WritesOnOk W.write_str_gives f.old result (struct_in N.named N.words (data_view values.now) (fields_of fields.now)) f.new }
+{
+    f.write_str("{")?;
+    write_row(notation, values, fields, f)?;
+    f.write_str("}")
 }
 
 // Writes the bytes, two digits each.
