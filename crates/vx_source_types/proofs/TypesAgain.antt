@@ -1,24 +1,28 @@
 -- The text of a type is read as that type.
-use Rattle.std.proofs.Common.{◌≡◌, ℕ, ◌≤◌, ◌<◌, ◌^◌, zero, suc, Bool, true, false, List, [], ◌∷◌, ◌++◌, Some, refl, sym, ap, ◌∙◌, subst, append_assoc, append-nil, arith}
-use Rattle.std.specs.Prelude.{codes, ◌==◌, nat_lt}
+use Rattle.std.proofs.Common.{◌≡◌, ℕ, ◌≤◌, ◌<◌, ◌^◌, zero, suc, Bool, true, false, List, [], ◌∷◌, ◌++◌, Some, None, refl, sym, ap, ◌∙◌, subst, append_assoc, append-nil, arith}
+use Rattle.std.specs.Prelude.{codes, ◌==◌, ◌&&◌, nat_le, nat_lt}
 use Rattle.std.specs.Fmt.{decimal}
 use Rattle.std.specs.Str.{IsUtf8}
+use Rattle.std.proofs.lemmas.Bool.{and_from, le-leb}
 use Rattle.std.proofs.lemmas.Bool.Decides.{nat_tests}
+use Rattle.vx_dtype.specs.declared.dtype.PType.{PType}
 use Rattle.vx_dtype.specs.declared.dtype.PType.TheVariants.{U8, U16, U32, U64, I8, I16, I32, I64}
+use Rattle.vx_dtype.specs.declared.timestamp_type.TimeUnit.{TimeUnit}
+use Rattle.vx_dtype.specs.declared.timestamp_type.TimeUnit.TheVariants.{Seconds, Milliseconds, Microseconds, Nanoseconds}
 use Rattle.vx_dtype.specs.Fields.{fields_named}
-use Rattle.vx_dtype.specs.Texts.{with_commas, atomic_text}
-use Rattle.vx_dtype.specs.Types.{Name, Atomic, truth, number, text, octets, LogicalType, ty, Shape, atomic, list, fixed, struct, Fields, no_field, field}
+use Rattle.vx_dtype.specs.Texts.{with_commas, atomic_text, ptype_text, unit_text}
+use Rattle.vx_dtype.specs.Types.{Name, Atomic, truth, number, decimals, date, timestamp, text, octets, LogicalType, ty, Shape, atomic, list, fixed, struct, Fields, no_field, field}
 use Rattle.vx_dtype.proofs.Commas.{after_commas}
 use Rattle.vx_source_types.specs.Characters.{is_word}
-use Rattle.vx_source_types.specs.Tokens.{number as numeral, next}
+use Rattle.vx_source_types.specs.Tokens.{word, number as numeral, next}
 use Rattle.vx_source_types.proofs.Choice.{yes}
-use Rattle.vx_source_types.proofs.FirstTokens.{first_word, first_quoted}
+use Rattle.vx_source_types.proofs.FirstTokens.{first_word, first_quoted, first_text}
 use Rattle.vx_source_types.proofs.FirstNumbers.{first_number}
 use Rattle.vx_source_types.proofs.FirstSigns.{first_open_paren, first_close_paren, first_open_bracket, first_close_bracket, first_open_brace, first_close_brace, first_comma, first_question, first_equal}
 use Rattle.vx_source_types.specs.Names.{is_plain, name_source, between_quotes}
 use Rattle.vx_source_types.specs.Reading.{Leads, stays, leads, IsRead, is_read}
-use Rattle.vx_source_types.specs.TypePrintable.{type_nesting, shape_nesting, fields_nesting, IsPrintable, IsPrintableShape, ArePrintable}
-use Rattle.vx_source_types.specs.TypeReading.{TypeFrame, in_list, in_fixed, in_struct, FieldsRead, TypeMode, type_due, length_due, length_closes, first_field, next_field, unmarked, whole, TypeState, type_start, type_step, type_word_of, plain_word, word_begins, with_field, narrow_length, length_read}
+use Rattle.vx_source_types.specs.TypePrintable.{type_nesting, shape_nesting, fields_nesting, IsPrintable, IsPrintableAtomic, IsPrintableShape, ArePrintable}
+use Rattle.vx_source_types.specs.TypeReading.{TypeFrame, in_list, in_fixed, in_struct, FieldsRead, TypeMode, type_due, length_due, length_closes, decimal_opens, precision_due, precision_ends, scale_due, scale_closes, timestamp_opens, unit_due, unit_ends, zone_due, zone_closes, first_field, next_field, unmarked, whole, TypeState, type_start, type_step, type_word_of, unit_word, plain, plain_word, word_begins, with_field, narrow_length, length_read, precision_read, scale_read, unit_read}
 use Rattle.vx_source_types.specs.TypeTexts.{type_source, shape_source, field_sources}
 use Rattle.vx_source_types.proofs.Reading.{then, of_text}
 
@@ -37,35 +41,100 @@ read_mode (ty s false) = unmarked (ty s false)
 
 -- ---- types without parts
 
-atomic_word_is : (p : Atomic) → type_word_of (atomic_text p) ≡ plain_word (ty (atomic p) false)
-atomic_word_is truth = refl
-atomic_word_is (number U8) = refl
-atomic_word_is (number U16) = refl
-atomic_word_is (number U32) = refl
-atomic_word_is (number U64) = refl
-atomic_word_is (number I8) = refl
-atomic_word_is (number I16) = refl
-atomic_word_is (number I32) = refl
-atomic_word_is (number I64) = refl
-atomic_word_is text = refl
-atomic_word_is octets = refl
+ptype_word_is : (p : PType) → type_word_of (ptype_text p) ≡ plain_word (ty (atomic (number p)) false)
+ptype_word_is U8 = refl
+ptype_word_is U16 = refl
+ptype_word_is U32 = refl
+ptype_word_is U64 = refl
+ptype_word_is I8 = refl
+ptype_word_is I16 = refl
+ptype_word_is I32 = refl
+ptype_word_is I64 = refl
 
-atomic_is_plain : (p : Atomic) → is_plain (atomic_text p) ≡ true
-atomic_is_plain truth = refl
-atomic_is_plain (number U8) = refl
-atomic_is_plain (number U16) = refl
-atomic_is_plain (number U32) = refl
-atomic_is_plain (number U64) = refl
-atomic_is_plain (number I8) = refl
-atomic_is_plain (number I16) = refl
-atomic_is_plain (number I32) = refl
-atomic_is_plain (number I64) = refl
-atomic_is_plain text = refl
-atomic_is_plain octets = refl
+ptype_is_plain : (p : PType) → is_plain (ptype_text p) ≡ true
+ptype_is_plain U8 = refl
+ptype_is_plain U16 = refl
+ptype_is_plain U32 = refl
+ptype_is_plain U64 = refl
+ptype_is_plain I8 = refl
+ptype_is_plain I16 = refl
+ptype_is_plain I32 = refl
+ptype_is_plain I64 = refl
 
-atomic_again : (p : Atomic) (fs : List TypeFrame) (r : ℕ) (rest : List ℕ) → is_word (next rest) ≡ false
-    → Goes (at fs type_due r) (atomic_text p ++ rest) (at fs (unmarked (ty (atomic p) false)) r) rest
-atomic_again p fs r rest e = leads (first_word (atomic_text p) rest (atomic_is_plain p) e) (ap (word_begins fs r) (atomic_word_is p)) stays
+word_again : (w : List ℕ) (p : Atomic) (fs : List TypeFrame) (r : ℕ) (rest : List ℕ) → is_plain w ≡ true → type_word_of w ≡ plain_word (plain p) → is_word (next rest) ≡ false
+    → Goes (at fs type_due r) (w ++ rest) (at fs (unmarked (plain p)) r) rest
+word_again w p fs r rest h is e = leads (first_word w rest h e) (ap (word_begins fs r) is) stays
+
+short_length : (k : ℕ) → k < 2 ^ 32 → narrow_length k ≡ Some k
+short_length k h = let below : nat_lt k (2 ^ 32) ≡ true = grind (arith, nat_tests) in yes (nat_lt k (2 ^ 32)) (Some k) _ below
+
+-- ---- decimals
+
+chosen : {A : Type 0} (b : Bool) (x y : A) → b ≡ true → (elim b as (λ v. A) [ true ↦ x | false ↦ y ]) ≡ x
+chosen b x y e = yes b x y e
+
+decimal_again : (p s : ℕ) (fs : List TypeFrame) (r : ℕ) (rest : List ℕ) → 1 ≤ p → p ≤ 38 → s ≤ p
+    → Goes (at fs type_due r) (atomic_text (decimals p s) ++ rest) (at fs (unmarked (plain (decimals p s))) r) rest
+decimal_again p s fs r rest some wide within =
+    let behind : List ℕ = decimal s ++ 41 ∷ rest in
+    let grouped : atomic_text (decimals p s) ++ rest ≡ codes "decimal" ++ (40 ∷ (decimal p ++ 44 ∷ 32 ∷ behind)) = simp append_assoc in
+    of_text type_step grouped
+    (leads {t = at fs decimal_opens r} (first_word (codes "decimal") (40 ∷ (decimal p ++ 44 ∷ 32 ∷ behind)) refl refl) refl
+    (leads {t = at fs precision_due r} (first_open_paren (decimal p ++ 44 ∷ 32 ∷ behind)) refl
+    (leads {t = at fs (precision_ends p) r} (first_number p [] (44 ∷ 32 ∷ behind) (omega arith) refl refl refl refl)
+    (ap (precision_read fs r (numeral false (Some p) [])) (short_length p (omega arith)) ∙ chosen (nat_le 1 p && nat_le p 38) _ _ (and_from _ _ (le-leb 1 p some) (le-leb p 38 wide)))
+    (leads {t = at fs (scale_due p) r} (first_comma (32 ∷ behind)) refl
+    (leads {t = at fs (scale_closes p s) r} (first_number s [] (41 ∷ rest) (omega arith) refl refl refl refl)
+    (ap (scale_read fs r p (numeral false (Some s) [])) (short_length s (omega arith)) ∙ chosen (nat_le s p) _ _ (le-leb s p within))
+    (leads (first_close_paren rest) refl stays))))))
+
+-- ---- timestamps
+
+unit_is_plain : (u : TimeUnit) → is_plain (unit_text u) ≡ true
+unit_is_plain Seconds = refl
+unit_is_plain Milliseconds = refl
+unit_is_plain Microseconds = refl
+unit_is_plain Nanoseconds = refl
+
+unit_word_is : (u : TimeUnit) → unit_word (unit_text u) ≡ Some u
+unit_word_is Seconds = refl
+unit_word_is Milliseconds = refl
+unit_word_is Microseconds = refl
+unit_word_is Nanoseconds = refl
+
+clock_again : (u : TimeUnit) (fs : List TypeFrame) (r : ℕ) (rest : List ℕ)
+    → Goes (at fs type_due r) (atomic_text (timestamp u None) ++ rest) (at fs (unmarked (plain (timestamp u None))) r) rest
+clock_again u fs r rest =
+    let grouped : atomic_text (timestamp u None) ++ rest ≡ codes "timestamp" ++ (40 ∷ (unit_text u ++ 41 ∷ rest)) = simp append_assoc in
+    of_text type_step grouped
+    (leads {t = at fs timestamp_opens r} (first_word (codes "timestamp") (40 ∷ (unit_text u ++ 41 ∷ rest)) refl refl) refl
+    (leads {t = at fs unit_due r} (first_open_paren (unit_text u ++ 41 ∷ rest)) refl
+    (leads {t = at fs (unit_ends u) r} (first_word (unit_text u) (41 ∷ rest) (unit_is_plain u) refl) (ap (unit_read fs r (word (unit_text u))) (unit_word_is u))
+    (leads (first_close_paren rest) refl stays))))
+
+zoned_again : (u : TimeUnit) (z : Name) (fs : List TypeFrame) (r : ℕ) (rest : List ℕ) → IsUtf8 z
+    → Goes (at fs type_due r) (atomic_text (timestamp u (Some z)) ++ rest) (at fs (unmarked (plain (timestamp u (Some z)))) r) rest
+zoned_again u z fs r rest utf8 =
+    let behind : List ℕ = between_quotes 34 z ++ 41 ∷ rest in
+    let grouped : atomic_text (timestamp u (Some z)) ++ rest ≡ codes "timestamp" ++ (40 ∷ (unit_text u ++ 44 ∷ 32 ∷ behind)) = simp append_assoc in
+    of_text type_step grouped
+    (leads {t = at fs timestamp_opens r} (first_word (codes "timestamp") (40 ∷ (unit_text u ++ 44 ∷ 32 ∷ behind)) refl refl) refl
+    (leads {t = at fs unit_due r} (first_open_paren (unit_text u ++ 44 ∷ 32 ∷ behind)) refl
+    (leads {t = at fs (unit_ends u) r} (first_word (unit_text u) (44 ∷ 32 ∷ behind) (unit_is_plain u) refl) (ap (unit_read fs r (word (unit_text u))) (unit_word_is u))
+    (leads {t = at fs (zone_due u) r} (first_comma (32 ∷ behind)) refl
+    (leads {t = at fs (zone_closes u z) r} (first_text z (41 ∷ rest) utf8 refl) refl
+    (leads (first_close_paren rest) refl stays))))))
+
+atomic_again : (p : Atomic) (fs : List TypeFrame) (r : ℕ) (rest : List ℕ) → IsPrintableAtomic p → is_word (next rest) ≡ false
+    → Goes (at fs type_due r) (atomic_text p ++ rest) (at fs (unmarked (plain p)) r) rest
+atomic_again truth fs r rest u e = word_again (codes "bool") truth fs r rest refl refl e
+atomic_again (number p) fs r rest u e = word_again (ptype_text p) (number p) fs r rest (ptype_is_plain p) (ptype_word_is p) e
+atomic_again (decimals p s) fs r rest u e = decimal_again p s fs r rest u.0 u.1 u.2
+atomic_again date fs r rest u e = word_again (codes "date") date fs r rest refl refl e
+atomic_again (timestamp v None) fs r rest u e = clock_again v fs r rest
+atomic_again (timestamp v (Some z)) fs r rest u e = zoned_again v z fs r rest u
+atomic_again text fs r rest u e = word_again (codes "utf8") text fs r rest refl refl e
+atomic_again octets fs r rest u e = word_again (codes "binary") octets fs r rest refl refl e
 
 -- ---- what follows a type
 
@@ -73,9 +142,6 @@ closed_list : (t : LogicalType) (fs : List TypeFrame) (r : ℕ) (rest : List ℕ
     → Goes (at (in_list (suc r) ∷ fs) (read_mode t) r) (41 ∷ rest) (at fs (unmarked (ty (list t) false)) (suc r)) rest
 closed_list (ty s true) fs r rest = leads (first_close_paren rest) refl stays
 closed_list (ty s false) fs r rest = leads (first_close_paren rest) refl stays
-
-short_length : (k : ℕ) → k < 2 ^ 32 → narrow_length k ≡ Some k
-short_length k h = let below : nat_lt k (2 ^ 32) ≡ true = grind (arith, nat_tests) in yes (nat_lt k (2 ^ 32)) (Some k) _ below
 
 length_again : (t : LogicalType) (k : ℕ) (fs : List TypeFrame) (r : ℕ) (rest : List ℕ) → k < 2 ^ 32
     → Goes (at fs (length_due t) r) (decimal k ++ 93 ∷ rest) (at fs (unmarked (ty (fixed t k) false)) r) rest
@@ -161,6 +227,9 @@ no_equals (ty (atomic (number I8)) n) rest = refl
 no_equals (ty (atomic (number I16)) n) rest = refl
 no_equals (ty (atomic (number I32)) n) rest = refl
 no_equals (ty (atomic (number I64)) n) rest = refl
+no_equals (ty (atomic (decimals p s)) n) rest = refl
+no_equals (ty (atomic date) n) rest = refl
+no_equals (ty (atomic (timestamp u z)) n) rest = refl
 no_equals (ty (atomic text) n) rest = refl
 no_equals (ty (atomic octets) n) rest = refl
 no_equals (ty (list t) n) rest = refl
@@ -183,7 +252,7 @@ mutual
 
   shape_again : (s : Shape) (fs : List TypeFrame) (r : ℕ) (rest : List ℕ) → IsPrintableShape s → shape_nesting s ≤ r → is_word (next rest) ≡ false
       → Goes (at fs type_due r) (shape_source s ++ rest) (at fs (unmarked (ty s false)) r) rest
-  shape_again (atomic p) fs r rest u h e = atomic_again p fs r rest e
+  shape_again (atomic p) fs r rest u h e = atomic_again p fs r rest u e
   shape_again (list t) fs zero rest u h e = absurd (omega arith)
   shape_again (list t) fs (suc r) rest u h e =
       of_text type_step (ap (λ xs. codes "list(" ++ xs) (append_assoc (type_source t) (codes ")") rest))

@@ -1,7 +1,7 @@
 -- Which types a text can say, and how deep they are nested.
-use Rattle.std.specs.Prelude.{ℕ, ◌+◌, ◌<◌, ◌^◌, max}
+use Rattle.std.specs.Prelude.{ℕ, ◌+◌, ◌<◌, ◌≤◌, ◌^◌, max, Some}
 use Rattle.std.specs.Str.{IsUtf8}
-use Rattle.vx_dtype.specs.Types.{LogicalType, ty, Shape, atomic, list, fixed, struct, Fields, no_field, field}
+use Rattle.vx_dtype.specs.Types.{Atomic, decimals, timestamp, LogicalType, ty, Shape, atomic, list, fixed, struct, Fields, no_field, field}
 
 -- how many brackets are open at most at one place of the type's text
 abbrev mutual
@@ -18,13 +18,19 @@ abbrev mutual
   fields_nesting no_field = 0
   fields_nesting (field a t fs) = max (type_nesting t) (fields_nesting fs)
 
--- what each type of the program has: names that are UTF-8, and lengths below 2 ^ 32
+-- what each type without others in it has: a precision from 1 to 38, a scale of at most that, and a zone that is UTF-8
+abbrev pub IsPrintableAtomic : Atomic → Type 0
+IsPrintableAtomic (decimals p s) = (1 ≤ p) × (p ≤ 38) × (s ≤ p)
+IsPrintableAtomic (timestamp u (Some z)) = IsUtf8 z
+IsPrintableAtomic _ = Unit {0}
+
+-- what each type of the program has: that, names that are UTF-8, and lengths below 2 ^ 32
 abbrev mutual
   pub IsPrintable : LogicalType → Type 0
   IsPrintable (ty s n) = IsPrintableShape s
 
   pub IsPrintableShape : Shape → Type 0
-  IsPrintableShape (atomic p) = Unit {0}
+  IsPrintableShape (atomic p) = IsPrintableAtomic p
   IsPrintableShape (list t) = IsPrintable t
   IsPrintableShape (fixed t k) = (k < 2 ^ 32) × IsPrintable t
   IsPrintableShape (struct fs) = ArePrintable fs

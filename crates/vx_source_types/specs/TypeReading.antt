@@ -1,13 +1,15 @@
 -- How a type is read, token by token: what is open around it lies on a stack, and the last token says what is due next.
-use Rattle.std.specs.Prelude.{ℕ, zero, suc, ◌^◌, true, false, List, [], ◌∷◌, ◌++◌, Option, Some, None, Result, Ok, Err, codes, nat_lt, option_and_then}
+use Rattle.std.specs.Prelude.{ℕ, zero, suc, ◌^◌, ◌&&◌, true, false, List, [], ◌∷◌, ◌++◌, Option, Some, None, Result, Ok, Err, codes, nat_le, nat_lt, option_and_then}
 use Rattle.vx_dtype.specs.declared.dtype.PType.{PType}
 use Rattle.vx_dtype.specs.declared.dtype.PType.TheVariants.{U8, U16, U32, U64, I8, I16, I32, I64}
+use Rattle.vx_dtype.specs.declared.timestamp_type.TimeUnit.{TimeUnit}
+use Rattle.vx_dtype.specs.declared.timestamp_type.TimeUnit.TheVariants.{Seconds, Milliseconds, Microseconds, Nanoseconds}
 use Rattle.vx_dtype.specs.Fields.{fields_named}
-use Rattle.vx_dtype.specs.Types.{Name, Atomic, truth, number, text, octets, LogicalType, ty, atomic, list, fixed, struct, with_nullability}
+use Rattle.vx_dtype.specs.Types.{Name, Atomic, truth, number, decimals, date, timestamp, text, octets, LogicalType, ty, atomic, list, fixed, struct, with_nullability}
 use Rattle.vx_source_types.specs.declared.expectation.Expected.{Expected}
-use Rattle.vx_source_types.specs.declared.expectation.Expected.TheVariants.{LessNesting, TypeName, OpenParen, CloseParen, OpenBracket, CloseBracket, Length, Name as AName, FieldType, CommaOrCloseBrace}
+use Rattle.vx_source_types.specs.declared.expectation.Expected.TheVariants.{LessNesting, TypeName, OpenParen, CloseParen, OpenBracket, CloseBracket, Length, Precision, Scale, Unit, Zone, CommaOrParen, Name as AName, FieldType, CommaOrCloseBrace}
 use Rattle.vx_source_types.specs.declared.token.Sign.TheVariants.{OpenParen as ParenOpens, CloseParen as ParenCloses, OpenBracket as BracketOpens, CloseBracket as BracketCloses, OpenBrace as BraceOpens, CloseBrace as BraceCloses, Comma as CommaSign, Equal, Question}
-use Rattle.vx_source_types.specs.Tokens.{Lexeme, word, number as numeral, sign}
+use Rattle.vx_source_types.specs.Tokens.{Lexeme, word, number as numeral, text as quoted_text, sign}
 use Rattle.vx_source_types.specs.Reading.{Goes, more, done, Step, refused}
 use Rattle.vx_source_types.specs.Names.{name_at, same_word}
 
@@ -24,7 +26,8 @@ pub data TypeFrame : Type 0 where
   in_struct : FieldsRead → Name → TypeFrame
 
 -- what is due next: a type; the bracket of a list or of a fixed one; the bracket, the length and the closing bracket behind an
--- element type; a field or the end of a struct without one; a field; the sign before its type; a question mark, if the
+-- element type; the bracket of a decimal, its precision, its scale and the closing bracket; the same of a timestamp, its unit and
+-- its zone; a field or the end of a struct without one; a field; the sign before its type; a question mark, if the
 -- type is nullable; nothing
 pub data TypeMode : Type 0 where
   type_due : TypeMode
@@ -33,6 +36,16 @@ pub data TypeMode : Type 0 where
   length_opens : LogicalType → TypeMode
   length_due : LogicalType → TypeMode
   length_closes : LogicalType → ℕ → TypeMode
+  decimal_opens : TypeMode
+  precision_due : TypeMode
+  precision_ends : ℕ → TypeMode
+  scale_due : ℕ → TypeMode
+  scale_closes : ℕ → ℕ → TypeMode
+  timestamp_opens : TypeMode
+  unit_due : TypeMode
+  unit_ends : TimeUnit → TypeMode
+  zone_due : TimeUnit → TypeMode
+  zone_closes : TimeUnit → Name → TypeMode
   first_field : FieldsRead → TypeMode
   next_field : FieldsRead → TypeMode
   field_type : FieldsRead → Name → TypeMode
@@ -104,15 +117,17 @@ atomic_word w =
           elim (same_word w (codes "utf8")) [
             | true ↦ Some text
             | false ↦
-                elim (same_word w (codes "binary")) [ true ↦ Some octets | false ↦ of_number (ptype_word w) ]
+                elim (same_word w (codes "binary")) [ true ↦ Some octets | false ↦ elim (same_word w (codes "date")) [ true ↦ Some date | false ↦ of_number (ptype_word w) ] ]
           ]
     ]
 
--- what a word begins: a type without parts, a list, a fixed list, or no type
+-- what a word begins: a type without parts, a list, a fixed list, a decimal, a timestamp, or no type
 pub data TypeWord : Type 0 where
   plain_word : LogicalType → TypeWord
   list_word : TypeWord
   fixed_word : TypeWord
+  decimal_word : TypeWord
+  timestamp_word : TypeWord
   no_word : TypeWord
 
 abbrev pub plain_or_none : Option Atomic → TypeWord
@@ -124,7 +139,32 @@ type_word_of w =
     elim (same_word w (codes "list")) [
       | true ↦ list_word
       | false ↦
-          elim (same_word w (codes "fixed_size_list")) [ true ↦ fixed_word | false ↦ plain_or_none (atomic_word w) ]
+          elim (same_word w (codes "fixed_size_list")) [
+            | true ↦ fixed_word
+            | false ↦
+                elim (same_word w (codes "decimal")) [
+                  | true ↦ decimal_word
+                  | false ↦
+                      elim (same_word w (codes "timestamp")) [ true ↦ timestamp_word | false ↦ plain_or_none (atomic_word w) ]
+                ]
+          ]
+    ]
+
+-- the unit of that name
+abbrev pub unit_word : List ℕ → Option TimeUnit
+unit_word w =
+    elim (same_word w (codes "s")) [
+      | true ↦ Some Seconds
+      | false ↦
+          elim (same_word w (codes "ms")) [
+            | true ↦ Some Milliseconds
+            | false ↦
+                elim (same_word w (codes "us")) [
+                  | true ↦ Some Microseconds
+                  | false ↦
+                      elim (same_word w (codes "ns")) [ true ↦ Some Nanoseconds | false ↦ None ]
+                ]
+          ]
     ]
 
 -- what the word begins
@@ -132,6 +172,8 @@ abbrev pub word_begins : List TypeFrame → ℕ → TypeWord → TypeAnswer
 word_begins fs r (plain_word t) = goes fs (unmarked t) r
 word_begins fs r list_word = goes fs list_opens r
 word_begins fs r fixed_word = goes fs fixed_opens r
+word_begins fs r decimal_word = goes fs decimal_opens r
+word_begins fs r timestamp_word = goes fs timestamp_opens r
 word_begins fs r no_word = Err TypeName
 
 -- the beginning of a type
@@ -209,6 +251,49 @@ abbrev pub length_closes_at : List TypeFrame → ℕ → LogicalType → ℕ →
 length_closes_at fs r t k (sign BracketCloses) = goes fs (unmarked (ty (fixed t k) false)) r
 length_closes_at fs r t k x = refused x CloseBracket
 
+-- a type without others in it, which isn't nullable
+abbrev pub plain : Atomic → LogicalType
+plain p = ty (atomic p) false
+
+-- the bracket before what a decimal or a timestamp is made of
+abbrev pub parts_open : List TypeFrame → ℕ → TypeMode → Lexeme → TypeAnswer
+parts_open fs r m (sign ParenOpens) = goes fs m r
+parts_open fs r m x = refused x OpenParen
+
+-- the bracket behind what the type is made of
+abbrev pub parts_close : List TypeFrame → ℕ → LogicalType → Lexeme → TypeAnswer
+parts_close fs r t (sign ParenCloses) = goes fs (unmarked t) r
+parts_close fs r t x = refused x CloseParen
+
+-- more of it behind a comma, or the bracket
+abbrev pub parts_go_on : List TypeFrame → ℕ → LogicalType → TypeMode → Lexeme → TypeAnswer
+parts_go_on fs r t m (sign CommaSign) = goes fs m r
+parts_go_on fs r t m (sign ParenCloses) = goes fs (unmarked t) r
+parts_go_on fs r t m x = refused x CommaOrParen
+
+-- a precision from 1 to 38, and a scale of at most that
+abbrev pub precision_read : List TypeFrame → ℕ → Lexeme → Option ℕ → TypeAnswer
+precision_read fs r x None = refused x Precision
+precision_read fs r x (Some k) = elim (nat_le 1 k && nat_le k 38) [ true ↦ goes fs (precision_ends k) r | false ↦ Err Precision ]
+
+abbrev pub scale_read : List TypeFrame → ℕ → ℕ → Lexeme → Option ℕ → TypeAnswer
+scale_read fs r p x None = refused x Scale
+scale_read fs r p x (Some s) = elim (nat_le s p) [ true ↦ goes fs (scale_closes p s) r | false ↦ Err Scale ]
+
+-- the unit of a timestamp
+abbrev pub unit_at : Lexeme → Option TimeUnit
+unit_at (word w) = unit_word w
+unit_at _ = None
+
+abbrev pub unit_read : List TypeFrame → ℕ → Lexeme → Option TimeUnit → TypeAnswer
+unit_read fs r x None = refused x Unit
+unit_read fs r x (Some u) = goes fs (unit_ends u) r
+
+-- its zone
+abbrev pub zone_at : List TypeFrame → ℕ → TimeUnit → Lexeme → TypeAnswer
+zone_at fs r u (quoted_text z) = goes fs (zone_closes u z) r
+zone_at fs r u x = refused x Zone
+
 -- a question mark makes the type nullable; without one the type is whole
 abbrev pub marked : List TypeFrame → ℕ → LogicalType → Lexeme → TypeAnswer
 marked fs r t (sign Question) = goes fs (whole (with_nullability true t)) r
@@ -222,6 +307,16 @@ type_next fs fixed_opens r x = element_opens fs r (in_fixed r) x
 type_next fs (length_opens t) r x = length_opens_at fs r t x
 type_next fs (length_due t) r x = length_read fs r t x (length_at x)
 type_next fs (length_closes t k) r x = length_closes_at fs r t k x
+type_next fs decimal_opens r x = parts_open fs r precision_due x
+type_next fs precision_due r x = precision_read fs r x (length_at x)
+type_next fs (precision_ends p) r x = parts_go_on fs r (plain (decimals p 0)) (scale_due p) x
+type_next fs (scale_due p) r x = scale_read fs r p x (length_at x)
+type_next fs (scale_closes p s) r x = parts_close fs r (plain (decimals p s)) x
+type_next fs timestamp_opens r x = parts_open fs r unit_due x
+type_next fs unit_due r x = unit_read fs r x (unit_at x)
+type_next fs (unit_ends u) r x = parts_go_on fs r (plain (timestamp u None)) (zone_due u) x
+type_next fs (zone_due u) r x = zone_at fs r u x
+type_next fs (zone_closes u z) r x = parts_close fs r (plain (timestamp u (Some z))) x
 type_next fs (first_field d) r x = first_field_at fs r d x
 type_next fs (next_field d) r x = field_named fs r d x (name_at x)
 type_next fs (field_type d a) r x = field_type_at fs r d a x

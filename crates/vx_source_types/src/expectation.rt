@@ -23,7 +23,7 @@ pub enum Expected {
     #[error("expected less nesting")]
     LessNesting,
     /// No type begins there.
-    #[error("expected a type: bool, u8 to u64, i8 to i64, utf8, binary, list(..), fixed_size_list(..)[..] or {{..}}")]
+    #[error("expected a type: bool, u8 to u64, i8 to i64, decimal(..), date, timestamp(..), utf8, binary, list(..), fixed_size_list(..)[..] or {{..}}")]
     TypeName,
     /// A bracket isn't opened.
     #[error("expected `(`")]
@@ -40,6 +40,21 @@ pub enum Expected {
     /// The length of a list is no number below 2^32.
     #[error("expected a length below 4294967296")]
     Length,
+    /// The precision of a decimal is no number from 1 to 38.
+    #[error("expected a precision from 1 to 38")]
+    Precision,
+    /// The scale of a decimal is no number up to its precision.
+    #[error("expected a scale of at most the precision")]
+    Scale,
+    /// The unit of a timestamp is missing.
+    #[error("expected a unit: s, ms, us or ns")]
+    Unit,
+    /// The zone of a timestamp is no text.
+    #[error("expected the name of a zone between quotes")]
+    Zone,
+    /// What a bracket holds neither goes on nor ends.
+    #[error("expected `,` or `)`")]
+    CommaOrParen,
     /// No name of a field.
     #[error("expected a name, between backquotes if it is not of letters, digits and underscores")]
     Name,

@@ -16,6 +16,7 @@ mod signs;
 mod state;
 mod token;
 mod type_parser;
+mod type_parts;
 mod type_reader;
 mod type_state;
 mod type_text;

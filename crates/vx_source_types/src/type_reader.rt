@@ -15,16 +15,19 @@ use crate::names::field_name;
 use crate::state::{expected, inside, refusal};
 use crate::token::{Sign, Token};
 use crate::type_state::{FieldsSoFar, TypeFrame, TypeMode, TypeReader, TypeStep};
+use crate::type_parts::{
+    parts_close, parts_open, precision_at, precision_ends, scale_at, unit_at, unit_ends, zone_at,
+};
 use crate::type_words::{TypeWord, type_word};
 use std::alloc::{AllocError, Global};
 use std::sync::Arc;
-use vx_dtype::{DType, FieldName, FieldNames, Nullability, StructFields};
+use vx_dtype::{DType, FieldName, FieldNames, Nullability, StructFields, TimestampType};
 
 // What lies around what is due: what is open, and how many more brackets are allowed inside.
 #[derive(Drop)]
-struct Around {
-    frames: Vec<TypeFrame>,
-    room: usize,
+pub(crate) struct Around {
+    pub(crate) frames: Vec<TypeFrame>,
+    pub(crate) room: usize,
 }
 
 impl TypeReader {
@@ -62,6 +65,22 @@ impl TypeReader {
             TypeMode::FirstField(fields) => first_field(alloc, around, fields, found),
             TypeMode::NextField(fields) => next_field(around, fields, found),
             TypeMode::FieldType(fields, name) => field_type(around, fields, name, found),
+            TypeMode::DecimalOpens => parts_open(around, TypeMode::Precision, found),
+            TypeMode::Precision => precision_at(around, found),
+            TypeMode::PrecisionEnds(decimal) => precision_ends(around, decimal, found),
+            TypeMode::Scale(decimal) => scale_at(around, decimal, found),
+            TypeMode::ScaleCloses(decimal) => {
+                parts_close(around, DType::Decimal(decimal, Nullability::NonNullable), found)
+            }
+            TypeMode::TimestampOpens => parts_open(around, TypeMode::Unit, found),
+            TypeMode::Unit => unit_at(around, found),
+            TypeMode::UnitEnds(unit) => unit_ends(around, unit, found),
+            TypeMode::Zone(unit) => zone_at(alloc, around, unit, found),
+            TypeMode::ZoneCloses(unit, zone) => {
+                let zone = Some(zone);
+                let timestamp = TimestampType { unit, zone };
+                parts_close(around, DType::Timestamp(timestamp, Nullability::NonNullable), found)
+            }
             TypeMode::LengthOpens(element) => length_opens(around, element, found),
             TypeMode::Length(element) => length_at(around, element, found),
             TypeMode::LengthCloses(element, size) => {
@@ -71,7 +90,7 @@ impl TypeReader {
     }
 }
 
-fn more(around: Around, mode: TypeMode) -> TypeStep
+pub(crate) fn more(around: Around, mode: TypeMode) -> TypeStep
     ensures { step_of result ≡ more (record { frames = frames_of around.frames.items; mode = mode_of mode; room = around.room }) }
 {
     let Around { frames, room } = around;
@@ -87,6 +106,8 @@ fn begin(alloc: Global, mut around: Around, found: &Found) -> Result<TypeStep, P
             TypeWord::Plain(dtype) => Ok(more(around, TypeMode::Unmarked(dtype))),
             TypeWord::List => Ok(more(around, TypeMode::ListOpens)),
             TypeWord::FixedSizeList => Ok(more(around, TypeMode::FixedSizeListOpens)),
+            TypeWord::Decimal => Ok(more(around, TypeMode::DecimalOpens)),
+            TypeWord::Timestamp => Ok(more(around, TypeMode::TimestampOpens)),
             TypeWord::None => Err(expected(found, Expected::TypeName)),
         },
         Token::Sign(Sign::OpenBrace) => {

@@ -1,7 +1,8 @@
 // How far a type is read.
 ghost use Rattle.std.specs.Prelude.{◌≡◌, length};
 
-use vx_dtype::{DType, FieldName};
+use std::sync::ArcStr;
+use vx_dtype::{DType, DecimalType, FieldName, TimeUnit};
 
 /// The fields of a struct so far, and the nesting that is allowed outside it.
 #[derive(Drop)]
@@ -47,6 +48,26 @@ pub enum TypeMode {
     Length(DType),
     /// The square bracket behind the length.
     LengthCloses(DType, u32),
+    /// The bracket behind `decimal`.
+    DecimalOpens,
+    /// The precision.
+    Precision,
+    /// A comma behind the precision, or the closing bracket.
+    PrecisionEnds(DecimalType),
+    /// The scale behind the precision.
+    Scale(DecimalType),
+    /// The bracket behind the precision and the scale.
+    ScaleCloses(DecimalType),
+    /// The bracket behind `timestamp`.
+    TimestampOpens,
+    /// The unit.
+    Unit,
+    /// A comma behind the unit, or the closing bracket.
+    UnitEnds(TimeUnit),
+    /// The zone behind the unit.
+    Zone(TimeUnit),
+    /// The bracket behind the zone.
+    ZoneCloses(TimeUnit, ArcStr),
     /// The first field, or the end of a struct without one.
     FirstField(FieldsSoFar),
     /// Another field.

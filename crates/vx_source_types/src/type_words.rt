@@ -1,12 +1,12 @@
 // The words of types.
 ghost use Rattle.std.specs.Prelude.{◌≡◌, codes, option_map};
 ghost use Rattle.vx_dtype.specs.Types.{ty, atomic};
-ghost use Rattle.vx_source_types.specs.TypeReading.{ptype_word, atomic_word, type_word_of};
+ghost use Rattle.vx_source_types.specs.TypeReading.{ptype_word, atomic_word, type_word_of, unit_word};
 ghost use Rattle.vx_source_types.specs.TypeViews.{atomic_type, word_of};
 ghost use Rattle.vx_dtype.specs.Views.{type_of};
 
 use crate::names::is_word;
-use vx_dtype::{DType, FieldName, Nullability, PType};
+use vx_dtype::{DType, FieldName, Nullability, PType, TimeUnit};
 
 // What a word begins that names a type.
 pub(crate) enum TypeWord {
@@ -16,6 +16,10 @@ pub(crate) enum TypeWord {
     List,
     // A list of one length, whose element type and length follow.
     FixedSizeList,
+    // A decimal, whose precision and scale follow.
+    Decimal,
+    // A timestamp, whose unit and zone follow.
+    Timestamp,
     // No type.
     None,
 }
@@ -27,6 +31,10 @@ pub(crate) fn type_word(name: &FieldName) -> TypeWord
         TypeWord::List
     } else if is_word(name, "fixed_size_list") {
         TypeWord::FixedSizeList
+    } else if is_word(name, "decimal") {
+        TypeWord::Decimal
+    } else if is_word(name, "timestamp") {
+        TypeWord::Timestamp
     } else {
         match plain_type(name) {
             Some(dtype) => TypeWord::Plain(dtype),
@@ -45,6 +53,8 @@ fn plain_type(name: &FieldName) -> Option<DType>
         Some(DType::Utf8(Nullability::NonNullable))
     } else if is_word(name, "binary") {
         Some(DType::Binary(Nullability::NonNullable))
+    } else if is_word(name, "date") {
+        Some(DType::Date(Nullability::NonNullable))
     } else {
         let p = ptype_word(name)?;
         Some(DType::Primitive(p, Nullability::NonNullable))
@@ -71,6 +81,23 @@ pub fn ptype_word(name: &FieldName) -> Option<PType>
         Some(PType::I32)
     } else if is_word(name, "i64") {
         Some(PType::I64)
+    } else {
+        None
+    }
+}
+
+/// The unit of that name, in either case.
+pub(crate) fn unit_word(name: &FieldName) -> Option<TimeUnit>
+    ensures { result ≡ unit_word name.now }
+{
+    if is_word(name, "s") {
+        Some(TimeUnit::Seconds)
+    } else if is_word(name, "ms") {
+        Some(TimeUnit::Milliseconds)
+    } else if is_word(name, "us") {
+        Some(TimeUnit::Microseconds)
+    } else if is_word(name, "ns") {
+        Some(TimeUnit::Nanoseconds)
     } else {
         None
     }
