@@ -1,9 +1,8 @@
 // What is written of days, instants and decimals is read back.
-ghost use Rattle.std.specs.Prelude.{◌≡◌, ◌*◌, ◌+◌, ◌^◌, ◌%◌, Some};
-ghost use Rattle.vx_literals.specs.Digits.{digits_behind, last_digits};
+ghost use Rattle.std.specs.Prelude.{◌≡◌, Some};
+ghost use Rattle.vx_literals.specs.Days.{Civil, civil_at, civil_text, day_read};
 
-/// The last digits of a number, read behind another one.
-pub fn digits_are_read_back(before: u64, count: u8, number: u64)
-    ensures { digits_behind before (last_digits count number) ≡ Some (before * 10 ^ count + number % 10 ^ count) }
-{
-}
+/// The text of a day of the years 1 to 9999 is read as that day.
+pub fn days_are_read_back(day: i128)
+    ensures { (c : Civil) → civil_at day ≡ Some c → day_read (civil_text c) ≡ Some day }
+{}
