@@ -3,3 +3,4 @@ mod DigitsRead
 mod Calendar
 mod Parts
 pub mod ReadBack
+pub mod DecimalsAgain
