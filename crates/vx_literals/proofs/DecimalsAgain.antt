@@ -75,7 +75,7 @@ whole_short n (suc k) h l =
 
 -- ---- the units
 
-last_long : (k n : ℕ) → length (last_digits k n) ≡ k
+pub last_long : (k n : ℕ) → length (last_digits k n) ≡ k
 last_long zero n = refl
 last_long (suc k) n = ap suc (last_long k n)
 

@@ -4,3 +4,4 @@ mod Calendar
 mod Parts
 pub mod ReadBack
 pub mod DecimalsAgain
+pub mod InstantsAgain

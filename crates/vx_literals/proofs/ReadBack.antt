@@ -39,7 +39,7 @@ digits_again m (suc k) n =
     more : (p : ℕ) → n % (p * 10) ≡ n / p % 10 * p + n % p → (10 * m + n / p % 10) * p + n % p ≡ m * (p * 10) + n % (p * 10)
     more p e = grind (arith, e)
 
-number_again : (k n : ℕ) → n < 10 ^ k → number_of (last_digits k n) ≡ Some n
+pub number_again : (k n : ℕ) → n < 10 ^ k → number_of (last_digits k n) ≡ Some n
 number_again k n h = digits_again 0 k n ∙ ap Some (omega (arith, mod-eq_of_lt h))
 
 -- ---- days
