@@ -7,7 +7,7 @@ use Rattle.vx_value.specs.Types.{Name}
 use Rattle.vx_fn.specs.Functions.{Function, fill_null, zip, logical_not, is_null, is_not_null, mask, arity_of}
 use Rattle.vx_tree.specs.Nodes.{count_of}
 use Rattle.vx_tree.specs.Trees.{call, Trees, no_tree, tree}
-use Rattle.vx_source_types.proofs.Choice.{yes}
+use Rattle.vx_dtype.proofs.Choice.{yes}
 use Rattle.vx_source_types.proofs.FirstSigns.{first_open_paren}
 use Rattle.vx_source_types.proofs.FirstTokens.{first_word}
 use Rattle.vx_source_types.specs.Tokens.{word}

@@ -7,7 +7,7 @@ use Rattle.vx_fn.specs.Functions.{case_when, case_children}
 use Rattle.vx_fn.specs.Texts.{pairs_sql}
 use Rattle.vx_tree.specs.Nodes.{count_of}
 use Rattle.vx_tree.specs.Trees.{Tree, call, Trees, no_tree, tree}
-use Rattle.vx_source_types.proofs.Choice.{yes}
+use Rattle.vx_dtype.proofs.Choice.{yes}
 use Rattle.vx_source_types.proofs.FirstTokens.{first_word}
 use Rattle.vx_source_types.specs.Tokens.{word}
 use Rattle.vx_source_types.specs.declared.expectation.Expected.TheVariants.{FewerPairs}

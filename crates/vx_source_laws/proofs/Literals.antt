@@ -17,7 +17,7 @@ use Rattle.vx_tree.specs.Trees.{call, no_tree}
 use Rattle.vx_source_types.specs.Characters.{is_word}
 use Rattle.vx_source_types.specs.declared.token.Sign.TheVariants.{OpenBracket, OpenBrace, CloseParen, DoubleColon}
 use Rattle.vx_source_types.specs.Tokens.{Lexeme, word, number as numeral, text as text_token, octets as octets_token, sign, next, first}
-use Rattle.vx_source_types.proofs.Choice.{no}
+use Rattle.vx_dtype.proofs.Choice.{no}
 use Rattle.vx_source_types.specs.declared.expectation.Expected.TheVariants.{Value}
 use Rattle.vx_source_types.proofs.FirstNumbers.{is_more, first_number, first_below_zero}
 use Rattle.vx_source_types.specs.Names.{same_word}

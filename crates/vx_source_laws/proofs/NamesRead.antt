@@ -7,7 +7,8 @@ use Rattle.vx_value.specs.Types.{Name}
 use Rattle.vx_source_types.proofs.FirstTokens.{first_word, first_quoted}
 use Rattle.vx_source_types.specs.Characters.{is_word}
 use Rattle.vx_source_types.specs.Tokens.{Lexeme, word, quoted, next, first}
-use Rattle.vx_source_types.specs.Names.{is_plain, name_source, name_at, between_quotes}
+use Rattle.vx_dtype.specs.Quotes.{between_quotes}
+use Rattle.vx_source_types.specs.Names.{is_plain, name_source, name_at}
 
 -- a token that is the name
 pub data IsNameOf (a : Name) : Lexeme → Type 0 where

@@ -11,7 +11,7 @@ use Rattle.vx_fn.specs.declared.options.FieldSelection.{FieldSelection}
 use Rattle.vx_fn.specs.declared.options.FieldSelection.TheVariants.{Include, Exclude}
 use Rattle.vx_fn.specs.Functions.{equal, not_equal, greater, greater_or_equal, less, less_or_equal, Operation, compares, and_also, or_else, adds, Function, case_when, get_item, pack, select, binary, between, like, selection_names}
 use Rattle.vx_fn.specs.Texts.{bound_text, truth_text, nullability_text}
-use Rattle.vx_source_types.proofs.Choice.{yes}
+use Rattle.vx_dtype.proofs.Choice.{yes}
 use Rattle.vx_source_types.proofs.FirstNumbers.{spelled, first_number}
 use Rattle.vx_source_types.proofs.FirstSigns.{first_comma, first_open_bracket, first_open_brace, first_close_brace, first_equal}
 use Rattle.vx_source_types.specs.Characters.{is_digit}

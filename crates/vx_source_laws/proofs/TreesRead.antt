@@ -5,7 +5,7 @@ use Rattle.std.proofs.lemmas.Bool.Decides.{nat_tests}
 use Rattle.vx_fn.specs.Functions.{Function}
 use Rattle.vx_tree.specs.Trees.{Tree, call, Trees, no_tree, tree}
 use Rattle.vx_tree.specs.Views.{trees_from}
-use Rattle.vx_source_types.proofs.Choice.{yes}
+use Rattle.vx_dtype.proofs.Choice.{yes}
 use Rattle.vx_source_types.specs.Characters.{is_word}
 use Rattle.vx_source_types.specs.declared.token.Sign.TheVariants.{DoubleColon, Question}
 use Rattle.vx_source_types.specs.Tokens.{Lexeme, sign, next, first}

@@ -7,7 +7,8 @@ use std::alloc::{AllocError, AllocFailed};
 use std::error::Error;
 use std::fmt;
 use std::fmt::{Display, Formatter, Write};
-use vx_source_types::{Expected, ParseError, TypeText, write_quoted};
+use vx_dtype::write_quoted;
+use vx_source_types::{Expected, ParseError, TypeText};
 use vx_types::{DType, Value};
 
 /// What reading a text over a scope refuses with.

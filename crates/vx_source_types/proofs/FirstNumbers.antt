@@ -9,7 +9,7 @@ use Rattle.std.proofs.lemmas.Bool.Decides.{nat_tests}
 use Rattle.std.proofs.lemmas.Fmt.{decimal_by_steps}
 use Rattle.vx_source_types.specs.Characters.{is_letter, is_digit, is_word, is_blank}
 use Rattle.vx_source_types.specs.Tokens.{number, Taken, next, begins_comment, is_hex, word_len, magnitude, more_digits, more_or_same, narrow, digits_go_on, digits_len, number_of, number_taken, token_at, first}
-use Rattle.vx_source_types.proofs.Choice.{yes, no}
+use Rattle.vx_dtype.proofs.Choice.{yes, no}
 use Rattle.vx_source_types.proofs.FirstTokens.{no_blank, prefix_of_all}
 
 -- ---- the digits of a number

@@ -4,7 +4,7 @@ use Rattle.std.specs.Prelude.{◌==◌}
 use Rattle.vx_source_types.specs.declared.token.Sign.{Sign}
 use Rattle.vx_source_types.specs.declared.token.Sign.TheVariants.{OpenParen, CloseParen, OpenBracket, CloseBracket, OpenBrace, CloseBrace, Comma, Question, Equal, DoubleEqual}
 use Rattle.vx_source_types.specs.Tokens.{sign, next, sign_taken, first}
-use Rattle.vx_source_types.proofs.Choice.{no}
+use Rattle.vx_dtype.proofs.Choice.{no}
 
 -- a byte that begins no sign of two
 alone : (t : Bool) → (elim t as (λ v. Option Sign) [ true ↦ None | false ↦ None ]) ≡ None

@@ -5,10 +5,11 @@ use Rattle.std.specs.List.{list_all, prefix_len}
 use Rattle.std.specs.Str.{IsUtf8}
 use Rattle.std.proofs.lemmas.Bool.Decides.{nat_tests}
 use Rattle.vx_source_types.specs.Characters.{is_letter, is_digit, is_word, is_blank}
-use Rattle.vx_source_types.specs.Spellings.{is_plain, doubled, between_quotes}
+use Rattle.vx_dtype.specs.Quotes.{doubled, between_quotes}
+use Rattle.vx_source_types.specs.Spellings.{is_plain}
 use Rattle.vx_source_types.specs.declared.expectation.Expected.TheVariants.{ClosingQuote}
 use Rattle.vx_source_types.specs.Tokens.{Lexeme, word, quoted, text, Taken, next, skip, begins_comment, is_hex, word_len, other_taken, token_at, first, quoted_taken, text_taken}
-use Rattle.vx_source_types.proofs.Choice.{yes, no}
+use Rattle.vx_dtype.proofs.Choice.{yes, no}
 use Rattle.vx_source_types.proofs.Quoting.{text_of_utf8, quoted_of_utf8}
 use Rattle.vx_source_types.proofs.Unquoting.{unquoted_doubled}
 

@@ -1,4 +1,3 @@
-pub mod Choice
 pub mod Quoting
 pub mod Spelled
 pub mod Unquoting
@@ -11,7 +10,6 @@ pub mod TypesAgain
 pub mod TypeEnds
 pub mod FieldSources
 pub mod NameSources
-pub mod Doubling
 pub mod ByteTexts
 pub mod ItemSources
 pub mod NamesLeft

@@ -4,7 +4,7 @@ use Rattle.std.specs.Prelude.{◌==◌}
 use Rattle.std.proofs.lemmas.Bool.Decides.{nat_tests}
 use Rattle.std.specs.Str.{IsUtf8, is_utf8}
 use Rattle.std.proofs.lemmas.Str.{IsUtf8-from_is_utf8, is_utf8-from_IsUtf8}
-use Rattle.vx_source_types.proofs.Choice.{yes, no}
+use Rattle.vx_dtype.proofs.Choice.{yes, no}
 use Rattle.vx_source_types.specs.declared.expectation.Expected.{Expected}
 use Rattle.vx_source_types.specs.declared.expectation.Expected.TheVariants.{ClosingBackquote}
 use Rattle.vx_source_types.specs.Tokens.{text, quoted, invalid, text_lexeme, quoted_lexeme, unquoted, with_byte, after_bytes}

@@ -15,11 +15,12 @@ use Rattle.vx_dtype.specs.Types.{Name, Atomic, truth, number, decimals, date, ti
 use Rattle.vx_dtype.proofs.Commas.{after_commas}
 use Rattle.vx_source_types.specs.Characters.{is_word}
 use Rattle.vx_source_types.specs.Tokens.{word, number as numeral, next}
-use Rattle.vx_source_types.proofs.Choice.{yes}
+use Rattle.vx_dtype.proofs.Choice.{yes}
 use Rattle.vx_source_types.proofs.FirstTokens.{first_word, first_quoted, first_text}
 use Rattle.vx_source_types.proofs.FirstNumbers.{first_number}
 use Rattle.vx_source_types.proofs.FirstSigns.{first_open_paren, first_close_paren, first_open_bracket, first_close_bracket, first_open_brace, first_close_brace, first_comma, first_question, first_equal}
-use Rattle.vx_source_types.specs.Names.{is_plain, name_source, between_quotes}
+use Rattle.vx_dtype.specs.Quotes.{between_quotes}
+use Rattle.vx_source_types.specs.Names.{is_plain, name_source}
 use Rattle.vx_source_types.specs.Reading.{Leads, stays, leads, IsRead, is_read}
 use Rattle.vx_source_types.specs.TypePrintable.{type_nesting, shape_nesting, fields_nesting, IsPrintable, IsPrintableAtomic, IsPrintableShape, ArePrintable}
 use Rattle.vx_source_types.specs.TypeReading.{TypeFrame, in_list, in_fixed, in_struct, FieldsRead, TypeMode, type_due, length_due, length_closes, decimal_opens, precision_due, precision_ends, scale_due, scale_closes, timestamp_opens, unit_due, unit_ends, zone_due, zone_closes, first_field, next_field, unmarked, whole, TypeState, type_start, type_step, type_word_of, unit_word, plain, plain_word, word_begins, with_field, narrow_length, length_read, precision_read, scale_read, unit_read}

@@ -3,9 +3,9 @@ use Rattle.std.proofs.Common.{◌≡◌, ℕ, Bool, true, false, List, [], ◌�
 use Rattle.std.specs.Prelude.{◌==◌}
 use Rattle.std.proofs.lemmas.Bool.Decides.{nat_tests}
 use Rattle.std.proofs.Common.{arith}
-use Rattle.vx_source_types.specs.Spellings.{doubled}
+use Rattle.vx_dtype.specs.Quotes.{doubled}
 use Rattle.vx_source_types.specs.Tokens.{next, unquoted, with_byte}
-use Rattle.vx_source_types.proofs.Choice.{yes, no}
+use Rattle.vx_dtype.proofs.Choice.{yes, no}
 
 same_itself : (q : ℕ) → (q == q) ≡ true
 same_itself q = grind (arith, nat_tests)

@@ -19,7 +19,8 @@ use Rattle.vx_source_types.proofs.FirstTokens.{first_word, first_quoted, first_t
 use Rattle.vx_source_types.proofs.FirstNumbers.{is_more, first_number, first_below_zero}
 use Rattle.vx_source_types.proofs.FirstOctets.{first_octets}
 use Rattle.vx_source_types.proofs.FirstSigns.{first_open_bracket, first_close_bracket, first_open_brace, first_close_brace, first_comma}
-use Rattle.vx_source_types.specs.Names.{is_plain, name_source, between_quotes}
+use Rattle.vx_dtype.specs.Quotes.{between_quotes}
+use Rattle.vx_source_types.specs.Names.{is_plain, name_source}
 use Rattle.vx_source_types.specs.Reading.{more, Leads, stays, leads}
 use Rattle.vx_source_types.specs.TypePrintable.{IsPrintable, ArePrintable}
 use Rattle.vx_source_types.proofs.Reading.{then, of_text}

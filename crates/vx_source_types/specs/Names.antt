@@ -4,7 +4,7 @@ use Rattle.std.specs.Char.{to_ascii_lowercase}
 use Rattle.std.specs.Str.{bytes_eq}
 use Rattle.vx_dtype.specs.Texts.{with_commas}
 use Rattle.vx_dtype.specs.Types.{Name}
-pub use Rattle.vx_source_types.specs.Spellings.{is_plain, doubled, between_quotes, name_source}
+pub use Rattle.vx_source_types.specs.Spellings.{is_plain, name_source}
 use Rattle.vx_source_types.specs.Tokens.{Lexeme, word, quoted}
 
 -- the names, with commas between them

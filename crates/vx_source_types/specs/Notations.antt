@@ -1,7 +1,7 @@
 -- Source text as a notation.
 use Rattle.std.specs.Fmt.{signed_decimal}
 use Rattle.vx_value.specs.Notations.{ValueWords}
-use Rattle.vx_source_types.specs.Names.{between_quotes}
+use Rattle.vx_dtype.specs.Quotes.{between_quotes}
 
 -- numbers without their types, and texts between quotes
 abbrev pub source_words : ValueWords

@@ -5,7 +5,8 @@ use Rattle.std.specs.List.{flat_map}
 use Rattle.vx_value.specs.Texts.{with_commas, ptype_text}
 use Rattle.vx_value.specs.Types.{number, LogicalType, ty, atomic, list, fixed, struct, Fields, field, Datum, null, bool, int, utf8, bytes, list_of, struct_of, Data, no_datum, datum}
 use Rattle.vx_value.specs.ValueTexts.{hex_byte}
-use Rattle.vx_source_types.specs.Names.{name_source, between_quotes}
+use Rattle.vx_dtype.specs.Quotes.{between_quotes}
+use Rattle.vx_source_types.specs.Names.{name_source}
 use Rattle.vx_source_types.specs.TypeTexts.{type_source}
 
 -- the text of a value, whose type follows or is known: numbers bear no suffix, and a struct has its type's names

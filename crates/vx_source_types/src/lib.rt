@@ -29,7 +29,7 @@ pub use error::ParseError;
 pub use expectation::Expected;
 pub use first::{Found, first_token};
 pub use literal::{number_literal, open_literal, plain_literal, typed_literal};
-pub use names::{NameText, field_name, is_word, write_name, write_names, write_quoted};
+pub use names::{NameText, field_name, is_word, write_name, write_names};
 pub use scalar_parser::{ScalarMode, ScalarStep, parse_scalar, parse_scalar_with, suffixed};
 pub use scalar_text::{ScalarText, write_scalar};
 pub use state::{expected, inside, refusal};

@@ -2,13 +2,13 @@
 ghost use Rattle.std.specs.Prelude.{◌≡◌, ◌<◌, Some, option_map};
 ghost use Rattle.std.specs.Fmt.{WritesOnOk};
 ghost use Rattle.vx_source_types.specs.Views.{lexeme_of};
-ghost use Rattle.vx_source_types.specs.Names.{name_source, names_source, doubled, between_quotes, name_at, same_word};
+ghost use Rattle.vx_source_types.specs.Names.{name_source, names_source, name_at, same_word};
 
 use crate::token::Token;
 use crate::words::is_plain;
 use std::fmt;
 use std::fmt::{Display, Formatter, Write};
-use vx_dtype::{FieldName, separator};
+use vx_dtype::{FieldName, separator, write_quoted};
 
 /// The name as source text: as it is where it is a word, else between backquotes, a backquote in it doubled.
 #[derive(Clone, Copy)]
@@ -43,31 +43,6 @@ pub fn write_names<W: Write>(names: &[FieldName], f: &mut Formatter<W>) -> fmt::
         write_name(&names[i], f)?;
     }
     Ok(())
-}
-
-/// Writes the text between quotes, a quote in it doubled. Asks an ASCII quote.
-pub fn write_quoted<W: Write>(text: &str, quote: char, f: &mut Formatter<W>) -> fmt::Result
-    requires { quote < 128 }
-    ensures { WritesOnOk W.write_str_gives f.old result (between_quotes quote text.now) f.new }
-{
-    f.write_char(quote)?;
-    write_doubled(text, quote, f)?;
-    f.write_char(quote)
-}
-
-// Writes the text, a quote in it doubled.
-fn write_doubled<W: Write>(text: &str, quote: char, f: &mut Formatter<W>) -> fmt::Result
-    requires { quote < 128 }
-    ensures { WritesOnOk W.write_str_gives f.old result (doubled quote text.now) f.new }
-{
-    let mut rest = text;
-    while let Some((front, back)) = rest.split_once(quote) {
-        f.write_str(front)?;
-        f.write_char(quote)?;
-        f.write_char(quote)?;
-        rest = back;
-    }
-    f.write_str(rest)
 }
 
 /// The name that the token is, a word or between backquotes.

@@ -6,10 +6,10 @@ ghost use Rattle.vx_value.specs.Views.{type_of};
 ghost use Rattle.vx_source_types.specs.Names.{name_source};
 ghost use Rattle.vx_source_types.specs.Notations.{source_words};
 
-use crate::names::{write_name, write_quoted};
+use crate::names::write_name;
 use std::fmt;
 use std::fmt::{Display, Formatter, Write};
-use vx_dtype::{DType, FieldName, TypeNotation};
+use vx_dtype::{DType, FieldName, TypeNotation, write_quoted};
 use vx_value::ValueNotation;
 
 // Names and texts between quotes, the names only where they are no words, and numbers without their types.

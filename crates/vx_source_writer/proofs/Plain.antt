@@ -13,7 +13,8 @@ use Rattle.vx_fn.specs.Texts.{pack_sql, select_sql, own_sql, call_sql, node_sql}
 use Rattle.vx_tree.specs.Nodes.{count_of}
 use Rattle.vx_tree.specs.Texts.{sql, sqls}
 use Rattle.vx_tree.specs.Trees.{Tree, root, call, Trees, no_tree, tree}
-use Rattle.vx_source_types.specs.Names.{is_plain, name_source, names_source, doubled, between_quotes}
+use Rattle.vx_dtype.specs.Quotes.{doubled, between_quotes}
+use Rattle.vx_source_types.specs.Names.{is_plain, name_source, names_source}
 use Rattle.vx_source_types.specs.TypeTexts.{type_source, shape_source, field_sources}
 use Rattle.vx_source_types.specs.ScalarTexts.{scalar_source}
 use Rattle.vx_source_writer.specs.SourceTexts.{source, sources, node_source, own_source, select_source, is_shown}

@@ -7,9 +7,9 @@ use Rattle.std.proofs.lemmas.Bool.{cond-true, cond-false, eq-eqb}
 use Rattle.std.proofs.lemmas.Bool.Decides.{nat_tests}
 use Rattle.std.proofs.lemmas.Str.{chars-encodes, encodes-append, scalars-chars}
 use Rattle.std.proofs.Math.Seq.{drop-append_seam}
-use Rattle.vx_source_types.specs.Spellings.{doubled}
+use Rattle.vx_dtype.specs.Quotes.{doubled}
 use Rattle.vx_source_types.specs.Tokens.{next, unquoted, with_byte}
-use Rattle.vx_source_types.proofs.Choice.{no}
+use Rattle.vx_dtype.proofs.Choice.{no}
 use Rattle.vx_source_types.proofs.Unquoting.{unquoted_doubled}
 use Rattle.vx_fn.specs.Values.{Part, any_text, any_one, just}
 use Rattle.vx_sql.specs.declared.dialect.Dialect.{Dialect}

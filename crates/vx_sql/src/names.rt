@@ -6,7 +6,7 @@ ghost use Rattle.vx_sql.specs.Quotes.{name_quote, name_sql};
 use crate::Dialect;
 use std::fmt;
 use std::fmt::{Display, Formatter, Write};
-use vx_source_types::write_quoted;
+use vx_dtype::write_quoted;
 use vx_types::FieldName;
 
 /// A name between the engine's quotes, a quote in it doubled. The engine takes it for that very name

@@ -3,7 +3,7 @@ use Rattle.std.proofs.Common.{◌≡◌, ◌+◌, ◌<◌, ℕ, add-one, Bool, t
 use Rattle.std.specs.Prelude.{◌==◌, ◌||◌}
 use Rattle.std.proofs.lemmas.Bool.Decides.{nat_tests}
 use Rattle.vx_source_types.specs.Tokens.{with_byte, after_bytes}
-use Rattle.vx_source_types.proofs.Choice.{yes, no}
+use Rattle.vx_dtype.proofs.Choice.{yes, no}
 use Rattle.vx_sql.specs.Quotes.{Reading, anywhere, behind_quote, behind_backslash}
 use Rattle.vx_sql_parser.specs.declared.escapes.Inside.{Inside}
 use Rattle.vx_sql_parser.specs.declared.escapes.Inside.TheVariants.{Anywhere, BehindQuote, BehindBackslash}

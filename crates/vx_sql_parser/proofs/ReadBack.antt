@@ -11,10 +11,10 @@ use Rattle.std.proofs.lemmas.Str.{encode_ascii, encodes-append, encodes-chars, i
 use Rattle.std.proofs.Math.Utf8.{encode, encodes}
 use Rattle.vx_dtype.specs.declared.dtype.PType.TheVariants.{U8, U16, U32, U64, I8, I16, I32, I64}
 use Rattle.vx_source_types.specs.declared.expectation.Expected.TheVariants.{ClosingSingleQuote}
-use Rattle.vx_source_types.specs.Spellings.{doubled}
+use Rattle.vx_dtype.specs.Quotes.{doubled}
 use Rattle.vx_source_types.specs.Tokens.{Taken, next, first, quoted, text, text_taken, with_byte}
 use Rattle.vx_source_types.specs.Characters.{is_blank, is_digit, is_word}
-use Rattle.vx_source_types.proofs.Choice.{yes, no}
+use Rattle.vx_dtype.proofs.Choice.{yes, no}
 use Rattle.vx_source_types.proofs.FirstNumbers.{is_more, spelled, first_number}
 use Rattle.vx_source_types.proofs.FirstTokens.{first_quoted, first_text}
 use Rattle.vx_source_types.proofs.Quoting.{text_of_utf8}

@@ -1,7 +1,7 @@
 -- What tokens of SQL are written as, one after another.
 use Rattle.std.specs.Prelude.{ℕ, zero, suc, ◌+◌, ◌||◌, ◌&&◌, Bool, false, not, List, [], ◌∷◌, ◌++◌, Option, Some, None, Result, Ok, Err, if◌then◌else◌, codes}
 use Rattle.vx_source_types.specs.Names.{same_word}
-use Rattle.vx_source_types.specs.Spellings.{between_quotes}
+use Rattle.vx_dtype.specs.Quotes.{between_quotes}
 use Rattle.vx_source_types.specs.Tokens.{Lexeme, word, quoted, number, text, sign}
 use Rattle.vx_source_types.specs.declared.token.Sign.{Sign}
 use Rattle.vx_source_types.specs.declared.token.Sign.TheVariants.{OpenParen, CloseParen, Comma, Dot, Equal, DoubleEqual, NotEqual, Less, LessEqual, Greater, GreaterEqual, Plus}

@@ -1,7 +1,7 @@
 // Names and texts between the quotes of source text.
 use std::fmt;
 use std::fmt::{Display, Formatter, Write};
-use vx_source_types::write_quoted;
+use vx_dtype::write_quoted;
 
 /// A name between backquotes.
 #[derive(Clone, Copy)]
@@ -9,7 +9,7 @@ pub(crate) struct QuotedName<'a>(pub &'a str);
 
 impl Display for QuotedName<'_> {
     ghost use Rattle.std.specs.Prelude.{Some};
-    ghost use Rattle.vx_source_types.specs.Spellings.{between_quotes};
+    ghost use Rattle.vx_dtype.specs.Quotes.{between_quotes};
 
     ghost output = { λ n. Some (between_quotes 96 n.0.now) };
 
@@ -24,7 +24,7 @@ pub(crate) struct QuotedText<'a>(pub &'a str);
 
 impl Display for QuotedText<'_> {
     ghost use Rattle.std.specs.Prelude.{Some};
-    ghost use Rattle.vx_source_types.specs.Spellings.{between_quotes};
+    ghost use Rattle.vx_dtype.specs.Quotes.{between_quotes};
 
     ghost output = { λ t. Some (between_quotes 34 t.0.now) };
 
