@@ -1,5 +1,5 @@
 // Days of the calendar, and their texts.
-ghost use Rattle.std.specs.Prelude.{◌≡◌, ◌<◌, option_map, IfSome};
+ghost use Rattle.std.specs.Prelude.{◌≡◌, ◌<◌, option_map, is_some, IfSome};
 ghost use Rattle.jiff_core.specs.Calendar.{IsEpochDay};
 ghost use Rattle.std.specs.Fmt.{WritesOnOk};
 ghost use Rattle.vx_literals.specs.Dates.{civil_of};
@@ -24,6 +24,13 @@ pub fn write_day<W: Write>(day: i128, f: &mut Formatter<W>) -> fmt::Result
         Some(date) => write_date(date, f),
         None => day.fmt(f),
     }
+}
+
+/// Whether the day, counted from the first of January 1970, lies in the years 1 to 9999, so that it has a text.
+pub fn has_day_text(day: i128) -> bool
+    ensures { result ≡ is_some (civil_at day) }
+{
+    date_at(day).is_some()
 }
 
 // The date of the day, in the years 1 to 9999.

@@ -1,10 +1,12 @@
 // Instants as texts.
-ghost use Rattle.std.specs.Prelude.{◌≡◌, ◌<◌, ◌≤◌, ◌^◌, ◌*ℤ◌, IfSome, Some, option_map, pos};
+ghost use Rattle.std.specs.Prelude.{◌≡◌, ◌<◌, ◌≤◌, ◌^◌, ◌*ℤ◌, IfSome, Some, is_some, option_map, pos};
+ghost use Rattle.std.specs.Int.{int_div_euclid};
 ghost use Rattle.std.specs.Arc.{arc_str_bytes};
 ghost use Rattle.std.specs.Fmt.{WritesOnOk};
 ghost use Rattle.vx_dtype.specs.Timestamps.{zone_name};
 ghost use Rattle.jiff_core.specs.Calendar.{IsEpochDay, IsWithin};
 ghost use Rattle.vx_literals.specs.Dates.{civil_of};
+ghost use Rattle.vx_literals.specs.Days.{civil_at};
 ghost use Rattle.vx_literals.specs.Digits.{digits_in_front};
 ghost use Rattle.vx_literals.specs.Instants.{clock_read, instant_of, instant_read, instant_text, is_separator, is_zulu, moment_read, moment_text, offset_read, part_text, part_units, parts_read, second_of, second_read, time_text, unit_places, units_a_day, units_a_second, zone_mark};
 
@@ -31,6 +33,13 @@ pub fn write_instant<W: Write>(
         Some(date) => write_moment(date, instant.rem_euclid(a_day).unsigned_abs(), t, f),
         None => instant.fmt(f),
     }
+}
+
+/// Whether the instant of that unit, counted from 1970, lies in the years 1 to 9999, so that it has a text.
+pub fn has_instant_text(instant: i128, unit: TimeUnit) -> bool
+    ensures { result ≡ is_some (civil_at (int_div_euclid instant (pos (units_a_day unit)))) }
+{
+    date_at(instant.div_euclid(i128::from(units_a_day(unit)))).is_some()
 }
 
 // Writes the instant so many units behind the beginning of the day.

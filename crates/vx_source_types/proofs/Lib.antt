@@ -11,6 +11,8 @@ pub mod TypeEnds
 pub mod FieldSources
 pub mod NameSources
 pub mod ByteTexts
+pub mod WrittenTexts
+pub mod TypedAgain
 pub mod ItemSources
 pub mod NamesLeft
 pub mod ValuesAgain

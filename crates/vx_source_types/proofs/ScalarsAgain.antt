@@ -7,10 +7,12 @@ use Rattle.std.proofs.lemmas.Bool.{and_parts}
 use Rattle.std.proofs.lemmas.Slice.Eq.{bytes_eq-Decides}
 use Rattle.vx_dtype.specs.declared.dtype.PType.{PType}
 use Rattle.vx_dtype.specs.declared.dtype.PType.TheVariants.{U8, U16, U32, U64, I8, I16, I32, I64}
+use Rattle.vx_literals.specs.Days.{Civil, civil_at, day_text}
+use Rattle.vx_literals.specs.Instants.{instant_text}
 use Rattle.vx_value.specs.Columns.{constant}
 use Rattle.vx_value.specs.Fits.{fits, each_fits, fields_fit, Fits}
 use Rattle.vx_value.specs.Texts.{ptype_text}
-use Rattle.vx_value.specs.Types.{Name, truth, number, text, octets, LogicalType, ty, atomic, list, fixed, struct, Fields, no_field, field, Datum, null, bool, int, utf8, bytes, list_of, struct_of, Data, no_datum, datum}
+use Rattle.vx_value.specs.Types.{Name, truth, number, decimals, date, timestamp, text, octets, LogicalType, ty, atomic, list, fixed, struct, Fields, no_field, field, Datum, null, bool, int, utf8, bytes, list_of, struct_of, Data, no_datum, datum}
 use Rattle.vx_source_types.specs.Characters.{is_word}
 use Rattle.vx_source_types.specs.Tokens.{number as numeral, end, next, first}
 use Rattle.vx_source_types.proofs.FirstNumbers.{is_more, first_number, first_below_zero}
@@ -24,6 +26,8 @@ use Rattle.vx_source_types.specs.Literals.{fitting, ranged, names_left, items_le
 use Rattle.vx_source_types.specs.ScalarReading.{scalar_due, in_value, in_type, suffixed, value_begun, scalar_begins, value_after, type_after, type_ended, scalar_step}
 use Rattle.vx_source_types.specs.ScalarTexts.{value_source, scalar_source}
 use Rattle.vx_source_types.specs.ScalarPrintable.{value_nesting, IsSpelledValue}
+use Rattle.vx_source_types.specs.Untyped.{dated, untyped, untyped_items, untyped_row}
+use Rattle.vx_source_types.proofs.TypedAgain.{typed_again as value_typed}
 use Rattle.vx_source_types.specs.ValueReading.{Drafted, ValueState, whole_value, value_start, value_step}
 use Rattle.vx_source_types.proofs.ValuesAgain.{Begins, names_after, items_after, row_after, value_again, fits_small, fits_below_zero}
 
@@ -67,48 +71,55 @@ goes_on f o x r p q = ap (option_and_then f) p ∙ q
 its_name : (a : Name) (names : List Name) → behind_name a (a ∷ names) ≡ Some names
 its_name a names = ap (λ b. if b then Some names else None) ((bytes_eq-Decides a a).1 refl)
 
+dated_left : (s : List ℕ) (i : ℤ) (o : Option Civil) (t : LogicalType) (ms : List Name) → names_left (dated s i o) t ms ≡ Some ms
+dated_left s i (Some c) t ms = refl
+dated_left s i None t ms = refl
+
 mutual
-  left_by : (v : Datum) (t : LogicalType) (ms : List Name) → Fits v t → names_left v t (names_by v t ++ ms) ≡ Some ms
+  left_by : (v : Datum) (t : LogicalType) (ms : List Name) → Fits v t → names_left (untyped v t) t (names_by v t ++ ms) ≡ Some ms
   left_by null t ms f = refl
   left_by (bool b) t ms f = refl
-  left_by (int i) t ms f = refl
+  left_by (int i) (ty (atomic (number p)) n) ms f = refl
+  left_by (int i) (ty (atomic (decimals p s)) n) ms f = refl
+  left_by (int i) (ty (atomic date) n) ms f = dated_left (day_text i) i (civil_at i) (ty (atomic date) n) ms
+  left_by (int i) (ty (atomic (timestamp u z)) n) ms f = dated_left (instant_text u z i) i _ (ty (atomic (timestamp u z)) n) ms
   left_by (utf8 s) t ms f = refl
   left_by (bytes s) t ms f = refl
   left_by (list_of vs) (ty (list t) n) ms f = items_left_by vs t ms f
   left_by (list_of vs) (ty (fixed t k) n) ms f = items_left_by vs t ms (and_parts _ _ f).1
-  left_by (list_of vs) (ty (atomic p) n) ms f = cc
-  left_by (list_of vs) (ty (struct fs) n) ms f = cc
   left_by (struct_of vs) (ty (struct fs) n) ms f = row_left_by vs fs ms f
-  left_by (struct_of vs) (ty (atomic p) n) ms f = cc
-  left_by (struct_of vs) (ty (list t) n) ms f = cc
-  left_by (struct_of vs) (ty (fixed t k) n) ms f = cc
+  left_by _ _ ms f = cc
 
-  items_left_by : (vs : Data) (t : LogicalType) (ms : List Name) → each_fits vs t ≡ true → items_left vs t (items_by vs t ++ ms) ≡ Some ms
+  items_left_by : (vs : Data) (t : LogicalType) (ms : List Name) → each_fits vs t ≡ true → items_left (untyped_items vs t) t (items_by vs t ++ ms) ≡ Some ms
   items_left_by no_datum t ms f = refl
   items_left_by (datum v vs) t ms f =
       let parts = and_parts (fits v t) (each_fits vs t) f in
-      goes_on (items_left vs t) _ (items_by vs t ++ ms) (Some ms)
-      (ap (names_left v t) (append_assoc (names_by v t) (items_by vs t) ms) ∙ left_by v t (items_by vs t ++ ms) parts.0) (items_left_by vs t ms parts.1)
+      goes_on (items_left (untyped_items vs t) t) _ (items_by vs t ++ ms) (Some ms)
+      (ap (names_left (untyped v t) t) (append_assoc (names_by v t) (items_by vs t) ms) ∙ left_by v t (items_by vs t ++ ms) parts.0) (items_left_by vs t ms parts.1)
 
-  row_left_by : (vs : Data) (fs : Fields) (ms : List Name) → fields_fit vs fs ≡ true → row_left vs fs (row_by vs fs ++ ms) ≡ Some ms
+  row_left_by : (vs : Data) (fs : Fields) (ms : List Name) → fields_fit vs fs ≡ true → row_left (untyped_row vs fs) fs (row_by vs fs ++ ms) ≡ Some ms
   row_left_by no_datum no_field ms f = refl
   row_left_by no_datum (field a t fs) ms f = cc
   row_left_by (datum v vs) no_field ms f = cc
   row_left_by (datum v vs) (field a t fs) ms f =
       let parts = and_parts (fits v t) (fields_fit vs fs) f in
-      goes_on (row_left vs fs) _ (row_by vs fs ++ ms) (Some ms)
-      (goes_on (names_left v t) _ ((names_by v t ++ row_by vs fs) ++ ms) _ (its_name a ((names_by v t ++ row_by vs fs) ++ ms))
-      (ap (names_left v t) (append_assoc (names_by v t) (row_by vs fs) ms) ∙ left_by v t (row_by vs fs ++ ms) parts.0))
+      goes_on (row_left (untyped_row vs fs) fs) _ (row_by vs fs ++ ms) (Some ms)
+      (goes_on (names_left (untyped v t) t) _ ((names_by v t ++ row_by vs fs) ++ ms) _ (its_name a ((names_by v t ++ row_by vs fs) ++ ms))
+      (ap (names_left (untyped v t) t) (append_assoc (names_by v t) (row_by vs fs) ms) ∙ left_by v t (row_by vs fs ++ ms) parts.0))
       (row_left_by vs fs ms parts.1)
 
-none_left : (v : Datum) (t : LogicalType) → Fits v t → names_left v t (names_after [] v t) ≡ Some []
-none_left v t f = ap (names_left v t) (after_by v t [] ∙ sym (append-nil (names_by v t))) ∙ left_by v t [] f
+none_left : (v : Datum) (t : LogicalType) → Fits v t → names_left (untyped v t) t (names_after [] v t) ≡ Some []
+none_left v t f = ap (names_left (untyped v t) t) (after_by v t [] ∙ sym (append-nil (names_by v t))) ∙ left_by v t [] f
 
 fitted : (t : LogicalType) (v : Datum) → Fits v t → fitting t v ≡ Some (constant t v)
 fitted t v f = ap (λ b. if b then Some (constant t v) else None) f
 
-typed_is : (t : LogicalType) (v : Datum) (d : Drafted) → d ≡ record { value = v; names = names_after [] v t } → Fits v t → typed_literal d t ≡ Some (constant t v)
-typed_is t v d e f = ap (λ x. typed_literal x t) e ∙ ap (typed_of t v) (none_left v t f) ∙ fitted t v f
+-- what is read of the value's text, before its type
+abbrev draft_of : Datum → LogicalType → Drafted
+draft_of v t = record { value = untyped v t; names = names_after [] v t }
+
+typed_is : (v : Datum) (t : LogicalType) → Fits v t → IsPrintable t → typed_literal (draft_of v t) t ≡ Some (constant t v)
+typed_is v t f w = ap (λ o. typed_of t o (names_left (untyped v t) t (names_after [] v t))) (value_typed v t f w) ∙ ap (typed_of t (Some v)) (none_left v t f) ∙ fitted t v f
 
 -- ---- a value and a type inside a scalar
 
@@ -173,21 +184,18 @@ number_again p (negsuc n) room f =
 typed_again : (v : Datum) (t : LogicalType) (room : ℕ) → Fits v t → IsSpelledValue v → IsPrintable t → value_nesting v ≤ room → type_nesting t ≤ room
     → IsRead (scalar_step room) scalar_due (value_source v t ++ 58 ∷ 58 ∷ type_source t) (constant t v)
 typed_again v t room f u w h k = behind (text_again t room w k) where
-  draft : Drafted
-  draft = record { value = v; names = names_after [] v t }
-
   behind : IsRead type_step (type_start room) (type_source t) t → IsRead (scalar_step room) scalar_due (value_source v t ++ 58 ∷ 58 ∷ type_source t) (constant t v)
   behind (is_read {u = s} {ds = ds} g p q) =
       is_read
       ((then) (scalar_step room) (begun_in room (value_again v t [] [] room (58 ∷ 58 ∷ type_source t) f u w h (refl, refl)))
-      (leads refl refl (type_in room draft g))) p (ap (type_after draft) q ∙ ap type_ended (typed_is t v draft refl f))
+      (leads refl refl (type_in room (draft_of v t) g))) p (ap (type_after (draft_of v t)) q ∙ ap type_ended (typed_is v t f w))
 
 -- a value without a type behind it
 plain_again : (v : Datum) (t : LogicalType) (room : ℕ) → Fits v t → IsSpelledValue v → IsPrintable t → value_nesting v ≤ room
-    → scalar_step room (in_value (read_value v (names_after [] v t) room)) end ≡ Ok (done (constant t v))
+    → scalar_step room (in_value (read_value (untyped v t) (names_after [] v t) room)) end ≡ Ok (done (constant t v))
     → IsRead (scalar_step room) scalar_due (value_source v t) (constant t v)
 plain_again v t room f u w h e =
-    is_read (subst (λ bs. Leads (scalar_step room) scalar_due bs (in_value (read_value v (names_after [] v t) room)) []) (append-nil (value_source v t)) (begun_in room (value_again v t [] [] room [] f u w h (refl, refl)))) refl e
+    is_read (subst (λ bs. Leads (scalar_step room) scalar_due bs (in_value (read_value (untyped v t) (names_after [] v t) room)) []) (append-nil (value_source v t)) (begun_in room (value_again v t [] [] room [] f u w h (refl, refl)))) refl e
 
 pub scalar_again : (t : LogicalType) (v : Datum) (room : ℕ) → Fits v t → IsSpelledValue v → IsPrintable t → value_nesting v ≤ room → type_nesting t ≤ room
     → IsRead (scalar_step room) scalar_due (scalar_source v t) (constant t v)
@@ -200,6 +208,9 @@ scalar_again (ty (atomic (number p)) true) v room f u w h k = typed_again v (ty 
 scalar_again (ty (atomic truth) true) v room f u w h k = typed_again v (ty (atomic truth) true) room f u w h k
 scalar_again (ty (atomic text) true) v room f u w h k = typed_again v (ty (atomic text) true) room f u w h k
 scalar_again (ty (atomic octets) true) v room f u w h k = typed_again v (ty (atomic octets) true) room f u w h k
+scalar_again (ty (atomic (decimals p s)) n) v room f u w h k = typed_again v (ty (atomic (decimals p s)) n) room f u w h k
+scalar_again (ty (atomic date) n) v room f u w h k = typed_again v (ty (atomic date) n) room f u w h k
+scalar_again (ty (atomic (timestamp i z)) n) v room f u w h k = typed_again v (ty (atomic (timestamp i z)) n) room f u w h k
 scalar_again (ty (list t) n) v room f u w h k = typed_again v (ty (list t) n) room f u w h k
 scalar_again (ty (fixed t l) n) v room f u w h k = typed_again v (ty (fixed t l) n) room f u w h k
 scalar_again (ty (struct fs) n) v room f u w h k = typed_again v (ty (struct fs) n) room f u w h k

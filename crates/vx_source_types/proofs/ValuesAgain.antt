@@ -1,15 +1,19 @@
 -- The text of a value is read as that value.
-use Rattle.std.proofs.Common.{◌≡◌, ℕ, ◌≤◌, ◌<◌, ◌^◌, zero, suc, Bool, true, false, List, [], ◌∷◌, ◌++◌, Some, None, Ok, refl, sym, ap, subst, append_assoc, append-nil, arith}
-use Rattle.std.specs.Prelude.{codes, ◌==◌, ◌&&◌, nat_lt, ℤ, pos, negsuc}
+use Rattle.std.proofs.Common.{◌≡◌, ℕ, ◌≤◌, ◌<◌, ◌^◌, zero, suc, Bool, true, false, List, [], ◌∷◌, ◌++◌, Option, Some, None, Ok, refl, sym, ap, subst, append_assoc, append-nil, arith}
+use Rattle.std.specs.Prelude.{codes, ◌==◌, ◌&&◌, nat_lt, ℤ, pos, negsuc, IsSome}
+use Rattle.std.specs.Int.{int_div_euclid}
 use Rattle.std.specs.Fmt.{decimal, signed_decimal}
 use Rattle.std.specs.Str.{IsUtf8}
 use Rattle.std.proofs.lemmas.Bool.{and_parts, ltb-true}
 use Rattle.std.proofs.lemmas.Bool.Decides.{nat_tests}
 use Rattle.vx_dtype.specs.declared.dtype.PType.{PType}
 use Rattle.vx_dtype.specs.declared.dtype.PType.TheVariants.{U8, U16, U32, U64, I8, I16, I32, I64}
+use Rattle.vx_literals.specs.Days.{Civil, civil_at, day_text}
+use Rattle.vx_literals.specs.Decimals.{decimal_text}
+use Rattle.vx_literals.specs.Instants.{instant_text, units_a_day}
 use Rattle.vx_value.specs.Fields.{data_of}
 use Rattle.vx_value.specs.Fits.{fits, each_fits, fields_fit, fits_ptype, Fits}
-use Rattle.vx_value.specs.Types.{Name, bits, is_signed, number, LogicalType, ty, atomic, list, fixed, struct, Fields, no_field, field, Datum, null, bool, int, utf8, bytes, list_of, struct_of, Data, no_datum, datum}
+use Rattle.vx_value.specs.Types.{Name, bits, is_signed, number, decimals, date, timestamp, LogicalType, ty, atomic, list, fixed, struct, Fields, no_field, field, Datum, null, bool, int, utf8, bytes, list_of, struct_of, Data, no_datum, datum}
 use Rattle.vx_dtype.specs.Texts.{with_commas}
 use Rattle.vx_dtype.proofs.Commas.{after_commas}
 use Rattle.vx_source_types.specs.Characters.{is_word}
@@ -25,7 +29,9 @@ use Rattle.vx_source_types.specs.Reading.{more, Leads, stays, leads}
 use Rattle.vx_source_types.specs.TypePrintable.{IsPrintable, ArePrintable}
 use Rattle.vx_source_types.proofs.Reading.{then, of_text}
 use Rattle.vx_source_types.specs.ScalarReading.{suffixed}
-use Rattle.vx_source_types.specs.ScalarTexts.{value_source, item_sources, row_sources}
+use Rattle.vx_source_types.specs.ScalarTexts.{plain_source, value_source, item_sources, row_sources}
+use Rattle.vx_source_types.specs.Untyped.{dated, untyped, untyped_items, untyped_row}
+use Rattle.vx_source_types.proofs.WrittenTexts.{few_digits, Plain, plain_utf8, in_quotes, decimal_plain, day_plain, instant_plain}
 use Rattle.vx_source_types.specs.ScalarPrintable.{value_nesting, data_nesting, IsSpelledValue, AreSpelledValues}
 use Rattle.vx_source_types.specs.ValueReading.{ItemsRead, no_items, with_item, ValueFrame, in_items, in_row, ValueMode, value_due, first_item, first_named, next_named, whole_value, ValueState, value_step}
 use Rattle.vx_source_types.proofs.ByteTexts.{byte_texts}
@@ -104,6 +110,17 @@ number_again (pos n) p fs ns r rest h e =
 number_again (negsuc n) p fs ns r rest h e =
     one_token fs ns r (int (negsuc n)) (45 ∷ (decimal (suc n) ++ rest)) rest (numeral true (Some (suc n)) [])
     (first_below_zero (suc n) [] rest (fits_below_zero p n h) (word_no_more (next rest) e) refl e) refl refl
+
+-- ---- decimals, days and instants
+
+text_again : (fs : List ValueFrame) (ns : List Name) (r : ℕ) (s rest : List ℕ) → Plain s → (next rest == 34) ≡ false → Begins (at fs value_due ns r) (plain_source (utf8 s) ++ rest) (at fs (whole_value (utf8 s)) ns r) rest
+text_again fs ns r s rest p e =
+    of_begun_text (ap (λ bs. bs ++ rest) (in_quotes s p)) (one_token fs ns r (utf8 s) (between_quotes 34 s ++ rest) rest (text_lexeme s) (first_text s rest (plain_utf8 s p) e) refl refl)
+
+dated_again : (i : ℤ) (p : PType) (s : List ℕ) (o : Option Civil) (fs : List ValueFrame) (ns : List Name) (r : ℕ) (rest : List ℕ) → fits_ptype i p ≡ true → (IsSome o → Plain s) → Follows rest
+    → Begins (at fs value_due ns r) (plain_source (dated s i o) ++ rest) (at fs (whole_value (dated s i o)) ns r) rest
+dated_again i p s (Some c) fs ns r rest f u e = text_again fs ns r s rest (u refl) e.1
+dated_again i p s None fs ns r rest f u e = number_again i p fs ns r rest f e.0
 
 -- ---- the names of the structs, outer ones first, behind those that are there
 
@@ -218,40 +235,43 @@ in_braces fs ns ms r vs mid bs rest f h =
 
 mutual
   pub value_again : (v : Datum) (t : LogicalType) (fs : List ValueFrame) (ns : List Name) (r : ℕ) (rest : List ℕ) → Fits v t → IsSpelledValue v → IsPrintable t → value_nesting v ≤ r → Follows rest
-      → Begins (at fs value_due ns r) (value_source v t ++ rest) (at fs (whole_value v) (names_after ns v t) r) rest
+      → Begins (at fs value_due ns r) (value_source v t ++ rest) (at fs (whole_value (untyped v t)) (names_after ns v t) r) rest
   value_again null t fs ns r rest f u w h e = one_token fs ns r null _ rest (word (codes "null")) (first_word (codes "null") rest refl e.0) refl refl
   value_again (bool true) t fs ns r rest f u w h e = one_token fs ns r (bool true) _ rest (word (codes "true")) (first_word (codes "true") rest refl e.0) refl refl
   value_again (bool false) t fs ns r rest f u w h e = one_token fs ns r (bool false) _ rest (word (codes "false")) (first_word (codes "false") rest refl e.0) refl refl
   value_again (int i) (ty (atomic (number p)) n) fs ns r rest f u w h e = number_again i p fs ns r rest f e.0
+  value_again (int i) (ty (atomic (decimals p s)) n) fs ns r rest f u w h e = text_again fs ns r (decimal_text i s) rest (decimal_plain i s (few_digits i p w.1 f)) e.1
+  value_again (int i) (ty (atomic date) n) fs ns r rest f u w h e = dated_again i I32 (day_text i) (civil_at i) fs ns r rest f (day_plain i) e
+  value_again (int i) (ty (atomic (timestamp k z)) n) fs ns r rest f u w h e = dated_again i I64 (instant_text k z i) (civil_at (int_div_euclid i (pos (units_a_day k)))) fs ns r rest f (instant_plain k z i) e
   value_again (utf8 s) t fs ns r rest f u w h e = one_token fs ns r (utf8 s) _ rest (text_lexeme s) (first_text s rest u e.1) refl refl
   value_again (bytes bs) t fs ns r rest f u w h e =
       of_begun_text (ap (λ xs. 48 ∷ 120 ∷ (xs ++ rest)) (byte_texts bs u)) (one_token fs ns r (bytes bs) _ rest (octets_lexeme bs) (first_octets bs rest u e.0) refl refl)
   value_again (list_of vs) (ty (list t) n) fs ns zero rest f u w h e = absurd (omega arith)
   value_again (list_of vs) (ty (list t) n) fs ns (suc r) rest f u w h e =
-      in_brackets fs ns (items_after ns vs t) r vs _ _ rest (ap (λ xs. 91 ∷ xs) (append_assoc (with_commas (item_sources vs t)) (codes "]") rest)) (list_again vs t (no_items (suc r)) fs ns r rest f u w (omega arith))
+      in_brackets fs ns (items_after ns vs t) r (untyped_items vs t) _ _ rest (ap (λ xs. 91 ∷ xs) (append_assoc (with_commas (item_sources vs t)) (codes "]") rest)) (list_again vs t (no_items (suc r)) fs ns r rest f u w (omega arith))
   value_again (list_of vs) (ty (fixed t k) n) fs ns zero rest f u w h e = absurd (omega arith)
   value_again (list_of vs) (ty (fixed t k) n) fs ns (suc r) rest f u w h e =
-      in_brackets fs ns (items_after ns vs t) r vs _ _ rest (ap (λ xs. 91 ∷ xs) (append_assoc (with_commas (item_sources vs t)) (codes "]") rest))
+      in_brackets fs ns (items_after ns vs t) r (untyped_items vs t) _ _ rest (ap (λ xs. 91 ∷ xs) (append_assoc (with_commas (item_sources vs t)) (codes "]") rest))
       (list_again vs t (no_items (suc r)) fs ns r rest (and_parts _ _ f).1 u w.1 (omega arith))
   value_again (struct_of vs) (ty (struct gs) n) fs ns zero rest f u w h e = absurd (omega arith)
   value_again (struct_of vs) (ty (struct gs) n) fs ns (suc r) rest f u w h e =
-      in_braces fs ns (row_after ns vs gs) r vs _ _ rest (ap (λ xs. 123 ∷ xs) (append_assoc (with_commas (row_sources vs gs)) (codes "}") rest)) (row_again vs gs (no_items (suc r)) fs ns r rest f u w (omega arith))
+      in_braces fs ns (row_after ns vs gs) r (untyped_row vs gs) _ _ rest (ap (λ xs. 123 ∷ xs) (append_assoc (with_commas (row_sources vs gs)) (codes "}") rest)) (row_again vs gs (no_items (suc r)) fs ns r rest f u w (omega arith))
   value_again _ t fs ns r rest f u w h e = cc
 
   -- all the items of a list
   list_again : (vs : Data) (t : LogicalType) (d : ItemsRead) (fs : List ValueFrame) (ns : List Name) (r : ℕ) (rest : List ℕ) → each_fits vs t ≡ true → AreSpelledValues vs → IsPrintable t → data_nesting vs ≤ r
-      → Goes (at fs (first_item d) ns r) (with_commas (item_sources vs t) ++ 93 ∷ rest) (listed fs (items_after ns vs t) (with_items d vs)) rest
+      → Goes (at fs (first_item d) ns r) (with_commas (item_sources vs t) ++ 93 ∷ rest) (listed fs (items_after ns vs t) (with_items d (untyped_items vs t))) rest
   list_again no_datum t d fs ns r rest f u w h = to_state (ap (listed fs ns) (sym (no_item_more d))) (leads (first_close_bracket rest) refl stays)
   list_again (datum v vs) t d fs ns r rest f u w h =
       let parts = and_parts (fits v t) (each_fits vs t) f in
       let behind : List ℕ = after_commas (item_sources vs t) ++ 93 ∷ rest in
       of_text value_step (append_assoc (value_source v t) (after_commas (item_sources vs t)) (93 ∷ rest))
       (then value_step (begun_first (value_again v t (in_items d ∷ fs) ns r behind parts.0 u.0 w (omega arith) (item_follows vs t rest)))
-      (to_state (ap (listed fs (items_after (names_after ns v t) vs t)) (one_item_more d v vs)) (items_behind vs t v d fs (names_after ns v t) r rest parts.1 u.1 w (omega arith))))
+      (to_state (ap (listed fs (items_after (names_after ns v t) vs t)) (one_item_more d (untyped v t) (untyped_items vs t))) (items_behind vs t (untyped v t) d fs (names_after ns v t) r rest parts.1 u.1 w (omega arith))))
 
   -- the items behind one
   items_behind : (vs : Data) (t : LogicalType) (v : Datum) (d : ItemsRead) (fs : List ValueFrame) (ns : List Name) (r : ℕ) (rest : List ℕ) → each_fits vs t ≡ true → AreSpelledValues vs → IsPrintable t → data_nesting vs ≤ r
-      → Goes (at (in_items d ∷ fs) (whole_value v) ns r) (after_commas (item_sources vs t) ++ 93 ∷ rest) (listed fs (items_after ns vs t) (with_items (with_item d v) vs)) rest
+      → Goes (at (in_items d ∷ fs) (whole_value v) ns r) (after_commas (item_sources vs t) ++ 93 ∷ rest) (listed fs (items_after ns vs t) (with_items (with_item d v) (untyped_items vs t))) rest
   items_behind no_datum t v d fs ns r rest f u w h = to_state (ap (listed fs ns) (sym (no_item_more (with_item d v)))) (leads (first_close_bracket rest) refl stays)
   items_behind (datum x vs) t v d fs ns r rest f u w h =
       let parts = and_parts (fits x t) (each_fits vs t) f in
@@ -261,11 +281,11 @@ mutual
       of_text value_step grouped
       (leads (first_comma _) refl
       (then value_step (behind_blank (value_again x t (in_items c ∷ fs) ns r behind parts.0 u.0 w (omega arith) (item_follows vs t rest)))
-      (to_state (ap (listed fs (items_after (names_after ns x t) vs t)) (one_item_more c x vs)) (items_behind vs t x c fs (names_after ns x t) r rest parts.1 u.1 w (omega arith)))))
+      (to_state (ap (listed fs (items_after (names_after ns x t) vs t)) (one_item_more c (untyped x t) (untyped_items vs t))) (items_behind vs t (untyped x t) c fs (names_after ns x t) r rest parts.1 u.1 w (omega arith)))))
 
   -- all the values of a struct
   row_again : (vs : Data) (gs : Fields) (d : ItemsRead) (fs : List ValueFrame) (ns : List Name) (r : ℕ) (rest : List ℕ) → fields_fit vs gs ≡ true → AreSpelledValues vs → ArePrintable gs → data_nesting vs ≤ r
-      → Goes (at fs (first_named d) ns r) (with_commas (row_sources vs gs) ++ 125 ∷ rest) (rowed fs (row_after ns vs gs) (with_items d vs)) rest
+      → Goes (at fs (first_named d) ns r) (with_commas (row_sources vs gs) ++ 125 ∷ rest) (rowed fs (row_after ns vs gs) (with_items d (untyped_row vs gs))) rest
   row_again no_datum no_field d fs ns r rest f u w h = to_state (ap (rowed fs ns) (sym (no_item_more d))) (leads (first_close_brace rest) refl stays)
   row_again no_datum (field a t gs) d fs ns r rest f u w h = cc
   row_again (datum v vs) no_field d fs ns r rest f u w h = cc
@@ -277,11 +297,11 @@ mutual
       of_text value_step grouped
       (then value_step (named_first a d fs ns r (value_source v t ++ behind) w.0)
       (then value_step (behind_blank (value_again v t (in_row d ∷ fs) ms r behind parts.0 u.0 w.1 (omega arith) (value_follows vs gs rest)))
-      (to_state (ap (rowed fs (row_after (names_after ms v t) vs gs)) (one_item_more d v vs)) (row_behind vs gs v d fs (names_after ms v t) r rest parts.1 u.1 w.2 (omega arith)))))
+      (to_state (ap (rowed fs (row_after (names_after ms v t) vs gs)) (one_item_more d (untyped v t) (untyped_row vs gs))) (row_behind vs gs (untyped v t) d fs (names_after ms v t) r rest parts.1 u.1 w.2 (omega arith)))))
 
   -- the values behind one
   row_behind : (vs : Data) (gs : Fields) (v : Datum) (d : ItemsRead) (fs : List ValueFrame) (ns : List Name) (r : ℕ) (rest : List ℕ) → fields_fit vs gs ≡ true → AreSpelledValues vs → ArePrintable gs → data_nesting vs ≤ r
-      → Goes (at (in_row d ∷ fs) (whole_value v) ns r) (after_commas (row_sources vs gs) ++ 125 ∷ rest) (rowed fs (row_after ns vs gs) (with_items (with_item d v) vs)) rest
+      → Goes (at (in_row d ∷ fs) (whole_value v) ns r) (after_commas (row_sources vs gs) ++ 125 ∷ rest) (rowed fs (row_after ns vs gs) (with_items (with_item d v) (untyped_row vs gs))) rest
   row_behind no_datum no_field v d fs ns r rest f u w h = to_state (ap (rowed fs ns) (sym (no_item_more (with_item d v)))) (leads (first_close_brace rest) refl stays)
   row_behind no_datum (field a t gs) v d fs ns r rest f u w h = cc
   row_behind (datum x vs) no_field v d fs ns r rest f u w h = cc
@@ -295,4 +315,4 @@ mutual
       (leads (first_comma _) refl
       (then value_step (named_next a c fs ns r (value_source x t ++ behind) w.0)
       (then value_step (behind_blank (value_again x t (in_row c ∷ fs) ms r behind parts.0 u.0 w.1 (omega arith) (value_follows vs gs rest)))
-      (to_state (ap (rowed fs (row_after (names_after ms x t) vs gs)) (one_item_more c x vs)) (row_behind vs gs x c fs (names_after ms x t) r rest parts.1 u.1 w.2 (omega arith))))))
+      (to_state (ap (rowed fs (row_after (names_after ms x t) vs gs)) (one_item_more c (untyped x t) (untyped_row vs gs))) (row_behind vs gs (untyped x t) c fs (names_after ms x t) r rest parts.1 u.1 w.2 (omega arith))))))

@@ -8,6 +8,7 @@ pub mod TypeTexts
 pub mod TypePrintable
 pub mod TypeReading
 pub mod TypeViews
+pub mod Untyped
 pub mod ScalarTexts
 pub mod Notations
 pub mod ValueReading

@@ -10,6 +10,7 @@ use Rattle.vx_value.specs.Types.{Name, truth, number, text, octets, LogicalType,
 use Rattle.vx_source_types.specs.declared.expectation.Expected.{Expected}
 use Rattle.vx_source_types.specs.declared.expectation.Expected.TheVariants.{NullType, ValueType, Number}
 use Rattle.vx_source_types.specs.TypeReading.{ptype_word}
+use Rattle.vx_source_types.specs.Untyped.{typed_value}
 use Rattle.vx_source_types.specs.ValueReading.{Drafted, signed}
 
 -- the value as a scalar of that type, if it is one of it
@@ -85,10 +86,11 @@ abbrev mutual
   row_left _ _ names = None
 
 -- the scalar where no name is left
-abbrev pub typed_of : LogicalType → Datum → Option (List Name) → Option Constant
-typed_of t v (Some []) = fitting t v
-typed_of t v _ = None
+abbrev pub typed_of : LogicalType → Option Datum → Option (List Name) → Option Constant
+typed_of t (Some v) (Some []) = fitting t v
+typed_of t _ _ = None
 
--- the value as a scalar of the type that follows it, if its structs have the type's names and it is one of the type
+-- the value as a scalar of the type that follows it, if its structs have the type's names and it is one of the type: of a
+-- decimal, a day or an instant its text is
 abbrev pub typed_literal : Drafted → LogicalType → Option Constant
-typed_literal d t = typed_of t d.value (names_left d.value t d.names)
+typed_literal d t = typed_of t (typed_value d.value t) (names_left d.value t d.names)

@@ -1,8 +1,9 @@
 -- Source text as a notation.
-use Rattle.std.specs.Fmt.{signed_decimal}
 use Rattle.vx_value.specs.Notations.{ValueWords}
 use Rattle.vx_dtype.specs.Quotes.{between_quotes}
+use Rattle.vx_source_types.specs.ScalarTexts.{plain_source}
+use Rattle.vx_source_types.specs.Untyped.{untyped_number}
 
--- numbers without their types, and texts between quotes
+-- numbers without their types, as they stand before these, and texts between quotes
 abbrev pub source_words : ValueWords
-source_words = record { numbered = λ i t. signed_decimal i; quoted = between_quotes 34 }
+source_words = record { numbered = λ i t. plain_source (untyped_number i t); quoted = between_quotes 34 }

@@ -21,6 +21,7 @@ mod type_reader;
 mod type_state;
 mod type_text;
 mod type_words;
+mod typed_value;
 mod value_reader;
 mod value_state;
 mod words;

@@ -7,6 +7,7 @@ ghost use Rattle.vx_source_types.specs.ValueViews.{draft_of};
 
 use crate::expectation::Expected;
 use crate::type_words::ptype_word;
+use crate::typed_value::type_value;
 use crate::value_reader::signed;
 use crate::value_state::Draft;
 use vx_dtype::{DType, FieldName, Nullability, PType, StructFields};
@@ -108,14 +109,15 @@ fn plain_type(value: &Value) -> Result<DType, Expected>
 }
 
 /// The scalar of a value and the type behind it, if the value is one of the type and its structs
-/// have the type's names.
+/// have the type's names. Of a decimal, a day or an instant its text is one.
 pub fn typed_literal(draft: Draft, dtype: DType) -> Option<Scalar>
     ensures { result ≡ typed_literal (draft_of draft) (type_of dtype) }
 {
-    let Draft { value, names } = draft;
+    let Draft { mut value, names } = draft;
     if !names_left(&value, &dtype, names.as_slice())?.is_empty() {
         return None;
     }
+    type_value(&mut value, &dtype)?;
     fitting(dtype, value)
 }
 

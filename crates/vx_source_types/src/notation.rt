@@ -10,6 +10,7 @@ use crate::names::write_name;
 use std::fmt;
 use std::fmt::{Display, Formatter, Write};
 use vx_dtype::{DType, FieldName, TypeNotation, write_quoted};
+use vx_literals::{has_day_text, has_instant_text, write_day, write_decimal, write_instant};
 use vx_value::ValueNotation;
 
 // Names and texts between quotes, the names only where they are no words, and numbers without their types.
@@ -29,10 +30,27 @@ impl ValueNotation for Source {
     fn write_number<W: Write>(
         &self,
         number: i128,
-        _t: &DType,
+        t: &DType,
         f: &mut Formatter<W>,
     ) -> fmt::Result {
-        number.fmt(f)
+        match t {
+            DType::Decimal(decimal, _) => {
+                f.write_str("\"")?;
+                write_decimal(number, decimal.scale(), f)?;
+                f.write_str("\"")
+            }
+            DType::Date(_) if has_day_text(number) => {
+                f.write_str("\"")?;
+                write_day(number, f)?;
+                f.write_str("\"")
+            }
+            DType::Timestamp(timestamp, _) if has_instant_text(number, timestamp.unit) => {
+                f.write_str("\"")?;
+                write_instant(number, timestamp, f)?;
+                f.write_str("\"")
+            }
+            _ => number.fmt(f),
+        }
     }
 
     fn write_text<W: Write>(&self, text: &str, f: &mut Formatter<W>) -> fmt::Result {

@@ -1,0 +1,78 @@
+// Values that take the type behind them: of a decimal, a day or an instant the text stands there.
+ghost use Rattle.std.specs.Prelude.{◌≡◌, MatchOption, None, Some, option_map, true};
+ghost use Rattle.vx_value.specs.Types.{int};
+ghost use Rattle.vx_value.specs.Views.{data_view, fields_of, type_of, value_of};
+ghost use Rattle.vx_source_types.specs.Untyped.{has_texts, text_read, typed_items, typed_row, typed_value};
+
+use vx_dtype::{DType, StructFields};
+use vx_literals::{read_day, read_decimal, read_instant};
+use vx_value::Value;
+
+/// Makes the value what the type behind it makes of it: the number that a text says where the type is one of
+/// decimals, days or instants, inside lists and structs, too. None where a text says none, with some made.
+#[cycle(typed)]
+pub(crate) fn type_value(value: &mut Value, t: &DType) -> Option<()>
+    ensures { MatchOption result (typed_value (value_of value.old) (type_of t.now) ≡ None) (λ _. typed_value (value_of value.old) (type_of t.now) ≡ Some (value_of value.new)) }
+{
+    match value {
+        Value::Utf8(text) if has_texts(t) => {
+            let number = number_read(text.as_str(), t)?;
+            *value = Value::Int(number);
+            Some(())
+        }
+        Value::List(items) => match t {
+            DType::List(element, _) => type_items(items.as_mut_slice(), element.as_ref()),
+            DType::FixedSizeList(element, _, _) => type_items(items.as_mut_slice(), element.as_ref()),
+            _ => Some(()),
+        },
+        Value::Struct(items) => match t {
+            DType::Struct(fields, _) => type_row(items.as_mut_slice(), fields),
+            _ => Some(()),
+        },
+        _ => Some(()),
+    }
+}
+
+// Whether values of the type are texts before their type.
+fn has_texts(t: &DType) -> bool
+    ensures { result ≡ has_texts (type_of t.now) }
+{
+    matches!(t, DType::Decimal(..) | DType::Date(_) | DType::Timestamp(..))
+}
+
+// The number of the type that a text says.
+fn number_read(text: &str, t: &DType) -> Option<i128>
+    requires { has_texts (type_of t.now) ≡ true }
+    ensures { option_map int result ≡ text_read text.now (type_of t.now) }
+{
+    let bytes = text.as_bytes();
+    match t {
+        DType::Decimal(decimal, _) => read_decimal(bytes, decimal.scale()),
+        DType::Date(_) => read_day(bytes),
+        DType::Timestamp(timestamp, _) => read_instant(bytes, timestamp),
+        _ => None,
+    }
+}
+
+// The same of each item of a list.
+#[cycle(typed)]
+fn type_items(items: &mut [Value], t: &DType) -> Option<()>
+    ensures { MatchOption result (typed_items (data_view items.old) (type_of t.now) ≡ None) (λ _. typed_items (data_view items.old) (type_of t.now) ≡ Some (data_view items.new)) }
+{
+    for i in 0..items.len() {
+        type_value(&mut items[i], t)?;
+    }
+    Some(())
+}
+
+// The same of the values of a struct, as many as its fields.
+#[cycle(typed)]
+fn type_row(items: &mut [Value], fields: &StructFields) -> Option<()>
+    ensures { MatchOption result (typed_row (data_view items.old) (fields_of fields.now) ≡ None) (λ _. typed_row (data_view items.old) (fields_of fields.now) ≡ Some (data_view items.new)) }
+{
+    let types = fields.types();
+    for i in 0..items.len().min(types.len()) {
+        type_value(&mut items[i], &types[i])?;
+    }
+    Some(())
+}
