@@ -12,6 +12,7 @@ pub mod FieldSources
 pub mod NameSources
 pub mod ByteTexts
 pub mod WrittenTexts
+pub mod Typing
 pub mod TypedAgain
 pub mod ItemSources
 pub mod NamesLeft

@@ -71,7 +71,7 @@ fn type_row(items: &mut [Value], fields: &StructFields) -> Option<()>
     ensures { MatchOption result (typed_row (data_view items.old) (fields_of fields.now) ≡ None) (λ _. typed_row (data_view items.old) (fields_of fields.now) ≡ Some (data_view items.new)) }
 {
     let types = fields.types();
-    for i in 0..items.len().min(types.len()) {
+    for i in 0..items.len().min(fields.nfields()) {
         type_value(&mut items[i], &types[i])?;
     }
     Some(())
