@@ -26,7 +26,7 @@ use Rattle.vx_source_types.specs.Literals.{fitting, ranged, names_left, items_le
 use Rattle.vx_source_types.specs.ScalarReading.{scalar_due, in_value, in_type, suffixed, value_begun, scalar_begins, value_after, type_after, type_ended, scalar_step}
 use Rattle.vx_source_types.specs.ScalarTexts.{value_source, scalar_source}
 use Rattle.vx_source_types.specs.ScalarPrintable.{value_nesting, IsSpelledValue}
-use Rattle.vx_source_types.specs.Untyped.{dated, untyped, untyped_items, untyped_row}
+use Rattle.vx_source_types.specs.Untyped.{dated, untyped, untyped_items, untyped_row, typed_value}
 use Rattle.vx_source_types.proofs.TypedAgain.{typed_again as value_typed}
 use Rattle.vx_source_types.specs.ValueReading.{Drafted, ValueState, whole_value, value_start, value_step}
 use Rattle.vx_source_types.proofs.ValuesAgain.{Begins, names_after, items_after, row_after, value_again, fits_small, fits_below_zero}
@@ -119,7 +119,7 @@ abbrev draft_of : Datum → LogicalType → Drafted
 draft_of v t = record { value = untyped v t; names = names_after [] v t }
 
 typed_is : (v : Datum) (t : LogicalType) → Fits v t → IsPrintable t → typed_literal (draft_of v t) t ≡ Some (constant t v)
-typed_is v t f w = ap (λ o. typed_of t o (names_left (untyped v t) t (names_after [] v t))) (value_typed v t f w) ∙ ap (typed_of t (Some v)) (none_left v t f) ∙ fitted t v f
+typed_is v t f w = ap (λ ns. typed_of t ns (typed_value (untyped v t) t)) (none_left v t f) ∙ ap (typed_of t (Some [])) (value_typed v t f w) ∙ fitted t v f
 
 -- ---- a value and a type inside a scalar
 

@@ -86,11 +86,11 @@ abbrev mutual
   row_left _ _ names = None
 
 -- the scalar where no name is left
-abbrev pub typed_of : LogicalType → Option Datum → Option (List Name) → Option Constant
-typed_of t (Some v) (Some []) = fitting t v
+abbrev pub typed_of : LogicalType → Option (List Name) → Option Datum → Option Constant
+typed_of t (Some []) (Some v) = fitting t v
 typed_of t _ _ = None
 
 -- the value as a scalar of the type that follows it, if its structs have the type's names and it is one of the type: of a
 -- decimal, a day or an instant its text is
 abbrev pub typed_literal : Drafted → LogicalType → Option Constant
-typed_literal d t = typed_of t (typed_value d.value t) (names_left d.value t d.names)
+typed_literal d t = typed_of t (names_left d.value t d.names) (typed_value d.value t)
