@@ -111,9 +111,12 @@ time_plain u k =
     let s = k / units_a_second u in
     let seconds : List ℕ = 58 ∷ (last_digits 2 (s % 60) ++ part_text u k) in
     let minutes : List ℕ = 58 ∷ (last_digits 2 (s / 60 % 60) ++ seconds) in
-    plain_behind (last_digits 2 (s / 3600)) minutes (last_plain 2 (s / 3600))
-    (omega arith, omega arith, plain_behind (last_digits 2 (s / 60 % 60)) seconds (last_plain 2 (s / 60 % 60))
-    (omega arith, omega arith, plain_behind (last_digits 2 (s % 60)) (part_text u k) (last_plain 2 (s % 60)) (pointed (k % units_a_second u == 0) (unit_places u) k)))
+    plain_behind (last_digits 2 (s / 3600)) minutes (last_plain 2 (s / 3600)) (
+      omega arith,
+      omega arith,
+      plain_behind (last_digits 2 (s / 60 % 60)) seconds (last_plain 2 (s / 60 % 60))
+          (omega arith, omega arith, plain_behind (last_digits 2 (s % 60)) (part_text u k) (last_plain 2 (s % 60)) (pointed (k % units_a_second u == 0) (unit_places u) k)),
+    )
 
 moment_plain : (u : TimeUnit) (z : Option Name) (k : ℕ) (c : Civil) → Plain (moment_text u z k c)
 moment_plain u z k c =

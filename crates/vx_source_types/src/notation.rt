@@ -27,12 +27,7 @@ impl TypeNotation for Source {
 impl ValueNotation for Source {
     ghost words = { source_words };
 
-    fn write_number<W: Write>(
-        &self,
-        number: i128,
-        t: &DType,
-        f: &mut Formatter<W>,
-    ) -> fmt::Result {
+    fn write_number<W: Write>(&self, number: i128, t: &DType, f: &mut Formatter<W>) -> fmt::Result {
         match t {
             DType::Decimal(decimal, _) => {
                 f.write_str("\"")?;

@@ -14,10 +14,10 @@ use crate::first::Found;
 use crate::names::field_name;
 use crate::state::{expected, inside, refusal};
 use crate::token::{Sign, Token};
-use crate::type_state::{FieldsSoFar, TypeFrame, TypeMode, TypeReader, TypeStep};
 use crate::type_parts::{
     parts_close, parts_open, precision_at, precision_ends, scale_at, unit_at, unit_ends, zone_at,
 };
+use crate::type_state::{FieldsSoFar, TypeFrame, TypeMode, TypeReader, TypeStep};
 use crate::type_words::{TypeWord, type_word};
 use std::alloc::{AllocError, Global};
 use std::sync::Arc;
@@ -70,7 +70,11 @@ impl TypeReader {
             TypeMode::PrecisionEnds(decimal) => precision_ends(around, decimal, found),
             TypeMode::Scale(decimal) => scale_at(around, decimal, found),
             TypeMode::ScaleCloses(decimal) => {
-                parts_close(around, DType::Decimal(decimal, Nullability::NonNullable), found)
+                parts_close(
+                    around,
+                    DType::Decimal(decimal, Nullability::NonNullable),
+                    found,
+                )
             }
             TypeMode::TimestampOpens => parts_open(around, TypeMode::Unit, found),
             TypeMode::Unit => unit_at(around, found),
@@ -79,7 +83,11 @@ impl TypeReader {
             TypeMode::ZoneCloses(unit, zone) => {
                 let zone = Some(zone);
                 let timestamp = TimestampType { unit, zone };
-                parts_close(around, DType::Timestamp(timestamp, Nullability::NonNullable), found)
+                parts_close(
+                    around,
+                    DType::Timestamp(timestamp, Nullability::NonNullable),
+                    found,
+                )
             }
             TypeMode::LengthOpens(element) => length_opens(around, element, found),
             TypeMode::Length(element) => length_at(around, element, found),

@@ -22,7 +22,10 @@ pub(crate) fn type_value(value: &mut Value, t: &DType) -> Option<()>
         }
         Value::List(items) => match t {
             DType::List(element, _) => type_items(items.as_mut_slice(), element.as_ref()),
-            DType::FixedSizeList(element, _, _) => type_items(items.as_mut_slice(), element.as_ref()),
+            DType::FixedSizeList(element, _, _) => type_items(
+                items.as_mut_slice(),
+                element.as_ref(),
+            ),
             _ => Some(()),
         },
         Value::Struct(items) => match t {
@@ -37,7 +40,10 @@ pub(crate) fn type_value(value: &mut Value, t: &DType) -> Option<()>
 fn has_texts(t: &DType) -> bool
     ensures { result ≡ has_texts (type_of t.now) }
 {
-    matches!(t, DType::Decimal(..) | DType::Date(_) | DType::Timestamp(..))
+    matches!(
+        t,
+        DType::Decimal(..) | DType::Date(_) | DType::Timestamp(..)
+    )
 }
 
 // The number of the type that a text says.
