@@ -1,11 +1,12 @@
 -- Values as they stand in source text before their type is known: of a decimal, a day and an instant its text stands there.
-use Rattle.std.specs.Prelude.{Bool, true, false, List, ℕ, ℤ, pos, Option, Some, None}
+use Rattle.std.specs.Prelude.{Bool, true, false, List, ℕ, ℤ, pos, ◌*ℤ◌, ◌^◌, Option, Some, None, if◌then◌else◌}
 use Rattle.std.specs.Int.{int_div_euclid}
 use Rattle.std.specs.Option.{option_and_then, option_map}
 use Rattle.vx_dtype.specs.declared.timestamp_type.TimeUnit.{TimeUnit}
 use Rattle.vx_literals.specs.Days.{Civil, civil_at, day_text, day_read}
 use Rattle.vx_literals.specs.Decimals.{decimal_text, decimal_read}
 use Rattle.vx_literals.specs.Instants.{instant_text, instant_read, units_a_day}
+use Rattle.vx_value.specs.Fits.{fits_digits}
 use Rattle.vx_value.specs.Types.{decimals, date, timestamp, LogicalType, ty, atomic, list, fixed, struct, Fields, no_field, field, Datum, int, utf8, list_of, struct_of, Data, no_datum, datum}
 
 -- the text of a number whose day has a year of four digits, and else the number
@@ -55,9 +56,15 @@ text_read s (ty (atomic date) n) = option_map int (day_read s)
 text_read s (ty (atomic (timestamp u z)) n) = option_map int (instant_read u z s)
 text_read s t = Some (utf8 s)
 
+-- the number that a whole number is before that type: of a decimal's type so many wholes, if they have at most 38 digits, else itself
+abbrev pub number_read : ℤ → LogicalType → Option Datum
+number_read i (ty (atomic (decimals p s)) n) = if fits_digits (i *ℤ pos (10 ^ s)) 38 then Some (int (i *ℤ pos (10 ^ s))) else None
+number_read i t = Some (int i)
+
 -- the value that a type behind it makes of a value
 abbrev mutual
   pub typed_value : Datum → LogicalType → Option Datum
+  typed_value (int i) t = number_read i t
   typed_value (utf8 s) t = text_read s t
   typed_value (list_of vs) (ty (list t) n) = option_map list_of (typed_items vs t)
   typed_value (list_of vs) (ty (fixed t k) n) = option_map list_of (typed_items vs t)

@@ -1,15 +1,17 @@
 // Values that take the type behind them: of a decimal, a day or an instant the text stands there.
-ghost use Rattle.std.specs.Prelude.{◌≡◌, MatchOption, None, Some, option_map, true};
+ghost use Rattle.std.specs.Prelude.{◌≡◌, ◌≤◌, ◌^◌, ◌*ℤ◌, MatchOption, None, Some, false, option_map, pos, true};
+ghost use Rattle.vx_value.specs.Fits.{fits_digits};
 ghost use Rattle.vx_value.specs.Types.{int};
 ghost use Rattle.vx_value.specs.Views.{data_view, fields_of, type_of, value_of};
-ghost use Rattle.vx_source_types.specs.Untyped.{has_texts, text_read, typed_items, typed_row, typed_value};
+ghost use Rattle.vx_source_types.specs.Untyped.{has_texts, number_read, text_read, typed_items, typed_row, typed_value};
 
-use vx_dtype::{DType, StructFields};
-use vx_literals::{read_day, read_decimal, read_instant};
+use vx_dtype::{DType, DecimalType, StructFields};
+use vx_literals::{power_of_ten, read_day, read_decimal, read_instant};
 use vx_value::Value;
 
 /// Makes the value what the type behind it makes of it: the number that a text says where the type is one of
-/// decimals, days or instants, inside lists and structs, too. None where a text says none, with some made.
+/// decimals, days or instants, and the units of a whole number where it is one of decimals, inside lists and
+/// structs, too. None where a text says no number, or one has too many digits, with some made.
 #[cycle(typed)]
 pub(crate) fn type_value(value: &mut Value, t: &DType) -> Option<()>
     ensures { MatchOption result (typed_value (value_of value.old) (type_of t.now) ≡ None) (λ _. typed_value (value_of value.old) (type_of t.now) ≡ Some (value_of value.new)) }
@@ -18,6 +20,10 @@ pub(crate) fn type_value(value: &mut Value, t: &DType) -> Option<()>
         Value::Utf8(text) if has_texts(t) => {
             let number = number_read(text.as_str(), t)?;
             *value = Value::Int(number);
+            Some(())
+        }
+        Value::Int(number) => {
+            *number = number_typed(*number, t)?;
             Some(())
         }
         Value::List(items) => match t {
@@ -33,6 +39,29 @@ pub(crate) fn type_value(value: &mut Value, t: &DType) -> Option<()>
             _ => Some(()),
         },
         _ => Some(()),
+    }
+}
+
+// The number that a whole number is before the type.
+fn number_typed(number: i128, t: &DType) -> Option<i128>
+    ensures { option_map int result ≡ number_read number (type_of t.now) }
+{
+    match t {
+        DType::Decimal(decimal, _) => units_of_wholes(number, decimal.scale()),
+        _ => Some(number),
+    }
+}
+
+// The units of so many wholes, if they have at most 38 digits.
+fn units_of_wholes(number: i128, scale: u8) -> Option<i128>
+    requires { scale ≤ 38 }
+    ensures { MatchOption result (fits_digits (number *ℤ pos (10 ^ scale)) 38 ≡ false) (λ units. (units ≡ number *ℤ pos (10 ^ scale)) × (fits_digits units 38 ≡ true)) }
+{
+    let units = number.checked_mul(power_of_ten(scale) as i128)?;
+    if units.unsigned_abs() < power_of_ten(DecimalType::MAX_PRECISION) {
+        Some(units)
+    } else {
+        None
     }
 }
 
