@@ -43,16 +43,16 @@ fn place_text(alloc: Global, path: &FieldPath) -> Result<String, AllocError> {
 fn known_type(alloc: Global, dtype: &DType) -> VortexResult<DType> {
     let count = DType::Primitive(PType::U64, Nullability::Nullable);
     match dtype {
-        DType::Bool(_) | DType::Primitive(_, _) | DType::Utf8(_) | DType::Binary(_) => {
+        DType::List(..) | DType::FixedSizeList(..) | DType::Struct(..) => {
+            let names = names_of(alloc, &["nulls"])?;
+            let types = vec![in alloc; count]?;
+            struct_type(alloc, names, types, Nullability::Nullable)
+        }
+        _ => {
             let least = dtype.clone()?.as_nullable();
             let greatest = dtype.clone()?.as_nullable();
             let names = names_of(alloc, &["nulls", "least", "greatest"])?;
             let types = vec![in alloc; count, least, greatest]?;
-            struct_type(alloc, names, types, Nullability::Nullable)
-        }
-        _ => {
-            let names = names_of(alloc, &["nulls"])?;
-            let types = vec![in alloc; count]?;
             struct_type(alloc, names, types, Nullability::Nullable)
         }
     }

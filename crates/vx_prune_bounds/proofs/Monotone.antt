@@ -1,7 +1,6 @@
 -- Bounds of operands that say more give bounds that say more.
 use Rattle.std.proofs.Common.{◌≡◌, refl, Bool, true, false, ◌&&◌, ◌||◌, not, List, [], ◌∷◌, arith}
 use Rattle.std.specs.Prelude.{ℤ, ◌+ℤ◌, ◌≤ℤ◌, Option, Some, None, if◌then◌else◌}
-use Rattle.std.specs.Int.{saturate_to_bits}
 use Rattle.std.proofs.lemmas.Bool.{and_parts, and_from, or_left, or_right}
 use Rattle.std.proofs.lemmas.Int.{ints}
 use Rattle.vx_dtype.specs.Lists.{Forall2, forall2_nil, forall2_cons}
@@ -12,12 +11,12 @@ use Rattle.vx_prune_bounds.specs.Order.{at_most, below}
 use Rattle.vx_prune_bounds.specs.Bounds.{Bounds, exactly, starts_within, ends_within, IsWithin, of_both, is_interval, IsProper}
 use Rattle.vx_prune_bounds.specs.Truths.{Truths, MayBe, AreWithin, truths_in, truth_bounds, not_truths, and_truths, or_truths, may_fail}
 use Rattle.vx_prune_bounds.specs.Comparing.{both_known, all_at_most, all_below, surely, opposite, comparison_truths, operation_truths, between_truths}
-use Rattle.vx_prune_bounds.specs.Kernels.{sum_end, sum_bounds, only_if, not_null, fill_bounds, choice_bounds, mask_bounds, case_bounds, null_truths, shaped_as}
+use Rattle.vx_prune_bounds.specs.Kernels.{nearest_below, nearest_above, of_sum, sum_bounds, only_if, not_null, fill_bounds, choice_bounds, mask_bounds, case_bounds, null_truths, shaped_as}
 use Rattle.vx_prune_bounds.proofs.Ordered.{at_most-trans, below-wider}
 use Rattle.vx_prune_bounds.proofs.Contained.{at_either, implied, implies, within, from_within, contains-wider, within-refl, nothing-within, nothing-proper, exactly-proper}
 use Rattle.vx_prune_bounds.proofs.Lattice.{join-mono, join-proper}
 use Rattle.vx_prune_bounds.proofs.Sounds.{May, may_null, may_no, may_yes, may}
-use Rattle.vx_prune_bounds.proofs.Sums.{le_from, from_le, saturated-mono}
+use Rattle.vx_prune_bounds.proofs.Sums.{le_from, below-from, above-up_to, below-mono, above-mono, around}
 
 -- ---- the order of truths
 
@@ -194,13 +193,10 @@ between-mono ls us x x' l l' u u' e f g =
 sums-up : (a b c d : ℤ) → a ≤ℤ c → b ≤ℤ d → (a +ℤ b) ≤ℤ (c +ℤ d)
 sums-up a b c d h k = omega (arith, ints)
 
-ends_up : (a b c d : ℤ) → at_most (int a) (int c) ≡ true → at_most (int b) (int d) ≡ true → at_most (int (saturate_to_bits 127 (a +ℤ b))) (int (saturate_to_bits 127 (c +ℤ d))) ≡ true
-ends_up a b c d e f = from_le _ _ (saturated-mono (a +ℤ b) (c +ℤ d) (sums-up a b c d (le_from a c e) (le_from b d f)))
-
-starts-sums : (l l' m m' : Option Datum) → starts_within l l' ≡ true → starts_within m m' ≡ true → starts_within (of_both sum_end l m) (of_both sum_end l' m') ≡ true
+starts-sums : (l l' m m' : Option Datum) → starts_within l l' ≡ true → starts_within m m' ≡ true → starts_within (of_both (of_sum nearest_below) l m) (of_both (of_sum nearest_below) l' m') ≡ true
 starts-sums l None m m' e f = refl
 starts-sums l (Some x) m None e f = refl
-starts-sums (Some (int a)) (Some (int c)) (Some (int b)) (Some (int d)) e f = ends_up c d a b e f
+starts-sums (Some (int a)) (Some (int c)) (Some (int b)) (Some (int d)) e f = below-mono (c +ℤ d) (a +ℤ b) (sums-up c d a b (le_from c a e) (le_from d b f))
 starts-sums None (Some (int c)) m (Some (int d)) e f = cc
 starts-sums (Some (int a)) (Some (int c)) None (Some (int d)) e f = cc
 starts-sums (Some (int a)) (Some (int c)) (Some _) (Some (int d)) e f = cc
@@ -208,10 +204,10 @@ starts-sums (Some _) (Some (int c)) m (Some (int d)) e f = cc
 starts-sums l (Some (int c)) m (Some _) e f = refl
 starts-sums l (Some _) m (Some y) e f = refl
 
-ends-sums : (g g' h h' : Option Datum) → ends_within g g' ≡ true → ends_within h h' ≡ true → ends_within (of_both sum_end g h) (of_both sum_end g' h') ≡ true
+ends-sums : (g g' h h' : Option Datum) → ends_within g g' ≡ true → ends_within h h' ≡ true → ends_within (of_both (of_sum nearest_above) g h) (of_both (of_sum nearest_above) g' h') ≡ true
 ends-sums g None h h' e f = refl
 ends-sums g (Some x) h None e f = refl
-ends-sums (Some (int a)) (Some (int c)) (Some (int b)) (Some (int d)) e f = ends_up a b c d e f
+ends-sums (Some (int a)) (Some (int c)) (Some (int b)) (Some (int d)) e f = above-mono (a +ℤ b) (c +ℤ d) (sums-up a b c d (le_from a c e) (le_from b d f))
 ends-sums None (Some (int c)) h (Some (int d)) e f = cc
 ends-sums (Some (int a)) (Some (int c)) None (Some (int d)) e f = cc
 ends-sums (Some (int a)) (Some (int c)) (Some _) (Some (int d)) e f = cc
@@ -230,21 +226,25 @@ sum-mono x x' y y' e f =
       ends = λ h. let v = and_parts x.value y.value h in ends-sums x.greatest x'.greatest y.greatest y'.greatest (p.ends v.0) (q.ends v.1);
     })
 
-own_end : (i : ℤ) → at_most (int i) (int i) ≡ true
-own_end i = from_le i i (omega (arith, ints))
+same_le : (i : ℤ) → i ≤ℤ i
+same_le i = omega (arith, ints)
 
-right_own : (g h : Option Datum) → is_interval None (of_both sum_end g h) ≡ true
-right_own (Some (int a)) (Some (int b)) = own_end (saturate_to_bits 127 (a +ℤ b))
+right_own : (g h : Option Datum) → is_interval None (of_both (of_sum nearest_above) g h) ≡ true
+right_own (Some (int a)) (Some (int b)) = around None (nearest_above (a +ℤ b)) (a +ℤ b) refl (above-up_to (a +ℤ b) (a +ℤ b) (same_le (a +ℤ b)))
 right_own None h = refl
 right_own (Some (int a)) None = refl
 right_own (Some (int a)) (Some _) = refl
 right_own (Some _) None = refl
 right_own (Some _) (Some y) = refl
 
-sums_interval : (l g m h : Option Datum) → is_interval l g ≡ true → is_interval m h ≡ true → is_interval (of_both sum_end l m) (of_both sum_end g h) ≡ true
-sums_interval (Some (int a)) (Some (int c)) (Some (int b)) (Some (int d)) e f = ends_up a b c d e f
-sums_interval (Some (int a)) None (Some (int b)) h e f = own_end (saturate_to_bits 127 (a +ℤ b))
-sums_interval (Some (int a)) (Some x) (Some (int b)) None e f = own_end (saturate_to_bits 127 (a +ℤ b))
+left_own : (a b : ℤ) → is_interval (nearest_below (a +ℤ b)) None ≡ true
+left_own a b = around (nearest_below (a +ℤ b)) None (a +ℤ b) (below-from (a +ℤ b) (a +ℤ b) (same_le (a +ℤ b))) refl
+
+sums_interval : (l g m h : Option Datum) → is_interval l g ≡ true → is_interval m h ≡ true → is_interval (of_both (of_sum nearest_below) l m) (of_both (of_sum nearest_above) g h) ≡ true
+sums_interval (Some (int a)) (Some (int c)) (Some (int b)) (Some (int d)) e f =
+    around (nearest_below (a +ℤ b)) (nearest_above (c +ℤ d)) (a +ℤ b) (below-from (a +ℤ b) (a +ℤ b) (same_le (a +ℤ b))) (above-up_to (a +ℤ b) (c +ℤ d) (sums-up a b c d (le_from a c e) (le_from b d f)))
+sums_interval (Some (int a)) None (Some (int b)) h e f = left_own a b
+sums_interval (Some (int a)) (Some x) (Some (int b)) None e f = left_own a b
 sums_interval (Some (int a)) (Some (int c)) (Some (int b)) (Some _) e f = cc
 sums_interval (Some (int a)) (Some _) (Some (int b)) (Some y) e f = cc
 sums_interval None g m h e f = right_own g h
@@ -254,7 +254,7 @@ sums_interval (Some _) g None h e f = right_own g h
 sums_interval (Some _) g (Some y) h e f = right_own g h
 
 pub sum-proper : (x y : Bounds) → IsProper x → IsProper y → IsProper (sum_bounds x y)
-sum-proper x y p q = implied (x.value && y.value) (is_interval (of_both sum_end x.least y.least) (of_both sum_end x.greatest y.greatest)) (λ h.
+sum-proper x y p q = implied (x.value && y.value) (is_interval (of_both (of_sum nearest_below) x.least y.least) (of_both (of_sum nearest_above) x.greatest y.greatest)) (λ h.
     let v = and_parts x.value y.value h in
     sums_interval x.least x.greatest y.least y.greatest (implies _ _ p v.0) (implies _ _ q v.1))
 

@@ -1,20 +1,19 @@
 -- Sums of numbers within bounds.
-use Rattle.std.proofs.Common.{◌≡◌, ◌<◌, ◌≤◌, ◌^◌, refl, Bool, true, arith, lit≤}
-use Rattle.std.specs.Prelude.{ℤ, pos, negsuc, nat_lt, ◌+ℤ◌, ◌≤ℤ◌, ◌<ℤ◌, Option, Some, None}
+use Rattle.std.proofs.Common.{◌≡◌, ◌<◌, ◌^◌, refl, Bool, true, false, arith}
+use Rattle.std.specs.Prelude.{ℤ, pos, negsuc, nat_lt, ◌+ℤ◌, ◌≤ℤ◌, ◌<ℤ◌, Option, Some, None, if◌then◌else◌}
 use Rattle.std.specs.declared.cmp.Ordering.{Ordering}
 use Rattle.std.specs.declared.cmp.Ordering.TheVariants.{Less, Equal, Greater}
 use Rattle.std.specs.Cmp.{int_ranks}
-use Rattle.std.specs.Int.{saturate_to_bits}
 use Rattle.std.specs.Ordering.{is_le, int_cmp, MatchOrdering}
-use Rattle.std.proofs.lemmas.Bool.{and_parts, and_from, or_left, or_right, ltb-true}
+use Rattle.std.proofs.lemmas.Bool.{and_from, or_left, or_right, ltb-true}
 use Rattle.std.proofs.lemmas.Int.{ints}
-use Rattle.vx_dtype.specs.declared.dtype.PType.{PType}
-use Rattle.vx_dtype.specs.declared.dtype.PType.TheVariants.{U8, U16, U32, U64, I8, I16, I32, I64}
-use Rattle.vx_value.specs.Fits.{Fits, fits_ptype}
-use Rattle.vx_value.specs.Types.{bits, is_signed, number, ty, atomic, Datum, null, bool, int, utf8, bytes, list_of, struct_of}
+use borrow.Author.Tests.{lt-ltb}
+use Rattle.vx_value.specs.Fits.{Fits}
+use Rattle.vx_value.specs.Types.{number, decimals, LogicalType, ty, atomic, Datum, null, bool, int, utf8, bytes, list_of, struct_of}
+use Rattle.vx_fn.specs.Functions.{is_number}
 use Rattle.vx_fn.specs.Values.{sum_of}
-use Rattle.vx_prune_bounds.specs.Bounds.{Bounds, is_from, is_up_to, Contains, of_both}
-use Rattle.vx_prune_bounds.specs.Kernels.{sum_end, sum_bounds}
+use Rattle.vx_prune_bounds.specs.Bounds.{Bounds, is_from, is_up_to, Contains, of_both, starts_within, ends_within, is_interval}
+use Rattle.vx_prune_bounds.specs.Kernels.{nearest_below, nearest_above, of_sum, sum_bounds}
 use Rattle.vx_prune_bounds.proofs.Contained.{inside, from_inside}
 
 -- ---- numbers in their order
@@ -35,97 +34,120 @@ from_le x y h = go (int_cmp x y) (int_ranks x y)
     go Equal k = refl
     go Greater k = absurd (omega (arith, ints))
 
--- ---- the nearest number of 128 bits
+-- ---- the nearest numbers of 128 bits
 
-pub saturated-mono : (y z : ℤ) → y ≤ℤ z → saturate_to_bits 127 y ≤ℤ saturate_to_bits 127 z
-saturated-mono (pos m) (pos n) h = omega (arith, ints)
-saturated-mono (pos m) (negsuc n) h = omega (arith, ints)
-saturated-mono (negsuc m) (pos n) h = omega (arith, ints)
-saturated-mono (negsuc m) (negsuc n) h = omega (arith, ints)
+known_from : (b : Bool) (y z : ℤ) → y ≤ℤ z → is_from (if b then Some (int y) else None) (int z) ≡ true
+known_from true y z h = from_le y z h
+known_from false y z h = refl
 
-saturated-le : (y z : ℤ) → y ≤ℤ z → negsuc (2 ^ 66) ≤ℤ z → saturate_to_bits 127 y ≤ℤ z
-saturated-le (pos m) (pos n) h k = omega (arith, ints)
-saturated-le (pos m) (negsuc n) h k = omega (arith, ints)
-saturated-le (negsuc m) (pos n) h k = omega (arith, ints)
-saturated-le (negsuc m) (negsuc n) h k = omega (arith, ints)
+known_up_to : (b : Bool) (y z : ℤ) → y ≤ℤ z → is_up_to (if b then Some (int z) else None) (int y) ≡ true
+known_up_to true y z h = from_le y z h
+known_up_to false y z h = refl
 
-le-saturated : (y z : ℤ) → y ≤ℤ z → y ≤ℤ pos (2 ^ 66) → y ≤ℤ saturate_to_bits 127 z
-le-saturated (pos m) (pos n) h k = omega (arith, ints)
-le-saturated (pos m) (negsuc n) h k = omega (arith, ints)
-le-saturated (negsuc m) (pos n) h k = omega (arith, ints)
-le-saturated (negsuc m) (negsuc n) h k = omega (arith, ints)
+pub below-from : (y z : ℤ) → y ≤ℤ z → is_from (nearest_below y) (int z) ≡ true
+below-from (pos n) (pos m) h = from_le _ _ (omega (arith, ints))
+below-from (pos n) (negsuc m) h = from_le _ _ (omega (arith, ints))
+below-from (negsuc n) z h = known_from (nat_lt n (2 ^ 127)) (negsuc n) z h
 
--- ---- numbers of the types
+pub above-up_to : (y z : ℤ) → y ≤ℤ z → is_up_to (nearest_above z) (int y) ≡ true
+above-up_to y (pos n) h = known_up_to (nat_lt n (2 ^ 127)) y (pos n) h
+above-up_to (pos m) (negsuc n) h = from_le _ _ (omega (arith, ints))
+above-up_to (negsuc m) (negsuc n) h = from_le _ _ (omega (arith, ints))
 
-powers : (p : PType) → 2 ^ bits p ≤ 2 ^ 64
-powers U8 = lit≤ tt
-powers U16 = lit≤ tt
-powers U32 = lit≤ tt
-powers U64 = lit≤ tt
-powers I8 = lit≤ tt
-powers I16 = lit≤ tt
-powers I32 = lit≤ tt
-powers I64 = lit≤ tt
+pub below-mono : (y z : ℤ) → y ≤ℤ z → starts_within (nearest_below z) (nearest_below y) ≡ true
+below-mono (pos n) (pos m) h = from_le _ _ (omega (arith, ints))
+below-mono (pos n) (negsuc m) h = absurd (omega (arith, ints))
+below-mono (negsuc n) z h = go (nat_lt n (2 ^ 127)) refl
+  where
+    known : (z : ℤ) → negsuc n ≤ℤ z → n < 2 ^ 127 → starts_within (nearest_below z) (Some (int (negsuc n))) ≡ true
+    known (pos m) h k = from_le _ _ (omega (arith, ints))
+    known (negsuc m) h k = rw (lt-ltb m (2 ^ 127) (omega (arith, ints))) (from_le _ _ h)
 
-number_low : (i : ℤ) (p : PType) → fits_ptype i p ≡ true → negsuc (2 ^ 64) ≤ℤ i
-number_low (pos n) p e = omega (arith, ints)
-number_low (negsuc n) p e =
-    let h : n < 2 ^ bits p = ltb-true n (2 ^ bits p) (and_parts (is_signed p) (nat_lt n (2 ^ bits p)) e).1 in
-    omega (arith, ints, powers p)
+    go : (b : Bool) → nat_lt n (2 ^ 127) ≡ b → starts_within (nearest_below z) (if b then Some (int (negsuc n)) else None) ≡ true
+    go false e = refl
+    go true e = known z h (ltb-true n (2 ^ 127) e)
 
-number_high : (i : ℤ) (p : PType) → fits_ptype i p ≡ true → i ≤ℤ pos (2 ^ 64)
-number_high (pos n) p e = let h : n < 2 ^ bits p = ltb-true n (2 ^ bits p) e in omega (arith, ints, powers p)
-number_high (negsuc n) p e = omega (arith, ints)
+pub above-mono : (y z : ℤ) → y ≤ℤ z → ends_within (nearest_above y) (nearest_above z) ≡ true
+above-mono (negsuc n) (negsuc m) h = from_le _ _ (omega (arith, ints))
+above-mono (pos n) (negsuc m) h = absurd (omega (arith, ints))
+above-mono y (pos m) h = go (nat_lt m (2 ^ 127)) refl
+  where
+    known : (y : ℤ) → y ≤ℤ pos m → m < 2 ^ 127 → ends_within (nearest_above y) (Some (int (pos m))) ≡ true
+    known (negsuc n) h k = from_le _ _ (omega (arith, ints))
+    known (pos n) h k = rw (lt-ltb n (2 ^ 127) (omega (arith, ints))) (from_le _ _ h)
+
+    go : (b : Bool) → nat_lt m (2 ^ 127) ≡ b → ends_within (nearest_above y) (if b then Some (int (pos m)) else None) ≡ true
+    go false e = refl
+    go true e = known y h (ltb-true m (2 ^ 127) e)
+
+own_end : (i : ℤ) → is_le (int_cmp i i) ≡ true
+own_end i = from_le i i (omega (arith, ints))
+
+-- ends on both sides of a number are those of an interval
+pub around : (l g : Option Datum) (k : ℤ) → is_from l (int k) ≡ true → is_up_to g (int k) ≡ true → is_interval l g ≡ true
+around None None k e f = refl
+around None (Some (int c)) k e f = own_end c
+around (Some (int a)) None k e f = own_end a
+around (Some (int a)) (Some (int c)) k e f = let p = le_from a k e in let q = le_from k c f in from_le a c (omega (arith, ints))
+around (Some _) g k e f = cc
+around l (Some _) k e f = cc
 
 -- ---- ends of a sum
 
-module _ (i j : ℤ) (low : negsuc (2 ^ 66) ≤ℤ (i +ℤ j)) (high : (i +ℤ j) ≤ℤ pos (2 ^ 66)) where
-  sum_from : (l m : Option Datum) → is_from l (int i) ≡ true → is_from m (int j) ≡ true → is_from (of_both sum_end l m) (int (i +ℤ j)) ≡ true
-  sum_from (Some (int a)) (Some (int b)) e f =
-      let h = le_from a i e in
-      let k = le_from b j f in
-      from_le _ _ (saturated-le (a +ℤ b) (i +ℤ j) (omega (arith, ints)) low)
-  sum_from None m e f = refl
-  sum_from (Some l) None e f = refl
-  sum_from (Some null) (Some m) e f = refl
-  sum_from (Some (bool _)) (Some m) e f = refl
-  sum_from (Some (utf8 _)) (Some m) e f = refl
-  sum_from (Some (bytes _)) (Some m) e f = refl
-  sum_from (Some (list_of _)) (Some m) e f = refl
-  sum_from (Some (struct_of _)) (Some m) e f = refl
-  sum_from (Some (int a)) (Some _) e f = refl
+sum_from : (i j : ℤ) (l m : Option Datum) → is_from l (int i) ≡ true → is_from m (int j) ≡ true → is_from (of_both (of_sum nearest_below) l m) (int (i +ℤ j)) ≡ true
+sum_from i j (Some (int a)) (Some (int b)) e f =
+    let h = le_from a i e in
+    let k = le_from b j f in
+    below-from (a +ℤ b) (i +ℤ j) (omega (arith, ints))
+sum_from i j None m e f = refl
+sum_from i j (Some l) None e f = refl
+sum_from i j (Some null) (Some m) e f = refl
+sum_from i j (Some (bool _)) (Some m) e f = refl
+sum_from i j (Some (utf8 _)) (Some m) e f = refl
+sum_from i j (Some (bytes _)) (Some m) e f = refl
+sum_from i j (Some (list_of _)) (Some m) e f = refl
+sum_from i j (Some (struct_of _)) (Some m) e f = refl
+sum_from i j (Some (int a)) (Some _) e f = refl
 
-  sum_up_to : (g h : Option Datum) → is_up_to g (int i) ≡ true → is_up_to h (int j) ≡ true → is_up_to (of_both sum_end g h) (int (i +ℤ j)) ≡ true
-  sum_up_to (Some (int a)) (Some (int b)) e f =
-      let h = le_from i a e in
-      let k = le_from j b f in
-      from_le _ _ (le-saturated (i +ℤ j) (a +ℤ b) (omega (arith, ints)) high)
-  sum_up_to None h e f = refl
-  sum_up_to (Some g) None e f = refl
-  sum_up_to (Some null) (Some h) e f = refl
-  sum_up_to (Some (bool _)) (Some h) e f = refl
-  sum_up_to (Some (utf8 _)) (Some h) e f = refl
-  sum_up_to (Some (bytes _)) (Some h) e f = refl
-  sum_up_to (Some (list_of _)) (Some h) e f = refl
-  sum_up_to (Some (struct_of _)) (Some h) e f = refl
-  sum_up_to (Some (int a)) (Some _) e f = refl
+sum_up_to : (i j : ℤ) (g h : Option Datum) → is_up_to g (int i) ≡ true → is_up_to h (int j) ≡ true → is_up_to (of_both (of_sum nearest_above) g h) (int (i +ℤ j)) ≡ true
+sum_up_to i j (Some (int a)) (Some (int b)) e f =
+    let h = le_from i a e in
+    let k = le_from j b f in
+    above-up_to (i +ℤ j) (a +ℤ b) (omega (arith, ints))
+sum_up_to i j None h e f = refl
+sum_up_to i j (Some g) None e f = refl
+sum_up_to i j (Some null) (Some h) e f = refl
+sum_up_to i j (Some (bool _)) (Some h) e f = refl
+sum_up_to i j (Some (utf8 _)) (Some h) e f = refl
+sum_up_to i j (Some (bytes _)) (Some h) e f = refl
+sum_up_to i j (Some (list_of _)) (Some h) e f = refl
+sum_up_to i j (Some (struct_of _)) (Some h) e f = refl
+sum_up_to i j (Some (int a)) (Some _) e f = refl
 
-pub sum-sound : (x y : Bounds) (v w : Datum) (p q : PType) (n m : Bool) → Fits v (ty (atomic (number p)) n) → Fits w (ty (atomic (number q)) m) → Contains x v → Contains y w → Contains (sum_bounds x y) (sum_of v w)
-sum-sound x y null w p q n m f g h k = or_left x.null y.null h
-sum-sound x y (int i) null p q n m f g h k = or_right x.null y.null k
-sum-sound x y (int i) (int j) p q n m f g h k =
+-- ---- sums
+
+-- a number or null
+pub data Numeric : Datum → Type 0 where
+  no_number : Numeric null
+  a_number : {i : ℤ} → Numeric (int i)
+
+pub numeric : (t : LogicalType) (v : Datum) → is_number t ≡ true → Fits v t → Numeric v
+numeric (ty (atomic (number p)) n) null e f = no_number
+numeric (ty (atomic (number p)) n) (int i) e f = a_number
+numeric (ty (atomic (number p)) n) _ e f = cc
+numeric (ty (atomic (decimals p s)) n) null e f = no_number
+numeric (ty (atomic (decimals p s)) n) (int i) e f = a_number
+numeric (ty (atomic (decimals p s)) n) _ e f = cc
+numeric _ v e f = cc
+
+pub sum-sound : (x y : Bounds) {v w : Datum} → Numeric v → Numeric w → Contains x v → Contains y w → Contains (sum_bounds x y) (sum_of v w)
+sum-sound x y no_number q h k = or_left x.null y.null h
+sum-sound x y (a_number {i = i}) no_number h k = or_right x.null y.null k
+sum-sound x y (a_number {i = i}) (a_number {i = j}) h k =
     let a = inside x (int i) refl h in
     let b = inside y (int j) refl k in
-    let il = number_low i p f in
-    let ih = number_high i p f in
-    let jl = number_low j q g in
-    let jh = number_high j q g in
-    let low : negsuc (2 ^ 66) ≤ℤ (i +ℤ j) = omega (arith, ints) in
-    let high : (i +ℤ j) ≤ℤ pos (2 ^ 66) = omega (arith, ints) in
     from_inside (sum_bounds x y) (int (i +ℤ j)) refl (record {
       value = and_from _ _ a.value b.value;
-      from = sum_from i j low high x.least y.least a.from b.from;
-      up_to = sum_up_to i j low high x.greatest y.greatest a.up_to b.up_to;
+      from = sum_from i j x.least y.least a.from b.from;
+      up_to = sum_up_to i j x.greatest y.greatest a.up_to b.up_to;
     })
-sum-sound x y (int i) _ p q n m f g h k = cc
-sum-sound x y _ w p q n m f g h k = cc

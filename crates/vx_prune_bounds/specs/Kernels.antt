@@ -1,18 +1,27 @@
 -- Bounds of what functions give of values within bounds.
-use Rattle.std.specs.Prelude.{Bool, false, ◌&&◌, ◌||◌, List, [], ◌∷◌, Option, Some, None, ◌+ℤ◌, if◌then◌else◌}
-use Rattle.std.specs.Int.{saturate_signed, w128}
+use Rattle.std.specs.Prelude.{ℤ, pos, negsuc, nat_lt, min, ◌-◌, ◌^◌, Bool, false, ◌&&◌, ◌||◌, List, [], ◌∷◌, Option, Some, None, ◌+ℤ◌, if◌then◌else◌}
 use Rattle.vx_value.specs.Types.{Datum, null, int}
 use Rattle.vx_prune_bounds.specs.Bounds.{Bounds, bounds, nothing, exactly, of_both, join}
 use Rattle.vx_prune_bounds.specs.Truths.{Truths, truths, truths_in, may_fail}
 
--- the sum of two numbers, or the number of 128 bits that is nearest to it
-abbrev pub sum_end : Datum → Datum → Option Datum
-sum_end (int i) (int j) = Some (int (saturate_signed w128 (i +ℤ j)))
-sum_end _ _ = None
+-- the greatest number of 128 bits that is at most this one, if there is one
+abbrev pub nearest_below : ℤ → Option Datum
+nearest_below (pos n) = Some (int (pos (min n (2 ^ 127 - 1))))
+nearest_below (negsuc n) = if nat_lt n (2 ^ 127) then Some (int (negsuc n)) else None
 
--- bounds of the sum of two numbers, each of 64 bits
+-- the least number of 128 bits that is at least this one, if there is one
+abbrev pub nearest_above : ℤ → Option Datum
+nearest_above (pos n) = if nat_lt n (2 ^ 127) then Some (int (pos n)) else None
+nearest_above (negsuc n) = Some (int (negsuc (min n (2 ^ 127 - 1))))
+
+-- what f gives of the sum of two numbers
+abbrev pub of_sum : (ℤ → Option Datum) → Datum → Datum → Option Datum
+of_sum f (int i) (int j) = f (i +ℤ j)
+of_sum f _ _ = None
+
+-- bounds of the sum of two numbers
 abbrev pub sum_bounds : Bounds → Bounds → Bounds
-sum_bounds x y = bounds (x.null || y.null) (x.value && y.value) (of_both sum_end x.least y.least) (of_both sum_end x.greatest y.greatest)
+sum_bounds x y = bounds (x.null || y.null) (x.value && y.value) (of_both (of_sum nearest_below) x.least y.least) (of_both (of_sum nearest_above) x.greatest y.greatest)
 
 -- these bounds where that may be, else what no value is within
 abbrev pub only_if : Bool → Bounds → Bounds

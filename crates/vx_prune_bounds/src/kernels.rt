@@ -1,8 +1,8 @@
 // Bounds of what functions give of values within bounds.
-ghost use Rattle.std.specs.Prelude.{◌≡◌, option_map};
-ghost use Rattle.vx_value.specs.Types.{null};
+ghost use Rattle.std.specs.Prelude.{◌≡◌, ◌+ℤ◌, option_map};
+ghost use Rattle.vx_value.specs.Types.{int, null};
 ghost use Rattle.vx_prune_bounds.specs.Bounds.{exactly, of_both};
-ghost use Rattle.vx_prune_bounds.specs.Kernels.{sum_end, sum_bounds, only_if, not_null, fill_bounds, choice_bounds, mask_bounds, null_truths, shaped_as};
+ghost use Rattle.vx_prune_bounds.specs.Kernels.{nearest_above, nearest_below, of_sum, sum_bounds, only_if, not_null, fill_bounds, choice_bounds, mask_bounds, null_truths, shaped_as};
 ghost use Rattle.vx_prune_bounds.specs.Truths.{truths_in, truth_bounds};
 ghost use Rattle.vx_prune_bounds.specs.Views.{endpoint_value, bounds_view};
 
@@ -99,28 +99,63 @@ impl<'a> Bounds<'a> {
     }
 }
 
-/// Bounds of the sum of two numbers, of which each is one of a number type. Takes no memory.
+/// Bounds of the sum of two numbers, of which each is one of a number type or a decimal. Takes no memory.
 pub fn sum_bounds<'a>(x: &Bounds, y: &Bounds) -> Bounds<'a>
     ensures { bounds_view result ≡ sum_bounds (bounds_view x.now) (bounds_view y.now) }
 {
     Bounds {
         null: x.null || y.null,
         value: x.value && y.value,
-        least: sum_end(x.least, y.least),
-        greatest: sum_end(x.greatest, y.greatest),
+        least: least_sum(x.least, y.least),
+        greatest: greatest_sum(x.greatest, y.greatest),
     }
 }
 
-// The sum of two ends, or the number nearest to it, if both are known numbers.
-fn sum_end<'a>(x: Option<Endpoint>, y: Option<Endpoint>) -> Option<Endpoint<'a>>
-    ensures { option_map endpoint_value result ≡ of_both sum_end (option_map endpoint_value x.entry) (option_map endpoint_value y.entry) }
+// What no sum is below, if both ends are known numbers.
+fn least_sum<'a>(x: Option<Endpoint>, y: Option<Endpoint>) -> Option<Endpoint<'a>>
+    ensures { option_map endpoint_value result ≡ of_both (of_sum nearest_below) (option_map endpoint_value x.entry) (option_map endpoint_value y.entry) }
 {
-    match x {
-        Some(Endpoint::Int(i)) => match y {
-            Some(Endpoint::Int(j)) => Some(Endpoint::Int(i.saturating_add(j))),
-            _ => None,
+    match (x, y) {
+        (Some(Endpoint::Int(i)), Some(Endpoint::Int(j))) => match nearest_below(i, j) {
+            Some(end) => Some(Endpoint::Int(end)),
+            None => None,
         },
         _ => None,
+    }
+}
+
+// What no sum is above, if both ends are known numbers.
+fn greatest_sum<'a>(x: Option<Endpoint>, y: Option<Endpoint>) -> Option<Endpoint<'a>>
+    ensures { option_map endpoint_value result ≡ of_both (of_sum nearest_above) (option_map endpoint_value x.entry) (option_map endpoint_value y.entry) }
+{
+    match (x, y) {
+        (Some(Endpoint::Int(i)), Some(Endpoint::Int(j))) => match nearest_above(i, j) {
+            Some(end) => Some(Endpoint::Int(end)),
+            None => None,
+        },
+        _ => None,
+    }
+}
+
+// The greatest number that is at most the sum, if there is one.
+fn nearest_below(i: i128, j: i128) -> Option<i128>
+    ensures { option_map int result ≡ nearest_below (i +ℤ j) }
+{
+    match i.checked_add(j) {
+        Some(sum) => Some(sum),
+        None if i > 0 => Some(i128::MAX),
+        None => None,
+    }
+}
+
+// The least number that is at least the sum, if there is one.
+fn nearest_above(i: i128, j: i128) -> Option<i128>
+    ensures { option_map int result ≡ nearest_above (i +ℤ j) }
+{
+    match i.checked_add(j) {
+        Some(sum) => Some(sum),
+        None if i < 0 => Some(i128::MIN),
+        None => None,
     }
 }
 
