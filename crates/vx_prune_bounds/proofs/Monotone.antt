@@ -16,7 +16,7 @@ use Rattle.vx_prune_bounds.proofs.Ordered.{at_most-trans, below-wider}
 use Rattle.vx_prune_bounds.proofs.Contained.{at_either, implied, implies, within, from_within, contains-wider, within-refl, nothing-within, nothing-proper, exactly-proper}
 use Rattle.vx_prune_bounds.proofs.Lattice.{join-mono, join-proper}
 use Rattle.vx_prune_bounds.proofs.Sounds.{May, may_null, may_no, may_yes, may}
-use Rattle.vx_prune_bounds.proofs.Sums.{le_from, below-from, above-up_to, below-mono, above-mono, around}
+use Rattle.vx_prune_bounds.proofs.Sums.{le_from, below-from, above-up_to, nearest_below-mono, nearest_above-mono, around}
 
 -- ---- the order of truths
 
@@ -196,7 +196,7 @@ sums-up a b c d h k = omega (arith, ints)
 starts-sums : (l l' m m' : Option Datum) → starts_within l l' ≡ true → starts_within m m' ≡ true → starts_within (of_both (of_sum nearest_below) l m) (of_both (of_sum nearest_below) l' m') ≡ true
 starts-sums l None m m' e f = refl
 starts-sums l (Some x) m None e f = refl
-starts-sums (Some (int a)) (Some (int c)) (Some (int b)) (Some (int d)) e f = below-mono (c +ℤ d) (a +ℤ b) (sums-up c d a b (le_from c a e) (le_from d b f))
+starts-sums (Some (int a)) (Some (int c)) (Some (int b)) (Some (int d)) e f = nearest_below-mono (c +ℤ d) (a +ℤ b) (sums-up c d a b (le_from c a e) (le_from d b f))
 starts-sums None (Some (int c)) m (Some (int d)) e f = cc
 starts-sums (Some (int a)) (Some (int c)) None (Some (int d)) e f = cc
 starts-sums (Some (int a)) (Some (int c)) (Some _) (Some (int d)) e f = cc
@@ -207,7 +207,7 @@ starts-sums l (Some _) m (Some y) e f = refl
 ends-sums : (g g' h h' : Option Datum) → ends_within g g' ≡ true → ends_within h h' ≡ true → ends_within (of_both (of_sum nearest_above) g h) (of_both (of_sum nearest_above) g' h') ≡ true
 ends-sums g None h h' e f = refl
 ends-sums g (Some x) h None e f = refl
-ends-sums (Some (int a)) (Some (int c)) (Some (int b)) (Some (int d)) e f = above-mono (a +ℤ b) (c +ℤ d) (sums-up a b c d (le_from a c e) (le_from b d f))
+ends-sums (Some (int a)) (Some (int c)) (Some (int b)) (Some (int d)) e f = nearest_above-mono (a +ℤ b) (c +ℤ d) (sums-up a b c d (le_from a c e) (le_from b d f))
 ends-sums None (Some (int c)) h (Some (int d)) e f = cc
 ends-sums (Some (int a)) (Some (int c)) None (Some (int d)) e f = cc
 ends-sums (Some (int a)) (Some (int c)) (Some _) (Some (int d)) e f = cc

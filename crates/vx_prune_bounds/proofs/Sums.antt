@@ -1,6 +1,6 @@
 -- Sums of numbers within bounds.
-use Rattle.std.proofs.Common.{◌≡◌, ◌<◌, ◌^◌, refl, Bool, true, false, arith}
-use Rattle.std.specs.Prelude.{ℤ, pos, negsuc, nat_lt, ◌+ℤ◌, ◌≤ℤ◌, ◌<ℤ◌, Option, Some, None, if◌then◌else◌}
+use Rattle.std.proofs.Common.{◌≡◌, ◌<◌, ◌^◌, ◌-◌, refl, Bool, true, false, arith}
+use Rattle.std.specs.Prelude.{ℤ, pos, negsuc, nat_lt, min, ◌+ℤ◌, ◌≤ℤ◌, ◌<ℤ◌, Option, Some, None, if◌then◌else◌}
 use Rattle.std.specs.declared.cmp.Ordering.{Ordering}
 use Rattle.std.specs.declared.cmp.Ordering.TheVariants.{Less, Equal, Greater}
 use Rattle.std.specs.Cmp.{int_ranks}
@@ -45,36 +45,36 @@ known_up_to true y z h = from_le y z h
 known_up_to false y z h = refl
 
 pub below-from : (y z : ℤ) → y ≤ℤ z → is_from (nearest_below y) (int z) ≡ true
-below-from (pos n) (pos m) h = from_le _ _ (omega (arith, ints))
-below-from (pos n) (negsuc m) h = from_le _ _ (omega (arith, ints))
+below-from (pos n) (pos m) h = from_le (pos (min n (2 ^ 127 - 1))) (pos m) (omega (arith, ints))
+below-from (pos n) (negsuc m) h = absurd (omega (arith, ints))
 below-from (negsuc n) z h = known_from (nat_lt n (2 ^ 127)) (negsuc n) z h
 
 pub above-up_to : (y z : ℤ) → y ≤ℤ z → is_up_to (nearest_above z) (int y) ≡ true
 above-up_to y (pos n) h = known_up_to (nat_lt n (2 ^ 127)) y (pos n) h
-above-up_to (pos m) (negsuc n) h = from_le _ _ (omega (arith, ints))
-above-up_to (negsuc m) (negsuc n) h = from_le _ _ (omega (arith, ints))
+above-up_to (pos m) (negsuc n) h = absurd (omega (arith, ints))
+above-up_to (negsuc m) (negsuc n) h = from_le (negsuc m) (negsuc (min n (2 ^ 127 - 1))) (omega (arith, ints))
 
-pub below-mono : (y z : ℤ) → y ≤ℤ z → starts_within (nearest_below z) (nearest_below y) ≡ true
-below-mono (pos n) (pos m) h = from_le _ _ (omega (arith, ints))
-below-mono (pos n) (negsuc m) h = absurd (omega (arith, ints))
-below-mono (negsuc n) z h = go (nat_lt n (2 ^ 127)) refl
+pub nearest_below-mono : (y z : ℤ) → y ≤ℤ z → starts_within (nearest_below z) (nearest_below y) ≡ true
+nearest_below-mono (pos n) (pos m) h = from_le (pos (min n (2 ^ 127 - 1))) (pos (min m (2 ^ 127 - 1))) (omega (arith, ints))
+nearest_below-mono (pos n) (negsuc m) h = absurd (omega (arith, ints))
+nearest_below-mono (negsuc n) z h = go (nat_lt n (2 ^ 127)) refl
   where
     known : (z : ℤ) → negsuc n ≤ℤ z → n < 2 ^ 127 → starts_within (nearest_below z) (Some (int (negsuc n))) ≡ true
-    known (pos m) h k = from_le _ _ (omega (arith, ints))
-    known (negsuc m) h k = rw (lt-ltb m (2 ^ 127) (omega (arith, ints))) (from_le _ _ h)
+    known (pos m) h k = from_le (negsuc n) (pos (min m (2 ^ 127 - 1))) (omega (arith, ints))
+    known (negsuc m) h k = rw (lt-ltb m (2 ^ 127) (omega (arith, ints))) (from_le (negsuc n) (negsuc m) h)
 
     go : (b : Bool) → nat_lt n (2 ^ 127) ≡ b → starts_within (nearest_below z) (if b then Some (int (negsuc n)) else None) ≡ true
     go false e = refl
     go true e = known z h (ltb-true n (2 ^ 127) e)
 
-pub above-mono : (y z : ℤ) → y ≤ℤ z → ends_within (nearest_above y) (nearest_above z) ≡ true
-above-mono (negsuc n) (negsuc m) h = from_le _ _ (omega (arith, ints))
-above-mono (pos n) (negsuc m) h = absurd (omega (arith, ints))
-above-mono y (pos m) h = go (nat_lt m (2 ^ 127)) refl
+pub nearest_above-mono : (y z : ℤ) → y ≤ℤ z → ends_within (nearest_above y) (nearest_above z) ≡ true
+nearest_above-mono (negsuc n) (negsuc m) h = from_le (negsuc (min n (2 ^ 127 - 1))) (negsuc (min m (2 ^ 127 - 1))) (omega (arith, ints))
+nearest_above-mono (pos n) (negsuc m) h = absurd (omega (arith, ints))
+nearest_above-mono y (pos m) h = go (nat_lt m (2 ^ 127)) refl
   where
     known : (y : ℤ) → y ≤ℤ pos m → m < 2 ^ 127 → ends_within (nearest_above y) (Some (int (pos m))) ≡ true
-    known (negsuc n) h k = from_le _ _ (omega (arith, ints))
-    known (pos n) h k = rw (lt-ltb n (2 ^ 127) (omega (arith, ints))) (from_le _ _ h)
+    known (negsuc n) h k = from_le (negsuc (min n (2 ^ 127 - 1))) (pos m) (omega (arith, ints))
+    known (pos n) h k = rw (lt-ltb n (2 ^ 127) (omega (arith, ints))) (from_le (pos n) (pos m) h)
 
     go : (b : Bool) → nat_lt m (2 ^ 127) ≡ b → ends_within (nearest_above y) (if b then Some (int (pos m)) else None) ≡ true
     go false e = refl
