@@ -2,7 +2,7 @@
 use Rattle.std.specs.Prelude.{ℕ, Bool, true, false, List, [], ◌++◌, codes}
 use Rattle.vx_dtype.specs.declared.dtype.PType.{PType}
 use Rattle.vx_dtype.specs.declared.dtype.PType.TheVariants.{U8, U16, U32, U64, I8, I16, I32, I64}
-use Rattle.vx_value.specs.Types.{truth, number, text, octets, LogicalType, ty, atomic, list, fixed, struct}
+use Rattle.vx_value.specs.Types.{Atomic, truth, number, decimals, date, timestamp, text, octets, LogicalType, ty, atomic, list, fixed, struct}
 use Rattle.vx_sql.specs.declared.dialect.Dialect.{Dialect}
 use Rattle.vx_sql.specs.declared.dialect.Dialect.TheVariants.{Postgres, Sqlite, DuckDb, Spark, ClickHouse}
 
@@ -80,10 +80,13 @@ octets_word DuckDb = codes "BLOB"
 octets_word Spark = codes "BINARY"
 octets_word ClickHouse = codes "String"
 
--- the engine's type of such values, none of lists and structs
+-- the engine's type of such values: none of decimals, days and instants, nor of lists and structs
 abbrev pub type_word : Dialect → LogicalType → List ℕ
 type_word d (ty (atomic truth) n) = truth_word d
 type_word d (ty (atomic (number p)) n) = number_word d p
+type_word d (ty (atomic (decimals p s)) n) = []
+type_word d (ty (atomic date) n) = []
+type_word d (ty (atomic (timestamp u z)) n) = []
 type_word d (ty (atomic text) n) = text_word d
 type_word d (ty (atomic octets) n) = octets_word d
 type_word d (ty (list t) n) = []
@@ -102,21 +105,39 @@ collation DuckDb = []
 collation Spark = []
 collation ClickHouse = []
 
--- whether the engine has values of the type: SQLite has no numbers from 2 ^ 63 on, no lists and no structs, and ClickHouse has
--- neither lists nor structs that may be null
+-- whether the engine has all numbers of the type: SQLite has none from 2 ^ 63 on
+abbrev pub has_numbers : Dialect → PType → Bool
+has_numbers Postgres p = true
+has_numbers Sqlite U64 = false
+has_numbers Sqlite p = true
+has_numbers DuckDb p = true
+has_numbers Spark p = true
+has_numbers ClickHouse p = true
+
+-- whether the engine has such values as ours: its decimals, days and instants are of other ranges, or have values that ours lack
+abbrev pub has_atomic : Dialect → Atomic → Bool
+has_atomic d truth = true
+has_atomic d (number p) = has_numbers d p
+has_atomic d (decimals p s) = false
+has_atomic d date = false
+has_atomic d (timestamp u z) = false
+has_atomic d text = true
+has_atomic d octets = true
+
+-- whether the engine has lists and structs: SQLite has none, and ClickHouse none that may be null
+abbrev pub has_parts : Dialect → Bool
+has_parts Postgres = true
+has_parts Sqlite = false
+has_parts DuckDb = true
+has_parts Spark = true
+has_parts ClickHouse = false
+
+-- whether the engine has values of the type; what the parts of lists and structs are is asked where they are taken out
 abbrev pub has_type : Dialect → LogicalType → Bool
-has_type Sqlite (ty (atomic (number U64)) n) = false
-has_type Sqlite (ty (atomic p) n) = true
-has_type Sqlite (ty (list t) n) = false
-has_type Sqlite (ty (fixed t k) n) = false
-has_type Sqlite (ty (struct fs) n) = false
-has_type ClickHouse (ty (atomic p) n) = true
-has_type ClickHouse (ty (list t) n) = false
-has_type ClickHouse (ty (fixed t k) n) = false
-has_type ClickHouse (ty (struct fs) n) = false
-has_type Postgres t = true
-has_type DuckDb t = true
-has_type Spark t = true
+has_type d (ty (atomic p) n) = has_atomic d p
+has_type d (ty (list t) n) = has_parts d
+has_type d (ty (fixed t k) n) = has_parts d
+has_type d (ty (struct fs) n) = has_parts d
 
 -- whether the engine makes structs of values
 abbrev pub makes_structs : Dialect → Bool

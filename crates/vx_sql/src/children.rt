@@ -103,10 +103,11 @@ fn is_struct(dtype: &DType) -> bool
 pub(crate) fn is_atomic(dtype: &DType) -> bool
     ensures { result ≡ is_atomic (type_of dtype.now) }
 {
-    matches!(
-        dtype,
-        DType::Bool(_) | DType::Primitive(..) | DType::Utf8(_) | DType::Binary(_)
-    )
+    match dtype {
+        DType::Bool(_) | DType::Utf8(_) | DType::Binary(_) => true,
+        DType::Primitive(..) | DType::Decimal(..) | DType::Date(_) | DType::Timestamp(..) => true,
+        DType::List(..) | DType::FixedSizeList(..) | DType::Struct(..) => false,
+    }
 }
 
 /// The literal that the tree is.

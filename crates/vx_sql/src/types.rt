@@ -1,12 +1,12 @@
 // What the engines call their types.
 ghost use Rattle.std.specs.Prelude.{◌≡◌};
 ghost use Rattle.vx_value.specs.Views.{type_of};
-ghost use Rattle.vx_sql.specs.Dialects.{postgres_word, duckdb_word, spark_word, clickhouse_word, number_word, truth_word, text_word, octets_word, type_word, collation, has_type, makes_structs};
+ghost use Rattle.vx_sql.specs.Dialects.{postgres_word, duckdb_word, spark_word, clickhouse_word, number_word, truth_word, text_word, octets_word, type_word, collation, has_numbers, has_parts, has_type, makes_structs};
 
 use crate::Dialect;
 use vx_types::{DType, PType};
 
-/// The engine's type of such values, none of lists and structs.
+/// The engine's type of such values: none of decimals, days and instants, nor of lists and structs.
 pub(crate) fn type_word(dialect: Dialect, dtype: &DType) -> &'static str
     ensures { result.now ≡ type_word dialect (type_of dtype.now) }
 {
@@ -15,6 +15,7 @@ pub(crate) fn type_word(dialect: Dialect, dtype: &DType) -> &'static str
         DType::Primitive(p, _) => number_word(dialect, *p),
         DType::Utf8(_) => text_word(dialect),
         DType::Binary(_) => octets_word(dialect),
+        DType::Decimal(..) | DType::Date(_) | DType::Timestamp(..) => "",
         DType::List(..) | DType::FixedSizeList(..) | DType::Struct(..) => "",
     }
 }
@@ -134,20 +135,34 @@ pub(crate) fn collation(dialect: Dialect) -> &'static str
     }
 }
 
-/// Whether the engine has values of the type.
+/// Whether the engine has such values as ours: none has our decimals, days and instants.
 pub(crate) fn has_type(dialect: Dialect, dtype: &DType) -> bool
     ensures { result ≡ has_type dialect (type_of dtype.now) }
 {
+    match dtype {
+        DType::Bool(_) | DType::Utf8(_) | DType::Binary(_) => true,
+        DType::Primitive(p, _) => has_numbers(dialect, *p),
+        DType::Decimal(..) | DType::Date(_) | DType::Timestamp(..) => false,
+        DType::List(..) | DType::FixedSizeList(..) | DType::Struct(..) => has_parts(dialect),
+    }
+}
+
+// Whether the engine has all numbers of the type: SQLite has none from 2 ^ 63 on.
+fn has_numbers(dialect: Dialect, p: PType) -> bool
+    ensures { result ≡ has_numbers dialect p }
+{
     match dialect {
-        Dialect::Sqlite => match dtype {
-            DType::Primitive(p, _) => !matches!(p, PType::U64),
-            DType::Bool(_) | DType::Utf8(_) | DType::Binary(_) => true,
-            DType::List(..) | DType::FixedSizeList(..) | DType::Struct(..) => false,
-        },
-        Dialect::ClickHouse => match dtype {
-            DType::Bool(_) | DType::Primitive(..) | DType::Utf8(_) | DType::Binary(_) => true,
-            DType::List(..) | DType::FixedSizeList(..) | DType::Struct(..) => false,
-        },
+        Dialect::Sqlite => !matches!(p, PType::U64),
+        Dialect::Postgres | Dialect::DuckDb | Dialect::Spark | Dialect::ClickHouse => true,
+    }
+}
+
+// Whether the engine has lists and structs: SQLite has none, and ClickHouse none that may be null.
+fn has_parts(dialect: Dialect) -> bool
+    ensures { result ≡ has_parts dialect }
+{
+    match dialect {
+        Dialect::Sqlite | Dialect::ClickHouse => false,
         Dialect::Postgres | Dialect::DuckDb | Dialect::Spark => true,
     }
 }
