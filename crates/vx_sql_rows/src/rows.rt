@@ -57,14 +57,15 @@ pub fn row(alloc: Global, kinds: &[Kind], seeds: &mut Seeds) -> Result<Vec<Value
     Ok(values)
 }
 
-/// The statements that make the table and fill it, told without the texts of `vx_sql`.
+/// The statements that make the table and fill it, told without the texts of `vx_sql`. Refuses columns of
+/// types that no engine's table has as we mean them.
 pub fn push_table(
     alloc: Global,
     dialect: Dialect,
     fields: &StructFields,
     rows: &[Value],
     out: &mut String,
-) -> Result<(), AllocError> {
+) -> Result<(), Unread> {
     if has_pairs(dialect) {
         out.push_str("CREATE TYPE pair AS (f integer, g text);\n")?;
     }
@@ -126,58 +127,68 @@ fn push_column_type(
     dialect: Dialect,
     dtype: &DType,
     out: &mut String,
-) -> Result<(), AllocError> {
+) -> Result<(), Unread> {
     if !is_clickhouse(dialect) {
-        return out.push_str(column_type(dialect, dtype));
+        return Ok(out.push_str(column_type(dialect, dtype)?)?);
     }
-    let word = clickhouse_type(dtype);
+    let word = clickhouse_type(dtype)?;
     let told = if dtype.is_nullable() {
         format!(in alloc; "Nullable({word})")?
     } else {
         format!(in alloc; "{word}")?
     };
-    out.push_str(told.as_str())
+    Ok(out.push_str(told.as_str())?)
 }
 
-fn clickhouse_type(dtype: &DType) -> &'static str {
+// No engine's decimals, days and instants are ours, so that no engine is asked about a table of them.
+const NO_COLUMN: Unread = Unread::Word("no engine's table has such a column");
+
+fn clickhouse_type(dtype: &DType) -> Result<&'static str, Unread> {
     match dtype {
-        DType::Bool(_) => "UInt8",
-        DType::Primitive(p, _) => match p {
-            PType::U8 => "UInt8",
-            PType::U16 => "UInt16",
-            PType::U32 => "UInt32",
-            PType::U64 => "UInt64",
-            PType::I8 => "Int8",
-            PType::I16 => "Int16",
-            PType::I32 => "Int32",
-            PType::I64 => "Int64",
-        },
+        DType::Bool(_) => Ok("UInt8"),
+        DType::Primitive(p, _) => Ok(clickhouse_number(*p)),
+        DType::Decimal(..) | DType::Date(_) | DType::Timestamp(..) => Err(NO_COLUMN),
         DType::Utf8(_)
         | DType::Binary(_)
         | DType::List(..)
         | DType::FixedSizeList(..)
-        | DType::Struct(..) => "String",
+        | DType::Struct(..) => Ok("String"),
     }
 }
 
-fn column_type(dialect: Dialect, dtype: &DType) -> &'static str {
+fn clickhouse_number(p: PType) -> &'static str {
+    match p {
+        PType::U8 => "UInt8",
+        PType::U16 => "UInt16",
+        PType::U32 => "UInt32",
+        PType::U64 => "UInt64",
+        PType::I8 => "Int8",
+        PType::I16 => "Int16",
+        PType::I32 => "Int32",
+        PType::I64 => "Int64",
+    }
+}
+
+fn column_type(dialect: Dialect, dtype: &DType) -> Result<&'static str, Unread> {
     let is_sqlite = is_sqlite(dialect);
     match dtype {
-        DType::Bool(_) => "boolean",
-        DType::Primitive(p, _) => {
-            if is_sqlite {
-                return "integer";
-            }
-            match p {
-                PType::U8 | PType::I8 | PType::I16 => "smallint",
-                PType::U16 | PType::I32 => "integer",
-                PType::U32 | PType::I64 => "bigint",
-                PType::U64 => "numeric(20, 0)",
-            }
-        }
-        DType::Utf8(_) => "text",
-        DType::Binary(_) => { if is_sqlite { "blob" } else { "bytea" } }
-        DType::List(..) | DType::FixedSizeList(..) | DType::Struct(..) => "pair",
+        DType::Bool(_) => Ok("boolean"),
+        DType::Primitive(..) if is_sqlite => Ok("integer"),
+        DType::Primitive(p, _) => Ok(number_type(*p)),
+        DType::Decimal(..) | DType::Date(_) | DType::Timestamp(..) => Err(NO_COLUMN),
+        DType::Utf8(_) => Ok("text"),
+        DType::Binary(_) => Ok(if is_sqlite { "blob" } else { "bytea" }),
+        DType::List(..) | DType::FixedSizeList(..) | DType::Struct(..) => Ok("pair"),
+    }
+}
+
+// PostgreSQL's type, by which the tables of others are told, too.
+fn number_type(p: PType) -> &'static str {
+    match p {
+        PType::U8 | PType::I8 | PType::I16 => "smallint",
+        PType::U16 | PType::I32 => "integer",
+        PType::U32 | PType::I64 => "bigint",
+        PType::U64 => "numeric(20, 0)",
     }
 }
 
