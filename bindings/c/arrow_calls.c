@@ -139,7 +139,7 @@ static void test_days(void)
 {
     static const int32_t DAYS[] = {19753, 0, -1};
     static const int64_t INSTANTS[] = {1706696130250, 0, -1};
-    static const __int128 UNITS[] = {950, 0, -5};
+    static const int64_t UNITS[][2] = {{950, 0}, {0, 0}, {-5, -1}}; /* (the low half first) */
     static const unsigned char VALID[] = {5};
     const void *none[] = {NULL}, *buffers[3][2] = {{VALID, DAYS}, {VALID, INSTANTS}, {VALID, UNITS}};
     const char *formats[] = {"tdD", "tsm:UTC", "d:4,2"}, *names[] = {"d", "t", "p"};
