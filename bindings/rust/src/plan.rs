@@ -128,7 +128,7 @@ impl Plan {
     /// | Type | Buffers |
     /// |---|---|
     /// | `bool`, numbers | validity, values |
-    /// | `date`; `timestamp(..)`; `decimal(..)` | validity, days in 32 bits; units in 64; units in 128 |
+    /// | `date`, `timestamp(..)`, `decimal(..)` | validity, values of 32, 64 and 128 bits |
     /// | `utf8`, `binary` | validity, offsets of 32 bits, bytes |
     /// | `list` | validity, offsets of 32 bits, the buffers of the items |
     /// | `fixed_size_list` | validity, the buffers of the items |
