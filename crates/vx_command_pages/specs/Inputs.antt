@@ -82,7 +82,7 @@ IsReadUpTo text schema at expected = IsReadOpen 200 text × StopsReadingType sch
 
 -- the same as a refusal of the text
 abbrev pub misfit_of : UnfitLiteral → OverError
-misfit_of literal = Misfit literal.span.start literal.span.end literal.value literal.dtype
+misfit_of literal = Misfit literal.span.start literal.span.end literal.scalar literal.dtype
 
 -- the text is refused so over rows of type s
 abbrev pub IsRefusedOver : List ℕ → LogicalType → CommandError → Type 0

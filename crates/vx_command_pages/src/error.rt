@@ -6,15 +6,15 @@ use crate::remedy::Remedy;
 use crate::report::Span;
 use std::alloc::{AllocError, AllocFailed};
 use vx_source::Expected;
-use vx_tree::{DType, Value, VortexError};
+use vx_tree::{DType, Scalar, VortexError};
 
 /// A literal that was written without a type, and is none of the type that it takes from what it stands beside.
 #[derive(Debug, Drop)]
 pub struct UnfitLiteral {
     /// Its bytes.
     pub span: Span,
-    /// Its value.
-    pub value: Value,
+    /// What was written, before it has a type: a number with a point is a decimal.
+    pub scalar: Scalar,
     /// That type.
     pub dtype: DType,
 }

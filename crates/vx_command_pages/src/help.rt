@@ -32,14 +32,6 @@ pub(crate) fn help_for_unread(text: &str, at: usize) -> Option<&'static str> {
         b'~' => Some("match a text by `like`, as in s like \"a%\""),
         b';' => Some("leave the `;` out: a text is one expression"),
         b'[' => Some("there are no subscripts: a field is named, as in x.y"),
-        b'0'..=b'9' if is_behind_point(bytes, at) => Some(
-            "numbers are whole, as in x > 5; beside a decimal one with a point stands in quotes, as in x > \"5.5\"",
-        ),
         _ => None,
     }
-}
-
-fn is_behind_point(bytes: &[u8], at: usize) -> bool {
-    let before = at.checked_sub(1).and_then(|place| bytes.get(place));
-    matches!(before, Some(b'.'))
 }

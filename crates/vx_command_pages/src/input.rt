@@ -78,11 +78,11 @@ fn unsettled(alloc: Global, error: OverError) -> CommandError
         OverError::Misfit {
             start,
             end,
-            value,
+            scalar,
             dtype,
         } => {
             let span = Span { start, end };
-            match Box::new(alloc, UnfitLiteral { span, value, dtype }) {
+            match Box::new(alloc, UnfitLiteral { span, scalar, dtype }) {
                 Ok(literal) => CommandError::Unfit(literal),
                 Err(_) => CommandError::OutOfMemory,
             }

@@ -3,7 +3,7 @@ use crate::error::UnfitLiteral;
 use std::fmt;
 use std::fmt::{Display, Formatter, Write};
 use vx_source::TypeText;
-use vx_tree::{DType, Value};
+use vx_tree::{DType, Scalar, Value};
 
 /// The literal, as the text has it, and the type.
 #[derive(Clone, Copy)]
@@ -24,13 +24,16 @@ impl Display for UnfitText<'_> {
 
 /// What would do in place of the literal.
 pub(crate) fn help_for_unfit(literal: &UnfitLiteral) -> &'static str {
-    match (&literal.dtype, &literal.value) {
+    match (&literal.dtype, literal.scalar.value()) {
+        (DType::Primitive(..), Value::Int(_)) if is_decimal(&literal.scalar) => {
+            "what it stands beside is whole numbers: write one without a point, as in x > 5"
+        }
         (DType::Primitive(..), Value::Int(_)) => {
             "it takes the type of what it stands beside: say a wider one in the schema, as i64"
         }
         (DType::Primitive(..), _) => "what it stands beside is a number: write one, as in x > 5",
         (DType::Decimal(..), _) => {
-            "what it stands beside is a decimal: write a number that it holds, as in x > \"12.50\""
+            "what it stands beside is a decimal: write a number that it holds, as in x > 12.50"
         }
         (DType::Date(_), _) => {
             "what it stands beside is a date: write one, as in x > \"2024-01-31\""
@@ -50,4 +53,9 @@ pub(crate) fn help_for_unfit(literal: &UnfitLiteral) -> &'static str {
             "what it stands beside is a list or a struct: write its type, as in [1, 2]::list(i32)"
         }
     }
+}
+
+// Whether it is a number with a point.
+fn is_decimal(scalar: &Scalar) -> bool {
+    matches!(scalar.dtype(), DType::Decimal(..))
 }

@@ -57,7 +57,7 @@ pub(crate) fn number_texts<D: Read + Drop>(
     records: GuessedRecords<'_, D>,
 ) -> Option<NumberTexts> {
     if !matches!(
-        (&literal.dtype, &literal.value),
+        (&literal.dtype, literal.scalar.value()),
         (DType::Utf8(_), Value::Int(_))
     ) {
         return None;

@@ -1,5 +1,5 @@
 -- What begins an operand: the scope root, a field, a value, a function, a CASE, or a bracket.
-use Rattle.std.specs.Prelude.{ℕ, zero, suc, ◌+◌, true, false, List, [], ◌∷◌, ◌++◌, Option, Some, None, Result, Ok, Err, codes}
+use Rattle.std.specs.Prelude.{ℕ, zero, suc, ◌+◌, ◌==◌, if◌then◌else◌, true, false, List, [], ◌∷◌, ◌++◌, Option, Some, None, Result, Ok, Err, codes}
 use Rattle.std.specs.Str.{bytes_eq}
 use Rattle.vx_value.specs.Columns.{Constant}
 use Rattle.vx_value.specs.Types.{Name, LogicalType, Datum}
@@ -8,7 +8,7 @@ use Rattle.vx_tree.specs.Trees.{Tree, root}
 use Rattle.vx_source_types.specs.declared.expectation.Expected.{Expected}
 use Rattle.vx_source_types.specs.declared.expectation.Expected.TheVariants.{Operand, OperandOrParens, Name as AName, Value, Number, FieldValue, FittingType, Function as AFunction, Options, OpenParen as AParen, CloseParen as TheParen, CloseBracket as TheBracket, When as WhenWord}
 use Rattle.vx_source_types.specs.declared.token.Sign.TheVariants.{OpenParen, CloseParen, OpenBracket, CloseBracket, OpenBrace, Colon, DoubleColon, Dot, Question, Plus, Dollar}
-use Rattle.vx_source_types.specs.Tokens.{Lexeme, word, quoted, number as numeral, text, octets, sign, end, invalid}
+use Rattle.vx_source_types.specs.Tokens.{Lexeme, word, quoted, number as numeral, point, text, octets, sign, end, invalid, next}
 use Rattle.vx_source_types.specs.Names.{name_at, same_word}
 use Rattle.vx_source_types.specs.Reading.{Goes, more, done, refused}
 use Rattle.vx_source_types.specs.TypeReading.{TypeState, type_start, within}
@@ -36,11 +36,11 @@ literal_before fs r x (Err e) = Err e
 
 -- how a value is read that no type follows
 abbrev pub PlainReading : Type 0
-PlainReading = Datum → Result Constant Expected
+PlainReading = Drafted → Result Constant Expected
 
 abbrev pub value_ends : PlainReading → List Frame → ℕ → Drafted → Lexeme → ExpressionAnswer
 value_ends plain fs r d (sign DoubleColon) = goes fs (in_type (for_literal d) (type_start r)) r
-value_ends plain fs r d x = literal_before fs r x (plain d.value)
+value_ends plain fs r d x = literal_before fs r x (plain d)
 
 abbrev pub value_goes : PlainReading → List Frame → ℕ → Lexeme → Result (Goes ValueState Drafted) Expected → ExpressionAnswer
 value_goes plain fs r x (Ok (more s)) = goes fs (in_value s) r
@@ -109,13 +109,15 @@ begins fs r (sign Plus) = goes fs at_plus r
 begins fs r (sign OpenBracket) = value_begins fs r (sign OpenBracket)
 begins fs r (sign OpenBrace) = value_begins fs r (sign OpenBrace)
 begins fs r (numeral negative magnitude suffix) = number_begins fs r (numeral negative magnitude suffix) (suffixed (numeral negative magnitude suffix))
+begins fs r (point s) = value_begins fs r (point s)
 begins fs r (text s) = value_begins fs r (text s)
 begins fs r (octets bs) = value_begins fs r (octets bs)
 begins fs r x = refused x Operand
 
--- a number behind a `+` with which an operand begins
+-- a number behind a `+` with which an operand begins, which is not below zero
 abbrev pub plus_at : List Frame → ℕ → Lexeme → ExpressionAnswer
 plus_at fs r (numeral false magnitude suffix) = number_begins fs r (numeral false magnitude suffix) (suffixed (numeral false magnitude suffix))
+plus_at fs r (point s) = if next s == 45 then Err Operand else value_begins fs r (point s)
 plus_at fs r x = refused x Operand
 
 -- ---- functions by name

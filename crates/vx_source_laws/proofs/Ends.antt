@@ -63,7 +63,7 @@ value_stops s t = λ e. scalar_stops 0 (in_scalar_value s) (in_scalar_value t) (
 
 value_ended : (plain : PlainReading) (fs : List Frame) (r : ℕ) (a : Result (Goes ValueState Drafted) Expected) → ((t : ValueState) → ¬ (a ≡ Ok (more t))) → Ends (value_goes plain fs r end a)
 value_ended plain fs r (Ok (more s)) h = absurd (h s refl)
-value_ended plain fs r (Ok (done d)) h = literal_ends fs r (plain d.value)
+value_ended plain fs r (Ok (done d)) h = literal_ends fs r (plain d)
 value_ended plain fs r (Err e) h = λ u q. (cc)
 
 type_ended : (fs : List Frame) (r : ℕ) (wanted : TypeFor) (a : Result (Goes TypeState LogicalType) Expected) → ((t : TypeState) → ¬ (a ≡ Ok (more t))) → Ends (type_goes fs r wanted end a)

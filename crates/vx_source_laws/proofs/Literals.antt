@@ -16,10 +16,10 @@ use Rattle.vx_fn.specs.Functions.{literal}
 use Rattle.vx_tree.specs.Trees.{call, no_tree}
 use Rattle.vx_source_types.specs.Characters.{is_word}
 use Rattle.vx_source_types.specs.declared.token.Sign.TheVariants.{OpenBracket, OpenBrace, CloseParen, DoubleColon}
-use Rattle.vx_source_types.specs.Tokens.{Lexeme, word, number as numeral, text as text_token, octets as octets_token, sign, next, first}
+use Rattle.vx_source_types.specs.Tokens.{Lexeme, word, number as numeral, point as point_token, text as text_token, octets as octets_token, sign, next, first}
 use Rattle.vx_dtype.proofs.Choice.{no}
 use Rattle.vx_source_types.specs.declared.expectation.Expected.TheVariants.{Value}
-use Rattle.vx_source_types.proofs.FirstNumbers.{is_more, first_number, first_below_zero}
+use Rattle.vx_source_types.proofs.FirstNumbers.{IsApart, first_number, first_below_zero}
 use Rattle.vx_source_types.specs.Names.{same_word}
 use Rattle.vx_source_types.specs.Reading.{more, Leads, stays, leads}
 use Rattle.vx_source_types.specs.TypePrintable.{IsPrintable}
@@ -29,7 +29,7 @@ use Rattle.vx_source_types.specs.ScalarReading.{suffixed}
 use Rattle.vx_source_types.specs.ScalarTexts.{value_source}
 use Rattle.vx_source_types.specs.ScalarPrintable.{value_nesting, IsSpelledValue}
 use Rattle.vx_source_types.specs.Untyped.{untyped}
-use Rattle.vx_source_types.specs.ValueReading.{Drafted, ValueState, whole_value, simple_begins, value_start, value_step, word_value}
+use Rattle.vx_source_types.specs.ValueReading.{Drafted, drafted, ValueState, whole_value, simple_begins, value_start, value_step, word_value}
 use Rattle.vx_source_types.proofs.ValuesAgain.{Follows, names_after, value_again, fits_small, fits_below_zero}
 use Rattle.vx_source_grammar.specs.Beginning.{begins, word_begins, value_begun, number_begins, first_child_at, literal_before, value_ends, value_goes}
 use Rattle.vx_source_grammar.specs.Following.{follows}
@@ -87,6 +87,7 @@ word_taken fs r w s None p q = let refused : value_step (value_start r) (word w)
 value_due : (fs : List Frame) (r : ℕ) (x : Lexeme) (s : ValueState) → suffixed x ≡ None → value_step (value_start r) x ≡ Ok (more s) → begins fs r x ≡ Ok (more (at fs (in_value s) r))
 value_due fs r (word w) s n q = begun_word fs r w s (word_taken fs r w s (word_value w) refl q) q
 value_due fs r (numeral negative magnitude suffix) s n q = ap (number_begins fs r (numeral negative magnitude suffix)) n ∙ ap (value_begun fs r (numeral negative magnitude suffix)) q
+value_due fs r (point_token t) s n q = ap (value_begun fs r (point_token t)) q
 value_due fs r (text_token t) s n q = ap (value_begun fs r (text_token t)) q
 value_due fs r (octets_token bs) s n q = ap (value_begun fs r (octets_token bs)) q
 value_due fs r (sign OpenBracket) s n q = ap (value_begun fs r (sign OpenBracket)) q
@@ -116,7 +117,7 @@ pub fitted : (t : LogicalType) (v : Datum) → Fits v t → fitting t v ≡ Some
 fitted t v f = ap (λ b. if b then Some (constant t v) else None) f
 
 -- a value, and what is read behind it
-pub literal_of : (v : Datum) (t : LogicalType) (fs : List Frame) (r : ℕ) (behind rest : List ℕ) (last : ExpressionState) → Fits v t → IsSpelledValue v → IsPrintable t → value_nesting v ≤ r → Follows behind
+pub literal_of : (v : Datum) (t : LogicalType) (fs : List Frame) (r : ℕ) (behind rest : List ℕ) (last : ExpressionState) → Fits v t → IsSpelledValue v → IsPrintable t → value_nesting v ≤ r → Follows v behind
     → Goes (at fs (in_value (read_value v t r)) r) behind last rest → IsBehind fs r (call (literal t v) no_tree) last
     → Reads fs r (call (literal t v) no_tree) (value_source v t ++ behind) rest
 literal_of v t fs r behind rest last f u w h e g b =
@@ -135,16 +136,16 @@ literal_of v t fs r behind rest last f u w h e g b =
 
 -- ---- a value alone
 
-no_type : (fs : List Frame) (r : ℕ) (d : Drafted) (x : Lexeme) → is_suffix x ≡ false → value_ends plain_literal fs r d x ≡ literal_before fs r x (plain_literal d.value)
+no_type : (fs : List Frame) (r : ℕ) (d : Drafted) (x : Lexeme) → is_suffix x ≡ false → value_ends plain_literal fs r d x ≡ literal_before fs r x (plain_literal d)
 no_type fs r d (sign DoubleColon) p = cc
 no_type fs r d x p = refl
 
-value_alone : (v : Datum) (t : LogicalType) (fs : List Frame) (r : ℕ) → plain_literal (untyped v t) ≡ Ok (constant t v) → 0 < r → IsBehind fs r (call (literal t v) no_tree) (at fs (in_value (read_value v t r)) r)
-value_alone v t fs r q h x p = no_type fs r (record { value = untyped v t; names = names_after [] v t }) x p ∙ (ap (literal_before fs r x) q ∙ literal_is fs r t v x h)
+value_alone : (v : Datum) (t : LogicalType) (fs : List Frame) (r : ℕ) → plain_literal (drafted (untyped v t) (names_after [] v t)) ≡ Ok (constant t v) → 0 < r → IsBehind fs r (call (literal t v) no_tree) (at fs (in_value (read_value v t r)) r)
+value_alone v t fs r q h x p = no_type fs r (drafted (untyped v t) (names_after [] v t)) x p ∙ (ap (literal_before fs r x) q ∙ literal_is fs r t v x h)
 
-pub alone_again : (v : Datum) (t : LogicalType) (fs : List Frame) (r : ℕ) (rest : List ℕ) → Fits v t → IsSpelledValue v → IsPrintable t → value_nesting v ≤ r → 0 < r → plain_literal (untyped v t) ≡ Ok (constant t v) → Ends rest
+pub alone_again : (v : Datum) (t : LogicalType) (fs : List Frame) (r : ℕ) (rest : List ℕ) → Fits v t → IsSpelledValue v → IsPrintable t → value_nesting v ≤ r → 0 < r → plain_literal (drafted (untyped v t) (names_after [] v t)) ≡ Ok (constant t v) → ((i : ℤ) → v ≡ int i → ⊥) → Ends rest
     → Reads fs r (call (literal t v) no_tree) (value_source v t ++ rest) rest
-alone_again v t fs r rest f u w h l q m = literal_of v t fs r rest rest _ f u w h (ends_word rest m, ends_text rest m) stays (value_alone v t fs r q l)
+alone_again v t fs r rest f u w h l q n m = literal_of v t fs r rest rest _ f u w h (ends_word rest m, ends_text rest m, λ i e. absurd (n i e)) stays (value_alone v t fs r q l)
 
 -- ---- a number with its type's name behind it
 
@@ -159,15 +160,15 @@ suffix_is I32 negative n = refl
 suffix_is I64 negative n = refl
 
 -- a suffix begins with a letter that no number has, and is a word
-pub suffix_apart : (p : PType) (rest : List ℕ) → (is_more (next (ptype_text p ++ rest)) ≡ false) × ((next (ptype_text p ++ rest) == 120) ≡ false) × (list_all is_word (ptype_text p) ≡ true)
-suffix_apart U8 rest = (refl, refl, refl)
-suffix_apart U16 rest = (refl, refl, refl)
-suffix_apart U32 rest = (refl, refl, refl)
-suffix_apart U64 rest = (refl, refl, refl)
-suffix_apart I8 rest = (refl, refl, refl)
-suffix_apart I16 rest = (refl, refl, refl)
-suffix_apart I32 rest = (refl, refl, refl)
-suffix_apart I64 rest = (refl, refl, refl)
+pub suffix_apart : (p : PType) (rest : List ℕ) → IsApart (ptype_text p ++ rest) × ((next (ptype_text p ++ rest) == 120) ≡ false) × (list_all is_word (ptype_text p) ≡ true)
+suffix_apart U8 rest = ((refl, refl), refl, refl)
+suffix_apart U16 rest = ((refl, refl), refl, refl)
+suffix_apart U32 rest = ((refl, refl), refl, refl)
+suffix_apart U64 rest = ((refl, refl), refl, refl)
+suffix_apart I8 rest = ((refl, refl), refl, refl)
+suffix_apart I16 rest = ((refl, refl), refl, refl)
+suffix_apart I32 rest = ((refl, refl), refl, refl)
+suffix_apart I64 rest = ((refl, refl), refl, refl)
 
 -- a number whose token is known
 number_read : (p : PType) (i : ℤ) (fs : List Frame) (r : ℕ) (bs rest : List ℕ) (negative : Bool) (n : ℕ) → first bs ≡ (numeral negative (Some n) (ptype_text p), rest) → ranged negative (Some n) (Some p) ≡ fitting (ty (atomic (number p)) false) (int i)

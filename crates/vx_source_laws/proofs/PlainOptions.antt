@@ -135,7 +135,7 @@ case_options pairs has_else room rest h =
           of_collected_text grouped
           (one_token {m = 0} refl refl (one_token {m = 0} refl refl (one_token {m = 0} refl refl
           (one_token {m = 0} (first_equal (decimal pairs ++ behind) (no_equal (decimal pairs) behind digits.1 digits.2)) refl
-          (one_token {m = 0} (first_number pairs [] behind (omega arith) refl refl refl refl) refl (else_collected has_else rest))))));
+          (one_token {m = 0} (first_number pairs [] behind (omega arith) (refl, refl) refl refl refl) refl (else_collected has_else rest))))));
       read = case_read_back pairs has_else room h;
     }
 

@@ -91,16 +91,16 @@ of_taken_text : {S A : Type 0} (step : Step S A) {n k : ℕ} {s u : S} {bs cs ds
 of_taken_text step {n} {k} {s} {u} {bs} {cs} {ds} {xs} q h = subst (λ zs. Taken step n s zs xs k u ds) (sym q) h
 
 -- a value inside a scalar
-value_taken : (v : Datum) (t : LogicalType) (room : ℕ) (behind : List ℕ) → Fits v t → IsSpelledValue v → IsPrintable t → value_nesting v ≤ room → Follows behind
+value_taken : (v : Datum) (t : LogicalType) (room : ℕ) (behind : List ℕ) → Fits v t → IsSpelledValue v → IsPrintable t → value_nesting v ≤ room → Follows v behind
     → (xs : List Lexeme) × Taken (scalar_step room) 0 scalar_due (value_source v t ++ behind) xs 0 (in_value (read_value v t room)) behind
 value_taken v t room behind f u w h e =
     let it = value_again v t [] [] room behind f u w h e in
     let rest = embedded value_step (scalar_step room) in_value value_brackets (λ a b x q. ap (value_after room x) q) value_counted it.goes in
     (it.token ∷ rest.0, one_taken it.found (ap (scalar_begins room it.token) it.bare ∙ ap (value_begun it.token) it.taken) (value_counted (value_start room) it.state it.token it.taken) rest.1)
 
-alone_options : (v : Datum) (t : LogicalType) (room : ℕ) (rest : List ℕ) → Fits v t → IsSpelledValue v → IsPrintable t → value_nesting v ≤ room → type_behind t ≡ [] → plain_literal (untyped v t) ≡ Ok (constant t v) → AreOptions (literal t v) (codes "literal") room rest
+alone_options : (v : Datum) (t : LogicalType) (room : ℕ) (rest : List ℕ) → Fits v t → IsSpelledValue v → IsPrintable t → value_nesting v ≤ room → type_behind t ≡ [] → plain_literal (draft v t) ≡ Ok (constant t v) → AreOptions (literal t v) (codes "literal") room rest
 alone_options v t room rest f u w h q l =
-    let taken = value_taken v t room (93 ∷ rest) f u w h (refl, refl) in
+    let taken = value_taken v t room (93 ∷ rest) f u w h (refl, refl, λ i e. refl) in
     let grouped : (value_source v t ++ type_behind t) ++ 93 ∷ rest ≡ value_source v t ++ 93 ∷ rest = ap (λ xs. (value_source v t ++ xs) ++ 93 ∷ rest) q ∙ ap (λ xs. xs ++ 93 ∷ rest) (append-nil (value_source v t)) in
     scalar_options t v room rest taken.0 (in_value (read_value v t room)) (of_taken_text (scalar_step room) grouped taken.1) (ap ended l)
 
@@ -108,7 +108,7 @@ typed_options : (v : Datum) (t : LogicalType) (room : ℕ) (rest : List ℕ) →
     → AreOptions (literal t v) (codes "literal") room rest
 typed_options v t room rest f u w h k q =
     let behind : List ℕ = 58 ∷ 58 ∷ (type_source t ++ 93 ∷ rest) in
-    let value = value_taken v t room behind f u w h (refl, refl) in
+    let value = value_taken v t room behind f u w h (refl, refl, λ i e. refl) in
     let type = type_taken (scalar_step room) (in_type (draft v t)) t room (93 ∷ rest) (λ a b x p. ap (type_after (draft v t)) p) w k refl in
     let grouped : (value_source v t ++ type_behind t) ++ 93 ∷ rest ≡ value_source v t ++ behind = append_assoc (value_source v t) (type_behind t) (93 ∷ rest) ∙ ap (λ xs. value_source v t ++ (xs ++ 93 ∷ rest)) q in
     scalar_options t v room rest _ (in_type (draft v t) (read_type t room))

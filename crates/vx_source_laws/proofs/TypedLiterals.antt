@@ -17,7 +17,7 @@ use Rattle.vx_source_types.specs.ScalarReading.{scalar_due, in_value as in_scala
 use Rattle.vx_source_types.specs.ScalarTexts.{value_source, type_behind}
 use Rattle.vx_source_types.specs.ScalarPrintable.{value_nesting, IsSpelledValue}
 use Rattle.vx_source_types.specs.Untyped.{untyped}
-use Rattle.vx_source_types.specs.ValueReading.{Drafted, ValueState, value_step}
+use Rattle.vx_source_types.specs.ValueReading.{Drafted, drafted, ValueState, value_step}
 use Rattle.vx_source_types.proofs.ScalarsAgain.{scalar_again}
 use Rattle.vx_source_types.proofs.ValuesAgain.{names_after, value_again}
 use Rattle.vx_source_grammar.specs.Beginning.{fitting, literal_before}
@@ -32,7 +32,7 @@ use Rattle.vx_source_laws.proofs.TypesRead.{read_type, type_ended, whole_type, t
 
 -- the value as it was read, before its type
 abbrev pub draft : Datum → LogicalType → Drafted
-draft v t = record { value = untyped v t; names = names_after [] v t }
+draft v t = drafted (untyped v t) (names_after [] v t)
 
 value_in : {s u : ValueState} {bs ds : List ℕ} (room : ℕ) → Leads value_step s bs u ds → Leads (scalar_step room) (in_scalar_value s) bs (in_scalar_value u) ds
 value_in room stays = stays
@@ -45,7 +45,7 @@ type_in room d (leads p q h) = leads p (ap (type_after d) q) (type_in room d h)
 scalar_read : (v : Datum) (t : LogicalType) (room : ℕ) → Fits v t → IsSpelledValue v → IsPrintable t → value_nesting v ≤ room → type_nesting t ≤ room
     → Leads (scalar_step room) scalar_due (value_source v t ++ 58 ∷ 58 ∷ type_source t) (in_scalar_type (draft v t) (read_type t room)) []
 scalar_read v t room f u w h k =
-    let it = value_again v t [] [] room (58 ∷ 58 ∷ type_source t) f u w h (refl, refl) in
+    let it = value_again v t [] [] room (58 ∷ 58 ∷ type_source t) f u w h (refl, refl, λ i e. refl) in
     let behind : Leads type_step (type_start room) (type_source t) (read_type t room) [] = of_text type_step (sym (append-nil (type_source t))) (type_again t [] room [] w k refl) in
     leads it.found (ap (scalar_begins room it.token) it.bare ∙ ap (value_begun it.token) it.taken)
     ((then) (scalar_step room) (value_in room it.goes) (leads {t = in_scalar_type (draft v t) (type_start room)} refl refl (type_in room (draft v t) behind)))
@@ -74,7 +74,7 @@ typed_again v t f u w q fs r rest h m =
     let behind : List ℕ = 58 ∷ 58 ∷ (type_source t ++ rest) in
     let grouped : (value_source v t ++ type_behind t) ++ rest ≡ value_source v t ++ behind = append_assoc (value_source v t) (type_behind t) rest ∙ ap (λ xs. value_source v t ++ (xs ++ rest)) q in
     of_grouped grouped
-    (literal_of v t fs r behind rest (at fs (in_type (for_literal (draft v t)) (read_type t r)) r) f u w (omega arith) (refl, refl)
+    (literal_of v t fs r behind rest (at fs (in_type (for_literal (draft v t)) (read_type t r)) r) f u w (omega arith) (refl, refl, λ i e. refl)
     (leads {t = at fs (in_type (for_literal (draft v t)) (type_start r)) r} refl refl (type_read t fs r (for_literal (draft v t)) r rest w (omega arith) (ends_word rest m)))
     (value_typed v t fs r (typed_is v t r f u w (omega arith) (omega arith) q) (omega arith)))
 
@@ -84,10 +84,10 @@ shown_again v t fs r rest h = of_grouped (append_assoc (value_source v t) [] res
 
 pub literal_again : (t : LogicalType) (v : Datum) → Fits v t → IsSpelledValue v → IsPrintable t → IsOwnAgain (literal t v) no_tree
 literal_again (ty (atomic (number p)) false) (int i) f u w fs r rest h m = of_grouped (append_assoc _ _ rest) (number_again p i fs r rest f (omega arith) m)
-literal_again (ty (atomic truth) false) (bool true) f u w fs r rest h m = shown_again _ _ fs r rest (alone_again (bool true) (ty (atomic truth) false) fs r rest f u w (omega arith) (omega arith) refl m)
-literal_again (ty (atomic truth) false) (bool false) f u w fs r rest h m = shown_again _ _ fs r rest (alone_again (bool false) (ty (atomic truth) false) fs r rest f u w (omega arith) (omega arith) refl m)
-literal_again (ty (atomic text) false) (utf8 s) f u w fs r rest h m = shown_again _ _ fs r rest (alone_again (utf8 s) (ty (atomic text) false) fs r rest f u w (omega arith) (omega arith) refl m)
-literal_again (ty (atomic octets) false) (bytes s) f u w fs r rest h m = shown_again _ _ fs r rest (alone_again (bytes s) (ty (atomic octets) false) fs r rest f u w (omega arith) (omega arith) refl m)
+literal_again (ty (atomic truth) false) (bool true) f u w fs r rest h m = shown_again _ _ fs r rest (alone_again (bool true) (ty (atomic truth) false) fs r rest f u w (omega arith) (omega arith) refl (λ i e. cc) m)
+literal_again (ty (atomic truth) false) (bool false) f u w fs r rest h m = shown_again _ _ fs r rest (alone_again (bool false) (ty (atomic truth) false) fs r rest f u w (omega arith) (omega arith) refl (λ i e. cc) m)
+literal_again (ty (atomic text) false) (utf8 s) f u w fs r rest h m = shown_again _ _ fs r rest (alone_again (utf8 s) (ty (atomic text) false) fs r rest f u w (omega arith) (omega arith) refl (λ i e. cc) m)
+literal_again (ty (atomic octets) false) (bytes s) f u w fs r rest h m = shown_again _ _ fs r rest (alone_again (bytes s) (ty (atomic octets) false) fs r rest f u w (omega arith) (omega arith) refl (λ i e. cc) m)
 literal_again (ty (atomic (number p)) true) v f u w fs r rest h m = typed_again v (ty (atomic (number p)) true) f u w refl fs r rest h m
 literal_again (ty (atomic truth) true) v f u w fs r rest h m = typed_again v (ty (atomic truth) true) f u w refl fs r rest h m
 literal_again (ty (atomic text) true) v f u w fs r rest h m = typed_again v (ty (atomic text) true) f u w refl fs r rest h m

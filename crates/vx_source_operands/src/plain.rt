@@ -1,6 +1,6 @@
 // Values that no type follows.
 ghost use Rattle.std.specs.Prelude.{◌≡◌};
-ghost use Rattle.vx_value.specs.Views.{value_of};
+ghost use Rattle.vx_source_types.specs.ValueViews.{draft_of};
 ghost use Rattle.vx_source_operands.specs.PlainViews.{plain_by};
 
 use vx_source_types::{Draft, Expected, open_literal, plain_literal};
@@ -18,7 +18,7 @@ pub enum PlainValues {
 impl PlainValues {
     /// The scalar of the value, or what would have stood right.
     pub fn scalar(self, draft: Draft) -> Result<Scalar, Expected>
-        ensures { result ≡ plain_by self (value_of draft.value) }
+        ensures { result ≡ plain_by self (draft_of draft) }
     {
         match self {
             PlainValues::Alone => plain_literal(draft),

@@ -1,18 +1,19 @@
 -- Settling changes nothing but the types of literals that were written without one, and what their values are as those of the types.
 use Rattle.std.proofs.Common.{◌≡◌, ◌∙◌, ℕ, suc, List, [], ◌∷◌, drop, Result, Ok, Err, refl, ap, subst, Bool, true, false}
-use Rattle.std.specs.Prelude.{Option, Some, None, ◌||◌, ◌&&◌, if◌then◌else◌}
+use Rattle.std.specs.Prelude.{ℤ, Option, Some, None, ◌||◌, ◌&&◌, if◌then◌else◌}
 use Rattle.std.specs.Option.{is_some}
 use Rattle.vx_value.specs.Columns.{Constant, constant}
 use Rattle.vx_value.specs.Fits.{fits, Fits}
 use Rattle.vx_value.specs.Types.{Name, Atomic, truth, number, decimals, date, timestamp, text, octets, LogicalType, ty, atomic, Datum, null, bool, int, utf8, bytes, list_of, struct_of, is_null_datum, with_nullability}
 use Rattle.vx_fn.specs.Functions.{Function, literal}
 use Rattle.vx_tree.specs.Trees.{Tree, root, call, Trees, no_tree, tree}
-use Rattle.vx_source_types.specs.Literals.{fitting, plain_type, plain_of, in_range, names_left, typed_of, typed_literal}
-use Rattle.vx_source_types.specs.Untyped.{has_texts, typed_value}
+use Rattle.vx_source_types.specs.Literals.{fitting, plain_type, plain_of, plain_literal, in_range, names_left, typed_of, typed_literal}
+use Rattle.vx_source_types.specs.Untyped.{has_texts, point_read, typed_value}
+use Rattle.vx_source_types.specs.ValueReading.{Drafted, drafted, pointed}
 use Rattle.vx_source_types.specs.declared.expectation.Expected.{Expected}
-use Rattle.vx_source_over.specs.Peers.{is_peer, has_type_of_peers, open_value, child_at, is_open, are_open}
-use Rattle.vx_source_over.specs.Settling.{Refusal, when_settled, read_as, fitted, as_alone, literal_as, unless, first_or, first_type, node_of, settled, owned, rest, wished, read_over}
-use Rattle.vx_source_over.specs.Laws.{IsValueAs, IsRetyped, same_root, other_type, same_node, AreRetyped, no_more, one_more, TypesAloneChange, OtherValuesStay}
+use Rattle.vx_source_over.specs.Peers.{is_peer, has_type_of_peers, open_scalar, child_at, is_open, are_open}
+use Rattle.vx_source_over.specs.Settling.{Refusal, when_settled, read_as, fitted, as_alone, literal_as, unless, first_or, first_type, node_of, settled, owned, rest, wished, read_over, written}
+use Rattle.vx_source_over.specs.Laws.{IsValueAs, value_before, IsRetyped, same_root, other_type, same_node, AreRetyped, no_more, one_more, TypesAloneChange, OtherValuesStay}
 use Rattle.vx_source_over.proofs.Steps.{settled_parts}
 
 abbrev ok_tree : Tree → Result Tree Refusal
@@ -41,9 +42,9 @@ the_function t u h = cc
 
 -- ---- a literal
 
--- the function is a literal of what that value is as one of its type
-abbrev IsLiteral : Datum → Function → Type 0
-IsLiteral v g = (t : LogicalType) × (w : Datum) × (g ≡ literal t w) × IsValueAs v t w
+-- the function is a literal of what that scalar's value is as one of its type
+abbrev IsLiteral : Constant → Function → Type 0
+IsLiteral c g = (t : LogicalType) × (w : Datum) × (g ≡ literal t w) × IsValueAs c t w
 
 fitting_is : (t : LogicalType) (w : Datum) (c : Constant) → fitting t w ≡ Some c → (c ≡ constant t w) × Fits w t
 fitting_is t w c h = go (fits w t) refl h
@@ -58,12 +59,17 @@ typed_of_is t (Some []) None c h = cc
 typed_of_is t (Some (a ∷ names)) o c h = cc
 typed_of_is t None o c h = cc
 
-fitted_is : (t : LogicalType) (v : Datum) (g : Function) → fitted t v ≡ Ok g → IsLiteral v g
-fitted_is t v g h = go (typed_literal (record { value = v; names = [] }) t) refl h
+-- a literal with the type behind it has the value that the type makes of what was written
+typed_is : (d : Drafted) (t : LogicalType) (c : Constant) → typed_literal d t ≡ Some c → (w : Datum) × (value_before d t ≡ Some w) × (fitting t w ≡ Some c)
+typed_is (drafted v names) t c h = typed_of_is t (names_left v t names) (typed_value v t) c h
+typed_is (pointed i k) t c h = typed_of_is t (Some []) (point_read i k t) c h
+
+fitted_is : (t : LogicalType) (b : Constant) (g : Function) → fitted t b ≡ Ok g → IsLiteral b g
+fitted_is t b g h = go (typed_literal (written b) t) refl h
   where
-    go : (o : Option Constant) → typed_literal (record { value = v; names = [] }) t ≡ o → read_as t v o ≡ Ok g → IsLiteral v g
+    go : (o : Option Constant) → typed_literal (written b) t ≡ o → read_as t b o ≡ Ok g → IsLiteral b g
     go (Some c) q k =
-        let p = typed_of_is t (names_left v t []) (typed_value v t) c q in
+        let p = typed_is (written b) t c q in
         let f = fitting_is t p.0 c p.2 in
         (t, p.0, the_function (literal c.type c.value) g k ∙ ap (λ (x : Constant). literal x.type x.value) f.0, (p.1, f.1))
     go None q k = cc
@@ -84,19 +90,23 @@ alone_stays (bytes bs) t h = subst (λ u. typed_value (bytes bs) u ≡ Some (byt
 alone_stays (list_of vs) t h = cc
 alone_stays (struct_of vs) t h = cc
 
-alone_is : (v : Datum) (r : Result LogicalType Expected) (g : Function) → plain_type v ≡ r → as_alone (plain_of v r) ≡ Ok g → IsLiteral v g
-alone_is v (Err x) g p h = cc
-alone_is v (Ok t) g p h = go (fits v t) refl h
+plain_is : (v : Datum) (r : Result LogicalType Expected) (g : Function) → plain_type v ≡ r → as_alone (plain_of v r) ≡ Ok g → (t : LogicalType) × (g ≡ literal t v) × (typed_value v t ≡ Some v) × Fits v t
+plain_is v (Err x) g p h = cc
+plain_is v (Ok t) g p h = go (fits v t) refl h
   where
-    go : (b : Bool) → fits v t ≡ b → as_alone (in_range (if b then Some (constant t v) else None)) ≡ Ok g → IsLiteral v g
-    go true q k = (t, v, the_function (literal t v) g k, (alone_stays v t p, q))
+    go : (b : Bool) → fits v t ≡ b → as_alone (in_range (if b then Some (constant t v) else None)) ≡ Ok g → (u : LogicalType) × (g ≡ literal u v) × (typed_value v u ≡ Some v) × Fits v u
+    go true q k = (t, the_function (literal t v) g k, alone_stays v t p, q)
     go false q k = cc
 
-literal_is : (w : Option LogicalType) (v : Datum) (g : Function) → literal_as w v ≡ Ok g → IsLiteral v g
-literal_is (Some t) v g h = fitted_is (with_nullability (is_null_datum v) t) v g h
-literal_is None v g h = alone_is v (plain_type v) g refl h
+alone_is : (d : Drafted) (g : Function) → as_alone (plain_literal d) ≡ Ok g → (t : LogicalType) × (w : Datum) × (g ≡ literal t w) × (value_before d t ≡ Some w) × Fits w t
+alone_is (drafted v names) g h = let p = plain_is v (plain_type v) g refl h in (p.0, v, p.1, p.2, p.3)
+alone_is (pointed i k) g h = cc
 
-no_literal : (o : Option Datum) (b : Bool) → (is_some o || b) ≡ false → o ≡ None
+literal_is : (w : Option LogicalType) (c : Constant) (g : Function) → literal_as w c ≡ Ok g → IsLiteral c g
+literal_is (Some t) c g h = fitted_is (with_nullability (is_null_datum c.value) t) c g h
+literal_is None c g h = let p = alone_is (written c) g h in (p.0, p.1, p.2, (p.3, p.4))
+
+no_literal : (o : Option Constant) (b : Bool) → (is_some o || b) ≡ false → o ≡ None
 no_literal None b h = refl
 no_literal (Some v) b h = cc
 
@@ -142,7 +152,7 @@ put_own i e es d None own k h = h
 put_own i e es d (Some t) own k h = (k t refl, h)
 
 module _ (s : LogicalType) (w : Option LogicalType) (f : Function) (es : Trees) (d : Option Tree) (t : Tree) (below : Result Trees Refusal) (k : (ts : Trees) → below ≡ Ok ts → AreRetyped 0 es d ts) where
-  node_so : (o : Option Datum) → open_value f d ≡ o → node_of f es w o below ≡ Ok t → IsRetyped (call f es) d t
+  node_so : (o : Option Constant) → open_scalar f d ≡ o → node_of f es w o below ≡ Ok t → IsRetyped (call f es) d t
   node_so (Some v) q h =
       let p = settled_parts _ (literal_as w v) t h in
       let g = literal_is w v p.0 p.1 in
@@ -159,7 +169,7 @@ mutual
       let own = settled_parts _ (owned s f 0 es d) t h in
       let below = settled_parts _ (rest s (first_type s own.0) f 0 es d own.0) t own.2 in
       subst (IsRetyped (call f es) d) (the_tree (call f below.0) t below.2)
-      (same_node (no_literal (open_value f d) (has_type_of_peers f && are_open f 0 es d) o) (rest_retyped s (first_type s own.0) f 0 es d own.0 below.0 (owned_retyped s f 0 es d own.0 own.1) below.1))
+      (same_node (no_literal (open_scalar f d) (has_type_of_peers f && are_open f 0 es d) o) (rest_retyped s (first_type s own.0) f 0 es d own.0 below.0 (owned_retyped s f 0 es d own.0 own.1) below.1))
 
   owned_retyped : (s : LogicalType) (f : Function) (i : ℕ) (es : Trees) (d : Option Tree) (own : List (Option Tree)) → owned s f i es d ≡ Ok own → AreOwn i es d own
   owned_retyped s f i no_tree d own h = tt
@@ -186,7 +196,7 @@ mutual
 
   wished_retyped : (s : LogicalType) (w : Option LogicalType) (e : Tree) (d : Option Tree) (t : Tree) → wished s w e d ≡ Ok t → IsRetyped e d t
   wished_retyped s w root d t h = subst (IsRetyped root d) (the_tree root t h) same_root
-  wished_retyped s w (call f es) d t h = node_so s w f es d t (rest s w f 0 es d []) (λ ts q. rest_retyped s w f 0 es d [] ts (nothing_own 0 es d) q) (open_value f d) refl h
+  wished_retyped s w (call f es) d t h = node_so s w f es d t (rest s w f 0 es d []) (λ ts q. rest_retyped s w f 0 es d [] ts (nothing_own 0 es d) q) (open_scalar f d) refl h
 
 pub types_alone_change : TypesAloneChange
 types_alone_change s e d t h = go (is_open e (Some d)) refl h
@@ -234,5 +244,30 @@ same_before (bytes bs) octets n h = refl
 same_before (list_of vs) octets n h = refl
 same_before (struct_of vs) octets n h = refl
 
+-- a number with a point is none of these
+no_point : (i : ℤ) (k : ℕ) (a : Atomic) (n : Bool) → has_texts (ty (atomic a) n) ≡ false → point_read i k (ty (atomic a) n) ≡ None
+no_point i k (decimals p s) n h = cc
+no_point i k date n h = cc
+no_point i k (timestamp u z) n h = cc
+no_point i k truth n h = refl
+no_point i k (number p) n h = refl
+no_point i k text n h = refl
+no_point i k octets n h = refl
+
+none_as : (w : Datum) (o : Option Datum) → o ≡ None → o ≡ Some w → ⊥
+none_as w o h k = cc
+
+its_value : (c : Constant) (v : Datum) (names : List Name) → written c ≡ drafted v names → v ≡ c.value
+its_value (constant (ty (atomic (decimals p k)) n) (int i)) v names e = cc
+its_value _ v names e = cc
+
+-- what was written of a scalar is its value, or a number with a point
+written_so : (c : Constant) (w : Datum) (a : Atomic) (n : Bool) → has_texts (ty (atomic a) n) ≡ false → value_before (written c) (ty (atomic a) n) ≡ Some w → w ≡ c.value
+written_so c w a n h q = go (written c) refl q
+  where
+    go : (d : Drafted) → written c ≡ d → value_before d (ty (atomic a) n) ≡ Some w → w ≡ c.value
+    go (pointed i k) e q = absurd (none_as w _ (no_point i k a n h) q)
+    go (drafted v names) e q = stays_as v w _ (same_before v a n h) q ∙ its_value c v names e
+
 pub other_values_stay : OtherValuesStay
-other_values_stay v w a n h is = stays_as v w _ (same_before v a n h) is.0
+other_values_stay c w a n h is = written_so c w a n h is.0

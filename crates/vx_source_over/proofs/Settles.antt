@@ -7,7 +7,8 @@ use Rattle.std.specs.Prelude.{Option, Some, None, IfSome, option_map, ◌||◌, 
 use Rattle.std.specs.Option.{is_some}
 use Rattle.std.proofs.lemmas.Bool.{and_parts, or_parts}
 use Rattle.vx_dtype.proofs.Lists.{drop_next}
-use Rattle.vx_value.specs.Types.{LogicalType, Datum}
+use Rattle.vx_value.specs.Columns.{Constant}
+use Rattle.vx_value.specs.Types.{LogicalType}
 use Rattle.vx_fn.specs.Functions.{Function}
 use Rattle.std.proofs.Common.{Vec}
 use Rattle.std.specs.declared.alloc.Global.{Global}
@@ -21,7 +22,7 @@ use Rattle.vx_tree.specs.Trees.{Tree, root, call, Trees, no_tree, tree}
 use Rattle.vx_tree.specs.Views.{tree_of, trees_of}
 use Rattle.vx_source_over.specs.declared.error.OverError.{OverError}
 use Rattle.vx_source_over.specs.declared.nodes.Settled.{Settled}
-use Rattle.vx_source_over.specs.Peers.{is_peer, has_type_of_peers, open_value, child_at, is_open, are_open}
+use Rattle.vx_source_over.specs.Peers.{is_peer, has_type_of_peers, open_scalar, child_at, is_open, are_open}
 use Rattle.vx_source_over.specs.Reading.{Refuses, Settles}
 use Rattle.vx_source_over.specs.Settling.{Refusal, when_settled, unless, first_or, first_type, literal_as, node_of, settled, owned, rest, wished}
 use Rattle.vx_source_over.specs.Views.{settled_tree, settled_trees, own_trees, none_of, first_own, said_of, wish_of, IsTyped, AreTyped, EachTyped}
@@ -225,7 +226,7 @@ refused_open s f i (tree e es) d r h = go (is_peer f i) (is_open e (child_at d i
     go true true said (Err q) k e = k q refl
     go true false said more k e = refl
 
-closed_node : (f : Function) (es : Trees) (d : Option Tree) → open_value f d ≡ None → (has_type_of_peers f && are_open f 0 es d) ≡ false → is_open (call f es) d ≡ false
+closed_node : (f : Function) (es : Trees) (d : Option Tree) → open_scalar f d ≡ None → (has_type_of_peers f && are_open f 0 es d) ≡ false → is_open (call f es) d ≡ false
 closed_node f es d bare h = rw bare h
 
 module _ (s : LogicalType) (f : Function) (es : Trees) (d : Option Tree) (e : Tree) (node : e ≡ call f es) where
@@ -233,13 +234,13 @@ module _ (s : LogicalType) (f : Function) (es : Trees) (d : Option Tree) (e : Tr
   own_of = unless (is_open e d) (settled s e d)
 
   -- a literal without a type waits
-  pub literal_waits : is_some (open_value f d) ≡ true → own_of ≡ Ok None
+  pub literal_waits : is_some (open_scalar f d) ≡ true → own_of ≡ Ok None
   literal_waits h =
       let waits_here : is_open (call f es) d ≡ true = rw h refl in
       ap (λ n. unless (is_open n d) (settled s n d)) node ∙ ap (λ b. unless b (settled s (call f es) d)) waits_here
 
   -- so does a node whose peers all wait
-  pub node_waits : (own : List (Option Tree)) → open_value f d ≡ None → owned s f 0 es d ≡ Ok own → (has_type_of_peers f && none_of own) ≡ true → own_of ≡ Ok None
+  pub node_waits : (own : List (Option Tree)) → open_scalar f d ≡ None → owned s f 0 es d ≡ Ok own → (has_type_of_peers f && none_of own) ≡ true → own_of ≡ Ok None
   node_waits own bare said h =
       let open_so : (has_type_of_peers f && are_open f 0 es d) ≡ true = rw (← open_none s f 0 es d own said) h in
       let waits_here : is_open (call f es) d ≡ true = rw bare open_so in
@@ -249,7 +250,7 @@ module _ (s : LogicalType) (f : Function) (es : Trees) (d : Option Tree) (e : Tr
   own_is h = ap (λ n. unless (is_open n d) (settled s n d)) node ∙ ap (λ b. unless b (settled s (call f es) d)) h
 
   -- a peer is refused
-  pub peer_refused : (error : OverError) → open_value f d ≡ None → Refuses error (owned s f 0 es d) → Refuses error own_of
+  pub peer_refused : (error : OverError) → open_scalar f d ≡ None → Refuses error (owned s f 0 es d) → Refuses error own_of
   peer_refused error bare h =
       refuses_all error (owned s f 0 es d) own_of
       (λ r k.
@@ -261,40 +262,40 @@ module _ (s : LogicalType) (f : Function) (es : Trees) (d : Option Tree) (e : Tr
       not_both false b h = refl
 
   -- the others are settled over its peers
-  over_peers : (own : List (Option Tree)) → open_value f d ≡ None → owned s f 0 es d ≡ Ok own → (has_type_of_peers f && none_of own) ≡ false
+  over_peers : (own : List (Option Tree)) → open_scalar f d ≡ None → owned s f 0 es d ≡ Ok own → (has_type_of_peers f && none_of own) ≡ false
       → own_of ≡ unless false (when_settled (λ ts. Ok (call f ts)) (rest s (first_type s own) f 0 es d own))
   over_peers own bare said h =
       let b : (has_type_of_peers f && are_open f 0 es d) ≡ false = rw (← open_none s f 0 es d own said) h in
       own_is (closed_node f es d bare b) ∙ ap (λ x. unless false (when_settled (λ own. when_settled (λ ts. Ok (call f ts)) (rest s (first_type s own) f 0 es d own)) x)) said
 
-  pub rest_is_refused : (own : List (Option Tree)) (w : Option LogicalType) (error : OverError) → open_value f d ≡ None → owned s f 0 es d ≡ Ok own → (has_type_of_peers f && none_of own) ≡ false → w ≡ first_type s own
+  pub rest_is_refused : (own : List (Option Tree)) (w : Option LogicalType) (error : OverError) → open_scalar f d ≡ None → owned s f 0 es d ≡ Ok own → (has_type_of_peers f && none_of own) ≡ false → w ≡ first_type s own
       → Refuses error (rest s w f 0 es d own) → Refuses error own_of
   rest_is_refused own w error bare said h wish k =
       refuses_all error (rest s w f 0 es d own) own_of
       (λ r q. over_peers own bare said h ∙ ap (λ x. unless false (when_settled (λ ts. Ok (call f ts)) (rest s x f 0 es d own))) (sym wish) ∙ ap (λ x. unless false (when_settled (λ ts. Ok (call f ts)) x)) q) k
 
-  pub node_settled : (own : List (Option Tree)) (w : Option LogicalType) (ts : Trees) (t : Tree) → open_value f d ≡ None → owned s f 0 es d ≡ Ok own → (has_type_of_peers f && none_of own) ≡ false → w ≡ first_type s own
+  pub node_settled : (own : List (Option Tree)) (w : Option LogicalType) (ts : Trees) (t : Tree) → open_scalar f d ≡ None → owned s f 0 es d ≡ Ok own → (has_type_of_peers f && none_of own) ≡ false → w ≡ first_type s own
       → rest s w f 0 es d own ≡ Ok ts → t ≡ call f ts → own_of ≡ Ok (Some t)
   node_settled own w ts t bare said h wish k is =
       over_peers own bare said h ∙ ap (λ x. unless false (when_settled (λ ts. Ok (call f ts)) (rest s x f 0 es d own))) (sym wish) ∙ ap (λ x. unless false (when_settled (λ ts. Ok (call f ts)) x)) k ∙ ap (λ x. Ok (Some x)) (sym is)
 
   -- ---- a tree without a type of its own
 
-  pub literal_refused : (w : Option LogicalType) (v : Datum) (error : OverError) → Some v ≡ open_value f d → Refuses error (literal_as w v) → Refuses error (wished s w e d)
+  pub literal_refused : (w : Option LogicalType) (v : Constant) (error : OverError) → Some v ≡ open_scalar f d → Refuses error (literal_as w v) → Refuses error (wished s w e d)
   literal_refused w v error h k =
       refuses_all error (literal_as w v) (wished s w e d)
       (λ r q. ap (λ n. wished s w n d) node ∙ ap (λ x. node_of f es w x (rest s w f 0 es d [])) (sym h) ∙ ap (when_settled (λ g. Ok (call g es))) q) k
 
-  pub literal_settled : (w : Option LogicalType) (v : Datum) (g : Function) (t : Tree) → Some v ≡ open_value f d → literal_as w v ≡ Ok g → t ≡ call g es → wished s w e d ≡ Ok t
+  pub literal_settled : (w : Option LogicalType) (v : Constant) (g : Function) (t : Tree) → Some v ≡ open_scalar f d → literal_as w v ≡ Ok g → t ≡ call g es → wished s w e d ≡ Ok t
   literal_settled w v g t h q is =
       ap (λ n. wished s w n d) node ∙ ap (λ x. node_of f es w x (rest s w f 0 es d [])) (sym h) ∙ ap (when_settled (λ g. Ok (call g es))) q ∙ ap (λ x. Ok x) (sym is)
 
-  pub wish_refused : (w : Option LogicalType) (error : OverError) → open_value f d ≡ None → Refuses error (rest s w f 0 es d []) → Refuses error (wished s w e d)
+  pub wish_refused : (w : Option LogicalType) (error : OverError) → open_scalar f d ≡ None → Refuses error (rest s w f 0 es d []) → Refuses error (wished s w e d)
   wish_refused w error bare k =
       refuses_all error (rest s w f 0 es d []) (wished s w e d)
       (λ r q. ap (λ n. wished s w n d) node ∙ ap (λ x. node_of f es w x (rest s w f 0 es d [])) bare ∙ ap (when_settled (λ ts. Ok (call f ts))) q) k
 
-  pub wish_settled : (w : Option LogicalType) (ts : Trees) (t : Tree) → open_value f d ≡ None → rest s w f 0 es d [] ≡ Ok ts → t ≡ call f ts → wished s w e d ≡ Ok t
+  pub wish_settled : (w : Option LogicalType) (ts : Trees) (t : Tree) → open_scalar f d ≡ None → rest s w f 0 es d [] ≡ Ok ts → t ≡ call f ts → wished s w e d ≡ Ok t
   wish_settled w ts t bare q is =
       ap (λ n. wished s w n d) node ∙ ap (λ x. node_of f es w x (rest s w f 0 es d [])) bare ∙ ap (when_settled (λ ts. Ok (call f ts))) q ∙ ap (λ x. Ok x) (sym is)
 

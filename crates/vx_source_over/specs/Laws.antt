@@ -1,25 +1,32 @@
 -- What settling keeps.
 use Rattle.std.specs.Prelude.{◌≡◌, ℕ, suc, Bool, false, List, Option, Some, None, Ok, IsOk}
+use Rattle.vx_value.specs.Columns.{Constant}
 use Rattle.vx_value.specs.Fits.{Fits}
 use Rattle.vx_value.specs.Types.{Atomic, LogicalType, ty, atomic, Datum}
 use Rattle.vx_fn.specs.Functions.{Function, literal}
 use Rattle.vx_tree.specs.Trees.{Tree, root, call, Trees, no_tree, tree, typed}
-use Rattle.vx_source_types.specs.Untyped.{has_texts, typed_value}
-use Rattle.vx_source_over.specs.Peers.{open_value, child_at}
+use Rattle.vx_source_types.specs.Untyped.{has_texts, point_read, typed_value}
+use Rattle.vx_source_types.specs.ValueReading.{Drafted, drafted, pointed}
+use Rattle.vx_source_over.specs.Peers.{open_scalar, child_at}
 use Rattle.vx_source_over.specs.Reading.{ReadsAlone, ReadsOver}
-use Rattle.vx_source_over.specs.Settling.{read_over}
+use Rattle.vx_source_over.specs.Settling.{read_over, written}
 
--- that is the value as one of the type: what the type behind it makes of it
-abbrev pub IsValueAs : Datum → LogicalType → Datum → Type 0
-IsValueAs v t w = (typed_value v t ≡ Some w) × Fits w t
+-- the value that a type behind it makes of what was written
+abbrev pub value_before : Drafted → LogicalType → Option Datum
+value_before (drafted v names) t = typed_value v t
+value_before (pointed i k) t = point_read i k t
+
+-- that is the value of the scalar as one of the type: what the type behind it makes of what was written
+abbrev pub IsValueAs : Constant → LogicalType → Datum → Type 0
+IsValueAs c t w = (value_before (written c) t ≡ Some w) × Fits w t
 
 -- the second tree is the first but for literals to which the other reading gives another type: each has its value as one of
 -- its type
 mutual
   pub data IsRetyped : Tree → Option Tree → Tree → Type 0 where
     same_root : {d : Option Tree} → IsRetyped root d root
-    other_type : {f : Function} {es : Trees} {d : Option Tree} {t : LogicalType} {v w : Datum} → open_value f d ≡ Some v → IsValueAs v t w → IsRetyped (call f es) d (call (literal t w) es)
-    same_node : {f : Function} {es ts : Trees} {d : Option Tree} → open_value f d ≡ None → AreRetyped 0 es d ts → IsRetyped (call f es) d (call f ts)
+    other_type : {f : Function} {es : Trees} {d : Option Tree} {t : LogicalType} {c : Constant} {w : Datum} → open_scalar f d ≡ Some c → IsValueAs c t w → IsRetyped (call f es) d (call (literal t w) es)
+    same_node : {f : Function} {es ts : Trees} {d : Option Tree} → open_scalar f d ≡ None → AreRetyped 0 es d ts → IsRetyped (call f es) d (call f ts)
 
   -- so of the children from that index on
   pub data AreRetyped : ℕ → Trees → Option Tree → Trees → Type 0 where
@@ -33,7 +40,7 @@ TypesAloneChange = (s : LogicalType) (e d t : Tree) → read_over s e d ≡ Ok t
 
 -- of a type of truth values, whole numbers, texts or bytes the value is the one that was written
 abbrev pub OtherValuesStay : Type 0
-OtherValuesStay = (v w : Datum) (a : Atomic) (n : Bool) → has_texts (ty (atomic a) n) ≡ false → IsValueAs v (ty (atomic a) n) w → w ≡ v
+OtherValuesStay = (c : Constant) (w : Datum) (a : Atomic) (n : Bool) → has_texts (ty (atomic a) n) ≡ false → IsValueAs c (ty (atomic a) n) w → w ≡ c.value
 
 -- a text that has a type as it is read alone is read so
 abbrev pub TypedTextsStay : Type 0

@@ -3,7 +3,6 @@ use Rattle.std.specs.Prelude.{ℕ, suc, ◌*◌, ◌%◌, ◌==◌, Bool, true, 
 use Rattle.std.specs.Option.{is_some}
 use Rattle.vx_value.specs.Columns.{Constant, constant}
 use Rattle.vx_value.specs.Equality.{equal_type}
-use Rattle.vx_value.specs.Types.{Datum}
 use Rattle.vx_fn.specs.Functions.{Function, case_when, get_item, literal, pack, select, fill_null, zip, Operation, compares, and_also, or_else, adds, binary, logical_not, between, like, is_null, is_not_null, mask, cast}
 use Rattle.vx_tree.specs.Nodes.{children_of, function_at, tree_at}
 use Rattle.vx_tree.specs.Trees.{Tree, root, call, Trees, no_tree, tree}
@@ -64,15 +63,15 @@ abbrev pub literal_of : Function → Option Constant
 literal_of (literal t v) = Some (constant t v)
 literal_of _ = None
 
--- the value of a scalar to which the other reading gives another type
-abbrev pub value_left_open : Option Constant → Option Constant → Option Datum
-value_left_open (Some c) (Some b) = if equal_type c.type b.type then None else Some c.value
-value_left_open (Some c) None = None
-value_left_open None other = None
+-- a scalar to which the other reading gives another type
+abbrev pub left_open : Option Constant → Option Constant → Option Constant
+left_open (Some c) (Some b) = if equal_type c.type b.type then None else Some c
+left_open (Some c) None = None
+left_open None other = None
 
--- the value of a literal that was written without a type, so that the other reading, d, gives it another one
-abbrev pub open_value : Function → Option Tree → Option Datum
-open_value f d = value_left_open (literal_of f) (option_and_then literal_of (option_and_then function_at d))
+-- the scalar of a literal that was written without a type, so that the other reading, d, gives it another one
+abbrev pub open_scalar : Function → Option Tree → Option Constant
+open_scalar f d = left_open (literal_of f) (option_and_then literal_of (option_and_then function_at d))
 
 -- what the other reading has at the child of that index
 abbrev pub child_at : Option Tree → ℕ → Option Tree
@@ -83,7 +82,7 @@ child_at d i = option_and_then (λ n. tree_at (children_of n) i) d
 abbrev mutual
   pub is_open : Tree → Option Tree → Bool
   is_open root d = false
-  is_open (call f es) d = is_some (open_value f d) || (has_type_of_peers f && are_open f 0 es d)
+  is_open (call f es) d = is_some (open_scalar f d) || (has_type_of_peers f && are_open f 0 es d)
 
   -- so of each peer among the children from that index on
   pub are_open : Function → ℕ → Trees → Option Tree → Bool

@@ -1,7 +1,7 @@
 -- What a text is read as over a scope.
 use Rattle.std.specs.Prelude.{◌≡◌, ◌⊎◌, ℕ, List, Option, Some, None, Result, Ok, Err, IsOk, IsErr, MatchOption, MatchResult}
 use Rattle.vx_value.specs.Types.{LogicalType}
-use Rattle.vx_value.specs.Views.{type_of, value_of}
+use Rattle.vx_value.specs.Views.{type_of}
 use Rattle.vx_tree.specs.Trees.{Tree, typed}
 use Rattle.vx_tree.specs.Views.{tree_of}
 use Rattle.vx_source_types.specs.Reading.{IsRead}
@@ -31,7 +31,7 @@ pub data ReadsOver (limit : ℕ) (text : List ℕ) (s : LogicalType) : Tree → 
 abbrev pub Refuses : {B : Type 0} → OverError → Result B Refusal → Type 0
 Refuses OutOfMemory said = Unit {0}
 Refuses (Unexpected at x) said = said ≡ Err (unexpected x)
-Refuses (Misfit start end v t) said = said ≡ Err (misfit (value_of v) (type_of t))
+Refuses (Misfit start end c t) said = said ≡ Err (misfit c (type_of t))
 
 -- the call gave what is said, seen by view, or refused so, unless memory ran out
 abbrev pub Settles : {A B : Type 0} → (A → B) → Result A OverError → Result B Refusal → Type 0
@@ -53,7 +53,7 @@ HasNoTypeAlone limit text s = (e : Tree) → ReadsAlone limit text e → IsErr (
 abbrev pub RefusesOver : ℕ → List ℕ → LogicalType → OverError → Type 0
 RefusesOver limit text s OutOfMemory = Unit {0}
 RefusesOver limit text s (Unexpected at x) = HasNoTypeAlone limit text s × (HasNoReadings limit text ⊎ RefusesReadings limit text s (Unexpected at x))
-RefusesOver limit text s (Misfit start end v t) = HasNoTypeAlone limit text s × RefusesReadings limit text s (Misfit start end v t)
+RefusesOver limit text s (Misfit start end c t) = HasNoTypeAlone limit text s × RefusesReadings limit text s (Misfit start end c t)
 
 -- the call gave that, seen by view, unless memory ran out
 abbrev pub GivesOver : {A B : Type 0} → (A → B) → Result A OverError → B → Type 0

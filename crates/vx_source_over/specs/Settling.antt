@@ -3,17 +3,18 @@
 use Rattle.std.specs.Prelude.{ℕ, suc, drop, Bool, true, false, List, [], ◌∷◌, Option, Some, None, Result, Ok, Err, if◌then◌else◌}
 use Rattle.std.specs.Option.{option_or}
 use Rattle.std.specs.Result.{result_ok}
-use Rattle.vx_value.specs.Columns.{Constant}
-use Rattle.vx_value.specs.Types.{LogicalType, Datum, is_null_datum, with_nullability}
+use Rattle.vx_value.specs.Columns.{Constant, constant}
+use Rattle.vx_value.specs.Types.{decimals, LogicalType, ty, atomic, int, is_null_datum, with_nullability}
 use Rattle.vx_fn.specs.Functions.{Function, literal}
 use Rattle.vx_tree.specs.Trees.{Tree, root, call, Trees, no_tree, tree, typed}
 use Rattle.vx_source_types.specs.Literals.{plain_literal, typed_literal}
+use Rattle.vx_source_types.specs.ValueReading.{Drafted, drafted, pointed}
 use Rattle.vx_source_types.specs.declared.expectation.Expected.{Expected}
-use Rattle.vx_source_over.specs.Peers.{is_peer, open_value, child_at, is_open}
+use Rattle.vx_source_over.specs.Peers.{is_peer, open_scalar, child_at, is_open}
 
--- why a literal has no type: its value is none of the type that it should have, or it needs a type of its own
+-- why a literal has no type: it is none of the type that it should have, or it needs a type of its own
 pub data Refusal : Type 0 where
-  misfit : Datum → LogicalType → Refusal
+  misfit : Constant → LogicalType → Refusal
   unexpected : Expected → Refusal
 
 -- what f gives of what was settled, or the refusal
@@ -23,25 +24,30 @@ when_settled f (Err r) = Err r
 
 -- ---- a literal
 
--- the literal that was read, or that the value is none of the type
-abbrev pub read_as : LogicalType → Datum → Option Constant → Result Function Refusal
-read_as t v (Some c) = Ok (literal c.type c.value)
-read_as t v None = Err (misfit v t)
+-- what was written of a scalar that is left open: of a decimal a number with a point, of any other its value
+abbrev pub written : Constant → Drafted
+written (constant (ty (atomic (decimals p k)) n) (int i)) = pointed i k
+written c = drafted c.value []
 
--- the value as one of the type, if it is one: what the type behind it makes of it
-abbrev pub fitted : LogicalType → Datum → Result Function Refusal
-fitted t v = read_as t v (typed_literal (record { value = v; names = [] }) t)
+-- the literal that was read, or that what was written is none of the type
+abbrev pub read_as : LogicalType → Constant → Option Constant → Result Function Refusal
+read_as t b (Some c) = Ok (literal c.type c.value)
+read_as t b None = Err (misfit b t)
+
+-- what was written as one of the type, if it is one: what the type behind it makes of it
+abbrev pub fitted : LogicalType → Constant → Result Function Refusal
+fitted t c = read_as t c (typed_literal (written c) t)
 
 -- the literal that a value is read as alone
 abbrev pub as_alone : Result Constant Expected → Result Function Refusal
 as_alone (Ok c) = Ok (literal c.type c.value)
 as_alone (Err x) = Err (unexpected x)
 
--- the literal of a value that was written without a type: of the type that is wished, nullable where the value is null; and
+-- the literal of a scalar that was written without a type: of the type that is wished, nullable where the value is null; and
 -- where none is wished as it is read alone
-abbrev pub literal_as : Option LogicalType → Datum → Result Function Refusal
-literal_as (Some t) v = fitted (with_nullability (is_null_datum v) t) v
-literal_as None v = as_alone (plain_literal v)
+abbrev pub literal_as : Option LogicalType → Constant → Result Function Refusal
+literal_as (Some t) c = fitted (with_nullability (is_null_datum c.value) t) c
+literal_as None c = as_alone (plain_literal (written c))
 
 -- ---- the type that peers wish
 
@@ -69,8 +75,8 @@ first_or (None ∷ own) said = said
 first_or (Some t ∷ own) said = Ok t
 
 -- the node over what is settled below it, or the literal that it is
-abbrev pub node_of : Function → Trees → Option LogicalType → Option Datum → Result Trees Refusal → Result Tree Refusal
-node_of f es w (Some v) below = when_settled (λ g. Ok (call g es)) (literal_as w v)
+abbrev pub node_of : Function → Trees → Option LogicalType → Option Constant → Result Trees Refusal → Result Tree Refusal
+node_of f es w (Some c) below = when_settled (λ g. Ok (call g es)) (literal_as w c)
 node_of f es w None below = when_settled (λ ts. Ok (call f ts)) below
 
 abbrev mutual
@@ -96,7 +102,7 @@ abbrev mutual
   -- a tree without a type of its own: its literals take the type that is wished, if one is
   pub wished : LogicalType → Option LogicalType → Tree → Option Tree → Result Tree Refusal
   wished s w root d = Ok root
-  wished s w (call f es) d = node_of f es w (open_value f d) (rest s w f 0 es d [])
+  wished s w (call f es) d = node_of f es w (open_scalar f d) (rest s w f 0 es d [])
 
 -- the tree of two readings of a text over a scope of type s
 abbrev pub read_over : LogicalType → Tree → Tree → Result Tree Refusal

@@ -8,8 +8,9 @@ use std::error::Error;
 use std::fmt;
 use std::fmt::{Display, Formatter, Write};
 use vx_dtype::write_quoted;
+use vx_literals::write_decimal;
 use vx_source_types::{Expected, ParseError, TypeText};
-use vx_types::{DType, Value};
+use vx_types::{DType, Scalar, Value};
 
 /// What reading a text over a scope refuses with.
 #[derive(Debug, Drop)]
@@ -22,11 +23,12 @@ pub enum OverError {
         at: usize,
         expected: Expected,
     },
-    /// The literal in these bytes of the text is none of the type that it takes from what it stands beside.
+    /// The literal in these bytes of the text is none of the type that it takes from what it stands beside. The scalar is
+    /// what was written, before it has a type: a number with a point is a decimal.
     Misfit {
         start: usize,
         end: usize,
-        value: Value,
+        scalar: Scalar,
         dtype: DType,
     },
 }
@@ -38,12 +40,12 @@ impl Display for OverError {
             OverError::Unexpected { at, expected } => write!(f, "at byte {at}: {expected}"),
             OverError::Misfit {
                 start,
-                value,
+                scalar,
                 dtype,
                 ..
             } => {
                 write!(f, "at byte {start}: ")?;
-                write_plain(value, f)?;
+                write_plain(scalar, f)?;
                 write!(f, " is no {}", TypeText(dtype))
             }
         }
@@ -52,9 +54,12 @@ impl Display for OverError {
 
 impl Error for OverError {}
 
-// Writes the value as it is written without a type.
-fn write_plain<W: Write>(value: &Value, f: &mut Formatter<W>) -> fmt::Result {
-    match value {
+// Writes what is written of it without a type.
+fn write_plain<W: Write>(scalar: &Scalar, f: &mut Formatter<W>) -> fmt::Result {
+    match scalar.value() {
+        Value::Int(units) if let DType::Decimal(decimal, _) = scalar.dtype() => {
+            write_decimal(*units, decimal.scale(), f)
+        }
         Value::Null => f.write_str("null"),
         Value::Bool(b) => b.fmt(f),
         Value::Int(z) => z.fmt(f),

@@ -1,77 +1,85 @@
 // Literals that were written without a type.
-ghost use Rattle.std.specs.Prelude.{◌≡◌, None, option_map};
-ghost use Rattle.vx_value.specs.Views.{type_of, value_of};
+ghost use Rattle.std.specs.Prelude.{◌≡◌, IfOk, None, option_map};
+ghost use Rattle.vx_value.specs.Types.{is_null_datum, with_nullability};
+ghost use Rattle.vx_value.specs.Views.{type_of};
 ghost use Rattle.vx_source_types.specs.Literals.{plain_literal};
+ghost use Rattle.vx_source_types.specs.ValueViews.{draft_of};
 ghost use Rattle.vx_source_over.specs.Reading.{Settles};
-ghost use Rattle.vx_source_over.specs.Settling.{literal_as, fitted, read_as, as_alone};
+ghost use Rattle.vx_source_over.specs.Settling.{literal_as, fitted, read_as, as_alone, written};
 ghost use Rattle.vx_source_over.specs.Views.{literal_with};
 
 use crate::OverError;
-use std::alloc::Global;
+use std::alloc::{AllocError, Global};
 use vx_source_types::{Draft, plain_literal, typed_literal};
 use vx_types::{DType, Nullability, Scalar, Value};
 
-// The literal of the value, which stands in these bytes: of the type that is wished, nullable where the value is null, and
+// The literal of the scalar, which stands in these bytes: of the type that is wished, nullable where the value is null, and
 // where none is wished as it is read alone.
 #[inline(never)]
 pub(crate) fn literal_as(
     alloc: Global,
     wish: Option<&DType>,
-    value: &Value,
+    scalar: &Scalar,
     bytes: (usize, usize),
 ) -> Result<Scalar, OverError>
-    ensures { Settles literal_with result (literal_as (option_map (λ t. type_of t.now) wish.entry) (value_of value.now)) }
+    ensures { Settles literal_with result (literal_as (option_map (λ t. type_of t.now) wish.entry) scalar.now) }
 {
     match wish {
-        Some(dtype) => {
-            let nullability = Nullability::of(value.is_null());
-            let dtype = dtype.clone()?.with_nullability(nullability);
-            fitted(alloc, dtype, value, bytes)
-        }
-        None => as_alone(alloc, value.clone()?, bytes),
+        Some(dtype) => fitted(alloc, dtype, scalar, bytes),
+        None => as_alone(written(alloc, scalar)?, bytes),
     }
 }
 
-// The value as one of the type, if it is one.
+// What was written of the scalar: of a decimal a number with a point, of any other its value.
+fn written(alloc: Global, scalar: &Scalar) -> Result<Draft, AllocError>
+    ensures { IfOk result (λ d. draft_of d ≡ written scalar.now) }
+{
+    match (scalar.dtype(), scalar.value()) {
+        (DType::Decimal(decimal, _), Value::Int(units)) => Ok(Draft::Point(*units, *decimal)),
+        (_, value) => Ok(Draft::Value(value.clone()?, Vec::new(alloc))),
+    }
+}
+
+// What was written of the scalar as one of the type, nullable where its value is null, if it is one.
 fn fitted(
     alloc: Global,
-    dtype: DType,
-    value: &Value,
+    wish: &DType,
+    scalar: &Scalar,
     bytes: (usize, usize),
 ) -> Result<Scalar, OverError>
-    ensures { Settles literal_with result (fitted (type_of dtype) (value_of value.now)) }
+    ensures { Settles literal_with result (fitted (with_nullability (is_null_datum scalar.now.value) (type_of wish.now)) scalar.now) }
 {
-    let draft = Draft {
-        value: value.clone()?,
-        names: Vec::new(alloc),
-    };
-    match typed_literal(draft, dtype.clone()?) {
+    match typed_literal(written(alloc, scalar)?, wished_type(wish, scalar)?) {
         Some(scalar) => Ok(scalar),
-        None => misfit(dtype, value, bytes),
+        None => misfit(wished_type(wish, scalar)?, scalar, bytes),
     }
 }
 
-// Refuses the value, which is none of the type.
-fn misfit(dtype: DType, value: &Value, bytes: (usize, usize)) -> Result<Scalar, OverError>
-    ensures { Settles literal_with result (read_as (type_of dtype) (value_of value.now) None) }
+// The type, nullable where the scalar's value is null.
+fn wished_type(wish: &DType, scalar: &Scalar) -> Result<DType, AllocError>
+    ensures { IfOk result (λ t. type_of t ≡ with_nullability (is_null_datum scalar.now.value) (type_of wish.now)) }
+{
+    let nullability = Nullability::of(scalar.value().is_null());
+    Ok(wish.clone()?.with_nullability(nullability))
+}
+
+// Refuses the scalar, which is none of the type.
+fn misfit(dtype: DType, scalar: &Scalar, bytes: (usize, usize)) -> Result<Scalar, OverError>
+    ensures { Settles literal_with result (read_as (type_of dtype) scalar.now None) }
 {
     let (start, end) = bytes;
     Err(OverError::Misfit {
         start,
         end,
-        value: value.clone()?,
+        scalar: scalar.clone()?,
         dtype,
     })
 }
 
-// The literal that the value is read as alone.
-fn as_alone(alloc: Global, value: Value, bytes: (usize, usize)) -> Result<Scalar, OverError>
-    ensures { Settles literal_with result (as_alone (plain_literal (value_of value))) }
+// The literal that was written, as it is read alone.
+fn as_alone(draft: Draft, bytes: (usize, usize)) -> Result<Scalar, OverError>
+    ensures { Settles literal_with result (as_alone (plain_literal (draft_of draft))) }
 {
-    let draft = Draft {
-        value,
-        names: Vec::new(alloc),
-    };
     match plain_literal(draft) {
         Ok(scalar) => Ok(scalar),
         Err(expected) => Err(OverError::Unexpected {

@@ -3,13 +3,12 @@ ghost use Rattle.std.specs.Prelude.{◌≡◌, ℕ, option_map};
 ghost use Rattle.std.specs.Option.{is_some};
 ghost use Rattle.vx_fn.specs.Views.{function_of, operation_of};
 ghost use Rattle.vx_tree.specs.Views.{tree_of};
-ghost use Rattle.vx_value.specs.Views.{value_of};
-ghost use Rattle.vx_source_over.specs.Peers.{is_branch, is_peer, is_sum, has_type_of_peers, literal_of, open_value, child_at};
+ghost use Rattle.vx_source_over.specs.Peers.{is_branch, is_peer, is_sum, has_type_of_peers, literal_of, open_scalar, child_at};
 
 use vx_fn::{Operator, ScalarFnRef};
 use vx_source_parser::Places;
 use vx_tree::Expression;
-use vx_types::{Scalar, Value};
+use vx_types::Scalar;
 
 // What the other reading has at a node, and the bytes that the node was read from.
 #[derive(Clone, Copy)]
@@ -115,27 +114,27 @@ fn is_sum(operator: Operator) -> bool
     }
 }
 
-// The value of a literal that was written without a type.
-pub(crate) fn open_value<'a>(
+// The scalar of a literal that was written without a type.
+pub(crate) fn open_scalar<'a>(
     scalar_fn: &'a ScalarFnRef,
     other: Option<&Expression>,
-) -> Option<&'a Value>
-    ensures { option_map (λ v. value_of v.now) result ≡ open_value (function_of scalar_fn.now) (option_map (λ d. tree_of d.now) other.entry) }
+) -> Option<&'a Scalar>
+    ensures { option_map (λ c. c.now) result ≡ open_scalar (function_of scalar_fn.now) (option_map (λ d. tree_of d.now) other.entry) }
 {
     let scalar = literal_of(scalar_fn)?;
     let read = literal_of(other?.as_scalar()?)?;
     if scalar.dtype() == read.dtype() {
         None
     } else {
-        Some(scalar.value())
+        Some(scalar)
     }
 }
 
 // Whether that is a literal that was written without a type.
 pub(crate) fn is_untyped(scalar_fn: &ScalarFnRef, other: Option<&Expression>) -> bool
-    ensures { result ≡ is_some (open_value (function_of scalar_fn.now) (option_map (λ d. tree_of d.now) other.entry)) }
+    ensures { result ≡ is_some (open_scalar (function_of scalar_fn.now) (option_map (λ d. tree_of d.now) other.entry)) }
 {
-    open_value(scalar_fn, other).is_some()
+    open_scalar(scalar_fn, other).is_some()
 }
 
 // The scalar of a literal.

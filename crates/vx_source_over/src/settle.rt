@@ -14,7 +14,7 @@ use crate::OverError;
 use crate::literals::literal_as;
 use crate::nodes::{Settled, are_none, first_type, node_over, retyped, scope_root};
 use crate::peers::{
-    Beside, beside_child, bytes_of, has_type_of_peers, is_peer, is_untyped, open_value,
+    Beside, beside_child, bytes_of, has_type_of_peers, is_peer, is_untyped, open_scalar,
 };
 use std::alloc::Global;
 use std::vec::IntoIter;
@@ -184,8 +184,8 @@ fn wished(
     else {
         return scope_root(over.scope);
     };
-    if let Some(value) = open_value(scalar_fn, beside.other) {
-        let literal = literal_as(over.alloc, wish, value, bytes_of(beside))?;
+    if let Some(scalar) = open_scalar(scalar_fn, beside.other) {
+        let literal = literal_as(over.alloc, wish, scalar, bytes_of(beside))?;
         return retyped(literal, children);
     }
     let begun = wishing(over.alloc, wish)?;

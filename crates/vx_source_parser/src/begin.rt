@@ -1,5 +1,6 @@
 // The beginning of an operand.
-ghost use Rattle.std.specs.Prelude.{[], ◌∷◌};
+ghost use Rattle.std.specs.Prelude.{[], ◌≡◌, ◌==◌, ◌∷◌};
+ghost use Rattle.vx_source_types.specs.Tokens.{next};
 ghost use Rattle.vx_source_types.specs.Views.{lexeme_of};
 ghost use Rattle.vx_source_types.specs.TypeReading.{within};
 ghost use Rattle.vx_source_types.specs.ScalarReading as scalars;
@@ -49,7 +50,8 @@ pub(crate) fn begin(context: Context, frames: Vec<Frame>) -> Result<ExpressionSt
         Token::Sign(Sign::OpenParen) => begin_paren(context, frames),
         Token::Sign(Sign::Plus) => Ok(more(frames, Mode::Plus(found.at), context.room)),
         Token::Number { .. } => begin_number(context, frames, found.at),
-        Token::Text(_)
+        Token::Point(_)
+        | Token::Text(_)
         | Token::Octets(_)
         | Token::Sign(Sign::OpenBracket)
         | Token::Sign(Sign::OpenBrace) => begin_value(context, frames, found.at),
@@ -162,9 +164,19 @@ pub(crate) fn begin_plus(
             negative: false,
             ..
         } => begin_number(context, frames, start),
+        Token::Point(digits) if !is_below_zero(digits.as_str()) => {
+            begin_value(context, frames, start)
+        }
         Token::Invalid(wanted) => Err(expected(context.found, *wanted)),
         _ => Err(begun_at(start, context.found, Expected::Operand)),
     }
+}
+
+// Whether the digits stand behind a minus.
+fn is_below_zero(digits: &str) -> bool
+    ensures { result ≡ (next digits.now == 45) }
+{
+    matches!(digits.as_bytes(), [b'-', ..])
 }
 
 // The field of the scope root, whose name stands in these bytes.

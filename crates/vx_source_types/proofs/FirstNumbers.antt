@@ -4,11 +4,11 @@ use Rattle.std.specs.Prelude.{◌==◌, ◌||◌, ◌&&◌, nat_lt}
 use Rattle.std.specs.Fmt.{decimal}
 use Rattle.std.specs.List.{list_all}
 use Rattle.std.proofs.Math.Seq.{take-append_seam, drop-append_seam}
-use Rattle.std.proofs.lemmas.Bool.{and_parts, and_from}
+use Rattle.std.proofs.lemmas.Bool.{cond-false, and_parts, and_from}
 use Rattle.std.proofs.lemmas.Bool.Decides.{nat_tests}
 use Rattle.std.proofs.lemmas.Fmt.{decimal_by_steps}
 use Rattle.vx_source_types.specs.Characters.{is_letter, is_digit, is_word, is_blank}
-use Rattle.vx_source_types.specs.Tokens.{number, Taken, next, begins_comment, is_hex, word_len, magnitude, more_digits, more_or_same, narrow, digits_go_on, digits_len, number_of, number_taken, token_at, first}
+use Rattle.vx_source_types.specs.Tokens.{number, Taken, next, begins_comment, is_hex, word_len, magnitude, more_digits, more_or_same, narrow, digits_go_on, digits_len, has_point, point_of, number_of, number_behind, number_taken, token_at, first}
 use Rattle.vx_dtype.proofs.Choice.{yes, no}
 use Rattle.vx_source_types.proofs.FirstTokens.{no_blank, prefix_of_all}
 
@@ -75,6 +75,10 @@ other_ends b bs e = neither (is_digit b) (b == 95) (is_digit (next bs)) e where
   neither false true z e = cc
   neither false false z e = refl
 
+-- a whole number ends there: neither digits nor a point go on
+abbrev pub IsApart : List ℕ → Type 0
+IsApart bs = (is_more (next bs) ≡ false) × (has_point bs ≡ false)
+
 -- the digits end with the last of them
 digits_of_all : (ds rest : List ℕ) → list_all is_digit ds ≡ true → is_more (next rest) ≡ false → digits_len (ds ++ rest) ≡ length ds
 digits_of_all [] [] h e = refl
@@ -88,18 +92,19 @@ digits_of_all (d ∷ ds) rest h e =
 -- ---- a number, and the word behind it
 
 taken_number : (negative : Bool) (ds w rest : List ℕ) (n : ℕ) → list_all is_digit ds ≡ true → magnitude (Some 0) ds ≡ Some n
-    → is_more (next (w ++ rest)) ≡ false → list_all is_word w ≡ true → is_word (next rest) ≡ false
+    → IsApart (w ++ rest) → list_all is_word w ≡ true → is_word (next rest) ≡ false
     → number_taken negative (ds ++ (w ++ rest)) ≡ (number negative (Some n) w, rest)
 taken_number negative ds w rest n h m e k f =
     let bs = ds ++ (w ++ rest) in
-    let digits = digits_of_all ds (w ++ rest) h e in
+    let digits = digits_of_all ds (w ++ rest) h e.0 in
     let front = take-append_seam ds (w ++ rest) in
     let behind = drop-append_seam ds (w ++ rest) in
     let long = prefix_of_all is_word w rest k f in
     let of_word : (word_len (w ++ rest) ≡ length w) = long in
     let of_front = take-append_seam w rest in
     let of_rest = drop-append_seam w rest in
-    ap (λ len. number_of negative len bs) digits ∙ ap (λ xs. after (magnitude (Some 0) (take (length ds) bs)) xs) behind
+    ap (λ len. number_behind negative len bs) digits ∙ cond-false (has_point (drop (length ds) bs)) (point_of negative (length ds + 1 + digits_len (drop 1 (drop (length ds) bs))) bs) (number_of negative (length ds) bs) (ap has_point behind ∙ e.1)
+    ∙ ap (λ xs. after (magnitude (Some 0) (take (length ds) bs)) xs) behind
     ∙ ap (λ xs. after (magnitude (Some 0) xs) (w ++ rest)) front ∙ ap (λ o. after o (w ++ rest)) m
     ∙ ap (λ len. cut (Some n) len (w ++ rest)) of_word ∙ ap (λ xs. made (Some n) xs (drop (length w) (w ++ rest))) of_front ∙ ap (λ xs. made (Some n) w xs) of_rest
   where
@@ -135,7 +140,7 @@ next_no_x [] xs h e = e
 next_no_x (d ∷ ds) xs h e = digit_no_x d (and_parts (is_digit d) _ h).0
 
 first_digits : (ds w rest : List ℕ) (n : ℕ) → list_all is_digit ds ≡ true → magnitude (Some 0) ds ≡ Some n → 0 < length ds
-    → is_more (next (w ++ rest)) ≡ false → (next (w ++ rest) == 120) ≡ false → list_all is_word w ≡ true → is_word (next rest) ≡ false
+    → IsApart (w ++ rest) → (next (w ++ rest) == 120) ≡ false → list_all is_word w ≡ true → is_word (next rest) ≡ false
     → first (ds ++ (w ++ rest)) ≡ (number false (Some n) w, rest)
 first_digits [] w rest n h m l e x k f = absurd (omega arith)
 first_digits (d ∷ ds) w rest n h m l e x k f =
@@ -144,12 +149,12 @@ first_digits (d ∷ ds) w rest n h m l e x k f =
     ap token_at (no_blank d xs (digit_no_blank d parts.0) (digit_no_dash d parts.0)) ∙ no (is_letter d) _ _ (digit_no_letter d parts.0)
     ∙ no (is_hex d xs) _ _ (not_hex d xs (next_no_x ds (w ++ rest) parts.1 x)) ∙ yes (is_digit d) _ _ parts.0 ∙ taken_number false (d ∷ ds) w rest n h m e k f
 
-pub first_number : (n : ℕ) (w rest : List ℕ) → n < 2 ^ 64 → is_more (next (w ++ rest)) ≡ false → (next (w ++ rest) == 120) ≡ false → list_all is_word w ≡ true → is_word (next rest) ≡ false
+pub first_number : (n : ℕ) (w rest : List ℕ) → n < 2 ^ 64 → IsApart (w ++ rest) → (next (w ++ rest) == 120) ≡ false → list_all is_word w ≡ true → is_word (next rest) ≡ false
     → first (decimal n ++ (w ++ rest)) ≡ (number false (Some n) w, rest)
 first_number n w rest small e x k f = let s = spelled n small in first_digits (decimal n) w rest n s.1 s.0 s.2 e x k f
 
 below_zero : (ds w rest : List ℕ) (n : ℕ) → list_all is_digit ds ≡ true → magnitude (Some 0) ds ≡ Some n → 0 < length ds
-    → is_more (next (w ++ rest)) ≡ false → list_all is_word w ≡ true → is_word (next rest) ≡ false
+    → IsApart (w ++ rest) → list_all is_word w ≡ true → is_word (next rest) ≡ false
     → first (45 ∷ (ds ++ (w ++ rest))) ≡ (number true (Some n) w, rest)
 below_zero [] w rest n h m l e k f = absurd (omega arith)
 below_zero (d ∷ ds) w rest n h m l e k f =
@@ -157,6 +162,6 @@ below_zero (d ∷ ds) w rest n h m l e k f =
     let xs = (d ∷ ds) ++ (w ++ rest) in
     ap token_at (no (begins_comment 45 xs) _ _ (digit_no_dash d digit)) ∙ yes (is_digit d) _ _ digit ∙ taken_number true (d ∷ ds) w rest n h m e k f
 
-pub first_below_zero : (n : ℕ) (w rest : List ℕ) → n < 2 ^ 64 → is_more (next (w ++ rest)) ≡ false → list_all is_word w ≡ true → is_word (next rest) ≡ false
+pub first_below_zero : (n : ℕ) (w rest : List ℕ) → n < 2 ^ 64 → IsApart (w ++ rest) → list_all is_word w ≡ true → is_word (next rest) ≡ false
     → first (45 ∷ (decimal n ++ (w ++ rest))) ≡ (number true (Some n) w, rest)
 first_below_zero n w rest small e k f = let s = spelled n small in below_zero (decimal n) w rest n s.1 s.0 s.2 e k f

@@ -3,6 +3,7 @@ pub mod Spelled
 pub mod Unquoting
 pub mod FirstTokens
 pub mod FirstNumbers
+pub mod Frames
 pub mod FirstOctets
 pub mod FirstSigns
 pub mod Reading

@@ -10,7 +10,7 @@ use Rattle.vx_source_types.proofs.TypeEnds.{end_stops as type_stops}
 use Rattle.vx_value.specs.Types.{Datum}
 use Rattle.vx_source_types.specs.Literals.{plain_literal, typed_literal}
 use Rattle.vx_source_types.specs.ScalarReading.{ScalarState, scalar_due, in_value, in_type, whole_scalar, ended, value_after, type_ended, type_after, scalar_step}
-use Rattle.vx_source_types.specs.ValueReading.{ValueFrame, in_items, in_row, ValueMode, value_due, first_item, first_named, next_named, named_value, whole_value, ValueState, Drafted, value_ends, value_next, value_step}
+use Rattle.vx_source_types.specs.ValueReading.{ValueFrame, in_items, in_row, ValueMode, value_due, first_item, first_named, next_named, named_value, whole_value, whole_point, ValueState, Drafted, value_ends, value_next, value_step}
 use Rattle.vx_dtype.specs.Types.{Name}
 
 value_stops : (fs : List ValueFrame) (ns : List Name) (r : ℕ) (v : Datum) (u : ValueState) → ¬ (value_ends fs ns r v end ≡ Ok (more u))
@@ -25,6 +25,7 @@ next_stops fs (first_named d) ns r u = λ e. (cc)
 next_stops fs (next_named d) ns r u = λ e. (cc)
 next_stops fs (named_value d) ns r u = λ e. (cc)
 next_stops fs (whole_value v) ns r u = value_stops fs ns r v u
+next_stops fs (whole_point i k) ns r u = λ e. (cc)
 
 ended_stops : (o : Result Constant Expected) (u : ScalarState) → ¬ (ended o ≡ Ok (more u))
 ended_stops (Ok c) u = λ e. (cc)
@@ -32,7 +33,7 @@ ended_stops (Err x) u = λ e. (cc)
 
 after_value : (room : ℕ) (a : Result (Goes ValueState Drafted) Expected) (u : ScalarState) → ((s : ValueState) → ¬ (a ≡ Ok (more s))) → ¬ (value_after room end a ≡ Ok (more u))
 after_value room (Ok (more s)) u h = absurd (h s refl)
-after_value room (Ok (done d)) u h = ended_stops (plain_literal d.value) u
+after_value room (Ok (done d)) u h = ended_stops (plain_literal d) u
 after_value room (Err x) u h = λ e. (cc)
 
 typed_stops : (o : Option Constant) (u : ScalarState) → ¬ (type_ended o ≡ Ok (more u))

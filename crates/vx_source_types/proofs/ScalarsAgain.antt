@@ -15,7 +15,7 @@ use Rattle.vx_value.specs.Texts.{ptype_text}
 use Rattle.vx_value.specs.Types.{Name, truth, number, decimals, date, timestamp, text, octets, LogicalType, ty, atomic, list, fixed, struct, Fields, no_field, field, Datum, null, bool, int, utf8, bytes, list_of, struct_of, Data, no_datum, datum}
 use Rattle.vx_source_types.specs.Characters.{is_word}
 use Rattle.vx_source_types.specs.Tokens.{number as numeral, end, next, first}
-use Rattle.vx_source_types.proofs.FirstNumbers.{is_more, first_number, first_below_zero}
+use Rattle.vx_source_types.proofs.FirstNumbers.{IsApart, first_number, first_below_zero}
 use Rattle.vx_source_types.specs.Reading.{done, Leads, stays, leads, IsRead, is_read}
 use Rattle.vx_source_types.specs.TypePrintable.{IsPrintable, type_nesting}
 use Rattle.vx_source_types.specs.TypeReading.{TypeState, type_start, type_step}
@@ -28,7 +28,7 @@ use Rattle.vx_source_types.specs.ScalarTexts.{value_source, scalar_source}
 use Rattle.vx_source_types.specs.ScalarPrintable.{value_nesting, IsSpelledValue}
 use Rattle.vx_source_types.specs.Untyped.{dated, untyped, untyped_items, untyped_row, typed_value}
 use Rattle.vx_source_types.proofs.TypedAgain.{typed_again as value_typed}
-use Rattle.vx_source_types.specs.ValueReading.{Drafted, ValueState, whole_value, value_start, value_step}
+use Rattle.vx_source_types.specs.ValueReading.{Drafted, drafted, ValueState, whole_value, value_start, value_step}
 use Rattle.vx_source_types.proofs.ValuesAgain.{Begins, names_after, items_after, row_after, value_again, fits_small, fits_below_zero}
 
 -- ---- the names that a value's structs have by its type
@@ -116,7 +116,7 @@ fitted t v f = ap (λ b. if b then Some (constant t v) else None) f
 
 -- what is read of the value's text, before its type
 abbrev draft_of : Datum → LogicalType → Drafted
-draft_of v t = record { value = untyped v t; names = names_after [] v t }
+draft_of v t = drafted (untyped v t) (names_after [] v t)
 
 typed_is : (v : Datum) (t : LogicalType) → Fits v t → IsPrintable t → typed_literal (draft_of v t) t ≡ Some (constant t v)
 typed_is v t f w = ap (λ ns. typed_of t ns (typed_value (untyped v t) t)) (none_left v t f) ∙ ap (typed_of t (Some [])) (value_typed v t f w) ∙ fitted t v f
@@ -150,15 +150,15 @@ suffix_is I32 negative n = refl
 suffix_is I64 negative n = refl
 
 -- a suffix begins with a letter that no number has, and is a word
-suffix_apart : (p : PType) → (is_more (next (ptype_text p ++ [])) ≡ false) × ((next (ptype_text p ++ []) == 120) ≡ false) × (list_all is_word (ptype_text p) ≡ true)
-suffix_apart U8 = (refl, refl, refl)
-suffix_apart U16 = (refl, refl, refl)
-suffix_apart U32 = (refl, refl, refl)
-suffix_apart U64 = (refl, refl, refl)
-suffix_apart I8 = (refl, refl, refl)
-suffix_apart I16 = (refl, refl, refl)
-suffix_apart I32 = (refl, refl, refl)
-suffix_apart I64 = (refl, refl, refl)
+suffix_apart : (p : PType) → IsApart (ptype_text p ++ []) × ((next (ptype_text p ++ []) == 120) ≡ false) × (list_all is_word (ptype_text p) ≡ true)
+suffix_apart U8 = ((refl, refl), refl, refl)
+suffix_apart U16 = ((refl, refl), refl, refl)
+suffix_apart U32 = ((refl, refl), refl, refl)
+suffix_apart U64 = ((refl, refl), refl, refl)
+suffix_apart I8 = ((refl, refl), refl, refl)
+suffix_apart I16 = ((refl, refl), refl, refl)
+suffix_apart I32 = ((refl, refl), refl, refl)
+suffix_apart I64 = ((refl, refl), refl, refl)
 
 -- a number whose token is known
 number_read : (p : PType) (i : ℤ) (room : ℕ) (bs : List ℕ) (negative : Bool) (n : ℕ) → first bs ≡ (numeral negative (Some n) (ptype_text p), []) → ranged negative (Some n) (Some p) ≡ fitting (ty (atomic (number p)) false) (int i)
@@ -187,7 +187,7 @@ typed_again v t room f u w h k = behind (text_again t room w k) where
   behind : IsRead type_step (type_start room) (type_source t) t → IsRead (scalar_step room) scalar_due (value_source v t ++ 58 ∷ 58 ∷ type_source t) (constant t v)
   behind (is_read {u = s} {ds = ds} g p q) =
       is_read
-      ((then) (scalar_step room) (begun_in room (value_again v t [] [] room (58 ∷ 58 ∷ type_source t) f u w h (refl, refl)))
+      ((then) (scalar_step room) (begun_in room (value_again v t [] [] room (58 ∷ 58 ∷ type_source t) f u w h (refl, refl, λ i e. refl)))
       (leads refl refl (type_in room (draft_of v t) g))) p (ap (type_after (draft_of v t)) q ∙ ap type_ended (typed_is v t f w))
 
 -- a value without a type behind it
@@ -195,7 +195,7 @@ plain_again : (v : Datum) (t : LogicalType) (room : ℕ) → Fits v t → IsSpel
     → scalar_step room (in_value (read_value (untyped v t) (names_after [] v t) room)) end ≡ Ok (done (constant t v))
     → IsRead (scalar_step room) scalar_due (value_source v t) (constant t v)
 plain_again v t room f u w h e =
-    is_read (subst (λ bs. Leads (scalar_step room) scalar_due bs (in_value (read_value (untyped v t) (names_after [] v t) room)) []) (append-nil (value_source v t)) (begun_in room (value_again v t [] [] room [] f u w h (refl, refl)))) refl e
+    is_read (subst (λ bs. Leads (scalar_step room) scalar_due bs (in_value (read_value (untyped v t) (names_after [] v t) room)) []) (append-nil (value_source v t)) (begun_in room (value_again v t [] [] room [] f u w h (refl, refl, λ i e. refl)))) refl e
 
 pub scalar_again : (t : LogicalType) (v : Datum) (room : ℕ) → Fits v t → IsSpelledValue v → IsPrintable t → value_nesting v ≤ room → type_nesting t ≤ room
     → IsRead (scalar_step room) scalar_due (scalar_source v t) (constant t v)

@@ -82,10 +82,10 @@ decimal_again p s fs r rest some wide within =
     of_text type_step grouped
     (leads {t = at fs decimal_opens r} (first_word (codes "decimal") (40 ∷ (decimal p ++ 44 ∷ 32 ∷ behind)) refl refl) refl
     (leads {t = at fs precision_due r} (first_open_paren (decimal p ++ 44 ∷ 32 ∷ behind)) refl
-    (leads {t = at fs (precision_ends p) r} (first_number p [] (44 ∷ 32 ∷ behind) (omega arith) refl refl refl refl)
+    (leads {t = at fs (precision_ends p) r} (first_number p [] (44 ∷ 32 ∷ behind) (omega arith) (refl, refl) refl refl refl)
     (ap (precision_read fs r (numeral false (Some p) [])) (short_length p (omega arith)) ∙ chosen (nat_le 1 p && nat_le p 38) _ _ (and_from _ _ (le-leb 1 p some) (le-leb p 38 wide)))
     (leads {t = at fs (scale_due p) r} (first_comma (32 ∷ behind)) refl
-    (leads {t = at fs (scale_closes p s) r} (first_number s [] (41 ∷ rest) (omega arith) refl refl refl refl)
+    (leads {t = at fs (scale_closes p s) r} (first_number s [] (41 ∷ rest) (omega arith) (refl, refl) refl refl refl)
     (ap (scale_read fs r p (numeral false (Some s) [])) (short_length s (omega arith)) ∙ chosen (nat_le s p) _ _ (le-leb s p within))
     (leads (first_close_paren rest) refl stays))))))
 
@@ -147,7 +147,7 @@ closed_list (ty s false) fs r rest = leads (first_close_paren rest) refl stays
 length_again : (t : LogicalType) (k : ℕ) (fs : List TypeFrame) (r : ℕ) (rest : List ℕ) → k < 2 ^ 32
     → Goes (at fs (length_due t) r) (decimal k ++ 93 ∷ rest) (at fs (unmarked (ty (fixed t k) false)) r) rest
 length_again t k fs r rest h =
-    leads {t = at fs (length_closes t k) r} (first_number k [] (93 ∷ rest) (omega arith) refl refl refl refl) (ap (length_read fs r t (numeral false (Some k) [])) (short_length k h)) (leads (first_close_bracket rest) refl stays)
+    leads {t = at fs (length_closes t k) r} (first_number k [] (93 ∷ rest) (omega arith) (refl, refl) refl refl refl) (ap (length_read fs r t (numeral false (Some k) [])) (short_length k h)) (leads (first_close_bracket rest) refl stays)
 
 closed_fixed : (t : LogicalType) (k : ℕ) (fs : List TypeFrame) (r : ℕ) (rest : List ℕ) → k < 2 ^ 32
     → Goes (at (in_fixed (suc r) ∷ fs) (read_mode t) r) (41 ∷ 91 ∷ (decimal k ++ 93 ∷ rest)) (at fs (unmarked (ty (fixed t k) false)) (suc r)) rest

@@ -18,7 +18,7 @@ use Rattle.vx_dtype.specs.Texts.{with_commas}
 use Rattle.vx_dtype.proofs.Commas.{after_commas}
 use Rattle.vx_source_types.specs.Characters.{is_word}
 use Rattle.vx_source_types.specs.declared.token.Sign.TheVariants.{OpenBracket, CloseBracket, OpenBrace}
-use Rattle.vx_source_types.specs.Tokens.{Lexeme, word, number as numeral, text as text_lexeme, octets as octets_lexeme, sign, next, first}
+use Rattle.vx_source_types.specs.Tokens.{Lexeme, word, number as numeral, text as text_lexeme, octets as octets_lexeme, sign, next, has_point, first}
 use Rattle.vx_source_types.proofs.FirstTokens.{first_word, first_quoted, first_text}
 use Rattle.vx_source_types.proofs.FirstNumbers.{is_more, first_number, first_below_zero}
 use Rattle.vx_source_types.proofs.FirstOctets.{first_octets}
@@ -64,9 +64,9 @@ one_token : (fs : List ValueFrame) (ns : List Name) (r : ℕ) (v : Datum) (bs re
     → Begins (at fs value_due ns r) bs (at fs (whole_value v) ns r) rest
 one_token fs ns r v bs rest x p q n = record { token = x; behind = rest; state = at fs (whole_value v) ns r; found = p; taken = q; bare = n; goes = stays }
 
--- what may follow a value: no word goes on there, and no text
-abbrev pub Follows : List ℕ → Type 0
-Follows rest = (is_word (next rest) ≡ false) × ((next rest == 34) ≡ false)
+-- what may follow a value: no word goes on there, no text, and behind a number no point
+abbrev pub Follows : Datum → List ℕ → Type 0
+Follows v rest = (is_word (next rest) ≡ false) × ((next rest == 34) ≡ false) × ((i : ℤ) → v ≡ int i → has_point rest ≡ false)
 
 -- ---- numbers
 
@@ -102,14 +102,14 @@ word_no_more b e = grind (arith, nat_tests)
 word_no_x : (b : ℕ) → is_word b ≡ false → (b == 120) ≡ false
 word_no_x b e = grind (arith, nat_tests)
 
-number_again : (i : ℤ) (p : PType) (fs : List ValueFrame) (ns : List Name) (r : ℕ) (rest : List ℕ) → fits_ptype i p ≡ true → is_word (next rest) ≡ false
+number_again : (i : ℤ) (p : PType) (fs : List ValueFrame) (ns : List Name) (r : ℕ) (rest : List ℕ) → fits_ptype i p ≡ true → is_word (next rest) ≡ false → has_point rest ≡ false
     → Begins (at fs value_due ns r) (signed_decimal i ++ rest) (at fs (whole_value (int i)) ns r) rest
-number_again (pos n) p fs ns r rest h e =
+number_again (pos n) p fs ns r rest h e k =
     one_token fs ns r (int (pos n)) (decimal n ++ rest) rest (numeral false (Some n) [])
-    (first_number n [] rest (fits_small p n h) (word_no_more (next rest) e) (word_no_x (next rest) e) refl e) refl refl
-number_again (negsuc n) p fs ns r rest h e =
+    (first_number n [] rest (fits_small p n h) (word_no_more (next rest) e, k) (word_no_x (next rest) e) refl e) refl refl
+number_again (negsuc n) p fs ns r rest h e k =
     one_token fs ns r (int (negsuc n)) (45 ∷ (decimal (suc n) ++ rest)) rest (numeral true (Some (suc n)) [])
-    (first_below_zero (suc n) [] rest (fits_below_zero p n h) (word_no_more (next rest) e) refl e) refl refl
+    (first_below_zero (suc n) [] rest (fits_below_zero p n h) (word_no_more (next rest) e, k) refl e) refl refl
 
 -- ---- decimals, days and instants
 
@@ -117,10 +117,10 @@ text_again : (fs : List ValueFrame) (ns : List Name) (r : ℕ) (s rest : List �
 text_again fs ns r s rest p e =
     of_begun_text (ap (λ bs. bs ++ rest) (in_quotes s p)) (one_token fs ns r (utf8 s) (between_quotes 34 s ++ rest) rest (text_lexeme s) (first_text s rest (plain_utf8 s p) e) refl refl)
 
-dated_again : (i : ℤ) (p : PType) (s : List ℕ) (o : Option Civil) (fs : List ValueFrame) (ns : List Name) (r : ℕ) (rest : List ℕ) → fits_ptype i p ≡ true → (IsSome o → Plain s) → Follows rest
+dated_again : (i : ℤ) (p : PType) (s : List ℕ) (o : Option Civil) (fs : List ValueFrame) (ns : List Name) (r : ℕ) (rest : List ℕ) → fits_ptype i p ≡ true → (IsSome o → Plain s) → Follows (int i) rest
     → Begins (at fs value_due ns r) (plain_source (dated s i o) ++ rest) (at fs (whole_value (dated s i o)) ns r) rest
 dated_again i p s (Some c) fs ns r rest f u e = text_again fs ns r s rest (u refl) e.1
-dated_again i p s None fs ns r rest f u e = number_again i p fs ns r rest f e.0
+dated_again i p s None fs ns r rest f u e = number_again i p fs ns r rest f e.0 (e.2 i refl)
 
 -- ---- the names of the structs, outer ones first, behind those that are there
 
@@ -195,14 +195,14 @@ behind_blank : {s u : ValueState} {bs ds : List ℕ} → Begins s bs u ds → Go
 behind_blank b = leads b.found b.taken b.goes
 
 -- what stands behind an item
-item_follows : (vs : Data) (t : LogicalType) (rest : List ℕ) → Follows (after_commas (item_sources vs t) ++ 93 ∷ rest)
-item_follows no_datum t rest = (refl, refl)
-item_follows (datum v vs) t rest = (refl, refl)
+item_follows : (vs : Data) (t : LogicalType) (rest : List ℕ) → (v : Datum) → Follows v (after_commas (item_sources vs t) ++ 93 ∷ rest)
+item_follows no_datum t rest v = (refl, refl, λ i e. refl)
+item_follows (datum x vs) t rest v = (refl, refl, λ i e. refl)
 
-value_follows : (vs : Data) (fs : Fields) (rest : List ℕ) → Follows (after_commas (row_sources vs fs) ++ 125 ∷ rest)
-value_follows no_datum fs rest = (refl, refl)
-value_follows (datum v vs) no_field rest = (refl, refl)
-value_follows (datum v vs) (field a t fs) rest = (refl, refl)
+value_follows : (vs : Data) (fs : Fields) (rest : List ℕ) → (v : Datum) → Follows v (after_commas (row_sources vs fs) ++ 125 ∷ rest)
+value_follows no_datum fs rest v = (refl, refl, λ i e. refl)
+value_follows (datum x vs) no_field rest v = (refl, refl, λ i e. refl)
+value_follows (datum x vs) (field a t fs) rest v = (refl, refl, λ i e. refl)
 
 -- a list whose items are read, in brackets
 in_brackets : (fs : List ValueFrame) (ns ms : List Name) (r : ℕ) (vs : Data) (mid bs rest : List ℕ) → (codes "[" ++ (mid ++ codes "]")) ++ rest ≡ 91 ∷ bs
@@ -234,12 +234,12 @@ in_braces fs ns ms r vs mid bs rest f h =
     })
 
 mutual
-  pub value_again : (v : Datum) (t : LogicalType) (fs : List ValueFrame) (ns : List Name) (r : ℕ) (rest : List ℕ) → Fits v t → IsSpelledValue v → IsPrintable t → value_nesting v ≤ r → Follows rest
+  pub value_again : (v : Datum) (t : LogicalType) (fs : List ValueFrame) (ns : List Name) (r : ℕ) (rest : List ℕ) → Fits v t → IsSpelledValue v → IsPrintable t → value_nesting v ≤ r → Follows v rest
       → Begins (at fs value_due ns r) (value_source v t ++ rest) (at fs (whole_value (untyped v t)) (names_after ns v t) r) rest
   value_again null t fs ns r rest f u w h e = one_token fs ns r null _ rest (word (codes "null")) (first_word (codes "null") rest refl e.0) refl refl
   value_again (bool true) t fs ns r rest f u w h e = one_token fs ns r (bool true) _ rest (word (codes "true")) (first_word (codes "true") rest refl e.0) refl refl
   value_again (bool false) t fs ns r rest f u w h e = one_token fs ns r (bool false) _ rest (word (codes "false")) (first_word (codes "false") rest refl e.0) refl refl
-  value_again (int i) (ty (atomic (number p)) n) fs ns r rest f u w h e = number_again i p fs ns r rest f e.0
+  value_again (int i) (ty (atomic (number p)) n) fs ns r rest f u w h e = number_again i p fs ns r rest f e.0 (e.2 i refl)
   value_again (int i) (ty (atomic (decimals p s)) n) fs ns r rest f u w h e = text_again fs ns r (decimal_text i s) rest (decimal_plain i s (few_digits i p w.1 f)) e.1
   value_again (int i) (ty (atomic date) n) fs ns r rest f u w h e = dated_again i I32 (day_text i) (civil_at i) fs ns r rest f (day_plain i) e
   value_again (int i) (ty (atomic (timestamp k z)) n) fs ns r rest f u w h e = dated_again i I64 (instant_text k z i) (civil_at (int_div_euclid i (pos (units_a_day k)))) fs ns r rest f (instant_plain k z i) e
@@ -266,7 +266,7 @@ mutual
       let parts = and_parts (fits v t) (each_fits vs t) f in
       let behind : List ℕ = after_commas (item_sources vs t) ++ 93 ∷ rest in
       of_text value_step (append_assoc (value_source v t) (after_commas (item_sources vs t)) (93 ∷ rest))
-      (then value_step (begun_first (value_again v t (in_items d ∷ fs) ns r behind parts.0 u.0 w (omega arith) (item_follows vs t rest)))
+      (then value_step (begun_first (value_again v t (in_items d ∷ fs) ns r behind parts.0 u.0 w (omega arith) (item_follows vs t rest v)))
       (to_state (ap (listed fs (items_after (names_after ns v t) vs t)) (one_item_more d (untyped v t) (untyped_items vs t))) (items_behind vs t (untyped v t) d fs (names_after ns v t) r rest parts.1 u.1 w (omega arith))))
 
   -- the items behind one
@@ -280,7 +280,7 @@ mutual
       let grouped : ((codes ", " ++ value_source x t) ++ after_commas (item_sources vs t)) ++ 93 ∷ rest ≡ 44 ∷ 32 ∷ (value_source x t ++ behind) = simp append_assoc in
       of_text value_step grouped
       (leads (first_comma _) refl
-      (then value_step (behind_blank (value_again x t (in_items c ∷ fs) ns r behind parts.0 u.0 w (omega arith) (item_follows vs t rest)))
+      (then value_step (behind_blank (value_again x t (in_items c ∷ fs) ns r behind parts.0 u.0 w (omega arith) (item_follows vs t rest x)))
       (to_state (ap (listed fs (items_after (names_after ns x t) vs t)) (one_item_more c (untyped x t) (untyped_items vs t))) (items_behind vs t (untyped x t) c fs (names_after ns x t) r rest parts.1 u.1 w (omega arith)))))
 
   -- all the values of a struct
@@ -296,7 +296,7 @@ mutual
       let grouped : ((name_source a ++ (codes ": " ++ value_source v t)) ++ after_commas (row_sources vs gs)) ++ 125 ∷ rest ≡ name_source a ++ (58 ∷ 32 ∷ (value_source v t ++ behind)) = simp append_assoc in
       of_text value_step grouped
       (then value_step (named_first a d fs ns r (value_source v t ++ behind) w.0)
-      (then value_step (behind_blank (value_again v t (in_row d ∷ fs) ms r behind parts.0 u.0 w.1 (omega arith) (value_follows vs gs rest)))
+      (then value_step (behind_blank (value_again v t (in_row d ∷ fs) ms r behind parts.0 u.0 w.1 (omega arith) (value_follows vs gs rest v)))
       (to_state (ap (rowed fs (row_after (names_after ms v t) vs gs)) (one_item_more d (untyped v t) (untyped_row vs gs))) (row_behind vs gs (untyped v t) d fs (names_after ms v t) r rest parts.1 u.1 w.2 (omega arith)))))
 
   -- the values behind one
@@ -314,5 +314,5 @@ mutual
       of_text value_step grouped
       (leads (first_comma _) refl
       (then value_step (named_next a c fs ns r (value_source x t ++ behind) w.0)
-      (then value_step (behind_blank (value_again x t (in_row c ∷ fs) ms r behind parts.0 u.0 w.1 (omega arith) (value_follows vs gs rest)))
+      (then value_step (behind_blank (value_again x t (in_row c ∷ fs) ms r behind parts.0 u.0 w.1 (omega arith) (value_follows vs gs rest x)))
       (to_state (ap (rowed fs (row_after (names_after ms x t) vs gs)) (one_item_more c (untyped x t) (untyped_row vs gs))) (row_behind vs gs (untyped x t) c fs (names_after ms x t) r rest parts.1 u.1 w.2 (omega arith))))))

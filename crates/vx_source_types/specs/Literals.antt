@@ -6,12 +6,12 @@ use Rattle.vx_dtype.specs.declared.dtype.PType.{PType}
 use Rattle.vx_dtype.specs.declared.dtype.PType.TheVariants.{I32, I64, U64}
 use Rattle.vx_value.specs.Columns.{Constant, constant}
 use Rattle.vx_value.specs.Fits.{fits}
-use Rattle.vx_value.specs.Types.{Name, truth, number, text, octets, LogicalType, ty, atomic, list, fixed, struct, Fields, no_field, field, Datum, null, bool, int, utf8, bytes, list_of, struct_of, Data, no_datum, datum}
+use Rattle.vx_value.specs.Types.{Name, truth, number, decimals, text, octets, LogicalType, ty, atomic, list, fixed, struct, Fields, no_field, field, Datum, null, bool, int, utf8, bytes, list_of, struct_of, Data, no_datum, datum}
 use Rattle.vx_source_types.specs.declared.expectation.Expected.{Expected}
-use Rattle.vx_source_types.specs.declared.expectation.Expected.TheVariants.{NullType, ValueType, Number}
+use Rattle.vx_source_types.specs.declared.expectation.Expected.TheVariants.{NullType, ValueType, PointType, Number}
 use Rattle.vx_source_types.specs.TypeReading.{ptype_word}
-use Rattle.vx_source_types.specs.Untyped.{typed_value}
-use Rattle.vx_source_types.specs.ValueReading.{Drafted, signed}
+use Rattle.vx_source_types.specs.Untyped.{typed_value, point_read}
+use Rattle.vx_source_types.specs.ValueReading.{Drafted, drafted, pointed, signed}
 
 -- the value as a scalar of that type, if it is one of it
 abbrev pub fitting : LogicalType → Datum → Option Constant
@@ -44,8 +44,9 @@ abbrev pub plain_of : Datum → Result LogicalType Expected → Result Constant 
 plain_of v (Ok t) = in_range (fitting t v)
 plain_of v (Err e) = Err e
 
-abbrev pub plain_literal : Datum → Result Constant Expected
-plain_literal v = plain_of v (plain_type v)
+abbrev pub plain_literal : Drafted → Result Constant Expected
+plain_literal (drafted v names) = plain_of v (plain_type v)
+plain_literal (pointed i k) = Err PointType
 
 -- a type of a value that may take another one by what it stands beside: one of two, which differ in nullability, or for null
 -- in all else
@@ -58,8 +59,10 @@ open_type n (bytes bs) = Ok (ty (atomic octets) n)
 open_type n (list_of vs) = Err ValueType
 open_type n (struct_of vs) = Err ValueType
 
-abbrev pub open_literal : Bool → Datum → Result Constant Expected
-open_literal n v = plain_of v (open_type n v)
+-- a number with a point is a decimal of 38 digits
+abbrev pub open_literal : Bool → Drafted → Result Constant Expected
+open_literal n (drafted v names) = plain_of v (open_type n v)
+open_literal n (pointed i k) = in_range (fitting (ty (atomic (decimals 38 k)) n) (int i))
 
 -- what is left of the names behind that one, if it is the first
 abbrev pub behind_name : Name → List Name → Option (List Name)
@@ -91,6 +94,7 @@ typed_of t (Some []) (Some v) = fitting t v
 typed_of t _ _ = None
 
 -- the value as a scalar of the type that follows it, if its structs have the type's names and it is one of the type: of a
--- decimal, a day or an instant its text is
+-- decimal, a day or an instant its text is, and of a decimal a number with a point
 abbrev pub typed_literal : Drafted → LogicalType → Option Constant
-typed_literal d t = typed_of t (names_left d.value t d.names) (typed_value d.value t)
+typed_literal (drafted v names) t = typed_of t (names_left v t names) (typed_value v t)
+typed_literal (pointed i k) t = typed_of t (Some []) (point_read i k t)

@@ -48,7 +48,7 @@ ended (Err e) = Err e
 -- what follows a value
 abbrev pub value_ended : ℕ → Drafted → Lexeme → ScalarAnswer
 value_ended room d (sign DoubleColon) = Ok (more (in_type d (type_start room)))
-value_ended room d x = ended (plain_literal d.value)
+value_ended room d x = ended (plain_literal d)
 
 abbrev pub value_after : ℕ → Lexeme → Result (Goes ValueState Drafted) Expected → ScalarAnswer
 value_after room x (Ok (more s)) = Ok (more (in_value s))

@@ -1,6 +1,6 @@
 -- The first token of a text.
-use Rattle.std.specs.Prelude.{ℕ, ◌^◌, ◌+◌, ◌*◌, ◌-◌, Bool, true, false, not, ◌||◌, ◌&&◌, List, [], ◌∷◌, ◌++◌, Option, Some, None, Result, Ok, Err, take, drop, ◌==◌, nat_lt}
-use Rattle.std.specs.List.{prefix_len}
+use Rattle.std.specs.Prelude.{ℕ, ◌^◌, ◌+◌, ◌*◌, ◌-◌, Bool, true, false, not, ◌||◌, ◌&&◌, List, [], ◌∷◌, ◌++◌, Option, Some, None, Result, Ok, Err, take, drop, ◌==◌, nat_lt, if◌then◌else◌}
+use Rattle.std.specs.List.{filter, prefix_len}
 use Rattle.std.specs.Str.{is_utf8}
 use Rattle.hex.specs.Hex.{decode_of}
 use Rattle.hex.specs.declared.error.FromHexError.{FromHexError}
@@ -10,12 +10,14 @@ use Rattle.vx_source_types.specs.declared.token.Sign.{Sign}
 use Rattle.vx_source_types.specs.declared.token.Sign.TheVariants.{OpenParen, CloseParen, OpenBracket, CloseBracket, OpenBrace, CloseBrace, Comma, Colon, DoubleColon, Dot, Question, Tilde, Equal, DoubleEqual, NotEqual, Less, LessEqual, Greater, GreaterEqual, Plus, Dollar}
 use Rattle.vx_source_types.specs.Characters.{is_letter, is_digit, is_word, is_blank}
 
--- what stands in a text: words, names between backquotes, numbers (below zero or not, their magnitude where it is below
--- 2 ^ 64, and the word that follows at once), texts, bytes and signs; the end of the text; and what is none of these
+-- what stands in a text: words, names between backquotes, whole numbers (below zero or not, their magnitude where it is
+-- below 2 ^ 64, and the word that follows at once), numbers with a point as their digits, texts, bytes and signs; the end of
+-- the text; and what is none of these
 pub data Lexeme : Type 0 where
   word : List ℕ → Lexeme
   quoted : List ℕ → Lexeme
   number : Bool → Option ℕ → List ℕ → Lexeme
+  point : List ℕ → Lexeme
   text : List ℕ → Lexeme
   octets : List ℕ → Lexeme
   sign : Sign → Lexeme
@@ -117,15 +119,31 @@ digits_len (b ∷ bs) = elim (digits_go_on b bs) [ true ↦ 1 + digits_len bs | 
 abbrev pub octets_taken : List ℕ → Taken
 octets_taken bs = (octets_lexeme (decode_of (take (word_len bs) bs)), drop (word_len bs) bs)
 
--- a number whose digits take that many bytes, and the word behind them
+-- a whole number whose digits take that many bytes, and the word behind them
 abbrev pub number_of : Bool → ℕ → List ℕ → Taken
 number_of negative n bs =
     let rest = drop n bs in
     (number negative (magnitude (Some 0) (take n bs)) (take (word_len rest) rest), drop (word_len rest) rest)
 
--- a number, or bytes behind `0x`
+-- whether a point and a digit are at the front
+abbrev pub has_point : List ℕ → Bool
+has_point bs = next bs == 46 && is_digit (next (drop 1 bs))
+
+-- the digits and the point alone, behind a minus where the number is below zero
+abbrev pub point_digits : Bool → List ℕ → List ℕ
+point_digits negative bs = let digits = filter (λ b. is_digit b || b == 46) bs in if negative then 45 ∷ digits else digits
+
+-- a number of so many bytes with a point
+abbrev pub point_of : Bool → ℕ → List ℕ → Taken
+point_of negative n bs = (point (point_digits negative (take n bs)), drop n bs)
+
+-- a number, whose first digits take that many bytes
+abbrev pub number_behind : Bool → ℕ → List ℕ → Taken
+number_behind negative n bs = if has_point (drop n bs) then point_of negative (n + 1 + digits_len (drop 1 (drop n bs))) bs else number_of negative n bs
+
+-- a number
 abbrev pub number_taken : Bool → List ℕ → Taken
-number_taken negative bs = number_of negative (digits_len bs) bs
+number_taken negative bs = number_behind negative (digits_len bs) bs
 
 -- whether `0x` is at the front
 abbrev pub is_hex : ℕ → List ℕ → Bool

@@ -1,7 +1,8 @@
 -- Values as they stand in source text before their type is known: of a decimal, a day and an instant its text stands there.
-use Rattle.std.specs.Prelude.{Bool, true, false, List, ℕ, ℤ, pos, ◌*ℤ◌, ◌^◌, Option, Some, None, if◌then◌else◌}
-use Rattle.std.specs.Int.{int_div_euclid}
+use Rattle.std.specs.Prelude.{Bool, true, false, List, ℕ, ℤ, pos, ◌*ℤ◌, ◌^◌, ◌-◌, Option, Some, None, if◌then◌else◌, nat_le}
+use Rattle.std.specs.Int.{int_div_euclid, int_rem_euclid}
 use Rattle.std.specs.Option.{option_and_then, option_map}
+use Rattle.std.specs.Ordering.{int_eq}
 use Rattle.vx_dtype.specs.declared.timestamp_type.TimeUnit.{TimeUnit}
 use Rattle.vx_literals.specs.Days.{Civil, civil_at, day_text, day_read}
 use Rattle.vx_literals.specs.Decimals.{decimal_text, decimal_read}
@@ -60,6 +61,17 @@ text_read s t = Some (utf8 s)
 abbrev pub number_read : ℤ → LogicalType → Option Datum
 number_read i (ty (atomic (decimals p s)) n) = if fits_digits (i *ℤ pos (10 ^ s)) 38 then Some (int (i *ℤ pos (10 ^ s))) else None
 number_read i t = Some (int i)
+
+-- so many units of one scale as units of another, if these are whole and have at most 38 digits
+abbrev pub rescaled : ℤ → ℕ → ℕ → Option ℤ
+rescaled i from to =
+    if nat_le from to then (if fits_digits (i *ℤ pos (10 ^ (to - from))) 38 then Some (i *ℤ pos (10 ^ (to - from))) else None)
+    else if int_eq (int_rem_euclid i (pos (10 ^ (from - to)))) (pos 0) then Some (int_div_euclid i (pos (10 ^ (from - to)))) else None
+
+-- the value that a number with a point is before that type: of a decimal's type the same number, and else none
+abbrev pub point_read : ℤ → ℕ → LogicalType → Option Datum
+point_read i k (ty (atomic (decimals p s)) n) = option_map int (rescaled i k s)
+point_read i k t = None
 
 -- the value that a type behind it makes of a value
 abbrev mutual

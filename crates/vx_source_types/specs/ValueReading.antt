@@ -1,20 +1,22 @@
 -- How a value is read, token by token: what is open around it lies on a stack, and the last token says what is due next.
 -- Its type isn't known yet, so the names of its structs are kept in the order in which they stand.
-use Rattle.std.specs.Prelude.{ℕ, Bool, true, false, List, [], ◌∷◌, ◌++◌, Option, Some, None, Result, Ok, codes, option_map, ℤ, pos, neg_ℤ}
+use Rattle.std.specs.Prelude.{ℕ, Bool, true, false, ◌==◌, List, [], ◌∷◌, ◌++◌, length, Option, Some, None, Result, Ok, Err, codes, option_map, ℤ, pos, neg_ℤ, nat_le, if◌then◌else◌}
+use Rattle.vx_literals.specs.Decimals.{decimal_read}
 use Rattle.vx_value.specs.Types.{Name, Datum, null, bool, int, utf8, bytes, list_of, struct_of}
 use Rattle.vx_value.specs.Fields.{data_of}
 use Rattle.vx_source_types.specs.declared.expectation.Expected.{Expected}
 use Rattle.vx_source_types.specs.declared.expectation.Expected.TheVariants.{Value, Number, Name as AName, FieldValue, CommaOrCloseBracket, CommaOrCloseBrace}
 use Rattle.vx_source_types.specs.declared.token.Sign.TheVariants.{OpenBracket as BracketOpens, CloseBracket as BracketCloses, OpenBrace as BraceOpens, CloseBrace as BraceCloses, Comma as CommaSign, Colon}
-use Rattle.vx_source_types.specs.Tokens.{Lexeme, word, number as numeral, text, octets, sign}
+use Rattle.vx_source_types.specs.Tokens.{Lexeme, word, number as numeral, point, text, octets, sign}
 use Rattle.vx_source_types.specs.Names.{name_at, same_word}
 use Rattle.vx_source_types.specs.Reading.{Goes, more, done, Step, refused}
 use Rattle.vx_source_types.specs.TypeReading.{within}
 
--- a value without its type, and the names of its structs
-pub record Drafted : Type 0 where
-  pub value : Datum
-  pub names : List Name
+-- what has no type yet: a value and the names of its structs; or a number with a point, as so many units, 10 to so many of
+-- which are one
+pub data Drafted : Type 0 where
+  drafted : Datum → List Name → Drafted
+  pointed : ℤ → ℕ → Drafted
 
 -- the items of a list or the values of a struct so far, and the nesting that is allowed outside it
 pub record ItemsRead : Type 0 where
@@ -27,7 +29,7 @@ pub data ValueFrame : Type 0 where
   in_row : ItemsRead → ValueFrame
 
 -- what is due next: a value; an item or the end of a list without one; a field or the end of a struct without one; a field;
--- the sign before its value; nothing
+-- the sign before its value; nothing behind a value, or behind a number with a point
 pub data ValueMode : Type 0 where
   value_due : ValueMode
   first_item : ItemsRead → ValueMode
@@ -35,6 +37,7 @@ pub data ValueMode : Type 0 where
   next_named : ItemsRead → ValueMode
   named_value : ItemsRead → ValueMode
   whole_value : Datum → ValueMode
+  whole_point : ℤ → ℕ → ValueMode
 
 -- a value that is being read, the names so far, and the nesting that is still allowed
 pub record ValueState : Type 0 where
@@ -93,10 +96,26 @@ simple_begins fs ns r x (Some v) = value_goes fs (whole_value v) ns r
 abbrev pub no_items : ℕ → ItemsRead
 no_items r = record { items = []; room = r }
 
+-- how many digits stand behind the point
+abbrev pub digits_behind : List ℕ → ℕ
+digits_behind [] = 0
+digits_behind (b ∷ bs) = if b == 46 then length bs else digits_behind bs
+
+-- a number with a point, of at most 38 digits
+abbrev pub point_units : List ℕ → Option ℤ
+point_units s = if nat_le (digits_behind s) 38 then decimal_read (digits_behind s) s else None
+
+-- it stands by itself, and is no part of a value
+abbrev pub point_begins : List ValueFrame → List Name → ℕ → ℕ → Option ℤ → ValueAnswer
+point_begins [] ns r k (Some i) = value_goes [] (whole_point i k) ns r
+point_begins [] ns r k None = Err Number
+point_begins (f ∷ fs) ns r k i = Err Value
+
 -- the beginning of a value
 abbrev pub value_begins : List ValueFrame → List Name → ℕ → Lexeme → ValueAnswer
 value_begins fs ns r (sign BracketOpens) = within r (λ less. value_goes fs (first_item (no_items r)) ns less)
 value_begins fs ns r (sign BraceOpens) = within r (λ less. value_goes fs (first_named (no_items r)) ns less)
+value_begins fs ns r (point s) = point_begins fs ns r (digits_behind s) (point_units s)
 value_begins fs ns r x = simple_begins fs ns r x (simple_value x)
 
 -- the items with another
@@ -123,7 +142,7 @@ named_ends fs ns r d x = refused x CommaOrCloseBrace
 
 -- what follows a whole value
 abbrev pub value_ends : List ValueFrame → List Name → ℕ → Datum → Lexeme → ValueAnswer
-value_ends [] ns r v x = Ok (done (record { value = v; names = ns }))
+value_ends [] ns r v x = Ok (done (drafted v ns))
 value_ends (in_items d ∷ fs) ns r v x = item_ends fs ns r (with_item d v) x
 value_ends (in_row d ∷ fs) ns r v x = named_ends fs ns r (with_item d v) x
 
@@ -155,6 +174,7 @@ value_next fs (first_named d) ns r x = first_named_at fs ns r d x
 value_next fs (next_named d) ns r x = value_named fs ns r d x (name_at x)
 value_next fs (named_value d) ns r x = named_value_at fs ns r d x
 value_next fs (whole_value v) ns r x = value_ends fs ns r v x
+value_next fs (whole_point i k) ns r x = Ok (done (pointed i k))
 
 abbrev pub value_step : Step ValueState Drafted
 value_step s x = value_next s.frames s.mode s.names s.room x

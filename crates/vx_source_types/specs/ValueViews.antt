@@ -2,11 +2,12 @@
 use Rattle.std.specs.Prelude.{List, map, reverse}
 use Rattle.vx_value.specs.Views.{value_of}
 use Rattle.vx_source_types.specs.declared.value_state.Draft.{Draft}
+use Rattle.vx_source_types.specs.declared.value_state.Draft.TheVariants.{Value as Valued, Point as Pointed}
 use Rattle.vx_source_types.specs.declared.value_state.ItemsSoFar.{ItemsSoFar}
 use Rattle.vx_source_types.specs.declared.value_state.ValueFrame.{ValueFrame}
 use Rattle.vx_source_types.specs.declared.value_state.ValueFrame.TheVariants.{List as InList, Struct as InStruct}
 use Rattle.vx_source_types.specs.declared.value_state.ValueMode.{ValueMode}
-use Rattle.vx_source_types.specs.declared.value_state.ValueMode.TheVariants.{Value as Due, FirstItem, FirstField, NextField, FieldValue, Whole}
+use Rattle.vx_source_types.specs.declared.value_state.ValueMode.TheVariants.{Value as Due, FirstItem, FirstField, NextField, FieldValue, Whole, Point}
 use Rattle.vx_source_types.specs.declared.value_state.ValueReader.{ValueReader}
 use Rattle.vx_source_types.specs.declared.value_state.ValueStep.{ValueStep}
 use Rattle.vx_source_types.specs.declared.value_state.ValueStep.TheVariants.{More, Done}
@@ -14,7 +15,8 @@ use Rattle.vx_source_types.specs.Reading.{Goes, more, done}
 use Rattle.vx_source_types.specs.ValueReading as reading
 
 abbrev pub draft_of : Draft → reading.Drafted
-draft_of d = record { value = value_of d.value; names = d.names.items }
+draft_of (Valued v names) = reading.drafted (value_of v) names.items
+draft_of (Pointed units decimal) = reading.pointed units decimal.scale
 
 abbrev pub items_read : ItemsSoFar → reading.ItemsRead
 items_read d = record { items = map value_of d.items.items; room = d.room }
@@ -34,6 +36,7 @@ mode_of (FirstField d) = reading.first_named (items_read d)
 mode_of (NextField d) = reading.next_named (items_read d)
 mode_of (FieldValue d) = reading.named_value (items_read d)
 mode_of (Whole v) = reading.whole_value (value_of v)
+mode_of (Point units decimal) = reading.whole_point units decimal.scale
 
 abbrev pub reader_of : ValueReader → reading.ValueState
 reader_of r = record { frames = frames_of r.frames.items; mode = mode_of r.mode; names = r.names.items; room = r.room }

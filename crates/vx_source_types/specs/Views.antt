@@ -4,14 +4,15 @@ use Rattle.vx_source_types.specs.declared.error.ParseError.{ParseError}
 use Rattle.vx_source_types.specs.declared.error.ParseError.TheVariants.{OutOfMemory, Unexpected}
 use Rattle.vx_source_types.specs.declared.expectation.Expected.{Expected}
 use Rattle.vx_source_types.specs.declared.token.Token.{Token}
-use Rattle.vx_source_types.specs.declared.token.Token.TheVariants.{Word, Quoted, Number, Text, Octets, Sign, End, Invalid}
-use Rattle.vx_source_types.specs.Tokens.{Lexeme, word, quoted, number, text, octets, sign, end, invalid, Taken}
+use Rattle.vx_source_types.specs.declared.token.Token.TheVariants.{Word, Quoted, Number, Point, Text, Octets, Sign, End, Invalid}
+use Rattle.vx_source_types.specs.Tokens.{Lexeme, word, quoted, number, point, text, octets, sign, end, invalid, Taken}
 
 -- what a token stands for
 abbrev pub lexeme_of : Token → Lexeme
 lexeme_of (Word name) = word name
 lexeme_of (Quoted name) = quoted name
 lexeme_of (Number negative magnitude suffix) = number negative magnitude suffix
+lexeme_of (Point s) = point (string_bytes s)
 lexeme_of (Text s) = text (string_bytes s)
 lexeme_of (Octets v) = octets v.items
 lexeme_of (Sign s) = sign s

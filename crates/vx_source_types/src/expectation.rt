@@ -82,6 +82,9 @@ pub enum Expected {
     /// A null isn't given its type.
     #[error("expected a type behind the null, as in null::i32?; `is null` tests for a null")]
     NullType,
+    /// A number with a point isn't given its type.
+    #[error("expected a decimal's type behind a number with a point, as in 9.99::decimal(3, 2)")]
+    PointType,
     /// A number is out of its type's range, or its suffix names no type.
     #[error("expected a number in its type's range: i32, or one with a suffix of i8, i16, i32, i64, u8, u16, u32, u64")]
     Number,

@@ -9,6 +9,7 @@ mod literal;
 mod names;
 mod notation;
 mod number;
+mod point;
 mod quotes;
 mod scalar_parser;
 mod scalar_text;

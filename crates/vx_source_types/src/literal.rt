@@ -1,16 +1,17 @@
 // Scalars of what was read.
-ghost use Rattle.std.specs.Prelude.{◌≡◌, option_map, MatchResult, Some, Ok, Err};
-ghost use Rattle.vx_value.specs.Types.{int};
+ghost use Rattle.std.specs.Prelude.{◌≡◌, ◌≤◌, option_and_then, option_map, MatchResult, Some, Ok, Err};
+ghost use Rattle.vx_value.specs.Types.{atomic, decimals, int, ty};
 ghost use Rattle.vx_value.specs.Views.{admits_null, type_of, fields_of, value_of, data_view};
-ghost use Rattle.vx_source_types.specs.Literals.{number_literal, ranged, in_range, open_literal, open_type, plain_literal, plain_type, typed_literal, fitting, names_left, items_left, row_left, behind_name};
+ghost use Rattle.vx_source_types.specs.Literals.{number_literal, ranged, in_range, open_literal, open_type, plain_literal, plain_type, typed_literal, typed_of, fitting, names_left, items_left, row_left, behind_name};
+ghost use Rattle.vx_source_types.specs.Untyped.{typed_value};
 ghost use Rattle.vx_source_types.specs.ValueViews.{draft_of};
 
 use crate::expectation::Expected;
 use crate::type_words::ptype_word;
-use crate::typed_value::type_value;
+use crate::typed_value::{type_value, units_before};
 use crate::value_reader::signed;
 use crate::value_state::Draft;
-use vx_dtype::{DType, FieldName, Nullability, PType, StructFields};
+use vx_dtype::{DType, DecimalType, FieldName, Nullability, PType, StructFields};
 use vx_value::{Scalar, Value};
 
 /// The number with a type's name behind it, if it is in the type's range.
@@ -37,21 +38,43 @@ fn fitting(dtype: DType, value: Value) -> Option<Scalar>
 
 /// The scalar of a value that no type follows, or what would have stood right.
 pub fn plain_literal(draft: Draft) -> Result<Scalar, Expected>
-    ensures { result ≡ plain_literal (value_of draft.value) }
+    ensures { result ≡ plain_literal (draft_of draft) }
 {
-    let Draft { value, names: _ } = draft;
-    let dtype = plain_type(&value)?;
-    in_range(fitting(dtype, value))
+    match draft {
+        Draft::Value(value, _) => {
+            let dtype = plain_type(&value)?;
+            in_range(fitting(dtype, value))
+        }
+        Draft::Point(..) => Err(Expected::PointType),
+    }
 }
 
 /// The scalar of a value that no type follows and that may take its type from what it stands beside, or what would have
 /// stood right: of one of two types, which differ.
 pub fn open_literal(draft: Draft, nullable: bool) -> Result<Scalar, Expected>
-    ensures { result ≡ open_literal nullable (value_of draft.value) }
+    ensures { result ≡ open_literal nullable (draft_of draft) }
 {
-    let Draft { value, names: _ } = draft;
-    let dtype = open_type(&value, nullable)?;
-    in_range(fitting(dtype, value))
+    match draft {
+        Draft::Value(value, _) => {
+            let dtype = open_type(&value, nullable)?;
+            in_range(fitting(dtype, value))
+        }
+        Draft::Point(units, decimal) => open_point(units, decimal.scale(), nullable),
+    }
+}
+
+// A number with a point as a decimal of 38 digits.
+fn open_point(units: i128, scale: u8, nullable: bool) -> Result<Scalar, Expected>
+    requires { scale ≤ 38 }
+    ensures { result ≡ in_range (fitting (ty (atomic (decimals 38 scale)) nullable) (int units)) }
+{
+    match DecimalType::new(DecimalType::MAX_PRECISION, scale) {
+        Some(decimal) => {
+            let dtype = DType::Decimal(decimal, Nullability::of(nullable));
+            in_range(fitting(dtype, Value::Int(units)))
+        }
+        None => Err(Expected::Number),
+    }
 }
 
 // The scalar, or that a number of another range would have stood right.
@@ -109,16 +132,26 @@ fn plain_type(value: &Value) -> Result<DType, Expected>
 }
 
 /// The scalar of a value and the type behind it, if the value is one of the type and its structs
-/// have the type's names. Of a decimal, a day or an instant its text is one.
+/// have the type's names. Of a decimal, a day or an instant its text is one, and of a decimal a number with a point.
 pub fn typed_literal(draft: Draft, dtype: DType) -> Option<Scalar>
     ensures { result ≡ typed_literal (draft_of draft) (type_of dtype) }
 {
-    let Draft { mut value, names } = draft;
-    if !names_left(&value, &dtype, names.as_slice())?.is_empty() {
+    let value = match draft {
+        Draft::Value(value, names) => named_value(value, names.as_slice(), &dtype)?,
+        Draft::Point(units, decimal) => Value::Int(units_before(units, decimal.scale(), &dtype)?),
+    };
+    fitting(dtype, value)
+}
+
+// What the type behind it makes of the value, if its structs have the type's names.
+fn named_value(mut value: Value, names: &[FieldName], dtype: &DType) -> Option<Value>
+    ensures { typed_of (type_of dtype.now) (names_left (value_of value) (type_of dtype.now) names.now) (typed_value (value_of value) (type_of dtype.now)) ≡ option_and_then (λ v. fitting (type_of dtype.now) (value_of v)) result }
+{
+    if !names_left(&value, dtype, names)?.is_empty() {
         return None;
     }
-    type_value(&mut value, &dtype)?;
-    fitting(dtype, value)
+    type_value(&mut value, dtype)?;
+    Some(value)
 }
 
 // What is left of the names behind those of the value's structs, if these are the type's.

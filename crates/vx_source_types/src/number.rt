@@ -1,12 +1,13 @@
 // Numbers, and bytes.
-ghost use Rattle.std.specs.Prelude.{◌≡◌, ◌≤◌, ℕ, length, drop, IfOk, take, Some};
+ghost use Rattle.std.specs.Prelude.{◌≡◌, ◌≤◌, ℕ, length, drop, IfOk, take, Some, true};
 ghost use Rattle.hex.specs.Hex.{decode_of};
-ghost use Rattle.vx_source_types.specs.Tokens.{number_taken, digits_len, octets_taken, octets_lexeme, magnitude, more_or_same, more_digits};
+ghost use Rattle.vx_source_types.specs.Tokens.{number_taken, digits_len, octets_taken, octets_lexeme, magnitude, more_or_same, more_digits, has_point, point, point_digits};
 ghost use Rattle.vx_source_types.specs.Views.{taken_of, lexeme_of};
 
+use crate::blanks::next;
 use crate::expectation::Expected;
 use crate::token::Token;
-use crate::words::{digits_len, word_len, word_of};
+use crate::words::{digits_len, is_digit, word_len, word_of};
 use hex::FromHexError;
 use std::alloc::{AllocError, Global};
 
@@ -22,12 +23,43 @@ pub(crate) fn number_at(
 {
     let digits = digits_len(bytes);
     let rest = &bytes[digits..];
+    if has_point(rest) {
+        let len = digits + 1 + digits_len(&rest[1..]);
+        return Ok((point_of(alloc, negative, &bytes[..len])?, len));
+    }
     let token = Token::Number {
         negative,
         magnitude: magnitude(&bytes[..digits]),
         suffix: word_of(alloc, rest)?,
     };
     Ok((token, digits + word_len(rest)))
+}
+
+// Whether a point and a digit are at the front.
+fn has_point(bytes: &[u8]) -> bool
+    ensures value { result ≡ has_point bytes.now }
+    ensures there { result ≡ true → 1 ≤ length bytes.now }
+{
+    match bytes {
+        [b'.', rest @ ..] => is_digit(next(rest)),
+        _ => false,
+    }
+}
+
+// The number of those digits on both sides of a point.
+fn point_of(alloc: Global, negative: bool, bytes: &[u8]) -> Result<Token, AllocError>
+    ensures { IfOk result (λ t. lexeme_of t ≡ point (point_digits negative bytes.now)) }
+{
+    let mut digits = String::new(alloc);
+    if negative {
+        digits.push('-')?;
+    }
+    for b in bytes {
+        if is_digit(*b) || *b == b'.' {
+            digits.push(char::from(*b))?;
+        }
+    }
+    Ok(Token::Point(digits))
 }
 
 // What the digits stand for, if it is below 2^64, where underscores between them are left out.

@@ -3,7 +3,7 @@ ghost use Rattle.std.specs.Prelude.{◌≡◌, ◌≤◌, ◌^◌, ◌*ℤ◌, M
 ghost use Rattle.vx_value.specs.Fits.{fits_digits};
 ghost use Rattle.vx_value.specs.Types.{int};
 ghost use Rattle.vx_value.specs.Views.{data_view, fields_of, type_of, value_of};
-ghost use Rattle.vx_source_types.specs.Untyped.{has_texts, number_read, text_read, typed_items, typed_row, typed_value};
+ghost use Rattle.vx_source_types.specs.Untyped.{has_texts, number_read, point_read, rescaled, text_read, typed_items, typed_row, typed_value};
 
 use vx_dtype::{DType, DecimalType, StructFields};
 use vx_literals::{power_of_ten, read_day, read_decimal, read_instant};
@@ -60,6 +60,34 @@ fn units_of_wholes(number: i128, scale: u8) -> Option<i128>
     let units = number.checked_mul(power_of_ten(scale) as i128)?;
     if units.unsigned_abs() < power_of_ten(DecimalType::MAX_PRECISION) {
         Some(units)
+    } else {
+        None
+    }
+}
+
+// The units that so many units of the scale, a number with a point, are before the type, if that is one of decimals.
+pub(crate) fn units_before(units: i128, scale: u8, t: &DType) -> Option<i128>
+    requires { scale ≤ 38 }
+    ensures { option_map int result ≡ point_read units scale (type_of t.now) }
+{
+    match t {
+        DType::Decimal(decimal, _) => rescaled(units, scale, decimal.scale()),
+        _ => None,
+    }
+}
+
+// So many units of one scale as units of another, if these are whole and have at most 38 digits.
+fn rescaled(units: i128, from: u8, to: u8) -> Option<i128>
+    requires scale { from ≤ 38 }
+    requires other { to ≤ 38 }
+    ensures { result ≡ rescaled units from to }
+{
+    if from <= to {
+        return units_of_wholes(units, to - from);
+    }
+    let one = power_of_ten(from - to) as i128;
+    if units.rem_euclid(one) == 0 {
+        Some(units.div_euclid(one))
     } else {
         None
     }

@@ -11,7 +11,8 @@ use crate::error::ParseError;
 use crate::expectation::Expected;
 use crate::first::Found;
 use crate::names::{field_name, is_word};
-use crate::state::{inside, refusal};
+use crate::point::point_units;
+use crate::state::{expected, inside, refusal};
 use crate::token::{Sign, Token};
 use crate::value_state::{Draft, ItemsSoFar, ValueFrame, ValueMode, ValueReader, ValueStep};
 use std::alloc::{AllocError, Global};
@@ -60,6 +61,7 @@ impl ValueReader {
             ValueMode::NextField(items) => next_field(around, items, found),
             ValueMode::FieldValue(items) => field_value(around, items, found),
             ValueMode::Whole(value) => close(around, value, found),
+            ValueMode::Point(units, decimal) => Ok(ValueStep::Done(Draft::Point(units, decimal))),
         }
     }
 }
@@ -95,7 +97,21 @@ fn begin(alloc: Global, mut around: Around, found: &Found) -> Result<ValueStep, 
             around.room = inside(around.room, found)?;
             Ok(more(around, ValueMode::FirstField(items)))
         }
+        Token::Point(digits) => begin_point(around, digits.as_str(), found),
         _ => begin_simple(alloc, around, found),
+    }
+}
+
+// A number of those digits with a point, which stands by itself.
+fn begin_point(around: Around, digits: &str, found: &Found) -> Result<ValueStep, ParseError>
+    ensures { ReadsAt found.now.at step_of result (reading.point_begins (frames_of around.frames.items) around.names.items around.room (reading.digits_behind digits.now) (reading.point_units digits.now)) }
+{
+    if !around.frames.is_empty() {
+        return Err(expected(found, Expected::Value));
+    }
+    match point_units(digits.as_bytes()) {
+        Some((units, decimal)) => Ok(more(around, ValueMode::Point(units, decimal))),
+        None => Err(expected(found, Expected::Number)),
     }
 }
 
@@ -274,10 +290,7 @@ fn close(mut around: Around, value: Value, found: &Found) -> Result<ValueStep, P
     ensures { ReadsAt found.now.at step_of result (reading.value_ends (frames_of around.frames.items) around.names.items around.room (value_of value) (lexeme_of found.now.token)) }
 {
     match around.frames.pop() {
-        None => Ok(ValueStep::Done(Draft {
-            value,
-            names: around.names,
-        })),
+        None => Ok(ValueStep::Done(Draft::Value(value, around.names))),
         Some(ValueFrame::List(items)) => {
             let items = with_item(items, value)?;
             close_item(around, items, found)

@@ -1,13 +1,14 @@
 // How far a value is read.
-use vx_types::{FieldName, Value};
+use vx_dtype::{DecimalType, FieldName};
+use vx_value::Value;
 
-/// A value whose type isn't known yet, with the names of its structs in the order in which they stand.
+/// A value whose type isn't known yet.
 #[derive(Drop)]
-pub struct Draft {
-    /// The value.
-    pub value: Value,
-    /// The names.
-    pub names: Vec<FieldName>,
+pub enum Draft {
+    /// A value, with the names of its structs in the order in which they stand.
+    Value(Value, Vec<FieldName>),
+    /// A number with a point: so many units of decimals of that type.
+    Point(i128, DecimalType),
 }
 
 /// The items of a list or the values of a struct so far, and the nesting that is allowed outside it.
@@ -43,6 +44,8 @@ pub enum ValueMode {
     FieldValue(ItemsSoFar),
     /// A value is there.
     Whole(Value),
+    /// A number with a point is there: so many units of decimals of that type.
+    Point(i128, DecimalType),
 }
 
 /// A value that is being read.

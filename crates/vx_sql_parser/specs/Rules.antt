@@ -2,7 +2,7 @@
 use Rattle.std.specs.Prelude.{ℕ, zero, suc, ◌+◌, ◌||◌, ◌&&◌, Bool, false, not, List, [], ◌∷◌, ◌++◌, Option, Some, None, Result, Ok, Err, if◌then◌else◌, codes}
 use Rattle.vx_source_types.specs.Names.{same_word}
 use Rattle.vx_dtype.specs.Quotes.{between_quotes}
-use Rattle.vx_source_types.specs.Tokens.{Lexeme, word, quoted, number, text, sign}
+use Rattle.vx_source_types.specs.Tokens.{Lexeme, word, quoted, number, point, text, sign}
 use Rattle.vx_source_types.specs.declared.token.Sign.{Sign}
 use Rattle.vx_source_types.specs.declared.token.Sign.TheVariants.{OpenParen, CloseParen, Comma, Dot, Equal, DoubleEqual, NotEqual, Less, LessEqual, Greater, GreaterEqual, Plus}
 use Rattle.vx_sql.specs.declared.dialect.Dialect.{Dialect}
@@ -16,7 +16,7 @@ use Rattle.vx_sql_parser.specs.Words.{is_divider, is_plain_word, is_reserved}
 use Rattle.vx_sql_parser.specs.Patterns.{ignores_case}
 use Rattle.vx_sql_parser.specs.Steps.{State, changed, innermost, Answer, says}
 use Rattle.vx_sql_parser.specs.Ahead.{lexeme_at, name_in, opens, closes, is_text, sign_at, word_at, is_word_at}
-use Rattle.vx_sql_parser.specs.Values.{name_rule, number_rule, is_bytes_order, typed, as_said, valued_rule, is_fill}
+use Rattle.vx_sql_parser.specs.Values.{name_rule, number_rule, point_rule, is_bytes_order, typed, as_said, valued_rule, is_fill}
 use Rattle.vx_sql_parser.specs.Matches.{like_rule, ilike_rule, glob_rule, folded_like, translated}
 
 -- ---- CASE
@@ -125,6 +125,7 @@ token_rule d top chained (word w) xs = word_rule d top w xs
 token_rule d top chained (quoted a) xs = name_rule a xs
 token_rule d top chained (text t) xs = says (between_quotes 34 t) Stays 0
 token_rule d top chained (number negative (Some n) s) xs = number_rule negative n xs
+token_rule d top chained (point s) xs = point_rule s xs
 token_rule d top chained (sign Comma) xs = comma_rule d top xs
 token_rule d top chained (sign o) xs = sign_rule top chained o
 token_rule d top chained x xs = Err NoSign

@@ -34,6 +34,10 @@ number_source negative n = sign_source negative ++ decimal n
 abbrev pub number_rule : Bool → ℕ → List SqlLexeme → Answer
 number_rule negative n xs = if is_dot (sign_at xs 0) then Err NoNumber else says (number_source negative n) Stays 0
 
+-- a number with a point, and no second one behind it
+abbrev pub point_rule : List ℕ → List SqlLexeme → Answer
+point_rule s xs = if is_dot (sign_at xs 0) then Err NoNumber else says s Stays 0
+
 -- bytes by the digits that stand for them, which take so many tokens
 abbrev pub octets_said : ℕ → Option (List ℕ) → Answer
 octets_said n None = Err Hexadecimal

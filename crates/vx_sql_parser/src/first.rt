@@ -143,6 +143,7 @@ fn as_sql(
             magnitude,
             suffix,
         } => Ok(number_of(negative, magnitude, suffix)),
+        Token::Point(digits) => Ok(Ok(Token::Point(digits))),
         Token::Octets(_octets) => Ok(Err(Unread::Number)),
         Token::Sign(sign) => Ok(Ok(Token::Sign(sign))),
         Token::End => Ok(Err(Unread::Sign)),

@@ -11,7 +11,7 @@ use crate::keywords::is;
 use crate::lexed::Lexed;
 use crate::quotes::QuotedName;
 use crate::reason::Unread;
-use crate::step::{Change, Step, Stop, stepped};
+use crate::step::{Change, Step, Stop, says, stepped};
 use std::alloc::Global;
 use vx_sql::Dialect;
 
@@ -40,6 +40,16 @@ pub(crate) fn number_rule(
     }
     let sign = sign_of(negative);
     Ok(stepped(format!(in alloc; "{sign}{n}")?, Change::Stays, 0))
+}
+
+// A number of those digits with a point, and no second one behind it.
+pub(crate) fn point_rule(alloc: Global, digits: &str, behind: &[Lexed]) -> Result<Step, Stop>
+    ensures { Answers result (values.point_rule digits.now (lexemes_of behind.now)) }
+{
+    if is_dot_at(behind, 0) {
+        return Err(Stop::Unread(Unread::Number));
+    }
+    says(alloc, digits, Change::Stays, 0)
 }
 
 pub(crate) fn sign_of(negative: bool) -> &'static str

@@ -50,7 +50,7 @@ pub(crate) fn placed(error: OverError, source: &SqlSource, text: &str) -> SqlErr
             SqlError::Source(OverError::Unexpected { at, expected })
         }
         OverError::Misfit {
-            value,
+            scalar,
             dtype,
             start,
             end,
@@ -60,7 +60,7 @@ pub(crate) fn placed(error: OverError, source: &SqlSource, text: &str) -> SqlErr
             SqlError::Source(OverError::Misfit {
                 start,
                 end,
-                value,
+                scalar,
                 dtype,
             })
         }

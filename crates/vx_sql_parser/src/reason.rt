@@ -16,8 +16,8 @@ pub enum Unread {
     /// A quote that isn't the engine's for names.
     #[error("names don't stand between these quotes in this engine")]
     NameQuote,
-    /// A number with a point, an exponent or a word behind it, or one from 2^64 on.
-    #[error("whole numbers below 2^64 are read, with no point, no exponent and no word behind")]
+    /// A number with an exponent or a word behind it, or a whole one from 2^64 on.
+    #[error("whole numbers below 2^64 and numbers with one point are read, with no exponent and no word behind")]
     Number,
     /// Bytes that aren't spelled by hexadecimal digits.
     #[error("bytes are spelled by hexadecimal digits")]

@@ -14,7 +14,7 @@ use crate::folds::{closing, collate_rule};
 use crate::keywords::{is, is_divider, is_plain_word, is_reserved};
 use crate::lexed::Lexed;
 use crate::likes::{glob, ilike, like};
-use crate::names::{name_rule, number_rule};
+use crate::names::{name_rule, number_rule, point_rule};
 use crate::patterns::ignores_case;
 use crate::quotes::QuotedText;
 use crate::reason::Unread;
@@ -50,6 +50,7 @@ impl Translation {
                 magnitude: Some(n),
                 ..
             } => number_rule(alloc, *negative, *n, behind),
+            Token::Point(digits) => point_rule(alloc, digits.as_str(), behind),
             Token::Sign(Sign::Comma) => comma(alloc, self.dialect, self.state.innermost(), behind),
             Token::Sign(sign) => self.sign_rule(alloc, *sign),
             _ => Err(Stop::Unread(Unread::Sign)),

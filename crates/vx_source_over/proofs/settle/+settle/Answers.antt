@@ -5,7 +5,7 @@ use Rattle.vx_fn.specs.Views.{function_of}
 use Rattle.vx_value.specs.Views.{type_of}
 use Rattle.vx_tree.specs.Views.{tree_of, trees_of}
 use Rattle.vx_tree.proofs.Seen.{item_smaller}
-use Rattle.vx_source_over.specs.Peers.{is_peer, has_type_of_peers, open_value, child_at, is_open}
+use Rattle.vx_source_over.specs.Peers.{is_peer, has_type_of_peers, open_scalar, child_at, is_open}
 use Rattle.vx_source_over.specs.Reading.{Settles, Refuses}
 use Rattle.vx_source_over.specs.Settling.{unless, settled, owned, rest, wished, first_type}
 use Rattle.vx_source_over.specs.Views.{AreTyped, EachTyped, none_of, other_of, own_trees, said_of, settled_tree, settled_trees, wish_of}
@@ -21,7 +21,7 @@ own-returns-in_err-own-clause-tree t c =
     let es = trees_of c.as_slice.result.now in
     let r = c.in_err-own.field-0.0 in
     let seen = seen_call _ _ _ c.as_slice.result.now c.in-Scalar.is (c.as_slice.ensures.value ∙ ap (λ v. v.items) c.deref.ensures) in
-    let bare = none_there (open_value f d) (sym c.is_untyped.ensures ∙ c.if-is_untyped.false) in
+    let bare = none_there (open_scalar f d) (sym c.is_untyped.ensures ∙ c.if-is_untyped.false) in
     let is : c.from_residual-in_err-own.result ≡ Err r = search rules in
     subst (λ x. Settles (option_map settled_tree) x (unless (is_open e d) (settled s e d))) (sym is) (peer_refused s f es d e seen r bare c.in_err-own.ensures.trees)
 
@@ -33,7 +33,7 @@ own-returns-then-all_wait-clause-tree t c =
     let f = function_of c.in-Scalar.scalar_fn in
     let es = trees_of c.as_slice.result.now in
     let seen = seen_call _ _ _ c.as_slice.result.now c.in-Scalar.is (c.as_slice.ensures.value ∙ ap (λ v. v.items) c.deref.ensures) in
-    let bare = none_there (open_value f d) (sym c.is_untyped.ensures ∙ c.if-is_untyped.false) in
+    let bare = none_there (open_scalar f d) (sym c.is_untyped.ensures ∙ c.if-is_untyped.false) in
     let below = c.in_ok-own.own.items in
     let tested = ap (λ xs. has_type_of_peers f && none_of (own_trees xs)) c.as_slice-2.ensures.value in
     node_waits s f es d e seen (own_trees below) bare c.in_ok-own.ensures.trees (sym tested ∙ sym c.all_wait.ensures ∙ c.if-all_wait.true)
@@ -46,7 +46,7 @@ own-returns-in_err-below-clause-tree t c =
     let f = function_of c.in-Scalar.scalar_fn in
     let es = trees_of c.as_slice.result.now in
     let seen = seen_call _ _ _ c.as_slice.result.now c.in-Scalar.is (c.as_slice.ensures.value ∙ ap (λ v. v.items) c.deref.ensures) in
-    let bare = none_there (open_value f d) (sym c.is_untyped.ensures ∙ c.if-is_untyped.false) in
+    let bare = none_there (open_scalar f d) (sym c.is_untyped.ensures ∙ c.if-is_untyped.false) in
     let below = c.in_ok-own.own.items in
     let tested = ap (λ xs. has_type_of_peers f && none_of (own_trees xs)) c.as_slice-2.ensures.value in
     let same : c.as_slice-3.result.now ≡ c.as_slice.result.now = (c.as_slice-3.ensures.value ∙ ap (λ v. v.items) c.deref-2.ensures) ∙ sym (c.as_slice.ensures.value ∙ ap (λ v. v.items) c.deref.ensures) in
@@ -67,7 +67,7 @@ own-returns-clause-tree t c =
     let f = function_of c.in-Scalar.scalar_fn in
     let es = trees_of c.as_slice.result.now in
     let seen = seen_call _ _ _ c.as_slice.result.now c.in-Scalar.is (c.as_slice.ensures.value ∙ ap (λ v. v.items) c.deref.ensures) in
-    let bare = none_there (open_value f d) (sym c.is_untyped.ensures ∙ c.if-is_untyped.false) in
+    let bare = none_there (open_scalar f d) (sym c.is_untyped.ensures ∙ c.if-is_untyped.false) in
     let below = c.in_ok-own.own.items in
     let tested = ap (λ xs. has_type_of_peers f && none_of (own_trees xs)) c.as_slice-2.ensures.value in
     let same : c.as_slice-3.result.now ≡ c.as_slice.result.now = (c.as_slice-3.ensures.value ∙ ap (λ v. v.items) c.deref-2.ensures) ∙ sym (c.as_slice.ensures.value ∙ ap (λ v. v.items) c.deref.ensures) in

@@ -62,3 +62,8 @@ pub loop-reader-preserved : goal.loop-reader-preserved
 loop-reader-preserved c =
     let t = c.in_ok-found.ensures in
     (omega arith, one_more type_step c.loop-reader.invariant.1 t.token (goes_on _ c.in-Ok-More.field-0 c.in-Ok-More.next c.in-Ok-More.ensures c.in-Ok-More.field-0-is))
+
+pub loop-reader-preserved-in-Ok-More-5 : goal.loop-reader-preserved-in-Ok-More-5
+loop-reader-preserved-in-Ok-More-5 c =
+    let t = c.in_ok-found.ensures in
+    (omega arith, one_more type_step c.loop-reader.invariant.1 t.token (goes_on _ c.in-Ok-More.field-0 c.in-Ok-More.next c.in-Ok-More.ensures c.in-Ok-More.field-0-is))
