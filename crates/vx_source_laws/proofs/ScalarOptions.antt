@@ -22,7 +22,6 @@ use Rattle.vx_source_types.specs.Literals.{ranged, plain_literal, fitting}
 use Rattle.vx_source_types.specs.ScalarReading.{ScalarState, scalar_due, in_value, in_type, whole_scalar, value_begun, scalar_begins, value_after, type_after, ended, type_ended as scalar_ended, scalar_step}
 use Rattle.vx_source_types.specs.ScalarTexts.{value_source, type_behind}
 use Rattle.vx_source_types.specs.ScalarPrintable.{value_nesting, IsSpelledValue}
-use Rattle.vx_source_types.specs.Untyped.{untyped}
 use Rattle.vx_source_types.specs.ValueReading.{value_start, value_step}
 use Rattle.vx_source_types.proofs.ValuesAgain.{Follows, value_again, fits_small, fits_below_zero}
 use Rattle.vx_source_grammar.specs.OptionReading.{read_all, function_read}
