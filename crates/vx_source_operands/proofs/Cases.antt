@@ -1,5 +1,5 @@
 -- The options of a CASE, read part after part.
-use Rattle.std.proofs.Common.{◌≡◌, Bool, true, false, List, [], ◌∷◌, Option, Some, None, refl}
+use Rattle.std.proofs.Common.{◌≡◌, Bool, true, false, List, [], ◌∷◌, Option, Some, None, refl, sym, ap, ◌∙◌}
 use Rattle.std.specs.Prelude.{codes, ◌&&◌, option_map, option_and_then}
 use Rattle.vx_fn.specs.Functions.{Function, case_when}
 use Rattle.vx_source_types.specs.declared.token.Sign.TheVariants.{OpenParen, CloseParen, Comma, Equal}
@@ -67,3 +67,7 @@ begun false xs o h = h
 pub case_is : (xs : List Lexeme) → case_read xs ≡ begins (case_inside xs)
 case_is (a ∷ sign OpenParen ∷ xs) = begun (is_keyword (codes "case_when") a) xs _ (counted_is a xs)
 case_is xs = refl
+
+-- without the word in front there are none
+pub without_inside : (xs : List Lexeme) (o : Option (List Lexeme)) → o ≡ case_inside xs → o ≡ None → None ≡ case_read xs
+without_inside xs o e h = sym (case_is xs ∙ ap begins (sym e ∙ h))
