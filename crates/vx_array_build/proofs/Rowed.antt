@@ -1,6 +1,6 @@
 -- Rows in one buffer, of which some are valid, and more behind them.
-use Rattle.std.proofs.Common.{◌≡◌, ℕ, ℤ, length-append, ◌+◌, ◌<◌, ◌≤◌, List, [], ◌∷◌, ◌++◌, map, length, length-take, take, refl, sym, ap, ◌∙◌, arith, Bool, true, false}
-use Rattle.std.specs.Prelude.{if◌then◌else◌, Option, None}
+use Rattle.std.proofs.Common.{◌≡◌, ℕ, ℤ, length-append, ◌+◌, ◌≤◌, List, [], ◌∷◌, ◌++◌, map, length, length-take, take, refl, sym, ap, ◌∙◌, arith, Bool, true, false}
+use Rattle.std.specs.Prelude.{if◌then◌else◌}
 use Rattle.std.proofs.Math.ListN.{replicate}
 use Rattle.std.proofs.lemmas.List.{length-replicate, length-map, map-append, replicate-append-replicate, take-map, take_all}
 use Rattle.vx_value.specs.Types.{Datum, null, bool, int}

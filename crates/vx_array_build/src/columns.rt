@@ -8,7 +8,7 @@ ghost use Rattle.vx_array.specs.Rows.{lanes_rows};
 ghost use Rattle.vx_array_build.specs.Filled.{HasItems, rows_lent};
 
 use crate::filled::{numbers_of, octets_of, texts_of, truths_of, validity_of};
-use crate::lane_type::lane_type;
+use crate::lane_types::lane_type;
 use crate::native::Native;
 use std::alloc::{AllocError, Global};
 use std::sync::Arc;

@@ -94,11 +94,7 @@ fn words_behind(bits: Bits, other: &Bits) -> Result<Option<JoinedBits>, AllocErr
 }
 
 // The rows and those of the other behind them, one by one.
-fn each_behind(
-    alloc: Global,
-    mut truths: Vec<bool>,
-    other: &Bits,
-) -> Result<JoinedBits, AllocError>
+fn each_behind(alloc: Global, mut truths: Vec<bool>, other: &Bits) -> Result<JoinedBits, AllocError>
     ensures { IfOk result (λ b. b ≡ truths.items ++ other.now) }
 {
     truths.extend_from_slice(other.to_bools(alloc)?.as_slice())?;

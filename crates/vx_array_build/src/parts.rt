@@ -8,7 +8,7 @@ ghost use Rattle.vx_array.specs.Rows.{lanes_rows};
 ghost use Rattle.vx_array_build.specs.Parts.{all_of_type, parts_joined, rows_of_parts};
 
 use crate::columns::typed_lanes;
-use crate::lane_type::lane_type;
+use crate::lane_types::lane_type;
 use crate::numbers_builder::NumbersBuilder;
 use crate::rows_builder::RowsBuilder;
 use crate::same::same_rows;

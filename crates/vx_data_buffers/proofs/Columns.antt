@@ -10,7 +10,7 @@ use Rattle.std.proofs.lemmas.List.FromFn.{length-map-range_with_len, get_or-map-
 use Rattle.vx_dtype.specs.Fields.{fields_named}
 use Rattle.vx_dtype.specs.declared.dtype.DType.{DType}
 use Rattle.vx_dtype.specs.declared.dtype.PType.{PType}
-use Rattle.vx_value.specs.Types.{Name, LogicalType, ty, Shape, atomic, truth, number, decimals, date, timestamp, text, octets, list, fixed, struct, Fields, Datum, null, bool, int, struct_of}
+use Rattle.vx_value.specs.Types.{Name, LogicalType, ty, Shape, atomic, truth, number, decimals, date, timestamp, text, octets, list, fixed, struct, shape_of, is_nullable, Fields, Datum, null, bool, int, struct_of}
 use Rattle.vx_value.specs.Fields.{data_of}
 use Rattle.vx_value.specs.Fits.{Fits}
 use Rattle.vx_value.specs.Columns.{Batch, batch, first_misfit}
@@ -76,6 +76,10 @@ pub truths_read : (buffers : List (List ℕ)) (at rows : ℕ) (n : Bool) (v : Va
 truths_read buffers at rows n v bits tells are =
     column_read buffers (atomic truth) at rows n v (map bool bits) tells (length-map bits bool ∙ are.0)
     (λ i h. ap (λ r. and_so (found (at + 1) r) bool) (are.1 i h) ∙ ap Ok (sym (get_or-map bool bits i false null (omega (arith, are.0)))))
+
+-- a type is its shape and whether it is nullable
+pub as_shape : (t : LogicalType) → t ≡ ty (shape_of t) (is_nullable t)
+as_shape (ty s n) = refl
 
 -- what is read of a type whose rows lie in buffers of numbers
 pub lane_read : (buffers : List (List ℕ)) (s : Shape) (p : PType) (at i : ℕ) → lane_of s ≡ Some p → present_at buffers s at i ≡ and_so (found at (number_at p (bytes_at buffers at) i)) int

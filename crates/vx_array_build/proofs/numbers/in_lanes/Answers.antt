@@ -12,7 +12,7 @@ new-requires-2 g c =
     let xs = c.args.numbers.items in
     let zs = map g.T.Number.number xs in
     let t = type_of c.args.dtype in
-    made_fit c.with_nullability.result (Kind.Numbers c.numbers-numbers.result c.or_all.result) (shape_of t) v (map int zs)
-    (lane_typed c.with_nullability.result t c.nullability.result v c.with_nullability.ensures c.nullability.ensures)
+    made_fit c.with_nullability-dtype.result (Kind.Numbers c.numbers-numbers.result c.or_all.result) (shape_of t) v (map int zs)
+    (lane_typed c.with_nullability-dtype.result t c.nullability.result v c.with_nullability-dtype.ensures c.nullability.ensures)
     (numbers_are c.numbers-numbers.result zs c.or_all.result v (c.numbers-numbers.ensures ∙ ap (map g.T.Number.number) c.in_ok-new.ensures) c.or_all.ensures)
     (range_seen g.T.Number.number g.T.Number.fits (shape_of t) g.T.Native.kind xs c.as_slice.result.now c.requires c.as_slice.ensures.value g.met.T.Native.same_range c.see_range.ensures)
