@@ -7,7 +7,7 @@ use Rattle.std.specs.Option.{option_map}
 use Rattle.std.proofs.lemmas.List.{get_or_past, length-map}
 use Rattle.vx_dtype.specs.declared.dtype.DType.{DType}
 use Rattle.vx_dtype.specs.declared.dtype.PType.{PType}
-use Rattle.vx_value.specs.Types.{LogicalType, ty, Shape, atomic, truth, number, text, octets, Datum, null, bool, int, utf8, bytes}
+use Rattle.vx_value.specs.Types.{LogicalType, ty, Shape, atomic, truth, number, decimals, date, timestamp, text, octets, list, fixed, struct, Datum, null, bool, int, utf8, bytes}
 use Rattle.vx_value.specs.Fits.{fits, Fits, fits_ptype}
 use Rattle.vx_value.specs.Columns.{batch, first_misfit}
 use Rattle.vx_value.specs.Views.{type_of}
@@ -19,6 +19,7 @@ use Rattle.vx_array.specs.Rows.{lanes_rows}
 use Rattle.vx_array.specs.Shown.{is_valid, shown}
 use Rattle.vx_array.proofs.Masked.{get_or-shown}
 use Rattle.vx_array_build.specs.Built.{shown_by, column_by}
+use Rattle.vx_array_build.specs.Lanes.{lane_of}
 
 -- each row is a value of the type
 pub no_misfits : (t : LogicalType) (rows : List Datum) → ((k : ℕ) → k < length rows → Fits (get_or rows k null) t) → first_misfit t rows ≡ None
@@ -48,11 +49,24 @@ made_is dtype lanes s v ds typed rows = sym (ap (λ u. batch u (lanes_rows lanes
 
 -- ---- values of each kind
 
-pub numbers_fit : (p : PType) (zs : List ℤ) → ((k : ℕ) → k < length zs → fits_ptype (get_or zs k (pos 0)) p ≡ true) → first_misfit (ty (atomic (number p)) false) (map int zs) ≡ None
-numbers_fit p [] h = refl
-numbers_fit p (z ∷ zs) h =
-    let here : fits_ptype z p ≡ true = h 0 (omega arith) in
-    rw (here, numbers_fit p zs (λ k lt. h (suc k) (omega arith)))
+-- a number of the width in which a type's rows lie is one of its values
+lane_fits : (s : Shape) (p : PType) (z : ℤ) → lane_of s ≡ Some p → fits (int z) (ty s false) ≡ fits_ptype z p
+lane_fits (atomic (number q)) p z is = cc
+lane_fits (atomic date) p z is = cc
+lane_fits (atomic (timestamp u o)) p z is = cc
+lane_fits (atomic truth) p z is = cc
+lane_fits (atomic (decimals q r)) p z is = cc
+lane_fits (atomic text) p z is = cc
+lane_fits (atomic octets) p z is = cc
+lane_fits (list t) p z is = cc
+lane_fits (fixed t k) p z is = cc
+lane_fits (struct fs) p z is = cc
+
+pub numbers_fit : (s : Shape) (p : PType) (zs : List ℤ) → lane_of s ≡ Some p → ((k : ℕ) → k < length zs → fits_ptype (get_or zs k (pos 0)) p ≡ true) → first_misfit (ty s false) (map int zs) ≡ None
+numbers_fit s p [] is h = refl
+numbers_fit s p (z ∷ zs) is h =
+    let here : fits (int z) (ty s false) ≡ true = lane_fits s p z is ∙ h 0 (omega arith) in
+    rw (here, numbers_fit s p zs is (λ k lt. h (suc k) (omega arith)))
 
 pub truths_fit : (bs : List Bool) → first_misfit (ty (atomic truth) false) (map bool bs) ≡ None
 truths_fit [] = refl
@@ -74,7 +88,7 @@ same_fit t v (suc n) fit =
     rw (here, same_fit t v n fit)
 
 -- numbers that were seen to be some of their type
-pub range_seen : {A : Type 0} (f : A → ℤ) (within : ℤ → Bool) (p : PType) (xs ys : List A) → ys ≡ xs → ((z : ℤ) → within z ≡ fits_ptype z p) → ((k : ℕ) → k < length ys → within (get_or (map f ys) k (pos 0)) ≡ true) →
-    first_misfit (ty (atomic (number p)) false) (map int (map f xs)) ≡ None
-range_seen f within p xs ys is same seen =
-    numbers_fit p (map f xs) (λ k lt. sym (same (get_or (map f xs) k (pos 0))) ∙ ap (λ l. within (get_or (map f l) k (pos 0))) (sym is) ∙ seen k (omega (arith, ap length is, length-map xs f)))
+pub range_seen : {A : Type 0} (f : A → ℤ) (within : ℤ → Bool) (s : Shape) (p : PType) (xs ys : List A) → lane_of s ≡ Some p → ys ≡ xs → ((z : ℤ) → within z ≡ fits_ptype z p) → ((k : ℕ) → k < length ys → within (get_or (map f ys) k (pos 0)) ≡ true) →
+    first_misfit (ty s false) (map int (map f xs)) ≡ None
+range_seen f within s p xs ys lane is same seen =
+    numbers_fit s p (map f xs) lane (λ k lt. sym (same (get_or (map f xs) k (pos 0))) ∙ ap (λ l. within (get_or (map f l) k (pos 0))) (sym is) ∙ seen k (omega (arith, ap length is, length-map xs f)))

@@ -1,12 +1,12 @@
 -- Rows in one buffer, of which some are valid, and more behind them.
-use Rattle.std.proofs.Common.{◌≡◌, ℕ, ℤ, length-append, ◌+◌, ◌<◌, ◌≤◌, List, [], ◌∷◌, ◌++◌, map, length, length-take, get_or, take, refl, sym, ap, ◌∙◌, arith, Bool, true, false}
-use Rattle.std.specs.Prelude.{if◌then◌else◌, Option, None}
+use Rattle.std.proofs.Common.{◌≡◌, ℕ, ℤ, length-append, ◌+◌, ◌≤◌, List, [], ◌∷◌, ◌++◌, map, length, length-take, take, refl, sym, ap, ◌∙◌, arith, Bool, true, false}
+use Rattle.std.specs.Prelude.{if◌then◌else◌}
 use Rattle.std.proofs.Math.ListN.{replicate}
-use Rattle.std.proofs.lemmas.List.{ext_get_or, get_or_default, get_or-take, get_or-replicate, length-replicate, length-map, map-append, replicate-append-replicate, take-map, take_all}
+use Rattle.std.proofs.lemmas.List.{length-replicate, length-map, map-append, replicate-append-replicate, take-map, take_all}
 use Rattle.vx_value.specs.Types.{Datum, null, bool, int}
 use Rattle.vx_array.specs.declared.validity.Validity.{Validity}
 use Rattle.vx_array.specs.declared.validity.Validity.TheVariants.{All, Nothing, Rows}
-use Rattle.vx_array.specs.Shown.{HasRows, is_valid, masked, shown, shown_count}
+use Rattle.vx_array.specs.Shown.{HasRows, masked, shown, shown_count}
 use Rattle.vx_array.proofs.Mapped.{map_map}
 use Rattle.vx_array.proofs.Masked.{length-masked, part-masked}
 use Rattle.vx_array_build.specs.declared.valid_rows.ValidRows.{ValidRows}
@@ -50,17 +50,6 @@ length-valid_in : (v : Validity) (n : ℕ) → HasRows v n → length (valid_in 
 length-valid_in All n told = length-replicate n true
 length-valid_in Nothing n told = length-replicate n false
 length-valid_in (Rows bits) n told = omega (arith, length-take n bits)
-
-get_or-valid_in : (v : Validity) (n k : ℕ) → k < n → get_or (valid_in v n) k false ≡ is_valid v k
-get_or-valid_in All n k lt = get_or-replicate n k true false lt
-get_or-valid_in Nothing n k lt = get_or-replicate n k false false lt
-get_or-valid_in (Rows bits) n k lt = get_or-take n bits k false lt
-
--- truth values that tell which of so many rows are valid
-pub valid_told : (v : Validity) (n : ℕ) (truths : List Bool) → HasRows v n → length truths ≡ n → ((k : ℕ) (x : Bool) → k < n → x ≡ get_or truths k x → x ≡ is_valid v k) → truths ≡ valid_in v n
-valid_told v n truths told long each =
-    ext_get_or false truths (valid_in v n) (long ∙ sym (length-valid_in v n told))
-    (λ k lt. let low : k < n = omega (arith, long) in each k (get_or truths k false) low (get_or_default truths k false (get_or truths k false) lt) ∙ sym (get_or-valid_in v n k low))
 
 -- ---- rows, and more behind them
 

@@ -1,10 +1,9 @@
 -- The types and the rows of lanes of each kind.
-use Rattle.std.proofs.Common.{◌≡◌, List, map, ap, ◌∙◌, rules, Bool, ℤ}
+use Rattle.std.proofs.Common.{◌≡◌, refl, List, map, ap, ◌∙◌, rules, Bool, ℤ}
 use Rattle.std.specs.Prelude.{Option, is_some}
 use Rattle.vx_dtype.specs.declared.dtype.DType.{DType, the_lemmas as the_types}
 use Rattle.vx_dtype.specs.declared.dtype.Nullability.{Nullability}
-use Rattle.vx_dtype.specs.declared.dtype.PType.{PType}
-use Rattle.vx_value.specs.Types.{ty, atomic, truth, number, text, octets, Datum, bool, int, bytes}
+use Rattle.vx_value.specs.Types.{LogicalType, ty, atomic, truth, text, octets, shape_of, with_nullability, Datum, bool, int, bytes}
 use Rattle.vx_value.specs.Views.{admits_null, type_of}
 use Rattle.vx_array.specs.declared.lanes.Lanes as Kind
 use Rattle.vx_array.specs.declared.numbers.Numbers.{Numbers}
@@ -19,8 +18,11 @@ use Rattle.vx_array_build.specs.Built.{shown_by}
 pub bool_typed : (n : Nullability) (v : Option Validity) → admits_null n ≡ is_some v → type_of (DType.Bool n) ≡ ty (atomic truth) (is_some v)
 bool_typed n v so = let t : type_of (DType.Bool n) ≡ ty (atomic truth) (admits_null n) = search (rules, the_types) in t ∙ ap (ty (atomic truth)) so
 
-pub number_typed : (p q : PType) (n : Nullability) (v : Option Validity) → p ≡ q → admits_null n ≡ is_some v → type_of (DType.Primitive p n) ≡ ty (atomic (number q)) (is_some v)
-number_typed p q n v is so = let t : type_of (DType.Primitive p n) ≡ ty (atomic (number p)) (admits_null n) = search (rules, the_types) in t ∙ ap (λ r. ty (atomic (number r)) (admits_null n)) is ∙ ap (ty (atomic (number q))) so
+with_shape : (t : LogicalType) (n : Bool) → with_nullability n t ≡ ty (shape_of t) n
+with_shape (ty s m) n = refl
+
+pub lane_typed : (dtype : DType) (t : LogicalType) (n : Nullability) (v : Option Validity) → type_of dtype ≡ with_nullability (admits_null n) t → admits_null n ≡ is_some v → type_of dtype ≡ ty (shape_of t) (is_some v)
+lane_typed dtype t n v is so = is ∙ with_shape t (admits_null n) ∙ ap (ty (shape_of t)) so
 
 pub text_typed : (n : Nullability) (v : Option Validity) → admits_null n ≡ is_some v → type_of (DType.Utf8 n) ≡ ty (atomic text) (is_some v)
 text_typed n v so = let t : type_of (DType.Utf8 n) ≡ ty (atomic text) (admits_null n) = search (rules, the_types) in t ∙ ap (ty (atomic text)) so

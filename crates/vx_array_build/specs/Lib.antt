@@ -4,3 +4,5 @@ pub mod Parts
 pub mod Filled
 pub mod Taken
 pub mod Rowed
+pub mod Lanes
+pub mod Kept

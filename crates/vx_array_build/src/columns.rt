@@ -8,14 +8,15 @@ ghost use Rattle.vx_array.specs.Rows.{lanes_rows};
 ghost use Rattle.vx_array_build.specs.Filled.{HasItems, rows_lent};
 
 use crate::filled::{numbers_of, octets_of, texts_of, truths_of, validity_of};
+use crate::lane_types::lane_type;
 use crate::native::Native;
 use std::alloc::{AllocError, Global};
 use std::sync::Arc;
 use vx_array::{Array, Lanes, Part, Stretch};
 use vx_types::{Column, DType, PType, StructFields, Value, VortexResult};
 
-/// The array of a column's rows, in a buffer of their own width where they are truth values, numbers, texts
-/// or bytes, or structs of such. Copies them, and refuses with `OutOfMemory` (1) alone.
+/// The array of a column's rows, in a buffer of their own width where they are truth values, numbers, days,
+/// instants, texts or bytes, or structs of such. Copies them, and refuses with `OutOfMemory` (1) alone.
 pub fn from_column(alloc: Global, column: &Column) -> VortexResult<Array>
     ensures { ReturnsOrOom (λ a. a) result (Ok column.now) }
 {
@@ -62,11 +63,10 @@ fn lanes_of<'a>(
 {
     let typed = match dtype {
         DType::Bool(_) => truth_lanes(alloc, rows)?,
-        DType::Primitive(ptype, _) => number_lanes(alloc, *ptype, rows)?,
         DType::Utf8(_) => text_lanes(alloc, rows)?,
         DType::Binary(_) => octet_lanes(alloc, rows)?,
         DType::Struct(fields, _) => struct_lanes(alloc, fields, rows, nothing)?,
-        _ => None,
+        _ => number_lanes(alloc, dtype, rows)?,
     };
     match typed {
         Some(lanes) => Ok(lanes),
@@ -84,19 +84,20 @@ fn truth_lanes(alloc: Global, rows: &[&Value]) -> Result<Option<Lanes>, AllocErr
     }
 }
 
-// The lanes of numbers, if all rows are some of the type or null.
-fn number_lanes(alloc: Global, ptype: PType, rows: &[&Value]) -> Result<Option<Lanes>, AllocError>
+// The lanes of numbers, if the type's rows lie in buffers of some, and all rows are of its width or null.
+fn number_lanes(alloc: Global, dtype: &DType, rows: &[&Value]) -> Result<Option<Lanes>, AllocError>
     ensures { IfOk result (λ found. IfSome found (λ lanes. lanes_rows lanes ≡ rows_lent rows.now)) }
 {
-    match ptype {
-        PType::U8 => native_lanes::<u8>(alloc, rows),
-        PType::U16 => native_lanes::<u16>(alloc, rows),
-        PType::U32 => native_lanes::<u32>(alloc, rows),
-        PType::U64 => native_lanes::<u64>(alloc, rows),
-        PType::I8 => native_lanes::<i8>(alloc, rows),
-        PType::I16 => native_lanes::<i16>(alloc, rows),
-        PType::I32 => native_lanes::<i32>(alloc, rows),
-        PType::I64 => native_lanes::<i64>(alloc, rows),
+    match lane_type(dtype) {
+        Some(PType::U8) => native_lanes::<u8>(alloc, rows),
+        Some(PType::U16) => native_lanes::<u16>(alloc, rows),
+        Some(PType::U32) => native_lanes::<u32>(alloc, rows),
+        Some(PType::U64) => native_lanes::<u64>(alloc, rows),
+        Some(PType::I8) => native_lanes::<i8>(alloc, rows),
+        Some(PType::I16) => native_lanes::<i16>(alloc, rows),
+        Some(PType::I32) => native_lanes::<i32>(alloc, rows),
+        Some(PType::I64) => native_lanes::<i64>(alloc, rows),
+        None => Ok(None),
     }
 }
 

@@ -8,6 +8,7 @@ ghost use Rattle.vx_array.specs.Rows.{lanes_rows};
 ghost use Rattle.vx_array_build.specs.Parts.{all_of_type, parts_joined, rows_of_parts};
 
 use crate::columns::typed_lanes;
+use crate::lane_types::lane_type;
 use crate::numbers_builder::NumbersBuilder;
 use crate::rows_builder::RowsBuilder;
 use crate::same::same_rows;
@@ -56,7 +57,7 @@ fn all_of_type(dtype: &DType, parts: &[Array]) -> bool
 }
 
 // The rows of the parts, where each has them in a buffer of the type's kind: truth values, or numbers of the
-// type's width.
+// type's own width, as which days and instants lie there, too.
 fn buffers_joined(
     alloc: Global,
     dtype: &DType,
@@ -67,17 +68,17 @@ fn buffers_joined(
 {
     match dtype {
         DType::Bool(_) => joined_in::<TruthsBuilder>(alloc, parts),
-        DType::Primitive(ptype, _) => match ptype {
-            PType::U8 => joined_in::<NumbersBuilder<u8>>(alloc, parts),
-            PType::U16 => joined_in::<NumbersBuilder<u16>>(alloc, parts),
-            PType::U32 => joined_in::<NumbersBuilder<u32>>(alloc, parts),
-            PType::U64 => joined_in::<NumbersBuilder<u64>>(alloc, parts),
-            PType::I8 => joined_in::<NumbersBuilder<i8>>(alloc, parts),
-            PType::I16 => joined_in::<NumbersBuilder<i16>>(alloc, parts),
-            PType::I32 => joined_in::<NumbersBuilder<i32>>(alloc, parts),
-            PType::I64 => joined_in::<NumbersBuilder<i64>>(alloc, parts),
+        _ => match lane_type(dtype) {
+            Some(PType::U8) => joined_in::<NumbersBuilder<u8>>(alloc, parts),
+            Some(PType::U16) => joined_in::<NumbersBuilder<u16>>(alloc, parts),
+            Some(PType::U32) => joined_in::<NumbersBuilder<u32>>(alloc, parts),
+            Some(PType::U64) => joined_in::<NumbersBuilder<u64>>(alloc, parts),
+            Some(PType::I8) => joined_in::<NumbersBuilder<i8>>(alloc, parts),
+            Some(PType::I16) => joined_in::<NumbersBuilder<i16>>(alloc, parts),
+            Some(PType::I32) => joined_in::<NumbersBuilder<i32>>(alloc, parts),
+            Some(PType::I64) => joined_in::<NumbersBuilder<i64>>(alloc, parts),
+            None => Ok(None),
         },
-        _ => Ok(None),
     }
 }
 

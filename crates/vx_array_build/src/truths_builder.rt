@@ -3,17 +3,17 @@ ghost use Rattle.std.specs.Prelude.{◌≡◌, ◌++◌, IfOk, IfSome, map};
 ghost use Rattle.vx_array.specs.Shown.{shown};
 ghost use Rattle.vx_value.specs.Types.{bool};
 
+use crate::joined_bits::JoinedBits;
 use crate::rows_builder::RowsBuilder;
 use crate::valid_rows::{ValidRows, valid_behind, validity_of_rows};
 use std::alloc::{AllocError, Global};
 use std::marker::Model;
 use vx_array::{BitPart, Lanes, Validity};
-use vx_array_loops::Bits;
 
 /// Truth values, of which some may be null, to which others are added. Contracts see them as the rows.
 #[derive(Drop)]
 pub struct TruthsBuilder {
-    truths: Bits,
+    truths: JoinedBits,
     valid: ValidRows,
 }
 
@@ -39,7 +39,7 @@ impl RowsBuilder for TruthsBuilder {
 
     fn with_capacity(alloc: Global, count: usize) -> Result<TruthsBuilder, AllocError> {
         Ok(TruthsBuilder {
-            truths: Bits::with_capacity(alloc, count)?,
+            truths: JoinedBits::with_capacity(alloc, count)?,
             valid: ValidRows::All,
         })
     }
@@ -54,6 +54,7 @@ impl RowsBuilder for TruthsBuilder {
     fn finish(self, alloc: Global) -> Result<Lanes, AllocError> {
         let TruthsBuilder { truths, valid } = self;
         let validity = validity_of_rows(alloc, valid)?;
+        let truths = truths.finish(alloc)?;
         Ok(Lanes::Bools(BitPart::new(alloc, truths)?, validity))
     }
 }
@@ -73,7 +74,7 @@ fn with_part(
     let Some(valid) = valid_behind(alloc, valid, truths.len(), validity, count)? else {
         return Ok(None);
     };
-    match truths.append(&part.first(alloc, count)?)? {
+    match truths.append(alloc, &part.first(alloc, count)?)? {
         Some(truths) => Ok(Some(TruthsBuilder { truths, valid })),
         None => Ok(None),
     }

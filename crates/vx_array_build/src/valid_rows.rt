@@ -5,6 +5,7 @@ ghost use Rattle.vx_value.specs.Types.{Datum};
 ghost use Rattle.vx_array.specs.Shown.{HasRows, masked, shown};
 ghost use Rattle.vx_array_build.specs.Rowed.{flags, valid_in};
 
+use crate::joined_bits::JoinedBits;
 use std::alloc::{AllocError, Global};
 use vx_array::{BitPart, Validity};
 use vx_array_loops::Bits;
@@ -15,7 +16,7 @@ pub(crate) enum ValidRows {
     /// All of them.
     All,
     /// Those that are true, of as many as there are bits.
-    Listed(Bits),
+    Listed(JoinedBits),
 }
 
 // Of so many rows, which are valid, and behind them so many that a validity tells of. There is an answer as
@@ -32,10 +33,10 @@ pub(crate) fn valid_behind(
 {
     let bits = match (valid, validity) {
         (ValidRows::All, Validity::All) => return Ok(Some(ValidRows::All)),
-        (ValidRows::All, _) => all_rows(alloc, rows)?,
+        (ValidRows::All, _) => JoinedBits::of(all_rows(alloc, rows)?),
         (ValidRows::Listed(bits), _) => bits,
     };
-    match bits.append(&valid_bits(alloc, validity, count)?)? {
+    match bits.append(alloc, &valid_bits(alloc, validity, count)?)? {
         Some(bits) => Ok(Some(ValidRows::Listed(bits))),
         None => Ok(None),
     }
@@ -66,6 +67,9 @@ pub(crate) fn validity_of_rows(alloc: Global, valid: ValidRows) -> Result<Validi
 {
     match valid {
         ValidRows::All => Ok(Validity::All),
-        ValidRows::Listed(bits) => Ok(Validity::Rows(BitPart::new(alloc, bits)?)),
+        ValidRows::Listed(bits) => {
+            let bits = bits.finish(alloc)?;
+            Ok(Validity::Rows(BitPart::new(alloc, bits)?))
+        }
     }
 }

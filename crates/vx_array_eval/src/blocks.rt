@@ -11,7 +11,7 @@ use crate::trees::evaluate;
 use crate::walks::walks_twice;
 use std::alloc::Global;
 use vx_array::Lanes;
-use vx_array_build::{NumbersBuilder, RowsBuilder, TruthsBuilder};
+use vx_array_build::{NumbersBuilder, RowsBuilder, TruthsBuilder, lane_type};
 use vx_eval::looks_across;
 use vx_tree::BoundExpression;
 use vx_types::{DType, PType, VortexError, VortexResult};
@@ -42,7 +42,7 @@ pub fn evaluate_over(alloc: Global, b: &BoundExpression, batch: &Lanes) -> Vorte
 }
 
 // The tree's value in each row by blocks, where no block faults and its rows are in a buffer of the
-// type's kind: truth values, or numbers of the type's width.
+// type's kind: truth values, or numbers of the type's width, as those of days and instants.
 fn by_type(alloc: Global, b: &BoundExpression, batch: &Lanes) -> VortexResult<Option<Lanes>>
     requires typed { WellTyped (bound_of b.now) }
     requires some { 0 < length (lanes_rows batch.now) }
@@ -51,17 +51,17 @@ fn by_type(alloc: Global, b: &BoundExpression, batch: &Lanes) -> VortexResult<Op
 {
     match b.dtype() {
         DType::Bool(_) => by_blocks::<TruthsBuilder>(alloc, b, batch),
-        DType::Primitive(ptype, _) => match ptype {
-            PType::U8 => by_blocks::<NumbersBuilder<u8>>(alloc, b, batch),
-            PType::U16 => by_blocks::<NumbersBuilder<u16>>(alloc, b, batch),
-            PType::U32 => by_blocks::<NumbersBuilder<u32>>(alloc, b, batch),
-            PType::U64 => by_blocks::<NumbersBuilder<u64>>(alloc, b, batch),
-            PType::I8 => by_blocks::<NumbersBuilder<i8>>(alloc, b, batch),
-            PType::I16 => by_blocks::<NumbersBuilder<i16>>(alloc, b, batch),
-            PType::I32 => by_blocks::<NumbersBuilder<i32>>(alloc, b, batch),
-            PType::I64 => by_blocks::<NumbersBuilder<i64>>(alloc, b, batch),
+        _ => match lane_type(b.dtype()) {
+            Some(PType::U8) => by_blocks::<NumbersBuilder<u8>>(alloc, b, batch),
+            Some(PType::U16) => by_blocks::<NumbersBuilder<u16>>(alloc, b, batch),
+            Some(PType::U32) => by_blocks::<NumbersBuilder<u32>>(alloc, b, batch),
+            Some(PType::U64) => by_blocks::<NumbersBuilder<u64>>(alloc, b, batch),
+            Some(PType::I8) => by_blocks::<NumbersBuilder<i8>>(alloc, b, batch),
+            Some(PType::I16) => by_blocks::<NumbersBuilder<i16>>(alloc, b, batch),
+            Some(PType::I32) => by_blocks::<NumbersBuilder<i32>>(alloc, b, batch),
+            Some(PType::I64) => by_blocks::<NumbersBuilder<i64>>(alloc, b, batch),
+            None => Ok(None),
         },
-        _ => Ok(None),
     }
 }
 

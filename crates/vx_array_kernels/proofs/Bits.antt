@@ -119,9 +119,9 @@ same_counts vs bs ws cs xs ys left right many wide long =
     (omega arith, (omega arith, omega arith))
 
 -- bits in lanes, and the rows that they were seen as
-pub masked_truths : (vs bs us ts : List Bool) (xs : List Datum) → us ≡ vs → ts ≡ bs → length vs ≡ length bs → truth_rows (length bs) vs bs ≡ xs → shown (Rows us) (map bool ts) ≡ xs
-masked_truths vs bs us ts xs valid made many view =
-    ap (λ l. masked l (map bool ts)) valid ∙ ap (λ l. masked vs (map bool l)) made
+pub masked_truths : (vs bs ts : List Bool) (xs : List Datum) → ts ≡ bs → length vs ≡ length bs → truth_rows (length bs) vs bs ≡ xs → masked vs (map bool ts) ≡ xs
+masked_truths vs bs ts xs made many view =
+    ap (λ l. masked vs (map bool l)) made
     ∙ sym (shown_truths (Rows vs) bs vs bs (length bs) (length-masked vs (map bool bs) ∙ omega (arith, length-map bs bool)) many (λ k lt. refl) (sym (take-length bs))).1 ∙ view
 
 -- bits that are turned round

@@ -208,9 +208,9 @@ numbers_copied number v xs zs vs n long many each are = (many ∙ sym (ap length
         ∙ sym (get_or-map int (map number xs) k (pos 0) null (omega (arith, there)))
 
 -- numbers in lanes, and the rows that they were seen as
-pub masked_numbers : {A : Type 0} (number : A → ℤ) (vs us : List Bool) (xs zs : List A) (ns : List ℤ) (rows : List Datum) → us ≡ vs → ns ≡ map number zs → zs ≡ xs → length vs ≡ length xs → number_rows vs (map number xs) ≡ rows → masked us (map int ns) ≡ rows
-masked_numbers number vs us xs zs ns rows valid made same many view =
-    ap (λ l. masked l (map int ns)) valid ∙ ap (λ l. masked vs (map int l)) (made ∙ ap (map number) same)
+pub masked_numbers : {A : Type 0} (number : A → ℤ) (vs : List Bool) (xs zs : List A) (ns : List ℤ) (rows : List Datum) → ns ≡ map number zs → zs ≡ xs → length vs ≡ length xs → number_rows vs (map number xs) ≡ rows → masked vs (map int ns) ≡ rows
+masked_numbers number vs xs zs ns rows made same many view =
+    ap (λ l. masked vs (map int l)) (made ∙ ap (map number) same)
     ∙ sym (shown_values int (Rows vs) (map number xs) vs (length vs) (λ k. int (get_or (map number xs) k (pos 0))) (length-masked vs (map int (map number xs)) ∙ omega (arith, many, length-map (map number xs) int, length-map xs number)) (λ k lt. refl)
     (λ k lt. sym (get_or-map int (map number xs) k (pos 0) null (omega (arith, many, length-map xs number))))) ∙ view
 

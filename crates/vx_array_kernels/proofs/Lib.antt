@@ -12,3 +12,4 @@ pub mod Alive
 pub mod Upward
 pub mod Along
 pub mod Quick
+mod AllValid

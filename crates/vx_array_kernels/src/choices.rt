@@ -15,34 +15,36 @@ use crate::truths::Truths;
 use std::alloc::{AllocError, Global};
 use std::sync::Arc;
 use vx_array::Lanes;
+use vx_array_build::lane_type;
 use vx_types::{DType, PType, Value};
 
-// A call for rows of the kind that a type has, if they are truth values, numbers, texts or bytes.
+// A call for rows of the kind that a type has, if they are truth values, texts or bytes, or lie in buffers of
+// numbers.
 macro_rules! by_kind {
     ($dtype:expr, $f:ident $args:tt) => {
         match $dtype {
             DType::Bool(_) => by_kind!(@ $f Truths $args),
             DType::Utf8(_) => $f::<ByteRows<TextKind>> $args,
             DType::Binary(_) => $f::<ByteRows<OctetKind>> $args,
-            DType::Primitive(number, _) => match number {
-                PType::U8 => $f::<NumberRows<u8>> $args,
-                PType::U16 => $f::<NumberRows<u16>> $args,
-                PType::U32 => $f::<NumberRows<u32>> $args,
-                PType::U64 => $f::<NumberRows<u64>> $args,
-                PType::I8 => $f::<NumberRows<i8>> $args,
-                PType::I16 => $f::<NumberRows<i16>> $args,
-                PType::I32 => $f::<NumberRows<i32>> $args,
-                PType::I64 => $f::<NumberRows<i64>> $args,
+            _ => match lane_type($dtype) {
+                Some(PType::U8) => $f::<NumberRows<u8>> $args,
+                Some(PType::U16) => $f::<NumberRows<u16>> $args,
+                Some(PType::U32) => $f::<NumberRows<u32>> $args,
+                Some(PType::U64) => $f::<NumberRows<u64>> $args,
+                Some(PType::I8) => $f::<NumberRows<i8>> $args,
+                Some(PType::I16) => $f::<NumberRows<i16>> $args,
+                Some(PType::I32) => $f::<NumberRows<i32>> $args,
+                Some(PType::I64) => $f::<NumberRows<i64>> $args,
+                None => Ok(None),
             },
-            _ => Ok(None),
         }
     };
     (@ $f:ident $kind:ident $args:tt) => { $f::<$kind> $args };
 }
 
 /// Of conditions and values in turn the value beside the first condition that is true, else the last
-/// column's value, else null. There is an answer where all values are truth values, numbers, texts or bytes
-/// of the type in buffers, or one value in all rows, and conditions truth values.
+/// column's value, else null. There is an answer where all values are truth values, numbers, days, instants,
+/// texts or bytes of the type in buffers, or one value in all rows, and conditions truth values.
 pub fn case_when(
     alloc: Global,
     count: usize,
@@ -71,8 +73,8 @@ pub fn zip(
 }
 
 /// The first column's values, and the other's where they are null. There is an answer where the first ones
-/// are truth values, numbers, texts or bytes of the type in buffers, and the others, too, or one value in
-/// all rows.
+/// are truth values, numbers, days, instants, texts or bytes of the type in buffers, and the others, too, or
+/// one value in all rows.
 pub fn fill_null(alloc: Global, dtype: &DType, pair: Pair) -> Result<Option<Lanes>, AllocError>
     requires { IsLong pair }
     ensures { Finds (filled_rows pair.entry.count (lanes_rows pair.entry.lhs.now) (lanes_rows pair.entry.rhs.now)) result }

@@ -17,6 +17,7 @@ mod picked;
 mod reach;
 mod sums;
 mod truths;
+mod validity;
 mod width;
 mod widths;
 

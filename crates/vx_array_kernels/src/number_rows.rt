@@ -8,10 +8,11 @@ ghost use Rattle.std.proofs.Math.ListN.{replicate};
 
 use crate::blend::Blend;
 use crate::truths::{all_rows, put_bits, valid_rows};
+use crate::validity::validity_by;
 use crate::width::Width;
 use std::alloc::{AllocError, Global};
 use std::marker::Model;
-use vx_array::{BitPart, Lanes, Part, Validity};
+use vx_array::{Lanes, Part, Validity};
 use vx_array_build::Native;
 use vx_array_loops::{Bits, Number, tabulated, write_where};
 use vx_types::Value;
@@ -69,9 +70,9 @@ impl<T: Width> Blend for NumberRows<T> {
     }
 
     fn into_lanes(self, alloc: Global) -> Result<Option<Lanes>, AllocError> {
-        let valid = BitPart::new(alloc, self.valid)?;
+        let validity = validity_by(alloc, self.valid, self.numbers.len())?;
         let numbers = T::numbers(Part::new(alloc, self.numbers)?);
-        Ok(Some(Lanes::Numbers(numbers, Validity::Rows(valid))))
+        Ok(Some(Lanes::Numbers(numbers, validity)))
     }
 }
 

@@ -8,8 +8,9 @@ ghost use Rattle.vx_array_kernels.specs.ByteRows.{picked_rows, shown_row};
 ghost use Rattle.vx_array_kernels.specs.Found.{Finds};
 
 use crate::byte_kind::ByteKind;
+use crate::validity::validity_by;
 use std::alloc::{AllocError, Global};
-use vx_array::{BitPart, Lanes, Spans, Validity};
+use vx_array::{Lanes, Spans, Validity};
 use vx_array_build::SpansBuilder;
 use vx_array_loops::Bits;
 
@@ -42,8 +43,10 @@ fn finished<K: ByteKind>(
 ) -> Result<Lanes, AllocError>
     ensures { IfOk result (λ out. lanes_rows out ≡ masked valid.items (map K.datum spans)) }
 {
-    let valid = BitPart::new(alloc, Bits::from_bools(alloc, valid.as_slice())?)?;
-    Ok(K::lanes(spans.finish(alloc)?, Validity::Rows(valid)))
+    let spans = spans.finish(alloc)?;
+    let valid = Bits::from_bools(alloc, valid.as_slice())?;
+    let validity = validity_by(alloc, valid, spans.len())?;
+    Ok(K::lanes(spans, validity))
 }
 
 // The bytes of that row of the column of that number, beside whether it isn't null, if it is there, and null

@@ -12,6 +12,7 @@ ghost use Rattle.vx_array_kernels.specs.Truths.{both_rows};
 
 use crate::blend::Blend;
 use crate::logic::Connective;
+use crate::validity::validity_by;
 use std::alloc::{AllocError, Global};
 use std::marker::Model;
 use vx_array::{BitPart, Lanes, Validity};
@@ -113,8 +114,8 @@ impl Blend for Truths {
     }
 
     fn into_lanes(self, alloc: Global) -> Result<Option<Lanes>, AllocError> {
-        let valid = BitPart::new(alloc, self.valid)?;
-        Ok(Some(Lanes::Bools(BitPart::new(alloc, self.bits)?, Validity::Rows(valid))))
+        let validity = validity_by(alloc, self.valid, self.bits.len())?;
+        Ok(Some(Lanes::Bools(BitPart::new(alloc, self.bits)?, validity)))
     }
 }
 

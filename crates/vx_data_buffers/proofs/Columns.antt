@@ -10,7 +10,7 @@ use Rattle.std.proofs.lemmas.List.FromFn.{length-map-range_with_len, get_or-map-
 use Rattle.vx_dtype.specs.Fields.{fields_named}
 use Rattle.vx_dtype.specs.declared.dtype.DType.{DType}
 use Rattle.vx_dtype.specs.declared.dtype.PType.{PType}
-use Rattle.vx_value.specs.Types.{Name, LogicalType, ty, Shape, atomic, truth, number, struct, Fields, Datum, null, bool, int, struct_of}
+use Rattle.vx_value.specs.Types.{Name, LogicalType, ty, Shape, atomic, truth, number, decimals, date, timestamp, text, octets, list, fixed, struct, shape_of, is_nullable, Fields, Datum, null, bool, int, struct_of}
 use Rattle.vx_value.specs.Fields.{data_of}
 use Rattle.vx_value.specs.Fits.{Fits}
 use Rattle.vx_value.specs.Columns.{Batch, batch, first_misfit}
@@ -22,11 +22,12 @@ use Rattle.vx_array.specs.Shown as shown
 use Rattle.vx_array.specs.Shown.{shown_count}
 use Rattle.vx_array.proofs.Masked.{get_or-shown, length-shown}
 use Rattle.vx_array_build.specs.Built.{column_by, shown_by, structs_by}
+use Rattle.vx_array_build.specs.Lanes.{lane_of}
 use Rattle.vx_data_buffers.specs.Results.{and_then, and_so, each_from}
 use Rattle.vx_data_buffers.specs.Bytes.{bytes_at, number_at}
 use Rattle.vx_data_buffers.specs.Layout.{buffer_count, found, unless_null, value_at, present_at}
 use Rattle.vx_data_buffers.specs.Rows.{column_said, row_of}
-use Rattle.vx_data_buffers.specs.Arrays.{AreBits, AreNumbers, HaveFields, IsColumn, Tells, if_nullable}
+use Rattle.vx_data_buffers.specs.Arrays.{AreBits, AreNumbers, HasNumbers, HaveFields, IsColumn, Tells, if_nullable}
 use Rattle.vx_data_buffers.specs.declared.fault.Fault.{Fault}
 use Rattle.vx_data_buffers.proofs.Runs.{one_more}
 
@@ -76,12 +77,29 @@ truths_read buffers at rows n v bits tells are =
     column_read buffers (atomic truth) at rows n v (map bool bits) tells (length-map bits bool ∙ are.0)
     (λ i h. ap (λ r. and_so (found (at + 1) r) bool) (are.1 i h) ∙ ap Ok (sym (get_or-map bool bits i false null (omega (arith, are.0)))))
 
--- of numbers
-pub numbers_read : (buffers : List (List ℕ)) (p : PType) (at rows : ℕ) (n : Bool) (v : Validity) (ns : List ℤ) → Tells buffers at rows n v → AreNumbers p (bytes_at buffers (at + 1)) rows ns
-    → IsColumn buffers (ty (atomic (number p)) n) at rows (column_by (atomic (number p)) (if_nullable n v) (map int ns))
-numbers_read buffers p at rows n v ns tells are =
-    column_read buffers (atomic (number p)) at rows n v (map int ns) tells (length-map ns int ∙ are.0)
-    (λ i h. ap (λ r. and_so (found (at + 1) r) int) (are.1 i h) ∙ ap Ok (sym (get_or-map int ns i (pos 0) null (omega (arith, are.0)))))
+-- a type is its shape and whether it is nullable
+pub as_shape : (t : LogicalType) → t ≡ ty (shape_of t) (is_nullable t)
+as_shape (ty s n) = refl
+
+-- what is read of a type whose rows lie in buffers of numbers
+pub lane_read : (buffers : List (List ℕ)) (s : Shape) (p : PType) (at i : ℕ) → lane_of s ≡ Some p → present_at buffers s at i ≡ and_so (found at (number_at p (bytes_at buffers at) i)) int
+lane_read buffers (atomic (number q)) p at i is = cc
+lane_read buffers (atomic date) p at i is = cc
+lane_read buffers (atomic (timestamp u z)) p at i is = cc
+lane_read buffers (atomic truth) p at i is = cc
+lane_read buffers (atomic (decimals q r)) p at i is = cc
+lane_read buffers (atomic text) p at i is = cc
+lane_read buffers (atomic octets) p at i is = cc
+lane_read buffers (list t) p at i is = cc
+lane_read buffers (fixed t k) p at i is = cc
+lane_read buffers (struct fs) p at i is = cc
+
+-- of such a type
+pub numbers_read : (buffers : List (List ℕ)) (s : Shape) (at rows : ℕ) (n : Bool) (v : Validity) (a : Batch) → Tells buffers at rows n v → HasNumbers (bytes_at buffers (at + 1)) s rows (if_nullable n v) a → IsColumn buffers (ty s n) at rows a
+numbers_read buffers s at rows n v a tells (ns, (p, lane, are), is) =
+    subst (IsColumn buffers (ty s n) at rows) (sym is)
+    (column_read buffers s at rows n v (map int ns) tells (length-map ns int ∙ are.0)
+    (λ i h. lane_read buffers s p (at + 1) i lane ∙ ap (λ r. and_so (found (at + 1) r) int) (are.1 i h) ∙ ap Ok (sym (get_or-map int ns i (pos 0) null (omega (arith, are.0))))))
 
 some_if : (n : Bool) (v : Validity) → is_some (if_nullable n v) ≡ n
 some_if true v = refl

@@ -4,18 +4,19 @@ use Rattle.std.specs.Global.{Vec}
 use Rattle.std.specs.Prelude.{Result, Ok, Err, IfOk, IfSome, Option, Some, None}
 use Rattle.std.proofs.lemmas.List.{get_or-map, length-map}
 use Rattle.vx_dtype.specs.declared.dtype.PType.{PType}
-use Rattle.vx_value.specs.Types.{Datum, ty, Shape, atomic, truth, number, null, bool, int}
+use Rattle.vx_value.specs.Types.{Datum, ty, Shape, atomic, truth, number, decimals, date, timestamp, text, octets, list, fixed, struct, null, bool, int}
 use Rattle.vx_value.specs.Columns.{Batch, batch, first_misfit}
 use Rattle.vx_array.specs.declared.validity.Validity.{Validity}
 use Rattle.vx_array.specs.Shown as shown
 use Rattle.vx_array.specs.Shown.{shown_count}
+use Rattle.vx_array_build.specs.Lanes.{lane_of}
 use Rattle.vx_data_buffers.specs.Results.{and_so}
 use Rattle.vx_data_buffers.specs.Layout.{buffer_count, found, present_at}
 use Rattle.vx_data_buffers.specs.Rows.{column_said}
 use Rattle.vx_data_buffers.specs.Arrays.{IsColumn, Tells}
-use Rattle.vx_data_buffers.specs.Laid.{AreBuffersOf, HaveNumbers, HaveTruths, SayValid, lists_in, packed_bytes}
+use Rattle.vx_data_buffers.specs.Laid.{AreBuffersOf, HaveTruths, HaveValues, SayValid, lists_in, packed_bytes}
 use Rattle.vx_data_buffers.proofs.ByteBits.{packed_are}
-use Rattle.vx_data_buffers.proofs.Columns.{column_read, said_whole}
+use Rattle.vx_data_buffers.proofs.Columns.{column_read, lane_read, said_whole}
 
 -- the two buffers of truth values
 pub have_truths : {E : Type 0} (r : Result (Vec (Vec ℕ)) E) (valid values : List ℕ) (bits : List Bool) (v : Validity) → IfOk r (λ b. lists_in b.items ≡ valid ∷ values ∷ []) → SayValid valid (length bits) v → values ≡ packed_bytes bits
@@ -41,12 +42,26 @@ laid_truths array n bits v buffers typed rows fit all (valid, values, is, say, a
     rw is (laid array (atomic truth) n (map bool bits) v valid values refl typed rows fit (rw long all) (rw long say)
     (λ i h. let low : i < length bits = subst (λ m. i < m) long h in ap (λ r. and_so (found 1 r) bool) (are.1 i low) ∙ ap Ok (sym (get_or-map bool bits i false null low))))
 
-pub laid_numbers : (array : Batch) (p : PType) (n : Bool) (ns : List ℤ) (v : Validity) (buffers : List (List ℕ)) → array.type ≡ ty (atomic (number p)) n → array.rows ≡ shown.shown v (map int ns) → first_misfit array.type array.rows ≡ None
-    → shown_count v (length ns) ≡ length ns → HaveNumbers p ns v buffers → AreBuffersOf array buffers
-laid_numbers array p n ns v buffers typed rows fit all (valid, values, is, say, are) =
+-- how many buffers a type has whose rows lie in buffers of numbers
+lane_buffers : (s : Shape) (p : PType) (n : Bool) → lane_of s ≡ Some p → buffer_count (ty s n) ≡ 2
+lane_buffers (atomic (number q)) p n is = refl
+lane_buffers (atomic date) p n is = refl
+lane_buffers (atomic (timestamp u z)) p n is = refl
+lane_buffers (atomic truth) p n is = cc
+lane_buffers (atomic (decimals q r)) p n is = cc
+lane_buffers (atomic text) p n is = cc
+lane_buffers (atomic octets) p n is = cc
+lane_buffers (list t) p n is = cc
+lane_buffers (fixed t k) p n is = cc
+lane_buffers (struct fs) p n is = cc
+
+pub laid_values : (array : Batch) (s : Shape) (n : Bool) (ns : List ℤ) (v : Validity) (buffers : List (List ℕ)) → array.type ≡ ty s n → array.rows ≡ shown.shown v (map int ns) → first_misfit array.type array.rows ≡ None
+    → shown_count v (length ns) ≡ length ns → HaveValues s ns v buffers → AreBuffersOf array buffers
+laid_values array s n ns v buffers typed rows fit all (valid, values, is, say, (p, lane, are)) =
     let long : length (map int ns) ≡ length ns = length-map ns int in
-    rw is (laid array (atomic (number p)) n (map int ns) v valid values refl typed rows fit (rw long all) (rw long say)
-    (λ i h. let low : i < length ns = subst (λ m. i < m) long h in ap (λ r. and_so (found 1 r) int) (are.1 i low) ∙ ap Ok (sym (get_or-map int ns i (pos 0) null low))))
+    rw is (laid array s n (map int ns) v valid values (lane_buffers s p n lane) typed rows fit (rw long all) (rw long say)
+    (λ i h. let low : i < length ns = subst (λ m. i < m) long h in
+    lane_read (valid ∷ values ∷ []) s p 1 i lane ∙ ap (λ r. and_so (found 1 r) int) (are.1 i low) ∙ ap Ok (sym (get_or-map int ns i (pos 0) null low))))
 
 -- what there is is as well what follows of it
 pub some_laid : {A E : Type 0} {P Q : A → Type 0} (r : Result (Option A) E) → ((a : A) → P a → Q a) → IfOk r (λ found. IfSome found P) → IfOk r (λ found. IfSome found Q)

@@ -1,12 +1,14 @@
 -- Columns that are read at once.
-use Rattle.std.specs.Prelude.{◌≡◌, ℕ, ◌<◌, Bool, true, false, List, length, get_or, ℤ, pos, Option, Some, None, Ok, if◌then◌else◌}
+use Rattle.std.specs.Prelude.{◌≡◌, ℕ, ◌<◌, Bool, true, false, List, map, length, get_or, ℤ, pos, Option, Some, None, Ok, if◌then◌else◌}
 use Rattle.vx_dtype.specs.declared.dtype.PType.{PType}
-use Rattle.vx_value.specs.Types.{LogicalType, Fields, null}
+use Rattle.vx_value.specs.Types.{LogicalType, Shape, Fields, null, int}
 use Rattle.vx_value.specs.Columns.{Batch}
 use Rattle.vx_value.specs.StructColumns.{row_at, rows_in}
 use Rattle.vx_array.specs.declared.validity.Validity.{Validity}
 use Rattle.vx_array.specs.Shown as shown
 use Rattle.vx_array.specs.Shown.{shown_count}
+use Rattle.vx_array_build.specs.Built.{column_by}
+use Rattle.vx_array_build.specs.Lanes.{lane_of}
 use Rattle.vx_data_buffers.specs.Bytes.{bit_of, number_at}
 use Rattle.vx_data_buffers.specs.Layout.{is_valid, fields_at, value_at}
 
@@ -17,6 +19,14 @@ AreBits bytes rows bits = (length bits ≡ rows) × ((i : ℕ) → i < rows → 
 -- so many numbers are those of the type in the bytes
 abbrev pub AreNumbers : PType → List ℕ → ℕ → List ℤ → Type 0
 AreNumbers p bytes rows ns = (length ns ≡ rows) × ((i : ℕ) → i < rows → number_at p bytes i ≡ Some (get_or ns i (pos 0)))
+
+-- so many numbers are those as which the type's values lie in the bytes
+abbrev pub AreValues : Shape → List ℕ → ℕ → List ℤ → Type 0
+AreValues s bytes rows ns = (p : PType) × (lane_of s ≡ Some p) × AreNumbers p bytes rows ns
+
+-- the batch has so many values of the type, which lie in the bytes as numbers
+abbrev pub HasNumbers : List ℕ → Shape → ℕ → Option Validity → Batch → Type 0
+HasNumbers bytes s rows v b = (ns : List ℤ) × AreValues s bytes rows ns × (b ≡ column_by s v (map int ns))
 
 -- the validity says of so many rows what the buffer of that index says, and of a type without null that no row is null
 pub record Tells (buffers : List (List ℕ)) (at rows : ℕ) (nullable : Bool) (v : Validity) : Type 0 where

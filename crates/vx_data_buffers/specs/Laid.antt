@@ -2,12 +2,13 @@
 use Rattle.std.specs.Prelude.{◌≡◌, ℕ, zero, suc, ◌+◌, ◌*◌, ◌<◌, ◌==◌, Bool, true, false, List, [], ◌∷◌, ◌++◌, ℤ, length, map, get_or, Ok, if◌then◌else◌}
 use Rattle.std.specs.Int.{div_ceil}
 use Rattle.std.specs.Global.{Vec}
+use Rattle.vx_value.specs.Types.{Shape}
 use Rattle.vx_value.specs.Columns.{Batch}
 use Rattle.vx_array.specs.declared.validity.Validity.{Validity}
 use Rattle.vx_array.specs.Shown as shown
 use Rattle.vx_array_loops.specs.WordBits.{each_row}
 use Rattle.vx_dtype.specs.declared.dtype.PType.{PType}
-use Rattle.vx_data_buffers.specs.Arrays.{AreBits, AreNumbers}
+use Rattle.vx_data_buffers.specs.Arrays.{AreBits, AreValues}
 use Rattle.vx_data_buffers.specs.Bytes.{bit_of, number_of, width}
 use Rattle.vx_data_buffers.specs.Layout.{found}
 use Rattle.vx_data_buffers.specs.Rows.{column_said}
@@ -41,6 +42,6 @@ AddsNumber p before n after = (bytes : List ℕ) × (after ≡ before ++ bytes) 
 abbrev pub HaveTruths : List Bool → Validity → List (List ℕ) → Type 0
 HaveTruths bits v buffers = (valid values : List ℕ) × (buffers ≡ valid ∷ values ∷ []) × SayValid valid (length bits) v × AreBits values (length bits) bits
 
--- the same of numbers of the type
-abbrev pub HaveNumbers : PType → List ℤ → Validity → List (List ℕ) → Type 0
-HaveNumbers p ns v buffers = (valid values : List ℕ) × (buffers ≡ valid ∷ values ∷ []) × SayValid valid (length ns) v × AreNumbers p values (length ns) ns
+-- the same of numbers as which values of a type lie there
+abbrev pub HaveValues : Shape → List ℤ → Validity → List (List ℕ) → Type 0
+HaveValues s ns v buffers = (valid values : List ℕ) × (buffers ≡ valid ∷ values ∷ []) × SayValid valid (length ns) v × AreValues s values (length ns) ns

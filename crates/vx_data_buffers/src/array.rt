@@ -25,8 +25,8 @@ use vx_array_build::{booleans, struct_of};
 use vx_types::{Column, DType, StructFields, VortexError, VortexResult};
 
 /// The array of that type whose rows these buffers have, so many of them: the rows of [`column_of`], or its
-/// refusal. Truth values, numbers and structs of them are read at once, into buffers of the array's own.
-/// Where the type has other values, or a row is refused, rows are read one by one, as there.
+/// refusal. Truth values, numbers, days, instants and structs of them are read at once, into buffers of the
+/// array's own. Where the type has other values, or a row is refused, rows are read one by one, as there.
 ///
 /// Takes time in the number of the values, and for each struct in that of the buffers inside it.
 pub fn array_of(
@@ -100,20 +100,11 @@ fn array_at(
     let next = at + 1;
     match t {
         DType::Bool(_) => truths_in(alloc, bytes_at(buffers, next), rows, validity),
-        DType::Primitive(ptype, _) => {
-            numbers_in(alloc, bytes_at(buffers, next), *ptype, rows, validity)
-        }
         DType::Struct(fields, _) => match columns_at(alloc, buffers, fields, next, rows)? {
             Some(columns) => structs_of(alloc, fields, columns.as_slice(), rows, validity),
             None => Ok(None),
         },
-        DType::Decimal(_, _)
-        | DType::Date(_)
-        | DType::Timestamp(_, _)
-        | DType::Utf8(_)
-        | DType::Binary(_)
-        | DType::List(_, _)
-        | DType::FixedSizeList(_, _, _) => Ok(None),
+        _ => numbers_in(alloc, bytes_at(buffers, next), t, rows, validity),
     }
 }
 

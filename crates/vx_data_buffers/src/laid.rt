@@ -2,7 +2,9 @@
 ghost use Rattle.std.specs.Prelude.{◌≡◌, ◌∷◌, IfOk, IfSome, [], length, true};
 ghost use Rattle.vx_array.specs.Kinds.{numbers_in};
 ghost use Rattle.vx_array.specs.Shown.{shown_count};
-ghost use Rattle.vx_data_buffers.specs.Laid.{AreBuffersOf, HaveNumbers, HaveTruths, lists_in};
+ghost use Rattle.vx_value.specs.Types.{shape_of};
+ghost use Rattle.vx_value.specs.Views.{type_of};
+ghost use Rattle.vx_data_buffers.specs.Laid.{AreBuffersOf, HaveTruths, HaveValues, lists_in};
 
 use crate::LayoutError;
 use crate::packed::{packed, validity_bytes};
@@ -10,11 +12,12 @@ use crate::read_back::rows_laid;
 use crate::spelled::number_bytes;
 use std::alloc::{AllocError, Global};
 use vx_array::{Array, BitPart, Lanes, Numbers, Validity};
-use vx_types::{DType, PType};
+use vx_array_build::lane_type;
+use vx_types::DType;
 
 /// Buffers of the array's rows, laid out and in the order in which [`array_of`](crate::array_of) reads them:
-/// what this reads of them is the array. Truth values and numbers are written at once, from where they lie.
-/// Of other types rows are written one by one.
+/// what this reads of them is the array. Truth values, numbers, days and instants are written at once, from
+/// where they lie. Of other types rows are written one by one.
 ///
 /// Refuses with `OutOfMemory`, and with `TooLong` where texts, bytes or items take more than offsets of 32
 /// bits can say.
@@ -35,9 +38,8 @@ fn laid_at_once(alloc: Global, array: &Array) -> Result<Option<Vec<Vec<u8>>>, Al
         (DType::Bool(_), Lanes::Bools(bits, validity)) if is_whole(validity, bits.len()) => {
             Ok(Some(truths_laid(alloc, bits, validity)?))
         }
-        (DType::Primitive(ptype, _), Lanes::Numbers(numbers, validity))
-            if is_whole(validity, numbers.len()) => {
-            numbers_laid(alloc, *ptype, numbers, validity)
+        (dtype, Lanes::Numbers(numbers, validity)) if is_whole(validity, numbers.len()) => {
+            numbers_laid(alloc, dtype, numbers, validity)
         }
         _ => Ok(None),
     }
@@ -64,16 +66,20 @@ fn truths_laid(
     two(alloc, valid, values)
 }
 
-// The two buffers of numbers. None where they are held in the width of another type.
+// The two buffers of values of the type, which lie there as numbers. None where they are held in the width of
+// another type.
 fn numbers_laid(
     alloc: Global,
-    ptype: PType,
+    dtype: &DType,
     numbers: &Numbers,
     validity: &Validity,
 ) -> Result<Option<Vec<Vec<u8>>>, AllocError>
     requires { shown_count validity.now (length (numbers_in numbers.now)) ≡ length (numbers_in numbers.now) }
-    ensures { IfOk result (λ found. IfSome found (λ buffers. HaveNumbers ptype (numbers_in numbers.now) validity.now (lists_in buffers.items))) }
+    ensures { IfOk result (λ found. IfSome found (λ buffers. HaveValues (shape_of (type_of dtype.now)) (numbers_in numbers.now) validity.now (lists_in buffers.items))) }
 {
+    let Some(ptype) = lane_type(dtype) else {
+        return Ok(None);
+    };
     let Some(values) = number_bytes(alloc, ptype, numbers)? else {
         return Ok(None);
     };

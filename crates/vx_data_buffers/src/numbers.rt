@@ -1,35 +1,38 @@
 // Numbers of a buffer's bytes, all at once.
-ghost use Rattle.std.specs.Prelude.{◌≡◌, IfOk, IfSome, ℤ, List, Some, map};
-ghost use Rattle.vx_value.specs.Types.{atomic, int, number};
-ghost use Rattle.vx_array_build.specs.Built.{column_by};
-ghost use Rattle.vx_data_buffers.specs.Arrays.{AreNumbers};
+ghost use Rattle.std.specs.Prelude.{◌≡◌, IfOk, IfSome, Some, map};
+ghost use Rattle.vx_value.specs.Types.{shape_of};
+ghost use Rattle.vx_value.specs.Views.{type_of};
+ghost use Rattle.vx_array_build.specs.Lanes.{lane_of};
+ghost use Rattle.vx_data_buffers.specs.Arrays.{AreNumbers, HasNumbers};
 ghost use Rattle.vx_data_buffers.specs.Bytes.{number_at};
 
 use crate::bytes::number_at;
 use std::alloc::{AllocError, Global};
 use vx_array::{Array, Validity};
-use vx_array_build::{Native, primitive};
-use vx_types::{PType, VortexResult};
+use vx_array_build::{Native, in_lanes, lane_type};
+use vx_types::{DType, PType, VortexResult};
 
-// The array of so many numbers of the type. None where there are fewer.
+// The array of so many values of the type, which lie in the bytes as numbers. None where there are fewer, or
+// the type's values don't.
 pub(crate) fn numbers_in(
     alloc: Global,
     bytes: &[u8],
-    ptype: PType,
+    dtype: &DType,
     rows: usize,
     validity: Option<Validity>,
 ) -> VortexResult<Option<Array>>
-    ensures { IfOk result (λ found. IfSome found (λ a. (ns : List ℤ) × AreNumbers ptype bytes.now rows ns × (a ≡ column_by (atomic (number ptype)) validity (map int ns)))) }
+    ensures { IfOk result (λ found. IfSome found (HasNumbers bytes.now (shape_of (type_of dtype.now)) rows validity)) }
 {
-    match ptype {
-        PType::U8 => natives::<u8>(alloc, bytes, rows, validity),
-        PType::U16 => natives::<u16>(alloc, bytes, rows, validity),
-        PType::U32 => natives::<u32>(alloc, bytes, rows, validity),
-        PType::U64 => natives::<u64>(alloc, bytes, rows, validity),
-        PType::I8 => natives::<i8>(alloc, bytes, rows, validity),
-        PType::I16 => natives::<i16>(alloc, bytes, rows, validity),
-        PType::I32 => natives::<i32>(alloc, bytes, rows, validity),
-        PType::I64 => natives::<i64>(alloc, bytes, rows, validity),
+    match lane_type(dtype) {
+        Some(PType::U8) => natives::<u8>(alloc, bytes, dtype, rows, validity),
+        Some(PType::U16) => natives::<u16>(alloc, bytes, dtype, rows, validity),
+        Some(PType::U32) => natives::<u32>(alloc, bytes, dtype, rows, validity),
+        Some(PType::U64) => natives::<u64>(alloc, bytes, dtype, rows, validity),
+        Some(PType::I8) => natives::<i8>(alloc, bytes, dtype, rows, validity),
+        Some(PType::I16) => natives::<i16>(alloc, bytes, dtype, rows, validity),
+        Some(PType::I32) => natives::<i32>(alloc, bytes, dtype, rows, validity),
+        Some(PType::I64) => natives::<i64>(alloc, bytes, dtype, rows, validity),
+        None => Ok(None),
     }
 }
 
@@ -37,13 +40,15 @@ pub(crate) fn numbers_in(
 fn natives<T: Native>(
     alloc: Global,
     bytes: &[u8],
+    dtype: &DType,
     rows: usize,
     validity: Option<Validity>,
 ) -> VortexResult<Option<Array>>
-    ensures { IfOk result (λ found. IfSome found (λ a. (ns : List ℤ) × AreNumbers T.kind bytes.now rows ns × (a ≡ column_by (atomic (number T.kind)) validity (map int ns)))) }
+    requires { lane_of (shape_of (type_of dtype.now)) ≡ Some T.kind }
+    ensures { IfOk result (λ found. IfSome found (HasNumbers bytes.now (shape_of (type_of dtype.now)) rows validity)) }
 {
     match read::<T>(alloc, bytes, rows)? {
-        Some(numbers) => Ok(Some(primitive(alloc, numbers, validity)?)),
+        Some(numbers) => Ok(Some(in_lanes(alloc, dtype.clone()?, numbers, validity)?)),
         None => Ok(None),
     }
 }

@@ -1,6 +1,7 @@
 // Arrays as they are shown, their nulls, and arrays one after another.
 use std::alloc::Global;
-use vx_expr::arrays::{Array, BitPart, Bits, Validity, concat, primitive, texts};
+use vx_expr::arrays::{Array, BitPart, Bits, Validity, concat, days, instants, primitive, texts};
+use vx_expr::dtype::{TimeUnit, TimestampType};
 use vx_expr::prelude::*;
 
 /// Three texts, of which the second one is null.
@@ -25,6 +26,43 @@ fn arrays_one_after_another_are_shown(rt: HostRuntime) -> VortexResult<()> {
     assert_eq!(rt;
         page.as_str(),
         r#"["pear", null, "fig", "pear", null, "fig"] 2 true"#
+    );
+    Ok(())
+}
+
+/// Three days, of which the second one is null.
+fn some_days(alloc: Global) -> VortexResult<Array> {
+    let valid = Bits::from_bools(alloc, &[true, false, true])?;
+    let validity = Validity::Rows(BitPart::new(alloc, valid)?);
+    days(alloc, vec![in alloc; 19753i32, 0, -1]?, Some(validity))
+}
+
+#[test]
+fn days_one_after_another_are_shown(rt: HostRuntime) -> VortexResult<()> {
+    let alloc = rt.alloc();
+    let first = some_days(alloc)?;
+    let dtype = first.dtype().clone()?;
+    let all = concat(alloc, &dtype, &[first, some_days(alloc)?, some_days(alloc)?])?;
+    let page = format!(in alloc; "{all}")?;
+    assert_eq!(rt;
+        page.as_str(),
+        "[2024-01-31, null, 1969-12-31, 2024-01-31, null, 1969-12-31, 2024-01-31, null, 1969-12-31]"
+    );
+    Ok(())
+}
+
+#[test]
+fn instants_are_shown(rt: HostRuntime) -> VortexResult<()> {
+    let alloc = rt.alloc();
+    let seconds = TimestampType {
+        unit: TimeUnit::Seconds,
+        zone: None,
+    };
+    let found = instants(alloc, seconds, vec![in alloc; -1i64, 4294967296]?, None)?;
+    let page = format!(in alloc; "{found}")?;
+    assert_eq!(rt;
+        page.as_str(),
+        "[1969-12-31T23:59:59, 2106-02-07T06:28:16]"
     );
     Ok(())
 }

@@ -1,4 +1,4 @@
-use Rattle.std.proofs.Common.{◌≡◌, ◌+◌, ◌++◌, ◌∙◌, ap, length, take, rules}
+use Rattle.std.proofs.Common.{◌≡◌, ◌+◌, ◌++◌, ◌∙◌, ap, rules}
 use Rattle.vx_array.specs.Shown.{shown_count}
 use Rattle.vx_array_build.specs.Rowed.{flags, valid_in}
 use Rattle.vx_array_build.proofs.Rowed.{truths_behind}

@@ -1,13 +1,14 @@
 use Rattle.std.proofs.Common.{◌≡◌, ◌∙◌, ap, length, map, rules, sym}
 use Rattle.vx_dtype.specs.declared.dtype.DType.{the_lemmas as the_types}
-use Rattle.vx_value.specs.Types.{ty, atomic, truth, number, bool, int}
-use Rattle.vx_value.specs.Views.{admits_null}
+use Rattle.vx_value.specs.Types.{ty, atomic, truth, shape_of, is_nullable, bool, int}
+use Rattle.vx_value.specs.Views.{admits_null, type_of}
 use Rattle.vx_array.specs.Kinds.{numbers_in}
 use Rattle.vx_array.specs.Rows.{lanes_rows}
 use Rattle.vx_array.proofs.Held.{rows-Bools, rows-Numbers}
 use Rattle.vx_array.specs.Shown.{shown, shown_count}
 use Rattle.vx_data_buffers.specs.Laid.{lists_in}
-use Rattle.vx_data_buffers.proofs.LaidOut.{laid_numbers, laid_truths, some_laid}
+use Rattle.vx_data_buffers.proofs.Columns.{as_shape}
+use Rattle.vx_data_buffers.proofs.LaidOut.{laid_truths, laid_values, some_laid}
 use Rattle.vx_data_buffers.proofs.laid.laid_at_once.Goals as goal
 
 pub returns-in_ok-truths_laid-in-Bool-Bools : goal.returns-in_ok-truths_laid-in-Bool-Bools
@@ -21,14 +22,13 @@ returns-in_ok-truths_laid-in-Bool-Bools c =
     let all : shown_count v (length bits) ≡ length bits = rw (← c.len.ensures) (c.is_whole.ensures c.if-is_whole.true) in
     laid_truths array n bits v _ typed rows c.lanes.ensures.fit all c.in_ok-truths_laid-in-Bool-Bools.ensures
 
-pub returns-in-Primitive-Numbers : goal.returns-in-Primitive-Numbers
-returns-in-Primitive-Numbers c =
+pub returns-in-Numbers : goal.returns-in-Numbers
+returns-in-Numbers c =
     let array = c.args.array.now in
-    let ns = numbers_in c.in-Primitive-Numbers.numbers in
-    let v = c.in-Primitive-Numbers.validity in
-    let p = c.in-Primitive-Numbers.ptype in
-    let n = admits_null c.in-Primitive-Numbers.field-1-0 in
-    let typed : array.type ≡ ty (atomic (number p)) n = sym c.dtype.ensures ∙ rw c.in-Primitive-Numbers.is-0 (search (rules, the_types)) in
-    let rows : array.rows ≡ shown v (map int ns) = sym c.lanes.ensures.rows ∙ ap lanes_rows c.in-Primitive-Numbers.is-1 ∙ rows-Numbers c.in-Primitive-Numbers.numbers v in
+    let ns = numbers_in c.in-Numbers.numbers in
+    let v = c.in-Numbers.validity in
+    let t = type_of c.in-Numbers.dtype.now in
+    let typed : array.type ≡ ty (shape_of t) (is_nullable t) = sym c.dtype.ensures ∙ as_shape t in
+    let rows : array.rows ≡ shown v (map int ns) = sym c.lanes.ensures.rows ∙ ap lanes_rows c.in-Numbers.is-1 ∙ rows-Numbers c.in-Numbers.numbers v in
     let all : shown_count v (length ns) ≡ length ns = search rules in
-    some_laid c.numbers_laid.result (λ buffers have. laid_numbers array p n ns v (lists_in buffers.items) typed rows c.lanes.ensures.fit all have) c.numbers_laid.ensures
+    some_laid c.numbers_laid.result (λ buffers have. laid_values array (shape_of t) (is_nullable t) ns v (lists_in buffers.items) typed rows c.lanes.ensures.fit all have) c.numbers_laid.ensures
