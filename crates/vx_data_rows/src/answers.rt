@@ -176,8 +176,13 @@ fn rows_text<T: Display + Drop>(
     }
 }
 
-fn guessed(alloc: Global, format: Format<'_>, file: &[u8]) -> Result<String, AllocError> {
-    match format.guess(alloc, file) {
+fn guessed(
+    alloc: Global,
+    format: Format<'_>,
+    decimals: bool,
+    file: &[u8],
+) -> Result<String, AllocError> {
+    match format.guess(alloc, decimals, file) {
         Ok(dtype) => {
             let rows = format.of_guess().read(alloc, &dtype, file);
             guess_text(alloc, dtype, rows)

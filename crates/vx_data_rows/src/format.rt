@@ -2,9 +2,9 @@
 use std::alloc::Global;
 use std::io::BufRead;
 use vx_data::{
-    CsvFormat, DataError, Guessing, JsonFormat, WriteError, infer_csv_type_by, infer_csv_type_with, infer_json_type,
-    infer_json_type_by, rows_from_csv, rows_from_csv_with, rows_from_json, rows_from_json_lines,
-    write_csv, write_json_lines,
+    CsvFormat, DataError, Guessing, JsonFormat, WriteError, infer_csv_type_by, infer_csv_type_with,
+    infer_json_type, infer_json_type_by, rows_from_csv, rows_from_csv_with, rows_from_json,
+    rows_from_json_lines, write_csv, write_json_lines,
 };
 use vx_types::{Column, DType};
 
