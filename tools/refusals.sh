@@ -108,6 +108,7 @@ class Line:
         wanted = self.wanted.replace("¶", "\n")
         steps = {
             "rows": f"{wanted}, which becomes another", "type": f"{wanted}, and then out of memory",
+            "decimal type": f"{wanted}, and then out of memory",
             "written": "no rows: out of memory", "twice": "no rows: out of memory",
         }
         step = steps.get(self.kind.split(" ", 1)[1], "out of memory")

@@ -62,6 +62,7 @@ fn add_form<'a>(alloc: Global, args: &mut Vec<Arg<'a>>) -> Result<(), AllocError
     args.push(comment(alloc))?;
     add(args, nested(alloc))?;
     add(args, guess(alloc))?;
+    add(args, decimals(alloc))?;
     add(args, column_type(alloc))?;
     Ok(args.push(skip_errors(alloc))?)
 }
@@ -160,6 +161,16 @@ fn guess<'a>(alloc: Global) -> Result<Arg<'a>, AllocError> {
         .value_name("RECORDS")
         .action(ArgAction::Set)
         .help("The type is that of the first so many records, or of all; without it of 1000")
+        .conflicts_with("schema")
+}
+
+fn decimals<'a>(alloc: Global) -> Result<Arg<'a>, AllocError> {
+    Arg::new(alloc, "decimals")
+        .long("decimals")
+        .action(ArgAction::SetTrue)
+        .help(
+            "Numbers are decimals where one has a point, and all that have one as many digits behind it",
+        )
         .conflicts_with("schema")
 }
 

@@ -9,6 +9,7 @@ pub struct GuessWords<'a> {
     records: u64,
     columns: Vec<ColumnType<'a>>,
     nested: bool,
+    decimals: bool,
 }
 
 impl<'a> GuessWords<'a> {
@@ -18,6 +19,7 @@ impl<'a> GuessWords<'a> {
             records: self.records,
             columns: self.columns.as_slice(),
             nested: self.nested,
+            decimals: self.decimals,
         }
     }
 }
@@ -40,6 +42,7 @@ pub fn guess_told<'a>(
         records,
         columns,
         nested: matches.get_flag("nested"),
+        decimals: matches.get_flag("decimals"),
     }))
 }
 

@@ -69,6 +69,8 @@ pub struct Guess<'a> {
     pub columns: &'a [ColumnType<'a>],
     /// Whether each name with dots in a header leads to a field of a field.
     pub nested: bool,
+    /// Whether numbers with a point are decimals, where each has as many digits behind it.
+    pub decimals: bool,
 }
 
 impl Default for Guess<'_> {
@@ -77,6 +79,7 @@ impl Default for Guess<'_> {
             records: 1_000,
             columns: &[],
             nested: false,
+            decimals: false,
         }
     }
 }
@@ -166,6 +169,7 @@ pub(crate) fn guessed_type<D: Read + Drop>(
         said: said.as_slice(),
         skips,
         nested: guess.nested,
+        decimals: guess.decimals,
     };
     let guessed = narrowest_type(alloc, format, guessing, data)?;
     Ok(with_columns(alloc, guessed, guess.columns, types.as_slice())?)

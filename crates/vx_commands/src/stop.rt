@@ -114,7 +114,8 @@ impl Display for StopMessage<'_> {
             Stop::Select(error) => self.write_error(error, self.select, f),
             Stop::Numbers(error, texts) => {
                 self.write_error(error, self.expression, f)?;
-                write!(f, "\n  = help: {texts}")
+                write!(f, "\n  = help: {texts}")?;
+                self.write_decimals(f)
             }
             Stop::Column(error) => self.write_column(error, f),
         }
@@ -151,6 +152,16 @@ impl StopMessage<'_> {
         match guess.misfit(error) {
             Some(at) => write_remedy(guess, at, f),
             None => Ok(()),
+        }
+    }
+
+    // What takes numbers with a point as such, unless it is given.
+    fn write_decimals<W: Write>(&self, f: &mut Formatter<W>) -> fmt::Result {
+        match self.schema {
+            Schema::Guessed(Guess {
+                decimals: false, ..
+            }) => f.write_str(": --decimals takes those with a point as decimals"),
+            _ => Ok(()),
         }
     }
 
@@ -231,6 +242,8 @@ fn is_misfit(expected: &Expected) -> bool {
             | Expected::Struct
             | Expected::Field
             | Expected::Present
+            | Expected::Value(_)
+            | Expected::Said { .. }
     )
 }
 

@@ -1,3 +1,4 @@
 pub mod Cells
 pub mod Numbers
 pub mod Lines
+pub mod Kinds

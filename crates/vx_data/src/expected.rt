@@ -61,6 +61,9 @@ pub enum Expected {
     /// A value of the whole type.
     #[error("expected a value of the type {0}")]
     Value(DType),
+    /// A value of the type, which the text that stands there doesn't say. Of a long text this is the beginning.
+    #[error("expected a value of the type {dtype}, which {text} is not")]
+    Said { dtype: DType, text: String },
     /// Two fields of a struct have that one name.
     #[error("expected a type whose fields have different names")]
     DistinctNames,

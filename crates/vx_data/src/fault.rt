@@ -67,6 +67,34 @@ pub fn misfit(alloc: Global, dtype: &DType) -> Fault {
     }
 }
 
+/// The fault of a text that says no value of the type. An empty one isn't shown.
+pub fn misread(alloc: Global, text: &str, dtype: &DType) -> Fault {
+    if text.is_empty() {
+        return misfit(alloc, dtype);
+    }
+    match said_not(alloc, text, dtype) {
+        Ok(expected) => Fault::new(alloc, expected),
+        Err(_) => Fault::OutOfMemory,
+    }
+}
+
+fn said_not(alloc: Global, text: &str, dtype: &DType) -> Result<Expected, AllocError> {
+    let text = beginning(alloc, text)?;
+    let dtype = dtype.clone()?;
+    Ok(Expected::Said { dtype, text })
+}
+
+// Up to so many characters of a text are shown.
+const SHOWN: usize = 60;
+
+// The text, of a long one the beginning.
+fn beginning(alloc: Global, text: &str) -> Result<String, AllocError> {
+    match text.char_indices().nth(SHOWN) {
+        Some((end, _)) => format!(in alloc; "{}..", text.get(..end).unwrap_or(text)),
+        None => String::from_str(alloc, text),
+    }
+}
+
 fn with_name(mut names: Vec<FieldName>, name: &FieldName) -> Result<Vec<FieldName>, AllocError> {
     names.push(name.clone()?)?;
     Ok(names)

@@ -13,6 +13,9 @@ pub struct Guessing<'a> {
     /// Whether each name with dots in a header leads to a field of a field. A name that is both a cell and the way to others
     /// is refused then.
     pub nested: bool,
+    /// Whether numbers are `decimal(38, s)` of which one has a point, and each that has one has s digits behind it. 38 digits
+    /// leave room for greater numbers in later records.
+    pub decimals: bool,
 }
 
 impl Default for Guessing<'_> {
@@ -22,6 +25,7 @@ impl Default for Guessing<'_> {
             said: &[],
             skips: false,
             nested: false,
+            decimals: false,
         }
     }
 }

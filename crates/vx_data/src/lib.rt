@@ -9,10 +9,11 @@ mod expected;
 mod fault;
 mod guessing;
 mod json_lines;
+mod kind;
+mod kinds;
 mod numbers;
 mod other_fields;
 mod recorded;
-mod wholes;
 
 pub use builder::ColumnBuilder;
 pub use csv_files::{

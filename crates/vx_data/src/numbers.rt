@@ -5,7 +5,7 @@ ghost use Rattle.vx_value.specs.Views.{type_of};
 ghost use Rattle.vx_data.specs.Numbers.{is_dated, number_said, number_text};
 
 use crate::cells::whole_of;
-use crate::fault::{Fault, misfit};
+use crate::fault::{Fault, misread};
 use std::alloc::{AllocError, Global};
 use std::fmt;
 use std::fmt::{Display, Formatter, Write};
@@ -83,13 +83,18 @@ pub fn number_counted(digits: &str, dtype: &DType) -> Option<i128> {
     }
 }
 
-/// The number as a value of the type. Refuses none, and one that isn't of the type.
-pub fn number_value(alloc: Global, number: Option<i128>, dtype: &DType) -> Result<Value, Fault> {
+/// The number that the text says as a value of the type. Refuses none, and one that isn't of the type, with the text.
+pub fn number_value(
+    alloc: Global,
+    number: Option<i128>,
+    text: &str,
+    dtype: &DType,
+) -> Result<Value, Fault> {
     if let Some(number) = number {
         let value = Value::Int(number);
         if value.fits(dtype) {
             return Ok(value);
         }
     }
-    Err(misfit(alloc, dtype))
+    Err(misread(alloc, text, dtype))
 }

@@ -28,6 +28,8 @@ pub enum Call {
 pub enum UntypedCall {
     /// `type | FILE`: the type that is guessed, by which the file has to be read.
     Type,
+    /// `decimal type | FILE`: the same, where numbers with a point may be decimals.
+    DecimalType,
     /// `cut type | FILE`: the type that is guessed of a reader that fails behind the file.
     CutType,
     /// `records | FILE`: each record as it stood, behind its line.
@@ -54,6 +56,7 @@ impl Call {
             "rows" => Some(Call::Typed(TypedCall::Rows)),
             "cut rows" => Some(Call::Typed(TypedCall::CutRows)),
             "type" => Some(Call::Untyped(UntypedCall::Type)),
+            "decimal type" => Some(Call::Untyped(UntypedCall::DecimalType)),
             "cut type" => Some(Call::Untyped(UntypedCall::CutType)),
             "records" => Some(Call::Untyped(UntypedCall::Records)),
             "written" => Some(Call::Typed(TypedCall::Written)),
@@ -101,8 +104,9 @@ fn untyped_answer(
     file: &[u8],
 ) -> Result<String, AllocError> {
     match (call, format) {
-        (UntypedCall::Type, _) => guessed(alloc, format, file),
-        (UntypedCall::CutType, _) => shown(alloc, format.guess(alloc, file.chain(Cut))),
+        (UntypedCall::Type, _) => guessed(alloc, format, false, file),
+        (UntypedCall::DecimalType, _) => guessed(alloc, format, true, file),
+        (UntypedCall::CutType, _) => shown(alloc, format.guess(alloc, false, file.chain(Cut))),
         (UntypedCall::Records, Format::Json(format)) => shown(
             alloc,
             Records::Json(JsonFile::new(alloc, file, format)).text(alloc),
@@ -172,8 +176,13 @@ fn rows_text<T: Display + Drop>(
     }
 }
 
-fn guessed(alloc: Global, format: Format<'_>, file: &[u8]) -> Result<String, AllocError> {
-    match format.guess(alloc, file) {
+fn guessed(
+    alloc: Global,
+    format: Format<'_>,
+    decimals: bool,
+    file: &[u8],
+) -> Result<String, AllocError> {
+    match format.guess(alloc, decimals, file) {
         Ok(dtype) => {
             let rows = format.of_guess().read(alloc, &dtype, file);
             guess_text(alloc, dtype, rows)

@@ -2,9 +2,9 @@
 use std::alloc::Global;
 use std::io::BufRead;
 use vx_data::{
-    CsvFormat, DataError, Guessing, JsonFormat, WriteError, infer_csv_type_with, infer_json_type,
-    infer_json_type_by, rows_from_csv, rows_from_csv_with, rows_from_json, rows_from_json_lines,
-    write_csv, write_json_lines,
+    CsvFormat, DataError, Guessing, JsonFormat, WriteError, infer_csv_type_by, infer_csv_type_with,
+    infer_json_type, infer_json_type_by, rows_from_csv, rows_from_csv_with, rows_from_json,
+    rows_from_json_lines, write_csv, write_json_lines,
 };
 use vx_types::{Column, DType};
 
@@ -67,13 +67,23 @@ impl<'a> Format<'a> {
         }
     }
 
-    /// The type that is guessed of the file.
-    pub fn guess<R: BufRead + Drop>(self, alloc: Global, file: R) -> Result<DType, DataError> {
+    /// The type that is guessed of the file, perhaps with decimals.
+    pub fn guess<R: BufRead + Drop>(
+        self,
+        alloc: Global,
+        decimals: bool,
+        file: R,
+    ) -> Result<DType, DataError> {
+        let guessing = Guessing {
+            decimals,
+            ..Guessing::default()
+        };
         match self {
-            Format::Json(format) if format == JsonFormat::default() => {
+            Format::Json(format) if format == JsonFormat::default() && !decimals => {
                 infer_json_type(alloc, file)
             }
-            Format::Json(format) => { infer_json_type_by(alloc, format, Guessing::default(), file) }
+            Format::Json(format) => infer_json_type_by(alloc, format, guessing, file),
+            Format::Csv(format) if decimals => infer_csv_type_by(alloc, format, guessing, file),
             Format::Csv(format) => infer_csv_type_with(alloc, format, file),
         }
     }

@@ -189,7 +189,8 @@ fn text_value(alloc: Global, dtype: &DType, text: &str) -> Result<Value, Fault> 
         DType::Binary(_) => bytes_of(alloc, text),
         DType::Decimal(_, _) | DType::Date(_) | DType::Timestamp(_, _) => {
             let said = number_said(text, dtype);
-            number_value(alloc, said.or_else(|| number_counted(text, dtype)), dtype)
+            let number = said.or_else(|| number_counted(text, dtype));
+            number_value(alloc, number, text, dtype)
         }
         DType::List(_, _) | DType::FixedSizeList(_, _, _) | DType::Struct(_, _) => Err(Fault::new(
             alloc,

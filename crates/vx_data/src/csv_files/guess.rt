@@ -1,7 +1,14 @@
 // What is known of a cell's type by some texts.
-use crate::wholes::Wholes;
-use std::alloc::Global;
-use vx_types::{DType, Nullability, PType};
+ghost use Rattle.std.specs.Prelude.{◌≡◌, ◌==◌, ◌||◌, IfOk, false, length, if◌then◌else◌};
+ghost use Rattle.vx_dtype.specs.Types.{atomic, ty};
+ghost use Rattle.vx_dtype.specs.Views.{type_of};
+ghost use Rattle.vx_data.specs.declared.kind.Kind.TheVariants.{Unknown};
+ghost use Rattle.vx_data.specs.Kinds.{cell_kind, kind_type, together};
+
+use crate::kind::Kind;
+use crate::kinds::Kinds;
+use std::alloc::AllocError;
+use vx_types::{DType, Nullability};
 
 /// What the texts of a cell have in common.
 #[derive(Clone, Copy, Debug, PartialEq, Eq)]
@@ -10,19 +17,12 @@ pub(crate) struct CellGuess {
     kind: Kind,
 }
 
-/// What the texts of a cell have in common that aren't empty.
-#[derive(Clone, Copy, Debug, PartialEq, Eq)]
-enum Kind {
-    /// No text was seen.
-    Unknown,
-    Truth,
-    Whole(Wholes),
-    Text,
-}
-
 impl CellGuess {
     /// No text was seen.
-    pub(crate) fn new() -> CellGuess {
+    pub(crate) fn new() -> CellGuess
+        ensures empty { result.empty ≡ false }
+        ensures kind { result.kind ≡ Unknown }
+    {
         CellGuess {
             empty: false,
             kind: Kind::Unknown,
@@ -30,54 +30,25 @@ impl CellGuess {
     }
 
     /// The same, where that text was seen, too.
-    pub(crate) fn and(self, text: &str) -> CellGuess {
+    pub(crate) fn and(self, kinds: &Kinds, text: &str) -> CellGuess
+        ensures empty { result.empty ≡ (length text.now == 0 || self.empty) }
+        ensures kind { result.kind ≡ (if length text.now == 0 then self.kind else together self.kind (cell_kind kinds.now.decimals text.now)) }
+    {
+        let CellGuess { empty, kind } = self;
         if text.is_empty() {
-            return CellGuess {
-                empty: true,
-                kind: self.kind,
-            };
+            return CellGuess { empty: true, kind };
         }
-        CellGuess {
-            empty: self.empty,
-            kind: joined(self.kind, kind_of(text)),
-        }
+        let kind = match kind {
+            Kind::Text => Kind::Text,
+            kind => kind.and(kinds.of_cell(text)),
+        };
+        CellGuess { empty, kind }
     }
 
     /// The narrowest type of the texts: nullable where one was empty, `utf8` where no other was seen.
-    pub(crate) fn dtype(self) -> DType {
-        let nullability = Nullability::of(self.empty);
-        match self.kind {
-            Kind::Truth => DType::Bool(nullability),
-            Kind::Whole(numbers) => DType::Primitive(numbers.ptype(), nullability),
-            Kind::Unknown | Kind::Text => DType::Utf8(nullability),
-        }
-    }
-}
-
-fn kind_of(text: &str) -> Kind {
-    if text == "true" || text == "false" {
-        return Kind::Truth;
-    }
-    match Wholes::of(text) {
-        Some(numbers) if is_plain(text) => Kind::Whole(numbers),
-        _ => Kind::Text,
-    }
-}
-
-// Whether the text of a number is one that is written of it: `007` and `+7` aren't, and may be more than numbers.
-fn is_plain(text: &str) -> bool {
-    let digits = text.strip_prefix('-').unwrap_or(text);
-    digits == "0" || !digits.starts_with(['0', '+'])
-}
-
-fn joined(kind: Kind, other: Kind) -> Kind {
-    match (kind, other) {
-        (Kind::Unknown, kind) => kind,
-        (Kind::Truth, Kind::Truth) => Kind::Truth,
-        (Kind::Whole(numbers), Kind::Whole(others)) => match numbers.and(others) {
-            Some(numbers) => Kind::Whole(numbers),
-            None => Kind::Text,
-        },
-        _ => Kind::Text,
+    pub(crate) fn dtype(self, kinds: &Kinds) -> Result<DType, AllocError>
+        ensures { IfOk result (λ t. type_of t ≡ ty (atomic (kind_type self.kind)) self.empty) }
+    {
+        kinds.dtype(self.kind, Nullability::of(self.empty))
     }
 }

@@ -11,6 +11,7 @@ use crate::error::DataError;
 use crate::expected::Expected;
 use crate::fault::Fault;
 use crate::guessing::Guessing;
+use crate::kinds::Kinds;
 use csv::ByteRecord;
 use std::alloc::{AllocError, Global};
 use std::io::Read;
@@ -21,7 +22,9 @@ use vx_types::{DType, FieldName, FieldNames, Nullability, StructFields, VortexRe
 /// their order, in which a name with dots leads to a field of a field, if in all such names the dots stand between words of
 /// letters, digits and `_`, of which the first doesn't begin with a digit, and no name is both a cell and the way to others;
 /// else each is a field of that name. A cell that is always `true` or `false` is
-/// `bool`; one that is always a whole number as it is written, `i64`, or `u64` where one is above the range of `i64`; any
+/// `bool`; one that is always a whole number as it is written, `i64`, or `u64` where one is above the range of `i64`; one
+/// that is always a day, `date`; one that is always an instant, `timestamp(us, "UTC")` where each has a zone or an offset and
+/// `timestamp(us)` where none has, in `ns` where one has more than six digits behind the second's point; any
 /// other `utf8`, also one that has no text at all. It is nullable where some record lacks it or has an empty one; no struct
 /// is. Refuses a file without a header, a name that stands there twice, a cell that is no text in UTF-8, a record of more cells than the header, each with its line; with the reader's error; and with
 /// `OutOfMemory`.
@@ -46,6 +49,7 @@ pub fn infer_csv_type_by<R: Read + Drop>(
     guessing: Guessing<'_>,
     reader: R,
 ) -> Result<DType, DataError> {
+    let kinds = Kinds::new(alloc, guessing.decimals)?;
     let mut records = CsvRecords::with_format(alloc, reader, format);
     records.read_first()?;
     let (branches, mut guesses) = match fields_of(alloc, records.cells(), format, guessing.nested) {
@@ -53,14 +57,14 @@ pub fn infer_csv_type_by<R: Read + Drop>(
         Err(fault) => return Err(fault.on_line(alloc, records.line())),
     };
     for _ in 0..guessing.records {
-        match seen(alloc, &mut records, format.null, &mut guesses) {
+        match seen(alloc, &kinds, &mut records, format.null, &mut guesses) {
             Ok(true) => {}
             Ok(false) => break,
             Err(DataError::Unexpected { .. }) if guessing.skips => {}
             Err(e) => return Err(e),
         }
     }
-    match struct_of(&branches, alloc, guesses.as_slice()) {
+    match struct_of(&branches, alloc, &kinds, guesses.as_slice()) {
         Ok(dtype) => Ok(dtype),
         Err(_) => Err(DataError::OutOfMemory),
     }
@@ -69,6 +73,7 @@ pub fn infer_csv_type_by<R: Read + Drop>(
 // Sees the next record, and tells whether there is one.
 fn seen<R: Read + Drop>(
     alloc: Global,
+    kinds: &Kinds,
     records: &mut CsvRecords<R>,
     null: Option<&str>,
     guesses: &mut Vec<NamedGuess>,
@@ -76,7 +81,7 @@ fn seen<R: Read + Drop>(
     if !records.read_record()? {
         return Ok(false);
     }
-    match see_record(alloc, records.cells(), null, guesses) {
+    match see_record(alloc, kinds, records.cells(), null, guesses) {
         Ok(()) => Ok(true),
         Err(fault) => Err(fault.on_line(alloc, records.line())),
     }
@@ -113,6 +118,7 @@ fn fields_of(
 // Sees the record, in which the cells are empty that it lacks at its end, and those of the text for null.
 fn see_record(
     alloc: Global,
+    kinds: &Kinds,
     record: &ByteRecord,
     null: Option<&str>,
     guesses: &mut Vec<NamedGuess>,
@@ -120,8 +126,8 @@ fn see_record(
     let mut texts = record.iter();
     for cell in guesses.iter_mut() {
         match str::from_utf8(texts.next().unwrap_or(&[])) {
-            Ok(text) if null == Some(text) => cell.guess = cell.guess.and(""),
-            Ok(text) => cell.guess = cell.guess.and(text),
+            Ok(text) if null == Some(text) => cell.guess = cell.guess.and(kinds, ""),
+            Ok(text) => cell.guess = cell.guess.and(kinds, text),
             Err(_) => return Err(fault_at(alloc, Expected::Utf8, cell.name.as_str())),
         }
     }
@@ -130,24 +136,36 @@ fn see_record(
 
 // The struct of those fields.
 #[cycle(typed)]
-fn struct_of(branches: &Vec<Branch>, alloc: Global, guesses: &[NamedGuess]) -> VortexResult<DType> {
+fn struct_of(
+    branches: &Vec<Branch>,
+    alloc: Global,
+    kinds: &Kinds,
+    guesses: &[NamedGuess],
+) -> VortexResult<DType> {
     let mut names = Vec::new(alloc);
     let mut types = Vec::new(alloc);
     for branch in branches {
-        types.push(field_type(&branch.kind, alloc, guesses)?)?;
+        types.push(field_type(&branch.kind, alloc, kinds, guesses)?)?;
         names.push(branch.name.clone()?)?;
     }
     struct_type(alloc, names, types)
 }
 
 #[cycle(typed)]
-fn field_type(kind: &BranchKind, alloc: Global, guesses: &[NamedGuess]) -> VortexResult<DType> {
+fn field_type(
+    kind: &BranchKind,
+    alloc: Global,
+    kinds: &Kinds,
+    guesses: &[NamedGuess],
+) -> VortexResult<DType> {
     match kind {
-        BranchKind::Cell(place) => Ok(match guesses.get(*place) {
-            Some(cell) => cell.guess.dtype(),
-            None => CellGuess::new().dtype(),
-        }),
-        BranchKind::Struct(fields) => struct_of(&fields.all, alloc, guesses),
+        BranchKind::Cell(place) => {
+            let guess = guesses
+                .get(*place)
+                .map_or(CellGuess::new(), |cell| cell.guess);
+            Ok(guess.dtype(kinds)?)
+        }
+        BranchKind::Struct(fields) => struct_of(&fields.all, alloc, kinds, guesses),
     }
 }
 

@@ -4,7 +4,8 @@ ghost use Rattle.std.specs.Prelude.{◌≡◌, length};
 use crate::expected::Expected;
 use crate::fault::Fault;
 use crate::json_lines::draft::{FEW, named};
-use crate::wholes::Wholes;
+use crate::kind::Kind;
+use crate::kinds::Kinds;
 use std::alloc::{AllocError, Global};
 use std::collections::HashMap;
 use std::sync::Arc;
@@ -22,12 +23,8 @@ pub(crate) struct Guess {
 #[cycle(guess)]
 #[derive(Debug, Drop)]
 pub(crate) enum Shape {
-    /// No value was seen but null.
-    Unknown,
-    Truth,
-    Whole(Wholes),
-    /// Texts, and numbers that are read as their texts.
-    Text,
+    /// No array and no object. Numbers may be read as their texts.
+    Flat(Kind),
     List(Box<Guess>),
     Struct(FieldGuesses),
 }
@@ -56,54 +53,24 @@ impl Guess {
     pub(crate) fn new() -> Guess {
         Guess {
             nullable: false,
-            shape: Shape::Unknown,
+            shape: Shape::Flat(Kind::Unknown),
         }
     }
 
-    /// A truth value was seen.
-    pub(crate) fn see_truth(&mut self, alloc: Global) -> Result<(), Fault> {
+    /// A value of that kind was seen. Truth values stand beside no others.
+    pub(crate) fn see(&mut self, alloc: Global, kind: Kind) -> Result<(), Fault> {
         match self.shape {
-            Shape::Truth => Ok(()),
-            Shape::Unknown => {
-                self.shape = Shape::Truth;
+            Shape::Flat(before) if stand_together(before, kind) => {
+                self.shape = Shape::Flat(before.and(kind));
                 Ok(())
             }
             _ => Err(Fault::new(alloc, Expected::SameKind)),
         }
-    }
-
-    /// A text was seen.
-    pub(crate) fn see_text(&mut self, alloc: Global) -> Result<(), Fault> {
-        match self.shape {
-            Shape::Text => Ok(()),
-            Shape::Unknown | Shape::Whole(_) => {
-                self.shape = Shape::Text;
-                Ok(())
-            }
-            _ => Err(Fault::new(alloc, Expected::SameKind)),
-        }
-    }
-
-    /// A number of that text was seen. It stands for its text where no type has it and the numbers before, or where
-    /// there was a text.
-    pub(crate) fn see_number(&mut self, alloc: Global, text: &str) -> Result<(), Fault> {
-        let number = Wholes::of(text);
-        let numbers = match self.shape {
-            Shape::Unknown => number,
-            Shape::Whole(before) => number.and_then(|number| before.and(number)),
-            Shape::Text => None,
-            _ => return Err(Fault::new(alloc, Expected::SameKind)),
-        };
-        self.shape = match numbers {
-            Some(numbers) => Shape::Whole(numbers),
-            None => Shape::Text,
-        };
-        Ok(())
     }
 
     /// The items of lists, of which one more was seen.
     pub(crate) fn see_list(&mut self, alloc: Global) -> Result<&mut Guess, Fault> {
-        if let Shape::Unknown = self.shape {
+        if let Shape::Flat(Kind::Unknown) = self.shape {
             self.shape = Shape::List(Box::new(alloc, Guess::new())?);
         }
         match &mut self.shape {
@@ -114,7 +81,7 @@ impl Guess {
 
     /// The fields of structs, of which one more was seen.
     pub(crate) fn see_struct(&mut self, alloc: Global) -> Result<&mut FieldGuesses, Fault> {
-        if let Shape::Unknown = self.shape {
+        if let Shape::Flat(Kind::Unknown) = self.shape {
             self.shape = Shape::Struct(FieldGuesses {
                 structs: 0,
                 fields: Vec::new(alloc),
@@ -129,6 +96,11 @@ impl Guess {
             _ => Err(Fault::new(alloc, Expected::SameKind)),
         }
     }
+}
+
+// Whether a value of that kind may stand behind those before.
+fn stand_together(before: Kind, kind: Kind) -> bool {
+    before == Kind::Unknown || (before == Kind::Truth) == (kind == Kind::Truth)
 }
 
 impl FieldGuesses {
@@ -178,31 +150,37 @@ impl FieldGuesses {
 
 /// The narrowest type of the values: nullable where null was seen or a field was absent, `utf8` where nothing else was.
 #[cycle(guessed)]
-pub(crate) fn guessed_type(alloc: Global, guess: &Guess, absent: bool) -> VortexResult<DType> {
+pub(crate) fn guessed_type(
+    alloc: Global,
+    kinds: &Kinds,
+    guess: &Guess,
+    absent: bool,
+) -> VortexResult<DType> {
     let nullability = Nullability::of(guess.nullable || absent);
     match &guess.shape {
-        Shape::Unknown => Ok(DType::Utf8(nullability)),
-        Shape::Truth => Ok(DType::Bool(nullability)),
-        Shape::Whole(numbers) => Ok(DType::Primitive(numbers.ptype(), nullability)),
-        Shape::Text => Ok(DType::Utf8(nullability)),
+        Shape::Flat(kind) => Ok(kinds.dtype(*kind, nullability)?),
         Shape::List(items) => {
-            let element = guessed_type(alloc, items.as_ref(), false)?;
+            let element = guessed_type(alloc, kinds, items.as_ref(), false)?;
             Ok(DType::List(Arc::new(alloc, element)?, nullability))
         }
         Shape::Struct(fields) => {
-            let fields = guessed_fields(alloc, fields)?;
+            let fields = guessed_fields(alloc, kinds, fields)?;
             Ok(DType::Struct(fields, nullability))
         }
     }
 }
 
 #[cycle(guessed)]
-fn guessed_fields(alloc: Global, guesses: &FieldGuesses) -> VortexResult<StructFields> {
+fn guessed_fields(
+    alloc: Global,
+    kinds: &Kinds,
+    guesses: &FieldGuesses,
+) -> VortexResult<StructFields> {
     let mut names = Vec::new(alloc);
     let mut types = Vec::new(alloc);
     for field in &guesses.fields {
         let absent = field.seen < guesses.structs;
-        types.push(guessed_type(alloc, &field.guess, absent)?)?;
+        types.push(guessed_type(alloc, kinds, &field.guess, absent)?)?;
         names.push(field.name.clone()?)?;
     }
     fields_of(alloc, names, types)

@@ -6,13 +6,14 @@ use crate::json_lines::format::JsonFormat;
 use crate::json_lines::guess::{Guess, guessed_type};
 use crate::json_lines::observe::see_record;
 use crate::json_lines::tokens::check_json;
+use crate::kinds::Kinds;
 use json::Scratch;
 use std::alloc::Global;
 use std::io::BufRead;
 use vx_types::DType;
 
 /// The narrowest type of the first 1,000 records, fewer where there are no more: `bool`, `i64`, `u64` where a number is
-/// above the range of `i64`, `utf8`, a list for an array, a struct for an object with the fields in the order in which they
+/// above the range of `i64`, `date` and `timestamp` for texts of days and instants as in CSV, `utf8`, a list for an array, a struct for an object with the fields in the order in which they
 /// come first. Numbers are `utf8` where neither type has them all, as one with a point, and where there were texts, too
 /// (`JsonFormat` says how they are read). Nullable is what was null in some record, and a field that some record of
 /// its struct doesn't have.
@@ -32,18 +33,19 @@ pub fn infer_json_type_by<R: BufRead + Drop>(
     guessing: Guessing<'_>,
     reader: R,
 ) -> Result<DType, DataError> {
+    let kinds = Kinds::new(alloc, guessing.decimals)?;
     let mut file = JsonFile::new(alloc, reader, format);
     let mut scratch = Scratch::new(alloc);
     let mut guess = Guess::new();
     for _ in 0..guessing.records {
-        match seen(alloc, guessing, &mut file, &mut scratch, &mut guess) {
+        match seen(alloc, guessing, &kinds, &mut file, &mut scratch, &mut guess) {
             Ok(true) => {}
             Ok(false) => break,
             Err(DataError::Unexpected { .. }) if guessing.skips => {}
             Err(e) => return Err(e),
         }
     }
-    match guessed_type(alloc, &guess, false) {
+    match guessed_type(alloc, &kinds, &guess, false) {
         Ok(dtype) => Ok(dtype),
         Err(_) => Err(DataError::OutOfMemory),
     }
@@ -53,6 +55,7 @@ pub fn infer_json_type_by<R: BufRead + Drop>(
 fn seen<R: BufRead>(
     alloc: Global,
     guessing: Guessing<'_>,
+    kinds: &Kinds,
     file: &mut JsonFile<R>,
     scratch: &mut Scratch,
     guess: &mut Guess,
@@ -65,7 +68,7 @@ fn seen<R: BufRead>(
     {
         return Err(fault.on_line(alloc, file.line()));
     }
-    match see_record(alloc, file.record(), guessing.said, scratch, guess) {
+    match see_record(alloc, kinds, file.record(), guessing.said, scratch, guess) {
         Ok(()) => Ok(true),
         Err(fault) => Err(fault.on_line(alloc, file.line())),
     }

@@ -5,6 +5,8 @@ use crate::expected::Expected;
 use crate::fault::Fault;
 use crate::json_lines::guess::{FieldGuesses, Guess};
 use crate::json_lines::tokens::{end, next_name, no_json, reader_of, skip};
+use crate::kind::Kind;
+use crate::kinds::Kinds;
 use json::{Reader, Scratch, Token};
 use std::alloc::{AllocError, Global};
 
@@ -15,6 +17,8 @@ const NESTING: usize = 200;
 #[derive(Clone, Copy, Drop)]
 struct Sight<'a> {
     alloc: Global,
+    // The kinds that are told.
+    kinds: &'a Kinds,
     // So many arrays and objects are allowed inside one another.
     room: usize,
     // The dotted names of fields that aren't looked at.
@@ -24,6 +28,7 @@ struct Sight<'a> {
 /// One more record is seen, but for the fields of those dotted names.
 pub(crate) fn see_record(
     alloc: Global,
+    kinds: &Kinds,
     record: &[u8],
     said: &[&str],
     scratch: &mut Scratch,
@@ -32,6 +37,7 @@ pub(crate) fn see_record(
     let mut reader = reader_of(alloc, record, scratch)?;
     let sight = Sight {
         alloc,
+        kinds,
         room: NESTING,
         said,
     };
@@ -44,15 +50,15 @@ pub(crate) fn see_record(
 fn see_value(sight: Sight<'_>, reader: &mut Reader<'_>, guess: &mut Guess) -> Result<(), Fault>
     ensures { OnOk result (length reader.new < length reader.old) }
 {
-    let alloc = sight.alloc;
+    let Sight { alloc, kinds, .. } = sight;
     match reader.next() {
         Some(Token::Null) => {
             guess.nullable = true;
             Ok(())
         }
-        Some(Token::Bool(_)) => guess.see_truth(alloc),
-        Some(Token::Number(text)) => guess.see_number(alloc, text),
-        Some(Token::String(_)) => guess.see_text(alloc),
+        Some(Token::Bool(_)) => guess.see(alloc, Kind::Truth),
+        Some(Token::Number(text)) => guess.see(alloc, kinds.of_number(text)),
+        Some(Token::String(text)) => guess.see(alloc, kinds.of_text(text)),
         Some(Token::BeginArray) => see_items(sight, reader, guess.see_list(alloc)?),
         Some(Token::BeginObject) => see_fields(sight, reader, guess.see_struct(alloc)?),
         _ => Err(no_json(alloc, reader)),
@@ -64,13 +70,19 @@ fn see_value(sight: Sight<'_>, reader: &mut Reader<'_>, guess: &mut Guess) -> Re
 fn see_items(sight: Sight<'_>, reader: &mut Reader<'_>, items: &mut Guess) -> Result<(), Fault>
     ensures { OnOk result (length reader.new ≤ length reader.old) }
 {
-    let Sight { alloc, room, .. } = sight;
+    let Sight {
+        alloc,
+        kinds,
+        room,
+        ..
+    } = sight;
     if room == 0 {
         return Err(Fault::new(alloc, Expected::LessNesting(NESTING)));
     }
     'items: while !reader.take_end_array() {
         let inside = Sight {
             alloc,
+            kinds,
             room: room - 1,
             said: &[],
         };
@@ -88,7 +100,12 @@ fn see_fields(
 ) -> Result<(), Fault>
     ensures { OnOk result (length reader.new ≤ length reader.old) }
 {
-    let Sight { alloc, room, said } = sight;
+    let Sight {
+        alloc,
+        kinds,
+        room,
+        said,
+    } = sight;
     if room == 0 {
         return Err(Fault::new(alloc, Expected::LessNesting(NESTING)));
     }
@@ -96,7 +113,17 @@ fn see_fields(
     let mut next = 0;
     'fields: while let Some(name) = next_name(alloc, reader)? {
         let i = fields.see_field(alloc, name, next)?;
-        see_field(Sight { alloc, room, said }, reader, fields, i)?;
+        see_field(
+            Sight {
+                alloc,
+                kinds,
+                room,
+                said,
+            },
+            reader,
+            fields,
+            i,
+        )?;
         next = i.saturating_add(1);
     }
     Ok(())
@@ -112,7 +139,12 @@ fn see_field(
 ) -> Result<(), Fault>
     ensures { OnOk result (length reader.new ≤ length reader.old) }
 {
-    let Sight { alloc, room, said } = sight;
+    let Sight {
+        alloc,
+        kinds,
+        room,
+        said,
+    } = sight;
     if i >= fields.fields.len() {
         return Err(no_json(alloc, reader));
     }
@@ -123,6 +155,7 @@ fn see_field(
     let inner = said_within(alloc, said, field.name.as_str())?;
     let inside = Sight {
         alloc,
+        kinds,
         room,
         said: inner.as_slice(),
     };

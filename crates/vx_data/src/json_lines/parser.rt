@@ -111,10 +111,10 @@ fn flat_value(reading: Reading, dtype: &DType, token: Token<'_>) -> Result<Value
         (DType::Utf8(_), Token::Number(text)) if reading.number_texts => text_of(alloc, text),
         (DType::Binary(_), Token::String(text)) => bytes_of(alloc, text),
         (DType::Decimal(_, _) | DType::Date(_) | DType::Timestamp(_, _), Token::String(text)) => {
-            number_value(alloc, number_said(text, dtype), dtype)
+            number_value(alloc, number_said(text, dtype), text, dtype)
         }
         (DType::Decimal(_, _) | DType::Date(_) | DType::Timestamp(_, _), Token::Number(text)) => {
-            number_value(alloc, number_counted(text, dtype), dtype)
+            number_value(alloc, number_counted(text, dtype), text, dtype)
         }
         _ => Err(mismatch(alloc, dtype)),
     }
