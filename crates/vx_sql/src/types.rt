@@ -195,8 +195,8 @@ pub(crate) fn has_type(dialect: Dialect, dtype: &DType) -> bool
     }
 }
 
-// Whether the engine's days are ours: SQLite has none, and ClickHouse fewer.
-fn has_days(dialect: Dialect) -> bool
+/// Whether the engine has our days: SQLite has none, and ClickHouse fewer.
+pub fn has_days(dialect: Dialect) -> bool
     ensures { result ≡ has_days dialect }
 {
     match dialect {
@@ -205,8 +205,8 @@ fn has_days(dialect: Dialect) -> bool
     }
 }
 
-// Whether the engine's decimals are ours: SQLite has none, and ClickHouse has them by a setting.
-fn has_decimals(dialect: Dialect) -> bool
+/// Whether the engine has our decimals: SQLite has none, and ClickHouse has them by a setting.
+pub fn has_decimals(dialect: Dialect) -> bool
     ensures { result ≡ has_decimals dialect }
 {
     match dialect {

@@ -4,6 +4,7 @@
 mod ahead;
 mod calls;
 mod cases;
+mod cast_types;
 mod casts;
 mod comments;
 mod error;
