@@ -60,7 +60,8 @@ fn null_pattern(
             let word = like_word(ignores);
             let text = format!(in alloc; "{word}{null}")?;
             let behind = at + 1 + len;
-            Ok(stepped(text, Change::Stays, behind + escape_len(tokens, behind)))
+            let more = behind + escape_len(tokens, behind);
+            Ok(stepped(text, Change::Stays, more))
         }
         None => Err(Stop::Unread(Unread::Pattern)),
     }
