@@ -123,10 +123,10 @@ fn count_in(token: Option<&Token>) -> Option<u64>
         Some(
             Token::Number {
                 negative: false,
-                magnitude,
+                magnitude: Some(n),
                 ..
             },
-        ) => *magnitude,
+        ) => Some(*n),
         _ => None,
     }
 }
