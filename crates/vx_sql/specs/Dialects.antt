@@ -148,7 +148,7 @@ has_decimals DuckDb = true
 has_decimals Spark = true
 has_decimals ClickHouse = false
 
--- whether the engine has such values as ours; no engine's instants have our units
+-- whether the engine has such values as ours; instants have no text
 abbrev pub has_atomic : Dialect → Atomic → Bool
 has_atomic d truth = true
 has_atomic d (number p) = has_numbers d p

@@ -181,7 +181,7 @@ pub(crate) fn collation(dialect: Dialect) -> &'static str
     }
 }
 
-/// Whether the engine has such values as ours; no engine's instants have our units.
+/// Whether the engine has such values as ours; instants have no text.
 pub(crate) fn has_type(dialect: Dialect, dtype: &DType) -> bool
     ensures { result ≡ has_type dialect (type_of dtype.now) }
 {
