@@ -39,13 +39,13 @@ own_reason-count d t f bs n =
     sym (cond-false (bound_count_of (bounds_of bs) == arity_of f) _ (Some ChildCount) (ne_eqb _ _ (λ e. n (sym (bound_count_of-bounds_of bs) ∙ e))))
 
 own_reason-fits : (d : Dialect) (t : LogicalType) (f : Function) (bs : List BoundExpression) → length bs ≡ arity_of f
-    → option_or (because (not (has_type d t)) UnknownType) (function_reason d f (bounds_of bs)) ≡ own_reason d t f (bounds_of bs)
+    → option_or (because (not (has_type d t)) UnknownType) (function_reason d t f (bounds_of bs)) ≡ own_reason d t f (bounds_of bs)
 own_reason-fits d t f bs n = sym (cond-true (bound_count_of (bounds_of bs) == arity_of f) _ (Some ChildCount) (eq-eqb _ _ (bound_count_of-bounds_of bs ∙ n)))
 
 pub own_reason-type : (d : Dialect) (t : LogicalType) (f : Function) (bs : List BoundExpression) → length bs ≡ arity_of f → has_type d t ≡ false
     → Some UnknownType ≡ own_reason d t f (bounds_of bs)
-own_reason-type d t f bs n e = sym (ap (λ b. option_or (because (not b) UnknownType) (function_reason d f (bounds_of bs))) e) ∙ own_reason-fits d t f bs n
+own_reason-type d t f bs n e = sym (ap (λ b. option_or (because (not b) UnknownType) (function_reason d t f (bounds_of bs))) e) ∙ own_reason-fits d t f bs n
 
 pub own_reason-function : (d : Dialect) (t : LogicalType) (f : Function) (bs : List BoundExpression) (r : Option Reason) → length bs ≡ arity_of f → has_type d t ≡ true
-    → r ≡ function_reason d f (bounds_of bs) → r ≡ own_reason d t f (bounds_of bs)
-own_reason-function d t f bs r n e h = h ∙ sym (ap (λ b. option_or (because (not b) UnknownType) (function_reason d f (bounds_of bs))) e) ∙ own_reason-fits d t f bs n
+    → r ≡ function_reason d t f (bounds_of bs) → r ≡ own_reason d t f (bounds_of bs)
+own_reason-function d t f bs r n e h = h ∙ sym (ap (λ b. option_or (because (not b) UnknownType) (function_reason d t f (bounds_of bs))) e) ∙ own_reason-fits d t f bs n

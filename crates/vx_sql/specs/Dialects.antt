@@ -1,5 +1,6 @@
 -- What the engines call their types, and how they are told to compare texts.
 use Rattle.std.specs.Prelude.{ℕ, Bool, true, false, List, [], ◌++◌, codes}
+use Rattle.std.specs.Fmt.{decimal}
 use Rattle.vx_dtype.specs.declared.dtype.PType.{PType}
 use Rattle.vx_dtype.specs.declared.dtype.PType.TheVariants.{U8, U16, U32, U64, I8, I16, I32, I64}
 use Rattle.vx_value.specs.Types.{Atomic, truth, number, decimals, date, timestamp, text, octets, LogicalType, ty, atomic, list, fixed, struct}
@@ -80,12 +81,30 @@ octets_word DuckDb = codes "BLOB"
 octets_word Spark = codes "BINARY"
 octets_word ClickHouse = codes "String"
 
--- the engine's type of such values: none of decimals, days and instants, nor of lists and structs
+-- the engine's type of days, and of decimals with so many digits, so many of them behind the point; none where it hasn't ours
+abbrev pub date_word : Dialect → List ℕ
+date_word Postgres = codes "date"
+date_word Sqlite = []
+date_word DuckDb = codes "DATE"
+date_word Spark = codes "DATE"
+date_word ClickHouse = []
+
+abbrev pub decimal_word : Dialect → List ℕ
+decimal_word Postgres = codes "numeric"
+decimal_word Sqlite = []
+decimal_word DuckDb = codes "DECIMAL"
+decimal_word Spark = codes "DECIMAL"
+decimal_word ClickHouse = []
+
+abbrev pub decimal_type : Dialect → ℕ → ℕ → List ℕ
+decimal_type d p s = decimal_word d ++ (codes "(" ++ (decimal p ++ (codes ", " ++ (decimal s ++ codes ")"))))
+
+-- the engine's type of such values: none of instants, nor of lists and structs
 abbrev pub type_word : Dialect → LogicalType → List ℕ
 type_word d (ty (atomic truth) n) = truth_word d
 type_word d (ty (atomic (number p)) n) = number_word d p
-type_word d (ty (atomic (decimals p s)) n) = []
-type_word d (ty (atomic date) n) = []
+type_word d (ty (atomic (decimals p s)) n) = decimal_type d p s
+type_word d (ty (atomic date) n) = date_word d
 type_word d (ty (atomic (timestamp u z)) n) = []
 type_word d (ty (atomic text) n) = text_word d
 type_word d (ty (atomic octets) n) = octets_word d
@@ -114,12 +133,27 @@ has_numbers DuckDb p = true
 has_numbers Spark p = true
 has_numbers ClickHouse p = true
 
--- whether the engine has such values as ours: its decimals, days and instants are of other ranges, or have values that ours lack
+-- whether the engine's days and decimals are ours: SQLite has neither, and ClickHouse fewer days, and decimals by a setting
+abbrev pub has_days : Dialect → Bool
+has_days Postgres = true
+has_days Sqlite = false
+has_days DuckDb = true
+has_days Spark = true
+has_days ClickHouse = false
+
+abbrev pub has_decimals : Dialect → Bool
+has_decimals Postgres = true
+has_decimals Sqlite = false
+has_decimals DuckDb = true
+has_decimals Spark = true
+has_decimals ClickHouse = false
+
+-- whether the engine has such values as ours; instants have no text
 abbrev pub has_atomic : Dialect → Atomic → Bool
 has_atomic d truth = true
 has_atomic d (number p) = has_numbers d p
-has_atomic d (decimals p s) = false
-has_atomic d date = false
+has_atomic d (decimals p s) = has_decimals d
+has_atomic d date = has_days d
 has_atomic d (timestamp u z) = false
 has_atomic d text = true
 has_atomic d octets = true

@@ -4,11 +4,13 @@ use Rattle.std.specs.Fmt.{decimal, signed_decimal}
 use Rattle.std.specs.List.{flat_map}
 use Rattle.vx_dtype.specs.declared.dtype.PType.{PType}
 use Rattle.vx_dtype.specs.declared.dtype.PType.TheVariants.{I32}
-use Rattle.vx_value.specs.Types.{number, LogicalType, ty, atomic, Datum, null, bool, int, utf8, bytes, list_of, struct_of}
+use Rattle.vx_value.specs.Types.{number, decimals, date, LogicalType, ty, atomic, Datum, null, bool, int, utf8, bytes, list_of, struct_of}
+use Rattle.vx_literals.specs.Days.{day_text}
+use Rattle.vx_literals.specs.Decimals.{decimal_text}
 use Rattle.vx_value.specs.ValueTexts.{hex_byte}
 use Rattle.vx_sql.specs.declared.dialect.Dialect.{Dialect}
 use Rattle.vx_sql.specs.declared.dialect.Dialect.TheVariants.{Postgres, Sqlite, DuckDb, Spark, ClickHouse}
-use Rattle.vx_sql.specs.Dialects.{type_word, number_word, cast_text}
+use Rattle.vx_sql.specs.Dialects.{type_word, number_word, decimal_type, cast_text}
 use Rattle.vx_sql.specs.Quotes.{text_sql}
 
 -- the word of a truth value
@@ -45,6 +47,14 @@ abbrev pub number_sql : Dialect → PType → ℤ → List ℕ
 number_sql d p (pos n) = natural_sql d p n
 number_sql d p (negsuc n) = cast_text (signed_decimal (negsuc n)) (number_word d p)
 
+-- a decimal as one of the engine's type, by its digits
+abbrev pub decimal_sql : Dialect → ℕ → ℕ → ℤ → List ℕ
+decimal_sql d p s i = codes "CAST('" ++ (decimal_text i s ++ (codes "' AS " ++ (decimal_type d p s ++ codes ")")))
+
+-- a day of the years 1 to 9999
+abbrev pub day_sql : ℤ → List ℕ
+day_sql i = codes "DATE '" ++ (day_text i ++ codes "'")
+
 -- a byte by its two digits behind a backslash
 abbrev pub byte_escape : ℕ → List ℕ
 byte_escape b = codes "\\x" ++ hex_byte b
@@ -74,6 +84,8 @@ abbrev pub literal_sql : Dialect → Datum → LogicalType → List ℕ
 literal_sql d null t = null_sql d t
 literal_sql d (bool b) t = truth_sql d b
 literal_sql d (int i) (ty (atomic (number p)) n) = number_sql d p i
+literal_sql d (int i) (ty (atomic (decimals p s)) n) = decimal_sql d p s i
+literal_sql d (int i) (ty (atomic date) n) = day_sql i
 literal_sql d (utf8 s) t = text_sql d s
 literal_sql d (bytes bs) t = octets_sql d bs
 literal_sql d (int i) t = []

@@ -1,17 +1,18 @@
 -- Why a node has no SQL text.
-use Rattle.std.specs.Prelude.{ℕ, Bool, false, not, ◌==◌, ◌&&◌, List, [], ◌∷◌, Option, Some, None, length, if◌then◌else◌, nat_lt}
+use Rattle.std.specs.Prelude.{ℕ, ℤ, Bool, true, false, not, ◌==◌, ◌&&◌, List, [], ◌∷◌, Option, Some, None, length, if◌then◌else◌, nat_lt}
 use Rattle.std.specs.List.{list_any, count_by}
 use Rattle.std.specs.Option.{option_or, is_some}
 use Rattle.std.specs.Str.{bytes_eq}
+use Rattle.vx_literals.specs.Days.{civil_at}
 use Rattle.vx_source_types.specs.Names.{same_word}
-use Rattle.vx_value.specs.Types.{Name, LogicalType, Datum, null, bool, int, utf8, bytes, list_of, struct_of}
-use Rattle.vx_fn.specs.Functions.{Function, case_when, get_item, literal, pack, select, fill_null, zip, binary, logical_not, between, like, is_null, is_not_null, mask, cast, arity_of, is_atomic}
+use Rattle.vx_value.specs.Types.{Name, number, date, LogicalType, ty, atomic, Datum, null, bool, int, utf8, bytes, list_of, struct_of}
+use Rattle.vx_fn.specs.Functions.{Function, case_when, get_item, literal, pack, select, fill_null, zip, Operation, compares, and_also, or_else, adds, binary, logical_not, between, like, is_null, is_not_null, mask, cast, arity_of, is_atomic}
 use Rattle.vx_tree.specs.Nodes.{bound_at, bound_count_of}
 use Rattle.vx_tree.specs.Trees.{BoundTrees}
 use Rattle.vx_sql.specs.declared.dialect.Dialect.{Dialect}
 use Rattle.vx_sql.specs.declared.dialect.Dialect.TheVariants.{Postgres, Sqlite, DuckDb, Spark, ClickHouse}
 use Rattle.vx_sql.specs.declared.unsupported.Reason.{Reason}
-use Rattle.vx_sql.specs.declared.unsupported.Reason.TheVariants.{ChildCount, UnknownType, UnknownFunction, NestedLiteral, PatternNotLiteral, FillNotLiteral, EmptyName, LongName, AmbiguousName, Nul, Backslash, Keyword}
+use Rattle.vx_sql.specs.declared.unsupported.Reason.TheVariants.{ChildCount, UnknownType, UnknownFunction, NestedLiteral, PatternNotLiteral, FillNotLiteral, FarDay, EmptyName, LongName, AmbiguousName, Nul, Backslash, Keyword}
 use Rattle.vx_sql.specs.Children.{passes, has_atomic_first, names_first, literal_in, is_value}
 use Rattle.vx_sql.specs.Dialects.{has_type, makes_structs}
 use Rattle.vx_sql.specs.Quotes.{is_escaped}
@@ -58,18 +59,23 @@ names_reason d all (a ∷ names) = option_or (name_reason d all a) (names_reason
 
 -- ---- functions
 
+-- a day that is written lies in the years 1 to 9999
+abbrev pub number_reason : LogicalType → ℤ → Option Reason
+number_reason (ty (atomic date) n) i = because (not (is_some (civil_at i))) FarDay
+number_reason _ i = None
+
 -- a literal is of a type without parts, and no text of it has a NUL
-abbrev pub value_reason : Datum → Option Reason
-value_reason null = None
-value_reason (bool b) = None
-value_reason (int i) = None
-value_reason (utf8 s) = because (has_nul s) Nul
-value_reason (bytes bs) = None
-value_reason (list_of vs) = None
-value_reason (struct_of vs) = None
+abbrev pub value_reason : LogicalType → Datum → Option Reason
+value_reason t null = None
+value_reason t (bool b) = None
+value_reason t (int i) = number_reason t i
+value_reason t (utf8 s) = because (has_nul s) Nul
+value_reason t (bytes bs) = None
+value_reason t (list_of vs) = None
+value_reason t (struct_of vs) = None
 
 abbrev pub literal_reason : LogicalType → Datum → Option Reason
-literal_reason t v = if is_atomic t then value_reason v else Some NestedLiteral
+literal_reason t v = if is_atomic t then value_reason t v else Some NestedLiteral
 
 -- a struct that is made has a field, and no two of one name
 abbrev pub pack_reason : Dialect → List Name → Option Reason
@@ -83,24 +89,35 @@ fill_reason bs = because (not (has_atomic_first bs && passes (λ b. is_value (li
 abbrev pub pattern_reason : BoundTrees → Option Reason
 pattern_reason bs = because (not (passes (λ b. is_some (literal_in b)) (bound_at bs 1))) PatternNotLiteral
 
-abbrev pub function_reason : Dialect → Function → BoundTrees → Option Reason
-function_reason d (get_item a) bs = name_reason d (names_first bs) a
-function_reason d (literal t v) bs = literal_reason t v
-function_reason d (pack names n) bs = pack_reason d names
-function_reason d (select selection) bs = Some UnknownFunction
-function_reason d fill_null bs = fill_reason bs
-function_reason d (like negated ci) bs = pattern_reason bs
-function_reason d (case_when pairs has_else) bs = None
-function_reason d zip bs = None
-function_reason d (binary op) bs = None
-function_reason d logical_not bs = None
-function_reason d (between ls us) bs = None
-function_reason d is_null bs = None
-function_reason d is_not_null bs = None
-function_reason d mask bs = None
-function_reason d (cast u) bs = None
+-- a sum is of whole numbers: the engines' sums of decimals have more digits than ours
+abbrev pub is_whole : LogicalType → Bool
+is_whole (ty (atomic (number p)) n) = true
+is_whole _ = false
+
+abbrev pub operation_reason : LogicalType → Operation → Option Reason
+operation_reason t (compares c) = None
+operation_reason t and_also = None
+operation_reason t or_else = None
+operation_reason t adds = because (not (is_whole t)) UnknownFunction
+
+abbrev pub function_reason : Dialect → LogicalType → Function → BoundTrees → Option Reason
+function_reason d t (get_item a) bs = name_reason d (names_first bs) a
+function_reason d t (literal u v) bs = literal_reason u v
+function_reason d t (pack names n) bs = pack_reason d names
+function_reason d t (select selection) bs = Some UnknownFunction
+function_reason d t fill_null bs = fill_reason bs
+function_reason d t (like negated ci) bs = pattern_reason bs
+function_reason d t (case_when pairs has_else) bs = None
+function_reason d t zip bs = None
+function_reason d t (binary op) bs = operation_reason t op
+function_reason d t logical_not bs = None
+function_reason d t (between ls us) bs = None
+function_reason d t is_null bs = None
+function_reason d t is_not_null bs = None
+function_reason d t mask bs = None
+function_reason d t (cast u) bs = None
 
 -- why a node of that type over these children has no text: for their number, for its type, or for its function
 abbrev pub own_reason : Dialect → LogicalType → Function → BoundTrees → Option Reason
 own_reason d t f bs =
-    if bound_count_of bs == arity_of f then option_or (because (not (has_type d t)) UnknownType) (function_reason d f bs) else Some ChildCount
+    if bound_count_of bs == arity_of f then option_or (because (not (has_type d t)) UnknownType) (function_reason d t f bs) else Some ChildCount

@@ -5,14 +5,16 @@ ghost use Rattle.std.specs.List.{flat_map};
 ghost use Rattle.vx_value.specs.Types.{LogicalType};
 ghost use Rattle.vx_value.specs.ValueTexts.{hex_byte};
 ghost use Rattle.vx_value.specs.Views.{type_of, value_of};
-ghost use Rattle.vx_sql.specs.Dialects.{cast_text, type_word};
-ghost use Rattle.vx_sql.specs.Literals.{literal_sql, null_sql, truth_sql, is_by_itself, natural_sql, number_sql, octets_sql, byte_escape};
+ghost use Rattle.vx_sql.specs.Dialects.{cast_text, decimal_type, type_word};
+ghost use Rattle.vx_sql.specs.Literals.{literal_sql, null_sql, truth_sql, is_by_itself, natural_sql, number_sql, decimal_sql, day_sql, octets_sql, byte_escape};
 
 use crate::Dialect;
 use crate::quotes::write_text;
-use crate::types::{number_word, type_word};
+use crate::types::{number_word, write_decimal_type, write_type};
 use std::fmt;
 use std::fmt::{Display, Formatter, Write};
+use vx_dtype::DecimalType;
+use vx_literals::{write_day, write_decimal};
 use vx_types::{DType, PType, Scalar, Value};
 
 /// Writes the value, none of a list or a struct.
@@ -39,6 +41,8 @@ fn write_value<W: Write>(
         Value::Bool(b) => f.write_str(truth_word(dialect, *b)),
         Value::Int(number) => match dtype {
             DType::Primitive(p, _) => write_number(dialect, *p, *number, f),
+            DType::Decimal(decimal, _) => write_exact(dialect, *decimal, *number, f),
+            DType::Date(_) => write_date(*number, f),
             _ => Ok(()),
         },
         Value::Utf8(text) => write_text(dialect, text.as_str(), f),
@@ -57,7 +61,7 @@ pub(crate) fn write_null<W: Write>(
 {
     let (before, behind) = null_words(dialect);
     f.write_str(before)?;
-    f.write_str(type_word(dialect, dtype))?;
+    write_type(dialect, dtype, f)?;
     f.write_str(behind)
 }
 
@@ -124,6 +128,31 @@ pub(crate) fn write_natural<W: Write>(
     ensures { WritesOnOk W.write_str_gives f.old result (natural_sql dialect p number) f.new }
 {
     write_number(dialect, p, i128::from(number), f)
+}
+
+// Writes a decimal as one of the engine's type, by its digits.
+fn write_exact<W: Write>(
+    dialect: Dialect,
+    decimal: DecimalType,
+    units: i128,
+    f: &mut Formatter<W>,
+) -> fmt::Result
+    ensures { WritesOnOk W.write_str_gives f.old result (decimal_sql dialect decimal.precision decimal.scale units) f.new }
+{
+    f.write_str("CAST('")?;
+    write_decimal(units, decimal.scale(), f)?;
+    f.write_str("' AS ")?;
+    write_decimal_type(dialect, decimal, f)?;
+    f.write_str(")")
+}
+
+// Writes a day of the years 1 to 9999.
+fn write_date<W: Write>(day: i128, f: &mut Formatter<W>) -> fmt::Result
+    ensures { WritesOnOk W.write_str_gives f.old result (day_sql day) f.new }
+{
+    f.write_str("DATE '")?;
+    write_day(day, f)?;
+    f.write_str("'")
 }
 
 // Writes bytes by their digits.

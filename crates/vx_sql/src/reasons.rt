@@ -2,19 +2,20 @@
 ghost use Rattle.std.specs.Prelude.{◌≡◌};
 ghost use Rattle.std.specs.Option.{is_some};
 ghost use Rattle.vx_value.specs.Views.{type_of};
-ghost use Rattle.vx_fn.specs.Views.{function_of};
+ghost use Rattle.vx_fn.specs.Views.{function_of, operation_of};
 ghost use Rattle.vx_tree.specs.Nodes.{bound_at};
 ghost use Rattle.vx_tree.specs.Views.{bounds_of};
 ghost use Rattle.vx_sql.specs.Children.{passes, names_in, names_first, literal_in, is_value};
 ghost use Rattle.vx_sql.specs.Quotes.{is_escaped};
-ghost use Rattle.vx_sql.specs.Reasons.{has_nul, is_cut, same_name, spelling_reason, name_reason, names_reason, literal_reason, pack_reason, fill_reason, pattern_reason, function_reason, own_reason};
+ghost use Rattle.vx_sql.specs.Reasons.{has_nul, is_cut, same_name, spelling_reason, name_reason, names_reason, literal_reason, pack_reason, fill_reason, pattern_reason, number_reason, is_whole, operation_reason, function_reason, own_reason};
 
 use crate::Dialect;
 use crate::children::{child_at, has_atomic_first, is_atomic, literal_in};
 use crate::types::{has_type, makes_structs};
 use crate::unsupported::Reason;
 use crate::words::is_misread;
-use vx_fn::ScalarFnRef;
+use vx_fn::{Operator, ScalarFnRef};
+use vx_literals::has_day_text;
 use vx_tree::BoundExpression;
 use vx_types::{DType, FieldName, Scalar, Value};
 
@@ -34,15 +35,16 @@ pub(crate) fn own_reason(
     if !has_type(dialect, dtype) {
         return Some(Reason::UnknownType);
     }
-    function_reason(dialect, scalar_fn, children)
+    function_reason(dialect, dtype, scalar_fn, children)
 }
 
 fn function_reason(
     dialect: Dialect,
+    dtype: &DType,
     scalar_fn: &ScalarFnRef,
     children: &[BoundExpression],
 ) -> Option<Reason>
-    ensures { result ≡ function_reason dialect (function_of scalar_fn.now) (bounds_of children.now) }
+    ensures { result ≡ function_reason dialect (type_of dtype.now) (function_of scalar_fn.now) (bounds_of children.now) }
 {
     match scalar_fn {
         ScalarFnRef::GetItem(name) => name_reason(dialect, names_first(children), name),
@@ -51,9 +53,9 @@ fn function_reason(
         ScalarFnRef::Select(_) => Some(Reason::UnknownFunction),
         ScalarFnRef::FillNull(_) => fill_reason(children),
         ScalarFnRef::Like(_) => pattern_reason(children),
+        ScalarFnRef::Binary(operator) => operation_reason(dtype, *operator),
         ScalarFnRef::CaseWhen(_)
         | ScalarFnRef::Zip(_)
-        | ScalarFnRef::Binary(_)
         | ScalarFnRef::Not(_)
         | ScalarFnRef::Between(_)
         | ScalarFnRef::IsNull(_)
@@ -173,8 +175,35 @@ fn literal_reason(scalar: &Scalar) -> Option<Reason>
     }
     match scalar.value() {
         Value::Utf8(text) if has_nul(text.as_str()) => Some(Reason::Nul),
+        Value::Int(number) => number_reason(scalar.dtype(), *number),
         _ => None,
     }
+}
+
+// A day that is written lies in the years 1 to 9999.
+fn number_reason(dtype: &DType, number: i128) -> Option<Reason>
+    ensures { result ≡ number_reason (type_of dtype.now) number }
+{
+    match dtype {
+        DType::Date(_) if !has_day_text(number) => Some(Reason::FarDay),
+        _ => None,
+    }
+}
+
+// A sum is of whole numbers: the engines' sums of decimals have more digits than ours.
+fn operation_reason(dtype: &DType, operator: Operator) -> Option<Reason>
+    ensures { result ≡ operation_reason (type_of dtype.now) (operation_of operator) }
+{
+    match operator {
+        Operator::Add if !is_whole(dtype) => Some(Reason::UnknownFunction),
+        _ => None,
+    }
+}
+
+fn is_whole(dtype: &DType) -> bool
+    ensures { result ≡ is_whole (type_of dtype.now) }
+{
+    matches!(dtype, DType::Primitive(..))
 }
 
 // A struct that is made has a field, and no two of one name.

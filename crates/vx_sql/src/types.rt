@@ -1,22 +1,68 @@
 // What the engines call their types.
+ghost use Rattle.std.specs.Fmt.{WritesOnOk};
 ghost use Rattle.std.specs.Prelude.{◌≡◌};
 ghost use Rattle.vx_value.specs.Views.{type_of};
-ghost use Rattle.vx_sql.specs.Dialects.{postgres_word, duckdb_word, spark_word, clickhouse_word, number_word, truth_word, text_word, octets_word, type_word, collation, has_numbers, has_parts, has_type, makes_structs};
+ghost use Rattle.vx_sql.specs.Dialects.{postgres_word, duckdb_word, spark_word, clickhouse_word, number_word, truth_word, text_word, octets_word, date_word, decimal_word, decimal_type, type_word, collation, has_days, has_decimals, has_numbers, has_parts, has_type, makes_structs};
 
 use crate::Dialect;
+use std::fmt;
+use std::fmt::{Display, Formatter, Write};
+use vx_dtype::DecimalType;
 use vx_types::{DType, PType};
 
-/// The engine's type of such values: none of decimals, days and instants, nor of lists and structs.
-pub(crate) fn type_word(dialect: Dialect, dtype: &DType) -> &'static str
-    ensures { result.now ≡ type_word dialect (type_of dtype.now) }
+/// Writes the engine's type of such values: none of instants, nor of lists and structs.
+pub(crate) fn write_type<W: Write>(
+    dialect: Dialect,
+    dtype: &DType,
+    f: &mut Formatter<W>,
+) -> fmt::Result
+    ensures { WritesOnOk W.write_str_gives f.old result (type_word dialect (type_of dtype.now)) f.new }
 {
     match dtype {
-        DType::Bool(_) => truth_word(dialect),
-        DType::Primitive(p, _) => number_word(dialect, *p),
-        DType::Utf8(_) => text_word(dialect),
-        DType::Binary(_) => octets_word(dialect),
-        DType::Decimal(..) | DType::Date(_) | DType::Timestamp(..) => "",
-        DType::List(..) | DType::FixedSizeList(..) | DType::Struct(..) => "",
+        DType::Bool(_) => f.write_str(truth_word(dialect)),
+        DType::Primitive(p, _) => f.write_str(number_word(dialect, *p)),
+        DType::Decimal(decimal, _) => write_decimal_type(dialect, *decimal, f),
+        DType::Date(_) => f.write_str(date_word(dialect)),
+        DType::Utf8(_) => f.write_str(text_word(dialect)),
+        DType::Binary(_) => f.write_str(octets_word(dialect)),
+        DType::Timestamp(..) => Ok(()),
+        DType::List(..) | DType::FixedSizeList(..) | DType::Struct(..) => Ok(()),
+    }
+}
+
+/// Writes the engine's type of such decimals.
+pub(crate) fn write_decimal_type<W: Write>(
+    dialect: Dialect,
+    decimal: DecimalType,
+    f: &mut Formatter<W>,
+) -> fmt::Result
+    ensures { WritesOnOk W.write_str_gives f.old result (decimal_type dialect decimal.precision decimal.scale) f.new }
+{
+    f.write_str(decimal_word(dialect))?;
+    f.write_str("(")?;
+    decimal.precision().fmt(f)?;
+    f.write_str(", ")?;
+    decimal.scale().fmt(f)?;
+    f.write_str(")")
+}
+
+fn decimal_word(dialect: Dialect) -> &'static str
+    ensures { result.now ≡ decimal_word dialect }
+{
+    match dialect {
+        Dialect::Postgres => "numeric",
+        Dialect::DuckDb | Dialect::Spark => "DECIMAL",
+        Dialect::Sqlite | Dialect::ClickHouse => "",
+    }
+}
+
+fn date_word(dialect: Dialect) -> &'static str
+    ensures { result.now ≡ date_word dialect }
+{
+    match dialect {
+        Dialect::Postgres => "date",
+        Dialect::DuckDb | Dialect::Spark => "DATE",
+        Dialect::Sqlite | Dialect::ClickHouse => "",
     }
 }
 
@@ -135,15 +181,37 @@ pub(crate) fn collation(dialect: Dialect) -> &'static str
     }
 }
 
-/// Whether the engine has such values as ours: none has our decimals, days and instants.
+/// Whether the engine has such values as ours; instants have no text.
 pub(crate) fn has_type(dialect: Dialect, dtype: &DType) -> bool
     ensures { result ≡ has_type dialect (type_of dtype.now) }
 {
     match dtype {
         DType::Bool(_) | DType::Utf8(_) | DType::Binary(_) => true,
         DType::Primitive(p, _) => has_numbers(dialect, *p),
-        DType::Decimal(..) | DType::Date(_) | DType::Timestamp(..) => false,
+        DType::Decimal(..) => has_decimals(dialect),
+        DType::Date(_) => has_days(dialect),
+        DType::Timestamp(..) => false,
         DType::List(..) | DType::FixedSizeList(..) | DType::Struct(..) => has_parts(dialect),
+    }
+}
+
+/// Whether the engine has our days: SQLite has none, and ClickHouse fewer.
+pub fn has_days(dialect: Dialect) -> bool
+    ensures { result ≡ has_days dialect }
+{
+    match dialect {
+        Dialect::Sqlite | Dialect::ClickHouse => false,
+        Dialect::Postgres | Dialect::DuckDb | Dialect::Spark => true,
+    }
+}
+
+/// Whether the engine has our decimals: SQLite has none, and ClickHouse has them by a setting.
+pub fn has_decimals(dialect: Dialect) -> bool
+    ensures { result ≡ has_decimals dialect }
+{
+    match dialect {
+        Dialect::Sqlite | Dialect::ClickHouse => false,
+        Dialect::Postgres | Dialect::DuckDb | Dialect::Spark => true,
     }
 }
 

@@ -6,6 +6,7 @@ pub mod GlobParts
 pub mod ByteEscapes
 pub mod PatternsSpelled
 pub mod ReadBack
+pub mod ValuesReadBack
 pub mod TokensAhead
 pub mod TokensFound
 pub mod Written

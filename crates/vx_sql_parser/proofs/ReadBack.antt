@@ -30,7 +30,7 @@ use Rattle.vx_sql_parser.specs.Laws.{WrittenNamesAreRead, WrittenNumbersAreRead,
 use Rattle.vx_sql_parser.proofs.ByteTexts.{utf8_is}
 
 -- a token of source text that begins with b, as it is seen here
-abbrev seen : Dialect → ℕ → Taken → sql.Taken
+abbrev pub seen : Dialect → ℕ → Taken → sql.Taken
 seen d b t = (Some (sql.as_sql d b t.0), t.1)
 
 -- ---- names
@@ -53,10 +53,10 @@ isnt_92 : (b : ℕ) → 128 ≤ b → (b == 92) ≡ false
 isnt_92 b h = grind (arith, nat_tests)
 
 -- what stands for each byte or character: itself, but for the quote and the backslash, which ASCII stands for
-record Spells (inside : ℕ → List ℕ) : Type 0 where
-  quote : encodes (inside 39) ≡ inside 39
-  backslash : encodes (inside 92) ≡ inside 92
-  other : (c : ℕ) → (c == 39) ≡ false → (c == 92) ≡ false → inside c ≡ c ∷ []
+pub record Spells (inside : ℕ → List ℕ) : Type 0 where
+  pub quote : encodes (inside 39) ≡ inside 39
+  pub backslash : encodes (inside 92) ≡ inside 92
+  pub other : (c : ℕ) → (c == 39) ≡ false → (c == 92) ≡ false → inside c ≡ c ∷ []
 
 same_is : (b q : ℕ) → (b == q) ≡ true → b ≡ q
 same_is b q e = grind (arith, nat_tests)
@@ -110,7 +110,7 @@ doubling = inside (quoting_of Sqlite [])
 abbrev escaping : ℕ → List ℕ
 escaping = inside (quoting_of Postgres (92 ∷ []))
 
-abbrev backslashing : ℕ → List ℕ
+abbrev pub backslashing : ℕ → List ℕ
 backslashing = inside (quoting_of Spark [])
 
 doubling_spells : Spells doubling
@@ -121,7 +121,7 @@ escaping_spells : Spells escaping
 unfolding lib.Utf8.encode
 escaping_spells = record { quote = refl; backslash = refl; other = λ c e h. cond-false (c == 39) _ _ e ∙ cond-false (c == 92) _ _ h }
 
-backslashing_spells : Spells backslashing
+pub backslashing_spells : Spells backslashing
 unfolding lib.Utf8.encode
 backslashing_spells = record { quote = refl; backslash = refl; other = λ c e h. cond-false (c == 39) _ _ e ∙ cond-false (c == 92) _ _ h }
 
@@ -144,7 +144,7 @@ doubled_is (b ∷ s) = by (b == 39) (b == 92) refl refl (doubled_is s) where
 abbrev Reads : Dialect → List ℕ → List ℕ → List ℕ → Type 0
 Reads d written s rest = sql.taken_at d written ≡ (let t : sql.Taken = (Some (Ok (text s)), rest) in t)
 
-first_single : (s rest : List ℕ) → IsUtf8 s → (next rest == 39) ≡ false → first (39 ∷ (doubled 39 s ++ 39 ∷ rest)) ≡ (let t : Taken = (text s, rest) in t)
+pub first_single : (s rest : List ℕ) → IsUtf8 s → (next rest == 39) ≡ false → first (39 ∷ (doubled 39 s ++ 39 ∷ rest)) ≡ (let t : Taken = (text s, rest) in t)
 first_single s rest u e = ap (text_taken ClosingSingleQuote) (unquoted_doubled 39 s rest e) ∙ ap (λ x. let t : Taken = (x, rest) in t) (text_of_utf8 ClosingSingleQuote s u)
 
 -- where a quote is doubled, and a backslash is a character like others
@@ -155,10 +155,10 @@ doubled_read d s rest begins u e =
     ∙ begins (doubled 39 s ++ 39 ∷ rest) ∙ ap (seen d 39) (first_single s rest u e)
 
 -- where a backslash says something
-abbrev some : sql.SqlLexeme × List ℕ → sql.Taken
+abbrev pub some : sql.SqlLexeme × List ℕ → sql.Taken
 some token = (Some token.0, token.1)
 
-made_read : (s rest : List ℕ) → IsUtf8 s → some (sql.text_taken (Some (s, rest))) ≡ (let t : sql.Taken = (Some (Ok (text s)), rest) in t)
+pub made_read : (s rest : List ℕ) → IsUtf8 s → some (sql.text_taken (Some (s, rest))) ≡ (let t : sql.Taken = (Some (Ok (text s)), rest) in t)
 made_read s rest u = ap (λ o. let t : sql.Taken = (Some (sql.of_text o), rest) in t) (utf8_is s u)
 
 -- the same where a quote could be doubled as well
@@ -175,7 +175,7 @@ by_escape c xs = by (c == 39) (c == 92) refl refl where
       ap (λ ys. sql.escaped_read true anywhere (ys ++ xs)) (let is : backslashing c ≡ c ∷ [] = cond-false (c == 39) _ _ e ∙ cond-false (c == 92) _ _ h in is)
       ∙ no (c == 39) _ _ e ∙ no (c == 92) _ _ h
 
-backslashed_read : (cs rest : List ℕ) → (next rest == 39) ≡ false → sql.escaped_read true anywhere (flat_map backslashing cs ++ 39 ∷ rest) ≡ Some (cs, rest)
+pub backslashed_read : (cs rest : List ℕ) → (next rest == 39) ≡ false → sql.escaped_read true anywhere (flat_map backslashing cs ++ 39 ∷ rest) ≡ Some (cs, rest)
 backslashed_read [] [] e = refl
 backslashed_read [] (b ∷ bs) e = no (b == 39) _ _ e
 backslashed_read (c ∷ cs) rest e =
@@ -228,12 +228,19 @@ both : (x y : Bool) → x ≡ false → (x && y) ≡ false
 both false y e = refl
 both true y e = cc
 
-opens_none : (d : Dialect) (b : ℕ) (bs : List ℕ) → is_digit b ≡ true → sql.opening_len d (b ∷ bs) ≡ 0
-opens_none Postgres b bs e = cond-false ((b == 69 || b == 101) && next bs == 39) 2 0 (both (b == 69 || b == 101) (next bs == 39) (no_e b e))
-opens_none Sqlite b bs e = refl
-opens_none DuckDb b bs e = refl
-opens_none Spark b bs e = cond-false (b == 39) 1 0 (no_quote b e)
-opens_none ClickHouse b bs e = cond-false (b == 39) 1 0 (no_quote b e)
+opens_none : (d : Dialect) (b : ℕ) (bs : List ℕ) → (b == 69 || b == 101) ≡ false → (b == 39) ≡ false → sql.opening_len d (b ∷ bs) ≡ 0
+opens_none Postgres b bs e q = cond-false ((b == 69 || b == 101) && next bs == 39) 2 0 (both (b == 69 || b == 101) (next bs == 39) e)
+opens_none Sqlite b bs e q = refl
+opens_none DuckDb b bs e q = refl
+opens_none Spark b bs e q = cond-false (b == 39) 1 0 q
+opens_none ClickHouse b bs e q = cond-false (b == 39) 1 0 q
+
+-- a token that source text has, too
+pub plain_first : (d : Dialect) (b : ℕ) (bs : List ℕ) → sql.blank_taken (b ∷ bs) ≡ None → (b == 69 || b == 101) ≡ false → (b == 39) ≡ false
+    → sql.taken_at d (b ∷ bs) ≡ seen d b (first (b ∷ bs))
+plain_first d b bs none e q =
+    ap (sql.or_token (sql.token_taken d (b ∷ bs))) none
+    ∙ ap (λ n. some (if n == 0 then sql.plain_taken d (b ∷ bs) else sql.escaped_taken (sql.doubles_quotes d) (drop n (b ∷ bs)))) (opens_none d b bs e q)
 
 digit_first : (d : Dialect) (ds rest : List ℕ) → list_all is_digit ds ≡ true → 0 < length ds → sql.taken_at d (ds ++ rest) ≡ seen d (next (ds ++ rest)) (first (ds ++ rest))
 digit_first d [] rest h l = absurd (omega arith)
@@ -243,8 +250,7 @@ digit_first d (b ∷ ds) rest h l =
     let no_comment : sql.blank_taken (b ∷ bs) ≡ None = cond-false (is_blank b) _ _ (no_blank b digit)
     ∙ cond-false (b == 45 && next bs == 45) _ _ (both (b == 45) (next bs == 45) (no_dash b digit))
     ∙ cond-false (b == 47 && next bs == 42) _ _ (both (b == 47) (next bs == 42) (no_slash b digit)) in
-    ap (sql.or_token (sql.token_taken d (b ∷ bs))) no_comment
-    ∙ ap (λ n. some (if n == 0 then sql.plain_taken d (b ∷ bs) else sql.escaped_taken (sql.doubles_quotes d) (drop n (b ∷ bs)))) (opens_none d b bs digit)
+    plain_first d b bs no_comment (no_e b digit) (no_quote b digit)
 
 pub numbers_read : WrittenNumbersAreRead
 numbers_read d n rest small e =

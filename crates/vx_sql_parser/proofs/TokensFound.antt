@@ -10,7 +10,7 @@ drop_nil zero = refl
 drop_nil (suc n) = refl
 
 -- what belongs to a token is passed over
-passed_over : (d : Dialect) (n : ℕ) (bs : List ℕ) → sql_tokens d n bs ≡ sql_tokens d 0 (drop n bs)
+pub passed_over : (d : Dialect) (n : ℕ) (bs : List ℕ) → sql_tokens d n bs ≡ sql_tokens d 0 (drop n bs)
 passed_over d n [] = ap (sql_tokens d 0) (sym (drop_nil n))
 passed_over d zero (b ∷ bs) = refl
 passed_over d (suc n) (b ∷ bs) = passed_over d n bs

@@ -1,5 +1,5 @@
--- What is read back of names, texts, numbers and types that are written for an engine.
-use Rattle.std.specs.Prelude.{◌≡◌, ◌<◌, ◌^◌, ℕ, false, ◌==◌, List, [], ◌++◌, Some, Ok, IsUtf8, codes}
+-- What is read back of names, texts, numbers, types, days and decimals that are written for an engine.
+use Rattle.std.specs.Prelude.{◌≡◌, ◌<◌, ◌≤◌, ◌^◌, ℕ, ℤ, unsigned_abs, true, false, ◌==◌, List, [], ◌++◌, Some, Ok, IsSome, IsUtf8, codes}
 use Rattle.std.specs.Fmt.{decimal}
 use Rattle.vx_dtype.specs.Types.{Name}
 use Rattle.vx_dtype.specs.declared.dtype.PType.{PType}
@@ -7,11 +7,17 @@ use Rattle.vx_dtype.specs.declared.dtype.PType.TheVariants.{U8, U16, U32, U64, I
 use Rattle.vx_source_types.specs.Characters.{is_word}
 use Rattle.vx_source_types.specs.Tokens.{next, quoted, number, text}
 use Rattle.vx_sql.specs.declared.dialect.Dialect.{Dialect}
-use Rattle.vx_sql.specs.Dialects.{postgres_word, duckdb_word, clickhouse_word}
+use Rattle.vx_literals.specs.Days.{civil_at, day_text}
+use Rattle.vx_literals.specs.Decimals.{decimal_text}
+use Rattle.vx_sql.specs.Dialects.{postgres_word, duckdb_word, clickhouse_word, has_days, has_decimals}
+use Rattle.vx_sql.specs.Literals.{day_sql, decimal_sql}
 use Rattle.vx_sql.specs.declared.dialect.Dialect.TheVariants.{Postgres, DuckDb, ClickHouse}
 use Rattle.vx_sql.specs.Quotes.{name_quote, name_sql, is_escaped, text_sql}
 use Rattle.vx_sql_parser.specs.SqlTokens.{Taken, taken_at}
 use Rattle.vx_sql_parser.specs.Types.{type_named}
+use Rattle.vx_sql_parser.specs.CastTypes.{decimals}
+use Rattle.vx_sql_parser.specs.Values.{days, text_of}
+use Rattle.vx_sql_parser.specs.Rules.{sql_source}
 
 -- a name as `vx_sql` writes it, which refuses one that says more than its characters, is the first token, whole, whatever follows but another quote
 abbrev pub WrittenNamesAreRead : Type 0
@@ -53,3 +59,12 @@ in_duckdb I64 = codes "i64"
 -- the words that `vx_sql` writes for the types of numbers are read
 abbrev pub WrittenTypesAreRead : Type 0
 WrittenTypesAreRead = (p : PType) → (type_named Postgres (postgres_word p) ≡ Some (in_postgres p)) × (type_named DuckDb (duckdb_word p) ≡ Some (in_duckdb p)) × (type_named ClickHouse (clickhouse_word p) ≡ Some (in_duckdb p))
+
+-- a day as `vx_sql` writes it is read as its text before the type, which is that day
+abbrev pub WrittenDaysAreRead : Type 0
+WrittenDaysAreRead = (d : Dialect) (i : ℤ) → has_days d ≡ true → IsSome (civil_at i) → sql_source d (day_sql i) ≡ Ok (text_of days (day_text i) ++ codes " ")
+
+-- so is a decimal
+abbrev pub WrittenDecimalsAreRead : Type 0
+WrittenDecimalsAreRead = (d : Dialect) (p s : ℕ) (i : ℤ) → has_decimals d ≡ true → p ≤ 38 → s ≤ 38 → unsigned_abs i < 10 ^ 38
+    → sql_source d (decimal_sql d p s i) ≡ Ok (text_of (decimals p s) (decimal_text i s) ++ codes " ")

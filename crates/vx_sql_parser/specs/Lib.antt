@@ -5,6 +5,7 @@ pub mod Globs
 pub mod Patterns
 pub mod Steps
 pub mod Ahead
+pub mod CastTypes
 pub mod Values
 pub mod Matches
 pub mod Rules

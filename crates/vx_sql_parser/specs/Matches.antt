@@ -13,7 +13,7 @@ use Rattle.vx_sql_parser.specs.Globs.{glob_source}
 use Rattle.vx_sql_parser.specs.Patterns.{ignores_case, default_escape, is_escape, pattern_source}
 use Rattle.vx_sql_parser.specs.Steps.{Answer, says}
 use Rattle.vx_sql_parser.specs.Ahead.{lexeme_at, closes, is_comma, is_text, sign_at, text_at, is_text_of, is_word_at}
-use Rattle.vx_sql_parser.specs.Values.{literal_cast}
+use Rattle.vx_sql_parser.specs.Values.{Cast, literal_cast}
 
 -- ---- LIKE
 
@@ -44,12 +44,12 @@ abbrev pub escape_len : List SqlLexeme → ℕ → ℕ
 escape_len xs i = if is_word_at xs i (codes "escape") && is_text (lexeme_at xs (i + 1)) then 2 else 0
 
 -- a pattern that is null, whatever the escape
-abbrev pub null_said : Bool → Option (List ℕ) → ℕ → Answer
-null_said ignores (Some t) n = says (like_word ignores ++ t) Stays n
-null_said ignores None n = Err Pattern
+abbrev pub null_said : Bool → List SqlLexeme → ℕ → Option Cast → Answer
+null_said ignores xs i (Some (t, n)) = says (like_word ignores ++ t) Stays (i + n + escape_len xs (i + n))
+null_said ignores xs i None = Err Pattern
 
 abbrev pub null_pattern : Dialect → Bool → List SqlLexeme → ℕ → Answer
-null_pattern d ignores xs i = if is_word_at xs i (codes "cast") && is_word_at xs (i + 2) (codes "null") then null_said ignores (literal_cast d xs (i + 1)) (i + 6 + escape_len xs (i + 6)) else Err Pattern
+null_pattern d ignores xs i = if is_word_at xs i (codes "cast") && is_word_at xs (i + 2) (codes "null") then null_said ignores xs (i + 1) (literal_cast d xs (i + 1)) else Err Pattern
 
 abbrev pub like_over : Dialect → Bool → List SqlLexeme → ℕ → Option (List ℕ) → Answer
 like_over d ignores xs i None = null_pattern d ignores xs i

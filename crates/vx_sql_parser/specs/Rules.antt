@@ -15,8 +15,9 @@ use Rattle.vx_sql_parser.specs.SqlTokens.{SqlLexeme, sql_tokens}
 use Rattle.vx_sql_parser.specs.Words.{is_divider, is_plain_word, is_reserved}
 use Rattle.vx_sql_parser.specs.Patterns.{ignores_case}
 use Rattle.vx_sql_parser.specs.Steps.{State, changed, innermost, Answer, says}
-use Rattle.vx_sql_parser.specs.Ahead.{lexeme_at, name_in, opens, closes, is_text, sign_at, word_at, is_word_at}
-use Rattle.vx_sql_parser.specs.Values.{name_rule, number_rule, point_rule, is_bytes_order, typed, as_said, valued_rule, is_fill}
+use Rattle.vx_sql_parser.specs.Ahead.{lexeme_at, name_in, opens, closes, is_text, sign_at, is_word_at}
+use Rattle.vx_sql_parser.specs.CastTypes.{type_at}
+use Rattle.vx_sql_parser.specs.Values.{name_rule, number_rule, point_rule, is_bytes_order, as_said, valued_rule, is_fill}
 use Rattle.vx_sql_parser.specs.Matches.{like_rule, ilike_rule, glob_rule, folded_like, translated}
 
 -- ---- CASE
@@ -85,7 +86,7 @@ keyword_rule d top w xs =
     if same_word w (codes "like") then like_rule d (ignores_case d) xs 0 else (
     if same_word w (codes "ilike") then ilike_rule d xs else (
     if same_word w (codes "glob") then glob_rule d xs else (
-    if same_word w (codes "as") then as_said (typed d (word_at xs 0)) else
+    if same_word w (codes "as") then as_said (type_at d xs 0) else
     case_rule d top w xs))))
 
 abbrev pub word_rule : Dialect → Option Bracket → List ℕ → List SqlLexeme → Answer

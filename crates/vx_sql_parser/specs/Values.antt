@@ -8,12 +8,13 @@ use Rattle.vx_dtype.specs.Quotes.{between_quotes}
 use Rattle.vx_source_types.specs.Tokens.{Lexeme, word, quoted, number, text}
 use Rattle.vx_sql.specs.declared.dialect.Dialect.{Dialect}
 use Rattle.vx_sql.specs.declared.dialect.Dialect.TheVariants.{Postgres, Sqlite, DuckDb, Spark, ClickHouse}
-use Rattle.vx_sql_parser.specs.declared.reason.Unread.TheVariants.{Number as NoNumber, Hexadecimal, Function, TypedText, Table, CastType}
+use Rattle.vx_sql.specs.Dialects.{has_days}
+use Rattle.vx_sql_parser.specs.declared.reason.Unread.TheVariants.{Number as NoNumber, Hexadecimal, Function, TypedText, Table, CastType as NoType}
 use Rattle.vx_sql_parser.specs.declared.step.Bracket.TheVariants.{Paren, Fill, Lower, Translate}
 use Rattle.vx_sql_parser.specs.declared.step.Change.TheVariants.{Stays, Opens}
 use Rattle.vx_sql_parser.specs.SqlTokens.{SqlLexeme}
 use Rattle.vx_sql_parser.specs.Words.{is_one_of, is_truth}
-use Rattle.vx_sql_parser.specs.Types.{type_named}
+use Rattle.vx_sql_parser.specs.CastTypes.{CastType, named, decimals, type_source, type_len, type_at}
 use Rattle.vx_sql_parser.specs.Patterns.{as_text, behind}
 use Rattle.vx_sql_parser.specs.Steps.{is_kept, Answer, says}
 use Rattle.vx_sql_parser.specs.Ahead.{lexeme_at, opens, closes, is_dot, sign_at, word_at, text_at, is_this, is_word_at}
@@ -51,9 +52,23 @@ has_octets DuckDb = false
 has_octets Spark = true
 has_octets ClickHouse = false
 
+-- a text before its type
+abbrev pub text_of : CastType → List ℕ → List ℕ
+text_of t s = between_quotes 34 s ++ (codes "::" ++ type_source t)
+
+abbrev pub days : CastType
+days = named (codes "date")
+
+-- a day by its text, which takes one token
+abbrev pub day_said : Option (List ℕ) → Answer
+day_said None = Err TypedText
+day_said (Some s) = says (text_of days s) Stays 1
+
 -- a word before a text
 abbrev pub typed_text : Dialect → List ℕ → List SqlLexeme → Answer
-typed_text d w xs = if has_octets d && same_word w (codes "x") then octets_said 1 (text_at xs 0) else Err TypedText
+typed_text d w xs =
+    if has_octets d && same_word w (codes "x") then octets_said 1 (text_at xs 0) else (
+    if has_days d && same_word w (codes "date") then day_said (text_at xs 0) else Err TypedText)
 
 -- a collation, which isn't written where it is the one of bytes
 abbrev pub is_bytes_order : Option Lexeme → Bool
@@ -63,27 +78,26 @@ is_bytes_order _ = false
 
 -- ---- casts
 
--- the type that a word is
-abbrev pub typed : Dialect → Option (List ℕ) → Option (List ℕ)
-typed d None = None
-typed d (Some a) = type_named d a
+-- whether the type is that of a name
+abbrev pub is_called : List ℕ → CastType → Bool
+is_called a (named t) = same_word t a
+is_called a (decimals p s) = false
 
 -- what says the type of a number: nothing in SQLite, which has one type for all
-abbrev pub is_of_all : Dialect → List ℕ → Bool
-is_of_all Sqlite t = same_word t (codes "i64")
+abbrev pub is_of_all : Dialect → CastType → Bool
+is_of_all Sqlite t = is_called (codes "i64") t
 is_of_all d t = false
 
-abbrev pub number_type : Dialect → List ℕ → List ℕ
-number_type d t = if is_of_all d t then [] else codes "::" ++ t
+abbrev pub number_type : Dialect → CastType → List ℕ
+number_type d t = if is_of_all d t then [] else codes "::" ++ type_source t
 
--- a number and a null of a type
-abbrev pub typed_number : Dialect → List ℕ → ℕ → Option (List ℕ) → Option (List ℕ)
-typed_number d minus n None = None
-typed_number d minus n (Some t) = Some (minus ++ (decimal n ++ number_type d t))
+-- a number of a type, of which none is a day
+abbrev pub typed_number : Dialect → List ℕ → ℕ → CastType → Option (List ℕ)
+typed_number d minus n t = if is_called (codes "date") t then None else Some (minus ++ (decimal n ++ number_type d t))
 
-abbrev pub typed_null : Option (List ℕ) → Option (List ℕ)
-typed_null None = None
-typed_null (Some t) = Some (codes "null::" ++ (t ++ codes "?"))
+-- a null of a type
+abbrev pub typed_null : CastType → List ℕ
+typed_null t = codes "null::" ++ (type_source t ++ codes "?")
 
 -- DuckDB's bytes, each spelled by `\x` and two digits
 abbrev pub escape_digits : List ℕ → Option (List ℕ)
@@ -99,30 +113,52 @@ escaped_digits (Some (high, low, bs)) = behind (high ∷ low ∷ []) (escape_dig
 abbrev pub digits_said : Option (List ℕ) → Option (List ℕ)
 digits_said digits = as_text (behind (codes "0x") digits)
 
-abbrev pub is_bytes_type : Dialect → Option (List ℕ) → Bool
-is_bytes_type DuckDb (Some t) = same_word t (codes "binary")
+abbrev pub is_bytes_type : Dialect → CastType → Bool
+is_bytes_type DuckDb t = is_called (codes "binary") t
 is_bytes_type d t = false
 
+-- whether values of the type stand as texts before it: days and decimals
+abbrev pub has_texts : CastType → Bool
+has_texts (named t) = same_word t (codes "date")
+has_texts (decimals p s) = true
+
+-- a text as one of that type
+abbrev pub text_literal : Dialect → List ℕ → CastType → Option (List ℕ)
+text_literal d s t = if is_bytes_type d t then digits_said (escape_digits s) else (if has_texts t then Some (text_of t s) else None)
+
 -- the literal that a token is as one of that type
-abbrev pub typed_literal : Dialect → Option Lexeme → Option (List ℕ) → Option (List ℕ)
+abbrev pub typed_literal : Dialect → Option Lexeme → CastType → Option (List ℕ)
 typed_literal d (Some (number negative (Some n) s)) t = typed_number d (sign_source negative) n t
-typed_literal d (Some (word a)) t = if same_word a (codes "null") then typed_null t else None
-typed_literal d (Some (text s)) t = if is_bytes_type d t then digits_said (escape_digits s) else None
+typed_literal d (Some (word a)) t = if same_word a (codes "null") then Some (typed_null t) else None
+typed_literal d (Some (text s)) t = text_literal d s t
 typed_literal d _ t = None
 
--- the literal that a cast is whose bracket is at that place, and which ends four tokens behind that
-abbrev pub literal_cast : Dialect → List SqlLexeme → ℕ → Option (List ℕ)
-literal_cast d xs i = if is_word_at xs (i + 2) (codes "as") && closes (sign_at xs (i + 4)) then typed_literal d (lexeme_at xs (i + 1)) (typed d (word_at xs (i + 3))) else None
+-- a literal that a cast is, and how many tokens it takes from its bracket on
+abbrev pub Cast : Type 0
+Cast = List ℕ × ℕ
+
+abbrev pub with_len : ℕ → Option (List ℕ) → Option Cast
+with_len n None = None
+with_len n (Some t) = Some (t, n)
+
+-- the same of a type that was read or not, and behind which the bracket closes
+abbrev pub cast_to : Dialect → List SqlLexeme → ℕ → Option CastType → Option Cast
+cast_to d xs i None = None
+cast_to d xs i (Some t) = if closes (sign_at xs (i + 3 + type_len t)) then with_len (4 + type_len t) (typed_literal d (lexeme_at xs (i + 1)) t) else None
+
+-- the literal that a cast is whose bracket is at that place
+abbrev pub literal_cast : Dialect → List SqlLexeme → ℕ → Option Cast
+literal_cast d xs i = if is_word_at xs (i + 2) (codes "as") then cast_to d xs i (type_at d xs (i + 3)) else None
 
 -- a literal, or a bracket around what is cast
-abbrev pub cast_said : Option (List ℕ) → Answer
-cast_said (Some t) = says t Stays 5
+abbrev pub cast_said : Option Cast → Answer
+cast_said (Some (t, n)) = says t Stays n
 cast_said None = says (codes "cast(") (Opens Paren) 1
 
 -- the type behind `as`, which lets nulls be
-abbrev pub as_said : Option (List ℕ) → Answer
-as_said (Some t) = says (codes "as " ++ (t ++ codes "?")) Stays 1
-as_said None = Err CastType
+abbrev pub as_said : Option CastType → Answer
+as_said (Some t) = says (codes "as " ++ (type_source t ++ codes "?")) Stays (type_len t)
+as_said None = Err NoType
 
 -- ---- calls
 

@@ -1,5 +1,5 @@
 -- What the program's tokens stand for.
-use Rattle.std.specs.Prelude.{List, map, Option, Some, None, ℕ, Result, Ok, Err, Vec, drop}
+use Rattle.std.specs.Prelude.{List, map, Option, Some, None, ℕ, Result, Ok, Err, Vec, String, drop, string_bytes}
 use Rattle.std.specs.Option.{option_map}
 use Rattle.std.specs.declared.alloc.Global.{Global}
 use Rattle.vx_source_types.specs.declared.token.Token.{Token}
@@ -10,6 +10,10 @@ use Rattle.vx_sql_parser.specs.declared.lexed.Lexed.{Lexed}
 use Rattle.vx_sql_parser.specs.declared.escapes.Inside.{Inside}
 use Rattle.vx_sql_parser.specs.declared.escapes.Inside.TheVariants.{Anywhere, BehindQuote, BehindBackslash}
 use Rattle.vx_sql_parser.specs.SqlTokens.{SqlLexeme, Taken}
+use Rattle.vx_sql_parser.specs.declared.cast_types.CastType.{CastType}
+use Rattle.vx_sql_parser.specs.declared.cast_types.CastType.TheVariants.{Named, Decimals}
+use Rattle.vx_sql_parser.specs.CastTypes as types
+use Rattle.vx_sql_parser.specs.Values.{Cast}
 
 -- what a token stands for
 abbrev pub sql_of : Result Token Unread → SqlLexeme
@@ -49,3 +53,14 @@ reading_of BehindBackslash = behind_backslash
 -- the bytes that were made
 abbrev pub items_in : Vec ℕ Global → List ℕ
 items_in v = v.items
+
+-- ---- casts
+
+-- the type of a cast
+abbrev pub cast_type_of : CastType → types.CastType
+cast_type_of (Named t) = types.named t.now
+cast_type_of (Decimals p s) = types.decimals p s
+
+-- a literal that a cast is, and how many tokens it takes
+abbrev pub cast_of : String Global × ℕ → Cast
+cast_of (text, len) = (string_bytes text, len)

@@ -1,20 +1,21 @@
 // Casts, of literals and others.
-ghost use Rattle.std.specs.Prelude.{◌≡◌, ◌<◌, IfOk, option_map, string_bytes};
+ghost use Rattle.std.specs.Prelude.{◌≡◌, ◌<◌, ◌≤◌, IfOk, IfSome, option_map, string_bytes};
 ghost use Rattle.vx_source_types.specs.Views.{lexeme_of};
-ghost use Rattle.vx_sql_parser.specs.Ahead as ahead;
+ghost use Rattle.vx_sql_parser.specs.CastTypes as types;
 ghost use Rattle.vx_sql_parser.specs.Values as values;
 ghost use Rattle.vx_sql_parser.specs.RuleViews.{Answers};
-ghost use Rattle.vx_sql_parser.specs.Views.{lexemes_of};
+ghost use Rattle.vx_sql_parser.specs.Views.{cast_of, cast_type_of, lexemes_of};
 
-use crate::ahead::{closes_at, is_word_at, token_at, word_at};
+use crate::ahead::{closes_at, is_word_at, token_at};
+use crate::cast_types::{CastType, type_at};
 use crate::keywords::is;
 use crate::lexed::Lexed;
 use crate::names::sign_of;
 use crate::octets::escape_digits;
 use crate::patterns::as_source;
+use crate::quotes::QuotedText;
 use crate::reason::Unread;
 use crate::step::{Bracket, Change, Step, Stop, says, stepped};
-use crate::types::type_named;
 use std::alloc::{AllocError, Global};
 use vx_source_types::Token;
 use vx_sql::Dialect;
@@ -24,26 +25,36 @@ pub(crate) fn cast(alloc: Global, dialect: Dialect, tokens: &[Lexed]) -> Result<
     ensures { Answers result (values.cast_said (values.literal_cast dialect (lexemes_of tokens.now) 0)) }
 {
     match literal_cast(alloc, dialect, tokens, 0)? {
-        Some(text) => Ok(stepped(text, Change::Stays, 5)),
+        Some((text, len)) => Ok(stepped(text, Change::Stays, len)),
         None => says(alloc, "cast(", Change::Opens(Bracket::Paren), 1),
     }
 }
 
-// The literal that a cast is whose bracket is at that place: a number or a null, of the type that is said.
+// The literal that a cast is whose bracket is at that place, and how many tokens it takes from there on: a number, a
+// text or a null, of the type that is said.
 pub(crate) fn literal_cast(
     alloc: Global,
     dialect: Dialect,
     tokens: &[Lexed],
     i: usize,
-) -> Result<Option<String>, AllocError>
+) -> Result<Option<(String, usize)>, AllocError>
     requires { i < 8 }
-    ensures { IfOk result (λ t. option_map string_bytes t ≡ values.literal_cast dialect (lexemes_of tokens.now) i) }
+    ensures cast { IfOk result (λ c. option_map cast_of c ≡ values.literal_cast dialect (lexemes_of tokens.now) i) }
+    ensures few { IfOk result (λ c. IfSome c (λ p. p.1 ≤ 10)) }
 {
-    if !(is_word_at(tokens, i + 2, "as") && closes_at(tokens, i + 4)) {
+    if !is_word_at(tokens, i + 2, "as") {
         return Ok(None);
     }
-    let dtype = typed(dialect, word_at(tokens, i + 3));
-    typed_literal(alloc, dialect, token_at(tokens, i + 1), dtype)
+    let Some(dtype) = type_at(dialect, tokens, i + 3) else {
+        return Ok(None);
+    };
+    if !closes_at(tokens, i + 3 + dtype.len()) {
+        return Ok(None);
+    }
+    match typed_literal(alloc, dialect, token_at(tokens, i + 1), dtype)? {
+        Some(text) => Ok(Some((text, 4 + dtype.len()))),
+        None => Ok(None),
+    }
 }
 
 // The literal that the token is as one of that type.
@@ -51,9 +62,9 @@ fn typed_literal(
     alloc: Global,
     dialect: Dialect,
     token: Option<&Token>,
-    dtype: Option<&'static str>,
+    dtype: CastType,
 ) -> Result<Option<String>, AllocError>
-    ensures { IfOk result (λ t. option_map string_bytes t ≡ values.typed_literal dialect (option_map (λ x. lexeme_of x.now) token.entry) (option_map (λ t. t.now) dtype.entry)) }
+    ensures { IfOk result (λ t. option_map string_bytes t ≡ values.typed_literal dialect (option_map (λ x. lexeme_of x.now) token.entry) (cast_type_of dtype)) }
 {
     match token {
         Some(
@@ -63,27 +74,27 @@ fn typed_literal(
                 ..
             },
         ) => typed_number(alloc, dialect, sign_of(*negative), *n, dtype),
-        Some(Token::Word(null)) if is(null.as_str(), "null") => typed_null(alloc, dtype),
-        Some(Token::Text(text)) if is_bytes_type(dialect, dtype) => {
-            let digits = escape_digits(alloc, text.as_str().as_bytes())?;
-            as_source(alloc, digits)
+        Some(Token::Word(null)) if is(null.as_str(), "null") => {
+            Ok(Some(format!(in alloc; "null::{dtype}?")?))
         }
+        Some(Token::Text(text)) => text_literal(alloc, dialect, text.as_str(), dtype),
         _ => Ok(None),
     }
 }
 
+// A number of that type, of which none is a day.
 fn typed_number(
     alloc: Global,
     dialect: Dialect,
     sign: &str,
     n: u64,
-    dtype: Option<&'static str>,
+    dtype: CastType,
 ) -> Result<Option<String>, AllocError>
-    ensures { IfOk result (λ t. option_map string_bytes t ≡ values.typed_number dialect sign.now n (option_map (λ t. t.now) dtype.entry)) }
+    ensures { IfOk result (λ t. option_map string_bytes t ≡ values.typed_number dialect sign.now n (cast_type_of dtype)) }
 {
-    let Some(dtype) = dtype else {
+    if dtype.is_called("date") {
         return Ok(None);
-    };
+    }
     if is_of_all(dialect, dtype) {
         return Ok(Some(format!(in alloc; "{sign}{n}")?));
     }
@@ -91,52 +102,70 @@ fn typed_number(
 }
 
 // Whether the type is the one of all numbers, as SQLite's.
-fn is_of_all(dialect: Dialect, dtype: &str) -> bool
-    ensures { result ≡ values.is_of_all dialect dtype.now }
+fn is_of_all(dialect: Dialect, dtype: CastType) -> bool
+    ensures { result ≡ values.is_of_all dialect (cast_type_of dtype) }
 {
     match dialect {
-        Dialect::Sqlite => is(dtype, "i64"),
+        Dialect::Sqlite => dtype.is_called("i64"),
         Dialect::Postgres | Dialect::DuckDb | Dialect::Spark | Dialect::ClickHouse => false,
     }
 }
 
-// Whether the type is that of DuckDB's bytes.
-fn is_bytes_type(dialect: Dialect, dtype: Option<&'static str>) -> bool
-    ensures { result ≡ values.is_bytes_type dialect (option_map (λ t. t.now) dtype.entry) }
+// A text as one of that type.
+fn text_literal(
+    alloc: Global,
+    dialect: Dialect,
+    text: &str,
+    dtype: CastType,
+) -> Result<Option<String>, AllocError>
+    ensures { IfOk result (λ t. option_map string_bytes t ≡ values.text_literal dialect text.now (cast_type_of dtype)) }
 {
-    match (dialect, dtype) {
-        (Dialect::DuckDb, Some(dtype)) => is(dtype, "binary"),
-        _ => false,
+    if is_bytes_type(dialect, dtype) {
+        let digits = escape_digits(alloc, text.as_bytes())?;
+        return as_source(alloc, digits);
+    }
+    if has_texts(dtype) {
+        return Ok(Some(text_of(alloc, text, dtype)?));
+    }
+    Ok(None)
+}
+
+// A text before its type.
+pub(crate) fn text_of(alloc: Global, text: &str, dtype: CastType) -> Result<String, AllocError>
+    ensures { IfOk result (λ s. string_bytes s ≡ values.text_of (cast_type_of dtype) text.now) }
+{
+    let text = QuotedText(text);
+    format!(in alloc; "{text}::{dtype}")
+}
+
+// Whether the type is that of DuckDB's bytes.
+fn is_bytes_type(dialect: Dialect, dtype: CastType) -> bool
+    ensures { result ≡ values.is_bytes_type dialect (cast_type_of dtype) }
+{
+    match dialect {
+        Dialect::DuckDb => dtype.is_called("binary"),
+        Dialect::Postgres | Dialect::Sqlite | Dialect::Spark | Dialect::ClickHouse => false,
     }
 }
 
-fn typed_null(alloc: Global, dtype: Option<&'static str>) -> Result<Option<String>, AllocError>
-    ensures { IfOk result (λ t. option_map string_bytes t ≡ values.typed_null (option_map (λ t. t.now) dtype.entry)) }
+// Whether values of the type stand as texts before it: days and decimals.
+fn has_texts(dtype: CastType) -> bool
+    ensures { result ≡ values.has_texts (cast_type_of dtype) }
 {
-    let Some(dtype) = dtype else {
-        return Ok(None);
-    };
-    Ok(Some(format!(in alloc; "null::{dtype}?")?))
-}
-
-// The type that the word is.
-fn typed(dialect: Dialect, word: Option<&str>) -> Option<&'static str>
-    ensures { option_map (λ t. t.now) result ≡ values.typed dialect (option_map (λ w. w.now) word.entry) }
-{
-    match word {
-        Some(word) => type_named(dialect, word),
-        None => None,
+    match dtype {
+        CastType::Named(_) => dtype.is_called("date"),
+        CastType::Decimals(..) => true,
     }
 }
 
 // The type behind `as`.
 pub(crate) fn as_type(alloc: Global, dialect: Dialect, tokens: &[Lexed]) -> Result<Step, Stop>
-    ensures { Answers result (values.as_said (values.typed dialect (ahead.word_at (lexemes_of tokens.now) 0))) }
+    ensures { Answers result (values.as_said (types.type_at dialect (lexemes_of tokens.now) 0)) }
 {
-    match typed(dialect, word_at(tokens, 0)) {
+    match type_at(dialect, tokens, 0) {
         Some(dtype) => {
             let text = format!(in alloc; "as {dtype}?")?;
-            Ok(stepped(text, Change::Stays, 1))
+            Ok(stepped(text, Change::Stays, dtype.len()))
         }
         None => Err(Stop::Unread(Unread::CastType)),
     }

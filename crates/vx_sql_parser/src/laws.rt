@@ -1,5 +1,5 @@
 // Laws of reading, as functions without a body.
-ghost use Rattle.vx_sql_parser.specs.Laws.{WrittenNamesAreRead, WrittenNumbersAreRead, WrittenTextsAreRead, WrittenTypesAreRead};
+ghost use Rattle.vx_sql_parser.specs.Laws.{WrittenDaysAreRead, WrittenDecimalsAreRead, WrittenNamesAreRead, WrittenNumbersAreRead, WrittenTextsAreRead, WrittenTypesAreRead};
 
 /// Each name that `vx_sql` writes for an engine is read back, whatever is in it, and what stands behind
 /// it is no part of it.
@@ -20,4 +20,15 @@ pub fn written_numbers_are_read()
 /// The words of PostgreSQL, DuckDB and ClickHouse for the types of numbers are read as the narrowest type that has their numbers.
 pub fn written_types_are_read()
     ensures { WrittenTypesAreRead }
+{}
+
+/// Each day that `vx_sql` writes is read as its text before the type of days, in each engine that has days.
+pub fn written_days_are_read()
+    ensures { WrittenDaysAreRead }
+{}
+
+/// Each decimal of at most 38 digits that `vx_sql` writes is read as its text before its type, in each engine
+/// that has decimals.
+pub fn written_decimals_are_read()
+    ensures { WrittenDecimalsAreRead }
 {}

@@ -4,6 +4,7 @@
 mod ahead;
 mod calls;
 mod cases;
+mod cast_types;
 mod casts;
 mod comments;
 mod error;
@@ -31,8 +32,8 @@ mod whole;
 
 pub use error::SqlError;
 pub use laws::{
-    written_names_are_read, written_numbers_are_read, written_texts_are_read,
-    written_types_are_read,
+    written_days_are_read, written_decimals_are_read, written_names_are_read,
+    written_numbers_are_read, written_texts_are_read, written_types_are_read,
 };
 pub use reason::Unread;
 pub use source::SqlSource;

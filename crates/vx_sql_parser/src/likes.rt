@@ -56,10 +56,11 @@ fn null_pattern(
         return Err(Stop::Unread(Unread::Pattern));
     }
     match literal_cast(alloc, dialect, tokens, at + 1)? {
-        Some(null) => {
+        Some((null, len)) => {
             let word = like_word(ignores);
             let text = format!(in alloc; "{word}{null}")?;
-            let more = at + 6 + escape_len(tokens, at + 6);
+            let behind = at + 1 + len;
+            let more = behind + escape_len(tokens, behind);
             Ok(stepped(text, Change::Stays, more))
         }
         None => Err(Stop::Unread(Unread::Pattern)),
@@ -68,7 +69,7 @@ fn null_pattern(
 
 // How many tokens say an escape.
 fn escape_len(tokens: &[Lexed], i: usize) -> usize
-    requires { i < 13 }
+    requires { i < 18 }
     ensures len { result ≡ matches.escape_len (lexemes_of tokens.now) i }
     ensures few { result ≤ 2 }
 {

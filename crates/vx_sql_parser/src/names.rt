@@ -7,13 +7,15 @@ ghost use Rattle.vx_sql_parser.specs.Views.{lexemes_of};
 ghost use Rattle.std.specs.List.{list_all};
 
 use crate::ahead::{is_dot_at, text_at};
+use crate::cast_types::CastType;
+use crate::casts::text_of;
 use crate::keywords::is;
 use crate::lexed::Lexed;
 use crate::quotes::QuotedName;
 use crate::reason::Unread;
 use crate::step::{Change, Step, Stop, says, stepped};
 use std::alloc::Global;
-use vx_sql::Dialect;
+use vx_sql::{Dialect, has_days};
 
 // A name, behind which no other stands.
 pub(crate) fn name_rule(alloc: Global, name: &str, behind: &[Lexed]) -> Result<Step, Stop>
@@ -58,7 +60,7 @@ pub(crate) fn sign_of(negative: bool) -> &'static str
     if negative { "-" } else { "" }
 }
 
-// A word before a text: an `X` says that bytes are spelled by it.
+// A word before a text: an `X` says that bytes are spelled by it, and `date` that it is a day.
 pub(crate) fn typed_text(
     alloc: Global,
     dialect: Dialect,
@@ -69,8 +71,23 @@ pub(crate) fn typed_text(
 {
     if has_octets(dialect) && is(word, "x") {
         octets_said(alloc, 1, text_at(behind, 0))
+    } else if has_days(dialect) && is(word, "date") {
+        day_said(alloc, text_at(behind, 0))
     } else {
         Err(Stop::Unread(Unread::TypedText))
+    }
+}
+
+// A day by its text.
+fn day_said(alloc: Global, text: Option<&str>) -> Result<Step, Stop>
+    ensures { Answers result (values.day_said (option_map (λ t. t.now) text.entry)) }
+{
+    match text {
+        Some(text) => {
+            let day = text_of(alloc, text, CastType::Named("date"))?;
+            Ok(stepped(day, Change::Stays, 1))
+        }
+        None => Err(Stop::Unread(Unread::TypedText)),
     }
 }
 

@@ -37,6 +37,7 @@ pub(crate) fn type_named(dialect: Dialect, word: &str) -> Option<&'static str>
                 ("varchar", "utf8"),
                 ("bytea", "binary"),
                 ("boolean", "bool"),
+                ("date", "date"),
             ],
         ),
         Dialect::Sqlite => called(
@@ -65,6 +66,7 @@ pub(crate) fn type_named(dialect: Dialect, word: &str) -> Option<&'static str>
                 ("text", "utf8"),
                 ("blob", "binary"),
                 ("boolean", "bool"),
+                ("date", "date"),
             ],
         ),
         Dialect::Spark => called(
@@ -78,6 +80,7 @@ pub(crate) fn type_named(dialect: Dialect, word: &str) -> Option<&'static str>
                 ("string", "utf8"),
                 ("binary", "binary"),
                 ("boolean", "bool"),
+                ("date", "date"),
             ],
         ),
         Dialect::ClickHouse => called(

@@ -58,7 +58,7 @@ pub fn row(alloc: Global, kinds: &[Kind], seeds: &mut Seeds) -> Result<Vec<Value
 }
 
 /// The statements that make the table and fill it, told without the texts of `vx_sql`. Refuses columns of
-/// types that no engine's table has as we mean them.
+/// decimals, days and instants, of which no expression by chance is.
 pub fn push_table(
     alloc: Global,
     dialect: Dialect,
@@ -140,8 +140,8 @@ fn push_column_type(
     Ok(out.push_str(told.as_str())?)
 }
 
-// No engine's decimals, days and instants are ours, so that no engine is asked about a table of them.
-const NO_COLUMN: Unread = Unread::Word("no engine's table has such a column");
+// No expression by chance is of decimals, days and instants, so that no engine is asked about a table of them.
+const NO_COLUMN: Unread = Unread::Word("the engines' tables have no such column");
 
 fn clickhouse_type(dtype: &DType) -> Result<&'static str, Unread> {
     match dtype {
