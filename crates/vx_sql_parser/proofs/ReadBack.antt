@@ -253,10 +253,10 @@ digit_first d (b ∷ ds) rest h l =
     plain_first d b bs no_comment (no_e b digit) (no_quote b digit)
 
 pub numbers_read : WrittenNumbersAreRead
-numbers_read d n rest small e =
+numbers_read d n rest small e k =
     let s = spelled n small in
     digit_first d (decimal n) rest s.1 s.2
-    ∙ ap (seen d (next (decimal n ++ rest))) (first_number n [] rest small (no_more (next rest) e) (no_x (next rest) e) refl e)
+    ∙ ap (seen d (next (decimal n ++ rest))) (first_number n [] rest small (no_more (next rest) e, k) (no_x (next rest) e) refl e)
 
 -- ---- types
 

@@ -5,7 +5,7 @@ use Rattle.vx_dtype.specs.Types.{Name}
 use Rattle.vx_dtype.specs.declared.dtype.PType.{PType}
 use Rattle.vx_dtype.specs.declared.dtype.PType.TheVariants.{U8, U16, U32, U64, I8, I16, I32, I64}
 use Rattle.vx_source_types.specs.Characters.{is_word}
-use Rattle.vx_source_types.specs.Tokens.{next, quoted, number, text}
+use Rattle.vx_source_types.specs.Tokens.{next, has_point, quoted, number, text}
 use Rattle.vx_sql.specs.declared.dialect.Dialect.{Dialect}
 use Rattle.vx_literals.specs.Days.{civil_at, day_text}
 use Rattle.vx_literals.specs.Decimals.{decimal_text}
@@ -29,9 +29,9 @@ abbrev pub WrittenTextsAreRead : Type 0
 WrittenTextsAreRead = (d : Dialect) (s rest : List ℕ) → IsUtf8 s → (next rest == 39) ≡ false
     → taken_at d (text_sql d s ++ rest) ≡ (let t : Taken = (Some (Ok (text s)), rest) in t)
 
--- so are the digits of a number, before what no word goes on with
+-- so are the digits of a number, before what no word goes on with, nor a point and a digit
 abbrev pub WrittenNumbersAreRead : Type 0
-WrittenNumbersAreRead = (d : Dialect) (n : ℕ) (rest : List ℕ) → n < 2 ^ 64 → is_word (next rest) ≡ false
+WrittenNumbersAreRead = (d : Dialect) (n : ℕ) (rest : List ℕ) → n < 2 ^ 64 → is_word (next rest) ≡ false → has_point rest ≡ false
     → taken_at d (decimal n ++ rest) ≡ (let t : Taken = (Some (Ok (number false (Some n) [])), rest) in t)
 
 -- the type of numbers that is read of PostgreSQL's word for one: the one that has all of its numbers

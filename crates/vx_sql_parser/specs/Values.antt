@@ -5,7 +5,7 @@ use Rattle.std.specs.List.{list_all}
 use Rattle.vx_source_types.specs.Characters.{is_word}
 use Rattle.vx_source_types.specs.Names.{same_word}
 use Rattle.vx_dtype.specs.Quotes.{between_quotes}
-use Rattle.vx_source_types.specs.Tokens.{Lexeme, word, quoted, number, text}
+use Rattle.vx_source_types.specs.Tokens.{Lexeme, word, quoted, number, point, text}
 use Rattle.vx_sql.specs.declared.dialect.Dialect.{Dialect}
 use Rattle.vx_sql.specs.declared.dialect.Dialect.TheVariants.{Postgres, Sqlite, DuckDb, Spark, ClickHouse}
 use Rattle.vx_sql.specs.Dialects.{has_days}
@@ -126,9 +126,15 @@ has_texts (decimals p s) = true
 abbrev pub text_literal : Dialect → List ℕ → CastType → Option (List ℕ)
 text_literal d s t = if is_bytes_type d t then digits_said (escape_digits s) else (if has_texts t then Some (text_of t s) else None)
 
+-- a number with a point as one of that type, which is one of decimals
+abbrev pub point_literal : List ℕ → CastType → Option (List ℕ)
+point_literal s (named t) = None
+point_literal s (decimals p k) = Some (s ++ (codes "::" ++ type_source (decimals p k)))
+
 -- the literal that a token is as one of that type
 abbrev pub typed_literal : Dialect → Option Lexeme → CastType → Option (List ℕ)
 typed_literal d (Some (number negative (Some n) s)) t = typed_number d (sign_source negative) n t
+typed_literal d (Some (point s)) t = point_literal s t
 typed_literal d (Some (word a)) t = if same_word a (codes "null") then Some (typed_null t) else None
 typed_literal d (Some (text s)) t = text_literal d s t
 typed_literal d _ t = None
@@ -198,6 +204,7 @@ valued_rule d w xs = if opens (sign_at xs 0) then call_rule d w xs else typed_te
 abbrev pub is_value : SqlLexeme → Bool
 is_value (Ok (text s)) = true
 is_value (Ok (number negative m s)) = true
+is_value (Ok (point s)) = true
 is_value (Ok (word a)) = is_truth a
 is_value _ = false
 

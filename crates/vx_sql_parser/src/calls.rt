@@ -134,7 +134,7 @@ fn is_value(token: &Lexed) -> bool
     ensures { result ≡ values.is_value (lexeme_in token.now) }
 {
     match &token.token {
-        Ok(Token::Text(_)) | Ok(Token::Number { .. }) => true,
+        Ok(Token::Text(_)) | Ok(Token::Number { .. }) | Ok(Token::Point(_)) => true,
         Ok(Token::Word(word)) => is_truth(word.as_str()),
         _ => false,
     }

@@ -74,11 +74,26 @@ fn typed_literal(
                 ..
             },
         ) => typed_number(alloc, dialect, sign_of(*negative), *n, dtype),
+        Some(Token::Point(digits)) => point_literal(alloc, digits.as_str(), dtype),
         Some(Token::Word(null)) if is(null.as_str(), "null") => {
             Ok(Some(format!(in alloc; "null::{dtype}?")?))
         }
         Some(Token::Text(text)) => text_literal(alloc, dialect, text.as_str(), dtype),
         _ => Ok(None),
+    }
+}
+
+// A number with a point as one of that type, which is one of decimals.
+fn point_literal(
+    alloc: Global,
+    digits: &str,
+    dtype: CastType,
+) -> Result<Option<String>, AllocError>
+    ensures { IfOk result (λ t. option_map string_bytes t ≡ values.point_literal digits.now (cast_type_of dtype)) }
+{
+    match dtype {
+        CastType::Named(_) => Ok(None),
+        CastType::Decimals(..) => Ok(Some(format!(in alloc; "{digits}::{dtype}")?)),
     }
 }
 
