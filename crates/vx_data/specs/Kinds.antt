@@ -129,11 +129,11 @@ cell_kind told s = if bytes_eq s (codes "true") || bytes_eq s (codes "false") th
 
 -- ---- the type of a kind
 
--- the type of whole numbers, and of decimals with so many digits behind the point
+-- the narrowest type of whole numbers
 abbrev whole_type : Bool → Bool → Atomic
 whole_type signed unsigned = if signed then number I64 else if unsigned then number U64 else text
 
--- the narrowest type of numbers
+-- the narrowest type of numbers, of which each with a point has so many digits behind it
 abbrev pub numbers_type : Bool → Bool → Option ℕ → Atomic
 numbers_type signed unsigned None = whole_type signed unsigned
 numbers_type signed unsigned (Some p) = if nat_le p 38 then decimals 38 p else text

@@ -25,6 +25,7 @@ use vx_types::{DType, DecimalType, Nullability, PType, TimeUnit, TimestampType, 
 /// The kinds that are told of texts, and their types.
 #[derive(Debug, Drop)]
 pub struct Kinds {
+    /// Whether numbers with a point are told from texts.
     pub decimals: bool,
     instant: DType,
     fine_instant: DType,
