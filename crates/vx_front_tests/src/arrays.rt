@@ -42,7 +42,11 @@ fn days_one_after_another_are_shown(rt: HostRuntime) -> VortexResult<()> {
     let alloc = rt.alloc();
     let first = some_days(alloc)?;
     let dtype = first.dtype().clone()?;
-    let all = concat(alloc, &dtype, &[first, some_days(alloc)?, some_days(alloc)?])?;
+    let all = concat(
+        alloc,
+        &dtype,
+        &[first, some_days(alloc)?, some_days(alloc)?],
+    )?;
     let page = format!(in alloc; "{all}")?;
     assert_eq!(rt;
         page.as_str(),
@@ -60,10 +64,7 @@ fn instants_are_shown(rt: HostRuntime) -> VortexResult<()> {
     };
     let found = instants(alloc, seconds, vec![in alloc; -1i64, 4294967296]?, None)?;
     let page = format!(in alloc; "{found}")?;
-    assert_eq!(rt;
-        page.as_str(),
-        "[1969-12-31T23:59:59, 2106-02-07T06:28:16]"
-    );
+    assert_eq!(rt; page.as_str(), "[1969-12-31T23:59:59, 2106-02-07T06:28:16]");
     Ok(())
 }
 

@@ -6,13 +6,13 @@ use Rattle.vx_dtype.specs.Fields.{fields_named}
 use Rattle.vx_dtype.specs.Types.{is_nullable}
 use Rattle.vx_value.specs.Fields.{field_count}
 use Rattle.vx_value.specs.StructColumns.{row_at, rows_in, types_in}
-use Rattle.vx_value.specs.Types.{ty, atomic, truth, number, struct, bool, int, null}
+use Rattle.vx_value.specs.Types.{ty, atomic, truth, struct, shape_of, bool, null}
 use Rattle.vx_value.specs.Views.{admits_null, fields_of, names_of, type_of}
 use Rattle.vx_array_build.specs.Built.{column_by, structs_by}
-use Rattle.vx_data_buffers.specs.Arrays.{AreBits, AreNumbers, HaveFields, IsColumn, Tells}
+use Rattle.vx_data_buffers.specs.Arrays.{AreBits, HasNumbers, HaveFields, IsColumn, Tells, if_nullable}
 use Rattle.vx_data_buffers.specs.Bytes.{bytes_in}
 use Rattle.vx_data_buffers.specs.Layout.{buffer_count, field_buffer_count, fields_at}
-use Rattle.vx_data_buffers.proofs.Columns.{found_so, numbers_read, row_grown, structs_read, truths_read, types_grown, view_taken}
+use Rattle.vx_data_buffers.proofs.Columns.{as_shape, found_so, numbers_read, row_grown, structs_read, truths_read, types_grown, view_taken}
 use Rattle.vx_data_buffers.proofs.Fields.{count_next, field_more}
 use Rattle.vx_data_buffers.proofs.array.+array.Goals as goal
 
@@ -29,19 +29,20 @@ array_at-returns-in-Bool t c =
     (subst (IsColumn bs (ty (atomic truth) n) c.args.at c.args.rows) (sym (h.2 ∙ ap (λ w. column_by (atomic truth) w (map bool h.0)) c.if_nullable-validity.ensures))
     (truths_read bs c.args.at c.args.rows n v h.0 tells (subst (λ b. AreBits b c.args.rows h.0) c.bytes_at.ensures h.1)))) c.truths_in.ensures
 
-pub array_at-returns-in-Primitive : goal.array_at-returns-in-Primitive
-array_at-returns-in-Primitive t c =
+pub array_at-returns-in_default : goal.array_at-returns-in_default
+array_at-returns-in_default t c =
     let bs = bytes_in c.args.buffers.now in
     let n = c.is_nullable-is_nullable.result in
     let v = c.in-Some.validity in
-    let p = c.in-Primitive.ptype in
-    let kind : type_of c.args.t.now ≡ ty (atomic (number p)) (admits_null c.in-Primitive.field-1) = rw c.in-Primitive.is (search (rules, the_types)) in
-    let typed : type_of c.args.t.now ≡ ty (atomic (number p)) n = kind ∙ ap (ty (atomic (number p))) (sym (c.is_nullable-is_nullable.ensures ∙ ap is_nullable kind)) in
+    let s = shape_of (type_of c.args.t.now) in
+    let bytes = c.bytes_at-in_default in
+    let typed : type_of c.args.t.now ≡ ty s n = as_shape (type_of c.args.t.now) ∙ ap (ty s) (sym c.is_nullable-is_nullable.ensures) in
     let tells : Tells bs c.args.at c.args.rows n v = subst (λ found. IfSome found (Tells bs c.args.at c.args.rows n)) c.in-Some.is c.in_ok-validity.ensures in
     found_so c.numbers_in.result
-    (λ a h. subst (λ s. IsColumn bs s c.args.at c.args.rows a) (sym typed)
-    (subst (IsColumn bs (ty (atomic (number p)) n) c.args.at c.args.rows) (sym (h.2 ∙ ap (λ w. column_by (atomic (number p)) w (map int h.0)) c.if_nullable-validity.ensures))
-    (numbers_read bs p c.args.at c.args.rows n v h.0 tells (subst (λ b. AreNumbers p b c.args.rows h.0) c.bytes_at-in-Primitive.ensures h.1)))) c.numbers_in.ensures
+    (λ a h. subst (λ u. IsColumn bs u c.args.at c.args.rows a) (sym typed)
+    (numbers_read bs s c.args.at c.args.rows n v a tells
+    (subst (λ b. HasNumbers b s c.args.rows (if_nullable n v) a) bytes.ensures
+    (subst (λ w. HasNumbers bytes.result.now s c.args.rows w a) c.if_nullable-validity.ensures h)))) c.numbers_in.ensures
 
 pub array_at-returns-in-Some-2 : goal.array_at-returns-in-Some-2
 array_at-returns-in-Some-2 t c =
