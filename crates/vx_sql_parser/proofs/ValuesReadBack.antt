@@ -182,7 +182,7 @@ cast_end d p s = codes " AS " ++ (decimal_word d ++ 40 ∷ (decimal p ++ 44 ∷ 
 
 sized_goes : (d : Dialect) (p s : ℕ) → p ≤ 38 → s ≤ 38
     → sql_tokens d 0 (40 ∷ (decimal p ++ 44 ∷ 32 ∷ (decimal s ++ 41 ∷ 41 ∷ [])))
-        ≡ Ok (sign OpenParen) ∷ Ok (number false (Some p) []) ∷ Ok (sign Comma) ∷ Ok (number false (Some s) []) ∷ Ok (sign CloseParen) ∷ Ok (sign CloseParen) ∷ []
+    ≡ Ok (sign OpenParen) ∷ Ok (number false (Some p) []) ∷ Ok (sign Comma) ∷ Ok (number false (Some s) []) ∷ Ok (sign CloseParen) ∷ Ok (sign CloseParen) ∷ []
 sized_goes d p s h k =
     let second : List ℕ = decimal s ++ 41 ∷ 41 ∷ [] in
     let ends = number_goes d s (41 ∷ 41 ∷ []) (omega arith) refl ∙ ap (λ xs. Ok (number false (Some s) []) ∷ xs) (closing_goes d (41 ∷ []) ∙ ap (λ xs. Ok (sign CloseParen) ∷ xs) (closing_goes d [])) in
@@ -219,8 +219,8 @@ in_order : (d : Dialect) (t : List ℕ) (p s : ℕ) → codes "CAST('" ++ (t ++ 
 in_order d t p s =
     ap (λ xs. codes "CAST('" ++ (t ++ (codes "' AS " ++ xs)))
     (
-      append_assoc (decimal_word d) _ (41 ∷ [])
-      ∙ ap (λ xs. decimal_word d ++ 40 ∷ xs) (append_assoc (decimal p) _ (41 ∷ []) ∙ ap (λ xs. decimal p ++ 44 ∷ 32 ∷ xs) (append_assoc (decimal s) (41 ∷ []) (41 ∷ [])))
+    append_assoc (decimal_word d) _ (41 ∷ [])
+    ∙ ap (λ xs. decimal_word d ++ 40 ∷ xs) (append_assoc (decimal p) _ (41 ∷ []) ∙ ap (λ xs. decimal p ++ 44 ∷ 32 ∷ xs) (append_assoc (decimal s) (41 ∷ []) (41 ∷ [])))
     )
 
 abbrev cast_tokens : Dialect → List ℕ → ℕ → ℕ → List SqlLexeme
