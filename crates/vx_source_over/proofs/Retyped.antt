@@ -12,7 +12,7 @@ use Rattle.vx_source_types.specs.Untyped.{has_texts, point_read, typed_value}
 use Rattle.vx_source_types.specs.ValueReading.{Drafted, drafted, pointed}
 use Rattle.vx_source_types.specs.declared.expectation.Expected.{Expected}
 use Rattle.vx_source_over.specs.Peers.{is_peer, has_type_of_peers, open_scalar, child_at, is_open, are_open}
-use Rattle.vx_source_over.specs.Settling.{Refusal, when_settled, read_as, fitted, as_alone, literal_as, unless, first_or, first_type, node_of, settled, owned, rest, wished, read_over, written}
+use Rattle.vx_source_over.specs.Settling.{Refusal, when_settled, read_as, fitted, as_alone, literal_as, unless, first_or, first_type, node_of, settled, owned, rest, wished, read_over, written, written_as}
 use Rattle.vx_source_over.specs.Laws.{IsValueAs, value_before, IsRetyped, same_root, other_type, same_node, AreRetyped, no_more, one_more, TypesAloneChange, OtherValuesStay}
 use Rattle.vx_source_over.proofs.Steps.{settled_parts}
 
@@ -257,9 +257,9 @@ no_point i k octets n h = refl
 none_as : (w : Datum) (o : Option Datum) → o ≡ None → o ≡ Some w → ⊥
 none_as w o h k = cc
 
-its_value : (c : Constant) (v : Datum) (names : List Name) → written c ≡ drafted v names → v ≡ c.value
-its_value (constant (ty (atomic (decimals p k)) n) (int i)) v names e = cc
-its_value _ v names e = cc
+its_value : (t : LogicalType) (v x : Datum) (names : List Name) → written_as t v ≡ drafted x names → x ≡ v
+its_value (ty (atomic (decimals p k)) n) (int i) x names e = cc
+its_value t v x names e = cc
 
 -- what was written of a scalar is its value, or a number with a point
 written_so : (c : Constant) (w : Datum) (a : Atomic) (n : Bool) → has_texts (ty (atomic a) n) ≡ false → value_before (written c) (ty (atomic a) n) ≡ Some w → w ≡ c.value
@@ -267,7 +267,7 @@ written_so c w a n h q = go (written c) refl q
   where
     go : (d : Drafted) → written c ≡ d → value_before d (ty (atomic a) n) ≡ Some w → w ≡ c.value
     go (pointed i k) e q = absurd (none_as w _ (no_point i k a n h) q)
-    go (drafted v names) e q = stays_as v w _ (same_before v a n h) q ∙ its_value c v names e
+    go (drafted v names) e q = stays_as v w _ (same_before v a n h) q ∙ its_value c.type c.value v names e
 
 pub other_values_stay : OtherValuesStay
 other_values_stay c w a n h is = written_so c w a n h is.0
