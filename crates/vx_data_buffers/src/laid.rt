@@ -34,12 +34,13 @@ pub fn buffers_of(alloc: Global, array: &Array) -> Result<Vec<Vec<u8>>, LayoutEr
 fn laid_at_once(alloc: Global, array: &Array) -> Result<Option<Vec<Vec<u8>>>, AllocError>
     ensures { IfOk result (λ found. IfSome found (λ buffers. AreBuffersOf array.now (lists_in buffers.items))) }
 {
-    match (array.dtype(), array.lanes()) {
-        (DType::Bool(_), Lanes::Bools(bits, validity)) if is_whole(validity, bits.len()) => {
-            Ok(Some(truths_laid(alloc, bits, validity)?))
-        }
-        (dtype, Lanes::Numbers(numbers, validity)) if is_whole(validity, numbers.len()) => {
-            numbers_laid(alloc, dtype, numbers, validity)
+    match array.lanes() {
+        Lanes::Bools(bits, validity) if is_whole(validity, bits.len()) => match array.dtype() {
+            DType::Bool(_) => Ok(Some(truths_laid(alloc, bits, validity)?)),
+            _ => Ok(None),
+        },
+        Lanes::Numbers(numbers, validity) if is_whole(validity, numbers.len()) => {
+            numbers_laid(alloc, array.dtype(), numbers, validity)
         }
         _ => Ok(None),
     }

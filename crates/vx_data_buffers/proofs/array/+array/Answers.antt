@@ -29,13 +29,13 @@ array_at-returns-in-Bool t c =
     (subst (IsColumn bs (ty (atomic truth) n) c.args.at c.args.rows) (sym (h.2 ∙ ap (λ w. column_by (atomic truth) w (map bool h.0)) c.if_nullable-validity.ensures))
     (truths_read bs c.args.at c.args.rows n v h.0 tells (subst (λ b. AreBits b c.args.rows h.0) c.bytes_at.ensures h.1)))) c.truths_in.ensures
 
-pub array_at-returns-in_default : goal.array_at-returns-in_default
-array_at-returns-in_default t c =
+pub array_at-returns-in_default-t : goal.array_at-returns-in_default-t
+array_at-returns-in_default-t t c =
     let bs = bytes_in c.args.buffers.now in
     let n = c.is_nullable-is_nullable.result in
     let v = c.in-Some.validity in
     let s = shape_of (type_of c.args.t.now) in
-    let bytes = c.bytes_at-in_default in
+    let bytes = c.bytes_at-in_default-t in
     let typed : type_of c.args.t.now ≡ ty s n = as_shape (type_of c.args.t.now) ∙ ap (ty s) (sym c.is_nullable-is_nullable.ensures) in
     let tells : Tells bs c.args.at c.args.rows n v = subst (λ found. IfSome found (Tells bs c.args.at c.args.rows n)) c.in-Some.is c.in_ok-validity.ensures in
     found_so c.numbers_in.result
