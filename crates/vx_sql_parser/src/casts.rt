@@ -84,11 +84,7 @@ fn typed_literal(
 }
 
 // A number with a point as one of that type, which is one of decimals.
-fn point_literal(
-    alloc: Global,
-    digits: &str,
-    dtype: CastType,
-) -> Result<Option<String>, AllocError>
+fn point_literal(alloc: Global, digits: &str, dtype: CastType) -> Result<Option<String>, AllocError>
     ensures { IfOk result (λ t. option_map string_bytes t ≡ values.point_literal digits.now (cast_type_of dtype)) }
 {
     match dtype {

@@ -17,7 +17,7 @@ pub enum Unread {
     #[error("names don't stand between these quotes in this engine")]
     NameQuote,
     /// A number with an exponent or a word behind it, or a whole one from 2^64 on.
-    #[error("whole numbers below 2^64 and numbers with one point are read, with no exponent and no word behind")]
+    #[error("whole numbers below 2^64 are read, and numbers with one point where the engine has decimals, with no exponent and no word behind")]
     Number,
     /// Bytes that aren't spelled by hexadecimal digits.
     #[error("bytes are spelled by hexadecimal digits")]
