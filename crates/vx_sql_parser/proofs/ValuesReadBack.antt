@@ -19,7 +19,7 @@ use Rattle.vx_literals.specs.Days.{Civil, civil_at, civil_text, day_or_number, d
 use Rattle.vx_literals.specs.Decimals.{decimal_text, point_text, sign_text}
 use Rattle.vx_literals.specs.Digits.{last_digits}
 use Rattle.vx_source_types.specs.Characters.{is_word}
-use Rattle.vx_source_types.specs.Tokens.{next, first, word, number, text, sign}
+use Rattle.vx_source_types.specs.Tokens.{next, has_point, first, word, number, text, sign}
 use Rattle.vx_source_types.specs.declared.token.Sign.TheVariants.{OpenParen, CloseParen, Comma}
 use Rattle.vx_source_types.proofs.FirstNumbers.{spelled}
 use Rattle.vx_source_types.proofs.FirstSigns.{first_open_paren, first_close_paren, first_comma}
@@ -154,8 +154,8 @@ closing_goes d rest = goes_on d (41 ∷ []) rest (Some (Ok (sign CloseParen))) (
 comma_goes : (d : Dialect) (rest : List ℕ) → sql_tokens d 0 (44 ∷ rest) ≡ Ok (sign Comma) ∷ sql_tokens d 0 rest
 comma_goes d rest = goes_on d (44 ∷ []) rest (Some (Ok (sign Comma))) (omega arith) (plain_first d 44 rest refl refl refl ∙ ap (seen d 44) (first_comma rest))
 
-number_goes : (d : Dialect) (n : ℕ) (rest : List ℕ) → n < 2 ^ 64 → is_word (next rest) ≡ false → sql_tokens d 0 (decimal n ++ rest) ≡ Ok (number false (Some n) []) ∷ sql_tokens d 0 rest
-number_goes d n rest small e = goes_on d (decimal n) rest (Some (Ok (number false (Some n) []))) (spelled n small).2 (numbers_read d n rest small e)
+number_goes : (d : Dialect) (n : ℕ) (rest : List ℕ) → n < 2 ^ 64 → is_word (next rest) ≡ false → has_point rest ≡ false → sql_tokens d 0 (decimal n ++ rest) ≡ Ok (number false (Some n) []) ∷ sql_tokens d 0 rest
+number_goes d n rest small e k = goes_on d (decimal n) rest (Some (Ok (number false (Some n) []))) (spelled n small).2 (numbers_read d n rest small e k)
 
 -- ---- days
 
@@ -185,10 +185,10 @@ sized_goes : (d : Dialect) (p s : ℕ) → p ≤ 38 → s ≤ 38
     ≡ Ok (sign OpenParen) ∷ Ok (number false (Some p) []) ∷ Ok (sign Comma) ∷ Ok (number false (Some s) []) ∷ Ok (sign CloseParen) ∷ Ok (sign CloseParen) ∷ []
 sized_goes d p s h k =
     let second : List ℕ = decimal s ++ 41 ∷ 41 ∷ [] in
-    let ends = number_goes d s (41 ∷ 41 ∷ []) (omega arith) refl ∙ ap (λ xs. Ok (number false (Some s) []) ∷ xs) (closing_goes d (41 ∷ []) ∙ ap (λ xs. Ok (sign CloseParen) ∷ xs) (closing_goes d [])) in
+    let ends = number_goes d s (41 ∷ 41 ∷ []) (omega arith) refl refl ∙ ap (λ xs. Ok (number false (Some s) []) ∷ xs) (closing_goes d (41 ∷ []) ∙ ap (λ xs. Ok (sign CloseParen) ∷ xs) (closing_goes d [])) in
     let amid = comma_goes d (32 ∷ second) ∙ ap (λ xs. Ok (sign Comma) ∷ xs) (blank_goes d second ∙ ends) in
     opening_goes d (decimal p ++ 44 ∷ 32 ∷ second)
-    ∙ ap (λ xs. Ok (sign OpenParen) ∷ xs) (number_goes d p (44 ∷ 32 ∷ second) (omega arith) refl ∙ ap (λ xs. Ok (number false (Some p) []) ∷ xs) amid)
+    ∙ ap (λ xs. Ok (sign OpenParen) ∷ xs) (number_goes d p (44 ∷ 32 ∷ second) (omega arith) refl refl ∙ ap (λ xs. Ok (number false (Some p) []) ∷ xs) amid)
 
 as_goes : (d : Dialect) (rest : List ℕ) → sql_tokens d 0 (codes " AS " ++ rest) ≡ Ok (word (folded d (codes "AS"))) ∷ sql_tokens d 0 rest
 as_goes d rest =
