@@ -82,7 +82,14 @@ fn unsettled(alloc: Global, error: OverError) -> CommandError
             dtype,
         } => {
             let span = Span { start, end };
-            match Box::new(alloc, UnfitLiteral { span, scalar, dtype }) {
+            match Box::new(
+                alloc,
+                UnfitLiteral {
+                    span,
+                    scalar,
+                    dtype,
+                },
+            ) {
                 Ok(literal) => CommandError::Unfit(literal),
                 Err(_) => CommandError::OutOfMemory,
             }

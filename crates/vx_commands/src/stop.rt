@@ -158,9 +158,12 @@ impl StopMessage<'_> {
     // What takes numbers with a point as such, unless it is given.
     fn write_decimals<W: Write>(&self, f: &mut Formatter<W>) -> fmt::Result {
         match self.schema {
-            Schema::Guessed(Guess {
-                decimals: false, ..
-            }) => f.write_str(": --decimals takes those with a point as decimals"),
+            Schema::Guessed(
+                Guess {
+                    decimals: false,
+                    ..
+                },
+            ) => f.write_str(": --decimals takes those with a point as decimals"),
             _ => Ok(()),
         }
     }
