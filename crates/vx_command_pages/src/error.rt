@@ -20,7 +20,7 @@ pub struct UnfitLiteral {
 }
 
 /// Why a command prints no page.
-#[derive(Debug, Drop)]
+#[derive(Debug)]
 pub enum CommandError {
     /// Memory ran out.
     OutOfMemory,
@@ -43,6 +43,25 @@ pub enum CommandError {
         refusal: VortexError,
         remedy: Option<Remedy>,
     },
+}
+
+impl Drop for CommandError {
+    fn drop(self) {
+        match self {
+            CommandError::Unfit(literal) => drop(literal),
+            CommandError::Refused {
+                span: _,
+                refusal,
+                remedy,
+            } => {
+                drop(refusal);
+                drop(remedy);
+            }
+            CommandError::OutOfMemory
+            | CommandError::UnreadExpression { at: _, expected: _ }
+            | CommandError::UnreadSchema { at: _, expected: _ } => {}
+        }
+    }
 }
 
 impl CommandError {

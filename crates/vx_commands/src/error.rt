@@ -11,7 +11,7 @@ use vx_records::RecordsError;
 use vx_types::DType;
 
 /// Why a command doesn't go over all records.
-#[derive(Debug, Drop)]
+#[derive(Debug)]
 pub enum RowsError {
     /// The expression or the schema can't be read, the expression is refused, or memory ran out.
     Query(CommandError),
@@ -20,6 +20,16 @@ pub enum RowsError {
     /// Going over the records stopped; of a fault, at the node that was read from those bytes of the
     /// expression.
     Records { error: RecordsError, span: Span },
+}
+
+impl Drop for RowsError {
+    fn drop(self) {
+        match self {
+            RowsError::Query(error) => drop(error),
+            RowsError::NotBool(dtype) => drop(dtype),
+            RowsError::Records { error, span: _ } => drop(error),
+        }
+    }
 }
 
 impl RowsError {

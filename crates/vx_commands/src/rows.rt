@@ -293,21 +293,35 @@ fn inferred<D: Source>(
     };
     match read_over(alloc, written, &scope) {
         Ok(placed) => Ok((ReadQuery { placed, scope }, read)),
-        Err(CommandError::Unfit(literal)) => {
+        Err(error) => {
             let records = GuessedRecords {
                 format: command.format,
                 dtype: scope,
                 limit: guess.records,
                 data: Cursor::new(read).chain(data),
             };
-            let texts = number_texts(alloc, command.expression.text, &literal, records);
-            let error = RowsError::Query(CommandError::Unfit(literal));
-            Err(match texts {
-                Some(texts) => Stop::Numbers(error, texts),
-                None => Stop::Rows(error),
-            })
+            Err(unread_over(alloc, command.expression.text, error, records))
         }
-        Err(error) => Err(Stop::from(error)),
+    }
+}
+
+// Why the text isn't read over the type of the records: also the column of number texts that a literal stands beside.
+fn unread_over<D: Read + Drop>(
+    alloc: Global,
+    text: &str,
+    error: CommandError,
+    records: GuessedRecords<'_, D>,
+) -> Stop {
+    let texts = match &error {
+        CommandError::Unfit(literal) => number_texts(alloc, text, literal, records),
+        _ => {
+            drop(records);
+            None
+        }
+    };
+    match texts {
+        Some(texts) => Stop::Numbers(RowsError::Query(error), texts),
+        None => Stop::from(error),
     }
 }
 
