@@ -5,9 +5,11 @@ use Rattle.std.proofs.Common.{ap}
 use base.Stored.{Gv, gnil, gnum, gcons}
 use Rattle.vx_dtype.specs.declared.dtype.PType.{PType}
 use Rattle.vx_dtype.specs.declared.dtype.PType.TheVariants.{U8, U16, U32, U64, I8, I16, I32, I64}
+use Rattle.vx_dtype.specs.declared.float_type.FloatType.{FloatType}
+use Rattle.vx_dtype.specs.declared.float_type.FloatType.TheVariants.{F32, F64}
 use Rattle.vx_dtype.specs.declared.timestamp_type.TimeUnit.{TimeUnit}
 use Rattle.vx_dtype.specs.declared.timestamp_type.TimeUnit.TheVariants.{Seconds, Milliseconds, Microseconds, Nanoseconds}
-use Rattle.vx_dtype.specs.Types.{Name, ptype_index, unit_index, Atomic, truth, number, decimals, date, timestamp, text, octets, LogicalType, ty, Shape, atomic, list, fixed, struct, Fields, no_field, field}
+use Rattle.vx_dtype.specs.Types.{Name, ptype_index, float_type_index, unit_index, Atomic, truth, number, floating, decimals, date, timestamp, text, octets, LogicalType, ty, Shape, atomic, list, fixed, struct, Fields, no_field, field}
 
 -- a name, by its bytes
 abbrev pub name_code : Coded Name
@@ -25,6 +27,12 @@ inj_ptype I32 I32 h = refl
 inj_ptype I64 I64 h = refl
 inj_ptype _ _ h = cc
 
+-- formats at one place are the same
+inj_float_type : (f g : FloatType) → float_type_index f ≡ float_type_index g → f ≡ g
+inj_float_type F32 F32 h = refl
+inj_float_type F64 F64 h = refl
+inj_float_type _ _ h = cc
+
 -- units at one place are the same
 inj_unit : (u v : TimeUnit) → unit_index u ≡ unit_index v → u ≡ v
 inj_unit Seconds Seconds h = refl
@@ -41,6 +49,7 @@ zone_code = coded_option name_code
 abbrev code_atomic : Atomic → Gv
 code_atomic truth = gcons (gnum 0) gnil
 code_atomic (number p) = gcons (gnum 1) (gnum (ptype_index p))
+code_atomic (floating f) = gcons (gnum 7) (gnum (float_type_index f))
 code_atomic (decimals p s) = gcons (gnum 4) (gcons (gnum p) (gnum s))
 code_atomic date = gcons (gnum 5) gnil
 code_atomic (timestamp u z) = gcons (gnum 6) (gcons (gnum (unit_index u)) (zone_code.code z))
@@ -51,6 +60,7 @@ code_atomic octets = gcons (gnum 3) gnil
 inj_atomic : (p q : Atomic) → code_atomic p ≡ code_atomic q → p ≡ q
 inj_atomic truth truth h = refl
 inj_atomic (number p) (number q) h = ap number (inj_ptype p q cc)
+inj_atomic (floating f) (floating g) h = ap floating (inj_float_type f g cc)
 inj_atomic (decimals p s) (decimals q r) h = cc
 inj_atomic date date h = refl
 inj_atomic (timestamp u z) (timestamp v y) h = let a = inj_unit u v cc in let b = zone_code.inj z y cc in cc

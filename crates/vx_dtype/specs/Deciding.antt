@@ -11,9 +11,11 @@ use Rattle.std.proofs.lemmas.Slice.Eq.{bytes_eq-Decides}
 use Rattle.std.proofs.lemmas.Bool.Decides.{Decides-eqb, Decides-and, Decides-like, same_from_decides}
 use Rattle.vx_dtype.specs.declared.dtype.PType.{PType}
 use Rattle.vx_dtype.specs.declared.dtype.PType.TheVariants.{U8, U16, U32, U64, I8, I16, I32, I64}
+use Rattle.vx_dtype.specs.declared.float_type.FloatType.{FloatType}
+use Rattle.vx_dtype.specs.declared.float_type.FloatType.TheVariants.{F32, F64}
 use Rattle.vx_dtype.specs.declared.timestamp_type.TimeUnit.{TimeUnit}
 use Rattle.vx_dtype.specs.declared.timestamp_type.TimeUnit.TheVariants.{Seconds, Milliseconds, Microseconds, Nanoseconds}
-use Rattle.vx_dtype.specs.Types.{Name, same_ptype, same_unit, same_zone, Atomic, truth, number, decimals, date, timestamp, text, octets, same_atomic, LogicalType, ty, Shape, atomic, list, fixed, struct, Fields, no_field, field}
+use Rattle.vx_dtype.specs.Types.{Name, same_ptype, same_float_type, same_unit, same_zone, Atomic, truth, number, floating, decimals, date, timestamp, text, octets, same_atomic, LogicalType, ty, Shape, atomic, list, fixed, struct, Fields, no_field, field}
 use Rattle.vx_dtype.specs.Equality.{equal_type, equal_shape, equal_fields}
 use Rattle.vx_dtype.specs.Hashes.{type_fed, fields_fed}
 
@@ -47,6 +49,12 @@ same_ptype-Decides I32 I32 = itself
 same_ptype-Decides I64 I64 = itself
 same_ptype-Decides _ _ = apart (λ e. cc)
 
+-- the test says whether two formats are the same
+pub same_float_type-Decides : (f g : FloatType) → Decides (same_float_type f g) (f ≡ g)
+same_float_type-Decides F32 F32 = itself
+same_float_type-Decides F64 F64 = itself
+same_float_type-Decides _ _ = apart (λ e. cc)
+
 -- the test says whether two units are the same
 pub same_unit-Decides : (u v : TimeUnit) → Decides (same_unit u v) (u ≡ v)
 same_unit-Decides Seconds Seconds = itself
@@ -66,6 +74,7 @@ same_zone-Decides (Some a) None = apart (λ e. cc)
 pub same_atomic-Decides : (p q : Atomic) → Decides (same_atomic p q) (p ≡ q)
 same_atomic-Decides truth truth = itself
 same_atomic-Decides (number p) (number q) = Decides-like _ (λ e. ap number e) (λ e. cc) (same_ptype-Decides p q)
+same_atomic-Decides (floating f) (floating g) = Decides-like _ (λ e. ap floating e) (λ e. cc) (same_float_type-Decides f g)
 same_atomic-Decides (decimals p s) (decimals q r) = Decides-like _ (λ e. cc) (λ e. (cc, cc)) (Decides-and _ _ (Decides-eqb p q) (Decides-eqb s r))
 same_atomic-Decides date date = itself
 same_atomic-Decides (timestamp u z) (timestamp v y) = Decides-like _ (λ e. cc) (λ e. (cc, cc)) (Decides-and _ _ (same_unit-Decides u v) (same_zone-Decides z y))

@@ -2,7 +2,7 @@
 use Rattle.std.specs.Prelude.{◌++◌, Option, Some, None}
 use Rattle.std.specs.Hash.{HashWrites}
 use Rattle.std.specs.Hash as fed
-use Rattle.vx_dtype.specs.Types.{Name, ptype_index, unit_index, Atomic, truth, number, decimals, date, timestamp, text, octets, LogicalType, ty, Shape, atomic, list, fixed, struct, Fields, no_field, field}
+use Rattle.vx_dtype.specs.Types.{Name, ptype_index, float_type_index, unit_index, Atomic, truth, number, floating, decimals, date, timestamp, text, octets, LogicalType, ty, Shape, atomic, list, fixed, struct, Fields, no_field, field}
 
 -- a zone is hashed as whether there is one, and its name
 abbrev pub zone_fed : Option Name → HashWrites
@@ -13,6 +13,7 @@ zone_fed (Some a) = fed.u8 1 ++ fed.str a
 abbrev pub atomic_fed : Atomic → HashWrites
 atomic_fed truth = fed.u8 0
 atomic_fed (number p) = fed.u8 1 ++ fed.u8 (ptype_index p)
+atomic_fed (floating f) = fed.u8 10 ++ fed.u8 (float_type_index f)
 atomic_fed (decimals p s) = fed.u8 7 ++ (fed.u8 p ++ fed.u8 s)
 atomic_fed date = fed.u8 8
 atomic_fed (timestamp u z) = fed.u8 9 ++ (fed.u8 (unit_index u) ++ zone_fed z)

@@ -4,10 +4,12 @@ use Rattle.std.specs.Fmt.{decimal}
 use Rattle.std.specs.List.{join_by}
 use Rattle.vx_dtype.specs.declared.dtype.PType.{PType}
 use Rattle.vx_dtype.specs.declared.dtype.PType.TheVariants.{U8, U16, U32, U64, I8, I16, I32, I64}
+use Rattle.vx_dtype.specs.declared.float_type.FloatType.{FloatType}
+use Rattle.vx_dtype.specs.declared.float_type.FloatType.TheVariants.{F32, F64}
 use Rattle.vx_dtype.specs.declared.timestamp_type.TimeUnit.{TimeUnit}
 use Rattle.vx_dtype.specs.declared.timestamp_type.TimeUnit.TheVariants.{Seconds, Milliseconds, Microseconds, Nanoseconds}
 use Rattle.vx_dtype.specs.Quotes.{between_quotes}
-use Rattle.vx_dtype.specs.Types.{Name, Atomic, truth, number, decimals, date, timestamp, text, octets, LogicalType, ty, Shape, atomic, list, fixed, struct, Fields, no_field, field}
+use Rattle.vx_dtype.specs.Types.{Name, Atomic, truth, number, floating, decimals, date, timestamp, text, octets, LogicalType, ty, Shape, atomic, list, fixed, struct, Fields, no_field, field}
 
 -- the texts, joined by `, `
 abbrev pub with_commas : List (List ℕ) → List ℕ
@@ -29,6 +31,11 @@ ptype_text I16 = codes "i16"
 ptype_text I32 = codes "i32"
 ptype_text I64 = codes "i64"
 
+-- the text of a format
+abbrev pub float_type_text : FloatType → List ℕ
+float_type_text F32 = codes "f32"
+float_type_text F64 = codes "f64"
+
 -- the text of a unit
 abbrev pub unit_text : TimeUnit → List ℕ
 unit_text Seconds = codes "s"
@@ -45,6 +52,7 @@ zone_text (Some a) = codes ", " ++ between_quotes 34 a
 abbrev pub atomic_text : Atomic → List ℕ
 atomic_text truth = codes "bool"
 atomic_text (number p) = ptype_text p
+atomic_text (floating f) = float_type_text f
 atomic_text (decimals p s) = codes "decimal(" ++ (decimal p ++ (codes ", " ++ (decimal s ++ codes ")")))
 atomic_text date = codes "date"
 atomic_text (timestamp u z) = codes "timestamp(" ++ (unit_text u ++ (zone_text z ++ codes ")"))

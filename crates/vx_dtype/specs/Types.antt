@@ -3,6 +3,8 @@ use Rattle.std.specs.Prelude.{ℕ, Bool, true, false, ◌==◌, ◌&&◌, List, 
 use Rattle.std.specs.Str.{bytes_eq}
 use Rattle.vx_dtype.specs.declared.dtype.PType.{PType}
 use Rattle.vx_dtype.specs.declared.dtype.PType.TheVariants.{U8, U16, U32, U64, I8, I16, I32, I64}
+use Rattle.vx_dtype.specs.declared.float_type.FloatType.{FloatType}
+use Rattle.vx_dtype.specs.declared.float_type.FloatType.TheVariants.{F32, F64}
 use Rattle.vx_dtype.specs.declared.timestamp_type.TimeUnit.{TimeUnit}
 use Rattle.vx_dtype.specs.declared.timestamp_type.TimeUnit.TheVariants.{Seconds, Milliseconds, Microseconds, Nanoseconds}
 
@@ -44,6 +46,15 @@ ptype_index I64 = 7
 abbrev pub same_ptype : PType → PType → Bool
 same_ptype p q = ptype_index p == ptype_index q
 
+-- the place of a format among the two
+abbrev pub float_type_index : FloatType → ℕ
+float_type_index F32 = 0
+float_type_index F64 = 1
+
+-- whether two formats are the same
+abbrev pub same_float_type : FloatType → FloatType → Bool
+same_float_type f g = float_type_index f == float_type_index g
+
 -- the place of a unit among the four
 abbrev pub unit_index : TimeUnit → ℕ
 unit_index Seconds = 0
@@ -62,11 +73,12 @@ same_zone (Some a) (Some b) = bytes_eq a b
 same_zone None (Some b) = false
 same_zone (Some a) None = false
 
--- the kinds of type whose values are compared, and that a fill may have: truth values; whole numbers; decimals of a precision
--- and a scale; days; instants in a unit, with the name of a zone or none; texts; bytes
+-- the kinds of type whose values are compared, and that a fill may have: truth values; whole numbers; floating-point numbers of
+-- a format; decimals of a precision and a scale; days; instants in a unit, with the name of a zone or none; texts; bytes
 pub data Atomic : Type 0 where
   truth : Atomic
   number : PType → Atomic
+  floating : FloatType → Atomic
   decimals : ℕ → ℕ → Atomic
   date : Atomic
   timestamp : TimeUnit → Option Name → Atomic
@@ -77,6 +89,7 @@ pub data Atomic : Type 0 where
 abbrev pub same_atomic : Atomic → Atomic → Bool
 same_atomic truth truth = true
 same_atomic (number p) (number q) = same_ptype p q
+same_atomic (floating f) (floating g) = same_float_type f g
 same_atomic (decimals p s) (decimals q r) = (p == q) && (s == r)
 same_atomic date date = true
 same_atomic (timestamp u z) (timestamp v y) = same_unit u v && same_zone z y

@@ -6,7 +6,7 @@ use Rattle.vx_dtype.specs.declared.dtype.DType.{DType, fold-DType}
 use Rattle.vx_dtype.specs.declared.dtype.DType.TheOpen.{DType-F, StructFields-F}
 use Rattle.vx_dtype.specs.declared.dtype.StructFields.{StructFields}
 use Rattle.vx_dtype.specs.Timestamps.{instants}
-use Rattle.vx_dtype.specs.Types.{Name, truth, number, decimals, date, text, octets, LogicalType, ty, atomic, list, fixed, struct, Fields}
+use Rattle.vx_dtype.specs.Types.{Name, truth, number, floating, decimals, date, text, octets, LogicalType, ty, atomic, list, fixed, struct, Fields}
 use Rattle.vx_dtype.specs.Fields.{fields_named}
 
 -- whether null is admitted
@@ -18,6 +18,7 @@ admits_null Nullable = true
 abbrev pub type_step : DType-F LogicalType Fields → LogicalType
 type_step (DType-F.Bool n) = ty (atomic truth) (admits_null n)
 type_step (DType-F.Primitive p n) = ty (atomic (number p)) (admits_null n)
+type_step (DType-F.Float f n) = ty (atomic (floating f)) (admits_null n)
 type_step (DType-F.Decimal d n) = ty (atomic (decimals d.precision d.scale)) (admits_null n)
 type_step (DType-F.Date n) = ty (atomic date) (admits_null n)
 type_step (DType-F.Timestamp t n) = ty (atomic (instants t)) (admits_null n)

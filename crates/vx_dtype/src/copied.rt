@@ -12,6 +12,7 @@ impl Clone for DType {
         match self {
             DType::Bool(n) => Ok(DType::Bool(*n)),
             DType::Primitive(p, n) => Ok(DType::Primitive(*p, *n)),
+            DType::Float(p, n) => Ok(DType::Float(*p, *n)),
             DType::Decimal(decimal, n) => Ok(DType::Decimal(*decimal, *n)),
             DType::Date(n) => Ok(DType::Date(*n)),
             DType::Timestamp(timestamp, n) => Ok(DType::Timestamp(timestamp.clone()?, *n)),

@@ -1,10 +1,10 @@
 // Types of columns.
 ghost use Rattle.std.specs.Prelude.{◌≡◌, IfOk, Ok, false, length, option_map, true};
 ghost use Rattle.vx_dtype.specs.Returns.{ReturnsOrOom};
-ghost use Rattle.vx_dtype.specs.Types.{atomic, is_nullable, items_type, number, struct_fields, ty, with_nullability};
+ghost use Rattle.vx_dtype.specs.Types.{atomic, floating, is_nullable, items_type, number, struct_fields, ty, with_nullability};
 ghost use Rattle.vx_dtype.specs.Views.{admits_null, type_of, fields_of, fields_view, names_of};
 
-use crate::{DecimalType, FieldNames, TimestampType, VortexResult};
+use crate::{DecimalType, FieldNames, FloatType, TimestampType, VortexResult};
 use std::alloc::{AllocError, Global};
 use std::sync::Arc;
 
@@ -46,6 +46,8 @@ pub enum DType {
     Bool(Nullability),
     /// Whole numbers in the range of the `PType`.
     Primitive(PType, Nullability),
+    /// Floating-point numbers of that format, with one NaN.
+    Float(FloatType, Nullability),
     /// Decimals of that precision and scale.
     Decimal(DecimalType, Nullability),
     /// Days, counted from the first of January 1970, in 32 bits.
@@ -79,6 +81,7 @@ impl Drop for DType {
         match self {
             DType::Bool(_)
             | DType::Primitive(_, _)
+            | DType::Float(_, _)
             | DType::Decimal(_, _)
             | DType::Date(_)
             | DType::Utf8(_)
@@ -130,6 +133,7 @@ impl DType {
         match self {
             DType::Bool(n) => *n,
             DType::Primitive(_, n) => *n,
+            DType::Float(_, n) => *n,
             DType::Decimal(_, n) => *n,
             DType::Date(n) => *n,
             DType::Timestamp(_, n) => *n,
@@ -155,6 +159,7 @@ impl DType {
         match self {
             DType::Bool(_) => DType::Bool(nullability),
             DType::Primitive(p, _) => DType::Primitive(p, nullability),
+            DType::Float(p, _) => DType::Float(p, nullability),
             DType::Decimal(decimal, _) => DType::Decimal(decimal, nullability),
             DType::Date(_) => DType::Date(nullability),
             DType::Timestamp(timestamp, _) => DType::Timestamp(timestamp, nullability),
@@ -200,6 +205,15 @@ impl From<PType> for DType {
 
     fn from(ptype: PType) -> DType {
         DType::Primitive(ptype, Nullability::NonNullable)
+    }
+}
+
+impl From<FloatType> for DType {
+    /// The floating-point numbers of that format.
+    ghost from_gives = { λ format dtype. type_of dtype ≡ ty (atomic (floating format)) false };
+
+    fn from(format: FloatType) -> DType {
+        DType::Float(format, Nullability::NonNullable)
     }
 }
 

@@ -42,6 +42,10 @@ pub(crate) fn alike(a: &DType, b: &DType, exactly: bool) -> bool
             DType::Primitive(q, _) => p.index() == q.index(),
             _ => false,
         },
+        DType::Float(p, _) => match b {
+            DType::Float(q, _) => p.is_same(*q),
+            _ => false,
+        },
         DType::Decimal(d, _) => match b {
             DType::Decimal(e, _) => d.precision() == e.precision() && d.scale() == e.scale(),
             _ => false,

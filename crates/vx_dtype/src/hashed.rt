@@ -39,6 +39,10 @@ fn feed<H: Hasher>(t: &DType, state: &mut H)
             state.write_u8(1);
             state.write_u8(p.index());
         }
+        DType::Float(p, _) => {
+            state.write_u8(10);
+            state.write_u8(p.index());
+        }
         DType::Decimal(decimal, _) => {
             state.write_u8(7);
             state.write_u8(decimal.precision());

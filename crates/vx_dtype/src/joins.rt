@@ -52,6 +52,7 @@ fn join(alloc: Global, a: &DType, b: &DType) -> Result<DType, AllocError>
     match a {
         DType::Bool(_) => Ok(DType::Bool(n)),
         DType::Primitive(p, _) => Ok(DType::Primitive(*p, n)),
+        DType::Float(p, _) => Ok(DType::Float(*p, n)),
         DType::Decimal(decimal, _) => Ok(DType::Decimal(*decimal, n)),
         DType::Date(_) => Ok(DType::Date(n)),
         DType::Timestamp(timestamp, _) => Ok(DType::Timestamp(timestamp.clone()?, n)),

@@ -55,6 +55,7 @@ fn write_shape<N: TypeNotation, W: Write>(
     match t {
         DType::Bool(_) => f.write_str("bool"),
         DType::Primitive(p, _) => p.fmt(f),
+        DType::Float(p, _) => p.fmt(f),
         DType::Decimal(decimal, _) => decimal.fmt(f),
         DType::Date(_) => f.write_str("date"),
         DType::Timestamp(timestamp, _) => timestamp.fmt(f),

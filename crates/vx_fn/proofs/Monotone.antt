@@ -4,14 +4,14 @@ use Rattle.std.specs.Prelude.{Option, Some, None, IsTrue, if◌then◌else◌, i
 use Rattle.std.specs.List.{list_all}
 use Rattle.std.proofs.lemmas.Bool.{and_parts, and_from, or_left, or_right}
 use Rattle.std.specs.Str.{bytes_eq}
-use Rattle.vx_value.specs.Types.{Name, truth, number, decimals, date, timestamp, text, octets, LogicalType, ty, Shape, atomic, list, fixed, struct, Fields, no_field, field, is_nullable, with_nullability}
+use Rattle.vx_value.specs.Types.{Name, truth, number, floating, decimals, date, timestamp, text, octets, LogicalType, ty, Shape, atomic, list, fixed, struct, Fields, no_field, field, is_nullable, with_nullability}
 use Rattle.vx_value.specs.Joins.{same_base, same_base_shape, same_base_fields, join, join_shape, join_fields, union_all, Narrower, narrower, NarrowerShape, same_atomic_shape, narrower_list, narrower_fixed, narrower_struct, NarrowerFields, no_fields, narrower_field, NarrowerEach}
 use Rattle.vx_dtype.specs.Lists.{forall2_nil, forall2_cons}
 use Rattle.vx_value.specs.Fields.{field_type, field_names, names_without, project, put_field, first_missing, first_unknown, fields_named}
 use Rattle.vx_fn.specs.Functions.{Function, get_item, mask, selection_names, included, conditions, branches, is_truth}
 use Rattle.vx_fn.specs.declared.options.FieldSelection.{FieldSelection}
 use Rattle.vx_fn.specs.declared.options.FieldSelection.TheVariants.{Include, Exclude}
-use Rattle.vx_fn.specs.Rows.{FnType, of_case_else, of_case, of_get_item, of_literal, of_pack, of_select, of_fill_null, of_zip, of_comparison, of_and, of_or, of_add, of_add_decimals, of_not, of_between, of_like, of_is_null, of_is_not_null, of_mask, of_cast}
+use Rattle.vx_fn.specs.Rows.{FnType, of_case_else, of_case, of_get_item, of_literal, of_pack, of_select, of_fill_null, of_zip, of_comparison, of_and, of_or, of_add, of_add_floats, of_add_decimals, of_not, of_between, of_like, of_is_null, of_is_not_null, of_mask, of_cast}
 
 -- ---- nullability
 
@@ -105,6 +105,7 @@ branches-mono (forall2_cons p (forall2_cons q r)) = forall2_cons q (branches-mon
 truth-mono : {t u : LogicalType} → Narrower t u → is_truth u ≡ true → is_truth t ≡ true
 truth-mono (narrower (same_atomic_shape {p = truth}) i) e = refl
 truth-mono (narrower (same_atomic_shape {p = number p}) i) e = cc
+truth-mono (narrower (same_atomic_shape {p = floating f}) i) e = cc
 truth-mono (narrower (same_atomic_shape {p = decimals p s}) i) e = cc
 truth-mono (narrower (same_atomic_shape {p = date}) i) e = cc
 truth-mono (narrower (same_atomic_shape {p = timestamp u z}) i) e = cc
@@ -225,6 +226,7 @@ fn_type-mono (of_zip s) (forall2_cons p (forall2_cons q (forall2_cons (narrower 
 fn_type-mono (of_comparison s) (forall2_cons (narrower same_atomic_shape i) (forall2_cons (narrower same_atomic_shape j) forall2_nil)) = (_, of_comparison s, narrower same_atomic_shape (or_mono _ _ _ _ i j))
 fn_type-mono of_and (forall2_cons (narrower same_atomic_shape i) (forall2_cons (narrower same_atomic_shape j) forall2_nil)) = (_, of_and, narrower same_atomic_shape (or_mono _ _ _ _ i j))
 fn_type-mono of_or (forall2_cons (narrower same_atomic_shape i) (forall2_cons (narrower same_atomic_shape j) forall2_nil)) = (_, of_or, narrower same_atomic_shape (or_mono _ _ _ _ i j))
+fn_type-mono (of_add_floats s) (forall2_cons (narrower same_atomic_shape i) (forall2_cons (narrower same_atomic_shape j) forall2_nil)) = (_, of_add_floats s, narrower same_atomic_shape (or_mono _ _ _ _ i j))
 fn_type-mono (of_add_decimals s) (forall2_cons (narrower same_atomic_shape i) (forall2_cons (narrower same_atomic_shape j) forall2_nil)) = (_, of_add_decimals s, narrower same_atomic_shape (or_mono _ _ _ _ i j))
 fn_type-mono (of_add s) (forall2_cons (narrower same_atomic_shape i) (forall2_cons (narrower same_atomic_shape j) forall2_nil)) = (_, of_add s, narrower same_atomic_shape (or_mono _ _ _ _ i j))
 fn_type-mono of_not (forall2_cons (narrower same_atomic_shape i) forall2_nil) = (_, of_not, narrower same_atomic_shape i)

@@ -4,16 +4,15 @@ use Rattle.std.specs.Prelude.{Ok, Err, Option, Some, None, not, ok_or, option_ma
 use Rattle.std.proofs.lemmas.Bool.{and_parts}
 use Rattle.std.specs.List.{list_all}
 use Rattle.std.specs.Result.{result_map_both}
-use Rattle.vx_value.specs.Types.{Name, Atomic, truth, number, decimals, text, LogicalType, ty, atomic, list, fixed, struct, Datum, is_nullable, with_nullability}
+use Rattle.vx_value.specs.Types.{Name, Atomic, truth, number, floating, decimals, text, LogicalType, ty, atomic, list, fixed, struct, Datum, is_nullable, with_nullability}
 use Rattle.vx_value.specs.Joins.{same_base, join, union, union_all}
 use Rattle.vx_value.specs.Fields.{field_type, project, first_unknown, fields_named}
-use Rattle.vx_dtype.specs.declared.dtype.PType.{PType}
 use Rattle.vx_value.specs.Returns.{known_or}
-use Rattle.vx_fn.specs.Functions.{Function, case_when, get_item, literal, pack, select, fill_null, zip, binary, logical_not, between, like, is_null, is_not_null, mask, cast, Operation, compares, and_also, or_else, adds, Comparison, selection_names, included, case_children, conditions, branches, is_truth, is_text, is_number, is_atomic, Typing, of_none, of_one, of_two, of_three, of_many, needs, fn_type, case_union, case_type, item_type, found, with_else, select_type, binary_type, truth_type}
+use Rattle.vx_fn.specs.Functions.{Function, case_when, get_item, literal, pack, select, fill_null, zip, binary, logical_not, between, like, is_null, is_not_null, mask, cast, Operation, compares, and_also, or_else, adds, Comparison, selection_names, included, case_children, conditions, branches, is_truth, is_text, is_atomic, Typing, of_none, of_one, of_two, of_three, of_many, needs, fn_type, case_union, case_type, item_type, found, with_else, select_type, binary_type, truth_type}
 use Rattle.vx_fn.specs.declared.options.FieldSelection.{FieldSelection}
 use Rattle.vx_dtype.specs.declared.error.VortexError.{VortexError}
 use Rattle.vx_dtype.specs.declared.error.VortexError.TheVariants.{ArityMismatch, NotBool, NotText, NotComparable, BaseTypesDiffer}
-use Rattle.vx_fn.specs.Rows.{FnType, of_case_else, of_case, of_get_item, of_literal, of_pack, of_select, of_fill_null, of_zip, of_comparison, of_and, of_or, of_add, of_add_decimals, of_not, of_between, of_like, of_is_null, of_is_not_null, of_mask, of_cast}
+use Rattle.vx_fn.specs.Rows.{FnType, of_case_else, of_case, of_get_item, of_literal, of_pack, of_select, of_fill_null, of_zip, of_comparison, of_and, of_or, of_add, of_add_floats, of_add_decimals, of_not, of_between, of_like, of_is_null, of_is_not_null, of_mask, of_cast}
 
 -- ---- a number of children
 
@@ -119,6 +118,7 @@ row_compares c t a b e =
 
 row_adds : (t a b : LogicalType) → binary_type adds a b ≡ Ok t → FnType (binary adds) (a ∷ b ∷ []) t
 row_adds t (ty (atomic (number p)) n) (ty (atomic (number q)) m) e = let r = needs_ok _ _ _ e in ok_at (binary adds) _ (of_add r.0) r.1
+row_adds t (ty (atomic (floating f)) n) (ty (atomic (floating g)) m) e = let d = needs_ok _ _ _ e in ok_at (binary adds) _ (of_add_floats d.0) d.1
 row_adds t (ty (atomic (decimals p s)) n) (ty (atomic (decimals q r)) m) e = let d = needs_ok _ _ _ e in ok_at (binary adds) _ (of_add_decimals d.0) d.1
 row_adds t _ _ e = cc
 
@@ -207,6 +207,7 @@ fn_type-only (of_comparison e) = rw e
 fn_type-only of_and = refl
 fn_type-only of_or = refl
 fn_type-only (of_add e) = rw e
+fn_type-only (of_add_floats e) = rw e
 fn_type-only (of_add_decimals e) = rw e
 fn_type-only of_not = refl
 fn_type-only (of_between a b) = rw (a, b)

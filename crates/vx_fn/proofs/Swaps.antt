@@ -1,5 +1,5 @@
 -- Operations over exchanged operands.
-use Rattle.std.proofs.Common.{◌≡◌, true, false, ◌||◌, ◌&&◌, if◌then◌else◌, refl, ap, ◌∙◌}
+use Rattle.std.proofs.Common.{◌≡◌, true, false, ◌||◌, ◌&&◌, if◌then◌else◌, Some, None, refl, ap, ◌∙◌}
 use Rattle.std.specs.declared.cmp.Ordering.{Ordering}
 use Rattle.std.specs.declared.cmp.Ordering.TheVariants.{Less, Equal, Greater}
 use Rattle.std.specs.Cmp.{bool_cmp_total}
@@ -7,7 +7,9 @@ use Rattle.std.specs.Ordering.{ordering_reverse}
 use Rattle.std.proofs.lemmas.Cmp.{int_cmp_total, nat_list_cmp_total}
 use Rattle.std.proofs.Math.Bool.{or_comm, and_comm}
 use Rattle.std.proofs.Math.IntN.{+ℤ_comm}
-use Rattle.vx_value.specs.Types.{Datum, null, bool, int, utf8, bytes, list_of, struct_of, is_null_datum}
+use Rattle.vx_floats.proofs.Orders.{float_order-turned}
+use Rattle.vx_floats.proofs.Sums.{float_sum-turned}
+use Rattle.vx_value.specs.Types.{Datum, null, bool, int, float, utf8, bytes, list_of, struct_of, is_null_datum}
 use Rattle.vx_fn.specs.Functions.{Comparison, equal, not_equal, greater, greater_or_equal, less, less_or_equal, mirrored, compares, and_also, or_else, adds}
 use Rattle.vx_fn.specs.Laws.{SwappedOverExchangedOperands}
 use Rattle.vx_fn.specs.Values.{is_true, is_false, kleene_and, kleene_or, order, agrees, compared, sum_of}
@@ -15,9 +17,11 @@ use Rattle.vx_fn.specs.Values.{is_true, is_false, kleene_and, kleene_or, order, 
 pub order-turned : (v w : Datum) → order v w ≡ ordering_reverse (order w v)
 order-turned (bool a) (bool b) = bool_cmp_total.antisymm a b
 order-turned (int i) (int j) = int_cmp_total.antisymm i j
+order-turned (float x) (float y) = float_order-turned x y
 order-turned (utf8 s) (utf8 t) = nat_list_cmp_total.antisymm s t
 order-turned (bytes s) (bytes t) = nat_list_cmp_total.antisymm s t
 order-turned null null = refl
+order-turned (float x) null = refl
 order-turned (list_of vs) null = refl
 order-turned (struct_of vs) null = refl
 order-turned _ _ = refl
@@ -59,6 +63,8 @@ kleene_or-turned v w =
 
 sum_of-turned : (v w : Datum) → sum_of v w ≡ sum_of w v
 sum_of-turned (int i) (int j) = ap int (+ℤ_comm i j)
+sum_of-turned (float x) (float y) = ap (λ z. elim z [ Some s ↦ float s | None ↦ null ]) (float_sum-turned x y)
+sum_of-turned (float x) null = refl
 sum_of-turned null null = refl
 sum_of-turned (bool a) null = refl
 sum_of-turned (utf8 s) null = refl

@@ -1,11 +1,11 @@
 -- Which node faults over its children's rows, and in which row.
-use Rattle.std.specs.Prelude.{Bool, false, ◌||◌, not, List, [], ◌∷◌, Option, Some, None, if◌then◌else◌, map, position}
+use Rattle.std.specs.Prelude.{Bool, true, false, ◌||◌, not, List, [], ◌∷◌, Option, Some, None, if◌then◌else◌, map, position}
 use Rattle.std.specs.Option.{option_map}
 use Rattle.std.specs.List.{list_any}
 use Rattle.std.specs.Ordering.{is_eq}
 use Rattle.vx_dtype.specs.declared.error.VortexError.{VortexError}
 use Rattle.vx_dtype.specs.declared.error.VortexError.TheVariants.{AddOverflow, CastNull, BadFill}
-use Rattle.vx_value.specs.Types.{LogicalType, ty, atomic, number, decimals, Datum, int, null, is_null_datum}
+use Rattle.vx_value.specs.Types.{LogicalType, ty, atomic, number, floating, decimals, Datum, int, null, is_null_datum}
 use Rattle.vx_value.specs.Fits.{fits, fits_digits, fits_ptype}
 use Rattle.vx_fn.specs.Functions.{Function, binary, adds, cast, fill_null, is_atomic}
 use Rattle.vx_fn.specs.Values.{order, sum_of, at_two}
@@ -13,6 +13,7 @@ use Rattle.vx_fn.specs.Values.{order, sum_of, at_two}
 -- whether a sum lies outside the type of the first operand
 abbrev pub is_outside : List LogicalType → Datum → Bool
 is_outside (ty (atomic (number p)) n ∷ ts) (int i) = not (fits_ptype i p)
+is_outside (ty (atomic (floating f)) n ∷ ts) (int i) = true
 is_outside (ty (atomic (decimals p s)) n ∷ ts) (int i) = not (fits_digits i p)
 is_outside _ _ = false
 

@@ -6,7 +6,7 @@ use Rattle.vx_dtype.specs.declared.error.VortexError.{VortexError}
 use Rattle.vx_dtype.specs.declared.error.VortexError.TheVariants.{ArityMismatch, NotAStruct, NoSuchField, BaseTypesDiffer, NotBool, NotComparable, NotNumeric, NotText, NoPairs}
 use Rattle.vx_fn.specs.declared.options.FieldSelection.{FieldSelection}
 use Rattle.vx_value.specs.Returns.{known_or}
-use Rattle.vx_value.specs.Types.{Name, truth, number, decimals, text, LogicalType, ty, atomic, struct, Fields, Datum, is_nullable, with_nullability}
+use Rattle.vx_value.specs.Types.{Name, truth, number, floating, decimals, text, LogicalType, ty, atomic, struct, Fields, Datum, is_nullable, with_nullability}
 use Rattle.vx_value.specs.Fits.{Fits}
 use Rattle.vx_value.specs.Joins.{same_base, union, union_of}
 pub use Rattle.vx_fn.specs.Selections.{selection_names, is_inclusion}
@@ -113,9 +113,10 @@ abbrev pub is_text : LogicalType → Bool
 is_text (ty (atomic text) n) = true
 is_text _ = false
 
--- whether the type's values are added: Primitive or Decimal
+-- whether the type's values are added: Primitive, Float or Decimal
 abbrev pub is_number : LogicalType → Bool
 is_number (ty (atomic (number p)) n) = true
+is_number (ty (atomic (floating f)) n) = true
 is_number (ty (atomic (decimals p s)) n) = true
 is_number _ = false
 

@@ -1,11 +1,12 @@
 -- The value of a function node at one row, from its children's values.
-use Rattle.std.specs.Prelude.{◌≡◌, ◌++◌, ℕ, Bool, true, false, ◌&&◌, ◌||◌, ◌==◌, not, List, [], ◌∷◌, ◌+ℤ◌, if◌then◌else◌, map, chars}
+use Rattle.std.specs.Prelude.{◌≡◌, ◌++◌, ℕ, Bool, true, false, ◌&&◌, ◌||◌, ◌==◌, not, List, [], ◌∷◌, Some, None, ◌+ℤ◌, if◌then◌else◌, map, chars}
 use Rattle.std.specs.declared.cmp.Ordering.{Ordering}
 use Rattle.std.specs.declared.cmp.Ordering.TheVariants.{Equal}
 use Rattle.std.specs.Ordering.{is_lt, is_le, is_gt, is_ge, is_eq, is_ne, nat_cmp, int_cmp, bool_cmp}
 use Rattle.std.specs.Char.{to_ascii_lowercase}
 use Rattle.std.specs.Cmp.Lexicographic.{slice_cmp}
-use Rattle.vx_value.specs.Types.{Name, LogicalType, ty, struct, Datum, null, bool, int, utf8, bytes, struct_of, is_null_datum}
+use Rattle.vx_floats.specs.Floats.{float_order, float_sum}
+use Rattle.vx_value.specs.Types.{Name, LogicalType, ty, struct, Datum, null, bool, int, float, utf8, bytes, struct_of, is_null_datum}
 use Rattle.vx_value.specs.Fields.{field_value, project_values, data_of}
 use Rattle.vx_fn.specs.Functions.{Function, case_when, get_item, literal, pack, select, fill_null, zip, binary, logical_not, between, like, is_null, is_not_null, mask, cast, Operation, compares, and_also, or_else, adds, Comparison, equal, not_equal, greater, greater_or_equal, less, less_or_equal, included}
 use Rattle.vx_fn.specs.declared.options.FieldSelection.{FieldSelection}
@@ -35,10 +36,11 @@ abbrev pub kleene_not : Datum → Datum
 kleene_not (bool b) = bool (not b)
 kleene_not _ = null
 
--- false before true, whole numbers by number, texts and bytes by their bytes
+-- false before true, whole numbers by number, floating-point numbers by IEEE 754's total order, texts and bytes by their bytes
 abbrev pub order : Datum → Datum → Ordering
 order (bool a) (bool b) = bool_cmp a b
 order (int i) (int j) = int_cmp i j
+order (float x) (float y) = float_order x y
 order (utf8 s) (utf8 t) = slice_cmp nat_cmp s t
 order (bytes s) (bytes t) = slice_cmp nat_cmp s t
 order _ _ = Equal
@@ -63,6 +65,7 @@ bound_comparison strict = if strict then less else less_or_equal
 -- the sum of two numbers, or null
 abbrev pub sum_of : Datum → Datum → Datum
 sum_of (int i) (int j) = int (i +ℤ j)
+sum_of (float x) (float y) = elim (float_sum x y) [ Some z ↦ float z | None ↦ null ]
 sum_of _ _ = null
 
 -- ---- patterns

@@ -1,7 +1,7 @@
 -- A value of a type is one of every type above it.
 use Rattle.std.proofs.Common.{◌≡◌, refl, true}
 use Rattle.std.proofs.lemmas.Bool.{and_parts, and_from}
-use Rattle.vx_value.specs.Types.{truth, number, decimals, date, timestamp, text, octets, LogicalType, Fields, Datum, null, bool, int, utf8, bytes, list_of, struct_of, Data, no_datum, datum}
+use Rattle.vx_value.specs.Types.{truth, number, floating, decimals, date, timestamp, text, octets, LogicalType, Fields, Datum, null, bool, int, float, utf8, bytes, list_of, struct_of, Data, no_datum, datum}
 use Rattle.vx_value.specs.Fits.{each_fits, fields_fit, Fits}
 use Rattle.vx_value.specs.Joins.{Narrower, narrower, same_atomic_shape, narrower_list, narrower_fixed, narrower_struct, NarrowerFields, no_fields, narrower_field}
 
@@ -10,6 +10,7 @@ mutual
   fits-above null (narrower s i) e = i e
   fits-above (bool b) (narrower (same_atomic_shape {p = truth}) i) e = refl
   fits-above (int z) (narrower (same_atomic_shape {p = number p}) i) e = e
+  fits-above (float x) (narrower (same_atomic_shape {p = floating f}) i) e = e
   fits-above (int z) (narrower (same_atomic_shape {p = decimals q s}) i) e = e
   fits-above (int z) (narrower (same_atomic_shape {p = date}) i) e = e
   fits-above (int z) (narrower (same_atomic_shape {p = timestamp u y}) i) e = e

@@ -5,7 +5,7 @@ use Rattle.std.proofs.lemmas.Bool.{and_parts, and_from, eqb-true, or_left, or_ri
 use Rattle.vx_dtype.proofs.Known.{known_first}
 use Rattle.vx_dtype.proofs.Unions.{same_atomic-eq}
 use Rattle.std.specs.Str.{bytes_eq}
-use Rattle.vx_value.specs.Types.{Name, truth, number, decimals, date, timestamp, text, octets, LogicalType, ty, Shape, atomic, list, fixed, struct, Fields, no_field, field, Datum, null, bool, int, utf8, bytes, list_of, struct_of, Data, no_datum, datum, with_nullability, is_null_datum}
+use Rattle.vx_value.specs.Types.{Name, truth, number, floating, decimals, date, timestamp, text, octets, LogicalType, ty, Shape, atomic, list, fixed, struct, Fields, no_field, field, Datum, null, bool, int, float, utf8, bytes, list_of, struct_of, Data, no_datum, datum, with_nullability, is_null_datum}
 use Rattle.vx_value.specs.Fits.{fits, each_fits, fields_fit, Fits, EachFits}
 use Rattle.vx_dtype.specs.Lists.{forall2_nil, forall2_cons}
 use Rattle.vx_value.specs.Joins.{same_base, same_base_fields, join, join_fields, union_all}
@@ -18,6 +18,7 @@ pub fits-not_null : (v : Datum) (s : Shape) (n m : Bool) → is_null_datum v ≡
 fits-not_null null s n m e = cc
 fits-not_null (bool b) (atomic truth) n m e = refl
 fits-not_null (int i) (atomic (number p)) n m e = refl
+fits-not_null (float x) (atomic (floating f)) n m e = refl
 fits-not_null (int i) (atomic (decimals p r)) n m e = refl
 fits-not_null (int i) (atomic date) n m e = refl
 fits-not_null (int i) (atomic (timestamp u z)) n m e = refl
@@ -49,6 +50,7 @@ mutual
   join-fits-left null (ty s n) (ty r m) h e = or_left n m e
   join-fits-left (bool b) (ty (atomic truth) n) (ty r m) h e = refl
   join-fits-left (int i) (ty (atomic (number p)) n) (ty r m) h e = e
+  join-fits-left (float x) (ty (atomic (floating f)) n) (ty r m) h e = e
   join-fits-left (int i) (ty (atomic (decimals p s)) n) (ty r m) h e = e
   join-fits-left (int i) (ty (atomic date) n) (ty r m) h e = e
   join-fits-left (int i) (ty (atomic (timestamp u z)) n) (ty r m) h e = e
@@ -82,6 +84,7 @@ mutual
   join-fits-right null (ty r m) (ty s n) h e = or_right n m e
   join-fits-right (bool b) (ty (atomic truth) m) (ty (atomic p) n) h e = let x = same_atomic-eq p truth h in rw x refl
   join-fits-right (int i) (ty (atomic (number q)) m) (ty (atomic p) n) h e = let x = same_atomic-eq p (number q) h in rw x e
+  join-fits-right (float y) (ty (atomic (floating f)) m) (ty (atomic p) n) h e = let x = same_atomic-eq p (floating f) h in rw x e
   join-fits-right (int i) (ty (atomic (decimals q s)) m) (ty (atomic p) n) h e = let x = same_atomic-eq p (decimals q s) h in rw x e
   join-fits-right (int i) (ty (atomic date) m) (ty (atomic p) n) h e = let x = same_atomic-eq p date h in rw x e
   join-fits-right (int i) (ty (atomic (timestamp u z)) m) (ty (atomic p) n) h e = let x = same_atomic-eq p (timestamp u z) h in rw x e

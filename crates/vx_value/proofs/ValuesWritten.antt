@@ -3,7 +3,7 @@ use Rattle.std.proofs.Common.{◌≡◌, ℕ, ◌+◌, ◌<◌, ◌≤◌, min, 
 use Rattle.std.specs.Prelude.{◌==◌, if◌then◌else◌}
 use Rattle.vx_dtype.specs.declared.dtype.DType.{DType}
 use Rattle.vx_value.specs.declared.value.Value.{Value}
-use Rattle.vx_value.specs.Types.{Name, number, decimals, date, timestamp, LogicalType, ty, atomic, list, fixed, struct, Fields, no_field, field, Datum, bool, int, list_of, struct_of, Data, no_datum, datum}
+use Rattle.vx_value.specs.Types.{Name, number, floating, decimals, date, timestamp, LogicalType, ty, atomic, list, fixed, struct, Fields, no_field, field, Datum, bool, int, float, list_of, struct_of, Data, no_datum, datum}
 use Rattle.vx_value.specs.Fields.{field_count}
 use Rattle.vx_value.specs.Notations.{ValueWords, value_in, items_in, row_in, list_in, shown_words}
 use Rattle.vx_value.specs.Texts.{with_commas}
@@ -71,6 +71,7 @@ mutual
   value_as_text (bool true) t = refl
   value_as_text (bool false) t = refl
   value_as_text (int i) (ty (atomic (number p)) n) = refl
+  value_as_text (float x) (ty (atomic (floating f)) n) = refl
   value_as_text (int i) (ty (atomic (decimals p s)) n) = refl
   value_as_text (int i) (ty (atomic date) n) = refl
   value_as_text (int i) (ty (atomic (timestamp u z)) n) = refl

@@ -3,7 +3,8 @@ use Rattle.std.specs.Prelude.{◌≡◌, refl}
 use Rattle.std.specs.Coded.{Coded, coded_ℤ, coded_bool}
 use Rattle.std.proofs.Common.{ap}
 use base.Stored.{Gv, gnil, gnum, gcons}
-use Rattle.vx_value.specs.Values.{Datum, null, bool, int, utf8, bytes, list_of, struct_of, Data, no_datum, datum}
+use Rattle.vx_floats.specs.Codes.{float_code}
+use Rattle.vx_value.specs.Values.{Datum, null, bool, int, float, utf8, bytes, list_of, struct_of, Data, no_datum, datum}
 pub use Rattle.vx_dtype.specs.Codes.{name_code, code_type, code_shape, code_fields, inj_type, inj_shape, inj_fields, type_code}
 
 -- a value, by its kind's number and what it holds
@@ -12,6 +13,7 @@ abbrev mutual
   code_datum null = gcons (gnum 0) gnil
   code_datum (bool b) = gcons (gnum 1) (coded_bool.code b)
   code_datum (int i) = gcons (gnum 2) (coded_ℤ.code i)
+  code_datum (float x) = gcons (gnum 7) (float_code.code x)
   code_datum (utf8 t) = gcons (gnum 3) (name_code.code t)
   code_datum (bytes t) = gcons (gnum 4) (name_code.code t)
   code_datum (list_of vs) = gcons (gnum 5) (code_data vs)
@@ -28,6 +30,7 @@ mutual
   inj_datum null null p = refl
   inj_datum (bool a) (bool b) p = ap bool (coded_bool.inj a b cc)
   inj_datum (int i) (int j) p = ap int (coded_ℤ.inj i j cc)
+  inj_datum (float x) (float y) p = ap float (float_code.inj x y cc)
   inj_datum (utf8 a) (utf8 b) p = ap utf8 (name_code.inj a b cc)
   inj_datum (bytes a) (bytes b) p = ap bytes (name_code.inj a b cc)
   inj_datum (list_of vs) (list_of ws) p = ap list_of (inj_data vs ws cc)

@@ -3,7 +3,9 @@ use Rattle.std.specs.Prelude.{map, ◌≡◌, ℕ, suc, ℤ, ◌<◌, length, ge
 use Rattle.std.specs.Option.{option_map}
 use Rattle.std.specs.Coded.{Coded, code_by, coded×, coded_list}
 use Rattle.std.specs.Hash.{HashWrites}
-use Rattle.vx_value.specs.Types.{truth, number, text, octets, LogicalType, ty, atomic, Datum, null, bool, int, utf8, bytes, struct_of}
+use Rattle.vx_floats.specs.Floats.{format_of}
+use Rattle.vx_floats.specs.declared.float.Float.{Float}
+use Rattle.vx_value.specs.Types.{truth, number, floating, text, octets, LogicalType, ty, atomic, Datum, null, bool, int, float, utf8, bytes, struct_of}
 use Rattle.vx_dtype.specs.declared.dtype.PType.{PType}
 use Rattle.vx_dtype.specs.declared.error.VortexError.{VortexError}
 use Rattle.vx_dtype.specs.declared.error.VortexError.TheVariants.{RowMisfit}
@@ -38,6 +40,10 @@ truth_constant b = constant (ty (atomic truth) false) (bool b)
 -- the whole number, of that type without null
 abbrev pub number_constant : PType → ℤ → Constant
 number_constant p i = constant (ty (atomic (number p)) false) (int i)
+
+-- the floating-point number, of its format's type without null
+abbrev pub float_constant : Float → Constant
+float_constant x = constant (ty (atomic (floating (format_of x))) false) (float x)
 
 -- the text of these bytes, of a type without null
 abbrev pub text_constant : List ℕ → Constant

@@ -13,7 +13,8 @@ use Rattle.vx_value.specs.Equality.{equal_datum, equal_data}
 use Rattle.vx_value.specs.Fields.{data_of}
 use Rattle.vx_value.specs.Hashes.{datum_fed}
 use Rattle.vx_value.specs.Paths.{equal_path}
-use Rattle.vx_value.specs.Values.{Datum, null, bool, int, utf8, bytes, list_of, struct_of, Data, no_datum, datum}
+use Rattle.vx_floats.specs.Deciding.{same_float-Decides}
+use Rattle.vx_value.specs.Values.{Datum, null, bool, int, float, utf8, bytes, list_of, struct_of, Data, no_datum, datum}
 pub use Rattle.vx_dtype.specs.Deciding.{apart, itself, equivalence_of, same_ptype-Decides, same_atomic-Decides, equal_type-Decides, equal_shape-Decides, equal_fields-Decides, equal_type_equiv, equal_fields_equiv, type_alike, fields_alike, names_alike}
 
 -- the test says whether two values are the same
@@ -22,6 +23,7 @@ mutual
   equal_datum-Decides null null = itself
   equal_datum-Decides (bool a) (bool b) = Decides-like _ (λ e. ap bool e) (λ e. cc) (booleans_Decides a b)
   equal_datum-Decides (int i) (int j) = Decides-like _ (λ e. ap int e) (λ e. cc) (Decides-int_eq i j)
+  equal_datum-Decides (float x) (float y) = Decides-like _ (λ e. ap float e) (λ e. cc) (same_float-Decides x y)
   equal_datum-Decides (utf8 a) (utf8 b) = Decides-like _ (λ e. ap utf8 e) (λ e. cc) (bytes_eq-Decides a b)
   equal_datum-Decides (bytes a) (bytes b) = Decides-like _ (λ e. ap bytes e) (λ e. cc) (bytes_eq-Decides a b)
   equal_datum-Decides (list_of vs) (list_of ws) = Decides-like _ (λ e. ap list_of e) (λ e. cc) (equal_data-Decides vs ws)

@@ -3,7 +3,8 @@ use Rattle.std.specs.Prelude.{Bool, true, false, ◌&&◌}
 use Rattle.std.specs.Bool.{beq}
 use Rattle.std.specs.Ordering.{int_eq}
 use Rattle.std.specs.Str.{bytes_eq}
-use Rattle.vx_value.specs.Values.{Datum, null, bool, int, utf8, bytes, list_of, struct_of, Data, no_datum, datum}
+use Rattle.vx_floats.specs.Floats.{same_float}
+use Rattle.vx_value.specs.Values.{Datum, null, bool, int, float, utf8, bytes, list_of, struct_of, Data, no_datum, datum}
 pub use Rattle.vx_dtype.specs.Equality.{equal_type, equal_shape, equal_fields}
 
 -- whether two values are the same
@@ -12,6 +13,7 @@ abbrev mutual
   equal_datum null null = true
   equal_datum (bool a) (bool b) = beq a b
   equal_datum (int i) (int j) = int_eq i j
+  equal_datum (float x) (float y) = same_float x y
   equal_datum (utf8 a) (utf8 b) = bytes_eq a b
   equal_datum (bytes a) (bytes b) = bytes_eq a b
   equal_datum (list_of vs) (list_of ws) = equal_data vs ws

@@ -4,7 +4,8 @@ use Rattle.std.specs.List.{list_all}
 use Rattle.vx_dtype.specs.Lists.{Forall2}
 use Rattle.vx_dtype.specs.declared.dtype.PType.{PType}
 use Rattle.vx_dtype.specs.declared.dtype.PType.TheVariants.{I32, I64}
-use Rattle.vx_value.specs.Types.{bits, is_signed, truth, number, decimals, date, timestamp, text, octets, LogicalType, ty, atomic, list, fixed, struct, Fields, no_field, field, Datum, null, bool, int, utf8, bytes, list_of, struct_of, Data, no_datum, datum}
+use Rattle.vx_floats.specs.Floats.{format_of, is_canonical}
+use Rattle.vx_value.specs.Types.{bits, is_signed, same_float_type, truth, number, floating, decimals, date, timestamp, text, octets, LogicalType, ty, atomic, list, fixed, struct, Fields, no_field, field, Datum, null, bool, int, float, utf8, bytes, list_of, struct_of, Data, no_datum, datum}
 
 -- whether the number lies in the range of the number type
 abbrev pub fits_ptype : ℤ → PType → Bool
@@ -26,6 +27,7 @@ abbrev mutual
   fits null (ty s n) = n
   fits (bool b) (ty (atomic truth) n) = true
   fits (int i) (ty (atomic (number p)) n) = fits_ptype i p
+  fits (float x) (ty (atomic (floating f)) n) = same_float_type (format_of x) f && is_canonical x
   fits (int i) (ty (atomic (decimals p s)) n) = fits_digits i p
   fits (int i) (ty (atomic date) n) = fits_ptype i I32
   fits (int i) (ty (atomic (timestamp u z)) n) = fits_ptype i I64

@@ -1,21 +1,27 @@
 -- Values in a notation: what notations have in common, over how each writes names, numbers and texts.
-use Rattle.std.specs.Prelude.{ℕ, ℤ, true, false, List, [], ◌∷◌, ◌++◌, Option, Some, None, codes}
+use Rattle.std.specs.Prelude.{ℕ, ℤ, true, false, List, [], ◌∷◌, ◌++◌, Some, None, codes}
 use Rattle.std.specs.Fmt.{signed_decimal}
 use Rattle.std.specs.List.{flat_map}
+use Rattle.vx_floats.specs.Texts.{float_text}
+use Rattle.vx_floats.specs.declared.float.Float.{Float}
 use Rattle.vx_literals.specs.Days.{day_text}
 use Rattle.vx_literals.specs.Decimals.{decimal_text}
 use Rattle.vx_literals.specs.Instants.{instant_text}
-use Rattle.vx_value.specs.Types.{Name, number, decimals, date, timestamp, LogicalType, ty, atomic, items_type, struct_fields, Fields, field, Datum, null, bool, int, utf8, bytes, list_of, struct_of, Data, no_datum, datum}
-use Rattle.vx_value.specs.Texts.{with_commas, ptype_text}
+use Rattle.vx_value.specs.Types.{Name, number, floating, decimals, date, timestamp, LogicalType, ty, atomic, items_type, struct_fields, Fields, field, Datum, null, bool, int, float, utf8, bytes, list_of, struct_of, Data, no_datum, datum}
+use Rattle.vx_value.specs.Texts.{with_commas, ptype_text, float_type_text}
 use Rattle.vx_value.specs.ValueTexts.{hex_byte}
 
--- the words of a notation, beside those of names: of a number of a type, and of a text
+-- the words of a notation, beside those of names: of a whole number and of a floating-point number of a type, and of a text
 pub record ValueWords : Type 0 where
   pub numbered : ℤ → LogicalType → List ℕ
+  pub floated : Float → LogicalType → List ℕ
   pub quoted : List ℕ → List ℕ
 
 abbrev pub number_in : ValueWords → ℤ → LogicalType → List ℕ
 number_in w = w.numbered
+
+abbrev pub float_in : ValueWords → Float → LogicalType → List ℕ
+float_in w = w.floated
 
 abbrev pub quoted_in : ValueWords → List ℕ → List ℕ
 quoted_in w = w.quoted
@@ -27,6 +33,7 @@ abbrev mutual
   value_in named w (bool true) t = codes "true"
   value_in named w (bool false) t = codes "false"
   value_in named w (int i) t = number_in w i t
+  value_in named w (float x) t = float_in w x t
   value_in named w (utf8 s) t = quoted_in w s
   value_in named w (bytes bs) t = codes "0x" ++ flat_map hex_byte bs
   value_in named w (list_of vs) t = elim (items_type t) [ Some e ↦ codes "[" ++ (with_commas (items_in named w vs e) ++ codes "]") | None ↦ [] ]
@@ -58,5 +65,9 @@ shown_number i (ty (atomic date) n) = day_text i
 shown_number i (ty (atomic (timestamp u z)) n) = instant_text u z i
 shown_number _ _ = []
 
+abbrev pub shown_float : Float → LogicalType → List ℕ
+shown_float x (ty (atomic (floating f)) n) = float_text x ++ float_type_text f
+shown_float _ _ = []
+
 abbrev pub shown_words : ValueWords
-shown_words = record { numbered = shown_number; quoted = λ s. codes "\"" ++ (s ++ codes "\"") }
+shown_words = record { numbered = shown_number; floated = shown_float; quoted = λ s. codes "\"" ++ (s ++ codes "\"") }

@@ -2,12 +2,13 @@
 use Rattle.std.specs.Prelude.{ℕ, true, false, List, [], ◌∷◌, ◌++◌, codes, ◌/◌, ◌%◌}
 use Rattle.std.specs.Fmt.{signed_decimal, digit_glyph}
 use Rattle.std.specs.List.{flat_map}
+use Rattle.vx_floats.specs.Texts.{float_text}
 use Rattle.vx_literals.specs.Days.{day_text}
 use Rattle.vx_literals.specs.Decimals.{decimal_text}
 use Rattle.vx_literals.specs.Instants.{instant_text}
-use Rattle.vx_value.specs.Types.{number, decimals, date, timestamp, LogicalType, ty, atomic, list, fixed, struct, Fields, field, Datum, null, bool, int, utf8, bytes, list_of, struct_of, Data, no_datum, datum}
+use Rattle.vx_value.specs.Types.{number, floating, decimals, date, timestamp, LogicalType, ty, atomic, list, fixed, struct, Fields, field, Datum, null, bool, int, float, utf8, bytes, list_of, struct_of, Data, no_datum, datum}
 use Rattle.vx_value.specs.Fields.{data_of}
-use Rattle.vx_value.specs.Texts.{with_commas, ptype_text}
+use Rattle.vx_value.specs.Texts.{with_commas, ptype_text, float_type_text}
 
 -- two digits a byte
 abbrev pub hex_byte : ℕ → List ℕ
@@ -20,6 +21,7 @@ abbrev mutual
   value_text (bool true) t = codes "true"
   value_text (bool false) t = codes "false"
   value_text (int i) (ty (atomic (number p)) n) = signed_decimal i ++ ptype_text p
+  value_text (float x) (ty (atomic (floating f)) n) = float_text x ++ float_type_text f
   value_text (int i) (ty (atomic (decimals p s)) n) = decimal_text i s
   value_text (int i) (ty (atomic date) n) = day_text i
   value_text (int i) (ty (atomic (timestamp u z)) n) = instant_text u z i

@@ -1,12 +1,15 @@
 -- Values, seen without pointers: the field's own data, in place of the program's.
 use Rattle.std.specs.Prelude.{ℕ, Bool, true, false, List, ℤ}
+use Rattle.vx_floats.specs.declared.float.Float.{Float}
 
--- a value: null, a truth value, a whole number, a text by its bytes, bytes, a list of values, or a struct of values
+-- a value: null, a truth value, a whole number, a floating-point number, a text by its bytes, bytes, a list of values, or a struct
+-- of values
 mutual
   pub data Datum : Type 0 where
     null : Datum
     bool : Bool → Datum
     int : ℤ → Datum
+    float : Float → Datum
     utf8 : List ℕ → Datum
     bytes : List ℕ → Datum
     list_of : Data → Datum

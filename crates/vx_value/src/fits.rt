@@ -1,11 +1,13 @@
 // Which values are of a type.
-ghost use Rattle.std.specs.Prelude.{◌≡◌, ℕ, ◌==◌};
+ghost use Rattle.std.specs.Prelude.{◌≡◌, ℕ, ◌==◌, ◌&&◌};
+ghost use Rattle.vx_floats.specs.Floats.{format_of, is_canonical};
 ghost use Rattle.vx_value.specs.Fits.{fits, each_fits, fields_fit, fits_digits, fits_ptype, count};
-ghost use Rattle.vx_value.specs.Types.{int};
+ghost use Rattle.vx_value.specs.Types.{int, same_float_type};
 ghost use Rattle.vx_value.specs.Views.{type_of, fields_of, value_of, data_view};
 
 use crate::Value;
-use vx_dtype::{DType, DecimalType, PType, StructFields};
+use vx_dtype::{DType, DecimalType, FloatType, PType, StructFields};
+use vx_floats::Float;
 use vx_literals::power_of_ten;
 
 // Whether the number lies in the range of the type.
@@ -44,6 +46,13 @@ fn has_digits(i: i128, decimal: DecimalType) -> bool
     i.unsigned_abs() < power_of_ten(decimal.precision())
 }
 
+// Whether the number is one of the format, and no NaN but the quiet one.
+fn is_of(x: Float, format: FloatType) -> bool
+    ensures { result ≡ (same_float_type (format_of x) format && is_canonical x) }
+{
+    x.float_type().is_same(format) && x.is_canonical()
+}
+
 impl Value {
     /// Whether the value is one of the type.
     pub fn fits(&self, t: &DType) -> bool
@@ -65,6 +74,10 @@ fn value_fits(value: &Value, t: &DType) -> bool
             _ => false,
         },
         Value::Int(i) => int_fits(*i, t),
+        Value::Float(x) => match t {
+            DType::Float(format, _) => is_of(*x, *format),
+            _ => false,
+        },
         Value::Utf8(_) => match t {
             DType::Utf8(_) => true,
             _ => false,

@@ -2,7 +2,7 @@
 ghost use Rattle.std.specs.Prelude.{◌≡◌, ◌++◌, codes};
 ghost use Rattle.std.specs.Fmt.{WritesOnOk};
 ghost use Rattle.std.specs.List.{flat_map};
-ghost use Rattle.vx_value.specs.Notations.{number_in, quoted_in, value_in, list_in, items_in, row_in, struct_in};
+ghost use Rattle.vx_value.specs.Notations.{number_in, float_in, quoted_in, value_in, list_in, items_in, row_in, struct_in};
 ghost use Rattle.vx_value.specs.Texts.{with_commas};
 ghost use Rattle.vx_value.specs.ValueTexts.{hex_byte};
 ghost use Rattle.vx_value.specs.Views.{type_of, fields_of, value_of, data_view};
@@ -11,6 +11,7 @@ use crate::Value;
 use std::fmt;
 use std::fmt::{Formatter, Write};
 use vx_dtype::{DType, FieldName, StructFields, TypeNotation, separator};
+use vx_floats::Float;
 
 /// What differs between notations of values, which [`write_value_in`] writes: numbers, texts, and
 /// the names of fields. None of these calls takes memory.
@@ -22,6 +23,10 @@ pub trait ValueNotation: TypeNotation {
     /// Writes a number of the type.
     fn write_number<W: Write>(&self, number: i128, t: &DType, f: &mut Formatter<W>) -> fmt::Result
         ensures { WritesOnOk W.write_str_gives f.old result (number_in words number (type_of t.now)) f.new };
+
+    /// Writes a floating-point number of the type.
+    fn write_float<W: Write>(&self, x: Float, t: &DType, f: &mut Formatter<W>) -> fmt::Result
+        ensures { WritesOnOk W.write_str_gives f.old result (float_in words x (type_of t.now)) f.new };
 
     /// Writes a text.
     fn write_text<W: Write>(&self, text: &str, f: &mut Formatter<W>) -> fmt::Result
@@ -42,6 +47,7 @@ pub fn write_value_in<N: ValueNotation, W: Write>(
         Value::Null => f.write_str("null"),
         Value::Bool(b) => f.write_str(if *b { "true" } else { "false" }),
         Value::Int(number) => notation.write_number(*number, t, f),
+        Value::Float(x) => notation.write_float(*x, t, f),
         Value::Utf8(text) => notation.write_text(text.as_str(), f),
         Value::Binary(bytes) => {
             f.write_str("0x")?;

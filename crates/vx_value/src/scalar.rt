@@ -2,12 +2,13 @@
 ghost use Rattle.std.specs.Prelude.{◌≡◌, Ok, IfOk, map, IsTrue, pos};
 ghost use Rattle.std.specs.Cmp.{partial_equiv_from_equiv};
 ghost use Rattle.vx_value.specs.Returns.{ReturnsOrOom, Returns};
-ghost use Rattle.vx_value.specs.Columns.{Constant, struct_value, constant, constant_or_misfit, truth_constant, number_constant, text_constant, octets_constant};
+ghost use Rattle.vx_value.specs.Columns.{Constant, struct_value, constant, constant_or_misfit, truth_constant, number_constant, float_constant, text_constant, octets_constant};
 ghost use Rattle.vx_value.specs.Columns.{equal_constant, constant_fed};
 ghost use Rattle.vx_value.specs.Deciding.{equal_constant_equiv, constant_alike};
 ghost use Rattle.vx_value.specs.Types.{is_nullable, null, is_null_datum};
 ghost use Rattle.vx_value.specs.Fits.{fits_ptype, Fits};
 ghost use Rattle.vx_value.specs.Views.{type_of, value_of};
+ghost use Rattle.vx_floats.specs.Floats.{canonical};
 ghost use Rattle.vx_dtype.specs.declared.dtype.PType.TheVariants.{U8, U16, U32, U64, I8, I16, I32, I64};
 
 use crate::Value;
@@ -15,6 +16,7 @@ use std::alloc::{AllocError, Global};
 use std::hash::{Hash, Hasher};
 use std::marker::Model;
 use vx_dtype::{DType, Nullability, PType, VortexError, VortexResult};
+use vx_floats::Float;
 
 /// A value beside its type, of which it is one; clones share what the type points to.
 #[derive(Debug)]
@@ -132,6 +134,17 @@ impl Scalar {
         ensures { result ≡ number_constant I64 n }
     {
         number(PType::I64, i128::from(n))
+    }
+
+    /// The floating-point number, each NaN as the quiet one, of its format's type without null.
+    pub fn from_float(x: Float) -> Scalar
+        ensures { result ≡ float_constant (canonical x) }
+    {
+        let x = x.canonical();
+        Scalar {
+            dtype: DType::Float(x.float_type(), Nullability::NonNullable),
+            value: Value::Float(x),
+        }
     }
 
     /// The text, of a type without null. Refuses with `OutOfMemory` (1) alone.

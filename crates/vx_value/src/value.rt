@@ -9,6 +9,7 @@ ghost use Rattle.vx_value.specs.Views.{value_of, data_view};
 
 use std::alloc::AllocError;
 use std::hash::{Hash, Hasher};
+use vx_floats::Float;
 
 /// A value of some type.
 #[derive(Debug)]
@@ -19,6 +20,8 @@ pub enum Value {
     Bool(bool),
     /// A whole number: of a type of whole numbers, the units of a decimal, a day, or an instant.
     Int(i128),
+    /// A floating-point number.
+    Float(Float),
     /// A text.
     Utf8(String),
     /// Bytes.
@@ -32,7 +35,7 @@ pub enum Value {
 impl Drop for Value {
     fn drop(self) {
         match self {
-            Value::Null | Value::Bool(_) | Value::Int(_) => {}
+            Value::Null | Value::Bool(_) | Value::Int(_) | Value::Float(_) => {}
             Value::Utf8(text) => drop(text),
             Value::Binary(bytes) => drop(bytes),
             Value::List(items) | Value::Struct(items) => drop(items),
@@ -66,6 +69,7 @@ fn copy(value: &Value) -> Result<Value, AllocError>
         Value::Null => Ok(Value::Null),
         Value::Bool(b) => Ok(Value::Bool(*b)),
         Value::Int(z) => Ok(Value::Int(*z)),
+        Value::Float(x) => Ok(Value::Float(*x)),
         Value::Utf8(text) => Ok(Value::Utf8(text.clone()?)),
         Value::Binary(bytes) => Ok(Value::Binary(copy_bytes(bytes)?)),
         Value::List(items) => Ok(Value::List(copy_all(items)?)),
@@ -134,6 +138,10 @@ fn equal(a: &Value, b: &Value) -> bool
             Value::Int(y) => x == y,
             _ => false,
         },
+        Value::Float(x) => match b {
+            Value::Float(y) => x.is_same(*y),
+            _ => false,
+        },
         Value::Utf8(x) => match b {
             Value::Utf8(y) => x == y,
             _ => false,
@@ -183,6 +191,10 @@ fn feed<H: Hasher>(value: &Value, state: &mut H)
         Value::Int(z) => {
             state.write_u8(2);
             z.hash(state);
+        }
+        Value::Float(x) => {
+            state.write_u8(7);
+            x.feed(state);
         }
         Value::Utf8(text) => {
             state.write_u8(3);

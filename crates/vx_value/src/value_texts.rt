@@ -1,7 +1,7 @@
 // The text of a value of a type.
 ghost use Rattle.std.specs.Prelude.{Some};
 ghost use Rattle.std.specs.Fmt.{WritesOnOk};
-ghost use Rattle.vx_value.specs.Notations.{number_in, quoted_in, shown_words};
+ghost use Rattle.vx_value.specs.Notations.{number_in, float_in, quoted_in, shown_words};
 ghost use Rattle.vx_value.specs.ValueTexts.{value_text, list_text};
 ghost use Rattle.vx_value.specs.Views.{type_of, value_of, data_view};
 
@@ -10,6 +10,7 @@ use crate::{Scalar, Value};
 use std::fmt;
 use std::fmt::{Display, Formatter, Write};
 use vx_dtype::{DType, Shown};
+use vx_floats::Float;
 use vx_literals::{write_day, write_decimal, write_instant};
 
 impl Display for Scalar {
@@ -34,7 +35,7 @@ pub(crate) fn write_list<W: Write>(values: &[Value], t: &DType, f: &mut Formatte
     write_list_in(&Shown, values, t, f)
 }
 
-// A number of a `PType` with that behind it, and a text between quotes as it stands.
+// A number of a `PType` or of a format with that behind it, and a text between quotes as it stands.
 impl ValueNotation for Shown {
     ghost words = { shown_words };
 
@@ -47,6 +48,16 @@ impl ValueNotation for Shown {
             DType::Decimal(decimal, _) => write_decimal(number, decimal.scale(), f),
             DType::Date(_) => write_day(number, f),
             DType::Timestamp(timestamp, _) => write_instant(number, timestamp, f),
+            _ => Ok(()),
+        }
+    }
+
+    fn write_float<W: Write>(&self, x: Float, t: &DType, f: &mut Formatter<W>) -> fmt::Result {
+        match t {
+            DType::Float(format, _) => {
+                x.fmt(f)?;
+                format.fmt(f)
+            }
             _ => Ok(()),
         }
     }

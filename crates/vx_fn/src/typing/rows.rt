@@ -100,6 +100,7 @@ fn number_dtype(t: &DType, nullability: Nullability) -> VortexResult<DType>
 {
     match t {
         DType::Primitive(p, _) => Ok(DType::Primitive(*p, nullability)),
+        DType::Float(format, _) => Ok(DType::Float(*format, nullability)),
         DType::Decimal(decimal, _) => Ok(DType::Decimal(*decimal, nullability)),
         _ => Err(VortexError::NotNumeric),
     }
@@ -108,7 +109,10 @@ fn number_dtype(t: &DType, nullability: Nullability) -> VortexResult<DType>
 fn is_number(t: &DType) -> bool
     ensures { result ≡ is_number (type_of t.now) }
 {
-    matches!(t, DType::Primitive(_, _) | DType::Decimal(_, _))
+    matches!(
+        t,
+        DType::Primitive(_, _) | DType::Float(_, _) | DType::Decimal(_, _)
+    )
 }
 
 pub(super) fn not_dtype(t: &DType) -> VortexResult<DType>
@@ -186,6 +190,7 @@ pub(crate) fn is_atomic(t: &DType) -> bool
         t,
         DType::Bool(_)
             | DType::Primitive(_, _)
+            | DType::Float(_, _)
             | DType::Decimal(_, _)
             | DType::Date(_)
             | DType::Timestamp(_, _)

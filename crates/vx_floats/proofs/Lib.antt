@@ -1,0 +1,12 @@
+pub mod Once
+pub mod Sums
+pub mod Orders
+mod Units
+mod Enough
+mod Fields
+mod Octets
+mod Shown
+mod Scales
+mod DecimalTexts
+pub mod FloatsAgain
+pub mod TextsAscii
