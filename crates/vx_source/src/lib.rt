@@ -1,7 +1,9 @@
 // Source text: expressions, types and scalars as text, and read back.
 #![tactic(auto)]
 
-pub use vx_source_over::{OverError, Written, over, parse_over, parse_over_with_places, read_open};
+pub use vx_source_over::{
+    OverError, Written, is_pointed, over, parse_over, parse_over_with_places, read_open,
+};
 pub use vx_source_parser::{
     Placed, Places, Readings, parse, parse_open, parse_with, parse_with_places, read_again,
 };

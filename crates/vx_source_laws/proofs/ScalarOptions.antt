@@ -6,7 +6,7 @@ use Rattle.vx_dtype.specs.declared.dtype.PType.{PType}
 use Rattle.vx_value.specs.Columns.{Constant, constant}
 use Rattle.vx_value.specs.Fits.{Fits}
 use Rattle.vx_value.specs.Texts.{ptype_text}
-use Rattle.vx_value.specs.Types.{truth, number, decimals, date, timestamp, text, octets, LogicalType, ty, atomic, list, fixed, struct, Datum, bool, int, utf8, bytes}
+use Rattle.vx_value.specs.Types.{truth, number, floating, decimals, date, timestamp, text, octets, LogicalType, ty, atomic, list, fixed, struct, Datum, bool, int, utf8, bytes}
 use Rattle.vx_fn.specs.Functions.{Function, literal, cast}
 use Rattle.vx_source_types.specs.declared.expectation.Expected.{Expected}
 use Rattle.vx_source_types.specs.declared.expectation.Expected.TheVariants.{CloseBracket as TheBracket}
@@ -141,6 +141,7 @@ literal_options (ty (atomic (number p)) true) v room rest f u w h k = typed_opti
 literal_options (ty (atomic truth) true) v room rest f u w h k = typed_options v (ty (atomic truth) true) room rest f u w h k refl
 literal_options (ty (atomic text) true) v room rest f u w h k = typed_options v (ty (atomic text) true) room rest f u w h k refl
 literal_options (ty (atomic octets) true) v room rest f u w h k = typed_options v (ty (atomic octets) true) room rest f u w h k refl
+literal_options (ty (atomic (floating g)) n) v room rest f u w h k = typed_options v (ty (atomic (floating g)) n) room rest f u w h k refl
 literal_options (ty (atomic (decimals p s)) n) v room rest f u w h k = typed_options v (ty (atomic (decimals p s)) n) room rest f u w h k refl
 literal_options (ty (atomic date) n) v room rest f u w h k = typed_options v (ty (atomic date) n) room rest f u w h k refl
 literal_options (ty (atomic (timestamp i z)) n) v room rest f u w h k = typed_options v (ty (atomic (timestamp i z)) n) room rest f u w h k refl

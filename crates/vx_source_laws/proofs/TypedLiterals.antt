@@ -3,7 +3,7 @@ use Rattle.std.proofs.Common.{◌≡◌, ℕ, ◌<◌, ◌≤◌, true, false, L
 use Rattle.std.specs.Prelude.{codes}
 use Rattle.vx_value.specs.Columns.{Constant, constant}
 use Rattle.vx_value.specs.Fits.{Fits}
-use Rattle.vx_value.specs.Types.{truth, number, decimals, date, timestamp, text, octets, LogicalType, ty, atomic, list, fixed, struct, Datum, bool, int, utf8, bytes}
+use Rattle.vx_value.specs.Types.{truth, number, floating, decimals, date, timestamp, text, octets, LogicalType, ty, atomic, list, fixed, struct, Datum, bool, int, utf8, bytes}
 use Rattle.vx_fn.specs.Functions.{literal}
 use Rattle.vx_tree.specs.Trees.{call, no_tree}
 use Rattle.vx_source_types.specs.Tokens.{end}
@@ -92,6 +92,7 @@ literal_again (ty (atomic (number p)) true) v f u w fs r rest h m = typed_again 
 literal_again (ty (atomic truth) true) v f u w fs r rest h m = typed_again v (ty (atomic truth) true) f u w refl fs r rest h m
 literal_again (ty (atomic text) true) v f u w fs r rest h m = typed_again v (ty (atomic text) true) f u w refl fs r rest h m
 literal_again (ty (atomic octets) true) v f u w fs r rest h m = typed_again v (ty (atomic octets) true) f u w refl fs r rest h m
+literal_again (ty (atomic (floating g)) n) v f u w fs r rest h m = typed_again v (ty (atomic (floating g)) n) f u w refl fs r rest h m
 literal_again (ty (atomic (decimals p s)) n) v f u w fs r rest h m = typed_again v (ty (atomic (decimals p s)) n) f u w refl fs r rest h m
 literal_again (ty (atomic date) n) v f u w fs r rest h m = typed_again v (ty (atomic date) n) f u w refl fs r rest h m
 literal_again (ty (atomic (timestamp i z)) n) v f u w fs r rest h m = typed_again v (ty (atomic (timestamp i z)) n) f u w refl fs r rest h m

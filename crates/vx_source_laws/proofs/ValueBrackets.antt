@@ -1,11 +1,10 @@
 -- The square brackets that are open in a value.
 use Rattle.std.proofs.Common.{◌≡◌, ℕ, zero, suc, ◌+◌, List, [], ◌∷◌, Option, Some, None, Ok, refl, subst}
-use Rattle.std.specs.Prelude.{ℤ}
 use Rattle.vx_value.specs.Types.{Name, Datum}
 use Rattle.vx_source_types.specs.declared.token.Sign.TheVariants.{OpenBracket, CloseBracket, OpenBrace, CloseBrace, Comma, Colon}
 use Rattle.vx_source_types.specs.Tokens.{Lexeme, word, quoted, number as numeral, point, text, octets, sign}
 use Rattle.vx_source_types.specs.Reading.{more}
-use Rattle.vx_source_types.specs.ValueReading.{ValueFrame, in_items, in_row, ValueMode, value_due, first_item, first_named, next_named, named_value, whole_value, ValueState, ValueAnswer, word_value, number_value, digits_behind, point_units, point_begins, simple_begins, value_begins, value_ends, value_next, value_step}
+use Rattle.vx_source_types.specs.ValueReading.{ValueFrame, in_items, in_row, ValueMode, value_due, first_item, first_named, next_named, named_value, whole_value, ValueState, ValueAnswer, word_value, number_value, point_begins, simple_begins, value_begins, value_ends, value_next, value_step}
 use Rattle.vx_source_laws.proofs.Collecting.{Brackets}
 
 -- a bracket is open around the items of each list
@@ -31,10 +30,9 @@ simple_counted : (fs : List ValueFrame) (ns : List Name) (r : ℕ) (x : Lexeme) 
 simple_counted fs ns r x (Some v) t b q = to (brackets_around fs) x q b
 simple_counted fs ns r x None t b q = cc
 
-point_counted : (fs : List ValueFrame) (ns : List Name) (r : ℕ) (s : List ℕ) (k : ℕ) (o : Option ℤ) (t : ValueState) → point_begins fs ns r k o ≡ Ok (more t) → Brackets (brackets_around fs) (point s) (value_brackets t)
-point_counted [] ns r s k (Some i) t q = to 0 (point s) q refl
-point_counted [] ns r s k None t q = cc
-point_counted (f ∷ fs) ns r s k o t q = cc
+point_counted : (fs : List ValueFrame) (ns : List Name) (r : ℕ) (s : List ℕ) (t : ValueState) → point_begins fs ns r s ≡ Ok (more t) → Brackets (brackets_around fs) (point s) (value_brackets t)
+point_counted [] ns r s t q = to 0 (point s) q refl
+point_counted (f ∷ fs) ns r s t q = cc
 
 begun_counted : (fs : List ValueFrame) (ns : List Name) (r : ℕ) (x : Lexeme) (t : ValueState) → value_begins fs ns r x ≡ Ok (more t) → Brackets (brackets_around fs) x (value_brackets t)
 begun_counted fs ns zero (sign OpenBracket) t q = cc
@@ -43,7 +41,7 @@ begun_counted fs ns zero (sign OpenBrace) t q = cc
 begun_counted fs ns (suc r) (sign OpenBrace) t q = to (brackets_around fs) (sign OpenBrace) q refl
 begun_counted fs ns r (word w) t q = simple_counted fs ns r (word w) (word_value w) t refl q
 begun_counted fs ns r (numeral n m w) t q = simple_counted fs ns r (numeral n m w) (number_value n m w) t refl q
-begun_counted fs ns r (point s) t q = point_counted fs ns r s (digits_behind s) (point_units s) t q
+begun_counted fs ns r (point s) t q = point_counted fs ns r s t q
 begun_counted fs ns r (text s) t q = to (brackets_around fs) (text s) q refl
 begun_counted fs ns r (octets s) t q = to (brackets_around fs) (octets s) q refl
 begun_counted fs ns r x t q = cc

@@ -28,6 +28,7 @@ pub fn type_is_spelled(t: &DType)
         DType::Timestamp(timestamp, _) => timestamp_is_spelled(timestamp),
         DType::Bool(_)
         | DType::Primitive(_, _)
+        | DType::Float(_, _)
         | DType::Date(_)
         | DType::Utf8(_)
         | DType::Binary(_) => {}
@@ -97,7 +98,7 @@ pub fn value_is_spelled(value: &Value)
         Value::Binary(octets) => bytes_are_spelled(octets.as_slice()),
         Value::List(items) => values_are_spelled(items.as_slice()),
         Value::Struct(items) => values_are_spelled(items.as_slice()),
-        Value::Null | Value::Bool(_) | Value::Int(_) => {}
+        Value::Null | Value::Bool(_) | Value::Int(_) | Value::Float(_) => {}
     }
 }
 

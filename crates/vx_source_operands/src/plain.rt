@@ -9,7 +9,7 @@ use vx_types::Scalar;
 /// How a value is read that no type follows.
 #[derive(Clone, Copy, Debug, PartialEq, Eq)]
 pub enum PlainValues {
-    /// As it is alone: a number is an `i32`, and a null needs its type.
+    /// As it is alone: a whole number is an `i32`, one with a point an `f64`, and a null needs its type.
     Alone,
     /// As one that may take another type: of one of two, which differ.
     Open(bool),

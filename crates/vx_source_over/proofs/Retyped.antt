@@ -1,13 +1,14 @@
 -- Settling changes nothing but the types of literals that were written without one, and what their values are as those of the types.
 use Rattle.std.proofs.Common.{◌≡◌, ◌∙◌, ℕ, suc, List, [], ◌∷◌, drop, Result, Ok, Err, refl, ap, subst, Bool, true, false}
-use Rattle.std.specs.Prelude.{ℤ, Option, Some, None, ◌||◌, ◌&&◌, if◌then◌else◌}
+use Rattle.std.specs.Prelude.{Option, Some, None, option_and_then, ◌||◌, ◌&&◌, if◌then◌else◌}
 use Rattle.std.specs.Option.{is_some}
+use Rattle.vx_dtype.specs.declared.float_type.FloatType.TheVariants.{F64}
 use Rattle.vx_value.specs.Columns.{Constant, constant}
 use Rattle.vx_value.specs.Fits.{fits, Fits}
-use Rattle.vx_value.specs.Types.{Name, Atomic, truth, number, decimals, date, timestamp, text, octets, LogicalType, ty, atomic, Datum, null, bool, int, utf8, bytes, list_of, struct_of, is_null_datum, with_nullability}
+use Rattle.vx_value.specs.Types.{Name, Atomic, truth, number, floating, decimals, date, timestamp, text, octets, LogicalType, ty, atomic, Datum, null, bool, int, float, utf8, bytes, list_of, struct_of, is_null_datum, with_nullability}
 use Rattle.vx_fn.specs.Functions.{Function, literal}
 use Rattle.vx_tree.specs.Trees.{Tree, root, call, Trees, no_tree, tree}
-use Rattle.vx_source_types.specs.Literals.{fitting, plain_type, plain_of, plain_literal, in_range, names_left, typed_of, typed_literal}
+use Rattle.vx_source_types.specs.Literals.{fitting, plain_type, plain_of, plain_literal, in_range, names_left, point_literal, typed_of, typed_literal}
 use Rattle.vx_source_types.specs.Untyped.{has_texts, point_read, typed_value}
 use Rattle.vx_source_types.specs.ValueReading.{Drafted, drafted, pointed}
 use Rattle.vx_source_types.specs.declared.expectation.Expected.{Expected}
@@ -59,10 +60,14 @@ typed_of_is t (Some []) None c h = cc
 typed_of_is t (Some (a ∷ names)) o c h = cc
 typed_of_is t None o c h = cc
 
+point_is : (t : LogicalType) (o : Option Datum) (c : Constant) → option_and_then (fitting t) o ≡ Some c → (w : Datum) × (o ≡ Some w) × (fitting t w ≡ Some c)
+point_is t (Some w) c h = (w, refl, h)
+point_is t None c h = cc
+
 -- a literal with the type behind it has the value that the type makes of what was written
 typed_is : (d : Drafted) (t : LogicalType) (c : Constant) → typed_literal d t ≡ Some c → (w : Datum) × (value_before d t ≡ Some w) × (fitting t w ≡ Some c)
 typed_is (drafted v names) t c h = typed_of_is t (names_left v t names) (typed_value v t) c h
-typed_is (pointed i k) t c h = typed_of_is t (Some []) (point_read i k t) c h
+typed_is (pointed s) t c h = point_is t (point_read s t) c h
 
 fitted_is : (t : LogicalType) (b : Constant) (g : Function) → fitted t b ≡ Ok g → IsLiteral b g
 fitted_is t b g h = go (typed_literal (written b) t) refl h
@@ -85,6 +90,7 @@ alone_stays : (v : Datum) (t : LogicalType) → plain_type v ≡ Ok t → typed_
 alone_stays null t h = cc
 alone_stays (bool b) t h = subst (λ u. typed_value (bool b) u ≡ Some (bool b)) (the_type _ t h) refl
 alone_stays (int i) t h = subst (λ u. typed_value (int i) u ≡ Some (int i)) (the_type _ t h) refl
+alone_stays (float x) t h = subst (λ u. typed_value (float x) u ≡ Some (float x)) (the_type _ t h) refl
 alone_stays (utf8 s) t h = subst (λ u. typed_value (utf8 s) u ≡ Some (utf8 s)) (the_type _ t h) refl
 alone_stays (bytes bs) t h = subst (λ u. typed_value (bytes bs) u ≡ Some (bytes bs)) (the_type _ t h) refl
 alone_stays (list_of vs) t h = cc
@@ -100,7 +106,17 @@ plain_is v (Ok t) g p h = go (fits v t) refl h
 
 alone_is : (d : Drafted) (g : Function) → as_alone (plain_literal d) ≡ Ok g → (t : LogicalType) × (w : Datum) × (g ≡ literal t w) × (value_before d t ≡ Some w) × Fits w t
 alone_is (drafted v names) g h = let p = plain_is v (plain_type v) g refl h in (p.0, v, p.1, p.2, p.3)
-alone_is (pointed i k) g h = cc
+alone_is (pointed s) g h = go (point_literal s f64) refl h
+  where
+    f64 : LogicalType
+    f64 = ty (atomic (floating F64)) false
+
+    go : (o : Option Constant) → point_literal s f64 ≡ o → as_alone (in_range o) ≡ Ok g → (t : LogicalType) × (w : Datum) × (g ≡ literal t w) × (point_read s t ≡ Some w) × Fits w t
+    go (Some c) q k =
+        let p = typed_is (pointed s) f64 c q in
+        let f = fitting_is f64 p.0 c p.2 in
+        (f64, p.0, the_function (literal c.type c.value) g k ∙ ap (λ (x : Constant). literal x.type x.value) f.0, p.1, f.1)
+    go None q k = cc
 
 literal_is : (w : Option LogicalType) (c : Constant) (g : Function) → literal_as w c ≡ Ok g → IsLiteral c g
 literal_is (Some t) c g h = fitted_is (with_nullability (is_null_datum c.value) t) c g h
@@ -212,12 +228,14 @@ stays_as v w o h k = cc
 
 -- of a type whose values are no texts before it
 same_before : (v : Datum) (a : Atomic) (n : Bool) → has_texts (ty (atomic a) n) ≡ false → typed_value v (ty (atomic a) n) ≡ Some v
+same_before v (floating f) n h = cc
 same_before v (decimals p k) n h = cc
 same_before v date n h = cc
 same_before v (timestamp u z) n h = cc
 same_before null truth n h = refl
 same_before (bool b) truth n h = refl
 same_before (int i) truth n h = refl
+same_before (float x) truth n h = refl
 same_before (utf8 s) truth n h = refl
 same_before (bytes bs) truth n h = refl
 same_before (list_of vs) truth n h = refl
@@ -225,6 +243,7 @@ same_before (struct_of vs) truth n h = refl
 same_before null (number p) n h = refl
 same_before (bool b) (number p) n h = refl
 same_before (int i) (number p) n h = refl
+same_before (float x) (number p) n h = refl
 same_before (utf8 s) (number p) n h = refl
 same_before (bytes bs) (number p) n h = refl
 same_before (list_of vs) (number p) n h = refl
@@ -232,6 +251,7 @@ same_before (struct_of vs) (number p) n h = refl
 same_before null text n h = refl
 same_before (bool b) text n h = refl
 same_before (int i) text n h = refl
+same_before (float x) text n h = refl
 same_before (utf8 s) text n h = refl
 same_before (bytes bs) text n h = refl
 same_before (list_of vs) text n h = refl
@@ -239,26 +259,28 @@ same_before (struct_of vs) text n h = refl
 same_before null octets n h = refl
 same_before (bool b) octets n h = refl
 same_before (int i) octets n h = refl
+same_before (float x) octets n h = refl
 same_before (utf8 s) octets n h = refl
 same_before (bytes bs) octets n h = refl
 same_before (list_of vs) octets n h = refl
 same_before (struct_of vs) octets n h = refl
 
 -- a number with a point is none of these
-no_point : (i : ℤ) (k : ℕ) (a : Atomic) (n : Bool) → has_texts (ty (atomic a) n) ≡ false → point_read i k (ty (atomic a) n) ≡ None
-no_point i k (decimals p s) n h = cc
-no_point i k date n h = cc
-no_point i k (timestamp u z) n h = cc
-no_point i k truth n h = refl
-no_point i k (number p) n h = refl
-no_point i k text n h = refl
-no_point i k octets n h = refl
+no_point : (s : List ℕ) (a : Atomic) (n : Bool) → has_texts (ty (atomic a) n) ≡ false → point_read s (ty (atomic a) n) ≡ None
+no_point s (floating f) n h = cc
+no_point s (decimals p k) n h = cc
+no_point s date n h = cc
+no_point s (timestamp u z) n h = cc
+no_point s truth n h = refl
+no_point s (number p) n h = refl
+no_point s text n h = refl
+no_point s octets n h = refl
 
 none_as : (w : Datum) (o : Option Datum) → o ≡ None → o ≡ Some w → ⊥
 none_as w o h k = cc
 
 its_value : (t : LogicalType) (v x : Datum) (names : List Name) → written_as t v ≡ drafted x names → x ≡ v
-its_value (ty (atomic (decimals p k)) n) (int i) x names e = cc
+its_value (ty (atomic text) true) (utf8 s) x names e = cc
 its_value t v x names e = cc
 
 -- what was written of a scalar is its value, or a number with a point
@@ -266,7 +288,7 @@ written_so : (c : Constant) (w : Datum) (a : Atomic) (n : Bool) → has_texts (t
 written_so c w a n h q = go (written c) refl q
   where
     go : (d : Drafted) → written c ≡ d → value_before d (ty (atomic a) n) ≡ Some w → w ≡ c.value
-    go (pointed i k) e q = absurd (none_as w _ (no_point i k a n h) q)
+    go (pointed s) e q = absurd (none_as w _ (no_point s a n h) q)
     go (drafted v names) e q = stays_as v w _ (same_before v a n h) q ∙ its_value c.type c.value v names e
 
 pub other_values_stay : OtherValuesStay

@@ -14,7 +14,7 @@ use Rattle.vx_source_over.specs.Settling.{read_over, written}
 -- the value that a type behind it makes of what was written
 abbrev pub value_before : Drafted → LogicalType → Option Datum
 value_before (drafted v names) t = typed_value v t
-value_before (pointed i k) t = point_read i k t
+value_before (pointed s) t = point_read s t
 
 -- that is the value of the scalar as one of the type: what the type behind it makes of what was written
 abbrev pub IsValueAs : Constant → LogicalType → Datum → Type 0

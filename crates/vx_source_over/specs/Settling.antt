@@ -4,7 +4,7 @@ use Rattle.std.specs.Prelude.{ℕ, suc, drop, Bool, true, false, List, [], ◌�
 use Rattle.std.specs.Option.{option_or}
 use Rattle.std.specs.Result.{result_ok}
 use Rattle.vx_value.specs.Columns.{Constant}
-use Rattle.vx_value.specs.Types.{decimals, LogicalType, ty, atomic, Datum, int, is_null_datum, with_nullability}
+use Rattle.vx_value.specs.Types.{text, LogicalType, ty, atomic, Datum, utf8, is_null_datum, with_nullability}
 use Rattle.vx_fn.specs.Functions.{Function, literal}
 use Rattle.vx_tree.specs.Trees.{Tree, root, call, Trees, no_tree, tree, typed}
 use Rattle.vx_source_types.specs.Literals.{plain_literal, typed_literal}
@@ -24,13 +24,18 @@ when_settled f (Err r) = Err r
 
 -- ---- a literal
 
--- what was written of a scalar that is left open: of a decimal a number with a point, of any other its value
+-- what was written of a scalar that is left open: of a text that may be null a number with a point, of any other its value
 abbrev pub written_as : LogicalType → Datum → Drafted
-written_as (ty (atomic (decimals p k)) n) (int i) = pointed i k
+written_as (ty (atomic text) true) (utf8 s) = pointed s
 written_as t v = drafted v []
 
 abbrev pub written : Constant → Drafted
 written c = written_as c.type c.value
+
+-- whether that is a number with a point
+abbrev pub is_pointed : Drafted → Bool
+is_pointed (drafted v names) = false
+is_pointed (pointed s) = true
 
 -- the literal that was read, or that what was written is none of the type
 abbrev pub read_as : LogicalType → Constant → Option Constant → Result Function Refusal

@@ -3,12 +3,12 @@ ghost use Rattle.std.specs.Prelude.{◌≡◌};
 ghost use Rattle.vx_source_over.specs.Views.{over_error};
 ghost use Rattle.vx_source_over.specs.declared.error.OverError.TheVariants.{OutOfMemory};
 
+use crate::literals::is_pointed;
 use std::alloc::{AllocError, AllocFailed};
 use std::error::Error;
 use std::fmt;
 use std::fmt::{Display, Formatter, Write};
 use vx_dtype::write_quoted;
-use vx_literals::write_decimal;
 use vx_source_types::{Expected, ParseError, TypeText};
 use vx_types::{DType, Scalar, Value};
 
@@ -24,7 +24,7 @@ pub enum OverError {
         expected: Expected,
     },
     /// The literal in these bytes of the text is none of the type that it takes from what it stands beside. The scalar is
-    /// what was written, before it has a type: a number with a point is a decimal.
+    /// what was written, before it has a type: [`is_pointed`](crate::is_pointed) tells numbers with a point.
     Misfit {
         start: usize,
         end: usize,
@@ -57,12 +57,11 @@ impl Error for OverError {}
 // Writes what is written of it without a type.
 fn write_plain<W: Write>(scalar: &Scalar, f: &mut Formatter<W>) -> fmt::Result {
     match scalar.value() {
-        Value::Int(units) if let DType::Decimal(decimal, _) = scalar.dtype() => {
-            write_decimal(*units, decimal.scale(), f)
-        }
+        Value::Utf8(digits) if is_pointed(scalar) => f.write_str(digits.as_str()),
         Value::Null => f.write_str("null"),
         Value::Bool(b) => b.fmt(f),
         Value::Int(z) => z.fmt(f),
+        Value::Float(x) => x.fmt(f),
         Value::Utf8(text) => write_quoted(text.as_str(), '"', f),
         Value::Binary(bytes) => {
             f.write_str("0x")?;

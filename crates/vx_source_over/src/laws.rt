@@ -2,7 +2,7 @@
 ghost use Rattle.vx_source_over.specs.Laws.{OtherValuesStay, TypesAloneChange, TypedTextsStay, ReadingOverIsUnique};
 
 /// Nothing but types of literals that were written without one changes, and with each of them the value, which is what
-/// stands before the type: the number that a text says before a decimal, a day or an instant.
+/// stands before the type: the number that a text says before a decimal, a floating-point number, a day or an instant.
 pub fn types_alone_change()
     ensures { TypesAloneChange }
 {}

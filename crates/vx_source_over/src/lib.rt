@@ -12,5 +12,6 @@ mod written;
 
 pub use error::OverError;
 pub use laws::{other_values_stay, reading_over_is_unique, typed_texts_stay, types_alone_change};
+pub use literals::is_pointed;
 pub use whole::{parse_over, parse_over_with_places};
 pub use written::{Written, over, read_open};

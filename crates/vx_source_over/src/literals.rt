@@ -5,7 +5,7 @@ ghost use Rattle.vx_value.specs.Views.{type_of};
 ghost use Rattle.vx_source_types.specs.Literals.{plain_literal};
 ghost use Rattle.vx_source_types.specs.ValueViews.{draft_of};
 ghost use Rattle.vx_source_over.specs.Reading.{Settles};
-ghost use Rattle.vx_source_over.specs.Settling.{literal_as, fitted, read_as, as_alone, written};
+ghost use Rattle.vx_source_over.specs.Settling.{literal_as, fitted, is_pointed, read_as, as_alone, written};
 ghost use Rattle.vx_source_over.specs.Views.{literal_with};
 
 use crate::OverError;
@@ -30,14 +30,22 @@ pub(crate) fn literal_as(
     }
 }
 
-// What was written of the scalar: of a decimal a number with a point, of any other its value.
+// What was written of the scalar: a number with a point, or a value.
 fn written(alloc: Global, scalar: &Scalar) -> Result<Draft, AllocError>
     ensures { IfOk result (λ d. draft_of d ≡ written scalar.now) }
 {
-    match (scalar.dtype(), scalar.value()) {
-        (DType::Decimal(decimal, _), Value::Int(units)) => Ok(Draft::Point(*units, *decimal)),
-        (_, value) => Ok(Draft::Value(value.clone()?, Vec::new(alloc))),
+    match scalar.value() {
+        Value::Utf8(digits) if is_pointed(scalar) => Ok(Draft::Point(digits.clone()?)),
+        value => Ok(Draft::Value(value.clone()?, Vec::new(alloc))),
     }
+}
+
+/// Whether the scalar of a literal without a type stands for a number with a point: it is its text then, as one of texts that
+/// may be null.
+pub fn is_pointed(scalar: &Scalar) -> bool
+    ensures { result ≡ is_pointed (written scalar.now) }
+{
+    matches!(scalar.value(), Value::Utf8(_)) && scalar.dtype().is_nullable()
 }
 
 // What was written of the scalar as one of the type, nullable where its value is null, if it is one.

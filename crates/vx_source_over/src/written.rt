@@ -84,8 +84,8 @@ fn read_alone(alloc: Global, text: &str, limit: usize) -> Result<Option<Placed>,
 /// and nothing else changes.
 ///
 /// Their values are those that are read before the type: beside a date `"2024-01-31"` is that day, as in
-/// `"2024-01-31"::date`, and `"12.50"` beside a `decimal(10, 2)` is 1250 units. A whole number beside a decimal is that
-/// number, as its text would be.
+/// `"2024-01-31"::date`, and `"12.50"` beside a `decimal(10, 2)` is 1250 units. A number beside a decimal is that number, as
+/// its text would be, and beside a floating-point number the nearest one.
 ///
 /// They take it from the other side of a comparison, of `+`, `and` and `or`, of BETWEEN and of `fill_null`, and from the
 /// other branches of CASE, `if` and `zip`: from the first of these that has a type of its own, else from what is around

@@ -77,8 +77,8 @@ pub struct Readings {
 }
 
 /// What the text says where values without a type may take one from what they stand beside, as two readings of it. They are
-/// nested at most as deep as said. Refuses as [`parse_with`] does, but for numbers above the range of `i32` and nulls
-/// without a type, which are read.
+/// nested at most as deep as said. Refuses as [`parse_with`] does, but for numbers out of the range of `i32` or `f64` and
+/// nulls without a type, which are read.
 pub fn parse_open(alloc: Global, text: &str, limit: usize) -> Result<Readings, ParseError>
     ensures reads { IfOk result (λ both. AreReadings limit text.now (tree_of both.first.expression) (tree_of both.second)) }
     ensures complete { (e d : Tree) → AreReadings limit text.now e d → IfErr result (λ x. x ≡ OutOfMemory) }

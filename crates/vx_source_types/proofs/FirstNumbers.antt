@@ -4,11 +4,11 @@ use Rattle.std.specs.Prelude.{◌==◌, ◌||◌, ◌&&◌, nat_lt}
 use Rattle.std.specs.Fmt.{decimal}
 use Rattle.std.specs.List.{list_all}
 use Rattle.std.proofs.Math.Seq.{take-append_seam, drop-append_seam}
-use Rattle.std.proofs.lemmas.Bool.{cond-false, and_parts, and_from}
+use Rattle.std.proofs.lemmas.Bool.{cond-false, cond-true, and_parts, and_from}
 use Rattle.std.proofs.lemmas.Bool.Decides.{nat_tests}
 use Rattle.std.proofs.lemmas.Fmt.{decimal_by_steps}
 use Rattle.vx_source_types.specs.Characters.{is_letter, is_digit, is_word, is_blank}
-use Rattle.vx_source_types.specs.Tokens.{number, Taken, next, begins_comment, is_hex, word_len, magnitude, more_digits, more_or_same, narrow, digits_go_on, digits_len, has_point, point_of, number_of, number_behind, number_taken, token_at, first}
+use Rattle.vx_source_types.specs.Tokens.{number, Taken, next, begins_comment, is_hex, word_len, magnitude, more_digits, more_or_same, narrow, digits_go_on, digits_len, is_e, has_point, point_len, exponent_len, sign_len, power_len, fraction_len, number_of, number_behind, number_taken, token_at, first}
 use Rattle.vx_dtype.proofs.Choice.{yes, no}
 use Rattle.vx_source_types.proofs.FirstTokens.{no_blank, prefix_of_all}
 
@@ -58,9 +58,9 @@ next_digit n ds h so_far = λ small.
 pub spelled : (n : ℕ) → n < 2 ^ 64 → (magnitude (Some 0) (decimal n) ≡ Some n) × (list_all is_digit (decimal n) ≡ true) × (0 < length (decimal n))
 spelled n h = decimal_by_steps Spells one_digit next_digit n h h
 
--- whether digits may go on with the byte
+-- whether digits may go on with the byte, or an exponent begin
 abbrev pub is_more : ℕ → Bool
-is_more b = is_digit b || b == 95
+is_more b = is_digit b || (b == 95 || is_e b)
 
 digit_goes_on : (d : ℕ) (bs : List ℕ) → is_digit d ≡ true → digits_go_on d bs ≡ true
 digit_goes_on d bs e = or_first (is_digit d) _ e where
@@ -69,15 +69,32 @@ digit_goes_on d bs e = or_first (is_digit d) _ e where
   or_first false y e = cc
 
 other_ends : (b : ℕ) (bs : List ℕ) → is_more b ≡ false → digits_go_on b bs ≡ false
-other_ends b bs e = neither (is_digit b) (b == 95) (is_digit (next bs)) e where
-  neither : (x y z : Bool) → (x || y) ≡ false → (x || (y && z)) ≡ false
-  neither true y z e = cc
-  neither false true z e = cc
-  neither false false z e = refl
+other_ends b bs e = neither (is_digit b) (b == 95) (is_e b) (is_digit (next bs)) e where
+  neither : (x y w z : Bool) → (x || (y || w)) ≡ false → (x || (y && z)) ≡ false
+  neither true y w z e = cc
+  neither false true w z e = cc
+  neither false false w z e = refl
 
--- a whole number ends there: neither digits nor a point go on
+no_e : (b : ℕ) → is_more b ≡ false → is_e b ≡ false
+no_e b e = neither (is_digit b) (b == 95) (is_e b) e where
+  neither : (x y w : Bool) → (x || (y || w)) ≡ false → w ≡ false
+  neither true y w e = cc
+  neither false true w e = cc
+  neither false false w e = e
+
+no_exponent : (bs : List ℕ) → is_more (next bs) ≡ false → exponent_len bs ≡ 0
+no_exponent [] e = refl
+no_exponent (b ∷ bs) e = cond-false (is_e b) (power_len (sign_len bs) bs) 0 (no_e b e)
+
+-- a whole number ends there: neither digits nor a point go on, and no exponent begins
 abbrev pub IsApart : List ℕ → Type 0
 IsApart bs = (is_more (next bs) ≡ false) × (has_point bs ≡ false)
+
+no_fraction : (bs : List ℕ) → IsApart bs → fraction_len bs ≡ 0
+no_fraction bs e =
+    let none : point_len bs ≡ 0 = cond-false (has_point bs) (1 + digits_len (drop 1 bs)) 0 e.1 in
+    let behind : exponent_len (drop (point_len bs) bs) ≡ 0 = ap (λ k. exponent_len (drop k bs)) none ∙ no_exponent bs e.0 in
+    omega arith
 
 -- the digits end with the last of them
 digits_of_all : (ds rest : List ℕ) → list_all is_digit ds ≡ true → is_more (next rest) ≡ false → digits_len (ds ++ rest) ≡ length ds
@@ -103,7 +120,7 @@ taken_number negative ds w rest n h m e k f =
     let of_word : (word_len (w ++ rest) ≡ length w) = long in
     let of_front = take-append_seam w rest in
     let of_rest = drop-append_seam w rest in
-    ap (λ len. number_behind negative len bs) digits ∙ cond-false (has_point (drop (length ds) bs)) (point_of negative (length ds + 1 + digits_len (drop 1 (drop (length ds) bs))) bs) (number_of negative (length ds) bs) (ap has_point behind ∙ e.1)
+    ap (λ len. number_behind negative len bs) digits ∙ cond-true (fraction_len (drop (length ds) bs) == 0) (number_of negative (length ds) bs) _ (ap (λ xs. fraction_len xs == 0) behind ∙ ap (λ k. k == 0) (no_fraction (w ++ rest) e))
     ∙ ap (λ xs. after (magnitude (Some 0) (take (length ds) bs)) xs) behind
     ∙ ap (λ xs. after (magnitude (Some 0) xs) (w ++ rest)) front ∙ ap (λ o. after o (w ++ rest)) m
     ∙ ap (λ len. cut (Some n) len (w ++ rest)) of_word ∙ ap (λ xs. made (Some n) xs (drop (length w) (w ++ rest))) of_front ∙ ap (λ xs. made (Some n) w xs) of_rest

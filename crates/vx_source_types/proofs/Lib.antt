@@ -13,6 +13,7 @@ pub mod FieldSources
 pub mod NameSources
 pub mod ByteTexts
 pub mod WrittenTexts
+pub mod FloatTexts
 pub mod Typing
 pub mod TypedAgain
 pub mod ItemSources

@@ -25,7 +25,7 @@ next_stops fs (first_named d) ns r u = λ e. (cc)
 next_stops fs (next_named d) ns r u = λ e. (cc)
 next_stops fs (named_value d) ns r u = λ e. (cc)
 next_stops fs (whole_value v) ns r u = value_stops fs ns r v u
-next_stops fs (whole_point i k) ns r u = λ e. (cc)
+next_stops fs (whole_point s) ns r u = λ e. (cc)
 
 ended_stops : (o : Result Constant Expected) (u : ScalarState) → ¬ (ended o ≡ Ok (more u))
 ended_stops (Ok c) u = λ e. (cc)

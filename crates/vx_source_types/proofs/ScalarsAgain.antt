@@ -12,7 +12,7 @@ use Rattle.vx_literals.specs.Instants.{instant_text}
 use Rattle.vx_value.specs.Columns.{constant}
 use Rattle.vx_value.specs.Fits.{fits, each_fits, fields_fit, Fits}
 use Rattle.vx_value.specs.Texts.{ptype_text}
-use Rattle.vx_value.specs.Types.{Name, truth, number, decimals, date, timestamp, text, octets, LogicalType, ty, atomic, list, fixed, struct, Fields, no_field, field, Datum, null, bool, int, utf8, bytes, list_of, struct_of, Data, no_datum, datum}
+use Rattle.vx_value.specs.Types.{Name, truth, number, floating, decimals, date, timestamp, text, octets, LogicalType, ty, atomic, list, fixed, struct, Fields, no_field, field, Datum, null, bool, int, float, utf8, bytes, list_of, struct_of, Data, no_datum, datum}
 use Rattle.vx_source_types.specs.Characters.{is_word}
 use Rattle.vx_source_types.specs.Tokens.{number as numeral, end, next, first}
 use Rattle.vx_source_types.proofs.FirstNumbers.{IsApart, first_number, first_below_zero}
@@ -83,6 +83,7 @@ mutual
   left_by (int i) (ty (atomic (decimals p s)) n) ms f = refl
   left_by (int i) (ty (atomic date) n) ms f = dated_left (day_text i) i (civil_at i) (ty (atomic date) n) ms
   left_by (int i) (ty (atomic (timestamp u z)) n) ms f = dated_left (instant_text u z i) i _ (ty (atomic (timestamp u z)) n) ms
+  left_by (float x) t ms f = refl
   left_by (utf8 s) t ms f = refl
   left_by (bytes s) t ms f = refl
   left_by (list_of vs) (ty (list t) n) ms f = items_left_by vs t ms f
@@ -208,6 +209,7 @@ scalar_again (ty (atomic (number p)) true) v room f u w h k = typed_again v (ty 
 scalar_again (ty (atomic truth) true) v room f u w h k = typed_again v (ty (atomic truth) true) room f u w h k
 scalar_again (ty (atomic text) true) v room f u w h k = typed_again v (ty (atomic text) true) room f u w h k
 scalar_again (ty (atomic octets) true) v room f u w h k = typed_again v (ty (atomic octets) true) room f u w h k
+scalar_again (ty (atomic (floating g)) n) v room f u w h k = typed_again v (ty (atomic (floating g)) n) room f u w h k
 scalar_again (ty (atomic (decimals p s)) n) v room f u w h k = typed_again v (ty (atomic (decimals p s)) n) room f u w h k
 scalar_again (ty (atomic date) n) v room f u w h k = typed_again v (ty (atomic date) n) room f u w h k
 scalar_again (ty (atomic (timestamp i z)) n) v room f u w h k = typed_again v (ty (atomic (timestamp i z)) n) room f u w h k

@@ -1,5 +1,5 @@
 -- A value that stands without its type has its type behind it again.
-use Rattle.std.proofs.Common.{◌≡◌, ℕ, Bool, true, false, List, Option, Some, None, refl, ap, ◌∙◌, arith}
+use Rattle.std.proofs.Common.{◌≡◌, Bool, true, Option, Some, None, refl, ap, ◌∙◌, arith}
 use Rattle.std.specs.Prelude.{ℤ, pos}
 use Rattle.std.specs.Int.{int_div_euclid}
 use Rattle.std.specs.Option.{option_and_then, option_map, is_some}
@@ -11,10 +11,11 @@ use Rattle.vx_literals.proofs.DecimalsAgain.{decimal_again}
 use Rattle.vx_literals.proofs.InstantsAgain.{instant_again}
 use Rattle.vx_literals.proofs.ReadBack.{day_again}
 use Rattle.vx_value.specs.Fits.{fits, each_fits, fields_fit, Fits}
-use Rattle.vx_value.specs.Types.{Name, number, decimals, date, timestamp, text, LogicalType, ty, atomic, list, fixed, struct, Fields, no_field, field, Datum, null, bool, int, utf8, bytes, list_of, struct_of, Data, no_datum, datum}
+use Rattle.vx_value.specs.Types.{Name, number, floating, decimals, date, timestamp, text, LogicalType, ty, atomic, list, fixed, struct, Fields, no_field, field, Datum, null, bool, int, float, utf8, bytes, list_of, struct_of, Data, no_datum, datum}
+use Rattle.vx_source_types.proofs.FloatTexts.{float_again}
 use Rattle.vx_source_types.proofs.WrittenTexts.{few_digits}
 use Rattle.vx_source_types.specs.TypePrintable.{IsPrintable, ArePrintable}
-use Rattle.vx_source_types.specs.Untyped.{dated, untyped_number, untyped, untyped_items, untyped_row, typed_value, typed_items, typed_row}
+use Rattle.vx_source_types.specs.Untyped.{dated, untyped, untyped_items, untyped_row, typed_value, typed_items, typed_row}
 
 day_typed : (i : ℤ) (n : Bool) (o : Option Civil) → civil_at i ≡ o → typed_value (dated (day_text i) i o) (ty (atomic date) n) ≡ Some (int i)
 day_typed i n (Some c) e = ap (λ s. option_map int (day_read s)) (ap (day_or_number i) e) ∙ ap (option_map int) (day_again i c e)
@@ -36,6 +37,7 @@ mutual
   typed_again (int i) (ty (atomic (decimals p s)) n) f w = ap (option_map int) (decimal_again i s (few_digits i p w.1 f) (omega arith))
   typed_again (int i) (ty (atomic date) n) f w = day_typed i n (civil_at i) refl
   typed_again (int i) (ty (atomic (timestamp u z)) n) f w = instant_typed u z i n _ refl
+  typed_again (float x) (ty (atomic (floating g)) n) f w = ap (option_map float) (float_again x g f)
   typed_again (utf8 s) (ty (atomic text) n) f w = refl
   typed_again (bytes s) t f w = refl
   typed_again (list_of vs) (ty (list t) n) f w = ap (option_map list_of) (items_again vs t f w)

@@ -7,11 +7,13 @@ use Rattle.std.proofs.lemmas.Bool.{and_from, le-leb}
 use Rattle.std.proofs.lemmas.Bool.Decides.{nat_tests}
 use Rattle.vx_dtype.specs.declared.dtype.PType.{PType}
 use Rattle.vx_dtype.specs.declared.dtype.PType.TheVariants.{U8, U16, U32, U64, I8, I16, I32, I64}
+use Rattle.vx_dtype.specs.declared.float_type.FloatType.{FloatType}
+use Rattle.vx_dtype.specs.declared.float_type.FloatType.TheVariants.{F32, F64}
 use Rattle.vx_dtype.specs.declared.timestamp_type.TimeUnit.{TimeUnit}
 use Rattle.vx_dtype.specs.declared.timestamp_type.TimeUnit.TheVariants.{Seconds, Milliseconds, Microseconds, Nanoseconds}
 use Rattle.vx_dtype.specs.Fields.{fields_named}
-use Rattle.vx_dtype.specs.Texts.{with_commas, atomic_text, ptype_text, unit_text}
-use Rattle.vx_dtype.specs.Types.{Name, Atomic, truth, number, decimals, date, timestamp, text, octets, LogicalType, ty, Shape, atomic, list, fixed, struct, Fields, no_field, field}
+use Rattle.vx_dtype.specs.Texts.{with_commas, atomic_text, ptype_text, float_type_text, unit_text}
+use Rattle.vx_dtype.specs.Types.{Name, Atomic, truth, number, floating, decimals, date, timestamp, text, octets, LogicalType, ty, Shape, atomic, list, fixed, struct, Fields, no_field, field}
 use Rattle.vx_dtype.proofs.Commas.{after_commas}
 use Rattle.vx_source_types.specs.Characters.{is_word}
 use Rattle.vx_source_types.specs.Tokens.{word, number as numeral, next}
@@ -61,6 +63,14 @@ ptype_is_plain I8 = refl
 ptype_is_plain I16 = refl
 ptype_is_plain I32 = refl
 ptype_is_plain I64 = refl
+
+float_word_is : (f : FloatType) → type_word_of (float_type_text f) ≡ plain_word (ty (atomic (floating f)) false)
+float_word_is F32 = refl
+float_word_is F64 = refl
+
+float_is_plain : (f : FloatType) → is_plain (float_type_text f) ≡ true
+float_is_plain F32 = refl
+float_is_plain F64 = refl
 
 word_again : (w : List ℕ) (p : Atomic) (fs : List TypeFrame) (r : ℕ) (rest : List ℕ) → is_plain w ≡ true → type_word_of w ≡ plain_word (plain p) → is_word (next rest) ≡ false
     → Goes (at fs type_due r) (w ++ rest) (at fs (unmarked (plain p)) r) rest
@@ -130,6 +140,7 @@ atomic_again : (p : Atomic) (fs : List TypeFrame) (r : ℕ) (rest : List ℕ) �
     → Goes (at fs type_due r) (atomic_text p ++ rest) (at fs (unmarked (plain p)) r) rest
 atomic_again truth fs r rest u e = word_again (codes "bool") truth fs r rest refl refl e
 atomic_again (number p) fs r rest u e = word_again (ptype_text p) (number p) fs r rest (ptype_is_plain p) (ptype_word_is p) e
+atomic_again (floating f) fs r rest u e = word_again (float_type_text f) (floating f) fs r rest (float_is_plain f) (float_word_is f) e
 atomic_again (decimals p s) fs r rest u e = decimal_again p s fs r rest u.0 u.1 u.2
 atomic_again date fs r rest u e = word_again (codes "date") date fs r rest refl refl e
 atomic_again (timestamp v None) fs r rest u e = clock_again v fs r rest
@@ -228,6 +239,8 @@ no_equals (ty (atomic (number I8)) n) rest = refl
 no_equals (ty (atomic (number I16)) n) rest = refl
 no_equals (ty (atomic (number I32)) n) rest = refl
 no_equals (ty (atomic (number I64)) n) rest = refl
+no_equals (ty (atomic (floating F32)) n) rest = refl
+no_equals (ty (atomic (floating F64)) n) rest = refl
 no_equals (ty (atomic (decimals p s)) n) rest = refl
 no_equals (ty (atomic date) n) rest = refl
 no_equals (ty (atomic (timestamp u z)) n) rest = refl

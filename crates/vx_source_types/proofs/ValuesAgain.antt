@@ -8,12 +8,13 @@ use Rattle.std.proofs.lemmas.Bool.{and_parts, ltb-true}
 use Rattle.std.proofs.lemmas.Bool.Decides.{nat_tests}
 use Rattle.vx_dtype.specs.declared.dtype.PType.{PType}
 use Rattle.vx_dtype.specs.declared.dtype.PType.TheVariants.{U8, U16, U32, U64, I8, I16, I32, I64}
+use Rattle.vx_floats.specs.Texts.{float_text}
 use Rattle.vx_literals.specs.Days.{Civil, civil_at, day_text}
 use Rattle.vx_literals.specs.Decimals.{decimal_text}
 use Rattle.vx_literals.specs.Instants.{instant_text, units_a_day}
 use Rattle.vx_value.specs.Fields.{data_of}
 use Rattle.vx_value.specs.Fits.{fits, each_fits, fields_fit, fits_ptype, Fits}
-use Rattle.vx_value.specs.Types.{Name, bits, is_signed, number, decimals, date, timestamp, LogicalType, ty, atomic, list, fixed, struct, Fields, no_field, field, Datum, null, bool, int, utf8, bytes, list_of, struct_of, Data, no_datum, datum}
+use Rattle.vx_value.specs.Types.{Name, bits, is_signed, number, floating, decimals, date, timestamp, LogicalType, ty, atomic, list, fixed, struct, Fields, no_field, field, Datum, null, bool, int, float, utf8, bytes, list_of, struct_of, Data, no_datum, datum}
 use Rattle.vx_dtype.specs.Texts.{with_commas}
 use Rattle.vx_dtype.proofs.Commas.{after_commas}
 use Rattle.vx_source_types.specs.Characters.{is_word}
@@ -31,6 +32,7 @@ use Rattle.vx_source_types.proofs.Reading.{then, of_text}
 use Rattle.vx_source_types.specs.ScalarReading.{suffixed}
 use Rattle.vx_source_types.specs.ScalarTexts.{plain_source, value_source, item_sources, row_sources}
 use Rattle.vx_source_types.specs.Untyped.{dated, untyped, untyped_items, untyped_row}
+use Rattle.vx_source_types.proofs.FloatTexts.{float_plain}
 use Rattle.vx_source_types.proofs.WrittenTexts.{few_digits, Plain, plain_utf8, in_quotes, decimal_plain, day_plain, instant_plain}
 use Rattle.vx_source_types.specs.ScalarPrintable.{value_nesting, data_nesting, IsSpelledValue, AreSpelledValues}
 use Rattle.vx_source_types.specs.ValueReading.{ItemsRead, no_items, with_item, ValueFrame, in_items, in_row, ValueMode, value_due, first_item, first_named, next_named, whole_value, ValueState, value_step}
@@ -243,6 +245,7 @@ mutual
   value_again (int i) (ty (atomic (decimals p s)) n) fs ns r rest f u w h e = text_again fs ns r (decimal_text i s) rest (decimal_plain i s (few_digits i p w.1 f)) e.1
   value_again (int i) (ty (atomic date) n) fs ns r rest f u w h e = dated_again i I32 (day_text i) (civil_at i) fs ns r rest f (day_plain i) e
   value_again (int i) (ty (atomic (timestamp k z)) n) fs ns r rest f u w h e = dated_again i I64 (instant_text k z i) (civil_at (int_div_euclid i (pos (units_a_day k)))) fs ns r rest f (instant_plain k z i) e
+  value_again (float x) (ty (atomic (floating g)) n) fs ns r rest f u w h e = text_again fs ns r (float_text x) rest (float_plain x) e.1
   value_again (utf8 s) t fs ns r rest f u w h e = one_token fs ns r (utf8 s) _ rest (text_lexeme s) (first_text s rest u e.1) refl refl
   value_again (bytes bs) t fs ns r rest f u w h e =
       of_begun_text (ap (λ xs. 48 ∷ 120 ∷ (xs ++ rest)) (byte_texts bs u)) (one_token fs ns r (bytes bs) _ rest (octets_lexeme bs) (first_octets bs rest u e.0) refl refl)

@@ -35,7 +35,7 @@ abbrev pub Plain : List ℕ → Type 0
 Plain [] = Unit {0}
 Plain (b ∷ bs) = (45 ≤ b) × (b < 128) × Plain bs
 
-plain_behind : (xs ys : List ℕ) → Plain xs → Plain ys → Plain (xs ++ ys)
+pub plain_behind : (xs ys : List ℕ) → Plain xs → Plain ys → Plain (xs ++ ys)
 plain_behind [] ys h k = k
 plain_behind (x ∷ xs) ys h k = (h.0, h.1, plain_behind xs ys h.2 k)
 

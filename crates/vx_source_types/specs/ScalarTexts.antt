@@ -2,8 +2,9 @@
 use Rattle.std.specs.Prelude.{ℕ, true, false, List, [], ◌∷◌, ◌++◌, codes}
 use Rattle.std.specs.Fmt.{signed_decimal}
 use Rattle.std.specs.List.{flat_map}
+use Rattle.vx_floats.specs.Texts.{float_text}
 use Rattle.vx_value.specs.Texts.{with_commas, ptype_text}
-use Rattle.vx_value.specs.Types.{truth, number, text, octets, LogicalType, ty, atomic, list, fixed, struct, Fields, field, Datum, null, bool, int, utf8, bytes, list_of, struct_of, Data, no_datum, datum}
+use Rattle.vx_value.specs.Types.{truth, number, text, octets, LogicalType, ty, atomic, list, fixed, struct, Fields, field, Datum, null, bool, int, float, utf8, bytes, list_of, struct_of, Data, no_datum, datum}
 use Rattle.vx_value.specs.ValueTexts.{hex_byte}
 use Rattle.vx_dtype.specs.Quotes.{between_quotes}
 use Rattle.vx_source_types.specs.Names.{name_source}
@@ -23,6 +24,7 @@ abbrev mutual
   value_source (bool true) t = codes "true"
   value_source (bool false) t = codes "false"
   value_source (int i) t = plain_source (untyped_number i t)
+  value_source (float x) t = plain_source (utf8 (float_text x))
   value_source (utf8 s) t = between_quotes 34 s
   value_source (bytes bs) t = codes "0x" ++ flat_map hex_byte bs
   value_source (list_of vs) (ty (list t) n) = codes "[" ++ (with_commas (item_sources vs t) ++ codes "]")

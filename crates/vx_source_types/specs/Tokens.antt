@@ -11,8 +11,8 @@ use Rattle.vx_source_types.specs.declared.token.Sign.TheVariants.{OpenParen, Clo
 use Rattle.vx_source_types.specs.Characters.{is_letter, is_digit, is_word, is_blank}
 
 -- what stands in a text: words, names between backquotes, whole numbers (below zero or not, their magnitude where it is
--- below 2 ^ 64, and the word that follows at once), numbers with a point as their digits, texts, bytes and signs; the end of
--- the text; and what is none of these
+-- below 2 ^ 64, and the word that follows at once), numbers with a point or an exponent as their text, texts, bytes and
+-- signs; the end of the text; and what is none of these
 pub data Lexeme : Type 0 where
   word : List ℕ → Lexeme
   quoted : List ℕ → Lexeme
@@ -129,17 +129,50 @@ number_of negative n bs =
 abbrev pub has_point : List ℕ → Bool
 has_point bs = next bs == 46 && is_digit (next (drop 1 bs))
 
--- the digits and the point alone, behind a minus where the number is below zero
-abbrev pub point_digits : Bool → List ℕ → List ℕ
-point_digits negative bs = let digits = filter (λ b. is_digit b || b == 46) bs in if negative then 45 ∷ digits else digits
+-- how many bytes a point and the digits behind it take at the front
+abbrev pub point_len : List ℕ → ℕ
+point_len bs = if has_point bs then 1 + digits_len (drop 1 bs) else 0
 
--- a number of so many bytes with a point
+-- whether the byte is an e, with which an exponent begins
+abbrev pub is_e : ℕ → Bool
+is_e b = b == 101 || b == 69
+
+-- whether the byte is a plus or a minus
+abbrev pub is_plus_or_minus : ℕ → Bool
+is_plus_or_minus b = b == 43 || b == 45
+
+-- how many bytes a sign takes at the front
+abbrev pub sign_len : List ℕ → ℕ
+sign_len bs = if is_plus_or_minus (next bs) then 1 else 0
+
+-- how many bytes digits behind a sign of so many take, with it and the e before it
+abbrev pub power_len : ℕ → List ℕ → ℕ
+power_len k bs = if is_digit (next (drop k bs)) then 1 + k + digits_len (drop k bs) else 0
+
+-- how many bytes an exponent takes at the front: an e, a sign or none, and digits
+abbrev pub exponent_len : List ℕ → ℕ
+exponent_len [] = 0
+exponent_len (b ∷ bs) = if is_e b then power_len (sign_len bs) bs else 0
+
+-- how many bytes a point with its digits takes at the front, an exponent, or both
+abbrev pub fraction_len : List ℕ → ℕ
+fraction_len bs = point_len bs + exponent_len (drop (point_len bs) bs)
+
+-- whether the byte is a part of a number with a point or an exponent, and no underscore
+abbrev pub is_in_number : ℕ → Bool
+is_in_number b = is_digit b || (b == 46 || (is_e b || is_plus_or_minus b))
+
+-- the number without underscores, behind a minus where it is below zero
+abbrev pub point_digits : Bool → List ℕ → List ℕ
+point_digits negative bs = let digits = filter is_in_number bs in if negative then 45 ∷ digits else digits
+
+-- a number of so many bytes with a point or an exponent
 abbrev pub point_of : Bool → ℕ → List ℕ → Taken
 point_of negative n bs = (point (point_digits negative (take n bs)), drop n bs)
 
 -- a number, whose first digits take that many bytes
 abbrev pub number_behind : Bool → ℕ → List ℕ → Taken
-number_behind negative n bs = if has_point (drop n bs) then point_of negative (n + 1 + digits_len (drop 1 (drop n bs))) bs else number_of negative n bs
+number_behind negative n bs = if fraction_len (drop n bs) == 0 then number_of negative n bs else point_of negative (n + fraction_len (drop n bs)) bs
 
 -- a number
 abbrev pub number_taken : Bool → List ℕ → Taken

@@ -2,10 +2,12 @@
 use Rattle.std.specs.Prelude.{ℕ, zero, suc, ◌^◌, ◌&&◌, true, false, List, [], ◌∷◌, ◌++◌, Option, Some, None, Result, Ok, Err, codes, nat_le, nat_lt, option_and_then}
 use Rattle.vx_dtype.specs.declared.dtype.PType.{PType}
 use Rattle.vx_dtype.specs.declared.dtype.PType.TheVariants.{U8, U16, U32, U64, I8, I16, I32, I64}
+use Rattle.vx_dtype.specs.declared.float_type.FloatType.{FloatType}
+use Rattle.vx_dtype.specs.declared.float_type.FloatType.TheVariants.{F32, F64}
 use Rattle.vx_dtype.specs.declared.timestamp_type.TimeUnit.{TimeUnit}
 use Rattle.vx_dtype.specs.declared.timestamp_type.TimeUnit.TheVariants.{Seconds, Milliseconds, Microseconds, Nanoseconds}
 use Rattle.vx_dtype.specs.Fields.{fields_named}
-use Rattle.vx_dtype.specs.Types.{Name, Atomic, truth, number, decimals, date, timestamp, text, octets, LogicalType, ty, atomic, list, fixed, struct, with_nullability}
+use Rattle.vx_dtype.specs.Types.{Name, Atomic, truth, number, floating, decimals, date, timestamp, text, octets, LogicalType, ty, atomic, list, fixed, struct, with_nullability}
 use Rattle.vx_source_types.specs.declared.expectation.Expected.{Expected}
 use Rattle.vx_source_types.specs.declared.expectation.Expected.TheVariants.{LessNesting, TypeName, OpenParen, CloseParen, OpenBracket, CloseBracket, Length, Precision, Scale, Unit, Zone, CommaOrParen, Name as AName, FieldType, CommaOrCloseBrace}
 use Rattle.vx_source_types.specs.declared.token.Sign.TheVariants.{OpenParen as ParenOpens, CloseParen as ParenCloses, OpenBracket as BracketOpens, CloseBracket as BracketCloses, OpenBrace as BraceOpens, CloseBrace as BraceCloses, Comma as CommaSign, Equal, Question}
@@ -103,10 +105,20 @@ ptype_word w =
           ]
     ]
 
--- a number type that was found, as a kind of type
-abbrev pub of_number : Option PType → Option Atomic
-of_number None = None
-of_number (Some p) = Some (number p)
+-- the type of floating-point numbers of that name
+abbrev pub float_word : List ℕ → Option FloatType
+float_word w =
+    elim (same_word w (codes "f32")) [
+      | true ↦ Some F32
+      | false ↦
+          elim (same_word w (codes "f64")) [ true ↦ Some F64 | false ↦ None ]
+    ]
+
+-- a type of numbers that was found, as a kind of type
+abbrev pub of_number : Option PType → Option FloatType → Option Atomic
+of_number None None = None
+of_number None (Some f) = Some (floating f)
+of_number (Some p) f = Some (number p)
 
 -- the type without parts of that name
 abbrev pub atomic_word : List ℕ → Option Atomic
@@ -117,7 +129,7 @@ atomic_word w =
           elim (same_word w (codes "utf8")) [
             | true ↦ Some text
             | false ↦
-                elim (same_word w (codes "binary")) [ true ↦ Some octets | false ↦ elim (same_word w (codes "date")) [ true ↦ Some date | false ↦ of_number (ptype_word w) ] ]
+                elim (same_word w (codes "binary")) [ true ↦ Some octets | false ↦ elim (same_word w (codes "date")) [ true ↦ Some date | false ↦ of_number (ptype_word w) (float_word w) ] ]
           ]
     ]
 

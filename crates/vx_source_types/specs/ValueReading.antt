@@ -1,7 +1,6 @@
 -- How a value is read, token by token: what is open around it lies on a stack, and the last token says what is due next.
 -- Its type isn't known yet, so the names of its structs are kept in the order in which they stand.
-use Rattle.std.specs.Prelude.{ℕ, Bool, true, false, ◌==◌, List, [], ◌∷◌, ◌++◌, length, Option, Some, None, Result, Ok, Err, codes, option_map, ℤ, pos, neg_ℤ, nat_le, if◌then◌else◌}
-use Rattle.vx_literals.specs.Decimals.{decimal_read}
+use Rattle.std.specs.Prelude.{ℕ, Bool, true, false, List, [], ◌∷◌, ◌++◌, Option, Some, None, Result, Ok, Err, codes, option_map, ℤ, pos, neg_ℤ}
 use Rattle.vx_value.specs.Types.{Name, Datum, null, bool, int, utf8, bytes, list_of, struct_of}
 use Rattle.vx_value.specs.Fields.{data_of}
 use Rattle.vx_source_types.specs.declared.expectation.Expected.{Expected}
@@ -12,11 +11,10 @@ use Rattle.vx_source_types.specs.Names.{name_at, same_word}
 use Rattle.vx_source_types.specs.Reading.{Goes, more, done, Step, refused}
 use Rattle.vx_source_types.specs.TypeReading.{within}
 
--- what has no type yet: a value and the names of its structs; or a number with a point, as so many units, 10 to so many of
--- which are one
+-- what has no type yet: a value and the names of its structs; or a number with a point or an exponent, as its text
 pub data Drafted : Type 0 where
   drafted : Datum → List Name → Drafted
-  pointed : ℤ → ℕ → Drafted
+  pointed : List ℕ → Drafted
 
 -- the items of a list or the values of a struct so far, and the nesting that is allowed outside it
 pub record ItemsRead : Type 0 where
@@ -37,7 +35,7 @@ pub data ValueMode : Type 0 where
   next_named : ItemsRead → ValueMode
   named_value : ItemsRead → ValueMode
   whole_value : Datum → ValueMode
-  whole_point : ℤ → ℕ → ValueMode
+  whole_point : List ℕ → ValueMode
 
 -- a value that is being read, the names so far, and the nesting that is still allowed
 pub record ValueState : Type 0 where
@@ -96,26 +94,16 @@ simple_begins fs ns r x (Some v) = value_goes fs (whole_value v) ns r
 abbrev pub no_items : ℕ → ItemsRead
 no_items r = record { items = []; room = r }
 
--- how many digits stand behind the point
-abbrev pub digits_behind : List ℕ → ℕ
-digits_behind [] = 0
-digits_behind (b ∷ bs) = if b == 46 then length bs else digits_behind bs
-
--- a number with a point, of at most 38 digits
-abbrev pub point_units : List ℕ → Option ℤ
-point_units s = if nat_le (digits_behind s) 38 then decimal_read (digits_behind s) s else None
-
--- it stands by itself, and is no part of a value
-abbrev pub point_begins : List ValueFrame → List Name → ℕ → ℕ → Option ℤ → ValueAnswer
-point_begins [] ns r k (Some i) = value_goes [] (whole_point i k) ns r
-point_begins [] ns r k None = Err Number
-point_begins (f ∷ fs) ns r k i = Err Value
+-- a number with a point stands by itself, and is no part of a value
+abbrev pub point_begins : List ValueFrame → List Name → ℕ → List ℕ → ValueAnswer
+point_begins [] ns r s = value_goes [] (whole_point s) ns r
+point_begins (f ∷ fs) ns r s = Err Value
 
 -- the beginning of a value
 abbrev pub value_begins : List ValueFrame → List Name → ℕ → Lexeme → ValueAnswer
 value_begins fs ns r (sign BracketOpens) = within r (λ less. value_goes fs (first_item (no_items r)) ns less)
 value_begins fs ns r (sign BraceOpens) = within r (λ less. value_goes fs (first_named (no_items r)) ns less)
-value_begins fs ns r (point s) = point_begins fs ns r (digits_behind s) (point_units s)
+value_begins fs ns r (point s) = point_begins fs ns r s
 value_begins fs ns r x = simple_begins fs ns r x (simple_value x)
 
 -- the items with another
@@ -174,7 +162,7 @@ value_next fs (first_named d) ns r x = first_named_at fs ns r d x
 value_next fs (next_named d) ns r x = value_named fs ns r d x (name_at x)
 value_next fs (named_value d) ns r x = named_value_at fs ns r d x
 value_next fs (whole_value v) ns r x = value_ends fs ns r v x
-value_next fs (whole_point i k) ns r x = Ok (done (pointed i k))
+value_next fs (whole_point s) ns r x = Ok (done (pointed s))
 
 abbrev pub value_step : Step ValueState Drafted
 value_step s x = value_next s.frames s.mode s.names s.room x

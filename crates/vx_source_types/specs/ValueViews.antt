@@ -1,5 +1,5 @@
 -- What a reader of values stands for.
-use Rattle.std.specs.Prelude.{List, map, reverse}
+use Rattle.std.specs.Prelude.{List, map, reverse, string_bytes}
 use Rattle.vx_value.specs.Views.{value_of}
 use Rattle.vx_source_types.specs.declared.value_state.Draft.{Draft}
 use Rattle.vx_source_types.specs.declared.value_state.Draft.TheVariants.{Value as Valued, Point as Pointed}
@@ -16,7 +16,7 @@ use Rattle.vx_source_types.specs.ValueReading as reading
 
 abbrev pub draft_of : Draft → reading.Drafted
 draft_of (Valued v names) = reading.drafted (value_of v) names.items
-draft_of (Pointed units decimal) = reading.pointed units decimal.scale
+draft_of (Pointed digits) = reading.pointed (string_bytes digits)
 
 abbrev pub items_read : ItemsSoFar → reading.ItemsRead
 items_read d = record { items = map value_of d.items.items; room = d.room }
@@ -36,7 +36,7 @@ mode_of (FirstField d) = reading.first_named (items_read d)
 mode_of (NextField d) = reading.next_named (items_read d)
 mode_of (FieldValue d) = reading.named_value (items_read d)
 mode_of (Whole v) = reading.whole_value (value_of v)
-mode_of (Point units decimal) = reading.whole_point units decimal.scale
+mode_of (Point digits) = reading.whole_point (string_bytes digits)
 
 abbrev pub reader_of : ValueReader → reading.ValueState
 reader_of r = record { frames = frames_of r.frames.items; mode = mode_of r.mode; names = r.names.items; room = r.room }

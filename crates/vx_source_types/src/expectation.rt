@@ -23,7 +23,7 @@ pub enum Expected {
     #[error("expected less nesting")]
     LessNesting,
     /// No type begins there.
-    #[error("expected a type: bool, u8 to u64, i8 to i64, decimal(..), date, timestamp(..), utf8, binary, list(..), fixed_size_list(..)[..] or {{..}}")]
+    #[error("expected a type: bool, u8 to u64, i8 to i64, f32, f64, decimal(..), date, timestamp(..), utf8, binary, list(..), fixed_size_list(..)[..] or {{..}}")]
     TypeName,
     /// A bracket isn't opened.
     #[error("expected `(`")]
@@ -82,11 +82,8 @@ pub enum Expected {
     /// A null isn't given its type.
     #[error("expected a type behind the null, as in null::i32?; `is null` tests for a null")]
     NullType,
-    /// A number with a point isn't given its type.
-    #[error("expected a decimal's type behind a number with a point, as in 9.99::decimal(3, 2)")]
-    PointType,
     /// A number is out of its type's range, or its suffix names no type.
-    #[error("expected a number in its type's range: i32, or one with a suffix of i8, i16, i32, i64, u8, u16, u32, u64")]
+    #[error("expected a number in its type's range: i32, f64 with a point, or one with a suffix of i8, i16, i32, i64, u8, u16, u32, u64")]
     Number,
     /// The value is none of the type that follows it.
     #[error("expected a type that the value is one of")]

@@ -1,17 +1,17 @@
 // Scalars of what was read.
-ghost use Rattle.std.specs.Prelude.{◌≡◌, ◌≤◌, option_and_then, option_map, MatchResult, Some, Ok, Err};
-ghost use Rattle.vx_value.specs.Types.{atomic, decimals, int, ty};
+ghost use Rattle.std.specs.Prelude.{◌≡◌, option_and_then, option_map, MatchResult, Some, Ok, Err};
+ghost use Rattle.vx_value.specs.Types.{int};
 ghost use Rattle.vx_value.specs.Views.{admits_null, type_of, fields_of, value_of, data_view};
-ghost use Rattle.vx_source_types.specs.Literals.{number_literal, ranged, in_range, open_literal, open_type, plain_literal, plain_type, typed_literal, typed_of, fitting, names_left, items_left, row_left, behind_name};
+ghost use Rattle.vx_source_types.specs.Literals.{number_literal, ranged, in_range, open_literal, open_type, plain_literal, plain_type, point_literal, typed_literal, typed_of, fitting, names_left, items_left, row_left, behind_name};
 ghost use Rattle.vx_source_types.specs.Untyped.{typed_value};
 ghost use Rattle.vx_source_types.specs.ValueViews.{draft_of};
 
 use crate::expectation::Expected;
 use crate::type_words::ptype_word;
-use crate::typed_value::{type_value, units_before};
+use crate::typed_value::{point_typed, type_value};
 use crate::value_reader::signed;
 use crate::value_state::Draft;
-use vx_dtype::{DType, DecimalType, FieldName, Nullability, PType, StructFields};
+use vx_dtype::{DType, FieldName, FloatType, Nullability, PType, StructFields};
 use vx_value::{Scalar, Value};
 
 /// The number with a type's name behind it, if it is in the type's range.
@@ -45,12 +45,23 @@ pub fn plain_literal(draft: Draft) -> Result<Scalar, Expected>
             let dtype = plain_type(&value)?;
             in_range(fitting(dtype, value))
         }
-        Draft::Point(..) => Err(Expected::PointType),
+        Draft::Point(digits) => {
+            let dtype = DType::Float(FloatType::F64, Nullability::NonNullable);
+            in_range(point_literal(digits.as_str(), dtype))
+        }
     }
 }
 
+// The number with a point as a scalar of the type, if it is one of it.
+fn point_literal(digits: &str, dtype: DType) -> Option<Scalar>
+    ensures { result ≡ point_literal digits.now (type_of dtype) }
+{
+    let value = point_typed(digits, &dtype)?;
+    fitting(dtype, value)
+}
+
 /// The scalar of a value that no type follows and that may take its type from what it stands beside, or what would have
-/// stood right: of one of two types, which differ.
+/// stood right: of one of two types, which differ. A number with a point is its text, nullable where others are not.
 pub fn open_literal(draft: Draft, nullable: bool) -> Result<Scalar, Expected>
     ensures { result ≡ open_literal nullable (draft_of draft) }
 {
@@ -59,21 +70,10 @@ pub fn open_literal(draft: Draft, nullable: bool) -> Result<Scalar, Expected>
             let dtype = open_type(&value, nullable)?;
             in_range(fitting(dtype, value))
         }
-        Draft::Point(units, decimal) => open_point(units, decimal.scale(), nullable),
-    }
-}
-
-// A number with a point as a decimal of 38 digits.
-fn open_point(units: i128, scale: u8, nullable: bool) -> Result<Scalar, Expected>
-    requires { scale ≤ 38 }
-    ensures { result ≡ in_range (fitting (ty (atomic (decimals 38 scale)) nullable) (int units)) }
-{
-    match DecimalType::new(DecimalType::MAX_PRECISION, scale) {
-        Some(decimal) => {
-            let dtype = DType::Decimal(decimal, Nullability::of(nullable));
-            in_range(fitting(dtype, Value::Int(units)))
+        Draft::Point(digits) => {
+            let dtype = DType::Utf8(Nullability::of(!nullable));
+            in_range(fitting(dtype, Value::Utf8(digits)))
         }
-        None => Err(Expected::Number),
     }
 }
 
@@ -97,6 +97,7 @@ fn open_type(value: &Value, nullable: bool) -> Result<DType, Expected>
         Value::Null => Ok(DType::Bool(Nullability::Nullable)),
         Value::Bool(_) => Ok(DType::Bool(n)),
         Value::Int(number) => Ok(whole_number(*number, n)),
+        Value::Float(x) => Ok(DType::Float(x.float_type(), n)),
         Value::Utf8(_) => Ok(DType::Utf8(n)),
         Value::Binary(_) => Ok(DType::Binary(n)),
         Value::List(_) => Err(Expected::ValueType),
@@ -124,6 +125,7 @@ fn plain_type(value: &Value) -> Result<DType, Expected>
         Value::Null => Err(Expected::NullType),
         Value::Bool(_) => Ok(DType::Bool(Nullability::NonNullable)),
         Value::Int(_) => Ok(DType::Primitive(PType::I32, Nullability::NonNullable)),
+        Value::Float(x) => Ok(DType::Float(x.float_type(), Nullability::NonNullable)),
         Value::Utf8(_) => Ok(DType::Utf8(Nullability::NonNullable)),
         Value::Binary(_) => Ok(DType::Binary(Nullability::NonNullable)),
         Value::List(_) => Err(Expected::ValueType),
@@ -132,15 +134,18 @@ fn plain_type(value: &Value) -> Result<DType, Expected>
 }
 
 /// The scalar of a value and the type behind it, if the value is one of the type and its structs
-/// have the type's names. Of a decimal, a day or an instant its text is one, and of a decimal a number with a point.
+/// have the type's names. Of a decimal, a floating-point number, a day or an instant its text is one, and of the first two a
+/// number with a point.
 pub fn typed_literal(draft: Draft, dtype: DType) -> Option<Scalar>
     ensures { result ≡ typed_literal (draft_of draft) (type_of dtype) }
 {
-    let value = match draft {
-        Draft::Value(value, names) => named_value(value, names.as_slice(), &dtype)?,
-        Draft::Point(units, decimal) => Value::Int(units_before(units, decimal.scale(), &dtype)?),
-    };
-    fitting(dtype, value)
+    match draft {
+        Draft::Value(value, names) => {
+            let value = named_value(value, names.as_slice(), &dtype)?;
+            fitting(dtype, value)
+        }
+        Draft::Point(digits) => point_literal(digits.as_str(), dtype),
+    }
 }
 
 // What the type behind it makes of the value, if its structs have the type's names.

@@ -1,7 +1,7 @@
 // Source text, as a notation of types and values.
 ghost use Rattle.std.specs.Prelude.{◌≡◌};
 ghost use Rattle.std.specs.Fmt.{WritesOnOk};
-ghost use Rattle.vx_value.specs.Notations.{number_in, quoted_in};
+ghost use Rattle.vx_value.specs.Notations.{number_in, float_in, quoted_in};
 ghost use Rattle.vx_value.specs.Views.{type_of};
 ghost use Rattle.vx_source_types.specs.Names.{name_source};
 ghost use Rattle.vx_source_types.specs.Notations.{source_words};
@@ -10,6 +10,7 @@ use crate::names::write_name;
 use std::fmt;
 use std::fmt::{Display, Formatter, Write};
 use vx_dtype::{DType, FieldName, TypeNotation, write_quoted};
+use vx_floats::Float;
 use vx_literals::{has_day_text, has_instant_text, write_day, write_decimal, write_instant};
 use vx_value::ValueNotation;
 
@@ -46,6 +47,12 @@ impl ValueNotation for Source {
             }
             _ => number.fmt(f),
         }
+    }
+
+    fn write_float<W: Write>(&self, x: Float, _t: &DType, f: &mut Formatter<W>) -> fmt::Result {
+        f.write_str("\"")?;
+        x.fmt(f)?;
+        f.write_str("\"")
     }
 
     fn write_text<W: Write>(&self, text: &str, f: &mut Formatter<W>) -> fmt::Result {

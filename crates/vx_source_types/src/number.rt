@@ -1,13 +1,13 @@
 // Numbers, and bytes.
-ghost use Rattle.std.specs.Prelude.{◌≡◌, ◌≤◌, ℕ, length, drop, IfOk, take, Some, true};
+ghost use Rattle.std.specs.Prelude.{◌≡◌, ◌≤◌, ℕ, length, drop, IfOk, take, Some};
 ghost use Rattle.hex.specs.Hex.{decode_of};
-ghost use Rattle.vx_source_types.specs.Tokens.{number_taken, digits_len, octets_taken, octets_lexeme, magnitude, more_or_same, more_digits, has_point, point, point_digits};
+ghost use Rattle.vx_source_types.specs.Tokens.{number_taken, digits_len, octets_taken, octets_lexeme, magnitude, more_or_same, more_digits, point, point_digits};
 ghost use Rattle.vx_source_types.specs.Views.{taken_of, lexeme_of};
 
-use crate::blanks::next;
 use crate::expectation::Expected;
+use crate::point::{fraction_len, is_in_number};
 use crate::token::Token;
-use crate::words::{digits_len, is_digit, word_len, word_of};
+use crate::words::{digits_len, word_len, word_of};
 use hex::FromHexError;
 use std::alloc::{AllocError, Global};
 
@@ -23,8 +23,9 @@ pub(crate) fn number_at(
 {
     let digits = digits_len(bytes);
     let rest = &bytes[digits..];
-    if has_point(rest) {
-        let len = digits + 1 + digits_len(&rest[1..]);
+    let fraction = fraction_len(rest);
+    if fraction != 0 {
+        let len = digits + fraction;
         return Ok((point_of(alloc, negative, &bytes[..len])?, len));
     }
     let token = Token::Number {
@@ -35,18 +36,7 @@ pub(crate) fn number_at(
     Ok((token, digits + word_len(rest)))
 }
 
-// Whether a point and a digit are at the front.
-fn has_point(bytes: &[u8]) -> bool
-    ensures value { result ≡ has_point bytes.now }
-    ensures there { result ≡ true → 1 ≤ length bytes.now }
-{
-    match bytes {
-        [b'.', rest @ ..] => is_digit(next(rest)),
-        _ => false,
-    }
-}
-
-// The number of those digits on both sides of a point.
+// The number of those bytes, with a point or an exponent.
 fn point_of(alloc: Global, negative: bool, bytes: &[u8]) -> Result<Token, AllocError>
     ensures { IfOk result (λ t. lexeme_of t ≡ point (point_digits negative bytes.now)) }
 {
@@ -55,7 +45,7 @@ fn point_of(alloc: Global, negative: bool, bytes: &[u8]) -> Result<Token, AllocE
         digits.push('-')?;
     }
     for b in bytes {
-        if is_digit(*b) || *b == b'.' {
+        if is_in_number(*b) {
             digits.push(char::from(*b))?;
         }
     }

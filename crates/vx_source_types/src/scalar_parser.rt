@@ -10,6 +10,7 @@ ghost use Rattle.vx_source_types.specs.TypePrintable.{IsPrintable, type_nesting}
 ghost use Rattle.vx_source_types.specs.ScalarReading as reading;
 ghost use Rattle.vx_source_types.specs.ScalarReading.{ReadsFrom, ParsesWithin};
 ghost use Rattle.vx_source_types.specs.ScalarTexts.{scalar_source};
+ghost use Rattle.vx_source_types.specs.Literals.{plain_literal};
 ghost use Rattle.vx_source_types.specs.ScalarViews.{mode_of, begun_of, step_of};
 ghost use Rattle.vx_source_types.specs.ScalarPrintable.{IsSpelledValue, value_nesting};
 ghost use Rattle.vx_source_types.specs.ValueViews.{draft_of};
@@ -188,10 +189,17 @@ fn end_value(
             let reader = TypeReader::new(alloc, nesting);
             Ok(ScalarStep::More(ScalarMode::Typed(draft, reader)))
         }
-        _ => match plain_literal(draft) {
-            Ok(scalar) => Ok(ScalarStep::Done(scalar)),
-            Err(expected) => Err(unexpected(begun, expected)),
-        },
+        _ => end_plain(draft, begun),
+    }
+}
+
+// A value that begins at that byte has ended, and no type follows.
+fn end_plain(draft: Draft, begun: usize) -> Result<ScalarStep, ParseError>
+    ensures { (at : ℕ) → ReadsFrom begun at step_of result (reading.ended (plain_literal (draft_of draft))) }
+{
+    match plain_literal(draft) {
+        Ok(scalar) => Ok(ScalarStep::Done(scalar)),
+        Err(expected) => Err(unexpected(begun, expected)),
     }
 }
 

@@ -66,8 +66,8 @@ pub enum Token {
         /// The word.
         suffix: FieldName,
     },
-    /// A number with digits on both sides of a point: these alone, behind a minus where it is below zero. Single underscores
-    /// between its digits are left out.
+    /// A number with digits on both sides of a point, with an exponent, or with both: its text, single underscores between
+    /// its digits left out.
     Point(String),
     /// A text between double or single quotes, of which two stand for one inside it.
     Text(String),

@@ -1,12 +1,12 @@
 // The words of types.
 ghost use Rattle.std.specs.Prelude.{◌≡◌, codes, option_map};
 ghost use Rattle.vx_dtype.specs.Types.{ty, atomic};
-ghost use Rattle.vx_source_types.specs.TypeReading.{ptype_word, atomic_word, type_word_of, unit_word};
+ghost use Rattle.vx_source_types.specs.TypeReading.{ptype_word, float_word, of_number, atomic_word, type_word_of, unit_word};
 ghost use Rattle.vx_source_types.specs.TypeViews.{atomic_type, word_of};
 ghost use Rattle.vx_dtype.specs.Views.{type_of};
 
 use crate::names::is_word;
-use vx_dtype::{DType, FieldName, Nullability, PType, TimeUnit};
+use vx_dtype::{DType, FieldName, FloatType, Nullability, PType, TimeUnit};
 
 // What a word begins that names a type.
 pub(crate) enum TypeWord {
@@ -56,8 +56,33 @@ fn plain_type(name: &FieldName) -> Option<DType>
     } else if is_word(name, "date") {
         Some(DType::Date(Nullability::NonNullable))
     } else {
-        let p = ptype_word(name)?;
-        Some(DType::Primitive(p, Nullability::NonNullable))
+        number_type(name)
+    }
+}
+
+// The type of numbers of that name, not nullable.
+fn number_type(name: &FieldName) -> Option<DType>
+    ensures { option_map type_of result ≡ option_map atomic_type (of_number (ptype_word name.now) (float_word name.now)) }
+{
+    match ptype_word(name) {
+        Some(p) => Some(DType::Primitive(p, Nullability::NonNullable)),
+        None => {
+            let format = float_word(name)?;
+            Some(DType::Float(format, Nullability::NonNullable))
+        }
+    }
+}
+
+// The type of floating-point numbers of that name, in either case.
+fn float_word(name: &FieldName) -> Option<FloatType>
+    ensures { result ≡ float_word name.now }
+{
+    if is_word(name, "f32") {
+        Some(FloatType::F32)
+    } else if is_word(name, "f64") {
+        Some(FloatType::F64)
+    } else {
+        None
     }
 }
 

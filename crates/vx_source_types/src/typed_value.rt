@@ -1,29 +1,33 @@
-// Values that take the type behind them: of a decimal, a day or an instant the text stands there.
-ghost use Rattle.std.specs.Prelude.{◌≡◌, ◌≤◌, ◌^◌, ◌*ℤ◌, MatchOption, None, Some, false, option_map, pos, true};
+// Values that take the type behind them: of a decimal, a floating-point number, a day or an instant the text stands there.
+ghost use Rattle.std.specs.Prelude.{◌≡◌, ◌<◌, ◌≤◌, ◌^◌, ◌*ℤ◌, MatchOption, None, Some, false, option_map, pos, true};
 ghost use Rattle.vx_value.specs.Fits.{fits_digits};
-ghost use Rattle.vx_value.specs.Types.{int};
 ghost use Rattle.vx_value.specs.Views.{data_view, fields_of, type_of, value_of};
-ghost use Rattle.vx_source_types.specs.Untyped.{has_texts, number_read, point_read, rescaled, text_read, typed_items, typed_row, typed_value};
+ghost use Rattle.vx_source_types.specs.ValueReading.{signed};
+ghost use Rattle.vx_source_types.specs.Untyped.{float_of_whole, has_points, has_texts, nearest_float, number_read, point_read, text_read, typed_items, typed_row, typed_value};
 
-use vx_dtype::{DType, DecimalType, StructFields};
+use std::num::{
+    f32_to_bits_with_nan, f64_to_bits_with_nan, nearest_u64_to_f32, nearest_u64_to_f64,
+};
+use vx_dtype::{DType, DecimalType, FloatType, StructFields};
+use vx_floats::{Float, read_float};
 use vx_literals::{power_of_ten, read_day, read_decimal, read_instant};
 use vx_value::Value;
 
 /// Makes the value what the type behind it makes of it: the number that a text says where the type is one of
-/// decimals, days or instants, and the units of a whole number where it is one of decimals, inside lists and
-/// structs, too. None where a text says no number, or one has too many digits, with some made.
+/// decimals, floating-point numbers, days or instants; the units of a whole number where it is one of decimals, and the
+/// nearest number where it is one of floating-point numbers; inside lists and structs, too. None where a text says no
+/// number, or one has too many digits, with some made.
 #[cycle(typed)]
 pub(crate) fn type_value(value: &mut Value, t: &DType) -> Option<()>
     ensures { MatchOption result (typed_value (value_of value.old) (type_of t.now) ≡ None) (λ _. typed_value (value_of value.old) (type_of t.now) ≡ Some (value_of value.new)) }
 {
     match value {
         Value::Utf8(text) if has_texts(t) => {
-            let number = number_read(text.as_str(), t)?;
-            *value = Value::Int(number);
+            *value = text_typed(text.as_str(), t)?;
             Some(())
         }
         Value::Int(number) => {
-            *number = number_typed(*number, t)?;
+            *value = number_typed(*number, t)?;
             Some(())
         }
         Value::List(items) => match t {
@@ -43,12 +47,41 @@ pub(crate) fn type_value(value: &mut Value, t: &DType) -> Option<()>
 }
 
 // The number that a whole number is before the type.
-fn number_typed(number: i128, t: &DType) -> Option<i128>
-    ensures { option_map int result ≡ number_read number (type_of t.now) }
+fn number_typed(number: i128, t: &DType) -> Option<Value>
+    ensures { option_map value_of result ≡ number_read number (type_of t.now) }
 {
     match t {
-        DType::Decimal(decimal, _) => units_of_wholes(number, decimal.scale()),
-        _ => Some(number),
+        DType::Float(format, _) => Some(Value::Float(float_of_whole(number, *format)?)),
+        DType::Decimal(decimal, _) => {
+            let units = units_of_wholes(number, decimal.scale())?;
+            Some(Value::Int(units))
+        }
+        _ => Some(Value::Int(number)),
+    }
+}
+
+// The number of the format that is nearest to a whole number below 2^64.
+fn float_of_whole(number: i128, format: FloatType) -> Option<Float>
+    ensures { result ≡ float_of_whole format number }
+{
+    let size = u64::try_from(number.unsigned_abs()).ok()?;
+    Some(nearest_float(number < 0, size, format))
+}
+
+// The number of the format that is nearest to a whole number of that size, below zero or not.
+fn nearest_float(negative: bool, size: u64, format: FloatType) -> Float
+    requires { negative ≡ true → 0 < size }
+    ensures { result ≡ nearest_float format (signed negative size) }
+{
+    match format {
+        FloatType::F32 => {
+            let x = nearest_u64_to_f32(size);
+            Float::F32(f32_to_bits_with_nan(if negative { -x } else { x }))
+        }
+        FloatType::F64 => {
+            let x = nearest_u64_to_f64(size);
+            Float::F64(f64_to_bits_with_nan(if negative { -x } else { x }))
+        }
     }
 }
 
@@ -65,32 +98,23 @@ fn units_of_wholes(number: i128, scale: u8) -> Option<i128>
     }
 }
 
-// The units that so many units of the scale, a number with a point, are before the type, if that is one of decimals.
-pub(crate) fn units_before(units: i128, scale: u8, t: &DType) -> Option<i128>
-    requires { scale ≤ 38 }
-    ensures { option_map int result ≡ point_read units scale (type_of t.now) }
+// The number of the type that a number with a point is, if values of the type have points.
+pub(crate) fn point_typed(digits: &str, t: &DType) -> Option<Value>
+    ensures { option_map value_of result ≡ point_read digits.now (type_of t.now) }
 {
-    match t {
-        DType::Decimal(decimal, _) => rescaled(units, scale, decimal.scale()),
-        _ => None,
-    }
-}
-
-// So many units of one scale as units of another, if these are whole and have at most 38 digits.
-fn rescaled(units: i128, from: u8, to: u8) -> Option<i128>
-    requires scale { from ≤ 38 }
-    requires other { to ≤ 38 }
-    ensures { result ≡ rescaled units from to }
-{
-    if from <= to {
-        return units_of_wholes(units, to - from);
-    }
-    let one = power_of_ten(from - to) as i128;
-    if units.rem_euclid(one) == 0 {
-        Some(units.div_euclid(one))
+    if has_points(t) {
+        text_typed(digits, t)
     } else {
         None
     }
+}
+
+// Whether values of the type have points.
+fn has_points(t: &DType) -> bool
+    ensures value { result ≡ has_points (type_of t.now) }
+    ensures texts { result ≡ true → has_texts (type_of t.now) ≡ true }
+{
+    matches!(t, DType::Float(..) | DType::Decimal(..))
 }
 
 // Whether values of the type are texts before their type.
@@ -99,20 +123,21 @@ fn has_texts(t: &DType) -> bool
 {
     matches!(
         t,
-        DType::Decimal(..) | DType::Date(_) | DType::Timestamp(..)
+        DType::Float(..) | DType::Decimal(..) | DType::Date(_) | DType::Timestamp(..)
     )
 }
 
 // The number of the type that a text says.
-fn number_read(text: &str, t: &DType) -> Option<i128>
+fn text_typed(text: &str, t: &DType) -> Option<Value>
     requires { has_texts (type_of t.now) ≡ true }
-    ensures { option_map int result ≡ text_read text.now (type_of t.now) }
+    ensures { option_map value_of result ≡ text_read text.now (type_of t.now) }
 {
     let bytes = text.as_bytes();
     match t {
-        DType::Decimal(decimal, _) => read_decimal(bytes, decimal.scale()),
-        DType::Date(_) => read_day(bytes),
-        DType::Timestamp(timestamp, _) => read_instant(bytes, timestamp),
+        DType::Float(format, _) => Some(Value::Float(read_float(bytes, *format)?)),
+        DType::Decimal(decimal, _) => Some(Value::Int(read_decimal(bytes, decimal.scale())?)),
+        DType::Date(_) => Some(Value::Int(read_day(bytes)?)),
+        DType::Timestamp(timestamp, _) => Some(Value::Int(read_instant(bytes, timestamp)?)),
         _ => None,
     }
 }

@@ -1,5 +1,5 @@
 // Values, read token by token. What is open lies on a list in the heap, so that no text makes the stack grow.
-ghost use Rattle.std.specs.Prelude.{◌≡◌, ◌∷◌, Ok, IfOk, option_map};
+ghost use Rattle.std.specs.Prelude.{◌≡◌, ◌∷◌, Ok, IfOk, option_map, string_bytes};
 ghost use Rattle.vx_value.specs.Views.{value_of};
 ghost use Rattle.vx_source_types.specs.Views.{lexeme_of};
 ghost use Rattle.vx_source_types.specs.Names.{name_at};
@@ -11,7 +11,6 @@ use crate::error::ParseError;
 use crate::expectation::Expected;
 use crate::first::Found;
 use crate::names::{field_name, is_word};
-use crate::point::point_units;
 use crate::state::{expected, inside, refusal};
 use crate::token::{Sign, Token};
 use crate::value_state::{Draft, ItemsSoFar, ValueFrame, ValueMode, ValueReader, ValueStep};
@@ -61,7 +60,7 @@ impl ValueReader {
             ValueMode::NextField(items) => next_field(around, items, found),
             ValueMode::FieldValue(items) => field_value(around, items, found),
             ValueMode::Whole(value) => close(around, value, found),
-            ValueMode::Point(units, decimal) => Ok(ValueStep::Done(Draft::Point(units, decimal))),
+            ValueMode::Point(digits) => Ok(ValueStep::Done(Draft::Point(digits))),
         }
     }
 }
@@ -97,22 +96,19 @@ fn begin(alloc: Global, mut around: Around, found: &Found) -> Result<ValueStep, 
             around.room = inside(around.room, found)?;
             Ok(more(around, ValueMode::FirstField(items)))
         }
-        Token::Point(digits) => begin_point(around, digits.as_str(), found),
+        Token::Point(digits) => begin_point(around, digits, found),
         _ => begin_simple(alloc, around, found),
     }
 }
 
-// A number of those digits with a point, which stands by itself.
-fn begin_point(around: Around, digits: &str, found: &Found) -> Result<ValueStep, ParseError>
-    ensures { ReadsAt found.now.at step_of result (reading.point_begins (frames_of around.frames.items) around.names.items around.room (reading.digits_behind digits.now) (reading.point_units digits.now)) }
+// A number with a point, which stands by itself.
+fn begin_point(around: Around, digits: &String, found: &Found) -> Result<ValueStep, ParseError>
+    ensures { ReadsAt found.now.at step_of result (reading.point_begins (frames_of around.frames.items) around.names.items around.room (string_bytes digits.now)) }
 {
     if !around.frames.is_empty() {
         return Err(expected(found, Expected::Value));
     }
-    match point_units(digits.as_bytes()) {
-        Some((units, decimal)) => Ok(more(around, ValueMode::Point(units, decimal))),
-        None => Err(expected(found, Expected::Number)),
-    }
+    Ok(more(around, ValueMode::Point(digits.clone()?)))
 }
 
 // No item yet.

@@ -1,5 +1,5 @@
 // How far a value is read.
-use vx_dtype::{DecimalType, FieldName};
+use vx_dtype::FieldName;
 use vx_value::Value;
 
 /// A value whose type isn't known yet.
@@ -7,8 +7,8 @@ use vx_value::Value;
 pub enum Draft {
     /// A value, with the names of its structs in the order in which they stand.
     Value(Value, Vec<FieldName>),
-    /// A number with a point: so many units of decimals of that type.
-    Point(i128, DecimalType),
+    /// A number with a point or an exponent, as its text.
+    Point(String),
 }
 
 /// The items of a list or the values of a struct so far, and the nesting that is allowed outside it.
@@ -44,8 +44,8 @@ pub enum ValueMode {
     FieldValue(ItemsSoFar),
     /// A value is there.
     Whole(Value),
-    /// A number with a point is there: so many units of decimals of that type.
-    Point(i128, DecimalType),
+    /// A number with a point or an exponent is there, as its text.
+    Point(String),
 }
 
 /// A value that is being read.

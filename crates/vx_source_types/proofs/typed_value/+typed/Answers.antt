@@ -1,8 +1,8 @@
-use Rattle.std.proofs.Common.{◌≡◌, ◌∙◌, refl, None, Some, ap, arith, rules, drop, length, sym, subst}
+use Rattle.std.proofs.Common.{◌∙◌, ap, arith, rules, sym}
 use Rattle.std.specs.Prelude.{[], option_map}
 use Rattle.vx_dtype.specs.Fields.{field_count}
-use Rattle.vx_value.specs.Views.{data_view, fields_of, fields_view, names_of, type_of, value_of}
-use Rattle.vx_source_types.specs.Untyped.{typed_items, typed_row}
+use Rattle.vx_value.specs.Views.{data_view, fields_of, names_of, type_of}
+use Rattle.vx_source_types.specs.Untyped.{typed_row}
 use Rattle.vx_source_types.proofs.Typing.{made_first, made_more, made_none, made_all, item_typed, item_untyped, no_item, field_typed, field_untyped, no_field_left, before}
 use Rattle.vx_dtype.proofs.Pairs.{field_count_view}
 use Rattle.vx_source_types.proofs.typed_value.+typed.Goals as goal
