@@ -7,7 +7,7 @@ use Rattle.std.specs.List.{list_any, range_with_len}
 use Rattle.std.specs.Option.{option_map}
 use Rattle.vx_dtype.specs.declared.error.VortexError.TheVariants.{AddOverflow, BadFill}
 use Rattle.vx_value.specs.Fits.{fits}
-use Rattle.vx_value.specs.Types.{LogicalType, ty, atomic, number, decimals, Datum, null, int, is_null_datum}
+use Rattle.vx_value.specs.Types.{LogicalType, ty, atomic, number, floating, decimals, Datum, null, int, is_null_datum}
 use Rattle.vx_fn.specs.Faults.{node_fault, is_outside, overflows, misfits, fill_of, is_bad_fill, some_differ, differs, when}
 use Rattle.vx_fn.specs.Functions.{binary, adds, fill_null}
 use Rattle.vx_fn.specs.Values.{sum_of}
@@ -86,6 +86,7 @@ fill_quiet ts n c f long good = ap (λ fs. when (is_bad_fill ts fs) BadFill) (fi
 
 outside_same : (t : LogicalType) (ts : List LogicalType) (v : Datum) → is_outside (t ∷ ts) v ≡ is_outside (t ∷ []) v
 outside_same (ty (atomic (number p)) n) ts (int i) = refl
+outside_same (ty (atomic (floating f)) n) ts (int i) = refl
 outside_same (ty (atomic (decimals p s)) n) ts (int i) = refl
 outside_same _ ts _ = refl
 

@@ -33,7 +33,7 @@ MakesRows post n g = (i : ℕ) (x v : Value) → i < n → post i x (Ok v) → v
 abbrev pub is_between : ℤ → ℤ → ℤ → Bool
 is_between lowest highest i = le_z lowest i && le_z i highest
 
--- the numbers of the type are those from the lowest to the highest
+-- the whole numbers of the type are those from the lowest to the highest
 abbrev pub IsRange : LogicalType → ℤ → ℤ → Type 0
 IsRange t lowest highest = (i : ℤ) → is_outside (t ∷ []) (int i) ≡ not (is_between lowest highest i)
 

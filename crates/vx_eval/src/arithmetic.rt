@@ -1,7 +1,7 @@
 // Sums.
 ghost use Rattle.std.specs.Prelude.{◌≡◌, ℤ, false, true, length, List, [], ◌∷◌, IsTrue, MatchOption};
 ghost use Rattle.vx_value.specs.Fits.{fits_digits, fits_ptype};
-ghost use Rattle.vx_value.specs.Types.{LogicalType, int};
+ghost use Rattle.vx_value.specs.Types.{LogicalType, float, int};
 ghost use Rattle.vx_value.specs.Views.{type_of, value_of};
 ghost use Rattle.vx_fn.specs.Faults.{is_outside};
 ghost use Rattle.vx_fn.specs.Functions.{binary, adds, is_number};
@@ -12,7 +12,7 @@ ghost use Rattle.vx_eval.specs.Kernels.{is_between, IsRange};
 use crate::rows::Rows;
 use std::alloc::Global;
 use vx_literals::power_of_ten;
-use vx_types::{DType, DecimalType, PType, Value, VortexError, VortexResult};
+use vx_types::{DType, DecimalType, Float, PType, Value, VortexError, VortexResult};
 
 /// The sums of two columns, of which the left one has the number type. Refuses with `AddOverflow`
 /// (13) and the first row whose sum is out of its range, and with `OutOfMemory` (1).
@@ -39,20 +39,27 @@ pub fn add<'a>(
     Ok(Rows::Owned(sums))
 }
 
-// The numbers of a type: from the lowest to the highest.
+// The whole numbers of a type: from the lowest to the highest.
 #[derive(Clone, Copy)]
 struct NumberRange {
     lowest: i128,
     highest: i128,
 }
 
-// The numbers of the type, decided once for all rows.
+// The range of no whole number, since those of the type are floating-point numbers.
+const NO_NUMBER: NumberRange = NumberRange {
+    lowest: 0,
+    highest: -1,
+};
+
+// The whole numbers of the type, decided once for all rows.
 fn range_of(dtype: &DType) -> NumberRange
     requires { IsTrue (is_number (type_of dtype.now)) }
     ensures { IsRange (type_of dtype.now) result.lowest result.highest }
 {
     match dtype {
         DType::Primitive(number, _) => number_range(*number),
+        DType::Float(_, _) => NO_NUMBER,
         DType::Decimal(decimal, _) => decimal_range(*decimal),
         _ => unreachable!(),
     }
@@ -102,7 +109,22 @@ fn sum(dtype: &DType, range: NumberRange, v: &Value, w: &Value) -> Option<Value>
             },
             _ => Some(Value::Null),
         },
+        Value::Float(x) => match w {
+            Value::Float(y) => Some(float_sum(*x, *y)),
+            _ => Some(Value::Null),
+        },
         _ => Some(Value::Null),
+    }
+}
+
+// The sum of two floating-point numbers of one format, or null.
+#[inline]
+fn float_sum(x: Float, y: Float) -> Value
+    ensures { value_of result ≡ sum_of (float x) (float y) }
+{
+    match x.sum(y) {
+        Some(z) => Value::Float(z),
+        None => Value::Null,
     }
 }
 

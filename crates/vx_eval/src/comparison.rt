@@ -158,7 +158,8 @@ fn agrees(operator: Operator, order: Ordering) -> bool
     }
 }
 
-/// False before true, whole numbers by number, texts and bytes by their bytes.
+/// False before true, whole numbers by number, floating-point numbers by IEEE 754's total order, texts
+/// and bytes by their bytes.
 pub fn order(v: &Value, w: &Value) -> Ordering
     ensures { result ≡ values.order (value_of v.now) (value_of w.now) }
 {
@@ -169,6 +170,10 @@ pub fn order(v: &Value, w: &Value) -> Ordering
         },
         Value::Int(a) => match w {
             Value::Int(b) => a.cmp(b),
+            _ => Ordering::Equal,
+        },
+        Value::Float(a) => match w {
+            Value::Float(b) => a.total_order(*b),
             _ => Ordering::Equal,
         },
         Value::Utf8(a) => match w {

@@ -314,6 +314,7 @@ pub fn copied(value: &Value) -> Result<Value, AllocError>
         Value::Null => Ok(Value::Null),
         Value::Bool(b) => Ok(Value::Bool(*b)),
         Value::Int(z) => Ok(Value::Int(*z)),
+        Value::Float(x) => Ok(Value::Float(*x)),
         _ => value.clone(),
     }
 }

@@ -51,6 +51,7 @@ pub fn write_repeated(rows: &mut Vec<Value>, mask: &[bool], value: &Value) -> Re
         Value::Null => write_with(rows, mask, |_| Ok(Value::Null)),
         Value::Bool(b) => write_with(rows, mask, |_| Ok(Value::Bool(*b))),
         Value::Int(z) => write_with(rows, mask, |_| Ok(Value::Int(*z))),
+        Value::Float(x) => write_with(rows, mask, |_| Ok(Value::Float(*x))),
         _ => write_with(rows, mask, |_| value.clone()),
     }
 }

@@ -83,6 +83,7 @@ pub fn push_repeated(
         Value::Null => push_with(merging, rows, mask, from, |_| Ok(Value::Null)),
         Value::Bool(b) => push_with(merging, rows, mask, from, |_| Ok(Value::Bool(*b))),
         Value::Int(z) => push_with(merging, rows, mask, from, |_| Ok(Value::Int(*z))),
+        Value::Float(x) => push_with(merging, rows, mask, from, |_| Ok(Value::Float(*x))),
         _ => push_with(merging, rows, mask, from, |_| value.clone()),
     }
 }

@@ -7,6 +7,7 @@ mod choices;
 mod collects;
 mod columns;
 mod fields;
+mod floating_numbers;
 mod literals;
 mod macros;
 mod names;

@@ -9,8 +9,8 @@ ghost use Rattle.vx_value.specs.Views.{type_of, value_of};
 use std::alloc::Global;
 use vx_types::{DType, Nullability, Value, VortexResult};
 
-/// A Rust value that stands for a value of one type: a truth value, a whole number, a text, bytes, or
-/// an `Option` of one of them, whose None is null.
+/// A Rust value that stands for a value of one type: a truth value, a whole number, a floating-point
+/// number, whose NaNs are one, a text, bytes, or an `Option` of one of them, whose None is null.
 pub trait Native: Drop + Sized {
     /// The type of the values that these stand for.
     ghost logical_type: { LogicalType };

@@ -2,17 +2,20 @@
 use Rattle.std.proofs.Common.{◌≡◌, ℕ, zero, suc, List, [], ◌∷◌, refl, ap, ◌∙◌, Bool, true, false, replicate, map, None, add-one, eq-eqb, ◌^◌, arith}
 use Rattle.std.proofs.Math.Nat.{one-le-pow}
 use borrow.Author.Tests.{lt-ltb}
+use lib.Ieee.{of_bits, to_bits}
 use Rattle.std.specs.Prelude.{if◌then◌else◌, pos}
 use Rattle.std.proofs.lemmas.Bool.{and_parts, and_from}
 use Rattle.vx_dtype.specs.declared.dtype.PType.{PType}
 use Rattle.vx_dtype.specs.declared.dtype.PType.TheVariants.{U8, U16, U32, U64, I8, I16, I32, I64}
+use Rattle.vx_dtype.specs.declared.float_type.FloatType.{FloatType}
+use Rattle.vx_dtype.specs.declared.float_type.FloatType.TheVariants.{F32, F64}
 use Rattle.vx_value.proofs.Misfits.{no_misfit}
 use Rattle.vx_value.specs.Columns.{first_misfit, batch}
 use Rattle.vx_value.specs.Fields.{data_of}
 use Rattle.vx_value.specs.Fits.{Fits, fits_digits, fits_ptype, each_fits, fields_fit, count, IsBatch}
 use Rattle.vx_value.specs.Paths.{Path, is_member}
-use Rattle.vx_value.specs.Types.{truth, number, decimals, date, timestamp, text, octets, LogicalType, ty, Shape, atomic, list, fixed, struct, Fields, no_field, field, Datum, null, struct_of, Data, no_datum, datum}
-use Rattle.vx_projection.specs.Defaults.{default_of, shape_default, field_defaults}
+use Rattle.vx_value.specs.Types.{truth, number, floating, decimals, date, timestamp, text, octets, LogicalType, ty, Shape, atomic, list, fixed, struct, Fields, no_field, field, Datum, null, float, struct_of, Data, no_datum, datum}
+use Rattle.vx_projection.specs.Defaults.{zero_of, default_of, shape_default, field_defaults}
 use Rattle.vx_projection.specs.Kept.{rests, others, at_paths, kept, fields_kept, kept_batch}
 use Rattle.vx_projection.specs.Wanted.{Want, want_all, want_none, want_fields, wanted, fields_wanted, taken, each_taken}
 
@@ -27,6 +30,11 @@ zero-fits I8 = refl
 zero-fits I16 = refl
 zero-fits I32 = refl
 zero-fits I64 = refl
+
+zero_of-fits : (f : FloatType) → Fits (float (zero_of f)) (ty (atomic (floating f)) false)
+unfolding of_bits to_bits
+zero_of-fits F32 = refl
+zero_of-fits F64 = refl
 
 no_units : (p : ℕ) → fits_digits (pos 0) p ≡ true
 no_units p = lt-ltb 0 (10 ^ p) (omega (arith, one-le-pow p 10 (omega arith)))
@@ -47,6 +55,7 @@ mutual
   shape-fits : (s : Shape) → Fits (shape_default s) (ty s false)
   shape-fits (atomic truth) = refl
   shape-fits (atomic (number p)) = zero-fits p
+  shape-fits (atomic (floating f)) = zero_of-fits f
   shape-fits (atomic (decimals p s)) = no_units p
   shape-fits (atomic date) = refl
   shape-fits (atomic (timestamp u z)) = refl

@@ -1,7 +1,15 @@
 -- The value that stands where nothing is kept.
 use Rattle.std.specs.Prelude.{false, [], pos, replicate, if◌then◌else◌}
+use Rattle.vx_dtype.specs.declared.float_type.FloatType.{FloatType}
+use Rattle.vx_floats.specs.declared.float.Float.{Float}
+use Rattle.vx_floats.specs.declared.float.Float.TheVariants.{F32, F64}
 use Rattle.vx_value.specs.Fields.{data_of}
-use Rattle.vx_value.specs.Types.{truth, number, decimals, date, timestamp, text, octets, LogicalType, ty, Shape, atomic, list, fixed, struct, Fields, no_field, field, Datum, null, bool, int, utf8, bytes, list_of, struct_of, Data, no_datum, datum}
+use Rattle.vx_value.specs.Types.{truth, number, floating, decimals, date, timestamp, text, octets, LogicalType, ty, Shape, atomic, list, fixed, struct, Fields, no_field, field, Datum, null, bool, int, float, utf8, bytes, list_of, struct_of, Data, no_datum, datum}
+
+-- the zero of a format, of which no bit is set
+abbrev pub zero_of : FloatType → Float
+zero_of FloatType.F32 = F32 0
+zero_of FloatType.F64 = F64 0
 
 -- null where the type is nullable, else false, 0, an empty text, no byte, no item, or so many defaults or a default for each field
 abbrev mutual
@@ -12,6 +20,7 @@ abbrev mutual
   pub shape_default : Shape → Datum
   shape_default (atomic truth) = bool false
   shape_default (atomic (number p)) = int (pos 0)
+  shape_default (atomic (floating f)) = float (zero_of f)
   shape_default (atomic (decimals p s)) = int (pos 0)
   shape_default (atomic date) = int (pos 0)
   shape_default (atomic (timestamp u z)) = int (pos 0)

@@ -1,10 +1,10 @@
 // The value that stands where nothing is kept.
 ghost use Rattle.std.specs.Prelude.{◌≡◌, IfOk, map, replicate};
 ghost use Rattle.vx_value.specs.Views.{data_view, fields_of, type_of, value_of};
-ghost use Rattle.vx_projection.specs.Defaults.{default_of, field_defaults};
+ghost use Rattle.vx_projection.specs.Defaults.{default_of, field_defaults, zero_of};
 
 use std::alloc::{AllocError, Global};
-use vx_types::{DType, StructFields, Value};
+use vx_types::{DType, Float, FloatType, StructFields, Value};
 
 /// The default of the type: null where it is nullable, else false, 0, an empty text, no byte, no item,
 /// so many defaults, or the default of each field.
@@ -19,6 +19,7 @@ pub fn default_value(alloc: Global, dtype: &DType) -> Result<Value, AllocError>
         DType::Bool(_) => Ok(Value::Bool(false)),
         DType::Primitive(_, _) | DType::Decimal(_, _) | DType::Date(_) | DType::Timestamp(_, _) =>
             Ok(Value::Int(0)),
+        DType::Float(format, _) => Ok(Value::Float(zero(*format))),
         DType::Utf8(_) => Ok(Value::Utf8(String::new(alloc))),
         DType::Binary(_) => Ok(Value::Binary(Vec::new(alloc))),
         DType::List(_, _) => Ok(Value::List(Vec::new(alloc))),
@@ -27,6 +28,16 @@ pub fn default_value(alloc: Global, dtype: &DType) -> Result<Value, AllocError>
             Ok(Value::List(repeated(alloc, &item, *size)?))
         }
         DType::Struct(fields, _) => Ok(Value::Struct(default_of_each(alloc, fields)?)),
+    }
+}
+
+// The zero of the format.
+fn zero(format: FloatType) -> Float
+    ensures { result ≡ zero_of format }
+{
+    match format {
+        FloatType::F32 => Float::F32(0),
+        FloatType::F64 => Float::F64(0),
     }
 }
 

@@ -116,6 +116,7 @@ fn copied(value: &Value) -> Result<Value, AllocError>
         Value::Null => Ok(Value::Null),
         Value::Bool(truth) => Ok(Value::Bool(*truth)),
         Value::Int(number) => Ok(Value::Int(*number)),
+        Value::Float(number) => Ok(Value::Float(*number)),
         _ => value.clone(),
     }
 }

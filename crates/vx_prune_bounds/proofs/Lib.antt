@@ -1,3 +1,4 @@
+pub mod Floats
 pub mod Ordered
 pub mod Contained
 pub mod Ends

@@ -4,7 +4,7 @@ use Rattle.std.specs.List.{starts_with}
 use Rattle.std.proofs.lemmas.Bool.{and_from, or_cases, or_left, or_right, both_ways, false_from_ne_true}
 use Rattle.std.proofs.lemmas.Str.{encodes-chars, encodes-append, IsUtf8-from_is_utf8}
 use Rattle.vx_value.specs.Fits.{Fits}
-use Rattle.vx_value.specs.Types.{ty, atomic, text, Datum, null, bool, int, utf8, bytes, list_of, struct_of}
+use Rattle.vx_value.specs.Types.{ty, atomic, text, Datum, null, bool, int, float, utf8, bytes, list_of, struct_of}
 use Rattle.vx_fn.specs.Values.{parts, is_like, flipped, liked}
 use Rattle.vx_prune_bounds.specs.Bounds.{Bounds, Contains}
 use Rattle.vx_prune_bounds.specs.Truths.{truths, MayBe}
@@ -70,11 +70,13 @@ like-sound negated ci x p (utf8 t) (utf8 q) m n f g i j =
     (some_answer (x.value && p.value) (surely_unlike ci x (only_text p)) (is_like ci t q) (and_from _ _ at.value by.value) (λ e. surely-unlike ci x p t q e at by))
 like-sound negated ci x p (utf8 t) (bool z) m n f g i j = cc
 like-sound negated ci x p (utf8 t) (int z) m n f g i j = cc
+like-sound negated ci x p (utf8 t) (float z) m n f g i j = cc
 like-sound negated ci x p (utf8 t) (bytes z) m n f g i j = cc
 like-sound negated ci x p (utf8 t) (list_of z) m n f g i j = cc
 like-sound negated ci x p (utf8 t) (struct_of z) m n f g i j = cc
 like-sound negated ci x p (bool z) w m n f g i j = cc
 like-sound negated ci x p (int z) w m n f g i j = cc
+like-sound negated ci x p (float z) w m n f g i j = cc
 like-sound negated ci x p (bytes z) w m n f g i j = cc
 like-sound negated ci x p (list_of z) w m n f g i j = cc
 like-sound negated ci x p (struct_of z) w m n f g i j = cc

@@ -4,7 +4,7 @@ use Rattle.std.specs.Prelude.{ℤ, ◌+ℤ◌, ◌≤ℤ◌, Option, Some, None,
 use Rattle.std.proofs.lemmas.Bool.{and_parts, and_from, or_left, or_right}
 use Rattle.std.proofs.lemmas.Int.{ints}
 use Rattle.vx_dtype.specs.Lists.{Forall2, forall2_nil, forall2_cons}
-use Rattle.vx_value.specs.Types.{Datum, null, bool, int}
+use Rattle.vx_value.specs.Types.{Datum, null, bool, int, float}
 use Rattle.vx_fn.specs.Functions.{Operation, compares, and_also, or_else, adds, Comparison, equal, not_equal, greater, greater_or_equal, less, less_or_equal}
 use Rattle.vx_fn.specs.Values.{bound_comparison}
 use Rattle.vx_prune_bounds.specs.Order.{at_most, below}
@@ -202,6 +202,8 @@ starts-sums (Some (int a)) (Some (int c)) None (Some (int d)) e f = cc
 starts-sums (Some (int a)) (Some (int c)) (Some _) (Some (int d)) e f = cc
 starts-sums (Some _) (Some (int c)) m (Some (int d)) e f = cc
 starts-sums l (Some (int c)) m (Some _) e f = refl
+starts-sums l (Some (float c)) m (Some (float d)) e f = refl
+starts-sums l (Some (float c)) m (Some _) e f = refl
 starts-sums l (Some _) m (Some y) e f = refl
 
 ends-sums : (g g' h h' : Option Datum) → ends_within g g' ≡ true → ends_within h h' ≡ true → ends_within (of_both (of_sum nearest_above) g h) (of_both (of_sum nearest_above) g' h') ≡ true
@@ -213,6 +215,8 @@ ends-sums (Some (int a)) (Some (int c)) None (Some (int d)) e f = cc
 ends-sums (Some (int a)) (Some (int c)) (Some _) (Some (int d)) e f = cc
 ends-sums (Some _) (Some (int c)) h (Some (int d)) e f = cc
 ends-sums g (Some (int c)) h (Some _) e f = refl
+ends-sums g (Some (float c)) h (Some (float d)) e f = refl
+ends-sums g (Some (float c)) h (Some _) e f = refl
 ends-sums g (Some _) h (Some y) e f = refl
 
 pub sum-mono : (x x' y y' : Bounds) → IsWithin x x' → IsWithin y y' → IsWithin (sum_bounds x y) (sum_bounds x' y')
@@ -234,6 +238,8 @@ right_own (Some (int a)) (Some (int b)) = around None (nearest_above (a +ℤ b))
 right_own None h = refl
 right_own (Some (int a)) None = refl
 right_own (Some (int a)) (Some _) = refl
+right_own (Some (float a)) (Some (float b)) = refl
+right_own (Some (float a)) (Some _) = refl
 right_own (Some _) None = refl
 right_own (Some _) (Some y) = refl
 
@@ -250,6 +256,8 @@ sums_interval (Some (int a)) (Some _) (Some (int b)) (Some y) e f = cc
 sums_interval None g m h e f = right_own g h
 sums_interval (Some (int a)) g None h e f = right_own g h
 sums_interval (Some (int a)) g (Some _) h e f = right_own g h
+sums_interval (Some (float a)) g (Some (float b)) h e f = right_own g h
+sums_interval (Some (float a)) g (Some _) h e f = right_own g h
 sums_interval (Some _) g None h e f = right_own g h
 sums_interval (Some _) g (Some y) h e f = right_own g h
 

@@ -10,9 +10,12 @@ use Rattle.std.specs.Str.{is_utf8}
 use Rattle.std.proofs.lemmas.Bool.{and_parts, and_from}
 use Rattle.std.proofs.lemmas.Cmp.{int_cmp_total, nat_list_cmp_total, upto, tied_itself}
 use Rattle.std.proofs.lemmas.Map.Lookups.{exact_bytes, exact_signed}
-use Rattle.vx_value.specs.Types.{Datum, bool, int, utf8, bytes, is_null_datum}
+use Rattle.vx_floats.specs.Floats.{float_order, is_canonical}
+use Rattle.vx_floats.specs.declared.float.Float.{Float}
+use Rattle.vx_value.specs.Types.{Datum, bool, int, float, utf8, bytes, is_null_datum}
 use Rattle.vx_fn.specs.Values.{order}
 use Rattle.vx_prune_bounds.specs.Order.{at_most, below, comparable, lower, higher}
+use Rattle.vx_prune_bounds.proofs.Floats.{float_total, float_exact}
 
 -- ---- total orders
 
@@ -68,12 +71,14 @@ module _ {K : Type 0} {R : K → K → Ordering} (t : IsTotalOrder R) where
 pub data AtMost : Datum → Datum → Type 0 where
   two_truths : {a b : Bool} → is_le (bool_cmp a b) ≡ true → AtMost (bool a) (bool b)
   two_numbers : {i j : ℤ} → is_le (int_cmp i j) ≡ true → AtMost (int i) (int j)
+  two_floats : {x y : Float} → is_canonical x ≡ true → is_canonical y ≡ true → is_le (float_order x y) ≡ true → AtMost (float x) (float y)
   two_texts : {s t : List ℕ} → is_utf8 s ≡ true → is_utf8 t ≡ true → is_le (slice_cmp nat_cmp s t) ≡ true → AtMost (utf8 s) (utf8 t)
   two_bytes : {s t : List ℕ} → is_le (slice_cmp nat_cmp s t) ≡ true → AtMost (bytes s) (bytes t)
 
 pub told : (v w : Datum) → at_most v w ≡ true → AtMost v w
 told (bool a) (bool b) e = two_truths e
 told (int i) (int j) e = two_numbers e
+told (float x) (float y) e = let p = and_parts _ _ e in let q = and_parts _ _ p.1 in two_floats p.0 q.0 q.1
 told (utf8 s) (utf8 t) e = let p = and_parts _ _ e in let q = and_parts _ _ p.1 in two_texts p.0 q.0 q.1
 told (bytes s) (bytes t) e = two_bytes e
 told _ _ e = cc
@@ -81,48 +86,56 @@ told _ _ e = cc
 pub shown : {v w : Datum} → AtMost v w → at_most v w ≡ true
 shown (two_truths e) = e
 shown (two_numbers e) = e
+shown (two_floats c d e) = and_from _ _ c (and_from _ _ d e)
 shown (two_texts u t e) = and_from _ _ u (and_from _ _ t e)
 shown (two_bytes e) = e
 
 own_left : {v w : Datum} → AtMost v w → AtMost v v
 own_left (two_truths {a = a} e) = two_truths (le_own bool_cmp_total a)
 own_left (two_numbers {i = i} e) = two_numbers (le_own int_cmp_total i)
+own_left (two_floats {x = x} c d e) = two_floats c c (le_own float_total x)
 own_left (two_texts {s = s} u t e) = two_texts u u (le_own nat_list_cmp_total s)
 own_left (two_bytes {s = s} e) = two_bytes (le_own nat_list_cmp_total s)
 
 own_right : {v w : Datum} → AtMost v w → AtMost w w
 own_right (two_truths {b = b} e) = two_truths (le_own bool_cmp_total b)
 own_right (two_numbers {j = j} e) = two_numbers (le_own int_cmp_total j)
+own_right (two_floats {y = y} c d e) = two_floats d d (le_own float_total y)
 own_right (two_texts {t = t} u w e) = two_texts w w (le_own nat_list_cmp_total t)
 own_right (two_bytes {t = t} e) = two_bytes (le_own nat_list_cmp_total t)
 
 onwards : {u v w : Datum} → AtMost u v → AtMost v w → AtMost u w
 onwards (two_truths {a = a} {b = b} e) (two_truths {b = c} f) = two_truths (le_trans bool_cmp_total a b c e f)
 onwards (two_numbers {i = i} {j = j} e) (two_numbers {j = k} f) = two_numbers (le_trans int_cmp_total i j k e f)
+onwards (two_floats {x = x} {y = y} c d e) (two_floats {y = z} a b f) = two_floats c b (le_trans float_total x y z e f)
 onwards (two_texts {s = r} {t = s} p q e) (two_texts {t = t} x y f) = two_texts p y (le_trans nat_list_cmp_total r s t e f)
 onwards (two_bytes {s = r} {t = s} e) (two_bytes {t = t} f) = two_bytes (le_trans nat_list_cmp_total r s t e f)
 
 either_above : {u v w : Datum} → AtMost u v → AtMost u w → (at_most v w || at_most w v) ≡ true
 either_above (two_truths {b = b} e) (two_truths {b = c} f) = le_total bool_cmp_total b c
 either_above (two_numbers {j = j} e) (two_numbers {j = k} f) = le_total int_cmp_total j k
+either_above (two_floats {y = y} c d e) (two_floats {y = z} a b f) = rw (d, b) (le_total float_total y z)
 either_above (two_texts {t = s} p q e) (two_texts {t = t} x y f) = rw (q, y) (le_total nat_list_cmp_total s t)
 either_above (two_bytes {t = s} e) (two_bytes {t = t} f) = le_total nat_list_cmp_total s t
 
 either_below : {u v w : Datum} → AtMost v u → AtMost w u → (at_most v w || at_most w v) ≡ true
 either_below (two_truths {a = b} e) (two_truths {a = c} f) = le_total bool_cmp_total b c
 either_below (two_numbers {i = j} e) (two_numbers {i = k} f) = le_total int_cmp_total j k
+either_below (two_floats {x = x} c d e) (two_floats {x = y} a b f) = rw (c, a) (le_total float_total x y)
 either_below (two_texts {s = s} p q e) (two_texts {s = t} x y f) = rw (p, x) (le_total nat_list_cmp_total s t)
 either_below (two_bytes {s = s} e) (two_bytes {s = t} f) = le_total nat_list_cmp_total s t
 
 le_in_order : {v w : Datum} → AtMost v w → is_le (order v w) ≡ true
 le_in_order (two_truths e) = e
 le_in_order (two_numbers e) = e
+le_in_order (two_floats c d e) = e
 le_in_order (two_texts u t e) = e
 le_in_order (two_bytes e) = e
 
 lt_in_order : {v w : Datum} → AtMost v w → not (at_most w v) ≡ true → is_lt (order v w) ≡ true
 lt_in_order (two_truths {a = a} {b = b} e) f = lt_from bool_cmp_total a b (and_from _ _ e f)
 lt_in_order (two_numbers {i = i} {j = j} e) f = lt_from int_cmp_total i j (and_from _ _ e f)
+lt_in_order (two_floats {x = x} {y = y} c d e) f = lt_from float_total x y (and_from _ _ e (rw (d, c) at f))
 lt_in_order (two_texts {s = s} {t = t} u w e) f = lt_from nat_list_cmp_total s t (and_from _ _ e (rw (w, u) at f))
 lt_in_order (two_bytes {s = s} {t = t} e) f = lt_from nat_list_cmp_total s t (and_from _ _ e f)
 
@@ -135,6 +148,7 @@ bools_alike false true e = cc
 same : {v w : Datum} → AtMost v w → AtMost w v → v ≡ w
 same (two_truths {a = a} {b = b} e) (two_truths f) = ap bool (bools_alike a b (eq_from bool_cmp_total a b e f))
 same (two_numbers {i = i} {j = j} e) (two_numbers f) = ap int (exact_signed i j (eq_from int_cmp_total i j e f))
+same (two_floats {x = x} {y = y} c d e) (two_floats a b f) = ap float (float_exact x y c d (eq_from float_total x y e f))
 same (two_texts {s = s} {t = t} p q e) (two_texts x y f) = ap utf8 (exact_bytes s t (eq_from nat_list_cmp_total s t e f))
 same (two_bytes {s = s} {t = t} e) (two_bytes f) = ap bytes (exact_bytes s t (eq_from nat_list_cmp_total s t e f))
 
@@ -188,6 +202,7 @@ own_order v e = go (told v v e)
     go : {w : Datum} → AtMost w w → order w w ≡ Equal
     go {w = bool a} x = tied_itself bool_cmp_total a
     go {w = int i} x = tied_itself int_cmp_total i
+    go {w = float y} x = tied_itself float_total y
     go {w = utf8 s} x = tied_itself nat_list_cmp_total s
     go {w = bytes s} x = tied_itself nat_list_cmp_total s
     go {w = _} x = refl
@@ -198,6 +213,7 @@ not_null_end v w e = go (told v w e)
     go : {v w : Datum} → AtMost v w → is_null_datum v ≡ false
     go (two_truths e) = refl
     go (two_numbers e) = refl
+    go (two_floats c d e) = refl
     go (two_texts u t e) = refl
     go (two_bytes e) = refl
 

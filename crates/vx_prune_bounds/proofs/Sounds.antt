@@ -8,7 +8,7 @@ use Rattle.std.specs.Ordering.{is_le, is_lt, is_gt, is_ge, is_ne, ordering_rever
 use Rattle.std.proofs.lemmas.Bool.{and_parts, and_from, or_left, or_right}
 use Rattle.vx_dtype.specs.Lists.{Forall2, forall2_nil, forall2_cons}
 use Rattle.vx_value.specs.Fits.{Fits, EachFits}
-use Rattle.vx_value.specs.Types.{truth, LogicalType, ty, atomic, Datum, null, bool, int, utf8, bytes, list_of, struct_of, is_null_datum}
+use Rattle.vx_value.specs.Types.{truth, LogicalType, ty, atomic, Datum, null, bool, int, float, utf8, bytes, list_of, struct_of, is_null_datum}
 use Rattle.vx_fn.specs.Functions.{Comparison, equal, not_equal, greater, greater_or_equal, less, less_or_equal, conditions, is_truth}
 use Rattle.vx_fn.specs.Values.{is_true, kleene_and, kleene_or, kleene_not, order, agrees, compared, bound_comparison, first_true}
 use Rattle.vx_fn.proofs.Swaps.{order-turned}
@@ -68,6 +68,10 @@ truths_back n true true (int _) e = cc
 truths_back n true false (int _) e = cc
 truths_back n false true (int _) e = cc
 truths_back n false false (int _) e = cc
+truths_back n true true (float _) e = cc
+truths_back n true false (float _) e = cc
+truths_back n false true (float _) e = cc
+truths_back n false false (float _) e = cc
 truths_back n true true (utf8 _) e = cc
 truths_back n true false (utf8 _) e = cc
 truths_back n false true (utf8 _) e = cc

@@ -1,6 +1,6 @@
 -- Sums of numbers within bounds.
-use Rattle.std.proofs.Common.{◌≡◌, ◌<◌, ◌^◌, ◌-◌, refl, Bool, true, false, arith}
-use Rattle.std.specs.Prelude.{ℤ, pos, negsuc, nat_lt, min, ◌+ℤ◌, ◌≤ℤ◌, ◌<ℤ◌, Option, Some, None, if◌then◌else◌}
+use Rattle.std.proofs.Common.{◌≡◌, ◌<◌, ◌^◌, ◌-◌, refl, Bool, true, false, ◌&&◌, arith}
+use Rattle.std.specs.Prelude.{ℤ, pos, negsuc, nat_lt, min, ◌+ℤ◌, ◌≤ℤ◌, ◌<ℤ◌, Option, Some, None, if◌then◌else◌, IsTrue}
 use Rattle.std.specs.declared.cmp.Ordering.{Ordering}
 use Rattle.std.specs.declared.cmp.Ordering.TheVariants.{Less, Equal, Greater}
 use Rattle.std.specs.Cmp.{int_ranks}
@@ -8,9 +8,11 @@ use Rattle.std.specs.Ordering.{is_le, int_cmp, MatchOrdering}
 use Rattle.std.proofs.lemmas.Bool.{and_from, or_left, or_right, ltb-true}
 use Rattle.std.proofs.lemmas.Int.{ints}
 use borrow.Author.Tests.{lt-ltb}
+use Rattle.vx_dtype.specs.declared.float_type.FloatType.{FloatType}
+use Rattle.vx_floats.specs.Floats.{format_of, is_canonical}
+use Rattle.vx_floats.specs.declared.float.Float.{Float}
 use Rattle.vx_value.specs.Fits.{Fits}
-use Rattle.vx_value.specs.Types.{number, decimals, LogicalType, ty, atomic, Datum, null, bool, int, utf8, bytes, list_of, struct_of}
-use Rattle.vx_fn.specs.Functions.{is_number}
+use Rattle.vx_value.specs.Types.{same_float_type, number, floating, decimals, LogicalType, ty, atomic, Datum, null, bool, int, float, utf8, bytes, list_of, struct_of}
 use Rattle.vx_fn.specs.Values.{sum_of}
 use Rattle.vx_prune_bounds.specs.Bounds.{Bounds, is_from, is_up_to, Contains, of_both, starts_within, ends_within, is_interval}
 use Rattle.vx_prune_bounds.specs.Kernels.{nearest_below, nearest_above, of_sum, sum_bounds}
@@ -103,6 +105,7 @@ sum_from i j None m e f = refl
 sum_from i j (Some l) None e f = refl
 sum_from i j (Some null) (Some m) e f = refl
 sum_from i j (Some (bool _)) (Some m) e f = refl
+sum_from i j (Some (float _)) (Some m) e f = cc
 sum_from i j (Some (utf8 _)) (Some m) e f = refl
 sum_from i j (Some (bytes _)) (Some m) e f = refl
 sum_from i j (Some (list_of _)) (Some m) e f = refl
@@ -118,20 +121,42 @@ sum_up_to i j None h e f = refl
 sum_up_to i j (Some g) None e f = refl
 sum_up_to i j (Some null) (Some h) e f = refl
 sum_up_to i j (Some (bool _)) (Some h) e f = refl
+sum_up_to i j (Some (float _)) (Some h) e f = cc
 sum_up_to i j (Some (utf8 _)) (Some h) e f = refl
 sum_up_to i j (Some (bytes _)) (Some h) e f = refl
 sum_up_to i j (Some (list_of _)) (Some h) e f = refl
 sum_up_to i j (Some (struct_of _)) (Some h) e f = refl
 sum_up_to i j (Some (int a)) (Some _) e f = refl
 
+-- of a sum of floating-point numbers no end is known
+float_sum_from : (x y z : Float) (l m : Option Datum) → is_from l (float x) ≡ true → is_from (of_both (of_sum nearest_below) l m) (float z) ≡ true
+float_sum_from x y z None m e = refl
+float_sum_from x y z (Some l) None e = refl
+float_sum_from x y z (Some (float a)) (Some (float b)) e = refl
+float_sum_from x y z (Some (float a)) (Some _) e = refl
+float_sum_from x y z (Some _) (Some m) e = cc
+
+float_sum_up_to : (x y z : Float) (g h : Option Datum) → is_up_to g (float x) ≡ true → is_up_to (of_both (of_sum nearest_above) g h) (float z) ≡ true
+float_sum_up_to x y z None h e = refl
+float_sum_up_to x y z (Some g) None e = refl
+float_sum_up_to x y z (Some (float a)) (Some (float b)) e = refl
+float_sum_up_to x y z (Some (float a)) (Some _) e = refl
+float_sum_up_to x y z (Some _) (Some h) e = cc
+
 -- ---- sums
 
--- a number or null
+-- a whole number or null
 pub data Numeric : Datum → Type 0 where
   no_number : Numeric null
   a_number : {i : ℤ} → Numeric (int i)
 
-pub numeric : (t : LogicalType) (v : Datum) → is_number t ≡ true → Fits v t → Numeric v
+-- whether the values of the type are whole numbers, decimals by their units among them
+abbrev pub is_whole : LogicalType → Bool
+is_whole (ty (atomic (number p)) n) = true
+is_whole (ty (atomic (decimals p s)) n) = true
+is_whole _ = false
+
+pub numeric : (t : LogicalType) (v : Datum) → is_whole t ≡ true → Fits v t → Numeric v
 numeric (ty (atomic (number p)) n) null e f = no_number
 numeric (ty (atomic (number p)) n) (int i) e f = a_number
 numeric (ty (atomic (number p)) n) _ e f = cc
@@ -151,3 +176,27 @@ sum-sound x y (a_number {i = i}) (a_number {i = j}) h k =
       from = sum_from i j x.least y.least a.from b.from;
       up_to = sum_up_to i j x.greatest y.greatest a.up_to b.up_to;
     })
+
+-- two floating-point numbers of one format
+float_parts : (x y : Bounds) (p q z : Float) → Contains x (float p) → Contains y (float q) → Contains (sum_bounds x y) (float z)
+float_parts x y p q z h k =
+    let a = inside x (float p) refl h in
+    let b = inside y (float q) refl k in
+    from_inside (sum_bounds x y) (float z) refl (record {
+      value = and_from _ _ a.value b.value;
+      from = float_sum_from p q z x.least y.least a.from;
+      up_to = float_sum_up_to p q z x.greatest y.greatest a.up_to;
+    })
+
+of_format : (x y : Bounds) (f g : FloatType) (p q : Float) → IsTrue (same_float_type f g) → IsTrue (same_float_type (format_of p) f && is_canonical p) →
+    IsTrue (same_float_type (format_of q) g && is_canonical q) → Contains x (float p) → Contains y (float q) → Contains (sum_bounds x y) (sum_of (float p) (float q))
+of_format x y FloatType.F32 FloatType.F32 (Float.F32 a) (Float.F32 b) s c d h k = float_parts x y (Float.F32 a) (Float.F32 b) _ h k
+of_format x y FloatType.F64 FloatType.F64 (Float.F64 a) (Float.F64 b) s c d h k = float_parts x y (Float.F64 a) (Float.F64 b) _ h k
+of_format _ _ _ _ _ _ s c d h k = cc
+
+pub float_sum-sound : (f g : FloatType) (n m : Bool) (x y : Bounds) (v w : Datum) → IsTrue (same_float_type f g) → Fits v (ty (atomic (floating f)) n) → Fits w (ty (atomic (floating g)) m) →
+    Contains x v → Contains y w → Contains (sum_bounds x y) (sum_of v w)
+float_sum-sound f g n m x y null w s c d h k = or_left x.null y.null h
+float_sum-sound f g n m x y (float p) null s c d h k = or_right x.null y.null k
+float_sum-sound f g n m x y (float p) (float q) s c d h k = of_format x y f g p q s c d h k
+float_sum-sound f g n m x y _ _ s c d h k = cc

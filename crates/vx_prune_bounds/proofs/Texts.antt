@@ -8,7 +8,7 @@ use Rattle.std.specs.Ordering.{ordering_reverse}
 use Rattle.std.proofs.lemmas.Cmp.{nat_list_cmp_total}
 use Rattle.std.proofs.lemmas.Str.{is_utf8-from_IsUtf8}
 use Rattle.std.proofs.lemmas.Slice.Eq.{starts_is}
-use Rattle.vx_value.specs.Types.{Datum, null, bool, int, utf8, bytes, list_of, struct_of}
+use Rattle.vx_value.specs.Types.{Datum, null, bool, int, float, utf8, bytes, list_of, struct_of}
 use Rattle.vx_prune_bounds.specs.Order.{at_most, below}
 use Rattle.vx_prune_bounds.specs.Bounds.{is_from, is_up_to, starts_within, ends_within, is_interval}
 use Rattle.vx_prune_bounds.proofs.Ordered.{at_most-left, at_most-right, at_most-trans, at_most-antisym, above_one, below-wider}
@@ -36,6 +36,7 @@ between-begins q (utf8 s) t a b e =
 between-begins q null t a b e = cc
 between-begins q (bool x) t a b e = cc
 between-begins q (int x) t a b e = cc
+between-begins q (float x) t a b e = cc
 between-begins q (bytes x) t a b e = cc
 between-begins q (list_of x) t a b e = cc
 between-begins q (struct_of x) t a b e = cc
@@ -104,6 +105,7 @@ past-within q (Some l) (Some m) e b =
     behind null e h = cc
     behind (bool z) e h = cc
     behind (int z) e h = cc
+    behind (float z) e h = cc
     behind (bytes z) e h = cc
     behind (list_of z) e h = cc
     behind (struct_of z) e h = cc

@@ -1,6 +1,6 @@
 -- Bounds of what functions give of values within bounds.
 use Rattle.std.specs.Prelude.{ℤ, pos, negsuc, nat_lt, min, ◌-◌, ◌^◌, Bool, false, ◌&&◌, ◌||◌, List, [], ◌∷◌, Option, Some, None, ◌+ℤ◌, if◌then◌else◌}
-use Rattle.vx_value.specs.Types.{Datum, null, int}
+use Rattle.vx_value.specs.Types.{Datum, null, int, float}
 use Rattle.vx_prune_bounds.specs.Bounds.{Bounds, bounds, nothing, exactly, of_both, join}
 use Rattle.vx_prune_bounds.specs.Truths.{Truths, truths, truths_in, may_fail}
 
@@ -14,9 +14,11 @@ abbrev pub nearest_above : ℤ → Option Datum
 nearest_above (pos n) = if nat_lt n (2 ^ 127) then Some (int (pos n)) else None
 nearest_above (negsuc n) = Some (int (negsuc (min n (2 ^ 127 - 1))))
 
--- what f gives of the sum of two numbers
+-- what f gives of the sum of two whole numbers; of floating-point numbers nothing is known, since infinity and -infinity give NaN, which is behind
+-- every other one
 abbrev pub of_sum : (ℤ → Option Datum) → Datum → Datum → Option Datum
 of_sum f (int i) (int j) = f (i +ℤ j)
+of_sum f (float x) (float y) = None
 of_sum f _ _ = None
 
 -- bounds of the sum of two numbers

@@ -3,12 +3,15 @@ use Rattle.std.specs.Prelude.{Bool, false, ◌&&◌, not, Option, Some, None, if
 use Rattle.std.specs.Ordering.{is_le, nat_cmp, int_cmp, bool_cmp}
 use Rattle.std.specs.Str.{is_utf8}
 use Rattle.std.specs.Cmp.Lexicographic.{slice_cmp}
-use Rattle.vx_value.specs.Types.{Datum, bool, int, utf8, bytes}
+use Rattle.vx_floats.specs.Floats.{float_order, is_canonical}
+use Rattle.vx_value.specs.Types.{Datum, bool, int, float, utf8, bytes}
 
--- whether both are truth values, numbers, texts (in UTF-8) or bytes, and the first comes before the second or is equal to it
+-- whether both are truth values, whole numbers, floating-point numbers (each NaN the quiet one), texts (in UTF-8) or bytes, and the first comes
+-- before the second or is equal to it
 abbrev pub at_most : Datum → Datum → Bool
 at_most (bool a) (bool b) = is_le (bool_cmp a b)
 at_most (int i) (int j) = is_le (int_cmp i j)
+at_most (float x) (float y) = is_canonical x && (is_canonical y && is_le (float_order x y))
 at_most (utf8 s) (utf8 t) = is_utf8 s && (is_utf8 t && is_le (slice_cmp nat_cmp s t))
 at_most (bytes s) (bytes t) = is_le (slice_cmp nat_cmp s t)
 at_most _ _ = false

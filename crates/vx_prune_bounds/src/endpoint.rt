@@ -1,10 +1,10 @@
 // Values that can be compared, lent.
 ghost use Rattle.std.specs.Prelude.{◌≡◌, option_map};
-ghost use Rattle.vx_value.specs.Types.{utf8};
+ghost use Rattle.vx_value.specs.Types.{float, utf8};
 ghost use Rattle.vx_value.specs.Views.{value_of};
 ghost use Rattle.vx_prune_bounds.specs.Order.{at_most, below, comparable};
 
-use vx_types::Value;
+use vx_types::{Float, Value};
 
 /// A value that can be compared, lent: an end of bounds.
 #[derive(Clone, Copy, Debug)]
@@ -13,6 +13,8 @@ pub enum Endpoint<'a> {
     Bool(bool),
     /// A whole number.
     Int(i128),
+    /// A floating-point number.
+    Float(Float),
     /// A text.
     Text(&'a str),
     /// Bytes.
@@ -22,17 +24,29 @@ pub enum Endpoint<'a> {
 impl<'a> Endpoint<'a> {
     ghost use Rattle.vx_prune_bounds.specs.Views.{endpoint_value};
 
-    /// The value, lent, if it is one that can be compared: a truth value, a number, a text or
-    /// bytes. Takes no memory.
+    /// The value, lent, if it is one that can be compared: a truth value, a whole number, a
+    /// floating-point number that is no NaN but the quiet one, a text or bytes. Takes no memory.
     pub fn of(value: &'a Value) -> Option<Endpoint<'a>>
         ensures { option_map endpoint_value result ≡ comparable (value_of value.now) }
     {
         match value {
             Value::Bool(b) => Some(Endpoint::Bool(*b)),
             Value::Int(i) => Some(Endpoint::Int(*i)),
+            Value::Float(x) => Endpoint::of_float(*x),
             Value::Utf8(text) => Some(Endpoint::Text(text.as_str())),
             Value::Binary(bytes) => Some(Endpoint::Bytes(bytes.as_slice())),
             Value::Null | Value::List(_) | Value::Struct(_) => None,
+        }
+    }
+
+    // The number, if it is no NaN but the quiet one.
+    fn of_float(x: Float) -> Option<Endpoint<'a>>
+        ensures { option_map endpoint_value result ≡ comparable (float x) }
+    {
+        if is_float_at_most(x, x) {
+            Some(Endpoint::Float(x))
+        } else {
+            None
         }
     }
 
@@ -48,6 +62,10 @@ impl<'a> Endpoint<'a> {
             },
             Endpoint::Int(a) => match other {
                 Endpoint::Int(b) => a.cmp(b).is_le(),
+                _ => false,
+            },
+            Endpoint::Float(a) => match other {
+                Endpoint::Float(b) => is_float_at_most(*a, *b),
                 _ => false,
             },
             Endpoint::Text(a) => match other {
@@ -67,6 +85,14 @@ impl<'a> Endpoint<'a> {
     {
         self.at_most(other) && !other.at_most(self)
     }
+}
+
+// Whether the number comes before the other in IEEE 754's total order, or is equal to it, each NaN
+// being the quiet one.
+fn is_float_at_most(a: Float, b: Float) -> bool
+    ensures { result ≡ at_most (float a) (float b) }
+{
+    a.is_canonical() && b.is_canonical() && a.total_order(b).is_le()
 }
 
 // Whether the text comes before the other by its bytes, or is equal to it.

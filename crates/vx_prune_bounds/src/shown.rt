@@ -4,12 +4,13 @@ use crate::endpoint::Endpoint;
 use std::fmt;
 use std::fmt::{Display, Formatter, Write};
 
-/// The value: `true`, `5`, `"ab"`, `0x0a`.
+/// The value: `true`, `5`, `1.5`, `"ab"`, `0x0a`.
 impl Display for Endpoint<'_> {
     fn fmt<W: Write>(&self, f: &mut Formatter<W>) -> fmt::Result {
         match self {
             Endpoint::Bool(b) => write!(f, "{b}"),
             Endpoint::Int(i) => write!(f, "{i}"),
+            Endpoint::Float(x) => write!(f, "{x}"),
             Endpoint::Text(text) => write!(f, "\"{text}\""),
             Endpoint::Bytes(bytes) => write_bytes(bytes, f),
         }

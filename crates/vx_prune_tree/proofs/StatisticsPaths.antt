@@ -15,7 +15,7 @@ use Rattle.vx_value.specs.declared.value.Value.{Value, Struct, the_lemmas}
 use Rattle.vx_value.specs.Views.{value_of}
 use Rattle.vx_value.specs.Fields.{field_value, field_type, field_names, field_count, data_of}
 use Rattle.vx_value.specs.Paths.{Path, path_of, part_name}
-use Rattle.vx_value.specs.Types.{Name, LogicalType, ty, atomic, list, fixed, struct, struct_fields, Fields, no_field, field, Datum, null, bool, int, utf8, bytes, list_of, struct_of, Data, no_datum, datum}
+use Rattle.vx_value.specs.Types.{Name, LogicalType, ty, atomic, list, fixed, struct, struct_fields, Fields, no_field, field, Datum, null, bool, int, float, utf8, bytes, list_of, struct_of, Data, no_datum, datum}
 use Rattle.vx_projection.specs.Lost.{lost}
 use Rattle.vx_prune_tree.specs.Stats.{at_path, in_known}
 use Rattle.vx_prune_tree.specs.Lent.{datum_at, at_places, lent_value}
@@ -50,6 +50,7 @@ at_path-append (ty (struct fs) n) u (a ∷ path) rest (struct_of vs) e = go (fie
 at_path-append (ty (struct fs) n) u (a ∷ path) rest null e = sym (at_path-null u rest)
 at_path-append (ty (struct fs) n) u (a ∷ path) rest (bool x) e = sym (at_path-null u rest)
 at_path-append (ty (struct fs) n) u (a ∷ path) rest (int x) e = sym (at_path-null u rest)
+at_path-append (ty (struct fs) n) u (a ∷ path) rest (float x) e = sym (at_path-null u rest)
 at_path-append (ty (struct fs) n) u (a ∷ path) rest (utf8 x) e = sym (at_path-null u rest)
 at_path-append (ty (struct fs) n) u (a ∷ path) rest (bytes x) e = sym (at_path-null u rest)
 at_path-append (ty (struct fs) n) u (a ∷ path) rest (list_of x) e = sym (at_path-null u rest)
@@ -68,6 +69,7 @@ at_places-cons k places (struct_of vs) = refl
 at_places-cons k places null = sym (at_places-null places)
 at_places-cons k places (bool x) = sym (at_places-null places)
 at_places-cons k places (int x) = sym (at_places-null places)
+at_places-cons k places (float x) = sym (at_places-null places)
 at_places-cons k places (utf8 x) = sym (at_places-null places)
 at_places-cons k places (bytes x) = sym (at_places-null places)
 at_places-cons k places (list_of x) = sym (at_places-null places)
@@ -97,6 +99,7 @@ at_path-field a path (ty (struct gs) n) fs u k e h at (struct_of vs) = let same 
 at_path-field a path (ty (struct gs) n) fs u k e h at null = sym (at_path-null u path)
 at_path-field a path (ty (struct gs) n) fs u k e h at (bool x) = sym (at_path-null u path)
 at_path-field a path (ty (struct gs) n) fs u k e h at (int x) = sym (at_path-null u path)
+at_path-field a path (ty (struct gs) n) fs u k e h at (float x) = sym (at_path-null u path)
 at_path-field a path (ty (struct gs) n) fs u k e h at (utf8 x) = sym (at_path-null u path)
 at_path-field a path (ty (struct gs) n) fs u k e h at (bytes x) = sym (at_path-null u path)
 at_path-field a path (ty (struct gs) n) fs u k e h at (list_of x) = sym (at_path-null u path)

@@ -8,7 +8,7 @@ use mathlib.Core.Path.{fun_ext}
 use Rattle.vx_fn.proofs.Monotone.{included-mono, narrower_refl, fn_type-mono}
 use Rattle.vx_fn.proofs.Rows.{fn_type-found, fn_type-only}
 use Rattle.vx_tree.proofs.Trees.{or_none}
-use Rattle.vx_value.specs.Types.{Name, truth, number, decimals, date, timestamp, text, octets, LogicalType, Shape, Fields, Datum, Data, no_datum, datum, struct_of, int, is_null_datum}
+use Rattle.vx_value.specs.Types.{Name, truth, number, floating, decimals, date, timestamp, text, octets, LogicalType, Shape, Fields, Datum, Data, no_datum, datum, struct_of, int, is_null_datum}
 use Rattle.vx_value.specs.Fields.{field_value, project_values}
 use Rattle.vx_dtype.specs.Joins.{Narrower, narrower, NarrowerShape, same_atomic_shape, narrower_list, narrower_fixed, narrower_struct, NarrowerFields, no_fields, narrower_field, NarrowerEach}
 use Rattle.vx_dtype.specs.Lists.{forall2_nil, forall2_cons, IsIn}
@@ -84,6 +84,7 @@ fn_value-narrower _ vs q = refl
 outside-narrower : {ts us : List LogicalType} (v : Datum) → NarrowerEach ts us → is_outside ts v ≡ is_outside us v
 outside-narrower v forall2_nil = refl
 outside-narrower (int i) (forall2_cons (narrower (same_atomic_shape {p = number p}) j) q) = refl
+outside-narrower (int i) (forall2_cons (narrower (same_atomic_shape {p = floating f}) j) q) = refl
 outside-narrower (int i) (forall2_cons (narrower (same_atomic_shape {p = decimals p s}) j) q) = refl
 outside-narrower v (forall2_cons (narrower (same_atomic_shape {p = truth}) i) q) = refl
 outside-narrower v (forall2_cons (narrower (same_atomic_shape {p = date}) i) q) = refl
@@ -94,6 +95,7 @@ outside-narrower v (forall2_cons (narrower (narrower_list p) i) q) = refl
 outside-narrower v (forall2_cons (narrower (narrower_fixed p) i) q) = refl
 outside-narrower v (forall2_cons (narrower (narrower_struct p) i) q) = refl
 outside-narrower _ (forall2_cons (narrower (same_atomic_shape {p = number p}) i) q) = refl
+outside-narrower _ (forall2_cons (narrower (same_atomic_shape {p = floating f}) i) q) = refl
 outside-narrower _ (forall2_cons (narrower (same_atomic_shape {p = decimals p s}) i) q) = refl
 
 fillable-narrower : {ts us : List LogicalType} → NarrowerEach ts us → is_fillable ts ≡ is_fillable us
