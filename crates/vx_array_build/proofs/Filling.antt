@@ -8,7 +8,7 @@ use Rattle.std.proofs.lemmas.List.{length-map, get_or-map, ext_get_or, get_or_ap
 use Rattle.std.proofs.lemmas.List.FromFn.{length-map-range_with_len, get_or-map-range_with_len, map-range_with_len_more}
 use Rattle.vx_value.specs.declared.value.Value.{Value, Struct}
 use Rattle.vx_value.specs.Fields.{data_of}
-use Rattle.vx_value.specs.Types.{Datum, null, bool, int, utf8, bytes, list_of, struct_of, is_null_datum}
+use Rattle.vx_value.specs.Types.{Datum, null, bool, int, float, utf8, bytes, list_of, struct_of, is_null_datum}
 use Rattle.vx_value.specs.StructColumns.{row_at, struct_at}
 use Rattle.vx_value.specs.Views.{value_of}
 use Rattle.vx_array.specs.declared.lanes.Lanes as Kind
@@ -53,6 +53,7 @@ null_is : (d : Datum) → is_null_datum d ≡ true → null ≡ d
 null_is null e = refl
 null_is (bool b) e = cc
 null_is (int z) e = cc
+null_is (float x) e = cc
 null_is (utf8 s) e = cc
 null_is (bytes b) e = cc
 null_is (list_of vs) e = cc

@@ -7,7 +7,7 @@ use Rattle.std.specs.Option.{option_map}
 use Rattle.std.proofs.lemmas.List.{get_or_past, length-map}
 use Rattle.vx_dtype.specs.declared.dtype.DType.{DType}
 use Rattle.vx_dtype.specs.declared.dtype.PType.{PType}
-use Rattle.vx_value.specs.Types.{LogicalType, ty, Shape, atomic, truth, number, decimals, date, timestamp, text, octets, list, fixed, struct, Datum, null, bool, int, utf8, bytes}
+use Rattle.vx_value.specs.Types.{LogicalType, ty, Shape, atomic, truth, number, floating, decimals, date, timestamp, text, octets, list, fixed, struct, Datum, null, bool, int, utf8, bytes}
 use Rattle.vx_value.specs.Fits.{fits, Fits, fits_ptype}
 use Rattle.vx_value.specs.Columns.{batch, first_misfit}
 use Rattle.vx_value.specs.Views.{type_of}
@@ -55,6 +55,7 @@ lane_fits (atomic (number q)) p z is = cc
 lane_fits (atomic date) p z is = cc
 lane_fits (atomic (timestamp u o)) p z is = cc
 lane_fits (atomic truth) p z is = cc
+lane_fits (atomic (floating f)) p z is = cc
 lane_fits (atomic (decimals q r)) p z is = cc
 lane_fits (atomic text) p z is = cc
 lane_fits (atomic octets) p z is = cc

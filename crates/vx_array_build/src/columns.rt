@@ -15,8 +15,8 @@ use std::sync::Arc;
 use vx_array::{Array, Lanes, Part, Stretch};
 use vx_types::{Column, DType, PType, StructFields, Value, VortexResult};
 
-/// The array of a column's rows, in a buffer of their own width where they are truth values, numbers, days,
-/// instants, texts or bytes, or structs of such. Copies them, and refuses with `OutOfMemory` (1) alone.
+/// The array of a column's rows, in a buffer of their own width where they are truth values, whole numbers,
+/// days, instants, texts or bytes, or structs of such. Copies them, and refuses with `OutOfMemory` (1) alone.
 pub fn from_column(alloc: Global, column: &Column) -> VortexResult<Array>
     ensures { ReturnsOrOom (λ a. a) result (Ok column.now) }
 {

@@ -6,8 +6,8 @@ ghost use Rattle.vx_array_build.specs.Lanes.{lane_of};
 
 use vx_types::{DType, PType};
 
-/// The number type in whose buffers the rows of a type lie: of numbers their own, of days `I32`, of instants
-/// `I64`. None where rows aren't kept as numbers.
+/// The number type in whose buffers the rows of a type lie: of whole numbers their own, of days `I32`, of
+/// instants `I64`. None where rows aren't kept as whole numbers.
 pub fn lane_type(dtype: &DType) -> Option<PType>
     ensures { result ≡ lane_of (shape_of (type_of dtype.now)) }
 {
@@ -16,6 +16,7 @@ pub fn lane_type(dtype: &DType) -> Option<PType>
         DType::Date(_) => Some(PType::I32),
         DType::Timestamp(_, _) => Some(PType::I64),
         DType::Bool(_)
+        | DType::Float(_, _)
         | DType::Decimal(_, _)
         | DType::Utf8(_)
         | DType::Binary(_)

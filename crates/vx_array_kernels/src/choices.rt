@@ -43,8 +43,8 @@ macro_rules! by_kind {
 }
 
 /// Of conditions and values in turn the value beside the first condition that is true, else the last
-/// column's value, else null. There is an answer where all values are truth values, numbers, days, instants,
-/// texts or bytes of the type in buffers, or one value in all rows, and conditions truth values.
+/// column's value, else null. There is an answer where all values are truth values, whole numbers, days,
+/// instants, texts or bytes of the type in buffers, or one value in all rows, and conditions truth values.
 pub fn case_when(
     alloc: Global,
     count: usize,
@@ -73,8 +73,8 @@ pub fn zip(
 }
 
 /// The first column's values, and the other's where they are null. There is an answer where the first ones
-/// are truth values, numbers, days, instants, texts or bytes of the type in buffers, and the others, too, or
-/// one value in all rows.
+/// are truth values, whole numbers, days, instants, texts or bytes of the type in buffers, and the others,
+/// too, or one value in all rows.
 pub fn fill_null(alloc: Global, dtype: &DType, pair: Pair) -> Result<Option<Lanes>, AllocError>
     requires { IsLong pair }
     ensures { Finds (filled_rows pair.entry.count (lanes_rows pair.entry.lhs.now) (lanes_rows pair.entry.rhs.now)) result }

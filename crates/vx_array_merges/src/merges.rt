@@ -21,8 +21,8 @@ use vx_types::{DType, VortexResult};
 /// At each row the value of the first array whose mask is true there, as an array of the type and
 /// of as many rows; the last mask is that of the last array. Asks masks and arrays of one length, each
 /// row in one of the masks, and values of the type. Refuses with `OutOfMemory` (1) alone. Truth
-/// values, numbers, texts and bytes in buffers are written over each other, a word of a mask at
-/// a time; others are merged as columns, each run of a mask as a whole.
+/// values, whole numbers, texts and bytes in buffers are written over each other, a word of a mask
+/// at a time; others are merged as columns, each run of a mask as a whole.
 pub fn merge_runs_array(
     alloc: Global,
     branches: &[(RowMask, Array)],

@@ -10,7 +10,7 @@ use Rattle.std.proofs.lemmas.List.FromFn.{length-map-range_with_len, get_or-map-
 use Rattle.vx_dtype.specs.Fields.{fields_named}
 use Rattle.vx_dtype.specs.declared.dtype.DType.{DType}
 use Rattle.vx_dtype.specs.declared.dtype.PType.{PType}
-use Rattle.vx_value.specs.Types.{Name, LogicalType, ty, Shape, atomic, truth, number, decimals, date, timestamp, text, octets, list, fixed, struct, shape_of, is_nullable, Fields, Datum, null, bool, int, struct_of}
+use Rattle.vx_value.specs.Types.{Name, LogicalType, ty, Shape, atomic, truth, number, floating, decimals, date, timestamp, text, octets, list, fixed, struct, shape_of, is_nullable, Fields, Datum, null, bool, int, struct_of}
 use Rattle.vx_value.specs.Fields.{data_of}
 use Rattle.vx_value.specs.Fits.{Fits}
 use Rattle.vx_value.specs.Columns.{Batch, batch, first_misfit}
@@ -87,6 +87,7 @@ lane_read buffers (atomic (number q)) p at i is = cc
 lane_read buffers (atomic date) p at i is = cc
 lane_read buffers (atomic (timestamp u z)) p at i is = cc
 lane_read buffers (atomic truth) p at i is = cc
+lane_read buffers (atomic (floating f)) p at i is = cc
 lane_read buffers (atomic (decimals q r)) p at i is = cc
 lane_read buffers (atomic text) p at i is = cc
 lane_read buffers (atomic octets) p at i is = cc

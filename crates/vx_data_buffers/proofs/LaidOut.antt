@@ -4,7 +4,7 @@ use Rattle.std.specs.Global.{Vec}
 use Rattle.std.specs.Prelude.{Result, Ok, Err, IfOk, IfSome, Option, Some, None}
 use Rattle.std.proofs.lemmas.List.{get_or-map, length-map}
 use Rattle.vx_dtype.specs.declared.dtype.PType.{PType}
-use Rattle.vx_value.specs.Types.{Datum, ty, Shape, atomic, truth, number, decimals, date, timestamp, text, octets, list, fixed, struct, null, bool, int}
+use Rattle.vx_value.specs.Types.{Datum, ty, Shape, atomic, truth, number, floating, decimals, date, timestamp, text, octets, list, fixed, struct, null, bool, int}
 use Rattle.vx_value.specs.Columns.{Batch, batch, first_misfit}
 use Rattle.vx_array.specs.declared.validity.Validity.{Validity}
 use Rattle.vx_array.specs.Shown as shown
@@ -48,6 +48,7 @@ lane_buffers (atomic (number q)) p n is = refl
 lane_buffers (atomic date) p n is = refl
 lane_buffers (atomic (timestamp u z)) p n is = refl
 lane_buffers (atomic truth) p n is = cc
+lane_buffers (atomic (floating f)) p n is = cc
 lane_buffers (atomic (decimals q r)) p n is = cc
 lane_buffers (atomic text) p n is = cc
 lane_buffers (atomic octets) p n is = cc

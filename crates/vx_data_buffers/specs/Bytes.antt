@@ -3,6 +3,11 @@ use Rattle.std.specs.Prelude.{ℕ, ◌+◌, ◌*◌, ◌/◌, ◌%◌, Bool, ◌
 use Rattle.std.specs.Int.{bit_at, cast_signed, from_le_bytes, w8, w16, w32, w64, w128}
 use Rattle.vx_dtype.specs.declared.dtype.PType.{PType}
 use Rattle.vx_dtype.specs.declared.dtype.PType.TheVariants.{U8, U16, U32, U64, I8, I16, I32, I64}
+use Rattle.vx_dtype.specs.declared.float_type.FloatType.{FloatType}
+use Rattle.vx_dtype.specs.declared.float_type.FloatType.TheVariants.{F32, F64}
+use Rattle.vx_floats.specs.declared.float.Float.{Float}
+use Rattle.vx_floats.specs.declared.float.Float.TheVariants as bits
+use Rattle.vx_floats.specs.Floats.{canonical}
 use Rattle.vx_data_buffers.specs.declared.buffer.Buffer.{Buffer}
 
 -- the bytes of each buffer
@@ -46,6 +51,20 @@ number_of I64 bytes = cast_signed w64 (from_le_bytes w64 bytes)
 -- number i of the type
 abbrev pub number_at : PType → List ℕ → ℕ → Option ℤ
 number_at p bytes i = option_map (number_of p) (part bytes (i * width p) (width p))
+
+-- how many bytes a floating-point number of the format has
+abbrev pub float_width : FloatType → ℕ
+float_width F32 = 4
+float_width F64 = 8
+
+-- the floating-point number whose bits the bytes spell, little endian; each NaN is the quiet one
+abbrev pub float_of : FloatType → List ℕ → Float
+float_of F32 bytes = canonical (bits.F32 (from_le_bytes w32 bytes))
+float_of F64 bytes = canonical (bits.F64 (from_le_bytes w64 bytes))
+
+-- floating-point number i of the format
+abbrev pub float_at : FloatType → List ℕ → ℕ → Option Float
+float_at f bytes i = option_map (float_of f) (part bytes (i * float_width f) (float_width f))
 
 -- the units of decimal i: sixteen bytes, little endian, in two's complement
 abbrev pub units_at : List ℕ → ℕ → Option ℤ

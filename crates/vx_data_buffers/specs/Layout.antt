@@ -2,10 +2,10 @@
 use Rattle.std.specs.Prelude.{ℕ, ◌+◌, ◌-◌, ◌*◌, ◌==◌, nat_le, Bool, true, false, List, [], ◌∷◌, ℤ, pos, Option, length, ok_or, Result, Ok, Err, if◌then◌else◌}
 use Rattle.std.specs.Str.{is_utf8}
 use Rattle.vx_dtype.specs.declared.dtype.PType.TheVariants.{I32, I64}
-use Rattle.vx_value.specs.Types.{truth, number, decimals, date, timestamp, text, octets, LogicalType, ty, Shape, atomic, list, fixed, struct, Fields, no_field, field, Datum, null, bool, int, utf8, bytes, list_of, struct_of}
+use Rattle.vx_value.specs.Types.{truth, number, floating, decimals, date, timestamp, text, octets, LogicalType, ty, Shape, atomic, list, fixed, struct, Fields, no_field, field, Datum, null, bool, int, float, utf8, bytes, list_of, struct_of}
 use Rattle.vx_value.specs.Fields.{data_of}
 use Rattle.vx_data_buffers.specs.Results.{and_then, and_so, each_from}
-use Rattle.vx_data_buffers.specs.Bytes.{bytes_at, bit_of, part, number_at, units_at}
+use Rattle.vx_data_buffers.specs.Bytes.{bytes_at, bit_of, part, number_at, float_at, units_at}
 use Rattle.vx_data_buffers.specs.declared.fault.Fault.{Fault}
 use Rattle.vx_data_buffers.specs.declared.fault.Fault.TheVariants.{EndsEarly, Unordered, NotUtf8}
 
@@ -14,6 +14,7 @@ abbrev mutual
   pub buffer_count : LogicalType → ℕ
   buffer_count (ty (atomic truth) n) = 2
   buffer_count (ty (atomic (number p)) n) = 2
+  buffer_count (ty (atomic (floating f)) n) = 2
   buffer_count (ty (atomic (decimals p s)) n) = 2
   buffer_count (ty (atomic date) n) = 2
   buffer_count (ty (atomic (timestamp u z)) n) = 2
@@ -69,6 +70,7 @@ abbrev mutual
   pub present_at : List (List ℕ) → Shape → ℕ → ℕ → Result Datum Fault
   present_at buffers (atomic truth) at i = and_so (found at (bit_of (bytes_at buffers at) i)) bool
   present_at buffers (atomic (number p)) at i = and_so (found at (number_at p (bytes_at buffers at) i)) int
+  present_at buffers (atomic (floating f)) at i = and_so (found at (float_at f (bytes_at buffers at) i)) float
   present_at buffers (atomic (decimals p s)) at i = and_so (found at (units_at (bytes_at buffers at) i)) int
   present_at buffers (atomic date) at i = and_so (found at (number_at I32 (bytes_at buffers at) i)) int
   present_at buffers (atomic (timestamp u z)) at i = and_so (found at (number_at I64 (bytes_at buffers at) i)) int

@@ -25,8 +25,8 @@ use vx_array_build::{booleans, struct_of};
 use vx_types::{Column, DType, StructFields, VortexError, VortexResult};
 
 /// The array of that type whose rows these buffers have, so many of them: the rows of [`column_of`], or its
-/// refusal. Truth values, numbers, days, instants and structs of them are read at once, into buffers of the
-/// array's own. Where the type has other values, or a row is refused, rows are read one by one, as there.
+/// refusal. Truth values, whole numbers, days, instants and structs of them are read at once, into buffers of
+/// the array's own. Where the type has other values, or a row is refused, rows are read one by one, as there.
 ///
 /// Takes time in the number of the values, and for each struct in that of the buffers inside it.
 pub fn array_of(

@@ -1,9 +1,9 @@
 // Bits and numbers of a buffer's bytes, where the buffer has them.
 ghost use Rattle.std.specs.Prelude.{◌≡◌, ◌*◌, option_map};
-ghost use Rattle.vx_data_buffers.specs.Bytes.{bit_of, number_at, part, units_at};
+ghost use Rattle.vx_data_buffers.specs.Bytes.{bit_of, float_at, number_at, part, units_at};
 ghost use Rattle.vx_dtype.specs.declared.dtype.PType.TheVariants.{I32};
 
-use vx_types::PType;
+use vx_types::{Float, FloatType, PType};
 
 // Bit i, the least significant of a byte first.
 pub(crate) fn bit_of(bytes: &[u8], i: usize) -> Option<bool>
@@ -50,6 +50,16 @@ pub(crate) fn number_at(bytes: &[u8], ptype: PType, i: usize) -> Option<i128>
         PType::I16 => i16::from_le_bytes(chunk_at(bytes, i)?) as i128,
         PType::I32 => offset_at(bytes, i)? as i128,
         PType::I64 => i64::from_le_bytes(chunk_at(bytes, i)?) as i128,
+    })
+}
+
+// Floating-point number i of the format, each NaN as the quiet one.
+pub(crate) fn float_at(bytes: &[u8], format: FloatType, i: usize) -> Option<Float>
+    ensures { result ≡ float_at format bytes.now i }
+{
+    Some(match format {
+        FloatType::F32 => Float::from_f32_bits(u32::from_le_bytes(chunk_at(bytes, i)?)),
+        FloatType::F64 => Float::from_f64_bits(u64::from_le_bytes(chunk_at(bytes, i)?)),
     })
 }
 

@@ -18,11 +18,11 @@ use vx_types::{Column, DType, Value};
 ///
 /// The buffers of a type's column stand one after another, depth first. The first says by bits which rows aren't null,
 /// and that all aren't where it has no bytes. Behind it come the values as bits of a truth type, the least
-/// significant of a byte first; those of a type of numbers, little endian, as are days in 32 bits, instants in 64, and
-/// the units of decimals in 128; of texts and bytes the offsets, numbers of 32 bits of which row i has those at i and
-/// i + 1, and the bytes; of lists the offsets and the items' column; of lists of k items each the items' column, of
-/// which row i has the items from i * k on; of structs each field's column. Of a null nothing else is read, and buffers
-/// may be longer than their rows need.
+/// significant of a byte first; those of a type of numbers, little endian, as are days in 32 bits, instants in 64, the
+/// units of decimals in 128, and floating-point numbers by their 32 or 64 bits; of texts and bytes the offsets, numbers
+/// of 32 bits of which row i has those at i and i + 1, and the bytes; of lists the offsets and the items' column; of
+/// lists of k items each the items' column, of which row i has the items from i * k on; of structs each field's column.
+/// Of a null nothing else is read, each NaN is read as the quiet one, and buffers may be longer than their rows need.
 ///
 /// Refuses with `OutOfMemory`, and with `BufferCount` where the type asks for another number of buffers. Then rows are
 /// read in their order, each depth first from left to right, and the first refusal stands: `EndsEarly`, `Unordered` and

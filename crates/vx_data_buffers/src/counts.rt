@@ -13,6 +13,7 @@ pub(crate) fn buffer_count(t: &DType) -> Option<usize>
     match t {
         DType::Bool(_) => Some(2),
         DType::Primitive(_, _) => Some(2),
+        DType::Float(_, _) => Some(2),
         DType::Decimal(_, _) | DType::Date(_) | DType::Timestamp(_, _) => Some(2),
         DType::Utf8(_) => Some(3),
         DType::Binary(_) => Some(3),

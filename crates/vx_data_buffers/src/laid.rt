@@ -16,8 +16,8 @@ use vx_array_build::lane_type;
 use vx_types::DType;
 
 /// Buffers of the array's rows, laid out and in the order in which [`array_of`](crate::array_of) reads them:
-/// what this reads of them is the array. Truth values, numbers, days and instants are written at once, from
-/// where they lie. Of other types rows are written one by one.
+/// what this reads of them is the array. Truth values, whole numbers, days and instants are written at once,
+/// from where they lie. Of other types rows are written one by one.
 ///
 /// Refuses with `OutOfMemory`, and with `TooLong` where texts, bytes or items take more than offsets of 32
 /// bits can say.

@@ -1,17 +1,17 @@
 // Values without others inside them, and which rows are null.
 ghost use Rattle.std.specs.Prelude.{◌≡◌, Ok};
 ghost use Rattle.vx_data_buffers.specs.Results.{Reads, and_so};
-ghost use Rattle.vx_data_buffers.specs.Bytes.{bit_of, bytes_at, bytes_in, number_at, units_at};
+ghost use Rattle.vx_data_buffers.specs.Bytes.{bit_of, bytes_at, bytes_in, float_at, number_at, units_at};
 ghost use Rattle.vx_data_buffers.specs.Layout.{found, is_valid, text_of};
-ghost use Rattle.vx_value.specs.Types.{bool, bytes, int};
+ghost use Rattle.vx_value.specs.Types.{bool, bytes, float, int};
 ghost use Rattle.vx_value.specs.Views.{value_of};
 
 use crate::Buffer;
 use crate::buffer::bytes_at;
-use crate::bytes::{bit_of, number_at, units_at};
+use crate::bytes::{bit_of, float_at, number_at, units_at};
 use crate::fault::Fault;
 use std::alloc::Global;
-use vx_types::{PType, Value};
+use vx_types::{FloatType, PType, Value};
 
 // Whether row i isn't null, as the validity buffer of that index says.
 pub(crate) fn is_valid(buffers: &[Buffer<'_>], at: usize, i: usize) -> Result<bool, Fault>
@@ -45,6 +45,21 @@ pub(crate) fn whole_at(
 {
     match number_at(bytes_at(buffers, at), ptype, i) {
         Some(number) => Ok(Value::Int(number)),
+        None => Err(Fault::EndsEarly(at)),
+    }
+}
+
+// The floating-point number of row i.
+pub(crate) fn real_at(
+    buffers: &[Buffer<'_>],
+    format: FloatType,
+    at: usize,
+    i: usize,
+) -> Result<Value, Fault>
+    ensures { Reads value_of result (and_so (found at (float_at format (bytes_at (bytes_in buffers.now) at) i)) float) }
+{
+    match float_at(bytes_at(buffers, at), format, i) {
+        Some(float) => Ok(Value::Float(float)),
         None => Err(Fault::EndsEarly(at)),
     }
 }

@@ -1,7 +1,7 @@
 // Rows as buffers, one by one.
 use crate::LayoutError;
 use std::alloc::{AllocError, Global};
-use vx_types::{DType, PType, StructFields, Value};
+use vx_types::{DType, Float, FloatType, PType, StructFields, Value};
 
 // Adds the buffers of a column of the type with these rows. What stands below a null is null, too.
 #[cycle(write)]
@@ -16,6 +16,7 @@ pub(crate) fn write_column<'a>(
     match t {
         DType::Bool(_) => Ok(buffers.push(bits_of(alloc, rows, Bit::IsTrue)?)?),
         DType::Primitive(ptype, _) => Ok(buffers.push(numbers_of(alloc, *ptype, rows)?)?),
+        DType::Float(format, _) => Ok(buffers.push(floats_of(alloc, *format, rows)?)?),
         DType::Decimal(_, _) => Ok(buffers.push(decimals_of(alloc, rows)?)?),
         DType::Date(_) => Ok(buffers.push(numbers_of(alloc, PType::I32, rows)?)?),
         DType::Timestamp(_, _) => Ok(buffers.push(numbers_of(alloc, PType::I64, rows)?)?),
@@ -101,6 +102,28 @@ fn numbers_of(alloc: Global, ptype: PType, rows: &[&Value]) -> Result<Vec<u8>, A
         bytes.extend_from_slice(&number_of(row).to_le_bytes()[..width])?;
     }
     Ok(bytes)
+}
+
+// The bits of floating-point numbers in the width of the format, least byte first.
+fn floats_of(alloc: Global, format: FloatType, rows: &[&Value]) -> Result<Vec<u8>, AllocError> {
+    let width = match format {
+        FloatType::F32 => 4,
+        FloatType::F64 => 8,
+    };
+    let mut bytes = Vec::new(alloc);
+    for row in rows {
+        bytes.extend_from_slice(&float_bits(row).to_le_bytes()[..width])?;
+    }
+    Ok(bytes)
+}
+
+// The bits of the row's floating-point number, 0 where it has none.
+fn float_bits(row: &Value) -> u64 {
+    match row {
+        Value::Float(Float::F32(bits)) => u64::from(*bits),
+        Value::Float(Float::F64(bits)) => *bits,
+        _ => 0,
+    }
 }
 
 // The units of decimals in sixteen bytes each, least byte first.

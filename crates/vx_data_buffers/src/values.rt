@@ -10,7 +10,7 @@ ghost use Rattle.vx_value.specs.Views.{fields_of, type_of, value_of};
 use crate::Buffer;
 use crate::counts::buffer_count;
 use crate::fault::Fault;
-use crate::leaves::{decimal_at, is_valid, octets_of, text_of, truth_at, whole_at};
+use crate::leaves::{decimal_at, is_valid, octets_of, real_at, text_of, truth_at, whole_at};
 use crate::spans::{fixed_span, row_bytes, span};
 use std::alloc::Global;
 use vx_types::{DType, PType, StructFields, Value};
@@ -35,6 +35,7 @@ pub(crate) fn value_at(
     match t {
         DType::Bool(_) => truth_at(buffers, next, i),
         DType::Primitive(ptype, _) => whole_at(buffers, *ptype, next, i),
+        DType::Float(format, _) => real_at(buffers, *format, next, i),
         DType::Decimal(_, _) => decimal_at(buffers, next, i),
         DType::Date(_) => whole_at(buffers, PType::I32, next, i),
         DType::Timestamp(_, _) => whole_at(buffers, PType::I64, next, i),
