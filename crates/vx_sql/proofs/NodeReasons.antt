@@ -1,6 +1,6 @@
 -- Why nodes and names have no text, one after another.
-use Rattle.std.proofs.Common.{◌≡◌, ◌≢◌, ℕ, ◌+◌, ◌<◌, List, length, get_or, drop, true, false, Option, Some, None, sym, ap, ◌∙◌}
-use Rattle.std.specs.Prelude.{◌==◌, not}
+use Rattle.std.proofs.Common.{◌≡◌, ◌≢◌, ℕ, ◌+◌, ◌<◌, List, length, get_or, drop, Option, Some, None, sym, ap, ◌∙◌}
+use Rattle.std.specs.Prelude.{◌==◌}
 use Rattle.std.specs.Option.{option_or}
 use Rattle.std.proofs.lemmas.Bool.{cond-true, cond-false, eq-eqb, ne_eqb}
 use Rattle.std.proofs.lemmas.List.{drop_more}
@@ -12,9 +12,8 @@ use Rattle.vx_tree.specs.Views.{bounds_of}
 use Rattle.vx_tree.proofs.Nodes.{bound_count_of-bounds_of}
 use Rattle.vx_sql.specs.declared.dialect.Dialect.{Dialect}
 use Rattle.vx_sql.specs.declared.unsupported.Reason.{Reason}
-use Rattle.vx_sql.specs.declared.unsupported.Reason.TheVariants.{ChildCount, UnknownType}
-use Rattle.vx_sql.specs.Dialects.{has_type}
-use Rattle.vx_sql.specs.Reasons.{because, name_reason, names_reason, function_reason, own_reason}
+use Rattle.vx_sql.specs.declared.unsupported.Reason.TheVariants.{ChildCount}
+use Rattle.vx_sql.specs.Reasons.{name_reason, names_reason, function_reason, type_reason, own_reason}
 
 -- ---- names
 
@@ -39,13 +38,13 @@ own_reason-count d t f bs n =
     sym (cond-false (bound_count_of (bounds_of bs) == arity_of f) _ (Some ChildCount) (ne_eqb _ _ (λ e. n (sym (bound_count_of-bounds_of bs) ∙ e))))
 
 own_reason-fits : (d : Dialect) (t : LogicalType) (f : Function) (bs : List BoundExpression) → length bs ≡ arity_of f
-    → option_or (because (not (has_type d t)) UnknownType) (function_reason d t f (bounds_of bs)) ≡ own_reason d t f (bounds_of bs)
+    → option_or (type_reason d t) (function_reason d t f (bounds_of bs)) ≡ own_reason d t f (bounds_of bs)
 own_reason-fits d t f bs n = sym (cond-true (bound_count_of (bounds_of bs) == arity_of f) _ (Some ChildCount) (eq-eqb _ _ (bound_count_of-bounds_of bs ∙ n)))
 
-pub own_reason-type : (d : Dialect) (t : LogicalType) (f : Function) (bs : List BoundExpression) → length bs ≡ arity_of f → has_type d t ≡ false
-    → Some UnknownType ≡ own_reason d t f (bounds_of bs)
-own_reason-type d t f bs n e = sym (ap (λ b. option_or (because (not b) UnknownType) (function_reason d t f (bounds_of bs))) e) ∙ own_reason-fits d t f bs n
+pub own_reason-type : (d : Dialect) (t : LogicalType) (f : Function) (bs : List BoundExpression) (r : Reason) → length bs ≡ arity_of f → type_reason d t ≡ Some r
+    → Some r ≡ own_reason d t f (bounds_of bs)
+own_reason-type d t f bs r n e = sym (ap (λ o. option_or o (function_reason d t f (bounds_of bs))) e) ∙ own_reason-fits d t f bs n
 
-pub own_reason-function : (d : Dialect) (t : LogicalType) (f : Function) (bs : List BoundExpression) (r : Option Reason) → length bs ≡ arity_of f → has_type d t ≡ true
+pub own_reason-function : (d : Dialect) (t : LogicalType) (f : Function) (bs : List BoundExpression) (r : Option Reason) → length bs ≡ arity_of f → type_reason d t ≡ None
     → r ≡ function_reason d t f (bounds_of bs) → r ≡ own_reason d t f (bounds_of bs)
-own_reason-function d t f bs r n e h = h ∙ sym (ap (λ b. option_or (because (not b) UnknownType) (function_reason d t f (bounds_of bs))) e) ∙ own_reason-fits d t f bs n
+own_reason-function d t f bs r n e h = h ∙ sym (ap (λ o. option_or o (function_reason d t f (bounds_of bs))) e) ∙ own_reason-fits d t f bs n

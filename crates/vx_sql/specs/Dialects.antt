@@ -3,7 +3,7 @@ use Rattle.std.specs.Prelude.{ℕ, Bool, true, false, List, [], ◌++◌, codes}
 use Rattle.std.specs.Fmt.{decimal}
 use Rattle.vx_dtype.specs.declared.dtype.PType.{PType}
 use Rattle.vx_dtype.specs.declared.dtype.PType.TheVariants.{U8, U16, U32, U64, I8, I16, I32, I64}
-use Rattle.vx_value.specs.Types.{Atomic, truth, number, decimals, date, timestamp, text, octets, LogicalType, ty, atomic, list, fixed, struct}
+use Rattle.vx_value.specs.Types.{Atomic, truth, number, floating, decimals, date, timestamp, text, octets, LogicalType, ty, atomic, list, fixed, struct}
 use Rattle.vx_sql.specs.declared.dialect.Dialect.{Dialect}
 use Rattle.vx_sql.specs.declared.dialect.Dialect.TheVariants.{Postgres, Sqlite, DuckDb, Spark, ClickHouse}
 
@@ -99,10 +99,11 @@ decimal_word ClickHouse = []
 abbrev pub decimal_type : Dialect → ℕ → ℕ → List ℕ
 decimal_type d p s = decimal_word d ++ (codes "(" ++ (decimal p ++ (codes ", " ++ (decimal s ++ codes ")"))))
 
--- the engine's type of such values: none of instants, nor of lists and structs
+-- the engine's type of such values: none of floating-point numbers and instants, nor of lists and structs
 abbrev pub type_word : Dialect → LogicalType → List ℕ
 type_word d (ty (atomic truth) n) = truth_word d
 type_word d (ty (atomic (number p)) n) = number_word d p
+type_word d (ty (atomic (floating f)) n) = []
 type_word d (ty (atomic (decimals p s)) n) = decimal_type d p s
 type_word d (ty (atomic date) n) = date_word d
 type_word d (ty (atomic (timestamp u z)) n) = []
@@ -148,10 +149,11 @@ has_decimals DuckDb = true
 has_decimals Spark = true
 has_decimals ClickHouse = false
 
--- whether the engine has such values as ours; instants have no text
+-- whether the engine has such values as ours; floating-point numbers and instants have no text
 abbrev pub has_atomic : Dialect → Atomic → Bool
 has_atomic d truth = true
 has_atomic d (number p) = has_numbers d p
+has_atomic d (floating f) = false
 has_atomic d (decimals p s) = has_decimals d
 has_atomic d date = has_days d
 has_atomic d (timestamp u z) = false

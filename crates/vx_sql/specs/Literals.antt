@@ -4,7 +4,7 @@ use Rattle.std.specs.Fmt.{decimal, signed_decimal}
 use Rattle.std.specs.List.{flat_map}
 use Rattle.vx_dtype.specs.declared.dtype.PType.{PType}
 use Rattle.vx_dtype.specs.declared.dtype.PType.TheVariants.{I32}
-use Rattle.vx_value.specs.Types.{number, decimals, date, LogicalType, ty, atomic, Datum, null, bool, int, utf8, bytes, list_of, struct_of}
+use Rattle.vx_value.specs.Types.{number, decimals, date, LogicalType, ty, atomic, Datum, null, bool, int, float, utf8, bytes, list_of, struct_of}
 use Rattle.vx_literals.specs.Days.{day_text}
 use Rattle.vx_literals.specs.Decimals.{decimal_text}
 use Rattle.vx_value.specs.ValueTexts.{hex_byte}
@@ -79,7 +79,7 @@ null_sql DuckDb t = cast_text (codes "NULL") (type_word DuckDb t)
 null_sql Spark t = cast_text (codes "NULL") (type_word Spark t)
 null_sql ClickHouse t = codes "CAST(NULL AS Nullable(" ++ (type_word ClickHouse t ++ codes "))")
 
--- a value of that type, none of a list or a struct
+-- a value of that type, none of a floating-point number, a list or a struct
 abbrev pub literal_sql : Dialect → Datum → LogicalType → List ℕ
 literal_sql d null t = null_sql d t
 literal_sql d (bool b) t = truth_sql d b
@@ -89,5 +89,6 @@ literal_sql d (int i) (ty (atomic date) n) = day_sql i
 literal_sql d (utf8 s) t = text_sql d s
 literal_sql d (bytes bs) t = octets_sql d bs
 literal_sql d (int i) t = []
+literal_sql d (float x) t = []
 literal_sql d (list_of vs) t = []
 literal_sql d (struct_of vs) t = []

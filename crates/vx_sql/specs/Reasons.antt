@@ -5,14 +5,14 @@ use Rattle.std.specs.Option.{option_or, is_some}
 use Rattle.std.specs.Str.{bytes_eq}
 use Rattle.vx_literals.specs.Days.{civil_at}
 use Rattle.vx_source_types.specs.Names.{same_word}
-use Rattle.vx_value.specs.Types.{Name, number, date, LogicalType, ty, atomic, Datum, null, bool, int, utf8, bytes, list_of, struct_of}
+use Rattle.vx_value.specs.Types.{Name, number, floating, date, LogicalType, ty, atomic, Datum, null, bool, int, float, utf8, bytes, list_of, struct_of}
 use Rattle.vx_fn.specs.Functions.{Function, case_when, get_item, literal, pack, select, fill_null, zip, Operation, compares, and_also, or_else, adds, binary, logical_not, between, like, is_null, is_not_null, mask, cast, arity_of, is_atomic}
 use Rattle.vx_tree.specs.Nodes.{bound_at, bound_count_of}
 use Rattle.vx_tree.specs.Trees.{BoundTrees}
 use Rattle.vx_sql.specs.declared.dialect.Dialect.{Dialect}
 use Rattle.vx_sql.specs.declared.dialect.Dialect.TheVariants.{Postgres, Sqlite, DuckDb, Spark, ClickHouse}
 use Rattle.vx_sql.specs.declared.unsupported.Reason.{Reason}
-use Rattle.vx_sql.specs.declared.unsupported.Reason.TheVariants.{ChildCount, UnknownType, UnknownFunction, NestedLiteral, PatternNotLiteral, FillNotLiteral, FarDay, EmptyName, LongName, AmbiguousName, Nul, Backslash, Keyword}
+use Rattle.vx_sql.specs.declared.unsupported.Reason.TheVariants.{ChildCount, UnknownType, FloatOrder, UnknownFunction, NestedLiteral, PatternNotLiteral, FillNotLiteral, FarDay, EmptyName, LongName, AmbiguousName, Nul, Backslash, Keyword}
 use Rattle.vx_sql.specs.Children.{passes, has_atomic_first, names_first, literal_in, is_value}
 use Rattle.vx_sql.specs.Dialects.{has_type, makes_structs}
 use Rattle.vx_sql.specs.Quotes.{is_escaped}
@@ -64,11 +64,12 @@ abbrev pub number_reason : LogicalType → ℤ → Option Reason
 number_reason (ty (atomic date) n) i = because (not (is_some (civil_at i))) FarDay
 number_reason _ i = None
 
--- a literal is of a type without parts, and no text of it has a NUL
+-- a literal is of a type without parts, no floating-point number, and no text of it has a NUL
 abbrev pub value_reason : LogicalType → Datum → Option Reason
 value_reason t null = None
 value_reason t (bool b) = None
 value_reason t (int i) = number_reason t i
+value_reason t (float x) = Some FloatOrder
 value_reason t (utf8 s) = because (has_nul s) Nul
 value_reason t (bytes bs) = None
 value_reason t (list_of vs) = None
@@ -117,7 +118,12 @@ function_reason d t is_not_null bs = None
 function_reason d t mask bs = None
 function_reason d t (cast u) bs = None
 
+-- why values of the type have no text: engines order floating-point numbers otherwise, or this one has no such values
+abbrev pub type_reason : Dialect → LogicalType → Option Reason
+type_reason d (ty (atomic (floating f)) n) = Some FloatOrder
+type_reason d t = because (not (has_type d t)) UnknownType
+
 -- why a node of that type over these children has no text: for their number, for its type, or for its function
 abbrev pub own_reason : Dialect → LogicalType → Function → BoundTrees → Option Reason
 own_reason d t f bs =
-    if bound_count_of bs == arity_of f then option_or (because (not (has_type d t)) UnknownType) (function_reason d t f bs) else Some ChildCount
+    if bound_count_of bs == arity_of f then option_or (type_reason d t) (function_reason d t f bs) else Some ChildCount

@@ -105,7 +105,8 @@ pub(crate) fn is_atomic(dtype: &DType) -> bool
 {
     match dtype {
         DType::Bool(_) | DType::Utf8(_) | DType::Binary(_) => true,
-        DType::Primitive(..) | DType::Decimal(..) | DType::Date(_) | DType::Timestamp(..) => true,
+        DType::Primitive(..) | DType::Float(..) | DType::Decimal(..) => true,
+        DType::Date(_) | DType::Timestamp(..) => true,
         DType::List(..) | DType::FixedSizeList(..) | DType::Struct(..) => false,
     }
 }

@@ -17,7 +17,7 @@ use vx_dtype::DecimalType;
 use vx_literals::{write_day, write_decimal};
 use vx_types::{DType, PType, Scalar, Value};
 
-/// Writes the value, none of a list or a struct.
+/// Writes the value, none of a floating-point number, a list or a struct.
 pub(crate) fn write_literal<W: Write>(
     dialect: Dialect,
     scalar: &Scalar,
@@ -47,7 +47,7 @@ fn write_value<W: Write>(
         },
         Value::Utf8(text) => write_text(dialect, text.as_str(), f),
         Value::Binary(bytes) => write_octets(dialect, bytes.as_slice(), f),
-        Value::List(_) | Value::Struct(_) => Ok(()),
+        Value::Float(_) | Value::List(_) | Value::Struct(_) => Ok(()),
     }
 }
 

@@ -7,7 +7,7 @@ ghost use Rattle.vx_tree.specs.Nodes.{bound_at};
 ghost use Rattle.vx_tree.specs.Views.{bounds_of};
 ghost use Rattle.vx_sql.specs.Children.{passes, names_in, names_first, literal_in, is_value};
 ghost use Rattle.vx_sql.specs.Quotes.{is_escaped};
-ghost use Rattle.vx_sql.specs.Reasons.{has_nul, is_cut, same_name, spelling_reason, name_reason, names_reason, literal_reason, pack_reason, fill_reason, pattern_reason, number_reason, is_whole, operation_reason, function_reason, own_reason};
+ghost use Rattle.vx_sql.specs.Reasons.{has_nul, is_cut, same_name, spelling_reason, name_reason, names_reason, literal_reason, pack_reason, fill_reason, pattern_reason, number_reason, is_whole, operation_reason, function_reason, type_reason, own_reason};
 
 use crate::Dialect;
 use crate::children::{child_at, has_atomic_first, is_atomic, literal_in};
@@ -32,10 +32,21 @@ pub(crate) fn own_reason(
     if children.len() != scalar_fn.arity() {
         return Some(Reason::ChildCount);
     }
-    if !has_type(dialect, dtype) {
-        return Some(Reason::UnknownType);
+    if let Some(reason) = type_reason(dialect, dtype) {
+        return Some(reason);
     }
     function_reason(dialect, dtype, scalar_fn, children)
+}
+
+// Why values of the type have no text: the engine orders them otherwise, or has none.
+fn type_reason(dialect: Dialect, dtype: &DType) -> Option<Reason>
+    ensures { result ≡ type_reason dialect (type_of dtype.now) }
+{
+    match dtype {
+        DType::Float(..) => Some(Reason::FloatOrder),
+        _ if !has_type(dialect, dtype) => Some(Reason::UnknownType),
+        _ => None,
+    }
 }
 
 fn function_reason(
@@ -166,7 +177,7 @@ pub fn column_names(dtype: &DType) -> &[FieldName]
     }
 }
 
-// A literal is of a type without parts, and no text of it has a NUL.
+// A literal is of a type without parts, no floating-point number, and no text of it has a NUL.
 fn literal_reason(scalar: &Scalar) -> Option<Reason>
     ensures { result ≡ literal_reason scalar.now.type scalar.now.value }
 {
@@ -176,6 +187,7 @@ fn literal_reason(scalar: &Scalar) -> Option<Reason>
     match scalar.value() {
         Value::Utf8(text) if has_nul(text.as_str()) => Some(Reason::Nul),
         Value::Int(number) => number_reason(scalar.dtype(), *number),
+        Value::Float(_) => Some(Reason::FloatOrder),
         _ => None,
     }
 }

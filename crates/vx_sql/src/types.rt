@@ -10,7 +10,8 @@ use std::fmt::{Display, Formatter, Write};
 use vx_dtype::DecimalType;
 use vx_types::{DType, PType};
 
-/// Writes the engine's type of such values: none of instants, nor of lists and structs.
+/// Writes the engine's type of such values: none of floating-point numbers and instants, nor of lists and
+/// structs.
 pub(crate) fn write_type<W: Write>(
     dialect: Dialect,
     dtype: &DType,
@@ -25,7 +26,7 @@ pub(crate) fn write_type<W: Write>(
         DType::Date(_) => f.write_str(date_word(dialect)),
         DType::Utf8(_) => f.write_str(text_word(dialect)),
         DType::Binary(_) => f.write_str(octets_word(dialect)),
-        DType::Timestamp(..) => Ok(()),
+        DType::Float(..) | DType::Timestamp(..) => Ok(()),
         DType::List(..) | DType::FixedSizeList(..) | DType::Struct(..) => Ok(()),
     }
 }
@@ -181,7 +182,7 @@ pub(crate) fn collation(dialect: Dialect) -> &'static str
     }
 }
 
-/// Whether the engine has such values as ours; instants have no text.
+/// Whether the engine has such values as ours; floating-point numbers and instants have no text.
 pub(crate) fn has_type(dialect: Dialect, dtype: &DType) -> bool
     ensures { result ≡ has_type dialect (type_of dtype.now) }
 {
@@ -190,7 +191,7 @@ pub(crate) fn has_type(dialect: Dialect, dtype: &DType) -> bool
         DType::Primitive(p, _) => has_numbers(dialect, *p),
         DType::Decimal(..) => has_decimals(dialect),
         DType::Date(_) => has_days(dialect),
-        DType::Timestamp(..) => false,
+        DType::Float(..) | DType::Timestamp(..) => false,
         DType::List(..) | DType::FixedSizeList(..) | DType::Struct(..) => has_parts(dialect),
     }
 }

@@ -17,6 +17,10 @@ pub enum Reason {
     /// The engine has no values of its type.
     #[error("the engine has no such type")]
     UnknownType,
+    /// It is a floating-point number. Each engine takes -0.0 for 0.0; SQLite has no NaN, and ClickHouse has it
+    /// equal to nothing.
+    #[error("engines order the floating-point numbers -0.0 and NaN otherwise")]
+    FloatOrder,
     /// The engine has no such function.
     #[error("the engine has no such function")]
     UnknownFunction,

@@ -9,7 +9,6 @@ use Rattle.vx_source_types.specs.Characters.{is_blank}
 use Rattle.vx_source_types.specs.Tokens.{Lexeme, word, quoted, number, point, text, octets, sign, end, invalid, next, first}
 use Rattle.vx_sql.specs.declared.dialect.Dialect.{Dialect}
 use Rattle.vx_sql.specs.declared.dialect.Dialect.TheVariants.{Postgres, Sqlite, DuckDb, Spark, ClickHouse}
-use Rattle.vx_sql.specs.Dialects.{has_decimals}
 use Rattle.vx_sql.specs.Quotes.{is_escaped, quoting_of, Reading, anywhere, text_read}
 use Rattle.vx_sql_parser.specs.declared.reason.Unread.{Unread}
 use Rattle.vx_sql_parser.specs.declared.reason.Unread.TheVariants.{Sign as NoSign, Unclosed, Comment, NameQuote, Number as NoNumber}
@@ -63,7 +62,7 @@ abbrev pub as_sql : Dialect → ℕ → Lexeme → SqlLexeme
 as_sql d b (word w) = Ok (word (folded d w))
 as_sql d b (quoted a) = name_lexeme d 96 a
 as_sql d b (number negative m suffix) = number_lexeme negative m suffix
-as_sql d b (point s) = if has_decimals d then Ok (point s) else Err NoNumber
+as_sql d b (point s) = Ok (point s)
 as_sql d b (text s) = text_or_name d b s
 as_sql d b (octets bs) = Err NoNumber
 as_sql d b (sign s) = Ok (sign s)

@@ -8,13 +8,13 @@ use Rattle.vx_dtype.specs.Quotes.{between_quotes}
 use Rattle.vx_source_types.specs.Tokens.{Lexeme, word, quoted, number, point, text}
 use Rattle.vx_sql.specs.declared.dialect.Dialect.{Dialect}
 use Rattle.vx_sql.specs.declared.dialect.Dialect.TheVariants.{Postgres, Sqlite, DuckDb, Spark, ClickHouse}
-use Rattle.vx_sql.specs.Dialects.{has_days}
+use Rattle.vx_sql.specs.Dialects.{has_days, has_decimals}
 use Rattle.vx_sql_parser.specs.declared.reason.Unread.TheVariants.{Number as NoNumber, Hexadecimal, Function, TypedText, Table, CastType as NoType}
 use Rattle.vx_sql_parser.specs.declared.step.Bracket.TheVariants.{Paren, Fill, Lower, Translate}
 use Rattle.vx_sql_parser.specs.declared.step.Change.TheVariants.{Stays, Opens}
 use Rattle.vx_sql_parser.specs.SqlTokens.{SqlLexeme}
 use Rattle.vx_sql_parser.specs.Words.{is_one_of, is_truth}
-use Rattle.vx_sql_parser.specs.CastTypes.{CastType, named, decimals, type_source, type_len, type_at}
+use Rattle.vx_sql_parser.specs.CastTypes.{CastType, named, double_precision, decimals, type_source, type_len, type_at}
 use Rattle.vx_sql_parser.specs.Patterns.{as_text, behind}
 use Rattle.vx_sql_parser.specs.Steps.{is_kept, Answer, says}
 use Rattle.vx_sql_parser.specs.Ahead.{lexeme_at, opens, closes, is_dot, sign_at, word_at, text_at, is_this, is_word_at}
@@ -35,9 +35,13 @@ number_source negative n = sign_source negative ++ decimal n
 abbrev pub number_rule : Bool → ℕ → List SqlLexeme → Answer
 number_rule negative n xs = if is_dot (sign_at xs 0) then Err NoNumber else says (number_source negative n) Stays 0
 
--- a number with a point, and no second one behind it
-abbrev pub point_rule : List ℕ → List SqlLexeme → Answer
-point_rule s xs = if is_dot (sign_at xs 0) then Err NoNumber else says s Stays 0
+-- a number with a point or an exponent: without decimals the engine has no such number but one of 64 bits
+abbrev pub point_source : Dialect → List ℕ → List ℕ
+point_source d s = if has_decimals d then s else s ++ codes "::f64"
+
+-- the same, with no other point behind it
+abbrev pub point_rule : Dialect → List ℕ → List SqlLexeme → Answer
+point_rule d s xs = if is_dot (sign_at xs 0) then Err NoNumber else says (point_source d s) Stays 0
 
 -- bytes by the digits that stand for them, which take so many tokens
 abbrev pub octets_said : ℕ → Option (List ℕ) → Answer
@@ -81,6 +85,7 @@ is_bytes_order _ = false
 -- whether the type is that of a name
 abbrev pub is_called : List ℕ → CastType → Bool
 is_called a (named t) = same_word t a
+is_called a double_precision = false
 is_called a (decimals p s) = false
 
 -- what says the type of a number: nothing in SQLite, which has one type for all
@@ -120,16 +125,22 @@ is_bytes_type d t = false
 -- whether values of the type stand as texts before it: days and decimals
 abbrev pub has_texts : CastType → Bool
 has_texts (named t) = same_word t (codes "date")
+has_texts double_precision = false
 has_texts (decimals p s) = true
 
 -- a text as one of that type
 abbrev pub text_literal : Dialect → List ℕ → CastType → Option (List ℕ)
 text_literal d s t = if is_bytes_type d t then digits_said (escape_digits s) else (if has_texts t then Some (text_of t s) else None)
 
--- a number with a point as one of that type, which is one of decimals
+-- whether values of the type have points: decimals and floating-point numbers
+abbrev pub has_points : CastType → Bool
+has_points (named t) = is_one_of (codes "f32" ∷ codes "f64" ∷ []) t
+has_points double_precision = true
+has_points (decimals p s) = true
+
+-- a number with a point or an exponent as one of that type
 abbrev pub point_literal : List ℕ → CastType → Option (List ℕ)
-point_literal s (named t) = None
-point_literal s (decimals p k) = Some (s ++ (codes "::" ++ type_source (decimals p k)))
+point_literal s t = if has_points t then Some (s ++ (codes "::" ++ type_source t)) else None
 
 -- the literal that a token is as one of that type
 abbrev pub typed_literal : Dialect → Option Lexeme → CastType → Option (List ℕ)

@@ -5,7 +5,7 @@ ghost use Rattle.vx_sql_parser.specs.Ahead as ahead;
 ghost use Rattle.vx_sql_parser.specs.CastTypes as types;
 ghost use Rattle.vx_sql_parser.specs.Views.{cast_type_of, lexemes_of};
 
-use crate::ahead::{closes_at, is_comma_at, opens_at, token_at, word_at};
+use crate::ahead::{closes_at, is_comma_at, is_word_at, opens_at, token_at, word_at};
 use crate::keywords::{is, is_one_of};
 use crate::lexed::Lexed;
 use crate::types::type_named;
@@ -19,6 +19,8 @@ use vx_sql::{Dialect, has_decimals};
 pub(crate) enum CastType {
     /// One that a word says.
     Named(&'static str),
+    /// Floating-point numbers of 64 bits, which two words say.
+    DoublePrecision,
     /// Decimals of so many digits, so many of them behind the point.
     Decimals(u64, u64),
 }
@@ -33,6 +35,7 @@ impl Display for CastType {
     fn fmt<W: Write>(&self, f: &mut Formatter<W>) -> fmt::Result {
         match self {
             CastType::Named(name) => f.write_str(name),
+            CastType::DoublePrecision => f.write_str("f64"),
             CastType::Decimals(precision, scale) => write!(f, "decimal({precision}, {scale})"),
         }
     }
@@ -51,6 +54,7 @@ impl CastType {
     {
         match self {
             CastType::Named(_) => 1,
+            CastType::DoublePrecision => 2,
             CastType::Decimals(..) => 6,
         }
     }
@@ -61,7 +65,7 @@ impl CastType {
     {
         match self {
             CastType::Named(own) => is(own, name),
-            CastType::Decimals(..) => false,
+            CastType::DoublePrecision | CastType::Decimals(..) => false,
         }
     }
 }
@@ -73,8 +77,23 @@ pub(crate) fn type_at(dialect: Dialect, tokens: &[Lexed], i: usize) -> Option<Ca
 {
     if is_decimal(dialect, word_at(tokens, i)) && opens_at(tokens, i + 1) {
         decimals_at(tokens, i + 1)
+    } else if is_double_precision(dialect, tokens, i) {
+        Some(CastType::DoublePrecision)
     } else {
         word_type(dialect, word_at(tokens, i))
+    }
+}
+
+// Whether the two words for floating-point numbers of 64 bits stand there, in an engine that has them.
+fn is_double_precision(dialect: Dialect, tokens: &[Lexed], i: usize) -> bool
+    requires { i < 16 }
+    ensures { result ≡ types.is_double_precision dialect (lexemes_of tokens.now) i }
+{
+    match dialect {
+        Dialect::Postgres | Dialect::Sqlite | Dialect::DuckDb => {
+            is_word_at(tokens, i, "double") && is_word_at(tokens, i + 1, "precision")
+        }
+        Dialect::Spark | Dialect::ClickHouse => false,
     }
 }
 

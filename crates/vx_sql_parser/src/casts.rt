@@ -8,7 +8,7 @@ ghost use Rattle.vx_sql_parser.specs.Views.{cast_of, cast_type_of, lexemes_of};
 
 use crate::ahead::{closes_at, is_word_at, token_at};
 use crate::cast_types::{CastType, type_at};
-use crate::keywords::is;
+use crate::keywords::{is, is_one_of};
 use crate::lexed::Lexed;
 use crate::names::sign_of;
 use crate::octets::escape_digits;
@@ -83,13 +83,24 @@ fn typed_literal(
     }
 }
 
-// A number with a point as one of that type, which is one of decimals.
+// A number with a point or an exponent as one of that type.
 fn point_literal(alloc: Global, digits: &str, dtype: CastType) -> Result<Option<String>, AllocError>
     ensures { IfOk result (λ t. option_map string_bytes t ≡ values.point_literal digits.now (cast_type_of dtype)) }
 {
+    if has_points(dtype) {
+        Ok(Some(format!(in alloc; "{digits}::{dtype}")?))
+    } else {
+        Ok(None)
+    }
+}
+
+// Whether values of the type have points: decimals and floating-point numbers.
+fn has_points(dtype: CastType) -> bool
+    ensures { result ≡ values.has_points (cast_type_of dtype) }
+{
     match dtype {
-        CastType::Named(_) => Ok(None),
-        CastType::Decimals(..) => Ok(Some(format!(in alloc; "{digits}::{dtype}")?)),
+        CastType::Named(name) => is_one_of(name, &["f32", "f64"]),
+        CastType::DoublePrecision | CastType::Decimals(..) => true,
     }
 }
 
@@ -165,6 +176,7 @@ fn has_texts(dtype: CastType) -> bool
 {
     match dtype {
         CastType::Named(_) => dtype.is_called("date"),
+        CastType::DoublePrecision => false,
         CastType::Decimals(..) => true,
     }
 }

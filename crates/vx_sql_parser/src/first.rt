@@ -9,7 +9,7 @@ use crate::escapes::escaped_text;
 use crate::reason::Unread;
 use std::alloc::{AllocError, Global};
 use vx_source_types::{Expected, Token, first_token};
-use vx_sql::{Dialect, has_decimals, is_escaped};
+use vx_sql::{Dialect, is_escaped};
 use vx_types::FieldName;
 
 // A token, or why it is none, and how many bytes it takes.
@@ -143,8 +143,7 @@ fn as_sql(
             magnitude,
             suffix,
         } => Ok(number_of(negative, magnitude, suffix)),
-        Token::Point(digits) if has_decimals(dialect) => Ok(Ok(Token::Point(digits))),
-        Token::Point(_digits) => Ok(Err(Unread::Number)),
+        Token::Point(digits) => Ok(Ok(Token::Point(digits))),
         Token::Octets(_octets) => Ok(Err(Unread::Number)),
         Token::Sign(sign) => Ok(Ok(Token::Sign(sign))),
         Token::End => Ok(Err(Unread::Sign)),

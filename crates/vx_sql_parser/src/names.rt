@@ -15,7 +15,7 @@ use crate::quotes::QuotedName;
 use crate::reason::Unread;
 use crate::step::{Change, Step, Stop, says, stepped};
 use std::alloc::Global;
-use vx_sql::{Dialect, has_days};
+use vx_sql::{Dialect, has_days, has_decimals};
 
 // A name, behind which no other stands.
 pub(crate) fn name_rule(alloc: Global, name: &str, behind: &[Lexed]) -> Result<Step, Stop>
@@ -44,14 +44,23 @@ pub(crate) fn number_rule(
     Ok(stepped(format!(in alloc; "{sign}{n}")?, Change::Stays, 0))
 }
 
-// A number of those digits with a point, and no second one behind it.
-pub(crate) fn point_rule(alloc: Global, digits: &str, behind: &[Lexed]) -> Result<Step, Stop>
-    ensures { Answers result (values.point_rule digits.now (lexemes_of behind.now)) }
+// A number with a point or an exponent, and no other point behind it. Without decimals the engine has no such
+// number but one of 64 bits.
+pub(crate) fn point_rule(
+    alloc: Global,
+    dialect: Dialect,
+    digits: &str,
+    behind: &[Lexed],
+) -> Result<Step, Stop>
+    ensures { Answers result (values.point_rule dialect digits.now (lexemes_of behind.now)) }
 {
     if is_dot_at(behind, 0) {
         return Err(Stop::Unread(Unread::Number));
     }
-    says(alloc, digits, Change::Stays, 0)
+    if has_decimals(dialect) {
+        return says(alloc, digits, Change::Stays, 0);
+    }
+    Ok(stepped(format!(in alloc; "{digits}::f64")?, Change::Stays, 0))
 }
 
 pub(crate) fn sign_of(negative: bool) -> &'static str

@@ -50,7 +50,7 @@ impl Translation {
                 magnitude: Some(n),
                 ..
             } => number_rule(alloc, *negative, *n, behind),
-            Token::Point(digits) => point_rule(alloc, digits.as_str(), behind),
+            Token::Point(digits) => point_rule(alloc, self.dialect, digits.as_str(), behind),
             Token::Sign(Sign::Comma) => comma(alloc, self.dialect, self.state.innermost(), behind),
             Token::Sign(sign) => self.sign_rule(alloc, *sign),
             _ => Err(Stop::Unread(Unread::Sign)),

@@ -4,7 +4,7 @@ ghost use Rattle.vx_tree.specs.Views.{bound_of};
 
 use crate::kinds::Kind;
 use crate::maker::Maker;
-use crate::rows::{kinds, push_digits, push_table, rows, scope};
+use crate::rows::{kinds, push_digits, push_shown, push_table, rows, scope};
 use crate::shown::is_shown;
 use std::alloc::{AllocError, Global};
 use vx_eval::apply_bound;
@@ -176,10 +176,8 @@ impl Case {
     fn push_value(self, value: &Value, out: &mut String) -> Result<(), AllocError> {
         match value {
             Value::Bool(b) => out.push_str(if *b { "true" } else { "false" }),
-            Value::Int(number) => {
-                let digits = format!(in self.alloc; "{number}")?;
-                out.push_str(digits.as_str())
-            }
+            Value::Int(number) => push_shown(self.alloc, number, out),
+            Value::Float(number) => push_shown(self.alloc, number, out),
             Value::Utf8(text) => push_digits(self.alloc, text.as_str().as_bytes(), out),
             Value::Binary(bytes) => push_digits(self.alloc, bytes.as_slice(), out),
             Value::Null | Value::List(_) | Value::Struct(_) => out.push_str("null"),

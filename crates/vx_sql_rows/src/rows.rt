@@ -1,6 +1,7 @@
 // The rows that expressions are evaluated over, and the table that has them.
 use crate::kinds::{Kind, NUMBERS, has_pairs, maybe_null};
 use std::alloc::{AllocError, Global};
+use std::fmt::Display;
 use vx_source::parse_type;
 use vx_sql::Dialect;
 use vx_test_support::{Seeds, Unread};
@@ -58,7 +59,7 @@ pub fn row(alloc: Global, kinds: &[Kind], seeds: &mut Seeds) -> Result<Vec<Value
 }
 
 /// The statements that make the table and fill it, told without the texts of `vx_sql`. Refuses columns of
-/// decimals, days and instants, of which no expression by chance is.
+/// floating-point numbers, decimals, days and instants, of which no expression by chance is.
 pub fn push_table(
     alloc: Global,
     dialect: Dialect,
@@ -140,14 +141,16 @@ fn push_column_type(
     Ok(out.push_str(told.as_str())?)
 }
 
-// No expression by chance is of decimals, days and instants, so that no engine is asked about a table of them.
+// No expression by chance is of floating-point numbers, decimals, days and instants, so that no engine is asked about a
+// table of them.
 const NO_COLUMN: Unread = Unread::Word("the engines' tables have no such column");
 
 fn clickhouse_type(dtype: &DType) -> Result<&'static str, Unread> {
     match dtype {
         DType::Bool(_) => Ok("UInt8"),
         DType::Primitive(p, _) => Ok(clickhouse_number(*p)),
-        DType::Decimal(..) | DType::Date(_) | DType::Timestamp(..) => Err(NO_COLUMN),
+        DType::Float(..) | DType::Decimal(..) => Err(NO_COLUMN),
+        DType::Date(_) | DType::Timestamp(..) => Err(NO_COLUMN),
         DType::Utf8(_)
         | DType::Binary(_)
         | DType::List(..)
@@ -175,7 +178,8 @@ fn column_type(dialect: Dialect, dtype: &DType) -> Result<&'static str, Unread> 
         DType::Bool(_) => Ok("boolean"),
         DType::Primitive(..) if is_sqlite => Ok("integer"),
         DType::Primitive(p, _) => Ok(number_type(*p)),
-        DType::Decimal(..) | DType::Date(_) | DType::Timestamp(..) => Err(NO_COLUMN),
+        DType::Float(..) | DType::Decimal(..) => Err(NO_COLUMN),
+        DType::Date(_) | DType::Timestamp(..) => Err(NO_COLUMN),
         DType::Utf8(_) => Ok("text"),
         DType::Binary(_) => Ok(if is_sqlite { "blob" } else { "bytea" }),
         DType::List(..) | DType::FixedSizeList(..) | DType::Struct(..) => Ok("pair"),
@@ -228,10 +232,8 @@ fn push_plain(
             "0"
         }),
         Value::Bool(b) => out.push_str(if *b { "true" } else { "false" }),
-        Value::Int(number) => {
-            let digits = format!(in alloc; "{number}")?;
-            out.push_str(digits.as_str())
-        }
+        Value::Int(number) => push_shown(alloc, number, out),
+        Value::Float(number) => push_shown(alloc, number, out),
         Value::Utf8(text) => {
             let (before, behind) = if is_sqlite {
                 ("CAST(X'", "' AS TEXT)")
@@ -254,6 +256,16 @@ fn push_plain(
         }
         Value::Null | Value::List(_) | Value::Struct(_) => out.push_str("NULL"),
     }
+}
+
+/// The text of a number.
+pub fn push_shown<T: Display>(
+    alloc: Global,
+    number: &T,
+    out: &mut String,
+) -> Result<(), AllocError> {
+    let text = format!(in alloc; "{number}")?;
+    out.push_str(text.as_str())
 }
 
 fn push_between(

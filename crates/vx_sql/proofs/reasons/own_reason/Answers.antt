@@ -5,8 +5,8 @@ use Rattle.vx_sql.proofs.reasons.own_reason.Goals as goal
 pub returns-then-children-arity : goal.returns-then-children-arity
 returns-then-children-arity c = own_reason-count _ _ _ c.args.children.now (λ e. c.if-children-arity.true (e ∙ sym c.arity.ensures))
 
-pub returns-then-not-has_type : goal.returns-then-not-has_type
-returns-then-not-has_type c = own_reason-type _ _ _ c.args.children.now (c.if-children-arity.false ∙ c.arity.ensures) (sym c.has_type.ensures ∙ c.if-not-has_type.true)
+pub returns-in-Some : goal.returns-in-Some
+returns-in-Some c = own_reason-type _ _ _ c.args.children.now _ (c.if-children-arity.false ∙ c.arity.ensures) (sym c.type_reason.ensures ∙ c.in-Some.is)
 
 pub returns : goal.returns
-returns c = own_reason-function _ _ _ c.args.children.now _ (c.if-children-arity.false ∙ c.arity.ensures) (sym c.has_type.ensures ∙ c.if-not-has_type.false) c.function_reason.ensures
+returns c = own_reason-function _ _ _ c.args.children.now _ (c.if-children-arity.false ∙ c.arity.ensures) (sym c.type_reason.ensures ∙ c.in_default.is) c.function_reason.ensures
